@@ -1,0 +1,4 @@
+pub mod Json
+pub mod Number
+pub mod Same
+pub mod ValueText
