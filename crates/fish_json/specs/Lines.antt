@@ -1,0 +1,50 @@
+-- The records of a file in JSON Lines, by the whole list of its bytes.
+use Rattle.std.specs.Prelude.{ℕ, ◌==◌, ◌&&◌, ◌||◌, List, [], ◌∷◌, ◌++◌, length, drop, map, filter, nat_eq, nat_le, Bool, not, Option, Some, None, option_map, is_none, count_by, if◌then◌else◌}
+use Rattle.std.specs.List.{filter_map, list_all, slice_split, starts_with}
+use Rattle.std.specs.Str.Lines.{strip_carriage_return}
+use Rattle.fish_json.specs.Reading.{record_of}
+use Rattle.fish_json.specs.declared.record.TheConstants.{MAX_PAYLOAD}
+
+-- U+FEFF in UTF-8, which some writers put at a file's start
+abbrev pub byte_order_mark : List ℕ
+byte_order_mark = 0xef ∷ 0xbb ∷ 0xbf ∷ []
+
+-- the file without a byte order mark at its start
+abbrev pub without_mark : List ℕ → List ℕ
+without_mark b = if starts_with nat_eq b byte_order_mark then drop 3 b else b
+
+-- LF ends a line
+abbrev pub is_line_end : ℕ → Bool
+is_line_end b = b == 10
+
+-- a space, a tab or a CR
+abbrev pub is_blank_byte : ℕ → Bool
+is_blank_byte b = b == 32 || b == 9 || b == 13
+
+-- a line of at most 524,288 bytes is blank where all of them are spaces, tabs or CRs
+abbrev pub is_blank : List ℕ → Bool
+is_blank line = nat_le (length line) MAX_PAYLOAD && list_all is_blank_byte line
+
+-- a line's payload is the line itself, where it is a record
+abbrev pub payload_of : List ℕ → Option (List ℕ)
+payload_of line = option_map (λ _. line) (record_of line)
+
+-- the lines among the parts round the LFs: each without one CR at its end, and the blank ones count nowhere
+abbrev pub lines_of : List (List ℕ) → List (List ℕ)
+lines_of parts = filter (λ line. not (is_blank line)) (map strip_carriage_return parts)
+
+-- of each line its payload, or none where it is refused
+unfoldable pub outcomes_of : List (List ℕ) → List (Option (List ℕ))
+outcomes_of parts = map payload_of (lines_of parts)
+
+-- of each line of a file its payload, or none where it is refused
+unfoldable pub outcomes : List ℕ → List (Option (List ℕ))
+outcomes b = outcomes_of (slice_split is_line_end (without_mark b))
+
+-- the payloads that were accepted, in order
+abbrev pub accepted : List (Option (List ℕ)) → List (List ℕ)
+accepted os = filter_map (λ o. o) os
+
+-- how many lines were refused
+abbrev pub refused : List (Option (List ℕ)) → ℕ
+refused os = count_by is_none os

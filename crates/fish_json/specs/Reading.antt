@@ -1,0 +1,49 @@
+-- Which bytes are a record in JSON, and what it has at a path.
+use Rattle.std.specs.Prelude.{ℕ, ℤ, List, [], ◌∷◌, length, nat_le, Option, Some, None, option_and_then, if◌then◌else◌}
+use Rattle.serde_json.specs.Data.{Num, Data, null, boolean, number, string, array, object}
+use Rattle.serde_json.specs.Find.{as_i64, get}
+use Rattle.fish_value.specs.Json.{reading}
+use Rattle.fish_value.specs.declared.field.Field.{Field}
+use Rattle.fish_value.specs.declared.field.Field.TheVariants as kind
+use Rattle.fish_json.specs.declared.record.TheConstants.{MAX_PAYLOAD}
+
+-- the data where it is an object
+abbrev pub if_object : Data → Option Data
+if_object (object ms) = Some (object ms)
+if_object _ = None
+
+-- the object that bytes are: none over 524,288 bytes, and none where they are not JSON or another JSON value
+unfoldable pub record_of : List ℕ → Option Data
+record_of b = if nat_le (length b) MAX_PAYLOAD then option_and_then if_object (reading b) else None
+
+-- a number is an Int where it is whole and within 64 bits with a sign, else it is of another kind
+abbrev pub int_or_other : Option ℤ → Field
+int_or_other (Some n) = kind.Int n
+int_or_other None = kind.Other
+
+-- the field that data is
+abbrev pub kind_of : Data → Field
+kind_of null = kind.Null
+kind_of (boolean b) = kind.Bool b
+kind_of (number n) = int_or_other (as_i64 n)
+kind_of (string s) = kind.Text s
+kind_of (array ds) = kind.Other
+kind_of (object ms) = kind.Other
+
+-- what a path leads to, name by name through objects
+abbrev pub at_path : List (List ℕ) → Data → Option Data
+at_path [] d = Some d
+at_path (step ∷ steps) d = option_and_then (at_path steps) (get step d)
+
+-- what was found as a field: Missing where nothing was
+abbrev pub field_of : Option Data → Field
+field_of None = kind.Missing
+field_of (Some d) = kind_of d
+
+-- what a record that was read has at a path
+unfoldable pub field_in : List (List ℕ) → Data → Field
+field_in path d = field_of (at_path path d)
+
+-- what a payload has at a path: Missing where the bytes are no record
+unfoldable pub field : List ℕ → List (List ℕ) → Field
+field payload path = field_of (option_and_then (at_path path) (record_of payload))

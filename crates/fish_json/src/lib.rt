@@ -1,0 +1,9 @@
+//! Records in JSON: one object a line (RFC 8259), read once and looked into by paths.
+//!
+//! What a file's lines are, which of them are records, and what a record has at a path are
+//! definitions on bytes, in `specs/`. The calls here read one line's bytes.
+#![tactic(auto)]
+
+mod record;
+
+pub use record::{JsonRecord, MAX_PAYLOAD, RecordRefusal};

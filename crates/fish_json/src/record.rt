@@ -1,0 +1,114 @@
+//! One record: the JSON object that a line is.
+
+ghost use Rattle.std.specs.Prelude.{◌≡◌, ◌≢◌, ◌<◌, ◌≤◌, ◌↔◌, length, Some, None, IfOk, IfErr, OnOk, IsSome, IsErrOf, option_map};
+ghost use Rattle.serde_json.specs.Data.{Data};
+ghost use Rattle.serde_json.specs.View.{view};
+ghost use Rattle.fish_value.specs.Json.{reading};
+ghost use Rattle.fish_json.specs.Reading.{at_path, field_in, kind_of, record_of};
+
+use fish_value::{Field, Path, Text, read_json};
+use std::alloc::{AllocError, Global};
+use thiserror::Error;
+
+/// The most bytes that a payload may have.
+pub const MAX_PAYLOAD: usize = 524_288;
+
+/// Why bytes are no record.
+#[derive(Clone, Copy, Debug, PartialEq, Eq, Error)]
+pub enum RecordRefusal {
+    #[error("a record has at most 524288 bytes")]
+    TooLong,
+    #[error("no JSON in UTF-8")]
+    NotJson,
+    #[error("JSON, but no object")]
+    NotObject,
+    #[error("out of memory")]
+    OutOfMemory,
+}
+
+impl From<AllocError> for RecordRefusal {
+    ghost use Rattle.std.specs.Prelude.{◌≡◌};
+    ghost use Rattle.fish_json.specs.declared.record.RecordRefusal.TheVariants.{OutOfMemory};
+
+    ghost from_gives = { λ _ refusal. refusal ≡ OutOfMemory };
+
+    fn from(_: AllocError) -> RecordRefusal {
+        RecordRefusal::OutOfMemory
+    }
+}
+
+/// A record that was read. It owns its values.
+#[derive(Debug, Drop)]
+pub struct JsonRecord {
+    value: serde_json::Value,
+}
+
+impl JsonRecord {
+    ghost use Rattle.fish_json.specs.Contents.{contents};
+
+    /// Reads the object that bytes are (RFC 8259). Objects and arrays nest at most 127 deep, the
+    /// outermost counted, and of two equal names in an object the last counts.
+    #[tactic(auto, unfolding(crate::specs::Contents::contents, crate::specs::Reading::record_of))]
+    pub fn read(alloc: Global, b: &[u8]) -> Result<JsonRecord, RecordRefusal>
+        ensures ok { IfOk result (λ found. record_of b.now ≡ Some (contents found)) }
+
+        ensures length { OnOk result (length b.now ≤ MAX_PAYLOAD) }
+        ensures too_long { IsErrOf result RecordRefusal.TooLong → MAX_PAYLOAD < length b.now }
+        ensures not_json { IsErrOf result RecordRefusal.NotJson
+            → (length b.now ≤ MAX_PAYLOAD) × (reading b.now ≡ None) }
+        ensures not_object { IsErrOf result RecordRefusal.NotObject
+            → (length b.now ≤ MAX_PAYLOAD) × IsSome (reading b.now) × (record_of b.now ≡ None) }
+        ensures none { IfErr result (λ e. e ≢ RecordRefusal.OutOfMemory → record_of b.now ≡ None) }
+    {
+        if b.len() > MAX_PAYLOAD {
+            return Err(RecordRefusal::TooLong);
+        }
+        let Some(value) = read_json(alloc, b)? else {
+            return Err(RecordRefusal::NotJson);
+        };
+        if !value.is_object() {
+            return Err(RecordRefusal::NotObject);
+        }
+        Ok(JsonRecord { value })
+    }
+
+    /// What the record has at a path. An object, an array, and a number that is no whole number of
+    /// 64 bits are [`Field::Other`].
+    #[tactic(auto, unfolding(crate::specs::Contents::contents, crate::specs::Reading::field_in))]
+    pub fn get(&self, alloc: Global, path: &Path) -> Result<Field, AllocError>
+        ensures { IfOk result (λ field. field ≡ field_in path.now (contents self.now)) }
+    {
+        let (first, more) = path.parts();
+        let Some(outer) = self.value.get(first.as_str()) else {
+            return Ok(Field::Missing);
+        };
+        let Some(inner) = walk(outer, more) else {
+            return Ok(Field::Missing);
+        };
+        field(alloc, inner)
+    }
+}
+
+/// Where names lead from a value, through objects.
+fn walk<'a>(value: &'a serde_json::Value, steps: &[Text]) -> Option<&'a serde_json::Value>
+    ensures { option_map (λ found. view found.now) result ≡ at_path steps.now (view value.now) }
+{
+    let mut found = value;
+    for step in steps {
+        found = found.get(step.as_str())?;
+    }
+    Some(found)
+}
+
+/// A value as a field. Its text is copied.
+fn field(alloc: Global, value: &serde_json::Value) -> Result<Field, AllocError>
+    ensures { IfOk result (λ field. field ≡ kind_of (view value.now)) }
+{
+    match value {
+        serde_json::Value::Null => Ok(Field::Null),
+        serde_json::Value::Bool(truth) => Ok(Field::Bool(*truth)),
+        serde_json::Value::Number(number) => Ok(number.as_i64().map_or(Field::Other, Field::Int)),
+        serde_json::Value::String(text) => Ok(Field::Text(Text::copy_of(alloc, text.as_str())?)),
+        serde_json::Value::Array(_) | serde_json::Value::Object(_) => Ok(Field::Other),
+    }
+}
