@@ -1,0 +1,2 @@
+pub mod HasLemmas
+pub mod SelectLemmas

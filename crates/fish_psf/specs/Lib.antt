@@ -1,0 +1,3 @@
+pub mod Eval
+pub mod Select
+pub mod SelectLaw

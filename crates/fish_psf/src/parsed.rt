@@ -1,0 +1,29 @@
+//! What evaluation asks of a record, whatever its form and however it was read.
+
+ghost use Rattle.std.specs.Prelude.{◌≡◌, ℕ, List, IfOk};
+ghost use Rattle.fish_value.specs.declared.field.Field.{Field as FieldAt};
+
+use fish_json::JsonRecord;
+use fish_value::{Field, Path};
+use std::alloc::{AllocError, Global};
+
+/// A record that was read, which tells what it has at each path.
+pub trait Parsed {
+    /// What it has at each path.
+    ghost fields: { Self → List (List ℕ) → FieldAt };
+
+    /// What it has at a path.
+    fn at(&self, alloc: Global, path: &Path) -> Result<Field, AllocError>
+        ensures { IfOk result (λ field. field ≡ fields self.now path.now) };
+}
+
+impl Parsed for JsonRecord {
+    ghost use Rattle.fish_json.specs.Contents.{contents};
+    ghost use Rattle.fish_json.specs.Reading.{field_in};
+
+    ghost fields = { λ r path. field_in path (contents r) };
+
+    fn at(&self, alloc: Global, path: &Path) -> Result<Field, AllocError> {
+        self.get(alloc, path)
+    }
+}
