@@ -1,0 +1,8 @@
+-- The rows follow the line in front of them.
+use Rattle.std.proofs.Common.{append_assoc, ◌∙◌}
+use Rattle.fish_report.specs.ReportText.{select_text}
+use Rattle.fish_report.proofs.text.push_select.Goals as goal
+
+pub returns : goal.returns
+unfolding select_text
+returns c = c.in_ok-push_rows.ensures ∙ rw c.in_ok-write.ensures.bytes (simp append_assoc)
