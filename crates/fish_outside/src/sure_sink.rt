@@ -1,0 +1,70 @@
+//! A sink in memory that never fails.
+
+ghost use Rattle.std.specs.Prelude.{◌≡◌, ◌≤◌, ◌++◌, List, ℕ, [], Some, None, length, take, vec_capacity, option_map, IfOk, IfSome, if◌then◌else◌};
+ghost use Rattle.fish_outside.specs.Causes.{HasCause};
+ghost use Rattle.fish_outside.specs.Told.{Writes};
+ghost use Rattle.fish_outside.specs.Room.{told_within};
+
+use crate::fault::Failed;
+use crate::sink::Sink;
+use std::alloc::{AllocError, Global};
+
+/// Keeps what is written in memory that it takes at the start, and never fails. It tells what was
+/// written as long as that fits its room.
+#[derive(Debug, Drop)]
+pub struct SureSink {
+    bytes: Vec<u8>,
+    room: u64,
+    told: bool,
+    ghost fits: { length bytes.items ≤ room },
+    ghost holds: { room ≤ vec_capacity bytes },
+}
+
+impl SureSink {
+    ghost use Rattle.fish_outside.specs.SureSink.{kept_of, room_of, told_of};
+
+    /// A sink with room for so many bytes, for which it takes the memory.
+    pub fn new(alloc: Global, room: u64) -> Result<SureSink, AllocError>
+        ensures room { IfOk result (λ sink. room_of sink ≡ room) }
+        ensures told { IfOk result (λ sink. told_of sink ≡ Some []) }
+    {
+        Ok(SureSink {
+            bytes: Vec::with_capacity(alloc, room as usize)?,
+            room,
+            told: true,
+        })
+    }
+
+    /// What was written, as far as it fits the room.
+    pub fn as_bytes(&self) -> &[u8]
+        ensures kept { result.now ≡ kept_of self.now }
+        ensures told { IfSome (told_of self.now) (λ all. result.now ≡ all) }
+    {
+        self.bytes.as_slice()
+    }
+}
+
+impl Sink for SureSink {
+    ghost use Rattle.fish_outside.specs.SureSink.{kept_of, room_of, told_of};
+
+    ghost written = { told_of };
+
+    ghost faults = { λ _. 0 };
+
+    fn write(&mut self, piece: &[u8]) -> Result<usize, Failed>
+        ensures bound { IfOk result (λ n. n ≤ length piece.now) }
+        ensures bytes { Writes (told_of self.old) (told_of self.new) result piece.now }
+        ensures cause { HasCause 0 0 result }
+
+        ensures told { told_of self.new ≡ told_within (room_of self.old) (option_map (λ all. all ++ piece.now) (told_of self.old)) }
+        ensures kept { kept_of self.new ≡ take (room_of self.old) (kept_of self.old ++ piece.now) }
+        ensures room { room_of self.new ≡ room_of self.old }
+    {
+        let left = self.room as usize - self.bytes.len();
+        let fit = piece.len().min(left);
+        let (front, _) = piece.split_at(fit);
+        self.bytes.extend_from_slice(front).unwrap();
+        self.told = self.told && fit == piece.len();
+        Ok(piece.len())
+    }
+}
