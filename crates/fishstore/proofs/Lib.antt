@@ -1,0 +1,4 @@
+pub mod LineLemmas
+pub mod SelectionLemmas
+pub mod TallyLemmas
+pub mod WordsLemmas

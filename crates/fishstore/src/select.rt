@@ -1,0 +1,150 @@
+//! `select` over the bytes of a file: each line is read once, and evaluated while it is read.
+
+ghost use Rattle.std.specs.Prelude.{◌≡◌, ◌+◌, ◌<◌, ◌≤◌, ◌^◌, ◌++◌, ◌∷◌, [], length, IfOk, IsUtf8, MatchOption, OnOk};
+ghost use Rattle.std.specs.List.{slice_split};
+ghost use Rattle.fish_json.specs.Contents.{contents};
+ghost use Rattle.fish_json.specs.Lines.{is_line_end, payload_of};
+ghost use Rattle.fish_json.specs.Reading.{field_in};
+ghost use Rattle.fish_psf.specs.Select.{has_value};
+ghost use Rattle.fishstore.specs.Answer.{selection};
+ghost use Rattle.fishstore.specs.Tally.{IsRecord, no_lines, with_line, with_parts, with_record};
+
+use crate::lines::{cut, is_blank, without_carriage_return, without_mark};
+use crate::run::MAX_FILE;
+use crate::words::Select;
+use fish_json::{JsonRecord, RecordRefusal};
+use fish_psf::{Parsed, take_of};
+use fish_report::Item;
+use fish_value::{Row, Rows, Text, Value};
+use std::alloc::{AllocError, Global};
+
+/// What the lines so far gave.
+#[derive(Drop)]
+pub struct Tally {
+    /// The records with the value, oldest first.
+    pub rows: Rows,
+    /// How many records there are.
+    pub count: u32,
+    /// How many lines are none.
+    pub refused: u32,
+}
+
+/// The answer of `select` for a file.
+pub fn select(alloc: Global, command: &Select, b: &[u8]) -> Result<Item, AllocError>
+    requires { length b.now ≤ MAX_FILE }
+    ensures { IfOk result (λ item. item ≡ selection command.now b.now) }
+{
+    let mut tally = tally_of(alloc, command, without_mark(b))?;
+    tally.rows.reverse();
+    Ok(Item::Select {
+        rows: tally.rows,
+        count: u64::from(tally.count),
+        refused: u64::from(tally.refused),
+    })
+}
+
+/// What all lines of a file give.
+fn tally_of(alloc: Global, command: &Select, b: &[u8]) -> Result<Tally, AllocError>
+    requires { length b.now ≤ MAX_FILE }
+    ensures { IfOk result (λ tally.
+        tally ≡ with_parts command.now no_lines (slice_split is_line_end b.now)) }
+{
+    let mut tally = Tally {
+        rows: Rows::new(alloc),
+        count: 0,
+        refused: 0,
+    };
+    let mut rest = b;
+    while let Some((part, behind)) = cut(rest) {
+        add_line(alloc, command, without_carriage_return(part), &mut tally)?;
+        rest = behind;
+    }
+    add_line(alloc, command, without_carriage_return(rest), &mut tally)?;
+    Ok(tally)
+}
+
+/// Counts one more line.
+#[tactic(auto, using(crate::proofs::TallyLemmas::with_record_same))]
+fn add_line(
+    alloc: Global,
+    command: &Select,
+    line: &[u8],
+    tally: &mut Tally,
+) -> Result<(), AllocError>
+    requires { tally.old.count + tally.old.refused < 2 ^ 28 }
+    ensures counted { OnOk result (tally.new ≡ with_line command.now tally.old line.now) }
+    ensures rises { OnOk result
+        (tally.new.count + tally.new.refused ≤ tally.old.count + tally.old.refused + 1) }
+{
+    if is_blank(line) {
+        return Ok(());
+    }
+    match record_in(alloc, line)? {
+        Some(found) => add_record(alloc, command, &found, line, tally),
+        None => {
+            tally.refused += 1;
+            Ok(())
+        }
+    }
+}
+
+/// The record that a line is, where it is one.
+#[tactic(auto, using(crate::proofs::TallyLemmas::record_is_read, crate::proofs::TallyLemmas::payload_of_none))]
+fn record_in(alloc: Global, line: &[u8]) -> Result<Option<JsonRecord>, AllocError>
+    ensures { IfOk result (λ found. MatchOption found (payload_of line.now ≡ None)
+        (λ read. IsRecord line.now (λ path. field_in path (contents read)))) }
+{
+    match JsonRecord::read(alloc, line) {
+        Ok(found) => Ok(Some(found)),
+        Err(RecordRefusal::OutOfMemory) => Err(AllocError),
+        Err(_) => Ok(None),
+    }
+}
+
+/// Counts one more record, and keeps its line where it has the value.
+fn add_record<R: Parsed>(
+    alloc: Global,
+    command: &Select,
+    found: &R,
+    line: &[u8],
+    tally: &mut Tally,
+) -> Result<(), AllocError>
+    requires text { IsUtf8 line.now }
+    requires room { tally.old.count + tally.old.refused < 2 ^ 28 }
+    ensures { OnOk result (tally.new
+        ≡ with_record command.now tally.old (R.fields found.now) line.now) }
+{
+    let value = take_of(alloc, &command.path, found)?;
+    if has_value(&value, &command.value) {
+        push_row(alloc, &mut tally.rows, tally.count, line)?;
+    }
+    tally.count += 1;
+    Ok(())
+}
+
+/// Whether a definition gave the value asked for.
+fn has_value(found: &Option<Value>, wanted: &Value) -> bool
+    ensures { result ≡ has_value found.now wanted.now }
+{
+    match found {
+        Some(value) => value.is(wanted),
+        None => false,
+    }
+}
+
+/// Puts a line behind the rows.
+fn push_row(
+    alloc: Global,
+    rows: &mut Rows,
+    number: u32,
+    line: &[u8],
+) -> Result<(), AllocError>
+    requires { IsUtf8 line.now }
+    ensures { OnOk result (rows.new
+        ≡ rows.old ++ record { number = number; payload = line.now } ∷ []) }
+{
+    let Some(payload) = Text::from_bytes(alloc, line)? else {
+        return Ok(());
+    };
+    rows.push(Row { number, payload })
+}

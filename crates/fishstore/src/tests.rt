@@ -1,0 +1,1 @@
+//! The worked examples of `select`, and the faults of a run.
