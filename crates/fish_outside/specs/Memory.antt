@@ -19,9 +19,9 @@ is_planned plan = list_any (λ call. call == plan.calls) plan.fails
 -- the plan with one more call counted, and one more fault if it failed
 abbrev pub after_call : FaultPlan → Bool → FaultPlan
 after_call plan failed = record plan {
-    calls = counted_on plan.calls 1;
-    faults = if failed then counted_on plan.faults 1 else plan.faults
-  }
+  calls = counted_on plan.calls 1;
+  faults = if failed then counted_on plan.faults 1 else plan.faults;
+}
 
 -- the first file of a name
 abbrev pub file_of : List HostFile → List ℕ → Option HostFile

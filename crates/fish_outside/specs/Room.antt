@@ -3,4 +3,5 @@ use Rattle.std.specs.Prelude.{ℕ, List, length, nat_le, Option, Some, None, opt
 
 -- content that is told as long as it fits the room
 abbrev pub told_within : ℕ → Option (List ℕ) → Option (List ℕ)
-told_within room content = option_and_then (λ all. if nat_le (length all) room then Some all else None) content
+told_within room content =
+    option_and_then (λ all. if nat_le (length all) room then Some all else None) content

@@ -3,7 +3,7 @@
 //! Each call of the system that fails is counted. A read that a signal interrupts has taken nothing
 //! and is tried again, since the standard library leaves that to its caller.
 
-ghost use Rattle.std.specs.Prelude.{◌≤◌, None, length, IfSome};
+ghost use Rattle.std.specs.Prelude.{◌≡◌, ◌≤◌, None, length, IfSome};
 
 use crate::fault::{Failed, FeedRefusal};
 use crate::host::Host;
@@ -19,6 +19,7 @@ use std::rt::Files;
 const TRIES: u32 = 64;
 
 /// The files of the system, by path.
+#[derive(Drop)]
 pub struct FileHost<R: Files<File = File> + Clone + Drop + Send> {
     rt: R,
     faults: u64,
@@ -33,7 +34,9 @@ pub struct FileFeed {
 
 impl<R: Files<File = File> + Clone + Drop + Send> FileHost<R> {
     /// The host of the files that a runtime reaches.
-    pub fn new(rt: R) -> FileHost<R> {
+    pub fn new(rt: R) -> FileHost<R>
+        ensures { ⟦<FileHost<R> as Host>⟧.faults result ≡ 0 }
+    {
         FileHost { rt, faults: 0 }
     }
 }
@@ -85,4 +88,35 @@ fn read_some(file: &mut File, buf: &mut [u8]) -> Option<usize>
         }
     }
     None
+}
+
+#[cfg(test)]
+mod tests {
+    use super::*;
+    use std::test::Fail;
+    use std::{env, process};
+
+    #[test]
+    fn reads(rt: HostRuntime) -> Result<(), Fail> {
+        let alloc = rt.alloc();
+        let folder = env::temp_dir(&rt)?;
+        let id = process::id(rt.process());
+        let path = format!(in alloc; "{}/fish_outside_{id}", folder.as_path().display())?;
+        fs::write(&rt, path.as_str(), "abc")?;
+        let name = Text::copy_of(alloc, path.as_str())?;
+        let mut host = FileHost::new(rt);
+        let mut feed = host.feed(alloc, &name)?;
+        let mut buf = [0; 8];
+        assert_eq!(rt; feed.read(&mut buf), Ok(3));
+        assert_eq!(rt; buf[..3], b"abc"[..]);
+        assert_eq!(rt; feed.read(&mut buf), Ok(0));
+        host.done(feed);
+        fs::remove_file(&rt, path.as_str())?;
+        match host.feed(alloc, &name) {
+            Ok(feed) => host.done(feed),
+            Err(refusal) => assert_eq!(rt; refusal, FeedRefusal::Failed),
+        }
+        assert_eq!(rt; host.faults, 1);
+        Ok(())
+    }
 }

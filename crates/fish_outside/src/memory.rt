@@ -1,9 +1,9 @@
 //! The outside in memory that fails by a plan.
 
-ghost use Rattle.std.specs.Prelude.{◌≡◌, ◌≤◌, ◌↔◌, ℕ, List, [], Some, length, is_err, option_copied, option_map, true, IfOk, IfSome, IsErr, IsErrOf, IsNone, IsSome, IsTrue, OnErr};
+ghost use Rattle.std.specs.Prelude.{◌≡◌, ◌≤◌, ◌↔◌, [], Some, length, is_err, option_copied, option_map, IfOk, IsErr, IsErrOf, IsTrue};
 ghost use Rattle.std.specs.Str.{bytes_eq};
-ghost use Rattle.fish_outside.specs.Causes.{counted_on, HasCause, HasFeedCause};
-ghost use Rattle.fish_outside.specs.Told.{HasFile, Reads, StillTold, Writes};
+ghost use Rattle.fish_outside.specs.Causes.{counted_on, HasCause};
+ghost use Rattle.fish_outside.specs.Told.{Reads, Writes};
 ghost use Rattle.fish_outside.specs.Memory.{after_call, file_of, files_of, is_planned, new_plan};
 
 use crate::fault::{Failed, FeedRefusal};
@@ -112,7 +112,8 @@ impl Host for MemoryHost {
     ghost faults = { λ host. host.plan.faults };
 
     fn feed(&mut self, alloc: Global, name: &Text) -> Result<MemorySource, FeedRefusal>
-        ensures feed { IfOk result (λ feed. option_map feed_of (file_of self.old.files name.now) ≡ Some feed) }
+        ensures feed { IfOk result (λ feed.
+            option_map feed_of (file_of self.old.files name.now) ≡ Some feed) }
         ensures files { self.new.files ≡ self.old.files }
 
         ensures failed { IsErrOf result FeedRefusal.Failed ↔ IsTrue (is_refused self.old name.now) }
@@ -130,7 +131,9 @@ impl Host for MemoryHost {
 
     fn done(&mut self, feed: MemorySource)
         ensures files { self.new.files ≡ self.old.files }
-        ensures counted { self.new.plan ≡ record self.old.plan { faults = counted_on self.old.plan.faults feed.plan.faults } }
+        ensures counted { self.new.plan ≡ record self.old.plan {
+          faults = counted_on self.old.plan.faults feed.plan.faults;
+        } }
     {
         self.plan.faults = self.plan.faults.saturating_add(feed.plan.faults);
     }
@@ -193,5 +196,94 @@ impl Sink for MemorySink {
             Ok(()) => Ok(piece.len()),
             Err(_) => Err(self.plan.fault()),
         }
+    }
+}
+
+#[cfg(test)]
+mod tests {
+    use super::*;
+    use crate::sink::write_whole;
+    use std::test::Fail;
+
+    /// A file `a` of the bytes `abcde`, whose second and fourth read fail, and another `a`.
+    fn files(alloc: Global) -> Result<HostFiles, AllocError> {
+        let mut files = HostFiles::new(alloc);
+        files.push(HostFile {
+            name: Text::copy_of(alloc, "a")?,
+            bytes: Bytes::copy_of(alloc, b"abcde")?,
+            fails: numbers_again(alloc, &[1, 3])?,
+        })?;
+        files.push(HostFile {
+            name: Text::copy_of(alloc, "a")?,
+            bytes: Bytes::new(alloc),
+            fails: Numbers64::new(alloc),
+        })?;
+        Ok(files)
+    }
+
+    #[test]
+    fn feeds(rt: HostRuntime) -> Result<(), Fail> {
+        let alloc = rt.alloc();
+        let mut host = MemoryHost::new(files(alloc)?, numbers_again(alloc, &[2])?);
+        // the name, and whether the call gives a feed, in the order of the calls
+        let cases = [("b", false), ("a", true), ("a", false), ("a", true)];
+        for (name, given) in cases {
+            match host.feed(alloc, &Text::copy_of(alloc, name)?) {
+                Ok(feed) => {
+                    assert!(rt; given, "a feed of {name}");
+                    assert_eq!(rt; feed.plan.faults, 0);
+                    host.done(feed);
+                }
+                Err(refusal) => {
+                    assert!(rt; !given, "no feed of {name}");
+                    assert_eq!(rt; refusal, FeedRefusal::Failed);
+                }
+            }
+        }
+        assert_eq!(rt; (host.plan.calls, host.plan.faults), (4, 2));
+        Ok(())
+    }
+
+    #[test]
+    fn reads(rt: HostRuntime) -> Result<(), Fail> {
+        let alloc = rt.alloc();
+        let mut host = MemoryHost::new(files(alloc)?, Numbers64::new(alloc));
+        let mut feed = host.feed(alloc, &Text::copy_of(alloc, "a")?)?;
+        // what each read with room for two bytes answers, and the bytes in the buffer then
+        let cases = [
+            (Ok(2), b"ab"),
+            (Err(Failed), b".."),
+            (Ok(2), b"cd"),
+            (Err(Failed), b".."),
+            (Ok(1), b"e."),
+            (Ok(0), b".."),
+        ];
+        for (want, bytes) in cases {
+            let mut buf = *b"..";
+            assert_eq!(rt; feed.read(&mut buf), want);
+            assert_eq!(rt; buf, *bytes);
+        }
+        host.done(feed);
+        assert_eq!(rt; (host.plan.calls, host.plan.faults), (1, 2));
+        Ok(())
+    }
+
+    #[test]
+    fn writes(rt: HostRuntime) -> Result<(), Fail> {
+        let alloc = rt.alloc();
+        let mut sink = MemorySink::new(alloc, numbers_again(alloc, &[1])?);
+        // a piece, what writing it answers, and all that was written then
+        let cases = [
+            (b"ab".as_slice(), Ok(()), b"ab".as_slice()),
+            (b"cd".as_slice(), Err(Failed), b"ab".as_slice()),
+            (b"".as_slice(), Ok(()), b"ab".as_slice()),
+            (b"efg".as_slice(), Ok(()), b"abefg".as_slice()),
+        ];
+        for (piece, want, all) in cases {
+            assert_eq!(rt; write_whole(&mut sink, piece), want);
+            assert_eq!(rt; sink.as_bytes(), all);
+        }
+        assert_eq!(rt; (sink.plan.calls, sink.plan.faults), (3, 1));
+        Ok(())
     }
 }

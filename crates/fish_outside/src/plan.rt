@@ -1,6 +1,6 @@
 //! Which calls of an object in memory are to fail.
 
-ghost use Rattle.std.specs.Prelude.{◌≡◌, is_err, true};
+ghost use Rattle.std.specs.Prelude.{◌≡◌, is_err};
 ghost use Rattle.fish_outside.specs.Causes.{counted_on};
 ghost use Rattle.fish_outside.specs.Memory.{after_call, is_planned, new_plan};
 

@@ -39,3 +39,53 @@ pub fn write_whole<W: Sink>(sink: &mut W, piece: &[u8]) -> Result<(), Failed>
     }
     Ok(())
 }
+
+#[cfg(test)]
+mod tests {
+    use super::*;
+    use crate::memory::MemorySink;
+    use fish_value::Numbers64;
+    use std::test::Fail;
+
+    /// A sink that takes at most two bytes in a write.
+    struct Narrow {
+        sink: MemorySink,
+    }
+
+    impl Sink for Narrow {
+        ghost use Rattle.std.specs.Prelude.{Some};
+
+        ghost written = { λ narrow. Some narrow.sink.bytes };
+
+        ghost faults = { λ narrow. narrow.sink.plan.faults };
+
+        fn write(&mut self, piece: &[u8]) -> Result<usize, Failed> {
+            let (front, _) = piece.split_at(piece.len().min(2));
+            self.sink.write(front)
+        }
+    }
+
+    #[test]
+    fn writes_in_parts(rt: HostRuntime) -> Result<(), Fail> {
+        let alloc = rt.alloc();
+        // the number of the write that fails, and what was written of `abcde` then
+        let cases = [
+            (0, Err(Failed), b"".as_slice()),
+            (1, Err(Failed), b"ab".as_slice()),
+            (2, Err(Failed), b"abcd".as_slice()),
+            (3, Ok(()), b"abcde".as_slice()),
+        ];
+        for (fail, want, written) in cases {
+            let mut fails = Numbers64::new(alloc);
+            fails.push(fail)?;
+            let mut narrow = Narrow {
+                sink: MemorySink::new(alloc, fails),
+            };
+            let result = write_whole(&mut narrow, b"abcde");
+            let Narrow { sink } = narrow;
+            assert_eq!(rt; result, want, "write {fail} fails");
+            assert_eq!(rt; sink.as_bytes(), written, "write {fail} fails");
+        }
+        Ok(())
+    }
+}

@@ -1,6 +1,6 @@
 //! A sink in memory that never fails.
 
-ghost use Rattle.std.specs.Prelude.{◌≡◌, ◌≤◌, ◌++◌, List, ℕ, [], Some, None, length, take, vec_capacity, option_map, IfOk, IfSome, if◌then◌else◌};
+ghost use Rattle.std.specs.Prelude.{◌≡◌, ◌≤◌, ◌++◌, [], Some, length, take, vec_capacity, option_map, IfOk, IfSome};
 ghost use Rattle.fish_outside.specs.Causes.{HasCause};
 ghost use Rattle.fish_outside.specs.Told.{Writes};
 ghost use Rattle.fish_outside.specs.Room.{told_within};
@@ -56,15 +56,40 @@ impl Sink for SureSink {
         ensures bytes { Writes (told_of self.old) (told_of self.new) result piece.now }
         ensures cause { HasCause 0 0 result }
 
-        ensures told { told_of self.new ≡ told_within (room_of self.old) (option_map (λ all. all ++ piece.now) (told_of self.old)) }
+        ensures told { told_of self.new
+            ≡ told_within (room_of self.old) (option_map (λ all. all ++ piece.now) (told_of self.old)) }
         ensures kept { kept_of self.new ≡ take (room_of self.old) (kept_of self.old ++ piece.now) }
         ensures room { room_of self.new ≡ room_of self.old }
     {
         let left = self.room as usize - self.bytes.len();
         let fit = piece.len().min(left);
         let (front, _) = piece.split_at(fit);
+        // It fits the memory that was taken at the start.
         self.bytes.extend_from_slice(front).unwrap();
         self.told = self.told && fit == piece.len();
         Ok(piece.len())
+    }
+}
+
+#[cfg(test)]
+mod tests {
+    use super::*;
+    use std::test::Fail;
+
+    #[test]
+    fn writes(rt: HostRuntime) -> Result<(), Fail> {
+        let mut sink = SureSink::new(rt.alloc(), 4)?;
+        // a piece, and what is kept then
+        let cases = [
+            (b"abc".as_slice(), b"abc".as_slice()),
+            (b"".as_slice(), b"abc".as_slice()),
+            (b"def".as_slice(), b"abcd".as_slice()),
+            (b"g".as_slice(), b"abcd".as_slice()),
+        ];
+        for (piece, kept) in cases {
+            assert_eq!(rt; sink.write(piece), Ok(piece.len()));
+            assert_eq!(rt; sink.as_bytes(), kept);
+        }
+        Ok(())
     }
 }

@@ -1,8 +1,7 @@
 -- The bytes of this turn follow those of the turns before.
-use Rattle.std.proofs.Common.{◌≡◌, ◌+◌, ◌++◌, take, drop, ap, ◌∙◌, sym, arith}
+use Rattle.std.proofs.Common.{take, arith}
 use Rattle.std.proofs.Math.Seq.{take-add}
-use Rattle.fish_outside.specs.Told.{Gained}
-use Rattle.fish_outside.proofs.ToldLemmas.{Gained-trans}
+use Rattle.fish_outside.proofs.ToldLemmas.{Gained_trans}
 use Rattle.fish_outside.proofs.sink.write_whole.Goals as goal
 
 pub loop-sent-preserved : goal.loop-sent-preserved
@@ -11,8 +10,8 @@ loop-sent-preserved g c =
     let count = c.in_ok-count.count in
     let piece = c.args.piece.now in
     let written = g.W.Sink.written in
-    let now = Gained-trans (written c.args.sink.now) (written c.loop-sent.sink) (written c.write.new.self)
-          (take sent piece) (take count c.split_at.result.1.now) c.loop-sent.invariant.gained c.in_ok-count.ensures.bytes.0 in
+    let now = Gained_trans (written c.args.sink.now) (written c.loop-sent.sink) (written c.write.new.self)
+    (take sent piece) (take count c.split_at.result.1.now) c.loop-sent.invariant.gained c.in_ok-count.ensures.bytes.0 in
     record {
       within = omega (arith, c.in_ok-count.ensures.bound);
       gained = rw (take-add sent count piece, ← c.split_at.ensures.back) now;

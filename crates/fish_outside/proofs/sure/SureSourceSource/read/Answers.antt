@@ -11,8 +11,7 @@ returns-clause-bytes c =
     let count = c.copy_front-count.result in
     let buf = c.copy_front-count.new.buf in
     let given : take count buf ≡ take count (drop at bytes) = cc in
-    let most : count ≡ min (length (drop at bytes)) (length buf) = cc in
-    (
+    let most : count ≡ min (length (drop at bytes)) (length buf) = cc in (
       ap (λ rest. Some rest) (sym c.self.view_is ∙ drop-given at count bytes (take count buf) given),
-      λ some none. drop-end at count (length buf) bytes most some none
+      λ some none. drop-end at count (length buf) bytes most some none,
     )
