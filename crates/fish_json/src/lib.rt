@@ -5,5 +5,7 @@
 #![tactic(auto)]
 
 mod record;
+#[cfg(test)]
+mod tests;
 
 pub use record::{JsonRecord, MAX_PAYLOAD, RecordRefusal};
