@@ -1,6 +1,6 @@
 //! Lines with answers from outside: RFC 8259, and what `serde_json` 1.0 of Rust says of the rest.
 
-use crate::{JsonRecord, MAX_PAYLOAD, RecordRefusal};
+use crate::{JsonReader, JsonRecord, MAX_PAYLOAD, RecordRefusal};
 use fish_value::{Field, Path, Text};
 use std::alloc::{AllocError, Global};
 use std::test::Fail;
@@ -129,13 +129,29 @@ fn in_record(alloc: Global, line: &[u8], path: &Path) -> Result<Field, RecordRef
     Ok(record.get(alloc, path)?)
 }
 
+fn in_row(
+    alloc: Global,
+    reader: &mut JsonReader,
+    line: &[u8],
+    path: &Path,
+) -> Result<Field, RecordRefusal> {
+    let row = reader.read(alloc, line)?;
+    Ok(row.get(alloc, path)?)
+}
+
 #[test]
 fn lines(rt: HostRuntime) -> Result<(), Fail> {
     let alloc = rt.alloc();
+    let mut reader = JsonReader::new(alloc);
     for (line, names, want) in LINES {
         let path = path_of(alloc, names)?;
         let found = in_record(alloc, line.as_bytes(), &path);
         assert!(rt; meets(&found, want), "{line} at {names}: {found:?}");
+        let found = in_row(alloc, &mut reader, line.as_bytes(), &path);
+        assert!(rt;
+            meets(&found, want),
+            "{line} at {names} in a row: {found:?}"
+        );
     }
     Ok(())
 }
@@ -161,6 +177,7 @@ fn nested(alloc: Global, arrays: usize, len: usize) -> Result<String, AllocError
 fn limits(rt: HostRuntime) -> Result<(), Fail> {
     let alloc = rt.alloc();
     let path = path_of(alloc, "a")?;
+    let mut reader = JsonReader::new(alloc);
     // arrays in the object, bytes of the line, answer
     let cases = [
         (126, 0, Want::Other),
@@ -172,6 +189,8 @@ fn limits(rt: HostRuntime) -> Result<(), Fail> {
         let line = nested(alloc, arrays, len)?;
         let found = in_record(alloc, line.as_bytes(), &path);
         assert!(rt; meets(&found, want), "{arrays} {len}: {found:?}");
+        let found = in_row(alloc, &mut reader, line.as_bytes(), &path);
+        assert!(rt; meets(&found, want), "{arrays} {len} in a row: {found:?}");
     }
     Ok(())
 }
@@ -180,17 +199,18 @@ fn limits(rt: HostRuntime) -> Result<(), Fail> {
 fn bytes_that_are_no_text(rt: HostRuntime) -> Result<(), Fail> {
     let alloc = rt.alloc();
     let path = path_of(alloc, "a")?;
+    let mut reader = JsonReader::new(alloc);
     // a byte that begins no character, a surrogate, a long form of `/`
     for line in [
         b"{\"a\":\"\xff\"}".as_slice(),
         b"{\"a\":\"\xed\xa0\x80\"}".as_slice(),
         b"{\"a\":\"\xc0\xaf\"}".as_slice(),
     ] {
+        let want = Want::Refused(RecordRefusal::NotJson);
         let found = in_record(alloc, line, &path);
-        assert!(rt;
-            meets(&found, Want::Refused(RecordRefusal::NotJson)),
-            "{found:?}"
-        );
+        assert!(rt; meets(&found, want), "{found:?}");
+        let found = in_row(alloc, &mut reader, line, &path);
+        assert!(rt; meets(&found, want), "in a row: {found:?}");
     }
     Ok(())
 }
