@@ -1,3 +1,5 @@
 pub mod Contents
 pub mod Lines
 pub mod Reading
+pub mod Row
+pub mod Tape

@@ -1,6 +1,6 @@
 -- Which bytes are a record in JSON, and what it has at a path.
 use Rattle.std.specs.Prelude.{ℕ, ℤ, List, [], ◌∷◌, length, nat_le, Option, Some, None, option_and_then, if◌then◌else◌}
-use Rattle.serde_json.specs.Data.{Num, Data, null, boolean, number, string, array, object}
+use Rattle.serde_json.specs.Data.{Data, null, boolean, number, string, array, object}
 use Rattle.serde_json.specs.Find.{as_i64, get}
 use Rattle.fish_value.specs.Json.{reading}
 use Rattle.fish_value.specs.declared.field.Field.{Field}

@@ -4,6 +4,14 @@
 //! definitions on bytes, in `specs/`. The calls here read one line's bytes.
 #![tactic(auto)]
 
+mod nodes;
+mod number;
+mod reader;
 mod record;
+mod row;
+#[cfg(test)]
+mod tests;
 
+pub use reader::JsonReader;
 pub use record::{JsonRecord, MAX_PAYLOAD, RecordRefusal};
+pub use row::JsonRow;

@@ -1,0 +1,6 @@
+mod Depth
+mod Nesting
+mod Readings
+mod Found
+mod Elements
+pub mod Records

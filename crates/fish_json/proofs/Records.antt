@@ -1,0 +1,32 @@
+-- What a payload has, from the record that it is.
+use Rattle.std.proofs.Common.{◌≡◌, ℕ, List, Option, Some, None, Bool, true, false, if◌then◌else◌, option_and_then, nat_le, length, ap}
+use Rattle.std.specs.Prelude.{IsUtf8}
+use Rattle.std.specs.Str.{is_utf8}
+use Rattle.std.proofs.lemmas.Str.{IsUtf8-from_is_utf8}
+use Rattle.serde_json.specs.Data.{Data}
+use Rattle.serde_json.specs.Read.{read}
+use Rattle.fish_value.specs.Json.{reading}
+use Rattle.fish_value.specs.declared.field.Field.TheVariants.{Missing}
+use Rattle.fish_json.specs.Reading.{at_path, field, field_in, field_of, if_object, record_of}
+use Rattle.fish_json.specs.declared.record.TheConstants.{MAX_PAYLOAD}
+
+-- what a payload has at a path is what its record has there
+pub field_of_record : (b : List ℕ) (path : List (List ℕ)) (d : Data) → record_of b ≡ Some d → field b path ≡ field_in path d
+unfolding field field_in
+field_of_record b path d e = ap (λ r. field_of (option_and_then (at_path path) r)) e
+
+-- bytes that are no record have nothing at any path
+pub field_of_none : (b : List ℕ) (path : List (List ℕ)) → record_of b ≡ None → field b path ≡ Missing
+unfolding field
+field_of_none b path e = ap (λ r. field_of (option_and_then (at_path path) r)) e
+
+tested : (short text : Bool) (o : Option Data) (d : Data)
+    → (if short then option_and_then if_object (if text then o else None) else None) ≡ Some d → text ≡ true
+tested true true o d e = cc
+tested true false o d e = cc
+tested false text o d e = cc
+
+-- a record's bytes are a text
+pub record_is_text : (b : List ℕ) (d : Data) → record_of b ≡ Some d → IsUtf8 b
+unfolding record_of reading
+record_is_text b d e = IsUtf8-from_is_utf8 b (tested (nat_le (length b) MAX_PAYLOAD) (is_utf8 b) (read b) d e)

@@ -1,0 +1,73 @@
+//! The text of a JSON number as `serde_json` takes it: a whole number of 64 bits, or a double.
+
+ghost use Rattle.std.specs.Prelude.{◌≡◌, true, false, ◌==◌, ◌<◌, length, slice_index, IsTrue, is_some, Some, MatchOption, option_and_then};
+ghost use Rattle.serde_json.specs.Data.{unsigned, negative};
+ghost use Rattle.serde_json.specs.Find.{as_i64};
+ghost use Rattle.serde_json.specs.Read.{float_of, number_from, number_of};
+
+use fast_float::Numeral;
+
+/// Whether a number's text is in the range of a double.
+pub(crate) fn in_range(text: &str) -> bool
+    ensures { result ≡ is_some (number_of text.now) }
+{
+    let (is_negative, numeral) = parts(text);
+    let is_whole = if is_negative {
+        negative_int(&numeral).is_some()
+    } else {
+        positive_int(&numeral).is_some()
+    };
+    is_whole || numeral.to_float::<f64>(is_negative).is_finite()
+}
+
+/// The whole number of 64 bits with a sign that a number's text is.
+pub(crate) fn as_int(text: &str) -> Option<i64>
+    ensures { result ≡ option_and_then as_i64 (number_of text.now) }
+{
+    let (is_negative, numeral) = parts(text);
+    if is_negative {
+        return negative_int(&numeral);
+    }
+    match positive_int(&numeral) {
+        Some(n) if n <= i64::MAX as u64 => Some(n as i64),
+        _ => None,
+    }
+}
+
+/// Whether a number's text has a minus, and what is behind it.
+fn parts(text: &str) -> (bool, Numeral<'_>)
+    ensures { number_of text.now ≡ number_from result.0 result.1 }
+{
+    let bytes = text.as_bytes();
+    if has_minus(bytes) {
+        let (_, digits) = bytes.split_at(1);
+        (true, Numeral::scan(digits))
+    } else {
+        (false, Numeral::scan(bytes))
+    }
+}
+
+fn has_minus(bytes: &[u8]) -> bool
+    ensures value { result ≡ (slice_index bytes.now 0 == 45) }
+    ensures len { IsTrue result → 0 < length bytes.now }
+{
+    !bytes.is_empty() && bytes[0] == b'-'
+}
+
+fn positive_int(numeral: &Numeral<'_>) -> Option<u64>
+    ensures { MatchOption result (number_from false numeral.now ≡ float_of false numeral.now)
+        (λ n. number_from false numeral.now ≡ Some (unsigned n)) }
+{
+    numeral.to_u64()
+}
+
+/// The number behind a minus, with it. `-0` is no whole number, but a double.
+fn negative_int(numeral: &Numeral<'_>) -> Option<i64>
+    ensures { MatchOption result (number_from true numeral.now ≡ float_of true numeral.now)
+        (λ n. number_from true numeral.now ≡ Some (negative n)) }
+{
+    match numeral.to_i64(true) {
+        Some(n) if n < 0 => Some(n),
+        _ => None,
+    }
+}

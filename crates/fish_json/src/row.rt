@@ -1,0 +1,96 @@
+//! A record read over a tape of its text. No tree is made of it.
+
+ghost use Rattle.std.specs.Prelude.{◌≡◌, true, IfOk, is_some, unwrap_or, option_and_then};
+ghost use Rattle.serde_json.specs.Data.{Data, null};
+ghost use Rattle.serde_json.specs.Find.{as_i64, get};
+ghost use Rattle.serde_json.specs.Read.{number_of};
+ghost use Rattle.fish_json.specs.Reading.{at_path, field_in, int_or_other, kind_of};
+ghost use Rattle.fish_json.specs.Tape.{data_at, FindsData, Stands};
+
+use crate::number::as_int;
+use fish_value::{Field, Path, Text};
+use json::{Element, Tape};
+use std::alloc::{AllocError, Global};
+
+/// A record that was read. It lends the text and the memory of the reader.
+#[derive(Drop)]
+pub struct JsonRow<'a> {
+    tape: Tape<'a>,
+    ghost reads: { is_some (data_at tape) ≡ true },
+}
+
+impl<'a> JsonRow<'a> {
+    ghost use Rattle.fish_json.specs.Row.{row_contents};
+
+    /// The record that a tape tells.
+    #[tactic(auto, unfolding(crate::specs::Row::row_contents))]
+    pub(crate) fn of_tape(tape: Tape<'a>) -> JsonRow<'a>
+        requires { is_some (data_at tape) ≡ true }
+        ensures { row_contents result ≡ unwrap_or (data_at tape.entry) null }
+    {
+        JsonRow { tape }
+    }
+
+    /// What the record has at a path. An object, an array, and a number that is no whole number of
+    /// 64 bits are [`Field::Other`]. It takes time in the length of the objects on the path.
+    pub fn get(&self, alloc: Global, path: &Path) -> Result<Field, AllocError>
+        ensures { IfOk result (λ field. field ≡ field_in path.now (row_contents self.now)) }
+    {
+        match self.find(path) {
+            Some(value) => field(alloc, &value),
+            None => Ok(Field::Missing),
+        }
+    }
+
+    /// Where a path leads.
+    fn find(&self, path: &Path) -> Option<Element<'_, 'a>>
+        ensures { FindsData result (at_path path.now (row_contents self.now)) }
+    {
+        let (first, more) = path.parts();
+        walk(step(&self.tape.root(), first)?, more)
+    }
+}
+
+/// Where names lead from a value, through objects.
+fn walk<'t, 'a>(value: Element<'t, 'a>, steps: &[Text]) -> Option<Element<'t, 'a>>
+    ensures { (d : Data) → Stands value.entry d → FindsData result (at_path steps.now d) }
+{
+    let mut found = value;
+    for name in steps {
+        found = step(&found, name)?;
+    }
+    Some(found)
+}
+
+/// The last member of that name, where the value is an object.
+fn step<'t, 'a>(value: &Element<'t, 'a>, name: &Text) -> Option<Element<'t, 'a>>
+    ensures { (d : Data) → Stands value.now d → FindsData result (get name.now d) }
+{
+    value.get(name.as_str())
+}
+
+/// A value as a field. Its text is copied.
+fn field(alloc: Global, value: &Element<'_, '_>) -> Result<Field, AllocError>
+    ensures { (d : Data) → Stands value.now d → IfOk result (λ field. field ≡ kind_of d) }
+{
+    if let Some(text) = value.as_str() {
+        return Ok(Field::Text(Text::copy_of(alloc, text)?));
+    }
+    if let Some(text) = value.as_number() {
+        return Ok(number(text));
+    }
+    if let Some(truth) = value.as_bool() {
+        return Ok(Field::Bool(truth));
+    }
+    if value.is_null() {
+        return Ok(Field::Null);
+    }
+    Ok(Field::Other)
+}
+
+/// A number's text as a field.
+fn number(text: &str) -> Field
+    ensures { result ≡ int_or_other (option_and_then as_i64 (number_of text.now)) }
+{
+    as_int(text).map_or(Field::Other, Field::Int)
+}
