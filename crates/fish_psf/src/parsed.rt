@@ -3,7 +3,7 @@
 ghost use Rattle.std.specs.Prelude.{◌≡◌, ℕ, List, IfOk};
 ghost use Rattle.fish_value.specs.declared.field.Field.{Field as FieldAt};
 
-use fish_json::JsonRecord;
+use fish_json::{JsonRecord, JsonRow};
 use fish_value::{Field, Path};
 use std::alloc::{AllocError, Global};
 
@@ -22,6 +22,17 @@ impl Parsed for JsonRecord {
     ghost use Rattle.fish_json.specs.Reading.{field_in};
 
     ghost fields = { λ r path. field_in path (contents r) };
+
+    fn at(&self, alloc: Global, path: &Path) -> Result<Field, AllocError> {
+        self.get(alloc, path)
+    }
+}
+
+impl<'a> Parsed for JsonRow<'a> {
+    ghost use Rattle.fish_json.specs.Reading.{field_in};
+    ghost use Rattle.fish_json.specs.Row.{row_contents};
+
+    ghost fields = { λ r path. field_in path (row_contents r) };
 
     fn at(&self, alloc: Global, path: &Path) -> Result<Field, AllocError> {
         self.get(alloc, path)

@@ -12,7 +12,7 @@ ghost use Rattle.fishstore.specs.Tally.{IsRecord, no_lines, with_line, with_part
 use crate::lines::{cut, is_blank, without_carriage_return, without_mark};
 use crate::run::MAX_FILE;
 use crate::words::Select;
-use fish_json::{JsonRecord, RecordRefusal};
+use fish_json::{JsonReader, RecordRefusal};
 use fish_psf::{Parsed, take_of};
 use fish_report::Item;
 use fish_value::{Row, Rows, Text, Value};
@@ -54,19 +54,21 @@ fn tally_of(alloc: Global, command: &Select, b: &[u8]) -> Result<Tally, AllocErr
         count: 0,
         refused: 0,
     };
+    let mut reader = JsonReader::new(alloc);
     let mut rest = b;
     while let Some((part, behind)) = cut(rest) {
-        add_line(alloc, command, without_carriage_return(part), &mut tally)?;
+        add_line(alloc, &mut reader, command, without_carriage_return(part), &mut tally)?;
         rest = behind;
     }
-    add_line(alloc, command, without_carriage_return(rest), &mut tally)?;
+    add_line(alloc, &mut reader, command, without_carriage_return(rest), &mut tally)?;
     Ok(tally)
 }
 
 /// Counts one more line.
-#[tactic(auto, using(crate::proofs::TallyLemmas::with_record_same))]
+#[tactic(auto, using(crate::proofs::TallyLemmas::record_is_read, crate::proofs::TallyLemmas::payload_of_none))]
 fn add_line(
     alloc: Global,
+    reader: &mut JsonReader,
     command: &Select,
     line: &[u8],
     tally: &mut Tally,
@@ -79,25 +81,13 @@ fn add_line(
     if is_blank(line) {
         return Ok(());
     }
-    match record_in(alloc, line)? {
-        Some(found) => add_record(alloc, command, &found, line, tally),
-        None => {
+    match reader.read(alloc, line) {
+        Ok(found) => add_record(alloc, command, &found, line, tally),
+        Err(RecordRefusal::OutOfMemory) => Err(AllocError),
+        Err(_) => {
             tally.refused += 1;
             Ok(())
         }
-    }
-}
-
-/// The record that a line is, where it is one.
-#[tactic(auto, using(crate::proofs::TallyLemmas::record_is_read, crate::proofs::TallyLemmas::payload_of_none))]
-fn record_in(alloc: Global, line: &[u8]) -> Result<Option<JsonRecord>, AllocError>
-    ensures { IfOk result (λ found. MatchOption found (payload_of line.now ≡ None)
-        (λ read. IsRecord line.now (λ path. field_in path (contents read)))) }
-{
-    match JsonRecord::read(alloc, line) {
-        Ok(found) => Ok(Some(found)),
-        Err(RecordRefusal::OutOfMemory) => Err(AllocError),
-        Err(_) => Ok(None),
     }
 }
 
