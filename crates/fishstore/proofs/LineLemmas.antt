@@ -19,7 +19,7 @@ slice_split_nowhere (x ∷ xs) h =
 
 -- the first part ends at the first LF, and the others are those of what stands behind it
 pub slice_split_first_end : (b : List ℕ) (k : ℕ) → k < length b → ((j : ℕ) → j < k → ¬ Passes (is_byte 10) b j) → Passes (is_byte 10) b k
-  → slice_split is_line_end b ≡ take k b ∷ slice_split is_line_end (drop (k + 1) b)
+    → slice_split is_line_end b ≡ take k b ∷ slice_split is_line_end (drop (k + 1) b)
 slice_split_first_end [] k within before ends = absurd (omega arith)
 slice_split_first_end (x ∷ xs) zero within before ends = (let here : is_line_end x ≡ true = ends in rw here)
 slice_split_first_end (x ∷ xs) (suc k) within before ends =

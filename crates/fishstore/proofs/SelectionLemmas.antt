@@ -55,17 +55,17 @@ Adds-none c t u os h = record { rows = h.rows; count = h.count; refused_lines = 
 rows_with-then : (c : Select) (n : ℕ) (payload : List ℕ) (rows : List Row) → rows_with c n (field payload) payload ++ rows ≡ cons_option (row_at c (n, payload)) rows
 rows_with-then c n payload rows =
     elim (has_value (take c.path (field payload)) c.value) as
-      (λ t. (if t then record { number = n; payload = payload } ∷ [] else []) ++ rows ≡ cons_option (if t then Some (record { number = n; payload = payload }) else None) rows) [
-      true ↦ refl
-    | false ↦ refl
+    (λ t. (if t then record { number = n; payload = payload } ∷ [] else []) ++ rows ≡ cons_option (if t then Some (record { number = n; payload = payload }) else None) rows) [
+      | true ↦ refl
+      | false ↦ refl
     ]
 
 Adds-some : (c : Select) (t u : Tally) (payload : List ℕ) (os : List (Option (List ℕ))) → Adds c (with_outcome c t (Some payload)) u os → Adds c t u (Some payload ∷ os)
 Adds-some c t u payload os h = record {
-    rows = h.rows ∙ append_assoc t.rows _ _ ∙ ap (λ r. t.rows ++ r) (rows_with-then c t.count payload _);
-    count = omega (arith, h.count);
-    refused_lines = h.refused_lines ∙ ap (λ n. t.refused + n) (sym (refused-some payload os))
-  }
+  rows = h.rows ∙ append_assoc t.rows _ _ ∙ ap (λ r. t.rows ++ r) (rows_with-then c t.count payload _);
+  count = omega (arith, h.count);
+  refused_lines = h.refused_lines ∙ ap (λ n. t.refused + n) (sym (refused-some payload os));
+}
 
 Adds-outcome : (c : Select) (t u : Tally) (o : Option (List ℕ)) (os : List (Option (List ℕ))) → Adds c (with_outcome c t o) u os → Adds c t u (o ∷ os)
 Adds-outcome c t u None os h = Adds-none c t u os h
@@ -73,7 +73,7 @@ Adds-outcome c t u (Some payload) os h = Adds-some c t u payload os h
 
 -- the tests of a line, and then its outcome
 Adds-line : (c : Select) (t u : Tally) (part : List ℕ) (parts : List (List ℕ)) (blank : Bool) → is_blank (strip_carriage_return part) ≡ blank
-  → Adds c (with_line c t (strip_carriage_return part)) u (outcomes_of parts) → Adds c t u (outcomes_of (part ∷ parts))
+    → Adds c (with_line c t (strip_carriage_return part)) u (outcomes_of parts) → Adds c t u (outcomes_of (part ∷ parts))
 Adds-line c t u part parts true blank h = rw (outcomes_of-blank part parts blank) (rw blank at h)
 Adds-line c t u part parts false line h =
     rw (outcomes_of-line part parts line) (Adds-outcome c t u (payload_of (strip_carriage_return part)) (outcomes_of parts) (rw line at h))
@@ -90,7 +90,7 @@ row_of-at : (c : Select) (n end : ℕ) (payload : List ℕ) → n < end → row_
 row_of-at c n end payload below = (let low : nat_le 0 n ≡ true = grind (arith, nat_tests) in let high : nat_lt n end ≡ true = grind (arith, nat_tests) in rw (low, high))
 
 rows_of-log : (c : Select) (n end : ℕ) (payloads : List (List ℕ)) → n + length payloads ≤ end
-  → filter_map (row_of (evaluation c.path) c.value 0 end []) (enumerate_from n (log_of payloads)) ≡ filter_map (row_at c) (enumerate_from n payloads)
+    → filter_map (row_of (evaluation c.path) c.value 0 end []) (enumerate_from n (log_of payloads)) ≡ filter_map (row_at c) (enumerate_from n payloads)
 rows_of-log c n end [] within = refl
 rows_of-log c n end (payload ∷ payloads) within =
     rw (row_of-at c n end payload (omega arith), rows_of-log c (n + 1) end payloads (omega arith))
@@ -101,7 +101,7 @@ rows_of-is c payloads = sym (ap reverse (rows_of-log c 0 (length payloads) paylo
 
 -- the tally of all lines is the selection of the file
 pub selection-tally : (c : Select) (b : List ℕ) (t : Tally) → t ≡ with_parts c no_lines (slice_split is_line_end (without_mark b))
-  → item.Select (reverse t.rows) t.count t.refused ≡ selection c b
+    → item.Select (reverse t.rows) t.count t.refused ≡ selection c b
 unfolding selection outcomes
 selection-tally c b t h =
     let all = Adds-parts c no_lines (slice_split is_line_end (without_mark b)) in

@@ -13,10 +13,10 @@ use Rattle.fishstore.specs.declared.words.Select.{Select}
 -- a line whose object was read is a record with the object's fields
 pub record_is_read : (line : List ℕ) (d : Data) → record_of line ≡ Some d → IsRecord line (λ path. field_in path d)
 record_is_read line d h = record {
-    text = record_is_text line d h;
-    payload = rw h;
-    same = λ path. sym (field_of_record line path d h)
-  }
+  text = record_is_text line d h;
+  payload = rw h;
+  same = λ path. sym (field_of_record line path d h);
+}
 
 -- a line with no object is refused
 pub payload_of_none : (line : List ℕ) → record_of line ≡ None → payload_of line ≡ None

@@ -50,5 +50,6 @@ pub fn is_blank(line: &[u8]) -> bool
 fn has_blank_bytes_only(line: &[u8]) -> bool
     ensures { result ≡ list_all is_blank_byte line.now }
 {
-    line.iter().all(|b| *b == b' ' || *b == b'\t' || *b == b'\r')
+    line.iter()
+        .all(|b| *b == b' ' || *b == b'\t' || *b == b'\r')
 }

@@ -18,10 +18,9 @@ use fish_report::{Items, Report};
 use fish_value::{Text, Texts};
 use outcome::{Fault, Outcome};
 use run::run;
-use std::env;
-use std::io;
 use std::process::ExitCode;
 use std::rt::Env;
+use std::{env, io};
 use words::UsageCause;
 
 fn main(rt: HostRuntime) -> ExitCode {

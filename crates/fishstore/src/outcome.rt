@@ -113,13 +113,7 @@ fn status(fault: Fault, items: &[Item]) -> u8
     ensures { result ≡ status_of fault items.now }
 {
     match fault {
-        Fault::None => {
-            if has_refusal(items) {
-                3
-            } else {
-                0
-            }
-        }
+        Fault::None => { if has_refusal(items) { 3 } else { 0 } }
         Fault::Usage(_) => 1,
         Fault::Input => 6,
         Fault::Output => 7,

@@ -57,10 +57,22 @@ fn tally_of(alloc: Global, command: &Select, b: &[u8]) -> Result<Tally, AllocErr
     let mut reader = JsonReader::new(alloc);
     let mut rest = b;
     while let Some((part, behind)) = cut(rest) {
-        add_line(alloc, &mut reader, command, without_carriage_return(part), &mut tally)?;
+        add_line(
+            alloc,
+            &mut reader,
+            command,
+            without_carriage_return(part),
+            &mut tally,
+        )?;
         rest = behind;
     }
-    add_line(alloc, &mut reader, command, without_carriage_return(rest), &mut tally)?;
+    add_line(
+        alloc,
+        &mut reader,
+        command,
+        without_carriage_return(rest),
+        &mut tally,
+    )?;
     Ok(tally)
 }
 
@@ -123,12 +135,7 @@ fn has_value(found: &Option<Value>, wanted: &Value) -> bool
 }
 
 /// Puts a line behind the rows.
-fn push_row(
-    alloc: Global,
-    rows: &mut Rows,
-    number: u32,
-    line: &[u8],
-) -> Result<(), AllocError>
+fn push_row(alloc: Global, rows: &mut Rows, number: u32, line: &[u8]) -> Result<(), AllocError>
     requires { IsUtf8 line.now }
     ensures { OnOk result (rows.new
         ≡ rows.old ++ record { number = number; payload = line.now } ∷ []) }

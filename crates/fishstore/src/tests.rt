@@ -1,1 +1,282 @@
-//! The worked examples of `select`, and the faults of a run.
+//! The worked examples of `select`, and how a run ends by each fault.
+
+use crate::outcome::{Fault, Outcome};
+use crate::run::{MAX_FILE, run};
+use crate::words::UsageCause;
+use fish_outside::{HostFile, HostFiles, MemoryHost, MemorySink};
+use fish_value::{Bytes, Numbers64, Text, Texts};
+use std::alloc::{AllocError, Global};
+use std::test::Fail;
+use std::thread::Threads;
+
+/// Three records, of which two are of the type `Push`.
+const PUSHES: &[u8] =
+    b"{\"type\":\"Push\",\"n\":1}\n{\"type\":\"Open\",\"n\":2}\n{\"type\":\"Push\",\"n\":3}\n";
+
+/// What is told of them.
+const FOUND: &str =
+    "select found 2 of 3 refused 0\n2 21 {\"type\":\"Push\",\"n\":3}\n0 21 {\"type\":\"Push\",\"n\":1}\n";
+
+/// A run's end, and the output.
+#[derive(Drop)]
+struct Ended {
+    outcome: Outcome,
+    sink: MemorySink,
+}
+
+fn texts(alloc: Global, words: &[&str]) -> Result<Texts, AllocError> {
+    let mut texts = Texts::new(alloc);
+    for word in words {
+        texts.push(Text::copy_of(alloc, word)?)?;
+    }
+    Ok(texts)
+}
+
+fn numbers(alloc: Global, items: &[u64]) -> Result<Numbers64, AllocError> {
+    let mut numbers = Numbers64::new(alloc);
+    for number in items {
+        numbers.push(*number)?;
+    }
+    Ok(numbers)
+}
+
+/// A run over one file, of which these reads and these writes fail.
+fn end_of<R: Threads + Sync>(
+    rt: &R,
+    alloc: Global,
+    words: &[&str],
+    name: &str,
+    content: &[u8],
+    reads: &[u64],
+    writes: &[u64],
+) -> Result<Ended, AllocError> {
+    let mut files = HostFiles::new(alloc);
+    files.push(HostFile {
+        name: Text::copy_of(alloc, name)?,
+        bytes: Bytes::copy_of(alloc, content)?,
+        fails: numbers(alloc, reads)?,
+    })?;
+    let mut host = MemoryHost::new(files, Numbers64::new(alloc));
+    let mut sink = MemorySink::new(alloc, numbers(alloc, writes)?);
+    let words = texts(alloc, words)?;
+    let outcome = run(rt, alloc, words.as_slice(), &mut host, &mut sink);
+    Ok(Ended { outcome, sink })
+}
+
+#[test]
+fn selects(rt: HostRuntime) -> Result<(), Fail> {
+    // definition, value, content, output
+    let cases: [(&str, &str, &[u8], &str); 11] = [
+        ("take type", "\"Push\"", PUSHES, FOUND),
+        (
+            "take type",
+            "\"Push\"",
+            b"",
+            "select found 0 of 0 refused 0\n",
+        ),
+        // Refused lines are counted, and blank ones aren't.
+        (
+            "take type",
+            "\"Push\"",
+            b"[1]\n{\"type\":\n\n{\"type\":\"Push\",\"n\":1}\n{\"type\":\"Open\",\"n\":2}\n{\"type\":\"Push\",\"n\":3}\n",
+            "select found 2 of 3 refused 2\n2 21 {\"type\":\"Push\",\"n\":3}\n0 21 {\"type\":\"Push\",\"n\":1}\n",
+        ),
+        // CR LF, and no end behind the last line.
+        (
+            "take type",
+            "\"Push\"",
+            b"{\"type\":\"Push\",\"n\":1}\r\n{\"type\":\"Open\",\"n\":2}\r\n{\"type\":\"Push\",\"n\":3}",
+            FOUND,
+        ),
+        // A CR behind the last line, one of two CRs, blanks alone, and a byte order mark at the start alone.
+        (
+            "take n",
+            "1",
+            b"\xef\xbb\xbf{\"n\":1}\r\n \t\r\r\n{\"n\":1}\r\r\n\xef\xbb\xbf{\"n\":1}\n{\"n\":1}\r",
+            "select found 3 of 3 refused 1\n2 7 {\"n\":1}\n1 8 {\"n\":1}\r\n0 7 {\"n\":1}\n",
+        ),
+        // Numbers that are no whole number of 64 bits are no value; a text isn't the number it spells.
+        (
+            "take v",
+            "1",
+            b"{\"v\":1.5}\n{\"v\":9223372036854775808}\n{\"v\":\"1\"}\n{\"v\":1}\n",
+            "select found 1 of 4 refused 0\n3 7 {\"v\":1}\n",
+        ),
+        (
+            "take v",
+            "true",
+            b"{\"v\":true}\n{\"v\":\"true\"}\n{\"v\":null}\n{}\n",
+            "select found 1 of 4 refused 0\n0 10 {\"v\":true}\n",
+        ),
+        (
+            "take v",
+            "9223372036854775807",
+            b"{\"v\":9223372036854775807}\n",
+            "select found 1 of 1 refused 0\n0 25 {\"v\":9223372036854775807}\n",
+        ),
+        // The names that can stand bare.
+        (
+            "take $_a9",
+            "0",
+            b"{\"$_a9\":0}\n",
+            "select found 1 of 1 refused 0\n0 10 {\"$_a9\":0}\n",
+        ),
+        // Bytes that are no text, NUL, a lone surrogate and a number out of range are refused lines.
+        (
+            "take v",
+            "0",
+            b"{\"v\":\"\xff\"}\n{\"v\":\x00}\n{\"v\":\"\\ud800\"}\n{\"v\":1e999}\n{\"v\":0}\n",
+            "select found 1 of 1 refused 4\n0 7 {\"v\":0}\n",
+        ),
+        // The value as a JSON string with escapes.
+        (
+            "take v",
+            "\"\\u00e9\\n\"",
+            "{\"v\":\"é\\n\"}\n".as_bytes(),
+            "select found 1 of 1 refused 0\n0 12 {\"v\":\"é\\n\"}\n",
+        ),
+    ];
+    for (def, value, content, want) in cases {
+        let ended = end_of(
+            &rt,
+            rt.alloc(),
+            &["select", def, value, "a"],
+            "a",
+            content,
+            &[],
+            &[],
+        )?;
+        assert_eq!(rt; ended.outcome.status, 0, "{def} {value}");
+        assert_eq!(rt; ended.sink.as_bytes(), want.as_bytes(), "{def} {value}");
+    }
+    Ok(())
+}
+
+/// Numbers that are none of 64 bits, and texts of 256 and 257 bytes.
+#[test]
+fn selects_by_short_texts_alone(rt: HostRuntime) -> Result<(), Fail> {
+    let alloc = rt.alloc();
+    for (letters, found) in [(256, 1), (257, 0)] {
+        let mut content = String::from_str(
+            alloc,
+            "{\"v\":1.5}\n{\"v\":9223372036854775808}\n{\"v\":\"",
+        )?;
+        let mut value = String::from_str(alloc, "\"")?;
+        for _ in 0..letters {
+            content.push_str("x")?;
+            if letters == 256 {
+                value.push_str("x")?;
+            }
+        }
+        content.push_str("\"}\n")?;
+        value.push_str("\"")?;
+        let words = ["select", "take v", value.as_str(), "a"];
+        let ended = end_of(&rt, alloc, &words, "a", content.as_bytes(), &[], &[])?;
+        let want = format!(in alloc; "select found {found} of 3 refused 0\n")?;
+        let (first, _) = ended
+            .sink
+            .as_bytes()
+            .split_at(want.len().min(ended.sink.as_bytes().len()));
+        assert_eq!(rt; first, want.as_bytes(), "{letters}");
+    }
+    Ok(())
+}
+
+#[test]
+fn ends_by_faults(rt: HostRuntime) -> Result<(), Fail> {
+    let words = ["select", "take type", "\"Push\"", "a"];
+    let usage = Fault::Usage(UsageCause::Words);
+    // words, the reads that fail, the writes that fail, status, fault
+    let cases: [(&[&str], &[u64], &[u64], u8, Fault); 15] = [
+        (&words, &[], &[], 0, Fault::None),
+        (&words, &[0], &[], 6, Fault::Input),
+        (&words, &[1], &[], 6, Fault::Input),
+        (&words, &[], &[0], 7, Fault::Output),
+        (
+            &["select", "take type", "\"Push\"", "b"],
+            &[],
+            &[],
+            6,
+            Fault::Input,
+        ),
+        (&[], &[], &[], 1, usage),
+        (&["select", "take type", "\"Push\""], &[], &[], 1, usage),
+        (
+            &["select", "take type", "\"Push\"", "a", "a"],
+            &[],
+            &[],
+            1,
+            usage,
+        ),
+        (&["list", "take type", "\"Push\"", "a"], &[], &[], 1, usage),
+        (
+            &["select", "take  type", "\"Push\"", "a"],
+            &[],
+            &[],
+            1,
+            usage,
+        ),
+        (
+            &["select", "take when", "\"Push\"", "a"],
+            &[],
+            &[],
+            1,
+            usage,
+        ),
+        (&["select", "take 9a", "\"Push\"", "a"], &[], &[], 1, usage),
+        (&["select", "take type", "-1", "a"], &[], &[], 1, usage),
+        (
+            &["select", "take type", "Push", "a"],
+            &[],
+            &[],
+            1,
+            Fault::Usage(UsageCause::Value),
+        ),
+        (
+            &["select", "take type", "007", "a"],
+            &[],
+            &[],
+            1,
+            Fault::Usage(UsageCause::Value),
+        ),
+    ];
+    for (words, reads, writes, status, fault) in cases {
+        let ended = end_of(&rt, rt.alloc(), words, "a", PUSHES, reads, writes)?;
+        assert_eq!(rt; ended.outcome.status, status, "{words:?}");
+        assert_eq!(rt; ended.outcome.fault, fault, "{words:?}");
+        if status != 0 {
+            assert_eq!(rt; ended.sink.as_bytes().len(), 0, "{words:?}");
+        }
+    }
+    Ok(())
+}
+
+#[test]
+fn refuses_a_file_past_the_limit(rt: HostRuntime) -> Result<(), Fail> {
+    // name, length, status, output
+    let cases = [
+        ("a", MAX_FILE, 0, "select found 0 of 0 refused 1\n"),
+        ("a", MAX_FILE + 1, 3, "refused select a too long\n"),
+        (
+            "a file",
+            MAX_FILE + 1,
+            3,
+            "refused select \"a file\" too long\n",
+        ),
+    ];
+    for (name, length, status, want) in cases {
+        let content = vec![in rt.alloc(); b'x'; length]?;
+        let ended = end_of(
+            &rt,
+            rt.alloc(),
+            &["select", "take type", "\"Push\"", name],
+            name,
+            content.as_slice(),
+            &[],
+            &[],
+        )?;
+        assert_eq!(rt; ended.outcome.status, status, "{name} {length}");
+        assert_eq!(rt; ended.sink.as_bytes(), want.as_bytes(), "{name} {length}");
+    }
+    Ok(())
+}

@@ -11,4 +11,4 @@ pub returns-clause-parts : goal.returns-clause-parts
 returns-clause-parts c =
     let found = c.in_ok-end.ensures in
     rw (c.split_at.ensures.front, c.split_at-2.ensures.back)
-       (slice_split_first_end c.args.b.now c.in_ok-end.end found.0.high (λ j less. found.0.before j (omega arith) less) found.1)
+    (slice_split_first_end c.args.b.now c.in_ok-end.end found.0.high (λ j less. found.0.before j (omega arith) less) found.1)

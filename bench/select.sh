@@ -1,0 +1,64 @@
+#!/usr/bin/env bash
+# Times `fishstore select` on a large file of events beside `jq -c` and beside a plain Rust program over
+# `serde_json`, all in one run on one core, and prints the ratios and the peak memory.
+#
+# usage: bench/select.sh [BYTES]        (67108864 bytes where none are given)
+#
+# It needs Debian's packages jq, python3 and time; and librust-serde-json-dev with cargo for the Rust
+# program, which is left out where they are missing. `make build` makes the program first.
+set -euo pipefail
+cd "$(dirname "$0")"
+size=${1:-67108864}
+program=../crates/fishstore/out/fishstore
+runs=5
+
+for tool in jq python3 /usr/bin/time taskset; do
+  command -v "$tool" >/dev/null || { echo "bench: $tool is missing: apt-get install jq python3 time util-linux" >&2; exit 1; }
+done
+[ -x "$program" ] || { echo "bench: $program is missing: run 'make build' first" >&2; exit 1; }
+
+mkdir -p data
+file=data/events-$size.jsonl
+[ -f "$file" ] || python3 events.py "$size" > "$file"
+
+baseline=
+if [ -d /usr/share/cargo/registry/serde_json-1.0.87 ] || ls -d /usr/share/cargo/registry/serde_json-* >/dev/null 2>&1 && command -v cargo >/dev/null; then
+  mkdir -p data/cargo
+  printf '[source.crates-io]\nreplace-with = "debian"\n[source.debian]\ndirectory = "/usr/share/cargo/registry"\n' > data/cargo/config.toml
+  if CARGO_HOME=$PWD/data/cargo cargo build --quiet --offline --release --manifest-path rust/Cargo.toml --target-dir data/target 2>data/cargo.log; then
+    baseline=data/target/release/select-baseline
+  else
+    echo "bench: the Rust program doesn't build, see bench/data/cargo.log" >&2
+  fi
+else
+  echo "bench: librust-serde-json-dev or cargo is missing, so the Rust program is left out" >&2
+fi
+
+# the least seconds and the most KiB of several runs
+measure() {
+  local best=999999 most=0 seconds kib i
+  for i in $(seq $runs); do
+    /usr/bin/time -o data/time -f '%e %M' taskset -c 0 "$@" > data/out
+    read -r seconds kib < data/time
+    best=$(awk -v a="$best" -v b="$seconds" 'BEGIN { print (b < a) ? b : a }')
+    [ "$kib" -gt "$most" ] && most=$kib
+  done
+  echo "$best $most"
+}
+
+echo "$(nproc) cores, $(awk -F: '/model name/ { print $2; exit }' /proc/cpuinfo | sed 's/^ *//'), $(stat -c %s "$file") bytes, best of $runs runs on one core"
+for filter in 'type ReleaseEvent few' 'type PushEvent half'; do
+  read -r name value share <<< "$filter"
+  read -r ours memory <<< "$(measure "$program" select "take $name" "\"$value\"" "$file")"
+  echo "$share match: fishstore $ours s, $memory KiB"
+  read -r theirs kib <<< "$(measure jq -c "select(.$name == \"$value\")" "$file")"
+  echo "$share match: jq -c     $theirs s, fishstore is $(awk -v a="$theirs" -v b="$ours" 'BEGIN { printf "%.1f", a / b }') times as fast"
+  if [ -n "$baseline" ]; then
+    cp data/out data/jq.out
+    read -r theirs kib <<< "$(measure "$baseline" "$name" "\"$value\"" "$file")"
+    cp data/out data/rust.out
+    "$program" select "take $name" "\"$value\"" "$file" > data/out
+    cmp data/out data/rust.out
+    echo "$share match: serde_json $theirs s, $kib KiB, fishstore takes $(awk -v a="$ours" -v b="$theirs" 'BEGIN { printf "%.2f", a / b }') of its time"
+  fi
+done
