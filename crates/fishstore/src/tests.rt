@@ -24,40 +24,42 @@ struct Ended {
     sink: MemorySink,
 }
 
-fn texts(alloc: Global, words: &[&str]) -> Result<Texts, AllocError> {
+/// The words that stand between bars; an empty text has none.
+fn texts(alloc: Global, words: &str) -> Result<Texts, AllocError> {
     let mut texts = Texts::new(alloc);
-    for word in words {
+    if words.is_empty() {
+        return Ok(texts);
+    }
+    for word in words.split('|') {
         texts.push(Text::copy_of(alloc, word)?)?;
     }
     Ok(texts)
 }
 
-fn numbers(alloc: Global, items: &[u64]) -> Result<Numbers64, AllocError> {
+fn one_number(alloc: Global, number: u64) -> Result<Numbers64, AllocError> {
     let mut numbers = Numbers64::new(alloc);
-    for number in items {
-        numbers.push(*number)?;
-    }
+    numbers.push(number)?;
     Ok(numbers)
 }
 
-/// A run over one file, of which these reads and these writes fail.
+/// A run over one file, of which this read and this write fail.
 fn end_of<R: Threads + Sync>(
     rt: &R,
     alloc: Global,
-    words: &[&str],
+    words: &str,
     name: &str,
     content: &[u8],
-    reads: &[u64],
-    writes: &[u64],
+    read: u64,
+    write: u64,
 ) -> Result<Ended, AllocError> {
     let mut files = HostFiles::new(alloc);
     files.push(HostFile {
         name: Text::copy_of(alloc, name)?,
         bytes: Bytes::copy_of(alloc, content)?,
-        fails: numbers(alloc, reads)?,
+        fails: one_number(alloc, read)?,
     })?;
     let mut host = MemoryHost::new(files, Numbers64::new(alloc));
-    let mut sink = MemorySink::new(alloc, numbers(alloc, writes)?);
+    let mut sink = MemorySink::new(alloc, one_number(alloc, write)?);
     let words = texts(alloc, words)?;
     let outcome = run(rt, alloc, words.as_slice(), &mut host, &mut sink);
     Ok(Ended { outcome, sink })
@@ -137,14 +139,15 @@ fn selects(rt: HostRuntime) -> Result<(), Fail> {
         ),
     ];
     for (def, value, content, want) in cases {
+        let words = format!(in rt.alloc(); "select|{def}|{value}|a")?;
         let ended = end_of(
             &rt,
             rt.alloc(),
-            &["select", def, value, "a"],
+            words.as_str(),
             "a",
             content,
-            &[],
-            &[],
+            u64::MAX,
+            u64::MAX,
         )?;
         assert_eq!(rt; ended.outcome.status, 0, "{def} {value}");
         assert_eq!(rt; ended.sink.as_bytes(), want.as_bytes(), "{def} {value}");
@@ -170,8 +173,9 @@ fn selects_by_short_texts_alone(rt: HostRuntime) -> Result<(), Fail> {
         }
         content.push_str("\"}\n")?;
         value.push_str("\"")?;
-        let words = ["select", "take v", value.as_str(), "a"];
-        let ended = end_of(&rt, alloc, &words, "a", content.as_bytes(), &[], &[])?;
+        let words = format!(in alloc; "select|take v|{value}|a")?;
+        let content = content.as_bytes();
+        let ended = end_of(&rt, alloc, words.as_str(), "a", content, u64::MAX, u64::MAX)?;
         let want = format!(in alloc; "select found {found} of 3 refused 0\n")?;
         let (first, _) = ended
             .sink
@@ -184,68 +188,33 @@ fn selects_by_short_texts_alone(rt: HostRuntime) -> Result<(), Fail> {
 
 #[test]
 fn ends_by_faults(rt: HostRuntime) -> Result<(), Fail> {
-    let words = ["select", "take type", "\"Push\"", "a"];
     let usage = Fault::Usage(UsageCause::Words);
-    // words, the reads that fail, the writes that fail, status, fault
-    let cases: [(&[&str], &[u64], &[u64], u8, Fault); 15] = [
-        (&words, &[], &[], 0, Fault::None),
-        (&words, &[0], &[], 6, Fault::Input),
-        (&words, &[1], &[], 6, Fault::Input),
-        (&words, &[], &[0], 7, Fault::Output),
-        (
-            &["select", "take type", "\"Push\"", "b"],
-            &[],
-            &[],
-            6,
-            Fault::Input,
-        ),
-        (&[], &[], &[], 1, usage),
-        (&["select", "take type", "\"Push\""], &[], &[], 1, usage),
-        (
-            &["select", "take type", "\"Push\"", "a", "a"],
-            &[],
-            &[],
-            1,
-            usage,
-        ),
-        (&["list", "take type", "\"Push\"", "a"], &[], &[], 1, usage),
-        (
-            &["select", "take  type", "\"Push\"", "a"],
-            &[],
-            &[],
-            1,
-            usage,
-        ),
-        (
-            &["select", "take when", "\"Push\"", "a"],
-            &[],
-            &[],
-            1,
-            usage,
-        ),
-        (&["select", "take 9a", "\"Push\"", "a"], &[], &[], 1, usage),
-        (&["select", "take type", "-1", "a"], &[], &[], 1, usage),
-        (
-            &["select", "take type", "Push", "a"],
-            &[],
-            &[],
-            1,
-            Fault::Usage(UsageCause::Value),
-        ),
-        (
-            &["select", "take type", "007", "a"],
-            &[],
-            &[],
-            1,
-            Fault::Usage(UsageCause::Value),
-        ),
+    let value = Fault::Usage(UsageCause::Value);
+    let none = u64::MAX;
+    // words, the read that fails, the write that fails, status, fault
+    let cases = [
+        ("select|take type|\"Push\"|a", none, none, 0, Fault::None),
+        ("select|take type|\"Push\"|a", 0, none, 6, Fault::Input),
+        ("select|take type|\"Push\"|a", 1, none, 6, Fault::Input),
+        ("select|take type|\"Push\"|a", none, 0, 7, Fault::Output),
+        ("select|take type|\"Push\"|b", none, none, 6, Fault::Input),
+        ("", none, none, 1, usage),
+        ("select|take type|\"Push\"", none, none, 1, usage),
+        ("select|take type|\"Push\"|a|a", none, none, 1, usage),
+        ("list|take type|\"Push\"|a", none, none, 1, usage),
+        ("select|take  type|\"Push\"|a", none, none, 1, usage),
+        ("select|take when|\"Push\"|a", none, none, 1, usage),
+        ("select|take 9a|\"Push\"|a", none, none, 1, usage),
+        ("select|take type|-1|a", none, none, 1, usage),
+        ("select|take type|Push|a", none, none, 1, value),
+        ("select|take type|007|a", none, none, 1, value),
     ];
-    for (words, reads, writes, status, fault) in cases {
-        let ended = end_of(&rt, rt.alloc(), words, "a", PUSHES, reads, writes)?;
-        assert_eq!(rt; ended.outcome.status, status, "{words:?}");
-        assert_eq!(rt; ended.outcome.fault, fault, "{words:?}");
+    for (words, read, write, status, fault) in cases {
+        let ended = end_of(&rt, rt.alloc(), words, "a", PUSHES, read, write)?;
+        assert_eq!(rt; ended.outcome.status, status, "{words}");
+        assert_eq!(rt; ended.outcome.fault, fault, "{words}");
         if status != 0 {
-            assert_eq!(rt; ended.sink.as_bytes().len(), 0, "{words:?}");
+            assert_eq!(rt; ended.sink.as_bytes().len(), 0, "{words}");
         }
     }
     Ok(())
@@ -265,15 +234,18 @@ fn refuses_a_file_past_the_limit(rt: HostRuntime) -> Result<(), Fail> {
         ),
     ];
     for (name, length, status, want) in cases {
-        let content = vec![in rt.alloc(); b'x'; length]?;
+        let alloc = rt.alloc();
+        let content = vec![in alloc; b'x'; length]?;
+        let words = format!(in alloc; "select|take type|\"Push\"|{name}")?;
+        let content = content.as_slice();
         let ended = end_of(
             &rt,
-            rt.alloc(),
-            &["select", "take type", "\"Push\"", name],
+            alloc,
+            words.as_str(),
             name,
-            content.as_slice(),
-            &[],
-            &[],
+            content,
+            u64::MAX,
+            u64::MAX,
         )?;
         assert_eq!(rt; ended.outcome.status, status, "{name} {length}");
         assert_eq!(rt; ended.sink.as_bytes(), want.as_bytes(), "{name} {length}");
