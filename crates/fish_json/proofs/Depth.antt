@@ -42,7 +42,8 @@ closed : (n : ℕ) (rest : List Token) → open_after (n + 1 - 1) rest ≡ open_
 closed n rest = let same : n + 1 - 1 ≡ n = omega arith in ap (λ k. open_after k rest) same
 
 mutual
-  pub open_after-json : (j : json.Json) (n : ℕ) (rest : List Token) → open_after n (json_tokens j ++ rest) ≡ passed (good n j) (open_after n rest)
+  pub open_after-json : (j : json.Json) (n : ℕ) (rest : List Token)
+      → open_after n (json_tokens j ++ rest) ≡ passed (good n j) (open_after n rest)
   open_after-json json.null n rest = refl
   open_after-json (json.boolean b) n rest = refl
   open_after-json (json.number s) n rest = gone_on (is_some (number_of s)) (λ m. open_after m rest) n
@@ -56,7 +57,8 @@ mutual
       ∙ ap (passed (nat_lt n max_depth)) (open_after-members ms n rest)
       ∙ both (nat_lt n max_depth) (good_members (n + 1) ms) (open_after n rest)
 
-  open_after-items : (js : json.Items) (n : ℕ) (rest : List Token) → open_after (n + 1) (items_tokens js ++ rest) ≡ passed (good_items (n + 1) js) (open_after n rest)
+  open_after-items : (js : json.Items) (n : ℕ) (rest : List Token)
+      → open_after (n + 1) (items_tokens js ++ rest) ≡ passed (good_items (n + 1) js) (open_after n rest)
   open_after-items json.no_items n rest = closed n rest
   open_after-items (json.item j js) n rest =
       ap (open_after (n + 1)) (append_assoc (json_tokens j) (items_tokens js) rest)
@@ -64,7 +66,8 @@ mutual
       ∙ ap (passed (good (n + 1) j)) (open_after-items js n rest)
       ∙ both (good (n + 1) j) (good_items (n + 1) js) (open_after n rest)
 
-  open_after-members : (ms : json.Members) (n : ℕ) (rest : List Token) → open_after (n + 1) (members_tokens ms ++ rest) ≡ passed (good_members (n + 1) ms) (open_after n rest)
+  open_after-members : (ms : json.Members) (n : ℕ) (rest : List Token)
+      → open_after (n + 1) (members_tokens ms ++ rest) ≡ passed (good_members (n + 1) ms) (open_after n rest)
   open_after-members json.no_members n rest = closed n rest
   open_after-members (json.member k j ms) n rest =
       ap (open_after (n + 1)) (append_assoc (json_tokens j) (members_tokens ms) rest)
@@ -93,17 +96,22 @@ mutual
   has_data (json.boolean b) n e = (Data.boolean b, refl)
   has_data (json.number s) n e = let x = is_there (number_of s) e in (number x.0, ap (option_map number) x.1)
   has_data (json.string s) n e = (Data.string s, refl)
-  has_data (json.array js) n e = let x = have_data_items js (n + 1) (rest_true _ _ e) in (array x.0, ap (option_map array) x.1)
-  has_data (json.object ms) n e = let x = have_data_members ms (n + 1) Members.no_members (rest_true _ _ e) in (object x.0, ap (option_map object) x.1)
+  has_data (json.array js) n e =
+      let x = have_data_items js (n + 1) (rest_true _ _ e) in (array x.0, ap (option_map array) x.1)
+  has_data (json.object ms) n e =
+      let x = have_data_members ms (n + 1) Members.no_members (rest_true _ _ e) in
+      (object x.0, ap (option_map object) x.1)
 
   have_data_items : (js : json.Items) (n : ℕ) → good_items n js ≡ true → (ds : Items) × (of_items js ≡ Some ds)
   have_data_items json.no_items n e = (Items.no_items, refl)
   have_data_items (json.item j js) n e =
       let first = has_data j n (front_true _ _ e) in
       let more = have_data_items js n (rest_true _ _ e) in
-      (item first.0 more.0, ap (option_and_then (λ d. option_map (item d) (of_items js))) first.1 ∙ ap (option_map (item first.0)) more.1)
+      let into = ap (option_and_then (λ d. option_map (item d) (of_items js))) first.1 in
+      (item first.0 more.0, into ∙ ap (option_map (item first.0)) more.1)
 
-  have_data_members : (ms : json.Members) (n : ℕ) (found : Members) → good_members n ms ≡ true → (ds : Members) × (of_members ms found ≡ Some ds)
+  have_data_members : (ms : json.Members) (n : ℕ) (found : Members) → good_members n ms ≡ true
+      → (ds : Members) × (of_members ms found ≡ Some ds)
   have_data_members json.no_members n found e = (found, refl)
   have_data_members (json.member k j ms) n found e =
       let first = has_data j n (front_true _ _ e) in

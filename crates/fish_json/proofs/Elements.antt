@@ -10,19 +10,23 @@ use Rattle.fish_value.specs.declared.field.Field.TheVariants as kind
 use Rattle.fish_json.specs.Tape.{Stands}
 use Rattle.fish_json.specs.Reading.{if_object, int_or_other, kind_of}
 
-inner : {A : Type 0} (f : A → Data) (o : Option A) (d : Data) → option_map f o ≡ Some d → (a : A) × (o ≡ Some a) × (d ≡ f a)
+inner : {A : Type 0} (f : A → Data) (o : Option A) (d : Data) → option_map f o ≡ Some d
+    → (a : A) × (o ≡ Some a) × (d ≡ f a)
 inner f None d e = absurd (cc)
 inner f (Some a) d e = (a, refl, cc)
 
-pub kind_text : (j : json.Json) (d : Data) (s : List ℕ) → as_str j ≡ Some s → of_json j ≡ Some d → kind.Text s ≡ kind_of d
+pub kind_text : (j : json.Json) (d : Data) (s : List ℕ) → as_str j ≡ Some s → of_json j ≡ Some d
+    → kind.Text s ≡ kind_of d
 kind_text json.null d s a e = absurd (cc)
 kind_text (json.boolean b) d s a e = absurd (cc)
 kind_text (json.number t) d s a e = absurd (cc)
-kind_text (json.string t) d s a e = let is : d ≡ Data.string t = cc in let same : s ≡ t = cc in ap kind.Text same ∙ sym (ap kind_of is)
+kind_text (json.string t) d s a e =
+    let is : d ≡ Data.string t = cc in let same : s ≡ t = cc in ap kind.Text same ∙ sym (ap kind_of is)
 kind_text (json.array js) d s a e = absurd (cc)
 kind_text (json.object ms) d s a e = absurd (cc)
 
-pub kind_number : (j : json.Json) (d : Data) (s : List ℕ) → as_number j ≡ Some s → of_json j ≡ Some d → int_or_other (option_and_then as_i64 (number_of s)) ≡ kind_of d
+pub kind_number : (j : json.Json) (d : Data) (s : List ℕ) → as_number j ≡ Some s → of_json j ≡ Some d
+    → int_or_other (option_and_then as_i64 (number_of s)) ≡ kind_of d
 kind_number json.null d s a e = absurd (cc)
 kind_number (json.boolean b) d s a e = absurd (cc)
 kind_number (json.number t) d s a e =
@@ -33,9 +37,11 @@ kind_number (json.string t) d s a e = absurd (cc)
 kind_number (json.array js) d s a e = absurd (cc)
 kind_number (json.object ms) d s a e = absurd (cc)
 
-pub kind_bool : (j : json.Json) (d : Data) (b : Bool) → as_bool j ≡ Some b → of_json j ≡ Some d → kind.Bool b ≡ kind_of d
+pub kind_bool : (j : json.Json) (d : Data) (b : Bool) → as_bool j ≡ Some b → of_json j ≡ Some d
+    → kind.Bool b ≡ kind_of d
 kind_bool json.null d b a e = absurd (cc)
-kind_bool (json.boolean t) d b a e = let is : d ≡ Data.boolean t = cc in let same : b ≡ t = cc in ap kind.Bool same ∙ sym (ap kind_of is)
+kind_bool (json.boolean t) d b a e =
+    let is : d ≡ Data.boolean t = cc in let same : b ≡ t = cc in ap kind.Bool same ∙ sym (ap kind_of is)
 kind_bool (json.number t) d b a e = absurd (cc)
 kind_bool (json.string t) d b a e = absurd (cc)
 kind_bool (json.array js) d b a e = absurd (cc)
@@ -50,7 +56,8 @@ kind_null (json.array js) d a e = absurd (cc)
 kind_null (json.object ms) d a e = absurd (cc)
 
 -- what is no text, number, truth value or null is an array or an object
-pub kind_other : (j : json.Json) (d : Data) → as_str j ≡ None → as_number j ≡ None → as_bool j ≡ None → is_null j ≡ false → of_json j ≡ Some d → kind.Other ≡ kind_of d
+pub kind_other : (j : json.Json) (d : Data) → as_str j ≡ None → as_number j ≡ None → as_bool j ≡ None
+    → is_null j ≡ false → of_json j ≡ Some d → kind.Other ≡ kind_of d
 kind_other json.null d s n b z e = absurd (cc)
 kind_other (json.boolean t) d s n b z e = absurd (cc)
 kind_other (json.number t) d s n b z e = absurd (cc)
@@ -58,8 +65,11 @@ kind_other (json.string t) d s n b z e = absurd (cc)
 kind_other (json.array js) d s n b z e = let x = inner array (of_items js) d e in sym (ap kind_of x.2)
 kind_other (json.object ms) d s n b z e = let x = inner object (of_members ms no_members) d e in sym (ap kind_of x.2)
 
-pub object_yes : (j : json.Json) (d : Data) (ms : json.Members) → j ≡ json.object ms → of_json j ≡ Some d → is_some (if_object d) ≡ true
-object_yes j d ms is e = let x = inner object (of_members ms no_members) d (sym (ap of_json is) ∙ e) in ap (λ y. is_some (if_object y)) x.2
+pub object_yes : (j : json.Json) (d : Data) (ms : json.Members) → j ≡ json.object ms → of_json j ≡ Some d
+    → is_some (if_object d) ≡ true
+object_yes j d ms is e =
+    let x = inner object (of_members ms no_members) d (sym (ap of_json is) ∙ e) in
+    ap (λ y. is_some (if_object y)) x.2
 
 pub object_no : (j : json.Json) (d : Data) → as_object j ≡ None → of_json j ≡ Some d → is_some (if_object d) ≡ false
 object_no json.null d a e = let is : d ≡ Data.null = cc in ap (λ y. is_some (if_object y)) is
@@ -71,7 +81,8 @@ object_no (json.object ms) d a e = absurd (cc)
 
 -- the members that were found, or that none were, say whether the data is an object
 pub object_found : (ts : List Token) (d : Data) (r : Option (List Token))
-    → ((j : json.Json) → BeginsWith ts j → MatchOption r (as_object j ≡ None) (λ rest. (ms : json.Members) × (j ≡ json.object ms) × InMembers rest ms))
+    → ((j : json.Json) → BeginsWith ts j
+    → MatchOption r (as_object j ≡ None) (λ rest. (ms : json.Members) × (j ≡ json.object ms) × InMembers rest ms))
     → Stands ts d → is_some r ≡ is_some (if_object d)
 object_found ts d None all h = sym (object_no h.0 d (all h.0 h.1) h.2)
 object_found ts d (Some rest) all h = let x = all h.0 h.1 in sym (object_yes h.0 d x.0 x.1 h.2)

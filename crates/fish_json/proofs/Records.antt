@@ -11,7 +11,8 @@ use Rattle.fish_json.specs.Reading.{at_path, field, field_in, field_of, if_objec
 use Rattle.fish_json.specs.declared.record.TheConstants.{MAX_PAYLOAD}
 
 -- what a payload has at a path is what its record has there
-pub field_of_record : (b : List ℕ) (path : List (List ℕ)) (d : Data) → record_of b ≡ Some d → field b path ≡ field_in path d
+pub field_of_record : (b : List ℕ) (path : List (List ℕ)) (d : Data) → record_of b ≡ Some d
+    → field b path ≡ field_in path d
 unfolding field field_in
 field_of_record b path d e = ap (λ r. field_of (option_and_then (at_path path) r)) e
 

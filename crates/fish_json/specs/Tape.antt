@@ -18,7 +18,8 @@ Stands ts d = (j : json.Json) × BeginsWith ts j × (of_json j ≡ Some d)
 abbrev pub FindsData : Option (List Token) → Option Data → Type 0
 FindsData r o = MatchOption r (o ≡ None) (λ ts. (e : Data) × (o ≡ Some e) × Stands ts e)
 
--- of n open objects and arrays, those that are open behind a token: none where 127 were open and one more would be, and none behind a number that is out of range
+-- of n open objects and arrays, those that are open behind a token: none where 127 were open and one more would be,
+-- and none behind a number that is out of range
 abbrev pub open_behind : ℕ → Token → Option ℕ
 open_behind n begin_object = if nat_lt n max_depth then Some (n + 1) else None
 open_behind n end_object = Some (n - 1)

@@ -1,6 +1,6 @@
 //! Reads records one after another, each over a tape of its text, with memory that is kept.
 
-ghost use Rattle.std.specs.Prelude.{◌≡◌, true, ◌≢◌, ◌<◌, ◌≤◌, length, Some, None, IfOk, IfErr, OnOk, IsSome, IsErrOf, is_some, MatchOption};
+ghost use Rattle.std.specs.Prelude.{◌≡◌, ◌≢◌, ◌<◌, ◌≤◌, length, Some, None, IfOk, IfErr, OnOk, IsSome, IsErrOf, is_some, MatchOption};
 ghost use Rattle.serde_json.specs.Data.{Data};
 ghost use Rattle.serde_json.specs.Read.{read as read_text};
 ghost use Rattle.fish_value.specs.Json.{reading};
@@ -75,7 +75,7 @@ fn tape_of<'a>(
     scratch: &'a mut Scratch,
 ) -> Result<Option<Tape<'a>>, AllocError>
     ensures { IfOk result (λ o. MatchOption o (read_text text.now ≡ None)
-        (λ tape. (is_some (data_at tape) ≡ true) × (read_text text.now ≡ data_at tape))) }
+        (λ tape. IsSome (data_at tape) × (read_text text.now ≡ data_at tape))) }
 {
     match Tape::parse(text, scratch, Vec::new(alloc)) {
         Ok(tape) => {
@@ -86,6 +86,7 @@ fn tape_of<'a>(
             }
         }
         Err(json::Error::Invalid) => Ok(None),
+        // A record is no longer than a tape's text may be, so what is left is want of memory.
         Err(_) => Err(AllocError),
     }
 }

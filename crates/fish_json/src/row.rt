@@ -1,6 +1,6 @@
 //! A record read over a tape of its text. No tree is made of it.
 
-ghost use Rattle.std.specs.Prelude.{◌≡◌, true, IfOk, is_some, unwrap_or, option_and_then};
+ghost use Rattle.std.specs.Prelude.{◌≡◌, IfOk, IsSome, unwrap_or, option_and_then};
 ghost use Rattle.serde_json.specs.Data.{Data, null};
 ghost use Rattle.serde_json.specs.Find.{as_i64, get};
 ghost use Rattle.serde_json.specs.Read.{number_of};
@@ -16,7 +16,7 @@ use std::alloc::{AllocError, Global};
 #[derive(Drop)]
 pub struct JsonRow<'a> {
     tape: Tape<'a>,
-    ghost reads: { is_some (data_at tape) ≡ true },
+    ghost reads: { IsSome (data_at tape) },
 }
 
 impl<'a> JsonRow<'a> {
@@ -25,7 +25,7 @@ impl<'a> JsonRow<'a> {
     /// The record that a tape tells.
     #[tactic(auto, unfolding(crate::specs::Row::row_contents))]
     pub(crate) fn of_tape(tape: Tape<'a>) -> JsonRow<'a>
-        requires { is_some (data_at tape) ≡ true }
+        requires { IsSome (data_at tape) }
         ensures { row_contents result ≡ unwrap_or (data_at tape.entry) null }
     {
         JsonRow { tape }

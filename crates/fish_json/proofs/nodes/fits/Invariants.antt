@@ -5,4 +5,5 @@ use Rattle.fish_json.specs.Tape.{open_after}
 use Rattle.fish_json.proofs.nodes.fits.Given as goal
 
 abbrev pub invariant-loop-node : goal.invariant-loop-node
-invariant-loop-node l = open_after 0 (map node_token l.nodes) ≡ open_after l.depth (map node_token (drop l.node-index l.nodes))
+invariant-loop-node l =
+    open_after 0 (map node_token l.nodes) ≡ open_after l.depth (map node_token (drop l.node-index l.nodes))

@@ -19,4 +19,5 @@ returns-else-has_minus c =
     let s = c.as_bytes-bytes.result.now in
     let unsigned : (get_or s 0 0 == 45) ≡ false = sym c.if-has_minus.ensures.value in
     let read : number_of s ≡ number_from false (scan s) = rw unsigned refl in
-    ap number_of (sym c.as_bytes-bytes.ensures.value) ∙ read ∙ ap (number_from false) (sym c.scan-else-has_minus.ensures.parts)
+    ap number_of (sym c.as_bytes-bytes.ensures.value) ∙ read
+    ∙ ap (number_from false) (sym c.scan-else-has_minus.ensures.parts)

@@ -8,14 +8,18 @@ use Rattle.fish_json.proofs.row.walk.Goals as goal
 pub returns-in_err-found : goal.returns-in_err-found
 returns-in_err-found c = λ d h.
     let on = c.loop-name.invariant d h in
-    let none = walk_none c.args.steps.now c.loop-name.name-index c.name-item.result d on.0 (omega arith) c.name-item.is on.2 (c.in_err-found.ensures on.0 on.1) in
+    let here = c.in_err-found.ensures on.0 on.1 in
+    let none = walk_none c.args.steps.now c.loop-name.name-index c.name-item.result d on.0 (omega arith)
+    c.name-item.is on.2 here in
     subst (λ r. FindsData r (at_path c.args.steps.now d)) (sym c.from_residual.ensures) none
 
 pub loop-name-preserved : goal.loop-name-preserved
 loop-name-preserved c = λ d h.
     let on = c.loop-name.invariant d h in
     let x = c.in_ok-found.ensures on.0 on.1 in
-    (x.0, x.2, walk_some c.args.steps.now c.loop-name.name-index c.name-item.result d on.0 x.0 (omega arith) c.name-item.is on.2 x.1)
+    let more = walk_some c.args.steps.now c.loop-name.name-index c.name-item.result d on.0 x.0 (omega arith)
+    c.name-item.is on.2 x.1 in
+    (x.0, x.2, more)
 
 pub returns : goal.returns
 returns c = λ d h.

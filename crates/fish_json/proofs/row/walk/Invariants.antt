@@ -6,4 +6,6 @@ use Rattle.fish_json.specs.Tape.{Stands}
 use Rattle.fish_json.proofs.row.walk.Given as goal
 
 abbrev pub invariant-loop-name : goal.invariant-loop-name
-invariant-loop-name l = (d : Data) → Stands l.fn.value d → (e : Data) × Stands l.found e × (at_path l.steps d ≡ at_path (drop l.name-index l.steps) e)
+invariant-loop-name l =
+    (d : Data) → Stands l.fn.value d
+    → (e : Data) × Stands l.found e × (at_path l.steps d ≡ at_path (drop l.name-index l.steps) e)

@@ -13,7 +13,8 @@ returns-in_err-step c =
     let row = c.args.self.now in
     let d = row_contents row in
     let at_root = root-stands c.root.result row.tape c.root.ensures.same row.reads in
-    let none = path_none c.args.path.now c.parts.result.1.now c.parts.result.0.now d c.parts.ensures (c.in_err-step.ensures d at_root) in
+    let here = c.in_err-step.ensures d at_root in
+    let none = path_none c.args.path.now c.parts.result.1.now c.parts.result.0.now d c.parts.ensures here in
     subst (λ r. FindsData r (at_path c.args.path.now d)) (sym c.from_residual.ensures) none
 
 pub returns : goal.returns
@@ -23,4 +24,5 @@ returns c =
     let d = row_contents row in
     let at_root = root-stands c.root.result row.tape c.root.ensures.same row.reads in
     let x = c.in_ok-step.ensures d at_root in
-    path_on c.args.path.now c.parts.result.1.now c.parts.result.0.now d x.0 c.walk.result c.parts.ensures x.1 (c.walk.ensures x.0 x.2)
+    path_on c.args.path.now c.parts.result.1.now c.parts.result.0.now d x.0 c.walk.result c.parts.ensures x.1
+    (c.walk.ensures x.0 x.2)
