@@ -1,14 +1,20 @@
 -- A line that was read, as a record and as an outcome.
 use Rattle.std.proofs.Common.{◌≡◌, ℕ, List, sym}
-use Rattle.std.specs.Prelude.{Some, None, false}
+use Rattle.std.specs.Prelude.{Some, None, false, IsUtf8}
 use Rattle.serde_json.specs.Data.{Data}
 use Rattle.fish_json.specs.Lines.{is_blank, payload_of}
 use Rattle.fish_json.specs.Reading.{record_of, field_in, field}
 use Rattle.fish_json.proofs.Records.{field_of_record, record_is_text}
 use Rattle.fish_psf.specs.Eval.{Fields, take}
-use Rattle.fishstore.specs.Tally.{IsRecord, with_line, with_record}
+use Rattle.fishstore.specs.Tally.{with_line, with_record}
 use Rattle.fishstore.specs.declared.select.Tally.{Tally}
 use Rattle.fishstore.specs.declared.words.Select.{Select}
+
+-- a line is a record, and this is what it has at each path
+pub record IsRecord (line : List ℕ) (fields : Fields) : Type 0 where
+  pub text : IsUtf8 line
+  pub payload : payload_of line ≡ Some line
+  pub same : (path : List (List ℕ)) → fields path ≡ field line path
 
 -- a line whose object was read is a record with the object's fields
 pub record_is_read : (line : List ℕ) (d : Data) → record_of line ≡ Some d → IsRecord line (λ path. field_in path d)

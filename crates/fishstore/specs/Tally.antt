@@ -1,5 +1,5 @@
 -- What has been found in the lines so far, and what one more line adds. Private clauses speak of it.
-use Rattle.std.specs.Prelude.{◌≡◌, ℕ, ◌+◌, ◌++◌, List, [], ◌∷◌, Option, Some, None, IsUtf8, if◌then◌else◌}
+use Rattle.std.specs.Prelude.{ℕ, ◌+◌, ◌++◌, List, [], ◌∷◌, Option, Some, None, if◌then◌else◌}
 use Rattle.std.specs.Str.Lines.{strip_carriage_return}
 use Rattle.fish_json.specs.Lines.{is_blank, payload_of}
 use Rattle.fish_json.specs.Reading.{field}
@@ -8,12 +8,6 @@ use Rattle.fish_psf.specs.Select.{has_value}
 use Rattle.fish_value.specs.declared.row.Row.{Row}
 use Rattle.fishstore.specs.declared.select.Tally.{Tally}
 use Rattle.fishstore.specs.declared.words.Select.{Select}
-
--- a line is a record, and this is what it has at each path
-pub record IsRecord (line : List ℕ) (fields : Fields) : Type 0 where
-  pub text : IsUtf8 line
-  pub payload : payload_of line ≡ Some line
-  pub same : (path : List (List ℕ)) → fields path ≡ field line path
 
 -- nothing yet
 abbrev pub no_lines : Tally

@@ -1,13 +1,12 @@
 //! `select` over the bytes of a file: each line is read once, and evaluated while it is read.
 
-ghost use Rattle.std.specs.Prelude.{◌≡◌, ◌+◌, ◌<◌, ◌≤◌, ◌^◌, ◌++◌, ◌∷◌, [], length, IfOk, IsUtf8, MatchOption, OnOk};
+ghost use Rattle.std.specs.Prelude.{◌≡◌, ◌+◌, ◌<◌, ◌≤◌, ◌^◌, ◌++◌, ◌∷◌, [], length, IfOk, IsUtf8, OnOk};
 ghost use Rattle.std.specs.List.{slice_split};
-ghost use Rattle.fish_json.specs.Contents.{contents};
-ghost use Rattle.fish_json.specs.Lines.{is_line_end, payload_of};
-ghost use Rattle.fish_json.specs.Reading.{field_in};
+ghost use Rattle.std.specs.Str.Lines.{strip_carriage_return};
+ghost use Rattle.fish_json.specs.Lines.{is_line_end};
 ghost use Rattle.fish_psf.specs.Select.{has_value};
 ghost use Rattle.fishstore.specs.Answer.{selection};
-ghost use Rattle.fishstore.specs.Tally.{IsRecord, no_lines, with_line, with_parts, with_record};
+ghost use Rattle.fishstore.specs.Tally.{no_lines, with_line, with_parts, with_record};
 
 use crate::lines::{cut, is_blank, without_carriage_return, without_mark};
 use crate::run::MAX_FILE;
@@ -57,39 +56,29 @@ fn tally_of(alloc: Global, command: &Select, b: &[u8]) -> Result<Tally, AllocErr
     let mut reader = JsonReader::new(alloc);
     let mut rest = b;
     while let Some((part, behind)) = cut(rest) {
-        add_line(
-            alloc,
-            &mut reader,
-            command,
-            without_carriage_return(part),
-            &mut tally,
-        )?;
+        add_part(alloc, &mut reader, command, part, &mut tally)?;
         rest = behind;
     }
-    add_line(
-        alloc,
-        &mut reader,
-        command,
-        without_carriage_return(rest),
-        &mut tally,
-    )?;
+    add_part(alloc, &mut reader, command, rest, &mut tally)?;
     Ok(tally)
 }
 
-/// Counts one more line.
+/// Counts the line that stands in one more part between the LFs.
 #[tactic(auto, using(crate::proofs::TallyLemmas::record_is_read, crate::proofs::TallyLemmas::payload_of_none))]
-fn add_line(
+fn add_part(
     alloc: Global,
     reader: &mut JsonReader,
     command: &Select,
-    line: &[u8],
+    part: &[u8],
     tally: &mut Tally,
 ) -> Result<(), AllocError>
     requires { tally.old.count + tally.old.refused < 2 ^ 28 }
-    ensures counted { OnOk result (tally.new ≡ with_line command.now tally.old line.now) }
+    ensures counted { OnOk result
+        (tally.new ≡ with_line command.now tally.old (strip_carriage_return part.now)) }
     ensures rises { OnOk result
         (tally.new.count + tally.new.refused ≤ tally.old.count + tally.old.refused + 1) }
 {
+    let line = without_carriage_return(part);
     if is_blank(line) {
         return Ok(());
     }
