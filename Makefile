@@ -1,0 +1,33 @@
+# FishStore, with the Rattle kit's `rt` on the path.
+PREFIX ?= /usr/local
+PROGRAM = crates/fishstore/out/fishstore
+EXAMPLE = select 'take type' '"PushEvent"' examples/events.jsonl
+CRATES = $(shell sed -n 's/^\([a-z0-9_]*\).*:.*/\1/p' crates.txt)
+
+.PHONY: demo build test gate install bench clean
+
+# Proves and builds the program, and runs it on the example.
+demo: build
+	$(PROGRAM) $(EXAMPLE)
+
+# Proves and builds the program. What is proved already is not proved again.
+build:
+	cd crates/fishstore && rt run -- select 'take type' '"Push"' data/a > /dev/null
+
+# Proves and runs the tests of every crate.
+test:
+	set -e; for crate in $(CRATES); do (cd crates/$$crate && rt test); done
+
+# The merge gate: every proof from nothing, the must-fail edits, the programs and the tests.
+gate:
+	bash .ci/run
+
+install: build
+	install -D -m 755 $(PROGRAM) $(DESTDIR)$(PREFIX)/bin/fishstore
+
+# Times the program beside jq and a plain Rust program.
+bench: build
+	bench/select.sh
+
+clean:
+	rm -rf crates/*/out bench/data
