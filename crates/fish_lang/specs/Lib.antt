@@ -1,6 +1,7 @@
 pub mod Canonical
 pub mod Definition
 pub mod Grammar
+pub mod Language
 pub mod Machine
 pub mod Outcome
 pub mod Token

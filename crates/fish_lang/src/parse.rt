@@ -5,7 +5,9 @@ ghost use Rattle.fish_lang.specs.Definition.{Definition, definition_of};
 ghost use Rattle.fish_lang.specs.Machine.{start};
 ghost use Rattle.fish_lang.specs.Token.{tokens};
 ghost use Rattle.fish_lang.specs.Views.{state_view};
-ghost use Rattle.fish_lang.specs.Outcome.{Gives, run, turn, unless_fault, outcome};
+ghost use Rattle.fish_lang.specs.Outcome.{Gives, run, turn, unless_fault, unless_long, outcome};
+ghost use Rattle.fish_lang.specs.Language.{IsOutcome, UnlessMemory};
+ghost use Rattle.fish_lang.specs.declared.parse.LangRefusal.{LangRefusal};
 
 use crate::definition::Def;
 use crate::print::print_def;
@@ -68,19 +70,39 @@ impl From<AllocError> for LangRefusal {
     }
 }
 
-/// The definition that a text is.
+/// The definition that a text is. Takes time and memory linear in its length.
 pub fn parse_def(alloc: Global, b: &[u8]) -> Result<Def, LangRefusal>
-    ensures exact { Gives definition_of result (outcome b.now) }
+    // What is answered is what the language says.
+    ensures answer { UnlessMemory definition_of result (IsOutcome b.now) }
+    // What the language says is answered.
+    ensures only { (due : Result Definition LangRefusal) → IsOutcome b.now due → Gives definition_of result due }
+{
+    answer(alloc, b)
+}
+
+#[tactic(auto, unfolding(crate::specs::Outcome::outcome))]
+fn answer(alloc: Global, b: &[u8]) -> Result<Def, LangRefusal>
+    ensures { Gives definition_of result (outcome b.now) }
 {
     let length = b.len() as u64;
     if b.len() > MAX_SOURCE {
         return Err(LangRefusal::TooLong { length });
     }
-    let def = definition(alloc, tokens_of(alloc, b)?, length)?;
-    let canonical = print_def(alloc, &def)?;
-    let length = canonical.as_bytes().len();
+    let found = tokens_of(alloc, b)?;
+    match definition(alloc, found, length) {
+        Ok(def) => unless_long(alloc, def),
+        Err(refusal) => Err(refusal),
+    }
+}
+
+fn unless_long(alloc: Global, def: Def) -> Result<Def, LangRefusal>
+    ensures { Gives definition_of result (unless_long (definition_of def)) }
+{
+    let length = print_def(alloc, &def)?.as_bytes().len();
     if length > MAX_CANONICAL {
-        return Err(LangRefusal::TooLong { length: length as u64 });
+        return Err(LangRefusal::TooLong {
+            length: length as u64,
+        });
     }
     Ok(def)
 }
@@ -91,7 +113,10 @@ fn definition(alloc: Global, found: Vec<Placed>, end: u64) -> Result<Def, LangRe
 {
     let mut state = State::Start;
     for placed in found {
-        state = next(alloc, state, placed)?;
+        match next(alloc, state, placed) {
+            Ok(next) => state = next,
+            Err(refusal) => return Err(refusal),
+        }
     }
     match finish(alloc, state)? {
         Some(def) => Ok(def),
