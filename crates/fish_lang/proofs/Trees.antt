@@ -1,0 +1,216 @@
+-- What the parser knows, as unfinished derivations: each stands for a state, has spelled its tokens so
+-- far, and can be finished.
+use Rattle.std.proofs.Common.{◌≡◌, ℕ, suc, List, [], ◌∷◌, ◌++◌, refl, sym, ◌∙◌, ap, append_assoc, append-nil}
+use Rattle.std.specs.Prelude.{ℤ, pos, Bool, true, false, Option, Some, None, unwrap_or}
+use Rattle.fish_lang.specs.Grammar.{Step, ident, Path, one_step, more_steps, Literal, truth, Test, compare, exist, start, Cond, one_conj, more_conjs, Conj, one_neg, more_negs, Neg, not_neg, group, test, Derivation, take_def, bucket_def, flag_def, Spot, spot, keyword, path_spots, path_steps, test_spots, nesting_fault, width_fault, cond_spots, conj_spots, neg_spots, cond_formula, conj_formula, neg_formula, when_spots, spots, meaning}
+use Rattle.fish_lang.specs.Machine as machine
+use Rattle.fish_lang.specs.Machine.{State, complete, nesting, joint_nesting, whole_nesting}
+use Rattle.fish_lang.specs.declared.definition.Op.{Op}
+use Rattle.fish_lang.specs.declared.token.Keyword.TheVariants as word
+use Rattle.fish_lang.specs.declared.token.Token.TheVariants as kind
+
+mutual
+  pub data Whole : Type 0 where
+    top : Whole
+    in_group : Operand → Whole
+
+  pub data Joint : Type 0 where
+    in_whole : Whole → Joint
+    behind_or : Cond → Whole → Joint
+
+  pub data Operand : Type 0 where
+    in_joint : Joint → Operand
+    behind_and : Conj → Joint → Operand
+    under_not : Operand → Operand
+
+pub data Head : Type 0 where
+  take_when : Path → Head
+  bucket_when : Path → Option ℤ → Head
+  flag_when : Head
+
+pub data Owner : Type 0 where
+  of_take : Owner
+  of_bucket : Owner
+  of_test : Head → Operand → Owner
+
+pub data Tree : Type 0 where
+  start_tree : Tree
+  flag_tree : Tree
+  first_of_take : Tree
+  first_of_bucket : Tree
+  behind_dot : Owner → Path → Tree
+  behind_step : Owner → Path → Tree
+  width : Path → Tree
+  behind_width : Path → Option ℤ → Tree
+  operand : Head → Operand → Tree
+  literal : Head → Operand → Path → Op → Tree
+  prefix : Head → Operand → Path → Tree
+  behind_operand : Head → Joint → Conj → Tree
+
+-- the state that each stands for
+abbrev mutual
+  pub whole_state : Whole → machine.Whole
+  whole_state top = machine.top
+  whole_state (in_group k) = machine.in_group (operand_state k)
+
+  pub joint_state : Joint → machine.Joint
+  joint_state (in_whole w) = machine.in_whole (whole_state w)
+  joint_state (behind_or a w) = machine.behind_or (cond_formula a) (whole_state w)
+
+  pub operand_state : Operand → machine.Operand
+  operand_state (in_joint j) = machine.in_joint (joint_state j)
+  operand_state (behind_and a j) = machine.behind_and (conj_formula a) (joint_state j)
+  operand_state (under_not k) = machine.under_not (operand_state k)
+
+abbrev pub head_state : Head → machine.Head
+head_state (take_when p) = machine.take_when (path_steps p)
+head_state (bucket_when p n) = machine.bucket_when (path_steps p) (unwrap_or n (pos 0))
+head_state flag_when = machine.flag_when
+
+abbrev pub owner_state : Owner → machine.Owner
+owner_state of_take = machine.of_take
+owner_state of_bucket = machine.of_bucket
+owner_state (of_test h k) = machine.of_test (head_state h) (operand_state k)
+
+abbrev pub state_of : Tree → State
+state_of start_tree = machine.start
+state_of flag_tree = machine.flag
+state_of first_of_take = machine.step machine.of_take []
+state_of first_of_bucket = machine.step machine.of_bucket []
+state_of (behind_dot o p) = machine.step (owner_state o) (path_steps p)
+state_of (behind_step o p) = machine.behind_step (owner_state o) (path_steps p)
+state_of (width p) = machine.width (path_steps p)
+state_of (behind_width p n) = machine.behind_width (path_steps p) (unwrap_or n (pos 0))
+state_of (operand h k) = machine.operand (head_state h) (operand_state k)
+state_of (literal h k p op) = machine.literal (head_state h) (operand_state k) (path_steps p) op
+state_of (prefix h k p) = machine.prefix (head_state h) (operand_state k) (path_steps p)
+state_of (behind_operand h j c) = machine.behind_operand (head_state h) (joint_state j) (conj_formula c)
+
+-- what each has spelled
+abbrev pub head_spots : Head → List Spot
+head_spots (take_when p) = keyword word.Take ∷ (path_spots p ++ keyword word.When ∷ [])
+head_spots (bucket_when p n) = keyword word.Bucket ∷ (path_spots p ++ keyword word.By ∷ record { token = kind.Number false n; fault = width_fault n } ∷ keyword word.When ∷ [])
+head_spots flag_when = keyword word.Flag ∷ keyword word.When ∷ []
+
+abbrev mutual
+  pub whole_before : Head → Whole → List Spot
+  whole_before h top = head_spots h
+  whole_before h (in_group k) = operand_before h k ++ record { token = kind.Open; fault = nesting_fault (nesting (operand_state k)) } ∷ []
+
+  pub joint_before : Head → Joint → List Spot
+  joint_before h (in_whole w) = whole_before h w
+  joint_before h (behind_or a w) = whole_before h w ++ (cond_spots (whole_nesting (whole_state w)) a ++ keyword word.Or ∷ [])
+
+  pub operand_before : Head → Operand → List Spot
+  operand_before h (in_joint j) = joint_before h j
+  operand_before h (behind_and c j) = joint_before h j ++ (conj_spots (joint_nesting (joint_state j)) c ++ keyword word.And ∷ [])
+  operand_before h (under_not k) = operand_before h k ++ record { token = kind.Keyword word.Not; fault = nesting_fault (nesting (operand_state k)) } ∷ []
+
+abbrev pub owner_before : Owner → List Spot
+owner_before of_take = keyword word.Take ∷ []
+owner_before of_bucket = keyword word.Bucket ∷ []
+owner_before (of_test h k) = operand_before h k
+
+abbrev pub before : Tree → List Spot
+before start_tree = []
+before flag_tree = keyword word.Flag ∷ []
+before first_of_take = keyword word.Take ∷ []
+before first_of_bucket = keyword word.Bucket ∷ []
+before (behind_dot o p) = owner_before o ++ (path_spots p ++ spot kind.Dot ∷ [])
+before (behind_step o p) = owner_before o ++ path_spots p
+before (width p) = keyword word.Bucket ∷ (path_spots p ++ keyword word.By ∷ [])
+before (behind_width p n) = keyword word.Bucket ∷ (path_spots p ++ keyword word.By ∷ record { token = kind.Number false n; fault = width_fault n } ∷ [])
+before (operand h k) = operand_before h k
+before (literal h k p op) = operand_before h k ++ (path_spots p ++ spot (kind.Compare op) ∷ [])
+before (prefix h k p) = operand_before h k ++ (path_spots p ++ keyword word.Starts ∷ [])
+before (behind_operand h j c) = joint_before h j ++ conj_spots (joint_nesting (joint_state j)) c
+
+-- behind an operand
+abbrev pub completed : Head → Operand → Neg → Tree
+completed h (in_joint j) a = behind_operand h j (one_neg a)
+completed h (behind_and c j) a = behind_operand h j (more_negs c a)
+completed h (under_not k) a = completed h k (not_neg a)
+
+pub completed-state : (h : Head) (k : Operand) (a : Neg) → state_of (completed h k a) ≡ complete (head_state h) (operand_state k) (neg_formula a)
+completed-state h (in_joint j) a = refl
+completed-state h (behind_and c j) a = refl
+completed-state h (under_not k) a = completed-state h k (not_neg a)
+
+pub completed-before : (h : Head) (k : Operand) (a : Neg) → before (completed h k a) ≡ operand_before h k ++ neg_spots (nesting (operand_state k)) a
+completed-before h (in_joint j) a = refl
+completed-before h (behind_and c j) a = simp append_assoc
+completed-before h (under_not k) a = completed-before h k (not_neg a) ∙ simp append_assoc
+
+-- the condition that ends with a part of an `or`
+abbrev pub ended : Joint → Conj → Cond
+ended (in_whole w) c = one_conj c
+ended (behind_or a w) c = more_conjs a c
+
+abbrev pub whole_of : Joint → Whole
+whole_of (in_whole w) = w
+whole_of (behind_or a w) = w
+
+pub ended-before : (h : Head) (j : Joint) (c : Conj) → joint_before h j ++ conj_spots (joint_nesting (joint_state j)) c ≡ whole_before h (whole_of j) ++ cond_spots (whole_nesting (whole_state (whole_of j))) (ended j c)
+ended-before h (in_whole w) c = refl
+ended-before h (behind_or a w) c = simp append_assoc
+
+pub ended-state : (j : Joint) (c : Conj) → machine.or_with (joint_state j) (conj_formula c) ≡ cond_formula (ended j c)
+ended-state (in_whole w) c = refl
+ended-state (behind_or a w) c = refl
+
+pub whole_of-state : (j : Joint) → machine.whole_of (joint_state j) ≡ whole_state (whole_of j)
+whole_of-state (in_whole w) = refl
+whole_of-state (behind_or a w) = refl
+
+-- a whole derivation round a part, and the tokens behind the part
+abbrev pub with_cond : Head → Cond → Derivation
+with_cond (take_when p) c = take_def p (Some c)
+with_cond (bucket_when p n) c = bucket_def p n (Some c)
+with_cond flag_when c = flag_def c
+
+abbrev mutual
+  pub round_whole : Head → Whole → Cond → Derivation
+  round_whole h top c = with_cond h c
+  round_whole h (in_group k) c = round h k (group c)
+
+  pub round_joint : Head → Joint → Conj → Derivation
+  round_joint h (in_whole w) c = round_whole h w (one_conj c)
+  round_joint h (behind_or a w) c = round_whole h w (more_conjs a c)
+
+  pub round : Head → Operand → Neg → Derivation
+  round h (in_joint j) a = round_joint h j (one_neg a)
+  round h (behind_and c j) a = round_joint h j (more_negs c a)
+  round h (under_not k) a = round h k (not_neg a)
+
+abbrev mutual
+  pub whole_behind : Whole → List Spot
+  whole_behind top = []
+  whole_behind (in_group k) = spot kind.Close ∷ behind k
+
+  pub joint_behind : Joint → List Spot
+  joint_behind (in_whole w) = whole_behind w
+  joint_behind (behind_or a w) = whole_behind w
+
+  pub behind : Operand → List Spot
+  behind (in_joint j) = joint_behind j
+  behind (behind_and c j) = joint_behind j
+  behind (under_not k) = behind k
+
+pub with_cond-spots : (h : Head) (c : Cond) → spots (with_cond h c) ≡ head_spots h ++ cond_spots 0 c
+with_cond-spots (take_when p) c = simp append_assoc
+with_cond-spots (bucket_when p n) c = simp append_assoc
+with_cond-spots flag_when c = refl
+
+mutual
+  pub round_whole-spots : (h : Head) (w : Whole) (c : Cond) → spots (round_whole h w c) ≡ whole_before h w ++ (cond_spots (whole_nesting (whole_state w)) c ++ whole_behind w)
+  round_whole-spots h top c = with_cond-spots h c ∙ simp append-nil
+  round_whole-spots h (in_group k) c = round-spots h k (group c) ∙ simp append_assoc
+
+  pub round_joint-spots : (h : Head) (j : Joint) (c : Conj) → spots (round_joint h j c) ≡ joint_before h j ++ (conj_spots (joint_nesting (joint_state j)) c ++ joint_behind j)
+  round_joint-spots h (in_whole w) c = round_whole-spots h w (one_conj c)
+  round_joint-spots h (behind_or a w) c = round_whole-spots h w (more_conjs a c) ∙ simp append_assoc
+
+  pub round-spots : (h : Head) (k : Operand) (a : Neg) → spots (round h k a) ≡ operand_before h k ++ (neg_spots (nesting (operand_state k)) a ++ behind k)
+  round-spots h (in_joint j) a = round_joint-spots h j (one_neg a)
+  round-spots h (behind_and c j) a = round_joint-spots h j (more_negs c a) ∙ simp append_assoc
+  round-spots h (under_not k) a = round-spots h k (not_neg a) ∙ simp append_assoc

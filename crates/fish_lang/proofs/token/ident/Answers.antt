@@ -1,0 +1,11 @@
+-- A word that can be a step is ASCII, so it is a text.
+use Rattle.std.proofs.Common.{◌≡◌}
+use Rattle.std.specs.Prelude.{true, false, IsSome, ◌↔◌, IsUtf8}
+use Rattle.fish_lang.proofs.TokenLemmas.{IsUtf8-ident}
+use Rattle.fish_lang.proofs.token.ident.Goals as goal
+
+pub returns-in-None : goal.returns-in-None
+returns-in-None c =
+    let text : IsSome c.in_ok-text.field-0 ↔ IsUtf8 c.args.w.now = c.in_ok-text.ensures.text in
+    let none : false ≡ true = (rw c.in-None.is at text).1 (IsUtf8-ident c.args.w.now c.requires) in
+    cc

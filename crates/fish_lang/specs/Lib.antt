@@ -1,0 +1,9 @@
+pub mod Canonical
+pub mod Definition
+pub mod Grammar
+pub mod Language
+pub mod Machine
+pub mod Outcome
+pub mod Token
+pub mod ValuePrint
+pub mod Views

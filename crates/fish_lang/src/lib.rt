@@ -1,0 +1,20 @@
+//! The definition language: what a user registers, from its text and back.
+//!
+//! Contracts see a definition as `definition_of` gives it: without the places in memory of its parts.
+#![tactic(auto)]
+
+mod definition;
+mod parse;
+mod place;
+mod print;
+mod state;
+mod token;
+mod value_print;
+
+pub use definition::{Cond, Def, Op};
+pub use parse::{LangRefusal, MAX_CANONICAL, MAX_SOURCE, parse_def};
+pub use print::print_def;
+pub use value_print::print_value;
+
+#[cfg(test)]
+mod tests;

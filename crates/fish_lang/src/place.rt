@@ -1,0 +1,71 @@
+//! Places in a condition: what stands in front of a place, as far as it is not closed.
+
+ghost use Rattle.std.specs.Prelude.{◌≡◌, nat_lt};
+ghost use Rattle.fish_lang.specs.Machine.{nesting, joint_nesting, whole_nesting};
+ghost use Rattle.fish_lang.specs.Views.{operand_view, joint_view, whole_view};
+
+use crate::definition::Cond;
+
+/// Where a whole condition stands.
+#[derive(Debug, Drop)]
+#[cycle(place)]
+pub enum Whole {
+    /// Behind `when`.
+    Top,
+    /// In parentheses.
+    Group(Box<Operand>),
+}
+
+/// Where a part of an `or` stands.
+#[derive(Debug, Drop)]
+#[cycle(place)]
+pub enum Joint {
+    /// At its front.
+    InWhole(Whole),
+    /// Behind a condition and `or`.
+    BehindOr(Cond, Whole),
+}
+
+/// Where a part of an `and` stands.
+#[derive(Debug, Drop)]
+#[cycle(place)]
+pub enum Operand {
+    /// At its front.
+    InJoint(Joint),
+    /// Behind a condition and `and`.
+    BehindAnd(Cond, Joint),
+    /// Behind `not`.
+    UnderNot(Box<Operand>),
+}
+
+/// Whether fewer than `most` `(` and `not` are open.
+#[cycle(nests)]
+pub fn nests_less(place: &Operand, most: u8) -> bool
+    ensures { result ≡ nat_lt (nesting (operand_view place.now)) most }
+{
+    match place {
+        Operand::InJoint(joint) => joint_nests_less(joint, most),
+        Operand::BehindAnd(_, joint) => joint_nests_less(joint, most),
+        Operand::UnderNot(outer) => most > 0 && nests_less(outer, most - 1),
+    }
+}
+
+#[cycle(nests)]
+fn joint_nests_less(joint: &Joint, most: u8) -> bool
+    ensures { result ≡ nat_lt (joint_nesting (joint_view joint.now)) most }
+{
+    match joint {
+        Joint::InWhole(whole) => whole_nests_less(whole, most),
+        Joint::BehindOr(_, whole) => whole_nests_less(whole, most),
+    }
+}
+
+#[cycle(nests)]
+fn whole_nests_less(whole: &Whole, most: u8) -> bool
+    ensures { result ≡ nat_lt (whole_nesting (whole_view whole.now)) most }
+{
+    match whole {
+        Whole::Top => most > 0,
+        Whole::Group(outer) => most > 0 && nests_less(outer, most - 1),
+    }
+}

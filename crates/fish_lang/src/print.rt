@@ -1,0 +1,184 @@
+//! The canonical text of a definition: the one spelling that is kept and shown.
+//!
+//! Each function here puts its part behind what was written before.
+
+ghost use Rattle.std.specs.Prelude.{◌≡◌, ◌++◌, List, codes, string_bytes, option_map, IfOk, OnOk};
+ghost use Rattle.std.specs.Fmt.{signed_decimal};
+ghost use Rattle.fish_value.specs.Json.{quoted};
+ghost use Rattle.fish_lang.specs.Canonical.{step_text, steps_text, path_text, op_text, opening, closing, closes_and, closes_or, formula_text, when_text, definition_text};
+ghost use Rattle.fish_lang.specs.Definition.{formula_of, definition_of};
+
+use crate::definition::{Cond, Def, Op};
+use crate::token::is_ident;
+use crate::value_print::print_value;
+use fish_value::{Path, Text, json_text};
+use std::alloc::{AllocError, Global};
+
+/// Which part of a condition stands at a place.
+#[derive(Clone, Copy, Debug, PartialEq, Eq)]
+pub enum Part {
+    /// A whole condition.
+    Whole,
+    /// A part of an `or`, which is no `or` itself.
+    OfOr,
+    /// A part of an `and`, which is neither an `and` nor an `or` itself.
+    OfAnd,
+}
+
+/// The canonical text of a definition.
+pub fn print_def(alloc: Global, def: &Def) -> Result<Text, AllocError>
+    ensures { IfOk result (λ text. text ≡ definition_text (definition_of def.now)) }
+{
+    let mut out = String::new(alloc);
+    write_def(alloc, &mut out, def)?;
+    Ok(Text::from_string(out))
+}
+
+fn write_def(alloc: Global, out: &mut String, def: &Def) -> Result<(), AllocError>
+    ensures { OnOk result (string_bytes out.new ≡ string_bytes out.old ++ definition_text (definition_of def.now)) }
+{
+    match def {
+        Def::Take { path, when } => {
+            out.push_str("take ")?;
+            write_path(alloc, out, path)?;
+            write_when(alloc, out, when)
+        }
+        Def::Bucket { path, width, when } => {
+            out.push_str("bucket ")?;
+            write_path(alloc, out, path)?;
+            write_width(alloc, out, *width)?;
+            write_when(alloc, out, when)
+        }
+        Def::Flag { when } => {
+            out.push_str("flag when ")?;
+            write_cond(alloc, out, Part::Whole, when)
+        }
+    }
+}
+
+fn write_width(alloc: Global, out: &mut String, width: i64) -> Result<(), AllocError>
+    ensures { OnOk result (string_bytes out.new ≡ string_bytes out.old ++ (codes " by " ++ signed_decimal width)) }
+{
+    out.push_str(" by ")?;
+    let text = width.to_string(alloc)?;
+    out.push_str(text.as_str())
+}
+
+fn write_when(alloc: Global, out: &mut String, when: &Option<Cond>) -> Result<(), AllocError>
+    ensures { OnOk result (string_bytes out.new ≡ string_bytes out.old ++ when_text (option_map formula_of when.now)) }
+{
+    match when {
+        None => Ok(()),
+        Some(cond) => {
+            out.push_str(" when ")?;
+            write_cond(alloc, out, Part::Whole, cond)
+        }
+    }
+}
+
+fn write_cond(alloc: Global, out: &mut String, part: Part, cond: &Cond) -> Result<(), AllocError>
+    ensures { OnOk result (string_bytes out.new ≡ string_bytes out.old ++ formula_text part (formula_of cond.now)) }
+{
+    match cond {
+        Cond::Compare { path, op, literal } => {
+            write_path(alloc, out, path)?;
+            out.push_str(op_text(*op))?;
+            out.push_str(print_value(alloc, literal)?.as_str())
+        }
+        Cond::Exists { path } => {
+            write_path(alloc, out, path)?;
+            out.push_str(" exists")
+        }
+        Cond::Starts { path, prefix } => {
+            write_path(alloc, out, path)?;
+            out.push_str(" starts ")?;
+            out.push_str(json_text(alloc, prefix)?.as_str())
+        }
+        Cond::Not(a) => {
+            out.push_str("not ")?;
+            write_cond(alloc, out, Part::OfAnd, a)
+        }
+        Cond::And(a, b) => {
+            open(out, closes_and(part))?;
+            write_cond(alloc, out, Part::OfOr, a)?;
+            out.push_str(" and ")?;
+            write_cond(alloc, out, Part::OfAnd, b)?;
+            shut(out, closes_and(part))
+        }
+        Cond::Or(a, b) => {
+            open(out, closes_or(part))?;
+            write_cond(alloc, out, Part::Whole, a)?;
+            out.push_str(" or ")?;
+            write_cond(alloc, out, Part::OfOr, b)?;
+            shut(out, closes_or(part))
+        }
+    }
+}
+
+fn closes_and(part: Part) -> bool
+    ensures { result ≡ closes_and part }
+{
+    matches!(part, Part::OfAnd)
+}
+
+fn closes_or(part: Part) -> bool
+    ensures { result ≡ closes_or part }
+{
+    matches!(part, Part::OfOr | Part::OfAnd)
+}
+
+fn open(out: &mut String, wanted: bool) -> Result<(), AllocError>
+    ensures { OnOk result (string_bytes out.new ≡ string_bytes out.old ++ opening wanted) }
+{
+    if wanted { out.push_str("(") } else { Ok(()) }
+}
+
+fn shut(out: &mut String, wanted: bool) -> Result<(), AllocError>
+    ensures { OnOk result (string_bytes out.new ≡ string_bytes out.old ++ closing wanted) }
+{
+    if wanted { out.push_str(")") } else { Ok(()) }
+}
+
+fn op_text(op: Op) -> &'static str
+    ensures { result.now ≡ op_text op }
+{
+    match op {
+        Op::Eq => " = ",
+        Op::Ne => " != ",
+        Op::Lt => " < ",
+        Op::Le => " <= ",
+        Op::Gt => " > ",
+        Op::Ge => " >= ",
+    }
+}
+
+fn write_path(alloc: Global, out: &mut String, path: &Path) -> Result<(), AllocError>
+    ensures { OnOk result (string_bytes out.new ≡ string_bytes out.old ++ path_text path.now) }
+{
+    let (first, more) = path.parts();
+    write_step(alloc, out, first)?;
+    write_steps(alloc, out, more)
+}
+
+/// Each step with a dot in front.
+fn write_steps(alloc: Global, out: &mut String, more: &[Text]) -> Result<(), AllocError>
+    ensures { OnOk result (string_bytes out.new ≡ string_bytes out.old ++ steps_text more.now) }
+{
+    for step in more {
+        out.push_str(".")?;
+        write_step(alloc, out, step)?;
+    }
+    Ok(())
+}
+
+/// A step is bare where it can be, and else a JSON string.
+#[tactic(auto, unfolding(crate::specs::Canonical::step_text))]
+fn write_step(alloc: Global, out: &mut String, s: &Text) -> Result<(), AllocError>
+    ensures { OnOk result (string_bytes out.new ≡ string_bytes out.old ++ step_text s.now) }
+{
+    if is_ident(s.as_bytes()) {
+        out.push_str(s.as_str())
+    } else {
+        out.push_str(json_text(alloc, s)?.as_str())
+    }
+}

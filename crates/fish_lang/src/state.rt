@@ -1,0 +1,473 @@
+//! What the parser knows between two tokens, and where a token leads.
+
+ghost use Rattle.std.specs.Prelude.{◌≡◌, ◌++◌, ◌∷◌, [], Option, Some, option_map, nat_lt, IfOk};
+ghost use Rattle.fish_lang.specs.Definition.{formula_of, definition_of, compares, begins};
+ghost use Rattle.fish_lang.specs.Grammar.{number_fault, width_fault, nesting_fault};
+ghost use Rattle.fish_lang.specs.Machine as machine;
+ghost use Rattle.fish_lang.specs.Views.{whole_view, joint_view, operand_view, head_view, owner_view, steps_so_far, state_view};
+
+use crate::definition::{Cond, Def, Op};
+use crate::place::{Joint, Operand, Whole, nests_less};
+use crate::token::{Keyword, Token};
+use fish_value::{Path, Text, Value};
+use std::alloc::{AllocError, Global};
+
+/// Why a token that fits is refused.
+#[derive(Clone, Copy, Debug, PartialEq, Eq)]
+pub enum Fault {
+    /// It makes the nesting 17.
+    TooDeep,
+    /// It is a number outside an `i64`.
+    NumberTooLarge,
+    /// It is a width of 0.
+    ZeroWidth,
+}
+
+/// What stands in front of a condition, without `when`.
+#[derive(Debug, Drop)]
+pub enum Head {
+    Take(Path),
+    Bucket(Path, i64),
+    Flag,
+}
+
+/// What a path is part of.
+#[derive(Debug, Drop)]
+pub enum Owner {
+    Take,
+    Bucket,
+    /// A test, by where it stands.
+    Test(Head, Operand),
+}
+
+/// What comes next, and what is known so far.
+#[derive(Debug, Drop)]
+pub enum State {
+    /// Nothing was read.
+    Start,
+    /// `when`, behind `flag`.
+    Flag,
+    /// A step, behind those of the path so far.
+    Step(Owner, Option<Path>),
+    /// What follows a step.
+    BehindStep(Owner, Path),
+    /// The number behind `by`.
+    Width(Path),
+    /// What follows that number.
+    BehindWidth(Path, i64),
+    /// An operand of a condition.
+    Operand(Head, Operand),
+    /// The literal of a comparison.
+    Literal(Head, Operand, Path, Op),
+    /// The string behind `starts`.
+    Prefix(Head, Operand, Path),
+    /// What follows a part of an `or`.
+    BehindOperand(Head, Joint, Cond),
+}
+
+/// Where a token leads, or `None` where it does not fit.
+pub fn advance(alloc: Global, state: State, token: Token) -> Result<Option<State>, AllocError>
+    ensures { IfOk result (λ next. option_map state_view next ≡ machine.advance (state_view state) token) }
+{
+    match state {
+        State::Start => Ok(from_start(token)),
+        State::Flag => Ok(from_head(Head::Flag, token)),
+        State::Step(owner, path) => from_step(alloc, owner, path, token),
+        State::BehindStep(owner, path) => from_path(alloc, owner, path, token),
+        State::Width(path) => Ok(from_width(path, token)),
+        State::BehindWidth(path, width) => Ok(from_head(Head::Bucket(path, width), token)),
+        State::Operand(head, place) => from_operand(alloc, head, place, token),
+        State::Literal(head, place, path, op) => from_literal(alloc, head, place, path, op, token),
+        State::Prefix(head, place, path) => from_prefix(alloc, head, place, path, token),
+        State::BehindOperand(head, joint, cond) => from_joint(alloc, head, joint, cond, token),
+    }
+}
+
+fn from_start(token: Token) -> Option<State>
+    ensures { option_map state_view result ≡ machine.from_start token }
+{
+    match token {
+        Token::Keyword(Keyword::Take) => Some(State::Step(Owner::Take, None)),
+        Token::Keyword(Keyword::Bucket) => Some(State::Step(Owner::Bucket, None)),
+        Token::Keyword(Keyword::Flag) => Some(State::Flag),
+        _ => None,
+    }
+}
+
+/// `when` begins a condition.
+fn from_head(head: Head, token: Token) -> Option<State>
+    ensures { option_map state_view result ≡ machine.from_head (head_view head) token }
+{
+    match token {
+        Token::Keyword(Keyword::When) => {
+            Some(State::Operand(head, Operand::InJoint(Joint::InWhole(Whole::Top))))
+        }
+        _ => None,
+    }
+}
+
+fn from_step(
+    alloc: Global,
+    owner: Owner,
+    path: Option<Path>,
+    token: Token,
+) -> Result<Option<State>, AllocError>
+    ensures { IfOk result (λ next. option_map state_view next ≡ option_map (λ s. machine.behind_step (owner_view owner) (steps_so_far path ++ s ∷ [])) (machine.name_of token)) }
+{
+    match name_of(token) {
+        Some(step) => Ok(Some(State::BehindStep(owner, longer(alloc, path, step)?))),
+        None => Ok(None),
+    }
+}
+
+fn longer(alloc: Global, path: Option<Path>, step: Text) -> Result<Path, AllocError>
+    ensures { IfOk result (λ p. p ≡ steps_so_far path ++ step ∷ []) }
+{
+    match path {
+        None => Ok(Path::new(alloc, step)),
+        Some(mut path) => {
+            path.push(step)?;
+            Ok(path)
+        }
+    }
+}
+
+fn name_of(token: Token) -> Option<Text>
+    ensures { result ≡ machine.name_of token }
+{
+    match token {
+        Token::Ident(s) => Some(s),
+        Token::Str(s) => Some(s),
+        _ => None,
+    }
+}
+
+fn from_path(
+    alloc: Global,
+    owner: Owner,
+    path: Path,
+    token: Token,
+) -> Result<Option<State>, AllocError>
+    ensures { IfOk result (λ next. option_map state_view next ≡ machine.from_path (owner_view owner) path token) }
+{
+    match token {
+        Token::Dot => Ok(Some(State::Step(owner, Some(path)))),
+        token => behind_path(alloc, owner, path, token),
+    }
+}
+
+fn behind_path(
+    alloc: Global,
+    owner: Owner,
+    path: Path,
+    token: Token,
+) -> Result<Option<State>, AllocError>
+    ensures { IfOk result (λ next. option_map state_view next ≡ machine.behind_path (owner_view owner) path token) }
+{
+    match owner {
+        Owner::Take => Ok(from_head(Head::Take(path), token)),
+        Owner::Bucket => Ok(behind_bucket(path, token)),
+        Owner::Test(head, place) => behind_test(alloc, head, place, path, token),
+    }
+}
+
+fn behind_bucket(path: Path, token: Token) -> Option<State>
+    ensures { option_map state_view result ≡ machine.behind_bucket path token }
+{
+    match token {
+        Token::Keyword(Keyword::By) => Some(State::Width(path)),
+        _ => None,
+    }
+}
+
+fn behind_test(
+    alloc: Global,
+    head: Head,
+    place: Operand,
+    path: Path,
+    token: Token,
+) -> Result<Option<State>, AllocError>
+    ensures { IfOk result (λ next. option_map state_view next ≡ machine.behind_test (head_view head) (operand_view place) path token) }
+{
+    match token {
+        Token::Compare(op) => Ok(Some(State::Literal(head, place, path, op))),
+        Token::Keyword(Keyword::Exists) => {
+            Ok(Some(complete(alloc, head, place, Cond::Exists { path })?))
+        }
+        Token::Keyword(Keyword::Starts) => Ok(Some(State::Prefix(head, place, path))),
+        _ => Ok(None),
+    }
+}
+
+fn from_width(path: Path, token: Token) -> Option<State>
+    ensures { option_map state_view result ≡ machine.from_width path token }
+{
+    match token {
+        Token::Number { negative: false, value } => {
+            Some(State::BehindWidth(path, value.unwrap_or(0)))
+        }
+        _ => None,
+    }
+}
+
+fn from_operand(
+    alloc: Global,
+    head: Head,
+    place: Operand,
+    token: Token,
+) -> Result<Option<State>, AllocError>
+    ensures { IfOk result (λ next. option_map state_view next ≡ machine.from_operand (head_view head) (operand_view place) token) }
+{
+    match token {
+        Token::Keyword(Keyword::Not) => {
+            Ok(Some(State::Operand(head, Operand::UnderNot(Box::new(alloc, place)?))))
+        }
+        Token::Open => {
+            let group = Whole::Group(Box::new(alloc, place)?);
+            Ok(Some(State::Operand(head, Operand::InJoint(Joint::InWhole(group)))))
+        }
+        Token::Ident(s) => Ok(Some(in_test(alloc, head, place, s))),
+        Token::Str(s) => Ok(Some(in_test(alloc, head, place, s))),
+        _ => Ok(None),
+    }
+}
+
+/// Behind the first step of a test.
+fn in_test(alloc: Global, head: Head, place: Operand, step: Text) -> State
+    ensures { state_view result ≡ machine.behind_step (machine.of_test (head_view head) (operand_view place)) (step ∷ []) }
+{
+    State::BehindStep(Owner::Test(head, place), Path::new(alloc, step))
+}
+
+fn from_literal(
+    alloc: Global,
+    head: Head,
+    place: Operand,
+    path: Path,
+    op: Op,
+    token: Token,
+) -> Result<Option<State>, AllocError>
+    ensures { IfOk result (λ next. option_map state_view next ≡ option_map (λ v. machine.complete (head_view head) (operand_view place) (compares path op v)) (machine.value_of token)) }
+{
+    match value_of(token) {
+        Some(literal) => {
+            let cond = Cond::Compare { path, op, literal };
+            Ok(Some(complete(alloc, head, place, cond)?))
+        }
+        None => Ok(None),
+    }
+}
+
+/// A number outside an `i64` is refused, so it does not matter what stands for it.
+fn value_of(token: Token) -> Option<Value>
+    ensures { result ≡ machine.value_of token }
+{
+    match token {
+        Token::Keyword(Keyword::True) => Some(Value::Bool(true)),
+        Token::Keyword(Keyword::False) => Some(Value::Bool(false)),
+        Token::Number { value, .. } => Some(Value::Int(value.unwrap_or(0))),
+        Token::Str(s) => Some(Value::Text(s)),
+        _ => None,
+    }
+}
+
+fn from_prefix(
+    alloc: Global,
+    head: Head,
+    place: Operand,
+    path: Path,
+    token: Token,
+) -> Result<Option<State>, AllocError>
+    ensures { IfOk result (λ next. option_map state_view next ≡ option_map (λ s. machine.complete (head_view head) (operand_view place) (begins path s)) (machine.text_of token)) }
+{
+    match token {
+        Token::Str(prefix) => {
+            let cond = Cond::Starts { path, prefix };
+            Ok(Some(complete(alloc, head, place, cond)?))
+        }
+        _ => Ok(None),
+    }
+}
+
+/// Behind an operand, which completes a `not` and an `and` in front of it.
+fn complete(
+    alloc: Global,
+    head: Head,
+    place: Operand,
+    cond: Cond,
+) -> Result<State, AllocError>
+    ensures { IfOk result (λ next. state_view next ≡ machine.complete (head_view head) (operand_view place) (formula_of cond)) }
+{
+    match place {
+        Operand::InJoint(joint) => Ok(State::BehindOperand(head, joint, cond)),
+        Operand::BehindAnd(front, joint) => {
+            let both = Cond::And(Box::new(alloc, front)?, Box::new(alloc, cond)?);
+            Ok(State::BehindOperand(head, joint, both))
+        }
+        Operand::UnderNot(outer) => {
+            let not = Cond::Not(Box::new(alloc, cond)?);
+            complete(alloc, head, Box::into_inner(outer), not)
+        }
+    }
+}
+
+fn from_joint(
+    alloc: Global,
+    head: Head,
+    joint: Joint,
+    cond: Cond,
+    token: Token,
+) -> Result<Option<State>, AllocError>
+    ensures { IfOk result (λ next. option_map state_view next ≡ machine.from_joint (head_view head) (joint_view joint) (formula_of cond) token) }
+{
+    match token {
+        Token::Keyword(Keyword::And) => {
+            Ok(Some(State::Operand(head, Operand::BehindAnd(cond, joint))))
+        }
+        Token::Keyword(Keyword::Or) => {
+            let (whole, cond) = or_with(alloc, joint, cond)?;
+            let joint = Joint::BehindOr(cond, whole);
+            Ok(Some(State::Operand(head, Operand::InJoint(joint))))
+        }
+        Token::Close => {
+            let (whole, cond) = or_with(alloc, joint, cond)?;
+            close(alloc, head, whole, cond)
+        }
+        _ => Ok(None),
+    }
+}
+
+/// The condition that ends with a part of an `or`, and where it stands.
+fn or_with(alloc: Global, joint: Joint, cond: Cond) -> Result<(Whole, Cond), AllocError>
+    ensures whole { IfOk result (λ r. whole_view r.0 ≡ machine.whole_of (joint_view joint)) }
+    ensures cond { IfOk result (λ r. formula_of r.1 ≡ machine.or_with (joint_view joint) (formula_of cond)) }
+{
+    match joint {
+        Joint::InWhole(whole) => Ok((whole, cond)),
+        Joint::BehindOr(front, whole) => {
+            let either = Cond::Or(Box::new(alloc, front)?, Box::new(alloc, cond)?);
+            Ok((whole, either))
+        }
+    }
+}
+
+/// `)` ends a group.
+fn close(
+    alloc: Global,
+    head: Head,
+    whole: Whole,
+    cond: Cond,
+) -> Result<Option<State>, AllocError>
+    ensures { IfOk result (λ next. option_map state_view next ≡ machine.close (head_view head) (whole_view whole) (formula_of cond)) }
+{
+    match whole {
+        Whole::Top => Ok(None),
+        Whole::Group(place) => Ok(Some(complete(alloc, head, Box::into_inner(place), cond)?)),
+    }
+}
+
+/// Why a token that fits is refused, if it is.
+pub fn fault_at(state: &State, token: &Token) -> Option<Fault>
+    ensures { result ≡ machine.fault_at (state_view state.now) token.now }
+{
+    match state {
+        State::Operand(_, place) => {
+            if nests(token) && !nests_less(place, 16) {
+                Some(Fault::TooDeep)
+            } else {
+                None
+            }
+        }
+        State::Literal(_, _, _, _) => number_of(token),
+        State::Width(_) => width_of(token),
+        _ => None,
+    }
+}
+
+fn nests(token: &Token) -> bool
+    ensures { result ≡ machine.nests token.now }
+{
+    matches!(token, Token::Keyword(Keyword::Not) | Token::Open)
+}
+
+fn number_of(token: &Token) -> Option<Fault>
+    ensures { result ≡ machine.number_of token.now }
+{
+    match token {
+        Token::Number { value: None, .. } => Some(Fault::NumberTooLarge),
+        _ => None,
+    }
+}
+
+fn width_of(token: &Token) -> Option<Fault>
+    ensures { result ≡ machine.width_of token.now }
+{
+    match token {
+        Token::Number { value: None, .. } => Some(Fault::NumberTooLarge),
+        Token::Number { value: Some(0), .. } => Some(Fault::ZeroWidth),
+        _ => None,
+    }
+}
+
+/// The definition that ends here, or `None` where none does.
+pub fn finish(alloc: Global, state: State) -> Result<Option<Def>, AllocError>
+    ensures { IfOk result (λ def. option_map definition_of def ≡ machine.finish (state_view state)) }
+{
+    match state {
+        State::BehindStep(owner, path) => Ok(taken(owner, path)),
+        State::BehindWidth(path, width) => Ok(Some(Def::Bucket {
+            path,
+            width,
+            when: None,
+        })),
+        State::BehindOperand(head, joint, cond) => ended_with(alloc, head, joint, cond),
+        _ => Ok(None),
+    }
+}
+
+fn taken(owner: Owner, path: Path) -> Option<Def>
+    ensures { option_map definition_of result ≡ machine.finish (machine.behind_step (owner_view owner) path) }
+{
+    match owner {
+        Owner::Take => Some(Def::Take { path, when: None }),
+        _ => None,
+    }
+}
+
+fn ended_with(
+    alloc: Global,
+    head: Head,
+    joint: Joint,
+    cond: Cond,
+) -> Result<Option<Def>, AllocError>
+    ensures { IfOk result (λ def. option_map definition_of def ≡ machine.finish (machine.behind_operand (head_view head) (joint_view joint) (formula_of cond))) }
+{
+    let (whole, cond) = or_with(alloc, joint, cond)?;
+    Ok(ended(head, whole, cond))
+}
+
+fn ended(head: Head, whole: Whole, cond: Cond) -> Option<Def>
+    ensures { option_map definition_of result ≡ machine.ended (head_view head) (whole_view whole) (formula_of cond) }
+{
+    match whole {
+        Whole::Top => Some(definition_with(head, cond)),
+        Whole::Group(_) => None,
+    }
+}
+
+fn definition_with(head: Head, cond: Cond) -> Def
+    ensures { definition_of result ≡ machine.definition_with (head_view head) (formula_of cond) }
+{
+    match head {
+        Head::Take(path) => Def::Take {
+            path,
+            when: Some(cond),
+        },
+        Head::Bucket(path, width) => Def::Bucket {
+            path,
+            width,
+            when: Some(cond),
+        },
+        Head::Flag => Def::Flag { when: cond },
+    }
+}
