@@ -1,3 +1,4 @@
 pub mod Eval
+pub mod Fields
 pub mod Select
 pub mod SelectLaw

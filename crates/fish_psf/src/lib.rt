@@ -2,10 +2,14 @@
 //! have a value (the FishStore paper, section 3).
 #![tactic(auto)]
 
+mod condition;
 mod law;
 mod parsed;
-mod take;
+mod record;
+mod value;
 
+pub use condition::holds;
 pub use law::selects_matches;
 pub use parsed::Parsed;
-pub use take::take_of;
+pub use record::Record;
+pub use value::eval;

@@ -89,7 +89,7 @@ IsNumberText-is_number (x ∷ xs) h =
     ]
 
 -- the test of a number's size is the size that an i64 has
-Decides-fits_i64 : (z : ℤ) → Decides (fits_i64 z) (FitsSigned w64 z)
+pub Decides-fits_i64 : (z : ℤ) → Decides (fits_i64 z) (FitsSigned w64 z)
 Decides-fits_i64 (pos n) = (λ h. record { sfits = grind (arith, nat_tests) }, λ f. grind (arith, nat_tests, f.sfits))
 Decides-fits_i64 (negsuc n) = (λ h. record { sfits = grind (arith, nat_tests) }, λ f. grind (arith, nat_tests, f.sfits))
 

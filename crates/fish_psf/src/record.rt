@@ -1,0 +1,27 @@
+//! A record of any form, which owns its values.
+
+ghost use Rattle.std.specs.Prelude.{◌≡◌};
+
+use crate::parsed::Parsed;
+use fish_json::JsonRecord;
+use fish_value::{Field, Path};
+use std::alloc::{AllocError, Global};
+
+/// A record that was read.
+#[derive(Debug, Drop)]
+pub enum Record {
+    /// A line in JSON.
+    Json(JsonRecord),
+}
+
+impl Parsed for Record {
+    ghost use Rattle.fish_psf.specs.Fields.{fields_of};
+
+    ghost fields = { fields_of };
+
+    fn at(&self, alloc: Global, path: &Path) -> Result<Field, AllocError> {
+        match self {
+            Record::Json(line) => line.get(alloc, path),
+        }
+    }
+}
