@@ -1,4 +1,3 @@
 pub mod LineLemmas
 pub mod SelectionLemmas
 pub mod TallyLemmas
-pub mod WordsLemmas

@@ -1,14 +1,14 @@
 -- A line that was read, as a record and as an outcome.
-use Rattle.std.proofs.Common.{◌≡◌, ℕ, List, sym}
+use Rattle.std.proofs.Common.{◌≡◌, ℕ, List, ap, sym}
 use Rattle.std.specs.Prelude.{Some, None, false, IsUtf8}
 use Rattle.serde_json.specs.Data.{Data}
 use Rattle.fish_json.specs.Lines.{is_blank, payload_of}
 use Rattle.fish_json.specs.Reading.{record_of, field_in, field}
 use Rattle.fish_json.proofs.Records.{field_of_record, record_is_text}
-use Rattle.fish_psf.specs.Eval.{Fields, take}
+use Rattle.fish_psf.specs.Eval.{Fields}
 use Rattle.fishstore.specs.Tally.{with_line, with_record}
 use Rattle.fishstore.specs.declared.select.Tally.{Tally}
-use Rattle.fishstore.specs.declared.words.Select.{Select}
+use Rattle.fishstore.specs.Words.{Asked}
 
 -- a line is a record, and this is what it has at each path
 pub record IsRecord (line : List ℕ) (fields : Fields) : Type 0 where
@@ -28,12 +28,11 @@ record_is_read line d h = record {
 pub payload_of_none : (line : List ℕ) → record_of line ≡ None → payload_of line ≡ None
 payload_of_none line h = rw h
 
--- two records that have the same at the command's path count alike
-pub with_record_same : (c : Select) (t : Tally) (fields other : Fields) (payload : List ℕ) → fields c.path ≡ other c.path → with_record c t fields payload ≡ with_record c t other payload
-unfolding take
-with_record_same c t fields other payload h = rw h
+-- two records that have the same at every path count alike
+pub with_record_same : (asked : Asked) (t : Tally) (fields other : Fields) (payload : List ℕ) → fields ≡ other → with_record asked t fields payload ≡ with_record asked t other payload
+with_record_same asked t fields other payload h = ap (λ f. with_record asked t f payload) h
 
 -- a line that was read counts as its record
-pub with_line_read : (c : Select) (t : Tally) (line : List ℕ) (d : Data) → is_blank line ≡ false → record_of line ≡ Some d → with_record c t (λ path. field_in path d) line ≡ with_line c t line
-with_line_read c t line d solid h =
-    rw (solid, h) (with_record_same c t (λ path. field_in path d) (field line) line ((record_is_read line d h).same c.path))
+pub with_line_read : (asked : Asked) (t : Tally) (line : List ℕ) (d : Data) → is_blank line ≡ false → record_of line ≡ Some d → with_record asked t (λ path. field_in path d) line ≡ with_line asked t line
+with_line_read asked t line d solid h =
+    rw (solid, h) (with_record_same asked t (λ path. field_in path d) (field line) line (λ i path. (record_is_read line d h).same path i))

@@ -5,29 +5,30 @@ use Rattle.fish_value.specs.declared.row.Row.{Row}
 use Rattle.fish_value.specs.declared.value.Value.{Value}
 use Rattle.fish_json.specs.Lines.{outcomes, accepted, refused}
 use Rattle.fish_json.specs.Reading.{field}
-use Rattle.fish_psf.specs.Eval.{take}
+use Rattle.fish_lang.specs.Definition.{Definition}
+use Rattle.fish_psf.specs.Eval.{eval}
 use Rattle.fish_psf.specs.Select.{Evaluation, Entry, stored, select}
 use Rattle.fish_report.specs.declared.item.Item.{Item}
 use Rattle.fish_report.specs.declared.item.Item.TheVariants as item
 use Rattle.fishstore.specs.declared.run.TheConstants.{MAX_FILE}
-use Rattle.fishstore.specs.declared.words.Select.{Select}
+use Rattle.fishstore.specs.Words.{Asked}
 
--- what `take` of a path gives for a payload
-abbrev pub evaluation : List (List ℕ) → Evaluation
-evaluation path form payload = take path (field payload)
+-- what a definition gives for a payload
+abbrev pub evaluation : Definition → Evaluation
+evaluation def form payload = eval def (field payload)
 
 -- a file's payloads as a log: each is stored, at its place
 abbrev pub log_of : List (List ℕ) → List Entry
 log_of payloads = map (stored 1 Json) payloads
 
 -- the payloads on which the definition has the value, newest first
-unfoldable pub rows_of : List (List ℕ) → Value → List (List ℕ) → List Row
-rows_of path v payloads = select (log_of payloads) (evaluation path) v 0 (length payloads) []
+unfoldable pub rows_of : Definition → Value → List (List ℕ) → List Row
+rows_of def v payloads = select (log_of payloads) (evaluation def) v 0 (length payloads) []
 
 -- a file within the limit: its records with the value, how many records it has, and how many of its lines are none
-unfoldable pub selection : Select → List ℕ → Item
-selection c b = item.Select (rows_of c.path c.value (accepted (outcomes b))) (length (accepted (outcomes b))) (refused (outcomes b))
+unfoldable pub selection : Asked → List ℕ → Item
+selection asked b = item.Select (rows_of asked.def asked.value (accepted (outcomes b))) (length (accepted (outcomes b))) (refused (outcomes b))
 
 -- what `select` answers for a file
-abbrev pub answer_of : Select → List ℕ → Item
-answer_of c b = if nat_lt MAX_FILE (length b) then item.SelectTooLong c.file else selection c b
+abbrev pub answer_of : Asked → List ℕ → Item
+answer_of asked b = if nat_lt MAX_FILE (length b) then item.SelectTooLong asked.file else selection asked b

@@ -1,23 +1,35 @@
 -- Which fault each refusal of a step is, and where a step may end by it.
-use Rattle.std.specs.Prelude.{◌≡◌, ℕ, List, Option, Some, None, codes, Err, IsOk, ⊤}
+use Rattle.std.specs.Prelude.{◌≡◌, ℕ, List, ◌++◌, codes, decimal, Err, ⊤}
 use Rattle.fish_outside.specs.Causes.{Rose}
 use Rattle.fish_outside.specs.declared.fault.FeedRefusal.{FeedRefusal}
 use Rattle.fish_outside.specs.declared.fault.FeedRefusal.TheVariants as feed
-use Rattle.fishstore.specs.Words.{command_of}
+use Rattle.fish_lang.specs.declared.parse.LangRefusal.{LangRefusal}
+use Rattle.fish_lang.specs.declared.parse.LangRefusal.TheVariants as lang
+use Rattle.fishstore.specs.Words.{IsCommand, IsSomeCommand}
 use Rattle.fishstore.specs.declared.outcome.Fault.{Fault}
 use Rattle.fishstore.specs.declared.outcome.Fault.TheVariants as fault
 use Rattle.fishstore.specs.declared.words.UsageCause.TheVariants as cause
 use Rattle.fishstore.specs.declared.words.WordsRefusal.{WordsRefusal}
 use Rattle.fishstore.specs.declared.words.WordsRefusal.TheVariants as refusal
 
--- the line on standard error that tells of a fault
-abbrev pub fault_line : Fault → Option (List ℕ)
-fault_line fault.None = None
-fault_line (fault.Usage cause.Words) = Some (codes "fault usage words")
-fault_line (fault.Usage cause.Value) = Some (codes "fault usage value")
-fault_line fault.Input = Some (codes "fault input")
-fault_line fault.Output = Some (codes "fault output")
-fault_line fault.Memory = Some (codes "fault memory")
+-- why a definition was refused, and where
+abbrev pub definition_kind : LangRefusal → List ℕ
+definition_kind (lang.Unexpected at) = codes "unexpected at " ++ decimal at
+definition_kind (lang.TooDeep at) = codes "too deep at " ++ decimal at
+definition_kind (lang.TooLong n) = codes "too long " ++ decimal n
+definition_kind (lang.NumberTooLarge at) = codes "number too large at " ++ decimal at
+definition_kind (lang.ZeroWidth at) = codes "zero width at " ++ decimal at
+definition_kind lang.OutOfMemory = codes "out of memory"
+
+-- the line on standard error that tells of a fault, where there is one
+abbrev pub fault_line : Fault → List ℕ
+fault_line fault.None = codes "fault none"
+fault_line (fault.Usage cause.Words) = codes "fault usage words"
+fault_line (fault.Usage (cause.Definition refusal)) = codes "fault usage definition " ++ definition_kind refusal
+fault_line (fault.Usage cause.Value) = codes "fault usage value"
+fault_line fault.Input = codes "fault input"
+fault_line fault.Output = codes "fault output"
+fault_line fault.Memory = codes "fault memory"
 
 -- what a refusal of the words ends a run by
 abbrev pub words_fault : WordsRefusal → Fault
@@ -29,10 +41,18 @@ abbrev pub feed_fault : FeedRefusal → Fault
 feed_fault feed.Failed = fault.Input
 feed_fault feed.OutOfMemory = fault.Memory
 
+-- a step over the input may end by the input only where its faults rose, or by want of memory
+abbrev pub IsStepFault : ℕ → ℕ → Fault → Type 0
+IsStepFault before now fault.Input = Rose before now
+IsStepFault before now fault.Memory = ⊤
+IsStepFault before now fault.None = ⊥
+IsStepFault before now fault.Output = ⊥
+IsStepFault before now (fault.Usage cause) = ⊥
+
 -- where a run may end before its first byte is written: by usage exactly with the words' cause, by the input only where its faults rose
 abbrev pub IsEarlyEnd : List (List ℕ) → ℕ → ℕ → Fault → Type 0
-IsEarlyEnd words before now (fault.Usage cause) = command_of words ≡ Err cause
-IsEarlyEnd words before now fault.Input = IsOk (command_of words) × Rose before now
+IsEarlyEnd words before now (fault.Usage cause) = IsCommand words (Err cause)
+IsEarlyEnd words before now fault.Input = IsSomeCommand words × Rose before now
 IsEarlyEnd words before now fault.Memory = ⊤
 IsEarlyEnd words before now fault.None = ⊥
 IsEarlyEnd words before now fault.Output = ⊥

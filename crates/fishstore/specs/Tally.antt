@@ -3,34 +3,34 @@ use Rattle.std.specs.Prelude.{ℕ, ◌+◌, ◌++◌, List, [], ◌∷◌, Optio
 use Rattle.std.specs.Str.Lines.{strip_carriage_return}
 use Rattle.fish_json.specs.Lines.{is_blank, payload_of}
 use Rattle.fish_json.specs.Reading.{field}
-use Rattle.fish_psf.specs.Eval.{Fields, take}
+use Rattle.fish_psf.specs.Eval.{Fields, eval}
 use Rattle.fish_psf.specs.Select.{has_value}
 use Rattle.fish_value.specs.declared.row.Row.{Row}
 use Rattle.fishstore.specs.declared.select.Tally.{Tally}
-use Rattle.fishstore.specs.declared.words.Select.{Select}
+use Rattle.fishstore.specs.Words.{Asked}
 
 -- nothing yet
 abbrev pub no_lines : Tally
 no_lines = record { rows = []; count = 0; refused = 0 }
 
 -- the row of a record, where the definition has the value on what the record has at each path
-abbrev pub rows_with : Select → ℕ → Fields → List ℕ → List Row
-rows_with c n fields payload = if has_value (take c.path fields) c.value then record { number = n; payload = payload } ∷ [] else []
+abbrev pub rows_with : Asked → ℕ → Fields → List ℕ → List Row
+rows_with asked n fields payload = if has_value (eval asked.def fields) asked.value then record { number = n; payload = payload } ∷ [] else []
 
 -- one more record
-abbrev pub with_record : Select → Tally → Fields → List ℕ → Tally
-with_record c t fields payload = record t { rows = t.rows ++ rows_with c t.count fields payload; count = t.count + 1 }
+abbrev pub with_record : Asked → Tally → Fields → List ℕ → Tally
+with_record asked t fields payload = record t { rows = t.rows ++ rows_with asked t.count fields payload; count = t.count + 1 }
 
 -- one more record, or one more refused line
-abbrev pub with_outcome : Select → Tally → Option (List ℕ) → Tally
-with_outcome c t (Some payload) = with_record c t (field payload) payload
-with_outcome c t None = record t { refused = t.refused + 1 }
+abbrev pub with_outcome : Asked → Tally → Option (List ℕ) → Tally
+with_outcome asked t (Some payload) = with_record asked t (field payload) payload
+with_outcome asked t None = record t { refused = t.refused + 1 }
 
 -- one more line, which counts nowhere where it is blank
-abbrev pub with_line : Select → Tally → List ℕ → Tally
-with_line c t line = if is_blank line then t else with_outcome c t (payload_of line)
+abbrev pub with_line : Asked → Tally → List ℕ → Tally
+with_line asked t line = if is_blank line then t else with_outcome asked t (payload_of line)
 
 -- the lines among the parts round the LFs, one after the other
-abbrev pub with_parts : Select → Tally → List (List ℕ) → Tally
-with_parts c t [] = t
-with_parts c t (part ∷ parts) = with_parts c (with_line c t (strip_carriage_return part)) parts
+abbrev pub with_parts : Asked → Tally → List (List ℕ) → Tally
+with_parts asked t [] = t
+with_parts asked t (part ∷ parts) = with_parts asked (with_line asked t (strip_carriage_return part)) parts

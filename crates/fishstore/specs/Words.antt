@@ -1,54 +1,66 @@
--- Which words are a command.
-use Rattle.std.specs.Prelude.{◌≡◌, ℕ, ◌==◌, ◌&&◌, ◌||◌, List, [], ◌∷◌, length, drop, slice_index, codes, nat_eq, nat_le, nat_lt, Bool, not, Option, Some, None, Result, Ok, Err, ⊤, if◌then◌else◌}
+-- Which words are a command, and what it asks for.
+use Rattle.std.specs.Prelude.{◌≡◌, ℕ, ◌&&◌, List, [], ◌∷◌, codes, not, Option, Some, None, Result, Ok, Err, ⊤}
+use Rattle.std.specs.Bool.{MatchBool}
 use Rattle.std.specs.Str.{bytes_eq}
 use Rattle.std.specs.Str.Parse.{starts_with_minus}
-use Rattle.std.specs.List.{list_all, list_any, starts_with}
 use Rattle.fish_value.specs.ValueText.{value_text}
 use Rattle.fish_value.specs.declared.value.Value.{Value}
+use Rattle.fish_lang.specs.Definition.{Definition, definition_of}
+use Rattle.fish_lang.specs.Language.{IsOutcome}
+use Rattle.fish_lang.specs.declared.parse.LangRefusal.{LangRefusal}
+use Rattle.fish_lang.specs.declared.parse.LangRefusal.TheVariants as lang
 use Rattle.fishstore.specs.declared.words.Select.{Select}
 use Rattle.fishstore.specs.declared.words.UsageCause.{UsageCause}
 use Rattle.fishstore.specs.declared.words.UsageCause.TheVariants as cause
 use Rattle.fishstore.specs.declared.words.WordsRefusal.{WordsRefusal}
 use Rattle.fishstore.specs.declared.words.WordsRefusal.TheVariants as refusal
 
--- a byte that a bare name may have: a letter, a digit, `_` or `$`
-abbrev pub is_word_byte : ℕ → Bool
-is_word_byte b = (nat_le 65 b && nat_le b 90) || (nat_le 97 b && nat_le b 122) || (nat_le 48 b && nat_le b 57) || b == 95 || b == 36
+-- what a command asks for: the records of a file on which a definition has a value
+pub record Asked : Type 0 where
+  pub def : Definition
+  pub value : Value
+  pub file : List ℕ
 
--- the words that the language of definitions keeps for itself
-abbrev pub keywords : List (List ℕ)
-keywords =
-    codes "take" ∷ codes "bucket" ∷ codes "flag" ∷ codes "by" ∷ codes "when" ∷ codes "not" ∷ codes "and" ∷ codes "or"
-    ∷ codes "exists" ∷ codes "starts" ∷ codes "true" ∷ codes "false" ∷ codes "each" ∷ []
+-- what a command that was read asks for
+abbrev pub asked_of : Select → Asked
+asked_of s = record { def = definition_of s.def; value = s.value; file = s.file }
 
-abbrev pub is_keyword : List ℕ → Bool
-is_keyword s = list_any (λ w. bytes_eq s w) keywords
+-- a definition and a file, with a value where there is one
+abbrev pub with_value : Definition → List ℕ → Option Value → Result Asked UsageCause
+with_value def file None = Err cause.Value
+with_value def file (Some v) = Ok (record { def = def; value = v; file = file })
 
--- a bare name: letters, digits, `_` and `$`, not beginning with a digit, and no keyword
-abbrev pub is_ident : List ℕ → Bool
-is_ident s = nat_lt 0 (length s) && not (nat_le 48 (slice_index s 0) && nat_le (slice_index s 0) 57) && list_all is_word_byte s && not (is_keyword s)
+-- what the language says of the definition, and then the value
+abbrev pub with_definition : Result Definition LangRefusal → List ℕ → List ℕ → Result Asked UsageCause
+with_definition (Err refusal) value file = Err (cause.Definition refusal)
+with_definition (Ok def) value file = with_value def file (value_text value)
 
--- the name that `take NAME` takes, where the definition is that
-abbrev pub take_name : List ℕ → Option (List ℕ)
-take_name def = if starts_with nat_eq def (codes "take ") && is_ident (drop 5 def) then Some (drop 5 def) else None
+-- three words behind `select` are this command, or refused with this cause
+pub record IsSelect (def value file : List ℕ) (r : Result Asked UsageCause) : Type 0 where
+  pub due : Result Definition LangRefusal
+  pub said : IsOutcome def due
+  pub is : r ≡ with_definition due value file
 
--- the command with this definition, value and file, where they are one
-abbrev pub with_value : List ℕ → List ℕ → Option Value → Result Select UsageCause
-with_value name file None = Err cause.Value
-with_value name file (Some v) = Ok (record { path = name ∷ []; value = v; file = file })
+-- a refusal of a definition as a refusal of words
+abbrev pub definition_refusal : LangRefusal → WordsRefusal
+definition_refusal (lang.Unexpected at) = refusal.Usage (cause.Definition (lang.Unexpected at))
+definition_refusal (lang.TooDeep at) = refusal.Usage (cause.Definition (lang.TooDeep at))
+definition_refusal (lang.TooLong n) = refusal.Usage (cause.Definition (lang.TooLong n))
+definition_refusal (lang.NumberTooLarge at) = refusal.Usage (cause.Definition (lang.NumberTooLarge at))
+definition_refusal (lang.ZeroWidth at) = refusal.Usage (cause.Definition (lang.ZeroWidth at))
+definition_refusal lang.OutOfMemory = refusal.OutOfMemory
 
-abbrev pub with_name : Option (List ℕ) → List ℕ → List ℕ → Result Select UsageCause
-with_name None value file = Err cause.Words
-with_name (Some name) value file = with_value name file (value_text value)
+-- words are this command, or refused with this cause: a command is `select`, a definition, a value that begins with no minus, and a file
+abbrev pub IsCommand : List (List ℕ) → Result Asked UsageCause → Type 0
+IsCommand (verb ∷ def ∷ value ∷ file ∷ []) r =
+    MatchBool (bytes_eq verb (codes "select") && not (starts_with_minus value)) (IsSelect def value file r) (r ≡ Err cause.Words)
+IsCommand _ r = r ≡ Err cause.Words
 
--- the command that words are: `select`, `take NAME`, a value that begins with no minus, and a file
-unfoldable pub command_of : List (List ℕ) → Result Select UsageCause
-command_of (verb ∷ def ∷ value ∷ file ∷ []) =
-    if bytes_eq verb (codes "select") && not (starts_with_minus value) then with_name (take_name def) value file else Err cause.Words
-command_of _ = Err cause.Words
+-- the words are some command
+abbrev pub IsSomeCommand : List (List ℕ) → Type 0
+IsSomeCommand words = (asked : Asked) × IsCommand words (Ok asked)
 
 -- a refusal to read words names the cause, unless memory ran out
-abbrev pub IsRefusedWords : {T : Type 0} → Result Select UsageCause → Result T WordsRefusal → Type 0
-IsRefusedWords command (Ok c) = ⊤
-IsRefusedWords command (Err (refusal.Usage cause)) = command ≡ Err cause
-IsRefusedWords command (Err refusal.OutOfMemory) = ⊤
+abbrev pub IsRefusedWords : List (List ℕ) → WordsRefusal → Type 0
+IsRefusedWords words (refusal.Usage cause) = IsCommand words (Err cause)
+IsRefusedWords words refusal.OutOfMemory = ⊤

@@ -39,9 +39,9 @@ fn main(rt: HostRuntime) -> ExitCode {
             },
         ),
     };
-    if let Some(line) = outcome.fault.line() {
+    if outcome.fault != Fault::None {
         // Where standard error is closed, the status still tells.
-        let _ = rt.eprintln(line);
+        let _ = rt.eprintln(outcome.fault);
     }
     ExitCode::from(outcome.status)
 }

@@ -1,14 +1,16 @@
 //! How a run ends.
 
-ghost use Rattle.std.specs.Prelude.{◌≡◌, option_map};
+ghost use Rattle.std.specs.Prelude.{◌≡◌};
 ghost use Rattle.std.specs.List.{list_any};
 ghost use Rattle.fish_report.specs.ReportText.{is_refusal};
 ghost use Rattle.fishstore.specs.Outcome.{status_of};
 
 use crate::words::{UsageCause, WordsRefusal};
+use fish_lang::LangRefusal;
 use fish_outside::FeedRefusal;
 use fish_report::{Item, Report};
 use std::alloc::AllocError;
+use std::fmt;
 
 /// What stopped a run.
 #[derive(Clone, Copy, Debug, PartialEq, Eq)]
@@ -25,20 +27,41 @@ pub enum Fault {
     Memory,
 }
 
-impl Fault {
+/// The line on standard error that tells of the fault.
+impl fmt::Display for Fault {
+    ghost use Rattle.std.specs.Prelude.{Some};
     ghost use Rattle.fishstore.specs.Faults.{fault_line};
 
-    /// The line on standard error that tells of the fault.
-    pub fn line(self) -> Option<&'static str>
-        ensures { option_map (λ line. line.now) result ≡ fault_line self }
-    {
+    ghost output = { λ fault. Some (fault_line fault) };
+
+    fn fmt<W: fmt::Write>(&self, f: &mut fmt::Formatter<W>) -> fmt::Result {
         match self {
-            Fault::None => None,
-            Fault::Usage(UsageCause::Words) => Some("fault usage words"),
-            Fault::Usage(UsageCause::Value) => Some("fault usage value"),
-            Fault::Input => Some("fault input"),
-            Fault::Output => Some("fault output"),
-            Fault::Memory => Some("fault memory"),
+            Fault::None => write!(f, "fault none"),
+            Fault::Usage(UsageCause::Words) => write!(f, "fault usage words"),
+            Fault::Usage(UsageCause::Definition(refusal)) => match refusal {
+                LangRefusal::Unexpected { at } => write!(
+                    f,
+                    "fault usage definition unexpected at {at}"
+                ),
+                LangRefusal::TooDeep { at } => write!(f, "fault usage definition too deep at {at}"),
+                LangRefusal::TooLong { length } => write!(
+                    f,
+                    "fault usage definition too long {length}"
+                ),
+                LangRefusal::NumberTooLarge { at } => write!(
+                    f,
+                    "fault usage definition number too large at {at}"
+                ),
+                LangRefusal::ZeroWidth { at } => write!(
+                    f,
+                    "fault usage definition zero width at {at}"
+                ),
+                LangRefusal::OutOfMemory => write!(f, "fault usage definition out of memory"),
+            },
+            Fault::Usage(UsageCause::Value) => write!(f, "fault usage value"),
+            Fault::Input => write!(f, "fault input"),
+            Fault::Output => write!(f, "fault output"),
+            Fault::Memory => write!(f, "fault memory"),
         }
     }
 }

@@ -1,13 +1,13 @@
 //! The top call: one command, from its words to its output.
 
-ghost use Rattle.std.specs.Prelude.{◌≡◌, ◌∷◌, [], IsOk, IfOk, IfErr, IfSome, OnOk};
+ghost use Rattle.std.specs.Prelude.{◌≡◌, ◌∷◌, [], IfOk, IfErr, IfSome, OnOk};
 ghost use Rattle.fish_outside.specs.Causes.{Rose};
 ghost use Rattle.fish_report.specs.ReportText.{report_text};
 ghost use Rattle.fishstore.specs.Answer.{answer_of};
 ghost use Rattle.fishstore.specs.Contents.{IsContents, IsWithin};
-ghost use Rattle.fishstore.specs.Faults.{IsEarlyEnd};
-ghost use Rattle.fishstore.specs.Words.{command_of};
-ghost use Rattle.fishstore.specs.Outcome.{Answers, IsAnswer, IsUsage, IsWritten, status_of};
+ghost use Rattle.fishstore.specs.Faults.{IsEarlyEnd, IsStepFault};
+ghost use Rattle.fishstore.specs.Words.{IsSomeCommand, asked_of};
+ghost use Rattle.fishstore.specs.Outcome.{Answers, IsAnswer, IsAnswerTo, IsUsage, IsWritten, status_of};
 
 use crate::file::{Contents, read_file};
 use crate::outcome::{Fault, Outcome};
@@ -61,9 +61,9 @@ struct Prepared {
     text: Text,
 }
 
-/// Reads the words and the file, and makes the report and its text.
+/// Reads the words, and makes the report of their command.
 fn prepare<H: Host>(alloc: Global, words: &[Text], host: &mut H) -> Result<Prepared, Fault>
-    ensures command { OnOk result (IsOk (command_of words.now)) }
+    ensures command { OnOk result (IsSomeCommand words.now) }
     ensures answer { IfOk result (λ prepared.
         IfSome (H.files host.new) (λ told. IsAnswer words.now told prepared.report.items)) }
     ensures text { IfOk result (λ prepared. prepared.text ≡ report_text prepared.report.items) }
@@ -71,8 +71,19 @@ fn prepare<H: Host>(alloc: Global, words: &[Text], host: &mut H) -> Result<Prepa
     ensures refused { IfErr result (IsEarlyEnd words.now (H.faults host.old) (H.faults host.new)) }
 {
     let command = read_words(alloc, words)?;
+    prepare_select(alloc, &command, host)
+}
+
+/// Reads the file of a command, and makes the report and its text.
+fn prepare_select<H: Host>(alloc: Global, command: &Select, host: &mut H) -> Result<Prepared, Fault>
+    ensures answer { IfOk result (λ prepared.
+        IfSome (H.files host.new) (λ told. IsAnswerTo (asked_of command.now) told prepared.report.items)) }
+    ensures text { IfOk result (λ prepared. prepared.text ≡ report_text prepared.report.items) }
+
+    ensures refused { IfErr result (IsStepFault (H.faults host.old) (H.faults host.new)) }
+{
     let contents = read_file(alloc, host, &command.file, MAX_FILE)?;
-    let report = report_of(alloc, &command, contents)?;
+    let report = report_of(alloc, command, contents)?;
     let text = report_text(alloc, &report)?;
     Ok(Prepared { report, text })
 }
@@ -81,7 +92,7 @@ fn prepare<H: Host>(alloc: Global, words: &[Text], host: &mut H) -> Result<Prepa
 fn report_of(alloc: Global, command: &Select, contents: Contents) -> Result<Report, AllocError>
     requires { IsWithin MAX_FILE contents }
     ensures { IfOk result (λ report. (b : _) → IsContents MAX_FILE b contents
-        → report.items ≡ answer_of command.now b ∷ []) }
+        → report.items ≡ answer_of (asked_of command.now) b ∷ []) }
 {
     let item = match contents {
         Contents::Whole(bytes) => select(alloc, command, bytes.as_bytes())?,

@@ -7,12 +7,13 @@ ghost use Rattle.fish_json.specs.Lines.{is_line_end};
 ghost use Rattle.fish_psf.specs.Select.{has_value};
 ghost use Rattle.fishstore.specs.Answer.{selection};
 ghost use Rattle.fishstore.specs.Tally.{no_lines, with_line, with_parts, with_record};
+ghost use Rattle.fishstore.specs.Words.{asked_of};
 
 use crate::lines::{cut, is_blank, without_carriage_return, without_mark};
 use crate::run::MAX_FILE;
 use crate::words::Select;
 use fish_json::{JsonReader, RecordRefusal};
-use fish_psf::{Parsed, take_of};
+use fish_psf::{Parsed, eval};
 use fish_report::Item;
 use fish_value::{Row, Rows, Text, Value};
 use std::alloc::{AllocError, Global};
@@ -31,7 +32,7 @@ pub struct Tally {
 /// The answer of `select` for a file.
 pub fn select(alloc: Global, command: &Select, b: &[u8]) -> Result<Item, AllocError>
     requires { length b.now ≤ MAX_FILE }
-    ensures { IfOk result (λ item. item ≡ selection command.now b.now) }
+    ensures { IfOk result (λ item. item ≡ selection (asked_of command.now) b.now) }
 {
     let mut tally = tally_of(alloc, command, without_mark(b))?;
     tally.rows.reverse();
@@ -46,7 +47,7 @@ pub fn select(alloc: Global, command: &Select, b: &[u8]) -> Result<Item, AllocEr
 fn tally_of(alloc: Global, command: &Select, b: &[u8]) -> Result<Tally, AllocError>
     requires { length b.now ≤ MAX_FILE }
     ensures { IfOk result (λ tally.
-        tally ≡ with_parts command.now no_lines (slice_split is_line_end b.now)) }
+        tally ≡ with_parts (asked_of command.now) no_lines (slice_split is_line_end b.now)) }
 {
     let mut tally = Tally {
         rows: Rows::new(alloc),
@@ -74,7 +75,7 @@ fn add_part(
 ) -> Result<(), AllocError>
     requires { tally.old.count + tally.old.refused < 2 ^ 28 }
     ensures counted { OnOk result
-        (tally.new ≡ with_line command.now tally.old (strip_carriage_return part.now)) }
+        (tally.new ≡ with_line (asked_of command.now) tally.old (strip_carriage_return part.now)) }
     ensures rises { OnOk result
         (tally.new.count + tally.new.refused ≤ tally.old.count + tally.old.refused + 1) }
 {
@@ -103,9 +104,9 @@ fn add_record<R: Parsed>(
     requires text { IsUtf8 line.now }
     requires room { tally.old.count + tally.old.refused < 2 ^ 28 }
     ensures { OnOk result (tally.new
-        ≡ with_record command.now tally.old (R.fields found.now) line.now) }
+        ≡ with_record (asked_of command.now) tally.old (R.fields found.now) line.now) }
 {
-    let value = take_of(alloc, &command.path, found)?;
+    let value = eval(alloc, &command.def, found)?;
     if has_value(&value, &command.value) {
         push_row(alloc, &mut tally.rows, tally.count, line)?;
     }

@@ -3,6 +3,7 @@
 use crate::outcome::{Fault, Outcome};
 use crate::run::{MAX_FILE, run};
 use crate::words::UsageCause;
+use fish_lang::LangRefusal;
 use fish_outside::{HostFile, HostFiles, MemoryHost, MemorySink};
 use fish_value::{Bytes, Numbers64, Text, Texts};
 use std::alloc::{AllocError, Global};
@@ -16,6 +17,23 @@ const PUSHES: &[u8] =
 /// What is told of them.
 const FOUND: &str =
     "select found 2 of 3 refused 0\n2 21 {\"type\":\"Push\",\"n\":3}\n0 21 {\"type\":\"Push\",\"n\":1}\n";
+
+/// Whole numbers round the ends of buckets.
+const NUMBERS: &[u8] =
+    b"{\"n\":-1}\n{\"n\":0}\n{\"n\":9}\n{\"n\":10}\n{\"n\":-9223372036854775808}\n";
+
+/// Events as an event service writes them.
+const EVENTS: &[u8] =
+    b"{\"id\":\"2489651045\",\"type\":\"PushEvent\",\"actor\":{\"id\":665991,\"login\":\"petroav\"},\"payload\":{\"size\":1},\"public\":true}\n{\"id\":\"2489651051\",\"type\":\"CreateEvent\",\"actor\":{\"id\":3854017,\"login\":\"rspt\"},\"payload\":{\"ref\":null},\"public\":true}\n{\"id\":\"2489651053\",\"type\":\"PushEvent\",\"actor\":{\"id\":665991,\"login\":\"petroav\"},\"payload\":{\"size\":0.5},\"public\":true}\n";
+
+const PETROAV: &str =
+    "select found 2 of 3 refused 0\n2 115 {\"id\":\"2489651053\",\"type\":\"PushEvent\",\"actor\":{\"id\":665991,\"login\":\"petroav\"},\"payload\":{\"size\":0.5},\"public\":true}\n0 113 {\"id\":\"2489651045\",\"type\":\"PushEvent\",\"actor\":{\"id\":665991,\"login\":\"petroav\"},\"payload\":{\"size\":1},\"public\":true}\n";
+
+const BUSY: &str =
+    "select found 1 of 3 refused 0\n0 113 {\"id\":\"2489651045\",\"type\":\"PushEvent\",\"actor\":{\"id\":665991,\"login\":\"petroav\"},\"payload\":{\"size\":1},\"public\":true}\n";
+
+const CREATED: &str =
+    "select found 1 of 3 refused 0\n1 115 {\"id\":\"2489651051\",\"type\":\"CreateEvent\",\"actor\":{\"id\":3854017,\"login\":\"rspt\"},\"payload\":{\"ref\":null},\"public\":true}\n";
 
 /// A run's end, and the output.
 #[derive(Drop)]
@@ -68,7 +86,7 @@ fn end_of<R: Threads + Sync>(
 #[test]
 fn selects(rt: HostRuntime) -> Result<(), Fail> {
     // definition, value, content, output
-    let cases: [(&str, &str, &[u8], &str); 11] = [
+    let cases: [(&str, &str, &[u8], &str); 20] = [
         ("take type", "\"Push\"", PUSHES, FOUND),
         (
             "take type",
@@ -137,6 +155,62 @@ fn selects(rt: HostRuntime) -> Result<(), Fail> {
             "{\"v\":\"é\\n\"}\n".as_bytes(),
             "select found 1 of 1 refused 0\n0 12 {\"v\":\"é\\n\"}\n",
         ),
+        // Buckets round down, also below zero, and none is below the least number.
+        (
+            "bucket n by 10",
+            "0",
+            NUMBERS,
+            "select found 2 of 5 refused 0\n2 7 {\"n\":9}\n1 7 {\"n\":0}\n",
+        ),
+        (
+            "bucket n by 10",
+            "10",
+            NUMBERS,
+            "select found 1 of 5 refused 0\n3 8 {\"n\":10}\n",
+        ),
+        (
+            "bucket n by 1",
+            "0",
+            NUMBERS,
+            "select found 1 of 5 refused 0\n1 7 {\"n\":0}\n",
+        ),
+        (
+            "flag when v exists",
+            "true",
+            b"{\"v\":1.5}\n{\"v\":null}\n{\"w\":1}\n",
+            "select found 2 of 3 refused 0\n1 10 {\"v\":null}\n0 9 {\"v\":1.5}\n",
+        ),
+        // Events, by a nested field and a condition, and by two conditions.
+        (
+            "take actor.login when type = \"PushEvent\"",
+            "\"petroav\"",
+            EVENTS,
+            PETROAV,
+        ),
+        (
+            "flag when payload.size >= 1 and public = true",
+            "true",
+            EVENTS,
+            BUSY,
+        ),
+        (
+            "take type when payload.ref exists",
+            "\"CreateEvent\"",
+            EVENTS,
+            CREATED,
+        ),
+        (
+            "flag when not (public = true)",
+            "true",
+            EVENTS,
+            "select found 0 of 3 refused 0\n",
+        ),
+        (
+            "take \"actor\" . id when type starts \"Create\" or public != true",
+            "3854017",
+            EVENTS,
+            CREATED,
+        ),
     ];
     for (def, value, content, want) in cases {
         let words = format!(in rt.alloc(); "select|{def}|{value}|a")?;
@@ -186,6 +260,10 @@ fn selects_by_short_texts_alone(rt: HostRuntime) -> Result<(), Fail> {
     Ok(())
 }
 
+fn unexpected(at: u64) -> Fault {
+    Fault::Usage(UsageCause::Definition(LangRefusal::Unexpected { at }))
+}
+
 #[test]
 fn ends_by_faults(rt: HostRuntime) -> Result<(), Fail> {
     let usage = Fault::Usage(UsageCause::Words);
@@ -202,9 +280,23 @@ fn ends_by_faults(rt: HostRuntime) -> Result<(), Fail> {
         ("select|take type|\"Push\"", none, none, 1, usage),
         ("select|take type|\"Push\"|a|a", none, none, 1, usage),
         ("list|take type|\"Push\"|a", none, none, 1, usage),
-        ("select|take  type|\"Push\"|a", none, none, 1, usage),
-        ("select|take when|\"Push\"|a", none, none, 1, usage),
-        ("select|take 9a|\"Push\"|a", none, none, 1, usage),
+        ("select|take when|\"Push\"|a", none, none, 1, unexpected(5)),
+        (
+            "select|take type whem x exists|1|a",
+            none,
+            none,
+            1,
+            unexpected(10),
+        ),
+        // The definition comes before the value.
+        ("select|take|Push|a", none, none, 1, unexpected(4)),
+        (
+            "select|bucket n by 0|0|a",
+            none,
+            none,
+            1,
+            Fault::Usage(UsageCause::Definition(LangRefusal::ZeroWidth { at: 12 })),
+        ),
         ("select|take type|-1|a", none, none, 1, usage),
         ("select|take type|Push|a", none, none, 1, value),
         ("select|take type|007|a", none, none, 1, value),
@@ -216,6 +308,41 @@ fn ends_by_faults(rt: HostRuntime) -> Result<(), Fail> {
         if status != 0 {
             assert_eq!(rt; ended.sink.as_bytes().len(), 0, "{words}");
         }
+    }
+    Ok(())
+}
+
+/// What standard error shows of each fault.
+#[test]
+fn tells_of_faults(rt: HostRuntime) -> Result<(), Fail> {
+    let definition = |refusal: LangRefusal| Fault::Usage(UsageCause::Definition(refusal));
+    let cases = [
+        (Fault::Usage(UsageCause::Words), "fault usage words"),
+        (Fault::Usage(UsageCause::Value), "fault usage value"),
+        (unexpected(10), "fault usage definition unexpected at 10"),
+        (
+            definition(LangRefusal::TooDeep { at: 7 }),
+            "fault usage definition too deep at 7",
+        ),
+        (
+            definition(LangRefusal::TooLong { length: 4097 }),
+            "fault usage definition too long 4097",
+        ),
+        (
+            definition(LangRefusal::NumberTooLarge { at: 16 }),
+            "fault usage definition number too large at 16",
+        ),
+        (
+            definition(LangRefusal::ZeroWidth { at: 12 }),
+            "fault usage definition zero width at 12",
+        ),
+        (Fault::Input, "fault input"),
+        (Fault::Output, "fault output"),
+        (Fault::Memory, "fault memory"),
+    ];
+    for (fault, want) in cases {
+        let line = fault.to_string(rt.alloc())?;
+        assert_eq!(rt; line.as_str(), want);
     }
     Ok(())
 }
