@@ -82,9 +82,12 @@ mutual
 
   neg_follows : (h : Head) (k : Operand) (a : Neg) → Follows (machine.operand h k) (neg_spots (nesting k) a) (complete h k (neg_formula a))
   neg_follows h k (not_neg a) = (machine.operand h (machine.under_not k), refl, refl, neg_follows h (machine.under_not k) a)
-  neg_follows h k (group c) =
-      (machine.operand h (at_front (machine.in_group k)), refl, refl,
-      Follows-append (cond_spots (suc (nesting k)) c) _ _ _ _ (cond_follows h (machine.in_group k) c) (close_follows h k c))
+  neg_follows h k (group c) = (
+    machine.operand h (at_front (machine.in_group k)),
+    refl,
+    refl,
+    Follows-append (cond_spots (suc (nesting k)) c) _ _ _ _ (cond_follows h (machine.in_group k) c) (close_follows h k c),
+  )
   neg_follows h k (test t) = test_follows h k t
 
 -- each derivation leads to a state in which the source may end, with its meaning

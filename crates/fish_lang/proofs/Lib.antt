@@ -1,7 +1,15 @@
+pub mod Accepted
+pub mod Canonical
+pub mod Depths
 pub mod Endings
 pub mod Follows
+pub mod Lexed
+pub mod Numerals
 pub mod Outcomes
+pub mod Spelling
 pub mod Steps
+pub mod Strings
 pub mod TokenLemmas
 pub mod Trees
 pub mod Verdicts
+pub mod Words

@@ -55,7 +55,7 @@ record Reached (ts : List Placed) (s : State) : Type 0 where
   stands : state_of tree ≡ s
   spells : before tree ≡ unrefused ts
 
-unrefused-append : (xs ys : List Placed) → unrefused (xs ++ ys) ≡ unrefused xs ++ unrefused ys
+pub unrefused-append : (xs ys : List Placed) → unrefused (xs ++ ys) ≡ unrefused xs ++ unrefused ys
 unrefused-append [] ys = refl
 unrefused-append (x ∷ xs) ys = ap (λ zs. spot x.token ∷ zs) (unrefused-append xs ys)
 
@@ -63,11 +63,11 @@ kinds-append : (xs ys : List Placed) → kinds (xs ++ ys) ≡ kinds xs ++ kinds 
 kinds-append [] ys = refl
 kinds-append (x ∷ xs) ys = ap (λ zs. x.token ∷ zs) (kinds-append xs ys)
 
-spelled-append : (xs ys : List Spot) → spelled (xs ++ ys) ≡ spelled xs ++ spelled ys
+pub spelled-append : (xs ys : List Spot) → spelled (xs ++ ys) ≡ spelled xs ++ spelled ys
 spelled-append [] ys = refl
 spelled-append (x ∷ xs) ys = ap (λ zs. x.token ∷ zs) (spelled-append xs ys)
 
-spelled-unrefused : (ts : List Placed) → spelled (unrefused ts) ≡ kinds ts
+pub spelled-unrefused : (ts : List Placed) → spelled (unrefused ts) ≡ kinds ts
 spelled-unrefused [] = refl
 spelled-unrefused (t ∷ ts) = ap (λ zs. t.token ∷ zs) (spelled-unrefused ts)
 
@@ -99,13 +99,16 @@ verdict-end ts s end (Some d) r f e =
     let whole = ends r.tree d fits in
     record { tree = whole.whole; spells = whole.spells ∙ r.spells; means = whole.means }
 verdict-end ts s end None r f e =
-    inr (refl, record {
-      well = reached-well ts s r;
-      none = λ tree same.
-        let g = followed tree in
-        let t : s ≡ g.state = leads-same (unrefused ts) (spots tree) machine.start s g.state f g.follows (same ∙ sym (spelled-unrefused ts)) in
-        cc (ap finish t, g.finishes);
-    })
+    inr (
+      refl,
+      record {
+        well = reached-well ts s r;
+        none = λ tree same.
+            let g = followed tree in
+            let t : s ≡ g.state = leads-same (unrefused ts) (spots tree) machine.start s g.state f g.follows (same ∙ sym (spelled-unrefused ts)) in
+            cc (ap finish t, g.finishes);
+      },
+    )
 
 verdict-fault : (fault : Fault) (ts : List Placed) (at end : ℕ) → Faulty fault ts at → IsVerdict ts end (Err (refusal_of fault at))
 verdict-fault TooDeep ts at end h = h
@@ -125,10 +128,10 @@ verdict-turn ts p ps s end None k r f e g rest =
       place = refl;
       well = reached-well ts s r;
       none = λ tree more same.
-        let h = followed tree in
-        let front : spelled (spots tree) ≡ spelled (unrefused ts) ++ p.token ∷ more = same ∙ rw (kinds-append ts (p ∷ []), spelled-unrefused ts, append_assoc) in
-        let on = leads-on (unrefused ts) (spots tree) machine.start s h.state p.token more f h.follows front in
-        cc (e, on.1);
+          let h = followed tree in
+          let front : spelled (spots tree) ≡ spelled (unrefused ts) ++ p.token ∷ more = same ∙ rw (kinds-append ts (p ∷ []), spelled-unrefused ts, append_assoc) in
+          let on = leads-on (unrefused ts) (spots tree) machine.start s h.state p.token more f h.follows front in
+          cc (e, on.1);
     })
 verdict-turn ts p ps s end (Some u) (Some fault) r f e g rest =
     let fits : advance (state_of r.tree) p.token ≡ Some u = rw r.stands e in

@@ -2,7 +2,7 @@
 use Rattle.std.specs.Prelude.{ℕ, zero, suc, ◌+◌, ◌&&◌, ◌||◌, ◌==◌, nat_lt, List, [], ◌∷◌, Bool, false, not, Option, Some, None, option_and_then, is_some, length, take, drop, slice_index, codes, if◌then◌else◌}
 use Rattle.std.specs.Char.{is_ascii_alphanumeric, is_ascii_digit}
 use Rattle.std.specs.List.{list_all}
-use Rattle.std.specs.Str.{bytes_eq}
+use Rattle.std.specs.Str.{bytes_eq, is_utf8}
 use Rattle.std.specs.Str.Parse.{starts_with_minus}
 use Rattle.serde_json.specs.Find.{as_str}
 use Rattle.fish_value.specs.Json.{reading}
@@ -68,9 +68,9 @@ abbrev pub word_or_keyword : Option Keyword → List ℕ → Token
 word_or_keyword (Some k) w = kind.Keyword k
 word_or_keyword None w = plain_word w
 
--- a string by its reading
+-- a string by its reading, which is a text
 abbrev pub string_token : Option (List ℕ) → Token
-string_token (Some s) = kind.Str s
+string_token (Some s) = if is_utf8 s then kind.Str s else kind.Other
 string_token None = kind.Other
 
 -- a sign, or a byte that is none

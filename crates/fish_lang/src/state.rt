@@ -203,9 +203,10 @@ fn from_width(path: Path, token: Token) -> Option<State>
     ensures { option_map state_view result ≡ machine.from_width path token }
 {
     match token {
-        Token::Number { negative: false, value } => {
-            Some(State::BehindWidth(path, value.unwrap_or(0)))
-        }
+        Token::Number {
+            negative: false,
+            value,
+        } => { Some(State::BehindWidth(path, value.unwrap_or(0))) }
         _ => None,
     }
 }
@@ -290,12 +291,7 @@ fn from_prefix(
 }
 
 /// Behind an operand, which completes a `not` and an `and` in front of it.
-fn complete(
-    alloc: Global,
-    head: Head,
-    place: Operand,
-    cond: Cond,
-) -> Result<State, AllocError>
+fn complete(alloc: Global, head: Head, place: Operand, cond: Cond) -> Result<State, AllocError>
     ensures { IfOk result (λ next. state_view next ≡ machine.complete (head_view head) (operand_view place) (formula_of cond)) }
 {
     match place {
@@ -352,12 +348,7 @@ fn or_with(alloc: Global, joint: Joint, cond: Cond) -> Result<(Whole, Cond), All
 }
 
 /// `)` ends a group.
-fn close(
-    alloc: Global,
-    head: Head,
-    whole: Whole,
-    cond: Cond,
-) -> Result<Option<State>, AllocError>
+fn close(alloc: Global, head: Head, whole: Whole, cond: Cond) -> Result<Option<State>, AllocError>
     ensures { IfOk result (λ next. option_map state_view next ≡ machine.close (head_view head) (whole_view whole) (formula_of cond)) }
 {
     match whole {
