@@ -11,11 +11,12 @@ use Rattle.fish_value.specs.Number.{is_number, int_of, fits_i64}
 use Rattle.fish_value.specs.declared.value.Value.{Value}
 use Rattle.fish_lang.specs.Canonical.{definition_text}
 use Rattle.fish_lang.specs.Definition.{Steps, Formula, Definition}
-use Rattle.fish_lang.specs.Grammar.{Step, ident, string, Path, one_step, more_steps, Literal, truth, number, text, Test, compare, exist, start, Cond, one_conj, more_conjs, Conj, one_neg, more_negs, Neg, not_neg, group, test, Derivation, take_def, bucket_def, flag_def, Spot, spot, spelled, spots, step_token, step_name, path_spots, path_steps, literal_spot, literal_value, test_spots, test_formula, cond_spots, conj_spots, neg_spots, cond_formula, conj_formula, neg_formula, meaning, nesting_fault, when_spots}
+use Rattle.fish_lang.specs.Grammar.{Spot, spot, spelled, spots, step_token, path_spots, literal_spot, test_spots, cond_spots, conj_spots, neg_spots, nesting_fault, when_spots}
+use Rattle.fish_lang.specs.Derivation.{Step, ident, string, Path, one_step, more_steps, Literal, truth, number, text, Test, compare, exist, start, Cond, one_conj, more_conjs, Conj, one_neg, more_negs, Neg, not_neg, group, test, Derivation, take_def, bucket_def, flag_def, step_name, path_steps, literal_value, test_formula, cond_formula, conj_formula, neg_formula, meaning}
 use Rattle.fish_lang.specs.Language.{kinds, unrefused, IsRead, IsAccepted}
 use Rattle.fish_lang.specs.Token.{tokens, tokens_from, token_of, listed, length_behind, keyword_of, word_or_keyword, plain_word, string_token, sign_token, is_ident, is_blank, begins_word}
 use Rattle.fish_lang.specs.declared.definition.Op.TheVariants as op
-use Rattle.fish_lang.specs.declared.state.Fault.TheVariants.{TooDeep}
+use Rattle.fish_lang.specs.declared.fault.Fault.TheVariants.{TooDeep}
 use Rattle.fish_lang.specs.declared.token.Keyword.{Keyword}
 use Rattle.fish_lang.specs.declared.token.Token.{Token}
 use Rattle.fish_lang.specs.declared.token.Token.TheVariants as kind

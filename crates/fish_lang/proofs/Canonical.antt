@@ -5,7 +5,8 @@ use Rattle.std.proofs.lemmas.Bool.Decides.{nat_tests}
 use Rattle.fish_value.specs.declared.value.Value.{Value}
 use Rattle.fish_value.specs.declared.value.Value.TheVariants as value
 use Rattle.fish_lang.specs.Definition.{Steps, Formula, compares, is_there, begins, negated, both, either, Definition, takes, buckets, flags}
-use Rattle.fish_lang.specs.Grammar.{Step, ident, string, Path, one_step, more_steps, Literal, truth, number, text, Test, compare, exist, start, Cond, one_conj, more_conjs, Conj, one_neg, more_negs, Neg, not_neg, group, test, Derivation, take_def, bucket_def, flag_def, Spot, spot, keyword, spelled, spots, step_token, step_name, path_spots, path_steps, literal_spot, literal_value, test_spots, test_formula, cond_spots, conj_spots, neg_spots, cond_formula, conj_formula, neg_formula, meaning, width_fault, nesting_fault, when_spots}
+use Rattle.fish_lang.specs.Grammar.{Spot, spot, keyword, spelled, spots, step_token, path_spots, literal_spot, test_spots, cond_spots, conj_spots, neg_spots, width_fault, nesting_fault, when_spots}
+use Rattle.fish_lang.specs.Derivation.{Step, ident, string, Path, one_step, more_steps, Literal, truth, number, text, Test, compare, exist, start, Cond, one_conj, more_conjs, Conj, one_neg, more_negs, Neg, not_neg, group, test, Derivation, take_def, bucket_def, flag_def, step_name, path_steps, literal_value, test_formula, cond_formula, conj_formula, neg_formula, meaning}
 use Rattle.fish_lang.specs.Token.{is_ident}
 use Rattle.fish_lang.specs.declared.definition.Op.{Op}
 use Rattle.fish_lang.specs.declared.token.Keyword.TheVariants as word

@@ -6,7 +6,8 @@ use Rattle.fish_value.specs.declared.value.Value.{Value}
 use Rattle.fish_value.specs.declared.value.Value.TheVariants as value
 use Rattle.fish_lang.specs.Canonical.{step_text, steps_text, path_text, op_text, formula_text, when_text, definition_text}
 use Rattle.fish_lang.specs.Definition.{Steps, Formula, compares, is_there, begins, negated, both, either, Definition, takes, buckets, flags}
-use Rattle.fish_lang.specs.Grammar.{Step, ident, string, Path, one_step, more_steps, Literal, Test, compare, exist, start, Cond, Conj, Neg, one_neg, not_neg, group, test, Derivation, take_def, bucket_def, flag_def, Spot, spot, keyword, spelled, spots, step_token, path_spots, literal_spot, test_spots, cond_spots, conj_spots, neg_spots, width_fault, nesting_fault, when_spots}
+use Rattle.fish_lang.specs.Grammar.{Spot, spot, keyword, spelled, spots, step_token, path_spots, literal_spot, test_spots, cond_spots, conj_spots, neg_spots, width_fault, nesting_fault, when_spots}
+use Rattle.fish_lang.specs.Derivation.{Step, ident, string, Path, one_step, more_steps, Literal, Test, compare, exist, start, Cond, Conj, Neg, one_neg, not_neg, group, test, Derivation, take_def, bucket_def, flag_def}
 use Rattle.fish_lang.specs.Token.{is_ident}
 use Rattle.fish_lang.specs.ValuePrint.{value_print}
 use Rattle.fish_lang.specs.declared.definition.Op.{Op}

@@ -3,11 +3,14 @@ use Rattle.std.proofs.Common.{◌≡◌, ℕ, suc, List, [], ◌∷◌, ◌++◌
 use Rattle.std.specs.Prelude.{ℤ, pos, Bool, true, false, Option, Some, None, option_map, unwrap_or}
 use Rattle.fish_value.specs.declared.value.Value.{Value}
 use Rattle.fish_lang.specs.Definition.{Steps, Definition, compares, is_there, begins}
-use Rattle.fish_lang.specs.Grammar.{Step, ident, string, Path, one_step, more_steps, Literal, truth, number, text, Test, compare, exist, start, Cond, Conj, one_neg, Neg, not_neg, group, test, Derivation, take_def, bucket_def, flag_def, Spot, spot, keyword, path_spots, path_steps, step_token, step_name, literal_spot, literal_value, test_spots, neg_formula, neg_spots, conj_formula, one_conj, more_conjs, spots, meaning, number_fault, width_fault}
+use Rattle.fish_lang.specs.Grammar.{Spot, spot, keyword, path_spots, step_token, literal_spot, test_spots, neg_spots, spots, number_fault, width_fault}
+use Rattle.fish_lang.specs.Derivation.{Step, ident, string, Path, one_step, more_steps, Literal, truth, number, text, Test, compare, exist, start, Cond, Conj, one_neg, Neg, not_neg, group, test, Derivation, take_def, bucket_def, flag_def, path_steps, step_name, literal_value, neg_formula, conj_formula, one_conj, more_conjs, meaning}
 use Rattle.fish_lang.specs.Machine as machine
-use Rattle.fish_lang.specs.Machine.{State, advance, fault_at, finish, complete, nesting, name_of, text_of, value_of, number_of}
+use Rattle.fish_lang.specs.Moves as moves
+use Rattle.fish_lang.specs.Machine.{State, complete, nesting}
+use Rattle.fish_lang.specs.Moves.{advance, fault_at, finish, name_of, text_of, value_of, number_of}
 use Rattle.fish_lang.specs.declared.definition.Op.{Op}
-use Rattle.fish_lang.specs.declared.state.Fault.{Fault}
+use Rattle.fish_lang.specs.declared.fault.Fault.{Fault}
 use Rattle.fish_lang.specs.declared.token.Keyword.TheVariants as word
 use Rattle.fish_lang.specs.declared.token.Token.{Token}
 use Rattle.fish_lang.specs.declared.token.Token.TheVariants.{Keyword, Ident, Str, Number, Compare, Open, Close, Dot, Other}
@@ -73,7 +76,7 @@ from_bucket t s (Some x) e h =
     record { next = behind_step of_bucket (one_step named.step); stands = rw named.name cc; spells = rw named.token }
 
 -- behind a step
-from_path : (o : Owner) (p : Path) (t : Token) (s : State) → machine.from_path (owner_state o) (path_steps p) t ≡ Some s → Longer (behind_step o p) t s
+from_path : (o : Owner) (p : Path) (t : Token) (s : State) → moves.from_path (owner_state o) (path_steps p) t ≡ Some s → Longer (behind_step o p) t s
 from_path o p Dot s h = record { next = behind_dot o p; stands = cc; spells = simp append_assoc }
 from_path of_take p (Keyword When) s h = record { next = operand (take_when p) (in_joint (in_whole top)); stands = cc; spells = refl }
 from_path of_take p _ s h = cc
@@ -88,16 +91,16 @@ from_path (of_test k j) p (Keyword Exists) s h = record {
 from_path (of_test k j) p (Keyword Starts) s h = record { next = prefix k j p; stands = cc; spells = simp append_assoc }
 from_path (of_test k j) p _ s h = cc
 
-from_width : (p : Path) (t : Token) (s : State) → machine.from_width (path_steps p) t ≡ Some s → Longer (width p) t s
+from_width : (p : Path) (t : Token) (s : State) → moves.from_width (path_steps p) t ≡ Some s → Longer (width p) t s
 from_width p (Number false n) s h = record { next = behind_width p n; stands = cc; spells = simp append_assoc }
 from_width p _ s h = cc
 
-behind_number : (p : Path) (n : Option ℤ) (t : Token) (s : State) → machine.from_head (head_state (bucket_when p n)) t ≡ Some s → Longer (behind_width p n) t s
+behind_number : (p : Path) (n : Option ℤ) (t : Token) (s : State) → moves.from_head (head_state (bucket_when p n)) t ≡ Some s → Longer (behind_width p n) t s
 behind_number p n (Keyword When) s h = record { next = operand (bucket_when p n) (in_joint (in_whole top)); stands = cc; spells = simp append_assoc }
 behind_number p n _ s h = cc
 
 -- an operand
-from_operand : (k : Head) (j : Operand) (t : Token) (s : State) → machine.from_operand (head_state k) (operand_state j) t ≡ Some s → Longer (operand k j) t s
+from_operand : (k : Head) (j : Operand) (t : Token) (s : State) → moves.from_operand (head_state k) (operand_state j) t ≡ Some s → Longer (operand k j) t s
 from_operand k j (Keyword Not) s h = record { next = operand k (under_not j); stands = cc; spells = refl }
 from_operand k j Open s h = record { next = operand k (in_joint (in_whole (in_group j))); stands = cc; spells = refl }
 from_operand k j (Ident x) s h = record { next = behind_step (of_test k j) (one_step (ident x)); stands = cc; spells = refl }
@@ -125,7 +128,7 @@ from_prefix k j p (Str x) s h = record {
 from_prefix k j p _ s h = cc
 
 -- behind an operand
-from_joint : (k : Head) (j : Joint) (c : Conj) (t : Token) (s : State) → machine.from_joint (head_state k) (joint_state j) (conj_formula c) t ≡ Some s → Longer (behind_operand k j c) t s
+from_joint : (k : Head) (j : Joint) (c : Conj) (t : Token) (s : State) → moves.from_joint (head_state k) (joint_state j) (conj_formula c) t ≡ Some s → Longer (behind_operand k j c) t s
 from_joint k j c (Keyword And) s h = record { next = operand k (behind_and c j); stands = cc; spells = simp append_assoc }
 from_joint k (in_whole w) c (Keyword Or) s h = record { next = operand k (in_joint (behind_or (one_conj c) w)); stands = cc; spells = simp append_assoc }
 from_joint k (behind_or a w) c (Keyword Or) s h = record { next = operand k (in_joint (behind_or (more_conjs a c) w)); stands = cc; spells = simp append_assoc }

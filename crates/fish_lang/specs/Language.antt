@@ -2,13 +2,14 @@
 use Rattle.std.specs.Prelude.{◌≡◌, ◌≢◌, ℕ, ◌≤◌, ◌<◌, ◌⊎◌, List, [], ◌∷◌, ◌++◌, Some, None, Result, Ok, Err, length, map}
 use Rattle.fish_lang.specs.Canonical.{definition_text}
 use Rattle.fish_lang.specs.Definition.{Definition}
-use Rattle.fish_lang.specs.Grammar.{Derivation, Spot, spot, spots, spelled, meaning}
+use Rattle.fish_lang.specs.Grammar.{Spot, spot, spots, spelled}
+use Rattle.fish_lang.specs.Derivation.{Derivation, meaning}
 use Rattle.fish_lang.specs.Token.{tokens}
 use Rattle.fish_lang.specs.declared.parse.LangRefusal.{LangRefusal}
 use Rattle.fish_lang.specs.declared.parse.LangRefusal.TheVariants as refusal
 use Rattle.fish_lang.specs.declared.parse.TheConstants.{MAX_SOURCE, MAX_CANONICAL}
-use Rattle.fish_lang.specs.declared.state.Fault.{Fault}
-use Rattle.fish_lang.specs.declared.state.Fault.TheVariants.{TooDeep, NumberTooLarge, ZeroWidth}
+use Rattle.fish_lang.specs.declared.fault.Fault.{Fault}
+use Rattle.fish_lang.specs.declared.fault.Fault.TheVariants.{TooDeep, NumberTooLarge, ZeroWidth}
 use Rattle.fish_lang.specs.declared.token.Token.{Token}
 use Rattle.fish_lang.specs.declared.token.Placed.{Placed}
 

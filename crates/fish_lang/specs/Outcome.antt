@@ -3,13 +3,14 @@
 use Rattle.std.specs.Prelude.{◌≡◌, ℕ, nat_le, nat_lt, List, [], ◌∷◌, Option, Some, None, Result, Ok, Err, length, if◌then◌else◌}
 use Rattle.fish_lang.specs.Canonical.{definition_text}
 use Rattle.fish_lang.specs.Definition.{Definition}
-use Rattle.fish_lang.specs.Machine.{State, start, advance, fault_at, finish}
+use Rattle.fish_lang.specs.Machine.{State, start}
+use Rattle.fish_lang.specs.Moves.{advance, fault_at, finish}
 use Rattle.fish_lang.specs.Token.{tokens}
 use Rattle.fish_lang.specs.declared.parse.LangRefusal.{LangRefusal}
 use Rattle.fish_lang.specs.declared.parse.LangRefusal.TheVariants as refusal
 use Rattle.fish_lang.specs.declared.parse.TheConstants.{MAX_SOURCE, MAX_CANONICAL}
-use Rattle.fish_lang.specs.declared.state.Fault.{Fault}
-use Rattle.fish_lang.specs.declared.state.Fault.TheVariants.{TooDeep, NumberTooLarge, ZeroWidth}
+use Rattle.fish_lang.specs.declared.fault.Fault.{Fault}
+use Rattle.fish_lang.specs.declared.fault.Fault.TheVariants.{TooDeep, NumberTooLarge, ZeroWidth}
 use Rattle.fish_lang.specs.declared.token.Placed.{Placed}
 
 -- a refusal is the one that is due, unless memory ran out

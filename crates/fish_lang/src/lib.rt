@@ -4,6 +4,8 @@
 #![tactic(auto)]
 
 mod definition;
+mod fault;
+mod finish;
 mod law;
 mod parse;
 mod place;
