@@ -23,76 +23,11 @@ use Rattle.fish_lang.specs.declared.token.Token.TheVariants as kind
 use Rattle.fish_lang.specs.declared.token.Placed.{Placed}
 use Rattle.fish_lang.proofs.Canonical.{AreFine, derivation-fine, derivation-means, IsShallow, when_depth}
 use Rattle.fish_lang.proofs.Depths.{is_negative, cond_of, cond_depth, conj_depth, neg_depth, cond_shallow}
-use Rattle.fish_lang.proofs.Spelling.{AreTexts, IsPath, IsLiteral, IsCondition, IsWhen, IsWritable, derivation_of, definition-lexed}
+use Rattle.fish_lang.proofs.Spelling.{IsWhen, IsWritable, derivation_of, definition-lexed}
+use Rattle.fish_lang.proofs.Conditions.{AreTexts, IsPath, IsLiteral, IsCondition}
 use Rattle.fish_lang.proofs.TokenLemmas.{IsUtf8-ident}
 use Rattle.fish_lang.proofs.Words.{lexed}
-
--- what holds of each token of a source
-abbrev IsProper : Token → Type 0
-IsProper (kind.Ident s) = IsUtf8 s
-IsProper (kind.Str s) = IsUtf8 s
-IsProper (kind.Number negative (Some n)) = (fits_i64 n ≡ true) × (negative ≡ false → is_negative n ≡ false)
-IsProper _ = Unit {0}
-
-abbrev IsProperIfAny : Option Token → Type 0
-IsProperIfAny None = Unit {0}
-IsProperIfAny (Some t) = IsProper t
-
-value-proper : (w : List ℕ) (fits : Bool) → (is_number w && fits_i64 (signed_digits_value 10 w)) ≡ fits → is_number w ≡ true → IsProper (kind.Number (starts_with_minus w) (if fits then Some (signed_digits_value 10 w) else None))
-value-proper w true e h = (rw h at e, λ plain. rw plain)
-value-proper w false e h = tt
-
-number-proper : (w : List ℕ) → is_number w ≡ true → IsProper (kind.Number (starts_with_minus w) (int_of w))
-unfolding int_of
-number-proper w h = value-proper w (is_number w && fits_i64 (signed_digits_value 10 w)) refl h
-
-plain-proper : (w : List ℕ) (n i : Bool) → is_number w ≡ n → is_ident w ≡ i → IsProper (if n then kind.Number (starts_with_minus w) (int_of w) else (if i then kind.Ident w else kind.Other))
-plain-proper w true i e f = number-proper w e
-plain-proper w false true e f = IsUtf8-ident w f
-plain-proper w false false e f = tt
-
-word-proper : (k : Option Keyword) (w : List ℕ) → IsProper (word_or_keyword k w)
-unfolding plain_word
-word-proper (Some k) w = tt
-word-proper None w = plain-proper w (is_number w) (is_ident w) refl refl
-
-text-proper : (s : List ℕ) (b : Bool) → is_utf8 s ≡ b → IsProper (if b then kind.Str s else kind.Other)
-text-proper s true e = IsUtf8-from_is_utf8 s e
-text-proper s false e = tt
-
-string-proper : (s : Option (List ℕ)) → IsProper (string_token s)
-string-proper (Some s) = text-proper s (is_utf8 s) refl
-string-proper None = tt
-
--- the signs, by the tests
-signs-proper : (a b c d e f g h i : Bool) → IsProper (if a then kind.Compare op.Eq else (if b then kind.Compare op.Ne else (if c then kind.Compare op.Lt else (if d then kind.Compare op.Le else (if e then kind.Compare op.Gt else (if f then kind.Compare op.Ge else (if g then kind.Open else (if h then kind.Close else (if i then kind.Dot else (kind.Other))))))))))
-signs-proper true b c d e f g h i = tt
-signs-proper false true c d e f g h i = tt
-signs-proper false false true d e f g h i = tt
-signs-proper false false false true e f g h i = tt
-signs-proper false false false false true f g h i = tt
-signs-proper false false false false false true g h i = tt
-signs-proper false false false false false false true h i = tt
-signs-proper false false false false false false false true i = tt
-signs-proper false false false false false false false false true = tt
-signs-proper false false false false false false false false false = tt
-
-sign-proper : (t : List ℕ) → IsProper (sign_token t)
-unfolding sign_token
-sign-proper t = signs-proper (bytes_eq t (codes "=")) (bytes_eq t (codes "!=")) (bytes_eq t (codes "<")) (bytes_eq t (codes "<=")) (bytes_eq t (codes ">")) (bytes_eq t (codes ">=")) (bytes_eq t (codes "(")) (bytes_eq t (codes ")")) (bytes_eq t (codes "."))
-
--- the kinds, by the tests
-kinds-proper : (x y z : Bool) (w s g : Token) → IsProper w → IsProper s → IsProper g → IsProperIfAny (if x then None else (if y then Some w else (if z then Some s else Some g)))
-kinds-proper true y z w s g h i j = tt
-kinds-proper false true z w s g h i j = h
-kinds-proper false false true w s g h i j = i
-kinds-proper false false false w s g h i j = j
-
-token-proper : (t : List ℕ) → IsProperIfAny (token_of t)
-unfolding token_of
-token-proper t =
-    kinds-proper (is_blank (slice_index t 0)) (begins_word (slice_index t 0)) (slice_index t 0 == 34) (word_or_keyword (keyword_of t) t) (string_token (option_and_then as_str (reading t))) (sign_token t)
-    (word-proper (keyword_of t) t) (string-proper (option_and_then as_str (reading t))) (sign-proper t)
+use Rattle.fish_lang.proofs.Proper.{IsProper, IsProperIfAny, value-proper, number-proper, plain-proper, word-proper, text-proper, string-proper, signs-proper, sign-proper, kinds-proper, token-proper}
 
 -- places of a source of which none is refused
 abbrev AreGood : List Spot → Type 0
@@ -103,14 +38,16 @@ good-front : (xs ys : List Spot) → AreGood (xs ++ ys) → AreGood xs × AreGoo
 good-front [] ys f = (tt, f)
 good-front (x ∷ xs) ys f = let rest = good-front xs ys f.2 in ((f.0, f.1, rest.0), rest.1)
 
-listed-good : (at : ℕ) (t : Option Token) (ts : List Placed) → IsProperIfAny t → AreGood (unrefused ts) → AreGood (unrefused (listed at t ts))
+listed-good : (at : ℕ) (t : Option Token) (ts : List Placed) → IsProperIfAny t
+    → AreGood (unrefused ts) → AreGood (unrefused (listed at t ts))
 listed-good at None ts f g = g
 listed-good at (Some t) ts f g = (refl, f, g)
 
 tokens-good : (most at : ℕ) (b : List ℕ) → AreGood (unrefused (tokens_from most at b))
 tokens-good zero at b = tt
 tokens-good (suc most) at [] = tt
-tokens-good (suc most) at (c ∷ b) = listed-good at (token_of (c ∷ take (length_behind c b) b)) _ (token-proper (c ∷ take (length_behind c b) b)) (tokens-good most _ (drop (length_behind c b) b))
+tokens-good (suc most) at (c ∷ b) = listed-good at (token_of (c ∷ take (length_behind c b) b)) _
+    (token-proper (c ∷ take (length_behind c b) b)) (tokens-good most _ (drop (length_behind c b) b))
 
 source-good : (b : List ℕ) → AreGood (unrefused (tokens b))
 unfolding tokens
@@ -135,7 +72,8 @@ path-good (more_steps p s) h =
     let parts = good-front (path_spots p) (spot kind.Dot ∷ spot (step_token s) ∷ []) h in
     IsPath-push (path_steps p) (step_name s) (path-good p parts.0) (step-good s parts.1.2.1)
 
-literal-good : (l : Literal) → (literal_spot l).fault ≡ None → IsProper (literal_spot l).token → IsLiteral (literal_value l)
+literal-good : (l : Literal) → (literal_spot l).fault ≡ None → IsProper (literal_spot l).token
+    → IsLiteral (literal_value l)
 literal-good (truth true) f g = tt
 literal-good (truth false) f g = tt
 literal-good (number negative (Some n)) f g = g.0
@@ -154,11 +92,13 @@ test-good (start p s) h =
 mutual
   cond-good : (c : Cond) (n : ℕ) → AreGood (cond_spots n c) → IsCondition (cond_formula c)
   cond-good (one_conj c) n h = conj-good c n h
-  cond-good (more_conjs a c) n h = let parts = good-front (cond_spots n a) _ h in (cond-good a n parts.0, conj-good c n parts.1.2)
+  cond-good (more_conjs a c) n h = let parts = good-front (cond_spots n a) _ h in
+      (cond-good a n parts.0, conj-good c n parts.1.2)
 
   conj-good : (c : Conj) (n : ℕ) → AreGood (conj_spots n c) → IsCondition (conj_formula c)
   conj-good (one_neg a) n h = neg-good a n h
-  conj-good (more_negs c a) n h = let parts = good-front (conj_spots n c) _ h in (conj-good c n parts.0, neg-good a n parts.1.2)
+  conj-good (more_negs c a) n h = let parts = good-front (conj_spots n c) _ h in
+      (conj-good c n parts.0, neg-good a n parts.1.2)
 
   neg-good : (a : Neg) (n : ℕ) → AreGood (neg_spots n a) → IsCondition (neg_formula a)
   neg-good (not_neg a) n h = neg-good a (suc n) h.2
@@ -173,15 +113,19 @@ nests n false e h = cc
 mutual
   cond-deep : (c : Cond) (n : ℕ) → n ≤ 16 → AreGood (cond_spots n c) → n + cond_depth c ≤ 16
   cond-deep (one_conj c) n l h = conj-deep c n l h
-  cond-deep (more_conjs a c) n l h = let parts = good-front (cond_spots n a) _ h in omega (arith, cond-deep a n l parts.0, conj-deep c n l parts.1.2)
+  cond-deep (more_conjs a c) n l h = let parts = good-front (cond_spots n a) _ h in
+      omega (arith, cond-deep a n l parts.0, conj-deep c n l parts.1.2)
 
   conj-deep : (c : Conj) (n : ℕ) → n ≤ 16 → AreGood (conj_spots n c) → n + conj_depth c ≤ 16
   conj-deep (one_neg a) n l h = neg-deep a n l h
-  conj-deep (more_negs c a) n l h = let parts = good-front (conj_spots n c) _ h in omega (arith, conj-deep c n l parts.0, neg-deep a n l parts.1.2)
+  conj-deep (more_negs c a) n l h = let parts = good-front (conj_spots n c) _ h in
+      omega (arith, conj-deep c n l parts.0, neg-deep a n l parts.1.2)
 
   neg-deep : (a : Neg) (n : ℕ) → n ≤ 16 → AreGood (neg_spots n a) → n + neg_depth a ≤ 16
-  neg-deep (not_neg a) n l h = let below : n < 16 = nests n (nat_lt n 16) refl h.0 in omega (arith, neg-deep a (suc n) below h.2)
-  neg-deep (group c) n l h = let below : n < 16 = nests n (nat_lt n 16) refl h.0 in omega (arith, cond-deep c (suc n) below (good-front (cond_spots (suc n) c) _ h.2).0)
+  neg-deep (not_neg a) n l h = let below : n < 16 = nests n (nat_lt n 16) refl h.0 in
+      omega (arith, neg-deep a (suc n) below h.2)
+  neg-deep (group c) n l h = let below : n < 16 = nests n (nat_lt n 16) refl h.0 in
+      omega (arith, cond-deep c (suc n) below (good-front (cond_spots (suc n) c) _ h.2).0)
   neg-deep (test t) n l h = omega arith
 
 whole-deep : (c : Cond) → AreGood (cond_spots 0 c) → cond_depth (cond_of (cond_formula c)) ≤ 16
@@ -193,7 +137,8 @@ record Keeps (d : Definition) : Type 0 where
   shallow : IsShallow d
 
 keeps : (tree : Derivation) → AreGood (spots tree) → Keeps (meaning tree)
-keeps (take_def p None) h = record { writable = (path-good p (good-front (path_spots p) _ h.2).0, tt); shallow = omega arith }
+keeps (take_def p None) h =
+    record { writable = (path-good p (good-front (path_spots p) _ h.2).0, tt); shallow = omega arith }
 keeps (take_def p (Some c)) h =
     let parts = good-front (path_spots p) _ h.2 in
     record { writable = (path-good p parts.0, cond-good c 0 parts.1.2); shallow = whole-deep c parts.1.2 }
@@ -205,12 +150,16 @@ keeps (bucket_def p (Some n) None) h =
 keeps (bucket_def p (Some n) (Some c)) h =
     let parts = good-front (path_spots p) _ h.2 in
     let wide = parts.1.2 in
-    record { writable = (path-good p parts.0, wide.1.0, wide.1.1 refl, cond-good c 0 wide.2.2); shallow = (whole-deep c wide.2.2, wide.0) }
+    record {
+      writable = (path-good p parts.0, wide.1.0, wide.1.1 refl, cond-good c 0 wide.2.2);
+      shallow = (whole-deep c wide.2.2, wide.0);
+    }
 keeps (flag_def c) h = record { writable = cond-good c 0 h.2.2; shallow = whole-deep c h.2.2 }
 
 -- places of which none is refused are their tokens
 spot-by : (x : Spot) (t : Token) → x.token ≡ t → x.fault ≡ None → x ≡ spot t
-spot-by x t e f = ap (λ z. let s : Spot = record { token = z; fault = x.fault } in s) e ∙ ap (λ z. let s : Spot = record { token = t; fault = z } in s) f
+spot-by x t e f = ap (λ z. let s : Spot = record { token = z; fault = x.fault } in s) e
+    ∙ ap (λ z. let s : Spot = record { token = t; fault = z } in s) f
 
 fine-unrefused : (xs : List Spot) (ts : List Placed) → AreFine xs → spelled xs ≡ kinds ts → xs ≡ unrefused ts
 fine-unrefused [] [] f e = refl
@@ -234,7 +183,9 @@ read-again b d h =
     let kept : Keeps d = subst Q h.means (keeps h.tree (subst P (sym h.spells) (source-good b))) in
     record {
       tree = derivation_of d;
-      spells = fine-unrefused (spots (derivation_of d)) (tokens (definition_text d)) (derivation-fine d kept.shallow) (sym (definition-lexed d kept.writable) ∙ sym (kinds-lexed (definition_text d)));
+      spells = fine-unrefused (spots (derivation_of d)) (tokens (definition_text d))
+          (derivation-fine d kept.shallow) (sym (definition-lexed d kept.writable)
+          ∙ sym (kinds-lexed (definition_text d)));
       means = derivation-means d kept.writable;
     }
 

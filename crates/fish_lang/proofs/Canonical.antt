@@ -13,7 +13,8 @@ use Rattle.fish_lang.specs.declared.token.Keyword.TheVariants as word
 use Rattle.fish_lang.specs.declared.token.Token.{Token}
 use Rattle.fish_lang.specs.declared.token.Token.TheVariants as kind
 use Rattle.fish_lang.proofs.Depths.{step_of, further_steps, path_of, literal_of, cond_of, conj_of, neg_of, cond_depth, conj_depth, neg_depth}
-use Rattle.fish_lang.proofs.Spelling.{IsPath, IsCondition, IsWhen, IsWritable, when_of, derivation_of}
+use Rattle.fish_lang.proofs.Spelling.{IsWhen, IsWritable, when_of, derivation_of}
+use Rattle.fish_lang.proofs.Conditions.{IsPath, IsCondition}
 
 step_of-name : (b : Bool) (s : List ℕ) → step_name (step_of b s) ≡ s
 step_of-name true s = refl
@@ -21,11 +22,13 @@ step_of-name false s = refl
 
 further-steps : (p : Path) (more : Steps) → path_steps (further_steps p more) ≡ path_steps p ++ more
 further-steps p [] = sym (append-nil _)
-further-steps p (s ∷ more) = further-steps (more_steps p (step_of (is_ident s) s)) more ∙ rw (step_of-name (is_ident s) s, append_assoc)
+further-steps p (s ∷ more) = further-steps (more_steps p (step_of (is_ident s) s)) more
+    ∙ rw (step_of-name (is_ident s) s, append_assoc)
 
 path-means : (p : Steps) → IsPath p → path_steps (path_of p) ≡ p
 path-means [] h = absurd h
-path-means (s ∷ more) h = further-steps (one_step (step_of (is_ident s) s)) more ∙ rw (step_of-name (is_ident s) s)
+path-means (s ∷ more) h = further-steps (one_step (step_of (is_ident s) s)) more
+    ∙ rw (step_of-name (is_ident s) s)
 
 literal-means : (v : Value) → literal_value (literal_of v) ≡ v
 literal-means (value.Bool b) = refl
@@ -40,7 +43,8 @@ record Means (a : Formula) : Type 0 where
 
 means : (a : Formula) → IsCondition a → Means a
 means (compares p op v) h =
-    let e : compares (path_steps (path_of p)) op (literal_value (literal_of v)) ≡ compares p op v = rw (path-means p h.0, literal-means v) in
+    let e : compares (path_steps (path_of p)) op (literal_value (literal_of v)) ≡ compares p op v =
+    rw (path-means p h.0, literal-means v) in
     record { cond = e; conj = e; neg = e }
 means (is_there p) h =
     let e : is_there (path_steps (path_of p)) ≡ is_there p = rw (path-means p h) in
@@ -52,10 +56,12 @@ means (negated a) h =
     let e : negated (neg_formula (neg_of a)) ≡ negated a = rw ((means a h).neg) in
     record { cond = e; conj = e; neg = e }
 means (both a b) h =
-    let e : both (conj_formula (conj_of a)) (neg_formula (neg_of b)) ≡ both a b = rw ((means a h.0).conj, (means b h.1).neg) in
+    let e : both (conj_formula (conj_of a)) (neg_formula (neg_of b))
+    ≡ both a b = rw ((means a h.0).conj, (means b h.1).neg) in
     record { cond = e; conj = e; neg = e }
 means (either a b) h =
-    let e : either (cond_formula (cond_of a)) (conj_formula (conj_of b)) ≡ either a b = rw ((means a h.0).cond, (means b h.1).conj) in
+    let e : either (cond_formula (cond_of a)) (conj_formula (conj_of b))
+    ≡ either a b = rw ((means a h.0).cond, (means b h.1).conj) in
     record { cond = e; conj = e; neg = e }
 
 when-means : (w : Option Formula) → IsWhen w → option_map cond_formula (when_of w) ≡ w
@@ -111,24 +117,45 @@ mutual
   cond-fine (is_there p) n h = is_there-fine (path_of p)
   cond-fine (begins p s) n h = begins-fine (path_of p) s
   cond-fine (negated a) n h = (shallow n (omega arith), neg-fine a (suc n) (omega arith))
-  cond-fine (both a b) n h = fine-append (conj_spots n (conj_of a)) _ (conj-fine a n (omega arith)) (refl, neg-fine b n (omega arith))
-  cond-fine (either a b) n h = fine-append (cond_spots n (cond_of a)) _ (cond-fine a n (omega arith)) (refl, conj-fine b n (omega arith))
+  cond-fine (both a b) n h = fine-append (conj_spots n (conj_of a)) _ (conj-fine a n (omega arith))
+      (refl, neg-fine b n (omega arith))
+  cond-fine (either a b) n h = fine-append (cond_spots n (cond_of a)) _
+      (cond-fine a n (omega arith)) (refl, conj-fine b n (omega arith))
 
   conj-fine : (a : Formula) (n : ℕ) → n + conj_depth (conj_of a) ≤ 16 → AreFine (conj_spots n (conj_of a))
   conj-fine (compares p op v) n h = compares-fine (path_of p) op v
   conj-fine (is_there p) n h = is_there-fine (path_of p)
   conj-fine (begins p s) n h = begins-fine (path_of p) s
   conj-fine (negated a) n h = (shallow n (omega arith), neg-fine a (suc n) (omega arith))
-  conj-fine (both a b) n h = fine-append (conj_spots n (conj_of a)) _ (conj-fine a n (omega arith)) (refl, neg-fine b n (omega arith))
-  conj-fine (either a b) n h = (shallow n (omega arith), fine-append (cond_spots (suc n) (cond_of a) ++ keyword word.Or ∷ conj_spots (suc n) (conj_of b)) _ (fine-append (cond_spots (suc n) (cond_of a)) _ (cond-fine a (suc n) (omega arith)) (refl, conj-fine b (suc n) (omega arith))) (refl, tt))
+  conj-fine (both a b) n h = fine-append (conj_spots n (conj_of a)) _ (conj-fine a n (omega arith))
+      (refl, neg-fine b n (omega arith))
+  conj-fine (either a b) n h = (
+    shallow n (omega arith),
+    fine-append (cond_spots (suc n) (cond_of a)
+        ++ keyword word.Or ∷ conj_spots (suc n) (conj_of b)) _
+        (fine-append (cond_spots (suc n) (cond_of a)) _ (cond-fine a (suc n) (omega arith))
+        (refl, conj-fine b (suc n) (omega arith))) (refl, tt),
+  )
 
   neg-fine : (a : Formula) (n : ℕ) → n + neg_depth (neg_of a) ≤ 16 → AreFine (neg_spots n (neg_of a))
   neg-fine (compares p op v) n h = compares-fine (path_of p) op v
   neg-fine (is_there p) n h = is_there-fine (path_of p)
   neg-fine (begins p s) n h = begins-fine (path_of p) s
   neg-fine (negated a) n h = (shallow n (omega arith), neg-fine a (suc n) (omega arith))
-  neg-fine (both a b) n h = (shallow n (omega arith), fine-append (conj_spots (suc n) (conj_of a) ++ keyword word.And ∷ neg_spots (suc n) (neg_of b)) _ (fine-append (conj_spots (suc n) (conj_of a)) _ (conj-fine a (suc n) (omega arith)) (refl, neg-fine b (suc n) (omega arith))) (refl, tt))
-  neg-fine (either a b) n h = (shallow n (omega arith), fine-append (cond_spots (suc n) (cond_of a) ++ keyword word.Or ∷ conj_spots (suc n) (conj_of b)) _ (fine-append (cond_spots (suc n) (cond_of a)) _ (cond-fine a (suc n) (omega arith)) (refl, conj-fine b (suc n) (omega arith))) (refl, tt))
+  neg-fine (both a b) n h = (
+    shallow n (omega arith),
+    fine-append (conj_spots (suc n) (conj_of a)
+        ++ keyword word.And ∷ neg_spots (suc n) (neg_of b)) _
+        (fine-append (conj_spots (suc n) (conj_of a)) _ (conj-fine a (suc n) (omega arith))
+        (refl, neg-fine b (suc n) (omega arith))) (refl, tt),
+  )
+  neg-fine (either a b) n h = (
+    shallow n (omega arith),
+    fine-append (cond_spots (suc n) (cond_of a)
+        ++ keyword word.Or ∷ conj_spots (suc n) (conj_of b)) _
+        (fine-append (cond_spots (suc n) (cond_of a)) _ (cond-fine a (suc n) (omega arith))
+        (refl, conj-fine b (suc n) (omega arith))) (refl, tt),
+  )
 
 -- the nesting of a definition's condition
 abbrev pub when_depth : Option Formula → ℕ
@@ -145,6 +172,8 @@ when-fine None h = tt
 when-fine (Some a) h = (refl, cond-fine a 0 (omega arith))
 
 pub derivation-fine : (d : Definition) → IsShallow d → AreFine (spots (derivation_of d))
-derivation-fine (takes p w) h = (refl, fine-append (path_spots (path_of p)) _ (path-fine (path_of p)) (when-fine w h))
-derivation-fine (buckets p n w) h = (refl, fine-append (path_spots (path_of p)) _ (path-fine (path_of p)) (refl, (h.1, when-fine w h.0)))
+derivation-fine (takes p w) h =
+    (refl, fine-append (path_spots (path_of p)) _ (path-fine (path_of p)) (when-fine w h))
+derivation-fine (buckets p n w) h =
+    (refl, fine-append (path_spots (path_of p)) _ (path-fine (path_of p)) (refl, (h.1, when-fine w h.0)))
 derivation-fine (flags a) h = (refl, (refl, cond-fine a 0 (omega arith)))

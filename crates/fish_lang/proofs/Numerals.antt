@@ -37,11 +37,30 @@ low-byte c k h i = grind (arith, nat_tests)
 no_keyword : (c : ℕ) (w : List ℕ) → c < 97 → keyword_of (c ∷ w) ≡ None
 unfolding keyword_of
 no_keyword c w h =
-    rw (low-byte c 116 h (omega arith), low-byte c 98 h (omega arith), low-byte c 102 h (omega arith), low-byte c 119 h (omega arith), low-byte c 110 h (omega arith), low-byte c 97 h (omega arith), low-byte c 111 h (omega arith), low-byte c 101 h (omega arith), low-byte c 115 h (omega arith))
+    rw (
+      low-byte c 116 h (omega arith),
+      low-byte c 98 h (omega arith),
+      low-byte c 102 h
+          (omega arith),
+      low-byte c 119 h (omega arith),
+      low-byte c 110 h (omega arith),
+      low-byte c 97
+          h (omega arith),
+      low-byte c 111 h (omega arith),
+      low-byte c 101 h (omega arith),
+      low-byte c
+          115 h (omega arith),
+    )
 
 -- what a digit is not
-digit-other : (c : ℕ) → is_ascii_digit c ≡ true → (is_blank c ≡ false) × ((c == 45) ≡ false) × ((c == 43) ≡ false) × (c < 97)
-digit-other c h = (grind (arith, nat_tests), grind (arith, nat_tests), grind (arith, nat_tests), grind (arith, nat_tests))
+digit-other : (c : ℕ) → is_ascii_digit c ≡ true → (is_blank c ≡ false) × ((c == 45) ≡ false)
+    × ((c == 43) ≡ false) × (c < 97)
+digit-other c h = (
+  grind (arith, nat_tests),
+  grind (arith, nat_tests),
+  grind (arith, nat_tests),
+  grind (arith, nat_tests),
+)
 
 no_zero : (c : ℕ) → 48 < c → (c == 48) ≡ false
 no_zero c h = grind (arith, nat_tests)
@@ -90,30 +109,53 @@ fits_pos n h = grind (arith, nat_tests)
 pub fits_negsuc : (n : ℕ) → fits_i64 (negsuc n) ≡ true → n < 2 ^ 63
 fits_negsuc n h = grind (arith, nat_tests)
 
-positive-token : (c : ℕ) (ds : List ℕ) (n : ℕ) → IsDecimal n (c ∷ ds) → fits_i64 (pos n) ≡ true → token_of (c ∷ ds) ≡ Some (kind.Number false (Some (pos n)))
+positive-token : (c : ℕ) (ds : List ℕ) (n : ℕ) → IsDecimal n (c ∷ ds) → fits_i64 (pos n) ≡ true
+    → token_of (c ∷ ds) ≡ Some (kind.Number false (Some (pos n)))
 unfolding token_of plain_word int_of
 positive-token c ds n d fits =
     let is = digit c d.all.0 in
     let other = digit-other c is in
-    rw (other.0, digit-word c is, no_keyword c ds other.3, number-of-digits c ds n d, other.1, other.2, d.value, fits)
+    rw (
+      other.0,
+      digit-word c is,
+      no_keyword c ds other.3,
+      number-of-digits c ds n d,
+      other.1,
+      other.2,
+      d.value,
+      fits,
+    )
 
-negative-token : (c : ℕ) (ds : List ℕ) (n : ℕ) → IsDecimal (suc n) (c ∷ ds) → fits_i64 (negsuc n) ≡ true → token_of (45 ∷ c ∷ ds) ≡ Some (kind.Number true (Some (negsuc n)))
+negative-token : (c : ℕ) (ds : List ℕ) (n : ℕ) → IsDecimal (suc n) (c ∷ ds) → fits_i64 (negsuc n)
+    ≡ true → token_of (45 ∷ c ∷ ds) ≡ Some (kind.Number true (Some (negsuc n)))
 unfolding token_of plain_word int_of
 negative-token c ds n d fits =
-    rw (no_keyword 45 (c ∷ ds) (omega arith), positive c ds (d.first (omega arith)) d.all, or-true ((length (45 ∷ c ∷ ds) == 1) && false), d.value, fits)
+    rw (
+      no_keyword 45 (c ∷ ds) (omega arith),
+      positive c ds (d.first (omega arith)) d.all,
+      or-true
+          ((length (45 ∷ c ∷ ds) == 1) && false),
+      d.value,
+      fits,
+    )
 
-positive-lexed : (ds rest : List ℕ) (n : ℕ) → IsDecimal n ds → 0 < length ds → fits_i64 (pos n) ≡ true → EndsWord rest → lexed (ds ++ rest) ≡ kind.Number false (Some (pos n)) ∷ lexed rest
+positive-lexed : (ds rest : List ℕ) (n : ℕ) → IsDecimal n ds → 0 < length ds → fits_i64 (pos n)
+    ≡ true → EndsWord rest → lexed (ds ++ rest) ≡ kind.Number false (Some (pos n)) ∷ lexed rest
 positive-lexed [] rest n d some fits e = absurd (omega arith)
 positive-lexed (c ∷ ds) rest n d some fits e =
-    lexed-word c ds rest _ (rw (digit-word c (digit c d.all.0))) (digits-words ds d.all.1) e (positive-token c ds n d fits)
+    lexed-word c ds rest _ (rw (digit-word c (digit c d.all.0))) (digits-words ds d.all.1) e
+    (positive-token c ds n d fits)
 
-negative-lexed : (ds rest : List ℕ) (n : ℕ) → IsDecimal (suc n) ds → 0 < length ds → fits_i64 (negsuc n) ≡ true → EndsWord rest → lexed (45 ∷ (ds ++ rest)) ≡ kind.Number true (Some (negsuc n)) ∷ lexed rest
+negative-lexed : (ds rest : List ℕ) (n : ℕ) → IsDecimal (suc n) ds → 0 < length ds
+    → fits_i64 (negsuc n) ≡ true → EndsWord rest → lexed (45 ∷ (ds ++ rest))
+    ≡ kind.Number true (Some (negsuc n)) ∷ lexed rest
 negative-lexed [] rest n d some fits e = absurd (omega arith)
 negative-lexed (c ∷ ds) rest n d some fits e =
     lexed-word 45 (c ∷ ds) rest _ refl (digits-words (c ∷ ds) d.all) e (negative-token c ds n d fits)
 
 -- a whole number of 64 bits
-pub lexed-int : (n : ℤ) (rest : List ℕ) → fits_i64 n ≡ true → EndsWord rest → lexed (signed_decimal n ++ rest) ≡ kind.Number (is_negative n) (Some n) ∷ lexed rest
+pub lexed-int : (n : ℤ) (rest : List ℕ) → fits_i64 n ≡ true → EndsWord rest
+    → lexed (signed_decimal n ++ rest) ≡ kind.Number (is_negative n) (Some n) ∷ lexed rest
 lexed-int (pos n) rest fits e =
     let small : n < 2 ^ 64 = omega (arith, fits_pos n fits) in
     positive-lexed (decimal n) rest n (decimal-is n small) (nonempty n small) fits e

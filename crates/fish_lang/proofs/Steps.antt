@@ -52,7 +52,9 @@ stands (Str s) v h = record { lit = text s; spot = refl; value = cc }
 stands _ v h = cc
 
 -- one step more of a path that has begun
-from_dot : (o : Owner) (p : Path) (t : Token) (s : State) (n : Option (List ℕ)) → name_of t ≡ n → option_map (λ x. machine.behind_step (owner_state o) (path_steps p ++ x ∷ [])) n ≡ Some s → Longer (behind_dot o p) t s
+from_dot : (o : Owner) (p : Path) (t : Token) (s : State) (n : Option (List ℕ)) → name_of t ≡ n
+    → option_map (λ x. machine.behind_step (owner_state o) (path_steps p ++ x ∷ [])) n ≡ Some s
+    → Longer (behind_dot o p) t s
 from_dot o p t s None e h = cc
 from_dot o p t s (Some x) e h =
     let named = names t x e in
@@ -63,52 +65,100 @@ from_dot o p t s (Some x) e h =
     }
 
 -- the first step of a path
-from_take : (t : Token) (s : State) (n : Option (List ℕ)) → name_of t ≡ n → option_map (λ x. machine.behind_step machine.of_take (x ∷ [])) n ≡ Some s → Longer first_of_take t s
+from_take : (t : Token) (s : State) (n : Option (List ℕ)) → name_of t ≡ n
+    → option_map (λ x. machine.behind_step machine.of_take (x ∷ [])) n ≡ Some s → Longer first_of_take t s
 from_take t s None e h = cc
 from_take t s (Some x) e h =
     let named = names t x e in
-    record { next = behind_step of_take (one_step named.step); stands = rw named.name cc; spells = rw named.token }
+    record {
+      next = behind_step of_take (one_step named.step);
+      stands = rw named.name cc;
+      spells =
+          rw named.token;
+    }
 
-from_bucket : (t : Token) (s : State) (n : Option (List ℕ)) → name_of t ≡ n → option_map (λ x. machine.behind_step machine.of_bucket (x ∷ [])) n ≡ Some s → Longer first_of_bucket t s
+from_bucket : (t : Token) (s : State) (n : Option (List ℕ)) → name_of t ≡ n
+    → option_map (λ x. machine.behind_step machine.of_bucket (x ∷ [])) n ≡ Some s → Longer first_of_bucket t s
 from_bucket t s None e h = cc
 from_bucket t s (Some x) e h =
     let named = names t x e in
-    record { next = behind_step of_bucket (one_step named.step); stands = rw named.name cc; spells = rw named.token }
+    record {
+      next = behind_step of_bucket (one_step named.step);
+      stands = rw named.name cc;
+      spells =
+          rw named.token;
+    }
 
 -- behind a step
-from_path : (o : Owner) (p : Path) (t : Token) (s : State) → moves.from_path (owner_state o) (path_steps p) t ≡ Some s → Longer (behind_step o p) t s
+from_path : (o : Owner) (p : Path) (t : Token) (s : State)
+    → moves.from_path (owner_state o) (path_steps p) t ≡ Some s → Longer (behind_step o p) t s
 from_path o p Dot s h = record { next = behind_dot o p; stands = cc; spells = simp append_assoc }
-from_path of_take p (Keyword When) s h = record { next = operand (take_when p) (in_joint (in_whole top)); stands = cc; spells = refl }
+from_path of_take p (Keyword When) s h =
+    record { next = operand (take_when p) (in_joint (in_whole top)); stands = cc; spells = refl }
 from_path of_take p _ s h = cc
 from_path of_bucket p (Keyword By) s h = record { next = width p; stands = cc; spells = refl }
 from_path of_bucket p _ s h = cc
-from_path (of_test k j) p (Compare op) s h = record { next = literal k j p op; stands = cc; spells = simp append_assoc }
+from_path (of_test k j) p (Compare op) s h = record {
+  next = literal k j p op;
+  stands = cc;
+  spells =
+      simp append_assoc;
+}
 from_path (of_test k j) p (Keyword Exists) s h = record {
   next = completed k j (test (exist p));
   stands = cc (completed-state k j (test (exist p)));
   spells = completed-before k j (test (exist p)) ∙ simp append_assoc;
 }
-from_path (of_test k j) p (Keyword Starts) s h = record { next = prefix k j p; stands = cc; spells = simp append_assoc }
+from_path (of_test k j) p (Keyword Starts) s h = record {
+  next = prefix k j p;
+  stands = cc;
+  spells =
+      simp append_assoc;
+}
 from_path (of_test k j) p _ s h = cc
 
-from_width : (p : Path) (t : Token) (s : State) → moves.from_width (path_steps p) t ≡ Some s → Longer (width p) t s
-from_width p (Number false n) s h = record { next = behind_width p n; stands = cc; spells = simp append_assoc }
+from_width : (p : Path) (t : Token) (s : State) → moves.from_width (path_steps p) t ≡ Some s
+    → Longer (width p) t s
+from_width p (Number false n) s h = record {
+  next = behind_width p n;
+  stands = cc;
+  spells =
+      simp append_assoc;
+}
 from_width p _ s h = cc
 
-behind_number : (p : Path) (n : Option ℤ) (t : Token) (s : State) → moves.from_head (head_state (bucket_when p n)) t ≡ Some s → Longer (behind_width p n) t s
-behind_number p n (Keyword When) s h = record { next = operand (bucket_when p n) (in_joint (in_whole top)); stands = cc; spells = simp append_assoc }
+behind_number : (p : Path) (n : Option ℤ) (t : Token) (s : State)
+    → moves.from_head (head_state (bucket_when p n)) t ≡ Some s → Longer (behind_width p n) t s
+behind_number p n (Keyword When) s h =
+    record {
+      next = operand (bucket_when p n) (in_joint (in_whole top));
+      stands = cc;
+      spells =
+          simp append_assoc;
+    }
 behind_number p n _ s h = cc
 
 -- an operand
-from_operand : (k : Head) (j : Operand) (t : Token) (s : State) → moves.from_operand (head_state k) (operand_state j) t ≡ Some s → Longer (operand k j) t s
+from_operand : (k : Head) (j : Operand) (t : Token) (s : State)
+    → moves.from_operand (head_state k) (operand_state j) t ≡ Some s → Longer (operand k j) t s
 from_operand k j (Keyword Not) s h = record { next = operand k (under_not j); stands = cc; spells = refl }
-from_operand k j Open s h = record { next = operand k (in_joint (in_whole (in_group j))); stands = cc; spells = refl }
-from_operand k j (Ident x) s h = record { next = behind_step (of_test k j) (one_step (ident x)); stands = cc; spells = refl }
-from_operand k j (Str x) s h = record { next = behind_step (of_test k j) (one_step (string x)); stands = cc; spells = refl }
+from_operand k j Open s h = record {
+  next = operand k (in_joint (in_whole (in_group j)));
+  stands =
+      cc;
+  spells = refl;
+}
+from_operand k j (Ident x) s h =
+    record { next = behind_step (of_test k j) (one_step (ident x)); stands = cc; spells = refl }
+from_operand k j (Str x) s h =
+    record { next = behind_step (of_test k j) (one_step (string x)); stands = cc; spells = refl }
 from_operand k j _ s h = cc
 
 -- a literal
-from_literal : (k : Head) (j : Operand) (p : Path) (op : Op) (t : Token) (s : State) (v : Option Value) → value_of t ≡ v → option_map (λ x. complete (head_state k) (operand_state j) (compares (path_steps p) op x)) v ≡ Some s → Longer (literal k j p op) t s
+from_literal : (k : Head) (j : Operand) (p : Path) (op : Op) (t : Token) (s : State)
+    (v : Option Value) → value_of t ≡ v
+    → option_map (λ x. complete (head_state k) (operand_state j) (compares (path_steps p) op x)) v
+    ≡ Some s → Longer (literal k j p op) t s
 from_literal k j p op t s None e h = cc
 from_literal k j p op t s (Some v) e h =
     let is = stands t v e in
@@ -119,7 +169,9 @@ from_literal k j p op t s (Some v) e h =
       spells = completed-before k j a ∙ rw is.spot (simp append_assoc);
     }
 
-from_prefix : (k : Head) (j : Operand) (p : Path) (t : Token) (s : State) → option_map (λ x. complete (head_state k) (operand_state j) (begins (path_steps p) x)) (text_of t) ≡ Some s → Longer (prefix k j p) t s
+from_prefix : (k : Head) (j : Operand) (p : Path) (t : Token) (s : State)
+    → option_map (λ x. complete (head_state k) (operand_state j) (begins (path_steps p) x))
+    (text_of t) ≡ Some s → Longer (prefix k j p) t s
 from_prefix k j p (Str x) s h = record {
   next = completed k j (test (start p x));
   stands = cc (completed-state k j (test (start p x)));
@@ -128,10 +180,24 @@ from_prefix k j p (Str x) s h = record {
 from_prefix k j p _ s h = cc
 
 -- behind an operand
-from_joint : (k : Head) (j : Joint) (c : Conj) (t : Token) (s : State) → moves.from_joint (head_state k) (joint_state j) (conj_formula c) t ≡ Some s → Longer (behind_operand k j c) t s
-from_joint k j c (Keyword And) s h = record { next = operand k (behind_and c j); stands = cc; spells = simp append_assoc }
-from_joint k (in_whole w) c (Keyword Or) s h = record { next = operand k (in_joint (behind_or (one_conj c) w)); stands = cc; spells = simp append_assoc }
-from_joint k (behind_or a w) c (Keyword Or) s h = record { next = operand k (in_joint (behind_or (more_conjs a c) w)); stands = cc; spells = simp append_assoc }
+from_joint : (k : Head) (j : Joint) (c : Conj) (t : Token) (s : State)
+    → moves.from_joint (head_state k) (joint_state j) (conj_formula c) t ≡ Some s
+    → Longer (behind_operand k j c) t s
+from_joint k j c (Keyword And) s h = record {
+  next = operand k (behind_and c j);
+  stands =
+      cc;
+  spells = simp append_assoc;
+}
+from_joint k (in_whole w) c (Keyword Or) s h =
+    record { next = operand k (in_joint (behind_or (one_conj c) w)); stands = cc; spells = simp append_assoc }
+from_joint k (behind_or a w) c (Keyword Or) s h =
+    record {
+      next = operand k (in_joint (behind_or (more_conjs a c) w));
+      stands = cc;
+      spells =
+          simp append_assoc;
+    }
 from_joint k (in_whole (in_group j)) c Close s h = record {
   next = completed k j (group (one_conj c));
   stands = cc (completed-state k j (group (one_conj c)));
@@ -150,7 +216,8 @@ longer start_tree (Keyword Take) s h = record { next = first_of_take; stands = c
 longer start_tree (Keyword Bucket) s h = record { next = first_of_bucket; stands = cc; spells = refl }
 longer start_tree (Keyword Flag) s h = record { next = flag_tree; stands = cc; spells = refl }
 longer start_tree _ s h = cc
-longer flag_tree (Keyword When) s h = record { next = operand flag_when (in_joint (in_whole top)); stands = cc; spells = refl }
+longer flag_tree (Keyword When) s h =
+    record { next = operand flag_when (in_joint (in_whole top)); stands = cc; spells = refl }
 longer flag_tree _ s h = cc
 longer first_of_take t s h = from_take t s (name_of t) refl h
 longer first_of_bucket t s h = from_bucket t s (name_of t) refl h

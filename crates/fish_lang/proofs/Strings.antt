@@ -45,25 +45,35 @@ letter-skips : (l : ℕ) (r : List ℕ) → string_length false (92 ∷ l ∷ r)
 letter-skips l r = rw (and-false (l == 34), and-false (l == 92))
 
 -- and so is a byte that is neither a mark nor a backslash
-byte-skips : (x : ℕ) (r : List ℕ) → (x == 34) ≡ false → (x == 92) ≡ false → string_length false (x ∷ r) ≡ suc (string_length false r)
+byte-skips : (x : ℕ) (r : List ℕ) → (x == 34) ≡ false → (x == 92) ≡ false
+    → string_length false (x ∷ r) ≡ suc (string_length false r)
 byte-skips x r mark slash = rw (mark, slash)
 
 digit_char-other : (d : ℕ) → d < 16 → ((digit_char d == 34) ≡ false) × ((digit_char d == 92) ≡ false)
 digit_char-other d h = (grind (arith, nat_tests), grind (arith, nat_tests))
 
-hex-skips : (a b : ℕ) (r : List ℕ) → a < 16 → b < 16 → string_length false (92 ∷ 117 ∷ 48 ∷ 48 ∷ digit_char a ∷ digit_char b ∷ r) ≡ suc (suc (suc (suc (suc (suc (string_length false r))))))
+hex-skips : (a b : ℕ) (r : List ℕ) → a < 16 → b < 16
+    → string_length false (92 ∷ 117 ∷ 48 ∷ 48 ∷ digit_char a ∷ digit_char b ∷ r)
+    ≡ suc (suc (suc (suc (suc (suc (string_length false r))))))
 hex-skips a b r h k =
     let x = digit_char-other a h in
     let y = digit_char-other b k in
-    ap (λ n. suc (suc (suc (suc n)))) (byte-skips (digit_char a) (digit_char b ∷ r) x.0 x.1 ∙ ap suc (byte-skips (digit_char b) r y.0 y.1))
+    ap (λ n. suc (suc (suc (suc n)))) (byte-skips (digit_char a) (digit_char b ∷ r) x.0 x.1
+    ∙ ap suc (byte-skips (digit_char b) r y.0 y.1))
 
 -- a byte without a short escape
 no_letter : (x : ℕ) → nat_lt 0 (escape_letter x) ≡ false → ((x == 34) ≡ false) × ((x == 92) ≡ false)
 no_letter x h = (grind (arith, nat_tests), grind (arith, nat_tests))
 
 -- what `escape_byte` writes, by its two tests
-written-skips : (x : ℕ) (r : List ℕ) (short low : Bool) → nat_lt 0 (escape_letter x) ≡ short → nat_lt x 32 ≡ low
-    → string_length false (cond short (92 ∷ escape_letter x ∷ []) (cond low (92 ∷ 117 ∷ 48 ∷ 48 ∷ digit_char (x / 16) ∷ digit_char (x % 16) ∷ []) (x ∷ [])) ++ r) ≡ length (cond short (92 ∷ escape_letter x ∷ []) (cond low (92 ∷ 117 ∷ 48 ∷ 48 ∷ digit_char (x / 16) ∷ digit_char (x % 16) ∷ []) (x ∷ []))) + string_length false r
+written-skips : (x : ℕ) (r : List ℕ) (short low : Bool) → nat_lt 0 (escape_letter x) ≡ short
+    → nat_lt x 32 ≡ low
+    → string_length false
+    (cond short (92 ∷ escape_letter x ∷ [])
+    (cond low (92 ∷ 117 ∷ 48 ∷ 48 ∷ digit_char (x / 16) ∷ digit_char (x % 16) ∷ []) (x ∷ []))
+    ++ r) ≡ length (cond short (92 ∷ escape_letter x ∷ [])
+    (cond low (92 ∷ 117 ∷ 48 ∷ 48 ∷ digit_char (x / 16) ∷ digit_char (x % 16) ∷ []) (x ∷ []))) +
+    string_length false r
 written-skips x r true low e f = letter-skips (escape_letter x) r ∙ omega arith
 written-skips x r false true e f =
     let small : x < 32 = grind (arith, nat_tests) in
@@ -72,7 +82,8 @@ written-skips x r false false e f =
     let other = no_letter x e in
     byte-skips x r other.0 other.1 ∙ omega arith
 
-escape_byte-skips : (x : ℕ) (r : List ℕ) → string_length false (escape_byte x ++ r) ≡ length (escape_byte x) + string_length false r
+escape_byte-skips : (x : ℕ) (r : List ℕ) → string_length false (escape_byte x ++ r)
+    ≡ length (escape_byte x) + string_length false r
 unfolding escape_byte
 escape_byte-skips x r = written-skips x r (nat_lt 0 (escape_letter x)) (nat_lt x 32) refl refl
 
@@ -80,4 +91,5 @@ escape_byte-skips x r = written-skips x r (nat_lt 0 (escape_letter x)) (nat_lt x
 pub string_length-escape : (s r : List ℕ) → string_length false (escape s ++ 34 ∷ r) ≡ suc (length (escape s))
 string_length-escape [] r = refl
 string_length-escape (x ∷ s) r =
-    rw append_assoc (escape_byte-skips x (escape s ++ 34 ∷ r) ∙ omega (arith, string_length-escape s r, length-append (escape_byte x) (escape s)))
+    rw append_assoc (escape_byte-skips x (escape s ++ 34 ∷ r)
+    ∙ omega (arith, string_length-escape s r, length-append (escape_byte x) (escape s)))

@@ -30,7 +30,8 @@ pub lexed-none : lexed [] ≡ []
 unfolding lexed
 lexed-none = refl
 
-kinds-listed : (at low : ℕ) (t : Option Token) (ts us : List Placed) → kinds ts ≡ kinds us → kinds (listed at t ts) ≡ kinds (listed low t us)
+kinds-listed : (at low : ℕ) (t : Option Token) (ts us : List Placed) → kinds ts ≡ kinds us
+    → kinds (listed at t ts) ≡ kinds (listed low t us)
 kinds-listed at low None ts us e = e
 kinds-listed at low (Some t) ts us e = ap (λ ks. t ∷ ks) e
 
@@ -38,24 +39,31 @@ kinds-listed at low (Some t) ts us e = ap (λ ks. t ∷ ks) e
 kinds-place : (most at low : ℕ) (b : List ℕ) → kinds (tokens_from most at b) ≡ kinds (tokens_from most low b)
 kinds-place zero at low b = refl
 kinds-place (suc most) at low [] = refl
-kinds-place (suc most) at low (c ∷ b) = kinds-listed at low (token_of (c ∷ take (length_behind c b) b)) _ _ (kinds-place most _ _ (drop (length_behind c b) b))
+kinds-place (suc most) at low (c ∷ b) =
+    kinds-listed at low (token_of (c ∷ take (length_behind c b) b)) _ _
+    (kinds-place most _ _ (drop (length_behind c b) b))
 
 -- one token at the front, or none where it is a blank
 abbrev behind_token : Option Token → List Token → List Token
 behind_token None ts = ts
 behind_token (Some t) ts = t ∷ ts
 
-kinds-front : (at : ℕ) (t : Option Token) (ts : List Placed) → kinds (listed at t [] ++ ts) ≡ behind_token t (kinds ts)
+kinds-front : (at : ℕ) (t : Option Token) (ts : List Placed) → kinds (listed at t [] ++ ts)
+    ≡ behind_token t (kinds ts)
 kinds-front at None ts = refl
 kinds-front at (Some t) ts = refl
 
-lexed-turn : (c : ℕ) (b : List ℕ) (n : ℕ) → n ≡ length_behind c b → lexed (c ∷ b) ≡ behind_token (token_of (c ∷ take n b)) (lexed (drop n b))
+lexed-turn : (c : ℕ) (b : List ℕ) (n : ℕ) → n ≡ length_behind c b → lexed (c ∷ b)
+    ≡ behind_token (token_of (c ∷ take n b)) (lexed (drop n b))
 unfolding lexed
 lexed-turn c b n e =
-    ap kinds (tokens_from-turn 0 c b n e) ∙ kinds-front 0 (token_of (c ∷ take n b)) _ ∙ ap (behind_token (token_of (c ∷ take n b))) (kinds-place (length (drop n b)) (0 + suc n) 0 (drop n b))
+    ap kinds (tokens_from-turn 0 c b n e) ∙ kinds-front 0 (token_of (c ∷ take n b)) _
+    ∙ ap (behind_token (token_of (c ∷ take n b)))
+    (kinds-place (length (drop n b)) (0 + suc n) 0 (drop n b))
 
 -- a token in front of a rest that it doesn't reach into
-pub lexed-token : (c : ℕ) (w rest : List ℕ) (t : Token) → length_behind c (w ++ rest) ≡ length w → token_of (c ∷ w) ≡ Some t → lexed (c ∷ (w ++ rest)) ≡ t ∷ lexed rest
+pub lexed-token : (c : ℕ) (w rest : List ℕ) (t : Token) → length_behind c (w ++ rest) ≡ length w
+    → token_of (c ∷ w) ≡ Some t → lexed (c ∷ (w ++ rest)) ≡ t ∷ lexed rest
 lexed-token c w rest t size is =
     lexed-turn c (w ++ rest) (length w) (sym size) ∙ rw (take-append_seam w rest, drop-append_seam w rest, is)
 
@@ -82,7 +90,8 @@ abbrev pub EndsWord : List ℕ → Type 0
 EndsWord [] = Unit {0}
 EndsWord (c ∷ b) = is_word_byte c ≡ false
 
-run_length-word : (w rest : List ℕ) → list_all is_word_byte w ≡ true → EndsWord rest → run_length (w ++ rest) ≡ length w
+run_length-word : (w rest : List ℕ) → list_all is_word_byte w ≡ true → EndsWord rest
+    → run_length (w ++ rest) ≡ length w
 run_length-word [] [] h e = refl
 run_length-word [] (c ∷ b) h e = rw e
 run_length-word (c ∷ w) rest h e =
@@ -90,6 +99,9 @@ run_length-word (c ∷ w) rest h e =
     rw parts.0 (ap suc (run_length-word w rest parts.1 e))
 
 -- a word
-pub lexed-word : (c : ℕ) (w rest : List ℕ) (t : Token) → begins_word c ≡ true → list_all is_word_byte w ≡ true → EndsWord rest → token_of (c ∷ w) ≡ Some t → lexed (c ∷ (w ++ rest)) ≡ t ∷ lexed rest
+pub lexed-word : (c : ℕ) (w rest : List ℕ) (t : Token) → begins_word c ≡ true
+    → list_all is_word_byte w ≡ true → EndsWord rest → token_of (c ∷ w) ≡ Some t
+    → lexed (c ∷ (w ++ rest)) ≡ t ∷ lexed rest
 unfolding length_behind
-lexed-word c w rest t begins all ends is = lexed-token c w rest t (rw begins (run_length-word w rest all ends)) is
+lexed-word c w rest t begins all ends is =
+    lexed-token c w rest t (rw begins (run_length-word w rest all ends)) is

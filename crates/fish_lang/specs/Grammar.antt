@@ -64,8 +64,10 @@ abbrev mutual
   conj_spots n (more_negs c a) = conj_spots n c ++ keyword word.And ∷ neg_spots n a
 
   pub neg_spots : ℕ → Neg → List Spot
-  neg_spots n (not_neg a) = record { token = kind.Keyword word.Not; fault = nesting_fault n } ∷ neg_spots (suc n) a
-  neg_spots n (group c) = record { token = kind.Open; fault = nesting_fault n } ∷ (cond_spots (suc n) c ++ spot kind.Close ∷ [])
+  neg_spots n (not_neg a) = record { token = kind.Keyword word.Not; fault = nesting_fault n } ∷
+      neg_spots (suc n) a
+  neg_spots n (group c) = record { token = kind.Open; fault = nesting_fault n } ∷
+      (cond_spots (suc n) c ++ spot kind.Close ∷ [])
   neg_spots n (test t) = test_spots t
 
 abbrev pub when_spots : Option Cond → List Spot
@@ -74,7 +76,8 @@ when_spots (Some c) = keyword word.When ∷ cond_spots 0 c
 
 abbrev pub spots : Derivation → List Spot
 spots (take_def p w) = keyword word.Take ∷ (path_spots p ++ when_spots w)
-spots (bucket_def p n w) = keyword word.Bucket ∷ (path_spots p ++ keyword word.By ∷ record { token = kind.Number false n; fault = width_fault n } ∷ when_spots w)
+spots (bucket_def p n w) = keyword word.Bucket ∷ (path_spots p
+    ++ keyword word.By ∷ record { token = kind.Number false n; fault = width_fault n } ∷ when_spots w)
 spots (flag_def c) = keyword word.Flag ∷ keyword word.When ∷ cond_spots 0 c
 
 -- the tokens alone

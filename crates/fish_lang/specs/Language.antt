@@ -88,14 +88,16 @@ IsAnswer b (Err e) = IsVerdict (tokens b) (length b) (Err e)
 
 -- what a source is: too long, or what its tokens are
 abbrev pub IsOutcome : List ℕ → Result Definition LangRefusal → Type 0
-IsOutcome b r = ((MAX_SOURCE < length b) × (r ≡ Err (refusal.TooLong (length b)))) ⊎ ((length b ≤ MAX_SOURCE) × IsAnswer b r)
+IsOutcome b r = ((MAX_SOURCE < length b) × (r ≡ Err (refusal.TooLong (length b)))) ⊎
+    ((length b ≤ MAX_SOURCE) × IsAnswer b r)
 
 -- the source is this definition
 abbrev pub IsAccepted : List ℕ → Definition → Type 0
 IsAccepted b d = IsOutcome b (Ok d)
 
 -- an answer, seen by `view`, is one that is due, unless memory ran out
-abbrev pub UnlessMemory : {X Y : Type 0} → (X → Y) → Result X LangRefusal → (Result Y LangRefusal → Type 0) → Type 0
+abbrev pub UnlessMemory : {X Y : Type 0} → (X → Y) → Result X LangRefusal →
+    (Result Y LangRefusal → Type 0) → Type 0
 UnlessMemory view (Ok x) IsDue = IsDue (Ok (view x))
 UnlessMemory view (Err refusal.OutOfMemory) IsDue = Unit {0}
 UnlessMemory view (Err e) IsDue = IsDue (Err e)
