@@ -1,33 +1,23 @@
 -- What a source means can be written, nests no deeper than 16, and so is read from its canonical text.
 use Rattle.std.proofs.Common.{◌≡◌, ℕ, ◌+◌, ◌<◌, ◌≤◌, zero, suc, List, [], ◌∷◌, ◌++◌, refl, sym, ◌∙◌, ap, subst, arith, length, take, drop, inl, inr}
-use Rattle.std.specs.Prelude.{ℤ, pos, negsuc, Bool, true, false, ◌&&◌, ◌==◌, slice_index, codes, nat_lt, if◌then◌else◌, Option, Some, None, option_and_then, option_map, unwrap_or, Ok, IsUtf8}
-use Rattle.std.specs.Str.{is_utf8, bytes_eq}
-use Rattle.std.specs.Str.Parse.{starts_with_minus, signed_digits_value}
+use Rattle.std.specs.Prelude.{Bool, true, false, nat_lt, if◌then◌else◌, Option, Some, None, IsUtf8}
 use Rattle.std.proofs.lemmas.Bool.Decides.{nat_tests}
-use Rattle.std.proofs.lemmas.Str.{IsUtf8-from_is_utf8}
-use Rattle.serde_json.specs.Find.{as_str}
-use Rattle.fish_value.specs.Json.{reading}
-use Rattle.fish_value.specs.Number.{is_number, int_of, fits_i64}
-use Rattle.fish_value.specs.declared.value.Value.{Value}
 use Rattle.fish_lang.specs.Canonical.{definition_text}
-use Rattle.fish_lang.specs.Definition.{Steps, Formula, Definition}
-use Rattle.fish_lang.specs.Grammar.{Spot, spot, spelled, spots, step_token, path_spots, literal_spot, test_spots, cond_spots, conj_spots, neg_spots, nesting_fault, when_spots}
+use Rattle.fish_lang.specs.Definition.{Steps, Definition}
+use Rattle.fish_lang.specs.Grammar.{Spot, spot, spelled, spots, step_token, path_spots, literal_spot, test_spots, cond_spots, conj_spots, neg_spots}
 use Rattle.fish_lang.specs.Derivation.{Step, ident, string, Path, one_step, more_steps, Literal, truth, number, text, Test, compare, exist, start, Cond, one_conj, more_conjs, Conj, one_neg, more_negs, Neg, not_neg, group, test, Derivation, take_def, bucket_def, flag_def, step_name, path_steps, literal_value, test_formula, cond_formula, conj_formula, neg_formula, meaning}
 use Rattle.fish_lang.specs.Language.{kinds, unrefused, IsRead, IsAccepted}
-use Rattle.fish_lang.specs.Token.{tokens, tokens_from, token_of, listed, length_behind, keyword_of, word_or_keyword, plain_word, string_token, sign_token, is_ident, is_blank, begins_word}
-use Rattle.fish_lang.specs.declared.definition.Op.TheVariants as op
+use Rattle.fish_lang.specs.Token.{tokens, tokens_from, token_of, listed, length_behind}
 use Rattle.fish_lang.specs.declared.fault.Fault.TheVariants.{TooDeep}
-use Rattle.fish_lang.specs.declared.token.Keyword.{Keyword}
 use Rattle.fish_lang.specs.declared.token.Token.{Token}
 use Rattle.fish_lang.specs.declared.token.Token.TheVariants as kind
 use Rattle.fish_lang.specs.declared.token.Placed.{Placed}
-use Rattle.fish_lang.proofs.Canonical.{AreFine, derivation-fine, derivation-means, IsShallow, when_depth}
-use Rattle.fish_lang.proofs.Depths.{is_negative, cond_of, cond_depth, conj_depth, neg_depth, cond_shallow}
-use Rattle.fish_lang.proofs.Spelling.{IsWhen, IsWritable, derivation_of, definition-lexed}
+use Rattle.fish_lang.proofs.Canonical.{AreFine, derivation-fine, derivation-means, IsShallow}
+use Rattle.fish_lang.proofs.Depths.{cond_of, cond_depth, conj_depth, neg_depth, cond_shallow}
+use Rattle.fish_lang.proofs.Spelling.{IsWritable, derivation_of, definition-lexed}
 use Rattle.fish_lang.proofs.Conditions.{AreTexts, IsPath, IsLiteral, IsCondition}
-use Rattle.fish_lang.proofs.TokenLemmas.{IsUtf8-ident}
 use Rattle.fish_lang.proofs.Words.{lexed}
-use Rattle.fish_lang.proofs.Proper.{IsProper, IsProperIfAny, value-proper, number-proper, plain-proper, word-proper, text-proper, string-proper, signs-proper, sign-proper, kinds-proper, token-proper}
+use Rattle.fish_lang.proofs.Proper.{IsProper, IsProperIfAny, token-proper}
 
 -- places of a source of which none is refused
 abbrev AreGood : List Spot → Type 0

@@ -1,17 +1,15 @@
 -- The canonical derivation means what it is of, and nothing in it is refused.
-use Rattle.std.proofs.Common.{◌≡◌, ℕ, ◌+◌, ◌<◌, ◌≤◌, suc, List, [], ◌∷◌, ◌++◌, refl, sym, ◌∙◌, ap, arith, append_assoc, append-nil}
-use Rattle.std.specs.Prelude.{max, ℤ, pos, negsuc, Bool, true, false, nat_lt, if◌then◌else◌, Option, Some, None, map, option_map, IsUtf8}
+use Rattle.std.proofs.Common.{◌≡◌, ℕ, ◌+◌, ◌<◌, ◌≤◌, suc, List, [], ◌∷◌, ◌++◌, refl, sym, ◌∙◌, arith, append_assoc, append-nil}
+use Rattle.std.specs.Prelude.{Bool, true, false, nat_lt, Option, Some, None, option_map}
 use Rattle.std.proofs.lemmas.Bool.Decides.{nat_tests}
 use Rattle.fish_value.specs.declared.value.Value.{Value}
 use Rattle.fish_value.specs.declared.value.Value.TheVariants as value
 use Rattle.fish_lang.specs.Definition.{Steps, Formula, compares, is_there, begins, negated, both, either, Definition, takes, buckets, flags}
-use Rattle.fish_lang.specs.Grammar.{Spot, spot, keyword, spelled, spots, step_token, path_spots, literal_spot, test_spots, cond_spots, conj_spots, neg_spots, width_fault, nesting_fault, when_spots}
-use Rattle.fish_lang.specs.Derivation.{Step, ident, string, Path, one_step, more_steps, Literal, truth, number, text, Test, compare, exist, start, Cond, one_conj, more_conjs, Conj, one_neg, more_negs, Neg, not_neg, group, test, Derivation, take_def, bucket_def, flag_def, step_name, path_steps, literal_value, test_formula, cond_formula, conj_formula, neg_formula, meaning}
+use Rattle.fish_lang.specs.Grammar.{Spot, keyword, spots, path_spots, literal_spot, test_spots, cond_spots, conj_spots, neg_spots, width_fault, nesting_fault, when_spots}
+use Rattle.fish_lang.specs.Derivation.{Path, one_step, more_steps, compare, exist, start, step_name, path_steps, literal_value, cond_formula, conj_formula, neg_formula, meaning}
 use Rattle.fish_lang.specs.Token.{is_ident}
 use Rattle.fish_lang.specs.declared.definition.Op.{Op}
 use Rattle.fish_lang.specs.declared.token.Keyword.TheVariants as word
-use Rattle.fish_lang.specs.declared.token.Token.{Token}
-use Rattle.fish_lang.specs.declared.token.Token.TheVariants as kind
 use Rattle.fish_lang.proofs.Depths.{step_of, further_steps, path_of, literal_of, cond_of, conj_of, neg_of, cond_depth, conj_depth, neg_depth}
 use Rattle.fish_lang.proofs.Spelling.{IsWhen, IsWritable, when_of, derivation_of}
 use Rattle.fish_lang.proofs.Conditions.{IsPath, IsCondition}

@@ -1,29 +1,28 @@
 -- The canonical text of a condition is lexed to the tokens of its canonical derivation.
-use Rattle.std.proofs.Common.{◌≡◌, ℕ, ◌+◌, suc, List, [], ◌∷◌, ◌++◌, refl, sym, ◌∙◌, ap, subst, append_assoc, append-nil}
-use Rattle.std.specs.Prelude.{ℤ, pos, Bool, true, false, Option, Some, None, IsUtf8, codes, map}
+use Rattle.std.proofs.Common.{◌≡◌, ℕ, suc, List, [], ◌∷◌, ◌++◌, refl, sym, ◌∙◌, ap, subst, append_assoc, append-nil}
+use Rattle.std.specs.Prelude.{Bool, true, false, IsUtf8, codes}
 use Rattle.fish_value.specs.Number.{fits_i64}
 use Rattle.fish_value.specs.declared.value.Value.{Value}
 use Rattle.fish_value.specs.declared.value.Value.TheVariants as value
-use Rattle.fish_lang.specs.Canonical.{step_text, steps_text, path_text, op_text, formula_text, when_text, definition_text}
-use Rattle.fish_lang.specs.Definition.{Steps, Formula, compares, is_there, begins, negated, both, either, Definition, takes, buckets, flags}
-use Rattle.fish_lang.specs.Grammar.{Spot, spot, keyword, spelled, spots, step_token, path_spots, literal_spot, test_spots, cond_spots, conj_spots, neg_spots, width_fault, nesting_fault, when_spots}
-use Rattle.fish_lang.specs.Derivation.{Step, ident, string, Path, one_step, more_steps, Literal, Test, compare, exist, start, Cond, Conj, Neg, one_neg, not_neg, group, test, Derivation, take_def, bucket_def, flag_def}
+use Rattle.fish_lang.specs.Canonical.{step_text, steps_text, path_text, op_text, formula_text}
+use Rattle.fish_lang.specs.Definition.{Steps, Formula, compares, is_there, begins, negated, both, either}
+use Rattle.fish_lang.specs.Grammar.{Spot, spot, keyword, spelled, step_token, path_spots, literal_spot, test_spots, cond_spots, conj_spots, neg_spots, nesting_fault}
+use Rattle.fish_lang.specs.Derivation.{Path, one_step, more_steps, compare, exist, start}
 use Rattle.fish_lang.specs.Token.{is_ident}
 use Rattle.fish_lang.specs.ValuePrint.{value_print}
 use Rattle.fish_lang.specs.declared.definition.Op.{Op}
 use Rattle.fish_lang.specs.declared.definition.Op.TheVariants.{Eq, Ne, Lt, Le, Gt, Ge}
-use Rattle.std.specs.Fmt.{signed_decimal}
 use Rattle.fish_value.specs.Json.{quoted}
 use Rattle.fish_lang.specs.declared.print.Part.{Part}
 use Rattle.fish_lang.specs.declared.print.Part.TheVariants.{Whole, OfOr, OfAnd}
 use Rattle.fish_lang.specs.declared.token.Keyword.TheVariants as word
 use Rattle.fish_lang.specs.declared.token.Token.{Token}
 use Rattle.fish_lang.specs.declared.token.Token.TheVariants as kind
-use Rattle.fish_lang.proofs.Depths.{step_of, further_steps, path_of, literal_of, cond_of, conj_of, neg_of, is_negative}
-use Rattle.fish_lang.proofs.Lexed.{lexed-take, lexed-bucket, lexed-flag, lexed-when, lexed-by, lexed-not, lexed-and, lexed-or, lexed-starts, lexed-exists, lexed-true, lexed-false, lexed-op, lexed-string, lexed-ident}
+use Rattle.fish_lang.proofs.Depths.{step_of, further_steps, path_of, literal_of, cond_of, conj_of, neg_of}
+use Rattle.fish_lang.proofs.Lexed.{lexed-not, lexed-and, lexed-or, lexed-starts, lexed-exists, lexed-true, lexed-false, lexed-op, lexed-string, lexed-ident}
 use Rattle.fish_lang.proofs.Numerals.{lexed-int}
 use Rattle.fish_lang.proofs.Ways.{spelled-append}
-use Rattle.fish_lang.proofs.Words.{lexed, lexed-none, lexed-blank, lexed-open, lexed-close, lexed-dot, EndsWord}
+use Rattle.fish_lang.proofs.Words.{lexed, lexed-open, lexed-close, lexed-dot, EndsWord}
 
 -- what can be written: names and strings are texts, numbers have 64 bits, and paths are not empty
 abbrev pub AreTexts : Steps → Type 0

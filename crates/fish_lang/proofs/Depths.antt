@@ -1,10 +1,10 @@
 -- The canonical derivation of a meaning nests no deeper than any other.
-use Rattle.std.proofs.Common.{◌≡◌, ℕ, ◌+◌, ◌<◌, ◌≤◌, zero, suc, List, [], ◌∷◌, ◌++◌, refl, sym, ◌∙◌, ap, arith}
-use Rattle.std.specs.Prelude.{max, ℤ, pos, negsuc, Bool, true, false, Option, Some, None}
+use Rattle.std.proofs.Common.{ℕ, ◌≤◌, suc, List, [], ◌∷◌, arith}
+use Rattle.std.specs.Prelude.{max, ℤ, pos, negsuc, Bool, true, false, Some}
 use Rattle.fish_value.specs.declared.value.Value.{Value}
 use Rattle.fish_value.specs.declared.value.Value.TheVariants as value
-use Rattle.fish_lang.specs.Definition.{Steps, Formula, compares, is_there, begins, negated, both, either, Definition, takes, buckets, flags}
-use Rattle.fish_lang.specs.Derivation.{Step, ident, string, Path, one_step, more_steps, Literal, truth, number, text, Test, compare, exist, start, Cond, one_conj, more_conjs, Conj, one_neg, more_negs, Neg, not_neg, group, test, Derivation, take_def, bucket_def, flag_def, path_steps, step_name, literal_value, test_formula, cond_formula, conj_formula, neg_formula, meaning}
+use Rattle.fish_lang.specs.Definition.{Steps, Formula, compares, is_there, begins, negated, both, either}
+use Rattle.fish_lang.specs.Derivation.{Step, ident, string, Path, one_step, more_steps, Literal, truth, number, text, Test, compare, exist, start, Cond, one_conj, more_conjs, Conj, one_neg, more_negs, Neg, not_neg, group, test, test_formula, cond_formula, conj_formula, neg_formula}
 use Rattle.fish_lang.specs.Token.{is_ident}
 
 abbrev pub step_of : Bool → List ℕ → Step

@@ -1,13 +1,13 @@
 -- Each unfinished derivation can be finished, and where a source may end it is a whole one.
-use Rattle.std.proofs.Common.{◌≡◌, ℕ, List, [], ◌∷◌, ◌++◌, refl, sym, ◌∙◌, append_assoc, append-nil}
-use Rattle.std.specs.Prelude.{ℤ, pos, true, false, Option, Some, None}
+use Rattle.std.proofs.Common.{◌≡◌, List, [], ◌∷◌, ◌++◌, refl, ◌∙◌, append_assoc, append-nil}
+use Rattle.std.specs.Prelude.{true, false, Some, None}
 use Rattle.fish_lang.specs.Definition.{Definition}
 use Rattle.fish_lang.specs.Grammar.{Spot, spot, keyword, step_token, width_fault, spots, path_spots}
-use Rattle.fish_lang.specs.Derivation.{Step, ident, Path, one_step, more_steps, truth, Cond, Conj, one_conj, more_conjs, one_neg, compare, exist, start, test, Derivation, take_def, bucket_def, flag_def, meaning, cond_formula}
+use Rattle.fish_lang.specs.Derivation.{Step, ident, Path, one_step, more_steps, truth, Cond, one_conj, more_conjs, one_neg, compare, exist, start, test, Derivation, take_def, bucket_def, flag_def, meaning, cond_formula}
 use Rattle.fish_lang.specs.Moves.{finish, definition_with}
 use Rattle.fish_lang.specs.declared.token.Keyword.TheVariants as word
 use Rattle.fish_lang.specs.declared.token.Token.TheVariants as kind
-use Rattle.fish_lang.proofs.Trees.{Whole, top, in_group, Joint, in_whole, behind_or, Operand, Head, take_when, bucket_when, flag_when, Owner, of_take, of_bucket, of_test, Tree, start_tree, flag_tree, first_of_take, first_of_bucket, behind_dot, behind_step, width, behind_width, operand, literal, prefix, behind_operand, head_state, state_of, before, owner_before, with_cond, with_cond-spots, round, round_joint, behind, joint_behind, round-spots, round_joint-spots}
+use Rattle.fish_lang.proofs.Trees.{top, in_group, in_whole, behind_or, Head, take_when, bucket_when, flag_when, Owner, of_take, of_bucket, of_test, Tree, start_tree, flag_tree, first_of_take, first_of_bucket, behind_dot, behind_step, width, behind_width, operand, literal, prefix, behind_operand, head_state, state_of, before, owner_before, with_cond, with_cond-spots, round, round_joint, behind, joint_behind, round-spots, round_joint-spots}
 
 -- a derivation that begins with places
 pub record Finishes (front : List Spot) : Type 0 where

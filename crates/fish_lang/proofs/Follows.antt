@@ -1,6 +1,6 @@
 -- Derivations are followed: the tokens of each lead from the start to its meaning.
-use Rattle.std.proofs.Common.{◌≡◌, ℕ, suc, List, [], ◌∷◌, ◌++◌, refl, sym, subst}
-use Rattle.std.specs.Prelude.{Bool, true, false, Option, Some, None, unwrap_or, pos}
+use Rattle.std.proofs.Common.{◌≡◌, suc, List, [], ◌∷◌, ◌++◌, refl, sym, subst}
+use Rattle.std.specs.Prelude.{true, false, Some, None, unwrap_or, pos}
 use Rattle.fish_lang.specs.Definition.{Steps, compares, is_there, begins, either}
 use Rattle.fish_lang.specs.Grammar.{Spot, spot, path_spots, step_token, literal_spot, keyword, test_spots, cond_spots, conj_spots, neg_spots, spots}
 use Rattle.fish_lang.specs.Derivation.{Step, ident, string, Path, one_step, more_steps, Literal, truth, number, text, Test, compare, exist, start, Cond, one_conj, more_conjs, Conj, one_neg, more_negs, Neg, not_neg, group, test, Derivation, take_def, bucket_def, flag_def, path_steps, step_name, literal_value, test_formula, cond_formula, conj_formula, neg_formula, meaning}

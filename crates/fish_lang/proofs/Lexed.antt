@@ -1,19 +1,17 @@
 -- The tokens of a canonical text: of its words, its strings and its signs.
-use Rattle.std.proofs.Common.{◌≡◌, ℕ, ◌+◌, ◌<◌, ◌≤◌, zero, suc, List, [], ◌∷◌, ◌++◌, refl, sym, ◌∙◌, ap, arith, length, append_assoc, append-nil, length-append}
-use Rattle.std.specs.Prelude.{Bool, true, false, not, ◌&&◌, ◌||◌, ◌==◌, nat_lt, if◌then◌else◌, Option, Some, None, option_and_then, is_some, IsUtf8, codes, slice_index}
+use Rattle.std.proofs.Common.{◌≡◌, ℕ, List, [], ◌∷◌, ◌++◌, refl, ◌∙◌, ap, arith, length, append_assoc, length-append}
+use Rattle.std.specs.Prelude.{Bool, true, false, not, ◌&&◌, ◌==◌, nat_lt, Option, Some, None, is_some, IsUtf8, codes}
 use Rattle.std.specs.Char.{is_ascii_digit}
 use Rattle.std.specs.List.{list_all}
-use Rattle.std.specs.Str.{is_utf8}
 use Rattle.std.specs.Str.Parse.{starts_with_minus}
 use Rattle.std.proofs.lemmas.Bool.Decides.{nat_tests}
 use Rattle.std.proofs.lemmas.Str.{is_utf8-from_IsUtf8}
 use Rattle.json.specs.Print.{escape}
 use Rattle.serde_json.specs.Data.{string}
-use Rattle.serde_json.specs.Find.{as_str}
 use Rattle.fish_value.specs.Json.{quoted, reading}
-use Rattle.fish_value.specs.Number.{is_number, is_positive}
+use Rattle.fish_value.specs.Number.{is_number}
 use Rattle.fish_lang.specs.Canonical.{op_text}
-use Rattle.fish_lang.specs.Token.{token_of, length_behind, is_word_byte, begins_word, string_length, string_token, word_or_keyword, plain_word, keyword_of, is_ident, is_blank, takes_equals, sign_token}
+use Rattle.fish_lang.specs.Token.{token_of, length_behind, is_word_byte, begins_word, plain_word, keyword_of, is_ident, is_blank, sign_token}
 use Rattle.fish_lang.specs.declared.definition.Op.{Op}
 use Rattle.fish_lang.specs.declared.definition.Op.TheVariants.{Eq, Ne, Lt, Le, Gt, Ge}
 use Rattle.fish_lang.specs.declared.token.Keyword.{Keyword}

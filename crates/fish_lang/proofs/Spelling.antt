@@ -1,30 +1,21 @@
 -- The canonical text of a definition is lexed to the tokens of its canonical derivation.
-use Rattle.std.proofs.Common.{◌≡◌, ℕ, ◌+◌, suc, List, [], ◌∷◌, ◌++◌, refl, sym, ◌∙◌, ap, subst, append_assoc, append-nil}
-use Rattle.std.specs.Prelude.{ℤ, pos, Bool, true, false, Option, Some, None, IsUtf8, codes, map}
+use Rattle.std.proofs.Common.{◌≡◌, ℕ, List, [], ◌∷◌, ◌++◌, refl, ◌∙◌, ap, append_assoc, append-nil}
+use Rattle.std.specs.Prelude.{true, false, Option, Some, None, codes}
 use Rattle.fish_value.specs.Number.{fits_i64}
-use Rattle.fish_value.specs.declared.value.Value.{Value}
-use Rattle.fish_value.specs.declared.value.Value.TheVariants as value
-use Rattle.fish_lang.specs.Canonical.{step_text, steps_text, path_text, op_text, formula_text, when_text, definition_text}
-use Rattle.fish_lang.specs.Definition.{Steps, Formula, compares, is_there, begins, negated, both, either, Definition, takes, buckets, flags}
-use Rattle.fish_lang.specs.Grammar.{Spot, spot, keyword, spelled, spots, step_token, path_spots, literal_spot, test_spots, cond_spots, conj_spots, neg_spots, width_fault, nesting_fault, when_spots}
-use Rattle.fish_lang.specs.Derivation.{Step, ident, string, Path, one_step, more_steps, Literal, Test, compare, exist, start, Cond, Conj, Neg, one_neg, not_neg, group, test, Derivation, take_def, bucket_def, flag_def}
-use Rattle.fish_lang.specs.Token.{is_ident}
-use Rattle.fish_lang.specs.ValuePrint.{value_print}
-use Rattle.fish_lang.specs.declared.definition.Op.{Op}
-use Rattle.fish_lang.specs.declared.definition.Op.TheVariants.{Eq, Ne, Lt, Le, Gt, Ge}
+use Rattle.fish_lang.specs.Canonical.{path_text, formula_text, when_text, definition_text}
+use Rattle.fish_lang.specs.Definition.{Formula, Definition, takes, buckets, flags}
+use Rattle.fish_lang.specs.Grammar.{Spot, spelled, spots, path_spots, cond_spots, when_spots}
+use Rattle.fish_lang.specs.Derivation.{Cond, Derivation, take_def, bucket_def, flag_def}
 use Rattle.std.specs.Fmt.{signed_decimal}
-use Rattle.fish_value.specs.Json.{quoted}
-use Rattle.fish_lang.specs.declared.print.Part.{Part}
-use Rattle.fish_lang.specs.declared.print.Part.TheVariants.{Whole, OfOr, OfAnd}
+use Rattle.fish_lang.specs.declared.print.Part.TheVariants.{Whole}
 use Rattle.fish_lang.specs.declared.token.Keyword.TheVariants as word
-use Rattle.fish_lang.specs.declared.token.Token.{Token}
 use Rattle.fish_lang.specs.declared.token.Token.TheVariants as kind
-use Rattle.fish_lang.proofs.Depths.{step_of, further_steps, path_of, literal_of, cond_of, conj_of, neg_of, is_negative}
-use Rattle.fish_lang.proofs.Lexed.{lexed-take, lexed-bucket, lexed-flag, lexed-when, lexed-by, lexed-not, lexed-and, lexed-or, lexed-starts, lexed-exists, lexed-true, lexed-false, lexed-op, lexed-string, lexed-ident}
+use Rattle.fish_lang.proofs.Depths.{path_of, cond_of, is_negative}
+use Rattle.fish_lang.proofs.Lexed.{lexed-take, lexed-bucket, lexed-flag, lexed-when, lexed-by}
 use Rattle.fish_lang.proofs.Numerals.{lexed-int}
 use Rattle.fish_lang.proofs.Ways.{spelled-append}
-use Rattle.fish_lang.proofs.Words.{lexed, lexed-none, lexed-blank, lexed-open, lexed-close, lexed-dot, EndsWord}
-use Rattle.fish_lang.proofs.Conditions.{AreTexts, IsPath, IsLiteral, IsCondition, step-lexed, dots, steps-end, steps-lexed, further-spelled, path-lexed, literal-lexed, op-ends, compares-lexed, is_there-lexed, begins-lexed, nests_at, part_spots, LexesTo, not-lexed, and-lexed, or-lexed, group-lexed, by-text, and-bare, or-bare, and-closed, or-closed, condition-lexed}
+use Rattle.fish_lang.proofs.Words.{lexed, lexed-none, lexed-blank, EndsWord}
+use Rattle.fish_lang.proofs.Conditions.{IsPath, IsCondition, path-lexed, LexesTo, condition-lexed}
 
 -- what can be written as a definition
 abbrev pub IsWhen : Option Formula → Type 0

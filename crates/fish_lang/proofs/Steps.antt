@@ -1,21 +1,19 @@
 -- A token that fits makes an unfinished derivation longer by its place, and each can be finished.
-use Rattle.std.proofs.Common.{◌≡◌, ℕ, suc, List, [], ◌∷◌, ◌++◌, refl, sym, ◌∙◌, ap, append_assoc, append-nil}
-use Rattle.std.specs.Prelude.{ℤ, pos, Bool, true, false, Option, Some, None, option_map, unwrap_or}
+use Rattle.std.proofs.Common.{◌≡◌, ℕ, List, [], ◌∷◌, ◌++◌, refl, ◌∙◌, append_assoc}
+use Rattle.std.specs.Prelude.{ℤ, true, false, Option, Some, None, option_map}
 use Rattle.fish_value.specs.declared.value.Value.{Value}
-use Rattle.fish_lang.specs.Definition.{Steps, Definition, compares, is_there, begins}
-use Rattle.fish_lang.specs.Grammar.{Spot, spot, keyword, path_spots, step_token, literal_spot, test_spots, neg_spots, spots, number_fault, width_fault}
-use Rattle.fish_lang.specs.Derivation.{Step, ident, string, Path, one_step, more_steps, Literal, truth, number, text, Test, compare, exist, start, Cond, Conj, one_neg, Neg, not_neg, group, test, Derivation, take_def, bucket_def, flag_def, path_steps, step_name, literal_value, neg_formula, conj_formula, one_conj, more_conjs, meaning}
+use Rattle.fish_lang.specs.Definition.{compares, begins}
+use Rattle.fish_lang.specs.Grammar.{Spot, step_token, literal_spot}
+use Rattle.fish_lang.specs.Derivation.{Step, ident, string, Path, one_step, more_steps, Literal, truth, number, text, compare, exist, start, Conj, group, test, path_steps, step_name, literal_value, conj_formula, one_conj, more_conjs}
 use Rattle.fish_lang.specs.Machine as machine
 use Rattle.fish_lang.specs.Moves as moves
 use Rattle.fish_lang.specs.Machine.{State, complete, nesting}
 use Rattle.fish_lang.specs.Moves.{advance, fault_at, finish, name_of, text_of, value_of, number_of}
 use Rattle.fish_lang.specs.declared.definition.Op.{Op}
-use Rattle.fish_lang.specs.declared.fault.Fault.{Fault}
-use Rattle.fish_lang.specs.declared.token.Keyword.TheVariants as word
 use Rattle.fish_lang.specs.declared.token.Token.{Token}
-use Rattle.fish_lang.specs.declared.token.Token.TheVariants.{Keyword, Ident, Str, Number, Compare, Open, Close, Dot, Other}
+use Rattle.fish_lang.specs.declared.token.Token.TheVariants.{Keyword, Ident, Str, Number, Compare, Open, Close, Dot}
 use Rattle.fish_lang.specs.declared.token.Keyword.TheVariants.{Take, Bucket, Flag, By, When, Not, And, Or, Exists, Starts, True, False}
-use Rattle.fish_lang.proofs.Trees.{Whole, top, in_group, Joint, in_whole, behind_or, Operand, in_joint, behind_and, under_not, Head, take_when, bucket_when, flag_when, Owner, of_take, of_bucket, of_test, Tree, start_tree, flag_tree, first_of_take, first_of_bucket, behind_dot, behind_step, width, behind_width, operand, literal, prefix, behind_operand, whole_state, joint_state, operand_state, head_state, owner_state, state_of, head_spots, whole_before, joint_before, operand_before, owner_before, before, completed, completed-state, completed-before, ended, whole_of, ended-before, ended-state, whole_of-state, round, round_joint, behind, joint_behind, round-spots, round_joint-spots}
+use Rattle.fish_lang.proofs.Trees.{top, in_group, Joint, in_whole, behind_or, Operand, in_joint, behind_and, under_not, Head, take_when, bucket_when, flag_when, Owner, of_take, of_bucket, of_test, Tree, start_tree, flag_tree, first_of_take, first_of_bucket, behind_dot, behind_step, width, behind_width, operand, literal, prefix, behind_operand, joint_state, operand_state, head_state, owner_state, state_of, before, completed, completed-state, completed-before}
 
 -- a token in its place
 abbrev pub placed_at : State → Token → Spot

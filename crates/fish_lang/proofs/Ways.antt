@@ -1,24 +1,15 @@
 -- Ways of tokens: the same tokens lead the same way, and to an unfinished derivation.
-use Rattle.std.proofs.Common.{◌≡◌, ◌≢◌, ℕ, List, [], ◌∷◌, ◌++◌, refl, sym, ◌∙◌, ap, subst, append_assoc, append-nil, ◌⊎◌, inl, inr}
-use Rattle.std.specs.Prelude.{Option, Some, None, Result, Ok, Err, map}
-use Rattle.fish_lang.specs.Definition.{Definition}
-use Rattle.fish_lang.specs.Grammar.{Spot, spot, spots, spelled}
-use Rattle.fish_lang.specs.Derivation.{Derivation, meaning}
-use Rattle.fish_lang.specs.Language.{kinds, unrefused, IsRead, BeginsWell, BeginsNone, StopsAt, StopsAtEnd, Faulty, IsVerdict}
-use Rattle.fish_lang.specs.Machine as machine
+use Rattle.std.proofs.Common.{◌≡◌, List, [], ◌∷◌, ◌++◌, refl, sym, ◌∙◌, ap, subst}
+use Rattle.std.specs.Prelude.{Some, None}
+use Rattle.fish_lang.specs.Grammar.{Spot, spot, spelled}
+use Rattle.fish_lang.specs.Language.{kinds, unrefused}
 use Rattle.fish_lang.specs.Machine.{State}
-use Rattle.fish_lang.specs.Moves.{advance, fault_at, finish}
-use Rattle.fish_lang.specs.Outcome.{run, turn, and_then, end_of, unless_unexpected, unless_fault, refusal_of}
-use Rattle.fish_lang.specs.declared.parse.LangRefusal.{LangRefusal}
-use Rattle.fish_lang.specs.declared.parse.LangRefusal.TheVariants as refusal
-use Rattle.fish_lang.specs.declared.fault.Fault.{Fault}
-use Rattle.fish_lang.specs.declared.fault.Fault.TheVariants.{TooDeep, NumberTooLarge, ZeroWidth}
+use Rattle.fish_lang.specs.Moves.{advance, fault_at}
 use Rattle.fish_lang.specs.declared.token.Token.{Token}
 use Rattle.fish_lang.specs.declared.token.Placed.{Placed}
-use Rattle.fish_lang.proofs.Follows.{Follows, Follows-append, followed}
-use Rattle.fish_lang.proofs.Trees.{Tree, start_tree, state_of, before}
-use Rattle.fish_lang.proofs.Steps.{longer, placed_at}
-use Rattle.fish_lang.proofs.Endings.{finishes, ends}
+use Rattle.fish_lang.proofs.Follows.{Follows}
+use Rattle.fish_lang.proofs.Trees.{Tree, state_of, before}
+use Rattle.fish_lang.proofs.Steps.{longer}
 
 -- the same tokens lead to the same state
 pub leads-same : (xs ys : List Spot) (s t u : State) → Follows s xs t → Follows s ys u → spelled ys

@@ -1,26 +1,14 @@
 -- How the tokens of a text begin, by how the text begins.
-use Rattle.std.proofs.Common.{◌≡◌, ℕ, ◌+◌, ◌<◌, ◌≤◌, zero, suc, List, [], ◌∷◌, ◌++◌, refl, sym, ◌∙◌, ap, arith, length, take, drop, append_assoc, append-nil}
-use Rattle.std.specs.Prelude.{Bool, true, false, not, ◌&&◌, ◌||◌, ◌==◌, nat_lt, if◌then◌else◌, Option, Some, None, option_and_then, is_some, IsUtf8, codes, slice_index, map}
-use Rattle.std.specs.Char.{is_ascii_digit}
+use Rattle.std.proofs.Common.{◌≡◌, ℕ, ◌+◌, zero, suc, List, [], ◌∷◌, ◌++◌, refl, sym, ◌∙◌, ap, length, take, drop}
+use Rattle.std.specs.Prelude.{true, false, Option, Some, None}
 use Rattle.std.specs.List.{list_all}
-use Rattle.std.specs.Str.{is_utf8, bytes_eq}
-use Rattle.std.proofs.lemmas.Bool.Decides.{nat_tests}
-use Rattle.std.proofs.lemmas.Str.{is_utf8-from_IsUtf8}
 use Rattle.std.proofs.Math.Seq.{take-append_seam, drop-append_seam}
-use Rattle.json.specs.Print.{escape}
-use Rattle.serde_json.specs.Find.{as_str}
-use Rattle.fish_value.specs.Json.{quoted, reading}
-use Rattle.fish_value.specs.Number.{is_number, is_positive, int_of}
 use Rattle.fish_lang.specs.Language.{kinds}
-use Rattle.fish_lang.specs.Token.{tokens, tokens_from, token_of, length_behind, listed, is_word_byte, begins_word, run_length, string_length, string_token, word_or_keyword, plain_word, keyword_of, is_ident, is_blank, takes_equals, sign_token}
-use Rattle.fish_lang.specs.declared.definition.Op.TheVariants as op
-use Rattle.fish_lang.specs.declared.token.Keyword.{Keyword}
-use Rattle.fish_lang.specs.declared.token.Keyword.TheVariants as word
+use Rattle.fish_lang.specs.Token.{tokens_from, token_of, length_behind, listed, is_word_byte, begins_word, run_length, sign_token}
 use Rattle.fish_lang.specs.declared.token.Token.{Token}
 use Rattle.fish_lang.specs.declared.token.Token.TheVariants as kind
 use Rattle.fish_lang.specs.declared.token.Placed.{Placed}
-use Rattle.fish_lang.proofs.Strings.{reading-quoted, string_length-escape}
-use Rattle.fish_lang.proofs.TokenLemmas.{both, tokens_from-turn, listed-append}
+use Rattle.fish_lang.proofs.TokenLemmas.{both, tokens_from-turn}
 
 -- the tokens of a text, without their places
 unfoldable pub lexed : List ℕ → List Token

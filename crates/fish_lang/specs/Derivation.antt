@@ -1,5 +1,5 @@
 -- The grammar, one kind of derivation a rule, and what a derivation means. `Grammar` has what it spells.
-use Rattle.std.specs.Prelude.{ℤ, pos, List, [], ◌∷◌, ◌++◌, ℕ, Bool, Option, Some, None, option_map, unwrap_or}
+use Rattle.std.specs.Prelude.{ℤ, pos, List, [], ◌∷◌, ◌++◌, ℕ, Bool, Option, option_map, unwrap_or}
 use Rattle.fish_value.specs.declared.value.Value.{Value}
 use Rattle.fish_value.specs.declared.value.Value.TheVariants as value
 use Rattle.fish_lang.specs.Definition.{Steps, Formula, compares, is_there, begins, negated, both, either, Definition, takes, buckets, flags}

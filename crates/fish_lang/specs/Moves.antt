@@ -1,6 +1,6 @@
 -- Where a token leads, why one that fits is refused, and where a definition may end. These words are for
 -- the clauses of private functions.
-use Rattle.std.specs.Prelude.{ℕ, ℤ, pos, List, [], ◌∷◌, ◌++◌, Bool, true, false, Option, Some, None, option_map, unwrap_or, if◌then◌else◌}
+use Rattle.std.specs.Prelude.{ℕ, pos, List, [], ◌∷◌, ◌++◌, Bool, true, false, Option, Some, None, option_map, unwrap_or, if◌then◌else◌}
 use Rattle.fish_value.specs.declared.value.Value.{Value}
 use Rattle.fish_value.specs.declared.value.Value.TheVariants as value
 use Rattle.fish_lang.specs.Definition.{Steps, Formula, compares, is_there, begins, Definition, takes, buckets, flags}

@@ -1,6 +1,6 @@
 -- What a parse answers, token by token. `Language` says what it means; these words are for the clauses
 -- of private functions.
-use Rattle.std.specs.Prelude.{◌≡◌, ℕ, nat_le, nat_lt, List, [], ◌∷◌, Option, Some, None, Result, Ok, Err, length, if◌then◌else◌}
+use Rattle.std.specs.Prelude.{◌≡◌, ℕ, nat_lt, List, [], ◌∷◌, Option, Some, None, Result, Ok, Err, length, if◌then◌else◌}
 use Rattle.fish_lang.specs.Canonical.{definition_text}
 use Rattle.fish_lang.specs.Definition.{Definition}
 use Rattle.fish_lang.specs.Machine.{State, start}
