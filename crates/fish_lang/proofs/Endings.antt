@@ -1,6 +1,6 @@
 -- Each unfinished derivation can be finished, and where a source may end it is a whole one.
 use Rattle.std.proofs.Common.{◌≡◌, List, [], ◌∷◌, ◌++◌, refl, ◌∙◌, append_assoc, append-nil}
-use Rattle.std.specs.Prelude.{true, false, Some, None}
+use Rattle.std.specs.Prelude.{true, false, Some, None, codes}
 use Rattle.fish_lang.specs.Definition.{Definition}
 use Rattle.fish_lang.specs.Grammar.{Spot, spot, keyword, step_token, width_fault, spots, path_spots}
 use Rattle.fish_lang.specs.Derivation.{Step, ident, Path, one_step, more_steps, truth, Cond, one_conj, more_conjs, one_neg, compare, exist, start, test, Derivation, take_def, bucket_def, flag_def, meaning, cond_formula}
@@ -16,7 +16,7 @@ pub record Finishes (front : List Spot) : Type 0 where
   pub spells : spots tree ≡ front ++ more
 
 abbrev some_step : Step
-some_step = ident []
+some_step = ident (codes "a")
 
 -- behind a step any part can end
 path_finishes : (o : Owner) (p : Path) → Finishes (owner_before o ++ path_spots p)
