@@ -100,7 +100,7 @@ lexed-op Gt rest = sign 62 [] rest (kind.Compare Gt) refl refl
 lexed-op Ge rest = sign 62 (61 ∷ []) rest (kind.Compare Ge) refl refl
 
 -- a string
-string-token : (s : List ℕ) → IsUtf8 s → token_of (34 ∷ (escape s ++ 34 ∷ [])) ≡ Some (kind.Str s)
+pub string-token : (s : List ℕ) → IsUtf8 s → token_of (34 ∷ (escape s ++ 34 ∷ [])) ≡ Some (kind.Str s)
 unfolding token_of quoted
 string-token s h =
     let read : reading (34 ∷ (escape s ++ 34 ∷ [])) ≡ Some (string s) = reading-quoted s h in

@@ -23,7 +23,7 @@ use Rattle.fish_lang.proofs.Ways.{leads-same, leads-on, Follows-front, unrefused
 reached-well : (ts : List Placed) (s : State) → Reached ts s → BeginsWell ts
 reached-well ts s r =
     let f = finishes r.tree in
-    record { tree = f.tree; more = f.more; spells = f.spells ∙ rw r.spells }
+    record { tree = f.tree; more = f.more; real = f.real; spells = f.spells ∙ rw r.spells }
 
 -- the tokens of what begins with places
 begins-with : (ts : List Placed) (p : Placed) (x : Spot) (xs : List Spot) (more : List Spot)
@@ -100,6 +100,7 @@ verdict-turn ts p ps s end (Some u) (Some fault) r f e g rest =
       place = refl;
       tree = whole.tree;
       more = whole.more;
+      real = whole.real;
       spells = whole.spells ∙ rw (l.spells, r.spells, r.stands, g, append_assoc);
     })
 verdict-turn ts p ps s end (Some u) None r f e g rest =

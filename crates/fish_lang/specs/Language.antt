@@ -4,7 +4,7 @@ use Rattle.fish_lang.specs.Canonical.{definition_text}
 use Rattle.fish_lang.specs.Definition.{Definition}
 use Rattle.fish_lang.specs.Grammar.{Spot, spot, spots, spelled}
 use Rattle.fish_lang.specs.Derivation.{Derivation, meaning}
-use Rattle.fish_lang.specs.Token.{tokens}
+use Rattle.fish_lang.specs.Token.{tokens, token_of}
 use Rattle.fish_lang.specs.declared.parse.LangRefusal.{LangRefusal}
 use Rattle.fish_lang.specs.declared.parse.LangRefusal.TheVariants as refusal
 use Rattle.fish_lang.specs.declared.parse.TheConstants.{MAX_SOURCE, MAX_CANONICAL}
@@ -21,6 +21,11 @@ kinds = map (λ p. p.token)
 abbrev pub unrefused : List Placed → List Spot
 unrefused = map (λ p. spot p.token)
 
+-- tokens that bytes can be
+abbrev pub AreTokens : List Spot → Type 0
+AreTokens [] = Unit {0}
+AreTokens (x ∷ xs) = ((bytes : List ℕ) × (token_of bytes ≡ Some x.token)) × AreTokens xs
+
 -- the tokens are those of a derivation with this meaning, and none is refused
 pub record IsRead (ts : List Placed) (d : Definition) : Type 0 where
   pub tree : Derivation
@@ -31,6 +36,7 @@ pub record IsRead (ts : List Placed) (d : Definition) : Type 0 where
 pub record BeginsWell (ts : List Placed) : Type 0 where
   pub tree : Derivation
   pub more : List Spot
+  pub real : AreTokens more
   pub spells : spots tree ≡ unrefused ts ++ more
 
 -- no definition begins with the tokens
@@ -61,6 +67,7 @@ pub record Faulty (fault : Fault) (ts : List Placed) (at : ℕ) : Type 0 where
   pub place : placed.at ≡ at
   pub tree : Derivation
   pub more : List Spot
+  pub real : AreTokens more
   pub spells : spots tree ≡ unrefused before ++ record { token = placed.token; fault = Some fault } ∷ more
 
 -- what tokens are, whose source ends at a place
