@@ -14,10 +14,10 @@ use Rattle.fish_lang.specs.declared.token.Token.TheVariants as kind
 use Rattle.fish_lang.specs.declared.token.Placed.{Placed}
 use Rattle.fish_lang.proofs.Canonical.{AreFine, derivation-fine, derivation-means, IsShallow}
 use Rattle.fish_lang.proofs.Depths.{cond_of, cond_depth, conj_depth, neg_depth, cond_shallow}
-use Rattle.fish_lang.proofs.Spelling.{IsWritable, derivation_of, definition-lexed}
-use Rattle.fish_lang.proofs.Conditions.{AreTexts, IsPath, IsLiteral, IsCondition}
+use Rattle.fish_lang.proofs.Spelling.{derivation_of, definition-lexed}
 use Rattle.fish_lang.proofs.Words.{lexed}
 use Rattle.fish_lang.proofs.Proper.{IsProper, IsProperIfAny, token-proper}
+use Rattle.fish_lang.proofs.Writable.{AreTexts, IsCondition, IsLiteral, IsPath, IsWritable}
 
 -- places of a source of which none is refused
 abbrev AreGood : List Spot → Type 0

@@ -11,8 +11,8 @@ use Rattle.fish_lang.specs.Token.{is_ident}
 use Rattle.fish_lang.specs.declared.definition.Op.{Op}
 use Rattle.fish_lang.specs.declared.token.Keyword.TheVariants as word
 use Rattle.fish_lang.proofs.Depths.{step_of, further_steps, path_of, literal_of, cond_of, conj_of, neg_of, cond_depth, conj_depth, neg_depth}
-use Rattle.fish_lang.proofs.Spelling.{IsWhen, IsWritable, when_of, derivation_of}
-use Rattle.fish_lang.proofs.Conditions.{IsPath, IsCondition}
+use Rattle.fish_lang.proofs.Spelling.{when_of, derivation_of}
+use Rattle.fish_lang.proofs.Writable.{IsCondition, IsPath, IsWhen, IsWritable}
 
 step_of-name : (b : Bool) (s : List ℕ) → step_name (step_of b s) ≡ s
 step_of-name true s = refl

@@ -22,29 +22,8 @@ use Rattle.fish_lang.proofs.Depths.{step_of, further_steps, path_of, literal_of,
 use Rattle.fish_lang.proofs.Lexed.{lexed-not, lexed-and, lexed-or, lexed-starts, lexed-exists, lexed-true, lexed-false, lexed-op, lexed-string, lexed-ident}
 use Rattle.fish_lang.proofs.Numerals.{lexed-int}
 use Rattle.fish_lang.proofs.Ways.{spelled-append}
+use Rattle.fish_lang.proofs.Writable.{AreTexts, IsPath, IsLiteral, IsCondition}
 use Rattle.fish_lang.proofs.Words.{lexed, lexed-open, lexed-close, lexed-dot, EndsWord}
-
--- what can be written: names and strings are texts, numbers have 64 bits, and paths are not empty
-abbrev pub AreTexts : Steps → Type 0
-AreTexts [] = Unit {0}
-AreTexts (s ∷ more) = IsUtf8 s × AreTexts more
-
-abbrev pub IsPath : Steps → Type 0
-IsPath [] = ⊥
-IsPath (s ∷ more) = IsUtf8 s × AreTexts more
-
-abbrev pub IsLiteral : Value → Type 0
-IsLiteral (value.Bool b) = Unit {0}
-IsLiteral (value.Int n) = fits_i64 n ≡ true
-IsLiteral (value.Text s) = IsUtf8 s
-
-abbrev pub IsCondition : Formula → Type 0
-IsCondition (compares p op v) = IsPath p × IsLiteral v
-IsCondition (is_there p) = IsPath p
-IsCondition (begins p s) = IsPath p × IsUtf8 s
-IsCondition (negated a) = IsCondition a
-IsCondition (both a b) = IsCondition a × IsCondition b
-IsCondition (either a b) = IsCondition a × IsCondition b
 
 -- a step
 pub step-lexed : (s rest : List ℕ) (bare : Bool) → is_ident s ≡ bare → IsUtf8 s → EndsWord rest

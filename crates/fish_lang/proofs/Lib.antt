@@ -16,3 +16,4 @@ pub mod Trees
 pub mod Verdicts
 pub mod Ways
 pub mod Words
+pub mod Writable

@@ -15,17 +15,8 @@ use Rattle.fish_lang.proofs.Lexed.{lexed-take, lexed-bucket, lexed-flag, lexed-w
 use Rattle.fish_lang.proofs.Numerals.{lexed-int}
 use Rattle.fish_lang.proofs.Ways.{spelled-append}
 use Rattle.fish_lang.proofs.Words.{lexed, lexed-none, lexed-blank, EndsWord}
-use Rattle.fish_lang.proofs.Conditions.{IsPath, IsCondition, path-lexed, LexesTo, condition-lexed}
-
--- what can be written as a definition
-abbrev pub IsWhen : Option Formula → Type 0
-IsWhen None = Unit {0}
-IsWhen (Some a) = IsCondition a
-
-abbrev pub IsWritable : Definition → Type 0
-IsWritable (takes p w) = IsPath p × IsWhen w
-IsWritable (buckets p n w) = IsPath p × (fits_i64 n ≡ true) × (is_negative n ≡ false) × IsWhen w
-IsWritable (flags a) = IsCondition a
+use Rattle.fish_lang.proofs.Conditions.{path-lexed, LexesTo, condition-lexed}
+use Rattle.fish_lang.proofs.Writable.{IsWhen, IsWritable}
 
 -- its canonical derivation
 abbrev pub when_of : Option Formula → Option Cond

@@ -29,7 +29,8 @@ pub fn finish(alloc: Global, state: State) -> Result<Option<Def>, AllocError>
 }
 
 fn taken(owner: Owner, path: Path) -> Option<Def>
-    ensures { option_map definition_of result ≡ moves.finish (machine.behind_step (owner_view owner) path) }
+    ensures { option_map definition_of result
+        ≡ moves.finish (machine.behind_step (owner_view owner) path) }
 {
     match owner {
         Owner::Take => Some(Def::Take { path, when: None }),
@@ -43,14 +44,17 @@ fn ended_with(
     joint: Joint,
     cond: Cond,
 ) -> Result<Option<Def>, AllocError>
-    ensures { IfOk result (λ def. option_map definition_of def ≡ moves.finish (machine.behind_operand (head_view head) (joint_view joint) (formula_of cond))) }
+    ensures { IfOk result
+        (λ def. option_map definition_of def
+        ≡ moves.finish (machine.behind_operand (head_view head) (joint_view joint) (formula_of cond))) }
 {
     let (whole, cond) = or_with(alloc, joint, cond)?;
     Ok(ended(head, whole, cond))
 }
 
 fn ended(head: Head, whole: Whole, cond: Cond) -> Option<Def>
-    ensures { option_map definition_of result ≡ moves.ended (head_view head) (whole_view whole) (formula_of cond) }
+    ensures { option_map definition_of result
+        ≡ moves.ended (head_view head) (whole_view whole) (formula_of cond) }
 {
     match whole {
         Whole::Top => Some(definition_with(head, cond)),

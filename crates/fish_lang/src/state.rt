@@ -56,7 +56,8 @@ pub enum State {
 
 /// Where a token leads, or `None` where it does not fit.
 pub fn advance(alloc: Global, state: State, token: Token) -> Result<Option<State>, AllocError>
-    ensures { IfOk result (λ next. option_map state_view next ≡ moves.advance (state_view state) token) }
+    ensures { IfOk result
+        (λ next. option_map state_view next ≡ moves.advance (state_view state) token) }
 {
     match state {
         State::Start => Ok(from_start(token)),
@@ -101,7 +102,10 @@ fn from_step(
     path: Option<Path>,
     token: Token,
 ) -> Result<Option<State>, AllocError>
-    ensures { IfOk result (λ next. option_map state_view next ≡ option_map (λ s. machine.behind_step (owner_view owner) (steps_so_far path ++ s ∷ [])) (moves.name_of token)) }
+    ensures { IfOk result
+        (λ next. option_map state_view next
+        ≡ option_map (λ s. machine.behind_step (owner_view owner) (steps_so_far path ++ s ∷ []))
+        (moves.name_of token)) }
 {
     match name_of(token) {
         Some(step) => Ok(Some(State::BehindStep(owner, longer(alloc, path, step)?))),
@@ -137,7 +141,8 @@ fn from_path(
     path: Path,
     token: Token,
 ) -> Result<Option<State>, AllocError>
-    ensures { IfOk result (λ next. option_map state_view next ≡ moves.from_path (owner_view owner) path token) }
+    ensures { IfOk result
+        (λ next. option_map state_view next ≡ moves.from_path (owner_view owner) path token) }
 {
     match token {
         Token::Dot => Ok(Some(State::Step(owner, Some(path)))),
@@ -151,7 +156,8 @@ fn behind_path(
     path: Path,
     token: Token,
 ) -> Result<Option<State>, AllocError>
-    ensures { IfOk result (λ next. option_map state_view next ≡ moves.behind_path (owner_view owner) path token) }
+    ensures { IfOk result
+        (λ next. option_map state_view next ≡ moves.behind_path (owner_view owner) path token) }
 {
     match owner {
         Owner::Take => Ok(from_head(Head::Take(path), token)),
@@ -176,7 +182,9 @@ fn behind_test(
     path: Path,
     token: Token,
 ) -> Result<Option<State>, AllocError>
-    ensures { IfOk result (λ next. option_map state_view next ≡ moves.behind_test (head_view head) (operand_view place) path token) }
+    ensures { IfOk result
+        (λ next. option_map state_view next
+        ≡ moves.behind_test (head_view head) (operand_view place) path token) }
 {
     match token {
         Token::Compare(op) => Ok(Some(State::Literal(head, place, path, op))),
@@ -206,7 +214,9 @@ fn from_operand(
     place: Operand,
     token: Token,
 ) -> Result<Option<State>, AllocError>
-    ensures { IfOk result (λ next. option_map state_view next ≡ moves.from_operand (head_view head) (operand_view place) token) }
+    ensures { IfOk result
+        (λ next. option_map state_view next
+        ≡ moves.from_operand (head_view head) (operand_view place) token) }
 {
     match token {
         Token::Keyword(Keyword::Not) => {
@@ -224,7 +234,8 @@ fn from_operand(
 
 /// Behind the first step of a test.
 fn in_test(alloc: Global, head: Head, place: Operand, step: Text) -> State
-    ensures { state_view result ≡ machine.behind_step (machine.of_test (head_view head) (operand_view place)) (step ∷ []) }
+    ensures { state_view result
+        ≡ machine.behind_step (machine.of_test (head_view head) (operand_view place)) (step ∷ []) }
 {
     State::BehindStep(Owner::Test(head, place), Path::new(alloc, step))
 }
@@ -237,7 +248,10 @@ fn from_literal(
     op: Op,
     token: Token,
 ) -> Result<Option<State>, AllocError>
-    ensures { IfOk result (λ next. option_map state_view next ≡ option_map (λ v. machine.complete (head_view head) (operand_view place) (compares path op v)) (moves.value_of token)) }
+    ensures { IfOk result
+        (λ next. option_map state_view next
+        ≡ option_map (λ v. machine.complete (head_view head) (operand_view place) (compares path op v))
+        (moves.value_of token)) }
 {
     match value_of(token) {
         Some(literal) => {
@@ -268,7 +282,10 @@ fn from_prefix(
     path: Path,
     token: Token,
 ) -> Result<Option<State>, AllocError>
-    ensures { IfOk result (λ next. option_map state_view next ≡ option_map (λ s. machine.complete (head_view head) (operand_view place) (begins path s)) (moves.text_of token)) }
+    ensures { IfOk result
+        (λ next. option_map state_view next
+        ≡ option_map (λ s. machine.complete (head_view head) (operand_view place) (begins path s))
+        (moves.text_of token)) }
 {
     match token {
         Token::Str(prefix) => {
@@ -281,7 +298,9 @@ fn from_prefix(
 
 /// Behind an operand, which completes a `not` and an `and` in front of it.
 fn complete(alloc: Global, head: Head, place: Operand, cond: Cond) -> Result<State, AllocError>
-    ensures { IfOk result (λ next. state_view next ≡ machine.complete (head_view head) (operand_view place) (formula_of cond)) }
+    ensures { IfOk result
+        (λ next. state_view next
+        ≡ machine.complete (head_view head) (operand_view place) (formula_of cond)) }
 {
     match place {
         Operand::InJoint(joint) => Ok(State::BehindOperand(head, joint, cond)),
@@ -303,7 +322,9 @@ fn from_joint(
     cond: Cond,
     token: Token,
 ) -> Result<Option<State>, AllocError>
-    ensures { IfOk result (λ next. option_map state_view next ≡ moves.from_joint (head_view head) (joint_view joint) (formula_of cond) token) }
+    ensures { IfOk result
+        (λ next. option_map state_view next
+        ≡ moves.from_joint (head_view head) (joint_view joint) (formula_of cond) token) }
 {
     match token {
         Token::Keyword(Keyword::And) => {
@@ -325,7 +346,8 @@ fn from_joint(
 /// The condition that ends with a part of an `or`, and where it stands.
 pub fn or_with(alloc: Global, joint: Joint, cond: Cond) -> Result<(Whole, Cond), AllocError>
     ensures whole { IfOk result (λ r. whole_view r.0 ≡ machine.whole_of (joint_view joint)) }
-    ensures cond { IfOk result (λ r. formula_of r.1 ≡ machine.or_with (joint_view joint) (formula_of cond)) }
+    ensures cond { IfOk result
+        (λ r. formula_of r.1 ≡ machine.or_with (joint_view joint) (formula_of cond)) }
 {
     match joint {
         Joint::InWhole(whole) => Ok((whole, cond)),
@@ -338,7 +360,9 @@ pub fn or_with(alloc: Global, joint: Joint, cond: Cond) -> Result<(Whole, Cond),
 
 /// `)` ends a group.
 fn close(alloc: Global, head: Head, whole: Whole, cond: Cond) -> Result<Option<State>, AllocError>
-    ensures { IfOk result (λ next. option_map state_view next ≡ moves.close (head_view head) (whole_view whole) (formula_of cond)) }
+    ensures { IfOk result
+        (λ next. option_map state_view next
+        ≡ moves.close (head_view head) (whole_view whole) (formula_of cond)) }
 {
     match whole {
         Whole::Top => Ok(None),
