@@ -1,8 +1,9 @@
 -- What the parser knows, as unfinished derivations: each stands for a state, has spelled its tokens so
 -- far, and can be finished.
-use Rattle.std.proofs.Common.{◌≡◌, ℕ, suc, List, [], ◌∷◌, ◌++◌, refl, sym, ◌∙◌, ap, append_assoc, append-nil}
-use Rattle.std.specs.Prelude.{ℤ, pos, Bool, true, false, Option, Some, None, unwrap_or}
-use Rattle.fish_lang.specs.Grammar.{Step, ident, Path, one_step, more_steps, Literal, truth, Test, compare, exist, start, Cond, one_conj, more_conjs, Conj, one_neg, more_negs, Neg, not_neg, group, test, Derivation, take_def, bucket_def, flag_def, Spot, spot, keyword, path_spots, path_steps, test_spots, nesting_fault, width_fault, cond_spots, conj_spots, neg_spots, cond_formula, conj_formula, neg_formula, when_spots, spots, meaning}
+use Rattle.std.proofs.Common.{◌≡◌, List, [], ◌∷◌, ◌++◌, refl, ◌∙◌, append_assoc, append-nil}
+use Rattle.std.specs.Prelude.{ℤ, pos, false, Option, Some, unwrap_or}
+use Rattle.fish_lang.specs.Grammar.{Spot, spot, keyword, path_spots, nesting_fault, width_fault, cond_spots, conj_spots, neg_spots, spots}
+use Rattle.fish_lang.specs.Derivation.{Path, Cond, one_conj, more_conjs, Conj, one_neg, more_negs, Neg, not_neg, group, Derivation, take_def, bucket_def, flag_def, path_steps, cond_formula, conj_formula, neg_formula}
 use Rattle.fish_lang.specs.Machine as machine
 use Rattle.fish_lang.specs.Machine.{State, complete, nesting, joint_nesting, whole_nesting}
 use Rattle.fish_lang.specs.declared.definition.Op.{Op}
@@ -89,22 +90,28 @@ state_of (behind_operand h j c) = machine.behind_operand (head_state h) (joint_s
 -- what each has spelled
 abbrev pub head_spots : Head → List Spot
 head_spots (take_when p) = keyword word.Take ∷ (path_spots p ++ keyword word.When ∷ [])
-head_spots (bucket_when p n) = keyword word.Bucket ∷ (path_spots p ++ keyword word.By ∷ record { token = kind.Number false n; fault = width_fault n } ∷ keyword word.When ∷ [])
+head_spots (bucket_when p n) = keyword word.Bucket ∷ (path_spots p
+    ++ keyword word.By ∷ record { token = kind.Number false n; fault = width_fault n } ∷ keyword
+    word.When ∷ [])
 head_spots flag_when = keyword word.Flag ∷ keyword word.When ∷ []
 
 abbrev mutual
   pub whole_before : Head → Whole → List Spot
   whole_before h top = head_spots h
-  whole_before h (in_group k) = operand_before h k ++ record { token = kind.Open; fault = nesting_fault (nesting (operand_state k)) } ∷ []
+  whole_before h (in_group k) = operand_before h k
+      ++ record { token = kind.Open; fault = nesting_fault (nesting (operand_state k)) } ∷ []
 
   pub joint_before : Head → Joint → List Spot
   joint_before h (in_whole w) = whole_before h w
-  joint_before h (behind_or a w) = whole_before h w ++ (cond_spots (whole_nesting (whole_state w)) a ++ keyword word.Or ∷ [])
+  joint_before h (behind_or a w) = whole_before h w ++ (cond_spots (whole_nesting (whole_state w)) a
+      ++ keyword word.Or ∷ [])
 
   pub operand_before : Head → Operand → List Spot
   operand_before h (in_joint j) = joint_before h j
-  operand_before h (behind_and c j) = joint_before h j ++ (conj_spots (joint_nesting (joint_state j)) c ++ keyword word.And ∷ [])
-  operand_before h (under_not k) = operand_before h k ++ record { token = kind.Keyword word.Not; fault = nesting_fault (nesting (operand_state k)) } ∷ []
+  operand_before h (behind_and c j) = joint_before h j
+      ++ (conj_spots (joint_nesting (joint_state j)) c ++ keyword word.And ∷ [])
+  operand_before h (under_not k) = operand_before h k
+      ++ record { token = kind.Keyword word.Not; fault = nesting_fault (nesting (operand_state k)) } ∷ []
 
 abbrev pub owner_before : Owner → List Spot
 owner_before of_take = keyword word.Take ∷ []
@@ -119,7 +126,8 @@ before first_of_bucket = keyword word.Bucket ∷ []
 before (behind_dot o p) = owner_before o ++ (path_spots p ++ spot kind.Dot ∷ [])
 before (behind_step o p) = owner_before o ++ path_spots p
 before (width p) = keyword word.Bucket ∷ (path_spots p ++ keyword word.By ∷ [])
-before (behind_width p n) = keyword word.Bucket ∷ (path_spots p ++ keyword word.By ∷ record { token = kind.Number false n; fault = width_fault n } ∷ [])
+before (behind_width p n) = keyword word.Bucket ∷ (path_spots p
+    ++ keyword word.By ∷ record { token = kind.Number false n; fault = width_fault n } ∷ [])
 before (operand h k) = operand_before h k
 before (literal h k p op) = operand_before h k ++ (path_spots p ++ spot (kind.Compare op) ∷ [])
 before (prefix h k p) = operand_before h k ++ (path_spots p ++ keyword word.Starts ∷ [])
@@ -131,12 +139,14 @@ completed h (in_joint j) a = behind_operand h j (one_neg a)
 completed h (behind_and c j) a = behind_operand h j (more_negs c a)
 completed h (under_not k) a = completed h k (not_neg a)
 
-pub completed-state : (h : Head) (k : Operand) (a : Neg) → state_of (completed h k a) ≡ complete (head_state h) (operand_state k) (neg_formula a)
+pub completed-state : (h : Head) (k : Operand) (a : Neg) → state_of (completed h k a)
+    ≡ complete (head_state h) (operand_state k) (neg_formula a)
 completed-state h (in_joint j) a = refl
 completed-state h (behind_and c j) a = refl
 completed-state h (under_not k) a = completed-state h k (not_neg a)
 
-pub completed-before : (h : Head) (k : Operand) (a : Neg) → before (completed h k a) ≡ operand_before h k ++ neg_spots (nesting (operand_state k)) a
+pub completed-before : (h : Head) (k : Operand) (a : Neg) → before (completed h k a)
+    ≡ operand_before h k ++ neg_spots (nesting (operand_state k)) a
 completed-before h (in_joint j) a = refl
 completed-before h (behind_and c j) a = simp append_assoc
 completed-before h (under_not k) a = completed-before h k (not_neg a) ∙ simp append_assoc
@@ -150,11 +160,14 @@ abbrev pub whole_of : Joint → Whole
 whole_of (in_whole w) = w
 whole_of (behind_or a w) = w
 
-pub ended-before : (h : Head) (j : Joint) (c : Conj) → joint_before h j ++ conj_spots (joint_nesting (joint_state j)) c ≡ whole_before h (whole_of j) ++ cond_spots (whole_nesting (whole_state (whole_of j))) (ended j c)
+pub ended-before : (h : Head) (j : Joint) (c : Conj) → joint_before h j
+    ++ conj_spots (joint_nesting (joint_state j)) c ≡ whole_before h (whole_of j)
+    ++ cond_spots (whole_nesting (whole_state (whole_of j))) (ended j c)
 ended-before h (in_whole w) c = refl
 ended-before h (behind_or a w) c = simp append_assoc
 
-pub ended-state : (j : Joint) (c : Conj) → machine.or_with (joint_state j) (conj_formula c) ≡ cond_formula (ended j c)
+pub ended-state : (j : Joint) (c : Conj) → machine.or_with (joint_state j) (conj_formula c)
+    ≡ cond_formula (ended j c)
 ended-state (in_whole w) c = refl
 ended-state (behind_or a w) c = refl
 
@@ -202,15 +215,18 @@ with_cond-spots (bucket_when p n) c = simp append_assoc
 with_cond-spots flag_when c = refl
 
 mutual
-  pub round_whole-spots : (h : Head) (w : Whole) (c : Cond) → spots (round_whole h w c) ≡ whole_before h w ++ (cond_spots (whole_nesting (whole_state w)) c ++ whole_behind w)
+  pub round_whole-spots : (h : Head) (w : Whole) (c : Cond) → spots (round_whole h w c)
+      ≡ whole_before h w ++ (cond_spots (whole_nesting (whole_state w)) c ++ whole_behind w)
   round_whole-spots h top c = with_cond-spots h c ∙ simp append-nil
   round_whole-spots h (in_group k) c = round-spots h k (group c) ∙ simp append_assoc
 
-  pub round_joint-spots : (h : Head) (j : Joint) (c : Conj) → spots (round_joint h j c) ≡ joint_before h j ++ (conj_spots (joint_nesting (joint_state j)) c ++ joint_behind j)
+  pub round_joint-spots : (h : Head) (j : Joint) (c : Conj) → spots (round_joint h j c)
+      ≡ joint_before h j ++ (conj_spots (joint_nesting (joint_state j)) c ++ joint_behind j)
   round_joint-spots h (in_whole w) c = round_whole-spots h w (one_conj c)
   round_joint-spots h (behind_or a w) c = round_whole-spots h w (more_conjs a c) ∙ simp append_assoc
 
-  pub round-spots : (h : Head) (k : Operand) (a : Neg) → spots (round h k a) ≡ operand_before h k ++ (neg_spots (nesting (operand_state k)) a ++ behind k)
+  pub round-spots : (h : Head) (k : Operand) (a : Neg) → spots (round h k a) ≡ operand_before h k
+      ++ (neg_spots (nesting (operand_state k)) a ++ behind k)
   round-spots h (in_joint j) a = round_joint-spots h j (one_neg a)
   round-spots h (behind_and c j) a = round_joint-spots h j (more_negs c a) ∙ simp append_assoc
   round-spots h (under_not k) a = round-spots h k (not_neg a) ∙ simp append_assoc

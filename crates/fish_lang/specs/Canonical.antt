@@ -58,8 +58,10 @@ formula_text part (compares path op literal) = path_text path ++ (op_text op ++ 
 formula_text part (is_there path) = path_text path ++ codes " exists"
 formula_text part (begins path prefix) = path_text path ++ (codes " starts " ++ quoted prefix)
 formula_text part (negated a) = codes "not " ++ formula_text OfAnd a
-formula_text part (both a b) = opening (closes_and part) ++ (formula_text OfOr a ++ (codes " and " ++ (formula_text OfAnd b ++ closing (closes_and part))))
-formula_text part (either a b) = opening (closes_or part) ++ (formula_text Whole a ++ (codes " or " ++ (formula_text OfOr b ++ closing (closes_or part))))
+formula_text part (both a b) = opening (closes_and part)
+    ++ (formula_text OfOr a ++ (codes " and " ++ (formula_text OfAnd b ++ closing (closes_and part))))
+formula_text part (either a b) = opening (closes_or part)
+    ++ (formula_text Whole a ++ (codes " or " ++ (formula_text OfOr b ++ closing (closes_or part))))
 
 abbrev pub when_text : Option Formula → List ℕ
 when_text None = []
@@ -68,5 +70,6 @@ when_text (Some a) = codes " when " ++ formula_text Whole a
 -- a definition
 abbrev pub definition_text : Definition → List ℕ
 definition_text (takes path when) = codes "take " ++ (path_text path ++ when_text when)
-definition_text (buckets path width when) = codes "bucket " ++ (path_text path ++ (codes " by " ++ (signed_decimal width ++ when_text when)))
+definition_text (buckets path width when) = codes "bucket "
+    ++ (path_text path ++ (codes " by " ++ (signed_decimal width ++ when_text when)))
 definition_text (flags when) = codes "flag when " ++ formula_text Whole when

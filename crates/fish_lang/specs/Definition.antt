@@ -1,5 +1,5 @@
 -- Definitions by what they say, without the places in memory of their parts.
-use Rattle.std.specs.Prelude.{ℕ, ℤ, List, Option, Some, None, option_map}
+use Rattle.std.specs.Prelude.{ℕ, ℤ, List, Option, option_map}
 use Rattle.fish_value.specs.declared.value.Value.{Value}
 use Rattle.fish_lang.specs.declared.definition.Op.{Op}
 use Rattle.fish_lang.specs.declared.definition.Cond.{Cond}

@@ -1,14 +1,15 @@
 -- What a source is: a definition, or refused. All of it is said by derivations.
-use Rattle.std.specs.Prelude.{◌≡◌, ◌≢◌, ℕ, ◌≤◌, ◌<◌, ◌⊎◌, List, [], ◌∷◌, ◌++◌, Some, None, Result, Ok, Err, length, map}
+use Rattle.std.specs.Prelude.{◌≡◌, ◌≢◌, ℕ, ◌≤◌, ◌<◌, ◌⊎◌, List, [], ◌∷◌, ◌++◌, Some, Result, Ok, Err, length, map}
 use Rattle.fish_lang.specs.Canonical.{definition_text}
 use Rattle.fish_lang.specs.Definition.{Definition}
-use Rattle.fish_lang.specs.Grammar.{Derivation, Spot, spot, spots, spelled, meaning}
-use Rattle.fish_lang.specs.Token.{tokens}
+use Rattle.fish_lang.specs.Grammar.{Spot, spot, spots, spelled}
+use Rattle.fish_lang.specs.Derivation.{Derivation, meaning}
+use Rattle.fish_lang.specs.Token.{tokens, token_of}
 use Rattle.fish_lang.specs.declared.parse.LangRefusal.{LangRefusal}
 use Rattle.fish_lang.specs.declared.parse.LangRefusal.TheVariants as refusal
 use Rattle.fish_lang.specs.declared.parse.TheConstants.{MAX_SOURCE, MAX_CANONICAL}
-use Rattle.fish_lang.specs.declared.state.Fault.{Fault}
-use Rattle.fish_lang.specs.declared.state.Fault.TheVariants.{TooDeep, NumberTooLarge, ZeroWidth}
+use Rattle.fish_lang.specs.declared.fault.Fault.{Fault}
+use Rattle.fish_lang.specs.declared.fault.Fault.TheVariants.{TooDeep, NumberTooLarge, ZeroWidth}
 use Rattle.fish_lang.specs.declared.token.Token.{Token}
 use Rattle.fish_lang.specs.declared.token.Placed.{Placed}
 
@@ -20,6 +21,11 @@ kinds = map (λ p. p.token)
 abbrev pub unrefused : List Placed → List Spot
 unrefused = map (λ p. spot p.token)
 
+-- tokens that bytes can be
+abbrev pub AreTokens : List Spot → Type 0
+AreTokens [] = Unit {0}
+AreTokens (x ∷ xs) = ((bytes : List ℕ) × (token_of bytes ≡ Some x.token)) × AreTokens xs
+
 -- the tokens are those of a derivation with this meaning, and none is refused
 pub record IsRead (ts : List Placed) (d : Definition) : Type 0 where
   pub tree : Derivation
@@ -30,6 +36,7 @@ pub record IsRead (ts : List Placed) (d : Definition) : Type 0 where
 pub record BeginsWell (ts : List Placed) : Type 0 where
   pub tree : Derivation
   pub more : List Spot
+  pub real : AreTokens more
   pub spells : spots tree ≡ unrefused ts ++ more
 
 -- no definition begins with the tokens
@@ -60,6 +67,7 @@ pub record Faulty (fault : Fault) (ts : List Placed) (at : ℕ) : Type 0 where
   pub place : placed.at ≡ at
   pub tree : Derivation
   pub more : List Spot
+  pub real : AreTokens more
   pub spells : spots tree ≡ unrefused before ++ record { token = placed.token; fault = Some fault } ∷ more
 
 -- what tokens are, whose source ends at a place
@@ -87,14 +95,16 @@ IsAnswer b (Err e) = IsVerdict (tokens b) (length b) (Err e)
 
 -- what a source is: too long, or what its tokens are
 abbrev pub IsOutcome : List ℕ → Result Definition LangRefusal → Type 0
-IsOutcome b r = ((MAX_SOURCE < length b) × (r ≡ Err (refusal.TooLong (length b)))) ⊎ ((length b ≤ MAX_SOURCE) × IsAnswer b r)
+IsOutcome b r = ((MAX_SOURCE < length b) × (r ≡ Err (refusal.TooLong (length b)))) ⊎
+    ((length b ≤ MAX_SOURCE) × IsAnswer b r)
 
 -- the source is this definition
 abbrev pub IsAccepted : List ℕ → Definition → Type 0
 IsAccepted b d = IsOutcome b (Ok d)
 
 -- an answer, seen by `view`, is one that is due, unless memory ran out
-abbrev pub UnlessMemory : {X Y : Type 0} → (X → Y) → Result X LangRefusal → (Result Y LangRefusal → Type 0) → Type 0
+abbrev pub UnlessMemory : {X Y : Type 0} → (X → Y) → Result X LangRefusal →
+    (Result Y LangRefusal → Type 0) → Type 0
 UnlessMemory view (Ok x) IsDue = IsDue (Ok (view x))
 UnlessMemory view (Err refusal.OutOfMemory) IsDue = Unit {0}
 UnlessMemory view (Err e) IsDue = IsDue (Err e)

@@ -1,8 +1,10 @@
 pub mod Canonical
 pub mod Definition
+pub mod Derivation
 pub mod Grammar
 pub mod Language
 pub mod Machine
+pub mod Moves
 pub mod Outcome
 pub mod Token
 pub mod ValuePrint

@@ -1,15 +1,16 @@
 -- What a parse answers, token by token. `Language` says what it means; these words are for the clauses
 -- of private functions.
-use Rattle.std.specs.Prelude.{◌≡◌, ℕ, nat_le, nat_lt, List, [], ◌∷◌, Option, Some, None, Result, Ok, Err, length, if◌then◌else◌}
+use Rattle.std.specs.Prelude.{◌≡◌, ℕ, nat_lt, List, [], ◌∷◌, Option, Some, None, Result, Ok, Err, length, if◌then◌else◌}
 use Rattle.fish_lang.specs.Canonical.{definition_text}
 use Rattle.fish_lang.specs.Definition.{Definition}
-use Rattle.fish_lang.specs.Machine.{State, start, advance, fault_at, finish}
+use Rattle.fish_lang.specs.Machine.{State, start}
+use Rattle.fish_lang.specs.Moves.{advance, fault_at, finish}
 use Rattle.fish_lang.specs.Token.{tokens}
 use Rattle.fish_lang.specs.declared.parse.LangRefusal.{LangRefusal}
 use Rattle.fish_lang.specs.declared.parse.LangRefusal.TheVariants as refusal
 use Rattle.fish_lang.specs.declared.parse.TheConstants.{MAX_SOURCE, MAX_CANONICAL}
-use Rattle.fish_lang.specs.declared.state.Fault.{Fault}
-use Rattle.fish_lang.specs.declared.state.Fault.TheVariants.{TooDeep, NumberTooLarge, ZeroWidth}
+use Rattle.fish_lang.specs.declared.fault.Fault.{Fault}
+use Rattle.fish_lang.specs.declared.fault.Fault.TheVariants.{TooDeep, NumberTooLarge, ZeroWidth}
 use Rattle.fish_lang.specs.declared.token.Placed.{Placed}
 
 -- a refusal is the one that is due, unless memory ran out
@@ -39,7 +40,8 @@ unless_unexpected (Some next) fault at = unless_fault fault next at
 abbrev pub turn : State → Placed → Result State LangRefusal
 turn state placed = unless_unexpected (advance state placed.token) (fault_at state placed.token) placed.at
 
-abbrev pub and_then : {X Y : Type 0} → Result X LangRefusal → (X → Result Y LangRefusal) → Result Y LangRefusal
+abbrev pub and_then : {X Y : Type 0} → Result X LangRefusal → (X → Result Y LangRefusal)
+    → Result Y LangRefusal
 and_then (Ok x) f = f x
 and_then (Err e) f = Err e
 
@@ -55,8 +57,10 @@ run state (placed ∷ more) end = and_then (turn state placed) (λ next. run nex
 
 -- a definition, unless its canonical text is too long
 abbrev pub unless_long : Definition → Result Definition LangRefusal
-unless_long d = if nat_lt MAX_CANONICAL (length (definition_text d)) then Err (refusal.TooLong (length (definition_text d))) else Ok d
+unless_long d = if nat_lt MAX_CANONICAL (length (definition_text d)) then Err
+    (refusal.TooLong (length (definition_text d))) else Ok d
 
 -- a source
 unfoldable pub outcome : List ℕ → Result Definition LangRefusal
-outcome b = if nat_lt MAX_SOURCE (length b) then Err (refusal.TooLong (length b)) else and_then (run start (tokens b) (length b)) unless_long
+outcome b = if nat_lt MAX_SOURCE (length b) then Err (refusal.TooLong (length b)) else and_then
+    (run start (tokens b) (length b)) unless_long

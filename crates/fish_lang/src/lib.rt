@@ -4,6 +4,9 @@
 #![tactic(auto)]
 
 mod definition;
+mod fault;
+mod finish;
+mod law;
 mod parse;
 mod place;
 mod print;
@@ -12,6 +15,7 @@ mod token;
 mod value_print;
 
 pub use definition::{Cond, Def, Op};
+pub use law::{has_one_outcome, has_one_reading, reads_back};
 pub use parse::{LangRefusal, MAX_CANONICAL, MAX_SOURCE, parse_def};
 pub use print::print_def;
 pub use value_print::print_value;

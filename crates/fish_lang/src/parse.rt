@@ -10,8 +10,10 @@ ghost use Rattle.fish_lang.specs.Language.{IsOutcome, UnlessMemory};
 ghost use Rattle.fish_lang.specs.declared.parse.LangRefusal.{LangRefusal};
 
 use crate::definition::Def;
+use crate::fault::{Fault, fault_at};
+use crate::finish::finish;
 use crate::print::print_def;
-use crate::state::{Fault, State, advance, fault_at, finish};
+use crate::state::{State, advance};
 use crate::token::{Placed, tokens_of};
 use std::alloc::{AllocError, Global};
 use thiserror::Error;

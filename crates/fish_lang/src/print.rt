@@ -35,7 +35,8 @@ pub fn print_def(alloc: Global, def: &Def) -> Result<Text, AllocError>
 }
 
 fn write_def(alloc: Global, out: &mut String, def: &Def) -> Result<(), AllocError>
-    ensures { OnOk result (string_bytes out.new ≡ string_bytes out.old ++ definition_text (definition_of def.now)) }
+    ensures { OnOk result
+        (string_bytes out.new ≡ string_bytes out.old ++ definition_text (definition_of def.now)) }
 {
     match def {
         Def::Take { path, when } => {
@@ -57,7 +58,8 @@ fn write_def(alloc: Global, out: &mut String, def: &Def) -> Result<(), AllocErro
 }
 
 fn write_width(alloc: Global, out: &mut String, width: i64) -> Result<(), AllocError>
-    ensures { OnOk result (string_bytes out.new ≡ string_bytes out.old ++ (codes " by " ++ signed_decimal width)) }
+    ensures { OnOk result
+        (string_bytes out.new ≡ string_bytes out.old ++ (codes " by " ++ signed_decimal width)) }
 {
     out.push_str(" by ")?;
     let text = width.to_string(alloc)?;
@@ -65,7 +67,9 @@ fn write_width(alloc: Global, out: &mut String, width: i64) -> Result<(), AllocE
 }
 
 fn write_when(alloc: Global, out: &mut String, when: &Option<Cond>) -> Result<(), AllocError>
-    ensures { OnOk result (string_bytes out.new ≡ string_bytes out.old ++ when_text (option_map formula_of when.now)) }
+    ensures { OnOk result
+        (string_bytes out.new
+        ≡ string_bytes out.old ++ when_text (option_map formula_of when.now)) }
 {
     match when {
         None => Ok(()),
@@ -77,7 +81,8 @@ fn write_when(alloc: Global, out: &mut String, when: &Option<Cond>) -> Result<()
 }
 
 fn write_cond(alloc: Global, out: &mut String, part: Part, cond: &Cond) -> Result<(), AllocError>
-    ensures { OnOk result (string_bytes out.new ≡ string_bytes out.old ++ formula_text part (formula_of cond.now)) }
+    ensures { OnOk result
+        (string_bytes out.new ≡ string_bytes out.old ++ formula_text part (formula_of cond.now)) }
 {
     match cond {
         Cond::Compare { path, op, literal } => {

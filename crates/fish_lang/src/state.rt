@@ -1,27 +1,16 @@
 //! What the parser knows between two tokens, and where a token leads.
 
-ghost use Rattle.std.specs.Prelude.{◌≡◌, ◌++◌, ◌∷◌, [], Option, Some, option_map, nat_lt, IfOk};
-ghost use Rattle.fish_lang.specs.Definition.{formula_of, definition_of, compares, begins};
-ghost use Rattle.fish_lang.specs.Grammar.{number_fault, width_fault, nesting_fault};
+ghost use Rattle.std.specs.Prelude.{◌≡◌, ◌++◌, ◌∷◌, [], Option, Some, option_map, IfOk};
+ghost use Rattle.fish_lang.specs.Definition.{formula_of, compares, begins};
 ghost use Rattle.fish_lang.specs.Machine as machine;
+ghost use Rattle.fish_lang.specs.Moves as moves;
 ghost use Rattle.fish_lang.specs.Views.{whole_view, joint_view, operand_view, head_view, owner_view, steps_so_far, state_view};
 
-use crate::definition::{Cond, Def, Op};
-use crate::place::{Joint, Operand, Whole, nests_less};
+use crate::definition::{Cond, Op};
+use crate::place::{Joint, Operand, Whole};
 use crate::token::{Keyword, Token};
 use fish_value::{Path, Text, Value};
 use std::alloc::{AllocError, Global};
-
-/// Why a token that fits is refused.
-#[derive(Clone, Copy, Debug, PartialEq, Eq)]
-pub enum Fault {
-    /// It makes the nesting 17.
-    TooDeep,
-    /// It is a number outside an `i64`.
-    NumberTooLarge,
-    /// It is a width of 0.
-    ZeroWidth,
-}
 
 /// What stands in front of a condition, without `when`.
 #[derive(Debug, Drop)]
@@ -67,7 +56,8 @@ pub enum State {
 
 /// Where a token leads, or `None` where it does not fit.
 pub fn advance(alloc: Global, state: State, token: Token) -> Result<Option<State>, AllocError>
-    ensures { IfOk result (λ next. option_map state_view next ≡ machine.advance (state_view state) token) }
+    ensures { IfOk result
+        (λ next. option_map state_view next ≡ moves.advance (state_view state) token) }
 {
     match state {
         State::Start => Ok(from_start(token)),
@@ -84,7 +74,7 @@ pub fn advance(alloc: Global, state: State, token: Token) -> Result<Option<State
 }
 
 fn from_start(token: Token) -> Option<State>
-    ensures { option_map state_view result ≡ machine.from_start token }
+    ensures { option_map state_view result ≡ moves.from_start token }
 {
     match token {
         Token::Keyword(Keyword::Take) => Some(State::Step(Owner::Take, None)),
@@ -96,7 +86,7 @@ fn from_start(token: Token) -> Option<State>
 
 /// `when` begins a condition.
 fn from_head(head: Head, token: Token) -> Option<State>
-    ensures { option_map state_view result ≡ machine.from_head (head_view head) token }
+    ensures { option_map state_view result ≡ moves.from_head (head_view head) token }
 {
     match token {
         Token::Keyword(Keyword::When) => {
@@ -112,7 +102,10 @@ fn from_step(
     path: Option<Path>,
     token: Token,
 ) -> Result<Option<State>, AllocError>
-    ensures { IfOk result (λ next. option_map state_view next ≡ option_map (λ s. machine.behind_step (owner_view owner) (steps_so_far path ++ s ∷ [])) (machine.name_of token)) }
+    ensures { IfOk result
+        (λ next. option_map state_view next
+        ≡ option_map (λ s. machine.behind_step (owner_view owner) (steps_so_far path ++ s ∷ []))
+        (moves.name_of token)) }
 {
     match name_of(token) {
         Some(step) => Ok(Some(State::BehindStep(owner, longer(alloc, path, step)?))),
@@ -133,7 +126,7 @@ fn longer(alloc: Global, path: Option<Path>, step: Text) -> Result<Path, AllocEr
 }
 
 fn name_of(token: Token) -> Option<Text>
-    ensures { result ≡ machine.name_of token }
+    ensures { result ≡ moves.name_of token }
 {
     match token {
         Token::Ident(s) => Some(s),
@@ -148,7 +141,8 @@ fn from_path(
     path: Path,
     token: Token,
 ) -> Result<Option<State>, AllocError>
-    ensures { IfOk result (λ next. option_map state_view next ≡ machine.from_path (owner_view owner) path token) }
+    ensures { IfOk result
+        (λ next. option_map state_view next ≡ moves.from_path (owner_view owner) path token) }
 {
     match token {
         Token::Dot => Ok(Some(State::Step(owner, Some(path)))),
@@ -162,7 +156,8 @@ fn behind_path(
     path: Path,
     token: Token,
 ) -> Result<Option<State>, AllocError>
-    ensures { IfOk result (λ next. option_map state_view next ≡ machine.behind_path (owner_view owner) path token) }
+    ensures { IfOk result
+        (λ next. option_map state_view next ≡ moves.behind_path (owner_view owner) path token) }
 {
     match owner {
         Owner::Take => Ok(from_head(Head::Take(path), token)),
@@ -172,7 +167,7 @@ fn behind_path(
 }
 
 fn behind_bucket(path: Path, token: Token) -> Option<State>
-    ensures { option_map state_view result ≡ machine.behind_bucket path token }
+    ensures { option_map state_view result ≡ moves.behind_bucket path token }
 {
     match token {
         Token::Keyword(Keyword::By) => Some(State::Width(path)),
@@ -187,7 +182,9 @@ fn behind_test(
     path: Path,
     token: Token,
 ) -> Result<Option<State>, AllocError>
-    ensures { IfOk result (λ next. option_map state_view next ≡ machine.behind_test (head_view head) (operand_view place) path token) }
+    ensures { IfOk result
+        (λ next. option_map state_view next
+        ≡ moves.behind_test (head_view head) (operand_view place) path token) }
 {
     match token {
         Token::Compare(op) => Ok(Some(State::Literal(head, place, path, op))),
@@ -200,12 +197,13 @@ fn behind_test(
 }
 
 fn from_width(path: Path, token: Token) -> Option<State>
-    ensures { option_map state_view result ≡ machine.from_width path token }
+    ensures { option_map state_view result ≡ moves.from_width path token }
 {
     match token {
-        Token::Number { negative: false, value } => {
-            Some(State::BehindWidth(path, value.unwrap_or(0)))
-        }
+        Token::Number {
+            negative: false,
+            value,
+        } => { Some(State::BehindWidth(path, value.unwrap_or(0))) }
         _ => None,
     }
 }
@@ -216,7 +214,9 @@ fn from_operand(
     place: Operand,
     token: Token,
 ) -> Result<Option<State>, AllocError>
-    ensures { IfOk result (λ next. option_map state_view next ≡ machine.from_operand (head_view head) (operand_view place) token) }
+    ensures { IfOk result
+        (λ next. option_map state_view next
+        ≡ moves.from_operand (head_view head) (operand_view place) token) }
 {
     match token {
         Token::Keyword(Keyword::Not) => {
@@ -234,7 +234,8 @@ fn from_operand(
 
 /// Behind the first step of a test.
 fn in_test(alloc: Global, head: Head, place: Operand, step: Text) -> State
-    ensures { state_view result ≡ machine.behind_step (machine.of_test (head_view head) (operand_view place)) (step ∷ []) }
+    ensures { state_view result
+        ≡ machine.behind_step (machine.of_test (head_view head) (operand_view place)) (step ∷ []) }
 {
     State::BehindStep(Owner::Test(head, place), Path::new(alloc, step))
 }
@@ -247,7 +248,10 @@ fn from_literal(
     op: Op,
     token: Token,
 ) -> Result<Option<State>, AllocError>
-    ensures { IfOk result (λ next. option_map state_view next ≡ option_map (λ v. machine.complete (head_view head) (operand_view place) (compares path op v)) (machine.value_of token)) }
+    ensures { IfOk result
+        (λ next. option_map state_view next
+        ≡ option_map (λ v. machine.complete (head_view head) (operand_view place) (compares path op v))
+        (moves.value_of token)) }
 {
     match value_of(token) {
         Some(literal) => {
@@ -260,7 +264,7 @@ fn from_literal(
 
 /// A number outside an `i64` is refused, so it does not matter what stands for it.
 fn value_of(token: Token) -> Option<Value>
-    ensures { result ≡ machine.value_of token }
+    ensures { result ≡ moves.value_of token }
 {
     match token {
         Token::Keyword(Keyword::True) => Some(Value::Bool(true)),
@@ -278,7 +282,10 @@ fn from_prefix(
     path: Path,
     token: Token,
 ) -> Result<Option<State>, AllocError>
-    ensures { IfOk result (λ next. option_map state_view next ≡ option_map (λ s. machine.complete (head_view head) (operand_view place) (begins path s)) (machine.text_of token)) }
+    ensures { IfOk result
+        (λ next. option_map state_view next
+        ≡ option_map (λ s. machine.complete (head_view head) (operand_view place) (begins path s))
+        (moves.text_of token)) }
 {
     match token {
         Token::Str(prefix) => {
@@ -290,13 +297,10 @@ fn from_prefix(
 }
 
 /// Behind an operand, which completes a `not` and an `and` in front of it.
-fn complete(
-    alloc: Global,
-    head: Head,
-    place: Operand,
-    cond: Cond,
-) -> Result<State, AllocError>
-    ensures { IfOk result (λ next. state_view next ≡ machine.complete (head_view head) (operand_view place) (formula_of cond)) }
+fn complete(alloc: Global, head: Head, place: Operand, cond: Cond) -> Result<State, AllocError>
+    ensures { IfOk result
+        (λ next. state_view next
+        ≡ machine.complete (head_view head) (operand_view place) (formula_of cond)) }
 {
     match place {
         Operand::InJoint(joint) => Ok(State::BehindOperand(head, joint, cond)),
@@ -318,7 +322,9 @@ fn from_joint(
     cond: Cond,
     token: Token,
 ) -> Result<Option<State>, AllocError>
-    ensures { IfOk result (λ next. option_map state_view next ≡ machine.from_joint (head_view head) (joint_view joint) (formula_of cond) token) }
+    ensures { IfOk result
+        (λ next. option_map state_view next
+        ≡ moves.from_joint (head_view head) (joint_view joint) (formula_of cond) token) }
 {
     match token {
         Token::Keyword(Keyword::And) => {
@@ -338,9 +344,10 @@ fn from_joint(
 }
 
 /// The condition that ends with a part of an `or`, and where it stands.
-fn or_with(alloc: Global, joint: Joint, cond: Cond) -> Result<(Whole, Cond), AllocError>
+pub fn or_with(alloc: Global, joint: Joint, cond: Cond) -> Result<(Whole, Cond), AllocError>
     ensures whole { IfOk result (λ r. whole_view r.0 ≡ machine.whole_of (joint_view joint)) }
-    ensures cond { IfOk result (λ r. formula_of r.1 ≡ machine.or_with (joint_view joint) (formula_of cond)) }
+    ensures cond { IfOk result
+        (λ r. formula_of r.1 ≡ machine.or_with (joint_view joint) (formula_of cond)) }
 {
     match joint {
         Joint::InWhole(whole) => Ok((whole, cond)),
@@ -352,122 +359,13 @@ fn or_with(alloc: Global, joint: Joint, cond: Cond) -> Result<(Whole, Cond), All
 }
 
 /// `)` ends a group.
-fn close(
-    alloc: Global,
-    head: Head,
-    whole: Whole,
-    cond: Cond,
-) -> Result<Option<State>, AllocError>
-    ensures { IfOk result (λ next. option_map state_view next ≡ machine.close (head_view head) (whole_view whole) (formula_of cond)) }
+fn close(alloc: Global, head: Head, whole: Whole, cond: Cond) -> Result<Option<State>, AllocError>
+    ensures { IfOk result
+        (λ next. option_map state_view next
+        ≡ moves.close (head_view head) (whole_view whole) (formula_of cond)) }
 {
     match whole {
         Whole::Top => Ok(None),
         Whole::Group(place) => Ok(Some(complete(alloc, head, Box::into_inner(place), cond)?)),
-    }
-}
-
-/// Why a token that fits is refused, if it is.
-pub fn fault_at(state: &State, token: &Token) -> Option<Fault>
-    ensures { result ≡ machine.fault_at (state_view state.now) token.now }
-{
-    match state {
-        State::Operand(_, place) => {
-            if nests(token) && !nests_less(place, 16) {
-                Some(Fault::TooDeep)
-            } else {
-                None
-            }
-        }
-        State::Literal(_, _, _, _) => number_of(token),
-        State::Width(_) => width_of(token),
-        _ => None,
-    }
-}
-
-fn nests(token: &Token) -> bool
-    ensures { result ≡ machine.nests token.now }
-{
-    matches!(token, Token::Keyword(Keyword::Not) | Token::Open)
-}
-
-fn number_of(token: &Token) -> Option<Fault>
-    ensures { result ≡ machine.number_of token.now }
-{
-    match token {
-        Token::Number { value: None, .. } => Some(Fault::NumberTooLarge),
-        _ => None,
-    }
-}
-
-fn width_of(token: &Token) -> Option<Fault>
-    ensures { result ≡ machine.width_of token.now }
-{
-    match token {
-        Token::Number { value: None, .. } => Some(Fault::NumberTooLarge),
-        Token::Number { value: Some(0), .. } => Some(Fault::ZeroWidth),
-        _ => None,
-    }
-}
-
-/// The definition that ends here, or `None` where none does.
-pub fn finish(alloc: Global, state: State) -> Result<Option<Def>, AllocError>
-    ensures { IfOk result (λ def. option_map definition_of def ≡ machine.finish (state_view state)) }
-{
-    match state {
-        State::BehindStep(owner, path) => Ok(taken(owner, path)),
-        State::BehindWidth(path, width) => Ok(Some(Def::Bucket {
-            path,
-            width,
-            when: None,
-        })),
-        State::BehindOperand(head, joint, cond) => ended_with(alloc, head, joint, cond),
-        _ => Ok(None),
-    }
-}
-
-fn taken(owner: Owner, path: Path) -> Option<Def>
-    ensures { option_map definition_of result ≡ machine.finish (machine.behind_step (owner_view owner) path) }
-{
-    match owner {
-        Owner::Take => Some(Def::Take { path, when: None }),
-        _ => None,
-    }
-}
-
-fn ended_with(
-    alloc: Global,
-    head: Head,
-    joint: Joint,
-    cond: Cond,
-) -> Result<Option<Def>, AllocError>
-    ensures { IfOk result (λ def. option_map definition_of def ≡ machine.finish (machine.behind_operand (head_view head) (joint_view joint) (formula_of cond))) }
-{
-    let (whole, cond) = or_with(alloc, joint, cond)?;
-    Ok(ended(head, whole, cond))
-}
-
-fn ended(head: Head, whole: Whole, cond: Cond) -> Option<Def>
-    ensures { option_map definition_of result ≡ machine.ended (head_view head) (whole_view whole) (formula_of cond) }
-{
-    match whole {
-        Whole::Top => Some(definition_with(head, cond)),
-        Whole::Group(_) => None,
-    }
-}
-
-fn definition_with(head: Head, cond: Cond) -> Def
-    ensures { definition_of result ≡ machine.definition_with (head_view head) (formula_of cond) }
-{
-    match head {
-        Head::Take(path) => Def::Take {
-            path,
-            when: Some(cond),
-        },
-        Head::Bucket(path, width) => Def::Bucket {
-            path,
-            width,
-            when: Some(cond),
-        },
-        Head::Flag => Def::Flag { when: cond },
     }
 }

@@ -1,6 +1,6 @@
 //! Tokens: the words and signs of a definition.
 
-ghost use Rattle.std.specs.Prelude.{◌≡◌, ◌==◌, ◌+◌, ◌≤◌, ◌<◌, List, [], ◌∷◌, ◌++◌, drop, take, length, slice_index, true, false, IfOk, OnOk, option_map, option_and_then};
+ghost use Rattle.std.specs.Prelude.{◌≡◌, ◌==◌, ◌+◌, ◌≤◌, ◌<◌, List, [], ◌∷◌, ◌++◌, drop, take, length, slice_index, true, false, Some, IfOk, OnOk, option_map, option_and_then};
 ghost use Rattle.std.specs.Char.{is_ascii_digit};
 ghost use Rattle.std.specs.List.{list_all};
 ghost use Rattle.serde_json.specs.Find.{as_str};
@@ -84,12 +84,7 @@ pub fn tokens_of(alloc: Global, b: &[u8]) -> Result<Vec<Placed>, AllocError>
 }
 
 /// Puts the token that these bytes are behind the others. A blank is none.
-fn list(
-    alloc: Global,
-    found: &mut Vec<Placed>,
-    piece: &[u8],
-    at: u64,
-) -> Result<(), AllocError>
+fn list(alloc: Global, found: &mut Vec<Placed>, piece: &[u8], at: u64) -> Result<(), AllocError>
     requires { 0 < length piece.now }
     ensures { OnOk result (found.new.items ≡ found.old.items ++ listed at (token_of piece.now) []) }
 {
@@ -196,7 +191,10 @@ fn plain(alloc: Global, w: &[u8]) -> Result<Token, AllocError>
     ensures { IfOk result (λ token. token ≡ plain_word w.now) }
 {
     if is_number(w) {
-        return Ok(Token::Number { negative: w[0] == b'-', value: read_int(w) });
+        return Ok(Token::Number {
+            negative: w[0] == b'-',
+            value: read_int(w),
+        });
     }
     if is_ident(w) {
         return ident(alloc, w);
@@ -303,9 +301,17 @@ fn quotation(alloc: Global, b: &[u8]) -> Result<Token, AllocError>
     ensures { IfOk result (λ token. token ≡ string_token (option_and_then as_str (reading b.now))) }
 {
     match read_json(alloc, b)? {
-        Some(serde_json::Value::String(s)) => Ok(Token::Str(Text::from_string(s))),
+        Some(serde_json::Value::String(s)) => Ok(text_token(Text::from_string(s))),
         _ => Ok(Token::Other),
     }
+}
+
+fn text_token(s: Text) -> Token
+    ensures { result ≡ string_token (Some s) }
+{
+    // That the bytes are a text is known of what it lends.
+    let _bytes = s.as_bytes();
+    Token::Str(s)
 }
 
 #[tactic(auto, unfolding(crate::specs::Token::sign_token))]

@@ -10,5 +10,6 @@ abbrev pub invariant-loop-placed : goal.invariant-loop-placed
 invariant-loop-placed l = record {
   can : (goal.iterator-loop-placed).can_next l.placed-iterator;
   finite : (goal.iterator-loop-placed).is_finite l.placed-iterator;
-  rest : run (state_view l.state) (into_iter_items l.placed-iterator) l.end ≡ run start l.fn.found.items l.end
+  rest : run (state_view l.state) (into_iter_items l.placed-iterator) l.end
+      ≡ run start l.fn.found.items l.end;
 }

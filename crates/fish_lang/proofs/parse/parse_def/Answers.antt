@@ -8,7 +8,8 @@ use Rattle.fish_lang.proofs.Outcomes.{Gives-due, outcome-is, outcome-only}
 use Rattle.fish_lang.proofs.parse.parse_def.Goals as goal
 
 pub returns-clause-answer : goal.returns-clause-answer
-returns-clause-answer c = Gives-due c.answer.result (outcome c.args.b.now) c.args.b.now c.answer.ensures (outcome-is c.args.b.now)
+returns-clause-answer c = Gives-due c.answer.result (outcome c.args.b.now) c.args.b.now
+    c.answer.ensures (outcome-is c.args.b.now)
 
 pub returns-clause-only : goal.returns-clause-only
 returns-clause-only c = λ due is.

@@ -5,4 +5,5 @@ use Rattle.fish_lang.specs.Canonical.{steps_text}
 use Rattle.fish_lang.proofs.print.write_steps.Given as goal
 
 abbrev pub invariant-loop-step : goal.invariant-loop-step
-invariant-loop-step l = string_bytes l.out ++ steps_text (drop l.step-index l.more) ≡ string_bytes l.initial.out ++ steps_text l.more
+invariant-loop-step l = string_bytes l.out ++ steps_text (drop l.step-index l.more)
+    ≡ string_bytes l.initial.out ++ steps_text l.more

@@ -12,6 +12,8 @@ pub loop-first-preserved : goal.loop-first-preserved
 loop-first-preserved c =
     let parts = c.split_at.ensures in
     record {
-      found = tokens-turn _ _ _ _ _ _ _ _ _ _ c.in-Some.ensures.cases.0 c.length_behind.ensures.value parts.front parts.front_len parts.back c.in_ok-list.ensures c.loop-first.invariant.found;
+      found = tokens-turn _ _ _ _ _ _ _ _ _ _ c.in-Some.ensures.cases.0
+          c.length_behind.ensures.value parts.front parts.front_len parts.back c.in_ok-list.ensures
+          c.loop-first.invariant.found;
       place = omega (arith, parts.back_len, parts.front_len);
     }

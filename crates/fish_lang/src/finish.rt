@@ -1,0 +1,80 @@
+//! Definitions at the end of the tokens.
+
+ghost use Rattle.std.specs.Prelude.{◌≡◌, option_map, IfOk};
+ghost use Rattle.fish_lang.specs.Definition.{formula_of, definition_of};
+ghost use Rattle.fish_lang.specs.Machine as machine;
+ghost use Rattle.fish_lang.specs.Moves as moves;
+ghost use Rattle.fish_lang.specs.Views.{whole_view, joint_view, head_view, owner_view, state_view};
+
+use crate::definition::{Cond, Def};
+use crate::place::{Joint, Whole};
+use crate::state::{Head, Owner, State, or_with};
+use fish_value::Path;
+use std::alloc::{AllocError, Global};
+
+/// The definition that ends here, or `None` where none does.
+pub fn finish(alloc: Global, state: State) -> Result<Option<Def>, AllocError>
+    ensures { IfOk result (λ def. option_map definition_of def ≡ moves.finish (state_view state)) }
+{
+    match state {
+        State::BehindStep(owner, path) => Ok(taken(owner, path)),
+        State::BehindWidth(path, width) => Ok(Some(Def::Bucket {
+            path,
+            width,
+            when: None,
+        })),
+        State::BehindOperand(head, joint, cond) => ended_with(alloc, head, joint, cond),
+        _ => Ok(None),
+    }
+}
+
+fn taken(owner: Owner, path: Path) -> Option<Def>
+    ensures { option_map definition_of result
+        ≡ moves.finish (machine.behind_step (owner_view owner) path) }
+{
+    match owner {
+        Owner::Take => Some(Def::Take { path, when: None }),
+        _ => None,
+    }
+}
+
+fn ended_with(
+    alloc: Global,
+    head: Head,
+    joint: Joint,
+    cond: Cond,
+) -> Result<Option<Def>, AllocError>
+    ensures { IfOk result
+        (λ def. option_map definition_of def
+        ≡ moves.finish (machine.behind_operand (head_view head) (joint_view joint) (formula_of cond))) }
+{
+    let (whole, cond) = or_with(alloc, joint, cond)?;
+    Ok(ended(head, whole, cond))
+}
+
+fn ended(head: Head, whole: Whole, cond: Cond) -> Option<Def>
+    ensures { option_map definition_of result
+        ≡ moves.ended (head_view head) (whole_view whole) (formula_of cond) }
+{
+    match whole {
+        Whole::Top => Some(definition_with(head, cond)),
+        Whole::Group(_) => None,
+    }
+}
+
+fn definition_with(head: Head, cond: Cond) -> Def
+    ensures { definition_of result ≡ moves.definition_with (head_view head) (formula_of cond) }
+{
+    match head {
+        Head::Take(path) => Def::Take {
+            path,
+            when: Some(cond),
+        },
+        Head::Bucket(path, width) => Def::Bucket {
+            path,
+            width,
+            when: Some(cond),
+        },
+        Head::Flag => Def::Flag { when: cond },
+    }
+}
