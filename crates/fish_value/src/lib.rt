@@ -11,6 +11,8 @@ mod number;
 mod path;
 mod row;
 mod sequence;
+#[cfg(test)]
+mod tests;
 mod text;
 mod value;
 mod value_text;
