@@ -9,7 +9,7 @@ use Rattle.fish_lang.specs.Definition.{Steps, Formula, compares, is_there, begin
 use Rattle.fish_lang.specs.Grammar.{Spot, spot, keyword, spelled, step_token, path_spots, literal_spot, test_spots, cond_spots, conj_spots, neg_spots, nesting_fault}
 use Rattle.fish_lang.specs.Derivation.{Path, one_step, more_steps, compare, exist, start}
 use Rattle.fish_lang.specs.Token.{is_ident}
-use Rattle.fish_lang.specs.ValuePrint.{value_print}
+use Rattle.fish_value.specs.ValueText.{value_print}
 use Rattle.fish_lang.specs.declared.definition.Op.{Op}
 use Rattle.fish_lang.specs.declared.definition.Op.TheVariants.{Eq, Ne, Lt, Le, Gt, Ge}
 use Rattle.fish_value.specs.Json.{quoted}

@@ -5,7 +5,7 @@ use Rattle.std.specs.Fmt.{signed_decimal}
 use Rattle.fish_value.specs.Json.{quoted}
 use Rattle.fish_lang.specs.Definition.{Steps, Formula, compares, is_there, begins, negated, both, either, Definition, takes, buckets, flags}
 use Rattle.fish_lang.specs.Token.{is_ident}
-use Rattle.fish_lang.specs.ValuePrint.{value_print}
+use Rattle.fish_value.specs.ValueText.{value_print}
 use Rattle.fish_lang.specs.declared.definition.Op.{Op}
 use Rattle.fish_lang.specs.declared.definition.Op.TheVariants.{Eq, Ne, Lt, Le, Gt, Ge}
 use Rattle.fish_lang.specs.declared.print.Part.{Part}

@@ -7,5 +7,4 @@ pub mod Machine
 pub mod Moves
 pub mod Outcome
 pub mod Token
-pub mod ValuePrint
 pub mod Views

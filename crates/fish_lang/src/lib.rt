@@ -12,13 +12,11 @@ mod place;
 mod print;
 mod state;
 mod token;
-mod value_print;
 
 pub use definition::{Cond, Def, Op};
 pub use law::{has_one_outcome, has_one_reading, reads_back};
 pub use parse::{LangRefusal, MAX_CANONICAL, MAX_SOURCE, parse_def};
 pub use print::print_def;
-pub use value_print::print_value;
 
 #[cfg(test)]
 mod tests;

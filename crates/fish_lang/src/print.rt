@@ -10,8 +10,7 @@ ghost use Rattle.fish_lang.specs.Definition.{formula_of, definition_of};
 
 use crate::definition::{Cond, Def, Op};
 use crate::token::is_ident;
-use crate::value_print::print_value;
-use fish_value::{Path, Text, json_text};
+use fish_value::{Path, Text, json_text, print_value};
 use std::alloc::{AllocError, Global};
 
 /// Which part of a condition stands at a place.

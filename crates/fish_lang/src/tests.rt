@@ -1,7 +1,7 @@
 //! The language's table, and the cases round it.
 
-use crate::{LangRefusal, parse_def, print_def, print_value};
-use fish_value::{Text, Value};
+use crate::{LangRefusal, parse_def, print_def};
+use fish_value::Text;
 use std::alloc::Global;
 use std::process::Abort;
 use std::test::Fail;
@@ -125,26 +125,5 @@ fn refuses_long_texts(rt: HostRuntime) -> Result<(), Fail> {
         source.as_str(),
         LangRefusal::TooLong { length: 4_256 },
     );
-    Ok(())
-}
-
-#[test]
-fn prints_values(rt: HostRuntime) -> Result<(), Fail> {
-    let cases = [
-        (Value::Bool(true), "true"),
-        (Value::Bool(false), "false"),
-        (
-            Value::Int(-9_223_372_036_854_775_808),
-            "-9223372036854775808",
-        ),
-        (
-            Value::Text(Text::copy_of(rt.alloc(), "a\"\n")?),
-            "\"a\\\"\\n\"",
-        ),
-    ];
-    for (value, want) in cases {
-        let text = print_value(rt.alloc(), &value)?;
-        assert_eq!(rt; text.as_str(), want);
-    }
     Ok(())
 }

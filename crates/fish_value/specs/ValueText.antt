@@ -1,14 +1,22 @@
 -- The texts of values.
 use Rattle.std.specs.Prelude.{ℕ, ◌&&◌, ◌==◌, ◌-◌, ℤ, List, Bool, true, false, nat_le, nat_lt, Option, Some, None, option_and_then, length, slice_index, if◌then◌else◌}
+use Rattle.std.specs.Fmt.{signed_decimal}
 use Rattle.std.specs.Str.{bytes_eq}
 use Rattle.std.specs.Str.Parse.{true_text, false_text}
 use Rattle.serde_json.specs.Data.{Data}
 use Rattle.serde_json.specs.Find.{as_str}
-use Rattle.fish_value.specs.Json.{reading}
+use Rattle.fish_value.specs.Json.{quoted, reading}
 use Rattle.fish_value.specs.Number.{int_of}
 use Rattle.fish_value.specs.declared.value_text.TheConstants.{MAX_VALUE}
 use Rattle.fish_value.specs.declared.value.Value.{Value}
 use Rattle.fish_value.specs.declared.value.Value.TheVariants as kind
+
+-- the text of a value: `true`, `false`, the decimal, or the JSON string
+abbrev pub value_print : Value → List ℕ
+value_print (kind.Bool true) = true_text
+value_print (kind.Bool false) = false_text
+value_print (kind.Int n) = signed_decimal n
+value_print (kind.Text s) = quoted s
 
 -- a text as a value: none over 256 bytes
 abbrev pub text_value : List ℕ → Option Value

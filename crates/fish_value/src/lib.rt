@@ -26,4 +26,4 @@ pub use row::{Row, Rows};
 pub use sequence::{Fields, Numbers, Numbers64, Sequence, Texts, Values};
 pub use text::Text;
 pub use value::Value;
-pub use value_text::{MAX_VALUE, read_value};
+pub use value_text::{MAX_VALUE, print_value, read_value};

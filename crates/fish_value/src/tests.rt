@@ -2,7 +2,8 @@
 //! its `serde_json` 1.0 say.
 
 use crate::{
-    Bytes, MAX_VALUE, Numbers, Path, Text, Value, json_text, read_int, read_json, read_value,
+    Bytes, MAX_VALUE, Numbers, Path, Text, Value, json_text, print_value, read_int, read_json,
+    read_value,
 };
 use std::alloc::{AllocError, Global};
 use std::test::Fail;
@@ -196,5 +197,26 @@ fn lists(rt: HostRuntime) -> Result<(), Fail> {
     assert!(rt; outer.is(&first), "the first name: {outer:?}");
     assert_eq!(rt; more.len(), 2);
     assert_eq!(rt; (more[0].as_str(), more[1].as_str()), ("b c", ""));
+    Ok(())
+}
+
+#[test]
+fn prints_values(rt: HostRuntime) -> Result<(), Fail> {
+    let cases = [
+        (Value::Bool(true), "true"),
+        (Value::Bool(false), "false"),
+        (
+            Value::Int(-9_223_372_036_854_775_808),
+            "-9223372036854775808",
+        ),
+        (
+            Value::Text(Text::copy_of(rt.alloc(), "a\"\n")?),
+            "\"a\\\"\\n\"",
+        ),
+    ];
+    for (value, want) in cases {
+        let text = print_value(rt.alloc(), &value)?;
+        assert_eq!(rt; text.as_str(), want);
+    }
     Ok(())
 }

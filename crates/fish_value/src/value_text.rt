@@ -1,10 +1,10 @@
 //! Values as text: how a user writes one.
 
 ghost use Rattle.std.specs.Prelude.{◌≡◌, IfOk};
-ghost use Rattle.fish_value.specs.ValueText.{is_quoted, string_value, text_value, value_text};
+ghost use Rattle.fish_value.specs.ValueText.{is_quoted, string_value, text_value, value_print, value_text};
 ghost use Rattle.fish_value.specs.Json.{reading};
 
-use crate::json::read_json;
+use crate::json::{json_text, read_json};
 use crate::number::read_int;
 use crate::text::Text;
 use crate::value::Value;
@@ -12,6 +12,18 @@ use std::alloc::{AllocError, Global};
 
 /// The most bytes that a text may have as a value.
 pub const MAX_VALUE: usize = 256;
+
+/// A value as text: `true`, `false`, the decimal, or the JSON string that `serde_json` writes.
+pub fn print_value(alloc: Global, v: &Value) -> Result<Text, AllocError>
+    ensures { IfOk result (λ text. text ≡ value_print v.now) }
+{
+    match v {
+        Value::Bool(true) => Text::copy_of(alloc, "true"),
+        Value::Bool(false) => Text::copy_of(alloc, "false"),
+        Value::Int(n) => Ok(Text::from_string(n.to_string(alloc)?)),
+        Value::Text(s) => json_text(alloc, s),
+    }
+}
 
 /// The value that a text stands for: `true`, `false`, a whole number as [`read_int`] takes it, or a
 /// JSON string of at most 256 bytes when read. There is none for any other text.
