@@ -1,7 +1,6 @@
 -- The canonical text of a condition is lexed to the tokens of its canonical derivation.
 use Rattle.std.proofs.Common.{◌≡◌, ℕ, suc, List, [], ◌∷◌, ◌++◌, refl, sym, ◌∙◌, ap, subst, append_assoc, append-nil}
 use Rattle.std.specs.Prelude.{Bool, true, false, IsUtf8, codes}
-use Rattle.fish_value.specs.Number.{fits_i64}
 use Rattle.fish_value.specs.declared.value.Value.{Value}
 use Rattle.fish_value.specs.declared.value.Value.TheVariants as value
 use Rattle.fish_lang.specs.Canonical.{step_text, steps_text, path_text, op_text, formula_text}

@@ -1,7 +1,6 @@
 -- The canonical text of a definition is lexed to the tokens of its canonical derivation.
 use Rattle.std.proofs.Common.{◌≡◌, ℕ, List, [], ◌∷◌, ◌++◌, refl, ◌∙◌, ap, append_assoc, append-nil}
-use Rattle.std.specs.Prelude.{true, false, Option, Some, None, codes}
-use Rattle.fish_value.specs.Number.{fits_i64}
+use Rattle.std.specs.Prelude.{false, Option, Some, None, codes}
 use Rattle.fish_lang.specs.Canonical.{path_text, formula_text, when_text, definition_text}
 use Rattle.fish_lang.specs.Definition.{Formula, Definition, takes, buckets, flags}
 use Rattle.fish_lang.specs.Grammar.{Spot, spelled, spots, path_spots, cond_spots, when_spots}
@@ -10,7 +9,7 @@ use Rattle.std.specs.Fmt.{signed_decimal}
 use Rattle.fish_lang.specs.declared.print.Part.TheVariants.{Whole}
 use Rattle.fish_lang.specs.declared.token.Keyword.TheVariants as word
 use Rattle.fish_lang.specs.declared.token.Token.TheVariants as kind
-use Rattle.fish_lang.proofs.Depths.{path_of, cond_of, is_negative}
+use Rattle.fish_lang.proofs.Depths.{path_of, cond_of}
 use Rattle.fish_lang.proofs.Lexed.{lexed-take, lexed-bucket, lexed-flag, lexed-when, lexed-by}
 use Rattle.fish_lang.proofs.Numerals.{lexed-int}
 use Rattle.fish_lang.proofs.Ways.{spelled-append}
