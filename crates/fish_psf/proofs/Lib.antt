@@ -1,3 +1,4 @@
 pub mod BucketLemmas
 pub mod HasLemmas
+pub mod RoundingLemmas
 pub mod SelectLemmas

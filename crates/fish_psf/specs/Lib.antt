@@ -1,3 +1,4 @@
+pub mod BucketLaw
 pub mod Eval
 pub mod Fields
 pub mod Select

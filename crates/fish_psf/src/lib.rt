@@ -6,10 +6,12 @@ mod condition;
 mod law;
 mod parsed;
 mod record;
+#[cfg(test)]
+mod tests;
 mod value;
 
 pub use condition::holds;
-pub use law::selects_matches;
+pub use law::{buckets_round_down, selects_matches};
 pub use parsed::Parsed;
 pub use record::Record;
 pub use value::eval;
