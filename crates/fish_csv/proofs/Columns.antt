@@ -1,6 +1,6 @@
 -- What a row has at a path.
-use Rattle.std.specs.Prelude.{Option, None, Result, Ok, Err, IfOk, option_and_then}
-use Rattle.std.proofs.Common.{◌≡◌, ◌∙◌, ℕ, List, Some, refl, sym}
+use Rattle.std.specs.Prelude.{None, Result, Ok, Err, IfOk}
+use Rattle.std.proofs.Common.{◌≡◌, ◌∙◌, ℕ, List, Some, refl}
 use Rattle.csv.specs.Records.{field_at}
 use Rattle.fish_csv.specs.Reading.{column_at, field_in, field_of}
 use Rattle.fish_value.specs.declared.field.Field.TheVariants as kind

@@ -6,3 +6,7 @@ pub mod Marks
 pub mod Readings
 pub mod Texts
 pub mod Columns
+pub mod Stored
+pub mod Lines
+pub mod Found
+pub mod Written

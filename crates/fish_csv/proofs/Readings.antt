@@ -1,6 +1,6 @@
 -- When bytes are one row.
-use Rattle.std.specs.Prelude.{◌||◌, Option, None, IfSome, IsUtf8, if◌then◌else◌, nat_le, slice_get}
-use Rattle.std.proofs.Common.{◌≡◌, ◌==◌, ◌<◌, ◌≤◌, ◌∷◌, ◌∙◌, [], ℕ, List, Bool, Some, refl, sym, ap, true, false, length, arith, inl, inr}
+use Rattle.std.specs.Prelude.{◌||◌, None, IfSome, IsUtf8, if◌then◌else◌, nat_le, slice_get}
+use Rattle.std.proofs.Common.{◌≡◌, ◌==◌, ◌<◌, ◌≤◌, ◌∷◌, ◌∙◌, [], ℕ, List, Bool, Some, refl, sym, true, false, length, arith, inl, inr}
 use Rattle.std.specs.Str.{is_utf8}
 use Rattle.std.proofs.lemmas.Bool.{cases_Bool}
 use Rattle.std.proofs.lemmas.Bool.Decides.{nat_tests}
@@ -8,6 +8,7 @@ use Rattle.std.proofs.lemmas.Str.{IsUtf8-from_is_utf8, is_utf8-from_IsUtf8}
 use Rattle.csv.specs.Reading.{strip_bom}
 use Rattle.fish_csv.specs.declared.record.TheConstants.{MAX_PAYLOAD}
 use Rattle.fish_csv.specs.Reading.{only, row_of, row_reading, rows_in}
+use Rattle.fish_csv.specs.Rows.{kept}
 use Rattle.fish_csv.proofs.Records.{rows-nil, rows-there}
 
 -- the test for UTF-8
@@ -66,3 +67,10 @@ read_none b text fields found same utf8 one none = row_reading_text b text utf8 
 pub read_some : (b text : List ℕ) (fields : List (List ℕ)) (found : Bool) → text ≡ strip_bom b → is_utf8 b ≡ true → length b ≤ MAX_PAYLOAD
     → only (rows_in text) ≡ (if found then Some fields else None) → found ≡ true → row_of b ≡ Some fields
 read_some b text fields found same utf8 short one is = row_of_short b short ∙ row_reading_text b text utf8 same ∙ one ∙ rw is refl
+
+-- a text that is no row is no payload, and one that is a row is one
+pub kept_none : (text : List ℕ) → row_of text ≡ None → None ≡ kept text
+kept_none text e = rw e refl
+
+pub kept_some : (text : List ℕ) (fields : List (List ℕ)) → row_of text ≡ Some fields → Some text ≡ kept text
+kept_some text fields e = rw e refl

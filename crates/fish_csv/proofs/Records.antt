@@ -1,14 +1,11 @@
 -- All rows of a text, row by row: the number of rows that `csv`'s definition counts down is always enough.
-use Rattle.std.specs.Prelude.{◌-◌, ◌||◌, ◌⊎◌, Option, None, if◌then◌else◌, ◌≢◌}
-use Rattle.std.proofs.Common.{◌≡◌, ◌==◌, ◌<◌, ◌≤◌, ◌+◌, ◌++◌, ◌∷◌, ◌∙◌, [], ℕ, List, Bool, Some, zero, suc, refl, sym, ap, subst, true, false, length, take, drop, add-one, arith, inl, inr}
+use Rattle.std.specs.Prelude.{◌-◌, ◌||◌, ◌⊎◌, Option, None, if◌then◌else◌}
+use Rattle.std.proofs.Common.{◌≡◌, ◌==◌, ◌<◌, ◌≤◌, ◌+◌, ◌++◌, ◌∷◌, ◌∙◌, [], ℕ, List, Bool, Some, zero, suc, refl, sym, ap, true, false, length, take, drop, add-one, arith, inl, inr}
 use Rattle.std.proofs.lemmas.Bool.{cases_Bool, eqb-true}
 use Rattle.std.proofs.lemmas.List.{take-append-drop}
 use Rattle.csv.proofs.ReadFacts.{run-copies}
-use Rattle.csv.specs.Machine.{Read, Runs, ends_at_end, field_after, fields_after, in_field, is_end, next_record, start_field, step}
+use Rattle.csv.specs.Machine.{Read, Runs, field_after, fields_after, is_end, next_record, step}
 use Rattle.csv.specs.Reading.{default_config, records_from, records_next}
-use Rattle.csv.specs.declared.parser.Config.{Config}
-use Rattle.csv.specs.declared.parser.Action.{Action}
-use Rattle.csv.specs.declared.parser.Action.TheVariants as act
 use Rattle.csv.specs.declared.parser.State.{State}
 use Rattle.csv.specs.declared.parser.State.TheVariants as st
 use Rattle.fish_csv.specs.Machine.{Ends, IsBetween, row_from, state_of}

@@ -1,6 +1,6 @@
 -- Runs of bytes that only join a field.
-use Rattle.std.specs.Prelude.{Option, None, unwrap_or, slice_index, zero, suc, ◌||◌}
-use Rattle.std.proofs.Common.{◌≡◌, ◌≢◌, ◌==◌, ◌<◌, ◌≤◌, ◌+◌, ◌∷◌, ◌∙◌, [], ℕ, List, Bool, Some, refl, sym, ap, true, false, take, length, get_or, arith}
+use Rattle.std.specs.Prelude.{Option, None, unwrap_or, zero, suc, ◌||◌}
+use Rattle.std.proofs.Common.{◌≡◌, ◌==◌, ◌<◌, ◌≤◌, ◌∷◌, [], ℕ, List, Bool, Some, refl, true, false, take, length, arith}
 use Rattle.csv.specs.Machine.{Runs, step}
 use Rattle.csv.specs.Reading.{default_config}
 use Rattle.csv.specs.declared.parser.State.{State}

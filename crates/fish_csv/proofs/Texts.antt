@@ -1,6 +1,6 @@
 -- The fields of a text in UTF-8 are texts in UTF-8: all bytes that no field takes are ASCII.
 use Rattle.std.specs.Prelude.{◌||◌, ◌&&◌, ◌⊎◌, Option, None, IsUtf8, if◌then◌else◌}
-use Rattle.std.proofs.Common.{◌≡◌, ◌==◌, ◌<◌, ◌≤◌, ◌+◌, ◌++◌, ◌∷◌, ◌∙◌, [], ℕ, List, Bool, Some, suc, zero, refl, sym, ap, subst, true, false, length, take, drop, get_or, add-one, arith, inl, inr, append_assoc}
+use Rattle.std.proofs.Common.{◌≡◌, ◌==◌, ◌<◌, ◌+◌, ◌++◌, ◌∷◌, ◌∙◌, [], ℕ, List, Bool, Some, suc, zero, refl, sym, ap, subst, true, false, length, take, drop, get_or, add-one, arith, inl, inr, append_assoc}
 use Rattle.std.specs.List.{list_all}
 use Rattle.std.specs.Str.{IsCharBoundary, is_utf8}
 use Rattle.std.proofs.lemmas.Bool.{cases_Bool, eqb-true}

@@ -3,3 +3,4 @@ pub mod Machine
 pub mod Reading
 pub mod Row
 pub mod Rows
+pub mod Turns

@@ -7,12 +7,15 @@
 
 mod bytes;
 mod column;
+mod file;
 mod machine;
 mod reader;
 mod record;
 #[cfg(test)]
 mod tests;
 mod text;
+mod write;
 
+pub use file::{CsvRefusal, CsvRows, MAX_FILE, rows};
 pub use reader::{CsvReader, CsvRow};
 pub use record::{CsvRecord, CsvRecordRefusal, MAX_PAYLOAD};

@@ -1,6 +1,6 @@
 //! Rows and files with answers from outside: RFC 4180, and what `csv` 1.4 of Rust says of the rest.
 
-use crate::{CsvReader, CsvRecord, CsvRecordRefusal, MAX_PAYLOAD};
+use crate::{CsvReader, CsvRecord, CsvRecordRefusal, CsvRefusal, MAX_FILE, MAX_PAYLOAD, rows};
 use fish_value::{Field, Path, Text};
 use std::alloc::{AllocError, Global};
 use std::test::Fail;
@@ -158,5 +158,96 @@ fn limits(rt: HostRuntime) -> Result<(), Fail> {
     assert!(rt; meets(&found, want), "{found:?}");
     let found = in_row(alloc, &mut reader, row.as_slice(), &path);
     assert!(rt; meets(&found, want), "in a row: {found:?}");
+    Ok(())
+}
+
+/// Files, whether they have a header, the payloads, each with a `|` behind it, and how many rows
+/// are refused.
+const FILES: [(&[u8], bool, &str, u64); 25] = [
+    (b"h1,h2\r\n1,2\n", true, "1,2|", 0),
+    (b"h1,h2\r\n1,2\n", false, "h1,h2|1,2|", 0),
+    (b"a,\xff\nb\n", false, "b|", 1),
+    (b"a,\xff\nb\n", true, "b|", 0),
+    (b"", false, "", 0),
+    (b"", true, "", 0),
+    (b"\n\r\n\r\r", true, "", 0),
+    (b"a,\"x,1\",007\n", false, "a,\"x,1\",007|", 0),
+    (b"a\nb,c\n,\n d , e ", false, "a|b,c|,| d , e |", 0),
+    // Line ends.
+    (b"a\rb\r\nc\n\n\r\nd", false, "a|b|c|d|", 0),
+    (b"\n\r\na,b", true, "", 0),
+    (b"\"h\n1\",h2\n1,2\n", true, "1,2|", 0),
+    (b"\"a\r\nb\",c\n", false, "\"a\r\nb\",c|", 0),
+    // Quotes.
+    (b"\"a\",\"b\"\n", false, "a,b|", 0),
+    (b"a\"b,c\n", false, "\"a\"\"b\",c|", 0),
+    (b"\"a\"\"\"\"b\"\n", false, "\"a\"\"\"\"b\"|", 0),
+    (b"\"a\"b,\"\"\n", false, "ab,|", 0),
+    (b"\"\"\n\n\"\"\r\nz", false, "\"\"|\"\"|z|", 0),
+    (b"\"a\nb", false, "\"a\nb\"|", 0),
+    (b"\"\xc3\"\xa9,1\n", false, "é,1|", 0),
+    // Byte order marks: one alone is dropped at the front, and one that is a row is no row.
+    (
+        b"\xef\xbb\xbfa,b\n\xef\xbb\xbfc,d\n",
+        false,
+        "a,b|\u{feff}c,d|",
+        0,
+    ),
+    (b"\xef\xbb\xbf\xef\xbb\xbfa\n", false, "\u{feff}a|", 0),
+    (b"x\n\xef\xbb\xbf\ny\n", false, "x|y|", 1),
+    (b"\xef\xbb\xbf\n7", false, "7|", 0),
+    (b"\xef\xbb\xbf\xef\xbb\xbf\"7\"", true, "", 0),
+];
+
+#[test]
+fn files(rt: HostRuntime) -> Result<(), Fail> {
+    let alloc = rt.alloc();
+    for (file, header, payloads, refused) in FILES {
+        let found = rows(alloc, file, header)?;
+        let mut joined = String::new(alloc);
+        for text in found.texts.as_slice() {
+            joined.push_str(text.as_str())?;
+            joined.push('|')?;
+        }
+        assert_eq!(rt; joined.as_str(), payloads, "{file:?} {header}");
+        assert_eq!(rt; found.refused, refused, "{file:?} {header}");
+    }
+    Ok(())
+}
+
+#[test]
+fn long_rows(rt: HostRuntime) -> Result<(), Fail> {
+    let alloc = rt.alloc();
+    // bytes of the file's first row, whether it begins with quotes, rows refused
+    let cases = [
+        (MAX_PAYLOAD, false, 0),
+        (MAX_PAYLOAD + 1, false, 1),
+        // Quotes that call for none fall away.
+        (MAX_PAYLOAD + 2, true, 0),
+        (MAX_PAYLOAD + 3, true, 1),
+    ];
+    for (len, quoted, refused) in cases {
+        let mut file = Vec::new(alloc);
+        if quoted {
+            file.extend_from_slice(b"\"\"")?;
+        }
+        for _ in file.len()..len {
+            file.push(b'x')?;
+        }
+        file.extend_from_slice(b"\r\nlast\n")?;
+        let found = rows(alloc, file.as_slice(), false)?;
+        assert_eq!(rt; found.refused, refused, "{len}");
+        let last = found.texts.as_slice().last().map(Text::as_str);
+        assert_eq!(rt; last, Some("last"), "{len}");
+    }
+    Ok(())
+}
+
+#[test]
+fn long_files(rt: HostRuntime) -> Result<(), Fail> {
+    let alloc = rt.alloc();
+    let file = vec![in alloc; b'\n'; MAX_FILE + 1]?;
+    let refusal = rows(alloc, file.as_slice(), false).err();
+    assert_eq!(rt; refusal, Some(CsvRefusal::FileTooLong));
     Ok(())
 }

@@ -1,5 +1,5 @@
 -- Fewer than three bytes are no mark; three bytes are one or they stay.
-use Rattle.std.proofs.Common.{sym, ◌∙◌, ◌≤◌, length, arith}
+use Rattle.std.proofs.Common.{sym, ◌∙◌, arith}
 use Rattle.csv.proofs.ReadFacts.{strip-short}
 use Rattle.fish_csv.proofs.Marks.{strip-mark, strip-other}
 use Rattle.fish_csv.proofs.bytes.without_mark.Goals as goal

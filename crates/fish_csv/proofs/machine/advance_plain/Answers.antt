@@ -1,6 +1,5 @@
 -- A comma ends the field, a line end the row, and another byte joins the field.
 use Rattle.std.proofs.Common.{sym, ◌∙◌}
-use Rattle.csv.specs.Records.{fields_of}
 use Rattle.fish_csv.proofs.Steps.{plain-comma, plain-end, plain-other}
 use Rattle.fish_csv.proofs.machine.advance_plain.Goals as goal
 

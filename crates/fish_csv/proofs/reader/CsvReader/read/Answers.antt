@@ -1,5 +1,5 @@
 -- A text was read as one row, or as none.
-use Rattle.std.proofs.Common.{◌≡◌, Option, None, rules}
+use Rattle.std.proofs.Common.{◌≡◌, None, rules}
 use Rattle.fish_csv.specs.Reading.{row_reading}
 use Rattle.fish_csv.specs.Row.{row_fields}
 use Rattle.fish_csv.proofs.Readings.{read_none, read_some, row_of_none}
