@@ -2,7 +2,7 @@
 use Rattle.std.specs.Prelude.{None, Result, Ok, Err, IfOk}
 use Rattle.std.proofs.Common.{◌≡◌, ◌∙◌, ℕ, List, Some, refl}
 use Rattle.csv.specs.Records.{field_at}
-use Rattle.fish_csv.specs.Reading.{column_at, field_in, field_of}
+use Rattle.fish_csv.specs.Reading.{column_at, field, field_in, field_of, row_of}
 use Rattle.fish_value.specs.declared.field.Field.TheVariants as kind
 
 -- an answer that is one value is what that value is
@@ -24,3 +24,8 @@ no-field path fields at e f = rw (← e, ← f) refl
 pub the-field : (path fields : List (List ℕ)) (at : ℕ) (text : List ℕ) → Some at ≡ column_at path → Some text ≡ field_at fields at → field_of (Some text) ≡ field_in path fields
 unfolding field_in
 the-field path fields at text e f = rw (← e, ← f) refl
+
+-- what a payload that was read has at a path is what its row has
+pub field_of_row : (b : List ℕ) (path fields : List (List ℕ)) → row_of b ≡ Some fields → field b path ≡ field_in path fields
+unfolding field field_in
+field_of_row b path fields e = rw e refl

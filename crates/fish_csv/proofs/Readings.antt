@@ -44,6 +44,9 @@ pub row_of_none : (b : List ℕ) → row_reading b ≡ None → row_of b ≡ Non
 unfolding row_of
 row_of_none b e = elim (cases_Bool (nat_le (length b) MAX_PAYLOAD)) [ inl short ↦ rw short e | inr long ↦ rw long refl ]
 
+-- these, for the call that tests a payload
+pub ruleset readings = (text_yes, text_no, row_of_none, row_of_long, row_reading_other)
+
 -- of several rows none is the only one
 several : (fields : List (List ℕ)) (rows : List (List (List ℕ))) → (rows ≡ [] → ⊥) → only (fields ∷ rows) ≡ None
 several fields [] h = absurd (h refl)

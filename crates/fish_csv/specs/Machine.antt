@@ -23,11 +23,14 @@ row_from at fields field b = next_record default_config (state_of at) fields fie
 abbrev pub IsBetween : State → Type 0
 IsBetween s = (s ≡ st.StartRecord) ⊎ (s ≡ st.AfterCr)
 
--- whatever bytes come behind it, the byte c leads from these fields and this place to those, or ends the row with those fields
+-- whatever bytes come behind it, the byte c leads from this place and these fields to another, or ends the row
 abbrev pub Advances : Place → ℕ → List (List ℕ) → List ℕ → Option Place → List (List ℕ) → List ℕ → Type 0
-Advances at c fields field None after next = (rest : List ℕ) → (s : State) × IsBetween s × (row_from at fields field (c ∷ rest) ≡ Some (after, s, rest))
-Advances at c fields field (Some to) after next = (rest : List ℕ) → row_from at fields field (c ∷ rest) ≡ row_from to after next rest
+Advances at c fields field None after next =
+    (rest : List ℕ) → (s : State) × IsBetween s × (row_from at fields field (c ∷ rest) ≡ Some (after, s, rest))
+Advances at c fields field (Some to) after next =
+    (rest : List ℕ) → row_from at fields field (c ∷ rest) ≡ row_from to after next rest
 
 -- where the text ends, the row ends with these fields, or there is none
 abbrev pub Ends : Place → List (List ℕ) → List ℕ → Bool → List (List ℕ) → Type 0
-Ends at fields field found after = row_from at fields field [] ≡ (if found then Some (after, st.StartRecord, []) else None)
+Ends at fields field found after =
+    row_from at fields field [] ≡ (if found then Some (after, st.StartRecord, []) else None)

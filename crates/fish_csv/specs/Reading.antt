@@ -18,7 +18,8 @@ only [] = None
 only (x ∷ []) = Some x
 only (x ∷ y ∷ more) = None
 
--- the fields of the one row that bytes are: none where they are not UTF-8, and none where they are no row or several; a byte order mark in front counts nowhere
+-- the fields of the one row that bytes are: none where they are not UTF-8, and none where they are no row or several;
+-- a byte order mark in front counts nowhere
 unfoldable pub row_reading : List ℕ → Option (List (List ℕ))
 row_reading b = if is_utf8 b then only (rows_in (strip_bom b)) else None
 
@@ -58,4 +59,5 @@ field_in path fields = field_of (option_and_then (field_at fields) (column_at pa
 
 -- what a payload has at a path: Missing where the bytes are no row
 unfoldable pub field : List ℕ → List (List ℕ) → Field
-field payload path = field_of (option_and_then (λ fields. option_and_then (field_at fields) (column_at path)) (row_of payload))
+field payload path =
+    field_of (option_and_then (λ fields. option_and_then (field_at fields) (column_at path)) (row_of payload))

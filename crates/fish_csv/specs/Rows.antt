@@ -21,9 +21,13 @@ payload_of fields = kept (stored_text fields)
 abbrev pub without_header : Bool → List (List (List ℕ)) → List (List (List ℕ))
 without_header header rows = if header then drop 1 rows else rows
 
--- of each row of a file its payload, or none where it is refused
+-- of each row behind the header its payload, or none where it is refused
+abbrev pub outcomes_of : Bool → List (List (List ℕ)) → List (Option (List ℕ))
+outcomes_of header rows = map payload_of (without_header header rows)
+
+-- of each row of a file its payload, or none where it is refused; a byte order mark in front of the file counts nowhere
 unfoldable pub outcomes : Bool → List ℕ → List (Option (List ℕ))
-outcomes header b = map payload_of (without_header header (rows_in (strip_bom b)))
+outcomes header b = outcomes_of header (rows_in (strip_bom b))
 
 -- the payloads that were accepted, in order
 abbrev pub accepted : List (Option (List ℕ)) → List (List ℕ)

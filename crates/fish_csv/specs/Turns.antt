@@ -5,7 +5,8 @@ use Rattle.fish_csv.specs.Rows.{payload_of, stored_text}
 
 -- the first row of a text has this payload or is refused, and the rows behind it are those of a shorter text
 abbrev pub TakesRow : List ℕ → Option (List ℕ) → List ℕ → Type 0
-TakesRow b outcome rest = (fields : List (List ℕ)) × (rows_in b ≡ fields ∷ rows_in rest) × (payload_of fields ≡ outcome) × (length rest < length b)
+TakesRow b outcome rest =
+    (fields : List (List ℕ)) × (rows_in b ≡ fields ∷ rows_in rest) × (payload_of fields ≡ outcome) × (length rest < length b)
 
 -- a text that `csv` writes for a row, without the line end
 abbrev pub IsStored : List ℕ → Type 0

@@ -1,10 +1,10 @@
 //! The rows of a whole file, each as the text that is stored for it.
 
-ghost use Rattle.std.specs.Prelude.{◌≡◌, ◌≢◌, ◌↔◌, ◌+◌, ◌<◌, ◌≤◌, ◌++◌, ◌∷◌, [], false, true, length, map, take, drop, IfOk, OnOk, IsErrOf, MatchOption};
+ghost use Rattle.std.specs.Prelude.{◌≡◌, ◌≢◌, ◌↔◌, ◌+◌, ◌<◌, ◌≤◌, ◌++◌, ◌∷◌, [], false, true, length, take, drop, IfOk, OnOk, IsErrOf, MatchOption};
 ghost use Rattle.std.specs.List.{list_any};
 ghost use Rattle.csv.specs.Records.{fields_of};
 ghost use Rattle.fish_csv.specs.Reading.{rows_in};
-ghost use Rattle.fish_csv.specs.Rows.{accepted, kept, outcomes, payload_of, refused as refused_of, without_header};
+ghost use Rattle.fish_csv.specs.Rows.{accepted, kept, outcomes, outcomes_of, refused as refused_of, without_header};
 ghost use Rattle.fish_csv.specs.Turns.{IsStored, TakesRow, ends_line, is_mark};
 
 use crate::bytes::{without_ends, without_mark};
@@ -67,8 +67,8 @@ pub fn rows(alloc: Global, b: &[u8], header: bool) -> Result<CsvRows, CsvRefusal
 /// The same of a text without a byte order mark at its front.
 fn all_rows(alloc: Global, b: &[u8], header: bool) -> Result<CsvRows, AllocError>
     requires { length b.now ≤ MAX_FILE }
-    ensures texts { IfOk result (λ found. found.texts ≡ accepted (map payload_of (without_header header (rows_in b.now)))) }
-    ensures refused { IfOk result (λ found. found.refused ≡ refused_of (map payload_of (without_header header (rows_in b.now)))) }
+    ensures texts { IfOk result (λ found. found.texts ≡ accepted (outcomes_of header (rows_in b.now))) }
+    ensures refused { IfOk result (λ found. found.refused ≡ refused_of (outcomes_of header (rows_in b.now))) }
 {
     let mut store = Store::new(alloc);
     let mut found = CsvRows::new(alloc);

@@ -79,7 +79,8 @@ fn advance(
     field: &mut Vec<u8>,
 ) -> Result<Option<Place>, AllocError>
     requires { partial_of row.old ≡ [] }
-    ensures goes { IfOk result (λ next. Advances place c (fields_of row.old) field.old.items next (fields_of row.new) field.new.items) }
+    ensures goes { IfOk result (λ next.
+        Advances place c (fields_of row.old) field.old.items next (fields_of row.new) field.new.items) }
     ensures whole { OnOk result (partial_of row.new ≡ []) }
 {
     match place {
@@ -108,7 +109,8 @@ fn advance_field(
     field: &mut Vec<u8>,
 ) -> Result<Option<Place>, AllocError>
     requires { partial_of row.old ≡ [] }
-    ensures goes { IfOk result (λ next. Advances Place.Field c (fields_of row.old) field.old.items next (fields_of row.new) field.new.items) }
+    ensures goes { IfOk result (λ next.
+        Advances Place.Field c (fields_of row.old) field.old.items next (fields_of row.new) field.new.items) }
     ensures whole { OnOk result (partial_of row.new ≡ []) }
 {
     if c == b'"' {
@@ -119,7 +121,8 @@ fn advance_field(
 
 /// The same between quotes.
 fn advance_quoted(c: u8, field: &mut Vec<u8>) -> Result<Option<Place>, AllocError>
-    ensures { (fields : List (List ℕ)) → IfOk result (λ next. Advances Place.Quoted c fields field.old.items next fields field.new.items) }
+    ensures { (fields : List (List ℕ)) → IfOk result (λ next.
+        Advances Place.Quoted c fields field.old.items next fields field.new.items) }
 {
     if c == b'"' {
         return Ok(Some(Place::Closed));
@@ -130,7 +133,8 @@ fn advance_quoted(c: u8, field: &mut Vec<u8>) -> Result<Option<Place>, AllocErro
 
 /// The same for the second of two quotes, which stands for one.
 fn advance_doubled(field: &mut Vec<u8>) -> Result<Option<Place>, AllocError>
-    ensures { (fields : List (List ℕ)) → IfOk result (λ next. Advances Place.Closed 34 fields field.old.items next fields field.new.items) }
+    ensures { (fields : List (List ℕ)) → IfOk result (λ next.
+        Advances Place.Closed 34 fields field.old.items next fields field.new.items) }
 {
     field.push(b'"')?;
     Ok(Some(Place::Quoted))
@@ -143,7 +147,8 @@ fn advance_plain(
     field: &mut Vec<u8>,
 ) -> Result<Option<Place>, AllocError>
     requires { partial_of row.old ≡ [] }
-    ensures goes { IfOk result (λ next. Advances Place.Plain c (fields_of row.old) field.old.items next (fields_of row.new) field.new.items) }
+    ensures goes { IfOk result (λ next.
+        Advances Place.Plain c (fields_of row.old) field.old.items next (fields_of row.new) field.new.items) }
     ensures whole { OnOk result (partial_of row.new ≡ []) }
 {
     if c == b',' {

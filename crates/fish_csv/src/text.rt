@@ -13,12 +13,14 @@ use csv::ByteRecord;
 use std::alloc::AllocError;
 
 /// The text that a payload is, without a byte order mark at its front.
-#[tactic(auto, using(crate::proofs::Readings::text_yes, crate::proofs::Readings::text_no, crate::proofs::Readings::row_of_none, crate::proofs::Readings::row_of_long, crate::proofs::Readings::row_reading_other))]
+#[tactic(auto, using(crate::proofs::Readings::readings))]
 pub(crate) fn text_of(b: &[u8]) -> Result<&[u8], CsvRecordRefusal>
-    ensures ok { IfOk result (λ text. (text.now ≡ strip_bom b.now) × (is_utf8 b.now ≡ true) × (length b.now ≤ MAX_PAYLOAD)) }
+    ensures ok { IfOk result (λ text.
+        (text.now ≡ strip_bom b.now) × (is_utf8 b.now ≡ true) × (length b.now ≤ MAX_PAYLOAD)) }
 
     ensures too_long { IsErrOf result CsvRecordRefusal.TooLong → MAX_PAYLOAD < length b.now }
-    ensures not_row { IsErrOf result CsvRecordRefusal.NotRow → (length b.now ≤ MAX_PAYLOAD) × (row_reading b.now ≡ None) }
+    ensures not_row { IsErrOf result CsvRecordRefusal.NotRow
+        → (length b.now ≤ MAX_PAYLOAD) × (row_reading b.now ≡ None) }
     ensures none { IfErr result (λ e. (e ≢ CsvRecordRefusal.OutOfMemory) × (row_of b.now ≡ None)) }
 {
     if b.len() > MAX_PAYLOAD {
