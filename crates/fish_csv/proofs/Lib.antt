@@ -1,0 +1,12 @@
+pub mod Steps
+pub mod Runs
+pub mod Inside
+pub mod Records
+pub mod Marks
+pub mod Readings
+pub mod Texts
+pub mod Columns
+pub mod Stored
+pub mod Lines
+pub mod Found
+pub mod Written

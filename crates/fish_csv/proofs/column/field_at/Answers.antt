@@ -1,0 +1,16 @@
+-- The path names a column or none, and the row has it or not.
+use Rattle.fish_csv.proofs.Columns.{IfOk-same, no-column, no-field, the-field}
+use Rattle.fish_csv.proofs.Texts.{field-text}
+use Rattle.fish_csv.proofs.column.field_at.Goals as goal
+
+pub returns-in_default : goal.returns-in_default
+returns-in_default c = no-column c.args.path.now _ c.in_default.ensures
+
+pub returns-in_default-get : goal.returns-in_default-get
+returns-in_default-get c = no-field c.args.path.now _ c.in-Some.place c.in-Some.ensures c.in_default-get.ensures.value
+
+pub to_field-requires : goal.to_field-requires
+to_field-requires c = field-text _ c.in-Some.place _ c.requires c.in-Some-get.ensures.value
+
+pub returns : goal.returns
+returns c = IfOk-same c.to_field.result _ _ (the-field c.args.path.now _ c.in-Some.place _ c.in-Some.ensures c.in-Some-get.ensures.value) c.to_field.ensures

@@ -1,0 +1,7 @@
+-- The record's fields are those of its row.
+use Rattle.fish_csv.specs.Contents.{fields_in}
+use Rattle.fish_csv.proofs.record.CsvRecord.get.Goals as goal
+
+pub returns : goal.returns
+unfolding fields_in
+returns c = c.field_at.ensures

@@ -1,0 +1,6 @@
+pub mod Contents
+pub mod Machine
+pub mod Reading
+pub mod Row
+pub mod Rows
+pub mod Turns

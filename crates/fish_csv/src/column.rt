@@ -1,0 +1,72 @@
+//! Columns by their names, `$1`, `$2` and so on.
+
+ghost use Rattle.std.specs.Prelude.{◌≡◌, true, IfOk};
+ghost use Rattle.std.specs.List.{list_all};
+ghost use Rattle.std.specs.Str.{is_utf8};
+ghost use Rattle.csv.specs.Records.{fields_of};
+ghost use Rattle.fish_csv.specs.Reading.{column_at, column_of, field_in, field_of, place_of};
+
+use crate::bytes::first_and_rest;
+use csv::ByteRecord;
+use fish_value::{Field, Path, Text, read_int};
+use std::alloc::{AllocError, Global};
+
+/// What a row has at a path.
+pub(crate) fn field_at(alloc: Global, row: &ByteRecord, path: &Path) -> Result<Field, AllocError>
+    requires { list_all is_utf8 (fields_of row.now) ≡ true }
+    ensures { IfOk result (λ field. field ≡ field_in path.now (fields_of row.now)) }
+{
+    let Some(place) = find_column(path) else {
+        return Ok(Field::Missing);
+    };
+    let Some(text) = row.get(place) else {
+        return Ok(Field::Missing);
+    };
+    to_field(alloc, text)
+}
+
+/// The place, from 0, of the column that a path names.
+fn find_column(path: &Path) -> Option<usize>
+    ensures { result ≡ column_at path.now }
+{
+    let (name, more) = path.parts();
+    if !more.is_empty() {
+        return None;
+    }
+    column_named(name.as_bytes())
+}
+
+/// The same of a name.
+fn column_named(name: &[u8]) -> Option<usize>
+    ensures { result ≡ column_of name.now }
+{
+    let (first, digits) = first_and_rest(name)?;
+    if first != b'$' {
+        return None;
+    }
+    to_place(read_int(digits)?)
+}
+
+/// The place that a number from 1 on stands for.
+fn to_place(number: i64) -> Option<usize>
+    ensures { result ≡ place_of number }
+{
+    if number < 1 {
+        return None;
+    }
+    Some((number - 1) as usize)
+}
+
+/// A text as a field. It is copied where it is no whole number.
+fn to_field(alloc: Global, text: &[u8]) -> Result<Field, AllocError>
+    requires { is_utf8 text.now ≡ true }
+    ensures { IfOk result (λ field. field ≡ field_of (Some text.now)) }
+{
+    if let Some(number) = read_int(text) {
+        return Ok(Field::Int(number));
+    }
+    match Text::from_bytes(alloc, text)? {
+        Some(text) => Ok(Field::Text(text)),
+        None => unreachable!(),
+    }
+}

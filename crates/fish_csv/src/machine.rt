@@ -1,0 +1,190 @@
+//! Reads rows from a slice as `csv` does with its defaults, with memory that the caller keeps.
+
+ghost use Rattle.std.specs.Prelude.{◌≡◌, ◌≢◌, ◌<◌, ◌≤◌, ◌++◌, ◌∷◌, [], length, take, true, OnOk, IfOk, MatchOption, IsTrue, ◌==◌, ◌||◌, ℕ, List};
+ghost use Rattle.csv.specs.Machine.{Runs};
+ghost use Rattle.csv.specs.Reading.{default_config};
+ghost use Rattle.csv.specs.Records.{fields_of, partial_of};
+ghost use Rattle.fish_csv.specs.Machine.{Advances, Ends, state_of};
+ghost use Rattle.fish_csv.specs.Reading.{only, rows_in};
+
+use crate::bytes::{first_and_rest, is_line_end};
+use csv::ByteRecord;
+use memchr::{memchr, memchr3};
+use std::alloc::AllocError;
+
+/// Where the reading of a row stands.
+#[derive(Clone, Copy, Debug, PartialEq, Eq)]
+pub(crate) enum Place {
+    /// In front of a row.
+    Row,
+    /// In front of a field that is not the first.
+    Field,
+    /// In a field, outside quotes.
+    Plain,
+    /// Between the quotes of a field.
+    Quoted,
+    /// Behind a quote that ended them, or that is the first of two.
+    Closed,
+}
+
+/// Reads the first row of a text, and answers what is left behind it. There is none where the text
+/// has line ends alone.
+pub(crate) fn read_row<'b>(
+    b: &'b [u8],
+    row: &mut ByteRecord,
+    field: &mut Vec<u8>,
+) -> Result<Option<&'b [u8]>, AllocError>
+    ensures { IfOk result (λ o. MatchOption o (rows_in b.now ≡ [])
+        (λ rest. (rows_in b.now ≡ fields_of row.new ∷ rows_in rest.now) × (length rest.now < length b.now))) }
+{
+    row.clear();
+    field.clear();
+    let mut place = Place::Row;
+    let mut rest = b;
+    loop {
+        let (run, behind) = rest.split_at(run_len(place, rest));
+        field.extend_from_slice(run)?;
+        let Some((c, more)) = first_and_rest(behind) else {
+            let found = finish(place, row, field)?;
+            if !found {
+                return Ok(None);
+            }
+            return Ok(Some(behind));
+        };
+        let Some(next) = advance(place, c, row, field)? else {
+            return Ok(Some(more));
+        };
+        place = next;
+        rest = more;
+    }
+}
+
+/// How many bytes from here only join the field.
+fn run_len(place: Place, b: &[u8]) -> usize
+    ensures within { result ≤ length b.now }
+    ensures runs { Runs default_config (state_of place) (take result b.now) }
+{
+    match place {
+        Place::Plain => memchr3(b',', b'\r', b'\n', b).unwrap_or(b.len()),
+        Place::Quoted => memchr(b'"', b).unwrap_or(b.len()),
+        _ => 0,
+    }
+}
+
+/// Takes one byte. `None` says that it ended the row.
+fn advance(
+    place: Place,
+    c: u8,
+    row: &mut ByteRecord,
+    field: &mut Vec<u8>,
+) -> Result<Option<Place>, AllocError>
+    requires { partial_of row.old ≡ [] }
+    ensures goes { IfOk result (λ next.
+        Advances place c (fields_of row.old) field.old.items next (fields_of row.new) field.new.items) }
+    ensures whole { OnOk result (partial_of row.new ≡ []) }
+{
+    match place {
+        Place::Row => {
+            if is_line_end(c) {
+                return Ok(Some(Place::Row));
+            }
+            advance_field(c, row, field)
+        }
+        Place::Field => advance_field(c, row, field),
+        Place::Plain => advance_plain(c, row, field),
+        Place::Quoted => advance_quoted(c, field),
+        Place::Closed => {
+            if c == b'"' {
+                return advance_doubled(field);
+            }
+            advance_plain(c, row, field)
+        }
+    }
+}
+
+/// The same in front of a field.
+fn advance_field(
+    c: u8,
+    row: &mut ByteRecord,
+    field: &mut Vec<u8>,
+) -> Result<Option<Place>, AllocError>
+    requires { partial_of row.old ≡ [] }
+    ensures goes { IfOk result (λ next.
+        Advances Place.Field c (fields_of row.old) field.old.items next (fields_of row.new) field.new.items) }
+    ensures whole { OnOk result (partial_of row.new ≡ []) }
+{
+    if c == b'"' {
+        return Ok(Some(Place::Quoted));
+    }
+    advance_plain(c, row, field)
+}
+
+/// The same between quotes.
+fn advance_quoted(c: u8, field: &mut Vec<u8>) -> Result<Option<Place>, AllocError>
+    ensures { (fields : List (List ℕ)) → IfOk result (λ next.
+        Advances Place.Quoted c fields field.old.items next fields field.new.items) }
+{
+    if c == b'"' {
+        return Ok(Some(Place::Closed));
+    }
+    field.push(c)?;
+    Ok(Some(Place::Quoted))
+}
+
+/// The same for the second of two quotes, which stands for one.
+fn advance_doubled(field: &mut Vec<u8>) -> Result<Option<Place>, AllocError>
+    ensures { (fields : List (List ℕ)) → IfOk result (λ next.
+        Advances Place.Closed 34 fields field.old.items next fields field.new.items) }
+{
+    field.push(b'"')?;
+    Ok(Some(Place::Quoted))
+}
+
+/// The same in a field, outside quotes.
+fn advance_plain(
+    c: u8,
+    row: &mut ByteRecord,
+    field: &mut Vec<u8>,
+) -> Result<Option<Place>, AllocError>
+    requires { partial_of row.old ≡ [] }
+    ensures goes { IfOk result (λ next.
+        Advances Place.Plain c (fields_of row.old) field.old.items next (fields_of row.new) field.new.items) }
+    ensures whole { OnOk result (partial_of row.new ≡ []) }
+{
+    if c == b',' {
+        end_field(row, field)?;
+        return Ok(Some(Place::Field));
+    }
+    if is_line_end(c) {
+        end_field(row, field)?;
+        return Ok(None);
+    }
+    field.push(c)?;
+    Ok(Some(Place::Plain))
+}
+
+/// Puts the field at hand behind the others.
+fn end_field(row: &mut ByteRecord, field: &mut Vec<u8>) -> Result<(), AllocError>
+    requires { partial_of row.old ≡ [] }
+    ensures fields { OnOk result (fields_of row.new ≡ fields_of row.old ++ field.old.items ∷ []) }
+    ensures field { OnOk result (field.new.items ≡ []) }
+    ensures whole { OnOk result (partial_of row.new ≡ []) }
+{
+    row.push_field(field.as_slice())?;
+    field.clear();
+    Ok(())
+}
+
+/// Takes the end of the text, and answers whether a row ended there.
+fn finish(place: Place, row: &mut ByteRecord, field: &mut Vec<u8>) -> Result<bool, AllocError>
+    requires { partial_of row.old ≡ [] }
+    ensures { IfOk result (λ found. Ends place (fields_of row.old) field.old.items found (fields_of row.new)) }
+{
+    match place {
+        Place::Row => Ok(false),
+        _ => {
+            end_field(row, field)?;
+            Ok(true)
+        }
+    }
+}
