@@ -1,6 +1,6 @@
 -- Rounding down, by a subtraction that may not fit.
-use Rattle.std.proofs.Common.{◌≡◌, refl, sym, ap}
-use Rattle.std.specs.Prelude.{ℤ, pos, int_lt, Bool, true, false, ◌&&◌, not, Option, Some, None, FitsSigned, if◌then◌else◌}
+use Rattle.std.proofs.Common.{◌≡◌, refl}
+use Rattle.std.specs.Prelude.{ℤ, pos, int_lt, true, false, ◌&&◌, not, Option, Some, None, FitsSigned, if◌then◌else◌}
 use Rattle.std.specs.Int.{w64}
 use Rattle.std.specs.Option.{SomeIff}
 use Rattle.fish_value.specs.Number.{fits_i64}

@@ -1,8 +1,7 @@
 -- A number less its remainder is the greatest multiple that is not above it.
-use Rattle.std.proofs.Common.{◌*ℤ◌, ◌≡◌, ℕ, zero, suc, ◌+◌, ◌-◌, ◌*◌, ◌/◌, ◌%◌, ◌<◌, ◌≤◌, refl, sym, ◌∙◌, ap, arith, ℤ, pos, negsuc, ◌<ℤ◌}
-use Rattle.std.proofs.Math.IntN.{◌+ℤ◌, ◌-ℤ◌}
+use Rattle.std.proofs.Common.{◌*ℤ◌, ◌≡◌, ℕ, ◌/◌, ◌<◌, arith, ℤ, pos, negsuc, ◌<ℤ◌}
+use Rattle.std.proofs.Math.IntN.{◌+ℤ◌}
 use Rattle.std.specs.Int.Signed.{◌≤ℤ◌}
-use Rattle.std.specs.Int.{int_rem_euclid}
 use Rattle.std.proofs.lemmas.Int.{ints}
 use Rattle.fish_psf.specs.BucketLaw.{IsGreatestMultiple}
 use Rattle.fish_psf.specs.Eval.{floor_multiple}

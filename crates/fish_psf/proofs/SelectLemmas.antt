@@ -1,17 +1,16 @@
 -- The law of a selection: its rows are the matches, and their numbers fall.
-use Rattle.std.proofs.Common.{◌≡◌, ℕ, zero, suc, ◌+◌, ◌<◌, ◌≤◌, List, [], ◌∷◌, length, refl, sym, ap, arith, ◌⊎◌, inl, inr, ◌∙◌}
-use Rattle.std.specs.Prelude.{Bool, true, false, not, ◌&&◌, ◌==◌, nat_le, nat_lt, ⊤, Option, Some, None, slice_get, Contains, reverse, if◌then◌else◌, ◌↔◌}
-use Rattle.std.specs.List.{enumerate_from, filter_map, cons_option, list_any}
+use Rattle.std.proofs.Common.{◌≡◌, ℕ, ◌+◌, ◌<◌, ◌≤◌, List, [], ◌∷◌, length, refl, sym, ap, arith, inl, inr, ◌∙◌}
+use Rattle.std.specs.Prelude.{Bool, true, false, not, ◌&&◌, ◌==◌, nat_le, nat_lt, Option, Some, None, slice_get, Contains, if◌then◌else◌}
+use Rattle.std.specs.List.{enumerate_from, filter_map, cons_option}
 use Rattle.std.proofs.lemmas.Bool.Decides.{nat_tests}
 use Rattle.std.proofs.lemmas.Option.{same_Some}
 use mathlib.Core.List.{reverse_aux}
 use Rattle.fish_value.proofs.SameLemmas.{same_value-Decides}
-use Rattle.fish_value.specs.Same.{same_value}
 use Rattle.fish_value.specs.declared.row.Row.{Row}
 use Rattle.fish_value.specs.declared.value.Value.{Value}
 use Rattle.fish_psf.specs.Select.{Entry, stored, void, unfinished, Evaluation, has_value, is_open, row_if, row_of, select}
 use Rattle.fish_psf.specs.SelectLaw.{IsMatch, FallsBelow, SelectsMatches}
-use Rattle.fish_psf.proofs.HasLemmas.{Has, Has-from_Contains, Contains-from_Has, Has-reverse, reverse-Has, Made, Made-from_Has, Has-from_Made}
+use Rattle.fish_psf.proofs.HasLemmas.{Has, Has-from_Contains, Contains-from_Has, Has-reverse, reverse-Has, Made-from_Has, Has-from_Made}
 
 -- what two tests say where both hold
 both : (a b : Bool) → (a && b) ≡ true → (a ≡ true) × (b ≡ true)
