@@ -1,7 +1,7 @@
 //! A file that is read whole, up to a limit.
 
 ghost use Rattle.std.specs.Prelude.{◌≡◌, ◌+◌, ◌<◌, ◌≤◌, ◌^◌, ◌++◌, length, take, IfOk, IfSome, Some, vec_len};
-ghost use Rattle.fish_outside.specs.Told.{IsAtEnd, Took};
+ghost use Rattle.fish_outside.specs.Told.{IsAtEnd, StillTold, Took};
 ghost use Rattle.fishstore.specs.Contents.{HasReadCause, IsContents, IsWithin, ReadsFile};
 
 use fish_outside::{FeedRefusal, Host, Source};
@@ -31,6 +31,7 @@ pub fn read_file<H: Host>(
     ensures file { IfOk result (λ contents.
         IfSome (H.files host.new) (λ files. ReadsFile limit name.now files contents)) }
     ensures within { IfOk result (IsWithin limit) }
+    ensures told { StillTold (H.files host.old) (H.files host.new) }
 
     ensures cause { HasReadCause (H.faults host.old) (H.faults host.new) result }
 {

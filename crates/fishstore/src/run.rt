@@ -2,6 +2,7 @@
 
 ghost use Rattle.std.specs.Prelude.{◌≡◌, ◌∷◌, [], IfOk, IfErr, IfSome, OnOk};
 ghost use Rattle.fish_outside.specs.Causes.{Rose};
+ghost use Rattle.fish_outside.specs.Told.{StillTold};
 ghost use Rattle.fish_report.specs.ReportText.{report_text};
 ghost use Rattle.fishstore.specs.Answer.{answer_of};
 ghost use Rattle.fishstore.specs.Contents.{IsContents, IsWithin};
@@ -36,6 +37,7 @@ pub fn run<R: Threads + Sync, H: Host, W: Sink>(
     ensures status { result.status ≡ status_of result.fault result.report.items }
     ensures usage { IsUsage words.now result.fault }
     ensures answers { Answers words.now (H.files host.new) result.fault result.report.items }
+    ensures told { StillTold (H.files host.old) (H.files host.new) }
     ensures written { IsWritten (W.written out.old) (W.written out.new) result.fault result.report.items }
     ensures input { result.fault ≡ Fault.Input → Rose (H.faults host.old) (H.faults host.new) }
     ensures output { result.fault ≡ Fault.Output → Rose (W.faults out.old) (W.faults out.new) }
@@ -67,6 +69,7 @@ fn prepare<H: Host>(alloc: Global, words: &[Text], host: &mut H) -> Result<Prepa
     ensures answer { IfOk result (λ prepared.
         IfSome (H.files host.new) (λ told. IsAnswer words.now told prepared.report.items)) }
     ensures text { IfOk result (λ prepared. prepared.text ≡ report_text prepared.report.items) }
+    ensures told { StillTold (H.files host.old) (H.files host.new) }
 
     ensures refused { IfErr result (IsEarlyEnd words.now (H.faults host.old) (H.faults host.new)) }
 {
@@ -79,6 +82,7 @@ fn prepare_select<H: Host>(alloc: Global, command: &Select, host: &mut H) -> Res
     ensures answer { IfOk result (λ prepared.
         IfSome (H.files host.new) (λ told. IsAnswerTo (asked_of command.now) told prepared.report.items)) }
     ensures text { IfOk result (λ prepared. prepared.text ≡ report_text prepared.report.items) }
+    ensures told { StillTold (H.files host.old) (H.files host.new) }
 
     ensures refused { IfErr result (IsStepFault (H.faults host.old) (H.faults host.new)) }
 {
