@@ -1,0 +1,17 @@
+-- Bytes as words.
+use Rattle.std.specs.Prelude.{ℕ, ◌+◌, ◌*◌, ◌/◌, List, length, take, drop, map}
+use Rattle.std.specs.Int.{from_le_bytes}
+use Rattle.std.specs.Int.Width.{w64}
+use Rattle.std.specs.List.{range_with_len}
+
+-- how many words hold so many bytes
+abbrev pub words_for : ℕ → ℕ
+words_for n = (n + 7) / 8
+
+-- the word at a place: eight bytes, low byte first, zero behind the end
+abbrev pub word_at : List ℕ → ℕ → ℕ
+word_at b i = from_le_bytes w64 (take 8 (drop (8 * i) b))
+
+-- bytes as words, the last one padded with zero bytes
+unfoldable pub words_of_bytes : List ℕ → List ℕ
+words_of_bytes b = map (word_at b) (range_with_len 0 (words_for (length b)))

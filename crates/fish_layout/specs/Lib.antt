@@ -1,0 +1,5 @@
+pub mod Body
+pub mod Bytes
+pub mod Cleared
+pub mod Header
+pub mod Values

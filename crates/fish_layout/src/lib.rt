@@ -1,0 +1,10 @@
+//! The words of a record: its header, the entries of its indexed properties, their values, and its
+//! payload, as they stand in the log, both ways.
+//!
+//! Words have 64 bits, and bytes fill them low byte first. A line has four words. What the words of
+//! a record are is a definition on its parts, in `specs/`.
+#![tactic(auto)]
+
+mod parts;
+
+pub use parts::{BodyParts, KeyPart, KeyParts, MAX_LANE, MAX_PAYLOAD, MAX_VERSION};

@@ -1,0 +1,41 @@
+//! The parts of a record.
+
+use fish_value::{Form, Sequence, Text, Value};
+
+/// The most bytes that a payload may have.
+pub const MAX_PAYLOAD: usize = 524_288;
+
+/// The greatest lane.
+pub const MAX_LANE: u8 = 16;
+
+/// The greatest version of the registry.
+pub const MAX_VERSION: u16 = 512;
+
+/// One indexed property of a record: a definition with the value that it gives.
+#[derive(Debug, Drop)]
+pub struct KeyPart {
+    /// The place of the next older key entry in its bucket, or 0.
+    pub prev: u64,
+    /// The definition.
+    pub id: u16,
+    /// Its value of this record.
+    pub value: Value,
+}
+
+/// Properties in order.
+pub type KeyParts = Sequence<KeyPart>;
+
+/// All that stands in the words of a record.
+#[derive(Debug, Drop)]
+pub struct BodyParts {
+    pub form: Form,
+    /// The lane that stored it, from 1 on.
+    pub lane: u8,
+    /// The version of the registry under which it was stored.
+    pub version: u16,
+    /// Its place in the order of claims.
+    pub number: u32,
+    /// Its indexed properties, by ascending id.
+    pub keys: KeyParts,
+    pub payload: Text,
+}
