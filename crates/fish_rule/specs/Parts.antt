@@ -1,0 +1,170 @@
+-- What holds of the words and the views at every moment, part by part.
+use Rattle.std.specs.Prelude.{ℕ, ◌≡◌, ◌≢◌, ◌+◌, ◌-◌, ◌*◌, ◌<◌, ◌≤◌, zero, suc, List, [], ◌∷◌, length, slice_index, Option, Some, None, ⊤}
+use Rattle.std.proofs.Common.{◌⊎◌}
+use mathlib.Core.Option.{some}
+use Rattle.std.proofs.Math.ListN.{get_elem?}
+use Rattle.fish_layout.specs.Cleared.{body_of, entry_at}
+use Rattle.fish_layout.specs.Header.{lines_of}
+use Rattle.fish_rule.specs.Regions.{Holds, code, kind_of}
+use Rattle.fish_rule.specs.Views.{AllOf, Among, Each, Has, HasFlight, IsFlightOf, IsOver}
+use Rattle.fish_rule.specs.World.{body, high, low}
+use Rattle.fish_rule.specs.declared.view.Flight.{Flight}
+use Rattle.fish_rule.specs.declared.view.Found.{Found}
+use Rattle.fish_rule.specs.declared.view.Key.{Key}
+use Rattle.fish_rule.specs.declared.view.Kind.TheVariants.{Mark, Stored}
+use Rattle.fish_rule.specs.declared.view.Known.{Known}
+use Rattle.fish_rule.specs.declared.view.Learned.{Learned}
+use Rattle.fish_rule.specs.declared.view.Own.{Own}
+use Rattle.fish_rule.specs.declared.view.Position.{Position}
+use Rattle.fish_rule.specs.declared.view.Recorded.{Recorded}
+use Rattle.fish_rule.specs.declared.view.Shut.{Shut}
+use Rattle.fish_rule.specs.declared.view.View.{View}
+
+-- ---- the key
+
+-- a table has at most 512 pages, and numbers below 2^28 and lines below 2^35
+pub record Fits (k : Key) : Type 0 where
+  pub some_lines : k.line ≤ k.end
+  pub few_lines : k.end ≤ k.line + 16777216
+  pub few_numbers : k.number ≤ 251000000
+  pub low_end : k.end ≤ 34359738368
+  pub few_buckets : k.buckets ≤ 65536
+
+-- ---- seats
+
+-- no two passes have one lane, and no lane is above 16
+pub record Seats (views : List View) : Type 0 where
+  pub apart : (i j : ℕ) (v u : View) (l : ℕ) → get_elem? views i ≡ some v → get_elem? views j ≡ some u → Has v.lane v.out l → Has u.lane u.out l → i ≡ j
+  pub few : Each (λ v. v.lane ≤ 16) views
+
+-- where no lane is out, the tail is as the control pass's last step left it
+abbrev pub Rests : ℕ → ℕ → Option Position → Type 0
+Rests count line None = ⊤
+Rests count line (Some t) = (t.number ≡ count) × (t.line ≡ line)
+
+-- ---- space
+
+-- the regions of the claimed numbers, each of 1 to 18,625 lines, follow one another up to the tail; the region of n begins at `start n`
+pub record Regions (k : Key) (count line : ℕ) (start : ℕ → ℕ) : Type 0 where
+  pub some : k.number ≤ count
+  pub first : start k.number ≡ k.line
+  pub last : start count ≡ line
+  pub grows : (n : ℕ) → k.number ≤ n → n < count → start n < start (suc n)
+  pub small : (n : ℕ) → k.number ≤ n → n < count → start (suc n) ≤ start n + 18625
+
+-- the number n is published: its directory word has its line and the kind of its region, whose words hold what that kind asks
+pub record IsFinished (k : Key) (dir log start lane_of : ℕ → ℕ) (n : ℕ) : Type 0 where
+  pub kind : high (dir n) ≡ code (kind_of k.end (start n) (start (suc n)))
+  pub line : low (dir n) ≡ start n
+  pub lined : lines_of (body log (start n) 0) ≤ start (suc n) - start n
+  pub holds : Holds (kind_of k.end (start n) (start (suc n))) (lane_of n) n (start (suc n) - start n) (body log (start n))
+
+-- word i of a region is the first of one of the key entries that are linked
+abbrev pub IsLinkedWord : ℕ → ℕ → Type 0
+IsLinkedWord linked i = (c : ℕ) × (c < linked) × (i ≡ entry_at c)
+
+-- a record in flight with a pass of this lane: its region is claimed and its number not published; the words stored so far stand in the log, and zeros behind them
+pub record InFlight (k : Key) (count : ℕ) (dir log start lane_of : ℕ → ℕ) (lane : ℕ) (f : Flight) : Type 0 where
+  pub above : k.number ≤ f.number
+  pub below : f.number < count
+  pub line : start f.number ≡ f.line
+  pub lines : start (suc f.number) ≡ f.line + f.lines
+  pub unpublished : dir f.number ≡ 0
+  pub owner : lane_of f.number ≡ lane
+  pub short : length f.words ≤ f.lines * 4
+  pub written : (i : ℕ) → i < length f.words → ¬ IsLinkedWord f.linked i → log (f.line * 4 + i) ≡ slice_index f.words i
+  pub unwritten : (i : ℕ) → length f.words ≤ i → i < f.lines * 4 → log (f.line * 4 + i) ≡ 0
+
+-- the same where there is one
+abbrev pub Flies : Key → ℕ → (ℕ → ℕ) → (ℕ → ℕ) → (ℕ → ℕ) → (ℕ → ℕ) → ℕ → Option Flight → Type 0
+Flies k count dir log start lane_of lane None = ⊤
+Flies k count dir log start lane_of lane (Some f) = InFlight k count dir log start lane_of lane f
+
+-- each claimed number is published, or in flight with exactly one pass; behind the tail all words are 0
+pub record Space (k : Key) (count line : ℕ) (dir log : ℕ → ℕ) (views : List View) (start lane_of : ℕ → ℕ) : Type 0 where
+  pub regions : Regions k count line start
+  pub finished : (n : ℕ) → k.number ≤ n → n < count → dir n ≢ 0 → IsFinished k dir log start lane_of n
+  pub flying : (n : ℕ) → k.number ≤ n → n < count → dir n ≡ 0 → HasFlight n views
+  pub flights : Each (λ v. Flies k count dir log start lane_of v.lane v.flight) views
+  pub alone : (i j : ℕ) (v u : View) (n : ℕ) → get_elem? views i ≡ some v → get_elem? views j ≡ some u → IsFlightOf n v.flight → IsFlightOf n u.flight → i ≡ j
+  pub dir_below : (n : ℕ) → n < k.number → dir n ≡ 0
+  pub dir_beyond : (n : ℕ) → count ≤ n → dir n ≡ 0
+  pub log_beyond : (p : ℕ) → line * 4 ≤ p → log p ≡ 0
+
+-- ---- the limit
+
+-- the sum of a quota over the lanes 1 to l
+abbrev pub quotas : (ℕ → ℕ) → ℕ → ℕ
+quotas quota zero = 0
+quotas quota (suc l) = quotas quota l + quota (suc l)
+
+-- a pass may still make a claim that ends past the log's end: it isn't shut and has no such claim in flight
+abbrev pub MayOverflow : ℕ → Option Shut → Option Flight → Type 0
+MayOverflow end shut flight = (shut ≡ None) × ¬ IsOver end flight
+
+-- the claims that end past the log's end, and the lanes that may still make one, are together at most 16
+pub record Limit (k : Key) (count : ℕ) (views : List View) (start quota : ℕ → ℕ) : Type 0 where
+  pub first : ℕ
+  pub above : k.number ≤ first
+  pub within : first ≤ count
+  pub fits : start first ≤ k.end
+  pub past : (n : ℕ) → first ≤ n → n < count → k.end < start (suc n)
+  pub few : quotas quota 16 + (count - first) ≤ 16
+  pub may : Each (λ v. (l : ℕ) → Has v.lane v.out l → MayOverflow k.end v.shut v.flight → quota l ≡ 1) views
+
+-- ---- own numbers
+
+-- the number n is published, and a record that lane l claimed
+pub record IsStoredBy (k : Key) (count : ℕ) (dir lane_of : ℕ → ℕ) (l n : ℕ) : Type 0 where
+  pub above : k.number ≤ n
+  pub below : n < count
+  pub stored : high (dir n) ≡ code Stored
+  pub lane : lane_of n ≡ l
+
+-- a pass's own numbers are exactly the published records of the lanes that it has
+pub record Owns (k : Key) (count : ℕ) (dir lane_of : ℕ → ℕ) (lane : ℕ) (out : List ℕ) (own : List Own) : Type 0 where
+  pub sound : (o : Own) → Among o own → Has lane out o.lane × IsStoredBy k count dir lane_of o.lane o.number
+  pub complete : (o : Own) → Has lane out o.lane → IsStoredBy k count dir lane_of o.lane o.number → Among o own
+
+-- ---- facts
+
+-- a number that was found published is, with that kind and region
+pub record IsFound (k : Key) (count : ℕ) (dir start : ℕ → ℕ) (f : Found) : Type 0 where
+  pub above : k.number ≤ f.number
+  pub below : f.number < count
+  pub kind : high (dir f.number) ≡ code f.kind
+  pub line : start f.number ≡ f.line
+  pub lines : start (suc f.number) ≡ f.line + f.lines
+
+-- a word that was read of a published region stands there
+pub record IsKnown (k : Key) (count : ℕ) (dir log start : ℕ → ℕ) (x : Known) : Type 0 where
+  pub above : k.number ≤ x.number
+  pub below : x.number < count
+  pub published : dir x.number ≢ 0
+  pub word : body log (start x.number) x.offset ≡ x.value
+
+-- the words that were stored for a published record are its words
+pub record IsRecorded (k : Key) (count : ℕ) (dir log start : ℕ → ℕ) (r : Recorded) : Type 0 where
+  pub above : k.number ≤ r.number
+  pub below : r.number < count
+  pub stored : high (dir r.number) ≡ code Stored
+  pub words : body log (start r.number) ≡ body_of r.words
+
+-- all that a pass has learned is so
+pub record Facts (k : Key) (count : ℕ) (dir log start : ℕ → ℕ) (l : Learned) : Type 0 where
+  pub counted : l.count ≤ count
+  pub found : AllOf (IsFound k count dir start) l.found
+  pub known : AllOf (IsKnown k count dir log start) l.known
+  pub records : AllOf (IsRecorded k count dir log start) l.records
+
+-- the claim that shut a pass is a published mark
+pub record IsShut (k : Key) (count : ℕ) (dir start : ℕ → ℕ) (s : Shut) : Type 0 where
+  pub number : ℕ
+  pub end : s.end ≡ k.end
+  pub past : k.end < s.line + s.lines
+  pub mark : IsFound k count dir start (record { number = number; kind = Mark; line = s.line; lines = s.lines })
+
+-- the same where there is one
+abbrev pub ShutOk : Key → ℕ → (ℕ → ℕ) → (ℕ → ℕ) → Option Shut → Type 0
+ShutOk k count dir start None = ⊤
+ShutOk k count dir start (Some s) = IsShut k count dir start s

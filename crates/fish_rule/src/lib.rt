@@ -1,0 +1,13 @@
+//! The rule of the log: what its shared words say at every moment, whatever the interleaving of the
+//! passes, and one function for each kind of atomic step.
+//!
+//! A line has 32 bytes, which are four words. Numbers, lines and places are counted from the log's
+//! start. No other crate touches a shared word.
+#![tactic(auto)]
+
+mod table;
+mod view;
+
+pub use view::{
+    Clock, Flight, Found, Key, Kind, Known, Learned, Note, Noted, Own, Position, Recorded, Shut, View,
+};

@@ -1,0 +1,1 @@
+//! The shared table and its rule.

@@ -1,0 +1,140 @@
+//! What a pass knows of the log, as plain data. The program never makes a view: it stands in
+//! contracts alone, where an array is a list of any length.
+
+/// What is fixed when a table is made.
+#[derive(Clone, Copy)]
+pub struct Key {
+    /// The number of the table's first claim.
+    pub number: u64,
+    /// The line of the table's first claim.
+    pub line: u64,
+    /// The first line behind the log.
+    pub end: u64,
+    /// How many chains there are.
+    pub buckets: u64,
+}
+
+/// Where the next record goes.
+#[derive(Clone, Copy, Debug, PartialEq, Eq)]
+pub struct Position {
+    /// The number that it takes.
+    pub number: u64,
+    /// Its first line.
+    pub line: u64,
+}
+
+/// The claim that shut a pass: its region ends past the log's end.
+#[derive(Clone, Copy, Debug, PartialEq, Eq)]
+pub struct Shut {
+    /// Its first line.
+    pub line: u64,
+    /// How many lines it asked for.
+    pub lines: u64,
+    /// The first line behind the log.
+    pub end: u64,
+}
+
+/// What a region of lines holds once its number is published.
+#[derive(Clone, Copy)]
+pub enum Kind {
+    /// A record.
+    Stored,
+    /// Padding, since the region crosses the end of a page.
+    Void,
+    /// Nothing, since the region ends past the log's end.
+    Mark,
+}
+
+/// A record that is claimed and not published.
+pub struct Flight {
+    pub number: u64,
+    pub line: u64,
+    pub lines: u64,
+    /// The words that are stored so far.
+    pub words: [u64; 0],
+    /// How many of its key entries are linked.
+    pub linked: u64,
+}
+
+/// A number that is published, and its region.
+pub struct Found {
+    pub number: u64,
+    pub kind: Kind,
+    pub line: u64,
+    pub lines: u64,
+}
+
+/// A word of a published region.
+pub struct Known {
+    pub number: u64,
+    /// Its place in the region.
+    pub offset: u64,
+    pub value: u64,
+}
+
+/// A published record and the words that were stored for it.
+pub struct Recorded {
+    pub number: u64,
+    pub words: [u64; 0],
+}
+
+/// A record that a lane published.
+pub struct Own {
+    pub lane: u64,
+    pub number: u64,
+}
+
+/// What a step loaded.
+pub enum Noted {
+    /// The directory word of a number.
+    Directory(u64),
+    /// The tail.
+    Tail,
+}
+
+/// One load, and the value that it found.
+pub struct Note {
+    /// The pass's steps before it.
+    pub step: u64,
+    pub what: Noted,
+    pub value: u64,
+}
+
+/// What a pass did so far.
+pub struct Clock {
+    /// Its steps.
+    pub steps: u64,
+    /// Its loads of words of the log.
+    pub loads: u64,
+    /// Its loads of other words, newest first.
+    pub notes: [Note; 0],
+}
+
+/// Facts that stay true, whatever other passes do.
+pub struct Learned {
+    /// At least so many numbers are claimed.
+    pub count: u64,
+    pub found: [Found; 0],
+    pub known: [Known; 0],
+    pub records: [Recorded; 0],
+}
+
+/// What a pass knows.
+pub struct View {
+    /// The table's key.
+    pub about: Key,
+    /// Its lane, from 1 on, or 0 where the pass is spent.
+    pub lane: u64,
+    /// Of the control pass: the lanes that are out with other passes.
+    pub out: [u64; 0],
+    /// The claim that shut it.
+    pub shut: Option<Shut>,
+    /// Its record in flight.
+    pub flight: Option<Flight>,
+    /// The tail as its last step left it, unless it joined another pass since.
+    pub tail: Option<Position>,
+    /// The records that its lanes published.
+    pub own: [Own; 0],
+    pub learned: Learned,
+    pub clock: Clock,
+}
