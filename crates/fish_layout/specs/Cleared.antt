@@ -28,6 +28,10 @@ cleared f i =
 abbrev pub body_of : List ℕ → ℕ → ℕ
 body_of words = cleared (slice_index words)
 
+-- two regions have the same words within the lines of the first, but for the first words of its key entries
+abbrev pub Agrees : (ℕ → ℕ) → (ℕ → ℕ) → Type 0
+Agrees f g = (i : ℕ) → i ≤ lines_of (f 0) * 4 - 1 → ¬ IsKeyWord (keys_of (f 0)) i → g i ≡ f i
+
 -- no entry has a previous node
 abbrev pub AreUnlinked : List KeyPart → Type 0
 AreUnlinked [] = ⊤
