@@ -1,5 +1,5 @@
 -- Words that are put to 0, and words that stay: what clearing a region rests on.
-use Rattle.std.proofs.Common.{◌≡◌, ℕ, ◌-◌, ◌*◌, ◌%◌, ◌≤◌, refl, ap, sym, ◌∙◌, arith}
+use Rattle.std.proofs.Common.{◌≡◌, ℕ, ◌-◌, ◌*◌, ◌%◌, ◌<◌, ◌≤◌, refl, ◌∙◌, arith}
 use Rattle.std.proofs.Math.Decide.{ℕ_discrete, dec_le}
 use Rattle.fish_layout.specs.Cleared.{Agrees, IsKeyWord, choose, cleared}
 use Rattle.fish_layout.specs.Header.{keys_of, lines_of}
@@ -57,3 +57,16 @@ cleared_at f i within other =
 -- the first word stays
 pub cleared_head : (f : ℕ → ℕ) → cleared f 0 ≡ f 0
 cleared_head f = cleared_at f 0 (omega arith) (head_stays (keys_of (f 0)))
+
+-- the first word of a key entry is put to 0
+pub cleared_key : (f : ℕ → ℕ) (i : ℕ) → i ≤ lines_of (f 0) * 4 - 1 → IsKeyWord (keys_of (f 0)) i → cleared f i ≡ 0
+unfolding cleared
+cleared_key f i within key =
+    choose_first (dec_le i (lines_of (f 0) * 4 - 1)) _ _ within
+    ∙ choose_first (dec_le i (3 * keys_of (f 0))) _ _ key.0
+    ∙ choose_first (ℕ_discrete (i % 3) 1) 0 (f i) key.1
+
+-- behind the lines all is put to 0
+pub cleared_behind : (f : ℕ → ℕ) (i : ℕ) → lines_of (f 0) * 4 - 1 < i → cleared f i ≡ 0
+unfolding cleared
+cleared_behind f i behind = choose_second (dec_le i (lines_of (f 0) * 4 - 1)) _ 0 (λ within. omega arith)

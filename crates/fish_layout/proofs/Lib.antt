@@ -1,1 +1,5 @@
 pub mod Clearing
+pub mod Fields
+pub mod Links
+pub mod Sizes
+pub mod Spelled

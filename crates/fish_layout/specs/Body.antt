@@ -4,7 +4,7 @@ use Rattle.std.specs.List.{flat_map}
 use Rattle.fish_value.specs.Number.{fits_i64}
 use Rattle.fish_value.specs.declared.value.Value.{Value}
 use Rattle.fish_value.specs.declared.value.Value.TheVariants as kind
-use Rattle.fish_layout.specs.Bytes.{words_for, words_of_bytes}
+use Rattle.fish_layout.specs.Bytes.{words_of_bytes}
 use Rattle.fish_layout.specs.Header.{form_code, header_word}
 use Rattle.fish_layout.specs.Values.{kind_code, value_bytes}
 use Rattle.fish_layout.specs.declared.parts.BodyParts.{BodyParts}
