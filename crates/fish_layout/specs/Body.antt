@@ -17,8 +17,12 @@ abbrev pub entry_word : ℕ → ℕ → ℕ → ℕ
 entry_word number id place = number + id * 2 ^ 28 + place * 2 ^ 36
 
 -- the third word: the value's kind in bits 0 and 1, the length of its bytes in 2 to 10, their offset in 11 to 28
+abbrev pub packed_value : ℕ → ℕ → ℕ → ℕ
+packed_value code size offset = code + size * 2 ^ 2 + offset * 2 ^ 11
+
+-- the same of a value
 abbrev pub value_word : Value → ℕ → ℕ
-value_word v offset = kind_code v + length (value_bytes v) * 2 ^ 2 + offset * 2 ^ 11
+value_word v offset = packed_value (kind_code v) (length (value_bytes v)) offset
 
 -- the words of key entries from a place on, whose values' bytes begin at an offset
 abbrev pub key_words : ℕ → ℕ → ℕ → List KeyPart → List ℕ
