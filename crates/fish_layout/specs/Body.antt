@@ -4,7 +4,7 @@ use Rattle.std.specs.List.{flat_map}
 use Rattle.fish_value.specs.Number.{fits_i64}
 use Rattle.fish_value.specs.declared.value.Value.{Value}
 use Rattle.fish_value.specs.declared.value.Value.TheVariants as kind
-use Rattle.fish_layout.specs.Bytes.{words_for, words_of_bytes}
+use Rattle.fish_layout.specs.Bytes.{words_of_bytes}
 use Rattle.fish_layout.specs.Header.{form_code, header_word}
 use Rattle.fish_layout.specs.Values.{kind_code, value_bytes}
 use Rattle.fish_layout.specs.declared.parts.BodyParts.{BodyParts}
@@ -17,8 +17,12 @@ abbrev pub entry_word : ℕ → ℕ → ℕ → ℕ
 entry_word number id place = number + id * 2 ^ 28 + place * 2 ^ 36
 
 -- the third word: the value's kind in bits 0 and 1, the length of its bytes in 2 to 10, their offset in 11 to 28
+abbrev pub packed_value : ℕ → ℕ → ℕ → ℕ
+packed_value code size offset = code + size * 2 ^ 2 + offset * 2 ^ 11
+
+-- the same of a value
 abbrev pub value_word : Value → ℕ → ℕ
-value_word v offset = kind_code v + length (value_bytes v) * 2 ^ 2 + offset * 2 ^ 11
+value_word v offset = packed_value (kind_code v) (length (value_bytes v)) offset
 
 -- the words of key entries from a place on, whose values' bytes begin at an offset
 abbrev pub key_words : ℕ → ℕ → ℕ → List KeyPart → List ℕ

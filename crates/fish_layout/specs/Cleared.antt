@@ -1,5 +1,5 @@
 -- A record's words but for the previous nodes of its key entries, which alone change once it is published.
-use Rattle.std.specs.Prelude.{ℕ, ◌≡◌, ◌+◌, ◌-◌, ◌*◌, ◌%◌, ◌<◌, ◌≤◌, List, [], ◌∷◌, slice_index, ⊤}
+use Rattle.std.specs.Prelude.{ℕ, ◌≡◌, ◌+◌, ◌-◌, ◌*◌, ◌%◌, ◌≤◌, List, [], ◌∷◌, slice_index, ⊤}
 use Rattle.std.proofs.Math.Decide.{ℕ_discrete, dec_le}
 use Rattle.fish_layout.specs.Body.{IsProper, body_words}
 use Rattle.fish_layout.specs.Header.{keys_of, lines_of}
@@ -28,10 +28,23 @@ cleared f i =
 abbrev pub body_of : List ℕ → ℕ → ℕ
 body_of words = cleared (slice_index words)
 
+-- two regions have the same words within the lines of the first, but for the first words of its key entries
+abbrev pub Agrees : (ℕ → ℕ) → (ℕ → ℕ) → Type 0
+Agrees f g = (i : ℕ) → i ≤ lines_of (f 0) * 4 - 1 → ¬ IsKeyWord (keys_of (f 0)) i → g i ≡ f i
+
 -- no entry has a previous node
 abbrev pub AreUnlinked : List KeyPart → Type 0
 AreUnlinked [] = ⊤
 AreUnlinked (k ∷ ks) = (k.prev ≡ 0) × AreUnlinked ks
+
+-- key entries with no previous node, and else the same
+abbrev pub unlink : List KeyPart → List KeyPart
+unlink [] = []
+unlink (k ∷ ks) = record k { prev = 0 } ∷ unlink ks
+
+-- a record's parts with no previous node, and else the same
+abbrev pub unlinked : BodyParts → BodyParts
+unlinked p = record p { keys = unlink p.keys }
 
 -- e has the words of a record with these parts, its previous nodes put to 0, and 0 behind
 pub record Spells (p : BodyParts) (e : ℕ → ℕ) : Type 0 where

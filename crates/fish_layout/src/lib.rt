@@ -5,6 +5,9 @@
 //! a record are is a definition on its parts, in `specs/`.
 #![tactic(auto)]
 
+mod header;
 mod parts;
+mod word;
 
-pub use parts::{BodyParts, KeyPart, KeyParts, MAX_LANE, MAX_PAYLOAD, MAX_VERSION};
+pub use header::{Header, header_of, void_header};
+pub use parts::{BodyParts, KeyPart, KeyParts, MAX_KEYS, MAX_LANE, MAX_PAYLOAD, MAX_VERSION};

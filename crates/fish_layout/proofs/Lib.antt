@@ -1,0 +1,6 @@
+pub mod Clearing
+pub mod Fields
+pub mod Headers
+pub mod Links
+pub mod Sizes
+pub mod Spelled
