@@ -1,1 +1,4 @@
+pub mod Bounds
+pub mod Common
+pub mod Kept
 pub mod Worlds

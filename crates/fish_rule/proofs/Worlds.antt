@@ -1,32 +1,22 @@
 -- Areas of words as functions: what a store and a load are to them.
 use Rattle.std.proofs.Common.{◌≡◌, ◌≢◌, ℕ, ◌+◌, ◌-◌, ◌*◌, ◌/◌, ◌%◌, ◌<◌, ◌≤◌, suc, List, length, get_or, set, sym, refl, ap, ◌∙◌, inl, inr, ◌⊎◌, arith, get_or-set_other, get_or-set_same}
 use Rattle.std.proofs.Math.Decide.{ℕ_discrete, dec_le}
+use Rattle.fish_layout.proofs.Clearing.{choose_first, choose_second}
 use Rattle.fish_layout.specs.Cleared.{choose}
 use Rattle.fish_rule.specs.World.{World, area, dir_at, high, log_at, log_size, low, put, slots, total, world}
 use Rattle.fish_rule.specs.declared.view.Key.{Key}
 use Rattle.fish_rule.specs.declared.view.View.{View}
 
-module _ {X P : Type 0} where
-  -- a choice is its first where the claim holds
-  pub choose-yes : (d : Dec P) (x y : X) → P → choose d x y ≡ x
-  choose-yes (yes p) x y h = refl
-  choose-yes (no n) x y h = absurd (n h)
-
-  -- and its second where it doesn't
-  pub choose-no : (d : Dec P) (x y : X) → ¬ P → choose d x y ≡ y
-  choose-no (yes p) x y h = absurd (h p)
-  choose-no (no n) x y h = refl
-
 module _ {A : Type 0} where
   -- at the place of the new value stands the new value
   pub put-here : (f : ℕ → A) (n : ℕ) (x : A) → put f n x n ≡ x
   unfolding put
-  put-here f n x = choose-yes (ℕ_discrete n n) x (f n) refl
+  put-here f n x = choose_first (ℕ_discrete n n) x (f n) refl
 
   -- elsewhere stands the old one
   pub put-else : (f : ℕ → A) (n : ℕ) (x : A) (m : ℕ) → m ≢ n → put f n x m ≡ f m
   unfolding put
-  put-else f n x m ne = choose-no (ℕ_discrete m n) x (f m) ne
+  put-else f n x m ne = choose_second (ℕ_discrete m n) x (f m) ne
 
 -- ---- areas
 
@@ -34,17 +24,17 @@ module _ {A : Type 0} where
 pub area-in : (ws : List ℕ) (at base size n : ℕ) → base ≤ n → n < base + size → area ws at base size n ≡ get_or ws (at + (n - base)) 0
 unfolding area
 area-in ws at base size n above below =
-    choose-yes (dec_le base n) _ 0 above ∙ choose-yes (dec_le (suc n) (base + size)) (get_or ws (at + (n - base)) 0) 0 (omega arith)
+    choose_first (dec_le base n) _ 0 above ∙ choose_first (dec_le (suc n) (base + size)) (get_or ws (at + (n - base)) 0) 0 (omega arith)
 
 -- below and behind it stands 0
 pub area-below : (ws : List ℕ) (at base size n : ℕ) → n < base → area ws at base size n ≡ 0
 unfolding area
-area-below ws at base size n less = choose-no (dec_le base n) _ 0 (λ h. omega arith)
+area-below ws at base size n less = choose_second (dec_le base n) _ 0 (λ h. omega arith)
 
 pub area-behind : (ws : List ℕ) (at base size n : ℕ) → base + size ≤ n → area ws at base size n ≡ 0
 unfolding area
 area-behind ws at base size n more =
-    choose-yes (dec_le base n) _ 0 (omega arith) ∙ choose-no (dec_le (suc n) (base + size)) (get_or ws (at + (n - base)) 0) 0 (λ h. omega arith)
+    choose_first (dec_le base n) _ 0 (omega arith) ∙ choose_second (dec_le (suc n) (base + size)) (get_or ws (at + (n - base)) 0) 0 (λ h. omega arith)
 
 -- two lists that agree in the range give one area
 area-same : (ws us : List ℕ) (at base size : ℕ) → ((n : ℕ) → base ≤ n → n < base + size → get_or us (at + (n - base)) 0 ≡ get_or ws (at + (n - base)) 0)

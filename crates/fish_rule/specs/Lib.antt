@@ -2,6 +2,7 @@ pub mod Machine
 pub mod Parts
 pub mod Regions
 pub mod Rule
+pub mod Seating
 pub mod Steps
 pub mod Table
 pub mod Views

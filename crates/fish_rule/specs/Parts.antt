@@ -138,10 +138,14 @@ pub record IsFound (k : Key) (count : ℕ) (dir start : ℕ → ℕ) (f : Found)
 
 -- a word that was read of a published region stands there
 pub record IsKnown (k : Key) (count : ℕ) (dir log start : ℕ → ℕ) (x : Known) : Type 0 where
-  pub above : k.number ≤ x.number
-  pub below : x.number < count
-  pub published : dir x.number ≢ 0
-  pub word : body log (start x.number) x.offset ≡ x.value
+  pub number : ℕ
+  pub offset : ℕ
+  pub above : k.number ≤ number
+  pub below : number < count
+  pub published : dir number ≢ 0
+  pub inside : offset < (start (suc number) - start number) * 4
+  pub place : x.place ≡ start number * 4 + offset
+  pub word : body log (start number) offset ≡ x.value
 
 -- the words that were stored for a published record are its words
 pub record IsRecorded (k : Key) (count : ℕ) (dir log start : ℕ → ℕ) (r : Recorded) : Type 0 where

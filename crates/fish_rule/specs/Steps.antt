@@ -1,1 +1,172 @@
--- to be written
+-- What a pass knows after each kind of step, and when it may make it.
+use Rattle.std.specs.Prelude.{ℕ, ◌≡◌, ◌≢◌, ◌+◌, ◌*◌, ◌<◌, ◌≤◌, zero, suc, List, [], ◌∷◌, ◌++◌, length, Option, Some, None}
+use Rattle.std.proofs.Common.{◌⊎◌}
+use Rattle.fish_layout.specs.Cleared.{IsKeyWord, body_of}
+use Rattle.fish_layout.specs.Header.{keys_of, void_word}
+use Rattle.fish_rule.specs.Regions.{IsRecord, kind_of}
+use Rattle.fish_rule.specs.Views.{Among}
+use Rattle.fish_rule.specs.World.{high, low}
+use Rattle.fish_rule.specs.declared.view.Clock.{Clock}
+use Rattle.fish_rule.specs.declared.view.Flight.{Flight}
+use Rattle.fish_rule.specs.declared.view.Found.{Found}
+use Rattle.fish_rule.specs.declared.view.Kind.{Kind}
+use Rattle.fish_rule.specs.declared.view.Kind.TheVariants.{Mark, Stored, Void}
+use Rattle.fish_rule.specs.declared.view.Known.{Known}
+use Rattle.fish_rule.specs.declared.view.Learned.{Learned}
+use Rattle.fish_rule.specs.declared.view.Note.{Note}
+use Rattle.fish_rule.specs.declared.view.Noted.{Noted}
+use Rattle.fish_rule.specs.declared.view.Noted.TheVariants.{Directory, Tail}
+use Rattle.fish_rule.specs.declared.view.Own.{Own}
+use Rattle.fish_rule.specs.declared.view.Position.{Position}
+use Rattle.fish_rule.specs.declared.view.Recorded.{Recorded}
+use Rattle.fish_rule.specs.declared.view.Shut.{Shut}
+use Rattle.fish_rule.specs.declared.view.View.{View}
+
+-- ---- the clock
+
+-- one more step
+abbrev pub ticked : Clock → Clock
+ticked c = record c { steps = suc c.steps }
+
+-- one more step, a load that found this value
+abbrev pub noted : Clock → Noted → ℕ → Clock
+noted c what value = record c { steps = suc c.steps; notes = record { step = c.steps; what = what; value = value } ∷ c.notes }
+
+-- one more step, a load of a word of the log
+abbrev pub loaded : Clock → Clock
+loaded c = record c { steps = suc c.steps; loads = suc c.loads }
+
+-- ---- claim: a fetch-and-add on the tail
+
+-- the pass is live, has nothing in flight, and isn't shut
+pub record CanClaim (v : View) : Type 0 where
+  pub live : 1 ≤ v.lane
+  pub idle : v.flight ≡ None
+  pub ready : v.shut ≡ None
+
+-- a record just claimed
+abbrev pub flight_at : ℕ → ℕ → ℕ → Flight
+flight_at n line lines = record { number = n; line = line; lines = lines; words = []; linked = 0 }
+
+-- the region of so many lines at this tail is in flight
+abbrev pub after_claim : View → ℕ → ℕ → ℕ → View
+after_claim v lines n line = record v { flight = Some (flight_at n line lines); tail = Some (record { number = suc n; line = line + lines }); clock = ticked v.clock }
+
+-- ---- fill: a store of the next word of the own region
+
+-- f is in flight, no entry of it is linked, and more words are to come; a mark has none
+pub record CanStore (v : View) (f : Flight) : Type 0 where
+  pub flying : v.flight ≡ Some f
+  pub unlinked : f.linked ≡ 0
+  pub more : length f.words < f.lines * 4
+  pub within : f.line + f.lines ≤ v.about.end
+
+-- a record in flight with one word more
+abbrev pub with_word : Flight → ℕ → Flight
+with_word f x = record f { words = f.words ++ x ∷ [] }
+
+-- the word is stored
+abbrev pub after_store : View → Flight → ℕ → View
+after_store v f x = record v { flight = Some (with_word f x); clock = ticked v.clock }
+
+-- ---- publish: a store of the own directory word
+
+-- the kind of a pass's region
+abbrev pub flight_kind : View → Flight → Kind
+flight_kind v f = kind_of v.about.end f.line (f.line + f.lines)
+
+-- what is stored of a region before it may be published: all words of a record of this lane, with all its entries linked; of a void its header; of a mark nothing
+abbrev pub IsReady : Kind → ℕ → Flight → Type 0
+IsReady Stored lane f = (length f.words ≡ f.lines * 4) × IsRecord lane f.number f.lines (body_of f.words) × (f.linked ≡ keys_of (body_of f.words 0))
+IsReady Void lane f = (f.words ≡ void_word f.lines ∷ []) × (f.linked ≡ 0)
+IsReady Mark lane f = f.words ≡ []
+
+-- f is in flight and ready
+pub record CanPublish (v : View) (f : Flight) : Type 0 where
+  pub live : 1 ≤ v.lane
+  pub flying : v.flight ≡ Some f
+  pub ready : IsReady (flight_kind v f) v.lane f
+
+-- a record joins the own ones
+abbrev pub own_after : Kind → ℕ → ℕ → List Own → List Own
+own_after Stored lane n own = own ++ record { lane = lane; number = n } ∷ []
+own_after Void lane n own = own
+own_after Mark lane n own = own
+
+-- a mark shuts the pass
+abbrev pub shut_after : Kind → Flight → ℕ → Option Shut → Option Shut
+shut_after Stored f end shut = shut
+shut_after Void f end shut = shut
+shut_after Mark f end shut = Some (record { line = f.line; lines = f.lines; end = end })
+
+-- a record's words are known from now on
+abbrev pub records_after : Kind → Flight → List Recorded → List Recorded
+records_after Stored f records = record { number = f.number; words = f.words } ∷ records
+records_after Void f records = records
+records_after Mark f records = records
+
+-- what is learned by a publication
+abbrev pub learned_after : Kind → Flight → Learned → Learned
+learned_after kind f l = record l {
+  found = record { number = f.number; kind = kind; line = f.line; lines = f.lines } ∷ l.found;
+  records = records_after kind f l.records;
+}
+
+-- the number is published
+abbrev pub after_publish : View → Flight → View
+after_publish v f = record v {
+  flight = None;
+  shut = shut_after (flight_kind v f) f v.about.end v.shut;
+  own = own_after (flight_kind v f) v.lane f.number v.own;
+  learned = learned_after (flight_kind v f) f v.learned;
+  clock = ticked v.clock;
+}
+
+-- ---- look: a load of a directory word
+
+-- the number is one of the table's, below a count that the pass loaded
+pub record CanLook (v : View) (n : ℕ) : Type 0 where
+  pub live : 1 ≤ v.lane
+  pub above : v.about.number ≤ n
+  pub below : n < v.learned.count
+
+-- the kind that a directory word tells
+abbrev pub kind_told : ℕ → Kind
+kind_told (suc zero) = Stored
+kind_told (suc (suc zero)) = Void
+kind_told _ = Mark
+
+-- a directory word that isn't 0 tells the kind and line of a region that has so many lines
+abbrev pub found_after : ℕ → ℕ → ℕ → List Found → List Found
+found_after n lines zero found = found
+found_after n lines (suc x) found = record { number = n; kind = kind_told (high (suc x)); line = low (suc x); lines = lines } ∷ found
+
+-- the directory word is seen
+abbrev pub after_look : View → ℕ → ℕ → ℕ → View
+after_look v n lines x = record v { learned = record v.learned { found = found_after n lines x v.learned.found }; clock = noted v.clock (Directory n) x }
+
+-- the control pass, while no lane is out and it has nothing in flight
+pub record IsAlone (v : View) : Type 0 where
+  pub main : v.lane ≡ 1
+  pub all : v.out ≡ []
+  pub idle : v.flight ≡ None
+
+-- ---- read: a load of a word of a published region
+
+-- the region was found and isn't a mark; the word is its header, or by its header that was read no first word of a key entry
+pub record CanRead (v : View) (f : Found) (i : ℕ) : Type 0 where
+  pub live : 1 ≤ v.lane
+  pub found : Among f v.learned.found
+  pub words : f.kind ≢ Mark
+  pub inside : i < f.lines * 4
+  pub plain : (i ≡ 0) ⊎ ((h : ℕ) × Among (record { place = f.line * 4; value = h }) v.learned.known × ¬ IsKeyWord (keys_of h) i)
+
+-- the word is known
+abbrev pub after_read : View → ℕ → ℕ → View
+after_read v place x = record v { learned = record v.learned { known = record { place = place; value = x } ∷ v.learned.known }; clock = loaded v.clock }
+
+-- ---- end: a load of the tail
+
+-- the count and the line are known
+abbrev pub after_end : View → ℕ → View
+after_end v x = record v { learned = record v.learned { count = high x }; tail = Some (record { number = high x; line = low x }); clock = noted v.clock Tail x }

@@ -66,9 +66,8 @@ pub struct Found {
 
 /// A word of a published region.
 pub struct Known {
-    pub number: u64,
-    /// Its place in the region.
-    pub offset: u64,
+    /// Its place, in words from the log's start.
+    pub place: u64,
     pub value: u64,
 }
 
