@@ -1,5 +1,7 @@
+pub mod Flying
 pub mod Machine
 pub mod Parts
+pub mod Passes
 pub mod Regions
 pub mod Rule
 pub mod Seating

@@ -5,9 +5,13 @@
 //! start. No other crate touches a shared word.
 #![tactic(auto)]
 
+mod plays;
+mod steps;
 mod table;
 mod view;
 
+pub use steps::{claim_lines, is_shut};
+pub use table::{Log, LogRule, Pass, Region, Shape};
 pub use view::{
     Clock, Flight, Found, Key, Kind, Known, Learned, Note, Noted, Own, Position, Recorded, Shut, View,
 };

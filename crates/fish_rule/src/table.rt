@@ -1,1 +1,62 @@
-//! The shared table and its rule.
+//! The shared table of the log, and the passes that step on it.
+
+ghost use Rattle.std.specs.Prelude.{◌≡◌, []};
+ghost use Rattle.fish_rule.specs.Flying.{region_in};
+ghost use Rattle.fish_rule.specs.Parts.{Fits};
+ghost use Rattle.fish_rule.specs.World.{total};
+
+use crate::view::{Key, Shut, View};
+use atomic_table::{Seat, Table, TableRule};
+use std::alloc::Global;
+
+/// The rule of the table: the parts of the log's rule, over its words and all views.
+pub struct LogRule;
+
+impl TableRule<bool, View, Key> for LogRule {
+    ghost use Rattle.fish_rule.specs.Table.{Ruled, first_view};
+
+    ghost holds = { Ruled };
+
+    ghost first = { first_view };
+}
+
+/// How large a log is.
+#[derive(Clone, Copy, Debug, PartialEq, Eq)]
+pub struct Shape {
+    /// Pages of 32,768 lines, 1 to 512.
+    pub pages: u16,
+    /// The low bits of a hash that choose a chain, 4 to 16.
+    pub bucket_bits: u8,
+}
+
+/// The lines of a claim.
+#[derive(Clone, Copy, Debug, PartialEq, Eq)]
+pub struct Region {
+    /// The number of the claim.
+    pub number: u64,
+    /// Its first line.
+    pub line: u64,
+    /// How many lines it has.
+    pub lines: u64,
+}
+
+/// The log: a table of words that several passes share.
+pub struct Log {
+    pub(crate) table: Table<bool, View, Key, LogRule, Global>,
+    pub(crate) key: Key,
+    ghost keyed: { table.shared.key ≡ key },
+    ghost fits: { Fits key },
+    ghost wide: { table.shared.table_id.words ≡ total key },
+}
+
+/// The token with which one thread steps on a log. It can't be copied.
+pub struct Pass {
+    pub(crate) seat: Seat<bool, View>,
+    pub(crate) lane: u8,
+    pub(crate) shut: Option<Shut>,
+    pub(crate) flight: Option<Region>,
+    ghost bare: { seat.me.1 ≡ [] },
+    ghost lane_is: { seat.me.0.lane ≡ lane },
+    ghost shut_is: { seat.me.0.shut ≡ shut },
+    ghost flight_is: { region_in seat.me.0.flight ≡ flight },
+}

@@ -1,0 +1,16 @@
+-- What a pass of the program knows, and which log it steps on.
+use Rattle.std.specs.Prelude.{◌≡◌}
+use Rattle.fish_rule.specs.Table.{Stands}
+use Rattle.fish_rule.specs.declared.table.Log.{Log}
+use Rattle.fish_rule.specs.declared.table.Pass.{Pass}
+use Rattle.fish_rule.specs.declared.view.View.{View}
+
+-- the pass's view
+abbrev pub view : Pass → View
+view p = p.seat.me.0
+
+-- the pass steps on this log, and some moment of it meets the rule and has the pass's view
+pub record IsPassOf (log : Log) (p : Pass) : Type 0 where
+  pub table : p.seat.table_id ≡ log.table.shared.table_id
+  pub about : (view p).about ≡ log.key
+  pub stands : Stands (view p)
