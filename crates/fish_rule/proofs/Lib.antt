@@ -1,3 +1,4 @@
+pub mod Begins
 pub mod Bounds
 pub mod Common
 pub mod Kept

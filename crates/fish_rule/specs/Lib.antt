@@ -5,6 +5,7 @@ pub mod Passes
 pub mod Regions
 pub mod Rule
 pub mod Seating
+pub mod Start
 pub mod Steps
 pub mod Table
 pub mod Views

@@ -1,0 +1,139 @@
+-- The rule holds of an empty log with one pass.
+use Rattle.std.proofs.Common.{◌≡◌, ◌≢◌, ℕ, ◌+◌, ◌-◌, ◌*◌, ◌/◌, ◌%◌, ◌<◌, ◌≤◌, zero, suc, List, [], ◌∷◌, length, get_or, slice_index, sym, refl, ap, ◌∙◌, subst, inl, inr, ◌⊎◌, ⊎_elim, arith, Some, None}
+use Rattle.std.specs.Prelude.{⊤}
+use Rattle.std.proofs.Math.Decide.{dec_le}
+use Rattle.std.proofs.Math.ListN.{get_elem?}
+use Rattle.std.proofs.lemmas.Nat.{div-mul-add, mod-mul-add}
+use mathlib.Core.Option.{some, some-injective, some-ne-none}
+use Rattle.atomic_table.specs.Table.{opening}
+use Rattle.fish_layout.specs.Cleared.{choose}
+use Rattle.fish_rule.specs.Parts.{Facts, Fits, Flies, IsStoredBy, Limit, MayOverflow, Owns, Regions, Rests, Seats, ShutOk, Space, quotas}
+use Rattle.fish_rule.specs.Rule.{Rule}
+use Rattle.fish_rule.specs.Start.{IsEmpty}
+use Rattle.fish_rule.specs.Table.{Ruled, first_view}
+use Rattle.fish_rule.specs.Views.{Among, Each, Has, IsFlightOf}
+use Rattle.fish_rule.specs.World.{World, area, dir_at, high, log_at, log_size, low, slots, world}
+use Rattle.fish_rule.specs.declared.view.Key.{Key}
+use Rattle.fish_rule.specs.declared.view.Own.{Own}
+use Rattle.fish_rule.specs.declared.view.View.{View}
+
+-- a word's high part, of two packed numbers
+pub high-pack : (n line : ℕ) → line < 68719476736 → high (n * 68719476736 + line) ≡ n
+unfolding high
+high-pack n line less = div-mul-add n 68719476736 line less
+
+-- and its low part
+pub low-pack : (n line : ℕ) → line < 68719476736 → low (n * 68719476736 + line) ≡ line
+unfolding low
+low-pack n line less = mod-mul-add n 68719476736 line less
+
+-- where all words behind the first are 0, so is an area of them
+area-zero : (ws : List ℕ) (at base size : ℕ) → 0 < at → ((i : ℕ) → 0 < i → slice_index ws i ≡ 0) → (n : ℕ) → area ws at base size n ≡ 0
+unfolding area
+area-zero ws at base size behind zeros n = by (dec_le base n) (dec_le (suc n) (base + size))
+  where
+    by : (d : Dec (base ≤ n)) (e : Dec (suc n ≤ base + size)) → choose d (choose e (slice_index ws (at + (n - base))) 0) 0 ≡ 0
+    by (no x) e = refl
+    by (yes a) (no x) = refl
+    by (yes a) (yes b) = zeros (at + (n - base)) (omega arith)
+
+-- a list of one view has just that at index 0
+at_one : (v u : View) (j : ℕ) → get_elem? (v ∷ []) j ≡ some u → (j ≡ 0) × (v ≡ u)
+at_one v u zero at = (refl, some-injective v u at)
+at_one v u (suc j) at = absurd (some-ne-none u (sym at))
+
+-- what holds of the one view holds of each
+each_one : (P : View → Type 0) (v : View) → P v → Each P (v ∷ [])
+each_one P v here j u at = subst P (at_one v u j at).1 here
+
+module _ (k : Key) (fits : Fits k) (ws : List ℕ) (empty : IsEmpty k ws) where
+  -- the world at the start
+  abbrev w : World
+  w = world k ws (first_view k ∷ [])
+
+  -- the tail's number and line are the key's
+  count_is : w.count ≡ k.number
+  count_is = (let a = fits.some_lines in let b = fits.low_end in ap high empty.tail ∙ high-pack k.number k.line (omega arith))
+
+  line_is : w.line ≡ k.line
+  line_is = (let a = fits.some_lines in let b = fits.low_end in ap low empty.tail ∙ low-pack k.number k.line (omega arith))
+
+  -- no number is claimed
+  none : (n : ℕ) → k.number ≤ n → n < w.count → ⊥
+  none n above below = (let c = count_is in absurd (omega arith))
+
+  -- no directory word is set, and no word of the log
+  dir_zero : (n : ℕ) → w.dir n ≡ 0
+  dir_zero n = area-zero ws (dir_at k) k.number (slots k) (omega arith) empty.zeros n
+
+  log_zero : (p : ℕ) → w.log p ≡ 0
+  log_zero p = area-zero ws (log_at k) (k.line * 4) (log_size k) (omega arith) empty.zeros p
+
+  -- where regions begin, and who claimed them: there are none
+  abbrev start : ℕ → ℕ
+  start _ = k.line
+
+  abbrev lane_of : ℕ → ℕ
+  lane_of _ = 0
+
+  -- each lane may still claim past the end
+  abbrev quota : ℕ → ℕ
+  quota _ = 1
+
+  regions : Regions k w.count w.line start
+  regions = record {
+    some = (let c = count_is in omega arith);
+    first = refl;
+    last = sym line_is;
+    grows = λ n above below. absurd (none n above below);
+    small = λ n above below. absurd (none n above below);
+  }
+
+  space : Space k w.count w.line w.dir w.log w.views start lane_of
+  space = record {
+    regions = regions;
+    finished = λ n above below set. absurd (none n above below);
+    flying = λ n above below set. absurd (none n above below);
+    flights = each_one (λ v. Flies k w.count w.dir w.log start lane_of v.lane v.flight) (first_view k) tt;
+    alone = λ i j v u n at_i at_j f g. (at_one (first_view k) v i at_i).0 ∙ sym (at_one (first_view k) u j at_j).0;
+    dir_below = λ n _. dir_zero n;
+    dir_beyond = λ n _. dir_zero n;
+    log_beyond = λ p _. log_zero p;
+  }
+
+  limit : Limit k w.count w.views start quota
+  limit = record {
+    first = k.number;
+    above = omega arith;
+    within = (let c = count_is in omega arith);
+    fits = fits.some_lines;
+    past = λ n above below. absurd (none n above below);
+    few = (let c = count_is in let q : quotas quota 16 ≡ 16 = refl in omega arith);
+    may = λ j v at l has may. refl;
+  }
+
+  -- the rule holds
+  pub empty_rule : Rule k w
+  empty_rule = record {
+    start = start;
+    lane_of = lane_of;
+    quota = quota;
+    key_fits = fits;
+    about = each_one (λ v. 1 ≤ v.lane → v.about ≡ k) (first_view k) (λ _. refl);
+    seats = record {
+      apart = λ i j v u l at_i at_j _ _. (at_one (first_view k) v i at_i).0 ∙ sym (at_one (first_view k) u j at_j).0;
+      few = each_one (λ v. v.lane ≤ 16) (first_view k) (omega arith);
+    };
+    tails = each_one (λ v. v.lane ≡ 1 → v.out ≡ [] → Rests w.count w.line v.tail) (first_view k) (λ _ _. (sym count_is, sym line_is));
+    space = space;
+    limit = limit;
+    own = each_one (λ v. Owns k w.count w.dir lane_of v.lane v.out v.own) (first_view k)
+        (record { sound = λ o m. elim m [ ]; complete = λ o has stored. absurd (none o.number stored.above stored.below) });
+    facts = each_one (λ v. Facts k w.count w.dir w.log start v.learned) (first_view k)
+        (record { counted = (let c = count_is in omega arith); found = tt; known = tt; records = tt });
+    shuts = each_one (λ v. ShutOk k w.count w.dir start v.shut) (first_view k) tt;
+  }
+
+-- the table of an empty log meets the rule
+pub begins : (k : Key) → Fits k → (ws : List ℕ) → IsEmpty k ws → Ruled k (opening ws [] (first_view k))
+begins k fits ws empty = record { wide = empty.wide; rule = empty_rule k fits ws empty }

@@ -1,0 +1,22 @@
+-- The shape of a log, and the words of one that holds no record.
+use Rattle.std.specs.Prelude.{ℕ, ◌≡◌, ◌+◌, ◌*◌, ◌^◌, ◌<◌, ◌≤◌, List, length, slice_index}
+use Rattle.fish_rule.specs.World.{total}
+use Rattle.fish_rule.specs.declared.table.Shape.{Shape}
+use Rattle.fish_rule.specs.declared.view.Key.{Key}
+
+-- the tail is at the key's number and line, and every other word is 0
+pub record IsEmpty (k : Key) (ws : List ℕ) : Type 0 where
+  pub wide : length ws ≡ total k
+  pub tail : slice_index ws 0 ≡ k.number * 68719476736 + k.line
+  pub zeros : (i : ℕ) → 0 < i → slice_index ws i ≡ 0
+
+-- 1 to 512 pages, and 4 to 16 bits
+pub record IsShape (s : Shape) : Type 0 where
+  pub some_pages : 1 ≤ s.pages
+  pub few_pages : s.pages ≤ 512
+  pub some_bits : 4 ≤ s.bucket_bits
+  pub few_bits : s.bucket_bits ≤ 16
+
+-- the key of an empty log of this shape
+abbrev pub first_key : Shape → Key
+first_key s = record { number = 0; line = 0; end = s.pages * 32768; buckets = 2 ^ s.bucket_bits }
