@@ -1,4 +1,6 @@
 pub mod Bounds
 pub mod Common
+pub mod Frames
 pub mod Kept
+pub mod Learns
 pub mod Worlds
