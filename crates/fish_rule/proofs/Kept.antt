@@ -131,6 +131,7 @@ module _ (k : Key) (w w' : World) (start start' lane_of lane_of' : ℕ → ℕ) 
         lines = f.starts (suc g.number) below ∙ h.lines;
         unpublished = dir;
         owner = f.lanes g.number below ∙ h.owner;
+        live = h.live;
         short = short;
         written = λ i less plain. same i (omega arith) ∙ h.written i less plain;
         unwritten = λ i more less. same i less ∙ h.unwritten i more less;

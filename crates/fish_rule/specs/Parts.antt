@@ -71,6 +71,7 @@ pub record InFlight (k : Key) (count : ℕ) (dir log start lane_of : ℕ → ℕ
   pub lines : start (suc f.number) ≡ f.line + f.lines
   pub unpublished : dir f.number ≡ 0
   pub owner : lane_of f.number ≡ lane
+  pub live : 1 ≤ lane
   pub short : length f.words ≤ f.lines * 4
   pub written : (i : ℕ) → i < length f.words → ¬ IsLinkedWord f.linked i → log (f.line * 4 + i) ≡ slice_index f.words i
   pub unwritten : (i : ℕ) → length f.words ≤ i → i < f.lines * 4 → log (f.line * 4 + i) ≡ 0

@@ -1,0 +1,137 @@
+-- Loads change no word: what one pass has learned is all that is new.
+use Rattle.std.proofs.Common.{◌≡◌, ◌≢◌, ℕ, ◌+◌, ◌-◌, ◌*◌, ◌<◌, ◌≤◌, zero, suc, List, [], ◌∷◌, length, set, sym, refl, ap, ◌∙◌, subst, inl, inr, ◌⊎◌, ⊎_elim, arith, Some, None, Option}
+use mathlib.Core.Option.{some}
+use Rattle.std.proofs.Math.ListN.{get_elem?}
+use Rattle.fish_rule.proofs.Bounds.{one_region}
+use Rattle.fish_rule.proofs.Common.{each_set, only_main, seats_kept}
+use Rattle.fish_rule.proofs.Frames.{alone_kept, flight_there, may_kept, one_view}
+use Rattle.fish_rule.proofs.Kept.{published}
+use Rattle.fish_rule.specs.Parts.{Facts, Flies, InFlight, IsFinished, IsFound, IsKnown, Owns, Rests}
+use Rattle.fish_rule.specs.Regions.{code, kind_of}
+use Rattle.fish_rule.specs.Rule.{Rule}
+use Rattle.fish_rule.specs.Steps.{CanLook, CanRead, IsAlone, after_end, after_look, after_read, found_after, kind_told}
+use Rattle.fish_rule.specs.Views.{Each, Has, HasFlight, IsFlightOf}
+use Rattle.fish_rule.specs.World.{World, body, high, low}
+use Rattle.fish_rule.specs.declared.view.Clock.{Clock}
+use Rattle.fish_rule.specs.declared.view.Flight.{Flight}
+use Rattle.fish_rule.specs.declared.view.Found.{Found}
+use Rattle.fish_rule.specs.declared.view.Key.{Key}
+use Rattle.fish_rule.specs.declared.view.Kind.{Kind}
+use Rattle.fish_rule.specs.declared.view.Kind.TheVariants.{Mark, Stored, Void}
+use Rattle.fish_rule.specs.declared.view.Learned.{Learned}
+use Rattle.fish_rule.specs.declared.view.Position.{Position}
+use Rattle.fish_rule.specs.declared.view.View.{View}
+
+module _ (k : Key) (w : World) (r : Rule k w) (id : ℕ) (v : View) (at : get_elem? w.views id ≡ some v) where
+  -- the view with other facts, another note of the tail and another clock
+  abbrev pub learner : Learned → Option Position → Clock → View
+  learner l t c = record v { learned = l; tail = t; clock = c }
+
+  -- a load keeps the rule where the new facts hold
+  pub learns : (l : Learned) (t : Option Position) (c : Clock) → (v.lane ≡ 1 → v.out ≡ [] → Rests w.count w.line t) → Facts k w.count w.dir w.log r.start l
+      → Rule k (record w { views = set w.views id (learner l t c) })
+  learns l t c rests facts =
+      let v' : View = learner l t c in
+      record {
+        start = r.start;
+        lane_of = r.lane_of;
+        quota = r.quota;
+        key_fits = r.key_fits;
+        about = each_set _ w.views id v' (λ j u ne at_u. r.about j u at_u) (r.about id v at);
+        seats = seats_kept w.views id v v' at refl refl r.seats;
+        tails = each_set _ w.views id v' (λ j u ne at_u. r.tails j u at_u) rests;
+        space = record {
+          regions = r.space.regions;
+          finished = r.space.finished;
+          flying = λ n above below unset. flight_there w.views id v v' at n (λ h. h) (r.space.flying n above below unset);
+          flights = each_set _ w.views id v' (λ j u ne at_u. r.space.flights j u at_u) (r.space.flights id v at);
+          alone = alone_kept w.views id v v' at (λ n h. h) r.space.alone;
+          dir_below = r.space.dir_below;
+          dir_beyond = r.space.dir_beyond;
+          log_beyond = r.space.log_beyond;
+        };
+        limit = record {
+          first = r.limit.first;
+          above = r.limit.above;
+          within = r.limit.within;
+          fits = r.limit.fits;
+          past = r.limit.past;
+          few = r.limit.few;
+          may = may_kept w.views id v v' at k.end r.quota refl refl (λ h. h) r.limit.may;
+        };
+        own = each_set _ w.views id v' (λ j u ne at_u. r.own j u at_u) (r.own id v at);
+        facts = each_set _ w.views id v' (λ j u ne at_u. r.facts j u at_u) facts;
+        shuts = each_set _ w.views id v' (λ j u ne at_u. r.shuts j u at_u) (r.shuts id v at);
+      }
+
+  -- ---- end
+
+  -- a load of the tail
+  pub end_kept : (x : ℕ) → high x ≡ w.count → low x ≡ w.line → Rule k (record w { views = set w.views id (after_end v x) })
+  end_kept x count line =
+      let h = r.facts id v at in
+      learns (record v.learned { count = high x }) _ _ (λ main all. (count, line)) (record {
+        counted = subst (λ (z : ℕ). z ≤ w.count) (sym count) (omega arith);
+        found = h.found;
+        known = h.known;
+        records = h.records;
+      })
+
+  -- while no lane is out, the tail is as it was left
+  pub end_rests : (x : ℕ) → high x ≡ w.count → low x ≡ w.line → v.lane ≡ 1 → v.out ≡ [] → Rests (high x) (low x) v.tail
+  end_rests x count line main all = subst (λ (z : ℕ × ℕ). Rests z.0 z.1 v.tail) (λ d. (sym count d, sym line d)) (r.tails id v at main all)
+
+  -- ---- look
+
+  -- the kind that a published word tells is its region's
+  told : (x : ℕ) (kind : Kind) → x ≡ code kind → kind_told x ≡ kind
+  told x Stored e = subst (λ (z : ℕ). kind_told z ≡ Stored) (sym e) refl
+  told x Void e = subst (λ (z : ℕ). kind_told z ≡ Void) (sym e) refl
+  told x Mark e = subst (λ (z : ℕ). kind_told z ≡ Mark) (sym e) refl
+
+  -- the lines of a number's region
+  abbrev pub lines_at : ℕ → ℕ
+  lines_at n = r.start (suc n) - r.start n
+
+  -- a load of a directory word
+  pub look_kept : (n x : ℕ) → CanLook v n → v.about ≡ k → x ≡ w.dir n → Rule k (record w { views = set w.views id (after_look v n (lines_at n) x) })
+  look_kept n x can about is =
+      let h = r.facts id v at in
+      learns (record v.learned { found = found_after n (lines_at n) x v.learned.found }) v.tail _ (r.tails id v at) (record {
+        counted = h.counted;
+        found = each x is;
+        known = h.known;
+        records = h.records;
+      })
+    where
+      each : (x : ℕ) → x ≡ w.dir n → Rattle.fish_rule.specs.Views.AllOf (IsFound k w.count w.dir r.start) (found_after n (lines_at n) x v.learned.found)
+      each zero is = (r.facts id v at).found
+      each (suc x) is =
+          let counted = (r.facts id v at).counted in
+          let below : n < w.count = (let b = can.below in omega arith) in
+          let above : k.number ≤ n = subst (λ (z : Key). z.number ≤ n) about can.above in
+          let f = r.space.finished n above below (λ e. let z : suc x ≡ 0 = is ∙ e in absurd (omega arith)) in
+          let grows = r.space.regions.grows n above below in
+          (record {
+            above = above;
+            below = below;
+            kind = f.kind ∙ ap code (sym (told (high (suc x)) (kind_of k.end (r.start n) (r.start (suc n))) (ap high is ∙ f.kind)));
+            line = sym f.line ∙ ap low (sym is);
+            lines = (let e : r.start (suc n) ≡ r.start n + lines_at n = omega arith in e ∙ ap (λ (z : ℕ). z + lines_at n) (sym f.line ∙ ap low (sym is)));
+          }, (r.facts id v at).found)
+
+  -- a pass that is alone finds every claimed number published
+  pub look_alone : (n : ℕ) → CanLook v n → v.about ≡ k → IsAlone v → w.dir n ≢ 0
+  look_alone n can about alone unset =
+      let counted = (r.facts id v at).counted in
+      let below : n < w.count = (let b = can.below in omega arith) in
+      let above : k.number ≤ n = subst (λ (z : Key). z.number ≤ n) about can.above in
+      let h = r.space.flying n above below unset in
+      let live = flier h.view.flight h.flies (r.space.flights h.seat h.view h.at) in
+      let here : h.seat ≡ id = only_main w.views id h.seat v h.view r.seats at h.at alone.main alone.all live in
+      let same : h.view ≡ v = one_view w.views id h.view v (subst (λ (z : ℕ). get_elem? w.views z ≡ some h.view) here h.at) at in
+      subst (λ (z : Option Flight). IsFlightOf n z) (ap (λ (z : View). z.flight) same ∙ alone.idle) h.flies
+    where
+      flier : {lane : ℕ} (o : Option Flight) → IsFlightOf n o → Flies k w.count w.dir w.log r.start r.lane_of lane o → 1 ≤ lane
+      flier None h f = elim h [ ]
+      flier (Some g) h f = f.live
