@@ -3,5 +3,8 @@ pub mod Bounds
 pub mod Common
 pub mod Frames
 pub mod Kept
+pub mod Lanes
 pub mod Learns
+pub mod Seating
+pub mod Standing
 pub mod Worlds
