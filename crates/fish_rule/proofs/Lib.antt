@@ -1,10 +1,12 @@
 pub mod Begins
 pub mod Bounds
+pub mod Claims
 pub mod Common
 pub mod Frames
 pub mod Kept
 pub mod Lanes
 pub mod Learns
+pub mod Quotas
 pub mod Seating
 pub mod Standing
 pub mod Worlds
