@@ -6,12 +6,14 @@
 #![tactic(auto)]
 
 mod plays;
+mod seats;
 mod steps;
 mod table;
 mod view;
 
+pub use seats::{Start, base, join_pass, open_log, shape, split_pass};
 pub use steps::{claim_lines, is_shut};
-pub use table::{Log, LogRule, Pass, Region, Shape};
+pub use table::{Base, Log, LogRule, Pass, Region, Shape};
 pub use view::{
     Clock, Flight, Found, Key, Kind, Known, Learned, Note, Noted, Own, Position, Recorded, Shut, View,
 };

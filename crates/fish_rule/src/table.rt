@@ -29,6 +29,15 @@ pub struct Shape {
     pub bucket_bits: u8,
 }
 
+/// Where a log's numbers and lines begin.
+#[derive(Clone, Copy, Debug, PartialEq, Eq)]
+pub struct Base {
+    /// The number of its first claim.
+    pub number: u32,
+    /// The first line.
+    pub line: u64,
+}
+
 /// The lines of a claim.
 #[derive(Clone, Copy, Debug, PartialEq, Eq)]
 pub struct Region {
@@ -44,6 +53,7 @@ pub struct Region {
 pub struct Log {
     pub(crate) table: Table<bool, View, Key, LogRule, Global>,
     pub(crate) key: Key,
+    pub(crate) shape: Shape,
     ghost keyed: { table.shared.key ≡ key },
     ghost fits: { Fits key },
     ghost wide: { table.shared.table_id.words ≡ total key },

@@ -1,0 +1,202 @@
+//! How a log begins with one pass, and how that pass gives out its lanes and takes them back.
+//!
+//! No step here changes a word. The first pass is the control pass: it has lane 1, and each lane
+//! from 2 to 16 that is with no other pass.
+
+ghost use Rattle.std.specs.Prelude.{◌≡◌, ℕ, ◌+◌, ◌*◌, ◌<◌, IfOk, replicate, slice_set};
+ghost use Rattle.fish_rule.specs.Parts.{Fits};
+ghost use Rattle.fish_rule.specs.Passes.{IsPassOf, view};
+ghost use Rattle.fish_rule.specs.Seating.{CanJoin, CanSplit, join_both, split_left, split_right};
+ghost use Rattle.fish_rule.specs.Start.{IsShape, first_key};
+ghost use Rattle.fish_rule.specs.Steps.{after_end};
+ghost use Rattle.fish_rule.specs.Table.{first_view};
+ghost use Rattle.fish_rule.specs.World.{total};
+
+use crate::table::{Base, Log, Pass, Shape};
+use crate::view::{Key, View};
+use atomic_table::{Join, Play, Split, Table};
+use std::alloc::{AllocError, Global};
+
+/// What a log begins with.
+pub enum Start {
+    /// No record.
+    Empty,
+}
+
+/// The lane LANE goes from the control pass to a new pass.
+struct Cut<const LANE: u8>;
+
+impl<const LANE: u8> Split<View> for Cut<LANE> {
+    ghost use Rattle.fish_rule.specs.Seating.{split_left, split_right};
+
+    ghost left = { split_left LANE };
+
+    ghost right = { split_right LANE };
+}
+
+/// The control pass takes in another pass.
+struct Meet;
+
+impl Join<View> for Meet {
+    ghost use Rattle.fish_rule.specs.Seating.{join_both, spent};
+
+    ghost both = { join_both };
+
+    ghost spent = { spent };
+}
+
+/// A load of the tail.
+struct Again;
+
+impl Play<bool, View> for Again {
+    ghost use Rattle.fish_rule.specs.Table.{ToldEnd};
+
+    ghost then = { ToldEnd };
+}
+
+/// The key of a log of this shape that begins so.
+fn key_of(shape: Shape, start: &Start) -> Key
+    requires { IsShape shape }
+    ensures { result ≡ first_key shape }
+{
+    match start {
+        Start::Empty => Key {
+            number: 0,
+            line: 0,
+            end: shape.pages as u64 * 32_768,
+            buckets: 1 << shape.bucket_bits,
+        },
+    }
+}
+
+/// How many words the table of a key has.
+fn word_count(key: &Key) -> usize
+    requires { Fits key.now }
+    ensures { result ≡ total key.now }
+{
+    let lines = key.end - key.line;
+    (10_516 + key.buckets + lines + 16 + lines * 4) as usize
+}
+
+/// The tail word at a key's number and line.
+fn tail_of(key: &Key) -> u64
+    requires { Fits key.now }
+    ensures { result ≡ key.now.number * 68719476736 + key.now.line }
+{
+    key.number * 68_719_476_736 + key.line
+}
+
+/// The words of an empty log: the tail, and zeros.
+fn empty_words(alloc: Global, count: usize, tail: u64) -> Result<Vec<u64>, AllocError>
+    requires { 0 < count }
+    ensures { IfOk result (λ words. words.items ≡ slice_set (replicate count 0) 0 tail) }
+{
+    let mut words = vec![in alloc; 0u64; count]?;
+    words[0] = tail;
+    Ok(words)
+}
+
+/// The shape of the log.
+pub fn shape(log: &Log) -> Shape
+    ensures { result ≡ log.now.shape }
+{
+    log.shape
+}
+
+/// Where the log's numbers and lines begin.
+pub fn base(log: &Log) -> Base
+    ensures { (result.number ≡ log.now.key.number) × (result.line ≡ log.now.key.line) }
+{
+    Base {
+        number: log.key.number as u32,
+        line: log.key.line,
+    }
+}
+
+/// A log of this shape that begins so, and its control pass.
+pub fn open_log(alloc: Global, shape: Shape, start: &Start) -> Result<(Log, Pass), AllocError>
+    requires { IsShape shape }
+    ensures pass { IfOk result (λ r. IsPassOf r.0 r.1) }
+    ensures view { IfOk result (λ r. view r.1 ≡ first_view r.0.key) }
+    ensures key { IfOk result (λ r. r.0.key ≡ first_key shape) }
+    ensures shape { IfOk result (λ r. r.0.shape ≡ shape) }
+{
+    let key = key_of(shape, start);
+    let words = empty_words(alloc, word_count(&key), tail_of(&key))?;
+    let (table, seat) = Table::of_words(alloc, &words, &key)?;
+    let log = Log { table, key, shape };
+    let pass = Pass {
+        seat,
+        lane: 1,
+        shut: None,
+        flight: None,
+    };
+    Ok((log, pass))
+}
+
+/// The lane LANE goes to a new pass.
+fn give_out<const LANE: u8>(log: &Log, main: &mut Pass) -> Pass
+    requires pass { IsPassOf log.now main.old }
+    requires can { CanSplit (view main.old) LANE }
+    ensures main { IsPassOf log.now main.new }
+    ensures pass { IsPassOf log.now result }
+    ensures left { view main.new ≡ split_left LANE (view main.old) }
+    ensures right { view result ≡ split_right LANE (view main.old) }
+{
+    let seat = log.table.shared.split_seat::<Cut<LANE>>(&mut main.seat);
+    Pass {
+        seat,
+        lane: LANE,
+        shut: main.shut,
+        flight: None,
+    }
+}
+
+/// Gives out a lane to a new pass, which knows all that the control pass knows.
+pub fn split_pass(log: &Log, main: &mut Pass, lane: u8) -> Pass
+    requires pass { IsPassOf log.now main.old }
+    requires can { CanSplit (view main.old) lane }
+    ensures main { IsPassOf log.now main.new }
+    ensures pass { IsPassOf log.now result }
+    ensures left { view main.new ≡ split_left lane (view main.old) }
+    ensures right { view result ≡ split_right lane (view main.old) }
+{
+    match lane {
+        2 => give_out::<2>(log, main),
+        3 => give_out::<3>(log, main),
+        4 => give_out::<4>(log, main),
+        5 => give_out::<5>(log, main),
+        6 => give_out::<6>(log, main),
+        7 => give_out::<7>(log, main),
+        8 => give_out::<8>(log, main),
+        9 => give_out::<9>(log, main),
+        10 => give_out::<10>(log, main),
+        11 => give_out::<11>(log, main),
+        12 => give_out::<12>(log, main),
+        13 => give_out::<13>(log, main),
+        14 => give_out::<14>(log, main),
+        15 => give_out::<15>(log, main),
+        _ => give_out::<16>(log, main),
+    }
+}
+
+/// Takes back the lane of a pass, with all that it knows. One more load then tells the tail.
+pub fn join_pass(log: &Log, main: &mut Pass, other: Pass)
+    requires main { IsPassOf log.now main.old }
+    requires other { IsPassOf log.now other }
+    requires can { CanJoin (view main.old) (view other) }
+    ensures pass { IsPassOf log.now main.new }
+    ensures view { (found : ℕ) × (view main.new ≡ after_end (join_both (view main.old) (view other)) found) }
+{
+    let Pass {
+        seat,
+        lane: _,
+        shut,
+        flight: _,
+    } = other;
+    log.table.shared.join_seat::<Meet>(&mut main.seat, seat);
+    log.table.shared.load::<Again>(&mut main.seat, 0);
+    if main.shut.is_none() {
+        main.shut = shut;
+    }
+}
