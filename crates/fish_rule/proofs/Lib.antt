@@ -1,8 +1,11 @@
+pub mod Bodies
 pub mod Bounds
 pub mod Claims
 pub mod Common
 pub mod Frames
 pub mod Kept
 pub mod Learns
+pub mod OwnWords
+pub mod Publishes
 pub mod Quotas
 pub mod Worlds
