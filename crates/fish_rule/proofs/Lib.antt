@@ -1,11 +1,14 @@
+pub mod Allowed
 pub mod Bodies
 pub mod Bounds
 pub mod Claims
 pub mod Common
+pub mod Flights
 pub mod Frames
 pub mod Kept
 pub mod Learns
 pub mod OwnWords
 pub mod Publishes
 pub mod Quotas
+pub mod Room
 pub mod Worlds
