@@ -19,6 +19,21 @@ starts_rise k count line start r m n above less within =
     let e : m + (n - m) ≡ n = omega arith in
     subst (λ (z : ℕ). start m + (n - m) ≤ start z) e (rises k count line start r m (n - m) above (omega arith))
 
+-- and at most 18,625 times as many
+near : (k : Key) (count line : ℕ) (start : ℕ → ℕ) → Regions k count line start → (m d : ℕ) → k.number ≤ m → m + d ≤ count → start (m + d) ≤ start m + d * 18625
+near k count line start r m zero above within = (let e : m + 0 ≡ m = omega arith in rw e (omega arith))
+near k count line start r m (suc d) above within =
+    let before : start (m + d) ≤ start m + d * 18625 = near k count line start r m d above (omega arith) in
+    let up : start (suc (m + d)) ≤ start (m + d) + 18625 = r.small (m + d) (omega arith) (omega arith) in
+    let e : suc (m + d) ≡ m + suc d = omega arith in
+    subst (λ (z : ℕ). start z ≤ start m + suc d * 18625) e (omega arith)
+
+-- a later region begins at most so many lines further on
+pub starts_near : (k : Key) (count line : ℕ) (start : ℕ → ℕ) → Regions k count line start → (m n : ℕ) → k.number ≤ m → m ≤ n → n ≤ count → start n ≤ start m + (n - m) * 18625
+starts_near k count line start r m n above less within =
+    let e : m + (n - m) ≡ n = omega arith in
+    subst (λ (z : ℕ). start z ≤ start m + (n - m) * 18625) e (near k count line start r m (n - m) above (omega arith))
+
 -- of two numbers the regions share no line
 pub regions_apart : (k : Key) (count line : ℕ) (start : ℕ → ℕ) → Regions k count line start → (m n : ℕ) → k.number ≤ m → m < count → k.number ≤ n → n < count → m ≢ n
     → (start (suc m) ≤ start n) ⊎ (start (suc n) ≤ start m)

@@ -1,0 +1,289 @@
+-- A store of the own directory word: the region in flight becomes a published one.
+use Rattle.std.proofs.Common.{◌≡◌, ◌≢◌, ℕ, ◌+◌, ◌-◌, ◌*◌, ◌<◌, ◌≤◌, zero, suc, List, [], ◌∷◌, ◌++◌, length, get_or, set, sym, refl, ap, ◌∙◌, subst, inl, inr, ◌⊎◌, ⊎_elim, arith, Some, None, Option}
+use Rattle.std.proofs.Math.Decide.{ℕ_discrete}
+use mathlib.Core.Option.{some}
+use Rattle.std.proofs.Math.ListN.{get_elem?}
+use Rattle.fish_layout.proofs.Clearing.{cleared_head}
+use Rattle.fish_layout.proofs.Headers.{lines_of-void}
+use Rattle.fish_layout.proofs.Spelled.{spelled_lines}
+use Rattle.fish_layout.specs.Cleared.{body_of}
+use Rattle.fish_layout.specs.Header.{field, lines_of, void_word}
+use Rattle.fish_rule.proofs.Bodies.{body_stored, body_void, high-pack, kind-inside, kind-mark, low-pack, mark-past, void-head}
+use Rattle.fish_rule.proofs.Bounds.{ends_within}
+use Rattle.fish_rule.proofs.Common.{all_map, among_left, among_right, among_either, each_set, has_own, seats_kept}
+use Rattle.fish_rule.proofs.Frames.{alone_kept, flight_there, may_kept}
+use Rattle.fish_rule.proofs.Kept.{code_some, facts_later, finished_later, flight_later, owns_later, published, shut_later, stored_before, stored_later}
+use Rattle.fish_rule.proofs.OwnWords.{flight_is}
+use Rattle.fish_rule.proofs.Worlds.{put-else, put-here}
+use Rattle.fish_rule.specs.Parts.{Facts, Flies, InFlight, IsFinished, IsFound, IsRecorded, IsShut, IsStoredBy, MayOverflow, Owns, ShutOk}
+use Rattle.fish_rule.specs.Regions.{Holds, IsRecord, code, dir_word, kind_of, void_body}
+use Rattle.fish_rule.specs.Rule.{Final, Rule}
+use Rattle.fish_rule.specs.Steps.{IsReady, learned_after, own_after, records_after, shut_after, ticked}
+use Rattle.fish_rule.specs.Views.{AllOf, Among, Each, Has, HasFlight, IsFlightOf, IsOver}
+use Rattle.fish_rule.specs.World.{World, body, high, low, put}
+use Rattle.fish_rule.specs.declared.view.Flight.{Flight}
+use Rattle.fish_rule.specs.declared.view.Found.{Found}
+use Rattle.fish_rule.specs.declared.view.Key.{Key}
+use Rattle.fish_rule.specs.declared.view.Kind.{Kind}
+use Rattle.fish_rule.specs.declared.view.Kind.TheVariants.{Mark, Stored, Void}
+use Rattle.fish_rule.specs.declared.view.Own.{Own}
+use Rattle.fish_rule.specs.declared.view.Recorded.{Recorded}
+use Rattle.fish_rule.specs.declared.view.Shut.{Shut}
+use Rattle.fish_rule.specs.declared.view.View.{View}
+
+-- the word 0 has no lines
+no_lines : lines_of 0 ≡ 0
+unfolding lines_of field
+no_lines = refl
+
+-- a line within the tail's fits a directory word
+pub small_line : (k : Key) (w : World) (r : Rule k w) (f : Flight) (lane : ℕ) → InFlight k w.count w.dir w.log r.start r.lane_of lane f → f.line < 68719476736
+small_line k w r f lane h = pick (Rattle.std.proofs.Math.Decide.dec_le f.number r.limit.first)
+  where
+    start_is : r.start f.number ≡ f.line
+    start_is = h.line
+    pick : Dec (f.number ≤ r.limit.first) → f.line < 68719476736
+    pick (yes before) =
+        let up = Rattle.fish_rule.proofs.Bounds.starts_rise k w.count w.line r.start r.space.regions f.number r.limit.first h.above before r.limit.within in
+        let s = start_is in let fits = r.limit.fits in let low_end = r.key_fits.low_end in
+        omega arith
+    pick (no behind) =
+        let far = Rattle.fish_rule.proofs.Bounds.starts_near k w.count w.line r.start r.space.regions r.limit.first f.number r.limit.above (omega arith) (let b = h.below in omega arith) in
+        let s = start_is in let fits = r.limit.fits in let low_end = r.key_fits.low_end in let few = r.limit.few in let below = h.below in
+        omega arith
+
+module _ (k : Key) (w : World) (r : Rule k w) (id : ℕ) (v : View) (at : get_elem? w.views id ≡ some v) (f : Flight) (live : 1 ≤ v.lane) (flying : v.flight ≡ Some f) (kind : Kind) (is_kind : kind_of k.end f.line (f.line + f.lines) ≡ kind)
+    (ready : IsReady kind v.lane f) where
+  -- the view afterwards
+  abbrev pub publisher : View
+  publisher = record v {
+    flight = None;
+    shut = shut_after kind f k.end v.shut;
+    own = own_after kind v.lane f.number v.own;
+    learned = learned_after kind f v.learned;
+    clock = ticked v.clock;
+  }
+
+  -- the word
+  abbrev word : ℕ
+  word = dir_word kind f.line
+
+  -- the directory afterwards
+  abbrev dir' : ℕ → ℕ
+  dir' = put w.dir f.number word
+
+  -- the world afterwards
+  abbrev pub publication : World
+  publication = record w { dir = dir'; views = set w.views id publisher }
+
+  own : InFlight k w.count w.dir w.log r.start r.lane_of v.lane f
+  own = flight_is k w r id v at f flying
+
+  -- other numbers' words stay
+  dir_else : (n : ℕ) → n ≢ f.number → dir' n ≡ w.dir n
+  dir_else n ne = put-else w.dir f.number word n ne
+
+  dir_here : dir' f.number ≡ word
+  dir_here = put-here w.dir f.number word
+
+  kind_here : high (dir' f.number) ≡ code kind
+  kind_here = ap high dir_here ∙ high-pack (code kind) f.line (small_line k w r f v.lane own)
+
+  -- a number that was published is another
+  is_other : (n : ℕ) → w.dir n ≢ 0 → n ≢ f.number
+  is_other n set_ e = set_ (ap w.dir e ∙ own.unpublished)
+
+  -- nothing that lasts has changed
+  pub publish_final : Final r.start r.start r.lane_of r.lane_of w publication
+  publish_final = record {
+    counts = omega arith;
+    lines = omega arith;
+    starts = λ n h. refl;
+    lanes = λ n h. refl;
+    dirs = λ n h set_. dir_else n (is_other n set_);
+    bodies = λ n h set_. refl;
+  }
+
+  -- the region's lines
+  sized : (1 ≤ f.lines) × (f.lines ≤ 18625)
+  sized =
+      let grows = r.space.regions.grows f.number own.above own.below in
+      let small = r.space.regions.small f.number own.above own.below in
+      let line = own.line in
+      let lines = own.lines in
+      (omega arith, omega arith)
+
+  -- what the region holds
+  filled : (kd : Kind) → IsReady kd v.lane f → (lines_of (body w.log f.line 0) ≤ f.lines) × Holds kd v.lane f.number f.lines (body w.log f.line)
+  filled Stored h =
+      let e : body w.log f.line ≡ body_of f.words = body_stored w.log f.words v.lane f.number f.lines f.line f.linked h.1 h.0 sized.0 h.2 own.written in
+      let lined : lines_of (body_of f.words 0) ≡ f.lines = spelled_lines h.1.1.spells ∙ h.1.1.lines_is in
+      (subst (λ (z : ℕ → ℕ). lines_of (z 0) ≤ f.lines) (sym e) (omega arith), subst (IsRecord v.lane f.number f.lines) (sym e) h.1)
+  filled Void h =
+      let s = sized in
+      let header : w.log (f.line * 4 + 0) ≡ void_word f.lines = own.written 0 (subst (λ (z : List ℕ). 0 < length z) (sym h.0) (omega arith)) (λ c. let less : c.0 < f.linked = c.1 in let none : f.linked ≡ 0 = h.1 in absurd (omega arith))
+          ∙ ap (λ (z : List ℕ). get_or z 0 0) h.0 in
+      let e : body w.log f.line ≡ void_body f.lines = body_void w.log f.lines f.line s.0 (omega arith) header
+          (λ i more less. own.unwritten i (subst (λ (z : List ℕ). length z ≤ i) (sym h.0) more) less) in
+      let lined : lines_of (void_body f.lines 0) ≡ f.lines = ap lines_of (void-head f.lines) ∙ lines_of-void f.lines (omega arith) in
+      (subst (λ (z : ℕ → ℕ). lines_of (z 0) ≤ f.lines) (sym e) (omega arith), e)
+  filled Mark h =
+      let s = sized in
+      let e : body w.log f.line 0 ≡ 0 = cleared_head (λ i. w.log (f.line * 4 + i)) ∙ own.unwritten 0 (subst (λ (z : List ℕ). length z ≤ 0) (sym h) (omega arith)) (omega arith) in
+      (subst (λ (z : ℕ). lines_of z ≤ f.lines) (sym e) (subst (λ (z : ℕ). z ≤ f.lines) (sym no_lines) (omega arith)), e)
+
+  own_finished : IsFinished k dir' w.log r.start r.lane_of f.number
+  own_finished =
+      let h = filled kind ready in
+      let a : r.start f.number ≡ f.line = own.line in
+      let b : r.start (suc f.number) ≡ f.line + f.lines = own.lines in
+      let size : f.line + f.lines - f.line ≡ f.lines = omega arith in
+      record {
+        kind = kind_here ∙ ap code (sym is_kind) ∙ ap (λ (z : ℕ × ℕ). code (kind_of k.end z.0 z.1)) (λ i. (sym a i, sym b i));
+        line = ap low dir_here ∙ low-pack (code kind) f.line (small_line k w r f v.lane own) ∙ sym a;
+        lined = subst (λ (z : ℕ × ℕ). lines_of (body w.log z.0 0) ≤ z.1 - z.0) (λ i. (sym a i, sym b i)) (subst (λ (z : ℕ). lines_of (body w.log f.line 0) ≤ z) (sym size) h.0);
+        holds = subst (λ (z : ℕ × ℕ × ℕ). Holds (kind_of k.end z.0 z.1) z.2 f.number (z.1 - z.0) (body w.log z.0)) (λ i. (sym a i, sym b i, sym own.owner i))
+            (subst (λ (z : Kind × ℕ). Holds z.0 v.lane f.number z.1 (body w.log f.line)) (λ i. (sym is_kind i, sym size i)) h.1);
+      }
+
+  -- the records in flight with others stay
+  others_fly : (j : ℕ) (u : View) → j ≢ id → get_elem? w.views j ≡ some u → (o : Option Flight) → u.flight ≡ o → Flies k w.count w.dir w.log r.start r.lane_of u.lane o → Flies k w.count dir' w.log r.start r.lane_of u.lane o
+  others_fly j u ne at_u None is h = h
+  others_fly j u ne at_u (Some g) is h =
+      let other : g.number ≢ f.number = λ e. ne (r.space.alone j id u v g.number at_u at (subst (IsFlightOf g.number) (sym is) refl) (subst (IsFlightOf g.number) (sym flying) (sym e))) in
+      flight_later k w publication r.start r.start r.lane_of r.lane_of publish_final u.lane g h (dir_else g.number other ∙ h.unpublished) (λ i less. refl)
+
+  -- the pass might overflow before, if it may afterwards
+  may_before : (kd : Kind) → kind_of k.end f.line (f.line + f.lines) ≡ kd → MayOverflow k.end (shut_after kd f k.end v.shut) None → MayOverflow k.end v.shut v.flight
+  may_before Stored is h = (h.0, λ over. let past : k.end < f.line + f.lines = subst (IsOver k.end) flying over in let e : Mark ≡ Stored = sym (kind-mark k.end f.line (f.line + f.lines) past) ∙ is in cc)
+  may_before Void is h = (h.0, λ over. let past : k.end < f.line + f.lines = subst (IsOver k.end) flying over in let e : Mark ≡ Void = sym (kind-mark k.end f.line (f.line + f.lines) past) ∙ is in cc)
+  may_before Mark is h = (let e : Some (record { line = f.line; lines = f.lines; end = k.end }) ≡ None = h.0 in absurd (some_none e))
+    where
+      some_none : {A : Type 0} {x : A} → Some x ≡ None → ⊥
+      some_none e = cc
+
+  -- ---- own numbers
+
+  -- a record that was published before, or this one
+  pub stored_now : (l n : ℕ) → IsStoredBy k w.count dir' r.lane_of l n → (IsStoredBy k w.count w.dir r.lane_of l n) ⊎ ((n ≡ f.number) × (v.lane ≡ l) × (kind ≡ Stored))
+  stored_now l n h = pick (ℕ_discrete n f.number)
+    where
+      pick : Dec (n ≡ f.number) → (IsStoredBy k w.count w.dir r.lane_of l n) ⊎ ((n ≡ f.number) × (v.lane ≡ l) × (kind ≡ Stored))
+      pick (yes e) = inr (e, sym own.owner ∙ ap r.lane_of (sym e) ∙ h.lane, Rattle.fish_rule.proofs.Bodies.code_once kind Stored (sym kind_here ∙ ap (λ (z : ℕ). high (dir' z)) (sym e) ∙ h.stored))
+      pick (no ne) = inl (record { above = h.above; below = h.below; stored = ap high (sym (dir_else n ne)) ∙ h.stored; lane = h.lane })
+
+  others_own : (j : ℕ) (u : View) → j ≢ id → get_elem? w.views j ≡ some u → Owns k w.count dir' r.lane_of u.lane u.out u.own
+  others_own j u ne at_u =
+      let h = r.own j u at_u in
+      record {
+        sound = λ o m. let s = h.sound o m in (s.0, stored_later k w publication r.start r.start r.lane_of r.lane_of publish_final o.lane o.number s.1);
+        complete = λ o has stored. ⊎_elim
+            (λ (b : IsStoredBy k w.count w.dir r.lane_of o.lane o.number). h.complete o has b)
+            (λ (t : (o.number ≡ f.number) × (v.lane ≡ o.lane) × (kind ≡ Stored)).
+                absurd (ne (r.seats.apart j id u v o.lane at_u at has (subst (Has v.lane v.out) t.1 (has_own w.views id v at live r.seats)))))
+            (stored_now o.lane o.number stored);
+      }
+
+  own_own : (kd : Kind) → kind ≡ kd → Owns k w.count dir' r.lane_of v.lane v.out (own_after kd v.lane f.number v.own)
+  own_own Stored is =
+      let h = r.own id v at in
+      record {
+        sound = λ o m. ⊎_elim
+            (λ (a : Among o v.own). let s = h.sound o a in (s.0, stored_later k w publication r.start r.start r.lane_of r.lane_of publish_final o.lane o.number s.1))
+            (λ (a : Among o (record { lane = v.lane; number = f.number } ∷ [])). newest o a)
+            (among_either o v.own (record { lane = v.lane; number = f.number } ∷ []) m);
+        complete = λ o has stored. ⊎_elim
+            (λ (b : IsStoredBy k w.count w.dir r.lane_of o.lane o.number). among_left o v.own _ (h.complete o has b))
+            (λ (t : (o.number ≡ f.number) × (v.lane ≡ o.lane) × (kind ≡ Stored)). among_right o v.own _ (inl (λ i. record { lane = t.1 i; number = sym t.0 i })))
+            (stored_now o.lane o.number stored);
+      }
+    where
+      newest : (o : Own) → Among o (record { lane = v.lane; number = f.number } ∷ []) → Has v.lane v.out o.lane × IsStoredBy k w.count dir' r.lane_of o.lane o.number
+      newest o (inr n) = elim n [ ]
+      newest o (inl e) = subst (λ (z : Own). Has v.lane v.out z.lane × IsStoredBy k w.count dir' r.lane_of z.lane z.number) e
+          (has_own w.views id v at live r.seats, record { above = own.above; below = own.below; stored = kind_here ∙ ap code is; lane = own.owner })
+  own_own Void is = no_more Void is (λ e. cc)
+    where
+      no_more : (kd : Kind) → kind ≡ kd → kd ≢ Stored → Owns k w.count dir' r.lane_of v.lane v.out v.own
+      no_more kd is ne = owns_later k w publication r.start r.start r.lane_of r.lane_of publish_final v.lane v.out v.own (r.own id v at)
+          (λ o has h. ⊎_elim (λ (b : IsStoredBy k w.count w.dir r.lane_of o.lane o.number). (b.below, published (w.dir o.number) Stored b.stored))
+              (λ (t : (o.number ≡ f.number) × (v.lane ≡ o.lane) × (kind ≡ Stored)). absurd (ne (sym is ∙ t.2))) (stored_now o.lane o.number h))
+  own_own Mark is = no_more Mark is (λ e. cc)
+    where
+      no_more : (kd : Kind) → kind ≡ kd → kd ≢ Stored → Owns k w.count dir' r.lane_of v.lane v.out v.own
+      no_more kd is ne = owns_later k w publication r.start r.start r.lane_of r.lane_of publish_final v.lane v.out v.own (r.own id v at)
+          (λ o has h. ⊎_elim (λ (b : IsStoredBy k w.count w.dir r.lane_of o.lane o.number). (b.below, published (w.dir o.number) Stored b.stored))
+              (λ (t : (o.number ≡ f.number) × (v.lane ≡ o.lane) × (kind ≡ Stored)). absurd (ne (sym is ∙ t.2))) (stored_now o.lane o.number h))
+
+  -- ---- facts
+
+  found_here : IsFound k w.count dir' r.start (record { number = f.number; kind = kind; line = f.line; lines = f.lines })
+  found_here = record { above = own.above; below = own.below; kind = kind_here; line = own.line; lines = own.lines }
+
+  records_here : (kd : Kind) → kind ≡ kd → IsReady kd v.lane f → AllOf (IsRecorded k w.count dir' w.log r.start) (records_after kd f v.learned.records)
+  records_here Stored is h = (record {
+    above = own.above;
+    below = own.below;
+    stored = kind_here ∙ ap code is;
+    words = ap (body w.log) own.line ∙ body_stored w.log f.words v.lane f.number f.lines f.line f.linked h.1 h.0 sized.0 h.2 own.written;
+  }, (facts_later k w publication r.start r.start r.lane_of r.lane_of publish_final v.learned (r.facts id v at)).records)
+  records_here Void is h = (facts_later k w publication r.start r.start r.lane_of r.lane_of publish_final v.learned (r.facts id v at)).records
+  records_here Mark is h = (facts_later k w publication r.start r.start r.lane_of r.lane_of publish_final v.learned (r.facts id v at)).records
+
+  own_facts : Facts k w.count dir' w.log r.start (learned_after kind f v.learned)
+  own_facts =
+      let h = facts_later k w publication r.start r.start r.lane_of r.lane_of publish_final v.learned (r.facts id v at) in
+      record { counted = h.counted; found = (found_here, h.found); known = h.known; records = records_here kind refl ready }
+
+  own_shut : (kd : Kind) → kind ≡ kd → ShutOk k w.count dir' r.start (shut_after kd f k.end v.shut)
+  own_shut Stored is = shut_later k w publication r.start r.start r.lane_of r.lane_of publish_final v.shut (r.shuts id v at)
+  own_shut Void is = shut_later k w publication r.start r.start r.lane_of r.lane_of publish_final v.shut (r.shuts id v at)
+  own_shut Mark is = record {
+    number = f.number;
+    end = refl;
+    past = mark-past k.end f.line (f.line + f.lines) (is_kind ∙ is);
+    mark = record { above = own.above; below = own.below; kind = kind_here ∙ ap code is; line = own.line; lines = own.lines };
+  }
+
+  -- a publication keeps the rule
+  pub publish_kept : Rule k publication
+  publish_kept = record {
+    start = r.start;
+    lane_of = r.lane_of;
+    quota = r.quota;
+    key_fits = r.key_fits;
+    about = each_set _ w.views id publisher (λ j u ne at_u. r.about j u at_u) (r.about id v at);
+    seats = seats_kept w.views id v publisher at refl refl r.seats;
+    tails = each_set _ w.views id publisher (λ j u ne at_u. r.tails j u at_u) (r.tails id v at);
+    space = record {
+      regions = r.space.regions;
+      finished = λ n above below set_. finish n above below set_ (ℕ_discrete n f.number);
+      flying = λ n above below unset. fly n above below unset (ℕ_discrete n f.number);
+      flights = each_set _ w.views id publisher (λ j u ne at_u. others_fly j u ne at_u u.flight refl (r.space.flights j u at_u)) tt;
+      alone = alone_kept w.views id v publisher at (λ n h. elim h [ ]) r.space.alone;
+      dir_below = λ n less. (let a = own.above in dir_else n (λ e. omega arith) ∙ r.space.dir_below n less);
+      dir_beyond = λ n more. (let b = own.below in dir_else n (λ e. omega arith) ∙ r.space.dir_beyond n more);
+      log_beyond = r.space.log_beyond;
+    };
+    limit = record {
+      first = r.limit.first;
+      above = r.limit.above;
+      within = r.limit.within;
+      fits = r.limit.fits;
+      past = r.limit.past;
+      few = r.limit.few;
+      may = may_kept w.views id v publisher at k.end r.quota refl refl (may_before kind is_kind) r.limit.may;
+    };
+    own = each_set _ w.views id publisher (λ j u ne at_u. others_own j u ne at_u) (own_own kind refl);
+    facts = each_set _ w.views id publisher (λ j u ne at_u. facts_later k w publication r.start r.start r.lane_of r.lane_of publish_final u.learned (r.facts j u at_u)) own_facts;
+    shuts = each_set _ w.views id publisher (λ j u ne at_u. shut_later k w publication r.start r.start r.lane_of r.lane_of publish_final u.shut (r.shuts j u at_u)) (own_shut kind refl);
+  }
+    where
+      finish : (n : ℕ) → k.number ≤ n → n < w.count → dir' n ≢ 0 → Dec (n ≡ f.number) → IsFinished k dir' w.log r.start r.lane_of n
+      finish n above below set_ (yes e) = subst (IsFinished k dir' w.log r.start r.lane_of) (sym e) own_finished
+      finish n above below set_ (no ne) =
+          let before : w.dir n ≢ 0 = λ e. set_ (dir_else n ne ∙ e) in
+          finished_later k w publication r.start r.start r.lane_of r.lane_of publish_final n below before (r.space.finished n above below before)
+      fly : (n : ℕ) → k.number ≤ n → n < w.count → dir' n ≡ 0 → Dec (n ≡ f.number) → HasFlight n (set w.views id publisher)
+      fly n above below unset (yes e) = absurd (published (dir' f.number) kind kind_here (ap dir' (sym e) ∙ unset))
+      fly n above below unset (no ne) = flight_there w.views id v publisher at n (λ h. absurd (ne (sym (subst (IsFlightOf n) flying h)))) (r.space.flying n above below (sym (dir_else n ne) ∙ unset))
