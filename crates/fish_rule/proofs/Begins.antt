@@ -5,10 +5,10 @@ use Rattle.std.proofs.Math.Decide.{dec_le, dec_lt}
 use Rattle.std.proofs.Math.ListN.{get_elem?}
 use Rattle.std.proofs.Math.Pow.{pow_mono}
 use Rattle.std.proofs.lemmas.List.{length-replicate, get_or-replicate, get_or_past}
-use Rattle.std.proofs.lemmas.Nat.{div-mul-add, mod-mul-add}
 use mathlib.Core.Option.{some, some-injective, some-ne-none}
 use Rattle.atomic_table.specs.Table.{opening}
 use Rattle.fish_layout.specs.Cleared.{choose}
+use Rattle.fish_rule.proofs.Bodies.{high-pack, low-pack}
 use Rattle.fish_rule.specs.Parts.{Facts, Fits, Flies, IsStoredBy, Limit, MayOverflow, Owns, Regions, Rests, Seats, ShutOk, Space, quotas}
 use Rattle.fish_rule.specs.Rule.{Rule}
 use Rattle.fish_rule.specs.Start.{IsEmpty, IsShape, first_key}
@@ -19,16 +19,6 @@ use Rattle.fish_rule.specs.declared.table.Shape.{Shape}
 use Rattle.fish_rule.specs.declared.view.Key.{Key}
 use Rattle.fish_rule.specs.declared.view.Own.{Own}
 use Rattle.fish_rule.specs.declared.view.View.{View}
-
--- a word's high part, of two packed numbers
-pub high-pack : (n line : ℕ) → line < 68719476736 → high (n * 68719476736 + line) ≡ n
-unfolding high
-high-pack n line less = div-mul-add n 68719476736 line less
-
--- and its low part
-pub low-pack : (n line : ℕ) → line < 68719476736 → low (n * 68719476736 + line) ≡ line
-unfolding low
-low-pack n line less = mod-mul-add n 68719476736 line less
 
 -- where all words behind the first are 0, so is an area of them
 area-zero : (ws : List ℕ) (at base size : ℕ) → 0 < at → ((i : ℕ) → 0 < i → slice_index ws i ≡ 0) → (n : ℕ) → area ws at base size n ≡ 0
@@ -55,11 +45,14 @@ module _ (k : Key) (fits : Fits k) (ws : List ℕ) (empty : IsEmpty k ws) where
   w = world k ws (first_view k ∷ [])
 
   -- the tail's number and line are the key's
+  packed : slice_index ws 0 ≡ k.line + k.number * 68719476736
+  packed = (let e : k.number * 68719476736 + k.line ≡ k.line + k.number * 68719476736 = omega arith in empty.tail ∙ e)
+
   count_is : w.count ≡ k.number
-  count_is = (let a = fits.some_lines in let b = fits.low_end in ap high empty.tail ∙ high-pack k.number k.line (omega arith))
+  count_is = (let a = fits.some_lines in let b = fits.low_end in ap high packed ∙ high-pack k.number k.line (omega arith))
 
   line_is : w.line ≡ k.line
-  line_is = (let a = fits.some_lines in let b = fits.low_end in ap low empty.tail ∙ low-pack k.number k.line (omega arith))
+  line_is = (let a = fits.some_lines in let b = fits.low_end in ap low packed ∙ low-pack k.number k.line (omega arith))
 
   -- no number is claimed
   none : (n : ℕ) → k.number ≤ n → n < w.count → ⊥

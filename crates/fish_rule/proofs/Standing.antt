@@ -1,17 +1,14 @@
 -- A split and a join as the table asks for them, and what stands after a split.
-use Rattle.std.proofs.Common.{◌≡◌, ◌≢◌, ℕ, List, [], ◌∷◌, ◌++◌, length, set, slice_index, sym, refl, ap, ◌∙◌, subst, ◌≤◌}
-use mathlib.Core.Option.{none, some}
-use Rattle.std.proofs.lemmas.List.{set-get_or}
+use Rattle.std.proofs.Common.{◌≡◌, ◌≢◌, ℕ, List, [], ◌∷◌, ◌++◌, length, set, sym, refl, ◌∙◌}
+use mathlib.Core.Option.{some}
 use Rattle.std.proofs.Math.ListN.{get_elem?}
 use Rattle.atomic_table.proofs.Lists.{at_last, at_longer, set_else, set_here}
-use Rattle.atomic_table.specs.Table.{Allows, Joins, Splits, keeps, step}
+use Rattle.atomic_table.specs.Table.{Joins, Splits}
 use Rattle.fish_rule.proofs.Common.{within_list}
-use Rattle.fish_rule.proofs.Learns.{end_kept, end_rests}
 use Rattle.fish_rule.proofs.Seating.{join_kept, split_kept}
 use Rattle.fish_rule.specs.Rule.{Rule}
 use Rattle.fish_rule.specs.Seating.{CanJoin, CanSplit, join_both, spent, split_left, split_right}
-use Rattle.fish_rule.specs.Steps.{after_end}
-use Rattle.fish_rule.specs.Table.{Ruled, Sat, Stands, ToldEnd}
+use Rattle.fish_rule.specs.Table.{Ruled, Stands}
 use Rattle.fish_rule.specs.World.{World, world}
 use Rattle.fish_rule.specs.declared.view.Key.{Key}
 use Rattle.fish_rule.specs.declared.view.View.{View}
@@ -58,32 +55,3 @@ right_stands v l s can = record {
 -- a split leaves both passes with views that stand
 pub split_stands : (v : View) (l : ℕ) → Stands v → CanSplit v l → Stands (split_left l v) × Stands (split_right l v)
 split_stands v l s can = (left_stands v l s can, right_stands v l s can)
-
--- ---- the load of the tail after a join
-
--- a live pass may load the tail, and its view stands then
-pub stay_allowed : (k : Key) (slots id : ℕ) (me : Sat) → 1 ≤ me.0.lane → Allows (Ruled k) slots id me 0 (λ n. n) (ToldEnd (step slots 0 0 0 none) me)
-stay_allowed k slots id me live s ruled homes at small =
-    let found : ℕ = slice_index s.words 0 in
-    let after : View = after_end me.0 found in
-    let views : List View = set s.views id after in
-    let kept : Rule k (world k s.words views) = end_kept k (world k s.words s.views) ruled.rule id me.0 at found refl refl in
-    let ruled_after : Ruled k (record { words = s.words; homes = s.homes; views = views }) = record { wide = ruled.wide; rule = kept } in
-    let about : me.0.about ≡ k = ruled.rule.about id me.0 at live in
-    (after,
-    keeps,
-    tt,
-    subst (λ (z : List ℕ). Ruled k (record { words = z; homes = s.homes; views = views })) (sym (set-get_or s.words 0 0)) ruled_after,
-    record {
-      told = record {
-        view = refl;
-        held = refl;
-        stands = record {
-          moment = world k s.words views;
-          rule = subst (λ (z : Key). Rule z (world k s.words views)) (sym about) kept;
-          seat = id;
-          at = set_here s.views id after (within_list s.views id me.0 at);
-        };
-      };
-      rests = end_rests k (world k s.words s.views) ruled.rule id me.0 at found refl refl;
-    })

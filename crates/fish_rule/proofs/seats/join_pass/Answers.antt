@@ -1,5 +1,6 @@
 use Rattle.std.proofs.Common.{◌≡◌, ℕ, ◌<◌, ◌≤◌, sym, ap, ◌∙◌, subst, arith}
-use Rattle.fish_rule.proofs.Standing.{joins, stay_allowed}
+use Rattle.fish_rule.proofs.Allowed.{end_allowed}
+use Rattle.fish_rule.proofs.Standing.{joins}
 use Rattle.fish_rule.specs.Table.{Sat}
 use Rattle.fish_rule.proofs.seats.join_pass.Goals as goal
 
@@ -11,10 +12,11 @@ join_seat-requires c =
     let other = c.args.other in
     (c.requires.main.table, c.requires.other.table, other.bare, subst (λ (z : ℕ). 0 < z) (sym log.wide) (omega arith), joins log.table.shared.key seat.id seat.me.0 other.seat.id other.seat.me.0 c.requires.can)
 
--- and a load of the tail by a live pass
+-- and a load of the tail
 pub load-requires : goal.load-requires
 load-requires c =
     let log = c.args.log.now in
     let seat = c.join_seat.new.seat in
-    let main : seat.me.0.lane ≡ 1 = ap (λ (z : Sat). z.0.lane) c.join_seat.ensures.2 ∙ c.requires.can.main in
-    (c.join_seat.ensures.0 ∙ c.requires.main.table, subst (λ (z : ℕ). 0 < z) (sym log.wide) (omega arith), stay_allowed log.table.shared.key log.table.shared.table_id.slots seat.id seat.me (omega arith))
+    let about : seat.me.0.about ≡ log.key = ap (λ (z : Sat). z.0.about) c.join_seat.ensures.2 ∙ c.requires.main.about in
+    (c.join_seat.ensures.0 ∙ c.requires.main.table, subst (λ (z : ℕ). 0 < z) (sym log.wide) (omega arith),
+    end_allowed log.table.shared.key log.key log.keyed log.table.shared.table_id.slots seat.id seat.me about)
