@@ -10,5 +10,6 @@ pub mod Learns
 pub mod OwnWords
 pub mod Publishes
 pub mod Quotas
+pub mod Loads
 pub mod Room
 pub mod Worlds

@@ -10,7 +10,7 @@ mod steps;
 mod table;
 mod view;
 
-pub use steps::{claim_lines, is_shut};
+pub use steps::{claim_lines, is_shut, load_tail, look_at, publish_region, read_word, store_word};
 pub use table::{Log, LogRule, Pass, Region, Shape};
 pub use view::{
     Clock, Flight, Found, Key, Kind, Known, Learned, Note, Noted, Own, Position, Recorded, Shut, View,
