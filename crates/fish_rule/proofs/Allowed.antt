@@ -46,7 +46,7 @@ pub there : (vs : List View) (id : ℕ) (v v' : View) → get_elem? vs id ≡ so
 there vs id v v' at = set_here vs id v' (within_list vs id v at)
 
 -- a load leaves the words
-loaded_words : (k : Key) (ws : List ℕ) (vs : List View) (i : ℕ) → Rule k (world k ws vs) → Rule k (world k (set ws i (get_or ws i 0)) vs)
+pub loaded_words : (k : Key) (ws : List ℕ) (vs : List View) (i : ℕ) → Rule k (world k ws vs) → Rule k (world k (set ws i (get_or ws i 0)) vs)
 loaded_words k ws vs i r = subst (λ (z : List ℕ). Rule k (world k z vs)) (sym (set-get_or ws i 0)) r
 
 -- ---- claim

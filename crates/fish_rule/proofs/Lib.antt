@@ -9,6 +9,7 @@ pub mod Frames
 pub mod Kept
 pub mod Lanes
 pub mod Learns
+pub mod Loads
 pub mod OwnWords
 pub mod Publishes
 pub mod Quotas

@@ -12,9 +12,10 @@ ghost use Rattle.fish_rule.specs.Steps.{after_end};
 ghost use Rattle.fish_rule.specs.Table.{first_view};
 ghost use Rattle.fish_rule.specs.World.{total};
 
+use crate::plays::End;
 use crate::table::{Base, Log, Pass, Shape};
 use crate::view::{Key, View};
-use atomic_table::{Join, Play, Split, Table};
+use atomic_table::{Join, Split, Table};
 use std::alloc::{AllocError, Global};
 
 /// What a log begins with.
@@ -43,15 +44,6 @@ impl Join<View> for Meet {
     ghost both = { join_both };
 
     ghost spent = { spent };
-}
-
-/// A load of the tail.
-struct Again;
-
-impl Play<bool, View> for Again {
-    ghost use Rattle.fish_rule.specs.Table.{ToldEnd};
-
-    ghost then = { ToldEnd };
 }
 
 /// The key of a log of this shape that begins so.
@@ -195,7 +187,7 @@ pub fn join_pass(log: &Log, main: &mut Pass, other: Pass)
         flight: _,
     } = other;
     log.table.shared.join_seat::<Meet>(&mut main.seat, seat);
-    log.table.shared.load::<Again>(&mut main.seat, 0);
+    log.table.shared.load::<End>(&mut main.seat, 0);
     if main.shut.is_none() {
         main.shut = shut;
     }

@@ -1,16 +1,24 @@
 //! One atomic step each. What it does to the words and to what the pass knows is a definition, and
 //! the rule of the table allows it wherever the pass's view does.
 
-ghost use Rattle.std.specs.Prelude.{◌≡◌, ◌<◌, ◌≤◌};
+ghost use Rattle.std.specs.Prelude.{◌≡◌, ◌≢◌, ◌+◌, ◌*◌, ◌<◌, ◌≤◌, ℕ, [], length, Some};
 ghost use Rattle.fish_rule.specs.Passes.{IsPassOf, view};
-ghost use Rattle.fish_rule.specs.Steps.{CanClaim, after_claim};
+ghost use Rattle.fish_rule.specs.Parts.{Fits, Rests};
+ghost use Rattle.fish_rule.specs.Regions.{dir_word, kind_of};
+ghost use Rattle.fish_rule.specs.Steps.{CanClaim, CanLook, CanPublish, CanRead, CanStore, IsAlone, after_claim, after_end, after_look, after_publish, after_read, after_store};
+ghost use Rattle.fish_rule.specs.World.{dir_at as first_directory_word, high, log_at as first_log_word, low};
+ghost use Rattle.fish_rule.specs.declared.view.Flight.{Flight};
+ghost use Rattle.fish_rule.specs.declared.view.Found.{Found};
 
-use crate::plays::Claims;
+use crate::plays::{Claim, End, Look, Publish, Read, Store};
 use crate::table::{Log, Pass, Region};
-use crate::view::Shut;
+use crate::view::{Key, Kind, Position, Shut};
 
 /// One claim in the tail word: a count of one, in the high 28 bits.
 const ONE: u64 = 68_719_476_736;
+
+/// The lines of a page.
+const PAGE_LINES: u64 = 32_768;
 
 /// The claim that shut a pass, its own or one that it learned of by a split or a join.
 pub fn is_shut(pass: &Pass) -> Option<Shut>
@@ -28,7 +36,7 @@ pub fn claim_lines(log: &Log, pass: &mut Pass, lines: u64) -> Region
     ensures view { view pass.new ≡ after_claim (view pass.old) lines result.number result.line }
     ensures lines { result.lines ≡ lines }
 {
-    let found = log.table.shared.fetch_add::<Claims>(&mut pass.seat, 0, ONE + lines);
+    let found = log.table.shared.fetch_add::<Claim>(&mut pass.seat, 0, ONE + lines);
     let region = Region {
         number: found / ONE,
         line: found % ONE,
@@ -36,4 +44,114 @@ pub fn claim_lines(log: &Log, pass: &mut Pass, lines: u64) -> Region
     };
     pass.flight = Some(region);
     region
+}
+
+/// Stores the next word of the region in flight.
+pub fn store_word(log: &Log, pass: &mut Pass, region: &Region, offset: u64, word: u64)
+    requires pass { IsPassOf log.now pass.old }
+    requires view { (f : Flight) × CanStore (view pass.old) f × (f.line ≡ region.now.line) × (length f.words ≡ offset) }
+    ensures pass { IsPassOf log.now pass.new }
+    ensures view { (f : Flight) → (view pass.old).flight ≡ Some f → view pass.new ≡ after_store (view pass.old) f word }
+{
+    let index = log_at(log.key) + (region.line * 4 + offset - log.key.line * 4);
+    log.table.shared.store::<Store>(&mut pass.seat, index as usize, word);
+}
+
+/// Publishes the region in flight, by a store of its directory word. A mark shuts the pass.
+pub fn publish_region(log: &Log, pass: &mut Pass, region: &Region)
+    requires pass { IsPassOf log.now pass.old }
+    requires view { (f : Flight) × CanPublish (view pass.old) f × (f.number ≡ region.now.number) × (f.line ≡ region.now.line) × (f.lines ≡ region.now.lines) }
+    ensures pass { IsPassOf log.now pass.new }
+    ensures view { (f : Flight) → (view pass.old).flight ≡ Some f → view pass.new ≡ after_publish (view pass.old) f }
+{
+    let kind = region_kind(log.key.end, region.line, region.line + region.lines);
+    let index = dir_at(log.key) + (region.number - log.key.number);
+    log.table.shared.store::<Publish>(&mut pass.seat, index as usize, directory_word(kind, region.line));
+    pass.flight = None;
+    if let Kind::Mark = kind {
+        pass.shut = Some(Shut {
+            line: region.line,
+            lines: region.lines,
+            end: log.key.end,
+        });
+    }
+}
+
+/// Loads the directory word of a number.
+pub fn look_at(log: &Log, pass: &mut Pass, number: u64) -> u64
+    requires pass { IsPassOf log.now pass.old }
+    requires view { CanLook (view pass.old) number }
+    ensures pass { IsPassOf log.now pass.new }
+    ensures view { (lines : ℕ) × (view pass.new ≡ after_look (view pass.old) number lines result) }
+    ensures alone { IsAlone (view pass.old) → result ≢ 0 }
+{
+    let index = dir_at(log.key) + (number - log.key.number);
+    log.table.shared.load::<Look>(&mut pass.seat, index as usize)
+}
+
+/// Loads a word of a published region.
+pub fn read_word(log: &Log, pass: &mut Pass, line: u64, offset: u64) -> u64
+    requires pass { IsPassOf log.now pass.old }
+    requires view { (f : Found) × CanRead (view pass.old) f offset × (f.line ≡ line) }
+    ensures pass { IsPassOf log.now pass.new }
+    ensures view { view pass.new ≡ after_read (view pass.old) (line * 4 + offset) result }
+{
+    let index = log_at(log.key) + (line * 4 + offset - log.key.line * 4);
+    log.table.shared.load::<Read>(&mut pass.seat, index as usize)
+}
+
+/// Loads the tail.
+pub fn load_tail(log: &Log, pass: &mut Pass) -> Position
+    requires pass { IsPassOf log.now pass.old }
+    ensures pass { IsPassOf log.now pass.new }
+    ensures view { (x : ℕ) × (view pass.new ≡ after_end (view pass.old) x) × (result.number ≡ high x) × (result.line ≡ low x) }
+    ensures rests { (view pass.old).lane ≡ 1 → (view pass.old).out ≡ [] → Rests result.number result.line (view pass.old).tail }
+{
+    let found = log.table.shared.load::<End>(&mut pass.seat, 0);
+    Position {
+        number: found / ONE,
+        line: found % ONE,
+    }
+}
+
+/// The kind of the region between two lines.
+fn region_kind(end: u64, line: u64, next: u64) -> Kind
+    requires { line < next }
+    ensures { result ≡ kind_of end line next }
+{
+    if end < next {
+        Kind::Mark
+    } else if line / PAGE_LINES < (next - 1) / PAGE_LINES {
+        Kind::Void
+    } else {
+        Kind::Stored
+    }
+}
+
+/// A directory word.
+fn directory_word(kind: Kind, line: u64) -> u64
+    requires { line < 68719476736 }
+    ensures { result ≡ dir_word kind line }
+{
+    match kind {
+        Kind::Stored => line + ONE,
+        Kind::Void => line + 2 * ONE,
+        Kind::Mark => line + 3 * ONE,
+    }
+}
+
+/// The first directory word of a table.
+fn dir_at(key: Key) -> u64
+    requires { Fits key }
+    ensures { result ≡ first_directory_word key }
+{
+    10_516 + key.buckets
+}
+
+/// The first word of the log of a table.
+fn log_at(key: Key) -> u64
+    requires { Fits key }
+    ensures { result ≡ first_log_word key }
+{
+    dir_at(key) + (key.end - key.line + 16)
 }
