@@ -50,6 +50,7 @@ pub struct Region {
 }
 
 /// The log: a table of words that several passes share.
+#[derive(Drop)]
 pub struct Log {
     pub(crate) table: Table<bool, View, Key, LogRule, Global>,
     pub(crate) key: Key,
@@ -60,6 +61,7 @@ pub struct Log {
 }
 
 /// The token with which one thread steps on a log. It can't be copied.
+#[derive(Drop)]
 pub struct Pass {
     pub(crate) seat: Seat<bool, View>,
     pub(crate) lane: u8,
