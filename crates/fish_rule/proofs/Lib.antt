@@ -6,6 +6,7 @@ pub mod Common
 pub mod Flights
 pub mod Frames
 pub mod Kept
+pub mod Laws
 pub mod Learns
 pub mod OwnWords
 pub mod Publishes
