@@ -8,6 +8,7 @@ pub mod Flights
 pub mod Frames
 pub mod Kept
 pub mod Lanes
+pub mod Laws
 pub mod Learns
 pub mod Loads
 pub mod OwnWords
