@@ -1,3 +1,4 @@
+pub mod Bytes
 pub mod Clearing
 pub mod Fields
 pub mod Headers

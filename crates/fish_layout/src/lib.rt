@@ -5,9 +5,13 @@
 //! a record are is a definition on its parts, in `specs/`.
 #![tactic(auto)]
 
+mod body;
 mod header;
 mod parts;
 mod word;
+mod write;
 
+pub use body::Body;
 pub use header::{Header, header_of, void_header};
 pub use parts::{BodyParts, KeyPart, KeyParts, MAX_KEYS, MAX_LANE, MAX_PAYLOAD, MAX_VERSION};
+pub use write::body_of;
