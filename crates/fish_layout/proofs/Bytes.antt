@@ -1,10 +1,10 @@
 -- Bytes as words, eight at a time, and back.
-use Rattle.std.proofs.Common.{◌≡◌, ℕ, zero, suc, ◌+◌, ◌-◌, ◌*◌, ◌/◌, ◌<◌, ◌≤◌, List, [], ◌∷◌, ◌++◌, length, get_or, take, drop, replicate, refl, sym, ap, ◌∙◌, subst, inl, inr, arith, append_assoc, length-append, length-drop}
+use Rattle.std.proofs.Common.{◌≡◌, ℕ, zero, suc, ◌+◌, ◌-◌, ◌*◌, ◌<◌, ◌≤◌, List, [], ◌∷◌, ◌++◌, length, get_or, take, drop, replicate, refl, sym, ap, ◌∙◌, subst, inl, inr, arith, append_assoc, length-append, length-drop}
 use Rattle.std.specs.Int.{from_le_bytes, to_le_bytes}
 use Rattle.std.specs.Int.Width.{w64}
 use Rattle.std.specs.List.{flat_map}
 use Rattle.std.proofs.lemmas.Bool.{cases_lt}
-use Rattle.std.proofs.lemmas.List.{ext_get_or, get_or-append_right, get_or-replicate, get_or_append_left, get_or_past, length-replicate, length-take-le, take-append-drop, take_all}
+use Rattle.std.proofs.lemmas.List.{ext_get_or, length-replicate, length-take-le, take-append-drop, take_all}
 use Rattle.std.proofs.lemmas.List.FromFn.{get_or-map-range_with_len}
 use Rattle.std.proofs.lemmas.Nat.{le_bytes_8}
 use Rattle.std.proofs.Math.Seq.{drop-append-add, take-append-add, take-append_seam}
@@ -126,3 +126,14 @@ back_within (suc n) (x ∷ b) rest h small =
 -- bytes come back from their words, whatever stands behind these
 pub bytes_back : (b rest : List ℕ) → ((i : ℕ) → get_or b i 0 < 256) → bytes_in (words_of_bytes b ++ rest) (length b) ≡ b
 bytes_back b rest small = back_within (length b) b rest (omega arith) small
+
+-- the first eight bytes are a word, and those behind them the others
+pub words_split : (b c more : List ℕ) → c ≡ take 8 b → more ≡ drop 8 b → 8 ≤ length b → words_of_bytes b ≡ from_le_bytes w64 c ∷ words_of_bytes more
+words_split b c more front behind many =
+    let parts : b ≡ c ++ more = sym (take-append-drop 8 b) ∙ ap (λ l. l ++ drop 8 b) (sym front) ∙ ap (λ l. c ++ l) (sym behind) in
+    ap words_of_bytes parts ∙ words_chunk c more (ap length front ∙ length-take-le 8 b many)
+
+-- bytes that are none are no word
+pub words_empty : (b : List ℕ) → length b ≡ 0 → words_of_bytes b ≡ []
+words_empty [] h = words_none
+words_empty (x ∷ b) h = absurd (omega arith)

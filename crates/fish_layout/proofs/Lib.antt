@@ -1,5 +1,6 @@
 pub mod Bytes
 pub mod Clearing
+pub mod Entries
 pub mod Fields
 pub mod Headers
 pub mod Links
