@@ -3,6 +3,8 @@ pub mod Clearing
 pub mod Entries
 pub mod Fields
 pub mod Headers
+pub mod Keys
 pub mod Links
 pub mod Sizes
 pub mod Spelled
+pub mod Utf8
