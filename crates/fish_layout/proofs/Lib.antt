@@ -5,6 +5,7 @@ pub mod Fields
 pub mod Headers
 pub mod Keys
 pub mod Links
+pub mod Outlines
 pub mod Sizes
 pub mod Spelled
 pub mod Utf8

@@ -4,4 +4,5 @@ pub mod Cleared
 pub mod Entry
 pub mod Header
 pub mod Headers
+pub mod Outline
 pub mod Values

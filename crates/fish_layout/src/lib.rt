@@ -7,11 +7,14 @@
 
 mod body;
 mod header;
+mod outline;
 mod parts;
+mod read;
 mod word;
 mod write;
 
 pub use body::Body;
 pub use header::{Header, header_of, void_header};
 pub use parts::{BodyParts, KeyPart, KeyParts, MAX_KEYS, MAX_LANE, MAX_PAYLOAD, MAX_VERSION};
+pub use read::{Payload, read_payload};
 pub use write::body_of;
