@@ -4,7 +4,8 @@ use Rattle.std.specs.Int.{from_le_bytes, to_le_bytes}
 use Rattle.std.specs.Int.Width.{w64}
 use Rattle.std.specs.List.{flat_map}
 use Rattle.std.proofs.lemmas.Bool.{cases_lt}
-use Rattle.std.proofs.lemmas.List.{ext_get_or, length-replicate, length-take-le, take-append-drop, take_all}
+use Rattle.std.proofs.lemmas.Grind.{flat_map-append}
+use Rattle.std.proofs.lemmas.List.{ext_get_or, length-replicate, length-take-le, take-append-drop, take-append-le, take_all}
 use Rattle.std.proofs.lemmas.List.FromFn.{get_or-map-range_with_len}
 use Rattle.std.proofs.lemmas.Nat.{le_bytes_8}
 use Rattle.std.proofs.Math.Seq.{drop-append-add, take-append-add, take-append_seam}
@@ -137,3 +138,18 @@ words_split b c more front behind many =
 pub words_empty : (b : List ℕ) → length b ≡ 0 → words_of_bytes b ≡ []
 words_empty [] h = words_none
 words_empty (x ∷ b) h = absurd (omega arith)
+
+-- a word has eight bytes
+length_words : (ws : List ℕ) → length (flat_map (to_le_bytes w64) ws) ≡ 8 * length ws
+length_words [] = refl
+length_words (w ∷ ws) = omega (arith, length_words ws)
+
+-- the words that hold so many bytes are enough for them
+pub bytes_enough : (ws : List ℕ) (n : ℕ) → words_for n ≤ length ws → bytes_in (take (words_for n) ws) n ≡ bytes_in ws n
+bytes_enough ws n room =
+    let bytes = flat_map (to_le_bytes w64) in
+    let front = take (words_for n) ws in
+    let whole : bytes front ++ bytes (drop (words_for n) ws) ≡ bytes ws =
+        sym (flat_map-append (to_le_bytes w64) front (drop (words_for n) ws)) ∙ ap bytes (take-append-drop (words_for n) ws) in
+    let enough : n ≤ length (bytes front) = omega (arith, length_words front, length-take-le (words_for n) ws room) in
+    sym (take-append-le n (bytes front) (bytes (drop (words_for n) ws)) enough) ∙ ap (take n) whole

@@ -1,6 +1,7 @@
 -- Key entries one after the other: their words, and the bytes of their values.
-use Rattle.std.proofs.Common.{◌≡◌, ℕ, zero, suc, ◌+◌, ◌<◌, ◌≤◌, List, [], ◌∷◌, ◌++◌, length, get_or, take, drop, sym, ap, ◌∙◌, subst, arith, append-nil, length-append}
-use Rattle.std.proofs.lemmas.List.{length-take-le, take-append-drop, take_more}
+use Rattle.std.proofs.Common.{◌≡◌, ℕ, zero, suc, ◌+◌, ◌-◌, ◌<◌, ◌≤◌, Option, Some, List, [], ◌∷◌, ◌++◌, length, get_or, take, drop, sym, ap, ◌∙◌, subst, arith, append-nil, append_assoc, length-append}
+use Rattle.std.proofs.Math.Seq.{drop-append_seam, take-append_seam}
+use Rattle.std.proofs.lemmas.List.{get_or_default, length-take-le, take-append-drop, take_more}
 use Rattle.std.proofs.lemmas.List.Folds.{length-flat_map-take}
 use Rattle.std.proofs.lemmas.Grind.{flat_map-append}
 use Rattle.fish_layout.specs.Body.{AreProperKeys, IsProperValue, entry_word, key_words, value_word, values_of}
@@ -76,3 +77,38 @@ key_words-more number ks i k offset entry within is entry_is offset_is =
     ∙ ap (λ n. front ++ (k.prev ∷ entry_word number k.id n ∷ value_word k.value (0 + length (values_of (take i ks))) ∷ [])) place
     ∙ ap (λ n. front ++ (k.prev ∷ entry_word number k.id i ∷ value_word k.value n ∷ [])) there
     ∙ ap (λ e. front ++ (k.prev ∷ e ∷ value_word k.value offset ∷ [])) (sym entry_is)
+
+-- the values up to an entry and its own are within all values
+pub values_within : (ks : List KeyPart) (i : ℕ) (k : KeyPart) → i < length ks → k ≡ get_or ks i k →
+    length (values_of (take i ks)) + length (value_bytes k.value) ≤ length (values_of ks)
+values_within ks i k within is =
+    let own : length (value_bytes k.value) ≡ length (value_bytes (get_or ks i k).value) = ap (λ x. length (value_bytes x.value)) is in
+    omega (arith, length-flat_map-take (λ x. value_bytes x.value) ks i k within, own)
+
+-- behind the values up to an entry stands its own
+pub value_at : (ks : List KeyPart) (i : ℕ) (k : KeyPart) (n m : ℕ) → i < length ks → k ≡ get_or ks i k → n ≡ length (values_of (take i ks)) →
+    m ≡ n + length (value_bytes k.value) → take (m - n) (drop n (values_of ks)) ≡ value_bytes k.value
+value_at ks i k n m within is from end =
+    let front = values_of (take i ks) in
+    let own = value_bytes k.value in
+    let rest = values_of (drop (i + 1) ks) in
+    let whole : values_of ks ≡ front ++ (own ++ rest) =
+        ap values_of (sym (take-append-drop (i + 1) ks))
+        ∙ flat_map-append (λ x. value_bytes x.value) (take (i + 1) ks) (drop (i + 1) ks)
+        ∙ ap (λ l. l ++ rest) (values_of-more ks i k within is)
+        ∙ append_assoc front own rest in
+    let size : m - n ≡ length own = omega arith in
+    ap (λ l. take (m - n) (drop n l)) whole
+    ∙ ap (λ j. take (m - n) (drop j (front ++ (own ++ rest)))) from
+    ∙ ap (take (m - n)) (drop-append_seam front (own ++ rest))
+    ∙ ap (λ j. take j (own ++ rest)) size
+    ∙ take-append_seam own rest
+
+-- an element of a list that has one
+pub some_element : (ks : List KeyPart) (n : ℕ) → n < length ks → (k : KeyPart) × (k ≡ get_or ks n k)
+some_element [] n h = absurd (omega arith)
+some_element (x ∷ ks) n h = (get_or (x ∷ ks) n x, get_or_default (x ∷ ks) n x (get_or (x ∷ ks) n x) h)
+
+-- what is found twice is the same
+pub some_same : {X : Type 0} {x y : X} → Some x ≡ Some y → x ≡ y
+some_same {X} {x} {y} h = cc

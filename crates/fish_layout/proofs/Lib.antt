@@ -3,7 +3,7 @@ pub mod Clearing
 pub mod Entries
 pub mod Fields
 pub mod Headers
-pub mod Keys
+pub mod KeyWords
 pub mod Links
 pub mod Outlines
 pub mod Sizes

@@ -1,17 +1,19 @@
 -- Where the values and the payload of a record stand, and how many bytes they have.
-use Rattle.std.proofs.Common.{◌≡◌, ℕ, zero, suc, ◌+◌, ◌-◌, ◌*◌, ◌/◌, ◌<◌, ◌≤◌, List, [], ◌∷◌, ◌++◌, length, get_or, take, drop, replicate, refl, sym, ap, ◌∙◌, subst, arith, append_assoc, length-append}
-use Rattle.std.proofs.lemmas.List.{get_or_default, take_all}
+use Rattle.std.proofs.Common.{◌≡◌, ℕ, zero, suc, ◌+◌, ◌-◌, ◌*◌, ◌/◌, ◌<◌, ◌≤◌, List, [], ◌∷◌, ◌++◌, length, get_or, take, drop, replicate, refl, sym, ap, ◌∙◌, subst, arith, append_assoc, length-append, length-drop}
+use Rattle.std.proofs.lemmas.List.{take_all}
 use Rattle.std.proofs.Math.Seq.{drop-append-add, drop-append_seam}
 use Rattle.fish_layout.specs.Body.{IsBody, IsProper, body_header, body_lines, body_words, key_words, values_of, words_behind}
 use Rattle.fish_layout.specs.Bytes.{bytes_in, words_for, words_of_bytes}
 use Rattle.fish_layout.specs.Cleared.{entry_at}
 use Rattle.fish_layout.specs.Entry.{value_offset, value_size}
+use Rattle.fish_layout.specs.Outline.{IsOutline}
 use Rattle.fish_layout.specs.Values.{value_bytes}
+use Rattle.fish_layout.specs.declared.outline.Outline.{Outline}
 use Rattle.fish_layout.specs.declared.parts.BodyParts.{BodyParts}
 use Rattle.fish_layout.specs.declared.parts.KeyPart.{KeyPart}
 use Rattle.fish_layout.proofs.Bytes.{bytes_back}
-use Rattle.fish_layout.proofs.Entries.{values_of-more}
-use Rattle.fish_layout.proofs.Keys.{body_key}
+use Rattle.fish_layout.proofs.Entries.{some_element, values_of-more}
+use Rattle.fish_layout.proofs.KeyWords.{body_key}
 use Rattle.fish_layout.proofs.Links.{after_keys, body_parted}
 use Rattle.fish_layout.proofs.Sizes.{length-body_words, length-key_words, length-words_behind, length-words_of_bytes}
 use Rattle.fish_layout.proofs.Utf8.{bytes_text, bytes_values}
@@ -78,11 +80,6 @@ last_key {p} {ws} h k n last is =
         ap values_of (sym (take_all (n + 1) p.keys (omega arith))) ∙ values_of-more p.keys n k (omega arith) is in
     omega (arith, ap length whole, length-append (values_of (take n p.keys)) (value_bytes k.value), says.offset, says.size, ap value_offset word, ap value_size word)
 
--- an element of a list that has one
-some_element : (ks : List KeyPart) (n : ℕ) → n < length ks → (k : KeyPart) × (k ≡ get_or ks n k)
-some_element [] n h = absurd (omega arith)
-some_element (x ∷ ks) n h = (get_or (x ∷ ks) n x, get_or_default (x ∷ ks) n x (get_or (x ∷ ks) n x) h)
-
 -- the bytes of the values, by the last key entry
 pub body_values_size : {p : BodyParts} {ws : List ℕ} → IsBody p ws → (n : ℕ) → n ≡ length p.keys → 0 < n →
     value_offset (get_or ws (3 * n) 0) + value_size (get_or ws (3 * n) 0) ≡ length (values_of p.keys)
@@ -95,3 +92,27 @@ body_values_size {p} {ws} h n size some =
 pub no_values : (ks : List KeyPart) → 0 ≡ length ks → length (values_of ks) ≡ 0
 no_values [] h = refl
 no_values (k ∷ ks) h = absurd (omega arith)
+
+-- the words from a place on, as a range of a slice gives them
+range_from : (ws : List ℕ) (n : ℕ) → take (length ws - n) (drop n ws) ≡ drop n ws
+range_from ws n = take_all (length ws - n) (drop n ws) (omega (arith, length-drop n ws))
+
+-- the payload, as the outline places it
+pub outline_payload : {p : BodyParts} {ws : List ℕ} {o : Outline} → IsBody p ws → IsOutline p o → (n : ℕ) → n ≡ 1 + 3 * o.keys + words_for o.values →
+    bytes_in (take (length ws - n) (drop n ws)) o.payload ≡ p.payload
+outline_payload {p} {ws} {o} h is n at =
+    let place : n ≡ payload_place p = omega (arith, is.keys, is.values) in
+    ap (λ b. bytes_in b o.payload) (range_from ws n)
+    ∙ ap (λ m. bytes_in (drop m ws) o.payload) place
+    ∙ ap (bytes_in (drop (payload_place p) ws)) is.payload
+    ∙ body_payload h
+
+-- the values, as the outline places them
+pub outline_values : {p : BodyParts} {ws : List ℕ} {o : Outline} → IsBody p ws → IsOutline p o → (n : ℕ) → n ≡ 1 + 3 * o.keys →
+    bytes_in (take (length ws - n) (drop n ws)) o.values ≡ values_of p.keys
+outline_values {p} {ws} {o} h is n at =
+    let place : n ≡ entry_at (length p.keys) = omega (arith, is.keys) in
+    ap (λ b. bytes_in b o.values) (range_from ws n)
+    ∙ ap (λ m. bytes_in (drop m ws) o.values) place
+    ∙ ap (bytes_in (drop (entry_at (length p.keys)) ws)) is.values
+    ∙ body_values h

@@ -7,8 +7,10 @@
 
 mod body;
 mod header;
+mod keys;
 mod outline;
 mod parts;
+mod proper;
 mod read;
 mod word;
 mod write;
@@ -16,5 +18,5 @@ mod write;
 pub use body::Body;
 pub use header::{Header, header_of, void_header};
 pub use parts::{BodyParts, KeyPart, KeyParts, MAX_KEYS, MAX_LANE, MAX_PAYLOAD, MAX_VERSION};
-pub use read::{Payload, read_payload};
+pub use read::{Payload, read_body, read_payload};
 pub use write::body_of;
