@@ -1,4 +1,5 @@
 pub mod Bytes
+pub mod Candidates
 pub mod Clearing
 pub mod Entries
 pub mod Fields

@@ -1,8 +1,8 @@
 -- Where the values and the payload of a record stand, and how many bytes they have.
-use Rattle.std.proofs.Common.{◌≡◌, ℕ, zero, suc, ◌+◌, ◌-◌, ◌*◌, ◌/◌, ◌<◌, ◌≤◌, List, [], ◌∷◌, ◌++◌, length, get_or, take, drop, replicate, refl, sym, ap, ◌∙◌, subst, arith, append_assoc, length-append, length-drop}
+use Rattle.std.proofs.Common.{◌≡◌, ℕ, suc, ◌+◌, ◌-◌, ◌*◌, ◌<◌, ◌≤◌, List, [], ◌∷◌, ◌++◌, length, get_or, take, drop, replicate, refl, sym, ap, ◌∙◌, subst, arith, length-append, length-drop}
 use Rattle.std.proofs.lemmas.List.{take_all}
 use Rattle.std.proofs.Math.Seq.{drop-append-add, drop-append_seam}
-use Rattle.fish_layout.specs.Body.{IsBody, IsProper, body_header, body_lines, body_words, key_words, values_of, words_behind}
+use Rattle.fish_layout.specs.Body.{IsBody, body_header, body_lines, body_words, key_words, values_of, words_behind}
 use Rattle.fish_layout.specs.Bytes.{bytes_in, words_for, words_of_bytes}
 use Rattle.fish_layout.specs.Cleared.{entry_at}
 use Rattle.fish_layout.specs.Entry.{value_offset, value_size}

@@ -1,6 +1,6 @@
 //! Words as key entries.
 
-ghost use Rattle.std.specs.Prelude.{◌≡◌, ◌+◌, ◌*◌, ◌<◌, ◌≤◌, ◌^◌, Bool, ℤ, IfOk, IsTrue, IsUtf8, Some, length, slice_index_or};
+ghost use Rattle.std.specs.Prelude.{◌≡◌, ◌+◌, ◌*◌, ◌<◌, ◌≤◌, ◌^◌, Bool, ℤ, IfOk, IfSome, IsTrue, IsUtf8, Some, length, slice_index_or};
 ghost use Rattle.fish_layout.specs.Body.{IsBody, IsProperValue, values_of};
 ghost use Rattle.fish_layout.specs.Values.{kind_code, value_bytes};
 ghost use Rattle.fish_layout.specs.declared.parts.BodyParts.{BodyParts};
@@ -17,7 +17,8 @@ use std::alloc::{AllocError, Global};
 pub(crate) fn read_keys(alloc: Global, words: &[u64], count: usize, values: &[u8]) -> Result<Option<KeyParts>, AllocError>
     requires few { count < 2 ^ 9 }
     requires room { 3 * count < length words.now }
-    ensures { IfOk result (λ o. (p : BodyParts) → IsBody p words.now → count ≡ length p.keys → values.now ≡ values_of p.keys → o ≡ Some p.keys) }
+    ensures keys { IfOk result (λ o. (p : BodyParts) → IsBody p words.now → count ≡ length p.keys → values.now ≡ values_of p.keys → o ≡ Some p.keys) }
+    ensures count { IfOk result (λ o. IfSome o (λ ks. length ks ≡ count)) }
 {
     let mut keys = Sequence::new(alloc);
     for place in 0..count {

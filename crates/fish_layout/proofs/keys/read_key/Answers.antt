@@ -1,12 +1,9 @@
 -- The entry's words say its key, and its value's bytes stand where they say.
-use Rattle.std.proofs.Common.{◌≡◌, ℕ, ◌+◌, ◌-◌, ◌*◌, ◌<◌, ◌≤◌, Option, Some, None, length, get_or, take, drop, ap, ◌∙◌, sym, arith}
-use Rattle.fish_value.specs.declared.value.Value.{Value}
-use Rattle.fish_layout.specs.Body.{IsBody, values_of}
+use Rattle.std.proofs.Common.{◌≡◌, ◌+◌, ◌-◌, Some, length, take, drop, ap, ◌∙◌, sym, arith}
+use Rattle.fish_layout.specs.Body.{values_of}
 use Rattle.fish_layout.specs.Values.{value_bytes}
-use Rattle.fish_layout.specs.declared.parts.BodyParts.{BodyParts}
-use Rattle.fish_layout.specs.declared.parts.KeyPart.{KeyPart}
 use Rattle.fish_layout.proofs.Entries.{proper_at, some_same, value_at, values_within}
-use Rattle.fish_layout.proofs.KeyWords.{SaysKey, body_key}
+use Rattle.fish_layout.proofs.KeyWords.{body_key}
 use Rattle.fish_layout.proofs.keys.read_key.Goals as goal
 
 pub returns-then-values-end : goal.returns-then-values-end

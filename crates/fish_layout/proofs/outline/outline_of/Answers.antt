@@ -1,5 +1,5 @@
 -- A record's words say its outline, and have room for it.
-use Rattle.std.proofs.Common.{◌≡◌, ◌+◌, ◌≤◌, length, sym, ◌∙◌, arith}
+use Rattle.std.proofs.Common.{◌≡◌, length, sym, ◌∙◌, arith}
 use Rattle.std.proofs.lemmas.Bool.Decides.{nat_tests}
 use Rattle.fish_layout.proofs.Outlines.{body_length, body_room}
 use Rattle.fish_layout.proofs.Sizes.{roomy, some_lines}

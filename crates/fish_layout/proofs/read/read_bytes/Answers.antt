@@ -1,5 +1,5 @@
 -- The words that hold the bytes are enough.
-use Rattle.std.proofs.Common.{◌≡◌, ℕ, ◌-◌, ◌≤◌, List, length, take, ap, ◌∙◌, arith}
+use Rattle.std.proofs.Common.{◌≡◌, ℕ, List, take, ap, ◌∙◌, arith}
 use Rattle.std.specs.Int.{to_le_bytes}
 use Rattle.std.specs.Int.Width.{w64}
 use Rattle.std.specs.List.{flat_map}

@@ -1,6 +1,6 @@
 -- The payload stands where the outline says.
-use Rattle.std.proofs.Common.{◌≡◌, ◌∙◌, sym, subst, arith}
-use Rattle.std.specs.Prelude.{IsUtf8, IsSome, None}
+use Rattle.std.proofs.Common.{◌∙◌, sym, subst}
+use Rattle.std.specs.Prelude.{IsUtf8}
 use Rattle.fish_layout.proofs.Outlines.{outline_payload}
 use Rattle.fish_layout.proofs.read.read_payload.Goals as goal
 
