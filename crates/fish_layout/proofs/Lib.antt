@@ -6,6 +6,7 @@ pub mod Fields
 pub mod Headers
 pub mod KeyWords
 pub mod Links
+pub mod Numbers
 pub mod Outlines
 pub mod Sizes
 pub mod Spelled

@@ -15,7 +15,7 @@ mod read;
 mod word;
 mod write;
 
-pub use body::Body;
+pub use body::{Body, set_number};
 pub use header::{Header, header_of, void_header};
 pub use parts::{BodyParts, KeyPart, KeyParts, MAX_KEYS, MAX_LANE, MAX_PAYLOAD, MAX_VERSION};
 pub use read::{Payload, read_body, read_payload};

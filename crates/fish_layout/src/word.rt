@@ -5,7 +5,7 @@
 
 ghost use Rattle.std.specs.Prelude.{◌≡◌, ◌<◌, ◌≤◌, ◌^◌};
 ghost use Rattle.fish_layout.specs.Body.{entry_word, packed_value};
-ghost use Rattle.fish_layout.specs.Entry.{entry_id, entry_number, value_kind, value_offset, value_size};
+ghost use Rattle.fish_layout.specs.Entry.{entry_id, entry_number, renumbered, value_kind, value_offset, value_size};
 ghost use Rattle.fish_layout.specs.Header.{form_code, form_of, header_word, keys_of, lane_of, length_of, lines_of, version_of};
 
 use crate::header::Header;
@@ -153,4 +153,12 @@ pub(crate) fn offset_in(value: u64) -> usize
     ensures fits { result < 2 ^ 18 }
 {
     (value / 0x800 % 0x4_0000) as usize
+}
+
+/// The second word of a key entry with another number.
+pub(crate) fn renumber(entry: u64, number: u32) -> u64
+    requires { number < 2 ^ 28 }
+    ensures { result ≡ renumbered entry number }
+{
+    entry / 0x1000_0000 * 0x1000_0000 + u64::from(number)
 }
