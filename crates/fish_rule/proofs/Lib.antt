@@ -4,6 +4,7 @@ pub mod Bodies
 pub mod Bounds
 pub mod Claims
 pub mod Common
+pub mod Entries
 pub mod Extending
 pub mod Flights
 pub mod Frames

@@ -9,7 +9,7 @@ ghost use Rattle.fish_rule.specs.Views.{Among};
 ghost use Rattle.fish_rule.specs.declared.view.Found.{Found};
 ghost use Rattle.fish_rule.specs.declared.view.Kind.TheVariants.{Mark, Stored};
 
-use crate::steps::{look_at, read_word};
+use crate::steps::read_word;
 use crate::table::{Log, Pass};
 use fish_catalog::Entry;
 use fish_layout::{Payload, keys_in, lines_in, read_payload};
@@ -33,6 +33,28 @@ pub fn read_region(alloc: Global, log: &Log, pass: &mut Pass, line: u64) -> Resu
         words.push(read_body_word(log, pass, line, keys, offset))?;
     }
     Ok(words)
+}
+
+/// The record that stands in the published region at a line.
+pub fn read_record(alloc: Global, log: &Log, pass: &mut Pass, line: u64) -> Result<Entry, AllocError>
+    requires pass { IsPassOf log.now pass.old }
+    requires live { 1 ≤ (view pass.old).lane }
+    requires found { (f : Found) × Among f (view pass.old).learned.found × (f.line ≡ line) × (f.kind ≡ Stored) }
+    ensures pass { IsPassOf log.now pass.new }
+    ensures extends { Extends (view pass.old) (view pass.new) }
+    ensures entry { IfOk result (λ entry. (f : Found) → Among f (view pass.old).learned.found → f.line ≡ line → f.kind ≡ Stored → Tells (view pass.new) f.number entry) }
+{
+    let words = read_region(alloc, log, pass, line)?;
+    let Payload {
+        lane,
+        form,
+        payload,
+    } = read_payload(alloc, &words)?;
+    Ok(Entry::Stored {
+        lane,
+        form,
+        payload,
+    })
 }
 
 /// A word behind the header, or 0 for the first one of a key entry.
