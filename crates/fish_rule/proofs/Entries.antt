@@ -13,7 +13,7 @@ use Rattle.fish_catalog.specs.declared.entry.Entry.TheVariants as entry
 use Rattle.fish_rule.proofs.Common.{all_among}
 use Rattle.fish_rule.proofs.Loads.{head_known, lines_found, region_found, word_known}
 use Rattle.fish_rule.proofs.Words.{head_plain, head_read}
-use Rattle.fish_rule.specs.Logs.{HasWords, IsEntry, IsStoredEntry, Tells}
+use Rattle.fish_rule.specs.Logs.{HasWords, IsEntry, IsStoredEntry, Learns, Tells}
 use Rattle.fish_rule.specs.Parts.{IsFound, IsKnown}
 use Rattle.fish_rule.specs.Regions.{Holds, IsRecord, IsRecordOf}
 use Rattle.fish_rule.specs.Rule.{Rule}
@@ -97,10 +97,15 @@ module _ (v : View) (w : World) (r : Rule v.about w) (j : ℕ) (at : get_elem? w
         payload_is = ap (λ (z : BodyParts). z.payload) (sym q.2) ∙ sym (payloads q.0 q.1);
       })
 
+-- words that were read stay read
+pub has_later : (v u : View) (f : Found) (words : List ℕ) → Learns v u → HasWords v f words → HasWords u f words
+has_later v u f words learns has = record { full = has.full; read = λ i less plain. learns.known _ (has.read i less plain) }
+
 -- what a view's words tell in every moment that it knows of
 pub tells_entry : (v : View) (f : Found) (words : List ℕ) → Among f v.learned.found → f.kind ≡ Stored → HasWords v f words → (lane : ℕ) (form : Form) (payload : List ℕ) → ((q : BodyParts) → IsBody q words → lane ≡ q.lane)
     → ((q : BodyParts) → IsBody q words → form ≡ q.form) → ((q : BodyParts) → IsBody q words → payload ≡ q.payload) → Tells v f.number (entry.Stored lane form payload)
-tells_entry v f words among is has lane form payload lanes forms payloads w r j at = entry_there v w r j at f among is words has lane form payload lanes forms payloads
+tells_entry v f words among is has lane form payload lanes forms payloads u learns w r j at =
+    entry_there u w r j at f (learns.found f among) is words (has_later v u f words learns has) lane form payload lanes forms payloads
 
 -- the words of a record that was found are a record's
 pub found_body : (v : View) (f : Found) (words : List ℕ) → Stands v → Among f v.learned.found → f.kind ≡ Stored → HasWords v f words → (q : BodyParts) × IsBody q words

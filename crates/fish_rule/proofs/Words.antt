@@ -35,7 +35,7 @@ read_more v u line n x words extends read here i less plain = pick (ℕ_discrete
     pick (no ne) =
         let longer = length-append words (x ∷ []) in
         let before : i < length words = omega arith in
-        subst (λ (z : ℕ). Among (record { place = line * 4 + i; value = z }) u.learned.known) (sym (get_or_append_left words (x ∷ []) 0 i before)) (extends.known _ (read i before plain))
+        subst (λ (z : ℕ). Among (record { place = line * 4 + i; value = z }) u.learned.known) (sym (get_or_append_left words (x ∷ []) 0 i before)) (extends.learns.known _ (read i before plain))
 
 -- the header stays the first
 pub head_stays : (words : List ℕ) (x h : ℕ) → 0 < length words → get_or words 0 0 ≡ h → get_or (words ++ x ∷ []) 0 0 ≡ h

@@ -15,6 +15,8 @@ use Rattle.fish_rule.specs.Views.{Among}
 use Rattle.fish_rule.specs.World.{World, body, high, low}
 use Rattle.fish_rule.specs.declared.view.Found.{Found}
 use Rattle.fish_rule.specs.declared.view.Key.{Key}
+use Rattle.fish_rule.specs.declared.view.Known.{Known}
+use Rattle.fish_rule.specs.declared.view.Recorded.{Recorded}
 use Rattle.fish_rule.specs.declared.view.Kind.TheVariants.{Mark, Stored, Void}
 use Rattle.fish_rule.specs.declared.view.View.{View}
 use Rattle.fish_value.specs.declared.field.Form.{Form}
@@ -43,27 +45,32 @@ pub record IsLog (k : Key) (w : World) (entries : List Entry) : Type 0 where
 
 -- ---- what a view tells of the log
 
--- in every moment of which the view knows, this stands at number n
+-- the second view knows of one table with the first, and all that the first had learned
+pub record Learns (v u : View) : Type 0 where
+  pub about : u.about ≡ v.about
+  pub count : v.learned.count ≤ u.learned.count
+  pub found : (x : Found) → Among x v.learned.found → Among x u.learned.found
+  pub known : (x : Known) → Among x v.learned.known → Among x u.learned.known
+  pub records : (x : Recorded) → Among x v.learned.records → Among x u.learned.records
+
+-- in every moment of a view that knows as much, this stands at number n
 abbrev pub Tells : View → ℕ → Entry → Type 0
-Tells v n e = (w : World) → Rule v.about w → (j : ℕ) → get_elem? w.views j ≡ some v → IsEntry w n e
+Tells v n e = (u : View) → Learns v u → (w : World) → Rule u.about w → (j : ℕ) → get_elem? w.views j ≡ some u → IsEntry w n e
 
 -- the words are those of a region that was found: each that is no first word of a key entry was read
 pub record HasWords (v : View) (f : Found) (words : List ℕ) : Type 0 where
   pub full : length words ≡ f.lines * 4
   pub read : (i : ℕ) → i < length words → ¬ IsKeyWord (keys_of (slice_index words 0)) i → Among (record { place = f.line * 4 + i; value = slice_index words i }) v.learned.known
 
--- the second view knows what the first did, and has the same lanes, records and flight
+-- the second view is the first but for what it learned since
 pub record Extends (v u : View) : Type 0 where
-  pub about : u.about ≡ v.about
+  pub learns : Learns v u
   pub lane : u.lane ≡ v.lane
   pub out : u.out ≡ v.out
   pub shut : u.shut ≡ v.shut
   pub flight : u.flight ≡ v.flight
+  pub tail : u.tail ≡ v.tail
   pub own : u.own ≡ v.own
-  pub count : v.learned.count ≤ u.learned.count
-  pub found : (x : _) → Among x v.learned.found → Among x u.learned.found
-  pub known : (x : _) → Among x v.learned.known → Among x u.learned.known
-  pub records : u.learned.records ≡ v.learned.records
 
 -- ---- the closed log
 

@@ -29,7 +29,7 @@ read_body_word-requires-clause-found c =
     let many = inv.many in
     let from = c.loop-offset.auto.offset in
     let f = c.requires.found in
-    let among = inv.extends.found f.0 f.1 in
+    let among = inv.extends.learns.found f.0 f.1 in
     let head = head_read (view c.loop-offset.pass) c.args.line (keys_of c.read_word-header.result) c.read_word-header.result c.loop-offset.words.items (omega arith) inv.head inv.read in
     let lines = header_law (view c.loop-offset.pass) f.0 c.read_word-header.result inv.of.stands among f.3 (subst (λ (z : ℕ). Among (record { place = z * 4; value = c.read_word-header.result }) (view c.loop-offset.pass).learned.known) (sym f.2) head) in
     let told = c.lines_in-offset-end.ensures.value in
@@ -65,7 +65,7 @@ returns-clause-words c f among line words =
     let many = inv.many in
     let from = c.loop-offset.auto.offset in
     let head = head_read (view c.loop-offset.pass) c.args.line (keys_of c.read_word-header.result) c.read_word-header.result c.loop-offset.words.items (omega arith) inv.head inv.read in
-    let lines = header_law (view c.loop-offset.pass) f c.read_word-header.result inv.of.stands (inv.extends.found f among) words (subst (λ (z : ℕ). Among (record { place = z * 4; value = c.read_word-header.result }) (view c.loop-offset.pass).learned.known) (sym line) head) in
+    let lines = header_law (view c.loop-offset.pass) f c.read_word-header.result inv.of.stands (inv.extends.learns.found f among) words (subst (λ (z : ℕ). Among (record { place = z * 4; value = c.read_word-header.result }) (view c.loop-offset.pass).learned.known) (sym line) head) in
     let some_ = found_law (view c.args.pass.now) f c.requires.pass.stands among in
     let told = c.lines_in-offset-end.ensures.value in
     let test = c.loop-offset-test.false in
