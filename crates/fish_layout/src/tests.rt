@@ -1,6 +1,7 @@
 //! Records and headers with words from outside: a worked example, and words that another program
 //! packed by the same table of bits.
 
+use crate::proper::is_proper;
 use crate::{
     BodyParts, Header, KeyPart, body_of, header_of, read_body, read_payload, set_number,
     void_header,
@@ -113,12 +114,15 @@ fn bodies(rt: HostRuntime) -> Result<(), Fail> {
     all.push((kinds(alloc)?, KINDS.as_slice(), Form::Csv, 16, "a,b"))?;
     all.push((bare(alloc)?, BARE.as_slice(), Form::Json, 2, ""))?;
     for (parts, words, form, lane, payload) in &all {
+        assert!(rt; is_proper(parts), "{parts:?}");
         let body = body_of(alloc, parts)?;
         assert_eq!(rt; body.as_slice(), *words);
-        let again = read_body(alloc, *words)?;
+        let Some(again) = read_body(alloc, *words)? else {
+            panic!(rt; "{parts:?}");
+        };
         assert_eq!(rt;
             format!(in alloc; "{again:?}")?,
-            format!(in alloc; "Some({parts:?})")?
+            format!(in alloc; "{parts:?}")?
         );
         let found = read_payload(alloc, *words)?;
         assert_eq!(rt; (found.lane, found.form), (*lane, *form));
@@ -190,7 +194,9 @@ fn refusals(rt: HostRuntime) -> Result<(), Fail> {
 #[test]
 fn numbers(rt: HostRuntime) -> Result<(), Fail> {
     let alloc = rt.alloc();
-    let mut body = body_of(alloc, &kinds(alloc)?)?;
+    let parts = kinds(alloc)?;
+    assert!(rt; is_proper(&parts), "{parts:?}");
+    let mut body = body_of(alloc, &parts)?;
     set_number(&mut body, 0x0abc_def0);
     let mut want = KINDS;
     want[2] = 0x0abc_def0;
