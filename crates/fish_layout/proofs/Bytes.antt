@@ -35,8 +35,8 @@ pub words_chunk : (c more : List ℕ) → length c ≡ 8 → words_of_bytes (c +
 words_chunk c more eight =
     let size = length-append c more in
     ext_get_or 0 (words_of_bytes (c ++ more)) (from_le_bytes w64 c ∷ words_of_bytes more)
-        (omega (arith, length-words_of_bytes (c ++ more), length-words_of_bytes more))
-        (λ i within. words_chunk_at c more eight i (omega (arith, length-words_of_bytes (c ++ more))))
+    (omega (arith, length-words_of_bytes (c ++ more), length-words_of_bytes more))
+    (λ i within. words_chunk_at c more eight i (omega (arith, length-words_of_bytes (c ++ more))))
 
 -- the one word of at most eight bytes
 words_last_at : (b : List ℕ) → 0 < length b → length b ≤ 8 → (i : ℕ) → i < 1 → get_or (words_of_bytes b) i 0 ≡ get_or (from_le_bytes w64 b ∷ []) i 0
@@ -47,7 +47,7 @@ words_last_at b some few (suc i) within = absurd (omega arith)
 pub words_last : (b : List ℕ) → 0 < length b → length b ≤ 8 → words_of_bytes b ≡ from_le_bytes w64 b ∷ []
 words_last b some few =
     ext_get_or 0 (words_of_bytes b) (from_le_bytes w64 b ∷ []) (omega (arith, length-words_of_bytes b))
-        (λ i within. words_last_at b some few i (omega (arith, length-words_of_bytes b)))
+    (λ i within. words_last_at b some few i (omega (arith, length-words_of_bytes b)))
 
 -- no bytes are no word
 pub words_none : words_of_bytes [] ≡ []
@@ -120,7 +120,7 @@ back_within (suc n) (x ∷ b) rest h small =
           let all : (i : ℕ) → get_or (take 8 whole ++ drop 8 whole) i 0 < 256 = λ i. subst (λ l. get_or l i 0 < 256) (sym parts) (small i) in
           let behind = back_within n (drop 8 whole) rest fewer (small_right (take 8 whole) (drop 8 whole) all) in
           subst (λ l. bytes_in (words_of_bytes l ++ rest) (length l) ≡ l) parts
-              (back_many (take 8 whole) (drop 8 whole) rest eight (small_left (take 8 whole) (drop 8 whole) all) behind))
+          (back_many (take 8 whole) (drop 8 whole) rest eight (small_left (take 8 whole) (drop 8 whole) all) behind))
       | inr few ↦ back_few whole rest (omega arith) few small
     ]
 
@@ -150,6 +150,6 @@ bytes_enough ws n room =
     let bytes = flat_map (to_le_bytes w64) in
     let front = take (words_for n) ws in
     let whole : bytes front ++ bytes (drop (words_for n) ws) ≡ bytes ws =
-        sym (flat_map-append (to_le_bytes w64) front (drop (words_for n) ws)) ∙ ap bytes (take-append-drop (words_for n) ws) in
+    sym (flat_map-append (to_le_bytes w64) front (drop (words_for n) ws)) ∙ ap bytes (take-append-drop (words_for n) ws) in
     let enough : n ≤ length (bytes front) = omega (arith, length_words front, length-take-le (words_for n) ws room) in
     sym (take-append-le n (bytes front) (bytes (drop (words_for n) ws)) enough) ∙ ap (take n) whole

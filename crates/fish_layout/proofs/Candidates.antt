@@ -33,14 +33,14 @@ IsBody-number : {p : BodyParts} {ws : List ℕ} (m : ℕ) → IsBody p ws → m 
 IsBody-number {p} {ws} m h fits same =
     record {
       proper = record {
-          some_lane = h.proper.some_lane;
-          lane = h.proper.lane;
-          version = h.proper.version;
-          number = fits;
-          keys = h.proper.keys;
-          short = h.proper.short;
-          text = h.proper.text;
-        };
+        some_lane = h.proper.some_lane;
+        lane = h.proper.lane;
+        version = h.proper.version;
+        number = fits;
+        keys = h.proper.keys;
+        short = h.proper.short;
+        text = h.proper.text;
+      };
       is = h.is ∙ sym (body_words-number p m same);
     }
 
@@ -49,9 +49,9 @@ pub candidate : {p : BodyParts} {ws : List ℕ} (c : BodyParts) → IsBody p ws 
     c.payload ≡ p.payload → c.number < 2 ^ 28 → (0 < length p.keys → c.number ≡ p.number) → IsBody c ws
 candidate {p} {ws} c h form lane version keys payload fits number =
     let same : record p { number = c.number } ≡ c =
-        ap (λ x. record p { number = c.number; form = x }) (sym form)
-        ∙ ap (λ x. record p { number = c.number; form = c.form; lane = x }) (sym lane)
-        ∙ ap (λ x. record p { number = c.number; form = c.form; lane = c.lane; version = x }) (sym version)
-        ∙ ap (λ x. record p { number = c.number; form = c.form; lane = c.lane; version = c.version; keys = x }) (sym keys)
-        ∙ ap (λ x. record p { number = c.number; form = c.form; lane = c.lane; version = c.version; keys = c.keys; payload = x }) (sym payload) in
+    ap (λ x. record p { number = c.number; form = x }) (sym form)
+    ∙ ap (λ x. record p { number = c.number; form = c.form; lane = x }) (sym lane)
+    ∙ ap (λ x. record p { number = c.number; form = c.form; lane = c.lane; version = x }) (sym version)
+    ∙ ap (λ x. record p { number = c.number; form = c.form; lane = c.lane; version = c.version; keys = x }) (sym keys)
+    ∙ ap (λ x. record p { number = c.number; form = c.form; lane = c.lane; version = c.version; keys = c.keys; payload = x }) (sym payload) in
     subst (λ x. IsBody x ws) same (IsBody-number c.number h fits number)

@@ -35,10 +35,10 @@ cleared_same_at f g same i =
     let head : g 0 ≡ f 0 = same 0 (omega arith) (head_stays (keys_of (f 0))) in
     rw head
     (choose_same (dec_le i (lines_of (f 0) * 4 - 1)) _ _ _ _
-        (λ within. choose_same (dec_le i (3 * keys_of (f 0))) _ _ _ _
-            (λ entry. choose_same (ℕ_discrete (i % 3) 1) _ _ _ _ (λ first. refl) (λ other. same i within (λ key. other key.1)))
-            (λ past. same i within (λ key. past key.0)))
-        (λ behind. refl))
+    (λ within. choose_same (dec_le i (3 * keys_of (f 0))) _ _ _ _
+    (λ entry. choose_same (ℕ_discrete (i % 3) 1) _ _ _ _ (λ first. refl) (λ other. same i within (λ key. other key.1)))
+    (λ past. same i within (λ key. past key.0)))
+    (λ behind. refl))
 
 -- regions that agree off the first words of their key entries are cleared to the same
 pub cleared_same : (f g : ℕ → ℕ) → Agrees f g → cleared g ≡ cleared f
@@ -50,8 +50,8 @@ unfolding cleared
 cleared_at f i within other =
     choose_first (dec_le i (lines_of (f 0) * 4 - 1)) _ _ within ∙
     choose_same (dec_le i (3 * keys_of (f 0))) _ (f i) (f i) (f i)
-        (λ entry. choose_second (ℕ_discrete (i % 3) 1) 0 (f i) (λ first. other (entry, first)))
-        (λ past. refl)
+    (λ entry. choose_second (ℕ_discrete (i % 3) 1) 0 (f i) (λ first. other (entry, first)))
+    (λ past. refl)
     ∙ choose_alike (dec_le i (3 * keys_of (f 0))) (f i)
 
 -- the first word stays

@@ -12,7 +12,7 @@ use Rattle.fish_layout.proofs.Sizes.{few_keys, few_value_bytes}
 -- the words of one entry more
 pub key_words-push : (number place offset : ℕ) (ks : List KeyPart) (k : KeyPart) →
     key_words number place offset (ks ++ k ∷ []) ≡
-        key_words number place offset ks ++ (k.prev ∷ entry_word number k.id (place + length ks) ∷ value_word k.value (offset + length (values_of ks)) ∷ [])
+    key_words number place offset ks ++ (k.prev ∷ entry_word number k.id (place + length ks) ∷ value_word k.value (offset + length (values_of ks)) ∷ [])
 key_words-push number place offset [] k =
     let here : place ≡ place + 0 = omega arith in
     let there : offset ≡ offset + 0 = omega arith in
@@ -22,7 +22,7 @@ key_words-push number place offset (x ∷ ks) k =
     let size = length (value_bytes x.value) in
     let next : place + 1 + length ks ≡ place + length (x ∷ ks) = omega arith in
     let after : offset + size + length (values_of ks) ≡ offset + length (values_of (x ∷ ks)) =
-        omega (arith, length-append (value_bytes x.value) (values_of ks)) in
+    omega (arith, length-append (value_bytes x.value) (values_of ks)) in
     let front = λ (l : List ℕ). x.prev ∷ entry_word number x.id place ∷ value_word x.value offset ∷ l in
     let behind = key_words number (place + 1) (offset + size) ks in
     ap front (key_words-push number (place + 1) (offset + size) ks k)
@@ -53,7 +53,7 @@ few_bytes_up ks i keys =
     let front = values_of (take i ks) in
     let behind = values_of (drop i ks) in
     let whole : front ++ behind ≡ values_of ks =
-        sym (flat_map-append (λ k. value_bytes k.value) (take i ks) (drop i ks)) ∙ ap values_of (take-append-drop i ks) in
+    sym (flat_map-append (λ k. value_bytes k.value) (take i ks) (drop i ks)) ∙ ap values_of (take-append-drop i ks) in
     omega (arith, length-append front behind, ap length whole, few_value_bytes 0 ks keys, few_keys 0 ks (omega arith) keys)
 
 -- the entries up to one and this one
@@ -93,10 +93,10 @@ value_at ks i k n m within is from end =
     let own = value_bytes k.value in
     let rest = values_of (drop (i + 1) ks) in
     let whole : values_of ks ≡ front ++ (own ++ rest) =
-        ap values_of (sym (take-append-drop (i + 1) ks))
-        ∙ flat_map-append (λ x. value_bytes x.value) (take (i + 1) ks) (drop (i + 1) ks)
-        ∙ ap (λ l. l ++ rest) (values_of-more ks i k within is)
-        ∙ append_assoc front own rest in
+    ap values_of (sym (take-append-drop (i + 1) ks))
+    ∙ flat_map-append (λ x. value_bytes x.value) (take (i + 1) ks) (drop (i + 1) ks)
+    ∙ ap (λ l. l ++ rest) (values_of-more ks i k within is)
+    ∙ append_assoc front own rest in
     let size : m - n ≡ length own = omega arith in
     ap (λ l. take (m - n) (drop n l)) whole
     ∙ ap (λ j. take (m - n) (drop j (front ++ (own ++ rest)))) from

@@ -71,7 +71,7 @@ pub length_of-void : (lines : ℕ) → lines < 2 ^ 16 → length_of (void_word l
 length_of-void lines h = ap length_of (omega arith) ∙ length_of-header (void_fits lines h)
 
 -- two forms with one code are one
-same_form : (f g : Form) → form_code f ≡ form_code g → g ≡ f
+pub same_form : (f g : Form) → form_code f ≡ form_code g → g ≡ f
 same_form Json Json e = refl
 same_form Csv Csv e = refl
 same_form Json Csv e = absurd (omega arith)

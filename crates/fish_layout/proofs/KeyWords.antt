@@ -27,28 +27,30 @@ pub record SaysKey (p : BodyParts) (e : ℕ → ℕ) (c : ℕ) (k : KeyPart) : T
 -- the words from the entry c on begin with its three
 entries_from : (number place offset : ℕ) (ks : List KeyPart) (t : List ℕ) (c : ℕ) (k : KeyPart) → c < length ks → k ≡ get_or ks c k →
     (rest : List ℕ) × (drop (3 * c) (key_words number place offset ks ++ t) ≡
-        k.prev ∷ entry_word number k.id (place + c) ∷ value_word k.value (offset + length (values_of (take c ks))) ∷ rest)
+    k.prev ∷ entry_word number k.id (place + c) ∷ value_word k.value (offset + length (values_of (take c ks))) ∷ rest)
 entries_from number place offset [] t c k within is = absurd (omega arith)
 entries_from number place offset (x ∷ ks) t zero k within is =
     let rest = key_words number (place + 1) (offset + length (value_bytes x.value)) ks ++ t in
     let here : place ≡ place + 0 = omega arith in
-    let there : offset ≡ offset + 0 = omega arith in
-    (rest,
+    let there : offset ≡ offset + 0 = omega arith in (
+      rest,
       ap (λ y. y.prev ∷ entry_word number y.id place ∷ value_word y.value offset ∷ rest) (sym is)
-      ∙ ap (λ n. k.prev ∷ entry_word number k.id n ∷ value_word k.value offset ∷ rest) here
-      ∙ ap (λ n. k.prev ∷ entry_word number k.id (place + 0) ∷ value_word k.value n ∷ rest) there)
+          ∙ ap (λ n. k.prev ∷ entry_word number k.id n ∷ value_word k.value offset ∷ rest) here
+          ∙ ap (λ n. k.prev ∷ entry_word number k.id (place + 0) ∷ value_word k.value n ∷ rest) there,
+    )
 entries_from number place offset (x ∷ ks) t (suc c) k within is =
     let size = length (value_bytes x.value) in
     let more = entries_from number (place + 1) (offset + size) ks t c k (omega arith) is in
     let further : 3 * suc c ≡ suc (suc (suc (3 * c))) = omega arith in
     let here : place + 1 + c ≡ place + suc c = omega arith in
     let there : offset + size + length (values_of (take c ks)) ≡ offset + length (values_of (take (suc c) (x ∷ ks))) =
-        omega (arith, length-append (value_bytes x.value) (values_of (take c ks))) in
-    (more.0,
+    omega (arith, length-append (value_bytes x.value) (values_of (take c ks))) in (
+      more.0,
       ap (λ n. drop n (key_words number place offset (x ∷ ks) ++ t)) further
-      ∙ more.1
-      ∙ ap (λ n. k.prev ∷ entry_word number k.id n ∷ value_word k.value (offset + size + length (values_of (take c ks))) ∷ more.0) here
-      ∙ ap (λ n. k.prev ∷ entry_word number k.id (place + suc c) ∷ value_word k.value n ∷ more.0) there)
+          ∙ more.1
+          ∙ ap (λ n. k.prev ∷ entry_word number k.id n ∷ value_word k.value (offset + size + length (values_of (take c ks))) ∷ more.0) here
+          ∙ ap (λ n. k.prev ∷ entry_word number k.id (place + suc c) ∷ value_word k.value n ∷ more.0) there,
+    )
 
 -- the words of a record from the entry c on begin with its three
 body_from : (p : BodyParts) (c : ℕ) (k : KeyPart) → c < length p.keys → k ≡ get_or p.keys c k →
@@ -57,13 +59,14 @@ body_from p c k within is =
     let from = entries_from p.number 0 0 p.keys (after_keys p) c k within is in
     let behind : entry_at c ≡ suc (3 * c) = omega arith in
     let here : 0 + c ≡ c = omega arith in
-    let there : 0 + length (values_of (take c p.keys)) ≡ length (values_of (take c p.keys)) = omega arith in
-    (from.0,
+    let there : 0 + length (values_of (take c p.keys)) ≡ length (values_of (take c p.keys)) = omega arith in (
+      from.0,
       ap (drop (entry_at c)) (body_parted p)
-      ∙ ap (λ n. drop n (body_header p ∷ (key_words p.number 0 0 p.keys ++ after_keys p))) behind
-      ∙ from.1
-      ∙ ap (λ n. k.prev ∷ entry_word p.number k.id n ∷ value_word k.value (0 + length (values_of (take c p.keys))) ∷ from.0) here
-      ∙ ap (λ n. k.prev ∷ entry_word p.number k.id c ∷ value_word k.value n ∷ from.0) there)
+          ∙ ap (λ n. drop n (body_header p ∷ (key_words p.number 0 0 p.keys ++ after_keys p))) behind
+          ∙ from.1
+          ∙ ap (λ n. k.prev ∷ entry_word p.number k.id n ∷ value_word k.value (0 + length (values_of (take c p.keys))) ∷ from.0) here
+          ∙ ap (λ n. k.prev ∷ entry_word p.number k.id c ∷ value_word k.value n ∷ from.0) there,
+    )
 
 -- a word of a list behind a place
 word_behind : (ws : List ℕ) (n i m : ℕ) (l : List ℕ) → drop n ws ≡ l → m ≡ n + i → get_or ws m 0 ≡ get_or l i 0
@@ -76,20 +79,20 @@ entry_fields : (number id place w : ℕ) → number < 2 ^ 28 → id < 2 ^ 8 → 
     (entry_number w ≡ number) × (entry_id w ≡ id) × (entry_place w ≡ place)
 unfolding entry_number entry_id entry_place
 entry_fields number id place w n i c is = (
-    field_is (id + place * 2 ^ 8) 28 number 0 0 w (omega arith) (omega arith) n,
-    field_is place 8 id 28 number w (omega arith) n i,
-    field_is 0 9 place 36 (number + id * 2 ^ 28) w (omega arith) (omega arith) c
-  )
+  field_is (id + place * 2 ^ 8) 28 number 0 0 w (omega arith) (omega arith) n,
+  field_is place 8 id 28 number w (omega arith) n i,
+  field_is 0 9 place 36 (number + id * 2 ^ 28) w (omega arith) (omega arith) c,
+)
 
 -- the fields of the third word
 value_fields : (code size offset w : ℕ) → code < 2 ^ 2 → size < 2 ^ 9 → offset < 2 ^ 18 → w ≡ packed_value code size offset →
     (value_kind w ≡ code) × (value_size w ≡ size) × (value_offset w ≡ offset)
 unfolding value_kind value_size value_offset
 value_fields code size offset w c s o is = (
-    field_is (size + offset * 2 ^ 9) 2 code 0 0 w (omega arith) (omega arith) c,
-    field_is offset 9 size 2 code w (omega arith) c s,
-    field_is 0 18 offset 11 (code + size * 2 ^ 2) w (omega arith) (omega arith) o
-  )
+  field_is (size + offset * 2 ^ 9) 2 code 0 0 w (omega arith) (omega arith) c,
+  field_is offset 9 size 2 code w (omega arith) c s,
+  field_is 0 18 offset 11 (code + size * 2 ^ 2) w (omega arith) (omega arith) o,
+)
 
 -- a kind's code has two bits
 kind_fits : (v : Value) → kind_code v < 2 ^ 2
@@ -109,7 +112,7 @@ words_say p e c k h same within is =
     let third = word_behind (body_words p) (entry_at c) 2 (entry_at c + 2) _ from.1 (omega arith) in
     let entry = entry_fields p.number k.id c (e (entry_at c + 1)) h.number proper.0 (omega (arith, few_keys_of h)) (same (entry_at c + 1) ∙ second) in
     let value = value_fields (kind_code k.value) (length (value_bytes k.value)) offset (e (entry_at c + 2)) (kind_fits k.value)
-        (omega (arith, few_bytes k.value proper.1)) (omega (arith, few_bytes_at p.keys c k h.keys within is)) (same (entry_at c + 2) ∙ third) in
+    (omega (arith, few_bytes k.value proper.1)) (omega (arith, few_bytes_at p.keys c k h.keys within is)) (same (entry_at c + 2) ∙ third) in
     record {
       prev = same (entry_at c) ∙ first;
       number = entry.0;

@@ -7,6 +7,7 @@ pub mod Headers
 pub mod KeyWords
 pub mod Links
 pub mod Numbers
+pub mod Once
 pub mod Outlines
 pub mod Sizes
 pub mod Spelled

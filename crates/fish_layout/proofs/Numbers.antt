@@ -46,8 +46,8 @@ numbered_length m p = length-words_behind (numbered m p) ∙ sym (length-words_b
 numbered_parted : (m : ℕ) (p : BodyParts) → body_words (numbered m p) ≡ body_header p ∷ (key_words m 0 0 p.keys ++ after_keys p)
 numbered_parted m p =
     let words = λ (n : ℕ).
-        header_word ((1 + n + 3) / 4) (form_code p.form) (length p.keys) p.lane p.version (length p.payload)
-        ∷ (key_words m 0 0 p.keys ++ (words_of_bytes (values_of p.keys) ++ (words_of_bytes p.payload ++ replicate ((1 + n + 3) / 4 * 4 - (1 + n)) 0))) in
+    header_word ((1 + n + 3) / 4) (form_code p.form) (length p.keys) p.lane p.version (length p.payload)
+    ∷ (key_words m 0 0 p.keys ++ (words_of_bytes (values_of p.keys) ++ (words_of_bytes p.payload ++ replicate ((1 + n + 3) / 4 * 4 - (1 + n)) 0))) in
     body_parted (numbered m p) ∙ ap words (numbered_length m p)
 
 -- a word that is the second of no key entry stays
@@ -74,25 +74,25 @@ pub body_numbered : {p : BodyParts} {ws : List ℕ} (m : ℕ) (new : List ℕ) �
 body_numbered {p} {ws} m new h fits size others entries =
     let word : (i : ℕ) → get_or ws i 0 ≡ get_or (body_words p) i 0 = λ i. ap (λ b. get_or b i 0) h.is in
     let stays : (i : ℕ) → ¬ IsNumberWord (length p.keys) i → get_or new i 0 ≡ get_or (body_words (numbered m p)) i 0 =
-        λ i other. others i other ∙ word i ∙ sym (numbered_at m p i other) in
+    λ i other. others i other ∙ word i ∙ sym (numbered_at m p i other) in
     let same : (i : ℕ) → get_or new i 0 ≡ get_or (body_words (numbered m p)) i 0 =
-        λ i. elim (dec_le i (3 * length p.keys)) [
-          | yes entry ↦ (elim (ℕ_discrete (i % 3) 2) [
-            | yes second ↦ entries i (entry, second) ∙ ap (λ w. renumbered w m) (word i) ∙ sym (numbered_key m p i h.proper.number (entry, second))
-            | no other ↦ stays i (λ key. other key.1)
-          ])
-          | no past ↦ stays i (λ key. past key.0)
-        ] in
+    λ i. elim (dec_le i (3 * length p.keys)) [
+      | yes entry ↦ (elim (ℕ_discrete (i % 3) 2) [
+        | yes second ↦ entries i (entry, second) ∙ ap (λ w. renumbered w m) (word i) ∙ sym (numbered_key m p i h.proper.number (entry, second))
+        | no other ↦ stays i (λ key. other key.1)
+      ])
+      | no past ↦ stays i (λ key. past key.0)
+    ] in
     let proper : IsProper (numbered m p) =
-        record {
-          some_lane = h.proper.some_lane;
-          lane = h.proper.lane;
-          version = h.proper.version;
-          number = fits;
-          keys = h.proper.keys;
-          short = h.proper.short;
-          text = h.proper.text;
-        } in
+    record {
+      some_lane = h.proper.some_lane;
+      lane = h.proper.lane;
+      version = h.proper.version;
+      number = fits;
+      keys = h.proper.keys;
+      short = h.proper.short;
+      text = h.proper.text;
+    } in
     record {
       proper = proper;
       is = ext_get_or 0 new (body_words (numbered m p)) (omega (arith, body_length h, length-body_words (numbered m p), numbered_length m p)) (λ i _. same i);

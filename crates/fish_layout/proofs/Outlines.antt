@@ -41,7 +41,7 @@ drop_values p =
     let entries = key_words p.number 0 0 p.keys in
     let values = words_of_bytes (values_of p.keys) in
     let behind : payload_place p ≡ suc (length entries + length values) =
-        omega (arith, length-key_words p.number 0 0 p.keys, length-words_of_bytes (values_of p.keys)) in
+    omega (arith, length-key_words p.number 0 0 p.keys, length-words_of_bytes (values_of p.keys)) in
     ap (drop (payload_place p)) (body_parted p)
     ∙ ap (λ n. drop n (body_header p ∷ (entries ++ after_keys p))) behind
     ∙ drop-append-add entries (after_keys p) (length values)
@@ -77,7 +77,7 @@ last_key {p} {ws} h k n last is =
     let place : 3 * (n + 1) ≡ entry_at n + 2 = omega arith in
     let word = ap (λ i. get_or ws i 0) place in
     let whole : values_of p.keys ≡ values_of (take n p.keys) ++ value_bytes k.value =
-        ap values_of (sym (take_all (n + 1) p.keys (omega arith))) ∙ values_of-more p.keys n k (omega arith) is in
+    ap values_of (sym (take_all (n + 1) p.keys (omega arith))) ∙ values_of-more p.keys n k (omega arith) is in
     omega (arith, ap length whole, length-append (values_of (take n p.keys)) (value_bytes k.value), says.offset, says.size, ap value_offset word, ap value_size word)
 
 -- the bytes of the values, by the last key entry

@@ -42,8 +42,14 @@ pub length-words_behind : (p : BodyParts) → length (words_behind p) ≡ 3 * le
 length-words_behind p =
     let keys = key_words p.number 0 0 p.keys in
     let values = words_of_bytes (values_of p.keys) in
-    omega (arith, length-append (keys ++ values) (words_of_bytes p.payload), length-append keys values, length-key_words p.number 0 0 p.keys,
-        length-words_of_bytes (values_of p.keys), length-words_of_bytes p.payload)
+    omega (
+      arith,
+      length-append (keys ++ values) (words_of_bytes p.payload),
+      length-append keys values,
+      length-key_words p.number 0 0 p.keys,
+      length-words_of_bytes (values_of p.keys),
+      length-words_of_bytes p.payload,
+    )
 
 -- a record has at most 256 keys
 pub few_keys_of : {p : BodyParts} → IsProper p → length p.keys ≤ 256

@@ -66,7 +66,7 @@ cleared_body_at p h i =
     let lines : lines_of (f 0) ≡ body_lines p = ap lines_of (body_head p) ∙ lines_of-header (header_fits p h) in
     let keys : keys_of (f 0) ≡ length p.keys = ap keys_of (body_head p) ∙ keys_of-header (header_fits p h) in
     let stays : i ≤ lines_of (f 0) * 4 - 1 → ¬ IsKeyWord (keys_of (f 0)) i → cleared f i ≡ get_or (body_words (relinked (λ _. 0) p)) i 0 =
-        λ within other. cleared_at f i within other ∙ sym (relinked_at (λ _. 0) p i (subst (λ n. ¬ IsKeyWord n i) keys other)) in
+    λ within other. cleared_at f i within other ∙ sym (relinked_at (λ _. 0) p i (subst (λ n. ¬ IsKeyWord n i) keys other)) in
     elim (dec_le i (lines_of (f 0) * 4 - 1)) [
       | yes within ↦ (elim (dec_le i (3 * keys_of (f 0))) [
         | yes entry ↦ (elim (ℕ_discrete (i % 3) 1) [
@@ -84,7 +84,7 @@ cleared_body_at p h i =
 pub spelled_body : {p : BodyParts} (ws : List ℕ) → IsBody p ws → Spells (unlinked p) (body_of ws)
 spelled_body {p} ws h =
     let same : (i : ℕ) → body_of ws i ≡ get_or (body_words (unlinked p)) i 0 =
-        λ i. ap (λ b. body_of b i) h.is ∙ cleared_body_at p h.proper i ∙ ap (λ q. get_or (body_words q) i 0) (unlinked_is p) in
+    λ i. ap (λ b. body_of b i) h.is ∙ cleared_body_at p h.proper i ∙ ap (λ q. get_or (body_words q) i 0) (unlinked_is p) in
     record {
       proper = subst IsProper (unlinked_is p) (relinked_proper (λ _. 0) p h.proper);
       unlinked = AreUnlinked-unlink p.keys;
@@ -100,24 +100,24 @@ body_spelled {p} ws size s =
     let lines : lines_of (f 0) ≡ body_lines p = ap lines_of (sym (cleared_head f)) ∙ spelled_lines s in
     let keys : keys_of (f 0) ≡ length p.keys = ap keys_of (sym (cleared_head f)) ∙ spelled_keys s in
     let stays : (i : ℕ) → i < length ws → ¬ IsKeyWord (length p.keys) i → f i ≡ get_or (body_words q) i 0 =
-        λ i within other.
-            sym (cleared_at f i (omega arith) (subst (λ n. ¬ IsKeyWord n i) (sym keys) other)) ∙ s.words i ∙ sym (relinked_at r p i other) in
+    λ i within other.
+    sym (cleared_at f i (omega arith) (subst (λ n. ¬ IsKeyWord n i) (sym keys) other)) ∙ s.words i ∙ sym (relinked_at r p i other) in
     let same : (i : ℕ) → i < length ws → f i ≡ get_or (body_words q) i 0 =
-        λ i within. elim (dec_le i (3 * length p.keys)) [
-          | yes entry ↦ (elim (ℕ_discrete (i % 3) 1) [
-            | yes first ↦ ap f (omega arith) ∙ sym (relinked_key r p i (entry, first))
-            | no other ↦ stays i within (λ key. other key.1)
-          ])
-          | no past ↦ stays i within (λ key. past key.0)
-        ] in
+    λ i within. elim (dec_le i (3 * length p.keys)) [
+      | yes entry ↦ (elim (ℕ_discrete (i % 3) 1) [
+        | yes first ↦ ap f (omega arith) ∙ sym (relinked_key r p i (entry, first))
+        | no other ↦ stays i within (λ key. other key.1)
+      ])
+      | no past ↦ stays i within (λ key. past key.0)
+    ] in
     let body : IsBody q ws =
-        record {
-          proper = relinked_proper r p s.proper;
-          is = ext_get_or 0 ws (body_words q) (omega (arith, length-body_words q, relinked_lines r p)) same;
-        } in
+    record {
+      proper = relinked_proper r p s.proper;
+      is = ext_get_or 0 ws (body_words q) (omega (arith, length-body_words q, relinked_lines r p)) same;
+    } in
     let back : unlinked q ≡ p =
-        sym (unlinked_is q)
-        ∙ ap (λ keys. record p { keys = keys }) (relink-relink (λ _. 0) r 0 p.keys ∙ relink-none 0 p.keys ∙ unlink-unlinked p.keys s.unlinked) in
+    sym (unlinked_is q)
+    ∙ ap (λ keys. record p { keys = keys }) (relink-relink (λ _. 0) r 0 p.keys ∙ relink-none 0 p.keys ∙ unlink-unlinked p.keys s.unlinked) in
     (q, body, back)
 
 -- the header's word says the fields of the parts

@@ -14,7 +14,12 @@ use fish_value::{Sequence, Text, Value};
 use std::alloc::{AllocError, Global};
 
 /// So many key entries of words, with values from these bytes, or none where an entry can be none.
-pub(crate) fn read_keys(alloc: Global, words: &[u64], count: usize, values: &[u8]) -> Result<Option<KeyParts>, AllocError>
+pub(crate) fn read_keys(
+    alloc: Global,
+    words: &[u64],
+    count: usize,
+    values: &[u8],
+) -> Result<Option<KeyParts>, AllocError>
     requires few { count < 2 ^ 9 }
     requires room { 3 * count < length words.now }
     ensures keys { IfOk result (λ o. (p : BodyParts) → IsBody p words.now → count ≡ length p.keys → values.now ≡ values_of p.keys → o ≡ Some p.keys) }
@@ -31,7 +36,12 @@ pub(crate) fn read_keys(alloc: Global, words: &[u64], count: usize, values: &[u8
 }
 
 /// The key entry at a place, or none where the words can be none.
-fn read_key(alloc: Global, words: &[u64], place: usize, values: &[u8]) -> Result<Option<KeyPart>, AllocError>
+fn read_key(
+    alloc: Global,
+    words: &[u64],
+    place: usize,
+    values: &[u8],
+) -> Result<Option<KeyPart>, AllocError>
     requires few { place < 2 ^ 9 }
     requires room { 3 * place + 3 < length words.now }
     ensures { IfOk result (λ o. (p : BodyParts) (k : KeyPart) → IsBody p words.now → values.now ≡ values_of p.keys → place < length p.keys → k ≡ slice_index_or p.keys place k → o ≡ Some k) }

@@ -12,6 +12,8 @@ mod outline;
 mod parts;
 mod proper;
 mod read;
+#[cfg(test)]
+mod tests;
 mod word;
 mod write;
 

@@ -12,8 +12,6 @@ use crate::outline::outline_of;
 use crate::parts::BodyParts;
 use crate::proper::is_proper;
 use crate::word::number_in;
-
-
 use crate::write::{body_of, words_for};
 use fish_value::{Form, Text};
 use std::alloc::{AllocError, Global};

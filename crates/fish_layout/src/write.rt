@@ -34,7 +34,10 @@ fn count_lines(parts: &BodyParts) -> usize
     ensures fits { result ≤ 18625 }
 {
     let keys = parts.keys.as_slice();
-    let words = 1 + 3 * keys.len() + words_for(value_len(keys)) + words_for(parts.payload.as_bytes().len());
+    let words = 1
+        + 3 * keys.len()
+        + words_for(value_len(keys))
+        + words_for(parts.payload.as_bytes().len());
     (words + 3) / 4
 }
 
@@ -113,7 +116,12 @@ fn push_keys(words: &mut Vec<u64>, number: u32, keys: &[KeyPart]) -> Result<(), 
 }
 
 /// Puts the three words of a key entry behind the others.
-fn push_key(words: &mut Vec<u64>, key: &KeyPart, entry: u64, offset: usize) -> Result<(), AllocError>
+fn push_key(
+    words: &mut Vec<u64>,
+    key: &KeyPart,
+    entry: u64,
+    offset: usize,
+) -> Result<(), AllocError>
     requires value { IsProperValue key.now.value }
     requires offset { offset < 2 ^ 18 }
     ensures { OnOk result (words.new.items ≡ words.old.items ++ (key.now.prev ∷ entry ∷ value_word key.now.value offset ∷ [])) }

@@ -37,7 +37,7 @@ returns c p h =
     let keys = keys_are c.body.inside.words.items c.args.body.now p c.index.result.now c.keys_in-keys.result view h c.index.ensures c.keys_in-keys.ensures.value in
     let new = c.renumber_keys.new.words.items in
     let others : (i : ℕ) → ¬ IsNumberWord (length p.keys) i → get_or new i 0 ≡ get_or c.args.body.now i 0 =
-        λ i other. c.renumber_keys.ensures.others i (subst (λ n. ¬ IsNumberWord n i) (sym keys) other) ∙ ap (λ b. get_or b i 0) view in
+    λ i other. c.renumber_keys.ensures.others i (subst (λ n. ¬ IsNumberWord n i) (sym keys) other) ∙ ap (λ b. get_or b i 0) view in
     let entries : (i : ℕ) → IsNumberWord (length p.keys) i → get_or new i 0 ≡ renumbered (get_or c.args.body.now i 0) c.args.number =
-        λ i key. c.renumber_keys.ensures.entries i (subst (λ n. IsNumberWord n i) (sym keys) key) ∙ ap (λ b. renumbered (get_or b i 0) c.args.number) view in
+    λ i key. c.renumber_keys.ensures.entries i (subst (λ n. IsNumberWord n i) (sym keys) key) ∙ ap (λ b. renumbered (get_or b i 0) c.args.number) view in
     body_numbered c.args.number new h c.requires.number (c.renumber_keys.ensures.len ∙ ap length view) others entries

@@ -13,12 +13,12 @@ returns-else-has_limits c some =
       | else-has_limits-via-then-has_limits+else-pack_header-word w ↦ omega arith
       | else-has_limits-via-else-has_limits w ↦
           (let yes : c.has_limits.result ≡ true =
-              c.has_limits.ensures.1 (record {
-                some_lines = omega arith;
-                keys = omega arith;
-                some_lane = omega arith;
-                lane = omega arith;
-                version = omega arith;
-                length = omega arith;
-              }) in cc)
+          c.has_limits.ensures.1 (record {
+            some_lines = omega arith;
+            keys = omega arith;
+            some_lane = omega arith;
+            lane = omega arith;
+            version = omega arith;
+            length = omega arith;
+          }) in cc)
     ]

@@ -27,16 +27,16 @@ returns-then-words-payload_at c some =
 
 pub returns : goal.returns
 returns c = (
-    record { keys = omega arith; values = omega arith; payload = omega arith; all = omega arith; },
-    λ p h.
-        let says = body_says h in
-        let keys = c.keys_in-keys.ensures.value ∙ says.keys in
-        record {
-          form = c.in-Some.ensures p.form (sym says.form ∙ sym c.form_in.ensures);
-          lane = c.lane_in.ensures.value ∙ says.lane;
-          version = c.version_in.ensures.value ∙ says.version;
-          keys = keys;
-          values = c.values_len.ensures.value p h keys;
-          payload = c.length_in.ensures.value ∙ says.length;
-        }
-  )
+  record { keys = omega arith; values = omega arith; payload = omega arith; all = omega arith },
+  λ p h.
+      let says = body_says h in
+      let keys = c.keys_in-keys.ensures.value ∙ says.keys in
+      record {
+        form = c.in-Some.ensures p.form (sym says.form ∙ sym c.form_in.ensures);
+        lane = c.lane_in.ensures.value ∙ says.lane;
+        version = c.version_in.ensures.value ∙ says.version;
+        keys = keys;
+        values = c.values_len.ensures.value p h keys;
+        payload = c.length_in.ensures.value ∙ says.length;
+      },
+)

@@ -32,14 +32,14 @@ returns-clause-found c p h =
     let payload : c.in-Some-3.payload ≡ p.payload = value ∙ outline_payload h is c.payload_at.result c.payload_at.ensures in
     let number : 0 < length p.keys → c.number_of.result ≡ p.number = λ some. c.number_of.ensures.value p h is.keys (omega arith) in
     let parts : BodyParts =
-        record {
-          form = c.in-Some.outline.form;
-          lane = c.in-Some.outline.lane;
-          version = c.in-Some.outline.version;
-          number = c.number_of.result;
-          keys = c.in-Some-2.keys;
-          payload = c.in-Some-3.payload;
-        } in
+    record {
+      form = c.in-Some.outline.form;
+      lane = c.in-Some.outline.lane;
+      version = c.in-Some.outline.version;
+      number = c.number_of.result;
+      keys = c.in-Some-2.keys;
+      payload = c.in-Some-3.payload;
+    } in
     (parts, refl, candidate parts h is.form is.lane is.version keys payload c.number_of.ensures.fits number)
 
 pub returns-clause-number : goal.returns-clause-number

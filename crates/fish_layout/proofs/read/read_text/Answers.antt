@@ -6,6 +6,6 @@ use Rattle.fish_layout.proofs.read.read_text.Goals as goal
 
 pub returns-in-Ok-clause-text : goal.returns-in-Ok-clause-text
 returns-in-Ok-clause-text c = (
-    λ _. subst IsUtf8 (ap (λ v. v.items) c.in-Ok.ensures.ok ∙ c.in_ok-bytes.ensures) (IsUtf8-string_bytes c.in-Ok.text),
-    λ _. refl
-  )
+  λ _. subst IsUtf8 (ap (λ v. v.items) c.in-Ok.ensures.ok ∙ c.in_ok-bytes.ensures) (IsUtf8-string_bytes c.in-Ok.text),
+  λ _. refl,
+)

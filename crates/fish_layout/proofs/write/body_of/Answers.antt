@@ -10,9 +10,9 @@ returns c =
     let p = c.args.parts.now in
     let front = body_header p ∷ words_behind p in
     let made : c.push_words.new.words.items ≡ front =
-        c.in_ok-push_words.ensures
-        ∙ ap (λ l. l ++ words_behind p) (c.in_ok-push.ensures.items ∙ ap (λ l. l ++ (c.header_word_of.result ∷ [])) c.in_ok-words.ensures.items)
-        ∙ ap (λ x. x ∷ words_behind p) c.header_word_of.ensures in
+    c.in_ok-push_words.ensures
+    ∙ ap (λ l. l ++ words_behind p) (c.in_ok-push.ensures.items ∙ ap (λ l. l ++ (c.header_word_of.result ∷ [])) c.in_ok-words.ensures.items)
+    ∙ ap (λ x. x ∷ words_behind p) c.header_word_of.ensures in
     let size : vec_len c.push_words.new.words ≡ 1 + length (words_behind p) = omega (arith, ap length made, c.push_words.new.words.ok.0) in
     let lines = c.count_lines-lines.ensures.value in
     c.of_words.ensures

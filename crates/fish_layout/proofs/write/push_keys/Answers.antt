@@ -30,7 +30,7 @@ loop-place-preserved c =
     let key = c.index-keys-place.result in
     let more = values_of-more keys c.loop-place.place key (omega arith) c.index-keys-place.is in
     let words = key_words-more c.args.number keys c.loop-place.place key c.loop-place.offset c.pack_entry.result (omega arith) c.index-keys-place.is
-        c.pack_entry.ensures c.loop-place.invariant.offset in
+    c.pack_entry.ensures c.loop-place.invariant.offset in
     let own : List ℕ = key.prev ∷ c.pack_entry.result ∷ value_word key.value c.loop-place.offset ∷ [] in
     record {
       words =
