@@ -1,5 +1,5 @@
 -- The log that the words spell, and what a pass knows of it.
-use Rattle.std.specs.Prelude.{ℕ, ◌≡◌, ◌≢◌, ◌+◌, ◌*◌, ◌<◌, ◌≤◌, List, [], ◌∷◌, length, slice_index, Bool, true}
+use Rattle.std.specs.Prelude.{ℕ, ◌≡◌, ◌≢◌, ◌+◌, ◌*◌, ◌<◌, ◌≤◌, List, [], ◌∷◌, length, slice_index, Option, Some, None}
 use Rattle.std.proofs.Common.{◌⊎◌}
 use mathlib.Core.Option.{some}
 use Rattle.std.proofs.Math.ListN.{get_elem?}
@@ -81,3 +81,14 @@ pub record IsClosed (v : View) (entries : List Entry) : Type 0 where
   pub log : IsLog v.about moment entries
   pub own : Owns v.about moment.count moment.dir rule.lane_of v.lane v.out v.own
   pub facts : Facts v.about moment.count moment.dir moment.log rule.start v.learned
+
+-- ---- one log
+
+-- the number at which the log ends, in every moment of a view that knows as much
+abbrev pub TellsMark : View → ℕ → Type 0
+TellsMark v n = (u : View) → Learns v u → (w : World) → Rule u.about w → (j : ℕ) → get_elem? w.views j ≡ some u → high (w.dir n) ≡ code Mark
+
+-- what a number was found to be: an entry, or a mark
+abbrev pub TellsNext : View → ℕ → Option Entry → Type 0
+TellsNext v n None = TellsMark v n
+TellsNext v n (Some e) = Tells v n e

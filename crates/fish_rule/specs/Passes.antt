@@ -14,3 +14,7 @@ pub record IsPassOf (log : Log) (p : Pass) : Type 0 where
   pub table : p.seat.table_id ≡ log.table.shared.table_id
   pub about : (view p).about ≡ log.key
   pub stands : Stands (view p)
+
+-- two values of one log
+abbrev pub IsOf : Log → Log → Type 0
+IsOf log other = other.table.shared.table_id ≡ log.table.shared.table_id

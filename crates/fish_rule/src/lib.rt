@@ -5,6 +5,7 @@
 //! start. No other crate touches a shared word.
 #![tactic(auto)]
 
+mod close;
 mod entry;
 mod plays;
 mod seats;
@@ -14,6 +15,7 @@ mod table;
 mod tests;
 mod view;
 
+pub use close::{CloseWant, Remains, close_log, kind_of_word};
 pub use entry::{read_record, read_region};
 pub use seats::{Start, base, join_pass, open_log, shape, split_pass};
 pub use steps::{

@@ -1,0 +1,25 @@
+-- The kinds by their codes.
+use Rattle.std.proofs.Common.{◌≡◌, ◌≢◌, ◌/◌, ◌∙◌, sym, refl, ap, subst, ℕ, zero, suc, arith}
+use Rattle.fish_rule.specs.Steps.{kind_told}
+use Rattle.fish_rule.specs.World.{high}
+use Rattle.fish_rule.specs.declared.view.Kind.TheVariants.{Mark}
+use Rattle.fish_rule.proofs.close.kind_of_word.Goals as goal
+
+-- another code is a mark's
+other : (x : ℕ) → x ≢ 1 → x ≢ 2 → Mark ≡ kind_told x
+other zero a b = refl
+other (suc zero) a b = absurd (a refl)
+other (suc (suc zero)) a b = absurd (b refl)
+other (suc (suc (suc x))) a b = refl
+
+pub returns-in-1 : goal.returns-in-1
+unfolding high
+returns-in-1 c = ?
+
+pub returns-in-2 : goal.returns-in-2
+unfolding high
+returns-in-2 c = ?
+
+pub returns-in_default : goal.returns-in_default
+unfolding high
+returns-in_default c = ?
