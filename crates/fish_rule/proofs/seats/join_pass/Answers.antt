@@ -1,4 +1,4 @@
-use Rattle.std.proofs.Common.{◌≡◌, ℕ, ◌<◌, ◌≤◌, sym, ap, ◌∙◌, subst, arith}
+use Rattle.std.proofs.Common.{◌≡◌, ℕ, ◌<◌, sym, ap, ◌∙◌, subst, arith}
 use Rattle.fish_rule.proofs.Allowed.{end_allowed}
 use Rattle.fish_rule.proofs.Standing.{joins}
 use Rattle.fish_rule.specs.Table.{Sat}
@@ -10,7 +10,8 @@ join_seat-requires c =
     let log = c.args.log.now in
     let seat = c.args.main.now.seat in
     let other = c.args.other in
-    (c.requires.main.table, c.requires.other.table, other.bare, subst (λ (z : ℕ). 0 < z) (sym log.wide) (omega arith), joins log.table.shared.key seat.id seat.me.0 other.seat.id other.seat.me.0 c.requires.can)
+    (c.requires.main.table, c.requires.other.table, other.bare, subst (λ (z : ℕ). 0 < z) (sym log.wide) (omega arith),
+    joins log.table.shared.key seat.id seat.me.0 other.seat.id other.seat.me.0 c.requires.can)
 
 -- and a load of the tail
 pub load-requires : goal.load-requires

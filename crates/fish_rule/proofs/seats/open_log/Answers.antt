@@ -1,8 +1,6 @@
-use Rattle.std.proofs.Common.{◌≡◌, ℕ, List, sym, ap, ◌∙◌, subst}
+use Rattle.std.proofs.Common.{sym, ap, ◌∙◌, subst}
 use Rattle.fish_rule.proofs.Begins.{begins, empty_start, first_fits, first_stands}
-use Rattle.fish_rule.specs.Start.{IsEmpty}
 use Rattle.fish_rule.specs.Table.{Sat, Stands}
-use Rattle.fish_rule.specs.World.{total}
 use Rattle.fish_rule.specs.declared.view.View.{View}
 use Rattle.fish_rule.proofs.seats.open_log.Goals as goal
 
