@@ -5,9 +5,11 @@ use Rattle.std.proofs.Math.Decide.{ℕ_discrete, dec_le}
 use Rattle.std.proofs.Math.ListN.{get_elem?}
 use Rattle.atomic_table.proofs.Lists.{at_longer}
 use Rattle.fish_layout.specs.Cleared.{choose}
+use Rattle.fish_rule.specs.Parts.{ShutOk}
 use Rattle.fish_rule.specs.Seating.{first_shut, greater, of_lane, off_lane, without}
 use Rattle.fish_rule.specs.Views.{Among, Has, HasFlight, IsOver}
 use Rattle.fish_rule.specs.declared.view.Flight.{Flight}
+use Rattle.fish_rule.specs.declared.view.Key.{Key}
 use Rattle.fish_rule.specs.declared.view.Own.{Own}
 use Rattle.fish_rule.specs.declared.view.Shut.{Shut}
 use Rattle.fish_rule.specs.declared.view.View.{View}
@@ -152,6 +154,12 @@ pub first_shut_none : (a b : Option Shut) → first_shut a b ≡ None → (a ≡
 first_shut_none None b e = (refl, e)
 first_shut_none (Some s) b e = cc
 
+-- the claim that shut either pass is a mark
+pub shut_either : (k : Key) (count : ℕ) (dir start : ℕ → ℕ) (a b : Option Shut) → ShutOk k count dir start a → ShutOk k count dir start b
+    → ShutOk k count dir start (first_shut a b)
+shut_either k count dir start None b p q = q
+shut_either k count dir start (Some s) b p q = p
+
 -- ---- one more view behind the others
 
 -- at each place stands one of the others, or at the last the new one
@@ -162,7 +170,7 @@ snoc_cases [] u a (suc j) at = absurd (some-ne-none a (sym at))
 snoc_cases (v ∷ vs) u a zero at = inl at
 snoc_cases (v ∷ vs) u a (suc j) at =
     ⊎_elim (λ (t : get_elem? vs j ≡ some a). inl t) (λ (t : (j ≡ length vs) × (u ≡ a)). inr (ap suc t.0, t.1))
-        (snoc_cases vs u a j at)
+    (snoc_cases vs u a j at)
 
 -- where P holds at one place of the others at most, and at none if it holds of the new view, it holds at one place of all
 pub pairs_snoc : (P : View → Type 0) (vs : List View) (u : View) → ((j : ℕ) (a : View) → get_elem? vs j ≡ some a → P a → ¬ P u)
