@@ -1,6 +1,13 @@
+pub mod Bytes
+pub mod Candidates
 pub mod Clearing
+pub mod Entries
 pub mod Fields
 pub mod Headers
+pub mod KeyWords
 pub mod Links
+pub mod Numbers
+pub mod Outlines
 pub mod Sizes
 pub mod Spelled
+pub mod Utf8

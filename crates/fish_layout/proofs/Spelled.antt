@@ -119,3 +119,25 @@ body_spelled {p} ws size s =
         sym (unlinked_is q)
         ∙ ap (λ keys. record p { keys = keys }) (relink-relink (λ _. 0) r 0 p.keys ∙ relink-none 0 p.keys ∙ unlink-unlinked p.keys s.unlinked) in
     (q, body, back)
+
+-- the header's word says the fields of the parts
+pub record SaysParts (p : BodyParts) (w : ℕ) : Type 0 where
+  pub lines : lines_of w ≡ body_lines p
+  pub form : form_of w ≡ form_code p.form
+  pub keys : keys_of w ≡ length p.keys
+  pub lane : lane_of w ≡ p.lane
+  pub version : version_of w ≡ p.version
+  pub length : length_of w ≡ length p.payload
+
+-- a record's first word says the fields of its parts
+pub body_says : {p : BodyParts} {ws : List ℕ} → IsBody p ws → SaysParts p (get_or ws 0 0)
+body_says {p} {ws} h =
+    let head : get_or ws 0 0 ≡ body_header p = ap (λ b. get_or b 0 0) h.is ∙ body_head p in
+    record {
+      lines = ap lines_of head ∙ lines_of-header (header_fits p h.proper);
+      form = ap form_of head ∙ form_of-header (header_fits p h.proper);
+      keys = ap keys_of head ∙ keys_of-header (header_fits p h.proper);
+      lane = ap lane_of head ∙ lane_of-header (header_fits p h.proper);
+      version = ap version_of head ∙ version_of-header (header_fits p h.proper);
+      length = ap length_of head ∙ length_of-header (header_fits p h.proper);
+    }

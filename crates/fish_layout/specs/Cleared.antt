@@ -19,6 +19,10 @@ entry_at c = 1 + 3 * c
 abbrev pub IsKeyWord : ℕ → ℕ → Type 0
 IsKeyWord n i = (i ≤ 3 * n) × (i % 3 ≡ 1)
 
+-- of a record with n key entries, word i is the second of one
+abbrev pub IsNumberWord : ℕ → ℕ → Type 0
+IsNumberWord n i = (i ≤ 3 * n) × (i % 3 ≡ 2)
+
 -- the words of a region with the first words of its key entries put to 0, and 0 behind its lines
 unfoldable pub cleared : (ℕ → ℕ) → ℕ → ℕ
 cleared f i =

@@ -5,9 +5,18 @@
 //! a record are is a definition on its parts, in `specs/`.
 #![tactic(auto)]
 
+mod body;
 mod header;
+mod keys;
+mod outline;
 mod parts;
+mod proper;
+mod read;
 mod word;
+mod write;
 
+pub use body::{Body, set_number};
 pub use header::{Header, header_of, void_header};
 pub use parts::{BodyParts, KeyPart, KeyParts, MAX_KEYS, MAX_LANE, MAX_PAYLOAD, MAX_VERSION};
+pub use read::{Payload, read_body, read_payload};
+pub use write::body_of;

@@ -5,6 +5,7 @@
 
 ghost use Rattle.std.specs.Prelude.{◌≡◌, ◌<◌, ◌≤◌, ◌^◌};
 ghost use Rattle.fish_layout.specs.Body.{entry_word, packed_value};
+ghost use Rattle.fish_layout.specs.Entry.{entry_id, entry_number, renumbered, value_kind, value_offset, value_size};
 ghost use Rattle.fish_layout.specs.Header.{form_code, form_of, header_word, keys_of, lane_of, length_of, lines_of, version_of};
 
 use crate::header::Header;
@@ -109,4 +110,55 @@ pub(crate) fn pack_value(kind: u64, length: usize, offset: usize) -> u64
     ensures { result ≡ packed_value kind length offset }
 {
     kind + (length as u64) * 4 + (offset as u64) * 0x800
+}
+
+/// The record's number, by the second word of a key entry.
+#[tactic(auto, unfolding(crate::specs::Entry::entry_number, crate::specs::Header::field))]
+pub(crate) fn number_in(entry: u64) -> u32
+    ensures value { result ≡ entry_number entry }
+    ensures fits { result < 2 ^ 28 }
+{
+    (entry % 0x1000_0000) as u32
+}
+
+/// The definition's id, by the second word of a key entry.
+#[tactic(auto, unfolding(crate::specs::Entry::entry_id, crate::specs::Header::field))]
+pub(crate) fn id_in(entry: u64) -> u16
+    ensures { result ≡ entry_id entry }
+{
+    (entry / 0x1000_0000 % 0x100) as u16
+}
+
+/// The code of the value's kind, by the third word of a key entry.
+#[tactic(auto, unfolding(crate::specs::Entry::value_kind, crate::specs::Header::field))]
+pub(crate) fn kind_in(value: u64) -> u64
+    ensures { result ≡ value_kind value }
+{
+    value % 4
+}
+
+/// The length of the value's bytes, by the third word of a key entry.
+#[tactic(auto, unfolding(crate::specs::Entry::value_size, crate::specs::Header::field))]
+pub(crate) fn size_in(value: u64) -> usize
+    ensures value { result ≡ value_size value }
+    ensures fits { result < 2 ^ 9 }
+{
+    (value / 4 % 0x200) as usize
+}
+
+/// The offset of the value's bytes, by the third word of a key entry.
+#[tactic(auto, unfolding(crate::specs::Entry::value_offset, crate::specs::Header::field))]
+pub(crate) fn offset_in(value: u64) -> usize
+    ensures value { result ≡ value_offset value }
+    ensures fits { result < 2 ^ 18 }
+{
+    (value / 0x800 % 0x4_0000) as usize
+}
+
+/// The second word of a key entry with another number.
+pub(crate) fn renumber(entry: u64, number: u32) -> u64
+    requires { number < 2 ^ 28 }
+    ensures { result ≡ renumbered entry number }
+{
+    entry / 0x1000_0000 * 0x1000_0000 + u64::from(number)
 }

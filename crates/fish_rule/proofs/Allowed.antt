@@ -6,11 +6,11 @@ use mathlib.Core.Option.{some, none}
 use Rattle.std.proofs.Math.ListN.{get_elem?}
 use Rattle.atomic_table.proofs.Lists.{set_here}
 use Rattle.atomic_table.specs.Table.{Allows, State, keeps, step, stepped}
-use Rattle.fish_rule.proofs.Bodies.{high-pack, low-pack}
+use Rattle.fish_rule.proofs.Bodies.{high-pack, low-pack, tail_is}
 use Rattle.fish_rule.proofs.Bounds.{ends_within, starts_above}
 use Rattle.fish_rule.proofs.Claims.{claim_kept}
 use Rattle.fish_rule.proofs.Common.{all_among, within_list}
-use Rattle.fish_rule.proofs.Learns.{end_kept, end_rests, learns, lines_at, look_alone, look_kept}
+use Rattle.fish_rule.proofs.Learns.{end_kept, end_rests, learns, lines_at, look_alone, look_kept, look_known}
 use Rattle.fish_rule.proofs.OwnWords.{flight_is, store_kept, stored_place}
 use Rattle.fish_rule.proofs.Publishes.{publish_kept}
 use Rattle.fish_rule.proofs.Room.{few_lines, few_numbers, few_slots}
@@ -50,11 +50,6 @@ pub loaded_words : (k : Key) (ws : List ℕ) (vs : List View) (i : ℕ) → Rule
 loaded_words k ws vs i r = subst (λ (z : List ℕ). Rule k (world k z vs)) (sym (set-get_or ws i 0)) r
 
 -- ---- claim
-
--- the tail word is its count and its line
-tail_is : (x : ℕ) → low x + high x * 68719476736 ≡ x
-unfolding low high
-tail_is x = (let e = div-add-mod' x 68719476736 in omega arith)
 
 -- a fetch-and-add of one number and so many lines
 pub claim_allowed : (given k : Key) → given ≡ k → (size id : ℕ) (me : Sat) (x m : ℕ) → me.0.about ≡ k → CanClaim me.0 → 0 < m → m ≤ 18625 → x ≡ 68719476736 + m
@@ -150,6 +145,7 @@ look_allowed given k same size id me n i about can is = allowed given k same siz
       lines = lines;
       told = subst (λ (z : ℕ). Told me (after_look me.0 z lines x) (v', me.1)) (sym index) (record { view = refl; held = refl; stands = stands k _ id v' kept about (there vs id me.0 v' at) });
       alone = λ alone none_. look_alone k w r id me.0 at n can about alone (sym word ∙ none_);
+      known = λ f among same_. look_known k w r id me.0 at n x word f among (same_ ∙ index);
     }))
 
 -- a load of the tail

@@ -1,7 +1,7 @@
 -- Packed words, kinds of regions, and the bodies of regions that are stored word by word.
 use Rattle.std.proofs.Common.{◌≡◌, ◌≢◌, ℕ, ◌+◌, ◌-◌, ◌*◌, ◌/◌, ◌%◌, ◌<◌, ◌≤◌, zero, suc, List, [], ◌∷◌, length, get_or, sym, refl, ap, ◌∙◌, subst, inl, inr, ◌⊎◌, ⊎_elim, arith, Some, None, Option}
 use Rattle.std.proofs.Math.Decide.{ℕ_discrete, dec_lt, dec_le}
-use Rattle.std.proofs.lemmas.Nat.{div-mul-add, mod-mul-add}
+use Rattle.std.proofs.lemmas.Nat.{div-add-mod', div-mul-add, mod-mul-add}
 use Rattle.fish_layout.proofs.Clearing.{choose_first, choose_second, cleared_at, cleared_behind, cleared_head, cleared_same}
 use Rattle.fish_layout.proofs.Headers.{keys_of-void, lines_of-void}
 use Rattle.fish_layout.proofs.Spelled.{spelled_lines}
@@ -24,6 +24,11 @@ high-pack a b h = (let e : b + a * 68719476736 ≡ a * 68719476736 + b = omega a
 pub low-pack : (a b : ℕ) → b < 68719476736 → low (b + a * 68719476736) ≡ b
 unfolding low
 low-pack a b h = (let e : b + a * 68719476736 ≡ a * 68719476736 + b = omega arith in ap (λ (z : ℕ). z % 68719476736) e ∙ mod-mul-add a 68719476736 b h)
+
+-- a packed word is its two parts
+pub tail_is : (x : ℕ) → low x + high x * 68719476736 ≡ x
+unfolding low high
+tail_is x = (let e = div-add-mod' x 68719476736 in omega arith)
 
 -- ---- kinds
 

@@ -2,15 +2,15 @@
 use Rattle.std.proofs.Common.{◌≡◌, ◌≢◌, ℕ, ◌+◌, ◌-◌, ◌*◌, ◌<◌, ◌≤◌, zero, suc, List, [], ◌∷◌, length, set, sym, refl, ap, ◌∙◌, subst, inl, inr, ◌⊎◌, ⊎_elim, arith, Some, None, Option}
 use mathlib.Core.Option.{some}
 use Rattle.std.proofs.Math.ListN.{get_elem?}
-use Rattle.fish_rule.proofs.Bounds.{one_region}
-use Rattle.fish_rule.proofs.Common.{each_set, only_main, seats_kept}
+use Rattle.fish_rule.proofs.Bodies.{tail_is}
+use Rattle.fish_rule.proofs.Common.{all_among, each_set, only_main, seats_kept}
 use Rattle.fish_rule.proofs.Frames.{alone_kept, flight_there, may_kept, one_view}
 use Rattle.fish_rule.proofs.Kept.{published}
 use Rattle.fish_rule.specs.Parts.{Facts, Flies, InFlight, IsFinished, IsFound, IsKnown, Owns, Rests}
-use Rattle.fish_rule.specs.Regions.{code, kind_of}
+use Rattle.fish_rule.specs.Regions.{code, dir_word, kind_of}
 use Rattle.fish_rule.specs.Rule.{Rule}
 use Rattle.fish_rule.specs.Steps.{CanLook, CanRead, IsAlone, after_end, after_look, after_read, found_after, kind_told}
-use Rattle.fish_rule.specs.Views.{Each, Has, HasFlight, IsFlightOf}
+use Rattle.fish_rule.specs.Views.{Among, Each, Has, HasFlight, IsFlightOf}
 use Rattle.fish_rule.specs.World.{World, body, high, low}
 use Rattle.fish_rule.specs.declared.view.Clock.{Clock}
 use Rattle.fish_rule.specs.declared.view.Flight.{Flight}
@@ -119,6 +119,15 @@ module _ (k : Key) (w : World) (r : Rule k w) (id : ℕ) (v : View) (at : get_el
             line = sym f.line ∙ ap low (sym is);
             lines = (let e : r.start (suc n) ≡ r.start n + lines_at n = omega arith in e ∙ ap (λ (z : ℕ). z + lines_at n) (sym f.line ∙ ap low (sym is)));
           }, (r.facts id v at).found)
+
+  -- a number that was found has the word that it had
+  pub look_known : (n : ℕ) (x : ℕ) → x ≡ w.dir n → (f : Found) → Among f v.learned.found → f.number ≡ n → x ≡ dir_word f.kind f.line
+  look_known n x is f among same =
+      let found = all_among (IsFound k w.count w.dir r.start) f v.learned.found (r.facts id v at).found among in
+      let finished = r.space.finished f.number found.above found.below (published (w.dir f.number) f.kind found.kind) in
+      let line : low (w.dir f.number) ≡ f.line = finished.line ∙ found.line in
+      let parts : low (w.dir f.number) + high (w.dir f.number) * 68719476736 ≡ w.dir f.number = tail_is (w.dir f.number) in
+      is ∙ ap w.dir (sym same) ∙ sym parts ∙ ap (λ (z : ℕ × ℕ). z.0 + z.1 * 68719476736) (λ i. (line i, found.kind i))
 
   -- a pass that is alone finds every claimed number published
   pub look_alone : (n : ℕ) → CanLook v n → v.about ≡ k → IsAlone v → w.dir n ≢ 0

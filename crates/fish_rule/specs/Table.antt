@@ -4,11 +4,14 @@ use mathlib.Core.Option.{some}
 use Rattle.std.proofs.Math.ListN.{get_elem?}
 use Rattle.atomic_table.specs.Table.{Me, State, Step}
 use Rattle.fish_rule.specs.Parts.{Rests}
+use Rattle.fish_rule.specs.Regions.{dir_word}
 use Rattle.fish_rule.specs.Rule.{Rule}
 use Rattle.fish_rule.specs.Seating.{fresh, unlearned}
 use Rattle.fish_rule.specs.Steps.{IsAlone, after_claim, after_end, after_look, after_publish, after_read, after_store}
+use Rattle.fish_rule.specs.Views.{Among}
 use Rattle.fish_rule.specs.World.{World, dir_at, high, log_at, low, total, world}
 use Rattle.fish_rule.specs.declared.view.Flight.{Flight}
+use Rattle.fish_rule.specs.declared.view.Found.{Found}
 use Rattle.fish_rule.specs.declared.view.Key.{Key}
 use Rattle.fish_rule.specs.declared.view.View.{View}
 
@@ -68,11 +71,12 @@ number_at k i = k.number + (i - dir_at k)
 abbrev pub place_at : Key → ℕ → ℕ
 place_at k i = k.line * 4 + (i - log_at k)
 
--- a look: the region has some number of lines, and a pass that is alone finds no 0
+-- a look: the region has some number of lines; a pass that is alone finds no 0, and a number that was found before has the word that it had
 pub record ToldLook (st : Step Bool) (m : Sat) (found : ℕ) (m' : Sat) : Type 0 where
   pub lines : ℕ
   pub told : Told m (after_look m.0 (number_at m.0.about st.word) lines found) m'
   pub alone : IsAlone m.0 → found ≢ 0
+  pub known : (f : Found) → Among f m.0.learned.found → f.number ≡ number_at m.0.about st.word → found ≡ dir_word f.kind f.line
 
 -- a read of a word of a published region
 abbrev pub told_read : Step Bool → Sat → ℕ → Sat → Type 0

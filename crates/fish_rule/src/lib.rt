@@ -14,7 +14,9 @@ mod tests;
 mod view;
 
 pub use seats::{Start, base, join_pass, open_log, shape, split_pass};
-pub use steps::{claim_lines, is_shut, load_tail, look_at, publish_region, read_word, store_word};
+pub use steps::{
+    claim_lines, in_flight, is_shut, kind_in, lane, load_tail, look_at, publish_region, read_word, store_word,
+};
 pub use table::{Base, Log, LogRule, Pass, Region, Shape};
 pub use view::{
     Clock, Flight, Found, Key, Kind, Known, Learned, Note, Noted, Own, Position, Recorded, Shut,

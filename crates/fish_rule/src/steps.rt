@@ -2,10 +2,12 @@
 //! the rule of the table allows it wherever the pass's view does.
 
 ghost use Rattle.std.specs.Prelude.{◌≡◌, ◌≢◌, ◌+◌, ◌*◌, ◌<◌, ◌≤◌, ℕ, [], length, Some};
+ghost use Rattle.fish_rule.specs.Flying.{region_in};
 ghost use Rattle.fish_rule.specs.Passes.{IsPassOf, view};
 ghost use Rattle.fish_rule.specs.Parts.{Fits, Rests};
 ghost use Rattle.fish_rule.specs.Regions.{dir_word, kind_of};
 ghost use Rattle.fish_rule.specs.Steps.{CanClaim, CanLook, CanPublish, CanRead, CanStore, IsAlone, after_claim, after_end, after_look, after_publish, after_read, after_store};
+ghost use Rattle.fish_rule.specs.Views.{Among};
 ghost use Rattle.fish_rule.specs.World.{dir_at as first_directory_word, high, log_at as first_log_word, low};
 ghost use Rattle.fish_rule.specs.declared.view.Flight.{Flight};
 ghost use Rattle.fish_rule.specs.declared.view.Found.{Found};
@@ -25,6 +27,28 @@ pub fn is_shut(pass: &Pass) -> Option<Shut>
     ensures { result ≡ (view pass.now).shut }
 {
     pass.shut
+}
+
+/// The lane of a pass.
+pub fn lane(pass: &Pass) -> u8
+    ensures { result ≡ (view pass.now).lane }
+{
+    pass.lane
+}
+
+/// The region of the record that a pass has in flight.
+pub fn in_flight(pass: &Pass) -> Option<Region>
+    ensures { result ≡ region_in (view pass.now).flight }
+{
+    pass.flight
+}
+
+/// What a region of a log will hold.
+pub fn kind_in(log: &Log, region: &Region) -> Kind
+    requires { (0 < region.now.lines) × (region.now.line + region.now.lines < 68719476736) }
+    ensures { result ≡ kind_of log.now.key.end region.now.line (region.now.line + region.now.lines) }
+{
+    region_kind(log.key.end, region.line, region.line + region.lines)
 }
 
 /// Claims the next lines, by one fetch-and-add on the tail.
@@ -84,6 +108,7 @@ pub fn look_at(log: &Log, pass: &mut Pass, number: u64) -> u64
     ensures pass { IsPassOf log.now pass.new }
     ensures view { (lines : ℕ) × (view pass.new ≡ after_look (view pass.old) number lines result) }
     ensures alone { IsAlone (view pass.old) → result ≢ 0 }
+    ensures known { (f : Found) → Among f (view pass.old).learned.found → f.number ≡ number → result ≡ dir_word f.kind f.line }
 {
     let index = dir_at(log.key) + (number - log.key.number);
     log.table.shared.load::<Look>(&mut pass.seat, index as usize)

@@ -1,0 +1,11 @@
+-- The words of the entries so far stand behind the others, and the offset is behind their values.
+use Rattle.std.proofs.Common.{◌≡◌, ◌++◌, length, take}
+use Rattle.fish_layout.specs.Body.{key_words, values_of}
+use Rattle.fish_layout.proofs.write.push_keys.Given as goal
+
+abbrev pub invariant-loop-place : goal.invariant-loop-place
+invariant-loop-place l =
+    record {
+      words : l.words.items ≡ l.fn.words.items ++ key_words l.number 0 0 (take l.place l.keys);
+      offset : l.offset ≡ length (values_of (take l.place l.keys));
+    }

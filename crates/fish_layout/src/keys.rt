@@ -1,0 +1,94 @@
+//! Words as key entries.
+
+ghost use Rattle.std.specs.Prelude.{◌≡◌, ◌+◌, ◌*◌, ◌<◌, ◌≤◌, ◌^◌, Bool, ℤ, IfOk, IfSome, IsTrue, IsUtf8, Some, length, slice_index_or};
+ghost use Rattle.fish_layout.specs.Body.{IsBody, IsProperValue, values_of};
+ghost use Rattle.fish_layout.specs.Values.{kind_code, value_bytes};
+ghost use Rattle.fish_layout.specs.declared.parts.BodyParts.{BodyParts};
+ghost use Rattle.fish_layout.specs.declared.parts.KeyPart.{KeyPart};
+ghost use Rattle.fish_value.specs.Number.{fits_i64};
+ghost use Rattle.fish_value.specs.declared.value.Value.{Value};
+
+use crate::parts::{KeyPart, KeyParts};
+use crate::word::{id_in, kind_in, offset_in, size_in};
+use fish_value::{Sequence, Text, Value};
+use std::alloc::{AllocError, Global};
+
+/// So many key entries of words, with values from these bytes, or none where an entry can be none.
+pub(crate) fn read_keys(alloc: Global, words: &[u64], count: usize, values: &[u8]) -> Result<Option<KeyParts>, AllocError>
+    requires few { count < 2 ^ 9 }
+    requires room { 3 * count < length words.now }
+    ensures keys { IfOk result (λ o. (p : BodyParts) → IsBody p words.now → count ≡ length p.keys → values.now ≡ values_of p.keys → o ≡ Some p.keys) }
+    ensures count { IfOk result (λ o. IfSome o (λ ks. length ks ≡ count)) }
+{
+    let mut keys = Sequence::new(alloc);
+    for place in 0..count {
+        let Some(key) = read_key(alloc, words, place, values)? else {
+            return Ok(None);
+        };
+        keys.push(key)?;
+    }
+    Ok(Some(keys))
+}
+
+/// The key entry at a place, or none where the words can be none.
+fn read_key(alloc: Global, words: &[u64], place: usize, values: &[u8]) -> Result<Option<KeyPart>, AllocError>
+    requires few { place < 2 ^ 9 }
+    requires room { 3 * place + 3 < length words.now }
+    ensures { IfOk result (λ o. (p : BodyParts) (k : KeyPart) → IsBody p words.now → values.now ≡ values_of p.keys → place < length p.keys → k ≡ slice_index_or p.keys place k → o ≡ Some k) }
+{
+    let at = 1 + 3 * place;
+    let third = words[at + 2];
+    let from = offset_in(third);
+    let end = from + size_in(third);
+    if values.len() < end {
+        return Ok(None);
+    }
+    let Some(value) = read_value(alloc, kind_in(third), &values[from..end])? else {
+        return Ok(None);
+    };
+    Ok(Some(KeyPart {
+        prev: words[at],
+        id: id_in(words[at + 1]),
+        value,
+    }))
+}
+
+/// The value of a kind with these bytes, or none where there can be none.
+fn read_value(alloc: Global, kind: u64, bytes: &[u8]) -> Result<Option<Value>, AllocError>
+    ensures { IfOk result (λ o. (v : Value) → IsProperValue v → kind ≡ kind_code v → bytes.now ≡ value_bytes v → o ≡ Some v) }
+{
+    match kind {
+        0 => Ok(read_truth(bytes)),
+        1 => Ok(read_number(bytes)),
+        2 => read_text(alloc, bytes),
+        _ => Ok(None),
+    }
+}
+
+/// The truth value with these bytes.
+fn read_truth(bytes: &[u8]) -> Option<Value>
+    ensures { (b : Bool) → bytes.now ≡ value_bytes (Value.Bool b) → result ≡ Some (Value.Bool b) }
+{
+    if bytes.is_empty() {
+        return None;
+    }
+    Some(Value::Bool(bytes[0] == 1))
+}
+
+/// The whole number with these bytes.
+fn read_number(bytes: &[u8]) -> Option<Value>
+    ensures { (n : ℤ) → IsTrue (fits_i64 n) → bytes.now ≡ value_bytes (Value.Int n) → result ≡ Some (Value.Int n) }
+{
+    let (chunk, _) = bytes.split_first_chunk::<8>()?;
+    Some(Value::Int(i64::from_le_bytes(*chunk)))
+}
+
+/// The text with these bytes.
+fn read_text(alloc: Global, bytes: &[u8]) -> Result<Option<Value>, AllocError>
+    ensures { IfOk result (λ o. IsUtf8 bytes.now → o ≡ Some (Value.Text bytes.now)) }
+{
+    match Text::from_bytes(alloc, bytes)? {
+        Some(text) => Ok(Some(Value::Text(text))),
+        None => Ok(None),
+    }
+}

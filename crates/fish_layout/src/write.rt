@@ -1,0 +1,198 @@
+//! Parts as words: the encoding of a record.
+
+ghost use Rattle.std.specs.Prelude.{◌≡◌, ◌+◌, ◌<◌, ◌≤◌, ◌^◌, ◌++◌, ◌∷◌, [], IfOk, OnOk, length, slice_index};
+ghost use Rattle.fish_layout.specs.Body.{AreProperKeys, IsProper, IsProperValue, body_header, body_lines, body_words, entry_word, key_words, value_word, values_of, words_behind};
+ghost use Rattle.std.specs.Int.{from_le_bytes};
+ghost use Rattle.std.specs.Int.Width.{w64};
+ghost use Rattle.fish_layout.specs.Bytes.{words_for as words_for_bytes, words_of_bytes};
+ghost use Rattle.fish_layout.specs.Values.{kind_code, value_bytes};
+
+use crate::body::Body;
+use crate::header::Header;
+use crate::parts::{BodyParts, KeyPart};
+use crate::word::{pack_entry, pack_header, pack_value};
+use fish_value::Value;
+use std::alloc::{AllocError, Global};
+
+/// The words of a record with these parts. They are taken from memory once, all together.
+pub fn body_of(alloc: Global, parts: &BodyParts) -> Result<Body, AllocError>
+    requires { IsProper parts.now }
+    ensures { IfOk result (λ body. body ≡ body_words parts.now) }
+{
+    let lines = count_lines(parts);
+    let mut words = Vec::with_capacity(alloc, lines * 4)?;
+    words.push(header_word_of(parts, lines))?;
+    push_words(alloc, &mut words, parts)?;
+    words.resize(lines * 4, 0)?;
+    Ok(Body::of_words(words))
+}
+
+/// How many lines a record takes.
+fn count_lines(parts: &BodyParts) -> usize
+    requires { IsProper parts.now }
+    ensures value { result ≡ body_lines parts.now }
+    ensures fits { result ≤ 18625 }
+{
+    let keys = parts.keys.as_slice();
+    let words = 1 + 3 * keys.len() + words_for(value_len(keys)) + words_for(parts.payload.as_bytes().len());
+    (words + 3) / 4
+}
+
+/// How many words hold so many bytes.
+pub(crate) fn words_for(bytes: usize) -> usize
+    requires { bytes < 2 ^ 32 }
+    ensures { result ≡ words_for_bytes bytes }
+{
+    (bytes + 7) / 8
+}
+
+/// How many bytes the values of keys have together.
+fn value_len(keys: &[KeyPart]) -> usize
+    requires { AreProperKeys 0 keys.now }
+    ensures value { result ≡ length (values_of keys.now) }
+    ensures fits { result ≤ 65536 }
+{
+    let mut bytes = 0;
+    for key in keys {
+        bytes += byte_len(&key.value);
+    }
+    bytes
+}
+
+/// How many bytes a value has.
+fn byte_len(value: &Value) -> usize
+    ensures { result ≡ length (value_bytes value.now) }
+{
+    match value {
+        Value::Bool(_) => 1,
+        Value::Int(_) => 8,
+        Value::Text(text) => text.as_bytes().len(),
+    }
+}
+
+/// The header of a record.
+fn header_word_of(parts: &BodyParts, lines: usize) -> u64
+    requires proper { IsProper parts.now }
+    requires lines { lines ≡ body_lines parts.now }
+    ensures { result ≡ body_header parts.now }
+{
+    let header = Header {
+        lines: lines as u64,
+        form: Some(parts.form),
+        keys: parts.keys.len() as u16,
+        lane: parts.lane,
+        version: parts.version,
+        length: parts.payload.as_bytes().len() as u32,
+    };
+    pack_header(parts.form, &header)
+}
+
+/// Puts the words behind the header behind the others, without the padding.
+fn push_words(alloc: Global, words: &mut Vec<u64>, parts: &BodyParts) -> Result<(), AllocError>
+    requires { IsProper parts.now }
+    ensures { OnOk result (words.new.items ≡ words.old.items ++ words_behind parts.now) }
+{
+    let keys = parts.keys.as_slice();
+    push_keys(words, parts.number, keys)?;
+    push_values(alloc, words, keys)?;
+    push_bytes(words, parts.payload.as_bytes())
+}
+
+/// Puts the words of key entries behind the others.
+fn push_keys(words: &mut Vec<u64>, number: u32, keys: &[KeyPart]) -> Result<(), AllocError>
+    requires number { number < 2 ^ 28 }
+    requires keys { AreProperKeys 0 keys.now }
+    ensures { OnOk result (words.new.items ≡ words.old.items ++ key_words number 0 0 keys.now) }
+{
+    let mut offset = 0;
+    for (place, key) in keys.iter().enumerate() {
+        push_key(words, key, pack_entry(number, key.id, place), offset)?;
+        offset += byte_len(&key.value);
+    }
+    Ok(())
+}
+
+/// Puts the three words of a key entry behind the others.
+fn push_key(words: &mut Vec<u64>, key: &KeyPart, entry: u64, offset: usize) -> Result<(), AllocError>
+    requires value { IsProperValue key.now.value }
+    requires offset { offset < 2 ^ 18 }
+    ensures { OnOk result (words.new.items ≡ words.old.items ++ (key.now.prev ∷ entry ∷ value_word key.now.value offset ∷ [])) }
+{
+    words.push(key.prev)?;
+    words.push(entry)?;
+    words.push(pack_value(code_of_kind(&key.value), byte_len(&key.value), offset))?;
+    Ok(())
+}
+
+/// The code of a value's kind.
+fn code_of_kind(value: &Value) -> u64
+    ensures value { result ≡ kind_code value.now }
+    ensures fits { result < 3 }
+{
+    match value {
+        Value::Bool(_) => 0,
+        Value::Int(_) => 1,
+        Value::Text(_) => 2,
+    }
+}
+
+/// Puts the words of the values of keys behind the others.
+fn push_values(alloc: Global, words: &mut Vec<u64>, keys: &[KeyPart]) -> Result<(), AllocError>
+    ensures { OnOk result (words.new.items ≡ words.old.items ++ words_of_bytes (values_of keys.now)) }
+{
+    let mut bytes = Vec::new(alloc);
+    for key in keys {
+        push_value(&mut bytes, &key.value)?;
+    }
+    push_bytes(words, bytes.as_slice())
+}
+
+/// Puts the bytes of a value behind the others.
+fn push_value(bytes: &mut Vec<u8>, value: &Value) -> Result<(), AllocError>
+    ensures { OnOk result (bytes.new.items ≡ bytes.old.items ++ value_bytes value.now) }
+{
+    match value {
+        Value::Bool(truth) => bytes.extend_from_slice(&[u8::from(*truth)]),
+        Value::Int(number) => bytes.extend_from_slice(&number.to_le_bytes()),
+        Value::Text(text) => bytes.extend_from_slice(text.as_bytes()),
+    }
+}
+
+/// Puts bytes as words behind the others, the last one padded with zero bytes.
+fn push_bytes(words: &mut Vec<u64>, bytes: &[u8]) -> Result<(), AllocError>
+    ensures { OnOk result (words.new.items ≡ words.old.items ++ words_of_bytes bytes.now) }
+{
+    let mut rest = bytes;
+    while let Some((chunk, more)) = rest.split_first_chunk::<8>() {
+        words.push(u64::from_le_bytes(*chunk))?;
+        rest = more;
+    }
+    if rest.is_empty() {
+        return Ok(());
+    }
+    words.push(last_word(rest))?;
+    Ok(())
+}
+
+/// The word of the last bytes, with zero bytes behind them.
+fn last_word(bytes: &[u8]) -> u64
+    ensures { result ≡ from_le_bytes w64 bytes.now }
+{
+    u64::from_le_bytes([
+        byte_at(bytes, 0),
+        byte_at(bytes, 1),
+        byte_at(bytes, 2),
+        byte_at(bytes, 3),
+        byte_at(bytes, 4),
+        byte_at(bytes, 5),
+        byte_at(bytes, 6),
+        byte_at(bytes, 7),
+    ])
+}
+
+/// The byte at a place, or 0 behind the end.
+fn byte_at(bytes: &[u8], place: usize) -> u8
+    ensures { result ≡ slice_index bytes.now place }
+{
+    bytes.get(place).copied().unwrap_or(0)
+}
