@@ -19,4 +19,5 @@ pub use body::{Body, set_number};
 pub use header::{Header, header_of, void_header};
 pub use parts::{BodyParts, KeyPart, KeyParts, MAX_KEYS, MAX_LANE, MAX_PAYLOAD, MAX_VERSION};
 pub use read::{Payload, read_body, read_payload};
+pub use word::{keys_in, lines_in};
 pub use write::body_of;

@@ -13,7 +13,7 @@ use fish_value::Form;
 
 /// The lines of a region, by its header.
 #[tactic(auto, unfolding(crate::specs::Header::lines_of, crate::specs::Header::field))]
-pub(crate) fn lines_in(word: u64) -> u64
+pub fn lines_in(word: u64) -> u64
     ensures value { result ≡ lines_of word }
     ensures fits { result < 2 ^ 16 }
 {
@@ -30,7 +30,7 @@ pub(crate) fn form_in(word: u64) -> u64
 
 /// The number of key entries, by a header.
 #[tactic(auto, unfolding(crate::specs::Header::keys_of, crate::specs::Header::field))]
-pub(crate) fn keys_in(word: u64) -> u16
+pub fn keys_in(word: u64) -> u16
     ensures value { result ≡ keys_of word }
     ensures fits { result < 2 ^ 9 }
 {

@@ -4,10 +4,11 @@ use mathlib.Core.Option.{some}
 use Rattle.fish_rule.proofs.Bodies.{kind-inside}
 use Rattle.fish_rule.proofs.Bounds.{ends_within, starts_above}
 use Rattle.fish_rule.proofs.Common.{all_among}
-use Rattle.fish_rule.proofs.Loads.{region_found}
+use Rattle.fish_layout.specs.Header.{lines_of}
+use Rattle.fish_rule.proofs.Loads.{head_known, lines_found, region_found}
 use Rattle.fish_rule.proofs.OwnWords.{flight_is}
 use Rattle.fish_rule.proofs.Room.{few_lines, few_numbers, few_slots}
-use Rattle.fish_rule.specs.Parts.{Fits, IsFound}
+use Rattle.fish_rule.specs.Parts.{Fits, IsFound, IsKnown}
 use Rattle.fish_rule.specs.Regions.{kind_of}
 use Rattle.fish_rule.specs.Steps.{CanLook, CanRead}
 use Rattle.fish_rule.specs.Table.{Stands}
@@ -86,3 +87,25 @@ read_law key v f i about s can =
 -- the key of a table that a view stands in
 pub fits_law : (v : View) → Stands v → Fits v.about
 fits_law v s = s.rule.key_fits
+
+-- the header of a region that was found tells its lines
+pub header_law : (v : View) (f : Found) (h : ℕ) → Stands v → Among f v.learned.found → f.kind ≢ Mark → Among (record { place = f.line * 4; value = h }) v.learned.known → lines_of h ≡ f.lines
+header_law v f h s among words read =
+    let k : Key = v.about in
+    let w : World = s.moment in
+    let r = s.rule in
+    let facts = r.facts s.seat v s.at in
+    let found = all_among (IsFound k w.count w.dir r.start) f v.learned.found facts.found among in
+    let head = head_known k w r f h found (all_among (IsKnown k w.count w.dir w.log r.start) _ v.learned.known facts.known read) in
+    ap lines_of (sym head) ∙ lines_found k w r f found words
+
+-- a region that was found has a line
+pub found_law : (v : View) (f : Found) → Stands v → Among f v.learned.found → 1 ≤ f.lines
+found_law v f s among =
+    let w : World = s.moment in
+    let r = s.rule in
+    let found = all_among (IsFound v.about w.count w.dir r.start) f v.learned.found (r.facts s.seat v s.at).found among in
+    let line = found.line in
+    let lines = found.lines in
+    let grows = r.space.regions.grows f.number found.above found.below in
+    omega arith

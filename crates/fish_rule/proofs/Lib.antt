@@ -4,6 +4,8 @@ pub mod Bodies
 pub mod Bounds
 pub mod Claims
 pub mod Common
+pub mod Entries
+pub mod Extending
 pub mod Flights
 pub mod Frames
 pub mod Kept
@@ -17,4 +19,5 @@ pub mod Quotas
 pub mod Room
 pub mod Seating
 pub mod Standing
+pub mod Words
 pub mod Worlds

@@ -53,19 +53,28 @@ module _ (k : Key) (w : World) (r : Rule k w) where
       let holds = t.0.holds in
       lined_whole _ _ x.number _ _ (λ e. ne (sym t.1 ∙ e)) (omega arith) holds ∙ size
 
-  -- a word that is known at a region's first place is its header
-  pub head_known : (x : Found) (h : ℕ) → IsFound k w.count w.dir r.start x → IsKnown k w.count w.dir w.log r.start (record { place = x.line * 4; value = h }) → body w.log (r.start x.number) 0 ≡ h
-  head_known x h found known =
+  -- a word that is known at a place of a region that was found is that of its body there
+  pub word_known : (x : Found) (i h : ℕ) → IsFound k w.count w.dir r.start x → i < x.lines * 4 → IsKnown k w.count w.dir w.log r.start (record { place = x.line * 4 + i; value = h }) → body w.log (r.start x.number) i ≡ h
+  word_known x i h found less known =
       let line = found.line in
       let lines = found.lines in
       let grows = r.space.regions.grows x.number found.above found.below in
-      let place : x.line * 4 ≡ r.start known.number * 4 + known.offset = known.place in
+      let place : x.line * 4 + i ≡ r.start known.number * 4 + known.offset = known.place in
       let inside = known.inside in
       let up = r.space.regions.grows known.number known.above known.below in
-      let same : known.number ≡ x.number = one_region k w.count w.line r.start r.space.regions known.number x.number (x.line * 4) known.above known.below found.above found.below (omega arith) (omega arith) (omega arith) (omega arith) in
+      let same : known.number ≡ x.number = one_region k w.count w.line r.start r.space.regions known.number x.number (x.line * 4 + i) known.above known.below found.above found.below (omega arith) (omega arith) (omega arith) (omega arith) in
       let there_ : r.start known.number ≡ x.line = ap r.start same ∙ line in
-      let none : known.offset ≡ 0 = omega arith in
-      subst (λ (z : ℕ × ℕ). body w.log (r.start z.0) z.1 ≡ h) (λ i. (same i, none i)) known.word
+      let offset : known.offset ≡ i = omega arith in
+      subst (λ (z : ℕ × ℕ). body w.log (r.start z.0) z.1 ≡ h) (λ j. (same j, offset j)) known.word
+
+  -- a word that is known at a region's first place is its header
+  pub head_known : (x : Found) (h : ℕ) → IsFound k w.count w.dir r.start x → IsKnown k w.count w.dir w.log r.start (record { place = x.line * 4; value = h }) → body w.log (r.start x.number) 0 ≡ h
+  head_known x h found known =
+      let grows = r.space.regions.grows x.number found.above found.below in
+      let line = found.line in
+      let lines = found.lines in
+      let e : x.line * 4 ≡ x.line * 4 + 0 = omega arith in
+      word_known x 0 h found (omega arith) (subst (λ (z : ℕ). IsKnown k w.count w.dir w.log r.start (record { place = z; value = h })) e known)
 
   -- the word that a pass may read is the region's body there
   pub read_word_is : (v : View) (x : Found) (i : ℕ) → Facts k w.count w.dir w.log r.start v.learned → CanRead v x i → IsKnown k w.count w.dir w.log r.start (record { place = x.line * 4 + i; value = w.log (x.line * 4 + i) })

@@ -1,4 +1,5 @@
 pub mod Flying
+pub mod Logs
 pub mod Machine
 pub mod Parts
 pub mod Passes

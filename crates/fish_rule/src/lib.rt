@@ -5,6 +5,7 @@
 //! start. No other crate touches a shared word.
 #![tactic(auto)]
 
+mod entry;
 mod plays;
 mod seats;
 mod steps;
@@ -13,6 +14,7 @@ mod table;
 mod tests;
 mod view;
 
+pub use entry::{read_record, read_region};
 pub use seats::{Start, base, join_pass, open_log, shape, split_pass};
 pub use steps::{
     claim_lines, in_flight, is_shut, kind_in, lane, load_tail, look_at, publish_region, read_word, store_word,

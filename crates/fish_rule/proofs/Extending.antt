@@ -1,0 +1,90 @@
+-- Views that only learn.
+use Rattle.std.proofs.Common.{◌≡◌, ◌≢◌, ℕ, ◌+◌, ◌*◌, ◌<◌, ◌≤◌, zero, suc, List, refl, sym, ap, ◌∙◌, subst, inl, inr, ◌⊎◌, arith}
+use Rattle.fish_rule.specs.Logs.{Extends, Learns}
+use Rattle.fish_rule.specs.Steps.{after_look, after_read, found_after, kind_told}
+use Rattle.fish_rule.specs.Views.{Among}
+use Rattle.fish_rule.specs.World.{high, low}
+use Rattle.fish_rule.specs.declared.view.Found.{Found}
+use Rattle.fish_rule.specs.declared.view.Known.{Known}
+use Rattle.fish_rule.specs.declared.view.View.{View}
+
+-- ---- in general
+
+-- a view knows what it knows
+pub learns_self : (v : View) → Learns v v
+learns_self v = record { about = refl; count = omega arith; found = λ x m. m; known = λ x m. m; records = λ x m. m }
+
+-- and what is learned on top of what was learned is all learned
+pub learns_both : (a b c : View) → Learns a b → Learns b c → Learns a c
+learns_both a b c e f =
+    let p = e.count in
+    let q = f.count in
+    record {
+      about = f.about ∙ e.about;
+      count = omega arith;
+      found = λ x m. f.found x (e.found x m);
+      known = λ x m. f.known x (e.known x m);
+      records = λ x m. f.records x (e.records x m);
+    }
+
+-- a view extends itself
+pub extends_self : (v : View) → Extends v v
+extends_self v = record { learns = learns_self v; lane = refl; out = refl; shut = refl; flight = refl; tail = refl; own = refl }
+
+-- and what extends an extension extends it
+pub extends_both : (a b c : View) → Extends a b → Extends b c → Extends a c
+extends_both a b c e f = record {
+  learns = learns_both a b c e.learns f.learns;
+  lane = f.lane ∙ e.lane;
+  out = f.out ∙ e.out;
+  shut = f.shut ∙ e.shut;
+  flight = f.flight ∙ e.flight;
+  tail = f.tail ∙ e.tail;
+  own = f.own ∙ e.own;
+}
+
+-- ---- a read
+
+-- a word that is read extends a view
+pub extends_read : (v : View) (place x : ℕ) → Extends v (after_read v place x)
+extends_read v place x = record {
+  learns = record { about = refl; count = omega arith; found = λ x m. m; known = λ x m. inr m; records = λ x m. m };
+  lane = refl;
+  out = refl;
+  shut = refl;
+  flight = refl;
+  tail = refl;
+  own = refl;
+}
+
+-- the same where the view is known by an equation
+pub extends_to_read : (v u : View) (place x : ℕ) → u ≡ after_read v place x → Extends v u
+extends_to_read v u place x e = subst (Extends v) (sym e) (extends_read v place x)
+
+-- the word that was read is known
+pub read_here : (v u : View) (place x : ℕ) → u ≡ after_read v place x → Among (record { place = place; value = x }) u.learned.known
+read_here v u place x e = (let m : Among (record { place = place; value = x }) (after_read v place x).learned.known = inl refl in subst (λ (z : View). Among (record { place = place; value = x }) z.learned.known) (sym e) m)
+
+-- ---- a look
+
+-- what was found before stays found
+found_more : (n lines x : ℕ) (found : List Found) (f : Found) → Among f found → Among f (found_after n lines x found)
+found_more n lines zero found f m = m
+found_more n lines (suc x) found f m = inr m
+
+-- a directory word that is seen extends a view
+pub extends_look : (v : View) (n lines x : ℕ) → Extends v (after_look v n lines x)
+extends_look v n lines x = record {
+  learns = record { about = refl; count = omega arith; found = found_more n lines x v.learned.found; known = λ x m. m; records = λ x m. m };
+  lane = refl;
+  out = refl;
+  shut = refl;
+  flight = refl;
+  tail = refl;
+  own = refl;
+}
+
+-- the region of a word that isn't 0 is found
+pub found_here : (n lines x : ℕ) (found : List Found) → x ≢ 0 → Among (record { number = n; kind = kind_told (high x); line = low x; lines = lines }) (found_after n lines x found)
+found_here n lines zero found ne = absurd (ne refl)
+found_here n lines (suc x) found ne = inl refl

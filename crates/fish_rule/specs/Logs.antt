@@ -1,0 +1,83 @@
+-- The log that the words spell, and what a pass knows of it.
+use Rattle.std.specs.Prelude.{ℕ, ◌≡◌, ◌≢◌, ◌+◌, ◌*◌, ◌<◌, ◌≤◌, List, [], ◌∷◌, length, slice_index, Bool, true}
+use Rattle.std.proofs.Common.{◌⊎◌}
+use mathlib.Core.Option.{some}
+use Rattle.std.proofs.Math.ListN.{get_elem?}
+use Rattle.fish_catalog.specs.declared.entry.Entry.{Entry}
+use Rattle.fish_catalog.specs.declared.entry.Entry.TheVariants as entry
+use Rattle.fish_layout.specs.Cleared.{IsKeyWord, Spells}
+use Rattle.fish_layout.specs.Header.{keys_of}
+use Rattle.fish_layout.specs.declared.parts.BodyParts.{BodyParts}
+use Rattle.fish_rule.specs.Parts.{Facts, Owns}
+use Rattle.fish_rule.specs.Regions.{code}
+use Rattle.fish_rule.specs.Rule.{Rule}
+use Rattle.fish_rule.specs.Views.{Among}
+use Rattle.fish_rule.specs.World.{World, body, high, low}
+use Rattle.fish_rule.specs.declared.view.Found.{Found}
+use Rattle.fish_rule.specs.declared.view.Key.{Key}
+use Rattle.fish_rule.specs.declared.view.Known.{Known}
+use Rattle.fish_rule.specs.declared.view.Recorded.{Recorded}
+use Rattle.fish_rule.specs.declared.view.Kind.TheVariants.{Mark, Stored, Void}
+use Rattle.fish_rule.specs.declared.view.View.{View}
+use Rattle.fish_value.specs.declared.field.Form.{Form}
+
+-- ---- entries
+
+-- number n is published as a record, whose words spell these parts
+pub record IsStoredEntry (w : World) (n lane : ℕ) (form : Form) (payload : List ℕ) (p : BodyParts) : Type 0 where
+  pub stored : high (w.dir n) ≡ code Stored
+  pub spells : Spells p (body w.log (low (w.dir n)))
+  pub number_is : p.number ≡ n
+  pub lane_is : p.lane ≡ lane
+  pub form_is : p.form ≡ form
+  pub payload_is : p.payload ≡ payload
+
+-- what stands at number n
+abbrev pub IsEntry : World → ℕ → Entry → Type 0
+IsEntry w n (entry.Stored lane form payload) = (p : BodyParts) × IsStoredEntry w n lane form payload p
+IsEntry w n entry.Void = high (w.dir n) ≡ code Void
+
+-- the entries by number, from the table's first number up to the first mark, or up to all that is claimed
+pub record IsLog (k : Key) (w : World) (entries : List Entry) : Type 0 where
+  pub each : (i : ℕ) (e : Entry) → get_elem? entries i ≡ some e → IsEntry w (k.number + i) e
+  pub within : k.number + length entries ≤ w.count
+  pub ends : (k.number + length entries ≡ w.count) ⊎ (high (w.dir (k.number + length entries)) ≡ code Mark)
+
+-- ---- what a view tells of the log
+
+-- the second view knows of one table with the first, and all that the first had learned
+pub record Learns (v u : View) : Type 0 where
+  pub about : u.about ≡ v.about
+  pub count : v.learned.count ≤ u.learned.count
+  pub found : (x : Found) → Among x v.learned.found → Among x u.learned.found
+  pub known : (x : Known) → Among x v.learned.known → Among x u.learned.known
+  pub records : (x : Recorded) → Among x v.learned.records → Among x u.learned.records
+
+-- in every moment of a view that knows as much, this stands at number n
+abbrev pub Tells : View → ℕ → Entry → Type 0
+Tells v n e = (u : View) → Learns v u → (w : World) → Rule u.about w → (j : ℕ) → get_elem? w.views j ≡ some u → IsEntry w n e
+
+-- the words are those of a region that was found: each that is no first word of a key entry was read
+pub record HasWords (v : View) (f : Found) (words : List ℕ) : Type 0 where
+  pub full : length words ≡ f.lines * 4
+  pub read : (i : ℕ) → i < length words → ¬ IsKeyWord (keys_of (slice_index words 0)) i → Among (record { place = f.line * 4 + i; value = slice_index words i }) v.learned.known
+
+-- the second view is the first but for what it learned since
+pub record Extends (v u : View) : Type 0 where
+  pub learns : Learns v u
+  pub lane : u.lane ≡ v.lane
+  pub out : u.out ≡ v.out
+  pub shut : u.shut ≡ v.shut
+  pub flight : u.flight ≡ v.flight
+  pub tail : u.tail ≡ v.tail
+  pub own : u.own ≡ v.own
+
+-- ---- the closed log
+
+-- the entries are the log of a moment that meets the rule, of which all holds that the view knows
+pub record IsClosed (v : View) (entries : List Entry) : Type 0 where
+  pub moment : World
+  pub rule : Rule v.about moment
+  pub log : IsLog v.about moment entries
+  pub own : Owns v.about moment.count moment.dir rule.lane_of v.lane v.out v.own
+  pub facts : Facts v.about moment.count moment.dir moment.log rule.start v.learned
