@@ -1,23 +1,18 @@
 -- The rule holds of an empty log with one pass.
-use Rattle.std.proofs.Common.{get_or-set_other, get_or-set_same, length-set, replicate, set, ◌^◌, ◌≡◌, ◌≢◌, ℕ, ◌+◌, ◌-◌, ◌*◌, ◌/◌, ◌%◌, ◌<◌, ◌≤◌, zero, suc, List, [], ◌∷◌, length, get_or, slice_index, sym, refl, ap, ◌∙◌, subst, inl, inr, ◌⊎◌, ⊎_elim, arith, Some, None}
-use Rattle.std.specs.Prelude.{⊤}
-use Rattle.std.proofs.Math.Decide.{dec_le, dec_lt}
+use Rattle.std.proofs.Common.{◌≡◌, ℕ, ◌+◌, ◌-◌, ◌*◌, ◌<◌, ◌≤◌, zero, suc, List, [], ◌∷◌, slice_index, sym, refl, ap, ◌∙◌, subst, arith}
+use Rattle.std.proofs.Math.Decide.{dec_le}
 use Rattle.std.proofs.Math.ListN.{get_elem?}
-use Rattle.std.proofs.Math.Pow.{pow_mono}
-use Rattle.std.proofs.lemmas.List.{length-replicate, get_or-replicate, get_or_past}
 use mathlib.Core.Option.{some, some-injective, some-ne-none}
 use Rattle.atomic_table.specs.Table.{opening}
 use Rattle.fish_layout.specs.Cleared.{choose}
 use Rattle.fish_rule.proofs.Bodies.{high-pack, low-pack}
-use Rattle.fish_rule.specs.Parts.{Facts, Fits, Flies, IsStoredBy, Limit, MayOverflow, Owns, Regions, Rests, Seats, ShutOk, Space, quotas}
+use Rattle.fish_rule.specs.Parts.{Facts, Fits, Flies, Limit, Owns, Regions, Rests, ShutOk, Space, quotas}
 use Rattle.fish_rule.specs.Rule.{Rule}
-use Rattle.fish_rule.specs.Start.{IsEmpty, IsShape, first_key}
+use Rattle.fish_rule.specs.Start.{IsEmpty}
 use Rattle.fish_rule.specs.Table.{Ruled, Stands, first_view}
-use Rattle.fish_rule.specs.Views.{Among, Each, Has, IsFlightOf}
-use Rattle.fish_rule.specs.World.{World, area, dir_at, high, log_at, log_size, low, slots, total, world}
-use Rattle.fish_rule.specs.declared.table.Shape.{Shape}
+use Rattle.fish_rule.specs.Views.{Each}
+use Rattle.fish_rule.specs.World.{World, area, dir_at, high, log_at, log_size, low, slots, world}
 use Rattle.fish_rule.specs.declared.view.Key.{Key}
-use Rattle.fish_rule.specs.declared.view.Own.{Own}
 use Rattle.fish_rule.specs.declared.view.View.{View}
 
 -- where all words behind the first are 0, so is an area of them
@@ -44,13 +39,15 @@ module _ (k : Key) (fits : Fits k) (ws : List ℕ) (empty : IsEmpty k ws) where
   abbrev w : World
   w = world k ws (first_view k ∷ [])
 
-  -- the tail's number and line are the key's
+  -- the tail as its two parts
   packed : slice_index ws 0 ≡ k.line + k.number * 68719476736
   packed = (let e : k.number * 68719476736 + k.line ≡ k.line + k.number * 68719476736 = omega arith in empty.tail ∙ e)
 
+  -- its number is the key's
   count_is : w.count ≡ k.number
   count_is = (let a = fits.some_lines in let b = fits.low_end in ap high packed ∙ high-pack k.number k.line (omega arith))
 
+  -- and its line
   line_is : w.line ≡ k.line
   line_is = (let a = fits.some_lines in let b = fits.low_end in ap low packed ∙ low-pack k.number k.line (omega arith))
 
@@ -58,17 +55,19 @@ module _ (k : Key) (fits : Fits k) (ws : List ℕ) (empty : IsEmpty k ws) where
   none : (n : ℕ) → k.number ≤ n → n < w.count → ⊥
   none n above below = (let c = count_is in absurd (omega arith))
 
-  -- no directory word is set, and no word of the log
+  -- no directory word is set
   dir_zero : (n : ℕ) → w.dir n ≡ 0
   dir_zero n = area-zero ws (dir_at k) k.number (slots k) (omega arith) empty.zeros n
 
+  -- and no word of the log
   log_zero : (p : ℕ) → w.log p ≡ 0
   log_zero p = area-zero ws (log_at k) (k.line * 4) (log_size k) (omega arith) empty.zeros p
 
-  -- where regions begin, and who claimed them: there are none
+  -- there is no region
   abbrev start : ℕ → ℕ
   start _ = k.line
 
+  -- and none claimed one
   abbrev lane_of : ℕ → ℕ
   lane_of _ = 0
 
@@ -76,6 +75,7 @@ module _ (k : Key) (fits : Fits k) (ws : List ℕ) (empty : IsEmpty k ws) where
   abbrev quota : ℕ → ℕ
   quota _ = 1
 
+  -- no number is claimed, so no line is
   regions : Regions k w.count w.line start
   regions = record {
     some = (let c = count_is in omega arith);
@@ -85,6 +85,7 @@ module _ (k : Key) (fits : Fits k) (ws : List ℕ) (empty : IsEmpty k ws) where
     small = λ n above below. absurd (none n above below);
   }
 
+  -- nothing is published or in flight
   space : Space k w.count w.line w.dir w.log w.views start lane_of
   space = record {
     regions = regions;
@@ -97,6 +98,7 @@ module _ (k : Key) (fits : Fits k) (ws : List ℕ) (empty : IsEmpty k ws) where
     log_beyond = λ p _. log_zero p;
   }
 
+  -- no claim ends past the log's end
   limit : Limit k w.count w.views start quota
   limit = record {
     first = k.number;
@@ -137,37 +139,3 @@ begins k fits ws empty = record { wide = empty.wide; rule = empty_rule k fits ws
 -- the first pass's view stands
 pub first_stands : (k : Key) → Fits k → (ws : List ℕ) → IsEmpty k ws → Stands (first_view k)
 first_stands k fits ws empty = record { moment = world k ws (first_view k ∷ []); rule = empty_rule k fits ws empty; seat = 0; at = refl }
-
--- ---- the words of an empty log
-
--- its key fits, where its shape does
-pub first_fits : (k : Key) (s : Shape) → k ≡ first_key s → IsShape s → Fits k
-first_fits k s is shape =
-    let pages : s.pages ≤ 512 = shape.few_pages in
-    subst Fits (sym is) (record {
-      some_lines = omega arith;
-      few_lines = omega arith;
-      few_numbers = omega arith;
-      low_end = omega arith;
-      few_buckets = pow_mono shape.few_bits;
-    })
-
--- so many zeros
-abbrev zeros : ℕ → List ℕ
-zeros n = replicate n 0
-
--- zeros alone, and past them, are zeros
-zero_words : (n i : ℕ) → get_or (zeros n) i 0 ≡ 0
-zero_words n i = by (dec_lt i n)
-  where
-    by : Dec (i < n) → get_or (zeros n) i 0 ≡ 0
-    by (yes h) = get_or-replicate n i 0 0 h
-    by (no h) = get_or_past (zeros n) i 0 (let e : length (zeros n) ≡ n = length-replicate n 0 in omega arith)
-
--- zeros behind the tail are the words of an empty log
-pub empty_start : (k : Key) (n tail : ℕ) (ws : List ℕ) → n ≡ total k → tail ≡ k.number * 68719476736 + k.line → ws ≡ set (zeros n) 0 tail → IsEmpty k ws
-empty_start k n tail ws wide tailed is = subst (IsEmpty k) (sym is) (record {
-  wide = (let e : length (set (zeros n) 0 tail) ≡ n = length-set (zeros n) 0 tail ∙ length-replicate n 0 in e ∙ wide);
-  tail = get_or-set_same (zeros n) 0 tail 0 (let e : length (zeros n) ≡ n = length-replicate n 0 in omega arith) ∙ tailed;
-  zeros = λ i more. get_or-set_other (zeros n) 0 i tail 0 (λ e. omega arith) ∙ zero_words n i;
-})

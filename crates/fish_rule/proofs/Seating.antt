@@ -1,35 +1,37 @@
 -- A split and a join change no word: a lane moves, with the records and the facts that go with it.
-use Rattle.std.proofs.Common.{◌≡◌, ◌≢◌, ℕ, ◌+◌, ◌<◌, ◌≤◌, zero, suc, List, [], ◌∷◌, ◌++◌, length, set, sym, refl, ap, ◌∙◌, subst, inl, inr, ◌⊎◌, ⊎_elim, arith, Some, None, Option}
-use Rattle.std.specs.Prelude.{⊤}
+use Rattle.std.proofs.Common.{◌≡◌, ◌≢◌, ℕ, List, [], ◌∷◌, ◌++◌, set, sym, refl, ◌∙◌, subst, inr, ⊎_elim, arith}
 use mathlib.Core.Option.{some}
 use Rattle.std.proofs.Math.ListN.{get_elem?}
 use Rattle.atomic_table.proofs.Lists.{set_else}
 use Rattle.fish_rule.proofs.Common.{all_append, among_either, among_left, among_right, each_set, each_snoc, no_flight, pairs_set}
 use Rattle.fish_rule.proofs.Frames.{alone_kept, flight_there}
-use Rattle.fish_rule.proofs.Lanes.{both_has, first_shut_none, flight_longer, greater_within, has_back, has_both, has_lane, has_left, has_none, has_one, left_has, not_over, of_lane_complete, of_lane_sound, off_lane_complete, off_lane_sound, pairs_snoc}
-use Rattle.fish_rule.specs.Parts.{Facts, Flies, IsFound, IsKnown, IsRecorded, IsShut, IsStoredBy, Limit, MayOverflow, Owns, Rests, Seats, ShutOk}
+use Rattle.fish_rule.proofs.Lanes.{both_has, first_shut_none, flight_longer, greater_within, has_back, has_both, has_lane, has_left, has_none, has_one, left_has, not_over, of_lane_complete, of_lane_sound, off_lane_complete, off_lane_sound, pairs_snoc, shut_either}
+use Rattle.fish_rule.specs.Parts.{Facts, IsFound, IsKnown, IsRecorded, Limit, MayOverflow, Owns, Seats}
 use Rattle.fish_rule.specs.Rule.{Rule}
-use Rattle.fish_rule.specs.Seating.{CanJoin, CanSplit, first_shut, join_both, of_lane, off_lane, spent, split_left, split_right, without}
-use Rattle.fish_rule.specs.Views.{Among, Each, Has, HasFlight, IsFlightOf, IsOver}
+use Rattle.fish_rule.specs.Seating.{CanJoin, CanSplit, join_both, of_lane, spent, split_left, split_right, without}
+use Rattle.fish_rule.specs.Views.{Among, Each, Has, IsFlightOf}
 use Rattle.fish_rule.specs.World.{World}
-use Rattle.fish_rule.specs.declared.view.Flight.{Flight}
 use Rattle.fish_rule.specs.declared.view.Key.{Key}
-use Rattle.fish_rule.specs.declared.view.Own.{Own}
-use Rattle.fish_rule.specs.declared.view.Shut.{Shut}
 use Rattle.fish_rule.specs.declared.view.View.{View}
 
 -- ---- split
 
 module _ (k : Key) (w : World) (r : Rule k w) (id : ℕ) (v : View) (at : get_elem? w.views id ≡ some v) (l : ℕ) (can : CanSplit v l) where
-  -- the two views after it, and all views
+  -- the control pass's view after it
   abbrev left : View
   left = split_left l v
 
+  -- the new pass's
   abbrev right : View
   right = split_right l v
 
+  -- all views but the new one
   abbrev cut : List View
   cut = set w.views id left
+
+  -- what holds of the two new views, and of each other view, holds of each
+  each_cut : (P : View → Type 0) → Each P w.views → P left → P right → Each P (cut ++ right ∷ [])
+  each_cut P all one new = each_snoc P cut right (each_set P w.views id left (λ j u ne at_u. all j u at_u) one) new
 
   -- before it the control pass has lane l
   had : Has v.lane v.out l
@@ -46,10 +48,10 @@ module _ (k : Key) (w : World) (r : Rule k w) (id : ℕ) (v : View) (at : get_el
     apart = λ i j a b x at_i at_j p q. pairs_snoc (λ u. Has u.lane u.out x) cut right
         (λ j a at_a p q. gone j a at_a (subst (Has a.lane a.out) (has_one l [] x can.above q) p))
         (λ i j a b at_a at_b. pairs_set (λ i j a b. Has a.lane a.out x → Has b.lane b.out x → i ≡ j) w.views id left (λ i p q. refl)
-            (λ j u ne at_u. ((λ p q. r.seats.apart id j v u x at at_u (back x p) q), (λ p q. r.seats.apart j id u v x at_u at p (back x q))))
-            (λ i j a b _ _ at_a at_b p q. r.seats.apart i j a b x at_a at_b p q) i j a b at_a at_b)
+        (λ j u ne at_u. ((λ p q. r.seats.apart id j v u x at at_u (back x p) q), (λ p q. r.seats.apart j id u v x at_u at p (back x q))))
+        (λ i j a b _ _ at_a at_b p q. r.seats.apart i j a b x at_a at_b p q) i j a b at_a at_b)
         i j a b at_i at_j p q;
-    few = each_snoc _ cut right (each_set _ w.views id left (λ j u ne at_u. r.seats.few j u at_u) (r.seats.few id v at)) can.below;
+    few = each_cut _ r.seats.few (r.seats.few id v at) can.below;
   }
     where
       back : (x : ℕ) → Has v.lane (l ∷ v.out) x → Has v.lane v.out x
@@ -64,26 +66,37 @@ module _ (k : Key) (w : World) (r : Rule k w) (id : ℕ) (v : View) (at : get_el
     fits = r.limit.fits;
     past = r.limit.past;
     few = r.limit.few;
-    may = each_snoc _ cut right
-        (each_set _ w.views id left (λ j u ne at_u. r.limit.may j u at_u) (λ x has may. r.limit.may id v at x (left_has v.lane l v.out x can.main can.above has).0 may))
-        (λ x has may. subst (λ (z : ℕ). r.quota z ≡ 1) (sym (has_one l [] x can.above has)) (r.limit.may id v at l had (may.0, not_over k.end v.flight can.idle)));
+    may = each_cut _ r.limit.may
+        (λ x has may. r.limit.may id v at x (left_has v.lane l v.out x can.main can.above has).0 may)
+        (λ x has may. subst (λ (z : ℕ). r.quota z ≡ 1) (sym (has_one l [] x can.above has))
+        (r.limit.may id v at l had (may.0, not_over k.end v.flight can.idle)));
   }
 
-  -- the records of lane l go with it
+  -- the control pass keeps the records but for those of lane l
   left_owns : Owns k w.count w.dir r.lane_of left.lane left.out left.own
   left_owns =
       let h = r.own id v at in
       record {
-        sound = λ o m. let s = off_lane_sound l o v.own m in let t = h.sound o s.0 in (has_left v.lane l v.out o.lane t.0 s.1, t.1);
-        complete = λ o has stored. let s = left_has v.lane l v.out o.lane can.main can.above has in off_lane_complete l o v.own (h.complete o s.0 stored) s.1;
+        sound = λ o m.
+            let s = off_lane_sound l o v.own m in
+            let t = h.sound o s.0 in
+            (has_left v.lane l v.out o.lane t.0 s.1, t.1);
+        complete = λ o has stored.
+            let s = left_has v.lane l v.out o.lane can.main can.above has in
+            off_lane_complete l o v.own (h.complete o s.0 stored) s.1;
       }
 
+  -- the new pass has just these
   right_owns : Owns k w.count w.dir r.lane_of l [] (of_lane l v.own)
   right_owns =
       let h = r.own id v at in
       record {
-        sound = λ o m. let s = of_lane_sound l o v.own m in (subst (Has l []) (sym s.1) (has_lane l [] can.above can.below), (h.sound o s.0).1);
-        complete = λ o has stored. let e = has_one l [] o.lane can.above has in of_lane_complete l o v.own (h.complete o (subst (Has v.lane v.out) (sym e) had) stored) e;
+        sound = λ o m.
+            let s = of_lane_sound l o v.own m in
+            (subst (Has l []) (sym s.1) (has_lane l [] can.above can.below), (h.sound o s.0).1);
+        complete = λ o has stored.
+            let e = has_one l [] o.lane can.above has in
+            of_lane_complete l o v.own (h.complete o (subst (Has v.lane v.out) (sym e) had) stored) e;
       }
 
   -- a split keeps the rule
@@ -93,41 +106,40 @@ module _ (k : Key) (w : World) (r : Rule k w) (id : ℕ) (v : View) (at : get_el
     lane_of = r.lane_of;
     quota = r.quota;
     key_fits = r.key_fits;
-    about = each_snoc _ cut right (each_set _ w.views id left (λ j u ne at_u. r.about j u at_u) (r.about id v at)) (λ _. let m = can.main in r.about id v at (omega arith));
+    about = each_cut _ r.about (r.about id v at) (λ _. let m = can.main in r.about id v at (omega arith));
     seats = split_seats;
-    tails = each_snoc _ cut right (each_set _ w.views id left (λ j u ne at_u. r.tails j u at_u) (λ main all. cc)) (λ main all. let a = can.above in absurd (omega arith));
+    tails = each_cut _ r.tails (λ main all. cc) (λ main all. let a = can.above in absurd (omega arith));
     space = record {
       regions = r.space.regions;
       finished = r.space.finished;
-      flying = λ n above below unset. flight_longer cut right n (flight_there w.views id v left at n (λ h. h) (r.space.flying n above below unset));
-      flights = each_snoc _ cut right (each_set _ w.views id left (λ j u ne at_u. r.space.flights j u at_u) (r.space.flights id v at)) tt;
-      alone = λ i j a b n. pairs_snoc (λ u. IsFlightOf n u.flight) cut right (λ j a at_a p q. q) (λ i j a b. alone_kept w.views id v left at (λ n h. h) r.space.alone i j a b n) i j a b;
+      flying = λ n above below unset.
+          flight_longer cut right n (flight_there w.views id v left at n (λ h. h) (r.space.flying n above below unset));
+      flights = each_cut _ r.space.flights (r.space.flights id v at) tt;
+      alone = λ i j a b n. pairs_snoc (λ u. IsFlightOf n u.flight) cut right (λ j a at_a p q. q)
+          (λ i j a b. alone_kept w.views id v left at (λ n h. h) r.space.alone i j a b n) i j a b;
       dir_below = r.space.dir_below;
       dir_beyond = r.space.dir_beyond;
       log_beyond = r.space.log_beyond;
     };
     limit = split_limit;
-    own = each_snoc _ cut right (each_set _ w.views id left (λ j u ne at_u. r.own j u at_u) left_owns) right_owns;
-    facts = each_snoc _ cut right (each_set _ w.views id left (λ j u ne at_u. r.facts j u at_u) (r.facts id v at)) (r.facts id v at);
-    shuts = each_snoc _ cut right (each_set _ w.views id left (λ j u ne at_u. r.shuts j u at_u) (r.shuts id v at)) (r.shuts id v at);
+    own = each_cut _ r.own left_owns right_owns;
+    facts = each_cut _ r.facts (r.facts id v at) (r.facts id v at);
+    shuts = each_cut _ r.shuts (r.shuts id v at) (r.shuts id v at);
   }
 
 -- ---- join
 
--- the claim that shut either pass is a mark
-shut_either : (k : Key) (count : ℕ) (dir start : ℕ → ℕ) (a b : Option Shut) → ShutOk k count dir start a → ShutOk k count dir start b → ShutOk k count dir start (first_shut a b)
-shut_either k count dir start None b p q = q
-shut_either k count dir start (Some s) b p q = p
-
-module _ (k : Key) (w : World) (r : Rule k w) (id other : ℕ) (v u : View) (at : get_elem? w.views id ≡ some v) (ne : other ≢ id) (at_u : get_elem? w.views other ≡ some u)
-    (can : CanJoin v u) where
-  -- the view after it, and the views before the other is spent
+module _ (k : Key) (w : World) (r : Rule k w) (id other : ℕ) (v u : View) (at : get_elem? w.views id ≡ some v) (ne : other ≢ id)
+    (at_u : get_elem? w.views other ≡ some u) (can : CanJoin v u) where
+  -- the control pass's view after it
   abbrev both : View
   both = join_both v u
 
+  -- all views, before the other is spent
   abbrev taken : List View
   taken = set w.views id both
 
+  -- the other is still there
   at_other : get_elem? taken other ≡ some u
   at_other = set_else w.views id other both ne ∙ at_u
 
@@ -141,14 +153,15 @@ module _ (k : Key) (w : World) (r : Rule k w) (id other : ℕ) (v u : View) (at 
   join_apart i j a b x at_i at_j p q = pairs_set (λ i j a b. Has a.lane a.out x → Has b.lane b.out x → i ≡ j) taken other spent (λ i p q. refl)
       (λ j b not at_b. ((λ p q. absurd (has_none x p)), (λ p q. absurd (has_none x q))))
       (λ i j a b not_i not_j at_a at_b. pairs_set (λ i j a b. i ≢ other → j ≢ other → Has a.lane a.out x → Has b.lane b.out x → i ≡ j) w.views id both (λ i _ _ p q. refl)
-          (λ j b not at_b. ((λ _ away p q. mine j b at_b away p q), (λ away _ p q. sym (mine j b at_b away q p))))
-          (λ i j a b _ _ at_a at_b _ _ p q. r.seats.apart i j a b x at_a at_b p q) i j a b at_a at_b not_i not_j)
+      (λ j b not at_b. ((λ _ away p q. mine j b at_b away p q), (λ away _ p q. sym (mine j b at_b away q p))))
+      (λ i j a b _ _ at_a at_b _ _ p q. r.seats.apart i j a b x at_a at_b p q) i j a b at_a at_b not_i not_j)
       i j a b at_i at_j p q
     where
       mine : (j : ℕ) (b : View) → get_elem? w.views j ≡ some b → j ≢ other → Has both.lane both.out x → Has b.lane b.out x → id ≡ j
       mine j b at_b away p q = ⊎_elim
           (λ (h : Has v.lane v.out x). r.seats.apart id j v b x at at_b h q)
-          (λ (e : x ≡ u.lane). absurd (away (sym (r.seats.apart other j u b x at_u at_b (subst (Has u.lane u.out) (sym e) theirs) q))))
+          (λ (e : x ≡ u.lane).
+          absurd (away (sym (r.seats.apart other j u b x at_u at_b (subst (Has u.lane u.out) (sym e) theirs) q))))
           (both_has v.lane u.lane v.out x p)
 
   -- the lanes that may still overflow are those that might before
@@ -156,9 +169,10 @@ module _ (k : Key) (w : World) (r : Rule k w) (id other : ℕ) (v u : View) (at 
   join_may x has may =
       let open_both = first_shut_none v.shut u.shut may.0 in
       ⊎_elim
-          (λ (h : Has v.lane v.out x). r.limit.may id v at x h (open_both.0, may.1))
-          (λ (e : x ≡ u.lane). subst (λ (z : ℕ). r.quota z ≡ 1) (sym e) (r.limit.may other u at_u u.lane theirs (open_both.1, not_over k.end u.flight can.idle)))
-          (both_has v.lane u.lane v.out x has)
+      (λ (h : Has v.lane v.out x). r.limit.may id v at x h (open_both.0, may.1))
+      (λ (e : x ≡ u.lane). subst (λ (z : ℕ). r.quota z ≡ 1) (sym e)
+      (r.limit.may other u at_u u.lane theirs (open_both.1, not_over k.end u.flight can.idle)))
+      (both_has v.lane u.lane v.out x has)
 
   -- the records of both are those of both's lanes
   join_owns : Owns k w.count w.dir r.lane_of both.lane both.out both.own
@@ -169,12 +183,16 @@ module _ (k : Key) (w : World) (r : Rule k w) (id other : ℕ) (v u : View) (at 
       record {
         sound = λ o m. ⊎_elim
             (λ (m : Among o v.own). let s = mine.sound o m in (has_both v.lane u.lane v.out o.lane s.0, s.1))
-            (λ (m : Among o u.own). let s = other_owns.sound o m in
-                (subst (Has v.lane (without u.lane v.out)) (sym (has_one u.lane u.out o.lane can.above s.0)) (has_back v.lane u.lane v.out can.main can.above few), s.1))
+            (λ (m : Among o u.own). let s = other_owns.sound o m in (
+              subst (Has v.lane (without u.lane v.out)) (sym (has_one u.lane u.out o.lane can.above s.0))
+                  (has_back v.lane u.lane v.out can.main can.above few),
+              s.1,
+            ))
             (among_either o v.own u.own m);
         complete = λ o has stored. ⊎_elim
             (λ (h : Has v.lane v.out o.lane). among_left o v.own u.own (mine.complete o h stored))
-            (λ (e : o.lane ≡ u.lane). among_right o v.own u.own (other_owns.complete o (subst (Has u.lane u.out) (sym e) theirs) stored))
+            (λ (e : o.lane ≡ u.lane).
+            among_right o v.own u.own (other_owns.complete o (subst (Has u.lane u.out) (sym e) theirs) stored))
             (both_has v.lane u.lane v.out o.lane has);
       }
 

@@ -1,7 +1,5 @@
 -- A split and a join as the table asks for them, and what stands after a split.
-use Rattle.std.proofs.Common.{◌≡◌, ◌≢◌, ℕ, List, [], ◌∷◌, ◌++◌, length, set, sym, refl, ◌∙◌}
-use mathlib.Core.Option.{some}
-use Rattle.std.proofs.Math.ListN.{get_elem?}
+use Rattle.std.proofs.Common.{ℕ, [], ◌∷◌, ◌++◌, length, set, sym, refl, ◌∙◌}
 use Rattle.atomic_table.proofs.Lists.{at_last, at_longer, set_else, set_here}
 use Rattle.atomic_table.specs.Table.{Joins, Splits}
 use Rattle.fish_rule.proofs.Common.{within_list}
@@ -9,7 +7,7 @@ use Rattle.fish_rule.proofs.Seating.{join_kept, split_kept}
 use Rattle.fish_rule.specs.Rule.{Rule}
 use Rattle.fish_rule.specs.Seating.{CanJoin, CanSplit, join_both, spent, split_left, split_right}
 use Rattle.fish_rule.specs.Table.{Ruled, Stands}
-use Rattle.fish_rule.specs.World.{World, world}
+use Rattle.fish_rule.specs.World.{world}
 use Rattle.fish_rule.specs.declared.view.Key.{Key}
 use Rattle.fish_rule.specs.declared.view.View.{View}
 
@@ -30,7 +28,8 @@ joins k id v other u can s ruled at away at_u = record {
 -- ---- what stands
 
 -- the moment after a split
-split_moment : (v : View) (s : Stands v) (l : ℕ) → CanSplit v l → Rule v.about (record s.moment { views = set s.moment.views s.seat (split_left l v) ++ split_right l v ∷ [] })
+split_moment : (v : View) (s : Stands v) (l : ℕ) → CanSplit v l
+    → Rule v.about (record s.moment { views = set s.moment.views s.seat (split_left l v) ++ split_right l v ∷ [] })
 split_moment v s l can = split_kept v.about s.moment s.rule s.seat v s.at l can
 
 -- at that moment the control pass has its new view

@@ -3,11 +3,11 @@
 //! No step here changes a word. The first pass is the control pass: it has lane 1, and each lane
 //! from 2 to 16 that is with no other pass.
 
-ghost use Rattle.std.specs.Prelude.{◌≡◌, ℕ, ◌+◌, ◌*◌, ◌<◌, IfOk, replicate, slice_set};
+ghost use Rattle.std.specs.Prelude.{◌≡◌, ℕ, ◌+◌, ◌*◌, ◌<◌, IfOk, replicate};
 ghost use Rattle.fish_rule.specs.Parts.{Fits};
 ghost use Rattle.fish_rule.specs.Passes.{IsPassOf, view};
 ghost use Rattle.fish_rule.specs.Seating.{CanJoin, CanSplit, join_both, split_left, split_right};
-ghost use Rattle.fish_rule.specs.Start.{IsShape, first_key};
+ghost use Rattle.fish_rule.specs.Start.{IsEmpty, IsShape, first_key};
 ghost use Rattle.fish_rule.specs.Steps.{after_end};
 ghost use Rattle.fish_rule.specs.Table.{first_view};
 ghost use Rattle.fish_rule.specs.World.{total};
@@ -49,7 +49,8 @@ impl Join<View> for Meet {
 /// The key of a log of this shape that begins so.
 fn key_of(shape: Shape, start: &Start) -> Key
     requires { IsShape shape }
-    ensures { result ≡ first_key shape }
+    ensures is { result ≡ first_key shape }
+    ensures fits { Fits result }
 {
     match start {
         Start::Empty => Key {
@@ -78,13 +79,20 @@ fn tail_of(key: &Key) -> u64
     key.number * 68_719_476_736 + key.line
 }
 
-/// The words of an empty log: the tail, and zeros.
-fn empty_words(alloc: Global, count: usize, tail: u64) -> Result<Vec<u64>, AllocError>
-    requires { 0 < count }
-    ensures { IfOk result (λ words. words.items ≡ slice_set (replicate count 0) 0 tail) }
+/// So many zero words.
+fn zero_words(alloc: Global, count: usize) -> Result<Vec<u64>, AllocError>
+    ensures { IfOk result (λ words. words.items ≡ replicate count 0) }
 {
-    let mut words = vec![in alloc; 0u64; count]?;
-    words[0] = tail;
+    vec![in alloc; 0u64; count]
+}
+
+/// The words of an empty log: the tail, and zeros.
+fn empty_words(alloc: Global, key: &Key) -> Result<Vec<u64>, AllocError>
+    requires { Fits key.now }
+    ensures { IfOk result (λ words. IsEmpty key.now words.items) }
+{
+    let mut words = zero_words(alloc, word_count(key))?;
+    words[0] = tail_of(key);
     Ok(words)
 }
 
@@ -114,7 +122,7 @@ pub fn open_log(alloc: Global, shape: Shape, start: &Start) -> Result<(Log, Pass
     ensures shape { IfOk result (λ r. r.0.shape ≡ shape) }
 {
     let key = key_of(shape, start);
-    let words = empty_words(alloc, word_count(&key), tail_of(&key))?;
+    let words = empty_words(alloc, &key)?;
     let (table, seat) = Table::of_words(alloc, &words, &key)?;
     let log = Log { table, key, shape };
     let pass = Pass {

@@ -1,6 +1,8 @@
 //! One log, from its opening to two threads that step on it.
 
-use crate::{Base, Position, Shape, Start, base, is_shut, join_pass, load_tail, open_log, shape, split_pass};
+use crate::{
+    Base, Position, Shape, Start, base, is_shut, join_pass, load_tail, open_log, shape, split_pass,
+};
 use std::test::Fail;
 use std::thread::join_mut;
 

@@ -1,4 +1,4 @@
-use Rattle.std.proofs.Common.{◌≡◌, ℕ, ◌<◌, sym, ap, ◌∙◌, subst, arith}
+use Rattle.std.proofs.Common.{ℕ, ◌<◌, sym, ap, ◌∙◌, subst, arith}
 use Rattle.fish_rule.proofs.Standing.{left_stands, right_stands, splits}
 use Rattle.fish_rule.specs.Table.{Sat, Stands}
 use Rattle.fish_rule.proofs.seats.give_out.Goals as goal
@@ -7,8 +7,11 @@ use Rattle.fish_rule.proofs.seats.give_out.Goals as goal
 pub split_seat-seat-requires : goal.split_seat-seat-requires
 split_seat-seat-requires g c =
     let log = c.args.log.now in
-    let seat = c.args.main.now.seat in
-    (c.requires.pass.table, subst (λ (z : ℕ). 0 < z) (sym log.wide) (omega arith), splits log.table.shared.key seat.id seat.me.0 g.row.LANE c.requires.can)
+    let seat = c.args.main.now.seat in (
+      c.requires.pass.table,
+      subst (λ (z : ℕ). 0 < z) (sym log.wide) (omega arith),
+      splits log.table.shared.key seat.id seat.me.0 g.row.LANE c.requires.can,
+    )
 
 -- the control pass stays one of the log
 pub returns-clause-main : goal.returns-clause-main
