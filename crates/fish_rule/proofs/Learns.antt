@@ -77,6 +77,10 @@ module _ (k : Key) (w : World) (r : Rule k w) (id : ℕ) (v : View) (at : get_el
         records = h.records;
       })
 
+  -- the count only rises
+  pub end_counted : (x : ℕ) → high x ≡ w.count → v.learned.count ≤ high x
+  end_counted x count = subst (λ (z : ℕ). v.learned.count ≤ z) (sym count) (r.facts id v at).counted
+
   -- while no lane is out, the tail is as it was left
   pub end_rests : (x : ℕ) → high x ≡ w.count → low x ≡ w.line → v.lane ≡ 1 → v.out ≡ [] → Rests (high x) (low x) v.tail
   end_rests x count line main all = subst (λ (z : ℕ × ℕ). Rests z.0 z.1 v.tail) (λ d. (sym count d, sym line d)) (r.tails id v at main all)

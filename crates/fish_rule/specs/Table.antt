@@ -1,5 +1,5 @@
 -- The rule as the table's, and what a step tells its pass.
-use Rattle.std.specs.Prelude.{ℕ, ◌≡◌, ◌≢◌, ◌-◌, List, [], ◌+◌, ◌*◌, length, Bool, Some, None}
+use Rattle.std.specs.Prelude.{ℕ, ◌≡◌, ◌≢◌, ◌≤◌, ◌-◌, List, [], ◌+◌, ◌*◌, length, Bool, Some, None}
 use mathlib.Core.Option.{some}
 use Rattle.std.proofs.Math.ListN.{get_elem?}
 use Rattle.atomic_table.specs.Table.{Me, State, Step}
@@ -82,7 +82,8 @@ pub record ToldLook (st : Step Bool) (m : Sat) (found : ℕ) (m' : Sat) : Type 0
 abbrev pub told_read : Step Bool → Sat → ℕ → Sat → Type 0
 told_read st m found m' = Told m (after_read m.0 (place_at m.0.about st.word) found) m'
 
--- a load of the tail; while no lane is out it is as it was left
+-- a load of the tail: the count only rises, and while no lane is out the tail is as it was left
 pub record ToldEnd (st : Step Bool) (m : Sat) (found : ℕ) (m' : Sat) : Type 0 where
   pub told : Told m (after_end m.0 found) m'
+  pub counted : m.0.learned.count ≤ high found
   pub rests : m.0.lane ≡ 1 → m.0.out ≡ [] → Rests (high found) (low found) m.0.tail

@@ -130,6 +130,7 @@ pub fn load_tail(log: &Log, pass: &mut Pass) -> Position
     requires pass { IsPassOf log.now pass.old }
     ensures pass { IsPassOf log.now pass.new }
     ensures view { (x : ℕ) × (view pass.new ≡ after_end (view pass.old) x) × (result.number ≡ high x) × (result.line ≡ low x) }
+    ensures counted { (view pass.old).learned.count ≤ result.number }
     ensures rests { (view pass.old).lane ≡ 1 → (view pass.old).out ≡ [] → Rests result.number result.line (view pass.old).tail }
 {
     let found = log.table.shared.load::<End>(&mut pass.seat, 0);

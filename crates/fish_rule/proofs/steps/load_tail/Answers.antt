@@ -18,3 +18,7 @@ returns-clause-view c = (c.load-found.result, c.load-found.ensures.2.told.view, 
 pub returns-clause-rests : goal.returns-clause-rests
 unfolding high low
 returns-clause-rests c = c.load-found.ensures.2.rests
+
+pub returns-clause-counted : goal.returns-clause-counted
+unfolding high
+returns-clause-counted c = c.load-found.ensures.2.counted
