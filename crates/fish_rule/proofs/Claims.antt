@@ -204,3 +204,8 @@ module _ (k : Key) (w : World) (r : Rule k w) (id : ℕ) (v : View) (at : get_el
         shuts = each_set _ w.views id claimer (λ j u ne at_u. shut_later k w claimed r.start start' r.lane_of lane_of' claim_final u.shut (r.shuts j u at_u))
             (shut_later k w claimed r.start start' r.lane_of lane_of' claim_final v.shut (r.shuts id v at));
       }
+
+  -- and all that lasts
+  pub claim_lasts : Final r.start claim_kept.start r.lane_of claim_kept.lane_of w claimed
+  unfolding claim_kept
+  claim_lasts = claim_final

@@ -8,7 +8,7 @@ use Rattle.fish_rule.proofs.Frames.{alone_kept, flight_there, may_kept, one_view
 use Rattle.fish_rule.proofs.Kept.{published}
 use Rattle.fish_rule.specs.Parts.{Facts, Flies, InFlight, IsFinished, IsFound, IsKnown, Owns, Rests}
 use Rattle.fish_rule.specs.Regions.{code, dir_word, kind_of}
-use Rattle.fish_rule.specs.Rule.{Rule}
+use Rattle.fish_rule.specs.Rule.{Final, Rule}
 use Rattle.fish_rule.specs.Steps.{CanLook, CanRead, IsAlone, after_end, after_look, after_read, found_after, kind_told}
 use Rattle.fish_rule.specs.Views.{Among, Each, Has, HasFlight, IsFlightOf}
 use Rattle.fish_rule.specs.World.{World, body, high, low}
@@ -28,7 +28,7 @@ module _ (k : Key) (w : World) (r : Rule k w) (id : ℕ) (v : View) (at : get_el
   learner l t c = record v { learned = l; tail = t; clock = c }
 
   -- a load keeps the rule where the new facts hold
-  pub learns : (l : Learned) (t : Option Position) (c : Clock) → (v.lane ≡ 1 → v.out ≡ [] → Rests w.count w.line t) → Facts k w.count w.dir w.log r.start l
+  unfoldable pub learns : (l : Learned) (t : Option Position) (c : Clock) → (v.lane ≡ 1 → v.out ≡ [] → Rests w.count w.line t) → Facts k w.count w.dir w.log r.start l
       → Rule k (record w { views = set w.views id (learner l t c) })
   learns l t c rests facts =
       let v' : View = learner l t c in
@@ -77,6 +77,12 @@ module _ (k : Key) (w : World) (r : Rule k w) (id : ℕ) (v : View) (at : get_el
         records = h.records;
       })
 
+  -- and all that lasts
+  pub end_lasts : (x : ℕ) (count : high x ≡ w.count) (line : low x ≡ w.line)
+      → Final r.start (end_kept x count line).start r.lane_of (end_kept x count line).lane_of w (record w { views = set w.views id (after_end v x) })
+  unfolding end_kept learns
+  end_lasts x count line = record { counts = omega arith; lines = omega arith; starts = λ m h. refl; lanes = λ m h. refl; dirs = λ m h e. refl; bodies = λ m h e. refl }
+
   -- the count only rises
   pub end_counted : (x : ℕ) → high x ≡ w.count → v.learned.count ≤ high x
   end_counted x count = subst (λ (z : ℕ). v.learned.count ≤ z) (sym count) (r.facts id v at).counted
@@ -123,6 +129,12 @@ module _ (k : Key) (w : World) (r : Rule k w) (id : ℕ) (v : View) (at : get_el
             line = sym f.line ∙ ap low (sym is);
             lines = (let e : r.start (suc n) ≡ r.start n + lines_at n = omega arith in e ∙ ap (λ (z : ℕ). z + lines_at n) (sym f.line ∙ ap low (sym is)));
           }, (r.facts id v at).found)
+
+  -- and all that lasts
+  pub look_lasts : (n x : ℕ) (can : CanLook v n) (about : v.about ≡ k) (is : x ≡ w.dir n)
+      → Final r.start (look_kept n x can about is).start r.lane_of (look_kept n x can about is).lane_of w (record w { views = set w.views id (after_look v n (lines_at n) x) })
+  unfolding look_kept learns
+  look_lasts n x can about is = record { counts = omega arith; lines = omega arith; starts = λ m h. refl; lanes = λ m h. refl; dirs = λ m h e. refl; bodies = λ m h e. refl }
 
   -- a number that was found has the word that it had
   pub look_known : (n : ℕ) (x : ℕ) → x ≡ w.dir n → (f : Found) → Among f v.learned.found → f.number ≡ n → x ≡ dir_word f.kind f.line

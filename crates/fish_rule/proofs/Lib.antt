@@ -18,6 +18,7 @@ pub mod OwnWords
 pub mod Publishes
 pub mod Quotas
 pub mod Room
+pub mod Schedules
 pub mod Seating
 pub mod Standing
 pub mod Words

@@ -147,3 +147,8 @@ module _ (k : Key) (w : World) (r : Rule k w) (id : ℕ) (v : View) (at : get_el
         (facts_later k w stored r.start r.start r.lane_of r.lane_of store_final v.learned (r.facts id v at));
     shuts = each_set _ w.views id storer (λ j u ne at_u. r.shuts j u at_u) (r.shuts id v at);
   }
+
+  -- and all that lasts
+  pub store_lasts : Final r.start store_kept.start r.lane_of store_kept.lane_of w stored
+  unfolding store_kept
+  store_lasts = store_final

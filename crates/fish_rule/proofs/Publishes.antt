@@ -287,3 +287,8 @@ module _ (k : Key) (w : World) (r : Rule k w) (id : ℕ) (v : View) (at : get_el
       fly : (n : ℕ) → k.number ≤ n → n < w.count → dir' n ≡ 0 → Dec (n ≡ f.number) → HasFlight n (set w.views id publisher)
       fly n above below unset (yes e) = absurd (published (dir' f.number) kind kind_here (ap dir' (sym e) ∙ unset))
       fly n above below unset (no ne) = flight_there w.views id v publisher at n (λ h. absurd (ne (sym (subst (IsFlightOf n) flying h)))) (r.space.flying n above below (sym (dir_else n ne) ∙ unset))
+
+  -- and all that lasts
+  pub publish_lasts : Final r.start publish_kept.start r.lane_of publish_kept.lane_of w publication
+  unfolding publish_kept
+  publish_lasts = publish_final
