@@ -27,6 +27,7 @@ pub form_code_fits : (f : Form) → form_code f < 2
 form_code_fits Json = omega arith
 form_code_fits Csv = omega arith
 
+-- the lines in a header is what it was made from
 pub lines_of-header : {lines form keys lane version length : ℕ} → FitHeader lines form keys lane version length →
     lines_of (header_word lines form keys lane version length) ≡ lines
 unfolding lines_of
@@ -34,6 +35,7 @@ lines_of-header {lines} {form} {keys} {lane} {version} {length} fit =
     field_is (form + keys * 2 ^ 2 + lane * 2 ^ 11 + version * 2 ^ 16 + length * 2 ^ 26) 16 lines 0 0 _
     (omega arith) (omega arith) fit.lines_fit
 
+-- the code of the form in a header is what it was made from
 pub form_of-header : {lines form keys lane version length : ℕ} → FitHeader lines form keys lane version length →
     form_of (header_word lines form keys lane version length) ≡ form
 unfolding form_of
@@ -41,6 +43,7 @@ form_of-header {lines} {form} {keys} {lane} {version} {length} fit =
     field_is (keys + lane * 2 ^ 9 + version * 2 ^ 14 + length * 2 ^ 24) 2 form 16 lines _ (omega arith)
     fit.lines_fit fit.form_fit
 
+-- the number of key entries in a header is what it was made from
 pub keys_of-header : {lines form keys lane version length : ℕ} → FitHeader lines form keys lane version length →
     keys_of (header_word lines form keys lane version length) ≡ keys
 unfolding keys_of
@@ -48,6 +51,7 @@ keys_of-header {lines} {form} {keys} {lane} {version} {length} fit =
     field_is (lane + version * 2 ^ 5 + length * 2 ^ 15) 9 keys 18 (lines + form * 2 ^ 16) _ (omega arith)
     (omega arith) fit.keys_fit
 
+-- the lane in a header is what it was made from
 pub lane_of-header : {lines form keys lane version length : ℕ} → FitHeader lines form keys lane version length →
     lane_of (header_word lines form keys lane version length) ≡ lane
 unfolding lane_of
@@ -55,6 +59,7 @@ lane_of-header {lines} {form} {keys} {lane} {version} {length} fit =
     field_is (version + length * 2 ^ 10) 5 lane 27 (lines + form * 2 ^ 16 + keys * 2 ^ 18) _ (omega arith)
     (omega arith) fit.lane_fit
 
+-- the version in a header is what it was made from
 pub version_of-header : {lines form keys lane version length : ℕ} → FitHeader lines form keys lane version length →
     version_of (header_word lines form keys lane version length) ≡ version
 unfolding version_of
@@ -62,6 +67,7 @@ version_of-header {lines} {form} {keys} {lane} {version} {length} fit =
     field_is length 10 version 32 (lines + form * 2 ^ 16 + keys * 2 ^ 18 + lane * 2 ^ 27) _ (omega arith)
     (omega arith) fit.version_fit
 
+-- the length of the payload in a header is what it was made from
 pub length_of-header : {lines form keys lane version length : ℕ} → FitHeader lines form keys lane version length →
     length_of (header_word lines form keys lane version length) ≡ length
 unfolding length_of

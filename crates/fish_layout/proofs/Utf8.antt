@@ -25,13 +25,15 @@ bytes_more : (x : ℕ) (b : List ℕ) → x < 256 → AreBytes b → AreBytes (x
 bytes_more x b h of_b zero = h
 bytes_more x b h of_b (suc i) = of_b i
 
--- two, three and four bytes
+-- two bytes
 bytes_two : (x y : ℕ) → x < 256 → y < 256 → AreBytes (x ∷ y ∷ [])
 bytes_two x y hx hy = bytes_more x (y ∷ []) hx (bytes_more y [] hy bytes_none)
 
+-- three bytes
 bytes_three : (x y z : ℕ) → x < 256 → y < 256 → z < 256 → AreBytes (x ∷ y ∷ z ∷ [])
 bytes_three x y z hx hy hz = bytes_more x (y ∷ z ∷ []) hx (bytes_two y z hy hz)
 
+-- four bytes
 bytes_four : (x y z u : ℕ) → x < 256 → y < 256 → z < 256 → u < 256 → AreBytes (x ∷ y ∷ z ∷ u ∷ [])
 bytes_four x y z u hx hy hz hu = bytes_more x (y ∷ z ∷ u ∷ []) hx (bytes_three y z u hy hz hu)
 
