@@ -1,0 +1,17 @@
+-- Which payloads are records of a form, and what such a payload has at each path.
+use Rattle.std.specs.Prelude.{ℕ, List, Bool, is_some}
+use Rattle.fish_value.specs.declared.field.Form.{Form}
+use Rattle.fish_value.specs.declared.field.Form.TheVariants.{Json, Csv}
+use Rattle.fish_json.specs.Reading.{record_of, field as json_field}
+use Rattle.fish_csv.specs.Reading.{row_of, field as csv_field}
+use Rattle.fish_psf.specs.Eval.{Fields}
+
+-- a payload is a record of its form: an object in JSON, or one row in CSV, of at most 524,288 bytes
+unfoldable pub is_record : Form → List ℕ → Bool
+is_record Json b = is_some (record_of b)
+is_record Csv b = is_some (row_of b)
+
+-- what a payload of a form has at each path: nothing where it is no record
+unfoldable pub fields_of_payload : Form → List ℕ → Fields
+fields_of_payload Json b = json_field b
+fields_of_payload Csv b = csv_field b
