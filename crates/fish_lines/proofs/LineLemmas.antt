@@ -29,6 +29,14 @@ slice_split_first_end (x ∷ xs) (suc k) within before ends =
     let next : suc k + 1 ≡ suc (k + 1) = omega arith in
     rw (here, next) (ap (onto_first x) (slice_split_first_end xs k (omega arith) (λ j less. before (suc j) (omega arith)) ends))
 
+-- the part in front of the first LF has none
+pub slice_split_front : (b : List ℕ) (k : ℕ) → k < length b → ((j : ℕ) → j < k → ¬ Passes (is_byte 10) b j) → slice_split is_line_end (take k b) ≡ take k b ∷ []
+slice_split_front b zero within before = refl
+slice_split_front [] (suc k) within before = absurd (omega arith)
+slice_split_front (x ∷ xs) (suc k) within before =
+    let here : is_line_end x ≡ false = failed (is_line_end x) (before 0 (omega arith)) in
+    rw here (ap (onto_first x) (slice_split_front xs k (omega arith) (λ j less. before (suc j) (omega arith))))
+
 -- a filter at a line whose test is known
 filter-cons : (line : List ℕ) (lines : List (List ℕ)) (blank : Bool) → is_blank line ≡ blank
     → filter (λ l. not (is_blank l)) (line ∷ lines) ≡ (if blank then filter (λ l. not (is_blank l)) lines else line ∷ filter (λ l. not (is_blank l)) lines)

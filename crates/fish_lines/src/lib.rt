@@ -8,12 +8,10 @@ mod file;
 mod found;
 mod line;
 mod lines;
-
-
-
-
+mod open_line;
+mod splitter;
 
 pub use file::records;
 pub use found::{Records, RecordsRefusal};
 pub use lines::Lines;
-
+pub use splitter::{Line, LineList, Splitter, lines_of_pieces};

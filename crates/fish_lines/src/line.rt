@@ -22,6 +22,7 @@ pub(crate) fn without_mark(b: &[u8]) -> &[u8]
 pub(crate) fn cut(b: &[u8]) -> Option<(&[u8], &[u8])>
     ensures parts { MatchOption result (slice_split is_line_end b.now ≡ b.now ∷ [])
         (λ p. slice_split is_line_end b.now ≡ p.0.now ∷ slice_split is_line_end p.1.now) }
+    ensures no_end { IfSome result (λ p. slice_split is_line_end p.0.now ≡ p.0.now ∷ []) }
     ensures shorter { IfSome result (λ p. length p.0.now + length p.1.now + 1 ≡ length b.now) }
 {
     let end = memchr(b'\n', b)?;
