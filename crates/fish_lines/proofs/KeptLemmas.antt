@@ -114,7 +114,7 @@ pub IsOpen-grown : (o : OpenLine) (bytes : List ℕ) (t : List ℕ) (d : ℕ) (p
 IsOpen-grown o bytes t d p one was is = record {
   no_end = no_end-append t (d ∷ p) was.no_end one;
   kept = is ∙ ap (λ l. take KEPT (l ++ cr_if o.ends_in_cr ++ strip_carriage_return (d ∷ p))) was.kept
-    ∙ ap (λ cr. take KEPT (take KEPT (strip_carriage_return t) ++ cr_if cr ++ strip_carriage_return (d ∷ p))) was.cr ∙ kept-grown KEPT t d p;
+      ∙ ap (λ cr. take KEPT (take KEPT (strip_carriage_return t) ++ cr_if cr ++ strip_carriage_return (d ∷ p))) was.cr ∙ kept-grown KEPT t d p;
   cr = sym (ends_in_cr-append t d p);
 }
 

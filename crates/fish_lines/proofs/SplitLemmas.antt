@@ -59,8 +59,8 @@ unfolding whole_lines
 whole_lines-more b p h =
     let q = parts_of_bytes (last_part (parts_of b) ++ p) in
     let all : ended (parts_of (b ++ p)) ≡ ended (parts_of b) ++ ended (slice_split is_line_end (last_part (parts_of b) ++ p)) =
-      ap ended (parts-more b p h ∙ ap (λ l. ended (parts_of b) ++ l) q.are) ∙ ended-append (ended (parts_of b)) q.first q.more
-      ∙ ap (λ l. ended (parts_of b) ++ ended l) (sym q.are) in
+    ap ended (parts-more b p h ∙ ap (λ l. ended (parts_of b) ++ l) q.are) ∙ ended-append (ended (parts_of b)) q.first q.more
+    ∙ ap (λ l. ended (parts_of b) ++ ended l) (sym q.are) in
     ap given_of all ∙ given_of-append (ended (parts_of b)) _
 
 pub last_part-more : (b p : List ℕ) → without_mark (b ++ p) ≡ without_mark b ++ p
@@ -75,7 +75,7 @@ unfolding lines whole_lines
 lines-whole b =
     let q = parts_of_bytes (without_mark b) in
     let all : parts_of b ≡ ended (parts_of b) ++ last_part (parts_of b) ∷ [] =
-      q.are ∙ sym (ended-last q.first q.more) ∙ sym (ap (λ parts. ended parts ++ last_part parts ∷ []) q.are) in
+    q.are ∙ sym (ended-last q.first q.more) ∙ sym (ap (λ parts. ended parts ++ last_part parts ∷ []) q.are) in
     ap given_of all ∙ given_of-append (ended (parts_of b)) (last_part (parts_of b) ∷ [])
 
 -- ---- the end of the file
@@ -84,12 +84,12 @@ finish-cases : (s : Splitter) (b : List ℕ) (taken : List Line) (f : Bool) → 
 finish-cases s b taken true e h = record { all = rw e at h.all; going = λ wrong. cc }
 finish-cases s b taken false e h = record {
   all =
-    let g = h.going e in
-    let last = line_in s.last in
-    let before : taken ++ (s.ready.items ++ []) ≡ whole_lines b = rw e at h.all in
-    ap (λ l. taken ++ (l ++ last)) (sym (append-nil s.ready.items)) ∙ ap (λ l. taken ++ l) (append_assoc s.ready.items [] last)
-    ∙ sym (append_assoc taken s.ready.items last) ∙ ap (λ l. l ++ last) (ap (λ l. taken ++ l) (sym (append-nil s.ready.items)) ∙ before)
-    ∙ ap (λ l. whole_lines b ++ l) (line_in_open s.last (last_part (parts_of b)) g.rest) ∙ sym (lines-whole b);
+      let g = h.going e in
+      let last = line_in s.last in
+      let before : taken ++ (s.ready.items ++ []) ≡ whole_lines b = rw e at h.all in
+      ap (λ l. taken ++ (l ++ last)) (sym (append-nil s.ready.items)) ∙ ap (λ l. taken ++ l) (append_assoc s.ready.items [] last)
+      ∙ sym (append_assoc taken s.ready.items last) ∙ ap (λ l. l ++ last) (ap (λ l. taken ++ l) (sym (append-nil s.ready.items)) ∙ before)
+      ∙ ap (λ l. whole_lines b ++ l) (line_in_open s.last (last_part (parts_of b)) g.rest) ∙ sym (lines-whole b);
   going = λ wrong. cc;
 }
 
@@ -111,14 +111,14 @@ HasTaken-more s u b p taken h going behind goes stays ready rest =
     let before : taken ++ (s.ready.items ++ []) ≡ whole_lines b = rw going at h.all in
     record {
       all = rw goes (
-        ap (λ l. taken ++ l) (append-nil u.ready.items ∙ ready) ∙ sym (append_assoc taken s.ready.items more)
-        ∙ ap (λ l. l ++ more) (ap (λ l. taken ++ l) (sym (append-nil s.ready.items)) ∙ before) ∙ sym (whole_lines-more b p (decided p)));
+          ap (λ l. taken ++ l) (append-nil u.ready.items ∙ ready) ∙ sym (append_assoc taken s.ready.items more)
+          ∙ ap (λ l. l ++ more) (ap (λ l. taken ++ l) (sym (append-nil s.ready.items)) ∙ before) ∙ sym (whole_lines-more b p (decided p)));
       going = λ _. record {
         rest = rw (last_part-more b p (decided p)) rest;
         undecided = λ wrong. cc;
         held = λ wrong. cc;
         decided = λ _ later. ap without_mark (append_assoc b p later) ∙ decided (p ++ later) ∙ sym (append_assoc (without_mark b) p later)
-          ∙ ap (λ l. l ++ later) (sym (decided p));
+            ∙ ap (λ l. l ++ later) (sym (decided p));
       };
     }
 

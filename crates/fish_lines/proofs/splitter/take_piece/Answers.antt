@@ -18,8 +18,8 @@ returns-clause-lines c = λ t is.
     let parts = ap (λ l. given_of (ended l)) (front_ends t c.args.piece.now front behind is.no_end c.in-Some.ensures.parts) in
     c.in_ok-append.ensures.items
     ∙ ap (λ l. c.args.ready.now.items ++ l)
-      (c.in_ok-rest.ensures.lines ∙ ap (λ l. l ++ more) (c.in_ok-push_line.ensures ∙ ap (λ l. l ++ line_in c.in_ok-grown.field-0) c.new-more.ensures.items)
-      ∙ first ∙ sym (given_front (t ++ front) behind) ∙ sym parts)
+    (c.in_ok-rest.ensures.lines ∙ ap (λ l. l ++ more) (c.in_ok-push_line.ensures ∙ ap (λ l. l ++ line_in c.in_ok-grown.field-0) c.new-more.ensures.items)
+    ∙ first ∙ sym (given_front (t ++ front) behind) ∙ sym parts)
 
 pub returns-clause-rest : goal.returns-clause-rest
 returns-clause-rest c = λ t is.
