@@ -61,9 +61,10 @@ pub fn claim_lines(log: &Log, pass: &mut Pass, lines: u64) -> Region
     ensures lines { result.lines ≡ lines }
 {
     let found = log.table.shared.fetch_add::<Claim>(&mut pass.seat, 0, ONE + lines);
+    let Position { number, line } = position_in(found);
     let region = Region {
-        number: found / ONE,
-        line: found % ONE,
+        number,
+        line,
         lines,
     };
     pass.flight = Some(region);
@@ -134,9 +135,18 @@ pub fn load_tail(log: &Log, pass: &mut Pass) -> Position
     ensures rests { (view pass.old).lane ≡ 1 → (view pass.old).out ≡ [] → Rests result.number result.line (view pass.old).tail }
 {
     let found = log.table.shared.load::<End>(&mut pass.seat, 0);
+    position_in(found)
+}
+
+/// Where a tail word says that the next record goes.
+#[tactic(auto, unfolding(crate::specs::World::high, crate::specs::World::low))]
+fn position_in(tail: u64) -> Position
+    ensures number { result.number ≡ high tail }
+    ensures line { result.line ≡ low tail }
+{
     Position {
-        number: found / ONE,
-        line: found % ONE,
+        number: tail / ONE,
+        line: tail % ONE,
     }
 }
 
