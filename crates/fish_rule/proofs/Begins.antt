@@ -60,6 +60,7 @@ module _ (k : Key) (ws : List ℕ) (fits : Fits k) (empty : IsEmpty k ws) where
   empty_words = λ j. record {
     count = count_is j;
     line = line_is j;
+    settled = empty.zeros 1 (omega arith) j;
     dir = λ n. dir_zero n j;
     log = λ p. log_zero p j;
     views = first_view k ∷ [];
@@ -136,6 +137,8 @@ module _ (k : Key) (fits : Fits k) where
     tails = each_one (λ v. v.lane ≡ 1 → v.out ≡ [] → Rests w.count w.line v.tail) (first_view k) (λ _ _. (refl, refl));
     space = space;
     limit = limit;
+    settling = record { within = omega arith; below = λ n above below. absurd (omega arith) };
+    floors = each_one (λ v. v.learned.settled ≤ 0) (first_view k) (omega arith);
     own = each_one (λ v. Owns k w.count w.dir lane_of v.lane v.out v.own) (first_view k)
         (record { sound = λ o m. elim m [ ]; complete = λ o has stored. absurd (none o.number stored.above stored.below) });
     facts = each_one (λ v. Facts k w.count w.dir w.log start v.learned) (first_view k)

@@ -28,9 +28,9 @@ module _ (k : Key) (w : World) (r : Rule k w) (id : ℕ) (v : View) (at : get_el
   learner l t c = record v { learned = l; tail = t; clock = c }
 
   -- a load keeps the rule where the new facts hold
-  unfoldable pub learns : (l : Learned) (t : Option Position) (c : Clock) → (v.lane ≡ 1 → v.out ≡ [] → Rests w.count w.line t) → Facts k w.count w.dir w.log r.start l
+  unfoldable pub learns : (l : Learned) (t : Option Position) (c : Clock) → (v.lane ≡ 1 → v.out ≡ [] → Rests w.count w.line t) → Facts k w.count w.dir w.log r.start l → l.settled ≤ w.settled
       → Rule k (record w { views = set w.views id (learner l t c) })
-  learns l t c rests facts =
+  learns l t c rests facts floor =
       let v' : View = learner l t c in
       record {
         start = r.start;
@@ -59,6 +59,8 @@ module _ (k : Key) (w : World) (r : Rule k w) (id : ℕ) (v : View) (at : get_el
           few = r.limit.few;
           may = may_kept w.views id v v' at k.end r.quota refl refl (λ h. h) r.limit.may;
         };
+        settling = r.settling;
+        floors = each_set _ w.views id v' (λ j u ne at_u. r.floors j u at_u) floor;
         own = each_set _ w.views id v' (λ j u ne at_u. r.own j u at_u) (r.own id v at);
         facts = each_set _ w.views id v' (λ j u ne at_u. r.facts j u at_u) facts;
         shuts = each_set _ w.views id v' (λ j u ne at_u. r.shuts j u at_u) (r.shuts id v at);
@@ -75,13 +77,13 @@ module _ (k : Key) (w : World) (r : Rule k w) (id : ℕ) (v : View) (at : get_el
         found = h.found;
         known = h.known;
         records = h.records;
-      })
+      }) (r.floors id v at)
 
   -- and all that lasts
   pub end_lasts : (x : ℕ) (count : high x ≡ w.count) (line : low x ≡ w.line)
       → Final r.start (end_kept x count line).start r.lane_of (end_kept x count line).lane_of w (record w { views = set w.views id (after_end v x) })
   unfolding end_kept learns
-  end_lasts x count line = record { counts = omega arith; lines = omega arith; starts = λ m h. refl; lanes = λ m h. refl; dirs = λ m h e. refl; bodies = λ m h e. refl }
+  end_lasts x count line = record { counts = omega arith; lines = omega arith; settles = omega arith; starts = λ m h. refl; lanes = λ m h. refl; dirs = λ m h e. refl; bodies = λ m h e. refl }
 
   -- the count only rises
   pub end_counted : (x : ℕ) → high x ≡ w.count → v.learned.count ≤ high x
@@ -112,7 +114,7 @@ module _ (k : Key) (w : World) (r : Rule k w) (id : ℕ) (v : View) (at : get_el
         found = each x is;
         known = h.known;
         records = h.records;
-      })
+      }) (r.floors id v at)
     where
       each : (x : ℕ) → x ≡ w.dir n → Rattle.fish_rule.specs.Views.AllOf (IsFound k w.count w.dir r.start) (found_after n (lines_at n) x v.learned.found)
       each zero is = (r.facts id v at).found
@@ -134,7 +136,7 @@ module _ (k : Key) (w : World) (r : Rule k w) (id : ℕ) (v : View) (at : get_el
   pub look_lasts : (n x : ℕ) (can : CanLook v n) (about : v.about ≡ k) (is : x ≡ w.dir n)
       → Final r.start (look_kept n x can about is).start r.lane_of (look_kept n x can about is).lane_of w (record w { views = set w.views id (after_look v n (lines_at n) x) })
   unfolding look_kept learns
-  look_lasts n x can about is = record { counts = omega arith; lines = omega arith; starts = λ m h. refl; lanes = λ m h. refl; dirs = λ m h e. refl; bodies = λ m h e. refl }
+  look_lasts n x can about is = record { counts = omega arith; lines = omega arith; settles = omega arith; starts = λ m h. refl; lanes = λ m h. refl; dirs = λ m h e. refl; bodies = λ m h e. refl }
 
   -- a number that was found has the word that it had
   pub look_known : (n : ℕ) (x : ℕ) → x ≡ w.dir n → (f : Found) → Among f v.learned.found → f.number ≡ n → x ≡ dir_word f.kind f.line

@@ -122,6 +122,8 @@ module _ (k : Key) (w : World) (r : Rule k w) (id : ℕ) (v : View) (at : get_el
       log_beyond = r.space.log_beyond;
     };
     limit = split_limit;
+    settling = r.settling;
+    floors = each_cut _ r.floors (r.floors id v at) (r.floors id v at);
     own = each_cut _ r.own left_owns right_owns;
     facts = each_cut _ r.facts (r.facts id v at) (r.facts id v at);
     shuts = each_cut _ r.shuts (r.shuts id v at) (r.shuts id v at);
@@ -132,7 +134,7 @@ module _ (k : Key) (w : World) (r : Rule k w) (id : ℕ) (v : View) (at : get_el
   -- and all that lasts
   pub split_lasts : Final r.start split_kept.start r.lane_of split_kept.lane_of w (record w { views = set w.views id (split_left l v) ++ split_right l v ∷ [] })
   unfolding split_kept
-  split_lasts = record { counts = omega arith; lines = omega arith; starts = λ n h. refl; lanes = λ n h. refl; dirs = λ n h e. refl; bodies = λ n h e. refl }
+  split_lasts = record { counts = omega arith; lines = omega arith; settles = omega arith; starts = λ n h. refl; lanes = λ n h. refl; dirs = λ n h e. refl; bodies = λ n h e. refl }
 
 module _ (k : Key) (w : World) (r : Rule k w) (id other : ℕ) (v u : View) (at : get_elem? w.views id ≡ some v) (ne : other ≢ id)
     (at_u : get_elem? w.views other ≡ some u) (can : CanJoin v u) where
@@ -247,6 +249,8 @@ module _ (k : Key) (w : World) (r : Rule k w) (id other : ℕ) (v u : View) (at 
       few = r.limit.few;
       may = each_join _ r.limit.may join_may (λ x has. absurd (has_none x has));
     };
+    settling = r.settling;
+    floors = each_join _ r.floors (greater_within v.learned.settled u.learned.settled w.settled (r.floors id v at) (r.floors other u at_u)) (omega arith);
     own = each_join _ r.own join_owns (record { sound = λ o m. elim m [ ]; complete = λ o has. absurd (has_none o.lane has) });
     facts = each_join _ r.facts join_facts (record { counted = omega arith; found = tt; known = tt; records = tt });
     shuts = each_join _ r.shuts (shut_either k w.count w.dir r.start v.shut u.shut (r.shuts id v at) (r.shuts other u at_u)) tt;
@@ -255,4 +259,4 @@ module _ (k : Key) (w : World) (r : Rule k w) (id other : ℕ) (v u : View) (at 
   -- and all that lasts
   pub join_lasts : Final r.start join_kept.start r.lane_of join_kept.lane_of w (record w { views = set (set w.views id (join_both v u)) other spent })
   unfolding join_kept
-  join_lasts = record { counts = omega arith; lines = omega arith; starts = λ n h. refl; lanes = λ n h. refl; dirs = λ n h e. refl; bodies = λ n h e. refl }
+  join_lasts = record { counts = omega arith; lines = omega arith; settles = omega arith; starts = λ n h. refl; lanes = λ n h. refl; dirs = λ n h e. refl; bodies = λ n h e. refl }
