@@ -9,7 +9,7 @@ use Rattle.fish_rule.proofs.Kept.{published}
 use Rattle.fish_rule.specs.Parts.{Facts, Flies, InFlight, IsFinished, IsFound, IsKnown, Owns, Rests}
 use Rattle.fish_rule.specs.Regions.{code, dir_word, kind_of}
 use Rattle.fish_rule.specs.Rule.{Final, Rule}
-use Rattle.fish_rule.specs.Steps.{CanLook, CanRead, IsAlone, after_end, after_look, after_read, found_after, kind_told}
+use Rattle.fish_rule.specs.Steps.{CanLook, CanRead, IsAlone, after_end, after_look, after_read, after_settled, found_after, kind_told}
 use Rattle.fish_rule.specs.Views.{Among, Each, Has, HasFlight, IsFlightOf}
 use Rattle.fish_rule.specs.World.{World, body, high, low}
 use Rattle.fish_rule.specs.declared.view.Clock.{Clock}
@@ -89,9 +89,26 @@ module _ (k : Key) (w : World) (r : Rule k w) (id : ℕ) (v : View) (at : get_el
   pub end_counted : (x : ℕ) → high x ≡ w.count → v.learned.count ≤ high x
   end_counted x count = subst (λ (z : ℕ). v.learned.count ≤ z) (sym count) (r.facts id v at).counted
 
+  -- and is at or behind the settled number
+  pub end_settled : (x : ℕ) → high x ≡ w.count → v.learned.settled ≤ high x
+  end_settled x count = (let a = r.floors id v at in let b = r.settling.within in omega arith)
+
   -- while no lane is out, the tail is as it was left
   pub end_rests : (x : ℕ) → high x ≡ w.count → low x ≡ w.line → v.lane ≡ 1 → v.out ≡ [] → Rests (high x) (low x) v.tail
   end_rests x count line main all = subst (λ (z : ℕ × ℕ). Rests z.0 z.1 v.tail) (λ d. (sym count d, sym line d)) (r.tails id v at main all)
+
+  -- ---- load settled
+
+  -- a load of the settled number
+  pub settled_kept : Rule k (record w { views = set w.views id (after_settled v w.settled) })
+  settled_kept =
+      let h = r.facts id v at in
+      learns (record v.learned { settled = w.settled }) v.tail _ (r.tails id v at) (record { counted = h.counted; found = h.found; known = h.known; records = h.records }) (omega arith)
+
+  -- and all that lasts
+  pub settled_lasts : Final r.start settled_kept.start r.lane_of settled_kept.lane_of w (record w { views = set w.views id (after_settled v w.settled) })
+  unfolding settled_kept learns
+  settled_lasts = record { counts = omega arith; lines = omega arith; settles = omega arith; starts = λ n h. refl; lanes = λ n h. refl; dirs = λ n h e. refl; bodies = λ n h e. refl }
 
   -- ---- look
 

@@ -20,6 +20,7 @@ pub mod Quotas
 pub mod Room
 pub mod Schedules
 pub mod Seating
+pub mod Settles
 pub mod Standing
 pub mod Words
 pub mod Worlds

@@ -5,12 +5,13 @@ use Rattle.std.proofs.Math.ListN.{get_elem?}
 use Rattle.fish_rule.proofs.Begins.{empty_rule}
 use Rattle.fish_rule.proofs.Claims.{claim_kept, claim_lasts}
 use Rattle.fish_rule.proofs.Flights.{publisher_at}
-use Rattle.fish_rule.proofs.Learns.{end_kept, end_lasts, lines_at, look_kept, look_lasts}
+use Rattle.fish_rule.proofs.Learns.{end_kept, end_lasts, lines_at, look_kept, look_lasts, settled_kept, settled_lasts}
 use Rattle.fish_rule.proofs.Loads.{read_kept, read_lasts}
 use Rattle.fish_rule.proofs.OwnWords.{store_kept, store_lasts}
 use Rattle.fish_rule.proofs.Publishes.{publish_kept, publish_lasts}
+use Rattle.fish_rule.proofs.Settles.{raise_kept, raise_lasts}
 use Rattle.fish_rule.proofs.Seating.{join_kept, join_lasts, split_kept, split_lasts}
-use Rattle.fish_rule.specs.Machine.{Event, EverySchedule, EveryStepIsFinal, Goes, Runs, claims, ends, joins, looks, publishes, reads, splits, stores}
+use Rattle.fish_rule.specs.Machine.{Event, EverySchedule, EveryStepIsFinal, Goes, Runs, claims, ends, joins, looks, publishes, raises, reads, settles, splits, stores}
 use Rattle.fish_rule.specs.Parts.{Fits}
 use Rattle.fish_rule.specs.Regions.{dir_word, kind_of}
 use Rattle.fish_rule.specs.Rule.{Final, Rule}
@@ -46,6 +47,10 @@ event_lasts k (reads id n i) w u r g = (let v = g.0 in let f = g.1 in let s = g.
     lasts_at k w r u _ g.5 (read_kept k w r id v s.at f i g.3, read_lasts k w r id v s.at f i g.3))
 event_lasts k (ends id) w u r g = (let v = g.0 in let x : ℕ = g.1 in let s = g.2 in
     lasts_at k w r u _ g.5 (end_kept k w r id v s.at x g.3 g.4, end_lasts k w r id v s.at x g.3 g.4))
+event_lasts k (settles id) w u r g = (let v = g.0 in let s = g.1 in
+    lasts_at k w r u _ g.2 (settled_kept k w r id v s.at, settled_lasts k w r id v s.at))
+event_lasts k (raises id m) w u r g = (let v = g.0 in let s = g.1 in
+    lasts_at k w r u _ g.3 (raise_kept k w r id v s.at s.about m g.2, raise_lasts k w r id v s.at s.about m g.2))
 event_lasts k (splits id l) w u r g = (let v = g.0 in let s = g.1 in
     lasts_at k w r u _ g.3 (split_kept k w r id v s.at l g.2, split_lasts k w r id v s.at l g.2))
 event_lasts k (joins id other) w u r g = (let v = g.0 in let b = g.1 in let s = g.2 in

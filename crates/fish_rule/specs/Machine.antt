@@ -1,12 +1,12 @@
 -- Every schedule: lists of steps of the passes on one table, in any order.
-use Rattle.std.specs.Prelude.{ℕ, ◌≡◌, ◌≢◌, ◌+◌, ◌-◌, ◌*◌, ◌<◌, ◌≤◌, suc, List, [], ◌∷◌, ◌++◌, length}
+use Rattle.std.specs.Prelude.{ℕ, ◌≡◌, ◌≢◌, ◌+◌, ◌-◌, ◌*◌, ◌<◌, ◌≤◌, suc, List, [], ◌∷◌, ◌++◌, length, max}
 use mathlib.Core.Option.{some}
 use Rattle.std.proofs.Math.ListN.{get_elem?, set}
 use Rattle.fish_rule.specs.Parts.{Fits}
 use Rattle.fish_rule.specs.Regions.{dir_word}
 use Rattle.fish_rule.specs.Rule.{Final, Rule}
 use Rattle.fish_rule.specs.Seating.{CanJoin, CanSplit, join_both, spent, split_left, split_right}
-use Rattle.fish_rule.specs.Steps.{CanClaim, CanLook, CanPublish, CanRead, CanStore, after_claim, after_end, after_look, after_publish, after_read, after_store, flight_kind}
+use Rattle.fish_rule.specs.Steps.{CanClaim, CanLook, CanPublish, CanRaise, CanRead, CanStore, after_claim, after_end, after_look, after_publish, after_raise, after_read, after_settled, after_store, flight_kind}
 use Rattle.fish_rule.specs.Start.{empty_world}
 use Rattle.fish_rule.specs.World.{World, high, low, put}
 use Rattle.fish_rule.specs.declared.view.Flight.{Flight}
@@ -22,6 +22,8 @@ pub data Event : Type 0 where
   looks : ℕ → ℕ → Event
   reads : ℕ → ℕ → ℕ → Event
   ends : ℕ → Event
+  settles : ℕ → Event
+  raises : ℕ → ℕ → Event
   splits : ℕ → ℕ → Event
   joins : ℕ → ℕ → Event
 
@@ -48,6 +50,9 @@ Goes k w (reads id n i) u = (v : View) × (f : Found) × Seated k w id v × CanR
     × (u ≡ record w { views = set w.views id (after_read v (f.line * 4 + i) (w.log (f.line * 4 + i))) })
 Goes k w (ends id) u = (v : View) × (x : ℕ) × Seated k w id v × (high x ≡ w.count) × (low x ≡ w.line)
     × (u ≡ record w { views = set w.views id (after_end v x) })
+Goes k w (settles id) u = (v : View) × Seated k w id v × (u ≡ record w { views = set w.views id (after_settled v w.settled) })
+Goes k w (raises id m) u = (v : View) × Seated k w id v × CanRaise v m
+    × (u ≡ record w { settled = max w.settled m; views = set w.views id (after_raise v m w.settled) })
 Goes k w (splits id l) u = (v : View) × Seated k w id v × CanSplit v l
     × (u ≡ record w { views = set w.views id (split_left l v) ++ split_right l v ∷ [] })
 Goes k w (joins id other) u = (v : View) × (b : View) × Seated k w id v × (other ≢ id) × (get_elem? w.views other ≡ some b) × CanJoin v b

@@ -22,3 +22,6 @@ returns-clause-rests c main all =
 
 pub returns-clause-counted : goal.returns-clause-counted
 returns-clause-counted c = subst (λ (z : ℕ). (view c.args.pass.now).learned.count ≤ z) (sym c.position_in.ensures.number) c.load-found.ensures.2.counted
+
+pub returns-clause-settled : goal.returns-clause-settled
+returns-clause-settled c = subst (λ (z : ℕ). (view c.args.pass.now).learned.settled ≤ z) (sym c.position_in.ensures.number) c.load-found.ensures.2.settled
