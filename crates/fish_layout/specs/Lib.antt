@@ -1,7 +1,9 @@
 pub mod Body
+pub mod Bucket
 pub mod Bytes
 pub mod Cleared
 pub mod Entry
+pub mod Hash
 pub mod Header
 pub mod Headers
 pub mod Outline

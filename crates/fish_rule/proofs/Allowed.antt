@@ -11,7 +11,8 @@ use Rattle.fish_rule.proofs.Bounds.{ends_within, starts_above}
 use Rattle.fish_rule.proofs.Claims.{claim_kept}
 use Rattle.fish_rule.proofs.Common.{all_among, within_list}
 use Rattle.fish_rule.proofs.Learns.{end_counted, end_settled, end_kept, end_rests, learns, lines_at, look_alone, look_kept, look_known}
-use Rattle.fish_rule.proofs.OwnWords.{flight_is, store_kept, stored_place}
+use Rattle.fish_rule.proofs.Fills.{store_kept, stored_place}
+use Rattle.fish_rule.proofs.OwnWords.{flight_is}
 use Rattle.fish_rule.proofs.Publishes.{publish_kept}
 use Rattle.fish_rule.proofs.Room.{few_lines, few_numbers, few_slots}
 use Rattle.fish_rule.proofs.Worlds.{area-in, world-dir, world-log, world-tail}

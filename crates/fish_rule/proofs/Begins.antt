@@ -1,17 +1,20 @@
 -- The rule holds of an empty log with one pass.
-use Rattle.std.proofs.Common.{◌≡◌, ℕ, ◌+◌, ◌-◌, ◌*◌, ◌<◌, ◌≤◌, zero, suc, List, [], ◌∷◌, slice_index, sym, refl, ap, ◌∙◌, subst, arith}
+use Rattle.std.proofs.Common.{◌≡◌, ℕ, ◌+◌, ◌-◌, ◌*◌, ◌<◌, ◌≤◌, zero, suc, List, [], ◌∷◌, slice_index, sym, refl, ap, ◌∙◌, subst, inl, inr, ⊎_elim, arith}
 use Rattle.std.proofs.Math.Decide.{dec_le}
 use Rattle.std.proofs.Math.ListN.{get_elem?}
 use mathlib.Core.Option.{some, some-injective, some-ne-none}
 use Rattle.atomic_table.specs.Table.{opening}
 use Rattle.fish_layout.specs.Cleared.{choose}
 use Rattle.fish_rule.proofs.Bodies.{high-pack, low-pack}
+use Rattle.fish_rule.proofs.Kept.{published}
+use Rattle.fish_rule.specs.Chains.{IsLinking, IsStoredAt, Linked, LinksAt}
+use Rattle.fish_rule.specs.declared.view.Kind.TheVariants.{Stored}
 use Rattle.fish_rule.specs.Parts.{Facts, Fits, Flies, Limit, Owns, Regions, Rests, ShutOk, Space, quotas}
 use Rattle.fish_rule.specs.Rule.{Rule}
 use Rattle.fish_rule.specs.Start.{IsEmpty, empty_world}
 use Rattle.fish_rule.specs.Table.{Ruled, Stands, first_view}
 use Rattle.fish_rule.specs.Views.{Each}
-use Rattle.fish_rule.specs.World.{World, area, dir_at, high, log_at, log_size, low, slots, world}
+use Rattle.fish_rule.specs.World.{World, area, dir_at, heads_at, high, log_at, log_size, low, slots, world}
 use Rattle.fish_rule.specs.declared.view.Key.{Key}
 use Rattle.fish_rule.specs.declared.view.View.{View}
 
@@ -61,6 +64,7 @@ module _ (k : Key) (ws : List ℕ) (fits : Fits k) (empty : IsEmpty k ws) where
     count = count_is j;
     line = line_is j;
     settled = empty.zeros 1 (omega arith) j;
+    head = λ b. area-zero ws heads_at 0 k.buckets (omega arith) empty.zeros b j;
     dir = λ n. dir_zero n j;
     log = λ p. log_zero p j;
     views = first_view k ∷ [];
@@ -122,6 +126,12 @@ module _ (k : Key) (fits : Fits k) where
     may = λ j v at l has may. refl;
   }
 
+  -- no place is linked
+  none_linked : (b p : ℕ) → ¬ Linked k w.dir w.log w.views b p
+  none_linked b p h = ⊎_elim
+      (λ (s : IsStoredAt k w.dir h.line). absurd (published 0 Stored s.stored refl))
+      (λ (l : IsLinking h.line h.entry w.views). subst (λ (z : View). LinksAt h.line h.entry z.flight) (sym (at_one (first_view k) l.view l.seat l.at).1) l.links) h.shows
+
   -- the rule holds
   pub empty_rule : Rule k w
   empty_rule = record {
@@ -138,6 +148,7 @@ module _ (k : Key) (fits : Fits k) where
     space = space;
     limit = limit;
     settling = record { within = omega arith; below = λ n above below. absurd (omega arith) };
+    chains = λ b. record { some = inl refl; highest = λ p h. absurd (none_linked b p h); next = λ p h. absurd (none_linked b p h) };
     floors = each_one (λ v. v.learned.settled ≤ 0) (first_view k) (omega arith);
     own = each_one (λ v. Owns k w.count w.dir lane_of v.lane v.out v.own) (first_view k)
         (record { sound = λ o m. elim m [ ]; complete = λ o has stored. absurd (none o.number stored.above stored.below) });

@@ -9,8 +9,10 @@ use Rattle.fish_rule.proofs.Bounds.{ends_within}
 use Rattle.fish_rule.proofs.Common.{each_set, has_own, no_flight, only_main, pairs_set, seats_kept, within_list}
 use Rattle.fish_rule.proofs.Frames.{flight_there}
 use Rattle.fish_rule.proofs.Kept.{facts_later, finished_later, flight_later, owns_later, published, shut_later}
+use Rattle.fish_rule.proofs.Links.{chains_set, links_set}
 use Rattle.fish_rule.proofs.Quotas.{quotas_lower}
 use Rattle.fish_rule.proofs.Worlds.{put-else, put-here}
+use Rattle.fish_rule.specs.Chains.{LinksAt}
 use Rattle.fish_rule.specs.Parts.{Facts, Flies, InFlight, IsFinished, IsStoredBy, Limit, MayOverflow, Owns, Regions, Rests, ShutOk, Space, quotas}
 use Rattle.fish_rule.specs.Regions.{code}
 use Rattle.fish_rule.specs.Rule.{Final, Rule}
@@ -53,12 +55,19 @@ module _ (k : Key) (w : World) (r : Rule k w) (id : ℕ) (v : View) (at : get_el
   old_lane : (n : ℕ) → n < w.count → lane_of' n ≡ r.lane_of n
   old_lane n h = put-else r.lane_of w.count v.lane n (λ e. omega arith)
 
+  -- no entry was linked
+  none_linked : (a c : ℕ) → LinksAt a c v.flight → LinksAt a c claimer.flight
+  none_linked a c h = absurd (subst (LinksAt a c) can.idle h)
+
   -- nothing that lasts has changed
-  pub claim_final : Final r.start start' r.lane_of lane_of' w claimed
+  pub claim_final : Final k r.start start' r.lane_of lane_of' w claimed
   claim_final = record {
     counts = omega arith;
     lines = omega arith;
     settles = omega arith;
+    heads = λ b. omega arith;
+    links = links_set k w r id v claimer at none_linked;
+    rises = λ b p h. omega arith;
     starts = old_start;
     lanes = old_lane;
     dirs = λ n h e. refl;
@@ -100,12 +109,13 @@ module _ (k : Key) (w : World) (r : Rule k w) (id : ℕ) (v : View) (at : get_el
     short = omega arith;
     written = λ i less plain. absurd (omega arith);
     unwritten = λ i more less. r.space.log_beyond (w.line * 4 + i) (omega arith);
+    whole = λ h. absurd (omega arith);
   }
 
   -- the records in flight with others
   others_fly : (lane : ℕ) (o : Option Flight) → Flies k w.count w.dir w.log r.start r.lane_of lane o → Flies k (suc w.count) w.dir w.log start' lane_of' lane o
   others_fly lane None h = h
-  others_fly lane (Some g) h = flight_later k w claimed r.start start' r.lane_of lane_of' claim_final lane g h h.unpublished (λ i less. refl)
+  others_fly lane (Some g) h = flight_later k w claimed r.start start' r.lane_of lane_of' claim_final lane g h h.unpublished (λ i less. refl) h.whole
 
   -- a record that was in flight before has a number below the old count
   below_count : (lane n : ℕ) (o : Option Flight) → Flies k w.count w.dir w.log r.start r.lane_of lane o → IsFlightOf n o → n < w.count
@@ -199,6 +209,7 @@ module _ (k : Key) (w : World) (r : Rule k w) (id : ℕ) (v : View) (at : get_el
         limit = lim.1;
         settling = record { within = (let h = r.settling.within in omega arith); below = r.settling.below };
         floors = each_set _ w.views id claimer (λ j u ne at_u. r.floors j u at_u) (r.floors id v at);
+        chains = chains_set k w r id v claimer at none_linked (λ a c h. let less : c < 0 = h.0 in absurd (omega arith));
         own = each_set _ w.views id claimer
             (λ j u ne at_u. owns_later k w claimed r.start start' r.lane_of lane_of' claim_final u.lane u.out u.own (r.own j u at_u) (λ o has h. stored_old o.lane o.number h))
             (owns_later k w claimed r.start start' r.lane_of lane_of' claim_final v.lane v.out v.own (r.own id v at) (λ o has h. stored_old o.lane o.number h));
@@ -209,6 +220,6 @@ module _ (k : Key) (w : World) (r : Rule k w) (id : ℕ) (v : View) (at : get_el
       }
 
   -- and all that lasts
-  pub claim_lasts : Final r.start claim_kept.start r.lane_of claim_kept.lane_of w claimed
+  pub claim_lasts : Final k r.start claim_kept.start r.lane_of claim_kept.lane_of w claimed
   unfolding claim_kept
   claim_lasts = claim_final

@@ -2,7 +2,7 @@
 use Rattle.std.proofs.Common.{◌≡◌, ◌≢◌, ℕ, ◌+◌, ◌-◌, ◌*◌, ◌<◌, ◌≤◌, zero, suc, List, length, sym, refl, ap, ◌∙◌, subst, inl, inr, ◌⊎◌, ⊎_elim, arith, Some, None, Option}
 use Rattle.fish_layout.specs.Header.{lines_of}
 use Rattle.fish_rule.proofs.Common.{all_map}
-use Rattle.fish_rule.specs.Parts.{Facts, Flies, InFlight, IsFinished, IsFound, IsKnown, IsRecorded, IsShut, IsStoredBy, Owns, ShutOk}
+use Rattle.fish_rule.specs.Parts.{Facts, Flies, InFlight, IsFinished, IsFound, IsKnown, IsRecorded, IsShut, IsStoredBy, Owns, ShutOk, Whole}
 use Rattle.fish_rule.specs.Regions.{Holds, code, kind_of}
 use Rattle.fish_rule.specs.Rule.{Final}
 use Rattle.fish_rule.specs.Views.{Among, Has}
@@ -37,7 +37,7 @@ published d kind is e = (let h : high 0 ≡ code kind = subst (λ (z : ℕ). hig
 
 -- ---- what lasts
 
-module _ (k : Key) (w w' : World) (start start' lane_of lane_of' : ℕ → ℕ) (f : Final start start' lane_of lane_of' w w') where
+module _ (k : Key) (w w' : World) (start start' lane_of lane_of' : ℕ → ℕ) (f : Final k start start' lane_of lane_of' w w') where
   -- a published number stays so, with its region and words
   pub finished_later : (n : ℕ) → n < w.count → w.dir n ≢ 0 → IsFinished k w.dir w.log start lane_of n → IsFinished k w'.dir w'.log start' lane_of' n
   finished_later n below set h =
@@ -119,8 +119,8 @@ module _ (k : Key) (w w' : World) (start start' lane_of lane_of' : ℕ → ℕ) 
 
   -- a record in flight stays so while its directory word and its words are left
   pub flight_later : (lane : ℕ) (g : Flight) → InFlight k w.count w.dir w.log start lane_of lane g → w'.dir g.number ≡ 0
-      → ((i : ℕ) → i < g.lines * 4 → w'.log (g.line * 4 + i) ≡ w.log (g.line * 4 + i)) → InFlight k w'.count w'.dir w'.log start' lane_of' lane g
-  flight_later lane g h dir same =
+      → ((i : ℕ) → i < g.lines * 4 → w'.log (g.line * 4 + i) ≡ w.log (g.line * 4 + i)) → (0 < g.linked → Whole k w'.log lane g) → InFlight k w'.count w'.dir w'.log start' lane_of' lane g
+  flight_later lane g h dir same whole =
       let up = f.counts in
       let below = h.below in
       let short = h.short in
@@ -135,6 +135,7 @@ module _ (k : Key) (w w' : World) (start start' lane_of lane_of' : ℕ → ℕ) 
         short = short;
         written = λ i less plain. same i (omega arith) ∙ h.written i less plain;
         unwritten = λ i more less. same i less ∙ h.unwritten i more less;
+        whole = whole;
       }
 
   -- a record of a lane stays one

@@ -6,6 +6,7 @@ use Rattle.fish_rule.proofs.Bodies.{tail_is}
 use Rattle.fish_rule.proofs.Common.{all_among, each_set, only_main, seats_kept}
 use Rattle.fish_rule.proofs.Frames.{alone_kept, flight_there, may_kept, one_view}
 use Rattle.fish_rule.proofs.Kept.{published}
+use Rattle.fish_rule.proofs.Links.{chains_set, links_set}
 use Rattle.fish_rule.specs.Parts.{Facts, Flies, InFlight, IsFinished, IsFound, IsKnown, Owns, Rests}
 use Rattle.fish_rule.specs.Regions.{code, dir_word, kind_of}
 use Rattle.fish_rule.specs.Rule.{Final, Rule}
@@ -60,6 +61,7 @@ module _ (k : Key) (w : World) (r : Rule k w) (id : ℕ) (v : View) (at : get_el
           may = may_kept w.views id v v' at k.end r.quota refl refl (λ h. h) r.limit.may;
         };
         settling = r.settling;
+        chains = chains_set k w r id v v' at (λ a c h. h) (λ a c h. h);
         floors = each_set _ w.views id v' (λ j u ne at_u. r.floors j u at_u) floor;
         own = each_set _ w.views id v' (λ j u ne at_u. r.own j u at_u) (r.own id v at);
         facts = each_set _ w.views id v' (λ j u ne at_u. r.facts j u at_u) facts;
@@ -81,9 +83,9 @@ module _ (k : Key) (w : World) (r : Rule k w) (id : ℕ) (v : View) (at : get_el
 
   -- and all that lasts
   pub end_lasts : (x : ℕ) (count : high x ≡ w.count) (line : low x ≡ w.line)
-      → Final r.start (end_kept x count line).start r.lane_of (end_kept x count line).lane_of w (record w { views = set w.views id (after_end v x) })
+      → Final k r.start (end_kept x count line).start r.lane_of (end_kept x count line).lane_of w (record w { views = set w.views id (after_end v x) })
   unfolding end_kept learns
-  end_lasts x count line = record { counts = omega arith; lines = omega arith; settles = omega arith; starts = λ m h. refl; lanes = λ m h. refl; dirs = λ m h e. refl; bodies = λ m h e. refl }
+  end_lasts x count line = record { counts = omega arith; lines = omega arith; settles = omega arith; heads = λ b. omega arith; links = links_set k w r id v (after_end v x) at (λ a c h. h); rises = λ b p h. omega arith; starts = λ m h. refl; lanes = λ m h. refl; dirs = λ m h e. refl; bodies = λ m h e. refl }
 
   -- the count only rises
   pub end_counted : (x : ℕ) → high x ≡ w.count → v.learned.count ≤ high x
@@ -106,9 +108,9 @@ module _ (k : Key) (w : World) (r : Rule k w) (id : ℕ) (v : View) (at : get_el
       learns (record v.learned { settled = w.settled }) v.tail _ (r.tails id v at) (record { counted = h.counted; found = h.found; known = h.known; records = h.records }) (omega arith)
 
   -- and all that lasts
-  pub settled_lasts : Final r.start settled_kept.start r.lane_of settled_kept.lane_of w (record w { views = set w.views id (after_settled v w.settled) })
+  pub settled_lasts : Final k r.start settled_kept.start r.lane_of settled_kept.lane_of w (record w { views = set w.views id (after_settled v w.settled) })
   unfolding settled_kept learns
-  settled_lasts = record { counts = omega arith; lines = omega arith; settles = omega arith; starts = λ n h. refl; lanes = λ n h. refl; dirs = λ n h e. refl; bodies = λ n h e. refl }
+  settled_lasts = record { counts = omega arith; lines = omega arith; settles = omega arith; heads = λ b. omega arith; links = links_set k w r id v (after_settled v w.settled) at (λ a c h. h); rises = λ b p h. omega arith; starts = λ n h. refl; lanes = λ n h. refl; dirs = λ n h e. refl; bodies = λ n h e. refl }
 
   -- ---- look
 
@@ -151,9 +153,9 @@ module _ (k : Key) (w : World) (r : Rule k w) (id : ℕ) (v : View) (at : get_el
 
   -- and all that lasts
   pub look_lasts : (n x : ℕ) (can : CanLook v n) (about : v.about ≡ k) (is : x ≡ w.dir n)
-      → Final r.start (look_kept n x can about is).start r.lane_of (look_kept n x can about is).lane_of w (record w { views = set w.views id (after_look v n (lines_at n) x) })
+      → Final k r.start (look_kept n x can about is).start r.lane_of (look_kept n x can about is).lane_of w (record w { views = set w.views id (after_look v n (lines_at n) x) })
   unfolding look_kept learns
-  look_lasts n x can about is = record { counts = omega arith; lines = omega arith; settles = omega arith; starts = λ m h. refl; lanes = λ m h. refl; dirs = λ m h e. refl; bodies = λ m h e. refl }
+  look_lasts n x can about is = record { counts = omega arith; lines = omega arith; settles = omega arith; heads = λ b. omega arith; links = links_set k w r id v (after_look v n (lines_at n) x) at (λ a c h. h); rises = λ b p h. omega arith; starts = λ m h. refl; lanes = λ m h. refl; dirs = λ m h e. refl; bodies = λ m h e. refl }
 
   -- a number that was found has the word that it had
   pub look_known : (n : ℕ) (x : ℕ) → x ≡ w.dir n → (f : Found) → Among f v.learned.found → f.number ≡ n → x ≡ dir_word f.kind f.line

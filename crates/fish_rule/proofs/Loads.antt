@@ -14,6 +14,7 @@ use Rattle.fish_rule.proofs.Bounds.{ends_within, one_region, starts_above}
 use Rattle.fish_rule.proofs.Common.{all_among}
 use Rattle.fish_rule.proofs.Kept.{published}
 use Rattle.fish_rule.proofs.Learns.{learns}
+use Rattle.fish_rule.proofs.Links.{links_set}
 use Rattle.fish_rule.proofs.Worlds.{area-in}
 use Rattle.fish_rule.specs.Parts.{Facts, IsFinished, IsFound, IsKnown}
 use Rattle.fish_rule.specs.Regions.{Holds, code, kind_of}
@@ -119,9 +120,9 @@ module _ (k : Key) (w : World) (r : Rule k w) (id : ℕ) (v : View) (at : get_el
   read_kept = learns k w r id v at reader.learned v.tail reader.clock (r.tails id v at) read_facts (r.floors id v at)
 
   -- and all that lasts
-  pub read_lasts : Final r.start read_kept.start r.lane_of read_kept.lane_of w (record w { views = set w.views id reader })
+  pub read_lasts : Final k r.start read_kept.start r.lane_of read_kept.lane_of w (record w { views = set w.views id reader })
   unfolding read_kept learns
-  read_lasts = record { counts = omega arith; lines = omega arith; settles = omega arith; starts = λ n h. refl; lanes = λ n h. refl; dirs = λ n h e. refl; bodies = λ n h e. refl }
+  read_lasts = record { counts = omega arith; lines = omega arith; settles = omega arith; heads = λ b. omega arith; links = links_set k w r id v (reader) at (λ a c h. h); rises = λ b p h. omega arith; starts = λ n h. refl; lanes = λ n h. refl; dirs = λ n h e. refl; bodies = λ n h e. refl }
 
 -- a load of a word of a published region
 pub read_allowed : (given k : Key) → given ≡ k → (size id : ℕ) (me : Sat) (x : Found) (o i : ℕ) → me.0.about ≡ k → CanRead me.0 x o → i ≡ log_at k + (x.line * 4 + o - k.line * 4)

@@ -94,7 +94,7 @@ module _ (k : Key) (w : World) (r : Rule k w) (id : ℕ) (v : View) (at : get_el
   is_other n set_ e = set_ (ap w.dir e ∙ own.unpublished)
 
   -- nothing that lasts has changed
-  pub publish_final : Final r.start r.start r.lane_of r.lane_of w publication
+  pub publish_final : Final k r.start r.start r.lane_of r.lane_of w publication
   publish_final = record {
     counts = omega arith;
     lines = omega arith;
@@ -295,6 +295,6 @@ module _ (k : Key) (w : World) (r : Rule k w) (id : ℕ) (v : View) (at : get_el
       fly n above below unset (no ne) = flight_there w.views id v publisher at n (λ h. absurd (ne (sym (subst (IsFlightOf n) flying h)))) (r.space.flying n above below (sym (dir_else n ne) ∙ unset))
 
   -- and all that lasts
-  pub publish_lasts : Final r.start publish_kept.start r.lane_of publish_kept.lane_of w publication
+  pub publish_lasts : Final k r.start publish_kept.start r.lane_of publish_kept.lane_of w publication
   unfolding publish_kept
   publish_lasts = publish_final

@@ -7,7 +7,7 @@ use Rattle.fish_rule.proofs.Claims.{claim_kept, claim_lasts}
 use Rattle.fish_rule.proofs.Flights.{publisher_at}
 use Rattle.fish_rule.proofs.Learns.{end_kept, end_lasts, lines_at, look_kept, look_lasts, settled_kept, settled_lasts}
 use Rattle.fish_rule.proofs.Loads.{read_kept, read_lasts}
-use Rattle.fish_rule.proofs.OwnWords.{store_kept, store_lasts}
+use Rattle.fish_rule.proofs.Fills.{store_kept, store_lasts}
 use Rattle.fish_rule.proofs.Publishes.{publish_kept, publish_lasts}
 use Rattle.fish_rule.proofs.Settles.{raise_kept, raise_lasts}
 use Rattle.fish_rule.proofs.Seating.{join_kept, join_lasts, split_kept, split_lasts}
@@ -24,7 +24,7 @@ use Rattle.fish_rule.specs.declared.view.View.{View}
 
 -- the world after a step meets the rule, and what lasts has lasted
 abbrev Lasts : (k : Key) (w : World) → Rule k w → World → Type 0
-Lasts k w r u = (s : Rule k u) × Final r.start s.start r.lane_of s.lane_of w u
+Lasts k w r u = (s : Rule k u) × Final k r.start s.start r.lane_of s.lane_of w u
 
 -- the same where the world is known by an equation
 lasts_at : (k : Key) (w : World) (r : Rule k w) (u u' : World) → u ≡ u' → Lasts k w r u' → Lasts k w r u

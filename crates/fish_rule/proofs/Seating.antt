@@ -132,7 +132,7 @@ module _ (k : Key) (w : World) (r : Rule k w) (id : ℕ) (v : View) (at : get_el
 -- ---- join
 
   -- and all that lasts
-  pub split_lasts : Final r.start split_kept.start r.lane_of split_kept.lane_of w (record w { views = set w.views id (split_left l v) ++ split_right l v ∷ [] })
+  pub split_lasts : Final k r.start split_kept.start r.lane_of split_kept.lane_of w (record w { views = set w.views id (split_left l v) ++ split_right l v ∷ [] })
   unfolding split_kept
   split_lasts = record { counts = omega arith; lines = omega arith; settles = omega arith; starts = λ n h. refl; lanes = λ n h. refl; dirs = λ n h e. refl; bodies = λ n h e. refl }
 
@@ -257,6 +257,6 @@ module _ (k : Key) (w : World) (r : Rule k w) (id other : ℕ) (v u : View) (at 
   }
 
   -- and all that lasts
-  pub join_lasts : Final r.start join_kept.start r.lane_of join_kept.lane_of w (record w { views = set (set w.views id (join_both v u)) other spent })
+  pub join_lasts : Final k r.start join_kept.start r.lane_of join_kept.lane_of w (record w { views = set (set w.views id (join_both v u)) other spent })
   unfolding join_kept
   join_lasts = record { counts = omega arith; lines = omega arith; settles = omega arith; starts = λ n h. refl; lanes = λ n h. refl; dirs = λ n h e. refl; bodies = λ n h e. refl }

@@ -11,6 +11,7 @@ use Rattle.fish_rule.proofs.Common.{all_among, each_set, seats_kept}
 use Rattle.fish_rule.proofs.Frames.{alone_kept, flight_there, may_kept}
 use Rattle.fish_rule.proofs.Kept.{published}
 use Rattle.fish_rule.proofs.Learns.{settled_kept}
+use Rattle.fish_rule.proofs.Links.{chains_set, links_set}
 use Rattle.fish_rule.proofs.Worlds.{world-settled}
 use Rattle.fish_rule.specs.Parts.{IsEntryWord, IsFound, Settled}
 use Rattle.fish_rule.specs.Regions.{code}
@@ -35,8 +36,8 @@ module _ (k : Key) (w : World) (r : Rule k w) (id : ℕ) (v : View) (at : get_el
   raised = record w { settled = max w.settled m; views = set w.views id raiser }
 
   -- nothing that lasts has changed
-  pub raise_final : Final r.start r.start r.lane_of r.lane_of w raised
-  raise_final = record { counts = omega arith; lines = omega arith; settles = omega arith; starts = λ n h. refl; lanes = λ n h. refl; dirs = λ n h e. refl; bodies = λ n h e. refl }
+  pub raise_final : Final k r.start r.start r.lane_of r.lane_of w raised
+  raise_final = record { counts = omega arith; lines = omega arith; settles = omega arith; heads = λ b. omega arith; links = links_set k w r id v (raiser) at (λ a c h. h); rises = λ b p h. omega arith; starts = λ n h. refl; lanes = λ n h. refl; dirs = λ n h e. refl; bodies = λ n h e. refl }
 
   -- every number below is published, and no mark
   settling : Settled k w.count (max w.settled m) w.dir
@@ -86,6 +87,7 @@ module _ (k : Key) (w : World) (r : Rule k w) (id : ℕ) (v : View) (at : get_el
       may = may_kept w.views id v raiser at k.end r.quota refl refl (λ h. h) r.limit.may;
     };
     settling = settling;
+    chains = chains_set k w r id v raiser at (λ a c h. h) (λ a c h. h);
     floors = each_set _ w.views id raiser (λ j u ne at_u. let a = r.floors j u at_u in omega arith) (omega arith);
     own = each_set _ w.views id raiser (λ j u ne at_u. r.own j u at_u) (r.own id v at);
     facts = each_set _ w.views id raiser (λ j u ne at_u. r.facts j u at_u) (let h = r.facts id v at in record { counted = h.counted; found = h.found; known = h.known; records = h.records });
@@ -93,7 +95,7 @@ module _ (k : Key) (w : World) (r : Rule k w) (id : ℕ) (v : View) (at : get_el
   }
 
   -- and all that lasts
-  pub raise_lasts : Final r.start raise_kept.start r.lane_of raise_kept.lane_of w raised
+  pub raise_lasts : Final k r.start raise_kept.start r.lane_of raise_kept.lane_of w raised
   unfolding raise_kept
   raise_lasts = raise_final
 

@@ -1,3 +1,4 @@
+pub mod Chains
 pub mod Flying
 pub mod Logs
 pub mod Machine

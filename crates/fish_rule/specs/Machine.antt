@@ -69,4 +69,4 @@ EverySchedule = (k : Key) (events : List Event) (u : World) → Fits k → Runs 
 
 -- and each step keeps for good what lasts
 abbrev pub EveryStepIsFinal : Type 0
-EveryStepIsFinal = (k : Key) (e : Event) (w u : World) (r : Rule k w) → Goes k w e u → (s : Rule k u) × Final r.start s.start r.lane_of s.lane_of w u
+EveryStepIsFinal = (k : Key) (e : Event) (w u : World) (r : Rule k w) → Goes k w e u → (s : Rule k u) × Final k r.start s.start r.lane_of s.lane_of w u

@@ -4,8 +4,8 @@ use Rattle.std.proofs.Common.{◌⊎◌}
 use mathlib.Core.Option.{some}
 use Rattle.std.proofs.Math.ListN.{get_elem?}
 use Rattle.fish_layout.specs.Cleared.{body_of, entry_at}
-use Rattle.fish_layout.specs.Header.{lines_of}
-use Rattle.fish_rule.specs.Regions.{Holds, code, kind_of}
+use Rattle.fish_layout.specs.Header.{keys_of, lines_of}
+use Rattle.fish_rule.specs.Regions.{Holds, IsRecord, code, kind_of}
 use Rattle.fish_rule.specs.Views.{AllOf, Among, Each, Has, HasFlight, IsFlightOf, IsOver}
 use Rattle.fish_rule.specs.World.{body, high, low}
 use Rattle.fish_rule.specs.declared.view.Flight.{Flight}
@@ -63,6 +63,13 @@ pub record IsFinished (k : Key) (dir log start lane_of : ℕ → ℕ) (n : ℕ) 
 abbrev pub IsLinkedWord : ℕ → ℕ → Type 0
 IsLinkedWord linked i = (c : ℕ) × (c < linked) × (i ≡ entry_at c)
 
+-- a record in flight whose words are all stored, with so many of its entries linked
+pub record Whole (k : Key) (log : ℕ → ℕ) (lane : ℕ) (f : Flight) : Type 0 where
+  pub kind : kind_of k.end f.line (f.line + f.lines) ≡ Stored
+  pub full : length f.words ≡ f.lines * 4
+  pub record_of : IsRecord lane f.number f.lines (body log f.line)
+  pub upto : f.linked ≤ keys_of (body log f.line 0)
+
 -- a record in flight with a pass of this lane: its region is claimed and its number not published; the words stored so far stand in the log, and zeros behind them
 pub record InFlight (k : Key) (count : ℕ) (dir log start lane_of : ℕ → ℕ) (lane : ℕ) (f : Flight) : Type 0 where
   pub above : k.number ≤ f.number
@@ -75,6 +82,7 @@ pub record InFlight (k : Key) (count : ℕ) (dir log start lane_of : ℕ → ℕ
   pub short : length f.words ≤ f.lines * 4
   pub written : (i : ℕ) → i < length f.words → ¬ IsLinkedWord f.linked i → log (f.line * 4 + i) ≡ slice_index f.words i
   pub unwritten : (i : ℕ) → length f.words ≤ i → i < f.lines * 4 → log (f.line * 4 + i) ≡ 0
+  pub whole : 0 < f.linked → Whole k log lane f
 
 -- the same where there is one
 abbrev pub Flies : Key → ℕ → (ℕ → ℕ) → (ℕ → ℕ) → (ℕ → ℕ) → (ℕ → ℕ) → ℕ → Option Flight → Type 0

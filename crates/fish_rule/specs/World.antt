@@ -5,11 +5,12 @@ use Rattle.fish_layout.specs.Cleared.{choose, cleared}
 use Rattle.fish_rule.specs.declared.view.Key.{Key}
 use Rattle.fish_rule.specs.declared.view.View.{View}
 
--- all that a moment is: how many numbers and lines are claimed, below which number all is settled, the directory by number, the log by place, and each pass's view
+-- all that a moment is: how many numbers and lines are claimed, below which number all is settled, the head of each chain, the directory by number, the log by place, and each pass's view
 pub record World : Type 0 where
   pub count : ℕ
   pub line : ℕ
   pub settled : ℕ
+  pub head : ℕ → ℕ
   pub dir : ℕ → ℕ
   pub log : ℕ → ℕ
   pub views : List View
@@ -38,6 +39,10 @@ slots k = k.end - k.line + 16
 abbrev pub log_size : Key → ℕ
 log_size k = (k.end - k.line) * 4
 
+-- the first head, behind the tail, the settled number, the version, the count of opened rows, 16 epochs, 512 operations and 256 rows of 39 words
+abbrev pub heads_at : ℕ
+heads_at = 10516
+
 -- the first directory word, behind the tail, the settled number, the version, the count of opened rows, 16 epochs, 512 operations, 256 rows of 39 words, and the heads
 abbrev pub dir_at : Key → ℕ
 dir_at k = 10516 + k.buckets
@@ -60,6 +65,7 @@ world k ws vs = record {
   count = high (slice_index ws 0);
   line = low (slice_index ws 0);
   settled = slice_index ws 1;
+  head = area ws heads_at 0 k.buckets;
   dir = area ws (dir_at k) k.number (slots k);
   log = area ws (log_at k) (k.line * 4) (log_size k);
   views = vs;
