@@ -64,6 +64,10 @@ linked_map k dir dir' log log' vs vs' shows same b p h =
       shows = shows h.line h.entry h.shows;
     }
 
+-- the same where what is shown may rest on how many entries there are
+pub linked_counted : (k : Key) (dir dir' log : ℕ → ℕ) (vs vs' : List View) → ((a c : ℕ) → c < keys_of (body log a 0) → Shows k dir vs a c → Shows k dir' vs' a c) → (b p : ℕ) → Linked k dir log vs b p → Linked k dir' log vs' b p
+linked_counted k dir dir' log vs vs' shows b p h = record { line = h.line; entry = h.entry; is = h.is; shows = shows h.line h.entry h.is.counts h.shows }
+
 -- a record in flight that is whole stays so where its region's words do
 pub whole_later : (k : Key) (log log' : ℕ → ℕ) (lane : ℕ) (f : Flight) → 1 ≤ f.lines → ((i : ℕ) → i < f.lines * 4 → log' (f.line * 4 + i) ≡ log (f.line * 4 + i)) → Whole k log lane f → Whole k log' lane f
 whole_later k log log' lane f some_ same h =

@@ -3,18 +3,21 @@ use Rattle.std.proofs.Common.{◌≡◌, ◌≢◌, ℕ, ◌+◌, ◌-◌, ◌*�
 use Rattle.std.proofs.Math.Decide.{ℕ_discrete}
 use mathlib.Core.Option.{some}
 use Rattle.std.proofs.Math.ListN.{get_elem?}
+use Rattle.atomic_table.proofs.Lists.{set_else}
 use Rattle.fish_layout.proofs.Clearing.{cleared_head}
 use Rattle.fish_layout.proofs.Headers.{lines_of-void}
 use Rattle.fish_layout.proofs.Spelled.{spelled_lines}
 use Rattle.fish_layout.specs.Cleared.{body_of}
-use Rattle.fish_layout.specs.Header.{field, lines_of, void_word}
-use Rattle.fish_rule.proofs.Bodies.{body_stored, body_void, high-pack, kind-inside, kind-mark, low-pack, mark-past, void-head}
+use Rattle.fish_layout.specs.Header.{field, keys_of, lines_of, void_word}
+use Rattle.fish_rule.proofs.Bodies.{body_stored, code_once, body_void, high-pack, kind-inside, kind-mark, low-pack, mark-past, void-head}
 use Rattle.fish_rule.proofs.Bounds.{ends_within}
 use Rattle.fish_rule.proofs.Common.{all_map, among_left, among_right, among_either, each_set, has_own, seats_kept}
-use Rattle.fish_rule.proofs.Frames.{alone_kept, flight_there, may_kept}
+use Rattle.fish_rule.proofs.Frames.{alone_kept, flight_there, may_kept, one_view}
 use Rattle.fish_rule.proofs.Kept.{code_some, facts_later, finished_later, flight_later, owns_later, published, shut_later, stored_before, stored_later}
+use Rattle.fish_rule.proofs.Links.{chains_same, linked_counted, linking_from}
 use Rattle.fish_rule.proofs.OwnWords.{flight_is}
 use Rattle.fish_rule.proofs.Worlds.{put-else, put-here}
+use Rattle.fish_rule.specs.Chains.{IsLinking, IsStoredAt, Linked, LinksAt, Shows}
 use Rattle.fish_rule.specs.Parts.{Facts, Flies, InFlight, IsEntryWord, IsFinished, IsFound, IsRecorded, IsShut, IsStoredBy, MayOverflow, Owns, ShutOk}
 use Rattle.fish_rule.specs.Regions.{Holds, IsRecord, code, dir_word, kind_of, void_body}
 use Rattle.fish_rule.specs.Rule.{Final, Rule}
@@ -93,18 +96,6 @@ module _ (k : Key) (w : World) (r : Rule k w) (id : ℕ) (v : View) (at : get_el
   is_other : (n : ℕ) → w.dir n ≢ 0 → n ≢ f.number
   is_other n set_ e = set_ (ap w.dir e ∙ own.unpublished)
 
-  -- nothing that lasts has changed
-  pub publish_final : Final k r.start r.start r.lane_of r.lane_of w publication
-  publish_final = record {
-    counts = omega arith;
-    lines = omega arith;
-    settles = omega arith;
-    starts = λ n h. refl;
-    lanes = λ n h. refl;
-    dirs = λ n h set_. dir_else n (is_other n set_);
-    bodies = λ n h set_. refl;
-  }
-
   -- the region's lines
   sized : (1 ≤ f.lines) × (f.lines ≤ 18625)
   sized =
@@ -113,6 +104,62 @@ module _ (k : Key) (w : World) (r : Rule k w) (id : ℕ) (v : View) (at : get_el
       let line = own.line in
       let lines = own.lines in
       (omega arith, omega arith)
+
+  -- ---- what is linked
+
+  -- an entry that is linked in flight is of a record, which is shown from now on
+  own_shows : (a c : ℕ) → LinksAt a c (Some f) → Shows k dir' (set w.views id publisher) a c
+  own_shows a c h =
+      let counts : c < f.linked = h.0 in
+      let line : f.line ≡ a = h.1 in
+      let stored : kind ≡ Stored = sym is_kind ∙ (own.whole (omega arith)).kind in
+      inl (record { number = f.number; above = own.above; stored = kind_here ∙ ap code stored; line = ap low dir_here ∙ low-pack (code kind) f.line (small_line k w r f v.lane own) ∙ line })
+
+  shows_on : (a c : ℕ) → c < keys_of (body w.log a 0) → Shows k w.dir w.views a c → Shows k dir' (set w.views id publisher) a c
+  shows_on a c few (inl s) =
+      inl (record { number = s.number; above = s.above; stored = ap high (dir_else s.number (is_other s.number (published (w.dir s.number) Stored s.stored))) ∙ s.stored; line = ap low (dir_else s.number (is_other s.number (published (w.dir s.number) Stored s.stored))) ∙ s.line })
+  shows_on a c few (inr l) = pick (ℕ_discrete l.seat id)
+    where
+      pick : Dec (l.seat ≡ id) → Shows k dir' (set w.views id publisher) a c
+      pick (yes e) =
+          let same : l.view ≡ v = one_view w.views id l.view v (subst (λ (z : ℕ). get_elem? w.views z ≡ some l.view) e l.at) at in
+          own_shows a c (subst (LinksAt a c) (ap (λ (z : View). z.flight) same ∙ flying) l.links)
+      pick (no ne) = inr (record { seat = l.seat; view = l.view; at = set_else w.views id l.seat publisher ne ∙ l.at; links = l.links })
+
+  shows_before : (a c : ℕ) → c < keys_of (body w.log a 0) → Shows k dir' (set w.views id publisher) a c → Shows k w.dir w.views a c
+  shows_before a c few (inl s) = pick (ℕ_discrete s.number f.number)
+    where
+      all_linked : (kd : Kind) → kd ≡ Stored → IsReady kd v.lane f → f.linked ≡ keys_of (body w.log f.line 0)
+      all_linked Stored e h = h.2 ∙ ap (λ (z : ℕ → ℕ). keys_of (z 0)) (sym (body_stored w.log f.words v.lane f.number f.lines f.line f.linked h.1 h.0 sized.0 h.2 own.written))
+      all_linked Void e h = cc
+      all_linked Mark e h = cc
+      pick : Dec (s.number ≡ f.number) → Shows k w.dir w.views a c
+      pick (yes e) =
+          let here : f.line ≡ a = sym (low-pack (code kind) f.line (small_line k w r f v.lane own)) ∙ ap low (sym dir_here) ∙ ap (λ (z : ℕ). low (dir' z)) (sym e) ∙ s.line in
+          let stored : kind ≡ Stored = code_once kind Stored (sym kind_here ∙ ap (λ (z : ℕ). high (dir' z)) (sym e) ∙ s.stored) in
+          let all : f.linked ≡ keys_of (body w.log f.line 0) = all_linked kind stored ready in
+          let few' : c < keys_of (body w.log f.line 0) = subst (λ (z : ℕ). c < keys_of (body w.log z 0)) (sym here) few in
+          inr (record { seat = id; view = v; at = at; links = subst (LinksAt a c) (sym flying) (omega arith, here) })
+      pick (no ne) = inl (record { number = s.number; above = s.above; stored = ap high (sym (dir_else s.number ne)) ∙ s.stored; line = ap low (sym (dir_else s.number ne)) ∙ s.line })
+  shows_before a c few (inr l) = inr (linking_from w.views id v publisher at a c (λ h. elim h [ ]) l)
+
+  links_on : (b p : ℕ) → Linked k w.dir w.log w.views b p → Linked k dir' w.log (set w.views id publisher) b p
+  links_on = linked_counted k w.dir dir' w.log w.views (set w.views id publisher) shows_on
+
+  -- nothing that lasts has changed
+  pub publish_final : Final k r.start r.start r.lane_of r.lane_of w publication
+  publish_final = record {
+    counts = omega arith;
+    lines = omega arith;
+    settles = omega arith;
+    heads = λ b. omega arith;
+    links = links_on;
+    rises = λ b p h. omega arith;
+    starts = λ n h. refl;
+    lanes = λ n h. refl;
+    dirs = λ n h set_. dir_else n (is_other n set_);
+    bodies = λ n h set_. refl;
+  }
 
   -- what the region holds
   filled : (kd : Kind) → IsReady kd v.lane f → (lines_of (body w.log f.line 0) ≤ f.lines) × Holds kd v.lane f.number f.lines (body w.log f.line)
@@ -152,7 +199,7 @@ module _ (k : Key) (w : World) (r : Rule k w) (id : ℕ) (v : View) (at : get_el
   others_fly j u ne at_u None is h = h
   others_fly j u ne at_u (Some g) is h =
       let other : g.number ≢ f.number = λ e. ne (r.space.alone j id u v g.number at_u at (subst (IsFlightOf g.number) (sym is) refl) (subst (IsFlightOf g.number) (sym flying) (sym e))) in
-      flight_later k w publication r.start r.start r.lane_of r.lane_of publish_final u.lane g h (dir_else g.number other ∙ h.unpublished) (λ i less. refl)
+      flight_later k w publication r.start r.start r.lane_of r.lane_of publish_final u.lane g h (dir_else g.number other ∙ h.unpublished) (λ i less. refl) h.whole
 
   -- the pass might overflow before, if it may afterwards
   may_before : (kd : Kind) → kind_of k.end f.line (f.line + f.lines) ≡ kd → MayOverflow k.end (shut_after kd f k.end v.shut) None → MayOverflow k.end v.shut v.flight
@@ -279,6 +326,7 @@ module _ (k : Key) (w : World) (r : Rule k w) (id : ℕ) (v : View) (at : get_el
       within = r.settling.within;
       below = λ n above below. subst IsEntryWord (sym (dir_else n (is_other n (r.settling.below n above below).published))) (r.settling.below n above below);
     };
+    chains = chains_same k w.dir dir' w.log w.log w.views (set w.views id publisher) w.head links_on (linked_counted k dir' w.dir w.log (set w.views id publisher) w.views shows_before) (λ b p h. refl) r.chains;
     floors = each_set _ w.views id publisher (λ j u ne at_u. r.floors j u at_u) (r.floors id v at);
     own = each_set _ w.views id publisher (λ j u ne at_u. others_own j u ne at_u) (own_own kind refl);
     facts = each_set _ w.views id publisher (λ j u ne at_u. facts_later k w publication r.start r.start r.lane_of r.lane_of publish_final u.learned (r.facts j u at_u)) own_facts;

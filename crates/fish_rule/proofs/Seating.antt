@@ -2,10 +2,12 @@
 use Rattle.std.proofs.Common.{◌≡◌, ◌≢◌, ℕ, List, [], ◌∷◌, ◌++◌, set, sym, refl, ◌∙◌, subst, inr, ⊎_elim, arith}
 use mathlib.Core.Option.{some}
 use Rattle.std.proofs.Math.ListN.{get_elem?}
-use Rattle.atomic_table.proofs.Lists.{set_else}
+use Rattle.atomic_table.proofs.Lists.{at_longer, at_snoc, set_else}
 use Rattle.fish_rule.proofs.Common.{all_append, among_either, among_left, among_right, each_set, each_snoc, no_flight, pairs_set}
 use Rattle.fish_rule.proofs.Frames.{alone_kept, flight_there}
 use Rattle.fish_rule.proofs.Lanes.{both_has, first_shut_none, flight_longer, greater_within, has_back, has_both, has_lane, has_left, has_none, has_one, left_has, not_over, of_lane_complete, of_lane_sound, off_lane_complete, off_lane_sound, pairs_snoc, shut_either}
+use Rattle.fish_rule.proofs.Links.{chains_views, linking_from, linking_own, linking_to, links_views}
+use Rattle.fish_rule.specs.Chains.{IsLinking, LinksAt}
 use Rattle.fish_rule.specs.Parts.{Facts, IsFound, IsKnown, IsRecorded, Limit, MayOverflow, Owns, Seats}
 use Rattle.fish_rule.specs.Rule.{Final, Rule}
 use Rattle.fish_rule.specs.Seating.{CanJoin, CanSplit, join_both, of_lane, spent, split_left, split_right, without}
@@ -99,6 +101,15 @@ module _ (k : Key) (w : World) (r : Rule k w) (id : ℕ) (v : View) (at : get_el
             of_lane_complete l o v.own (h.complete o (subst (Has v.lane v.out) (sym e) had) stored) e;
       }
 
+  -- what is linked in flight stays so, and nothing else is
+  links_cut : (a c : ℕ) → IsLinking a c w.views → IsLinking a c (cut ++ right ∷ [])
+  links_cut a c h = (let g = linking_to w.views id v left at a c (λ q. q) h in record { seat = g.seat; view = g.view; at = at_longer cut (right ∷ []) g.seat g.view g.at; links = g.links })
+
+  back_cut : (a c : ℕ) → IsLinking a c (cut ++ right ∷ []) → IsLinking a c w.views
+  back_cut a c h = ⊎_elim
+      (λ (e : get_elem? cut h.seat ≡ some h.view). linking_from w.views id v left at a c (λ q. linking_own w.views id v left at a c q) (record { seat = h.seat; view = h.view; at = e; links = h.links }))
+      (λ (e : right ≡ h.view). absurd (subst (λ (z : View). LinksAt a c z.flight) (sym e) h.links)) (at_snoc cut right h.view h.seat h.at)
+
   -- a split keeps the rule
   pub split_kept : Rule k (record w { views = set w.views id (split_left l v) ++ split_right l v ∷ [] })
   split_kept = record {
@@ -123,6 +134,7 @@ module _ (k : Key) (w : World) (r : Rule k w) (id : ℕ) (v : View) (at : get_el
     };
     limit = split_limit;
     settling = r.settling;
+    chains = chains_views k w r (cut ++ right ∷ []) links_cut back_cut;
     floors = each_cut _ r.floors (r.floors id v at) (r.floors id v at);
     own = each_cut _ r.own left_owns right_owns;
     facts = each_cut _ r.facts (r.facts id v at) (r.facts id v at);
@@ -134,7 +146,7 @@ module _ (k : Key) (w : World) (r : Rule k w) (id : ℕ) (v : View) (at : get_el
   -- and all that lasts
   pub split_lasts : Final k r.start split_kept.start r.lane_of split_kept.lane_of w (record w { views = set w.views id (split_left l v) ++ split_right l v ∷ [] })
   unfolding split_kept
-  split_lasts = record { counts = omega arith; lines = omega arith; settles = omega arith; starts = λ n h. refl; lanes = λ n h. refl; dirs = λ n h e. refl; bodies = λ n h e. refl }
+  split_lasts = record { counts = omega arith; lines = omega arith; settles = omega arith; heads = λ b. omega arith; links = links_views k w r (cut ++ right ∷ []) links_cut; rises = λ b p h. omega arith; starts = λ n h. refl; lanes = λ n h. refl; dirs = λ n h e. refl; bodies = λ n h e. refl }
 
 module _ (k : Key) (w : World) (r : Rule k w) (id other : ℕ) (v u : View) (at : get_elem? w.views id ≡ some v) (ne : other ≢ id)
     (at_u : get_elem? w.views other ≡ some u) (can : CanJoin v u) where
@@ -219,6 +231,13 @@ module _ (k : Key) (w : World) (r : Rule k w) (id other : ℕ) (v u : View) (at 
   each_join : (P : View → Type 0) → Each P w.views → P both → P spent → Each P (set taken other spent)
   each_join P all here none = each_set P taken other spent (λ j a not at_a. each_set P w.views id both (λ j a not at_a. all j a at_a) here j a at_a) none
 
+  -- what is linked in flight stays so, and nothing else is
+  links_join : (a c : ℕ) → IsLinking a c w.views → IsLinking a c (set taken other spent)
+  links_join a c h = linking_to taken other u spent at_other a c (λ q. absurd (subst (LinksAt a c) can.idle q)) (linking_to w.views id v both at a c (λ q. q) h)
+
+  back_join : (a c : ℕ) → IsLinking a c (set taken other spent) → IsLinking a c w.views
+  back_join a c h = linking_from w.views id v both at a c (λ q. linking_own w.views id v both at a c q) (linking_from taken other u spent at_other a c (λ q. elim q [ ]) h)
+
   -- a join keeps the rule
   pub join_kept : Rule k (record w { views = set (set w.views id (join_both v u)) other spent })
   join_kept = record {
@@ -250,6 +269,7 @@ module _ (k : Key) (w : World) (r : Rule k w) (id other : ℕ) (v u : View) (at 
       may = each_join _ r.limit.may join_may (λ x has. absurd (has_none x has));
     };
     settling = r.settling;
+    chains = chains_views k w r (set taken other spent) links_join back_join;
     floors = each_join _ r.floors (greater_within v.learned.settled u.learned.settled w.settled (r.floors id v at) (r.floors other u at_u)) (omega arith);
     own = each_join _ r.own join_owns (record { sound = λ o m. elim m [ ]; complete = λ o has. absurd (has_none o.lane has) });
     facts = each_join _ r.facts join_facts (record { counted = omega arith; found = tt; known = tt; records = tt });
@@ -259,4 +279,4 @@ module _ (k : Key) (w : World) (r : Rule k w) (id other : ℕ) (v u : View) (at 
   -- and all that lasts
   pub join_lasts : Final k r.start join_kept.start r.lane_of join_kept.lane_of w (record w { views = set (set w.views id (join_both v u)) other spent })
   unfolding join_kept
-  join_lasts = record { counts = omega arith; lines = omega arith; settles = omega arith; starts = λ n h. refl; lanes = λ n h. refl; dirs = λ n h e. refl; bodies = λ n h e. refl }
+  join_lasts = record { counts = omega arith; lines = omega arith; settles = omega arith; heads = λ b. omega arith; links = links_views k w r (set taken other spent) links_join; rises = λ b p h. omega arith; starts = λ n h. refl; lanes = λ n h. refl; dirs = λ n h e. refl; bodies = λ n h e. refl }
