@@ -7,7 +7,7 @@ use Rattle.atomic_table.specs.Table.{opening}
 use Rattle.fish_layout.specs.Cleared.{choose}
 use Rattle.fish_rule.proofs.Bodies.{high-pack, low-pack}
 use Rattle.fish_rule.proofs.Kept.{published}
-use Rattle.fish_rule.specs.Chains.{IsLinking, IsStoredAt, Linked, LinksAt}
+use Rattle.fish_rule.specs.Chains.{Chained, IsLinking, IsStoredAt, Linked, LinksAt}
 use Rattle.fish_rule.specs.declared.view.Kind.TheVariants.{Stored}
 use Rattle.fish_rule.specs.Parts.{Facts, Fits, Flies, Limit, Owns, Regions, Rests, ShutOk, Space, quotas}
 use Rattle.fish_rule.specs.Rule.{Rule}
@@ -149,6 +149,7 @@ module _ (k : Key) (fits : Fits k) where
     limit = limit;
     settling = record { within = omega arith; below = λ n above below. absurd (omega arith) };
     chains = λ b. record { some = inl refl; highest = λ p h. absurd (none_linked b p h); next = λ p h. absurd (none_linked b p h) };
+    chained = each_one (λ v. Chained k w.dir w.log w.views w.head v.learned) (first_view k) (record { nodes = tt; lows = tt; tops = tt });
     floors = each_one (λ v. v.learned.settled ≤ 0) (first_view k) (omega arith);
     own = each_one (λ v. Owns k w.count w.dir lane_of v.lane v.out v.own) (first_view k)
         (record { sound = λ o m. elim m [ ]; complete = λ o has stored. absurd (none o.number stored.above stored.below) });

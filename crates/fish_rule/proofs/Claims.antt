@@ -8,7 +8,7 @@ use Rattle.atomic_table.proofs.Lists.{set_here}
 use Rattle.fish_rule.proofs.Bounds.{ends_within}
 use Rattle.fish_rule.proofs.Common.{each_set, has_own, no_flight, only_main, pairs_set, seats_kept, within_list}
 use Rattle.fish_rule.proofs.Frames.{flight_there}
-use Rattle.fish_rule.proofs.Kept.{facts_later, finished_later, flight_later, owns_later, published, shut_later}
+use Rattle.fish_rule.proofs.Kept.{chained_later, facts_later, finished_later, flight_later, owns_later, published, shut_later}
 use Rattle.fish_rule.proofs.Links.{chains_set, links_set}
 use Rattle.fish_rule.proofs.Quotas.{quotas_lower}
 use Rattle.fish_rule.proofs.Worlds.{put-else, put-here}
@@ -208,6 +208,7 @@ module _ (k : Key) (w : World) (r : Rule k w) (id : ℕ) (v : View) (at : get_el
         space = space;
         limit = lim.1;
         settling = record { within = (let h = r.settling.within in omega arith); below = r.settling.below };
+        chained = each_set _ w.views id claimer (λ j u ne at_u. chained_later k w claimed r.start start' r.lane_of lane_of' claim_final u.learned (r.chained j u at_u)) (chained_later k w claimed r.start start' r.lane_of lane_of' claim_final v.learned (r.chained id v at));
         floors = each_set _ w.views id claimer (λ j u ne at_u. r.floors j u at_u) (r.floors id v at);
         chains = chains_set k w r id v claimer at none_linked (λ a c h. let less : c < 0 = h.0 in absurd (omega arith));
         own = each_set _ w.views id claimer

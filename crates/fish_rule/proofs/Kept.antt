@@ -2,6 +2,7 @@
 use Rattle.std.proofs.Common.{◌≡◌, ◌≢◌, ℕ, ◌+◌, ◌-◌, ◌*◌, ◌<◌, ◌≤◌, zero, suc, List, length, sym, refl, ap, ◌∙◌, subst, inl, inr, ◌⊎◌, ⊎_elim, arith, Some, None, Option}
 use Rattle.fish_layout.specs.Header.{lines_of}
 use Rattle.fish_rule.proofs.Common.{all_map}
+use Rattle.fish_rule.specs.Chains.{Chained, IsLow, Linked}
 use Rattle.fish_rule.specs.Parts.{Facts, Flies, InFlight, IsFinished, IsFound, IsKnown, IsRecorded, IsShut, IsStoredBy, Owns, ShutOk, Whole}
 use Rattle.fish_rule.specs.Regions.{Holds, code, kind_of}
 use Rattle.fish_rule.specs.Rule.{Final}
@@ -167,4 +168,13 @@ module _ (k : Key) (w w' : World) (start start' lane_of lane_of' : ℕ → ℕ) 
   owns_later lane out own h before = record {
     sound = λ o m. let s = h.sound o m in (s.0, stored_later o.lane o.number s.1);
     complete = λ o has stored. let b = before o has stored in h.complete o has (stored_before o.lane o.number b.0 b.1 stored);
+  }
+
+  -- what is known of chains stays so
+  pub chained_later : (l : Learned) → Chained k w.dir w.log w.views w.head l → Chained k w'.dir w'.log w'.views w'.head l
+  chained_later l h = record {
+    nodes = all_map _ _ (λ x m. f.links x.bucket x.place m) l.nodes h.nodes;
+    lows = all_map (IsLow k w.dir w.log w.views) (IsLow k w'.dir w'.log w'.views)
+        (λ x m. record { bucket = m.bucket; linked = f.links m.bucket x.place m.linked; low = (let a = m.low in let b = f.rises m.bucket x.place m.linked in omega arith) }) l.lows h.lows;
+    tops = all_map _ _ (λ x m. let b = f.heads x.bucket in omega arith) l.tops h.tops;
   }

@@ -5,8 +5,9 @@ use Rattle.std.proofs.Math.ListN.{get_elem?}
 use Rattle.fish_rule.proofs.Bodies.{tail_is}
 use Rattle.fish_rule.proofs.Common.{all_among, each_set, only_main, seats_kept}
 use Rattle.fish_rule.proofs.Frames.{alone_kept, flight_there, may_kept, one_view}
-use Rattle.fish_rule.proofs.Kept.{published}
+use Rattle.fish_rule.proofs.Kept.{chained_later, published}
 use Rattle.fish_rule.proofs.Links.{chains_set, links_set}
+use Rattle.fish_rule.specs.Chains.{Chained}
 use Rattle.fish_rule.specs.Parts.{Facts, Flies, InFlight, IsFinished, IsFound, IsKnown, Owns, Rests}
 use Rattle.fish_rule.specs.Regions.{code, dir_word, kind_of}
 use Rattle.fish_rule.specs.Rule.{Final, Rule}
@@ -28,10 +29,18 @@ module _ (k : Key) (w : World) (r : Rule k w) (id : ℕ) (v : View) (at : get_el
   abbrev pub learner : Learned → Option Position → Clock → View
   learner l t c = record v { learned = l; tail = t; clock = c }
 
+  -- nothing that lasts has changed
+  pub learn_final : (l : Learned) (t : Option Position) (c : Clock) → Final k r.start r.start r.lane_of r.lane_of w (record w { views = set w.views id (learner l t c) })
+  learn_final l t c = record { counts = omega arith; lines = omega arith; settles = omega arith; heads = λ b. omega arith; links = links_set k w r id v (learner l t c) at (λ a c h. h); rises = λ b p h. omega arith; starts = λ n h. refl; lanes = λ n h. refl; dirs = λ n h e. refl; bodies = λ n h e. refl }
+
+  -- what was known of chains is so in the new world
+  pub still_chained : (l : Learned) (t : Option Position) (c : Clock) → Chained k w.dir w.log (set w.views id (learner l t c)) w.head v.learned
+  still_chained l t c = chained_later k w (record w { views = set w.views id (learner l t c) }) r.start r.start r.lane_of r.lane_of (learn_final l t c) v.learned (r.chained id v at)
+
   -- a load keeps the rule where the new facts hold
-  unfoldable pub learns : (l : Learned) (t : Option Position) (c : Clock) → (v.lane ≡ 1 → v.out ≡ [] → Rests w.count w.line t) → Facts k w.count w.dir w.log r.start l → l.settled ≤ w.settled
+  unfoldable pub learns : (l : Learned) (t : Option Position) (c : Clock) → (v.lane ≡ 1 → v.out ≡ [] → Rests w.count w.line t) → Facts k w.count w.dir w.log r.start l → l.settled ≤ w.settled → Chained k w.dir w.log (set w.views id (learner l t c)) w.head l
       → Rule k (record w { views = set w.views id (learner l t c) })
-  learns l t c rests facts floor =
+  learns l t c rests facts floor chained =
       let v' : View = learner l t c in
       record {
         start = r.start;
@@ -61,6 +70,7 @@ module _ (k : Key) (w : World) (r : Rule k w) (id : ℕ) (v : View) (at : get_el
           may = may_kept w.views id v v' at k.end r.quota refl refl (λ h. h) r.limit.may;
         };
         settling = r.settling;
+        chained = each_set _ w.views id v' (λ j u ne at_u. chained_later k w (record w { views = set w.views id v' }) r.start r.start r.lane_of r.lane_of (learn_final l t c) u.learned (r.chained j u at_u)) chained;
         chains = chains_set k w r id v v' at (λ a c h. h) (λ a c h. h);
         floors = each_set _ w.views id v' (λ j u ne at_u. r.floors j u at_u) floor;
         own = each_set _ w.views id v' (λ j u ne at_u. r.own j u at_u) (r.own id v at);
@@ -74,12 +84,13 @@ module _ (k : Key) (w : World) (r : Rule k w) (id : ℕ) (v : View) (at : get_el
   pub end_kept : (x : ℕ) → high x ≡ w.count → low x ≡ w.line → Rule k (record w { views = set w.views id (after_end v x) })
   end_kept x count line =
       let h = r.facts id v at in
-      learns (record v.learned { count = high x }) _ _ (λ main all. (count, line)) (record {
+      let still = still_chained (record v.learned { count = high x }) (after_end v x).tail (after_end v x).clock in
+      learns (record v.learned { count = high x }) (after_end v x).tail (after_end v x).clock (λ main all. (count, line)) (record {
         counted = subst (λ (z : ℕ). z ≤ w.count) (sym count) (omega arith);
         found = h.found;
         known = h.known;
         records = h.records;
-      }) (r.floors id v at)
+      }) (r.floors id v at) (record { nodes = still.nodes; lows = still.lows; tops = still.tops })
 
   -- and all that lasts
   pub end_lasts : (x : ℕ) (count : high x ≡ w.count) (line : low x ≡ w.line)
@@ -105,7 +116,9 @@ module _ (k : Key) (w : World) (r : Rule k w) (id : ℕ) (v : View) (at : get_el
   pub settled_kept : Rule k (record w { views = set w.views id (after_settled v w.settled) })
   settled_kept =
       let h = r.facts id v at in
-      learns (record v.learned { settled = w.settled }) v.tail _ (r.tails id v at) (record { counted = h.counted; found = h.found; known = h.known; records = h.records }) (omega arith)
+      let still = still_chained (record v.learned { settled = w.settled }) v.tail (after_settled v w.settled).clock in
+      learns (record v.learned { settled = w.settled }) v.tail (after_settled v w.settled).clock (r.tails id v at) (record { counted = h.counted; found = h.found; known = h.known; records = h.records }) (omega arith)
+          (record { nodes = still.nodes; lows = still.lows; tops = still.tops })
 
   -- and all that lasts
   pub settled_lasts : Final k r.start settled_kept.start r.lane_of settled_kept.lane_of w (record w { views = set w.views id (after_settled v w.settled) })
@@ -128,12 +141,13 @@ module _ (k : Key) (w : World) (r : Rule k w) (id : ℕ) (v : View) (at : get_el
   pub look_kept : (n x : ℕ) → CanLook v n → v.about ≡ k → x ≡ w.dir n → Rule k (record w { views = set w.views id (after_look v n (lines_at n) x) })
   look_kept n x can about is =
       let h = r.facts id v at in
-      learns (record v.learned { found = found_after n (lines_at n) x v.learned.found }) v.tail _ (r.tails id v at) (record {
+      let still = still_chained (record v.learned { found = found_after n (lines_at n) x v.learned.found }) v.tail (after_look v n (lines_at n) x).clock in
+      learns (record v.learned { found = found_after n (lines_at n) x v.learned.found }) v.tail (after_look v n (lines_at n) x).clock (r.tails id v at) (record {
         counted = h.counted;
         found = each x is;
         known = h.known;
         records = h.records;
-      }) (r.floors id v at)
+      }) (r.floors id v at) (record { nodes = still.nodes; lows = still.lows; tops = still.tops })
     where
       each : (x : ℕ) → x ≡ w.dir n → Rattle.fish_rule.specs.Views.AllOf (IsFound k w.count w.dir r.start) (found_after n (lines_at n) x v.learned.found)
       each zero is = (r.facts id v at).found

@@ -13,7 +13,7 @@ use Rattle.fish_rule.proofs.Bodies.{code_once, kind-inside, void-head}
 use Rattle.fish_rule.proofs.Bounds.{ends_within, one_region, starts_above}
 use Rattle.fish_rule.proofs.Common.{all_among}
 use Rattle.fish_rule.proofs.Kept.{published}
-use Rattle.fish_rule.proofs.Learns.{learns}
+use Rattle.fish_rule.proofs.Learns.{learns, still_chained}
 use Rattle.fish_rule.proofs.Links.{links_set}
 use Rattle.fish_rule.proofs.Worlds.{area-in}
 use Rattle.fish_rule.specs.Parts.{Facts, IsFinished, IsFound, IsKnown}
@@ -118,6 +118,7 @@ module _ (k : Key) (w : World) (r : Rule k w) (id : ℕ) (v : View) (at : get_el
   -- a read keeps the rule
   pub read_kept : Rule k (record w { views = set w.views id reader })
   read_kept = learns k w r id v at reader.learned v.tail reader.clock (r.tails id v at) read_facts (r.floors id v at)
+      (let still = still_chained k w r id v at reader.learned v.tail reader.clock in record { nodes = still.nodes; lows = still.lows; tops = still.tops })
 
   -- and all that lasts
   pub read_lasts : Final k r.start read_kept.start r.lane_of read_kept.lane_of w (record w { views = set w.views id reader })

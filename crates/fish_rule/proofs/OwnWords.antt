@@ -12,7 +12,7 @@ use Rattle.fish_rule.proofs.Bounds.{ends_within, one_region}
 use Rattle.fish_rule.proofs.Common.{each_set, seats_kept}
 use Rattle.fish_rule.proofs.Flights.{one_flight}
 use Rattle.fish_rule.proofs.Frames.{alone_kept, flight_there, may_kept, one_view}
-use Rattle.fish_rule.proofs.Kept.{facts_later, finished_later, flight_later, owns_later, published, shut_later}
+use Rattle.fish_rule.proofs.Kept.{chained_later, facts_later, finished_later, flight_later, owns_later, published, shut_later}
 use Rattle.fish_rule.proofs.Links.{IsFlier, Spot, chains_same, lies_inside, linked_map, linking_from, linking_own, linking_to, spot, which, whole_later}
 use Rattle.fish_rule.proofs.Worlds.{put-else, put-here}
 use Rattle.fish_rule.specs.Chains.{Chain, IsLinking, IsStoredAt, Linked, LinksAt, Shows}
@@ -240,6 +240,7 @@ module _ (k : Key) (w : World) (r : Rule k w) (id : ℕ) (v : View) (at : get_el
     };
     settling = r.settling;
     chains = chains_same k w.dir w.dir w.log written.log w.views written.views w.head links_stay links_back (λ b p h. put-else w.log own_word x p (not_linked b p h)) r.chains;
+    chained = each_set _ w.views id writer (λ j u ne at_u. chained_later k w written r.start r.start r.lane_of r.lane_of write_final u.learned (r.chained j u at_u)) (chained_later k w written r.start r.start r.lane_of r.lane_of write_final v.learned (r.chained id v at));
     floors = each_set _ w.views id writer (λ j u ne at_u. r.floors j u at_u) (r.floors id v at);
     own = each_set _ w.views id writer (λ j u ne at_u. r.own j u at_u) (r.own id v at);
     facts = each_set _ w.views id writer (λ j u ne at_u. facts_later k w written r.start r.start r.lane_of r.lane_of write_final u.learned (r.facts j u at_u))

@@ -13,7 +13,7 @@ use Rattle.fish_rule.proofs.Bodies.{body_stored, code_once, body_void, high-pack
 use Rattle.fish_rule.proofs.Bounds.{ends_within}
 use Rattle.fish_rule.proofs.Common.{all_map, among_left, among_right, among_either, each_set, has_own, seats_kept}
 use Rattle.fish_rule.proofs.Frames.{alone_kept, flight_there, may_kept, one_view}
-use Rattle.fish_rule.proofs.Kept.{code_some, facts_later, finished_later, flight_later, owns_later, published, shut_later, stored_before, stored_later}
+use Rattle.fish_rule.proofs.Kept.{chained_later, code_some, facts_later, finished_later, flight_later, owns_later, published, shut_later, stored_before, stored_later}
 use Rattle.fish_rule.proofs.Links.{chains_same, linked_counted, linking_from}
 use Rattle.fish_rule.proofs.OwnWords.{flight_is}
 use Rattle.fish_rule.proofs.Worlds.{put-else, put-here}
@@ -327,6 +327,7 @@ module _ (k : Key) (w : World) (r : Rule k w) (id : ℕ) (v : View) (at : get_el
       below = λ n above below. subst IsEntryWord (sym (dir_else n (is_other n (r.settling.below n above below).published))) (r.settling.below n above below);
     };
     chains = chains_same k w.dir dir' w.log w.log w.views (set w.views id publisher) w.head links_on (linked_counted k dir' w.dir w.log (set w.views id publisher) w.views shows_before) (λ b p h. refl) r.chains;
+    chained = each_set _ w.views id publisher (λ j u ne at_u. chained_later k w publication r.start r.start r.lane_of r.lane_of publish_final u.learned (r.chained j u at_u)) (let h = chained_later k w publication r.start r.start r.lane_of r.lane_of publish_final v.learned (r.chained id v at) in record { nodes = h.nodes; lows = h.lows; tops = h.tops });
     floors = each_set _ w.views id publisher (λ j u ne at_u. r.floors j u at_u) (r.floors id v at);
     own = each_set _ w.views id publisher (λ j u ne at_u. others_own j u ne at_u) (own_own kind refl);
     facts = each_set _ w.views id publisher (λ j u ne at_u. facts_later k w publication r.start r.start r.lane_of r.lane_of publish_final u.learned (r.facts j u at_u)) own_facts;

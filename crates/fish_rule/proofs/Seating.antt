@@ -7,7 +7,9 @@ use Rattle.fish_rule.proofs.Common.{all_append, among_either, among_left, among_
 use Rattle.fish_rule.proofs.Frames.{alone_kept, flight_there}
 use Rattle.fish_rule.proofs.Lanes.{both_has, first_shut_none, flight_longer, greater_within, has_back, has_both, has_lane, has_left, has_none, has_one, left_has, not_over, of_lane_complete, of_lane_sound, off_lane_complete, off_lane_sound, pairs_snoc, shut_either}
 use Rattle.fish_rule.proofs.Links.{chains_views, linking_from, linking_own, linking_to, links_views}
-use Rattle.fish_rule.specs.Chains.{IsLinking, LinksAt}
+use Rattle.fish_rule.proofs.Kept.{chained_later}
+use Rattle.fish_rule.specs.Chains.{Chained, IsLinking, LinksAt}
+use Rattle.fish_rule.specs.declared.view.Learned.{Learned}
 use Rattle.fish_rule.specs.Parts.{Facts, IsFound, IsKnown, IsRecorded, Limit, MayOverflow, Owns, Seats}
 use Rattle.fish_rule.specs.Rule.{Final, Rule}
 use Rattle.fish_rule.specs.Seating.{CanJoin, CanSplit, join_both, of_lane, spent, split_left, split_right, without}
@@ -110,6 +112,14 @@ module _ (k : Key) (w : World) (r : Rule k w) (id : ℕ) (v : View) (at : get_el
       (λ (e : get_elem? cut h.seat ≡ some h.view). linking_from w.views id v left at a c (λ q. linking_own w.views id v left at a c q) (record { seat = h.seat; view = h.view; at = e; links = h.links }))
       (λ (e : right ≡ h.view). absurd (subst (λ (z : View). LinksAt a c z.flight) (sym e) h.links)) (at_snoc cut right h.view h.seat h.at)
 
+  -- nothing that lasts has changed
+  split_final : Final k r.start r.start r.lane_of r.lane_of w (record w { views = cut ++ right ∷ [] })
+  split_final = record { counts = omega arith; lines = omega arith; settles = omega arith; heads = λ b. omega arith; links = links_views k w r (cut ++ right ∷ []) links_cut; rises = λ b p h. omega arith; starts = λ n h. refl; lanes = λ n h. refl; dirs = λ n h e. refl; bodies = λ n h e. refl }
+
+  -- what is known of chains stays so
+  split_chained : (x : Learned) → Chained k w.dir w.log w.views w.head x → Chained k w.dir w.log (cut ++ right ∷ []) w.head x
+  split_chained = chained_later k w (record w { views = cut ++ right ∷ [] }) r.start r.start r.lane_of r.lane_of split_final
+
   -- a split keeps the rule
   pub split_kept : Rule k (record w { views = set w.views id (split_left l v) ++ split_right l v ∷ [] })
   split_kept = record {
@@ -135,6 +145,7 @@ module _ (k : Key) (w : World) (r : Rule k w) (id : ℕ) (v : View) (at : get_el
     limit = split_limit;
     settling = r.settling;
     chains = chains_views k w r (cut ++ right ∷ []) links_cut back_cut;
+    chained = each_cut _ (λ j u at_u. split_chained u.learned (r.chained j u at_u)) (split_chained v.learned (r.chained id v at)) (split_chained v.learned (r.chained id v at));
     floors = each_cut _ r.floors (r.floors id v at) (r.floors id v at);
     own = each_cut _ r.own left_owns right_owns;
     facts = each_cut _ r.facts (r.facts id v at) (r.facts id v at);
@@ -238,6 +249,24 @@ module _ (k : Key) (w : World) (r : Rule k w) (id other : ℕ) (v u : View) (at 
   back_join : (a c : ℕ) → IsLinking a c (set taken other spent) → IsLinking a c w.views
   back_join a c h = linking_from w.views id v both at a c (λ q. linking_own w.views id v both at a c q) (linking_from taken other u spent at_other a c (λ q. elim q [ ]) h)
 
+  -- nothing that lasts has changed
+  join_final : Final k r.start r.start r.lane_of r.lane_of w (record w { views = set taken other spent })
+  join_final = record { counts = omega arith; lines = omega arith; settles = omega arith; heads = λ b. omega arith; links = links_views k w r (set taken other spent) links_join; rises = λ b p h. omega arith; starts = λ n h. refl; lanes = λ n h. refl; dirs = λ n h e. refl; bodies = λ n h e. refl }
+
+  -- what is known of chains stays so, and what either knew is so
+  join_chained : (x : Learned) → Chained k w.dir w.log w.views w.head x → Chained k w.dir w.log (set taken other spent) w.head x
+  join_chained = chained_later k w (record w { views = set taken other spent }) r.start r.start r.lane_of r.lane_of join_final
+
+  both_chained : Chained k w.dir w.log (set taken other spent) w.head both.learned
+  both_chained =
+      let a = join_chained v.learned (r.chained id v at) in
+      let b = join_chained u.learned (r.chained other u at_u) in
+      record {
+        nodes = all_append _ v.learned.nodes u.learned.nodes a.nodes b.nodes;
+        lows = all_append _ v.learned.lows u.learned.lows a.lows b.lows;
+        tops = all_append _ v.learned.tops u.learned.tops a.tops b.tops;
+      }
+
   -- a join keeps the rule
   pub join_kept : Rule k (record w { views = set (set w.views id (join_both v u)) other spent })
   join_kept = record {
@@ -270,6 +299,7 @@ module _ (k : Key) (w : World) (r : Rule k w) (id other : ℕ) (v u : View) (at 
     };
     settling = r.settling;
     chains = chains_views k w r (set taken other spent) links_join back_join;
+    chained = each_join _ (λ j x at_x. join_chained x.learned (r.chained j x at_x)) both_chained (record { nodes = tt; lows = tt; tops = tt });
     floors = each_join _ r.floors (greater_within v.learned.settled u.learned.settled w.settled (r.floors id v at) (r.floors other u at_u)) (omega arith);
     own = each_join _ r.own join_owns (record { sound = λ o m. elim m [ ]; complete = λ o has. absurd (has_none o.lane has) });
     facts = each_join _ r.facts join_facts (record { counted = omega arith; found = tt; known = tt; records = tt });

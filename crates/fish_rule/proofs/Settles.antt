@@ -9,7 +9,7 @@ use Rattle.fish_rule.proofs.Allowed.{allowed, loaded_words, stands, there}
 use Rattle.fish_rule.proofs.Bodies.{code_once}
 use Rattle.fish_rule.proofs.Common.{all_among, each_set, seats_kept}
 use Rattle.fish_rule.proofs.Frames.{alone_kept, flight_there, may_kept}
-use Rattle.fish_rule.proofs.Kept.{published}
+use Rattle.fish_rule.proofs.Kept.{chained_later, published}
 use Rattle.fish_rule.proofs.Learns.{settled_kept}
 use Rattle.fish_rule.proofs.Links.{chains_set, links_set}
 use Rattle.fish_rule.proofs.Worlds.{world-settled}
@@ -88,6 +88,7 @@ module _ (k : Key) (w : World) (r : Rule k w) (id : ℕ) (v : View) (at : get_el
     };
     settling = settling;
     chains = chains_set k w r id v raiser at (λ a c h. h) (λ a c h. h);
+    chained = each_set _ w.views id raiser (λ j u ne at_u. chained_later k w raised r.start r.start r.lane_of r.lane_of raise_final u.learned (r.chained j u at_u)) (let h = chained_later k w raised r.start r.start r.lane_of r.lane_of raise_final v.learned (r.chained id v at) in record { nodes = h.nodes; lows = h.lows; tops = h.tops });
     floors = each_set _ w.views id raiser (λ j u ne at_u. let a = r.floors j u at_u in omega arith) (omega arith);
     own = each_set _ w.views id raiser (λ j u ne at_u. r.own j u at_u) (r.own id v at);
     facts = each_set _ w.views id raiser (λ j u ne at_u. r.facts j u at_u) (let h = r.facts id v at in record { counted = h.counted; found = h.found; known = h.known; records = h.records });

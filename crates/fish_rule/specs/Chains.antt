@@ -7,10 +7,13 @@ use Rattle.fish_layout.specs.Bucket.{bucket_of}
 use Rattle.fish_layout.specs.Cleared.{entry_at}
 use Rattle.fish_layout.specs.Header.{keys_of}
 use Rattle.fish_rule.specs.Regions.{code}
+use Rattle.fish_rule.specs.Views.{AllOf}
 use Rattle.fish_rule.specs.World.{body, high, low}
 use Rattle.fish_rule.specs.declared.view.Flight.{Flight}
 use Rattle.fish_rule.specs.declared.view.Key.{Key}
 use Rattle.fish_rule.specs.declared.view.Kind.TheVariants.{Stored}
+use Rattle.fish_rule.specs.declared.view.Known.{Known}
+use Rattle.fish_rule.specs.declared.view.Learned.{Learned}
 use Rattle.fish_rule.specs.declared.view.View.{View}
 
 -- p is the place of key entry c of the record with this body at line a, whose bucket is b
@@ -60,3 +63,17 @@ pub record Chain (linked : ℕ → Type 0) (head : ℕ) (log : ℕ → ℕ) : Ty
   pub some : (head ≡ 0) ⊎ linked head
   pub highest : (p : ℕ) → linked p → p ≤ head
   pub next : (p : ℕ) → linked p → IsNext linked p (log p)
+
+-- ---- what a pass has learned of chains
+
+-- the first word of the linked entry at a place has reached a value
+pub record IsLow (k : Key) (dir log : ℕ → ℕ) (views : List View) (x : Known) : Type 0 where
+  pub bucket : ℕ
+  pub linked : Linked k dir log views bucket x.place
+  pub low : x.value ≤ log x.place
+
+-- the entries known are linked, their first words and the heads have reached what is known of them
+pub record Chained (k : Key) (dir log : ℕ → ℕ) (views : List View) (head : ℕ → ℕ) (l : Learned) : Type 0 where
+  pub nodes : AllOf (λ x. Linked k dir log views x.bucket x.place) l.nodes
+  pub lows : AllOf (IsLow k dir log views) l.lows
+  pub tops : AllOf (λ x. x.place ≤ head x.bucket) l.tops

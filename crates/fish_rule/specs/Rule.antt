@@ -1,6 +1,6 @@
 -- The rule: all parts at once. And what every step leaves as it was.
 use Rattle.std.specs.Prelude.{ℕ, ◌≡◌, ◌≢◌, ◌<◌, ◌≤◌, []}
-use Rattle.fish_rule.specs.Chains.{Chain, Linked}
+use Rattle.fish_rule.specs.Chains.{Chain, Chained, Linked}
 use Rattle.fish_rule.specs.Parts.{Facts, Fits, Limit, Owns, Rests, Seats, Settled, ShutOk, Space, Flies}
 use Rattle.fish_rule.specs.Views.{Each}
 use Rattle.fish_rule.specs.World.{World, body}
@@ -21,6 +21,7 @@ pub record Rule (k : Key) (w : World) : Type 0 where
   pub settling : Settled k w.count w.settled w.dir
   pub floors : Each (λ v. v.learned.settled ≤ w.settled) w.views
   pub chains : (b : ℕ) → Chain (Linked k w.dir w.log w.views b) (w.head b) w.log
+  pub chained : Each (λ v. Chained k w.dir w.log w.views w.head v.learned) w.views
   pub own : Each (λ v. Owns k w.count w.dir lane_of v.lane v.out v.own) w.views
   pub facts : Each (λ v. Facts k w.count w.dir w.log start v.learned) w.views
   pub shuts : Each (λ v. ShutOk k w.count w.dir start v.shut) w.views

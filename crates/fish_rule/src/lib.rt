@@ -26,6 +26,6 @@ pub use steps::{
 };
 pub use table::{Base, Log, LogRule, Pass, Region, Shape};
 pub use view::{
-    Clock, Flight, Found, Key, Kind, Known, Learned, Note, Noted, Own, Position, Recorded, Shut,
+    Clock, Flight, Found, Key, Kind, Known, Learned, Node, Note, Noted, Own, Position, Recorded, Shut,
     View,
 };

@@ -71,6 +71,12 @@ pub struct Known {
     pub value: u64,
 }
 
+/// The place of a key entry's first word, in words from the log's start, and its bucket.
+pub struct Node {
+    pub bucket: u64,
+    pub place: u64,
+}
+
 /// A published record and the words that were stored for it.
 pub struct Recorded {
     pub number: u64,
@@ -118,6 +124,12 @@ pub struct Learned {
     pub found: [Found; 0],
     pub known: [Known; 0],
     pub records: [Recorded; 0],
+    /// Key entries that are linked.
+    pub nodes: [Node; 0],
+    /// The first words of linked key entries are at least so great.
+    pub lows: [Known; 0],
+    /// The heads of buckets are at least at these places.
+    pub tops: [Node; 0],
 }
 
 /// What a pass knows.
