@@ -98,14 +98,14 @@ body_same log log' a lines some lined same =
     let lined' : lines_of (log (a * 4 + 0)) ≤ lines = subst (λ (z : ℕ). lines_of z ≤ lines) head lined in
     cleared_same (λ i. log (a * 4 + i)) (λ i. log' (a * 4 + i)) (λ i within plain. same i (omega arith))
 
--- a region whose words were all stored has the body of these words
-pub body_stored : (log : ℕ → ℕ) (words : List ℕ) (lane number lines line linked : ℕ) → IsRecord lane number lines (body_of words) → length words ≡ lines * 4 → 1 ≤ lines → linked ≡ keys_of (body_of words 0)
+-- a region whose words were all stored has the body of these words, however many of its entries are linked
+pub body_stored : (log : ℕ → ℕ) (words : List ℕ) (lane number lines line linked : ℕ) → IsRecord lane number lines (body_of words) → length words ≡ lines * 4 → 1 ≤ lines → linked ≤ keys_of (body_of words 0)
     → ((i : ℕ) → i < length words → ¬ IsLinkedWord linked i → log (line * 4 + i) ≡ get_or words i 0) → body log line ≡ body_of words
-body_stored log words lane number lines line linked is full some all written =
+body_stored log words lane number lines line linked is full some few written =
     let f : ℕ → ℕ = λ i. get_or words i 0 in
     let head : body_of words 0 ≡ f 0 = cleared_head f in
     let lined : lines_of (f 0) ≡ lines = ap lines_of (sym head) ∙ spelled_lines is.1.spells ∙ is.1.lines_is in
-    let keys : linked ≡ keys_of (f 0) = all ∙ ap keys_of head in
+    let keys : keys_of (body_of words 0) ≡ keys_of (f 0) = ap keys_of head in
     cleared_same f (λ i. log (line * 4 + i)) (λ i within plain. written i (omega arith) (λ h. plain (linked-key (keys_of (f 0)) linked i (omega arith) h)))
 
 -- a region whose header is a void's and whose other words are 0 has the body of a void

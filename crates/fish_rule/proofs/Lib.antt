@@ -1,3 +1,4 @@
+pub mod Aims
 pub mod Allowed
 pub mod Begins
 pub mod Bodies
@@ -11,6 +12,7 @@ pub mod Extending
 pub mod Fills
 pub mod Flights
 pub mod Frames
+pub mod Heads
 pub mod Kept
 pub mod Lanes
 pub mod Laws

@@ -130,7 +130,7 @@ module _ (k : Key) (w : World) (r : Rule k w) (id : ℕ) (v : View) (at : get_el
   shows_before a c few (inl s) = pick (ℕ_discrete s.number f.number)
     where
       all_linked : (kd : Kind) → kd ≡ Stored → IsReady kd v.lane f → f.linked ≡ keys_of (body w.log f.line 0)
-      all_linked Stored e h = h.2 ∙ ap (λ (z : ℕ → ℕ). keys_of (z 0)) (sym (body_stored w.log f.words v.lane f.number f.lines f.line f.linked h.1 h.0 sized.0 h.2 own.written))
+      all_linked Stored e h = h.2 ∙ ap (λ (z : ℕ → ℕ). keys_of (z 0)) (sym (body_stored w.log f.words v.lane f.number f.lines f.line f.linked h.1 h.0 sized.0 (let q = h.2 in omega arith) own.written))
       all_linked Void e h = cc
       all_linked Mark e h = cc
       pick : Dec (s.number ≡ f.number) → Shows k w.dir w.views a c
@@ -164,7 +164,7 @@ module _ (k : Key) (w : World) (r : Rule k w) (id : ℕ) (v : View) (at : get_el
   -- what the region holds
   filled : (kd : Kind) → IsReady kd v.lane f → (lines_of (body w.log f.line 0) ≤ f.lines) × Holds kd v.lane f.number f.lines (body w.log f.line)
   filled Stored h =
-      let e : body w.log f.line ≡ body_of f.words = body_stored w.log f.words v.lane f.number f.lines f.line f.linked h.1 h.0 sized.0 h.2 own.written in
+      let e : body w.log f.line ≡ body_of f.words = body_stored w.log f.words v.lane f.number f.lines f.line f.linked h.1 h.0 sized.0 (let q = h.2 in omega arith) own.written in
       let lined : lines_of (body_of f.words 0) ≡ f.lines = spelled_lines h.1.1.spells ∙ h.1.1.lines_is in
       (subst (λ (z : ℕ → ℕ). lines_of (z 0) ≤ f.lines) (sym e) (omega arith), subst (IsRecord v.lane f.number f.lines) (sym e) h.1)
   filled Void h =
@@ -273,7 +273,7 @@ module _ (k : Key) (w : World) (r : Rule k w) (id : ℕ) (v : View) (at : get_el
     above = own.above;
     below = own.below;
     stored = kind_here ∙ ap code is;
-    words = ap (body w.log) own.line ∙ body_stored w.log f.words v.lane f.number f.lines f.line f.linked h.1 h.0 sized.0 h.2 own.written;
+    words = ap (body w.log) own.line ∙ body_stored w.log f.words v.lane f.number f.lines f.line f.linked h.1 h.0 sized.0 (let q = h.2 in omega arith) own.written;
   }, (facts_later k w publication r.start r.start r.lane_of r.lane_of publish_final v.learned (r.facts id v at)).records)
   records_here Void is h = (facts_later k w publication r.start r.start r.lane_of r.lane_of publish_final v.learned (r.facts id v at)).records
   records_here Mark is h = (facts_later k w publication r.start r.start r.lane_of r.lane_of publish_final v.learned (r.facts id v at)).records

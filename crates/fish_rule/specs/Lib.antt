@@ -1,5 +1,6 @@
 pub mod Chains
 pub mod Flying
+pub mod Linking
 pub mod Logs
 pub mod Machine
 pub mod Parts

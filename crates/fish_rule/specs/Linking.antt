@@ -1,0 +1,169 @@
+-- How a pass links the key entries of its record into their chains: what it knows after each of these steps, and when it may make it.
+use Rattle.std.specs.Prelude.{ℕ, ◌≡◌, ◌≢◌, ◌+◌, ◌-◌, ◌*◌, ◌<◌, ◌≤◌, zero, suc, List, [], ◌∷◌, length, slice_index, slice_set, Bool, Some}
+use Rattle.std.proofs.Math.Decide.{ℕ_discrete}
+use Rattle.atomic_table.specs.Table.{Step}
+use Rattle.fish_layout.specs.Bucket.{bucket_of}
+use Rattle.fish_layout.specs.Cleared.{body_of, choose, entry_at}
+use Rattle.fish_layout.specs.Header.{keys_of}
+use Rattle.fish_rule.specs.Regions.{IsRecord}
+use Rattle.fish_rule.specs.Steps.{flight_kind, loaded, ticked}
+use Rattle.fish_rule.specs.Table.{Sat, Told, place_at}
+use Rattle.fish_rule.specs.Views.{Among}
+use Rattle.fish_rule.specs.World.{heads_at}
+use Rattle.fish_rule.specs.declared.view.Flight.{Flight}
+use Rattle.fish_rule.specs.declared.view.Kind.TheVariants.{Stored}
+use Rattle.fish_rule.specs.declared.view.Known.{Known}
+use Rattle.fish_rule.specs.declared.view.Learned.{Learned}
+use Rattle.fish_rule.specs.declared.view.Node.{Node}
+use Rattle.fish_rule.specs.declared.view.View.{View}
+
+-- ---- load head
+
+-- the bucket is one of the table's
+pub record CanLoadHead (v : View) (b : ℕ) : Type 0 where
+  pub live : 1 ≤ v.lane
+  pub below : b < v.about.buckets
+
+-- a place that isn't 0 is that of a linked entry of the bucket
+abbrev pub with_node : ℕ → ℕ → List Node → List Node
+with_node b zero nodes = nodes
+with_node b (suc p) nodes = record { bucket = b; place = suc p } ∷ nodes
+
+-- what a head that was found tells
+abbrev pub learned_head : ℕ → ℕ → Learned → Learned
+learned_head b x l = record l { nodes = with_node b x l.nodes; tops = record { bucket = b; place = x } ∷ l.tops }
+
+-- the head is seen
+abbrev pub after_head : View → ℕ → ℕ → View
+after_head v b x = record v { learned = learned_head b x v.learned; clock = loaded v.clock }
+
+-- whatever place the view knew the bucket's head to have reached, x is at or above it
+abbrev pub TopRises : View → ℕ → ℕ → Type 0
+TopRises v b x = (t : Node) → Among t v.learned.tops → t.bucket ≡ b → t.place ≤ x
+
+-- ---- load previous
+
+-- an entry of the bucket is known to be linked at the place
+abbrev pub HasNode : View → ℕ → ℕ → Type 0
+HasNode v b p = Among (record { bucket = b; place = p }) v.learned.nodes
+
+-- what a first word that was found tells
+abbrev pub learned_previous : ℕ → ℕ → ℕ → Learned → Learned
+learned_previous b p x l = record l { nodes = with_node b x l.nodes; lows = record { place = p; value = x } ∷ l.lows }
+
+-- the first word is seen
+abbrev pub after_previous : View → ℕ → ℕ → ℕ → View
+after_previous v b p x = record v { learned = learned_previous b p x v.learned; clock = loaded v.clock }
+
+-- whatever value the view knew the first word at the place to have reached, x is at or above it
+abbrev pub LowRises : View → ℕ → ℕ → Type 0
+LowRises v p x = (t : Known) → Among t v.learned.lows → t.place ≡ p → t.value ≤ x
+
+-- ---- aim: a store of the own first word
+
+-- the place of the entry that is next to be linked
+abbrev pub own_place : Flight → ℕ
+own_place f = f.line * 4 + entry_at f.linked
+
+-- f is in flight and a whole record, and an entry of it is still to be linked
+pub record CanAim (v : View) (f : Flight) : Type 0 where
+  pub flying : v.flight ≡ Some f
+  pub kind : flight_kind v f ≡ Stored
+  pub full : length f.words ≡ f.lines * 4
+  pub record_of : IsRecord v.lane f.number f.lines (body_of f.words)
+  pub more : f.linked < keys_of (body_of f.words 0)
+
+-- a record in flight whose next entry is aimed at a place
+abbrev pub aimed_at : Flight → ℕ → Flight
+aimed_at f x = record f { words = slice_set f.words (entry_at f.linked) x }
+
+-- the own first word is stored
+abbrev pub after_aim : View → Flight → ℕ → View
+after_aim v f x = record v { flight = Some (aimed_at f x); clock = ticked v.clock }
+
+-- ---- swing: a compare-and-exchange on a head
+
+-- one entry more is linked
+abbrev pub linked_once : Flight → Flight
+linked_once f = record f { linked = suc f.linked }
+
+-- the next entry is of the bucket, and aimed at h, which is below it
+pub record CanSwing (v : View) (f : Flight) (b h : ℕ) : Type 0 where
+  pub aim : CanAim v f
+  pub bucket : bucket_of v.about.buckets (body_of f.words) f.linked ≡ b
+  pub below : b < v.about.buckets
+  pub aimed : slice_index f.words (entry_at f.linked) ≡ h
+  pub less : h < own_place f
+
+-- the own entry is the head
+abbrev pub swung : View → Flight → ℕ → View
+swung v f b = record v {
+  flight = Some (linked_once f);
+  learned = record v.learned { nodes = record { bucket = b; place = own_place f } ∷ v.learned.nodes; tops = record { bucket = b; place = own_place f } ∷ v.learned.tops };
+  clock = loaded v.clock;
+}
+
+-- the exchange was made where the head was as expected, and else the head is seen
+abbrev pub after_swing : View → Flight → ℕ → ℕ → ℕ → View
+after_swing v f b h found = choose (ℕ_discrete found h) (swung v f b) (after_head v b found)
+
+-- ---- splice: a compare-and-exchange on a linked entry's first word
+
+-- the next entry is of the bucket, below the linked entry at q, and aimed at x, which is below it
+pub record CanSplice (v : View) (f : Flight) (b q x : ℕ) : Type 0 where
+  pub aim : CanAim v f
+  pub bucket : bucket_of v.about.buckets (body_of f.words) f.linked ≡ b
+  pub node : HasNode v b q
+  pub below : own_place f < q
+  pub aimed : slice_index f.words (entry_at f.linked) ≡ x
+  pub less : x < own_place f
+
+-- the own entry is next below the one at q
+abbrev pub spliced : View → Flight → ℕ → ℕ → View
+spliced v f b q = record v {
+  flight = Some (linked_once f);
+  learned = record v.learned { nodes = record { bucket = b; place = own_place f } ∷ v.learned.nodes; lows = record { place = q; value = own_place f } ∷ v.learned.lows };
+  clock = loaded v.clock;
+}
+
+-- the exchange was made where the first word was as expected, and else it is seen
+abbrev pub after_splice : View → Flight → ℕ → ℕ → ℕ → ℕ → View
+after_splice v f b q x found = choose (ℕ_discrete found x) (spliced v f b q) (after_previous v b q found)
+
+-- ---- what these steps tell
+
+-- the bucket whose head is at an index of the table
+abbrev pub bucket_at : ℕ → ℕ
+bucket_at i = i - heads_at
+
+-- a load of a head
+pub record ToldHead (st : Step Bool) (m : Sat) (found : ℕ) (m' : Sat) : Type 0 where
+  pub told : Told m (after_head m.0 (bucket_at st.word) found) m'
+  pub rises : TopRises m.0 (bucket_at st.word) found
+
+-- a load of the first word of a linked entry, which is below its place
+pub record ToldPrevious (st : Step Bool) (m : Sat) (found : ℕ) (m' : Sat) : Type 0 where
+  pub bucket : ℕ
+  pub node : HasNode m.0 bucket (place_at m.0.about st.word)
+  pub told : Told m (after_previous m.0 bucket (place_at m.0.about st.word) found) m'
+  pub rises : LowRises m.0 (place_at m.0.about st.word) found
+  pub less : found < place_at m.0.about st.word
+
+-- an aim
+abbrev pub told_aim : Step Bool → Sat → ℕ → Sat → Type 0
+told_aim st m found m' = (f : Flight) → m.0.flight ≡ Some f → Told m (after_aim m.0 f st.first) m'
+
+-- a swing: the own place is never the head before
+pub record ToldSwing (st : Step Bool) (m : Sat) (found : ℕ) (m' : Sat) : Type 0 where
+  pub told : (f : Flight) → m.0.flight ≡ Some f → Told m (after_swing m.0 f (bucket_at st.word) st.first found) m'
+  pub rises : TopRises m.0 (bucket_at st.word) found
+  pub other : found ≢ st.second
+
+-- a splice
+pub record ToldSplice (st : Step Bool) (m : Sat) (found : ℕ) (m' : Sat) : Type 0 where
+  pub bucket : ℕ
+  pub node : HasNode m.0 bucket (place_at m.0.about st.word)
+  pub told : (f : Flight) → m.0.flight ≡ Some f → Told m (after_splice m.0 f bucket (place_at m.0.about st.word) st.first found) m'
+  pub rises : LowRises m.0 (place_at m.0.about st.word) found
+  pub less : found < place_at m.0.about st.word
+  pub other : found ≢ st.second
