@@ -57,7 +57,7 @@ module _ (k : Key) (w : World) (r : Rule k w) (id : ℕ) (v : View) (at : get_el
 
   module _ (x : ℕ) where
     -- one word is another
-    becomes : Becomes (f.lines * 4) f.linked (entry_at f.linked) x (IsKeyWord (keys_of (body w.log f.line 0)) (entry_at f.linked)) f.words (set f.words (entry_at f.linked) x)
+    pub becomes : Becomes (f.lines * 4) f.linked (entry_at f.linked) x (IsKeyWord (keys_of (body w.log f.line 0)) (entry_at f.linked)) f.words (set f.words (entry_at f.linked) x)
     becomes =
         let full = can.full in
         let room = own_room in

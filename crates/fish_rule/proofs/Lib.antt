@@ -28,5 +28,6 @@ pub mod Schedules
 pub mod Seating
 pub mod Settles
 pub mod Standing
+pub mod Swings
 pub mod Words
 pub mod Worlds

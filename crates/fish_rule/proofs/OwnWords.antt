@@ -119,7 +119,7 @@ module _ (k : Key) (w : World) (r : Rule k w) (id : ℕ) (v : View) (at : get_el
               subst (λ (z : ℕ). lines_of (body w.log z 0) ≤ r.start (suc s.number) - r.start s.number) (sym s.line) (omega arith)))
 
   -- the word is no linked one
-  not_linked : (b p : ℕ) → Linked k w.dir w.log w.views b p → p ≢ own_word
+  pub not_linked : (b p : ℕ) → Linked k w.dir w.log w.views b p → p ≢ own_word
   not_linked b p h e =
       let s = spot k w r h.line h.entry h.shows in
       let line = own.line in
