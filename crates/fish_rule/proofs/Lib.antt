@@ -27,6 +27,7 @@ pub mod Room
 pub mod Schedules
 pub mod Seating
 pub mod Settles
+pub mod Splices
 pub mod Standing
 pub mod Swings
 pub mod Words
