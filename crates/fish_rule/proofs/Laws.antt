@@ -6,7 +6,11 @@ use Rattle.fish_rule.proofs.Bounds.{ends_within, starts_above}
 use Rattle.fish_rule.proofs.Common.{all_among}
 use Rattle.fish_layout.specs.Header.{lines_of}
 use Rattle.fish_rule.proofs.Loads.{head_known, lines_found, region_found}
+use Rattle.fish_rule.proofs.Aims.{own_within}
+use Rattle.fish_rule.proofs.Heads.{node_linked, place_within}
+use Rattle.fish_rule.proofs.Links.{one_chain}
 use Rattle.fish_rule.proofs.OwnWords.{flight_is}
+use Rattle.fish_rule.specs.Linking.{CanAim, HasNode, own_place}
 use Rattle.fish_rule.proofs.Room.{few_lines, few_numbers, few_slots}
 use Rattle.fish_rule.specs.Parts.{Fits, IsFound, IsKnown}
 use Rattle.fish_rule.specs.Regions.{kind_of}
@@ -109,3 +113,25 @@ found_law v f s among =
     let lines = found.lines in
     let grows = r.space.regions.grows f.number found.above found.below in
     omega arith
+
+-- ---- chains
+
+-- a place that a pass knows linked is of one bucket
+pub one_bucket : (v : View) (b c p : ℕ) → Stands v → HasNode v b p → HasNode v c p → b ≡ c
+one_bucket v b c p s one two = one_chain v.about s.moment s.rule b c p (node_linked v.about s.moment s.rule s.seat v s.at b p one) (node_linked v.about s.moment s.rule s.seat v s.at c p two)
+
+-- and within the log
+pub node_law : (k : Key) (v : View) (b p : ℕ) → v.about ≡ k → Stands v → HasNode v b p → (k.line * 4 ≤ p) × (p < k.end * 4)
+node_law k v b p about s node =
+    let h = place_within v.about s.moment s.rule b p (node_linked v.about s.moment s.rule s.seat v s.at b p node) in
+    let fits = s.rule.key_fits in
+    let some_ = fits.some_lines in
+    subst (λ (z : Key). (z.line * 4 ≤ p) × (p < z.end * 4)) about (h.0, omega arith)
+
+-- and so is the own entry that is next to be linked
+pub aim_law : (k : Key) (v : View) (f : Flight) → v.about ≡ k → Stands v → CanAim v f → (k.line * 4 ≤ own_place f) × (own_place f < k.end * 4)
+aim_law k v f about s can =
+    let h = own_within v.about s.moment s.rule s.seat v s.at f can in
+    let fits = s.rule.key_fits in
+    let some_ = fits.some_lines in
+    subst (λ (z : Key). (z.line * 4 ≤ own_place f) × (own_place f < z.end * 4)) about (h.0, omega arith)

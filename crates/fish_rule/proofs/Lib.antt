@@ -17,6 +17,7 @@ pub mod Kept
 pub mod Lanes
 pub mod Laws
 pub mod Learns
+pub mod Linked
 pub mod Linkings
 pub mod Links
 pub mod Loads

@@ -8,6 +8,7 @@
 mod close;
 mod entry;
 mod law;
+mod linking;
 mod plays;
 mod seats;
 mod steps;
@@ -19,6 +20,7 @@ mod view;
 pub use close::{CloseWant, Remains, close_log, kind_of_word};
 pub use entry::{read_record, read_region};
 pub use law::law_every_schedule;
+pub use linking::{aim_entry, load_head, load_previous, splice_entry, swing_head};
 pub use seats::{Start, base, join_pass, open_log, shape, split_pass};
 pub use steps::{
     claim_lines, in_flight, is_shut, kind_in, lane, load_settled, load_tail, look_at, publish_region,

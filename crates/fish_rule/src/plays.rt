@@ -1,5 +1,6 @@
 //! What each step tells its pass.
 
+ghost use Rattle.fish_rule.specs.Linking.{ToldHead, ToldPrevious, ToldSplice, ToldSwing, told_aim};
 ghost use Rattle.fish_rule.specs.Table.{ToldEnd, ToldLook, ToldSettled, told_claim, told_publish, told_raise, told_read, told_store};
 
 use crate::view::View;
@@ -59,4 +60,39 @@ pub(crate) struct Raise;
 
 impl Play<bool, View> for Raise {
     ghost then = { told_raise };
+}
+
+/// A load of a head.
+pub(crate) struct Head;
+
+impl Play<bool, View> for Head {
+    ghost then = { ToldHead };
+}
+
+/// A load of the first word of a linked entry.
+pub(crate) struct Previous;
+
+impl Play<bool, View> for Previous {
+    ghost then = { ToldPrevious };
+}
+
+/// A store of the own first word.
+pub(crate) struct Aim;
+
+impl Play<bool, View> for Aim {
+    ghost then = { told_aim };
+}
+
+/// A compare-and-exchange on a head.
+pub(crate) struct Swing;
+
+impl Play<bool, View> for Swing {
+    ghost then = { ToldSwing };
+}
+
+/// A compare-and-exchange on the first word of a linked entry.
+pub(crate) struct Splice;
+
+impl Play<bool, View> for Splice {
+    ghost then = { ToldSplice };
 }

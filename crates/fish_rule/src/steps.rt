@@ -206,7 +206,7 @@ fn dir_at(key: Key) -> u64
 }
 
 /// The first word of the log of a table.
-fn log_at(key: Key) -> u64
+pub(crate) fn log_at(key: Key) -> u64
     requires { Fits key }
     ensures { result ≡ first_log_word key }
 {

@@ -1,0 +1,82 @@
+//! The atomic steps on heads and on the first words of key entries.
+//!
+//! A chain goes down: from its head, the newest entry of a bucket, each first word is the place of
+//! the next older one, or 0. Heads and first words only rise.
+
+ghost use Rattle.std.specs.Prelude.{◌≡◌, ◌≢◌, ◌<◌, ℕ, Some};
+ghost use Rattle.fish_rule.specs.Linking.{CanAim, CanLoadHead, CanSplice, CanSwing, HasNode, LowRises, TopRises, after_aim, after_head, after_previous, after_splice, after_swing, own_place};
+ghost use Rattle.fish_rule.specs.Passes.{IsPassOf, view};
+ghost use Rattle.fish_rule.specs.declared.view.Flight.{Flight};
+
+use crate::plays::{Aim, Head, Previous, Splice, Swing};
+use crate::steps::log_at;
+use crate::table::{Log, Pass};
+
+/// The first head's word.
+const HEADS: u64 = 10_516;
+
+/// Loads the head of a bucket: the place of its newest linked entry, or 0.
+pub fn load_head(log: &Log, pass: &mut Pass, bucket: u64) -> u64
+    requires pass { IsPassOf log.now pass.old }
+    requires view { CanLoadHead (view pass.old) bucket }
+    ensures pass { IsPassOf log.now pass.new }
+    ensures view { view pass.new ≡ after_head (view pass.old) bucket result }
+    ensures rises { TopRises (view pass.old) bucket result }
+{
+    log.table.shared.load::<Head>(&mut pass.seat, (HEADS + bucket) as usize)
+}
+
+/// Loads the first word of a linked entry: the place of the next older one of its bucket, or 0.
+pub fn load_previous(log: &Log, pass: &mut Pass, place: u64) -> u64
+    requires pass { IsPassOf log.now pass.old }
+    requires node { (b : ℕ) × HasNode (view pass.old) b place }
+    ensures pass { IsPassOf log.now pass.new }
+    ensures view { (b : ℕ) → HasNode (view pass.old) b place → view pass.new ≡ after_previous (view pass.old) b place result }
+    ensures rises { LowRises (view pass.old) place result }
+    ensures less { result < place }
+{
+    let index = log_at(log.key) + (place - log.key.line * 4);
+    log.table.shared.load::<Previous>(&mut pass.seat, index as usize)
+}
+
+/// Stores the place that the own next entry is to lead to.
+pub fn aim_entry(log: &Log, pass: &mut Pass, place: u64, previous: u64)
+    requires pass { IsPassOf log.now pass.old }
+    requires view { (f : Flight) × CanAim (view pass.old) f × (place ≡ own_place f) }
+    ensures pass { IsPassOf log.now pass.new }
+    ensures view { (f : Flight) → (view pass.old).flight ≡ Some f → view pass.new ≡ after_aim (view pass.old) f previous }
+{
+    let index = log_at(log.key) + (place - log.key.line * 4);
+    log.table.shared.store::<Aim>(&mut pass.seat, index as usize, previous);
+}
+
+/// Makes the own next entry the head of its bucket, where the head is as expected.
+pub fn swing_head(log: &Log, pass: &mut Pass, bucket: u64, expected: u64, place: u64) -> u64
+    requires pass { IsPassOf log.now pass.old }
+    requires view { (f : Flight) × CanSwing (view pass.old) f bucket expected × (place ≡ own_place f) }
+    ensures pass { IsPassOf log.now pass.new }
+    ensures view { (f : Flight) → (view pass.old).flight ≡ Some f → view pass.new ≡ after_swing (view pass.old) f bucket expected result }
+    ensures rises { TopRises (view pass.old) bucket result }
+    ensures other { result ≢ place }
+{
+    log.table.shared.compare_exchange::<Swing>(
+        &mut pass.seat,
+        (HEADS + bucket) as usize,
+        expected,
+        place,
+    )
+}
+
+/// Puts the own next entry in below a higher one, where that one's first word is as expected.
+pub fn splice_entry(log: &Log, pass: &mut Pass, above: u64, expected: u64, place: u64) -> u64
+    requires pass { IsPassOf log.now pass.old }
+    requires view { (f : Flight) × ((b : ℕ) × CanSplice (view pass.old) f b above expected × (place ≡ own_place f)) }
+    ensures pass { IsPassOf log.now pass.new }
+    ensures view { (f : Flight) → (b : ℕ) → (view pass.old).flight ≡ Some f → HasNode (view pass.old) b above → view pass.new ≡ after_splice (view pass.old) f b above expected result }
+    ensures rises { LowRises (view pass.old) above result }
+    ensures less { result < above }
+    ensures other { result ≢ place }
+{
+    let index = log_at(log.key) + (above - log.key.line * 4);
+    log.table.shared.compare_exchange::<Splice>(&mut pass.seat, index as usize, expected, place)
+}
