@@ -1,4 +1,6 @@
 pub mod BucketLemmas
 pub mod HasLemmas
+pub mod KeyLemmas
+pub mod RecordLemmas
 pub mod RoundingLemmas
 pub mod SelectLemmas

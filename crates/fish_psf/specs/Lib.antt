@@ -1,6 +1,7 @@
 pub mod BucketLaw
 pub mod Eval
 pub mod Fields
+pub mod Keys
 pub mod Records
 pub mod Select
 pub mod SelectLaw

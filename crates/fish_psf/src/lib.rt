@@ -3,15 +3,23 @@
 #![tactic(auto)]
 
 mod condition;
+mod key;
 mod law;
 mod parsed;
+mod properties;
+mod reading;
 mod record;
+mod steps;
 #[cfg(test)]
 mod tests;
 mod value;
 
 pub use condition::holds;
+pub use key::{ActiveDef, KeyValue, Keys};
 pub use law::{buckets_round_down, selects_matches};
 pub use parsed::Parsed;
+pub use properties::keys;
+pub use reading::{PsfRefusal, parse};
 pub use record::Record;
+pub use steps::Steps;
 pub use value::eval;

@@ -3,6 +3,7 @@
 ghost use Rattle.std.specs.Prelude.{◌≡◌, ℕ, List, IfOk};
 ghost use Rattle.fish_value.specs.declared.field.Field.{Field as FieldAt};
 
+use fish_csv::{CsvRecord, CsvRow};
 use fish_json::{JsonRecord, JsonRow};
 use fish_value::{Field, Path};
 use std::alloc::{AllocError, Global};
@@ -33,6 +34,28 @@ impl<'a> Parsed for JsonRow<'a> {
     ghost use Rattle.fish_json.specs.Row.{row_contents};
 
     ghost fields = { λ r path. field_in path (row_contents r) };
+
+    fn at(&self, alloc: Global, path: &Path) -> Result<Field, AllocError> {
+        self.get(alloc, path)
+    }
+}
+
+impl Parsed for CsvRecord {
+    ghost use Rattle.fish_csv.specs.Contents.{fields_in};
+    ghost use Rattle.fish_csv.specs.Reading.{field_in as row_field_in};
+
+    ghost fields = { λ r path. row_field_in path (fields_in r) };
+
+    fn at(&self, alloc: Global, path: &Path) -> Result<Field, AllocError> {
+        self.get(alloc, path)
+    }
+}
+
+impl<'r> Parsed for CsvRow<'r> {
+    ghost use Rattle.fish_csv.specs.Reading.{field_in as row_field_in};
+    ghost use Rattle.fish_csv.specs.Row.{row_fields};
+
+    ghost fields = { λ r path. row_field_in path (row_fields r) };
 
     fn at(&self, alloc: Global, path: &Path) -> Result<Field, AllocError> {
         self.get(alloc, path)

@@ -3,6 +3,7 @@
 ghost use Rattle.std.specs.Prelude.{◌≡◌};
 
 use crate::parsed::Parsed;
+use fish_csv::CsvRecord;
 use fish_json::JsonRecord;
 use fish_value::{Field, Path};
 use std::alloc::{AllocError, Global};
@@ -12,6 +13,8 @@ use std::alloc::{AllocError, Global};
 pub enum Record {
     /// A line in JSON.
     Json(JsonRecord),
+    /// A row in CSV.
+    Csv(CsvRecord),
 }
 
 impl Parsed for Record {
@@ -22,6 +25,7 @@ impl Parsed for Record {
     fn at(&self, alloc: Global, path: &Path) -> Result<Field, AllocError> {
         match self {
             Record::Json(line) => line.get(alloc, path),
+            Record::Csv(row) => row.get(alloc, path),
         }
     }
 }

@@ -1,10 +1,14 @@
 //! Definitions on lines, with values worked out by hand from what each word of the language means.
 
-use crate::{Record, eval, holds};
-use fish_json::{JsonReader, JsonRecord};
+ghost use Rattle.std.specs.Prelude.{◌≡◌, ◌<◌};
+
+use crate::{ActiveDef, PsfRefusal, Record, Steps, eval, holds, keys, parse};
+use fish_json::{JsonReader, JsonRecord, MAX_PAYLOAD};
 use fish_lang::{Def, parse_def};
-use fish_value::{MAX_VALUE, Value};
-use std::alloc::Global;
+use fish_value::{Form, MAX_VALUE, Value, print_value};
+use std::alloc::{AllocError, Global};
+use std::marker::Brand;
+use std::sync::ledger::{Blank, Ledger};
 use std::test::Fail;
 
 /// The value that is wanted of a definition.
@@ -230,6 +234,83 @@ fn long_texts(rt: HostRuntime) -> Result<(), Fail> {
             given,
             "{source} on {len} bytes"
         );
+    }
+    Ok(())
+}
+
+/// What a payload of a form is: how it is refused, or its values under definitions as a text.
+fn told<P: Ledger>(
+    alloc: Global,
+    blank: Blank,
+    form: Form,
+    payload: &[u8],
+    defs: &[ActiveDef],
+) -> Result<String, Fail>
+    requires name { blank.name ≡ P.name }
+    requires parts { blank.parts ≡ P.parts }
+    requires some { 0 < blank.parts }
+{
+    let mut parses = Steps::<P>::new(blank);
+    let record = match parse(alloc, form, payload, &mut parses) {
+        Ok(record) => record,
+        Err(PsfRefusal::OutOfMemory) => return Err(Fail::from(AllocError)),
+        Err(refusal) => return Ok(format!(in alloc; "{refusal}")?),
+    };
+    let mut text = String::new(alloc);
+    for key in keys(alloc, defs, &record)?.as_slice() {
+        let value = print_value(alloc, &key.value)?;
+        text.push_str(format!(in alloc; "{} {};", key.id, value.as_str())?.as_str())?;
+    }
+    Ok(text)
+}
+
+/// The same with a counter of its own.
+fn told_once(
+    alloc: Global,
+    form: Form,
+    payload: &[u8],
+    defs: &[ActiveDef],
+) -> Result<String, Fail> {
+    told::<Brand>(alloc, Blank::new(1), form, payload, defs)
+}
+
+#[test]
+fn payloads_of_both_forms(rt: HostRuntime) -> Result<(), Fail> {
+    let alloc = rt.alloc();
+    let mut defs = Vec::new(alloc);
+    for (id, source) in [
+        (3, "take $1"),
+        (4, "take $2"),
+        (5, "take $3 when $1 = \"a\""),
+        (9, "flag when $2 starts \"x\""),
+    ] {
+        let def = parse_def(alloc, source.as_bytes())?;
+        defs.push(ActiveDef { id, def })?;
+    }
+    let long = "a record has at most 524288 bytes";
+    let none = "no record of its form";
+    let too_long = vec![in alloc; b'x'; MAX_PAYLOAD + 1]?;
+    // form, payload, what is told of it
+    let cases: [(Form, &[u8], &str); 11] = [
+        (
+            Form::Csv,
+            b"a,\"x,1\",007",
+            "3 \"a\";4 \"x,1\";5 \"007\";9 true;",
+        ),
+        (Form::Csv, b"12,-3", "3 12;4 -3;"),
+        (Form::Csv, b"b,,0", "3 \"b\";4 \"\";"),
+        (Form::Csv, b"\"a\"\"b\"", "3 \"a\\\"b\";"),
+        (Form::Csv, b"a\nb", none),
+        (Form::Csv, b"a,\xff", none),
+        (Form::Csv, too_long.as_slice(), long),
+        (Form::Json, b"{\"$1\":1,\"$2\":\"x\"}", "3 1;4 \"x\";9 true;"),
+        (Form::Json, b"[1]", none),
+        (Form::Json, b"{", none),
+        (Form::Json, too_long.as_slice(), long),
+    ];
+    for (form, payload, want) in cases {
+        let found = told_once(alloc, form, payload, defs.as_slice())?;
+        assert_eq!(rt; found.as_str(), want);
     }
     Ok(())
 }

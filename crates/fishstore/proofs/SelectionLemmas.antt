@@ -1,32 +1,23 @@
 -- What the lines gave one by one is the selection of the file.
 use Rattle.std.proofs.Common.{◌≡◌, ℕ, ◌+◌, ◌<◌, ◌≤◌, List, [], ◌∷◌, ◌++◌, length, refl, sym, ap, arith, ◌∙◌, append_assoc, append-nil}
 use Rattle.std.specs.Prelude.{Bool, true, false, not, ◌&&◌, nat_le, nat_lt, Option, Some, None, map, reverse, if◌then◌else◌}
-use Rattle.std.specs.List.{cons_option, enumerate_from, filter_map, slice_split}
-use Rattle.std.specs.Str.Lines.{strip_carriage_return}
+use Rattle.std.specs.List.{cons_option, enumerate_from, filter_map}
 use Rattle.std.proofs.lemmas.Bool.Decides.{nat_tests}
 use Rattle.std.proofs.lemmas.Grind.{common_steps}
 use Rattle.fish_value.specs.declared.field.Form.TheVariants.{Json}
 use Rattle.fish_value.specs.declared.row.Row.{Row}
 use Rattle.fish_value.specs.declared.value.Value.{Value}
-use Rattle.fish_json.specs.Lines.{is_blank, is_line_end, payload_of, outcomes, outcomes_of, accepted, refused, without_mark}
+use Rattle.fish_json.specs.Lines.{payload_of, outcomes, outcomes_of, accepted, refused}
+use Rattle.fish_lines.specs.Lines.{file_lines}
 use Rattle.fish_json.specs.Reading.{field}
 use Rattle.fish_psf.specs.Eval.{eval}
 use Rattle.fish_psf.specs.Select.{has_value, row_of, select, stored}
 use Rattle.fish_report.specs.declared.item.Item.{Item}
 use Rattle.fish_report.specs.declared.item.Item.TheVariants as item
 use Rattle.fishstore.specs.Answer.{evaluation, log_of, rows_of, selection}
-use Rattle.fishstore.specs.Tally.{no_lines, rows_with, with_line, with_outcome, with_parts}
+use Rattle.fishstore.specs.Tally.{no_lines, rows_with, with_line, with_lines, with_outcome}
 use Rattle.fishstore.specs.declared.select.Tally.{Tally}
 use Rattle.fishstore.specs.Words.{Asked}
-
--- a blank line gives no outcome, and any other gives its own
-outcomes_of-blank : (part : List ℕ) (parts : List (List ℕ)) → is_blank (strip_carriage_return part) ≡ true → outcomes_of (part ∷ parts) ≡ outcomes_of parts
-unfolding outcomes_of
-outcomes_of-blank part parts h = rw h
-
-outcomes_of-line : (part : List ℕ) (parts : List (List ℕ)) → is_blank (strip_carriage_return part) ≡ false → outcomes_of (part ∷ parts) ≡ payload_of (strip_carriage_return part) ∷ outcomes_of parts
-unfolding outcomes_of
-outcomes_of-line part parts h = rw h
 
 -- the row of a payload and its number, where the definition has the value
 abbrev row_at : Asked → ℕ × List ℕ → Option Row
@@ -71,18 +62,9 @@ Adds-outcome : (c : Asked) (t u : Tally) (o : Option (List ℕ)) (os : List (Opt
 Adds-outcome c t u None os h = Adds-none c t u os h
 Adds-outcome c t u (Some payload) os h = Adds-some c t u payload os h
 
--- the tests of a line, and then its outcome
-Adds-line : (c : Asked) (t u : Tally) (part : List ℕ) (parts : List (List ℕ)) (blank : Bool) → is_blank (strip_carriage_return part) ≡ blank
-    → Adds c (with_line c t (strip_carriage_return part)) u (outcomes_of parts) → Adds c t u (outcomes_of (part ∷ parts))
-Adds-line c t u part parts true blank h = rw (outcomes_of-blank part parts blank) (rw blank at h)
-Adds-line c t u part parts false line h =
-    rw (outcomes_of-line part parts line) (Adds-outcome c t u (payload_of (strip_carriage_return part)) (outcomes_of parts) (rw line at h))
-
-Adds-parts : (c : Asked) (t : Tally) (parts : List (List ℕ)) → Adds c t (with_parts c t parts) (outcomes_of parts)
-unfolding outcomes_of
-Adds-parts c t [] = Adds-nil c t
-Adds-parts c t (part ∷ parts) =
-    Adds-line c t _ part parts (is_blank (strip_carriage_return part)) refl (Adds-parts c (with_line c t (strip_carriage_return part)) parts)
+Adds-lines : (c : Asked) (t : Tally) (lines : List (List ℕ)) → Adds c t (with_lines c t lines) (map payload_of lines)
+Adds-lines c t [] = Adds-nil c t
+Adds-lines c t (line ∷ lines) = Adds-outcome c t (with_lines c (with_line c t line) lines) (payload_of line) (map payload_of lines) (Adds-lines c (with_line c t line) lines)
 
 -- ---- the selection of the payloads as a log
 
@@ -100,11 +82,11 @@ unfolding rows_of select
 rows_of-is c payloads = sym (ap reverse (rows_of-log c 0 (length payloads) payloads (omega arith)))
 
 -- the tally of all lines is the selection of the file
-pub selection-tally : (c : Asked) (b : List ℕ) (t : Tally) → t ≡ with_parts c no_lines (slice_split is_line_end (without_mark b))
+pub selection-tally : (c : Asked) (b : List ℕ) (t : Tally) → t ≡ with_lines c no_lines (file_lines b)
     → item.Select (reverse t.rows) t.count t.refused ≡ selection c b
-unfolding selection outcomes
+unfolding selection outcomes outcomes_of
 selection-tally c b t h =
-    let all = Adds-parts c no_lines (slice_split is_line_end (without_mark b)) in
+    let all = Adds-lines c no_lines (file_lines b) in
     let rows : reverse t.rows ≡ rows_of c.def c.value (accepted (outcomes b)) = rw (h, all.rows) (rows_of-is c (accepted (outcomes b))) in
     let count : t.count ≡ length (accepted (outcomes b)) = rw (h, all.count) (omega arith) in
     let none : t.refused ≡ refused (outcomes b) = rw (h, all.refused_lines) (omega arith) in

@@ -1,8 +1,8 @@
 -- A line that was read, as a record and as an outcome.
 use Rattle.std.proofs.Common.{◌≡◌, ℕ, List, ap, sym}
-use Rattle.std.specs.Prelude.{Some, None, false, IsUtf8}
+use Rattle.std.specs.Prelude.{Some, None, IsUtf8}
 use Rattle.serde_json.specs.Data.{Data}
-use Rattle.fish_json.specs.Lines.{is_blank, payload_of}
+use Rattle.fish_json.specs.Lines.{payload_of}
 use Rattle.fish_json.specs.Reading.{record_of, field_in, field}
 use Rattle.fish_json.proofs.Records.{field_of_record, record_is_text}
 use Rattle.fish_psf.specs.Eval.{Fields}
@@ -33,6 +33,6 @@ pub with_record_same : (asked : Asked) (t : Tally) (fields other : Fields) (payl
 with_record_same asked t fields other payload h = ap (λ f. with_record asked t f payload) h
 
 -- a line that was read counts as its record
-pub with_line_read : (asked : Asked) (t : Tally) (line : List ℕ) (d : Data) → is_blank line ≡ false → record_of line ≡ Some d → with_record asked t (λ path. field_in path d) line ≡ with_line asked t line
-with_line_read asked t line d solid h =
-    rw (solid, h) (with_record_same asked t (λ path. field_in path d) (field line) line (λ i path. (record_is_read line d h).same path i))
+pub with_line_read : (asked : Asked) (t : Tally) (line : List ℕ) (d : Data) → record_of line ≡ Some d → with_record asked t (λ path. field_in path d) line ≡ with_line asked t line
+with_line_read asked t line d h =
+    rw h (with_record_same asked t (λ path. field_in path d) (field line) line (λ i path. (record_is_read line d h).same path i))

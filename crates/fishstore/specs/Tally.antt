@@ -1,7 +1,6 @@
 -- What has been found in the lines so far, and what one more line adds. Private clauses speak of it.
 use Rattle.std.specs.Prelude.{ℕ, ◌+◌, ◌++◌, List, [], ◌∷◌, Option, Some, None, if◌then◌else◌}
-use Rattle.std.specs.Str.Lines.{strip_carriage_return}
-use Rattle.fish_json.specs.Lines.{is_blank, payload_of}
+use Rattle.fish_json.specs.Lines.{payload_of}
 use Rattle.fish_json.specs.Reading.{field}
 use Rattle.fish_psf.specs.Eval.{Fields, eval}
 use Rattle.fish_psf.specs.Select.{has_value}
@@ -26,11 +25,11 @@ abbrev pub with_outcome : Asked → Tally → Option (List ℕ) → Tally
 with_outcome asked t (Some payload) = with_record asked t (field payload) payload
 with_outcome asked t None = record t { refused = t.refused + 1 }
 
--- one more line, which counts nowhere where it is blank
+-- one more line
 abbrev pub with_line : Asked → Tally → List ℕ → Tally
-with_line asked t line = if is_blank line then t else with_outcome asked t (payload_of line)
+with_line asked t line = with_outcome asked t (payload_of line)
 
--- the lines among the parts round the LFs, one after the other
-abbrev pub with_parts : Asked → Tally → List (List ℕ) → Tally
-with_parts asked t [] = t
-with_parts asked t (part ∷ parts) = with_parts asked (with_line asked t (strip_carriage_return part)) parts
+-- lines one after the other
+abbrev pub with_lines : Asked → Tally → List (List ℕ) → Tally
+with_lines asked t [] = t
+with_lines asked t (line ∷ lines) = with_lines asked (with_line asked t line) lines

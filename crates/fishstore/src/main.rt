@@ -5,7 +5,6 @@
 #![tactic(auto)]
 
 mod file;
-mod lines;
 mod outcome;
 mod run;
 mod select;

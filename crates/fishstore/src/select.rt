@@ -1,18 +1,16 @@
 //! `select` over the bytes of a file: each line is read once, and evaluated while it is read.
 
 ghost use Rattle.std.specs.Prelude.{◌≡◌, ◌+◌, ◌<◌, ◌≤◌, ◌^◌, ◌++◌, ◌∷◌, [], length, IfOk, IsUtf8, OnOk};
-ghost use Rattle.std.specs.List.{slice_split};
-ghost use Rattle.std.specs.Str.Lines.{strip_carriage_return};
-ghost use Rattle.fish_json.specs.Lines.{is_line_end};
+ghost use Rattle.fish_lines.specs.Lines.{file_lines};
 ghost use Rattle.fish_psf.specs.Select.{has_value};
 ghost use Rattle.fishstore.specs.Answer.{selection};
-ghost use Rattle.fishstore.specs.Tally.{no_lines, with_line, with_parts, with_record};
+ghost use Rattle.fishstore.specs.Tally.{no_lines, with_line, with_lines, with_record};
 ghost use Rattle.fishstore.specs.Words.{asked_of};
 
-use crate::lines::{cut, is_blank, without_carriage_return, without_mark};
 use crate::run::MAX_FILE;
 use crate::words::Select;
 use fish_json::{JsonReader, RecordRefusal};
+use fish_lines::Lines;
 use fish_psf::{Parsed, eval};
 use fish_report::Item;
 use fish_value::{Row, Rows, Text, Value};
@@ -34,7 +32,7 @@ pub fn select(alloc: Global, command: &Select, b: &[u8]) -> Result<Item, AllocEr
     requires { length b.now ≤ MAX_FILE }
     ensures { IfOk result (λ item. item ≡ selection (asked_of command.now) b.now) }
 {
-    let mut tally = tally_of(alloc, command, without_mark(b))?;
+    let mut tally = tally_of(alloc, command, b)?;
     tally.rows.reverse();
     Ok(Item::Select {
         rows: tally.rows,
@@ -46,8 +44,7 @@ pub fn select(alloc: Global, command: &Select, b: &[u8]) -> Result<Item, AllocEr
 /// What all lines of a file give.
 fn tally_of(alloc: Global, command: &Select, b: &[u8]) -> Result<Tally, AllocError>
     requires { length b.now ≤ MAX_FILE }
-    ensures { IfOk result (λ tally.
-        tally ≡ with_parts (asked_of command.now) no_lines (slice_split is_line_end b.now)) }
+    ensures { IfOk result (λ tally. tally ≡ with_lines (asked_of command.now) no_lines (file_lines b.now)) }
 {
     let mut tally = Tally {
         rows: Rows::new(alloc),
@@ -55,34 +52,27 @@ fn tally_of(alloc: Global, command: &Select, b: &[u8]) -> Result<Tally, AllocErr
         refused: 0,
     };
     let mut reader = JsonReader::new(alloc);
-    let mut rest = b;
-    while let Some((part, behind)) = cut(rest) {
-        add_part(alloc, &mut reader, command, part, &mut tally)?;
-        rest = behind;
+    let mut lines = Lines::new(b);
+    while let Some(line) = lines.next_line() {
+        add_line(alloc, &mut reader, command, line, &mut tally)?;
     }
-    add_part(alloc, &mut reader, command, rest, &mut tally)?;
     Ok(tally)
 }
 
-/// Counts the line that stands in one more part between the LFs.
+/// Counts one more line.
 #[tactic(auto, using(crate::proofs::TallyLemmas::record_is_read, crate::proofs::TallyLemmas::payload_of_none))]
-fn add_part(
+fn add_line(
     alloc: Global,
     reader: &mut JsonReader,
     command: &Select,
-    part: &[u8],
+    line: &[u8],
     tally: &mut Tally,
 ) -> Result<(), AllocError>
     requires { tally.old.count + tally.old.refused < 2 ^ 28 }
-    ensures counted { OnOk result
-        (tally.new ≡ with_line (asked_of command.now) tally.old (strip_carriage_return part.now)) }
+    ensures counted { OnOk result (tally.new ≡ with_line (asked_of command.now) tally.old line.now) }
     ensures rises { OnOk result
-        (tally.new.count + tally.new.refused ≤ tally.old.count + tally.old.refused + 1) }
+        (tally.new.count + tally.new.refused ≡ tally.old.count + tally.old.refused + 1) }
 {
-    let line = without_carriage_return(part);
-    if is_blank(line) {
-        return Ok(());
-    }
     match reader.read(alloc, line) {
         Ok(found) => add_record(alloc, command, &found, line, tally),
         Err(RecordRefusal::OutOfMemory) => Err(AllocError),

@@ -6,4 +6,4 @@ use Rattle.fishstore.proofs.select.select.Goals as goal
 pub returns : goal.returns
 returns c =
     rw (c.reverse.ensures, c.from.ensures, c.from-2.ensures)
-    (selection-tally (asked_of c.args.command.now) c.args.b.now c.in_ok-tally.tally (rw c.without_mark.ensures at c.in_ok-tally.ensures))
+    (selection-tally (asked_of c.args.command.now) c.args.b.now c.in_ok-tally.tally c.in_ok-tally.ensures)

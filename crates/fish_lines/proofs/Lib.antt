@@ -1,0 +1,6 @@
+pub mod KeptLemmas
+pub mod LineLemmas
+pub mod MarkLemmas
+pub mod PartLemmas
+pub mod PayloadLemmas
+pub mod SplitLemmas

@@ -1,0 +1,5 @@
+pub mod File
+pub mod Left
+pub mod Lines
+pub mod Open
+pub mod Split
