@@ -3,8 +3,8 @@ pub mod Begins
 pub mod Bodies
 pub mod Bounds
 pub mod Claims
-pub mod Closing
 pub mod Common
+pub mod Counts
 pub mod Entries
 pub mod Extending
 pub mod Flights

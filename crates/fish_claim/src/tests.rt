@@ -1,0 +1,1 @@
+//! Claims in logs of one and two pages.
