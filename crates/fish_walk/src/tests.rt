@@ -1,0 +1,1 @@
+//! One pass stores entries, and reads them back.
