@@ -3,6 +3,7 @@ pub mod Begins
 pub mod Bodies
 pub mod Bounds
 pub mod Claims
+pub mod Closing
 pub mod Common
 pub mod Counts
 pub mod Entries
