@@ -21,7 +21,8 @@ word_of b i h = get_or-map-range_with_len (word_at b) 0 (words_for (length b)) i
 words_chunk_at : (c more : List ℕ) → length c ≡ 8 → (i : ℕ) → i < words_for (length (c ++ more)) →
     get_or (words_of_bytes (c ++ more)) i 0 ≡ get_or (from_le_bytes w64 c ∷ words_of_bytes more) i 0
 words_chunk_at c more eight zero within =
-    word_of (c ++ more) 0 within ∙ ap (λ n. from_le_bytes w64 (take n (c ++ more))) (sym eight) ∙ ap (from_le_bytes w64) (take-append_seam c more)
+    word_of (c ++ more) 0 within ∙ ap (λ n. from_le_bytes w64 (take n (c ++ more))) (sym eight)
+    ∙ ap (from_le_bytes w64) (take-append_seam c more)
 words_chunk_at c more eight (suc i) within =
     let size = length-append c more in
     let further : 8 * suc i ≡ length c + 8 * i = omega arith in
@@ -31,7 +32,8 @@ words_chunk_at c more eight (suc i) within =
     ∙ sym (word_of more i (omega arith))
 
 -- eight bytes are a word
-pub words_chunk : (c more : List ℕ) → length c ≡ 8 → words_of_bytes (c ++ more) ≡ from_le_bytes w64 c ∷ words_of_bytes more
+pub words_chunk : (c more : List ℕ) → length c ≡ 8 →
+    words_of_bytes (c ++ more) ≡ from_le_bytes w64 c ∷ words_of_bytes more
 words_chunk c more eight =
     let size = length-append c more in
     ext_get_or 0 (words_of_bytes (c ++ more)) (from_le_bytes w64 c ∷ words_of_bytes more)
@@ -39,7 +41,8 @@ words_chunk c more eight =
     (λ i within. words_chunk_at c more eight i (omega (arith, length-words_of_bytes (c ++ more))))
 
 -- the one word of at most eight bytes
-words_last_at : (b : List ℕ) → 0 < length b → length b ≤ 8 → (i : ℕ) → i < 1 → get_or (words_of_bytes b) i 0 ≡ get_or (from_le_bytes w64 b ∷ []) i 0
+words_last_at : (b : List ℕ) → 0 < length b → length b ≤ 8 → (i : ℕ) → i < 1 →
+    get_or (words_of_bytes b) i 0 ≡ get_or (from_le_bytes w64 b ∷ []) i 0
 words_last_at b some few zero within = word_of b 0 (omega arith) ∙ ap (from_le_bytes w64) (take_all 8 b few)
 words_last_at b some few (suc i) within = absurd (omega arith)
 
@@ -55,7 +58,8 @@ unfolding words_of_bytes
 words_none = refl
 
 -- a number is made of its first eight bytes, and zeros behind them
-pub from_le_bytes_same : (a b : List ℕ) → ((i : ℕ) → get_or a i 0 ≡ get_or b i 0) → from_le_bytes w64 a ≡ from_le_bytes w64 b
+pub from_le_bytes_same : (a b : List ℕ) → ((i : ℕ) → get_or a i 0 ≡ get_or b i 0) →
+    from_le_bytes w64 a ≡ from_le_bytes w64 b
 from_le_bytes_same a b same = omega (arith, same 0, same 1, same 2, same 3, same 4, same 5, same 6, same 7)
 
 -- zeros behind bytes read as what stands behind bytes
@@ -67,12 +71,15 @@ padded_at (x ∷ b) n zero = refl
 padded_at (x ∷ b) n (suc i) = padded_at b n i
 
 -- a word of at most eight bytes has these bytes, and zeros behind them
-le_bytes_few : (b : List ℕ) → length b ≤ 8 → ((i : ℕ) → get_or b i 0 < 256) → to_le_bytes w64 (from_le_bytes w64 b) ≡ b ++ replicate (8 - length b) 0
+le_bytes_few : (b : List ℕ) → length b ≤ 8 → ((i : ℕ) → get_or b i 0 < 256) →
+    to_le_bytes w64 (from_le_bytes w64 b) ≡ b ++ replicate (8 - length b) 0
 le_bytes_few b few small =
     let padded = b ++ replicate (8 - length b) 0 in
-    let eight : length padded ≡ 8 = omega (arith, length-append b (replicate (8 - length b) 0), length-replicate {A = ℕ} (8 - length b) 0) in
+    let eight : length padded ≡ 8 =
+    omega (arith, length-append b (replicate (8 - length b) 0), length-replicate {A = ℕ} (8 - length b) 0) in
     let bytes : (i : ℕ) → get_or padded i 0 < 256 = λ i. omega (arith, padded_at b (8 - length b) i, small i) in
-    le_bytes_8 padded (from_le_bytes w64 b) eight bytes (from_le_bytes_same b padded (λ i. sym (padded_at b (8 - length b) i)))
+    le_bytes_8 padded (from_le_bytes w64 b) eight bytes
+    (from_le_bytes_same b padded (λ i. sym (padded_at b (8 - length b) i)))
 
 -- what holds of each element of a whole holds of those in front, and of the 0 behind them
 pub small_left : (xs ys : List ℕ) → ((i : ℕ) → get_or (xs ++ ys) i 0 < 256) → (i : ℕ) → get_or xs i 0 < 256
@@ -86,7 +93,8 @@ small_right [] ys h i = h i
 small_right (x ∷ xs) ys h i = small_right xs ys (λ j. h (suc j)) i
 
 -- bytes come back from their one word
-back_few : (b rest : List ℕ) → 0 < length b → length b ≤ 8 → ((i : ℕ) → get_or b i 0 < 256) → bytes_in (words_of_bytes b ++ rest) (length b) ≡ b
+back_few : (b rest : List ℕ) → 0 < length b → length b ≤ 8 → ((i : ℕ) → get_or b i 0 < 256) →
+    bytes_in (words_of_bytes b ++ rest) (length b) ≡ b
 back_few b rest some few small =
     let behind = flat_map (to_le_bytes w64) rest in
     let zeros : List ℕ = replicate (8 - length b) 0 in
@@ -96,7 +104,8 @@ back_few b rest some few small =
     ∙ take-append_seam b (zeros ++ behind)
 
 -- bytes come back from a word and those behind it
-back_many : (c d rest : List ℕ) → length c ≡ 8 → ((i : ℕ) → get_or c i 0 < 256) → bytes_in (words_of_bytes d ++ rest) (length d) ≡ d →
+back_many : (c d rest : List ℕ) → length c ≡ 8 → ((i : ℕ) → get_or c i 0 < 256) →
+    bytes_in (words_of_bytes d ++ rest) (length d) ≡ d →
     bytes_in (words_of_bytes (c ++ d) ++ rest) (length (c ++ d)) ≡ c ++ d
 back_many c d rest eight small behind =
     let others = flat_map (to_le_bytes w64) (words_of_bytes d ++ rest) in
@@ -107,7 +116,8 @@ back_many c d rest eight small behind =
     ∙ ap (λ l. c ++ l) behind
 
 -- bytes come back from their words, whatever stands behind these
-back_within : (n : ℕ) (b rest : List ℕ) → length b ≤ 8 * n → ((i : ℕ) → get_or b i 0 < 256) → bytes_in (words_of_bytes b ++ rest) (length b) ≡ b
+back_within : (n : ℕ) (b rest : List ℕ) → length b ≤ 8 * n → ((i : ℕ) → get_or b i 0 < 256) →
+    bytes_in (words_of_bytes b ++ rest) (length b) ≡ b
 back_within n [] rest h small = refl
 back_within zero (x ∷ b) rest h small = absurd (omega arith)
 back_within (suc n) (x ∷ b) rest h small =
@@ -117,7 +127,8 @@ back_within (suc n) (x ∷ b) rest h small =
           let parts : take 8 whole ++ drop 8 whole ≡ whole = take-append-drop 8 whole in
           let eight : length (take 8 whole) ≡ 8 = length-take-le 8 whole (omega arith) in
           let fewer : length (drop 8 whole) ≤ 8 * n = omega (arith, length-drop 8 whole) in
-          let all : (i : ℕ) → get_or (take 8 whole ++ drop 8 whole) i 0 < 256 = λ i. subst (λ l. get_or l i 0 < 256) (sym parts) (small i) in
+          let all : (i : ℕ) → get_or (take 8 whole ++ drop 8 whole) i 0 < 256 =
+          λ i. subst (λ l. get_or l i 0 < 256) (sym parts) (small i) in
           let behind = back_within n (drop 8 whole) rest fewer (small_right (take 8 whole) (drop 8 whole) all) in
           subst (λ l. bytes_in (words_of_bytes l ++ rest) (length l) ≡ l) parts
           (back_many (take 8 whole) (drop 8 whole) rest eight (small_left (take 8 whole) (drop 8 whole) all) behind))
@@ -129,9 +140,11 @@ pub bytes_back : (b rest : List ℕ) → ((i : ℕ) → get_or b i 0 < 256) → 
 bytes_back b rest small = back_within (length b) b rest (omega arith) small
 
 -- the first eight bytes are a word, and those behind them the others
-pub words_split : (b c more : List ℕ) → c ≡ take 8 b → more ≡ drop 8 b → 8 ≤ length b → words_of_bytes b ≡ from_le_bytes w64 c ∷ words_of_bytes more
+pub words_split : (b c more : List ℕ) → c ≡ take 8 b → more ≡ drop 8 b → 8 ≤ length b →
+    words_of_bytes b ≡ from_le_bytes w64 c ∷ words_of_bytes more
 words_split b c more front behind many =
-    let parts : b ≡ c ++ more = sym (take-append-drop 8 b) ∙ ap (λ l. l ++ drop 8 b) (sym front) ∙ ap (λ l. c ++ l) (sym behind) in
+    let parts : b ≡ c ++ more =
+    sym (take-append-drop 8 b) ∙ ap (λ l. l ++ drop 8 b) (sym front) ∙ ap (λ l. c ++ l) (sym behind) in
     ap words_of_bytes parts ∙ words_chunk c more (ap length front ∙ length-take-le 8 b many)
 
 -- bytes that are none are no word
@@ -150,6 +163,7 @@ bytes_enough ws n room =
     let bytes = flat_map (to_le_bytes w64) in
     let front = take (words_for n) ws in
     let whole : bytes front ++ bytes (drop (words_for n) ws) ≡ bytes ws =
-    sym (flat_map-append (to_le_bytes w64) front (drop (words_for n) ws)) ∙ ap bytes (take-append-drop (words_for n) ws) in
+    sym (flat_map-append (to_le_bytes w64) front (drop (words_for n) ws))
+    ∙ ap bytes (take-append-drop (words_for n) ws) in
     let enough : n ≤ length (bytes front) = omega (arith, length_words front, length-take-le (words_for n) ws room) in
     sym (take-append-le n (bytes front) (bytes (drop (words_for n) ws)) enough) ∙ ap (take n) whole

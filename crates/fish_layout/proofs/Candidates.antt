@@ -16,7 +16,8 @@ abbrev words_with : BodyParts → List ℕ → List ℕ
 words_with p entries =
     let behind = entries ++ words_of_bytes (values_of p.keys) ++ words_of_bytes p.payload in
     let lines = (1 + length behind + 3) / 4 in
-    header_word lines (form_code p.form) (length p.keys) p.lane p.version (length p.payload) ∷ behind ++ replicate (lines * 4 - (1 + length behind)) 0
+    header_word lines (form_code p.form) (length p.keys) p.lane p.version (length p.payload)
+    ∷ behind ++ replicate (lines * 4 - (1 + length behind)) 0
 
 -- a record's words are those
 body_words-with : (p : BodyParts) → body_words p ≡ words_with p (key_words p.number 0 0 p.keys)
@@ -24,12 +25,15 @@ unfolding body_words
 body_words-with p = refl
 
 -- a record with another number, where it stands nowhere, has the same words
-body_words-number : (p : BodyParts) (m : ℕ) → (0 < length p.keys → m ≡ p.number) → body_words (record p { number = m }) ≡ body_words p
+body_words-number : (p : BodyParts) (m : ℕ) → (0 < length p.keys → m ≡ p.number) →
+    body_words (record p { number = m }) ≡ body_words p
 body_words-number p m h =
-    body_words-with (record p { number = m }) ∙ ap (words_with p) (key_words-number m p.number p.keys h) ∙ sym (body_words-with p)
+    body_words-with (record p { number = m }) ∙ ap (words_with p) (key_words-number m p.number p.keys h)
+    ∙ sym (body_words-with p)
 
 -- words are also a record with another number, where it stands nowhere
-IsBody-number : {p : BodyParts} {ws : List ℕ} (m : ℕ) → IsBody p ws → m < 2 ^ 28 → (0 < length p.keys → m ≡ p.number) → IsBody (record p { number = m }) ws
+IsBody-number : {p : BodyParts} {ws : List ℕ} (m : ℕ) → IsBody p ws → m < 2 ^ 28 →
+    (0 < length p.keys → m ≡ p.number) → IsBody (record p { number = m }) ws
 IsBody-number {p} {ws} m h fits same =
     record {
       proper = record {
@@ -45,7 +49,8 @@ IsBody-number {p} {ws} m h fits same =
     }
 
 -- parts with the same fields, but for a number that stands nowhere, are also the record's
-pub candidate : {p : BodyParts} {ws : List ℕ} (c : BodyParts) → IsBody p ws → c.form ≡ p.form → c.lane ≡ p.lane → c.version ≡ p.version → c.keys ≡ p.keys →
+pub candidate : {p : BodyParts} {ws : List ℕ} (c : BodyParts) → IsBody p ws → c.form ≡ p.form → c.lane ≡ p.lane →
+    c.version ≡ p.version → c.keys ≡ p.keys →
     c.payload ≡ p.payload → c.number < 2 ^ 28 → (0 < length p.keys → c.number ≡ p.number) → IsBody c ws
 candidate {p} {ws} c h form lane version keys payload fits number =
     let same : record p { number = c.number } ≡ c =
@@ -53,5 +58,5 @@ candidate {p} {ws} c h form lane version keys payload fits number =
     ∙ ap (λ x. record p { number = c.number; form = c.form; lane = x }) (sym lane)
     ∙ ap (λ x. record p { number = c.number; form = c.form; lane = c.lane; version = x }) (sym version)
     ∙ ap (λ x. record p { number = c.number; form = c.form; lane = c.lane; version = c.version; keys = x }) (sym keys)
-    ∙ ap (λ x. record p { number = c.number; form = c.form; lane = c.lane; version = c.version; keys = c.keys; payload = x }) (sym payload) in
+    ∙ ap (λ x. record c { payload = x }) (sym payload) in
     subst (λ x. IsBody x ws) same (IsBody-number c.number h fits number)

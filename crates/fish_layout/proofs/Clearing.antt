@@ -5,7 +5,8 @@ use Rattle.fish_layout.specs.Cleared.{Agrees, IsKeyWord, choose, cleared}
 use Rattle.fish_layout.specs.Header.{keys_of, lines_of}
 
 -- choices by one test are equal where they are equal on each side that it can take
-pub choose_same : {P : Type 0} {X : Type 0} (d : Dec P) (x y a b : X) → (P → x ≡ a) → (¬ P → y ≡ b) → choose d x y ≡ choose d a b
+pub choose_same : {P : Type 0} {X : Type 0} (d : Dec P) (x y a b : X) → (P → x ≡ a) → (¬ P → y ≡ b) →
+    choose d x y ≡ choose d a b
 choose_same (yes p) x y a b yes_side no_side = yes_side p
 choose_same (no n) x y a b yes_side no_side = no_side n
 

@@ -12,7 +12,9 @@ use Rattle.fish_layout.proofs.Sizes.{few_keys, few_value_bytes}
 -- the words of one entry more
 pub key_words-push : (number place offset : ℕ) (ks : List KeyPart) (k : KeyPart) →
     key_words number place offset (ks ++ k ∷ []) ≡
-    key_words number place offset ks ++ (k.prev ∷ entry_word number k.id (place + length ks) ∷ value_word k.value (offset + length (values_of ks)) ∷ [])
+    key_words number place offset ks ++
+    (k.prev ∷ entry_word number k.id (place + length ks) ∷ value_word k.value (offset + length (values_of ks))
+    ∷ [])
 key_words-push number place offset [] k =
     let here : place ≡ place + 0 = omega arith in
     let there : offset ≡ offset + 0 = omega arith in
@@ -26,17 +28,23 @@ key_words-push number place offset (x ∷ ks) k =
     let front = λ (l : List ℕ). x.prev ∷ entry_word number x.id place ∷ value_word x.value offset ∷ l in
     let behind = key_words number (place + 1) (offset + size) ks in
     ap front (key_words-push number (place + 1) (offset + size) ks k)
-    ∙ ap (λ n. front (behind ++ (k.prev ∷ entry_word number k.id n ∷ value_word k.value (offset + size + length (values_of ks)) ∷ []))) next
-    ∙ ap (λ n. front (behind ++ (k.prev ∷ entry_word number k.id (place + length (x ∷ ks)) ∷ value_word k.value n ∷ []))) after
+    ∙ ap (λ n.
+    front (behind ++
+    (k.prev ∷ entry_word number k.id n ∷ value_word k.value (offset + size + length (values_of ks)) ∷ []))) next
+    ∙ ap (λ n.
+    front (behind ++ (k.prev ∷ entry_word number k.id (place + length (x ∷ ks)) ∷ value_word k.value n ∷ [])))
+    after
 
 -- the values' bytes of one entry more
 pub values_of-push : (ks : List KeyPart) (k : KeyPart) → values_of (ks ++ k ∷ []) ≡ values_of ks ++ value_bytes k.value
 values_of-push ks k = flat_map-append (λ x. value_bytes x.value) ks (k ∷ []) ∙ simp append-nil
 
 -- what holds of all keys holds of one
-pub proper_at : (least : ℕ) (ks : List KeyPart) (i : ℕ) (k : KeyPart) → AreProperKeys least ks → i < length ks → k ≡ get_or ks i k → (k.id < 256) × IsProperValue k.value
+pub proper_at : (least : ℕ) (ks : List KeyPart) (i : ℕ) (k : KeyPart) → AreProperKeys least ks → i < length ks →
+    k ≡ get_or ks i k → (k.id < 256) × IsProperValue k.value
 proper_at least [] i k keys within is = absurd (omega arith)
-proper_at least (x ∷ ks) zero k keys within is = subst (λ y. (y.id < 256) × IsProperValue y.value) (sym is) (keys.1, keys.2)
+proper_at least (x ∷ ks) zero k keys within is =
+    subst (λ y. (y.id < 256) × IsProperValue y.value) (sym is) (keys.1, keys.2)
 proper_at least (x ∷ ks) (suc i) k keys within is = proper_at (x.id + 1) ks i k keys.3 (omega arith) is
 
 -- the values up to an entry and its own have at most 65,536 bytes
@@ -44,7 +52,8 @@ pub few_bytes_at : (ks : List KeyPart) (i : ℕ) (k : KeyPart) → AreProperKeys
     length (values_of (take i ks)) + length (value_bytes k.value) ≤ 65536
 few_bytes_at ks i k keys within is =
     let sum = length-flat_map-take (λ x. value_bytes x.value) ks i k within in
-    let own : length (value_bytes k.value) ≡ length (value_bytes (get_or ks i k).value) = ap (λ x. length (value_bytes x.value)) is in
+    let own : length (value_bytes k.value) ≡ length (value_bytes (get_or ks i k).value) =
+    ap (λ x. length (value_bytes x.value)) is in
     omega (arith, sum, own, few_value_bytes 0 ks keys, few_keys 0 ks (omega arith) keys)
 
 -- the values up to an entry have at most 65,536 bytes
@@ -54,27 +63,39 @@ few_bytes_up ks i keys =
     let behind = values_of (drop i ks) in
     let whole : front ++ behind ≡ values_of ks =
     sym (flat_map-append (λ k. value_bytes k.value) (take i ks) (drop i ks)) ∙ ap values_of (take-append-drop i ks) in
-    omega (arith, length-append front behind, ap length whole, few_value_bytes 0 ks keys, few_keys 0 ks (omega arith) keys)
+    omega (
+      arith,
+      length-append front behind,
+      ap length whole,
+      few_value_bytes 0 ks keys,
+      few_keys 0 ks (omega arith) keys,
+    )
 
 -- the entries up to one and this one
-pub take_more_is : (ks : List KeyPart) (i : ℕ) (k : KeyPart) → i < length ks → k ≡ get_or ks i k → take (i + 1) ks ≡ take i ks ++ k ∷ []
+pub take_more_is : (ks : List KeyPart) (i : ℕ) (k : KeyPart) → i < length ks → k ≡ get_or ks i k →
+    take (i + 1) ks ≡ take i ks ++ k ∷ []
 take_more_is ks i k within is = take_more ks i k within ∙ ap (λ x. take i ks ++ x ∷ []) (sym is)
 
 -- the bytes of the values up to one and of this one
-pub values_of-more : (ks : List KeyPart) (i : ℕ) (k : KeyPart) → i < length ks → k ≡ get_or ks i k → values_of (take (i + 1) ks) ≡ values_of (take i ks) ++ value_bytes k.value
+pub values_of-more : (ks : List KeyPart) (i : ℕ) (k : KeyPart) → i < length ks → k ≡ get_or ks i k →
+    values_of (take (i + 1) ks) ≡ values_of (take i ks) ++ value_bytes k.value
 values_of-more ks i k within is = ap values_of (take_more_is ks i k within is) ∙ values_of-push (take i ks) k
 
 -- the words of the entries up to one and of this one
-pub key_words-more : (number : ℕ) (ks : List KeyPart) (i : ℕ) (k : KeyPart) (offset entry : ℕ) → i < length ks → k ≡ get_or ks i k →
+pub key_words-more : (number : ℕ) (ks : List KeyPart) (i : ℕ) (k : KeyPart) (offset entry : ℕ) → i < length ks →
+    k ≡ get_or ks i k →
     entry ≡ entry_word number k.id i → offset ≡ length (values_of (take i ks)) →
-    key_words number 0 0 (take (i + 1) ks) ≡ key_words number 0 0 (take i ks) ++ (k.prev ∷ entry ∷ value_word k.value offset ∷ [])
+    key_words number 0 0 (take (i + 1) ks) ≡
+    key_words number 0 0 (take i ks) ++ (k.prev ∷ entry ∷ value_word k.value offset ∷ [])
 key_words-more number ks i k offset entry within is entry_is offset_is =
     let front = key_words number 0 0 (take i ks) in
     let place : 0 + length (take i ks) ≡ i = omega (arith, length-take-le i ks (omega arith)) in
     let there : 0 + length (values_of (take i ks)) ≡ offset = omega arith in
     ap (key_words number 0 0) (take_more_is ks i k within is)
     ∙ key_words-push number 0 0 (take i ks) k
-    ∙ ap (λ n. front ++ (k.prev ∷ entry_word number k.id n ∷ value_word k.value (0 + length (values_of (take i ks))) ∷ [])) place
+    ∙ ap (λ n.
+    front ++
+    (k.prev ∷ entry_word number k.id n ∷ value_word k.value (0 + length (values_of (take i ks))) ∷ [])) place
     ∙ ap (λ n. front ++ (k.prev ∷ entry_word number k.id i ∷ value_word k.value n ∷ [])) there
     ∙ ap (λ e. front ++ (k.prev ∷ e ∷ value_word k.value offset ∷ [])) (sym entry_is)
 
@@ -82,11 +103,13 @@ key_words-more number ks i k offset entry within is entry_is offset_is =
 pub values_within : (ks : List KeyPart) (i : ℕ) (k : KeyPart) → i < length ks → k ≡ get_or ks i k →
     length (values_of (take i ks)) + length (value_bytes k.value) ≤ length (values_of ks)
 values_within ks i k within is =
-    let own : length (value_bytes k.value) ≡ length (value_bytes (get_or ks i k).value) = ap (λ x. length (value_bytes x.value)) is in
+    let own : length (value_bytes k.value) ≡ length (value_bytes (get_or ks i k).value) =
+    ap (λ x. length (value_bytes x.value)) is in
     omega (arith, length-flat_map-take (λ x. value_bytes x.value) ks i k within, own)
 
 -- behind the values up to an entry stands its own
-pub value_at : (ks : List KeyPart) (i : ℕ) (k : KeyPart) (n m : ℕ) → i < length ks → k ≡ get_or ks i k → n ≡ length (values_of (take i ks)) →
+pub value_at : (ks : List KeyPart) (i : ℕ) (k : KeyPart) (n m : ℕ) → i < length ks → k ≡ get_or ks i k →
+    n ≡ length (values_of (take i ks)) →
     m ≡ n + length (value_bytes k.value) → take (m - n) (drop n (values_of ks)) ≡ value_bytes k.value
 value_at ks i k n m within is from end =
     let front = values_of (take i ks) in

@@ -16,7 +16,8 @@ pub record Says (w : ℕ) (h : Header) : Type 0 where
   pub length : length_of w ≡ h.length
 
 -- limits are within the bits
-fits : {w : ℕ} {f : Form} {h : Header} → IsRecordHeader w f h → FitHeader h.lines (form_code f) h.keys h.lane h.version h.length
+fits : {w : ℕ} {f : Form} {h : Header} → IsRecordHeader w f h →
+    FitHeader h.lines (form_code f) h.keys h.lane h.version h.length
 fits {w} {f} {h} is =
     record {
       lines_fit = is.lines;
@@ -78,7 +79,8 @@ same_form Json Csv e = absurd (omega arith)
 same_form Csv Json e = absurd (omega arith)
 
 -- a word with a form's code is a header of that form alone
-header_by_form : (w : ℕ) (f : Form) (h : Header) (o : Option Form) → form_of w ≡ form_code f → IsHeaderOf w h o → IsRecordHeader w f h
+header_by_form : (w : ℕ) (f : Form) (h : Header) (o : Option Form) → form_of w ≡ form_code f → IsHeaderOf w h o →
+    IsRecordHeader w f h
 header_by_form w f h (Some g) code is = subst (λ x. IsRecordHeader w x h) (same_form f g (sym code ∙ header_form is)) is
 header_by_form w f h None code is =
     absurd (omega (arith, form_code_fits f, form_of-void h.lines is.lines, ap form_of is.is))
@@ -90,12 +92,14 @@ header_by_none w h None code is = is
 
 -- what was found for a word's form is what there is for the word
 pub IsHeader-form : (w : ℕ) (f : Form) (o : Option Header) → form_of w ≡ form_code f →
-    MatchOption o (¬ ((h : Header) × IsRecordHeader w f h)) (λ h. (h.form ≡ Some f) × IsRecordHeader w f h) → MatchOption o (¬ ((h : Header) × IsHeader w h)) (IsHeader w)
+    MatchOption o (¬ ((h : Header) × IsRecordHeader w f h)) (λ h. (h.form ≡ Some f) × IsRecordHeader w f h) →
+    MatchOption o (¬ ((h : Header) × IsHeader w h)) (IsHeader w)
 IsHeader-form w f (Some h) code found = subst (IsHeaderOf w h) (sym found.0) found.1
 IsHeader-form w f None code none = λ some. none (some.0, header_by_form w f some.0 some.0.form code some.1)
 
 -- the same for a void
 pub IsHeader-void : (w : ℕ) (o : Option Header) → 2 ≤ form_of w →
-    MatchOption o (¬ ((h : Header) × IsVoidHeader w h)) (λ h. (h.form ≡ None) × IsVoidHeader w h) → MatchOption o (¬ ((h : Header) × IsHeader w h)) (IsHeader w)
+    MatchOption o (¬ ((h : Header) × IsVoidHeader w h)) (λ h. (h.form ≡ None) × IsVoidHeader w h) →
+    MatchOption o (¬ ((h : Header) × IsHeader w h)) (IsHeader w)
 IsHeader-void w (Some h) code found = subst (IsHeaderOf w h) (sym found.0) found.1
 IsHeader-void w None code none = λ some. none (some.0, header_by_none w some.0 some.0.form code some.1)

@@ -25,7 +25,8 @@ pub record SaysKey (p : BodyParts) (e : ℕ → ℕ) (c : ℕ) (k : KeyPart) : T
   pub offset : value_offset (e (entry_at c + 2)) ≡ length (values_of (take c p.keys))
 
 -- the words from the entry c on begin with its three
-entries_from : (number place offset : ℕ) (ks : List KeyPart) (t : List ℕ) (c : ℕ) (k : KeyPart) → c < length ks → k ≡ get_or ks c k →
+entries_from : (number place offset : ℕ) (ks : List KeyPart) (t : List ℕ) (c : ℕ) (k : KeyPart) → c < length ks →
+    k ≡ get_or ks c k →
     (rest : List ℕ) × (drop (3 * c) (key_words number place offset ks ++ t) ≡
     k.prev ∷ entry_word number k.id (place + c) ∷ value_word k.value (offset + length (values_of (take c ks))) ∷ rest)
 entries_from number place offset [] t c k within is = absurd (omega arith)
@@ -48,13 +49,17 @@ entries_from number place offset (x ∷ ks) t (suc c) k within is =
       more.0,
       ap (λ n. drop n (key_words number place offset (x ∷ ks) ++ t)) further
           ∙ more.1
-          ∙ ap (λ n. k.prev ∷ entry_word number k.id n ∷ value_word k.value (offset + size + length (values_of (take c ks))) ∷ more.0) here
+          ∙ ap (λ n.
+          k.prev ∷ entry_word number k.id n ∷ value_word k.value
+          (offset + size + length (values_of (take c ks))) ∷ more.0) here
           ∙ ap (λ n. k.prev ∷ entry_word number k.id (place + suc c) ∷ value_word k.value n ∷ more.0) there,
     )
 
 -- the words of a record from the entry c on begin with its three
 body_from : (p : BodyParts) (c : ℕ) (k : KeyPart) → c < length p.keys → k ≡ get_or p.keys c k →
-    (rest : List ℕ) × (drop (entry_at c) (body_words p) ≡ k.prev ∷ entry_word p.number k.id c ∷ value_word k.value (length (values_of (take c p.keys))) ∷ rest)
+    (rest : List ℕ)
+    × (drop (entry_at c) (body_words p) ≡
+    k.prev ∷ entry_word p.number k.id c ∷ value_word k.value (length (values_of (take c p.keys))) ∷ rest)
 body_from p c k within is =
     let from = entries_from p.number 0 0 p.keys (after_keys p) c k within is in
     let behind : entry_at c ≡ suc (3 * c) = omega arith in
@@ -64,7 +69,9 @@ body_from p c k within is =
       ap (drop (entry_at c)) (body_parted p)
           ∙ ap (λ n. drop n (body_header p ∷ (key_words p.number 0 0 p.keys ++ after_keys p))) behind
           ∙ from.1
-          ∙ ap (λ n. k.prev ∷ entry_word p.number k.id n ∷ value_word k.value (0 + length (values_of (take c p.keys))) ∷ from.0) here
+          ∙ ap (λ n.
+          k.prev ∷ entry_word p.number k.id n ∷ value_word k.value (0 + length (values_of (take c p.keys))) ∷
+          from.0) here
           ∙ ap (λ n. k.prev ∷ entry_word p.number k.id c ∷ value_word k.value n ∷ from.0) there,
     )
 
@@ -85,7 +92,8 @@ entry_fields number id place w n i c is = (
 )
 
 -- the fields of the third word
-value_fields : (code size offset w : ℕ) → code < 2 ^ 2 → size < 2 ^ 9 → offset < 2 ^ 18 → w ≡ packed_value code size offset →
+value_fields : (code size offset w : ℕ) → code < 2 ^ 2 → size < 2 ^ 9 → offset < 2 ^ 18 →
+    w ≡ packed_value code size offset →
     (value_kind w ≡ code) × (value_size w ≡ size) × (value_offset w ≡ offset)
 unfolding value_kind value_size value_offset
 value_fields code size offset w c s o is = (
@@ -101,7 +109,8 @@ kind_fits (kind.Int n) = omega arith
 kind_fits (kind.Text s) = omega arith
 
 -- the words of a record say each of its keys
-pub words_say : (p : BodyParts) (e : ℕ → ℕ) (c : ℕ) (k : KeyPart) → IsProper p → ((i : ℕ) → e i ≡ get_or (body_words p) i 0) → c < length p.keys → k ≡ get_or p.keys c k →
+pub words_say : (p : BodyParts) (e : ℕ → ℕ) (c : ℕ) (k : KeyPart) → IsProper p →
+    ((i : ℕ) → e i ≡ get_or (body_words p) i 0) → c < length p.keys → k ≡ get_or p.keys c k →
     SaysKey p e c k
 words_say p e c k h same within is =
     let from = body_from p c k within is in
@@ -110,9 +119,14 @@ words_say p e c k h same within is =
     let first = word_behind (body_words p) (entry_at c) 0 (entry_at c) _ from.1 (omega arith) in
     let second = word_behind (body_words p) (entry_at c) 1 (entry_at c + 1) _ from.1 (omega arith) in
     let third = word_behind (body_words p) (entry_at c) 2 (entry_at c + 2) _ from.1 (omega arith) in
-    let entry = entry_fields p.number k.id c (e (entry_at c + 1)) h.number proper.0 (omega (arith, few_keys_of h)) (same (entry_at c + 1) ∙ second) in
-    let value = value_fields (kind_code k.value) (length (value_bytes k.value)) offset (e (entry_at c + 2)) (kind_fits k.value)
-    (omega (arith, few_bytes k.value proper.1)) (omega (arith, few_bytes_at p.keys c k h.keys within is)) (same (entry_at c + 2) ∙ third) in
+    let entry =
+    entry_fields p.number k.id c (e (entry_at c + 1)) h.number proper.0 (omega (arith, few_keys_of h))
+    (same (entry_at c + 1) ∙ second) in
+    let value =
+    value_fields (kind_code k.value) (length (value_bytes k.value)) offset (e (entry_at c + 2))
+    (kind_fits k.value)
+    (omega (arith, few_bytes k.value proper.1)) (omega (arith, few_bytes_at p.keys c k h.keys within is))
+    (same (entry_at c + 2) ∙ third) in
     record {
       prev = same (entry_at c) ∙ first;
       number = entry.0;
@@ -124,9 +138,12 @@ words_say p e c k h same within is =
     }
 
 -- what is spelled says each key of its parts
-pub spelled_key : {p : BodyParts} {e : ℕ → ℕ} (c : ℕ) (k : KeyPart) → Spells p e → c < length p.keys → k ≡ get_or p.keys c k → SaysKey p e c k
+pub spelled_key : {p : BodyParts} {e : ℕ → ℕ} (c : ℕ) (k : KeyPart) → Spells p e → c < length p.keys →
+    k ≡ get_or p.keys c k → SaysKey p e c k
 spelled_key {p} {e} c k s within is = words_say p e c k s.proper s.words within is
 
 -- a record says each of its keys
-pub body_key : {p : BodyParts} {ws : List ℕ} (c : ℕ) (k : KeyPart) → IsBody p ws → c < length p.keys → k ≡ get_or p.keys c k → SaysKey p (λ i. get_or ws i 0) c k
-body_key {p} {ws} c k h within is = words_say p (λ i. get_or ws i 0) c k h.proper (λ i. ap (λ b. get_or b i 0) h.is) within is
+pub body_key : {p : BodyParts} {ws : List ℕ} (c : ℕ) (k : KeyPart) → IsBody p ws → c < length p.keys →
+    k ≡ get_or p.keys c k → SaysKey p (λ i. get_or ws i 0) c k
+body_key {p} {ws} c k h within is =
+    words_say p (λ i. get_or ws i 0) c k h.proper (λ i. ap (λ b. get_or b i 0) h.is) within is

@@ -31,7 +31,8 @@ values_of-relink r c [] = refl
 values_of-relink r c (k ∷ ks) = ap (λ b. value_bytes k.value ++ b) (values_of-relink r (c + 1) ks)
 
 -- as proper
-pub AreProperKeys-relink : (r : ℕ → ℕ) (c least : ℕ) (ks : List KeyPart) → AreProperKeys least ks → AreProperKeys least (relink r c ks)
+pub AreProperKeys-relink : (r : ℕ → ℕ) (c least : ℕ) (ks : List KeyPart) → AreProperKeys least ks →
+    AreProperKeys least (relink r c ks)
 AreProperKeys-relink r c least [] h = tt
 AreProperKeys-relink r c least (k ∷ ks) h = (h.0, h.1, h.2, AreProperKeys-relink r (c + 1) (k.id + 1) ks h.3)
 
@@ -57,30 +58,36 @@ AreUnlinked-unlink [] = tt
 AreUnlinked-unlink (k ∷ ks) = (refl, AreUnlinked-unlink ks)
 
 -- a word that is the first of no entry stays
-relink_at : (r : ℕ → ℕ) (c number place offset : ℕ) (ks : List KeyPart) (t : List ℕ) (i : ℕ) → ¬ ((i < 3 * length ks) × (i % 3 ≡ 0)) →
+relink_at : (r : ℕ → ℕ) (c number place offset : ℕ) (ks : List KeyPart) (t : List ℕ) (i : ℕ) →
+    ¬ ((i < 3 * length ks) × (i % 3 ≡ 0)) →
     get_or (key_words number place offset (relink r c ks) ++ t) i 0 ≡ get_or (key_words number place offset ks ++ t) i 0
 relink_at r c number place offset [] t i h = refl
 relink_at r c number place offset (k ∷ ks) t zero h = absurd (h (omega arith, omega arith))
 relink_at r c number place offset (k ∷ ks) t (suc zero) h = refl
 relink_at r c number place offset (k ∷ ks) t (suc (suc zero)) h = refl
 relink_at r c number place offset (k ∷ ks) t (suc (suc (suc i))) h =
-    relink_at r (c + 1) number (place + 1) (offset + length (value_bytes k.value)) ks t i (λ key. h (omega arith, omega arith))
+    relink_at r (c + 1) number (place + 1) (offset + length (value_bytes k.value)) ks t i
+    (λ key. h (omega arith, omega arith))
 
 -- the first word of an entry is its previous node
-relink_key : (r : ℕ → ℕ) (c number place offset : ℕ) (ks : List KeyPart) (t : List ℕ) (i : ℕ) → i < 3 * length ks → i % 3 ≡ 0 →
+relink_key : (r : ℕ → ℕ) (c number place offset : ℕ) (ks : List KeyPart) (t : List ℕ) (i : ℕ) → i < 3 * length ks →
+    i % 3 ≡ 0 →
     get_or (key_words number place offset (relink r c ks) ++ t) i 0 ≡ r (c + i / 3)
 relink_key r c number place offset [] t i h first = absurd (omega arith)
 relink_key r c number place offset (k ∷ ks) t zero h first = ap r (omega arith)
 relink_key r c number place offset (k ∷ ks) t (suc zero) h first = absurd (omega arith)
 relink_key r c number place offset (k ∷ ks) t (suc (suc zero)) h first = absurd (omega arith)
 relink_key r c number place offset (k ∷ ks) t (suc (suc (suc i))) h first =
-    relink_key r (c + 1) number (place + 1) (offset + length (value_bytes k.value)) ks t i (omega arith) (omega arith) ∙ ap r (omega arith)
+    relink_key r (c + 1) number (place + 1) (offset + length (value_bytes k.value)) ks t i (omega arith)
+    (omega arith) ∙ ap r (omega arith)
 
 -- ---- records
 
 -- what stands behind the key entries
 abbrev pub after_keys : BodyParts → List ℕ
-after_keys p = words_of_bytes (values_of p.keys) ++ (words_of_bytes p.payload ++ replicate (body_lines p * 4 - (1 + length (words_behind p))) 0)
+after_keys p =
+    words_of_bytes (values_of p.keys) ++
+    (words_of_bytes p.payload ++ replicate (body_lines p * 4 - (1 + length (words_behind p))) 0)
 
 -- a record is its header, its key entries and what stands behind them
 pub body_parted : (p : BodyParts) → body_words p ≡ body_header p ∷ (key_words p.number 0 0 p.keys ++ after_keys p)
@@ -90,7 +97,8 @@ body_parted p = simp append_assoc
 -- as many words
 relinked_length : (r : ℕ → ℕ) (p : BodyParts) → length (words_behind (relinked r p)) ≡ length (words_behind p)
 relinked_length r p =
-    length-words_behind (relinked r p) ∙ rw (length-relink r 0 p.keys, values_of-relink r 0 p.keys) (sym (length-words_behind p))
+    length-words_behind (relinked r p)
+    ∙ rw (length-relink r 0 p.keys, values_of-relink r 0 p.keys) (sym (length-words_behind p))
 
 -- as many lines
 pub relinked_lines : (r : ℕ → ℕ) (p : BodyParts) → body_lines (relinked r p) ≡ body_lines p
@@ -99,14 +107,21 @@ relinked_lines r p = ap (λ n. (1 + n + 3) / 4) (relinked_length r p)
 -- the same header
 pub relinked_header : (r : ℕ → ℕ) (p : BodyParts) → body_header (relinked r p) ≡ body_header p
 relinked_header r p =
-    ap (λ lines. header_word lines (form_code p.form) (length (relink r 0 p.keys)) p.lane p.version (length p.payload)) (relinked_lines r p)
-    ∙ ap (λ keys. header_word (body_lines p) (form_code p.form) keys p.lane p.version (length p.payload)) (length-relink r 0 p.keys)
+    ap (λ lines.
+    header_word lines (form_code p.form) (length (relink r 0 p.keys)) p.lane p.version (length p.payload))
+    (relinked_lines r p)
+    ∙ ap (λ keys. header_word (body_lines p) (form_code p.form) keys p.lane p.version (length p.payload))
+    (length-relink r 0 p.keys)
 
 -- the same behind the key entries
 relinked_after : (r : ℕ → ℕ) (p : BodyParts) → after_keys (relinked r p) ≡ after_keys p
 relinked_after r p =
-    ap (λ n. words_of_bytes (values_of (relink r 0 p.keys)) ++ (words_of_bytes p.payload ++ replicate ((1 + n + 3) / 4 * 4 - (1 + n)) 0)) (relinked_length r p)
-    ∙ ap (λ b. words_of_bytes b ++ (words_of_bytes p.payload ++ replicate (body_lines p * 4 - (1 + length (words_behind p))) 0)) (values_of-relink r 0 p.keys)
+    ap (λ n. words_of_bytes (values_of (relink r 0 p.keys)) ++
+    (words_of_bytes p.payload ++ replicate ((1 + n + 3) / 4 * 4 - (1 + n)) 0)) (relinked_length r p)
+    ∙ ap (λ b.
+    words_of_bytes b ++
+    (words_of_bytes p.payload ++ replicate (body_lines p * 4 - (1 + length (words_behind p))) 0))
+    (values_of-relink r 0 p.keys)
 
 -- as proper
 pub relinked_proper : (r : ℕ → ℕ) (p : BodyParts) → IsProper p → IsProper (relinked r p)
@@ -122,14 +137,17 @@ relinked_proper r p h =
     }
 
 -- the words of a relinked record, with the parts that stay as they are in the record
-relinked_parted : (r : ℕ → ℕ) (p : BodyParts) → body_words (relinked r p) ≡ body_header p ∷ (key_words p.number 0 0 (relink r 0 p.keys) ++ after_keys p)
+relinked_parted : (r : ℕ → ℕ) (p : BodyParts) →
+    body_words (relinked r p) ≡ body_header p ∷ (key_words p.number 0 0 (relink r 0 p.keys) ++ after_keys p)
 relinked_parted r p =
     body_parted (relinked r p)
-    ∙ ap (λ head. head ∷ (key_words p.number 0 0 (relink r 0 p.keys) ++ after_keys (relinked r p))) (relinked_header r p)
+    ∙ ap (λ head. head ∷ (key_words p.number 0 0 (relink r 0 p.keys) ++ after_keys (relinked r p)))
+    (relinked_header r p)
     ∙ ap (λ rest. body_header p ∷ (key_words p.number 0 0 (relink r 0 p.keys) ++ rest)) (relinked_after r p)
 
 -- a word that is the first of no key entry stays
-pub relinked_at : (r : ℕ → ℕ) (p : BodyParts) (i : ℕ) → ¬ IsKeyWord (length p.keys) i → get_or (body_words (relinked r p)) i 0 ≡ get_or (body_words p) i 0
+pub relinked_at : (r : ℕ → ℕ) (p : BodyParts) (i : ℕ) → ¬ IsKeyWord (length p.keys) i →
+    get_or (body_words (relinked r p)) i 0 ≡ get_or (body_words p) i 0
 relinked_at r p zero h = ap (λ b. get_or b 0 0) (relinked_parted r p) ∙ sym (ap (λ b. get_or b 0 0) (body_parted p))
 relinked_at r p (suc i) h =
     ap (λ b. get_or b (suc i) 0) (relinked_parted r p)
@@ -137,7 +155,8 @@ relinked_at r p (suc i) h =
     ∙ sym (ap (λ b. get_or b (suc i) 0) (body_parted p))
 
 -- the first word of a key entry is its previous node
-pub relinked_key : (r : ℕ → ℕ) (p : BodyParts) (i : ℕ) → IsKeyWord (length p.keys) i → get_or (body_words (relinked r p)) i 0 ≡ r (i / 3)
+pub relinked_key : (r : ℕ → ℕ) (p : BodyParts) (i : ℕ) → IsKeyWord (length p.keys) i →
+    get_or (body_words (relinked r p)) i 0 ≡ r (i / 3)
 relinked_key r p zero key = absurd (omega arith)
 relinked_key r p (suc i) key =
     ap (λ b. get_or b (suc i) 0) (relinked_parted r p)

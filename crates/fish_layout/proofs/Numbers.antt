@@ -25,7 +25,8 @@ number_at m n place offset (k ∷ ks) t (suc (suc (suc i))) h =
     number_at m n (place + 1) (offset + length (value_bytes k.value)) ks t i (λ key. h (omega arith, omega arith))
 
 -- the second word of an entry, with another number
-number_key : (m n place offset : ℕ) (ks : List KeyPart) (t : List ℕ) (i : ℕ) → n < 2 ^ 28 → i < 3 * length ks → i % 3 ≡ 1 →
+number_key : (m n place offset : ℕ) (ks : List KeyPart) (t : List ℕ) (i : ℕ) → n < 2 ^ 28 → i < 3 * length ks →
+    i % 3 ≡ 1 →
     get_or (key_words m place offset ks ++ t) i 0 ≡ renumbered (get_or (key_words n place offset ks ++ t) i 0) m
 number_key m n place offset [] t i fits h second = absurd (omega arith)
 number_key m n place offset (k ∷ ks) t zero fits h second = absurd (omega arith)
@@ -43,15 +44,19 @@ numbered_length : (m : ℕ) (p : BodyParts) → length (words_behind (numbered m
 numbered_length m p = length-words_behind (numbered m p) ∙ sym (length-words_behind p)
 
 -- the words of a record with another number, with the parts that stay as they are in the record
-numbered_parted : (m : ℕ) (p : BodyParts) → body_words (numbered m p) ≡ body_header p ∷ (key_words m 0 0 p.keys ++ after_keys p)
+numbered_parted : (m : ℕ) (p : BodyParts) →
+    body_words (numbered m p) ≡ body_header p ∷ (key_words m 0 0 p.keys ++ after_keys p)
 numbered_parted m p =
     let words = λ (n : ℕ).
     header_word ((1 + n + 3) / 4) (form_code p.form) (length p.keys) p.lane p.version (length p.payload)
-    ∷ (key_words m 0 0 p.keys ++ (words_of_bytes (values_of p.keys) ++ (words_of_bytes p.payload ++ replicate ((1 + n + 3) / 4 * 4 - (1 + n)) 0))) in
+    ∷ (key_words m 0 0 p.keys ++
+    (words_of_bytes (values_of p.keys) ++
+    (words_of_bytes p.payload ++ replicate ((1 + n + 3) / 4 * 4 - (1 + n)) 0))) in
     body_parted (numbered m p) ∙ ap words (numbered_length m p)
 
 -- a word that is the second of no key entry stays
-numbered_at : (m : ℕ) (p : BodyParts) (i : ℕ) → ¬ IsNumberWord (length p.keys) i → get_or (body_words (numbered m p)) i 0 ≡ get_or (body_words p) i 0
+numbered_at : (m : ℕ) (p : BodyParts) (i : ℕ) → ¬ IsNumberWord (length p.keys) i →
+    get_or (body_words (numbered m p)) i 0 ≡ get_or (body_words p) i 0
 numbered_at m p zero h = ap (λ b. get_or b 0 0) (numbered_parted m p) ∙ sym (ap (λ b. get_or b 0 0) (body_parted p))
 numbered_at m p (suc i) h =
     ap (λ b. get_or b (suc i) 0) (numbered_parted m p)
@@ -68,9 +73,11 @@ numbered_key m p (suc i) fits key =
     ∙ sym (ap (λ b. renumbered (get_or b (suc i) 0) m) (body_parted p))
 
 -- words whose entries have another number, and that are else a record's, are the record with this number
-pub body_numbered : {p : BodyParts} {ws : List ℕ} (m : ℕ) (new : List ℕ) → IsBody p ws → m < 2 ^ 28 → length new ≡ length ws →
+pub body_numbered : {p : BodyParts} {ws : List ℕ} (m : ℕ) (new : List ℕ) → IsBody p ws → m < 2 ^ 28 →
+    length new ≡ length ws →
     ((i : ℕ) → ¬ IsNumberWord (length p.keys) i → get_or new i 0 ≡ get_or ws i 0) →
-    ((i : ℕ) → IsNumberWord (length p.keys) i → get_or new i 0 ≡ renumbered (get_or ws i 0) m) → IsBody (record p { number = m }) new
+    ((i : ℕ) → IsNumberWord (length p.keys) i → get_or new i 0 ≡ renumbered (get_or ws i 0) m) →
+    IsBody (record p { number = m }) new
 body_numbered {p} {ws} m new h fits size others entries =
     let word : (i : ℕ) → get_or ws i 0 ≡ get_or (body_words p) i 0 = λ i. ap (λ b. get_or b i 0) h.is in
     let stays : (i : ℕ) → ¬ IsNumberWord (length p.keys) i → get_or new i 0 ≡ get_or (body_words (numbered m p)) i 0 =
@@ -78,7 +85,8 @@ body_numbered {p} {ws} m new h fits size others entries =
     let same : (i : ℕ) → get_or new i 0 ≡ get_or (body_words (numbered m p)) i 0 =
     λ i. elim (dec_le i (3 * length p.keys)) [
       | yes entry ↦ (elim (ℕ_discrete (i % 3) 2) [
-        | yes second ↦ entries i (entry, second) ∙ ap (λ w. renumbered w m) (word i) ∙ sym (numbered_key m p i h.proper.number (entry, second))
+        | yes second ↦ entries i (entry, second) ∙ ap (λ w. renumbered w m) (word i)
+            ∙ sym (numbered_key m p i h.proper.number (entry, second))
         | no other ↦ stays i (λ key. other key.1)
       ])
       | no past ↦ stays i (λ key. past key.0)
@@ -95,5 +103,6 @@ body_numbered {p} {ws} m new h fits size others entries =
     } in
     record {
       proper = proper;
-      is = ext_get_or 0 new (body_words (numbered m p)) (omega (arith, body_length h, length-body_words (numbered m p), numbered_length m p)) (λ i _. same i);
+      is = ext_get_or 0 new (body_words (numbered m p))
+          (omega (arith, body_length h, length-body_words (numbered m p), numbered_length m p)) (λ i _. same i);
     }

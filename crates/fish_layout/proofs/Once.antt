@@ -45,11 +45,13 @@ complement_fits (pos a) h = grind (arith, nat_tests)
 complement_fits (negsuc a) h = omega arith
 
 -- a value by its kind and its bytes
-same_value : (v w : Value) → IsProperValue v → IsProperValue w → kind_code v ≡ kind_code w → value_bytes v ≡ value_bytes w → v ≡ w
+same_value : (v w : Value) → IsProperValue v → IsProperValue w → kind_code v ≡ kind_code w →
+    value_bytes v ≡ value_bytes w → v ≡ w
 same_value (kind.Bool a) (kind.Bool b) pv pw k h = ap kind.Bool (same_truth a b h)
 same_value (kind.Int a) (kind.Int b) pv pw k h =
     ap kind.Int (same_complement a b pv pw
-    (sym (from_le_bytes-to_le_bytes_8 (complement a) (complement_fits a pv)) ∙ ap (from_le_bytes w64) h ∙ from_le_bytes-to_le_bytes_8 (complement b) (complement_fits b pw)))
+    (sym (from_le_bytes-to_le_bytes_8 (complement a) (complement_fits a pv)) ∙ ap (from_le_bytes w64) h
+    ∙ from_le_bytes-to_le_bytes_8 (complement b) (complement_fits b pw)))
 same_value (kind.Text a) (kind.Text b) pv pw k h = ap kind.Text h
 same_value (kind.Bool a) (kind.Int b) pv pw k h = absurd (omega arith)
 same_value (kind.Bool a) (kind.Text b) pv pw k h = absurd (omega arith)
@@ -61,12 +63,14 @@ same_value (kind.Text a) (kind.Int b) pv pw k h = absurd (omega arith)
 -- ---- keys
 
 -- the values' bytes have one length
-values_size : {p q : BodyParts} {ws : List ℕ} → IsBody p ws → IsBody q ws → length (values_of p.keys) ≡ length (values_of q.keys)
+values_size : {p q : BodyParts} {ws : List ℕ} → IsBody p ws → IsBody q ws →
+    length (values_of p.keys) ≡ length (values_of q.keys)
 values_size {p} {q} {ws} hp hq =
     let keys : length p.keys ≡ length q.keys = sym (body_says hp).keys ∙ (body_says hq).keys in
     elim (ℕ_discrete (length p.keys) 0) [
       | yes none ↦ no_values p.keys (sym none) ∙ sym (no_values q.keys (sym none ∙ keys))
-      | no some ↦ sym (body_values_size hp (length p.keys) refl (omega arith)) ∙ body_values_size hq (length p.keys) keys (omega arith)
+      | no some ↦ sym (body_values_size hp (length p.keys) refl (omega arith))
+          ∙ body_values_size hq (length p.keys) keys (omega arith)
     ]
 
 -- the values' bytes are the same
@@ -79,7 +83,8 @@ values_once {p} {q} {ws} hp hq =
     ∙ body_values hq
 
 -- the keys at one place are the same
-key_once : {p q : BodyParts} {ws : List ℕ} (c : ℕ) (k l : KeyPart) → IsBody p ws → IsBody q ws → c < length p.keys → c < length q.keys →
+key_once : {p q : BodyParts} {ws : List ℕ} (c : ℕ) (k l : KeyPart) → IsBody p ws → IsBody q ws → c < length p.keys →
+    c < length q.keys →
     k ≡ get_or p.keys c k → l ≡ get_or q.keys c l → k ≡ l
 key_once {p} {q} {ws} c k l hp hq in_p in_q is_k is_l =
     let sp = body_key c k hp in_p is_k in
@@ -93,7 +98,8 @@ key_once {p} {q} {ws} c k l hp hq in_p in_q is_k is_l =
     ∙ ap (λ b. take (m - n) (drop n b)) (values_once hp hq)
     ∙ value_at q.keys c l n m in_q is_l from (ap (λ x. n + x) size) in
     let value : k.value ≡ l.value =
-    same_value k.value l.value (proper_at 0 p.keys c k hp.proper.keys in_p is_k).1 (proper_at 0 q.keys c l hq.proper.keys in_q is_l).1 (sym sp.kind ∙ sq.kind) bytes in
+    same_value k.value l.value (proper_at 0 p.keys c k hp.proper.keys in_p is_k).1
+    (proper_at 0 q.keys c l hq.proper.keys in_q is_l).1 (sym sp.kind ∙ sq.kind) bytes in
     ap (λ x. record k { prev = x }) (sym sp.prev ∙ sq.prev)
     ∙ ap (λ x. record k { prev = l.prev; id = x }) (sym sp.id ∙ sq.id)
     ∙ ap (λ x. record { prev = l.prev; id = l.id; value = x }) value
@@ -106,7 +112,9 @@ same_keys [] (l ∷ ls) size same = absurd (omega arith)
 same_keys (k ∷ ks) [] size same = absurd (omega arith)
 same_keys (k ∷ ks) (l ∷ ls) size same =
     ap (λ x. x ∷ ks) (same 0 k l (omega arith) (omega arith) refl refl)
-    ∙ ap (λ xs. l ∷ xs) (same_keys ks ls (omega arith) (λ c x y in_k in_l is_x is_y. same (suc c) x y (omega arith) (omega arith) is_x is_y))
+    ∙ ap (λ xs. l ∷ xs)
+    (same_keys ks ls (omega arith)
+    (λ c x y in_k in_l is_x is_y. same (suc c) x y (omega arith) (omega arith) is_x is_y))
 
 -- ---- parts
 
@@ -125,7 +133,8 @@ body_once {p} {q} {ws} hp hq number =
     let sq = body_says hq in
     let form : p.form ≡ q.form = same_form q.form p.form (sym sq.form ∙ sp.form) in
     let size : length p.keys ≡ length q.keys = sym sp.keys ∙ sq.keys in
-    let keys : p.keys ≡ q.keys = same_keys p.keys q.keys size (λ c k l in_p in_q is_k is_l. key_once c k l hp hq in_p in_q is_k is_l) in
+    let keys : p.keys ≡ q.keys =
+    same_keys p.keys q.keys size (λ c k l in_p in_q is_k is_l. key_once c k l hp hq in_p in_q is_k is_l) in
     let place : payload_place p ≡ payload_place q = omega (arith, ap length (values_once hp hq)) in
     let payload : p.payload ≡ q.payload =
     sym (body_payload hp)
@@ -143,7 +152,8 @@ body_once {p} {q} {ws} hp hq number =
 spelled_words : {p q : BodyParts} {e : ℕ → ℕ} → Spells p e → Spells q e → body_words p ≡ body_words q
 spelled_words {p} {q} {e} sp sq =
     let lines : body_lines p ≡ body_lines q = sym (spelled_lines sp) ∙ spelled_lines sq in
-    ext_get_or 0 (body_words p) (body_words q) (omega (arith, length-body_words p, length-body_words q)) (λ i _. sym (sp.words i) ∙ sq.words i)
+    ext_get_or 0 (body_words p) (body_words q) (omega (arith, length-body_words p, length-body_words q))
+    (λ i _. sym (sp.words i) ∙ sq.words i)
 
 -- the parts that are spelled, with one number, are the same
 pub spelled_once : {p q : BodyParts} {e : ℕ → ℕ} → Spells p e → Spells q e → p.number ≡ q.number → p ≡ q

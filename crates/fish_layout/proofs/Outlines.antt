@@ -23,10 +23,13 @@ abbrev padding : BodyParts → List ℕ
 padding p = replicate (body_lines p * 4 - (1 + length (words_behind p))) 0
 
 -- behind the key entries stand the values
-pub drop_keys : (p : BodyParts) → drop (entry_at (length p.keys)) (body_words p) ≡ words_of_bytes (values_of p.keys) ++ (words_of_bytes p.payload ++ padding p)
+pub drop_keys : (p : BodyParts) →
+    drop (entry_at (length p.keys)) (body_words p) ≡
+    words_of_bytes (values_of p.keys) ++ (words_of_bytes p.payload ++ padding p)
 drop_keys p =
     let entries = key_words p.number 0 0 p.keys in
-    let behind : entry_at (length p.keys) ≡ suc (length entries) = omega (arith, length-key_words p.number 0 0 p.keys) in
+    let behind : entry_at (length p.keys) ≡ suc (length entries) =
+    omega (arith, length-key_words p.number 0 0 p.keys) in
     ap (drop (entry_at (length p.keys))) (body_parted p)
     ∙ ap (λ n. drop n (body_header p ∷ (entries ++ after_keys p))) behind
     ∙ drop-append_seam entries (after_keys p)
@@ -48,14 +51,16 @@ drop_values p =
     ∙ drop-append_seam values (words_of_bytes p.payload ++ padding p)
 
 -- the bytes of the values, from a record's words
-pub body_values : {p : BodyParts} {ws : List ℕ} → IsBody p ws → bytes_in (drop (entry_at (length p.keys)) ws) (length (values_of p.keys)) ≡ values_of p.keys
+pub body_values : {p : BodyParts} {ws : List ℕ} → IsBody p ws →
+    bytes_in (drop (entry_at (length p.keys)) ws) (length (values_of p.keys)) ≡ values_of p.keys
 body_values {p} {ws} h =
     ap (λ b. bytes_in (drop (entry_at (length p.keys)) b) (length (values_of p.keys))) h.is
     ∙ ap (λ b. bytes_in b (length (values_of p.keys))) (drop_keys p)
     ∙ bytes_back (values_of p.keys) (words_of_bytes p.payload ++ padding p) (bytes_values 0 p.keys h.proper.keys)
 
 -- the bytes of the payload, from a record's words
-pub body_payload : {p : BodyParts} {ws : List ℕ} → IsBody p ws → bytes_in (drop (payload_place p) ws) (length p.payload) ≡ p.payload
+pub body_payload : {p : BodyParts} {ws : List ℕ} → IsBody p ws →
+    bytes_in (drop (payload_place p) ws) (length p.payload) ≡ p.payload
 body_payload {p} {ws} h =
     ap (λ b. bytes_in (drop (payload_place p) b) (length p.payload)) h.is
     ∙ ap (λ b. bytes_in b (length p.payload)) (drop_values p)
@@ -70,7 +75,8 @@ pub body_room : {p : BodyParts} {ws : List ℕ} → IsBody p ws → payload_plac
 body_room {p} {ws} h = omega (arith, ap length h.is, length-body_words p, length-words_behind p)
 
 -- the last key entry says where the values end
-last_key : {p : BodyParts} {ws : List ℕ} → IsBody p ws → (k : KeyPart) (n : ℕ) → n + 1 ≡ length p.keys → k ≡ get_or p.keys n k →
+last_key : {p : BodyParts} {ws : List ℕ} → IsBody p ws → (k : KeyPart) (n : ℕ) → n + 1 ≡ length p.keys →
+    k ≡ get_or p.keys n k →
     value_offset (get_or ws (3 * (n + 1)) 0) + value_size (get_or ws (3 * (n + 1)) 0) ≡ length (values_of p.keys)
 last_key {p} {ws} h k n last is =
     let says = body_key n k h (omega arith) is in
@@ -78,7 +84,15 @@ last_key {p} {ws} h k n last is =
     let word = ap (λ i. get_or ws i 0) place in
     let whole : values_of p.keys ≡ values_of (take n p.keys) ++ value_bytes k.value =
     ap values_of (sym (take_all (n + 1) p.keys (omega arith))) ∙ values_of-more p.keys n k (omega arith) is in
-    omega (arith, ap length whole, length-append (values_of (take n p.keys)) (value_bytes k.value), says.offset, says.size, ap value_offset word, ap value_size word)
+    omega (
+      arith,
+      ap length whole,
+      length-append (values_of (take n p.keys)) (value_bytes k.value),
+      says.offset,
+      says.size,
+      ap value_offset word,
+      ap value_size word,
+    )
 
 -- the bytes of the values, by the last key entry
 pub body_values_size : {p : BodyParts} {ws : List ℕ} → IsBody p ws → (n : ℕ) → n ≡ length p.keys → 0 < n →
@@ -86,7 +100,8 @@ pub body_values_size : {p : BodyParts} {ws : List ℕ} → IsBody p ws → (n : 
 body_values_size {p} {ws} h n size some =
     let key = some_element p.keys (n - 1) (omega arith) in
     let back : 3 * (n - 1 + 1) ≡ 3 * n = omega arith in
-    subst (λ i. value_offset (get_or ws i 0) + value_size (get_or ws i 0) ≡ length (values_of p.keys)) back (last_key h key.0 (n - 1) (omega arith) key.1)
+    subst (λ i. value_offset (get_or ws i 0) + value_size (get_or ws i 0) ≡ length (values_of p.keys)) back
+    (last_key h key.0 (n - 1) (omega arith) key.1)
 
 -- no keys have no values
 pub no_values : (ks : List KeyPart) → 0 ≡ length ks → length (values_of ks) ≡ 0
@@ -98,7 +113,8 @@ range_from : (ws : List ℕ) (n : ℕ) → take (length ws - n) (drop n ws) ≡ 
 range_from ws n = take_all (length ws - n) (drop n ws) (omega (arith, length-drop n ws))
 
 -- the payload, as the outline places it
-pub outline_payload : {p : BodyParts} {ws : List ℕ} {o : Outline} → IsBody p ws → IsOutline p o → (n : ℕ) → n ≡ 1 + 3 * o.keys + words_for o.values →
+pub outline_payload : {p : BodyParts} {ws : List ℕ} {o : Outline} → IsBody p ws → IsOutline p o → (n : ℕ) →
+    n ≡ 1 + 3 * o.keys + words_for o.values →
     bytes_in (take (length ws - n) (drop n ws)) o.payload ≡ p.payload
 outline_payload {p} {ws} {o} h is n at =
     let place : n ≡ payload_place p = omega (arith, is.keys, is.values) in
@@ -108,7 +124,8 @@ outline_payload {p} {ws} {o} h is n at =
     ∙ body_payload h
 
 -- the values, as the outline places them
-pub outline_values : {p : BodyParts} {ws : List ℕ} {o : Outline} → IsBody p ws → IsOutline p o → (n : ℕ) → n ≡ 1 + 3 * o.keys →
+pub outline_values : {p : BodyParts} {ws : List ℕ} {o : Outline} → IsBody p ws → IsOutline p o → (n : ℕ) →
+    n ≡ 1 + 3 * o.keys →
     bytes_in (take (length ws - n) (drop n ws)) o.values ≡ values_of p.keys
 outline_values {p} {ws} {o} h is n at =
     let place : n ≡ entry_at (length p.keys) = omega (arith, is.keys) in

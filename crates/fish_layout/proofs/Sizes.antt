@@ -11,9 +11,11 @@ use Rattle.fish_layout.specs.declared.parts.BodyParts.{BodyParts}
 use Rattle.fish_layout.specs.declared.parts.KeyPart.{KeyPart}
 
 -- a key entry has three words
-pub length-key_words : (number place offset : ℕ) (ks : List KeyPart) → length (key_words number place offset ks) ≡ 3 * length ks
+pub length-key_words : (number place offset : ℕ) (ks : List KeyPart) →
+    length (key_words number place offset ks) ≡ 3 * length ks
 length-key_words number place offset [] = refl
-length-key_words number place offset (k ∷ ks) = omega (arith, length-key_words number (place + 1) (offset + length (value_bytes k.value)) ks)
+length-key_words number place offset (k ∷ ks) =
+    omega (arith, length-key_words number (place + 1) (offset + length (value_bytes k.value)) ks)
 
 -- eight bytes a word
 pub length-words_of_bytes : (b : List ℕ) → length (words_of_bytes b) ≡ words_for (length b)
@@ -35,10 +37,17 @@ few_keys least (k ∷ ks) h keys = omega (arith, few_keys (k.id + 1) ks (omega (
 pub few_value_bytes : (least : ℕ) (ks : List KeyPart) → AreProperKeys least ks → length (values_of ks) ≤ 256 * length ks
 few_value_bytes least [] keys = omega arith
 few_value_bytes least (k ∷ ks) keys =
-    omega (arith, length-append (value_bytes k.value) (values_of ks), few_bytes k.value keys.2, few_value_bytes (k.id + 1) ks keys.3)
+    omega (
+      arith,
+      length-append (value_bytes k.value) (values_of ks),
+      few_bytes k.value keys.2,
+      few_value_bytes (k.id + 1) ks keys.3,
+    )
 
 -- how many words stand behind the header, without the padding
-pub length-words_behind : (p : BodyParts) → length (words_behind p) ≡ 3 * length p.keys + words_for (length (values_of p.keys)) + words_for (length p.payload)
+pub length-words_behind : (p : BodyParts) →
+    length (words_behind p) ≡
+    3 * length p.keys + words_for (length (values_of p.keys)) + words_for (length p.payload)
 length-words_behind p =
     let keys = key_words p.number 0 0 p.keys in
     let values = words_of_bytes (values_of p.keys) in

@@ -13,7 +13,8 @@ use Rattle.fish_layout.proofs.Sizes.{few_keys_of, length-body_words}
 pub use Rattle.fish_layout.proofs.Sizes.{few_lines, roomy, some_lines}
 
 -- the header of proper parts has room for each of its fields
-pub header_fits : (p : BodyParts) → IsProper p → FitHeader (body_lines p) (form_code p.form) (length p.keys) p.lane p.version (length p.payload)
+pub header_fits : (p : BodyParts) → IsProper p →
+    FitHeader (body_lines p) (form_code p.form) (length p.keys) p.lane p.version (length p.payload)
 header_fits p h =
     record {
       lines_fit = omega (arith, few_lines p h);
@@ -60,31 +61,37 @@ spelled_length {p} {e} s = ap length_of (spelled_head s) ∙ length_of-header (h
 -- ---- bodies and what they spell
 
 -- a record's words, cleared, are those of its parts with no previous node
-cleared_body_at : (p : BodyParts) → IsProper p → (i : ℕ) → body_of (body_words p) i ≡ get_or (body_words (relinked (λ _. 0) p)) i 0
+cleared_body_at : (p : BodyParts) → IsProper p → (i : ℕ) →
+    body_of (body_words p) i ≡ get_or (body_words (relinked (λ _. 0) p)) i 0
 cleared_body_at p h i =
     let f : ℕ → ℕ = λ j. get_or (body_words p) j 0 in
     let lines : lines_of (f 0) ≡ body_lines p = ap lines_of (body_head p) ∙ lines_of-header (header_fits p h) in
     let keys : keys_of (f 0) ≡ length p.keys = ap keys_of (body_head p) ∙ keys_of-header (header_fits p h) in
-    let stays : i ≤ lines_of (f 0) * 4 - 1 → ¬ IsKeyWord (keys_of (f 0)) i → cleared f i ≡ get_or (body_words (relinked (λ _. 0) p)) i 0 =
-    λ within other. cleared_at f i within other ∙ sym (relinked_at (λ _. 0) p i (subst (λ n. ¬ IsKeyWord n i) keys other)) in
+    let stays : i ≤ lines_of (f 0) * 4 - 1 → ¬ IsKeyWord (keys_of (f 0)) i →
+    cleared f i ≡ get_or (body_words (relinked (λ _. 0) p)) i 0 =
+    λ within other. cleared_at f i within other
+    ∙ sym (relinked_at (λ _. 0) p i (subst (λ n. ¬ IsKeyWord n i) keys other)) in
     elim (dec_le i (lines_of (f 0) * 4 - 1)) [
       | yes within ↦ (elim (dec_le i (3 * keys_of (f 0))) [
         | yes entry ↦ (elim (ℕ_discrete (i % 3) 1) [
-          | yes first ↦ cleared_key f i within (entry, first) ∙ sym (relinked_key (λ _. 0) p i (subst (λ n. IsKeyWord n i) keys (entry, first)))
+          | yes first ↦ cleared_key f i within (entry, first)
+              ∙ sym (relinked_key (λ _. 0) p i (subst (λ n. IsKeyWord n i) keys (entry, first)))
           | no other ↦ stays within (λ key. other key.1)
         ])
         | no past ↦ stays within (λ key. past key.0)
       ])
       | no behind ↦
           cleared_behind f i (omega arith)
-          ∙ sym (get_or_past (body_words (relinked (λ _. 0) p)) i 0 (omega (arith, length-body_words (relinked (λ _. 0) p), relinked_lines (λ _. 0) p)))
+          ∙ sym (get_or_past (body_words (relinked (λ _. 0) p)) i 0
+          (omega (arith, length-body_words (relinked (λ _. 0) p), relinked_lines (λ _. 0) p)))
     ]
 
 -- a record spells its parts, with no previous node
 pub spelled_body : {p : BodyParts} (ws : List ℕ) → IsBody p ws → Spells (unlinked p) (body_of ws)
 spelled_body {p} ws h =
     let same : (i : ℕ) → body_of ws i ≡ get_or (body_words (unlinked p)) i 0 =
-    λ i. ap (λ b. body_of b i) h.is ∙ cleared_body_at p h.proper i ∙ ap (λ q. get_or (body_words q) i 0) (unlinked_is p) in
+    λ i. ap (λ b. body_of b i) h.is ∙ cleared_body_at p h.proper i
+    ∙ ap (λ q. get_or (body_words q) i 0) (unlinked_is p) in
     record {
       proper = subst IsProper (unlinked_is p) (relinked_proper (λ _. 0) p h.proper);
       unlinked = AreUnlinked-unlink p.keys;
@@ -92,7 +99,8 @@ spelled_body {p} ws h =
     }
 
 -- words that spell parts are a record of these parts but for the previous nodes
-pub body_spelled : {p : BodyParts} (ws : List ℕ) → length ws ≡ body_lines p * 4 → Spells p (body_of ws) → (q : BodyParts) × IsBody q ws × (unlinked q ≡ p)
+pub body_spelled : {p : BodyParts} (ws : List ℕ) → length ws ≡ body_lines p * 4 → Spells p (body_of ws) →
+    (q : BodyParts) × IsBody q ws × (unlinked q ≡ p)
 body_spelled {p} ws size s =
     let f : ℕ → ℕ = λ j. get_or ws j 0 in
     let r : ℕ → ℕ = λ c. get_or ws (1 + 3 * c) 0 in
@@ -101,7 +109,8 @@ body_spelled {p} ws size s =
     let keys : keys_of (f 0) ≡ length p.keys = ap keys_of (sym (cleared_head f)) ∙ spelled_keys s in
     let stays : (i : ℕ) → i < length ws → ¬ IsKeyWord (length p.keys) i → f i ≡ get_or (body_words q) i 0 =
     λ i within other.
-    sym (cleared_at f i (omega arith) (subst (λ n. ¬ IsKeyWord n i) (sym keys) other)) ∙ s.words i ∙ sym (relinked_at r p i other) in
+    sym (cleared_at f i (omega arith) (subst (λ n. ¬ IsKeyWord n i) (sym keys) other)) ∙ s.words i
+    ∙ sym (relinked_at r p i other) in
     let same : (i : ℕ) → i < length ws → f i ≡ get_or (body_words q) i 0 =
     λ i within. elim (dec_le i (3 * length p.keys)) [
       | yes entry ↦ (elim (ℕ_discrete (i % 3) 1) [
@@ -117,7 +126,8 @@ body_spelled {p} ws size s =
     } in
     let back : unlinked q ≡ p =
     sym (unlinked_is q)
-    ∙ ap (λ keys. record p { keys = keys }) (relink-relink (λ _. 0) r 0 p.keys ∙ relink-none 0 p.keys ∙ unlink-unlinked p.keys s.unlinked) in
+    ∙ ap (λ keys. record p { keys = keys })
+    (relink-relink (λ _. 0) r 0 p.keys ∙ relink-none 0 p.keys ∙ unlink-unlinked p.keys s.unlinked) in
     (q, body, back)
 
 -- the header's word says the fields of the parts

@@ -25,13 +25,15 @@ bytes_more : (x : ℕ) (b : List ℕ) → x < 256 → AreBytes b → AreBytes (x
 bytes_more x b h of_b zero = h
 bytes_more x b h of_b (suc i) = of_b i
 
--- two, three and four bytes
+-- two bytes
 bytes_two : (x y : ℕ) → x < 256 → y < 256 → AreBytes (x ∷ y ∷ [])
 bytes_two x y hx hy = bytes_more x (y ∷ []) hx (bytes_more y [] hy bytes_none)
 
+-- three bytes
 bytes_three : (x y z : ℕ) → x < 256 → y < 256 → z < 256 → AreBytes (x ∷ y ∷ z ∷ [])
 bytes_three x y z hx hy hz = bytes_more x (y ∷ z ∷ []) hx (bytes_two y z hy hz)
 
+-- four bytes
 bytes_four : (x y z u : ℕ) → x < 256 → y < 256 → z < 256 → u < 256 → AreBytes (x ∷ y ∷ z ∷ u ∷ [])
 bytes_four x y z u hx hy hz hu = bytes_more x (y ∷ z ∷ u ∷ []) hx (bytes_three y z u hy hz hu)
 
@@ -63,8 +65,10 @@ bytes_encode c h =
     (λ _. bytes_chosen (ltb c 2048) _ _
     (λ e. let low = below c 2048 e in bytes_two (192 + c / 64) (next c) (omega arith) (next_below c))
     (λ _. bytes_chosen (ltb c 65536) _ _
-    (λ e. let low = below c 65536 e in bytes_three (224 + c / 4096) (next (c / 64)) (next c) (omega arith) (next_below (c / 64)) (next_below c))
-    (λ _. bytes_four (240 + c / 262144) (next (c / 4096)) (next (c / 64)) (next c) (omega arith) (next_below (c / 4096)) (next_below (c / 64)) (next_below c))))
+    (λ e. let low = below c 65536 e in
+    bytes_three (224 + c / 4096) (next (c / 64)) (next c) (omega arith) (next_below (c / 64)) (next_below c))
+    (λ _. bytes_four (240 + c / 262144) (next (c / 4096)) (next (c / 64)) (next c) (omega arith)
+    (next_below (c / 4096)) (next_below (c / 64)) (next_below c))))
 
 -- a character is below 0x110000
 scalar_below : (c : ℕ) → scalar c ≡ true → c < 1114112
@@ -94,7 +98,8 @@ byte_at_below (suc i) n = mod_below (n / 256 ^ suc i) 256 (omega arith)
 -- the bytes of a number
 bytes_number : (n : ℕ) → AreBytes (to_le_bytes w64 n)
 bytes_number n =
-    bytes_joined (byte_at 0 n ∷ byte_at 1 n ∷ byte_at 2 n ∷ byte_at 3 n ∷ []) (byte_at 4 n ∷ byte_at 5 n ∷ byte_at 6 n ∷ byte_at 7 n ∷ [])
+    bytes_joined (byte_at 0 n ∷ byte_at 1 n ∷ byte_at 2 n ∷ byte_at 3 n ∷ [])
+    (byte_at 4 n ∷ byte_at 5 n ∷ byte_at 6 n ∷ byte_at 7 n ∷ [])
     (bytes_four _ _ _ _ (byte_at_below 0 n) (byte_at_below 1 n) (byte_at_below 2 n) (byte_at_below 3 n))
     (bytes_four _ _ _ _ (byte_at_below 4 n) (byte_at_below 5 n) (byte_at_below 6 n) (byte_at_below 7 n))
 
@@ -108,4 +113,5 @@ bytes_value (kind.Text s) h = bytes_text s h.1
 -- the bytes of the values of keys
 pub bytes_values : (least : ℕ) (ks : List KeyPart) → AreProperKeys least ks → AreBytes (values_of ks)
 bytes_values least [] h = bytes_none
-bytes_values least (k ∷ ks) h = bytes_joined (value_bytes k.value) (values_of ks) (bytes_value k.value h.2) (bytes_values (k.id + 1) ks h.3)
+bytes_values least (k ∷ ks) h =
+    bytes_joined (value_bytes k.value) (values_of ks) (bytes_value k.value h.2) (bytes_values (k.id + 1) ks h.3)

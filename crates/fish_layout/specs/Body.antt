@@ -12,7 +12,8 @@ use Rattle.fish_layout.specs.declared.parts.KeyPart.{KeyPart}
 
 -- ---- key entries
 
--- the second word of a key entry: the record's number in bits 0 to 27, the definition's id in 28 to 35, the entry's place in 36 to 44
+-- the second word of a key entry: the record's number in bits 0 to 27, the definition's id in 28 to 35, the
+-- entry's place in 36 to 44
 abbrev pub entry_word : ℕ → ℕ → ℕ → ℕ
 entry_word number id place = number + id * 2 ^ 28 + place * 2 ^ 36
 
@@ -28,7 +29,8 @@ value_word v offset = packed_value (kind_code v) (length (value_bytes v)) offset
 abbrev pub key_words : ℕ → ℕ → ℕ → List KeyPart → List ℕ
 key_words number place offset [] = []
 key_words number place offset (k ∷ ks) =
-    k.prev ∷ entry_word number k.id place ∷ value_word k.value offset ∷ key_words number (place + 1) (offset + length (value_bytes k.value)) ks
+    k.prev ∷ entry_word number k.id place ∷ value_word k.value offset
+    ∷ key_words number (place + 1) (offset + length (value_bytes k.value)) ks
 
 -- the values' bytes, one after the other
 abbrev pub values_of : List KeyPart → List ℕ

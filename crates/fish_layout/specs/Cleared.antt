@@ -26,7 +26,8 @@ IsNumberWord n i = (i ≤ 3 * n) × (i % 3 ≡ 2)
 -- the words of a region with the first words of its key entries put to 0, and 0 behind its lines
 unfoldable pub cleared : (ℕ → ℕ) → ℕ → ℕ
 cleared f i =
-    choose (dec_le i (lines_of (f 0) * 4 - 1)) (choose (dec_le i (3 * keys_of (f 0))) (choose (ℕ_discrete (i % 3) 1) 0 (f i)) (f i)) 0
+    choose (dec_le i (lines_of (f 0) * 4 - 1))
+    (choose (dec_le i (3 * keys_of (f 0))) (choose (ℕ_discrete (i % 3) 1) 0 (f i)) (f i)) 0
 
 -- the same of a list of words
 abbrev pub body_of : List ℕ → ℕ → ℕ

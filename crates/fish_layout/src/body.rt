@@ -64,7 +64,8 @@ fn renumber_keys(words: &mut Vec<u64>, keys: usize, number: u32)
     requires number { number < 2 ^ 28 }
     ensures len { length words.new.items ≡ length words.old.items }
     ensures others { (i : ℕ) → ¬ (IsNumberWord keys i) → slice_index words.new.items i ≡ slice_index words.old.items i }
-    ensures entries { (i : ℕ) → IsNumberWord keys i → slice_index words.new.items i ≡ renumbered (slice_index words.old.items i) number }
+    ensures entries { (i : ℕ) → IsNumberWord keys i →
+        slice_index words.new.items i ≡ renumbered (slice_index words.old.items i) number }
 {
     for place in 0..keys {
         let at = 2 + 3 * place;

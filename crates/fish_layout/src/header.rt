@@ -46,7 +46,8 @@ pub fn header_of(word: u64) -> Option<Header>
 
 /// What the header of a record of this form says, or none where the word is no such header.
 fn read_record_header(word: u64, form: Form) -> Option<Header>
-    ensures { MatchOption result (¬ ((h : Header) × IsRecordHeader word form h)) (λ h. (h.form ≡ Some form) × IsRecordHeader word form h) }
+    ensures { MatchOption result (¬ ((h : Header) × IsRecordHeader word form h))
+        (λ h. (h.form ≡ Some form) × IsRecordHeader word form h) }
 {
     let header = Header {
         lines: lines_in(word),

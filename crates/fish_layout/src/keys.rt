@@ -22,7 +22,8 @@ pub(crate) fn read_keys(
 ) -> Result<Option<KeyParts>, AllocError>
     requires few { count < 2 ^ 9 }
     requires room { 3 * count < length words.now }
-    ensures keys { IfOk result (λ o. (p : BodyParts) → IsBody p words.now → count ≡ length p.keys → values.now ≡ values_of p.keys → o ≡ Some p.keys) }
+    ensures keys { IfOk result (λ o. (p : BodyParts) → IsBody p words.now → count ≡ length p.keys →
+        values.now ≡ values_of p.keys → o ≡ Some p.keys) }
     ensures count { IfOk result (λ o. IfSome o (λ ks. length ks ≡ count)) }
 {
     let mut keys = Sequence::new(alloc);
@@ -44,7 +45,8 @@ fn read_key(
 ) -> Result<Option<KeyPart>, AllocError>
     requires few { place < 2 ^ 9 }
     requires room { 3 * place + 3 < length words.now }
-    ensures { IfOk result (λ o. (p : BodyParts) (k : KeyPart) → IsBody p words.now → values.now ≡ values_of p.keys → place < length p.keys → k ≡ slice_index_or p.keys place k → o ≡ Some k) }
+    ensures { IfOk result (λ o. (p : BodyParts) (k : KeyPart) → IsBody p words.now → values.now ≡ values_of p.keys →
+        place < length p.keys → k ≡ slice_index_or p.keys place k → o ≡ Some k) }
 {
     let at = 1 + 3 * place;
     let third = words[at + 2];
@@ -65,7 +67,8 @@ fn read_key(
 
 /// The value of a kind with these bytes, or none where there can be none.
 fn read_value(alloc: Global, kind: u64, bytes: &[u8]) -> Result<Option<Value>, AllocError>
-    ensures { IfOk result (λ o. (v : Value) → IsProperValue v → kind ≡ kind_code v → bytes.now ≡ value_bytes v → o ≡ Some v) }
+    ensures { IfOk result (λ o. (v : Value) → IsProperValue v → kind ≡ kind_code v →
+        bytes.now ≡ value_bytes v → o ≡ Some v) }
 {
     match kind {
         0 => Ok(read_truth(bytes)),

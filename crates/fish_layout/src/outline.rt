@@ -50,7 +50,8 @@ impl Outline {
 
 /// How a record is divided, or none where the words are too few for any.
 pub(crate) fn outline_of(words: &[u64]) -> Option<Outline>
-    ensures { MatchOption result (¬ ((p : BodyParts) × IsBody p words.now)) (λ o. HasRoom o words.now × ((p : BodyParts) → IsBody p words.now → IsOutline p o)) }
+    ensures { MatchOption result (¬ ((p : BodyParts) × IsBody p words.now))
+        (λ o. HasRoom o words.now × ((p : BodyParts) → IsBody p words.now → IsOutline p o)) }
 {
     if words.is_empty() {
         return None;

@@ -50,7 +50,8 @@ pub fn read_payload(alloc: Global, words: &[u64]) -> Result<Payload, AllocError>
 /// The parts of the record that words are, or none where they are no record. The number of a
 /// record with no key stands nowhere in its words, and is given as 0.
 pub fn read_body(alloc: Global, words: &[u64]) -> Result<Option<BodyParts>, AllocError>
-    ensures parts { IfOk result (λ o. MatchOption o (¬ ((p : BodyParts) × IsBody p words.now)) (λ p. IsBody p words.now)) }
+    ensures parts { IfOk result (λ o.
+        MatchOption o (¬ ((p : BodyParts) × IsBody p words.now)) (λ p. IsBody p words.now)) }
     ensures number { IfOk result (λ o. IfSome o (λ p. length p.keys ≡ 0 → p.number ≡ 0)) }
 {
     let Some(parts) = read_parts(alloc, words)? else {
@@ -65,7 +66,8 @@ pub fn read_body(alloc: Global, words: &[u64]) -> Result<Option<BodyParts>, Allo
 
 /// The one candidate for the parts of a record with these words.
 fn read_parts(alloc: Global, words: &[u64]) -> Result<Option<BodyParts>, AllocError>
-    ensures found { IfOk result (λ o. (p : BodyParts) → IsBody p words.now → (c : BodyParts) × (o ≡ Some c) × IsBody c words.now) }
+    ensures found { IfOk result (λ o. (p : BodyParts) → IsBody p words.now →
+        (c : BodyParts) × (o ≡ Some c) × IsBody c words.now) }
     ensures number { IfOk result (λ o. IfSome o (λ p. length p.keys ≡ 0 → p.number ≡ 0)) }
 {
     let Some(outline) = outline_of(words) else {

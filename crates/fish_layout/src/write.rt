@@ -124,7 +124,8 @@ fn push_key(
 ) -> Result<(), AllocError>
     requires value { IsProperValue key.now.value }
     requires offset { offset < 2 ^ 18 }
-    ensures { OnOk result (words.new.items ≡ words.old.items ++ (key.now.prev ∷ entry ∷ value_word key.now.value offset ∷ [])) }
+    ensures { OnOk result (words.new.items ≡ words.old.items ++
+        (key.now.prev ∷ entry ∷ value_word key.now.value offset ∷ [])) }
 {
     words.push(key.prev)?;
     words.push(entry)?;

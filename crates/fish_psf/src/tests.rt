@@ -303,7 +303,11 @@ fn payloads_of_both_forms(rt: HostRuntime) -> Result<(), Fail> {
         (Form::Csv, b"a\nb", none),
         (Form::Csv, b"a,\xff", none),
         (Form::Csv, too_long.as_slice(), long),
-        (Form::Json, b"{\"$1\":1,\"$2\":\"x\"}", "3 1;4 \"x\";9 true;"),
+        (
+            Form::Json,
+            b"{\"$1\":1,\"$2\":\"x\"}",
+            "3 1;4 \"x\";9 true;",
+        ),
         (Form::Json, b"[1]", none),
         (Form::Json, b"{", none),
         (Form::Json, too_long.as_slice(), long),

@@ -10,7 +10,7 @@ use Rattle.fish_rule.proofs.Bodies.{high-pack, low-pack, tail_is}
 use Rattle.fish_rule.proofs.Bounds.{ends_within, starts_above}
 use Rattle.fish_rule.proofs.Claims.{claim_kept}
 use Rattle.fish_rule.proofs.Common.{all_among, within_list}
-use Rattle.fish_rule.proofs.Learns.{end_kept, end_rests, learns, lines_at, look_alone, look_kept, look_known}
+use Rattle.fish_rule.proofs.Learns.{end_counted, end_settled, end_kept, end_rests, learns, lines_at, look_alone, look_kept, look_known}
 use Rattle.fish_rule.proofs.OwnWords.{flight_is, store_kept, stored_place}
 use Rattle.fish_rule.proofs.Publishes.{publish_kept}
 use Rattle.fish_rule.proofs.Room.{few_lines, few_numbers, few_slots}
@@ -157,5 +157,7 @@ end_allowed given k same size id me about = allowed given k same size id me 0 (Î
     let kept = end_kept k w r id me.0 at x refl refl in
     (v', loaded_words k ws (set vs id v') 0 kept, record {
       told = record { view = refl; held = refl; stands = stands k _ id v' kept about (there vs id me.0 v' at) };
+      counted = end_counted k w r id me.0 at x refl;
+      settled = end_settled k w r id me.0 at x refl;
       rests = Î» main all. end_rests k w r id me.0 at x refl refl main all;
     }))

@@ -8,7 +8,7 @@ use Rattle.fish_layout.specs.Cleared.{choose}
 use Rattle.fish_rule.proofs.Bodies.{high-pack, low-pack}
 use Rattle.fish_rule.specs.Parts.{Facts, Fits, Flies, Limit, Owns, Regions, Rests, ShutOk, Space, quotas}
 use Rattle.fish_rule.specs.Rule.{Rule}
-use Rattle.fish_rule.specs.Start.{IsEmpty}
+use Rattle.fish_rule.specs.Start.{IsEmpty, empty_world}
 use Rattle.fish_rule.specs.Table.{Ruled, Stands, first_view}
 use Rattle.fish_rule.specs.Views.{Each}
 use Rattle.fish_rule.specs.World.{World, area, dir_at, high, log_at, log_size, low, slots, world}
@@ -34,34 +34,46 @@ at_one v u (suc j) at = absurd (some-ne-none u (sym at))
 each_one : (P : View → Type 0) (v : View) → P v → Each P (v ∷ [])
 each_one P v here j u at = subst P (at_one v u j at).1 here
 
-module _ (k : Key) (fits : Fits k) (ws : List ℕ) (empty : IsEmpty k ws) where
-  -- the world at the start
-  abbrev w : World
-  w = world k ws (first_view k ∷ [])
-
+module _ (k : Key) (ws : List ℕ) (fits : Fits k) (empty : IsEmpty k ws) where
   -- the tail as its two parts
   packed : slice_index ws 0 ≡ k.line + k.number * 68719476736
   packed = (let e : k.number * 68719476736 + k.line ≡ k.line + k.number * 68719476736 = omega arith in empty.tail ∙ e)
 
   -- its number is the key's
-  count_is : w.count ≡ k.number
+  count_is : high (slice_index ws 0) ≡ k.number
   count_is = (let a = fits.some_lines in let b = fits.low_end in ap high packed ∙ high-pack k.number k.line (omega arith))
 
   -- and its line
-  line_is : w.line ≡ k.line
+  line_is : low (slice_index ws 0) ≡ k.line
   line_is = (let a = fits.some_lines in let b = fits.low_end in ap low packed ∙ low-pack k.number k.line (omega arith))
 
-  -- no number is claimed
-  none : (n : ℕ) → k.number ≤ n → n < w.count → ⊥
-  none n above below = (let c = count_is in absurd (omega arith))
-
   -- no directory word is set
-  dir_zero : (n : ℕ) → w.dir n ≡ 0
+  dir_zero : (n : ℕ) → area ws (dir_at k) k.number (slots k) n ≡ 0
   dir_zero n = area-zero ws (dir_at k) k.number (slots k) (omega arith) empty.zeros n
 
   -- and no word of the log
-  log_zero : (p : ℕ) → w.log p ≡ 0
+  log_zero : (p : ℕ) → area ws (log_at k) (k.line * 4) (log_size k) p ≡ 0
   log_zero p = area-zero ws (log_at k) (k.line * 4) (log_size k) (omega arith) empty.zeros p
+
+  -- the words spell the empty world
+  pub empty_words : world k ws (first_view k ∷ []) ≡ empty_world k
+  empty_words = λ j. record {
+    count = count_is j;
+    line = line_is j;
+    settled = empty.zeros 1 (omega arith) j;
+    dir = λ n. dir_zero n j;
+    log = λ p. log_zero p j;
+    views = first_view k ∷ [];
+  }
+
+module _ (k : Key) (fits : Fits k) where
+  -- the world at the start
+  abbrev w : World
+  w = empty_world k
+
+  -- no number is claimed
+  none : (n : ℕ) → k.number ≤ n → n < k.number → ⊥
+  none n above below = absurd (omega arith)
 
   -- there is no region
   abbrev start : ℕ → ℕ
@@ -78,9 +90,9 @@ module _ (k : Key) (fits : Fits k) (ws : List ℕ) (empty : IsEmpty k ws) where
   -- no number is claimed, so no line is
   regions : Regions k w.count w.line start
   regions = record {
-    some = (let c = count_is in omega arith);
+    some = omega arith;
     first = refl;
-    last = sym line_is;
+    last = refl;
     grows = λ n above below. absurd (none n above below);
     small = λ n above below. absurd (none n above below);
   }
@@ -93,9 +105,9 @@ module _ (k : Key) (fits : Fits k) (ws : List ℕ) (empty : IsEmpty k ws) where
     flying = λ n above below set. absurd (none n above below);
     flights = each_one (λ v. Flies k w.count w.dir w.log start lane_of v.lane v.flight) (first_view k) tt;
     alone = λ i j v u n at_i at_j f g. (at_one (first_view k) v i at_i).0 ∙ sym (at_one (first_view k) u j at_j).0;
-    dir_below = λ n _. dir_zero n;
-    dir_beyond = λ n _. dir_zero n;
-    log_beyond = λ p _. log_zero p;
+    dir_below = λ n _. refl;
+    dir_beyond = λ n _. refl;
+    log_beyond = λ p _. refl;
   }
 
   -- no claim ends past the log's end
@@ -103,10 +115,10 @@ module _ (k : Key) (fits : Fits k) (ws : List ℕ) (empty : IsEmpty k ws) where
   limit = record {
     first = k.number;
     above = omega arith;
-    within = (let c = count_is in omega arith);
+    within = omega arith;
     fits = fits.some_lines;
     past = λ n above below. absurd (none n above below);
-    few = (let c = count_is in let q : quotas quota 16 ≡ 16 = refl in omega arith);
+    few = (let q : quotas quota 16 ≡ 16 = refl in omega arith);
     may = λ j v at l has may. refl;
   }
 
@@ -122,20 +134,22 @@ module _ (k : Key) (fits : Fits k) (ws : List ℕ) (empty : IsEmpty k ws) where
       apart = λ i j v u l at_i at_j _ _. (at_one (first_view k) v i at_i).0 ∙ sym (at_one (first_view k) u j at_j).0;
       few = each_one (λ v. v.lane ≤ 16) (first_view k) (omega arith);
     };
-    tails = each_one (λ v. v.lane ≡ 1 → v.out ≡ [] → Rests w.count w.line v.tail) (first_view k) (λ _ _. (sym count_is, sym line_is));
+    tails = each_one (λ v. v.lane ≡ 1 → v.out ≡ [] → Rests w.count w.line v.tail) (first_view k) (λ _ _. (refl, refl));
     space = space;
     limit = limit;
+    settling = record { within = omega arith; below = λ n above below. absurd (omega arith) };
+    floors = each_one (λ v. v.learned.settled ≤ 0) (first_view k) (omega arith);
     own = each_one (λ v. Owns k w.count w.dir lane_of v.lane v.out v.own) (first_view k)
         (record { sound = λ o m. elim m [ ]; complete = λ o has stored. absurd (none o.number stored.above stored.below) });
     facts = each_one (λ v. Facts k w.count w.dir w.log start v.learned) (first_view k)
-        (record { counted = (let c = count_is in omega arith); found = tt; known = tt; records = tt });
+        (record { counted = omega arith; found = tt; known = tt; records = tt });
     shuts = each_one (λ v. ShutOk k w.count w.dir start v.shut) (first_view k) tt;
   }
 
 -- the table of an empty log meets the rule
 pub begins : (k : Key) → Fits k → (ws : List ℕ) → IsEmpty k ws → Ruled k (opening ws [] (first_view k))
-begins k fits ws empty = record { wide = empty.wide; rule = empty_rule k fits ws empty }
+begins k fits ws empty = record { wide = empty.wide; rule = subst (Rule k) (sym (empty_words k ws fits empty)) (empty_rule k fits) }
 
 -- the first pass's view stands
 pub first_stands : (k : Key) → Fits k → (ws : List ℕ) → IsEmpty k ws → Stands (first_view k)
-first_stands k fits ws empty = record { moment = world k ws (first_view k ∷ []); rule = empty_rule k fits ws empty; seat = 0; at = refl }
+first_stands k fits ws empty = record { moment = empty_world k; rule = empty_rule k fits; seat = 0; at = refl }

@@ -58,6 +58,7 @@ module _ (k : Key) (w : World) (r : Rule k w) (id : ℕ) (v : View) (at : get_el
   claim_final = record {
     counts = omega arith;
     lines = omega arith;
+    settles = omega arith;
     starts = old_start;
     lanes = old_lane;
     dirs = λ n h e. refl;
@@ -196,6 +197,8 @@ module _ (k : Key) (w : World) (r : Rule k w) (id : ℕ) (v : View) (at : get_el
         tails = each_set _ w.views id claimer (λ j u ne at_u main all. absurd (ne (sym (only_main w.views j id u v r.seats at_u at main all can.live)))) (λ main all. (refl, refl));
         space = space;
         limit = lim.1;
+        settling = record { within = (let h = r.settling.within in omega arith); below = r.settling.below };
+        floors = each_set _ w.views id claimer (λ j u ne at_u. r.floors j u at_u) (r.floors id v at);
         own = each_set _ w.views id claimer
             (λ j u ne at_u. owns_later k w claimed r.start start' r.lane_of lane_of' claim_final u.lane u.out u.own (r.own j u at_u) (λ o has h. stored_old o.lane o.number h))
             (owns_later k w claimed r.start start' r.lane_of lane_of' claim_final v.lane v.out v.own (r.own id v at) (λ o has h. stored_old o.lane o.number h));
@@ -204,3 +207,8 @@ module _ (k : Key) (w : World) (r : Rule k w) (id : ℕ) (v : View) (at : get_el
         shuts = each_set _ w.views id claimer (λ j u ne at_u. shut_later k w claimed r.start start' r.lane_of lane_of' claim_final u.shut (r.shuts j u at_u))
             (shut_later k w claimed r.start start' r.lane_of lane_of' claim_final v.shut (r.shuts id v at));
       }
+
+  -- and all that lasts
+  pub claim_lasts : Final r.start claim_kept.start r.lane_of claim_kept.lane_of w claimed
+  unfolding claim_kept
+  claim_lasts = claim_final

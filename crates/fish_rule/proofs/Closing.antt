@@ -7,7 +7,7 @@ use Rattle.fish_catalog.specs.declared.entry.Entry.{Entry}
 use Rattle.fish_catalog.specs.declared.entry.Entry.TheVariants as entry
 use Rattle.fish_rule.proofs.Common.{all_among}
 use Rattle.fish_rule.proofs.Extending.{extends_look, found_here, learns_both, learns_self}
-use Rattle.fish_rule.specs.Logs.{Extends, IsClosed, IsEntry, IsLog, Learns, Tells, TellsMark, TellsNext}
+use Rattle.fish_rule.specs.Logs.{Extends, IsClosed, IsClosedAt, IsEntry, IsLog, Learns, Tells, TellsMark, TellsNext}
 use Rattle.fish_rule.specs.Parts.{Facts, IsFound, IsKnown, IsRecorded, Owns, Rests}
 use Rattle.fish_rule.specs.Regions.{code}
 use Rattle.fish_rule.specs.Rule.{Rule}
@@ -19,6 +19,7 @@ use Rattle.fish_rule.specs.declared.view.Found.{Found}
 use Rattle.fish_rule.specs.declared.view.Key.{Key}
 use Rattle.fish_rule.specs.declared.view.Kind.{Kind}
 use Rattle.fish_rule.specs.declared.view.Kind.TheVariants.{Mark, Stored, Void}
+use Rattle.fish_rule.specs.declared.view.Own.{Own}
 use Rattle.fish_rule.specs.declared.view.View.{View}
 
 -- ---- one number
@@ -116,13 +117,28 @@ closes v entries x s alone tail told end =
         ends = ⊎_elim (λ (h : v.about.number + length entries ≡ high x). inl (h ∙ count))
             (λ (h : (v.about.number + length entries ≤ high x) × TellsMark v (v.about.number + length entries)). inr (h.1 v (learns_self v) w r s.seat s.at)) end;
       };
-      own = r.own s.seat v s.at;
+      owns = r.own s.seat v s.at;
       facts = r.facts s.seat v s.at;
     }
+
+-- the tail that the pass left is at or behind the table's first number
+pub tail_behind : (v : View) (x : ℕ) → Stands v → IsAlone v → v.tail ≡ Some (record { number = high x; line = low x }) → v.about.number ≤ high x
+tail_behind v x s alone tail =
+    let w : World = s.moment in
+    let r = s.rule in
+    let rests : Rests w.count w.line (Some (record { number = high x; line = low x })) = subst (Rests w.count w.line) tail (r.tails s.seat v s.at alone.main alone.all) in
+    let some_ = r.space.regions.some in
+    let count : high x ≡ w.count = rests.0 in
+    omega arith
 
 -- a log that is closed for a view is closed for one that knew less, and had the same lanes and records
 pub closed_before : (v u : View) (entries : List Entry) → Learns v u → u.lane ≡ v.lane → u.out ≡ v.out → u.own ≡ v.own → IsClosed u entries → IsClosed v entries
 closed_before v u entries learns lane out own h =
     let w : World = h.moment in
-    let r : Rule v.about w = subst (λ (z : Key). Rule z w) learns.about h.rule in
-    ?
+    let owns = subst (λ (z : ℕ × List ℕ × List Own). Owns u.about w.count w.dir h.rule.lane_of z.0 z.1 z.2) (λ i. (lane i, out i, own i)) h.owns in
+    let facts = facts_back v u u.about w.count w.dir w.log h.rule.start learns h.facts in
+    subst (λ (z : Key). IsClosedAt z v.lane v.out v.own v.learned entries) learns.about (record { moment = w; rule = h.rule; log = h.log; owns = owns; facts = facts })
+
+-- a pass that only learns stays alone
+pub alone_later : (v u : View) → Extends v u → IsAlone v → IsAlone u
+alone_later v u e alone = record { main = e.lane ∙ alone.main; all = e.out ∙ alone.all; idle = e.flight ∙ alone.idle }

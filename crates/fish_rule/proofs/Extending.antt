@@ -1,7 +1,7 @@
 -- Views that only learn.
 use Rattle.std.proofs.Common.{◌≡◌, ◌≢◌, ℕ, ◌+◌, ◌*◌, ◌<◌, ◌≤◌, zero, suc, List, refl, sym, ap, ◌∙◌, subst, inl, inr, ◌⊎◌, arith}
 use Rattle.fish_rule.specs.Logs.{Extends, Learns}
-use Rattle.fish_rule.specs.Steps.{after_look, after_read, found_after, kind_told}
+use Rattle.fish_rule.specs.Steps.{after_end, after_look, after_read, found_after, kind_told}
 use Rattle.fish_rule.specs.Views.{Among}
 use Rattle.fish_rule.specs.World.{high, low}
 use Rattle.fish_rule.specs.declared.view.Found.{Found}
@@ -88,3 +88,9 @@ extends_look v n lines x = record {
 pub found_here : (n lines x : ℕ) (found : List Found) → x ≢ 0 → Among (record { number = n; kind = kind_told (high x); line = low x; lines = lines }) (found_after n lines x found)
 found_here n lines zero found ne = absurd (ne refl)
 found_here n lines (suc x) found ne = inl refl
+
+-- ---- a load of the tail
+
+-- a count that has risen is learned
+pub learns_end : (v : View) (x : ℕ) → v.learned.count ≤ high x → Learns v (after_end v x)
+learns_end v x more = record { about = refl; count = more; found = λ x m. m; known = λ x m. m; records = λ x m. m }

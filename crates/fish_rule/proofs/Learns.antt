@@ -8,8 +8,8 @@ use Rattle.fish_rule.proofs.Frames.{alone_kept, flight_there, may_kept, one_view
 use Rattle.fish_rule.proofs.Kept.{published}
 use Rattle.fish_rule.specs.Parts.{Facts, Flies, InFlight, IsFinished, IsFound, IsKnown, Owns, Rests}
 use Rattle.fish_rule.specs.Regions.{code, dir_word, kind_of}
-use Rattle.fish_rule.specs.Rule.{Rule}
-use Rattle.fish_rule.specs.Steps.{CanLook, CanRead, IsAlone, after_end, after_look, after_read, found_after, kind_told}
+use Rattle.fish_rule.specs.Rule.{Final, Rule}
+use Rattle.fish_rule.specs.Steps.{CanLook, CanRead, IsAlone, after_end, after_look, after_read, after_settled, found_after, kind_told}
 use Rattle.fish_rule.specs.Views.{Among, Each, Has, HasFlight, IsFlightOf}
 use Rattle.fish_rule.specs.World.{World, body, high, low}
 use Rattle.fish_rule.specs.declared.view.Clock.{Clock}
@@ -28,9 +28,9 @@ module _ (k : Key) (w : World) (r : Rule k w) (id : ℕ) (v : View) (at : get_el
   learner l t c = record v { learned = l; tail = t; clock = c }
 
   -- a load keeps the rule where the new facts hold
-  pub learns : (l : Learned) (t : Option Position) (c : Clock) → (v.lane ≡ 1 → v.out ≡ [] → Rests w.count w.line t) → Facts k w.count w.dir w.log r.start l
+  unfoldable pub learns : (l : Learned) (t : Option Position) (c : Clock) → (v.lane ≡ 1 → v.out ≡ [] → Rests w.count w.line t) → Facts k w.count w.dir w.log r.start l → l.settled ≤ w.settled
       → Rule k (record w { views = set w.views id (learner l t c) })
-  learns l t c rests facts =
+  learns l t c rests facts floor =
       let v' : View = learner l t c in
       record {
         start = r.start;
@@ -59,6 +59,8 @@ module _ (k : Key) (w : World) (r : Rule k w) (id : ℕ) (v : View) (at : get_el
           few = r.limit.few;
           may = may_kept w.views id v v' at k.end r.quota refl refl (λ h. h) r.limit.may;
         };
+        settling = r.settling;
+        floors = each_set _ w.views id v' (λ j u ne at_u. r.floors j u at_u) floor;
         own = each_set _ w.views id v' (λ j u ne at_u. r.own j u at_u) (r.own id v at);
         facts = each_set _ w.views id v' (λ j u ne at_u. r.facts j u at_u) facts;
         shuts = each_set _ w.views id v' (λ j u ne at_u. r.shuts j u at_u) (r.shuts id v at);
@@ -75,11 +77,38 @@ module _ (k : Key) (w : World) (r : Rule k w) (id : ℕ) (v : View) (at : get_el
         found = h.found;
         known = h.known;
         records = h.records;
-      })
+      }) (r.floors id v at)
+
+  -- and all that lasts
+  pub end_lasts : (x : ℕ) (count : high x ≡ w.count) (line : low x ≡ w.line)
+      → Final r.start (end_kept x count line).start r.lane_of (end_kept x count line).lane_of w (record w { views = set w.views id (after_end v x) })
+  unfolding end_kept learns
+  end_lasts x count line = record { counts = omega arith; lines = omega arith; settles = omega arith; starts = λ m h. refl; lanes = λ m h. refl; dirs = λ m h e. refl; bodies = λ m h e. refl }
+
+  -- the count only rises
+  pub end_counted : (x : ℕ) → high x ≡ w.count → v.learned.count ≤ high x
+  end_counted x count = subst (λ (z : ℕ). v.learned.count ≤ z) (sym count) (r.facts id v at).counted
+
+  -- and is at or behind the settled number
+  pub end_settled : (x : ℕ) → high x ≡ w.count → v.learned.settled ≤ high x
+  end_settled x count = (let a = r.floors id v at in let b = r.settling.within in omega arith)
 
   -- while no lane is out, the tail is as it was left
   pub end_rests : (x : ℕ) → high x ≡ w.count → low x ≡ w.line → v.lane ≡ 1 → v.out ≡ [] → Rests (high x) (low x) v.tail
   end_rests x count line main all = subst (λ (z : ℕ × ℕ). Rests z.0 z.1 v.tail) (λ d. (sym count d, sym line d)) (r.tails id v at main all)
+
+  -- ---- load settled
+
+  -- a load of the settled number
+  pub settled_kept : Rule k (record w { views = set w.views id (after_settled v w.settled) })
+  settled_kept =
+      let h = r.facts id v at in
+      learns (record v.learned { settled = w.settled }) v.tail _ (r.tails id v at) (record { counted = h.counted; found = h.found; known = h.known; records = h.records }) (omega arith)
+
+  -- and all that lasts
+  pub settled_lasts : Final r.start settled_kept.start r.lane_of settled_kept.lane_of w (record w { views = set w.views id (after_settled v w.settled) })
+  unfolding settled_kept learns
+  settled_lasts = record { counts = omega arith; lines = omega arith; settles = omega arith; starts = λ n h. refl; lanes = λ n h. refl; dirs = λ n h e. refl; bodies = λ n h e. refl }
 
   -- ---- look
 
@@ -102,7 +131,7 @@ module _ (k : Key) (w : World) (r : Rule k w) (id : ℕ) (v : View) (at : get_el
         found = each x is;
         known = h.known;
         records = h.records;
-      })
+      }) (r.floors id v at)
     where
       each : (x : ℕ) → x ≡ w.dir n → Rattle.fish_rule.specs.Views.AllOf (IsFound k w.count w.dir r.start) (found_after n (lines_at n) x v.learned.found)
       each zero is = (r.facts id v at).found
@@ -119,6 +148,12 @@ module _ (k : Key) (w : World) (r : Rule k w) (id : ℕ) (v : View) (at : get_el
             line = sym f.line ∙ ap low (sym is);
             lines = (let e : r.start (suc n) ≡ r.start n + lines_at n = omega arith in e ∙ ap (λ (z : ℕ). z + lines_at n) (sym f.line ∙ ap low (sym is)));
           }, (r.facts id v at).found)
+
+  -- and all that lasts
+  pub look_lasts : (n x : ℕ) (can : CanLook v n) (about : v.about ≡ k) (is : x ≡ w.dir n)
+      → Final r.start (look_kept n x can about is).start r.lane_of (look_kept n x can about is).lane_of w (record w { views = set w.views id (after_look v n (lines_at n) x) })
+  unfolding look_kept learns
+  look_lasts n x can about is = record { counts = omega arith; lines = omega arith; settles = omega arith; starts = λ m h. refl; lanes = λ m h. refl; dirs = λ m h e. refl; bodies = λ m h e. refl }
 
   -- a number that was found has the word that it had
   pub look_known : (n : ℕ) (x : ℕ) → x ≡ w.dir n → (f : Found) → Among f v.learned.found → f.number ≡ n → x ≡ dir_word f.kind f.line

@@ -19,7 +19,9 @@ pub mod OwnWords
 pub mod Publishes
 pub mod Quotas
 pub mod Room
+pub mod Schedules
 pub mod Seating
+pub mod Settles
 pub mod Standing
 pub mod Words
 pub mod Worlds

@@ -17,7 +17,7 @@ use Rattle.fish_rule.proofs.Learns.{learns}
 use Rattle.fish_rule.proofs.Worlds.{area-in}
 use Rattle.fish_rule.specs.Parts.{Facts, IsFinished, IsFound, IsKnown}
 use Rattle.fish_rule.specs.Regions.{Holds, code, kind_of}
-use Rattle.fish_rule.specs.Rule.{Rule}
+use Rattle.fish_rule.specs.Rule.{Final, Rule}
 use Rattle.fish_rule.specs.Steps.{CanRead, after_read}
 use Rattle.fish_rule.specs.Table.{Ruled, Sat, Told, place_at, told_read}
 use Rattle.fish_rule.specs.Views.{Among}
@@ -101,6 +101,28 @@ module _ (k : Key) (w : World) (r : Rule k w) where
             can.plain;
       }
 
+module _ (k : Key) (w : World) (r : Rule k w) (id : ℕ) (v : View) (at : get_elem? w.views id ≡ some v) (x : Found) (o : ℕ) (can : CanRead v x o) where
+  -- the place of the word
+  abbrev pub read_place : ℕ
+  read_place = x.line * 4 + o
+
+  -- the view that has read it
+  abbrev pub reader : View
+  reader = after_read v read_place (w.log read_place)
+
+  -- what it knows holds
+  read_facts : Facts k w.count w.dir w.log r.start reader.learned
+  read_facts = (let h = r.facts id v at in record { counted = h.counted; found = h.found; known = (read_word_is k w r v x o h can, h.known); records = h.records })
+
+  -- a read keeps the rule
+  pub read_kept : Rule k (record w { views = set w.views id reader })
+  read_kept = learns k w r id v at reader.learned v.tail reader.clock (r.tails id v at) read_facts (r.floors id v at)
+
+  -- and all that lasts
+  pub read_lasts : Final r.start read_kept.start r.lane_of read_kept.lane_of w (record w { views = set w.views id reader })
+  unfolding read_kept learns
+  read_lasts = record { counts = omega arith; lines = omega arith; settles = omega arith; starts = λ n h. refl; lanes = λ n h. refl; dirs = λ n h e. refl; bodies = λ n h e. refl }
+
 -- a load of a word of a published region
 pub read_allowed : (given k : Key) → given ≡ k → (size id : ℕ) (me : Sat) (x : Found) (o i : ℕ) → me.0.about ≡ k → CanRead me.0 x o → i ≡ log_at k + (x.line * 4 + o - k.line * 4)
     → Allows (Ruled given) size id me i (λ n. n) (told_read (step size i 0 0 none) me)
@@ -118,11 +140,8 @@ read_allowed given k same size id me x o i about can is = allowed given k same s
     let end = kind-inside k.end (r.start x.number) (r.start (suc x.number)) (λ e. can.words (sym t.1 ∙ e)) in
     let here : word ≡ w.log p = ap (λ (z : ℕ). get_or ws z 0) is ∙ sym (area-in ws (log_at k) (k.line * 4) (log_size k) p (omega arith) (omega arith)) in
     let v' : View = after_read me.0 p word in
-    let known : IsKnown k w.count w.dir w.log r.start (record { place = p; value = word }) =
-        subst (λ (z : ℕ). IsKnown k w.count w.dir w.log r.start (record { place = p; value = z })) (sym here) (read_word_is k w r me.0 x o facts can) in
     let kept : Rule k (record w { views = set vs id v' }) =
-        learns k w r id me.0 at (record me.0.learned { known = record { place = p; value = word } ∷ me.0.learned.known }) me.0.tail v'.clock (r.tails id me.0 at)
-            (record { counted = facts.counted; found = facts.found; known = (known, facts.known); records = facts.records }) in
+        subst (λ (z : ℕ). Rule k (record w { views = set vs id (after_read me.0 p z) })) (sym here) (read_kept k w r id me.0 at x o can) in
     let index : place_at me.0.about i ≡ p = ap (λ (z : Key). place_at z i) about ∙ (omega arith) in
     (v', loaded_words k ws (set vs id v') i kept,
         subst (λ (z : ℕ). Told me (after_read me.0 z word) (v', me.1)) (sym index) (record { view = refl; held = refl; stands = stands k _ id v' kept about (there vs id me.0 v' at) })))

@@ -66,6 +66,7 @@ module _ (k : Key) (w : World) (r : Rule k w) (id : ℕ) (v : View) (at : get_el
   store_final = record {
     counts = omega arith;
     lines = omega arith;
+    settles = omega arith;
     starts = λ n h. refl;
     lanes = λ n h. refl;
     dirs = λ n h e. refl;
@@ -142,8 +143,15 @@ module _ (k : Key) (w : World) (r : Rule k w) (id : ℕ) (v : View) (at : get_el
       few = r.limit.few;
       may = may_kept w.views id v storer at k.end r.quota refl refl (λ h. (h.0, λ over. h.1 (subst (IsOver k.end) can.flying over))) r.limit.may;
     };
+    settling = r.settling;
+    floors = each_set _ w.views id storer (λ j u ne at_u. r.floors j u at_u) (r.floors id v at);
     own = each_set _ w.views id storer (λ j u ne at_u. r.own j u at_u) (r.own id v at);
     facts = each_set _ w.views id storer (λ j u ne at_u. facts_later k w stored r.start r.start r.lane_of r.lane_of store_final u.learned (r.facts j u at_u))
         (facts_later k w stored r.start r.start r.lane_of r.lane_of store_final v.learned (r.facts id v at));
     shuts = each_set _ w.views id storer (λ j u ne at_u. r.shuts j u at_u) (r.shuts id v at);
   }
+
+  -- and all that lasts
+  pub store_lasts : Final r.start store_kept.start r.lane_of store_kept.lane_of w stored
+  unfolding store_kept
+  store_lasts = store_final

@@ -15,7 +15,7 @@ use Rattle.fish_rule.proofs.Frames.{alone_kept, flight_there, may_kept}
 use Rattle.fish_rule.proofs.Kept.{code_some, facts_later, finished_later, flight_later, owns_later, published, shut_later, stored_before, stored_later}
 use Rattle.fish_rule.proofs.OwnWords.{flight_is}
 use Rattle.fish_rule.proofs.Worlds.{put-else, put-here}
-use Rattle.fish_rule.specs.Parts.{Facts, Flies, InFlight, IsFinished, IsFound, IsRecorded, IsShut, IsStoredBy, MayOverflow, Owns, ShutOk}
+use Rattle.fish_rule.specs.Parts.{Facts, Flies, InFlight, IsEntryWord, IsFinished, IsFound, IsRecorded, IsShut, IsStoredBy, MayOverflow, Owns, ShutOk}
 use Rattle.fish_rule.specs.Regions.{Holds, IsRecord, code, dir_word, kind_of, void_body}
 use Rattle.fish_rule.specs.Rule.{Final, Rule}
 use Rattle.fish_rule.specs.Steps.{IsReady, learned_after, own_after, records_after, shut_after, ticked}
@@ -98,6 +98,7 @@ module _ (k : Key) (w : World) (r : Rule k w) (id : ℕ) (v : View) (at : get_el
   publish_final = record {
     counts = omega arith;
     lines = omega arith;
+    settles = omega arith;
     starts = λ n h. refl;
     lanes = λ n h. refl;
     dirs = λ n h set_. dir_else n (is_other n set_);
@@ -274,6 +275,11 @@ module _ (k : Key) (w : World) (r : Rule k w) (id : ℕ) (v : View) (at : get_el
       few = r.limit.few;
       may = may_kept w.views id v publisher at k.end r.quota refl refl (may_before kind is_kind) r.limit.may;
     };
+    settling = record {
+      within = r.settling.within;
+      below = λ n above below. subst IsEntryWord (sym (dir_else n (is_other n (r.settling.below n above below).published))) (r.settling.below n above below);
+    };
+    floors = each_set _ w.views id publisher (λ j u ne at_u. r.floors j u at_u) (r.floors id v at);
     own = each_set _ w.views id publisher (λ j u ne at_u. others_own j u ne at_u) (own_own kind refl);
     facts = each_set _ w.views id publisher (λ j u ne at_u. facts_later k w publication r.start r.start r.lane_of r.lane_of publish_final u.learned (r.facts j u at_u)) own_facts;
     shuts = each_set _ w.views id publisher (λ j u ne at_u. shut_later k w publication r.start r.start r.lane_of r.lane_of publish_final u.shut (r.shuts j u at_u)) (own_shut kind refl);
@@ -287,3 +293,8 @@ module _ (k : Key) (w : World) (r : Rule k w) (id : ℕ) (v : View) (at : get_el
       fly : (n : ℕ) → k.number ≤ n → n < w.count → dir' n ≡ 0 → Dec (n ≡ f.number) → HasFlight n (set w.views id publisher)
       fly n above below unset (yes e) = absurd (published (dir' f.number) kind kind_here (ap dir' (sym e) ∙ unset))
       fly n above below unset (no ne) = flight_there w.views id v publisher at n (λ h. absurd (ne (sym (subst (IsFlightOf n) flying h)))) (r.space.flying n above below (sym (dir_else n ne) ∙ unset))
+
+  -- and all that lasts
+  pub publish_lasts : Final r.start publish_kept.start r.lane_of publish_kept.lane_of w publication
+  unfolding publish_kept
+  publish_lasts = publish_final

@@ -7,7 +7,7 @@ use Rattle.fish_rule.proofs.Common.{all_append, among_either, among_left, among_
 use Rattle.fish_rule.proofs.Frames.{alone_kept, flight_there}
 use Rattle.fish_rule.proofs.Lanes.{both_has, first_shut_none, flight_longer, greater_within, has_back, has_both, has_lane, has_left, has_none, has_one, left_has, not_over, of_lane_complete, of_lane_sound, off_lane_complete, off_lane_sound, pairs_snoc, shut_either}
 use Rattle.fish_rule.specs.Parts.{Facts, IsFound, IsKnown, IsRecorded, Limit, MayOverflow, Owns, Seats}
-use Rattle.fish_rule.specs.Rule.{Rule}
+use Rattle.fish_rule.specs.Rule.{Final, Rule}
 use Rattle.fish_rule.specs.Seating.{CanJoin, CanSplit, join_both, of_lane, spent, split_left, split_right, without}
 use Rattle.fish_rule.specs.Views.{Among, Each, Has, IsFlightOf}
 use Rattle.fish_rule.specs.World.{World}
@@ -122,12 +122,19 @@ module _ (k : Key) (w : World) (r : Rule k w) (id : ℕ) (v : View) (at : get_el
       log_beyond = r.space.log_beyond;
     };
     limit = split_limit;
+    settling = r.settling;
+    floors = each_cut _ r.floors (r.floors id v at) (r.floors id v at);
     own = each_cut _ r.own left_owns right_owns;
     facts = each_cut _ r.facts (r.facts id v at) (r.facts id v at);
     shuts = each_cut _ r.shuts (r.shuts id v at) (r.shuts id v at);
   }
 
 -- ---- join
+
+  -- and all that lasts
+  pub split_lasts : Final r.start split_kept.start r.lane_of split_kept.lane_of w (record w { views = set w.views id (split_left l v) ++ split_right l v ∷ [] })
+  unfolding split_kept
+  split_lasts = record { counts = omega arith; lines = omega arith; settles = omega arith; starts = λ n h. refl; lanes = λ n h. refl; dirs = λ n h e. refl; bodies = λ n h e. refl }
 
 module _ (k : Key) (w : World) (r : Rule k w) (id other : ℕ) (v u : View) (at : get_elem? w.views id ≡ some v) (ne : other ≢ id)
     (at_u : get_elem? w.views other ≡ some u) (can : CanJoin v u) where
@@ -242,7 +249,14 @@ module _ (k : Key) (w : World) (r : Rule k w) (id other : ℕ) (v u : View) (at 
       few = r.limit.few;
       may = each_join _ r.limit.may join_may (λ x has. absurd (has_none x has));
     };
+    settling = r.settling;
+    floors = each_join _ r.floors (greater_within v.learned.settled u.learned.settled w.settled (r.floors id v at) (r.floors other u at_u)) (omega arith);
     own = each_join _ r.own join_owns (record { sound = λ o m. elim m [ ]; complete = λ o has. absurd (has_none o.lane has) });
     facts = each_join _ r.facts join_facts (record { counted = omega arith; found = tt; known = tt; records = tt });
     shuts = each_join _ r.shuts (shut_either k w.count w.dir r.start v.shut u.shut (r.shuts id v at) (r.shuts other u at_u)) tt;
   }
+
+  -- and all that lasts
+  pub join_lasts : Final r.start join_kept.start r.lane_of join_kept.lane_of w (record w { views = set (set w.views id (join_both v u)) other spent })
+  unfolding join_kept
+  join_lasts = record { counts = omega arith; lines = omega arith; settles = omega arith; starts = λ n h. refl; lanes = λ n h. refl; dirs = λ n h e. refl; bodies = λ n h e. refl }

@@ -80,8 +80,23 @@ world-tail k ws vs us x some =
     λ j. record {
       count = high (here j);
       line = low (here j);
+      settled = get_or-set_other ws 0 1 x 0 (omega arith) j;
       dir = area-else ws (dir_at k) k.number (slots k) 0 x (inl (omega arith)) j;
       log = area-else ws (log_at k) (k.line * 4) (log_size k) 0 x (inl (omega arith)) j;
+      views = us;
+    }
+
+-- a store of the settled number
+pub world-settled : (k : Key) (ws : List ℕ) (vs us : List View) (x : ℕ) → 1 < length ws
+    → world k (set ws 1 x) us ≡ record (world k ws vs) { settled = x; views = us }
+world-settled k ws vs us x some =
+    let apart : get_or (set ws 1 x) 0 0 ≡ get_or ws 0 0 = get_or-set_other ws 1 0 x 0 (omega arith) in
+    λ j. record {
+      count = high (apart j);
+      line = low (apart j);
+      settled = get_or-set_same ws 1 x 0 some j;
+      dir = area-else ws (dir_at k) k.number (slots k) 1 x (inl (omega arith)) j;
+      log = area-else ws (log_at k) (k.line * 4) (log_size k) 1 x (inl (omega arith)) j;
       views = us;
     }
 
@@ -93,6 +108,7 @@ world-dir k ws vs us n i x above below is wide =
     λ j. record {
       count = high (apart j);
       line = low (apart j);
+      settled = get_or-set_other ws i 1 x 0 (omega arith) j;
       dir = area-store ws (dir_at k) k.number (slots k) n i x above below is (omega arith) j;
       log = area-else ws (log_at k) (k.line * 4) (log_size k) i x (inl (omega arith)) j;
       views = us;
@@ -106,6 +122,7 @@ world-log k ws vs us p i x above below is wide =
     λ j. record {
       count = high (apart j);
       line = low (apart j);
+      settled = get_or-set_other ws i 1 x 0 (omega arith) j;
       dir = area-else ws (dir_at k) k.number (slots k) i x (inr (omega arith)) j;
       log = area-store ws (log_at k) (k.line * 4) (log_size k) p i x above below is (omega arith) j;
       views = us;

@@ -16,6 +16,8 @@ use Rattle.fish_rule.specs.World.{World, body, high, low}
 use Rattle.fish_rule.specs.declared.view.Found.{Found}
 use Rattle.fish_rule.specs.declared.view.Key.{Key}
 use Rattle.fish_rule.specs.declared.view.Known.{Known}
+use Rattle.fish_rule.specs.declared.view.Learned.{Learned}
+use Rattle.fish_rule.specs.declared.view.Own.{Own}
 use Rattle.fish_rule.specs.declared.view.Recorded.{Recorded}
 use Rattle.fish_rule.specs.declared.view.Kind.TheVariants.{Mark, Stored, Void}
 use Rattle.fish_rule.specs.declared.view.View.{View}
@@ -74,13 +76,17 @@ pub record Extends (v u : View) : Type 0 where
 
 -- ---- the closed log
 
--- the entries are the log of a moment that meets the rule, of which all holds that the view knows
-pub record IsClosed (v : View) (entries : List Entry) : Type 0 where
+-- the entries are the log of a moment that meets the rule, of which these own numbers are exact and all of these facts hold
+pub record IsClosedAt (k : Key) (lane : ℕ) (out : List ℕ) (own : List Own) (learned : Learned) (entries : List Entry) : Type 0 where
   pub moment : World
-  pub rule : Rule v.about moment
-  pub log : IsLog v.about moment entries
-  pub own : Owns v.about moment.count moment.dir rule.lane_of v.lane v.out v.own
-  pub facts : Facts v.about moment.count moment.dir moment.log rule.start v.learned
+  pub rule : Rule k moment
+  pub log : IsLog k moment entries
+  pub owns : Owns k moment.count moment.dir rule.lane_of lane out own
+  pub facts : Facts k moment.count moment.dir moment.log rule.start learned
+
+-- the same of all that a view knows
+abbrev pub IsClosed : View → List Entry → Type 0
+IsClosed v entries = IsClosedAt v.about v.lane v.out v.own v.learned entries
 
 -- ---- one log
 

@@ -1,1 +1,72 @@
--- to be written
+-- Every schedule: lists of steps of the passes on one table, in any order.
+use Rattle.std.specs.Prelude.{ℕ, ◌≡◌, ◌≢◌, ◌+◌, ◌-◌, ◌*◌, ◌<◌, ◌≤◌, suc, List, [], ◌∷◌, ◌++◌, length, max}
+use mathlib.Core.Option.{some}
+use Rattle.std.proofs.Math.ListN.{get_elem?, set}
+use Rattle.fish_rule.specs.Parts.{Fits}
+use Rattle.fish_rule.specs.Regions.{dir_word}
+use Rattle.fish_rule.specs.Rule.{Final, Rule}
+use Rattle.fish_rule.specs.Seating.{CanJoin, CanSplit, join_both, spent, split_left, split_right}
+use Rattle.fish_rule.specs.Steps.{CanClaim, CanLook, CanPublish, CanRaise, CanRead, CanStore, after_claim, after_end, after_look, after_publish, after_raise, after_read, after_settled, after_store, flight_kind}
+use Rattle.fish_rule.specs.Start.{empty_world}
+use Rattle.fish_rule.specs.World.{World, high, low, put}
+use Rattle.fish_rule.specs.declared.view.Flight.{Flight}
+use Rattle.fish_rule.specs.declared.view.Found.{Found}
+use Rattle.fish_rule.specs.declared.view.Key.{Key}
+use Rattle.fish_rule.specs.declared.view.View.{View}
+
+-- one step of the pass at a seat: of its kind, with its operands
+pub data Event : Type 0 where
+  claims : ℕ → ℕ → Event
+  stores : ℕ → ℕ → Event
+  publishes : ℕ → Event
+  looks : ℕ → ℕ → Event
+  reads : ℕ → ℕ → ℕ → Event
+  ends : ℕ → Event
+  settles : ℕ → Event
+  raises : ℕ → ℕ → Event
+  splits : ℕ → ℕ → Event
+  joins : ℕ → ℕ → Event
+
+-- the pass at a seat steps on the table of this key
+pub record Seated (k : Key) (w : World) (id : ℕ) (v : View) : Type 0 where
+  pub at : get_elem? w.views id ≡ some v
+  pub about : v.about ≡ k
+
+-- the region of number n has so many lines
+abbrev pub HasLines : Key → World → ℕ → ℕ → Type 0
+HasLines k w n lines = (r : Rule k w) → lines ≡ r.start (suc n) - r.start n
+
+-- the world goes by a step to another
+abbrev pub Goes : Key → World → Event → World → Type 0
+Goes k w (claims id m) u = (v : View) × Seated k w id v × CanClaim v × (0 < m) × (m ≤ 18625)
+    × (u ≡ record w { count = suc w.count; line = w.line + m; views = set w.views id (after_claim v m w.count w.line) })
+Goes k w (stores id x) u = (v : View) × (f : Flight) × Seated k w id v × CanStore v f
+    × (u ≡ record w { log = put w.log (f.line * 4 + length f.words) x; views = set w.views id (after_store v f x) })
+Goes k w (publishes id) u = (v : View) × (f : Flight) × Seated k w id v × CanPublish v f
+    × (u ≡ record w { dir = put w.dir f.number (dir_word (flight_kind v f) f.line); views = set w.views id (after_publish v f) })
+Goes k w (looks id n) u = (v : View) × (lines : ℕ) × Seated k w id v × CanLook v n × HasLines k w n lines
+    × (u ≡ record w { views = set w.views id (after_look v n lines (w.dir n)) })
+Goes k w (reads id n i) u = (v : View) × (f : Found) × Seated k w id v × CanRead v f i × (f.number ≡ n)
+    × (u ≡ record w { views = set w.views id (after_read v (f.line * 4 + i) (w.log (f.line * 4 + i))) })
+Goes k w (ends id) u = (v : View) × (x : ℕ) × Seated k w id v × (high x ≡ w.count) × (low x ≡ w.line)
+    × (u ≡ record w { views = set w.views id (after_end v x) })
+Goes k w (settles id) u = (v : View) × Seated k w id v × (u ≡ record w { views = set w.views id (after_settled v w.settled) })
+Goes k w (raises id m) u = (v : View) × Seated k w id v × CanRaise v m
+    × (u ≡ record w { settled = max w.settled m; views = set w.views id (after_raise v m w.settled) })
+Goes k w (splits id l) u = (v : View) × Seated k w id v × CanSplit v l
+    × (u ≡ record w { views = set w.views id (split_left l v) ++ split_right l v ∷ [] })
+Goes k w (joins id other) u = (v : View) × (b : View) × Seated k w id v × (other ≢ id) × (get_elem? w.views other ≡ some b) × CanJoin v b
+    × (u ≡ record w { views = set (set w.views id (join_both v b)) other spent })
+
+-- the world goes by steps, one after the other
+abbrev pub Runs : Key → World → List Event → World → Type 0
+Runs k w [] u = w ≡ u
+Runs k w (e ∷ es) u = (m : World) × Goes k w e m × Runs k m es u
+
+-- from an empty log on, the rule holds after every list of steps
+abbrev pub EverySchedule : Type 0
+EverySchedule = (k : Key) (events : List Event) (u : World) → Fits k → Runs k (empty_world k) events u → Rule k u
+
+-- and each step keeps for good what lasts
+abbrev pub EveryStepIsFinal : Type 0
+EveryStepIsFinal = (k : Key) (e : Event) (w u : World) (r : Rule k w) → Goes k w e u → (s : Rule k u) × Final r.start s.start r.lane_of s.lane_of w u

@@ -113,6 +113,18 @@ pub record Limit (k : Key) (count : ℕ) (views : List View) (start quota : ℕ 
   pub few : quotas quota 16 + (count - first) ≤ 16
   pub may : Each (λ v. (l : ℕ) → Has v.lane v.out l → MayOverflow k.end v.shut v.flight → quota l ≡ 1) views
 
+-- ---- settled numbers
+
+-- a directory word is that of a record or a void
+pub record IsEntryWord (word : ℕ) : Type 0 where
+  pub published : word ≢ 0
+  pub unmarked : high word ≢ code Mark
+
+-- every number below the settled one is published, and no mark
+pub record Settled (k : Key) (count settled : ℕ) (dir : ℕ → ℕ) : Type 0 where
+  pub within : settled ≤ count
+  pub below : (n : ℕ) → k.number ≤ n → n < settled → IsEntryWord (dir n)
+
 -- ---- own numbers
 
 -- the number n is published, and a record that lane l claimed

@@ -1,6 +1,6 @@
 -- The rule: all parts at once. And what every step leaves as it was.
 use Rattle.std.specs.Prelude.{ℕ, ◌≡◌, ◌≢◌, ◌<◌, ◌≤◌, []}
-use Rattle.fish_rule.specs.Parts.{Facts, Fits, Limit, Owns, Rests, Seats, ShutOk, Space, Flies}
+use Rattle.fish_rule.specs.Parts.{Facts, Fits, Limit, Owns, Rests, Seats, Settled, ShutOk, Space, Flies}
 use Rattle.fish_rule.specs.Views.{Each}
 use Rattle.fish_rule.specs.World.{World, body}
 use Rattle.fish_rule.specs.declared.view.Key.{Key}
@@ -17,14 +17,17 @@ pub record Rule (k : Key) (w : World) : Type 0 where
   pub tails : Each (λ v. v.lane ≡ 1 → v.out ≡ [] → Rests w.count w.line v.tail) w.views
   pub space : Space k w.count w.line w.dir w.log w.views start lane_of
   pub limit : Limit k w.count w.views start quota
+  pub settling : Settled k w.count w.settled w.dir
+  pub floors : Each (λ v. v.learned.settled ≤ w.settled) w.views
   pub own : Each (λ v. Owns k w.count w.dir lane_of v.lane v.out v.own) w.views
   pub facts : Each (λ v. Facts k w.count w.dir w.log start v.learned) w.views
   pub shuts : Each (λ v. ShutOk k w.count w.dir start v.shut) w.views
 
--- what every step keeps for good: the tail only rises; claimed regions stay where they are; directory words that are set, and the words of published regions but for previous nodes, never change
+-- what every step keeps for good: the tail and the settled number only rise; claimed regions stay where they are; directory words that are set, and the words of published regions but for previous nodes, never change
 pub record Final (start start' lane_of lane_of' : ℕ → ℕ) (w w' : World) : Type 0 where
   pub counts : w.count ≤ w'.count
   pub lines : w.line ≤ w'.line
+  pub settles : w.settled ≤ w'.settled
   pub starts : (n : ℕ) → n ≤ w.count → start' n ≡ start n
   pub lanes : (n : ℕ) → n < w.count → lane_of' n ≡ lane_of n
   pub dirs : (n : ℕ) → n < w.count → w.dir n ≢ 0 → w'.dir n ≡ w.dir n

@@ -62,7 +62,7 @@ greater a b = choose (dec_le a b) b a
 
 -- what either learned
 abbrev pub learned_both : Learned → Learned → Learned
-learned_both a b = record { count = greater a.count b.count; found = a.found ++ b.found; known = a.known ++ b.known; records = a.records ++ b.records }
+learned_both a b = record { count = greater a.count b.count; settled = greater a.settled b.settled; found = a.found ++ b.found; known = a.known ++ b.known; records = a.records ++ b.records }
 
 -- the own claim that shut the pass, where there is one, else the other's
 abbrev pub first_shut : Option Shut → Option Shut → Option Shut
@@ -82,7 +82,7 @@ join_both v u = record v {
 
 -- nothing learned
 abbrev pub unlearned : Learned
-unlearned = record { count = 0; found = []; known = []; records = [] }
+unlearned = record { count = 0; settled = 0; found = []; known = []; records = [] }
 
 -- the view of a pass that was joined
 abbrev pub spent : View

@@ -1,6 +1,7 @@
 -- The shape of a log, and the words of one that holds no record.
-use Rattle.std.specs.Prelude.{ℕ, ◌≡◌, ◌+◌, ◌*◌, ◌^◌, ◌<◌, ◌≤◌, List, length, slice_index}
-use Rattle.fish_rule.specs.World.{total}
+use Rattle.std.specs.Prelude.{ℕ, ◌≡◌, ◌+◌, ◌*◌, ◌^◌, ◌<◌, ◌≤◌, List, [], ◌∷◌, length, slice_index}
+use Rattle.fish_rule.specs.Table.{first_view}
+use Rattle.fish_rule.specs.World.{World, total}
 use Rattle.fish_rule.specs.declared.table.Shape.{Shape}
 use Rattle.fish_rule.specs.declared.view.Key.{Key}
 
@@ -20,3 +21,7 @@ pub record IsShape (s : Shape) : Type 0 where
 -- the key of an empty log of this shape
 abbrev pub first_key : Shape → Key
 first_key s = record { number = 0; line = 0; end = s.pages * 32768; buckets = 2 ^ s.bucket_bits }
+
+-- an empty log and its control pass
+abbrev pub empty_world : Key → World
+empty_world k = record { count = k.number; line = k.line; settled = 0; dir = λ _. 0; log = λ _. 0; views = first_view k ∷ [] }

@@ -1,5 +1,5 @@
 -- What a pass knows after each kind of step, and when it may make it.
-use Rattle.std.specs.Prelude.{ℕ, ◌≡◌, ◌≢◌, ◌+◌, ◌*◌, ◌<◌, ◌≤◌, zero, suc, List, [], ◌∷◌, ◌++◌, length, Option, Some, None}
+use Rattle.std.specs.Prelude.{ℕ, ◌≡◌, ◌≢◌, ◌+◌, ◌*◌, ◌<◌, ◌≤◌, zero, suc, List, [], ◌∷◌, ◌++◌, length, max, Option, Some, None}
 use Rattle.std.proofs.Common.{◌⊎◌}
 use Rattle.fish_layout.specs.Cleared.{IsKeyWord, body_of}
 use Rattle.fish_layout.specs.Header.{keys_of, void_word}
@@ -170,3 +170,21 @@ after_read v place x = record v { learned = record v.learned { known = record { 
 -- the count and the line are known
 abbrev pub after_end : View → ℕ → View
 after_end v x = record v { learned = record v.learned { count = high x }; tail = Some (record { number = high x; line = low x }); clock = noted v.clock Tail x }
+
+-- ---- load settled: a load of the settled number
+
+-- the settled number is known
+abbrev pub after_settled : View → ℕ → View
+after_settled v x = record v { learned = record v.learned { settled = x }; clock = ticked v.clock }
+
+-- ---- raise: a fetch-max on the settled number
+
+-- each number below is known to be published, and no mark
+pub record CanRaise (v : View) (m : ℕ) : Type 0 where
+  pub live : 1 ≤ v.lane
+  pub within : m ≤ v.learned.count
+  pub known : (n : ℕ) → v.about.number ≤ n → n < m → (n < v.learned.settled) ⊎ ((f : Found) × Among f v.learned.found × (f.number ≡ n) × (f.kind ≢ Mark))
+
+-- the settled number is at least this one
+abbrev pub after_raise : View → ℕ → ℕ → View
+after_raise v m x = record v { learned = record v.learned { settled = max x m }; clock = ticked v.clock }

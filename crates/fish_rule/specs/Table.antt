@@ -1,5 +1,5 @@
 -- The rule as the table's, and what a step tells its pass.
-use Rattle.std.specs.Prelude.{ℕ, ◌≡◌, ◌≢◌, ◌-◌, List, [], ◌+◌, ◌*◌, length, Bool, Some, None}
+use Rattle.std.specs.Prelude.{ℕ, ◌≡◌, ◌≢◌, ◌≤◌, ◌-◌, List, [], ◌+◌, ◌*◌, length, Bool, Some, None}
 use mathlib.Core.Option.{some}
 use Rattle.std.proofs.Math.ListN.{get_elem?}
 use Rattle.atomic_table.specs.Table.{Me, State, Step}
@@ -7,7 +7,7 @@ use Rattle.fish_rule.specs.Parts.{Rests}
 use Rattle.fish_rule.specs.Regions.{dir_word}
 use Rattle.fish_rule.specs.Rule.{Rule}
 use Rattle.fish_rule.specs.Seating.{fresh, unlearned}
-use Rattle.fish_rule.specs.Steps.{IsAlone, after_claim, after_end, after_look, after_publish, after_read, after_store}
+use Rattle.fish_rule.specs.Steps.{IsAlone, after_claim, after_end, after_look, after_publish, after_raise, after_read, after_settled, after_store}
 use Rattle.fish_rule.specs.Views.{Among}
 use Rattle.fish_rule.specs.World.{World, dir_at, high, log_at, low, total, world}
 use Rattle.fish_rule.specs.declared.view.Flight.{Flight}
@@ -82,7 +82,18 @@ pub record ToldLook (st : Step Bool) (m : Sat) (found : ℕ) (m' : Sat) : Type 0
 abbrev pub told_read : Step Bool → Sat → ℕ → Sat → Type 0
 told_read st m found m' = Told m (after_read m.0 (place_at m.0.about st.word) found) m'
 
--- a load of the tail; while no lane is out it is as it was left
+-- a load of the tail: the count only rises and is at or behind the settled number, and while no lane is out the tail is as it was left
 pub record ToldEnd (st : Step Bool) (m : Sat) (found : ℕ) (m' : Sat) : Type 0 where
   pub told : Told m (after_end m.0 found) m'
+  pub counted : m.0.learned.count ≤ high found
+  pub settled : m.0.learned.settled ≤ high found
   pub rests : m.0.lane ≡ 1 → m.0.out ≡ [] → Rests (high found) (low found) m.0.tail
+
+-- a load of the settled number, which only rises
+pub record ToldSettled (st : Step Bool) (m : Sat) (found : ℕ) (m' : Sat) : Type 0 where
+  pub told : Told m (after_settled m.0 found) m'
+  pub rises : m.0.learned.settled ≤ found
+
+-- a raise of the settled number
+abbrev pub told_raise : Step Bool → Sat → ℕ → Sat → Type 0
+told_raise st m found m' = Told m (after_raise m.0 st.first found) m'

@@ -5,10 +5,11 @@ use Rattle.fish_layout.specs.Cleared.{choose, cleared}
 use Rattle.fish_rule.specs.declared.view.Key.{Key}
 use Rattle.fish_rule.specs.declared.view.View.{View}
 
--- all that a moment is: how many numbers and lines are claimed, the directory by number, the log by place, and each pass's view
+-- all that a moment is: how many numbers and lines are claimed, below which number all is settled, the directory by number, the log by place, and each pass's view
 pub record World : Type 0 where
   pub count : ℕ
   pub line : ℕ
+  pub settled : ℕ
   pub dir : ℕ → ℕ
   pub log : ℕ → ℕ
   pub views : List View
@@ -58,6 +59,7 @@ abbrev pub world : Key → List ℕ → List View → World
 world k ws vs = record {
   count = high (slice_index ws 0);
   line = low (slice_index ws 0);
+  settled = slice_index ws 1;
   dir = area ws (dir_at k) k.number (slots k);
   log = area ws (log_at k) (k.line * 4) (log_size k);
   views = vs;

@@ -57,6 +57,7 @@ fn all_entries(alloc: Global, log: &Log, main: &mut Pass) -> Result<Entries, All
     requires alone { IsAlone (view main.old) }
     ensures pass { IsPassOf log.now main.new }
     ensures extends { (x : ℕ) × Extends (after_end (view main.old) x) (view main.new) }
+    ensures learns { Learns (view main.old) (view main.new) }
     ensures log { IfOk result (IsClosed (view main.new)) }
 {
     let end = load_tail(log, main).number;

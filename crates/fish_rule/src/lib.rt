@@ -7,6 +7,7 @@
 
 mod close;
 mod entry;
+mod law;
 mod plays;
 mod seats;
 mod steps;
@@ -17,9 +18,11 @@ mod view;
 
 pub use close::{CloseWant, Remains, close_log, kind_of_word};
 pub use entry::{read_record, read_region};
+pub use law::law_every_schedule;
 pub use seats::{Start, base, join_pass, open_log, shape, split_pass};
 pub use steps::{
-    claim_lines, in_flight, is_shut, kind_in, lane, load_tail, look_at, publish_region, read_word, store_word,
+    claim_lines, in_flight, is_shut, kind_in, lane, load_settled, load_tail, look_at, publish_region,
+    raise_settled, read_word, store_word,
 };
 pub use table::{Base, Log, LogRule, Pass, Region, Shape};
 pub use view::{

@@ -1,6 +1,6 @@
 //! What each step tells its pass.
 
-ghost use Rattle.fish_rule.specs.Table.{ToldEnd, ToldLook, told_claim, told_publish, told_read, told_store};
+ghost use Rattle.fish_rule.specs.Table.{ToldEnd, ToldLook, ToldSettled, told_claim, told_publish, told_raise, told_read, told_store};
 
 use crate::view::View;
 use atomic_table::Play;
@@ -45,4 +45,18 @@ pub(crate) struct End;
 
 impl Play<bool, View> for End {
     ghost then = { ToldEnd };
+}
+
+/// A load of the settled number.
+pub(crate) struct Settled;
+
+impl Play<bool, View> for Settled {
+    ghost then = { ToldSettled };
+}
+
+/// A raise of the settled number.
+pub(crate) struct Raise;
+
+impl Play<bool, View> for Raise {
+    ghost then = { told_raise };
 }

@@ -6,13 +6,13 @@ ghost use Rattle.fish_rule.specs.Flying.{region_in};
 ghost use Rattle.fish_rule.specs.Passes.{IsPassOf, view};
 ghost use Rattle.fish_rule.specs.Parts.{Fits, Rests};
 ghost use Rattle.fish_rule.specs.Regions.{dir_word, kind_of};
-ghost use Rattle.fish_rule.specs.Steps.{CanClaim, CanLook, CanPublish, CanRead, CanStore, IsAlone, after_claim, after_end, after_look, after_publish, after_read, after_store};
+ghost use Rattle.fish_rule.specs.Steps.{CanClaim, CanLook, CanPublish, CanRaise, CanRead, CanStore, IsAlone, after_claim, after_end, after_look, after_publish, after_raise, after_read, after_settled, after_store};
 ghost use Rattle.fish_rule.specs.Views.{Among};
 ghost use Rattle.fish_rule.specs.World.{dir_at as first_directory_word, high, log_at as first_log_word, low};
 ghost use Rattle.fish_rule.specs.declared.view.Flight.{Flight};
 ghost use Rattle.fish_rule.specs.declared.view.Found.{Found};
 
-use crate::plays::{Claim, End, Look, Publish, Read, Store};
+use crate::plays::{Claim, End, Look, Publish, Raise, Read, Settled, Store};
 use crate::table::{Log, Pass, Region};
 use crate::view::{Key, Kind, Position, Shut};
 
@@ -61,9 +61,10 @@ pub fn claim_lines(log: &Log, pass: &mut Pass, lines: u64) -> Region
     ensures lines { result.lines ≡ lines }
 {
     let found = log.table.shared.fetch_add::<Claim>(&mut pass.seat, 0, ONE + lines);
+    let Position { number, line } = position_in(found);
     let region = Region {
-        number: found / ONE,
-        line: found % ONE,
+        number,
+        line,
         lines,
     };
     pass.flight = Some(region);
@@ -130,12 +131,43 @@ pub fn load_tail(log: &Log, pass: &mut Pass) -> Position
     requires pass { IsPassOf log.now pass.old }
     ensures pass { IsPassOf log.now pass.new }
     ensures view { (x : ℕ) × (view pass.new ≡ after_end (view pass.old) x) × (result.number ≡ high x) × (result.line ≡ low x) }
+    ensures counted { (view pass.old).learned.count ≤ result.number }
+    ensures settled { (view pass.old).learned.settled ≤ result.number }
     ensures rests { (view pass.old).lane ≡ 1 → (view pass.old).out ≡ [] → Rests result.number result.line (view pass.old).tail }
 {
     let found = log.table.shared.load::<End>(&mut pass.seat, 0);
+    position_in(found)
+}
+
+/// Loads the settled number: every number below is published, and no mark.
+pub fn load_settled(log: &Log, pass: &mut Pass) -> u64
+    requires pass { IsPassOf log.now pass.old }
+    ensures pass { IsPassOf log.now pass.new }
+    ensures view { view pass.new ≡ after_settled (view pass.old) result }
+    ensures rises { (view pass.old).learned.settled ≤ result }
+{
+    log.table.shared.load::<Settled>(&mut pass.seat, 1)
+}
+
+/// Raises the settled number to at least this one, by a fetch-max, and answers what it was.
+pub fn raise_settled(log: &Log, pass: &mut Pass, number: u64) -> u64
+    requires pass { IsPassOf log.now pass.old }
+    requires view { CanRaise (view pass.old) number }
+    ensures pass { IsPassOf log.now pass.new }
+    ensures view { view pass.new ≡ after_raise (view pass.old) number result }
+{
+    log.table.shared.fetch_max::<Raise>(&mut pass.seat, 1, number)
+}
+
+/// Where a tail word says that the next record goes.
+#[tactic(auto, unfolding(crate::specs::World::high, crate::specs::World::low))]
+fn position_in(tail: u64) -> Position
+    ensures number { result.number ≡ high tail }
+    ensures line { result.line ≡ low tail }
+{
     Position {
-        number: found / ONE,
-        line: found % ONE,
+        number: tail / ONE,
+        line: tail % ONE,
     }
 }
 

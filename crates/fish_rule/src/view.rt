@@ -113,6 +113,8 @@ pub struct Clock {
 pub struct Learned {
     /// At least so many numbers are claimed.
     pub count: u64,
+    /// Every number below is settled.
+    pub settled: u64,
     pub found: [Found; 0],
     pub known: [Known; 0],
     pub records: [Recorded; 0],

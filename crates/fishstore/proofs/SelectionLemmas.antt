@@ -1,18 +1,16 @@
 -- What the lines gave one by one is the selection of the file.
 use Rattle.std.proofs.Common.{◌≡◌, ℕ, ◌+◌, ◌<◌, ◌≤◌, List, [], ◌∷◌, ◌++◌, length, refl, sym, ap, arith, ◌∙◌, append_assoc, append-nil}
-use Rattle.std.specs.Prelude.{Bool, true, false, not, ◌&&◌, nat_le, nat_lt, Option, Some, None, map, reverse, if◌then◌else◌}
+use Rattle.std.specs.Prelude.{true, false, nat_le, nat_lt, Option, Some, None, map, reverse, if◌then◌else◌}
 use Rattle.std.specs.List.{cons_option, enumerate_from, filter_map}
 use Rattle.std.proofs.lemmas.Bool.Decides.{nat_tests}
 use Rattle.std.proofs.lemmas.Grind.{common_steps}
 use Rattle.fish_value.specs.declared.field.Form.TheVariants.{Json}
 use Rattle.fish_value.specs.declared.row.Row.{Row}
-use Rattle.fish_value.specs.declared.value.Value.{Value}
 use Rattle.fish_json.specs.Lines.{payload_of, outcomes, outcomes_of, accepted, refused}
 use Rattle.fish_lines.specs.Lines.{file_lines}
 use Rattle.fish_json.specs.Reading.{field}
 use Rattle.fish_psf.specs.Eval.{eval}
 use Rattle.fish_psf.specs.Select.{has_value, row_of, select, stored}
-use Rattle.fish_report.specs.declared.item.Item.{Item}
 use Rattle.fish_report.specs.declared.item.Item.TheVariants as item
 use Rattle.fishstore.specs.Answer.{evaluation, log_of, rows_of, selection}
 use Rattle.fishstore.specs.Tally.{no_lines, rows_with, with_line, with_lines, with_outcome}

@@ -1,5 +1,5 @@
 -- Which fault each refusal of a step is, and where a step may end by it.
-use Rattle.std.specs.Prelude.{◌≡◌, ℕ, List, ◌++◌, codes, decimal, Err, ⊤}
+use Rattle.std.specs.Prelude.{ℕ, List, ◌++◌, codes, decimal, Err, ⊤}
 use Rattle.fish_outside.specs.Causes.{Rose}
 use Rattle.fish_outside.specs.declared.fault.FeedRefusal.{FeedRefusal}
 use Rattle.fish_outside.specs.declared.fault.FeedRefusal.TheVariants as feed

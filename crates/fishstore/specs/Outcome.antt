@@ -1,5 +1,5 @@
 -- How a run ends, and what each end tells of the words, the files and the output.
-use Rattle.std.specs.Prelude.{◌≡◌, ℕ, List, [], ◌∷◌, take, Option, Some, Ok, Err, IfSome, ⊤, if◌then◌else◌}
+use Rattle.std.specs.Prelude.{◌≡◌, ℕ, List, [], ◌∷◌, Option, Some, Ok, Err, IfSome, ⊤, if◌then◌else◌}
 use Rattle.std.specs.List.{list_any}
 use Rattle.fish_outside.specs.Told.{Files, Gained, GainedPart}
 use Rattle.fish_report.specs.ReportText.{is_refusal, report_text}

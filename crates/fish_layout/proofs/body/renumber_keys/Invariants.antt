@@ -9,5 +9,6 @@ invariant-loop-place l =
     record {
       len : length l.words.items ≡ length l.fn.words.items;
       others : (i : ℕ) → ¬ (IsNumberWord l.place i) → get_or l.words.items i 0 ≡ get_or l.fn.words.items i 0;
-      entries : (i : ℕ) → IsNumberWord l.place i → get_or l.words.items i 0 ≡ renumbered (get_or l.fn.words.items i 0) l.number;
+      entries : (i : ℕ) → IsNumberWord l.place i →
+          get_or l.words.items i 0 ≡ renumbered (get_or l.fn.words.items i 0) l.number;
     }

@@ -9,29 +9,49 @@ use Rattle.fish_layout.proofs.keys.read_key.Goals as goal
 pub returns-then-values-end : goal.returns-then-values-end
 returns-then-values-end c p k h values within is =
     let says = body_key c.args.place k h within is in
-    absurd (omega (arith, ap length values, values_within p.keys c.args.place k within is, says.offset, says.size, c.offset_in-from.ensures.value, c.size_in.ensures.value))
+    absurd (omega (
+      arith,
+      ap length values,
+      values_within p.keys c.args.place k within is,
+      says.offset,
+      says.size,
+      c.offset_in-from.ensures.value,
+      c.size_in.ensures.value,
+    ))
 
 pub returns-in_default : goal.returns-in_default
 returns-in_default c p k h values within is =
     let says = body_key c.args.place k h within is in
-    let from : c.offset_in-from.result ≡ length (values_of (take c.args.place p.keys)) = c.offset_in-from.ensures.value ∙ says.offset in
+    let from : c.offset_in-from.result ≡ length (values_of (take c.args.place p.keys)) =
+    c.offset_in-from.ensures.value ∙ says.offset in
     let end : c.offset_in-from.result + c.size_in.result ≡ c.offset_in-from.result + length (value_bytes k.value) =
     ap (λ n. c.offset_in-from.result + n) (c.size_in.ensures.value ∙ says.size) in
-    let bytes = ap (λ l. take (c.offset_in-from.result + c.size_in.result - c.offset_in-from.result) (drop c.offset_in-from.result l)) values
-    ∙ value_at p.keys c.args.place k c.offset_in-from.result (c.offset_in-from.result + c.size_in.result) within is from end in
-    let found = c.in_ok-value.ensures k.value (proper_at 0 p.keys c.args.place k h.proper.keys within is).1 (c.kind_in.ensures ∙ says.kind) bytes in
+    let bytes =
+    ap (λ l. take (c.offset_in-from.result + c.size_in.result - c.offset_in-from.result)
+    (drop c.offset_in-from.result l)) values
+    ∙ value_at p.keys c.args.place k c.offset_in-from.result (c.offset_in-from.result + c.size_in.result) within is
+    from end in
+    let found =
+    c.in_ok-value.ensures k.value (proper_at 0 p.keys c.args.place k h.proper.keys within is).1
+    (c.kind_in.ensures ∙ says.kind) bytes in
     let none = c.in_default.is in
     cc
 
 pub returns : goal.returns
 returns c p k h values within is =
     let says = body_key c.args.place k h within is in
-    let from : c.offset_in-from.result ≡ length (values_of (take c.args.place p.keys)) = c.offset_in-from.ensures.value ∙ says.offset in
+    let from : c.offset_in-from.result ≡ length (values_of (take c.args.place p.keys)) =
+    c.offset_in-from.ensures.value ∙ says.offset in
     let end : c.offset_in-from.result + c.size_in.result ≡ c.offset_in-from.result + length (value_bytes k.value) =
     ap (λ n. c.offset_in-from.result + n) (c.size_in.ensures.value ∙ says.size) in
-    let bytes = ap (λ l. take (c.offset_in-from.result + c.size_in.result - c.offset_in-from.result) (drop c.offset_in-from.result l)) values
-    ∙ value_at p.keys c.args.place k c.offset_in-from.result (c.offset_in-from.result + c.size_in.result) within is from end in
-    let found = c.in_ok-value.ensures k.value (proper_at 0 p.keys c.args.place k h.proper.keys within is).1 (c.kind_in.ensures ∙ says.kind) bytes in
+    let bytes =
+    ap (λ l. take (c.offset_in-from.result + c.size_in.result - c.offset_in-from.result)
+    (drop c.offset_in-from.result l)) values
+    ∙ value_at p.keys c.args.place k c.offset_in-from.result (c.offset_in-from.result + c.size_in.result) within is
+    from end in
+    let found =
+    c.in_ok-value.ensures k.value (proper_at 0 p.keys c.args.place k h.proper.keys within is).1
+    (c.kind_in.ensures ∙ says.kind) bytes in
     let value : c.in-Some.value ≡ k.value = some_same (sym c.in-Some.is ∙ found) in
     ap (λ n. Some (record { prev = n; id = c.id_in.result; value = c.in-Some.value })) says.prev
     ∙ ap (λ n. Some (record { prev = k.prev; id = n; value = c.in-Some.value })) (c.id_in.ensures ∙ says.id)

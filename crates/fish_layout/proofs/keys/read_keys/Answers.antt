@@ -15,7 +15,8 @@ returns-in_default-clause-keys c p h count values =
 pub loop-place-preserved : goal.loop-place-preserved
 loop-place-preserved c =
     let grown = c.in_ok-push.ensures.ok in
-    let next : (p : BodyParts) → IsBody p c.args.words.now → c.args.count ≡ length p.keys → c.args.values.now ≡ values_of p.keys →
+    let next : (p : BodyParts) → IsBody p c.args.words.now → c.args.count ≡ length p.keys →
+    c.args.values.now ≡ values_of p.keys →
     c.push.new.self ≡ take (c.loop-place.place + 1) p.keys =
     λ p h count values.
     let key = some_element p.keys c.loop-place.place (omega arith) in
@@ -27,5 +28,6 @@ loop-place-preserved c =
     ∙ sym (take_more_is p.keys c.loop-place.place key.0 (omega arith) key.1) in
     record {
       keys = next;
-      count = ap length grown ∙ length-append c.loop-place.keys (c.in-Some.key ∷ []) ∙ ap (λ n. n + 1) c.loop-place.invariant.count;
+      count = ap length grown ∙ length-append c.loop-place.keys (c.in-Some.key ∷ [])
+          ∙ ap (λ n. n + 1) c.loop-place.invariant.count;
     }

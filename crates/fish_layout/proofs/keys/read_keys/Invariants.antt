@@ -7,6 +7,7 @@ use Rattle.fish_layout.proofs.keys.read_keys.Given as goal
 abbrev pub invariant-loop-place : goal.invariant-loop-place
 invariant-loop-place l =
     record {
-      keys : (p : BodyParts) → IsBody p l.words → l.count ≡ length p.keys → l.values ≡ values_of p.keys → l.keys ≡ take l.place p.keys;
+      keys : (p : BodyParts) → IsBody p l.words → l.count ≡ length p.keys → l.values ≡ values_of p.keys →
+          l.keys ≡ take l.place p.keys;
       count : length l.keys ≡ l.place;
     }

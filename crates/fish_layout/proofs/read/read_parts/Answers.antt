@@ -10,7 +10,9 @@ use Rattle.fish_layout.proofs.read.read_parts.Goals as goal
 pub returns-in_default-2-clause-found : goal.returns-in_default-2-clause-found
 returns-in_default-2-clause-found c p h =
     let is = c.in-Some.ensures.1 p h in
-    let values = c.as_slice.ensures.value ∙ c.in_ok-values.ensures ∙ outline_values h is c.values_at.result c.values_at.ensures in
+    let values =
+    c.as_slice.ensures.value ∙ c.in_ok-values.ensures
+    ∙ outline_values h is c.values_at.result c.values_at.ensures in
     let found = c.in_ok-keys.ensures.keys p h is.keys values in
     let none = c.in_default-2.is in
     cc
@@ -26,11 +28,16 @@ returns-in_default-3-clause-found c p h =
 pub returns-clause-found : goal.returns-clause-found
 returns-clause-found c p h =
     let is = c.in-Some.ensures.1 p h in
-    let values = c.as_slice.ensures.value ∙ c.in_ok-values.ensures ∙ outline_values h is c.values_at.result c.values_at.ensures in
-    let keys : c.in-Some-2.keys ≡ p.keys = some_same (sym c.in-Some-2.is ∙ c.in_ok-keys.ensures.keys p h is.keys values) in
+    let values =
+    c.as_slice.ensures.value ∙ c.in_ok-values.ensures
+    ∙ outline_values h is c.values_at.result c.values_at.ensures in
+    let keys : c.in-Some-2.keys ≡ p.keys =
+    some_same (sym c.in-Some-2.is ∙ c.in_ok-keys.ensures.keys p h is.keys values) in
     let value = rw c.in-Some-3.is at c.in_ok-payload.ensures.value in
-    let payload : c.in-Some-3.payload ≡ p.payload = value ∙ outline_payload h is c.payload_at.result c.payload_at.ensures in
-    let number : 0 < length p.keys → c.number_of.result ≡ p.number = λ some. c.number_of.ensures.value p h is.keys (omega arith) in
+    let payload : c.in-Some-3.payload ≡ p.payload =
+    value ∙ outline_payload h is c.payload_at.result c.payload_at.ensures in
+    let number : 0 < length p.keys → c.number_of.result ≡ p.number =
+    λ some. c.number_of.ensures.value p h is.keys (omega arith) in
     let parts : BodyParts =
     record {
       form = c.in-Some.outline.form;

@@ -1,6 +1,5 @@
 -- What was written is a record.
 use Rattle.std.proofs.Common.{rules}
-use Rattle.fish_layout.specs.Body.{IsBody, IsProper}
 use Rattle.fish_layout.proofs.tests.numbers.Goals as goal
 
 pub set_number-requires-clause-body : goal.set_number-requires-clause-body

@@ -11,12 +11,17 @@ returns c =
     let front = body_header p ∷ words_behind p in
     let made : c.push_words.new.words.items ≡ front =
     c.in_ok-push_words.ensures
-    ∙ ap (λ l. l ++ words_behind p) (c.in_ok-push.ensures.items ∙ ap (λ l. l ++ (c.header_word_of.result ∷ [])) c.in_ok-words.ensures.items)
+    ∙ ap (λ l. l ++ words_behind p)
+    (c.in_ok-push.ensures.items ∙ ap (λ l. l ++ (c.header_word_of.result ∷ [])) c.in_ok-words.ensures.items)
     ∙ ap (λ x. x ∷ words_behind p) c.header_word_of.ensures in
-    let size : vec_len c.push_words.new.words ≡ 1 + length (words_behind p) = omega (arith, ap length made, c.push_words.new.words.ok.0) in
+    let size : vec_len c.push_words.new.words ≡ 1 + length (words_behind p) =
+    omega (arith, ap length made, c.push_words.new.words.ok.0) in
     let lines = c.count_lines-lines.ensures.value in
     c.of_words.ensures
     ∙ c.in_ok-resize.ensures.items
-    ∙ ap (λ l. take (c.count_lines-lines.result * 4) l ++ replicate (c.count_lines-lines.result * 4 - vec_len c.push_words.new.words) 0) made
-    ∙ ap (λ l. l ++ replicate (c.count_lines-lines.result * 4 - vec_len c.push_words.new.words) 0) (take_all (c.count_lines-lines.result * 4) front (omega arith))
+    ∙ ap (λ l.
+    take (c.count_lines-lines.result * 4) l ++ replicate
+    (c.count_lines-lines.result * 4 - vec_len c.push_words.new.words) 0) made
+    ∙ ap (λ l. l ++ replicate (c.count_lines-lines.result * 4 - vec_len c.push_words.new.words) 0)
+    (take_all (c.count_lines-lines.result * 4) front (omega arith))
     ∙ ap (λ n. front ++ replicate n 0) (omega arith)

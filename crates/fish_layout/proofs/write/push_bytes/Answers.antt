@@ -22,7 +22,8 @@ pub returns-then-is_empty : goal.returns-then-is_empty
 returns-then-is_empty c =
     let words = c.loop-chunk.words.items in
     let none : length c.loop-chunk.rest.now ≡ 0 = grind (arith, nat_tests) in
-    sym (append-nil words) ∙ ap (λ l. words ++ l) (sym (words_empty c.loop-chunk.rest.now none)) ∙ c.loop-chunk.invariant
+    sym (append-nil words) ∙ ap (λ l. words ++ l) (sym (words_empty c.loop-chunk.rest.now none))
+    ∙ c.loop-chunk.invariant
 
 pub returns : goal.returns
 returns c =

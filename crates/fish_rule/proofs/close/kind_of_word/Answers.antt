@@ -14,12 +14,12 @@ other (suc (suc (suc x))) a b = refl
 
 pub returns-in-1 : goal.returns-in-1
 unfolding high
-returns-in-1 c = ?
+returns-in-1 c = sym (ap kind_told c.in-1.is)
 
 pub returns-in-2 : goal.returns-in-2
 unfolding high
-returns-in-2 c = ?
+returns-in-2 c = sym (ap kind_told c.in-2.is)
 
 pub returns-in_default : goal.returns-in_default
 unfolding high
-returns-in_default c = ?
+returns-in_default c = (let h = c.in_default in other (c.args.word / 68719476736) (λ e. omega arith) (λ e. omega arith))

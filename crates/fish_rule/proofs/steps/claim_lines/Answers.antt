@@ -2,7 +2,6 @@
 use Rattle.std.proofs.Common.{◌≡◌, ◌∙◌, sym, refl, ap, arith, subst, ℕ, ◌<◌, ◌+◌, ◌-◌, Some}
 use Rattle.fish_rule.proofs.Allowed.{claim_allowed}
 use Rattle.fish_rule.specs.Flying.{region_in}
-use Rattle.fish_rule.specs.World.{high, low}
 use Rattle.fish_rule.specs.declared.table.Region.{Region}
 use Rattle.fish_rule.specs.declared.view.View.{View}
 use Rattle.fish_rule.proofs.steps.claim_lines.Goals as goal
@@ -15,14 +14,14 @@ fetch_add-found-requires c =
         claim_allowed log.table.shared.key log.key log.keyed log.table.shared.table_id.slots seat.id seat.me _ c.args.lines c.requires.pass.about c.requires.view c.requires.lines.0 c.requires.lines.1 refl)
 
 pub invariant_of-pass : goal.invariant_of-pass
-unfolding high low
 invariant_of-pass c =
     let told = c.fetch_add-found.ensures.2 in
     let e : 68719476736 + c.args.lines - 68719476736 ≡ c.args.lines = omega arith in
-    let found : ℕ = c.fetch_add-found.result in
+    let at = c.position_in-number.ensures in
     record {
       bare = told.held ∙ c.args.pass.now.bare;
       lane_is = ap (λ (z : View). z.lane) told.view ∙ c.args.pass.now.lane_is;
       shut_is = ap (λ (z : View). z.shut) told.view ∙ c.args.pass.now.shut_is;
-      flight_is = ap (λ (z : View). region_in z.flight) told.view ∙ ap (λ (z : ℕ). let q : Region = record { number = high found; line = low found; lines = z } in Some q) e;
+      flight_is = ap (λ (z : View). region_in z.flight) told.view
+          ∙ ap (λ (z : ℕ × ℕ × ℕ). let q : Region = record { number = z.0; line = z.1; lines = z.2 } in Some q) (λ i. (sym at.number i, sym at.line i, e i));
     }

@@ -1,7 +1,8 @@
 -- The table allows a load of the tail.
-use Rattle.std.proofs.Common.{◌≡◌, ◌∙◌, sym, refl, ap, arith, subst, ℕ, ◌<◌}
+use Rattle.std.proofs.Common.{◌≡◌, ◌∙◌, sym, refl, ap, arith, subst, ℕ, ◌<◌, ◌≤◌}
 use Rattle.fish_rule.proofs.Allowed.{end_allowed}
-use Rattle.fish_rule.specs.World.{high, low}
+use Rattle.fish_rule.specs.Parts.{Rests}
+use Rattle.fish_rule.specs.Passes.{view}
 use Rattle.fish_rule.proofs.steps.load_tail.Goals as goal
 
 pub load-found-requires : goal.load-found-requires
@@ -12,9 +13,15 @@ load-found-requires c =
         end_allowed log.table.shared.key log.key log.keyed log.table.shared.table_id.slots seat.id seat.me c.requires.pass.about)
 
 pub returns-clause-view : goal.returns-clause-view
-unfolding high low
-returns-clause-view c = (c.load-found.result, c.load-found.ensures.2.told.view, refl, refl)
+returns-clause-view c = (c.load-found.result, c.load-found.ensures.2.told.view, c.position_in.ensures.number, c.position_in.ensures.line)
 
 pub returns-clause-rests : goal.returns-clause-rests
-unfolding high low
-returns-clause-rests c = c.load-found.ensures.2.rests
+returns-clause-rests c main all =
+    let at = c.position_in.ensures in
+    subst (λ (z : ℕ × ℕ). Rests z.0 z.1 (view c.args.pass.now).tail) (λ i. (sym at.number i, sym at.line i)) (c.load-found.ensures.2.rests main all)
+
+pub returns-clause-counted : goal.returns-clause-counted
+returns-clause-counted c = subst (λ (z : ℕ). (view c.args.pass.now).learned.count ≤ z) (sym c.position_in.ensures.number) c.load-found.ensures.2.counted
+
+pub returns-clause-settled : goal.returns-clause-settled
+returns-clause-settled c = subst (λ (z : ℕ). (view c.args.pass.now).learned.settled ≤ z) (sym c.position_in.ensures.number) c.load-found.ensures.2.settled

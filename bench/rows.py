@@ -1,0 +1,23 @@
+"""Writes rows in CSV, about as many bytes as are asked for, from a seed; quotes stand in three rows of ten."""
+import random
+import sys
+
+size = int(sys.argv[1])
+random.seed(7)
+words = ["push", "create", "release", "issue", "watch", "fork", "member", "public"]
+written = 0
+out = sys.stdout
+while written < size:
+    fields = [str(random.randrange(10**9)), random.choice(words), "%s/%s" % (random.choice(words), random.randrange(10**5))]
+    fields += [str(random.randrange(1000)) for _ in range(4)]
+    kind = random.randrange(10)
+    if kind == 0:
+        fields[2] = '"%s, %s"' % (random.choice(words), random.choice(words))
+    elif kind == 1:
+        fields[2] = '"said ""%s"" twice"' % random.choice(words)
+    elif kind == 2:
+        fields[2] = '"%s\n%s"' % (random.choice(words), random.choice(words))
+    fields += [random.choice(words) + str(random.randrange(10**6)) for _ in range(8)]
+    line = ",".join(fields) + "\n"
+    written += len(line)
+    out.write(line)

@@ -1,0 +1,66 @@
+-- Every step keeps the rule, and so does every list of steps.
+use Rattle.std.proofs.Common.{◌≡◌, ◌≢◌, ℕ, ◌+◌, ◌-◌, ◌*◌, ◌<◌, ◌≤◌, zero, suc, List, [], ◌∷◌, ◌++◌, length, set, sym, refl, ap, ◌∙◌, subst}
+use mathlib.Core.Option.{some}
+use Rattle.std.proofs.Math.ListN.{get_elem?}
+use Rattle.fish_rule.proofs.Begins.{empty_rule}
+use Rattle.fish_rule.proofs.Claims.{claim_kept, claim_lasts}
+use Rattle.fish_rule.proofs.Flights.{publisher_at}
+use Rattle.fish_rule.proofs.Learns.{end_kept, end_lasts, lines_at, look_kept, look_lasts, settled_kept, settled_lasts}
+use Rattle.fish_rule.proofs.Loads.{read_kept, read_lasts}
+use Rattle.fish_rule.proofs.OwnWords.{store_kept, store_lasts}
+use Rattle.fish_rule.proofs.Publishes.{publish_kept, publish_lasts}
+use Rattle.fish_rule.proofs.Settles.{raise_kept, raise_lasts}
+use Rattle.fish_rule.proofs.Seating.{join_kept, join_lasts, split_kept, split_lasts}
+use Rattle.fish_rule.specs.Machine.{Event, EverySchedule, EveryStepIsFinal, Goes, Runs, claims, ends, joins, looks, publishes, raises, reads, settles, splits, stores}
+use Rattle.fish_rule.specs.Parts.{Fits}
+use Rattle.fish_rule.specs.Regions.{dir_word, kind_of}
+use Rattle.fish_rule.specs.Rule.{Final, Rule}
+use Rattle.fish_rule.specs.Start.{empty_world}
+use Rattle.fish_rule.specs.Steps.{after_look, after_publish, flight_kind}
+use Rattle.fish_rule.specs.World.{World, put}
+use Rattle.fish_rule.specs.declared.view.Flight.{Flight}
+use Rattle.fish_rule.specs.declared.view.Key.{Key}
+use Rattle.fish_rule.specs.declared.view.View.{View}
+
+-- the world after a step meets the rule, and what lasts has lasted
+abbrev Lasts : (k : Key) (w : World) → Rule k w → World → Type 0
+Lasts k w r u = (s : Rule k u) × Final r.start s.start r.lane_of s.lane_of w u
+
+-- the same where the world is known by an equation
+lasts_at : (k : Key) (w : World) (r : Rule k w) (u u' : World) → u ≡ u' → Lasts k w r u' → Lasts k w r u
+lasts_at k w r u u' e h = subst (Lasts k w r) (sym e) h
+
+-- each step keeps the rule and what lasts
+pub event_lasts : EveryStepIsFinal
+event_lasts k (claims id m) w u r g = (let v = g.0 in let s = g.1 in
+    lasts_at k w r u _ g.5 (claim_kept k w r id v s.at m g.2 g.3 g.4, claim_lasts k w r id v s.at m g.2 g.3 g.4))
+event_lasts k (stores id x) w u r g = (let v = g.0 in let f = g.1 in let s = g.2 in
+    lasts_at k w r u _ g.4 (store_kept k w r id v s.at f g.3 x, store_lasts k w r id v s.at f g.3 x))
+event_lasts k (publishes id) w u r g = (let v = g.0 in let f = g.1 in let s = g.2 in let can = g.3 in
+    let ends_ : kind_of k.end f.line (f.line + f.lines) ≡ flight_kind v f = ap (λ (z : Key). kind_of z.end f.line (f.line + f.lines)) (sym s.about) in
+    lasts_at k w r u _ g.4 (subst (λ (z : Key). Lasts k w r (record w { dir = put w.dir f.number (dir_word (flight_kind v f) f.line); views = set w.views id (publisher_at v f z) })) (sym s.about)
+        (publish_kept k w r id v s.at f can.live can.flying (flight_kind v f) ends_ can.ready, publish_lasts k w r id v s.at f can.live can.flying (flight_kind v f) ends_ can.ready)))
+event_lasts k (looks id n) w u r g = (let v = g.0 in let s = g.2 in
+    lasts_at k w r u _ g.5 (subst (λ (z : ℕ). Lasts k w r (record w { views = set w.views id (after_look v n z (w.dir n)) })) (sym (g.4 r))
+        (look_kept k w r id v s.at n (w.dir n) g.3 s.about refl, look_lasts k w r id v s.at n (w.dir n) g.3 s.about refl)))
+event_lasts k (reads id n i) w u r g = (let v = g.0 in let f = g.1 in let s = g.2 in
+    lasts_at k w r u _ g.5 (read_kept k w r id v s.at f i g.3, read_lasts k w r id v s.at f i g.3))
+event_lasts k (ends id) w u r g = (let v = g.0 in let x : ℕ = g.1 in let s = g.2 in
+    lasts_at k w r u _ g.5 (end_kept k w r id v s.at x g.3 g.4, end_lasts k w r id v s.at x g.3 g.4))
+event_lasts k (settles id) w u r g = (let v = g.0 in let s = g.1 in
+    lasts_at k w r u _ g.2 (settled_kept k w r id v s.at, settled_lasts k w r id v s.at))
+event_lasts k (raises id m) w u r g = (let v = g.0 in let s = g.1 in
+    lasts_at k w r u _ g.3 (raise_kept k w r id v s.at s.about m g.2, raise_lasts k w r id v s.at s.about m g.2))
+event_lasts k (splits id l) w u r g = (let v = g.0 in let s = g.1 in
+    lasts_at k w r u _ g.3 (split_kept k w r id v s.at l g.2, split_lasts k w r id v s.at l g.2))
+event_lasts k (joins id other) w u r g = (let v = g.0 in let b = g.1 in let s = g.2 in
+    lasts_at k w r u _ g.6 (join_kept k w r id other v b s.at g.3 g.4 g.5, join_lasts k w r id other v b s.at g.3 g.4 g.5))
+
+-- a list of steps keeps the rule
+runs_kept : (k : Key) (events : List Event) (w u : World) → Rule k w → Runs k w events u → Rule k u
+runs_kept k [] w u r g = subst (Rule k) g r
+runs_kept k (e ∷ events) w u r g = runs_kept k events g.0 u (event_lasts k e w g.0 r g.1).0 g.2
+
+-- from an empty log on the rule holds
+pub every_schedule : EverySchedule
+every_schedule k events u fits g = runs_kept k events (empty_world k) u (empty_rule k fits) g
