@@ -34,7 +34,7 @@ placed_law v u lines number line is =
     let t = place_stored (kind_of v.about.end is.line (is.line + lines)) v.about.end is.number is.line lines number line is.answered in
     let kind : kind_of v.about.end line (line + lines) ≡ Stored = subst (λ (z : ℕ). kind_of v.about.end z (z + lines) ≡ Stored) t.2 t.0 in
     let known : u ≡ after_claim v lines number line =
-        is.known ∙ ap (λ (z : Kind). claimed_view z v lines is.number is.line) t.0 ∙ (λ i. after_claim v lines (t.1 i) (t.2 i)) in
+    is.known ∙ ap (λ (z : Kind). claimed_view z v lines is.number is.line) t.0 ∙ (λ i. after_claim v lines (t.1 i) (t.2 i)) in
     record { known = known; stored = subst (λ (z : View). flight_kind z (flight_at number line lines) ≡ Stored) (sym known) kind }
 
 -- ---- bodies
@@ -52,13 +52,16 @@ body_law v u lines number line p words placed plain is =
     let length_is = plain.lines_is in
     let full : length words ≡ lines * 4 = body_length is ∙ ap (λ (z : ℕ). z * 4) length_is in
     let spells = spelled_body words is in
-    let written : IsRecord v.lane number lines (body_of words) = (p, record {
-      spells = subst (λ (z : BodyParts). Rattle.fish_layout.specs.Cleared.Spells z (body_of words)) same spells;
-      lane_is = plain.lane_is;
-      number_is = plain.number_is;
-      lines_is = plain.lines_is;
-      reads = plain.reads;
-    }) in
+    let written : IsRecord v.lane number lines (body_of words) = (
+      p,
+      record {
+        spells = subst (λ (z : BodyParts). Rattle.fish_layout.specs.Cleared.Spells z (body_of words)) same spells;
+        lane_is = plain.lane_is;
+        number_is = plain.number_is;
+        lines_is = plain.lines_is;
+        reads = plain.reads;
+      },
+    ) in
     record {
       flying = ap (λ (z : View). z.flight) placed.known;
       unfilled = refl;

@@ -69,7 +69,7 @@ module _ (v u : View) (lines n a : ℕ) (is : u ≡ after_claim v lines n a) whe
       → t.shut ≡ Some (record { line = a; lines = lines; end = v.about.end })
   mark_shuts t kind published =
       ap (λ (z : View). z.shut) (published ∙ ap (λ (z : View). after_publish z (flight_at n a lines)) is)
-          ∙ ap (λ (z : Kind). shut_after z (flight_at n a lines) v.about.end v.shut) kind
+      ∙ ap (λ (z : Kind). shut_after z (flight_at n a lines) v.about.end v.shut) kind
 
 -- the kind of a region of so many lines, told by the log
 pub kind_is : (log : Log) (v : View) (p : Pass) (lines : ℕ) (r : Region) (kind : Kind) → IsPassOf log p → view p ≡ after_claim v lines r.number r.line

@@ -53,8 +53,8 @@ module _ (v : View) (f : Flight) (words : List ℕ) (can : CanFill v f words) wh
       let next : take i words ++ x ∷ [] ≡ take (i + 1) words = sym (ap (λ (z : ℕ). take z words) (add-one i) ∙ take-suc words i 0 less) in
       let long : suc (v.clock.steps + length (take i words)) ≡ v.clock.steps + length (take i words ++ x ∷ []) = (let e = length-append (take i words) (x ∷ []) in omega arith) in
       stored ∙ ap (λ (z : View). after_store z (having f (take i words)) x) is
-          ∙ (λ j. record v { flight = Some (having f (take i words ++ x ∷ [])); clock = record v.clock { steps = long j } })
-          ∙ ap (filled_view v f) next
+      ∙ (λ j. record v { flight = Some (having f (take i words ++ x ∷ [])); clock = record v.clock { steps = long j } })
+      ∙ ap (filled_view v f) next
 
   -- a record with all its words may be published
   pub can_publish_filled : (u : View) → u ≡ filled_view v f words → CanPublish u (having f words)

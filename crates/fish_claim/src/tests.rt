@@ -95,7 +95,10 @@ fn one_page(rt: HostRuntime) -> Result<(), Fail> {
     };
     assert_eq!(rt; store(alloc, &log, &mut pass, 16_376)?, placed(0, 0));
     assert_eq!(rt; store(alloc, &log, &mut pass, 16_376)?, placed(1, 16_376));
-    assert_eq!(rt; store(alloc, &log, &mut pass, 19)?, Claimed::Overflow { shut });
+    assert_eq!(rt;
+        store(alloc, &log, &mut pass, 19)?,
+        Claimed::Overflow { shut }
+    );
     assert_eq!(rt; is_shut(&pass), Some(shut));
     Ok(())
 }
@@ -116,7 +119,11 @@ fn two_pages(rt: HostRuntime) -> Result<(), Fail> {
         (19, placed(3, 32_771)),
     ];
     for (lines, want) in cases {
-        assert_eq!(rt; store(alloc, &log, &mut pass, lines)?, want, "{lines} lines");
+        assert_eq!(rt;
+            store(alloc, &log, &mut pass, lines)?,
+            want,
+            "{lines} lines"
+        );
     }
     Ok(())
 }

@@ -17,9 +17,12 @@ store_word-requires-clause-view c =
     let words : List ℕ = c.args.body.now in
     let less : i < length words = omega arith in
     let many : length (take i words) ≡ i = length-take-le i words (omega arith) in
-    let line = in_region (view c.args.pass.now).flight f c.in-Some.region can.flying (sym c.in-Some.is ∙ c.in_flight.ensures) in
-    (having f (take i words), can_store_next (view c.args.pass.now) f words can (view c.loop-offset.pass) i (c.loop-offset.invariant.known f can.flying) many less,
-        ap (λ (r : Region). r.line) line, many)
+    let line = in_region (view c.args.pass.now).flight f c.in-Some.region can.flying (sym c.in-Some.is ∙ c.in_flight.ensures) in (
+      having f (take i words),
+      can_store_next (view c.args.pass.now) f words can (view c.loop-offset.pass) i (c.loop-offset.invariant.known f can.flying) many less,
+      ap (λ (r : Region). r.line) line,
+      many,
+    )
 
 pub loop-offset-preserved : goal.loop-offset-preserved
 loop-offset-preserved c =
@@ -34,7 +37,7 @@ loop-offset-preserved c =
       known = λ g flying.
           let same : f ≡ g = (let e : Some f ≡ Some g = sym can.flying ∙ flying in cc) in
           filled_more (view c.args.pass.now) f words can (view c.loop-offset.pass) (view c.store_word.new.pass) i is (omega arith) stored
-              ∙ ap (λ (z : Flight). filled_view (view c.args.pass.now) z (take (i + 1) words)) same;
+          ∙ ap (λ (z : Flight). filled_view (view c.args.pass.now) z (take (i + 1) words)) same;
     }
 
 pub returns-clause-filled : goal.returns-clause-filled
@@ -42,6 +45,8 @@ returns-clause-filled c =
     let f : Flight = c.requires.view.0 in
     let can = c.requires.view.1 in
     let words : List ℕ = c.args.body.now in
-    let all : take c.loop-offset.offset words ≡ words = take_all c.loop-offset.offset words (omega arith) in
-    (having f words, can_publish_filled (view c.args.pass.now) f words can (view c.loop-offset.pass)
-        (c.loop-offset.invariant.known f can.flying ∙ ap (filled_view (view c.args.pass.now) f) all))
+    let all : take c.loop-offset.offset words ≡ words = take_all c.loop-offset.offset words (omega arith) in (
+      having f words,
+      can_publish_filled (view c.args.pass.now) f words can (view c.loop-offset.pass)
+          (c.loop-offset.invariant.known f can.flying ∙ ap (filled_view (view c.args.pass.now) f) all),
+    )

@@ -15,9 +15,12 @@ read_region-requires-clause-found g c =
     let f = c.requires.stored in
     let told = c.look_at-word.ensures.view in
     let extends = look_extends (view c.args.pass.now) (view c.look_at-word.new.pass) _ told.0 _ told.1 in
-    let word = c.look_at-word.ensures.known f.0 f.1 (f.2 ∙ sym c.from.ensures) in
-    (f.0, extends.learns.found f.0 f.1,
-        word_line (view c.args.pass.now) f.0 c.look_at-word.result c.requires.pass.stands c.requires.look.live f.1 f.3 word, stored_words f.0.kind f.3)
+    let word = c.look_at-word.ensures.known f.0 f.1 (f.2 ∙ sym c.from.ensures) in (
+      f.0,
+      extends.learns.found f.0 f.1,
+      word_line (view c.args.pass.now) f.0 c.look_at-word.result c.requires.pass.stands c.requires.look.live f.1 f.3 word,
+      stored_words f.0.kind f.3,
+    )
 
 pub returns-in_err-words-clause-extends : goal.returns-in_err-words-clause-extends
 returns-in_err-words-clause-extends g c =
@@ -58,9 +61,9 @@ returns-clause-entry g c =
     let at : c.deref.result.now ≡ c.in_ok-words.words.items = c.deref.ensures.value in
     let r = c.in_ok-lane.field-0 in
     subst (λ (z : ℕ). Tells (view c.read_region.new.pass) z (entry.Stored r.lane r.form r.payload)) f.2
-        (tells_entry (view c.read_region.new.pass) f.0 c.in_ok-words.words.items (c.read_region.ensures.extends.learns.found f.0 among) f.3 words r.lane r.form r.payload
-            (λ q b. c.in_ok-lane.ensures.lane q (subst (IsBody q) (sym at) b)) (λ q b. c.in_ok-lane.ensures.form q (subst (IsBody q) (sym at) b))
-            (λ q b. c.in_ok-lane.ensures.payload q (subst (IsBody q) (sym at) b)))
+    (tells_entry (view c.read_region.new.pass) f.0 c.in_ok-words.words.items (c.read_region.ensures.extends.learns.found f.0 among) f.3 words r.lane r.form r.payload
+    (λ q b. c.in_ok-lane.ensures.lane q (subst (IsBody q) (sym at) b)) (λ q b. c.in_ok-lane.ensures.form q (subst (IsBody q) (sym at) b))
+    (λ q b. c.in_ok-lane.ensures.payload q (subst (IsBody q) (sym at) b)))
 
 pub returns-clause-counted : goal.returns-clause-counted
 returns-clause-counted g c f was number is =
