@@ -7,6 +7,7 @@ pub mod Chained
 pub mod Claims
 pub mod Closing
 pub mod Common
+pub mod Counts
 pub mod Entries
 pub mod Extending
 pub mod Fills

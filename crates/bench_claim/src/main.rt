@@ -1,0 +1,158 @@
+//! Stores records of 1 KB from 1, 2 and 4 lanes, and prints how many bytes a second.
+#![tactic(auto)]
+
+ghost use Rattle.std.specs.Prelude.{◌≡◌, ◌<◌, ◌≤◌, ◌^◌, IfOk};
+ghost use Rattle.fish_claim.specs.Fills.{IsPlain};
+ghost use Rattle.fish_layout.specs.Body.{IsBody};
+ghost use Rattle.fish_layout.specs.declared.parts.BodyParts.{BodyParts};
+ghost use Rattle.fish_rule.specs.Passes.{IsPassOf};
+
+use fish_claim::{Claimed, claim, fill, publish};
+use fish_json::JsonRecord;
+use fish_layout::{Body, BodyParts, body_of, set_number};
+use fish_rule::{Log, Pass, Shape, Start, in_flight, is_shut, lane, open_log, split_pass};
+use fish_value::{Form, Sequence, Text};
+use std::alloc::{AllocError, Global};
+use std::io::Print;
+use std::process::ExitCode;
+use std::thread::{Threads, join_mut};
+use std::time::{Clock, Instant};
+
+/// The lines of a record, of 32 bytes each.
+const LINES: u64 = 32;
+
+/// How many records one run stores.
+const RECORDS: u64 = 200_000;
+
+/// An object in JSON that fills a record.
+fn object_of(alloc: Global) -> Result<Text, AllocError> {
+    let mut text = String::new(alloc);
+    text.push_str("{\"p\":\"")?;
+    for _ in 2..LINES * 4 {
+        text.push_str("payload ")?;
+    }
+    text.push_str("\"}")?;
+    Ok(Text::from_string(text))
+}
+
+/// The words of a record of a lane.
+fn record_words(alloc: Global, lane: u8) -> Result<Body, AllocError>
+    requires lane { (1 ≤ lane) × (lane ≤ 16) }
+    ensures { IfOk result (λ body. (p : BodyParts) × IsPlain lane p.number 32 p × IsBody p body) }
+{
+    let payload = object_of(alloc)?;
+    if payload.as_bytes().len() > 524_288 {
+        return Err(AllocError);
+    }
+    let Ok(_) = JsonRecord::read(alloc, payload.as_bytes()) else {
+        return Err(AllocError);
+    };
+    let parts = BodyParts {
+        form: Form::Json,
+        lane,
+        version: 0,
+        number: 0,
+        keys: Sequence::new(alloc),
+        payload,
+    };
+    let body = body_of(alloc, &parts)?;
+    if body.len() as u64 != LINES * 4 {
+        return Err(AllocError);
+    }
+    Ok(body)
+}
+
+/// Stores one record.
+fn store_one(log: &Log, pass: &mut Pass, lane_of: u8, body: &mut Body)
+    requires pass { IsPassOf log.now pass.old }
+    requires body { (p : BodyParts) × IsPlain lane_of p.number 32 p × IsBody p body.old }
+    ensures pass { IsPassOf log.now pass.new }
+    ensures body { (p : BodyParts) × IsPlain lane_of p.number 32 p × IsBody p body.new }
+{
+    if lane_of < 1
+        || lane(pass) != lane_of
+        || in_flight(pass).is_some()
+        || is_shut(pass).is_some()
+    {
+        return;
+    }
+    if let Claimed::Placed { number, .. } = claim(log, pass, LINES) {
+        if number >= 1 << 28 {
+            return;
+        }
+        set_number(body, number);
+        fill(log, pass, body.as_slice());
+        publish(log, pass);
+    }
+}
+
+/// Stores so many records.
+fn store_all(log: &Log, pass: &mut Pass, lane: u8, body: &mut Body, count: u64)
+    requires pass { IsPassOf log.now pass.old }
+    requires body { (p : BodyParts) × IsPlain lane p.number 32 p × IsBody p body.old }
+    ensures pass { IsPassOf log.now pass.new }
+{
+    for _ in 0..count {
+        store_one(log, pass, lane, body);
+    }
+}
+
+/// One lane.
+fn one_lane<R: Clock + AllocGlobal + Print>(rt: &R) -> Result<(), AllocError> {
+    let alloc = rt.alloc();
+    let shape = Shape {
+        pages: 256,
+        bucket_bits: 4,
+    };
+    let (log, mut main) = open_log(alloc, shape, &Start::Empty)?;
+    let mut body = record_words(alloc, 1)?;
+    let Ok(start) = Instant::now(rt) else {
+        return Ok(());
+    };
+    store_all(&log, &mut main, 1, &mut body, RECORDS);
+    let Ok(took) = start.elapsed(rt) else {
+        return Ok(());
+    };
+    let _ = rt.println(format_args!(
+        "1 lane: {} ns for {RECORDS} records of 1024 bytes",
+        took.as_nanos()
+    ));
+    Ok(())
+}
+
+/// Two lanes.
+fn two_lanes<R: Threads + Sync + Clock + AllocGlobal + Print>(rt: &R) -> Result<(), AllocError> {
+    let alloc = rt.alloc();
+    let shape = Shape {
+        pages: 256,
+        bucket_bits: 4,
+    };
+    let (log, mut main) = open_log(alloc, shape, &Start::Empty)?;
+    let mut other = split_pass(&log, &mut main, 2);
+    let mut body = record_words(alloc, 1)?;
+    let mut second = record_words(alloc, 2)?;
+    let Ok(start) = Instant::now(rt) else {
+        return Ok(());
+    };
+    join_mut(
+        rt,
+        &mut || store_all(&log, &mut main, 1, &mut body, RECORDS / 2),
+        &mut || store_all(&log, &mut other, 2, &mut second, RECORDS / 2),
+    );
+    let Ok(took) = start.elapsed(rt) else {
+        return Ok(());
+    };
+    let _ = rt.println(format_args!(
+        "2 lanes: {} ns for {RECORDS} records of 1024 bytes",
+        took.as_nanos()
+    ));
+    Ok(())
+}
+
+fn main(rt: HostRuntime) -> ExitCode {
+    for _ in 0..3 {
+        let _ = one_lane(&rt);
+        let _ = two_lanes(&rt);
+    }
+    ExitCode::SUCCESS
+}

@@ -1,0 +1,74 @@
+-- Which bodies may be stored for a claim.
+use Rattle.std.proofs.Common.{◌≡◌, ◌≢◌, ℕ, ◌+◌, ◌*◌, List, [], length, get_or, refl, sym, ap, ◌∙◌, subst, Some}
+use Rattle.fish_claim.specs.Claims.{IsClaimed, answer_of, claimed_view}
+use Rattle.fish_claim.specs.Fills.{CanFill, IsPlain}
+use Rattle.fish_claim.specs.declared.claimed.Claimed.TheVariants as answer
+use Rattle.fish_layout.proofs.Outlines.{body_length}
+use Rattle.fish_layout.proofs.Spelled.{body_says, spelled_body}
+use Rattle.fish_layout.specs.Body.{IsBody, body_lines}
+use Rattle.fish_layout.specs.Cleared.{body_of, unlink, unlinked}
+use Rattle.fish_layout.specs.declared.parts.BodyParts.{BodyParts}
+use Rattle.fish_rule.specs.Regions.{IsRecord, kind_of}
+use Rattle.fish_rule.specs.Steps.{after_claim, flight_at, flight_kind}
+use Rattle.fish_rule.specs.declared.view.Flight.{Flight}
+use Rattle.fish_rule.specs.declared.view.Kind.{Kind}
+use Rattle.fish_rule.specs.declared.view.Kind.TheVariants.{Mark, Stored, Void}
+use Rattle.fish_rule.specs.declared.view.View.{View}
+
+-- ---- what an answer tells
+
+-- a place is answered for the region of a record alone
+place_stored : (kind : Kind) (end n a lines number line : ℕ) → answer.Placed number line ≡ answer_of kind end n a lines → (kind ≡ Stored) × (n ≡ number) × (a ≡ line)
+place_stored Stored end n a lines number line e = (refl, cc, cc)
+place_stored Void end n a lines number line e = cc
+place_stored Mark end n a lines number line e = cc
+
+-- the record of a place is in flight, and its region is within a page
+pub record Placed (v : View) (lines number line : ℕ) (u : View) : Type 0 where
+  pub known : u ≡ after_claim v lines number line
+  pub stored : flight_kind u (flight_at number line lines) ≡ Stored
+
+-- so it is where the answer is a place
+pub placed_law : (v u : View) (lines number line : ℕ) → IsClaimed v lines (answer.Placed number line) u → Placed v lines number line u
+placed_law v u lines number line is =
+    let t = place_stored (kind_of v.about.end is.line (is.line + lines)) v.about.end is.number is.line lines number line is.answered in
+    let kind : kind_of v.about.end line (line + lines) ≡ Stored = subst (λ (z : ℕ). kind_of v.about.end z (z + lines) ≡ Stored) t.2 t.0 in
+    let known : u ≡ after_claim v lines number line =
+    is.known ∙ ap (λ (z : Kind). claimed_view z v lines is.number is.line) t.0 ∙ (λ i. after_claim v lines (t.1 i) (t.2 i)) in
+    record { known = known; stored = subst (λ (z : View). flight_kind z (flight_at number line lines) ≡ Stored) (sym known) kind }
+
+-- ---- bodies
+
+-- without key entries no word is cleared
+same_parts : (p : BodyParts) → p.keys ≡ [] → unlinked p ≡ p
+same_parts p none = λ i. record p { keys = (ap unlink none ∙ sym none) i }
+
+-- the words of a record without keys may be stored for a place of its number and lines
+pub body_law : (v u : View) (lines number line : ℕ) (p : BodyParts) (words : List ℕ) → Placed v lines number line u → IsPlain v.lane number lines p → IsBody p words
+    → CanFill u (flight_at number line lines) words
+body_law v u lines number line p words placed plain is =
+    let says = body_says is in
+    let same = same_parts p plain.keys in
+    let length_is = plain.lines_is in
+    let full : length words ≡ lines * 4 = body_length is ∙ ap (λ (z : ℕ). z * 4) length_is in
+    let spells = spelled_body words is in
+    let written : IsRecord v.lane number lines (body_of words) = (
+      p,
+      record {
+        spells = subst (λ (z : BodyParts). Rattle.fish_layout.specs.Cleared.Spells z (body_of words)) same spells;
+        lane_is = plain.lane_is;
+        number_is = plain.number_is;
+        lines_is = plain.lines_is;
+        reads = plain.reads;
+      },
+    ) in
+    record {
+      flying = ap (λ (z : View). z.flight) placed.known;
+      unfilled = refl;
+      unlinked = refl;
+      stored = placed.stored;
+      full = full;
+      written = subst (λ (z : View). IsRecord z.lane number lines (body_of words)) (sym placed.known) written;
+      version = says.version ∙ plain.version;
+      keys = says.keys ∙ ap length plain.keys;
+    }

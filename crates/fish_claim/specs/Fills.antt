@@ -1,0 +1,39 @@
+-- The words of a record in flight.
+use Rattle.std.specs.Prelude.{ℕ, ◌≡◌, ◌+◌, ◌*◌, List, [], length, slice_index, IsTrue, Some}
+use Rattle.fish_layout.specs.Body.{body_lines}
+use Rattle.fish_layout.specs.Cleared.{body_of}
+use Rattle.fish_layout.specs.Header.{keys_of, version_of}
+use Rattle.fish_layout.specs.declared.parts.BodyParts.{BodyParts}
+use Rattle.fish_psf.specs.Records.{is_record}
+use Rattle.fish_rule.specs.Regions.{IsRecord}
+use Rattle.fish_rule.specs.Steps.{flight_kind}
+use Rattle.fish_rule.specs.declared.view.Flight.{Flight}
+use Rattle.fish_rule.specs.declared.view.Kind.TheVariants.{Stored}
+use Rattle.fish_rule.specs.declared.view.View.{View}
+
+-- f is the record in flight, with nothing stored, and the words are all of a record for it: of the pass's lane, with f's number and lines, version 0 and no key entries
+pub record CanFill (v : View) (f : Flight) (words : List ℕ) : Type 0 where
+  pub flying : v.flight ≡ Some f
+  pub unfilled : f.words ≡ []
+  pub unlinked : f.linked ≡ 0
+  pub stored : flight_kind v f ≡ Stored
+  pub full : length words ≡ f.lines * 4
+  pub written : IsRecord v.lane f.number f.lines (body_of words)
+  pub version : version_of (slice_index words 0) ≡ 0
+  pub keys : keys_of (slice_index words 0) ≡ 0
+
+-- the parts of a record that may be stored: of this lane, number and lines, at version 0, with no key entries, and a payload that is a record of its form
+pub record IsPlain (lane number lines : ℕ) (p : BodyParts) : Type 0 where
+  pub lane_is : p.lane ≡ lane
+  pub number_is : p.number ≡ number
+  pub lines_is : body_lines p ≡ lines
+  pub version : p.version ≡ 0
+  pub keys : p.keys ≡ []
+  pub reads : IsTrue (is_record p.form p.payload)
+
+-- the words are stored, a step each
+abbrev pub filled_view : View → Flight → List ℕ → View
+filled_view v f words = record v {
+  flight = Some (record f { words = words });
+  clock = record v.clock { steps = v.clock.steps + length words };
+}

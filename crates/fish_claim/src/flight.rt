@@ -1,0 +1,41 @@
+//! The words of a record in flight, and its publication.
+
+ghost use Rattle.std.specs.Prelude.{◌≡◌};
+ghost use Rattle.fish_claim.specs.Fills.{CanFill, filled_view};
+ghost use Rattle.fish_rule.specs.Passes.{IsPassOf, view};
+ghost use Rattle.fish_rule.specs.Steps.{CanPublish, after_publish, flight_kind};
+ghost use Rattle.fish_rule.specs.declared.view.Flight.{Flight};
+ghost use Rattle.fish_rule.specs.declared.view.Kind.TheVariants.{Stored};
+
+use fish_rule::{Log, Pass, in_flight, publish_region, store_word};
+
+/// Stores all words of the record in flight, in order.
+pub fn fill(log: &Log, pass: &mut Pass, body: &[u64])
+    requires pass { IsPassOf log.now pass.old }
+    requires view { (f : Flight) × CanFill (view pass.old) f body.now }
+    ensures pass { IsPassOf log.now pass.new }
+    ensures view { (f : Flight) → (view pass.old).flight ≡ Some f → view pass.new ≡ filled_view (view pass.old) f body.now }
+    ensures filled { (f : Flight) × CanPublish (view pass.new) f }
+{
+    let Some(region) = in_flight(pass) else {
+        unreachable!()
+    };
+    for (offset, word) in body.iter().enumerate() {
+        store_word(log, pass, &region, offset as u64, *word);
+    }
+}
+
+/// Publishes the record in flight, and answers its number.
+pub fn publish(log: &Log, pass: &mut Pass) -> u32
+    requires pass { IsPassOf log.now pass.old }
+    requires view { (f : Flight) × CanPublish (view pass.old) f × (flight_kind (view pass.old) f ≡ Stored) }
+    ensures pass { IsPassOf log.now pass.new }
+    ensures view { (f : Flight) → (view pass.old).flight ≡ Some f → view pass.new ≡ after_publish (view pass.old) f }
+    ensures number { (f : Flight) → (view pass.old).flight ≡ Some f → result ≡ f.number }
+{
+    let Some(region) = in_flight(pass) else {
+        unreachable!()
+    };
+    publish_region(log, pass, &region);
+    region.number as u32
+}

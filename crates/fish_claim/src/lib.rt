@@ -1,0 +1,13 @@
+//! The record that a pass stores: its claim, its words and its publication.
+//!
+//! A line has 32 bytes, which are four words. Nothing here takes memory, and every shared word is
+//! touched by `fish_rule` alone.
+#![tactic(auto)]
+
+mod claimed;
+mod flight;
+#[cfg(test)]
+mod tests;
+
+pub use claimed::{Claimed, claim};
+pub use flight::{fill, publish};

@@ -1,0 +1,25 @@
+-- What a look tells.
+use Rattle.std.specs.Prelude.{ℕ, ◌≡◌, zero, suc, Option, Some, None, ⊤}
+use Rattle.fish_rule.specs.Steps.{kind_told}
+use Rattle.fish_rule.specs.World.{high}
+use Rattle.fish_rule.specs.declared.view.Kind.{Kind}
+use Rattle.fish_rule.specs.declared.view.Kind.TheVariants as kind
+use Rattle.fish_rule.specs.declared.view.Position.{Position}
+use Rattle.fish_walk.specs.declared.outcome.Look.{Look}
+use Rattle.fish_walk.specs.declared.outcome.Look.TheVariants as found
+
+-- what a published number of a kind is found to be
+abbrev pub look_of_kind : Kind → Look
+look_of_kind kind.Stored = found.Stored
+look_of_kind kind.Void = found.Void
+look_of_kind kind.Mark = found.Overflow
+
+-- what a directory word tells: 0 that its number isn't published, any other its kind
+abbrev pub look_of : ℕ → Look
+look_of zero = found.Unfinished
+look_of (suc x) = look_of_kind (kind_told (high (suc x)))
+
+-- so many numbers are claimed where the tail is here
+abbrev pub IsCount : ℕ → Option Position → Type 0
+IsCount n None = ⊤
+IsCount n (Some tail) = tail.number ≡ n

@@ -1,0 +1,32 @@
+//! What a number is found to be, and how many there are.
+
+ghost use Rattle.std.specs.Prelude.{◌≡◌, ◌≢◌, ℕ, []};
+ghost use Rattle.fish_rule.specs.Passes.{IsPassOf, view};
+ghost use Rattle.fish_rule.specs.Steps.{CanLook, IsAlone, after_end, after_look};
+ghost use Rattle.fish_rule.specs.World.{high};
+ghost use Rattle.fish_walk.specs.Looks.{IsCount, look_of};
+ghost use Rattle.fish_walk.specs.declared.outcome.Look.TheVariants.{Unfinished};
+
+use crate::outcome::{Look, told_by};
+use fish_rule::{Log, Pass, load_tail, look_at};
+
+/// What became of a number, by one load of its directory word.
+pub fn look(log: &Log, pass: &mut Pass, number: u32) -> Look
+    requires pass { IsPassOf log.now pass.old }
+    requires view { CanLook (view pass.old) number }
+    ensures pass { IsPassOf log.now pass.new }
+    ensures view { (lines word : ℕ) × (view pass.new ≡ after_look (view pass.old) number lines word) × (result ≡ look_of word) }
+    ensures alone { IsAlone (view pass.old) → result ≢ Unfinished }
+{
+    told_by(look_at(log, pass, u64::from(number)))
+}
+
+/// How many numbers are claimed, by one load of the tail.
+pub fn count_now(log: &Log, pass: &mut Pass) -> u32
+    requires { IsPassOf log.now pass.old }
+    ensures pass { IsPassOf log.now pass.new }
+    ensures view { (x : ℕ) × (view pass.new ≡ after_end (view pass.old) x) × (result ≡ high x) }
+    ensures rests { (view pass.old).lane ≡ 1 → (view pass.old).out ≡ [] → IsCount result (view pass.old).tail }
+{
+    load_tail(log, pass).number as u32
+}
