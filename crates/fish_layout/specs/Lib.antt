@@ -2,6 +2,7 @@ pub mod Body
 pub mod Bytes
 pub mod Cleared
 pub mod Entry
+pub mod Hash
 pub mod Header
 pub mod Headers
 pub mod Outline

@@ -6,6 +6,7 @@
 #![tactic(auto)]
 
 mod body;
+mod hash;
 mod header;
 mod keys;
 mod outline;
@@ -18,6 +19,7 @@ mod word;
 mod write;
 
 pub use body::{Body, set_number};
+pub use hash::{bucket_of, key_hash};
 pub use header::{Header, header_of, void_header};
 pub use parts::{BodyParts, KeyPart, KeyParts, MAX_KEYS, MAX_LANE, MAX_PAYLOAD, MAX_VERSION};
 pub use read::{Payload, read_body, read_payload};
