@@ -1,5 +1,5 @@
 //! The words of a record: its header, the entries of its indexed properties, their values, and its
-//! payload, as they stand in the log, both ways.
+//! payload, as they stand in the log, both ways; and the hash that puts a key into its bucket.
 //!
 //! Words have 64 bits, and bytes fill them low byte first. A line has four words. What the words of
 //! a record are is a definition on its parts, in `specs/`.
