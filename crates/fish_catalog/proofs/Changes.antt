@@ -138,7 +138,8 @@ IsCatalog-with_from rows id from old awaits =
     let new : CatRow = record row { from = Some from } in
     let is = with_from-set rows id from row awaits.there in
     let within = slice_get_within rows id row awaits.there in
-    let proper : IsRow row = subst IsRow (get_or_from_slice_get rows id row row awaits.there) (old.each id row within) in
+    let proper : IsRow row =
+    subst IsRow (get_or_from_slice_get rows id row row awaits.there) (old.each id row within) in
     let each = All-set IsRow rows id new (record {
       name = proper.name;
       text = proper.text;
