@@ -9,11 +9,7 @@ use std::alloc::{AllocError, Global};
 #[derive(Debug, Drop)]
 pub enum Entry {
     /// A record, with the lane that stored it, from 1 on.
-    Stored {
-        lane: u8,
-        form: Form,
-        payload: Text,
-    },
+    Stored { lane: u8, form: Form, payload: Text },
     /// The padding at a page's end.
     Void,
 }

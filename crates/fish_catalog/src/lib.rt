@@ -1,6 +1,13 @@
-//! What a log holds: its entries in the order of their numbers.
+//! What a store knows: the entries of its log in the order of their numbers, and the rows of its
+//! definitions in the order of their ids.
 #![tactic(auto)]
 
+mod catalog;
 mod entry;
+mod row;
+#[cfg(test)]
+mod tests;
 
+pub use catalog::{CatRefusal, Catalog, MAX_ACTIVE, MAX_ROWS};
 pub use entry::{Entries, Entry};
+pub use row::{CatRow, MAX_NAME};

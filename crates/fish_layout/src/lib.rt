@@ -1,11 +1,12 @@
 //! The words of a record: its header, the entries of its indexed properties, their values, and its
-//! payload, as they stand in the log, both ways.
+//! payload, as they stand in the log, both ways; and the hash that puts a key into its bucket.
 //!
 //! Words have 64 bits, and bytes fill them low byte first. A line has four words. What the words of
 //! a record are is a definition on its parts, in `specs/`.
 #![tactic(auto)]
 
 mod body;
+mod hash;
 mod header;
 mod keys;
 mod outline;
@@ -18,6 +19,7 @@ mod word;
 mod write;
 
 pub use body::{Body, set_number};
+pub use hash::{bucket_of, key_hash};
 pub use header::{Header, header_of, void_header};
 pub use parts::{BodyParts, KeyPart, KeyParts, MAX_KEYS, MAX_LANE, MAX_PAYLOAD, MAX_VERSION};
 pub use read::{Payload, read_body, read_payload};

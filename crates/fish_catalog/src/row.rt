@@ -1,0 +1,34 @@
+//! One row of the catalogue: a definition under its name, and where its index begins and ends.
+
+ghost use Rattle.std.specs.Prelude.{◌≡◌, ◌↔◌, IsTrue};
+ghost use Rattle.fish_catalog.specs.Rows.{IsActive, is_active};
+
+use fish_value::Text;
+
+/// The most bytes of a name.
+pub const MAX_NAME: usize = 32;
+
+/// A definition that was registered.
+#[derive(Debug, Drop)]
+pub struct CatRow {
+    /// Its number among all rows, from 0 on.
+    pub id: u16,
+    /// What users call it.
+    pub name: Text,
+    /// Its canonical text.
+    pub def: Text,
+    /// The first record of its index, or none where the index hasn't begun.
+    pub from: Option<u32>,
+    /// The first record behind its index, or none where the row is active.
+    pub to: Option<u32>,
+}
+
+impl CatRow {
+    /// Whether records that come are still indexed by it, or will be.
+    pub fn is_active(&self) -> bool
+        ensures value { result ≡ is_active self.now }
+        ensures active { IsTrue result ↔ IsActive self.now }
+    {
+        self.to.is_none()
+    }
+}
