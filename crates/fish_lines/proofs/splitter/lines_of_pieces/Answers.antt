@@ -9,8 +9,10 @@ pub loop-piece-preserved : goal.loop-piece-preserved
 loop-piece-preserved c =
     let i = c.loop-piece.piece-index in
     let pieces = c.args.pieces.now in
-    let more = ap (λ l. concat (take i pieces) ++ l) c.as_bytes.ensures ∙ pieces_more pieces i c.piece-item.result c.loop-piece-test.true c.piece-item.is in
+    let more = ap (λ l. concat (take i pieces) ++ l) c.as_bytes.ensures
+      ∙ pieces_more pieces i c.piece-item.result c.loop-piece-test.true c.piece-item.is in
     record {
       going = c.feed.ensures.going;
-      fed = subst (λ l. HasTaken c.feed.new.self l []) more (c.in_ok-feed.ensures.fed (concat (take i pieces)) [] c.loop-piece.invariant.fed);
+      fed = subst (λ l. HasTaken c.feed.new.self l []) more
+        (c.in_ok-feed.ensures.fed (concat (take i pieces)) [] c.loop-piece.invariant.fed);
     }
