@@ -1,15 +1,15 @@
 -- What is kept of a line that grows, and the line that it is.
-use Rattle.std.proofs.Common.{◌≡◌, ◌≢◌, ℕ, ◌+◌, ◌-◌, ◌<◌, ◌≤◌, zero, suc, List, [], ◌∷◌, ◌++◌, length, take, get_or, Bool, true, false, cond, refl, sym, ap, ◌∙◌, arith, append_assoc, append-nil, length-append, length-take}
-use Rattle.std.specs.Prelude.{◌==◌, ◌&&◌, slice_index, map, filter, not, nat_le, nat_eq, if◌then◌else◌}
-use Rattle.std.specs.List.{list_all, slice_split}
+use Rattle.std.proofs.Common.{◌≡◌, ℕ, ◌+◌, ◌-◌, ◌≤◌, zero, suc, List, [], ◌∷◌, ◌++◌, length, take, Bool, true, false, refl, sym, ap, ◌∙◌, arith, append_assoc, append-nil, length-append, length-take}
+use Rattle.std.specs.Prelude.{◌==◌, slice_index, map, nat_le, if◌then◌else◌}
+use Rattle.std.specs.List.{slice_split}
 use Rattle.std.specs.Str.Lines.{strip_carriage_return}
 use Rattle.std.proofs.lemmas.Bool.{eqb-true}
 use Rattle.std.proofs.lemmas.Bool.Decides.{nat_tests}
 use Rattle.std.proofs.lemmas.List.{take-take, take_all, take_at, take-append-le, length-take-le, get_or_push}
 use Rattle.std.proofs.Math.Seq.{take-append-add}
-use Rattle.fish_json.specs.Lines.{is_blank, is_blank_byte, is_line_end}
+use Rattle.fish_json.specs.Lines.{is_blank, is_line_end}
 use Rattle.fish_json.specs.declared.record.TheConstants.{MAX_PAYLOAD}
-use Rattle.fish_lines.specs.Lines.{given, given_of, with_line}
+use Rattle.fish_lines.specs.Lines.{given, given_of}
 use Rattle.fish_lines.specs.Open.{IsOpen, cr_if, ends_in_cr, line_in}
 use Rattle.fish_lines.specs.declared.open_line.OpenLine.{OpenLine}
 use Rattle.fish_lines.specs.declared.open_line.TheConstants.{KEPT}
@@ -64,7 +64,7 @@ ends_in_cr-push x c = ap (λ d. d == 13) (last-is x c)
 pub strip-push : (x : List ℕ) (c : ℕ) → strip_carriage_return (x ++ c ∷ []) ≡ (if c == 13 then x else x ++ c ∷ [])
 strip-push x c =
     let front : take (length (x ++ c ∷ []) - 1) (x ++ c ∷ []) ≡ x =
-      take_at x (c ∷ []) _ (omega (arith, length-append x (c ∷ []))) in
+    take_at x (c ∷ []) _ (omega (arith, length-append x (c ∷ []))) in
     rw (last-is x c, front) refl
 
 -- a text without the CR at its end, and then that CR
@@ -93,7 +93,7 @@ pub strip-append : (t : List ℕ) (d : ℕ) (p : List ℕ)
 strip-append t d p =
     let e = ends_in d p in
     ap (λ l. strip_carriage_return (t ++ l)) e.are
-      ∙ ap strip_carriage_return (sym (append_assoc t e.front (e.last ∷ [])))
+    ∙ ap strip_carriage_return (sym (append_assoc t e.front (e.last ∷ [])))
     ∙ strip-push (t ++ e.front) e.last ∙ behind-cases t e.front e.last (e.last == 13)
     ∙ sym (ap (λ l. t ++ l) (ap strip_carriage_return e.are ∙ strip-push e.front e.last))
 
@@ -108,13 +108,13 @@ ends_in_cr-append t d p =
 -- what is kept of a longer line comes from what was kept of the shorter
 kept-grown : (k : ℕ) (t : List ℕ) (d : ℕ) (p : List ℕ)
     → take k (take k (strip_carriage_return t) ++ cr_if (ends_in_cr t) ++ strip_carriage_return (d ∷ p))
-      ≡ take k (strip_carriage_return (t ++ d ∷ p))
+    ≡ take k (strip_carriage_return (t ++ d ∷ p))
 kept-grown k t d p =
     let s = strip_carriage_return t in
     let cr = cr_if (ends_in_cr t) in
     let more = strip_carriage_return (d ∷ p) in
     ap (take k) (append_assoc (take k s) cr more) ∙ take_front k s (cr ++ more)
-      ∙ ap (take k) (sym (append_assoc s cr more))
+    ∙ ap (take k) (sym (append_assoc s cr more))
     ∙ ap (λ l. take k (l ++ more)) (strip-whole t) ∙ ap (take k) (sym (strip-append t d p))
 
 -- an open line that grew
@@ -126,7 +126,7 @@ IsOpen-grown o bytes t d p one was is = record {
   no_end = no_end-append t (d ∷ p) was.no_end one;
   kept = is ∙ ap (λ l. take KEPT (l ++ cr_if o.ends_in_cr ++ strip_carriage_return (d ∷ p))) was.kept
       ∙ ap (λ cr. take KEPT (take KEPT (strip_carriage_return t) ++ cr_if cr ++ strip_carriage_return (d ∷ p)))
-        was.cr
+      was.cr
       ∙ kept-grown KEPT t d p;
   cr = sym (ends_in_cr-append t d p);
 }
@@ -150,7 +150,7 @@ pub append_cr : (k : ℕ) (cr : Bool) (bytes text more : List ℕ) → cr ≡ tr
     → take k (bytes ++ more) ≡ take k (bytes ++ cr_if cr ++ text)
 append_cr k true bytes text more h is =
     ap (λ l. take k (bytes ++ l)) is ∙ ap (take k) (sym (append_assoc bytes (13 ∷ []) (take k text)))
-      ∙ take_behind k k (bytes ++ 13 ∷ []) text (omega arith)
+    ∙ take_behind k k (bytes ++ 13 ∷ []) text (omega arith)
 append_cr k false bytes text more h is = cc
 
 -- ---- the line that is kept

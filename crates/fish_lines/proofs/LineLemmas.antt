@@ -1,9 +1,9 @@
 -- A file is cut at its first LF, which a search has found.
-use Rattle.std.proofs.Common.{◌≡◌, ℕ, ◌+◌, ◌<◌, ◌≤◌, zero, suc, List, [], ◌∷◌, length, take, drop, refl, ap, arith}
-use Rattle.std.specs.Prelude.{Bool, true, false, not, slice_index, ◌==◌, map, filter, if◌then◌else◌}
+use Rattle.std.proofs.Common.{◌≡◌, ℕ, ◌+◌, ◌<◌, zero, suc, List, [], ◌∷◌, length, take, drop, refl, ap, arith}
+use Rattle.std.specs.Prelude.{Bool, true, false, not, map, filter, if◌then◌else◌}
 use Rattle.std.specs.List.{slice_split, onto_first}
 use Rattle.std.specs.Str.Lines.{strip_carriage_return}
-use Rattle.memchr.specs.Find.{Nowhere, Passes, NoneBefore, is_byte}
+use Rattle.memchr.specs.Find.{Passes, is_byte}
 use Rattle.fish_json.specs.Lines.{is_blank, is_line_end, lines_of}
 use Rattle.fish_lines.specs.Lines.{with_line}
 
@@ -30,7 +30,7 @@ slice_split_first_end (x ∷ xs) (suc k) within before ends =
     let here : is_line_end x ≡ false = failed (is_line_end x) (before 0 (omega arith)) in
     let next : suc k + 1 ≡ suc (k + 1) = omega arith in
     rw (here, next) (ap (onto_first x)
-      (slice_split_first_end xs k (omega arith) (λ j less. before (suc j) (omega arith)) ends))
+    (slice_split_first_end xs k (omega arith) (λ j less. before (suc j) (omega arith)) ends))
 
 -- the part in front of the first LF has none
 pub slice_split_front : (b : List ℕ) (k : ℕ) → k < length b → ((j : ℕ) → j < k → ¬ Passes (is_byte 10) b j)
@@ -44,7 +44,7 @@ slice_split_front (x ∷ xs) (suc k) within before =
 -- a filter at a line whose test is known
 filter-cons : (line : List ℕ) (lines : List (List ℕ)) (blank : Bool) → is_blank line ≡ blank
     → filter (λ l. not (is_blank l)) (line ∷ lines)
-      ≡ (if blank then filter (λ l. not (is_blank l)) lines else line ∷ filter (λ l. not (is_blank l)) lines)
+    ≡ (if blank then filter (λ l. not (is_blank l)) lines else line ∷ filter (λ l. not (is_blank l)) lines)
 filter-cons line lines true h = rw h
 filter-cons line lines false h = rw h
 
@@ -53,4 +53,4 @@ pub lines_of-cons : (part : List ℕ) (parts : List (List ℕ))
     → lines_of (part ∷ parts) ≡ with_line (strip_carriage_return part) (lines_of parts)
 lines_of-cons part parts =
     filter-cons (strip_carriage_return part) (map strip_carriage_return parts)
-      (is_blank (strip_carriage_return part)) refl
+    (is_blank (strip_carriage_return part)) refl

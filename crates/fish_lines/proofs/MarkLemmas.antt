@@ -1,5 +1,5 @@
 -- Whether bytes begin with a byte order mark, when more bytes come.
-use Rattle.std.proofs.Common.{◌≡◌, ℕ, ◌<◌, List, [], ◌∷◌, ◌++◌, length, drop, Bool, true, false, cond, refl, sym, ap, subst, ◌∙◌, arith}
+use Rattle.std.proofs.Common.{◌≡◌, ℕ, ◌<◌, List, [], ◌∷◌, ◌++◌, length, Bool, true, false, cond, refl, sym, ap, subst, ◌∙◌, arith}
 use Rattle.std.specs.Prelude.{◌&&◌, nat_eq, nat_lt, if◌then◌else◌}
 use Rattle.std.specs.Cmp.Lexicographic.{pointwise}
 use Rattle.std.proofs.lemmas.Bool.{eqb-true}
@@ -25,7 +25,7 @@ undecided_cases P none one two (x ∷ []) h =
 undecided_cases P none one two (x ∷ y ∷ []) h =
     let first : x ≡ 239 = eqb-true x 239 (and-left (nat_eq x 239) (nat_eq y 187 && true) h) in
     let second : y ≡ 187 = eqb-true y 187
-      (and-left (nat_eq y 187) true (and-right (nat_eq x 239) (nat_eq y 187 && true) h)) in
+    (and-left (nat_eq y 187) true (and-right (nat_eq x 239) (nat_eq y 187 && true) h)) in
     subst (λ n. P (n ∷ y ∷ [])) (sym first) (subst (λ n. P (239 ∷ n ∷ [])) (sym second) two)
 undecided_cases P none one two (x ∷ y ∷ z ∷ b) h =
     let short : nat_lt (length (x ∷ y ∷ z ∷ b)) 3 ≡ true = and-left (nat_lt (length (x ∷ y ∷ z ∷ b)) 3) _ h in
@@ -58,7 +58,7 @@ one-cases : (x : ℕ) (more : List ℕ) (t : Bool) → nat_eq 239 x ≡ t → is
     → without_mark (x ∷ more) ≡ without_mark (x ∷ []) ++ more
 one-cases x more true h open_yet =
     let wrong : is_undecided (239 ∷ []) ≡ false =
-      subst (λ n. is_undecided (n ∷ []) ≡ false) (sym (eqb-true 239 x h)) open_yet in cc
+    subst (λ n. is_undecided (n ∷ []) ≡ false) (sym (eqb-true 239 x h)) open_yet in cc
 one-cases x more false h open_yet = other_first x more h ∙ sym (ap (λ l. l ++ more) (other_first x [] h))
 
 two-cases : (x y : ℕ) (more : List ℕ) (t u : Bool) → nat_eq 239 x ≡ t → nat_eq 187 y ≡ u
@@ -66,9 +66,9 @@ two-cases : (x y : ℕ) (more : List ℕ) (t u : Bool) → nat_eq 239 x ≡ t �
     → without_mark (x ∷ y ∷ more) ≡ without_mark (x ∷ y ∷ []) ++ more
 two-cases x y more true true h k open_yet =
     let first : is_undecided (239 ∷ y ∷ []) ≡ false =
-      subst (λ n. is_undecided (n ∷ y ∷ []) ≡ false) (sym (eqb-true 239 x h)) open_yet in
+    subst (λ n. is_undecided (n ∷ y ∷ []) ≡ false) (sym (eqb-true 239 x h)) open_yet in
     let wrong : is_undecided (239 ∷ 187 ∷ []) ≡ false =
-      subst (λ n. is_undecided (239 ∷ n ∷ []) ≡ false) (sym (eqb-true 187 y k)) first in cc
+    subst (λ n. is_undecided (239 ∷ n ∷ []) ≡ false) (sym (eqb-true 187 y k)) first in cc
 two-cases x y more true false h k open_yet = other_second x y more h k
     ∙ sym (ap (λ l. l ++ more) (other_second x y [] h k))
 two-cases x y more false u h k open_yet = other_first x (y ∷ more) h

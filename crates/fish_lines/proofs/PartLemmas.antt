@@ -1,5 +1,5 @@
 -- The parts round the LFs of bytes, when more bytes come.
-use Rattle.std.proofs.Common.{◌≡◌, ℕ, List, [], ◌∷◌, ◌++◌, Bool, true, false, cond, refl, sym, ap, ◌∙◌, append_assoc}
+use Rattle.std.proofs.Common.{◌≡◌, ℕ, List, [], ◌∷◌, ◌++◌, Bool, true, false, cond, refl, sym, ap, ◌∙◌}
 use Rattle.std.specs.Prelude.{map, filter, not, if◌then◌else◌}
 use Rattle.std.specs.List.{slice_split, onto_first}
 use Rattle.std.specs.Str.Lines.{strip_carriage_return}
@@ -21,7 +21,7 @@ onto_first-parts c parts p = record { first = c ∷ p.first; more = p.more; are 
 -- the parts at a byte whose test is known
 parts-at : (c : ℕ) (x : List ℕ) (end : Bool) → is_line_end c ≡ end
     → slice_split is_line_end (c ∷ x)
-      ≡ (if end then [] ∷ slice_split is_line_end x else onto_first c (slice_split is_line_end x))
+    ≡ (if end then [] ∷ slice_split is_line_end x else onto_first c (slice_split is_line_end x))
 parts-at c x end h = ap (λ b. cond b ([] ∷ slice_split is_line_end x) (onto_first c (slice_split is_line_end x))) h
 
 parts-cons : (c : ℕ) (x : List ℕ) (end : Bool) → is_line_end c ≡ end → Parts (slice_split is_line_end x)
@@ -65,10 +65,10 @@ onto_first-append c p first (next ∷ more) h = refl
 -- more bytes go on with the last part
 append-parts : (c : ℕ) (x p : List ℕ) (end : Bool) → is_line_end c ≡ end → (q : Parts (slice_split is_line_end x))
     → slice_split is_line_end (x ++ p)
-      ≡ ended (slice_split is_line_end x) ++ slice_split is_line_end (last_part (slice_split is_line_end x) ++ p)
+    ≡ ended (slice_split is_line_end x) ++ slice_split is_line_end (last_part (slice_split is_line_end x) ++ p)
     → slice_split is_line_end (c ∷ (x ++ p))
-      ≡ ended (slice_split is_line_end (c ∷ x))
-        ++ slice_split is_line_end (last_part (slice_split is_line_end (c ∷ x)) ++ p)
+    ≡ ended (slice_split is_line_end (c ∷ x))
+    ++ slice_split is_line_end (last_part (slice_split is_line_end (c ∷ x)) ++ p)
 append-parts c x p true h q same =
     rw (parts-at c (x ++ p) true h, parts-at c x true h, same, q.are) refl
 append-parts c x p false h q same =
@@ -76,7 +76,7 @@ append-parts c x p false h q same =
 
 pub slice_split-append : (x p : List ℕ)
     → slice_split is_line_end (x ++ p)
-      ≡ ended (slice_split is_line_end x) ++ slice_split is_line_end (last_part (slice_split is_line_end x) ++ p)
+    ≡ ended (slice_split is_line_end x) ++ slice_split is_line_end (last_part (slice_split is_line_end x) ++ p)
 slice_split-append [] p = refl
 slice_split-append (c ∷ x) p = append-parts c x p (is_line_end c) refl (parts_of_bytes x) (slice_split-append x p)
 
@@ -95,7 +95,7 @@ no_end-cons : (c : ℕ) (x : List ℕ) (end : Bool) → is_line_end c ≡ end �
 no_end-cons c x true h one q = let wrong = sym (parts-at c x true h) ∙ one in cc
 no_end-cons c x false h one q =
     let same : onto_first c (q.first ∷ q.more) ≡ (c ∷ x) ∷ [] = ap (onto_first c) (sym q.are)
-      ∙ sym (parts-at c x false h) ∙ one in
+    ∙ sym (parts-at c x false h) ∙ one in
     (refl, q.are ∙ cc)
 
 -- the first part of a text goes on with bytes in front that have no LF
@@ -117,5 +117,5 @@ pub given_of-append : (xs ys : List (List ℕ)) → given_of (xs ++ ys) ≡ give
 given_of-append xs ys =
     ap (λ l. map given (filter (λ line. not (is_blank line)) l)) (map-append strip_carriage_return xs ys)
     ∙ ap (map given) (filter-append (λ line. not (is_blank line)) (map strip_carriage_return xs)
-      (map strip_carriage_return ys))
+    (map strip_carriage_return ys))
     ∙ map-append given _ _

@@ -1,13 +1,12 @@
 -- What a splitter has given and still gives, after each of its steps.
-use Rattle.std.proofs.Common.{◌≡◌, ℕ, ◌+◌, ◌<◌, take, length, get_or, List, [], ◌∷◌, ◌++◌, Bool, true, false, cond, refl, sym, ap, ◌∙◌, append_assoc, append-nil}
-use Rattle.std.specs.Prelude.{if◌then◌else◌}
+use Rattle.std.proofs.Common.{◌≡◌, ℕ, ◌+◌, ◌<◌, take, length, get_or, List, [], ◌∷◌, ◌++◌, Bool, true, false, refl, sym, ap, ◌∙◌, append_assoc, append-nil}
 use Rattle.std.specs.List.{concat, slice_split}
 use Rattle.std.proofs.lemmas.List.{take_more}
 use Rattle.std.proofs.lemmas.List.Folds.{concat-append}
 use Rattle.fish_json.specs.Lines.{is_line_end, without_mark}
 use Rattle.fish_lines.specs.Lines.{ended, given_of, last_part, lines, parts_of, whole_lines}
 use Rattle.fish_lines.specs.Open.{IsOpen, line_in}
-use Rattle.fish_lines.specs.Split.{GoesOn, HasTaken, due, is_undecided}
+use Rattle.fish_lines.specs.Split.{HasTaken, is_undecided}
 use Rattle.fish_lines.specs.declared.open_line.OpenLine.{OpenLine}
 use Rattle.fish_lines.specs.declared.splitter.Line.{Line}
 use Rattle.fish_lines.specs.declared.splitter.Splitter.{Splitter}
@@ -28,7 +27,7 @@ last_is_whole x h = ap last_part h
 -- one part in front, and those behind it, as lines
 pub given_front : (part rest : List ℕ)
     → given_of (ended (part ∷ slice_split is_line_end rest))
-      ≡ given_of (part ∷ []) ++ given_of (ended (slice_split is_line_end rest))
+    ≡ given_of (part ∷ []) ++ given_of (ended (slice_split is_line_end rest))
 given_front part rest = ap given_of (ended-cut part rest)
     ∙ given_of-append (part ∷ []) (ended (slice_split is_line_end rest))
 
@@ -36,12 +35,12 @@ given_front part rest = ap given_of (ended-cut part rest)
 pub given_push : (b part rest : List ℕ) (o : OpenLine) (front : List Line)
     → slice_split is_line_end b ≡ part ∷ slice_split is_line_end rest → IsOpen o part
     → (front ++ line_in o) ++ given_of (ended (slice_split is_line_end rest))
-      ≡ front ++ given_of (ended (slice_split is_line_end b))
+    ≡ front ++ given_of (ended (slice_split is_line_end b))
 given_push b part rest o front cut is =
     let more = given_of (ended (slice_split is_line_end rest)) in
     append_assoc front (line_in o) more
     ∙ ap (λ l. front ++ l) (ap (λ l. l ++ more) (line_in_open o part is) ∙ sym (given_front part rest)
-      ∙ ap (λ parts. given_of (ended parts)) (sym cut))
+    ∙ ap (λ parts. given_of (ended parts)) (sym cut))
 
 pub last_push : (b part rest : List ℕ) → slice_split is_line_end b ≡ part ∷ slice_split is_line_end rest
     → last_part (slice_split is_line_end rest) ≡ last_part (slice_split is_line_end b)
@@ -67,9 +66,9 @@ unfolding whole_lines
 whole_lines-more b p h =
     let q = parts_of_bytes (last_part (parts_of b) ++ p) in
     let all : ended (parts_of (b ++ p))
-      ≡ ended (parts_of b) ++ ended (slice_split is_line_end (last_part (parts_of b) ++ p)) =
+    ≡ ended (parts_of b) ++ ended (slice_split is_line_end (last_part (parts_of b) ++ p)) =
     ap ended (parts-more b p h ∙ ap (λ l. ended (parts_of b) ++ l) q.are)
-      ∙ ended-append (ended (parts_of b)) q.first q.more
+    ∙ ended-append (ended (parts_of b)) q.first q.more
     ∙ ap (λ l. ended (parts_of b) ++ ended l) (sym q.are) in
     ap given_of all ∙ given_of-append (ended (parts_of b)) _
 
@@ -78,7 +77,7 @@ pub last_part-more : (b p : List ℕ) → without_mark (b ++ p) ≡ without_mark
 last_part-more b p h =
     let q = parts_of_bytes (last_part (parts_of b) ++ p) in
     ap last_part (parts-more b p h ∙ ap (λ l. ended (parts_of b) ++ l) q.are)
-      ∙ last-append (ended (parts_of b)) q.first q.more ∙ ap last_part (sym q.are)
+    ∙ last-append (ended (parts_of b)) q.first q.more ∙ ap last_part (sym q.are)
 
 -- all lines are those that an LF ends and the one behind the last
 lines-whole : (b : List ℕ) → lines b ≡ whole_lines b ++ given_of (last_part (parts_of b) ∷ [])
@@ -135,7 +134,7 @@ HasTaken-more s u b p taken h going behind goes stays ready rest =
         undecided = λ wrong. cc;
         held = λ wrong. cc;
         decided = λ _ later. ap without_mark (append_assoc b p later) ∙ decided (p ++ later)
-          ∙ sym (append_assoc (without_mark b) p later)
+            ∙ sym (append_assoc (without_mark b) p later)
             ∙ ap (λ l. l ++ later) (sym (decided p));
       };
     }
@@ -161,10 +160,10 @@ HasTaken-begin s u b whole taken undecided h going goes start ready rest =
     let more = given_of (ended (parts_of whole)) in
     let before : taken ++ (s.ready.items ++ []) ≡ whole_lines b = rw going at h.all in
     let none : taken ++ s.ready.items ≡ [] = ap (λ l. taken ++ l) (sym (append-nil s.ready.items)) ∙ before
-      ∙ undecided-lines b undecided in
+    ∙ undecided-lines b undecided in
     record {
       all = rw goes (ap (λ l. taken ++ l) (append-nil u.ready.items ∙ ready)
-        ∙ sym (append_assoc taken s.ready.items more) ∙ ap (λ l. l ++ more) none);
+          ∙ sym (append_assoc taken s.ready.items more) ∙ ap (λ l. l ++ more) none);
       going = λ _. record {
         rest = rest;
         undecided = λ is. sym start ∙ is;
