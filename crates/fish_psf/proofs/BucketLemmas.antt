@@ -17,7 +17,7 @@ pub bucket-left : (width n : ℤ) (r : Option ℤ) → int_lt width (pos 1) ≡ 
 bucket-left width n (Some z) wide left = rw (wide, (Decides-fits_i64 (floor_multiple width n)).1 left.0, left.1)
 bucket-left width n None wide left =
     elim (fits_i64 (floor_multiple width n)) as (λ t. fits_i64 (floor_multiple width n) ≡ t
-      → None ≡ (if not (int_lt width (pos 1)) && t then Some (floor_multiple width n) else None)) [
+    → None ≡ (if not (int_lt width (pos 1)) && t then Some (floor_multiple width n) else None)) [
       | true ↦ λ e. absurd (left ((Decides-fits_i64 (floor_multiple width n)).0 e))
       | false ↦ λ e. rw wide
     ] refl

@@ -22,6 +22,6 @@ pub keys_more : (fields : Fields) (defs : List ActiveDef) (i : ℕ) (d : ActiveD
 unfolding keys_of
 keys_more fields defs i d within is =
     ap (filter_map (key_of fields)) (take_more defs i d within)
-      ∙ filter_map-append (key_of fields) (take i defs) (get_or defs i d ∷ [])
+    ∙ filter_map-append (key_of fields) (take i defs) (get_or defs i d ∷ [])
     ∙ ap (λ l. filter_map (key_of fields) (take i defs) ++ l)
-      (ap (λ e. filter_map (key_of fields) (e ∷ [])) (sym is) ∙ one_key fields d (key_of fields d) refl)
+    (ap (λ e. filter_map (key_of fields) (e ∷ [])) (sym is) ∙ one_key fields d (key_of fields d) refl)

@@ -71,9 +71,10 @@ row_if-some : (eval : Evaluation) (v : Value) (n : ℕ) (e : Entry) (row : Row) 
 row_if-some eval v n (stored lane form payload) row h =
     let c = chosen (has_value (eval form payload) v) (Some (record { number = n; payload = payload })) row h in
     let is = same_Some (record { number = n; payload = payload }) row c.1 in
-    let same : payload ≡ row.payload = ap (λ (r : Row). r.payload) is in
-    (sym (ap (λ (r : Row). r.number) is),
-      (lane, form, ap (stored lane form) same, rw (← same) (has_value-is (eval form payload) v c.0)))
+    let same : payload ≡ row.payload = ap (λ (r : Row). r.payload) is in (
+      sym (ap (λ (r : Row). r.number) is),
+      (lane, form, ap (stored lane form) same, rw (← same) (has_value-is (eval form payload) v c.0)),
+    )
 row_if-some eval v n void row h = cc
 row_if-some eval v n unfinished row h = cc
 
@@ -93,7 +94,7 @@ module _ (eval : Evaluation) (v : Value) (from to : ℕ) (opens : List ℕ) wher
       (s.0, grind (arith, nat_tests, r.0), grind (arith, nat_tests, r.1), closed_when opens n t.1, s.1)
 
   row_of-at : (row : Row) (e : Entry) → from ≤ row.number → row.number < to → ¬ Contains opens row.number
-    → IsSelected e eval v row.payload → row_of eval v from to opens (row.number, e) ≡ Some row
+      → IsSelected e eval v row.payload → row_of eval v from to opens (row.number, e) ≡ Some row
   row_of-at row e above below closed (lane, form, is, gives) =
       let a : nat_le from row.number ≡ true = grind (arith, nat_tests) in
       let b : nat_lt row.number to ≡ true = grind (arith, nat_tests) in
@@ -124,7 +125,7 @@ Rises-filter_map : (h : ℕ × Entry → Option Row)
 Rises-filter_map h at n end [] is = omega arith
 Rises-filter_map h at n end (e ∷ log) is =
     Rises-cons_option n end (h (n, e)) (filter_map h (enumerate_from (n + 1) log)) (at n e)
-      (Rises-filter_map h at (n + 1) end log (omega arith))
+    (Rises-filter_map h at (n + 1) end log (omega arith))
 
 -- rising rows turned round fall
 FallsBelow-reverse_aux : (low end : ℕ) (rows acc : List Row) → Rises low end rows → FallsBelow low acc
@@ -135,14 +136,14 @@ FallsBelow-reverse_aux low end (row ∷ rows) [] r f =
     FallsBelow-reverse_aux (row.number + 1) end rows (row ∷ []) r.1 (omega arith, tt)
 FallsBelow-reverse_aux low end (row ∷ rows) (last ∷ acc) r f =
     FallsBelow-reverse_aux (row.number + 1) end rows (row ∷ last ∷ acc) r.1
-      (omega arith, (omega (arith, r.0, f.0), f.1))
+    (omega arith, (omega (arith, r.0, f.0), f.1))
 
 -- ---- the law
 
 module _ (log : List Entry) (eval : Evaluation) (v : Value) (from to : ℕ) (opens : List ℕ) where
   -- a row made of the entry at its number is a match
   match_made : (row : Row) (k : ℕ) (e : Entry) → slice_get log k ≡ Some e → row.number ≡ k → from ≤ k → k < to
-    → ¬ Contains opens k → IsSelected e eval v row.payload → IsMatch log eval v from to opens row
+      → ¬ Contains opens k → IsSelected e eval v row.payload → IsMatch log eval v from to opens row
   match_made row k e at is above below closed (lane, form, stands, gives) = record {
     above = omega arith;
     below = omega arith;
@@ -155,7 +156,7 @@ module _ (log : List Entry) (eval : Evaluation) (v : Value) (from to : ℕ) (ope
   is_match row c =
       let h = row_of eval v from to opens in
       let made = Made-from_Has h 0 log row
-        (Has-reverse (filter_map h (enumerate_from 0 log)) row (Has-from_Contains _ row c)) in
+      (Has-reverse (filter_map h (enumerate_from 0 log)) row (Has-from_Contains _ row c)) in
       let here : 0 + made.0 ≡ made.0 = omega arith in
       let parts = row_of-some eval v from to opens made.0 made.1 row (rw here at made.3) in
       match_made row made.0 made.1 made.2 parts.0 parts.1 parts.2 parts.3 parts.4
@@ -169,7 +170,7 @@ module _ (log : List Entry) (eval : Evaluation) (v : Value) (from to : ℕ) (ope
       let e = stored s.0 s.1 row.payload in
       let gives = row_of-at eval v from to opens row e m.above m.below m.closed (s.0, s.1, refl, s.3) in
       Contains-from_Has _ row (reverse-Has (filter_map h (enumerate_from 0 log)) row
-        (Has-from_Made h 0 log row (row.number, e, s.2, rw here gives)))
+      (Has-from_Made h 0 log row (row.number, e, s.2, rw here gives)))
 
   falls : FallsBelow (length log) (select log eval v from to opens)
   unfolding select
@@ -179,6 +180,7 @@ module _ (log : List Entry) (eval : Evaluation) (v : Value) (from to : ℕ) (ope
       (Rises-filter_map h (numbers eval v from to opens) 0 (length log) log (omega arith)) tt
 
 pub selects : SelectsMatches
-selects log eval v from to opens =
-    (λ row. (is_match log eval v from to opens row, in_selection log eval v from to opens row),
-      falls log eval v from to opens)
+selects log eval v from to opens = (
+  λ row. (is_match log eval v from to opens row, in_selection log eval v from to opens row),
+  falls log eval v from to opens,
+)

@@ -48,7 +48,7 @@ rows_with-then : (c : Asked) (n : ℕ) (payload : List ℕ) (rows : List Row)
 rows_with-then c n payload rows =
     elim (has_value (eval c.def (field payload)) c.value) as
     (λ t. (if t then record { number = n; payload = payload } ∷ [] else []) ++ rows
-      ≡ cons_option (if t then Some (record { number = n; payload = payload }) else None) rows) [
+    ≡ cons_option (if t then Some (record { number = n; payload = payload }) else None) rows) [
       | true ↦ refl
       | false ↦ refl
     ]
@@ -81,7 +81,7 @@ row_of-at c n end payload below =
 
 rows_of-log : (c : Asked) (n end : ℕ) (payloads : List (List ℕ)) → n + length payloads ≤ end
     → filter_map (row_of (evaluation c.def) c.value 0 end []) (enumerate_from n (log_of payloads))
-      ≡ filter_map (row_at c) (enumerate_from n payloads)
+    ≡ filter_map (row_at c) (enumerate_from n payloads)
 rows_of-log c n end [] within = refl
 rows_of-log c n end (payload ∷ payloads) within =
     rw (row_of-at c n end payload (omega arith), rows_of-log c (n + 1) end payloads (omega arith))
@@ -98,7 +98,7 @@ unfolding selection outcomes outcomes_of
 selection-tally c b t h =
     let all = Adds-lines c no_lines (file_lines b) in
     let rows : reverse t.rows ≡ rows_of c.def c.value (accepted (outcomes b)) =
-      rw (h, all.rows) (rows_of-is c (accepted (outcomes b))) in
+    rw (h, all.rows) (rows_of-is c (accepted (outcomes b))) in
     let count : t.count ≡ length (accepted (outcomes b)) = rw (h, all.count) (omega arith) in
     let none : t.refused ≡ refused (outcomes b) = rw (h, all.refused_lines) (omega arith) in
     rw (rows, count, none)

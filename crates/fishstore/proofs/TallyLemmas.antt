@@ -38,4 +38,4 @@ pub with_line_read : (asked : Asked) (t : Tally) (line : List ℕ) (d : Data) �
     → with_record asked t (λ path. field_in path d) line ≡ with_line asked t line
 with_line_read asked t line d h =
     rw h (with_record_same asked t (λ path. field_in path d) (field line) line
-      (λ i path. (record_is_read line d h).same path i))
+    (λ i path. (record_is_read line d h).same path i))

@@ -55,7 +55,7 @@ definition_refusal lang.OutOfMemory = refusal.OutOfMemory
 abbrev pub IsCommand : List (List ℕ) → Result Asked UsageCause → Type 0
 IsCommand (verb ∷ def ∷ value ∷ file ∷ []) r =
     MatchBool (bytes_eq verb (codes "select") && not (starts_with_minus value)) (IsSelect def value file r)
-      (r ≡ Err cause.Words)
+    (r ≡ Err cause.Words)
 IsCommand _ r = r ≡ Err cause.Words
 
 -- the words are some command

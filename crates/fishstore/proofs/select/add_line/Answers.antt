@@ -9,5 +9,5 @@ pub returns-in-Ok-clause-counted : goal.returns-in-Ok-clause-counted
 returns-in-Ok-clause-counted c =
     on_ok_weaker c.add_record.result
     (λ counted. counted ∙ with_line_read
-      (asked_of c.args.command.now) c.args.tally.now c.args.line.now _ c.in-Ok.ensures.ok)
+    (asked_of c.args.command.now) c.args.tally.now c.args.line.now _ c.in-Ok.ensures.ok)
     c.add_record.ensures
