@@ -1,8 +1,10 @@
-"""Writes rows in CSV, about as many bytes as are asked for, from a seed; quotes stand in three rows of ten."""
+"""Writes rows in CSV, about as many bytes as are asked for, from a seed. Quotes stand in three rows of ten, or, with the word
+`all` behind the size, in each row."""
 import random
 import sys
 
 size = int(sys.argv[1])
+kinds = 3 if sys.argv[2:] == ["all"] else 10
 random.seed(7)
 words = ["push", "create", "release", "issue", "watch", "fork", "member", "public"]
 written = 0
@@ -10,7 +12,7 @@ out = sys.stdout
 while written < size:
     fields = [str(random.randrange(10**9)), random.choice(words), "%s/%s" % (random.choice(words), random.randrange(10**5))]
     fields += [str(random.randrange(1000)) for _ in range(4)]
-    kind = random.randrange(10)
+    kind = random.randrange(kinds)
     if kind == 0:
         fields[2] = '"%s, %s"' % (random.choice(words), random.choice(words))
     elif kind == 1:

@@ -1,6 +1,6 @@
 #!/usr/bin/env bash
 # Times `fishstore select` on a large file of events beside `jq -c` and beside a plain Rust program over
-# `serde_json`, all in one run on one core, and prints the ratios and the peak memory.
+# `serde_json`, all in one run on one core, by processor time, and prints the ratios and the peak memory.
 #
 # usage: bench/select.sh [BYTES]        (67108864 bytes where none are given)
 #
@@ -34,31 +34,36 @@ else
   echo "bench: librust-serde-json-dev or cargo is missing, so the Rust program is left out" >&2
 fi
 
-# the least seconds and the most KiB of several runs
+# one run's seconds of processor time, and its peak in KiB, put behind a file
 measure() {
-  local best=999999 most=0 seconds kib i
-  for i in $(seq $runs); do
-    /usr/bin/time -o data/time -f '%e %M' taskset -c 0 "$@" > data/out
-    read -r seconds kib < data/time
-    best=$(awk -v a="$best" -v b="$seconds" 'BEGIN { print (b < a) ? b : a }')
-    [ "$kib" -gt "$most" ] && most=$kib
-  done
-  echo "$best $most"
+  local name=$1
+  shift
+  /usr/bin/time -o data/time -f '%U %S %M' taskset -c 0 "$@" > "data/$name.out"
+  awk '{ print $1 + $2, $3 }' data/time >> "data/$name.runs"
 }
 
-echo "$(nproc) cores, $(awk -F: '/model name/ { print $2; exit }' /proc/cpuinfo | sed 's/^ *//'), $(stat -c %s "$file") bytes, best of $runs runs on one core"
+# the least seconds and the most KiB
+best() {
+  sort -n "data/$1.runs" | awk 'NR == 1 { least = $1 } $2 > most { most = $2 } END { print least, most }'
+}
+
+model=$(awk -F: '/model name/ { print $2; exit }' /proc/cpuinfo | sed 's/^ *//')
+echo "$(nproc) cores, $model, $(stat -c %s "$file") bytes, best of $runs runs on one core"
 for filter in 'type ReleaseEvent few' 'type PushEvent half'; do
   read -r name value share <<< "$filter"
-  read -r ours memory <<< "$(measure "$program" select "take $name" "\"$value\"" "$file")"
-  echo "$share match: fishstore $ours s, $memory KiB"
-  read -r theirs kib <<< "$(measure jq -c "select(.$name == \"$value\")" "$file")"
-  echo "$share match: jq -c     $theirs s, fishstore is $(awk -v a="$theirs" -v b="$ours" 'BEGIN { printf "%.1f", a / b }') times as fast"
+  rm -f data/ours.runs data/jq.runs data/rust.runs
+  for _ in $(seq $runs); do
+    measure ours "$program" select "take $name" "\"$value\"" "$file"
+    measure jq jq -c "select(.$name == \"$value\")" "$file"
+    [ -z "$baseline" ] || measure rust "$baseline" "$name" "\"$value\"" "$file"
+  done
+  read -r ours memory <<< "$(best ours)"
+  echo "$share match: fishstore $ours s of processor time, $memory KiB"
+  read -r theirs kib <<< "$(best jq)"
+  echo "$share match: jq -c $theirs s, fishstore is $(awk -v a="$theirs" -v b="$ours" 'BEGIN { printf "%.1f", a / b }') times as fast"
   if [ -n "$baseline" ]; then
-    cp data/out data/jq.out
-    read -r theirs kib <<< "$(measure "$baseline" "$name" "\"$value\"" "$file")"
-    cp data/out data/rust.out
-    "$program" select "take $name" "\"$value\"" "$file" > data/out
-    cmp data/out data/rust.out
+    cmp data/ours.out data/rust.out
+    read -r theirs kib <<< "$(best rust)"
     echo "$share match: serde_json $theirs s, $kib KiB, fishstore takes $(awk -v a="$ours" -v b="$theirs" 'BEGIN { printf "%.2f", a / b }') of its time"
   fi
 done

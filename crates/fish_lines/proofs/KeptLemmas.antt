@@ -1,15 +1,15 @@
 -- What is kept of a line that grows, and the line that it is.
-use Rattle.std.proofs.Common.{◌≡◌, ◌≢◌, ℕ, ◌+◌, ◌-◌, ◌<◌, ◌≤◌, zero, suc, List, [], ◌∷◌, ◌++◌, length, take, get_or, Bool, true, false, cond, refl, sym, ap, ◌∙◌, arith, append_assoc, append-nil, length-append, length-take}
-use Rattle.std.specs.Prelude.{◌==◌, ◌&&◌, slice_index, map, filter, not, nat_le, nat_eq, if◌then◌else◌}
-use Rattle.std.specs.List.{list_all, slice_split}
+use Rattle.std.proofs.Common.{◌≡◌, ℕ, ◌+◌, ◌-◌, ◌≤◌, zero, suc, List, [], ◌∷◌, ◌++◌, length, take, Bool, true, false, refl, sym, ap, ◌∙◌, arith, append_assoc, append-nil, length-append, length-take}
+use Rattle.std.specs.Prelude.{◌==◌, slice_index, map, nat_le, if◌then◌else◌}
+use Rattle.std.specs.List.{slice_split}
 use Rattle.std.specs.Str.Lines.{strip_carriage_return}
 use Rattle.std.proofs.lemmas.Bool.{eqb-true}
 use Rattle.std.proofs.lemmas.Bool.Decides.{nat_tests}
 use Rattle.std.proofs.lemmas.List.{take-take, take_all, take_at, take-append-le, length-take-le, get_or_push}
 use Rattle.std.proofs.Math.Seq.{take-append-add}
-use Rattle.fish_json.specs.Lines.{is_blank, is_blank_byte, is_line_end}
+use Rattle.fish_json.specs.Lines.{is_blank, is_line_end}
 use Rattle.fish_json.specs.declared.record.TheConstants.{MAX_PAYLOAD}
-use Rattle.fish_lines.specs.Lines.{given, given_of, with_line}
+use Rattle.fish_lines.specs.Lines.{given, given_of}
 use Rattle.fish_lines.specs.Open.{IsOpen, cr_if, ends_in_cr, line_in}
 use Rattle.fish_lines.specs.declared.open_line.OpenLine.{OpenLine}
 use Rattle.fish_lines.specs.declared.open_line.TheConstants.{KEPT}
@@ -30,8 +30,10 @@ take_behind zero k (c ∷ x) y h = refl
 take_behind (suc j) k (c ∷ x) y h = ap (λ l. c ∷ l) (take_behind j k x y (omega arith))
 
 -- of a front, no more than the whole counts
-front-cases : (k : ℕ) (s x : List ℕ) (fits : Bool) → nat_le (length s) k ≡ fits → take k (take k s ++ x) ≡ take k (s ++ x)
-front-cases k s x true h = (let fits : length s ≤ k = grind (arith, nat_tests) in ap (λ l. take k (l ++ x)) (take_all k s fits))
+front-cases : (k : ℕ) (s x : List ℕ) (fits : Bool) → nat_le (length s) k ≡ fits
+    → take k (take k s ++ x) ≡ take k (s ++ x)
+front-cases k s x true h =
+    (let fits : length s ≤ k = grind (arith, nat_tests) in ap (λ l. take k (l ++ x)) (take_all k s fits))
 front-cases k s x false h =
     let over : k ≤ length s = grind (arith, nat_tests) in
     let kept : k ≤ length (take k s) = omega (arith, length-take-le k s over) in
@@ -61,7 +63,8 @@ ends_in_cr-push x c = ap (λ d. d == 13) (last-is x c)
 
 pub strip-push : (x : List ℕ) (c : ℕ) → strip_carriage_return (x ++ c ∷ []) ≡ (if c == 13 then x else x ++ c ∷ [])
 strip-push x c =
-    let front : take (length (x ++ c ∷ []) - 1) (x ++ c ∷ []) ≡ x = take_at x (c ∷ []) _ (omega (arith, length-append x (c ∷ []))) in
+    let front : take (length (x ++ c ∷ []) - 1) (x ++ c ∷ []) ≡ x =
+    take_at x (c ∷ []) _ (omega (arith, length-append x (c ∷ []))) in
     rw (last-is x c, front) refl
 
 -- a text without the CR at its end, and then that CR
@@ -74,18 +77,23 @@ strip-whole [] = refl
 strip-whole (d ∷ t) =
     let e = ends_in d t in
     let x : List ℕ = e.front ++ e.last ∷ [] in
-    ap (λ l. strip_carriage_return l ++ cr_if (ends_in_cr l)) e.are ∙ ap (λ l. l ++ cr_if (ends_in_cr x)) (strip-push e.front e.last)
-    ∙ ap (λ cr. (if e.last == 13 then e.front else x) ++ cr_if cr) (ends_in_cr-push e.front e.last) ∙ with_cr e.front e.last (e.last == 13) refl ∙ sym e.are
+    ap (λ l. strip_carriage_return l ++ cr_if (ends_in_cr l)) e.are
+    ∙ ap (λ l. l ++ cr_if (ends_in_cr x)) (strip-push e.front e.last)
+    ∙ ap (λ cr. (if e.last == 13 then e.front else x) ++ cr_if cr) (ends_in_cr-push e.front e.last)
+    ∙ with_cr e.front e.last (e.last == 13) refl ∙ sym e.are
 
 -- the CR at the end of what stands behind is that of the whole
-behind-cases : (t x : List ℕ) (c : ℕ) (cr : Bool) → (if cr then t ++ x else (t ++ x) ++ c ∷ []) ≡ t ++ (if cr then x else x ++ c ∷ [])
+behind-cases : (t x : List ℕ) (c : ℕ) (cr : Bool)
+    → (if cr then t ++ x else (t ++ x) ++ c ∷ []) ≡ t ++ (if cr then x else x ++ c ∷ [])
 behind-cases t x c true = refl
 behind-cases t x c false = append_assoc t x (c ∷ [])
 
-pub strip-append : (t : List ℕ) (d : ℕ) (p : List ℕ) → strip_carriage_return (t ++ d ∷ p) ≡ t ++ strip_carriage_return (d ∷ p)
+pub strip-append : (t : List ℕ) (d : ℕ) (p : List ℕ)
+    → strip_carriage_return (t ++ d ∷ p) ≡ t ++ strip_carriage_return (d ∷ p)
 strip-append t d p =
     let e = ends_in d p in
-    ap (λ l. strip_carriage_return (t ++ l)) e.are ∙ ap strip_carriage_return (sym (append_assoc t e.front (e.last ∷ [])))
+    ap (λ l. strip_carriage_return (t ++ l)) e.are
+    ∙ ap strip_carriage_return (sym (append_assoc t e.front (e.last ∷ [])))
     ∙ strip-push (t ++ e.front) e.last ∙ behind-cases t e.front e.last (e.last == 13)
     ∙ sym (ap (λ l. t ++ l) (ap strip_carriage_return e.are ∙ strip-push e.front e.last))
 
@@ -99,26 +107,32 @@ ends_in_cr-append t d p =
 
 -- what is kept of a longer line comes from what was kept of the shorter
 kept-grown : (k : ℕ) (t : List ℕ) (d : ℕ) (p : List ℕ)
-    → take k (take k (strip_carriage_return t) ++ cr_if (ends_in_cr t) ++ strip_carriage_return (d ∷ p)) ≡ take k (strip_carriage_return (t ++ d ∷ p))
+    → take k (take k (strip_carriage_return t) ++ cr_if (ends_in_cr t) ++ strip_carriage_return (d ∷ p))
+    ≡ take k (strip_carriage_return (t ++ d ∷ p))
 kept-grown k t d p =
     let s = strip_carriage_return t in
     let cr = cr_if (ends_in_cr t) in
     let more = strip_carriage_return (d ∷ p) in
-    ap (take k) (append_assoc (take k s) cr more) ∙ take_front k s (cr ++ more) ∙ ap (take k) (sym (append_assoc s cr more))
+    ap (take k) (append_assoc (take k s) cr more) ∙ take_front k s (cr ++ more)
+    ∙ ap (take k) (sym (append_assoc s cr more))
     ∙ ap (λ l. take k (l ++ more)) (strip-whole t) ∙ ap (take k) (sym (strip-append t d p))
 
 -- an open line that grew
-pub IsOpen-grown : (o : OpenLine) (bytes : List ℕ) (t : List ℕ) (d : ℕ) (p : List ℕ) → slice_split is_line_end (d ∷ p) ≡ (d ∷ p) ∷ [] → IsOpen o t
+pub IsOpen-grown : (o : OpenLine) (bytes : List ℕ) (t : List ℕ) (d : ℕ) (p : List ℕ)
+    → slice_split is_line_end (d ∷ p) ≡ (d ∷ p) ∷ [] → IsOpen o t
     → bytes ≡ take KEPT (o.bytes ++ cr_if o.ends_in_cr ++ strip_carriage_return (d ∷ p))
     → IsOpen (record { bytes = bytes; ends_in_cr = ends_in_cr (d ∷ p) }) (t ++ d ∷ p)
 IsOpen-grown o bytes t d p one was is = record {
   no_end = no_end-append t (d ∷ p) was.no_end one;
   kept = is ∙ ap (λ l. take KEPT (l ++ cr_if o.ends_in_cr ++ strip_carriage_return (d ∷ p))) was.kept
-      ∙ ap (λ cr. take KEPT (take KEPT (strip_carriage_return t) ++ cr_if cr ++ strip_carriage_return (d ∷ p))) was.cr ∙ kept-grown KEPT t d p;
+      ∙ ap (λ cr. take KEPT (take KEPT (strip_carriage_return t) ++ cr_if cr ++ strip_carriage_return (d ∷ p)))
+      was.cr
+      ∙ kept-grown KEPT t d p;
   cr = sym (ends_in_cr-append t d p);
 }
 
-pub IsOpen-grow : (o : OpenLine) (bytes : List ℕ) (t p : List ℕ) → (length p == 0) ≡ false → slice_split is_line_end p ≡ p ∷ [] → IsOpen o t
+pub IsOpen-grow : (o : OpenLine) (bytes : List ℕ) (t p : List ℕ) → (length p == 0) ≡ false
+    → slice_split is_line_end p ≡ p ∷ [] → IsOpen o t
     → bytes ≡ take KEPT (o.bytes ++ cr_if o.ends_in_cr ++ strip_carriage_return p)
     → IsOpen (record { bytes = bytes; ends_in_cr = ends_in_cr p }) (t ++ p)
 IsOpen-grow o bytes t [] some one was is = cc
@@ -135,18 +149,21 @@ IsOpen-within o t h = take-within KEPT o.bytes (strip_carriage_return t) h.kept
 pub append_cr : (k : ℕ) (cr : Bool) (bytes text more : List ℕ) → cr ≡ true → more ≡ (13 ∷ []) ++ take k text
     → take k (bytes ++ more) ≡ take k (bytes ++ cr_if cr ++ text)
 append_cr k true bytes text more h is =
-    ap (λ l. take k (bytes ++ l)) is ∙ ap (take k) (sym (append_assoc bytes (13 ∷ []) (take k text))) ∙ take_behind k k (bytes ++ 13 ∷ []) text (omega arith)
+    ap (λ l. take k (bytes ++ l)) is ∙ ap (take k) (sym (append_assoc bytes (13 ∷ []) (take k text)))
+    ∙ take_behind k k (bytes ++ 13 ∷ []) text (omega arith)
 append_cr k false bytes text more h is = cc
 
 -- ---- the line that is kept
 
 -- the line among no more than one
-map-with_line : (s : List ℕ) (blank : Bool) → map given (if blank then [] else s ∷ []) ≡ (if blank then [] else given s ∷ [])
+map-with_line : (s : List ℕ) (blank : Bool)
+    → map given (if blank then [] else s ∷ []) ≡ (if blank then [] else given s ∷ [])
 map-with_line s true = refl
 map-with_line s false = refl
 
 -- a line over the limit is given as too long, and so is what is kept of it
-long-given : (s : List ℕ) → nat_le (length s) MAX_PAYLOAD ≡ false → (if is_blank s then [] else given s ∷ []) ≡ TooLong ∷ []
+long-given : (s : List ℕ) → nat_le (length s) MAX_PAYLOAD ≡ false
+    → (if is_blank s then [] else given s ∷ []) ≡ TooLong ∷ []
 long-given s h = rw h refl
 
 kept-cases : (s : List ℕ) (short : Bool) → nat_le (length s) MAX_PAYLOAD ≡ short

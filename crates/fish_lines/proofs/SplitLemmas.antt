@@ -1,13 +1,12 @@
 -- What a splitter has given and still gives, after each of its steps.
-use Rattle.std.proofs.Common.{◌≡◌, ℕ, ◌+◌, ◌<◌, take, length, get_or, List, [], ◌∷◌, ◌++◌, Bool, true, false, cond, refl, sym, ap, ◌∙◌, append_assoc, append-nil}
-use Rattle.std.specs.Prelude.{if◌then◌else◌}
+use Rattle.std.proofs.Common.{◌≡◌, ℕ, ◌+◌, ◌<◌, take, length, get_or, List, [], ◌∷◌, ◌++◌, Bool, true, false, refl, sym, ap, ◌∙◌, append_assoc, append-nil}
 use Rattle.std.specs.List.{concat, slice_split}
 use Rattle.std.proofs.lemmas.List.{take_more}
 use Rattle.std.proofs.lemmas.List.Folds.{concat-append}
 use Rattle.fish_json.specs.Lines.{is_line_end, without_mark}
 use Rattle.fish_lines.specs.Lines.{ended, given_of, last_part, lines, parts_of, whole_lines}
 use Rattle.fish_lines.specs.Open.{IsOpen, line_in}
-use Rattle.fish_lines.specs.Split.{GoesOn, HasTaken, due, is_undecided}
+use Rattle.fish_lines.specs.Split.{HasTaken, is_undecided}
 use Rattle.fish_lines.specs.declared.open_line.OpenLine.{OpenLine}
 use Rattle.fish_lines.specs.declared.splitter.Line.{Line}
 use Rattle.fish_lines.specs.declared.splitter.Splitter.{Splitter}
@@ -18,30 +17,38 @@ use Rattle.fish_lines.proofs.PartLemmas.{ended-append, ended-cut, ended-last, gi
 -- ---- a piece behind an open line
 
 -- with no LF in all, no part is ended
-pub no_part_ended : (x : List ℕ) (more : List Line) → slice_split is_line_end x ≡ x ∷ [] → more ≡ more ++ given_of (ended (slice_split is_line_end x))
+pub no_part_ended : (x : List ℕ) (more : List Line) → slice_split is_line_end x ≡ x ∷ []
+    → more ≡ more ++ given_of (ended (slice_split is_line_end x))
 no_part_ended x more h = rw h (sym (append-nil more))
 
 pub last_is_whole : (x : List ℕ) → slice_split is_line_end x ≡ x ∷ [] → last_part (slice_split is_line_end x) ≡ x
 last_is_whole x h = ap last_part h
 
 -- one part in front, and those behind it, as lines
-pub given_front : (part rest : List ℕ) → given_of (ended (part ∷ slice_split is_line_end rest)) ≡ given_of (part ∷ []) ++ given_of (ended (slice_split is_line_end rest))
-given_front part rest = ap given_of (ended-cut part rest) ∙ given_of-append (part ∷ []) (ended (slice_split is_line_end rest))
+pub given_front : (part rest : List ℕ)
+    → given_of (ended (part ∷ slice_split is_line_end rest))
+    ≡ given_of (part ∷ []) ++ given_of (ended (slice_split is_line_end rest))
+given_front part rest = ap given_of (ended-cut part rest)
+    ∙ given_of-append (part ∷ []) (ended (slice_split is_line_end rest))
 
 -- a part was cut off, and its line put behind others
-pub given_push : (b part rest : List ℕ) (o : OpenLine) (front : List Line) → slice_split is_line_end b ≡ part ∷ slice_split is_line_end rest → IsOpen o part
-    → (front ++ line_in o) ++ given_of (ended (slice_split is_line_end rest)) ≡ front ++ given_of (ended (slice_split is_line_end b))
+pub given_push : (b part rest : List ℕ) (o : OpenLine) (front : List Line)
+    → slice_split is_line_end b ≡ part ∷ slice_split is_line_end rest → IsOpen o part
+    → (front ++ line_in o) ++ given_of (ended (slice_split is_line_end rest))
+    ≡ front ++ given_of (ended (slice_split is_line_end b))
 given_push b part rest o front cut is =
     let more = given_of (ended (slice_split is_line_end rest)) in
     append_assoc front (line_in o) more
-    ∙ ap (λ l. front ++ l) (ap (λ l. l ++ more) (line_in_open o part is) ∙ sym (given_front part rest) ∙ ap (λ parts. given_of (ended parts)) (sym cut))
+    ∙ ap (λ l. front ++ l) (ap (λ l. l ++ more) (line_in_open o part is) ∙ sym (given_front part rest)
+    ∙ ap (λ parts. given_of (ended parts)) (sym cut))
 
 pub last_push : (b part rest : List ℕ) → slice_split is_line_end b ≡ part ∷ slice_split is_line_end rest
     → last_part (slice_split is_line_end rest) ≡ last_part (slice_split is_line_end b)
 last_push b part rest cut = sym (ap last_part cut ∙ last-cut part rest)
 
 -- the first LF of a piece ends the open line
-pub front_ends : (t piece front behind : List ℕ) → slice_split is_line_end t ≡ t ∷ [] → slice_split is_line_end piece ≡ front ∷ slice_split is_line_end behind
+pub front_ends : (t piece front behind : List ℕ) → slice_split is_line_end t ≡ t ∷ []
+    → slice_split is_line_end piece ≡ front ∷ slice_split is_line_end behind
     → slice_split is_line_end (t ++ piece) ≡ (t ++ front) ∷ slice_split is_line_end behind
 front_ends t piece front behind one cut = no_end-front t piece front (slice_split is_line_end behind) one cut
 
@@ -58,8 +65,10 @@ pub whole_lines-more : (b p : List ℕ) → without_mark (b ++ p) ≡ without_ma
 unfolding whole_lines
 whole_lines-more b p h =
     let q = parts_of_bytes (last_part (parts_of b) ++ p) in
-    let all : ended (parts_of (b ++ p)) ≡ ended (parts_of b) ++ ended (slice_split is_line_end (last_part (parts_of b) ++ p)) =
-    ap ended (parts-more b p h ∙ ap (λ l. ended (parts_of b) ++ l) q.are) ∙ ended-append (ended (parts_of b)) q.first q.more
+    let all : ended (parts_of (b ++ p))
+    ≡ ended (parts_of b) ++ ended (slice_split is_line_end (last_part (parts_of b) ++ p)) =
+    ap ended (parts-more b p h ∙ ap (λ l. ended (parts_of b) ++ l) q.are)
+    ∙ ended-append (ended (parts_of b)) q.first q.more
     ∙ ap (λ l. ended (parts_of b) ++ ended l) (sym q.are) in
     ap given_of all ∙ given_of-append (ended (parts_of b)) _
 
@@ -67,7 +76,8 @@ pub last_part-more : (b p : List ℕ) → without_mark (b ++ p) ≡ without_mark
     → last_part (parts_of (b ++ p)) ≡ last_part (slice_split is_line_end (last_part (parts_of b) ++ p))
 last_part-more b p h =
     let q = parts_of_bytes (last_part (parts_of b) ++ p) in
-    ap last_part (parts-more b p h ∙ ap (λ l. ended (parts_of b) ++ l) q.are) ∙ last-append (ended (parts_of b)) q.first q.more ∙ ap last_part (sym q.are)
+    ap last_part (parts-more b p h ∙ ap (λ l. ended (parts_of b) ++ l) q.are)
+    ∙ last-append (ended (parts_of b)) q.first q.more ∙ ap last_part (sym q.are)
 
 -- all lines are those that an LF ends and the one behind the last
 lines-whole : (b : List ℕ) → lines b ≡ whole_lines b ++ given_of (last_part (parts_of b) ∷ [])
@@ -80,27 +90,32 @@ lines-whole b =
 
 -- ---- the end of the file
 
-finish-cases : (s : Splitter) (b : List ℕ) (taken : List Line) (f : Bool) → s.finished ≡ f → HasTaken s b taken → HasTaken (record s { finished = true }) b taken
+finish-cases : (s : Splitter) (b : List ℕ) (taken : List Line) (f : Bool) → s.finished ≡ f → HasTaken s b taken
+    → HasTaken (record s { finished = true }) b taken
 finish-cases s b taken true e h = record { all = rw e at h.all; going = λ wrong. cc }
 finish-cases s b taken false e h = record {
   all =
       let g = h.going e in
       let last = line_in s.last in
       let before : taken ++ (s.ready.items ++ []) ≡ whole_lines b = rw e at h.all in
-      ap (λ l. taken ++ (l ++ last)) (sym (append-nil s.ready.items)) ∙ ap (λ l. taken ++ l) (append_assoc s.ready.items [] last)
-      ∙ sym (append_assoc taken s.ready.items last) ∙ ap (λ l. l ++ last) (ap (λ l. taken ++ l) (sym (append-nil s.ready.items)) ∙ before)
+      ap (λ l. taken ++ (l ++ last)) (sym (append-nil s.ready.items))
+      ∙ ap (λ l. taken ++ l) (append_assoc s.ready.items [] last)
+      ∙ sym (append_assoc taken s.ready.items last)
+      ∙ ap (λ l. l ++ last) (ap (λ l. taken ++ l) (sym (append-nil s.ready.items)) ∙ before)
       ∙ ap (λ l. whole_lines b ++ l) (line_in_open s.last (last_part (parts_of b)) g.rest) ∙ sym (lines-whole b);
   going = λ wrong. cc;
 }
 
 -- a splitter at the end of its file gives the open line too
-pub HasTaken-finish : (s : Splitter) (b : List ℕ) (taken : List Line) → HasTaken s b taken → HasTaken (record s { finished = true }) b taken
+pub HasTaken-finish : (s : Splitter) (b : List ℕ) (taken : List Line) → HasTaken s b taken
+    → HasTaken (record s { finished = true }) b taken
 HasTaken-finish s b taken h = finish-cases s b taken s.finished refl h
 
 -- ---- more bytes
 
 -- where a byte order mark is decided, the piece's lines follow those before
-pub HasTaken-more : (s u : Splitter) (b p : List ℕ) (taken : List Line) → HasTaken s b taken → s.finished ≡ false → s.at_start ≡ false
+pub HasTaken-more : (s u : Splitter) (b p : List ℕ) (taken : List Line) → HasTaken s b taken
+    → s.finished ≡ false → s.at_start ≡ false
     → u.finished ≡ false → u.at_start ≡ false
     → u.ready.items ≡ s.ready.items ++ given_of (ended (slice_split is_line_end (last_part (parts_of b) ++ p)))
     → IsOpen u.last (last_part (slice_split is_line_end (last_part (parts_of b) ++ p))) → HasTaken u (b ++ p) taken
@@ -112,12 +127,14 @@ HasTaken-more s u b p taken h going behind goes stays ready rest =
     record {
       all = rw goes (
           ap (λ l. taken ++ l) (append-nil u.ready.items ∙ ready) ∙ sym (append_assoc taken s.ready.items more)
-          ∙ ap (λ l. l ++ more) (ap (λ l. taken ++ l) (sym (append-nil s.ready.items)) ∙ before) ∙ sym (whole_lines-more b p (decided p)));
+          ∙ ap (λ l. l ++ more) (ap (λ l. taken ++ l) (sym (append-nil s.ready.items)) ∙ before)
+          ∙ sym (whole_lines-more b p (decided p)));
       going = λ _. record {
         rest = rw (last_part-more b p (decided p)) rest;
         undecided = λ wrong. cc;
         held = λ wrong. cc;
-        decided = λ _ later. ap without_mark (append_assoc b p later) ∙ decided (p ++ later) ∙ sym (append_assoc (without_mark b) p later)
+        decided = λ _ later. ap without_mark (append_assoc b p later) ∙ decided (p ++ later)
+            ∙ sym (append_assoc (without_mark b) p later)
             ∙ ap (λ l. l ++ later) (sym (decided p));
       };
     }
@@ -129,19 +146,24 @@ undecided-lines b h = undecided_cases (λ l. given_of (ended (parts_of l)) ≡ [
 
 -- and an open line holds all of it
 undecided-held : (o : OpenLine) (b : List ℕ) → is_undecided b ≡ true → IsOpen o (last_part (parts_of b)) → o.bytes ≡ b
-undecided-held o b h = undecided_cases (λ l. IsOpen o (last_part (parts_of l)) → o.bytes ≡ l) (λ is. is.kept) (λ is. is.kept) (λ is. is.kept) b h
+undecided-held o b h = undecided_cases (λ l. IsOpen o (last_part (parts_of l)) → o.bytes ≡ l) (λ is. is.kept)
+    (λ is. is.kept) (λ is. is.kept) b h
 
 -- from bytes that may begin a byte order mark, all is taken at once
-pub HasTaken-begin : (s u : Splitter) (b whole : List ℕ) (taken : List Line) → is_undecided b ≡ true → HasTaken s b taken → s.finished ≡ false
-    → u.finished ≡ false → u.at_start ≡ is_undecided whole → u.ready.items ≡ s.ready.items ++ given_of (ended (parts_of whole))
+pub HasTaken-begin : (s u : Splitter) (b whole : List ℕ) (taken : List Line) → is_undecided b ≡ true
+    → HasTaken s b taken → s.finished ≡ false
+    → u.finished ≡ false → u.at_start ≡ is_undecided whole
+    → u.ready.items ≡ s.ready.items ++ given_of (ended (parts_of whole))
     → IsOpen u.last (last_part (parts_of whole)) → HasTaken u whole taken
 unfolding whole_lines
 HasTaken-begin s u b whole taken undecided h going goes start ready rest =
     let more = given_of (ended (parts_of whole)) in
     let before : taken ++ (s.ready.items ++ []) ≡ whole_lines b = rw going at h.all in
-    let none : taken ++ s.ready.items ≡ [] = ap (λ l. taken ++ l) (sym (append-nil s.ready.items)) ∙ before ∙ undecided-lines b undecided in
+    let none : taken ++ s.ready.items ≡ [] = ap (λ l. taken ++ l) (sym (append-nil s.ready.items)) ∙ before
+    ∙ undecided-lines b undecided in
     record {
-      all = rw goes (ap (λ l. taken ++ l) (append-nil u.ready.items ∙ ready) ∙ sym (append_assoc taken s.ready.items more) ∙ ap (λ l. l ++ more) none);
+      all = rw goes (ap (λ l. taken ++ l) (append-nil u.ready.items ∙ ready)
+          ∙ sym (append_assoc taken s.ready.items more) ∙ ap (λ l. l ++ more) none);
       going = λ _. record {
         rest = rest;
         undecided = λ is. sym start ∙ is;

@@ -15,16 +15,16 @@ is_undecided b = nat_lt (length b) 3 && starts_with nat_eq byte_order_mark b
 abbrev pub due : Splitter → List Line
 due s = s.ready.items ++ (if s.finished then line_in s.last else [])
 
--- a splitter that goes on after the bytes b: its open line is what stands behind the last LF, and either b may still begin
--- a byte order mark, or no byte to come changes whether it does
+-- a splitter that goes on after the bytes b: its open line is what stands behind the last LF, and either b may
+-- still begin a byte order mark, or no byte to come changes whether it does
 pub record GoesOn (s : Splitter) (b : List ℕ) : Type 0 where
   pub rest : IsOpen s.last (last_part (parts_of b))
   pub undecided : s.at_start ≡ true → is_undecided b ≡ true
   pub held : s.at_start ≡ true → s.last.bytes ≡ b
   pub decided : s.at_start ≡ false → (more : List ℕ) → without_mark (b ++ more) ≡ without_mark b ++ more
 
--- a splitter was fed the bytes b in all, and these of their lines were taken from it: with those that are due they are the
--- lines that an LF ends, and at the end of the file all lines
+-- a splitter was fed the bytes b in all, and these of their lines were taken from it: with those that are due
+-- they are the lines that an LF ends, and at the end of the file all lines
 pub record HasTaken (s : Splitter) (b : List ℕ) (taken : List Line) : Type 0 where
   pub all : taken ++ due s ≡ (if s.finished then lines b else whole_lines b)
   pub going : s.finished ≡ false → GoesOn s b

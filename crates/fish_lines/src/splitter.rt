@@ -1,6 +1,6 @@
 //! The lines of a file whose bytes come in pieces. They are the same however the bytes are cut.
 
-ghost use Rattle.std.specs.Prelude.{◌≡◌, ◌++◌, ◌∷◌, ℕ, Bool, List, [], true, false, length, IfOk, OnOk, OnErr, option_to_list};
+ghost use Rattle.std.specs.Prelude.{◌≡◌, ◌++◌, ◌∷◌, ℕ, List, [], true, false, IfOk, OnOk, OnErr, option_to_list};
 ghost use Rattle.std.specs.List.{concat, slice_split};
 ghost use Rattle.fish_json.specs.Lines.{is_line_end};
 ghost use Rattle.fish_lines.specs.Lines.{ended, given_of, last_part, lines};

@@ -57,7 +57,8 @@ cons_option-Has (Some y) xs x (inr h) = inr h
 abbrev pub Made : {X Y : Type 0} → (ℕ × X → Option Y) → ℕ → List X → Y → Type 0
 Made {X} h n xs y = (k : ℕ) × (x : X) × (slice_get xs k ≡ Some x) × (h (n + k, x) ≡ Some y)
 
-pub Made-from_Has : {X Y : Type 0} (h : ℕ × X → Option Y) (n : ℕ) (xs : List X) (y : Y) → Has (filter_map h (enumerate_from n xs)) y → Made h n xs y
+pub Made-from_Has : {X Y : Type 0} (h : ℕ × X → Option Y) (n : ℕ) (xs : List X) (y : Y)
+    → Has (filter_map h (enumerate_from n xs)) y → Made h n xs y
 Made-from_Has h n [] y i = absurd i
 Made-from_Has h n (x ∷ xs) y i =
     elim (Has-cons_option (h (n, x)) (filter_map h (enumerate_from (n + 1) xs)) y i) [
@@ -68,7 +69,8 @@ Made-from_Has h n (x ∷ xs) y i =
           (suc made.0, made.1, made.2, rw at made.3))
     ]
 
-pub Has-from_Made : {X Y : Type 0} (h : ℕ × X → Option Y) (n : ℕ) (xs : List X) (y : Y) → Made h n xs y → Has (filter_map h (enumerate_from n xs)) y
+pub Has-from_Made : {X Y : Type 0} (h : ℕ × X → Option Y) (n : ℕ) (xs : List X) (y : Y) → Made h n xs y
+    → Has (filter_map h (enumerate_from n xs)) y
 Has-from_Made h n [] y (k, x, at, e) = absurd cc
 Has-from_Made h n (x ∷ xs) y (zero, z, at, e) =
     let here : n + 0 ≡ n = omega arith in

@@ -17,7 +17,8 @@ pub json_accepted : (b : List ℕ) (d : Data) → record_of b ≡ Some d → is_
 unfolding is_record
 json_accepted b d h = ap is_some h
 
-pub json_fields : (b : List ℕ) (d : Data) → record_of b ≡ Some d → (λ path. json_field_in path d) ≡ fields_of_payload Json b
+pub json_fields : (b : List ℕ) (d : Data) → record_of b ≡ Some d
+    → (λ path. json_field_in path d) ≡ fields_of_payload Json b
 unfolding fields_of_payload
 json_fields b d h = λ i path. sym (field_of_record b path d h) i
 
@@ -35,7 +36,8 @@ pub csv_accepted : (b : List ℕ) (fields : List (List ℕ)) → row_of b ≡ So
 unfolding is_record
 csv_accepted b fields h = ap is_some h
 
-pub csv_fields : (b : List ℕ) (fields : List (List ℕ)) → row_of b ≡ Some fields → (λ path. csv_field_in path fields) ≡ fields_of_payload Csv b
+pub csv_fields : (b : List ℕ) (fields : List (List ℕ)) → row_of b ≡ Some fields
+    → (λ path. csv_field_in path fields) ≡ fields_of_payload Csv b
 unfolding fields_of_payload
 csv_fields b fields h = λ i path. sym (field_of_row b path fields h) i
 

@@ -66,16 +66,21 @@ not_open opens n closed =
 abbrev IsSelected : Entry → Evaluation → Value → List ℕ → Type 0
 IsSelected e eval v payload = (lane : ℕ) × (form : _) × (e ≡ stored lane form payload) × (eval form payload ≡ Some v)
 
-row_if-some : (eval : Evaluation) (v : Value) (n : ℕ) (e : Entry) (row : Row) → row_if eval v n e ≡ Some row → (row.number ≡ n) × IsSelected e eval v row.payload
+row_if-some : (eval : Evaluation) (v : Value) (n : ℕ) (e : Entry) (row : Row) → row_if eval v n e ≡ Some row
+    → (row.number ≡ n) × IsSelected e eval v row.payload
 row_if-some eval v n (stored lane form payload) row h =
     let c = chosen (has_value (eval form payload) v) (Some (record { number = n; payload = payload })) row h in
     let is = same_Some (record { number = n; payload = payload }) row c.1 in
-    let same : payload ≡ row.payload = ap (λ (r : Row). r.payload) is in
-    (sym (ap (λ (r : Row). r.number) is), (lane, form, ap (stored lane form) same, rw (← same) (has_value-is (eval form payload) v c.0)))
+    let same : payload ≡ row.payload = ap (λ (r : Row). r.payload) is in (
+      sym (ap (λ (r : Row). r.number) is),
+      (lane, form, ap (stored lane form) same, rw (← same) (has_value-is (eval form payload) v c.0)),
+    )
 row_if-some eval v n void row h = cc
 row_if-some eval v n unfinished row h = cc
 
-row_if-at : (eval : Evaluation) (v : Value) (n lane : ℕ) (form : _) (payload : List ℕ) → eval form payload ≡ Some v → row_if eval v n (stored lane form payload) ≡ Some (record { number = n; payload = payload })
+row_if-at : (eval : Evaluation) (v : Value) (n lane : ℕ) (form : _) (payload : List ℕ)
+    → eval form payload ≡ Some v
+    → row_if eval v n (stored lane form payload) ≡ Some (record { number = n; payload = payload })
 row_if-at eval v n lane form payload h = rw (h, has_value-same v)
 
 module _ (eval : Evaluation) (v : Value) (from to : ℕ) (opens : List ℕ) where
@@ -88,7 +93,8 @@ module _ (eval : Evaluation) (v : Value) (from to : ℕ) (opens : List ℕ) wher
       let s = row_if-some eval v n e row c.1 in
       (s.0, grind (arith, nat_tests, r.0), grind (arith, nat_tests, r.1), closed_when opens n t.1, s.1)
 
-  row_of-at : (row : Row) (e : Entry) → from ≤ row.number → row.number < to → ¬ Contains opens row.number → IsSelected e eval v row.payload → row_of eval v from to opens (row.number, e) ≡ Some row
+  row_of-at : (row : Row) (e : Entry) → from ≤ row.number → row.number < to → ¬ Contains opens row.number
+      → IsSelected e eval v row.payload → row_of eval v from to opens (row.number, e) ≡ Some row
   row_of-at row e above below closed (lane, form, is, gives) =
       let a : nat_le from row.number ≡ true = grind (arith, nat_tests) in
       let b : nat_lt row.number to ≡ true = grind (arith, nat_tests) in
@@ -108,30 +114,36 @@ Rises-lower : (low less end : ℕ) (rows : List Row) → less ≤ low → Rises 
 Rises-lower low less end [] h r = omega arith
 Rises-lower low less end (row ∷ rows) h r = (omega (arith, r.0), r.1)
 
-Rises-cons_option : (low end : ℕ) (o : Option Row) (rows : List Row) → ((row : Row) → o ≡ Some row → row.number ≡ low) → Rises (low + 1) end rows → Rises low end (cons_option o rows)
+Rises-cons_option : (low end : ℕ) (o : Option Row) (rows : List Row)
+    → ((row : Row) → o ≡ Some row → row.number ≡ low) → Rises (low + 1) end rows → Rises low end (cons_option o rows)
 Rises-cons_option low end None rows at r = Rises-lower (low + 1) low end rows (omega arith) r
 Rises-cons_option low end (Some row) rows at r = (let is = at row refl in (omega arith, rw is r))
 
-Rises-filter_map : (h : ℕ × Entry → Option Row) → ((n : ℕ) (e : Entry) (row : Row) → h (n, e) ≡ Some row → row.number ≡ n)
+Rises-filter_map : (h : ℕ × Entry → Option Row)
+    → ((n : ℕ) (e : Entry) (row : Row) → h (n, e) ≡ Some row → row.number ≡ n)
     → (n end : ℕ) (log : List Entry) → n + length log ≡ end → Rises n end (filter_map h (enumerate_from n log))
 Rises-filter_map h at n end [] is = omega arith
 Rises-filter_map h at n end (e ∷ log) is =
-    Rises-cons_option n end (h (n, e)) (filter_map h (enumerate_from (n + 1) log)) (at n e) (Rises-filter_map h at (n + 1) end log (omega arith))
+    Rises-cons_option n end (h (n, e)) (filter_map h (enumerate_from (n + 1) log)) (at n e)
+    (Rises-filter_map h at (n + 1) end log (omega arith))
 
 -- rising rows turned round fall
-FallsBelow-reverse_aux : (low end : ℕ) (rows acc : List Row) → Rises low end rows → FallsBelow low acc → FallsBelow end (reverse_aux rows acc)
+FallsBelow-reverse_aux : (low end : ℕ) (rows acc : List Row) → Rises low end rows → FallsBelow low acc
+    → FallsBelow end (reverse_aux rows acc)
 FallsBelow-reverse_aux low end [] [] r f = tt
 FallsBelow-reverse_aux low end [] (row ∷ acc) r f = (omega (arith, f.0), f.1)
 FallsBelow-reverse_aux low end (row ∷ rows) [] r f =
     FallsBelow-reverse_aux (row.number + 1) end rows (row ∷ []) r.1 (omega arith, tt)
 FallsBelow-reverse_aux low end (row ∷ rows) (last ∷ acc) r f =
-    FallsBelow-reverse_aux (row.number + 1) end rows (row ∷ last ∷ acc) r.1 (omega arith, (omega (arith, r.0, f.0), f.1))
+    FallsBelow-reverse_aux (row.number + 1) end rows (row ∷ last ∷ acc) r.1
+    (omega arith, (omega (arith, r.0, f.0), f.1))
 
 -- ---- the law
 
 module _ (log : List Entry) (eval : Evaluation) (v : Value) (from to : ℕ) (opens : List ℕ) where
   -- a row made of the entry at its number is a match
-  match_made : (row : Row) (k : ℕ) (e : Entry) → slice_get log k ≡ Some e → row.number ≡ k → from ≤ k → k < to → ¬ Contains opens k → IsSelected e eval v row.payload → IsMatch log eval v from to opens row
+  match_made : (row : Row) (k : ℕ) (e : Entry) → slice_get log k ≡ Some e → row.number ≡ k → from ≤ k → k < to
+      → ¬ Contains opens k → IsSelected e eval v row.payload → IsMatch log eval v from to opens row
   match_made row k e at is above below closed (lane, form, stands, gives) = record {
     above = omega arith;
     below = omega arith;
@@ -143,7 +155,8 @@ module _ (log : List Entry) (eval : Evaluation) (v : Value) (from to : ℕ) (ope
   unfolding select
   is_match row c =
       let h = row_of eval v from to opens in
-      let made = Made-from_Has h 0 log row (Has-reverse (filter_map h (enumerate_from 0 log)) row (Has-from_Contains _ row c)) in
+      let made = Made-from_Has h 0 log row
+      (Has-reverse (filter_map h (enumerate_from 0 log)) row (Has-from_Contains _ row c)) in
       let here : 0 + made.0 ≡ made.0 = omega arith in
       let parts = row_of-some eval v from to opens made.0 made.1 row (rw here at made.3) in
       match_made row made.0 made.1 made.2 parts.0 parts.1 parts.2 parts.3 parts.4
@@ -156,7 +169,8 @@ module _ (log : List Entry) (eval : Evaluation) (v : Value) (from to : ℕ) (ope
       let here : 0 + row.number ≡ row.number = omega arith in
       let e = stored s.0 s.1 row.payload in
       let gives = row_of-at eval v from to opens row e m.above m.below m.closed (s.0, s.1, refl, s.3) in
-      Contains-from_Has _ row (reverse-Has (filter_map h (enumerate_from 0 log)) row (Has-from_Made h 0 log row (row.number, e, s.2, rw here gives)))
+      Contains-from_Has _ row (reverse-Has (filter_map h (enumerate_from 0 log)) row
+      (Has-from_Made h 0 log row (row.number, e, s.2, rw here gives)))
 
   falls : FallsBelow (length log) (select log eval v from to opens)
   unfolding select
@@ -166,5 +180,7 @@ module _ (log : List Entry) (eval : Evaluation) (v : Value) (from to : ℕ) (ope
       (Rises-filter_map h (numbers eval v from to opens) 0 (length log) log (omega arith)) tt
 
 pub selects : SelectsMatches
-selects log eval v from to opens =
-    (λ row. (is_match log eval v from to opens row, in_selection log eval v from to opens row), falls log eval v from to opens)
+selects log eval v from to opens = (
+  λ row. (is_match log eval v from to opens row, in_selection log eval v from to opens row),
+  falls log eval v from to opens,
+)

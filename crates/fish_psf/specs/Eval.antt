@@ -21,7 +21,8 @@ Fields = List (List ℕ) → Field
 
 -- ---- conditions
 
--- the order of a field and a literal, where they are of one kind: false is below true, numbers go by size, texts by their bytes
+-- the order of a field and a literal, where they are of one kind: false is below true, numbers go by size,
+-- texts by their bytes
 abbrev pub order_of : Field → Value → Option Ordering
 order_of (field.Bool a) (value.Bool b) = Some (bool_cmp a b)
 order_of (field.Int a) (value.Int b) = Some (int_cmp a b)
@@ -100,7 +101,8 @@ floor_multiple width n = n -ℤ int_rem_euclid n width
 
 -- a number rounded down to a multiple of a width: none below the least i64, and none for a width below 1
 abbrev pub bucket : ℤ → ℤ → Option ℤ
-bucket width n = if not (int_lt width (pos 1)) && fits_i64 (floor_multiple width n) then Some (floor_multiple width n) else None
+bucket width n =
+    if not (int_lt width (pos 1)) && fits_i64 (floor_multiple width n) then Some (floor_multiple width n) else None
 
 -- a whole number at the path rounded down, and nothing else
 abbrev pub bucket_of : ℤ → Field → Option Value

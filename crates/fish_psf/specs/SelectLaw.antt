@@ -5,12 +5,15 @@ use Rattle.fish_value.specs.declared.row.Row.{Row}
 use Rattle.fish_value.specs.declared.value.Value.{Value}
 use Rattle.fish_psf.specs.Select.{Entry, stored, Evaluation, select}
 
--- a row is a match where its number is in the range and not open, and the log has at this number a stored record with this payload, on which the definition has the value
-pub record IsMatch (log : List Entry) (eval : Evaluation) (v : Value) (from to : ℕ) (opens : List ℕ) (row : Row) : Type 0 where
+-- a row is a match where its number is in the range and not open, and the log has at this number a stored
+-- record with this payload, on which the definition has the value
+pub record IsMatch (log : List Entry) (eval : Evaluation) (v : Value) (from to : ℕ)
+    (opens : List ℕ) (row : Row) : Type 0 where
   pub above : from ≤ row.number
   pub below : row.number < to
   pub closed : ¬ Contains opens row.number
-  pub selected : (lane : ℕ) × (form : Form) × (slice_get log row.number ≡ Some (stored lane form row.payload)) × (eval form row.payload ≡ Some v)
+  pub selected : (lane : ℕ) × (form : Form) × (slice_get log row.number ≡ Some (stored lane form row.payload))
+      × (eval form row.payload ≡ Some v)
 
 -- the numbers fall strictly from row to row, from below n on
 abbrev pub FallsBelow : ℕ → List Row → Type 0

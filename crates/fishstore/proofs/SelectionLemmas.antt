@@ -37,45 +37,57 @@ refused-none os = grind (arith, common_steps)
 refused-some : (payload : List ℕ) (os : List (Option (List ℕ))) → refused (Some payload ∷ os) ≡ refused os
 refused-some payload os = grind (arith, common_steps)
 
-Adds-none : (c : Asked) (t u : Tally) (os : List (Option (List ℕ))) → Adds c (with_outcome c t None) u os → Adds c t u (None ∷ os)
-Adds-none c t u os h = record { rows = h.rows; count = h.count; refused_lines = omega (arith, h.refused_lines, refused-none os) }
+Adds-none : (c : Asked) (t u : Tally) (os : List (Option (List ℕ))) → Adds c (with_outcome c t None) u os
+    → Adds c t u (None ∷ os)
+Adds-none c t u os h =
+    record { rows = h.rows; count = h.count; refused_lines = omega (arith, h.refused_lines, refused-none os) }
 
 -- rows with one more in front of the others
-rows_with-then : (c : Asked) (n : ℕ) (payload : List ℕ) (rows : List Row) → rows_with c n (field payload) payload ++ rows ≡ cons_option (row_at c (n, payload)) rows
+rows_with-then : (c : Asked) (n : ℕ) (payload : List ℕ) (rows : List Row)
+    → rows_with c n (field payload) payload ++ rows ≡ cons_option (row_at c (n, payload)) rows
 rows_with-then c n payload rows =
     elim (has_value (eval c.def (field payload)) c.value) as
-    (λ t. (if t then record { number = n; payload = payload } ∷ [] else []) ++ rows ≡ cons_option (if t then Some (record { number = n; payload = payload }) else None) rows) [
+    (λ t. (if t then record { number = n; payload = payload } ∷ [] else []) ++ rows
+    ≡ cons_option (if t then Some (record { number = n; payload = payload }) else None) rows) [
       | true ↦ refl
       | false ↦ refl
     ]
 
-Adds-some : (c : Asked) (t u : Tally) (payload : List ℕ) (os : List (Option (List ℕ))) → Adds c (with_outcome c t (Some payload)) u os → Adds c t u (Some payload ∷ os)
+Adds-some : (c : Asked) (t u : Tally) (payload : List ℕ) (os : List (Option (List ℕ)))
+    → Adds c (with_outcome c t (Some payload)) u os → Adds c t u (Some payload ∷ os)
 Adds-some c t u payload os h = record {
   rows = h.rows ∙ append_assoc t.rows _ _ ∙ ap (λ r. t.rows ++ r) (rows_with-then c t.count payload _);
   count = omega (arith, h.count);
   refused_lines = h.refused_lines ∙ ap (λ n. t.refused + n) (sym (refused-some payload os));
 }
 
-Adds-outcome : (c : Asked) (t u : Tally) (o : Option (List ℕ)) (os : List (Option (List ℕ))) → Adds c (with_outcome c t o) u os → Adds c t u (o ∷ os)
+Adds-outcome : (c : Asked) (t u : Tally) (o : Option (List ℕ)) (os : List (Option (List ℕ)))
+    → Adds c (with_outcome c t o) u os → Adds c t u (o ∷ os)
 Adds-outcome c t u None os h = Adds-none c t u os h
 Adds-outcome c t u (Some payload) os h = Adds-some c t u payload os h
 
 Adds-lines : (c : Asked) (t : Tally) (lines : List (List ℕ)) → Adds c t (with_lines c t lines) (map payload_of lines)
 Adds-lines c t [] = Adds-nil c t
-Adds-lines c t (line ∷ lines) = Adds-outcome c t (with_lines c (with_line c t line) lines) (payload_of line) (map payload_of lines) (Adds-lines c (with_line c t line) lines)
+Adds-lines c t (line ∷ lines) = Adds-outcome c t (with_lines c (with_line c t line) lines) (payload_of line)
+    (map payload_of lines) (Adds-lines c (with_line c t line) lines)
 
 -- ---- the selection of the payloads as a log
 
-row_of-at : (c : Asked) (n end : ℕ) (payload : List ℕ) → n < end → row_of (evaluation c.def) c.value 0 end [] (n, stored 1 Json payload) ≡ row_at c (n, payload)
-row_of-at c n end payload below = (let low : nat_le 0 n ≡ true = grind (arith, nat_tests) in let high : nat_lt n end ≡ true = grind (arith, nat_tests) in rw (low, high))
+row_of-at : (c : Asked) (n end : ℕ) (payload : List ℕ) → n < end
+    → row_of (evaluation c.def) c.value 0 end [] (n, stored 1 Json payload) ≡ row_at c (n, payload)
+row_of-at c n end payload below =
+    (let low : nat_le 0 n ≡ true = grind (arith, nat_tests) in
+    let high : nat_lt n end ≡ true = grind (arith, nat_tests) in rw (low, high))
 
 rows_of-log : (c : Asked) (n end : ℕ) (payloads : List (List ℕ)) → n + length payloads ≤ end
-    → filter_map (row_of (evaluation c.def) c.value 0 end []) (enumerate_from n (log_of payloads)) ≡ filter_map (row_at c) (enumerate_from n payloads)
+    → filter_map (row_of (evaluation c.def) c.value 0 end []) (enumerate_from n (log_of payloads))
+    ≡ filter_map (row_at c) (enumerate_from n payloads)
 rows_of-log c n end [] within = refl
 rows_of-log c n end (payload ∷ payloads) within =
     rw (row_of-at c n end payload (omega arith), rows_of-log c (n + 1) end payloads (omega arith))
 
-rows_of-is : (c : Asked) (payloads : List (List ℕ)) → reverse (filter_map (row_at c) (enumerate_from 0 payloads)) ≡ rows_of c.def c.value payloads
+rows_of-is : (c : Asked) (payloads : List (List ℕ))
+    → reverse (filter_map (row_at c) (enumerate_from 0 payloads)) ≡ rows_of c.def c.value payloads
 unfolding rows_of select
 rows_of-is c payloads = sym (ap reverse (rows_of-log c 0 (length payloads) payloads (omega arith)))
 
@@ -85,7 +97,8 @@ pub selection-tally : (c : Asked) (b : List ℕ) (t : Tally) → t ≡ with_line
 unfolding selection outcomes outcomes_of
 selection-tally c b t h =
     let all = Adds-lines c no_lines (file_lines b) in
-    let rows : reverse t.rows ≡ rows_of c.def c.value (accepted (outcomes b)) = rw (h, all.rows) (rows_of-is c (accepted (outcomes b))) in
+    let rows : reverse t.rows ≡ rows_of c.def c.value (accepted (outcomes b)) =
+    rw (h, all.rows) (rows_of-is c (accepted (outcomes b))) in
     let count : t.count ≡ length (accepted (outcomes b)) = rw (h, all.count) (omega arith) in
     let none : t.refused ≡ refused (outcomes b) = rw (h, all.refused_lines) (omega arith) in
     rw (rows, count, none)

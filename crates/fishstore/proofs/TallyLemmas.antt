@@ -29,10 +29,13 @@ pub payload_of_none : (line : List ℕ) → record_of line ≡ None → payload_
 payload_of_none line h = rw h
 
 -- two records that have the same at every path count alike
-pub with_record_same : (asked : Asked) (t : Tally) (fields other : Fields) (payload : List ℕ) → fields ≡ other → with_record asked t fields payload ≡ with_record asked t other payload
+pub with_record_same : (asked : Asked) (t : Tally) (fields other : Fields) (payload : List ℕ) → fields ≡ other
+    → with_record asked t fields payload ≡ with_record asked t other payload
 with_record_same asked t fields other payload h = ap (λ f. with_record asked t f payload) h
 
 -- a line that was read counts as its record
-pub with_line_read : (asked : Asked) (t : Tally) (line : List ℕ) (d : Data) → record_of line ≡ Some d → with_record asked t (λ path. field_in path d) line ≡ with_line asked t line
+pub with_line_read : (asked : Asked) (t : Tally) (line : List ℕ) (d : Data) → record_of line ≡ Some d
+    → with_record asked t (λ path. field_in path d) line ≡ with_line asked t line
 with_line_read asked t line d h =
-    rw h (with_record_same asked t (λ path. field_in path d) (field line) line (λ i path. (record_is_read line d h).same path i))
+    rw h (with_record_same asked t (λ path. field_in path d) (field line) line
+    (λ i path. (record_is_read line d h).same path i))

@@ -27,7 +27,9 @@ rows_of def v payloads = select (log_of payloads) (evaluation def) v 0 (length p
 
 -- a file within the limit: its records with the value, how many records it has, and how many of its lines are none
 unfoldable pub selection : Asked → List ℕ → Item
-selection asked b = item.Select (rows_of asked.def asked.value (accepted (outcomes b))) (length (accepted (outcomes b))) (refused (outcomes b))
+selection asked b =
+    item.Select (rows_of asked.def asked.value (accepted (outcomes b))) (length (accepted (outcomes b)))
+    (refused (outcomes b))
 
 -- what `select` answers for a file
 abbrev pub answer_of : Asked → List ℕ → Item

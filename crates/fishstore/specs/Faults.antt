@@ -49,7 +49,8 @@ IsStepFault before now fault.None = ⊥
 IsStepFault before now fault.Output = ⊥
 IsStepFault before now (fault.Usage cause) = ⊥
 
--- where a run may end before its first byte is written: by usage exactly with the words' cause, by the input only where its faults rose
+-- where a run may end before its first byte is written: by usage exactly with the words' cause, by the input
+-- only where its faults rose
 abbrev pub IsEarlyEnd : List (List ℕ) → ℕ → ℕ → Fault → Type 0
 IsEarlyEnd words before now (fault.Usage cause) = IsCommand words (Err cause)
 IsEarlyEnd words before now fault.Input = IsSomeCommand words × Rose before now

@@ -9,7 +9,8 @@ use Rattle.fishstore.specs.Words.{Asked, IsCommand, IsSomeCommand}
 use Rattle.fishstore.specs.declared.outcome.Fault.{Fault}
 use Rattle.fishstore.specs.declared.outcome.Fault.TheVariants as fault
 
--- the exit status: 0 where the work was done and nothing was refused, 3 where an item tells of a refusal, and else that of the fault
+-- the exit status: 0 where the work was done and nothing was refused, 3 where an item tells of a refusal, and
+-- else that of the fault
 abbrev pub status_of : Fault → List Item → ℕ
 status_of fault.None items = if list_any is_refusal items then 3 else 0
 status_of (fault.Usage cause) items = 1

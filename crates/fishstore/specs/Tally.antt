@@ -14,11 +14,13 @@ no_lines = record { rows = []; count = 0; refused = 0 }
 
 -- the row of a record, where the definition has the value on what the record has at each path
 abbrev pub rows_with : Asked → ℕ → Fields → List ℕ → List Row
-rows_with asked n fields payload = if has_value (eval asked.def fields) asked.value then record { number = n; payload = payload } ∷ [] else []
+rows_with asked n fields payload =
+    if has_value (eval asked.def fields) asked.value then record { number = n; payload = payload } ∷ [] else []
 
 -- one more record
 abbrev pub with_record : Asked → Tally → Fields → List ℕ → Tally
-with_record asked t fields payload = record t { rows = t.rows ++ rows_with asked t.count fields payload; count = t.count + 1 }
+with_record asked t fields payload =
+    record t { rows = t.rows ++ rows_with asked t.count fields payload; count = t.count + 1 }
 
 -- one more record, or one more refused line
 abbrev pub with_outcome : Asked → Tally → Option (List ℕ) → Tally

@@ -50,10 +50,12 @@ definition_refusal (lang.NumberTooLarge at) = refusal.Usage (cause.Definition (l
 definition_refusal (lang.ZeroWidth at) = refusal.Usage (cause.Definition (lang.ZeroWidth at))
 definition_refusal lang.OutOfMemory = refusal.OutOfMemory
 
--- words are this command, or refused with this cause: a command is `select`, a definition, a value that begins with no minus, and a file
+-- words are this command, or refused with this cause: a command is `select`, a definition, a value that begins
+-- with no minus, and a file
 abbrev pub IsCommand : List (List ℕ) → Result Asked UsageCause → Type 0
 IsCommand (verb ∷ def ∷ value ∷ file ∷ []) r =
-    MatchBool (bytes_eq verb (codes "select") && not (starts_with_minus value)) (IsSelect def value file r) (r ≡ Err cause.Words)
+    MatchBool (bytes_eq verb (codes "select") && not (starts_with_minus value)) (IsSelect def value file r)
+    (r ≡ Err cause.Words)
 IsCommand _ r = r ≡ Err cause.Words
 
 -- the words are some command

@@ -1,4 +1,5 @@
--- What was found so far, with what the lines that are left will give, is what the whole file gives; each line takes a byte.
+-- What was found so far, with what the lines that are left will give, is what the whole file gives; each line
+-- takes a byte.
 use Rattle.std.proofs.Common.{◌≡◌, ◌+◌, ◌≤◌, ◌++◌, length, map}
 use Rattle.fish_json.specs.Lines.{outcomes, payload_of}
 use Rattle.fish_lines.specs.File.{accepted, refused}

@@ -7,7 +7,8 @@ use Rattle.fish_lines.proofs.open_line.append.Goals as goal
 
 pub returns-clause-ok : goal.returns-clause-ok
 returns-clause-ok c =
-    let more = c.as_bytes.ensures ∙ c.in_ok-append.ensures.ok ∙ ap (λ l. l ++ c.first.result.now) c.in_ok-more.ensures ∙ ap (λ l. (13 ∷ []) ++ l) c.first.ensures in
+    let more = c.as_bytes.ensures ∙ c.in_ok-append.ensures.ok
+    ∙ ap (λ l. l ++ c.first.result.now) c.in_ok-more.ensures ∙ ap (λ l. (13 ∷ []) ++ l) c.first.ensures in
     on_ok_weaker c.append_kept-2.result
     (λ is within. is within ∙ append_cr KEPT c.args.cr c.args.bytes.now c.args.text.now _ c.if-not-cr.false more)
     c.append_kept-2.ensures.ok

@@ -11,5 +11,6 @@ returns-clause-ok c =
     let text = c.args.text.now in
     let room = c.saturating_sub.ensures ∙ ap (λ n. KEPT - n) c.len.ensures in
     on_ok_weaker c.append.result
-    (λ is within. is ∙ ap (λ l. bytes ++ l) (c.first.ensures ∙ ap (λ n. take n text) room) ∙ take_room KEPT bytes text within)
+    (λ is within. is ∙ ap (λ l. bytes ++ l) (c.first.ensures ∙ ap (λ n. take n text) room)
+    ∙ take_room KEPT bytes text within)
     c.append.ensures.ok

@@ -14,7 +14,8 @@ loop-part-preserved c =
     let more = given_of (ended (slice_split is_line_end behind)) in
     record {
       given = ap (λ l. l ++ more) c.in_ok-push_line.ensures
-          ∙ given_push rest part behind c.in_ok-of_part.field-0 c.loop-part.lines.items c.in-Some.ensures.parts c.in_ok-of_part.ensures
+          ∙ given_push rest part behind c.in_ok-of_part.field-0 c.loop-part.lines.items
+          c.in-Some.ensures.parts c.in_ok-of_part.ensures
           ∙ c.loop-part.invariant.given;
       last = last_push rest part behind c.in-Some.ensures.parts ∙ c.loop-part.invariant.last;
     }

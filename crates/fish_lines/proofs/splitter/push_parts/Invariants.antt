@@ -7,7 +7,8 @@ use Rattle.fish_lines.proofs.splitter.push_parts.Given as goal
 
 abbrev pub invariant-loop-part : goal.invariant-loop-part
 invariant-loop-part l = record {
-  given : l.lines.items ++ given_of (ended (slice_split is_line_end l.rest)) ≡ l.fn.lines.items ++ given_of (ended (slice_split is_line_end l.b));
+  given : l.lines.items ++ given_of (ended (slice_split is_line_end l.rest))
+      ≡ l.fn.lines.items ++ given_of (ended (slice_split is_line_end l.b));
   last : last_part (slice_split is_line_end l.rest) ≡ last_part (slice_split is_line_end l.b);
 }
 

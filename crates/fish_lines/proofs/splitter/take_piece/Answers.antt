@@ -1,5 +1,5 @@
 -- The first LF of the piece ends the open line, and the other lines are those of what stands behind it.
-use Rattle.std.proofs.Common.{◌∙◌, ap, sym, ◌++◌, append_assoc, subst}
+use Rattle.std.proofs.Common.{◌∙◌, ap, sym, ◌++◌, subst}
 use Rattle.std.specs.List.{slice_split}
 use Rattle.fish_json.specs.Lines.{is_line_end}
 use Rattle.fish_lines.specs.Lines.{ended, given_of, last_part}
@@ -15,15 +15,19 @@ returns-clause-lines c = λ t is.
     let behind = c.in-Some.behind.now in
     let more = given_of (ended (slice_split is_line_end behind)) in
     let first = ap (λ l. l ++ more) (line_in_open c.in_ok-grown.field-0 (t ++ front) (c.in_ok-grown.ensures t is)) in
-    let parts = ap (λ l. given_of (ended l)) (front_ends t c.args.piece.now front behind is.no_end c.in-Some.ensures.parts) in
+    let parts = ap (λ l. given_of (ended l))
+    (front_ends t c.args.piece.now front behind is.no_end c.in-Some.ensures.parts) in
     c.in_ok-append.ensures.items
     ∙ ap (λ l. c.args.ready.now.items ++ l)
-    (c.in_ok-rest.ensures.lines ∙ ap (λ l. l ++ more) (c.in_ok-push_line.ensures ∙ ap (λ l. l ++ line_in c.in_ok-grown.field-0) c.new-more.ensures.items)
+    (c.in_ok-rest.ensures.lines
+    ∙ ap (λ l. l ++ more)
+    (c.in_ok-push_line.ensures ∙ ap (λ l. l ++ line_in c.in_ok-grown.field-0) c.new-more.ensures.items)
     ∙ first ∙ sym (given_front (t ++ front) behind) ∙ sym parts)
 
 pub returns-clause-rest : goal.returns-clause-rest
 returns-clause-rest c = λ t is.
     let front = c.in-Some.front.now in
     let behind = c.in-Some.behind.now in
-    let last = ap last_part (front_ends t c.args.piece.now front behind is.no_end c.in-Some.ensures.parts) ∙ last-cut (t ++ front) behind in
+    let last = ap last_part (front_ends t c.args.piece.now front behind is.no_end c.in-Some.ensures.parts)
+    ∙ last-cut (t ++ front) behind in
     subst (λ l. IsOpen c.in_ok-next.next l) (c.in_ok-rest.ensures.rest ∙ sym last) c.in_ok-next.ensures

@@ -8,5 +8,6 @@ use Rattle.fishstore.proofs.select.add_line.Goals as goal
 pub returns-in-Ok-clause-counted : goal.returns-in-Ok-clause-counted
 returns-in-Ok-clause-counted c =
     on_ok_weaker c.add_record.result
-    (λ counted. counted ∙ with_line_read (asked_of c.args.command.now) c.args.tally.now c.args.line.now _ c.in-Ok.ensures.ok)
+    (λ counted. counted ∙ with_line_read
+    (asked_of c.args.command.now) c.args.tally.now c.args.line.now _ c.in-Ok.ensures.ok)
     c.add_record.ensures

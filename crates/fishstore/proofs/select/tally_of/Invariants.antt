@@ -9,7 +9,8 @@ use Rattle.fishstore.proofs.select.tally_of.Given as goal
 
 abbrev pub invariant-loop-line : goal.invariant-loop-line
 invariant-loop-line l = record {
-  whole : with_lines (asked_of l.command) l.tally (left l.lines) ≡ with_lines (asked_of l.command) no_lines (file_lines l.b);
+  whole : with_lines (asked_of l.command) l.tally (left l.lines)
+      ≡ with_lines (asked_of l.command) no_lines (file_lines l.b);
   counted : l.tally.count + l.tally.refused + length l.lines.rest.now ≤ length l.b;
 }
 

@@ -8,6 +8,8 @@ use Rattle.fish_lines.proofs.open_line.OpenLine.grow.Goals as goal
 pub returns-clause-open : goal.returns-clause-open
 returns-clause-open c = λ t was.
     let o = c.args.self.now in
-    let bytes = c.in_ok-append.ensures.ok (IsOpen-within o t was) ∙ ap (λ l. take KEPT (o.bytes ++ cr_if o.ends_in_cr ++ l)) c.without_carriage_return-text.ensures in
+    let bytes = c.in_ok-append.ensures.ok (IsOpen-within o t was)
+    ∙ ap (λ l. take KEPT (o.bytes ++ cr_if o.ends_in_cr ++ l)) c.without_carriage_return-text.ensures in
     rw c.ends_in_cr-self.ensures
-    (IsOpen-grow o c.append.new.bytes t c.args.piece.now (sym c.is_empty.ensures ∙ c.if-is_empty.false) c.requires was bytes)
+    (IsOpen-grow o c.append.new.bytes t c.args.piece.now
+    (sym c.is_empty.ensures ∙ c.if-is_empty.false) c.requires was bytes)

@@ -1,5 +1,5 @@
 -- All bytes so far go behind an open line of none.
-use Rattle.std.proofs.Common.{[], refl, ap, subst}
+use Rattle.std.proofs.Common.{[]}
 use Rattle.fish_lines.proofs.SplitLemmas.{HasTaken-begin}
 use Rattle.fish_lines.proofs.splitter.Splitter.begin.Goals as goal
 

@@ -1,10 +1,10 @@
 -- Behind the start the piece's lines follow; at the start all bytes so far are taken at once.
-use Rattle.std.proofs.Common.{◌≡◌, ◌==◌, List, ℕ, [], ◌∷◌, ◌++◌, Bool, true, Result, Ok, Err, sym, ap, subst, ◌∙◌, refl, length, arith}
+use Rattle.std.proofs.Common.{◌≡◌, ◌==◌, List, ℕ, [], ◌∷◌, ◌++◌, true, Result, Ok, Err, sym, ap, subst, ◌∙◌, refl, length, arith}
 use Rattle.std.specs.Result.{OnOk}
 use Rattle.std.proofs.lemmas.Bool.{eqb-true}
 use Rattle.std.proofs.lemmas.Result.{on_ok_weaker}
 use Rattle.fish_lines.specs.Lines.{last_part, parts_of}
-use Rattle.fish_lines.specs.Split.{HasTaken, is_undecided}
+use Rattle.fish_lines.specs.Split.{HasTaken}
 use Rattle.fish_lines.proofs.SplitLemmas.{HasTaken-more}
 use Rattle.fish_lines.proofs.splitter.Splitter.feed.Goals as goal
 
@@ -23,7 +23,8 @@ returns-then-not-self-clause-fed c =
     both c.take_piece.result c.take_piece.ensures.lines c.take_piece.ensures.rest (λ lines rest b taken h.
     let t = last_part (parts_of b) in
     let g = h.going c.requires in
-    HasTaken-more c.args.self.now _ b c.args.piece.now taken h c.requires c.if-not-self.true c.requires c.if-not-self.true (lines t g.rest) (rest t g.rest))
+    HasTaken-more c.args.self.now _ b c.args.piece.now taken h c.requires c.if-not-self.true
+    c.requires c.if-not-self.true (lines t g.rest) (rest t g.rest))
 
 pub returns-then-is_empty-clause-fed : goal.returns-then-is_empty-clause-fed
 returns-then-is_empty-clause-fed c =
@@ -31,7 +32,8 @@ returns-then-is_empty-clause-fed c =
     (λ fed b taken h.
     let g = h.going c.requires in
     let start = c.if-not-self.false in
-    let none = sym (g.held start) ∙ sym c.as_bytes.ensures ∙ empty c.as_bytes.result.now (sym c.is_empty.ensures ∙ c.if-is_empty.true) in
+    let none = sym (g.held start) ∙ sym c.as_bytes.ensures
+    ∙ empty c.as_bytes.result.now (sym c.is_empty.ensures ∙ c.if-is_empty.true) in
     subst (λ l. HasTaken c.begin.new.self (l ++ c.args.piece.now) taken) (sym none) (fed b taken (g.undecided start) h))
     c.begin.ensures.fed
 
@@ -41,6 +43,7 @@ returns-clause-fed c =
     (λ fed b taken h.
     let g = h.going c.requires in
     let start = c.if-not-self.false in
-    let whole = c.as_bytes-3.ensures ∙ c.in_ok-whole.ensures ∙ ap (λ l. l ++ c.args.piece.now) (c.as_bytes-2.ensures ∙ g.held start) in
+    let whole = c.as_bytes-3.ensures ∙ c.in_ok-whole.ensures
+    ∙ ap (λ l. l ++ c.args.piece.now) (c.as_bytes-2.ensures ∙ g.held start) in
     subst (λ l. HasTaken c.begin-2.new.self l taken) whole (fed b taken (g.undecided start) h))
     c.begin-2.ensures.fed

@@ -1,5 +1,5 @@
 -- Of no bytes no line is given, and they may begin a byte order mark.
-use Rattle.std.proofs.Common.{refl, ap, ◌∙◌}
+use Rattle.std.proofs.Common.{refl}
 use Rattle.fish_lines.specs.Lines.{whole_lines}
 use Rattle.fish_lines.proofs.splitter.Splitter.new.Goals as goal
 
