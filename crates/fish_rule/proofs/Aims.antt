@@ -106,11 +106,14 @@ aim_allowed given k same size id me f i x about can is = allowed given k same si
     let v' : View = after_aim me.0 f x in
     let within = own_within k w r id me.0 at f can in
     let kept = aim_kept k w r id me.0 at f can x in
-    let moved = world-log k ws vs (set vs id v') (own_place f) i x within.0 within.1 is wide in
-    (v', subst (Rule k) (sym moved) kept, λ g flying.
-        let e : f ≡ g = one_flight f g (sym can.flying ∙ flying) in
-        record {
-          view = ap (λ (z : Flight). after_aim me.0 z x) e;
-          held = refl;
-          stands = subst (λ (z : Flight). Stands (after_aim me.0 z x)) e (stands k _ id v' kept about (there vs id me.0 v' at));
-        }))
+    let moved = world-log k ws vs (set vs id v') (own_place f) i x within.0 within.1 is wide in (
+      v',
+      subst (Rule k) (sym moved) kept,
+      λ g flying.
+          let e : f ≡ g = one_flight f g (sym can.flying ∙ flying) in
+          record {
+            view = ap (λ (z : Flight). after_aim me.0 z x) e;
+            held = refl;
+            stands = subst (λ (z : Flight). Stands (after_aim me.0 z x)) e (stands k _ id v' kept about (there vs id me.0 v' at));
+          },
+    ))

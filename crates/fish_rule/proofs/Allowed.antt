@@ -68,13 +68,16 @@ claim_allowed given k same size id me x m about can some_lines few is = allowed 
     let line : low new ≡ w.line + m = ap low sum ∙ low-pack (suc w.count) (w.line + m) (omega arith) in
     let kept = claim_kept k w r id me.0 at m can some_lines few in
     let moved : world k (set ws 0 new) (set vs id v') ≡ record w { count = suc w.count; line = w.line + m; views = set vs id v' } =
-        world-tail k ws vs (set vs id v') new (omega arith) ∙ (λ j. record w { count = count j; line = line j; views = set vs id v' }) in
-    let lines : x - 68719476736 ≡ m = omega arith in
-    (v', subst (Rule k) (sym moved) kept, record {
-      view = ap (λ (z : ℕ). after_claim me.0 z w.count w.line) (sym lines);
-      held = refl;
-      stands = subst (λ (z : ℕ). Stands (after_claim me.0 z w.count w.line)) (sym lines) (stands k _ id v' kept about (there vs id me.0 v' at));
-    }))
+    world-tail k ws vs (set vs id v') new (omega arith) ∙ (λ j. record w { count = count j; line = line j; views = set vs id v' }) in
+    let lines : x - 68719476736 ≡ m = omega arith in (
+      v',
+      subst (Rule k) (sym moved) kept,
+      record {
+        view = ap (λ (z : ℕ). after_claim me.0 z w.count w.line) (sym lines);
+        held = refl;
+        stands = subst (λ (z : ℕ). Stands (after_claim me.0 z w.count w.line)) (sym lines) (stands k _ id v' kept about (there vs id me.0 v' at));
+      },
+    ))
 
 -- ---- store
 
@@ -91,14 +94,17 @@ store_allowed given k same size id me f i x about can is = allowed given k same 
     let more = can.more in
     let end : f.line + f.lines ≤ k.end = subst (λ (z : Key). f.line + f.lines ≤ z.end) about can.within in
     let kept = store_kept k w r id me.0 at f can x in
-    let moved = world-log k ws vs (set vs id v') p i x (omega arith) (omega arith) is wide in
-    (v', subst (Rule k) (sym moved) kept, λ g flying.
-        let e : f ≡ g = Rattle.fish_rule.proofs.Flights.one_flight f g (sym can.flying ∙ flying) in
-        record {
-          view = ap (λ (z : Flight). after_store me.0 z x) e;
-          held = refl;
-          stands = subst (λ (z : Flight). Stands (after_store me.0 z x)) e (stands k _ id v' kept about (there vs id me.0 v' at));
-        }))
+    let moved = world-log k ws vs (set vs id v') p i x (omega arith) (omega arith) is wide in (
+      v',
+      subst (Rule k) (sym moved) kept,
+      λ g flying.
+          let e : f ≡ g = Rattle.fish_rule.proofs.Flights.one_flight f g (sym can.flying ∙ flying) in
+          record {
+            view = ap (λ (z : Flight). after_store me.0 z x) e;
+            held = refl;
+            stands = subst (λ (z : Flight). Stands (after_store me.0 z x)) e (stands k _ id v' kept about (there vs id me.0 v' at));
+          },
+    ))
 
 -- ---- publish
 
@@ -115,15 +121,18 @@ publish_allowed given k same size id me f i x about can is word = allowed given 
     let ends : kind_of k.end f.line (f.line + f.lines) ≡ flight_kind me.0 f = ap (λ (z : Key). kind_of z.end f.line (f.line + f.lines)) (sym about) in
     let kept' = publish_kept k w r id me.0 at f can.live can.flying (flight_kind me.0 f) ends can.ready in
     let kept : Rule k (record w { dir = put w.dir f.number x; views = set vs id v' }) =
-        subst (λ (z : ℕ × Key). Rule k (record w { dir = put w.dir f.number z.0; views = set vs id (Rattle.fish_rule.proofs.Flights.publisher_at me.0 f z.1) })) (λ j. (sym word j, sym about j)) kept' in
-    let moved = world-dir k ws vs (set vs id v') f.number i x above (omega arith) is wide in
-    (v', subst (Rule k) (sym moved) kept, λ g flying.
-        let e : f ≡ g = Rattle.fish_rule.proofs.Flights.one_flight f g (sym can.flying ∙ flying) in
-        record {
-          view = ap (after_publish me.0) e;
-          held = refl;
-          stands = subst (λ (z : Flight). Stands (after_publish me.0 z)) e (stands k _ id v' kept about (there vs id me.0 v' at));
-        }))
+    subst (λ (z : ℕ × Key). Rule k (record w { dir = put w.dir f.number z.0; views = set vs id (Rattle.fish_rule.proofs.Flights.publisher_at me.0 f z.1) })) (λ j. (sym word j, sym about j)) kept' in
+    let moved = world-dir k ws vs (set vs id v') f.number i x above (omega arith) is wide in (
+      v',
+      subst (Rule k) (sym moved) kept,
+      λ g flying.
+          let e : f ≡ g = Rattle.fish_rule.proofs.Flights.one_flight f g (sym can.flying ∙ flying) in
+          record {
+            view = ap (after_publish me.0) e;
+            held = refl;
+            stands = subst (λ (z : Flight). Stands (after_publish me.0 z)) e (stands k _ id v' kept about (there vs id me.0 v' at));
+          },
+    ))
 
 -- ---- loads
 
@@ -141,13 +150,16 @@ look_allowed given k same size id me n i about can is = allowed given k same siz
     let lines : ℕ = lines_at k w r id me.0 at n in
     let v' : View = after_look me.0 n lines x in
     let kept = look_kept k w r id me.0 at n x can about word in
-    let index : number_at me.0.about i ≡ n = ap (λ (z : Key). number_at z i) about ∙ (omega arith) in
-    (v', loaded_words k ws (set vs id v') i kept, record {
-      lines = lines;
-      told = subst (λ (z : ℕ). Told me (after_look me.0 z lines x) (v', me.1)) (sym index) (record { view = refl; held = refl; stands = stands k _ id v' kept about (there vs id me.0 v' at) });
-      alone = λ alone none_. look_alone k w r id me.0 at n can about alone (sym word ∙ none_);
-      known = λ f among same_. look_known k w r id me.0 at n x word f among (same_ ∙ index);
-    }))
+    let index : number_at me.0.about i ≡ n = ap (λ (z : Key). number_at z i) about ∙ (omega arith) in (
+      v',
+      loaded_words k ws (set vs id v') i kept,
+      record {
+        lines = lines;
+        told = subst (λ (z : ℕ). Told me (after_look me.0 z lines x) (v', me.1)) (sym index) (record { view = refl; held = refl; stands = stands k _ id v' kept about (there vs id me.0 v' at) });
+        alone = λ alone none_. look_alone k w r id me.0 at n can about alone (sym word ∙ none_);
+        known = λ f among same_. look_known k w r id me.0 at n x word f among (same_ ∙ index);
+      },
+    ))
 
 -- a load of the tail
 pub end_allowed : (given k : Key) → given ≡ k → (size id : ℕ) (me : Sat) → me.0.about ≡ k → Allows (Ruled given) size id me 0 (λ n. n) (ToldEnd (step size 0 0 0 none) me)
@@ -155,10 +167,13 @@ end_allowed given k same size id me about = allowed given k same size id me 0 (�
     let w : World = world k ws vs in
     let x : ℕ = get_or ws 0 0 in
     let v' : View = after_end me.0 x in
-    let kept = end_kept k w r id me.0 at x refl refl in
-    (v', loaded_words k ws (set vs id v') 0 kept, record {
-      told = record { view = refl; held = refl; stands = stands k _ id v' kept about (there vs id me.0 v' at) };
-      counted = end_counted k w r id me.0 at x refl;
-      settled = end_settled k w r id me.0 at x refl;
-      rests = λ main all. end_rests k w r id me.0 at x refl refl main all;
-    }))
+    let kept = end_kept k w r id me.0 at x refl refl in (
+      v',
+      loaded_words k ws (set vs id v') 0 kept,
+      record {
+        told = record { view = refl; held = refl; stands = stands k _ id v' kept about (there vs id me.0 v' at) };
+        counted = end_counted k w r id me.0 at x refl;
+        settled = end_settled k w r id me.0 at x refl;
+        rests = λ main all. end_rests k w r id me.0 at x refl refl main all;
+      },
+    ))

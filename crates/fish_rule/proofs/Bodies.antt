@@ -115,10 +115,13 @@ body_void log lines line some few header zeros = λ j i. each i (ℕ_discrete i 
   where
     f : ℕ → ℕ
     f i = log (line * 4 + i)
+
     lined : lines_of (f 0) ≡ lines
     lined = ap lines_of header ∙ lines_of-void lines few
+
     keys : keys_of (f 0) ≡ 0
     keys = ap keys_of header ∙ keys_of-void lines few
+
     each : (i : ℕ) → Dec (i ≡ 0) → Dec (i ≤ lines_of (f 0) * 4 - 1) → cleared f i ≡ void_body lines i
     each i (yes e) d = ap (cleared f) e ∙ cleared_head f ∙ header ∙ sym (choose_first (ℕ_discrete i 0) (void_word lines) 0 e)
     each i (no ne) (yes within) =

@@ -33,6 +33,7 @@ module _ (old new : ℕ → Type 0) where
           less = above;
           most = λ q h less. ⊎_elim (λ (g : old q). c.highest q g) (λ (e : q ≡ own). absurd (omega arith)) (from q h);
         })
+
         before : (p : ℕ) → old p → IsNext new p (log' p)
         before p g = (let n = c.next p g in let top = c.highest p g in subst (IsNext new p) (sym (same p g)) (record {
           is = ⊎_elim (λ (e : log p ≡ 0). inl e) (λ (z : old (log p)). inr (to (log p) z)) n.is;
@@ -50,14 +51,17 @@ module _ (old new : ℕ → Type 0) where
       where
         n : IsNext old q (log q)
         n = c.next q at
+
         top_of : (r : ℕ) → old r → r < q → r ≤ x
         top_of r g l = subst (λ (z : ℕ). r ≤ z) was (n.most r g l)
+
         newest : IsNext new own (log' own)
         newest = subst (IsNext new own) (sym aimed) (record {
           is = ⊎_elim (λ (e : log q ≡ 0). inl (sym was ∙ e)) (λ (g : old (log q)). inr (to x (subst old was g))) n.is;
           less = less;
           most = λ r h l. ⊎_elim (λ (g : old r). top_of r g (omega arith)) (λ (e : r ≡ own). absurd (omega arith)) (from r h);
         })
+
         each : (p : ℕ) → old p → Dec (p ≡ q) → IsNext new p (log' p)
         each p g (yes e) = subst (λ (z : ℕ). IsNext new z (log' z)) (sym e) (subst (IsNext new q) (sym now) (record {
           is = inr here;

@@ -143,9 +143,11 @@ module _ (k : Key) (w : World) (r : Rule k w) (id : ℕ) (v : View) (at : get_el
           pick : Dec (n < w.count) → n < w.count
           pick (yes h) = h
           pick (no h) = absurd (set_ (r.space.dir_beyond n (omega arith)))
+
       fly : (n : ℕ) → k.number ≤ n → n < suc w.count → w.dir n ≡ 0 → Dec (n ≡ w.count) → HasFlight n (set w.views id claimer)
       fly n above below unset (yes e) = record { seat = id; view = claimer; at = set_here w.views id claimer (within_list w.views id v at); flies = sym e }
       fly n above below unset (no ne) = flight_there w.views id v claimer at n (λ h. absurd (no_flight n v.flight can.idle h)) (r.space.flying n above (omega arith) unset)
+
       clash : {i j : ℕ} (n : ℕ) (u : View) → Flies k w.count w.dir w.log r.start r.lane_of u.lane u.flight → w.count ≡ n → IsFlightOf n u.flight → i ≡ j
       clash n u h e is = (let less = below_count u.lane n u.flight h is in absurd (omega arith))
 
@@ -155,33 +157,41 @@ module _ (k : Key) (w : World) (r : Rule k w) (id : ℕ) (v : View) (at : get_el
 
   -- the limit where the claim ends within the log, or is no first one past its end
   limit_of : Dec (k.end < w.line + m) → (quota' : ℕ → ℕ) × Limit k (suc w.count) (set w.views id claimer) start' quota'
-  limit_of (yes over) = (put r.quota v.lane 0, record {
-    first = r.limit.first;
-    above = r.limit.above;
-    within = (let h = r.limit.within in omega arith);
-    fits = subst (λ (z : ℕ). z ≤ k.end) (sym (old_start r.limit.first r.limit.within)) r.limit.fits;
-    past = λ n more below. past n more below (ℕ_discrete n w.count);
-    few = (let few = r.limit.few in let within = r.limit.within in let less = spends in omega arith);
-    may = each_set _ w.views id claimer (λ j u ne at_u l has may. put-else r.quota v.lane 0 l (λ e. ne (r.seats.apart j id u v l at_u at has (subst (Has v.lane v.out) (sym e) mine))) ∙ r.limit.may j u at_u l has may)
-        (λ l has may. absurd (may.1 over));
-  })
+  limit_of (yes over) = (
+    put r.quota v.lane 0,
+    record {
+      first = r.limit.first;
+      above = r.limit.above;
+      within = (let h = r.limit.within in omega arith);
+      fits = subst (λ (z : ℕ). z ≤ k.end) (sym (old_start r.limit.first r.limit.within)) r.limit.fits;
+      past = λ n more below. past n more below (ℕ_discrete n w.count);
+      few = (let few = r.limit.few in let within = r.limit.within in let less = spends in omega arith);
+      may = each_set _ w.views id claimer (λ j u ne at_u l has may. put-else r.quota v.lane 0 l (λ e. ne (r.seats.apart j id u v l at_u at has (subst (Has v.lane v.out) (sym e) mine))) ∙ r.limit.may j u at_u l has may)
+          (λ l has may. absurd (may.1 over));
+    },
+  )
     where
       mine : Has v.lane v.out v.lane
       mine = has_own w.views id v at can.live r.seats
+
       spends : suc (quotas (put r.quota v.lane 0) 16) ≡ quotas r.quota 16
       spends = quotas_lower r.quota v.lane 16 can.live mine.1 (r.limit.may id v at v.lane mine could)
+
       past : (n : ℕ) → r.limit.first ≤ n → n < suc w.count → Dec (n ≡ w.count) → k.end < start' (suc n)
       past n more below (yes e) = subst (λ (z : ℕ). k.end < z) (sym (ap (λ (z : ℕ). start' (suc z)) e ∙ new_end)) over
       past n more below (no ne) = (let less : n < w.count = omega arith in subst (λ (z : ℕ). k.end < z) (sym (old_start (suc n) less)) (r.limit.past n more less))
-  limit_of (no within) = (r.quota, record {
-    first = suc w.count;
-    above = (let h = r.space.regions.some in omega arith);
-    within = omega arith;
-    fits = subst (λ (z : ℕ). z ≤ k.end) (sym new_end) (omega arith);
-    past = λ n more below. absurd (omega arith);
-    few = (let few = r.limit.few in omega arith);
-    may = each_set _ w.views id claimer (λ j u ne at_u. r.limit.may j u at_u) (λ l has may. r.limit.may id v at l has could);
-  })
+  limit_of (no within) = (
+    r.quota,
+    record {
+      first = suc w.count;
+      above = (let h = r.space.regions.some in omega arith);
+      within = omega arith;
+      fits = subst (λ (z : ℕ). z ≤ k.end) (sym new_end) (omega arith);
+      past = λ n more below. absurd (omega arith);
+      few = (let few = r.limit.few in omega arith);
+      may = each_set _ w.views id claimer (λ j u ne at_u. r.limit.may j u at_u) (λ l has may. r.limit.may id v at l has could);
+    },
+  )
 
   -- a record that some pass stored was published before
   stored_old : (l n : ℕ) → IsStoredBy k (suc w.count) w.dir lane_of' l n → (n < w.count) × (w.dir n ≢ 0)
@@ -189,6 +199,7 @@ module _ (k : Key) (w : World) (r : Rule k w) (id : ℕ) (v : View) (at : get_el
     where
       set_ : w.dir n ≢ 0
       set_ = published (w.dir n) Stored h.stored
+
       pick : Dec (n < w.count) → (n < w.count) × (w.dir n ≢ 0)
       pick (yes less) = (less, set_)
       pick (no more) = absurd (set_ (r.space.dir_beyond n (omega arith)))

@@ -44,6 +44,7 @@ told_more v u base entries e learns told next i x at = pick (Rattle.std.proofs.M
   where
     last : get_elem? (entries ++ e ∷ []) (length entries) ≡ some e
     last = Rattle.atomic_table.proofs.Lists.at_last entries e (length entries) refl
+
     pick : Dec (i ≡ length entries) → Tells u (base + i) x
     pick (yes same) =
         let here : e ≡ x = mathlib.Core.Option.some-injective e x (sym last ∙ ap (get_elem? (entries ++ e ∷ [])) (sym same) ∙ at) in

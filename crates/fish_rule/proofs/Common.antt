@@ -24,15 +24,15 @@ pub pairs_set : (Q : ℕ → ℕ → View → View → Type 0) (vs : List View) 
     → (i j : ℕ) (v u : View) → get_elem? (set vs id v') i ≡ some v → get_elem? (set vs id v') j ≡ some u → Q i j v u
 pairs_set Q vs id v' same one both i j v u at_i at_j =
     ⊎_elim
-        (λ (s : (i ≡ id) × (v' ≡ v)). ⊎_elim
-            (λ (t : (j ≡ id) × (v' ≡ u)). subst (λ (z : ℕ × ℕ × View × View). Q z.0 z.1 z.2 z.3) (λ d. (sym s.0 d, sym t.0 d, s.1 d, t.1 d)) (same id))
-            (λ (t : (j ≢ id) × (get_elem? vs j ≡ some u)). subst (λ (z : ℕ × View). Q z.0 j z.1 u) (λ d. (sym s.0 d, s.1 d)) (one j u t.0 t.1).0)
-            (at_set vs id j v' u at_j))
-        (λ (s : (i ≢ id) × (get_elem? vs i ≡ some v)). ⊎_elim
-            (λ (t : (j ≡ id) × (v' ≡ u)). subst (λ (z : ℕ × View). Q i z.0 v z.1) (λ d. (sym t.0 d, t.1 d)) (one i v s.0 s.1).1)
-            (λ (t : (j ≢ id) × (get_elem? vs j ≡ some u)). both i j v u s.0 t.0 s.1 t.1)
-            (at_set vs id j v' u at_j))
-        (at_set vs id i v' v at_i)
+    (λ (s : (i ≡ id) × (v' ≡ v)). ⊎_elim
+    (λ (t : (j ≡ id) × (v' ≡ u)). subst (λ (z : ℕ × ℕ × View × View). Q z.0 z.1 z.2 z.3) (λ d. (sym s.0 d, sym t.0 d, s.1 d, t.1 d)) (same id))
+    (λ (t : (j ≢ id) × (get_elem? vs j ≡ some u)). subst (λ (z : ℕ × View). Q z.0 j z.1 u) (λ d. (sym s.0 d, s.1 d)) (one j u t.0 t.1).0)
+    (at_set vs id j v' u at_j))
+    (λ (s : (i ≢ id) × (get_elem? vs i ≡ some v)). ⊎_elim
+    (λ (t : (j ≡ id) × (v' ≡ u)). subst (λ (z : ℕ × View). Q i z.0 v z.1) (λ d. (sym t.0 d, t.1 d)) (one i v s.0 s.1).1)
+    (λ (t : (j ≢ id) × (get_elem? vs j ≡ some u)). both i j v u s.0 t.0 s.1 t.1)
+    (at_set vs id j v' u at_j))
+    (at_set vs id i v' v at_i)
 
 -- one more view behind the others
 pub each_snoc : (P : View → Type 0) (vs : List View) (u : View) → Each P vs → P u → Each P (vs ++ u ∷ [])

@@ -57,7 +57,7 @@ module _ (v : View) (w : World) (r : Rule v.about w) (j : ℕ) (at : get_elem? w
       let lines' : lines_of (get_or words 0 0) ≡ f.lines = ap lines_of same ∙ lines in
       let some_ = some_lines in
       cleared_same (λ i. get_or words i 0) (λ i. w.log (r.start f.number * 4 + i)) (λ i within plain.
-          sym (cleared_at (λ m. w.log (r.start f.number * 4 + m)) i (omega arith) (subst (λ (z : ℕ). ¬ IsKeyWord (keys_of z) i) same plain)) ∙ stands_there i (omega arith) plain)
+      sym (cleared_at (λ m. w.log (r.start f.number * 4 + m)) i (omega arith) (subst (λ (z : ℕ). ¬ IsKeyWord (keys_of z) i) same plain)) ∙ stands_there i (omega arith) plain)
 
   -- the record there
   holds_record : (kind : Kind) (lane n lines : ℕ) (e : ℕ → ℕ) → kind ≡ Stored → Holds kind lane n lines e → IsRecord lane n lines e
@@ -87,15 +87,17 @@ module _ (v : View) (w : World) (r : Rule v.about w) (j : ℕ) (at : get_elem? w
   entry_there lane form payload lanes forms payloads =
       let p = record_there.1 in
       let q = body_there in
-      let t = region_found v.about w r f found in
-      (record_there.0, record {
-        stored = found.kind ∙ ap Rattle.fish_rule.specs.Regions.code is;
-        spells = subst (Spells record_there.0) (sym body_read ∙ ap (body w.log) (sym t.0.line)) p.spells;
-        number_is = p.number_is;
-        lane_is = ap (λ (z : BodyParts). z.lane) (sym q.2) ∙ sym (lanes q.0 q.1);
-        form_is = ap (λ (z : BodyParts). z.form) (sym q.2) ∙ sym (forms q.0 q.1);
-        payload_is = ap (λ (z : BodyParts). z.payload) (sym q.2) ∙ sym (payloads q.0 q.1);
-      })
+      let t = region_found v.about w r f found in (
+        record_there.0,
+        record {
+          stored = found.kind ∙ ap Rattle.fish_rule.specs.Regions.code is;
+          spells = subst (Spells record_there.0) (sym body_read ∙ ap (body w.log) (sym t.0.line)) p.spells;
+          number_is = p.number_is;
+          lane_is = ap (λ (z : BodyParts). z.lane) (sym q.2) ∙ sym (lanes q.0 q.1);
+          form_is = ap (λ (z : BodyParts). z.form) (sym q.2) ∙ sym (forms q.0 q.1);
+          payload_is = ap (λ (z : BodyParts). z.payload) (sym q.2) ∙ sym (payloads q.0 q.1);
+        },
+      )
 
 -- words that were read stay read
 pub has_later : (v u : View) (f : Found) (words : List ℕ) → Learns v u → HasWords v f words → HasWords u f words

@@ -113,11 +113,14 @@ head_allowed given k same size id me b i about can is = allowed given k same siz
     let word : x ≡ w.head b = ap (λ (z : ℕ). get_or ws z 0) is ∙ ap (λ (z : ℕ). get_or ws (heads_at + z) 0) minus ∙ sym (area-in ws heads_at 0 k.buckets b (omega arith) (omega arith)) in
     let index : bucket_at i ≡ b = omega arith in
     let v' : View = after_head me.0 b x in
-    let kept : Rule k (record w { views = set vs id v' }) = subst (λ (z : ℕ). Rule k (record w { views = set vs id (after_head me.0 b z) })) (sym word) (head_kept k w r id me.0 at b) in
-    (v', loaded_words k ws (set vs id v') i kept, record {
-      told = subst (λ (z : ℕ). Told me (after_head me.0 z x) (v', me.1)) (sym index) (record { view = refl; held = refl; stands = stands k _ id v' kept about (there vs id me.0 v' at) });
-      rises = subst (λ (z : ℕ × ℕ). TopRises me.0 z.0 z.1) (λ j. (sym index j, sym word j)) (head_rises k w r id me.0 at b);
-    }))
+    let kept : Rule k (record w { views = set vs id v' }) = subst (λ (z : ℕ). Rule k (record w { views = set vs id (after_head me.0 b z) })) (sym word) (head_kept k w r id me.0 at b) in (
+      v',
+      loaded_words k ws (set vs id v') i kept,
+      record {
+        told = subst (λ (z : ℕ). Told me (after_head me.0 z x) (v', me.1)) (sym index) (record { view = refl; held = refl; stands = stands k _ id v' kept about (there vs id me.0 v' at) });
+        rises = subst (λ (z : ℕ × ℕ). TopRises me.0 z.0 z.1) (λ j. (sym index j, sym word j)) (head_rises k w r id me.0 at b);
+      },
+    ))
 
 -- a load of the first word of a linked entry
 pub previous_allowed : (given k : Key) → given ≡ k → (size id : ℕ) (me : Sat) (b p i : ℕ) → me.0.about ≡ k → HasNode me.0 b p → i ≡ log_at k + (p - k.line * 4) → Allows (Ruled given) size id me i (λ n. n) (ToldPrevious (step size i 0 0 none) me)
@@ -130,11 +133,14 @@ previous_allowed given k same size id me b p i about node is = allowed given k s
     let index : place_at me.0.about i ≡ p = ap (λ (z : Key). place_at z i) about ∙ (omega arith) in
     let v' : View = after_previous me.0 b p x in
     let kept : Rule k (record w { views = set vs id v' }) = subst (λ (z : ℕ). Rule k (record w { views = set vs id (after_previous me.0 b p z) })) (sym word) (previous_kept k w r id me.0 at b p node) in
-    let less = low_less k w r id me.0 at b p node in
-    (v', loaded_words k ws (set vs id v') i kept, record {
-      bucket = b;
-      node = subst (HasNode me.0 b) (sym index) node;
-      told = subst (λ (z : ℕ). Told me (after_previous me.0 b z x) (v', me.1)) (sym index) (record { view = refl; held = refl; stands = stands k _ id v' kept about (there vs id me.0 v' at) });
-      rises = subst (λ (z : ℕ × ℕ). LowRises me.0 z.0 z.1) (λ j. (sym index j, sym word j)) (low_rises k w r id me.0 at b p node);
-      less = subst (λ (z : ℕ × ℕ). z.0 < z.1) (λ j. (sym word j, sym index j)) less;
-    }))
+    let less = low_less k w r id me.0 at b p node in (
+      v',
+      loaded_words k ws (set vs id v') i kept,
+      record {
+        bucket = b;
+        node = subst (HasNode me.0 b) (sym index) node;
+        told = subst (λ (z : ℕ). Told me (after_previous me.0 b z x) (v', me.1)) (sym index) (record { view = refl; held = refl; stands = stands k _ id v' kept about (there vs id me.0 v' at) });
+        rises = subst (λ (z : ℕ × ℕ). LowRises me.0 z.0 z.1) (λ j. (sym index j, sym word j)) (low_rises k w r id me.0 at b p node);
+        less = subst (λ (z : ℕ × ℕ). z.0 < z.1) (λ j. (sym word j, sym index j)) less;
+      },
+    ))

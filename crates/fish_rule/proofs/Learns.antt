@@ -118,7 +118,7 @@ module _ (k : Key) (w : World) (r : Rule k w) (id : ℕ) (v : View) (at : get_el
       let h = r.facts id v at in
       let still = still_chained (record v.learned { settled = w.settled }) v.tail (after_settled v w.settled).clock in
       learns (record v.learned { settled = w.settled }) v.tail (after_settled v w.settled).clock (r.tails id v at) (record { counted = h.counted; found = h.found; known = h.known; records = h.records }) (omega arith)
-          (record { nodes = still.nodes; lows = still.lows; tops = still.tops })
+      (record { nodes = still.nodes; lows = still.lows; tops = still.tops })
 
   -- and all that lasts
   pub settled_lasts : Final k r.start settled_kept.start r.lane_of settled_kept.lane_of w (record w { views = set w.views id (after_settled v w.settled) })
@@ -156,14 +156,16 @@ module _ (k : Key) (w : World) (r : Rule k w) (id : ℕ) (v : View) (at : get_el
           let below : n < w.count = (let b = can.below in omega arith) in
           let above : k.number ≤ n = subst (λ (z : Key). z.number ≤ n) about can.above in
           let f = r.space.finished n above below (λ e. let z : suc x ≡ 0 = is ∙ e in absurd (omega arith)) in
-          let grows = r.space.regions.grows n above below in
-          (record {
-            above = above;
-            below = below;
-            kind = f.kind ∙ ap code (sym (told (high (suc x)) (kind_of k.end (r.start n) (r.start (suc n))) (ap high is ∙ f.kind)));
-            line = sym f.line ∙ ap low (sym is);
-            lines = (let e : r.start (suc n) ≡ r.start n + lines_at n = omega arith in e ∙ ap (λ (z : ℕ). z + lines_at n) (sym f.line ∙ ap low (sym is)));
-          }, (r.facts id v at).found)
+          let grows = r.space.regions.grows n above below in (
+            record {
+              above = above;
+              below = below;
+              kind = f.kind ∙ ap code (sym (told (high (suc x)) (kind_of k.end (r.start n) (r.start (suc n))) (ap high is ∙ f.kind)));
+              line = sym f.line ∙ ap low (sym is);
+              lines = (let e : r.start (suc n) ≡ r.start n + lines_at n = omega arith in e ∙ ap (λ (z : ℕ). z + lines_at n) (sym f.line ∙ ap low (sym is)));
+            },
+            (r.facts id v at).found,
+          )
 
   -- and all that lasts
   pub look_lasts : (n x : ℕ) (can : CanLook v n) (about : v.about ≡ k) (is : x ≡ w.dir n)

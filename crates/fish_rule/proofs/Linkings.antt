@@ -62,7 +62,7 @@ module _ (k : Key) (w : World) (r : Rule k w) (id : ℕ) (v : View) (at : get_el
         let l = spelled_lines s.record_of.1.spells in
         let m = s.record_of.1.lines_is in
         subst (λ (z : ℕ). body log' z ≡ body w.log z) s.line (leaves.regions s.number s.above s.below
-            (subst (λ (z : ℕ). lines_of (body w.log z 0) ≤ r.start (suc s.number) - r.start s.number) (sym s.line) (omega arith)))
+        (subst (λ (z : ℕ). lines_of (body w.log z 0) ≤ r.start (suc s.number) - r.start s.number) (sym s.line) (omega arith)))
 
     -- and so does the own one
     own_stays : body log' f.line ≡ body_of f.words
@@ -73,7 +73,7 @@ module _ (k : Key) (w : World) (r : Rule k w) (id : ℕ) (v : View) (at : get_el
         let line : r.start f.number ≡ f.line = own.line in
         let lines = own.lines in
         let whole : lines_of (body w.log (r.start f.number) 0) ≤ r.start (suc f.number) - r.start f.number =
-            subst (λ (z : ℕ → ℕ). lines_of (z 0) ≤ r.start (suc f.number) - r.start f.number) (sym e ∙ ap (body w.log) (sym line)) (omega arith) in
+        subst (λ (z : ℕ → ℕ). lines_of (z 0) ≤ r.start (suc f.number) - r.start f.number) (sym e ∙ ap (body w.log) (sym line)) (omega arith) in
         ap (body log') (sym line) ∙ leaves.regions f.number own.above own.below whole ∙ ap (body w.log) line ∙ e
 
     -- what is linked stays so
@@ -102,14 +102,17 @@ module _ (k : Key) (w : World) (r : Rule k w) (id : ℕ) (v : View) (at : get_el
       where
         old : Shows k w.dir w.views h.line h.entry → Linked k w.dir w.log w.views c p
         old shows = record { line = h.line; entry = h.entry; is = subst (λ (z : ℕ → ℕ). IsKeyEntry k.buckets z c p h.line h.entry) (shown_stays h.line h.entry shows) h.is; shows = shows }
+
         new : h.entry ≡ f.linked → f.line ≡ h.line → (p ≡ own_place f) × (c ≡ b)
         new e line =
             let is : p ≡ h.line * 4 + entry_at h.entry = h.is.is in
             let at_ : bucket_of k.buckets (body log' f.line) f.linked ≡ c = subst (λ (z : ℕ × ℕ). bucket_of k.buckets (body log' z.0) z.1 ≡ c) (λ i. (sym line i, e i)) h.is.bucket in
             (omega arith, sym at_ ∙ ap (λ (z : ℕ → ℕ). bucket_of k.buckets z f.linked) own_stays ∙ bucket)
+
         mine : LinksAt h.line h.entry (Some (linked_once f)) → Dec (h.entry < f.linked) → Linked k w.dir w.log w.views c p ⊎ ((p ≡ own_place f) × (c ≡ b))
         mine g (yes less) = inl (old (inr (linking_own w.views id v linker at h.line h.entry (subst (LinksAt h.line h.entry) (sym can.flying) (less, g.1)))))
         mine g (no more) = (let few : h.entry < suc f.linked = g.0 in inr (new (omega arith) g.1))
+
         by : Shows k w.dir linked_world.views h.line h.entry → Linked k w.dir w.log w.views c p ⊎ ((p ≡ own_place f) × (c ≡ b))
         by (inl s) = inl (old (inl s))
         by (inr l) = ⊎_elim

@@ -115,6 +115,7 @@ module _ (k : Key) (w : World) (r : Rule k w) where
     where
       set_ : w.dir h.number ≢ 0
       set_ = published (w.dir h.number) Stored h.stored
+
       pick : Dec (h.number < w.count) → Spot a c
       pick (no more) = absurd (set_ (r.space.dir_beyond h.number (omega arith)))
       pick (yes below) =
@@ -212,7 +213,7 @@ module _ (k : Key) (w : World) (r : Rule k w) (views' : List View) (to : (a c : 
   pub chains_views : ((a c : ℕ) → IsLinking a c views' → IsLinking a c w.views) → (b : ℕ) → Chain (Linked k w.dir w.log views' b) (w.head b) w.log
   chains_views from = chains_same k w.dir w.dir w.log w.log w.views views' w.head links_views
       (linked_map k w.dir w.dir w.log w.log views' w.views
-          (λ a c h. ⊎_elim (λ (s : IsStoredAt k w.dir a). inl s) (λ (l : IsLinking a c views'). inr (from a c l)) h) (λ a c h. refl))
+      (λ a c h. ⊎_elim (λ (s : IsStoredAt k w.dir a). inl s) (λ (l : IsLinking a c views'). inr (from a c l)) h) (λ a c h. refl))
       (λ b p h. refl) r.chains
 
 module _ (k : Key) (w : World) (r : Rule k w) (id : ℕ) (v v' : View) (at : get_elem? w.views id ≡ some v) (keep : (a c : ℕ) → LinksAt a c v.flight → LinksAt a c v'.flight) where

@@ -95,10 +95,10 @@ module _ (k : Key) (w : World) (r : Rule k w) where
         word = ⊎_elim
             (λ (e : i ≡ 0). ap (body w.log (r.start x.number)) e ∙ cleared_head (λ j. w.log (r.start x.number * 4 + j)) ∙ ap (λ (z : ℕ). w.log (r.start x.number * 4 + z)) (sym e) ∙ ap (λ (z : ℕ). w.log (z * 4 + i)) line)
             (λ (t : (h : ℕ) × Among (record { place = x.line * 4; value = h }) v.learned.known × ¬ IsKeyWord (keys_of h) i).
-                let head : body w.log (r.start x.number) 0 ≡ t.0 = head_known x t.0 found (all_among (IsKnown k w.count w.dir w.log r.start) _ v.learned.known facts.known t.1) in
-                let first : body w.log (r.start x.number) 0 ≡ w.log (r.start x.number * 4 + 0) = cleared_head (λ j. w.log (r.start x.number * 4 + j)) in
-                let whole : lines_of (w.log (r.start x.number * 4 + 0)) ≡ x.lines = ap lines_of (sym first) ∙ lines_found x found can.words in
-                cleared_at (λ j. w.log (r.start x.number * 4 + j)) i (omega arith) (subst (λ (z : ℕ). ¬ IsKeyWord (keys_of z) i) (sym head ∙ first) t.2) ∙ ap (λ (z : ℕ). w.log (z * 4 + i)) line)
+            let head : body w.log (r.start x.number) 0 ≡ t.0 = head_known x t.0 found (all_among (IsKnown k w.count w.dir w.log r.start) _ v.learned.known facts.known t.1) in
+            let first : body w.log (r.start x.number) 0 ≡ w.log (r.start x.number * 4 + 0) = cleared_head (λ j. w.log (r.start x.number * 4 + j)) in
+            let whole : lines_of (w.log (r.start x.number * 4 + 0)) ≡ x.lines = ap lines_of (sym first) ∙ lines_found x found can.words in
+            cleared_at (λ j. w.log (r.start x.number * 4 + j)) i (omega arith) (subst (λ (z : ℕ). ¬ IsKeyWord (keys_of z) i) (sym head ∙ first) t.2) ∙ ap (λ (z : ℕ). w.log (z * 4 + i)) line)
             can.plain;
       }
 
@@ -143,7 +143,9 @@ read_allowed given k same size id me x o i about can is = allowed given k same s
     let here : word ≡ w.log p = ap (λ (z : ℕ). get_or ws z 0) is ∙ sym (area-in ws (log_at k) (k.line * 4) (log_size k) p (omega arith) (omega arith)) in
     let v' : View = after_read me.0 p word in
     let kept : Rule k (record w { views = set vs id v' }) =
-        subst (λ (z : ℕ). Rule k (record w { views = set vs id (after_read me.0 p z) })) (sym here) (read_kept k w r id me.0 at x o can) in
-    let index : place_at me.0.about i ≡ p = ap (λ (z : Key). place_at z i) about ∙ (omega arith) in
-    (v', loaded_words k ws (set vs id v') i kept,
-        subst (λ (z : ℕ). Told me (after_read me.0 z word) (v', me.1)) (sym index) (record { view = refl; held = refl; stands = stands k _ id v' kept about (there vs id me.0 v' at) })))
+    subst (λ (z : ℕ). Rule k (record w { views = set vs id (after_read me.0 p z) })) (sym here) (read_kept k w r id me.0 at x o can) in
+    let index : place_at me.0.about i ≡ p = ap (λ (z : Key). place_at z i) about ∙ (omega arith) in (
+      v',
+      loaded_words k ws (set vs id v') i kept,
+      subst (λ (z : ℕ). Told me (after_read me.0 z word) (v', me.1)) (sym index) (record { view = refl; held = refl; stands = stands k _ id v' kept about (there vs id me.0 v' at) }),
+    ))

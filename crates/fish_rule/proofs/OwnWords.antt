@@ -78,7 +78,7 @@ module _ (k : Key) (w : World) (r : Rule k w) (id : ℕ) (v : View) (at : get_el
   region_stays n above below ne lined =
       let grows = r.space.regions.grows n above below in
       body_same w.log written.log (r.start n) (r.start (suc n) - r.start n) (omega arith) lined
-          (λ i less. elsewhere n (r.start n * 4 + i) above below ne (omega arith) (omega arith))
+      (λ i less. elsewhere n (r.start n * 4 + i) above below ne (omega arith) (omega arith))
 
   -- the words of published regions stay
   bodies_stay : (n : ℕ) → n < w.count → w.dir n ≢ 0 → body written.log (r.start n) ≡ body w.log (r.start n)
@@ -94,7 +94,7 @@ module _ (k : Key) (w : World) (r : Rule k w) (id : ℕ) (v : View) (at : get_el
       let key = (becomes.linking some_).0 in
       let head : body w.log f.line 0 ≡ w.log (f.line * 4 + 0) = cleared_head (λ i. w.log (f.line * 4 + i)) in
       cleared_same (λ i. w.log (f.line * 4 + i)) (λ i. written.log (f.line * 4 + i)) (λ i within plain.
-          put-else w.log own_word x (f.line * 4 + i) (λ e. let same : o ≡ i = omega arith in plain (subst (λ (z : ℕ × ℕ). IsKeyWord (keys_of z.0) z.1) (λ j. (head j, same j)) key)))
+      put-else w.log own_word x (f.line * 4 + i) (λ e. let same : o ≡ i = omega arith in plain (subst (λ (z : ℕ × ℕ). IsKeyWord (keys_of z.0) z.1) (λ j. (head j, same j)) key)))
 
   -- a line that shows an entry keeps its record
   shown_stays : (a c : ℕ) → Shows k w.dir w.views a c → body written.log a ≡ body w.log a
@@ -102,21 +102,23 @@ module _ (k : Key) (w : World) (r : Rule k w) (id : ℕ) (v : View) (at : get_el
     where
       s : Spot k w r a c
       s = spot k w r a c shows
+
       mine : (s.number ≡ f.number) → (0 < f.linked)
       mine e = ⊎_elim (λ (set_ : w.dir s.number ≢ 0). absurd (set_ (ap w.dir e ∙ own.unpublished)))
           (λ (t : (w.dir s.number ≡ 0) × IsFlier w s.number c).
-              let q = t.1 in
-              let same : q.seat ≡ id = r.space.alone q.seat id q.view v f.number q.at at (subst (IsFlightOf f.number) (sym q.flies) (q.number ∙ e)) (subst (IsFlightOf f.number) (sym flying) refl) in
-              let view : q.view ≡ v = one_view w.views id q.view v (subst (λ (z : ℕ). get_elem? w.views z ≡ some q.view) same q.at) at in
-              let flight : q.flight ≡ f = one_flight q.flight f (sym q.flies ∙ ap (λ (z : View). z.flight) view ∙ flying) in
-              let counts : c < f.linked = subst (λ (z : Flight). c < z.linked) flight q.counts in omega arith) s.owner
+          let q = t.1 in
+          let same : q.seat ≡ id = r.space.alone q.seat id q.view v f.number q.at at (subst (IsFlightOf f.number) (sym q.flies) (q.number ∙ e)) (subst (IsFlightOf f.number) (sym flying) refl) in
+          let view : q.view ≡ v = one_view w.views id q.view v (subst (λ (z : ℕ). get_elem? w.views z ≡ some q.view) same q.at) at in
+          let flight : q.flight ≡ f = one_flight q.flight f (sym q.flies ∙ ap (λ (z : View). z.flight) view ∙ flying) in
+          let counts : c < f.linked = subst (λ (z : Flight). c < z.linked) flight q.counts in omega arith) s.owner
+
       pick : Dec (s.number ≡ f.number) → body written.log a ≡ body w.log a
       pick (yes e) =
           let line : a ≡ f.line = sym s.line ∙ ap r.start e ∙ own.line in
           subst (λ (z : ℕ). body written.log z ≡ body w.log z) (sym line) (own_stays (mine e))
       pick (no ne) = subst (λ (z : ℕ). body written.log z ≡ body w.log z) s.line
           (region_stays s.number s.above s.below ne (let l = s.record_of.1 in let q = spelled_lines l.spells in let m = l.lines_is in
-              subst (λ (z : ℕ). lines_of (body w.log z 0) ≤ r.start (suc s.number) - r.start s.number) (sym s.line) (omega arith)))
+          subst (λ (z : ℕ). lines_of (body w.log z 0) ≤ r.start (suc s.number) - r.start s.number) (sym s.line) (omega arith)))
 
   -- the word is no linked one
   pub not_linked : (b p : ℕ) → Linked k w.dir w.log w.views b p → p ≢ own_word
@@ -130,12 +132,12 @@ module _ (k : Key) (w : World) (r : Rule k w) (id : ℕ) (v : View) (at : get_el
       let at_line : h.line ≡ f.line = same.1 ∙ line in
       let offset : o ≡ entry_at h.entry = omega arith in
       ⊎_elim (λ (set_ : w.dir s.number ≢ 0). absurd (set_ (ap w.dir same.0 ∙ own.unpublished)))
-          (λ (t : (w.dir s.number ≡ 0) × IsFlier w s.number h.entry).
-              let q = t.1 in
-              let seat : q.seat ≡ id = r.space.alone q.seat id q.view v f.number q.at at (subst (IsFlightOf f.number) (sym q.flies) (q.number ∙ same.0)) (subst (IsFlightOf f.number) (sym flying) refl) in
-              let view : q.view ≡ v = one_view w.views id q.view v (subst (λ (z : ℕ). get_elem? w.views z ≡ some q.view) seat q.at) at in
-              let flight : q.flight ≡ f = one_flight q.flight f (sym q.flies ∙ ap (λ (z : View). z.flight) view ∙ flying) in
-              becomes.unlinked (h.entry, subst (λ (z : Flight). h.entry < z.linked) flight q.counts, offset)) s.owner
+      (λ (t : (w.dir s.number ≡ 0) × IsFlier w s.number h.entry).
+      let q = t.1 in
+      let seat : q.seat ≡ id = r.space.alone q.seat id q.view v f.number q.at at (subst (IsFlightOf f.number) (sym q.flies) (q.number ∙ same.0)) (subst (IsFlightOf f.number) (sym flying) refl) in
+      let view : q.view ≡ v = one_view w.views id q.view v (subst (λ (z : ℕ). get_elem? w.views z ≡ some q.view) seat q.at) at in
+      let flight : q.flight ≡ f = one_flight q.flight f (sym q.flies ∙ ap (λ (z : View). z.flight) view ∙ flying) in
+      becomes.unlinked (h.entry, subst (λ (z : Flight). h.entry < z.linked) flight q.counts, offset)) s.owner
 
   -- what is linked in flight stays so
   keep_linked : (a c : ℕ) → LinksAt a c v.flight → LinksAt a c writer.flight
@@ -189,6 +191,7 @@ module _ (k : Key) (w : World) (r : Rule k w) (id : ℕ) (v : View) (at : get_el
       words i less plain (no ne) =
           let s = becomes.same i ne less in
           put-else w.log own_word x (f.line * 4 + i) (λ h. ne (omega arith)) ∙ own.written i s.0 plain ∙ sym s.1
+
       whole_still : 0 < f.linked → Whole k w.log v.lane f → Whole k written.log v.lane rewritten
       whole_still some_ h = (let e = own_stays some_ in let l = (becomes.linking some_).1 in record {
         kind = h.kind;

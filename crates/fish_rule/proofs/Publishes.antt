@@ -45,6 +45,7 @@ small_line k w r f lane h = pick (Rattle.std.proofs.Math.Decide.dec_le f.number 
   where
     start_is : r.start f.number ≡ f.line
     start_is = h.line
+
     pick : Dec (f.number ≤ r.limit.first) → f.line < 68719476736
     pick (yes before) =
         let up = Rattle.fish_rule.proofs.Bounds.starts_rise k w.count w.line r.start r.space.regions f.number r.limit.first h.above before r.limit.within in
@@ -133,6 +134,7 @@ module _ (k : Key) (w : World) (r : Rule k w) (id : ℕ) (v : View) (at : get_el
       all_linked Stored e h = h.2 ∙ ap (λ (z : ℕ → ℕ). keys_of (z 0)) (sym (body_stored w.log f.words v.lane f.number f.lines f.line f.linked h.1 h.0 sized.0 (let q = h.2 in omega arith) own.written))
       all_linked Void e h = cc
       all_linked Mark e h = cc
+
       pick : Dec (s.number ≡ f.number) → Shows k w.dir w.views a c
       pick (yes e) =
           let here : f.line ≡ a = sym (low-pack (code kind) f.line (small_line k w r f v.lane own)) ∙ ap low (sym dir_here) ∙ ap (λ (z : ℕ). low (dir' z)) (sym e) ∙ s.line in
@@ -170,9 +172,9 @@ module _ (k : Key) (w : World) (r : Rule k w) (id : ℕ) (v : View) (at : get_el
   filled Void h =
       let s = sized in
       let header : w.log (f.line * 4 + 0) ≡ void_word f.lines = own.written 0 (subst (λ (z : List ℕ). 0 < length z) (sym h.0) (omega arith)) (λ c. let less : c.0 < f.linked = c.1 in let none : f.linked ≡ 0 = h.1 in absurd (omega arith))
-          ∙ ap (λ (z : List ℕ). get_or z 0 0) h.0 in
+      ∙ ap (λ (z : List ℕ). get_or z 0 0) h.0 in
       let e : body w.log f.line ≡ void_body f.lines = body_void w.log f.lines f.line s.0 (omega arith) header
-          (λ i more less. own.unwritten i (subst (λ (z : List ℕ). length z ≤ i) (sym h.0) more) less) in
+      (λ i more less. own.unwritten i (subst (λ (z : List ℕ). length z ≤ i) (sym h.0) more) less) in
       let lined : lines_of (void_body f.lines 0) ≡ f.lines = ap lines_of (void-head f.lines) ∙ lines_of-void f.lines (omega arith) in
       (subst (λ (z : ℕ → ℕ). lines_of (z 0) ≤ f.lines) (sym e) (omega arith), e)
   filled Mark h =
@@ -228,7 +230,7 @@ module _ (k : Key) (w : World) (r : Rule k w) (id : ℕ) (v : View) (at : get_el
         complete = λ o has stored. ⊎_elim
             (λ (b : IsStoredBy k w.count w.dir r.lane_of o.lane o.number). h.complete o has b)
             (λ (t : (o.number ≡ f.number) × (v.lane ≡ o.lane) × (kind ≡ Stored)).
-                absurd (ne (r.seats.apart j id u v o.lane at_u at has (subst (Has v.lane v.out) t.1 (has_own w.views id v at live r.seats)))))
+            absurd (ne (r.seats.apart j id u v o.lane at_u at has (subst (Has v.lane v.out) t.1 (has_own w.views id v at live r.seats)))))
             (stored_now o.lane o.number stored);
       }
 
@@ -255,13 +257,13 @@ module _ (k : Key) (w : World) (r : Rule k w) (id : ℕ) (v : View) (at : get_el
       no_more : (kd : Kind) → kind ≡ kd → kd ≢ Stored → Owns k w.count dir' r.lane_of v.lane v.out v.own
       no_more kd is ne = owns_later k w publication r.start r.start r.lane_of r.lane_of publish_final v.lane v.out v.own (r.own id v at)
           (λ o has h. ⊎_elim (λ (b : IsStoredBy k w.count w.dir r.lane_of o.lane o.number). (b.below, published (w.dir o.number) Stored b.stored))
-              (λ (t : (o.number ≡ f.number) × (v.lane ≡ o.lane) × (kind ≡ Stored)). absurd (ne (sym is ∙ t.2))) (stored_now o.lane o.number h))
+          (λ (t : (o.number ≡ f.number) × (v.lane ≡ o.lane) × (kind ≡ Stored)). absurd (ne (sym is ∙ t.2))) (stored_now o.lane o.number h))
   own_own Mark is = no_more Mark is (λ e. cc)
     where
       no_more : (kd : Kind) → kind ≡ kd → kd ≢ Stored → Owns k w.count dir' r.lane_of v.lane v.out v.own
       no_more kd is ne = owns_later k w publication r.start r.start r.lane_of r.lane_of publish_final v.lane v.out v.own (r.own id v at)
           (λ o has h. ⊎_elim (λ (b : IsStoredBy k w.count w.dir r.lane_of o.lane o.number). (b.below, published (w.dir o.number) Stored b.stored))
-              (λ (t : (o.number ≡ f.number) × (v.lane ≡ o.lane) × (kind ≡ Stored)). absurd (ne (sym is ∙ t.2))) (stored_now o.lane o.number h))
+          (λ (t : (o.number ≡ f.number) × (v.lane ≡ o.lane) × (kind ≡ Stored)). absurd (ne (sym is ∙ t.2))) (stored_now o.lane o.number h))
 
   -- ---- facts
 
@@ -269,12 +271,15 @@ module _ (k : Key) (w : World) (r : Rule k w) (id : ℕ) (v : View) (at : get_el
   found_here = record { above = own.above; below = own.below; kind = kind_here; line = own.line; lines = own.lines }
 
   records_here : (kd : Kind) → kind ≡ kd → IsReady kd v.lane f → AllOf (IsRecorded k w.count dir' w.log r.start) (records_after kd f v.learned.records)
-  records_here Stored is h = (record {
-    above = own.above;
-    below = own.below;
-    stored = kind_here ∙ ap code is;
-    words = ap (body w.log) own.line ∙ body_stored w.log f.words v.lane f.number f.lines f.line f.linked h.1 h.0 sized.0 (let q = h.2 in omega arith) own.written;
-  }, (facts_later k w publication r.start r.start r.lane_of r.lane_of publish_final v.learned (r.facts id v at)).records)
+  records_here Stored is h = (
+    record {
+      above = own.above;
+      below = own.below;
+      stored = kind_here ∙ ap code is;
+      words = ap (body w.log) own.line ∙ body_stored w.log f.words v.lane f.number f.lines f.line f.linked h.1 h.0 sized.0 (let q = h.2 in omega arith) own.written;
+    },
+    (facts_later k w publication r.start r.start r.lane_of r.lane_of publish_final v.learned (r.facts id v at)).records,
+  )
   records_here Void is h = (facts_later k w publication r.start r.start r.lane_of r.lane_of publish_final v.learned (r.facts id v at)).records
   records_here Mark is h = (facts_later k w publication r.start r.start r.lane_of r.lane_of publish_final v.learned (r.facts id v at)).records
 
@@ -339,6 +344,7 @@ module _ (k : Key) (w : World) (r : Rule k w) (id : ℕ) (v : View) (at : get_el
       finish n above below set_ (no ne) =
           let before : w.dir n ≢ 0 = λ e. set_ (dir_else n ne ∙ e) in
           finished_later k w publication r.start r.start r.lane_of r.lane_of publish_final n below before (r.space.finished n above below before)
+
       fly : (n : ℕ) → k.number ≤ n → n < w.count → dir' n ≡ 0 → Dec (n ≡ f.number) → HasFlight n (set w.views id publisher)
       fly n above below unset (yes e) = absurd (published (dir' f.number) kind kind_here (ap dir' (sym e) ∙ unset))
       fly n above below unset (no ne) = flight_there w.views id v publisher at n (λ h. absurd (ne (sym (subst (IsFlightOf n) flying h)))) (r.space.flying n above below (sym (dir_else n ne) ∙ unset))

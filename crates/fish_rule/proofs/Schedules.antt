@@ -39,10 +39,10 @@ event_lasts k (stores id x) w u r g = (let v = g.0 in let f = g.1 in let s = g.2
 event_lasts k (publishes id) w u r g = (let v = g.0 in let f = g.1 in let s = g.2 in let can = g.3 in
     let ends_ : kind_of k.end f.line (f.line + f.lines) ≡ flight_kind v f = ap (λ (z : Key). kind_of z.end f.line (f.line + f.lines)) (sym s.about) in
     lasts_at k w r u _ g.4 (subst (λ (z : Key). Lasts k w r (record w { dir = put w.dir f.number (dir_word (flight_kind v f) f.line); views = set w.views id (publisher_at v f z) })) (sym s.about)
-        (publish_kept k w r id v s.at f can.live can.flying (flight_kind v f) ends_ can.ready, publish_lasts k w r id v s.at f can.live can.flying (flight_kind v f) ends_ can.ready)))
+    (publish_kept k w r id v s.at f can.live can.flying (flight_kind v f) ends_ can.ready, publish_lasts k w r id v s.at f can.live can.flying (flight_kind v f) ends_ can.ready)))
 event_lasts k (looks id n) w u r g = (let v = g.0 in let s = g.2 in
     lasts_at k w r u _ g.5 (subst (λ (z : ℕ). Lasts k w r (record w { views = set w.views id (after_look v n z (w.dir n)) })) (sym (g.4 r))
-        (look_kept k w r id v s.at n (w.dir n) g.3 s.about refl, look_lasts k w r id v s.at n (w.dir n) g.3 s.about refl)))
+    (look_kept k w r id v s.at n (w.dir n) g.3 s.about refl, look_lasts k w r id v s.at n (w.dir n) g.3 s.about refl)))
 event_lasts k (reads id n i) w u r g = (let v = g.0 in let f = g.1 in let s = g.2 in
     lasts_at k w r u _ g.5 (read_kept k w r id v s.at f i g.3, read_lasts k w r id v s.at f i g.3))
 event_lasts k (ends id) w u r g = (let v = g.0 in let x : ℕ = g.1 in let s = g.2 in

@@ -152,7 +152,7 @@ module _ (k : Key) (w : World) (r : Rule k w) (id : ℕ) (v : View) (at : get_el
     shuts = each_cut _ r.shuts (r.shuts id v at) (r.shuts id v at);
   }
 
--- ---- join
+  -- ---- join
 
   -- and all that lasts
   pub split_lasts : Final k r.start split_kept.start r.lane_of split_kept.lane_of w (record w { views = set w.views id (split_left l v) ++ split_right l v ∷ [] })

@@ -50,6 +50,7 @@ module _ (k : Key) (w : World) (r : Rule k w) (id : ℕ) (v : View) (at : get_el
       found_word n f among is ne =
           let found = all_among (IsFound k w.count w.dir r.start) f v.learned.found (r.facts id v at).found among in
           subst (λ (z : ℕ). IsEntryWord (w.dir z)) is (record { published = published (w.dir f.number) f.kind found.kind; unmarked = λ e. ne (code_once f.kind Mark (sym found.kind ∙ e)) })
+
       pick : (n : ℕ) → k.number ≤ n → n < max w.settled m → Dec (n < w.settled) → IsEntryWord (w.dir n)
       pick n above less (yes before) = r.settling.below n above before
       pick n above less (no behind) = ⊎_elim
@@ -107,17 +108,22 @@ pub settled_allowed : (given k : Key) → given ≡ k → (size id : ℕ) (me : 
 settled_allowed given k same size id me about = allowed given k same size id me 1 (λ n. n) (ToldSettled (step size 1 0 0 none) me) (λ ws vs wide r at.
     let w : World = world k ws vs in
     let v' : View = after_settled me.0 w.settled in
-    let kept = settled_kept k w r id me.0 at in
-    (v', loaded_words k ws (set vs id v') 1 kept, record {
-      told = record { view = refl; held = refl; stands = stands k _ id v' kept about (there vs id me.0 v' at) };
-      rises = r.floors id me.0 at;
-    }))
+    let kept = settled_kept k w r id me.0 at in (
+      v',
+      loaded_words k ws (set vs id v') 1 kept,
+      record {
+        told = record { view = refl; held = refl; stands = stands k _ id v' kept about (there vs id me.0 v' at) };
+        rises = r.floors id me.0 at;
+      },
+    ))
 
 -- a fetch-max on it
 pub raise_allowed : (given k : Key) → given ≡ k → (size id : ℕ) (me : Sat) (m : ℕ) → me.0.about ≡ k → CanRaise me.0 m → Allows (Ruled given) size id me 1 (λ n. max n m) (told_raise (step size 1 m 0 none) me)
 raise_allowed given k same size id me m about can = allowed given k same size id me 1 (λ n. max n m) (told_raise (step size 1 m 0 none) me) (λ ws vs wide r at.
     let w : World = world k ws vs in
     let v' : View = after_raise me.0 m w.settled in
-    let kept = raise_kept k w r id me.0 at about m can in
-    (v', subst (Rule k) (sym (world-settled k ws vs (set vs id v') (max w.settled m) (omega arith))) kept,
-        record { view = refl; held = refl; stands = stands k _ id v' kept about (there vs id me.0 v' at) }))
+    let kept = raise_kept k w r id me.0 at about m can in (
+      v',
+      subst (Rule k) (sym (world-settled k ws vs (set vs id v') (max w.settled m) (omega arith))) kept,
+      record { view = refl; held = refl; stands = stands k _ id v' kept about (there vs id me.0 v' at) },
+    ))

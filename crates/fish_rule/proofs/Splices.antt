@@ -95,21 +95,21 @@ module _ (k : Key) (w : World) (r : Rule k w) (id : ℕ) (v : View) (at : get_el
           let key : IsKeyWord (keys_of (w.log (r.start n * 4 + 0))) (entry_at higher.entry) = (omega arith, ap (λ (z : ℕ). z % 3) third ∙ mod-mul-add higher.entry 3 1 (omega arith)) in
           let place = its_place in
           cleared_same (λ i. w.log (r.start n * 4 + i)) (λ i. log' (r.start n * 4 + i)) (λ i within plain.
-              put-else w.log q own_at (r.start n * 4 + i) (λ g. let same : entry_at higher.entry ≡ i = omega arith in plain (subst (IsKeyWord (keys_of (w.log (r.start n * 4 + 0)))) same key)))
+          put-else w.log q own_at (r.start n * 4 + i) (λ g. let same : entry_at higher.entry ≡ i = omega arith in plain (subst (IsKeyWord (keys_of (w.log (r.start n * 4 + 0)))) same key)))
 
   -- the entry above is of another record, since it is above all linked ones of the own
   other_record : its.number ≢ f.number
   other_record e = ⊎_elim (λ (set_ : w.dir its.number ≢ 0). absurd (set_ (ap w.dir e ∙ own.unpublished)))
       (λ (t : (w.dir its.number ≡ 0) × IsFlier w its.number higher.entry).
-          let g = t.1 in
-          let seat : g.seat ≡ id = r.space.alone g.seat id g.view v f.number g.at at (subst (IsFlightOf f.number) (sym g.flies) (g.number ∙ e)) (subst (IsFlightOf f.number) (sym can.aim.flying) refl) in
-          let view : g.view ≡ v = one_view w.views id g.view v (subst (λ (z : ℕ). get_elem? w.views z ≡ some g.view) seat g.at) at in
-          let flight : g.flight ≡ f = one_flight g.flight f (sym g.flies ∙ ap (λ (z : View). z.flight) view ∙ can.aim.flying) in
-          let counts : higher.entry < f.linked = subst (λ (z : Flight). higher.entry < z.linked) flight g.counts in
-          let line : higher.line ≡ f.line = sym its.line ∙ ap r.start e ∙ own.line in
-          let place = its_place in
-          let below = can.below in
-          absurd (omega arith)) its.owner
+      let g = t.1 in
+      let seat : g.seat ≡ id = r.space.alone g.seat id g.view v f.number g.at at (subst (IsFlightOf f.number) (sym g.flies) (g.number ∙ e)) (subst (IsFlightOf f.number) (sym can.aim.flying) refl) in
+      let view : g.view ≡ v = one_view w.views id g.view v (subst (λ (z : ℕ). get_elem? w.views z ≡ some g.view) seat g.at) at in
+      let flight : g.flight ≡ f = one_flight g.flight f (sym g.flies ∙ ap (λ (z : View). z.flight) view ∙ can.aim.flying) in
+      let counts : higher.entry < f.linked = subst (λ (z : Flight). higher.entry < z.linked) flight g.counts in
+      let line : higher.line ≡ f.line = sym its.line ∙ ap r.start e ∙ own.line in
+      let place = its_place in
+      let below = can.below in
+      absurd (omega arith)) its.owner
 
   own_words : (i : ℕ) → i < f.lines * 4 → log' (f.line * 4 + i) ≡ w.log (f.line * 4 + i)
   own_words i less = (let line = own.line in let lines = own.lines in elsewhere f.number (f.line * 4 + i) own.above own.below other_record (omega arith) (omega arith))
@@ -121,19 +121,23 @@ module _ (k : Key) (w : World) (r : Rule k w) (id : ℕ) (v : View) (at : get_el
     where
       start_is : r.start g.number ≡ g.line
       start_is = h.line
+
       end_is : r.start (suc g.number) ≡ g.line + g.lines
       end_is = h.lines
+
       -- its linked entry is the one above
       is_linked : its.number ≡ g.number → higher.entry < g.linked
       is_linked e = ⊎_elim (λ (set_ : w.dir its.number ≢ 0). absurd (set_ (ap w.dir e ∙ h.unpublished)))
           (λ (t : (w.dir its.number ≡ 0) × IsFlier w its.number higher.entry).
-              let m = t.1 in
-              let seat : m.seat ≡ j = r.space.alone m.seat j m.view u g.number m.at at_u (subst (IsFlightOf g.number) (sym m.flies) (m.number ∙ e)) (subst (IsFlightOf g.number) (sym is) refl) in
-              let view : m.view ≡ u = one_view w.views j m.view u (subst (λ (z : ℕ). get_elem? w.views z ≡ some m.view) seat m.at) at_u in
-              let flight : m.flight ≡ g = one_flight m.flight g (sym m.flies ∙ ap (λ (z : View). z.flight) view ∙ is) in
-              subst (λ (z : Flight). higher.entry < z.linked) flight m.counts) its.owner
+          let m = t.1 in
+          let seat : m.seat ≡ j = r.space.alone m.seat j m.view u g.number m.at at_u (subst (IsFlightOf g.number) (sym m.flies) (m.number ∙ e)) (subst (IsFlightOf g.number) (sym is) refl) in
+          let view : m.view ≡ u = one_view w.views j m.view u (subst (λ (z : ℕ). get_elem? w.views z ≡ some m.view) seat m.at) at_u in
+          let flight : m.flight ≡ g = one_flight m.flight g (sym m.flies ∙ ap (λ (z : View). z.flight) view ∙ is) in
+          subst (λ (z : Flight). higher.entry < z.linked) flight m.counts) its.owner
+
       same : its.number ≢ g.number → (i : ℕ) → i < g.lines * 4 → log' (g.line * 4 + i) ≡ w.log (g.line * 4 + i)
       same ne i less = (let a = start_is in let z = end_is in elsewhere g.number (g.line * 4 + i) h.above h.below ne (omega arith) (omega arith))
+
       body_stays : 0 < g.linked → body log' g.line ≡ body w.log g.line
       body_stays some_ =
           let whole = h.whole some_ in
@@ -142,7 +146,8 @@ module _ (k : Key) (w : World) (r : Rule k w) (id : ℕ) (v : View) (at : get_el
           let a = start_is in
           let z = end_is in
           subst (λ (n : ℕ). body log' n ≡ body w.log n) start_is (regions g.number h.above h.below
-              (subst (λ (n : ℕ). lines_of (body w.log n 0) ≤ r.start (suc g.number) - r.start g.number) (sym start_is) (omega arith)))
+          (subst (λ (n : ℕ). lines_of (body w.log n 0) ≤ r.start (suc g.number) - r.start g.number) (sym start_is) (omega arith)))
+
       whole_stays : 0 < g.linked → Whole k log' u.lane g
       whole_stays some_ = (let whole = h.whole some_ in let e = body_stays some_ in record {
         kind = whole.kind;
@@ -150,9 +155,17 @@ module _ (k : Key) (w : World) (r : Rule k w) (id : ℕ) (v : View) (at : get_el
         record_of = subst (IsRecord u.lane g.number g.lines) (sym e) whole.record_of;
         upto = subst (λ (z : ℕ → ℕ). g.linked ≤ keys_of (z 0)) (sym e) whole.upto;
       })
+
       pick : Dec (its.number ≡ g.number) → InFlight k w.count w.dir log' r.start r.lane_of u.lane g
       pick (no ne) = record {
-        above = h.above; below = h.below; line = h.line; lines = h.lines; unpublished = h.unpublished; owner = h.owner; live = h.live; short = h.short;
+        above = h.above;
+        below = h.below;
+        line = h.line;
+        lines = h.lines;
+        unpublished = h.unpublished;
+        owner = h.owner;
+        live = h.live;
+        short = h.short;
         written = λ i less plain. let short = h.short in same ne i (omega arith) ∙ h.written i less plain;
         unwritten = λ i more less. same ne i less ∙ h.unwritten i more less;
         whole = whole_stays;
@@ -163,7 +176,14 @@ module _ (k : Key) (w : World) (r : Rule k w) (id : ℕ) (v : View) (at : get_el
           let place = its_place in
           let full = (h.whole (omega arith)).full in
           record {
-            above = h.above; below = h.below; line = h.line; lines = h.lines; unpublished = h.unpublished; owner = h.owner; live = h.live; short = h.short;
+            above = h.above;
+            below = h.below;
+            line = h.line;
+            lines = h.lines;
+            unpublished = h.unpublished;
+            owner = h.owner;
+            live = h.live;
+            short = h.short;
             written = λ i less plain. put-else w.log q own_at (g.line * 4 + i) (λ m. plain (higher.entry, linked, omega arith)) ∙ h.written i less plain;
             unwritten = λ i more less. absurd (omega arith);
             whole = whole_stays;
@@ -198,10 +218,10 @@ module _ (k : Key) (w : World) (r : Rule k w) (id : ℕ) (v : View) (at : get_el
       pick : Dec (c ≡ b) → Chain (Linked k w.dir log' splice_world.views c) (w.head c) log'
       pick (yes e) = subst (λ (z : ℕ). Chain (Linked k w.dir log' splice_world.views z) (w.head z) log') (sym e)
           (chain_spliced (Linked k w.dir w.log w.views b) (Linked k w.dir log' splice_world.views b) (w.head b) own_at w.log log' (to b)
-              (λ p l. ⊎_elim (λ (g : Linked k w.dir w.log w.views b p). inl g) (λ (t : (p ≡ own_at) × (b ≡ b)). inr t.0) (from b p l))
-              here (r.chains b) q x higher can.below was can.less (put-here w.log q own_at)
-              (put-else w.log q own_at own_at (λ g. let less = can.below in omega arith) ∙ aimed_there k w r id v at f can.aim x can.aimed)
-              (λ p l ne. put-else w.log q own_at p ne))
+          (λ p l. ⊎_elim (λ (g : Linked k w.dir w.log w.views b p). inl g) (λ (t : (p ≡ own_at) × (b ≡ b)). inr t.0) (from b p l))
+          here (r.chains b) q x higher can.below was can.less (put-here w.log q own_at)
+          (put-else w.log q own_at own_at (λ g. let less = can.below in omega arith) ∙ aimed_there k w r id v at f can.aim x can.aimed)
+          (λ p l ne. put-else w.log q own_at p ne))
       pick (no ne) = chain_same (Linked k w.dir w.log w.views c) (Linked k w.dir log' splice_world.views c) (w.head c) w.log log' (to c)
           (λ p l. ⊎_elim (λ (g : Linked k w.dir w.log w.views c p). g) (λ (t : (p ≡ own_at) × (c ≡ b)). absurd (ne t.1)) (from c p l))
           (λ p l. put-else w.log q own_at p (λ e. ne (one_chain k w r c b q (subst (Linked k w.dir w.log w.views c) e l) higher))) (r.chains c)
@@ -253,20 +273,23 @@ splice_allowed given k same size id me f b q x i new about can is own_is = allow
     let v' : View = after_splice me.0 f b q x y in
     let v_at = there vs id me.0 v' at in
     let rule : Rule k (world k (set ws i (either (eqb y x) new y)) (set vs id v')) = exchanged y x new (λ z. Rule k (world k (set ws i z) (set vs id v')))
-        (λ e. let hit : v' ≡ spliced me.0 f b q = choose_first (ℕ_discrete y x) (spliced me.0 f b q) (after_previous me.0 b q y) e in
-            subst (λ (z : ℕ × View). Rule k (world k (set ws i z.0) (set vs id z.1))) (λ j. (sym own_is j, sym hit j))
-                (subst (Rule k) (sym (world-log k ws vs (set vs id (spliced me.0 f b q)) q i (own_place f) within.0 within.1 is wide)) (splice_kept k w r id me.0 at about f b q x can (sym word ∙ e))))
-        (λ ne. let miss : v' ≡ after_previous me.0 b q y = choose_second (ℕ_discrete y x) (spliced me.0 f b q) (after_previous me.0 b q y) ne in
-            subst (λ (z : View). Rule k (world k (set ws i y) (set vs id z))) (sym miss)
-                (loaded_words k ws (set vs id (after_previous me.0 b q y)) i (subst (λ (z : ℕ). Rule k (record w { views = set vs id (after_previous me.0 b q z) })) (sym word) (previous_kept k w r id me.0 at b q can.node)))) in
-    let about' : v'.about ≡ k = about_splice me.0 f b q x y about in
-    (v', rule, record {
-      bucket = b;
-      node = subst (HasNode me.0 b) (sym index) can.node;
-      told = λ g flying.
-          let e : f ≡ g = one_flight f g (sym can.aim.flying ∙ flying) in
-          subst (λ (z : ℕ × Flight). Told me (after_splice me.0 z.1 b z.0 x y) (v', me.1)) (λ j. (sym index j, e j)) (record { view = refl; held = refl; stands = stands k _ id v' rule about' v_at });
-      rises = subst (λ (z : ℕ × ℕ). LowRises me.0 z.0 z.1) (λ j. (sym index j, sym word j)) (low_rises k w r id me.0 at b q can.node);
-      less = subst (λ (z : ℕ × ℕ). z.0 < z.1) (λ j. (sym word j, sym index j)) (low_less k w r id me.0 at b q can.node);
-      other = λ e. previous_other k w r id me.0 at f can.aim b q linked (sym word ∙ e ∙ own_is);
-    }))
+    (λ e. let hit : v' ≡ spliced me.0 f b q = choose_first (ℕ_discrete y x) (spliced me.0 f b q) (after_previous me.0 b q y) e in
+    subst (λ (z : ℕ × View). Rule k (world k (set ws i z.0) (set vs id z.1))) (λ j. (sym own_is j, sym hit j))
+    (subst (Rule k) (sym (world-log k ws vs (set vs id (spliced me.0 f b q)) q i (own_place f) within.0 within.1 is wide)) (splice_kept k w r id me.0 at about f b q x can (sym word ∙ e))))
+    (λ ne. let miss : v' ≡ after_previous me.0 b q y = choose_second (ℕ_discrete y x) (spliced me.0 f b q) (after_previous me.0 b q y) ne in
+    subst (λ (z : View). Rule k (world k (set ws i y) (set vs id z))) (sym miss)
+    (loaded_words k ws (set vs id (after_previous me.0 b q y)) i (subst (λ (z : ℕ). Rule k (record w { views = set vs id (after_previous me.0 b q z) })) (sym word) (previous_kept k w r id me.0 at b q can.node)))) in
+    let about' : v'.about ≡ k = about_splice me.0 f b q x y about in (
+      v',
+      rule,
+      record {
+        bucket = b;
+        node = subst (HasNode me.0 b) (sym index) can.node;
+        told = λ g flying.
+            let e : f ≡ g = one_flight f g (sym can.aim.flying ∙ flying) in
+            subst (λ (z : ℕ × Flight). Told me (after_splice me.0 z.1 b z.0 x y) (v', me.1)) (λ j. (sym index j, e j)) (record { view = refl; held = refl; stands = stands k _ id v' rule about' v_at });
+        rises = subst (λ (z : ℕ × ℕ). LowRises me.0 z.0 z.1) (λ j. (sym index j, sym word j)) (low_rises k w r id me.0 at b q can.node);
+        less = subst (λ (z : ℕ × ℕ). z.0 < z.1) (λ j. (sym word j, sym index j)) (low_less k w r id me.0 at b q can.node);
+        other = λ e. previous_other k w r id me.0 at f can.aim b q linked (sym word ∙ e ∙ own_is);
+      },
+    ))

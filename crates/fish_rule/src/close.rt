@@ -72,7 +72,12 @@ fn all_entries(alloc: Global, log: &Log, main: &mut Pass) -> Result<Entries, All
 }
 
 /// The entry at a number, or none at a mark.
-fn next_entry(alloc: Global, log: &Log, main: &mut Pass, number: u64) -> Result<Option<Entry>, AllocError>
+fn next_entry(
+    alloc: Global,
+    log: &Log,
+    main: &mut Pass,
+    number: u64,
+) -> Result<Option<Entry>, AllocError>
     requires pass { IsPassOf log.now main.old }
     requires alone { IsAlone (view main.old) }
     requires look { CanLook (view main.old) number }

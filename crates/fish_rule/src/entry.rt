@@ -17,7 +17,12 @@ use std::alloc::{AllocError, Global};
 
 /// All words of the published region at a line. Words that a later record may still change, the
 /// first ones of key entries, are given as 0.
-pub fn read_region(alloc: Global, log: &Log, pass: &mut Pass, line: u64) -> Result<Vec<u64>, AllocError>
+pub fn read_region(
+    alloc: Global,
+    log: &Log,
+    pass: &mut Pass,
+    line: u64,
+) -> Result<Vec<u64>, AllocError>
     requires pass { IsPassOf log.now pass.old }
     requires live { 1 ≤ (view pass.old).lane }
     requires found { (f : Found) × Among f (view pass.old).learned.found × (f.line ≡ line) × (f.kind ≢ Mark) }
@@ -36,7 +41,12 @@ pub fn read_region(alloc: Global, log: &Log, pass: &mut Pass, line: u64) -> Resu
 }
 
 /// The record that stands in the published region at a line.
-pub fn read_record(alloc: Global, log: &Log, pass: &mut Pass, line: u64) -> Result<Entry, AllocError>
+pub fn read_record(
+    alloc: Global,
+    log: &Log,
+    pass: &mut Pass,
+    line: u64,
+) -> Result<Entry, AllocError>
     requires pass { IsPassOf log.now pass.old }
     requires live { 1 ≤ (view pass.old).lane }
     requires found { (f : Found) × Among f (view pass.old).learned.found × (f.line ≡ line) × (f.kind ≡ Stored) }

@@ -23,11 +23,11 @@ pub use law::law_every_schedule;
 pub use linking::{aim_entry, load_head, load_previous, splice_entry, swing_head};
 pub use seats::{Start, base, join_pass, open_log, shape, split_pass};
 pub use steps::{
-    claim_lines, in_flight, is_shut, kind_in, lane, load_settled, load_tail, look_at, publish_region,
-    raise_settled, read_word, store_word,
+    claim_lines, in_flight, is_shut, kind_in, lane, load_settled, load_tail, look_at,
+    publish_region, raise_settled, read_word, store_word,
 };
 pub use table::{Base, Log, LogRule, Pass, Region, Shape};
 pub use view::{
-    Clock, Flight, Found, Key, Kind, Known, Learned, Node, Note, Noted, Own, Position, Recorded, Shut,
-    View,
+    Clock, Flight, Found, Key, Kind, Known, Learned, Node, Note, Noted, Own, Position, Recorded,
+    Shut, View,
 };

@@ -23,7 +23,9 @@ pub fn load_head(log: &Log, pass: &mut Pass, bucket: u64) -> u64
     ensures view { view pass.new ≡ after_head (view pass.old) bucket result }
     ensures rises { TopRises (view pass.old) bucket result }
 {
-    log.table.shared.load::<Head>(&mut pass.seat, (HEADS + bucket) as usize)
+    log.table
+        .shared
+        .load::<Head>(&mut pass.seat, (HEADS + bucket) as usize)
 }
 
 /// Loads the first word of a linked entry: the place of the next older one of its bucket, or 0.
@@ -36,7 +38,9 @@ pub fn load_previous(log: &Log, pass: &mut Pass, place: u64) -> u64
     ensures less { result < place }
 {
     let index = log_at(log.key) + (place - log.key.line * 4);
-    log.table.shared.load::<Previous>(&mut pass.seat, index as usize)
+    log.table
+        .shared
+        .load::<Previous>(&mut pass.seat, index as usize)
 }
 
 /// Stores the place that the own next entry is to lead to.
@@ -47,7 +51,9 @@ pub fn aim_entry(log: &Log, pass: &mut Pass, place: u64, previous: u64)
     ensures view { (f : Flight) → (view pass.old).flight ≡ Some f → view pass.new ≡ after_aim (view pass.old) f previous }
 {
     let index = log_at(log.key) + (place - log.key.line * 4);
-    log.table.shared.store::<Aim>(&mut pass.seat, index as usize, previous);
+    log.table
+        .shared
+        .store::<Aim>(&mut pass.seat, index as usize, previous);
 }
 
 /// Makes the own next entry the head of its bucket, where the head is as expected.
@@ -59,12 +65,9 @@ pub fn swing_head(log: &Log, pass: &mut Pass, bucket: u64, expected: u64, place:
     ensures rises { TopRises (view pass.old) bucket result }
     ensures other { result ≢ place }
 {
-    log.table.shared.compare_exchange::<Swing>(
-        &mut pass.seat,
-        (HEADS + bucket) as usize,
-        expected,
-        place,
-    )
+    log.table
+        .shared
+        .compare_exchange::<Swing>(&mut pass.seat, (HEADS + bucket) as usize, expected, place)
 }
 
 /// Puts the own next entry in below a higher one, where that one's first word is as expected.
@@ -78,5 +81,7 @@ pub fn splice_entry(log: &Log, pass: &mut Pass, above: u64, expected: u64, place
     ensures other { result ≢ place }
 {
     let index = log_at(log.key) + (above - log.key.line * 4);
-    log.table.shared.compare_exchange::<Splice>(&mut pass.seat, index as usize, expected, place)
+    log.table
+        .shared
+        .compare_exchange::<Splice>(&mut pass.seat, index as usize, expected, place)
 }

@@ -60,7 +60,10 @@ pub fn claim_lines(log: &Log, pass: &mut Pass, lines: u64) -> Region
     ensures view { view pass.new ≡ after_claim (view pass.old) lines result.number result.line }
     ensures lines { result.lines ≡ lines }
 {
-    let found = log.table.shared.fetch_add::<Claim>(&mut pass.seat, 0, ONE + lines);
+    let found = log
+        .table
+        .shared
+        .fetch_add::<Claim>(&mut pass.seat, 0, ONE + lines);
     let Position { number, line } = position_in(found);
     let region = Region {
         number,
@@ -79,7 +82,9 @@ pub fn store_word(log: &Log, pass: &mut Pass, region: &Region, offset: u64, word
     ensures view { (f : Flight) → (view pass.old).flight ≡ Some f → view pass.new ≡ after_store (view pass.old) f word }
 {
     let index = log_at(log.key) + (region.line * 4 + offset - log.key.line * 4);
-    log.table.shared.store::<Store>(&mut pass.seat, index as usize, word);
+    log.table
+        .shared
+        .store::<Store>(&mut pass.seat, index as usize, word);
 }
 
 /// Publishes the region in flight, by a store of its directory word. A mark shuts the pass.
@@ -91,7 +96,11 @@ pub fn publish_region(log: &Log, pass: &mut Pass, region: &Region)
 {
     let kind = region_kind(log.key.end, region.line, region.line + region.lines);
     let index = dir_at(log.key) + (region.number - log.key.number);
-    log.table.shared.store::<Publish>(&mut pass.seat, index as usize, directory_word(kind, region.line));
+    log.table.shared.store::<Publish>(
+        &mut pass.seat,
+        index as usize,
+        directory_word(kind, region.line),
+    );
     pass.flight = None;
     if let Kind::Mark = kind {
         pass.shut = Some(Shut {
@@ -112,7 +121,9 @@ pub fn look_at(log: &Log, pass: &mut Pass, number: u64) -> u64
     ensures known { (f : Found) → Among f (view pass.old).learned.found → f.number ≡ number → result ≡ dir_word f.kind f.line }
 {
     let index = dir_at(log.key) + (number - log.key.number);
-    log.table.shared.load::<Look>(&mut pass.seat, index as usize)
+    log.table
+        .shared
+        .load::<Look>(&mut pass.seat, index as usize)
 }
 
 /// Loads a word of a published region.
@@ -123,7 +134,9 @@ pub fn read_word(log: &Log, pass: &mut Pass, line: u64, offset: u64) -> u64
     ensures view { view pass.new ≡ after_read (view pass.old) (line * 4 + offset) result }
 {
     let index = log_at(log.key) + (line * 4 + offset - log.key.line * 4);
-    log.table.shared.load::<Read>(&mut pass.seat, index as usize)
+    log.table
+        .shared
+        .load::<Read>(&mut pass.seat, index as usize)
 }
 
 /// Loads the tail.
@@ -156,7 +169,9 @@ pub fn raise_settled(log: &Log, pass: &mut Pass, number: u64) -> u64
     ensures pass { IsPassOf log.now pass.new }
     ensures view { view pass.new ≡ after_raise (view pass.old) number result }
 {
-    log.table.shared.fetch_max::<Raise>(&mut pass.seat, 1, number)
+    log.table
+        .shared
+        .fetch_max::<Raise>(&mut pass.seat, 1, number)
 }
 
 /// Where a tail word says that the next record goes.

@@ -42,7 +42,7 @@ returns-in-None-clause-log c =
     let mark : TellsMark v c.loop-number.number = subst (TellsNext v c.loop-number.number) c.in-None.is c.in_ok-entry.ensures.entry in
     let told : AreTold v base c.loop-number.entries = λ i x at. tells_later _ _ (base + i) x c.next_entry.ensures.extends.learns (inv.told i x at) in
     closes v c.loop-number.entries e.0 c.next_entry.ensures.pass.stands (alone_later _ _ c.next_entry.ensures.extends inv.alone) more.tail (subst (λ (z : ℕ). AreTold v z c.loop-number.entries) (sym about) told)
-        (inr (omega arith, subst (TellsMark v) (sym many ∙ ap (λ (z : ℕ). z + length c.loop-number.entries) (sym about)) mark))
+    (inr (omega arith, subst (TellsMark v) (sym many ∙ ap (λ (z : ℕ). z + length c.loop-number.entries) (sym about)) mark))
 
 pub loop-number-preserved : goal.loop-number-preserved
 loop-number-preserved c =

@@ -18,4 +18,4 @@ returns-clause-entry c f among line is =
     let words = c.in_ok-words.ensures.words f among line (stored_words f.kind is) in
     let at : c.deref.result.now ≡ c.in_ok-words.words.items = c.deref.ensures.value in
     tells_entry (view c.read_region.new.pass) f c.in_ok-words.words.items (c.read_region.ensures.extends.learns.found f among) is words c.in_ok-lane.field-0.lane c.in_ok-lane.field-0.form c.in_ok-lane.field-0.payload
-        (λ q b. c.in_ok-lane.ensures.lane q (subst (IsBody q) (sym at) b)) (λ q b. c.in_ok-lane.ensures.form q (subst (IsBody q) (sym at) b)) (λ q b. c.in_ok-lane.ensures.payload q (subst (IsBody q) (sym at) b))
+    (λ q b. c.in_ok-lane.ensures.lane q (subst (IsBody q) (sym at) b)) (λ q b. c.in_ok-lane.ensures.form q (subst (IsBody q) (sym at) b)) (λ q b. c.in_ok-lane.ensures.payload q (subst (IsBody q) (sym at) b))

@@ -19,9 +19,11 @@ pub read_body_word-requires-clause-header : goal.read_body_word-requires-clause-
 read_body_word-requires-clause-header c =
     let inv = c.loop-offset.invariant in
     let many = inv.many in
-    let from = c.loop-offset.auto.offset in
-    (c.read_word-header.result, head_read (view c.loop-offset.pass) c.args.line (keys_of c.read_word-header.result) c.read_word-header.result c.loop-offset.words.items (omega arith) inv.head inv.read,
-        c.from-keys.ensures ∙ c.keys_in.ensures.value)
+    let from = c.loop-offset.auto.offset in (
+      c.read_word-header.result,
+      head_read (view c.loop-offset.pass) c.args.line (keys_of c.read_word-header.result) c.read_word-header.result c.loop-offset.words.items (omega arith) inv.head inv.read,
+      c.from-keys.ensures ∙ c.keys_in.ensures.value,
+    )
 
 pub read_body_word-requires-clause-found : goal.read_body_word-requires-clause-found
 read_body_word-requires-clause-found c =
@@ -48,8 +50,8 @@ loop-offset-preserved c =
     let items : c.push-in-loop-offset.new.self.items ≡ c.loop-offset.words.items ++ x ∷ [] = c.in_ok-push-2.ensures.items in
     let keys : c.from-keys.result ≡ keys_of c.read_word-header.result = c.from-keys.ensures ∙ c.keys_in.ensures.value in
     let here : ¬ IsKeyWord (keys_of c.read_word-header.result) (length c.loop-offset.words.items) → Among (record { place = c.args.line * 4 + length c.loop-offset.words.items; value = x }) (view c.read_body_word.new.pass).learned.known =
-        λ plain. subst (λ (z : ℕ). Among (record { place = c.args.line * 4 + z; value = x }) (view c.read_body_word.new.pass).learned.known) (sym many)
-            (c.read_body_word.ensures.word (subst (λ (z : ℕ × ℕ). ¬ IsKeyWord z.0 z.1) (λ j. (sym keys j, many j)) plain)) in
+    λ plain. subst (λ (z : ℕ). Among (record { place = c.args.line * 4 + z; value = x }) (view c.read_body_word.new.pass).learned.known) (sym many)
+    (c.read_body_word.ensures.word (subst (λ (z : ℕ × ℕ). ¬ IsKeyWord z.0 z.1) (λ j. (sym keys j, many j)) plain)) in
     record {
       of = c.read_body_word.ensures.pass;
       extends = extends_both _ _ _ inv.extends c.read_body_word.ensures.extends;

@@ -36,10 +36,12 @@ store-requires c =
     let law = aim_law log.key (view c.args.pass.now) f c.requires.pass.about c.requires.pass.stands c.requires.view.1 in
     let is : c.args.place ≡ own_place f = c.requires.view.2 in
     let at = c.log_at.ensures in
-    let place : ℕ = c.args.place - log.key.line * 4 in
-    (c.requires.pass.table, subst (λ (z : ℕ). c.log_at.result + place < z) (sym log.wide) (omega arith),
-        aim_allowed log.table.shared.key log.key log.keyed log.table.shared.table_id.slots seat.id seat.me f _ c.args.previous c.requires.pass.about c.requires.view.1
-            (ap (λ (z : ℕ). z + place) at ∙ ap (λ (z : ℕ). log_at log.key + (z - log.key.line * 4)) is))
+    let place : ℕ = c.args.place - log.key.line * 4 in (
+      c.requires.pass.table,
+      subst (λ (z : ℕ). c.log_at.result + place < z) (sym log.wide) (omega arith),
+      aim_allowed log.table.shared.key log.key log.keyed log.table.shared.table_id.slots seat.id seat.me f _ c.args.previous c.requires.pass.about c.requires.view.1
+          (ap (λ (z : ℕ). z + place) at ∙ ap (λ (z : ℕ). log_at log.key + (z - log.key.line * 4)) is),
+    )
 
 pub invariant_of-pass : goal.invariant_of-pass
 invariant_of-pass c =

@@ -34,9 +34,11 @@ load-requires c =
     let n = c.requires.node in
     let law = node_law log.key (view c.args.pass.now) n.0 c.args.place c.requires.pass.about c.requires.pass.stands n.1 in
     let at = c.log_at.ensures in
-    let place : ℕ = c.args.place - log.key.line * 4 in
-    (c.requires.pass.table, subst (λ (z : ℕ). c.log_at.result + place < z) (sym log.wide) (omega arith),
-        previous_allowed log.table.shared.key log.key log.keyed log.table.shared.table_id.slots seat.id seat.me n.0 c.args.place _ c.requires.pass.about n.1 (ap (λ (z : ℕ). z + place) at))
+    let place : ℕ = c.args.place - log.key.line * 4 in (
+      c.requires.pass.table,
+      subst (λ (z : ℕ). c.log_at.result + place < z) (sym log.wide) (omega arith),
+      previous_allowed log.table.shared.key log.key log.keyed log.table.shared.table_id.slots seat.id seat.me n.0 c.args.place _ c.requires.pass.about n.1 (ap (λ (z : ℕ). z + place) at),
+    )
 
 -- the index is that of the place
 index : (k about : Key) (at place : ℕ) → about ≡ k → at ≡ log_at k → k.line * 4 ≤ place → place_at about (at + (place - k.line * 4)) ≡ place

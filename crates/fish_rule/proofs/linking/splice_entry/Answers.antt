@@ -37,9 +37,11 @@ compare_exchange-requires c =
     let can = c.requires.view.1.1 in
     let law = node_law log.key (view c.args.pass.now) b c.args.above c.requires.pass.about c.requires.pass.stands can.node in
     let at = c.log_at.ensures in
-    let place : ℕ = c.args.above - log.key.line * 4 in
-    (c.requires.pass.table, subst (λ (z : ℕ). c.log_at.result + place < z) (sym log.wide) (omega arith),
-        splice_allowed log.table.shared.key log.key log.keyed log.table.shared.table_id.slots seat.id seat.me f b c.args.above c.args.expected _ c.args.place c.requires.pass.about can (ap (λ (z : ℕ). z + place) at) c.requires.view.1.2)
+    let place : ℕ = c.args.above - log.key.line * 4 in (
+      c.requires.pass.table,
+      subst (λ (z : ℕ). c.log_at.result + place < z) (sym log.wide) (omega arith),
+      splice_allowed log.table.shared.key log.key log.keyed log.table.shared.table_id.slots seat.id seat.me f b c.args.above c.args.expected _ c.args.place c.requires.pass.about can (ap (λ (z : ℕ). z + place) at) c.requires.view.1.2,
+    )
 
 pub invariant_of-pass : goal.invariant_of-pass
 invariant_of-pass c =

@@ -23,9 +23,11 @@ compare_exchange-requires c =
     let seat = c.args.pass.now.seat in
     let f : Flight = c.requires.view.0 in
     let can = c.requires.view.1 in
-    let below : c.args.bucket < log.key.buckets = subst (λ (z : Key). c.args.bucket < z.buckets) c.requires.pass.about can.below in
-    (c.requires.pass.table, subst (λ (z : ℕ). heads_at + c.args.bucket < z) (sym log.wide) (omega arith),
-        swing_allowed log.table.shared.key log.key log.keyed log.table.shared.table_id.slots seat.id seat.me f c.args.bucket c.args.expected _ c.args.place c.requires.pass.about can refl c.requires.view.2)
+    let below : c.args.bucket < log.key.buckets = subst (λ (z : Key). c.args.bucket < z.buckets) c.requires.pass.about can.below in (
+      c.requires.pass.table,
+      subst (λ (z : ℕ). heads_at + c.args.bucket < z) (sym log.wide) (omega arith),
+      swing_allowed log.table.shared.key log.key log.keyed log.table.shared.table_id.slots seat.id seat.me f c.args.bucket c.args.expected _ c.args.place c.requires.pass.about can refl c.requires.view.2,
+    )
 
 pub invariant_of-pass : goal.invariant_of-pass
 invariant_of-pass c =

@@ -9,9 +9,11 @@ use Rattle.fish_rule.proofs.steps.claim_lines.Goals as goal
 pub fetch_add-found-requires : goal.fetch_add-found-requires
 fetch_add-found-requires c =
     let log = c.args.log.now in
-    let seat = c.args.pass.now.seat in
-    (c.requires.pass.table, subst (λ (z : ℕ). 0 < z) (sym log.wide) (omega arith),
-        claim_allowed log.table.shared.key log.key log.keyed log.table.shared.table_id.slots seat.id seat.me _ c.args.lines c.requires.pass.about c.requires.view c.requires.lines.0 c.requires.lines.1 refl)
+    let seat = c.args.pass.now.seat in (
+      c.requires.pass.table,
+      subst (λ (z : ℕ). 0 < z) (sym log.wide) (omega arith),
+      claim_allowed log.table.shared.key log.key log.keyed log.table.shared.table_id.slots seat.id seat.me _ c.args.lines c.requires.pass.about c.requires.view c.requires.lines.0 c.requires.lines.1 refl,
+    )
 
 pub invariant_of-pass : goal.invariant_of-pass
 invariant_of-pass c =

@@ -8,9 +8,11 @@ use Rattle.fish_rule.proofs.steps.load_tail.Goals as goal
 pub load-found-requires : goal.load-found-requires
 load-found-requires c =
     let log = c.args.log.now in
-    let seat = c.args.pass.now.seat in
-    (c.requires.pass.table, subst (λ (z : ℕ). 0 < z) (sym log.wide) (omega arith),
-        end_allowed log.table.shared.key log.key log.keyed log.table.shared.table_id.slots seat.id seat.me c.requires.pass.about)
+    let seat = c.args.pass.now.seat in (
+      c.requires.pass.table,
+      subst (λ (z : ℕ). 0 < z) (sym log.wide) (omega arith),
+      end_allowed log.table.shared.key log.key log.keyed log.table.shared.table_id.slots seat.id seat.me c.requires.pass.about,
+    )
 
 pub returns-clause-view : goal.returns-clause-view
 returns-clause-view c = (c.load-found.result, c.load-found.ensures.2.told.view, c.position_in.ensures.number, c.position_in.ensures.line)

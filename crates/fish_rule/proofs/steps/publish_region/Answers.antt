@@ -57,8 +57,10 @@ store-requires c =
     let line : f.line ≡ region.line = may.3 in
     let lines : f.lines ≡ region.lines = may.4 in
     let kind : c.region_kind-kind.result ≡ flight_kind (view pass) f =
-        c.region_kind-kind.ensures ∙ ap (λ (z : Key × ℕ × ℕ). kind_of z.0.end z.1 (z.1 + z.2)) (λ i. (sym c.requires.pass.about i, sym line i, sym lines i)) in
-    (c.requires.pass.table, subst (λ (z : ℕ). c.dir_at.result + (region.number - log.key.number) < z) (sym log.wide) (omega arith),
-        publish_allowed log.table.shared.key log.key log.keyed log.table.shared.table_id.slots seat.id seat.me f _ _ c.requires.pass.about may.1
-            (ap (λ (z : ℕ). z + (region.number - log.key.number)) at ∙ ap (λ (z : ℕ). dir_at log.key + (z - log.key.number)) (sym may.2))
-            (c.directory_word.ensures ∙ ap (λ (z : Kind × ℕ). dir_word z.0 z.1) (λ i. (kind i, sym line i))))
+    c.region_kind-kind.ensures ∙ ap (λ (z : Key × ℕ × ℕ). kind_of z.0.end z.1 (z.1 + z.2)) (λ i. (sym c.requires.pass.about i, sym line i, sym lines i)) in (
+      c.requires.pass.table,
+      subst (λ (z : ℕ). c.dir_at.result + (region.number - log.key.number) < z) (sym log.wide) (omega arith),
+      publish_allowed log.table.shared.key log.key log.keyed log.table.shared.table_id.slots seat.id seat.me f _ _ c.requires.pass.about may.1
+          (ap (λ (z : ℕ). z + (region.number - log.key.number)) at ∙ ap (λ (z : ℕ). dir_at log.key + (z - log.key.number)) (sym may.2))
+          (c.directory_word.ensures ∙ ap (λ (z : Kind × ℕ). dir_word z.0 z.1) (λ i. (kind i, sym line i))),
+    )

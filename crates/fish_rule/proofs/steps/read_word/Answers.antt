@@ -50,10 +50,12 @@ load-requires c =
     let behind = h.behind in
     let end = h.end in
     let at = c.log_at.ensures in
-    let place : ℕ = c.args.line * 4 + c.args.offset - log.key.line * 4 in
-    (c.requires.pass.table, subst (λ (z : ℕ). c.log_at.result + place < z) (sym log.wide) (omega arith),
-        read_allowed log.table.shared.key log.key log.keyed log.table.shared.table_id.slots seat.id seat.me c.requires.view.0 c.args.offset _ c.requires.pass.about c.requires.view.1
-            (ap (λ (z : ℕ). z + place) at ∙ ap (λ (z : ℕ). log_at log.key + (z * 4 + c.args.offset - log.key.line * 4)) (sym c.requires.view.2)))
+    let place : ℕ = c.args.line * 4 + c.args.offset - log.key.line * 4 in (
+      c.requires.pass.table,
+      subst (λ (z : ℕ). c.log_at.result + place < z) (sym log.wide) (omega arith),
+      read_allowed log.table.shared.key log.key log.keyed log.table.shared.table_id.slots seat.id seat.me c.requires.view.0 c.args.offset _ c.requires.pass.about c.requires.view.1
+          (ap (λ (z : ℕ). z + place) at ∙ ap (λ (z : ℕ). log_at log.key + (z * 4 + c.args.offset - log.key.line * 4)) (sym c.requires.view.2)),
+    )
 
 pub returns-clause-view : goal.returns-clause-view
 returns-clause-view c =
