@@ -1,7 +1,8 @@
-//! Stores records of 1 KB from 1, 2 and 4 lanes, and prints how many bytes a second.
+//! Stores records of 1 KB from 1, 2 and 4 lanes, and writes to standard error how long it took.
 #![tactic(auto)]
 
-ghost use Rattle.std.specs.Prelude.{◌≡◌, ◌<◌, ◌≤◌, ◌^◌, IfOk};
+ghost use Rattle.std.specs.Prelude.{◌≡◌, ◌≤◌, IfOk};
+ghost use Rattle.std.specs.Thread.{IsSync};
 ghost use Rattle.fish_claim.specs.Fills.{IsPlain};
 ghost use Rattle.fish_layout.specs.Body.{IsBody};
 ghost use Rattle.fish_layout.specs.declared.parts.BodyParts.{BodyParts};
@@ -13,7 +14,7 @@ use fish_layout::{Body, BodyParts, body_of, set_number};
 use fish_rule::{Log, Pass, Shape, Start, in_flight, is_shut, lane, open_log, split_pass};
 use fish_value::{Form, Sequence, Text};
 use std::alloc::{AllocError, Global};
-use std::io::Print;
+use std::io::Eprint;
 use std::process::ExitCode;
 use std::thread::{Threads, join_mut};
 use std::time::{Clock, Instant};
@@ -98,7 +99,7 @@ fn store_all(log: &Log, pass: &mut Pass, lane: u8, body: &mut Body, count: u64)
 }
 
 /// One lane.
-fn one_lane<R: Clock + AllocGlobal + Print>(rt: &R) -> Result<(), AllocError> {
+fn one_lane<R: Clock + AllocGlobal + Eprint>(rt: &R) -> Result<(), AllocError> {
     let alloc = rt.alloc();
     let shape = Shape {
         pages: 256,
@@ -113,7 +114,7 @@ fn one_lane<R: Clock + AllocGlobal + Print>(rt: &R) -> Result<(), AllocError> {
     let Ok(took) = start.elapsed(rt) else {
         return Ok(());
     };
-    let _ = rt.println(format_args!(
+    let _ = rt.eprintln(format_args!(
         "1 lane: {} ns for {RECORDS} records of 1024 bytes",
         took.as_nanos()
     ));
@@ -121,7 +122,7 @@ fn one_lane<R: Clock + AllocGlobal + Print>(rt: &R) -> Result<(), AllocError> {
 }
 
 /// Two lanes.
-fn two_lanes<R: Threads + Sync + Clock + AllocGlobal + Print>(rt: &R) -> Result<(), AllocError> {
+fn two_lanes<R: Threads + Sync + Clock + AllocGlobal + Eprint>(rt: &R) -> Result<(), AllocError> {
     let alloc = rt.alloc();
     let shape = Shape {
         pages: 256,
@@ -142,8 +143,85 @@ fn two_lanes<R: Threads + Sync + Clock + AllocGlobal + Print>(rt: &R) -> Result<
     let Ok(took) = start.elapsed(rt) else {
         return Ok(());
     };
-    let _ = rt.println(format_args!(
+    let _ = rt.eprintln(format_args!(
         "2 lanes: {} ns for {RECORDS} records of 1024 bytes",
+        took.as_nanos()
+    ));
+    Ok(())
+}
+
+/// What one lane stores with.
+#[derive(Drop)]
+struct Lane {
+    pass: Pass,
+    number: u8,
+    body: Body,
+}
+
+/// Two lanes at once.
+fn store_both<R: Threads + Sync>(rt: &R, log: &Log, one: &mut Lane, two: &mut Lane, count: u64)
+    requires one { IsPassOf log.now one.old.pass }
+    requires two { IsPassOf log.now two.old.pass }
+    requires first { (p : BodyParts) × IsPlain one.old.number p.number 32 p × IsBody p one.old.body }
+    requires second { (p : BodyParts) × IsPlain two.old.number p.number 32 p × IsBody p two.old.body }
+{
+    join_mut(
+        rt,
+        &mut || store_all(log, &mut one.pass, one.number, &mut one.body, count),
+        &mut || store_all(log, &mut two.pass, two.number, &mut two.body, count),
+    );
+}
+
+/// A lane with its record.
+fn lane_of(alloc: Global, pass: Pass, number: u8) -> Result<Lane, AllocError>
+    requires number { (1 ≤ number) × (number ≤ 16) }
+    ensures pass { IfOk result (λ lane. lane.pass ≡ pass) }
+    ensures body { IfOk result (λ lane. (p : BodyParts) × IsPlain lane.number p.number 32 p × IsBody p lane.body) }
+{
+    let body = record_words(alloc, number)?;
+    Ok(Lane { pass, number, body })
+}
+
+/// Four lanes.
+fn four_lanes<R: Threads + Sync + Clock + AllocGlobal + Eprint>(rt: &R) -> Result<(), AllocError> {
+    let alloc = rt.alloc();
+    let shape = Shape {
+        pages: 256,
+        bucket_bits: 4,
+    };
+    let (log, mut main) = open_log(alloc, shape, &Start::Empty)?;
+    let second = split_pass(&log, &mut main, 2);
+    let third = split_pass(&log, &mut main, 3);
+    let fourth = split_pass(&log, &mut main, 4);
+    let mut main = lane_of(alloc, main, 1)?;
+    let mut second = lane_of(alloc, second, 2)?;
+    let mut third = lane_of(alloc, third, 3)?;
+    let mut fourth = lane_of(alloc, fourth, 4)?;
+    let Ok(start) = Instant::now(rt) else {
+        return Ok(());
+    };
+    join_mut(
+        rt,
+        &mut ||
+            requires sync { IsSync R.row }
+            requires one { IsPassOf log main.pass }
+            requires two { IsPassOf log second.pass }
+            requires first { (p : BodyParts) × IsPlain main.number p.number 32 p × IsBody p main.body }
+            requires second { (p : BodyParts) × IsPlain second.number p.number 32 p × IsBody p second.body }
+        { store_both(rt, &log, &mut main, &mut second, RECORDS / 4) },
+        &mut ||
+            requires sync { IsSync R.row }
+            requires one { IsPassOf log third.pass }
+            requires two { IsPassOf log fourth.pass }
+            requires first { (p : BodyParts) × IsPlain third.number p.number 32 p × IsBody p third.body }
+            requires second { (p : BodyParts) × IsPlain fourth.number p.number 32 p × IsBody p fourth.body }
+        { store_both(rt, &log, &mut third, &mut fourth, RECORDS / 4) },
+    );
+    let Ok(took) = start.elapsed(rt) else {
+        return Ok(());
+    };
+    let _ = rt.eprintln(format_args!(
+        "4 lanes: {} ns for {RECORDS} records of 1024 bytes",
         took.as_nanos()
     ));
     Ok(())
@@ -153,6 +231,7 @@ fn main(rt: HostRuntime) -> ExitCode {
     for _ in 0..3 {
         let _ = one_lane(&rt);
         let _ = two_lanes(&rt);
+        let _ = four_lanes(&rt);
     }
     ExitCode::SUCCESS
 }

@@ -1,5 +1,4 @@
 -- The pass stays one of the log, and the words those of a record.
-use Rattle.std.specs.Prelude.{◌≡◌}
 use Rattle.fish_claim.specs.Fills.{IsPlain}
 use Rattle.fish_layout.specs.Body.{IsBody}
 use Rattle.fish_layout.specs.declared.parts.BodyParts.{BodyParts}

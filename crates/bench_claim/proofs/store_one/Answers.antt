@@ -1,9 +1,9 @@
 -- The record has the number of its claim.
-use Rattle.std.proofs.Common.{◌≡◌, ℕ, ◌+◌, ◌*◌, ◌/◌, List, length, refl, sym, ap, ◌∙◌, subst, arith}
+use Rattle.std.proofs.Common.{◌≡◌, ℕ, ◌+◌, ◌/◌, length, refl, sym, ap, ◌∙◌, subst}
 use Rattle.fish_claim.proofs.Bodies.{body_law, placed_law}
 use Rattle.fish_claim.specs.Fills.{CanFill, IsPlain}
 use Rattle.fish_layout.proofs.Sizes.{length-words_behind}
-use Rattle.fish_layout.specs.Body.{IsBody, body_lines, words_behind}
+use Rattle.fish_layout.specs.Body.{body_lines, words_behind}
 use Rattle.fish_layout.specs.declared.parts.BodyParts.{BodyParts}
 use Rattle.fish_rule.specs.Passes.{view}
 use Rattle.fish_rule.specs.Steps.{flight_at}
