@@ -1,5 +1,5 @@
 -- Where the record is that was found at a number.
-use Rattle.std.proofs.Common.{◌≡◌, ◌≢◌, ℕ, ◌+◌, ◌*◌, ◌%◌, ◌<◌, ◌≤◌, List, zero, suc, refl, sym, ap, ◌∙◌, subst, inl, arith}
+use Rattle.std.proofs.Common.{◌≡◌, ℕ, ◌+◌, ◌*◌, ◌%◌, ◌<◌, ◌≤◌, List, zero, suc, refl, sym, ap, ◌∙◌, subst, inl, arith}
 use Rattle.fish_rule.proofs.Entries.{stored_words}
 use Rattle.fish_rule.proofs.Extending.{extends_look}
 use Rattle.fish_rule.proofs.Laws.{fits_law, found_law, read_law}

@@ -6,6 +6,8 @@ ghost use Rattle.fish_layout.specs.Body.{IsBody};
 ghost use Rattle.fish_layout.specs.declared.parts.BodyParts.{BodyParts};
 ghost use Rattle.fish_rule.specs.Passes.{IsPassOf};
 
+mod threads;
+
 use crate::{Look, count_now, look, read_entry};
 use fish_catalog::Entry;
 use fish_claim::{Claimed, claim, fill, publish};
@@ -33,18 +35,26 @@ fn object_of(alloc: Global, lines: u64) -> Result<Text, AllocError> {
     Ok(Text::from_string(text))
 }
 
-/// The words of a record that takes so many lines.
-fn record_words(alloc: Global, lane: u8, number: u32, lines: u64) -> Result<Body, Fail>
+/// The words of a record with a payload. A payload that is no record of so many lines, which no test
+/// has, fails as a want of memory does.
+fn record_words(
+    alloc: Global,
+    lane: u8,
+    number: u32,
+    lines: u64,
+    payload: Text,
+) -> Result<Body, AllocError>
     requires lane { (1 ≤ lane) × (lane ≤ 16) }
     requires number { number < 2 ^ 28 }
     requires lines { (0 < lines) × (lines ≤ 18625) }
     ensures { IfOk result (λ body. (p : BodyParts) × IsPlain lane number lines p × IsBody p body) }
 {
-    let payload = object_of(alloc, lines)?;
     if payload.as_bytes().len() > 524_288 {
-        return Err(Fail::new("too long"));
+        return Err(AllocError);
     }
-    JsonRecord::read(alloc, payload.as_bytes())?;
+    let Ok(_) = JsonRecord::read(alloc, payload.as_bytes()) else {
+        return Err(AllocError);
+    };
     let parts = BodyParts {
         form: Form::Json,
         lane,
@@ -55,32 +65,40 @@ fn record_words(alloc: Global, lane: u8, number: u32, lines: u64) -> Result<Body
     };
     let body = body_of(alloc, &parts)?;
     if body.len() as u64 != lines * 4 {
-        return Err(Fail::new("another length"));
+        return Err(AllocError);
     }
     Ok(body)
 }
 
-/// Claims so many lines, and stores and publishes a record at the place.
-fn store(alloc: Global, log: &Log, pass: &mut Pass, lines: u64) -> Result<(), Fail>
+/// Claims so many lines, and stores and publishes a record there. Whether one was placed. What can't be
+/// fails as a want of memory does: an error crosses the join of threads only where it may be let go.
+fn store(
+    alloc: Global,
+    log: &Log,
+    pass: &mut Pass,
+    lines: u64,
+    payload: Text,
+) -> Result<bool, AllocError>
     requires { IsPassOf log.now pass.old }
     ensures { IsPassOf log.now pass.new }
 {
     if lines < 1 || lines > 18_625 {
-        return Err(Fail::new("no such lines"));
+        return Err(AllocError);
     }
     let lane = lane(pass);
     if lane < 1 || lane > 16 || in_flight(pass).is_some() || is_shut(pass).is_some() {
-        return Err(Fail::new("no claim may be made"));
+        return Err(AllocError);
     }
     if let Claimed::Placed { number, .. } = claim(log, pass, lines) {
         if number >= 1 << 28 {
-            return Err(Fail::new("too great a number"));
+            return Err(AllocError);
         }
-        let body = record_words(alloc, lane, number, lines)?;
+        let body = record_words(alloc, lane, number, lines, payload)?;
         fill(log, pass, body.as_slice());
         publish(log, pass);
+        return Ok(true);
     }
-    Ok(())
+    Ok(false)
 }
 
 /// The entry at a number, or none where no record was found there.
@@ -120,7 +138,7 @@ fn stored_and_read<L: Ledger>(alloc: Global, blank: Blank) -> Result<(), Fail>
     };
     let (log, mut pass) = open_log(alloc, shape, &Start::Empty)?;
     for lines in LINES {
-        store(alloc, &log, &mut pass, lines)?;
+        store(alloc, &log, &mut pass, lines, object_of(alloc, lines)?)?;
     }
     for (number, lines) in LINES.iter().enumerate() {
         let (found, entry) = found_at(alloc, &log, &mut pass, number as u32, &mut loads)?;

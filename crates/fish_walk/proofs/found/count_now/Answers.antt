@@ -1,5 +1,5 @@
 -- A count has 28 bits.
-use Rattle.std.proofs.Common.{◌≡◌, ◌<◌, ℕ, sym, ap, ◌∙◌, subst, arith}
+use Rattle.std.proofs.Common.{ap, arith}
 use Rattle.fish_rule.proofs.Counts.{count_law}
 use Rattle.fish_rule.specs.Passes.{view}
 use Rattle.fish_rule.specs.declared.view.View.{View}

@@ -1,12 +1,11 @@
 -- The words at the record's line are those of a record, whose parts are the entry's.
-use Rattle.std.proofs.Common.{◌≡◌, ℕ, ◌+◌, ◌*◌, List, length, sym, refl, ap, ◌∙◌, subst, arith}
+use Rattle.std.proofs.Common.{◌≡◌, ℕ, sym, ◌∙◌, subst, arith}
 use Rattle.fish_catalog.specs.declared.entry.Entry.TheVariants as entry
 use Rattle.fish_layout.specs.Body.{IsBody}
 use Rattle.fish_rule.proofs.Entries.{found_body, stored_words, tells_entry}
 use Rattle.fish_rule.proofs.Extending.{extends_both}
 use Rattle.fish_rule.specs.Logs.{Tells}
 use Rattle.fish_rule.specs.Passes.{view}
-use Rattle.fish_rule.specs.declared.view.Found.{Found}
 use Rattle.fish_walk.proofs.Records.{look_extends, word_line}
 use Rattle.fish_walk.proofs.reading.read_entry.Goals as goal
 

@@ -1,5 +1,5 @@
 -- The look found the record.
-use Rattle.std.proofs.Common.{◌≡◌, sym, ◌∙◌}
+use Rattle.std.proofs.Common.{sym, ◌∙◌}
 use Rattle.fish_rule.specs.Passes.{view}
 use Rattle.fish_walk.proofs.Records.{stored_law}
 use Rattle.fish_walk.proofs.tests.found_at.Goals as goal

@@ -1,6 +1,5 @@
 -- The words have the parts that were put into them.
-use Rattle.std.proofs.Common.{◌≡◌, ℕ, ◌*◌, ◌≤◌, List, [], length, is_some, true, refl, sym, ap, ◌∙◌, subst, arith}
-use Rattle.fish_claim.specs.Fills.{IsPlain}
+use Rattle.std.proofs.Common.{◌≡◌, ℕ, ◌≤◌, List, [], length, is_some, true, refl, sym, ap, subst, arith}
 use Rattle.fish_json.specs.Reading.{record_of}
 use Rattle.fish_layout.proofs.Outlines.{body_length}
 use Rattle.fish_layout.specs.Body.{IsBody}
@@ -12,11 +11,11 @@ use Rattle.fish_walk.proofs.tests.record_words.Goals as goal
 pub returns : goal.returns
 unfolding is_record
 returns c =
-    let text : List ℕ = c.in_ok-payload.payload in
-    let p : BodyParts = record { form = Json; lane = c.args.lane; version = 0; number = c.args.number; keys = c.new-2.result; payload = text } in
+    let text : List ℕ = c.args.payload in
+    let p : BodyParts = record { form = Json; lane = c.args.lane; version = 0; number = c.args.number; keys = c.new.result; payload = text } in
     let lane = c.requires.lane in
     let number = c.requires.number in
-    let keys : p.keys ≡ [] = c.new-2.ensures in
+    let keys : p.keys ≡ [] = c.new.ensures in
     let bytes : c.as_bytes.result.now ≡ text = c.as_bytes.ensures.value in
     let long = c.if-as_bytes-gt524288.false in
     let is : IsBody p c.in_ok-body.body = record {
@@ -34,5 +33,5 @@ returns c =
     let size = body_length is in
     let len = c.len.ensures in
     let same = c.if-len-lines.false in
-    let read = subst (λ (z : List ℕ). is_some (record_of z) ≡ true) c.as_bytes-2.ensures.value (ap is_some c.in_ok-read.ensures.ok) in
+    let read = subst (λ (z : List ℕ). is_some (record_of z) ≡ true) c.as_bytes-2.ensures.value (ap is_some c.in-Ok.ensures.ok) in
     (p, record { lane_is = refl; number_is = refl; lines_is = omega arith; version = refl; keys = keys; reads = read }, is)
