@@ -1,17 +1,21 @@
 -- Every step keeps the rule, and so does every list of steps.
-use Rattle.std.proofs.Common.{◌≡◌, ◌≢◌, ℕ, ◌+◌, ◌-◌, ◌*◌, ◌<◌, ◌≤◌, zero, suc, List, [], ◌∷◌, ◌++◌, length, set, sym, refl, ap, ◌∙◌, subst}
+use Rattle.std.proofs.Common.{◌≡◌, ◌≢◌, ℕ, ◌+◌, ◌-◌, ◌*◌, ◌<◌, ◌≤◌, ◌⊎◌, ⊎_elim, zero, suc, List, [], ◌∷◌, ◌++◌, length, set, sym, refl, ap, ◌∙◌, subst}
 use mathlib.Core.Option.{some}
 use Rattle.std.proofs.Math.ListN.{get_elem?}
+use Rattle.fish_rule.proofs.Aims.{aim_kept, aim_lasts}
 use Rattle.fish_rule.proofs.Begins.{empty_rule}
 use Rattle.fish_rule.proofs.Claims.{claim_kept, claim_lasts}
 use Rattle.fish_rule.proofs.Flights.{publisher_at}
+use Rattle.fish_rule.proofs.Heads.{head_kept, head_lasts, previous_kept, previous_lasts}
 use Rattle.fish_rule.proofs.Learns.{end_kept, end_lasts, lines_at, look_kept, look_lasts, settled_kept, settled_lasts}
 use Rattle.fish_rule.proofs.Loads.{read_kept, read_lasts}
 use Rattle.fish_rule.proofs.Fills.{store_kept, store_lasts}
 use Rattle.fish_rule.proofs.Publishes.{publish_kept, publish_lasts}
 use Rattle.fish_rule.proofs.Settles.{raise_kept, raise_lasts}
+use Rattle.fish_rule.proofs.Splices.{splice_kept, splice_lasts}
+use Rattle.fish_rule.proofs.Swings.{swing_kept, swing_lasts}
 use Rattle.fish_rule.proofs.Seating.{join_kept, join_lasts, split_kept, split_lasts}
-use Rattle.fish_rule.specs.Machine.{Event, EverySchedule, EveryStepIsFinal, Goes, Runs, claims, ends, joins, looks, publishes, raises, reads, settles, splits, stores}
+use Rattle.fish_rule.specs.Machine.{Event, EverySchedule, EveryStepIsFinal, Exchanged, Goes, Runs, aims, claims, ends, heads, joins, looks, previouses, publishes, raises, reads, settles, splices, splits, stores, swings}
 use Rattle.fish_rule.specs.Parts.{Fits}
 use Rattle.fish_rule.specs.Regions.{dir_word, kind_of}
 use Rattle.fish_rule.specs.Rule.{Final, Rule}
@@ -29,6 +33,13 @@ Lasts k w r u = (s : Rule k u) × Final k r.start s.start r.lane_of s.lane_of w 
 -- the same where the world is known by an equation
 lasts_at : (k : Key) (w : World) (r : Rule k w) (u u' : World) → u ≡ u' → Lasts k w r u' → Lasts k w r u
 lasts_at k w r u u' e h = subst (Lasts k w r) (sym e) h
+
+-- and after an exchange, of either outcome
+exchange_lasts : (k : Key) (w : World) (r : Rule k w) (u made missed : World) (found expected : ℕ) → Exchanged found expected u made missed
+    → (found ≡ expected → Lasts k w r made) → (found ≢ expected → Lasts k w r missed) → Lasts k w r u
+exchange_lasts k w r u made missed found expected g hit miss =
+    ⊎_elim (λ (h : (found ≡ expected) × (u ≡ made)). lasts_at k w r u made h.1 (hit h.0))
+    (λ (h : (found ≢ expected) × (u ≡ missed)). lasts_at k w r u missed h.1 (miss h.0)) g
 
 -- each step keeps the rule and what lasts
 pub event_lasts : EveryStepIsFinal
@@ -51,6 +62,20 @@ event_lasts k (settles id) w u r g = (let v = g.0 in let s = g.1 in
     lasts_at k w r u _ g.2 (settled_kept k w r id v s.at, settled_lasts k w r id v s.at))
 event_lasts k (raises id m) w u r g = (let v = g.0 in let s = g.1 in
     lasts_at k w r u _ g.3 (raise_kept k w r id v s.at s.about m g.2, raise_lasts k w r id v s.at s.about m g.2))
+event_lasts k (heads id b) w u r g = (let v = g.0 in let s = g.1 in
+    lasts_at k w r u _ g.3 (head_kept k w r id v s.at b, head_lasts k w r id v s.at b))
+event_lasts k (previouses id b p) w u r g = (let v = g.0 in let s = g.1 in
+    lasts_at k w r u _ g.3 (previous_kept k w r id v s.at b p g.2, previous_lasts k w r id v s.at b p g.2))
+event_lasts k (aims id x) w u r g = (let v = g.0 in let f = g.1 in let s = g.2 in
+    lasts_at k w r u _ g.4 (aim_kept k w r id v s.at f g.3 x, aim_lasts k w r id v s.at f g.3 x))
+event_lasts k (swings id b h) w u r g = (let v = g.0 in let f = g.1 in let s = g.2 in let can = g.3 in
+    exchange_lasts k w r u _ _ (w.head b) h g.4
+    (λ e. (swing_kept k w r id v s.at s.about f b h can e, swing_lasts k w r id v s.at s.about f b h can e))
+    (λ ne. (head_kept k w r id v s.at b, head_lasts k w r id v s.at b)))
+event_lasts k (splices id b q x) w u r g = (let v = g.0 in let f = g.1 in let s = g.2 in let can = g.3 in
+    exchange_lasts k w r u _ _ (w.log q) x g.4
+    (λ e. (splice_kept k w r id v s.at s.about f b q x can e, splice_lasts k w r id v s.at s.about f b q x can e))
+    (λ ne. (previous_kept k w r id v s.at b q can.node, previous_lasts k w r id v s.at b q can.node)))
 event_lasts k (splits id l) w u r g = (let v = g.0 in let s = g.1 in
     lasts_at k w r u _ g.3 (split_kept k w r id v s.at l g.2, split_lasts k w r id v s.at l g.2))
 event_lasts k (joins id other) w u r g = (let v = g.0 in let b = g.1 in let s = g.2 in

@@ -1,7 +1,8 @@
 -- Every schedule: lists of steps of the passes on one table, in any order.
-use Rattle.std.specs.Prelude.{ℕ, ◌≡◌, ◌≢◌, ◌+◌, ◌-◌, ◌*◌, ◌<◌, ◌≤◌, suc, List, [], ◌∷◌, ◌++◌, length, max}
+use Rattle.std.specs.Prelude.{ℕ, ◌≡◌, ◌≢◌, ◌+◌, ◌-◌, ◌*◌, ◌<◌, ◌≤◌, ◌⊎◌, suc, List, [], ◌∷◌, ◌++◌, length, max}
 use mathlib.Core.Option.{some}
 use Rattle.std.proofs.Math.ListN.{get_elem?, set}
+use Rattle.fish_rule.specs.Linking.{CanAim, CanLoadHead, CanSplice, CanSwing, HasNode, after_aim, after_head, after_previous, own_place, spliced, swung}
 use Rattle.fish_rule.specs.Parts.{Fits}
 use Rattle.fish_rule.specs.Regions.{dir_word}
 use Rattle.fish_rule.specs.Rule.{Final, Rule}
@@ -24,6 +25,11 @@ pub data Event : Type 0 where
   ends : ℕ → Event
   settles : ℕ → Event
   raises : ℕ → ℕ → Event
+  heads : ℕ → ℕ → Event
+  previouses : ℕ → ℕ → ℕ → Event
+  aims : ℕ → ℕ → Event
+  swings : ℕ → ℕ → ℕ → Event
+  splices : ℕ → ℕ → ℕ → ℕ → Event
   splits : ℕ → ℕ → Event
   joins : ℕ → ℕ → Event
 
@@ -35,6 +41,10 @@ pub record Seated (k : Key) (w : World) (id : ℕ) (v : View) : Type 0 where
 -- the region of number n has so many lines
 abbrev pub HasLines : Key → World → ℕ → ℕ → Type 0
 HasLines k w n lines = (r : Rule k w) → lines ≡ r.start (suc n) - r.start n
+
+-- an exchange leads to the first world where the word was as expected, and else to the second
+abbrev pub Exchanged : ℕ → ℕ → World → World → World → Type 0
+Exchanged found expected u made missed = ((found ≡ expected) × (u ≡ made)) ⊎ ((found ≢ expected) × (u ≡ missed))
 
 -- the world goes by a step to another
 abbrev pub Goes : Key → World → Event → World → Type 0
@@ -53,6 +63,15 @@ Goes k w (ends id) u = (v : View) × (x : ℕ) × Seated k w id v × (high x ≡
 Goes k w (settles id) u = (v : View) × Seated k w id v × (u ≡ record w { views = set w.views id (after_settled v w.settled) })
 Goes k w (raises id m) u = (v : View) × Seated k w id v × CanRaise v m
     × (u ≡ record w { settled = max w.settled m; views = set w.views id (after_raise v m w.settled) })
+Goes k w (heads id b) u = (v : View) × Seated k w id v × CanLoadHead v b × (u ≡ record w { views = set w.views id (after_head v b (w.head b)) })
+Goes k w (previouses id b p) u = (v : View) × Seated k w id v × HasNode v b p
+    × (u ≡ record w { views = set w.views id (after_previous v b p (w.log p)) })
+Goes k w (aims id x) u = (v : View) × (f : Flight) × Seated k w id v × CanAim v f
+    × (u ≡ record w { log = put w.log (own_place f) x; views = set w.views id (after_aim v f x) })
+Goes k w (swings id b h) u = (v : View) × (f : Flight) × Seated k w id v × CanSwing v f b h
+    × Exchanged (w.head b) h u (record w { head = put w.head b (own_place f); views = set w.views id (swung v f b) }) (record w { views = set w.views id (after_head v b (w.head b)) })
+Goes k w (splices id b q x) u = (v : View) × (f : Flight) × Seated k w id v × CanSplice v f b q x
+    × Exchanged (w.log q) x u (record w { log = put w.log q (own_place f); views = set w.views id (spliced v f b q) }) (record w { views = set w.views id (after_previous v b q (w.log q)) })
 Goes k w (splits id l) u = (v : View) × Seated k w id v × CanSplit v l
     × (u ≡ record w { views = set w.views id (split_left l v) ++ split_right l v ∷ [] })
 Goes k w (joins id other) u = (v : View) × (b : View) × Seated k w id v × (other ≢ id) × (get_elem? w.views other ≡ some b) × CanJoin v b
