@@ -1,5 +1,5 @@
 -- What a claim leaves in flight, and when it may be published at once.
-use Rattle.std.proofs.Common.{◌≡◌, ◌≢◌, ℕ, ◌+◌, ◌*◌, ◌<◌, ◌≤◌, List, [], ◌∷◌, refl, sym, ap, ◌∙◌, subst, arith, Some}
+use Rattle.std.proofs.Common.{◌≡◌, ℕ, ◌+◌, ◌<◌, ◌≤◌, refl, sym, ap, ◌∙◌, subst, arith, Some}
 use Rattle.fish_claim.specs.Claims.{IsClaimed, answer_of, claimed_view}
 use Rattle.fish_claim.specs.declared.claimed.Claimed.{Claimed}
 use Rattle.fish_layout.specs.Header.{void_word}
@@ -15,7 +15,7 @@ use Rattle.fish_rule.specs.declared.table.Region.{Region}
 use Rattle.fish_rule.specs.declared.view.Flight.{Flight}
 use Rattle.fish_rule.specs.declared.view.Key.{Key}
 use Rattle.fish_rule.specs.declared.view.Kind.{Kind}
-use Rattle.fish_rule.specs.declared.view.Kind.TheVariants.{Mark, Stored, Void}
+use Rattle.fish_rule.specs.declared.view.Kind.TheVariants.{Mark, Void}
 use Rattle.fish_rule.specs.declared.view.View.{View}
 
 module _ (v u : View) (lines n a : ℕ) (is : u ≡ after_claim v lines n a) where

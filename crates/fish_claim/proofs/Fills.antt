@@ -1,5 +1,5 @@
 -- The words of a record go into its region one by one.
-use Rattle.std.proofs.Common.{◌≡◌, ◌≢◌, ℕ, ◌+◌, ◌*◌, ◌<◌, ◌≤◌, suc, List, [], ◌∷◌, ◌++◌, length, get_or, take, refl, sym, ap, ◌∙◌, subst, arith, Some, Option, add-one, add-zero, length-append}
+use Rattle.std.proofs.Common.{◌≡◌, ℕ, ◌+◌, ◌<◌, ◌≤◌, suc, List, [], ◌∷◌, ◌++◌, length, get_or, take, refl, sym, ap, ◌∙◌, subst, arith, Some, Option, add-one, add-zero, length-append}
 use Rattle.std.proofs.Math.Seq.{take-suc}
 use Rattle.fish_claim.specs.Fills.{CanFill, filled_view}
 use Rattle.fish_layout.proofs.Clearing.{cleared_head}
@@ -7,8 +7,7 @@ use Rattle.fish_layout.specs.Cleared.{body_of}
 use Rattle.fish_layout.specs.Header.{keys_of}
 use Rattle.fish_rule.proofs.Bodies.{kind-inside}
 use Rattle.fish_rule.specs.Flying.{region_in, region_of}
-use Rattle.fish_rule.specs.Regions.{kind_of}
-use Rattle.fish_rule.specs.Steps.{CanPublish, CanStore, IsReady, after_store, flight_kind}
+use Rattle.fish_rule.specs.Steps.{CanPublish, CanStore, IsReady, after_store}
 use Rattle.fish_rule.specs.declared.table.Region.{Region}
 use Rattle.fish_rule.specs.declared.view.Flight.{Flight}
 use Rattle.fish_rule.specs.declared.view.Kind.{Kind}

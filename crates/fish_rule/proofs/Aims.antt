@@ -1,5 +1,5 @@
 -- A store of the first word of the own entry that is next to be linked.
-use Rattle.std.proofs.Common.{◌≡◌, ◌≢◌, ℕ, ◌+◌, ◌-◌, ◌*◌, ◌%◌, ◌<◌, ◌≤◌, suc, List, length, get_or, set, sym, refl, ap, ◌∙◌, subst, arith, Some, get_or-set_other, get_or-set_same, length-set}
+use Rattle.std.proofs.Common.{◌≡◌, ℕ, ◌+◌, ◌-◌, ◌*◌, ◌%◌, ◌<◌, ◌≤◌, length, set, sym, refl, ap, ◌∙◌, subst, arith, get_or-set_other, get_or-set_same, length-set}
 use mathlib.Core.Option.{none, some}
 use Rattle.std.proofs.Math.ListN.{get_elem?}
 use Rattle.std.proofs.lemmas.Nat.{mod-mul-add}
@@ -14,13 +14,12 @@ use Rattle.fish_rule.proofs.Bounds.{starts_above}
 use Rattle.fish_rule.proofs.Flights.{one_flight}
 use Rattle.fish_rule.proofs.OwnWords.{Becomes, flight_is, write_kept, write_lasts}
 use Rattle.fish_rule.proofs.Worlds.{world-log}
-use Rattle.fish_rule.specs.Linking.{CanAim, after_aim, aimed_at, own_place, told_aim}
-use Rattle.fish_rule.specs.Parts.{InFlight, IsLinkedWord}
-use Rattle.fish_rule.specs.Regions.{kind_of}
+use Rattle.fish_rule.specs.Linking.{CanAim, after_aim, own_place, told_aim}
+use Rattle.fish_rule.specs.Parts.{InFlight}
 use Rattle.fish_rule.specs.Rule.{Final, Rule}
 use Rattle.fish_rule.specs.Steps.{ticked}
 use Rattle.fish_rule.specs.Table.{Ruled, Sat, Stands}
-use Rattle.fish_rule.specs.World.{World, body, log_at, log_size, put, total, world}
+use Rattle.fish_rule.specs.World.{World, body, log_at, log_size, put, world}
 use Rattle.fish_rule.specs.declared.view.Flight.{Flight}
 use Rattle.fish_rule.specs.declared.view.Key.{Key}
 use Rattle.fish_rule.specs.declared.view.Kind.TheVariants.{Mark, Stored}

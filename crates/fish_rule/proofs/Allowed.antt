@@ -1,16 +1,15 @@
 -- From what each step keeps of a world to what the table allows.
-use Rattle.std.proofs.Common.{◌≡◌, ◌≢◌, ℕ, ◌+◌, ◌-◌, ◌*◌, ◌/◌, ◌%◌, ◌^◌, ◌<◌, ◌≤◌, zero, suc, List, [], ◌∷◌, length, get_or, set, sym, refl, ap, ◌∙◌, subst, arith, Some, None, Option, Bool, length-set}
+use Rattle.std.proofs.Common.{◌≡◌, ℕ, ◌+◌, ◌-◌, ◌*◌, ◌%◌, ◌^◌, ◌<◌, ◌≤◌, suc, List, length, get_or, set, sym, refl, ap, ◌∙◌, subst, arith, length-set}
 use Rattle.std.proofs.lemmas.List.{set-get_or}
-use Rattle.std.proofs.lemmas.Nat.{div-add-mod'}
 use mathlib.Core.Option.{some, none}
 use Rattle.std.proofs.Math.ListN.{get_elem?}
 use Rattle.atomic_table.proofs.Lists.{set_here}
-use Rattle.atomic_table.specs.Table.{Allows, State, keeps, step, stepped}
+use Rattle.atomic_table.specs.Table.{Allows, keeps, step}
 use Rattle.fish_rule.proofs.Bodies.{high-pack, low-pack, tail_is}
-use Rattle.fish_rule.proofs.Bounds.{ends_within, starts_above}
+use Rattle.fish_rule.proofs.Bounds.{starts_above}
 use Rattle.fish_rule.proofs.Claims.{claim_kept}
-use Rattle.fish_rule.proofs.Common.{all_among, within_list}
-use Rattle.fish_rule.proofs.Learns.{end_counted, end_settled, end_kept, end_rests, learns, lines_at, look_alone, look_kept, look_known}
+use Rattle.fish_rule.proofs.Common.{within_list}
+use Rattle.fish_rule.proofs.Learns.{end_counted, end_settled, end_kept, end_rests, lines_at, look_alone, look_kept, look_known}
 use Rattle.fish_rule.proofs.Fills.{store_kept, stored_place}
 use Rattle.fish_rule.proofs.OwnWords.{flight_is}
 use Rattle.fish_rule.proofs.Publishes.{publish_kept}
@@ -20,7 +19,7 @@ use Rattle.fish_rule.specs.Regions.{dir_word, kind_of}
 use Rattle.fish_rule.specs.Rule.{Rule}
 use Rattle.fish_rule.specs.Steps.{CanClaim, CanLook, CanPublish, CanStore, after_claim, after_end, after_look, after_publish, after_store, flight_kind}
 use Rattle.fish_rule.specs.Table.{Ruled, Sat, Stands, Told, ToldEnd, ToldLook, number_at, told_claim, told_publish, told_store}
-use Rattle.fish_rule.specs.World.{World, dir_at, high, log_at, log_size, low, put, slots, total, world}
+use Rattle.fish_rule.specs.World.{World, dir_at, high, log_at, low, put, slots, total, world}
 use Rattle.fish_rule.specs.declared.view.Flight.{Flight}
 use Rattle.fish_rule.specs.declared.view.Key.{Key}
 use Rattle.fish_rule.specs.declared.view.View.{View}

@@ -1,14 +1,14 @@
 -- Packed words, kinds of regions, and the bodies of regions that are stored word by word.
-use Rattle.std.proofs.Common.{◌≡◌, ◌≢◌, ℕ, ◌+◌, ◌-◌, ◌*◌, ◌/◌, ◌%◌, ◌<◌, ◌≤◌, zero, suc, List, [], ◌∷◌, length, get_or, sym, refl, ap, ◌∙◌, subst, inl, inr, ◌⊎◌, ⊎_elim, arith, Some, None, Option}
+use Rattle.std.proofs.Common.{◌≡◌, ◌≢◌, ℕ, ◌+◌, ◌-◌, ◌*◌, ◌/◌, ◌%◌, ◌<◌, ◌≤◌, List, length, get_or, sym, refl, ap, ◌∙◌, subst, arith}
 use Rattle.std.proofs.Math.Decide.{ℕ_discrete, dec_lt, dec_le}
 use Rattle.std.proofs.lemmas.Nat.{div-add-mod', div-mul-add, mod-mul-add}
 use Rattle.fish_layout.proofs.Clearing.{choose_first, choose_second, cleared_at, cleared_behind, cleared_head, cleared_same}
 use Rattle.fish_layout.proofs.Headers.{keys_of-void, lines_of-void}
 use Rattle.fish_layout.proofs.Spelled.{spelled_lines}
-use Rattle.fish_layout.specs.Cleared.{IsKeyWord, body_of, cleared, entry_at}
+use Rattle.fish_layout.specs.Cleared.{IsKeyWord, body_of, cleared}
 use Rattle.fish_layout.specs.Header.{keys_of, lines_of, void_word}
 use Rattle.fish_rule.specs.Parts.{IsLinkedWord}
-use Rattle.fish_rule.specs.Regions.{IsRecord, code, dir_word, kind_of, kind_within, void_body}
+use Rattle.fish_rule.specs.Regions.{IsRecord, code, kind_of, kind_within, void_body}
 use Rattle.fish_rule.specs.World.{body, high, low}
 use Rattle.fish_rule.specs.declared.view.Kind.{Kind}
 use Rattle.fish_rule.specs.declared.view.Kind.TheVariants.{Mark, Stored, Void}

@@ -1,6 +1,6 @@
 -- Regions follow one another, so two of them share no line.
-use Rattle.std.proofs.Common.{◌≡◌, ◌≢◌, ℕ, ◌+◌, ◌-◌, ◌*◌, ◌<◌, ◌≤◌, zero, suc, sym, refl, ap, ◌∙◌, subst, inl, inr, ◌⊎◌, ⊎_elim, arith}
-use Rattle.std.proofs.Math.Decide.{dec_lt, dec_le, ℕ_discrete}
+use Rattle.std.proofs.Common.{◌≡◌, ◌≢◌, ℕ, ◌+◌, ◌-◌, ◌*◌, ◌<◌, ◌≤◌, zero, suc, subst, inl, inr, ◌⊎◌, ⊎_elim, arith}
+use Rattle.std.proofs.Math.Decide.{dec_lt, ℕ_discrete}
 use Rattle.fish_rule.specs.Parts.{Regions}
 use Rattle.fish_rule.specs.declared.view.Key.{Key}
 

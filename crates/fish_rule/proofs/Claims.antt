@@ -1,11 +1,9 @@
 -- A claim: the tail moves on by one number and so many lines, and the region between is in flight.
-use Rattle.std.proofs.Common.{◌≡◌, ◌≢◌, ℕ, ◌+◌, ◌-◌, ◌*◌, ◌<◌, ◌≤◌, zero, suc, List, [], ◌∷◌, length, get_or, set, sym, refl, ap, ◌∙◌, subst, inl, inr, ◌⊎◌, ⊎_elim, arith, Some, None, Option}
-use Rattle.std.specs.Prelude.{⊤}
-use Rattle.std.proofs.Math.Decide.{ℕ_discrete, dec_lt, dec_le}
+use Rattle.std.proofs.Common.{◌≡◌, ◌≢◌, ℕ, ◌+◌, ◌*◌, ◌<◌, ◌≤◌, suc, set, sym, refl, ap, ◌∙◌, subst, arith, Some, None, Option}
+use Rattle.std.proofs.Math.Decide.{ℕ_discrete, dec_lt}
 use mathlib.Core.Option.{some}
 use Rattle.std.proofs.Math.ListN.{get_elem?}
 use Rattle.atomic_table.proofs.Lists.{set_here}
-use Rattle.fish_rule.proofs.Bounds.{ends_within}
 use Rattle.fish_rule.proofs.Common.{each_set, has_own, no_flight, only_main, pairs_set, seats_kept, within_list}
 use Rattle.fish_rule.proofs.Frames.{flight_there}
 use Rattle.fish_rule.proofs.Kept.{chained_later, facts_later, finished_later, flight_later, owns_later, published, shut_later}
@@ -13,16 +11,14 @@ use Rattle.fish_rule.proofs.Links.{chains_set, links_set}
 use Rattle.fish_rule.proofs.Quotas.{quotas_lower}
 use Rattle.fish_rule.proofs.Worlds.{put-else, put-here}
 use Rattle.fish_rule.specs.Chains.{LinksAt}
-use Rattle.fish_rule.specs.Parts.{Facts, Flies, InFlight, IsFinished, IsStoredBy, Limit, MayOverflow, Owns, Regions, Rests, ShutOk, Space, quotas}
-use Rattle.fish_rule.specs.Regions.{code}
+use Rattle.fish_rule.specs.Parts.{Flies, InFlight, IsStoredBy, Limit, MayOverflow, Regions, Space, quotas}
 use Rattle.fish_rule.specs.Rule.{Final, Rule}
 use Rattle.fish_rule.specs.Steps.{CanClaim, after_claim, flight_at}
-use Rattle.fish_rule.specs.Views.{Each, Has, HasFlight, IsFlightOf, IsOver}
-use Rattle.fish_rule.specs.World.{World, body, put}
+use Rattle.fish_rule.specs.Views.{Has, HasFlight, IsFlightOf, IsOver}
+use Rattle.fish_rule.specs.World.{World, put}
 use Rattle.fish_rule.specs.declared.view.Flight.{Flight}
 use Rattle.fish_rule.specs.declared.view.Key.{Key}
 use Rattle.fish_rule.specs.declared.view.Kind.TheVariants.{Stored}
-use Rattle.fish_rule.specs.declared.view.Shut.{Shut}
 use Rattle.fish_rule.specs.declared.view.View.{View}
 
 module _ (k : Key) (w : World) (r : Rule k w) (id : ℕ) (v : View) (at : get_elem? w.views id ≡ some v) (m : ℕ) (can : CanClaim v) (some_lines : 0 < m) (few_lines : m ≤ 18625) where

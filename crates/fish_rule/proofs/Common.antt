@@ -1,11 +1,10 @@
 -- Lists of views, one of which changes, and facts about lists.
-use Rattle.std.proofs.Common.{◌≡◌, ◌≢◌, ℕ, ◌<◌, ◌≤◌, zero, suc, List, [], ◌∷◌, ◌++◌, length, set, sym, refl, ap, ◌∙◌, subst, inl, inr, ◌⊎◌, ⊎_elim, arith, Some, None, Option}
-use Rattle.std.specs.Prelude.{⊤}
+use Rattle.std.proofs.Common.{◌≡◌, ◌≢◌, ℕ, ◌<◌, ◌≤◌, zero, suc, List, [], ◌∷◌, ◌++◌, length, set, sym, refl, subst, inl, inr, ◌⊎◌, ⊎_elim, arith, None, Option}
 use mathlib.Core.Option.{some, some-ne-none}
 use Rattle.std.proofs.Math.ListN.{get_elem?}
-use Rattle.atomic_table.proofs.Lists.{at_set, at_snoc, set_here, set_else}
+use Rattle.atomic_table.proofs.Lists.{at_set, at_snoc}
 use Rattle.fish_rule.specs.Parts.{Seats}
-use Rattle.fish_rule.specs.Views.{AllOf, Among, Each, Has, HasFlight, IsFlightOf}
+use Rattle.fish_rule.specs.Views.{AllOf, Among, Each, Has, IsFlightOf}
 use Rattle.fish_rule.specs.declared.view.Flight.{Flight}
 use Rattle.fish_rule.specs.declared.view.View.{View}
 

@@ -1,27 +1,25 @@
 -- What the words that were read of a region say of the entry there.
-use Rattle.std.proofs.Common.{◌≡◌, ◌≢◌, ℕ, ◌+◌, ◌-◌, ◌*◌, ◌<◌, ◌≤◌, suc, List, length, get_or, refl, sym, ap, ◌∙◌, subst, arith}
+use Rattle.std.proofs.Common.{◌≡◌, ◌≢◌, ℕ, ◌+◌, ◌-◌, ◌*◌, ◌<◌, ◌≤◌, suc, List, get_or, sym, ap, ◌∙◌, subst, arith}
 use mathlib.Core.Option.{some}
 use Rattle.std.proofs.Math.ListN.{get_elem?}
 use Rattle.fish_layout.proofs.Clearing.{cleared_at, cleared_head, cleared_same}
 use Rattle.fish_layout.proofs.Spelled.{body_spelled}
-use Rattle.fish_layout.specs.Body.{IsBody, body_lines}
+use Rattle.fish_layout.specs.Body.{IsBody}
 use Rattle.fish_layout.specs.Cleared.{IsKeyWord, Spells, body_of, unlinked}
 use Rattle.fish_layout.specs.Header.{keys_of, lines_of}
 use Rattle.fish_layout.specs.declared.parts.BodyParts.{BodyParts}
-use Rattle.fish_catalog.specs.declared.entry.Entry.{Entry}
 use Rattle.fish_catalog.specs.declared.entry.Entry.TheVariants as entry
 use Rattle.fish_rule.proofs.Common.{all_among}
-use Rattle.fish_rule.proofs.Loads.{head_known, lines_found, region_found, word_known}
-use Rattle.fish_rule.proofs.Words.{head_plain, head_read}
-use Rattle.fish_rule.specs.Logs.{HasWords, IsEntry, IsStoredEntry, Learns, Tells}
+use Rattle.fish_rule.proofs.Loads.{lines_found, region_found, word_known}
+use Rattle.fish_rule.proofs.Words.{head_plain}
+use Rattle.fish_rule.specs.Logs.{HasWords, IsEntry, Learns, Tells}
 use Rattle.fish_rule.specs.Parts.{IsFound, IsKnown}
 use Rattle.fish_rule.specs.Regions.{Holds, IsRecord, IsRecordOf}
 use Rattle.fish_rule.specs.Rule.{Rule}
 use Rattle.fish_rule.specs.Table.{Stands}
 use Rattle.fish_rule.specs.Views.{Among}
-use Rattle.fish_rule.specs.World.{World, body, high, low}
+use Rattle.fish_rule.specs.World.{World, body}
 use Rattle.fish_rule.specs.declared.view.Found.{Found}
-use Rattle.fish_rule.specs.declared.view.Key.{Key}
 use Rattle.fish_rule.specs.declared.view.Kind.{Kind}
 use Rattle.fish_rule.specs.declared.view.Kind.TheVariants.{Mark, Stored, Void}
 use Rattle.fish_rule.specs.declared.view.View.{View}

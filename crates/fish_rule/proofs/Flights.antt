@@ -1,6 +1,5 @@
 -- The record in flight of a view.
-use Rattle.std.proofs.Common.{◌≡◌, ℕ, ◌+◌, ap, Some, None, Option}
-use Rattle.fish_rule.specs.Regions.{kind_of}
+use Rattle.std.proofs.Common.{◌≡◌, ap, Some, None, Option}
 use Rattle.fish_rule.specs.Steps.{flight_kind, learned_after, own_after, shut_after, ticked}
 use Rattle.fish_rule.specs.declared.view.Flight.{Flight}
 use Rattle.fish_rule.specs.declared.view.Key.{Key}

@@ -1,14 +1,12 @@
 -- What one pass's step leaves of the facts about several views at once.
-use Rattle.std.proofs.Common.{◌≡◌, ◌≢◌, ℕ, ◌+◌, ◌<◌, ◌≤◌, zero, suc, List, [], ◌∷◌, length, set, sym, refl, ap, ◌∙◌, subst, inl, inr, ◌⊎◌, ⊎_elim, arith, Some, None, Option}
+use Rattle.std.proofs.Common.{◌≡◌, ℕ, List, set, sym, refl, ◌∙◌, subst}
 use Rattle.std.proofs.Math.Decide.{ℕ_discrete}
 use mathlib.Core.Option.{some, some-injective}
 use Rattle.std.proofs.Math.ListN.{get_elem?}
-use Rattle.atomic_table.proofs.Lists.{at_set, set_here, set_else}
-use Rattle.fish_rule.proofs.Common.{each_set, no_flight, pairs_set, within_list}
+use Rattle.atomic_table.proofs.Lists.{set_here, set_else}
+use Rattle.fish_rule.proofs.Common.{each_set, pairs_set, within_list}
 use Rattle.fish_rule.specs.Parts.{MayOverflow}
-use Rattle.fish_rule.specs.Views.{Each, Has, HasFlight, IsFlightOf, IsOver}
-use Rattle.fish_rule.specs.declared.view.Flight.{Flight}
-use Rattle.fish_rule.specs.declared.view.Shut.{Shut}
+use Rattle.fish_rule.specs.Views.{Each, Has, HasFlight, IsFlightOf}
 use Rattle.fish_rule.specs.declared.view.View.{View}
 
 -- one place of a list has one view

@@ -1,24 +1,23 @@
 -- Loads of heads and of first words of linked entries.
-use Rattle.std.proofs.Common.{◌≡◌, ◌≢◌, ℕ, ◌+◌, ◌-◌, ◌*◌, ◌<◌, ◌≤◌, zero, suc, List, [], ◌∷◌, length, get_or, set, sym, refl, ap, ◌∙◌, subst, inl, inr, ◌⊎◌, ⊎_elim, arith, Some, None, Option}
+use Rattle.std.proofs.Common.{◌≡◌, ◌≢◌, ℕ, ◌+◌, ◌-◌, ◌*◌, ◌<◌, ◌≤◌, zero, suc, List, get_or, set, sym, refl, ap, ◌∙◌, subst, ⊎_elim, arith}
 use mathlib.Core.Option.{none, some}
 use Rattle.std.proofs.Math.ListN.{get_elem?}
 use Rattle.atomic_table.specs.Table.{Allows, step}
 use Rattle.fish_rule.proofs.Allowed.{allowed, loaded_words, stands, there}
 use Rattle.fish_rule.proofs.Common.{all_among}
 use Rattle.fish_rule.proofs.Learns.{learn_final, learns, still_chained}
-use Rattle.fish_rule.proofs.Links.{lies_inside, links_set, one_chain, spot}
-use Rattle.fish_rule.proofs.Bounds.{ends_within, starts_above}
+use Rattle.fish_rule.proofs.Links.{lies_inside, spot}
+use Rattle.fish_rule.proofs.Bounds.{starts_above}
 use Rattle.fish_rule.proofs.Bodies.{kind-inside}
 use Rattle.fish_rule.proofs.Worlds.{area-in}
-use Rattle.fish_rule.specs.Chains.{Chained, IsLow, Linked}
-use Rattle.fish_rule.specs.Linking.{CanLoadHead, HasNode, LowRises, ToldHead, ToldPrevious, TopRises, after_head, after_previous, bucket_at, learned_head, learned_previous, with_node}
+use Rattle.fish_rule.specs.Chains.{IsLow, Linked}
+use Rattle.fish_rule.specs.Linking.{CanLoadHead, HasNode, LowRises, ToldHead, ToldPrevious, TopRises, after_head, after_previous, bucket_at, with_node}
 use Rattle.fish_rule.specs.Rule.{Final, Rule}
 use Rattle.fish_rule.specs.Table.{Ruled, Sat, Told, place_at}
-use Rattle.fish_rule.specs.Views.{AllOf, Among}
-use Rattle.fish_rule.specs.World.{World, heads_at, log_at, log_size, total, world}
+use Rattle.fish_rule.specs.Views.{AllOf}
+use Rattle.fish_rule.specs.World.{World, heads_at, log_at, log_size, world}
 use Rattle.fish_rule.specs.declared.view.Key.{Key}
 use Rattle.fish_rule.specs.declared.view.Kind.TheVariants.{Mark, Stored}
-use Rattle.fish_rule.specs.declared.view.Known.{Known}
 use Rattle.fish_rule.specs.declared.view.Node.{Node}
 use Rattle.fish_rule.specs.declared.view.View.{View}
 

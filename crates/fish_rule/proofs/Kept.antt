@@ -1,12 +1,12 @@
 -- What a step leaves: the facts that stand after it because nothing that they speak of has changed.
-use Rattle.std.proofs.Common.{◌≡◌, ◌≢◌, ℕ, ◌+◌, ◌-◌, ◌*◌, ◌<◌, ◌≤◌, zero, suc, List, length, sym, refl, ap, ◌∙◌, subst, inl, inr, ◌⊎◌, ⊎_elim, arith, Some, None, Option}
+use Rattle.std.proofs.Common.{◌≡◌, ◌≢◌, ℕ, ◌+◌, ◌-◌, ◌*◌, ◌<◌, ◌≤◌, suc, List, sym, refl, ap, ◌∙◌, subst, arith, Some, None, Option}
 use Rattle.fish_layout.specs.Header.{lines_of}
 use Rattle.fish_rule.proofs.Common.{all_map}
-use Rattle.fish_rule.specs.Chains.{Chained, IsLow, Linked}
-use Rattle.fish_rule.specs.Parts.{Facts, Flies, InFlight, IsFinished, IsFound, IsKnown, IsRecorded, IsShut, IsStoredBy, Owns, ShutOk, Whole}
+use Rattle.fish_rule.specs.Chains.{Chained, IsLow}
+use Rattle.fish_rule.specs.Parts.{Facts, InFlight, IsFinished, IsFound, IsKnown, IsRecorded, IsStoredBy, Owns, ShutOk, Whole}
 use Rattle.fish_rule.specs.Regions.{Holds, code, kind_of}
 use Rattle.fish_rule.specs.Rule.{Final}
-use Rattle.fish_rule.specs.Views.{Among, Has}
+use Rattle.fish_rule.specs.Views.{Has}
 use Rattle.fish_rule.specs.World.{World, body, high, low}
 use Rattle.fish_rule.specs.declared.view.Flight.{Flight}
 use Rattle.fish_rule.specs.declared.view.Found.{Found}

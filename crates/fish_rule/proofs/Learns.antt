@@ -1,5 +1,5 @@
 -- Loads change no word: what one pass has learned is all that is new.
-use Rattle.std.proofs.Common.{◌≡◌, ◌≢◌, ℕ, ◌+◌, ◌-◌, ◌*◌, ◌<◌, ◌≤◌, zero, suc, List, [], ◌∷◌, length, set, sym, refl, ap, ◌∙◌, subst, inl, inr, ◌⊎◌, ⊎_elim, arith, Some, None, Option}
+use Rattle.std.proofs.Common.{◌≡◌, ◌≢◌, ℕ, ◌+◌, ◌-◌, ◌*◌, ◌<◌, ◌≤◌, zero, suc, [], set, sym, refl, ap, ◌∙◌, subst, arith, Some, None, Option}
 use mathlib.Core.Option.{some}
 use Rattle.std.proofs.Math.ListN.{get_elem?}
 use Rattle.fish_rule.proofs.Bodies.{tail_is}
@@ -8,12 +8,12 @@ use Rattle.fish_rule.proofs.Frames.{alone_kept, flight_there, may_kept, one_view
 use Rattle.fish_rule.proofs.Kept.{chained_later, published}
 use Rattle.fish_rule.proofs.Links.{chains_set, links_set}
 use Rattle.fish_rule.specs.Chains.{Chained}
-use Rattle.fish_rule.specs.Parts.{Facts, Flies, InFlight, IsFinished, IsFound, IsKnown, Owns, Rests}
+use Rattle.fish_rule.specs.Parts.{Facts, Flies, IsFound, Rests}
 use Rattle.fish_rule.specs.Regions.{code, dir_word, kind_of}
 use Rattle.fish_rule.specs.Rule.{Final, Rule}
-use Rattle.fish_rule.specs.Steps.{CanLook, CanRead, IsAlone, after_end, after_look, after_read, after_settled, found_after, kind_told}
+use Rattle.fish_rule.specs.Steps.{CanLook, IsAlone, after_end, after_look, after_settled, found_after, kind_told}
 use Rattle.fish_rule.specs.Views.{Among, Each, Has, HasFlight, IsFlightOf}
-use Rattle.fish_rule.specs.World.{World, body, high, low}
+use Rattle.fish_rule.specs.World.{World, high, low}
 use Rattle.fish_rule.specs.declared.view.Clock.{Clock}
 use Rattle.fish_rule.specs.declared.view.Flight.{Flight}
 use Rattle.fish_rule.specs.declared.view.Found.{Found}

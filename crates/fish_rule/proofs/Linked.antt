@@ -1,5 +1,5 @@
 -- What linking leaves of a view: its key, lane and shut, and the region of its record in flight.
-use Rattle.std.proofs.Common.{◌≡◌, ℕ, sym, refl, ap, ◌∙◌, Some, None, Option}
+use Rattle.std.proofs.Common.{◌≡◌, ℕ, refl, ap, Some}
 use Rattle.std.proofs.Math.Decide.{ℕ_discrete}
 use Rattle.fish_layout.specs.Cleared.{choose}
 use Rattle.fish_rule.specs.Flying.{region_in}

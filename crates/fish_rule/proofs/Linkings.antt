@@ -1,5 +1,5 @@
 -- One entry more of the record in flight is linked: what a swing and a splice share.
-use Rattle.std.proofs.Common.{◌≡◌, ◌≢◌, ℕ, ◌+◌, ◌-◌, ◌*◌, ◌<◌, ◌≤◌, zero, suc, List, length, get_or, set, sym, refl, ap, ◌∙◌, subst, inl, inr, ◌⊎◌, ⊎_elim, arith, Some, None, Option}
+use Rattle.std.proofs.Common.{◌≡◌, ◌≢◌, ℕ, ◌+◌, ◌-◌, ◌*◌, ◌<◌, ◌≤◌, suc, set, sym, refl, ap, ◌∙◌, subst, inl, inr, ◌⊎◌, ⊎_elim, arith, Some}
 use Rattle.std.proofs.Math.Decide.{dec_le, dec_lt}
 use mathlib.Core.Option.{some}
 use Rattle.std.proofs.Math.ListN.{get_elem?}
@@ -8,15 +8,15 @@ use Rattle.fish_layout.proofs.Spelled.{spelled_lines}
 use Rattle.fish_layout.specs.Bucket.{bucket_of}
 use Rattle.fish_layout.specs.Cleared.{body_of, entry_at}
 use Rattle.fish_layout.specs.Header.{keys_of, lines_of}
-use Rattle.fish_rule.proofs.Aims.{own_body, own_room}
+use Rattle.fish_rule.proofs.Aims.{own_body}
 use Rattle.fish_rule.proofs.Common.{each_set, seats_kept, within_list}
 use Rattle.fish_rule.proofs.Frames.{alone_kept, flight_there, may_kept}
-use Rattle.fish_rule.proofs.Kept.{chained_later, facts_later, finished_later, shut_later}
-use Rattle.fish_rule.proofs.Links.{Spot, linked_map, linking_from, linking_own, linking_to, spot}
+use Rattle.fish_rule.proofs.Kept.{chained_later, facts_later, finished_later}
+use Rattle.fish_rule.proofs.Links.{linked_map, linking_own, linking_to, spot}
 use Rattle.fish_rule.proofs.OwnWords.{flight_is}
 use Rattle.fish_rule.specs.Chains.{Chain, Chained, IsKeyEntry, IsLinking, IsStoredAt, Linked, LinksAt, Shows}
 use Rattle.fish_rule.specs.Linking.{CanAim, linked_once, own_place}
-use Rattle.fish_rule.specs.Parts.{Facts, Flies, InFlight, IsLinkedWord, Whole}
+use Rattle.fish_rule.specs.Parts.{Facts, Flies, InFlight}
 use Rattle.fish_rule.specs.Regions.{IsRecord, kind_of}
 use Rattle.fish_rule.specs.Rule.{Final, Rule}
 use Rattle.fish_rule.specs.Views.{IsFlightOf, IsOver}

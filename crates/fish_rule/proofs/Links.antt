@@ -1,12 +1,11 @@
 -- Linked places: which record each is of, and when a step leaves them.
-use Rattle.std.proofs.Common.{◌≡◌, ◌≢◌, ℕ, ◌+◌, ◌-◌, ◌*◌, ◌%◌, ◌<◌, ◌≤◌, zero, suc, List, length, set, sym, refl, ap, ◌∙◌, subst, inl, inr, ◌⊎◌, ⊎_elim, arith, Some, None, Option}
+use Rattle.std.proofs.Common.{◌≡◌, ◌≢◌, ℕ, ◌+◌, ◌-◌, ◌*◌, ◌<◌, ◌≤◌, suc, List, length, set, sym, refl, ap, ◌∙◌, subst, inl, inr, ◌⊎◌, ⊎_elim, arith, Some, None, Option}
 use Rattle.std.proofs.Math.Decide.{ℕ_discrete}
 use mathlib.Core.Option.{some}
 use Rattle.std.proofs.Math.ListN.{get_elem?}
 use Rattle.atomic_table.proofs.Lists.{at_set, set_else, set_here}
 use Rattle.fish_layout.proofs.Spelled.{roomy, spelled_keys, spelled_lines}
 use Rattle.fish_layout.specs.Bucket.{bucket_of}
-use Rattle.fish_layout.specs.Cleared.{entry_at}
 use Rattle.fish_layout.specs.Header.{keys_of, lines_of}
 use Rattle.fish_rule.proofs.Bodies.{body_same, code_once}
 use Rattle.fish_rule.proofs.Bounds.{one_region}
@@ -15,11 +14,10 @@ use Rattle.fish_rule.proofs.Common.{within_list}
 use Rattle.fish_rule.proofs.Frames.{one_view}
 use Rattle.fish_rule.proofs.Kept.{published}
 use Rattle.fish_rule.specs.Chains.{Chain, IsKeyEntry, IsLinking, IsStoredAt, Linked, LinksAt, Shows}
-use Rattle.fish_rule.specs.Parts.{Flies, InFlight, IsFinished, Whole}
-use Rattle.fish_rule.specs.Regions.{Holds, IsRecord, code, kind_of}
+use Rattle.fish_rule.specs.Parts.{Flies, Whole}
+use Rattle.fish_rule.specs.Regions.{Holds, IsRecord, kind_of}
 use Rattle.fish_rule.specs.Rule.{Rule}
-use Rattle.fish_rule.specs.Views.{IsFlightOf}
-use Rattle.fish_rule.specs.World.{World, body, high, low}
+use Rattle.fish_rule.specs.World.{World, body}
 use Rattle.fish_rule.specs.declared.view.Flight.{Flight}
 use Rattle.fish_rule.specs.declared.view.Key.{Key}
 use Rattle.fish_rule.specs.declared.view.Kind.{Kind}

@@ -1,23 +1,23 @@
 -- A load of a word of a published region.
-use Rattle.std.proofs.Common.{◌≡◌, ◌≢◌, ℕ, ◌+◌, ◌-◌, ◌*◌, ◌<◌, ◌≤◌, zero, suc, List, [], ◌∷◌, length, get_or, set, sym, refl, ap, ◌∙◌, subst, inl, inr, ◌⊎◌, ⊎_elim, arith, Some, None, Option}
+use Rattle.std.proofs.Common.{◌≡◌, ◌≢◌, ℕ, ◌+◌, ◌-◌, ◌*◌, ◌<◌, suc, get_or, set, sym, refl, ap, ◌∙◌, subst, ⊎_elim, arith}
 use mathlib.Core.Option.{none, some}
 use Rattle.std.proofs.Math.ListN.{get_elem?}
 use Rattle.atomic_table.specs.Table.{Allows, step}
 use Rattle.fish_layout.proofs.Clearing.{cleared_at, cleared_head}
 use Rattle.fish_layout.proofs.Headers.{lines_of-void}
 use Rattle.fish_layout.proofs.Spelled.{spelled_lines}
-use Rattle.fish_layout.specs.Cleared.{IsKeyWord, cleared}
+use Rattle.fish_layout.specs.Cleared.{IsKeyWord}
 use Rattle.fish_layout.specs.Header.{keys_of, lines_of}
 use Rattle.fish_rule.proofs.Allowed.{allowed, loaded_words, stands, there}
 use Rattle.fish_rule.proofs.Bodies.{code_once, kind-inside, void-head}
-use Rattle.fish_rule.proofs.Bounds.{ends_within, one_region, starts_above}
+use Rattle.fish_rule.proofs.Bounds.{one_region, starts_above}
 use Rattle.fish_rule.proofs.Common.{all_among}
 use Rattle.fish_rule.proofs.Kept.{published}
 use Rattle.fish_rule.proofs.Learns.{learns, still_chained}
 use Rattle.fish_rule.proofs.Links.{links_set}
 use Rattle.fish_rule.proofs.Worlds.{area-in}
 use Rattle.fish_rule.specs.Parts.{Facts, IsFinished, IsFound, IsKnown}
-use Rattle.fish_rule.specs.Regions.{Holds, code, kind_of}
+use Rattle.fish_rule.specs.Regions.{Holds, kind_of}
 use Rattle.fish_rule.specs.Rule.{Final, Rule}
 use Rattle.fish_rule.specs.Steps.{CanRead, after_read}
 use Rattle.fish_rule.specs.Table.{Ruled, Sat, Told, place_at, told_read}
@@ -27,7 +27,6 @@ use Rattle.fish_rule.specs.declared.view.Found.{Found}
 use Rattle.fish_rule.specs.declared.view.Key.{Key}
 use Rattle.fish_rule.specs.declared.view.Kind.{Kind}
 use Rattle.fish_rule.specs.declared.view.Kind.TheVariants.{Mark, Stored, Void}
-use Rattle.fish_rule.specs.declared.view.Known.{Known}
 use Rattle.fish_rule.specs.declared.view.View.{View}
 
 -- the header of a region that isn't a mark tells its lines

@@ -1,9 +1,9 @@
 -- A store of a word of the region in flight that is no linked one: the next word, or an entry's own first word.
-use Rattle.std.proofs.Common.{◌≡◌, ◌≢◌, ℕ, ◌+◌, ◌-◌, ◌*◌, ◌<◌, ◌≤◌, zero, suc, List, [], ◌∷◌, ◌++◌, length, get_or, set, sym, refl, ap, ◌∙◌, subst, inl, inr, ◌⊎◌, ⊎_elim, arith, Some, None, Option}
+use Rattle.std.proofs.Common.{◌≡◌, ◌≢◌, ℕ, ◌+◌, ◌-◌, ◌*◌, ◌<◌, ◌≤◌, suc, List, length, get_or, set, sym, refl, ap, ◌∙◌, subst, inl, inr, ⊎_elim, arith, Some, None, Option}
 use Rattle.std.proofs.Math.Decide.{ℕ_discrete, dec_le}
 use mathlib.Core.Option.{some}
 use Rattle.std.proofs.Math.ListN.{get_elem?}
-use Rattle.fish_layout.proofs.Clearing.{cleared_head, cleared_same, head_stays}
+use Rattle.fish_layout.proofs.Clearing.{cleared_head, cleared_same}
 use Rattle.fish_layout.proofs.Spelled.{spelled_lines}
 use Rattle.fish_layout.specs.Cleared.{IsKeyWord, entry_at}
 use Rattle.fish_layout.specs.Header.{keys_of, lines_of}
@@ -12,20 +12,18 @@ use Rattle.fish_rule.proofs.Bounds.{ends_within, one_region}
 use Rattle.fish_rule.proofs.Common.{each_set, seats_kept}
 use Rattle.fish_rule.proofs.Flights.{one_flight}
 use Rattle.fish_rule.proofs.Frames.{alone_kept, flight_there, may_kept, one_view}
-use Rattle.fish_rule.proofs.Kept.{chained_later, facts_later, finished_later, flight_later, owns_later, published, shut_later}
-use Rattle.fish_rule.proofs.Links.{IsFlier, Spot, chains_same, lies_inside, linked_map, linking_from, linking_own, linking_to, spot, which, whole_later}
+use Rattle.fish_rule.proofs.Kept.{chained_later, facts_later, finished_later, flight_later}
+use Rattle.fish_rule.proofs.Links.{IsFlier, Spot, chains_same, linked_map, linking_from, linking_own, linking_to, spot, which, whole_later}
 use Rattle.fish_rule.proofs.Worlds.{put-else, put-here}
-use Rattle.fish_rule.specs.Chains.{Chain, IsLinking, IsStoredAt, Linked, LinksAt, Shows}
-use Rattle.fish_rule.specs.Parts.{Flies, InFlight, IsLinkedWord, IsStoredBy, MayOverflow, Whole}
+use Rattle.fish_rule.specs.Chains.{IsLinking, IsStoredAt, Linked, LinksAt, Shows}
+use Rattle.fish_rule.specs.Parts.{Flies, InFlight, IsLinkedWord, Whole}
 use Rattle.fish_rule.specs.Regions.{IsRecord}
 use Rattle.fish_rule.specs.Rule.{Final, Rule}
-use Rattle.fish_rule.specs.Views.{Each, HasFlight, IsFlightOf, IsOver}
+use Rattle.fish_rule.specs.Views.{IsFlightOf, IsOver}
 use Rattle.fish_rule.specs.World.{World, body, put}
 use Rattle.fish_rule.specs.declared.view.Clock.{Clock}
 use Rattle.fish_rule.specs.declared.view.Flight.{Flight}
 use Rattle.fish_rule.specs.declared.view.Key.{Key}
-use Rattle.fish_rule.specs.declared.view.Kind.TheVariants.{Stored}
-use Rattle.fish_rule.specs.declared.view.Shut.{Shut}
 use Rattle.fish_rule.specs.declared.view.View.{View}
 
 -- what is so of the record in flight where it is known

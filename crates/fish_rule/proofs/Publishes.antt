@@ -1,5 +1,5 @@
 -- A store of the own directory word: the region in flight becomes a published one.
-use Rattle.std.proofs.Common.{◌≡◌, ◌≢◌, ℕ, ◌+◌, ◌-◌, ◌*◌, ◌<◌, ◌≤◌, zero, suc, List, [], ◌∷◌, ◌++◌, length, get_or, set, sym, refl, ap, ◌∙◌, subst, inl, inr, ◌⊎◌, ⊎_elim, arith, Some, None, Option}
+use Rattle.std.proofs.Common.{◌≡◌, ◌≢◌, ℕ, ◌+◌, ◌-◌, ◌*◌, ◌<◌, ◌≤◌, suc, List, [], ◌∷◌, length, get_or, set, sym, refl, ap, ◌∙◌, subst, inl, inr, ◌⊎◌, ⊎_elim, arith, Some, None, Option}
 use Rattle.std.proofs.Math.Decide.{ℕ_discrete}
 use mathlib.Core.Option.{some}
 use Rattle.std.proofs.Math.ListN.{get_elem?}
@@ -11,27 +11,24 @@ use Rattle.fish_layout.specs.Cleared.{body_of}
 use Rattle.fish_layout.specs.Header.{field, keys_of, lines_of, void_word}
 use Rattle.fish_rule.proofs.Bodies.{body_stored, code_once, body_void, high-pack, kind-inside, kind-mark, low-pack, mark-past, void-head}
 use Rattle.fish_rule.proofs.Bounds.{ends_within}
-use Rattle.fish_rule.proofs.Common.{all_map, among_left, among_right, among_either, each_set, has_own, seats_kept}
+use Rattle.fish_rule.proofs.Common.{among_left, among_right, among_either, each_set, has_own, seats_kept}
 use Rattle.fish_rule.proofs.Frames.{alone_kept, flight_there, may_kept, one_view}
-use Rattle.fish_rule.proofs.Kept.{chained_later, code_some, facts_later, finished_later, flight_later, owns_later, published, shut_later, stored_before, stored_later}
+use Rattle.fish_rule.proofs.Kept.{chained_later, facts_later, finished_later, flight_later, owns_later, published, shut_later, stored_later}
 use Rattle.fish_rule.proofs.Links.{chains_same, linked_counted, linking_from}
 use Rattle.fish_rule.proofs.OwnWords.{flight_is}
 use Rattle.fish_rule.proofs.Worlds.{put-else, put-here}
-use Rattle.fish_rule.specs.Chains.{IsLinking, IsStoredAt, Linked, LinksAt, Shows}
-use Rattle.fish_rule.specs.Parts.{Facts, Flies, InFlight, IsEntryWord, IsFinished, IsFound, IsRecorded, IsShut, IsStoredBy, MayOverflow, Owns, ShutOk}
+use Rattle.fish_rule.specs.Chains.{Linked, LinksAt, Shows}
+use Rattle.fish_rule.specs.Parts.{Facts, Flies, InFlight, IsEntryWord, IsFinished, IsFound, IsRecorded, IsStoredBy, MayOverflow, Owns, ShutOk}
 use Rattle.fish_rule.specs.Regions.{Holds, IsRecord, code, dir_word, kind_of, void_body}
 use Rattle.fish_rule.specs.Rule.{Final, Rule}
 use Rattle.fish_rule.specs.Steps.{IsReady, learned_after, own_after, records_after, shut_after, ticked}
-use Rattle.fish_rule.specs.Views.{AllOf, Among, Each, Has, HasFlight, IsFlightOf, IsOver}
+use Rattle.fish_rule.specs.Views.{AllOf, Among, Has, HasFlight, IsFlightOf, IsOver}
 use Rattle.fish_rule.specs.World.{World, body, high, low, put}
 use Rattle.fish_rule.specs.declared.view.Flight.{Flight}
-use Rattle.fish_rule.specs.declared.view.Found.{Found}
 use Rattle.fish_rule.specs.declared.view.Key.{Key}
 use Rattle.fish_rule.specs.declared.view.Kind.{Kind}
 use Rattle.fish_rule.specs.declared.view.Kind.TheVariants.{Mark, Stored, Void}
 use Rattle.fish_rule.specs.declared.view.Own.{Own}
-use Rattle.fish_rule.specs.declared.view.Recorded.{Recorded}
-use Rattle.fish_rule.specs.declared.view.Shut.{Shut}
 use Rattle.fish_rule.specs.declared.view.View.{View}
 
 -- the word 0 has no lines

@@ -1,5 +1,5 @@
 -- Sums of a quota over lanes.
-use Rattle.std.proofs.Common.{◌≡◌, ◌≢◌, ℕ, ◌+◌, ◌<◌, ◌≤◌, zero, suc, sym, refl, ap, ◌∙◌, subst, arith}
+use Rattle.std.proofs.Common.{◌≡◌, ℕ, ◌<◌, ◌≤◌, zero, suc, refl, ap, ◌∙◌, arith}
 use Rattle.std.proofs.Math.Decide.{ℕ_discrete}
 use Rattle.fish_rule.proofs.Worlds.{put-else, put-here}
 use Rattle.fish_rule.specs.Parts.{quotas}

@@ -1,6 +1,6 @@
 -- Numbers and lines stay within their bits of the tail word.
-use Rattle.std.proofs.Common.{◌≡◌, ◌≢◌, ℕ, ◌+◌, ◌-◌, ◌*◌, ◌<◌, ◌≤◌, zero, suc, sym, subst, arith}
-use Rattle.fish_rule.proofs.Bounds.{ends_within, starts_above, starts_near}
+use Rattle.std.proofs.Common.{◌+◌, ◌-◌, ◌<◌, ◌≤◌, arith}
+use Rattle.fish_rule.proofs.Bounds.{starts_above, starts_near}
 use Rattle.fish_rule.specs.Rule.{Rule}
 use Rattle.fish_rule.specs.World.{World}
 use Rattle.fish_rule.specs.declared.view.Key.{Key}

@@ -1,13 +1,11 @@
 -- Every step keeps the rule, and so does every list of steps.
-use Rattle.std.proofs.Common.{◌≡◌, ◌≢◌, ℕ, ◌+◌, ◌-◌, ◌*◌, ◌<◌, ◌≤◌, ◌⊎◌, ⊎_elim, zero, suc, List, [], ◌∷◌, ◌++◌, length, set, sym, refl, ap, ◌∙◌, subst}
-use mathlib.Core.Option.{some}
-use Rattle.std.proofs.Math.ListN.{get_elem?}
+use Rattle.std.proofs.Common.{◌≡◌, ◌≢◌, ℕ, ◌+◌, ⊎_elim, List, [], ◌∷◌, set, sym, refl, ap, subst}
 use Rattle.fish_rule.proofs.Aims.{aim_kept, aim_lasts}
 use Rattle.fish_rule.proofs.Begins.{empty_rule}
 use Rattle.fish_rule.proofs.Claims.{claim_kept, claim_lasts}
 use Rattle.fish_rule.proofs.Flights.{publisher_at}
 use Rattle.fish_rule.proofs.Heads.{head_kept, head_lasts, previous_kept, previous_lasts}
-use Rattle.fish_rule.proofs.Learns.{end_kept, end_lasts, lines_at, look_kept, look_lasts, settled_kept, settled_lasts}
+use Rattle.fish_rule.proofs.Learns.{end_kept, end_lasts, look_kept, look_lasts, settled_kept, settled_lasts}
 use Rattle.fish_rule.proofs.Loads.{read_kept, read_lasts}
 use Rattle.fish_rule.proofs.Fills.{store_kept, store_lasts}
 use Rattle.fish_rule.proofs.Publishes.{publish_kept, publish_lasts}
@@ -15,16 +13,13 @@ use Rattle.fish_rule.proofs.Settles.{raise_kept, raise_lasts}
 use Rattle.fish_rule.proofs.Splices.{splice_kept, splice_lasts}
 use Rattle.fish_rule.proofs.Swings.{swing_kept, swing_lasts}
 use Rattle.fish_rule.proofs.Seating.{join_kept, join_lasts, split_kept, split_lasts}
-use Rattle.fish_rule.specs.Machine.{Event, EverySchedule, EveryStepIsFinal, Exchanged, Goes, Runs, aims, claims, ends, heads, joins, looks, previouses, publishes, raises, reads, settles, splices, splits, stores, swings}
-use Rattle.fish_rule.specs.Parts.{Fits}
+use Rattle.fish_rule.specs.Machine.{Event, EverySchedule, EveryStepIsFinal, Exchanged, Runs, aims, claims, ends, heads, joins, looks, previouses, publishes, raises, reads, settles, splices, splits, stores, swings}
 use Rattle.fish_rule.specs.Regions.{dir_word, kind_of}
 use Rattle.fish_rule.specs.Rule.{Final, Rule}
 use Rattle.fish_rule.specs.Start.{empty_world}
-use Rattle.fish_rule.specs.Steps.{after_look, after_publish, flight_kind}
+use Rattle.fish_rule.specs.Steps.{after_look, flight_kind}
 use Rattle.fish_rule.specs.World.{World, put}
-use Rattle.fish_rule.specs.declared.view.Flight.{Flight}
 use Rattle.fish_rule.specs.declared.view.Key.{Key}
-use Rattle.fish_rule.specs.declared.view.View.{View}
 
 -- the world after a step meets the rule, and what lasts has lasted
 abbrev Lasts : (k : Key) (w : World) → Rule k w → World → Type 0

@@ -1,5 +1,5 @@
 -- A compare-and-exchange on the first word of a linked entry that is above the own one.
-use Rattle.std.proofs.Common.{◌≡◌, ◌≢◌, ℕ, ◌+◌, ◌-◌, ◌*◌, ◌%◌, ◌<◌, ◌≤◌, suc, List, [], ◌∷◌, length, get_or, set, sym, refl, ap, ◌∙◌, subst, inl, inr, ◌⊎◌, ⊎_elim, arith, Some, None, Option, eqb}
+use Rattle.std.proofs.Common.{◌≡◌, ◌≢◌, ℕ, ◌+◌, ◌-◌, ◌*◌, ◌%◌, ◌<◌, ◌≤◌, suc, get_or, set, sym, refl, ap, ◌∙◌, subst, inl, inr, ◌⊎◌, ⊎_elim, arith, Some, None, Option, eqb}
 use Rattle.std.proofs.Math.Decide.{ℕ_discrete}
 use Rattle.std.proofs.lemmas.Nat.{mod-mul-add}
 use mathlib.Core.Option.{none, some}
@@ -12,7 +12,6 @@ use Rattle.fish_layout.proofs.Spelled.{spelled_lines}
 use Rattle.fish_layout.specs.Bucket.{bucket_of}
 use Rattle.fish_layout.specs.Cleared.{IsKeyWord, body_of, choose, entry_at}
 use Rattle.fish_layout.specs.Header.{keys_of, lines_of}
-use Rattle.fish_rule.proofs.Aims.{own_room}
 use Rattle.fish_rule.proofs.Allowed.{allowed, loaded_words, stands, there}
 use Rattle.fish_rule.proofs.Bodies.{body_same}
 use Rattle.fish_rule.proofs.Bounds.{ends_within, one_region}
@@ -22,18 +21,18 @@ use Rattle.fish_rule.proofs.Frames.{one_view}
 use Rattle.fish_rule.proofs.Heads.{low_less, low_rises, node_linked, place_within, previous_kept}
 use Rattle.fish_rule.proofs.Kept.{chained_later, facts_later}
 use Rattle.fish_rule.proofs.Linkings.{Leaves, link_final, link_from, link_here, link_kept, link_lasts, link_to}
-use Rattle.fish_rule.proofs.Links.{IsFlier, Spot, lies_inside, one_chain, spot, which}
+use Rattle.fish_rule.proofs.Links.{IsFlier, Spot, lies_inside, one_chain, spot}
 use Rattle.fish_rule.proofs.OwnWords.{flight_is}
 use Rattle.fish_rule.proofs.Swings.{aimed_there, own_unlinked}
 use Rattle.fish_rule.proofs.Worlds.{area-in, put-else, put-here, world-log}
-use Rattle.fish_rule.specs.Chains.{Chain, Chained, IsLow, Linked}
-use Rattle.fish_rule.specs.Linking.{CanAim, CanSplice, HasNode, LowRises, ToldSplice, after_previous, after_splice, linked_once, own_place, spliced}
-use Rattle.fish_rule.specs.Parts.{Facts, Flies, InFlight, IsLinkedWord, Whole}
+use Rattle.fish_rule.specs.Chains.{Chain, Chained, Linked}
+use Rattle.fish_rule.specs.Linking.{CanAim, CanSplice, HasNode, LowRises, ToldSplice, after_previous, after_splice, own_place, spliced}
+use Rattle.fish_rule.specs.Parts.{Facts, Flies, InFlight, Whole}
 use Rattle.fish_rule.specs.Regions.{IsRecord}
 use Rattle.fish_rule.specs.Rule.{Final, Rule}
-use Rattle.fish_rule.specs.Table.{Ruled, Sat, Stands, Told, place_at}
+use Rattle.fish_rule.specs.Table.{Ruled, Sat, Told, place_at}
 use Rattle.fish_rule.specs.Views.{IsFlightOf}
-use Rattle.fish_rule.specs.World.{World, body, log_at, log_size, put, total, world}
+use Rattle.fish_rule.specs.World.{World, body, log_at, log_size, put, world}
 use Rattle.fish_rule.specs.declared.view.Flight.{Flight}
 use Rattle.fish_rule.specs.declared.view.Key.{Key}
 use Rattle.fish_rule.specs.declared.view.View.{View}

@@ -1,5 +1,5 @@
 -- A compare-and-exchange on a head.
-use Rattle.std.proofs.Common.{◌≡◌, ◌≢◌, ℕ, ◌+◌, ◌-◌, ◌*◌, ◌<◌, ◌≤◌, suc, List, [], ◌∷◌, length, get_or, set, sym, refl, ap, ◌∙◌, subst, inl, inr, ◌⊎◌, ⊎_elim, arith, Some, eqb}
+use Rattle.std.proofs.Common.{◌≡◌, ◌≢◌, ℕ, ◌+◌, ◌-◌, ◌<◌, ◌≤◌, get_or, set, sym, refl, ap, ◌∙◌, subst, inl, inr, ◌⊎◌, ⊎_elim, arith, eqb}
 use Rattle.std.proofs.Math.Decide.{ℕ_discrete}
 use mathlib.Core.Option.{none, some}
 use prog.Atomic.{either}
@@ -19,12 +19,12 @@ use Rattle.fish_rule.proofs.Linkings.{Leaves, link_final, link_from, link_here, 
 use Rattle.fish_rule.proofs.OwnWords.{flight_is, not_linked}
 use Rattle.fish_rule.proofs.Worlds.{area-in, put-else, put-here, world-head}
 use Rattle.fish_rule.specs.Chains.{Chain, Chained, Linked}
-use Rattle.fish_rule.specs.Linking.{CanAim, CanSwing, ToldSwing, TopRises, after_head, after_swing, bucket_at, linked_once, own_place, swung}
-use Rattle.fish_rule.specs.Parts.{Facts, InFlight, IsLinkedWord}
+use Rattle.fish_rule.specs.Linking.{CanAim, CanSwing, ToldSwing, TopRises, after_head, after_swing, bucket_at, own_place, swung}
+use Rattle.fish_rule.specs.Parts.{Facts}
 use Rattle.fish_rule.specs.Rule.{Final, Rule}
 use Rattle.fish_rule.specs.Steps.{ticked}
-use Rattle.fish_rule.specs.Table.{Ruled, Sat, Stands, Told}
-use Rattle.fish_rule.specs.World.{World, heads_at, put, total, world}
+use Rattle.fish_rule.specs.Table.{Ruled, Sat, Told}
+use Rattle.fish_rule.specs.World.{World, heads_at, put, world}
 use Rattle.fish_rule.specs.declared.view.Flight.{Flight}
 use Rattle.fish_rule.specs.declared.view.Key.{Key}
 use Rattle.fish_rule.specs.declared.view.View.{View}

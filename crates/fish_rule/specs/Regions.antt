@@ -1,12 +1,11 @@
 -- Regions of lines: their kinds, and what their words hold.
-use Rattle.std.specs.Prelude.{ℕ, ◌≡◌, ◌+◌, ◌-◌, ◌*◌, ◌/◌, ◌<◌, ◌≤◌, IsTrue}
+use Rattle.std.specs.Prelude.{ℕ, ◌≡◌, ◌+◌, ◌-◌, ◌*◌, ◌/◌, IsTrue}
 use Rattle.std.proofs.Math.Decide.{ℕ_discrete, dec_lt}
 use Rattle.fish_layout.specs.Body.{body_lines}
 use Rattle.fish_layout.specs.Cleared.{Spells, choose}
 use Rattle.fish_layout.specs.Header.{void_word}
 use Rattle.fish_layout.specs.declared.parts.BodyParts.{BodyParts}
 use Rattle.fish_psf.specs.Records.{is_record}
-use Rattle.fish_rule.specs.World.{body}
 use Rattle.fish_rule.specs.declared.view.Kind.{Kind}
 use Rattle.fish_rule.specs.declared.view.Kind.TheVariants.{Mark, Stored, Void}
 

@@ -1,11 +1,10 @@
 -- The rule: all parts at once. And what every step leaves as it was.
 use Rattle.std.specs.Prelude.{ℕ, ◌≡◌, ◌≢◌, ◌<◌, ◌≤◌, []}
 use Rattle.fish_rule.specs.Chains.{Chain, Chained, Linked}
-use Rattle.fish_rule.specs.Parts.{Facts, Fits, Limit, Owns, Rests, Seats, Settled, ShutOk, Space, Flies}
+use Rattle.fish_rule.specs.Parts.{Facts, Fits, Limit, Owns, Rests, Seats, Settled, ShutOk, Space}
 use Rattle.fish_rule.specs.Views.{Each}
 use Rattle.fish_rule.specs.World.{World, body}
 use Rattle.fish_rule.specs.declared.view.Key.{Key}
-use Rattle.fish_rule.specs.declared.view.View.{View}
 
 -- the parts, over the lines at which regions begin, the lanes that claimed them, and the lanes that may still claim past the end
 pub record Rule (k : Key) (w : World) : Type 0 where

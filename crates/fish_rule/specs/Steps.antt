@@ -11,13 +11,10 @@ use Rattle.fish_rule.specs.declared.view.Flight.{Flight}
 use Rattle.fish_rule.specs.declared.view.Found.{Found}
 use Rattle.fish_rule.specs.declared.view.Kind.{Kind}
 use Rattle.fish_rule.specs.declared.view.Kind.TheVariants.{Mark, Stored, Void}
-use Rattle.fish_rule.specs.declared.view.Known.{Known}
 use Rattle.fish_rule.specs.declared.view.Learned.{Learned}
-use Rattle.fish_rule.specs.declared.view.Note.{Note}
 use Rattle.fish_rule.specs.declared.view.Noted.{Noted}
 use Rattle.fish_rule.specs.declared.view.Noted.TheVariants.{Directory, Tail}
 use Rattle.fish_rule.specs.declared.view.Own.{Own}
-use Rattle.fish_rule.specs.declared.view.Position.{Position}
 use Rattle.fish_rule.specs.declared.view.Recorded.{Recorded}
 use Rattle.fish_rule.specs.declared.view.Shut.{Shut}
 use Rattle.fish_rule.specs.declared.view.View.{View}

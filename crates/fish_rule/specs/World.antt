@@ -1,5 +1,5 @@
 -- The words of the table by their areas, as functions, and what the passes know.
-use Rattle.std.specs.Prelude.{ℕ, ◌+◌, ◌-◌, ◌*◌, ◌/◌, ◌%◌, ◌≤◌, suc, List, slice_index}
+use Rattle.std.specs.Prelude.{ℕ, ◌+◌, ◌-◌, ◌*◌, ◌/◌, ◌%◌, suc, List, slice_index}
 use Rattle.std.proofs.Math.Decide.{ℕ_discrete, dec_le}
 use Rattle.fish_layout.specs.Cleared.{choose, cleared}
 use Rattle.fish_rule.specs.declared.view.Key.{Key}

@@ -1,9 +1,9 @@
 -- A region is published at once where it is no record's.
-use Rattle.std.proofs.Common.{◌≡◌, ℕ, ◌+◌, ◌<◌, ◌≤◌, refl, sym, ap, ◌∙◌, subst, arith, Some}
+use Rattle.std.proofs.Common.{◌≡◌, ℕ, refl, sym, ap, ◌∙◌, subst, arith, Some}
 use Rattle.fish_claim.proofs.Claims.{can_publish_void, can_store_header, claimed_as, claimed_flight, claimed_law, kind_is, mark_shuts}
 use Rattle.fish_layout.specs.Header.{void_word}
 use Rattle.fish_rule.specs.Passes.{view}
-use Rattle.fish_rule.specs.Steps.{after_claim, after_publish, after_store, flight_at, with_word}
+use Rattle.fish_rule.specs.Steps.{after_publish, after_store, flight_at, with_word}
 use Rattle.fish_claim.specs.declared.claimed.Claimed.TheVariants as answer
 use Rattle.fish_rule.specs.declared.view.Flight.{Flight}
 use Rattle.fish_rule.specs.declared.view.Kind.TheVariants.{Mark, Stored, Void}

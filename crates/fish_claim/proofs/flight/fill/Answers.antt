@@ -1,5 +1,5 @@
 -- Each word is the next one, and with the last the record is ready.
-use Rattle.std.proofs.Common.{◌≡◌, ℕ, ◌+◌, ◌<◌, ◌≤◌, length, get_or, take, refl, sym, ap, ◌∙◌, subst, arith, Some, Option, List, take_all}
+use Rattle.std.proofs.Common.{◌≡◌, ℕ, ◌+◌, ◌<◌, length, take, sym, ap, ◌∙◌, arith, Some, List, take_all}
 use Rattle.std.proofs.lemmas.List.{length-take-le}
 use Rattle.fish_claim.proofs.Fills.{can_publish_filled, can_store_next, filled_more, having, in_region}
 use Rattle.fish_claim.specs.Fills.{filled_view}

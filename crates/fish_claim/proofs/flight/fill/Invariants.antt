@@ -1,5 +1,5 @@
 -- The words so far are stored.
-use Rattle.std.proofs.Common.{◌≡◌, ℕ, ◌<◌, take, Some}
+use Rattle.std.proofs.Common.{◌≡◌, take, Some}
 use Rattle.fish_claim.specs.Fills.{filled_view}
 use Rattle.fish_rule.specs.Passes.{IsPassOf, view}
 use Rattle.fish_rule.specs.declared.view.Flight.{Flight}

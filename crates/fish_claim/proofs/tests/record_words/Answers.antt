@@ -1,6 +1,5 @@
 -- The words have the parts that were put into them.
-use Rattle.std.proofs.Common.{◌≡◌, ℕ, ◌*◌, ◌≤◌, List, [], length, is_some, true, refl, sym, ap, ◌∙◌, subst, arith}
-use Rattle.fish_claim.specs.Fills.{IsPlain}
+use Rattle.std.proofs.Common.{◌≡◌, ℕ, ◌≤◌, List, [], length, is_some, true, refl, sym, ap, subst, arith}
 use Rattle.fish_json.specs.Reading.{record_of}
 use Rattle.fish_layout.proofs.Outlines.{body_length}
 use Rattle.fish_layout.specs.Body.{IsBody}

@@ -1,5 +1,5 @@
 -- The record was made for the place.
-use Rattle.std.proofs.Common.{◌≡◌, ℕ, List, refl, sym, ap, ◌∙◌, subst}
+use Rattle.std.proofs.Common.{ℕ, sym, subst}
 use Rattle.fish_claim.proofs.Bodies.{body_law, placed_law}
 use Rattle.fish_claim.specs.Fills.{CanFill, IsPlain}
 use Rattle.fish_rule.specs.Passes.{view}

@@ -1,12 +1,11 @@
 -- Each turn tells one number more, and the last one that the log ends.
-use Rattle.std.proofs.Common.{◌≡◌, ◌≢◌, ◌∙◌, ◌+◌, ◌<◌, ◌≤◌, ◌++◌, ◌∷◌, [], List, length, sym, refl, ap, subst, ℕ, arith, inl, inr, length-append, Some}
+use Rattle.std.proofs.Common.{◌≡◌, ◌∙◌, ◌+◌, ◌≤◌, ◌++◌, ◌∷◌, [], List, length, sym, ap, subst, ℕ, arith, inl, inr, length-append}
 use Rattle.fish_catalog.specs.declared.entry.Entry.{Entry}
 use Rattle.fish_rule.proofs.Closing.{AreTold, alone_later, closes, tail_behind, tells_later, told_more}
-use Rattle.fish_rule.proofs.Extending.{extends_both, learns_both, learns_end}
-use Rattle.fish_rule.specs.Logs.{Extends, Tells, TellsMark, TellsNext}
+use Rattle.fish_rule.proofs.Extending.{extends_both, learns_both}
+use Rattle.fish_rule.specs.Logs.{Tells, TellsMark, TellsNext}
 use Rattle.fish_rule.specs.Passes.{view}
-use Rattle.fish_rule.specs.Steps.{after_end}
-use Rattle.fish_rule.specs.World.{high, low}
+use Rattle.fish_rule.specs.World.{high}
 use Rattle.fish_rule.specs.declared.view.Key.{Key}
 use Rattle.fish_rule.proofs.close.all_entries.Goals as goal
 

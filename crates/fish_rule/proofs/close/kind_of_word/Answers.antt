@@ -1,5 +1,5 @@
 -- The kinds by their codes.
-use Rattle.std.proofs.Common.{◌≡◌, ◌≢◌, ◌/◌, ◌∙◌, sym, refl, ap, subst, ℕ, zero, suc, arith}
+use Rattle.std.proofs.Common.{◌≡◌, ◌≢◌, ◌/◌, sym, refl, ap, ℕ, zero, suc, arith}
 use Rattle.fish_rule.specs.Steps.{kind_told}
 use Rattle.fish_rule.specs.World.{high}
 use Rattle.fish_rule.specs.declared.view.Kind.TheVariants.{Mark}

@@ -1,13 +1,9 @@
 -- What a look and, for a record, the read of its words tell of one number.
-use Rattle.std.proofs.Common.{◌≡◌, ◌≢◌, ◌∙◌, ◌+◌, ◌%◌, sym, refl, ap, subst, ℕ, arith}
+use Rattle.std.proofs.Common.{sym, refl, ℕ}
 use Rattle.fish_rule.proofs.Closing.{extends_to_look, seen, seen_here, tells_mark, tells_void}
 use Rattle.fish_rule.proofs.Extending.{extends_both}
-use Rattle.fish_rule.specs.Logs.{Extends}
 use Rattle.fish_rule.specs.Passes.{view}
-use Rattle.fish_rule.specs.Steps.{kind_told}
-use Rattle.fish_rule.specs.Views.{Among}
-use Rattle.fish_rule.specs.World.{high, low}
-use Rattle.fish_rule.specs.declared.view.Found.{Found}
+use Rattle.fish_rule.specs.World.{low}
 use Rattle.fish_rule.proofs.close.next_entry.Goals as goal
 
 pub read_record-requires-clause-found : goal.read_record-requires-clause-found

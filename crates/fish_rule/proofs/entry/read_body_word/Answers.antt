@@ -1,8 +1,6 @@
 -- The word may be read, since the header says that it is no first word of a key entry.
-use Rattle.std.proofs.Common.{◌≡◌, ◌∙◌, sym, refl, ap, arith, subst, ℕ, ◌<◌, ◌≤◌, ◌+◌, ◌*◌, ◌%◌, inl, inr}
-use Rattle.fish_layout.specs.Header.{keys_of}
+use Rattle.std.proofs.Common.{sym, arith, subst, ℕ, ◌*◌, inr}
 use Rattle.fish_layout.specs.Cleared.{IsKeyWord}
-use Rattle.fish_rule.proofs.Extending.{extends_to_read, read_here}
 use Rattle.fish_rule.specs.Passes.{view}
 use Rattle.fish_rule.specs.Views.{Among}
 use Rattle.fish_rule.proofs.entry.read_body_word.Goals as goal

@@ -1,8 +1,8 @@
 -- All words of the region are read.
-use Rattle.std.proofs.Common.{◌≡◌, ◌∙◌, sym, refl, ap, arith, subst, ℕ, ◌<◌, ◌≤◌, ◌+◌, ◌*◌, List, [], ◌∷◌, ◌++◌, length, get_or, inl, inr, zero, length-append}
+use Rattle.std.proofs.Common.{◌≡◌, ◌∙◌, sym, refl, ap, arith, subst, ℕ, ◌<◌, ◌≤◌, ◌+◌, ◌*◌, List, [], ◌∷◌, ◌++◌, length, get_or, inl, length-append}
 use Rattle.fish_layout.specs.Cleared.{IsKeyWord}
-use Rattle.fish_layout.specs.Header.{keys_of, lines_of}
-use Rattle.fish_rule.proofs.Extending.{extends_both, extends_to_read, read_here}
+use Rattle.fish_layout.specs.Header.{keys_of}
+use Rattle.fish_rule.proofs.Extending.{extends_both}
 use Rattle.fish_rule.proofs.Laws.{found_law, header_law}
 use Rattle.fish_rule.proofs.Words.{AreRead, head_read, head_stays, read_more}
 use Rattle.fish_rule.specs.Passes.{view}

@@ -1,5 +1,5 @@
 -- The words so far are the header and those behind it, each read unless it may still change.
-use Rattle.std.proofs.Common.{◌≡◌, ℕ, ◌<◌, ◌≤◌, ◌+◌, ◌*◌, length, get_or}
+use Rattle.std.proofs.Common.{◌≡◌, ℕ, ◌<◌, ◌+◌, ◌*◌, length, get_or}
 use Rattle.fish_layout.specs.Cleared.{IsKeyWord}
 use Rattle.fish_layout.specs.Header.{keys_of}
 use Rattle.fish_rule.specs.Logs.{Extends}

@@ -1,17 +1,13 @@
 -- The own entry is within the log, and the table allows the store.
-use Rattle.std.proofs.Common.{◌≡◌, ◌≢◌, ◌∙◌, sym, refl, ap, arith, subst, ℕ, ◌<◌, ◌≤◌, ◌+◌, ◌-◌, ◌*◌, Some}
-use Rattle.std.proofs.Math.Decide.{ℕ_discrete}
-use Rattle.fish_layout.specs.Cleared.{choose}
-use Rattle.fish_rule.proofs.Laws.{aim_law, node_law, one_bucket}
-use Rattle.fish_rule.proofs.Linked.{region_aim, region_splice, region_swing}
+use Rattle.std.proofs.Common.{◌≡◌, ◌∙◌, sym, refl, ap, arith, subst, ℕ, ◌<◌, ◌+◌, ◌-◌, ◌*◌}
+use Rattle.fish_rule.proofs.Laws.{aim_law}
+use Rattle.fish_rule.proofs.Linked.{region_aim}
 use Rattle.fish_rule.specs.Flying.{region_in}
-use Rattle.fish_rule.specs.Linking.{CanAim, HasNode, LowRises, TopRises, after_aim, after_previous, after_splice, after_swing, bucket_at, own_place}
-use Rattle.fish_rule.specs.Parts.{Fits}
+use Rattle.fish_rule.specs.Linking.{own_place}
 use Rattle.fish_rule.specs.Passes.{view}
-use Rattle.fish_rule.specs.Table.{Stands, place_at}
-use Rattle.fish_rule.specs.World.{dir_at, heads_at, log_at, log_size, slots, total}
+use Rattle.fish_rule.specs.Table.{Stands}
+use Rattle.fish_rule.specs.World.{log_at}
 use Rattle.fish_rule.specs.declared.view.Flight.{Flight}
-use Rattle.fish_rule.specs.declared.view.Key.{Key}
 use Rattle.fish_rule.specs.declared.view.View.{View}
 use Rattle.fish_rule.proofs.Aims.{aim_allowed}
 use Rattle.fish_rule.proofs.linking.aim_entry.Goals as goal

@@ -1,5 +1,5 @@
 -- The table allows a load of the settled number.
-use Rattle.std.proofs.Common.{◌≡◌, sym, arith, subst, ℕ, ◌<◌}
+use Rattle.std.proofs.Common.{sym, arith, subst, ℕ, ◌<◌}
 use Rattle.fish_rule.proofs.Settles.{settled_allowed}
 use Rattle.fish_rule.proofs.steps.load_settled.Goals as goal
 

@@ -1,5 +1,5 @@
 -- The table allows a load of the tail.
-use Rattle.std.proofs.Common.{◌≡◌, ◌∙◌, sym, refl, ap, arith, subst, ℕ, ◌<◌, ◌≤◌}
+use Rattle.std.proofs.Common.{sym, arith, subst, ℕ, ◌<◌, ◌≤◌}
 use Rattle.fish_rule.proofs.Allowed.{end_allowed}
 use Rattle.fish_rule.specs.Parts.{Rests}
 use Rattle.fish_rule.specs.Passes.{view}

@@ -1,9 +1,8 @@
 -- The number has a directory word, and the table allows its load.
-use Rattle.std.proofs.Common.{◌≡◌, ◌∙◌, sym, refl, ap, arith, subst, ℕ, ◌<◌, ◌≤◌, ◌+◌, ◌-◌}
+use Rattle.std.proofs.Common.{sym, ap, arith, subst, ℕ, ◌<◌, ◌+◌, ◌-◌}
 use Rattle.fish_rule.proofs.Allowed.{look_allowed}
 use Rattle.fish_rule.proofs.Laws.{look_law}
 use Rattle.fish_rule.specs.Passes.{view}
-use Rattle.fish_rule.specs.World.{dir_at, slots, total}
 use Rattle.fish_rule.proofs.steps.look_at.Goals as goal
 
 pub overflow_add-index : goal.overflow_add-index

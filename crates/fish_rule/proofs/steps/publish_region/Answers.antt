@@ -1,19 +1,17 @@
 -- The number has a directory word, and the table allows its store.
-use Rattle.std.proofs.Common.{◌≡◌, ◌∙◌, sym, refl, ap, arith, subst, ℕ, ◌<◌, ◌≤◌, ◌+◌, ◌-◌, ◌*◌, length, Some}
+use Rattle.std.proofs.Common.{◌≡◌, ◌∙◌, sym, ap, arith, subst, ℕ, ◌<◌, ◌≤◌, ◌+◌, ◌-◌}
 use Rattle.fish_rule.proofs.Allowed.{publish_allowed}
-use Rattle.fish_rule.proofs.Laws.{FlightLaw, flight_law}
-use Rattle.fish_rule.specs.Parts.{Fits}
+use Rattle.fish_rule.proofs.Laws.{flight_law}
 use Rattle.fish_rule.specs.Passes.{IsPassOf, view}
 use Rattle.fish_rule.specs.Regions.{dir_word, kind_of}
 use Rattle.fish_rule.specs.Steps.{CanPublish, flight_kind}
-use Rattle.fish_rule.specs.World.{dir_at, log_at, log_size, slots, total}
+use Rattle.fish_rule.specs.World.{dir_at, slots}
 use Rattle.fish_rule.specs.declared.table.Log.{Log}
 use Rattle.fish_rule.specs.declared.table.Pass.{Pass}
 use Rattle.fish_rule.specs.declared.table.Region.{Region}
 use Rattle.fish_rule.specs.declared.view.Flight.{Flight}
 use Rattle.fish_rule.specs.declared.view.Key.{Key}
 use Rattle.fish_rule.specs.declared.view.Kind.{Kind}
-use Rattle.fish_rule.specs.declared.view.View.{View}
 use Rattle.fish_rule.proofs.steps.publish_region.Goals as goal
 
 -- the region handed in is that of the record in flight

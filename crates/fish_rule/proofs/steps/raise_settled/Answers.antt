@@ -1,5 +1,5 @@
 -- The table allows a raise by a pass that knows each number below.
-use Rattle.std.proofs.Common.{◌≡◌, sym, arith, subst, ℕ, ◌<◌}
+use Rattle.std.proofs.Common.{sym, arith, subst, ℕ, ◌<◌}
 use Rattle.fish_rule.proofs.Settles.{raise_allowed}
 use Rattle.fish_rule.proofs.steps.raise_settled.Goals as goal
 

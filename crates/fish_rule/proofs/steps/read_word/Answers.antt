@@ -1,12 +1,11 @@
 -- The word is within the log, and the table allows its load.
-use Rattle.std.proofs.Common.{◌≡◌, ◌∙◌, sym, refl, ap, arith, subst, ℕ, ◌<◌, ◌≤◌, ◌+◌, ◌-◌, ◌*◌}
+use Rattle.std.proofs.Common.{◌≡◌, ◌∙◌, sym, ap, arith, subst, ℕ, ◌<◌, ◌≤◌, ◌+◌, ◌-◌, ◌*◌}
 use Rattle.fish_rule.proofs.Laws.{read_law}
 use Rattle.fish_rule.proofs.Loads.{read_allowed}
-use Rattle.fish_rule.specs.Parts.{Fits}
 use Rattle.fish_rule.specs.Passes.{IsPassOf, view}
 use Rattle.fish_rule.specs.Steps.{CanRead, after_read}
 use Rattle.fish_rule.specs.Table.{place_at}
-use Rattle.fish_rule.specs.World.{dir_at, log_at, log_size, slots, total}
+use Rattle.fish_rule.specs.World.{log_at}
 use Rattle.fish_rule.specs.declared.table.Log.{Log}
 use Rattle.fish_rule.specs.declared.table.Pass.{Pass}
 use Rattle.fish_rule.specs.declared.view.Found.{Found}

@@ -1,5 +1,5 @@
 -- The kind by cases, as its definition goes.
-use Rattle.std.proofs.Common.{◌≡◌, ◌∙◌, sym, arith, ap, ◌<◌, ◌≤◌, ◌-◌, ◌/◌}
+use Rattle.std.proofs.Common.{◌∙◌, sym, arith, ◌-◌, ◌/◌}
 use Rattle.std.proofs.Math.Decide.{dec_lt}
 use Rattle.fish_layout.proofs.Clearing.{choose_first, choose_second}
 use Rattle.fish_rule.proofs.Bodies.{kind-mark, kind-within}

@@ -1,13 +1,12 @@
 -- The word is within the region in flight, and the table allows its store.
-use Rattle.std.proofs.Common.{◌≡◌, ◌∙◌, sym, refl, ap, arith, subst, ℕ, ◌<◌, ◌≤◌, ◌+◌, ◌-◌, ◌*◌, length, Some}
+use Rattle.std.proofs.Common.{◌≡◌, ◌∙◌, sym, ap, arith, subst, ℕ, ◌<◌, ◌≤◌, ◌+◌, ◌-◌, ◌*◌, length}
 use Rattle.fish_rule.proofs.Allowed.{store_allowed}
 use Rattle.fish_rule.proofs.Laws.{flight_law}
 use Rattle.fish_rule.specs.Flying.{region_in}
-use Rattle.fish_rule.specs.Parts.{Fits}
 use Rattle.fish_rule.specs.Passes.{IsPassOf, view}
-use Rattle.fish_rule.specs.Steps.{CanStore, after_store}
+use Rattle.fish_rule.specs.Steps.{CanStore}
 use Rattle.fish_rule.specs.Table.{Stands}
-use Rattle.fish_rule.specs.World.{dir_at, log_at, log_size, slots, total}
+use Rattle.fish_rule.specs.World.{log_at}
 use Rattle.fish_rule.specs.declared.table.Log.{Log}
 use Rattle.fish_rule.specs.declared.table.Pass.{Pass}
 use Rattle.fish_rule.specs.declared.view.Flight.{Flight}
