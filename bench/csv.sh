@@ -8,6 +8,7 @@
 set -euo pipefail
 other=${2:+$(realpath "$2")}
 cd "$(dirname "$0")"
+. ./measure.sh
 size=${1:-67000000}
 runs=5
 plain=data/target/release/csv-baseline
@@ -17,19 +18,6 @@ printf '[source.crates-io]\nreplace-with = "debian"\n[source.debian]\ndirectory 
   > data/cargo/config.toml
 CARGO_HOME=$PWD/data/cargo cargo build --quiet --offline --release --manifest-path csv/Cargo.toml \
   --target-dir data/target
-
-# one run's seconds of processor time, and its peak in KiB, put behind a file
-measure() {
-  local name=$1
-  shift
-  /usr/bin/time -o data/time -f '%U %S %M' taskset -c 0 "$@" > "data/$name.out"
-  awk '{ print $1 + $2, $3 }' data/time >> "data/$name.runs"
-}
-
-# the least seconds and the most KiB
-best() {
-  sort -n "data/$1.runs" | awk 'NR == 1 { least = $1 } $2 > most { most = $2 } END { print least, most }'
-}
 
 for kind in some all; do
   file=data/rows-$size-$kind.csv

@@ -8,6 +8,7 @@
 # program, which is left out where they are missing. `make build` makes the program first.
 set -euo pipefail
 cd "$(dirname "$0")"
+. ./measure.sh
 size=${1:-67108864}
 program=../crates/fishstore/out/fishstore
 runs=5
@@ -33,19 +34,6 @@ if [ -d /usr/share/cargo/registry/serde_json-1.0.87 ] || ls -d /usr/share/cargo/
 else
   echo "bench: librust-serde-json-dev or cargo is missing, so the Rust program is left out" >&2
 fi
-
-# one run's seconds of processor time, and its peak in KiB, put behind a file
-measure() {
-  local name=$1
-  shift
-  /usr/bin/time -o data/time -f '%U %S %M' taskset -c 0 "$@" > "data/$name.out"
-  awk '{ print $1 + $2, $3 }' data/time >> "data/$name.runs"
-}
-
-# the least seconds and the most KiB
-best() {
-  sort -n "data/$1.runs" | awk 'NR == 1 { least = $1 } $2 > most { most = $2 } END { print least, most }'
-}
 
 model=$(awk -F: '/model name/ { print $2; exit }' /proc/cpuinfo | sed 's/^ *//')
 echo "$(nproc) cores, $model, $(stat -c %s "$file") bytes, best of $runs runs on one core"
