@@ -1,5 +1,6 @@
 -- A store of the first word of the own entry that is next to be linked.
-use Rattle.std.proofs.Common.{◌≡◌, ℕ, ◌+◌, ◌-◌, ◌*◌, ◌%◌, ◌<◌, ◌≤◌, length, set, sym, refl, ap, ◌∙◌, subst, arith, get_or-set_other, get_or-set_same, length-set}
+use Rattle.std.proofs.Common.{◌≡◌, ℕ, ◌+◌, ◌-◌, ◌*◌, ◌%◌, ◌<◌, ◌≤◌, length, set, sym, refl, ap, ◌∙◌, subst,
+    arith, get_or-set_other, get_or-set_same, length-set}
 use mathlib.Core.Option.{none, some}
 use Rattle.std.proofs.Math.ListN.{get_elem?}
 use Rattle.std.proofs.lemmas.Nat.{mod-mul-add}
@@ -25,17 +26,20 @@ use Rattle.fish_rule.specs.declared.view.Key.{Key}
 use Rattle.fish_rule.specs.declared.view.Kind.TheVariants.{Mark, Stored}
 use Rattle.fish_rule.specs.declared.view.View.{View}
 
-module _ (k : Key) (w : World) (r : Rule k w) (id : ℕ) (v : View) (at : get_elem? w.views id ≡ some v) (f : Flight) (can : CanAim v f) where
+module _ (k : Key) (w : World) (r : Rule k w) (id : ℕ) (v : View) (at : get_elem? w.views id ≡ some v)
+    (f : Flight) (can : CanAim v f) where
   own : InFlight k w.count w.dir w.log r.start r.lane_of v.lane f
   own = flight_is k w r id v at f can.flying
 
   -- the region has a line
   lines_some : 1 ≤ f.lines
-  lines_some = (let g = r.space.regions.grows f.number own.above own.below in let a = own.line in let b = own.lines in omega arith)
+  lines_some = (let g = r.space.regions.grows f.number own.above own.below in let a = own.line in
+      let b = own.lines in omega arith)
 
   -- the record in flight stands in the log
   pub own_body : body w.log f.line ≡ body_of f.words
-  own_body = body_stored w.log f.words v.lane f.number f.lines f.line f.linked can.record_of can.full lines_some (let m = can.more in omega arith) own.written
+  own_body = body_stored w.log f.words v.lane f.number f.lines f.line f.linked can.record_of can.full lines_some
+      (let m = can.more in omega arith) own.written
 
   -- the entry is within the region
   pub own_room : entry_at f.linked < f.lines * 4
@@ -52,18 +56,21 @@ module _ (k : Key) (w : World) (r : Rule k w) (id : ℕ) (v : View) (at : get_el
   own_key =
       let more = can.more in
       let e : 1 + 3 * f.linked ≡ f.linked * 3 + 1 = omega arith in
-      subst (λ (z : ℕ → ℕ). IsKeyWord (keys_of (z 0)) (entry_at f.linked)) (sym own_body) (omega arith, ap (λ (z : ℕ). z % 3) e ∙ mod-mul-add f.linked 3 1 (omega arith))
+      subst (λ (z : ℕ → ℕ). IsKeyWord (keys_of (z 0)) (entry_at f.linked)) (sym own_body)
+          (omega arith, ap (λ (z : ℕ). z % 3) e ∙ mod-mul-add f.linked 3 1 (omega arith))
 
   module _ (x : ℕ) where
     -- one word is another
-    pub becomes : Becomes (f.lines * 4) f.linked (entry_at f.linked) x (IsKeyWord (keys_of (body w.log f.line 0)) (entry_at f.linked)) f.words (set f.words (entry_at f.linked) x)
+    pub becomes : Becomes (f.lines * 4) f.linked (entry_at f.linked) x
+        (IsKeyWord (keys_of (body w.log f.line 0)) (entry_at f.linked)) f.words (set f.words (entry_at f.linked) x)
     becomes =
         let full = can.full in
         let room = own_room in
         let same_length = length-set f.words (entry_at f.linked) x in
         record {
           within = room;
-          unlinked = λ h. let less : h.0 < f.linked = h.1 in let e : entry_at f.linked ≡ entry_at h.0 = h.2 in absurd (omega arith);
+          unlinked = λ h. let less : h.0 < f.linked = h.1 in let e : entry_at f.linked ≡ entry_at h.0 = h.2 in
+              absurd (omega arith);
           fits = omega arith;
           longer = omega arith;
           here = omega arith;
@@ -78,12 +85,14 @@ module _ (k : Key) (w : World) (r : Rule k w) (id : ℕ) (v : View) (at : get_el
 
     -- an aim keeps the rule
     pub aim_kept : Rule k aimed
-    aim_kept = write_kept k w r id v at f can.flying (entry_at f.linked) x (set f.words (entry_at f.linked) x) (ticked v.clock) becomes
+    aim_kept = write_kept k w r id v at f can.flying (entry_at f.linked) x (set f.words (entry_at f.linked) x)
+        (ticked v.clock) becomes
 
     -- and all that lasts
     pub aim_lasts : Final k r.start aim_kept.start r.lane_of aim_kept.lane_of w aimed
     unfolding aim_kept
-    aim_lasts = write_lasts k w r id v at f can.flying (entry_at f.linked) x (set f.words (entry_at f.linked) x) (ticked v.clock) becomes
+    aim_lasts = write_lasts k w r id v at f can.flying (entry_at f.linked) x
+        (set f.words (entry_at f.linked) x) (ticked v.clock) becomes
 
   -- the place is within the log's words
   pub own_within : (k.line * 4 ≤ own_place f) × (own_place f < k.line * 4 + log_size k)
@@ -91,16 +100,20 @@ module _ (k : Key) (w : World) (r : Rule k w) (id : ℕ) (v : View) (at : get_el
       let line = own.line in
       let lines = own.lines in
       let room = own_room in
-      let from = starts_above k w.count w.line r.start r.space.regions f.number own.above (let b = own.below in omega arith) in
-      let end : f.line + f.lines ≤ v.about.end = kind-inside v.about.end f.line (f.line + f.lines) (λ e. let q : Stored ≡ Mark = sym can.kind ∙ e in cc) in
+      let from = starts_above k w.count w.line r.start r.space.regions f.number own.above
+          (let b = own.below in omega arith) in
+      let end : f.line + f.lines ≤ v.about.end =
+          kind-inside v.about.end f.line (f.line + f.lines) (λ e. let q : Stored ≡ Mark = sym can.kind ∙ e in cc) in
       let about : v.about ≡ k = r.about id v at own.live in
       let end' : f.line + f.lines ≤ k.end = subst (λ (z : Key). f.line + f.lines ≤ z.end) about end in
       (omega arith, omega arith)
 
 -- the table allows it
-pub aim_allowed : (given k : Key) → given ≡ k → (size id : ℕ) (me : Sat) (f : Flight) (i x : ℕ) → me.0.about ≡ k → CanAim me.0 f → i ≡ log_at k + (own_place f - k.line * 4)
+pub aim_allowed : (given k : Key) → given ≡ k → (size id : ℕ) (me : Sat) (f : Flight) (i x : ℕ)
+    → me.0.about ≡ k → CanAim me.0 f → i ≡ log_at k + (own_place f - k.line * 4)
     → Allows (Ruled given) size id me i (λ _. x) (λ _. told_aim (step size i x 0 none) me x)
-aim_allowed given k same size id me f i x about can is = allowed given k same size id me i (λ _. x) (λ _. told_aim (step size i x 0 none) me x) (λ ws vs wide r at.
+aim_allowed given k same size id me f i x about can is =
+    allowed given k same size id me i (λ _. x) (λ _. told_aim (step size i x 0 none) me x) (λ ws vs wide r at.
     let w : World = world k ws vs in
     let v' : View = after_aim me.0 f x in
     let within = own_within k w r id me.0 at f can in
@@ -113,6 +126,7 @@ aim_allowed given k same size id me f i x about can is = allowed given k same si
           record {
             view = ap (λ (z : Flight). after_aim me.0 z x) e;
             held = refl;
-            stands = subst (λ (z : Flight). Stands (after_aim me.0 z x)) e (stands k _ id v' kept about (there vs id me.0 v' at));
+            stands = subst (λ (z : Flight). Stands (after_aim me.0 z x)) e
+                (stands k _ id v' kept about (there vs id me.0 v' at));
           },
     ))

@@ -1,5 +1,6 @@
 -- The rule holds of an empty log with one pass.
-use Rattle.std.proofs.Common.{◌≡◌, ℕ, ◌+◌, ◌-◌, ◌*◌, ◌<◌, ◌≤◌, zero, suc, List, [], ◌∷◌, slice_index, sym, refl, ap, ◌∙◌, subst, inl, ⊎_elim, arith}
+use Rattle.std.proofs.Common.{◌≡◌, ℕ, ◌+◌, ◌-◌, ◌*◌, ◌<◌, ◌≤◌, zero, suc, List, [], ◌∷◌, slice_index, sym,
+    refl, ap, ◌∙◌, subst, inl, ⊎_elim, arith}
 use Rattle.std.proofs.Math.Decide.{dec_le}
 use Rattle.std.proofs.Math.ListN.{get_elem?}
 use mathlib.Core.Option.{some, some-injective, some-ne-none}
@@ -19,11 +20,13 @@ use Rattle.fish_rule.specs.declared.view.Key.{Key}
 use Rattle.fish_rule.specs.declared.view.View.{View}
 
 -- where all words behind the first are 0, so is an area of them
-area-zero : (ws : List ℕ) (at base size : ℕ) → 0 < at → ((i : ℕ) → 0 < i → slice_index ws i ≡ 0) → (n : ℕ) → area ws at base size n ≡ 0
+area-zero : (ws : List ℕ) (at base size : ℕ) → 0 < at → ((i : ℕ) → 0 < i → slice_index ws i ≡ 0) → (n : ℕ)
+    → area ws at base size n ≡ 0
 unfolding area
 area-zero ws at base size behind zeros n = by (dec_le base n) (dec_le (suc n) (base + size))
   where
-    by : (d : Dec (base ≤ n)) (e : Dec (suc n ≤ base + size)) → choose d (choose e (slice_index ws (at + (n - base))) 0) 0 ≡ 0
+    by : (d : Dec (base ≤ n)) (e : Dec (suc n ≤ base + size))
+        → choose d (choose e (slice_index ws (at + (n - base))) 0) 0 ≡ 0
     by (no x) e = refl
     by (yes a) (no x) = refl
     by (yes a) (yes b) = zeros (at + (n - base)) (omega arith)
@@ -44,7 +47,8 @@ module _ (k : Key) (ws : List ℕ) (fits : Fits k) (empty : IsEmpty k ws) where
 
   -- its number is the key's
   count_is : high (slice_index ws 0) ≡ k.number
-  count_is = (let a = fits.some_lines in let b = fits.low_end in ap high packed ∙ high-pack k.number k.line (omega arith))
+  count_is = (let a = fits.some_lines in let b = fits.low_end in
+      ap high packed ∙ high-pack k.number k.line (omega arith))
 
   -- and its line
   line_is : low (slice_index ws 0) ≡ k.line
@@ -130,7 +134,8 @@ module _ (k : Key) (fits : Fits k) where
   none_linked : (b p : ℕ) → ¬ Linked k w.dir w.log w.views b p
   none_linked b p h = ⊎_elim
       (λ (s : IsStoredAt k w.dir h.line). absurd (published 0 Stored s.stored refl))
-      (λ (l : IsLinking h.line h.entry w.views). subst (λ (z : View). LinksAt h.line h.entry z.flight) (sym (at_one (first_view k) l.view l.seat l.at).1) l.links) h.shows
+      (λ (l : IsLinking h.line h.entry w.views). subst (λ (z : View). LinksAt h.line h.entry z.flight)
+          (sym (at_one (first_view k) l.view l.seat l.at).1) l.links) h.shows
 
   -- the rule holds
   pub empty_rule : Rule k w
@@ -148,11 +153,14 @@ module _ (k : Key) (fits : Fits k) where
     space = space;
     limit = limit;
     settling = record { within = omega arith; below = λ n above below. absurd (omega arith) };
-    chains = λ b. record { some = inl refl; highest = λ p h. absurd (none_linked b p h); next = λ p h. absurd (none_linked b p h) };
-    chained = each_one (λ v. Chained k w.dir w.log w.views w.head v.learned) (first_view k) (record { nodes = tt; lows = tt; tops = tt });
+    chains = λ b. record { some = inl refl; highest = λ p h. absurd (none_linked b p h);
+        next = λ p h. absurd (none_linked b p h) };
+    chained = each_one (λ v. Chained k w.dir w.log w.views w.head v.learned) (first_view k)
+        (record { nodes = tt; lows = tt; tops = tt });
     floors = each_one (λ v. v.learned.settled ≤ 0) (first_view k) (omega arith);
     own = each_one (λ v. Owns k w.count w.dir lane_of v.lane v.out v.own) (first_view k)
-        (record { sound = λ o m. elim m [ ]; complete = λ o has stored. absurd (none o.number stored.above stored.below) });
+        (record { sound = λ o m. elim m [ ];
+            complete = λ o has stored. absurd (none o.number stored.above stored.below) });
     facts = each_one (λ v. Facts k w.count w.dir w.log start v.learned) (first_view k)
         (record { counted = omega arith; found = tt; known = tt; records = tt });
     shuts = each_one (λ v. ShutOk k w.count w.dir start v.shut) (first_view k) tt;
@@ -160,7 +168,8 @@ module _ (k : Key) (fits : Fits k) where
 
 -- the table of an empty log meets the rule
 pub begins : (k : Key) → Fits k → (ws : List ℕ) → IsEmpty k ws → Ruled k (opening ws [] (first_view k))
-begins k fits ws empty = record { wide = empty.wide; rule = subst (Rule k) (sym (empty_words k ws fits empty)) (empty_rule k fits) }
+begins k fits ws empty = record { wide = empty.wide;
+    rule = subst (Rule k) (sym (empty_words k ws fits empty)) (empty_rule k fits) }
 
 -- the first pass's view stands
 pub first_stands : (k : Key) → Fits k → (ws : List ℕ) → IsEmpty k ws → Stands (first_view k)

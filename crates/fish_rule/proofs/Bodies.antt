@@ -1,8 +1,10 @@
 -- Packed words, kinds of regions, and the bodies of regions that are stored word by word.
-use Rattle.std.proofs.Common.{◌≡◌, ◌≢◌, ℕ, ◌+◌, ◌-◌, ◌*◌, ◌/◌, ◌%◌, ◌<◌, ◌≤◌, List, length, get_or, sym, refl, ap, ◌∙◌, subst, arith}
+use Rattle.std.proofs.Common.{◌≡◌, ◌≢◌, ℕ, ◌+◌, ◌-◌, ◌*◌, ◌/◌, ◌%◌, ◌<◌, ◌≤◌, List, length, get_or, sym, refl,
+    ap, ◌∙◌, subst, arith}
 use Rattle.std.proofs.Math.Decide.{ℕ_discrete, dec_lt, dec_le}
 use Rattle.std.proofs.lemmas.Nat.{div-add-mod', div-mul-add, mod-mul-add}
-use Rattle.fish_layout.proofs.Clearing.{choose_first, choose_second, cleared_at, cleared_behind, cleared_head, cleared_same}
+use Rattle.fish_layout.proofs.Clearing.{choose_first, choose_second, cleared_at, cleared_behind, cleared_head,
+    cleared_same}
 use Rattle.fish_layout.proofs.Headers.{keys_of-void, lines_of-void}
 use Rattle.fish_layout.proofs.Spelled.{spelled_lines}
 use Rattle.fish_layout.specs.Cleared.{IsKeyWord, body_of, cleared}
@@ -18,12 +20,14 @@ use Rattle.fish_rule.specs.declared.view.Kind.TheVariants.{Mark, Stored, Void}
 -- the high bits of a packed word
 pub high-pack : (a b : ℕ) → b < 68719476736 → high (b + a * 68719476736) ≡ a
 unfolding high
-high-pack a b h = (let e : b + a * 68719476736 ≡ a * 68719476736 + b = omega arith in ap (λ (z : ℕ). z / 68719476736) e ∙ div-mul-add a 68719476736 b h)
+high-pack a b h = (let e : b + a * 68719476736 ≡ a * 68719476736 + b = omega arith in
+    ap (λ (z : ℕ). z / 68719476736) e ∙ div-mul-add a 68719476736 b h)
 
 -- its low bits
 pub low-pack : (a b : ℕ) → b < 68719476736 → low (b + a * 68719476736) ≡ b
 unfolding low
-low-pack a b h = (let e : b + a * 68719476736 ≡ a * 68719476736 + b = omega arith in ap (λ (z : ℕ). z % 68719476736) e ∙ mod-mul-add a 68719476736 b h)
+low-pack a b h = (let e : b + a * 68719476736 ≡ a * 68719476736 + b = omega arith in
+    ap (λ (z : ℕ). z % 68719476736) e ∙ mod-mul-add a 68719476736 b h)
 
 -- a packed word is its two parts
 pub tail_is : (x : ℕ) → low x + high x * 68719476736 ≡ x
@@ -92,24 +96,31 @@ linked-key n linked i few h =
 -- ---- bodies
 
 -- regions whose words agree have one body
-pub body_same : (log log' : ℕ → ℕ) (a lines : ℕ) → 1 ≤ lines → lines_of (body log a 0) ≤ lines → ((i : ℕ) → i < lines * 4 → log' (a * 4 + i) ≡ log (a * 4 + i)) → body log' a ≡ body log a
+pub body_same : (log log' : ℕ → ℕ) (a lines : ℕ) → 1 ≤ lines → lines_of (body log a 0) ≤ lines
+    → ((i : ℕ) → i < lines * 4 → log' (a * 4 + i) ≡ log (a * 4 + i)) → body log' a ≡ body log a
 body_same log log' a lines some lined same =
     let head : body log a 0 ≡ log (a * 4 + 0) = cleared_head (λ i. log (a * 4 + i)) in
     let lined' : lines_of (log (a * 4 + 0)) ≤ lines = subst (λ (z : ℕ). lines_of z ≤ lines) head lined in
     cleared_same (λ i. log (a * 4 + i)) (λ i. log' (a * 4 + i)) (λ i within plain. same i (omega arith))
 
 -- a region whose words were all stored has the body of these words, however many of its entries are linked
-pub body_stored : (log : ℕ → ℕ) (words : List ℕ) (lane number lines line linked : ℕ) → IsRecord lane number lines (body_of words) → length words ≡ lines * 4 → 1 ≤ lines → linked ≤ keys_of (body_of words 0)
-    → ((i : ℕ) → i < length words → ¬ IsLinkedWord linked i → log (line * 4 + i) ≡ get_or words i 0) → body log line ≡ body_of words
+pub body_stored : (log : ℕ → ℕ) (words : List ℕ) (lane number lines line linked : ℕ)
+    → IsRecord lane number lines (body_of words) → length words ≡ lines * 4 → 1 ≤ lines
+    → linked ≤ keys_of (body_of words 0)
+    → ((i : ℕ) → i < length words → ¬ IsLinkedWord linked i → log (line * 4 + i) ≡ get_or words i 0)
+        → body log line ≡ body_of words
 body_stored log words lane number lines line linked is full some few written =
     let f : ℕ → ℕ = λ i. get_or words i 0 in
     let head : body_of words 0 ≡ f 0 = cleared_head f in
     let lined : lines_of (f 0) ≡ lines = ap lines_of (sym head) ∙ spelled_lines is.1.spells ∙ is.1.lines_is in
     let keys : keys_of (body_of words 0) ≡ keys_of (f 0) = ap keys_of head in
-    cleared_same f (λ i. log (line * 4 + i)) (λ i within plain. written i (omega arith) (λ h. plain (linked-key (keys_of (f 0)) linked i (omega arith) h)))
+    cleared_same f (λ i. log (line * 4 + i))
+        (λ i within plain. written i (omega arith) (λ h. plain (linked-key (keys_of (f 0)) linked i (omega arith) h)))
 
 -- a region whose header is a void's and whose other words are 0 has the body of a void
-pub body_void : (log : ℕ → ℕ) (lines line : ℕ) → 1 ≤ lines → lines < 65536 → log (line * 4 + 0) ≡ void_word lines → ((i : ℕ) → 1 ≤ i → i < lines * 4 → log (line * 4 + i) ≡ 0) → body log line ≡ void_body lines
+pub body_void : (log : ℕ → ℕ) (lines line : ℕ) → 1 ≤ lines → lines < 65536
+    → log (line * 4 + 0) ≡ void_word lines → ((i : ℕ) → 1 ≤ i → i < lines * 4 → log (line * 4 + i) ≡ 0)
+    → body log line ≡ void_body lines
 unfolding void_body
 body_void log lines line some few header zeros = λ j i. each i (ℕ_discrete i 0) (dec_le i (lines_of (f 0) * 4 - 1)) j
   where
@@ -123,12 +134,15 @@ body_void log lines line some few header zeros = λ j i. each i (ℕ_discrete i 
     keys = ap keys_of header ∙ keys_of-void lines few
 
     each : (i : ℕ) → Dec (i ≡ 0) → Dec (i ≤ lines_of (f 0) * 4 - 1) → cleared f i ≡ void_body lines i
-    each i (yes e) d = ap (cleared f) e ∙ cleared_head f ∙ header ∙ sym (choose_first (ℕ_discrete i 0) (void_word lines) 0 e)
+    each i (yes e) d = ap (cleared f) e ∙ cleared_head f ∙ header
+        ∙ sym (choose_first (ℕ_discrete i 0) (void_word lines) 0 e)
     each i (no ne) (yes within) =
         let q = keys in
         let l = lined in
-        cleared_at f i within (λ h. let b : i ≤ 3 * keys_of (f 0) = h.0 in ne (omega arith)) ∙ zeros i (omega arith) (omega arith) ∙ sym (choose_second (ℕ_discrete i 0) (void_word lines) 0 ne)
-    each i (no ne) (no past) = cleared_behind f i (omega arith) ∙ sym (choose_second (ℕ_discrete i 0) (void_word lines) 0 ne)
+        cleared_at f i within (λ h. let b : i ≤ 3 * keys_of (f 0) = h.0 in ne (omega arith))
+            ∙ zeros i (omega arith) (omega arith) ∙ sym (choose_second (ℕ_discrete i 0) (void_word lines) 0 ne)
+    each i (no ne) (no past) = cleared_behind f i (omega arith)
+        ∙ sym (choose_second (ℕ_discrete i 0) (void_word lines) 0 ne)
 
 -- the header of a void's body
 pub void-head : (lines : ℕ) → void_body lines 0 ≡ void_word lines

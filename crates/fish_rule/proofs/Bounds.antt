@@ -5,7 +5,8 @@ use Rattle.fish_rule.specs.Parts.{Regions}
 use Rattle.fish_rule.specs.declared.view.Key.{Key}
 
 -- a sum of so many steps up
-rises : (k : Key) (count line : ℕ) (start : ℕ → ℕ) → Regions k count line start → (m d : ℕ) → k.number ≤ m → m + d ≤ count → start m + d ≤ start (m + d)
+rises : (k : Key) (count line : ℕ) (start : ℕ → ℕ) → Regions k count line start → (m d : ℕ) → k.number ≤ m
+    → m + d ≤ count → start m + d ≤ start (m + d)
 rises k count line start r m zero above within = (let e : m + 0 ≡ m = omega arith in rw e (omega arith))
 rises k count line start r m (suc d) above within =
     let before : start m + d ≤ start (m + d) = rises k count line start r m d above (omega arith) in
@@ -14,13 +15,15 @@ rises k count line start r m (suc d) above within =
     subst (λ (z : ℕ). start m + suc d ≤ start z) e (omega arith)
 
 -- a later region begins at least as many lines further on as there are numbers between
-pub starts_rise : (k : Key) (count line : ℕ) (start : ℕ → ℕ) → Regions k count line start → (m n : ℕ) → k.number ≤ m → m ≤ n → n ≤ count → start m + (n - m) ≤ start n
+pub starts_rise : (k : Key) (count line : ℕ) (start : ℕ → ℕ) → Regions k count line start → (m n : ℕ)
+    → k.number ≤ m → m ≤ n → n ≤ count → start m + (n - m) ≤ start n
 starts_rise k count line start r m n above less within =
     let e : m + (n - m) ≡ n = omega arith in
     subst (λ (z : ℕ). start m + (n - m) ≤ start z) e (rises k count line start r m (n - m) above (omega arith))
 
 -- and at most 18,625 times as many
-near : (k : Key) (count line : ℕ) (start : ℕ → ℕ) → Regions k count line start → (m d : ℕ) → k.number ≤ m → m + d ≤ count → start (m + d) ≤ start m + d * 18625
+near : (k : Key) (count line : ℕ) (start : ℕ → ℕ) → Regions k count line start → (m d : ℕ) → k.number ≤ m
+    → m + d ≤ count → start (m + d) ≤ start m + d * 18625
 near k count line start r m zero above within = (let e : m + 0 ≡ m = omega arith in rw e (omega arith))
 near k count line start r m (suc d) above within =
     let before : start (m + d) ≤ start m + d * 18625 = near k count line start r m d above (omega arith) in
@@ -29,38 +32,46 @@ near k count line start r m (suc d) above within =
     subst (λ (z : ℕ). start z ≤ start m + suc d * 18625) e (omega arith)
 
 -- a later region begins at most so many lines further on
-pub starts_near : (k : Key) (count line : ℕ) (start : ℕ → ℕ) → Regions k count line start → (m n : ℕ) → k.number ≤ m → m ≤ n → n ≤ count → start n ≤ start m + (n - m) * 18625
+pub starts_near : (k : Key) (count line : ℕ) (start : ℕ → ℕ) → Regions k count line start → (m n : ℕ)
+    → k.number ≤ m → m ≤ n → n ≤ count → start n ≤ start m + (n - m) * 18625
 starts_near k count line start r m n above less within =
     let e : m + (n - m) ≡ n = omega arith in
     subst (λ (z : ℕ). start z ≤ start m + (n - m) * 18625) e (near k count line start r m (n - m) above (omega arith))
 
 -- of two numbers the regions share no line
-pub regions_apart : (k : Key) (count line : ℕ) (start : ℕ → ℕ) → Regions k count line start → (m n : ℕ) → k.number ≤ m → m < count → k.number ≤ n → n < count → m ≢ n
+pub regions_apart : (k : Key) (count line : ℕ) (start : ℕ → ℕ) → Regions k count line start → (m n : ℕ)
+    → k.number ≤ m → m < count → k.number ≤ n → n < count → m ≢ n
     → (start (suc m) ≤ start n) ⊎ (start (suc n) ≤ start m)
 regions_apart k count line start r m n above_m below_m above_n below_n ne = pick (dec_lt m n)
   where
     pick : Dec (m < n) → (start (suc m) ≤ start n) ⊎ (start (suc n) ≤ start m)
-    pick (yes h) = let up = starts_rise k count line start r (suc m) n (omega arith) h (omega arith) in inl (omega arith)
-    pick (no h) = let up = starts_rise k count line start r (suc n) m (omega arith) (omega arith) (omega arith) in inr (omega arith)
+    pick (yes h) = let up = starts_rise k count line start r (suc m) n (omega arith) h (omega arith) in
+        inl (omega arith)
+    pick (no h) = let up = starts_rise k count line start r (suc n) m (omega arith) (omega arith)
+        (omega arith) in inr (omega arith)
 
 -- every claimed region ends at or before the tail's line
-pub ends_within : (k : Key) (count line : ℕ) (start : ℕ → ℕ) → Regions k count line start → (n : ℕ) → k.number ≤ n → n < count → start (suc n) ≤ line
+pub ends_within : (k : Key) (count line : ℕ) (start : ℕ → ℕ) → Regions k count line start → (n : ℕ)
+    → k.number ≤ n → n < count → start (suc n) ≤ line
 ends_within k count line start r n above below =
     let up = starts_rise k count line start r (suc n) count (omega arith) below (omega arith) in
     subst (λ (z : ℕ). start (suc n) ≤ z) r.last (omega arith)
 
 -- every region begins at or behind the table's first line
-pub starts_above : (k : Key) (count line : ℕ) (start : ℕ → ℕ) → Regions k count line start → (n : ℕ) → k.number ≤ n → n ≤ count → k.line + (n - k.number) ≤ start n
+pub starts_above : (k : Key) (count line : ℕ) (start : ℕ → ℕ) → Regions k count line start → (n : ℕ)
+    → k.number ≤ n → n ≤ count → k.line + (n - k.number) ≤ start n
 starts_above k count line start r n above within =
     let up = starts_rise k count line start r k.number n (omega arith) above within in
     subst (λ (z : ℕ). z + (n - k.number) ≤ start n) r.first up
 
 -- a place in the region of m is in that of no other number
-pub one_region : (k : Key) (count line : ℕ) (start : ℕ → ℕ) → Regions k count line start → (m n p : ℕ) → k.number ≤ m → m < count → k.number ≤ n → n < count
+pub one_region : (k : Key) (count line : ℕ) (start : ℕ → ℕ) → Regions k count line start → (m n p : ℕ)
+    → k.number ≤ m → m < count → k.number ≤ n → n < count
     → start m * 4 ≤ p → p < start (suc m) * 4 → start n * 4 ≤ p → p < start (suc n) * 4 → m ≡ n
 one_region k count line start r m n p above_m below_m above_n below_n from_m to_m from_n to_n = pick (ℕ_discrete m n)
   where
     pick : Dec (m ≡ n) → m ≡ n
     pick (yes e) = e
-    pick (no ne) = ⊎_elim (λ (h : start (suc m) ≤ start n). absurd (omega arith)) (λ (h : start (suc n) ≤ start m). absurd (omega arith))
+    pick (no ne) = ⊎_elim (λ (h : start (suc m) ≤ start n). absurd (omega arith))
+        (λ (h : start (suc n) ≤ start m). absurd (omega arith))
         (regions_apart k count line start r m n above_m below_m above_n below_n ne)

@@ -1,12 +1,14 @@
 -- A claim: the tail moves on by one number and so many lines, and the region between is in flight.
-use Rattle.std.proofs.Common.{◌≡◌, ◌≢◌, ℕ, ◌+◌, ◌*◌, ◌<◌, ◌≤◌, suc, set, sym, refl, ap, ◌∙◌, subst, arith, Some, None, Option}
+use Rattle.std.proofs.Common.{◌≡◌, ◌≢◌, ℕ, ◌+◌, ◌*◌, ◌<◌, ◌≤◌, suc, set, sym, refl, ap, ◌∙◌, subst, arith,
+    Some, None, Option}
 use Rattle.std.proofs.Math.Decide.{ℕ_discrete, dec_lt}
 use mathlib.Core.Option.{some}
 use Rattle.std.proofs.Math.ListN.{get_elem?}
 use Rattle.atomic_table.proofs.Lists.{set_here}
 use Rattle.fish_rule.proofs.Common.{each_set, has_own, no_flight, only_main, pairs_set, seats_kept, within_list}
 use Rattle.fish_rule.proofs.Frames.{flight_there}
-use Rattle.fish_rule.proofs.Kept.{chained_later, facts_later, finished_later, flight_later, owns_later, published, shut_later}
+use Rattle.fish_rule.proofs.Kept.{chained_later, facts_later, finished_later, flight_later, owns_later,
+    published, shut_later}
 use Rattle.fish_rule.proofs.Links.{chains_set, links_set}
 use Rattle.fish_rule.proofs.Quotas.{quotas_lower}
 use Rattle.fish_rule.proofs.Worlds.{put-else, put-here}
@@ -21,7 +23,8 @@ use Rattle.fish_rule.specs.declared.view.Key.{Key}
 use Rattle.fish_rule.specs.declared.view.Kind.TheVariants.{Stored}
 use Rattle.fish_rule.specs.declared.view.View.{View}
 
-module _ (k : Key) (w : World) (r : Rule k w) (id : ℕ) (v : View) (at : get_elem? w.views id ≡ some v) (m : ℕ) (can : CanClaim v) (some_lines : 0 < m) (few_lines : m ≤ 18625) where
+module _ (k : Key) (w : World) (r : Rule k w) (id : ℕ) (v : View) (at : get_elem? w.views id ≡ some v) (m : ℕ)
+    (can : CanClaim v) (some_lines : 0 < m) (few_lines : m ≤ 18625) where
   -- the view afterwards
   abbrev pub claimer : View
   claimer = after_claim v m w.count w.line
@@ -79,7 +82,8 @@ module _ (k : Key) (w : World) (r : Rule k w) (id : ℕ) (v : View) (at : get_el
     small = λ n above below. (pick n above below (ℕ_discrete n w.count)).1;
   }
     where
-      pick : (n : ℕ) → k.number ≤ n → n < suc w.count → Dec (n ≡ w.count) → (start' n < start' (suc n)) × (start' (suc n) ≤ start' n + 18625)
+      pick : (n : ℕ) → k.number ≤ n → n < suc w.count → Dec (n ≡ w.count) → (start' n < start' (suc n))
+          × (start' (suc n) ≤ start' n + 18625)
       pick n above below (yes e) =
           let a : start' n ≡ w.line = ap start' e ∙ new_start in
           let b : start' (suc n) ≡ w.line + m = ap (λ (z : ℕ). start' (suc z)) e ∙ new_end in
@@ -109,24 +113,32 @@ module _ (k : Key) (w : World) (r : Rule k w) (id : ℕ) (v : View) (at : get_el
   }
 
   -- the records in flight with others
-  others_fly : (lane : ℕ) (o : Option Flight) → Flies k w.count w.dir w.log r.start r.lane_of lane o → Flies k (suc w.count) w.dir w.log start' lane_of' lane o
+  others_fly : (lane : ℕ) (o : Option Flight) → Flies k w.count w.dir w.log r.start r.lane_of lane o
+      → Flies k (suc w.count) w.dir w.log start' lane_of' lane o
   others_fly lane None h = h
-  others_fly lane (Some g) h = flight_later k w claimed r.start start' r.lane_of lane_of' claim_final lane g h h.unpublished (λ i less. refl) h.whole
+  others_fly lane (Some g) h =
+      flight_later k w claimed r.start start' r.lane_of lane_of' claim_final lane g h h.unpublished
+      (λ i less. refl) h.whole
 
   -- a record that was in flight before has a number below the old count
-  below_count : (lane n : ℕ) (o : Option Flight) → Flies k w.count w.dir w.log r.start r.lane_of lane o → IsFlightOf n o → n < w.count
+  below_count : (lane n : ℕ) (o : Option Flight) → Flies k w.count w.dir w.log r.start r.lane_of lane o
+      → IsFlightOf n o → n < w.count
   below_count lane n None h is = elim is [ ]
   below_count lane n (Some g) h is = subst (λ (z : ℕ). z < w.count) is h.below
 
   space : Space k (suc w.count) (w.line + m) w.dir w.log (set w.views id claimer) start' lane_of'
   space = record {
     regions = regions;
-    finished = λ n above below set_. finished_later k w claimed r.start start' r.lane_of lane_of' claim_final n (old n below set_) set_ (r.space.finished n above (old n below set_) set_);
+    finished = λ n above below set_. finished_later k w claimed r.start start' r.lane_of lane_of' claim_final n
+        (old n below set_) set_ (r.space.finished n above (old n below set_) set_);
     flying = λ n above below unset. fly n above below unset (ℕ_discrete n w.count);
-    flights = each_set _ w.views id claimer (λ j u ne at_u. others_fly u.lane u.flight (r.space.flights j u at_u)) own_flight;
-    alone = λ i j a b n at_i at_j p q. (pairs_set (λ i j a b. IsFlightOf n a.flight → IsFlightOf n b.flight → i ≡ j) w.views id claimer
+    flights = each_set _ w.views id claimer
+        (λ j u ne at_u. others_fly u.lane u.flight (r.space.flights j u at_u)) own_flight;
+    alone = λ i j a b n at_i at_j p q. (pairs_set
+        (λ i j a b. IsFlightOf n a.flight → IsFlightOf n b.flight → i ≡ j) w.views id claimer
         (λ i p q. refl)
-        (λ j u ne at_u. ((λ p q. clash n u (r.space.flights j u at_u) p q), (λ p q. clash n u (r.space.flights j u at_u) q p)))
+        (λ j u ne at_u. ((λ p q. clash n u (r.space.flights j u at_u) p q),
+            (λ p q. clash n u (r.space.flights j u at_u) q p)))
         (λ i j a b _ _ at_a at_b p q. r.space.alone i j a b n at_a at_b p q) i j a b at_i at_j) p q;
     dir_below = r.space.dir_below;
     dir_beyond = λ n more. r.space.dir_beyond n (omega arith);
@@ -140,11 +152,15 @@ module _ (k : Key) (w : World) (r : Rule k w) (id : ℕ) (v : View) (at : get_el
           pick (yes h) = h
           pick (no h) = absurd (set_ (r.space.dir_beyond n (omega arith)))
 
-      fly : (n : ℕ) → k.number ≤ n → n < suc w.count → w.dir n ≡ 0 → Dec (n ≡ w.count) → HasFlight n (set w.views id claimer)
-      fly n above below unset (yes e) = record { seat = id; view = claimer; at = set_here w.views id claimer (within_list w.views id v at); flies = sym e }
-      fly n above below unset (no ne) = flight_there w.views id v claimer at n (λ h. absurd (no_flight n v.flight can.idle h)) (r.space.flying n above (omega arith) unset)
+      fly : (n : ℕ) → k.number ≤ n → n < suc w.count → w.dir n ≡ 0 → Dec (n ≡ w.count)
+          → HasFlight n (set w.views id claimer)
+      fly n above below unset (yes e) = record { seat = id; view = claimer;
+          at = set_here w.views id claimer (within_list w.views id v at); flies = sym e }
+      fly n above below unset (no ne) = flight_there w.views id v claimer at n
+          (λ h. absurd (no_flight n v.flight can.idle h)) (r.space.flying n above (omega arith) unset)
 
-      clash : {i j : ℕ} (n : ℕ) (u : View) → Flies k w.count w.dir w.log r.start r.lane_of u.lane u.flight → w.count ≡ n → IsFlightOf n u.flight → i ≡ j
+      clash : {i j : ℕ} (n : ℕ) (u : View) → Flies k w.count w.dir w.log r.start r.lane_of u.lane u.flight
+          → w.count ≡ n → IsFlightOf n u.flight → i ≡ j
       clash n u h e is = (let less = below_count u.lane n u.flight h is in absurd (omega arith))
 
   -- before the claim the pass might overflow
@@ -162,7 +178,9 @@ module _ (k : Key) (w : World) (r : Rule k w) (id : ℕ) (v : View) (at : get_el
       fits = subst (λ (z : ℕ). z ≤ k.end) (sym (old_start r.limit.first r.limit.within)) r.limit.fits;
       past = λ n more below. past n more below (ℕ_discrete n w.count);
       few = (let few = r.limit.few in let within = r.limit.within in let less = spends in omega arith);
-      may = each_set _ w.views id claimer (λ j u ne at_u l has may. put-else r.quota v.lane 0 l (λ e. ne (r.seats.apart j id u v l at_u at has (subst (Has v.lane v.out) (sym e) mine))) ∙ r.limit.may j u at_u l has may)
+      may = each_set _ w.views id claimer (λ j u ne at_u l has may. put-else r.quota v.lane 0 l
+          (λ e. ne (r.seats.apart j id u v l at_u at has (subst (Has v.lane v.out) (sym e) mine)))
+          ∙ r.limit.may j u at_u l has may)
           (λ l has may. absurd (may.1 over));
     },
   )
@@ -175,7 +193,8 @@ module _ (k : Key) (w : World) (r : Rule k w) (id : ℕ) (v : View) (at : get_el
 
       past : (n : ℕ) → r.limit.first ≤ n → n < suc w.count → Dec (n ≡ w.count) → k.end < start' (suc n)
       past n more below (yes e) = subst (λ (z : ℕ). k.end < z) (sym (ap (λ (z : ℕ). start' (suc z)) e ∙ new_end)) over
-      past n more below (no ne) = (let less : n < w.count = omega arith in subst (λ (z : ℕ). k.end < z) (sym (old_start (suc n) less)) (r.limit.past n more less))
+      past n more below (no ne) = (let less : n < w.count = omega arith in
+          subst (λ (z : ℕ). k.end < z) (sym (old_start (suc n) less)) (r.limit.past n more less))
   limit_of (no within) = (
     r.quota,
     record {
@@ -185,7 +204,8 @@ module _ (k : Key) (w : World) (r : Rule k w) (id : ℕ) (v : View) (at : get_el
       fits = subst (λ (z : ℕ). z ≤ k.end) (sym new_end) (omega arith);
       past = λ n more below. absurd (omega arith);
       few = (let few = r.limit.few in omega arith);
-      may = each_set _ w.views id claimer (λ j u ne at_u. r.limit.may j u at_u) (λ l has may. r.limit.may id v at l has could);
+      may = each_set _ w.views id claimer (λ j u ne at_u. r.limit.may j u at_u)
+          (λ l has may. r.limit.may id v at l has could);
     },
   )
 
@@ -211,19 +231,30 @@ module _ (k : Key) (w : World) (r : Rule k w) (id : ℕ) (v : View) (at : get_el
         key_fits = r.key_fits;
         about = each_set _ w.views id claimer (λ j u ne at_u. r.about j u at_u) (r.about id v at);
         seats = seats_kept w.views id v claimer at refl refl r.seats;
-        tails = each_set _ w.views id claimer (λ j u ne at_u main all. absurd (ne (sym (only_main w.views j id u v r.seats at_u at main all can.live)))) (λ main all. (refl, refl));
+        tails = each_set _ w.views id claimer
+            (λ j u ne at_u main all. absurd (ne
+            (sym (only_main w.views j id u v r.seats at_u at main all can.live)))) (λ main all. (refl, refl));
         space = space;
         limit = lim.1;
         settling = record { within = (let h = r.settling.within in omega arith); below = r.settling.below };
-        chained = each_set _ w.views id claimer (λ j u ne at_u. chained_later k w claimed r.start start' r.lane_of lane_of' claim_final u.learned (r.chained j u at_u)) (chained_later k w claimed r.start start' r.lane_of lane_of' claim_final v.learned (r.chained id v at));
+        chained = each_set _ w.views id claimer
+            (λ j u ne at_u. chained_later k w claimed r.start start' r.lane_of lane_of' claim_final u.learned
+            (r.chained j u at_u))
+            (chained_later k w claimed r.start start' r.lane_of lane_of' claim_final v.learned (r.chained id v at));
         floors = each_set _ w.views id claimer (λ j u ne at_u. r.floors j u at_u) (r.floors id v at);
         chains = chains_set k w r id v claimer at none_linked (λ a c h. let less : c < 0 = h.0 in absurd (omega arith));
         own = each_set _ w.views id claimer
-            (λ j u ne at_u. owns_later k w claimed r.start start' r.lane_of lane_of' claim_final u.lane u.out u.own (r.own j u at_u) (λ o has h. stored_old o.lane o.number h))
-            (owns_later k w claimed r.start start' r.lane_of lane_of' claim_final v.lane v.out v.own (r.own id v at) (λ o has h. stored_old o.lane o.number h));
-        facts = each_set _ w.views id claimer (λ j u ne at_u. facts_later k w claimed r.start start' r.lane_of lane_of' claim_final u.learned (r.facts j u at_u))
+            (λ j u ne at_u. owns_later k w claimed r.start start' r.lane_of lane_of' claim_final u.lane u.out u.own
+                (r.own j u at_u) (λ o has h. stored_old o.lane o.number h))
+            (owns_later k w claimed r.start start' r.lane_of lane_of' claim_final v.lane v.out v.own
+                (r.own id v at) (λ o has h. stored_old o.lane o.number h));
+        facts = each_set _ w.views id claimer
+            (λ j u ne at_u. facts_later k w claimed r.start start' r.lane_of lane_of' claim_final u.learned
+            (r.facts j u at_u))
             (facts_later k w claimed r.start start' r.lane_of lane_of' claim_final v.learned (r.facts id v at));
-        shuts = each_set _ w.views id claimer (λ j u ne at_u. shut_later k w claimed r.start start' r.lane_of lane_of' claim_final u.shut (r.shuts j u at_u))
+        shuts = each_set _ w.views id claimer
+            (λ j u ne at_u. shut_later k w claimed r.start start' r.lane_of lane_of' claim_final u.shut
+            (r.shuts j u at_u))
             (shut_later k w claimed r.start start' r.lane_of lane_of' claim_final v.shut (r.shuts id v at));
       }
 

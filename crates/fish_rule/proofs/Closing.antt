@@ -1,5 +1,6 @@
 -- What the control pass, alone, concludes of the whole log.
-use Rattle.std.proofs.Common.{◌≡◌, ◌≢◌, ℕ, ◌+◌, ◌≤◌, zero, suc, List, [], ◌∷◌, ◌++◌, length, refl, sym, ap, ◌∙◌, subst, inl, inr, ◌⊎◌, ⊎_elim, arith, Some}
+use Rattle.std.proofs.Common.{◌≡◌, ◌≢◌, ℕ, ◌+◌, ◌≤◌, zero, suc, List, [], ◌∷◌, ◌++◌, length, refl, sym, ap,
+    ◌∙◌, subst, inl, inr, ◌⊎◌, ⊎_elim, arith, Some}
 use mathlib.Core.Option.{some}
 use Rattle.std.proofs.Math.ListN.{get_elem?}
 use Rattle.atomic_table.proofs.Lists.{at_snoc}
@@ -24,8 +25,11 @@ use Rattle.fish_rule.specs.declared.view.View.{View}
 -- ---- one number
 
 -- a region that was found is published with its kind in every moment
-pub found_kind : (v : View) (f : Found) → Among f v.learned.found → (u : View) → Learns v u → (w : World) → Rule u.about w → (j : ℕ) → get_elem? w.views j ≡ some u → high (w.dir f.number) ≡ code f.kind
-found_kind v f among u learns w r j at = (all_among (IsFound u.about w.count w.dir r.start) f u.learned.found (r.facts j u at).found (learns.found f among)).kind
+pub found_kind : (v : View) (f : Found) → Among f v.learned.found → (u : View) → Learns v u → (w : World)
+    → Rule u.about w → (j : ℕ) → get_elem? w.views j ≡ some u → high (w.dir f.number) ≡ code f.kind
+found_kind v f among u learns w r j at =
+    (all_among (IsFound u.about w.count w.dir r.start) f u.learned.found (r.facts j u at).found
+    (learns.found f among)).kind
 
 -- what is told stays told
 pub tells_later : (v u : View) (n : ℕ) (e : Entry) → Learns v u → Tells v n e → Tells u n e
@@ -38,19 +42,23 @@ abbrev pub AreTold : View → ℕ → List Entry → Type 0
 AreTold v base entries = (i : ℕ) (e : Entry) → get_elem? entries i ≡ some e → Tells v (base + i) e
 
 -- they stay told, and one more is
-pub told_more : (v u : View) (base : ℕ) (entries : List Entry) (e : Entry) → Learns v u → AreTold v base entries → Tells u (base + length entries) e → AreTold u base (entries ++ e ∷ [])
-told_more v u base entries e learns told next i x at = pick (Rattle.std.proofs.Math.Decide.ℕ_discrete i (length entries))
+pub told_more : (v u : View) (base : ℕ) (entries : List Entry) (e : Entry) → Learns v u
+    → AreTold v base entries → Tells u (base + length entries) e → AreTold u base (entries ++ e ∷ [])
+told_more v u base entries e learns told next i x at =
+    pick (Rattle.std.proofs.Math.Decide.ℕ_discrete i (length entries))
   where
     last : get_elem? (entries ++ e ∷ []) (length entries) ≡ some e
     last = Rattle.atomic_table.proofs.Lists.at_last entries e (length entries) refl
 
     pick : Dec (i ≡ length entries) → Tells u (base + i) x
     pick (yes same) =
-        let here : e ≡ x = mathlib.Core.Option.some-injective e x (sym last ∙ ap (get_elem? (entries ++ e ∷ [])) (sym same) ∙ at) in
+        let here : e ≡ x = mathlib.Core.Option.some-injective e x
+            (sym last ∙ ap (get_elem? (entries ++ e ∷ [])) (sym same) ∙ at) in
         subst (λ (z : ℕ × Entry). Tells u (base + z.0) z.1) (λ d. (sym same d, here d)) next
     pick (no ne) = tells_later v u (base + i) x learns (told i x (before entries i x ne at))
       where
-        before : (xs : List Entry) (m : ℕ) (y : Entry) → m ≢ length xs → get_elem? (xs ++ e ∷ []) m ≡ some y → get_elem? xs m ≡ some y
+        before : (xs : List Entry) (m : ℕ) (y : Entry) → m ≢ length xs → get_elem? (xs ++ e ∷ []) m ≡ some y
+            → get_elem? xs m ≡ some y
         before [] zero y n g = absurd (n refl)
         before [] (suc m) y n g = absurd (mathlib.Core.Option.some-ne-none y (sym g))
         before (z ∷ zs) zero y n g = g
@@ -65,15 +73,19 @@ module _ {A : Type 0} where
   all_from P (x ∷ xs) f = (f x (inl refl), all_from P xs (λ y m. f y (inr m)))
 
 -- what a view has learned holds where it holds of a view that knows as much
-pub facts_back : (v u : View) (k : Key) (count : ℕ) (dir log start : ℕ → ℕ) → Learns v u → Facts k count dir log start u.learned → Facts k count dir log start v.learned
+pub facts_back : (v u : View) (k : Key) (count : ℕ) (dir log start : ℕ → ℕ) → Learns v u
+    → Facts k count dir log start u.learned → Facts k count dir log start v.learned
 facts_back v u k count dir log start learns h =
     let a = learns.count in
     let b = h.counted in
     record {
       counted = omega arith;
-      found = all_from _ v.learned.found (λ x m. all_among (IsFound k count dir start) x u.learned.found h.found (learns.found x m));
-      known = all_from _ v.learned.known (λ x m. all_among (IsKnown k count dir log start) x u.learned.known h.known (learns.known x m));
-      records = all_from _ v.learned.records (λ x m. all_among (IsRecorded k count dir log start) x u.learned.records h.records (learns.records x m));
+      found = all_from _ v.learned.found (λ x m. all_among
+          (IsFound k count dir start) x u.learned.found h.found (learns.found x m));
+      known = all_from _ v.learned.known (λ x m. all_among
+          (IsKnown k count dir log start) x u.learned.known h.known (learns.known x m));
+      records = all_from _ v.learned.records
+          (λ x m. all_among (IsRecorded k count dir log start) x u.learned.records h.records (learns.records x m));
     }
 
 -- ---- a look at one number
@@ -83,8 +95,10 @@ abbrev pub seen : ℕ → ℕ → ℕ → Found
 seen n lines x = record { number = n; kind = kind_told (high x); line = low x; lines = lines }
 
 -- it is found, where the word isn't 0
-pub seen_here : (v u : View) (n lines x : ℕ) → u ≡ after_look v n lines x → x ≢ 0 → Among (seen n lines x) u.learned.found
-seen_here v u n lines x e ne = subst (λ (z : View). Among (seen n lines x) z.learned.found) (sym e) (found_here n lines x v.learned.found ne)
+pub seen_here : (v u : View) (n lines x : ℕ) → u ≡ after_look v n lines x → x ≢ 0
+    → Among (seen n lines x) u.learned.found
+seen_here v u n lines x e ne = subst (λ (z : View). Among (seen n lines x) z.learned.found) (sym e)
+    (found_here n lines x v.learned.found ne)
 
 -- and the view is extended
 pub extends_to_look : (v u : View) (n lines x : ℕ) → u ≡ after_look v n lines x → Extends v u
@@ -101,43 +115,55 @@ tells_mark v f among is u learns w r j at = found_kind v f among u learns w r j 
 -- ---- the end
 
 -- entries that are told up to a mark or up to the count are the closed log
-pub closes : (v : View) (entries : List Entry) (x : ℕ) → Stands v → IsAlone v → v.tail ≡ Some (record { number = high x; line = low x }) → AreTold v v.about.number entries
-    → (v.about.number + length entries ≡ high x) ⊎ ((v.about.number + length entries ≤ high x) × TellsMark v (v.about.number + length entries)) → IsClosed v entries
+pub closes : (v : View) (entries : List Entry) (x : ℕ) → Stands v → IsAlone v
+    → v.tail ≡ Some (record { number = high x; line = low x }) → AreTold v v.about.number entries
+    → (v.about.number + length entries ≡ high x)
+        ⊎ ((v.about.number + length entries ≤ high x) × TellsMark v (v.about.number + length entries))
+        → IsClosed v entries
 closes v entries x s alone tail told end =
     let w : World = s.moment in
     let r = s.rule in
-    let rests : Rests w.count w.line (Some (record { number = high x; line = low x })) = subst (Rests w.count w.line) tail (r.tails s.seat v s.at alone.main alone.all) in
+    let rests : Rests w.count w.line (Some (record { number = high x; line = low x })) =
+        subst (Rests w.count w.line) tail (r.tails s.seat v s.at alone.main alone.all) in
     let count : high x ≡ w.count = rests.0 in
     record {
       moment = w;
       rule = r;
       log = record {
         each = λ i e at. told i e at v (learns_self v) w r s.seat s.at;
-        within = ⊎_elim (λ (h : v.about.number + length entries ≡ high x). omega arith) (λ (h : (v.about.number + length entries ≤ high x) × TellsMark v (v.about.number + length entries)). let le = h.0 in omega arith) end;
+        within = ⊎_elim (λ (h : v.about.number + length entries ≡ high x). omega arith)
+            (λ (h : (v.about.number + length entries ≤ high x)
+            × TellsMark v (v.about.number + length entries)). let le = h.0 in omega arith) end;
         ends = ⊎_elim (λ (h : v.about.number + length entries ≡ high x). inl (h ∙ count))
-            (λ (h : (v.about.number + length entries ≤ high x) × TellsMark v (v.about.number + length entries)). inr (h.1 v (learns_self v) w r s.seat s.at)) end;
+            (λ (h : (v.about.number + length entries ≤ high x)
+                × TellsMark v (v.about.number + length entries)). inr (h.1 v (learns_self v) w r s.seat s.at)) end;
       };
       owns = r.own s.seat v s.at;
       facts = r.facts s.seat v s.at;
     }
 
 -- the tail that the pass left is at or behind the table's first number
-pub tail_behind : (v : View) (x : ℕ) → Stands v → IsAlone v → v.tail ≡ Some (record { number = high x; line = low x }) → v.about.number ≤ high x
+pub tail_behind : (v : View) (x : ℕ) → Stands v → IsAlone v
+    → v.tail ≡ Some (record { number = high x; line = low x }) → v.about.number ≤ high x
 tail_behind v x s alone tail =
     let w : World = s.moment in
     let r = s.rule in
-    let rests : Rests w.count w.line (Some (record { number = high x; line = low x })) = subst (Rests w.count w.line) tail (r.tails s.seat v s.at alone.main alone.all) in
+    let rests : Rests w.count w.line (Some (record { number = high x; line = low x })) =
+        subst (Rests w.count w.line) tail (r.tails s.seat v s.at alone.main alone.all) in
     let some_ = r.space.regions.some in
     let count : high x ≡ w.count = rests.0 in
     omega arith
 
 -- a log that is closed for a view is closed for one that knew less, and had the same lanes and records
-pub closed_before : (v u : View) (entries : List Entry) → Learns v u → u.lane ≡ v.lane → u.out ≡ v.out → u.own ≡ v.own → IsClosed u entries → IsClosed v entries
+pub closed_before : (v u : View) (entries : List Entry) → Learns v u → u.lane ≡ v.lane → u.out ≡ v.out
+    → u.own ≡ v.own → IsClosed u entries → IsClosed v entries
 closed_before v u entries learns lane out own h =
     let w : World = h.moment in
-    let owns = subst (λ (z : ℕ × List ℕ × List Own). Owns u.about w.count w.dir h.rule.lane_of z.0 z.1 z.2) (λ i. (lane i, out i, own i)) h.owns in
+    let owns = subst (λ (z : ℕ × List ℕ × List Own). Owns u.about w.count w.dir h.rule.lane_of z.0 z.1 z.2)
+        (λ i. (lane i, out i, own i)) h.owns in
     let facts = facts_back v u u.about w.count w.dir w.log h.rule.start learns h.facts in
-    subst (λ (z : Key). IsClosedAt z v.lane v.out v.own v.learned entries) learns.about (record { moment = w; rule = h.rule; log = h.log; owns = owns; facts = facts })
+    subst (λ (z : Key). IsClosedAt z v.lane v.out v.own v.learned entries) learns.about
+        (record { moment = w; rule = h.rule; log = h.log; owns = owns; facts = facts })
 
 -- a pass that only learns stays alone
 pub alone_later : (v u : View) → Extends v u → IsAlone v → IsAlone u

@@ -28,7 +28,8 @@ learns_both a b c e f =
 
 -- a view extends itself
 pub extends_self : (v : View) → Extends v v
-extends_self v = record { learns = learns_self v; lane = refl; out = refl; shut = refl; flight = refl; tail = refl; own = refl }
+extends_self v = record { learns = learns_self v; lane = refl; out = refl; shut = refl; flight = refl;
+    tail = refl; own = refl }
 
 -- and what extends an extension extends it
 pub extends_both : (a b c : View) → Extends a b → Extends b c → Extends a c
@@ -61,8 +62,11 @@ pub extends_to_read : (v u : View) (place x : ℕ) → u ≡ after_read v place 
 extends_to_read v u place x e = subst (Extends v) (sym e) (extends_read v place x)
 
 -- the word that was read is known
-pub read_here : (v u : View) (place x : ℕ) → u ≡ after_read v place x → Among (record { place = place; value = x }) u.learned.known
-read_here v u place x e = (let m : Among (record { place = place; value = x }) (after_read v place x).learned.known = inl refl in subst (λ (z : View). Among (record { place = place; value = x }) z.learned.known) (sym e) m)
+pub read_here : (v u : View) (place x : ℕ) → u ≡ after_read v place x
+    → Among (record { place = place; value = x }) u.learned.known
+read_here v u place x e = (let m : Among (record { place = place; value = x })
+    (after_read v place x).learned.known = inl refl in
+    subst (λ (z : View). Among (record { place = place; value = x }) z.learned.known) (sym e) m)
 
 -- ---- a look
 
@@ -74,7 +78,8 @@ found_more n lines (suc x) found f m = inr m
 -- a directory word that is seen extends a view
 pub extends_look : (v : View) (n lines x : ℕ) → Extends v (after_look v n lines x)
 extends_look v n lines x = record {
-  learns = record { about = refl; count = omega arith; found = found_more n lines x v.learned.found; known = λ x m. m; records = λ x m. m };
+  learns = record { about = refl; count = omega arith; found = found_more n lines x v.learned.found;
+      known = λ x m. m; records = λ x m. m };
   lane = refl;
   out = refl;
   shut = refl;
@@ -84,7 +89,9 @@ extends_look v n lines x = record {
 }
 
 -- the region of a word that isn't 0 is found
-pub found_here : (n lines x : ℕ) (found : List Found) → x ≢ 0 → Among (record { number = n; kind = kind_told (high x); line = low x; lines = lines }) (found_after n lines x found)
+pub found_here : (n lines x : ℕ) (found : List Found) → x ≢ 0
+    → Among (record { number = n; kind = kind_told (high x); line = low x; lines = lines })
+    (found_after n lines x found)
 found_here n lines zero found ne = absurd (ne refl)
 found_here n lines (suc x) found ne = inl refl
 

@@ -14,7 +14,8 @@ use Rattle.fish_rule.specs.declared.view.Flight.{Flight}
 use Rattle.fish_rule.specs.declared.view.Key.{Key}
 use Rattle.fish_rule.specs.declared.view.View.{View}
 
-module _ (k : Key) (w : World) (r : Rule k w) (id : ℕ) (v : View) (at : get_elem? w.views id ≡ some v) (f : Flight) (can : CanStore v f) (x : ℕ) where
+module _ (k : Key) (w : World) (r : Rule k w) (id : ℕ) (v : View) (at : get_elem? w.views id ≡ some v)
+    (f : Flight) (can : CanStore v f) (x : ℕ) where
   -- the place of the word
   abbrev pub stored_place : ℕ
   stored_place = f.line * 4 + length f.words
@@ -24,7 +25,8 @@ module _ (k : Key) (w : World) (r : Rule k w) (id : ℕ) (v : View) (at : get_el
   stored = record w { log = put w.log stored_place x; views = set w.views id (after_store v f x) }
 
   -- one word more
-  becomes : Becomes (f.lines * 4) f.linked (length f.words) x (IsKeyWord (keys_of (body w.log f.line 0)) (length f.words)) f.words (f.words ++ x ∷ [])
+  becomes : Becomes (f.lines * 4) f.linked (length f.words) x
+      (IsKeyWord (keys_of (body w.log f.line 0)) (length f.words)) f.words (f.words ++ x ∷ [])
   becomes = record {
     within = can.more;
     unlinked = λ h. let less : h.0 < f.linked = h.1 in let none = can.unlinked in absurd (omega arith);
@@ -32,7 +34,8 @@ module _ (k : Key) (w : World) (r : Rule k w) (id : ℕ) (v : View) (at : get_el
     longer = (let e = longer in omega arith);
     here = (let e = longer in omega arith);
     value = get_or-append_seam f.words x [] 0;
-    same = λ i ne less. let e = longer in let before : i < length f.words = omega arith in (before, get_or_append_left f.words (x ∷ []) 0 i before);
+    same = λ i ne less. let e = longer in let before : i < length f.words = omega arith in
+        (before, get_or_append_left f.words (x ∷ []) 0 i before);
     linking = λ some_. let none = can.unlinked in absurd (omega arith);
   }
     where

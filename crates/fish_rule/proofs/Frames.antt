@@ -15,26 +15,33 @@ one_view vs id v u at_v at_u = some-injective v u (sym at_v ∙ at_u)
 
 module _ (vs : List View) (id : ℕ) (v v' : View) (at : get_elem? vs id ≡ some v) where
   -- a number stays in flight where the stepping pass keeps it
-  pub flight_there : (n : ℕ) → (IsFlightOf n v.flight → IsFlightOf n v'.flight) → HasFlight n vs → HasFlight n (set vs id v')
+  pub flight_there : (n : ℕ) → (IsFlightOf n v.flight → IsFlightOf n v'.flight) → HasFlight n vs
+      → HasFlight n (set vs id v')
   flight_there n keep h = pick (ℕ_discrete h.seat id)
     where
       pick : Dec (h.seat ≡ id) → HasFlight n (set vs id v')
       pick (yes e) =
           let same : h.view ≡ v = one_view vs id h.view v (subst (λ (z : ℕ). get_elem? vs z ≡ some h.view) e h.at) at in
-          record { seat = id; view = v'; at = set_here vs id v' (within_list vs id v at); flies = keep (subst (λ (z : View). IsFlightOf n z.flight) same h.flies) }
+          record { seat = id; view = v'; at = set_here vs id v' (within_list vs id v at);
+              flies = keep (subst (λ (z : View). IsFlightOf n z.flight) same h.flies) }
       pick (no ne) = record { seat = h.seat; view = h.view; at = set_else vs id h.seat v' ne ∙ h.at; flies = h.flies }
 
   -- no two passes have one record in flight, where the stepping pass has no new one
   pub alone_kept : ((n : ℕ) → IsFlightOf n v'.flight → IsFlightOf n v.flight)
-      → ((i j : ℕ) (a b : View) (n : ℕ) → get_elem? vs i ≡ some a → get_elem? vs j ≡ some b → IsFlightOf n a.flight → IsFlightOf n b.flight → i ≡ j)
-      → (i j : ℕ) (a b : View) (n : ℕ) → get_elem? (set vs id v') i ≡ some a → get_elem? (set vs id v') j ≡ some b → IsFlightOf n a.flight → IsFlightOf n b.flight → i ≡ j
-  alone_kept back alone i j a b n at_i at_j p q = (pairs_set (λ i j a b. IsFlightOf n a.flight → IsFlightOf n b.flight → i ≡ j) vs id v'
+      → ((i j : ℕ) (a b : View) (n : ℕ) → get_elem? vs i ≡ some a → get_elem? vs j ≡ some b
+          → IsFlightOf n a.flight → IsFlightOf n b.flight → i ≡ j)
+      → (i j : ℕ) (a b : View) (n : ℕ) → get_elem? (set vs id v') i ≡ some a
+          → get_elem? (set vs id v') j ≡ some b → IsFlightOf n a.flight → IsFlightOf n b.flight → i ≡ j
+  alone_kept back alone i j a b n at_i at_j p q =
+      (pairs_set (λ i j a b. IsFlightOf n a.flight → IsFlightOf n b.flight → i ≡ j) vs id v'
       (λ i p q. refl)
       (λ j u ne at_u. ((λ p q. alone id j v u n at at_u (back n p) q), (λ p q. alone j id u v n at_u at p (back n q))))
       (λ i j a b _ _ at_a at_b p q. alone i j a b n at_a at_b p q) i j a b at_i at_j) p q
 
-  -- the lanes that may still overflow stay as they are, where the stepping pass has the same lanes and may overflow only if it could
-  pub may_kept : (end : ℕ) (quota : ℕ → ℕ) → v'.lane ≡ v.lane → v'.out ≡ v.out → (MayOverflow end v'.shut v'.flight → MayOverflow end v.shut v.flight)
+  -- the lanes that may still overflow stay as they are, where the stepping pass has the same lanes
+  -- and may overflow only if it could
+  pub may_kept : (end : ℕ) (quota : ℕ → ℕ) → v'.lane ≡ v.lane → v'.out ≡ v.out
+      → (MayOverflow end v'.shut v'.flight → MayOverflow end v.shut v.flight)
       → Each (λ u. (l : ℕ) → Has u.lane u.out l → MayOverflow end u.shut u.flight → quota l ≡ 1) vs
       → Each (λ u. (l : ℕ) → Has u.lane u.out l → MayOverflow end u.shut u.flight → quota l ≡ 1) (set vs id v')
   may_kept end quota lane out back all = each_set _ vs id v' (λ j u ne at_u. all j u at_u)

@@ -1,5 +1,6 @@
 -- Loads of heads and of first words of linked entries.
-use Rattle.std.proofs.Common.{◌≡◌, ◌≢◌, ℕ, ◌+◌, ◌-◌, ◌*◌, ◌<◌, ◌≤◌, zero, suc, List, get_or, set, sym, refl, ap, ◌∙◌, subst, ⊎_elim, arith}
+use Rattle.std.proofs.Common.{◌≡◌, ◌≢◌, ℕ, ◌+◌, ◌-◌, ◌*◌, ◌<◌, ◌≤◌, zero, suc, List, get_or, set, sym, refl,
+    ap, ◌∙◌, subst, ⊎_elim, arith}
 use mathlib.Core.Option.{none, some}
 use Rattle.std.proofs.Math.ListN.{get_elem?}
 use Rattle.atomic_table.specs.Table.{Allows, step}
@@ -11,7 +12,8 @@ use Rattle.fish_rule.proofs.Bounds.{starts_above}
 use Rattle.fish_rule.proofs.Bodies.{kind-inside}
 use Rattle.fish_rule.proofs.Worlds.{area-in}
 use Rattle.fish_rule.specs.Chains.{IsLow, Linked}
-use Rattle.fish_rule.specs.Linking.{CanLoadHead, HasNode, LowRises, ToldHead, ToldPrevious, TopRises, after_head, after_previous, bucket_at, with_node}
+use Rattle.fish_rule.specs.Linking.{CanLoadHead, HasNode, LowRises, ToldHead, ToldPrevious, TopRises,
+    after_head, after_previous, bucket_at, with_node}
 use Rattle.fish_rule.specs.Rule.{Final, Rule}
 use Rattle.fish_rule.specs.Table.{Ruled, Sat, Told, place_at}
 use Rattle.fish_rule.specs.Views.{AllOf}
@@ -22,7 +24,8 @@ use Rattle.fish_rule.specs.declared.view.Node.{Node}
 use Rattle.fish_rule.specs.declared.view.View.{View}
 
 -- a place that is 0 or linked joins the nodes
-pub node_joins : (P : Node → Type 0) (b x : ℕ) (nodes : List Node) → AllOf P nodes → (x ≢ 0 → P (record { bucket = b; place = x })) → AllOf P (with_node b x nodes)
+pub node_joins : (P : Node → Type 0) (b x : ℕ) (nodes : List Node) → AllOf P nodes
+    → (x ≢ 0 → P (record { bucket = b; place = x })) → AllOf P (with_node b x nodes)
 node_joins P b zero nodes all here = all
 node_joins P b (suc x) nodes all here = (here (λ e. let z : suc x ≡ 0 = e in absurd (omega arith)), all)
 
@@ -35,7 +38,8 @@ module _ (k : Key) (w : World) (r : Rule k w) (id : ℕ) (v : View) (at : get_el
 
   -- what is known of the head has been reached
   pub head_rises : TopRises v b (w.head b)
-  head_rises t among is = (let h = all_among (λ x. x.place ≤ w.head x.bucket) t v.learned.tops (r.chained id v at).tops among in subst (λ (z : ℕ). t.place ≤ w.head z) is h)
+  head_rises t among is = (let h = all_among (λ x. x.place ≤ w.head x.bucket) t v.learned.tops
+      (r.chained id v at).tops among in subst (λ (z : ℕ). t.place ≤ w.head z) is h)
 
   -- a load of a head keeps the rule
   pub head_kept : Rule k (record w { views = set w.views id top_seer })
@@ -43,23 +47,30 @@ module _ (k : Key) (w : World) (r : Rule k w) (id : ℕ) (v : View) (at : get_el
       let h = r.facts id v at in
       let still = still_chained k w r id v at top_seer.learned v.tail top_seer.clock in
       let final = learn_final k w r id v at top_seer.learned v.tail top_seer.clock in
-      learns k w r id v at top_seer.learned v.tail top_seer.clock (r.tails id v at) (record { counted = h.counted; found = h.found; known = h.known; records = h.records }) (r.floors id v at) (record {
-        nodes = node_joins _ b (w.head b) v.learned.nodes still.nodes (λ ne. ⊎_elim (λ (e : w.head b ≡ 0). absurd (ne e)) (λ (g : Linked k w.dir w.log w.views b (w.head b)). final.links b (w.head b) g) (r.chains b).some);
+      learns k w r id v at top_seer.learned v.tail top_seer.clock (r.tails id v at)
+          (record { counted = h.counted; found = h.found; known = h.known; records = h.records })
+          (r.floors id v at) (record {
+        nodes = node_joins _ b (w.head b) v.learned.nodes still.nodes
+            (λ ne. ⊎_elim (λ (e : w.head b ≡ 0). absurd (ne e))
+            (λ (g : Linked k w.dir w.log w.views b (w.head b)). final.links b (w.head b) g) (r.chains b).some);
         lows = still.lows;
         tops = (omega arith, still.tops);
       })
 
   -- and all that lasts
-  pub head_lasts : Final k r.start head_kept.start r.lane_of head_kept.lane_of w (record w { views = set w.views id top_seer })
+  pub head_lasts : Final k r.start head_kept.start r.lane_of head_kept.lane_of w
+      (record w { views = set w.views id top_seer })
   unfolding head_kept learns
   head_lasts = learn_final k w r id v at top_seer.learned v.tail top_seer.clock
 
 -- ---- first words
 
-module _ (k : Key) (w : World) (r : Rule k w) (id : ℕ) (v : View) (at : get_elem? w.views id ≡ some v) (b p : ℕ) (node : HasNode v b p) where
+module _ (k : Key) (w : World) (r : Rule k w) (id : ℕ) (v : View) (at : get_elem? w.views id ≡ some v)
+    (b p : ℕ) (node : HasNode v b p) where
   -- the entry is linked
   pub node_linked : Linked k w.dir w.log w.views b p
-  node_linked = all_among (λ x. Linked k w.dir w.log w.views x.bucket x.place) _ v.learned.nodes (r.chained id v at).nodes node
+  node_linked = all_among (λ x. Linked k w.dir w.log w.views x.bucket x.place) _ v.learned.nodes
+      (r.chained id v at).nodes node
 
   -- the view afterwards
   abbrev pub low_seer : View
@@ -67,7 +78,8 @@ module _ (k : Key) (w : World) (r : Rule k w) (id : ℕ) (v : View) (at : get_el
 
   -- what is known of the first word has been reached
   pub low_rises : LowRises v p (w.log p)
-  low_rises t among is = (let h = all_among (IsLow k w.dir w.log w.views) t v.learned.lows (r.chained id v at).lows among in subst (λ (z : ℕ). t.value ≤ w.log z) is h.low)
+  low_rises t among is = (let h = all_among (IsLow k w.dir w.log w.views) t v.learned.lows
+      (r.chained id v at).lows among in subst (λ (z : ℕ). t.value ≤ w.log z) is h.low)
 
   -- the first word is below its place
   pub low_less : w.log p < p
@@ -80,66 +92,91 @@ module _ (k : Key) (w : World) (r : Rule k w) (id : ℕ) (v : View) (at : get_el
       let still = still_chained k w r id v at low_seer.learned v.tail low_seer.clock in
       let final = learn_final k w r id v at low_seer.learned v.tail low_seer.clock in
       let next = (r.chains b).next p node_linked in
-      learns k w r id v at low_seer.learned v.tail low_seer.clock (r.tails id v at) (record { counted = h.counted; found = h.found; known = h.known; records = h.records }) (r.floors id v at) (record {
-        nodes = node_joins _ b (w.log p) v.learned.nodes still.nodes (λ ne. ⊎_elim (λ (e : w.log p ≡ 0). absurd (ne e)) (λ (g : Linked k w.dir w.log w.views b (w.log p)). final.links b (w.log p) g) next.is);
+      learns k w r id v at low_seer.learned v.tail low_seer.clock (r.tails id v at)
+          (record { counted = h.counted; found = h.found; known = h.known; records = h.records })
+          (r.floors id v at) (record {
+        nodes = node_joins _ b (w.log p) v.learned.nodes still.nodes
+            (λ ne. ⊎_elim (λ (e : w.log p ≡ 0). absurd (ne e))
+            (λ (g : Linked k w.dir w.log w.views b (w.log p)). final.links b (w.log p) g) next.is);
         lows = (record { bucket = b; linked = final.links b p node_linked; low = omega arith }, still.lows);
         tops = still.tops;
       })
 
   -- and all that lasts
-  pub previous_lasts : Final k r.start previous_kept.start r.lane_of previous_kept.lane_of w (record w { views = set w.views id low_seer })
+  pub previous_lasts : Final k r.start previous_kept.start r.lane_of previous_kept.lane_of w
+      (record w { views = set w.views id low_seer })
   unfolding previous_kept learns
   previous_lasts = learn_final k w r id v at low_seer.learned v.tail low_seer.clock
 
 -- a linked place is within the log's words
-pub place_within : (k : Key) (w : World) (r : Rule k w) (b p : ℕ) → Linked k w.dir w.log w.views b p → (k.line * 4 ≤ p) × (p < k.line * 4 + log_size k)
+pub place_within : (k : Key) (w : World) (r : Rule k w) (b p : ℕ) → Linked k w.dir w.log w.views b p
+    → (k.line * 4 ≤ p) × (p < k.line * 4 + log_size k)
 place_within k w r b p h =
     let s = spot k w r h.line h.entry h.shows in
     let inside = lies_inside k w r b p h s in
-    let from = starts_above k w.count w.line r.start r.space.regions s.number s.above (let q = s.below in omega arith) in
-    let end = kind-inside k.end (r.start s.number) (r.start (suc s.number)) (λ e. let q : Stored ≡ Mark = sym s.kind ∙ e in cc) in
+    let from = starts_above k w.count w.line r.start r.space.regions s.number s.above
+        (let q = s.below in omega arith) in
+    let end = kind-inside k.end (r.start s.number) (r.start (suc s.number))
+        (λ e. let q : Stored ≡ Mark = sym s.kind ∙ e in cc) in
     (omega arith, omega arith)
 
 -- ---- at the table
 
 -- a load of a head
-pub head_allowed : (given k : Key) → given ≡ k → (size id : ℕ) (me : Sat) (b i : ℕ) → me.0.about ≡ k → CanLoadHead me.0 b → i ≡ heads_at + b → Allows (Ruled given) size id me i (λ n. n) (ToldHead (step size i 0 0 none) me)
-head_allowed given k same size id me b i about can is = allowed given k same size id me i (λ n. n) (ToldHead (step size i 0 0 none) me) (λ ws vs wide r at.
+pub head_allowed : (given k : Key) → given ≡ k → (size id : ℕ) (me : Sat) (b i : ℕ) → me.0.about ≡ k
+    → CanLoadHead me.0 b → i ≡ heads_at + b
+    → Allows (Ruled given) size id me i (λ n. n) (ToldHead (step size i 0 0 none) me)
+head_allowed given k same size id me b i about can is =
+    allowed given k same size id me i (λ n. n) (ToldHead (step size i 0 0 none) me) (λ ws vs wide r at.
     let w : World = world k ws vs in
     let x : ℕ = get_or ws i 0 in
     let below : b < k.buckets = subst (λ (z : Key). b < z.buckets) about can.below in
     let minus : b ≡ b - 0 = omega arith in
-    let word : x ≡ w.head b = ap (λ (z : ℕ). get_or ws z 0) is ∙ ap (λ (z : ℕ). get_or ws (heads_at + z) 0) minus ∙ sym (area-in ws heads_at 0 k.buckets b (omega arith) (omega arith)) in
+    let word : x ≡ w.head b = ap (λ (z : ℕ). get_or ws z 0) is
+        ∙ ap (λ (z : ℕ). get_or ws (heads_at + z) 0) minus
+        ∙ sym (area-in ws heads_at 0 k.buckets b (omega arith) (omega arith)) in
     let index : bucket_at i ≡ b = omega arith in
     let v' : View = after_head me.0 b x in
-    let kept : Rule k (record w { views = set vs id v' }) = subst (λ (z : ℕ). Rule k (record w { views = set vs id (after_head me.0 b z) })) (sym word) (head_kept k w r id me.0 at b) in (
+    let kept : Rule k (record w { views = set vs id v' }) =
+        subst (λ (z : ℕ). Rule k (record w { views = set vs id (after_head me.0 b z) })) (sym word)
+        (head_kept k w r id me.0 at b) in (
       v',
       loaded_words k ws (set vs id v') i kept,
       record {
-        told = subst (λ (z : ℕ). Told me (after_head me.0 z x) (v', me.1)) (sym index) (record { view = refl; held = refl; stands = stands k _ id v' kept about (there vs id me.0 v' at) });
-        rises = subst (λ (z : ℕ × ℕ). TopRises me.0 z.0 z.1) (λ j. (sym index j, sym word j)) (head_rises k w r id me.0 at b);
+        told = subst (λ (z : ℕ). Told me (after_head me.0 z x) (v', me.1)) (sym index)
+            (record { view = refl; held = refl; stands = stands k _ id v' kept about (there vs id me.0 v' at) });
+        rises = subst (λ (z : ℕ × ℕ). TopRises me.0 z.0 z.1) (λ j. (sym index j, sym word j))
+            (head_rises k w r id me.0 at b);
       },
     ))
 
 -- a load of the first word of a linked entry
-pub previous_allowed : (given k : Key) → given ≡ k → (size id : ℕ) (me : Sat) (b p i : ℕ) → me.0.about ≡ k → HasNode me.0 b p → i ≡ log_at k + (p - k.line * 4) → Allows (Ruled given) size id me i (λ n. n) (ToldPrevious (step size i 0 0 none) me)
-previous_allowed given k same size id me b p i about node is = allowed given k same size id me i (λ n. n) (ToldPrevious (step size i 0 0 none) me) (λ ws vs wide r at.
+pub previous_allowed : (given k : Key) → given ≡ k → (size id : ℕ) (me : Sat) (b p i : ℕ) → me.0.about ≡ k
+    → HasNode me.0 b p → i ≡ log_at k + (p - k.line * 4)
+    → Allows (Ruled given) size id me i (λ n. n) (ToldPrevious (step size i 0 0 none) me)
+previous_allowed given k same size id me b p i about node is =
+    allowed given k same size id me i (λ n. n) (ToldPrevious (step size i 0 0 none) me) (λ ws vs wide r at.
     let w : World = world k ws vs in
     let x : ℕ = get_or ws i 0 in
     let linked = node_linked k w r id me.0 at b p node in
     let within = place_within k w r b p linked in
-    let word : x ≡ w.log p = ap (λ (z : ℕ). get_or ws z 0) is ∙ sym (area-in ws (log_at k) (k.line * 4) (log_size k) p within.0 within.1) in
+    let word : x ≡ w.log p = ap (λ (z : ℕ). get_or ws z 0) is
+        ∙ sym (area-in ws (log_at k) (k.line * 4) (log_size k) p within.0 within.1) in
     let index : place_at me.0.about i ≡ p = ap (λ (z : Key). place_at z i) about ∙ (omega arith) in
     let v' : View = after_previous me.0 b p x in
-    let kept : Rule k (record w { views = set vs id v' }) = subst (λ (z : ℕ). Rule k (record w { views = set vs id (after_previous me.0 b p z) })) (sym word) (previous_kept k w r id me.0 at b p node) in
+    let kept : Rule k (record w { views = set vs id v' }) =
+        subst (λ (z : ℕ). Rule k (record w { views = set vs id (after_previous me.0 b p z) })) (sym word)
+        (previous_kept k w r id me.0 at b p node) in
     let less = low_less k w r id me.0 at b p node in (
       v',
       loaded_words k ws (set vs id v') i kept,
       record {
         bucket = b;
         node = subst (HasNode me.0 b) (sym index) node;
-        told = subst (λ (z : ℕ). Told me (after_previous me.0 b z x) (v', me.1)) (sym index) (record { view = refl; held = refl; stands = stands k _ id v' kept about (there vs id me.0 v' at) });
-        rises = subst (λ (z : ℕ × ℕ). LowRises me.0 z.0 z.1) (λ j. (sym index j, sym word j)) (low_rises k w r id me.0 at b p node);
+        told = subst (λ (z : ℕ). Told me (after_previous me.0 b z x) (v', me.1)) (sym index)
+            (record { view = refl; held = refl; stands = stands k _ id v' kept about (there vs id me.0 v' at) });
+        rises = subst (λ (z : ℕ × ℕ). LowRises me.0 z.0 z.1) (λ j. (sym index j, sym word j))
+            (low_rises k w r id me.0 at b p node);
         less = subst (λ (z : ℕ × ℕ). z.0 < z.1) (λ j. (sym word j, sym index j)) less;
       },
     ))

@@ -1,9 +1,11 @@
 -- What a step leaves: the facts that stand after it because nothing that they speak of has changed.
-use Rattle.std.proofs.Common.{◌≡◌, ◌≢◌, ℕ, ◌+◌, ◌-◌, ◌*◌, ◌<◌, ◌≤◌, suc, List, sym, refl, ap, ◌∙◌, subst, arith, Some, None, Option}
+use Rattle.std.proofs.Common.{◌≡◌, ◌≢◌, ℕ, ◌+◌, ◌-◌, ◌*◌, ◌<◌, ◌≤◌, suc, List, sym, refl, ap, ◌∙◌, subst,
+    arith, Some, None, Option}
 use Rattle.fish_layout.specs.Header.{lines_of}
 use Rattle.fish_rule.proofs.Common.{all_map}
 use Rattle.fish_rule.specs.Chains.{Chained, IsLow}
-use Rattle.fish_rule.specs.Parts.{Facts, InFlight, IsFinished, IsFound, IsKnown, IsRecorded, IsStoredBy, Owns, ShutOk, Whole}
+use Rattle.fish_rule.specs.Parts.{Facts, InFlight, IsFinished, IsFound, IsKnown, IsRecorded, IsStoredBy, Owns,
+    ShutOk, Whole}
 use Rattle.fish_rule.specs.Regions.{Holds, code, kind_of}
 use Rattle.fish_rule.specs.Rule.{Final}
 use Rattle.fish_rule.specs.Views.{Has}
@@ -34,13 +36,16 @@ code_some Mark = omega arith
 
 -- a word that tells a kind isn't 0
 pub published : (d : ℕ) (kind : Kind) → high d ≡ code kind → d ≢ 0
-published d kind is e = (let h : high 0 ≡ code kind = subst (λ (z : ℕ). high z ≡ code kind) e is in let c = code_some kind in let z = high-zero in absurd (omega arith))
+published d kind is e = (let h : high 0 ≡ code kind = subst (λ (z : ℕ). high z ≡ code kind) e is in
+    let c = code_some kind in let z = high-zero in absurd (omega arith))
 
 -- ---- what lasts
 
-module _ (k : Key) (w w' : World) (start start' lane_of lane_of' : ℕ → ℕ) (f : Final k start start' lane_of lane_of' w w') where
+module _ (k : Key) (w w' : World) (start start' lane_of lane_of' : ℕ → ℕ)
+    (f : Final k start start' lane_of lane_of' w w') where
   -- a published number stays so, with its region and words
-  pub finished_later : (n : ℕ) → n < w.count → w.dir n ≢ 0 → IsFinished k w.dir w.log start lane_of n → IsFinished k w'.dir w'.log start' lane_of' n
+  pub finished_later : (n : ℕ) → n < w.count → w.dir n ≢ 0 → IsFinished k w.dir w.log start lane_of n
+      → IsFinished k w'.dir w'.log start' lane_of' n
   finished_later n below set h =
       let a : start' n ≡ start n = f.starts n (omega arith) in
       let b : start' (suc n) ≡ start (suc n) = f.starts (suc n) below in
@@ -48,10 +53,13 @@ module _ (k : Key) (w w' : World) (start start' lane_of lane_of' : ℕ → ℕ) 
       let d = f.dirs n below set in
       let l = f.lanes n below in
       record {
-        kind = subst (λ (z : ℕ × ℕ × ℕ). high z.0 ≡ code (kind_of k.end z.1 z.2)) (λ i. (sym d i, sym a i, sym b i)) h.kind;
+        kind = subst (λ (z : ℕ × ℕ × ℕ). high z.0 ≡ code (kind_of k.end z.1 z.2))
+            (λ i. (sym d i, sym a i, sym b i)) h.kind;
         line = subst (λ (z : ℕ × ℕ). low z.0 ≡ z.1) (λ i. (sym d i, sym a i)) h.line;
-        lined = subst (λ (z : ℕ × ℕ × (ℕ → ℕ)). lines_of (z.2 0) ≤ z.1 - z.0) (λ i. (sym a i, sym b i, sym e i)) h.lined;
-        holds = subst (λ (z : ℕ × ℕ × ℕ × (ℕ → ℕ)). Holds (kind_of k.end z.0 z.1) z.2 n (z.1 - z.0) z.3) (λ i. (sym a i, sym b i, sym l i, sym e i)) h.holds;
+        lined = subst (λ (z : ℕ × ℕ × (ℕ → ℕ)). lines_of (z.2 0) ≤ z.1 - z.0)
+            (λ i. (sym a i, sym b i, sym e i)) h.lined;
+        holds = subst (λ (z : ℕ × ℕ × ℕ × (ℕ → ℕ)). Holds (kind_of k.end z.0 z.1) z.2 n (z.1 - z.0) z.3)
+            (λ i. (sym a i, sym b i, sym l i, sym e i)) h.holds;
       }
 
   -- what was found stays so
@@ -85,11 +93,13 @@ module _ (k : Key) (w w' : World) (start start' lane_of lane_of' : ℕ → ℕ) 
         published = λ e. h.published (sym d ∙ e);
         inside = subst (λ (z : ℕ × ℕ). h.offset < (z.1 - z.0) * 4) (λ i. (sym a i, sym b i)) h.inside;
         place = h.place ∙ ap (λ (z : ℕ). z * 4 + h.offset) (sym a);
-        word = ap (λ (z : ℕ). body w'.log z h.offset) a ∙ ap (λ (e : ℕ → ℕ). e h.offset) (f.bodies n below h.published) ∙ h.word;
+        word = ap (λ (z : ℕ). body w'.log z h.offset) a
+            ∙ ap (λ (e : ℕ → ℕ). e h.offset) (f.bodies n below h.published) ∙ h.word;
       }
 
   -- what was stored stays so
-  pub recorded_later : (x : Recorded) → IsRecorded k w.count w.dir w.log start x → IsRecorded k w'.count w'.dir w'.log start' x
+  pub recorded_later : (x : Recorded) → IsRecorded k w.count w.dir w.log start x
+      → IsRecorded k w'.count w'.dir w'.log start' x
   recorded_later x h =
       let set = published (w.dir x.number) Stored h.stored in
       let up = f.counts in
@@ -109,8 +119,10 @@ module _ (k : Key) (w w' : World) (start start' lane_of lane_of' : ℕ → ℕ) 
       record {
         counted = omega arith;
         found = all_map (IsFound k w.count w.dir start) (IsFound k w'.count w'.dir start') found_later l.found h.found;
-        known = all_map (IsKnown k w.count w.dir w.log start) (IsKnown k w'.count w'.dir w'.log start') known_later l.known h.known;
-        records = all_map (IsRecorded k w.count w.dir w.log start) (IsRecorded k w'.count w'.dir w'.log start') recorded_later l.records h.records;
+        known = all_map (IsKnown k w.count w.dir w.log start)
+            (IsKnown k w'.count w'.dir w'.log start') known_later l.known h.known;
+        records = all_map (IsRecorded k w.count w.dir w.log start)
+            (IsRecorded k w'.count w'.dir w'.log start') recorded_later l.records h.records;
       }
 
   -- the claim that shut a pass stays a mark
@@ -120,7 +132,8 @@ module _ (k : Key) (w w' : World) (start start' lane_of lane_of' : ℕ → ℕ) 
 
   -- a record in flight stays so while its directory word and its words are left
   pub flight_later : (lane : ℕ) (g : Flight) → InFlight k w.count w.dir w.log start lane_of lane g → w'.dir g.number ≡ 0
-      → ((i : ℕ) → i < g.lines * 4 → w'.log (g.line * 4 + i) ≡ w.log (g.line * 4 + i)) → (0 < g.linked → Whole k w'.log lane g) → InFlight k w'.count w'.dir w'.log start' lane_of' lane g
+      → ((i : ℕ) → i < g.lines * 4 → w'.log (g.line * 4 + i) ≡ w.log (g.line * 4 + i))
+          → (0 < g.linked → Whole k w'.log lane g) → InFlight k w'.count w'.dir w'.log start' lane_of' lane g
   flight_later lane g h dir same whole =
       let up = f.counts in
       let below = h.below in
@@ -153,7 +166,8 @@ module _ (k : Key) (w w' : World) (start start' lane_of lane_of' : ℕ → ℕ) 
       }
 
   -- and one that was published before was one before
-  pub stored_before : (l n : ℕ) → n < w.count → w.dir n ≢ 0 → IsStoredBy k w'.count w'.dir lane_of' l n → IsStoredBy k w.count w.dir lane_of l n
+  pub stored_before : (l n : ℕ) → n < w.count → w.dir n ≢ 0 → IsStoredBy k w'.count w'.dir lane_of' l n
+      → IsStoredBy k w.count w.dir lane_of l n
   stored_before l n below set h = record {
     above = h.above;
     below = below;
@@ -163,18 +177,22 @@ module _ (k : Key) (w w' : World) (start start' lane_of lane_of' : ℕ → ℕ) 
 
   -- own numbers stay exact where every record of the pass's lanes was published before
   pub owns_later : (lane : ℕ) (out : List ℕ) (own : List Own) → Owns k w.count w.dir lane_of lane out own
-      → ((o : Own) → Has lane out o.lane → IsStoredBy k w'.count w'.dir lane_of' o.lane o.number → (o.number < w.count) × (w.dir o.number ≢ 0))
+      → ((o : Own) → Has lane out o.lane → IsStoredBy k w'.count w'.dir lane_of' o.lane o.number
+          → (o.number < w.count) × (w.dir o.number ≢ 0))
       → Owns k w'.count w'.dir lane_of' lane out own
   owns_later lane out own h before = record {
     sound = λ o m. let s = h.sound o m in (s.0, stored_later o.lane o.number s.1);
-    complete = λ o has stored. let b = before o has stored in h.complete o has (stored_before o.lane o.number b.0 b.1 stored);
+    complete = λ o has stored. let b = before o has stored in
+        h.complete o has (stored_before o.lane o.number b.0 b.1 stored);
   }
 
   -- what is known of chains stays so
-  pub chained_later : (l : Learned) → Chained k w.dir w.log w.views w.head l → Chained k w'.dir w'.log w'.views w'.head l
+  pub chained_later : (l : Learned) → Chained k w.dir w.log w.views w.head l
+      → Chained k w'.dir w'.log w'.views w'.head l
   chained_later l h = record {
     nodes = all_map _ _ (λ x m. f.links x.bucket x.place m) l.nodes h.nodes;
     lows = all_map (IsLow k w.dir w.log w.views) (IsLow k w'.dir w'.log w'.views)
-        (λ x m. record { bucket = m.bucket; linked = f.links m.bucket x.place m.linked; low = (let a = m.low in let b = f.rises m.bucket x.place m.linked in omega arith) }) l.lows h.lows;
+        (λ x m. record { bucket = m.bucket; linked = f.links m.bucket x.place m.linked;
+            low = (let a = m.low in let b = f.rises m.bucket x.place m.linked in omega arith) }) l.lows h.lows;
     tops = all_map _ _ (λ x m. let b = f.heads x.bucket in omega arith) l.tops h.tops;
   }

@@ -1,5 +1,6 @@
 -- Lanes that are given out and taken in, the records that go with them, and one more view behind the others.
-use Rattle.std.proofs.Common.{◌≡◌, ◌≢◌, ℕ, ◌≤◌, zero, suc, List, [], ◌∷◌, ◌++◌, length, sym, refl, ap, ◌∙◌, subst, inl, inr, ◌⊎◌, ⊎_elim, arith, Some, None, Option}
+use Rattle.std.proofs.Common.{◌≡◌, ◌≢◌, ℕ, ◌≤◌, zero, suc, List, [], ◌∷◌, ◌++◌, length, sym, refl, ap, ◌∙◌,
+    subst, inl, inr, ◌⊎◌, ⊎_elim, arith, Some, None, Option}
 use mathlib.Core.Option.{some, some-injective, some-ne-none}
 use Rattle.std.proofs.Math.Decide.{ℕ_discrete, dec_le}
 use Rattle.std.proofs.Math.ListN.{get_elem?}
@@ -155,7 +156,8 @@ first_shut_none None b e = (refl, e)
 first_shut_none (Some s) b e = cc
 
 -- the claim that shut either pass is a mark
-pub shut_either : (k : Key) (count : ℕ) (dir start : ℕ → ℕ) (a b : Option Shut) → ShutOk k count dir start a → ShutOk k count dir start b
+pub shut_either : (k : Key) (count : ℕ) (dir start : ℕ → ℕ) (a b : Option Shut) → ShutOk k count dir start a
+    → ShutOk k count dir start b
     → ShutOk k count dir start (first_shut a b)
 shut_either k count dir start None b p q = q
 shut_either k count dir start (Some s) b p q = p
@@ -172,10 +174,13 @@ snoc_cases (v ∷ vs) u a (suc j) at =
     ⊎_elim (λ (t : get_elem? vs j ≡ some a). inl t) (λ (t : (j ≡ length vs) × (u ≡ a)). inr (ap suc t.0, t.1))
     (snoc_cases vs u a j at)
 
--- where P holds at one place of the others at most, and at none if it holds of the new view, it holds at one place of all
-pub pairs_snoc : (P : View → Type 0) (vs : List View) (u : View) → ((j : ℕ) (a : View) → get_elem? vs j ≡ some a → P a → ¬ P u)
+-- where P holds at one place of the others at most, and at none if it holds of the new view, it
+-- holds at one place of all
+pub pairs_snoc : (P : View → Type 0) (vs : List View) (u : View)
+    → ((j : ℕ) (a : View) → get_elem? vs j ≡ some a → P a → ¬ P u)
     → ((i j : ℕ) (a b : View) → get_elem? vs i ≡ some a → get_elem? vs j ≡ some b → P a → P b → i ≡ j)
-    → (i j : ℕ) (a b : View) → get_elem? (vs ++ u ∷ []) i ≡ some a → get_elem? (vs ++ u ∷ []) j ≡ some b → P a → P b → i ≡ j
+    → (i j : ℕ) (a b : View) → get_elem? (vs ++ u ∷ []) i ≡ some a → get_elem? (vs ++ u ∷ []) j ≡ some b → P a
+        → P b → i ≡ j
 pairs_snoc P vs u none apart i j a b at_i at_j p q = by (snoc_cases vs u a i at_i) (snoc_cases vs u b j at_j)
   where
     by : (get_elem? vs i ≡ some a) ⊎ ((i ≡ length vs) × (u ≡ a))
@@ -187,7 +192,8 @@ pairs_snoc P vs u none apart i j a b at_i at_j p q = by (snoc_cases vs u a i at_
 
 -- a number stays in flight
 pub flight_longer : (vs : List View) (u : View) (n : ℕ) → HasFlight n vs → HasFlight n (vs ++ u ∷ [])
-flight_longer vs u n h = record { seat = h.seat; view = h.view; at = at_longer vs (u ∷ []) h.seat h.view h.at; flies = h.flies }
+flight_longer vs u n h = record { seat = h.seat; view = h.view; at = at_longer vs (u ∷ []) h.seat h.view h.at;
+    flies = h.flies }
 
 -- nothing in flight ends past the log's end
 pub not_over : (end : ℕ) (flight : Option Flight) → flight ≡ None → ¬ IsOver end flight

@@ -61,7 +61,8 @@ flight_law key v f about s is =
     })
 
 -- the number that a pass may look at has a directory word
-pub look_law : (k : Key) (v : View) (n : ℕ) → v.about ≡ k → Stands v → CanLook v n → (k.number ≤ n) × (n - k.number < slots k) × (n < 268435456)
+pub look_law : (k : Key) (v : View) (n : ℕ) → v.about ≡ k → Stands v → CanLook v n → (k.number ≤ n)
+    × (n - k.number < slots k) × (n < 268435456)
 look_law k v n about s can =
     let w : World = s.moment in
     let r = s.rule in
@@ -70,10 +71,12 @@ look_law k v n about s can =
     let counted = (r.facts s.seat v s.at).counted in
     let above = can.above in
     let below = can.below in
-    subst (λ (z : Key). (z.number ≤ n) × (n - z.number < slots z) × (n < 268435456)) about (above, omega arith, omega arith)
+    subst (λ (z : Key). (z.number ≤ n) × (n - z.number < slots z) × (n < 268435456)) about
+        (above, omega arith, omega arith)
 
 -- the word that a pass may read is within the log
-pub read_law : (k : Key) (v : View) (f : Found) (i : ℕ) → v.about ≡ k → Stands v → CanRead v f i → (k.line ≤ f.line) × (f.line + f.lines ≤ k.end) × (i < f.lines * 4)
+pub read_law : (k : Key) (v : View) (f : Found) (i : ℕ) → v.about ≡ k → Stands v → CanRead v f i
+    → (k.line ≤ f.line) × (f.line + f.lines ≤ k.end) × (i < f.lines * 4)
 read_law key v f i about s can =
     let k : Key = v.about in
     let w : World = s.moment in
@@ -81,24 +84,28 @@ read_law key v f i about s can =
     let found = all_among (IsFound k w.count w.dir r.start) f v.learned.found (r.facts s.seat v s.at).found can.found in
     let line = found.line in
     let lines = found.lines in
-    let from = starts_above k w.count w.line r.start r.space.regions f.number found.above (let b = found.below in omega arith) in
+    let from = starts_above k w.count w.line r.start r.space.regions f.number found.above
+        (let b = found.below in omega arith) in
     let t = region_found k w r f found in
     let end = kind-inside k.end (r.start f.number) (r.start (suc f.number)) (λ e. can.words (sym t.1 ∙ e)) in
-    subst (λ (z : Key). (z.line ≤ f.line) × (f.line + f.lines ≤ z.end) × (i < f.lines * 4)) about (omega arith, omega arith, can.inside)
+    subst (λ (z : Key). (z.line ≤ f.line) × (f.line + f.lines ≤ z.end) × (i < f.lines * 4)) about
+        (omega arith, omega arith, can.inside)
 
 -- the key of a table that a view stands in
 pub fits_law : (v : View) → Stands v → Fits v.about
 fits_law v s = s.rule.key_fits
 
 -- the header of a region that was found tells its lines
-pub header_law : (v : View) (f : Found) (h : ℕ) → Stands v → Among f v.learned.found → f.kind ≢ Mark → Among (record { place = f.line * 4; value = h }) v.learned.known → lines_of h ≡ f.lines
+pub header_law : (v : View) (f : Found) (h : ℕ) → Stands v → Among f v.learned.found → f.kind ≢ Mark
+    → Among (record { place = f.line * 4; value = h }) v.learned.known → lines_of h ≡ f.lines
 header_law v f h s among words read =
     let k : Key = v.about in
     let w : World = s.moment in
     let r = s.rule in
     let facts = r.facts s.seat v s.at in
     let found = all_among (IsFound k w.count w.dir r.start) f v.learned.found facts.found among in
-    let head = head_known k w r f h found (all_among (IsKnown k w.count w.dir w.log r.start) _ v.learned.known facts.known read) in
+    let head = head_known k w r f h found
+        (all_among (IsKnown k w.count w.dir w.log r.start) _ v.learned.known facts.known read) in
     ap lines_of (sym head) ∙ lines_found k w r f found words
 
 -- a region that was found has a line
@@ -106,7 +113,8 @@ pub found_law : (v : View) (f : Found) → Stands v → Among f v.learned.found 
 found_law v f s among =
     let w : World = s.moment in
     let r = s.rule in
-    let found = all_among (IsFound v.about w.count w.dir r.start) f v.learned.found (r.facts s.seat v s.at).found among in
+    let found = all_among (IsFound v.about w.count w.dir r.start) f v.learned.found
+        (r.facts s.seat v s.at).found among in
     let line = found.line in
     let lines = found.lines in
     let grows = r.space.regions.grows f.number found.above found.below in
@@ -116,10 +124,13 @@ found_law v f s among =
 
 -- a place that a pass knows linked is of one bucket
 pub one_bucket : (v : View) (b c p : ℕ) → Stands v → HasNode v b p → HasNode v c p → b ≡ c
-one_bucket v b c p s one two = one_chain v.about s.moment s.rule b c p (node_linked v.about s.moment s.rule s.seat v s.at b p one) (node_linked v.about s.moment s.rule s.seat v s.at c p two)
+one_bucket v b c p s one two = one_chain v.about s.moment s.rule b c p
+    (node_linked v.about s.moment s.rule s.seat v s.at b p one)
+    (node_linked v.about s.moment s.rule s.seat v s.at c p two)
 
 -- and within the log
-pub node_law : (k : Key) (v : View) (b p : ℕ) → v.about ≡ k → Stands v → HasNode v b p → (k.line * 4 ≤ p) × (p < k.end * 4)
+pub node_law : (k : Key) (v : View) (b p : ℕ) → v.about ≡ k → Stands v → HasNode v b p → (k.line * 4 ≤ p)
+    × (p < k.end * 4)
 node_law k v b p about s node =
     let h = place_within v.about s.moment s.rule b p (node_linked v.about s.moment s.rule s.seat v s.at b p node) in
     let fits = s.rule.key_fits in
@@ -127,7 +138,8 @@ node_law k v b p about s node =
     subst (λ (z : Key). (z.line * 4 ≤ p) × (p < z.end * 4)) about (h.0, omega arith)
 
 -- and so is the own entry that is next to be linked
-pub aim_law : (k : Key) (v : View) (f : Flight) → v.about ≡ k → Stands v → CanAim v f → (k.line * 4 ≤ own_place f) × (own_place f < k.end * 4)
+pub aim_law : (k : Key) (v : View) (f : Flight) → v.about ≡ k → Stands v → CanAim v f
+    → (k.line * 4 ≤ own_place f) × (own_place f < k.end * 4)
 aim_law k v f about s can =
     let h = own_within v.about s.moment s.rule s.seat v s.at f can in
     let fits = s.rule.key_fits in

@@ -1,5 +1,6 @@
 -- Loads change no word: what one pass has learned is all that is new.
-use Rattle.std.proofs.Common.{◌≡◌, ◌≢◌, ℕ, ◌+◌, ◌-◌, ◌*◌, ◌<◌, ◌≤◌, zero, suc, [], set, sym, refl, ap, ◌∙◌, subst, arith, Some, None, Option}
+use Rattle.std.proofs.Common.{◌≡◌, ◌≢◌, ℕ, ◌+◌, ◌-◌, ◌*◌, ◌<◌, ◌≤◌, zero, suc, [], set, sym, refl, ap, ◌∙◌,
+    subst, arith, Some, None, Option}
 use mathlib.Core.Option.{some}
 use Rattle.std.proofs.Math.ListN.{get_elem?}
 use Rattle.fish_rule.proofs.Bodies.{tail_is}
@@ -30,15 +31,24 @@ module _ (k : Key) (w : World) (r : Rule k w) (id : ℕ) (v : View) (at : get_el
   learner l t c = record v { learned = l; tail = t; clock = c }
 
   -- nothing that lasts has changed
-  pub learn_final : (l : Learned) (t : Option Position) (c : Clock) → Final k r.start r.start r.lane_of r.lane_of w (record w { views = set w.views id (learner l t c) })
-  learn_final l t c = record { counts = omega arith; lines = omega arith; settles = omega arith; heads = λ b. omega arith; links = links_set k w r id v (learner l t c) at (λ a c h. h); rises = λ b p h. omega arith; starts = λ n h. refl; lanes = λ n h. refl; dirs = λ n h e. refl; bodies = λ n h e. refl }
+  pub learn_final : (l : Learned) (t : Option Position) (c : Clock)
+      → Final k r.start r.start r.lane_of r.lane_of w (record w { views = set w.views id (learner l t c) })
+  learn_final l t c = record { counts = omega arith; lines = omega arith; settles = omega arith;
+      heads = λ b. omega arith; links = links_set k w r id v (learner l t c) at (λ a c h. h);
+      rises = λ b p h. omega arith; starts = λ n h. refl; lanes = λ n h. refl; dirs = λ n h e. refl;
+      bodies = λ n h e. refl }
 
   -- what was known of chains is so in the new world
-  pub still_chained : (l : Learned) (t : Option Position) (c : Clock) → Chained k w.dir w.log (set w.views id (learner l t c)) w.head v.learned
-  still_chained l t c = chained_later k w (record w { views = set w.views id (learner l t c) }) r.start r.start r.lane_of r.lane_of (learn_final l t c) v.learned (r.chained id v at)
+  pub still_chained : (l : Learned) (t : Option Position) (c : Clock)
+      → Chained k w.dir w.log (set w.views id (learner l t c)) w.head v.learned
+  still_chained l t c = chained_later k w
+      (record w { views = set w.views id (learner l t c) }) r.start r.start r.lane_of r.lane_of
+      (learn_final l t c) v.learned (r.chained id v at)
 
   -- a load keeps the rule where the new facts hold
-  unfoldable pub learns : (l : Learned) (t : Option Position) (c : Clock) → (v.lane ≡ 1 → v.out ≡ [] → Rests w.count w.line t) → Facts k w.count w.dir w.log r.start l → l.settled ≤ w.settled → Chained k w.dir w.log (set w.views id (learner l t c)) w.head l
+  unfoldable pub learns : (l : Learned) (t : Option Position) (c : Clock)
+      → (v.lane ≡ 1 → v.out ≡ [] → Rests w.count w.line t) → Facts k w.count w.dir w.log r.start l
+      → l.settled ≤ w.settled → Chained k w.dir w.log (set w.views id (learner l t c)) w.head l
       → Rule k (record w { views = set w.views id (learner l t c) })
   learns l t c rests facts floor chained =
       let v' : View = learner l t c in
@@ -53,7 +63,8 @@ module _ (k : Key) (w : World) (r : Rule k w) (id : ℕ) (v : View) (at : get_el
         space = record {
           regions = r.space.regions;
           finished = r.space.finished;
-          flying = λ n above below unset. flight_there w.views id v v' at n (λ h. h) (r.space.flying n above below unset);
+          flying = λ n above below unset. flight_there w.views id v v' at n (λ h. h)
+              (r.space.flying n above below unset);
           flights = each_set _ w.views id v' (λ j u ne at_u. r.space.flights j u at_u) (r.space.flights id v at);
           alone = alone_kept w.views id v v' at (λ n h. h) r.space.alone;
           dir_below = r.space.dir_below;
@@ -70,7 +81,9 @@ module _ (k : Key) (w : World) (r : Rule k w) (id : ℕ) (v : View) (at : get_el
           may = may_kept w.views id v v' at k.end r.quota refl refl (λ h. h) r.limit.may;
         };
         settling = r.settling;
-        chained = each_set _ w.views id v' (λ j u ne at_u. chained_later k w (record w { views = set w.views id v' }) r.start r.start r.lane_of r.lane_of (learn_final l t c) u.learned (r.chained j u at_u)) chained;
+        chained = each_set _ w.views id v' (λ j u ne at_u. chained_later k w
+            (record w { views = set w.views id v' }) r.start r.start r.lane_of r.lane_of
+            (learn_final l t c) u.learned (r.chained j u at_u)) chained;
         chains = chains_set k w r id v v' at (λ a c h. h) (λ a c h. h);
         floors = each_set _ w.views id v' (λ j u ne at_u. r.floors j u at_u) floor;
         own = each_set _ w.views id v' (λ j u ne at_u. r.own j u at_u) (r.own id v at);
@@ -81,11 +94,13 @@ module _ (k : Key) (w : World) (r : Rule k w) (id : ℕ) (v : View) (at : get_el
   -- ---- end
 
   -- a load of the tail
-  pub end_kept : (x : ℕ) → high x ≡ w.count → low x ≡ w.line → Rule k (record w { views = set w.views id (after_end v x) })
+  pub end_kept : (x : ℕ) → high x ≡ w.count → low x ≡ w.line
+      → Rule k (record w { views = set w.views id (after_end v x) })
   end_kept x count line =
       let h = r.facts id v at in
       let still = still_chained (record v.learned { count = high x }) (after_end v x).tail (after_end v x).clock in
-      learns (record v.learned { count = high x }) (after_end v x).tail (after_end v x).clock (λ main all. (count, line)) (record {
+      learns (record v.learned { count = high x }) (after_end v x).tail (after_end v x).clock
+          (λ main all. (count, line)) (record {
         counted = subst (λ (z : ℕ). z ≤ w.count) (sym count) (omega arith);
         found = h.found;
         known = h.known;
@@ -94,9 +109,13 @@ module _ (k : Key) (w : World) (r : Rule k w) (id : ℕ) (v : View) (at : get_el
 
   -- and all that lasts
   pub end_lasts : (x : ℕ) (count : high x ≡ w.count) (line : low x ≡ w.line)
-      → Final k r.start (end_kept x count line).start r.lane_of (end_kept x count line).lane_of w (record w { views = set w.views id (after_end v x) })
+      → Final k r.start (end_kept x count line).start r.lane_of (end_kept x count line).lane_of w
+          (record w { views = set w.views id (after_end v x) })
   unfolding end_kept learns
-  end_lasts x count line = record { counts = omega arith; lines = omega arith; settles = omega arith; heads = λ b. omega arith; links = links_set k w r id v (after_end v x) at (λ a c h. h); rises = λ b p h. omega arith; starts = λ m h. refl; lanes = λ m h. refl; dirs = λ m h e. refl; bodies = λ m h e. refl }
+  end_lasts x count line = record { counts = omega arith; lines = omega arith; settles = omega arith;
+      heads = λ b. omega arith; links = links_set k w r id v (after_end v x) at (λ a c h. h);
+      rises = λ b p h. omega arith; starts = λ m h. refl; lanes = λ m h. refl; dirs = λ m h e. refl;
+      bodies = λ m h e. refl }
 
   -- the count only rises
   pub end_counted : (x : ℕ) → high x ≡ w.count → v.learned.count ≤ high x
@@ -108,7 +127,8 @@ module _ (k : Key) (w : World) (r : Rule k w) (id : ℕ) (v : View) (at : get_el
 
   -- while no lane is out, the tail is as it was left
   pub end_rests : (x : ℕ) → high x ≡ w.count → low x ≡ w.line → v.lane ≡ 1 → v.out ≡ [] → Rests (high x) (low x) v.tail
-  end_rests x count line main all = subst (λ (z : ℕ × ℕ). Rests z.0 z.1 v.tail) (λ d. (sym count d, sym line d)) (r.tails id v at main all)
+  end_rests x count line main all = subst (λ (z : ℕ × ℕ). Rests z.0 z.1 v.tail)
+      (λ d. (sym count d, sym line d)) (r.tails id v at main all)
 
   -- ---- load settled
 
@@ -117,13 +137,19 @@ module _ (k : Key) (w : World) (r : Rule k w) (id : ℕ) (v : View) (at : get_el
   settled_kept =
       let h = r.facts id v at in
       let still = still_chained (record v.learned { settled = w.settled }) v.tail (after_settled v w.settled).clock in
-      learns (record v.learned { settled = w.settled }) v.tail (after_settled v w.settled).clock (r.tails id v at) (record { counted = h.counted; found = h.found; known = h.known; records = h.records }) (omega arith)
+      learns (record v.learned { settled = w.settled }) v.tail (after_settled v w.settled).clock
+          (r.tails id v at) (record { counted = h.counted; found = h.found; known = h.known;
+          records = h.records }) (omega arith)
       (record { nodes = still.nodes; lows = still.lows; tops = still.tops })
 
   -- and all that lasts
-  pub settled_lasts : Final k r.start settled_kept.start r.lane_of settled_kept.lane_of w (record w { views = set w.views id (after_settled v w.settled) })
+  pub settled_lasts : Final k r.start settled_kept.start r.lane_of settled_kept.lane_of w
+      (record w { views = set w.views id (after_settled v w.settled) })
   unfolding settled_kept learns
-  settled_lasts = record { counts = omega arith; lines = omega arith; settles = omega arith; heads = λ b. omega arith; links = links_set k w r id v (after_settled v w.settled) at (λ a c h. h); rises = λ b p h. omega arith; starts = λ n h. refl; lanes = λ n h. refl; dirs = λ n h e. refl; bodies = λ n h e. refl }
+  settled_lasts = record { counts = omega arith; lines = omega arith; settles = omega arith;
+      heads = λ b. omega arith; links = links_set k w r id v (after_settled v w.settled) at (λ a c h. h);
+      rises = λ b p h. omega arith; starts = λ n h. refl; lanes = λ n h. refl; dirs = λ n h e. refl;
+      bodies = λ n h e. refl }
 
   -- ---- look
 
@@ -138,18 +164,22 @@ module _ (k : Key) (w : World) (r : Rule k w) (id : ℕ) (v : View) (at : get_el
   lines_at n = r.start (suc n) - r.start n
 
   -- a load of a directory word
-  pub look_kept : (n x : ℕ) → CanLook v n → v.about ≡ k → x ≡ w.dir n → Rule k (record w { views = set w.views id (after_look v n (lines_at n) x) })
+  pub look_kept : (n x : ℕ) → CanLook v n → v.about ≡ k → x ≡ w.dir n
+      → Rule k (record w { views = set w.views id (after_look v n (lines_at n) x) })
   look_kept n x can about is =
       let h = r.facts id v at in
-      let still = still_chained (record v.learned { found = found_after n (lines_at n) x v.learned.found }) v.tail (after_look v n (lines_at n) x).clock in
-      learns (record v.learned { found = found_after n (lines_at n) x v.learned.found }) v.tail (after_look v n (lines_at n) x).clock (r.tails id v at) (record {
+      let still = still_chained (record v.learned { found =
+          found_after n (lines_at n) x v.learned.found }) v.tail (after_look v n (lines_at n) x).clock in
+      learns (record v.learned { found = found_after n (lines_at n) x v.learned.found }) v.tail
+          (after_look v n (lines_at n) x).clock (r.tails id v at) (record {
         counted = h.counted;
         found = each x is;
         known = h.known;
         records = h.records;
       }) (r.floors id v at) (record { nodes = still.nodes; lows = still.lows; tops = still.tops })
     where
-      each : (x : ℕ) → x ≡ w.dir n → Rattle.fish_rule.specs.Views.AllOf (IsFound k w.count w.dir r.start) (found_after n (lines_at n) x v.learned.found)
+      each : (x : ℕ) → x ≡ w.dir n → Rattle.fish_rule.specs.Views.AllOf (IsFound k w.count w.dir r.start)
+          (found_after n (lines_at n) x v.learned.found)
       each zero is = (r.facts id v at).found
       each (suc x) is =
           let counted = (r.facts id v at).counted in
@@ -160,26 +190,34 @@ module _ (k : Key) (w : World) (r : Rule k w) (id : ℕ) (v : View) (at : get_el
             record {
               above = above;
               below = below;
-              kind = f.kind ∙ ap code (sym (told (high (suc x)) (kind_of k.end (r.start n) (r.start (suc n))) (ap high is ∙ f.kind)));
+              kind = f.kind ∙ ap code (sym (told (high (suc x)) (kind_of k.end (r.start n) (r.start (suc n)))
+                  (ap high is ∙ f.kind)));
               line = sym f.line ∙ ap low (sym is);
-              lines = (let e : r.start (suc n) ≡ r.start n + lines_at n = omega arith in e ∙ ap (λ (z : ℕ). z + lines_at n) (sym f.line ∙ ap low (sym is)));
+              lines = (let e : r.start (suc n) ≡ r.start n + lines_at n = omega arith in
+                  e ∙ ap (λ (z : ℕ). z + lines_at n) (sym f.line ∙ ap low (sym is)));
             },
             (r.facts id v at).found,
           )
 
   -- and all that lasts
   pub look_lasts : (n x : ℕ) (can : CanLook v n) (about : v.about ≡ k) (is : x ≡ w.dir n)
-      → Final k r.start (look_kept n x can about is).start r.lane_of (look_kept n x can about is).lane_of w (record w { views = set w.views id (after_look v n (lines_at n) x) })
+      → Final k r.start (look_kept n x can about is).start r.lane_of (look_kept n x can about is).lane_of w
+          (record w { views = set w.views id (after_look v n (lines_at n) x) })
   unfolding look_kept learns
-  look_lasts n x can about is = record { counts = omega arith; lines = omega arith; settles = omega arith; heads = λ b. omega arith; links = links_set k w r id v (after_look v n (lines_at n) x) at (λ a c h. h); rises = λ b p h. omega arith; starts = λ m h. refl; lanes = λ m h. refl; dirs = λ m h e. refl; bodies = λ m h e. refl }
+  look_lasts n x can about is = record { counts = omega arith; lines = omega arith; settles = omega arith;
+      heads = λ b. omega arith; links = links_set k w r id v (after_look v n (lines_at n) x) at (λ a c h. h);
+      rises = λ b p h. omega arith; starts = λ m h. refl; lanes = λ m h. refl; dirs = λ m h e. refl;
+      bodies = λ m h e. refl }
 
   -- a number that was found has the word that it had
-  pub look_known : (n : ℕ) (x : ℕ) → x ≡ w.dir n → (f : Found) → Among f v.learned.found → f.number ≡ n → x ≡ dir_word f.kind f.line
+  pub look_known : (n : ℕ) (x : ℕ) → x ≡ w.dir n → (f : Found) → Among f v.learned.found → f.number ≡ n
+      → x ≡ dir_word f.kind f.line
   look_known n x is f among same =
       let found = all_among (IsFound k w.count w.dir r.start) f v.learned.found (r.facts id v at).found among in
       let finished = r.space.finished f.number found.above found.below (published (w.dir f.number) f.kind found.kind) in
       let line : low (w.dir f.number) ≡ f.line = finished.line ∙ found.line in
-      let parts : low (w.dir f.number) + high (w.dir f.number) * 68719476736 ≡ w.dir f.number = tail_is (w.dir f.number) in
+      let parts : low (w.dir f.number) + high (w.dir f.number) * 68719476736 ≡ w.dir f.number =
+          tail_is (w.dir f.number) in
       is ∙ ap w.dir (sym same) ∙ sym parts ∙ ap (λ (z : ℕ × ℕ). z.0 + z.1 * 68719476736) (λ i. (line i, found.kind i))
 
   -- a pass that is alone finds every claimed number published
@@ -191,9 +229,11 @@ module _ (k : Key) (w : World) (r : Rule k w) (id : ℕ) (v : View) (at : get_el
       let h = r.space.flying n above below unset in
       let live = flier h.view.flight h.flies (r.space.flights h.seat h.view h.at) in
       let here : h.seat ≡ id = only_main w.views id h.seat v h.view r.seats at h.at alone.main alone.all live in
-      let same : h.view ≡ v = one_view w.views id h.view v (subst (λ (z : ℕ). get_elem? w.views z ≡ some h.view) here h.at) at in
+      let same : h.view ≡ v = one_view w.views id h.view v
+          (subst (λ (z : ℕ). get_elem? w.views z ≡ some h.view) here h.at) at in
       subst (λ (z : Option Flight). IsFlightOf n z) (ap (λ (z : View). z.flight) same ∙ alone.idle) h.flies
     where
-      flier : {lane : ℕ} (o : Option Flight) → IsFlightOf n o → Flies k w.count w.dir w.log r.start r.lane_of lane o → 1 ≤ lane
+      flier : {lane : ℕ} (o : Option Flight) → IsFlightOf n o
+          → Flies k w.count w.dir w.log r.start r.lane_of lane o → 1 ≤ lane
       flier None h f = elim h [ ]
       flier (Some g) h f = f.live

@@ -12,7 +12,8 @@ pub region_aim : (f : Flight) (x : ℕ) → region_in (Some (aimed_at f x)) ≡ 
 region_aim f x = refl
 
 -- what two views give is what a choice of them gives
-either_way : {A P : Type 0} (g : View → A) (a : A) (d : Dec P) (hit miss : View) → g hit ≡ a → g miss ≡ a → g (choose d hit miss) ≡ a
+either_way : {A P : Type 0} (g : View → A) (a : A) (d : Dec P) (hit miss : View) → g hit ≡ a → g miss ≡ a
+    → g (choose d hit miss) ≡ a
 either_way g a (yes e) hit miss p q = p
 either_way g a (no n) hit miss p q = q
 
@@ -28,18 +29,23 @@ module _ (v : View) (f : Flight) (b h x : ℕ) where
   swing_shut = either_way (λ (z : View). z.shut) v.shut (ℕ_discrete x h) (swung v f b) (after_head v b x) refl refl
 
   pub region_swing : v.flight ≡ Some f → region_in (after_swing v f b h x).flight ≡ region_in (Some f)
-  region_swing flying = either_way (λ (z : View). region_in z.flight) (region_in (Some f)) (ℕ_discrete x h) (swung v f b) (after_head v b x) refl (ap region_in flying)
+  region_swing flying = either_way (λ (z : View). region_in z.flight) (region_in (Some f)) (ℕ_discrete x h)
+      (swung v f b) (after_head v b x) refl (ap region_in flying)
 
 module _ (v : View) (f : Flight) (b q h x : ℕ) where
   -- a splice
   pub splice_about : (after_splice v f b q h x).about ≡ v.about
-  splice_about = either_way (λ (z : View). z.about) v.about (ℕ_discrete x h) (spliced v f b q) (after_previous v b q x) refl refl
+  splice_about = either_way (λ (z : View). z.about) v.about (ℕ_discrete x h) (spliced v f b q)
+      (after_previous v b q x) refl refl
 
   pub splice_lane : (after_splice v f b q h x).lane ≡ v.lane
-  splice_lane = either_way (λ (z : View). z.lane) v.lane (ℕ_discrete x h) (spliced v f b q) (after_previous v b q x) refl refl
+  splice_lane = either_way (λ (z : View). z.lane) v.lane (ℕ_discrete x h) (spliced v f b q)
+      (after_previous v b q x) refl refl
 
   pub splice_shut : (after_splice v f b q h x).shut ≡ v.shut
-  splice_shut = either_way (λ (z : View). z.shut) v.shut (ℕ_discrete x h) (spliced v f b q) (after_previous v b q x) refl refl
+  splice_shut = either_way (λ (z : View). z.shut) v.shut (ℕ_discrete x h) (spliced v f b q)
+      (after_previous v b q x) refl refl
 
   pub region_splice : v.flight ≡ Some f → region_in (after_splice v f b q h x).flight ≡ region_in (Some f)
-  region_splice flying = either_way (λ (z : View). region_in z.flight) (region_in (Some f)) (ℕ_discrete x h) (spliced v f b q) (after_previous v b q x) refl (ap region_in flying)
+  region_splice flying = either_way (λ (z : View). region_in z.flight) (region_in (Some f)) (ℕ_discrete x h)
+      (spliced v f b q) (after_previous v b q x) refl (ap region_in flying)

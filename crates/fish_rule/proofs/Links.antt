@@ -1,5 +1,6 @@
 -- Linked places: which record each is of, and when a step leaves them.
-use Rattle.std.proofs.Common.{◌≡◌, ◌≢◌, ℕ, ◌+◌, ◌-◌, ◌*◌, ◌<◌, ◌≤◌, suc, List, length, set, sym, refl, ap, ◌∙◌, subst, inl, inr, ◌⊎◌, ⊎_elim, arith, Some, None, Option}
+use Rattle.std.proofs.Common.{◌≡◌, ◌≢◌, ℕ, ◌+◌, ◌-◌, ◌*◌, ◌<◌, ◌≤◌, suc, List, length, set, sym, refl, ap,
+    ◌∙◌, subst, inl, inr, ◌⊎◌, ⊎_elim, arith, Some, None, Option}
 use Rattle.std.proofs.Math.Decide.{ℕ_discrete}
 use mathlib.Core.Option.{some}
 use Rattle.std.proofs.Math.ListN.{get_elem?}
@@ -28,20 +29,24 @@ use Rattle.fish_rule.specs.declared.view.View.{View}
 
 module _ (vs : List View) (id : ℕ) (v v' : View) (at : get_elem? vs id ≡ some v) where
   -- an entry stays linked where the stepping pass keeps it so
-  pub linking_to : (a c : ℕ) → (LinksAt a c v.flight → LinksAt a c v'.flight) → IsLinking a c vs → IsLinking a c (set vs id v')
+  pub linking_to : (a c : ℕ) → (LinksAt a c v.flight → LinksAt a c v'.flight) → IsLinking a c vs
+      → IsLinking a c (set vs id v')
   linking_to a c keep h = pick (ℕ_discrete h.seat id)
     where
       pick : Dec (h.seat ≡ id) → IsLinking a c (set vs id v')
       pick (yes e) =
           let same : h.view ≡ v = one_view vs id h.view v (subst (λ (z : ℕ). get_elem? vs z ≡ some h.view) e h.at) at in
-          record { seat = id; view = v'; at = set_here vs id v' (within_list vs id v at); links = keep (subst (λ (z : View). LinksAt a c z.flight) same h.links) }
+          record { seat = id; view = v'; at = set_here vs id v' (within_list vs id v at);
+              links = keep (subst (λ (z : View). LinksAt a c z.flight) same h.links) }
       pick (no ne) = record { seat = h.seat; view = h.view; at = set_else vs id h.seat v' ne ∙ h.at; links = h.links }
 
   -- and was linked before where the stepping pass had it so
-  pub linking_from : (a c : ℕ) → (LinksAt a c v'.flight → IsLinking a c vs) → IsLinking a c (set vs id v') → IsLinking a c vs
+  pub linking_from : (a c : ℕ) → (LinksAt a c v'.flight → IsLinking a c vs) → IsLinking a c (set vs id v')
+      → IsLinking a c vs
   linking_from a c back h = ⊎_elim
       (λ (t : (h.seat ≡ id) × (v' ≡ h.view)). back (subst (λ (z : View). LinksAt a c z.flight) (sym t.1) h.links))
-      (λ (t : (h.seat ≢ id) × (get_elem? vs h.seat ≡ some h.view)). record { seat = h.seat; view = h.view; at = t.1; links = h.links })
+      (λ (t : (h.seat ≢ id) × (get_elem? vs h.seat ≡ some h.view)). record { seat = h.seat; view = h.view;
+          at = t.1; links = h.links })
       (at_set vs id h.seat v' h.view h.at)
 
   -- the pass's own linked entries
@@ -51,7 +56,9 @@ module _ (vs : List View) (id : ℕ) (v v' : View) (at : get_elem? vs id ≡ som
 -- ---- places that stay
 
 -- a place stays linked where its entry stays shown, in the same body
-pub linked_map : (k : Key) (dir dir' log log' : ℕ → ℕ) (vs vs' : List View) → ((a c : ℕ) → Shows k dir vs a c → Shows k dir' vs' a c) → ((a c : ℕ) → Shows k dir vs a c → body log' a ≡ body log a)
+pub linked_map : (k : Key) (dir dir' log log' : ℕ → ℕ) (vs vs' : List View)
+    → ((a c : ℕ) → Shows k dir vs a c → Shows k dir' vs' a c)
+    → ((a c : ℕ) → Shows k dir vs a c → body log' a ≡ body log a)
     → (b p : ℕ) → Linked k dir log vs b p → Linked k dir' log' vs' b p
 linked_map k dir dir' log log' vs vs' shows same b p h =
     let e : body log' h.line ≡ body log h.line = same h.line h.entry h.shows in
@@ -63,11 +70,16 @@ linked_map k dir dir' log log' vs vs' shows same b p h =
     }
 
 -- the same where what is shown may rest on how many entries there are
-pub linked_counted : (k : Key) (dir dir' log : ℕ → ℕ) (vs vs' : List View) → ((a c : ℕ) → c < keys_of (body log a 0) → Shows k dir vs a c → Shows k dir' vs' a c) → (b p : ℕ) → Linked k dir log vs b p → Linked k dir' log vs' b p
-linked_counted k dir dir' log vs vs' shows b p h = record { line = h.line; entry = h.entry; is = h.is; shows = shows h.line h.entry h.is.counts h.shows }
+pub linked_counted : (k : Key) (dir dir' log : ℕ → ℕ) (vs vs' : List View)
+    → ((a c : ℕ) → c < keys_of (body log a 0) → Shows k dir vs a c → Shows k dir' vs' a c) → (b p : ℕ)
+    → Linked k dir log vs b p → Linked k dir' log vs' b p
+linked_counted k dir dir' log vs vs' shows b p h =
+    record { line = h.line; entry = h.entry; is = h.is; shows = shows h.line h.entry h.is.counts h.shows }
 
 -- a record in flight that is whole stays so where its region's words do
-pub whole_later : (k : Key) (log log' : ℕ → ℕ) (lane : ℕ) (f : Flight) → 1 ≤ f.lines → ((i : ℕ) → i < f.lines * 4 → log' (f.line * 4 + i) ≡ log (f.line * 4 + i)) → Whole k log lane f → Whole k log' lane f
+pub whole_later : (k : Key) (log log' : ℕ → ℕ) (lane : ℕ) (f : Flight) → 1 ≤ f.lines
+    → ((i : ℕ) → i < f.lines * 4 → log' (f.line * 4 + i) ≡ log (f.line * 4 + i)) → Whole k log lane f
+    → Whole k log' lane f
 whole_later k log log' lane f some_ same h =
     let lined : lines_of (body log f.line 0) ≡ f.lines = spelled_lines h.record_of.1.spells ∙ h.record_of.1.lines_is in
     let e : body log' f.line ≡ body log f.line = body_same log log' f.line f.lines some_ (omega arith) same in
@@ -102,7 +114,8 @@ module _ (k : Key) (w : World) (r : Rule k w) where
     pub owner : (w.dir number ≢ 0) ⊎ ((w.dir number ≡ 0) × IsFlier w number c)
 
   -- a record where the kind says so
-  record_held : (kind : Kind) (lane n lines : ℕ) (e : ℕ → ℕ) → kind ≡ Stored → Holds kind lane n lines e → IsRecord lane n lines e
+  record_held : (kind : Kind) (lane n lines : ℕ) (e : ℕ → ℕ) → kind ≡ Stored → Holds kind lane n lines e
+      → IsRecord lane n lines e
   record_held Stored lane n lines e q h = h
   record_held Void lane n lines e q h = cc
   record_held Mark lane n lines e q h = cc
@@ -119,19 +132,23 @@ module _ (k : Key) (w : World) (r : Rule k w) where
       pick (yes below) =
           let f = r.space.finished h.number h.above below set_ in
           let line : r.start h.number ≡ a = sym f.line ∙ h.line in
-          let kind : kind_of k.end (r.start h.number) (r.start (suc h.number)) ≡ Stored = code_once _ Stored (sym f.kind ∙ h.stored) in
+          let kind : kind_of k.end (r.start h.number) (r.start (suc h.number)) ≡ Stored =
+              code_once _ Stored (sym f.kind ∙ h.stored) in
           record {
             number = h.number;
             above = h.above;
             below = below;
             line = line;
             kind = kind;
-            record_of = subst (λ (z : ℕ). IsRecord (r.lane_of h.number) h.number (r.start (suc h.number) - r.start h.number) (body w.log z)) line (record_held _ _ h.number _ _ kind f.holds);
+            record_of = subst (λ (z : ℕ). IsRecord (r.lane_of h.number) h.number
+                (r.start (suc h.number) - r.start h.number) (body w.log z)) line
+                (record_held _ _ h.number _ _ kind f.holds);
             owner = inl set_;
           }
 
   -- of a record in flight
-  spot_flight : (a c : ℕ) (seat : ℕ) (v : View) → get_elem? w.views seat ≡ some v → (o : Option Flight) → v.flight ≡ o → Flies k w.count w.dir w.log r.start r.lane_of v.lane o → LinksAt a c o → Spot a c
+  spot_flight : (a c : ℕ) (seat : ℕ) (v : View) → get_elem? w.views seat ≡ some v → (o : Option Flight)
+      → v.flight ≡ o → Flies k w.count w.dir w.log r.start r.lane_of v.lane o → LinksAt a c o → Spot a c
   spot_flight a c seat v at None is h links = elim links [ ]
   spot_flight a c seat v at (Some f) is h links =
       let counts : c < f.linked = links.0 in
@@ -146,21 +163,25 @@ module _ (k : Key) (w : World) (r : Rule k w) where
         below = h.below;
         line = s ∙ line;
         kind = subst (λ (z : ℕ × ℕ). kind_of k.end z.0 z.1 ≡ Stored) (λ i. (sym s i, sym e i)) whole.kind;
-        record_of = subst (λ (z : ℕ × ℕ × ℕ). IsRecord z.0 f.number z.1 (body w.log z.2)) (λ i. (sym h.owner i, sym size i, line i)) whole.record_of;
-        owner = inr (h.unpublished, record { seat = seat; view = v; at = at; flight = f; flies = is; number = refl; counts = counts });
+        record_of = subst (λ (z : ℕ × ℕ × ℕ). IsRecord z.0 f.number z.1 (body w.log z.2))
+            (λ i. (sym h.owner i, sym size i, line i)) whole.record_of;
+        owner = inr (h.unpublished, record { seat = seat; view = v; at = at; flight = f; flies = is;
+            number = refl; counts = counts });
       }
 
   -- of either
   pub spot : (a c : ℕ) → Shows k w.dir w.views a c → Spot a c
   spot a c h = ⊎_elim (λ (s : IsStoredAt k w.dir a). spot_stored a c s)
-      (λ (l : IsLinking a c w.views). spot_flight a c l.seat l.view l.at l.view.flight refl (r.space.flights l.seat l.view l.at) l.links) h
+      (λ (l : IsLinking a c w.views). spot_flight a c l.seat l.view l.at l.view.flight refl
+          (r.space.flights l.seat l.view l.at) l.links) h
 
   -- the lines of a shown record are within its region
   pub spot_lined : (a c : ℕ) (s : Spot a c) → lines_of (body w.log a 0) ≡ r.start (suc s.number) - r.start s.number
   spot_lined a c s = spelled_lines s.record_of.1.spells ∙ s.record_of.1.lines_is
 
   -- a linked place is within its record's region
-  pub lies_inside : (b p : ℕ) (h : Linked k w.dir w.log w.views b p) (s : Spot h.line h.entry) → (r.start s.number * 4 ≤ p) × (p < r.start (suc s.number) * 4)
+  pub lies_inside : (b p : ℕ) (h : Linked k w.dir w.log w.views b p) (s : Spot h.line h.entry)
+      → (r.start s.number * 4 ≤ p) × (p < r.start (suc s.number) * 4)
   lies_inside b p h s =
       let p_is : p ≡ h.line * 4 + (1 + 3 * h.entry) = h.is.is in
       let counts = h.is.counts in
@@ -173,11 +194,14 @@ module _ (k : Key) (w : World) (r : Rule k w) where
       (omega arith, omega arith)
 
   -- a linked place in the region of number n is the first word of an entry there
-  pub which : (b p : ℕ) (h : Linked k w.dir w.log w.views b p) (s : Spot h.line h.entry) (n : ℕ) → k.number ≤ n → n < w.count → r.start n * 4 ≤ p → p < r.start (suc n) * 4
+  pub which : (b p : ℕ) (h : Linked k w.dir w.log w.views b p) (s : Spot h.line h.entry) (n : ℕ) → k.number ≤ n
+      → n < w.count → r.start n * 4 ≤ p → p < r.start (suc n) * 4
       → (s.number ≡ n) × (h.line ≡ r.start n)
   which b p h s n above below from to =
       let inside = lies_inside b p h s in
-      let same : s.number ≡ n = one_region k w.count w.line r.start r.space.regions s.number n p s.above s.below above below inside.0 inside.1 from to in
+      let same : s.number ≡ n =
+          one_region k w.count w.line r.start r.space.regions s.number n p s.above s.below above below inside.0
+              inside.1 from to in
       (same, sym s.line ∙ ap r.start same)
 
   -- a place is of one chain
@@ -191,34 +215,45 @@ module _ (k : Key) (w : World) (r : Rule k w) where
       let p_h : p ≡ h.line * 4 + (1 + 3 * h.entry) = h.is.is in
       let p_g : p ≡ g.line * 4 + (1 + 3 * g.entry) = g.is.is in
       let entry : h.entry ≡ g.entry = omega arith in
-      sym h.is.bucket ∙ ap (λ (z : ℕ × ℕ). bucket_of k.buckets (body w.log z.0) z.1) (λ i. (line i, entry i)) ∙ g.is.bucket
+      sym h.is.bucket ∙ ap (λ (z : ℕ × ℕ). bucket_of k.buckets (body w.log z.0) z.1) (λ i. (line i, entry i))
+          ∙ g.is.bucket
 
 -- ---- chains that stay
 
 -- where no place is linked anew, and no linked place's first word changes, the chains stay
-pub chains_same : (k : Key) (dir dir' log log' : ℕ → ℕ) (vs vs' : List View) (head : ℕ → ℕ) → ((b p : ℕ) → Linked k dir log vs b p → Linked k dir' log' vs' b p) → ((b p : ℕ) → Linked k dir' log' vs' b p → Linked k dir log vs b p)
-    → ((b p : ℕ) → Linked k dir log vs b p → log' p ≡ log p) → ((b : ℕ) → Chain (Linked k dir log vs b) (head b) log) → (b : ℕ) → Chain (Linked k dir' log' vs' b) (head b) log'
+pub chains_same : (k : Key) (dir dir' log log' : ℕ → ℕ) (vs vs' : List View) (head : ℕ → ℕ)
+    → ((b p : ℕ) → Linked k dir log vs b p → Linked k dir' log' vs' b p)
+    → ((b p : ℕ) → Linked k dir' log' vs' b p → Linked k dir log vs b p)
+    → ((b p : ℕ) → Linked k dir log vs b p → log' p ≡ log p)
+        → ((b : ℕ) → Chain (Linked k dir log vs b) (head b) log) → (b : ℕ)
+        → Chain (Linked k dir' log' vs' b) (head b) log'
 chains_same k dir dir' log log' vs vs' head to from same chains b =
     chain_same (Linked k dir log vs b) (Linked k dir' log' vs' b) (head b) log log' (to b) (from b) (same b) (chains b)
 
-module _ (k : Key) (w : World) (r : Rule k w) (views' : List View) (to : (a c : ℕ) → IsLinking a c w.views → IsLinking a c views') where
+module _ (k : Key) (w : World) (r : Rule k w) (views' : List View)
+    (to : (a c : ℕ) → IsLinking a c w.views → IsLinking a c views') where
   -- places stay linked where what is linked in flight stays so
   pub links_views : (b p : ℕ) → Linked k w.dir w.log w.views b p → Linked k w.dir w.log views' b p
   links_views = linked_map k w.dir w.dir w.log w.log w.views views'
-      (λ a c h. ⊎_elim (λ (s : IsStoredAt k w.dir a). inl s) (λ (l : IsLinking a c w.views). inr (to a c l)) h) (λ a c h. refl)
+      (λ a c h. ⊎_elim (λ (s : IsStoredAt k w.dir a). inl s) (λ (l : IsLinking a c w.views). inr (to a c l)) h)
+          (λ a c h. refl)
 
   -- and the chains stay where nothing is linked anew
-  pub chains_views : ((a c : ℕ) → IsLinking a c views' → IsLinking a c w.views) → (b : ℕ) → Chain (Linked k w.dir w.log views' b) (w.head b) w.log
+  pub chains_views : ((a c : ℕ) → IsLinking a c views' → IsLinking a c w.views) → (b : ℕ)
+      → Chain (Linked k w.dir w.log views' b) (w.head b) w.log
   chains_views from = chains_same k w.dir w.dir w.log w.log w.views views' w.head links_views
       (linked_map k w.dir w.dir w.log w.log views' w.views
-      (λ a c h. ⊎_elim (λ (s : IsStoredAt k w.dir a). inl s) (λ (l : IsLinking a c views'). inr (from a c l)) h) (λ a c h. refl))
+      (λ a c h. ⊎_elim (λ (s : IsStoredAt k w.dir a). inl s)
+          (λ (l : IsLinking a c views'). inr (from a c l)) h) (λ a c h. refl))
       (λ b p h. refl) r.chains
 
-module _ (k : Key) (w : World) (r : Rule k w) (id : ℕ) (v v' : View) (at : get_elem? w.views id ≡ some v) (keep : (a c : ℕ) → LinksAt a c v.flight → LinksAt a c v'.flight) where
+module _ (k : Key) (w : World) (r : Rule k w) (id : ℕ) (v v' : View) (at : get_elem? w.views id ≡ some v)
+    (keep : (a c : ℕ) → LinksAt a c v.flight → LinksAt a c v'.flight) where
   -- the same where one view stands in place of another
   pub links_set : (b p : ℕ) → Linked k w.dir w.log w.views b p → Linked k w.dir w.log (set w.views id v') b p
   links_set = links_views k w r (set w.views id v') (λ a c. linking_to w.views id v v' at a c (keep a c))
 
-  pub chains_set : ((a c : ℕ) → LinksAt a c v'.flight → LinksAt a c v.flight) → (b : ℕ) → Chain (Linked k w.dir w.log (set w.views id v') b) (w.head b) w.log
+  pub chains_set : ((a c : ℕ) → LinksAt a c v'.flight → LinksAt a c v.flight) → (b : ℕ)
+      → Chain (Linked k w.dir w.log (set w.views id v') b) (w.head b) w.log
   chains_set back = chains_views k w r (set w.views id v') (λ a c. linking_to w.views id v v' at a c (keep a c))
       (λ a c. linking_from w.views id v v' at a c (λ h. linking_own w.views id v v' at a c (back a c h)))

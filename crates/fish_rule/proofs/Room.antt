@@ -17,12 +17,14 @@ module _ (k : Key) (w : World) (r : Rule k w) where
 
   -- one number more has 28 bits
   pub few_numbers : w.count + 1 < 268435456
-  few_numbers = (let s = few_slots in let few = r.key_fits.few_lines in let numbers = r.key_fits.few_numbers in omega arith)
+  few_numbers = (let s = few_slots in let few = r.key_fits.few_lines in let numbers = r.key_fits.few_numbers in
+      omega arith)
 
   -- one region more has lines of 36 bits
   pub few_lines : w.line + 18625 < 68719476736
   few_lines =
-      let far = starts_near k w.count w.line r.start r.space.regions r.limit.first w.count r.limit.above r.limit.within (omega arith) in
+      let far = starts_near k w.count w.line r.start r.space.regions r.limit.first w.count r.limit.above r.limit.within
+          (omega arith) in
       let last = r.space.regions.last in
       let fits = r.limit.fits in
       let few = r.limit.few in

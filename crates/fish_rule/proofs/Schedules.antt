@@ -13,7 +13,8 @@ use Rattle.fish_rule.proofs.Settles.{raise_kept, raise_lasts}
 use Rattle.fish_rule.proofs.Splices.{splice_kept, splice_lasts}
 use Rattle.fish_rule.proofs.Swings.{swing_kept, swing_lasts}
 use Rattle.fish_rule.proofs.Seating.{join_kept, join_lasts, split_kept, split_lasts}
-use Rattle.fish_rule.specs.Machine.{Event, EverySchedule, EveryStepIsFinal, Exchanged, Runs, aims, claims, ends, heads, joins, looks, previouses, publishes, raises, reads, settles, splices, splits, stores, swings}
+use Rattle.fish_rule.specs.Machine.{Event, EverySchedule, EveryStepIsFinal, Exchanged, Runs, aims, claims,
+    ends, heads, joins, looks, previouses, publishes, raises, reads, settles, splices, splits, stores, swings}
 use Rattle.fish_rule.specs.Regions.{dir_word, kind_of}
 use Rattle.fish_rule.specs.Rule.{Final, Rule}
 use Rattle.fish_rule.specs.Start.{empty_world}
@@ -30,7 +31,8 @@ lasts_at : (k : Key) (w : World) (r : Rule k w) (u u' : World) → u ≡ u' → 
 lasts_at k w r u u' e h = subst (Lasts k w r) (sym e) h
 
 -- and after an exchange, of either outcome
-exchange_lasts : (k : Key) (w : World) (r : Rule k w) (u made missed : World) (found expected : ℕ) → Exchanged found expected u made missed
+exchange_lasts : (k : Key) (w : World) (r : Rule k w) (u made missed : World) (found expected : ℕ)
+    → Exchanged found expected u made missed
     → (found ≡ expected → Lasts k w r made) → (found ≢ expected → Lasts k w r missed) → Lasts k w r u
 exchange_lasts k w r u made missed found expected g hit miss =
     ⊎_elim (λ (h : (found ≡ expected) × (u ≡ made)). lasts_at k w r u made h.1 (hit h.0))
@@ -43,11 +45,16 @@ event_lasts k (claims id m) w u r g = (let v = g.0 in let s = g.1 in
 event_lasts k (stores id x) w u r g = (let v = g.0 in let f = g.1 in let s = g.2 in
     lasts_at k w r u _ g.4 (store_kept k w r id v s.at f g.3 x, store_lasts k w r id v s.at f g.3 x))
 event_lasts k (publishes id) w u r g = (let v = g.0 in let f = g.1 in let s = g.2 in let can = g.3 in
-    let ends_ : kind_of k.end f.line (f.line + f.lines) ≡ flight_kind v f = ap (λ (z : Key). kind_of z.end f.line (f.line + f.lines)) (sym s.about) in
-    lasts_at k w r u _ g.4 (subst (λ (z : Key). Lasts k w r (record w { dir = put w.dir f.number (dir_word (flight_kind v f) f.line); views = set w.views id (publisher_at v f z) })) (sym s.about)
-    (publish_kept k w r id v s.at f can.live can.flying (flight_kind v f) ends_ can.ready, publish_lasts k w r id v s.at f can.live can.flying (flight_kind v f) ends_ can.ready)))
+    let ends_ : kind_of k.end f.line (f.line + f.lines) ≡ flight_kind v f =
+        ap (λ (z : Key). kind_of z.end f.line (f.line + f.lines)) (sym s.about) in
+    lasts_at k w r u _ g.4 (subst (λ (z : Key). Lasts k w r
+        (record w { dir = put w.dir f.number (dir_word (flight_kind v f) f.line);
+        views = set w.views id (publisher_at v f z) })) (sym s.about)
+    (publish_kept k w r id v s.at f can.live can.flying (flight_kind v f) ends_ can.ready,
+        publish_lasts k w r id v s.at f can.live can.flying (flight_kind v f) ends_ can.ready)))
 event_lasts k (looks id n) w u r g = (let v = g.0 in let s = g.2 in
-    lasts_at k w r u _ g.5 (subst (λ (z : ℕ). Lasts k w r (record w { views = set w.views id (after_look v n z (w.dir n)) })) (sym (g.4 r))
+    lasts_at k w r u _ g.5 (subst (λ (z : ℕ). Lasts k w r
+        (record w { views = set w.views id (after_look v n z (w.dir n)) })) (sym (g.4 r))
     (look_kept k w r id v s.at n (w.dir n) g.3 s.about refl, look_lasts k w r id v s.at n (w.dir n) g.3 s.about refl)))
 event_lasts k (reads id n i) w u r g = (let v = g.0 in let f = g.1 in let s = g.2 in
     lasts_at k w r u _ g.5 (read_kept k w r id v s.at f i g.3, read_lasts k w r id v s.at f i g.3))
@@ -74,7 +81,8 @@ event_lasts k (splices id b q x) w u r g = (let v = g.0 in let f = g.1 in let s 
 event_lasts k (splits id l) w u r g = (let v = g.0 in let s = g.1 in
     lasts_at k w r u _ g.3 (split_kept k w r id v s.at l g.2, split_lasts k w r id v s.at l g.2))
 event_lasts k (joins id other) w u r g = (let v = g.0 in let b = g.1 in let s = g.2 in
-    lasts_at k w r u _ g.6 (join_kept k w r id other v b s.at g.3 g.4 g.5, join_lasts k w r id other v b s.at g.3 g.4 g.5))
+    lasts_at k w r u _ g.6 (join_kept k w r id other v b s.at g.3 g.4 g.5,
+        join_lasts k w r id other v b s.at g.3 g.4 g.5))
 
 -- a list of steps keeps the rule
 runs_kept : (k : Key) (events : List Event) (w u : World) → Rule k w → Runs k w events u → Rule k u

@@ -3,9 +3,12 @@ use Rattle.std.proofs.Common.{◌≡◌, ◌≢◌, ℕ, List, [], ◌∷◌, �
 use mathlib.Core.Option.{some}
 use Rattle.std.proofs.Math.ListN.{get_elem?}
 use Rattle.atomic_table.proofs.Lists.{at_longer, at_snoc, set_else}
-use Rattle.fish_rule.proofs.Common.{all_append, among_either, among_left, among_right, each_set, each_snoc, no_flight, pairs_set}
+use Rattle.fish_rule.proofs.Common.{all_append, among_either, among_left, among_right, each_set, each_snoc,
+    no_flight, pairs_set}
 use Rattle.fish_rule.proofs.Frames.{alone_kept, flight_there}
-use Rattle.fish_rule.proofs.Lanes.{both_has, first_shut_none, flight_longer, greater_within, has_back, has_both, has_lane, has_left, has_none, has_one, left_has, not_over, of_lane_complete, of_lane_sound, off_lane_complete, off_lane_sound, pairs_snoc, shut_either}
+use Rattle.fish_rule.proofs.Lanes.{both_has, first_shut_none, flight_longer, greater_within, has_back,
+    has_both, has_lane, has_left, has_none, has_one, left_has, not_over, of_lane_complete, of_lane_sound,
+    off_lane_complete, off_lane_sound, pairs_snoc, shut_either}
 use Rattle.fish_rule.proofs.Links.{chains_views, linking_from, linking_own, linking_to, links_views}
 use Rattle.fish_rule.proofs.Kept.{chained_later}
 use Rattle.fish_rule.specs.Chains.{Chained, IsLinking, LinksAt}
@@ -20,7 +23,8 @@ use Rattle.fish_rule.specs.declared.view.View.{View}
 
 -- ---- split
 
-module _ (k : Key) (w : World) (r : Rule k w) (id : ℕ) (v : View) (at : get_elem? w.views id ≡ some v) (l : ℕ) (can : CanSplit v l) where
+module _ (k : Key) (w : World) (r : Rule k w) (id : ℕ) (v : View) (at : get_elem? w.views id ≡ some v) (l : ℕ)
+    (can : CanSplit v l) where
   -- the control pass's view after it
   abbrev left : View
   left = split_left l v
@@ -43,7 +47,8 @@ module _ (k : Key) (w : World) (r : Rule k w) (id : ℕ) (v : View) (at : get_el
 
   -- after it no pass but the new one has it
   gone : (j : ℕ) (u : View) → get_elem? cut j ≡ some u → ¬ Has u.lane u.out l
-  gone = each_set (λ u. ¬ Has u.lane u.out l) w.views id left (λ j u ne at_u has. ne (r.seats.apart j id u v l at_u at has had))
+  gone = each_set (λ u. ¬ Has u.lane u.out l) w.views id left
+      (λ j u ne at_u has. ne (r.seats.apart j id u v l at_u at has had))
       (λ has. (left_has v.lane l v.out l can.main can.above has).1 refl)
 
   -- no two passes have one lane
@@ -51,8 +56,10 @@ module _ (k : Key) (w : World) (r : Rule k w) (id : ℕ) (v : View) (at : get_el
   split_seats = record {
     apart = λ i j a b x at_i at_j p q. pairs_snoc (λ u. Has u.lane u.out x) cut right
         (λ j a at_a p q. gone j a at_a (subst (Has a.lane a.out) (has_one l [] x can.above q) p))
-        (λ i j a b at_a at_b. pairs_set (λ i j a b. Has a.lane a.out x → Has b.lane b.out x → i ≡ j) w.views id left (λ i p q. refl)
-        (λ j u ne at_u. ((λ p q. r.seats.apart id j v u x at at_u (back x p) q), (λ p q. r.seats.apart j id u v x at_u at p (back x q))))
+        (λ i j a b at_a at_b. pairs_set (λ i j a b. Has a.lane a.out x → Has b.lane b.out x
+            → i ≡ j) w.views id left (λ i p q. refl)
+        (λ j u ne at_u. ((λ p q. r.seats.apart id j v u x at at_u (back x p) q),
+            (λ p q. r.seats.apart j id u v x at_u at p (back x q))))
         (λ i j a b _ _ at_a at_b p q. r.seats.apart i j a b x at_a at_b p q) i j a b at_a at_b)
         i j a b at_i at_j p q;
     few = each_cut _ r.seats.few (r.seats.few id v at) can.below;
@@ -105,20 +112,29 @@ module _ (k : Key) (w : World) (r : Rule k w) (id : ℕ) (v : View) (at : get_el
 
   -- what is linked in flight stays so, and nothing else is
   links_cut : (a c : ℕ) → IsLinking a c w.views → IsLinking a c (cut ++ right ∷ [])
-  links_cut a c h = (let g = linking_to w.views id v left at a c (λ q. q) h in record { seat = g.seat; view = g.view; at = at_longer cut (right ∷ []) g.seat g.view g.at; links = g.links })
+  links_cut a c h = (let g = linking_to w.views id v left at a c (λ q. q) h in
+      record { seat = g.seat; view = g.view; at = at_longer cut (right ∷ []) g.seat g.view g.at; links = g.links })
 
   back_cut : (a c : ℕ) → IsLinking a c (cut ++ right ∷ []) → IsLinking a c w.views
   back_cut a c h = ⊎_elim
-      (λ (e : get_elem? cut h.seat ≡ some h.view). linking_from w.views id v left at a c (λ q. linking_own w.views id v left at a c q) (record { seat = h.seat; view = h.view; at = e; links = h.links }))
-      (λ (e : right ≡ h.view). absurd (subst (λ (z : View). LinksAt a c z.flight) (sym e) h.links)) (at_snoc cut right h.view h.seat h.at)
+      (λ (e : get_elem? cut h.seat ≡ some h.view). linking_from w.views id v left at a c
+          (λ q. linking_own w.views id v left at a c q)
+          (record { seat = h.seat; view = h.view; at = e; links = h.links }))
+      (λ (e : right ≡ h.view). absurd (subst (λ (z : View). LinksAt a c z.flight) (sym e) h.links))
+          (at_snoc cut right h.view h.seat h.at)
 
   -- nothing that lasts has changed
   split_final : Final k r.start r.start r.lane_of r.lane_of w (record w { views = cut ++ right ∷ [] })
-  split_final = record { counts = omega arith; lines = omega arith; settles = omega arith; heads = λ b. omega arith; links = links_views k w r (cut ++ right ∷ []) links_cut; rises = λ b p h. omega arith; starts = λ n h. refl; lanes = λ n h. refl; dirs = λ n h e. refl; bodies = λ n h e. refl }
+  split_final = record { counts = omega arith; lines = omega arith; settles = omega arith;
+      heads = λ b. omega arith; links = links_views k w r (cut ++ right ∷ []) links_cut;
+      rises = λ b p h. omega arith; starts = λ n h. refl; lanes = λ n h. refl; dirs = λ n h e. refl;
+      bodies = λ n h e. refl }
 
   -- what is known of chains stays so
-  split_chained : (x : Learned) → Chained k w.dir w.log w.views w.head x → Chained k w.dir w.log (cut ++ right ∷ []) w.head x
-  split_chained = chained_later k w (record w { views = cut ++ right ∷ [] }) r.start r.start r.lane_of r.lane_of split_final
+  split_chained : (x : Learned) → Chained k w.dir w.log w.views w.head x
+      → Chained k w.dir w.log (cut ++ right ∷ []) w.head x
+  split_chained = chained_later k w (record w { views =
+      cut ++ right ∷ [] }) r.start r.start r.lane_of r.lane_of split_final
 
   -- a split keeps the rule
   pub split_kept : Rule k (record w { views = set w.views id (split_left l v) ++ split_right l v ∷ [] })
@@ -145,7 +161,8 @@ module _ (k : Key) (w : World) (r : Rule k w) (id : ℕ) (v : View) (at : get_el
     limit = split_limit;
     settling = r.settling;
     chains = chains_views k w r (cut ++ right ∷ []) links_cut back_cut;
-    chained = each_cut _ (λ j u at_u. split_chained u.learned (r.chained j u at_u)) (split_chained v.learned (r.chained id v at)) (split_chained v.learned (r.chained id v at));
+    chained = each_cut _ (λ j u at_u. split_chained u.learned (r.chained j u at_u))
+        (split_chained v.learned (r.chained id v at)) (split_chained v.learned (r.chained id v at));
     floors = each_cut _ r.floors (r.floors id v at) (r.floors id v at);
     own = each_cut _ r.own left_owns right_owns;
     facts = each_cut _ r.facts (r.facts id v at) (r.facts id v at);
@@ -155,11 +172,16 @@ module _ (k : Key) (w : World) (r : Rule k w) (id : ℕ) (v : View) (at : get_el
   -- ---- join
 
   -- and all that lasts
-  pub split_lasts : Final k r.start split_kept.start r.lane_of split_kept.lane_of w (record w { views = set w.views id (split_left l v) ++ split_right l v ∷ [] })
+  pub split_lasts : Final k r.start split_kept.start r.lane_of split_kept.lane_of w
+      (record w { views = set w.views id (split_left l v) ++ split_right l v ∷ [] })
   unfolding split_kept
-  split_lasts = record { counts = omega arith; lines = omega arith; settles = omega arith; heads = λ b. omega arith; links = links_views k w r (cut ++ right ∷ []) links_cut; rises = λ b p h. omega arith; starts = λ n h. refl; lanes = λ n h. refl; dirs = λ n h e. refl; bodies = λ n h e. refl }
+  split_lasts = record { counts = omega arith; lines = omega arith; settles = omega arith;
+      heads = λ b. omega arith; links = links_views k w r (cut ++ right ∷ []) links_cut;
+      rises = λ b p h. omega arith; starts = λ n h. refl; lanes = λ n h. refl; dirs = λ n h e. refl;
+      bodies = λ n h e. refl }
 
-module _ (k : Key) (w : World) (r : Rule k w) (id other : ℕ) (v u : View) (at : get_elem? w.views id ≡ some v) (ne : other ≢ id)
+module _ (k : Key) (w : World) (r : Rule k w) (id other : ℕ) (v u : View) (at : get_elem? w.views id ≡ some v)
+    (ne : other ≢ id)
     (at_u : get_elem? w.views other ≡ some u) (can : CanJoin v u) where
   -- the control pass's view after it
   abbrev both : View
@@ -178,16 +200,21 @@ module _ (k : Key) (w : World) (r : Rule k w) (id other : ℕ) (v u : View) (at 
   theirs = has_lane u.lane u.out can.above (r.seats.few other u at_u)
 
   -- no two passes have one lane
-  join_apart : (i j : ℕ) (a b : View) (x : ℕ) → get_elem? (set taken other spent) i ≡ some a → get_elem? (set taken other spent) j ≡ some b
+  join_apart : (i j : ℕ) (a b : View) (x : ℕ) → get_elem? (set taken other spent) i ≡ some a
+      → get_elem? (set taken other spent) j ≡ some b
       → Has a.lane a.out x → Has b.lane b.out x → i ≡ j
-  join_apart i j a b x at_i at_j p q = pairs_set (λ i j a b. Has a.lane a.out x → Has b.lane b.out x → i ≡ j) taken other spent (λ i p q. refl)
+  join_apart i j a b x at_i at_j p q = pairs_set
+      (λ i j a b. Has a.lane a.out x → Has b.lane b.out x → i ≡ j) taken other spent (λ i p q. refl)
       (λ j b not at_b. ((λ p q. absurd (has_none x p)), (λ p q. absurd (has_none x q))))
-      (λ i j a b not_i not_j at_a at_b. pairs_set (λ i j a b. i ≢ other → j ≢ other → Has a.lane a.out x → Has b.lane b.out x → i ≡ j) w.views id both (λ i _ _ p q. refl)
+      (λ i j a b not_i not_j at_a at_b. pairs_set
+          (λ i j a b. i ≢ other → j ≢ other → Has a.lane a.out x → Has b.lane b.out x → i ≡ j) w.views id both
+          (λ i _ _ p q. refl)
       (λ j b not at_b. ((λ _ away p q. mine j b at_b away p q), (λ away _ p q. sym (mine j b at_b away q p))))
       (λ i j a b _ _ at_a at_b _ _ p q. r.seats.apart i j a b x at_a at_b p q) i j a b at_a at_b not_i not_j)
       i j a b at_i at_j p q
     where
-      mine : (j : ℕ) (b : View) → get_elem? w.views j ≡ some b → j ≢ other → Has both.lane both.out x → Has b.lane b.out x → id ≡ j
+      mine : (j : ℕ) (b : View) → get_elem? w.views j ≡ some b → j ≢ other → Has both.lane both.out x
+          → Has b.lane b.out x → id ≡ j
       mine j b at_b away p q = ⊎_elim
           (λ (h : Has v.lane v.out x). r.seats.apart id j v b x at at_b h q)
           (λ (e : x ≡ u.lane).
@@ -235,27 +262,36 @@ module _ (k : Key) (w : World) (r : Rule k w) (id other : ℕ) (v u : View) (at 
         counted = greater_within v.learned.count u.learned.count w.count a.counted b.counted;
         found = all_append (IsFound k w.count w.dir r.start) v.learned.found u.learned.found a.found b.found;
         known = all_append (IsKnown k w.count w.dir w.log r.start) v.learned.known u.learned.known a.known b.known;
-        records = all_append (IsRecorded k w.count w.dir w.log r.start) v.learned.records u.learned.records a.records b.records;
+        records = all_append
+            (IsRecorded k w.count w.dir w.log r.start) v.learned.records u.learned.records a.records b.records;
       }
 
   -- what holds of both and of a spent view, and of each other view, holds of each
   each_join : (P : View → Type 0) → Each P w.views → P both → P spent → Each P (set taken other spent)
-  each_join P all here none = each_set P taken other spent (λ j a not at_a. each_set P w.views id both (λ j a not at_a. all j a at_a) here j a at_a) none
+  each_join P all here none = each_set P taken other spent
+      (λ j a not at_a. each_set P w.views id both (λ j a not at_a. all j a at_a) here j a at_a) none
 
   -- what is linked in flight stays so, and nothing else is
   links_join : (a c : ℕ) → IsLinking a c w.views → IsLinking a c (set taken other spent)
-  links_join a c h = linking_to taken other u spent at_other a c (λ q. absurd (subst (LinksAt a c) can.idle q)) (linking_to w.views id v both at a c (λ q. q) h)
+  links_join a c h = linking_to taken other u spent at_other a c (λ q. absurd (subst (LinksAt a c) can.idle q))
+      (linking_to w.views id v both at a c (λ q. q) h)
 
   back_join : (a c : ℕ) → IsLinking a c (set taken other spent) → IsLinking a c w.views
-  back_join a c h = linking_from w.views id v both at a c (λ q. linking_own w.views id v both at a c q) (linking_from taken other u spent at_other a c (λ q. elim q [ ]) h)
+  back_join a c h = linking_from w.views id v both at a c (λ q. linking_own w.views id v both at a c q)
+      (linking_from taken other u spent at_other a c (λ q. elim q [ ]) h)
 
   -- nothing that lasts has changed
   join_final : Final k r.start r.start r.lane_of r.lane_of w (record w { views = set taken other spent })
-  join_final = record { counts = omega arith; lines = omega arith; settles = omega arith; heads = λ b. omega arith; links = links_views k w r (set taken other spent) links_join; rises = λ b p h. omega arith; starts = λ n h. refl; lanes = λ n h. refl; dirs = λ n h e. refl; bodies = λ n h e. refl }
+  join_final = record { counts = omega arith; lines = omega arith; settles = omega arith;
+      heads = λ b. omega arith; links = links_views k w r (set taken other spent) links_join;
+      rises = λ b p h. omega arith; starts = λ n h. refl; lanes = λ n h. refl; dirs = λ n h e. refl;
+      bodies = λ n h e. refl }
 
   -- what is known of chains stays so, and what either knew is so
-  join_chained : (x : Learned) → Chained k w.dir w.log w.views w.head x → Chained k w.dir w.log (set taken other spent) w.head x
-  join_chained = chained_later k w (record w { views = set taken other spent }) r.start r.start r.lane_of r.lane_of join_final
+  join_chained : (x : Learned) → Chained k w.dir w.log w.views w.head x
+      → Chained k w.dir w.log (set taken other spent) w.head x
+  join_chained = chained_later k w (record w { views =
+      set taken other spent }) r.start r.start r.lane_of r.lane_of join_final
 
   both_chained : Chained k w.dir w.log (set taken other spent) w.head both.learned
   both_chained =
@@ -283,7 +319,8 @@ module _ (k : Key) (w : World) (r : Rule k w) (id other : ℕ) (v u : View) (at 
       flying = λ n above below unset. flight_there taken other u spent at_other n (no_flight n u.flight can.idle)
           (flight_there w.views id v both at n (λ h. h) (r.space.flying n above below unset));
       flights = each_join _ r.space.flights (r.space.flights id v at) tt;
-      alone = alone_kept taken other u spent at_other (λ n h. elim h [ ]) (alone_kept w.views id v both at (λ n h. h) r.space.alone);
+      alone = alone_kept taken other u spent at_other (λ n h. elim h [ ])
+          (alone_kept w.views id v both at (λ n h. h) r.space.alone);
       dir_below = r.space.dir_below;
       dir_beyond = r.space.dir_beyond;
       log_beyond = r.space.log_beyond;
@@ -299,14 +336,22 @@ module _ (k : Key) (w : World) (r : Rule k w) (id other : ℕ) (v u : View) (at 
     };
     settling = r.settling;
     chains = chains_views k w r (set taken other spent) links_join back_join;
-    chained = each_join _ (λ j x at_x. join_chained x.learned (r.chained j x at_x)) both_chained (record { nodes = tt; lows = tt; tops = tt });
-    floors = each_join _ r.floors (greater_within v.learned.settled u.learned.settled w.settled (r.floors id v at) (r.floors other u at_u)) (omega arith);
-    own = each_join _ r.own join_owns (record { sound = λ o m. elim m [ ]; complete = λ o has. absurd (has_none o.lane has) });
+    chained = each_join _ (λ j x at_x. join_chained x.learned (r.chained j x at_x)) both_chained
+        (record { nodes = tt; lows = tt; tops = tt });
+    floors = each_join _ r.floors (greater_within v.learned.settled u.learned.settled w.settled
+        (r.floors id v at) (r.floors other u at_u)) (omega arith);
+    own = each_join _ r.own join_owns (record { sound = λ o m. elim m [ ];
+        complete = λ o has. absurd (has_none o.lane has) });
     facts = each_join _ r.facts join_facts (record { counted = omega arith; found = tt; known = tt; records = tt });
-    shuts = each_join _ r.shuts (shut_either k w.count w.dir r.start v.shut u.shut (r.shuts id v at) (r.shuts other u at_u)) tt;
+    shuts = each_join _ r.shuts (shut_either k w.count w.dir r.start v.shut u.shut (r.shuts id v at)
+        (r.shuts other u at_u)) tt;
   }
 
   -- and all that lasts
-  pub join_lasts : Final k r.start join_kept.start r.lane_of join_kept.lane_of w (record w { views = set (set w.views id (join_both v u)) other spent })
+  pub join_lasts : Final k r.start join_kept.start r.lane_of join_kept.lane_of w
+      (record w { views = set (set w.views id (join_both v u)) other spent })
   unfolding join_kept
-  join_lasts = record { counts = omega arith; lines = omega arith; settles = omega arith; heads = λ b. omega arith; links = links_views k w r (set taken other spent) links_join; rises = λ b p h. omega arith; starts = λ n h. refl; lanes = λ n h. refl; dirs = λ n h e. refl; bodies = λ n h e. refl }
+  join_lasts = record { counts = omega arith; lines = omega arith; settles = omega arith;
+      heads = λ b. omega arith; links = links_views k w r (set taken other spent) links_join;
+      rises = λ b p h. omega arith; starts = λ n h. refl; lanes = λ n h. refl; dirs = λ n h e. refl;
+      bodies = λ n h e. refl }

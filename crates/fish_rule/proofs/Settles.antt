@@ -24,7 +24,8 @@ use Rattle.fish_rule.specs.declared.view.Key.{Key}
 use Rattle.fish_rule.specs.declared.view.Kind.TheVariants.{Mark}
 use Rattle.fish_rule.specs.declared.view.View.{View}
 
-module _ (k : Key) (w : World) (r : Rule k w) (id : ℕ) (v : View) (at : get_elem? w.views id ≡ some v) (about : v.about ≡ k) (m : ℕ) (can : CanRaise v m) where
+module _ (k : Key) (w : World) (r : Rule k w) (id : ℕ) (v : View) (at : get_elem? w.views id ≡ some v)
+    (about : v.about ≡ k) (m : ℕ) (can : CanRaise v m) where
   -- the view afterwards
   abbrev pub raiser : View
   raiser = after_raise v m w.settled
@@ -35,7 +36,10 @@ module _ (k : Key) (w : World) (r : Rule k w) (id : ℕ) (v : View) (at : get_el
 
   -- nothing that lasts has changed
   pub raise_final : Final k r.start r.start r.lane_of r.lane_of w raised
-  raise_final = record { counts = omega arith; lines = omega arith; settles = omega arith; heads = λ b. omega arith; links = links_set k w r id v (raiser) at (λ a c h. h); rises = λ b p h. omega arith; starts = λ n h. refl; lanes = λ n h. refl; dirs = λ n h e. refl; bodies = λ n h e. refl }
+  raise_final = record { counts = omega arith; lines = omega arith; settles = omega arith;
+      heads = λ b. omega arith; links = links_set k w r id v (raiser) at (λ a c h. h);
+      rises = λ b p h. omega arith; starts = λ n h. refl; lanes = λ n h. refl; dirs = λ n h e. refl;
+      bodies = λ n h e. refl }
 
   -- every number below is published, and no mark
   settling : Settled k w.count (max w.settled m) w.dir
@@ -44,16 +48,20 @@ module _ (k : Key) (w : World) (r : Rule k w) (id : ℕ) (v : View) (at : get_el
     below = λ n above less. pick n above less (dec_lt n w.settled);
   }
     where
-      found_word : (n : ℕ) → (f : Found) → Among f v.learned.found → f.number ≡ n → f.kind ≢ Mark → IsEntryWord (w.dir n)
+      found_word : (n : ℕ) → (f : Found) → Among f v.learned.found → f.number ≡ n → f.kind ≢ Mark
+          → IsEntryWord (w.dir n)
       found_word n f among is ne =
           let found = all_among (IsFound k w.count w.dir r.start) f v.learned.found (r.facts id v at).found among in
-          subst (λ (z : ℕ). IsEntryWord (w.dir z)) is (record { published = published (w.dir f.number) f.kind found.kind; unmarked = λ e. ne (code_once f.kind Mark (sym found.kind ∙ e)) })
+          subst (λ (z : ℕ). IsEntryWord (w.dir z)) is
+              (record { published = published (w.dir f.number) f.kind found.kind;
+              unmarked = λ e. ne (code_once f.kind Mark (sym found.kind ∙ e)) })
 
       pick : (n : ℕ) → k.number ≤ n → n < max w.settled m → Dec (n < w.settled) → IsEntryWord (w.dir n)
       pick n above less (yes before) = r.settling.below n above before
       pick n above less (no behind) = ⊎_elim
           (λ (h : n < v.learned.settled). let floor = r.floors id v at in absurd (omega arith))
-          (λ (h : (f : Found) × Among f v.learned.found × (f.number ≡ n) × (f.kind ≢ Mark)). found_word n h.0 h.1 h.2 h.3)
+          (λ (h : (f : Found) × Among f v.learned.found × (f.number ≡ n)
+              × (f.kind ≢ Mark)). found_word n h.0 h.1 h.2 h.3)
           (can.known n (subst (λ (z : Key). z.number ≤ n) (sym about) above) (omega arith))
 
   -- a raise keeps the rule
@@ -69,7 +77,8 @@ module _ (k : Key) (w : World) (r : Rule k w) (id : ℕ) (v : View) (at : get_el
     space = record {
       regions = r.space.regions;
       finished = r.space.finished;
-      flying = λ n above below unset. flight_there w.views id v raiser at n (λ h. h) (r.space.flying n above below unset);
+      flying = λ n above below unset. flight_there w.views id v raiser at n (λ h. h)
+          (r.space.flying n above below unset);
       flights = each_set _ w.views id raiser (λ j u ne at_u. r.space.flights j u at_u) (r.space.flights id v at);
       alone = alone_kept w.views id v raiser at (λ n h. h) r.space.alone;
       dir_below = r.space.dir_below;
@@ -87,10 +96,16 @@ module _ (k : Key) (w : World) (r : Rule k w) (id : ℕ) (v : View) (at : get_el
     };
     settling = settling;
     chains = chains_set k w r id v raiser at (λ a c h. h) (λ a c h. h);
-    chained = each_set _ w.views id raiser (λ j u ne at_u. chained_later k w raised r.start r.start r.lane_of r.lane_of raise_final u.learned (r.chained j u at_u)) (let h = chained_later k w raised r.start r.start r.lane_of r.lane_of raise_final v.learned (r.chained id v at) in record { nodes = h.nodes; lows = h.lows; tops = h.tops });
+    chained = each_set _ w.views id raiser
+        (λ j u ne at_u. chained_later k w raised r.start r.start r.lane_of r.lane_of raise_final u.learned
+        (r.chained j u at_u)) (let h =
+        chained_later k w raised r.start r.start r.lane_of r.lane_of raise_final v.learned
+        (r.chained id v at) in record { nodes = h.nodes; lows = h.lows; tops = h.tops });
     floors = each_set _ w.views id raiser (λ j u ne at_u. let a = r.floors j u at_u in omega arith) (omega arith);
     own = each_set _ w.views id raiser (λ j u ne at_u. r.own j u at_u) (r.own id v at);
-    facts = each_set _ w.views id raiser (λ j u ne at_u. r.facts j u at_u) (let h = r.facts id v at in record { counted = h.counted; found = h.found; known = h.known; records = h.records });
+    facts = each_set _ w.views id raiser (λ j u ne at_u. r.facts j u at_u)
+        (let h = r.facts id v at in record { counted = h.counted; found = h.found; known = h.known;
+        records = h.records });
     shuts = each_set _ w.views id raiser (λ j u ne at_u. r.shuts j u at_u) (r.shuts id v at);
   }
 
@@ -102,8 +117,10 @@ module _ (k : Key) (w : World) (r : Rule k w) (id : ℕ) (v : View) (at : get_el
 -- ---- at the table
 
 -- a load of the settled number
-pub settled_allowed : (given k : Key) → given ≡ k → (size id : ℕ) (me : Sat) → me.0.about ≡ k → Allows (Ruled given) size id me 1 (λ n. n) (ToldSettled (step size 1 0 0 none) me)
-settled_allowed given k same size id me about = allowed given k same size id me 1 (λ n. n) (ToldSettled (step size 1 0 0 none) me) (λ ws vs wide r at.
+pub settled_allowed : (given k : Key) → given ≡ k → (size id : ℕ) (me : Sat) → me.0.about ≡ k
+    → Allows (Ruled given) size id me 1 (λ n. n) (ToldSettled (step size 1 0 0 none) me)
+settled_allowed given k same size id me about =
+    allowed given k same size id me 1 (λ n. n) (ToldSettled (step size 1 0 0 none) me) (λ ws vs wide r at.
     let w : World = world k ws vs in
     let v' : View = after_settled me.0 w.settled in
     let kept = settled_kept k w r id me.0 at in (
@@ -116,8 +133,10 @@ settled_allowed given k same size id me about = allowed given k same size id me 
     ))
 
 -- a fetch-max on it
-pub raise_allowed : (given k : Key) → given ≡ k → (size id : ℕ) (me : Sat) (m : ℕ) → me.0.about ≡ k → CanRaise me.0 m → Allows (Ruled given) size id me 1 (λ n. max n m) (told_raise (step size 1 m 0 none) me)
-raise_allowed given k same size id me m about can = allowed given k same size id me 1 (λ n. max n m) (told_raise (step size 1 m 0 none) me) (λ ws vs wide r at.
+pub raise_allowed : (given k : Key) → given ≡ k → (size id : ℕ) (me : Sat) (m : ℕ) → me.0.about ≡ k
+    → CanRaise me.0 m → Allows (Ruled given) size id me 1 (λ n. max n m) (told_raise (step size 1 m 0 none) me)
+raise_allowed given k same size id me m about can =
+    allowed given k same size id me 1 (λ n. max n m) (told_raise (step size 1 m 0 none) me) (λ ws vs wide r at.
     let w : World = world k ws vs in
     let v' : View = after_raise me.0 m w.settled in
     let kept = raise_kept k w r id me.0 at about m can in (

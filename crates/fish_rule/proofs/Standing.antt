@@ -12,17 +12,20 @@ use Rattle.fish_rule.specs.declared.view.Key.{Key}
 use Rattle.fish_rule.specs.declared.view.View.{View}
 
 -- the table allows a split wherever the control pass's view does
-pub splits : (k : Key) (id : ℕ) (v : View) (l : ℕ) → CanSplit v l → Splits (Ruled k) id v (split_left l v) (split_right l v)
+pub splits : (k : Key) (id : ℕ) (v : View) (l : ℕ) → CanSplit v l
+    → Splits (Ruled k) id v (split_left l v) (split_right l v)
 splits k id v l can s ruled at = record {
   wide = ruled.wide;
   rule = split_kept k (world k s.words s.views) ruled.rule id v at l can;
 }
 
 -- and a join wherever the two views do
-pub joins : (k : Key) (id : ℕ) (v : View) (other : ℕ) (u : View) → CanJoin v u → Joins (Ruled k) id v other u (join_both v u) spent
+pub joins : (k : Key) (id : ℕ) (v : View) (other : ℕ) (u : View) → CanJoin v u
+    → Joins (Ruled k) id v other u (join_both v u) spent
 joins k id v other u can s ruled at away at_u = record {
   wide = ruled.wide;
-  rule = join_kept k (world k s.words s.views) ruled.rule id other v u at away (sym (set_else s.views id other (join_both v u) away) ∙ at_u) can;
+  rule = join_kept k (world k s.words s.views) ruled.rule id other v u at away
+      (sym (set_else s.views id other (join_both v u) away) ∙ at_u) can;
 }
 
 -- ---- what stands

@@ -1,5 +1,6 @@
 -- A compare-and-exchange on a head.
-use Rattle.std.proofs.Common.{◌≡◌, ◌≢◌, ℕ, ◌+◌, ◌-◌, ◌<◌, ◌≤◌, get_or, set, sym, refl, ap, ◌∙◌, subst, inl, inr, ◌⊎◌, ⊎_elim, arith, eqb}
+use Rattle.std.proofs.Common.{◌≡◌, ◌≢◌, ℕ, ◌+◌, ◌-◌, ◌<◌, ◌≤◌, get_or, set, sym, refl, ap, ◌∙◌, subst, inl,
+    inr, ◌⊎◌, ⊎_elim, arith, eqb}
 use Rattle.std.proofs.Math.Decide.{ℕ_discrete}
 use mathlib.Core.Option.{none, some}
 use prog.Atomic.{either}
@@ -19,7 +20,8 @@ use Rattle.fish_rule.proofs.Linkings.{Leaves, link_final, link_from, link_here, 
 use Rattle.fish_rule.proofs.OwnWords.{flight_is, not_linked}
 use Rattle.fish_rule.proofs.Worlds.{area-in, put-else, put-here, world-head}
 use Rattle.fish_rule.specs.Chains.{Chain, Chained, Linked}
-use Rattle.fish_rule.specs.Linking.{CanAim, CanSwing, ToldSwing, TopRises, after_head, after_swing, bucket_at, own_place, swung}
+use Rattle.fish_rule.specs.Linking.{CanAim, CanSwing, ToldSwing, TopRises, after_head, after_swing, bucket_at,
+    own_place, swung}
 use Rattle.fish_rule.specs.Parts.{Facts}
 use Rattle.fish_rule.specs.Rule.{Final, Rule}
 use Rattle.fish_rule.specs.Steps.{ticked}
@@ -30,14 +32,18 @@ use Rattle.fish_rule.specs.declared.view.Key.{Key}
 use Rattle.fish_rule.specs.declared.view.View.{View}
 
 -- the place that the own entry is aimed at stands in the log
-pub aimed_there : (k : Key) (w : World) (r : Rule k w) (id : ℕ) (v : View) (at : get_elem? w.views id ≡ some v) (f : Flight) (can : CanAim v f) (x : ℕ) → get_or f.words (entry_at f.linked) 0 ≡ x → w.log (own_place f) ≡ x
+pub aimed_there : (k : Key) (w : World) (r : Rule k w) (id : ℕ) (v : View) (at : get_elem? w.views id ≡ some v)
+    (f : Flight) (can : CanAim v f) (x : ℕ) → get_or f.words (entry_at f.linked) 0 ≡ x → w.log (own_place f) ≡ x
 aimed_there k w r id v at f can x aimed =
     let own = flight_is k w r id v at f can.flying in
     let room = own_room k w r id v at f can in
     let full = can.full in
-    own.written (entry_at f.linked) (omega arith) (λ h. let less : h.0 < f.linked = h.1 in let e : entry_at f.linked ≡ entry_at h.0 = h.2 in absurd (omega arith)) ∙ aimed
+    own.written (entry_at f.linked) (omega arith)
+        (λ h. let less : h.0 < f.linked = h.1 in let e : entry_at f.linked ≡ entry_at h.0 = h.2 in
+        absurd (omega arith)) ∙ aimed
 
-module _ (k : Key) (w : World) (r : Rule k w) (id : ℕ) (v : View) (at : get_elem? w.views id ≡ some v) (about : v.about ≡ k) (f : Flight) (b h : ℕ) (can : CanSwing v f b h) (top : w.head b ≡ h) where
+module _ (k : Key) (w : World) (r : Rule k w) (id : ℕ) (v : View) (at : get_elem? w.views id ≡ some v)
+    (about : v.about ≡ k) (f : Flight) (b h : ℕ) (can : CanSwing v f b h) (top : w.head b ≡ h) where
   -- the place of the own entry
   abbrev own_at : ℕ
   own_at = own_place f
@@ -68,13 +74,15 @@ module _ (k : Key) (w : World) (r : Rule k w) (id : ℕ) (v : View) (at : get_el
   }
     where
       up : (c : ℕ) → Dec (c ≡ b) → w.head c ≤ head' c
-      up c (yes e) = subst (λ (z : ℕ). w.head z ≤ head' z) (sym e) (let q = put-here w.head b own_at in let less = can.less in omega arith)
+      up c (yes e) = subst (λ (z : ℕ). w.head z ≤ head' z) (sym e)
+          (let q = put-here w.head b own_at in let less = can.less in omega arith)
       up c (no ne) = (let q = put-else w.head b own_at c ne in omega arith)
 
   to : (c p : ℕ) → Linked k w.dir w.log w.views c p → Linked k w.dir w.log swing_world.views c p
   to = link_to k w r id v at f can.aim b bucket head' w.log swinger.learned swinger.clock leaves
 
-  from : (c p : ℕ) → Linked k w.dir w.log swing_world.views c p → Linked k w.dir w.log w.views c p ⊎ ((p ≡ own_at) × (c ≡ b))
+  from : (c p : ℕ) → Linked k w.dir w.log swing_world.views c p → Linked k w.dir w.log w.views c p
+      ⊎ ((p ≡ own_at) × (c ≡ b))
   from = link_from k w r id v at f can.aim b bucket head' w.log swinger.learned swinger.clock leaves
 
   here : Linked k w.dir w.log swing_world.views b own_at
@@ -85,21 +93,29 @@ module _ (k : Key) (w : World) (r : Rule k w) (id : ℕ) (v : View) (at : get_el
     where
       pick : Dec (c ≡ b) → Chain (Linked k w.dir w.log swing_world.views c) (head' c) w.log
       pick (yes e) =
-          let old : Chain (Linked k w.dir w.log w.views b) h w.log = subst (λ (z : ℕ). Chain (Linked k w.dir w.log w.views b) z w.log) top (r.chains b) in
+          let old : Chain (Linked k w.dir w.log w.views b) h w.log =
+              subst (λ (z : ℕ). Chain (Linked k w.dir w.log w.views b) z w.log) top (r.chains b) in
           let new : Chain (Linked k w.dir w.log swing_world.views b) own_at w.log =
-          chain_swung (Linked k w.dir w.log w.views b) (Linked k w.dir w.log swing_world.views b) h own_at w.log w.log (to b)
-          (λ p l. ⊎_elim (λ (g : Linked k w.dir w.log w.views b p). inl g) (λ (t : (p ≡ own_at) × (b ≡ b)). inr t.0) (from b p l))
+          chain_swung (Linked k w.dir w.log w.views b)
+              (Linked k w.dir w.log swing_world.views b) h own_at w.log w.log (to b)
+          (λ p l. ⊎_elim (λ (g : Linked k w.dir w.log w.views b p). inl g)
+              (λ (t : (p ≡ own_at) × (b ≡ b)). inr t.0) (from b p l))
           here old can.less (aimed_there k w r id v at f can.aim h can.aimed) (λ p l. refl) in
-          subst (λ (z : ℕ × ℕ). Chain (Linked k w.dir w.log swing_world.views z.0) z.1 w.log) (λ i. (sym e i, (sym (put-here w.head b own_at) ∙ ap head' (sym e)) i)) new
-      pick (no ne) = subst (λ (z : ℕ). Chain (Linked k w.dir w.log swing_world.views c) z w.log) (sym (put-else w.head b own_at c ne))
-          (chain_same (Linked k w.dir w.log w.views c) (Linked k w.dir w.log swing_world.views c) (w.head c) w.log w.log (to c)
-          (λ p l. ⊎_elim (λ (g : Linked k w.dir w.log w.views c p). g) (λ (t : (p ≡ own_at) × (c ≡ b)). absurd (ne t.1)) (from c p l)) (λ p l. refl) (r.chains c))
+          subst (λ (z : ℕ × ℕ). Chain (Linked k w.dir w.log swing_world.views z.0) z.1 w.log)
+              (λ i. (sym e i, (sym (put-here w.head b own_at) ∙ ap head' (sym e)) i)) new
+      pick (no ne) = subst (λ (z : ℕ). Chain (Linked k w.dir w.log swing_world.views c) z w.log)
+          (sym (put-else w.head b own_at c ne))
+          (chain_same (Linked k w.dir w.log w.views c) (Linked k w.dir w.log swing_world.views c)
+              (w.head c) w.log w.log (to c)
+          (λ p l. ⊎_elim (λ (g : Linked k w.dir w.log w.views c p). g)
+              (λ (t : (p ≡ own_at) × (c ≡ b)). absurd (ne t.1)) (from c p l)) (λ p l. refl) (r.chains c))
 
   final : Final k r.start r.start r.lane_of r.lane_of w swing_world
   final = link_final k w r id v at f can.aim b bucket head' w.log swinger.learned swinger.clock leaves
 
   facts : Facts k w.count w.dir w.log r.start swinger.learned
-  facts = (let q = facts_later k w swing_world r.start r.start r.lane_of r.lane_of final v.learned (r.facts id v at) in record { counted = q.counted; found = q.found; known = q.known; records = q.records })
+  facts = (let q = facts_later k w swing_world r.start r.start r.lane_of r.lane_of final v.learned
+      (r.facts id v at) in record { counted = q.counted; found = q.found; known = q.known; records = q.records })
 
   chained : Chained k w.dir w.log swing_world.views head' swinger.learned
   chained =
@@ -109,16 +125,22 @@ module _ (k : Key) (w : World) (r : Rule k w) (id : ℕ) (v : View) (at : get_el
 
   -- a swing keeps the rule
   pub swing_kept : Rule k swing_world
-  swing_kept = link_kept k w r id v at f can.aim b bucket head' w.log swinger.learned swinger.clock leaves chains facts (r.floors id v at) chained
+  swing_kept = link_kept k w r id v at f can.aim b bucket head' w.log swinger.learned swinger.clock leaves chains facts
+      (r.floors id v at) chained
 
   -- and all that lasts
   pub swing_lasts : Final k r.start swing_kept.start r.lane_of swing_kept.lane_of w swing_world
   unfolding swing_kept
-  swing_lasts = link_lasts k w r id v at f can.aim b bucket head' w.log swinger.learned swinger.clock leaves chains facts (r.floors id v at) chained
+  swing_lasts =
+      link_lasts k w r id v at f can.aim b bucket head' w.log swinger.learned swinger.clock leaves chains facts
+      (r.floors id v at) chained
 
 -- the own entry is not linked yet
-pub own_unlinked : (k : Key) (w : World) (r : Rule k w) (id : ℕ) (v : View) (at : get_elem? w.views id ≡ some v) (f : Flight) (can : CanAim v f) (b p : ℕ) → Linked k w.dir w.log w.views b p → p ≢ own_place f
-own_unlinked k w r id v at f can b p = not_linked k w r id v at f can.flying (entry_at f.linked) 0 (set f.words (entry_at f.linked) 0) (ticked v.clock) (becomes k w r id v at f can 0) b p
+pub own_unlinked : (k : Key) (w : World) (r : Rule k w) (id : ℕ) (v : View)
+    (at : get_elem? w.views id ≡ some v) (f : Flight) (can : CanAim v f) (b p : ℕ)
+    → Linked k w.dir w.log w.views b p → p ≢ own_place f
+own_unlinked k w r id v at f can b p = not_linked k w r id v at f can.flying (entry_at f.linked) 0
+    (set f.words (entry_at f.linked) 0) (ticked v.clock) (becomes k w r id v at f can 0) b p
 
 -- a swing leaves the key
 about_swing : (v : View) {k : Key} (f : Flight) (b h x : ℕ) → v.about ≡ k → (after_swing v f b h x).about ≡ k
@@ -129,37 +151,52 @@ about_swing v {k} f b h x about = by (ℕ_discrete x h)
     by (no n) = about
 
 -- the own place is no head before
-pub head_other : (k : Key) (w : World) (r : Rule k w) (id : ℕ) (v : View) (at : get_elem? w.views id ≡ some v) (f : Flight) (can : CanAim v f) (b : ℕ) → w.head b ≢ own_place f
+pub head_other : (k : Key) (w : World) (r : Rule k w) (id : ℕ) (v : View) (at : get_elem? w.views id ≡ some v)
+    (f : Flight) (can : CanAim v f) (b : ℕ) → w.head b ≢ own_place f
 head_other k w r id v at f can b e = ⊎_elim (λ (z : w.head b ≡ 0). absurd (omega arith))
-    (λ (l : Linked k w.dir w.log w.views b (w.head b)). own_unlinked k w r id v at f can b (w.head b) l e) (r.chains b).some
+    (λ (l : Linked k w.dir w.log w.views b (w.head b)). own_unlinked k w r id v at f can b (w.head b) l e)
+        (r.chains b).some
 
 -- the table allows it
-pub swing_allowed : (given k : Key) → given ≡ k → (size id : ℕ) (me : Sat) (f : Flight) (b h i new : ℕ) → me.0.about ≡ k → CanSwing me.0 f b h → i ≡ heads_at + b → new ≡ own_place f
+pub swing_allowed : (given k : Key) → given ≡ k → (size id : ℕ) (me : Sat) (f : Flight) (b h i new : ℕ)
+    → me.0.about ≡ k → CanSwing me.0 f b h → i ≡ heads_at + b → new ≡ own_place f
     → Allows (Ruled given) size id me i (λ n. either (eqb n h) new n) (ToldSwing (step size i h new none) me)
-swing_allowed given k same size id me f b h i new about can is own = allowed given k same size id me i (λ n. either (eqb n h) new n) (ToldSwing (step size i h new none) me) (λ ws vs wide r at.
+swing_allowed given k same size id me f b h i new about can is own =
+    allowed given k same size id me i (λ n. either (eqb n h) new n) (ToldSwing (step size i h new none) me)
+    (λ ws vs wide r at.
     let w : World = world k ws vs in
     let x : ℕ = get_or ws i 0 in
     let below : b < k.buckets = subst (λ (z : Key). b < z.buckets) about can.below in
     let minus : b ≡ b - 0 = omega arith in
-    let word : x ≡ w.head b = ap (λ (z : ℕ). get_or ws z 0) is ∙ ap (λ (z : ℕ). get_or ws (heads_at + z) 0) minus ∙ sym (area-in ws heads_at 0 k.buckets b (omega arith) (omega arith)) in
+    let word : x ≡ w.head b = ap (λ (z : ℕ). get_or ws z 0) is
+        ∙ ap (λ (z : ℕ). get_or ws (heads_at + z) 0) minus
+        ∙ sym (area-in ws heads_at 0 k.buckets b (omega arith) (omega arith)) in
     let index : bucket_at i ≡ b = omega arith in
     let v' : View = after_swing me.0 f b h x in
     let v_at = there vs id me.0 v' at in
-    let rule : Rule k (world k (set ws i (either (eqb x h) new x)) (set vs id v')) = exchanged x h new (λ y. Rule k (world k (set ws i y) (set vs id v')))
+    let rule : Rule k (world k (set ws i (either (eqb x h) new x)) (set vs id v')) =
+        exchanged x h new (λ y. Rule k (world k (set ws i y) (set vs id v')))
     (λ e. let hit : v' ≡ swung me.0 f b = choose_first (ℕ_discrete x h) (swung me.0 f b) (after_head me.0 b x) e in
     subst (λ (z : ℕ × View). Rule k (world k (set ws i z.0) (set vs id z.1))) (λ j. (sym own j, sym hit j))
-    (subst (Rule k) (sym (world-head k ws vs (set vs id (swung me.0 f b)) b i (own_place f) below is wide)) (swing_kept k w r id me.0 at about f b h can (sym word ∙ e))))
-    (λ ne. let miss : v' ≡ after_head me.0 b x = choose_second (ℕ_discrete x h) (swung me.0 f b) (after_head me.0 b x) ne in
+    (subst (Rule k) (sym (world-head k ws vs (set vs id (swung me.0 f b)) b i (own_place f) below is wide))
+        (swing_kept k w r id me.0 at about f b h can (sym word ∙ e))))
+    (λ ne. let miss : v' ≡ after_head me.0 b x =
+        choose_second (ℕ_discrete x h) (swung me.0 f b) (after_head me.0 b x) ne in
     subst (λ (z : View). Rule k (world k (set ws i x) (set vs id z))) (sym miss)
-    (loaded_words k ws (set vs id (after_head me.0 b x)) i (subst (λ (z : ℕ). Rule k (record w { views = set vs id (after_head me.0 b z) })) (sym word) (head_kept k w r id me.0 at b)))) in
+    (loaded_words k ws (set vs id (after_head me.0 b x)) i
+        (subst (λ (z : ℕ). Rule k (record w { views = set vs id (after_head me.0 b z) })) (sym word)
+        (head_kept k w r id me.0 at b)))) in
     let about' : v'.about ≡ k = about_swing me.0 f b h x about in (
       v',
       rule,
       record {
         told = λ g flying.
             let e : f ≡ g = one_flight f g (sym can.aim.flying ∙ flying) in
-            subst (λ (z : ℕ × Flight). Told me (after_swing me.0 z.1 z.0 h x) (v', me.1)) (λ j. (sym index j, e j)) (record { view = refl; held = refl; stands = stands k _ id v' rule about' v_at });
-        rises = subst (λ (z : ℕ × ℕ). TopRises me.0 z.0 z.1) (λ j. (sym index j, sym word j)) (head_rises k w r id me.0 at b);
+            subst (λ (z : ℕ × Flight). Told me (after_swing me.0 z.1 z.0 h x) (v', me.1))
+                (λ j. (sym index j, e j)) (record { view = refl; held = refl;
+                stands = stands k _ id v' rule about' v_at });
+        rises = subst (λ (z : ℕ × ℕ). TopRises me.0 z.0 z.1) (λ j. (sym index j, sym word j))
+            (head_rises k w r id me.0 at b);
         other = λ e. head_other k w r id me.0 at f can.aim b (sym word ∙ e ∙ own);
       },
     ))

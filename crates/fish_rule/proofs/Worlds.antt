@@ -1,5 +1,6 @@
 -- Areas of words as functions: what a store and a load are to them.
-use Rattle.std.proofs.Common.{◌≡◌, ◌≢◌, ℕ, ◌+◌, ◌-◌, ◌*◌, ◌<◌, ◌≤◌, suc, List, length, get_or, set, sym, refl, ap, ◌∙◌, inl, inr, ◌⊎◌, arith, get_or-set_other, get_or-set_same}
+use Rattle.std.proofs.Common.{◌≡◌, ◌≢◌, ℕ, ◌+◌, ◌-◌, ◌*◌, ◌<◌, ◌≤◌, suc, List, length, get_or, set, sym, refl,
+    ap, ◌∙◌, inl, inr, ◌⊎◌, arith, get_or-set_other, get_or-set_same}
 use Rattle.std.proofs.Math.Decide.{ℕ_discrete, dec_le}
 use Rattle.fish_layout.proofs.Clearing.{choose_first, choose_second}
 use Rattle.fish_layout.specs.Cleared.{choose}
@@ -21,10 +22,12 @@ module _ {A : Type 0} where
 -- ---- areas
 
 -- inside its range an area has the words
-pub area-in : (ws : List ℕ) (at base size n : ℕ) → base ≤ n → n < base + size → area ws at base size n ≡ get_or ws (at + (n - base)) 0
+pub area-in : (ws : List ℕ) (at base size n : ℕ) → base ≤ n → n < base + size
+    → area ws at base size n ≡ get_or ws (at + (n - base)) 0
 unfolding area
 area-in ws at base size n above below =
-    choose_first (dec_le base n) _ 0 above ∙ choose_first (dec_le (suc n) (base + size)) (get_or ws (at + (n - base)) 0) 0 (omega arith)
+    choose_first (dec_le base n) _ 0 above
+        ∙ choose_first (dec_le (suc n) (base + size)) (get_or ws (at + (n - base)) 0) 0 (omega arith)
 
 -- below and behind it stands 0
 pub area-below : (ws : List ℕ) (at base size n : ℕ) → n < base → area ws at base size n ≡ 0
@@ -34,41 +37,59 @@ area-below ws at base size n less = choose_second (dec_le base n) _ 0 (λ h. ome
 pub area-behind : (ws : List ℕ) (at base size n : ℕ) → base + size ≤ n → area ws at base size n ≡ 0
 unfolding area
 area-behind ws at base size n more =
-    choose_first (dec_le base n) _ 0 (omega arith) ∙ choose_second (dec_le (suc n) (base + size)) (get_or ws (at + (n - base)) 0) 0 (λ h. omega arith)
+    choose_first (dec_le base n) _ 0 (omega arith)
+        ∙ choose_second (dec_le (suc n) (base + size)) (get_or ws (at + (n - base)) 0) 0 (λ h. omega arith)
 
 -- two lists that agree in the range give one area
-area-same : (ws us : List ℕ) (at base size : ℕ) → ((n : ℕ) → base ≤ n → n < base + size → get_or us (at + (n - base)) 0 ≡ get_or ws (at + (n - base)) 0)
+area-same : (ws us : List ℕ) (at base size : ℕ)
+    → ((n : ℕ) → base ≤ n → n < base + size → get_or us (at + (n - base)) 0 ≡ get_or ws (at + (n - base)) 0)
     → (n : ℕ) → area us at base size n ≡ area ws at base size n
 unfolding area
 area-same ws us at base size same n = area-cases (dec_le base n) (dec_le (suc n) (base + size)) (same n)
   where
-    area-cases : (d : Dec (base ≤ n)) (e : Dec (suc n ≤ base + size)) → (base ≤ n → n < base + size → get_or us (at + (n - base)) 0 ≡ get_or ws (at + (n - base)) 0)
-        → choose d (choose e (get_or us (at + (n - base)) 0) 0) 0 ≡ choose d (choose e (get_or ws (at + (n - base)) 0) 0) 0
+    area-cases : (d : Dec (base ≤ n)) (e : Dec (suc n ≤ base + size))
+        → (base ≤ n → n < base + size → get_or us (at + (n - base)) 0 ≡ get_or ws (at + (n - base)) 0)
+        → choose d (choose e (get_or us (at + (n - base)) 0) 0) 0 ≡ choose d
+            (choose e (get_or ws (at + (n - base)) 0) 0) 0
     area-cases (no x) e f = refl
     area-cases (yes a) (no x) f = refl
     area-cases (yes a) (yes b) f = f a (omega arith)
 
 -- a store outside an area leaves it
-pub area-else : (ws : List ℕ) (at base size i x : ℕ) → (i < at) ⊎ (at + size ≤ i) → area (set ws i x) at base size ≡ area ws at base size
-area-else ws at base size i x (inl before) = λ j n. area-same ws (set ws i x) at base size (λ m a b. get_or-set_other ws i (at + (m - base)) x 0 (omega arith)) n j
-area-else ws at base size i x (inr behind) = λ j n. area-same ws (set ws i x) at base size (λ m a b. get_or-set_other ws i (at + (m - base)) x 0 (omega arith)) n j
+pub area-else : (ws : List ℕ) (at base size i x : ℕ) → (i < at) ⊎ (at + size ≤ i)
+    → area (set ws i x) at base size ≡ area ws at base size
+area-else ws at base size i x (inl before) =
+    λ j n. area-same ws (set ws i x) at base size
+    (λ m a b. get_or-set_other ws i (at + (m - base)) x 0 (omega arith)) n j
+area-else ws at base size i x (inr behind) =
+    λ j n. area-same ws (set ws i x) at base size
+    (λ m a b. get_or-set_other ws i (at + (m - base)) x 0 (omega arith)) n j
 
 -- a store in an area puts the value in its place
-pub area-store : (ws : List ℕ) (at base size n i x : ℕ) → base ≤ n → n < base + size → i ≡ at + (n - base) → i < length ws
+pub area-store : (ws : List ℕ) (at base size n i x : ℕ) → base ≤ n → n < base + size → i ≡ at + (n - base)
+    → i < length ws
     → area (set ws i x) at base size ≡ put (area ws at base size) n x
 area-store ws at base size n i x above below is inside = λ j m. each m (ℕ_discrete m n) j
   where
     each : (m : ℕ) → Dec (m ≡ n) → area (set ws i x) at base size m ≡ put (area ws at base size) n x m
     each m (yes e) =
-        let here : area (set ws i x) at base size n ≡ x = area-in (set ws i x) at base size n above below ∙ ap (λ (z : ℕ). get_or (set ws i x) z 0) (sym is) ∙ get_or-set_same ws i x 0 inside in
-        ap (area (set ws i x) at base size) e ∙ here ∙ sym (put-here (area ws at base size) n x) ∙ ap (put (area ws at base size) n x) (sym e)
-    each m (no ne) = other m ne (dec_le base m) (dec_le (suc m) (base + size)) ∙ sym (put-else (area ws at base size) n x m ne)
+        let here : area (set ws i x) at base size n ≡ x = area-in (set ws i x) at base size n above below
+            ∙ ap (λ (z : ℕ). get_or (set ws i x) z 0) (sym is) ∙ get_or-set_same ws i x 0 inside in
+        ap (area (set ws i x) at base size) e ∙ here ∙ sym (put-here (area ws at base size) n x)
+            ∙ ap (put (area ws at base size) n x) (sym e)
+    each m (no ne) = other m ne (dec_le base m) (dec_le (suc m) (base + size))
+        ∙ sym (put-else (area ws at base size) n x m ne)
       where
-        other : (q : ℕ) → q ≢ n → Dec (base ≤ q) → Dec (suc q ≤ base + size) → area (set ws i x) at base size q ≡ area ws at base size q
-        other q qn (no b) e = area-below (set ws i x) at base size q (omega arith) ∙ sym (area-below ws at base size q (omega arith))
-        other q qn (yes a) (no b) = area-behind (set ws i x) at base size q (omega arith) ∙ sym (area-behind ws at base size q (omega arith))
+        other : (q : ℕ) → q ≢ n → Dec (base ≤ q) → Dec (suc q ≤ base + size)
+            → area (set ws i x) at base size q ≡ area ws at base size q
+        other q qn (no b) e = area-below (set ws i x) at base size q (omega arith)
+            ∙ sym (area-below ws at base size q (omega arith))
+        other q qn (yes a) (no b) = area-behind (set ws i x) at base size q (omega arith)
+            ∙ sym (area-behind ws at base size q (omega arith))
         other q qn (yes a) (yes b) =
-            area-in (set ws i x) at base size q a (omega arith) ∙ get_or-set_other ws i (at + (q - base)) x 0 (λ h. qn (omega arith)) ∙ sym (area-in ws at base size q a (omega arith))
+            area-in (set ws i x) at base size q a (omega arith)
+                ∙ get_or-set_other ws i (at + (q - base)) x 0 (λ h. qn (omega arith))
+                ∙ sym (area-in ws at base size q a (omega arith))
 
 -- ---- worlds
 
@@ -103,7 +124,8 @@ world-settled k ws vs us x some =
     }
 
 -- a store of a head
-pub world-head : (k : Key) (ws : List ℕ) (vs us : List View) (b i x : ℕ) → b < k.buckets → i ≡ heads_at + b → length ws ≡ total k
+pub world-head : (k : Key) (ws : List ℕ) (vs us : List View) (b i x : ℕ) → b < k.buckets → i ≡ heads_at + b
+    → length ws ≡ total k
     → world k (set ws i x) us ≡ record (world k ws vs) { head = put (world k ws vs).head b x; views = us }
 world-head k ws vs us b i x below is wide =
     let apart : get_or (set ws i x) 0 0 ≡ get_or ws 0 0 = get_or-set_other ws i 0 x 0 (omega arith) in
@@ -118,7 +140,8 @@ world-head k ws vs us b i x below is wide =
     }
 
 -- a store of a directory word
-pub world-dir : (k : Key) (ws : List ℕ) (vs us : List View) (n i x : ℕ) → k.number ≤ n → n < k.number + slots k → i ≡ dir_at k + (n - k.number) → length ws ≡ total k
+pub world-dir : (k : Key) (ws : List ℕ) (vs us : List View) (n i x : ℕ) → k.number ≤ n → n < k.number + slots k
+    → i ≡ dir_at k + (n - k.number) → length ws ≡ total k
     → world k (set ws i x) us ≡ record (world k ws vs) { dir = put (world k ws vs).dir n x; views = us }
 world-dir k ws vs us n i x above below is wide =
     let apart : get_or (set ws i x) 0 0 ≡ get_or ws 0 0 = get_or-set_other ws i 0 x 0 (omega arith) in
@@ -133,7 +156,8 @@ world-dir k ws vs us n i x above below is wide =
     }
 
 -- a store of a word of the log
-pub world-log : (k : Key) (ws : List ℕ) (vs us : List View) (p i x : ℕ) → k.line * 4 ≤ p → p < k.line * 4 + log_size k → i ≡ log_at k + (p - k.line * 4) → length ws ≡ total k
+pub world-log : (k : Key) (ws : List ℕ) (vs us : List View) (p i x : ℕ) → k.line * 4 ≤ p
+    → p < k.line * 4 + log_size k → i ≡ log_at k + (p - k.line * 4) → length ws ≡ total k
     → world k (set ws i x) us ≡ record (world k ws vs) { log = put (world k ws vs).log p x; views = us }
 world-log k ws vs us p i x above below is wide =
     let apart : get_or (set ws i x) 0 0 ≡ get_or ws 0 0 = get_or-set_other ws i 0 x 0 (omega arith) in

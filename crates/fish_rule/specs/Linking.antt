@@ -1,5 +1,7 @@
--- How a pass links the key entries of its record into their chains: what it knows after each of these steps, and when it may make it.
-use Rattle.std.specs.Prelude.{ℕ, ◌≡◌, ◌≢◌, ◌+◌, ◌-◌, ◌*◌, ◌<◌, ◌≤◌, zero, suc, List, ◌∷◌, length, slice_index, slice_set, Bool, Some}
+-- How a pass links the key entries of its record into their chains: what it knows after each of
+-- these steps, and when it may make it.
+use Rattle.std.specs.Prelude.{ℕ, ◌≡◌, ◌≢◌, ◌+◌, ◌-◌, ◌*◌, ◌<◌, ◌≤◌, zero, suc, List, ◌∷◌, length, slice_index,
+    slice_set, Bool, Some}
 use Rattle.std.proofs.Math.Decide.{ℕ_discrete}
 use Rattle.atomic_table.specs.Table.{Step}
 use Rattle.fish_layout.specs.Bucket.{bucket_of}
@@ -99,7 +101,8 @@ pub record CanSwing (v : View) (f : Flight) (b h : ℕ) : Type 0 where
 abbrev pub swung : View → Flight → ℕ → View
 swung v f b = record v {
   flight = Some (linked_once f);
-  learned = record v.learned { nodes = record { bucket = b; place = own_place f } ∷ v.learned.nodes; tops = record { bucket = b; place = own_place f } ∷ v.learned.tops };
+  learned = record v.learned { nodes = record { bucket = b; place = own_place f } ∷ v.learned.nodes;
+      tops = record { bucket = b; place = own_place f } ∷ v.learned.tops };
   clock = loaded v.clock;
 }
 
@@ -122,7 +125,8 @@ pub record CanSplice (v : View) (f : Flight) (b q x : ℕ) : Type 0 where
 abbrev pub spliced : View → Flight → ℕ → ℕ → View
 spliced v f b q = record v {
   flight = Some (linked_once f);
-  learned = record v.learned { nodes = record { bucket = b; place = own_place f } ∷ v.learned.nodes; lows = record { place = q; value = own_place f } ∷ v.learned.lows };
+  learned = record v.learned { nodes = record { bucket = b; place = own_place f } ∷ v.learned.nodes;
+      lows = record { place = q; value = own_place f } ∷ v.learned.lows };
   clock = loaded v.clock;
 }
 
@@ -163,7 +167,8 @@ pub record ToldSwing (st : Step Bool) (m : Sat) (found : ℕ) (m' : Sat) : Type 
 pub record ToldSplice (st : Step Bool) (m : Sat) (found : ℕ) (m' : Sat) : Type 0 where
   pub bucket : ℕ
   pub node : HasNode m.0 bucket (place_at m.0.about st.word)
-  pub told : (f : Flight) → m.0.flight ≡ Some f → Told m (after_splice m.0 f bucket (place_at m.0.about st.word) st.first found) m'
+  pub told : (f : Flight) → m.0.flight ≡ Some f
+      → Told m (after_splice m.0 f bucket (place_at m.0.about st.word) st.first found) m'
   pub rises : LowRises m.0 (place_at m.0.about st.word) found
   pub less : found < place_at m.0.about st.word
   pub other : found ≢ st.second

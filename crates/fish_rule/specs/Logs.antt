@@ -57,12 +57,14 @@ pub record Learns (v u : View) : Type 0 where
 
 -- in every moment of a view that knows as much, this stands at number n
 abbrev pub Tells : View → ℕ → Entry → Type 0
-Tells v n e = (u : View) → Learns v u → (w : World) → Rule u.about w → (j : ℕ) → get_elem? w.views j ≡ some u → IsEntry w n e
+Tells v n e = (u : View) → Learns v u → (w : World) → Rule u.about w → (j : ℕ) → get_elem? w.views j ≡ some u
+    → IsEntry w n e
 
 -- the words are those of a region that was found: each that is no first word of a key entry was read
 pub record HasWords (v : View) (f : Found) (words : List ℕ) : Type 0 where
   pub full : length words ≡ f.lines * 4
-  pub read : (i : ℕ) → i < length words → ¬ IsKeyWord (keys_of (slice_index words 0)) i → Among (record { place = f.line * 4 + i; value = slice_index words i }) v.learned.known
+  pub read : (i : ℕ) → i < length words → ¬ IsKeyWord (keys_of (slice_index words 0)) i
+      → Among (record { place = f.line * 4 + i; value = slice_index words i }) v.learned.known
 
 -- the second view is the first but for what it learned since
 pub record Extends (v u : View) : Type 0 where
@@ -76,8 +78,10 @@ pub record Extends (v u : View) : Type 0 where
 
 -- ---- the closed log
 
--- the entries are the log of a moment that meets the rule, of which these own numbers are exact and all of these facts hold
-pub record IsClosedAt (k : Key) (lane : ℕ) (out : List ℕ) (own : List Own) (learned : Learned) (entries : List Entry) : Type 0 where
+-- the entries are the log of a moment that meets the rule, of which these own numbers are exact and
+-- all of these facts hold
+pub record IsClosedAt (k : Key) (lane : ℕ) (out : List ℕ) (own : List Own) (learned : Learned)
+    (entries : List Entry) : Type 0 where
   pub moment : World
   pub rule : Rule k moment
   pub log : IsLog k moment entries
@@ -92,7 +96,8 @@ IsClosed v entries = IsClosedAt v.about v.lane v.out v.own v.learned entries
 
 -- the number at which the log ends, in every moment of a view that knows as much
 abbrev pub TellsMark : View → ℕ → Type 0
-TellsMark v n = (u : View) → Learns v u → (w : World) → Rule u.about w → (j : ℕ) → get_elem? w.views j ≡ some u → high (w.dir n) ≡ code Mark
+TellsMark v n = (u : View) → Learns v u → (w : World) → Rule u.about w → (j : ℕ) → get_elem? w.views j ≡ some u
+    → high (w.dir n) ≡ code Mark
 
 -- what a number was found to be: an entry, or a mark
 abbrev pub TellsNext : View → ℕ → Option Entry → Type 0

@@ -2,12 +2,14 @@
 use Rattle.std.specs.Prelude.{ℕ, ◌≡◌, ◌≢◌, ◌+◌, ◌-◌, ◌*◌, ◌<◌, ◌≤◌, ◌⊎◌, suc, List, [], ◌∷◌, ◌++◌, length, max}
 use mathlib.Core.Option.{some}
 use Rattle.std.proofs.Math.ListN.{get_elem?, set}
-use Rattle.fish_rule.specs.Linking.{CanAim, CanLoadHead, CanSplice, CanSwing, HasNode, after_aim, after_head, after_previous, own_place, spliced, swung}
+use Rattle.fish_rule.specs.Linking.{CanAim, CanLoadHead, CanSplice, CanSwing, HasNode, after_aim, after_head,
+    after_previous, own_place, spliced, swung}
 use Rattle.fish_rule.specs.Parts.{Fits}
 use Rattle.fish_rule.specs.Regions.{dir_word}
 use Rattle.fish_rule.specs.Rule.{Final, Rule}
 use Rattle.fish_rule.specs.Seating.{CanJoin, CanSplit, join_both, spent, split_left, split_right}
-use Rattle.fish_rule.specs.Steps.{CanClaim, CanLook, CanPublish, CanRaise, CanRead, CanStore, after_claim, after_end, after_look, after_publish, after_raise, after_read, after_settled, after_store, flight_kind}
+use Rattle.fish_rule.specs.Steps.{CanClaim, CanLook, CanPublish, CanRaise, CanRead, CanStore, after_claim,
+    after_end, after_look, after_publish, after_raise, after_read, after_settled, after_store, flight_kind}
 use Rattle.fish_rule.specs.Start.{empty_world}
 use Rattle.fish_rule.specs.World.{World, high, low, put}
 use Rattle.fish_rule.specs.declared.view.Flight.{Flight}
@@ -53,28 +55,35 @@ Goes k w (claims id m) u = (v : View) × Seated k w id v × CanClaim v × (0 < m
 Goes k w (stores id x) u = (v : View) × (f : Flight) × Seated k w id v × CanStore v f
     × (u ≡ record w { log = put w.log (f.line * 4 + length f.words) x; views = set w.views id (after_store v f x) })
 Goes k w (publishes id) u = (v : View) × (f : Flight) × Seated k w id v × CanPublish v f
-    × (u ≡ record w { dir = put w.dir f.number (dir_word (flight_kind v f) f.line); views = set w.views id (after_publish v f) })
+    × (u ≡ record w { dir = put w.dir f.number (dir_word (flight_kind v f) f.line);
+        views = set w.views id (after_publish v f) })
 Goes k w (looks id n) u = (v : View) × (lines : ℕ) × Seated k w id v × CanLook v n × HasLines k w n lines
     × (u ≡ record w { views = set w.views id (after_look v n lines (w.dir n)) })
 Goes k w (reads id n i) u = (v : View) × (f : Found) × Seated k w id v × CanRead v f i × (f.number ≡ n)
     × (u ≡ record w { views = set w.views id (after_read v (f.line * 4 + i) (w.log (f.line * 4 + i))) })
 Goes k w (ends id) u = (v : View) × (x : ℕ) × Seated k w id v × (high x ≡ w.count) × (low x ≡ w.line)
     × (u ≡ record w { views = set w.views id (after_end v x) })
-Goes k w (settles id) u = (v : View) × Seated k w id v × (u ≡ record w { views = set w.views id (after_settled v w.settled) })
+Goes k w (settles id) u = (v : View) × Seated k w id v
+    × (u ≡ record w { views = set w.views id (after_settled v w.settled) })
 Goes k w (raises id m) u = (v : View) × Seated k w id v × CanRaise v m
     × (u ≡ record w { settled = max w.settled m; views = set w.views id (after_raise v m w.settled) })
-Goes k w (heads id b) u = (v : View) × Seated k w id v × CanLoadHead v b × (u ≡ record w { views = set w.views id (after_head v b (w.head b)) })
+Goes k w (heads id b) u = (v : View) × Seated k w id v × CanLoadHead v b
+    × (u ≡ record w { views = set w.views id (after_head v b (w.head b)) })
 Goes k w (previouses id b p) u = (v : View) × Seated k w id v × HasNode v b p
     × (u ≡ record w { views = set w.views id (after_previous v b p (w.log p)) })
 Goes k w (aims id x) u = (v : View) × (f : Flight) × Seated k w id v × CanAim v f
     × (u ≡ record w { log = put w.log (own_place f) x; views = set w.views id (after_aim v f x) })
 Goes k w (swings id b h) u = (v : View) × (f : Flight) × Seated k w id v × CanSwing v f b h
-    × Exchanged (w.head b) h u (record w { head = put w.head b (own_place f); views = set w.views id (swung v f b) }) (record w { views = set w.views id (after_head v b (w.head b)) })
+    × Exchanged (w.head b) h u (record w { head = put w.head b (own_place f);
+        views = set w.views id (swung v f b) }) (record w { views = set w.views id (after_head v b (w.head b)) })
 Goes k w (splices id b q x) u = (v : View) × (f : Flight) × Seated k w id v × CanSplice v f b q x
-    × Exchanged (w.log q) x u (record w { log = put w.log q (own_place f); views = set w.views id (spliced v f b q) }) (record w { views = set w.views id (after_previous v b q (w.log q)) })
+    × Exchanged (w.log q) x u (record w { log = put w.log q (own_place f);
+        views = set w.views id (spliced v f b q) })
+        (record w { views = set w.views id (after_previous v b q (w.log q)) })
 Goes k w (splits id l) u = (v : View) × Seated k w id v × CanSplit v l
     × (u ≡ record w { views = set w.views id (split_left l v) ++ split_right l v ∷ [] })
-Goes k w (joins id other) u = (v : View) × (b : View) × Seated k w id v × (other ≢ id) × (get_elem? w.views other ≡ some b) × CanJoin v b
+Goes k w (joins id other) u = (v : View) × (b : View) × Seated k w id v × (other ≢ id)
+    × (get_elem? w.views other ≡ some b) × CanJoin v b
     × (u ≡ record w { views = set (set w.views id (join_both v b)) other spent })
 
 -- the world goes by steps, one after the other
@@ -88,4 +97,5 @@ EverySchedule = (k : Key) (events : List Event) (u : World) → Fits k → Runs 
 
 -- and each step keeps for good what lasts
 abbrev pub EveryStepIsFinal : Type 0
-EveryStepIsFinal = (k : Key) (e : Event) (w u : World) (r : Rule k w) → Goes k w e u → (s : Rule k u) × Final k r.start s.start r.lane_of s.lane_of w u
+EveryStepIsFinal = (k : Key) (e : Event) (w u : World) (r : Rule k w) → Goes k w e u → (s : Rule k u)
+    × Final k r.start s.start r.lane_of s.lane_of w u

@@ -1,5 +1,6 @@
 -- What holds of the words and the views at every moment, part by part.
-use Rattle.std.specs.Prelude.{ℕ, ◌≡◌, ◌≢◌, ◌+◌, ◌-◌, ◌*◌, ◌<◌, ◌≤◌, zero, suc, List, length, slice_index, Option, Some, None, ⊤}
+use Rattle.std.specs.Prelude.{ℕ, ◌≡◌, ◌≢◌, ◌+◌, ◌-◌, ◌*◌, ◌<◌, ◌≤◌, zero, suc, List, length, slice_index,
+    Option, Some, None, ⊤}
 use mathlib.Core.Option.{some}
 use Rattle.std.proofs.Math.ListN.{get_elem?}
 use Rattle.fish_layout.specs.Cleared.{body_of, entry_at}
@@ -33,7 +34,8 @@ pub record Fits (k : Key) : Type 0 where
 
 -- no two passes have one lane, and no lane is above 16
 pub record Seats (views : List View) : Type 0 where
-  pub apart : (i j : ℕ) (v u : View) (l : ℕ) → get_elem? views i ≡ some v → get_elem? views j ≡ some u → Has v.lane v.out l → Has u.lane u.out l → i ≡ j
+  pub apart : (i j : ℕ) (v u : View) (l : ℕ) → get_elem? views i ≡ some v → get_elem? views j ≡ some u
+      → Has v.lane v.out l → Has u.lane u.out l → i ≡ j
   pub few : Each (λ v. v.lane ≤ 16) views
 
 -- where no lane is out, the tail is as the control pass's last step left it
@@ -43,7 +45,8 @@ Rests count line (Some t) = (t.number ≡ count) × (t.line ≡ line)
 
 -- ---- space
 
--- the regions of the claimed numbers, each of 1 to 18,625 lines, follow one another up to the tail; the region of n begins at `start n`
+-- the regions of the claimed numbers, each of 1 to 18,625 lines, follow one another up to the tail;
+-- the region of n begins at `start n`
 pub record Regions (k : Key) (count line : ℕ) (start : ℕ → ℕ) : Type 0 where
   pub some : k.number ≤ count
   pub first : start k.number ≡ k.line
@@ -51,12 +54,14 @@ pub record Regions (k : Key) (count line : ℕ) (start : ℕ → ℕ) : Type 0 w
   pub grows : (n : ℕ) → k.number ≤ n → n < count → start n < start (suc n)
   pub small : (n : ℕ) → k.number ≤ n → n < count → start (suc n) ≤ start n + 18625
 
--- the number n is published: its directory word has its line and the kind of its region, whose words hold what that kind asks
+-- the number n is published: its directory word has its line and the kind of its region, whose
+-- words hold what that kind asks
 pub record IsFinished (k : Key) (dir log start lane_of : ℕ → ℕ) (n : ℕ) : Type 0 where
   pub kind : high (dir n) ≡ code (kind_of k.end (start n) (start (suc n)))
   pub line : low (dir n) ≡ start n
   pub lined : lines_of (body log (start n) 0) ≤ start (suc n) - start n
-  pub holds : Holds (kind_of k.end (start n) (start (suc n))) (lane_of n) n (start (suc n) - start n) (body log (start n))
+  pub holds : Holds (kind_of k.end (start n) (start (suc n))) (lane_of n) n (start (suc n) - start n)
+      (body log (start n))
 
 -- word i of a region is the first of one of the key entries that are linked
 abbrev pub IsLinkedWord : ℕ → ℕ → Type 0
@@ -69,7 +74,8 @@ pub record Whole (k : Key) (log : ℕ → ℕ) (lane : ℕ) (f : Flight) : Type 
   pub record_of : IsRecord lane f.number f.lines (body log f.line)
   pub upto : f.linked ≤ keys_of (body log f.line 0)
 
--- a record in flight with a pass of this lane: its region is claimed and its number not published; the words stored so far stand in the log, and zeros behind them
+-- a record in flight with a pass of this lane: its region is claimed and its number not published;
+-- the words stored so far stand in the log, and zeros behind them
 pub record InFlight (k : Key) (count : ℕ) (dir log start lane_of : ℕ → ℕ) (lane : ℕ) (f : Flight) : Type 0 where
   pub above : k.number ≤ f.number
   pub below : f.number < count
@@ -94,7 +100,8 @@ pub record Space (k : Key) (count line : ℕ) (dir log : ℕ → ℕ) (views : L
   pub finished : (n : ℕ) → k.number ≤ n → n < count → dir n ≢ 0 → IsFinished k dir log start lane_of n
   pub flying : (n : ℕ) → k.number ≤ n → n < count → dir n ≡ 0 → HasFlight n views
   pub flights : Each (λ v. Flies k count dir log start lane_of v.lane v.flight) views
-  pub alone : (i j : ℕ) (v u : View) (n : ℕ) → get_elem? views i ≡ some v → get_elem? views j ≡ some u → IsFlightOf n v.flight → IsFlightOf n u.flight → i ≡ j
+  pub alone : (i j : ℕ) (v u : View) (n : ℕ) → get_elem? views i ≡ some v → get_elem? views j ≡ some u
+      → IsFlightOf n v.flight → IsFlightOf n u.flight → i ≡ j
   pub dir_below : (n : ℕ) → n < k.number → dir n ≡ 0
   pub dir_beyond : (n : ℕ) → count ≤ n → dir n ≡ 0
   pub log_beyond : (p : ℕ) → line * 4 ≤ p → log p ≡ 0

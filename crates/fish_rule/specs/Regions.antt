@@ -19,7 +19,8 @@ code Mark = 3
 abbrev pub kind_within : ℕ → ℕ → Kind
 kind_within a b = choose (dec_lt (a / 32768) ((b - 1) / 32768)) Void Stored
 
--- the kind of the region from line a up to line b: a mark where it ends past the log's end, else a void where it crosses the end of a page
+-- the kind of the region from line a up to line b: a mark where it ends past the log's end, else a
+-- void where it crosses the end of a page
 unfoldable pub kind_of : ℕ → ℕ → ℕ → Kind
 kind_of end a b = choose (dec_lt end b) Mark (kind_within a b)
 

@@ -40,7 +40,8 @@ split_left l v = record v { out = l ∷ v.out; own = off_lane l v.own; clock = t
 
 -- the new pass: it has lane l with its records, and knows what the control pass knew
 abbrev pub split_right : ℕ → View → View
-split_right l v = record { about = v.about; lane = l; out = []; shut = v.shut; flight = None; tail = None; own = of_lane l v.own; learned = v.learned; clock = fresh }
+split_right l v = record { about = v.about; lane = l; out = []; shut = v.shut; flight = None; tail = None;
+    own = of_lane l v.own; learned = v.learned; clock = fresh }
 
 -- ---- join
 
@@ -62,7 +63,9 @@ greater a b = choose (dec_le a b) b a
 
 -- what either learned
 abbrev pub learned_both : Learned → Learned → Learned
-learned_both a b = record { count = greater a.count b.count; settled = greater a.settled b.settled; found = a.found ++ b.found; known = a.known ++ b.known; records = a.records ++ b.records; nodes = a.nodes ++ b.nodes; lows = a.lows ++ b.lows; tops = a.tops ++ b.tops }
+learned_both a b = record { count = greater a.count b.count; settled = greater a.settled b.settled;
+    found = a.found ++ b.found; known = a.known ++ b.known; records = a.records ++ b.records;
+    nodes = a.nodes ++ b.nodes; lows = a.lows ++ b.lows; tops = a.tops ++ b.tops }
 
 -- the own claim that shut the pass, where there is one, else the other's
 abbrev pub first_shut : Option Shut → Option Shut → Option Shut
@@ -86,4 +89,5 @@ unlearned = record { count = 0; settled = 0; found = []; known = []; records = [
 
 -- the view of a pass that was joined
 abbrev pub spent : View
-spent = record { about = record { number = 0; line = 0; end = 0; buckets = 0 }; lane = 0; out = []; shut = None; flight = None; tail = None; own = []; learned = unlearned; clock = fresh }
+spent = record { about = record { number = 0; line = 0; end = 0; buckets = 0 }; lane = 0; out = [];
+    shut = None; flight = None; tail = None; own = []; learned = unlearned; clock = fresh }

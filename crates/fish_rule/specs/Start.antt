@@ -24,4 +24,5 @@ first_key s = record { number = 0; line = 0; end = s.pages * 32768; buckets = 2 
 
 -- an empty log and its control pass
 abbrev pub empty_world : Key → World
-empty_world k = record { count = k.number; line = k.line; settled = 0; head = λ _. 0; dir = λ _. 0; log = λ _. 0; views = first_view k ∷ [] }
+empty_world k = record { count = k.number; line = k.line; settled = 0; head = λ _. 0; dir = λ _. 0;
+    log = λ _. 0; views = first_view k ∷ [] }

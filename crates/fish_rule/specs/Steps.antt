@@ -1,5 +1,6 @@
 -- What a pass knows after each kind of step, and when it may make it.
-use Rattle.std.specs.Prelude.{ℕ, ◌≡◌, ◌≢◌, ◌+◌, ◌*◌, ◌<◌, ◌≤◌, zero, suc, List, [], ◌∷◌, ◌++◌, length, max, Option, Some, None}
+use Rattle.std.specs.Prelude.{ℕ, ◌≡◌, ◌≢◌, ◌+◌, ◌*◌, ◌<◌, ◌≤◌, zero, suc, List, [], ◌∷◌, ◌++◌, length, max,
+    Option, Some, None}
 use Rattle.std.proofs.Common.{◌⊎◌}
 use Rattle.fish_layout.specs.Cleared.{IsKeyWord, body_of}
 use Rattle.fish_layout.specs.Header.{keys_of, void_word}
@@ -27,7 +28,8 @@ ticked c = record c { steps = suc c.steps }
 
 -- one more step, a load that found this value
 abbrev pub noted : Clock → Noted → ℕ → Clock
-noted c what value = record c { steps = suc c.steps; notes = record { step = c.steps; what = what; value = value } ∷ c.notes }
+noted c what value = record c { steps = suc c.steps;
+    notes = record { step = c.steps; what = what; value = value } ∷ c.notes }
 
 -- one more step, a load of a word of the log
 abbrev pub loaded : Clock → Clock
@@ -47,7 +49,8 @@ flight_at n line lines = record { number = n; line = line; lines = lines; words 
 
 -- the region of so many lines at this tail is in flight
 abbrev pub after_claim : View → ℕ → ℕ → ℕ → View
-after_claim v lines n line = record v { flight = Some (flight_at n line lines); tail = Some (record { number = suc n; line = line + lines }); clock = ticked v.clock }
+after_claim v lines n line = record v { flight = Some (flight_at n line lines);
+    tail = Some (record { number = suc n; line = line + lines }); clock = ticked v.clock }
 
 -- ---- fill: a store of the next word of the own region
 
@@ -72,9 +75,11 @@ after_store v f x = record v { flight = Some (with_word f x); clock = ticked v.c
 abbrev pub flight_kind : View → Flight → Kind
 flight_kind v f = kind_of v.about.end f.line (f.line + f.lines)
 
--- what is stored of a region before it may be published: all words of a record of this lane, with all its entries linked; of a void its header; of a mark nothing
+-- what is stored of a region before it may be published: all words of a record of this lane, with
+-- all its entries linked; of a void its header; of a mark nothing
 abbrev pub IsReady : Kind → ℕ → Flight → Type 0
-IsReady Stored lane f = (length f.words ≡ f.lines * 4) × IsRecord lane f.number f.lines (body_of f.words) × (f.linked ≡ keys_of (body_of f.words 0))
+IsReady Stored lane f = (length f.words ≡ f.lines * 4) × IsRecord lane f.number f.lines (body_of f.words)
+    × (f.linked ≡ keys_of (body_of f.words 0))
 IsReady Void lane f = (f.words ≡ void_word f.lines ∷ []) × (f.linked ≡ 0)
 IsReady Mark lane f = f.words ≡ []
 
@@ -136,11 +141,13 @@ kind_told _ = Mark
 -- a directory word that isn't 0 tells the kind and line of a region that has so many lines
 abbrev pub found_after : ℕ → ℕ → ℕ → List Found → List Found
 found_after n lines zero found = found
-found_after n lines (suc x) found = record { number = n; kind = kind_told (high (suc x)); line = low (suc x); lines = lines } ∷ found
+found_after n lines (suc x) found = record { number = n; kind = kind_told (high (suc x)); line = low (suc x);
+    lines = lines } ∷ found
 
 -- the directory word is seen
 abbrev pub after_look : View → ℕ → ℕ → ℕ → View
-after_look v n lines x = record v { learned = record v.learned { found = found_after n lines x v.learned.found }; clock = noted v.clock (Directory n) x }
+after_look v n lines x = record v { learned =
+    record v.learned { found = found_after n lines x v.learned.found }; clock = noted v.clock (Directory n) x }
 
 -- the control pass, while no lane is out and it has nothing in flight
 pub record IsAlone (v : View) : Type 0 where
@@ -150,23 +157,27 @@ pub record IsAlone (v : View) : Type 0 where
 
 -- ---- read: a load of a word of a published region
 
--- the region was found and isn't a mark; the word is its header, or by its header that was read no first word of a key entry
+-- the region was found and isn't a mark; the word is its header, or by its header that was read no
+-- first word of a key entry
 pub record CanRead (v : View) (f : Found) (i : ℕ) : Type 0 where
   pub live : 1 ≤ v.lane
   pub found : Among f v.learned.found
   pub words : f.kind ≢ Mark
   pub inside : i < f.lines * 4
-  pub plain : (i ≡ 0) ⊎ ((h : ℕ) × Among (record { place = f.line * 4; value = h }) v.learned.known × ¬ IsKeyWord (keys_of h) i)
+  pub plain : (i ≡ 0) ⊎ ((h : ℕ) × Among (record { place = f.line * 4; value = h }) v.learned.known
+      × ¬ IsKeyWord (keys_of h) i)
 
 -- the word is known
 abbrev pub after_read : View → ℕ → ℕ → View
-after_read v place x = record v { learned = record v.learned { known = record { place = place; value = x } ∷ v.learned.known }; clock = loaded v.clock }
+after_read v place x = record v { learned =
+    record v.learned { known = record { place = place; value = x } ∷ v.learned.known }; clock = loaded v.clock }
 
 -- ---- end: a load of the tail
 
 -- the count and the line are known
 abbrev pub after_end : View → ℕ → View
-after_end v x = record v { learned = record v.learned { count = high x }; tail = Some (record { number = high x; line = low x }); clock = noted v.clock Tail x }
+after_end v x = record v { learned = record v.learned { count = high x };
+    tail = Some (record { number = high x; line = low x }); clock = noted v.clock Tail x }
 
 -- ---- load settled: a load of the settled number
 
@@ -180,7 +191,8 @@ after_settled v x = record v { learned = record v.learned { settled = x }; clock
 pub record CanRaise (v : View) (m : ℕ) : Type 0 where
   pub live : 1 ≤ v.lane
   pub within : m ≤ v.learned.count
-  pub known : (n : ℕ) → v.about.number ≤ n → n < m → (n < v.learned.settled) ⊎ ((f : Found) × Among f v.learned.found × (f.number ≡ n) × (f.kind ≢ Mark))
+  pub known : (n : ℕ) → v.about.number ≤ n → n < m → (n < v.learned.settled)
+      ⊎ ((f : Found) × Among f v.learned.found × (f.number ≡ n) × (f.kind ≢ Mark))
 
 -- the settled number is at least this one
 abbrev pub after_raise : View → ℕ → ℕ → View

@@ -7,7 +7,8 @@ use Rattle.fish_rule.specs.Parts.{Rests}
 use Rattle.fish_rule.specs.Regions.{dir_word}
 use Rattle.fish_rule.specs.Rule.{Rule}
 use Rattle.fish_rule.specs.Seating.{fresh, unlearned}
-use Rattle.fish_rule.specs.Steps.{IsAlone, after_claim, after_end, after_look, after_publish, after_raise, after_read, after_settled, after_store}
+use Rattle.fish_rule.specs.Steps.{IsAlone, after_claim, after_end, after_look, after_publish, after_raise,
+    after_read, after_settled, after_store}
 use Rattle.fish_rule.specs.Views.{Among}
 use Rattle.fish_rule.specs.World.{World, dir_at, high, log_at, low, total, world}
 use Rattle.fish_rule.specs.declared.view.Flight.{Flight}
@@ -71,18 +72,21 @@ number_at k i = k.number + (i - dir_at k)
 abbrev pub place_at : Key → ℕ → ℕ
 place_at k i = k.line * 4 + (i - log_at k)
 
--- a look: the region has some number of lines; a pass that is alone finds no 0, and a number that was found before has the word that it had
+-- a look: the region has some number of lines; a pass that is alone finds no 0, and a number that
+-- was found before has the word that it had
 pub record ToldLook (st : Step Bool) (m : Sat) (found : ℕ) (m' : Sat) : Type 0 where
   pub lines : ℕ
   pub told : Told m (after_look m.0 (number_at m.0.about st.word) lines found) m'
   pub alone : IsAlone m.0 → found ≢ 0
-  pub known : (f : Found) → Among f m.0.learned.found → f.number ≡ number_at m.0.about st.word → found ≡ dir_word f.kind f.line
+  pub known : (f : Found) → Among f m.0.learned.found → f.number ≡ number_at m.0.about st.word
+      → found ≡ dir_word f.kind f.line
 
 -- a read of a word of a published region
 abbrev pub told_read : Step Bool → Sat → ℕ → Sat → Type 0
 told_read st m found m' = Told m (after_read m.0 (place_at m.0.about st.word) found) m'
 
--- a load of the tail: the count only rises and is at or behind the settled number, and while no lane is out the tail is as it was left
+-- a load of the tail: the count only rises and is at or behind the settled number, and while no
+-- lane is out the tail is as it was left
 pub record ToldEnd (st : Step Bool) (m : Sat) (found : ℕ) (m' : Sat) : Type 0 where
   pub told : Told m (after_end m.0 found) m'
   pub counted : m.0.learned.count ≤ high found

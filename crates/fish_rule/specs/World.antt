@@ -5,7 +5,8 @@ use Rattle.fish_layout.specs.Cleared.{choose, cleared}
 use Rattle.fish_rule.specs.declared.view.Key.{Key}
 use Rattle.fish_rule.specs.declared.view.View.{View}
 
--- all that a moment is: how many numbers and lines are claimed, below which number all is settled, the head of each chain, the directory by number, the log by place, and each pass's view
+-- all that a moment is: how many numbers and lines are claimed, below which number all is settled,
+-- the head of each chain, the directory by number, the log by place, and each pass's view
 pub record World : Type 0 where
   pub count : ℕ
   pub line : ℕ
@@ -39,11 +40,13 @@ slots k = k.end - k.line + 16
 abbrev pub log_size : Key → ℕ
 log_size k = (k.end - k.line) * 4
 
--- the first head, behind the tail, the settled number, the version, the count of opened rows, 16 epochs, 512 operations and 256 rows of 39 words
+-- the first head, behind the tail, the settled number, the version, the count of opened rows, 16
+-- epochs, 512 operations and 256 rows of 39 words
 abbrev pub heads_at : ℕ
 heads_at = 10516
 
--- the first directory word, behind the tail, the settled number, the version, the count of opened rows, 16 epochs, 512 operations, 256 rows of 39 words, and the heads
+-- the first directory word, behind the tail, the settled number, the version, the count of opened
+-- rows, 16 epochs, 512 operations, 256 rows of 39 words, and the heads
 abbrev pub dir_at : Key → ℕ
 dir_at k = 10516 + k.buckets
 
@@ -57,7 +60,8 @@ total k = log_at k + log_size k
 
 -- the words from `at` on, for the indices from `base` up to `base + size`, and 0 elsewhere
 unfoldable pub area : List ℕ → ℕ → ℕ → ℕ → ℕ → ℕ
-area ws at base size n = choose (dec_le base n) (choose (dec_le (suc n) (base + size)) (slice_index ws (at + (n - base))) 0) 0
+area ws at base size n = choose (dec_le base n)
+    (choose (dec_le (suc n) (base + size)) (slice_index ws (at + (n - base))) 0) 0
 
 -- a table's words and views as a world
 abbrev pub world : Key → List ℕ → List View → World

@@ -39,7 +39,8 @@ pub fn close_log(alloc: Global, log: Log, main: Pass) -> Result<Remains, CloseWa
     ensures opened { IfOk result (λ r. r.opened ≡ true) }
     ensures log { IfOk result (λ r. IsClosed (view main) r.log) }
 
-    ensures want { IfErr result (λ want. IsOf log want.log × IsPassOf want.log want.pass × Learns (view main) (view want.pass) × IsAlone (view want.pass)) }
+    ensures want { IfErr result (λ want. IsOf log want.log × IsPassOf want.log want.pass
+        × Learns (view main) (view want.pass) × IsAlone (view want.pass)) }
 {
     let mut main = main;
     match all_entries(alloc, &log, &mut main) {

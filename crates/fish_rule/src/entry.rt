@@ -28,7 +28,8 @@ pub fn read_region(
     requires found { (f : Found) × Among f (view pass.old).learned.found × (f.line ≡ line) × (f.kind ≢ Mark) }
     ensures pass { IsPassOf log.now pass.new }
     ensures extends { Extends (view pass.old) (view pass.new) }
-    ensures words { IfOk result (λ words. (f : Found) → Among f (view pass.old).learned.found → f.line ≡ line → f.kind ≢ Mark → HasWords (view pass.new) f words.items) }
+    ensures words { IfOk result (λ words. (f : Found) → Among f (view pass.old).learned.found → f.line ≡ line
+        → f.kind ≢ Mark → HasWords (view pass.new) f words.items) }
 {
     let header = read_word(log, pass, line, 0);
     let keys = u64::from(keys_in(header));
@@ -52,7 +53,8 @@ pub fn read_record(
     requires found { (f : Found) × Among f (view pass.old).learned.found × (f.line ≡ line) × (f.kind ≡ Stored) }
     ensures pass { IsPassOf log.now pass.new }
     ensures extends { Extends (view pass.old) (view pass.new) }
-    ensures entry { IfOk result (λ entry. (f : Found) → Among f (view pass.old).learned.found → f.line ≡ line → f.kind ≡ Stored → Tells (view pass.new) f.number entry) }
+    ensures entry { IfOk result (λ entry. (f : Found) → Among f (view pass.old).learned.found → f.line ≡ line
+        → f.kind ≡ Stored → Tells (view pass.new) f.number entry) }
 {
     let words = read_region(alloc, log, pass, line)?;
     let Payload {
@@ -72,11 +74,14 @@ fn read_body_word(log: &Log, pass: &mut Pass, line: u64, keys: u64, offset: u64)
     requires pass { IsPassOf log.now pass.old }
     requires live { 1 ≤ (view pass.old).lane }
     requires keys { keys < 2 ^ 9 }
-    requires found { (f : Found) × Among f (view pass.old).learned.found × (f.line ≡ line) × (f.kind ≢ Mark) × (offset < f.lines * 4) }
-    requires header { (h : ℕ) × Among (record { place = line * 4; value = h }) (view pass.old).learned.known × (keys ≡ keys_of h) }
+    requires found { (f : Found) × Among f (view pass.old).learned.found × (f.line ≡ line) × (f.kind ≢ Mark)
+        × (offset < f.lines * 4) }
+    requires header { (h : ℕ) × Among (record { place = line * 4; value = h }) (view pass.old).learned.known
+        × (keys ≡ keys_of h) }
     ensures pass { IsPassOf log.now pass.new }
     ensures extends { Extends (view pass.old) (view pass.new) }
-    ensures word { ¬ IsKeyWord keys offset → Among (record { place = line * 4 + offset; value = result }) (view pass.new).learned.known }
+    ensures word { ¬ IsKeyWord keys offset
+        → Among (record { place = line * 4 + offset; value = result }) (view pass.new).learned.known }
 {
     if offset <= 3 * keys && offset % 3 == 1 {
         return 0;

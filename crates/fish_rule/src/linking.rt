@@ -4,7 +4,8 @@
 //! the next older one, or 0. Heads and first words only rise.
 
 ghost use Rattle.std.specs.Prelude.{◌≡◌, ◌≢◌, ◌<◌, ℕ, Some};
-ghost use Rattle.fish_rule.specs.Linking.{CanAim, CanLoadHead, CanSplice, CanSwing, HasNode, LowRises, TopRises, after_aim, after_head, after_previous, after_splice, after_swing, own_place};
+ghost use Rattle.fish_rule.specs.Linking.{CanAim, CanLoadHead, CanSplice, CanSwing, HasNode, LowRises,
+    TopRises, after_aim, after_head, after_previous, after_splice, after_swing, own_place};
 ghost use Rattle.fish_rule.specs.Passes.{IsPassOf, view};
 ghost use Rattle.fish_rule.specs.declared.view.Flight.{Flight};
 
@@ -33,7 +34,8 @@ pub fn load_previous(log: &Log, pass: &mut Pass, place: u64) -> u64
     requires pass { IsPassOf log.now pass.old }
     requires node { (b : ℕ) × HasNode (view pass.old) b place }
     ensures pass { IsPassOf log.now pass.new }
-    ensures view { (b : ℕ) → HasNode (view pass.old) b place → view pass.new ≡ after_previous (view pass.old) b place result }
+    ensures view { (b : ℕ) → HasNode (view pass.old) b place
+        → view pass.new ≡ after_previous (view pass.old) b place result }
     ensures rises { LowRises (view pass.old) place result }
     ensures less { result < place }
 {
@@ -48,7 +50,8 @@ pub fn aim_entry(log: &Log, pass: &mut Pass, place: u64, previous: u64)
     requires pass { IsPassOf log.now pass.old }
     requires view { (f : Flight) × CanAim (view pass.old) f × (place ≡ own_place f) }
     ensures pass { IsPassOf log.now pass.new }
-    ensures view { (f : Flight) → (view pass.old).flight ≡ Some f → view pass.new ≡ after_aim (view pass.old) f previous }
+    ensures view { (f : Flight) → (view pass.old).flight ≡ Some f
+        → view pass.new ≡ after_aim (view pass.old) f previous }
 {
     let index = log_at(log.key) + (place - log.key.line * 4);
     log.table
@@ -61,7 +64,8 @@ pub fn swing_head(log: &Log, pass: &mut Pass, bucket: u64, expected: u64, place:
     requires pass { IsPassOf log.now pass.old }
     requires view { (f : Flight) × CanSwing (view pass.old) f bucket expected × (place ≡ own_place f) }
     ensures pass { IsPassOf log.now pass.new }
-    ensures view { (f : Flight) → (view pass.old).flight ≡ Some f → view pass.new ≡ after_swing (view pass.old) f bucket expected result }
+    ensures view { (f : Flight) → (view pass.old).flight ≡ Some f
+        → view pass.new ≡ after_swing (view pass.old) f bucket expected result }
     ensures rises { TopRises (view pass.old) bucket result }
     ensures other { result ≢ place }
 {
@@ -75,7 +79,8 @@ pub fn splice_entry(log: &Log, pass: &mut Pass, above: u64, expected: u64, place
     requires pass { IsPassOf log.now pass.old }
     requires view { (f : Flight) × ((b : ℕ) × CanSplice (view pass.old) f b above expected × (place ≡ own_place f)) }
     ensures pass { IsPassOf log.now pass.new }
-    ensures view { (f : Flight) → (b : ℕ) → (view pass.old).flight ≡ Some f → HasNode (view pass.old) b above → view pass.new ≡ after_splice (view pass.old) f b above expected result }
+    ensures view { (f : Flight) → (b : ℕ) → (view pass.old).flight ≡ Some f → HasNode (view pass.old) b above
+        → view pass.new ≡ after_splice (view pass.old) f b above expected result }
     ensures rises { LowRises (view pass.old) above result }
     ensures less { result < above }
     ensures other { result ≢ place }

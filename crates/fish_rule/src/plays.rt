@@ -1,7 +1,8 @@
 //! What each step tells its pass.
 
 ghost use Rattle.fish_rule.specs.Linking.{ToldHead, ToldPrevious, ToldSplice, ToldSwing, told_aim};
-ghost use Rattle.fish_rule.specs.Table.{ToldEnd, ToldLook, ToldSettled, told_claim, told_publish, told_raise, told_read, told_store};
+ghost use Rattle.fish_rule.specs.Table.{ToldEnd, ToldLook, ToldSettled, told_claim, told_publish, told_raise,
+    told_read, told_store};
 
 use crate::view::View;
 use atomic_table::Play;

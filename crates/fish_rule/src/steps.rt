@@ -6,7 +6,8 @@ ghost use Rattle.fish_rule.specs.Flying.{region_in};
 ghost use Rattle.fish_rule.specs.Passes.{IsPassOf, view};
 ghost use Rattle.fish_rule.specs.Parts.{Fits, Rests};
 ghost use Rattle.fish_rule.specs.Regions.{dir_word, kind_of};
-ghost use Rattle.fish_rule.specs.Steps.{CanClaim, CanLook, CanPublish, CanRaise, CanRead, CanStore, IsAlone, after_claim, after_end, after_look, after_publish, after_raise, after_read, after_settled, after_store};
+ghost use Rattle.fish_rule.specs.Steps.{CanClaim, CanLook, CanPublish, CanRaise, CanRead, CanStore, IsAlone,
+    after_claim, after_end, after_look, after_publish, after_raise, after_read, after_settled, after_store};
 ghost use Rattle.fish_rule.specs.Views.{Among};
 ghost use Rattle.fish_rule.specs.World.{dir_at as first_directory_word, high, log_at as first_log_word, low};
 ghost use Rattle.fish_rule.specs.declared.view.Flight.{Flight};
@@ -90,7 +91,8 @@ pub fn store_word(log: &Log, pass: &mut Pass, region: &Region, offset: u64, word
 /// Publishes the region in flight, by a store of its directory word. A mark shuts the pass.
 pub fn publish_region(log: &Log, pass: &mut Pass, region: &Region)
     requires pass { IsPassOf log.now pass.old }
-    requires view { (f : Flight) × CanPublish (view pass.old) f × (f.number ≡ region.now.number) × (f.line ≡ region.now.line) × (f.lines ≡ region.now.lines) }
+    requires view { (f : Flight) × CanPublish (view pass.old) f × (f.number ≡ region.now.number)
+        × (f.line ≡ region.now.line) × (f.lines ≡ region.now.lines) }
     ensures pass { IsPassOf log.now pass.new }
     ensures view { (f : Flight) → (view pass.old).flight ≡ Some f → view pass.new ≡ after_publish (view pass.old) f }
 {
@@ -118,7 +120,8 @@ pub fn look_at(log: &Log, pass: &mut Pass, number: u64) -> u64
     ensures pass { IsPassOf log.now pass.new }
     ensures view { (lines : ℕ) × (view pass.new ≡ after_look (view pass.old) number lines result) }
     ensures alone { IsAlone (view pass.old) → result ≢ 0 }
-    ensures known { (f : Found) → Among f (view pass.old).learned.found → f.number ≡ number → result ≡ dir_word f.kind f.line }
+    ensures known { (f : Found) → Among f (view pass.old).learned.found → f.number ≡ number
+        → result ≡ dir_word f.kind f.line }
 {
     let index = dir_at(log.key) + (number - log.key.number);
     log.table
@@ -143,10 +146,12 @@ pub fn read_word(log: &Log, pass: &mut Pass, line: u64, offset: u64) -> u64
 pub fn load_tail(log: &Log, pass: &mut Pass) -> Position
     requires pass { IsPassOf log.now pass.old }
     ensures pass { IsPassOf log.now pass.new }
-    ensures view { (x : ℕ) × (view pass.new ≡ after_end (view pass.old) x) × (result.number ≡ high x) × (result.line ≡ low x) }
+    ensures view { (x : ℕ) × (view pass.new ≡ after_end (view pass.old) x) × (result.number ≡ high x)
+        × (result.line ≡ low x) }
     ensures counted { (view pass.old).learned.count ≤ result.number }
     ensures settled { (view pass.old).learned.settled ≤ result.number }
-    ensures rests { (view pass.old).lane ≡ 1 → (view pass.old).out ≡ [] → Rests result.number result.line (view pass.old).tail }
+    ensures rests { (view pass.old).lane ≡ 1 → (view pass.old).out ≡ []
+        → Rests result.number result.line (view pass.old).tail }
 {
     let found = log.table.shared.load::<End>(&mut pass.seat, 0);
     position_in(found)

@@ -13,5 +13,6 @@ invariant-loop-offset l = record {
   extends : Extends (view l.fn.pass) (view l.pass);
   many : length l.words.items ≡ l.offset;
   head : get_or l.words.items 0 0 ≡ l.header;
-  read : (i : ℕ) → i < length l.words.items → ¬ IsKeyWord (keys_of l.header) i → Among (record { place = l.line * 4 + i; value = get_or l.words.items i 0 }) (view l.pass).learned.known;
+  read : (i : ℕ) → i < length l.words.items → ¬ IsKeyWord (keys_of l.header) i
+      → Among (record { place = l.line * 4 + i; value = get_or l.words.items i 0 }) (view l.pass).learned.known;
 }

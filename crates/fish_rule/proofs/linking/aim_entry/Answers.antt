@@ -13,12 +13,16 @@ use Rattle.fish_rule.proofs.Aims.{aim_allowed}
 use Rattle.fish_rule.proofs.linking.aim_entry.Goals as goal
 
 pub overflow_sub-index : goal.overflow_sub-index
-overflow_sub-index c = (let f : Flight = c.requires.view.0 in let law = aim_law c.args.log.now.key (view c.args.pass.now) f c.requires.pass.about c.requires.pass.stands c.requires.view.1 in let place : c.args.place ≡ own_place f = c.requires.view.2 in omega arith)
+overflow_sub-index c = (let f : Flight = c.requires.view.0 in
+    let law = aim_law c.args.log.now.key
+    (view c.args.pass.now) f c.requires.pass.about c.requires.pass.stands c.requires.view.1 in
+    let place : c.args.place ≡ own_place f = c.requires.view.2 in omega arith)
 
 pub overflow_add-index : goal.overflow_add-index
 overflow_add-index c =
     let f : Flight = c.requires.view.0 in
-    let law = aim_law c.args.log.now.key (view c.args.pass.now) f c.requires.pass.about c.requires.pass.stands c.requires.view.1 in
+    let law = aim_law c.args.log.now.key
+        (view c.args.pass.now) f c.requires.pass.about c.requires.pass.stands c.requires.view.1 in
     let place : c.args.place ≡ own_place f = c.requires.view.2 in
     let fits = c.args.log.now.fits in
     let at = c.log_at.ensures in
@@ -35,7 +39,8 @@ store-requires c =
     let place : ℕ = c.args.place - log.key.line * 4 in (
       c.requires.pass.table,
       subst (λ (z : ℕ). c.log_at.result + place < z) (sym log.wide) (omega arith),
-      aim_allowed log.table.shared.key log.key log.keyed log.table.shared.table_id.slots seat.id seat.me f _ c.args.previous c.requires.pass.about c.requires.view.1
+      aim_allowed log.table.shared.key log.key log.keyed log.table.shared.table_id.slots seat.id seat.me f _
+          c.args.previous c.requires.pass.about c.requires.view.1
           (ap (λ (z : ℕ). z + place) at ∙ ap (λ (z : ℕ). log_at log.key + (z - log.key.line * 4)) is),
     )
 
@@ -47,7 +52,8 @@ invariant_of-pass c =
       bare = told.held ∙ c.args.pass.now.bare;
       lane_is = ap (λ (z : View). z.lane) told.view ∙ refl ∙ c.args.pass.now.lane_is;
       shut_is = ap (λ (z : View). z.shut) told.view ∙ refl ∙ c.args.pass.now.shut_is;
-      flight_is = ap (λ (z : View). region_in z.flight) told.view ∙ region_aim f c.args.previous ∙ ap region_in (sym c.requires.view.1.flying) ∙ c.args.pass.now.flight_is;
+      flight_is = ap (λ (z : View). region_in z.flight) told.view ∙ region_aim f c.args.previous
+          ∙ ap region_in (sym c.requires.view.1.flying) ∙ c.args.pass.now.flight_is;
     }
 
 pub returns-clause-pass : goal.returns-clause-pass

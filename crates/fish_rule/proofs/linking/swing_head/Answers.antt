@@ -19,10 +19,12 @@ compare_exchange-requires c =
     let seat = c.args.pass.now.seat in
     let f : Flight = c.requires.view.0 in
     let can = c.requires.view.1 in
-    let below : c.args.bucket < log.key.buckets = subst (λ (z : Key). c.args.bucket < z.buckets) c.requires.pass.about can.below in (
+    let below : c.args.bucket < log.key.buckets =
+        subst (λ (z : Key). c.args.bucket < z.buckets) c.requires.pass.about can.below in (
       c.requires.pass.table,
       subst (λ (z : ℕ). heads_at + c.args.bucket < z) (sym log.wide) (omega arith),
-      swing_allowed log.table.shared.key log.key log.keyed log.table.shared.table_id.slots seat.id seat.me f c.args.bucket c.args.expected _ c.args.place c.requires.pass.about can refl c.requires.view.2,
+      swing_allowed log.table.shared.key log.key log.keyed log.table.shared.table_id.slots seat.id seat.me f
+          c.args.bucket c.args.expected _ c.args.place c.requires.pass.about can refl c.requires.view.2,
     )
 
 pub invariant_of-pass : goal.invariant_of-pass
@@ -31,9 +33,14 @@ invariant_of-pass c =
     let told = c.compare_exchange.ensures.2.told f c.requires.view.1.aim.flying in
     record {
       bare = told.held ∙ c.args.pass.now.bare;
-      lane_is = ap (λ (z : View). z.lane) told.view ∙ swing_lane (view c.args.pass.now) f _ c.args.expected c.compare_exchange.result ∙ c.args.pass.now.lane_is;
-      shut_is = ap (λ (z : View). z.shut) told.view ∙ swing_shut (view c.args.pass.now) f _ c.args.expected c.compare_exchange.result ∙ c.args.pass.now.shut_is;
-      flight_is = ap (λ (z : View). region_in z.flight) told.view ∙ region_swing (view c.args.pass.now) f _ c.args.expected c.compare_exchange.result c.requires.view.1.aim.flying ∙ ap region_in (sym c.requires.view.1.aim.flying) ∙ c.args.pass.now.flight_is;
+      lane_is = ap (λ (z : View). z.lane) told.view
+          ∙ swing_lane (view c.args.pass.now) f _ c.args.expected c.compare_exchange.result ∙ c.args.pass.now.lane_is;
+      shut_is = ap (λ (z : View). z.shut) told.view
+          ∙ swing_shut (view c.args.pass.now) f _ c.args.expected c.compare_exchange.result ∙ c.args.pass.now.shut_is;
+      flight_is = ap (λ (z : View). region_in z.flight) told.view
+          ∙ region_swing
+          (view c.args.pass.now) f _ c.args.expected c.compare_exchange.result c.requires.view.1.aim.flying
+          ∙ ap region_in (sym c.requires.view.1.aim.flying) ∙ c.args.pass.now.flight_is;
     }
 
 pub returns-clause-pass : goal.returns-clause-pass
@@ -42,15 +49,19 @@ returns-clause-pass c =
     let told = c.compare_exchange.ensures.2.told f c.requires.view.1.aim.flying in
     record {
       table = c.compare_exchange.ensures.0 ∙ c.requires.pass.table;
-      about = ap (λ (z : View). z.about) told.view ∙ swing_about (view c.args.pass.now) f _ c.args.expected c.compare_exchange.result ∙ c.requires.pass.about;
+      about = ap (λ (z : View). z.about) told.view
+          ∙ swing_about (view c.args.pass.now) f _ c.args.expected c.compare_exchange.result ∙ c.requires.pass.about;
       stands = subst Stands (sym told.view) told.stands;
     }
 
 pub returns-clause-view : goal.returns-clause-view
 returns-clause-view c f flying =
     let index : bucket_at (heads_at + c.args.bucket) ≡ c.args.bucket = omega arith in
-    (c.compare_exchange.ensures.2.told f flying).view ∙ ap (λ (z : ℕ). after_swing (view c.args.pass.now) f z c.args.expected c.compare_exchange.result) index
+    (c.compare_exchange.ensures.2.told f flying).view
+        ∙ ap (λ (z : ℕ). after_swing (view c.args.pass.now) f z c.args.expected c.compare_exchange.result) index
 
 pub returns-clause-rises : goal.returns-clause-rises
 returns-clause-rises c =
-    (let index : bucket_at (heads_at + c.args.bucket) ≡ c.args.bucket = omega arith in subst (λ (z : ℕ). TopRises (view c.args.pass.now) z c.compare_exchange.result) index c.compare_exchange.ensures.2.rises)
+    (let index : bucket_at (heads_at + c.args.bucket) ≡ c.args.bucket = omega arith in
+        subst (λ (z : ℕ). TopRises
+        (view c.args.pass.now) z c.compare_exchange.result) index c.compare_exchange.ensures.2.rises)

@@ -20,7 +20,8 @@ returns-clause-main g c =
     record {
       table = c.split_seat-seat.ensures.0 ∙ c.requires.pass.table;
       about = ap (λ z. z.about) is ∙ c.requires.pass.about;
-      stands = subst Stands (sym is) (left_stands c.args.main.now.seat.me.0 g.row.LANE c.requires.pass.stands c.requires.can);
+      stands = subst Stands (sym is)
+          (left_stands c.args.main.now.seat.me.0 g.row.LANE c.requires.pass.stands c.requires.can);
     }
 
 -- and the new pass is one
@@ -30,5 +31,6 @@ returns-clause-pass g c =
     record {
       table = c.split_seat-seat.ensures.3 ∙ c.requires.pass.table;
       about = ap (λ z. z.about) is ∙ c.requires.pass.about;
-      stands = subst Stands (sym is) (right_stands c.args.main.now.seat.me.0 g.row.LANE c.requires.pass.stands c.requires.can);
+      stands = subst Stands (sym is)
+          (right_stands c.args.main.now.seat.me.0 g.row.LANE c.requires.pass.stands c.requires.can);
     }

@@ -22,7 +22,8 @@ pub load-requires : goal.load-requires
 load-requires c =
     let log = c.args.log.now in
     let seat = c.join_seat.new.seat in
-    let about : seat.me.0.about ≡ log.key = ap (λ (z : Sat). z.0.about) c.join_seat.ensures.2 ∙ c.requires.main.about in (
+    let about : seat.me.0.about ≡ log.key = ap (λ (z : Sat). z.0.about) c.join_seat.ensures.2
+        ∙ c.requires.main.about in (
       c.join_seat.ensures.0 ∙ c.requires.main.table,
       subst (λ (z : ℕ). 0 < z) (sym log.wide) (omega arith),
       end_allowed log.table.shared.key log.key log.keyed log.table.shared.table_id.slots seat.id seat.me about,

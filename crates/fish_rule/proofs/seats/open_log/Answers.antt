@@ -9,7 +9,8 @@ use Rattle.fish_rule.proofs.seats.open_log.Goals as goal
 pub of_words-requires : goal.of_words-requires
 of_words-requires c =
     let key = c.key_of-key.result in
-    begins key c.key_of-key.ensures.fits c.deref.result.now (subst (IsEmpty key) (sym c.deref.ensures.value) c.in_ok-words.ensures)
+    begins key c.key_of-key.ensures.fits c.deref.result.now
+        (subst (IsEmpty key) (sym c.deref.ensures.value) c.in_ok-words.ensures)
 
 -- the table has the log's key, and as many words as it says
 pub invariant_of-log : goal.invariant_of-log
@@ -29,5 +30,6 @@ returns-clause-pass c =
     record {
       table = c.in_ok-table.ensures.2;
       about = ap (λ (z : View). z.about) is;
-      stands = subst Stands (sym is) (first_stands key c.key_of-key.ensures.fits c.in_ok-words.words.items c.in_ok-words.ensures);
+      stands = subst Stands (sym is)
+          (first_stands key c.key_of-key.ensures.fits c.in_ok-words.words.items c.in_ok-words.ensures);
     }

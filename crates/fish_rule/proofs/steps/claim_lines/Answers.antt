@@ -12,7 +12,8 @@ fetch_add-found-requires c =
     let seat = c.args.pass.now.seat in (
       c.requires.pass.table,
       subst (λ (z : ℕ). 0 < z) (sym log.wide) (omega arith),
-      claim_allowed log.table.shared.key log.key log.keyed log.table.shared.table_id.slots seat.id seat.me _ c.args.lines c.requires.pass.about c.requires.view c.requires.lines.0 c.requires.lines.1 refl,
+      claim_allowed log.table.shared.key log.key log.keyed log.table.shared.table_id.slots seat.id seat.me _
+          c.args.lines c.requires.pass.about c.requires.view c.requires.lines.0 c.requires.lines.1 refl,
     )
 
 pub invariant_of-pass : goal.invariant_of-pass
@@ -25,5 +26,6 @@ invariant_of-pass c =
       lane_is = ap (λ (z : View). z.lane) told.view ∙ c.args.pass.now.lane_is;
       shut_is = ap (λ (z : View). z.shut) told.view ∙ c.args.pass.now.shut_is;
       flight_is = ap (λ (z : View). region_in z.flight) told.view
-          ∙ ap (λ (z : ℕ × ℕ × ℕ). let q : Region = record { number = z.0; line = z.1; lines = z.2 } in Some q) (λ i. (sym at.number i, sym at.line i, e i));
+          ∙ ap (λ (z : ℕ × ℕ × ℕ). let q : Region = record { number = z.0; line = z.1; lines = z.2 } in Some q)
+              (λ i. (sym at.number i, sym at.line i, e i));
     }

@@ -17,17 +17,20 @@ record Within (k : Key) (line offset : ℕ) : Type 0 where
   behind : k.line ≤ line
   end : line * 4 + offset < k.end * 4
 
-within : (log : Log) (pass : Pass) (line offset : ℕ) → IsPassOf log pass → (f : Found) × CanRead (view pass) f offset × (f.line ≡ line) → Within log.key line offset
+within : (log : Log) (pass : Pass) (line offset : ℕ) → IsPassOf log pass → (f : Found)
+    × CanRead (view pass) f offset × (f.line ≡ line) → Within log.key line offset
 within log pass line offset of may =
     let law = read_law log.key (view pass) may.0 offset of.about of.stands may.1 in
     let same : may.0.line ≡ line = may.2 in
     record { behind = subst (λ (z : ℕ). log.key.line ≤ z) same law.0; end = omega arith }
 
 pub overflow_mul-index : goal.overflow_mul-index
-overflow_mul-index c = (let h = within _ _ _ _ c.requires.pass c.requires.view in let behind = h.behind in let end = h.end in let fits = c.args.log.now.fits in omega arith)
+overflow_mul-index c = (let h = within _ _ _ _ c.requires.pass c.requires.view in let behind = h.behind in
+    let end = h.end in let fits = c.args.log.now.fits in omega arith)
 
 pub overflow_add-index : goal.overflow_add-index
-overflow_add-index c = (let h = within _ _ _ _ c.requires.pass c.requires.view in let behind = h.behind in let end = h.end in let fits = c.args.log.now.fits in omega arith)
+overflow_add-index c = (let h = within _ _ _ _ c.requires.pass c.requires.view in let behind = h.behind in
+    let end = h.end in let fits = c.args.log.now.fits in omega arith)
 
 pub overflow_sub-index : goal.overflow_sub-index
 overflow_sub-index c = (let h = within _ _ _ _ c.requires.pass c.requires.view in let behind = h.behind in omega arith)
@@ -52,8 +55,10 @@ load-requires c =
     let place : ℕ = c.args.line * 4 + c.args.offset - log.key.line * 4 in (
       c.requires.pass.table,
       subst (λ (z : ℕ). c.log_at.result + place < z) (sym log.wide) (omega arith),
-      read_allowed log.table.shared.key log.key log.keyed log.table.shared.table_id.slots seat.id seat.me c.requires.view.0 c.args.offset _ c.requires.pass.about c.requires.view.1
-          (ap (λ (z : ℕ). z + place) at ∙ ap (λ (z : ℕ). log_at log.key + (z * 4 + c.args.offset - log.key.line * 4)) (sym c.requires.view.2)),
+      read_allowed log.table.shared.key log.key log.keyed log.table.shared.table_id.slots seat.id seat.me
+          c.requires.view.0 c.args.offset _ c.requires.pass.about c.requires.view.1
+          (ap (λ (z : ℕ). z + place) at ∙ ap (λ (z : ℕ). log_at log.key +
+              (z * 4 + c.args.offset - log.key.line * 4)) (sym c.requires.view.2)),
     )
 
 pub returns-clause-view : goal.returns-clause-view
@@ -64,4 +69,5 @@ returns-clause-view c =
     let at = c.log_at.ensures in
     let place : ℕ = c.args.line * 4 + c.args.offset - log.key.line * 4 in
     let index : place_at log.key (c.log_at.result + place) ≡ c.args.line * 4 + c.args.offset = omega arith in
-    c.load.ensures.2.view ∙ ap (λ (z : ℕ). after_read (view c.args.pass.now) z c.load.result) (ap (λ (z : Key). place_at z (c.log_at.result + place)) c.requires.pass.about ∙ index)
+    c.load.ensures.2.view ∙ ap (λ (z : ℕ). after_read (view c.args.pass.now) z c.load.result)
+        (ap (λ (z : Key). place_at z (c.log_at.result + place)) c.requires.pass.about ∙ index)

@@ -19,7 +19,8 @@ record Within (k : Key) (line offset : ℕ) : Type 0 where
   behind : k.line ≤ line
   end : line * 4 + offset < k.end * 4
 
-within : (log : Log) (pass : Pass) (line offset : ℕ) → IsPassOf log pass → (f : Flight) × CanStore (view pass) f × (f.line ≡ line) × (length f.words ≡ offset) → Within log.key line offset
+within : (log : Log) (pass : Pass) (line offset : ℕ) → IsPassOf log pass → (f : Flight)
+    × CanStore (view pass) f × (f.line ≡ line) × (length f.words ≡ offset) → Within log.key line offset
 within log pass line offset of may =
     let f : Flight = may.0 in
     let law = flight_law log.key (view pass) f of.about of.stands may.1.flying in
@@ -43,8 +44,10 @@ store-requires c =
     let place : ℕ = c.args.region.now.line * 4 + c.args.offset - log.key.line * 4 in (
       c.requires.pass.table,
       subst (λ (z : ℕ). c.log_at.result + place < z) (sym log.wide) (omega arith),
-      store_allowed log.table.shared.key log.key log.keyed log.table.shared.table_id.slots seat.id seat.me c.requires.view.0 _ c.args.word c.requires.pass.about c.requires.view.1
-          (ap (λ (z : ℕ). z + place) at ∙ ap (λ (z : ℕ × ℕ). log_at log.key + (z.0 * 4 + z.1 - log.key.line * 4)) (λ i. (sym c.requires.view.2 i, sym c.requires.view.3 i))),
+      store_allowed log.table.shared.key log.key log.keyed log.table.shared.table_id.slots seat.id seat.me
+          c.requires.view.0 _ c.args.word c.requires.pass.about c.requires.view.1
+          (ap (λ (z : ℕ). z + place) at ∙ ap (λ (z : ℕ × ℕ). log_at log.key +
+              (z.0 * 4 + z.1 - log.key.line * 4)) (λ i. (sym c.requires.view.2 i, sym c.requires.view.3 i))),
     )
 
 pub invariant_of-pass : goal.invariant_of-pass
@@ -56,7 +59,8 @@ invariant_of-pass c =
       bare = told.held ∙ c.args.pass.now.bare;
       lane_is = ap (λ (z : View). z.lane) told.view ∙ c.args.pass.now.lane_is;
       shut_is = ap (λ (z : View). z.shut) told.view ∙ c.args.pass.now.shut_is;
-      flight_is = ap (λ (z : View). region_in z.flight) told.view ∙ ap region_in (sym flying) ∙ c.args.pass.now.flight_is;
+      flight_is = ap (λ (z : View). region_in z.flight) told.view ∙ ap region_in (sym flying)
+          ∙ c.args.pass.now.flight_is;
     }
 
 pub returns-clause-pass : goal.returns-clause-pass
