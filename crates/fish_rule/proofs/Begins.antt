@@ -10,7 +10,8 @@ use Rattle.fish_rule.proofs.Bodies.{high-pack, low-pack}
 use Rattle.fish_rule.proofs.Kept.{published}
 use Rattle.fish_rule.specs.Chains.{Chained, IsLinking, IsStoredAt, Linked, LinksAt}
 use Rattle.fish_rule.specs.declared.view.Kind.TheVariants.{Stored}
-use Rattle.fish_rule.specs.Parts.{Facts, Fits, Flies, Limit, Owns, Regions, Rests, ShutOk, Space, quotas}
+use Rattle.fish_rule.specs.Parts.{Fits, Flies, Limit, Regions, Rests, Space, quotas}
+use Rattle.fish_rule.specs.Facts.{Facts, Owns, ShutOk}
 use Rattle.fish_rule.specs.Rule.{Rule}
 use Rattle.fish_rule.specs.Start.{IsEmpty, empty_world}
 use Rattle.fish_rule.specs.Table.{Ruled, Stands, first_view}
@@ -162,7 +163,8 @@ module _ (k : Key) (fits : Fits k) where
         (record { sound = λ o m. elim m [ ];
             complete = λ o has stored. absurd (none o.number stored.above stored.below) });
     facts = each_one (λ v. Facts k w.count w.dir w.log start v.learned) (first_view k)
-        (record { counted = omega arith; found = tt; known = tt; records = tt });
+        (record { counted = omega arith; found = tt; known = tt; records = tt;
+        gaps = tt; labels = tt });
     shuts = each_one (λ v. ShutOk k w.count w.dir start v.shut) (first_view k) tt;
   }
 

@@ -13,7 +13,8 @@ use Rattle.fish_rule.proofs.Links.{chains_set, links_set}
 use Rattle.fish_rule.proofs.Quotas.{quotas_lower}
 use Rattle.fish_rule.proofs.Worlds.{put-else, put-here}
 use Rattle.fish_rule.specs.Chains.{LinksAt}
-use Rattle.fish_rule.specs.Parts.{Flies, InFlight, IsStoredBy, Limit, MayOverflow, Regions, Space, quotas}
+use Rattle.fish_rule.specs.Parts.{Flies, InFlight, Limit, MayOverflow, Regions, Space, quotas}
+use Rattle.fish_rule.specs.Facts.{IsStoredBy}
 use Rattle.fish_rule.specs.Rule.{Final, Rule}
 use Rattle.fish_rule.specs.Steps.{CanClaim, after_claim, flight_at}
 use Rattle.fish_rule.specs.Views.{Has, HasFlight, IsFlightOf, IsOver}

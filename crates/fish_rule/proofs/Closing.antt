@@ -9,12 +9,14 @@ use Rattle.fish_catalog.specs.declared.entry.Entry.TheVariants as entry
 use Rattle.fish_rule.proofs.Common.{all_among}
 use Rattle.fish_rule.proofs.Extending.{extends_look, found_here, learns_both, learns_self}
 use Rattle.fish_rule.specs.Logs.{Extends, IsClosed, IsClosedAt, Learns, Tells, TellsMark}
-use Rattle.fish_rule.specs.Parts.{Facts, IsFound, IsKnown, IsRecorded, Owns, Rests}
+use Rattle.fish_rule.specs.Parts.{Rests}
+use Rattle.fish_rule.specs.Facts.{Facts, IsFound, IsKnown, IsRecorded, Owns}
 use Rattle.fish_rule.specs.Regions.{code}
 use Rattle.fish_rule.specs.Rule.{Rule}
 use Rattle.fish_rule.specs.Steps.{IsAlone, after_look, kind_told}
 use Rattle.fish_rule.specs.Table.{Stands}
 use Rattle.fish_rule.specs.Views.{AllOf, Among}
+use Rattle.fish_rule.specs.Walks.{IsGap, IsLabel}
 use Rattle.fish_rule.specs.World.{World, high, low}
 use Rattle.fish_rule.specs.declared.view.Found.{Found}
 use Rattle.fish_rule.specs.declared.view.Key.{Key}
@@ -86,6 +88,10 @@ facts_back v u k count dir log start learns h =
           (IsKnown k count dir log start) x u.learned.known h.known (learns.known x m));
       records = all_from _ v.learned.records
           (λ x m. all_among (IsRecorded k count dir log start) x u.learned.records h.records (learns.records x m));
+      gaps = all_from _ v.learned.gaps
+          (λ x m. all_among (IsGap k count dir log start) x u.learned.gaps h.gaps (learns.gaps x m));
+      labels = all_from _ v.learned.labels
+          (λ x m. all_among (IsLabel k count dir log start) x u.learned.labels h.labels (learns.labels x m));
     }
 
 -- ---- a look at one number

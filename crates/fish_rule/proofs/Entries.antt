@@ -13,7 +13,7 @@ use Rattle.fish_rule.proofs.Common.{all_among}
 use Rattle.fish_rule.proofs.Loads.{lines_found, region_found, word_known}
 use Rattle.fish_rule.proofs.Words.{head_plain}
 use Rattle.fish_rule.specs.Logs.{HasWords, IsEntry, Learns, Tells}
-use Rattle.fish_rule.specs.Parts.{IsFound, IsKnown}
+use Rattle.fish_rule.specs.Facts.{IsFound, IsKnown}
 use Rattle.fish_rule.specs.Regions.{Holds, IsRecord, IsRecordOf}
 use Rattle.fish_rule.specs.Rule.{Rule}
 use Rattle.fish_rule.specs.Table.{Stands}

@@ -11,7 +11,8 @@ use Rattle.fish_rule.specs.declared.view.View.{View}
 
 -- a view knows what it knows
 pub learns_self : (v : View) → Learns v v
-learns_self v = record { about = refl; count = omega arith; found = λ x m. m; known = λ x m. m; records = λ x m. m }
+learns_self v = record { about = refl; count = omega arith; found = λ x m. m; known = λ x m. m; records = λ x m. m;
+    nodes = λ x m. m; gaps = λ x m. m; labels = λ x m. m }
 
 -- and what is learned on top of what was learned is all learned
 pub learns_both : (a b c : View) → Learns a b → Learns b c → Learns a c
@@ -24,6 +25,9 @@ learns_both a b c e f =
       found = λ x m. f.found x (e.found x m);
       known = λ x m. f.known x (e.known x m);
       records = λ x m. f.records x (e.records x m);
+      nodes = λ x m. f.nodes x (e.nodes x m);
+      gaps = λ x m. f.gaps x (e.gaps x m);
+      labels = λ x m. f.labels x (e.labels x m);
     }
 
 -- a view extends itself
@@ -48,7 +52,8 @@ extends_both a b c e f = record {
 -- a word that is read extends a view
 pub extends_read : (v : View) (place x : ℕ) → Extends v (after_read v place x)
 extends_read v place x = record {
-  learns = record { about = refl; count = omega arith; found = λ x m. m; known = λ x m. inr m; records = λ x m. m };
+  learns = record { about = refl; count = omega arith; found = λ x m. m; known = λ x m. inr m; records = λ x m. m;
+    nodes = λ x m. m; gaps = λ x m. m; labels = λ x m. m };
   lane = refl;
   out = refl;
   shut = refl;
@@ -79,7 +84,8 @@ found_more n lines (suc x) found f m = inr m
 pub extends_look : (v : View) (n lines x : ℕ) → Extends v (after_look v n lines x)
 extends_look v n lines x = record {
   learns = record { about = refl; count = omega arith; found = found_more n lines x v.learned.found;
-      known = λ x m. m; records = λ x m. m };
+      known = λ x m. m; records = λ x m. m;
+    nodes = λ x m. m; gaps = λ x m. m; labels = λ x m. m };
   lane = refl;
   out = refl;
   shut = refl;
@@ -99,4 +105,5 @@ found_here n lines (suc x) found ne = inl refl
 
 -- a count that has risen is learned
 pub learns_end : (v : View) (x : ℕ) → v.learned.count ≤ high x → Learns v (after_end v x)
-learns_end v x more = record { about = refl; count = more; found = λ x m. m; known = λ x m. m; records = λ x m. m }
+learns_end v x more = record { about = refl; count = more; found = λ x m. m; known = λ x m. m; records = λ x m. m;
+    nodes = λ x m. m; gaps = λ x m. m; labels = λ x m. m }

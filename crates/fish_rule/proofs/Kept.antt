@@ -4,13 +4,19 @@ use Rattle.std.proofs.Common.{◌≡◌, ◌≢◌, ℕ, ◌+◌, ◌-◌, ◌*�
 use Rattle.fish_layout.specs.Header.{lines_of}
 use Rattle.fish_rule.proofs.Common.{all_map}
 use Rattle.fish_rule.specs.Chains.{Chained, IsLow}
-use Rattle.fish_rule.specs.Parts.{Facts, InFlight, IsFinished, IsFound, IsKnown, IsRecorded, IsStoredBy, Owns,
-    ShutOk, Whole}
+use Rattle.fish_rule.specs.Parts.{InFlight, IsFinished, Whole}
+use Rattle.fish_rule.specs.Facts.{Facts, IsFound, IsKnown, IsRecorded, IsStoredBy, Owns, ShutOk}
 use Rattle.fish_rule.specs.Regions.{Holds, code, kind_of}
 use Rattle.fish_rule.specs.Rule.{Final}
 use Rattle.fish_rule.specs.Views.{Has}
 use Rattle.fish_rule.specs.World.{World, body, high, low}
+use Rattle.fish_rule.specs.Chains.{IsKeyEntry}
+use Rattle.fish_rule.specs.Walks.{IsEntryOf, IsGap, IsLabel}
 use Rattle.fish_rule.specs.declared.view.Flight.{Flight}
+use Rattle.fish_rule.specs.declared.view.Gap.{Gap}
+use Rattle.fish_rule.specs.declared.view.Label.{Label}
+use Rattle.fish_layout.specs.Cleared.{entry_at}
+use Rattle.fish_layout.specs.Entry.{entry_number, entry_place}
 use Rattle.fish_rule.specs.declared.view.Found.{Found}
 use Rattle.fish_rule.specs.declared.view.Key.{Key}
 use Rattle.fish_rule.specs.declared.view.Kind.{Kind}
@@ -111,6 +117,50 @@ module _ (k : Key) (w w' : World) (start start' lane_of lane_of' : ℕ → ℕ)
         words = ap (body w'.log) (f.starts x.number (omega arith)) ∙ f.bodies x.number below set ∙ h.words;
       }
 
+  -- an entry of a published number was one before
+  pub entry_before : (b n c p : ℕ) → n < w.count → w.dir n ≢ 0 → IsEntryOf k w'.dir w'.log (start' n) b n c p
+      → IsEntryOf k w.dir w.log (start n) b n c p
+  entry_before b n c p below set h =
+      let a : start' n ≡ start n = f.starts n (omega arith) in
+      let e : body w'.log (start' n) ≡ body w.log (start n) = ap (body w'.log) a ∙ f.bodies n below set in
+      record {
+        above = h.above;
+        stored = sym (ap high (f.dirs n below set)) ∙ h.stored;
+        is = subst (λ (z : (ℕ → ℕ) × ℕ). IsKeyEntry k.buckets z.0 b p z.1 c) (λ i. (e i, a i)) h.is;
+      }
+
+  -- where no entry was, none is
+  pub gap_later : (x : Gap) → IsGap k w.count w.dir w.log start x → IsGap k w'.count w'.dir w'.log start' x
+  gap_later x h =
+      let up = f.counts in
+      let end = h.within in
+      record {
+        within = omega arith;
+        published = λ n above less e. h.published n above less
+            (sym (f.dirs n (omega arith) (h.published n above less)) ∙ e);
+        empty = λ n c p less is. h.empty n c p less
+            (entry_before x.bucket n c p (omega arith) (h.published n is.above less) is);
+      }
+
+  -- what a second word told stays so
+  pub label_later : (x : Label) → IsLabel k w.count w.dir w.log start x
+      → IsLabel k w'.count w'.dir w'.log start' x
+  label_later x h =
+      let up = f.counts in
+      let n : ℕ = entry_number x.word in
+      let below : n < w.count = h.below in
+      let a : start' n ≡ start n = f.starts n (omega arith) in
+      record {
+        above = h.above;
+        below = omega arith;
+        place = h.place ∙ ap (λ (z : ℕ). z * 4 + entry_at (entry_place x.word)) (sym a);
+        inside = subst (λ (z : ℕ). x.place < z * 4) (sym (f.starts (suc n) below)) h.inside;
+        settled = λ less e. h.settled less (sym (f.dirs n below (h.settled less)) ∙ e);
+        word = λ less. ap (λ (z : ℕ). body w'.log z (entry_at (entry_place x.word) + 1)) a
+            ∙ ap (λ (e : ℕ → ℕ). e (entry_at (entry_place x.word) + 1)) (f.bodies n below (h.settled less))
+            ∙ h.word less;
+      }
+
   -- all that a pass has learned stays so
   pub facts_later : (l : Learned) → Facts k w.count w.dir w.log start l → Facts k w'.count w'.dir w'.log start' l
   facts_later l h =
@@ -123,6 +173,10 @@ module _ (k : Key) (w w' : World) (start start' lane_of lane_of' : ℕ → ℕ)
             (IsKnown k w'.count w'.dir w'.log start') known_later l.known h.known;
         records = all_map (IsRecorded k w.count w.dir w.log start)
             (IsRecorded k w'.count w'.dir w'.log start') recorded_later l.records h.records;
+        gaps = all_map (IsGap k w.count w.dir w.log start)
+            (IsGap k w'.count w'.dir w'.log start') gap_later l.gaps h.gaps;
+        labels = all_map (IsLabel k w.count w.dir w.log start)
+            (IsLabel k w'.count w'.dir w'.log start') label_later l.labels h.labels;
       }
 
   -- the claim that shut a pass stays a mark

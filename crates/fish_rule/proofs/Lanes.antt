@@ -6,8 +6,8 @@ use Rattle.std.proofs.Math.Decide.{ℕ_discrete, dec_le}
 use Rattle.std.proofs.Math.ListN.{get_elem?}
 use Rattle.atomic_table.proofs.Lists.{at_longer}
 use Rattle.fish_layout.specs.Cleared.{choose}
-use Rattle.fish_rule.specs.Parts.{ShutOk}
-use Rattle.fish_rule.specs.Seating.{first_shut, greater, of_lane, off_lane, without}
+use Rattle.fish_rule.specs.Facts.{ShutOk}
+use Rattle.fish_rule.specs.Seating.{first_shut, of_lane, off_lane, without}
 use Rattle.fish_rule.specs.Views.{Among, Has, HasFlight, IsOver}
 use Rattle.fish_rule.specs.declared.view.Flight.{Flight}
 use Rattle.fish_rule.specs.declared.view.Key.{Key}
@@ -141,14 +141,6 @@ pub has_back : (lane l : ℕ) (out : List ℕ) → lane ≡ 1 → 2 ≤ l → l 
 has_back lane l out main above below = (omega arith, below, inr (main, λ m. (without_sound l l out m).1 refl))
 
 -- ---- what two passes knew
-
--- the greater of two numbers is one of them
-pub greater_within : (a b n : ℕ) → a ≤ n → b ≤ n → greater a b ≤ n
-greater_within a b n low high = by (dec_le a b)
-  where
-    by : (d : Dec (a ≤ b)) → choose d b a ≤ n
-    by (yes h) = high
-    by (no h) = low
 
 -- a pass that joined another isn't shut only where neither was
 pub first_shut_none : (a b : Option Shut) → first_shut a b ≡ None → (a ≡ None) × (b ≡ None)

@@ -6,12 +6,13 @@ use Rattle.fish_rule.proofs.Common.{all_among}
 use Rattle.fish_layout.specs.Header.{lines_of}
 use Rattle.fish_rule.proofs.Loads.{head_known, lines_found, region_found}
 use Rattle.fish_rule.proofs.Aims.{own_within}
-use Rattle.fish_rule.proofs.Heads.{node_linked, place_within}
+use Rattle.fish_rule.proofs.Heads.{node_linked, place_within, second_within}
 use Rattle.fish_rule.proofs.Links.{one_chain}
 use Rattle.fish_rule.proofs.OwnWords.{flight_is}
 use Rattle.fish_rule.specs.Linking.{CanAim, HasNode, own_place}
 use Rattle.fish_rule.proofs.Room.{few_lines, few_numbers, few_slots}
-use Rattle.fish_rule.specs.Parts.{Fits, IsFound, IsKnown}
+use Rattle.fish_rule.specs.Parts.{Fits}
+use Rattle.fish_rule.specs.Facts.{IsFound, IsKnown}
 use Rattle.fish_rule.specs.Steps.{CanLook, CanRead}
 use Rattle.fish_rule.specs.Table.{Stands}
 use Rattle.fish_rule.specs.Views.{Among}
@@ -136,6 +137,16 @@ node_law k v b p about s node =
     let fits = s.rule.key_fits in
     let some_ = fits.some_lines in
     subst (λ (z : Key). (z.line * 4 ≤ p) × (p < z.end * 4)) about (h.0, omega arith)
+
+-- and so is its second word
+pub second_law : (k : Key) (v : View) (b p : ℕ) → v.about ≡ k → Stands v → HasNode v b p
+    → (k.line * 4 ≤ suc p) × (suc p < k.end * 4)
+second_law k v b p about s node =
+    let h = second_within v.about s.moment s.rule b p
+        (node_linked v.about s.moment s.rule s.seat v s.at b p node) in
+    let fits = s.rule.key_fits in
+    let some_ = fits.some_lines in
+    subst (λ (z : Key). (z.line * 4 ≤ suc p) × (suc p < z.end * 4)) about (h.0, omega arith)
 
 -- and so is the own entry that is next to be linked
 pub aim_law : (k : Key) (v : View) (f : Flight) → v.about ≡ k → Stands v → CanAim v f

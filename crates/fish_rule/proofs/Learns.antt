@@ -9,7 +9,8 @@ use Rattle.fish_rule.proofs.Frames.{alone_kept, flight_there, may_kept, one_view
 use Rattle.fish_rule.proofs.Kept.{chained_later, published}
 use Rattle.fish_rule.proofs.Links.{chains_set, links_set}
 use Rattle.fish_rule.specs.Chains.{Chained}
-use Rattle.fish_rule.specs.Parts.{Facts, Flies, IsFound, Rests}
+use Rattle.fish_rule.specs.Parts.{Flies, Rests}
+use Rattle.fish_rule.specs.Facts.{Facts, IsFound}
 use Rattle.fish_rule.specs.Regions.{code, dir_word, kind_of}
 use Rattle.fish_rule.specs.Rule.{Final, Rule}
 use Rattle.fish_rule.specs.Steps.{CanLook, IsAlone, after_end, after_look, after_settled, found_after, kind_told}
@@ -105,6 +106,8 @@ module _ (k : Key) (w : World) (r : Rule k w) (id : ℕ) (v : View) (at : get_el
         found = h.found;
         known = h.known;
         records = h.records;
+        gaps = h.gaps;
+        labels = h.labels;
       }) (r.floors id v at) (record { nodes = still.nodes; lows = still.lows; tops = still.tops })
 
   -- and all that lasts
@@ -139,7 +142,8 @@ module _ (k : Key) (w : World) (r : Rule k w) (id : ℕ) (v : View) (at : get_el
       let still = still_chained (record v.learned { settled = w.settled }) v.tail (after_settled v w.settled).clock in
       learns (record v.learned { settled = w.settled }) v.tail (after_settled v w.settled).clock
           (r.tails id v at) (record { counted = h.counted; found = h.found; known = h.known;
-          records = h.records }) (omega arith)
+          records = h.records;
+          gaps = h.gaps; labels = h.labels }) (omega arith)
       (record { nodes = still.nodes; lows = still.lows; tops = still.tops })
 
   -- and all that lasts
@@ -176,6 +180,8 @@ module _ (k : Key) (w : World) (r : Rule k w) (id : ℕ) (v : View) (at : get_el
         found = each x is;
         known = h.known;
         records = h.records;
+        gaps = h.gaps;
+        labels = h.labels;
       }) (r.floors id v at) (record { nodes = still.nodes; lows = still.lows; tops = still.tops })
     where
       each : (x : ℕ) → x ≡ w.dir n → Rattle.fish_rule.specs.Views.AllOf (IsFound k w.count w.dir r.start)

@@ -13,6 +13,7 @@ pub mod Extending
 pub mod Fills
 pub mod Flights
 pub mod Frames
+pub mod Gaps
 pub mod Heads
 pub mod Kept
 pub mod Lanes

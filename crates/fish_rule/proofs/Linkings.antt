@@ -17,7 +17,8 @@ use Rattle.fish_rule.proofs.Links.{linked_map, linking_own, linking_to, spot}
 use Rattle.fish_rule.proofs.OwnWords.{flight_is}
 use Rattle.fish_rule.specs.Chains.{Chain, Chained, IsKeyEntry, IsLinking, IsStoredAt, Linked, LinksAt, Shows}
 use Rattle.fish_rule.specs.Linking.{CanAim, linked_once, own_place}
-use Rattle.fish_rule.specs.Parts.{Facts, Flies, InFlight}
+use Rattle.fish_rule.specs.Parts.{Flies, InFlight}
+use Rattle.fish_rule.specs.Facts.{Facts}
 use Rattle.fish_rule.specs.Regions.{IsRecord, kind_of}
 use Rattle.fish_rule.specs.Rule.{Final, Rule}
 use Rattle.fish_rule.specs.Views.{IsFlightOf, IsOver}

@@ -17,7 +17,8 @@ use Rattle.fish_rule.proofs.Kept.{published}
 use Rattle.fish_rule.proofs.Learns.{learns, still_chained}
 use Rattle.fish_rule.proofs.Links.{links_set}
 use Rattle.fish_rule.proofs.Worlds.{area-in}
-use Rattle.fish_rule.specs.Parts.{Facts, IsFinished, IsFound, IsKnown}
+use Rattle.fish_rule.specs.Parts.{IsFinished}
+use Rattle.fish_rule.specs.Facts.{Facts, IsFound, IsKnown}
 use Rattle.fish_rule.specs.Regions.{Holds, kind_of}
 use Rattle.fish_rule.specs.Rule.{Final, Rule}
 use Rattle.fish_rule.specs.Steps.{CanRead, after_read}
@@ -140,7 +141,8 @@ module _ (k : Key) (w : World) (r : Rule k w) (id : ℕ) (v : View) (at : get_el
   read_facts : Facts k w.count w.dir w.log r.start reader.learned
   read_facts = (let h = r.facts id v at in
       record { counted = h.counted; found = h.found; known = (read_word_is k w r v x o h can, h.known);
-      records = h.records })
+      records = h.records;
+          gaps = h.gaps; labels = h.labels })
 
   -- a read keeps the rule
   pub read_kept : Rule k (record w { views = set w.views id reader })

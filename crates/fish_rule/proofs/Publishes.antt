@@ -21,8 +21,8 @@ use Rattle.fish_rule.proofs.Links.{chains_same, linked_counted, linking_from}
 use Rattle.fish_rule.proofs.OwnWords.{flight_is}
 use Rattle.fish_rule.proofs.Worlds.{put-else, put-here}
 use Rattle.fish_rule.specs.Chains.{Linked, LinksAt, Shows}
-use Rattle.fish_rule.specs.Parts.{Facts, Flies, InFlight, IsEntryWord, IsFinished, IsFound, IsRecorded,
-    IsStoredBy, MayOverflow, Owns, ShutOk}
+use Rattle.fish_rule.specs.Parts.{Flies, InFlight, IsEntryWord, IsFinished, MayOverflow}
+use Rattle.fish_rule.specs.Facts.{Facts, IsFound, IsRecorded, IsStoredBy, Owns, ShutOk}
 use Rattle.fish_rule.specs.Regions.{Holds, IsRecord, code, dir_word, kind_of, void_body}
 use Rattle.fish_rule.specs.Rule.{Final, Rule}
 use Rattle.fish_rule.specs.Steps.{IsReady, learned_after, own_after, records_after, shut_after, ticked}
@@ -364,7 +364,7 @@ module _ (k : Key) (w : World) (r : Rule k w) (id : ℕ) (v : View) (at : get_el
       let h = facts_later k w publication r.start r.start r.lane_of r.lane_of publish_final v.learned
           (r.facts id v at) in
       record { counted = h.counted; found = (found_here, h.found); known = h.known;
-          records = records_here kind refl ready }
+          records = records_here kind refl ready; gaps = h.gaps; labels = h.labels }
 
   own_shut : (kd : Kind) → kind ≡ kd → ShutOk k w.count dir' r.start (shut_after kd f k.end v.shut)
   own_shut Stored is = shut_later k w publication r.start r.start r.lane_of r.lane_of publish_final v.shut

@@ -4,7 +4,7 @@ use Rattle.fish_rule.proofs.Aims.{aim_kept, aim_lasts}
 use Rattle.fish_rule.proofs.Begins.{empty_rule}
 use Rattle.fish_rule.proofs.Claims.{claim_kept, claim_lasts}
 use Rattle.fish_rule.proofs.Flights.{publisher_at}
-use Rattle.fish_rule.proofs.Heads.{head_kept, head_lasts, previous_kept, previous_lasts}
+use Rattle.fish_rule.proofs.Heads.{head_kept, head_lasts, node_kept, node_lasts, previous_kept, previous_lasts}
 use Rattle.fish_rule.proofs.Learns.{end_kept, end_lasts, look_kept, look_lasts, settled_kept, settled_lasts}
 use Rattle.fish_rule.proofs.Loads.{read_kept, read_lasts}
 use Rattle.fish_rule.proofs.Fills.{store_kept, store_lasts}
@@ -14,7 +14,7 @@ use Rattle.fish_rule.proofs.Splices.{splice_kept, splice_lasts}
 use Rattle.fish_rule.proofs.Swings.{swing_kept, swing_lasts}
 use Rattle.fish_rule.proofs.Seating.{join_kept, join_lasts, split_kept, split_lasts}
 use Rattle.fish_rule.specs.Machine.{Event, EverySchedule, EveryStepIsFinal, Exchanged, Runs, aims, claims,
-    ends, heads, joins, looks, previouses, publishes, raises, reads, settles, splices, splits, stores, swings}
+    ends, heads, joins, looks, nodes, previouses, publishes, raises, reads, settles, splices, splits, stores, swings}
 use Rattle.fish_rule.specs.Regions.{dir_word, kind_of}
 use Rattle.fish_rule.specs.Rule.{Final, Rule}
 use Rattle.fish_rule.specs.Start.{empty_world}
@@ -68,6 +68,8 @@ event_lasts k (heads id b) w u r g = (let v = g.0 in let s = g.1 in
     lasts_at k w r u _ g.3 (head_kept k w r id v s.at b, head_lasts k w r id v s.at b))
 event_lasts k (previouses id b p) w u r g = (let v = g.0 in let s = g.1 in
     lasts_at k w r u _ g.3 (previous_kept k w r id v s.at b p g.2, previous_lasts k w r id v s.at b p g.2))
+event_lasts k (nodes id b p) w u r g = (let v = g.0 in let s = g.1 in
+    lasts_at k w r u _ g.3 (node_kept k w r id v s.at b p g.2, node_lasts k w r id v s.at b p g.2))
 event_lasts k (aims id x) w u r g = (let v = g.0 in let f = g.1 in let s = g.2 in
     lasts_at k w r u _ g.4 (aim_kept k w r id v s.at f g.3 x, aim_lasts k w r id v s.at f g.3 x))
 event_lasts k (swings id b h) w u r g = (let v = g.0 in let f = g.1 in let s = g.2 in let can = g.3 in

@@ -6,17 +6,19 @@ use Rattle.atomic_table.proofs.Lists.{at_longer, at_snoc, set_else}
 use Rattle.fish_rule.proofs.Common.{all_append, among_either, among_left, among_right, each_set, each_snoc,
     no_flight, pairs_set}
 use Rattle.fish_rule.proofs.Frames.{alone_kept, flight_there}
-use Rattle.fish_rule.proofs.Lanes.{both_has, first_shut_none, flight_longer, greater_within, has_back,
+use Rattle.fish_rule.proofs.Lanes.{both_has, first_shut_none, flight_longer, has_back,
     has_both, has_lane, has_left, has_none, has_one, left_has, not_over, of_lane_complete, of_lane_sound,
     off_lane_complete, off_lane_sound, pairs_snoc, shut_either}
 use Rattle.fish_rule.proofs.Links.{chains_views, linking_from, linking_own, linking_to, links_views}
 use Rattle.fish_rule.proofs.Kept.{chained_later}
 use Rattle.fish_rule.specs.Chains.{Chained, IsLinking, LinksAt}
 use Rattle.fish_rule.specs.declared.view.Learned.{Learned}
-use Rattle.fish_rule.specs.Parts.{Facts, IsFound, IsKnown, IsRecorded, Limit, MayOverflow, Owns, Seats}
+use Rattle.fish_rule.specs.Parts.{Limit, MayOverflow, Seats}
+use Rattle.fish_rule.specs.Facts.{Facts, IsFound, IsKnown, IsRecorded, Owns}
 use Rattle.fish_rule.specs.Rule.{Final, Rule}
 use Rattle.fish_rule.specs.Seating.{CanJoin, CanSplit, join_both, of_lane, spent, split_left, split_right, without}
 use Rattle.fish_rule.specs.Views.{Among, Each, Has, IsFlightOf}
+use Rattle.fish_rule.specs.Walks.{IsGap, IsLabel}
 use Rattle.fish_rule.specs.World.{World}
 use Rattle.fish_rule.specs.declared.view.Key.{Key}
 use Rattle.fish_rule.specs.declared.view.View.{View}
@@ -259,11 +261,13 @@ module _ (k : Key) (w : World) (r : Rule k w) (id other : ℕ) (v u : View) (at 
       let a = r.facts id v at in
       let b = r.facts other u at_u in
       record {
-        counted = greater_within v.learned.count u.learned.count w.count a.counted b.counted;
+        counted = (let x = a.counted in let y = b.counted in omega arith);
         found = all_append (IsFound k w.count w.dir r.start) v.learned.found u.learned.found a.found b.found;
         known = all_append (IsKnown k w.count w.dir w.log r.start) v.learned.known u.learned.known a.known b.known;
         records = all_append
             (IsRecorded k w.count w.dir w.log r.start) v.learned.records u.learned.records a.records b.records;
+        gaps = all_append (IsGap k w.count w.dir w.log r.start) v.learned.gaps u.learned.gaps a.gaps b.gaps;
+        labels = all_append (IsLabel k w.count w.dir w.log r.start) v.learned.labels u.learned.labels a.labels b.labels;
       }
 
   -- what holds of both and of a spent view, and of each other view, holds of each
@@ -338,11 +342,12 @@ module _ (k : Key) (w : World) (r : Rule k w) (id other : ℕ) (v u : View) (at 
     chains = chains_views k w r (set taken other spent) links_join back_join;
     chained = each_join _ (λ j x at_x. join_chained x.learned (r.chained j x at_x)) both_chained
         (record { nodes = tt; lows = tt; tops = tt });
-    floors = each_join _ r.floors (greater_within v.learned.settled u.learned.settled w.settled
-        (r.floors id v at) (r.floors other u at_u)) (omega arith);
+    floors = each_join _ r.floors (let a = r.floors id v at in let b = r.floors other u at_u in omega arith)
+        (omega arith);
     own = each_join _ r.own join_owns (record { sound = λ o m. elim m [ ];
         complete = λ o has. absurd (has_none o.lane has) });
-    facts = each_join _ r.facts join_facts (record { counted = omega arith; found = tt; known = tt; records = tt });
+    facts = each_join _ r.facts join_facts (record { counted = omega arith; found = tt; known = tt; records = tt;
+        gaps = tt; labels = tt });
     shuts = each_join _ r.shuts (shut_either k w.count w.dir r.start v.shut u.shut (r.shuts id v at)
         (r.shuts other u at_u)) tt;
   }

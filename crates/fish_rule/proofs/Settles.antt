@@ -13,10 +13,11 @@ use Rattle.fish_rule.proofs.Kept.{chained_later, published}
 use Rattle.fish_rule.proofs.Learns.{settled_kept}
 use Rattle.fish_rule.proofs.Links.{chains_set, links_set}
 use Rattle.fish_rule.proofs.Worlds.{world-settled}
-use Rattle.fish_rule.specs.Parts.{IsEntryWord, IsFound, Settled}
+use Rattle.fish_rule.specs.Parts.{IsEntryWord, Settled}
+use Rattle.fish_rule.specs.Facts.{IsFound}
 use Rattle.fish_rule.specs.Rule.{Final, Rule}
 use Rattle.fish_rule.specs.Steps.{CanRaise, after_raise, after_settled}
-use Rattle.fish_rule.specs.Table.{Ruled, Sat, ToldSettled, told_raise}
+use Rattle.fish_rule.specs.Table.{Ruled, Sat, ToldRaise, ToldSettled}
 use Rattle.fish_rule.specs.Views.{Among}
 use Rattle.fish_rule.specs.World.{World, world}
 use Rattle.fish_rule.specs.declared.view.Found.{Found}
@@ -105,7 +106,8 @@ module _ (k : Key) (w : World) (r : Rule k w) (id : ℕ) (v : View) (at : get_el
     own = each_set _ w.views id raiser (λ j u ne at_u. r.own j u at_u) (r.own id v at);
     facts = each_set _ w.views id raiser (λ j u ne at_u. r.facts j u at_u)
         (let h = r.facts id v at in record { counted = h.counted; found = h.found; known = h.known;
-        records = h.records });
+        records = h.records;
+          gaps = h.gaps; labels = h.labels });
     shuts = each_set _ w.views id raiser (λ j u ne at_u. r.shuts j u at_u) (r.shuts id v at);
   }
 
@@ -134,13 +136,16 @@ settled_allowed given k same size id me about =
 
 -- a fetch-max on it
 pub raise_allowed : (given k : Key) → given ≡ k → (size id : ℕ) (me : Sat) (m : ℕ) → me.0.about ≡ k
-    → CanRaise me.0 m → Allows (Ruled given) size id me 1 (λ n. max n m) (told_raise (step size 1 m 0 none) me)
+    → CanRaise me.0 m → Allows (Ruled given) size id me 1 (λ n. max n m) (ToldRaise (step size 1 m 0 none) me)
 raise_allowed given k same size id me m about can =
-    allowed given k same size id me 1 (λ n. max n m) (told_raise (step size 1 m 0 none) me) (λ ws vs wide r at.
+    allowed given k same size id me 1 (λ n. max n m) (ToldRaise (step size 1 m 0 none) me) (λ ws vs wide r at.
     let w : World = world k ws vs in
     let v' : View = after_raise me.0 m w.settled in
     let kept = raise_kept k w r id me.0 at about m can in (
       v',
       subst (Rule k) (sym (world-settled k ws vs (set vs id v') (max w.settled m) (omega arith))) kept,
-      record { view = refl; held = refl; stands = stands k _ id v' kept about (there vs id me.0 v' at) },
+      record {
+        told = record { view = refl; held = refl; stands = stands k _ id v' kept about (there vs id me.0 v' at) };
+        rises = r.floors id me.0 at;
+      },
     ))

@@ -29,7 +29,8 @@ use Rattle.fish_rule.proofs.Worlds.{area-in, put-else, put-here, world-log}
 use Rattle.fish_rule.specs.Chains.{Chain, Chained, Linked}
 use Rattle.fish_rule.specs.Linking.{CanAim, CanSplice, HasNode, LowRises, ToldSplice, after_previous,
     after_splice, own_place, spliced}
-use Rattle.fish_rule.specs.Parts.{Facts, Flies, InFlight, Whole}
+use Rattle.fish_rule.specs.Parts.{Flies, InFlight, Whole}
+use Rattle.fish_rule.specs.Facts.{Facts}
 use Rattle.fish_rule.specs.Regions.{IsRecord}
 use Rattle.fish_rule.specs.Rule.{Final, Rule}
 use Rattle.fish_rule.specs.Table.{Ruled, Sat, Told, place_at}
@@ -266,7 +267,8 @@ module _ (k : Key) (w : World) (r : Rule k w) (id : ℕ) (v : View) (at : get_el
 
   facts : Facts k w.count w.dir log' r.start splicer.learned
   facts = (let g = facts_later k w splice_world r.start r.start r.lane_of r.lane_of final v.learned
-      (r.facts id v at) in record { counted = g.counted; found = g.found; known = g.known; records = g.records })
+      (r.facts id v at) in record { counted = g.counted; found = g.found; known = g.known; records = g.records;
+          gaps = g.gaps; labels = g.labels })
 
   chained : Chained k w.dir log' splice_world.views w.head splicer.learned
   chained =

@@ -22,7 +22,7 @@ use Rattle.fish_rule.proofs.Worlds.{area-in, put-else, put-here, world-head}
 use Rattle.fish_rule.specs.Chains.{Chain, Chained, Linked}
 use Rattle.fish_rule.specs.Linking.{CanAim, CanSwing, ToldSwing, TopRises, after_head, after_swing, bucket_at,
     own_place, swung}
-use Rattle.fish_rule.specs.Parts.{Facts}
+use Rattle.fish_rule.specs.Facts.{Facts}
 use Rattle.fish_rule.specs.Rule.{Final, Rule}
 use Rattle.fish_rule.specs.Steps.{ticked}
 use Rattle.fish_rule.specs.Table.{Ruled, Sat, Told}
@@ -115,7 +115,8 @@ module _ (k : Key) (w : World) (r : Rule k w) (id : ℕ) (v : View) (at : get_el
 
   facts : Facts k w.count w.dir w.log r.start swinger.learned
   facts = (let q = facts_later k w swing_world r.start r.start r.lane_of r.lane_of final v.learned
-      (r.facts id v at) in record { counted = q.counted; found = q.found; known = q.known; records = q.records })
+      (r.facts id v at) in record { counted = q.counted; found = q.found; known = q.known; records = q.records;
+          gaps = q.gaps; labels = q.labels })
 
   chained : Chained k w.dir w.log swing_world.views head' swinger.learned
   chained =

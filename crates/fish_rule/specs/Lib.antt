@@ -1,4 +1,5 @@
 pub mod Chains
+pub mod Facts
 pub mod Flying
 pub mod Linking
 pub mod Logs
@@ -12,4 +13,5 @@ pub mod Start
 pub mod Steps
 pub mod Table
 pub mod Views
+pub mod Walks
 pub mod World

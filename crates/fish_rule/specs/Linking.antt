@@ -13,6 +13,7 @@ use Rattle.fish_rule.specs.Table.{Sat, Told, place_at}
 use Rattle.fish_rule.specs.Views.{Among}
 use Rattle.fish_rule.specs.World.{heads_at}
 use Rattle.fish_rule.specs.declared.view.Flight.{Flight}
+use Rattle.fish_rule.specs.declared.view.Gap.{Gap}
 use Rattle.fish_rule.specs.declared.view.Kind.TheVariants.{Stored}
 use Rattle.fish_rule.specs.declared.view.Known.{Known}
 use Rattle.fish_rule.specs.declared.view.Learned.{Learned}
@@ -31,13 +32,21 @@ abbrev pub with_node : ℕ → ℕ → List Node → List Node
 with_node b zero nodes = nodes
 with_node b (suc p) nodes = record { bucket = b; place = suc p } ∷ nodes
 
--- what a head that was found tells
-abbrev pub learned_head : ℕ → ℕ → Learned → Learned
-learned_head b x l = record l { nodes = with_node b x l.nodes; tops = record { bucket = b; place = x } ∷ l.tops }
+-- below the settled number no entry of the bucket lies between these places
+abbrev pub gap : ℕ → ℕ → ℕ → Learned → Gap
+gap b above below l = record { bucket = b; end = l.settled; above = above; below = below }
+
+-- what a head that was found tells, in a log with this end
+abbrev pub learned_head : ℕ → ℕ → ℕ → Learned → Learned
+learned_head end b x l = record l {
+  nodes = with_node b x l.nodes;
+  tops = record { bucket = b; place = x } ∷ l.tops;
+  gaps = gap b (end * 4) x l ∷ l.gaps;
+}
 
 -- the head is seen
 abbrev pub after_head : View → ℕ → ℕ → View
-after_head v b x = record v { learned = learned_head b x v.learned; clock = loaded v.clock }
+after_head v b x = record v { learned = learned_head v.about.end b x v.learned; clock = loaded v.clock }
 
 -- whatever place the view knew the bucket's head to have reached, x is at or above it
 abbrev pub TopRises : View → ℕ → ℕ → Type 0
@@ -51,7 +60,11 @@ HasNode v b p = Among (record { bucket = b; place = p }) v.learned.nodes
 
 -- what a first word that was found tells
 abbrev pub learned_previous : ℕ → ℕ → ℕ → Learned → Learned
-learned_previous b p x l = record l { nodes = with_node b x l.nodes; lows = record { place = p; value = x } ∷ l.lows }
+learned_previous b p x l = record l {
+  nodes = with_node b x l.nodes;
+  lows = record { place = p; value = x } ∷ l.lows;
+  gaps = gap b p x l ∷ l.gaps;
+}
 
 -- the first word is seen
 abbrev pub after_previous : View → ℕ → ℕ → ℕ → View
@@ -60,6 +73,15 @@ after_previous v b p x = record v { learned = learned_previous b p x v.learned; 
 -- whatever value the view knew the first word at the place to have reached, x is at or above it
 abbrev pub LowRises : View → ℕ → ℕ → Type 0
 LowRises v p x = (t : Known) → Among t v.learned.lows → t.place ≡ p → t.value ≤ x
+
+-- ---- load node: a load of a second word
+
+-- the second word of the entry at a place is seen
+abbrev pub after_node : View → ℕ → ℕ → View
+after_node v p x = record v {
+  learned = record v.learned { labels = record { place = p; word = x; end = v.learned.settled } ∷ v.learned.labels };
+  clock = loaded v.clock;
+}
 
 -- ---- aim: a store of the own first word
 
@@ -152,6 +174,10 @@ pub record ToldPrevious (st : Step Bool) (m : Sat) (found : ℕ) (m' : Sat) : Ty
   pub told : Told m (after_previous m.0 bucket (place_at m.0.about st.word) found) m'
   pub rises : LowRises m.0 (place_at m.0.about st.word) found
   pub less : found < place_at m.0.about st.word
+
+-- a load of the second word of a linked entry
+abbrev pub told_node : Step Bool → Sat → ℕ → Sat → Type 0
+told_node st m found m' = Told m (after_node m.0 (place_at m.0.about st.word - 1) found) m'
 
 -- an aim
 abbrev pub told_aim : Step Bool → Sat → ℕ → Sat → Type 0

@@ -8,15 +8,18 @@ use Rattle.fish_catalog.specs.declared.entry.Entry.TheVariants as entry
 use Rattle.fish_layout.specs.Cleared.{IsKeyWord, Spells}
 use Rattle.fish_layout.specs.Header.{keys_of}
 use Rattle.fish_layout.specs.declared.parts.BodyParts.{BodyParts}
-use Rattle.fish_rule.specs.Parts.{Facts, Owns}
+use Rattle.fish_rule.specs.Facts.{Facts, Owns}
 use Rattle.fish_rule.specs.Regions.{code}
 use Rattle.fish_rule.specs.Rule.{Rule}
 use Rattle.fish_rule.specs.Views.{Among}
 use Rattle.fish_rule.specs.World.{World, body, high, low}
 use Rattle.fish_rule.specs.declared.view.Found.{Found}
+use Rattle.fish_rule.specs.declared.view.Gap.{Gap}
 use Rattle.fish_rule.specs.declared.view.Key.{Key}
 use Rattle.fish_rule.specs.declared.view.Known.{Known}
+use Rattle.fish_rule.specs.declared.view.Label.{Label}
 use Rattle.fish_rule.specs.declared.view.Learned.{Learned}
+use Rattle.fish_rule.specs.declared.view.Node.{Node}
 use Rattle.fish_rule.specs.declared.view.Own.{Own}
 use Rattle.fish_rule.specs.declared.view.Recorded.{Recorded}
 use Rattle.fish_rule.specs.declared.view.Kind.TheVariants.{Mark, Stored, Void}
@@ -54,6 +57,9 @@ pub record Learns (v u : View) : Type 0 where
   pub found : (x : Found) → Among x v.learned.found → Among x u.learned.found
   pub known : (x : Known) → Among x v.learned.known → Among x u.learned.known
   pub records : (x : Recorded) → Among x v.learned.records → Among x u.learned.records
+  pub nodes : (x : Node) → Among x v.learned.nodes → Among x u.learned.nodes
+  pub gaps : (x : Gap) → Among x v.learned.gaps → Among x u.learned.gaps
+  pub labels : (x : Label) → Among x v.learned.labels → Among x u.learned.labels
 
 -- in every moment of a view that knows as much, this stands at number n
 abbrev pub Tells : View → ℕ → Entry → Type 0

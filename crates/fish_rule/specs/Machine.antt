@@ -3,7 +3,7 @@ use Rattle.std.specs.Prelude.{ℕ, ◌≡◌, ◌≢◌, ◌+◌, ◌-◌, ◌*�
 use mathlib.Core.Option.{some}
 use Rattle.std.proofs.Math.ListN.{get_elem?, set}
 use Rattle.fish_rule.specs.Linking.{CanAim, CanLoadHead, CanSplice, CanSwing, HasNode, after_aim, after_head,
-    after_previous, own_place, spliced, swung}
+    after_node, after_previous, own_place, spliced, swung}
 use Rattle.fish_rule.specs.Parts.{Fits}
 use Rattle.fish_rule.specs.Regions.{dir_word}
 use Rattle.fish_rule.specs.Rule.{Final, Rule}
@@ -29,6 +29,7 @@ pub data Event : Type 0 where
   raises : ℕ → ℕ → Event
   heads : ℕ → ℕ → Event
   previouses : ℕ → ℕ → ℕ → Event
+  nodes : ℕ → ℕ → ℕ → Event
   aims : ℕ → ℕ → Event
   swings : ℕ → ℕ → ℕ → Event
   splices : ℕ → ℕ → ℕ → ℕ → Event
@@ -71,6 +72,8 @@ Goes k w (heads id b) u = (v : View) × Seated k w id v × CanLoadHead v b
     × (u ≡ record w { views = set w.views id (after_head v b (w.head b)) })
 Goes k w (previouses id b p) u = (v : View) × Seated k w id v × HasNode v b p
     × (u ≡ record w { views = set w.views id (after_previous v b p (w.log p)) })
+Goes k w (nodes id b p) u = (v : View) × Seated k w id v × HasNode v b p
+    × (u ≡ record w { views = set w.views id (after_node v p (w.log (suc p))) })
 Goes k w (aims id x) u = (v : View) × (f : Flight) × Seated k w id v × CanAim v f
     × (u ≡ record w { log = put w.log (own_place f) x; views = set w.views id (after_aim v f x) })
 Goes k w (swings id b h) u = (v : View) × (f : Flight) × Seated k w id v × CanSwing v f b h

@@ -1,7 +1,8 @@
 -- The rule: all parts at once. And what every step leaves as it was.
 use Rattle.std.specs.Prelude.{ℕ, ◌≡◌, ◌≢◌, ◌<◌, ◌≤◌, []}
 use Rattle.fish_rule.specs.Chains.{Chain, Chained, Linked}
-use Rattle.fish_rule.specs.Parts.{Facts, Fits, Limit, Owns, Rests, Seats, Settled, ShutOk, Space}
+use Rattle.fish_rule.specs.Parts.{Fits, Limit, Rests, Seats, Settled, Space}
+use Rattle.fish_rule.specs.Facts.{Facts, Owns, ShutOk}
 use Rattle.fish_rule.specs.Views.{Each}
 use Rattle.fish_rule.specs.World.{World, body}
 use Rattle.fish_rule.specs.declared.view.Key.{Key}

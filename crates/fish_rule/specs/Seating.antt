@@ -1,6 +1,6 @@
 -- How the control pass gives out a lane to a new pass, and takes in what that pass knows.
-use Rattle.std.specs.Prelude.{ℕ, ◌≡◌, ◌≤◌, List, [], ◌∷◌, ◌++◌, Option, Some, None}
-use Rattle.std.proofs.Math.Decide.{ℕ_discrete, dec_le}
+use Rattle.std.specs.Prelude.{ℕ, ◌≡◌, ◌≤◌, List, [], ◌∷◌, ◌++◌, max, Option, Some, None}
+use Rattle.std.proofs.Math.Decide.{ℕ_discrete}
 use Rattle.fish_layout.specs.Cleared.{choose}
 use Rattle.fish_rule.specs.Steps.{ticked}
 use Rattle.fish_rule.specs.Views.{Among}
@@ -57,15 +57,20 @@ abbrev pub without : ℕ → List ℕ → List ℕ
 without l [] = []
 without l (x ∷ out) = choose (ℕ_discrete x l) (without l out) (x ∷ without l out)
 
--- the greater number
-abbrev pub greater : ℕ → ℕ → ℕ
-greater a b = choose (dec_le a b) b a
-
 -- what either learned
 abbrev pub learned_both : Learned → Learned → Learned
-learned_both a b = record { count = greater a.count b.count; settled = greater a.settled b.settled;
-    found = a.found ++ b.found; known = a.known ++ b.known; records = a.records ++ b.records;
-    nodes = a.nodes ++ b.nodes; lows = a.lows ++ b.lows; tops = a.tops ++ b.tops }
+learned_both a b = record {
+  count = max a.count b.count;
+  settled = max a.settled b.settled;
+  found = a.found ++ b.found;
+  known = a.known ++ b.known;
+  records = a.records ++ b.records;
+  nodes = a.nodes ++ b.nodes;
+  lows = a.lows ++ b.lows;
+  tops = a.tops ++ b.tops;
+  gaps = a.gaps ++ b.gaps;
+  labels = a.labels ++ b.labels;
+}
 
 -- the own claim that shut the pass, where there is one, else the other's
 abbrev pub first_shut : Option Shut → Option Shut → Option Shut
@@ -85,7 +90,8 @@ join_both v u = record v {
 
 -- nothing learned
 abbrev pub unlearned : Learned
-unlearned = record { count = 0; settled = 0; found = []; known = []; records = []; nodes = []; lows = []; tops = [] }
+unlearned = record { count = 0; settled = 0; found = []; known = []; records = []; nodes = []; lows = [];
+    tops = []; gaps = []; labels = [] }
 
 -- the view of a pass that was joined
 abbrev pub spent : View

@@ -98,6 +98,7 @@ pub record ToldSettled (st : Step Bool) (m : Sat) (found : ℕ) (m' : Sat) : Typ
   pub told : Told m (after_settled m.0 found) m'
   pub rises : m.0.learned.settled ≤ found
 
--- a raise of the settled number
-abbrev pub told_raise : Step Bool → Sat → ℕ → Sat → Type 0
-told_raise st m found m' = Told m (after_raise m.0 st.first found) m'
+-- a raise of the settled number, which was at least what the pass knew it to be
+pub record ToldRaise (st : Step Bool) (m : Sat) (found : ℕ) (m' : Sat) : Type 0 where
+  pub told : Told m (after_raise m.0 st.first found) m'
+  pub rises : m.0.learned.settled ≤ found

@@ -3,18 +3,15 @@
 ghost use Rattle.std.specs.Prelude.{◌≡◌, ℕ, true, IfOk, IfErr};
 ghost use Rattle.fish_rule.specs.Logs.{Extends, IsClosed, Learns, TellsNext};
 ghost use Rattle.fish_rule.specs.Passes.{IsOf, IsPassOf, view};
-ghost use Rattle.fish_rule.specs.Steps.{CanLook, IsAlone, after_end, kind_told};
-ghost use Rattle.fish_rule.specs.World.{high};
+ghost use Rattle.fish_rule.specs.Steps.{CanLook, IsAlone, after_end};
 
 use crate::entry::read_record;
 use crate::steps::{load_tail, look_at};
 use crate::table::{Log, Pass};
 use crate::view::Kind;
+use crate::word::{kind_of_word, line_of_word};
 use fish_catalog::{Entries, Entry};
 use std::alloc::{AllocError, Global};
-
-/// One claim in the tail word and one kind in a directory word: the bits above the line.
-const ONE: u64 = 68_719_476_736;
 
 /// What is left of a log.
 #[derive(Debug, Drop)]
@@ -88,19 +85,8 @@ fn next_entry(
 {
     let word = look_at(log, main, number);
     match kind_of_word(word) {
-        Kind::Stored => Ok(Some(read_record(alloc, log, main, word % ONE)?)),
+        Kind::Stored => Ok(Some(read_record(alloc, log, main, line_of_word(word))?)),
         Kind::Void => Ok(Some(Entry::Void)),
         Kind::Mark => Ok(None),
-    }
-}
-
-/// The kind that a directory word tells.
-pub fn kind_of_word(word: u64) -> Kind
-    ensures { result ≡ kind_told (high word) }
-{
-    match word / ONE {
-        1 => Kind::Stored,
-        2 => Kind::Void,
-        _ => Kind::Mark,
     }
 }

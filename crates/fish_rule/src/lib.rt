@@ -5,6 +5,7 @@
 //! start. No other crate touches a shared word.
 #![tactic(auto)]
 
+mod area;
 mod close;
 mod entry;
 mod law;
@@ -16,11 +17,12 @@ mod table;
 #[cfg(test)]
 mod tests;
 mod view;
+mod word;
 
-pub use close::{CloseWant, Remains, close_log, kind_of_word};
+pub use close::{CloseWant, Remains, close_log};
 pub use entry::{read_record, read_region};
 pub use law::law_every_schedule;
-pub use linking::{aim_entry, load_head, load_previous, splice_entry, swing_head};
+pub use linking::{aim_entry, load_head, load_node, load_previous, splice_entry, swing_head};
 pub use seats::{Start, base, join_pass, open_log, shape, split_pass};
 pub use steps::{
     claim_lines, in_flight, is_shut, kind_in, lane, load_settled, load_tail, look_at,
@@ -28,6 +30,7 @@ pub use steps::{
 };
 pub use table::{Base, Log, LogRule, Pass, Region, Shape};
 pub use view::{
-    Clock, Flight, Found, Key, Kind, Known, Learned, Node, Note, Noted, Own, Position, Recorded,
-    Shut, View,
+    Clock, Flight, Found, Gap, Key, Kind, Known, Label, Learned, Node, Note, Noted, Own, Position,
+    Recorded, Shut, View,
 };
+pub use word::{kind_of_word, line_of_word};

@@ -5,16 +5,13 @@
 
 ghost use Rattle.std.specs.Prelude.{◌≡◌, ◌≢◌, ◌<◌, ℕ, Some};
 ghost use Rattle.fish_rule.specs.Linking.{CanAim, CanLoadHead, CanSplice, CanSwing, HasNode, LowRises,
-    TopRises, after_aim, after_head, after_previous, after_splice, after_swing, own_place};
+    TopRises, after_aim, after_head, after_node, after_previous, after_splice, after_swing, own_place};
 ghost use Rattle.fish_rule.specs.Passes.{IsPassOf, view};
 ghost use Rattle.fish_rule.specs.declared.view.Flight.{Flight};
 
-use crate::plays::{Aim, Head, Previous, Splice, Swing};
-use crate::steps::log_at;
+use crate::plays::{Aim, Head, Label, Previous, Splice, Swing};
+use crate::area::{HEADS, log_at};
 use crate::table::{Log, Pass};
-
-/// The first head's word.
-const HEADS: u64 = 10_516;
 
 /// Loads the head of a bucket: the place of its newest linked entry, or 0.
 pub fn load_head(log: &Log, pass: &mut Pass, bucket: u64) -> u64
@@ -43,6 +40,20 @@ pub fn load_previous(log: &Log, pass: &mut Pass, place: u64) -> u64
     log.table
         .shared
         .load::<Previous>(&mut pass.seat, index as usize)
+}
+
+/// Loads the second word of a linked entry: the number of its record, its definition, and which of
+/// the record's entries it is.
+pub fn load_node(log: &Log, pass: &mut Pass, place: u64) -> u64
+    requires pass { IsPassOf log.now pass.old }
+    requires node { (b : ℕ) × HasNode (view pass.old) b place }
+    ensures pass { IsPassOf log.now pass.new }
+    ensures view { view pass.new ≡ after_node (view pass.old) place result }
+{
+    let index = log_at(log.key) + (place + 1 - log.key.line * 4);
+    log.table
+        .shared
+        .load::<Label>(&mut pass.seat, index as usize)
 }
 
 /// Stores the place that the own next entry is to lead to.

@@ -1,7 +1,7 @@
 //! What each step tells its pass.
 
-ghost use Rattle.fish_rule.specs.Linking.{ToldHead, ToldPrevious, ToldSplice, ToldSwing, told_aim};
-ghost use Rattle.fish_rule.specs.Table.{ToldEnd, ToldLook, ToldSettled, told_claim, told_publish, told_raise,
+ghost use Rattle.fish_rule.specs.Linking.{ToldHead, ToldPrevious, ToldSplice, ToldSwing, told_aim, told_node};
+ghost use Rattle.fish_rule.specs.Table.{ToldEnd, ToldLook, ToldRaise, ToldSettled, told_claim, told_publish,
     told_read, told_store};
 
 use crate::view::View;
@@ -60,7 +60,7 @@ impl Play<bool, View> for Settled {
 pub(crate) struct Raise;
 
 impl Play<bool, View> for Raise {
-    ghost then = { told_raise };
+    ghost then = { ToldRaise };
 }
 
 /// A load of a head.
@@ -75,6 +75,13 @@ pub(crate) struct Previous;
 
 impl Play<bool, View> for Previous {
     ghost then = { ToldPrevious };
+}
+
+/// A load of the second word of a linked entry.
+pub(crate) struct Label;
+
+impl Play<bool, View> for Label {
+    ghost then = { told_node };
 }
 
 /// A store of the own first word.

@@ -12,9 +12,11 @@ ghost use Rattle.fish_rule.specs.Steps.{after_end};
 ghost use Rattle.fish_rule.specs.Table.{first_view};
 ghost use Rattle.fish_rule.specs.World.{total};
 
+use crate::area::{PAGE_LINES, log_at};
 use crate::plays::End;
 use crate::table::{Base, Log, Pass, Shape};
 use crate::view::{Key, View};
+use crate::word::tail_word;
 use atomic_table::{Join, Split, Table};
 use std::alloc::{AllocError, Global};
 
@@ -56,7 +58,7 @@ fn key_of(shape: Shape, start: &Start) -> Key
         Start::Empty => Key {
             number: 0,
             line: 0,
-            end: shape.pages as u64 * 32_768,
+            end: u64::from(shape.pages) * PAGE_LINES,
             buckets: 1 << shape.bucket_bits,
         },
     }
@@ -67,8 +69,7 @@ fn word_count(key: &Key) -> usize
     requires { Fits key.now }
     ensures { result ≡ total key.now }
 {
-    let lines = key.end - key.line;
-    (10_516 + key.buckets + lines + 16 + lines * 4) as usize
+    (log_at(*key) + (key.end - key.line) * 4) as usize
 }
 
 /// The tail word at a key's number and line.
@@ -76,7 +77,7 @@ fn tail_of(key: &Key) -> u64
     requires { Fits key.now }
     ensures { result ≡ key.now.number * 68719476736 + key.now.line }
 {
-    key.number * 68_719_476_736 + key.line
+    tail_word(key.number, key.line)
 }
 
 /// So many zero words.

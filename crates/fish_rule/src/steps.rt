@@ -4,24 +4,20 @@
 ghost use Rattle.std.specs.Prelude.{◌≡◌, ◌≢◌, ◌+◌, ◌*◌, ◌<◌, ◌≤◌, ℕ, [], length, Some};
 ghost use Rattle.fish_rule.specs.Flying.{region_in};
 ghost use Rattle.fish_rule.specs.Passes.{IsPassOf, view};
-ghost use Rattle.fish_rule.specs.Parts.{Fits, Rests};
+ghost use Rattle.fish_rule.specs.Parts.{Rests};
 ghost use Rattle.fish_rule.specs.Regions.{dir_word, kind_of};
 ghost use Rattle.fish_rule.specs.Steps.{CanClaim, CanLook, CanPublish, CanRaise, CanRead, CanStore, IsAlone,
     after_claim, after_end, after_look, after_publish, after_raise, after_read, after_settled, after_store};
 ghost use Rattle.fish_rule.specs.Views.{Among};
-ghost use Rattle.fish_rule.specs.World.{dir_at as first_directory_word, high, log_at as first_log_word, low};
+ghost use Rattle.fish_rule.specs.World.{high, low};
 ghost use Rattle.fish_rule.specs.declared.view.Flight.{Flight};
 ghost use Rattle.fish_rule.specs.declared.view.Found.{Found};
 
+use crate::area::{PAGE_LINES, dir_at, log_at};
 use crate::plays::{Claim, End, Look, Publish, Raise, Read, Settled, Store};
 use crate::table::{Log, Pass, Region};
-use crate::view::{Key, Kind, Position, Shut};
-
-/// One claim in the tail word: a count of one, in the high 28 bits.
-const ONE: u64 = 68_719_476_736;
-
-/// The lines of a page.
-const PAGE_LINES: u64 = 32_768;
+use crate::view::{Kind, Position, Shut};
+use crate::word::{ONE, directory_word, position_in};
 
 /// The claim that shut a pass, its own or one that it learned of by a split or a join.
 pub fn is_shut(pass: &Pass) -> Option<Shut>
@@ -173,22 +169,11 @@ pub fn raise_settled(log: &Log, pass: &mut Pass, number: u64) -> u64
     requires view { CanRaise (view pass.old) number }
     ensures pass { IsPassOf log.now pass.new }
     ensures view { view pass.new ≡ after_raise (view pass.old) number result }
+    ensures rises { (view pass.old).learned.settled ≤ result }
 {
     log.table
         .shared
         .fetch_max::<Raise>(&mut pass.seat, 1, number)
-}
-
-/// Where a tail word says that the next record goes.
-#[tactic(auto, unfolding(crate::specs::World::high, crate::specs::World::low))]
-fn position_in(tail: u64) -> Position
-    ensures number { result.number ≡ high tail }
-    ensures line { result.line ≡ low tail }
-{
-    Position {
-        number: tail / ONE,
-        line: tail % ONE,
-    }
 }
 
 /// The kind of the region between two lines.
@@ -203,32 +188,4 @@ fn region_kind(end: u64, line: u64, next: u64) -> Kind
     } else {
         Kind::Stored
     }
-}
-
-/// A directory word.
-fn directory_word(kind: Kind, line: u64) -> u64
-    requires { line < 68719476736 }
-    ensures { result ≡ dir_word kind line }
-{
-    match kind {
-        Kind::Stored => line + ONE,
-        Kind::Void => line + 2 * ONE,
-        Kind::Mark => line + 3 * ONE,
-    }
-}
-
-/// The first directory word of a table.
-fn dir_at(key: Key) -> u64
-    requires { Fits key }
-    ensures { result ≡ first_directory_word key }
-{
-    10_516 + key.buckets
-}
-
-/// The first word of the log of a table.
-pub(crate) fn log_at(key: Key) -> u64
-    requires { Fits key }
-    ensures { result ≡ first_log_word key }
-{
-    dir_at(key) + (key.end - key.line + 16)
 }

@@ -77,6 +77,26 @@ pub struct Node {
     pub place: u64,
 }
 
+/// A part of a bucket's chain: between two places lies no entry of a record below a number.
+pub struct Gap {
+    pub bucket: u64,
+    /// The number. Every number below was settled.
+    pub end: u64,
+    /// The upper place, or the log's end.
+    pub above: u64,
+    /// The lower place, or 0.
+    pub below: u64,
+}
+
+/// The second word of a linked key entry.
+pub struct Label {
+    /// The entry's place.
+    pub place: u64,
+    pub word: u64,
+    /// Every number below was settled when the word was read.
+    pub end: u64,
+}
+
 /// A published record and the words that were stored for it.
 pub struct Recorded {
     pub number: u64,
@@ -130,6 +150,8 @@ pub struct Learned {
     pub lows: [Known; 0],
     /// The heads of buckets are at least at these places.
     pub tops: [Node; 0],
+    pub gaps: [Gap; 0],
+    pub labels: [Label; 0],
 }
 
 /// What a pass knows.

@@ -3,7 +3,7 @@ use Rattle.std.proofs.Common.{◌≡◌, ◌≢◌, ◌/◌, sym, refl, ap, ℕ,
 use Rattle.fish_rule.specs.Steps.{kind_told}
 use Rattle.fish_rule.specs.World.{high}
 use Rattle.fish_rule.specs.declared.view.Kind.TheVariants.{Mark}
-use Rattle.fish_rule.proofs.close.kind_of_word.Goals as goal
+use Rattle.fish_rule.proofs.word.kind_of_word.Goals as goal
 
 -- another code is a mark's
 other : (x : ℕ) → x ≢ 1 → x ≢ 2 → Mark ≡ kind_told x

@@ -1,0 +1,32 @@
+//! Where the areas of a table lie among its words.
+//!
+//! Behind the tail and the settled number come the version, the count of opened rows, 16 epochs, 512
+//! operations, 256 rows of 39 words, the heads of the chains, the directory and the log.
+
+ghost use Rattle.std.specs.Prelude.{◌≡◌};
+ghost use Rattle.fish_rule.specs.Parts.{Fits};
+ghost use Rattle.fish_rule.specs.World.{dir_at as first_directory_word, log_at as first_log_word};
+
+use crate::view::Key;
+
+/// The lines of a page.
+pub(crate) const PAGE_LINES: u64 = 32_768;
+
+/// The first head.
+pub(crate) const HEADS: u64 = 10_516;
+
+/// The first directory word of a table.
+pub(crate) fn dir_at(key: Key) -> u64
+    requires { Fits key }
+    ensures { result ≡ first_directory_word key }
+{
+    HEADS + key.buckets
+}
+
+/// The first word of the log of a table.
+pub(crate) fn log_at(key: Key) -> u64
+    requires { Fits key }
+    ensures { result ≡ first_log_word key }
+{
+    dir_at(key) + (key.end - key.line + 16)
+}
