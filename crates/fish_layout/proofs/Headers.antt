@@ -5,7 +5,8 @@ use Rattle.fish_value.specs.declared.field.Form.TheVariants.{Json, Csv}
 use Rattle.fish_layout.specs.Header.{form_code, form_of, keys_of, lane_of, length_of, lines_of, version_of, void_word}
 use Rattle.fish_layout.specs.Headers.{IsHeader, IsHeaderOf, IsRecordHeader, IsVoidHeader}
 use Rattle.fish_layout.specs.declared.header.Header.{Header}
-use Rattle.fish_layout.proofs.Fields.{FitHeader, form_code_fits, form_of-header, keys_of-header, lane_of-header, length_of-header, lines_of-header, version_of-header}
+use Rattle.fish_layout.proofs.Fields.{FitHeader, form_code_fits, form_of-header, keys_of-header}
+use Rattle.fish_layout.proofs.Fields.{lane_of-header, length_of-header, lines_of-header, version_of-header}
 
 -- the fields of a word are those of a header
 pub record Says (w : ℕ) (h : Header) : Type 0 where

@@ -1,9 +1,12 @@
 -- What the three words of a key entry say.
-use Rattle.std.proofs.Common.{◌≡◌, ℕ, zero, suc, ◌+◌, ◌*◌, ◌^◌, ◌<◌, List, [], ◌∷◌, ◌++◌, length, get_or, take, drop, sym, ap, ◌∙◌, arith, length-append}
+use Rattle.std.proofs.Common.{◌≡◌, ℕ, zero, suc, ◌+◌, ◌*◌, ◌^◌, ◌<◌}
+use Rattle.std.proofs.Common.{List, [], ◌∷◌, ◌++◌, length, get_or, take, drop}
+use Rattle.std.proofs.Common.{sym, ap, ◌∙◌, arith, length-append}
 use Rattle.std.proofs.lemmas.List.{get_or-drop}
 use Rattle.fish_value.specs.declared.value.Value.{Value}
 use Rattle.fish_value.specs.declared.value.Value.TheVariants as kind
-use Rattle.fish_layout.specs.Body.{IsBody, IsProper, body_header, body_words, entry_word, key_words, packed_value, value_word, values_of}
+use Rattle.fish_layout.specs.Body.{IsBody, IsProper, body_header, body_words, entry_word}
+use Rattle.fish_layout.specs.Body.{key_words, packed_value, value_word, values_of}
 use Rattle.fish_layout.specs.Cleared.{Spells, entry_at}
 use Rattle.fish_layout.specs.Entry.{entry_id, entry_number, entry_place, value_kind, value_offset, value_size}
 use Rattle.fish_layout.specs.Values.{kind_code, value_bytes}

@@ -1,3 +1,4 @@
+pub mod Buckets
 pub mod Bytes
 pub mod Candidates
 pub mod Clearing

@@ -1,6 +1,9 @@
 -- Records that differ in the previous nodes of their key entries alone.
-use Rattle.std.proofs.Common.{◌≡◌, ℕ, zero, suc, ◌+◌, ◌-◌, ◌*◌, ◌/◌, ◌%◌, ◌<◌, List, [], ◌∷◌, ◌++◌, length, get_or, replicate, refl, ap, sym, ◌∙◌, arith, append_assoc}
-use Rattle.fish_layout.specs.Body.{AreProperKeys, IsProper, body_header, body_lines, body_words, key_words, values_of, words_behind}
+use Rattle.std.proofs.Common.{◌≡◌, ℕ, zero, suc, ◌+◌, ◌-◌, ◌*◌, ◌/◌, ◌%◌, ◌<◌}
+use Rattle.std.proofs.Common.{List, [], ◌∷◌, ◌++◌, length, get_or, replicate}
+use Rattle.std.proofs.Common.{refl, ap, sym, ◌∙◌, arith, append_assoc}
+use Rattle.fish_layout.specs.Body.{AreProperKeys, IsProper, body_header, body_lines}
+use Rattle.fish_layout.specs.Body.{body_words, key_words, values_of, words_behind}
 use Rattle.fish_layout.specs.Bytes.{words_of_bytes}
 use Rattle.fish_layout.specs.Cleared.{AreUnlinked, IsKeyWord, unlink, unlinked}
 use Rattle.fish_layout.specs.Header.{form_code, header_word}

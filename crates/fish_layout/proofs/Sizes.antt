@@ -1,10 +1,12 @@
 -- How many words the parts of a record take.
-use Rattle.std.proofs.Common.{◌≡◌, ℕ, ◌+◌, ◌-◌, ◌*◌, ◌≤◌, List, [], ◌∷◌, ◌++◌, length, replicate, refl, arith, length-append}
+use Rattle.std.proofs.Common.{◌≡◌, ℕ, ◌+◌, ◌-◌, ◌*◌, ◌≤◌}
+use Rattle.std.proofs.Common.{List, [], ◌∷◌, ◌++◌, length, replicate, refl, arith, length-append}
 use Rattle.std.proofs.lemmas.List.{length-replicate}
 use Rattle.std.proofs.lemmas.List.FromFn.{length-map-range_with_len}
 use Rattle.fish_value.specs.declared.value.Value.{Value}
 use Rattle.fish_value.specs.declared.value.Value.TheVariants as kind
-use Rattle.fish_layout.specs.Body.{AreProperKeys, IsProper, IsProperValue, body_lines, body_words, key_words, values_of, words_behind}
+use Rattle.fish_layout.specs.Body.{AreProperKeys, IsProper, IsProperValue, body_lines}
+use Rattle.fish_layout.specs.Body.{body_words, key_words, values_of, words_behind}
 use Rattle.fish_layout.specs.Bytes.{word_at, words_for, words_of_bytes}
 use Rattle.fish_layout.specs.Values.{value_bytes}
 use Rattle.fish_layout.specs.declared.parts.BodyParts.{BodyParts}

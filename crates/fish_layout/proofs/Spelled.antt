@@ -1,14 +1,18 @@
 -- What the words of a record say of its parts.
-use Rattle.std.proofs.Common.{◌≡◌, ℕ, ◌+◌, ◌-◌, ◌*◌, ◌%◌, ◌<◌, ◌≤◌, List, length, get_or, refl, ap, sym, ◌∙◌, subst, arith}
+use Rattle.std.proofs.Common.{◌≡◌, ℕ, ◌+◌, ◌-◌, ◌*◌, ◌%◌, ◌<◌, ◌≤◌}
+use Rattle.std.proofs.Common.{List, length, get_or, refl, ap, sym, ◌∙◌, subst, arith}
 use Rattle.std.proofs.lemmas.List.{ext_get_or, get_or_past}
 use Rattle.std.proofs.Math.Decide.{ℕ_discrete, dec_le}
 use Rattle.fish_layout.specs.Body.{IsBody, IsProper, body_header, body_lines, body_words}
 use Rattle.fish_layout.specs.Cleared.{IsKeyWord, Spells, body_of, cleared, unlinked}
 use Rattle.fish_layout.specs.Header.{form_code, form_of, keys_of, lane_of, length_of, lines_of, version_of}
 use Rattle.fish_layout.specs.declared.parts.BodyParts.{BodyParts}
-use Rattle.fish_layout.proofs.Fields.{FitHeader, form_code_fits, form_of-header, keys_of-header, lane_of-header, length_of-header, lines_of-header, version_of-header}
+use Rattle.fish_layout.proofs.Fields.{FitHeader, form_code_fits, form_of-header, keys_of-header}
+use Rattle.fish_layout.proofs.Fields.{lane_of-header, length_of-header, lines_of-header, version_of-header}
 use Rattle.fish_layout.proofs.Clearing.{cleared_at, cleared_behind, cleared_head, cleared_key}
-use Rattle.fish_layout.proofs.Links.{AreUnlinked-unlink, relink-none, relink-relink, relinked, relinked_at, relinked_key, relinked_lines, relinked_proper, unlink-unlinked, unlinked_is}
+use Rattle.fish_layout.proofs.Links.{AreUnlinked-unlink, relink-none, relink-relink, relinked}
+use Rattle.fish_layout.proofs.Links.{relinked_at, relinked_key, relinked_lines, relinked_proper}
+use Rattle.fish_layout.proofs.Links.{unlink-unlinked, unlinked_is}
 use Rattle.fish_layout.proofs.Sizes.{few_keys_of, length-body_words}
 pub use Rattle.fish_layout.proofs.Sizes.{few_lines, roomy, some_lines}
 

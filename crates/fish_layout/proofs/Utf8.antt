@@ -1,5 +1,7 @@
 -- Texts and values are bytes: no number in them is above 255.
-use Rattle.std.proofs.Common.{◌≡◌, ℕ, zero, suc, ◌+◌, ◌/◌, ◌^◌, ◌<◌, Bool, true, false, ◌&&◌, cond, ltb, List, [], ◌∷◌, ◌++◌, get_or, refl, subst, arith, inl, inr}
+use Rattle.std.proofs.Common.{◌≡◌, ℕ, zero, suc, ◌+◌, ◌/◌, ◌^◌, ◌<◌}
+use Rattle.std.proofs.Common.{Bool, true, false, ◌&&◌, cond, ltb, List, [], ◌∷◌, ◌++◌, get_or}
+use Rattle.std.proofs.Common.{refl, subst, arith, inl, inr}
 use lib.Utf8.{encode, encodes, next, scalar, scalars, scalar_cases}
 use Rattle.std.specs.Prelude.{IsUtf8}
 use Rattle.std.specs.Int.{byte_at, to_le_bytes}

@@ -1,5 +1,6 @@
 -- The words of a record, from its parts.
-use Rattle.std.specs.Prelude.{ℕ, ◌≡◌, ◌+◌, ◌-◌, ◌*◌, ◌/◌, ◌^◌, ◌<◌, ◌≤◌, List, [], ◌∷◌, ◌++◌, length, replicate, IsTrue, IsUtf8, ⊤}
+use Rattle.std.specs.Prelude.{ℕ, ◌≡◌, ◌+◌, ◌-◌, ◌*◌, ◌/◌, ◌^◌, ◌<◌, ◌≤◌}
+use Rattle.std.specs.Prelude.{List, [], ◌∷◌, ◌++◌, length, replicate, IsTrue, IsUtf8, ⊤}
 use Rattle.std.specs.List.{flat_map}
 use Rattle.fish_value.specs.Number.{fits_i64}
 use Rattle.fish_value.specs.declared.value.Value.{Value}

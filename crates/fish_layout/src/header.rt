@@ -5,7 +5,9 @@ ghost use Rattle.fish_layout.specs.Header.{void_word};
 ghost use Rattle.fish_layout.specs.Headers.{IsHeader, AreWithinLimits, IsRecordHeader, IsVoidHeader};
 
 use crate::parts::{MAX_KEYS, MAX_LANE, MAX_PAYLOAD, MAX_VERSION};
-use crate::word::{form_in, keys_in, lane_in, length_in, lines_in, pack_header, version_in};
+use crate::word::{
+    form_in, keys_in, lane_in, length_in, lines_in, pack_header, pack_void, version_in,
+};
 use fish_value::Form;
 
 /// What a header says of its region.
@@ -30,7 +32,7 @@ pub fn void_header(lines: u64) -> u64
     requires { (1 ≤ lines) × (lines ≤ 65535) }
     ensures { result ≡ void_word lines }
 {
-    lines + 0x2_0000
+    pack_void(lines)
 }
 
 /// What a header says, or none where the word is no header.

@@ -1,6 +1,7 @@
 //! Words as key entries.
 
-ghost use Rattle.std.specs.Prelude.{◌≡◌, ◌+◌, ◌*◌, ◌<◌, ◌≤◌, ◌^◌, Bool, ℤ, IfOk, IfSome, IsTrue, IsUtf8, Some, length, slice_index_or};
+ghost use Rattle.std.specs.Prelude.{◌≡◌, ◌+◌, ◌*◌, ◌<◌, ◌≤◌, ◌^◌, Bool, ℤ, IfOk, IfSome};
+ghost use Rattle.std.specs.Prelude.{IsTrue, IsUtf8, Some, length, slice_index_or};
 ghost use Rattle.fish_layout.specs.Body.{IsBody, IsProperValue, values_of};
 ghost use Rattle.fish_layout.specs.Values.{kind_code, value_bytes};
 ghost use Rattle.fish_layout.specs.declared.parts.BodyParts.{BodyParts};

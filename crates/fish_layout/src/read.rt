@@ -1,6 +1,7 @@
 //! Words as parts: the decoding of a record.
 
-ghost use Rattle.std.specs.Prelude.{◌≡◌, ◌+◌, ◌*◌, ◌/◌, ◌<◌, ◌≤◌, ◌^◌, ◌↔◌, IfOk, IfSome, IsSome, IsTrue, IsUtf8, MatchOption, Some, length};
+ghost use Rattle.std.specs.Prelude.{◌≡◌, ◌+◌, ◌*◌, ◌/◌, ◌<◌, ◌≤◌, ◌^◌, ◌↔◌, IfOk, IfSome};
+ghost use Rattle.std.specs.Prelude.{IsSome, IsTrue, IsUtf8, MatchOption, Some, length};
 ghost use Rattle.fish_layout.specs.Body.{IsBody, IsProperValue, values_of};
 ghost use Rattle.fish_layout.specs.Bytes.{bytes_in, words_for as words_for_bytes};
 ghost use Rattle.fish_layout.specs.Values.{kind_code, value_bytes};

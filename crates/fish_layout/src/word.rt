@@ -1,12 +1,13 @@
 //! Where the fields of packed words lie: headers, and the second and third words of key entries.
 //!
-//! Every word of a record is made and read here, by division and remainder. Nothing else in the
+//! Each of these words is made and read here, by division and remainder. Nothing else in the
 //! crate knows a bit.
 
 ghost use Rattle.std.specs.Prelude.{◌≡◌, ◌<◌, ◌≤◌, ◌^◌};
 ghost use Rattle.fish_layout.specs.Body.{entry_word, packed_value};
 ghost use Rattle.fish_layout.specs.Entry.{entry_id, entry_number, renumbered, value_kind, value_offset, value_size};
-ghost use Rattle.fish_layout.specs.Header.{form_code, form_of, header_word, keys_of, lane_of, length_of, lines_of, version_of};
+ghost use Rattle.fish_layout.specs.Header.{form_code, form_of, header_word, keys_of, lane_of, length_of, lines_of};
+ghost use Rattle.fish_layout.specs.Header.{version_of, void_word};
 
 use crate::header::Header;
 use fish_value::Form;
@@ -90,6 +91,14 @@ pub(crate) fn pack_header(form: Form, header: &Header) -> u64
         + u64::from(header.lane) * 0x800_0000
         + u64::from(header.version) * 0x1_0000_0000
         + u64::from(header.length) * 0x400_0000_0000
+}
+
+/// The header of a void of so many lines.
+pub(crate) fn pack_void(lines: u64) -> u64
+    requires { (1 ≤ lines) × (lines ≤ 65535) }
+    ensures { result ≡ void_word lines }
+{
+    lines + 0x2_0000
 }
 
 /// The second word of a key entry: the record's number, the definition and the entry's place.

@@ -1,7 +1,9 @@
 //! Parts as words: the encoding of a record.
 
 ghost use Rattle.std.specs.Prelude.{◌≡◌, ◌+◌, ◌<◌, ◌≤◌, ◌^◌, ◌++◌, ◌∷◌, [], IfOk, OnOk, length, slice_index};
-ghost use Rattle.fish_layout.specs.Body.{AreProperKeys, IsProper, IsProperValue, body_header, body_lines, body_words, entry_word, key_words, value_word, values_of, words_behind};
+ghost use Rattle.fish_layout.specs.Body.{AreProperKeys, IsProper, IsProperValue, body_header};
+ghost use Rattle.fish_layout.specs.Body.{body_lines, body_words, entry_word, key_words};
+ghost use Rattle.fish_layout.specs.Body.{value_word, values_of, words_behind};
 ghost use Rattle.std.specs.Int.{from_le_bytes};
 ghost use Rattle.std.specs.Int.Width.{w64};
 ghost use Rattle.fish_layout.specs.Bytes.{words_for as words_for_bytes, words_of_bytes};

@@ -2,7 +2,10 @@
 use Rattle.std.proofs.Common.{◌≡◌, true, arith}
 use Rattle.fish_layout.proofs.Headers.{header_says}
 use Rattle.fish_layout.proofs.header.read_record_header.Goals as goal
-use Rattle.fish_layout.proofs.header.read_record_header.Goals.{else-has_limits-via-then-has_limits+else-pack_header-word, else-has_limits-via-else-has_limits}
+use Rattle.fish_layout.proofs.header.read_record_header.Goals.{
+  else-has_limits-via-then-has_limits+else-pack_header-word,
+  else-has_limits-via-else-has_limits,
+}
 
 pub returns-else-has_limits : goal.returns-else-has_limits
 returns-else-has_limits c some =

@@ -3,7 +3,10 @@ use Rattle.std.proofs.Common.{◌≡◌, ◌∙◌, arith, ap}
 use Rattle.fish_layout.specs.Header.{lines_of}
 use Rattle.fish_layout.proofs.Headers.{lines_of-void}
 use Rattle.fish_layout.proofs.header.read_void_header.Goals as goal
-use Rattle.fish_layout.proofs.header.read_void_header.Goals.{then-lines-lt1-via-then-lines-lt1, then-lines-lt1-via-else-lines-lt1+then-void_header-word}
+use Rattle.fish_layout.proofs.header.read_void_header.Goals.{
+  then-lines-lt1-via-then-lines-lt1,
+  then-lines-lt1-via-else-lines-lt1+then-void_header-word,
+}
 
 pub returns-then-lines-lt1 : goal.returns-then-lines-lt1
 returns-then-lines-lt1 c some =
