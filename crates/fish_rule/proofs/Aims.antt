@@ -38,7 +38,7 @@ module _ (k : Key) (w : World) (r : Rule k w) (id : ℕ) (v : View) (at : get_el
 
   -- the record in flight stands in the log
   pub own_body : body w.log f.line ≡ body_of f.words
-  own_body = body_stored w.log f.words v.lane f.number f.lines f.line f.linked can.record_of can.full lines_some
+  own_body = body_stored v.about w.log f.words v.lane f.number f.lines f.line f.linked can.record_of can.full lines_some
       (let m = can.more in omega arith) own.written
 
   -- the entry is within the region

@@ -19,7 +19,7 @@ use Rattle.fish_rule.proofs.Room.{few_lines, few_numbers, few_slots}
 use Rattle.fish_rule.proofs.Worlds.{area-in, world-dir, world-log, world-tail}
 use Rattle.fish_rule.specs.Regions.{dir_word, kind_of}
 use Rattle.fish_rule.specs.Rule.{Rule}
-use Rattle.fish_rule.specs.Steps.{CanClaim, CanLook, CanPublish, CanStore, after_claim, after_end, after_look,
+use Rattle.fish_rule.specs.Steps.{CanClaim, CanLook, CanPublish, CanStore, IsReady, after_claim, after_end, after_look,
     after_publish, after_store, flight_kind}
 use Rattle.fish_rule.specs.Table.{Ruled, Sat, Stands, Told, ToldEnd, ToldLook, number_at, told_claim,
     told_publish, told_store}
@@ -143,7 +143,9 @@ publish_allowed given k same size id me f i x about can is word =
     let room = few_slots k w r in
     let ends : kind_of k.end f.line (f.line + f.lines) ≡ flight_kind me.0 f =
         ap (λ (z : Key). kind_of z.end f.line (f.line + f.lines)) (sym about) in
-    let kept' = publish_kept k w r id me.0 at f can.live can.flying (flight_kind me.0 f) ends can.ready in
+    let ready : IsReady k (flight_kind me.0 f) me.0.lane f =
+        subst (λ (z : Key). IsReady z (flight_kind me.0 f) me.0.lane f) about can.ready in
+    let kept' = publish_kept k w r id me.0 at f can.live can.flying (flight_kind me.0 f) ends ready in
     let kept : Rule k (record w { dir = put w.dir f.number x; views = set vs id v' }) =
     subst (λ (z : ℕ × Key). Rule k (record w { dir = put w.dir f.number z.0;
         views = set vs id (Rattle.fish_rule.proofs.Flights.publisher_at me.0 f z.1) }))

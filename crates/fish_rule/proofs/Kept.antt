@@ -64,7 +64,7 @@ module _ (k : Key) (w w' : World) (start start' lane_of lane_of' : ℕ → ℕ)
         line = subst (λ (z : ℕ × ℕ). low z.0 ≡ z.1) (λ i. (sym d i, sym a i)) h.line;
         lined = subst (λ (z : ℕ × ℕ × (ℕ → ℕ)). lines_of (z.2 0) ≤ z.1 - z.0)
             (λ i. (sym a i, sym b i, sym e i)) h.lined;
-        holds = subst (λ (z : ℕ × ℕ × ℕ × (ℕ → ℕ)). Holds (kind_of k.end z.0 z.1) z.2 n (z.1 - z.0) z.3)
+        holds = subst (λ (z : ℕ × ℕ × ℕ × (ℕ → ℕ)). Holds k (kind_of k.end z.0 z.1) z.2 n (z.1 - z.0) z.3)
             (λ i. (sym a i, sym b i, sym l i, sym e i)) h.holds;
       }
 

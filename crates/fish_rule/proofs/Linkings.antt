@@ -178,7 +178,9 @@ module _ (k : Key) (w : World) (r : Rule k w) (id : ℕ) (v : View) (at : get_el
         kind = (let about : v.about ≡ k = r.about id v at own.live in
             subst (λ (z : Key). kind_of z.end f.line (f.line + f.lines) ≡ Stored) about can.kind);
         full = can.full;
-        record_of = subst (IsRecord v.lane f.number f.lines) (sym own_stays) can.record_of;
+        record_of = subst (IsRecord k v.lane f.number f.lines) (sym own_stays)
+            (let about : v.about ≡ k = r.about id v at own.live in
+            subst (λ (z : Key). IsRecord z v.lane f.number f.lines (body_of f.words)) about can.record_of);
         upto = subst (λ (z : ℕ → ℕ). suc f.linked ≤ keys_of (z 0)) (sym own_stays) can.more;
       };
     }

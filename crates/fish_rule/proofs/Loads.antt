@@ -32,12 +32,12 @@ use Rattle.fish_rule.specs.declared.view.Kind.TheVariants.{Mark, Stored, Void}
 use Rattle.fish_rule.specs.declared.view.View.{View}
 
 -- the header of a region that isn't a mark tells its lines
-pub lined_whole : (kind : Kind) (lane n lines : ℕ) (e : ℕ → ℕ) → kind ≢ Mark → lines < 65536
-    → Holds kind lane n lines e → lines_of (e 0) ≡ lines
-lined_whole Stored lane n lines e ne few h = spelled_lines h.1.spells ∙ h.1.lines_is
-lined_whole Void lane n lines e ne few h = ap (λ (f : ℕ → ℕ). lines_of (f 0)) h ∙ ap lines_of (void-head lines)
+pub lined_whole : (k : Key) (kind : Kind) (lane n lines : ℕ) (e : ℕ → ℕ) → kind ≢ Mark → lines < 65536
+    → Holds k kind lane n lines e → lines_of (e 0) ≡ lines
+lined_whole k Stored lane n lines e ne few h = spelled_lines h.1.spells ∙ h.1.lines_is
+lined_whole k Void lane n lines e ne few h = ap (λ (f : ℕ → ℕ). lines_of (f 0)) h ∙ ap lines_of (void-head lines)
     ∙ lines_of-void lines few
-lined_whole Mark lane n lines e ne few h = absurd (ne refl)
+lined_whole k Mark lane n lines e ne few h = absurd (ne refl)
 
 module _ (k : Key) (w : World) (r : Rule k w) where
   -- a region that was found is the one that its number has
@@ -58,7 +58,7 @@ module _ (k : Key) (w : World) (r : Rule k w) where
       let small = r.space.regions.small x.number h.above h.below in
       let size : r.start (suc x.number) - r.start x.number ≡ x.lines = omega arith in
       let holds = t.0.holds in
-      lined_whole _ _ x.number _ _ (λ e. ne (sym t.1 ∙ e)) (omega arith) holds ∙ size
+      lined_whole k _ _ x.number _ _ (λ e. ne (sym t.1 ∙ e)) (omega arith) holds ∙ size
 
   -- a word that is known at a place of a region that was found is that of its body there
   pub word_known : (x : Found) (i h : ℕ) → IsFound k w.count w.dir r.start x → i < x.lines * 4

@@ -222,7 +222,7 @@ module _ (k : Key) (w : World) (r : Rule k w) (id : ℕ) (v : View) (at : get_el
       whole_still some_ h = (let e = own_stays some_ in let l = (becomes.linking some_).1 in record {
         kind = h.kind;
         full = l ∙ h.full;
-        record_of = subst (IsRecord v.lane f.number f.lines) (sym e) h.record_of;
+        record_of = subst (IsRecord k v.lane f.number f.lines) (sym e) h.record_of;
         upto = subst (λ (z : ℕ → ℕ). f.linked ≤ keys_of (z 0)) (sym e) h.upto;
       })
 

@@ -66,7 +66,7 @@ small_line k w r f lane h = pick (Rattle.std.proofs.Math.Decide.dec_le f.number 
 module _ (k : Key) (w : World) (r : Rule k w) (id : ℕ) (v : View) (at : get_elem? w.views id ≡ some v)
     (f : Flight) (live : 1 ≤ v.lane) (flying : v.flight ≡ Some f) (kind : Kind)
     (is_kind : kind_of k.end f.line (f.line + f.lines) ≡ kind)
-    (ready : IsReady kind v.lane f) where
+    (ready : IsReady k kind v.lane f) where
   -- the view afterwards
   abbrev pub publisher : View
   publisher = record v {
@@ -147,9 +147,9 @@ module _ (k : Key) (w : World) (r : Rule k w) (id : ℕ) (v : View) (at : get_el
       → Shows k w.dir w.views a c
   shows_before a c few (inl s) = pick (ℕ_discrete s.number f.number)
     where
-      all_linked : (kd : Kind) → kd ≡ Stored → IsReady kd v.lane f → f.linked ≡ keys_of (body w.log f.line 0)
+      all_linked : (kd : Kind) → kd ≡ Stored → IsReady k kd v.lane f → f.linked ≡ keys_of (body w.log f.line 0)
       all_linked Stored e h = h.2 ∙ ap (λ (z : ℕ → ℕ). keys_of (z 0))
-          (sym (body_stored w.log f.words v.lane f.number f.lines f.line f.linked h.1 h.0 sized.0
+          (sym (body_stored k w.log f.words v.lane f.number f.lines f.line f.linked h.1 h.0 sized.0
           (let q = h.2 in omega arith) own.written))
       all_linked Void e h = cc
       all_linked Mark e h = cc
@@ -188,15 +188,15 @@ module _ (k : Key) (w : World) (r : Rule k w) (id : ℕ) (v : View) (at : get_el
   }
 
   -- what the region holds
-  filled : (kd : Kind) → IsReady kd v.lane f → (lines_of (body w.log f.line 0) ≤ f.lines)
-      × Holds kd v.lane f.number f.lines (body w.log f.line)
+  filled : (kd : Kind) → IsReady k kd v.lane f → (lines_of (body w.log f.line 0) ≤ f.lines)
+      × Holds k kd v.lane f.number f.lines (body w.log f.line)
   filled Stored h =
       let e : body w.log f.line ≡ body_of f.words =
-          body_stored w.log f.words v.lane f.number f.lines f.line f.linked h.1 h.0 sized.0
+          body_stored k w.log f.words v.lane f.number f.lines f.line f.linked h.1 h.0 sized.0
           (let q = h.2 in omega arith) own.written in
       let lined : lines_of (body_of f.words 0) ≡ f.lines = spelled_lines h.1.1.spells ∙ h.1.1.lines_is in
       (subst (λ (z : ℕ → ℕ). lines_of (z 0) ≤ f.lines) (sym e) (omega arith),
-          subst (IsRecord v.lane f.number f.lines) (sym e) h.1)
+          subst (IsRecord k v.lane f.number f.lines) (sym e) h.1)
   filled Void h =
       let s = sized in
       let header : w.log (f.line * 4 + 0) ≡ void_word f.lines =
@@ -226,9 +226,9 @@ module _ (k : Key) (w : World) (r : Rule k w) (id : ℕ) (v : View) (at : get_el
         line = ap low dir_here ∙ low-pack (code kind) f.line (small_line k w r f v.lane own) ∙ sym a;
         lined = subst (λ (z : ℕ × ℕ). lines_of (body w.log z.0 0) ≤ z.1 - z.0) (λ i. (sym a i, sym b i))
             (subst (λ (z : ℕ). lines_of (body w.log f.line 0) ≤ z) (sym size) h.0);
-        holds = subst (λ (z : ℕ × ℕ × ℕ). Holds (kind_of k.end z.0 z.1) z.2 f.number (z.1 - z.0)
+        holds = subst (λ (z : ℕ × ℕ × ℕ). Holds k (kind_of k.end z.0 z.1) z.2 f.number (z.1 - z.0)
             (body w.log z.0)) (λ i. (sym a i, sym b i, sym own.owner i))
-            (subst (λ (z : Kind × ℕ). Holds z.0 v.lane f.number z.1 (body w.log f.line))
+            (subst (λ (z : Kind × ℕ). Holds k z.0 v.lane f.number z.1 (body w.log f.line))
                 (λ i. (sym is_kind i, sym size i)) h.1);
       }
 
@@ -339,7 +339,7 @@ module _ (k : Key) (w : World) (r : Rule k w) (id : ℕ) (v : View) (at : get_el
       (record { number = f.number; kind = kind; line = f.line; lines = f.lines })
   found_here = record { above = own.above; below = own.below; kind = kind_here; line = own.line; lines = own.lines }
 
-  records_here : (kd : Kind) → kind ≡ kd → IsReady kd v.lane f
+  records_here : (kd : Kind) → kind ≡ kd → IsReady k kd v.lane f
       → AllOf (IsRecorded k w.count dir' w.log r.start) (records_after kd f v.learned.records)
   records_here Stored is h = (
     record {
@@ -347,7 +347,7 @@ module _ (k : Key) (w : World) (r : Rule k w) (id : ℕ) (v : View) (at : get_el
       below = own.below;
       stored = kind_here ∙ ap code is;
       words = ap (body w.log) own.line
-          ∙ body_stored w.log f.words v.lane f.number f.lines f.line f.linked h.1 h.0 sized.0
+          ∙ body_stored k w.log f.words v.lane f.number f.lines f.line f.linked h.1 h.0 sized.0
           (let q = h.2 in omega arith) own.written;
     },
     (facts_later k w publication r.start r.start r.lane_of r.lane_of publish_final v.learned (r.facts id v at)).records,

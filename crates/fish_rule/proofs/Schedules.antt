@@ -18,7 +18,7 @@ use Rattle.fish_rule.specs.Machine.{Event, EverySchedule, EveryStepIsFinal, Exch
 use Rattle.fish_rule.specs.Regions.{dir_word, kind_of}
 use Rattle.fish_rule.specs.Rule.{Final, Rule}
 use Rattle.fish_rule.specs.Start.{empty_world}
-use Rattle.fish_rule.specs.Steps.{after_look, flight_kind}
+use Rattle.fish_rule.specs.Steps.{IsReady, after_look, flight_kind}
 use Rattle.fish_rule.specs.World.{World, put}
 use Rattle.fish_rule.specs.declared.view.Key.{Key}
 
@@ -47,11 +47,13 @@ event_lasts k (stores id x) w u r g = (let v = g.0 in let f = g.1 in let s = g.2
 event_lasts k (publishes id) w u r g = (let v = g.0 in let f = g.1 in let s = g.2 in let can = g.3 in
     let ends_ : kind_of k.end f.line (f.line + f.lines) ≡ flight_kind v f =
         ap (λ (z : Key). kind_of z.end f.line (f.line + f.lines)) (sym s.about) in
+    let ready : IsReady k (flight_kind v f) v.lane f =
+        subst (λ (z : Key). IsReady z (flight_kind v f) v.lane f) s.about can.ready in
     lasts_at k w r u _ g.4 (subst (λ (z : Key). Lasts k w r
         (record w { dir = put w.dir f.number (dir_word (flight_kind v f) f.line);
         views = set w.views id (publisher_at v f z) })) (sym s.about)
-    (publish_kept k w r id v s.at f can.live can.flying (flight_kind v f) ends_ can.ready,
-        publish_lasts k w r id v s.at f can.live can.flying (flight_kind v f) ends_ can.ready)))
+    (publish_kept k w r id v s.at f can.live can.flying (flight_kind v f) ends_ ready,
+        publish_lasts k w r id v s.at f can.live can.flying (flight_kind v f) ends_ ready)))
 event_lasts k (looks id n) w u r g = (let v = g.0 in let s = g.2 in
     lasts_at k w r u _ g.5 (subst (λ (z : ℕ). Lasts k w r
         (record w { views = set w.views id (after_look v n z (w.dir n)) })) (sym (g.4 r))

@@ -177,7 +177,7 @@ module _ (k : Key) (w : World) (r : Rule k w) (id : ℕ) (v : View) (at : get_el
       whole_stays some_ = (let whole = h.whole some_ in let e = body_stays some_ in record {
         kind = whole.kind;
         full = whole.full;
-        record_of = subst (IsRecord u.lane g.number g.lines) (sym e) whole.record_of;
+        record_of = subst (IsRecord k u.lane g.number g.lines) (sym e) whole.record_of;
         upto = subst (λ (z : ℕ → ℕ). g.linked ≤ keys_of (z 0)) (sym e) whole.upto;
       })
 

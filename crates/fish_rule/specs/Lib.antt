@@ -1,6 +1,7 @@
 pub mod Chains
 pub mod Facts
 pub mod Flying
+pub mod Keys
 pub mod Linking
 pub mod Logs
 pub mod Machine

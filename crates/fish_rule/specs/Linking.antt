@@ -94,7 +94,7 @@ pub record CanAim (v : View) (f : Flight) : Type 0 where
   pub flying : v.flight ≡ Some f
   pub kind : flight_kind v f ≡ Stored
   pub full : length f.words ≡ f.lines * 4
-  pub record_of : IsRecord v.lane f.number f.lines (body_of f.words)
+  pub record_of : IsRecord v.about v.lane f.number f.lines (body_of f.words)
   pub more : f.linked < keys_of (body_of f.words 0)
 
 -- a record in flight whose next entry is aimed at a place

@@ -95,5 +95,14 @@ unlearned = record { count = 0; settled = 0; found = []; known = []; records = [
 
 -- the view of a pass that was joined
 abbrev pub spent : View
-spent = record { about = record { number = 0; line = 0; end = 0; buckets = 0 }; lane = 0; out = [];
-    shut = None; flight = None; tail = None; own = []; learned = unlearned; clock = fresh }
+spent = record {
+  about = record { number = 0; line = 0; end = 0; buckets = 0; rows = record { marker = record { }; value = [] } };
+  lane = 0;
+  out = [];
+  shut = None;
+  flight = None;
+  tail = None;
+  own = [];
+  learned = unlearned;
+  clock = fresh;
+}

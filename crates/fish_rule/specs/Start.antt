@@ -1,7 +1,10 @@
 -- The shape of a log, and the words of one that holds no record.
 use Rattle.std.specs.Prelude.{ℕ, ◌≡◌, ◌+◌, ◌*◌, ◌^◌, ◌<◌, ◌≤◌, List, [], ◌∷◌, length, slice_index}
+use Rattle.fish_catalog.specs.declared.row.CatRow.{CatRow}
 use Rattle.fish_rule.specs.Table.{first_view}
 use Rattle.fish_rule.specs.World.{World, total}
+use Rattle.fish_rule.specs.declared.seats.Start.{Start}
+use Rattle.fish_rule.specs.declared.seats.Start.TheVariants.{Empty}
 use Rattle.fish_rule.specs.declared.table.Shape.{Shape}
 use Rattle.fish_rule.specs.declared.view.Key.{Key}
 
@@ -18,9 +21,17 @@ pub record IsShape (s : Shape) : Type 0 where
   pub some_bits : 4 ≤ s.bucket_bits
   pub few_bits : s.bucket_bits ≤ 16
 
--- the key of an empty log of this shape
-abbrev pub first_key : Shape → Key
-first_key s = record { number = 0; line = 0; end = s.pages * 32768; buckets = 2 ^ s.bucket_bits }
+-- the definitions that a log begins with
+abbrev pub rows_of : Start → List CatRow
+rows_of (Empty catalog) = catalog
+
+-- the key of an empty log of this shape, with these definitions
+pub record IsFirstKey (s : Shape) (catalog : List CatRow) (k : Key) : Type 0 where
+  pub number : k.number ≡ 0
+  pub line : k.line ≡ 0
+  pub end : k.end ≡ s.pages * 32768
+  pub buckets : k.buckets ≡ 2 ^ s.bucket_bits
+  pub rows : k.rows.value ≡ catalog
 
 -- an empty log and its control pass
 abbrev pub empty_world : Key → World

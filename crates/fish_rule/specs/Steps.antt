@@ -10,6 +10,7 @@ use Rattle.fish_rule.specs.World.{high, low}
 use Rattle.fish_rule.specs.declared.view.Clock.{Clock}
 use Rattle.fish_rule.specs.declared.view.Flight.{Flight}
 use Rattle.fish_rule.specs.declared.view.Found.{Found}
+use Rattle.fish_rule.specs.declared.view.Key.{Key}
 use Rattle.fish_rule.specs.declared.view.Kind.{Kind}
 use Rattle.fish_rule.specs.declared.view.Kind.TheVariants.{Mark, Stored, Void}
 use Rattle.fish_rule.specs.declared.view.Learned.{Learned}
@@ -77,17 +78,17 @@ flight_kind v f = kind_of v.about.end f.line (f.line + f.lines)
 
 -- what is stored of a region before it may be published: all words of a record of this lane, with
 -- all its entries linked; of a void its header; of a mark nothing
-abbrev pub IsReady : Kind → ℕ → Flight → Type 0
-IsReady Stored lane f = (length f.words ≡ f.lines * 4) × IsRecord lane f.number f.lines (body_of f.words)
+abbrev pub IsReady : Key → Kind → ℕ → Flight → Type 0
+IsReady k Stored lane f = (length f.words ≡ f.lines * 4) × IsRecord k lane f.number f.lines (body_of f.words)
     × (f.linked ≡ keys_of (body_of f.words 0))
-IsReady Void lane f = (f.words ≡ void_word f.lines ∷ []) × (f.linked ≡ 0)
-IsReady Mark lane f = f.words ≡ []
+IsReady k Void lane f = (f.words ≡ void_word f.lines ∷ []) × (f.linked ≡ 0)
+IsReady k Mark lane f = f.words ≡ []
 
 -- f is in flight and ready
 pub record CanPublish (v : View) (f : Flight) : Type 0 where
   pub live : 1 ≤ v.lane
   pub flying : v.flight ≡ Some f
-  pub ready : IsReady (flight_kind v f) v.lane f
+  pub ready : IsReady v.about (flight_kind v f) v.lane f
 
 -- a record joins the own ones
 abbrev pub own_after : Kind → ℕ → ℕ → List Own → List Own

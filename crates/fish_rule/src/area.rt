@@ -16,17 +16,17 @@ pub(crate) const PAGE_LINES: u64 = 32_768;
 pub(crate) const HEADS: u64 = 10_516;
 
 /// The first directory word of a table.
-pub(crate) fn dir_at(key: Key) -> u64
-    requires { Fits key }
-    ensures { result ≡ first_directory_word key }
+pub(crate) fn dir_at(key: &Key) -> u64
+    requires { Fits key.now }
+    ensures { result ≡ first_directory_word key.now }
 {
     HEADS + key.buckets
 }
 
 /// The first word of the log of a table.
-pub(crate) fn log_at(key: Key) -> u64
-    requires { Fits key }
-    ensures { result ≡ first_log_word key }
+pub(crate) fn log_at(key: &Key) -> u64
+    requires { Fits key.now }
+    ensures { result ≡ first_log_word key.now }
 {
     dir_at(key) + (key.end - key.line + 16)
 }

@@ -36,7 +36,7 @@ pub fn load_previous(log: &Log, pass: &mut Pass, place: u64) -> u64
     ensures rises { LowRises (view pass.old) place result }
     ensures less { result < place }
 {
-    let index = log_at(log.key) + (place - log.key.line * 4);
+    let index = log_at(&log.key) + (place - log.key.line * 4);
     log.table
         .shared
         .load::<Previous>(&mut pass.seat, index as usize)
@@ -50,7 +50,7 @@ pub fn load_node(log: &Log, pass: &mut Pass, place: u64) -> u64
     ensures pass { IsPassOf log.now pass.new }
     ensures view { view pass.new ≡ after_node (view pass.old) place result }
 {
-    let index = log_at(log.key) + (place + 1 - log.key.line * 4);
+    let index = log_at(&log.key) + (place + 1 - log.key.line * 4);
     log.table
         .shared
         .load::<Label>(&mut pass.seat, index as usize)
@@ -64,7 +64,7 @@ pub fn aim_entry(log: &Log, pass: &mut Pass, place: u64, previous: u64)
     ensures view { (f : Flight) → (view pass.old).flight ≡ Some f
         → view pass.new ≡ after_aim (view pass.old) f previous }
 {
-    let index = log_at(log.key) + (place - log.key.line * 4);
+    let index = log_at(&log.key) + (place - log.key.line * 4);
     log.table
         .shared
         .store::<Aim>(&mut pass.seat, index as usize, previous);
@@ -96,7 +96,7 @@ pub fn splice_entry(log: &Log, pass: &mut Pass, above: u64, expected: u64, place
     ensures less { result < above }
     ensures other { result ≢ place }
 {
-    let index = log_at(log.key) + (above - log.key.line * 4);
+    let index = log_at(&log.key) + (above - log.key.line * 4);
     log.table
         .shared
         .compare_exchange::<Splice>(&mut pass.seat, index as usize, expected, place)

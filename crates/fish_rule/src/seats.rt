@@ -7,7 +7,7 @@ ghost use Rattle.std.specs.Prelude.{◌≡◌, ℕ, ◌+◌, ◌*◌, ◌<◌, I
 ghost use Rattle.fish_rule.specs.Parts.{Fits};
 ghost use Rattle.fish_rule.specs.Passes.{IsPassOf, view};
 ghost use Rattle.fish_rule.specs.Seating.{CanJoin, CanSplit, join_both, split_left, split_right};
-ghost use Rattle.fish_rule.specs.Start.{IsEmpty, IsShape, first_key};
+ghost use Rattle.fish_rule.specs.Start.{IsEmpty, IsFirstKey, IsShape, rows_of};
 ghost use Rattle.fish_rule.specs.Steps.{after_end};
 ghost use Rattle.fish_rule.specs.Table.{first_view};
 ghost use Rattle.fish_rule.specs.World.{total};
@@ -18,12 +18,17 @@ use crate::table::{Base, Log, Pass, Shape};
 use crate::view::{Key, View};
 use crate::word::tail_word;
 use atomic_table::{Join, Split, Table};
+use fish_catalog::Catalog;
 use std::alloc::{AllocError, Global};
+use std::snapshot::Snapshot;
 
 /// What a log begins with.
 pub enum Start {
-    /// No record.
-    Empty,
+    /// No record, and these definitions.
+    Empty {
+        /// The rows of the store's catalogue.
+        catalog: Catalog,
+    },
 }
 
 /// The lane LANE goes from the control pass to a new pass.
@@ -51,15 +56,16 @@ impl Join<View> for Meet {
 /// The key of a log of this shape that begins so.
 fn key_of(shape: Shape, start: &Start) -> Key
     requires { IsShape shape }
-    ensures is { result ≡ first_key shape }
+    ensures is { IsFirstKey shape (rows_of start.now) result }
     ensures fits { Fits result }
 {
     match start {
-        Start::Empty => Key {
+        Start::Empty { catalog } => Key {
             number: 0,
             line: 0,
             end: u64::from(shape.pages) * PAGE_LINES,
             buckets: 1 << shape.bucket_bits,
+            rows: Snapshot::of(catalog),
         },
     }
 }
@@ -69,7 +75,7 @@ fn word_count(key: &Key) -> usize
     requires { Fits key.now }
     ensures { result ≡ total key.now }
 {
-    (log_at(*key) + (key.end - key.line) * 4) as usize
+    (log_at(key) + (key.end - key.line) * 4) as usize
 }
 
 /// The tail word at a key's number and line.
@@ -119,7 +125,7 @@ pub fn open_log(alloc: Global, shape: Shape, start: &Start) -> Result<(Log, Pass
     requires { IsShape shape }
     ensures pass { IfOk result (λ r. IsPassOf r.0 r.1) }
     ensures view { IfOk result (λ r. view r.1 ≡ first_view r.0.key) }
-    ensures key { IfOk result (λ r. r.0.key ≡ first_key shape) }
+    ensures key { IfOk result (λ r. IsFirstKey shape (rows_of start.now) r.0.key) }
     ensures shape { IfOk result (λ r. r.0.shape ≡ shape) }
 {
     let key = key_of(shape, start);

@@ -78,7 +78,7 @@ pub fn store_word(log: &Log, pass: &mut Pass, region: &Region, offset: u64, word
     ensures pass { IsPassOf log.now pass.new }
     ensures view { (f : Flight) → (view pass.old).flight ≡ Some f → view pass.new ≡ after_store (view pass.old) f word }
 {
-    let index = log_at(log.key) + (region.line * 4 + offset - log.key.line * 4);
+    let index = log_at(&log.key) + (region.line * 4 + offset - log.key.line * 4);
     log.table
         .shared
         .store::<Store>(&mut pass.seat, index as usize, word);
@@ -93,7 +93,7 @@ pub fn publish_region(log: &Log, pass: &mut Pass, region: &Region)
     ensures view { (f : Flight) → (view pass.old).flight ≡ Some f → view pass.new ≡ after_publish (view pass.old) f }
 {
     let kind = region_kind(log.key.end, region.line, region.line + region.lines);
-    let index = dir_at(log.key) + (region.number - log.key.number);
+    let index = dir_at(&log.key) + (region.number - log.key.number);
     log.table.shared.store::<Publish>(
         &mut pass.seat,
         index as usize,
@@ -119,7 +119,7 @@ pub fn look_at(log: &Log, pass: &mut Pass, number: u64) -> u64
     ensures known { (f : Found) → Among f (view pass.old).learned.found → f.number ≡ number
         → result ≡ dir_word f.kind f.line }
 {
-    let index = dir_at(log.key) + (number - log.key.number);
+    let index = dir_at(&log.key) + (number - log.key.number);
     log.table
         .shared
         .load::<Look>(&mut pass.seat, index as usize)
@@ -132,7 +132,7 @@ pub fn read_word(log: &Log, pass: &mut Pass, line: u64, offset: u64) -> u64
     ensures pass { IsPassOf log.now pass.new }
     ensures view { view pass.new ≡ after_read (view pass.old) (line * 4 + offset) result }
 {
-    let index = log_at(log.key) + (line * 4 + offset - log.key.line * 4);
+    let index = log_at(&log.key) + (line * 4 + offset - log.key.line * 4);
     log.table
         .shared
         .load::<Read>(&mut pass.seat, index as usize)

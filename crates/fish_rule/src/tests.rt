@@ -3,6 +3,7 @@
 use crate::{
     Base, Position, Shape, Start, base, is_shut, join_pass, load_tail, open_log, shape, split_pass,
 };
+use fish_catalog::Catalog;
 use std::test::Fail;
 use std::thread::join_mut;
 
@@ -14,7 +15,10 @@ fn two_threads_share_a_log(rt: HostRuntime) -> Result<(), Fail> {
         pages: 1,
         bucket_bits: 4,
     };
-    let (log, mut main) = open_log(rt.alloc(), one_page, &Start::Empty)?;
+    let start = Start::Empty {
+        catalog: Catalog::new(rt.alloc()),
+    };
+    let (log, mut main) = open_log(rt.alloc(), one_page, &start)?;
     let mut other = split_pass(&log, &mut main, 2);
     let (here, there) = join_mut(
         &rt,

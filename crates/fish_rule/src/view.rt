@@ -1,8 +1,11 @@
 //! What a pass knows of the log, as plain data. The program never makes a view: it stands in
 //! contracts alone, where an array is a list of any length.
 
+use fish_catalog::Catalog;
+use std::snapshot::Snapshot;
+
 /// What is fixed when a table is made.
-#[derive(Clone, Copy)]
+#[derive(Drop)]
 pub struct Key {
     /// The number of the table's first claim.
     pub number: u64,
@@ -12,6 +15,8 @@ pub struct Key {
     pub end: u64,
     /// How many chains there are.
     pub buckets: u64,
+    /// The definitions with which the table begins.
+    pub rows: Snapshot<Catalog>,
 }
 
 /// Where the next record goes.
