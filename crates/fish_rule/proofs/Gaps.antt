@@ -24,7 +24,7 @@ use Rattle.fish_rule.specs.declared.view.Kind.TheVariants.{Stored}
 
 module _ (k : Key) (w : World) (r : Rule k w) where
   -- the entries of published records are linked
-  pub entry_linked : (b n c p : ℕ) → n < w.count → IsEntryOf k w.dir w.log (r.start n) b n c p
+  unfoldable pub entry_linked : (b n c p : ℕ) → n < w.count → IsEntryOf k w.dir w.log (r.start n) b n c p
       → Linked k w.dir w.log w.views b p
   entry_linked b n c p below h =
       let finished = r.space.finished n h.above below (published (w.dir n) Stored h.stored) in

@@ -34,4 +34,5 @@ pub mod Splices
 pub mod Standing
 pub mod Swings
 pub mod Words
+pub mod Walking
 pub mod Worlds

@@ -14,5 +14,6 @@ pub mod Start
 pub mod Steps
 pub mod Table
 pub mod Views
+pub mod Walking
 pub mod Walks
 pub mod World
