@@ -5,7 +5,7 @@
 
 ghost use Rattle.std.specs.Prelude.{◌≡◌, ◌<◌, ◌≤◌, ◌^◌};
 ghost use Rattle.fish_layout.specs.Body.{entry_word, packed_value};
-ghost use Rattle.fish_layout.specs.Entry.{entry_id, entry_number, renumbered, value_kind, value_offset, value_size};
+ghost use Rattle.fish_layout.specs.Entry.{entry_id, entry_number, entry_place, renumbered, value_kind, value_offset, value_size};
 ghost use Rattle.fish_layout.specs.Header.{form_code, form_of, header_word, keys_of, lane_of, length_of, lines_of};
 ghost use Rattle.fish_layout.specs.Header.{version_of, void_word};
 
@@ -123,7 +123,7 @@ pub(crate) fn pack_value(kind: u64, length: usize, offset: usize) -> u64
 
 /// The record's number, by the second word of a key entry.
 #[tactic(auto, unfolding(crate::specs::Entry::entry_number, crate::specs::Header::field))]
-pub(crate) fn number_in(entry: u64) -> u32
+pub fn number_in(entry: u64) -> u32
     ensures value { result ≡ entry_number entry }
     ensures fits { result < 2 ^ 28 }
 {
@@ -132,10 +132,19 @@ pub(crate) fn number_in(entry: u64) -> u32
 
 /// The definition's id, by the second word of a key entry.
 #[tactic(auto, unfolding(crate::specs::Entry::entry_id, crate::specs::Header::field))]
-pub(crate) fn id_in(entry: u64) -> u16
+pub fn id_in(entry: u64) -> u16
     ensures { result ≡ entry_id entry }
 {
     (entry / 0x1000_0000 % 0x100) as u16
+}
+
+/// The entry's place in its record, by its second word.
+#[tactic(auto, unfolding(crate::specs::Entry::entry_place, crate::specs::Header::field))]
+pub fn place_in(entry: u64) -> u16
+    ensures value { result ≡ entry_place entry }
+    ensures fits { result < 2 ^ 9 }
+{
+    (entry / 0x10_0000_0000 % 0x200) as u16
 }
 
 /// The code of the value's kind, by the third word of a key entry.

@@ -3,11 +3,16 @@ use Rattle.std.specs.Prelude.{◌≡◌}
 use Rattle.fish_rule.specs.Table.{Stands}
 use Rattle.fish_rule.specs.declared.table.Log.{Log}
 use Rattle.fish_rule.specs.declared.table.Pass.{Pass}
+use Rattle.fish_rule.specs.declared.table.Walk.{Walk}
 use Rattle.fish_rule.specs.declared.view.View.{View}
 
 -- the pass's view
 abbrev pub view : Pass → View
 view p = p.seat.me.0
+
+-- the walk that a pass keeps
+abbrev pub walk_of : Pass → Walk
+walk_of p = p.walk
 
 -- the pass steps on this log, and some moment of it meets the rule and has the pass's view
 pub record IsPassOf (log : Log) (p : Pass) : Type 0 where

@@ -17,6 +17,7 @@ mod table;
 #[cfg(test)]
 mod tests;
 mod view;
+mod walk;
 mod word;
 
 pub use close::{CloseWant, Remains, close_log};
@@ -28,9 +29,10 @@ pub use steps::{
     claim_lines, in_flight, is_shut, kind_in, lane, load_settled, load_tail, look_at,
     publish_region, raise_settled, read_word, store_word,
 };
-pub use table::{Base, Log, LogRule, Pass, Region, Shape};
+pub use table::{Base, Log, LogRule, Pass, Region, Shape, Walk};
 pub use view::{
     Clock, Flight, Found, Gap, Key, Kind, Known, Label, Learned, Node, Note, Noted, Own, Position,
     Recorded, Shut, View,
 };
+pub use walk::{keep_walk, kept_walk};
 pub use word::{kind_of_word, line_of_word};

@@ -16,6 +16,7 @@ use crate::area::{PAGE_LINES, log_at};
 use crate::plays::End;
 use crate::table::{Base, Log, Pass, Shape};
 use crate::view::{Key, View};
+use crate::walk::NO_WALK;
 use crate::word::tail_word;
 use atomic_table::{Join, Split, Table};
 use fish_catalog::Catalog;
@@ -137,6 +138,7 @@ pub fn open_log(alloc: Global, shape: Shape, start: &Start) -> Result<(Log, Pass
         lane: 1,
         shut: None,
         flight: None,
+        walk: NO_WALK,
     };
     Ok((log, pass))
 }
@@ -156,6 +158,7 @@ fn give_out<const LANE: u8>(log: &Log, main: &mut Pass) -> Pass
         lane: LANE,
         shut: main.shut,
         flight: None,
+        walk: NO_WALK,
     }
 }
 
@@ -200,6 +203,7 @@ pub fn join_pass(log: &Log, main: &mut Pass, other: Pass)
         lane: _,
         shut,
         flight: _,
+        walk: _,
     } = other;
     log.table.shared.join_seat::<Meet>(&mut main.seat, seat);
     log.table.shared.load::<End>(&mut main.seat, 0);

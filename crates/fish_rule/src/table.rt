@@ -49,6 +49,20 @@ pub struct Region {
     pub lines: u64,
 }
 
+/// How far a walk down the chain of a bucket is.
+#[derive(Clone, Copy, Debug, PartialEq, Eq)]
+pub struct Walk {
+    pub bucket: u64,
+    /// The first number that it is for.
+    pub from: u64,
+    /// The number behind the last one.
+    pub to: u64,
+    /// The place of the last entry that it gave, or the log's end.
+    pub given: u64,
+    /// The place of the entry to look at next, or 0.
+    pub place: u64,
+}
+
 /// The log: a table of words that several passes share.
 #[derive(Drop)]
 pub struct Log {
@@ -67,6 +81,7 @@ pub struct Pass {
     pub(crate) lane: u8,
     pub(crate) shut: Option<Shut>,
     pub(crate) flight: Option<Region>,
+    pub(crate) walk: Walk,
     ghost bare: { seat.me.1 ≡ [] },
     ghost lane_is: { seat.me.0.lane ≡ lane },
     ghost shut_is: { seat.me.0.shut ≡ shut },
