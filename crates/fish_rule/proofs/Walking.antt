@@ -40,7 +40,7 @@ module _ (k : Key) (w : World) (r : Rule k w) where
       subst (λ (z : ℕ). IsEntryOf k w.dir w.log z b n c p) finished.line h
 
   -- it is within its record's region
-  within_region : (b n c p : ℕ) → n < w.count → IsEntryIn b n c p k w
+  pub within_region : (b n c p : ℕ) → n < w.count → IsEntryIn b n c p k w
       → (r.start n * 4 ≤ p) × (p < r.start (suc n) * 4)
   unfolding entry_linked
   within_region b n c p below h =
@@ -55,7 +55,7 @@ module _ (k : Key) (w : World) (r : Rule k w) where
       subst (λ (z : ℕ). (r.start z * 4 ≤ p) × (p < r.start (suc z) * 4)) same inside
 
   -- a number that is published is claimed
-  claimed_there : (b n c p : ℕ) → IsEntryIn b n c p k w → n < w.count
+  pub claimed_there : (b n c p : ℕ) → IsEntryIn b n c p k w → n < w.count
   claimed_there b n c p h = pick (dec_le w.count n)
     where
       pick : Dec (w.count ≤ n) → n < w.count

@@ -1,0 +1,104 @@
+-- Views that learn on the way down a chain, and what their owner may conclude at once.
+use Rattle.std.proofs.Common.{◌≡◌, ◌≢◌, ℕ, ◌+◌, ◌*◌, ◌<◌, ◌≤◌, zero, suc, List, sym, refl, ap, ◌∙◌, subst, ◌⊎◌, inl, inr, arith}
+use mathlib.Core.Option.{some}
+use Rattle.std.proofs.Math.ListN.{get_elem?}
+use Rattle.fish_rule.proofs.Bodies.{kind-inside}
+use Rattle.fish_rule.proofs.Kept.{published}
+use Rattle.fish_rule.proofs.Links.{lies_inside, spot}
+use Rattle.fish_rule.proofs.Walking.{claimed_there, gap_clear, within_region}
+use Rattle.fish_rule.specs.Linking.{HasNode, after_head, after_node, after_previous, gap, with_node}
+use Rattle.fish_rule.specs.Logs.{Extends, Learns}
+use Rattle.fish_rule.specs.Regions.{code}
+use Rattle.fish_rule.specs.Rule.{Rule}
+use Rattle.fish_rule.specs.Views.{Among}
+use Rattle.fish_rule.specs.Walking.{Always, IsClear, IsEntryIn}
+use Rattle.fish_rule.specs.World.{World}
+use Rattle.fish_rule.specs.declared.view.Key.{Key}
+use Rattle.fish_rule.specs.declared.view.Kind.TheVariants.{Mark, Stored}
+use Rattle.fish_rule.specs.declared.view.Node.{Node}
+use Rattle.fish_rule.specs.declared.view.View.{View}
+
+-- ---- views that only learn
+
+-- the nodes that were known stay known
+nodes_stay : (b x : ℕ) (nodes : List Node) (n : Node) → Among n nodes → Among n (with_node b x nodes)
+nodes_stay b zero nodes n m = m
+nodes_stay b (suc x) nodes n m = inr m
+
+-- a place that isn't 0 is that of a node
+node_here : (b x : ℕ) (nodes : List Node) → (x ≡ 0) ⊎ Among (record { bucket = b; place = x }) (with_node b x nodes)
+node_here b zero nodes = inl refl
+node_here b (suc x) nodes = inr (inl refl)
+
+-- a head that is seen extends a view
+pub extends_head : (v : View) (b x : ℕ) → Extends v (after_head v b x)
+extends_head v b x = record {
+  learns = record { about = refl; count = omega arith; found = λ x m. m; known = λ x m. m; records = λ x m. m;
+      nodes = nodes_stay b x v.learned.nodes; gaps = λ x m. inr m; labels = λ x m. m };
+  lane = refl;
+  out = refl;
+  shut = refl;
+  flight = refl;
+  tail = refl;
+  own = refl;
+}
+
+-- so does a first word
+pub extends_previous : (v : View) (b p x : ℕ) → Extends v (after_previous v b p x)
+extends_previous v b p x = record {
+  learns = record { about = refl; count = omega arith; found = λ x m. m; known = λ x m. m; records = λ x m. m;
+      nodes = nodes_stay b x v.learned.nodes; gaps = λ x m. inr m; labels = λ x m. m };
+  lane = refl;
+  out = refl;
+  shut = refl;
+  flight = refl;
+  tail = refl;
+  own = refl;
+}
+
+-- and a second word
+pub extends_node : (v : View) (p x : ℕ) → Extends v (after_node v p x)
+extends_node v p x = record {
+  learns = record { about = refl; count = omega arith; found = λ x m. m; known = λ x m. m; records = λ x m. m;
+      nodes = λ x m. m; gaps = λ x m. m; labels = λ x m. inr m };
+  lane = refl;
+  out = refl;
+  shut = refl;
+  flight = refl;
+  tail = refl;
+  own = refl;
+}
+
+-- ---- where a walk goes on
+
+-- at the head that was seen, or nowhere
+pub head_here : (v : View) (b x : ℕ) → (x ≡ 0) ⊎ HasNode (after_head v b x) b x
+head_here v b x = node_here b x v.learned.nodes
+
+-- at the entry that the first word leads to, or nowhere
+pub previous_here : (v : View) (b p x : ℕ) → (x ≡ 0) ⊎ HasNode (after_previous v b p x) b x
+previous_here v b p x = node_here b x v.learned.nodes
+
+-- above the head there is no entry of a settled record
+pub head_clear : (v : View) (b x from to : ℕ) → to ≤ v.learned.settled
+    → Always (after_head v b x) (IsClear b from to (v.about.end * 4) x)
+head_clear v b x from to known =
+    gap_clear (after_head v b x) (gap b (v.about.end * 4) x v.learned) from to (inl refl) known
+
+-- nor between a place and what its first word leads to
+pub previous_clear : (v : View) (b p x from to : ℕ) → to ≤ v.learned.settled
+    → Always (after_previous v b p x) (IsClear b from to p x)
+previous_clear v b p x from to known =
+    gap_clear (after_previous v b p x) (gap b p x v.learned) from to (inl refl) known
+
+-- every entry lies below the log's end
+pub entries_within : (v : View) → Always v (λ k w. (b n c p : ℕ) → IsEntryIn b n c p k w → p < k.end * 4)
+entries_within v u learns w r seat at b n c p h =
+    let k : Key = u.about in
+    let below = claimed_there k w r b n c p h in
+    let inside = within_region k w r b n c p below h in
+    let set_ = published (w.dir n) Stored h.stored in
+    let finished = r.space.finished n h.above below set_ in
+    let end = kind-inside k.end (r.start n) (r.start (suc n))
+        (λ e. let q : code Stored ≡ code Mark = sym h.stored ∙ finished.kind ∙ ap code e in cc) in
+    omega arith
