@@ -20,6 +20,7 @@ pub mod Laws
 pub mod Learns
 pub mod Linked
 pub mod Linkings
+pub mod LinkLaws
 pub mod Links
 pub mod Loads
 pub mod OwnWords
