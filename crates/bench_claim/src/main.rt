@@ -1,9 +1,9 @@
 //! Stores records of 1 KB from 1, 2 and 4 lanes, and writes to standard error how long it took.
 #![tactic(auto)]
 
-ghost use Rattle.std.specs.Prelude.{◌≡◌, ◌≤◌, IfOk};
+ghost use Rattle.std.specs.Prelude.{◌≡◌, ◌≤◌, [], IfOk};
 ghost use Rattle.std.specs.Thread.{IsSync};
-ghost use Rattle.fish_claim.specs.Fills.{IsPlain};
+ghost use Rattle.fish_claim.specs.Fills.{IsStorable};
 ghost use Rattle.fish_layout.specs.Body.{IsBody};
 ghost use Rattle.fish_layout.specs.declared.parts.BodyParts.{BodyParts};
 ghost use Rattle.fish_rule.specs.Passes.{IsPassOf};
@@ -39,7 +39,7 @@ fn object_of(alloc: Global) -> Result<Text, AllocError> {
 /// The words of a record of a lane.
 fn record_words(alloc: Global, lane: u8) -> Result<Body, AllocError>
     requires lane { (1 ≤ lane) × (lane ≤ 16) }
-    ensures { IfOk result (λ body. (p : BodyParts) × IsPlain lane p.number 32 p × IsBody p body) }
+    ensures { IfOk result (λ body. (p : BodyParts) × IsStorable lane p.number 32 p × (p.keys ≡ []) × IsBody p body) }
 {
     let payload = object_of(alloc)?;
     if payload.as_bytes().len() > 524_288 {
@@ -66,9 +66,9 @@ fn record_words(alloc: Global, lane: u8) -> Result<Body, AllocError>
 /// Stores one record.
 fn store_one(log: &Log, pass: &mut Pass, lane_of: u8, body: &mut Body)
     requires pass { IsPassOf log.now pass.old }
-    requires body { (p : BodyParts) × IsPlain lane_of p.number 32 p × IsBody p body.old }
+    requires body { (p : BodyParts) × IsStorable lane_of p.number 32 p × (p.keys ≡ []) × IsBody p body.old }
     ensures pass { IsPassOf log.now pass.new }
-    ensures body { (p : BodyParts) × IsPlain lane_of p.number 32 p × IsBody p body.new }
+    ensures body { (p : BodyParts) × IsStorable lane_of p.number 32 p × (p.keys ≡ []) × IsBody p body.new }
 {
     if lane_of < 1
         || lane(pass) != lane_of
@@ -90,7 +90,7 @@ fn store_one(log: &Log, pass: &mut Pass, lane_of: u8, body: &mut Body)
 /// Stores so many records.
 fn store_all(log: &Log, pass: &mut Pass, lane: u8, body: &mut Body, count: u64)
     requires pass { IsPassOf log.now pass.old }
-    requires body { (p : BodyParts) × IsPlain lane p.number 32 p × IsBody p body.old }
+    requires body { (p : BodyParts) × IsStorable lane p.number 32 p × (p.keys ≡ []) × IsBody p body.old }
     ensures pass { IsPassOf log.now pass.new }
 {
     for _ in 0..count {
@@ -162,8 +162,8 @@ struct Lane {
 fn store_both<R: Threads + Sync>(rt: &R, log: &Log, one: &mut Lane, two: &mut Lane, count: u64)
     requires one { IsPassOf log.now one.old.pass }
     requires two { IsPassOf log.now two.old.pass }
-    requires first { (p : BodyParts) × IsPlain one.old.number p.number 32 p × IsBody p one.old.body }
-    requires second { (p : BodyParts) × IsPlain two.old.number p.number 32 p × IsBody p two.old.body }
+    requires first { (p : BodyParts) × IsStorable one.old.number p.number 32 p × (p.keys ≡ []) × IsBody p one.old.body }
+    requires second { (p : BodyParts) × IsStorable two.old.number p.number 32 p × (p.keys ≡ []) × IsBody p two.old.body }
 {
     join_mut(
         rt,
@@ -176,7 +176,7 @@ fn store_both<R: Threads + Sync>(rt: &R, log: &Log, one: &mut Lane, two: &mut La
 fn lane_of(alloc: Global, pass: Pass, number: u8) -> Result<Lane, AllocError>
     requires number { (1 ≤ number) × (number ≤ 16) }
     ensures pass { IfOk result (λ lane. lane.pass ≡ pass) }
-    ensures body { IfOk result (λ lane. (p : BodyParts) × IsPlain lane.number p.number 32 p × IsBody p lane.body) }
+    ensures body { IfOk result (λ lane. (p : BodyParts) × IsStorable lane.number p.number 32 p × (p.keys ≡ []) × IsBody p lane.body) }
 {
     let body = record_words(alloc, number)?;
     Ok(Lane { pass, number, body })
@@ -206,15 +206,15 @@ fn four_lanes<R: Threads + Sync + Clock + AllocGlobal + Eprint>(rt: &R) -> Resul
             requires sync { IsSync R.row }
             requires one { IsPassOf log main.pass }
             requires two { IsPassOf log second.pass }
-            requires first { (p : BodyParts) × IsPlain main.number p.number 32 p × IsBody p main.body }
-            requires second { (p : BodyParts) × IsPlain second.number p.number 32 p × IsBody p second.body }
+            requires first { (p : BodyParts) × IsStorable main.number p.number 32 p × (p.keys ≡ []) × IsBody p main.body }
+            requires second { (p : BodyParts) × IsStorable second.number p.number 32 p × (p.keys ≡ []) × IsBody p second.body }
         { store_both(rt, &log, &mut main, &mut second, RECORDS / 4) },
         &mut ||
             requires sync { IsSync R.row }
             requires one { IsPassOf log third.pass }
             requires two { IsPassOf log fourth.pass }
-            requires first { (p : BodyParts) × IsPlain third.number p.number 32 p × IsBody p third.body }
-            requires second { (p : BodyParts) × IsPlain fourth.number p.number 32 p × IsBody p fourth.body }
+            requires first { (p : BodyParts) × IsStorable third.number p.number 32 p × (p.keys ≡ []) × IsBody p third.body }
+            requires second { (p : BodyParts) × IsStorable fourth.number p.number 32 p × (p.keys ≡ []) × IsBody p fourth.body }
         { store_both(rt, &log, &mut third, &mut fourth, RECORDS / 4) },
     );
     let Ok(took) = start.elapsed(rt) else {

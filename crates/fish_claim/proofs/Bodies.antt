@@ -1,12 +1,13 @@
 -- Which bodies may be stored for a claim.
-use Rattle.std.proofs.Common.{◌≡◌, ℕ, ◌+◌, ◌*◌, List, [], length, refl, sym, ap, ◌∙◌, subst}
+use Rattle.std.proofs.Common.{◌≡◌, ℕ, ◌+◌, ◌*◌, List, length, refl, sym, ap, ◌∙◌, subst}
 use Rattle.fish_claim.specs.Claims.{IsClaimed, answer_of, claimed_view}
-use Rattle.fish_claim.specs.Fills.{CanFill, IsPlain}
+use Rattle.fish_claim.specs.Fills.{CanFill, IsStorable}
 use Rattle.fish_claim.specs.declared.claimed.Claimed.TheVariants as answer
+use Rattle.fish_layout.proofs.Links.{relinked_lines, unlinked_is}
 use Rattle.fish_layout.proofs.Outlines.{body_length}
 use Rattle.fish_layout.proofs.Spelled.{body_says, spelled_body}
-use Rattle.fish_layout.specs.Body.{IsBody}
-use Rattle.fish_layout.specs.Cleared.{body_of, unlink, unlinked}
+use Rattle.fish_layout.specs.Body.{IsBody, body_lines}
+use Rattle.fish_layout.specs.Cleared.{body_of, unlinked}
 use Rattle.fish_layout.specs.declared.parts.BodyParts.{BodyParts}
 use Rattle.fish_rule.specs.Regions.{IsRecord, kind_of}
 use Rattle.fish_rule.specs.Steps.{after_claim, flight_at, flight_kind}
@@ -38,27 +39,23 @@ placed_law v u lines number line is =
 
 -- ---- bodies
 
--- without key entries no word is cleared
-same_parts : (p : BodyParts) → p.keys ≡ [] → unlinked p ≡ p
-same_parts p none = λ i. record p { keys = (ap unlink none ∙ sym none) i }
+-- a record has as many lines without its previous nodes
+unlinked_lines : (p : BodyParts) → body_lines (unlinked p) ≡ body_lines p
+unlinked_lines p = ap body_lines (sym (unlinked_is p)) ∙ relinked_lines (λ _. 0) p
 
--- the words of a record without keys may be stored for a place of its number and lines
-pub body_law : (v u : View) (lines number line : ℕ) (p : BodyParts) (words : List ℕ) → Placed v lines number line u → IsPlain v.lane number lines p → IsBody p words
+-- the words of a record may be stored for a place of its number and lines, whatever its previous nodes
+pub body_law : (v u : View) (lines number line : ℕ) (p : BodyParts) (words : List ℕ) → Placed v lines number line u → IsStorable v.lane number lines p → IsBody p words
     → CanFill u (flight_at number line lines) words
-body_law v u lines number line p words placed plain is =
-    let says = body_says is in
-    let same = same_parts p plain.keys in
-    let length_is = plain.lines_is in
-    let full : length words ≡ lines * 4 = body_length is ∙ ap (λ (z : ℕ). z * 4) length_is in
-    let spells = spelled_body words is in
+body_law v u lines number line p words placed may is =
+    let full : length words ≡ lines * 4 = body_length is ∙ ap (λ (z : ℕ). z * 4) may.lines_is in
     let written : IsRecord v.lane number lines (body_of words) = (
-      p,
+      unlinked p,
       record {
-        spells = subst (λ (z : BodyParts). Rattle.fish_layout.specs.Cleared.Spells z (body_of words)) same spells;
-        lane_is = plain.lane_is;
-        number_is = plain.number_is;
-        lines_is = plain.lines_is;
-        reads = plain.reads;
+        spells = spelled_body words is;
+        lane_is = may.lane_is;
+        number_is = may.number_is;
+        lines_is = unlinked_lines p ∙ may.lines_is;
+        reads = may.reads;
       },
     ) in
     record {
@@ -68,6 +65,5 @@ body_law v u lines number line p words placed plain is =
       stored = placed.stored;
       full = full;
       written = subst (λ (z : View). IsRecord z.lane number lines (body_of words)) (sym placed.known) written;
-      version = says.version ∙ plain.version;
-      keys = says.keys ∙ ap length plain.keys;
+      version = (body_says is).version ∙ may.version;
     }

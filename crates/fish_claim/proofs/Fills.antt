@@ -1,22 +1,14 @@
 -- The words of a record go into its region one by one.
 use Rattle.std.proofs.Common.{◌≡◌, ℕ, ◌+◌, ◌<◌, ◌≤◌, suc, List, [], ◌∷◌, ◌++◌, length, get_or, take, refl, sym, ap, ◌∙◌, subst, arith, Some, Option, add-one, add-zero, length-append}
 use Rattle.std.proofs.Math.Seq.{take-suc}
-use Rattle.fish_claim.specs.Fills.{CanFill, filled_view}
-use Rattle.fish_layout.proofs.Clearing.{cleared_head}
-use Rattle.fish_layout.specs.Cleared.{body_of}
-use Rattle.fish_layout.specs.Header.{keys_of}
+use Rattle.fish_claim.specs.Fills.{CanFill, IsFilled, filled_view, with_words}
 use Rattle.fish_rule.proofs.Bodies.{kind-inside}
 use Rattle.fish_rule.specs.Flying.{region_in, region_of}
-use Rattle.fish_rule.specs.Steps.{CanPublish, CanStore, IsReady, after_store}
+use Rattle.fish_rule.specs.Steps.{CanStore, after_store}
 use Rattle.fish_rule.specs.declared.table.Region.{Region}
 use Rattle.fish_rule.specs.declared.view.Flight.{Flight}
-use Rattle.fish_rule.specs.declared.view.Kind.{Kind}
 use Rattle.fish_rule.specs.declared.view.Kind.TheVariants.{Mark, Stored}
 use Rattle.fish_rule.specs.declared.view.View.{View}
-
--- the record in flight with these words
-abbrev pub having : Flight → List ℕ → Flight
-having f words = record f { words = words }
 
 -- the region that a pass keeps is that of its record in flight
 pub in_region : (o : Option Flight) (f : Flight) (r : Region) → o ≡ Some f → Some r ≡ region_in o → region_of f ≡ r
@@ -26,43 +18,45 @@ module _ (v : View) (f : Flight) (words : List ℕ) (can : CanFill v f words) wh
   -- with no word stored the view is as it was
   pub filled_none : v ≡ filled_view v f []
   filled_none = λ i. record v {
-    flight = (can.flying ∙ ap (λ (z : List ℕ). Some (having f z)) can.unfilled) i;
+    flight = (can.flying ∙ ap (λ (z : List ℕ). Some (with_words f z)) can.unfilled) i;
     clock = record v.clock { steps = sym (add-zero v.clock.steps) i };
   }
 
   -- the next word may be stored
   pub can_store_next : (u : View) (i : ℕ) → u ≡ filled_view v f (take i words) → length (take i words) ≡ i → i < length words
-      → CanStore u (having f (take i words))
+      → CanStore u (with_words f (take i words))
   can_store_next u i is many less =
       let full = can.full in
       let inside = kind-inside v.about.end f.line (f.line + f.lines) (λ e. (let g : Stored ≡ Mark = sym can.stored ∙ e in cc)) in
-      let may : CanStore (filled_view v f (take i words)) (having f (take i words)) = record {
+      let may : CanStore (filled_view v f (take i words)) (with_words f (take i words)) = record {
         flying = refl;
         unlinked = can.unlinked;
         more = omega arith;
         within = inside;
       } in
-      subst (λ (z : View). CanStore z (having f (take i words))) (sym is) may
+      subst (λ (z : View). CanStore z (with_words f (take i words))) (sym is) may
 
   -- and then one word more is
   pub filled_more : (u t : View) (i : ℕ) → u ≡ filled_view v f (take i words) → i < length words
-      → t ≡ after_store u (having f (take i words)) (get_or words i 0) → t ≡ filled_view v f (take (i + 1) words)
+      → t ≡ after_store u (with_words f (take i words)) (get_or words i 0) → t ≡ filled_view v f (take (i + 1) words)
   filled_more u t i is less stored =
       let x : ℕ = get_or words i 0 in
       let next : take i words ++ x ∷ [] ≡ take (i + 1) words = sym (ap (λ (z : ℕ). take z words) (add-one i) ∙ take-suc words i 0 less) in
       let long : suc (v.clock.steps + length (take i words)) ≡ v.clock.steps + length (take i words ++ x ∷ []) = (let e = length-append (take i words) (x ∷ []) in omega arith) in
-      stored ∙ ap (λ (z : View). after_store z (having f (take i words)) x) is
-      ∙ (λ j. record v { flight = Some (having f (take i words ++ x ∷ [])); clock = record v.clock { steps = long j } })
+      stored ∙ ap (λ (z : View). after_store z (with_words f (take i words)) x) is
+      ∙ (λ j. record v { flight = Some (with_words f (take i words ++ x ∷ [])); clock = record v.clock { steps = long j } })
       ∙ ap (filled_view v f) next
 
-  -- a record with all its words may be published
-  pub can_publish_filled : (u : View) → u ≡ filled_view v f words → CanPublish u (having f words)
-  can_publish_filled u is =
-      let head : body_of words 0 ≡ get_or words 0 0 = cleared_head (λ i. get_or words i 0) in
-      let may : CanPublish (filled_view v f words) (having f words) = record {
+  -- with all its words the record is filled
+  pub is_filled : (u : View) → u ≡ filled_view v f words → IsFilled u (with_words f words)
+  is_filled u is =
+      let unlinked = can.unlinked in
+      let filled : IsFilled (filled_view v f words) (with_words f words) = record {
         live = subst (λ (z : ℕ). 1 ≤ z) can.written.1.lane_is can.written.1.spells.proper.some_lane;
         flying = refl;
-        ready = subst (λ (z : Kind). IsReady z v.lane (having f words)) (sym can.stored)
-            (can.full, can.written, can.unlinked ∙ sym can.keys ∙ ap keys_of (sym head));
+        stored = can.stored;
+        full = can.full;
+        record_of = can.written;
+        linked = omega arith;
       } in
-      subst (λ (z : View). CanPublish z (having f words)) (sym is) may
+      subst (λ (z : View). IsFilled z (with_words f words)) (sym is) filled

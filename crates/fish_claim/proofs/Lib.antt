@@ -1,3 +1,4 @@
 pub mod Bodies
 pub mod Claims
+pub mod Filled
 pub mod Fills

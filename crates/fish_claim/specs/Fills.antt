@@ -1,5 +1,5 @@
 -- The words of a record in flight.
-use Rattle.std.specs.Prelude.{ℕ, ◌≡◌, ◌+◌, ◌*◌, List, [], length, slice_index, IsTrue, Some}
+use Rattle.std.specs.Prelude.{ℕ, ◌≡◌, ◌+◌, ◌*◌, ◌≤◌, List, [], length, slice_index, IsTrue, Some}
 use Rattle.fish_layout.specs.Body.{body_lines}
 use Rattle.fish_layout.specs.Cleared.{body_of}
 use Rattle.fish_layout.specs.Header.{keys_of, version_of}
@@ -11,7 +11,7 @@ use Rattle.fish_rule.specs.declared.view.Flight.{Flight}
 use Rattle.fish_rule.specs.declared.view.Kind.TheVariants.{Stored}
 use Rattle.fish_rule.specs.declared.view.View.{View}
 
--- f is the record in flight, with nothing stored, and the words are all of a record for it: of the pass's lane, with f's number and lines, version 0 and no key entries
+-- f is the record in flight, with nothing stored, and the words are all of a record for it: of the pass's lane, with f's number and lines, and version 0
 pub record CanFill (v : View) (f : Flight) (words : List ℕ) : Type 0 where
   pub flying : v.flight ≡ Some f
   pub unfilled : f.words ≡ []
@@ -20,20 +20,31 @@ pub record CanFill (v : View) (f : Flight) (words : List ℕ) : Type 0 where
   pub full : length words ≡ f.lines * 4
   pub written : IsRecord v.lane f.number f.lines (body_of words)
   pub version : version_of (slice_index words 0) ≡ 0
-  pub keys : keys_of (slice_index words 0) ≡ 0
 
--- the parts of a record that may be stored: of this lane, number and lines, at version 0, with no key entries, and a payload that is a record of its form
-pub record IsPlain (lane number lines : ℕ) (p : BodyParts) : Type 0 where
+-- f is the record in flight of a pass that is live, with all words of a record, and no more of its key entries are linked than it has
+pub record IsFilled (v : View) (f : Flight) : Type 0 where
+  pub live : 1 ≤ v.lane
+  pub flying : v.flight ≡ Some f
+  pub stored : flight_kind v f ≡ Stored
+  pub full : length f.words ≡ f.lines * 4
+  pub record_of : IsRecord v.lane f.number f.lines (body_of f.words)
+  pub linked : f.linked ≤ keys_of (body_of f.words 0)
+
+-- the parts of a record that may be stored: of this lane, number and lines, at version 0, and a payload that is a record of its form
+pub record IsStorable (lane number lines : ℕ) (p : BodyParts) : Type 0 where
   pub lane_is : p.lane ≡ lane
   pub number_is : p.number ≡ number
   pub lines_is : body_lines p ≡ lines
   pub version : p.version ≡ 0
-  pub keys : p.keys ≡ []
   pub reads : IsTrue (is_record p.form p.payload)
+
+-- a record in flight with these words
+abbrev pub with_words : Flight → List ℕ → Flight
+with_words f words = record f { words = words }
 
 -- the words are stored, a step each
 abbrev pub filled_view : View → Flight → List ℕ → View
 filled_view v f words = record v {
-  flight = Some (record f { words = words });
+  flight = Some (with_words f words);
   clock = record v.clock { steps = v.clock.steps + length words };
 }

@@ -1,7 +1,7 @@
 //! The words of a record in flight, and its publication.
 
 ghost use Rattle.std.specs.Prelude.{◌≡◌};
-ghost use Rattle.fish_claim.specs.Fills.{CanFill, filled_view};
+ghost use Rattle.fish_claim.specs.Fills.{CanFill, IsFilled, filled_view, with_words};
 ghost use Rattle.fish_rule.specs.Passes.{IsPassOf, view};
 ghost use Rattle.fish_rule.specs.Steps.{CanPublish, after_publish, flight_kind};
 ghost use Rattle.fish_rule.specs.declared.view.Flight.{Flight};
@@ -15,7 +15,7 @@ pub fn fill(log: &Log, pass: &mut Pass, body: &[u64])
     requires view { (f : Flight) × CanFill (view pass.old) f body.now }
     ensures pass { IsPassOf log.now pass.new }
     ensures view { (f : Flight) → (view pass.old).flight ≡ Some f → view pass.new ≡ filled_view (view pass.old) f body.now }
-    ensures filled { (f : Flight) × CanPublish (view pass.new) f }
+    ensures filled { (f : Flight) → (view pass.old).flight ≡ Some f → IsFilled (view pass.new) (with_words f body.now) }
 {
     let Some(region) = in_flight(pass) else {
         unreachable!()

@@ -1,7 +1,7 @@
 //! Claims at the ends of pages and of the log, with each record stored and published.
 
-ghost use Rattle.std.specs.Prelude.{◌≡◌, ◌<◌, ◌≤◌, ◌^◌, IfOk};
-ghost use Rattle.fish_claim.specs.Fills.{IsPlain};
+ghost use Rattle.std.specs.Prelude.{◌≡◌, ◌<◌, ◌≤◌, ◌^◌, [], IfOk};
+ghost use Rattle.fish_claim.specs.Fills.{IsStorable};
 ghost use Rattle.fish_layout.specs.Body.{IsBody};
 ghost use Rattle.fish_layout.specs.declared.parts.BodyParts.{BodyParts};
 ghost use Rattle.fish_rule.specs.Passes.{IsPassOf};
@@ -30,7 +30,7 @@ fn record_words(alloc: Global, lane: u8, number: u32, lines: u64) -> Result<Body
     requires lane { (1 ≤ lane) × (lane ≤ 16) }
     requires number { number < 2 ^ 28 }
     requires lines { (0 < lines) × (lines ≤ 18625) }
-    ensures { IfOk result (λ body. (p : BodyParts) × IsPlain lane number lines p × IsBody p body) }
+    ensures { IfOk result (λ body. (p : BodyParts) × IsStorable lane number lines p × (p.keys ≡ []) × IsBody p body) }
 {
     let payload = object_of(alloc, (lines * 4 - 1) * 8)?;
     if payload.as_bytes().len() > 524_288 {

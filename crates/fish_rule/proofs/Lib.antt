@@ -22,6 +22,7 @@ pub mod Laws
 pub mod Learns
 pub mod Linked
 pub mod Linkings
+pub mod LinkLaws
 pub mod Links
 pub mod Loads
 pub mod OwnWords

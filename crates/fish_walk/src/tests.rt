@@ -1,7 +1,7 @@
 //! One pass stores entries up to a second page, and reads them back.
 
-ghost use Rattle.std.specs.Prelude.{◌≡◌, ◌<◌, ◌≤◌, ◌^◌, IfOk};
-ghost use Rattle.fish_claim.specs.Fills.{IsPlain};
+ghost use Rattle.std.specs.Prelude.{◌≡◌, ◌<◌, ◌≤◌, ◌^◌, [], IfOk};
+ghost use Rattle.fish_claim.specs.Fills.{IsStorable};
 ghost use Rattle.fish_layout.specs.Body.{IsBody};
 ghost use Rattle.fish_layout.specs.declared.parts.BodyParts.{BodyParts};
 ghost use Rattle.fish_rule.specs.Passes.{IsPassOf};
@@ -47,7 +47,7 @@ fn record_words(
     requires lane { (1 ≤ lane) × (lane ≤ 16) }
     requires number { number < 2 ^ 28 }
     requires lines { (0 < lines) × (lines ≤ 18625) }
-    ensures { IfOk result (λ body. (p : BodyParts) × IsPlain lane number lines p × IsBody p body) }
+    ensures { IfOk result (λ body. (p : BodyParts) × IsStorable lane number lines p × (p.keys ≡ []) × IsBody p body) }
 {
     if payload.as_bytes().len() > 524_288 {
         return Err(AllocError);

@@ -34,4 +34,4 @@ returns c =
     let len = c.len.ensures in
     let same = c.if-len-lines.false in
     let read = subst (λ (z : List ℕ). is_some (record_of z) ≡ true) c.as_bytes-2.ensures.value (ap is_some c.in-Ok.ensures.ok) in
-    (p, record { lane_is = refl; number_is = refl; lines_is = omega arith; version = refl; keys = keys; reads = read }, is)
+    (p, record { lane_is = refl; number_is = refl; lines_is = omega arith; version = refl; reads = read }, keys, is)
