@@ -5,10 +5,11 @@ use Rattle.fish_claim.specs.Fills.{CanFill, IsStorable}
 use Rattle.fish_claim.specs.declared.claimed.Claimed.TheVariants as answer
 use Rattle.fish_layout.proofs.Links.{relinked_lines, unlinked_is}
 use Rattle.fish_layout.proofs.Outlines.{body_length}
-use Rattle.fish_layout.proofs.Spelled.{body_says, spelled_body}
+use Rattle.fish_layout.proofs.Spelled.{spelled_body}
 use Rattle.fish_layout.specs.Body.{IsBody, body_lines}
 use Rattle.fish_layout.specs.Cleared.{body_of, unlinked}
 use Rattle.fish_layout.specs.declared.parts.BodyParts.{BodyParts}
+use Rattle.fish_rule.proofs.Keys.{unlinked_keys}
 use Rattle.fish_rule.specs.Regions.{IsRecord, kind_of}
 use Rattle.fish_rule.specs.Steps.{after_claim, flight_at, flight_kind}
 use Rattle.fish_rule.specs.declared.view.Kind.{Kind}
@@ -18,7 +19,8 @@ use Rattle.fish_rule.specs.declared.view.View.{View}
 -- ---- what an answer tells
 
 -- a place is answered for the region of a record alone
-place_stored : (kind : Kind) (end n a lines number line : ℕ) → answer.Placed number line ≡ answer_of kind end n a lines → (kind ≡ Stored) × (n ≡ number) × (a ≡ line)
+place_stored : (kind : Kind) (end n a lines number line : ℕ)
+    → answer.Placed number line ≡ answer_of kind end n a lines → (kind ≡ Stored) × (n ≡ number) × (a ≡ line)
 place_stored Stored end n a lines number line e = (refl, cc, cc)
 place_stored Void end n a lines number line e = cc
 place_stored Mark end n a lines number line e = cc
@@ -29,13 +31,18 @@ pub record Placed (v : View) (lines number line : ℕ) (u : View) : Type 0 where
   pub stored : flight_kind u (flight_at number line lines) ≡ Stored
 
 -- so it is where the answer is a place
-pub placed_law : (v u : View) (lines number line : ℕ) → IsClaimed v lines (answer.Placed number line) u → Placed v lines number line u
+pub placed_law : (v u : View) (lines number line : ℕ) → IsClaimed v lines (answer.Placed number line) u
+    → Placed v lines number line u
 placed_law v u lines number line is =
-    let t = place_stored (kind_of v.about.end is.line (is.line + lines)) v.about.end is.number is.line lines number line is.answered in
-    let kind : kind_of v.about.end line (line + lines) ≡ Stored = subst (λ (z : ℕ). kind_of v.about.end z (z + lines) ≡ Stored) t.2 t.0 in
+    let t = place_stored (kind_of v.about.end is.line
+        (is.line + lines)) v.about.end is.number is.line lines number line is.answered in
+    let kind : kind_of v.about.end line (line + lines) ≡ Stored =
+        subst (λ (z : ℕ). kind_of v.about.end z (z + lines) ≡ Stored) t.2 t.0 in
     let known : u ≡ after_claim v lines number line =
-    is.known ∙ ap (λ (z : Kind). claimed_view z v lines is.number is.line) t.0 ∙ (λ i. after_claim v lines (t.1 i) (t.2 i)) in
-    record { known = known; stored = subst (λ (z : View). flight_kind z (flight_at number line lines) ≡ Stored) (sym known) kind }
+    is.known ∙ ap (λ (z : Kind). claimed_view z v lines is.number is.line) t.0
+        ∙ (λ i. after_claim v lines (t.1 i) (t.2 i)) in
+    record { known = known; stored = subst (λ (z : View). flight_kind z (flight_at number line lines) ≡ Stored)
+        (sym known) kind }
 
 -- ---- bodies
 
@@ -44,11 +51,12 @@ unlinked_lines : (p : BodyParts) → body_lines (unlinked p) ≡ body_lines p
 unlinked_lines p = ap body_lines (sym (unlinked_is p)) ∙ relinked_lines (λ _. 0) p
 
 -- the words of a record may be stored for a place of its number and lines, whatever its previous nodes
-pub body_law : (v u : View) (lines number line : ℕ) (p : BodyParts) (words : List ℕ) → Placed v lines number line u → IsStorable v.lane number lines p → IsBody p words
+pub body_law : (v u : View) (lines number line : ℕ) (p : BodyParts) (words : List ℕ)
+    → Placed v lines number line u → IsStorable v.about v.lane number lines p → IsBody p words
     → CanFill u (flight_at number line lines) words
 body_law v u lines number line p words placed may is =
     let full : length words ≡ lines * 4 = body_length is ∙ ap (λ (z : ℕ). z * 4) may.lines_is in
-    let written : IsRecord v.lane number lines (body_of words) = (
+    let written : IsRecord v.about v.lane number lines (body_of words) = (
       unlinked p,
       record {
         spells = spelled_body words is;
@@ -56,6 +64,8 @@ body_law v u lines number line p words placed may is =
         number_is = may.number_is;
         lines_is = unlinked_lines p ∙ may.lines_is;
         reads = may.reads;
+        version_is = may.version;
+        keys = unlinked_keys may.keys;
       },
     ) in
     record {
@@ -64,6 +74,5 @@ body_law v u lines number line p words placed may is =
       unlinked = refl;
       stored = placed.stored;
       full = full;
-      written = subst (λ (z : View). IsRecord z.lane number lines (body_of words)) (sym placed.known) written;
-      version = (body_says is).version ∙ may.version;
+      written = subst (λ (z : View). IsRecord z.about z.lane number lines (body_of words)) (sym placed.known) written;
     }

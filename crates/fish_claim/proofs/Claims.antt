@@ -7,7 +7,8 @@ use Rattle.fish_rule.proofs.Bodies.{kind-inside}
 use Rattle.fish_rule.proofs.Laws.{FlightLaw, flight_law}
 use Rattle.fish_rule.specs.Passes.{IsPassOf, view}
 use Rattle.fish_rule.specs.Regions.{kind_of}
-use Rattle.fish_rule.specs.Steps.{CanClaim, CanPublish, CanStore, IsReady, after_claim, after_publish, after_store, flight_at, shut_after, with_word}
+use Rattle.fish_rule.specs.Steps.{CanClaim, CanPublish, CanStore, IsReady, after_claim, after_publish,
+    after_store, flight_at, shut_after, with_word}
 use Rattle.fish_rule.specs.Table.{Stands}
 use Rattle.fish_rule.specs.declared.table.Log.{Log}
 use Rattle.fish_rule.specs.declared.table.Pass.{Pass}
@@ -28,8 +29,10 @@ module _ (v u : View) (lines n a : ℕ) (is : u ≡ after_claim v lines n a) whe
   claimed_law k about s = flight_law k u (flight_at n a lines) about s claimed_flight
 
   -- the region's kind is that of the log's end before the claim
-  pub claimed_kind : (k : Key) (kind : Kind) → u.about ≡ k → kind ≡ kind_of k.end a (a + lines) → kind_of v.about.end a (a + lines) ≡ kind
-  claimed_kind k kind about told = ap (λ (z : Key). kind_of z.end a (a + lines)) (ap (λ (z : View). z.about) (sym is) ∙ about) ∙ sym told
+  pub claimed_kind : (k : Key) (kind : Kind) → u.about ≡ k → kind ≡ kind_of k.end a (a + lines)
+      → kind_of v.about.end a (a + lines) ≡ kind
+  claimed_kind k kind about told = ap (λ (z : Key). kind_of z.end a (a + lines))
+      (ap (λ (z : View). z.about) (sym is) ∙ about) ∙ sym told
 
   -- the header of a void may be stored
   pub can_store_header : 0 < lines → kind_of v.about.end a (a + lines) ≡ Void → CanStore u (flight_at n a lines)
@@ -43,7 +46,8 @@ module _ (v u : View) (lines n a : ℕ) (is : u ≡ after_claim v lines n a) whe
       }
 
   -- a void with its header may be published
-  pub can_publish_void : (t : View) → CanClaim v → kind_of v.about.end a (a + lines) ≡ Void → t ≡ after_store u (flight_at n a lines) (void_word lines)
+  pub can_publish_void : (t : View) → CanClaim v → kind_of v.about.end a (a + lines) ≡ Void
+      → t ≡ after_store u (flight_at n a lines) (void_word lines)
       → CanPublish t (with_word (flight_at n a lines) (void_word lines))
   can_publish_void t can kind stored =
       let w : View = after_store (after_claim v lines n a) (flight_at n a lines) (void_word lines) in
@@ -52,7 +56,7 @@ module _ (v u : View) (lines n a : ℕ) (is : u ≡ after_claim v lines n a) whe
       let may : CanPublish w f = record {
         live = can.live;
         flying = refl;
-        ready = subst (λ (z : Kind). IsReady z v.lane f) (sym kind) (refl, refl);
+        ready = subst (λ (z : Kind). IsReady v.about z v.lane f) (sym kind) (refl, refl);
       } in
       subst (λ (z : View). CanPublish z f) (sym same) may
 
@@ -61,7 +65,8 @@ module _ (v u : View) (lines n a : ℕ) (is : u ≡ after_claim v lines n a) whe
   can_publish_mark can kind =
       let w : View = after_claim v lines n a in
       let f : Flight = flight_at n a lines in
-      let may : CanPublish w f = record { live = can.live; flying = refl; ready = subst (λ (z : Kind). IsReady z v.lane f) (sym kind) refl } in
+      let may : CanPublish w f = record { live = can.live; flying = refl;
+          ready = subst (λ (z : Kind). IsReady v.about z v.lane f) (sym kind) refl } in
       subst (λ (z : View). CanPublish z f) (sym is) may
 
   -- once it is, the pass is shut by the claim
@@ -72,13 +77,17 @@ module _ (v u : View) (lines n a : ℕ) (is : u ≡ after_claim v lines n a) whe
       ∙ ap (λ (z : Kind). shut_after z (flight_at n a lines) v.about.end v.shut) kind
 
 -- the kind of a region of so many lines, told by the log
-pub kind_is : (log : Log) (v : View) (p : Pass) (lines : ℕ) (r : Region) (kind : Kind) → IsPassOf log p → view p ≡ after_claim v lines r.number r.line
-    → r.lines ≡ lines → kind ≡ kind_of log.key.end r.line (r.line + r.lines) → kind_of v.about.end r.line (r.line + lines) ≡ kind
+pub kind_is : (log : Log) (v : View) (p : Pass) (lines : ℕ) (r : Region) (kind : Kind) → IsPassOf log p
+    → view p ≡ after_claim v lines r.number r.line
+    → r.lines ≡ lines → kind ≡ kind_of log.key.end r.line (r.line + r.lines)
+        → kind_of v.about.end r.line (r.line + lines) ≡ kind
 kind_is log v p lines r kind of is long told =
-    claimed_kind v (view p) lines r.number r.line is log.key kind of.about (subst (λ (z : ℕ). kind ≡ kind_of log.key.end r.line (r.line + z)) long told)
+    claimed_kind v (view p) lines r.number r.line is log.key kind of.about
+        (subst (λ (z : ℕ). kind ≡ kind_of log.key.end r.line (r.line + z)) long told)
 
 -- a claim whose region has this kind is answered by it
-pub claimed_as : (v u : View) (lines n a : ℕ) (answer : Claimed) (kind : Kind) → kind_of v.about.end a (a + lines) ≡ kind
+pub claimed_as : (v u : View) (lines n a : ℕ) (answer : Claimed) (kind : Kind)
+    → kind_of v.about.end a (a + lines) ≡ kind
     → answer ≡ answer_of kind v.about.end n a lines → u ≡ claimed_view kind v lines n a → IsClaimed v lines answer u
 claimed_as v u lines n a answer kind is answered known = record {
   number = n;

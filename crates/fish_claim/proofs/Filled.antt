@@ -17,14 +17,15 @@ use Rattle.fish_rule.specs.declared.view.View.{View}
 
 -- an entry that is still to be linked may be aimed
 pub filled_aim : (v : View) (f : Flight) → IsFilled v f → f.linked < keys_of (body_of f.words 0) → CanAim v f
-filled_aim v f is more = record { flying = is.flying; kind = is.stored; full = is.full; record_of = is.record_of; more = more }
+filled_aim v f is more = record { flying = is.flying; kind = is.stored; full = is.full;
+    record_of = is.record_of; more = more }
 
 -- once all entries are linked, the record may be published
 pub filled_publish : (v : View) (f : Flight) → IsFilled v f → f.linked ≡ keys_of (body_of f.words 0) → CanPublish v f
 filled_publish v f is all = record {
   live = is.live;
   flying = is.flying;
-  ready = subst (λ (z : Kind). IsReady z v.lane f) (sym is.stored) (is.full, is.record_of, all);
+  ready = subst (λ (z : Kind). IsReady v.about z v.lane f) (sym is.stored) (is.full, is.record_of, all);
 }
 
 -- a record's words say how many key entries it has
@@ -32,17 +33,22 @@ pub body_keys : (p : BodyParts) (words : List ℕ) → IsBody p words → keys_o
 body_keys p words is = ap keys_of (cleared_head _) ∙ (body_says is).keys
 
 -- so a record with no key entries may be published once it is filled
-pub plain_publish : (v : View) (f : Flight) (p : BodyParts) (words : List ℕ) → IsFilled v (with_words f words) → f.linked ≡ 0 → IsBody p words → p.keys ≡ [] → CanPublish v (with_words f words)
-plain_publish v f p words is none body keys = filled_publish v (with_words f words) is (none ∙ sym (body_keys p words body ∙ ap length keys))
+pub plain_publish : (v : View) (f : Flight) (p : BodyParts) (words : List ℕ) → IsFilled v (with_words f words)
+    → f.linked ≡ 0 → IsBody p words → p.keys ≡ [] → CanPublish v (with_words f words)
+plain_publish v f p words is none body keys =
+    filled_publish v (with_words f words) is (none ∙ sym (body_keys p words body ∙ ap length keys))
 
 -- a record stays filled where its words change in previous nodes alone, and more entries are linked
-pub refilled : (v u : View) (f : Flight) (words : List ℕ) (linked : ℕ) → IsFilled v f → u.about ≡ v.about → u.lane ≡ v.lane → u.flight ≡ Some (record f { words = words; linked = linked })
-    → length words ≡ length f.words → body_of words ≡ body_of f.words → linked ≤ keys_of (body_of f.words 0) → IsFilled u (record f { words = words; linked = linked })
+pub refilled : (v u : View) (f : Flight) (words : List ℕ) (linked : ℕ) → IsFilled v f → u.about ≡ v.about
+    → u.lane ≡ v.lane → u.flight ≡ Some (record f { words = words; linked = linked })
+    → length words ≡ length f.words → body_of words ≡ body_of f.words → linked ≤ keys_of (body_of f.words 0)
+        → IsFilled u (record f { words = words; linked = linked })
 refilled v u f words linked is about lane flying long body few = record {
   live = subst (λ (z : ℕ). 1 ≤ z) (sym lane) is.live;
   flying = flying;
   stored = ap (λ (z : Key). kind_of z.end f.line (f.line + f.lines)) about ∙ is.stored;
   full = long ∙ is.full;
-  record_of = subst (λ (z : ℕ × (ℕ → ℕ)). IsRecord z.0 f.number f.lines z.1) (λ i. (sym lane i, sym body i)) is.record_of;
+  record_of = subst (λ (z : Key × ℕ × (ℕ → ℕ)). IsRecord z.0 z.1 f.number f.lines z.2)
+      (λ i. (sym about i, sym lane i, sym body i)) is.record_of;
   linked = subst (λ (z : ℕ → ℕ). linked ≤ keys_of (z 0)) (sym body) few;
 }

@@ -2,41 +2,46 @@
 use Rattle.std.specs.Prelude.{ℕ, ◌≡◌, ◌+◌, ◌*◌, ◌≤◌, List, [], length, slice_index, IsTrue, Some}
 use Rattle.fish_layout.specs.Body.{body_lines}
 use Rattle.fish_layout.specs.Cleared.{body_of}
-use Rattle.fish_layout.specs.Header.{keys_of, version_of}
+use Rattle.fish_layout.specs.Header.{keys_of}
 use Rattle.fish_layout.specs.declared.parts.BodyParts.{BodyParts}
 use Rattle.fish_psf.specs.Records.{is_record}
+use Rattle.fish_rule.specs.Keys.{HasKeys}
 use Rattle.fish_rule.specs.Regions.{IsRecord}
 use Rattle.fish_rule.specs.Steps.{flight_kind}
 use Rattle.fish_rule.specs.declared.view.Flight.{Flight}
+use Rattle.fish_rule.specs.declared.view.Key.{Key}
 use Rattle.fish_rule.specs.declared.view.Kind.TheVariants.{Stored}
 use Rattle.fish_rule.specs.declared.view.View.{View}
 
--- f is the record in flight, with nothing stored, and the words are all of a record for it: of the pass's lane, with f's number and lines, and version 0
+-- f is the record in flight, with nothing stored, and the words are all of a record for it: of the pass's lane, with
+-- f's number and lines, version 0, and the keys that the log's definitions give for it
 pub record CanFill (v : View) (f : Flight) (words : List ℕ) : Type 0 where
   pub flying : v.flight ≡ Some f
   pub unfilled : f.words ≡ []
   pub unlinked : f.linked ≡ 0
   pub stored : flight_kind v f ≡ Stored
   pub full : length words ≡ f.lines * 4
-  pub written : IsRecord v.lane f.number f.lines (body_of words)
-  pub version : version_of (slice_index words 0) ≡ 0
+  pub written : IsRecord v.about v.lane f.number f.lines (body_of words)
 
--- f is the record in flight of a pass that is live, with all words of a record, and no more of its key entries are linked than it has
+-- f is the record in flight of a pass that is live, with all words of a record, and no more of its
+-- key entries are linked than it has
 pub record IsFilled (v : View) (f : Flight) : Type 0 where
   pub live : 1 ≤ v.lane
   pub flying : v.flight ≡ Some f
   pub stored : flight_kind v f ≡ Stored
   pub full : length f.words ≡ f.lines * 4
-  pub record_of : IsRecord v.lane f.number f.lines (body_of f.words)
+  pub record_of : IsRecord v.about v.lane f.number f.lines (body_of f.words)
   pub linked : f.linked ≤ keys_of (body_of f.words 0)
 
--- the parts of a record that may be stored: of this lane, number and lines, at version 0, and a payload that is a record of its form
-pub record IsStorable (lane number lines : ℕ) (p : BodyParts) : Type 0 where
+-- the parts of a record that may be stored: of this lane, number and lines, at version 0, with a payload that is a
+-- record of its form and the keys that the log's definitions give for it
+pub record IsStorable (k : Key) (lane number lines : ℕ) (p : BodyParts) : Type 0 where
   pub lane_is : p.lane ≡ lane
   pub number_is : p.number ≡ number
   pub lines_is : body_lines p ≡ lines
   pub version : p.version ≡ 0
   pub reads : IsTrue (is_record p.form p.payload)
+  pub keys : HasKeys k.rows.value p
 
 -- a record in flight with these words
 abbrev pub with_words : Flight → List ℕ → Flight

@@ -5,8 +5,10 @@ ghost use Rattle.fish_claim.specs.Fills.{IsStorable};
 ghost use Rattle.fish_layout.specs.Body.{IsBody};
 ghost use Rattle.fish_layout.specs.declared.parts.BodyParts.{BodyParts};
 ghost use Rattle.fish_rule.specs.Passes.{IsPassOf};
+ghost use Rattle.fish_rule.specs.declared.view.Key.{Key};
 
 use crate::{Claimed, claim, fill, publish};
+use fish_catalog::Catalog;
 use fish_json::JsonRecord;
 use fish_layout::{Body, BodyParts, body_of};
 use fish_rule::{Log, Pass, Shape, Shut, Start, in_flight, is_shut, lane, open_log};
@@ -25,12 +27,12 @@ fn object_of(alloc: Global, len: u64) -> Result<Text, AllocError> {
     Ok(Text::from_string(text))
 }
 
-/// The words of a record that takes so many lines.
+/// The words of a record without keys that takes so many lines.
 fn record_words(alloc: Global, lane: u8, number: u32, lines: u64) -> Result<Body, Fail>
     requires lane { (1 ≤ lane) × (lane ≤ 16) }
     requires number { number < 2 ^ 28 }
     requires lines { (0 < lines) × (lines ≤ 18625) }
-    ensures { IfOk result (λ body. (p : BodyParts) × IsStorable lane number lines p × (p.keys ≡ []) × IsBody p body) }
+    ensures { IfOk result (λ body. (p : BodyParts) × ((k : Key) → k.rows.value ≡ [] → IsStorable k lane number lines p) × (p.keys ≡ []) × IsBody p body) }
 {
     let payload = object_of(alloc, (lines * 4 - 1) * 8)?;
     if payload.as_bytes().len() > 524_288 {
@@ -56,6 +58,7 @@ fn record_words(alloc: Global, lane: u8, number: u32, lines: u64) -> Result<Body
 fn store(alloc: Global, log: &Log, pass: &mut Pass, lines: u64) -> Result<Claimed, Fail>
     requires pass { IsPassOf log.now pass.old }
     requires lines { (0 < lines) × (lines ≤ 18625) }
+    requires rows { log.now.key.rows.value ≡ [] }
     ensures { IsPassOf log.now pass.new }
 {
     let lane = lane(pass);
@@ -87,7 +90,10 @@ fn one_page(rt: HostRuntime) -> Result<(), Fail> {
         pages: 1,
         bucket_bits: 4,
     };
-    let (log, mut pass) = open_log(alloc, shape, &Start::Empty)?;
+    let start = Start::Empty {
+        catalog: Catalog::new(alloc),
+    };
+    let (log, mut pass) = open_log(alloc, shape, &start)?;
     let shut = Shut {
         line: 32_752,
         lines: 19,
@@ -110,7 +116,10 @@ fn two_pages(rt: HostRuntime) -> Result<(), Fail> {
         pages: 2,
         bucket_bits: 4,
     };
-    let (log, mut pass) = open_log(alloc, shape, &Start::Empty)?;
+    let start = Start::Empty {
+        catalog: Catalog::new(alloc),
+    };
+    let (log, mut pass) = open_log(alloc, shape, &start)?;
     // lines claimed, answer
     let cases = [
         (16_376, placed(0, 0)),

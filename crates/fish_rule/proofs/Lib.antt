@@ -17,6 +17,7 @@ pub mod Frames
 pub mod Gaps
 pub mod Heads
 pub mod Kept
+pub mod Keys
 pub mod Lanes
 pub mod Laws
 pub mod Learns

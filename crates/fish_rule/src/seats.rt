@@ -24,6 +24,7 @@ use std::alloc::{AllocError, Global};
 use std::snapshot::Snapshot;
 
 /// What a log begins with.
+#[derive(Debug, Drop)]
 pub enum Start {
     /// No record, and these definitions.
     Empty {

@@ -8,5 +8,6 @@ use Rattle.fish_claim.proofs.flight.fill.Given as goal
 abbrev pub invariant-loop-offset : goal.invariant-loop-offset
 invariant-loop-offset l = record {
   of : IsPassOf l.log l.pass;
-  known : (f : Flight) → (view l.fn.pass).flight ≡ Some f → view l.pass ≡ filled_view (view l.fn.pass) f (take l.offset l.body);
+  known : (f : Flight) → (view l.fn.pass).flight ≡ Some f
+      → view l.pass ≡ filled_view (view l.fn.pass) f (take l.offset l.body);
 }
