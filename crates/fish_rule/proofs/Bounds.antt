@@ -1,7 +1,10 @@
 -- Regions follow one another, so two of them share no line.
 use Rattle.std.proofs.Common.{◌≡◌, ◌≢◌, ℕ, ◌+◌, ◌-◌, ◌*◌, ◌<◌, ◌≤◌, zero, suc, subst, inl, inr, ◌⊎◌, ⊎_elim, arith}
 use Rattle.std.proofs.Math.Decide.{dec_lt, ℕ_discrete}
-use Rattle.fish_rule.specs.Parts.{Regions}
+use Rattle.fish_rule.specs.Parts.{InFlight, Regions}
+use Rattle.fish_rule.specs.Rule.{Rule}
+use Rattle.fish_rule.specs.World.{World}
+use Rattle.fish_rule.specs.declared.view.Flight.{Flight}
 use Rattle.fish_rule.specs.declared.view.Key.{Key}
 
 -- a sum of so many steps up
@@ -75,3 +78,17 @@ one_region k count line start r m n p above_m below_m above_n below_n from_m to_
     pick (no ne) = ⊎_elim (λ (h : start (suc m) ≤ start n). absurd (omega arith))
         (λ (h : start (suc n) ≤ start m). absurd (omega arith))
         (regions_apart k count line start r m n above_m below_m above_n below_n ne)
+
+-- a number in flight is at or behind the settled one, and its region behind every settled region
+pub flight_behind : (k : Key) (w : World) (r : Rule k w) (lane : ℕ) (f : Flight)
+    → InFlight k w.count w.dir w.log r.start r.lane_of lane f → k.number ≤ w.settled → r.start w.settled ≤ f.line
+flight_behind k w r lane f own from = pick (dec_lt f.number w.settled)
+  where
+    pick : Dec (f.number < w.settled) → r.start w.settled ≤ f.line
+    pick (yes before) = absurd ((r.settling.below f.number own.above before).published own.unpublished)
+    pick (no behind) =
+        let below = own.below in
+        let rises = starts_rise k w.count w.line r.start r.space.regions w.settled f.number from (omega arith)
+            (omega arith) in
+        let line = own.line in
+        omega arith

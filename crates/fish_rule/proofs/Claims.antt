@@ -72,6 +72,7 @@ module _ (k : Key) (w : World) (r : Rule k w) (id : ℕ) (v : View) (at : get_el
     lanes = old_lane;
     dirs = λ n h e. refl;
     bodies = λ n h e. refl;
+    below = λ p from h. refl;
   }
 
   regions : Regions k (suc w.count) (w.line + m) start'

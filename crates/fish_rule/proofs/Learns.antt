@@ -37,7 +37,7 @@ module _ (k : Key) (w : World) (r : Rule k w) (id : ℕ) (v : View) (at : get_el
   learn_final l t c = record { counts = omega arith; lines = omega arith; settles = omega arith;
       heads = λ b. omega arith; links = links_set k w r id v (learner l t c) at (λ a c h. h);
       rises = λ b p h. omega arith; starts = λ n h. refl; lanes = λ n h. refl; dirs = λ n h e. refl;
-      bodies = λ n h e. refl }
+      bodies = λ n h e. refl; below = λ p from h. refl }
 
   -- what was known of chains is so in the new world
   pub still_chained : (l : Learned) (t : Option Position) (c : Clock)
@@ -118,7 +118,7 @@ module _ (k : Key) (w : World) (r : Rule k w) (id : ℕ) (v : View) (at : get_el
   end_lasts x count line = record { counts = omega arith; lines = omega arith; settles = omega arith;
       heads = λ b. omega arith; links = links_set k w r id v (after_end v x) at (λ a c h. h);
       rises = λ b p h. omega arith; starts = λ m h. refl; lanes = λ m h. refl; dirs = λ m h e. refl;
-      bodies = λ m h e. refl }
+      bodies = λ m h e. refl; below = λ p from h. refl }
 
   -- the count only rises
   pub end_counted : (x : ℕ) → high x ≡ w.count → v.learned.count ≤ high x
@@ -153,7 +153,7 @@ module _ (k : Key) (w : World) (r : Rule k w) (id : ℕ) (v : View) (at : get_el
   settled_lasts = record { counts = omega arith; lines = omega arith; settles = omega arith;
       heads = λ b. omega arith; links = links_set k w r id v (after_settled v w.settled) at (λ a c h. h);
       rises = λ b p h. omega arith; starts = λ n h. refl; lanes = λ n h. refl; dirs = λ n h e. refl;
-      bodies = λ n h e. refl }
+      bodies = λ n h e. refl; below = λ p from h. refl }
 
   -- ---- look
 
@@ -213,7 +213,7 @@ module _ (k : Key) (w : World) (r : Rule k w) (id : ℕ) (v : View) (at : get_el
   look_lasts n x can about is = record { counts = omega arith; lines = omega arith; settles = omega arith;
       heads = λ b. omega arith; links = links_set k w r id v (after_look v n (lines_at n) x) at (λ a c h. h);
       rises = λ b p h. omega arith; starts = λ m h. refl; lanes = λ m h. refl; dirs = λ m h e. refl;
-      bodies = λ m h e. refl }
+      bodies = λ m h e. refl; below = λ p from h. refl }
 
   -- a number that was found has the word that it had
   pub look_known : (n : ℕ) (x : ℕ) → x ≡ w.dir n → (f : Found) → Among f v.learned.found → f.number ≡ n

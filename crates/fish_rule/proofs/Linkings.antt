@@ -53,6 +53,7 @@ module _ (k : Key) (w : World) (r : Rule k w) (id : ℕ) (v : View) (at : get_el
     pub regions : (n : ℕ) → k.number ≤ n → n < w.count
         → lines_of (body w.log (r.start n) 0) ≤ r.start (suc n) - r.start n
         → body log' (r.start n) ≡ body w.log (r.start n)
+    pub below : (p : ℕ) → k.number ≤ w.settled → p < r.start w.settled * 4 → log' p ≡ w.log p
     pub own_words : (i : ℕ) → i < f.lines * 4 → log' (f.line * 4 + i) ≡ w.log (f.line * 4 + i)
     pub others : (j : ℕ) (u : View) → j ≢ id → get_elem? w.views j ≡ some u
         → Flies k w.count w.dir log' r.start r.lane_of u.lane u.flight
@@ -154,6 +155,7 @@ module _ (k : Key) (w : World) (r : Rule k w) (id : ℕ) (v : View) (at : get_el
       lanes = λ n h. refl;
       dirs = λ n h e. refl;
       bodies = λ n below set_. pick n below set_ (dec_le k.number n);
+      below = leaves.below;
     }
       where
         pick : (n : ℕ) → n < w.count → w.dir n ≢ 0 → Dec (k.number ≤ n) → body log' (r.start n) ≡ body w.log (r.start n)

@@ -157,7 +157,7 @@ module _ (k : Key) (w : World) (r : Rule k w) (id : ℕ) (v : View) (at : get_el
   read_lasts = record { counts = omega arith; lines = omega arith; settles = omega arith;
       heads = λ b. omega arith; links = links_set k w r id v (reader) at (λ a c h. h);
       rises = λ b p h. omega arith; starts = λ n h. refl; lanes = λ n h. refl; dirs = λ n h e. refl;
-      bodies = λ n h e. refl }
+      bodies = λ n h e. refl; below = λ p from h. refl }
 
 -- a load of a word of a published region
 pub read_allowed : (given k : Key) → given ≡ k → (size id : ℕ) (me : Sat) (x : Found) (o i : ℕ)

@@ -9,7 +9,7 @@ use Rattle.fish_layout.proofs.Spelled.{spelled_lines}
 use Rattle.fish_layout.specs.Cleared.{IsKeyWord, entry_at}
 use Rattle.fish_layout.specs.Header.{keys_of, lines_of}
 use Rattle.fish_rule.proofs.Bodies.{body_same}
-use Rattle.fish_rule.proofs.Bounds.{ends_within, one_region}
+use Rattle.fish_rule.proofs.Bounds.{ends_within, flight_behind, one_region}
 use Rattle.fish_rule.proofs.Common.{each_set, seats_kept}
 use Rattle.fish_rule.proofs.Flights.{one_flight}
 use Rattle.fish_rule.proofs.Frames.{alone_kept, flight_there, may_kept, one_view}
@@ -192,6 +192,8 @@ module _ (k : Key) (w : World) (r : Rule k w) (id : ℕ) (v : View) (at : get_el
     lanes = λ n h. refl;
     dirs = λ n h e. refl;
     bodies = bodies_stay;
+    below = λ p from less. (let behind = flight_behind k w r v.lane f own from in
+        put-else w.log own_word x p (λ h. omega arith));
   }
 
   own_flight : InFlight k w.count w.dir written.log r.start r.lane_of v.lane rewritten

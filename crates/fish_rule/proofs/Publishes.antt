@@ -185,6 +185,7 @@ module _ (k : Key) (w : World) (r : Rule k w) (id : ℕ) (v : View) (at : get_el
     lanes = λ n h. refl;
     dirs = λ n h set_. dir_else n (is_other n set_);
     bodies = λ n h set_. refl;
+    below = λ p from h. refl;
   }
 
   -- what the region holds

@@ -130,7 +130,7 @@ module _ (k : Key) (w : World) (r : Rule k w) (id : ℕ) (v : View) (at : get_el
   split_final = record { counts = omega arith; lines = omega arith; settles = omega arith;
       heads = λ b. omega arith; links = links_views k w r (cut ++ right ∷ []) links_cut;
       rises = λ b p h. omega arith; starts = λ n h. refl; lanes = λ n h. refl; dirs = λ n h e. refl;
-      bodies = λ n h e. refl }
+      bodies = λ n h e. refl; below = λ p from h. refl }
 
   -- what is known of chains stays so
   split_chained : (x : Learned) → Chained k w.dir w.log w.views w.head x
@@ -180,7 +180,7 @@ module _ (k : Key) (w : World) (r : Rule k w) (id : ℕ) (v : View) (at : get_el
   split_lasts = record { counts = omega arith; lines = omega arith; settles = omega arith;
       heads = λ b. omega arith; links = links_views k w r (cut ++ right ∷ []) links_cut;
       rises = λ b p h. omega arith; starts = λ n h. refl; lanes = λ n h. refl; dirs = λ n h e. refl;
-      bodies = λ n h e. refl }
+      bodies = λ n h e. refl; below = λ p from h. refl }
 
 module _ (k : Key) (w : World) (r : Rule k w) (id other : ℕ) (v u : View) (at : get_elem? w.views id ≡ some v)
     (ne : other ≢ id)
@@ -289,7 +289,7 @@ module _ (k : Key) (w : World) (r : Rule k w) (id other : ℕ) (v u : View) (at 
   join_final = record { counts = omega arith; lines = omega arith; settles = omega arith;
       heads = λ b. omega arith; links = links_views k w r (set taken other spent) links_join;
       rises = λ b p h. omega arith; starts = λ n h. refl; lanes = λ n h. refl; dirs = λ n h e. refl;
-      bodies = λ n h e. refl }
+      bodies = λ n h e. refl; below = λ p from h. refl }
 
   -- what is known of chains stays so, and what either knew is so
   join_chained : (x : Learned) → Chained k w.dir w.log w.views w.head x
@@ -359,4 +359,4 @@ module _ (k : Key) (w : World) (r : Rule k w) (id other : ℕ) (v u : View) (at 
   join_lasts = record { counts = omega arith; lines = omega arith; settles = omega arith;
       heads = λ b. omega arith; links = links_views k w r (set taken other spent) links_join;
       rises = λ b p h. omega arith; starts = λ n h. refl; lanes = λ n h. refl; dirs = λ n h e. refl;
-      bodies = λ n h e. refl }
+      bodies = λ n h e. refl; below = λ p from h. refl }

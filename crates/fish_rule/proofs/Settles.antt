@@ -40,7 +40,7 @@ module _ (k : Key) (w : World) (r : Rule k w) (id : ℕ) (v : View) (at : get_el
   raise_final = record { counts = omega arith; lines = omega arith; settles = omega arith;
       heads = λ b. omega arith; links = links_set k w r id v (raiser) at (λ a c h. h);
       rises = λ b p h. omega arith; starts = λ n h. refl; lanes = λ n h. refl; dirs = λ n h e. refl;
-      bodies = λ n h e. refl }
+      bodies = λ n h e. refl; below = λ p from h. refl }
 
   -- every number below is published, and no mark
   settling : Settled k w.count (max w.settled m) w.dir

@@ -15,7 +15,7 @@ use Rattle.fish_layout.specs.Cleared.{IsKeyWord, body_of, choose, entry_at}
 use Rattle.fish_layout.specs.Header.{keys_of, lines_of}
 use Rattle.fish_rule.proofs.Allowed.{allowed, loaded_words, stands, there}
 use Rattle.fish_rule.proofs.Bodies.{body_same}
-use Rattle.fish_rule.proofs.Bounds.{ends_within, one_region}
+use Rattle.fish_rule.proofs.Bounds.{ends_within, flight_behind, one_region}
 use Rattle.fish_rule.proofs.Chained.{chain_same, chain_spliced}
 use Rattle.fish_rule.proofs.Flights.{one_flight}
 use Rattle.fish_rule.proofs.Frames.{one_view}
@@ -223,6 +223,8 @@ module _ (k : Key) (w : World) (r : Rule k w) (id : ℕ) (v : View) (at : get_el
         ends_within k w.count w.line r.start r.space.regions its.number its.above its.below in
         put-else w.log q own_at p (λ g. omega arith);
     regions = regions;
+    below = λ p from less. (let behind = flight_behind k w r v.lane f own from in let under = can.below in
+        put-else w.log q own_at p (λ g. omega arith));
     own_words = own_words;
     others = λ j u ne at_u. flies j u at_u u.flight refl (r.space.flights j u at_u);
   }

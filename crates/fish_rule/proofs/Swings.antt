@@ -69,6 +69,7 @@ module _ (k : Key) (w : World) (r : Rule k w) (id : ℕ) (v : View) (at : get_el
     rises = λ c p l. omega arith;
     beyond = λ p more. refl;
     regions = λ n above below lined. refl;
+    below = λ p from h. refl;
     own_words = λ i less. refl;
     others = λ j u ne at_u. r.space.flights j u at_u;
   }

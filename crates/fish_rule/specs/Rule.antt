@@ -1,5 +1,5 @@
 -- The rule: all parts at once. And what every step leaves as it was.
-use Rattle.std.specs.Prelude.{ℕ, ◌≡◌, ◌≢◌, ◌<◌, ◌≤◌, []}
+use Rattle.std.specs.Prelude.{ℕ, ◌≡◌, ◌≢◌, ◌*◌, ◌<◌, ◌≤◌, []}
 use Rattle.fish_rule.specs.Chains.{Chain, Chained, Linked}
 use Rattle.fish_rule.specs.Parts.{Fits, Limit, Rests, Seats, Settled, Space}
 use Rattle.fish_rule.specs.Facts.{Facts, Owns, ShutOk}
@@ -27,9 +27,9 @@ pub record Rule (k : Key) (w : World) : Type 0 where
   pub facts : Each (λ v. Facts k w.count w.dir w.log start v.learned) w.views
   pub shuts : Each (λ v. ShutOk k w.count w.dir start v.shut) w.views
 
--- what every step keeps for good: the tail, the settled number, heads and the first words of linked
--- key entries only rise; linked entries stay linked; claimed regions stay where they are; directory
--- words that are set, and the words of published regions but for previous nodes, never change
+-- what every step keeps for good: the tail, the settled number, heads and the first words of linked key entries only rise;
+-- linked entries stay linked; claimed regions stay where they are; directory words that are set, and the words of published
+-- regions but for previous nodes, never change; no word of a record below the settled number changes at all
 pub record Final (k : Key) (start start' lane_of lane_of' : ℕ → ℕ) (w w' : World) : Type 0 where
   pub counts : w.count ≤ w'.count
   pub lines : w.line ≤ w'.line
@@ -41,3 +41,4 @@ pub record Final (k : Key) (start start' lane_of lane_of' : ℕ → ℕ) (w w' :
   pub lanes : (n : ℕ) → n < w.count → lane_of' n ≡ lane_of n
   pub dirs : (n : ℕ) → n < w.count → w.dir n ≢ 0 → w'.dir n ≡ w.dir n
   pub bodies : (n : ℕ) → n < w.count → w.dir n ≢ 0 → body w'.log (start n) ≡ body w.log (start n)
+  pub below : (p : ℕ) → k.number ≤ w.settled → p < start w.settled * 4 → w'.log p ≡ w.log p
