@@ -1,0 +1,5 @@
+pub mod Changes
+pub mod Climbing
+pub mod Laws
+pub mod Splicing
+pub mod Swinging
