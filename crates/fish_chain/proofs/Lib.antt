@@ -1,5 +1,7 @@
+pub mod Buckets
 pub mod Changes
 pub mod Climbing
 pub mod Laws
+pub mod Partly
 pub mod Splicing
 pub mod Swinging

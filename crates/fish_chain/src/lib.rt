@@ -5,5 +5,7 @@
 #![tactic(auto)]
 
 mod chain;
+#[cfg(test)]
+mod tests;
 
 pub use chain::link;

@@ -1,0 +1,36 @@
+-- The words have the parts that were put into them.
+use Rattle.std.proofs.Common.{◌≡◌, ℕ, ◌≤◌, List, length, is_some, true, refl, ap, subst, arith}
+use Rattle.std.specs.Prelude.{IsUtf8}
+use Rattle.fish_json.specs.Reading.{record_of as reading}
+use Rattle.fish_layout.proofs.Outlines.{body_length}
+use Rattle.fish_layout.specs.Body.{IsBody}
+use Rattle.fish_layout.specs.declared.parts.BodyParts.{BodyParts}
+use Rattle.fish_psf.specs.Records.{is_record}
+use Rattle.fish_value.specs.declared.field.Form.TheVariants.{Json}
+use Rattle.fish_chain.proofs.tests.record_of.Goals as goal
+
+pub returns : goal.returns
+unfolding is_record
+returns c =
+    let text : List ℕ = c.in_ok-payload.payload in
+    let p : BodyParts = record { form = Json; lane = c.args.lane; version = 0; number = c.args.number; keys = c.in_ok-keys.keys; payload = text } in
+    let lane = c.requires.lane in
+    let bytes : c.as_bytes.result.now ≡ text = c.as_bytes.ensures.value in
+    let long = c.if-as_bytes-gt524288.false in
+    let is : IsBody p c.in_ok-body.body = record {
+      proper = record {
+        some_lane = omega arith;
+        lane = omega arith;
+        version = omega arith;
+        number = c.requires.number;
+        keys = c.in_ok-keys.ensures;
+        short = subst (λ (z : List ℕ). length z ≤ 524288) bytes (omega arith);
+        text = subst IsUtf8 bytes c.as_bytes.ensures.utf8;
+      };
+      is = c.in_ok-body.ensures;
+    } in
+    let size = body_length is in
+    let len = c.len.ensures in
+    let same = c.if-len-entries.false in
+    let read = subst (λ (z : List ℕ). is_some (reading z) ≡ true) c.as_bytes-2.ensures.value (ap is_some c.in_ok-read.ensures.ok) in
+    (record { lane_is = refl; number_is = refl; lines_is = omega arith; version = refl; reads = read }, is)
