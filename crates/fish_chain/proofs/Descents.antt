@@ -4,7 +4,8 @@ use Rattle.std.proofs.Math.Decide.{dec_le}
 use Rattle.fish_chain.specs.Walks.{GoesOn, Gave, HasBegun, HasLooked, HasRange, IsNext, IsNumbered, IsWalking}
 use Rattle.fish_chain.specs.declared.walk.Node.{Node}
 use Rattle.fish_layout.specs.Entry.{entry_id, entry_number, entry_place}
-use Rattle.fish_rule.proofs.Descents.{entries_within, extends_head, extends_node, extends_previous, head_clear, head_here, previous_clear, previous_here}
+use Rattle.fish_rule.proofs.Descents.{entries_within, extends_head, extends_node, extends_previous}
+use Rattle.fish_rule.proofs.Descents.{head_clear, head_here, previous_clear, previous_here}
 use Rattle.fish_rule.proofs.Extending.{extends_both}
 use Rattle.fish_rule.proofs.Walking.{always_later, clear_both, label_entry, label_last, label_outside}
 use Rattle.fish_rule.specs.Linking.{HasNode, after_head, after_node, after_previous}
@@ -104,7 +105,8 @@ looked_both v u t one two = record {
 
 -- a view after the load of a second word has looked
 pub looked_node : (v u : View) (p word : ℕ) → u ≡ after_node v p word → HasLooked v u
-looked_node v u p word seen = subst (HasLooked v) (sym seen) (record { extends = extends_node v p word; settled = refl })
+looked_node v u p word seen = subst (HasLooked v) (sym seen)
+    (record { extends = extends_node v p word; settled = refl })
 
 module _ (v u t : View) (walk : Walk) (word below : ℕ) (walking : IsWalking v walk) (some_ : 0 < walk.place)
     (seen : u ≡ after_node v walk.place word) (looked : HasLooked u t) (goes : GoesOn t walk below) where

@@ -1,1 +1,7 @@
+pub mod Changes
+pub mod Climbing
 pub mod Descents
+pub mod Laws
+pub mod Partly
+pub mod Splicing
+pub mod Swinging

@@ -13,7 +13,8 @@ use Rattle.fish_rule.specs.declared.view.Key.{Key}
 use Rattle.fish_rule.specs.declared.view.Label.{Label}
 use Rattle.fish_rule.specs.declared.view.View.{View}
 
--- a walk over settled numbers stands at an entry of its bucket, or at the end of the chain, and no entry of its range lies
+-- a walk over settled numbers stands at an entry of its bucket, or at the end of the chain, and no
+-- entry of its range lies
 -- between what it gave and where it stands
 pub record IsWalking (v : View) (walk : Walk) : Type 0 where
   pub settled : walk.to ≤ v.learned.settled
@@ -39,7 +40,8 @@ pub record IsNumbered (v : View) (place number : ℕ) : Type 0 where
   pub place_is : label.place ≡ place
   pub number_is : entry_number label.word ≡ number
 
--- a walk may go on at this place behind the entry where it stands: the place is lower, that of an entry of the bucket or 0,
+-- a walk may go on at this place behind the entry where it stands: the place is lower, that of an
+-- entry of the bucket or 0,
 -- and no entry of the range lies between
 pub record GoesOn (v : View) (walk : Walk) (place : ℕ) : Type 0 where
   pub lower : place < walk.place
@@ -51,7 +53,8 @@ pub record HasLooked (v u : View) : Type 0 where
   pub extends : Extends v u
   pub settled : u.learned.settled ≡ v.learned.settled
 
--- the node is an entry of the walk's bucket and range, and the next one below what was given: it is so in every later moment
+-- the node is an entry of the walk's bucket and range, and the next one below what was given: it is
+-- so in every later moment
 pub record IsNext (v : View) (walk : Walk) (node : Node) : Type 0 where
   pub from : walk.from ≤ node.number
   pub to : node.number < walk.to

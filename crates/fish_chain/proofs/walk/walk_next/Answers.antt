@@ -1,7 +1,7 @@
 -- Each turn passes an entry outside the range, or gives the next one of it.
 use Rattle.std.proofs.Common.{◌≡◌, ℕ, ◌+◌, ◌<◌, ◌≤◌, ◌⊎◌, inl, inr, sym, refl, ap, ◌∙◌, subst, arith}
-use Rattle.fish_chain.proofs.Descents.{clear_same, given_next, gone_on, looked_both, looked_node, next_same, numbered,
-    passed_by, stands_at}
+use Rattle.fish_chain.proofs.Descents.{clear_same, given_next, gone_on, looked_both, looked_node, next_same}
+use Rattle.fish_chain.proofs.Descents.{numbered, passed_by, stands_at}
 use Rattle.fish_chain.specs.Walks.{HasLooked, IsNext, IsWalking}
 use Rattle.fish_chain.specs.declared.walk.Node.{Node}
 use Rattle.fish_layout.specs.Entry.{entry_number}
@@ -10,8 +10,8 @@ use Rattle.fish_rule.specs.Passes.{view, walk_of}
 use Rattle.fish_rule.specs.Walking.{Always, IsClear}
 use Rattle.fish_rule.specs.declared.table.Walk.{Walk}
 use Rattle.fish_rule.specs.declared.view.View.{View}
-use Rattle.fish_chain.proofs.walk.walk_next.Goals.{else-walk-from-via-then-walk-from+else-from-walk,
-    else-walk-from-via-else-walk-from}
+use Rattle.fish_chain.proofs.walk.walk_next.Goals.{else-walk-from-via-then-walk-from+else-from-walk}
+use Rattle.fish_chain.proofs.walk.walk_next.Goals.{else-walk-from-via-else-walk-from}
 use Rattle.fish_chain.proofs.walk.walk_next.Goals as goal
 
 pub load_node-entry-requires-clause-node : goal.load_node-entry-requires-clause-node

@@ -1,0 +1,171 @@
+-- What each step leaves of a view while an entry is linked.
+use Rattle.std.proofs.Common.{◌≡◌, ℕ, ◌+◌, ◌*◌, ◌<◌, ◌⊎◌, inl, inr, zero, suc, List, ◌∷◌, set, refl, sym, ap}
+use Rattle.std.proofs.Common.{◌∙◌, subst, arith, length-set, Some}
+use Rattle.fish_chain.specs.Links.{CanLink, Changed, chained_view, with_linked}
+use Rattle.fish_claim.proofs.Filled.{filled_aim, refilled}
+use Rattle.fish_layout.specs.Bucket.{bucket_of}
+use Rattle.fish_layout.specs.Cleared.{body_of, entry_at}
+use Rattle.fish_layout.specs.Header.{keys_of}
+use Rattle.fish_rule.proofs.LinkLaws.{body-set}
+use Rattle.fish_rule.specs.Linking.{CanAim, after_aim, after_head, after_previous, gap, learned_head}
+use Rattle.fish_rule.specs.Linking.{learned_previous, spliced, swung, with_node}
+use Rattle.fish_rule.specs.Steps.{loaded}
+use Rattle.fish_rule.specs.Views.{Among}
+use Rattle.fish_rule.specs.declared.view.Flight.{Flight}
+use Rattle.fish_rule.specs.declared.view.Key.{Key}
+use Rattle.fish_rule.specs.declared.view.Node.{Node}
+use Rattle.fish_rule.specs.declared.view.View.{View}
+
+-- what holds of the record in flight holds of whatever is in flight
+pub for_each : (v : View) (f : Flight) (P : Flight → Type 0) → v.flight ≡ Some f → P f → (g : Flight)
+    → v.flight ≡ Some g → P g
+for_each v f P one here g two = (let same : f ≡ g = (let e : Some f ≡ Some g = sym one ∙ two in cc) in
+    subst P same here)
+
+-- ---- nodes
+
+-- a node stays among more
+pub node_stays : (b x : ℕ) (nodes : List Node) (n : Node) → Among n nodes → Among n (with_node b x nodes)
+node_stays b zero nodes n among = among
+node_stays b (suc x) nodes n among = inr among
+
+-- a place that was found is 0 or a node
+pub node_found : (b x : ℕ) (nodes : List Node) → (x ≡ 0)
+    ⊎ Among (record { bucket = b; place = x }) (with_node b x nodes)
+node_found b zero nodes = inl refl
+node_found b (suc x) nodes = inr (inl refl)
+
+-- ---- one step after others
+
+-- a change after a change of the words is one change
+pub changed_next : (v u t : View) (f : Flight) (words next : List ℕ) (linked : ℕ)
+    → Changed v f words f.linked u → Changed u (with_linked f words f.linked) next linked t → Changed v f next linked t
+changed_next v u t f words next linked c d =
+    let clock = ap (λ (z : View). z.clock) c.known in
+    let nodes = ap (λ (z : View). z.learned.nodes) c.known in
+    record {
+      nodes = d.nodes;
+      lows = d.lows;
+      tops = d.tops;
+      gaps = d.gaps;
+      clock = d.clock;
+      known = d.known ∙ ap (λ (z : View). chained_view z
+          (with_linked f words f.linked) next linked d.nodes d.lows d.tops d.gaps d.clock) c.known;
+      long = d.long ∙ c.long;
+      body = d.body ∙ c.body;
+      kept = λ n among. d.kept n (subst (Among n) (sym nodes) (c.kept n among));
+      steps = (let s = ap (λ z. z.steps) clock in let a = c.steps in let b = d.steps in omega arith);
+      loads = (let s = ap (λ z. z.loads) clock in let a = c.loads in let b = d.loads in omega arith);
+      notes = d.notes ∙ ap (λ z. z.notes) clock ∙ c.notes;
+    }
+
+-- after a change of the words the entry may still be linked
+pub still_links : (v u : View) (f : Flight) (words : List ℕ) (b : ℕ) → Changed v f words f.linked u
+    → CanLink v f f.linked b → CanLink u (with_linked f words f.linked) f.linked b
+still_links v u f words b c can =
+    let about = ap (λ (z : View). z.about) c.known in
+    let buckets = ap (λ (z : Key). z.buckets) about in
+    record {
+      filled = refilled v u f words f.linked can.filled about (ap (λ (z : View). z.lane) c.known)
+          (ap (λ (z : View). z.flight) c.known) c.long c.body can.filled.linked;
+      next = refl;
+      more = subst (λ (z : ℕ → ℕ). f.linked < keys_of (z 0)) (sym c.body) can.more;
+      of_bucket = subst (λ (z : ℕ × (ℕ → ℕ)). bucket_of z.0 z.1 f.linked ≡ b)
+          (λ i. (sym buckets i, sym c.body i)) can.of_bucket;
+      below = subst (λ (z : ℕ). b < z) (sym buckets) can.below;
+    }
+
+-- an entry that may be linked may be aimed
+pub link_aim : (v : View) (f : Flight) (b : ℕ) → CanLink v f f.linked b → CanAim v f
+link_aim v f b can = filled_aim v f can.filled can.more
+
+-- ---- each step
+
+module _ (u t : View) (f : Flight) where
+  -- a load of a head
+  pub head_changes : (b x : ℕ) → u.flight ≡ Some f → t ≡ after_head u b x → Changed u f f.words f.linked t
+  head_changes b x flying is = record {
+    nodes = with_node b x u.learned.nodes;
+    lows = u.learned.lows;
+    tops = record { bucket = b; place = x } ∷ u.learned.tops;
+    gaps = gap b (u.about.end * 4) x u.learned ∷ u.learned.gaps;
+    clock = loaded u.clock;
+    known = is ∙ (λ i. record u { flight = flying i; learned = learned_head u.about.end b x u.learned;
+        clock = loaded u.clock });
+    long = refl;
+    body = refl;
+    kept = node_stays b x u.learned.nodes;
+    steps = omega arith;
+    loads = omega arith;
+    notes = refl;
+  }
+
+  -- a load of a first word
+  pub previous_changes : (b q x : ℕ) → u.flight ≡ Some f → t ≡ after_previous u b q x → Changed u f f.words f.linked t
+  previous_changes b q x flying is = record {
+    nodes = with_node b x u.learned.nodes;
+    lows = record { place = q; value = x } ∷ u.learned.lows;
+    tops = u.learned.tops;
+    gaps = gap b q x u.learned ∷ u.learned.gaps;
+    clock = loaded u.clock;
+    known = is ∙ (λ i. record u { flight = flying i; learned = learned_previous b q x u.learned;
+        clock = loaded u.clock });
+    long = refl;
+    body = refl;
+    kept = node_stays b x u.learned.nodes;
+    steps = omega arith;
+    loads = omega arith;
+    notes = refl;
+  }
+
+  -- an aim
+  pub aim_changes : (x : ℕ) → f.linked < keys_of (body_of f.words 0) → t ≡ after_aim u f x
+      → Changed u f (set f.words (entry_at f.linked) x) f.linked t
+  aim_changes x more is = record {
+    nodes = u.learned.nodes;
+    lows = u.learned.lows;
+    tops = u.learned.tops;
+    gaps = u.learned.gaps;
+    clock = record u.clock { steps = suc u.clock.steps };
+    known = is;
+    long = length-set f.words (entry_at f.linked) x;
+    body = body-set f.words f.linked x more;
+    kept = λ n among. among;
+    steps = omega arith;
+    loads = omega arith;
+    notes = refl;
+  }
+
+  -- a swing that was made
+  pub swing_changes : (b : ℕ) → t ≡ swung u f b → Changed u f f.words (suc f.linked) t
+  swing_changes b is = record {
+    nodes = record { bucket = b; place = f.line * 4 + entry_at f.linked } ∷ u.learned.nodes;
+    lows = u.learned.lows;
+    tops = record { bucket = b; place = f.line * 4 + entry_at f.linked } ∷ u.learned.tops;
+    gaps = u.learned.gaps;
+    clock = loaded u.clock;
+    known = is;
+    long = refl;
+    body = refl;
+    kept = λ n among. inr among;
+    steps = omega arith;
+    loads = omega arith;
+    notes = refl;
+  }
+
+  -- a splice that was made
+  pub splice_changes : (b q : ℕ) → t ≡ spliced u f b q → Changed u f f.words (suc f.linked) t
+  splice_changes b q is = record {
+    nodes = record { bucket = b; place = f.line * 4 + entry_at f.linked } ∷ u.learned.nodes;
+    lows = record { place = q; value = f.line * 4 + entry_at f.linked } ∷ u.learned.lows;
+    tops = u.learned.tops;
+    gaps = u.learned.gaps;
+    clock = loaded u.clock;
+    known = is;
+    long = refl;
+    body = refl;
+    kept = λ n among. inr among;
+    steps = omega arith;
+    loads = omega arith;
+    notes = refl;
+  }

@@ -1,0 +1,32 @@
+-- What a caller of `link` may conclude.
+use Rattle.std.proofs.Common.{ℕ, ◌<◌, suc, sym, ap, subst, arith}
+use Rattle.fish_chain.specs.Links.{IsLinked, with_linked}
+use Rattle.fish_claim.proofs.Filled.{refilled}
+use Rattle.fish_claim.specs.Fills.{IsFilled}
+use Rattle.fish_layout.specs.Cleared.{body_of}
+use Rattle.fish_layout.specs.Header.{keys_of}
+use Rattle.fish_rule.specs.Linking.{HasNode}
+use Rattle.fish_rule.specs.Views.{Among}
+use Rattle.fish_rule.specs.declared.view.Flight.{Flight}
+use Rattle.fish_rule.specs.declared.view.View.{View}
+
+-- the record in flight afterwards
+abbrev pub linked_flight : (v u : View) (f : Flight) (bucket : ℕ) → IsLinked v f bucket u → Flight
+linked_flight v u f bucket is = with_linked f is.words (suc f.linked)
+
+-- it is filled, with one entry more linked
+pub linked_filled : (v u : View) (f : Flight) (bucket : ℕ) → IsFilled v f
+    → f.linked < keys_of (body_of f.words 0) → (is : IsLinked v f bucket u) → IsFilled u (linked_flight v u f bucket is)
+linked_filled v u f bucket filled more is =
+    let c = is.changed in
+    let about = ap (λ (z : View). z.about) c.known in
+    let lane = ap (λ (z : View). z.lane) c.known in
+    refilled v u f is.words (suc f.linked) filled about lane
+        (ap (λ (z : View). z.flight) c.known) c.long c.body (omega arith)
+
+-- what was known to be linked still is
+pub linked_kept : (v u : View) (f : Flight) (bucket b p : ℕ) → IsLinked v f bucket u → HasNode v b p → HasNode u b p
+linked_kept v u f bucket b p is node =
+    let nodes = ap (λ (z : View). z.learned.nodes) is.changed.known in
+    subst (Among (record { bucket = b; place = p })) (sym nodes)
+        (is.changed.kept (record { bucket = b; place = p }) node)

@@ -1,0 +1,131 @@
+-- One turn at a head: aim at it, and swing it.
+use Rattle.std.proofs.Common.{◌≡◌, ◌≢◌, ℕ, ◌-◌, ◌<◌, ◌≤◌, ◌⊎◌, inl, ⊎_elim, suc, List, set, refl, sym, ap}
+use Rattle.std.proofs.Common.{◌∙◌, subst, arith, get_or-set_same}
+use Rattle.std.proofs.Math.Decide.{ℕ_discrete}
+use Rattle.fish_chain.proofs.Changes.{aim_changes, changed_next, head_changes, link_aim, node_found}
+use Rattle.fish_chain.proofs.Changes.{still_links, swing_changes}
+use Rattle.fish_chain.specs.Links.{CanLink, Changed, IsBelow, IsLinked, with_linked}
+use Rattle.fish_layout.proofs.Clearing.{choose_first, choose_second}
+use Rattle.fish_layout.specs.Cleared.{entry_at}
+use Rattle.fish_rule.proofs.LinkLaws.{not_own, own_word}
+use Rattle.fish_rule.specs.Linking.{CanAim, CanSwing, HasNode, TopRises, after_aim, after_head, after_swing}
+use Rattle.fish_rule.specs.Linking.{aimed_at, own_place, swung}
+use Rattle.fish_rule.specs.Table.{Stands}
+use Rattle.fish_rule.specs.Views.{Among}
+use Rattle.fish_rule.specs.declared.view.Flight.{Flight}
+use Rattle.fish_rule.specs.declared.view.View.{View}
+
+-- the entry at a place is to be linked, and the head of its bucket was last seen at h
+pub record IsSwinging (v : View) (b place h : ℕ) (u : View) : Type 0 where
+  pub flight : Flight
+  pub can : CanLink v flight flight.linked b
+  pub at : place ≡ own_place flight
+  pub words : List ℕ
+  pub changed : Changed v flight words flight.linked u
+  pub top : Among (record { bucket = b; place = h }) u.learned.tops
+  pub node : (h ≡ 0) ⊎ HasNode u b h
+
+-- a load of the head after other steps
+seen_head : (v u t : View) (b place h : ℕ) (f : Flight) (words : List ℕ) → CanLink v f f.linked b
+    → place ≡ own_place f → Changed v f words f.linked u → t ≡ after_head u b h → IsSwinging v b place h t
+seen_head v u t b place h f words can at c is =
+    let learned = ap (λ (z : View). z.learned) is in
+    record {
+      flight = f;
+      can = can;
+      at = at;
+      words = words;
+      changed = changed_next v u t f words words f.linked c
+          (head_changes u t (with_linked f words f.linked) b h (ap (λ (z : View). z.flight) c.known) is);
+      top = subst (λ z. Among (record { bucket = b; place = h }) z.tops) (sym learned) (inl refl);
+      node = subst (λ z. (h ≡ 0) ⊎ Among (record { bucket = b; place = h }) z.nodes) (sym learned)
+          (node_found b h u.learned.nodes);
+    }
+
+-- the first load
+pub swing_begins : (v t : View) (b place h : ℕ) (f : Flight) → CanLink v f f.linked b → place ≡ own_place f
+    → t ≡ after_head v b h → IsSwinging v b place h t
+swing_begins v t b place h f can at is =
+    let learned = ap (λ (z : View). z.learned) is in
+    record {
+      flight = f;
+      can = can;
+      at = at;
+      words = f.words;
+      changed = head_changes v t f b h can.filled.flying is;
+      top = subst (λ z. Among (record { bucket = b; place = h }) z.tops) (sym learned) (inl refl);
+      node = subst (λ z. (h ≡ 0) ⊎ Among (record { bucket = b; place = h }) z.nodes) (sym learned)
+          (node_found b h v.learned.nodes);
+    }
+
+module _ (v u : View) (b place h : ℕ) (s : IsSwinging v b place h u) where
+  -- the record in flight
+  abbrev pub swinging : Flight
+  swinging = with_linked s.flight s.words s.flight.linked
+
+  -- its entry may be linked
+  swing_links : CanLink u swinging swinging.linked b
+  swing_links = still_links v u s.flight s.words b s.changed s.can
+
+  -- and aimed
+  pub swing_aim : CanAim u swinging
+  swing_aim = link_aim u swinging b swing_links
+
+  -- a head that isn't below the own place is that of a linked entry above it
+  pub swing_over : Stands u → place ≤ h → IsBelow v s.flight b h u
+  swing_over stands over =
+      let at : place ≡ own_place s.flight = s.at in
+      let node : HasNode u b h = ⊎_elim (λ (e : h ≡ 0). absurd (omega arith)) (λ (n : HasNode u b h). n) s.node in
+      let other : h ≢ own_place s.flight = not_own u swinging b h stands swing_aim node in
+      record { words = s.words; changed = s.changed; node = node; above = omega arith }
+
+  -- its words once its entry is aimed at the head
+  abbrev aims : List ℕ
+  aims = set s.words (entry_at s.flight.linked) h
+
+  module _ (t : View) (is : t ≡ after_aim u swinging h) where
+    -- the changes up to the aim
+    aimed : Changed v s.flight aims s.flight.linked t
+    aimed = changed_next v u t s.flight s.words aims s.flight.linked s.changed
+        (aim_changes u t swinging h swing_links.more is)
+
+    -- what was known of the head still is
+    aimed_top : Among (record { bucket = b; place = h }) t.learned.tops
+    aimed_top = subst (λ z. Among (record { bucket = b; place = h }) z.tops)
+        (sym (ap (λ (z : View). z.learned) is)) s.top
+
+    -- the head may be swung
+    pub swing_can : Stands u → h < place → CanSwing t (aimed_at swinging h) b h
+    swing_can stands less =
+        let links : CanLink t (aimed_at swinging h) swinging.linked b = still_links v t s.flight aims b aimed s.can in
+        let at : place ≡ own_place s.flight = s.at in
+        record {
+          aim = link_aim t (aimed_at swinging h) b links;
+          bucket = links.of_bucket;
+          below = links.below;
+          aimed = get_or-set_same swinging.words (entry_at swinging.linked) h 0 (own_word u swinging stands swing_aim);
+          less = omega arith;
+        }
+
+    -- where the head was the one seen, the entry is linked
+    pub swing_hit : (w : View) (x : ℕ) → x ≡ h → w ≡ after_swing t (aimed_at swinging h) b h x → IsLinked v s.flight b w
+    swing_hit w x hit was =
+        let made : w ≡ swung t (aimed_at swinging h) b = was ∙ choose_first (ℕ_discrete x h) _ _ hit in
+        record {
+          words = aims;
+          changed = changed_next v t w s.flight aims aims (suc s.flight.linked) aimed
+              (swing_changes t w (aimed_at swinging h) b made);
+          node = subst (λ (z : View). HasNode z b (own_place s.flight)) (sym made) (inl refl);
+        }
+
+    -- else the head found is higher, and the next to try
+    pub swing_miss : (w : View) (x : ℕ) → x ≢ h → w ≡ after_swing t (aimed_at swinging h) b h x
+        → IsSwinging v b place x w
+    swing_miss w x miss was =
+        let seen : w ≡ after_head t b x = was ∙ choose_second (ℕ_discrete x h) _ _ miss in
+        seen_head v t w b place x s.flight aims s.can s.at aimed seen
+
+    -- so fewer places are left
+    pub swing_falls : (x : ℕ) → TopRises t b x → x ≢ h → h < place → place - x < place - h
+    swing_falls x rises miss less = (let higher : h ≤ x =
+        rises (record { bucket = b; place = h }) aimed_top refl in omega arith)

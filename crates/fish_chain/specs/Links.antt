@@ -1,0 +1,76 @@
+-- When a key entry of the record in flight may be linked, and what the pass knows afterwards.
+use Rattle.std.specs.Prelude.{ℕ, ◌≡◌, ◌<◌, ◌≤◌, suc, List, length, Option, Some, None}
+use Rattle.fish_claim.specs.Fills.{IsFilled}
+use Rattle.fish_layout.specs.Bucket.{bucket_of}
+use Rattle.fish_layout.specs.Cleared.{body_of}
+use Rattle.fish_layout.specs.Header.{keys_of}
+use Rattle.fish_rule.specs.Linking.{HasNode, own_place}
+use Rattle.fish_rule.specs.Views.{Among}
+use Rattle.fish_rule.specs.declared.view.Clock.{Clock}
+use Rattle.fish_rule.specs.declared.view.Flight.{Flight}
+use Rattle.fish_rule.specs.declared.view.Gap.{Gap}
+use Rattle.fish_rule.specs.declared.view.Known.{Known}
+use Rattle.fish_rule.specs.declared.view.Node.{Node}
+use Rattle.fish_rule.specs.declared.view.View.{View}
+
+-- f is the record in flight with all its words, and the key entry is its next to be linked, and of the bucket
+pub record CanLink (v : View) (f : Flight) (key bucket : ℕ) : Type 0 where
+  pub filled : IsFilled v f
+  pub next : f.linked ≡ key
+  pub more : key < keys_of (body_of f.words 0)
+  pub of_bucket : bucket_of v.about.buckets (body_of f.words) f.linked ≡ bucket
+  pub below : bucket < v.about.buckets
+
+-- the record in flight with these words, and so many of its entries linked
+abbrev pub with_linked : Flight → List ℕ → ℕ → Flight
+with_linked f words linked = record f { words = words; linked = linked }
+
+-- a view with that, and with these facts of chains and this clock
+abbrev pub chained_view : View → Flight → List ℕ → ℕ → List Node → List Known → List Node → List Gap → Clock → View
+chained_view v f words linked nodes lows tops gaps clock = record v {
+  flight = Some (with_linked f words linked);
+  learned = record v.learned { nodes = nodes; lows = lows; tops = tops; gaps = gaps };
+  clock = clock;
+}
+
+-- u is the view v with these words of its record f and so many of its entries linked, more steps
+-- and more facts of chains:
+-- the record's body is the same, and what was known to be linked still is
+pub record Changed (v : View) (f : Flight) (words : List ℕ) (linked : ℕ) (u : View) : Type 0 where
+  pub nodes : List Node
+  pub lows : List Known
+  pub tops : List Node
+  pub gaps : List Gap
+  pub clock : Clock
+  pub known : u ≡ chained_view v f words linked nodes lows tops gaps clock
+  pub long : length words ≡ length f.words
+  pub body : body_of words ≡ body_of f.words
+  pub kept : (n : Node) → Among n v.learned.nodes → Among n nodes
+  pub steps : v.clock.steps ≤ clock.steps
+  pub loads : v.clock.loads ≤ clock.loads
+  pub notes : clock.notes ≡ v.clock.notes
+
+-- one entry more is linked, and known to be in the bucket's chain
+pub record IsLinked (v : View) (f : Flight) (bucket : ℕ) (u : View) : Type 0 where
+  pub words : List ℕ
+  pub changed : Changed v f words (suc f.linked) u
+  pub node : HasNode u bucket (own_place f)
+
+-- no entry more is, and one of the bucket is known to be linked at a higher place
+pub record IsBelow (v : View) (f : Flight) (bucket place : ℕ) (u : View) : Type 0 where
+  pub words : List ℕ
+  pub changed : Changed v f words f.linked u
+  pub node : HasNode u bucket place
+  pub above : own_place f < place
+
+-- the next entry of f is to be linked at a place, below a linked entry of the bucket
+pub record CanLinkBelow (v : View) (f : Flight) (bucket above place : ℕ) : Type 0 where
+  pub can : CanLink v f f.linked bucket
+  pub at : place ≡ own_place f
+  pub node : HasNode v bucket above
+  pub over : place < above
+
+-- the entry is linked, or is below the place that was answered
+abbrev pub Tried : View → Flight → ℕ → Option ℕ → View → Type 0
+Tried v f bucket None u = IsLinked v f bucket u
+Tried v f bucket (Some place) u = IsBelow v f bucket place u
