@@ -6,6 +6,7 @@ ghost use Rattle.fish_layout.specs.Body.{IsBody};
 ghost use Rattle.fish_layout.specs.declared.parts.BodyParts.{BodyParts};
 ghost use Rattle.fish_rule.specs.Passes.{IsPassOf};
 
+mod settling;
 mod threads;
 
 use crate::{Look, count_now, look, read_entry};
