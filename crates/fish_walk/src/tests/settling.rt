@@ -1,7 +1,9 @@
 //! How far the numbers are settled while a record is in flight, once it is published, and at the
 //! log's end.
 
-ghost use Rattle.fish_rule.specs.Passes.{IsPassOf};
+ghost use Rattle.fish_claim.specs.Fills.{CanFill};
+ghost use Rattle.fish_rule.specs.Passes.{IsPassOf, view};
+ghost use Rattle.fish_rule.specs.declared.view.Flight.{Flight};
 
 use super::{object_of, record_words, store};
 use crate::{Settled, settle};
@@ -19,6 +21,16 @@ fn settled_by(log: &Log, pass: &mut Pass) -> Result<Settled, Fail>
         return Err(Fail::new("no lane"));
     }
     Ok(settle(log, pass))
+}
+
+/// Stores the words of the record in flight, and publishes it.
+fn finish(log: &Log, pass: &mut Pass, body: &[u64])
+    requires pass { IsPassOf log.now pass.old }
+    requires view { (f : Flight) × CanFill (view pass.old) f body.now }
+    ensures { IsPassOf log.now pass.new }
+{
+    fill(log, pass, body);
+    publish(log, pass);
 }
 
 /// What one pass settles while another has a record of one line in flight, and what it settles
@@ -47,8 +59,7 @@ fn settled_around(
     let body = record_words(alloc, lane, number, 1, object_of(alloc, 1)?)?;
     store(alloc, log, pass, 1, object_of(alloc, 1)?)?;
     let before = settled_by(log, pass)?;
-    fill(log, other, body.as_slice());
-    publish(log, other);
+    finish(log, other, body.as_slice());
     Ok((before, settled_by(log, pass)?))
 }
 

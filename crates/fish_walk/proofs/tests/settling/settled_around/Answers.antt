@@ -6,8 +6,8 @@ use Rattle.fish_rule.specs.Passes.{view}
 use Rattle.fish_rule.specs.Steps.{flight_at}
 use Rattle.fish_walk.proofs.tests.settling.settled_around.Goals as goal
 
-pub fill-requires-clause-view : goal.fill-requires-clause-view
-fill-requires-clause-view c =
+pub finish-requires-clause-view : goal.finish-requires-clause-view
+finish-requires-clause-view c =
     let p = c.in_ok-body.ensures in
     let place = c.in-Placed in
     let v = view c.args.other.now in
