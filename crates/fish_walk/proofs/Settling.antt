@@ -1,6 +1,8 @@
 -- What looks and loads on the way to the settled number tell.
-use Rattle.std.proofs.Common.{◌≡◌, ◌≢◌, ℕ, ◌+◌, ◌<◌, ◌≤◌, max, zero, suc, List, [], ◌∷◌, ◌++◌, refl, sym, ap, ◌∙◌, subst, inl, inr, ◌⊎◌, arith, append_assoc}
+use Rattle.std.proofs.Common.{◌≡◌, ◌≢◌, ℕ, ◌+◌, ◌<◌, ◌≤◌, max, zero, suc, List, [], ◌∷◌, ◌++◌, refl, sym, ap,
+    ◌∙◌, subst, inl, inr, ◌⊎◌, arith, append_assoc}
 use Rattle.std.proofs.Math.Decide.{dec_lt}
+use Rattle.fish_rule.proofs.Common.{among_left, among_right}
 use Rattle.fish_rule.proofs.Extending.{extends_both, extends_look, extends_self}
 use Rattle.fish_rule.specs.Logs.{Extends}
 use Rattle.fish_rule.specs.Steps.{CanRaise, IsAlone, after_end, after_look, after_settled, found_after, kind_told}
@@ -35,17 +37,6 @@ on_both a b c p q =
       since = q.since ∙ ap (λ (z : List Note). q.notes ++ z) p.since ∙ sym (append_assoc q.notes p.notes a.clock.notes);
       later = omega arith;
     }
-
--- what is among the first of two lists is among both
-among_left : {A : Type 0} → (x : A) (xs ys : List A) → Among x xs → Among x (xs ++ ys)
-among_left x [] ys m = absurd m
-among_left x (y ∷ xs) ys (inl e) = inl e
-among_left x (y ∷ xs) ys (inr m) = inr (among_left x xs ys m)
-
--- and so is what is among the second
-among_right : {A : Type 0} → (x : A) (xs ys : List A) → Among x ys → Among x (xs ++ ys)
-among_right x [] ys m = m
-among_right x (y ∷ xs) ys m = inr (among_right x xs ys m)
 
 -- a load between two views was made between two that lie further apart
 pub loaded_within : (a b c d : View) (what : Noted) (value : ℕ) → GoesOn a b → HasLoaded b c what value → GoesOn c d

@@ -1,7 +1,8 @@
 -- A look that tells of a void or a record settles one number more; any other is where the numbers stop.
 use Rattle.fish_rule.proofs.Closing.{alone_later}
 use Rattle.fish_rule.specs.Passes.{view}
-use Rattle.fish_walk.proofs.Settling.{end_told, look_looks, looked_both, mark_told, settled_more, settled_still, stops_by}
+use Rattle.fish_walk.proofs.Settling.{end_told, look_looks, looked_both, mark_told, settled_more,
+    settled_still, stops_by}
 use Rattle.fish_walk.specs.Settling.{IsEnd, IsMark}
 use Rattle.fish_walk.proofs.prefix.settled_up_to.Goals as goal
 

@@ -15,5 +15,6 @@ fill-requires-clause-view c =
     let plain = subst (λ (z : ℕ). IsPlain z place.number c.args.lines p.0) c.lane-lane.ensures p.1 in (
       flight_at place.number place.line c.args.lines,
       subst (CanFill u (flight_at place.number place.line c.args.lines)) (sym c.as_slice.ensures)
-          (body_law v u c.args.lines place.number place.line p.0 c.in_ok-body.body (placed_law v u c.args.lines place.number place.line place.ensures.claimed) plain p.2),
+          (body_law v u c.args.lines place.number place.line p.0 c.in_ok-body.body
+              (placed_law v u c.args.lines place.number place.line place.ensures.claimed) plain p.2),
     )
