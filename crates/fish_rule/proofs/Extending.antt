@@ -1,6 +1,8 @@
 -- Views that only learn.
-use Rattle.std.proofs.Common.{◌≡◌, ◌≢◌, ℕ, ◌≤◌, zero, suc, List, refl, sym, ◌∙◌, subst, inl, inr, arith}
+use Rattle.std.proofs.Common.{◌≡◌, ◌≢◌, ℕ, ◌≤◌, max, zero, suc, List, refl, sym, ap, ◌∙◌, subst, inl, inr, arith}
+use Rattle.fish_rule.proofs.Common.{among_left, among_right}
 use Rattle.fish_rule.specs.Logs.{Extends, Learns}
+use Rattle.fish_rule.specs.Seating.{join_both}
 use Rattle.fish_rule.specs.Steps.{after_end, after_look, after_read, found_after, kind_told}
 use Rattle.fish_rule.specs.Views.{Among}
 use Rattle.fish_rule.specs.World.{high, low}
@@ -107,3 +109,42 @@ found_here n lines (suc x) found ne = inl refl
 pub learns_end : (v : View) (x : ℕ) → v.learned.count ≤ high x → Learns v (after_end v x)
 learns_end v x more = record { about = refl; count = more; found = λ x m. m; known = λ x m. m; records = λ x m. m;
     nodes = λ x m. m; gaps = λ x m. m; labels = λ x m. m }
+
+-- ---- a join
+
+-- after a join and a load of the tail the control pass knows what it knew
+pub learns_join : (v u : View) (x : ℕ) → max v.learned.count u.learned.count ≤ high x
+    → Learns v (after_end (join_both v u) x)
+learns_join v u x more = record {
+  about = refl;
+  count = omega arith;
+  found = λ y m. among_left y v.learned.found u.learned.found m;
+  known = λ y m. among_left y v.learned.known u.learned.known m;
+  records = λ y m. among_left y v.learned.records u.learned.records m;
+  nodes = λ y m. among_left y v.learned.nodes u.learned.nodes m;
+  gaps = λ y m. among_left y v.learned.gaps u.learned.gaps m;
+  labels = λ y m. among_left y v.learned.labels u.learned.labels m;
+}
+
+-- and what the other pass knew
+pub learned_join : (v u : View) (x : ℕ) → v.about ≡ u.about → max v.learned.count u.learned.count ≤ high x
+    → Learns u (after_end (join_both v u) x)
+learned_join v u x about more = record {
+  about = about;
+  count = omega arith;
+  found = λ y m. among_right y v.learned.found u.learned.found m;
+  known = λ y m. among_right y v.learned.known u.learned.known m;
+  records = λ y m. among_right y v.learned.records u.learned.records m;
+  nodes = λ y m. among_right y v.learned.nodes u.learned.nodes m;
+  gaps = λ y m. among_right y v.learned.gaps u.learned.gaps m;
+  labels = λ y m. among_right y v.learned.labels u.learned.labels m;
+}
+
+-- both, where the views are known by equations
+pub joined_learns : (v u m t : View) (x : ℕ) → v.about ≡ u.about → m ≡ join_both v u → t ≡ after_end m x
+    → m.learned.count ≤ high x → Learns v t × Learns u t
+joined_learns v u m t x about joined loaded more =
+    let to : t ≡ after_end (join_both v u) x = loaded ∙ ap (λ (z : View). after_end z x) joined in
+    let counted = subst (λ (z : View). z.learned.count ≤ high x) joined more in
+    (subst (Learns v) (sym to) (learns_join v u x counted),
+        subst (Learns u) (sym to) (learned_join v u x about counted))

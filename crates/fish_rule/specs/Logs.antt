@@ -1,5 +1,5 @@
 -- The log that the words spell, and what a pass knows of it.
-use Rattle.std.specs.Prelude.{ℕ, ◌≡◌, ◌+◌, ◌*◌, ◌<◌, ◌≤◌, List, length, slice_index, Option, Some, None}
+use Rattle.std.specs.Prelude.{ℕ, ◌≡◌, ◌+◌, ◌*◌, ◌<◌, ◌≤◌, suc, List, length, slice_index, Option, Some, None}
 use Rattle.std.proofs.Common.{◌⊎◌}
 use mathlib.Core.Option.{some}
 use Rattle.std.proofs.Math.ListN.{get_elem?}
@@ -81,6 +81,18 @@ pub record Extends (v u : View) : Type 0 where
   pub flight : u.flight ≡ v.flight
   pub tail : u.tail ≡ v.tail
   pub own : u.own ≡ v.own
+
+-- word i of the region at a line, which has n key entries, became known by one load, or it is the
+-- first of a key entry and nothing was loaded
+abbrev pub IsWordTold : View → View → ℕ → ℕ → ℕ → Option ℕ → Type 0
+IsWordTold v u n line i None = IsKeyWord n i × (u.clock.loads ≡ v.clock.loads)
+IsWordTold v u n line i (Some x) = Among (record { place = line * 4 + i; value = x }) u.learned.known
+    × (u.clock.loads ≡ suc v.clock.loads)
+
+-- this became of a word that was asked for, and else the view is as it was
+pub record IsWordRead (v u : View) (keys line offset : ℕ) (word : Option ℕ) : Type 0 where
+  pub extends : Extends v u
+  pub told : IsWordTold v u keys line offset word
 
 -- ---- the closed log
 

@@ -1,9 +1,8 @@
 //! What stands at a number that is published, read word by word.
 
 ghost use Rattle.std.specs.Prelude.{◌≡◌, ◌≢◌, ◌+◌, ◌*◌, ◌^◌, ◌<◌, ◌≤◌, ℕ, IfOk, length};
-ghost use Rattle.fish_layout.specs.Cleared.{IsKeyWord};
 ghost use Rattle.fish_layout.specs.Header.{keys_of};
-ghost use Rattle.fish_rule.specs.Logs.{Extends, HasWords, Tells};
+ghost use Rattle.fish_rule.specs.Logs.{Extends, HasWords, IsWordRead, Tells};
 ghost use Rattle.fish_rule.specs.Passes.{IsPassOf, view};
 ghost use Rattle.fish_rule.specs.Views.{Among};
 ghost use Rattle.fish_rule.specs.declared.view.Found.{Found};
@@ -15,30 +14,36 @@ use fish_catalog::Entry;
 use fish_layout::{Payload, keys_in, lines_in, read_payload};
 use std::alloc::{AllocError, Global};
 
-/// All words of the published region at a line. Words that a later record may still change, the
-/// first ones of key entries, are given as 0.
+/// All words of the published region at a line, and how many of them were loaded. Words that a later
+/// record may still change, the first ones of key entries, are given as 0 without a load.
 pub fn read_region(
     alloc: Global,
     log: &Log,
     pass: &mut Pass,
     line: u64,
-) -> Result<Vec<u64>, AllocError>
+) -> Result<(Vec<u64>, u64), AllocError>
     requires pass { IsPassOf log.now pass.old }
     requires live { 1 ≤ (view pass.old).lane }
     requires found { (f : Found) × Among f (view pass.old).learned.found × (f.line ≡ line) × (f.kind ≢ Mark) }
     ensures pass { IsPassOf log.now pass.new }
     ensures extends { Extends (view pass.old) (view pass.new) }
-    ensures words { IfOk result (λ words. (f : Found) → Among f (view pass.old).learned.found → f.line ≡ line
-        → f.kind ≢ Mark → HasWords (view pass.new) f words.items) }
+    ensures words { IfOk result (λ r. (f : Found) → Among f (view pass.old).learned.found → f.line ≡ line
+        → f.kind ≢ Mark → HasWords (view pass.new) f r.0.items) }
+    ensures loads { IfOk result (λ r. (view pass.new).clock.loads ≡ (view pass.old).clock.loads + r.1) }
+    ensures few { IfOk result (λ r. r.1 ≤ length r.0.items) }
 {
     let header = read_word(log, pass, line, 0);
     let keys = u64::from(keys_in(header));
-    let mut words = Vec::new(alloc);
-    words.push(header)?;
-    for offset in 1..lines_in(header) * 4 {
-        words.push(read_body_word(log, pass, line, keys, offset))?;
+    let size = lines_in(header) * 4;
+    let mut words = Vec::with_capacity(alloc, size as usize)?;
+    words.push_reserved(header);
+    let mut loads = 1;
+    for offset in 1..size {
+        let word = read_body_word(log, pass, line, keys, offset);
+        loads += u64::from(word.is_some());
+        words.push_reserved(word.unwrap_or(0));
     }
-    Ok(words)
+    Ok((words, loads))
 }
 
 /// The record that stands in the published region at a line.
@@ -56,7 +61,7 @@ pub fn read_record(
     ensures entry { IfOk result (λ entry. (f : Found) → Among f (view pass.old).learned.found → f.line ≡ line
         → f.kind ≡ Stored → Tells (view pass.new) f.number entry) }
 {
-    let words = read_region(alloc, log, pass, line)?;
+    let (words, _) = read_region(alloc, log, pass, line)?;
     let Payload {
         lane,
         form,
@@ -69,8 +74,8 @@ pub fn read_record(
     })
 }
 
-/// A word behind the header, or 0 for the first one of a key entry.
-fn read_body_word(log: &Log, pass: &mut Pass, line: u64, keys: u64, offset: u64) -> u64
+/// A word behind the header, or none where it is the first one of a key entry.
+fn read_body_word(log: &Log, pass: &mut Pass, line: u64, keys: u64, offset: u64) -> Option<u64>
     requires pass { IsPassOf log.now pass.old }
     requires live { 1 ≤ (view pass.old).lane }
     requires keys { keys < 2 ^ 9 }
@@ -79,12 +84,10 @@ fn read_body_word(log: &Log, pass: &mut Pass, line: u64, keys: u64, offset: u64)
     requires header { (h : ℕ) × Among (record { place = line * 4; value = h }) (view pass.old).learned.known
         × (keys ≡ keys_of h) }
     ensures pass { IsPassOf log.now pass.new }
-    ensures extends { Extends (view pass.old) (view pass.new) }
-    ensures word { ¬ IsKeyWord keys offset
-        → Among (record { place = line * 4 + offset; value = result }) (view pass.new).learned.known }
+    ensures read { IsWordRead (view pass.old) (view pass.new) keys line offset result }
 {
     if offset <= 3 * keys && offset % 3 == 1 {
-        return 0;
+        return None;
     }
-    read_word(log, pass, line, offset)
+    Some(read_word(log, pass, line, offset))
 }

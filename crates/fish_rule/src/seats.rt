@@ -4,6 +4,7 @@
 //! from 2 to 16 that is with no other pass.
 
 ghost use Rattle.std.specs.Prelude.{◌≡◌, ℕ, ◌+◌, ◌*◌, ◌<◌, IfOk, replicate};
+ghost use Rattle.fish_rule.specs.Logs.{Learns};
 ghost use Rattle.fish_rule.specs.Parts.{Fits};
 ghost use Rattle.fish_rule.specs.Passes.{IsPassOf, view};
 ghost use Rattle.fish_rule.specs.Seating.{CanJoin, CanSplit, join_both, split_left, split_right};
@@ -198,6 +199,8 @@ pub fn join_pass(log: &Log, main: &mut Pass, other: Pass)
     requires can { CanJoin (view main.old) (view other) }
     ensures pass { IsPassOf log.now main.new }
     ensures view { (found : ℕ) × (view main.new ≡ after_end (join_both (view main.old) (view other)) found) }
+    ensures learns { Learns (view main.old) (view main.new) }
+    ensures learned { Learns (view other) (view main.new) }
 {
     let Pass {
         seat,

@@ -1,5 +1,5 @@
 -- Where the record is that was found at a number.
-use Rattle.std.proofs.Common.{◌≡◌, ℕ, ◌+◌, ◌*◌, ◌%◌, ◌<◌, ◌≤◌, List, zero, suc, refl, sym, ap, ◌∙◌, subst, inl, arith}
+use Rattle.std.proofs.Common.{◌≡◌, ◌≢◌, ℕ, ◌+◌, ◌*◌, ◌<◌, ◌≤◌, List, zero, suc, refl, sym, ap, ◌∙◌, subst, inl, arith}
 use Rattle.fish_rule.proofs.Entries.{stored_words}
 use Rattle.fish_rule.proofs.Extending.{extends_look}
 use Rattle.fish_rule.proofs.Laws.{fits_law, found_law, read_law}
@@ -17,17 +17,22 @@ use Rattle.fish_walk.specs.Looks.{look_of, look_of_kind}
 use Rattle.fish_walk.specs.declared.outcome.Look.TheVariants as Look
 
 -- its line has 36 bits
-low_line : (v : View) (f : Found) → Stands v → 1 ≤ v.lane → Among f v.learned.found → f.kind ≡ Stored → f.line < 68719476736
+low_line : (v : View) (f : Found) → Stands v → 1 ≤ v.lane → Among f v.learned.found → f.kind ≡ Stored
+    → f.line < 68719476736
 low_line v f s live among is =
     let some = found_law v f s among in
-    let law = read_law v.about v f 0 refl s (record { live = live; found = among; words = stored_words f.kind is; inside = omega arith; plain = inl refl }) in
+    let law = read_law v.about v f 0 refl s
+        (record { live = live; found = among; words = stored_words f.kind is; inside = omega arith;
+        plain = inl refl }) in
     let end = law.1 in
     let low_end = (fits_law v s).low_end in
     omega arith
 
 -- so it is what the low bits of the directory word say
-pub word_line : (v : View) (f : Found) (x : ℕ) → Stands v → 1 ≤ v.lane → Among f v.learned.found → f.kind ≡ Stored → x ≡ dir_word f.kind f.line
-    → f.line ≡ x % 68719476736
+pub word_line : (v : View) (f : Found) (x : ℕ) → Stands v → 1 ≤ v.lane → Among f v.learned.found
+    → f.kind ≡ Stored → x ≡ dir_word f.kind f.line
+    → f.line ≡ low x
+unfolding low
 word_line v f x s live among is word =
     let small = low_line v f s live among is in
     let same : x ≡ f.line + 68719476736 = word ∙ ap (λ (k : Kind). f.line + code k * 68719476736) is ∙ (omega arith) in
@@ -37,11 +42,21 @@ word_line v f x s live among is word =
 pub look_extends : (v u : View) (n lines x : ℕ) → u ≡ after_look v n lines x → Extends v u
 look_extends v u n lines x e = subst (Extends v) (sym e) (extends_look v n lines x)
 
+-- a look at a record that was found before finds it again, at the line of the word
+pub look_finds : (v u : View) (n lines x line : ℕ) (f : Found) → Stands v → 1 ≤ v.lane → u ≡ after_look v n lines x
+    → x ≡ dir_word f.kind f.line → Among f v.learned.found → f.kind ≡ Stored → line ≡ low x
+    → Among f u.learned.found × (f.line ≡ line) × (f.kind ≢ Mark)
+look_finds v u n lines x line f s live e word among is at =
+    let extends = look_extends v u n lines x e in
+    (extends.learns.found f among, word_line v f x s live among is word ∙ sym at, stored_words f.kind is)
+
 -- a look that tells of a record has found it
-found_stored : (n lines x : ℕ) (found : List Found) → Look.Stored ≡ look_of x → (f : Found) × Among f (found_after n lines x found) × (f.number ≡ n) × (f.kind ≡ Stored)
+found_stored : (n lines x : ℕ) (found : List Found) → Look.Stored ≡ look_of x → (f : Found)
+    × Among f (found_after n lines x found) × (f.number ≡ n) × (f.kind ≡ Stored)
 found_stored n lines zero found e = cc
 found_stored n lines (suc x) found e =
-    (record { number = n; kind = kind_told (high (suc x)); line = low (suc x); lines = lines }, inl refl, refl, by (kind_told (high (suc x))) e)
+    (record { number = n; kind = kind_told (high (suc x)); line = low (suc x); lines = lines }, inl refl, refl,
+        by (kind_told (high (suc x))) e)
   where
     by : (k : Kind) → Look.Stored ≡ look_of_kind k → k ≡ Stored
     by Stored e = refl
@@ -52,7 +67,8 @@ found_stored n lines (suc x) found e =
 pub stored_law : (v u : View) (n lines x : ℕ) → u ≡ after_look v n lines x → Look.Stored ≡ look_of x
     → (f : Found) × Among f u.learned.found × (f.number ≡ n) × (f.kind ≡ Stored)
 stored_law v u n lines x e is =
-    subst (λ (z : View). (f : Found) × Among f z.learned.found × (f.number ≡ n) × (f.kind ≡ Stored)) (sym e) (found_stored n lines x v.learned.found is)
+    subst (λ (z : View). (f : Found) × Among f z.learned.found × (f.number ≡ n) × (f.kind ≡ Stored)) (sym e)
+        (found_stored n lines x v.learned.found is)
 
 -- and the pass may look there again
 pub look_again : (v u : View) (n lines x : ℕ) → u ≡ after_look v n lines x → CanLook v n → CanLook u n

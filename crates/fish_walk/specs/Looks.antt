@@ -1,10 +1,13 @@
 -- What a look tells.
-use Rattle.std.specs.Prelude.{ℕ, ◌≡◌, zero, suc, Option, Some, None, ⊤}
+use Rattle.std.specs.Prelude.{ℕ, ◌≡◌, ◌+◌, ◌*◌, ◌≤◌, zero, suc, Option, Some, None, ⊤}
 use Rattle.fish_rule.specs.Steps.{kind_told}
+use Rattle.fish_rule.specs.Views.{Among}
 use Rattle.fish_rule.specs.World.{high}
+use Rattle.fish_rule.specs.declared.view.Found.{Found}
 use Rattle.fish_rule.specs.declared.view.Kind.{Kind}
 use Rattle.fish_rule.specs.declared.view.Kind.TheVariants as kind
 use Rattle.fish_rule.specs.declared.view.Position.{Position}
+use Rattle.fish_rule.specs.declared.view.View.{View}
 use Rattle.fish_walk.specs.declared.outcome.Look.{Look}
 use Rattle.fish_walk.specs.declared.outcome.Look.TheVariants as found
 
@@ -23,3 +26,10 @@ look_of (suc x) = look_of_kind (kind_told (high (suc x)))
 abbrev pub IsCount : ℕ → Option Position → Type 0
 IsCount n None = ⊤
 IsCount n (Some tail) = tail.number ≡ n
+
+-- between the two views a counter rose by one for the directory word of a number, and by one for
+-- each word of the log that was loaded, at most those of the record there
+pub record IsCounted (v u : View) (number old new : ℕ) : Type 0 where
+  pub exact : new + v.clock.loads ≡ old + u.clock.loads + 1
+  pub few : (f : Found) → Among f v.learned.found → f.number ≡ number → f.kind ≡ kind.Stored
+      → new ≤ old + 1 + f.lines * 4

@@ -1,6 +1,6 @@
 //! What a number is found to be, and how many there are.
 
-ghost use Rattle.std.specs.Prelude.{◌≡◌, ◌≢◌, ℕ, []};
+ghost use Rattle.std.specs.Prelude.{◌≡◌, ◌≢◌, ◌≤◌, ℕ, []};
 ghost use Rattle.fish_rule.specs.Passes.{IsPassOf, view};
 ghost use Rattle.fish_rule.specs.Steps.{CanLook, IsAlone, after_end, after_look};
 ghost use Rattle.fish_rule.specs.World.{high};
@@ -15,7 +15,8 @@ pub fn look(log: &Log, pass: &mut Pass, number: u32) -> Look
     requires pass { IsPassOf log.now pass.old }
     requires view { CanLook (view pass.old) number }
     ensures pass { IsPassOf log.now pass.new }
-    ensures view { (lines word : ℕ) × (view pass.new ≡ after_look (view pass.old) number lines word) × (result ≡ look_of word) }
+    ensures view { (lines word : ℕ) × (view pass.new ≡ after_look (view pass.old) number lines word)
+        × (result ≡ look_of word) }
     ensures alone { IsAlone (view pass.old) → result ≢ Unfinished }
 {
     told_by(look_at(log, pass, u64::from(number)))
@@ -26,6 +27,8 @@ pub fn count_now(log: &Log, pass: &mut Pass) -> u32
     requires { IsPassOf log.now pass.old }
     ensures pass { IsPassOf log.now pass.new }
     ensures view { (x : ℕ) × (view pass.new ≡ after_end (view pass.old) x) × (result ≡ high x) }
+    ensures counted { (view pass.old).learned.count ≤ result }
+    ensures settled { (view pass.old).learned.settled ≤ result }
     ensures rests { (view pass.old).lane ≡ 1 → (view pass.old).out ≡ [] → IsCount result (view pass.old).tail }
 {
     load_tail(log, pass).number as u32

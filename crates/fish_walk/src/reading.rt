@@ -1,25 +1,23 @@
 //! The entry that stands at a number.
 
-ghost use Rattle.std.specs.Prelude.{◌≡◌, ◌+◌, ◌*◌, ◌≤◌, IfOk};
+ghost use Rattle.std.specs.Prelude.{◌≡◌, ◌+◌, ◌≤◌, IfOk};
 ghost use Rattle.fish_rule.specs.Logs.{Extends, Tells};
 ghost use Rattle.fish_rule.specs.Passes.{IsPassOf, view};
 ghost use Rattle.fish_rule.specs.Steps.{CanLook};
 ghost use Rattle.fish_rule.specs.Views.{Among};
 ghost use Rattle.fish_rule.specs.declared.view.Found.{Found};
 ghost use Rattle.fish_rule.specs.declared.view.Kind.TheVariants.{Stored};
+ghost use Rattle.fish_walk.specs.Looks.{IsCounted};
 
 use fish_catalog::Entry;
 use fish_layout::{Payload, read_payload};
 use fish_psf::Steps;
-use fish_rule::{Log, Pass, look_at, read_region};
+use fish_rule::{Log, Pass, line_of_word, look_at, read_region};
 use std::alloc::{AllocError, Global};
 use std::sync::ledger::Ledger;
 
-/// One kind in a directory word: the bits above the line.
-const ONE: u64 = 68_719_476_736;
-
 /// The record at a number that was found stored. Counts the load of the directory word, and one load
-/// for each word of the record.
+/// for each word of the record that is loaded.
 pub fn read_entry<L: Ledger>(
     alloc: Global,
     log: &Log,
@@ -34,12 +32,12 @@ pub fn read_entry<L: Ledger>(
     ensures extends { Extends (view pass.old) (view pass.new) }
     ensures entry { IfOk result (Tells (view pass.new) number) }
     ensures loads { loads.old + 1 ≤ loads.new }
-    ensures counted { IfOk result (λ _. (f : Found) → Among f (view pass.old).learned.found → f.number ≡ number → f.kind ≡ Stored → loads.new ≡ loads.old + 1 + f.lines * 4) }
+    ensures counted { IfOk result (λ _. IsCounted (view pass.old) (view pass.new) number loads.old loads.new) }
 {
     loads.tick();
     let word = look_at(log, pass, u64::from(number));
-    let words = read_region(alloc, log, pass, word % ONE)?;
-    count(words.len(), loads);
+    let (words, loaded) = read_region(alloc, log, pass, line_of_word(word))?;
+    count(loaded, loads);
     let Payload {
         lane,
         form,
@@ -53,7 +51,7 @@ pub fn read_entry<L: Ledger>(
 }
 
 /// Counts so many loads.
-fn count<L: Ledger>(times: usize, loads: &mut Steps<L>)
+fn count<L: Ledger>(times: u64, loads: &mut Steps<L>)
     ensures { loads.new ≡ loads.old + times }
 {
     for _ in 0..times {

@@ -5,11 +5,12 @@ ghost use Rattle.fish_claim.specs.Fills.{IsStorable};
 ghost use Rattle.fish_layout.specs.Body.{IsBody};
 ghost use Rattle.fish_layout.specs.declared.parts.BodyParts.{BodyParts};
 ghost use Rattle.fish_rule.specs.Passes.{IsPassOf};
+ghost use Rattle.fish_rule.specs.declared.view.Key.{Key};
 
-mod threads;
+mod settling;
 
 use crate::{Look, count_now, look, read_entry};
-use fish_catalog::Entry;
+use fish_catalog::{Catalog, Entry};
 use fish_claim::{Claimed, claim, fill, publish};
 use fish_json::JsonRecord;
 use fish_layout::{Body, BodyParts, body_of};
@@ -35,7 +36,7 @@ fn object_of(alloc: Global, lines: u64) -> Result<Text, AllocError> {
     Ok(Text::from_string(text))
 }
 
-/// The words of a record with a payload. A payload that is no record of so many lines, which no test
+/// The words of a record with a payload and no keys. A payload that is no record of so many lines, which no test
 /// has, fails as a want of memory does.
 fn record_words(
     alloc: Global,
@@ -47,7 +48,8 @@ fn record_words(
     requires lane { (1 ≤ lane) × (lane ≤ 16) }
     requires number { number < 2 ^ 28 }
     requires lines { (0 < lines) × (lines ≤ 18625) }
-    ensures { IfOk result (λ body. (p : BodyParts) × IsStorable lane number lines p × (p.keys ≡ []) × IsBody p body) }
+    ensures { IfOk result (λ body. (p : BodyParts) × ((k : Key) → k.rows.value ≡ [] → IsStorable k lane number lines p)
+        × (p.keys ≡ []) × IsBody p body) }
 {
     if payload.as_bytes().len() > 524_288 {
         return Err(AllocError);
@@ -79,7 +81,8 @@ fn store(
     lines: u64,
     payload: Text,
 ) -> Result<bool, AllocError>
-    requires { IsPassOf log.now pass.old }
+    requires pass { IsPassOf log.now pass.old }
+    requires rows { log.now.key.rows.value ≡ [] }
     ensures { IsPassOf log.now pass.new }
 {
     if lines < 1 || lines > 18_625 {
@@ -136,7 +139,10 @@ fn stored_and_read<L: Ledger>(alloc: Global, blank: Blank) -> Result<(), Fail>
         pages: 2,
         bucket_bits: 4,
     };
-    let (log, mut pass) = open_log(alloc, shape, &Start::Empty)?;
+    let start = Start::Empty {
+        catalog: Catalog::new(alloc),
+    };
+    let (log, mut pass) = open_log(alloc, shape, &start)?;
     for lines in LINES {
         store(alloc, &log, &mut pass, lines, object_of(alloc, lines)?)?;
     }

@@ -1,14 +1,32 @@
 -- All words of the region are read.
 use Rattle.std.proofs.Common.{◌≡◌, ◌∙◌, sym, refl, ap, arith, subst, ℕ, ◌<◌, ◌≤◌, ◌+◌, ◌*◌, List, [], ◌∷◌,
-    ◌++◌, length, get_or, inl, length-append}
+    ◌++◌, length, get_or, inl, length-append, Option, Some, None, is_some, unwrap_or}
+use Rattle.std.specs.Int.{from_bool}
 use Rattle.fish_layout.specs.Cleared.{IsKeyWord}
 use Rattle.fish_layout.specs.Header.{keys_of}
-use Rattle.fish_rule.proofs.Extending.{extends_both}
+use Rattle.fish_rule.proofs.Extending.{extends_both, extends_to_read, read_here}
 use Rattle.fish_rule.proofs.Laws.{found_law, header_law}
 use Rattle.fish_rule.proofs.Words.{AreRead, head_read, head_stays, read_more}
 use Rattle.fish_rule.specs.Passes.{view}
+use Rattle.fish_rule.specs.Logs.{IsWordTold}
 use Rattle.fish_rule.specs.Views.{Among}
+use Rattle.fish_rule.specs.declared.view.View.{View}
 use Rattle.fish_rule.proofs.entry.read_region.Goals as goal
+
+-- a word that was told is known, unless it is the first of a key entry
+told_word : (v u : View) (n keys line i k : ℕ) (r : Option ℕ) (x : ℕ) → IsWordTold v u n line i r → x ≡ unwrap_or r 0
+    → keys ≡ n → k ≡ i → ¬ IsKeyWord keys k → Among (record { place = line * 4 + k; value = x }) u.learned.known
+told_word v u n keys line i k None x told is same at plain =
+    absurd (plain (subst (λ (z : ℕ × ℕ). IsKeyWord z.0 z.1) (λ j. (sym same j, sym at j)) told.0))
+told_word v u n keys line i k (Some y) x told is same at plain =
+    subst (λ (z : ℕ × ℕ). Among (record { place = line * 4 + z.0; value = z.1 }) u.learned.known)
+        (λ j. (sym at j, sym is j)) told.0
+
+-- and it took at most one load
+told_loads : (v u : View) (n line i : ℕ) (r : Option ℕ) → IsWordTold v u n line i r
+    → (u.clock.loads ≡ v.clock.loads + from_bool (is_some r)) × (from_bool (is_some r) ≤ 1)
+told_loads v u n line i None told = (let e = told.1 in (omega arith, omega arith))
+told_loads v u n line i (Some y) told = (let e = told.1 in (omega arith, omega arith))
 
 pub read_word-header-requires-clause-view : goal.read_word-header-requires-clause-view
 read_word-header-requires-clause-view c =
@@ -16,8 +34,25 @@ read_word-header-requires-clause-view c =
     let some_ = found_law (view c.args.pass.now) f.0 c.requires.pass.stands f.1 in
     (f.0, record { live = c.requires.live; found = f.1; words = f.3; inside = omega arith; plain = inl refl }, f.2)
 
-pub read_body_word-requires-clause-header : goal.read_body_word-requires-clause-header
-read_body_word-requires-clause-header c =
+pub push_reserved-requires : goal.push_reserved-requires
+push_reserved-requires c =
+    let f = c.requires.found in
+    let some_ = found_law (view c.args.pass.now) f.0 c.requires.pass.stands f.1 in
+    let v = view c.read_word-header.new.pass in
+    let told = c.read_word-header.ensures.view in
+    let place : c.args.line * 4 + 0 ≡ f.0.line * 4 = (let line = f.2 in omega arith) in
+    let read = subst (λ (z : ℕ). Among (record { place = z; value = c.read_word-header.result }) v.learned.known) place
+        (read_here (view c.args.pass.now) v (c.args.line * 4 + 0) c.read_word-header.result told) in
+    let extends = extends_to_read (view c.args.pass.now) v (c.args.line * 4 + 0) c.read_word-header.result told in
+    let among = extends.learns.found f.0 f.1 in
+    let lines = header_law v f.0 c.read_word-header.result c.read_word-header.ensures.pass.stands among f.3 read in
+    let size = c.lines_in-size.ensures.value in
+    let none = c.in_ok-words.ensures.len in
+    let room = c.in_ok-words.ensures.exact in
+    omega arith
+
+pub read_body_word-word-requires-clause-header : goal.read_body_word-word-requires-clause-header
+read_body_word-word-requires-clause-header c =
     let inv = c.loop-offset.invariant in
     let many = inv.many in
     let from = c.loop-offset.auto.offset in (
@@ -28,8 +63,8 @@ read_body_word-requires-clause-header c =
       c.from-keys.ensures ∙ c.keys_in.ensures.value,
     )
 
-pub read_body_word-requires-clause-found : goal.read_body_word-requires-clause-found
-read_body_word-requires-clause-found c =
+pub read_body_word-word-requires-clause-found : goal.read_body_word-word-requires-clause-found
+read_body_word-word-requires-clause-found c =
     let inv = c.loop-offset.invariant in
     let many = inv.many in
     let from = c.loop-offset.auto.offset in
@@ -41,40 +76,42 @@ read_body_word-requires-clause-found c =
     let lines = header_law (view c.loop-offset.pass) f.0 c.read_word-header.result inv.of.stands among f.3
         (subst (λ (z : ℕ). Among (record { place = z * 4; value = c.read_word-header.result })
         (view c.loop-offset.pass).learned.known) (sym f.2) head) in
-    let told = c.lines_in-offset-end.ensures.value in
+    let told = c.lines_in-size.ensures.value in
     let test = c.loop-offset-test.true in
     (f.0, among, f.2, f.3, omega arith)
-
-pub returns-in_err-push-2-clause-extends : goal.returns-in_err-push-2-clause-extends
-returns-in_err-push-2-clause-extends c =
-    extends_both _ _ _ c.loop-offset.invariant.extends c.read_body_word.ensures.extends
 
 pub loop-offset-preserved : goal.loop-offset-preserved
 loop-offset-preserved c =
     let inv = c.loop-offset.invariant in
     let many : length c.loop-offset.words.items ≡ c.loop-offset.offset = inv.many in
     let from = c.loop-offset.auto.offset in
-    let x : ℕ = c.read_body_word.result in
-    let items : c.push-in-loop-offset.new.self.items ≡ c.loop-offset.words.items ++ x ∷ [] =
-        c.in_ok-push-2.ensures.items in
+    let word = c.read_body_word-word.result in
+    let told = c.read_body_word-word.ensures.read in
+    let x : ℕ = c.unwrap_or.result in
+    let items : c.push_reserved-in-loop-offset.new.self.items ≡ c.loop-offset.words.items ++ x ∷ [] =
+        c.push_reserved-in-loop-offset.ensures.items in
     let keys : c.from-keys.result ≡ keys_of c.read_word-header.result = c.from-keys.ensures ∙ c.keys_in.ensures.value in
-    let here : ¬ IsKeyWord (keys_of c.read_word-header.result) (length c.loop-offset.words.items)
-        → Among (record { place = c.args.line * 4 + length c.loop-offset.words.items; value = x })
-        (view c.read_body_word.new.pass).learned.known =
-    λ plain. subst (λ (z : ℕ). Among (record { place = c.args.line * 4 + z; value = x })
-        (view c.read_body_word.new.pass).learned.known) (sym many)
-    (c.read_body_word.ensures.word (subst (λ (z : ℕ × ℕ). ¬ IsKeyWord z.0 z.1) (λ j. (sym keys j, many j)) plain)) in
+    let here = told_word (view c.loop-offset.pass) (view c.read_body_word-word.new.pass) c.from-keys.result
+        (keys_of c.read_word-header.result) c.args.line c.loop-offset.offset (length c.loop-offset.words.items) word
+        x told.told c.unwrap_or.ensures (sym keys) many in
+    let counts = told_loads (view c.loop-offset.pass) (view c.read_body_word-word.new.pass) c.from-keys.result
+        c.args.line c.loop-offset.offset word told.told in
+    let loaded = c.from-loads.ensures ∙ ap from_bool c.is_some.ensures in
+    let counted = inv.counted in
+    let few = inv.few in
     record {
-      of = c.read_body_word.ensures.pass;
-      extends = extends_both _ _ _ inv.extends c.read_body_word.ensures.extends;
+      of = c.read_body_word-word.ensures.pass;
+      extends = extends_both _ _ _ inv.extends told.extends;
       many = ap length items ∙ length-append c.loop-offset.words.items (x ∷ []) ∙ (omega arith);
+      room = c.push_reserved-in-loop-offset.ensures.capacity ∙ inv.room;
+      counted = omega arith;
+      few = omega arith;
       head = ap (λ (z : List ℕ). get_or z 0 0) items
           ∙ head_stays c.loop-offset.words.items x c.read_word-header.result (omega arith) inv.head;
-      read = subst (AreRead (view c.read_body_word.new.pass) c.args.line (keys_of c.read_word-header.result))
+      read = subst (AreRead (view c.read_body_word-word.new.pass) c.args.line (keys_of c.read_word-header.result))
           (sym items)
-          (read_more (view c.loop-offset.pass) (view c.read_body_word.new.pass) c.args.line
-              (keys_of c.read_word-header.result) x c.loop-offset.words.items c.read_body_word.ensures.extends
-                  inv.read here);
+          (read_more (view c.loop-offset.pass) (view c.read_body_word-word.new.pass) c.args.line
+              (keys_of c.read_word-header.result) x c.loop-offset.words.items told.extends inv.read here);
     }
 
 pub returns-clause-words : goal.returns-clause-words
@@ -90,9 +127,9 @@ returns-clause-words c f among line words =
         (subst (λ (z : ℕ). Among (record { place = z * 4; value = c.read_word-header.result })
         (view c.loop-offset.pass).learned.known) (sym line) head) in
     let some_ = found_law (view c.args.pass.now) f c.requires.pass.stands among in
-    let told = c.lines_in-offset-end.ensures.value in
+    let told = c.lines_in-size.ensures.value in
     let test = c.loop-offset-test.false in
-    let upto : c.loop-offset.offset ≤ c.lines_in-offset-end.result * 4 = c.loop-offset.auto.offset-end (omega arith) in
+    let upto : c.loop-offset.offset ≤ c.lines_in-size.result * 4 = c.loop-offset.auto.offset-end (omega arith) in
     record {
       full = omega arith;
       read = subst (λ (z : ℕ × ℕ). (i : ℕ) → i < length c.loop-offset.words.items → ¬ IsKeyWord (keys_of z.0) i

@@ -1,7 +1,13 @@
-use Rattle.std.proofs.Common.{◌≡◌, ℕ, ◌<◌, sym, ap, ◌∙◌, subst, arith}
+use Rattle.std.proofs.Common.{◌≡◌, ℕ, ◌<◌, sym, ap, ◌∙◌, subst, arith, Bool}
 use Rattle.fish_rule.proofs.Allowed.{end_allowed}
 use Rattle.fish_rule.proofs.Standing.{joins}
-use Rattle.fish_rule.specs.Table.{Sat}
+use Rattle.fish_rule.proofs.Extending.{joined_learns}
+use Rattle.fish_rule.specs.Logs.{Learns}
+use Rattle.fish_rule.specs.Seating.{join_both}
+use Rattle.fish_rule.specs.Table.{Sat, ToldEnd}
+use Rattle.fish_rule.specs.declared.view.Key.{Key}
+use Rattle.fish_rule.specs.declared.view.View.{View}
+use Rattle.atomic_table.specs.Table.{Step}
 use Rattle.fish_rule.proofs.seats.join_pass.Goals as goal
 
 -- the rule allows a join, whatever the words are
@@ -28,3 +34,33 @@ load-requires c =
       subst (λ (z : ℕ). 0 < z) (sym log.wide) (omega arith),
       end_allowed log.table.shared.key log.key log.keyed log.table.shared.table_id.slots seat.id seat.me about,
     )
+
+-- both views are learned by the join and the load
+joined : (k : Key) (v u : View) (m n : Sat) (st : Step Bool) (x : ℕ) → v.about ≡ k → u.about ≡ k
+    → m.0 ≡ join_both v u → ToldEnd st m x n → Learns v n.0 × Learns u n.0
+joined k v u m n st x here there both end =
+    joined_learns v u m.0 n.0 x (here ∙ sym there) both end.told.view end.counted
+
+pub returns-then-is_none-clause-learns : goal.returns-then-is_none-clause-learns
+returns-then-is_none-clause-learns c =
+    (joined _ c.args.main.now.seat.me.0 c.args.other.seat.me.0 c.join_seat.new.seat.me c.load.new.seat.me _
+        c.load.result c.requires.main.about c.requires.other.about
+        (ap (λ (z : Sat). z.0) c.join_seat.ensures.2) c.load.ensures.2).0
+
+pub returns-then-is_none-clause-learned : goal.returns-then-is_none-clause-learned
+returns-then-is_none-clause-learned c =
+    (joined _ c.args.main.now.seat.me.0 c.args.other.seat.me.0 c.join_seat.new.seat.me c.load.new.seat.me _
+        c.load.result c.requires.main.about c.requires.other.about
+        (ap (λ (z : Sat). z.0) c.join_seat.ensures.2) c.load.ensures.2).1
+
+pub returns-else-is_none-clause-learns : goal.returns-else-is_none-clause-learns
+returns-else-is_none-clause-learns c =
+    (joined _ c.args.main.now.seat.me.0 c.args.other.seat.me.0 c.join_seat.new.seat.me c.load.new.seat.me _
+        c.load.result c.requires.main.about c.requires.other.about
+        (ap (λ (z : Sat). z.0) c.join_seat.ensures.2) c.load.ensures.2).0
+
+pub returns-else-is_none-clause-learned : goal.returns-else-is_none-clause-learned
+returns-else-is_none-clause-learned c =
+    (joined _ c.args.main.now.seat.me.0 c.args.other.seat.me.0 c.join_seat.new.seat.me c.load.new.seat.me _
+        c.load.result c.requires.main.about c.requires.other.about
+        (ap (λ (z : Sat). z.0) c.join_seat.ensures.2) c.load.ensures.2).1

@@ -2,7 +2,10 @@
 use Rattle.std.proofs.Common.{◌≡◌, ℕ, ◌≤◌, List, [], length, is_some, true, refl, sym, ap, subst, arith}
 use Rattle.fish_json.specs.Reading.{record_of}
 use Rattle.fish_layout.proofs.Outlines.{body_length}
+use Rattle.fish_claim.specs.Fills.{IsStorable}
 use Rattle.fish_layout.specs.Body.{IsBody}
+use Rattle.fish_rule.proofs.Keys.{no_keys}
+use Rattle.fish_rule.specs.declared.view.Key.{Key}
 use Rattle.fish_layout.specs.declared.parts.BodyParts.{BodyParts}
 use Rattle.fish_psf.specs.Records.{is_record}
 use Rattle.fish_value.specs.declared.field.Form.TheVariants.{Json}
@@ -12,7 +15,8 @@ pub returns : goal.returns
 unfolding is_record
 returns c =
     let text : List ℕ = c.args.payload in
-    let p : BodyParts = record { form = Json; lane = c.args.lane; version = 0; number = c.args.number; keys = c.new.result; payload = text } in
+    let p : BodyParts = record { form = Json; lane = c.args.lane; version = 0; number = c.args.number;
+        keys = c.new.result; payload = text } in
     let lane = c.requires.lane in
     let number = c.requires.number in
     let keys : p.keys ≡ [] = c.new.ensures in
@@ -33,5 +37,9 @@ returns c =
     let size = body_length is in
     let len = c.len.ensures in
     let same = c.if-len-lines.false in
-    let read = subst (λ (z : List ℕ). is_some (record_of z) ≡ true) c.as_bytes-2.ensures.value (ap is_some c.in-Ok.ensures.ok) in
-    (p, record { lane_is = refl; number_is = refl; lines_is = omega arith; version = refl; reads = read }, keys, is)
+    let read = subst (λ (z : List ℕ). is_some (record_of z) ≡ true) c.as_bytes-2.ensures.value
+        (ap is_some c.in-Ok.ensures.ok) in
+    let storable : (k : Key) → k.rows.value ≡ [] → IsStorable k c.args.lane c.args.number c.args.lines p =
+        λ k none. record { lane_is = refl; number_is = refl; lines_is = omega arith; version = refl; reads = read;
+            keys = no_keys k.rows.value p none keys } in
+    (p, storable, keys, is)

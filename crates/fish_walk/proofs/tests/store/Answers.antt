@@ -1,10 +1,11 @@
 -- The record was made for the place.
-use Rattle.std.proofs.Common.{◌≡◌, ℕ, List, refl, sym, ap, subst}
+use Rattle.std.proofs.Common.{ℕ, List, refl, sym, ap, ◌∙◌, subst}
 use Rattle.fish_claim.proofs.Bodies.{body_law, placed_law}
 use Rattle.fish_claim.proofs.Filled.{plain_publish}
 use Rattle.fish_claim.specs.Fills.{CanFill, IsFilled, IsStorable, with_words}
 use Rattle.fish_rule.specs.Passes.{view}
 use Rattle.fish_rule.specs.Steps.{flight_at}
+use Rattle.fish_rule.specs.declared.view.Key.{Key}
 use Rattle.fish_rule.specs.declared.view.View.{View}
 use Rattle.fish_walk.proofs.tests.store.Goals as goal
 
@@ -14,10 +15,13 @@ fill-requires-clause-view c =
     let place = c.in-Placed in
     let v = view c.args.pass.now in
     let u = view c.claim.new.pass in
-    let plain = subst (λ (z : ℕ). IsStorable z place.number c.args.lines p.0) c.lane-lane.ensures p.1 in (
+    let rows = ap (λ (z : Key). z.rows.value) c.requires.pass.about ∙ c.requires.rows in
+    let plain = subst (λ (z : ℕ). IsStorable v.about z place.number c.args.lines p.0) c.lane-lane.ensures
+        (p.1 v.about rows) in (
       flight_at place.number place.line c.args.lines,
       subst (CanFill u (flight_at place.number place.line c.args.lines)) (sym c.as_slice.ensures)
-          (body_law v u c.args.lines place.number place.line p.0 c.in_ok-body.body (placed_law v u c.args.lines place.number place.line place.ensures.claimed) plain p.3),
+          (body_law v u c.args.lines place.number place.line p.0 c.in_ok-body.body
+              (placed_law v u c.args.lines place.number place.line place.ensures.claimed) plain p.3),
     )
 
 pub publish-requires-clause-view : goal.publish-requires-clause-view
@@ -26,6 +30,8 @@ publish-requires-clause-view c =
     let place = c.in-Placed in
     let f = flight_at place.number place.line c.args.lines in
     let u = view c.fill.new.pass in
-    let placed = placed_law (view c.args.pass.now) (view c.claim.new.pass) c.args.lines place.number place.line place.ensures.claimed in
-    let filled = subst (λ (z : List ℕ). IsFilled u (with_words f z)) c.as_slice.ensures (c.fill.ensures.filled f (ap (λ (z : View). z.flight) placed.known)) in
+    let placed = placed_law (view c.args.pass.now)
+        (view c.claim.new.pass) c.args.lines place.number place.line place.ensures.claimed in
+    let filled = subst (λ (z : List ℕ). IsFilled u (with_words f z)) c.as_slice.ensures
+        (c.fill.ensures.filled f (ap (λ (z : View). z.flight) placed.known)) in
     (with_words f c.in_ok-body.body, plain_publish u f p.0 c.in_ok-body.body filled refl p.3 p.2, filled.stored)

@@ -1,0 +1,57 @@
+-- The views of the call, one after the other, and what it found on its way.
+use Rattle.std.proofs.Common.{◌≡◌, ℕ, max, sym, ap, ◌∙◌, subst, arith}
+use Rattle.fish_rule.specs.Passes.{view}
+use Rattle.fish_rule.specs.declared.view.Key.{Key}
+use Rattle.fish_walk.specs.Settling.{AreSettled, IsEnd, IsMark}
+use Rattle.fish_walk.proofs.Settling.{alone_still, can_raise, counted_here, settles_all, stops_below, stops_here}
+use Rattle.fish_walk.proofs.prefix.settle.Goals as goal
+
+pub raise_to-requires-clause-can : goal.raise_to-requires-clause-can
+raise_to-requires-clause-can c =
+    let t = c.count_now-count.ensures.view in
+    let s = c.settled_up_to-settled.ensures in
+    let known = c.load_settled-known in
+    let within = stops_below IsEnd _ _ c.settled_up_to-settled.result c.count_now-count.result s.stops in
+    let from : c.from.result ≡ c.settled_up_to-settled.result = c.from.ensures in
+    let base : c.base.result.number ≡ (view c.args.pass.now).about.number = c.base.ensures.0
+        ∙ sym (ap (λ (z : Key). z.number) c.requires.pass.about) in
+    can_raise (view c.args.pass.now) (view known.new.pass) (view c.count_now-count.new.pass) _ known.result t.0
+        c.max-first.result c.from.result c.count_now-count.result known.ensures.view t.1 s.looked c.requires.live
+        (c.max-first.ensures ∙ ap (λ (z : ℕ). max z known.result) base)
+        (subst (AreSettled (view c.settled_up_to-settled.new.pass) c.max-first.result) (sym from) s.settled)
+        (omega arith) t.2
+
+pub returns-clause-settles : goal.returns-clause-settles
+returns-clause-settles c =
+    let t = c.count_now-count.ensures.view in
+    let known = c.load_settled-known in
+    settles_all _ (view known.new.pass) _ (view c.settled_up_to-settled.new.pass) _ known.result t.0 c.from.result
+        known.ensures.view t.1 c.settled_up_to-settled.ensures.looked c.raise_to.ensures.raised known.ensures.rises
+        c.count_now-count.result t.2 c.count_now-count.ensures.counted
+
+pub returns-clause-count : goal.returns-clause-count
+returns-clause-count c =
+    let t = c.count_now-count.ensures.view in
+    let known = c.load_settled-known in
+    counted_here _ (view known.new.pass) _ (view c.settled_up_to-settled.new.pass) _ known.result t.0 c.from.result
+        known.ensures.view t.1 c.settled_up_to-settled.ensures.looked c.raise_to.ensures.raised
+        c.count_now-count.result t.2
+
+pub returns-clause-stops : goal.returns-clause-stops
+returns-clause-stops c =
+    let t = c.count_now-count.ensures.view in
+    let known = c.load_settled-known in
+    stops_here _ (view known.new.pass) _ (view c.settled_up_to-settled.new.pass) _ known.result t.0 c.from.result
+        known.ensures.view t.1 c.settled_up_to-settled.ensures.looked c.raise_to.ensures.raised
+        IsEnd c.settled_up_to-settled.result c.count_now-count.result c.settled_up_to-settled.ensures.stops
+
+pub returns-clause-alone : goal.returns-clause-alone
+returns-clause-alone c alone =
+    let t = c.count_now-count.ensures.view in
+    let known = c.load_settled-known in
+    let s = c.settled_up_to-settled.ensures in
+    let still = alone_still _ (view known.new.pass) _ (view c.settled_up_to-settled.new.pass) _ known.result t.0
+        c.from.result known.ensures.view t.1 s.looked c.raise_to.ensures.raised alone in
+    stops_here _ (view known.new.pass) _ (view c.settled_up_to-settled.new.pass) _ known.result t.0 c.from.result
+        known.ensures.view t.1 s.looked c.raise_to.ensures.raised
+        IsMark c.settled_up_to-settled.result c.count_now-count.result (s.alone still)

@@ -1,0 +1,94 @@
+-- What a call that settles numbers tells: how far it came, and why no further.
+use Rattle.std.specs.Prelude.{ℕ, ◌≡◌, ◌≢◌, ◌<◌, ◌≤◌, List, ◌++◌}
+use Rattle.std.proofs.Common.{◌⊎◌}
+use Rattle.fish_rule.specs.Logs.{Extends, Learns}
+use Rattle.fish_rule.specs.Views.{Among}
+use Rattle.fish_rule.specs.World.{high}
+use Rattle.fish_rule.specs.declared.view.Found.{Found}
+use Rattle.fish_rule.specs.declared.view.Kind.TheVariants.{Mark}
+use Rattle.fish_rule.specs.declared.view.Note.{Note}
+use Rattle.fish_rule.specs.declared.view.Noted.{Noted}
+use Rattle.fish_rule.specs.declared.view.Noted.TheVariants.{Directory, Tail}
+use Rattle.fish_rule.specs.declared.view.View.{View}
+use Rattle.fish_walk.specs.Looks.{look_of}
+use Rattle.fish_walk.specs.declared.outcome.Look.TheVariants.{Overflow, Unfinished}
+
+-- ---- loads
+
+-- the pass went on from the first view to the second, and made these loads
+pub record GoesOn (v u : View) : Type 0 where
+  pub notes : List Note
+  pub since : u.clock.notes ≡ notes ++ v.clock.notes
+  pub later : v.clock.steps ≤ u.clock.steps
+
+-- between the two views the pass loaded this, and found this value
+pub record HasLoaded (v u : View) (what : Noted) (value : ℕ) : Type 0 where
+  pub on : GoesOn v u
+  pub step : ℕ
+  pub later : v.clock.steps ≤ step
+  pub among : Among (record { step = step; what = what; value = value }) on.notes
+
+-- the count is one that the pass loaded between the two views
+pub record HasCounted (v u : View) (count : ℕ) : Type 0 where
+  pub tail : ℕ
+  pub loaded : HasLoaded v u Tail tail
+  pub is : high tail ≡ count
+
+-- ---- stops
+
+-- a directory word that tells of a mark
+abbrev pub IsMark : ℕ → Type 0
+IsMark word = look_of word ≡ Overflow
+
+-- a directory word at which the settled numbers end: one that tells of an unfinished number or a mark
+abbrev pub IsEnd : ℕ → Type 0
+IsEnd word = (look_of word ≡ Unfinished) ⊎ IsMark word
+
+-- a number below the count whose directory word meets P, as the pass found it between the two views
+pub record HasEnd (P : ℕ → Type 0) (v u : View) (number count : ℕ) : Type 0 where
+  pub below : number < count
+  pub word : ℕ
+  pub loaded : HasLoaded v u (Directory number) word
+  pub ends : P word
+
+-- the number at which the settled ones stop: the count, or one whose word meets P
+abbrev pub StopsAt : (ℕ → Type 0) → View → View → ℕ → ℕ → Type 0
+StopsAt P v u number count = (number ≡ count) ⊎ HasEnd P v u number count
+
+-- each number from the first up to the last was found published, and no mark
+abbrev pub AreSettled : View → ℕ → ℕ → Type 0
+AreSettled v first last = (n : ℕ) → first ≤ n → n < last
+    → (f : Found) × Among f v.learned.found × (f.number ≡ n) × (f.kind ≢ Mark)
+
+-- ---- views
+
+-- the pass may look at each number from the first up to the count
+pub record CanSettle (v : View) (first count : ℕ) : Type 0 where
+  pub live : 1 ≤ v.lane
+  pub above : v.about.number ≤ first
+  pub below : count ≤ v.learned.count
+
+-- the second view is the first but for what looks told since
+pub record Looked (v u : View) : Type 0 where
+  pub extends : Extends v u
+  pub count : u.learned.count ≡ v.learned.count
+  pub settled : u.learned.settled ≡ v.learned.settled
+  pub on : GoesOn v u
+
+-- the second view is the first but for the settled number, which is at least this one and only rises
+pub record Raised (v u : View) (number : ℕ) : Type 0 where
+  pub extends : Extends v u
+  pub reaches : number ≤ u.learned.settled
+  pub rises : v.learned.settled ≤ u.learned.settled
+  pub on : GoesOn v u
+
+-- the second view is the first but for the tail and what was learned since, and the settled number
+-- only rises
+pub record Settles (v u : View) : Type 0 where
+  pub learns : Learns v u
+  pub rises : v.learned.settled ≤ u.learned.settled
+  pub lane : u.lane ≡ v.lane
+  pub out : u.out ≡ v.out
+  pub shut : u.shut ≡ v.shut
+  pub flight : u.flight ≡ v.flight
+  pub own : u.own ≡ v.own

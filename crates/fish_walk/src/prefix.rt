@@ -1,0 +1,73 @@
+//! The stable prefix of the log: the numbers below the settled one, all published and no marks.
+
+ghost use Rattle.std.specs.Prelude.{◌≡◌, ◌≤◌};
+ghost use Rattle.fish_rule.specs.Passes.{IsPassOf, view};
+ghost use Rattle.fish_rule.specs.Steps.{CanRaise, IsAlone};
+ghost use Rattle.fish_walk.specs.Settling.{AreSettled, CanSettle, HasCounted, IsEnd, IsMark, Looked, Raised,
+    Settles, StopsAt};
+
+use crate::found::{count_now, look};
+use crate::outcome::Look;
+use fish_rule::{Log, Pass, base, load_settled, raise_settled};
+
+/// How far the log is settled, and how many numbers are claimed.
+#[derive(Clone, Copy, Debug, PartialEq, Eq)]
+pub struct Settled {
+    /// Every number below is published, and no mark.
+    pub settled: u32,
+    /// How many numbers are claimed, all below the log's first included.
+    pub count: u32,
+}
+
+/// Raises the settled number over the published numbers behind it, up to the first one that is
+/// unfinished or a mark. One load for each, and three steps more.
+pub fn settle(log: &Log, pass: &mut Pass) -> Settled
+    requires pass { IsPassOf log.now pass.old }
+    requires live { 1 ≤ (view pass.old).lane }
+    ensures pass { IsPassOf log.now pass.new }
+    ensures settles { Settles (view pass.old) (view pass.new) }
+    ensures settled { result.settled ≤ (view pass.new).learned.settled }
+    ensures count { HasCounted (view pass.old) (view pass.new) result.count }
+    ensures stops { StopsAt IsEnd (view pass.old) (view pass.new) result.settled result.count }
+    ensures alone { IsAlone (view pass.old)
+        → StopsAt IsMark (view pass.old) (view pass.new) result.settled result.count }
+{
+    let known = load_settled(log, pass);
+    let count = count_now(log, pass);
+    let first = base(log).number.max(known as u32);
+    let settled = settled_up_to(log, pass, first, count);
+    raise_to(log, pass, known, u64::from(settled));
+    Settled { settled, count }
+}
+
+/// The first number from here on that is unfinished or a mark, or the count where there is none.
+fn settled_up_to(log: &Log, pass: &mut Pass, first: u32, count: u32) -> u32
+    requires pass { IsPassOf log.now pass.old }
+    requires can { CanSettle (view pass.old) first count }
+    ensures pass { IsPassOf log.now pass.new }
+    ensures looked { Looked (view pass.old) (view pass.new) }
+    ensures settled { AreSettled (view pass.new) first result }
+    ensures stops { StopsAt IsEnd (view pass.old) (view pass.new) result count }
+    ensures alone { IsAlone (view pass.old) → StopsAt IsMark (view pass.old) (view pass.new) result count }
+{
+    for number in first..count {
+        match look(log, pass, number) {
+            Look::Unfinished | Look::Overflow => return number,
+            Look::Void | Look::Stored => {}
+        }
+    }
+    count
+}
+
+/// Raises the settled number to at least this one, by one step, unless it is known to be so high.
+fn raise_to(log: &Log, pass: &mut Pass, known: u64, number: u64)
+    requires pass { IsPassOf log.now pass.old }
+    requires can { CanRaise (view pass.old) number }
+    requires known { (view pass.old).learned.settled ≡ known }
+    ensures pass { IsPassOf log.now pass.new }
+    ensures raised { Raised (view pass.old) (view pass.new) number }
+{
+    if known < number {
+        raise_settled(log, pass, number);
+    }
+}
