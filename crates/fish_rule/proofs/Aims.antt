@@ -15,7 +15,8 @@ use Rattle.fish_rule.proofs.Bounds.{starts_above}
 use Rattle.fish_rule.proofs.Flights.{one_flight}
 use Rattle.fish_rule.proofs.OwnWords.{Becomes, flight_is, write_kept, write_lasts}
 use Rattle.fish_rule.proofs.Worlds.{world-log}
-use Rattle.fish_rule.specs.Linking.{CanAim, after_aim, own_place, told_aim}
+use Rattle.fish_rule.specs.Linking.{CanAim, after_aim, own_place}
+use Rattle.fish_rule.specs.Told.{told_aim}
 use Rattle.fish_rule.specs.Parts.{InFlight}
 use Rattle.fish_rule.specs.Rule.{Final, Rule}
 use Rattle.fish_rule.specs.Steps.{ticked}

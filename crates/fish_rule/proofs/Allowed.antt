@@ -19,10 +19,11 @@ use Rattle.fish_rule.proofs.Room.{few_lines, few_numbers, few_slots}
 use Rattle.fish_rule.proofs.Worlds.{area-in, world-dir, world-log, world-tail}
 use Rattle.fish_rule.specs.Regions.{dir_word, kind_of}
 use Rattle.fish_rule.specs.Rule.{Rule}
-use Rattle.fish_rule.specs.Steps.{CanClaim, CanLook, CanPublish, CanStore, IsReady, after_claim, after_end, after_look,
-    after_publish, after_store, flight_kind}
-use Rattle.fish_rule.specs.Table.{Ruled, Sat, Stands, Told, ToldEnd, ToldLook, number_at, told_claim,
-    told_publish, told_store}
+use Rattle.fish_rule.specs.Steps.{CanClaim, CanPublish, CanStore, IsReady, after_claim, after_publish, after_store,
+    flight_kind}
+use Rattle.fish_rule.specs.Reading.{CanLook, after_end, after_look}
+use Rattle.fish_rule.specs.Table.{Ruled, Sat, Stands, Told}
+use Rattle.fish_rule.specs.Told.{ToldEnd, ToldLook, number_at, told_claim, told_publish, told_store}
 use Rattle.fish_rule.specs.World.{World, dir_at, high, log_at, low, put, slots, total, world}
 use Rattle.fish_rule.specs.declared.view.Flight.{Flight}
 use Rattle.fish_rule.specs.declared.view.Key.{Key}

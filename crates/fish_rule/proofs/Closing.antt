@@ -13,7 +13,7 @@ use Rattle.fish_rule.specs.Parts.{Rests}
 use Rattle.fish_rule.specs.Facts.{Facts, IsFound, IsKnown, IsRecorded, Owns}
 use Rattle.fish_rule.specs.Regions.{code}
 use Rattle.fish_rule.specs.Rule.{Rule}
-use Rattle.fish_rule.specs.Steps.{IsAlone, after_look, kind_told}
+use Rattle.fish_rule.specs.Reading.{IsAlone, after_look, kind_told}
 use Rattle.fish_rule.specs.Table.{Stands}
 use Rattle.fish_rule.specs.Views.{AllOf, Among}
 use Rattle.fish_rule.specs.Walks.{IsGap, IsLabel}

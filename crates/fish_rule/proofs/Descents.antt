@@ -4,7 +4,7 @@ use mathlib.Core.Option.{some}
 use Rattle.std.proofs.Math.ListN.{get_elem?}
 use Rattle.fish_rule.proofs.Bodies.{kind-inside}
 use Rattle.fish_rule.proofs.Kept.{published}
-use Rattle.fish_rule.proofs.Links.{lies_inside, spot}
+use Rattle.fish_rule.proofs.Spots.{lies_inside, spot}
 use Rattle.fish_rule.proofs.Walking.{claimed_there, gap_clear, within_region}
 use Rattle.fish_rule.specs.Linking.{HasNode, after_head, after_node, after_previous, gap, with_node}
 use Rattle.fish_rule.specs.Logs.{Extends, Learns}

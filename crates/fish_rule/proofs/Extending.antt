@@ -3,7 +3,7 @@ use Rattle.std.proofs.Common.{◌≡◌, ◌≢◌, ℕ, ◌≤◌, max, zero, s
 use Rattle.fish_rule.proofs.Common.{among_left, among_right}
 use Rattle.fish_rule.specs.Logs.{Extends, Learns}
 use Rattle.fish_rule.specs.Seating.{join_both}
-use Rattle.fish_rule.specs.Steps.{after_end, after_look, after_read, found_after, kind_told}
+use Rattle.fish_rule.specs.Reading.{after_end, after_look, after_read, found_after, kind_told}
 use Rattle.fish_rule.specs.Views.{Among}
 use Rattle.fish_rule.specs.World.{high, low}
 use Rattle.fish_rule.specs.declared.view.Found.{Found}

@@ -12,7 +12,7 @@ use Rattle.fish_layout.specs.Cleared.{IsKeyWord, entry_at}
 use Rattle.fish_layout.specs.Entry.{entry_number, entry_place}
 use Rattle.fish_layout.specs.Header.{keys_of, lines_of}
 use Rattle.fish_layout.specs.declared.parts.KeyPart.{KeyPart}
-use Rattle.fish_rule.proofs.Links.{Spot, lies_inside, spot, spot_lined}
+use Rattle.fish_rule.proofs.Spots.{Spot, lies_inside, spot, spot_lined}
 use Rattle.fish_rule.specs.Chains.{Linked}
 use Rattle.fish_rule.specs.Rule.{Rule}
 use Rattle.fish_rule.specs.Walks.{IsEntryOf, IsGap, IsLabel}

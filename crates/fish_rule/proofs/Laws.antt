@@ -6,14 +6,15 @@ use Rattle.fish_rule.proofs.Common.{all_among}
 use Rattle.fish_layout.specs.Header.{lines_of}
 use Rattle.fish_rule.proofs.Loads.{head_known, lines_found, region_found}
 use Rattle.fish_rule.proofs.Aims.{own_within}
-use Rattle.fish_rule.proofs.Heads.{node_linked, place_within, second_within}
-use Rattle.fish_rule.proofs.Links.{one_chain}
+use Rattle.fish_rule.proofs.Heads.{node_linked, place_within}
+use Rattle.fish_rule.proofs.Nodes.{second_within}
+use Rattle.fish_rule.proofs.Spots.{one_chain}
 use Rattle.fish_rule.proofs.OwnWords.{flight_is}
 use Rattle.fish_rule.specs.Linking.{CanAim, HasNode, own_place}
 use Rattle.fish_rule.proofs.Room.{few_lines, few_numbers, few_slots}
 use Rattle.fish_rule.specs.Parts.{Fits}
 use Rattle.fish_rule.specs.Facts.{IsFound, IsKnown}
-use Rattle.fish_rule.specs.Steps.{CanLook, CanRead}
+use Rattle.fish_rule.specs.Reading.{CanLook, CanRead}
 use Rattle.fish_rule.specs.Table.{Stands}
 use Rattle.fish_rule.specs.Views.{Among}
 use Rattle.fish_rule.specs.World.{World, slots}

@@ -13,7 +13,7 @@ use Rattle.fish_rule.specs.Parts.{Flies, Rests}
 use Rattle.fish_rule.specs.Facts.{Facts, IsFound}
 use Rattle.fish_rule.specs.Regions.{code, dir_word, kind_of}
 use Rattle.fish_rule.specs.Rule.{Final, Rule}
-use Rattle.fish_rule.specs.Steps.{CanLook, IsAlone, after_end, after_look, after_settled, found_after, kind_told}
+use Rattle.fish_rule.specs.Reading.{CanLook, IsAlone, after_end, after_look, after_settled, found_after, kind_told}
 use Rattle.fish_rule.specs.Views.{Among, Each, Has, HasFlight, IsFlightOf}
 use Rattle.fish_rule.specs.World.{World, high, low}
 use Rattle.fish_rule.specs.declared.view.Clock.{Clock}

@@ -13,7 +13,8 @@ use Rattle.fish_rule.proofs.Aims.{own_body}
 use Rattle.fish_rule.proofs.Common.{each_set, seats_kept, within_list}
 use Rattle.fish_rule.proofs.Frames.{alone_kept, flight_there, may_kept}
 use Rattle.fish_rule.proofs.Kept.{chained_later, facts_later, finished_later}
-use Rattle.fish_rule.proofs.Links.{linked_map, linking_own, linking_to, spot}
+use Rattle.fish_rule.proofs.Links.{linked_map, linking_own, linking_to}
+use Rattle.fish_rule.proofs.Spots.{spot}
 use Rattle.fish_rule.proofs.OwnWords.{flight_is}
 use Rattle.fish_rule.specs.Chains.{Chain, Chained, IsKeyEntry, IsLinking, IsStoredAt, Linked, LinksAt, Shows}
 use Rattle.fish_rule.specs.Linking.{CanAim, linked_once, own_place}

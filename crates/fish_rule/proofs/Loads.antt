@@ -21,8 +21,9 @@ use Rattle.fish_rule.specs.Parts.{IsFinished}
 use Rattle.fish_rule.specs.Facts.{Facts, IsFound, IsKnown}
 use Rattle.fish_rule.specs.Regions.{Holds, kind_of}
 use Rattle.fish_rule.specs.Rule.{Final, Rule}
-use Rattle.fish_rule.specs.Steps.{CanRead, after_read}
-use Rattle.fish_rule.specs.Table.{Ruled, Sat, Told, place_at, told_read}
+use Rattle.fish_rule.specs.Reading.{CanRead, after_read}
+use Rattle.fish_rule.specs.Table.{Ruled, Sat, Told}
+use Rattle.fish_rule.specs.Told.{place_at, told_read}
 use Rattle.fish_rule.specs.Views.{Among}
 use Rattle.fish_rule.specs.World.{World, body, log_at, log_size, world}
 use Rattle.fish_rule.specs.declared.view.Found.{Found}

@@ -1,4 +1,5 @@
 -- A store of a word of the region in flight that is no linked one: the next word, or an entry's own first word.
+-- All of it stands over one world, one view and one step: cut in two, each lemma would name them all again.
 use Rattle.std.proofs.Common.{◌≡◌, ◌≢◌, ℕ, ◌+◌, ◌-◌, ◌*◌, ◌<◌, ◌≤◌, suc, List, length, get_or, set, sym, refl,
     ap, ◌∙◌, subst, inl, inr, ⊎_elim, arith, Some, None, Option}
 use Rattle.std.proofs.Math.Decide.{ℕ_discrete, dec_le}
@@ -14,8 +15,8 @@ use Rattle.fish_rule.proofs.Common.{each_set, seats_kept}
 use Rattle.fish_rule.proofs.Flights.{one_flight}
 use Rattle.fish_rule.proofs.Frames.{alone_kept, flight_there, may_kept, one_view}
 use Rattle.fish_rule.proofs.Kept.{chained_later, facts_later, finished_later, flight_later}
-use Rattle.fish_rule.proofs.Links.{IsFlier, Spot, chains_same, linked_map, linking_from, linking_own,
-    linking_to, spot, which, whole_later}
+use Rattle.fish_rule.proofs.Links.{chains_same, linked_map, linking_from, linking_own, linking_to, whole_later}
+use Rattle.fish_rule.proofs.Spots.{IsFlier, Spot, spot, which}
 use Rattle.fish_rule.proofs.Worlds.{put-else, put-here}
 use Rattle.fish_rule.specs.Chains.{IsLinking, IsStoredAt, Linked, LinksAt, Shows}
 use Rattle.fish_rule.specs.Parts.{Flies, InFlight, IsLinkedWord, Whole}

@@ -4,7 +4,8 @@ use Rattle.fish_rule.proofs.Aims.{aim_kept, aim_lasts}
 use Rattle.fish_rule.proofs.Begins.{empty_rule}
 use Rattle.fish_rule.proofs.Claims.{claim_kept, claim_lasts}
 use Rattle.fish_rule.proofs.Flights.{publisher_at}
-use Rattle.fish_rule.proofs.Heads.{head_kept, head_lasts, node_kept, node_lasts, previous_kept, previous_lasts}
+use Rattle.fish_rule.proofs.Heads.{head_kept, head_lasts, previous_kept, previous_lasts}
+use Rattle.fish_rule.proofs.Nodes.{node_kept, node_lasts}
 use Rattle.fish_rule.proofs.Learns.{end_kept, end_lasts, look_kept, look_lasts, settled_kept, settled_lasts}
 use Rattle.fish_rule.proofs.Loads.{read_kept, read_lasts}
 use Rattle.fish_rule.proofs.Fills.{store_kept, store_lasts}
@@ -12,13 +13,15 @@ use Rattle.fish_rule.proofs.Publishes.{publish_kept, publish_lasts}
 use Rattle.fish_rule.proofs.Settles.{raise_kept, raise_lasts}
 use Rattle.fish_rule.proofs.Splices.{splice_kept, splice_lasts}
 use Rattle.fish_rule.proofs.Swings.{swing_kept, swing_lasts}
-use Rattle.fish_rule.proofs.Seating.{join_kept, join_lasts, split_kept, split_lasts}
+use Rattle.fish_rule.proofs.Joins.{join_kept, join_lasts}
+use Rattle.fish_rule.proofs.Splits.{split_kept, split_lasts}
 use Rattle.fish_rule.specs.Machine.{Event, EverySchedule, EveryStepIsFinal, Exchanged, Runs, aims, claims,
     ends, heads, joins, looks, nodes, previouses, publishes, raises, reads, settles, splices, splits, stores, swings}
 use Rattle.fish_rule.specs.Regions.{dir_word, kind_of}
 use Rattle.fish_rule.specs.Rule.{Final, Rule}
 use Rattle.fish_rule.specs.Start.{empty_world}
-use Rattle.fish_rule.specs.Steps.{IsReady, after_look, flight_kind}
+use Rattle.fish_rule.specs.Steps.{IsReady, flight_kind}
+use Rattle.fish_rule.specs.Reading.{after_look}
 use Rattle.fish_rule.specs.World.{World, put}
 use Rattle.fish_rule.specs.declared.view.Key.{Key}
 

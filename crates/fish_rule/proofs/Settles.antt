@@ -16,8 +16,9 @@ use Rattle.fish_rule.proofs.Worlds.{world-settled}
 use Rattle.fish_rule.specs.Parts.{IsEntryWord, Settled}
 use Rattle.fish_rule.specs.Facts.{IsFound}
 use Rattle.fish_rule.specs.Rule.{Final, Rule}
-use Rattle.fish_rule.specs.Steps.{CanRaise, after_raise, after_settled}
-use Rattle.fish_rule.specs.Table.{Ruled, Sat, ToldRaise, ToldSettled}
+use Rattle.fish_rule.specs.Reading.{CanRaise, after_raise, after_settled}
+use Rattle.fish_rule.specs.Table.{Ruled, Sat}
+use Rattle.fish_rule.specs.Told.{ToldRaise, ToldSettled}
 use Rattle.fish_rule.specs.Views.{Among}
 use Rattle.fish_rule.specs.World.{World, world}
 use Rattle.fish_rule.specs.declared.view.Found.{Found}

@@ -1,4 +1,5 @@
 -- A compare-and-exchange on the first word of a linked entry that is above the own one.
+-- All of it stands over one world, one view and one step: cut in two, each lemma would name them all again.
 use Rattle.std.proofs.Common.{◌≡◌, ◌≢◌, ℕ, ◌+◌, ◌-◌, ◌*◌, ◌%◌, ◌<◌, ◌≤◌, suc, get_or, set, sym, refl, ap, ◌∙◌,
     subst, inl, inr, ◌⊎◌, ⊎_elim, arith, Some, None, Option, eqb}
 use Rattle.std.proofs.Math.Decide.{ℕ_discrete}
@@ -22,18 +23,19 @@ use Rattle.fish_rule.proofs.Frames.{one_view}
 use Rattle.fish_rule.proofs.Heads.{low_less, low_rises, node_linked, place_within, previous_kept}
 use Rattle.fish_rule.proofs.Kept.{chained_later, facts_later}
 use Rattle.fish_rule.proofs.Linkings.{Leaves, link_final, link_from, link_here, link_kept, link_lasts, link_to}
-use Rattle.fish_rule.proofs.Links.{IsFlier, Spot, lies_inside, one_chain, spot}
+use Rattle.fish_rule.proofs.Spots.{IsFlier, Spot, lies_inside, one_chain, spot}
 use Rattle.fish_rule.proofs.OwnWords.{flight_is}
 use Rattle.fish_rule.proofs.Swings.{aimed_there, own_unlinked}
 use Rattle.fish_rule.proofs.Worlds.{area-in, put-else, put-here, world-log}
 use Rattle.fish_rule.specs.Chains.{Chain, Chained, Linked}
-use Rattle.fish_rule.specs.Linking.{CanAim, CanSplice, HasNode, LowRises, ToldSplice, after_previous,
-    after_splice, own_place, spliced}
+use Rattle.fish_rule.specs.Linking.{CanAim, CanSplice, HasNode, LowRises, after_previous, after_splice, own_place,
+    spliced}
 use Rattle.fish_rule.specs.Parts.{Flies, InFlight, Whole}
 use Rattle.fish_rule.specs.Facts.{Facts}
 use Rattle.fish_rule.specs.Regions.{IsRecord}
 use Rattle.fish_rule.specs.Rule.{Final, Rule}
-use Rattle.fish_rule.specs.Table.{Ruled, Sat, Told, place_at}
+use Rattle.fish_rule.specs.Table.{Ruled, Sat, Told}
+use Rattle.fish_rule.specs.Told.{ToldSplice, place_at}
 use Rattle.fish_rule.specs.Views.{IsFlightOf}
 use Rattle.fish_rule.specs.World.{World, body, log_at, log_size, put, world}
 use Rattle.fish_rule.specs.declared.view.Flight.{Flight}

@@ -3,7 +3,8 @@ use Rattle.std.proofs.Common.{ℕ, [], ◌∷◌, ◌++◌, length, set, sym, re
 use Rattle.atomic_table.proofs.Lists.{at_last, at_longer, set_else, set_here}
 use Rattle.atomic_table.specs.Table.{Joins, Splits}
 use Rattle.fish_rule.proofs.Common.{within_list}
-use Rattle.fish_rule.proofs.Seating.{join_kept, split_kept}
+use Rattle.fish_rule.proofs.Joins.{join_kept}
+use Rattle.fish_rule.proofs.Splits.{split_kept}
 use Rattle.fish_rule.specs.Rule.{Rule}
 use Rattle.fish_rule.specs.Seating.{CanJoin, CanSplit, join_both, spent, split_left, split_right}
 use Rattle.fish_rule.specs.Table.{Ruled, Stands}

@@ -20,8 +20,8 @@ use Rattle.fish_rule.proofs.Linkings.{Leaves, link_final, link_from, link_here, 
 use Rattle.fish_rule.proofs.OwnWords.{flight_is, not_linked}
 use Rattle.fish_rule.proofs.Worlds.{area-in, put-else, put-here, world-head}
 use Rattle.fish_rule.specs.Chains.{Chain, Chained, Linked}
-use Rattle.fish_rule.specs.Linking.{CanAim, CanSwing, ToldSwing, TopRises, after_head, after_swing, bucket_at,
-    own_place, swung}
+use Rattle.fish_rule.specs.Linking.{CanAim, CanSwing, TopRises, after_head, after_swing, own_place, swung}
+use Rattle.fish_rule.specs.Told.{ToldSwing, bucket_at}
 use Rattle.fish_rule.specs.Facts.{Facts}
 use Rattle.fish_rule.specs.Rule.{Final, Rule}
 use Rattle.fish_rule.specs.Steps.{ticked}

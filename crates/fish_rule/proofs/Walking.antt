@@ -10,7 +10,7 @@ use Rattle.fish_rule.proofs.Common.{all_among}
 use Rattle.fish_rule.proofs.Extending.{learns_both}
 use Rattle.fish_rule.proofs.Gaps.{entry_linked}
 use Rattle.fish_rule.proofs.Kept.{published}
-use Rattle.fish_rule.proofs.Links.{lies_inside, spot}
+use Rattle.fish_rule.proofs.Spots.{lies_inside, spot}
 use Rattle.fish_rule.specs.Chains.{IsKeyEntry, Linked}
 use Rattle.fish_rule.specs.Facts.{Facts}
 use Rattle.fish_rule.specs.Linking.{HasNode}

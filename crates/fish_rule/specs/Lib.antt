@@ -7,12 +7,14 @@ pub mod Logs
 pub mod Machine
 pub mod Parts
 pub mod Passes
+pub mod Reading
 pub mod Regions
 pub mod Rule
 pub mod Seating
 pub mod Start
 pub mod Steps
 pub mod Table
+pub mod Told
 pub mod Views
 pub mod Walking
 pub mod Walks

@@ -9,7 +9,6 @@ use Rattle.fish_layout.specs.Cleared.{body_of, choose, entry_at}
 use Rattle.fish_layout.specs.Header.{keys_of}
 use Rattle.fish_rule.specs.Regions.{IsRecord}
 use Rattle.fish_rule.specs.Steps.{flight_kind, loaded, ticked}
-use Rattle.fish_rule.specs.Table.{Sat, Told, place_at}
 use Rattle.fish_rule.specs.Views.{Among}
 use Rattle.fish_rule.specs.World.{heads_at}
 use Rattle.fish_rule.specs.declared.view.Flight.{Flight}
@@ -155,46 +154,3 @@ spliced v f b q = record v {
 -- the exchange was made where the first word was as expected, and else it is seen
 abbrev pub after_splice : View → Flight → ℕ → ℕ → ℕ → ℕ → View
 after_splice v f b q x found = choose (ℕ_discrete found x) (spliced v f b q) (after_previous v b q found)
-
--- ---- what these steps tell
-
--- the bucket whose head is at an index of the table
-abbrev pub bucket_at : ℕ → ℕ
-bucket_at i = i - heads_at
-
--- a load of a head
-pub record ToldHead (st : Step Bool) (m : Sat) (found : ℕ) (m' : Sat) : Type 0 where
-  pub told : Told m (after_head m.0 (bucket_at st.word) found) m'
-  pub rises : TopRises m.0 (bucket_at st.word) found
-
--- a load of the first word of a linked entry, which is below its place
-pub record ToldPrevious (st : Step Bool) (m : Sat) (found : ℕ) (m' : Sat) : Type 0 where
-  pub bucket : ℕ
-  pub node : HasNode m.0 bucket (place_at m.0.about st.word)
-  pub told : Told m (after_previous m.0 bucket (place_at m.0.about st.word) found) m'
-  pub rises : LowRises m.0 (place_at m.0.about st.word) found
-  pub less : found < place_at m.0.about st.word
-
--- a load of the second word of a linked entry
-abbrev pub told_node : Step Bool → Sat → ℕ → Sat → Type 0
-told_node st m found m' = Told m (after_node m.0 (place_at m.0.about st.word - 1) found) m'
-
--- an aim
-abbrev pub told_aim : Step Bool → Sat → ℕ → Sat → Type 0
-told_aim st m found m' = (f : Flight) → m.0.flight ≡ Some f → Told m (after_aim m.0 f st.first) m'
-
--- a swing: the own place is never the head before
-pub record ToldSwing (st : Step Bool) (m : Sat) (found : ℕ) (m' : Sat) : Type 0 where
-  pub told : (f : Flight) → m.0.flight ≡ Some f → Told m (after_swing m.0 f (bucket_at st.word) st.first found) m'
-  pub rises : TopRises m.0 (bucket_at st.word) found
-  pub other : found ≢ st.second
-
--- a splice
-pub record ToldSplice (st : Step Bool) (m : Sat) (found : ℕ) (m' : Sat) : Type 0 where
-  pub bucket : ℕ
-  pub node : HasNode m.0 bucket (place_at m.0.about st.word)
-  pub told : (f : Flight) → m.0.flight ≡ Some f
-      → Told m (after_splice m.0 f bucket (place_at m.0.about st.word) st.first found) m'
-  pub rises : LowRises m.0 (place_at m.0.about st.word) found
-  pub less : found < place_at m.0.about st.word
-  pub other : found ≢ st.second

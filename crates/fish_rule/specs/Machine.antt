@@ -8,8 +8,10 @@ use Rattle.fish_rule.specs.Parts.{Fits}
 use Rattle.fish_rule.specs.Regions.{dir_word}
 use Rattle.fish_rule.specs.Rule.{Final, Rule}
 use Rattle.fish_rule.specs.Seating.{CanJoin, CanSplit, join_both, spent, split_left, split_right}
-use Rattle.fish_rule.specs.Steps.{CanClaim, CanLook, CanPublish, CanRaise, CanRead, CanStore, after_claim,
-    after_end, after_look, after_publish, after_raise, after_read, after_settled, after_store, flight_kind}
+use Rattle.fish_rule.specs.Steps.{CanClaim, CanPublish, CanStore, after_claim, after_publish, after_store,
+    flight_kind}
+use Rattle.fish_rule.specs.Reading.{CanLook, CanRaise, CanRead, after_end, after_look, after_raise, after_read,
+    after_settled}
 use Rattle.fish_rule.specs.Start.{empty_world}
 use Rattle.fish_rule.specs.World.{World, high, low, put}
 use Rattle.fish_rule.specs.declared.view.Flight.{Flight}

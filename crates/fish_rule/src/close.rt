@@ -3,7 +3,7 @@
 ghost use Rattle.std.specs.Prelude.{◌≡◌, ℕ, true, IfOk, IfErr};
 ghost use Rattle.fish_rule.specs.Logs.{Extends, IsClosed, Learns, TellsNext};
 ghost use Rattle.fish_rule.specs.Passes.{IsOf, IsPassOf, view};
-ghost use Rattle.fish_rule.specs.Steps.{CanLook, IsAlone, after_end};
+ghost use Rattle.fish_rule.specs.Reading.{CanLook, IsAlone, after_end};
 
 use crate::entry::read_record;
 use crate::steps::{load_tail, look_at};

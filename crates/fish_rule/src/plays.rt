@@ -1,8 +1,6 @@
 //! What each step tells its pass.
-
-ghost use Rattle.fish_rule.specs.Linking.{ToldHead, ToldPrevious, ToldSplice, ToldSwing, told_aim, told_node};
-ghost use Rattle.fish_rule.specs.Table.{ToldEnd, ToldLook, ToldRaise, ToldSettled, told_claim, told_publish,
-    told_read, told_store};
+ghost use Rattle.fish_rule.specs.Told.{ToldEnd, ToldHead, ToldLook, ToldPrevious, ToldRaise, ToldSettled, ToldSplice,
+    ToldSwing, told_aim, told_claim, told_node, told_publish, told_read, told_store};
 
 use crate::view::View;
 use atomic_table::Play;

@@ -9,7 +9,7 @@ ghost use Rattle.fish_rule.specs.Parts.{Fits};
 ghost use Rattle.fish_rule.specs.Passes.{IsPassOf, view};
 ghost use Rattle.fish_rule.specs.Seating.{CanJoin, CanSplit, join_both, split_left, split_right};
 ghost use Rattle.fish_rule.specs.Start.{IsEmpty, IsFirstKey, IsShape, rows_of};
-ghost use Rattle.fish_rule.specs.Steps.{after_end};
+ghost use Rattle.fish_rule.specs.Reading.{after_end};
 ghost use Rattle.fish_rule.specs.Table.{first_view};
 ghost use Rattle.fish_rule.specs.World.{total};
 

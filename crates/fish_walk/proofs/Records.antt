@@ -5,7 +5,7 @@ use Rattle.fish_rule.proofs.Extending.{extends_look}
 use Rattle.fish_rule.proofs.Laws.{fits_law, found_law, read_law}
 use Rattle.fish_rule.specs.Logs.{Extends}
 use Rattle.fish_rule.specs.Regions.{code, dir_word}
-use Rattle.fish_rule.specs.Steps.{CanLook, after_look, found_after, kind_told}
+use Rattle.fish_rule.specs.Reading.{CanLook, after_look, found_after, kind_told}
 use Rattle.fish_rule.specs.Table.{Stands}
 use Rattle.fish_rule.specs.Views.{Among}
 use Rattle.fish_rule.specs.World.{high, low}

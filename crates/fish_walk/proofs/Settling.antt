@@ -5,7 +5,7 @@ use Rattle.std.proofs.Math.Decide.{dec_lt}
 use Rattle.fish_rule.proofs.Common.{among_left, among_right}
 use Rattle.fish_rule.proofs.Extending.{extends_both, extends_look, extends_self}
 use Rattle.fish_rule.specs.Logs.{Extends}
-use Rattle.fish_rule.specs.Steps.{CanRaise, IsAlone, after_end, after_look, after_settled, found_after, kind_told}
+use Rattle.fish_rule.specs.Reading.{CanRaise, IsAlone, after_end, after_look, after_settled, found_after, kind_told}
 use Rattle.fish_rule.specs.Views.{Among}
 use Rattle.fish_rule.specs.World.{high, low}
 use Rattle.fish_rule.specs.declared.view.Found.{Found}

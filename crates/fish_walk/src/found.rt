@@ -2,7 +2,7 @@
 
 ghost use Rattle.std.specs.Prelude.{◌≡◌, ◌≢◌, ◌≤◌, ℕ, []};
 ghost use Rattle.fish_rule.specs.Passes.{IsPassOf, view};
-ghost use Rattle.fish_rule.specs.Steps.{CanLook, IsAlone, after_end, after_look};
+ghost use Rattle.fish_rule.specs.Reading.{CanLook, IsAlone, after_end, after_look};
 ghost use Rattle.fish_rule.specs.World.{high};
 ghost use Rattle.fish_walk.specs.Looks.{IsCount, look_of};
 ghost use Rattle.fish_walk.specs.declared.outcome.Look.TheVariants.{Unfinished};

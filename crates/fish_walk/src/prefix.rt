@@ -2,7 +2,7 @@
 
 ghost use Rattle.std.specs.Prelude.{◌≡◌, ◌≤◌};
 ghost use Rattle.fish_rule.specs.Passes.{IsPassOf, view};
-ghost use Rattle.fish_rule.specs.Steps.{CanRaise, IsAlone};
+ghost use Rattle.fish_rule.specs.Reading.{CanRaise, IsAlone};
 ghost use Rattle.fish_walk.specs.Settling.{AreSettled, CanSettle, HasCounted, IsEnd, IsMark, Looked, Raised,
     Settles, StopsAt};
 

@@ -3,7 +3,7 @@
 ghost use Rattle.std.specs.Prelude.{◌≡◌, ◌+◌, ◌≤◌, IfOk};
 ghost use Rattle.fish_rule.specs.Logs.{Extends, Tells};
 ghost use Rattle.fish_rule.specs.Passes.{IsPassOf, view};
-ghost use Rattle.fish_rule.specs.Steps.{CanLook};
+ghost use Rattle.fish_rule.specs.Reading.{CanLook};
 ghost use Rattle.fish_rule.specs.Views.{Among};
 ghost use Rattle.fish_rule.specs.declared.view.Found.{Found};
 ghost use Rattle.fish_rule.specs.declared.view.Kind.TheVariants.{Stored};

@@ -3,7 +3,7 @@ use Rattle.std.proofs.Common.{◌≡◌, ℕ, ◌≤◌, ◌+◌, length}
 use Rattle.fish_rule.proofs.Closing.{AreTold}
 use Rattle.fish_rule.specs.Logs.{Extends, Learns}
 use Rattle.fish_rule.specs.Passes.{IsPassOf, view}
-use Rattle.fish_rule.specs.Steps.{IsAlone, after_end}
+use Rattle.fish_rule.specs.Reading.{IsAlone, after_end}
 use Rattle.fish_rule.specs.World.{high}
 use Rattle.fish_rule.proofs.close.all_entries.Given as goal
 

@@ -1,6 +1,7 @@
 -- The head is one of the table's words, and the table allows its load.
 use Rattle.std.proofs.Common.{◌≡◌, sym, refl, arith, subst, ℕ, ◌<◌, ◌+◌}
-use Rattle.fish_rule.specs.Linking.{TopRises, bucket_at}
+use Rattle.fish_rule.specs.Linking.{TopRises}
+use Rattle.fish_rule.specs.Told.{bucket_at}
 use Rattle.fish_rule.specs.Passes.{view}
 use Rattle.fish_rule.specs.World.{heads_at}
 use Rattle.fish_rule.specs.declared.view.Key.{Key}

@@ -1,10 +1,10 @@
 -- The entry is within the log, and its second word with it.
 use Rattle.std.proofs.Common.{◌≡◌, ◌∙◌, sym, ap, arith, subst, ℕ, ◌<◌, ◌≤◌, ◌+◌, ◌-◌, ◌*◌, suc}
-use Rattle.fish_rule.proofs.Heads.{node_allowed}
+use Rattle.fish_rule.proofs.Nodes.{node_allowed}
 use Rattle.fish_rule.proofs.Laws.{second_law}
 use Rattle.fish_rule.specs.Linking.{HasNode, after_node}
 use Rattle.fish_rule.specs.Passes.{view}
-use Rattle.fish_rule.specs.Table.{place_at}
+use Rattle.fish_rule.specs.Told.{place_at}
 use Rattle.fish_rule.specs.World.{log_at}
 use Rattle.fish_rule.specs.declared.view.Key.{Key}
 use Rattle.fish_rule.proofs.linking.load_node.Goals as goal

@@ -3,7 +3,7 @@ use Rattle.std.proofs.Common.{◌≡◌, ◌∙◌, sym, ap, arith, subst, ℕ, 
 use Rattle.fish_rule.proofs.Laws.{node_law, one_bucket}
 use Rattle.fish_rule.specs.Linking.{HasNode, LowRises, after_previous}
 use Rattle.fish_rule.specs.Passes.{view}
-use Rattle.fish_rule.specs.Table.{place_at}
+use Rattle.fish_rule.specs.Told.{place_at}
 use Rattle.fish_rule.specs.World.{log_at}
 use Rattle.fish_rule.specs.declared.view.Key.{Key}
 use Rattle.fish_rule.proofs.Heads.{previous_allowed}

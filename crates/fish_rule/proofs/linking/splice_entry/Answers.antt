@@ -5,7 +5,8 @@ use Rattle.fish_rule.proofs.Linked.{region_splice}
 use Rattle.fish_rule.specs.Flying.{region_in}
 use Rattle.fish_rule.specs.Linking.{HasNode, LowRises, after_splice}
 use Rattle.fish_rule.specs.Passes.{view}
-use Rattle.fish_rule.specs.Table.{Stands, place_at}
+use Rattle.fish_rule.specs.Table.{Stands}
+use Rattle.fish_rule.specs.Told.{place_at}
 use Rattle.fish_rule.specs.World.{log_at}
 use Rattle.fish_rule.specs.declared.view.Flight.{Flight}
 use Rattle.fish_rule.specs.declared.view.Key.{Key}

@@ -2,7 +2,8 @@
 use Rattle.std.proofs.Common.{◌≡◌, ◌∙◌, sym, refl, ap, arith, subst, ℕ, ◌<◌, ◌+◌}
 use Rattle.fish_rule.proofs.Linked.{region_swing}
 use Rattle.fish_rule.specs.Flying.{region_in}
-use Rattle.fish_rule.specs.Linking.{TopRises, after_swing, bucket_at}
+use Rattle.fish_rule.specs.Linking.{TopRises, after_swing}
+use Rattle.fish_rule.specs.Told.{bucket_at}
 use Rattle.fish_rule.specs.Passes.{view}
 use Rattle.fish_rule.specs.Table.{Stands}
 use Rattle.fish_rule.specs.World.{heads_at}

@@ -4,7 +4,8 @@ use Rattle.fish_rule.proofs.Standing.{joins}
 use Rattle.fish_rule.proofs.Extending.{joined_learns}
 use Rattle.fish_rule.specs.Logs.{Learns}
 use Rattle.fish_rule.specs.Seating.{join_both}
-use Rattle.fish_rule.specs.Table.{Sat, ToldEnd}
+use Rattle.fish_rule.specs.Table.{Sat}
+use Rattle.fish_rule.specs.Told.{ToldEnd}
 use Rattle.fish_rule.specs.declared.view.Key.{Key}
 use Rattle.fish_rule.specs.declared.view.View.{View}
 use Rattle.atomic_table.specs.Table.{Step}

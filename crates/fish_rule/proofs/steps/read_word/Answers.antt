@@ -3,8 +3,8 @@ use Rattle.std.proofs.Common.{◌≡◌, ◌∙◌, sym, ap, arith, subst, ℕ, 
 use Rattle.fish_rule.proofs.Laws.{read_law}
 use Rattle.fish_rule.proofs.Loads.{read_allowed}
 use Rattle.fish_rule.specs.Passes.{IsPassOf, view}
-use Rattle.fish_rule.specs.Steps.{CanRead, after_read}
-use Rattle.fish_rule.specs.Table.{place_at}
+use Rattle.fish_rule.specs.Reading.{CanRead, after_read}
+use Rattle.fish_rule.specs.Told.{place_at}
 use Rattle.fish_rule.specs.World.{log_at}
 use Rattle.fish_rule.specs.declared.table.Log.{Log}
 use Rattle.fish_rule.specs.declared.table.Pass.{Pass}

@@ -1,0 +1,97 @@
+-- What a pass knows after each kind of load and after a raise of the settled number, and when it may make it.
+use Rattle.std.specs.Prelude.{ℕ, ◌≡◌, ◌≢◌, ◌+◌, ◌*◌, ◌<◌, ◌≤◌, zero, suc, List, [], ◌∷◌, ◌++◌, length, max,
+    Option, Some, None}
+use Rattle.std.proofs.Common.{◌⊎◌}
+use Rattle.fish_layout.specs.Cleared.{IsKeyWord, body_of}
+use Rattle.fish_layout.specs.Header.{keys_of, void_word}
+use Rattle.fish_rule.specs.Regions.{IsRecord, kind_of}
+use Rattle.fish_rule.specs.Views.{Among}
+use Rattle.fish_rule.specs.World.{high, low}
+use Rattle.fish_rule.specs.declared.view.Clock.{Clock}
+use Rattle.fish_rule.specs.declared.view.Flight.{Flight}
+use Rattle.fish_rule.specs.declared.view.Found.{Found}
+use Rattle.fish_rule.specs.declared.view.Key.{Key}
+use Rattle.fish_rule.specs.declared.view.Kind.{Kind}
+use Rattle.fish_rule.specs.declared.view.Kind.TheVariants.{Mark, Stored, Void}
+use Rattle.fish_rule.specs.declared.view.Learned.{Learned}
+use Rattle.fish_rule.specs.declared.view.Noted.{Noted}
+use Rattle.fish_rule.specs.declared.view.Noted.TheVariants.{Directory, Tail}
+use Rattle.fish_rule.specs.declared.view.Own.{Own}
+use Rattle.fish_rule.specs.declared.view.Recorded.{Recorded}
+use Rattle.fish_rule.specs.declared.view.Shut.{Shut}
+use Rattle.fish_rule.specs.declared.view.View.{View}
+use Rattle.fish_rule.specs.Steps.{loaded, noted, ticked}
+
+-- ---- look: a load of a directory word
+
+-- the number is one of the table's, below a count that the pass loaded
+pub record CanLook (v : View) (n : ℕ) : Type 0 where
+  pub live : 1 ≤ v.lane
+  pub above : v.about.number ≤ n
+  pub below : n < v.learned.count
+
+-- the kind that a directory word tells
+abbrev pub kind_told : ℕ → Kind
+kind_told (suc zero) = Stored
+kind_told (suc (suc zero)) = Void
+kind_told _ = Mark
+
+-- a directory word that isn't 0 tells the kind and line of a region that has so many lines
+abbrev pub found_after : ℕ → ℕ → ℕ → List Found → List Found
+found_after n lines zero found = found
+found_after n lines (suc x) found = record { number = n; kind = kind_told (high (suc x)); line = low (suc x);
+    lines = lines } ∷ found
+
+-- the directory word is seen
+abbrev pub after_look : View → ℕ → ℕ → ℕ → View
+after_look v n lines x = record v { learned =
+    record v.learned { found = found_after n lines x v.learned.found }; clock = noted v.clock (Directory n) x }
+
+-- the control pass, while no lane is out and it has nothing in flight
+pub record IsAlone (v : View) : Type 0 where
+  pub main : v.lane ≡ 1
+  pub all : v.out ≡ []
+  pub idle : v.flight ≡ None
+
+-- ---- read: a load of a word of a published region
+
+-- the region was found and isn't a mark; the word is its header, or by its header that was read no
+-- first word of a key entry
+pub record CanRead (v : View) (f : Found) (i : ℕ) : Type 0 where
+  pub live : 1 ≤ v.lane
+  pub found : Among f v.learned.found
+  pub words : f.kind ≢ Mark
+  pub inside : i < f.lines * 4
+  pub plain : (i ≡ 0) ⊎ ((h : ℕ) × Among (record { place = f.line * 4; value = h }) v.learned.known
+      × ¬ IsKeyWord (keys_of h) i)
+
+-- the word is known
+abbrev pub after_read : View → ℕ → ℕ → View
+after_read v place x = record v { learned =
+    record v.learned { known = record { place = place; value = x } ∷ v.learned.known }; clock = loaded v.clock }
+
+-- ---- end: a load of the tail
+
+-- the count and the line are known
+abbrev pub after_end : View → ℕ → View
+after_end v x = record v { learned = record v.learned { count = high x };
+    tail = Some (record { number = high x; line = low x }); clock = noted v.clock Tail x }
+
+-- ---- load settled: a load of the settled number
+
+-- the settled number is known
+abbrev pub after_settled : View → ℕ → View
+after_settled v x = record v { learned = record v.learned { settled = x }; clock = ticked v.clock }
+
+-- ---- raise: a fetch-max on the settled number
+
+-- each number below is known to be published, and no mark
+pub record CanRaise (v : View) (m : ℕ) : Type 0 where
+  pub live : 1 ≤ v.lane
+  pub within : m ≤ v.learned.count
+  pub known : (n : ℕ) → v.about.number ≤ n → n < m → (n < v.learned.settled)
+      ⊎ ((f : Found) × Among f v.learned.found × (f.number ≡ n) × (f.kind ≢ Mark))
+
+-- the settled number is at least this one
+abbrev pub after_raise : View → ℕ → ℕ → View
+after_raise v m x = record v { learned = record v.learned { settled = max x m }; clock = ticked v.clock }

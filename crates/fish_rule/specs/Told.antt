@@ -1,0 +1,122 @@
+-- What each kind of step tells the pass that makes it.
+use Rattle.std.specs.Prelude.{ℕ, ◌≡◌, ◌≢◌, ◌≤◌, ◌-◌, [], ◌+◌, ◌*◌, length, Bool, Some, None, ◌<◌, zero, suc, List, ◌∷◌, slice_index, slice_set}
+use mathlib.Core.Option.{some}
+use Rattle.std.proofs.Math.ListN.{get_elem?}
+use Rattle.atomic_table.specs.Table.{Me, State, Step}
+use Rattle.fish_rule.specs.Parts.{Rests}
+use Rattle.fish_rule.specs.Regions.{dir_word, IsRecord}
+use Rattle.fish_rule.specs.Rule.{Rule}
+use Rattle.fish_rule.specs.Seating.{fresh, unlearned}
+use Rattle.fish_rule.specs.Steps.{after_claim, after_publish, after_store, flight_kind, loaded, ticked}
+use Rattle.fish_rule.specs.Reading.{IsAlone, after_end, after_look, after_raise, after_read, after_settled}
+use Rattle.fish_rule.specs.Views.{Among}
+use Rattle.fish_rule.specs.World.{World, dir_at, high, log_at, low, total, world, heads_at}
+use Rattle.fish_rule.specs.declared.view.Flight.{Flight}
+use Rattle.fish_rule.specs.declared.view.Found.{Found}
+use Rattle.fish_rule.specs.declared.view.Key.{Key}
+use Rattle.fish_rule.specs.declared.view.View.{View}
+use Rattle.std.proofs.Math.Decide.{ℕ_discrete}
+use Rattle.fish_layout.specs.Bucket.{bucket_of}
+use Rattle.fish_layout.specs.Cleared.{body_of, choose, entry_at}
+use Rattle.fish_layout.specs.Header.{keys_of}
+use Rattle.fish_rule.specs.Table.{Sat, Told}
+use Rattle.fish_rule.specs.declared.view.Gap.{Gap}
+use Rattle.fish_rule.specs.declared.view.Kind.TheVariants.{Stored}
+use Rattle.fish_rule.specs.declared.view.Known.{Known}
+use Rattle.fish_rule.specs.declared.view.Learned.{Learned}
+use Rattle.fish_rule.specs.declared.view.Node.{Node}
+use Rattle.fish_rule.specs.Linking.{HasNode, LowRises, TopRises, after_aim, after_head, after_node, after_previous, after_splice, after_swing}
+
+-- a claim: the operand is a count of one and the lines, and the value found is the tail
+abbrev pub told_claim : Step Bool → Sat → ℕ → Sat → Type 0
+told_claim st m found m' = Told m (after_claim m.0 (st.first - 68719476736) (high found) (low found)) m'
+
+-- a store of a word of the region in flight
+abbrev pub told_store : Step Bool → Sat → ℕ → Sat → Type 0
+told_store st m found m' = (f : Flight) → m.0.flight ≡ Some f → Told m (after_store m.0 f st.first) m'
+
+-- a publication
+abbrev pub told_publish : Step Bool → Sat → ℕ → Sat → Type 0
+told_publish st m found m' = (f : Flight) → m.0.flight ≡ Some f → Told m (after_publish m.0 f) m'
+
+-- the number whose directory word is at an index of the table
+abbrev pub number_at : Key → ℕ → ℕ
+number_at k i = k.number + (i - dir_at k)
+
+-- the place of the word of the log at an index of the table
+abbrev pub place_at : Key → ℕ → ℕ
+place_at k i = k.line * 4 + (i - log_at k)
+
+-- a look: the region has some number of lines; a pass that is alone finds no 0, and a number that
+-- was found before has the word that it had
+pub record ToldLook (st : Step Bool) (m : Sat) (found : ℕ) (m' : Sat) : Type 0 where
+  pub lines : ℕ
+  pub told : Told m (after_look m.0 (number_at m.0.about st.word) lines found) m'
+  pub alone : IsAlone m.0 → found ≢ 0
+  pub known : (f : Found) → Among f m.0.learned.found → f.number ≡ number_at m.0.about st.word
+      → found ≡ dir_word f.kind f.line
+
+-- a read of a word of a published region
+abbrev pub told_read : Step Bool → Sat → ℕ → Sat → Type 0
+told_read st m found m' = Told m (after_read m.0 (place_at m.0.about st.word) found) m'
+
+-- a load of the tail: the count only rises and is at or behind the settled number, and while no
+-- lane is out the tail is as it was left
+pub record ToldEnd (st : Step Bool) (m : Sat) (found : ℕ) (m' : Sat) : Type 0 where
+  pub told : Told m (after_end m.0 found) m'
+  pub counted : m.0.learned.count ≤ high found
+  pub settled : m.0.learned.settled ≤ high found
+  pub rests : m.0.lane ≡ 1 → m.0.out ≡ [] → Rests (high found) (low found) m.0.tail
+
+-- a load of the settled number, which only rises
+pub record ToldSettled (st : Step Bool) (m : Sat) (found : ℕ) (m' : Sat) : Type 0 where
+  pub told : Told m (after_settled m.0 found) m'
+  pub rises : m.0.learned.settled ≤ found
+
+-- a raise of the settled number, which was at least what the pass knew it to be
+pub record ToldRaise (st : Step Bool) (m : Sat) (found : ℕ) (m' : Sat) : Type 0 where
+  pub told : Told m (after_raise m.0 st.first found) m'
+  pub rises : m.0.learned.settled ≤ found
+
+-- ---- heads and first words
+
+-- the bucket whose head is at an index of the table
+abbrev pub bucket_at : ℕ → ℕ
+bucket_at i = i - heads_at
+
+-- a load of a head
+pub record ToldHead (st : Step Bool) (m : Sat) (found : ℕ) (m' : Sat) : Type 0 where
+  pub told : Told m (after_head m.0 (bucket_at st.word) found) m'
+  pub rises : TopRises m.0 (bucket_at st.word) found
+
+-- a load of the first word of a linked entry, which is below its place
+pub record ToldPrevious (st : Step Bool) (m : Sat) (found : ℕ) (m' : Sat) : Type 0 where
+  pub bucket : ℕ
+  pub node : HasNode m.0 bucket (place_at m.0.about st.word)
+  pub told : Told m (after_previous m.0 bucket (place_at m.0.about st.word) found) m'
+  pub rises : LowRises m.0 (place_at m.0.about st.word) found
+  pub less : found < place_at m.0.about st.word
+
+-- a load of the second word of a linked entry
+abbrev pub told_node : Step Bool → Sat → ℕ → Sat → Type 0
+told_node st m found m' = Told m (after_node m.0 (place_at m.0.about st.word - 1) found) m'
+
+-- an aim
+abbrev pub told_aim : Step Bool → Sat → ℕ → Sat → Type 0
+told_aim st m found m' = (f : Flight) → m.0.flight ≡ Some f → Told m (after_aim m.0 f st.first) m'
+
+-- a swing: the own place is never the head before
+pub record ToldSwing (st : Step Bool) (m : Sat) (found : ℕ) (m' : Sat) : Type 0 where
+  pub told : (f : Flight) → m.0.flight ≡ Some f → Told m (after_swing m.0 f (bucket_at st.word) st.first found) m'
+  pub rises : TopRises m.0 (bucket_at st.word) found
+  pub other : found ≢ st.second
+
+-- a splice
+pub record ToldSplice (st : Step Bool) (m : Sat) (found : ℕ) (m' : Sat) : Type 0 where
+  pub bucket : ℕ
+  pub node : HasNode m.0 bucket (place_at m.0.about st.word)
+  pub told : (f : Flight) → m.0.flight ≡ Some f
+      → Told m (after_splice m.0 f bucket (place_at m.0.about st.word) st.first found) m'
+  pub rises : LowRises m.0 (place_at m.0.about st.word) found
+  pub less : found < place_at m.0.about st.word
+  pub other : found ≢ st.second
