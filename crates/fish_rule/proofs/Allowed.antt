@@ -1,6 +1,6 @@
 -- From what each step keeps of a world to what the table allows.
-use Rattle.std.proofs.Common.{◌≡◌, ℕ, ◌+◌, ◌-◌, ◌*◌, ◌%◌, ◌^◌, ◌<◌, ◌≤◌, suc, List, length, get_or, set, sym,
-    refl, ap, ◌∙◌, subst, arith, length-set}
+use Rattle.std.proofs.Common.{◌≡◌, ℕ, ◌+◌, ◌-◌, ◌*◌, ◌%◌, ◌^◌, ◌<◌, ◌≤◌, suc, List, length, get_or, set, sym}
+use Rattle.std.proofs.Common.{refl, ap, ◌∙◌, subst, arith, length-set}
 use Rattle.std.proofs.lemmas.List.{set-get_or}
 use mathlib.Core.Option.{some, none}
 use Rattle.std.proofs.Math.ListN.{get_elem?}
@@ -10,8 +10,8 @@ use Rattle.fish_rule.proofs.Bodies.{high-pack, low-pack, tail_is}
 use Rattle.fish_rule.proofs.Bounds.{starts_above}
 use Rattle.fish_rule.proofs.Claims.{claim_kept}
 use Rattle.fish_rule.proofs.Common.{within_list}
-use Rattle.fish_rule.proofs.Learns.{end_counted, end_settled, end_kept, end_rests, lines_at, look_alone,
-    look_kept, look_known}
+use Rattle.fish_rule.proofs.Learns.{end_counted, end_settled, end_kept, end_rests, lines_at, look_alone}
+use Rattle.fish_rule.proofs.Learns.{look_kept, look_known}
 use Rattle.fish_rule.proofs.Fills.{store_kept, stored_place}
 use Rattle.fish_rule.proofs.OwnWords.{flight_is}
 use Rattle.fish_rule.proofs.Publishes.{publish_kept}
@@ -19,8 +19,8 @@ use Rattle.fish_rule.proofs.Room.{few_lines, few_numbers, few_slots}
 use Rattle.fish_rule.proofs.Worlds.{area-in, world-dir, world-log, world-tail}
 use Rattle.fish_rule.specs.Regions.{dir_word, kind_of}
 use Rattle.fish_rule.specs.Rule.{Rule}
-use Rattle.fish_rule.specs.Steps.{CanClaim, CanPublish, CanStore, IsReady, after_claim, after_publish, after_store,
-    flight_kind}
+use Rattle.fish_rule.specs.Steps.{CanClaim, CanPublish, CanStore, IsReady, after_claim, after_publish}
+use Rattle.fish_rule.specs.Steps.{after_store, flight_kind}
 use Rattle.fish_rule.specs.Reading.{CanLook, after_end, after_look}
 use Rattle.fish_rule.specs.Table.{Ruled, Sat, Stands, Told}
 use Rattle.fish_rule.specs.Told.{ToldEnd, ToldLook, number_at, told_claim, told_publish, told_store}

@@ -1,6 +1,6 @@
 -- The rule holds of an empty log with one pass.
-use Rattle.std.proofs.Common.{◌≡◌, ℕ, ◌+◌, ◌-◌, ◌*◌, ◌<◌, ◌≤◌, zero, suc, List, [], ◌∷◌, slice_index, sym,
-    refl, ap, ◌∙◌, subst, inl, ⊎_elim, arith}
+use Rattle.std.proofs.Common.{◌≡◌, ℕ, ◌+◌, ◌-◌, ◌*◌, ◌<◌, ◌≤◌, zero, suc, List, [], ◌∷◌, slice_index, sym}
+use Rattle.std.proofs.Common.{refl, ap, ◌∙◌, subst, inl, ⊎_elim, arith}
 use Rattle.std.proofs.Math.Decide.{dec_le}
 use Rattle.std.proofs.Math.ListN.{get_elem?}
 use mathlib.Core.Option.{some, some-injective, some-ne-none}

@@ -1,10 +1,10 @@
 -- Packed words, kinds of regions, and the bodies of regions that are stored word by word.
-use Rattle.std.proofs.Common.{◌≡◌, ◌≢◌, ℕ, ◌+◌, ◌-◌, ◌*◌, ◌/◌, ◌%◌, ◌<◌, ◌≤◌, List, length, get_or, sym, refl,
-    ap, ◌∙◌, subst, arith}
+use Rattle.std.proofs.Common.{◌≡◌, ◌≢◌, ℕ, ◌+◌, ◌-◌, ◌*◌, ◌/◌, ◌%◌, ◌<◌, ◌≤◌, List, length, get_or, sym, refl}
+use Rattle.std.proofs.Common.{ap, ◌∙◌, subst, arith}
 use Rattle.std.proofs.Math.Decide.{ℕ_discrete, dec_lt, dec_le}
 use Rattle.std.proofs.lemmas.Nat.{div-add-mod', div-mul-add, mod-mul-add}
-use Rattle.fish_layout.proofs.Clearing.{choose_first, choose_second, cleared_at, cleared_behind, cleared_head,
-    cleared_same}
+use Rattle.fish_layout.proofs.Clearing.{choose_first, choose_second, cleared_at, cleared_behind, cleared_head}
+use Rattle.fish_layout.proofs.Clearing.{cleared_same}
 use Rattle.fish_layout.proofs.Headers.{keys_of-void, lines_of-void}
 use Rattle.fish_layout.proofs.Spelled.{spelled_lines}
 use Rattle.fish_layout.specs.Cleared.{IsKeyWord, body_of, cleared}

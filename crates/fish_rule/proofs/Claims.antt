@@ -1,15 +1,15 @@
 -- A claim: the tail moves on by one number and so many lines, and the region between is in flight.
 -- All of it stands over one world, one view and one step: cut in two, each lemma would name them all again.
-use Rattle.std.proofs.Common.{◌≡◌, ◌≢◌, ℕ, ◌+◌, ◌*◌, ◌<◌, ◌≤◌, suc, set, sym, refl, ap, ◌∙◌, subst, arith,
-    Some, None, Option}
+use Rattle.std.proofs.Common.{◌≡◌, ◌≢◌, ℕ, ◌+◌, ◌*◌, ◌<◌, ◌≤◌, suc, set, sym, refl, ap, ◌∙◌, subst, arith}
+use Rattle.std.proofs.Common.{Some, None, Option}
 use Rattle.std.proofs.Math.Decide.{ℕ_discrete, dec_lt}
 use mathlib.Core.Option.{some}
 use Rattle.std.proofs.Math.ListN.{get_elem?}
 use Rattle.atomic_table.proofs.Lists.{set_here}
 use Rattle.fish_rule.proofs.Common.{each_set, has_own, no_flight, only_main, pairs_set, seats_kept, within_list}
 use Rattle.fish_rule.proofs.Frames.{flight_there}
-use Rattle.fish_rule.proofs.Kept.{chained_later, facts_later, finished_later, flight_later, owns_later,
-    published, shut_later}
+use Rattle.fish_rule.proofs.Kept.{chained_later, facts_later, finished_later, flight_later, owns_later}
+use Rattle.fish_rule.proofs.Kept.{published, shut_later}
 use Rattle.fish_rule.proofs.Links.{chains_set, links_set}
 use Rattle.fish_rule.proofs.Quotas.{quotas_lower}
 use Rattle.fish_rule.proofs.Worlds.{put-else, put-here}

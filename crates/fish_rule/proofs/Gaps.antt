@@ -1,5 +1,6 @@
 -- What a load on the way down a chain tells: of which entries there are none, and which one is here.
-use Rattle.std.proofs.Common.{◌≡◌, ◌≢◌, ℕ, ◌+◌, ◌-◌, ◌*◌, ◌%◌, ◌<◌, ◌≤◌, suc, sym, ap, ◌∙◌, subst, inl, arith, length, get_or}
+use Rattle.std.proofs.Common.{◌≡◌, ◌≢◌, ℕ, ◌+◌, ◌-◌, ◌*◌, ◌%◌, ◌<◌, ◌≤◌, suc, sym, ap, ◌∙◌, subst, inl, arith}
+use Rattle.std.proofs.Common.{length, get_or}
 use mathlib.Core.Option.{some}
 use Rattle.std.proofs.Math.ListN.{get_elem?}
 use Rattle.fish_layout.proofs.Clearing.{cleared_at, cleared_head}
@@ -76,36 +77,35 @@ module _ (k : Key) (w : World) (r : Rule k w) where
       let place : h.line * 4 + (entry_at h.entry + 1) ≡ suc p = omega arith in
       cleared_at at (entry_at h.entry + 1) (omega arith) (λ key. let one = key.1 in omega arith) ∙ ap w.log place
 
+  -- where the second word names the record's number and the entry, the label holds
+  labelled : (b p end : ℕ) → end ≤ w.settled → (h : Linked k w.dir w.log w.views b p) (s : Spot k w r h.line h.entry)
+      → entry_number (w.log (suc p)) ≡ s.number → entry_place (w.log (suc p)) ≡ h.entry
+      → body w.log h.line (entry_at h.entry + 1) ≡ w.log (suc p)
+      → IsLabel k w.count w.dir w.log r.start (record { place = p; word = w.log (suc p); end = end })
+  labelled b p end known h s number entry word =
+      let line : r.start (entry_number (w.log (suc p))) ≡ h.line = ap r.start number ∙ s.line in
+      let above = s.above in
+      let below = s.below in
+      let inside = lies_inside k w r b p h s in
+      record {
+        above = omega arith;
+        below = omega arith;
+        place = h.is.is ∙ (λ i. sym line i * 4 + entry_at (sym entry i));
+        inside = subst (λ (z : ℕ). p < r.start (suc z) * 4) (sym number) inside.1;
+        settled = λ less. (r.settling.below (entry_number (w.log (suc p))) (omega arith) (omega arith)).published;
+        word = λ less. (λ i. body w.log (line i) (entry_at (entry i) + 1)) ∙ word;
+      }
+
   -- the second word of a linked place tells its record's number and its entry
   pub label_there : (b p end : ℕ) → end ≤ w.settled → Linked k w.dir w.log w.views b p
       → IsLabel k w.count w.dir w.log r.start (record { place = p; word = w.log (suc p); end = end })
   label_there b p end known h =
       let s = spot k w r h.line h.entry h.shows in
-      let parts = s.record_of.0 in
+      let keys = s.record_of.0.keys in
       let spells = s.record_of.1.spells in
-      let counts : h.entry < length parts.keys = subst (λ (z : ℕ). h.entry < z) (spelled_keys spells) h.is.counts in
-      let key = some_element parts.keys h.entry counts in
+      let counts : h.entry < length keys = subst (λ (z : ℕ). h.entry < z) (spelled_keys spells) h.is.counts in
+      let key = some_element keys h.entry counts in
       let says = spelled_key h.entry key.0 spells counts key.1 in
       let word = second_word b p h s in
-      let number : entry_number (w.log (suc p)) ≡ s.number = ap entry_number (sym word) ∙ says.number ∙ s.record_of.1.number_is in
-      let entry : entry_place (w.log (suc p)) ≡ h.entry = ap entry_place (sym word) ∙ says.place in
-      let label : IsLabel k w.count w.dir w.log r.start (record { place = p; word = w.log (suc p); end = end }) = told b p end known h s number entry word in
-      label
-    where
-      told : (b p end : ℕ) → end ≤ w.settled → (h : Linked k w.dir w.log w.views b p) (s : Spot k w r h.line h.entry)
-          → entry_number (w.log (suc p)) ≡ s.number → entry_place (w.log (suc p)) ≡ h.entry
-          → body w.log h.line (entry_at h.entry + 1) ≡ w.log (suc p)
-          → IsLabel k w.count w.dir w.log r.start (record { place = p; word = w.log (suc p); end = end })
-      told b p end known h s number entry word =
-          let line : r.start (entry_number (w.log (suc p))) ≡ h.line = ap r.start number ∙ s.line in
-          let above = s.above in
-          let below = s.below in
-          let inside = lies_inside k w r b p h s in
-          record {
-            above = omega arith;
-            below = omega arith;
-            place = h.is.is ∙ (λ i. sym line i * 4 + entry_at (sym entry i));
-            inside = subst (λ (z : ℕ). p < r.start (suc z) * 4) (sym number) inside.1;
-            settled = λ less. (r.settling.below (entry_number (w.log (suc p))) (omega arith) (omega arith)).published;
-            word = λ less. (λ i. body w.log (line i) (entry_at (entry i) + 1)) ∙ word;
-          }
+      labelled b p end known h s (ap entry_number (sym word) ∙ says.number ∙ s.record_of.1.number_is)
+          (ap entry_place (sym word) ∙ says.place) word

@@ -1,6 +1,6 @@
 -- Loads of heads and of first words of linked entries.
-use Rattle.std.proofs.Common.{◌≡◌, ◌≢◌, ℕ, ◌+◌, ◌-◌, ◌*◌, ◌<◌, ◌≤◌, zero, suc, List, get_or, set, sym, refl,
-    ap, ◌∙◌, subst, ⊎_elim, arith}
+use Rattle.std.proofs.Common.{◌≡◌, ◌≢◌, ℕ, ◌+◌, ◌-◌, ◌*◌, ◌<◌, ◌≤◌, zero, suc, List, get_or, set, sym, refl}
+use Rattle.std.proofs.Common.{ap, ◌∙◌, subst, ⊎_elim, arith}
 use mathlib.Core.Option.{none, some}
 use Rattle.std.proofs.Math.ListN.{get_elem?}
 use Rattle.atomic_table.specs.Table.{Allows, step}
@@ -14,8 +14,8 @@ use Rattle.fish_rule.proofs.Bounds.{starts_above}
 use Rattle.fish_rule.proofs.Bodies.{kind-inside}
 use Rattle.fish_rule.proofs.Worlds.{area-in}
 use Rattle.fish_rule.specs.Chains.{IsLow, Linked}
-use Rattle.fish_rule.specs.Linking.{CanLoadHead, HasNode, LowRises, TopRises, after_head, after_node, after_previous,
-    gap, with_node}
+use Rattle.fish_rule.specs.Linking.{CanLoadHead, HasNode, LowRises, TopRises, after_head, after_node}
+use Rattle.fish_rule.specs.Linking.{after_previous, gap, with_node}
 use Rattle.fish_rule.specs.Rule.{Final, Rule}
 use Rattle.fish_rule.specs.Table.{Ruled, Sat, Told}
 use Rattle.fish_rule.specs.Told.{ToldHead, ToldPrevious, bucket_at, place_at, told_node}

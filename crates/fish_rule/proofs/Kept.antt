@@ -1,6 +1,6 @@
 -- What a step leaves: the facts that stand after it because nothing that they speak of has changed.
-use Rattle.std.proofs.Common.{◌≡◌, ◌≢◌, ℕ, ◌+◌, ◌-◌, ◌*◌, ◌<◌, ◌≤◌, suc, List, sym, refl, ap, ◌∙◌, subst,
-    arith, Some, None, Option}
+use Rattle.std.proofs.Common.{◌≡◌, ◌≢◌, ℕ, ◌+◌, ◌-◌, ◌*◌, ◌<◌, ◌≤◌, suc, List, sym, refl, ap, ◌∙◌, subst}
+use Rattle.std.proofs.Common.{arith, Some, None, Option}
 use Rattle.fish_layout.specs.Header.{lines_of}
 use Rattle.fish_rule.proofs.Common.{all_map}
 use Rattle.fish_rule.specs.Chains.{Chained, IsLow}

@@ -1,6 +1,6 @@
 -- Lanes that are given out and taken in, the records that go with them, and one more view behind the others.
-use Rattle.std.proofs.Common.{◌≡◌, ◌≢◌, ℕ, ◌≤◌, zero, suc, List, [], ◌∷◌, ◌++◌, length, sym, refl, ap, ◌∙◌,
-    subst, inl, inr, ◌⊎◌, ⊎_elim, arith, Some, None, Option}
+use Rattle.std.proofs.Common.{◌≡◌, ◌≢◌, ℕ, ◌≤◌, zero, suc, List, [], ◌∷◌, ◌++◌, length, sym, refl, ap, ◌∙◌}
+use Rattle.std.proofs.Common.{subst, inl, inr, ◌⊎◌, ⊎_elim, arith, Some, None, Option}
 use mathlib.Core.Option.{some, some-injective, some-ne-none}
 use Rattle.std.proofs.Math.Decide.{ℕ_discrete, dec_le}
 use Rattle.std.proofs.Math.ListN.{get_elem?}

@@ -1,6 +1,6 @@
 -- Loads change no word: what one pass has learned is all that is new.
-use Rattle.std.proofs.Common.{◌≡◌, ◌≢◌, ℕ, ◌+◌, ◌-◌, ◌*◌, ◌<◌, ◌≤◌, zero, suc, [], set, sym, refl, ap, ◌∙◌,
-    subst, arith, Some, None, Option}
+use Rattle.std.proofs.Common.{◌≡◌, ◌≢◌, ℕ, ◌+◌, ◌-◌, ◌*◌, ◌<◌, ◌≤◌, zero, suc, [], set, sym, refl, ap, ◌∙◌}
+use Rattle.std.proofs.Common.{subst, arith, Some, None, Option}
 use mathlib.Core.Option.{some}
 use Rattle.std.proofs.Math.ListN.{get_elem?}
 use Rattle.fish_rule.proofs.Bodies.{tail_is}

@@ -8,6 +8,7 @@ pub mod Claims
 pub mod Closing
 pub mod Common
 pub mod Counts
+pub mod Crossing
 pub mod Descents
 pub mod Entries
 pub mod Extending

@@ -1,7 +1,7 @@
 -- A store of the own directory word: the region in flight becomes a published one.
 -- All of it stands over one world, one view and one step: cut in two, each lemma would name them all again.
-use Rattle.std.proofs.Common.{◌≡◌, ◌≢◌, ℕ, ◌+◌, ◌-◌, ◌*◌, ◌<◌, ◌≤◌, suc, List, [], ◌∷◌, length, get_or, set,
-    sym, refl, ap, ◌∙◌, subst, inl, inr, ◌⊎◌, ⊎_elim, arith, Some, None, Option}
+use Rattle.std.proofs.Common.{◌≡◌, ◌≢◌, ℕ, ◌+◌, ◌-◌, ◌*◌, ◌<◌, ◌≤◌, suc, List, [], ◌∷◌, length, get_or, set}
+use Rattle.std.proofs.Common.{sym, refl, ap, ◌∙◌, subst, inl, inr, ◌⊎◌, ⊎_elim, arith, Some, None, Option}
 use Rattle.std.proofs.Math.Decide.{ℕ_discrete}
 use mathlib.Core.Option.{some}
 use Rattle.std.proofs.Math.ListN.{get_elem?}
@@ -11,13 +11,13 @@ use Rattle.fish_layout.proofs.Headers.{lines_of-void}
 use Rattle.fish_layout.proofs.Spelled.{spelled_lines}
 use Rattle.fish_layout.specs.Cleared.{body_of}
 use Rattle.fish_layout.specs.Header.{field, keys_of, lines_of, void_word}
-use Rattle.fish_rule.proofs.Bodies.{body_stored, code_once, body_void, high-pack, kind-inside, kind-mark,
-    low-pack, mark-past, void-head}
+use Rattle.fish_rule.proofs.Bodies.{body_stored, code_once, body_void, high-pack, kind-inside, kind-mark}
+use Rattle.fish_rule.proofs.Bodies.{low-pack, mark-past, void-head}
 use Rattle.fish_rule.proofs.Bounds.{ends_within}
 use Rattle.fish_rule.proofs.Common.{among_left, among_right, among_either, each_set, has_own, seats_kept}
 use Rattle.fish_rule.proofs.Frames.{alone_kept, flight_there, may_kept, one_view}
-use Rattle.fish_rule.proofs.Kept.{chained_later, facts_later, finished_later, flight_later, owns_later,
-    published, shut_later, stored_later}
+use Rattle.fish_rule.proofs.Kept.{chained_later, facts_later, finished_later, flight_later, owns_later}
+use Rattle.fish_rule.proofs.Kept.{published, shut_later, stored_later}
 use Rattle.fish_rule.proofs.Links.{chains_same, linked_counted, linking_from}
 use Rattle.fish_rule.proofs.OwnWords.{flight_is}
 use Rattle.fish_rule.proofs.Worlds.{put-else, put-here}

@@ -15,8 +15,9 @@ use Rattle.fish_rule.proofs.Splices.{splice_kept, splice_lasts}
 use Rattle.fish_rule.proofs.Swings.{swing_kept, swing_lasts}
 use Rattle.fish_rule.proofs.Joins.{join_kept, join_lasts}
 use Rattle.fish_rule.proofs.Splits.{split_kept, split_lasts}
-use Rattle.fish_rule.specs.Machine.{Event, EverySchedule, EveryStepIsFinal, Exchanged, Runs, aims, claims,
-    ends, heads, joins, looks, nodes, previouses, publishes, raises, reads, settles, splices, splits, stores, swings}
+use Rattle.fish_rule.specs.Machine.{Event, EverySchedule, EveryStepIsFinal, Exchanged, Runs, aims, claims}
+use Rattle.fish_rule.specs.Machine.{ends, heads, joins, looks, nodes, previouses, publishes, raises, reads}
+use Rattle.fish_rule.specs.Machine.{settles, splices, splits, stores, swings}
 use Rattle.fish_rule.specs.Regions.{dir_word, kind_of}
 use Rattle.fish_rule.specs.Rule.{Final, Rule}
 use Rattle.fish_rule.specs.Start.{empty_world}

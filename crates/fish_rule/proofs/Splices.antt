@@ -1,7 +1,7 @@
 -- A compare-and-exchange on the first word of a linked entry that is above the own one.
 -- All of it stands over one world, one view and one step: cut in two, each lemma would name them all again.
-use Rattle.std.proofs.Common.{◌≡◌, ◌≢◌, ℕ, ◌+◌, ◌-◌, ◌*◌, ◌%◌, ◌<◌, ◌≤◌, suc, get_or, set, sym, refl, ap, ◌∙◌,
-    subst, inl, inr, ◌⊎◌, ⊎_elim, arith, Some, None, Option, eqb}
+use Rattle.std.proofs.Common.{◌≡◌, ◌≢◌, ℕ, ◌+◌, ◌-◌, ◌*◌, ◌%◌, ◌<◌, ◌≤◌, suc, get_or, set, sym, refl, ap, ◌∙◌}
+use Rattle.std.proofs.Common.{subst, inl, inr, ◌⊎◌, ⊎_elim, arith, Some, None, Option, eqb}
 use Rattle.std.proofs.Math.Decide.{ℕ_discrete}
 use Rattle.std.proofs.lemmas.Nat.{mod-mul-add}
 use mathlib.Core.Option.{none, some}
@@ -28,8 +28,8 @@ use Rattle.fish_rule.proofs.OwnWords.{flight_is}
 use Rattle.fish_rule.proofs.Swings.{aimed_there, own_unlinked}
 use Rattle.fish_rule.proofs.Worlds.{area-in, put-else, put-here, world-log}
 use Rattle.fish_rule.specs.Chains.{Chain, Chained, Linked}
-use Rattle.fish_rule.specs.Linking.{CanAim, CanSplice, HasNode, LowRises, after_previous, after_splice, own_place,
-    spliced}
+use Rattle.fish_rule.specs.Linking.{CanAim, CanSplice, HasNode, LowRises, after_previous, after_splice}
+use Rattle.fish_rule.specs.Linking.{own_place, spliced}
 use Rattle.fish_rule.specs.Parts.{Flies, InFlight, Whole}
 use Rattle.fish_rule.specs.Facts.{Facts}
 use Rattle.fish_rule.specs.Regions.{IsRecord}

@@ -3,12 +3,12 @@ use Rattle.std.proofs.Common.{◌≡◌, ◌≢◌, ℕ, List, [], ◌∷◌, �
 use mathlib.Core.Option.{some}
 use Rattle.std.proofs.Math.ListN.{get_elem?}
 use Rattle.atomic_table.proofs.Lists.{at_longer, at_snoc, set_else}
-use Rattle.fish_rule.proofs.Common.{all_append, among_either, among_left, among_right, each_set, each_snoc,
-    no_flight, pairs_set}
+use Rattle.fish_rule.proofs.Common.{all_append, among_either, among_left, among_right, each_set, each_snoc}
+use Rattle.fish_rule.proofs.Common.{no_flight, pairs_set}
 use Rattle.fish_rule.proofs.Frames.{alone_kept, flight_there}
-use Rattle.fish_rule.proofs.Lanes.{both_has, first_shut_none, flight_longer, has_back,
-    has_both, has_lane, has_left, has_none, has_one, left_has, not_over, of_lane_complete, of_lane_sound,
-    off_lane_complete, off_lane_sound, pairs_snoc, shut_either}
+use Rattle.fish_rule.proofs.Lanes.{both_has, first_shut_none, flight_longer, has_back, has_both, has_lane}
+use Rattle.fish_rule.proofs.Lanes.{has_left, has_none, has_one, left_has, not_over, of_lane_complete}
+use Rattle.fish_rule.proofs.Lanes.{of_lane_sound, off_lane_complete, off_lane_sound, pairs_snoc, shut_either}
 use Rattle.fish_rule.proofs.Links.{chains_views, linking_from, linking_own, linking_to, links_views}
 use Rattle.fish_rule.proofs.Kept.{chained_later}
 use Rattle.fish_rule.specs.Chains.{Chained, IsLinking, LinksAt}

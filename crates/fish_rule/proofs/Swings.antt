@@ -1,6 +1,6 @@
 -- A compare-and-exchange on a head.
-use Rattle.std.proofs.Common.{◌≡◌, ◌≢◌, ℕ, ◌+◌, ◌-◌, ◌<◌, ◌≤◌, get_or, set, sym, refl, ap, ◌∙◌, subst, inl,
-    inr, ◌⊎◌, ⊎_elim, arith, eqb}
+use Rattle.std.proofs.Common.{◌≡◌, ◌≢◌, ℕ, ◌+◌, ◌-◌, ◌<◌, ◌≤◌, get_or, set, sym, refl, ap, ◌∙◌, subst, inl}
+use Rattle.std.proofs.Common.{inr, ◌⊎◌, ⊎_elim, arith, eqb}
 use Rattle.std.proofs.Math.Decide.{ℕ_discrete}
 use mathlib.Core.Option.{none, some}
 use prog.Atomic.{either}

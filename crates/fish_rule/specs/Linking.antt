@@ -1,7 +1,7 @@
 -- How a pass links the key entries of its record into their chains: what it knows after each of
 -- these steps, and when it may make it.
-use Rattle.std.specs.Prelude.{ℕ, ◌≡◌, ◌≢◌, ◌+◌, ◌-◌, ◌*◌, ◌<◌, ◌≤◌, zero, suc, List, ◌∷◌, length, slice_index,
-    slice_set, Bool, Some}
+use Rattle.std.specs.Prelude.{ℕ, ◌≡◌, ◌≢◌, ◌+◌, ◌-◌, ◌*◌, ◌<◌, ◌≤◌, zero, suc, List, ◌∷◌, length, slice_index}
+use Rattle.std.specs.Prelude.{slice_set, Bool, Some}
 use Rattle.std.proofs.Math.Decide.{ℕ_discrete}
 use Rattle.atomic_table.specs.Table.{Step}
 use Rattle.fish_layout.specs.Bucket.{bucket_of}

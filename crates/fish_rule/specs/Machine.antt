@@ -2,16 +2,15 @@
 use Rattle.std.specs.Prelude.{ℕ, ◌≡◌, ◌≢◌, ◌+◌, ◌-◌, ◌*◌, ◌<◌, ◌≤◌, ◌⊎◌, suc, List, [], ◌∷◌, ◌++◌, length, max}
 use mathlib.Core.Option.{some}
 use Rattle.std.proofs.Math.ListN.{get_elem?, set}
-use Rattle.fish_rule.specs.Linking.{CanAim, CanLoadHead, CanSplice, CanSwing, HasNode, after_aim, after_head,
-    after_node, after_previous, own_place, spliced, swung}
+use Rattle.fish_rule.specs.Linking.{CanAim, CanLoadHead, CanSplice, CanSwing, HasNode, after_aim, after_head}
+use Rattle.fish_rule.specs.Linking.{after_node, after_previous, own_place, spliced, swung}
 use Rattle.fish_rule.specs.Parts.{Fits}
 use Rattle.fish_rule.specs.Regions.{dir_word}
 use Rattle.fish_rule.specs.Rule.{Final, Rule}
 use Rattle.fish_rule.specs.Seating.{CanJoin, CanSplit, join_both, spent, split_left, split_right}
-use Rattle.fish_rule.specs.Steps.{CanClaim, CanPublish, CanStore, after_claim, after_publish, after_store,
-    flight_kind}
-use Rattle.fish_rule.specs.Reading.{CanLook, CanRaise, CanRead, after_end, after_look, after_raise, after_read,
-    after_settled}
+use Rattle.fish_rule.specs.Steps.{CanClaim, CanPublish, CanStore, after_claim, after_publish, after_store, flight_kind}
+use Rattle.fish_rule.specs.Reading.{CanLook, CanRaise, CanRead, after_end, after_look, after_raise}
+use Rattle.fish_rule.specs.Reading.{after_read, after_settled}
 use Rattle.fish_rule.specs.Start.{empty_world}
 use Rattle.fish_rule.specs.World.{World, high, low, put}
 use Rattle.fish_rule.specs.declared.view.Flight.{Flight}

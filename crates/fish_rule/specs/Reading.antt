@@ -1,6 +1,6 @@
 -- What a pass knows after each kind of load and after a raise of the settled number, and when it may make it.
-use Rattle.std.specs.Prelude.{ℕ, ◌≡◌, ◌≢◌, ◌+◌, ◌*◌, ◌<◌, ◌≤◌, zero, suc, List, [], ◌∷◌, ◌++◌, length, max,
-    Option, Some, None}
+use Rattle.std.specs.Prelude.{ℕ, ◌≡◌, ◌≢◌, ◌+◌, ◌*◌, ◌<◌, ◌≤◌, zero, suc, List, [], ◌∷◌, ◌++◌, length, max}
+use Rattle.std.specs.Prelude.{Option, Some, None}
 use Rattle.std.proofs.Common.{◌⊎◌}
 use Rattle.fish_layout.specs.Cleared.{IsKeyWord, body_of}
 use Rattle.fish_layout.specs.Header.{keys_of, void_word}

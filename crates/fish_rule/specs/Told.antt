@@ -1,5 +1,6 @@
 -- What each kind of step tells the pass that makes it.
-use Rattle.std.specs.Prelude.{ℕ, ◌≡◌, ◌≢◌, ◌≤◌, ◌-◌, [], ◌+◌, ◌*◌, length, Bool, Some, None, ◌<◌, zero, suc, List, ◌∷◌, slice_index, slice_set}
+use Rattle.std.specs.Prelude.{ℕ, ◌≡◌, ◌≢◌, ◌≤◌, ◌-◌, [], ◌+◌, ◌*◌, length, Bool, Some, None, ◌<◌, zero, suc}
+use Rattle.std.specs.Prelude.{List, ◌∷◌, slice_index, slice_set}
 use mathlib.Core.Option.{some}
 use Rattle.std.proofs.Math.ListN.{get_elem?}
 use Rattle.atomic_table.specs.Table.{Me, State, Step}
@@ -25,7 +26,8 @@ use Rattle.fish_rule.specs.declared.view.Kind.TheVariants.{Stored}
 use Rattle.fish_rule.specs.declared.view.Known.{Known}
 use Rattle.fish_rule.specs.declared.view.Learned.{Learned}
 use Rattle.fish_rule.specs.declared.view.Node.{Node}
-use Rattle.fish_rule.specs.Linking.{HasNode, LowRises, TopRises, after_aim, after_head, after_node, after_previous, after_splice, after_swing}
+use Rattle.fish_rule.specs.Linking.{HasNode, LowRises, TopRises, after_aim, after_head, after_node}
+use Rattle.fish_rule.specs.Linking.{after_previous, after_splice, after_swing}
 
 -- a claim: the operand is a count of one and the lines, and the value found is the tail
 abbrev pub told_claim : Step Bool → Sat → ℕ → Sat → Type 0

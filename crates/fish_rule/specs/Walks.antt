@@ -22,7 +22,8 @@ pub record IsGap (k : Key) (count : ℕ) (dir log start : ℕ → ℕ) (g : Gap)
   pub published : (n : ℕ) → k.number ≤ n → n < g.end → dir n ≢ 0
   pub empty : (n c p : ℕ) → n < g.end → IsEntryOf k dir log (start n) g.bucket n c p → p < g.above → p ≤ g.below
 
--- the number and the entry that a second word names are those at its place; of a number that was settled the word stands
+-- the number and the entry that a second word names are those at its place; of a number that was
+-- settled the word stands
 pub record IsLabel (k : Key) (count : ℕ) (dir log start : ℕ → ℕ) (l : Label) : Type 0 where
   pub above : k.number ≤ entry_number l.word
   pub below : entry_number l.word < count

@@ -4,8 +4,9 @@
 //! the next older one, or 0. Heads and first words only rise.
 
 ghost use Rattle.std.specs.Prelude.{◌≡◌, ◌≢◌, ◌<◌, ℕ, Some};
-ghost use Rattle.fish_rule.specs.Linking.{CanAim, CanLoadHead, CanSplice, CanSwing, HasNode, LowRises,
-    TopRises, after_aim, after_head, after_node, after_previous, after_splice, after_swing, own_place};
+ghost use Rattle.fish_rule.specs.Linking.{CanAim, CanLoadHead, CanSplice, CanSwing, HasNode, LowRises};
+ghost use Rattle.fish_rule.specs.Linking.{TopRises, after_aim, after_head, after_node, after_previous};
+ghost use Rattle.fish_rule.specs.Linking.{after_splice, after_swing, own_place};
 ghost use Rattle.fish_rule.specs.Passes.{IsPassOf, view};
 ghost use Rattle.fish_rule.specs.declared.view.Flight.{Flight};
 

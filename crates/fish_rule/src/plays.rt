@@ -1,6 +1,7 @@
 //! What each step tells its pass.
-ghost use Rattle.fish_rule.specs.Told.{ToldEnd, ToldHead, ToldLook, ToldPrevious, ToldRaise, ToldSettled, ToldSplice,
-    ToldSwing, told_aim, told_claim, told_node, told_publish, told_read, told_store};
+ghost use Rattle.fish_rule.specs.Told.{ToldEnd, ToldHead, ToldLook, ToldPrevious, ToldRaise, ToldSettled};
+ghost use Rattle.fish_rule.specs.Told.{ToldSplice, ToldSwing, told_aim, told_claim, told_node, told_publish};
+ghost use Rattle.fish_rule.specs.Told.{told_read, told_store};
 
 use crate::view::View;
 use atomic_table::Play;

@@ -7,8 +7,8 @@ ghost use Rattle.fish_rule.specs.Passes.{IsPassOf, view};
 ghost use Rattle.fish_rule.specs.Parts.{Rests};
 ghost use Rattle.fish_rule.specs.Regions.{dir_word, kind_of};
 ghost use Rattle.fish_rule.specs.Steps.{CanClaim, CanPublish, CanStore, after_claim, after_publish, after_store};
-ghost use Rattle.fish_rule.specs.Reading.{CanLook, CanRaise, CanRead, IsAlone, after_end, after_look, after_raise,
-    after_read, after_settled};
+ghost use Rattle.fish_rule.specs.Reading.{CanLook, CanRaise, CanRead, IsAlone, after_end, after_look};
+ghost use Rattle.fish_rule.specs.Reading.{after_raise, after_read, after_settled};
 ghost use Rattle.fish_rule.specs.Views.{Among};
 ghost use Rattle.fish_rule.specs.World.{high, low};
 ghost use Rattle.fish_rule.specs.declared.view.Flight.{Flight};

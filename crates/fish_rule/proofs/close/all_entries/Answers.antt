@@ -1,6 +1,6 @@
 -- Each turn tells one number more, and the last one that the log ends.
-use Rattle.std.proofs.Common.{◌≡◌, ◌∙◌, ◌+◌, ◌≤◌, ◌++◌, ◌∷◌, [], List, length, sym, ap, subst, ℕ, arith, inl,
-    inr, length-append}
+use Rattle.std.proofs.Common.{◌≡◌, ◌∙◌, ◌+◌, ◌≤◌, ◌++◌, ◌∷◌, [], List, length, sym, ap, subst, ℕ, arith, inl}
+use Rattle.std.proofs.Common.{inr, length-append}
 use Rattle.fish_catalog.specs.declared.entry.Entry.{Entry}
 use Rattle.fish_rule.proofs.Closing.{AreTold, alone_later, closes, tail_behind, tells_later, told_more}
 use Rattle.fish_rule.proofs.Extending.{extends_both, learns_both}

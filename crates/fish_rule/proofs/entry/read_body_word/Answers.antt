@@ -4,8 +4,8 @@ use Rattle.fish_layout.specs.Cleared.{IsKeyWord}
 use Rattle.fish_rule.specs.Passes.{view}
 use Rattle.fish_rule.specs.Views.{Among}
 use Rattle.fish_rule.proofs.entry.read_body_word.Goals as goal
-use Rattle.fish_rule.proofs.entry.read_body_word.Goals.{else-offset-keys-via-then-offset-keys+else-offset-eq1,
-    else-offset-keys-via-else-offset-keys}
+use Rattle.fish_rule.proofs.entry.read_body_word.Goals.{else-offset-keys-via-then-offset-keys+else-offset-eq1}
+use Rattle.fish_rule.proofs.entry.read_body_word.Goals.{else-offset-keys-via-else-offset-keys}
 
 pub overflow_mul-keys : goal.overflow_mul-keys
 overflow_mul-keys c = (let few = c.requires.keys in omega arith)
