@@ -10,7 +10,7 @@ use Rattle.fish_rule.specs.Keys.{AreActive, text_of}
 use Rattle.fish_ingest.specs.Definitions.{AreDefs, id_of}
 
 -- the numbers ascend from a least one on, below 256
-abbrev AscendFrom : ℕ → List ℕ → Type 0
+abbrev pub AscendFrom : ℕ → List ℕ → Type 0
 AscendFrom least [] = Unit {0}
 AscendFrom least (n ∷ ns) = (least ≤ n) × (n < 256) × AscendFrom (n + 1) ns
 
@@ -72,12 +72,14 @@ ids_same : (rows : List CatRow) (defs : List ActiveDef) → AreActive rows defs
     → map id_of defs ≡ map row_id (filter is_active rows)
 ids_same rows defs e = sym (def_ids defs) ∙ ap (map (λ (t : ℕ × List ℕ). t.0)) e ∙ row_ids (filter is_active rows)
 
+-- definitions whose ids ascend so may be given to `record_body`
+pub defs_ascend : (defs : List ActiveDef) → AscendFrom 0 (map id_of defs) → AreDefs defs
+defs_ascend defs h = record { ascending = increases 0 (map id_of defs) h; below = below 0 defs h }
+
 -- the definitions of the active rows of a catalogue may be given to `record_body`
 pub active_defs : {rows : List CatRow} {defs : List ActiveDef} → IsCatalog rows → AreActive rows defs → AreDefs defs
 active_defs {rows} {defs} h active =
     let few : length rows ≤ MAX_ROWS = h.few in
     let numbered : (k : ℕ) (row : CatRow) → slice_get rows k ≡ Some row → row.id ≡ 0 + k =
     λ k row at. let e = h.ids k row at in omega arith in
-    let ascend : AscendFrom 0 (map id_of defs) =
-    subst (AscendFrom 0) (sym (ids_same rows defs active)) (active_ascend 0 rows (omega arith) numbered) in
-    record { ascending = increases 0 (map id_of defs) ascend; below = below 0 defs ascend }
+    defs_ascend defs (subst (AscendFrom 0) (sym (ids_same rows defs active)) (active_ascend 0 rows (omega arith) numbered))

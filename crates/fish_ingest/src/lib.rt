@@ -7,6 +7,8 @@
 mod body;
 mod origin;
 mod refusal;
+#[cfg(test)]
+mod tests;
 
 pub use body::record_body;
 pub use origin::Origin;
