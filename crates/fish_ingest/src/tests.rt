@@ -1,12 +1,12 @@
 //! Payloads of both forms, with key entries that are worked out by hand, and the words of one record
 //! that another program packed by the table of bits.
 
-ghost use Rattle.std.specs.Prelude.{◌≡◌, ◌<◌, IfOk};
+ghost use Rattle.std.specs.Prelude.{◌≡◌, ◌<◌, IsTrue};
 ghost use Rattle.fish_ingest.specs.Definitions.{AreDefs};
 ghost use Rattle.fish_ingest.specs.Records.{IsOrigin};
 
 use crate::{IngestRefusal, Origin, record_body};
-use fish_lang::{Def, parse_def};
+use fish_lang::parse_def;
 use fish_layout::{Body, BodyParts, MAX_PAYLOAD, read_body};
 use fish_psf::{ActiveDef, Steps};
 use fish_value::{Form, print_value};
@@ -48,27 +48,33 @@ const WORDS: [u64; 16] = [
     0,
 ];
 
-fn def(alloc: Global, source: &str) -> Result<Def, Fail> {
-    Ok(parse_def(alloc, source.as_bytes())?)
-}
-
-fn active(id: u16, def: Def) -> ActiveDef
-    ensures { result ≡ record { id = id; def = def } }
+/// Whether definitions may be active together.
+fn are_defs(defs: &[ActiveDef]) -> bool
+    ensures { IsTrue result → AreDefs defs.now }
 {
-    ActiveDef { id, def }
+    let mut least = 0;
+    for active in defs {
+        if active.id < least || active.id >= 256 {
+            return false;
+        }
+        least = active.id + 1;
+    }
+    true
 }
 
 /// Four definitions, with gaps between their ids.
-fn defs(alloc: Global) -> Result<Vec<ActiveDef>, Fail>
-    ensures { IfOk result (λ defs. AreDefs defs.items) }
-{
-    let defs = [
-        active(0, def(alloc, "take type")?),
-        active(3, def(alloc, "bucket payload.size by 10")?),
-        active(7, def(alloc, "flag when type = \"PushEvent\"")?),
-        active(255, def(alloc, "take $2")?),
-    ];
-    Ok(Vec::from_array(alloc, defs)?)
+fn four_defs(alloc: Global) -> Result<Vec<ActiveDef>, Fail> {
+    let mut defs = Vec::new(alloc);
+    for (id, source) in [
+        (0, "take type"),
+        (3, "bucket payload.size by 10"),
+        (7, "flag when type = \"PushEvent\""),
+        (255, "take $2"),
+    ] {
+        let def = parse_def(alloc, source.as_bytes())?;
+        defs.push(ActiveDef { id, def })?;
+    }
+    Ok(defs)
 }
 
 /// The words of a payload under the definitions.
@@ -83,7 +89,10 @@ fn body<P: Ledger>(
     requires some { 0 < blank.parts }
     requires origin { IsOrigin origin }
 {
-    let defs = defs(alloc)?;
+    let defs = four_defs(alloc)?;
+    if !are_defs(defs.as_slice()) {
+        return Err(Fail::new("ids out of order"));
+    }
     let mut parses = Steps::<P>::new(blank);
     match record_body(alloc, defs.as_slice(), origin, payload, &mut parses) {
         Err(IngestRefusal::OutOfMemory) => Err(Fail::from(AllocError)),
