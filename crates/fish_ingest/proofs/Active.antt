@@ -1,5 +1,6 @@
 -- The definitions of a catalogue's active rows stand in the order of their ids, which are below 256.
-use Rattle.std.proofs.Common.{◌≡◌, ℕ, zero, suc, ◌+◌, ◌<◌, ◌≤◌, List, [], ◌∷◌, Bool, true, false, Some, All, length, get_or, map, slice_get, refl, sym, ap, ◌∙◌, subst, arith}
+use Rattle.std.proofs.Common.{◌≡◌, ℕ, zero, suc, ◌+◌, ◌<◌, ◌≤◌, List, [], ◌∷◌, Bool, true, false, Some, All}
+use Rattle.std.proofs.Common.{length, get_or, map, slice_get, refl, sym, ap, ◌∙◌, subst, arith}
 use Rattle.std.specs.Prelude.{cond, filter}
 use Rattle.std.specs.List.Sorted.{IsStrictlyIncreasing}
 use Rattle.fish_catalog.specs.Rows.{IsCatalog, is_active}
@@ -82,4 +83,5 @@ active_defs {rows} {defs} h active =
     let few : length rows ≤ MAX_ROWS = h.few in
     let numbered : (k : ℕ) (row : CatRow) → slice_get rows k ≡ Some row → row.id ≡ 0 + k =
     λ k row at. let e = h.ids k row at in omega arith in
-    defs_ascend defs (subst (AscendFrom 0) (sym (ids_same rows defs active)) (active_ascend 0 rows (omega arith) numbered))
+    let ascend : AscendFrom 0 (map row_id (filter is_active rows)) = active_ascend 0 rows (omega arith) numbered in
+    defs_ascend defs (subst (AscendFrom 0) (sym (ids_same rows defs active)) ascend)

@@ -1,5 +1,6 @@
 -- The key entries of a record, definition by definition.
-use Rattle.std.proofs.Common.{◌≡◌, ℕ, suc, ◌+◌, ◌<◌, ◌≤◌, List, [], ◌∷◌, ◌++◌, length, get_or, take, sym, ap, ◌∙◌, subst, arith, All, map}
+use Rattle.std.proofs.Common.{◌≡◌, ℕ, suc, ◌+◌, ◌<◌, ◌≤◌, List, [], ◌∷◌, ◌++◌}
+use Rattle.std.proofs.Common.{length, get_or, take, sym, ap, ◌∙◌, subst, arith, All, map}
 use Rattle.std.specs.Prelude.{IfSome, Option, Some, None, option_map, option_to_list}
 use Rattle.std.specs.List.{cons_option}
 use Rattle.std.specs.List.Sorted.{IsStrictlyIncreasing}
@@ -52,7 +53,8 @@ one_behind : (low : ℕ) (d : ActiveDef) (values : List KeyValue) (keys : List K
     → ((rest : List KeyPart) → map property rest ≡ values → All IsEntry rest → AreProperKeys (d.id + 1) rest)
     → map property keys ≡ cons_option (option_map (λ v. record { id = d.id; value = v }) v) values
     → All IsEntry keys → AreProperKeys low keys
-one_behind low d values keys None less few rest e all = lowered low (d.id + 1) keys (omega arith) (rest keys e all)
+one_behind low d values keys None less few rest e all =
+    lowered low (d.id + 1) keys (omega arith) (rest keys e all)
 one_behind low d values [] (Some v) less few rest e all = tt
 one_behind low d values (k ∷ ks) (Some v) less few rest e all =
     let id : k.id ≡ d.id = ap first_id e in
@@ -61,15 +63,18 @@ one_behind low d values (k ∷ ks) (Some v) less few rest e all =
     (omega arith, omega arith, entry.proper, subst (λ n. AreProperKeys (n + 1) ks) (sym id) more)
 
 -- key entries of definitions behind an id are proper behind it
-behind : (fields : Fields) (m : ℕ) (defs : List ActiveDef) (keys : List KeyPart) → IsStrictlyIncreasing (m ∷ map id_of defs)
+behind : (fields : Fields) (m : ℕ) (defs : List ActiveDef) (keys : List KeyPart)
+    → IsStrictlyIncreasing (m ∷ map id_of defs)
     → All IsBelow defs → map property keys ≡ keys_of fields defs → All IsEntry keys → AreProperKeys (m + 1) keys
 unfolding keys_of
 behind fields m [] [] up low e all = tt
 behind fields m [] (k ∷ ks) up low e all = absurd cc
 behind fields m (d ∷ ds) keys up low e all =
     let first : m < d.id = up 0 (omega arith) in
-    one_behind (m + 1) d (keys_of fields ds) keys (eval (definition_of d.def) fields) (omega arith) (All-head IsBelow d ds low)
-    (λ rest. behind fields d.id ds rest (ascends_without m (map id_of (d ∷ ds)) up) (All-tail IsBelow d ds low)) e all
+    one_behind (m + 1) d (keys_of fields ds) keys (eval (definition_of d.def) fields) (omega arith)
+    (All-head IsBelow d ds low)
+    (λ rest. behind fields d.id ds rest (ascends_without m (map id_of (d ∷ ds)) up) (All-tail IsBelow d ds low))
+    e all
 
 -- the key entries of proper definitions are proper
 pub keys_proper : (fields : Fields) (defs : List ActiveDef) (keys : List KeyPart) → AreDefs defs
@@ -78,19 +83,22 @@ unfolding keys_of
 keys_proper fields [] [] are h = tt
 keys_proper fields [] (k ∷ ks) are h = (let none = h.values in absurd cc)
 keys_proper fields (d ∷ ds) keys are h =
-    one_behind 0 d (keys_of fields ds) keys (eval (definition_of d.def) fields) (omega arith) (All-head IsBelow d ds are.below)
+    one_behind 0 d (keys_of fields ds) keys (eval (definition_of d.def) fields) (omega arith)
+    (All-head IsBelow d ds are.below)
     (λ rest. behind fields d.id ds rest are.ascending (All-tail IsBelow d ds are.below)) h.values h.entries
 
 -- key entries have no previous nodes
 pub keys_unlinked : (keys : List KeyPart) → All IsEntry keys → AreUnlinked keys
 keys_unlinked [] all = tt
-keys_unlinked (k ∷ ks) all = ((All-head IsEntry k ks all).unlinked, keys_unlinked ks (All-tail IsEntry k ks all))
+keys_unlinked (k ∷ ks) all =
+    ((All-head IsEntry k ks all).unlinked, keys_unlinked ks (All-tail IsEntry k ks all))
 
 -- ---- one definition more
 
 -- an entry more behind the others
 entry_more : (keys : List KeyPart) (entry : Option KeyPart)
-    → map property (keys ++ option_to_list entry) ≡ map property keys ++ option_to_list (option_map property entry)
+    → map property (keys ++ option_to_list entry)
+    ≡ map property keys ++ option_to_list (option_map property entry)
 entry_more keys None = map-append property keys []
 entry_more keys (Some k) = map-append property keys (k ∷ [])
 

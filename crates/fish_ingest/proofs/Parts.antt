@@ -3,6 +3,7 @@ use Rattle.std.proofs.Common.{◌≡◌, ℕ, List, true, refl, sym, subst, arit
 use Rattle.fish_layout.specs.Body.{IsProper, body_words}
 use Rattle.fish_layout.specs.declared.parts.BodyParts.{BodyParts}
 use Rattle.fish_layout.specs.declared.parts.KeyPart.{KeyPart}
+use Rattle.fish_psf.specs.Eval.{Fields}
 use Rattle.fish_psf.specs.Records.{fields_of_payload, is_record}
 use Rattle.fish_psf.specs.declared.key.ActiveDef.{ActiveDef}
 use Rattle.fish_ingest.specs.Definitions.{AreDefs}
@@ -30,6 +31,17 @@ pub record AreRead (defs : List ActiveDef) (origin : Origin) (payload : List ℕ
   pub same : text ≡ payload
   pub reads : is_record origin.form payload ≡ true
   pub made : AreEntriesFor (fields_of_payload origin.form payload) defs keys
+
+-- the entries were made of the fields that the payload has
+pub are_read : {defs : List ActiveDef} {origin : Origin} {payload : List ℕ} {keys : List KeyPart} {text : List ℕ}
+    (fields : Fields) → fields ≡ fields_of_payload origin.form payload → AreEntriesFor fields defs keys
+    → text ≡ payload → is_record origin.form payload ≡ true → AreRead defs origin payload keys text
+are_read {defs} {origin} {payload} {keys} fields is made same reads =
+    record {
+      same = same;
+      reads = reads;
+      made = subst (λ (f : Fields). AreEntriesFor f defs keys) is made;
+    }
 
 -- then the parts are proper
 pub parts_proper : {defs : List ActiveDef} {origin : Origin} {payload : List ℕ} {keys : List KeyPart} {text : List ℕ}

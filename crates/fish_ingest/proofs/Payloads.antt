@@ -26,7 +26,8 @@ tested true false o h = absurd cc
 tested false text o h = absurd cc
 
 -- what is tested to be short, is
-tested_short : {X : Type 0} (short : Bool) (o : Option X) → is_some (if short then o else None) ≡ true → short ≡ true
+tested_short : {X : Type 0} (short : Bool) (o : Option X)
+    → is_some (if short then o else None) ≡ true → short ≡ true
 tested_short true o h = refl
 tested_short false o h = absurd cc
 

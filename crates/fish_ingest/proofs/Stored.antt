@@ -23,7 +23,8 @@ numbered n p = record p { number = n }
 
 -- they take as many lines
 pub numbered_lines : (n : ℕ) (p : BodyParts) → body_lines (numbered n p) ≡ body_lines p
-numbered_lines n p = ap (λ size. (1 + size + 3) / 4) (length-words_behind (numbered n p) ∙ sym (length-words_behind p))
+numbered_lines n p =
+    ap (λ size. (1 + size + 3) / 4) (length-words_behind (numbered n p) ∙ sym (length-words_behind p))
 
 -- parts whose entries have no previous nodes stay when these are taken away
 same_parts : (p : BodyParts) → AreUnlinked p.keys → unlinked p ≡ p

@@ -59,7 +59,8 @@ when_short false o h = tt
 eval_short : (d : Definition) (fields : Fields) → IsShortIfThere (eval d fields)
 unfolding eval
 eval_short (takes path when) fields = when_short (holds_when when fields) _ (field_short (fields path))
-eval_short (buckets path width when) fields = when_short (holds_when when fields) _ (bucket_short width (fields path))
+eval_short (buckets path width when) fields =
+    when_short (holds_when when fields) _ (bucket_short width (fields path))
 eval_short (flags when) fields = when_short (holds when fields) _ tt
 
 -- a value that a definition gives is short

@@ -36,7 +36,8 @@ pub fn record_body<L: Ledger>(
     ensures too_long { IsErrOf result IngestRefusal.TooLong ↔ (MAX_PAYLOAD < length payload.now) }
     ensures not_record { IsErrOf result IngestRefusal.NotRecord
         → (length payload.now ≤ MAX_PAYLOAD) × (is_record origin.form payload.now ≡ false) }
-    ensures none { IfErr result (λ e. e ≢ IngestRefusal.OutOfMemory → is_record origin.form payload.now ≡ false) }
+    ensures none { IfErr result (λ e. e ≢ IngestRefusal.OutOfMemory
+        → is_record origin.form payload.now ≡ false) }
 {
     let found = parse(alloc, origin.form, payload, parses)?;
     let keys = entries_of(alloc, defs, &found)?;
@@ -83,7 +84,8 @@ fn entry_of(
     active: &ActiveDef,
     found: &Record,
 ) -> Result<Option<KeyPart>, AllocError>
-    ensures value { IfOk result (λ entry. option_map property entry ≡ key_of (fields_of found.now) active.now) }
+    ensures value { IfOk result (λ entry.
+        option_map property entry ≡ key_of (fields_of found.now) active.now) }
     ensures entry { IfOk result (λ entry. IfSome entry IsEntry) }
 {
     let Some(value) = eval(alloc, &active.def, found)? else {

@@ -1,8 +1,6 @@
 -- The parts that were put together are those of the payload, and proper.
-use Rattle.std.proofs.Common.{subst}
-use Rattle.fish_psf.specs.Eval.{Fields}
-use Rattle.fish_ingest.specs.Entries.{AreEntriesFor}
-use Rattle.fish_ingest.proofs.Parts.{AreRead, body_for, parts_proper}
+use Rattle.fish_psf.specs.Fields.{fields_of}
+use Rattle.fish_ingest.proofs.Parts.{are_read, body_for, parts_proper}
 use Rattle.fish_ingest.proofs.Payloads.{record_text}
 use Rattle.fish_ingest.proofs.body.record_body.Goals as goal
 
@@ -13,17 +11,14 @@ text_of-requires g c = record_text c.args.origin.form c.args.payload.now c.in_ok
 -- the fields that the entries are made of are the payload's
 pub body_of-requires : goal.body_of-requires
 body_of-requires g c =
-    let made = subst (λ (f : Fields). AreEntriesFor f c.args.defs.now c.in_ok-keys.keys) c.in_ok-found.ensures.fields
-    c.in_ok-keys.ensures in
-    let read : AreRead c.args.defs.now c.args.origin c.args.payload.now c.in_ok-keys.keys c.in_ok-text_of.field-0 =
-    record { same = c.in_ok-text_of.ensures; reads = c.in_ok-found.ensures.accepted; made = made } in
-    parts_proper c.requires.defs c.requires.origin read
+    let found = c.in_ok-found.ensures in
+    parts_proper c.requires.defs c.requires.origin
+    (are_read (fields_of c.in_ok-found.found) found.fields c.in_ok-keys.ensures c.in_ok-text_of.ensures found.accepted)
 
 -- and so are the words
 pub returns-clause-body : goal.returns-clause-body
 returns-clause-body g c =
-    let made = subst (λ (f : Fields). AreEntriesFor f c.args.defs.now c.in_ok-keys.keys) c.in_ok-found.ensures.fields
-    c.in_ok-keys.ensures in
-    let read : AreRead c.args.defs.now c.args.origin c.args.payload.now c.in_ok-keys.keys c.in_ok-text_of.field-0 =
-    record { same = c.in_ok-text_of.ensures; reads = c.in_ok-found.ensures.accepted; made = made } in
-    body_for c.requires.defs c.requires.origin read c.in_ok-body_of.ensures
+    let found = c.in_ok-found.ensures in
+    body_for c.requires.defs c.requires.origin
+    (are_read (fields_of c.in_ok-found.found) found.fields c.in_ok-keys.ensures c.in_ok-text_of.ensures found.accepted)
+    c.in_ok-body_of.ensures
