@@ -59,11 +59,12 @@ active_ascend n (row ∷ rows) few ids =
     with_row n row (filter is_active rows) (is_active row) first (omega arith)
     (active_ascend (n + 1) rows (omega arith) later)
 
--- the ids in texts of definitions, and in those of rows
+-- the ids in the texts of definitions are theirs
 def_ids : (defs : List ActiveDef) → map (λ (t : ℕ × List ℕ). t.0) (map text_of defs) ≡ map id_of defs
 def_ids [] = refl
 def_ids (d ∷ ds) = ap (λ ids. d.id ∷ ids) (def_ids ds)
 
+-- and so are those in the texts of rows
 row_ids : (rows : List CatRow) → map (λ (t : ℕ × List ℕ). t.0) (map (λ row. (row.id, row.def)) rows) ≡ map row_id rows
 row_ids [] = refl
 row_ids (row ∷ rows) = ap (λ ids. row.id ∷ ids) (row_ids rows)
