@@ -1,0 +1,6 @@
+pub mod Active
+pub mod Keys
+pub mod Parts
+pub mod Payloads
+pub mod Stored
+pub mod Values

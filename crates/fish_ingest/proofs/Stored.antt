@@ -1,0 +1,78 @@
+-- The words of a payload, once they have a number, are a record of the rule.
+use Rattle.std.proofs.Common.{◌≡◌, ℕ, ◌+◌, ◌*◌, ◌/◌, List, length, true, refl, sym, ap, ◌∙◌, subst}
+use Rattle.fish_catalog.specs.declared.row.CatRow.{CatRow}
+use Rattle.fish_layout.proofs.Links.{unlink-unlinked}
+use Rattle.fish_layout.proofs.Outlines.{body_length}
+use Rattle.fish_layout.proofs.Sizes.{length-words_behind}
+use Rattle.fish_layout.proofs.Spelled.{spelled_body}
+use Rattle.fish_layout.specs.Body.{IsBody, body_lines}
+use Rattle.fish_layout.specs.Cleared.{AreUnlinked, Spells, body_of, unlinked}
+use Rattle.fish_layout.specs.declared.parts.BodyParts.{BodyParts}
+use Rattle.fish_psf.specs.Keys.{keys_of}
+use Rattle.fish_psf.specs.Records.{fields_of_payload, is_record}
+use Rattle.fish_psf.specs.declared.key.ActiveDef.{ActiveDef}
+use Rattle.fish_rule.specs.Keys.{AreActive, HasKeys}
+use Rattle.fish_rule.specs.Regions.{IsRecord}
+use Rattle.fish_rule.specs.declared.view.Key.{Key}
+use Rattle.fish_ingest.specs.Records.{ArePartsFor, IsBodyFor}
+use Rattle.fish_ingest.specs.declared.origin.Origin.{Origin}
+
+-- the same parts with another number
+abbrev pub numbered : ℕ → BodyParts → BodyParts
+numbered n p = record p { number = n }
+
+-- they take as many lines
+pub numbered_lines : (n : ℕ) (p : BodyParts) → body_lines (numbered n p) ≡ body_lines p
+numbered_lines n p =
+    ap (λ size. (1 + size + 3) / 4) (length-words_behind (numbered n p) ∙ sym (length-words_behind p))
+
+-- parts whose entries have no previous nodes stay when these are taken away
+same_parts : (p : BodyParts) → AreUnlinked p.keys → unlinked p ≡ p
+same_parts p h = ap (λ keys. record p { keys = keys }) (unlink-unlinked p.keys h)
+
+-- the words of a payload fill their lines
+pub body_fills : {defs : List ActiveDef} {origin : Origin} {payload words : List ℕ}
+    → (b : IsBodyFor defs origin payload words) → length words ≡ body_lines b.0 * 4
+body_fills b = body_length b.2
+
+-- with a number they fill as many
+pub numbered_fills : (n : ℕ) (p : BodyParts) {words : List ℕ} → IsBody (numbered n p) words
+    → length words ≡ body_lines p * 4
+numbered_fills n p is = body_length is ∙ ap (λ lines. lines * 4) (numbered_lines n p)
+
+-- a payload that is a record is one of the form in its parts
+reads_parts : {defs : List ActiveDef} {origin : Origin} {payload : List ℕ} {p : BodyParts}
+    → ArePartsFor defs origin payload p → is_record p.form p.payload ≡ true
+reads_parts {defs} {origin} {payload} {p} h =
+    ap (λ form. is_record form p.payload) h.form_is ∙ ap (is_record origin.form) h.payload_is ∙ h.reads
+
+-- the keys that the definitions of the active rows give for a payload are those of the rows
+has_keys : {defs : List ActiveDef} {origin : Origin} {payload : List ℕ} {p : BodyParts} {rows : List CatRow} (n : ℕ)
+    → ArePartsFor defs origin payload p → AreActive rows defs → HasKeys rows (numbered n p)
+has_keys {defs} {origin} {payload} {p} n h active =
+    record {
+      defs = defs;
+      active = active;
+      keys = h.keys ∙ ap (λ form. keys_of (fields_of_payload form payload) defs) (sym h.form_is)
+          ∙ ap (λ b. keys_of (fields_of_payload p.form b) defs) (sym h.payload_is);
+    }
+
+-- the words of a payload with a number are a record of it, where the table begins with the active definitions
+pub record_of_body : {defs : List ActiveDef} {origin : Origin} {payload words : List ℕ} {rows : List CatRow}
+    (k : Key) (n : ℕ) (new : List ℕ) (b : IsBodyFor defs origin payload words)
+    → IsBody (numbered n b.0) new → AreActive rows defs → k.rows.value ≡ rows → origin.version ≡ 0
+    → IsRecord k origin.lane n (body_lines b.0) (body_of new)
+record_of_body {defs} k n new b is active begun first =
+    let p : BodyParts = b.0 in
+    let h = b.1 in (
+      numbered n p,
+      record {
+        spells = subst (λ q. Spells q (body_of new)) (same_parts (numbered n p) h.unlinked) (spelled_body new is);
+        lane_is = h.lane_is;
+        number_is = refl;
+        lines_is = numbered_lines n p;
+        reads = reads_parts h;
+        version_is = h.version_is ∙ first;
+        keys = has_keys n h (subst (λ r. AreActive r defs) (sym begun) active);
+      },
+    )

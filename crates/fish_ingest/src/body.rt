@@ -1,0 +1,116 @@
+//! The words of a record from its payload.
+
+ghost use Rattle.std.specs.Prelude.{◌≡◌, ◌≢◌, ◌↔◌, ◌+◌, ◌<◌, ◌≤◌, false, length, option_map};
+ghost use Rattle.std.specs.Prelude.{IfErr, IfOk, IfSome, IsErrOf, IsUtf8};
+ghost use Rattle.fish_ingest.specs.Definitions.{AreDefs};
+ghost use Rattle.fish_ingest.specs.Entries.{AreEntriesFor, IsEntry, IsShort};
+ghost use Rattle.fish_ingest.specs.Records.{IsBodyFor, IsOrigin};
+ghost use Rattle.fish_layout.specs.Body.{IsProperValue};
+ghost use Rattle.fish_psf.specs.Fields.{fields_of};
+ghost use Rattle.fish_psf.specs.Keys.{key_of};
+ghost use Rattle.fish_psf.specs.Records.{is_record};
+ghost use Rattle.fish_rule.specs.Keys.{property};
+
+use crate::origin::Origin;
+use crate::refusal::IngestRefusal;
+use fish_layout::{Body, BodyParts, KeyPart, KeyParts, MAX_PAYLOAD, body_of};
+use fish_psf::{ActiveDef, Record, Steps, eval, parse};
+use fish_value::{Text, Value};
+use std::alloc::{AllocError, Global};
+use std::sync::ledger::Ledger;
+
+/// The words of the record that a payload is, with a key entry for each definition that gives a
+/// value for it, and number 0. The payload is parsed once and copied twice.
+pub fn record_body<L: Ledger>(
+    alloc: Global,
+    defs: &[ActiveDef],
+    origin: Origin,
+    payload: &[u8],
+    parses: &mut Steps<L>,
+) -> Result<Body, IngestRefusal>
+    requires defs { AreDefs defs.now }
+    requires origin { IsOrigin origin }
+    ensures body { IfOk result (λ body. IsBodyFor defs.now origin payload.now body) }
+    ensures counted { parses.new ≡ parses.old + 1 }
+
+    ensures too_long { IsErrOf result IngestRefusal.TooLong ↔ (MAX_PAYLOAD < length payload.now) }
+    ensures not_record { IsErrOf result IngestRefusal.NotRecord
+        → (length payload.now ≤ MAX_PAYLOAD) × (is_record origin.form payload.now ≡ false) }
+    ensures none { IfErr result (λ e. e ≢ IngestRefusal.OutOfMemory
+        → is_record origin.form payload.now ≡ false) }
+{
+    let found = parse(alloc, origin.form, payload, parses)?;
+    let keys = entries_of(alloc, defs, &found)?;
+    let parts = BodyParts {
+        form: origin.form,
+        lane: origin.lane,
+        version: origin.version,
+        number: 0,
+        keys,
+        payload: text_of(alloc, payload)?,
+    };
+    Ok(body_of(alloc, &parts)?)
+}
+
+/// A copy of bytes that are a text.
+fn text_of(alloc: Global, b: &[u8]) -> Result<Text, AllocError>
+    requires { IsUtf8 b.now }
+    ensures { IfOk result (λ text. text ≡ b.now) }
+{
+    match Text::from_bytes(alloc, b)? {
+        Some(text) => Ok(text),
+        None => unreachable!(),
+    }
+}
+
+/// The key entries of a record, with no previous nodes.
+#[tactic(auto, unfolding(fish_psf::specs::Keys::keys_of))]
+fn entries_of(alloc: Global, defs: &[ActiveDef], found: &Record) -> Result<KeyParts, AllocError>
+    ensures { IfOk result (AreEntriesFor (fields_of found.now) defs.now) }
+{
+    let mut keys = KeyParts::new(alloc);
+    for active in defs {
+        if let Some(entry) = entry_of(alloc, active, found)? {
+            keys.push(entry)?;
+        }
+    }
+    Ok(keys)
+}
+
+/// The key entry of one definition, where it gives a value.
+#[tactic(auto, using(crate::proofs::Values::value_short))]
+fn entry_of(
+    alloc: Global,
+    active: &ActiveDef,
+    found: &Record,
+) -> Result<Option<KeyPart>, AllocError>
+    ensures value { IfOk result (λ entry.
+        option_map property entry ≡ key_of (fields_of found.now) active.now) }
+    ensures entry { IfOk result (λ entry. IfSome entry IsEntry) }
+{
+    let Some(value) = eval(alloc, &active.def, found)? else {
+        return Ok(None);
+    };
+    read_value(&value);
+    Ok(Some(KeyPart {
+        prev: 0,
+        id: active.id,
+        value,
+    }))
+}
+
+/// Reads a value, which shows that it is within its type: a number has 64 bits, a text is UTF-8.
+fn read_value(value: &Value)
+    requires { IsShort value.now }
+    ensures { IsProperValue value.now }
+{
+    match value {
+        Value::Bool(_) => {}
+        Value::Int(number) => {
+            let _number = *number;
+        }
+        Value::Text(text) => {
+            let _bytes = text.as_bytes();
+        }
+    }
+}
