@@ -12,8 +12,14 @@ pub returns : goal.returns
 unfolding is_record
 returns c =
     let text : List ℕ = c.args.payload in
-    let p : BodyParts = record { form = Json; lane = c.args.lane; version = 0; number = c.args.number;
-        keys = c.new.result; payload = text } in
+    let p : BodyParts = record {
+      form = Json;
+      lane = c.args.lane;
+      version = 0;
+      number = c.args.number;
+      keys = c.new.result;
+      payload = text;
+    } in
     let lane = c.requires.lane in
     let number = c.requires.number in
     let keys : p.keys ≡ [] = c.new.ensures in
@@ -35,6 +41,15 @@ returns c =
     let len = c.len.ensures in
     let same = c.if-len-lines.false in
     let read = subst (λ (z : List ℕ). is_some (record_of z) ≡ true) c.as_bytes-2.ensures.value
-        (ap is_some c.in-Ok.ensures.ok) in
-    (p, record { lane_is = refl; number_is = refl; lines_is = omega arith; version = refl; keys = keys;
-        reads = read }, is)
+    (ap is_some c.in-Ok.ensures.ok) in (
+      p,
+      record {
+        lane_is = refl;
+        number_is = refl;
+        lines_is = omega arith;
+        version = refl;
+        keys = keys;
+        reads = read;
+      },
+      is,
+    )

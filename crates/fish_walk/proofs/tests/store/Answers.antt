@@ -16,5 +16,5 @@ fill-requires-clause-view c =
       flight_at place.number place.line c.args.lines,
       subst (CanFill u (flight_at place.number place.line c.args.lines)) (sym c.as_slice.ensures)
           (body_law v u c.args.lines place.number place.line p.0 c.in_ok-body.body
-              (placed_law v u c.args.lines place.number place.line place.ensures.claimed) plain p.2),
+          (placed_law v u c.args.lines place.number place.line place.ensures.claimed) plain p.2),
     )
