@@ -13,8 +13,16 @@ use Rattle.fish_rule.specs.declared.view.View.{View}
 
 -- a view knows what it knows
 pub learns_self : (v : View) → Learns v v
-learns_self v = record { about = refl; count = omega arith; found = λ x m. m; known = λ x m. m; records = λ x m. m;
-    nodes = λ x m. m; gaps = λ x m. m; labels = λ x m. m }
+learns_self v = record {
+  about = refl;
+  count = omega arith;
+  found = λ x m. m;
+  known = λ x m. m;
+  records = λ x m. m;
+  nodes = λ x m. m;
+  gaps = λ x m. m;
+  labels = λ x m. m;
+}
 
 -- and what is learned on top of what was learned is all learned
 pub learns_both : (a b c : View) → Learns a b → Learns b c → Learns a c
@@ -34,8 +42,15 @@ learns_both a b c e f =
 
 -- a view extends itself
 pub extends_self : (v : View) → Extends v v
-extends_self v = record { learns = learns_self v; lane = refl; out = refl; shut = refl; flight = refl;
-    tail = refl; own = refl }
+extends_self v = record {
+  learns = learns_self v;
+  lane = refl;
+  out = refl;
+  shut = refl;
+  flight = refl;
+  tail = refl;
+  own = refl;
+}
 
 -- and what extends an extension extends it
 pub extends_both : (a b c : View) → Extends a b → Extends b c → Extends a c
@@ -54,8 +69,16 @@ extends_both a b c e f = record {
 -- a word that is read extends a view
 pub extends_read : (v : View) (place x : ℕ) → Extends v (after_read v place x)
 extends_read v place x = record {
-  learns = record { about = refl; count = omega arith; found = λ x m. m; known = λ x m. inr m; records = λ x m. m;
-    nodes = λ x m. m; gaps = λ x m. m; labels = λ x m. m };
+  learns = record {
+    about = refl;
+    count = omega arith;
+    found = λ x m. m;
+    known = λ x m. inr m;
+    records = λ x m. m;
+    nodes = λ x m. m;
+    gaps = λ x m. m;
+    labels = λ x m. m;
+  };
   lane = refl;
   out = refl;
   shut = refl;
@@ -85,9 +108,16 @@ found_more n lines (suc x) found f m = inr m
 -- a directory word that is seen extends a view
 pub extends_look : (v : View) (n lines x : ℕ) → Extends v (after_look v n lines x)
 extends_look v n lines x = record {
-  learns = record { about = refl; count = omega arith; found = found_more n lines x v.learned.found;
-      known = λ x m. m; records = λ x m. m;
-    nodes = λ x m. m; gaps = λ x m. m; labels = λ x m. m };
+  learns = record {
+    about = refl;
+    count = omega arith;
+    found = found_more n lines x v.learned.found;
+    known = λ x m. m;
+    records = λ x m. m;
+    nodes = λ x m. m;
+    gaps = λ x m. m;
+    labels = λ x m. m;
+  };
   lane = refl;
   out = refl;
   shut = refl;
@@ -107,8 +137,16 @@ found_here n lines (suc x) found ne = inl refl
 
 -- a count that has risen is learned
 pub learns_end : (v : View) (x : ℕ) → v.learned.count ≤ high x → Learns v (after_end v x)
-learns_end v x more = record { about = refl; count = more; found = λ x m. m; known = λ x m. m; records = λ x m. m;
-    nodes = λ x m. m; gaps = λ x m. m; labels = λ x m. m }
+learns_end v x more = record {
+  about = refl;
+  count = more;
+  found = λ x m. m;
+  known = λ x m. m;
+  records = λ x m. m;
+  nodes = λ x m. m;
+  gaps = λ x m. m;
+  labels = λ x m. m;
+}
 
 -- ---- a join
 
@@ -145,6 +183,7 @@ pub joined_learns : (v u m t : View) (x : ℕ) → v.about ≡ u.about → m ≡
     → m.learned.count ≤ high x → Learns v t × Learns u t
 joined_learns v u m t x about joined loaded more =
     let to : t ≡ after_end (join_both v u) x = loaded ∙ ap (λ (z : View). after_end z x) joined in
-    let counted = subst (λ (z : View). z.learned.count ≤ high x) joined more in
-    (subst (Learns v) (sym to) (learns_join v u x counted),
-        subst (Learns u) (sym to) (learned_join v u x about counted))
+    let counted = subst (λ (z : View). z.learned.count ≤ high x) joined more in (
+      subst (Learns v) (sym to) (learns_join v u x counted),
+      subst (Learns u) (sym to) (learned_join v u x about counted),
+    )

@@ -22,8 +22,13 @@ low_line : (v : View) (f : Found) → Stands v → 1 ≤ v.lane → Among f v.le
 low_line v f s live among is =
     let some = found_law v f s among in
     let law = read_law v.about v f 0 refl s
-        (record { live = live; found = among; words = stored_words f.kind is; inside = omega arith;
-        plain = inl refl }) in
+    (record {
+      live = live;
+      found = among;
+      words = stored_words f.kind is;
+      inside = omega arith;
+      plain = inl refl;
+    }) in
     let end = law.1 in
     let low_end = (fits_law v s).low_end in
     omega arith
@@ -54,9 +59,12 @@ look_finds v u n lines x line f s live e word among is at =
 found_stored : (n lines x : ℕ) (found : List Found) → Look.Stored ≡ look_of x → (f : Found)
     × Among f (found_after n lines x found) × (f.number ≡ n) × (f.kind ≡ Stored)
 found_stored n lines zero found e = cc
-found_stored n lines (suc x) found e =
-    (record { number = n; kind = kind_told (high (suc x)); line = low (suc x); lines = lines }, inl refl, refl,
-        by (kind_told (high (suc x))) e)
+found_stored n lines (suc x) found e = (
+  record { number = n; kind = kind_told (high (suc x)); line = low (suc x); lines = lines },
+  inl refl,
+  refl,
+  by (kind_told (high (suc x))) e,
+)
   where
     by : (k : Kind) → Look.Stored ≡ look_of_kind k → k ≡ Stored
     by Stored e = refl
@@ -68,7 +76,7 @@ pub stored_law : (v u : View) (n lines x : ℕ) → u ≡ after_look v n lines x
     → (f : Found) × Among f u.learned.found × (f.number ≡ n) × (f.kind ≡ Stored)
 stored_law v u n lines x e is =
     subst (λ (z : View). (f : Found) × Among f z.learned.found × (f.number ≡ n) × (f.kind ≡ Stored)) (sym e)
-        (found_stored n lines x v.learned.found is)
+    (found_stored n lines x v.learned.found is)
 
 -- and the pass may look there again
 pub look_again : (v u : View) (n lines x : ℕ) → u ≡ after_look v n lines x → CanLook v n → CanLook u n

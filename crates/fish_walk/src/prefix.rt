@@ -3,8 +3,17 @@
 ghost use Rattle.std.specs.Prelude.{◌≡◌, ◌≤◌};
 ghost use Rattle.fish_rule.specs.Passes.{IsPassOf, view};
 ghost use Rattle.fish_rule.specs.Reading.{CanRaise, IsAlone};
-ghost use Rattle.fish_walk.specs.Settling.{AreSettled, CanSettle, HasCounted, IsEnd, IsMark, Looked, Raised,
-    Settles, StopsAt};
+ghost use Rattle.fish_walk.specs.Settling.{
+  AreSettled,
+  CanSettle,
+  HasCounted,
+  IsEnd,
+  IsMark,
+  Looked,
+  Raised,
+  Settles,
+  StopsAt,
+};
 
 use crate::found::{count_now, look};
 use crate::outcome::Look;
@@ -20,7 +29,8 @@ pub struct Settled {
 }
 
 /// Raises the settled number over the published numbers behind it, up to the first one that is
-/// unfinished or a mark. One load for each, and three steps more.
+/// unfinished or a mark, and answers how far it came. Takes two loads, one more for each number that
+/// it looks at, and at most one raise.
 pub fn settle(log: &Log, pass: &mut Pass) -> Settled
     requires pass { IsPassOf log.now pass.old }
     requires live { 1 ≤ (view pass.old).lane }

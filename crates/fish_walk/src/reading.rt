@@ -16,8 +16,8 @@ use fish_rule::{Log, Pass, line_of_word, look_at, read_region};
 use std::alloc::{AllocError, Global};
 use std::sync::ledger::Ledger;
 
-/// The record at a number that was found stored. Counts the load of the directory word, and one load
-/// for each word of the record that is loaded.
+/// The record at a number that was found stored. Counts the load of the directory word, and each load
+/// of a word of the record.
 pub fn read_entry<L: Ledger>(
     alloc: Global,
     log: &Log,
@@ -27,7 +27,8 @@ pub fn read_entry<L: Ledger>(
 ) -> Result<Entry, AllocError>
     requires pass { IsPassOf log.now pass.old }
     requires look { CanLook (view pass.old) number }
-    requires stored { (f : Found) × Among f (view pass.old).learned.found × (f.number ≡ number) × (f.kind ≡ Stored) }
+    requires stored { (f : Found) × Among f (view pass.old).learned.found × (f.number ≡ number)
+        × (f.kind ≡ Stored) }
     ensures pass { IsPassOf log.now pass.new }
     ensures extends { Extends (view pass.old) (view pass.new) }
     ensures entry { IfOk result (Tells (view pass.new) number) }

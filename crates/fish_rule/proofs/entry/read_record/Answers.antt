@@ -10,8 +10,8 @@ read_payload-requires c =
     let f = c.requires.found in
     let words = c.in_ok-words.ensures.words f.0 f.1 f.2 (stored_words f.0.kind f.3) in
     let q = found_body
-        (view c.read_region.new.pass) f.0 c.in_ok-words.words.items c.read_region.ensures.pass.stands
-        (c.read_region.ensures.extends.learns.found f.0 f.1) f.3 words in
+    (view c.read_region.new.pass) f.0 c.in_ok-words.words.items c.read_region.ensures.pass.stands
+    (c.read_region.ensures.extends.learns.found f.0 f.1) f.3 words in
     (q.0, subst (IsBody q.0) (sym c.deref.ensures.value) q.1)
 
 pub returns-clause-entry : goal.returns-clause-entry
@@ -19,8 +19,8 @@ returns-clause-entry c f among line is =
     let words = c.in_ok-words.ensures.words f among line (stored_words f.kind is) in
     let at : c.deref.result.now ≡ c.in_ok-words.words.items = c.deref.ensures.value in
     tells_entry (view c.read_region.new.pass) f c.in_ok-words.words.items
-        (c.read_region.ensures.extends.learns.found f among) is words c.in_ok-lane.field-0.lane
-            c.in_ok-lane.field-0.form c.in_ok-lane.field-0.payload
+    (c.read_region.ensures.extends.learns.found f among) is words c.in_ok-lane.field-0.lane
+    c.in_ok-lane.field-0.form c.in_ok-lane.field-0.payload
     (λ q b. c.in_ok-lane.ensures.lane q (subst (IsBody q) (sym at) b))
-        (λ q b. c.in_ok-lane.ensures.form q (subst (IsBody q) (sym at) b))
-        (λ q b. c.in_ok-lane.ensures.payload q (subst (IsBody q) (sym at) b))
+    (λ q b. c.in_ok-lane.ensures.form q (subst (IsBody q) (sym at) b))
+    (λ q b. c.in_ok-lane.ensures.payload q (subst (IsBody q) (sym at) b))

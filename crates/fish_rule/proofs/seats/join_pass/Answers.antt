@@ -1,3 +1,4 @@
+-- What a join needs of the table, and what it tells.
 use Rattle.std.proofs.Common.{◌≡◌, ℕ, ◌<◌, sym, ap, ◌∙◌, subst, arith, Bool}
 use Rattle.fish_rule.proofs.Allowed.{end_allowed}
 use Rattle.fish_rule.proofs.Standing.{joins}
@@ -30,7 +31,7 @@ load-requires c =
     let log = c.args.log.now in
     let seat = c.join_seat.new.seat in
     let about : seat.me.0.about ≡ log.key = ap (λ (z : Sat). z.0.about) c.join_seat.ensures.2
-        ∙ c.requires.main.about in (
+    ∙ c.requires.main.about in (
       c.join_seat.ensures.0 ∙ c.requires.main.table,
       subst (λ (z : ℕ). 0 < z) (sym log.wide) (omega arith),
       end_allowed log.table.shared.key log.key log.keyed log.table.shared.table_id.slots seat.id seat.me about,
@@ -42,26 +43,30 @@ joined : (k : Key) (v u : View) (m n : Sat) (st : Step Bool) (x : ℕ) → v.abo
 joined k v u m n st x here there both end =
     joined_learns v u m.0 n.0 x (here ∙ sym there) both end.told.view end.counted
 
+-- what the control pass knew, where the other may have shut it
 pub returns-then-is_none-clause-learns : goal.returns-then-is_none-clause-learns
 returns-then-is_none-clause-learns c =
     (joined _ c.args.main.now.seat.me.0 c.args.other.seat.me.0 c.join_seat.new.seat.me c.load.new.seat.me _
-        c.load.result c.requires.main.about c.requires.other.about
-        (ap (λ (z : Sat). z.0) c.join_seat.ensures.2) c.load.ensures.2).0
+    c.load.result c.requires.main.about c.requires.other.about
+    (ap (λ (z : Sat). z.0) c.join_seat.ensures.2) c.load.ensures.2).0
 
+-- what the other pass knew
 pub returns-then-is_none-clause-learned : goal.returns-then-is_none-clause-learned
 returns-then-is_none-clause-learned c =
     (joined _ c.args.main.now.seat.me.0 c.args.other.seat.me.0 c.join_seat.new.seat.me c.load.new.seat.me _
-        c.load.result c.requires.main.about c.requires.other.about
-        (ap (λ (z : Sat). z.0) c.join_seat.ensures.2) c.load.ensures.2).1
+    c.load.result c.requires.main.about c.requires.other.about
+    (ap (λ (z : Sat). z.0) c.join_seat.ensures.2) c.load.ensures.2).1
 
+-- what the control pass knew, where it was shut
 pub returns-else-is_none-clause-learns : goal.returns-else-is_none-clause-learns
 returns-else-is_none-clause-learns c =
     (joined _ c.args.main.now.seat.me.0 c.args.other.seat.me.0 c.join_seat.new.seat.me c.load.new.seat.me _
-        c.load.result c.requires.main.about c.requires.other.about
-        (ap (λ (z : Sat). z.0) c.join_seat.ensures.2) c.load.ensures.2).0
+    c.load.result c.requires.main.about c.requires.other.about
+    (ap (λ (z : Sat). z.0) c.join_seat.ensures.2) c.load.ensures.2).0
 
+-- what the other pass knew
 pub returns-else-is_none-clause-learned : goal.returns-else-is_none-clause-learned
 returns-else-is_none-clause-learned c =
     (joined _ c.args.main.now.seat.me.0 c.args.other.seat.me.0 c.join_seat.new.seat.me c.load.new.seat.me _
-        c.load.result c.requires.main.about c.requires.other.about
-        (ap (λ (z : Sat). z.0) c.join_seat.ensures.2) c.load.ensures.2).1
+    c.load.result c.requires.main.about c.requires.other.about
+    (ap (λ (z : Sat). z.0) c.join_seat.ensures.2) c.load.ensures.2).1

@@ -3,9 +3,11 @@ use Rattle.std.proofs.Common.{◌≡◌, ℕ, max, sym, ap, ◌∙◌, subst, ar
 use Rattle.fish_rule.specs.Passes.{view}
 use Rattle.fish_rule.specs.declared.view.Key.{Key}
 use Rattle.fish_walk.specs.Settling.{AreSettled, IsEnd, IsMark}
-use Rattle.fish_walk.proofs.Settling.{alone_still, can_raise, counted_here, settles_all, stops_below, stops_here}
+use Rattle.fish_walk.proofs.Looking.{stops_below}
+use Rattle.fish_walk.proofs.Settling.{alone_still, can_raise, counted_here, settles_all, stops_here}
 use Rattle.fish_walk.proofs.prefix.settle.Goals as goal
 
+-- below the number all is known: before the first look by the load, behind it by the looks
 pub raise_to-requires-clause-can : goal.raise_to-requires-clause-can
 raise_to-requires-clause-can c =
     let t = c.count_now-count.ensures.view in
@@ -14,44 +16,48 @@ raise_to-requires-clause-can c =
     let within = stops_below IsEnd _ _ c.settled_up_to-settled.result c.count_now-count.result s.stops in
     let from : c.from.result ≡ c.settled_up_to-settled.result = c.from.ensures in
     let base : c.base.result.number ≡ (view c.args.pass.now).about.number = c.base.ensures.0
-        ∙ sym (ap (λ (z : Key). z.number) c.requires.pass.about) in
+    ∙ sym (ap (λ (z : Key). z.number) c.requires.pass.about) in
     can_raise (view c.args.pass.now) (view known.new.pass) (view c.count_now-count.new.pass) _ known.result t.0
-        c.max-first.result c.from.result c.count_now-count.result known.ensures.view t.1 s.looked c.requires.live
-        (c.max-first.ensures ∙ ap (λ (z : ℕ). max z known.result) base)
-        (subst (AreSettled (view c.settled_up_to-settled.new.pass) c.max-first.result) (sym from) s.settled)
-        (omega arith) t.2
+    c.max-first.result c.from.result c.count_now-count.result known.ensures.view t.1 s.looked c.requires.live
+    (c.max-first.ensures ∙ ap (λ (z : ℕ). max z known.result) base)
+    (subst (AreSettled (view c.settled_up_to-settled.new.pass) c.max-first.result) (sym from) s.settled)
+    (omega arith) t.2
 
+-- each part of the call only learns
 pub returns-clause-settles : goal.returns-clause-settles
 returns-clause-settles c =
     let t = c.count_now-count.ensures.view in
     let known = c.load_settled-known in
     settles_all _ (view known.new.pass) _ (view c.settled_up_to-settled.new.pass) _ known.result t.0 c.from.result
-        known.ensures.view t.1 c.settled_up_to-settled.ensures.looked c.raise_to.ensures.raised known.ensures.rises
-        c.count_now-count.result t.2 c.count_now-count.ensures.counted
+    known.ensures.view t.1 c.settled_up_to-settled.ensures.looked c.raise_to.ensures.raised known.ensures.rises
+    c.count_now-count.result t.2 c.count_now-count.ensures.counted
 
+-- the count is the one that the second load told
 pub returns-clause-count : goal.returns-clause-count
 returns-clause-count c =
     let t = c.count_now-count.ensures.view in
     let known = c.load_settled-known in
     counted_here _ (view known.new.pass) _ (view c.settled_up_to-settled.new.pass) _ known.result t.0 c.from.result
-        known.ensures.view t.1 c.settled_up_to-settled.ensures.looked c.raise_to.ensures.raised
-        c.count_now-count.result t.2
+    known.ensures.view t.1 c.settled_up_to-settled.ensures.looked c.raise_to.ensures.raised
+    c.count_now-count.result t.2
 
+-- the looks stopped there
 pub returns-clause-stops : goal.returns-clause-stops
 returns-clause-stops c =
     let t = c.count_now-count.ensures.view in
     let known = c.load_settled-known in
     stops_here _ (view known.new.pass) _ (view c.settled_up_to-settled.new.pass) _ known.result t.0 c.from.result
-        known.ensures.view t.1 c.settled_up_to-settled.ensures.looked c.raise_to.ensures.raised
-        IsEnd c.settled_up_to-settled.result c.count_now-count.result c.settled_up_to-settled.ensures.stops
+    known.ensures.view t.1 c.settled_up_to-settled.ensures.looked c.raise_to.ensures.raised
+    IsEnd c.settled_up_to-settled.result c.count_now-count.result c.settled_up_to-settled.ensures.stops
 
+-- and a pass that is alone stops at marks only
 pub returns-clause-alone : goal.returns-clause-alone
 returns-clause-alone c alone =
     let t = c.count_now-count.ensures.view in
     let known = c.load_settled-known in
     let s = c.settled_up_to-settled.ensures in
     let still = alone_still _ (view known.new.pass) _ (view c.settled_up_to-settled.new.pass) _ known.result t.0
-        c.from.result known.ensures.view t.1 s.looked c.raise_to.ensures.raised alone in
+    c.from.result known.ensures.view t.1 s.looked c.raise_to.ensures.raised alone in
     stops_here _ (view known.new.pass) _ (view c.settled_up_to-settled.new.pass) _ known.result t.0 c.from.result
-        known.ensures.view t.1 s.looked c.raise_to.ensures.raised
-        IsMark c.settled_up_to-settled.result c.count_now-count.result (s.alone still)
+    known.ensures.view t.1 s.looked c.raise_to.ensures.raised
+    IsMark c.settled_up_to-settled.result c.count_now-count.result (s.alone still)

@@ -8,4 +8,4 @@ pub read_entry-requires-clause-stored : goal.read_entry-requires-clause-stored
 read_entry-requires-clause-stored g c =
     let told = c.look.ensures.view in
     stored_law (view c.count_now-count.new.pass) (view c.look.new.pass) c.args.number told.0 told.1 told.2
-        (sym c.in-Stored.is ∙ told.3)
+    (sym c.in-Stored.is ∙ told.3)
