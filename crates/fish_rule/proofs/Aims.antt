@@ -58,7 +58,7 @@ module _ (k : Key) (w : World) (r : Rule k w) (id : ℕ) (v : View) (at : get_el
       let more = can.more in
       let e : 1 + 3 * f.linked ≡ f.linked * 3 + 1 = omega arith in
       subst (λ (z : ℕ → ℕ). IsKeyWord (keys_of (z 0)) (entry_at f.linked)) (sym own_body)
-          (omega arith, ap (λ (z : ℕ). z % 3) e ∙ mod-mul-add f.linked 3 1 (omega arith))
+      (omega arith, ap (λ (z : ℕ). z % 3) e ∙ mod-mul-add f.linked 3 1 (omega arith))
 
   module _ (x : ℕ) where
     -- one word is another
@@ -102,9 +102,9 @@ module _ (k : Key) (w : World) (r : Rule k w) (id : ℕ) (v : View) (at : get_el
       let lines = own.lines in
       let room = own_room in
       let from = starts_above k w.count w.line r.start r.space.regions f.number own.above
-          (let b = own.below in omega arith) in
+      (let b = own.below in omega arith) in
       let end : f.line + f.lines ≤ v.about.end =
-          kind-inside v.about.end f.line (f.line + f.lines) (λ e. let q : Stored ≡ Mark = sym can.kind ∙ e in cc) in
+      kind-inside v.about.end f.line (f.line + f.lines) (λ e. let q : Stored ≡ Mark = sym can.kind ∙ e in cc) in
       let about : v.about ≡ k = r.about id v at own.live in
       let end' : f.line + f.lines ≤ k.end = subst (λ (z : Key). f.line + f.lines ≤ z.end) about end in
       (omega arith, omega arith)

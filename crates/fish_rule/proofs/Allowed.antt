@@ -49,8 +49,12 @@ allowed given k same size id me i f then owes =
 -- a view stands where the rule holds and it is there
 pub stands : (k : Key) (u : World) (id : ℕ) (v : View) → Rule k u → v.about ≡ k → get_elem? u.views id ≡ some v
     → Stands v
-stands k u id v r about at = record { moment = u; rule = subst (λ (z : Key). Rule z u) (sym about) r;
-    seat = id; at = at }
+stands k u id v r about at = record {
+  moment = u;
+  rule = subst (λ (z : Key). Rule z u) (sym about) r;
+  seat = id;
+  at = at;
+}
 
 -- the new view is there
 pub there : (vs : List View) (id : ℕ) (v v' : View) → get_elem? vs id ≡ some v → get_elem? (set vs id v') id ≡ some v'
@@ -76,15 +80,18 @@ claim_allowed given k same size id me x m about can some_lines few is =
     let parts : low found + high found * 68719476736 ≡ found = tail_is found in
     let v' : View = after_claim me.0 m w.count w.line in
     let sum : (found + x) % 2 ^ 64 ≡ (w.line + m) + suc w.count * 68719476736 =
-        Rattle.std.proofs.Math.Nat.mod-eq_of_lt (omega arith) ∙ (omega arith) in
+    Rattle.std.proofs.Math.Nat.mod-eq_of_lt (omega arith) ∙ (omega arith) in
     let new : ℕ = (found + x) % 2 ^ 64 in
     let count : high new ≡ suc w.count = ap high sum ∙ high-pack (suc w.count) (w.line + m) (omega arith) in
     let line : low new ≡ w.line + m = ap low sum ∙ low-pack (suc w.count) (w.line + m) (omega arith) in
     let kept = claim_kept k w r id me.0 at m can some_lines few in
-    let moved : world k (set ws 0 new) (set vs id v') ≡ record w { count = suc w.count; line = w.line + m;
-        views = set vs id v' } =
+    let moved : world k (set ws 0 new) (set vs id v') ≡ record w {
+      count = suc w.count;
+      line = w.line + m;
+      views = set vs id v';
+    } =
     world-tail k ws vs (set vs id v') new (omega arith)
-        ∙ (λ j. record w { count = count j; line = line j; views = set vs id v' }) in
+    ∙ (λ j. record w { count = count j; line = line j; views = set vs id v' }) in
     let lines : x - 68719476736 ≡ m = omega arith in (
       v',
       subst (Rule k) (sym moved) kept,
@@ -109,7 +116,7 @@ store_allowed given k same size id me f i x about can is =
     let own = flight_is k w r id me.0 at f can.flying in
     let p : ℕ = stored_place k w r id me.0 at f can x in
     let from = starts_above k w.count w.line r.start r.space.regions f.number own.above
-        (let b = own.below in omega arith) in
+    (let b = own.below in omega arith) in
     let line = own.line in
     let more = can.more in
     let end : f.line + f.lines ≤ k.end = subst (λ (z : Key). f.line + f.lines ≤ z.end) about can.within in
@@ -143,14 +150,16 @@ publish_allowed given k same size id me f i x about can is word =
     let below = own.below in
     let room = few_slots k w r in
     let ends : kind_of k.end f.line (f.line + f.lines) ≡ flight_kind me.0 f =
-        ap (λ (z : Key). kind_of z.end f.line (f.line + f.lines)) (sym about) in
+    ap (λ (z : Key). kind_of z.end f.line (f.line + f.lines)) (sym about) in
     let ready : IsReady k (flight_kind me.0 f) me.0.lane f =
-        subst (λ (z : Key). IsReady z (flight_kind me.0 f) me.0.lane f) about can.ready in
+    subst (λ (z : Key). IsReady z (flight_kind me.0 f) me.0.lane f) about can.ready in
     let kept' = publish_kept k w r id me.0 at f can.live can.flying (flight_kind me.0 f) ends ready in
     let kept : Rule k (record w { dir = put w.dir f.number x; views = set vs id v' }) =
-    subst (λ (z : ℕ × Key). Rule k (record w { dir = put w.dir f.number z.0;
-        views = set vs id (Rattle.fish_rule.proofs.Flights.publisher_at me.0 f z.1) }))
-        (λ j. (sym word j, sym about j)) kept' in
+    subst (λ (z : ℕ × Key). Rule k (record w {
+      dir = put w.dir f.number z.0;
+      views = set vs id (Rattle.fish_rule.proofs.Flights.publisher_at me.0 f z.1);
+    }))
+    (λ j. (sym word j, sym about j)) kept' in
     let moved = world-dir k ws vs (set vs id v') f.number i x above (omega arith) is wide in (
       v',
       subst (Rule k) (sym moved) kept,
@@ -179,7 +188,7 @@ look_allowed given k same size id me n i about can is =
     let above : k.number ≤ n = subst (λ (z : Key). z.number ≤ n) about can.above in
     let room = few_slots k w r in
     let word : x ≡ w.dir n = ap (λ (z : ℕ). get_or ws z 0) is
-        ∙ sym (area-in ws (dir_at k) k.number (slots k) n above (omega arith)) in
+    ∙ sym (area-in ws (dir_at k) k.number (slots k) n above (omega arith)) in
     let lines : ℕ = lines_at k w r id me.0 at n in
     let v' : View = after_look me.0 n lines x in
     let kept = look_kept k w r id me.0 at n x can about word in

@@ -136,7 +136,7 @@ module _ (k : Key) (fits : Fits k) where
   none_linked b p h = ⊎_elim
       (λ (s : IsStoredAt k w.dir h.line). absurd (published 0 Stored s.stored refl))
       (λ (l : IsLinking h.line h.entry w.views). subst (λ (z : View). LinksAt h.line h.entry z.flight)
-          (sym (at_one (first_view k) l.view l.seat l.at).1) l.links) h.shows
+      (sym (at_one (first_view k) l.view l.seat l.at).1) l.links) h.shows
 
   -- the rule holds
   pub empty_rule : Rule k w
@@ -154,24 +154,37 @@ module _ (k : Key) (fits : Fits k) where
     space = space;
     limit = limit;
     settling = record { within = omega arith; below = λ n above below. absurd (omega arith) };
-    chains = λ b. record { some = inl refl; highest = λ p h. absurd (none_linked b p h);
-        next = λ p h. absurd (none_linked b p h) };
+    chains = λ b. record {
+      some = inl refl;
+      highest = λ p h. absurd (none_linked b p h);
+      next = λ p h. absurd (none_linked b p h);
+    };
     chained = each_one (λ v. Chained k w.dir w.log w.views w.head v.learned) (first_view k)
         (record { nodes = tt; lows = tt; tops = tt });
     floors = each_one (λ v. v.learned.settled ≤ 0) (first_view k) (omega arith);
     own = each_one (λ v. Owns k w.count w.dir lane_of v.lane v.out v.own) (first_view k)
-        (record { sound = λ o m. elim m [ ];
-            complete = λ o has stored. absurd (none o.number stored.above stored.below) });
+        (record {
+          sound = λ o m. elim m [ ];
+          complete = λ o has stored. absurd (none o.number stored.above stored.below);
+        });
     facts = each_one (λ v. Facts k w.count w.dir w.log start v.learned) (first_view k)
-        (record { counted = omega arith; found = tt; known = tt; records = tt;
-        gaps = tt; labels = tt });
+        (record {
+          counted = omega arith;
+          found = tt;
+          known = tt;
+          records = tt;
+          gaps = tt;
+          labels = tt;
+        });
     shuts = each_one (λ v. ShutOk k w.count w.dir start v.shut) (first_view k) tt;
   }
 
 -- the table of an empty log meets the rule
 pub begins : (k : Key) → Fits k → (ws : List ℕ) → IsEmpty k ws → Ruled k (opening ws [] (first_view k))
-begins k fits ws empty = record { wide = empty.wide;
-    rule = subst (Rule k) (sym (empty_words k ws fits empty)) (empty_rule k fits) }
+begins k fits ws empty = record {
+  wide = empty.wide;
+  rule = subst (Rule k) (sym (empty_words k ws fits empty)) (empty_rule k fits);
+}
 
 -- the first pass's view stands
 pub first_stands : (k : Key) → Fits k → (ws : List ℕ) → IsEmpty k ws → Stands (first_view k)

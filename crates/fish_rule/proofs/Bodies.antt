@@ -109,14 +109,14 @@ pub body_stored : (k : Key) (log : ℕ → ℕ) (words : List ℕ) (lane number 
     → IsRecord k lane number lines (body_of words) → length words ≡ lines * 4 → 1 ≤ lines
     → linked ≤ keys_of (body_of words 0)
     → ((i : ℕ) → i < length words → ¬ IsLinkedWord linked i → log (line * 4 + i) ≡ get_or words i 0)
-        → body log line ≡ body_of words
+    → body log line ≡ body_of words
 body_stored k log words lane number lines line linked is full some few written =
     let f : ℕ → ℕ = λ i. get_or words i 0 in
     let head : body_of words 0 ≡ f 0 = cleared_head f in
     let lined : lines_of (f 0) ≡ lines = ap lines_of (sym head) ∙ spelled_lines is.1.spells ∙ is.1.lines_is in
     let keys : keys_of (body_of words 0) ≡ keys_of (f 0) = ap keys_of head in
     cleared_same f (λ i. log (line * 4 + i))
-        (λ i within plain. written i (omega arith) (λ h. plain (linked-key (keys_of (f 0)) linked i (omega arith) h)))
+    (λ i within plain. written i (omega arith) (λ h. plain (linked-key (keys_of (f 0)) linked i (omega arith) h)))
 
 -- a region whose header is a void's and whose other words are 0 has the body of a void
 pub body_void : (log : ℕ → ℕ) (lines line : ℕ) → 1 ≤ lines → lines < 65536
@@ -141,7 +141,7 @@ body_void log lines line some few header zeros = λ j i. each i (ℕ_discrete i 
         let q = keys in
         let l = lined in
         cleared_at f i within (λ h. let b : i ≤ 3 * keys_of (f 0) = h.0 in ne (omega arith))
-            ∙ zeros i (omega arith) (omega arith) ∙ sym (choose_second (ℕ_discrete i 0) (void_word lines) 0 ne)
+        ∙ zeros i (omega arith) (omega arith) ∙ sym (choose_second (ℕ_discrete i 0) (void_word lines) 0 ne)
     each i (no ne) (no past) = cleared_behind f i (omega arith)
         ∙ sym (choose_second (ℕ_discrete i 0) (void_word lines) 0 ne)
 

@@ -89,6 +89,6 @@ flight_behind k w r lane f own from = pick (dec_lt f.number w.settled)
     pick (no behind) =
         let below = own.below in
         let rises = starts_rise k w.count w.line r.start r.space.regions w.settled f.number from (omega arith)
-            (omega arith) in
+        (omega arith) in
         let line = own.line in
         omega arith

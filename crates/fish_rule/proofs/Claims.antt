@@ -140,8 +140,10 @@ module _ (k : Key) (w : World) (r : Rule k w) (id : ℕ) (v : View) (at : get_el
     alone = λ i j a b n at_i at_j p q. (pairs_set
         (λ i j a b. IsFlightOf n a.flight → IsFlightOf n b.flight → i ≡ j) w.views id claimer
         (λ i p q. refl)
-        (λ j u ne at_u. ((λ p q. clash n u (r.space.flights j u at_u) p q),
-            (λ p q. clash n u (r.space.flights j u at_u) q p)))
+        (λ j u ne at_u. (
+          (λ p q. clash n u (r.space.flights j u at_u) p q),
+          (λ p q. clash n u (r.space.flights j u at_u) q p),
+        ))
         (λ i j a b _ _ at_a at_b p q. r.space.alone i j a b n at_a at_b p q) i j a b at_i at_j) p q;
     dir_below = r.space.dir_below;
     dir_beyond = λ n more. r.space.dir_beyond n (omega arith);
@@ -157,8 +159,12 @@ module _ (k : Key) (w : World) (r : Rule k w) (id : ℕ) (v : View) (at : get_el
 
       fly : (n : ℕ) → k.number ≤ n → n < suc w.count → w.dir n ≡ 0 → Dec (n ≡ w.count)
           → HasFlight n (set w.views id claimer)
-      fly n above below unset (yes e) = record { seat = id; view = claimer;
-          at = set_here w.views id claimer (within_list w.views id v at); flies = sym e }
+      fly n above below unset (yes e) = record {
+        seat = id;
+        view = claimer;
+        at = set_here w.views id claimer (within_list w.views id v at);
+        flies = sym e;
+      }
       fly n above below unset (no ne) = flight_there w.views id v claimer at n
           (λ h. absurd (no_flight n v.flight can.idle h)) (r.space.flying n above (omega arith) unset)
 
@@ -248,9 +254,9 @@ module _ (k : Key) (w : World) (r : Rule k w) (id : ℕ) (v : View) (at : get_el
         chains = chains_set k w r id v claimer at none_linked (λ a c h. let less : c < 0 = h.0 in absurd (omega arith));
         own = each_set _ w.views id claimer
             (λ j u ne at_u. owns_later k w claimed r.start start' r.lane_of lane_of' claim_final u.lane u.out u.own
-                (r.own j u at_u) (λ o has h. stored_old o.lane o.number h))
+            (r.own j u at_u) (λ o has h. stored_old o.lane o.number h))
             (owns_later k w claimed r.start start' r.lane_of lane_of' claim_final v.lane v.out v.own
-                (r.own id v at) (λ o has h. stored_old o.lane o.number h));
+            (r.own id v at) (λ o has h. stored_old o.lane o.number h));
         facts = each_set _ w.views id claimer
             (λ j u ne at_u. facts_later k w claimed r.start start' r.lane_of lane_of' claim_final u.learned
             (r.facts j u at_u))

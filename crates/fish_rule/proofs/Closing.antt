@@ -55,7 +55,7 @@ told_more v u base entries e learns told next i x at =
     pick : Dec (i ≡ length entries) → Tells u (base + i) x
     pick (yes same) =
         let here : e ≡ x = mathlib.Core.Option.some-injective e x
-            (sym last ∙ ap (get_elem? (entries ++ e ∷ [])) (sym same) ∙ at) in
+        (sym last ∙ ap (get_elem? (entries ++ e ∷ [])) (sym same) ∙ at) in
         subst (λ (z : ℕ × Entry). Tells u (base + z.0) z.1) (λ d. (sym same d, here d)) next
     pick (no ne) = tells_later v u (base + i) x learns (told i x (before entries i x ne at))
       where
@@ -124,13 +124,13 @@ tells_mark v f among is u learns w r j at = found_kind v f among u learns w r j 
 pub closes : (v : View) (entries : List Entry) (x : ℕ) → Stands v → IsAlone v
     → v.tail ≡ Some (record { number = high x; line = low x }) → AreTold v v.about.number entries
     → (v.about.number + length entries ≡ high x)
-        ⊎ ((v.about.number + length entries ≤ high x) × TellsMark v (v.about.number + length entries))
-        → IsClosed v entries
+    ⊎ ((v.about.number + length entries ≤ high x) × TellsMark v (v.about.number + length entries))
+    → IsClosed v entries
 closes v entries x s alone tail told end =
     let w : World = s.moment in
     let r = s.rule in
     let rests : Rests w.count w.line (Some (record { number = high x; line = low x })) =
-        subst (Rests w.count w.line) tail (r.tails s.seat v s.at alone.main alone.all) in
+    subst (Rests w.count w.line) tail (r.tails s.seat v s.at alone.main alone.all) in
     let count : high x ≡ w.count = rests.0 in
     record {
       moment = w;
@@ -142,7 +142,7 @@ closes v entries x s alone tail told end =
             × TellsMark v (v.about.number + length entries)). let le = h.0 in omega arith) end;
         ends = ⊎_elim (λ (h : v.about.number + length entries ≡ high x). inl (h ∙ count))
             (λ (h : (v.about.number + length entries ≤ high x)
-                × TellsMark v (v.about.number + length entries)). inr (h.1 v (learns_self v) w r s.seat s.at)) end;
+            × TellsMark v (v.about.number + length entries)). inr (h.1 v (learns_self v) w r s.seat s.at)) end;
       };
       owns = r.own s.seat v s.at;
       facts = r.facts s.seat v s.at;
@@ -155,7 +155,7 @@ tail_behind v x s alone tail =
     let w : World = s.moment in
     let r = s.rule in
     let rests : Rests w.count w.line (Some (record { number = high x; line = low x })) =
-        subst (Rests w.count w.line) tail (r.tails s.seat v s.at alone.main alone.all) in
+    subst (Rests w.count w.line) tail (r.tails s.seat v s.at alone.main alone.all) in
     let some_ = r.space.regions.some in
     let count : high x ≡ w.count = rests.0 in
     omega arith
@@ -166,10 +166,10 @@ pub closed_before : (v u : View) (entries : List Entry) → Learns v u → u.lan
 closed_before v u entries learns lane out own h =
     let w : World = h.moment in
     let owns = subst (λ (z : ℕ × List ℕ × List Own). Owns u.about w.count w.dir h.rule.lane_of z.0 z.1 z.2)
-        (λ i. (lane i, out i, own i)) h.owns in
+    (λ i. (lane i, out i, own i)) h.owns in
     let facts = facts_back v u u.about w.count w.dir w.log h.rule.start learns h.facts in
     subst (λ (z : Key). IsClosedAt z v.lane v.out v.own v.learned entries) learns.about
-        (record { moment = w; rule = h.rule; log = h.log; owns = owns; facts = facts })
+    (record { moment = w; rule = h.rule; log = h.log; owns = owns; facts = facts })
 
 -- a pass that only learns stays alone
 pub alone_later : (v u : View) → Extends v u → IsAlone v → IsAlone u

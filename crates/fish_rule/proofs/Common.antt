@@ -17,7 +17,7 @@ pub each_set : (P : View → Type 0) (vs : List View) (id : ℕ) (v' : View)
     → Each P (set vs id v')
 each_set P vs id v' others mine j u at =
     ⊎_elim (λ (t : (j ≡ id) × (v' ≡ u)). subst P t.1 mine)
-        (λ (t : (j ≢ id) × (get_elem? vs j ≡ some u)). others j u t.0 t.1) (at_set vs id j v' u at)
+    (λ (t : (j ≢ id) × (get_elem? vs j ≡ some u)). others j u t.0 t.1) (at_set vs id j v' u at)
 
 -- the same of pairs, where the fact is symmetric enough to be shown from each side
 pub pairs_set : (Q : ℕ → ℕ → View → View → Type 0) (vs : List View) (id : ℕ) (v' : View) → ((i : ℕ) → Q i i v' v')
@@ -28,9 +28,9 @@ pairs_set Q vs id v' same one both i j v u at_i at_j =
     ⊎_elim
     (λ (s : (i ≡ id) × (v' ≡ v)). ⊎_elim
     (λ (t : (j ≡ id) × (v' ≡ u)). subst (λ (z : ℕ × ℕ × View × View). Q z.0 z.1 z.2 z.3)
-        (λ d. (sym s.0 d, sym t.0 d, s.1 d, t.1 d)) (same id))
+    (λ d. (sym s.0 d, sym t.0 d, s.1 d, t.1 d)) (same id))
     (λ (t : (j ≢ id) × (get_elem? vs j ≡ some u)). subst (λ (z : ℕ × View). Q z.0 j z.1 u)
-        (λ d. (sym s.0 d, s.1 d)) (one j u t.0 t.1).0)
+    (λ d. (sym s.0 d, s.1 d)) (one j u t.0 t.1).0)
     (at_set vs id j v' u at_j))
     (λ (s : (i ≢ id) × (get_elem? vs i ≡ some v)). ⊎_elim
     (λ (t : (j ≡ id) × (v' ≡ u)). subst (λ (z : ℕ × View). Q i z.0 v z.1) (λ d. (sym t.0 d, t.1 d)) (one i v s.0 s.1).1)
@@ -63,8 +63,10 @@ seats_kept vs id v v' at lane out seats = record {
   apart = λ i j a b l at_i at_j has_a has_b.
       (pairs_set (λ i j a b. Has a.lane a.out l → Has b.lane b.out l → i ≡ j) vs id v'
       (λ i p q. refl)
-      (λ j u ne at_u. ((λ p q. seats.apart id j v u l at at_u (back l p) q),
-          (λ p q. seats.apart j id u v l at_u at p (back l q))))
+      (λ j u ne at_u. (
+        (λ p q. seats.apart id j v u l at at_u (back l p) q),
+        (λ p q. seats.apart j id u v l at_u at p (back l q)),
+      ))
       (λ i j a b _ _ at_a at_b p q. seats.apart i j a b l at_a at_b p q) i j a b at_i at_j) has_a has_b;
   few = each_set (λ u. u.lane ≤ 16) vs id v' (λ j u ne at_u. seats.few j u at_u)
       (subst (λ (z : ℕ). z ≤ 16) (sym lane) (seats.few id v at));

@@ -24,9 +24,10 @@ bool_send = search (sendable, crosses) depth 20
 
 -- so a log's fields may be shared
 log_field_sync : IsSync log_field.row
-log_field_sync = struct_sync (shape log_type)
-    (table_sync bool view_row key_row rule_row heap_row rule_ghosts heap_ghosts bool_send heap_send heap_sync (record { frees = frees.frees }),
-    (key_sync, (shape_sync, tt)))
+log_field_sync = struct_sync (shape log_type) (
+  table_sync bool view_row key_row rule_row heap_row rule_ghosts heap_ghosts bool_send heap_send heap_sync (record { frees = frees.frees }),
+  (key_sync, (shape_sync, tt)),
+)
 
 -- and the log
 pub log_sync : IsSync log_row

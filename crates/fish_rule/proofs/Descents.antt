@@ -1,19 +1,14 @@
 -- Views that learn on the way down a chain, and what their owner may conclude at once.
-use Rattle.std.proofs.Common.{◌≡◌, ◌≢◌, ℕ, ◌+◌, ◌*◌, ◌<◌, ◌≤◌, zero, suc, List, sym, refl, ap, ◌∙◌, subst}
+use Rattle.std.proofs.Common.{◌≡◌, ℕ, ◌*◌, ◌<◌, ◌≤◌, zero, suc, List, sym, refl, ap, ◌∙◌}
 use Rattle.std.proofs.Common.{◌⊎◌, inl, inr, arith}
-use mathlib.Core.Option.{some}
-use Rattle.std.proofs.Math.ListN.{get_elem?}
 use Rattle.fish_rule.proofs.Bodies.{kind-inside}
 use Rattle.fish_rule.proofs.Kept.{published}
-use Rattle.fish_rule.proofs.Spots.{lies_inside, spot}
 use Rattle.fish_rule.proofs.Walking.{claimed_there, gap_clear, within_region}
 use Rattle.fish_rule.specs.Linking.{HasNode, after_head, after_node, after_previous, gap, with_node}
-use Rattle.fish_rule.specs.Logs.{Extends, Learns}
+use Rattle.fish_rule.specs.Logs.{Extends}
 use Rattle.fish_rule.specs.Regions.{code}
-use Rattle.fish_rule.specs.Rule.{Rule}
 use Rattle.fish_rule.specs.Views.{Among}
 use Rattle.fish_rule.specs.Walking.{Always, IsClear, IsEntryIn}
-use Rattle.fish_rule.specs.World.{World}
 use Rattle.fish_rule.specs.declared.view.Key.{Key}
 use Rattle.fish_rule.specs.declared.view.Kind.TheVariants.{Mark, Stored}
 use Rattle.fish_rule.specs.declared.view.Node.{Node}
@@ -34,8 +29,16 @@ node_here b (suc x) nodes = inr (inl refl)
 -- a head that is seen extends a view
 pub extends_head : (v : View) (b x : ℕ) → Extends v (after_head v b x)
 extends_head v b x = record {
-  learns = record { about = refl; count = omega arith; found = λ x m. m; known = λ x m. m; records = λ x m. m;
-      nodes = nodes_stay b x v.learned.nodes; gaps = λ x m. inr m; labels = λ x m. m };
+  learns = record {
+    about = refl;
+    count = omega arith;
+    found = λ x m. m;
+    known = λ x m. m;
+    records = λ x m. m;
+    nodes = nodes_stay b x v.learned.nodes;
+    gaps = λ x m. inr m;
+    labels = λ x m. m;
+  };
   lane = refl;
   out = refl;
   shut = refl;
@@ -47,8 +50,16 @@ extends_head v b x = record {
 -- so does a first word
 pub extends_previous : (v : View) (b p x : ℕ) → Extends v (after_previous v b p x)
 extends_previous v b p x = record {
-  learns = record { about = refl; count = omega arith; found = λ x m. m; known = λ x m. m; records = λ x m. m;
-      nodes = nodes_stay b x v.learned.nodes; gaps = λ x m. inr m; labels = λ x m. m };
+  learns = record {
+    about = refl;
+    count = omega arith;
+    found = λ x m. m;
+    known = λ x m. m;
+    records = λ x m. m;
+    nodes = nodes_stay b x v.learned.nodes;
+    gaps = λ x m. inr m;
+    labels = λ x m. m;
+  };
   lane = refl;
   out = refl;
   shut = refl;
@@ -60,8 +71,16 @@ extends_previous v b p x = record {
 -- and a second word
 pub extends_node : (v : View) (p x : ℕ) → Extends v (after_node v p x)
 extends_node v p x = record {
-  learns = record { about = refl; count = omega arith; found = λ x m. m; known = λ x m. m; records = λ x m. m;
-      nodes = λ x m. m; gaps = λ x m. m; labels = λ x m. inr m };
+  learns = record {
+    about = refl;
+    count = omega arith;
+    found = λ x m. m;
+    known = λ x m. m;
+    records = λ x m. m;
+    nodes = λ x m. m;
+    gaps = λ x m. m;
+    labels = λ x m. inr m;
+  };
   lane = refl;
   out = refl;
   shut = refl;
@@ -101,5 +120,5 @@ entries_within v u learns w r seat at b n c p h =
     let set_ = published (w.dir n) Stored h.stored in
     let finished = r.space.finished n h.above below set_ in
     let end = kind-inside k.end (r.start n) (r.start (suc n))
-        (λ e. let q : code Stored ≡ code Mark = sym h.stored ∙ finished.kind ∙ ap code e in cc) in
+    (λ e. let q : code Stored ≡ code Mark = sym h.stored ∙ finished.kind ∙ ap code e in cc) in
     omega arith

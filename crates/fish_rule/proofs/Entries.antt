@@ -46,8 +46,8 @@ module _ (v : View) (w : World) (r : Rule v.about w) (j : ℕ) (at : get_elem? w
   stands_there i less plain =
       let full = has.full in
       word_known v.about w r f i (get_or words i 0) found less
-          (all_among (IsKnown v.about w.count w.dir w.log r.start) _ v.learned.known (r.facts j v at).known
-          (has.read i (omega arith) plain))
+      (all_among (IsKnown v.about w.count w.dir w.log r.start) _ v.learned.known (r.facts j v at).known
+      (has.read i (omega arith) plain))
 
   head : body w.log (r.start f.number) 0 ≡ get_or words 0 0
   head = (let s = some_lines in stands_there 0 (omega arith) (head_plain (keys_of (get_or words 0 0))))
@@ -56,15 +56,15 @@ module _ (v : View) (w : World) (r : Rule v.about w) (j : ℕ) (at : get_elem? w
   pub body_read : body w.log (r.start f.number) ≡ body_of words
   body_read =
       let log_head : body w.log (r.start f.number) 0 ≡ w.log (r.start f.number * 4 + 0) =
-          cleared_head (λ i. w.log (r.start f.number * 4 + i)) in
+      cleared_head (λ i. w.log (r.start f.number * 4 + i)) in
       let same : get_or words 0 0 ≡ w.log (r.start f.number * 4 + 0) = sym head ∙ log_head in
       let lines : lines_of (w.log (r.start f.number * 4 + 0)) ≡ f.lines = ap lines_of (sym log_head)
-          ∙ lines_found v.about w r f found (stored_words f.kind is) in
+      ∙ lines_found v.about w r f found (stored_words f.kind is) in
       let lines' : lines_of (get_or words 0 0) ≡ f.lines = ap lines_of same ∙ lines in
       let some_ = some_lines in
       cleared_same (λ i. get_or words i 0) (λ i. w.log (r.start f.number * 4 + i)) (λ i within plain.
       sym (cleared_at (λ m. w.log (r.start f.number * 4 + m)) i (omega arith)
-          (subst (λ (z : ℕ). ¬ IsKeyWord (keys_of z) i) same plain)) ∙ stands_there i (omega arith) plain)
+      (subst (λ (z : ℕ). ¬ IsKeyWord (keys_of z) i) same plain)) ∙ stands_there i (omega arith) plain)
 
   -- the record there
   holds_record : (k : Key) (kind : Kind) (lane n lines : ℕ) (e : ℕ → ℕ) → kind ≡ Stored → Holds k kind lane n lines e
@@ -80,7 +80,7 @@ module _ (v : View) (w : World) (r : Rule v.about w) (j : ℕ) (at : get_elem? w
       let lines = found.lines in
       let size : r.start (suc f.number) - r.start f.number ≡ f.lines = omega arith in
       subst (λ (z : ℕ × (ℕ → ℕ)). IsRecord v.about (r.lane_of f.number) f.number z.0 z.1) (λ i. (size i, body_read i))
-          (holds_record _ _ _ f.number _ _ (t.1 ∙ is) t.0.holds)
+      (holds_record _ _ _ f.number _ _ (t.1 ∙ is) t.0.holds)
 
   -- the words are those of a record with the same parts but for the previous nodes
   pub body_there : (q : BodyParts) × IsBody q words × (unlinked q ≡ record_there.0)
@@ -112,18 +112,20 @@ module _ (v : View) (w : World) (r : Rule v.about w) (j : ℕ) (at : get_elem? w
 
 -- words that were read stay read
 pub has_later : (v u : View) (f : Found) (words : List ℕ) → Learns v u → HasWords v f words → HasWords u f words
-has_later v u f words learns has = record { full = has.full;
-    read = λ i less plain. learns.known _ (has.read i less plain) }
+has_later v u f words learns has = record {
+  full = has.full;
+  read = λ i less plain. learns.known _ (has.read i less plain);
+}
 
 -- what a view's words tell in every moment that it knows of
 pub tells_entry : (v : View) (f : Found) (words : List ℕ) → Among f v.learned.found → f.kind ≡ Stored
     → HasWords v f words → (lane : ℕ) (form : Form) (payload : List ℕ)
     → ((q : BodyParts) → IsBody q words → lane ≡ q.lane)
     → ((q : BodyParts) → IsBody q words → form ≡ q.form)
-        → ((q : BodyParts) → IsBody q words → payload ≡ q.payload) → Tells v f.number (entry.Stored lane form payload)
+    → ((q : BodyParts) → IsBody q words → payload ≡ q.payload) → Tells v f.number (entry.Stored lane form payload)
 tells_entry v f words among is has lane form payload lanes forms payloads u learns w r j at =
     entry_there u w r j at f (learns.found f among) is words
-        (has_later v u f words learns has) lane form payload lanes forms payloads
+    (has_later v u f words learns has) lane form payload lanes forms payloads
 
 -- the words of a record that was found are a record's
 pub found_body : (v : View) (f : Found) (words : List ℕ) → Stands v → Among f v.learned.found → f.kind ≡ Stored

@@ -22,16 +22,20 @@ module _ (vs : List View) (id : ℕ) (v v' : View) (at : get_elem? vs id ≡ som
       pick : Dec (h.seat ≡ id) → HasFlight n (set vs id v')
       pick (yes e) =
           let same : h.view ≡ v = one_view vs id h.view v (subst (λ (z : ℕ). get_elem? vs z ≡ some h.view) e h.at) at in
-          record { seat = id; view = v'; at = set_here vs id v' (within_list vs id v at);
-              flies = keep (subst (λ (z : View). IsFlightOf n z.flight) same h.flies) }
+          record {
+            seat = id;
+            view = v';
+            at = set_here vs id v' (within_list vs id v at);
+            flies = keep (subst (λ (z : View). IsFlightOf n z.flight) same h.flies);
+          }
       pick (no ne) = record { seat = h.seat; view = h.view; at = set_else vs id h.seat v' ne ∙ h.at; flies = h.flies }
 
   -- no two passes have one record in flight, where the stepping pass has no new one
   pub alone_kept : ((n : ℕ) → IsFlightOf n v'.flight → IsFlightOf n v.flight)
       → ((i j : ℕ) (a b : View) (n : ℕ) → get_elem? vs i ≡ some a → get_elem? vs j ≡ some b
-          → IsFlightOf n a.flight → IsFlightOf n b.flight → i ≡ j)
+      → IsFlightOf n a.flight → IsFlightOf n b.flight → i ≡ j)
       → (i j : ℕ) (a b : View) (n : ℕ) → get_elem? (set vs id v') i ≡ some a
-          → get_elem? (set vs id v') j ≡ some b → IsFlightOf n a.flight → IsFlightOf n b.flight → i ≡ j
+      → get_elem? (set vs id v') j ≡ some b → IsFlightOf n a.flight → IsFlightOf n b.flight → i ≡ j
   alone_kept back alone i j a b n at_i at_j p q =
       (pairs_set (λ i j a b. IsFlightOf n a.flight → IsFlightOf n b.flight → i ≡ j) vs id v'
       (λ i p q. refl)

@@ -1,25 +1,21 @@
 -- What a load on the way down a chain tells: of which entries there are none, and which one is here.
-use Rattle.std.proofs.Common.{◌≡◌, ◌≢◌, ℕ, ◌+◌, ◌-◌, ◌*◌, ◌%◌, ◌<◌, ◌≤◌, suc, sym, ap, ◌∙◌, subst, inl, arith}
-use Rattle.std.proofs.Common.{length, get_or}
-use mathlib.Core.Option.{some}
-use Rattle.std.proofs.Math.ListN.{get_elem?}
+use Rattle.std.proofs.Common.{◌≡◌, ℕ, ◌+◌, ◌-◌, ◌*◌, ◌%◌, ◌<◌, ◌≤◌, suc, sym, ap, ◌∙◌, subst, inl, arith}
+use Rattle.std.proofs.Common.{length}
 use Rattle.fish_layout.proofs.Clearing.{cleared_at, cleared_head}
 use Rattle.fish_layout.proofs.KeyWords.{spelled_key}
 use Rattle.fish_layout.proofs.Entries.{some_element}
 use Rattle.std.proofs.lemmas.Nat.{mod-mul-add}
-use Rattle.fish_layout.proofs.Spelled.{roomy, spelled_keys, spelled_lines}
+use Rattle.fish_layout.proofs.Spelled.{roomy, spelled_keys}
 use Rattle.fish_layout.specs.Body.{body_lines}
-use Rattle.fish_layout.specs.Cleared.{IsKeyWord, entry_at}
+use Rattle.fish_layout.specs.Cleared.{entry_at}
 use Rattle.fish_layout.specs.Entry.{entry_number, entry_place}
 use Rattle.fish_layout.specs.Header.{keys_of, lines_of}
-use Rattle.fish_layout.specs.declared.parts.KeyPart.{KeyPart}
 use Rattle.fish_rule.proofs.Spots.{Spot, lies_inside, spot, spot_lined}
 use Rattle.fish_rule.specs.Chains.{Linked}
 use Rattle.fish_rule.specs.Rule.{Rule}
 use Rattle.fish_rule.specs.Walks.{IsEntryOf, IsGap, IsLabel}
 use Rattle.fish_rule.specs.World.{World, body}
 use Rattle.fish_rule.specs.declared.view.Key.{Key}
-use Rattle.fish_rule.specs.declared.view.View.{View}
 use Rattle.fish_rule.proofs.Kept.{published}
 use Rattle.fish_rule.specs.declared.view.Kind.TheVariants.{Stored}
 
@@ -69,7 +65,7 @@ module _ (k : Key) (w : World) (r : Rule k w) where
       let p_is : p ≡ h.line * 4 + (1 + 3 * h.entry) = h.is.is in
       let at : ℕ → ℕ = λ i. w.log (h.line * 4 + i) in
       let lined : lines_of (at 0) ≡ r.start (suc s.number) - r.start s.number =
-          ap lines_of (sym (cleared_head at)) ∙ spot_lined k w r h.line h.entry s in
+      ap lines_of (sym (cleared_head at)) ∙ spot_lined k w r h.line h.entry s in
       let line = s.line in
       let within = second_inside b p h s in
       let third : entry_at h.entry + 1 ≡ h.entry * 3 + 2 = omega arith in
@@ -108,4 +104,4 @@ module _ (k : Key) (w : World) (r : Rule k w) where
       let says = spelled_key h.entry key.0 spells counts key.1 in
       let word = second_word b p h s in
       labelled b p end known h s (ap entry_number (sym word) ∙ says.number ∙ s.record_of.1.number_is)
-          (ap entry_place (sym word) ∙ says.place) word
+      (ap entry_place (sym word) ∙ says.place) word

@@ -6,7 +6,7 @@ use Rattle.std.proofs.Math.ListN.{get_elem?}
 use Rattle.atomic_table.specs.Table.{Allows, step}
 use Rattle.fish_rule.proofs.Allowed.{allowed, loaded_words, stands, there}
 use Rattle.fish_rule.proofs.Common.{all_among}
-use Rattle.fish_rule.proofs.Gaps.{gap_there, label_there, second_inside}
+use Rattle.fish_rule.proofs.Gaps.{gap_there}
 use Rattle.fish_rule.specs.Walks.{IsGap}
 use Rattle.fish_rule.proofs.Learns.{learn_final, learns, still_chained}
 use Rattle.fish_rule.proofs.Spots.{lies_inside, spot}
@@ -14,11 +14,11 @@ use Rattle.fish_rule.proofs.Bounds.{starts_above}
 use Rattle.fish_rule.proofs.Bodies.{kind-inside}
 use Rattle.fish_rule.proofs.Worlds.{area-in}
 use Rattle.fish_rule.specs.Chains.{IsLow, Linked}
-use Rattle.fish_rule.specs.Linking.{CanLoadHead, HasNode, LowRises, TopRises, after_head, after_node}
+use Rattle.fish_rule.specs.Linking.{CanLoadHead, HasNode, LowRises, TopRises, after_head}
 use Rattle.fish_rule.specs.Linking.{after_previous, gap, with_node}
 use Rattle.fish_rule.specs.Rule.{Final, Rule}
 use Rattle.fish_rule.specs.Table.{Ruled, Sat, Told}
-use Rattle.fish_rule.specs.Told.{ToldHead, ToldPrevious, bucket_at, place_at, told_node}
+use Rattle.fish_rule.specs.Told.{ToldHead, ToldPrevious, bucket_at, place_at}
 use Rattle.fish_rule.specs.Views.{AllOf}
 use Rattle.fish_rule.specs.World.{World, heads_at, log_at, log_size, world}
 use Rattle.fish_rule.specs.declared.view.Key.{Key}
@@ -56,9 +56,15 @@ module _ (k : Key) (w : World) (r : Rule k w) (id : ℕ) (v : View) (at : get_el
       let still = still_chained k w r id v at top_seer.learned v.tail top_seer.clock in
       let final = learn_final k w r id v at top_seer.learned v.tail top_seer.clock in
       learns k w r id v at top_seer.learned v.tail top_seer.clock (r.tails id v at)
-          (record { counted = h.counted; found = h.found; known = h.known; records = h.records;
-              gaps = (top_gap, h.gaps); labels = h.labels })
-          (r.floors id v at) (record {
+      (record {
+        counted = h.counted;
+        found = h.found;
+        known = h.known;
+        records = h.records;
+        gaps = (top_gap, h.gaps);
+        labels = h.labels;
+      })
+      (r.floors id v at) (record {
         nodes = node_joins _ b (w.head b) v.learned.nodes still.nodes
             (λ ne. ⊎_elim (λ (e : w.head b ≡ 0). absurd (ne e))
             (λ (g : Linked k w.dir w.log w.views b (w.head b)). final.links b (w.head b) g) (r.chains b).some);
@@ -107,9 +113,15 @@ module _ (k : Key) (w : World) (r : Rule k w) (id : ℕ) (v : View) (at : get_el
       let final = learn_final k w r id v at low_seer.learned v.tail low_seer.clock in
       let next = (r.chains b).next p node_linked in
       learns k w r id v at low_seer.learned v.tail low_seer.clock (r.tails id v at)
-          (record { counted = h.counted; found = h.found; known = h.known; records = h.records;
-              gaps = (low_gap, h.gaps); labels = h.labels })
-          (r.floors id v at) (record {
+      (record {
+        counted = h.counted;
+        found = h.found;
+        known = h.known;
+        records = h.records;
+        gaps = (low_gap, h.gaps);
+        labels = h.labels;
+      })
+      (r.floors id v at) (record {
         nodes = node_joins _ b (w.log p) v.learned.nodes still.nodes
             (λ ne. ⊎_elim (λ (e : w.log p ≡ 0). absurd (ne e))
             (λ (g : Linked k w.dir w.log w.views b (w.log p)). final.links b (w.log p) g) next.is);
@@ -130,9 +142,9 @@ place_within k w r b p h =
     let s = spot k w r h.line h.entry h.shows in
     let inside = lies_inside k w r b p h s in
     let from = starts_above k w.count w.line r.start r.space.regions s.number s.above
-        (let q = s.below in omega arith) in
+    (let q = s.below in omega arith) in
     let end = kind-inside k.end (r.start s.number) (r.start (suc s.number))
-        (λ e. let q : Stored ≡ Mark = sym s.kind ∙ e in cc) in
+    (λ e. let q : Stored ≡ Mark = sym s.kind ∙ e in cc) in
     (omega arith, omega arith)
 
 -- ---- at the table
@@ -148,13 +160,13 @@ head_allowed given k same size id me b i about can is =
     let below : b < k.buckets = subst (λ (z : Key). b < z.buckets) about can.below in
     let minus : b ≡ b - 0 = omega arith in
     let word : x ≡ w.head b = ap (λ (z : ℕ). get_or ws z 0) is
-        ∙ ap (λ (z : ℕ). get_or ws (heads_at + z) 0) minus
-        ∙ sym (area-in ws heads_at 0 k.buckets b (omega arith) (omega arith)) in
+    ∙ ap (λ (z : ℕ). get_or ws (heads_at + z) 0) minus
+    ∙ sym (area-in ws heads_at 0 k.buckets b (omega arith) (omega arith)) in
     let index : bucket_at i ≡ b = omega arith in
     let v' : View = after_head me.0 b x in
     let kept : Rule k (record w { views = set vs id v' }) =
-        subst (λ (z : ℕ). Rule k (record w { views = set vs id (after_head me.0 b z) })) (sym word)
-        (head_kept k w r id me.0 at b) in (
+    subst (λ (z : ℕ). Rule k (record w { views = set vs id (after_head me.0 b z) })) (sym word)
+    (head_kept k w r id me.0 at b) in (
       v',
       loaded_words k ws (set vs id v') i kept,
       record {
@@ -176,12 +188,12 @@ previous_allowed given k same size id me b p i about node is =
     let linked = node_linked k w r id me.0 at b p node in
     let within = place_within k w r b p linked in
     let word : x ≡ w.log p = ap (λ (z : ℕ). get_or ws z 0) is
-        ∙ sym (area-in ws (log_at k) (k.line * 4) (log_size k) p within.0 within.1) in
+    ∙ sym (area-in ws (log_at k) (k.line * 4) (log_size k) p within.0 within.1) in
     let index : place_at me.0.about i ≡ p = ap (λ (z : Key). place_at z i) about ∙ (omega arith) in
     let v' : View = after_previous me.0 b p x in
     let kept : Rule k (record w { views = set vs id v' }) =
-        subst (λ (z : ℕ). Rule k (record w { views = set vs id (after_previous me.0 b p z) })) (sym word)
-        (previous_kept k w r id me.0 at b p node) in
+    subst (λ (z : ℕ). Rule k (record w { views = set vs id (after_previous me.0 b p z) })) (sym word)
+    (previous_kept k w r id me.0 at b p node) in
     let less = low_less k w r id me.0 at b p node in (
       v',
       loaded_words k ws (set vs id v') i kept,

@@ -1,23 +1,23 @@
 -- A join changes no word: a lane comes back, with its records and all that its pass knew.
-use Rattle.std.proofs.Common.{◌≡◌, ◌≢◌, ℕ, List, [], ◌∷◌, ◌++◌, set, sym, refl, ◌∙◌, subst, inr, ⊎_elim, arith}
+use Rattle.std.proofs.Common.{◌≡◌, ◌≢◌, ℕ, List, set, sym, refl, ◌∙◌, subst, ⊎_elim, arith}
 use mathlib.Core.Option.{some}
 use Rattle.std.proofs.Math.ListN.{get_elem?}
-use Rattle.atomic_table.proofs.Lists.{at_longer, at_snoc, set_else}
-use Rattle.fish_rule.proofs.Common.{all_append, among_either, among_left, among_right, each_set, each_snoc}
+use Rattle.atomic_table.proofs.Lists.{set_else}
+use Rattle.fish_rule.proofs.Common.{all_append, among_either, among_left, among_right, each_set}
 use Rattle.fish_rule.proofs.Common.{no_flight, pairs_set}
 use Rattle.fish_rule.proofs.Frames.{alone_kept, flight_there}
-use Rattle.fish_rule.proofs.Lanes.{both_has, first_shut_none, flight_longer, has_back, has_both, has_lane}
-use Rattle.fish_rule.proofs.Lanes.{has_left, has_none, has_one, left_has, not_over, of_lane_complete}
-use Rattle.fish_rule.proofs.Lanes.{of_lane_sound, off_lane_complete, off_lane_sound, pairs_snoc, shut_either}
+use Rattle.fish_rule.proofs.Lanes.{both_has, first_shut_none, has_back, has_both, has_lane}
+use Rattle.fish_rule.proofs.Lanes.{has_none, has_one, not_over}
+use Rattle.fish_rule.proofs.Lanes.{shut_either}
 use Rattle.fish_rule.proofs.Links.{chains_views, linking_from, linking_own, linking_to, links_views}
 use Rattle.fish_rule.proofs.Kept.{chained_later}
 use Rattle.fish_rule.specs.Chains.{Chained, IsLinking, LinksAt}
 use Rattle.fish_rule.specs.declared.view.Learned.{Learned}
-use Rattle.fish_rule.specs.Parts.{Limit, MayOverflow, Seats}
+use Rattle.fish_rule.specs.Parts.{MayOverflow}
 use Rattle.fish_rule.specs.Facts.{Facts, IsFound, IsKnown, IsRecorded, Owns}
 use Rattle.fish_rule.specs.Rule.{Final, Rule}
-use Rattle.fish_rule.specs.Seating.{CanJoin, CanSplit, join_both, of_lane, spent, split_left, split_right, without}
-use Rattle.fish_rule.specs.Views.{Among, Each, Has, IsFlightOf}
+use Rattle.fish_rule.specs.Seating.{CanJoin, join_both, spent, without}
+use Rattle.fish_rule.specs.Views.{Among, Each, Has}
 use Rattle.fish_rule.specs.Walks.{IsGap, IsLabel}
 use Rattle.fish_rule.specs.World.{World}
 use Rattle.fish_rule.specs.declared.view.Key.{Key}
@@ -50,8 +50,8 @@ module _ (k : Key) (w : World) (r : Rule k w) (id other : ℕ) (v u : View) (at 
       (λ i j a b. Has a.lane a.out x → Has b.lane b.out x → i ≡ j) taken other spent (λ i p q. refl)
       (λ j b not at_b. ((λ p q. absurd (has_none x p)), (λ p q. absurd (has_none x q))))
       (λ i j a b not_i not_j at_a at_b. pairs_set
-          (λ i j a b. i ≢ other → j ≢ other → Has a.lane a.out x → Has b.lane b.out x → i ≡ j) w.views id both
-          (λ i _ _ p q. refl)
+      (λ i j a b. i ≢ other → j ≢ other → Has a.lane a.out x → Has b.lane b.out x → i ≡ j) w.views id both
+      (λ i _ _ p q. refl)
       (λ j b not at_b. ((λ _ away p q. mine j b at_b away p q), (λ away _ p q. sym (mine j b at_b away q p))))
       (λ i j a b _ _ at_a at_b _ _ p q. r.seats.apart i j a b x at_a at_b p q) i j a b at_a at_b not_i not_j)
       i j a b at_i at_j p q
@@ -127,16 +127,27 @@ module _ (k : Key) (w : World) (r : Rule k w) (id other : ℕ) (v u : View) (at 
 
   -- nothing that lasts has changed
   join_final : Final k r.start r.start r.lane_of r.lane_of w (record w { views = set taken other spent })
-  join_final = record { counts = omega arith; lines = omega arith; settles = omega arith;
-      heads = λ b. omega arith; links = links_views k w r (set taken other spent) links_join;
-      rises = λ b p h. omega arith; starts = λ n h. refl; lanes = λ n h. refl; dirs = λ n h e. refl;
-      bodies = λ n h e. refl; below = λ p from h. refl }
+  join_final = record {
+    counts = omega arith;
+    lines = omega arith;
+    settles = omega arith;
+    heads = λ b. omega arith;
+    links = links_views k w r (set taken other spent) links_join;
+    rises = λ b p h. omega arith;
+    starts = λ n h. refl;
+    lanes = λ n h. refl;
+    dirs = λ n h e. refl;
+    bodies = λ n h e. refl;
+    below = λ p from h. refl;
+  }
 
   -- what is known of chains stays so, and what either knew is so
   join_chained : (x : Learned) → Chained k w.dir w.log w.views w.head x
       → Chained k w.dir w.log (set taken other spent) w.head x
-  join_chained = chained_later k w (record w { views =
-      set taken other spent }) r.start r.start r.lane_of r.lane_of join_final
+  join_chained = chained_later k w (record w {
+    views =
+        set taken other spent;
+  }) r.start r.start r.lane_of r.lane_of join_final
 
   both_chained : Chained k w.dir w.log (set taken other spent) w.head both.learned
   both_chained =
@@ -185,10 +196,18 @@ module _ (k : Key) (w : World) (r : Rule k w) (id other : ℕ) (v u : View) (at 
         (record { nodes = tt; lows = tt; tops = tt });
     floors = each_join _ r.floors (let a = r.floors id v at in let b = r.floors other u at_u in omega arith)
         (omega arith);
-    own = each_join _ r.own join_owns (record { sound = λ o m. elim m [ ];
-        complete = λ o has. absurd (has_none o.lane has) });
-    facts = each_join _ r.facts join_facts (record { counted = omega arith; found = tt; known = tt; records = tt;
-        gaps = tt; labels = tt });
+    own = each_join _ r.own join_owns (record {
+      sound = λ o m. elim m [ ];
+      complete = λ o has. absurd (has_none o.lane has);
+    });
+    facts = each_join _ r.facts join_facts (record {
+      counted = omega arith;
+      found = tt;
+      known = tt;
+      records = tt;
+      gaps = tt;
+      labels = tt;
+    });
     shuts = each_join _ r.shuts (shut_either k w.count w.dir r.start v.shut u.shut (r.shuts id v at)
         (r.shuts other u at_u)) tt;
   }
@@ -197,7 +216,16 @@ module _ (k : Key) (w : World) (r : Rule k w) (id other : ℕ) (v u : View) (at 
   pub join_lasts : Final k r.start join_kept.start r.lane_of join_kept.lane_of w
       (record w { views = set (set w.views id (join_both v u)) other spent })
   unfolding join_kept
-  join_lasts = record { counts = omega arith; lines = omega arith; settles = omega arith;
-      heads = λ b. omega arith; links = links_views k w r (set taken other spent) links_join;
-      rises = λ b p h. omega arith; starts = λ n h. refl; lanes = λ n h. refl; dirs = λ n h e. refl;
-      bodies = λ n h e. refl; below = λ p from h. refl }
+  join_lasts = record {
+    counts = omega arith;
+    lines = omega arith;
+    settles = omega arith;
+    heads = λ b. omega arith;
+    links = links_views k w r (set taken other spent) links_join;
+    rises = λ b p h. omega arith;
+    starts = λ n h. refl;
+    lanes = λ n h. refl;
+    dirs = λ n h e. refl;
+    bodies = λ n h e. refl;
+    below = λ p from h. refl;
+  }

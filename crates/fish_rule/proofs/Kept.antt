@@ -187,7 +187,7 @@ module _ (k : Key) (w w' : World) (start start' lane_of lane_of' : ℕ → ℕ)
   -- a record in flight stays so while its directory word and its words are left
   pub flight_later : (lane : ℕ) (g : Flight) → InFlight k w.count w.dir w.log start lane_of lane g → w'.dir g.number ≡ 0
       → ((i : ℕ) → i < g.lines * 4 → w'.log (g.line * 4 + i) ≡ w.log (g.line * 4 + i))
-          → (0 < g.linked → Whole k w'.log lane g) → InFlight k w'.count w'.dir w'.log start' lane_of' lane g
+      → (0 < g.linked → Whole k w'.log lane g) → InFlight k w'.count w'.dir w'.log start' lane_of' lane g
   flight_later lane g h dir same whole =
       let up = f.counts in
       let below = h.below in
@@ -232,7 +232,7 @@ module _ (k : Key) (w w' : World) (start start' lane_of lane_of' : ℕ → ℕ)
   -- own numbers stay exact where every record of the pass's lanes was published before
   pub owns_later : (lane : ℕ) (out : List ℕ) (own : List Own) → Owns k w.count w.dir lane_of lane out own
       → ((o : Own) → Has lane out o.lane → IsStoredBy k w'.count w'.dir lane_of' o.lane o.number
-          → (o.number < w.count) × (w.dir o.number ≢ 0))
+      → (o.number < w.count) × (w.dir o.number ≢ 0))
       → Owns k w'.count w'.dir lane_of' lane out own
   owns_later lane out own h before = record {
     sound = λ o m. let s = h.sound o m in (s.0, stored_later o.lane o.number s.1);
@@ -246,7 +246,10 @@ module _ (k : Key) (w w' : World) (start start' lane_of lane_of' : ℕ → ℕ)
   chained_later l h = record {
     nodes = all_map _ _ (λ x m. f.links x.bucket x.place m) l.nodes h.nodes;
     lows = all_map (IsLow k w.dir w.log w.views) (IsLow k w'.dir w'.log w'.views)
-        (λ x m. record { bucket = m.bucket; linked = f.links m.bucket x.place m.linked;
-            low = (let a = m.low in let b = f.rises m.bucket x.place m.linked in omega arith) }) l.lows h.lows;
+        (λ x m. record {
+          bucket = m.bucket;
+          linked = f.links m.bucket x.place m.linked;
+          low = (let a = m.low in let b = f.rises m.bucket x.place m.linked in omega arith);
+        }) l.lows h.lows;
     tops = all_map _ _ (λ x m. let b = f.heads x.bucket in omega arith) l.tops h.tops;
   }

@@ -2,7 +2,7 @@
 use Rattle.std.proofs.Common.{◌≡◌, ◌≢◌, ℕ, ◌≤◌, zero, suc, List, [], ◌∷◌, ◌++◌, length, sym, refl, ap, ◌∙◌}
 use Rattle.std.proofs.Common.{subst, inl, inr, ◌⊎◌, ⊎_elim, arith, Some, None, Option}
 use mathlib.Core.Option.{some, some-injective, some-ne-none}
-use Rattle.std.proofs.Math.Decide.{ℕ_discrete, dec_le}
+use Rattle.std.proofs.Math.Decide.{ℕ_discrete}
 use Rattle.std.proofs.Math.ListN.{get_elem?}
 use Rattle.atomic_table.proofs.Lists.{at_longer}
 use Rattle.fish_layout.specs.Cleared.{choose}
@@ -172,7 +172,7 @@ pub pairs_snoc : (P : View → Type 0) (vs : List View) (u : View)
     → ((j : ℕ) (a : View) → get_elem? vs j ≡ some a → P a → ¬ P u)
     → ((i j : ℕ) (a b : View) → get_elem? vs i ≡ some a → get_elem? vs j ≡ some b → P a → P b → i ≡ j)
     → (i j : ℕ) (a b : View) → get_elem? (vs ++ u ∷ []) i ≡ some a → get_elem? (vs ++ u ∷ []) j ≡ some b → P a
-        → P b → i ≡ j
+    → P b → i ≡ j
 pairs_snoc P vs u none apart i j a b at_i at_j p q = by (snoc_cases vs u a i at_i) (snoc_cases vs u b j at_j)
   where
     by : (get_elem? vs i ≡ some a) ⊎ ((i ≡ length vs) × (u ≡ a))
@@ -184,8 +184,12 @@ pairs_snoc P vs u none apart i j a b at_i at_j p q = by (snoc_cases vs u a i at_
 
 -- a number stays in flight
 pub flight_longer : (vs : List View) (u : View) (n : ℕ) → HasFlight n vs → HasFlight n (vs ++ u ∷ [])
-flight_longer vs u n h = record { seat = h.seat; view = h.view; at = at_longer vs (u ∷ []) h.seat h.view h.at;
-    flies = h.flies }
+flight_longer vs u n h = record {
+  seat = h.seat;
+  view = h.view;
+  at = at_longer vs (u ∷ []) h.seat h.view h.at;
+  flies = h.flies;
+}
 
 -- nothing in flight ends past the log's end
 pub not_over : (end : ℕ) (flight : Option Flight) → flight ≡ None → ¬ IsOver end flight

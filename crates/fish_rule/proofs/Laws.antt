@@ -74,7 +74,7 @@ look_law k v n about s can =
     let above = can.above in
     let below = can.below in
     subst (λ (z : Key). (z.number ≤ n) × (n - z.number < slots z) × (n < 268435456)) about
-        (above, omega arith, omega arith)
+    (above, omega arith, omega arith)
 
 -- the word that a pass may read is within the log
 pub read_law : (k : Key) (v : View) (f : Found) (i : ℕ) → v.about ≡ k → Stands v → CanRead v f i
@@ -87,11 +87,11 @@ read_law key v f i about s can =
     let line = found.line in
     let lines = found.lines in
     let from = starts_above k w.count w.line r.start r.space.regions f.number found.above
-        (let b = found.below in omega arith) in
+    (let b = found.below in omega arith) in
     let t = region_found k w r f found in
     let end = kind-inside k.end (r.start f.number) (r.start (suc f.number)) (λ e. can.words (sym t.1 ∙ e)) in
     subst (λ (z : Key). (z.line ≤ f.line) × (f.line + f.lines ≤ z.end) × (i < f.lines * 4)) about
-        (omega arith, omega arith, can.inside)
+    (omega arith, omega arith, can.inside)
 
 -- the key of a table that a view stands in
 pub fits_law : (v : View) → Stands v → Fits v.about
@@ -107,7 +107,7 @@ header_law v f h s among words read =
     let facts = r.facts s.seat v s.at in
     let found = all_among (IsFound k w.count w.dir r.start) f v.learned.found facts.found among in
     let head = head_known k w r f h found
-        (all_among (IsKnown k w.count w.dir w.log r.start) _ v.learned.known facts.known read) in
+    (all_among (IsKnown k w.count w.dir w.log r.start) _ v.learned.known facts.known read) in
     ap lines_of (sym head) ∙ lines_found k w r f found words
 
 -- a region that was found has a line
@@ -116,7 +116,7 @@ found_law v f s among =
     let w : World = s.moment in
     let r = s.rule in
     let found = all_among (IsFound v.about w.count w.dir r.start) f v.learned.found
-        (r.facts s.seat v s.at).found among in
+    (r.facts s.seat v s.at).found among in
     let line = found.line in
     let lines = found.lines in
     let grows = r.space.regions.grows f.number found.above found.below in
@@ -144,7 +144,7 @@ pub second_law : (k : Key) (v : View) (b p : ℕ) → v.about ≡ k → Stands v
     → (k.line * 4 ≤ suc p) × (suc p < k.end * 4)
 second_law k v b p about s node =
     let h = second_within v.about s.moment s.rule b p
-        (node_linked v.about s.moment s.rule s.seat v s.at b p node) in
+    (node_linked v.about s.moment s.rule s.seat v s.at b p node) in
     let fits = s.rule.key_fits in
     let some_ = fits.some_lines in
     subst (λ (z : Key). (z.line * 4 ≤ suc p) × (suc p < z.end * 4)) about (h.0, omega arith)

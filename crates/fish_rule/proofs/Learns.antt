@@ -1,4 +1,5 @@
 -- Loads change no word: what one pass has learned is all that is new.
+-- All of it stands over one world, one view and one step: cut in two, each lemma would name them all again.
 use Rattle.std.proofs.Common.{◌≡◌, ◌≢◌, ℕ, ◌+◌, ◌-◌, ◌*◌, ◌<◌, ◌≤◌, zero, suc, [], set, sym, refl, ap, ◌∙◌}
 use Rattle.std.proofs.Common.{subst, arith, Some, None, Option}
 use mathlib.Core.Option.{some}
@@ -34,10 +35,19 @@ module _ (k : Key) (w : World) (r : Rule k w) (id : ℕ) (v : View) (at : get_el
   -- nothing that lasts has changed
   pub learn_final : (l : Learned) (t : Option Position) (c : Clock)
       → Final k r.start r.start r.lane_of r.lane_of w (record w { views = set w.views id (learner l t c) })
-  learn_final l t c = record { counts = omega arith; lines = omega arith; settles = omega arith;
-      heads = λ b. omega arith; links = links_set k w r id v (learner l t c) at (λ a c h. h);
-      rises = λ b p h. omega arith; starts = λ n h. refl; lanes = λ n h. refl; dirs = λ n h e. refl;
-      bodies = λ n h e. refl; below = λ p from h. refl }
+  learn_final l t c = record {
+    counts = omega arith;
+    lines = omega arith;
+    settles = omega arith;
+    heads = λ b. omega arith;
+    links = links_set k w r id v (learner l t c) at (λ a c h. h);
+    rises = λ b p h. omega arith;
+    starts = λ n h. refl;
+    lanes = λ n h. refl;
+    dirs = λ n h e. refl;
+    bodies = λ n h e. refl;
+    below = λ p from h. refl;
+  }
 
   -- what was known of chains is so in the new world
   pub still_chained : (l : Learned) (t : Option Position) (c : Clock)
@@ -101,7 +111,7 @@ module _ (k : Key) (w : World) (r : Rule k w) (id : ℕ) (v : View) (at : get_el
       let h = r.facts id v at in
       let still = still_chained (record v.learned { count = high x }) (after_end v x).tail (after_end v x).clock in
       learns (record v.learned { count = high x }) (after_end v x).tail (after_end v x).clock
-          (λ main all. (count, line)) (record {
+      (λ main all. (count, line)) (record {
         counted = subst (λ (z : ℕ). z ≤ w.count) (sym count) (omega arith);
         found = h.found;
         known = h.known;
@@ -113,12 +123,21 @@ module _ (k : Key) (w : World) (r : Rule k w) (id : ℕ) (v : View) (at : get_el
   -- and all that lasts
   pub end_lasts : (x : ℕ) (count : high x ≡ w.count) (line : low x ≡ w.line)
       → Final k r.start (end_kept x count line).start r.lane_of (end_kept x count line).lane_of w
-          (record w { views = set w.views id (after_end v x) })
+      (record w { views = set w.views id (after_end v x) })
   unfolding end_kept learns
-  end_lasts x count line = record { counts = omega arith; lines = omega arith; settles = omega arith;
-      heads = λ b. omega arith; links = links_set k w r id v (after_end v x) at (λ a c h. h);
-      rises = λ b p h. omega arith; starts = λ m h. refl; lanes = λ m h. refl; dirs = λ m h e. refl;
-      bodies = λ m h e. refl; below = λ p from h. refl }
+  end_lasts x count line = record {
+    counts = omega arith;
+    lines = omega arith;
+    settles = omega arith;
+    heads = λ b. omega arith;
+    links = links_set k w r id v (after_end v x) at (λ a c h. h);
+    rises = λ b p h. omega arith;
+    starts = λ m h. refl;
+    lanes = λ m h. refl;
+    dirs = λ m h e. refl;
+    bodies = λ m h e. refl;
+    below = λ p from h. refl;
+  }
 
   -- the count only rises
   pub end_counted : (x : ℕ) → high x ≡ w.count → v.learned.count ≤ high x
@@ -141,19 +160,33 @@ module _ (k : Key) (w : World) (r : Rule k w) (id : ℕ) (v : View) (at : get_el
       let h = r.facts id v at in
       let still = still_chained (record v.learned { settled = w.settled }) v.tail (after_settled v w.settled).clock in
       learns (record v.learned { settled = w.settled }) v.tail (after_settled v w.settled).clock
-          (r.tails id v at) (record { counted = h.counted; found = h.found; known = h.known;
-          records = h.records;
-          gaps = h.gaps; labels = h.labels }) (omega arith)
+      (r.tails id v at) (record {
+        counted = h.counted;
+        found = h.found;
+        known = h.known;
+        records = h.records;
+        gaps = h.gaps;
+        labels = h.labels;
+      }) (omega arith)
       (record { nodes = still.nodes; lows = still.lows; tops = still.tops })
 
   -- and all that lasts
   pub settled_lasts : Final k r.start settled_kept.start r.lane_of settled_kept.lane_of w
       (record w { views = set w.views id (after_settled v w.settled) })
   unfolding settled_kept learns
-  settled_lasts = record { counts = omega arith; lines = omega arith; settles = omega arith;
-      heads = λ b. omega arith; links = links_set k w r id v (after_settled v w.settled) at (λ a c h. h);
-      rises = λ b p h. omega arith; starts = λ n h. refl; lanes = λ n h. refl; dirs = λ n h e. refl;
-      bodies = λ n h e. refl; below = λ p from h. refl }
+  settled_lasts = record {
+    counts = omega arith;
+    lines = omega arith;
+    settles = omega arith;
+    heads = λ b. omega arith;
+    links = links_set k w r id v (after_settled v w.settled) at (λ a c h. h);
+    rises = λ b p h. omega arith;
+    starts = λ n h. refl;
+    lanes = λ n h. refl;
+    dirs = λ n h e. refl;
+    bodies = λ n h e. refl;
+    below = λ p from h. refl;
+  }
 
   -- ---- look
 
@@ -172,10 +205,12 @@ module _ (k : Key) (w : World) (r : Rule k w) (id : ℕ) (v : View) (at : get_el
       → Rule k (record w { views = set w.views id (after_look v n (lines_at n) x) })
   look_kept n x can about is =
       let h = r.facts id v at in
-      let still = still_chained (record v.learned { found =
-          found_after n (lines_at n) x v.learned.found }) v.tail (after_look v n (lines_at n) x).clock in
+      let still = still_chained (record v.learned {
+        found =
+            found_after n (lines_at n) x v.learned.found;
+      }) v.tail (after_look v n (lines_at n) x).clock in
       learns (record v.learned { found = found_after n (lines_at n) x v.learned.found }) v.tail
-          (after_look v n (lines_at n) x).clock (r.tails id v at) (record {
+      (after_look v n (lines_at n) x).clock (r.tails id v at) (record {
         counted = h.counted;
         found = each x is;
         known = h.known;
@@ -208,12 +243,21 @@ module _ (k : Key) (w : World) (r : Rule k w) (id : ℕ) (v : View) (at : get_el
   -- and all that lasts
   pub look_lasts : (n x : ℕ) (can : CanLook v n) (about : v.about ≡ k) (is : x ≡ w.dir n)
       → Final k r.start (look_kept n x can about is).start r.lane_of (look_kept n x can about is).lane_of w
-          (record w { views = set w.views id (after_look v n (lines_at n) x) })
+      (record w { views = set w.views id (after_look v n (lines_at n) x) })
   unfolding look_kept learns
-  look_lasts n x can about is = record { counts = omega arith; lines = omega arith; settles = omega arith;
-      heads = λ b. omega arith; links = links_set k w r id v (after_look v n (lines_at n) x) at (λ a c h. h);
-      rises = λ b p h. omega arith; starts = λ m h. refl; lanes = λ m h. refl; dirs = λ m h e. refl;
-      bodies = λ m h e. refl; below = λ p from h. refl }
+  look_lasts n x can about is = record {
+    counts = omega arith;
+    lines = omega arith;
+    settles = omega arith;
+    heads = λ b. omega arith;
+    links = links_set k w r id v (after_look v n (lines_at n) x) at (λ a c h. h);
+    rises = λ b p h. omega arith;
+    starts = λ m h. refl;
+    lanes = λ m h. refl;
+    dirs = λ m h e. refl;
+    bodies = λ m h e. refl;
+    below = λ p from h. refl;
+  }
 
   -- a number that was found has the word that it had
   pub look_known : (n : ℕ) (x : ℕ) → x ≡ w.dir n → (f : Found) → Among f v.learned.found → f.number ≡ n
@@ -223,7 +267,7 @@ module _ (k : Key) (w : World) (r : Rule k w) (id : ℕ) (v : View) (at : get_el
       let finished = r.space.finished f.number found.above found.below (published (w.dir f.number) f.kind found.kind) in
       let line : low (w.dir f.number) ≡ f.line = finished.line ∙ found.line in
       let parts : low (w.dir f.number) + high (w.dir f.number) * 68719476736 ≡ w.dir f.number =
-          tail_is (w.dir f.number) in
+      tail_is (w.dir f.number) in
       is ∙ ap w.dir (sym same) ∙ sym parts ∙ ap (λ (z : ℕ × ℕ). z.0 + z.1 * 68719476736) (λ i. (line i, found.kind i))
 
   -- a pass that is alone finds every claimed number published
@@ -236,7 +280,7 @@ module _ (k : Key) (w : World) (r : Rule k w) (id : ℕ) (v : View) (at : get_el
       let live = flier h.view.flight h.flies (r.space.flights h.seat h.view h.at) in
       let here : h.seat ≡ id = only_main w.views id h.seat v h.view r.seats at h.at alone.main alone.all live in
       let same : h.view ≡ v = one_view w.views id h.view v
-          (subst (λ (z : ℕ). get_elem? w.views z ≡ some h.view) here h.at) at in
+      (subst (λ (z : ℕ). get_elem? w.views z ≡ some h.view) here h.at) at in
       subst (λ (z : Option Flight). IsFlightOf n z) (ap (λ (z : View). z.flight) same ∙ alone.idle) h.flies
     where
       flier : {lane : ℕ} (o : Option Flight) → IsFlightOf n o

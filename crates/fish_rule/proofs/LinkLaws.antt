@@ -1,5 +1,5 @@
 -- What the owner of a view may conclude of the entry that it is about to link.
-use Rattle.std.proofs.Common.{◌≡◌, ◌≢◌, ℕ, ◌*◌, ◌%◌, ◌<◌, ◌≤◌, suc, List, length, get_or, set, refl, ap, ◌∙◌}
+use Rattle.std.proofs.Common.{◌≡◌, ◌≢◌, ℕ, ◌<◌, ◌≤◌, suc, List, length, get_or, set, refl}
 use Rattle.std.proofs.Common.{subst, sym, arith, get_or-set_other}
 use Rattle.fish_layout.proofs.Clearing.{cleared_head, cleared_same}
 use Rattle.fish_layout.specs.Cleared.{IsKeyWord, body_of, entry_at}
@@ -17,7 +17,7 @@ use Rattle.fish_rule.specs.declared.view.View.{View}
 pub not_own : (v : View) (f : Flight) (b p : ℕ) → Stands v → CanAim v f → HasNode v b p → p ≢ own_place f
 not_own v f b p s can node =
     own_unlinked v.about s.moment s.rule s.seat v s.at f can b p
-        (node_linked v.about s.moment s.rule s.seat v s.at b p node)
+    (node_linked v.about s.moment s.rule s.seat v s.at b p node)
 
 -- its first word is one of the record's words
 pub own_word : (v : View) (f : Flight) → Stands v → CanAim v f → entry_at f.linked < length f.words
@@ -34,7 +34,7 @@ body-set words c x counts =
     let head : body_of words 0 ≡ f 0 = cleared_head f in
     let less : suc c ≤ keys_of (f 0) = subst (λ (z : ℕ). c < keys_of z) head counts in
     let key : IsKeyWord (keys_of (f 0)) (entry_at c) =
-        linked-key (keys_of (f 0)) (suc c) (entry_at c) less (c, omega arith, refl) in
+    linked-key (keys_of (f 0)) (suc c) (entry_at c) less (c, omega arith, refl) in
     cleared_same f (λ i. get_or (set words (entry_at c) x) i 0)
     (λ i within plain. get_or-set_other words (entry_at c) i x 0
-        (λ e. plain (subst (IsKeyWord (keys_of (f 0))) (sym e) key)))
+    (λ e. plain (subst (IsKeyWord (keys_of (f 0))) (sym e) key)))

@@ -71,7 +71,7 @@ module _ (k : Key) (w : World) (r : Rule k w) (id : ℕ) (v : View) (at : get_el
         let m = s.record_of.1.lines_is in
         subst (λ (z : ℕ). body log' z ≡ body w.log z) s.line (leaves.regions s.number s.above s.below
         (subst (λ (z : ℕ). lines_of (body w.log z 0) ≤ r.start (suc s.number) - r.start s.number) (sym s.line)
-            (omega arith)))
+        (omega arith)))
 
     -- and so does the own one
     own_stays : body log' f.line ≡ body_of f.words
@@ -83,7 +83,7 @@ module _ (k : Key) (w : World) (r : Rule k w) (id : ℕ) (v : View) (at : get_el
         let lines = own.lines in
         let whole : lines_of (body w.log (r.start f.number) 0) ≤ r.start (suc f.number) - r.start f.number =
         subst (λ (z : ℕ → ℕ). lines_of (z 0) ≤ r.start (suc f.number) - r.start f.number)
-            (sym e ∙ ap (body w.log) (sym line)) (omega arith) in
+        (sym e ∙ ap (body w.log) (sym line)) (omega arith) in
         ap (body log') (sym line) ∙ leaves.regions f.number own.above own.below whole ∙ ap (body w.log) line ∙ e
 
     -- what is linked stays so
@@ -94,7 +94,7 @@ module _ (k : Key) (w : World) (r : Rule k w) (id : ℕ) (v : View) (at : get_el
     pub link_to : (c p : ℕ) → Linked k w.dir w.log w.views c p → After c p
     link_to = linked_map k w.dir w.dir w.log log' w.views linked_world.views
         (λ a c h. ⊎_elim (λ (s : IsStoredAt k w.dir a). inl s)
-            (λ (l : IsLinking a c w.views). inr (linking_to w.views id v linker at a c (keep a c) l)) h) shown_stays
+        (λ (l : IsLinking a c w.views). inr (linking_to w.views id v linker at a c (keep a c) l)) h) shown_stays
 
     -- and the own entry is linked
     pub link_here : After b (own_place f)
@@ -107,24 +107,32 @@ module _ (k : Key) (w : World) (r : Rule k w) (id : ℕ) (v : View) (at : get_el
     }
       where
         linking_to_own : IsLinking f.line f.linked linked_world.views
-        linking_to_own = record { seat = id; view = linker;
-            at = set_here w.views id linker (within_list w.views id v at); links = (omega arith, refl) }
+        linking_to_own = record {
+          seat = id;
+          view = linker;
+          at = set_here w.views id linker (within_list w.views id v at);
+          links = (omega arith, refl);
+        }
 
     -- and nothing else
     pub link_from : (c p : ℕ) → After c p → Linked k w.dir w.log w.views c p ⊎ ((p ≡ own_place f) × (c ≡ b))
     link_from c p h = by h.shows
       where
         old : Shows k w.dir w.views h.line h.entry → Linked k w.dir w.log w.views c p
-        old shows = record { line = h.line; entry = h.entry;
-            is = subst (λ (z : ℕ → ℕ). IsKeyEntry k.buckets z c p h.line h.entry)
-            (shown_stays h.line h.entry shows) h.is; shows = shows }
+        old shows = record {
+          line = h.line;
+          entry = h.entry;
+          is = subst (λ (z : ℕ → ℕ). IsKeyEntry k.buckets z c p h.line h.entry)
+              (shown_stays h.line h.entry shows) h.is;
+          shows = shows;
+        }
 
         new : h.entry ≡ f.linked → f.line ≡ h.line → (p ≡ own_place f) × (c ≡ b)
         new e line =
             let is : p ≡ h.line * 4 + entry_at h.entry = h.is.is in
             let at_ : bucket_of k.buckets (body log' f.line) f.linked ≡ c =
-                subst (λ (z : ℕ × ℕ). bucket_of k.buckets (body log' z.0) z.1 ≡ c)
-                (λ i. (sym line i, e i)) h.is.bucket in
+            subst (λ (z : ℕ × ℕ). bucket_of k.buckets (body log' z.0) z.1 ≡ c)
+            (λ i. (sym line i, e i)) h.is.bucket in
             (omega arith, sym at_ ∙ ap (λ (z : ℕ → ℕ). bucket_of k.buckets z f.linked) own_stays ∙ bucket)
 
         mine : LinksAt h.line h.entry (Some (linked_once f)) → Dec (h.entry < f.linked)
@@ -138,9 +146,9 @@ module _ (k : Key) (w : World) (r : Rule k w) (id : ℕ) (v : View) (at : get_el
         by (inl s) = inl (old (inl s))
         by (inr l) = ⊎_elim
             (λ (t : (l.seat ≡ id) × (linker ≡ l.view)). mine
-                (subst (λ (z : View). LinksAt h.line h.entry z.flight) (sym t.1) l.links) (dec_lt h.entry f.linked))
+            (subst (λ (z : View). LinksAt h.line h.entry z.flight) (sym t.1) l.links) (dec_lt h.entry f.linked))
             (λ (t : (l.seat ≢ id) × (get_elem? w.views l.seat ≡ some l.view)). inl
-                (old (inr (record { seat = l.seat; view = l.view; at = t.1; links = l.links }))))
+            (old (inr (record { seat = l.seat; view = l.view; at = t.1; links = l.links }))))
             (at_set w.views id l.seat linker l.view l.at)
 
     -- nothing that lasts has changed
@@ -205,7 +213,7 @@ module _ (k : Key) (w : World) (r : Rule k w) (id : ℕ) (v : View) (at : get_el
           regions = r.space.regions;
           finished =
               λ n above below set_. finished_later k w linked_world r.start r.start r.lane_of r.lane_of
-                  link_final n below set_ (r.space.finished n above below set_);
+              link_final n below set_ (r.space.finished n above below set_);
           flying = λ n above below unset. flight_there w.views id v linker at n
               (λ h. subst (IsFlightOf n) can.flying h) (r.space.flying n above below unset);
           flights = each_set _ w.views id linker leaves.others own_flight;

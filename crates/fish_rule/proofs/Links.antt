@@ -1,28 +1,23 @@
 -- Linked places: which record each is of, and when a step leaves them.
-use Rattle.std.proofs.Common.{◌≡◌, ◌≢◌, ℕ, ◌+◌, ◌-◌, ◌*◌, ◌<◌, ◌≤◌, suc, List, length, set, sym, refl, ap}
-use Rattle.std.proofs.Common.{◌∙◌, subst, inl, inr, ◌⊎◌, ⊎_elim, arith, Some, None, Option}
+use Rattle.std.proofs.Common.{◌≡◌, ◌≢◌, ℕ, ◌+◌, ◌*◌, ◌<◌, ◌≤◌, List, set, sym, refl}
+use Rattle.std.proofs.Common.{◌∙◌, subst, inl, inr, ⊎_elim, arith}
 use Rattle.std.proofs.Math.Decide.{ℕ_discrete}
 use mathlib.Core.Option.{some}
 use Rattle.std.proofs.Math.ListN.{get_elem?}
 use Rattle.atomic_table.proofs.Lists.{at_set, set_else, set_here}
-use Rattle.fish_layout.proofs.Spelled.{roomy, spelled_keys, spelled_lines}
-use Rattle.fish_layout.specs.Bucket.{bucket_of}
+use Rattle.fish_layout.proofs.Spelled.{spelled_lines}
 use Rattle.fish_layout.specs.Header.{keys_of, lines_of}
-use Rattle.fish_rule.proofs.Bodies.{body_same, code_once}
-use Rattle.fish_rule.proofs.Bounds.{one_region}
+use Rattle.fish_rule.proofs.Bodies.{body_same}
 use Rattle.fish_rule.proofs.Chained.{chain_same}
 use Rattle.fish_rule.proofs.Common.{within_list}
 use Rattle.fish_rule.proofs.Frames.{one_view}
-use Rattle.fish_rule.proofs.Kept.{published}
 use Rattle.fish_rule.specs.Chains.{Chain, IsKeyEntry, IsLinking, IsStoredAt, Linked, LinksAt, Shows}
-use Rattle.fish_rule.specs.Parts.{Flies, Whole}
-use Rattle.fish_rule.specs.Regions.{Holds, IsRecord, kind_of}
+use Rattle.fish_rule.specs.Parts.{Whole}
+use Rattle.fish_rule.specs.Regions.{IsRecord}
 use Rattle.fish_rule.specs.Rule.{Rule}
 use Rattle.fish_rule.specs.World.{World, body}
 use Rattle.fish_rule.specs.declared.view.Flight.{Flight}
 use Rattle.fish_rule.specs.declared.view.Key.{Key}
-use Rattle.fish_rule.specs.declared.view.Kind.{Kind}
-use Rattle.fish_rule.specs.declared.view.Kind.TheVariants.{Mark, Stored, Void}
 use Rattle.fish_rule.specs.declared.view.View.{View}
 
 -- ---- one view in place of another
@@ -36,8 +31,12 @@ module _ (vs : List View) (id : ℕ) (v v' : View) (at : get_elem? vs id ≡ som
       pick : Dec (h.seat ≡ id) → IsLinking a c (set vs id v')
       pick (yes e) =
           let same : h.view ≡ v = one_view vs id h.view v (subst (λ (z : ℕ). get_elem? vs z ≡ some h.view) e h.at) at in
-          record { seat = id; view = v'; at = set_here vs id v' (within_list vs id v at);
-              links = keep (subst (λ (z : View). LinksAt a c z.flight) same h.links) }
+          record {
+            seat = id;
+            view = v';
+            at = set_here vs id v' (within_list vs id v at);
+            links = keep (subst (λ (z : View). LinksAt a c z.flight) same h.links);
+          }
       pick (no ne) = record { seat = h.seat; view = h.view; at = set_else vs id h.seat v' ne ∙ h.at; links = h.links }
 
   -- and was linked before where the stepping pass had it so
@@ -45,8 +44,12 @@ module _ (vs : List View) (id : ℕ) (v v' : View) (at : get_elem? vs id ≡ som
       → IsLinking a c vs
   linking_from a c back h = ⊎_elim
       (λ (t : (h.seat ≡ id) × (v' ≡ h.view)). back (subst (λ (z : View). LinksAt a c z.flight) (sym t.1) h.links))
-      (λ (t : (h.seat ≢ id) × (get_elem? vs h.seat ≡ some h.view)). record { seat = h.seat; view = h.view;
-          at = t.1; links = h.links })
+      (λ (t : (h.seat ≢ id) × (get_elem? vs h.seat ≡ some h.view)). record {
+        seat = h.seat;
+        view = h.view;
+        at = t.1;
+        links = h.links;
+      })
       (at_set vs id h.seat v' h.view h.at)
 
   -- the pass's own linked entries
@@ -97,8 +100,8 @@ pub chains_same : (k : Key) (dir dir' log log' : ℕ → ℕ) (vs vs' : List Vie
     → ((b p : ℕ) → Linked k dir log vs b p → Linked k dir' log' vs' b p)
     → ((b p : ℕ) → Linked k dir' log' vs' b p → Linked k dir log vs b p)
     → ((b p : ℕ) → Linked k dir log vs b p → log' p ≡ log p)
-        → ((b : ℕ) → Chain (Linked k dir log vs b) (head b) log) → (b : ℕ)
-        → Chain (Linked k dir' log' vs' b) (head b) log'
+    → ((b : ℕ) → Chain (Linked k dir log vs b) (head b) log) → (b : ℕ)
+    → Chain (Linked k dir' log' vs' b) (head b) log'
 chains_same k dir dir' log log' vs vs' head to from same chains b =
     chain_same (Linked k dir log vs b) (Linked k dir' log' vs' b) (head b) log log' (to b) (from b) (same b) (chains b)
 
@@ -108,7 +111,7 @@ module _ (k : Key) (w : World) (r : Rule k w) (views' : List View)
   pub links_views : (b p : ℕ) → Linked k w.dir w.log w.views b p → Linked k w.dir w.log views' b p
   links_views = linked_map k w.dir w.dir w.log w.log w.views views'
       (λ a c h. ⊎_elim (λ (s : IsStoredAt k w.dir a). inl s) (λ (l : IsLinking a c w.views). inr (to a c l)) h)
-          (λ a c h. refl)
+      (λ a c h. refl)
 
   -- and the chains stay where nothing is linked anew
   pub chains_views : ((a c : ℕ) → IsLinking a c views' → IsLinking a c w.views) → (b : ℕ)
@@ -116,7 +119,7 @@ module _ (k : Key) (w : World) (r : Rule k w) (views' : List View)
   chains_views from = chains_same k w.dir w.dir w.log w.log w.views views' w.head links_views
       (linked_map k w.dir w.dir w.log w.log views' w.views
       (λ a c h. ⊎_elim (λ (s : IsStoredAt k w.dir a). inl s)
-          (λ (l : IsLinking a c views'). inr (from a c l)) h) (λ a c h. refl))
+      (λ (l : IsLinking a c views'). inr (from a c l)) h) (λ a c h. refl))
       (λ b p h. refl) r.chains
 
 module _ (k : Key) (w : World) (r : Rule k w) (id : ℕ) (v v' : View) (at : get_elem? w.views id ≡ some v)

@@ -73,9 +73,9 @@ module _ (k : Key) (w : World) (r : Rule k w) where
       let inside = known.inside in
       let up = r.space.regions.grows known.number known.above known.below in
       let same : known.number ≡ x.number =
-          one_region k w.count w.line r.start r.space.regions known.number x.number
-          (x.line * 4 + i) known.above known.below found.above found.below (omega arith) (omega arith)
-          (omega arith) (omega arith) in
+      one_region k w.count w.line r.start r.space.regions known.number x.number
+      (x.line * 4 + i) known.above known.below found.above found.below (omega arith) (omega arith)
+      (omega arith) (omega arith) in
       let there_ : r.start known.number ≡ x.line = ap r.start same ∙ line in
       let offset : known.offset ≡ i = omega arith in
       subst (λ (z : ℕ × ℕ). body w.log (r.start z.0) z.1 ≡ h) (λ j. (same j, offset j)) known.word
@@ -90,7 +90,7 @@ module _ (k : Key) (w : World) (r : Rule k w) where
       let lines = found.lines in
       let e : x.line * 4 ≡ x.line * 4 + 0 = omega arith in
       word_known x 0 h found (omega arith) (subst
-          (λ (z : ℕ). IsKnown k w.count w.dir w.log r.start (record { place = z; value = h })) e known)
+      (λ (z : ℕ). IsKnown k w.count w.dir w.log r.start (record { place = z; value = h })) e known)
 
   -- the word that a pass may read is the region's body there
   pub read_word_is : (v : View) (x : Found) (i : ℕ) → Facts k w.count w.dir w.log r.start v.learned
@@ -111,20 +111,20 @@ module _ (k : Key) (w : World) (r : Rule k w) where
         place = ap (λ (z : ℕ). z * 4 + i) (sym line);
         word = ⊎_elim
             (λ (e : i ≡ 0). ap (body w.log (r.start x.number)) e
-                ∙ cleared_head (λ j. w.log (r.start x.number * 4 + j))
-                ∙ ap (λ (z : ℕ). w.log (r.start x.number * 4 + z)) (sym e) ∙ ap (λ (z : ℕ). w.log (z * 4 + i)) line)
+            ∙ cleared_head (λ j. w.log (r.start x.number * 4 + j))
+            ∙ ap (λ (z : ℕ). w.log (r.start x.number * 4 + z)) (sym e) ∙ ap (λ (z : ℕ). w.log (z * 4 + i)) line)
             (λ (t : (h : ℕ) × Among (record { place = x.line * 4; value = h }) v.learned.known
-                × ¬ IsKeyWord (keys_of h) i).
+            × ¬ IsKeyWord (keys_of h) i).
             let head : body w.log (r.start x.number) 0 ≡ t.0 =
-                head_known x t.0 found (all_among
-                (IsKnown k w.count w.dir w.log r.start) _ v.learned.known facts.known t.1) in
+            head_known x t.0 found (all_among
+            (IsKnown k w.count w.dir w.log r.start) _ v.learned.known facts.known t.1) in
             let first : body w.log (r.start x.number) 0 ≡ w.log (r.start x.number * 4 + 0) =
-                cleared_head (λ j. w.log (r.start x.number * 4 + j)) in
+            cleared_head (λ j. w.log (r.start x.number * 4 + j)) in
             let whole : lines_of (w.log (r.start x.number * 4 + 0)) ≡ x.lines = ap lines_of (sym first)
-                ∙ lines_found x found can.words in
+            ∙ lines_found x found can.words in
             cleared_at (λ j. w.log (r.start x.number * 4 + j)) i (omega arith)
-                (subst (λ (z : ℕ). ¬ IsKeyWord (keys_of z) i) (sym head ∙ first) t.2)
-                ∙ ap (λ (z : ℕ). w.log (z * 4 + i)) line)
+            (subst (λ (z : ℕ). ¬ IsKeyWord (keys_of z) i) (sym head ∙ first) t.2)
+            ∙ ap (λ (z : ℕ). w.log (z * 4 + i)) line)
             can.plain;
       }
 
@@ -141,24 +141,38 @@ module _ (k : Key) (w : World) (r : Rule k w) (id : ℕ) (v : View) (at : get_el
   -- what it knows holds
   read_facts : Facts k w.count w.dir w.log r.start reader.learned
   read_facts = (let h = r.facts id v at in
-      record { counted = h.counted; found = h.found; known = (read_word_is k w r v x o h can, h.known);
-      records = h.records;
-          gaps = h.gaps; labels = h.labels })
+      record {
+        counted = h.counted;
+        found = h.found;
+        known = (read_word_is k w r v x o h can, h.known);
+        records = h.records;
+        gaps = h.gaps;
+        labels = h.labels;
+      })
 
   -- a read keeps the rule
   pub read_kept : Rule k (record w { views = set w.views id reader })
   read_kept = learns k w r id v at reader.learned v.tail reader.clock (r.tails id v at) read_facts (r.floors id v at)
       (let still = still_chained k w r id v at reader.learned v.tail reader.clock in
-          record { nodes = still.nodes; lows = still.lows; tops = still.tops })
+      record { nodes = still.nodes; lows = still.lows; tops = still.tops })
 
   -- and all that lasts
   pub read_lasts : Final k r.start read_kept.start r.lane_of read_kept.lane_of w
       (record w { views = set w.views id reader })
   unfolding read_kept learns
-  read_lasts = record { counts = omega arith; lines = omega arith; settles = omega arith;
-      heads = λ b. omega arith; links = links_set k w r id v (reader) at (λ a c h. h);
-      rises = λ b p h. omega arith; starts = λ n h. refl; lanes = λ n h. refl; dirs = λ n h e. refl;
-      bodies = λ n h e. refl; below = λ p from h. refl }
+  read_lasts = record {
+    counts = omega arith;
+    lines = omega arith;
+    settles = omega arith;
+    heads = λ b. omega arith;
+    links = links_set k w r id v (reader) at (λ a c h. h);
+    rises = λ b p h. omega arith;
+    starts = λ n h. refl;
+    lanes = λ n h. refl;
+    dirs = λ n h e. refl;
+    bodies = λ n h e. refl;
+    below = λ p from h. refl;
+  }
 
 -- a load of a word of a published region
 pub read_allowed : (given k : Key) → given ≡ k → (size id : ℕ) (me : Sat) (x : Found) (o i : ℕ)
@@ -175,15 +189,15 @@ read_allowed given k same size id me x o i about can is =
     let lines = found.lines in
     let inside = can.inside in
     let from = starts_above k w.count w.line r.start r.space.regions x.number found.above
-        (let b = found.below in omega arith) in
+    (let b = found.below in omega arith) in
     let t = region_found k w r x found in
     let end = kind-inside k.end (r.start x.number) (r.start (suc x.number)) (λ e. can.words (sym t.1 ∙ e)) in
     let here : word ≡ w.log p = ap (λ (z : ℕ). get_or ws z 0) is
-        ∙ sym (area-in ws (log_at k) (k.line * 4) (log_size k) p (omega arith) (omega arith)) in
+    ∙ sym (area-in ws (log_at k) (k.line * 4) (log_size k) p (omega arith) (omega arith)) in
     let v' : View = after_read me.0 p word in
     let kept : Rule k (record w { views = set vs id v' }) =
     subst (λ (z : ℕ). Rule k (record w { views = set vs id (after_read me.0 p z) })) (sym here)
-        (read_kept k w r id me.0 at x o can) in
+    (read_kept k w r id me.0 at x o can) in
     let index : place_at me.0.about i ≡ p = ap (λ (z : Key). place_at z i) about ∙ (omega arith) in (
       v',
       loaded_words k ws (set vs id v') i kept,

@@ -1,29 +1,24 @@
 -- Loads of second words of linked entries.
-use Rattle.std.proofs.Common.{◌≡◌, ◌≢◌, ℕ, ◌+◌, ◌-◌, ◌*◌, ◌<◌, ◌≤◌, zero, suc, List, get_or, set, sym, refl}
-use Rattle.std.proofs.Common.{ap, ◌∙◌, subst, ⊎_elim, arith}
+use Rattle.std.proofs.Common.{◌≡◌, ℕ, ◌+◌, ◌-◌, ◌*◌, ◌<◌, ◌≤◌, suc, get_or, set, sym, refl}
+use Rattle.std.proofs.Common.{ap, ◌∙◌, subst, arith}
 use mathlib.Core.Option.{none, some}
 use Rattle.std.proofs.Math.ListN.{get_elem?}
 use Rattle.atomic_table.specs.Table.{Allows, step}
 use Rattle.fish_rule.proofs.Allowed.{allowed, loaded_words, stands, there}
-use Rattle.fish_rule.proofs.Common.{all_among}
-use Rattle.fish_rule.proofs.Gaps.{gap_there, label_there, second_inside}
-use Rattle.fish_rule.specs.Walks.{IsGap}
+use Rattle.fish_rule.proofs.Gaps.{label_there, second_inside}
 use Rattle.fish_rule.proofs.Learns.{learn_final, learns, still_chained}
 use Rattle.fish_rule.proofs.Spots.{lies_inside, spot}
 use Rattle.fish_rule.proofs.Bounds.{starts_above}
 use Rattle.fish_rule.proofs.Bodies.{kind-inside}
 use Rattle.fish_rule.proofs.Worlds.{area-in}
-use Rattle.fish_rule.specs.Chains.{IsLow, Linked}
-use Rattle.fish_rule.specs.Linking.{CanLoadHead, HasNode, LowRises, TopRises, after_head, after_node}
-use Rattle.fish_rule.specs.Linking.{after_previous, gap, with_node}
+use Rattle.fish_rule.specs.Chains.{Linked}
+use Rattle.fish_rule.specs.Linking.{HasNode, after_node}
 use Rattle.fish_rule.specs.Rule.{Final, Rule}
 use Rattle.fish_rule.specs.Table.{Ruled, Sat, Told}
-use Rattle.fish_rule.specs.Told.{ToldHead, ToldPrevious, bucket_at, place_at, told_node}
-use Rattle.fish_rule.specs.Views.{AllOf}
-use Rattle.fish_rule.specs.World.{World, heads_at, log_at, log_size, world}
+use Rattle.fish_rule.specs.Told.{place_at, told_node}
+use Rattle.fish_rule.specs.World.{World, log_at, log_size, world}
 use Rattle.fish_rule.specs.declared.view.Key.{Key}
 use Rattle.fish_rule.specs.declared.view.Kind.TheVariants.{Mark, Stored}
-use Rattle.fish_rule.specs.declared.view.Node.{Node}
 use Rattle.fish_rule.specs.declared.view.View.{View}
 use Rattle.fish_rule.proofs.Heads.{node_linked}
 
@@ -39,10 +34,19 @@ module _ (k : Key) (w : World) (r : Rule k w) (id : ℕ) (v : View) (at : get_el
       let h = r.facts id v at in
       let still = still_chained k w r id v at node_seer.learned v.tail node_seer.clock in
       learns k w r id v at node_seer.learned v.tail node_seer.clock (r.tails id v at)
-          (record { counted = h.counted; found = h.found; known = h.known; records = h.records; gaps = h.gaps;
-              labels = (label_there k w r b p v.learned.settled (r.floors id v at)
-                  (node_linked k w r id v at b p node), h.labels) })
-          (r.floors id v at) (record { nodes = still.nodes; lows = still.lows; tops = still.tops })
+      (record {
+        counted = h.counted;
+        found = h.found;
+        known = h.known;
+        records = h.records;
+        gaps = h.gaps;
+        labels = (
+          label_there k w r b p v.learned.settled (r.floors id v at)
+              (node_linked k w r id v at b p node),
+          h.labels,
+        );
+      })
+      (r.floors id v at) (record { nodes = still.nodes; lows = still.lows; tops = still.tops })
 
   -- and all that lasts
   pub node_lasts : Final k r.start node_kept.start r.lane_of node_kept.lane_of w
@@ -57,9 +61,9 @@ second_within k w r b p h =
     let s = spot k w r h.line h.entry h.shows in
     let inside = second_inside k w r b p h s in
     let from = starts_above k w.count w.line r.start r.space.regions s.number s.above
-        (let q = s.below in omega arith) in
+    (let q = s.below in omega arith) in
     let end = kind-inside k.end (r.start s.number) (r.start (suc s.number))
-        (λ e. let q : Stored ≡ Mark = sym s.kind ∙ e in cc) in
+    (λ e. let q : Stored ≡ Mark = sym s.kind ∙ e in cc) in
     let low_ = lies_inside k w r b p h s in
     (omega arith, omega arith)
 
@@ -73,12 +77,12 @@ node_allowed given k same size id me b p i about node is =
     let x : ℕ = get_or ws i 0 in
     let within = second_within k w r b p (node_linked k w r id me.0 at b p node) in
     let word : x ≡ w.log (suc p) = ap (λ (z : ℕ). get_or ws z 0) is
-        ∙ sym (area-in ws (log_at k) (k.line * 4) (log_size k) (suc p) within.0 within.1) in
+    ∙ sym (area-in ws (log_at k) (k.line * 4) (log_size k) (suc p) within.0 within.1) in
     let index : place_at me.0.about i - 1 ≡ p = ap (λ (z : Key). place_at z i - 1) about ∙ (omega arith) in
     let v' : View = after_node me.0 p x in
     let kept : Rule k (record w { views = set vs id v' }) =
-        subst (λ (z : ℕ). Rule k (record w { views = set vs id (after_node me.0 p z) })) (sym word)
-        (node_kept k w r id me.0 at b p node) in (
+    subst (λ (z : ℕ). Rule k (record w { views = set vs id (after_node me.0 p z) })) (sym word)
+    (node_kept k w r id me.0 at b p node) in (
       v',
       loaded_words k ws (set vs id v') i kept,
       subst (λ (z : ℕ). Told me (after_node me.0 z x) (v', me.1)) (sym index)

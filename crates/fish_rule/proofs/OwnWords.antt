@@ -77,7 +77,7 @@ module _ (k : Key) (w : World) (r : Rule k w) (id : ℕ) (v : View) (at : get_el
       let lines = own.lines in
       let more = becomes.within in
       ne (one_region k w.count w.line r.start r.space.regions n f.number p above below own.above own.below from to
-          (omega arith) (omega arith)))
+      (omega arith) (omega arith)))
 
   -- the words of the region of another number stay
   region_stays : (n : ℕ) → k.number ≤ n → n < w.count → n ≢ f.number
@@ -104,8 +104,8 @@ module _ (k : Key) (w : World) (r : Rule k w) (id : ℕ) (v : View) (at : get_el
       let head : body w.log f.line 0 ≡ w.log (f.line * 4 + 0) = cleared_head (λ i. w.log (f.line * 4 + i)) in
       cleared_same (λ i. w.log (f.line * 4 + i)) (λ i. written.log (f.line * 4 + i)) (λ i within plain.
       put-else w.log own_word x (f.line * 4 + i)
-          (λ e. let same : o ≡ i = omega arith in
-          plain (subst (λ (z : ℕ × ℕ). IsKeyWord (keys_of z.0) z.1) (λ j. (head j, same j)) key)))
+      (λ e. let same : o ≡ i = omega arith in
+      plain (subst (λ (z : ℕ × ℕ). IsKeyWord (keys_of z.0) z.1) (λ j. (head j, same j)) key)))
 
   -- a line that shows an entry keeps its record
   shown_stays : (a c : ℕ) → Shows k w.dir w.views a c → body written.log a ≡ body w.log a
@@ -119,10 +119,10 @@ module _ (k : Key) (w : World) (r : Rule k w) (id : ℕ) (v : View) (at : get_el
           (λ (t : (w.dir s.number ≡ 0) × IsFlier w s.number c).
           let q = t.1 in
           let same : q.seat ≡ id = r.space.alone q.seat id q.view v f.number q.at at
-              (subst (IsFlightOf f.number) (sym q.flies) (q.number ∙ e))
-              (subst (IsFlightOf f.number) (sym flying) refl) in
+          (subst (IsFlightOf f.number) (sym q.flies) (q.number ∙ e))
+          (subst (IsFlightOf f.number) (sym flying) refl) in
           let view : q.view ≡ v = one_view w.views id q.view v
-              (subst (λ (z : ℕ). get_elem? w.views z ≡ some q.view) same q.at) at in
+          (subst (λ (z : ℕ). get_elem? w.views z ≡ some q.view) same q.at) at in
           let flight : q.flight ≡ f = one_flight q.flight f (sym q.flies ∙ ap (λ (z : View). z.flight) view ∙ flying) in
           let counts : c < f.linked = subst (λ (z : Flight). c < z.linked) flight q.counts in omega arith) s.owner
 
@@ -132,9 +132,9 @@ module _ (k : Key) (w : World) (r : Rule k w) (id : ℕ) (v : View) (at : get_el
           subst (λ (z : ℕ). body written.log z ≡ body w.log z) (sym line) (own_stays (mine e))
       pick (no ne) = subst (λ (z : ℕ). body written.log z ≡ body w.log z) s.line
           (region_stays s.number s.above s.below ne
-              (let l = s.record_of.1 in let q = spelled_lines l.spells in let m = l.lines_is in
+          (let l = s.record_of.1 in let q = spelled_lines l.spells in let m = l.lines_is in
           subst (λ (z : ℕ). lines_of (body w.log z 0) ≤ r.start (suc s.number) - r.start s.number) (sym s.line)
-              (omega arith)))
+          (omega arith)))
 
   -- the word is no linked one
   pub not_linked : (b p : ℕ) → Linked k w.dir w.log w.views b p → p ≢ own_word
@@ -151,10 +151,10 @@ module _ (k : Key) (w : World) (r : Rule k w) (id : ℕ) (v : View) (at : get_el
       (λ (t : (w.dir s.number ≡ 0) × IsFlier w s.number h.entry).
       let q = t.1 in
       let seat : q.seat ≡ id = r.space.alone q.seat id q.view v f.number q.at at
-          (subst (IsFlightOf f.number) (sym q.flies) (q.number ∙ same.0))
-          (subst (IsFlightOf f.number) (sym flying) refl) in
+      (subst (IsFlightOf f.number) (sym q.flies) (q.number ∙ same.0))
+      (subst (IsFlightOf f.number) (sym flying) refl) in
       let view : q.view ≡ v = one_view w.views id q.view v
-          (subst (λ (z : ℕ). get_elem? w.views z ≡ some q.view) seat q.at) at in
+      (subst (λ (z : ℕ). get_elem? w.views z ≡ some q.view) seat q.at) at in
       let flight : q.flight ≡ f = one_flight q.flight f (sym q.flies ∙ ap (λ (z : View). z.flight) view ∙ flying) in
       becomes.unlinked (h.entry, subst (λ (z : Flight). h.entry < z.linked) flight q.counts, offset)) s.owner
 
@@ -168,8 +168,8 @@ module _ (k : Key) (w : World) (r : Rule k w) (id : ℕ) (v : View) (at : get_el
   links_stay : (b p : ℕ) → Linked k w.dir w.log w.views b p → Linked k w.dir written.log written.views b p
   links_stay = linked_map k w.dir w.dir w.log written.log w.views written.views
       (λ a c h. ⊎_elim (λ (s : IsStoredAt k w.dir a). inl s)
-          (λ (l : IsLinking a c w.views). inr
-          (linking_to w.views id v writer at a c (keep_linked a c) l)) h) shown_stays
+      (λ (l : IsLinking a c w.views). inr
+      (linking_to w.views id v writer at a c (keep_linked a c) l)) h) shown_stays
 
   shows_back : (a c : ℕ) → Shows k w.dir written.views a c → Shows k w.dir w.views a c
   shows_back a c h = ⊎_elim (λ (s : IsStoredAt k w.dir a). inl s)
@@ -236,15 +236,15 @@ module _ (k : Key) (w : World) (r : Rule k w) (id : ℕ) (v : View) (at : get_el
   others_fly j u ne at_u None is h = h
   others_fly j u ne at_u (Some g) is h =
       let other : g.number ≢ f.number = λ e. ne
-          (r.space.alone j id u v g.number at_u at (subst (IsFlightOf g.number) (sym is) refl)
-          (subst (IsFlightOf g.number) (sym flying) (sym e))) in
+      (r.space.alone j id u v g.number at_u at (subst (IsFlightOf g.number) (sym is) refl)
+      (subst (IsFlightOf g.number) (sym flying) (sym e))) in
       let line = h.line in
       let lines = h.lines in
       let grows = r.space.regions.grows g.number h.above h.below in
       let same : (i : ℕ) → i < g.lines * 4 → written.log (g.line * 4 + i) ≡ w.log (g.line * 4 + i) =
-          λ i less. elsewhere g.number (g.line * 4 + i) h.above h.below other (omega arith) (omega arith) in
+      λ i less. elsewhere g.number (g.line * 4 + i) h.above h.below other (omega arith) (omega arith) in
       flight_later k w written r.start r.start r.lane_of r.lane_of write_final u.lane g h h.unpublished same
-          (λ some_. whole_later k w.log written.log u.lane g (omega arith) same (h.whole some_))
+      (λ some_. whole_later k w.log written.log u.lane g (omega arith) same (h.whole some_))
 
   -- a store keeps the rule
   pub write_kept : Rule k written

@@ -52,16 +52,16 @@ small_line k w r f lane h = pick (Rattle.std.proofs.Math.Decide.dec_le f.number 
     pick : Dec (f.number ≤ r.limit.first) → f.line < 68719476736
     pick (yes before) =
         let up =
-            Rattle.fish_rule.proofs.Bounds.starts_rise k w.count w.line r.start r.space.regions f.number
-                r.limit.first h.above before r.limit.within in
+        Rattle.fish_rule.proofs.Bounds.starts_rise k w.count w.line r.start r.space.regions f.number
+        r.limit.first h.above before r.limit.within in
         let s = start_is in let fits = r.limit.fits in let low_end = r.key_fits.low_end in
         omega arith
     pick (no behind) =
         let far =
-            Rattle.fish_rule.proofs.Bounds.starts_near k w.count w.line r.start r.space.regions r.limit.first
-                f.number r.limit.above (omega arith) (let b = h.below in omega arith) in
+        Rattle.fish_rule.proofs.Bounds.starts_near k w.count w.line r.start r.space.regions r.limit.first
+        f.number r.limit.above (omega arith) (let b = h.below in omega arith) in
         let s = start_is in let fits = r.limit.fits in let low_end = r.key_fits.low_end in
-            let few = r.limit.few in let below = h.below in
+        let few = r.limit.few in let below = h.below in
         omega arith
 
 module _ (k : Key) (w : World) (r : Rule k w) (id : ℕ) (v : View) (at : get_elem? w.views id ≡ some v)
@@ -124,25 +124,37 @@ module _ (k : Key) (w : World) (r : Rule k w) (id : ℕ) (v : View) (at : get_el
       let counts : c < f.linked = h.0 in
       let line : f.line ≡ a = h.1 in
       let stored : kind ≡ Stored = sym is_kind ∙ (own.whole (omega arith)).kind in
-      inl (record { number = f.number; above = own.above; stored = kind_here ∙ ap code stored;
-          line = ap low dir_here ∙ low-pack (code kind) f.line (small_line k w r f v.lane own) ∙ line })
+      inl (record {
+        number = f.number;
+        above = own.above;
+        stored = kind_here ∙ ap code stored;
+        line = ap low dir_here ∙ low-pack (code kind) f.line (small_line k w r f v.lane own) ∙ line;
+      })
 
   shows_on : (a c : ℕ) → c < keys_of (body w.log a 0) → Shows k w.dir w.views a c
       → Shows k dir' (set w.views id publisher) a c
   shows_on a c few (inl s) =
-      inl (record { number = s.number; above = s.above;
-          stored = ap high (dir_else s.number (is_other s.number (published (w.dir s.number) Stored s.stored)))
-          ∙ s.stored; line = ap low (dir_else s.number
-          (is_other s.number (published (w.dir s.number) Stored s.stored))) ∙ s.line })
+      inl (record {
+        number = s.number;
+        above = s.above;
+        stored = ap high (dir_else s.number (is_other s.number (published (w.dir s.number) Stored s.stored)))
+            ∙ s.stored;
+        line = ap low (dir_else s.number
+            (is_other s.number (published (w.dir s.number) Stored s.stored))) ∙ s.line;
+      })
   shows_on a c few (inr l) = pick (ℕ_discrete l.seat id)
     where
       pick : Dec (l.seat ≡ id) → Shows k dir' (set w.views id publisher) a c
       pick (yes e) =
           let same : l.view ≡ v = one_view w.views id l.view v
-              (subst (λ (z : ℕ). get_elem? w.views z ≡ some l.view) e l.at) at in
+          (subst (λ (z : ℕ). get_elem? w.views z ≡ some l.view) e l.at) at in
           own_shows a c (subst (LinksAt a c) (ap (λ (z : View). z.flight) same ∙ flying) l.links)
-      pick (no ne) = inr (record { seat = l.seat; view = l.view;
-          at = set_else w.views id l.seat publisher ne ∙ l.at; links = l.links })
+      pick (no ne) = inr (record {
+        seat = l.seat;
+        view = l.view;
+        at = set_else w.views id l.seat publisher ne ∙ l.at;
+        links = l.links;
+      })
 
   shows_before : (a c : ℕ) → c < keys_of (body w.log a 0) → Shows k dir' (set w.views id publisher) a c
       → Shows k w.dir w.views a c
@@ -158,16 +170,19 @@ module _ (k : Key) (w : World) (r : Rule k w) (id : ℕ) (v : View) (at : get_el
       pick : Dec (s.number ≡ f.number) → Shows k w.dir w.views a c
       pick (yes e) =
           let here : f.line ≡ a = sym (low-pack (code kind) f.line (small_line k w r f v.lane own))
-              ∙ ap low (sym dir_here) ∙ ap (λ (z : ℕ). low (dir' z)) (sym e) ∙ s.line in
+          ∙ ap low (sym dir_here) ∙ ap (λ (z : ℕ). low (dir' z)) (sym e) ∙ s.line in
           let stored : kind ≡ Stored = code_once kind Stored
-              (sym kind_here ∙ ap (λ (z : ℕ). high (dir' z)) (sym e) ∙ s.stored) in
+          (sym kind_here ∙ ap (λ (z : ℕ). high (dir' z)) (sym e) ∙ s.stored) in
           let all : f.linked ≡ keys_of (body w.log f.line 0) = all_linked kind stored ready in
           let few' : c < keys_of (body w.log f.line 0) =
-              subst (λ (z : ℕ). c < keys_of (body w.log z 0)) (sym here) few in
+          subst (λ (z : ℕ). c < keys_of (body w.log z 0)) (sym here) few in
           inr (record { seat = id; view = v; at = at; links = subst (LinksAt a c) (sym flying) (omega arith, here) })
-      pick (no ne) = inl (record { number = s.number; above = s.above;
-          stored = ap high (sym (dir_else s.number ne)) ∙ s.stored;
-          line = ap low (sym (dir_else s.number ne)) ∙ s.line })
+      pick (no ne) = inl (record {
+        number = s.number;
+        above = s.above;
+        stored = ap high (sym (dir_else s.number ne)) ∙ s.stored;
+        line = ap low (sym (dir_else s.number ne)) ∙ s.line;
+      })
   shows_before a c few (inr l) = inr (linking_from w.views id v publisher at a c (λ h. elim h [ ]) l)
 
   links_on : (b p : ℕ) → Linked k w.dir w.log w.views b p → Linked k dir' w.log (set w.views id publisher) b p
@@ -194,26 +209,27 @@ module _ (k : Key) (w : World) (r : Rule k w) (id : ℕ) (v : View) (at : get_el
       × Holds k kd v.lane f.number f.lines (body w.log f.line)
   filled Stored h =
       let e : body w.log f.line ≡ body_of f.words =
-          body_stored k w.log f.words v.lane f.number f.lines f.line f.linked h.1 h.0 sized.0
-          (let q = h.2 in omega arith) own.written in
-      let lined : lines_of (body_of f.words 0) ≡ f.lines = spelled_lines h.1.1.spells ∙ h.1.1.lines_is in
-      (subst (λ (z : ℕ → ℕ). lines_of (z 0) ≤ f.lines) (sym e) (omega arith),
-          subst (IsRecord k v.lane f.number f.lines) (sym e) h.1)
+      body_stored k w.log f.words v.lane f.number f.lines f.line f.linked h.1 h.0 sized.0
+      (let q = h.2 in omega arith) own.written in
+      let lined : lines_of (body_of f.words 0) ≡ f.lines = spelled_lines h.1.1.spells ∙ h.1.1.lines_is in (
+        subst (λ (z : ℕ → ℕ). lines_of (z 0) ≤ f.lines) (sym e) (omega arith),
+        subst (IsRecord k v.lane f.number f.lines) (sym e) h.1,
+      )
   filled Void h =
       let s = sized in
       let header : w.log (f.line * 4 + 0) ≡ void_word f.lines =
-          own.written 0 (subst (λ (z : List ℕ). 0 < length z) (sym h.0) (omega arith))
-          (λ c. let less : c.0 < f.linked = c.1 in let none : f.linked ≡ 0 = h.1 in absurd (omega arith))
+      own.written 0 (subst (λ (z : List ℕ). 0 < length z) (sym h.0) (omega arith))
+      (λ c. let less : c.0 < f.linked = c.1 in let none : f.linked ≡ 0 = h.1 in absurd (omega arith))
       ∙ ap (λ (z : List ℕ). get_or z 0 0) h.0 in
       let e : body w.log f.line ≡ void_body f.lines = body_void w.log f.lines f.line s.0 (omega arith) header
       (λ i more less. own.unwritten i (subst (λ (z : List ℕ). length z ≤ i) (sym h.0) more) less) in
       let lined : lines_of (void_body f.lines 0) ≡ f.lines = ap lines_of (void-head f.lines)
-          ∙ lines_of-void f.lines (omega arith) in
+      ∙ lines_of-void f.lines (omega arith) in
       (subst (λ (z : ℕ → ℕ). lines_of (z 0) ≤ f.lines) (sym e) (omega arith), e)
   filled Mark h =
       let s = sized in
       let e : body w.log f.line 0 ≡ 0 = cleared_head (λ i. w.log (f.line * 4 + i))
-          ∙ own.unwritten 0 (subst (λ (z : List ℕ). length z ≤ 0) (sym h) (omega arith)) (omega arith) in
+      ∙ own.unwritten 0 (subst (λ (z : List ℕ). length z ≤ 0) (sym h) (omega arith)) (omega arith) in
       (subst (λ (z : ℕ). lines_of z ≤ f.lines) (sym e) (subst (λ (z : ℕ). z ≤ f.lines) (sym no_lines) (omega arith)), e)
 
   own_finished : IsFinished k dir' w.log r.start r.lane_of f.number
@@ -231,7 +247,7 @@ module _ (k : Key) (w : World) (r : Rule k w) (id : ℕ) (v : View) (at : get_el
         holds = subst (λ (z : ℕ × ℕ × ℕ). Holds k (kind_of k.end z.0 z.1) z.2 f.number (z.1 - z.0)
             (body w.log z.0)) (λ i. (sym a i, sym b i, sym own.owner i))
             (subst (λ (z : Kind × ℕ). Holds k z.0 v.lane f.number z.1 (body w.log f.line))
-                (λ i. (sym is_kind i, sym size i)) h.1);
+            (λ i. (sym is_kind i, sym size i)) h.1);
       }
 
   -- the records in flight with others stay
@@ -240,20 +256,26 @@ module _ (k : Key) (w : World) (r : Rule k w) (id : ℕ) (v : View) (at : get_el
   others_fly j u ne at_u None is h = h
   others_fly j u ne at_u (Some g) is h =
       let other : g.number ≢ f.number = λ e. ne
-          (r.space.alone j id u v g.number at_u at (subst (IsFlightOf g.number) (sym is) refl)
-          (subst (IsFlightOf g.number) (sym flying) (sym e))) in
+      (r.space.alone j id u v g.number at_u at (subst (IsFlightOf g.number) (sym is) refl)
+      (subst (IsFlightOf g.number) (sym flying) (sym e))) in
       flight_later k w publication r.start r.start r.lane_of r.lane_of publish_final u.lane g h
-          (dir_else g.number other ∙ h.unpublished) (λ i less. refl) h.whole
+      (dir_else g.number other ∙ h.unpublished) (λ i less. refl) h.whole
 
   -- the pass might overflow before, if it may afterwards
   may_before : (kd : Kind) → kind_of k.end f.line (f.line + f.lines) ≡ kd
       → MayOverflow k.end (shut_after kd f k.end v.shut) None → MayOverflow k.end v.shut v.flight
-  may_before Stored is h = (h.0, λ over. let past : k.end < f.line + f.lines =
-      subst (IsOver k.end) flying over in let e : Mark ≡ Stored =
-      sym (kind-mark k.end f.line (f.line + f.lines) past) ∙ is in cc)
-  may_before Void is h = (h.0, λ over. let past : k.end < f.line + f.lines =
-      subst (IsOver k.end) flying over in let e : Mark ≡ Void =
-      sym (kind-mark k.end f.line (f.line + f.lines) past) ∙ is in cc)
+  may_before Stored is h = (
+    h.0,
+    λ over. let past : k.end < f.line + f.lines =
+        subst (IsOver k.end) flying over in let e : Mark ≡ Stored =
+        sym (kind-mark k.end f.line (f.line + f.lines) past) ∙ is in cc,
+  )
+  may_before Void is h = (
+    h.0,
+    λ over. let past : k.end < f.line + f.lines =
+        subst (IsOver k.end) flying over in let e : Mark ≡ Void =
+        sym (kind-mark k.end f.line (f.line + f.lines) past) ∙ is in cc,
+  )
   may_before Mark is h = (let e : Some (record { line = f.line; lines = f.lines; end = k.end }) ≡ None = h.0 in
       absurd (some_none e))
     where
@@ -269,11 +291,18 @@ module _ (k : Key) (w : World) (r : Rule k w) (id : ℕ) (v : View) (at : get_el
     where
       pick : Dec (n ≡ f.number) → (IsStoredBy k w.count w.dir r.lane_of l n)
           ⊎ ((n ≡ f.number) × (v.lane ≡ l) × (kind ≡ Stored))
-      pick (yes e) = inr (e, sym own.owner ∙ ap r.lane_of (sym e) ∙ h.lane,
-          Rattle.fish_rule.proofs.Bodies.code_once kind Stored
-          (sym kind_here ∙ ap (λ (z : ℕ). high (dir' z)) (sym e) ∙ h.stored))
-      pick (no ne) = inl (record { above = h.above; below = h.below;
-          stored = ap high (sym (dir_else n ne)) ∙ h.stored; lane = h.lane })
+      pick (yes e) = inr (
+        e,
+        sym own.owner ∙ ap r.lane_of (sym e) ∙ h.lane,
+        Rattle.fish_rule.proofs.Bodies.code_once kind Stored
+            (sym kind_here ∙ ap (λ (z : ℕ). high (dir' z)) (sym e) ∙ h.stored),
+      )
+      pick (no ne) = inl (record {
+        above = h.above;
+        below = h.below;
+        stored = ap high (sym (dir_else n ne)) ∙ h.stored;
+        lane = h.lane;
+      })
 
   others_own : (j : ℕ) (u : View) → j ≢ id → get_elem? w.views j ≡ some u
       → Owns k w.count dir' r.lane_of u.lane u.out u.own
@@ -286,7 +315,7 @@ module _ (k : Key) (w : World) (r : Rule k w) (id : ℕ) (v : View) (at : get_el
             (λ (b : IsStoredBy k w.count w.dir r.lane_of o.lane o.number). h.complete o has b)
             (λ (t : (o.number ≡ f.number) × (v.lane ≡ o.lane) × (kind ≡ Stored)).
             absurd (ne (r.seats.apart j id u v o.lane at_u at has
-                (subst (Has v.lane v.out) t.1 (has_own w.views id v at live r.seats)))))
+            (subst (Has v.lane v.out) t.1 (has_own w.views id v at live r.seats)))))
             (stored_now o.lane o.number stored);
       }
 
@@ -295,15 +324,16 @@ module _ (k : Key) (w : World) (r : Rule k w) (id : ℕ) (v : View) (at : get_el
       let h = r.own id v at in
       record {
         sound = λ o m. ⊎_elim
-            (λ (a : Among o v.own). let s = h.sound o a in
-                (s.0,
-                stored_later k w publication r.start r.start r.lane_of r.lane_of publish_final o.lane o.number s.1))
+            (λ (a : Among o v.own). let s = h.sound o a in (
+              s.0,
+              stored_later k w publication r.start r.start r.lane_of r.lane_of publish_final o.lane o.number s.1,
+            ))
             (λ (a : Among o (record { lane = v.lane; number = f.number } ∷ [])). newest o a)
             (among_either o v.own (record { lane = v.lane; number = f.number } ∷ []) m);
         complete = λ o has stored. ⊎_elim
             (λ (b : IsStoredBy k w.count w.dir r.lane_of o.lane o.number). among_left o v.own _ (h.complete o has b))
             (λ (t : (o.number ≡ f.number) × (v.lane ≡ o.lane) × (kind ≡ Stored)). among_right o v.own _
-                (inl (λ i. record { lane = t.1 i; number = sym t.0 i })))
+            (inl (λ i. record { lane = t.1 i; number = sym t.0 i })))
             (stored_now o.lane o.number stored);
       }
     where
@@ -311,9 +341,10 @@ module _ (k : Key) (w : World) (r : Rule k w) (id : ℕ) (v : View) (at : get_el
           × IsStoredBy k w.count dir' r.lane_of o.lane o.number
       newest o (inr n) = elim n [ ]
       newest o (inl e) = subst (λ (z : Own). Has v.lane v.out z.lane
-          × IsStoredBy k w.count dir' r.lane_of z.lane z.number) e
-          (has_own w.views id v at live r.seats,
-              record { above = own.above; below = own.below; stored = kind_here ∙ ap code is; lane = own.owner })
+          × IsStoredBy k w.count dir' r.lane_of z.lane z.number) e (
+            has_own w.views id v at live r.seats,
+            record { above = own.above; below = own.below; stored = kind_here ∙ ap code is; lane = own.owner },
+          )
   own_own Void is = no_more Void is (λ e. cc)
     where
       no_more : (kd : Kind) → kind ≡ kd → kd ≢ Stored → Owns k w.count dir' r.lane_of v.lane v.out v.own
@@ -321,9 +352,9 @@ module _ (k : Key) (w : World) (r : Rule k w) (id : ℕ) (v : View) (at : get_el
           owns_later k w publication r.start r.start r.lane_of r.lane_of publish_final v.lane v.out v.own
           (r.own id v at)
           (λ o has h. ⊎_elim (λ (b : IsStoredBy k w.count w.dir r.lane_of o.lane o.number).
-              (b.below, published (w.dir o.number) Stored b.stored))
+          (b.below, published (w.dir o.number) Stored b.stored))
           (λ (t : (o.number ≡ f.number) × (v.lane ≡ o.lane) × (kind ≡ Stored)). absurd (ne (sym is ∙ t.2)))
-              (stored_now o.lane o.number h))
+          (stored_now o.lane o.number h))
   own_own Mark is = no_more Mark is (λ e. cc)
     where
       no_more : (kd : Kind) → kind ≡ kd → kd ≢ Stored → Owns k w.count dir' r.lane_of v.lane v.out v.own
@@ -331,9 +362,9 @@ module _ (k : Key) (w : World) (r : Rule k w) (id : ℕ) (v : View) (at : get_el
           owns_later k w publication r.start r.start r.lane_of r.lane_of publish_final v.lane v.out v.own
           (r.own id v at)
           (λ o has h. ⊎_elim (λ (b : IsStoredBy k w.count w.dir r.lane_of o.lane o.number).
-              (b.below, published (w.dir o.number) Stored b.stored))
+          (b.below, published (w.dir o.number) Stored b.stored))
           (λ (t : (o.number ≡ f.number) × (v.lane ≡ o.lane) × (kind ≡ Stored)). absurd (ne (sym is ∙ t.2)))
-              (stored_now o.lane o.number h))
+          (stored_now o.lane o.number h))
 
   -- ---- facts
 
@@ -364,9 +395,15 @@ module _ (k : Key) (w : World) (r : Rule k w) (id : ℕ) (v : View) (at : get_el
   own_facts : Facts k w.count dir' w.log r.start (learned_after kind f v.learned)
   own_facts =
       let h = facts_later k w publication r.start r.start r.lane_of r.lane_of publish_final v.learned
-          (r.facts id v at) in
-      record { counted = h.counted; found = (found_here, h.found); known = h.known;
-          records = records_here kind refl ready; gaps = h.gaps; labels = h.labels }
+      (r.facts id v at) in
+      record {
+        counted = h.counted;
+        found = (found_here, h.found);
+        known = h.known;
+        records = records_here kind refl ready;
+        gaps = h.gaps;
+        labels = h.labels;
+      }
 
   own_shut : (kd : Kind) → kind ≡ kd → ShutOk k w.count dir' r.start (shut_after kd f k.end v.shut)
   own_shut Stored is = shut_later k w publication r.start r.start r.lane_of r.lane_of publish_final v.shut
@@ -377,8 +414,13 @@ module _ (k : Key) (w : World) (r : Rule k w) (id : ℕ) (v : View) (at : get_el
     number = f.number;
     end = refl;
     past = mark-past k.end f.line (f.line + f.lines) (is_kind ∙ is);
-    mark = record { above = own.above; below = own.below; kind = kind_here ∙ ap code is; line = own.line;
-        lines = own.lines };
+    mark = record {
+      above = own.above;
+      below = own.below;
+      kind = kind_here ∙ ap code is;
+      line = own.line;
+      lines = own.lines;
+    };
   }
 
   -- a publication keeps the rule
@@ -439,7 +481,7 @@ module _ (k : Key) (w : World) (r : Rule k w) (id : ℕ) (v : View) (at : get_el
       finish n above below set_ (no ne) =
           let before : w.dir n ≢ 0 = λ e. set_ (dir_else n ne ∙ e) in
           finished_later k w publication r.start r.start r.lane_of r.lane_of publish_final n below before
-              (r.space.finished n above below before)
+          (r.space.finished n above below before)
 
       fly : (n : ℕ) → k.number ≤ n → n < w.count → dir' n ≡ 0 → Dec (n ≡ f.number)
           → HasFlight n (set w.views id publisher)

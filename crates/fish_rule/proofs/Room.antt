@@ -24,7 +24,7 @@ module _ (k : Key) (w : World) (r : Rule k w) where
   pub few_lines : w.line + 18625 < 68719476736
   few_lines =
       let far = starts_near k w.count w.line r.start r.space.regions r.limit.first w.count r.limit.above r.limit.within
-          (omega arith) in
+      (omega arith) in
       let last = r.space.regions.last in
       let fits = r.limit.fits in
       let few = r.limit.few in

@@ -50,17 +50,20 @@ event_lasts k (stores id x) w u r g = (let v = g.0 in let f = g.1 in let s = g.2
     lasts_at k w r u _ g.4 (store_kept k w r id v s.at f g.3 x, store_lasts k w r id v s.at f g.3 x))
 event_lasts k (publishes id) w u r g = (let v = g.0 in let f = g.1 in let s = g.2 in let can = g.3 in
     let ends_ : kind_of k.end f.line (f.line + f.lines) ≡ flight_kind v f =
-        ap (λ (z : Key). kind_of z.end f.line (f.line + f.lines)) (sym s.about) in
+    ap (λ (z : Key). kind_of z.end f.line (f.line + f.lines)) (sym s.about) in
     let ready : IsReady k (flight_kind v f) v.lane f =
-        subst (λ (z : Key). IsReady z (flight_kind v f) v.lane f) s.about can.ready in
+    subst (λ (z : Key). IsReady z (flight_kind v f) v.lane f) s.about can.ready in
     lasts_at k w r u _ g.4 (subst (λ (z : Key). Lasts k w r
-        (record w { dir = put w.dir f.number (dir_word (flight_kind v f) f.line);
-        views = set w.views id (publisher_at v f z) })) (sym s.about)
-    (publish_kept k w r id v s.at f can.live can.flying (flight_kind v f) ends_ ready,
-        publish_lasts k w r id v s.at f can.live can.flying (flight_kind v f) ends_ ready)))
+    (record w {
+      dir = put w.dir f.number (dir_word (flight_kind v f) f.line);
+      views = set w.views id (publisher_at v f z);
+    })) (sym s.about) (
+      publish_kept k w r id v s.at f can.live can.flying (flight_kind v f) ends_ ready,
+      publish_lasts k w r id v s.at f can.live can.flying (flight_kind v f) ends_ ready,
+    )))
 event_lasts k (looks id n) w u r g = (let v = g.0 in let s = g.2 in
     lasts_at k w r u _ g.5 (subst (λ (z : ℕ). Lasts k w r
-        (record w { views = set w.views id (after_look v n z (w.dir n)) })) (sym (g.4 r))
+    (record w { views = set w.views id (after_look v n z (w.dir n)) })) (sym (g.4 r))
     (look_kept k w r id v s.at n (w.dir n) g.3 s.about refl, look_lasts k w r id v s.at n (w.dir n) g.3 s.about refl)))
 event_lasts k (reads id n i) w u r g = (let v = g.0 in let f = g.1 in let s = g.2 in
     lasts_at k w r u _ g.5 (read_kept k w r id v s.at f i g.3, read_lasts k w r id v s.at f i g.3))
@@ -89,8 +92,10 @@ event_lasts k (splices id b q x) w u r g = (let v = g.0 in let f = g.1 in let s 
 event_lasts k (splits id l) w u r g = (let v = g.0 in let s = g.1 in
     lasts_at k w r u _ g.3 (split_kept k w r id v s.at l g.2, split_lasts k w r id v s.at l g.2))
 event_lasts k (joins id other) w u r g = (let v = g.0 in let b = g.1 in let s = g.2 in
-    lasts_at k w r u _ g.6 (join_kept k w r id other v b s.at g.3 g.4 g.5,
-        join_lasts k w r id other v b s.at g.3 g.4 g.5))
+    lasts_at k w r u _ g.6 (
+      join_kept k w r id other v b s.at g.3 g.4 g.5,
+      join_lasts k w r id other v b s.at g.3 g.4 g.5,
+    ))
 
 -- a list of steps keeps the rule
 runs_kept : (k : Key) (events : List Event) (w u : World) → Rule k w → Runs k w events u → Rule k u

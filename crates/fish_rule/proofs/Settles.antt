@@ -38,10 +38,19 @@ module _ (k : Key) (w : World) (r : Rule k w) (id : ℕ) (v : View) (at : get_el
 
   -- nothing that lasts has changed
   pub raise_final : Final k r.start r.start r.lane_of r.lane_of w raised
-  raise_final = record { counts = omega arith; lines = omega arith; settles = omega arith;
-      heads = λ b. omega arith; links = links_set k w r id v (raiser) at (λ a c h. h);
-      rises = λ b p h. omega arith; starts = λ n h. refl; lanes = λ n h. refl; dirs = λ n h e. refl;
-      bodies = λ n h e. refl; below = λ p from h. refl }
+  raise_final = record {
+    counts = omega arith;
+    lines = omega arith;
+    settles = omega arith;
+    heads = λ b. omega arith;
+    links = links_set k w r id v (raiser) at (λ a c h. h);
+    rises = λ b p h. omega arith;
+    starts = λ n h. refl;
+    lanes = λ n h. refl;
+    dirs = λ n h e. refl;
+    bodies = λ n h e. refl;
+    below = λ p from h. refl;
+  }
 
   -- every number below is published, and no mark
   settling : Settled k w.count (max w.settled m) w.dir
@@ -55,15 +64,17 @@ module _ (k : Key) (w : World) (r : Rule k w) (id : ℕ) (v : View) (at : get_el
       found_word n f among is ne =
           let found = all_among (IsFound k w.count w.dir r.start) f v.learned.found (r.facts id v at).found among in
           subst (λ (z : ℕ). IsEntryWord (w.dir z)) is
-              (record { published = published (w.dir f.number) f.kind found.kind;
-              unmarked = λ e. ne (code_once f.kind Mark (sym found.kind ∙ e)) })
+          (record {
+            published = published (w.dir f.number) f.kind found.kind;
+            unmarked = λ e. ne (code_once f.kind Mark (sym found.kind ∙ e));
+          })
 
       pick : (n : ℕ) → k.number ≤ n → n < max w.settled m → Dec (n < w.settled) → IsEntryWord (w.dir n)
       pick n above less (yes before) = r.settling.below n above before
       pick n above less (no behind) = ⊎_elim
           (λ (h : n < v.learned.settled). let floor = r.floors id v at in absurd (omega arith))
           (λ (h : (f : Found) × Among f v.learned.found × (f.number ≡ n)
-              × (f.kind ≢ Mark)). found_word n h.0 h.1 h.2 h.3)
+          × (f.kind ≢ Mark)). found_word n h.0 h.1 h.2 h.3)
           (can.known n (subst (λ (z : Key). z.number ≤ n) (sym about) above) (omega arith))
 
   -- a raise keeps the rule
@@ -106,9 +117,14 @@ module _ (k : Key) (w : World) (r : Rule k w) (id : ℕ) (v : View) (at : get_el
     floors = each_set _ w.views id raiser (λ j u ne at_u. let a = r.floors j u at_u in omega arith) (omega arith);
     own = each_set _ w.views id raiser (λ j u ne at_u. r.own j u at_u) (r.own id v at);
     facts = each_set _ w.views id raiser (λ j u ne at_u. r.facts j u at_u)
-        (let h = r.facts id v at in record { counted = h.counted; found = h.found; known = h.known;
-        records = h.records;
-          gaps = h.gaps; labels = h.labels });
+        (let h = r.facts id v at in record {
+          counted = h.counted;
+          found = h.found;
+          known = h.known;
+          records = h.records;
+          gaps = h.gaps;
+          labels = h.labels;
+        });
     shuts = each_set _ w.views id raiser (λ j u ne at_u. r.shuts j u at_u) (r.shuts id v at);
   }
 

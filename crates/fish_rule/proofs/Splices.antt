@@ -85,8 +85,8 @@ module _ (k : Key) (w : World) (r : Rule k w) (id : ℕ) (v : View) (at : get_el
       → p < r.start (suc n) * 4 → log' p ≡ w.log p
   elsewhere n p above below ne from to = put-else w.log q own_at p (λ e.
       let i = inside in ne
-          (one_region k w.count w.line r.start r.space.regions its.number n p its.above its.below above below
-          (omega arith) (omega arith) from to))
+      (one_region k w.count w.line r.start r.space.regions its.number n p its.above its.below above below
+      (omega arith) (omega arith) from to))
 
   -- regions keep their bodies
   regions : (n : ℕ) → k.number ≤ n → n < w.count
@@ -97,22 +97,22 @@ module _ (k : Key) (w : World) (r : Rule k w) (id : ℕ) (v : View) (at : get_el
       pick : Dec (its.number ≡ n) → body log' (r.start n) ≡ body w.log (r.start n)
       pick (no ne) = (let grows = r.space.regions.grows n above below in
           body_same w.log log' (r.start n) (r.start (suc n) - r.start n) (omega arith) lined
-              (λ i less. elsewhere n (r.start n * 4 + i) above below ne (omega arith) (omega arith)))
+          (λ i less. elsewhere n (r.start n * 4 + i) above below ne (omega arith) (omega arith)))
       pick (yes e) =
           let line : higher.line ≡ r.start n = sym its.line ∙ ap r.start e in
           let head : body w.log (r.start n) 0 ≡ w.log (r.start n * 4 + 0) =
-              cleared_head (λ i. w.log (r.start n * 4 + i)) in
+          cleared_head (λ i. w.log (r.start n * 4 + i)) in
           let few : higher.entry < keys_of (w.log (r.start n * 4 + 0)) =
-              subst (λ (z : ℕ). higher.entry < keys_of z) head
-              (subst (λ (z : ℕ). higher.entry < keys_of (body w.log z 0)) line higher.is.counts) in
+          subst (λ (z : ℕ). higher.entry < keys_of z) head
+          (subst (λ (z : ℕ). higher.entry < keys_of (body w.log z 0)) line higher.is.counts) in
           let third : 1 + 3 * higher.entry ≡ higher.entry * 3 + 1 = omega arith in
           let key : IsKeyWord (keys_of (w.log (r.start n * 4 + 0))) (entry_at higher.entry) =
-              (omega arith, ap (λ (z : ℕ). z % 3) third ∙ mod-mul-add higher.entry 3 1 (omega arith)) in
+          (omega arith, ap (λ (z : ℕ). z % 3) third ∙ mod-mul-add higher.entry 3 1 (omega arith)) in
           let place = its_place in
           cleared_same (λ i. w.log (r.start n * 4 + i)) (λ i. log' (r.start n * 4 + i)) (λ i within plain.
           put-else w.log q own_at (r.start n * 4 + i)
-              (λ g. let same : entry_at higher.entry ≡ i = omega arith in
-              plain (subst (IsKeyWord (keys_of (w.log (r.start n * 4 + 0)))) same key)))
+          (λ g. let same : entry_at higher.entry ≡ i = omega arith in
+          plain (subst (IsKeyWord (keys_of (w.log (r.start n * 4 + 0)))) same key)))
 
   -- the entry above is of another record, since it is above all linked ones of the own
   other_record : its.number ≢ f.number
@@ -120,12 +120,12 @@ module _ (k : Key) (w : World) (r : Rule k w) (id : ℕ) (v : View) (at : get_el
       (λ (t : (w.dir its.number ≡ 0) × IsFlier w its.number higher.entry).
       let g = t.1 in
       let seat : g.seat ≡ id = r.space.alone g.seat id g.view v f.number g.at at
-          (subst (IsFlightOf f.number) (sym g.flies) (g.number ∙ e))
-          (subst (IsFlightOf f.number) (sym can.aim.flying) refl) in
+      (subst (IsFlightOf f.number) (sym g.flies) (g.number ∙ e))
+      (subst (IsFlightOf f.number) (sym can.aim.flying) refl) in
       let view : g.view ≡ v = one_view w.views id g.view v
-          (subst (λ (z : ℕ). get_elem? w.views z ≡ some g.view) seat g.at) at in
+      (subst (λ (z : ℕ). get_elem? w.views z ≡ some g.view) seat g.at) at in
       let flight : g.flight ≡ f = one_flight g.flight f
-          (sym g.flies ∙ ap (λ (z : View). z.flight) view ∙ can.aim.flying) in
+      (sym g.flies ∙ ap (λ (z : View). z.flight) view ∙ can.aim.flying) in
       let counts : higher.entry < f.linked = subst (λ (z : Flight). higher.entry < z.linked) flight g.counts in
       let line : higher.line ≡ f.line = sym its.line ∙ ap r.start e ∙ own.line in
       let place = its_place in
@@ -154,9 +154,9 @@ module _ (k : Key) (w : World) (r : Rule k w) (id : ℕ) (v : View) (at : get_el
           (λ (t : (w.dir its.number ≡ 0) × IsFlier w its.number higher.entry).
           let m = t.1 in
           let seat : m.seat ≡ j = r.space.alone m.seat j m.view u g.number m.at at_u
-              (subst (IsFlightOf g.number) (sym m.flies) (m.number ∙ e)) (subst (IsFlightOf g.number) (sym is) refl) in
+          (subst (IsFlightOf g.number) (sym m.flies) (m.number ∙ e)) (subst (IsFlightOf g.number) (sym is) refl) in
           let view : m.view ≡ u = one_view w.views j m.view u
-              (subst (λ (z : ℕ). get_elem? w.views z ≡ some m.view) seat m.at) at_u in
+          (subst (λ (z : ℕ). get_elem? w.views z ≡ some m.view) seat m.at) at_u in
           let flight : m.flight ≡ g = one_flight m.flight g (sym m.flies ∙ ap (λ (z : View). z.flight) view ∙ is) in
           subst (λ (z : Flight). higher.entry < z.linked) flight m.counts) its.owner
 
@@ -173,7 +173,7 @@ module _ (k : Key) (w : World) (r : Rule k w) (id : ℕ) (v : View) (at : get_el
           let z = end_is in
           subst (λ (n : ℕ). body log' n ≡ body w.log n) start_is (regions g.number h.above h.below
           (subst (λ (n : ℕ). lines_of (body w.log n 0) ≤ r.start (suc g.number) - r.start g.number)
-              (sym start_is) (omega arith)))
+          (sym start_is) (omega arith)))
 
       whole_stays : 0 < g.linked → Whole k log' u.lane g
       whole_stays some_ = (let whole = h.whole some_ in let e = body_stays some_ in record {
@@ -252,34 +252,44 @@ module _ (k : Key) (w : World) (r : Rule k w) (id : ℕ) (v : View) (at : get_el
       pick : Dec (c ≡ b) → Chain (Linked k w.dir log' splice_world.views c) (w.head c) log'
       pick (yes e) = subst (λ (z : ℕ). Chain (Linked k w.dir log' splice_world.views z) (w.head z) log') (sym e)
           (chain_spliced (Linked k w.dir w.log w.views b) (Linked k w.dir log' splice_world.views b)
-              (w.head b) own_at w.log log' (to b)
+          (w.head b) own_at w.log log' (to b)
           (λ p l. ⊎_elim (λ (g : Linked k w.dir w.log w.views b p). inl g)
-              (λ (t : (p ≡ own_at) × (b ≡ b)). inr t.0) (from b p l))
+          (λ (t : (p ≡ own_at) × (b ≡ b)). inr t.0) (from b p l))
           here (r.chains b) q x higher can.below was can.less (put-here w.log q own_at)
           (put-else w.log q own_at own_at (λ g. let less = can.below in omega arith)
-              ∙ aimed_there k w r id v at f can.aim x can.aimed)
+          ∙ aimed_there k w r id v at f can.aim x can.aimed)
           (λ p l ne. put-else w.log q own_at p ne))
       pick (no ne) = chain_same (Linked k w.dir w.log w.views c) (Linked k w.dir log' splice_world.views c)
           (w.head c) w.log log' (to c)
           (λ p l. ⊎_elim (λ (g : Linked k w.dir w.log w.views c p). g)
-              (λ (t : (p ≡ own_at) × (c ≡ b)). absurd (ne t.1)) (from c p l))
+          (λ (t : (p ≡ own_at) × (c ≡ b)). absurd (ne t.1)) (from c p l))
           (λ p l. put-else w.log q own_at p (λ e. ne
-              (one_chain k w r c b q (subst (Linked k w.dir w.log w.views c) e l) higher))) (r.chains c)
+          (one_chain k w r c b q (subst (Linked k w.dir w.log w.views c) e l) higher))) (r.chains c)
 
   final : Final k r.start r.start r.lane_of r.lane_of w splice_world
   final = link_final k w r id v at f can.aim b bucket w.head log' splicer.learned splicer.clock leaves
 
   facts : Facts k w.count w.dir log' r.start splicer.learned
   facts = (let g = facts_later k w splice_world r.start r.start r.lane_of r.lane_of final v.learned
-      (r.facts id v at) in record { counted = g.counted; found = g.found; known = g.known; records = g.records;
-          gaps = g.gaps; labels = g.labels })
+      (r.facts id v at) in record {
+        counted = g.counted;
+        found = g.found;
+        known = g.known;
+        records = g.records;
+        gaps = g.gaps;
+        labels = g.labels;
+      })
 
   chained : Chained k w.dir log' splice_world.views w.head splicer.learned
   chained =
       let g = chained_later k w splice_world r.start r.start r.lane_of r.lane_of final v.learned (r.chained id v at) in
       let low_ = put-here w.log q own_at in
-      record { nodes = (here, g.nodes); lows =
-          (record { bucket = b; linked = to b q higher; low = omega arith }, g.lows); tops = g.tops }
+      record {
+        nodes = (here, g.nodes);
+        lows =
+            (record { bucket = b; linked = to b q higher; low = omega arith }, g.lows);
+        tops = g.tops;
+      }
 
   -- a splice keeps the rule
   pub splice_kept : Rule k splice_world
@@ -307,7 +317,7 @@ previous_other : (k : Key) (w : World) (r : Rule k w) (id : ℕ) (v : View) (at 
     (f : Flight) (can : CanAim v f) (b q : ℕ) → Linked k w.dir w.log w.views b q → w.log q ≢ own_place f
 previous_other k w r id v at f can b q higher e = ⊎_elim (λ (z : w.log q ≡ 0). absurd (omega arith))
     (λ (l : Linked k w.dir w.log w.views b (w.log q)). own_unlinked k w r id v at f can b (w.log q) l e)
-        ((r.chains b).next q higher).is
+    ((r.chains b).next q higher).is
 
 -- the table allows it
 pub splice_allowed : (given k : Key) → given ≡ k → (size id : ℕ) (me : Sat) (f : Flight) (b q x i new : ℕ)
@@ -321,23 +331,23 @@ splice_allowed given k same size id me f b q x i new about can is own_is =
     let linked = node_linked k w r id me.0 at b q can.node in
     let within = place_within k w r b q linked in
     let word : y ≡ w.log q = ap (λ (z : ℕ). get_or ws z 0) is
-        ∙ sym (area-in ws (log_at k) (k.line * 4) (log_size k) q within.0 within.1) in
+    ∙ sym (area-in ws (log_at k) (k.line * 4) (log_size k) q within.0 within.1) in
     let index : place_at me.0.about i ≡ q = ap (λ (z : Key). place_at z i) about ∙ (omega arith) in
     let v' : View = after_splice me.0 f b q x y in
     let v_at = there vs id me.0 v' at in
     let rule : Rule k (world k (set ws i (either (eqb y x) new y)) (set vs id v')) =
-        exchanged y x new (λ z. Rule k (world k (set ws i z) (set vs id v')))
+    exchanged y x new (λ z. Rule k (world k (set ws i z) (set vs id v')))
     (λ e. let hit : v' ≡ spliced me.0 f b q =
-        choose_first (ℕ_discrete y x) (spliced me.0 f b q) (after_previous me.0 b q y) e in
+    choose_first (ℕ_discrete y x) (spliced me.0 f b q) (after_previous me.0 b q y) e in
     subst (λ (z : ℕ × View). Rule k (world k (set ws i z.0) (set vs id z.1))) (λ j. (sym own_is j, sym hit j))
     (subst (Rule k) (sym (world-log k ws vs (set vs id (spliced me.0 f b q)) q i
-        (own_place f) within.0 within.1 is wide)) (splice_kept k w r id me.0 at about f b q x can (sym word ∙ e))))
+    (own_place f) within.0 within.1 is wide)) (splice_kept k w r id me.0 at about f b q x can (sym word ∙ e))))
     (λ ne. let miss : v' ≡ after_previous me.0 b q y =
-        choose_second (ℕ_discrete y x) (spliced me.0 f b q) (after_previous me.0 b q y) ne in
+    choose_second (ℕ_discrete y x) (spliced me.0 f b q) (after_previous me.0 b q y) ne in
     subst (λ (z : View). Rule k (world k (set ws i y) (set vs id z))) (sym miss)
     (loaded_words k ws (set vs id (after_previous me.0 b q y)) i
-        (subst (λ (z : ℕ). Rule k (record w { views = set vs id (after_previous me.0 b q z) })) (sym word)
-        (previous_kept k w r id me.0 at b q can.node)))) in
+    (subst (λ (z : ℕ). Rule k (record w { views = set vs id (after_previous me.0 b q z) })) (sym word)
+    (previous_kept k w r id me.0 at b q can.node)))) in
     let about' : v'.about ≡ k = about_splice me.0 f b q x y about in (
       v',
       rule,
@@ -347,8 +357,11 @@ splice_allowed given k same size id me f b q x i new about can is own_is =
         told = λ g flying.
             let e : f ≡ g = one_flight f g (sym can.aim.flying ∙ flying) in
             subst (λ (z : ℕ × Flight). Told me (after_splice me.0 z.1 b z.0 x y) (v', me.1))
-                (λ j. (sym index j, e j)) (record { view = refl; held = refl;
-                stands = stands k _ id v' rule about' v_at });
+            (λ j. (sym index j, e j)) (record {
+              view = refl;
+              held = refl;
+              stands = stands k _ id v' rule about' v_at;
+            });
         rises = subst (λ (z : ℕ × ℕ). LowRises me.0 z.0 z.1) (λ j. (sym index j, sym word j))
             (low_rises k w r id me.0 at b q can.node);
         less = subst (λ (z : ℕ × ℕ). z.0 < z.1) (λ j. (sym word j, sym index j))

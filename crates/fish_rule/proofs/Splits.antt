@@ -1,24 +1,23 @@
 -- A split changes no word: a lane goes to a new pass, with its records and all that the control pass knew.
-use Rattle.std.proofs.Common.{◌≡◌, ◌≢◌, ℕ, List, [], ◌∷◌, ◌++◌, set, sym, refl, ◌∙◌, subst, inr, ⊎_elim, arith}
+use Rattle.std.proofs.Common.{◌≡◌, ℕ, List, [], ◌∷◌, ◌++◌, set, sym, refl, subst, inr, ⊎_elim, arith}
 use mathlib.Core.Option.{some}
 use Rattle.std.proofs.Math.ListN.{get_elem?}
-use Rattle.atomic_table.proofs.Lists.{at_longer, at_snoc, set_else}
-use Rattle.fish_rule.proofs.Common.{all_append, among_either, among_left, among_right, each_set, each_snoc}
-use Rattle.fish_rule.proofs.Common.{no_flight, pairs_set}
+use Rattle.atomic_table.proofs.Lists.{at_longer, at_snoc}
+use Rattle.fish_rule.proofs.Common.{each_set, each_snoc}
+use Rattle.fish_rule.proofs.Common.{pairs_set}
 use Rattle.fish_rule.proofs.Frames.{alone_kept, flight_there}
-use Rattle.fish_rule.proofs.Lanes.{both_has, first_shut_none, flight_longer, has_back, has_both, has_lane}
-use Rattle.fish_rule.proofs.Lanes.{has_left, has_none, has_one, left_has, not_over, of_lane_complete}
-use Rattle.fish_rule.proofs.Lanes.{of_lane_sound, off_lane_complete, off_lane_sound, pairs_snoc, shut_either}
+use Rattle.fish_rule.proofs.Lanes.{flight_longer, has_lane}
+use Rattle.fish_rule.proofs.Lanes.{has_left, has_one, left_has, not_over, of_lane_complete}
+use Rattle.fish_rule.proofs.Lanes.{of_lane_sound, off_lane_complete, off_lane_sound, pairs_snoc}
 use Rattle.fish_rule.proofs.Links.{chains_views, linking_from, linking_own, linking_to, links_views}
 use Rattle.fish_rule.proofs.Kept.{chained_later}
 use Rattle.fish_rule.specs.Chains.{Chained, IsLinking, LinksAt}
 use Rattle.fish_rule.specs.declared.view.Learned.{Learned}
-use Rattle.fish_rule.specs.Parts.{Limit, MayOverflow, Seats}
-use Rattle.fish_rule.specs.Facts.{Facts, IsFound, IsKnown, IsRecorded, Owns}
+use Rattle.fish_rule.specs.Parts.{Limit, Seats}
+use Rattle.fish_rule.specs.Facts.{Owns}
 use Rattle.fish_rule.specs.Rule.{Final, Rule}
-use Rattle.fish_rule.specs.Seating.{CanJoin, CanSplit, join_both, of_lane, spent, split_left, split_right, without}
-use Rattle.fish_rule.specs.Views.{Among, Each, Has, IsFlightOf}
-use Rattle.fish_rule.specs.Walks.{IsGap, IsLabel}
+use Rattle.fish_rule.specs.Seating.{CanSplit, of_lane, split_left, split_right}
+use Rattle.fish_rule.specs.Views.{Each, Has, IsFlightOf}
 use Rattle.fish_rule.specs.World.{World}
 use Rattle.fish_rule.specs.declared.view.Key.{Key}
 use Rattle.fish_rule.specs.declared.view.View.{View}
@@ -57,9 +56,11 @@ module _ (k : Key) (w : World) (r : Rule k w) (id : ℕ) (v : View) (at : get_el
     apart = λ i j a b x at_i at_j p q. pairs_snoc (λ u. Has u.lane u.out x) cut right
         (λ j a at_a p q. gone j a at_a (subst (Has a.lane a.out) (has_one l [] x can.above q) p))
         (λ i j a b at_a at_b. pairs_set (λ i j a b. Has a.lane a.out x → Has b.lane b.out x
-            → i ≡ j) w.views id left (λ i p q. refl)
-        (λ j u ne at_u. ((λ p q. r.seats.apart id j v u x at at_u (back x p) q),
-            (λ p q. r.seats.apart j id u v x at_u at p (back x q))))
+        → i ≡ j) w.views id left (λ i p q. refl)
+        (λ j u ne at_u. (
+          (λ p q. r.seats.apart id j v u x at at_u (back x p) q),
+          (λ p q. r.seats.apart j id u v x at_u at p (back x q)),
+        ))
         (λ i j a b _ _ at_a at_b p q. r.seats.apart i j a b x at_a at_b p q) i j a b at_a at_b)
         i j a b at_i at_j p q;
     few = each_cut _ r.seats.few (r.seats.few id v at) can.below;
@@ -118,23 +119,34 @@ module _ (k : Key) (w : World) (r : Rule k w) (id : ℕ) (v : View) (at : get_el
   back_cut : (a c : ℕ) → IsLinking a c (cut ++ right ∷ []) → IsLinking a c w.views
   back_cut a c h = ⊎_elim
       (λ (e : get_elem? cut h.seat ≡ some h.view). linking_from w.views id v left at a c
-          (λ q. linking_own w.views id v left at a c q)
-          (record { seat = h.seat; view = h.view; at = e; links = h.links }))
+      (λ q. linking_own w.views id v left at a c q)
+      (record { seat = h.seat; view = h.view; at = e; links = h.links }))
       (λ (e : right ≡ h.view). absurd (subst (λ (z : View). LinksAt a c z.flight) (sym e) h.links))
-          (at_snoc cut right h.view h.seat h.at)
+      (at_snoc cut right h.view h.seat h.at)
 
   -- nothing that lasts has changed
   split_final : Final k r.start r.start r.lane_of r.lane_of w (record w { views = cut ++ right ∷ [] })
-  split_final = record { counts = omega arith; lines = omega arith; settles = omega arith;
-      heads = λ b. omega arith; links = links_views k w r (cut ++ right ∷ []) links_cut;
-      rises = λ b p h. omega arith; starts = λ n h. refl; lanes = λ n h. refl; dirs = λ n h e. refl;
-      bodies = λ n h e. refl; below = λ p from h. refl }
+  split_final = record {
+    counts = omega arith;
+    lines = omega arith;
+    settles = omega arith;
+    heads = λ b. omega arith;
+    links = links_views k w r (cut ++ right ∷ []) links_cut;
+    rises = λ b p h. omega arith;
+    starts = λ n h. refl;
+    lanes = λ n h. refl;
+    dirs = λ n h e. refl;
+    bodies = λ n h e. refl;
+    below = λ p from h. refl;
+  }
 
   -- what is known of chains stays so
   split_chained : (x : Learned) → Chained k w.dir w.log w.views w.head x
       → Chained k w.dir w.log (cut ++ right ∷ []) w.head x
-  split_chained = chained_later k w (record w { views =
-      cut ++ right ∷ [] }) r.start r.start r.lane_of r.lane_of split_final
+  split_chained = chained_later k w (record w {
+    views =
+        cut ++ right ∷ [];
+  }) r.start r.start r.lane_of r.lane_of split_final
 
   -- a split keeps the rule
   pub split_kept : Rule k (record w { views = set w.views id (split_left l v) ++ split_right l v ∷ [] })
@@ -175,7 +187,16 @@ module _ (k : Key) (w : World) (r : Rule k w) (id : ℕ) (v : View) (at : get_el
   pub split_lasts : Final k r.start split_kept.start r.lane_of split_kept.lane_of w
       (record w { views = set w.views id (split_left l v) ++ split_right l v ∷ [] })
   unfolding split_kept
-  split_lasts = record { counts = omega arith; lines = omega arith; settles = omega arith;
-      heads = λ b. omega arith; links = links_views k w r (cut ++ right ∷ []) links_cut;
-      rises = λ b p h. omega arith; starts = λ n h. refl; lanes = λ n h. refl; dirs = λ n h e. refl;
-      bodies = λ n h e. refl; below = λ p from h. refl }
+  split_lasts = record {
+    counts = omega arith;
+    lines = omega arith;
+    settles = omega arith;
+    heads = λ b. omega arith;
+    links = links_views k w r (cut ++ right ∷ []) links_cut;
+    rises = λ b p h. omega arith;
+    starts = λ n h. refl;
+    lanes = λ n h. refl;
+    dirs = λ n h e. refl;
+    bodies = λ n h e. refl;
+    below = λ p from h. refl;
+  }

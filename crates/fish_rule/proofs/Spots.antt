@@ -1,21 +1,17 @@
 -- Which record a linked place is of.
-use Rattle.std.proofs.Common.{◌≡◌, ◌≢◌, ℕ, ◌+◌, ◌-◌, ◌*◌, ◌<◌, ◌≤◌, suc, List, length, set, sym, refl, ap}
+use Rattle.std.proofs.Common.{◌≡◌, ◌≢◌, ℕ, ◌+◌, ◌-◌, ◌*◌, ◌<◌, ◌≤◌, suc, length, sym, refl, ap}
 use Rattle.std.proofs.Common.{◌∙◌, subst, inl, inr, ◌⊎◌, ⊎_elim, arith, Some, None, Option}
 use Rattle.std.proofs.Math.Decide.{ℕ_discrete}
 use mathlib.Core.Option.{some}
 use Rattle.std.proofs.Math.ListN.{get_elem?}
-use Rattle.atomic_table.proofs.Lists.{at_set, set_else, set_here}
 use Rattle.fish_layout.proofs.Spelled.{roomy, spelled_keys, spelled_lines}
 use Rattle.fish_layout.specs.Bucket.{bucket_of}
 use Rattle.fish_layout.specs.Header.{keys_of, lines_of}
-use Rattle.fish_rule.proofs.Bodies.{body_same, code_once}
+use Rattle.fish_rule.proofs.Bodies.{code_once}
 use Rattle.fish_rule.proofs.Bounds.{one_region}
-use Rattle.fish_rule.proofs.Chained.{chain_same}
-use Rattle.fish_rule.proofs.Common.{within_list}
-use Rattle.fish_rule.proofs.Frames.{one_view}
 use Rattle.fish_rule.proofs.Kept.{published}
-use Rattle.fish_rule.specs.Chains.{Chain, IsKeyEntry, IsLinking, IsStoredAt, Linked, LinksAt, Shows}
-use Rattle.fish_rule.specs.Parts.{Flies, Whole}
+use Rattle.fish_rule.specs.Chains.{IsLinking, IsStoredAt, Linked, LinksAt, Shows}
+use Rattle.fish_rule.specs.Parts.{Flies}
 use Rattle.fish_rule.specs.Regions.{Holds, IsRecord, kind_of}
 use Rattle.fish_rule.specs.Rule.{Rule}
 use Rattle.fish_rule.specs.World.{World, body}
@@ -66,7 +62,7 @@ module _ (k : Key) (w : World) (r : Rule k w) where
           let f = r.space.finished h.number h.above below set_ in
           let line : r.start h.number ≡ a = sym f.line ∙ h.line in
           let kind : kind_of k.end (r.start h.number) (r.start (suc h.number)) ≡ Stored =
-              code_once _ Stored (sym f.kind ∙ h.stored) in
+          code_once _ Stored (sym f.kind ∙ h.stored) in
           record {
             number = h.number;
             above = h.above;
@@ -98,15 +94,25 @@ module _ (k : Key) (w : World) (r : Rule k w) where
         kind = subst (λ (z : ℕ × ℕ). kind_of k.end z.0 z.1 ≡ Stored) (λ i. (sym s i, sym e i)) whole.kind;
         record_of = subst (λ (z : ℕ × ℕ × ℕ). IsRecord k z.0 f.number z.1 (body w.log z.2))
             (λ i. (sym h.owner i, sym size i, line i)) whole.record_of;
-        owner = inr (h.unpublished, record { seat = seat; view = v; at = at; flight = f; flies = is;
-            number = refl; counts = counts });
+        owner = inr (
+          h.unpublished,
+          record {
+            seat = seat;
+            view = v;
+            at = at;
+            flight = f;
+            flies = is;
+            number = refl;
+            counts = counts;
+          },
+        );
       }
 
   -- of either
   pub spot : (a c : ℕ) → Shows k w.dir w.views a c → Spot a c
   spot a c h = ⊎_elim (λ (s : IsStoredAt k w.dir a). spot_stored a c s)
       (λ (l : IsLinking a c w.views). spot_flight a c l.seat l.view l.at l.view.flight refl
-          (r.space.flights l.seat l.view l.at) l.links) h
+      (r.space.flights l.seat l.view l.at) l.links) h
 
   -- the lines of a shown record are within its region
   pub spot_lined : (a c : ℕ) (s : Spot a c) → lines_of (body w.log a 0) ≡ r.start (suc s.number) - r.start s.number
@@ -133,8 +139,8 @@ module _ (k : Key) (w : World) (r : Rule k w) where
   which b p h s n above below from to =
       let inside = lies_inside b p h s in
       let same : s.number ≡ n =
-          one_region k w.count w.line r.start r.space.regions s.number n p s.above s.below above below inside.0
-              inside.1 from to in
+      one_region k w.count w.line r.start r.space.regions s.number n p s.above s.below above below inside.0
+      inside.1 from to in
       (same, sym s.line ∙ ap r.start same)
 
   -- a place is of one chain
@@ -149,4 +155,4 @@ module _ (k : Key) (w : World) (r : Rule k w) where
       let p_g : p ≡ g.line * 4 + (1 + 3 * g.entry) = g.is.is in
       let entry : h.entry ≡ g.entry = omega arith in
       sym h.is.bucket ∙ ap (λ (z : ℕ × ℕ). bucket_of k.buckets (body w.log z.0) z.1) (λ i. (line i, entry i))
-          ∙ g.is.bucket
+      ∙ g.is.bucket

@@ -39,8 +39,8 @@ aimed_there k w r id v at f can x aimed =
     let room = own_room k w r id v at f can in
     let full = can.full in
     own.written (entry_at f.linked) (omega arith)
-        (λ h. let less : h.0 < f.linked = h.1 in let e : entry_at f.linked ≡ entry_at h.0 = h.2 in
-        absurd (omega arith)) ∙ aimed
+    (λ h. let less : h.0 < f.linked = h.1 in let e : entry_at f.linked ≡ entry_at h.0 = h.2 in
+    absurd (omega arith)) ∙ aimed
 
 module _ (k : Key) (w : World) (r : Rule k w) (id : ℕ) (v : View) (at : get_elem? w.views id ≡ some v)
     (about : v.about ≡ k) (f : Flight) (b h : ℕ) (can : CanSwing v f b h) (top : w.head b ≡ h) where
@@ -95,29 +95,35 @@ module _ (k : Key) (w : World) (r : Rule k w) (id : ℕ) (v : View) (at : get_el
       pick : Dec (c ≡ b) → Chain (Linked k w.dir w.log swing_world.views c) (head' c) w.log
       pick (yes e) =
           let old : Chain (Linked k w.dir w.log w.views b) h w.log =
-              subst (λ (z : ℕ). Chain (Linked k w.dir w.log w.views b) z w.log) top (r.chains b) in
+          subst (λ (z : ℕ). Chain (Linked k w.dir w.log w.views b) z w.log) top (r.chains b) in
           let new : Chain (Linked k w.dir w.log swing_world.views b) own_at w.log =
           chain_swung (Linked k w.dir w.log w.views b)
-              (Linked k w.dir w.log swing_world.views b) h own_at w.log w.log (to b)
+          (Linked k w.dir w.log swing_world.views b) h own_at w.log w.log (to b)
           (λ p l. ⊎_elim (λ (g : Linked k w.dir w.log w.views b p). inl g)
-              (λ (t : (p ≡ own_at) × (b ≡ b)). inr t.0) (from b p l))
+          (λ (t : (p ≡ own_at) × (b ≡ b)). inr t.0) (from b p l))
           here old can.less (aimed_there k w r id v at f can.aim h can.aimed) (λ p l. refl) in
           subst (λ (z : ℕ × ℕ). Chain (Linked k w.dir w.log swing_world.views z.0) z.1 w.log)
-              (λ i. (sym e i, (sym (put-here w.head b own_at) ∙ ap head' (sym e)) i)) new
+          (λ i. (sym e i, (sym (put-here w.head b own_at) ∙ ap head' (sym e)) i)) new
       pick (no ne) = subst (λ (z : ℕ). Chain (Linked k w.dir w.log swing_world.views c) z w.log)
           (sym (put-else w.head b own_at c ne))
           (chain_same (Linked k w.dir w.log w.views c) (Linked k w.dir w.log swing_world.views c)
-              (w.head c) w.log w.log (to c)
+          (w.head c) w.log w.log (to c)
           (λ p l. ⊎_elim (λ (g : Linked k w.dir w.log w.views c p). g)
-              (λ (t : (p ≡ own_at) × (c ≡ b)). absurd (ne t.1)) (from c p l)) (λ p l. refl) (r.chains c))
+          (λ (t : (p ≡ own_at) × (c ≡ b)). absurd (ne t.1)) (from c p l)) (λ p l. refl) (r.chains c))
 
   final : Final k r.start r.start r.lane_of r.lane_of w swing_world
   final = link_final k w r id v at f can.aim b bucket head' w.log swinger.learned swinger.clock leaves
 
   facts : Facts k w.count w.dir w.log r.start swinger.learned
   facts = (let q = facts_later k w swing_world r.start r.start r.lane_of r.lane_of final v.learned
-      (r.facts id v at) in record { counted = q.counted; found = q.found; known = q.known; records = q.records;
-          gaps = q.gaps; labels = q.labels })
+      (r.facts id v at) in record {
+        counted = q.counted;
+        found = q.found;
+        known = q.known;
+        records = q.records;
+        gaps = q.gaps;
+        labels = q.labels;
+      })
 
   chained : Chained k w.dir w.log swing_world.views head' swinger.learned
   chained =
@@ -157,7 +163,7 @@ pub head_other : (k : Key) (w : World) (r : Rule k w) (id : ℕ) (v : View) (at 
     (f : Flight) (can : CanAim v f) (b : ℕ) → w.head b ≢ own_place f
 head_other k w r id v at f can b e = ⊎_elim (λ (z : w.head b ≡ 0). absurd (omega arith))
     (λ (l : Linked k w.dir w.log w.views b (w.head b)). own_unlinked k w r id v at f can b (w.head b) l e)
-        (r.chains b).some
+    (r.chains b).some
 
 -- the table allows it
 pub swing_allowed : (given k : Key) → given ≡ k → (size id : ℕ) (me : Sat) (f : Flight) (b h i new : ℕ)
@@ -171,23 +177,23 @@ swing_allowed given k same size id me f b h i new about can is own =
     let below : b < k.buckets = subst (λ (z : Key). b < z.buckets) about can.below in
     let minus : b ≡ b - 0 = omega arith in
     let word : x ≡ w.head b = ap (λ (z : ℕ). get_or ws z 0) is
-        ∙ ap (λ (z : ℕ). get_or ws (heads_at + z) 0) minus
-        ∙ sym (area-in ws heads_at 0 k.buckets b (omega arith) (omega arith)) in
+    ∙ ap (λ (z : ℕ). get_or ws (heads_at + z) 0) minus
+    ∙ sym (area-in ws heads_at 0 k.buckets b (omega arith) (omega arith)) in
     let index : bucket_at i ≡ b = omega arith in
     let v' : View = after_swing me.0 f b h x in
     let v_at = there vs id me.0 v' at in
     let rule : Rule k (world k (set ws i (either (eqb x h) new x)) (set vs id v')) =
-        exchanged x h new (λ y. Rule k (world k (set ws i y) (set vs id v')))
+    exchanged x h new (λ y. Rule k (world k (set ws i y) (set vs id v')))
     (λ e. let hit : v' ≡ swung me.0 f b = choose_first (ℕ_discrete x h) (swung me.0 f b) (after_head me.0 b x) e in
     subst (λ (z : ℕ × View). Rule k (world k (set ws i z.0) (set vs id z.1))) (λ j. (sym own j, sym hit j))
     (subst (Rule k) (sym (world-head k ws vs (set vs id (swung me.0 f b)) b i (own_place f) below is wide))
-        (swing_kept k w r id me.0 at about f b h can (sym word ∙ e))))
+    (swing_kept k w r id me.0 at about f b h can (sym word ∙ e))))
     (λ ne. let miss : v' ≡ after_head me.0 b x =
-        choose_second (ℕ_discrete x h) (swung me.0 f b) (after_head me.0 b x) ne in
+    choose_second (ℕ_discrete x h) (swung me.0 f b) (after_head me.0 b x) ne in
     subst (λ (z : View). Rule k (world k (set ws i x) (set vs id z))) (sym miss)
     (loaded_words k ws (set vs id (after_head me.0 b x)) i
-        (subst (λ (z : ℕ). Rule k (record w { views = set vs id (after_head me.0 b z) })) (sym word)
-        (head_kept k w r id me.0 at b)))) in
+    (subst (λ (z : ℕ). Rule k (record w { views = set vs id (after_head me.0 b z) })) (sym word)
+    (head_kept k w r id me.0 at b)))) in
     let about' : v'.about ≡ k = about_swing me.0 f b h x about in (
       v',
       rule,
@@ -195,8 +201,11 @@ swing_allowed given k same size id me f b h i new about can is own =
         told = λ g flying.
             let e : f ≡ g = one_flight f g (sym can.aim.flying ∙ flying) in
             subst (λ (z : ℕ × Flight). Told me (after_swing me.0 z.1 z.0 h x) (v', me.1))
-                (λ j. (sym index j, e j)) (record { view = refl; held = refl;
-                stands = stands k _ id v' rule about' v_at });
+            (λ j. (sym index j, e j)) (record {
+              view = refl;
+              held = refl;
+              stands = stands k _ id v' rule about' v_at;
+            });
         rises = subst (λ (z : ℕ × ℕ). TopRises me.0 z.0 z.1) (λ j. (sym index j, sym word j))
             (head_rises k w r id me.0 at b);
         other = λ e. head_other k w r id me.0 at f can.aim b (sym word ∙ e ∙ own);

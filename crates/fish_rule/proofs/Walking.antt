@@ -1,8 +1,6 @@
 -- What the owner of a view may conclude of a bucket's entries from what a walk has learned.
-use Rattle.std.proofs.Common.{◌≡◌, ◌≢◌, ℕ, ◌+◌, ◌*◌, ◌<◌, ◌≤◌, suc, sym, refl, ap, ◌∙◌, subst, ◌⊎◌, ⊎_elim, arith}
-use mathlib.Core.Option.{some}
+use Rattle.std.proofs.Common.{◌≡◌, ℕ, ◌+◌, ◌*◌, ◌<◌, ◌≤◌, suc, sym, ap, ◌∙◌, subst, ◌⊎◌, ⊎_elim, arith}
 use Rattle.std.proofs.Math.Decide.{ℕ_discrete, dec_le}
-use Rattle.std.proofs.Math.ListN.{get_elem?}
 use Rattle.fish_layout.specs.Cleared.{entry_at}
 use Rattle.fish_layout.specs.Entry.{entry_id, entry_number, entry_place}
 use Rattle.fish_rule.proofs.Bounds.{one_region, starts_rise}
@@ -12,7 +10,6 @@ use Rattle.fish_rule.proofs.Gaps.{entry_linked}
 use Rattle.fish_rule.proofs.Kept.{published}
 use Rattle.fish_rule.proofs.Spots.{lies_inside, spot}
 use Rattle.fish_rule.specs.Chains.{IsKeyEntry, Linked}
-use Rattle.fish_rule.specs.Facts.{Facts}
 use Rattle.fish_rule.specs.Linking.{HasNode}
 use Rattle.fish_rule.specs.Logs.{Learns}
 use Rattle.fish_rule.specs.Regions.{code, kind_of}
@@ -20,7 +17,7 @@ use Rattle.fish_rule.specs.Rule.{Rule}
 use Rattle.fish_rule.specs.Views.{Among}
 use Rattle.fish_rule.specs.Walking.{Always, IsClear, IsEntryIn, IsNodeIn, IsNowhere}
 use Rattle.fish_rule.specs.Walks.{IsEntryOf, IsGap, IsLabel}
-use Rattle.fish_rule.specs.World.{World, body, high, low}
+use Rattle.fish_rule.specs.World.{World, body, low}
 use Rattle.fish_rule.specs.declared.view.Gap.{Gap}
 use Rattle.fish_rule.specs.declared.view.Key.{Key}
 use Rattle.fish_rule.specs.declared.view.Kind.TheVariants.{Stored}
@@ -51,7 +48,7 @@ module _ (k : Key) (w : World) (r : Rule k w) where
       let up = r.space.regions.grows s.number s.above s.below in
       let line : r.start s.number ≡ r.start n = s.line in
       let same : s.number ≡ n = one_region k w.count w.line r.start r.space.regions s.number n (r.start n * 4)
-          s.above s.below h.above below (omega arith) (omega arith) (omega arith) (omega arith) in
+      s.above s.below h.above below (omega arith) (omega arith) (omega arith) (omega arith) in
       subst (λ (z : ℕ). (r.start z * 4 ≤ p) × (p < r.start (suc z) * 4)) same inside
 
   -- a number that is published is claimed
@@ -73,7 +70,7 @@ pub gap_clear : (v : View) (g : Gap) (from to : ℕ) → Among g v.learned.gaps 
 gap_clear v g from to among within u learns w r seat at n c p above less h under =
     let k : Key = u.about in
     let gap = all_among (IsGap k w.count w.dir w.log r.start) g u.learned.gaps (r.facts seat u at).gaps
-        (learns.gaps g among) in
+    (learns.gaps g among) in
     let below = claimed_there k w r g.bucket n c p h in
     gap.empty n c p (omega arith) (starts_there k w r g.bucket n c p below h) under
 
@@ -83,12 +80,12 @@ pub label_outside : (v : View) (l : Label) (from to : ℕ) → Among l v.learned
 label_outside v l from to among out u learns w r seat at b n c above less h =
     let k : Key = u.about in
     let label = all_among (IsLabel k w.count w.dir w.log r.start) l u.learned.labels (r.facts seat u at).labels
-        (learns.labels l among) in
+    (learns.labels l among) in
     let below = claimed_there k w r b n c l.place h in
     let here = within_region k w r b n c l.place below h in
     let there = label_region k w r l label in
     let same : entry_number l.word ≡ n = one_region k w.count w.line r.start r.space.regions (entry_number l.word) n
-        l.place label.above label.below h.above below there.0 there.1 here.0 here.1 in
+    l.place label.above label.below h.above below there.0 there.1 here.0 here.1 in
     ⊎_elim (λ (m : entry_number l.word < from). omega arith) (λ (m : to ≤ entry_number l.word). omega arith) out
 
 -- below a place of a record below the range there is no entry in the range
@@ -97,12 +94,12 @@ pub label_last : (v : View) (l : Label) (b from to above : ℕ) → Among l v.le
 label_last v l b from to above among out clear u learns w r seat at n c p more less h under =
     let k : Key = u.about in
     let label = all_among (IsLabel k w.count w.dir w.log r.start) l u.learned.labels (r.facts seat u at).labels
-        (learns.labels l among) in
+    (learns.labels l among) in
     let below = claimed_there k w r b n c p h in
     let here = within_region k w r b n c p below h in
     let there = label_region k w r l label in
     let rises = starts_rise k w.count w.line r.start r.space.regions (suc (entry_number l.word)) n
-        (let a = label.above in omega arith) (omega arith) (omega arith) in
+    (let a = label.above in omega arith) (omega arith) (omega arith) in
     let low_ : p ≤ l.place = clear u learns w r seat at n c p more less h under in
     absurd (omega arith)
 
@@ -126,10 +123,10 @@ pub label_entry : (v : View) (l : Label) (b : ℕ) → Among l v.learned.labels 
 label_entry v l b among node known u learns w r seat at =
     let k : Key = u.about in
     let label = all_among (IsLabel k w.count w.dir w.log r.start) l u.learned.labels (r.facts seat u at).labels
-        (learns.labels l among) in
+    (learns.labels l among) in
     let linked : Linked k w.dir w.log w.views b l.place =
-        all_among (λ x. Linked k w.dir w.log w.views x.bucket x.place) _ u.learned.nodes
-        (r.chained seat u at).nodes (learns.nodes _ node) in
+    all_among (λ x. Linked k w.dir w.log w.views x.bucket x.place) _ u.learned.nodes
+    (r.chained seat u at).nodes (learns.nodes _ node) in
     node_there k w r b l label linked known
   where
     node_there : (k : Key) (w : World) (r : Rule k w) (b : ℕ) (l : Label)
@@ -142,10 +139,10 @@ label_entry v l b among node known u learns w r seat at =
         let inside = lies_inside k w r b l.place linked s in
         let there = label_region k w r l label in
         let same : s.number ≡ n = one_region k w.count w.line r.start r.space.regions s.number n l.place
-            s.above s.below label.above label.below inside.0 inside.1 there.0 there.1 in
+        s.above s.below label.above label.below inside.0 inside.1 there.0 there.1 in
         let finished = r.space.finished n label.above label.below (label.settled known) in
         let kind : kind_of k.end (r.start n) (r.start (suc n)) ≡ Stored =
-            subst (λ (z : ℕ). kind_of k.end (r.start z) (r.start (suc z)) ≡ Stored) same s.kind in
+        subst (λ (z : ℕ). kind_of k.end (r.start z) (r.start (suc z)) ≡ Stored) same s.kind in
         let line : linked.line ≡ r.start n = sym s.line ∙ ap r.start same in
         let p_is : l.place ≡ linked.line * 4 + (1 + 3 * linked.entry) = linked.is.is in
         let l_is : l.place ≡ r.start n * 4 + (1 + 3 * entry_place l.word) = label.place in

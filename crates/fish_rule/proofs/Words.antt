@@ -24,7 +24,7 @@ pub head_read : (v : View) (line n h : ℕ) (words : List ℕ) → 0 < length wo
 head_read v line n h words some head read =
     let place : line * 4 + 0 ≡ line * 4 = omega arith in
     subst (λ (z : ℕ × ℕ). Among (record { place = z.0; value = z.1 }) v.learned.known) (λ i. (place i, head i))
-        (read 0 some (head_plain n))
+    (read 0 some (head_plain n))
 
 -- one more word
 pub read_more : (v u : View) (line n x : ℕ) (words : List ℕ) → Extends v u → AreRead v line n words
@@ -36,14 +36,14 @@ read_more v u line n x words extends read here i less plain = pick (ℕ_discrete
         (record { place = line * 4 + i; value = get_or (words ++ x ∷ []) i 0 }) u.learned.known
     pick (yes e) =
         let last : x ≡ get_or (words ++ x ∷ []) i 0 = sym (get_or-append_seam words x [] 0)
-            ∙ ap (λ (z : ℕ). get_or (words ++ x ∷ []) z 0) (sym e) in
+        ∙ ap (λ (z : ℕ). get_or (words ++ x ∷ []) z 0) (sym e) in
         subst (λ (z : ℕ × ℕ). Among (record { place = line * 4 + z.0; value = z.1 }) u.learned.known)
-            (λ j. (sym e j, last j)) (here (subst (λ (z : ℕ). ¬ IsKeyWord n z) e plain))
+        (λ j. (sym e j, last j)) (here (subst (λ (z : ℕ). ¬ IsKeyWord n z) e plain))
     pick (no ne) =
         let longer = length-append words (x ∷ []) in
         let before : i < length words = omega arith in
         subst (λ (z : ℕ). Among (record { place = line * 4 + i; value = z }) u.learned.known)
-            (sym (get_or_append_left words (x ∷ []) 0 i before)) (extends.learns.known _ (read i before plain))
+        (sym (get_or_append_left words (x ∷ []) 0 i before)) (extends.learns.known _ (read i before plain))
 
 -- the header stays the first
 pub head_stays : (words : List ℕ) (x h : ℕ) → 0 < length words → get_or words 0 0 ≡ h → get_or (words ++ x ∷ []) 0 0 ≡ h

@@ -27,7 +27,7 @@ pub area-in : (ws : List ℕ) (at base size n : ℕ) → base ≤ n → n < base
 unfolding area
 area-in ws at base size n above below =
     choose_first (dec_le base n) _ 0 above
-        ∙ choose_first (dec_le (suc n) (base + size)) (get_or ws (at + (n - base)) 0) 0 (omega arith)
+    ∙ choose_first (dec_le (suc n) (base + size)) (get_or ws (at + (n - base)) 0) 0 (omega arith)
 
 -- below and behind it stands 0
 pub area-below : (ws : List ℕ) (at base size n : ℕ) → n < base → area ws at base size n ≡ 0
@@ -38,7 +38,7 @@ pub area-behind : (ws : List ℕ) (at base size n : ℕ) → base + size ≤ n �
 unfolding area
 area-behind ws at base size n more =
     choose_first (dec_le base n) _ 0 (omega arith)
-        ∙ choose_second (dec_le (suc n) (base + size)) (get_or ws (at + (n - base)) 0) 0 (λ h. omega arith)
+    ∙ choose_second (dec_le (suc n) (base + size)) (get_or ws (at + (n - base)) 0) 0 (λ h. omega arith)
 
 -- two lists that agree in the range give one area
 area-same : (ws us : List ℕ) (at base size : ℕ)
@@ -50,7 +50,7 @@ area-same ws us at base size same n = area-cases (dec_le base n) (dec_le (suc n)
     area-cases : (d : Dec (base ≤ n)) (e : Dec (suc n ≤ base + size))
         → (base ≤ n → n < base + size → get_or us (at + (n - base)) 0 ≡ get_or ws (at + (n - base)) 0)
         → choose d (choose e (get_or us (at + (n - base)) 0) 0) 0 ≡ choose d
-            (choose e (get_or ws (at + (n - base)) 0) 0) 0
+        (choose e (get_or ws (at + (n - base)) 0) 0) 0
     area-cases (no x) e f = refl
     area-cases (yes a) (no x) f = refl
     area-cases (yes a) (yes b) f = f a (omega arith)
@@ -74,9 +74,9 @@ area-store ws at base size n i x above below is inside = λ j m. each m (ℕ_dis
     each : (m : ℕ) → Dec (m ≡ n) → area (set ws i x) at base size m ≡ put (area ws at base size) n x m
     each m (yes e) =
         let here : area (set ws i x) at base size n ≡ x = area-in (set ws i x) at base size n above below
-            ∙ ap (λ (z : ℕ). get_or (set ws i x) z 0) (sym is) ∙ get_or-set_same ws i x 0 inside in
+        ∙ ap (λ (z : ℕ). get_or (set ws i x) z 0) (sym is) ∙ get_or-set_same ws i x 0 inside in
         ap (area (set ws i x) at base size) e ∙ here ∙ sym (put-here (area ws at base size) n x)
-            ∙ ap (put (area ws at base size) n x) (sym e)
+        ∙ ap (put (area ws at base size) n x) (sym e)
     each m (no ne) = other m ne (dec_le base m) (dec_le (suc m) (base + size))
         ∙ sym (put-else (area ws at base size) n x m ne)
       where
@@ -88,8 +88,8 @@ area-store ws at base size n i x above below is inside = λ j m. each m (ℕ_dis
             ∙ sym (area-behind ws at base size q (omega arith))
         other q qn (yes a) (yes b) =
             area-in (set ws i x) at base size q a (omega arith)
-                ∙ get_or-set_other ws i (at + (q - base)) x 0 (λ h. qn (omega arith))
-                ∙ sym (area-in ws at base size q a (omega arith))
+            ∙ get_or-set_other ws i (at + (q - base)) x 0 (λ h. qn (omega arith))
+            ∙ sym (area-in ws at base size q a (omega arith))
 
 -- ---- worlds
 

@@ -1,16 +1,14 @@
 -- How a pass links the key entries of its record into their chains: what it knows after each of
 -- these steps, and when it may make it.
-use Rattle.std.specs.Prelude.{ℕ, ◌≡◌, ◌≢◌, ◌+◌, ◌-◌, ◌*◌, ◌<◌, ◌≤◌, zero, suc, List, ◌∷◌, length, slice_index}
-use Rattle.std.specs.Prelude.{slice_set, Bool, Some}
+use Rattle.std.specs.Prelude.{ℕ, ◌≡◌, ◌+◌, ◌*◌, ◌<◌, ◌≤◌, zero, suc, List, ◌∷◌, length, slice_index}
+use Rattle.std.specs.Prelude.{slice_set, Some}
 use Rattle.std.proofs.Math.Decide.{ℕ_discrete}
-use Rattle.atomic_table.specs.Table.{Step}
 use Rattle.fish_layout.specs.Bucket.{bucket_of}
 use Rattle.fish_layout.specs.Cleared.{body_of, choose, entry_at}
 use Rattle.fish_layout.specs.Header.{keys_of}
 use Rattle.fish_rule.specs.Regions.{IsRecord}
 use Rattle.fish_rule.specs.Steps.{flight_kind, loaded, ticked}
 use Rattle.fish_rule.specs.Views.{Among}
-use Rattle.fish_rule.specs.World.{heads_at}
 use Rattle.fish_rule.specs.declared.view.Flight.{Flight}
 use Rattle.fish_rule.specs.declared.view.Gap.{Gap}
 use Rattle.fish_rule.specs.declared.view.Kind.TheVariants.{Stored}
@@ -122,8 +120,10 @@ pub record CanSwing (v : View) (f : Flight) (b h : ℕ) : Type 0 where
 abbrev pub swung : View → Flight → ℕ → View
 swung v f b = record v {
   flight = Some (linked_once f);
-  learned = record v.learned { nodes = record { bucket = b; place = own_place f } ∷ v.learned.nodes;
-      tops = record { bucket = b; place = own_place f } ∷ v.learned.tops };
+  learned = record v.learned {
+    nodes = record { bucket = b; place = own_place f } ∷ v.learned.nodes;
+    tops = record { bucket = b; place = own_place f } ∷ v.learned.tops;
+  };
   clock = loaded v.clock;
 }
 
@@ -146,8 +146,10 @@ pub record CanSplice (v : View) (f : Flight) (b q x : ℕ) : Type 0 where
 abbrev pub spliced : View → Flight → ℕ → ℕ → View
 spliced v f b q = record v {
   flight = Some (linked_once f);
-  learned = record v.learned { nodes = record { bucket = b; place = own_place f } ∷ v.learned.nodes;
-      lows = record { place = q; value = own_place f } ∷ v.learned.lows };
+  learned = record v.learned {
+    nodes = record { bucket = b; place = own_place f } ∷ v.learned.nodes;
+    lows = record { place = q; value = own_place f } ∷ v.learned.lows;
+  };
   clock = loaded v.clock;
 }
 

@@ -57,8 +57,10 @@ Goes k w (claims id m) u = (v : View) × Seated k w id v × CanClaim v × (0 < m
 Goes k w (stores id x) u = (v : View) × (f : Flight) × Seated k w id v × CanStore v f
     × (u ≡ record w { log = put w.log (f.line * 4 + length f.words) x; views = set w.views id (after_store v f x) })
 Goes k w (publishes id) u = (v : View) × (f : Flight) × Seated k w id v × CanPublish v f
-    × (u ≡ record w { dir = put w.dir f.number (dir_word (flight_kind v f) f.line);
-        views = set w.views id (after_publish v f) })
+    × (u ≡ record w {
+      dir = put w.dir f.number (dir_word (flight_kind v f) f.line);
+      views = set w.views id (after_publish v f);
+    })
 Goes k w (looks id n) u = (v : View) × (lines : ℕ) × Seated k w id v × CanLook v n × HasLines k w n lines
     × (u ≡ record w { views = set w.views id (after_look v n lines (w.dir n)) })
 Goes k w (reads id n i) u = (v : View) × (f : Found) × Seated k w id v × CanRead v f i × (f.number ≡ n)
@@ -78,12 +80,16 @@ Goes k w (nodes id b p) u = (v : View) × Seated k w id v × HasNode v b p
 Goes k w (aims id x) u = (v : View) × (f : Flight) × Seated k w id v × CanAim v f
     × (u ≡ record w { log = put w.log (own_place f) x; views = set w.views id (after_aim v f x) })
 Goes k w (swings id b h) u = (v : View) × (f : Flight) × Seated k w id v × CanSwing v f b h
-    × Exchanged (w.head b) h u (record w { head = put w.head b (own_place f);
-        views = set w.views id (swung v f b) }) (record w { views = set w.views id (after_head v b (w.head b)) })
+    × Exchanged (w.head b) h u (record w {
+      head = put w.head b (own_place f);
+      views = set w.views id (swung v f b);
+    }) (record w { views = set w.views id (after_head v b (w.head b)) })
 Goes k w (splices id b q x) u = (v : View) × (f : Flight) × Seated k w id v × CanSplice v f b q x
-    × Exchanged (w.log q) x u (record w { log = put w.log q (own_place f);
-        views = set w.views id (spliced v f b q) })
-        (record w { views = set w.views id (after_previous v b q (w.log q)) })
+    × Exchanged (w.log q) x u (record w {
+      log = put w.log q (own_place f);
+      views = set w.views id (spliced v f b q);
+    })
+    (record w { views = set w.views id (after_previous v b q (w.log q)) })
 Goes k w (splits id l) u = (v : View) × Seated k w id v × CanSplit v l
     × (u ≡ record w { views = set w.views id (split_left l v) ++ split_right l v ∷ [] })
 Goes k w (joins id other) u = (v : View) × (b : View) × Seated k w id v × (other ≢ id)

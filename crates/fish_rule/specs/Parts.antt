@@ -3,20 +3,15 @@ use Rattle.std.specs.Prelude.{ℕ, ◌≡◌, ◌≢◌, ◌+◌, ◌-◌, ◌*�
 use Rattle.std.specs.Prelude.{Option, Some, None, ⊤}
 use mathlib.Core.Option.{some}
 use Rattle.std.proofs.Math.ListN.{get_elem?}
-use Rattle.fish_layout.specs.Cleared.{body_of, entry_at}
+use Rattle.fish_layout.specs.Cleared.{entry_at}
 use Rattle.fish_layout.specs.Header.{keys_of, lines_of}
 use Rattle.fish_rule.specs.Regions.{Holds, IsRecord, code, kind_of}
-use Rattle.fish_rule.specs.Views.{AllOf, Among, Each, Has, HasFlight, IsFlightOf, IsOver}
+use Rattle.fish_rule.specs.Views.{Each, Has, HasFlight, IsFlightOf, IsOver}
 use Rattle.fish_rule.specs.World.{body, high, low}
 use Rattle.fish_rule.specs.declared.view.Flight.{Flight}
-use Rattle.fish_rule.specs.declared.view.Found.{Found}
 use Rattle.fish_rule.specs.declared.view.Key.{Key}
 use Rattle.fish_rule.specs.declared.view.Kind.TheVariants.{Mark, Stored}
-use Rattle.fish_rule.specs.declared.view.Known.{Known}
-use Rattle.fish_rule.specs.declared.view.Learned.{Learned}
-use Rattle.fish_rule.specs.declared.view.Own.{Own}
 use Rattle.fish_rule.specs.declared.view.Position.{Position}
-use Rattle.fish_rule.specs.declared.view.Recorded.{Recorded}
 use Rattle.fish_rule.specs.declared.view.Shut.{Shut}
 use Rattle.fish_rule.specs.declared.view.View.{View}
 

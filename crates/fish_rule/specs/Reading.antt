@@ -1,24 +1,15 @@
 -- What a pass knows after each kind of load and after a raise of the settled number, and when it may make it.
-use Rattle.std.specs.Prelude.{ℕ, ◌≡◌, ◌≢◌, ◌+◌, ◌*◌, ◌<◌, ◌≤◌, zero, suc, List, [], ◌∷◌, ◌++◌, length, max}
-use Rattle.std.specs.Prelude.{Option, Some, None}
+use Rattle.std.specs.Prelude.{ℕ, ◌≡◌, ◌≢◌, ◌*◌, ◌<◌, ◌≤◌, zero, suc, List, [], ◌∷◌, max}
+use Rattle.std.specs.Prelude.{Some, None}
 use Rattle.std.proofs.Common.{◌⊎◌}
-use Rattle.fish_layout.specs.Cleared.{IsKeyWord, body_of}
-use Rattle.fish_layout.specs.Header.{keys_of, void_word}
-use Rattle.fish_rule.specs.Regions.{IsRecord, kind_of}
+use Rattle.fish_layout.specs.Cleared.{IsKeyWord}
+use Rattle.fish_layout.specs.Header.{keys_of}
 use Rattle.fish_rule.specs.Views.{Among}
 use Rattle.fish_rule.specs.World.{high, low}
-use Rattle.fish_rule.specs.declared.view.Clock.{Clock}
-use Rattle.fish_rule.specs.declared.view.Flight.{Flight}
 use Rattle.fish_rule.specs.declared.view.Found.{Found}
-use Rattle.fish_rule.specs.declared.view.Key.{Key}
 use Rattle.fish_rule.specs.declared.view.Kind.{Kind}
 use Rattle.fish_rule.specs.declared.view.Kind.TheVariants.{Mark, Stored, Void}
-use Rattle.fish_rule.specs.declared.view.Learned.{Learned}
-use Rattle.fish_rule.specs.declared.view.Noted.{Noted}
 use Rattle.fish_rule.specs.declared.view.Noted.TheVariants.{Directory, Tail}
-use Rattle.fish_rule.specs.declared.view.Own.{Own}
-use Rattle.fish_rule.specs.declared.view.Recorded.{Recorded}
-use Rattle.fish_rule.specs.declared.view.Shut.{Shut}
 use Rattle.fish_rule.specs.declared.view.View.{View}
 use Rattle.fish_rule.specs.Steps.{loaded, noted, ticked}
 
@@ -39,13 +30,20 @@ kind_told _ = Mark
 -- a directory word that isn't 0 tells the kind and line of a region that has so many lines
 abbrev pub found_after : ℕ → ℕ → ℕ → List Found → List Found
 found_after n lines zero found = found
-found_after n lines (suc x) found = record { number = n; kind = kind_told (high (suc x)); line = low (suc x);
-    lines = lines } ∷ found
+found_after n lines (suc x) found = record {
+  number = n;
+  kind = kind_told (high (suc x));
+  line = low (suc x);
+  lines = lines;
+} ∷ found
 
 -- the directory word is seen
 abbrev pub after_look : View → ℕ → ℕ → ℕ → View
-after_look v n lines x = record v { learned =
-    record v.learned { found = found_after n lines x v.learned.found }; clock = noted v.clock (Directory n) x }
+after_look v n lines x = record v {
+  learned =
+      record v.learned { found = found_after n lines x v.learned.found };
+  clock = noted v.clock (Directory n) x;
+}
 
 -- the control pass, while no lane is out and it has nothing in flight
 pub record IsAlone (v : View) : Type 0 where
@@ -67,15 +65,21 @@ pub record CanRead (v : View) (f : Found) (i : ℕ) : Type 0 where
 
 -- the word is known
 abbrev pub after_read : View → ℕ → ℕ → View
-after_read v place x = record v { learned =
-    record v.learned { known = record { place = place; value = x } ∷ v.learned.known }; clock = loaded v.clock }
+after_read v place x = record v {
+  learned =
+      record v.learned { known = record { place = place; value = x } ∷ v.learned.known };
+  clock = loaded v.clock;
+}
 
 -- ---- end: a load of the tail
 
 -- the count and the line are known
 abbrev pub after_end : View → ℕ → View
-after_end v x = record v { learned = record v.learned { count = high x };
-    tail = Some (record { number = high x; line = low x }); clock = noted v.clock Tail x }
+after_end v x = record v {
+  learned = record v.learned { count = high x };
+  tail = Some (record { number = high x; line = low x });
+  clock = noted v.clock Tail x;
+}
 
 -- ---- load settled: a load of the settled number
 

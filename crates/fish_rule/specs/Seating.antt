@@ -40,8 +40,17 @@ split_left l v = record v { out = l ∷ v.out; own = off_lane l v.own; clock = t
 
 -- the new pass: it has lane l with its records, and knows what the control pass knew
 abbrev pub split_right : ℕ → View → View
-split_right l v = record { about = v.about; lane = l; out = []; shut = v.shut; flight = None; tail = None;
-    own = of_lane l v.own; learned = v.learned; clock = fresh }
+split_right l v = record {
+  about = v.about;
+  lane = l;
+  out = [];
+  shut = v.shut;
+  flight = None;
+  tail = None;
+  own = of_lane l v.own;
+  learned = v.learned;
+  clock = fresh;
+}
 
 -- ---- join
 
@@ -90,13 +99,23 @@ join_both v u = record v {
 
 -- nothing learned
 abbrev pub unlearned : Learned
-unlearned = record { count = 0; settled = 0; found = []; known = []; records = []; nodes = []; lows = [];
-    tops = []; gaps = []; labels = [] }
+unlearned = record {
+  count = 0;
+  settled = 0;
+  found = [];
+  known = [];
+  records = [];
+  nodes = [];
+  lows = [];
+  tops = [];
+  gaps = [];
+  labels = [];
+}
 
 -- the view of a pass that was joined
 abbrev pub spent : View
 spent = record {
-  about = record { number = 0; line = 0; end = 0; buckets = 0; rows = record { marker = record { }; value = [] } };
+  about = record { number = 0; line = 0; end = 0; buckets = 0; rows = record { marker = record {}; value = [] } };
   lane = 0;
   out = [];
   shut = None;

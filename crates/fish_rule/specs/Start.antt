@@ -35,5 +35,12 @@ pub record IsFirstKey (s : Shape) (catalog : List CatRow) (k : Key) : Type 0 whe
 
 -- an empty log and its control pass
 abbrev pub empty_world : Key → World
-empty_world k = record { count = k.number; line = k.line; settled = 0; head = λ _. 0; dir = λ _. 0;
-    log = λ _. 0; views = first_view k ∷ [] }
+empty_world k = record {
+  count = k.number;
+  line = k.line;
+  settled = 0;
+  head = λ _. 0;
+  dir = λ _. 0;
+  log = λ _. 0;
+  views = first_view k ∷ [];
+}

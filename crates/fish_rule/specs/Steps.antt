@@ -1,21 +1,16 @@
 -- What a pass knows after each kind of step, and when it may make it.
-use Rattle.std.specs.Prelude.{ℕ, ◌≡◌, ◌≢◌, ◌+◌, ◌*◌, ◌<◌, ◌≤◌, zero, suc, List, [], ◌∷◌, ◌++◌, length, max}
+use Rattle.std.specs.Prelude.{ℕ, ◌≡◌, ◌+◌, ◌*◌, ◌<◌, ◌≤◌, suc, List, [], ◌∷◌, ◌++◌, length}
 use Rattle.std.specs.Prelude.{Option, Some, None}
-use Rattle.std.proofs.Common.{◌⊎◌}
-use Rattle.fish_layout.specs.Cleared.{IsKeyWord, body_of}
+use Rattle.fish_layout.specs.Cleared.{body_of}
 use Rattle.fish_layout.specs.Header.{keys_of, void_word}
 use Rattle.fish_rule.specs.Regions.{IsRecord, kind_of}
-use Rattle.fish_rule.specs.Views.{Among}
-use Rattle.fish_rule.specs.World.{high, low}
 use Rattle.fish_rule.specs.declared.view.Clock.{Clock}
 use Rattle.fish_rule.specs.declared.view.Flight.{Flight}
-use Rattle.fish_rule.specs.declared.view.Found.{Found}
 use Rattle.fish_rule.specs.declared.view.Key.{Key}
 use Rattle.fish_rule.specs.declared.view.Kind.{Kind}
 use Rattle.fish_rule.specs.declared.view.Kind.TheVariants.{Mark, Stored, Void}
 use Rattle.fish_rule.specs.declared.view.Learned.{Learned}
 use Rattle.fish_rule.specs.declared.view.Noted.{Noted}
-use Rattle.fish_rule.specs.declared.view.Noted.TheVariants.{Directory, Tail}
 use Rattle.fish_rule.specs.declared.view.Own.{Own}
 use Rattle.fish_rule.specs.declared.view.Recorded.{Recorded}
 use Rattle.fish_rule.specs.declared.view.Shut.{Shut}
@@ -29,8 +24,10 @@ ticked c = record c { steps = suc c.steps }
 
 -- one more step, a load that found this value
 abbrev pub noted : Clock → Noted → ℕ → Clock
-noted c what value = record c { steps = suc c.steps;
-    notes = record { step = c.steps; what = what; value = value } ∷ c.notes }
+noted c what value = record c {
+  steps = suc c.steps;
+  notes = record { step = c.steps; what = what; value = value } ∷ c.notes;
+}
 
 -- one more step, a load of a word of the log
 abbrev pub loaded : Clock → Clock
@@ -50,8 +47,11 @@ flight_at n line lines = record { number = n; line = line; lines = lines; words 
 
 -- the region of so many lines at this tail is in flight
 abbrev pub after_claim : View → ℕ → ℕ → ℕ → View
-after_claim v lines n line = record v { flight = Some (flight_at n line lines);
-    tail = Some (record { number = suc n; line = line + lines }); clock = ticked v.clock }
+after_claim v lines n line = record v {
+  flight = Some (flight_at n line lines);
+  tail = Some (record { number = suc n; line = line + lines });
+  clock = ticked v.clock;
+}
 
 -- ---- fill: a store of the next word of the own region
 

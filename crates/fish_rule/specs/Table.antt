@@ -1,18 +1,11 @@
 -- The rule as the table's, and what a step tells its pass.
-use Rattle.std.specs.Prelude.{ℕ, ◌≡◌, ◌≢◌, ◌≤◌, ◌-◌, [], ◌+◌, ◌*◌, length, Bool, Some, None}
+use Rattle.std.specs.Prelude.{ℕ, ◌≡◌, [], length, Bool, Some, None}
 use mathlib.Core.Option.{some}
 use Rattle.std.proofs.Math.ListN.{get_elem?}
-use Rattle.atomic_table.specs.Table.{Me, State, Step}
-use Rattle.fish_rule.specs.Parts.{Rests}
-use Rattle.fish_rule.specs.Regions.{dir_word}
+use Rattle.atomic_table.specs.Table.{Me, State}
 use Rattle.fish_rule.specs.Rule.{Rule}
 use Rattle.fish_rule.specs.Seating.{fresh, unlearned}
-use Rattle.fish_rule.specs.Steps.{after_claim, after_publish, after_store}
-use Rattle.fish_rule.specs.Reading.{IsAlone, after_end, after_look, after_raise, after_read, after_settled}
-use Rattle.fish_rule.specs.Views.{Among}
-use Rattle.fish_rule.specs.World.{World, dir_at, high, log_at, low, total, world}
-use Rattle.fish_rule.specs.declared.view.Flight.{Flight}
-use Rattle.fish_rule.specs.declared.view.Found.{Found}
+use Rattle.fish_rule.specs.World.{World, total, world}
 use Rattle.fish_rule.specs.declared.view.Key.{Key}
 use Rattle.fish_rule.specs.declared.view.View.{View}
 

@@ -1,31 +1,16 @@
 -- What each kind of step tells the pass that makes it.
-use Rattle.std.specs.Prelude.{ℕ, ◌≡◌, ◌≢◌, ◌≤◌, ◌-◌, [], ◌+◌, ◌*◌, length, Bool, Some, None, ◌<◌, zero, suc}
-use Rattle.std.specs.Prelude.{List, ◌∷◌, slice_index, slice_set}
-use mathlib.Core.Option.{some}
-use Rattle.std.proofs.Math.ListN.{get_elem?}
-use Rattle.atomic_table.specs.Table.{Me, State, Step}
+use Rattle.std.specs.Prelude.{ℕ, ◌≡◌, ◌≢◌, ◌≤◌, ◌-◌, [], ◌+◌, ◌*◌, Bool, Some, ◌<◌}
+use Rattle.atomic_table.specs.Table.{Step}
 use Rattle.fish_rule.specs.Parts.{Rests}
-use Rattle.fish_rule.specs.Regions.{dir_word, IsRecord}
-use Rattle.fish_rule.specs.Rule.{Rule}
-use Rattle.fish_rule.specs.Seating.{fresh, unlearned}
-use Rattle.fish_rule.specs.Steps.{after_claim, after_publish, after_store, flight_kind, loaded, ticked}
+use Rattle.fish_rule.specs.Regions.{dir_word}
+use Rattle.fish_rule.specs.Steps.{after_claim, after_publish, after_store}
 use Rattle.fish_rule.specs.Reading.{IsAlone, after_end, after_look, after_raise, after_read, after_settled}
 use Rattle.fish_rule.specs.Views.{Among}
-use Rattle.fish_rule.specs.World.{World, dir_at, high, log_at, low, total, world, heads_at}
+use Rattle.fish_rule.specs.World.{dir_at, high, log_at, low, heads_at}
 use Rattle.fish_rule.specs.declared.view.Flight.{Flight}
 use Rattle.fish_rule.specs.declared.view.Found.{Found}
 use Rattle.fish_rule.specs.declared.view.Key.{Key}
-use Rattle.fish_rule.specs.declared.view.View.{View}
-use Rattle.std.proofs.Math.Decide.{ℕ_discrete}
-use Rattle.fish_layout.specs.Bucket.{bucket_of}
-use Rattle.fish_layout.specs.Cleared.{body_of, choose, entry_at}
-use Rattle.fish_layout.specs.Header.{keys_of}
 use Rattle.fish_rule.specs.Table.{Sat, Told}
-use Rattle.fish_rule.specs.declared.view.Gap.{Gap}
-use Rattle.fish_rule.specs.declared.view.Kind.TheVariants.{Stored}
-use Rattle.fish_rule.specs.declared.view.Known.{Known}
-use Rattle.fish_rule.specs.declared.view.Learned.{Learned}
-use Rattle.fish_rule.specs.declared.view.Node.{Node}
 use Rattle.fish_rule.specs.Linking.{HasNode, LowRises, TopRises, after_aim, after_head, after_node}
 use Rattle.fish_rule.specs.Linking.{after_previous, after_splice, after_swing}
 

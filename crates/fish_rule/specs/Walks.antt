@@ -4,7 +4,7 @@ use Rattle.fish_layout.specs.Cleared.{entry_at}
 use Rattle.fish_layout.specs.Entry.{entry_number, entry_place}
 use Rattle.fish_rule.specs.Chains.{IsKeyEntry}
 use Rattle.fish_rule.specs.Regions.{code}
-use Rattle.fish_rule.specs.World.{body, high, low}
+use Rattle.fish_rule.specs.World.{body, high}
 use Rattle.fish_rule.specs.declared.view.Gap.{Gap}
 use Rattle.fish_rule.specs.declared.view.Key.{Key}
 use Rattle.fish_rule.specs.declared.view.Kind.TheVariants.{Stored}

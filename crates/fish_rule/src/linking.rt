@@ -10,8 +10,8 @@ ghost use Rattle.fish_rule.specs.Linking.{after_splice, after_swing, own_place};
 ghost use Rattle.fish_rule.specs.Passes.{IsPassOf, view};
 ghost use Rattle.fish_rule.specs.declared.view.Flight.{Flight};
 
-use crate::plays::{Aim, Head, Label, Previous, Splice, Swing};
 use crate::area::{HEADS, log_at};
+use crate::plays::{Aim, Head, Label, Previous, Splice, Swing};
 use crate::table::{Log, Pass};
 
 /// Loads the head of a bucket: the place of its newest linked entry, or 0.

@@ -40,20 +40,23 @@ returns-in-None-clause-log c =
     let v = view c.next_entry.new.main in
     let more = extends_both _ _ _ e.1 c.next_entry.ensures.extends in
     let about : v.about.number ≡ c.args.log.now.key.number =
-        ap (λ (z : Key). z.number) c.next_entry.ensures.pass.about in
+    ap (λ (z : Key). z.number) c.next_entry.ensures.pass.about in
     let base : ℕ = c.args.log.now.key.number in
     let many : base + length c.loop-number.entries ≡ c.loop-number.number = inv.many in
     let test = c.loop-number-test.true in
     let end : c.load_tail-end.result.number ≡ high e.0 = e.2 in
     let mark : TellsMark v c.loop-number.number =
-        subst (TellsNext v c.loop-number.number) c.in-None.is c.in_ok-entry.ensures.entry in
+    subst (TellsNext v c.loop-number.number) c.in-None.is c.in_ok-entry.ensures.entry in
     let told : AreTold v base c.loop-number.entries =
-        λ i x at. tells_later _ _ (base + i) x c.next_entry.ensures.extends.learns (inv.told i x at) in
+    λ i x at. tells_later _ _ (base + i) x c.next_entry.ensures.extends.learns (inv.told i x at) in
     closes v c.loop-number.entries e.0 c.next_entry.ensures.pass.stands
-        (alone_later _ _ c.next_entry.ensures.extends inv.alone) more.tail
-        (subst (λ (z : ℕ). AreTold v z c.loop-number.entries) (sym about) told)
-    (inr (omega arith, subst (TellsMark v)
-        (sym many ∙ ap (λ (z : ℕ). z + length c.loop-number.entries) (sym about)) mark))
+    (alone_later _ _ c.next_entry.ensures.extends inv.alone) more.tail
+    (subst (λ (z : ℕ). AreTold v z c.loop-number.entries) (sym about) told)
+    (inr (
+      omega arith,
+      subst (TellsMark v)
+          (sym many ∙ ap (λ (z : ℕ). z + length c.loop-number.entries) (sym about)) mark,
+    ))
 
 pub loop-number-preserved : goal.loop-number-preserved
 loop-number-preserved c =
@@ -64,7 +67,7 @@ loop-number-preserved c =
     let x : Entry = c.in-Some.entry in
     let many : base + length c.loop-number.entries ≡ c.loop-number.number = inv.many in
     let next : Tells v c.loop-number.number x =
-        subst (TellsNext v c.loop-number.number) c.in-Some.is c.in_ok-entry.ensures.entry in
+    subst (TellsNext v c.loop-number.number) c.in-Some.is c.in_ok-entry.ensures.entry in
     let entries : c.push.new.self ≡ c.loop-number.entries ++ x ∷ [] = c.in_ok-push-in-Some.ensures.ok in
     let a = c.next_entry.ensures.extends.learns.count in
     let b = inv.counted in
@@ -95,4 +98,4 @@ returns-clause-log c =
     let test = c.loop-number-test.false in
     let upto : c.loop-number.number ≤ c.load_tail-end.result.number = c.loop-number.auto.number-end (omega arith) in
     closes v c.loop-number.entries e.0 inv.of.stands inv.alone tail
-        (subst (λ (z : ℕ). AreTold v z c.loop-number.entries) (sym about) inv.told) (inl (omega arith))
+    (subst (λ (z : ℕ). AreTold v z c.loop-number.entries) (sym about) inv.told) (inl (omega arith))

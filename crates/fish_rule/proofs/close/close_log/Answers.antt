@@ -8,12 +8,15 @@ pub returns-in-Ok-clause-log : goal.returns-in-Ok-clause-log
 returns-in-Ok-clause-log c =
     let e = c.all_entries.ensures.extends.1 in
     closed_before (view c.args.main)
-        (view c.all_entries.new.main) c.in-Ok.entries c.all_entries.ensures.learns e.lane e.out e.own
-            c.in-Ok.ensures.log
+    (view c.all_entries.new.main) c.in-Ok.entries c.all_entries.ensures.learns e.lane e.out e.own
+    c.in-Ok.ensures.log
 
 pub returns-in-Err-clause-want : goal.returns-in-Err-clause-want
 returns-in-Err-clause-want c =
     let e = c.all_entries.ensures.extends.1 in
-    let alone = c.requires.alone in
-    (refl, c.all_entries.ensures.pass, c.all_entries.ensures.learns,
-        record { main = e.lane ∙ alone.main; all = e.out ∙ alone.all; idle = e.flight ∙ alone.idle })
+    let alone = c.requires.alone in (
+      refl,
+      c.all_entries.ensures.pass,
+      c.all_entries.ensures.learns,
+      record { main = e.lane ∙ alone.main; all = e.out ∙ alone.all; idle = e.flight ∙ alone.idle },
+    )

@@ -17,8 +17,19 @@ read_word-requires-clause-view c =
     let plain : ¬ IsKeyWord c.args.keys c.args.offset = λ k. elim c.else-offset-keys.branch [
       | else-offset-keys-via-then-offset-keys+else-offset-eq1 w ↦ (let m = k.1 in absurd (omega arith))
       | else-offset-keys-via-else-offset-keys w ↦ (let m = k.0 in absurd (omega arith))
-    ] in
-    (f.0, record { live = c.requires.live; found = f.1; words = f.3; inside = f.4;
-        plain = inr (h.0, subst (λ (z : ℕ). Among (record { place = z * 4; value = h.0 })
-        (view c.args.pass.now).learned.known) (sym f.2) h.1,
-        subst (λ (z : ℕ). ¬ IsKeyWord z c.args.offset) h.2 plain) }, f.2)
+    ] in (
+      f.0,
+      record {
+        live = c.requires.live;
+        found = f.1;
+        words = f.3;
+        inside = f.4;
+        plain = inr (
+          h.0,
+          subst (λ (z : ℕ). Among (record { place = z * 4; value = h.0 })
+              (view c.args.pass.now).learned.known) (sym f.2) h.1,
+          subst (λ (z : ℕ). ¬ IsKeyWord z c.args.offset) h.2 plain,
+        );
+      },
+      f.2,
+    )

@@ -21,7 +21,7 @@ told_word v u n keys line i k None x told is same at plain =
     absurd (plain (subst (λ (z : ℕ × ℕ). IsKeyWord z.0 z.1) (λ j. (sym same j, sym at j)) told.0))
 told_word v u n keys line i k (Some y) x told is same at plain =
     subst (λ (z : ℕ × ℕ). Among (record { place = line * 4 + z.0; value = z.1 }) u.learned.known)
-        (λ j. (sym at j, sym is j)) told.0
+    (λ j. (sym at j, sym is j)) told.0
 
 -- and it took at most one load
 told_loads : (v u : View) (n line i : ℕ) (r : Option ℕ) → IsWordTold v u n line i r
@@ -43,7 +43,7 @@ push_reserved-requires c =
     let told = c.read_word-header.ensures.view in
     let place : c.args.line * 4 + 0 ≡ f.0.line * 4 = (let line = f.2 in omega arith) in
     let read = subst (λ (z : ℕ). Among (record { place = z; value = c.read_word-header.result }) v.learned.known) place
-        (read_here (view c.args.pass.now) v (c.args.line * 4 + 0) c.read_word-header.result told) in
+    (read_here (view c.args.pass.now) v (c.args.line * 4 + 0) c.read_word-header.result told) in
     let extends = extends_to_read (view c.args.pass.now) v (c.args.line * 4 + 0) c.read_word-header.result told in
     let among = extends.learns.found f.0 f.1 in
     let lines = header_law v f.0 c.read_word-header.result c.read_word-header.ensures.pass.stands among f.3 read in
@@ -72,11 +72,11 @@ read_body_word-word-requires-clause-found c =
     let f = c.requires.found in
     let among = inv.extends.learns.found f.0 f.1 in
     let head = head_read (view c.loop-offset.pass) c.args.line
-        (keys_of c.read_word-header.result) c.read_word-header.result c.loop-offset.words.items
-        (omega arith) inv.head inv.read in
+    (keys_of c.read_word-header.result) c.read_word-header.result c.loop-offset.words.items
+    (omega arith) inv.head inv.read in
     let lines = header_law (view c.loop-offset.pass) f.0 c.read_word-header.result inv.of.stands among f.3
-        (subst (λ (z : ℕ). Among (record { place = z * 4; value = c.read_word-header.result })
-        (view c.loop-offset.pass).learned.known) (sym f.2) head) in
+    (subst (λ (z : ℕ). Among (record { place = z * 4; value = c.read_word-header.result })
+    (view c.loop-offset.pass).learned.known) (sym f.2) head) in
     let told = c.lines_in-size.ensures.value in
     let test = c.loop-offset-test.true in
     (f.0, among, f.2, f.3, omega arith)
@@ -90,13 +90,13 @@ loop-offset-preserved c =
     let told = c.read_body_word-word.ensures.read in
     let x : ℕ = c.unwrap_or.result in
     let items : c.push_reserved-in-loop-offset.new.self.items ≡ c.loop-offset.words.items ++ x ∷ [] =
-        c.push_reserved-in-loop-offset.ensures.items in
+    c.push_reserved-in-loop-offset.ensures.items in
     let keys : c.from-keys.result ≡ keys_of c.read_word-header.result = c.from-keys.ensures ∙ c.keys_in.ensures.value in
     let here = told_word (view c.loop-offset.pass) (view c.read_body_word-word.new.pass) c.from-keys.result
-        (keys_of c.read_word-header.result) c.args.line c.loop-offset.offset (length c.loop-offset.words.items) word
-        x told.told c.unwrap_or.ensures (sym keys) many in
+    (keys_of c.read_word-header.result) c.args.line c.loop-offset.offset (length c.loop-offset.words.items) word
+    x told.told c.unwrap_or.ensures (sym keys) many in
     let counts = told_loads (view c.loop-offset.pass) (view c.read_body_word-word.new.pass) c.from-keys.result
-        c.args.line c.loop-offset.offset word told.told in
+    c.args.line c.loop-offset.offset word told.told in
     let loaded = c.from-loads.ensures ∙ ap from_bool c.is_some.ensures in
     let counted = inv.counted in
     let few = inv.few in
@@ -112,7 +112,7 @@ loop-offset-preserved c =
       read = subst (AreRead (view c.read_body_word-word.new.pass) c.args.line (keys_of c.read_word-header.result))
           (sym items)
           (read_more (view c.loop-offset.pass) (view c.read_body_word-word.new.pass) c.args.line
-              (keys_of c.read_word-header.result) x c.loop-offset.words.items told.extends inv.read here);
+          (keys_of c.read_word-header.result) x c.loop-offset.words.items told.extends inv.read here);
     }
 
 pub returns-clause-words : goal.returns-clause-words
@@ -121,12 +121,12 @@ returns-clause-words c f among line words =
     let many = inv.many in
     let from = c.loop-offset.auto.offset in
     let head = head_read (view c.loop-offset.pass) c.args.line
-        (keys_of c.read_word-header.result) c.read_word-header.result c.loop-offset.words.items
-        (omega arith) inv.head inv.read in
+    (keys_of c.read_word-header.result) c.read_word-header.result c.loop-offset.words.items
+    (omega arith) inv.head inv.read in
     let lines = header_law (view c.loop-offset.pass) f c.read_word-header.result inv.of.stands
-        (inv.extends.learns.found f among) words
-        (subst (λ (z : ℕ). Among (record { place = z * 4; value = c.read_word-header.result })
-        (view c.loop-offset.pass).learned.known) (sym line) head) in
+    (inv.extends.learns.found f among) words
+    (subst (λ (z : ℕ). Among (record { place = z * 4; value = c.read_word-header.result })
+    (view c.loop-offset.pass).learned.known) (sym line) head) in
     let some_ = found_law (view c.args.pass.now) f c.requires.pass.stands among in
     let told = c.lines_in-size.ensures.value in
     let test = c.loop-offset-test.false in

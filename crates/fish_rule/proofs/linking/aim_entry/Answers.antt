@@ -22,7 +22,7 @@ pub overflow_add-index : goal.overflow_add-index
 overflow_add-index c =
     let f : Flight = c.requires.view.0 in
     let law = aim_law c.args.log.now.key
-        (view c.args.pass.now) f c.requires.pass.about c.requires.pass.stands c.requires.view.1 in
+    (view c.args.pass.now) f c.requires.pass.about c.requires.pass.stands c.requires.view.1 in
     let place : c.args.place ≡ own_place f = c.requires.view.2 in
     let fits = c.args.log.now.fits in
     let at = c.log_at.ensures in

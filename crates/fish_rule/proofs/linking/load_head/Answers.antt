@@ -13,7 +13,7 @@ load-requires c =
     let log = c.args.log.now in
     let seat = c.args.pass.now.seat in
     let below : c.args.bucket < log.key.buckets =
-        subst (λ (z : Key). c.args.bucket < z.buckets) c.requires.pass.about c.requires.view.below in (
+    subst (λ (z : Key). c.args.bucket < z.buckets) c.requires.pass.about c.requires.view.below in (
       c.requires.pass.table,
       subst (λ (z : ℕ). heads_at + c.args.bucket < z) (sym log.wide) (omega arith),
       head_allowed log.table.shared.key log.key log.keyed log.table.shared.table_id.slots seat.id seat.me
@@ -23,4 +23,4 @@ load-requires c =
 pub returns-clause-rises : goal.returns-clause-rises
 returns-clause-rises c =
     (let index : bucket_at (heads_at + c.args.bucket) ≡ c.args.bucket = omega arith in
-        subst (λ (z : ℕ). TopRises (view c.args.pass.now) z c.load.result) index c.load.ensures.2.rises)
+    subst (λ (z : ℕ). TopRises (view c.args.pass.now) z c.load.result) index c.load.ensures.2.rises)

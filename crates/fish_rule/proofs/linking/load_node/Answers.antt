@@ -2,7 +2,7 @@
 use Rattle.std.proofs.Common.{◌≡◌, ◌∙◌, sym, ap, arith, subst, ℕ, ◌<◌, ◌≤◌, ◌+◌, ◌-◌, ◌*◌, suc}
 use Rattle.fish_rule.proofs.Nodes.{node_allowed}
 use Rattle.fish_rule.proofs.Laws.{second_law}
-use Rattle.fish_rule.specs.Linking.{HasNode, after_node}
+use Rattle.fish_rule.specs.Linking.{after_node}
 use Rattle.fish_rule.specs.Passes.{view}
 use Rattle.fish_rule.specs.Told.{place_at}
 use Rattle.fish_rule.specs.World.{log_at}
@@ -13,7 +13,7 @@ pub overflow_add-index : goal.overflow_add-index
 overflow_add-index c =
     let n = c.requires.node in
     let law = second_law c.args.log.now.key
-        (view c.args.pass.now) n.0 c.args.place c.requires.pass.about c.requires.pass.stands n.1 in
+    (view c.args.pass.now) n.0 c.args.place c.requires.pass.about c.requires.pass.stands n.1 in
     let low_end = c.args.log.now.fits.low_end in
     omega (arith, law.1)
 
@@ -21,14 +21,14 @@ pub overflow_sub-index : goal.overflow_sub-index
 overflow_sub-index c =
     let n = c.requires.node in
     let law = second_law c.args.log.now.key
-        (view c.args.pass.now) n.0 c.args.place c.requires.pass.about c.requires.pass.stands n.1 in
+    (view c.args.pass.now) n.0 c.args.place c.requires.pass.about c.requires.pass.stands n.1 in
     omega (arith, law.0)
 
 pub overflow_add-index-2 : goal.overflow_add-index-2
 overflow_add-index-2 c =
     let n = c.requires.node in
     let law = second_law c.args.log.now.key
-        (view c.args.pass.now) n.0 c.args.place c.requires.pass.about c.requires.pass.stands n.1 in
+    (view c.args.pass.now) n.0 c.args.place c.requires.pass.about c.requires.pass.stands n.1 in
     let fits = c.args.log.now.fits in
     let at = c.log_at.ensures in
     omega arith
@@ -39,7 +39,7 @@ load-requires c =
     let seat = c.args.pass.now.seat in
     let n = c.requires.node in
     let law = second_law log.key
-        (view c.args.pass.now) n.0 c.args.place c.requires.pass.about c.requires.pass.stands n.1 in
+    (view c.args.pass.now) n.0 c.args.place c.requires.pass.about c.requires.pass.stands n.1 in
     let at = c.log_at.ensures in
     let place : ℕ = c.args.place + 1 - log.key.line * 4 in
     let index : c.log_at.result + place ≡ log_at log.key + (suc c.args.place - log.key.line * 4) = omega arith in (

@@ -18,7 +18,7 @@ pub overflow_add-index : goal.overflow_add-index
 overflow_add-index c =
     let n = c.requires.node in
     let law = node_law c.args.log.now.key
-        (view c.args.pass.now) n.0 c.args.place c.requires.pass.about c.requires.pass.stands n.1 in
+    (view c.args.pass.now) n.0 c.args.place c.requires.pass.about c.requires.pass.stands n.1 in
     let fits = c.args.log.now.fits in
     let at = c.log_at.ensures in
     omega arith
@@ -29,7 +29,7 @@ load-requires c =
     let seat = c.args.pass.now.seat in
     let n = c.requires.node in
     let law = node_law log.key
-        (view c.args.pass.now) n.0 c.args.place c.requires.pass.about c.requires.pass.stands n.1 in
+    (view c.args.pass.now) n.0 c.args.place c.requires.pass.about c.requires.pass.stands n.1 in
     let at = c.log_at.ensures in
     let place : ℕ = c.args.place - log.key.line * 4 in (
       c.requires.pass.table,
@@ -51,7 +51,7 @@ returns-clause-view c b node =
     let law = node_law log.key v b c.args.place c.requires.pass.about c.requires.pass.stands node in
     let at = index log.key v.about c.log_at.result c.args.place c.requires.pass.about c.log_at.ensures law.0 in
     let same : told.bucket ≡ b = one_bucket v told.bucket b c.args.place c.requires.pass.stands
-        (subst (HasNode v told.bucket) at told.node) node in
+    (subst (HasNode v told.bucket) at told.node) node in
     told.told.view ∙ ap (λ (z : ℕ × ℕ). after_previous v z.0 z.1 c.load.result) (λ i. (same i, at i))
 
 pub returns-clause-rises : goal.returns-clause-rises
@@ -61,8 +61,8 @@ returns-clause-rises c =
     let n = c.requires.node in
     let law = node_law log.key v n.0 c.args.place c.requires.pass.about c.requires.pass.stands n.1 in
     subst (λ (z : ℕ). LowRises v z c.load.result)
-        (index log.key v.about c.log_at.result c.args.place c.requires.pass.about c.log_at.ensures law.0)
-            c.load.ensures.2.rises
+    (index log.key v.about c.log_at.result c.args.place c.requires.pass.about c.log_at.ensures law.0)
+    c.load.ensures.2.rises
 
 pub returns-clause-less : goal.returns-clause-less
 returns-clause-less c =
@@ -71,5 +71,5 @@ returns-clause-less c =
     let n = c.requires.node in
     let law = node_law log.key v n.0 c.args.place c.requires.pass.about c.requires.pass.stands n.1 in
     subst (λ (z : ℕ). c.load.result < z)
-        (index log.key v.about c.log_at.result c.args.place c.requires.pass.about c.log_at.ensures law.0)
-            c.load.ensures.2.less
+    (index log.key v.about c.log_at.result c.args.place c.requires.pass.about c.log_at.ensures law.0)
+    c.load.ensures.2.less

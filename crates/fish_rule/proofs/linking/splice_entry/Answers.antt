@@ -24,7 +24,7 @@ pub overflow_add-index : goal.overflow_add-index
 overflow_add-index c =
     let b : ℕ = c.requires.view.1.0 in
     let law = node_law c.args.log.now.key
-        (view c.args.pass.now) b c.args.above c.requires.pass.about c.requires.pass.stands c.requires.view.1.1.node in
+    (view c.args.pass.now) b c.args.above c.requires.pass.about c.requires.pass.stands c.requires.view.1.1.node in
     let fits = c.args.log.now.fits in
     let at = c.log_at.ensures in
     omega arith
@@ -37,7 +37,7 @@ compare_exchange-requires c =
     let b : ℕ = c.requires.view.1.0 in
     let can = c.requires.view.1.1 in
     let law = node_law log.key
-        (view c.args.pass.now) b c.args.above c.requires.pass.about c.requires.pass.stands can.node in
+    (view c.args.pass.now) b c.args.above c.requires.pass.about c.requires.pass.stands can.node in
     let at = c.log_at.ensures in
     let place : ℕ = c.args.above - log.key.line * 4 in (
       c.requires.pass.table,
@@ -90,28 +90,28 @@ returns-clause-view c f b flying node =
     let law = node_law log.key v b c.args.above c.requires.pass.about c.requires.pass.stands node in
     let at = index log.key v.about c.log_at.result c.args.above c.requires.pass.about c.log_at.ensures law.0 in
     let same : told.bucket ≡ b = one_bucket v told.bucket b c.args.above c.requires.pass.stands
-        (subst (HasNode v told.bucket) at told.node) node in
+    (subst (HasNode v told.bucket) at told.node) node in
     (told.told f flying).view ∙ ap (λ (z : ℕ
-        × ℕ). after_splice v f z.0 z.1 c.args.expected c.compare_exchange.result) (λ i. (same i, at i))
+    × ℕ). after_splice v f z.0 z.1 c.args.expected c.compare_exchange.result) (λ i. (same i, at i))
 
 pub returns-clause-rises : goal.returns-clause-rises
 returns-clause-rises c =
     let log = c.args.log.now in
     let v = view c.args.pass.now in
     let law =
-        node_law log.key v c.requires.view.1.0 c.args.above c.requires.pass.about c.requires.pass.stands
-            c.requires.view.1.1.node in
+    node_law log.key v c.requires.view.1.0 c.args.above c.requires.pass.about c.requires.pass.stands
+    c.requires.view.1.1.node in
     subst (λ (z : ℕ). LowRises v z c.compare_exchange.result)
-        (index log.key v.about c.log_at.result c.args.above c.requires.pass.about c.log_at.ensures law.0)
-            c.compare_exchange.ensures.2.rises
+    (index log.key v.about c.log_at.result c.args.above c.requires.pass.about c.log_at.ensures law.0)
+    c.compare_exchange.ensures.2.rises
 
 pub returns-clause-less : goal.returns-clause-less
 returns-clause-less c =
     let log = c.args.log.now in
     let v = view c.args.pass.now in
     let law =
-        node_law log.key v c.requires.view.1.0 c.args.above c.requires.pass.about c.requires.pass.stands
-            c.requires.view.1.1.node in
+    node_law log.key v c.requires.view.1.0 c.args.above c.requires.pass.about c.requires.pass.stands
+    c.requires.view.1.1.node in
     subst (λ (z : ℕ). c.compare_exchange.result < z)
-        (index log.key v.about c.log_at.result c.args.above c.requires.pass.about c.log_at.ensures law.0)
-            c.compare_exchange.ensures.2.less
+    (index log.key v.about c.log_at.result c.args.above c.requires.pass.about c.log_at.ensures law.0)
+    c.compare_exchange.ensures.2.less

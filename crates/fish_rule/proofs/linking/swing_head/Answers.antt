@@ -21,7 +21,7 @@ compare_exchange-requires c =
     let f : Flight = c.requires.view.0 in
     let can = c.requires.view.1 in
     let below : c.args.bucket < log.key.buckets =
-        subst (λ (z : Key). c.args.bucket < z.buckets) c.requires.pass.about can.below in (
+    subst (λ (z : Key). c.args.bucket < z.buckets) c.requires.pass.about can.below in (
       c.requires.pass.table,
       subst (λ (z : ℕ). heads_at + c.args.bucket < z) (sym log.wide) (omega arith),
       swing_allowed log.table.shared.key log.key log.keyed log.table.shared.table_id.slots seat.id seat.me f
@@ -59,10 +59,10 @@ pub returns-clause-view : goal.returns-clause-view
 returns-clause-view c f flying =
     let index : bucket_at (heads_at + c.args.bucket) ≡ c.args.bucket = omega arith in
     (c.compare_exchange.ensures.2.told f flying).view
-        ∙ ap (λ (z : ℕ). after_swing (view c.args.pass.now) f z c.args.expected c.compare_exchange.result) index
+    ∙ ap (λ (z : ℕ). after_swing (view c.args.pass.now) f z c.args.expected c.compare_exchange.result) index
 
 pub returns-clause-rises : goal.returns-clause-rises
 returns-clause-rises c =
     (let index : bucket_at (heads_at + c.args.bucket) ≡ c.args.bucket = omega arith in
-        subst (λ (z : ℕ). TopRises
-        (view c.args.pass.now) z c.compare_exchange.result) index c.compare_exchange.ensures.2.rises)
+    subst (λ (z : ℕ). TopRises
+    (view c.args.pass.now) z c.compare_exchange.result) index c.compare_exchange.ensures.2.rises)

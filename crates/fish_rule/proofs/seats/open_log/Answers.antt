@@ -10,7 +10,7 @@ pub of_words-requires : goal.of_words-requires
 of_words-requires c =
     let key = c.key_of-key.result in
     begins key c.key_of-key.ensures.fits c.deref.result.now
-        (subst (IsEmpty key) (sym c.deref.ensures.value) c.in_ok-words.ensures)
+    (subst (IsEmpty key) (sym c.deref.ensures.value) c.in_ok-words.ensures)
 
 -- the table has the log's key, and as many words as it says
 pub invariant_of-log : goal.invariant_of-log

@@ -27,5 +27,5 @@ invariant_of-pass c =
       shut_is = ap (λ (z : View). z.shut) told.view ∙ c.args.pass.now.shut_is;
       flight_is = ap (λ (z : View). region_in z.flight) told.view
           ∙ ap (λ (z : ℕ × ℕ × ℕ). let q : Region = record { number = z.0; line = z.1; lines = z.2 } in Some q)
-              (λ i. (sym at.number i, sym at.line i, e i));
+          (λ i. (sym at.number i, sym at.line i, e i));
     }

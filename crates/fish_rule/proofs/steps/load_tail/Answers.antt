@@ -16,14 +16,18 @@ load-found-requires c =
     )
 
 pub returns-clause-view : goal.returns-clause-view
-returns-clause-view c = (c.load-found.result, c.load-found.ensures.2.told.view, c.position_in.ensures.number,
-    c.position_in.ensures.line)
+returns-clause-view c = (
+  c.load-found.result,
+  c.load-found.ensures.2.told.view,
+  c.position_in.ensures.number,
+  c.position_in.ensures.line,
+)
 
 pub returns-clause-rests : goal.returns-clause-rests
 returns-clause-rests c main all =
     let at = c.position_in.ensures in
     subst (λ (z : ℕ × ℕ). Rests z.0 z.1 (view c.args.pass.now).tail) (λ i. (sym at.number i, sym at.line i))
-        (c.load-found.ensures.2.rests main all)
+    (c.load-found.ensures.2.rests main all)
 
 pub returns-clause-counted : goal.returns-clause-counted
 returns-clause-counted c = subst (λ (z : ℕ). (view c.args.pass.now).learned.count ≤ z)

@@ -8,7 +8,7 @@ use Rattle.fish_rule.proofs.steps.look_at.Goals as goal
 pub overflow_add-index : goal.overflow_add-index
 overflow_add-index c =
     let law = look_law c.args.log.now.key
-        (view c.args.pass.now) c.args.number c.requires.pass.about c.requires.pass.stands c.requires.view in
+    (view c.args.pass.now) c.args.number c.requires.pass.about c.requires.pass.stands c.requires.view in
     let fits = c.args.log.now.fits in
     let at = c.dir_at.ensures in
     omega arith
@@ -18,7 +18,7 @@ load-requires c =
     let log = c.args.log.now in
     let seat = c.args.pass.now.seat in
     let law = look_law log.key
-        (view c.args.pass.now) c.args.number c.requires.pass.about c.requires.pass.stands c.requires.view in
+    (view c.args.pass.now) c.args.number c.requires.pass.about c.requires.pass.stands c.requires.view in
     let at = c.dir_at.ensures in (
       c.requires.pass.table,
       subst (λ (z : ℕ). c.dir_at.result + (c.args.number - log.key.number) < z) (sym log.wide) (omega arith),

@@ -22,7 +22,7 @@ IsIn f r = (f.number ≡ r.number) × (f.line ≡ r.line) × (f.lines ≡ r.line
 within : (log : Log) (pass : Pass) (r : Region) → IsPassOf log pass → (f : Flight) × CanPublish (view pass) f
     × (f.number ≡ r.number) × (f.line ≡ r.line) × (f.lines ≡ r.lines)
     → (log.key.number ≤ r.number) × (r.number - log.key.number < slots log.key) × (1 ≤ r.lines)
-        × (r.line + r.lines < 68719476736)
+    × (r.line + r.lines < 68719476736)
 within log pass r of may =
     let f : Flight = may.0 in
     let law = flight_law log.key (view pass) f of.about of.stands may.1.flying in
@@ -32,9 +32,12 @@ within log pass r of may =
     let low_ = law.low_line in
     let number : f.number ≡ r.number = may.2 in
     let line : f.line ≡ r.line = may.3 in
-    let lines : f.lines ≡ r.lines = may.4 in
-    (subst (λ (z : ℕ). log.key.number ≤ z) number above,
-        subst (λ (z : ℕ). z - log.key.number < slots log.key) number in_slots, omega arith, omega arith)
+    let lines : f.lines ≡ r.lines = may.4 in (
+      subst (λ (z : ℕ). log.key.number ≤ z) number above,
+      subst (λ (z : ℕ). z - log.key.number < slots log.key) number in_slots,
+      omega arith,
+      omega arith,
+    )
 
 pub overflow_add-region : goal.overflow_add-region
 overflow_add-region c = (let h = within _ _ _ c.requires.pass c.requires.view in omega arith)
@@ -60,12 +63,12 @@ store-requires c =
     let lines : f.lines ≡ region.lines = may.4 in
     let kind : c.region_kind-kind.result ≡ flight_kind (view pass) f =
     c.region_kind-kind.ensures ∙ ap (λ (z : Key × ℕ × ℕ). kind_of z.0.end z.1 (z.1 + z.2))
-        (λ i. (sym c.requires.pass.about i, sym line i, sym lines i)) in (
+    (λ i. (sym c.requires.pass.about i, sym line i, sym lines i)) in (
       c.requires.pass.table,
       subst (λ (z : ℕ). c.dir_at.result + (region.number - log.key.number) < z) (sym log.wide) (omega arith),
       publish_allowed log.table.shared.key log.key log.keyed log.table.shared.table_id.slots seat.id seat.me f
           _ _ c.requires.pass.about may.1
           (ap (λ (z : ℕ). z + (region.number - log.key.number)) at
-              ∙ ap (λ (z : ℕ). dir_at log.key + (z - log.key.number)) (sym may.2))
+          ∙ ap (λ (z : ℕ). dir_at log.key + (z - log.key.number)) (sym may.2))
           (c.directory_word.ensures ∙ ap (λ (z : Kind × ℕ). dir_word z.0 z.1) (λ i. (kind i, sym line i))),
     )

@@ -58,7 +58,7 @@ load-requires c =
       read_allowed log.table.shared.key log.key log.keyed log.table.shared.table_id.slots seat.id seat.me
           c.requires.view.0 c.args.offset _ c.requires.pass.about c.requires.view.1
           (ap (λ (z : ℕ). z + place) at ∙ ap (λ (z : ℕ). log_at log.key +
-              (z * 4 + c.args.offset - log.key.line * 4)) (sym c.requires.view.2)),
+          (z * 4 + c.args.offset - log.key.line * 4)) (sym c.requires.view.2)),
     )
 
 pub returns-clause-view : goal.returns-clause-view
@@ -70,4 +70,4 @@ returns-clause-view c =
     let place : ℕ = c.args.line * 4 + c.args.offset - log.key.line * 4 in
     let index : place_at log.key (c.log_at.result + place) ≡ c.args.line * 4 + c.args.offset = omega arith in
     c.load.ensures.2.view ∙ ap (λ (z : ℕ). after_read (view c.args.pass.now) z c.load.result)
-        (ap (λ (z : Key). place_at z (c.log_at.result + place)) c.requires.pass.about ∙ index)
+    (ap (λ (z : Key). place_at z (c.log_at.result + place)) c.requires.pass.about ∙ index)

@@ -12,7 +12,7 @@ returns-then-end-next c = sym (kind-mark c.args.end c.args.line c.args.next (ome
 pub returns-then-line-next : goal.returns-then-line-next
 returns-then-line-next c =
     sym (kind-within c.args.end c.args.line c.args.next (omega arith)
-        ∙ choose_first (dec_lt (c.args.line / 32768) ((c.args.next - 1) / 32768)) Void Stored (omega arith))
+    ∙ choose_first (dec_lt (c.args.line / 32768) ((c.args.next - 1) / 32768)) Void Stored (omega arith))
 
 pub returns-else-line-next : goal.returns-else-line-next
 returns-else-line-next c =

@@ -47,7 +47,7 @@ store-requires c =
       store_allowed log.table.shared.key log.key log.keyed log.table.shared.table_id.slots seat.id seat.me
           c.requires.view.0 _ c.args.word c.requires.pass.about c.requires.view.1
           (ap (λ (z : ℕ). z + place) at ∙ ap (λ (z : ℕ × ℕ). log_at log.key +
-              (z.0 * 4 + z.1 - log.key.line * 4)) (λ i. (sym c.requires.view.2 i, sym c.requires.view.3 i))),
+          (z.0 * 4 + z.1 - log.key.line * 4)) (λ i. (sym c.requires.view.2 i, sym c.requires.view.3 i))),
     )
 
 pub invariant_of-pass : goal.invariant_of-pass
