@@ -23,6 +23,7 @@ pub record Fits (k : Key) : Type 0 where
   pub few_lines : k.end ≤ k.line + 16777216
   pub few_numbers : k.number ≤ 251000000
   pub low_end : k.end ≤ 34359738368
+  pub some_buckets : 0 < k.buckets
   pub few_buckets : k.buckets ≤ 65536
 
 -- ---- seats

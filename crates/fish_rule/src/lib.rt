@@ -24,7 +24,7 @@ pub use close::{CloseWant, Remains, close_log};
 pub use entry::{read_record, read_region};
 pub use law::law_every_schedule;
 pub use linking::{aim_entry, load_head, load_node, load_previous, splice_entry, swing_head};
-pub use seats::{Start, base, join_pass, open_log, shape, split_pass};
+pub use seats::{Start, base, buckets, join_pass, open_log, shape, split_pass};
 pub use steps::{
     claim_lines, in_flight, is_shut, kind_in, lane, load_settled, load_tail, look_at,
     publish_region, raise_settled, read_word, store_word,

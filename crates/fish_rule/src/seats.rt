@@ -3,7 +3,7 @@
 //! No step here changes a word. The first pass is the control pass: it has lane 1, and each lane
 //! from 2 to 16 that is with no other pass.
 
-ghost use Rattle.std.specs.Prelude.{◌≡◌, ℕ, ◌+◌, ◌*◌, ◌<◌, IfOk, replicate};
+ghost use Rattle.std.specs.Prelude.{◌≡◌, ℕ, ◌+◌, ◌*◌, ◌<◌, ◌≤◌, IfOk, replicate};
 ghost use Rattle.fish_rule.specs.Logs.{Learns};
 ghost use Rattle.fish_rule.specs.Parts.{Fits};
 ghost use Rattle.fish_rule.specs.Passes.{IsPassOf, view};
@@ -111,6 +111,15 @@ pub fn shape(log: &Log) -> Shape
     ensures { result ≡ log.now.shape }
 {
     log.shape
+}
+
+/// How many chains the log has.
+pub fn buckets(log: &Log) -> u64
+    ensures value { result ≡ log.now.key.buckets }
+    ensures some { 0 < result }
+    ensures few { result ≤ 65536 }
+{
+    log.key.buckets
 }
 
 /// Where the log's numbers and lines begin.
