@@ -74,11 +74,11 @@ ids_same : (rows : List CatRow) (defs : List ActiveDef) → AreActive rows defs
     → map id_of defs ≡ map row_id (filter is_active rows)
 ids_same rows defs e = sym (def_ids defs) ∙ ap (map (λ (t : ℕ × List ℕ). t.0)) e ∙ row_ids (filter is_active rows)
 
--- definitions whose ids ascend so may be given to `record_body`
+-- definitions whose ids ascend so may be given to `prepare`
 pub defs_ascend : (defs : List ActiveDef) → AscendFrom 0 (map id_of defs) → AreDefs defs
 defs_ascend defs h = record { ascending = increases 0 (map id_of defs) h; below = below 0 defs h }
 
--- the definitions of the active rows of a catalogue may be given to `record_body`
+-- the definitions of the active rows of a catalogue may be given to `prepare`
 pub active_defs : {rows : List CatRow} {defs : List ActiveDef} → IsCatalog rows → AreActive rows defs → AreDefs defs
 active_defs {rows} {defs} h active =
     let few : length rows ≤ MAX_ROWS = h.few in

@@ -4,3 +4,4 @@ pub mod Parts
 pub mod Payloads
 pub mod Stored
 pub mod Values
+pub mod Written

@@ -1,3 +1,4 @@
 pub mod Definitions
 pub mod Entries
 pub mod Records
+pub mod Writing

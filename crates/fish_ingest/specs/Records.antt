@@ -10,6 +10,7 @@ use Rattle.fish_psf.specs.declared.reading.PsfRefusal.{PsfRefusal}
 use Rattle.fish_psf.specs.declared.reading.PsfRefusal.TheVariants as parsing
 use Rattle.fish_rule.specs.Keys.{property}
 use Rattle.fish_ingest.specs.declared.origin.Origin.{Origin}
+use Rattle.fish_ingest.specs.declared.prepared.Prepared.{Prepared}
 use Rattle.fish_ingest.specs.declared.refusal.IngestRefusal.{IngestRefusal}
 use Rattle.fish_ingest.specs.declared.refusal.IngestRefusal.TheVariants as refusal
 
@@ -40,3 +41,8 @@ pub record ArePartsFor (defs : List ActiveDef) (origin : Origin) (payload : List
 -- the words are those of the record that a payload is
 abbrev pub IsBodyFor : List ActiveDef → Origin → List ℕ → List ℕ → Type 0
 IsBodyFor defs origin payload words = (p : BodyParts) × ArePartsFor defs origin payload p × IsBody p words
+
+-- what was prepared are the words of the record that a payload is, and its keys
+abbrev pub IsPreparedFor : List ActiveDef → Origin → List ℕ → Prepared → Type 0
+IsPreparedFor defs origin payload prepared =
+    (b : IsBodyFor defs origin payload prepared.body) × (prepared.keys ≡ b.0.keys)

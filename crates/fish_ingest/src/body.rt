@@ -4,7 +4,7 @@ ghost use Rattle.std.specs.Prelude.{◌≡◌, ◌≢◌, ◌↔◌, ◌+◌, �
 ghost use Rattle.std.specs.Prelude.{IfErr, IfOk, IfSome, IsErrOf, IsUtf8};
 ghost use Rattle.fish_ingest.specs.Definitions.{AreDefs};
 ghost use Rattle.fish_ingest.specs.Entries.{AreEntriesFor, IsEntry, IsShort};
-ghost use Rattle.fish_ingest.specs.Records.{IsBodyFor, IsOrigin};
+ghost use Rattle.fish_ingest.specs.Records.{IsOrigin, IsPreparedFor};
 ghost use Rattle.fish_layout.specs.Body.{IsProperValue};
 ghost use Rattle.fish_psf.specs.Fields.{fields_of};
 ghost use Rattle.fish_psf.specs.Keys.{key_of};
@@ -12,25 +12,26 @@ ghost use Rattle.fish_psf.specs.Records.{is_record};
 ghost use Rattle.fish_rule.specs.Keys.{property};
 
 use crate::origin::Origin;
+use crate::prepared::Prepared;
 use crate::refusal::IngestRefusal;
-use fish_layout::{Body, BodyParts, KeyPart, KeyParts, MAX_PAYLOAD, body_of};
+use fish_layout::{BodyParts, KeyPart, KeyParts, MAX_PAYLOAD, body_of};
 use fish_psf::{ActiveDef, Record, Steps, eval, parse};
 use fish_value::{Text, Value};
 use std::alloc::{AllocError, Global};
 use std::sync::ledger::Ledger;
 
-/// The words of the record that a payload is, with a key entry for each definition that gives a
-/// value for it, and number 0. The payload is parsed once and copied twice.
-pub fn record_body<L: Ledger>(
+/// Makes the record that a payload is, with a key entry for each definition that gives a value for it,
+/// and number 0. The payload is parsed once and copied twice.
+pub fn prepare<L: Ledger>(
     alloc: Global,
     defs: &[ActiveDef],
     origin: Origin,
     payload: &[u8],
     parses: &mut Steps<L>,
-) -> Result<Body, IngestRefusal>
+) -> Result<Prepared, IngestRefusal>
     requires defs { AreDefs defs.now }
     requires origin { IsOrigin origin }
-    ensures body { IfOk result (λ body. IsBodyFor defs.now origin payload.now body) }
+    ensures prepared { IfOk result (IsPreparedFor defs.now origin payload.now) }
     ensures counted { parses.new ≡ parses.old + 1 }
 
     ensures too_long { IsErrOf result IngestRefusal.TooLong ↔ (MAX_PAYLOAD < length payload.now) }
@@ -49,7 +50,9 @@ pub fn record_body<L: Ledger>(
         keys,
         payload: text_of(alloc, payload)?,
     };
-    Ok(body_of(alloc, &parts)?)
+    let body = body_of(alloc, &parts)?;
+    let BodyParts { keys, .. } = parts;
+    Ok(Prepared { body, keys })
 }
 
 /// A copy of bytes that are a text.

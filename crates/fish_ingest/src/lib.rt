@@ -6,10 +6,14 @@
 
 mod body;
 mod origin;
+mod prepared;
 mod refusal;
 #[cfg(test)]
 mod tests;
+mod writing;
 
-pub use body::record_body;
+pub use body::prepare;
 pub use origin::Origin;
+pub use prepared::Prepared;
 pub use refusal::IngestRefusal;
+pub use writing::write_record;

@@ -5,7 +5,7 @@ ghost use Rattle.std.specs.Prelude.{◌≡◌, ◌<◌, IsTrue};
 ghost use Rattle.fish_ingest.specs.Definitions.{AreDefs};
 ghost use Rattle.fish_ingest.specs.Records.{IsOrigin};
 
-use crate::{IngestRefusal, Origin, record_body};
+use crate::{IngestRefusal, Origin, prepare};
 use fish_lang::parse_def;
 use fish_layout::{Body, BodyParts, MAX_PAYLOAD, read_body};
 use fish_psf::{ActiveDef, Steps};
@@ -94,9 +94,10 @@ fn body<P: Ledger>(
         return Err(Fail::new("ids out of order"));
     }
     let mut parses = Steps::<P>::new(blank);
-    match record_body(alloc, defs.as_slice(), origin, payload, &mut parses) {
+    match prepare(alloc, defs.as_slice(), origin, payload, &mut parses) {
+        Ok(prepared) => Ok(Ok(prepared.body)),
         Err(IngestRefusal::OutOfMemory) => Err(Fail::from(AllocError)),
-        answer => Ok(answer),
+        Err(refusal) => Ok(Err(refusal)),
     }
 }
 

@@ -1,8 +1,9 @@
 -- The parts that were put together are those of the payload, and proper.
+use Rattle.std.proofs.Common.{refl}
 use Rattle.fish_psf.specs.Fields.{fields_of}
 use Rattle.fish_ingest.proofs.Parts.{are_read, body_for, parts_proper}
 use Rattle.fish_ingest.proofs.Payloads.{record_text}
-use Rattle.fish_ingest.proofs.body.record_body.Goals as goal
+use Rattle.fish_ingest.proofs.body.prepare.Goals as goal
 
 -- a record is a text
 pub text_of-requires : goal.text_of-requires
@@ -15,10 +16,12 @@ body_of-requires g c =
     parts_proper c.requires.defs c.requires.origin
     (are_read (fields_of c.in_ok-found.found) found.fields c.in_ok-keys.ensures c.in_ok-text_of.ensures found.accepted)
 
--- and so are the words
-pub returns-clause-body : goal.returns-clause-body
-returns-clause-body g c =
+-- and so are the words, and the keys
+pub returns-clause-prepared : goal.returns-clause-prepared
+unfolding body_for
+returns-clause-prepared g c =
     let found = c.in_ok-found.ensures in
-    body_for c.requires.defs c.requires.origin
-    (are_read (fields_of c.in_ok-found.found) found.fields c.in_ok-keys.ensures c.in_ok-text_of.ensures found.accepted)
-    c.in_ok-body_of.ensures
+    let made = body_for c.requires.defs c.requires.origin
+        (are_read (fields_of c.in_ok-found.found) found.fields c.in_ok-keys.ensures c.in_ok-text_of.ensures
+        found.accepted) c.in_ok-body.ensures in
+    (made, refl)

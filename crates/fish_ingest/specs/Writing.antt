@@ -1,0 +1,41 @@
+-- When what was prepared may be written for a claim, and what the pass knows afterwards.
+use Rattle.std.specs.Prelude.{ℕ, ◌≡◌, ◌*◌, ◌^◌, ◌<◌, List, [], length, Some}
+use Rattle.fish_ingest.specs.Records.{IsPreparedFor}
+use Rattle.fish_ingest.specs.declared.origin.Origin.{Origin}
+use Rattle.fish_ingest.specs.declared.prepared.Prepared.{Prepared}
+use Rattle.fish_psf.specs.declared.key.ActiveDef.{ActiveDef}
+use Rattle.fish_rule.specs.Flying.{region_of}
+use Rattle.fish_rule.specs.Keys.{AreActive}
+use Rattle.fish_rule.specs.Logs.{Learns}
+use Rattle.fish_rule.specs.Steps.{CanPublish, flight_kind}
+use Rattle.fish_rule.specs.declared.view.Flight.{Flight}
+use Rattle.fish_rule.specs.declared.view.Kind.TheVariants.{Stored}
+use Rattle.fish_rule.specs.declared.view.View.{View}
+
+-- f was just claimed for a record of the lines that were prepared, which are of the pass's lane, version 0, and the
+-- definitions that the log begins with
+pub record CanWrite (v : View) (f : Flight) (prepared : Prepared) : Type 0 where
+  pub flying : v.flight ≡ Some f
+  pub unfilled : f.words ≡ []
+  pub unlinked : f.linked ≡ 0
+  pub stored : flight_kind v f ≡ Stored
+  pub lines : length prepared.body ≡ f.lines * 4
+  pub defs : List ActiveDef
+  pub origin : Origin
+  pub payload : List ℕ
+  pub made : IsPreparedFor defs origin payload prepared
+  pub active : AreActive v.about.rows.value defs
+  pub lane_is : origin.lane ≡ v.lane
+  pub version_is : origin.version ≡ 0
+
+-- the record of the claim f is written with all its entries linked, and else the pass is as it was
+pub record HasWritten (v : View) (f : Flight) (u : View) : Type 0 where
+  pub flight : Flight
+  pub ready : CanPublish u flight
+  pub stored : flight_kind u flight ≡ Stored
+  pub region : region_of flight ≡ region_of f
+  pub about : u.about ≡ v.about
+  pub lane : u.lane ≡ v.lane
+  pub out : u.out ≡ v.out
+  pub shut : u.shut ≡ v.shut
+  pub own : u.own ≡ v.own

@@ -1,0 +1,21 @@
+//! A record that is ready to be stored.
+
+ghost use Rattle.std.specs.Prelude.{◌≡◌, ◌/◌, length};
+
+use fish_layout::{Body, KeyParts};
+
+/// The words of a record and its keys, whose hashes say into which chains its entries go.
+#[derive(Debug, Drop)]
+pub struct Prepared {
+    pub(crate) body: Body,
+    pub(crate) keys: KeyParts,
+}
+
+impl Prepared {
+    /// How many lines of 32 bytes it takes.
+    pub fn lines(&self) -> u64
+        ensures { result ≡ length self.now.body / 4 }
+    {
+        self.body.len() as u64 / 4
+    }
+}
