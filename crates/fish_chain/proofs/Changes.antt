@@ -1,19 +1,20 @@
 -- What each step leaves of a view while an entry is linked.
-use Rattle.std.proofs.Common.{◌≡◌, ℕ, ◌+◌, ◌*◌, ◌<◌, ◌⊎◌, inl, inr, zero, suc, List, ◌∷◌, set, refl, sym, ap}
+use Rattle.std.proofs.Common.{◌≡◌, ℕ, ◌+◌, ◌*◌, ◌<◌, inr, suc, List, ◌∷◌, set, refl, sym, ap}
 use Rattle.std.proofs.Common.{◌∙◌, subst, arith, length-set, Some}
 use Rattle.fish_chain.specs.Links.{CanLink, Changed, chained_view, with_linked}
 use Rattle.fish_claim.proofs.Filled.{filled_aim, refilled}
 use Rattle.fish_layout.specs.Bucket.{bucket_of}
 use Rattle.fish_layout.specs.Cleared.{body_of, entry_at}
 use Rattle.fish_layout.specs.Header.{keys_of}
+use Rattle.fish_rule.proofs.Descents.{extends_head, extends_previous}
+use Rattle.fish_rule.proofs.Extending.{learns_both}
 use Rattle.fish_rule.proofs.LinkLaws.{body-set}
+use Rattle.fish_rule.specs.Logs.{Learns}
 use Rattle.fish_rule.specs.Linking.{CanAim, after_aim, after_head, after_previous, gap, learned_head}
 use Rattle.fish_rule.specs.Linking.{learned_previous, spliced, swung, with_node}
 use Rattle.fish_rule.specs.Steps.{loaded}
-use Rattle.fish_rule.specs.Views.{Among}
 use Rattle.fish_rule.specs.declared.view.Flight.{Flight}
 use Rattle.fish_rule.specs.declared.view.Key.{Key}
-use Rattle.fish_rule.specs.declared.view.Node.{Node}
 use Rattle.fish_rule.specs.declared.view.View.{View}
 
 -- what holds of the record in flight holds of whatever is in flight
@@ -22,18 +23,55 @@ pub for_each : (v : View) (f : Flight) (P : Flight → Type 0) → v.flight ≡ 
 for_each v f P one here g two = (let same : f ≡ g = (let e : Some f ≡ Some g = sym one ∙ two in cc) in
     subst P same here)
 
--- ---- nodes
+-- ---- what was known stays known
 
--- a node stays among more
-pub node_stays : (b x : ℕ) (nodes : List Node) (n : Node) → Among n nodes → Among n (with_node b x nodes)
-node_stays b zero nodes n among = among
-node_stays b (suc x) nodes n among = inr among
+-- by an aim
+aim_learns : (u : View) (f : Flight) (x : ℕ) → Learns u (after_aim u f x)
+aim_learns u f x = record {
+  about = refl;
+  count = omega arith;
+  settled = omega arith;
+  found = λ x m. m;
+  known = λ x m. m;
+  records = λ x m. m;
+  nodes = λ x m. m;
+  lows = λ x m. m;
+  tops = λ x m. m;
+  gaps = λ x m. m;
+  labels = λ x m. m;
+}
 
--- a place that was found is 0 or a node
-pub node_found : (b x : ℕ) (nodes : List Node) → (x ≡ 0)
-    ⊎ Among (record { bucket = b; place = x }) (with_node b x nodes)
-node_found b zero nodes = inl refl
-node_found b (suc x) nodes = inr (inl refl)
+-- by a swing that was made
+swing_learns : (u : View) (f : Flight) (b : ℕ) → Learns u (swung u f b)
+swing_learns u f b = record {
+  about = refl;
+  count = omega arith;
+  settled = omega arith;
+  found = λ x m. m;
+  known = λ x m. m;
+  records = λ x m. m;
+  nodes = λ x m. inr m;
+  lows = λ x m. m;
+  tops = λ x m. inr m;
+  gaps = λ x m. m;
+  labels = λ x m. m;
+}
+
+-- by a splice that was made
+splice_learns : (u : View) (f : Flight) (b q : ℕ) → Learns u (spliced u f b q)
+splice_learns u f b q = record {
+  about = refl;
+  count = omega arith;
+  settled = omega arith;
+  found = λ x m. m;
+  known = λ x m. m;
+  records = λ x m. m;
+  nodes = λ x m. inr m;
+  lows = λ x m. inr m;
+  tops = λ x m. m;
+  gaps = λ x m. m;
+  labels = λ x m. m;
+}
 
 -- ---- one step after others
 
@@ -42,7 +80,6 @@ pub changed_next : (v u t : View) (f : Flight) (words next : List ℕ) (linked :
     → Changed v f words f.linked u → Changed u (with_linked f words f.linked) next linked t → Changed v f next linked t
 changed_next v u t f words next linked c d =
     let clock = ap (λ (z : View). z.clock) c.known in
-    let nodes = ap (λ (z : View). z.learned.nodes) c.known in
     record {
       nodes = d.nodes;
       lows = d.lows;
@@ -53,7 +90,7 @@ changed_next v u t f words next linked c d =
           (with_linked f words f.linked) next linked d.nodes d.lows d.tops d.gaps d.clock) c.known;
       long = d.long ∙ c.long;
       body = d.body ∙ c.body;
-      kept = λ n among. d.kept n (subst (Among n) (sym nodes) (c.kept n among));
+      learns = learns_both v u t c.learns d.learns;
       steps = (let s = ap (λ z. z.steps) clock in let a = c.steps in let b = d.steps in omega arith);
       loads = (let s = ap (λ z. z.loads) clock in let a = c.loads in let b = d.loads in omega arith);
       notes = d.notes ∙ ap (λ z. z.notes) clock ∙ c.notes;
@@ -90,11 +127,14 @@ module _ (u t : View) (f : Flight) where
     tops = record { bucket = b; place = x } ∷ u.learned.tops;
     gaps = gap b (u.about.end * 4) x u.learned ∷ u.learned.gaps;
     clock = loaded u.clock;
-    known = is ∙ (λ i. record u { flight = flying i; learned = learned_head u.about.end b x u.learned;
-        clock = loaded u.clock });
+    known = is ∙ (λ i. record u {
+      flight = flying i;
+      learned = learned_head u.about.end b x u.learned;
+      clock = loaded u.clock;
+    });
     long = refl;
     body = refl;
-    kept = node_stays b x u.learned.nodes;
+    learns = subst (Learns u) (sym is) (extends_head u b x).learns;
     steps = omega arith;
     loads = omega arith;
     notes = refl;
@@ -108,11 +148,14 @@ module _ (u t : View) (f : Flight) where
     tops = u.learned.tops;
     gaps = gap b q x u.learned ∷ u.learned.gaps;
     clock = loaded u.clock;
-    known = is ∙ (λ i. record u { flight = flying i; learned = learned_previous b q x u.learned;
-        clock = loaded u.clock });
+    known = is ∙ (λ i. record u {
+      flight = flying i;
+      learned = learned_previous b q x u.learned;
+      clock = loaded u.clock;
+    });
     long = refl;
     body = refl;
-    kept = node_stays b x u.learned.nodes;
+    learns = subst (Learns u) (sym is) (extends_previous u b q x).learns;
     steps = omega arith;
     loads = omega arith;
     notes = refl;
@@ -130,7 +173,7 @@ module _ (u t : View) (f : Flight) where
     known = is;
     long = length-set f.words (entry_at f.linked) x;
     body = body-set f.words f.linked x more;
-    kept = λ n among. among;
+    learns = subst (Learns u) (sym is) (aim_learns u f x);
     steps = omega arith;
     loads = omega arith;
     notes = refl;
@@ -147,7 +190,7 @@ module _ (u t : View) (f : Flight) where
     known = is;
     long = refl;
     body = refl;
-    kept = λ n among. inr among;
+    learns = subst (Learns u) (sym is) (swing_learns u f b);
     steps = omega arith;
     loads = omega arith;
     notes = refl;
@@ -164,7 +207,7 @@ module _ (u t : View) (f : Flight) where
     known = is;
     long = refl;
     body = refl;
-    kept = λ n among. inr among;
+    learns = subst (Learns u) (sym is) (splice_learns u f b q);
     steps = omega arith;
     loads = omega arith;
     notes = refl;

@@ -43,7 +43,14 @@ module _ (v u : View) (f : Flight) (b above : ℕ) (can : CanLink v f f.linked b
 
   -- what was tried further down was tried from the start
   pub below_tried : (o : Option ℕ) (w : View) → Tried u (with_linked f s.words f.linked) b o w → Tried v f b o w
-  below_tried None w t = record { words = t.words;
-      changed = changed_next v u w f s.words t.words (suc f.linked) s.changed t.changed; node = t.node }
-  below_tried (Some place) w t = record { words = t.words;
-      changed = changed_next v u w f s.words t.words f.linked s.changed t.changed; node = t.node; above = t.above }
+  below_tried None w t = record {
+    words = t.words;
+    changed = changed_next v u w f s.words t.words (suc f.linked) s.changed t.changed;
+    node = t.node;
+  }
+  below_tried (Some place) w t = record {
+    words = t.words;
+    changed = changed_next v u w f s.words t.words f.linked s.changed t.changed;
+    node = t.node;
+    above = t.above;
+  }

@@ -1,18 +1,16 @@
 -- The steps of a walk, over plain views.
-use Rattle.std.proofs.Common.{◌≡◌, ◌≢◌, ℕ, ◌+◌, ◌*◌, ◌<◌, ◌≤◌, sym, refl, ap, ◌∙◌, subst, ◌⊎◌, ⊎_elim, inl, inr, arith}
-use Rattle.std.proofs.Math.Decide.{dec_le}
-use Rattle.fish_chain.specs.Walks.{GoesOn, Gave, HasBegun, HasLooked, HasRange, IsNext, IsNumbered, IsWalking}
+use Rattle.std.proofs.Common.{◌≡◌, ℕ, ◌+◌, ◌*◌, ◌<◌, ◌≤◌, sym, refl, subst, ◌⊎◌, ⊎_elim, inl, inr, arith}
+use Rattle.fish_chain.specs.Walks.{LeadsTo, HasBegun, HasRange, IsNextNode, IsNumbered, IsWalking}
 use Rattle.fish_chain.specs.declared.walk.Node.{Node}
 use Rattle.fish_layout.specs.Entry.{entry_id, entry_number, entry_place}
-use Rattle.fish_rule.proofs.Descents.{entries_within, extends_head, extends_node, extends_previous}
+use Rattle.fish_rule.proofs.Descents.{entries_within, extends_node}
 use Rattle.fish_rule.proofs.Descents.{head_clear, head_here, previous_clear, previous_here}
 use Rattle.fish_rule.proofs.Extending.{extends_both}
 use Rattle.fish_rule.proofs.Walking.{always_later, clear_both, label_entry, label_last, label_outside}
 use Rattle.fish_rule.specs.Linking.{HasNode, after_head, after_node, after_previous}
-use Rattle.fish_rule.specs.Logs.{Extends, Learns}
+use Rattle.fish_rule.specs.Logs.{Extends}
 use Rattle.fish_rule.specs.Views.{Among}
 use Rattle.fish_rule.specs.Walking.{Always, IsClear, IsEntryIn, IsNodeIn}
-use Rattle.fish_rule.specs.World.{World}
 use Rattle.fish_rule.specs.declared.table.Walk.{Walk}
 use Rattle.fish_rule.specs.declared.view.Key.{Key}
 use Rattle.fish_rule.specs.declared.view.Label.{Label}
@@ -23,16 +21,16 @@ use Rattle.fish_rule.specs.declared.view.View.{View}
 -- a walk that stands at the head that was seen has its whole range before it
 pub begun_at : (v : View) (bucket from to place : ℕ) → to ≤ v.learned.settled
     → HasBegun (after_head v bucket place)
-        (record { bucket = bucket; from = from; to = to; given = place + 1; place = place }) bucket from to
+    (record { bucket = bucket; from = from; to = to; given = place + 1; place = place }) bucket from to
 begun_at v bucket from to place known =
     let u : View = after_head v bucket place in
     let top : Always u (λ k w. (n c p : ℕ) → from ≤ n → n < to → IsEntryIn bucket n c p k w → p < place + 1) =
-        λ x learns w r seat at n c p more less h.
-        let inside = entries_within u x learns w r seat at bucket n c p h in
-        let same : x.about ≡ v.about = learns.about in
-        let below : p < v.about.end * 4 = subst (λ (z : Key). p < z.end * 4) same inside in
-        let high = head_clear v bucket place from to known x learns w r seat at n c p more less h below in
-        omega arith in
+    λ x learns w r seat at n c p more less h.
+    let inside = entries_within u x learns w r seat at bucket n c p h in
+    let same : x.about ≡ v.about = learns.about in
+    let below : p < v.about.end * 4 = subst (λ (z : Key). p < z.end * 4) same inside in
+    let high = head_clear v bucket place from to known x learns w r seat at n c p more less h below in
+    omega arith in
     record {
       range = record { bucket_is = refl; from_is = refl; to_is = refl };
       walking = record {
@@ -48,7 +46,7 @@ begun_at v bucket from to place known =
 
 -- below a record below the range there is nothing left
 pub stops_below : (v : View) (walk : Walk) (number : ℕ) → IsNumbered v walk.place number → number < walk.from
-    → 0 < walk.place → GoesOn v walk 0
+    → 0 < walk.place → LeadsTo v walk 0
 stops_below v walk number is less some_ = record {
   lower = some_;
   at = inl refl;
@@ -59,16 +57,12 @@ stops_below v walk number is less some_ = record {
 
 -- else the walk goes on at what the first word leads to
 pub goes_down : (v : View) (walk : Walk) (previous : ℕ) → walk.to ≤ v.learned.settled → previous < walk.place
-    → GoesOn (after_previous v walk.bucket walk.place previous) walk previous
+    → LeadsTo (after_previous v walk.bucket walk.place previous) walk previous
 goes_down v walk previous known less = record {
   lower = less;
   at = previous_here v walk.bucket walk.place previous;
   clear = previous_clear v walk.bucket walk.place previous walk.from walk.to known;
 }
-
--- a view after the load of a first word has looked
-pub looked_down : (v : View) (b p x : ℕ) → HasLooked v (after_previous v b p x)
-looked_down v b p x = record { extends = extends_previous v b p x; settled = refl }
 
 -- ---- a turn of a walk: an entry's second word is read, and the walk goes on below
 
@@ -96,36 +90,28 @@ numbered v u p word number seen is = record {
   number_is = sym is;
 }
 
--- a view that has looked twice has looked
-pub looked_both : (v u t : View) → HasLooked v u → HasLooked u t → HasLooked v t
-looked_both v u t one two = record {
-  extends = extends_both v u t one.extends two.extends;
-  settled = two.settled ∙ one.settled;
-}
-
--- a view after the load of a second word has looked
-pub looked_node : (v u : View) (p word : ℕ) → u ≡ after_node v p word → HasLooked v u
-looked_node v u p word seen = subst (HasLooked v) (sym seen)
-    (record { extends = extends_node v p word; settled = refl })
+-- a view after the load of a second word extends the one before
+pub looked_node : (v u : View) (p word : ℕ) → u ≡ after_node v p word → Extends v u
+looked_node v u p word seen = subst (Extends v) (sym seen) (extends_node v p word)
 
 module _ (v u t : View) (walk : Walk) (word below : ℕ) (walking : IsWalking v walk) (some_ : 0 < walk.place)
-    (seen : u ≡ after_node v walk.place word) (looked : HasLooked u t) (goes : GoesOn t walk below) where
+    (seen : u ≡ after_node v walk.place word) (looked : Extends u t) (goes : LeadsTo t walk below) where
   -- all of the turn only learns
-  turn_looked : HasLooked v t
-  turn_looked = looked_both v u t (looked_node v u walk.place word seen) looked
+  turn_looked : Extends v t
+  turn_looked = extends_both v u t (looked_node v u walk.place word seen) looked
 
   -- the label is still known
   turn_label : Among (label_at v walk.place word) t.learned.labels
-  turn_label = looked.extends.learns.labels (label_at v walk.place word) (label_read v u walk.place word seen)
+  turn_label = looked.learns.labels (label_at v walk.place word) (label_read v u walk.place word seen)
 
   -- so is where the walk stood
   turn_clear : Always t (IsClear walk.bucket walk.from walk.to walk.given walk.place)
   turn_clear = always_later v t (IsClear walk.bucket walk.from walk.to walk.given walk.place)
-      turn_looked.extends.learns walking.clear
+      turn_looked.learns walking.clear
 
   -- the range stays settled
   turn_settled : walk.to ≤ t.learned.settled
-  turn_settled = subst (λ (z : ℕ). walk.to ≤ z) (sym turn_looked.settled) walking.settled
+  turn_settled = (let a = walking.settled in let b = turn_looked.learns.settled in omega arith)
 
   -- the walk stands at the end, or at an entry below a place that isn't above where it stood
   turn_at : (given_ : ℕ) → walk.place ≤ given_
@@ -150,12 +136,12 @@ module _ (v u t : View) (walk : Walk) (word below : ℕ) (walking : IsWalking v 
   -- it is the next one
   pub given_next : (node : Node) → node.number ≡ entry_number word → node.place ≡ walk.place
       → node.id ≡ entry_id word → node.key ≡ entry_place word → walk.from ≤ node.number → node.number < walk.to
-      → IsNext t walk node
+      → IsNextNode t walk node
   given_next node number place id key from to =
       let at = stands_at v walk walking some_ in
       let settled = walking.settled in
       let entry = label_entry t (label_at v walk.place word) walk.bucket turn_label
-          (turn_looked.extends.learns.nodes _ at.0) (omega arith) in
+      (turn_looked.learns.nodes _ at.0) (omega arith) in
       let below_ = at.1 in
       record {
         from = from;
@@ -170,7 +156,7 @@ module _ (v u t : View) (walk : Walk) (word below : ℕ) (walking : IsWalking v 
 
 -- what is next in a walk is next in each with its bucket, range and what it gave
 pub next_same : (v : View) (walk other : Walk) (node : Node) → HasRange walk other.bucket other.from other.to
-    → walk.given ≡ other.given → IsNext v walk node → IsNext v other node
+    → walk.given ≡ other.given → IsNextNode v walk node → IsNextNode v other node
 next_same v walk other node range given next = record {
   from = subst (λ (z : ℕ). z ≤ node.number) range.from_is next.from;
   to = subst (λ (z : ℕ). node.number < z) range.to_is next.to;

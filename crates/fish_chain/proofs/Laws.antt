@@ -1,12 +1,11 @@
 -- What a caller of `link` may conclude.
-use Rattle.std.proofs.Common.{ℕ, ◌<◌, suc, sym, ap, subst, arith}
+use Rattle.std.proofs.Common.{ℕ, ◌<◌, suc, ap, arith}
 use Rattle.fish_chain.specs.Links.{IsLinked, with_linked}
 use Rattle.fish_claim.proofs.Filled.{refilled}
 use Rattle.fish_claim.specs.Fills.{IsFilled}
 use Rattle.fish_layout.specs.Cleared.{body_of}
 use Rattle.fish_layout.specs.Header.{keys_of}
 use Rattle.fish_rule.specs.Linking.{HasNode}
-use Rattle.fish_rule.specs.Views.{Among}
 use Rattle.fish_rule.specs.declared.view.Flight.{Flight}
 use Rattle.fish_rule.specs.declared.view.View.{View}
 
@@ -22,11 +21,8 @@ linked_filled v u f bucket filled more is =
     let about = ap (λ (z : View). z.about) c.known in
     let lane = ap (λ (z : View). z.lane) c.known in
     refilled v u f is.words (suc f.linked) filled about lane
-        (ap (λ (z : View). z.flight) c.known) c.long c.body (omega arith)
+    (ap (λ (z : View). z.flight) c.known) c.long c.body (omega arith)
 
 -- what was known to be linked still is
 pub linked_kept : (v u : View) (f : Flight) (bucket b p : ℕ) → IsLinked v f bucket u → HasNode v b p → HasNode u b p
-linked_kept v u f bucket b p is node =
-    let nodes = ap (λ (z : View). z.learned.nodes) is.changed.known in
-    subst (Among (record { bucket = b; place = p })) (sym nodes)
-        (is.changed.kept (record { bucket = b; place = p }) node)
+linked_kept v u f bucket b p is node = is.changed.learns.nodes (record { bucket = b; place = p }) node

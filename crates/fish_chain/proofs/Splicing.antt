@@ -2,7 +2,8 @@
 use Rattle.std.proofs.Common.{◌≡◌, ◌≢◌, ℕ, ◌-◌, ◌<◌, ◌≤◌, ◌⊎◌, inl, ⊎_elim, suc, List, set, refl, sym, ap}
 use Rattle.std.proofs.Common.{◌∙◌, subst, arith, get_or-set_same}
 use Rattle.std.proofs.Math.Decide.{ℕ_discrete}
-use Rattle.fish_chain.proofs.Changes.{aim_changes, changed_next, link_aim, node_found, previous_changes}
+use Rattle.fish_chain.proofs.Changes.{aim_changes, changed_next, link_aim, previous_changes}
+use Rattle.fish_rule.proofs.Descents.{node_here}
 use Rattle.fish_chain.proofs.Changes.{splice_changes, still_links}
 use Rattle.fish_chain.specs.Links.{CanLink, CanLinkBelow, Changed, IsBelow, IsLinked, with_linked}
 use Rattle.fish_layout.proofs.Clearing.{choose_first, choose_second}
@@ -33,18 +34,16 @@ module _ (v : View) (q place : ℕ) (f : Flight) (b : ℕ) (under : CanLinkBelow
       → x < q → IsSplicing v q place x t
   seen_low u t x words c is less =
       let learned = ap (λ (z : View). z.learned) is in
-      let nodes = ap (λ (z : View). z.learned.nodes) c.known in
       record {
         flight = f;
         bucket = b;
         under = under;
         words = words;
         changed = c;
-        higher = subst (Among (record { bucket = b; place = q })) (sym nodes)
-            (c.kept (record { bucket = b; place = q }) under.node);
+        higher = c.learns.nodes (record { bucket = b; place = q }) under.node;
         low = subst (λ z. Among (record { place = q; value = x }) z.lows) (sym learned) (inl refl);
         node = subst (λ z. (x ≡ 0) ⊎ Among (record { bucket = b; place = x }) z.nodes) (sym learned)
-            (node_found b x u.learned.nodes);
+            (node_here b x u.learned.nodes);
         less = less;
       }
 
@@ -57,7 +56,7 @@ module _ (v : View) (q place : ℕ) (f : Flight) (b : ℕ) (under : CanLinkBelow
       → t ≡ after_previous u b q x → x < q → IsSplicing v q place x t
   splice_goes u t x words c is less =
       seen_low u t x words (changed_next v u t f words words f.linked c
-          (previous_changes u t (with_linked f words f.linked) b q x (ap (λ (z : View). z.flight) c.known) is)) is less
+      (previous_changes u t (with_linked f words f.linked) b q x (ap (λ (z : View). z.flight) c.known) is)) is less
 
 module _ (v u : View) (q place x : ℕ) (s : IsSplicing v q place x u) where
   -- the record in flight
@@ -77,7 +76,7 @@ module _ (v u : View) (q place x : ℕ) (s : IsSplicing v q place x u) where
   splice_over stands over =
       let at : place ≡ own_place s.flight = s.under.at in
       let node : HasNode u s.bucket x = ⊎_elim (λ (e : x ≡ 0). absurd (omega arith))
-          (λ (n : HasNode u s.bucket x). n) s.node in
+      (λ (n : HasNode u s.bucket x). n) s.node in
       let other : x ≢ own_place s.flight = not_own u splicing s.bucket x stands splice_aim node in
       record { words = s.words; changed = s.changed; node = node; above = omega arith }
 
@@ -105,7 +104,7 @@ module _ (v u : View) (q place x : ℕ) (s : IsSplicing v q place x u) where
     pub splice_can : Stands u → x < place → CanSplice t (aimed_at splicing x) s.bucket q x
     splice_can stands less =
         let links : CanLink t (aimed_at splicing x) splicing.linked s.bucket =
-            still_links v t s.flight aims s.bucket aimed s.under.can in
+        still_links v t s.flight aims s.bucket aimed s.under.can in
         let at : place ≡ own_place s.flight = s.under.at in
         let over = s.under.over in
         record {

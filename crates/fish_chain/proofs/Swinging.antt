@@ -2,7 +2,8 @@
 use Rattle.std.proofs.Common.{◌≡◌, ◌≢◌, ℕ, ◌-◌, ◌<◌, ◌≤◌, ◌⊎◌, inl, ⊎_elim, suc, List, set, refl, sym, ap}
 use Rattle.std.proofs.Common.{◌∙◌, subst, arith, get_or-set_same}
 use Rattle.std.proofs.Math.Decide.{ℕ_discrete}
-use Rattle.fish_chain.proofs.Changes.{aim_changes, changed_next, head_changes, link_aim, node_found}
+use Rattle.fish_chain.proofs.Changes.{aim_changes, changed_next, head_changes, link_aim}
+use Rattle.fish_rule.proofs.Descents.{node_here}
 use Rattle.fish_chain.proofs.Changes.{still_links, swing_changes}
 use Rattle.fish_chain.specs.Links.{CanLink, Changed, IsBelow, IsLinked, with_linked}
 use Rattle.fish_layout.proofs.Clearing.{choose_first, choose_second}
@@ -39,7 +40,7 @@ seen_head v u t b place h f words can at c is =
           (head_changes u t (with_linked f words f.linked) b h (ap (λ (z : View). z.flight) c.known) is);
       top = subst (λ z. Among (record { bucket = b; place = h }) z.tops) (sym learned) (inl refl);
       node = subst (λ z. (h ≡ 0) ⊎ Among (record { bucket = b; place = h }) z.nodes) (sym learned)
-          (node_found b h u.learned.nodes);
+          (node_here b h u.learned.nodes);
     }
 
 -- the first load
@@ -55,7 +56,7 @@ swing_begins v t b place h f can at is =
       changed = head_changes v t f b h can.filled.flying is;
       top = subst (λ z. Among (record { bucket = b; place = h }) z.tops) (sym learned) (inl refl);
       node = subst (λ z. (h ≡ 0) ⊎ Among (record { bucket = b; place = h }) z.nodes) (sym learned)
-          (node_found b h v.learned.nodes);
+          (node_here b h v.learned.nodes);
     }
 
 module _ (v u : View) (b place h : ℕ) (s : IsSwinging v b place h u) where

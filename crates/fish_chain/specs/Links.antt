@@ -5,7 +5,7 @@ use Rattle.fish_layout.specs.Bucket.{bucket_of}
 use Rattle.fish_layout.specs.Cleared.{body_of}
 use Rattle.fish_layout.specs.Header.{keys_of}
 use Rattle.fish_rule.specs.Linking.{HasNode, own_place}
-use Rattle.fish_rule.specs.Views.{Among}
+use Rattle.fish_rule.specs.Logs.{Learns}
 use Rattle.fish_rule.specs.declared.view.Clock.{Clock}
 use Rattle.fish_rule.specs.declared.view.Flight.{Flight}
 use Rattle.fish_rule.specs.declared.view.Gap.{Gap}
@@ -33,9 +33,8 @@ chained_view v f words linked nodes lows tops gaps clock = record v {
   clock = clock;
 }
 
--- u is the view v with these words of its record f and so many of its entries linked, more steps
--- and more facts of chains:
--- the record's body is the same, and what was known to be linked still is
+-- u is the view v with these words of its record f and so many of its entries linked, after some steps: the
+-- record's body is the same, and what was known still is
 pub record Changed (v : View) (f : Flight) (words : List ℕ) (linked : ℕ) (u : View) : Type 0 where
   pub nodes : List Node
   pub lows : List Known
@@ -45,7 +44,7 @@ pub record Changed (v : View) (f : Flight) (words : List ℕ) (linked : ℕ) (u 
   pub known : u ≡ chained_view v f words linked nodes lows tops gaps clock
   pub long : length words ≡ length f.words
   pub body : body_of words ≡ body_of f.words
-  pub kept : (n : Node) → Among n v.learned.nodes → Among n nodes
+  pub learns : Learns v u
   pub steps : v.clock.steps ≤ clock.steps
   pub loads : v.clock.loads ≤ clock.loads
   pub notes : clock.notes ≡ v.clock.notes

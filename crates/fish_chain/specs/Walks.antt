@@ -4,24 +4,20 @@ use Rattle.std.proofs.Common.{◌⊎◌}
 use Rattle.fish_chain.specs.declared.walk.Node.{Node}
 use Rattle.fish_layout.specs.Entry.{entry_number}
 use Rattle.fish_rule.specs.Linking.{HasNode}
-use Rattle.fish_rule.specs.Logs.{Extends}
 use Rattle.fish_rule.specs.Views.{Among}
 use Rattle.fish_rule.specs.Walking.{Always, IsClear, IsEntryIn, IsNodeIn}
-use Rattle.fish_rule.specs.World.{World}
 use Rattle.fish_rule.specs.declared.table.Walk.{Walk}
-use Rattle.fish_rule.specs.declared.view.Key.{Key}
 use Rattle.fish_rule.specs.declared.view.Label.{Label}
 use Rattle.fish_rule.specs.declared.view.View.{View}
 
--- a walk over settled numbers stands at an entry of its bucket, or at the end of the chain, and no
--- entry of its range lies
--- between what it gave and where it stands
+-- a walk over settled numbers stands at an entry of its bucket, or at the end of the chain, and no entry of its
+-- range lies between what it gave and where it stands
 pub record IsWalking (v : View) (walk : Walk) : Type 0 where
   pub settled : walk.to ≤ v.learned.settled
   pub at : (walk.place ≡ 0) ⊎ (HasNode v walk.bucket walk.place × (walk.place < walk.given))
   pub clear : Always v (IsClear walk.bucket walk.from walk.to walk.given walk.place)
 
--- two walks have one bucket and range
+-- the walk has this bucket and range
 pub record HasRange (walk : Walk) (bucket from to : ℕ) : Type 0 where
   pub bucket_is : walk.bucket ≡ bucket
   pub from_is : walk.from ≡ from
@@ -40,22 +36,16 @@ pub record IsNumbered (v : View) (place number : ℕ) : Type 0 where
   pub place_is : label.place ≡ place
   pub number_is : entry_number label.word ≡ number
 
--- a walk may go on at this place behind the entry where it stands: the place is lower, that of an
--- entry of the bucket or 0,
--- and no entry of the range lies between
-pub record GoesOn (v : View) (walk : Walk) (place : ℕ) : Type 0 where
+-- a walk may go on at this place behind the entry where it stands: the place is lower, that of an entry of the
+-- bucket or 0, and no entry of the range lies between
+pub record LeadsTo (v : View) (walk : Walk) (place : ℕ) : Type 0 where
   pub lower : place < walk.place
   pub at : (place ≡ 0) ⊎ HasNode v walk.bucket place
   pub clear : Always v (IsClear walk.bucket walk.from walk.to walk.place place)
 
--- the second view is the first but for what it learned since, and knows the same settled number
-pub record HasLooked (v u : View) : Type 0 where
-  pub extends : Extends v u
-  pub settled : u.learned.settled ≡ v.learned.settled
-
--- the node is an entry of the walk's bucket and range, and the next one below what was given: it is
--- so in every later moment
-pub record IsNext (v : View) (walk : Walk) (node : Node) : Type 0 where
+-- the node is an entry of the walk's bucket and range, and the next one below what was given, in every later
+-- moment too
+pub record IsNextNode (v : View) (walk : Walk) (node : Node) : Type 0 where
   pub from : walk.from ≤ node.number
   pub to : node.number < walk.to
   pub entry : Always v (IsNodeIn walk.bucket node.number node.key node.place node.id)
@@ -65,4 +55,4 @@ pub record IsNext (v : View) (walk : Walk) (node : Node) : Type 0 where
 -- what a walk gave: its next entry, which it then has given, or none where no entry of its range is left
 abbrev pub Gave : View → Walk → Walk → Option Node → Type 0
 Gave v walk walk' None = Always v (IsClear walk.bucket walk.from walk.to walk.given 0)
-Gave v walk walk' (Some node) = IsNext v walk node × (walk'.given ≡ node.place)
+Gave v walk walk' (Some node) = IsNextNode v walk node × (walk'.given ≡ node.place)

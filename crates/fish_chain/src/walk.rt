@@ -1,10 +1,10 @@
 //! A walk down the chain of a bucket: the key entries of the settled records in a range, newest first.
 //!
-//! The first words of entries of settled records never change, so what a walk gave stays what the
-//! bucket holds, whatever is linked meanwhile. Each step reads two words of an entry and nothing else.
+//! No entry of a settled record is ever linked anew, so where a walk has seen none of them there will be
+//! none, whatever is linked meanwhile. It reads the first and the second word of an entry and no other.
 
 ghost use Rattle.std.specs.Prelude.{◌≡◌, ◌+◌, ◌<◌, ◌≤◌};
-ghost use Rattle.fish_chain.specs.Walks.{Gave, GoesOn, HasBegun, HasLooked, HasRange, IsNumbered, IsWalking};
+ghost use Rattle.fish_chain.specs.Walks.{Gave, LeadsTo, HasBegun, HasRange, IsNumbered, IsWalking};
 ghost use Rattle.fish_rule.specs.Linking.{CanLoadHead, HasNode};
 ghost use Rattle.fish_rule.specs.Logs.{Extends};
 ghost use Rattle.fish_rule.specs.Passes.{IsPassOf, view, walk_of};
@@ -59,7 +59,7 @@ pub fn walk_start<L: Ledger>(
 }
 
 /// The next entry down, or none exactly where no entry of the walk's range is left. Two loads for each
-/// entry that it passes.
+/// entry that it passes, and one for an entry below the range, where it ends.
 pub fn walk_next<L: Ledger>(log: &Log, pass: &mut Pass, loads: &mut Steps<L>) -> Option<Node>
     requires pass { IsPassOf log.now pass.old }
     requires walking { IsWalking (view pass.old) (walk_of pass.old) }
@@ -107,8 +107,8 @@ fn place_below<L: Ledger>(
     requires settled { walk.now.to ≤ (view pass.old).learned.settled }
     requires label { IsNumbered (view pass.old) walk.now.place number }
     ensures pass { IsPassOf log.now pass.new }
-    ensures looked { HasLooked (view pass.old) (view pass.new) }
-    ensures below { GoesOn (view pass.new) walk.now result }
+    ensures extends { Extends (view pass.old) (view pass.new) }
+    ensures below { LeadsTo (view pass.new) walk.now result }
     ensures counted { loads.new + (view pass.old).clock.loads ≡ loads.old + (view pass.new).clock.loads }
 {
     if u64::from(number) < walk.from {

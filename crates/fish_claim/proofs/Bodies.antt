@@ -35,14 +35,17 @@ pub placed_law : (v u : View) (lines number line : ℕ) → IsClaimed v lines (a
     → Placed v lines number line u
 placed_law v u lines number line is =
     let t = place_stored (kind_of v.about.end is.line
-        (is.line + lines)) v.about.end is.number is.line lines number line is.answered in
+    (is.line + lines)) v.about.end is.number is.line lines number line is.answered in
     let kind : kind_of v.about.end line (line + lines) ≡ Stored =
-        subst (λ (z : ℕ). kind_of v.about.end z (z + lines) ≡ Stored) t.2 t.0 in
+    subst (λ (z : ℕ). kind_of v.about.end z (z + lines) ≡ Stored) t.2 t.0 in
     let known : u ≡ after_claim v lines number line =
     is.known ∙ ap (λ (z : Kind). claimed_view z v lines is.number is.line) t.0
-        ∙ (λ i. after_claim v lines (t.1 i) (t.2 i)) in
-    record { known = known; stored = subst (λ (z : View). flight_kind z (flight_at number line lines) ≡ Stored)
-        (sym known) kind }
+    ∙ (λ i. after_claim v lines (t.1 i) (t.2 i)) in
+    record {
+      known = known;
+      stored = subst (λ (z : View). flight_kind z (flight_at number line lines) ≡ Stored)
+          (sym known) kind;
+    }
 
 -- ---- bodies
 

@@ -7,8 +7,8 @@ use Rattle.fish_rule.proofs.Bodies.{kind-inside}
 use Rattle.fish_rule.proofs.Laws.{FlightLaw, flight_law}
 use Rattle.fish_rule.specs.Passes.{IsPassOf, view}
 use Rattle.fish_rule.specs.Regions.{kind_of}
-use Rattle.fish_rule.specs.Steps.{CanClaim, CanPublish, CanStore, IsReady, after_claim, after_publish,
-    after_store, flight_at, shut_after, with_word}
+use Rattle.fish_rule.specs.Steps.{CanClaim, CanPublish, CanStore, IsReady, after_claim, after_publish}
+use Rattle.fish_rule.specs.Steps.{after_store, flight_at, shut_after, with_word}
 use Rattle.fish_rule.specs.Table.{Stands}
 use Rattle.fish_rule.specs.declared.table.Log.{Log}
 use Rattle.fish_rule.specs.declared.table.Pass.{Pass}
@@ -65,8 +65,11 @@ module _ (v u : View) (lines n a : ℕ) (is : u ≡ after_claim v lines n a) whe
   can_publish_mark can kind =
       let w : View = after_claim v lines n a in
       let f : Flight = flight_at n a lines in
-      let may : CanPublish w f = record { live = can.live; flying = refl;
-          ready = subst (λ (z : Kind). IsReady v.about z v.lane f) (sym kind) refl } in
+      let may : CanPublish w f = record {
+        live = can.live;
+        flying = refl;
+        ready = subst (λ (z : Kind). IsReady v.about z v.lane f) (sym kind) refl;
+      } in
       subst (λ (z : View). CanPublish z f) (sym is) may
 
   -- once it is, the pass is shut by the claim
@@ -80,10 +83,10 @@ module _ (v u : View) (lines n a : ℕ) (is : u ≡ after_claim v lines n a) whe
 pub kind_is : (log : Log) (v : View) (p : Pass) (lines : ℕ) (r : Region) (kind : Kind) → IsPassOf log p
     → view p ≡ after_claim v lines r.number r.line
     → r.lines ≡ lines → kind ≡ kind_of log.key.end r.line (r.line + r.lines)
-        → kind_of v.about.end r.line (r.line + lines) ≡ kind
+    → kind_of v.about.end r.line (r.line + lines) ≡ kind
 kind_is log v p lines r kind of is long told =
     claimed_kind v (view p) lines r.number r.line is log.key kind of.about
-        (subst (λ (z : ℕ). kind ≡ kind_of log.key.end r.line (r.line + z)) long told)
+    (subst (λ (z : ℕ). kind ≡ kind_of log.key.end r.line (r.line + z)) long told)
 
 -- a claim whose region has this kind is answered by it
 pub claimed_as : (v u : View) (lines n a : ℕ) (answer : Claimed) (kind : Kind)

@@ -17,8 +17,13 @@ use Rattle.fish_rule.specs.declared.view.View.{View}
 
 -- an entry that is still to be linked may be aimed
 pub filled_aim : (v : View) (f : Flight) → IsFilled v f → f.linked < keys_of (body_of f.words 0) → CanAim v f
-filled_aim v f is more = record { flying = is.flying; kind = is.stored; full = is.full;
-    record_of = is.record_of; more = more }
+filled_aim v f is more = record {
+  flying = is.flying;
+  kind = is.stored;
+  full = is.full;
+  record_of = is.record_of;
+  more = more;
+}
 
 -- once all entries are linked, the record may be published
 pub filled_publish : (v : View) (f : Flight) → IsFilled v f → f.linked ≡ keys_of (body_of f.words 0) → CanPublish v f
@@ -42,7 +47,7 @@ plain_publish v f p words is none body keys =
 pub refilled : (v u : View) (f : Flight) (words : List ℕ) (linked : ℕ) → IsFilled v f → u.about ≡ v.about
     → u.lane ≡ v.lane → u.flight ≡ Some (record f { words = words; linked = linked })
     → length words ≡ length f.words → body_of words ≡ body_of f.words → linked ≤ keys_of (body_of f.words 0)
-        → IsFilled u (record f { words = words; linked = linked })
+    → IsFilled u (record f { words = words; linked = linked })
 refilled v u f words linked is about lane flying long body few = record {
   live = subst (λ (z : ℕ). 1 ≤ z) (sym lane) is.live;
   flying = flying;

@@ -1,6 +1,6 @@
 -- The words of a record go into its region one by one.
-use Rattle.std.proofs.Common.{◌≡◌, ℕ, ◌+◌, ◌<◌, ◌≤◌, suc, List, [], ◌∷◌, ◌++◌, length, get_or, take, refl,
-    sym, ap, ◌∙◌, subst, arith, Some, Option, add-one, add-zero, length-append}
+use Rattle.std.proofs.Common.{◌≡◌, ℕ, ◌+◌, ◌<◌, ◌≤◌, suc, List, [], ◌∷◌, ◌++◌, length, get_or, take, refl}
+use Rattle.std.proofs.Common.{sym, ap, ◌∙◌, subst, arith, Some, Option, add-one, add-zero, length-append}
 use Rattle.std.proofs.Math.Seq.{take-suc}
 use Rattle.fish_claim.specs.Fills.{CanFill, IsFilled, filled_view, with_words}
 use Rattle.fish_rule.proofs.Bodies.{kind-inside}
@@ -30,7 +30,7 @@ module _ (v : View) (f : Flight) (words : List ℕ) (can : CanFill v f words) wh
   can_store_next u i is many less =
       let full = can.full in
       let inside = kind-inside v.about.end f.line (f.line + f.lines)
-          (λ e. (let g : Stored ≡ Mark = sym can.stored ∙ e in cc)) in
+      (λ e. (let g : Stored ≡ Mark = sym can.stored ∙ e in cc)) in
       let may : CanStore (filled_view v f (take i words)) (with_words f (take i words)) = record {
         flying = refl;
         unlinked = can.unlinked;
@@ -45,12 +45,14 @@ module _ (v : View) (f : Flight) (words : List ℕ) (can : CanFill v f words) wh
   filled_more u t i is less stored =
       let x : ℕ = get_or words i 0 in
       let next : take i words ++ x ∷ [] ≡ take (i + 1) words =
-          sym (ap (λ (z : ℕ). take z words) (add-one i) ∙ take-suc words i 0 less) in
+      sym (ap (λ (z : ℕ). take z words) (add-one i) ∙ take-suc words i 0 less) in
       let long : suc (v.clock.steps + length (take i words)) ≡ v.clock.steps + length
-          (take i words ++ x ∷ []) = (let e = length-append (take i words) (x ∷ []) in omega arith) in
+      (take i words ++ x ∷ []) = (let e = length-append (take i words) (x ∷ []) in omega arith) in
       stored ∙ ap (λ (z : View). after_store z (with_words f (take i words)) x) is
-      ∙ (λ j. record v { flight = Some (with_words f (take i words ++ x ∷ []));
-          clock = record v.clock { steps = long j } })
+      ∙ (λ j. record v {
+        flight = Some (with_words f (take i words ++ x ∷ []));
+        clock = record v.clock { steps = long j };
+      })
       ∙ ap (filled_view v f) next
 
   -- with all its words the record is filled

@@ -1,5 +1,5 @@
 -- The words of a record in flight.
-use Rattle.std.specs.Prelude.{ℕ, ◌≡◌, ◌+◌, ◌*◌, ◌≤◌, List, [], length, slice_index, IsTrue, Some}
+use Rattle.std.specs.Prelude.{ℕ, ◌≡◌, ◌+◌, ◌*◌, ◌≤◌, List, [], length, IsTrue, Some}
 use Rattle.fish_layout.specs.Body.{body_lines}
 use Rattle.fish_layout.specs.Cleared.{body_of}
 use Rattle.fish_layout.specs.Header.{keys_of}
@@ -13,8 +13,8 @@ use Rattle.fish_rule.specs.declared.view.Key.{Key}
 use Rattle.fish_rule.specs.declared.view.Kind.TheVariants.{Stored}
 use Rattle.fish_rule.specs.declared.view.View.{View}
 
--- f is the record in flight, with nothing stored, and the words are all of a record for it: of the pass's lane, with
--- f's number and lines, version 0, and the keys that the log's definitions give for it
+-- f is the record in flight, with nothing stored, and the words are all of a record for it: of the pass's lane,
+-- with f's number and lines, version 0, and the keys that the log's definitions give for it
 pub record CanFill (v : View) (f : Flight) (words : List ℕ) : Type 0 where
   pub flying : v.flight ≡ Some f
   pub unfilled : f.words ≡ []

@@ -14,7 +14,8 @@ pub fn fill(log: &Log, pass: &mut Pass, body: &[u64])
     requires pass { IsPassOf log.now pass.old }
     requires view { (f : Flight) × CanFill (view pass.old) f body.now }
     ensures pass { IsPassOf log.now pass.new }
-    ensures view { (f : Flight) → (view pass.old).flight ≡ Some f → view pass.new ≡ filled_view (view pass.old) f body.now }
+    ensures view { (f : Flight) → (view pass.old).flight ≡ Some f
+        → view pass.new ≡ filled_view (view pass.old) f body.now }
     ensures filled { (f : Flight) → (view pass.old).flight ≡ Some f → IsFilled (view pass.new) (with_words f body.now) }
 {
     let Some(region) = in_flight(pass) else {

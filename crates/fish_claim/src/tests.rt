@@ -32,7 +32,8 @@ fn record_words(alloc: Global, lane: u8, number: u32, lines: u64) -> Result<Body
     requires lane { (1 ≤ lane) × (lane ≤ 16) }
     requires number { number < 2 ^ 28 }
     requires lines { (0 < lines) × (lines ≤ 18625) }
-    ensures { IfOk result (λ body. (p : BodyParts) × ((k : Key) → k.rows.value ≡ [] → IsStorable k lane number lines p) × (p.keys ≡ []) × IsBody p body) }
+    ensures { IfOk result (λ body. (p : BodyParts)
+        × ((k : Key) → k.rows.value ≡ [] → IsStorable k lane number lines p) × (p.keys ≡ []) × IsBody p body) }
 {
     let payload = object_of(alloc, (lines * 4 - 1) * 8)?;
     if payload.as_bytes().len() > 524_288 {

@@ -1,5 +1,5 @@
--- A log may be shared by threads. The search for it, which is done anew wherever a thread is given a log, doesn't go
--- deep enough by itself.
+-- A log may be shared by threads. The search for it, which is done anew wherever a thread is given a log,
+-- doesn't go deep enough by itself.
 use Rattle.std.proofs.Crossing.{crosses, frees, send as heap_send, sync as heap_sync}
 use denote.Builtin.{bool}
 use denote.Param.Send.{IsSend, IsSync, recorded_sync, sendable, struct_sync}

@@ -17,12 +17,12 @@ use Rattle.fish_rule.specs.declared.view.View.{View}
 -- ---- views that only learn
 
 -- the nodes that were known stay known
-nodes_stay : (b x : ℕ) (nodes : List Node) (n : Node) → Among n nodes → Among n (with_node b x nodes)
+pub nodes_stay : (b x : ℕ) (nodes : List Node) (n : Node) → Among n nodes → Among n (with_node b x nodes)
 nodes_stay b zero nodes n m = m
 nodes_stay b (suc x) nodes n m = inr m
 
 -- a place that isn't 0 is that of a node
-node_here : (b x : ℕ) (nodes : List Node) → (x ≡ 0) ⊎ Among (record { bucket = b; place = x }) (with_node b x nodes)
+pub node_here : (b x : ℕ) (nodes : List Node) → (x ≡ 0) ⊎ Among (record { bucket = b; place = x }) (with_node b x nodes)
 node_here b zero nodes = inl refl
 node_here b (suc x) nodes = inr (inl refl)
 
@@ -32,10 +32,13 @@ extends_head v b x = record {
   learns = record {
     about = refl;
     count = omega arith;
+    settled = omega arith;
     found = λ x m. m;
     known = λ x m. m;
     records = λ x m. m;
     nodes = nodes_stay b x v.learned.nodes;
+    lows = λ x m. m;
+    tops = λ x m. inr m;
     gaps = λ x m. inr m;
     labels = λ x m. m;
   };
@@ -53,10 +56,13 @@ extends_previous v b p x = record {
   learns = record {
     about = refl;
     count = omega arith;
+    settled = omega arith;
     found = λ x m. m;
     known = λ x m. m;
     records = λ x m. m;
     nodes = nodes_stay b x v.learned.nodes;
+    lows = λ x m. inr m;
+    tops = λ x m. m;
     gaps = λ x m. inr m;
     labels = λ x m. m;
   };
@@ -74,10 +80,13 @@ extends_node v p x = record {
   learns = record {
     about = refl;
     count = omega arith;
+    settled = omega arith;
     found = λ x m. m;
     known = λ x m. m;
     records = λ x m. m;
     nodes = λ x m. m;
+    lows = λ x m. m;
+    tops = λ x m. m;
     gaps = λ x m. m;
     labels = λ x m. inr m;
   };

@@ -16,10 +16,13 @@ pub learns_self : (v : View) → Learns v v
 learns_self v = record {
   about = refl;
   count = omega arith;
+  settled = omega arith;
   found = λ x m. m;
   known = λ x m. m;
   records = λ x m. m;
   nodes = λ x m. m;
+  lows = λ x m. m;
+  tops = λ x m. m;
   gaps = λ x m. m;
   labels = λ x m. m;
 }
@@ -29,13 +32,18 @@ pub learns_both : (a b c : View) → Learns a b → Learns b c → Learns a c
 learns_both a b c e f =
     let p = e.count in
     let q = f.count in
+    let a = e.settled in
+    let b = f.settled in
     record {
       about = f.about ∙ e.about;
       count = omega arith;
+      settled = omega arith;
       found = λ x m. f.found x (e.found x m);
       known = λ x m. f.known x (e.known x m);
       records = λ x m. f.records x (e.records x m);
       nodes = λ x m. f.nodes x (e.nodes x m);
+      lows = λ x m. f.lows x (e.lows x m);
+      tops = λ x m. f.tops x (e.tops x m);
       gaps = λ x m. f.gaps x (e.gaps x m);
       labels = λ x m. f.labels x (e.labels x m);
     }
@@ -72,10 +80,13 @@ extends_read v place x = record {
   learns = record {
     about = refl;
     count = omega arith;
+    settled = omega arith;
     found = λ x m. m;
     known = λ x m. inr m;
     records = λ x m. m;
     nodes = λ x m. m;
+    lows = λ x m. m;
+    tops = λ x m. m;
     gaps = λ x m. m;
     labels = λ x m. m;
   };
@@ -111,10 +122,13 @@ extends_look v n lines x = record {
   learns = record {
     about = refl;
     count = omega arith;
+    settled = omega arith;
     found = found_more n lines x v.learned.found;
     known = λ x m. m;
     records = λ x m. m;
     nodes = λ x m. m;
+    lows = λ x m. m;
+    tops = λ x m. m;
     gaps = λ x m. m;
     labels = λ x m. m;
   };
@@ -140,10 +154,13 @@ pub learns_end : (v : View) (x : ℕ) → v.learned.count ≤ high x → Learns 
 learns_end v x more = record {
   about = refl;
   count = more;
+  settled = omega arith;
   found = λ x m. m;
   known = λ x m. m;
   records = λ x m. m;
   nodes = λ x m. m;
+  lows = λ x m. m;
+  tops = λ x m. m;
   gaps = λ x m. m;
   labels = λ x m. m;
 }
@@ -156,10 +173,13 @@ pub learns_join : (v u : View) (x : ℕ) → max v.learned.count u.learned.count
 learns_join v u x more = record {
   about = refl;
   count = omega arith;
+  settled = omega arith;
   found = λ y m. among_left y v.learned.found u.learned.found m;
   known = λ y m. among_left y v.learned.known u.learned.known m;
   records = λ y m. among_left y v.learned.records u.learned.records m;
   nodes = λ y m. among_left y v.learned.nodes u.learned.nodes m;
+  lows = λ y m. among_left y v.learned.lows u.learned.lows m;
+  tops = λ y m. among_left y v.learned.tops u.learned.tops m;
   gaps = λ y m. among_left y v.learned.gaps u.learned.gaps m;
   labels = λ y m. among_left y v.learned.labels u.learned.labels m;
 }
@@ -170,10 +190,13 @@ pub learned_join : (v u : View) (x : ℕ) → v.about ≡ u.about → max v.lear
 learned_join v u x about more = record {
   about = about;
   count = omega arith;
+  settled = omega arith;
   found = λ y m. among_right y v.learned.found u.learned.found m;
   known = λ y m. among_right y v.learned.known u.learned.known m;
   records = λ y m. among_right y v.learned.records u.learned.records m;
   nodes = λ y m. among_right y v.learned.nodes u.learned.nodes m;
+  lows = λ y m. among_right y v.learned.lows u.learned.lows m;
+  tops = λ y m. among_right y v.learned.tops u.learned.tops m;
   gaps = λ y m. among_right y v.learned.gaps u.learned.gaps m;
   labels = λ y m. among_right y v.learned.labels u.learned.labels m;
 }

@@ -1,5 +1,5 @@
--- Loads change no word: what one pass has learned is all that is new.
--- All of it stands over one world, one view and one step: cut in two, each lemma would name them all again.
+-- Loads change no word: what one pass has learned is all that is new. All of it stands over one world, one view
+-- and one step: cut in two, each lemma would name them all again.
 use Rattle.std.proofs.Common.{◌≡◌, ◌≢◌, ℕ, ◌+◌, ◌-◌, ◌*◌, ◌<◌, ◌≤◌, zero, suc, [], set, sym, refl, ap, ◌∙◌}
 use Rattle.std.proofs.Common.{subst, arith, Some, None, Option}
 use mathlib.Core.Option.{some}

@@ -34,9 +34,8 @@ pub flight_is : (k : Key) (w : World) (r : Rule k w) (id : ℕ) (v : View) → g
     → (f : Flight) → v.flight ≡ Some f → InFlight k w.count w.dir w.log r.start r.lane_of v.lane f
 flight_is k w r id v at f is = subst (Flies k w.count w.dir w.log r.start r.lane_of v.lane) is (r.space.flights id v at)
 
--- words become these by a store of x at offset o of a region of so many words: either behind those
--- that are there, or, once
--- entries are linked, in a key entry's first word alone
+-- words become these by a store of x at offset o of a region of so many words: either behind those that are
+-- there, or, once entries are linked, in a key entry's first word alone
 pub record Becomes (size linked o x : ℕ) (keyed : Type 0) (words words' : List ℕ) : Type 0 where
   pub within : o < size
   pub unlinked : ¬ IsLinkedWord linked o

@@ -1,4 +1,5 @@
--- Chains: each bucket's head and, from the first words of key entries, the key entries of its records, newest first.
+-- Chains: each bucket's head and, from the first words of key entries, the key entries of its records, newest
+-- first.
 use Rattle.std.specs.Prelude.{ℕ, ◌≡◌, ◌+◌, ◌*◌, ◌<◌, ◌≤◌, List, Option, Some, None}
 use Rattle.std.proofs.Common.{◌⊎◌}
 use mathlib.Core.Option.{some}

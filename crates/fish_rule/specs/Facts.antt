@@ -1,4 +1,5 @@
--- What holds of each pass's knowledge at every moment: its own numbers, what it learned, and the claim that shut it.
+-- What holds of each pass's knowledge at every moment: its own numbers, what it learned, and the claim that
+-- shut it.
 use Rattle.std.specs.Prelude.{ℕ, ◌≡◌, ◌≢◌, ◌+◌, ◌-◌, ◌*◌, ◌<◌, ◌≤◌, suc, List, Option, Some, None, ⊤}
 use Rattle.fish_layout.specs.Cleared.{body_of}
 use Rattle.fish_rule.specs.Regions.{code}

@@ -54,10 +54,13 @@ pub record IsLog (k : Key) (w : World) (entries : List Entry) : Type 0 where
 pub record Learns (v u : View) : Type 0 where
   pub about : u.about ≡ v.about
   pub count : v.learned.count ≤ u.learned.count
+  pub settled : v.learned.settled ≤ u.learned.settled
   pub found : (x : Found) → Among x v.learned.found → Among x u.learned.found
   pub known : (x : Known) → Among x v.learned.known → Among x u.learned.known
   pub records : (x : Recorded) → Among x v.learned.records → Among x u.learned.records
   pub nodes : (x : Node) → Among x v.learned.nodes → Among x u.learned.nodes
+  pub lows : (x : Known) → Among x v.learned.lows → Among x u.learned.lows
+  pub tops : (x : Node) → Among x v.learned.tops → Among x u.learned.tops
   pub gaps : (x : Gap) → Among x v.learned.gaps → Among x u.learned.gaps
   pub labels : (x : Label) → Among x v.learned.labels → Among x u.learned.labels
 

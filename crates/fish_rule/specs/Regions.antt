@@ -30,8 +30,8 @@ kind_of end a b = choose (dec_lt end b) Mark (kind_within a b)
 abbrev pub dir_word : Kind → ℕ → ℕ
 dir_word kind line = line + code kind * 68719476736
 
--- e has the words of a record of this lane, number and lines, whose payload is a record of its form, with the keys that
--- the definitions of the table's start give for it
+-- e has the words of a record of this lane, number and lines, whose payload is a record of its form, with the
+-- keys that the definitions of the table's start give for it
 pub record IsRecordOf (k : Key) (lane number lines : ℕ) (e : ℕ → ℕ) (p : BodyParts) : Type 0 where
   pub spells : Spells p e
   pub lane_is : p.lane ≡ lane

@@ -27,11 +27,10 @@ pub record Rule (k : Key) (w : World) : Type 0 where
   pub facts : Each (λ v. Facts k w.count w.dir w.log start v.learned) w.views
   pub shuts : Each (λ v. ShutOk k w.count w.dir start v.shut) w.views
 
--- what every step keeps for good: the tail, the settled number, heads and the first words of linked
--- key entries only rise;
--- linked entries stay linked; claimed regions stay where they are; directory words that are set,
--- and the words of published
--- regions but for previous nodes, never change; no word of a record below the settled number changes at all
+-- what every step keeps for good: the tail, the settled number, heads and the first words of linked key entries
+-- only rise; linked entries stay linked; claimed regions stay where they are; directory words that are set, and
+-- the words of published regions but for previous nodes, never change; no word of a record below the settled
+-- number changes at all
 pub record Final (k : Key) (start start' lane_of lane_of' : ℕ → ℕ) (w w' : World) : Type 0 where
   pub counts : w.count ≤ w'.count
   pub lines : w.line ≤ w'.line

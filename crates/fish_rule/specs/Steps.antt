@@ -1,4 +1,4 @@
--- What a pass knows after each kind of step, and when it may make it.
+-- What a pass knows after a claim, a store and a publication, and when it may make each.
 use Rattle.std.specs.Prelude.{ℕ, ◌≡◌, ◌+◌, ◌*◌, ◌<◌, ◌≤◌, suc, List, [], ◌∷◌, ◌++◌, length}
 use Rattle.std.specs.Prelude.{Option, Some, None}
 use Rattle.fish_layout.specs.Cleared.{body_of}

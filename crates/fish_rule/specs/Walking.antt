@@ -25,7 +25,8 @@ pub record IsNodeIn (b n c p id : ℕ) (k : Key) (w : World) : Type 0 where
   pub entry : IsEntryIn b n c p k w
   pub definition : entry_id (body w.log (low (w.dir n)) (entry_at c + 1)) ≡ id
 
--- no entry of the bucket, of a record from a number on and below another, lies below the one place and above the other
+-- no entry of the bucket, of a record from a number on and below another, lies below the one place and above
+-- the other
 abbrev pub IsClear : ℕ → ℕ → ℕ → ℕ → ℕ → Key → World → Type 0
 IsClear b from to above below k w = (n c p : ℕ) → from ≤ n → n < to → IsEntryIn b n c p k w → p < above → p ≤ below
 

@@ -14,8 +14,8 @@ use fish_catalog::Entry;
 use fish_layout::{Payload, keys_in, lines_in, read_payload};
 use std::alloc::{AllocError, Global};
 
-/// All words of the published region at a line, and how many of them were loaded. Words that a later
-/// record may still change, the first ones of key entries, are given as 0 without a load.
+/// All words of the published region at a line, and how many of them were loaded. Words that a splice may
+/// still change, the first ones of key entries, are given as 0 and not loaded.
 pub fn read_region(
     alloc: Global,
     log: &Log,

@@ -1,4 +1,4 @@
-//! The atomic steps on heads and on the first words of key entries.
+//! The atomic steps on heads and on the first words of key entries, and loads of their second words.
 //!
 //! A chain goes down: from its head, the newest entry of a bucket, each first word is the place of
 //! the next older one, or 0. Heads and first words only rise.

@@ -57,7 +57,7 @@ pub struct Walk {
     pub from: u64,
     /// The number behind the last one.
     pub to: u64,
-    /// The place of the last entry that it gave, or the log's end.
+    /// The entries of its range at this place and above have been given.
     pub given: u64,
     /// The place of the entry to look at next, or 0.
     pub place: u64,

@@ -67,22 +67,23 @@ module _ (a b c d e : View) (known x settled : ℕ) (to_b : b ≡ after_settled 
       all : Looked (after_end (after_settled a known) x) d → Settles a e
       all h =
           let l = extends_both (after_end (after_settled a known) x) d e h.extends raised.extends in
-          let same = h.settled in
-          let up = raised.rises in
+          let up = l.learns.settled in
           let n = l.learns.count in
           let began : b.learned.count ≡ a.learned.count = ap (λ (z : View). z.learned.count) to_b in
           record {
             learns = record {
               about = l.learns.about;
               count = omega arith;
+              settled = omega arith;
               found = l.learns.found;
               known = l.learns.known;
               records = l.learns.records;
               nodes = l.learns.nodes;
+              lows = l.learns.lows;
+              tops = l.learns.tops;
               gaps = l.learns.gaps;
               labels = l.learns.labels;
             };
-            rises = omega arith;
             lane = l.lane;
             out = l.out;
             shut = l.shut;

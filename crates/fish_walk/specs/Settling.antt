@@ -75,18 +75,15 @@ pub record Looked (v u : View) : Type 0 where
   pub settled : u.learned.settled ≡ v.learned.settled
   pub on : GoesOn v u
 
--- the second view is the first but for the settled number, which is at least this one and only rises
+-- the second view is the first but for the settled number, which is at least this one
 pub record Raised (v u : View) (number : ℕ) : Type 0 where
   pub extends : Extends v u
   pub reaches : number ≤ u.learned.settled
-  pub rises : v.learned.settled ≤ u.learned.settled
   pub on : GoesOn v u
 
--- the second view is the first but for the tail and what was learned since, and the settled number
--- only rises
+-- the second view is the first but for the tail and what was learned since
 pub record Settles (v u : View) : Type 0 where
   pub learns : Learns v u
-  pub rises : v.learned.settled ≤ u.learned.settled
   pub lane : u.lane ≡ v.lane
   pub out : u.out ≡ v.out
   pub shut : u.shut ≡ v.shut

@@ -3,17 +3,8 @@
 ghost use Rattle.std.specs.Prelude.{◌≡◌, ◌≤◌};
 ghost use Rattle.fish_rule.specs.Passes.{IsPassOf, view};
 ghost use Rattle.fish_rule.specs.Reading.{CanRaise, IsAlone};
-ghost use Rattle.fish_walk.specs.Settling.{
-  AreSettled,
-  CanSettle,
-  HasCounted,
-  IsEnd,
-  IsMark,
-  Looked,
-  Raised,
-  Settles,
-  StopsAt,
-};
+ghost use Rattle.fish_walk.specs.Settling.{AreSettled, CanSettle, HasCounted, IsEnd, IsMark, Looked, Raised};
+ghost use Rattle.fish_walk.specs.Settling.{Settles, StopsAt};
 
 use crate::found::{count_now, look};
 use crate::outcome::Look;

@@ -13,9 +13,9 @@ overflow_mul-place c =
     let f : Flight = c.requires.view.0 in
     let flying = c.requires.view.1.filled.flying in
     let line = line_kept
-        (view c.args.pass.now) f c.in_flight.result c.in-Some.region flying c.in_flight.ensures c.in-Some.is in
+    (view c.args.pass.now) f c.in_flight.result c.in-Some.region flying c.in_flight.ensures c.in-Some.is in
     let law = flight_law c.args.log.now.key
-        (view c.args.pass.now) f c.requires.pass.about c.requires.pass.stands flying in
+    (view c.args.pass.now) f c.requires.pass.about c.requires.pass.stands flying in
     let low = law.low_line in
     omega arith
 
@@ -24,9 +24,9 @@ overflow_add-place c =
     let f : Flight = c.requires.view.0 in
     let flying = c.requires.view.1.filled.flying in
     let line = line_kept
-        (view c.args.pass.now) f c.in_flight.result c.in-Some.region flying c.in_flight.ensures c.in-Some.is in
+    (view c.args.pass.now) f c.in_flight.result c.in-Some.region flying c.in_flight.ensures c.in-Some.is in
     let law = flight_law c.args.log.now.key
-        (view c.args.pass.now) f c.requires.pass.about c.requires.pass.stands flying in
+    (view c.args.pass.now) f c.requires.pass.about c.requires.pass.stands flying in
     let low = law.low_line in
     omega arith
 
@@ -35,9 +35,9 @@ overflow_add-place-2 c =
     let f : Flight = c.requires.view.0 in
     let flying = c.requires.view.1.filled.flying in
     let line = line_kept
-        (view c.args.pass.now) f c.in_flight.result c.in-Some.region flying c.in_flight.ensures c.in-Some.is in
+    (view c.args.pass.now) f c.in_flight.result c.in-Some.region flying c.in_flight.ensures c.in-Some.is in
     let law = flight_law c.args.log.now.key
-        (view c.args.pass.now) f c.requires.pass.about c.requires.pass.stands flying in
+    (view c.args.pass.now) f c.requires.pass.about c.requires.pass.stands flying in
     let low = law.low_line in
     let key = c.ranges.key.fits in
     omega arith
@@ -48,8 +48,8 @@ splice_up-requires-clause-view c =
     let can = c.requires.view.1 in
     let s = c.loop-next.invariant.below f can.filled.flying in
     let at = place_kept
-        (view c.args.pass.now) f c.in_flight.result c.in-Some.region c.args.key c.from.result can.filled.flying
-        c.in_flight.ensures c.in-Some.is can.next c.from.ensures in
+    (view c.args.pass.now) f c.in_flight.result c.in-Some.region c.args.key c.from.result can.filled.flying
+    c.in_flight.ensures c.in-Some.is can.next c.from.ensures in
     (with_linked f s.words f.linked, (c.args.bucket, below_under _ _ f _ _ (link_next _ f _ _ can) s _ at))
 
 pub loop-next-preserved : goal.loop-next-preserved
@@ -62,10 +62,10 @@ loop-next-preserved c =
     let w = view c.splice_up.new.pass in
     let o = Some c.in-Some-splice_up.next in
     let at =
-        place_kept v f c.in_flight.result c.in-Some.region c.args.key c.from.result can.filled.flying
-        c.in_flight.ensures c.in-Some.is can.next c.from.ensures in
+    place_kept v f c.in_flight.result c.in-Some.region c.args.key c.from.result can.filled.flying
+    c.in_flight.ensures c.in-Some.is can.next c.from.ensures in
     let tried = c.in-Some-splice_up.ensures.tried (with_linked f s.words f.linked) c.args.bucket
-        (below_under _ _ f _ _ next s _ at) in
+    (below_under _ _ f _ _ next s _ at) in
     record {
       of = c.splice_up.ensures.pass;
       below = for_each v f (λ (z : Flight). Tried v z c.args.bucket o w) can.filled.flying
@@ -81,9 +81,9 @@ returns-clause-linked c =
     let s = c.loop-next.invariant.below f can.filled.flying in
     let w = view c.splice_up.new.pass in
     let at =
-        place_kept v f c.in_flight.result c.in-Some.region c.args.key c.from.result can.filled.flying
-        c.in_flight.ensures c.in-Some.is can.next c.from.ensures in
+    place_kept v f c.in_flight.result c.in-Some.region c.args.key c.from.result can.filled.flying
+    c.in_flight.ensures c.in-Some.is can.next c.from.ensures in
     let tried = c.in_default-splice_up.ensures.tried (with_linked f s.words f.linked) c.args.bucket
-        (below_under _ _ f _ _ next s _ at) in
+    (below_under _ _ f _ _ next s _ at) in
     for_each v f (λ (z : Flight). IsLinked v z c.args.bucket w) can.filled.flying
-        (below_tried _ _ f _ _ next s None w tried)
+    (below_tried _ _ f _ _ next s None w tried)

@@ -12,14 +12,15 @@ use Rattle.fish_rule.specs.declared.view.Flight.{Flight}
 use Rattle.fish_rule.specs.declared.view.View.{View}
 use Rattle.fish_chain.proofs.chain.splice_up.Goals as goal
 
--- what was tried for the record in flight and the bucket of the higher entry holds of any that can be shown to be these
+-- what was tried for the record in flight and the bucket of the higher entry holds of any that can be shown to
+-- be these
 tried_each : (v u : View) (q place x : ℕ) (s : IsSplicing v q place x u) (o : Option ℕ) (w : View) → Stands v
     → Tried v s.flight s.bucket o w
     → (f : Flight) → (b : ℕ) → CanLinkBelow v f b q place → Tried v f b o w
 tried_each v u q place x s o w stands tried f b under =
     let same : s.bucket ≡ b = one_bucket v s.bucket b q stands s.under.node under.node in
     for_each v s.flight (λ (z : Flight). Tried v z b o w) s.under.can.filled.flying
-        (subst (λ (z : ℕ). Tried v s.flight z o w) same tried) f under.can.filled.flying
+    (subst (λ (z : ℕ). Tried v s.flight z o w) same tried) f under.can.filled.flying
 
 pub loop-previous-init : goal.loop-previous-init
 loop-previous-init c =
@@ -35,19 +36,27 @@ loop-previous-init c =
 
 pub aim_entry-requires-clause-view : goal.aim_entry-requires-clause-view
 aim_entry-requires-clause-view c =
-    let s = c.loop-previous.invariant.splicing in
-    (splicing (view c.args.pass.now)
-        (view c.loop-previous.pass) c.args.above c.args.place c.loop-previous.previous s,
-        splice_aim _ _ _ _ _ s, s.under.at)
+    let s = c.loop-previous.invariant.splicing in (
+      splicing (view c.args.pass.now)
+          (view c.loop-previous.pass) c.args.above c.args.place c.loop-previous.previous s,
+      splice_aim _ _ _ _ _ s,
+      s.under.at,
+    )
 
 pub splice_entry-found-requires-clause-view : goal.splice_entry-found-requires-clause-view
 splice_entry-found-requires-clause-view c =
     let s = c.loop-previous.invariant.splicing in
     let x : ℕ = c.loop-previous.previous in
     let f : Flight = splicing (view c.args.pass.now) (view c.loop-previous.pass) c.args.above c.args.place x s in
-    let aimed = c.aim_entry.ensures.view f (ap (λ (z : View). z.flight) s.changed.known) in
-    (aimed_at f x, (s.bucket, splice_can _ _ _ _ _ s
-        (view c.aim_entry.new.pass) aimed c.loop-previous.invariant.of.stands c.loop-previous-test.true, s.under.at))
+    let aimed = c.aim_entry.ensures.view f (ap (λ (z : View). z.flight) s.changed.known) in (
+      aimed_at f x,
+      (
+        s.bucket,
+        splice_can _ _ _ _ _ s
+            (view c.aim_entry.new.pass) aimed c.loop-previous.invariant.of.stands c.loop-previous-test.true,
+        s.under.at,
+      ),
+    )
 
 pub returns-then-found-previous-clause-tried : goal.returns-then-found-previous-clause-tried
 returns-then-found-previous-clause-tried c =
@@ -58,19 +67,19 @@ returns-then-found-previous-clause-tried c =
     let w = view c.splice_entry-found.new.pass in
     let aimed = c.aim_entry.ensures.view f (ap (λ (z : View). z.flight) s.changed.known) in
     let spliced = c.splice_entry-found.ensures.view (aimed_at f x) s.bucket (ap (λ (z : View). z.flight) aimed)
-        (aimed_node _ _ _ _ _ s t aimed) in
+    (aimed_node _ _ _ _ _ s t aimed) in
     tried_each _ _ _ _ _ s None w c.requires.pass.stands
-        (splice_hit _ _ _ _ _ s t aimed w c.splice_entry-found.result c.if-found-previous.true spliced)
+    (splice_hit _ _ _ _ _ s t aimed w c.splice_entry-found.result c.if-found-previous.true spliced)
 
 pub loop-previous-smaller : goal.loop-previous-smaller
 loop-previous-smaller c =
     let s = c.loop-previous.invariant.splicing in
     let f : Flight = splicing (view c.args.pass.now)
-        (view c.loop-previous.pass) c.args.above c.args.place c.loop-previous.previous s in
+    (view c.loop-previous.pass) c.args.above c.args.place c.loop-previous.previous s in
     let aimed = c.aim_entry.ensures.view f (ap (λ (z : View). z.flight) s.changed.known) in
     splice_falls _ _ _ _ _ s
-        (view c.aim_entry.new.pass) aimed c.splice_entry-found.result c.splice_entry-found.ensures.rises
-        c.if-found-previous.false c.loop-previous-test.true
+    (view c.aim_entry.new.pass) aimed c.splice_entry-found.result c.splice_entry-found.ensures.rises
+    c.if-found-previous.false c.loop-previous-test.true
 
 pub loop-previous-preserved : goal.loop-previous-preserved
 loop-previous-preserved c =
@@ -81,7 +90,7 @@ loop-previous-preserved c =
     let last = c.splice_entry-found in
     let aimed = c.aim_entry.ensures.view f (ap (λ (z : View). z.flight) s.changed.known) in
     let spliced = last.ensures.view (aimed_at f x) s.bucket (ap (λ (z : View). z.flight) aimed)
-        (aimed_node _ _ _ _ _ s t aimed) in
+    (aimed_node _ _ _ _ _ s t aimed) in
     record {
       of = last.ensures.pass;
       splicing = splice_miss _ _ _ _ _ s t aimed
@@ -93,7 +102,7 @@ returns-clause-tried c =
     let s = c.loop-previous.invariant.splicing in
     let u = view c.loop-previous.pass in
     tried_each _ _ _ _ _ s (Some c.loop-previous.previous) u c.requires.pass.stands
-        (splice_over _ _ _ _ _ s c.loop-previous.invariant.of.stands c.loop-previous-test.false)
+    (splice_over _ _ _ _ _ s c.loop-previous.invariant.of.stands c.loop-previous-test.false)
 
 pub returns-clause-lower : goal.returns-clause-lower
 returns-clause-lower c next is =

@@ -22,18 +22,23 @@ loop-head-init c =
 
 pub aim_entry-requires-clause-view : goal.aim_entry-requires-clause-view
 aim_entry-requires-clause-view c =
-    let s = c.loop-head.invariant.swinging in
-    (swinging (view c.args.pass.now) (view c.loop-head.pass) c.args.bucket c.args.place c.loop-head.head s,
-        swing_aim _ _ _ _ _ s, s.at)
+    let s = c.loop-head.invariant.swinging in (
+      swinging (view c.args.pass.now) (view c.loop-head.pass) c.args.bucket c.args.place c.loop-head.head s,
+      swing_aim _ _ _ _ _ s,
+      s.at,
+    )
 
 pub swing_head-found-requires-clause-view : goal.swing_head-found-requires-clause-view
 swing_head-found-requires-clause-view c =
     let s = c.loop-head.invariant.swinging in
     let h : ℕ = c.loop-head.head in
     let f : Flight = swinging (view c.args.pass.now) (view c.loop-head.pass) c.args.bucket c.args.place h s in
-    let aimed = c.aim_entry.ensures.view f (ap (λ (z : View). z.flight) s.changed.known) in
-    (aimed_at f h, swing_can _ _ _ _ _ s
-        (view c.aim_entry.new.pass) aimed c.loop-head.invariant.of.stands c.loop-head-test.true, s.at)
+    let aimed = c.aim_entry.ensures.view f (ap (λ (z : View). z.flight) s.changed.known) in (
+      aimed_at f h,
+      swing_can _ _ _ _ _ s
+          (view c.aim_entry.new.pass) aimed c.loop-head.invariant.of.stands c.loop-head-test.true,
+      s.at,
+    )
 
 pub returns-then-found-head-clause-tried : goal.returns-then-found-head-clause-tried
 returns-then-found-head-clause-tried c =
@@ -44,19 +49,19 @@ returns-then-found-head-clause-tried c =
     let aimed = c.aim_entry.ensures.view f (ap (λ (z : View). z.flight) s.changed.known) in
     let swung = c.swing_head-found.ensures.view (aimed_at f h) (ap (λ (z : View). z.flight) aimed) in
     for_each v s.flight (λ (z : Flight). IsLinked v z c.args.bucket
-        (view c.swing_head-found.new.pass)) s.can.filled.flying
+    (view c.swing_head-found.new.pass)) s.can.filled.flying
     (swing_hit _ _ _ _ _ s (view c.aim_entry.new.pass) aimed
-        (view c.swing_head-found.new.pass) c.swing_head-found.result c.if-found-head.true swung)
+    (view c.swing_head-found.new.pass) c.swing_head-found.result c.if-found-head.true swung)
 
 pub loop-head-smaller : goal.loop-head-smaller
 loop-head-smaller c =
     let s = c.loop-head.invariant.swinging in
     let f : Flight = swinging (view c.args.pass.now)
-        (view c.loop-head.pass) c.args.bucket c.args.place c.loop-head.head s in
+    (view c.loop-head.pass) c.args.bucket c.args.place c.loop-head.head s in
     let aimed = c.aim_entry.ensures.view f (ap (λ (z : View). z.flight) s.changed.known) in
     swing_falls _ _ _ _ _ s
-        (view c.aim_entry.new.pass) aimed c.swing_head-found.result c.swing_head-found.ensures.rises
-        c.if-found-head.false c.loop-head-test.true
+    (view c.aim_entry.new.pass) aimed c.swing_head-found.result c.swing_head-found.ensures.rises
+    c.if-found-head.false c.loop-head-test.true
 
 pub loop-head-preserved : goal.loop-head-preserved
 loop-head-preserved c =

@@ -1,8 +1,9 @@
 -- The walk goes on below, or nothing is left.
-use Rattle.std.proofs.Common.{◌≡◌, ℕ, ◌+◌, sym, ap, ◌∙◌, subst, arith}
-use Rattle.fish_chain.proofs.Descents.{goes_down, looked_down, stops_below}
-use Rattle.fish_chain.specs.Walks.{GoesOn, HasLooked}
-use Rattle.fish_rule.specs.Linking.{after_previous}
+use Rattle.std.proofs.Common.{sym, ap, subst, arith}
+use Rattle.fish_chain.proofs.Descents.{goes_down, stops_below}
+use Rattle.fish_chain.specs.Walks.{LeadsTo}
+use Rattle.fish_rule.proofs.Descents.{extends_previous}
+use Rattle.fish_rule.specs.Logs.{Extends}
 use Rattle.fish_rule.specs.Passes.{view}
 use Rattle.fish_rule.specs.declared.view.View.{View}
 use Rattle.fish_chain.proofs.walk.place_below.Goals as goal
@@ -10,20 +11,20 @@ use Rattle.fish_chain.proofs.walk.place_below.Goals as goal
 pub returns-then-from-walk-clause-below : goal.returns-then-from-walk-clause-below
 returns-then-from-walk-clause-below g c =
     stops_below (view c.args.pass.now) c.args.walk.now c.args.number c.requires.label
-        (let e = c.from.ensures in omega (arith, c.if-from-walk.true)) c.requires.some
+    (let e = c.from.ensures in omega (arith, c.if-from-walk.true)) c.requires.some
 
-pub returns-clause-looked : goal.returns-clause-looked
-returns-clause-looked g c =
+pub returns-clause-extends : goal.returns-clause-extends
+returns-clause-extends g c =
     let walk = c.args.walk.now in
-    subst (HasLooked (view c.args.pass.now)) (sym (c.load_previous.ensures.view walk.bucket c.requires.node))
-        (looked_down (view c.args.pass.now) walk.bucket walk.place c.load_previous.result)
+    subst (Extends (view c.args.pass.now)) (sym (c.load_previous.ensures.view walk.bucket c.requires.node))
+    (extends_previous (view c.args.pass.now) walk.bucket walk.place c.load_previous.result)
 
 pub returns-clause-below : goal.returns-clause-below
 returns-clause-below g c =
     let walk = c.args.walk.now in
-    subst (λ (z : View). GoesOn z walk c.load_previous.result)
-        (sym (c.load_previous.ensures.view walk.bucket c.requires.node))
-        (goes_down (view c.args.pass.now) walk c.load_previous.result c.requires.settled c.load_previous.ensures.less)
+    subst (λ (z : View). LeadsTo z walk c.load_previous.result)
+    (sym (c.load_previous.ensures.view walk.bucket c.requires.node))
+    (goes_down (view c.args.pass.now) walk c.load_previous.result c.requires.settled c.load_previous.ensures.less)
 
 pub returns-clause-counted : goal.returns-clause-counted
 returns-clause-counted g c =

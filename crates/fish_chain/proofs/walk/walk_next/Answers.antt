@@ -1,8 +1,12 @@
 -- Each turn passes an entry outside the range, or gives the next one of it.
-use Rattle.std.proofs.Common.{◌≡◌, ℕ, ◌+◌, ◌<◌, ◌≤◌, ◌⊎◌, inl, inr, sym, refl, ap, ◌∙◌, subst, arith}
-use Rattle.fish_chain.proofs.Descents.{clear_same, given_next, gone_on, looked_both, looked_node, next_same}
-use Rattle.fish_chain.proofs.Descents.{numbered, passed_by, stands_at}
-use Rattle.fish_chain.specs.Walks.{HasLooked, IsNext, IsWalking}
+use Rattle.std.proofs.Common.{ℕ, ◌<◌, ◌≤◌, ◌⊎◌, inl, inr, sym, refl, ap, subst, arith}
+use Rattle.fish_chain.proofs.Descents.{clear_same, given_next, gone_on, looked_node, next_same, numbered}
+use Rattle.fish_chain.proofs.Descents.{passed_by, stands_at}
+use Rattle.fish_rule.proofs.Extending.{extends_both}
+use Rattle.fish_chain.proofs.Descents.{clear_same, given_next, gone_on, looked_node, next_same, numbered}
+use Rattle.fish_chain.proofs.Descents.{passed_by, stands_at}
+use Rattle.fish_rule.proofs.Extending.{extends_both}
+use Rattle.fish_chain.specs.Walks.{IsNextNode, IsWalking}
 use Rattle.fish_chain.specs.declared.walk.Node.{Node}
 use Rattle.fish_layout.specs.Entry.{entry_number}
 use Rattle.fish_rule.specs.Logs.{Extends}
@@ -23,7 +27,7 @@ load_node-entry-requires-clause-node g c =
 pub place_below-requires-clause-label : goal.place_below-requires-clause-label
 place_below-requires-clause-label g c =
     numbered (view c.loop-walk.pass) (view c.load_node-entry.new.pass) c.loop-walk.walk.place c.load_node-entry.result
-        c.number_in-number.result c.load_node-entry.ensures.view c.number_in-number.ensures.value
+    c.number_in-number.result c.load_node-entry.ensures.view c.number_in-number.ensures.value
 
 pub returns-then-from-walk-clause-pass : goal.returns-then-from-walk-clause-pass
 returns-then-from-walk-clause-pass g c = c.keep_walk.ensures.pass c.args.log.now c.place_below.ensures.pass
@@ -33,19 +37,19 @@ returns-then-from-walk-clause-extends g c =
     let v = view c.loop-walk.pass in
     let u = view c.load_node-entry.new.pass in
     let t = view c.place_below.new.pass in
-    let turn = looked_both v u t (looked_node v u c.loop-walk.walk.place c.load_node-entry.result
-        c.load_node-entry.ensures.view) c.place_below.ensures.looked in
+    let turn = extends_both v u t (looked_node v u c.loop-walk.walk.place c.load_node-entry.result
+    c.load_node-entry.ensures.view) c.place_below.ensures.extends in
     subst (Extends (view c.args.pass.now)) (sym c.keep_walk.ensures.view)
-        (looked_both _ v t c.loop-walk.invariant.looked turn).extends
+    (extends_both _ v t c.loop-walk.invariant.extends turn)
 
 pub returns-then-from-walk-clause-walking : goal.returns-then-from-walk-clause-walking
 returns-then-from-walk-clause-walking g c =
     let test = c.loop-walk-test.true in
     subst (λ (z : View × Walk). IsWalking z.0 z.1)
-        (λ i. (sym c.keep_walk.ensures.view i, sym c.keep_walk.ensures.walk i))
-        (gone_on (view c.loop-walk.pass) (view c.load_node-entry.new.pass) (view c.place_below.new.pass)
-        c.loop-walk.walk c.load_node-entry.result c.place_below.result c.loop-walk.invariant.walking (omega arith)
-        c.load_node-entry.ensures.view c.place_below.ensures.looked c.place_below.ensures.below)
+    (λ i. (sym c.keep_walk.ensures.view i, sym c.keep_walk.ensures.walk i))
+    (gone_on (view c.loop-walk.pass) (view c.load_node-entry.new.pass) (view c.place_below.new.pass)
+    c.loop-walk.walk c.load_node-entry.result c.place_below.result c.loop-walk.invariant.walking (omega arith)
+    c.load_node-entry.ensures.view c.place_below.ensures.extends c.place_below.ensures.below)
 
 pub returns-then-from-walk-clause-gave : goal.returns-then-from-walk-clause-gave
 returns-then-from-walk-clause-gave g c =
@@ -53,15 +57,19 @@ returns-then-from-walk-clause-gave g c =
     let inv = c.loop-walk.invariant in
     let number = c.from.ensures in
     let again = c.from-then-walk-from.ensures in
-    let node : Node = record { number = c.number_in-number.result; place = c.loop-walk.walk.place; id = c.id_in.result;
-        key = c.place_in.result } in
+    let node : Node = record {
+      number = c.number_in-number.result;
+      place = c.loop-walk.walk.place;
+      id = c.id_in.result;
+      key = c.place_in.result;
+    } in
     let next = given_next (view c.loop-walk.pass) (view c.load_node-entry.new.pass) (view c.place_below.new.pass)
-        c.loop-walk.walk c.load_node-entry.result c.place_below.result inv.walking (omega arith)
-        c.load_node-entry.ensures.view c.place_below.ensures.looked c.place_below.ensures.below
-        node c.number_in-number.ensures.value refl c.id_in.ensures c.place_in.ensures.value
-        (omega (arith, c.if-walk-from.true)) (omega (arith, c.if-from-walk.true)) in (
+    c.loop-walk.walk c.load_node-entry.result c.place_below.result inv.walking (omega arith)
+    c.load_node-entry.ensures.view c.place_below.ensures.extends c.place_below.ensures.below
+    node c.number_in-number.ensures.value refl c.id_in.ensures c.place_in.ensures.value
+    (omega (arith, c.if-walk-from.true)) (omega (arith, c.if-from-walk.true)) in (
       next_same (view c.keep_walk.new.pass) c.loop-walk.walk (walk_of c.args.pass.now) node inv.range inv.given
-          (subst (λ (z : View). IsNext z c.loop-walk.walk node) (sym c.keep_walk.ensures.view) next),
+          (subst (λ (z : View). IsNextNode z c.loop-walk.walk node) (sym c.keep_walk.ensures.view) next),
       ap (λ (z : Walk). z.given) c.keep_walk.ensures.walk,
     )
 
@@ -73,8 +81,8 @@ loop-walk-preserved g c =
     let t = view c.place_below.new.pass in
     let test = c.loop-walk-test.true in
     let seen = c.load_node-entry.ensures.view in
-    let turn = looked_both v u t (looked_node v u c.loop-walk.walk.place c.load_node-entry.result seen)
-        c.place_below.ensures.looked in
+    let turn = extends_both v u t (looked_node v u c.loop-walk.walk.place c.load_node-entry.result seen)
+    c.place_below.ensures.extends in
     let number = c.number_in-number.ensures.value in
     let from = c.from.ensures in
     let loads = ap (λ (z : View). z.clock.loads) seen in
@@ -82,16 +90,16 @@ loop-walk-preserved g c =
     let counted = c.place_below.ensures.counted in
     let before = inv.counted in
     let out : (entry_number c.load_node-entry.result < c.loop-walk.walk.from)
-        ⊎ (c.loop-walk.walk.to ≤ entry_number c.load_node-entry.result) = elim c.else-walk-from.branch [
-          | else-walk-from-via-then-walk-from+else-from-walk w ↦
-              inr (let less = w.if-from-walk.false in let e = w.from-then-walk-from.ensures in omega arith)
-          | else-walk-from-via-else-walk-from w ↦ inl (let less = w.if-walk-from.false in omega arith)
-        ] in
+    ⊎ (c.loop-walk.walk.to ≤ entry_number c.load_node-entry.result) = elim c.else-walk-from.branch [
+      | else-walk-from-via-then-walk-from+else-from-walk w ↦
+          inr (let less = w.if-from-walk.false in let e = w.from-then-walk-from.ensures in omega arith)
+      | else-walk-from-via-else-walk-from w ↦ inl (let less = w.if-walk-from.false in omega arith)
+    ] in
     record {
       of = c.place_below.ensures.pass;
-      looked = looked_both _ v t inv.looked turn;
+      extends = extends_both _ v t inv.extends turn;
       walking = passed_by v u t c.loop-walk.walk c.load_node-entry.result c.place_below.result inv.walking
-          (omega arith) seen c.place_below.ensures.looked c.place_below.ensures.below out;
+          (omega arith) seen c.place_below.ensures.extends c.place_below.ensures.below out;
       range = record { bucket_is = inv.range.bucket_is; from_is = inv.range.from_is; to_is = inv.range.to_is };
       given = inv.given;
       counted = omega arith;
@@ -105,7 +113,7 @@ returns-clause-gave g c =
     let inv = c.loop-walk.invariant in
     let walk = c.loop-walk.walk in
     let clear = subst (λ (z : ℕ). Always (view c.loop-walk.pass) (IsClear walk.bucket walk.from walk.to walk.given z))
-        c.loop-walk-test.false inv.walking.clear in
+    c.loop-walk-test.false inv.walking.clear in
     clear_same (view c.keep_walk-2.new.pass) walk (walk_of c.args.pass.now) 0 inv.range inv.given
-        (subst (λ (z : View). Always z (IsClear walk.bucket walk.from walk.to walk.given 0))
-        (sym c.keep_walk-2.ensures.view) clear)
+    (subst (λ (z : View). Always z (IsClear walk.bucket walk.from walk.to walk.given 0))
+    (sym c.keep_walk-2.ensures.view) clear)

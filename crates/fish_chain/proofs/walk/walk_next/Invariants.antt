@@ -1,13 +1,14 @@
 -- The walk is where it was, or further down with nothing of its range passed.
-use Rattle.std.proofs.Common.{◌≡◌, ◌+◌, ℕ}
-use Rattle.fish_chain.specs.Walks.{HasLooked, HasRange, IsWalking}
+use Rattle.std.proofs.Common.{◌≡◌, ◌+◌}
+use Rattle.fish_chain.specs.Walks.{HasRange, IsWalking}
+use Rattle.fish_rule.specs.Logs.{Extends}
 use Rattle.fish_rule.specs.Passes.{IsPassOf, view, walk_of}
 use Rattle.fish_chain.proofs.walk.walk_next.Given as goal
 
 abbrev pub invariant-loop-walk : goal.invariant-loop-walk
 invariant-loop-walk g l = record {
   of : IsPassOf l.log l.pass;
-  looked : HasLooked (view l.fn.pass) (view l.pass);
+  extends : Extends (view l.fn.pass) (view l.pass);
   walking : IsWalking (view l.pass) l.walk;
   range : HasRange l.walk (walk_of l.fn.pass).bucket (walk_of l.fn.pass).from (walk_of l.fn.pass).to;
   given : l.walk.given ≡ (walk_of l.fn.pass).given;

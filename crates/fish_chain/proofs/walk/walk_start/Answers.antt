@@ -1,5 +1,5 @@
 -- The head that was seen is where the walk begins.
-use Rattle.std.proofs.Common.{◌≡◌, ℕ, ◌+◌, ◌*◌, ◌<◌, sym, ap, ◌∙◌, subst, ⊎_elim, arith}
+use Rattle.std.proofs.Common.{◌≡◌, ℕ, ◌+◌, sym, ap, ◌∙◌, subst, ⊎_elim, arith}
 use Rattle.fish_chain.proofs.Descents.{begun_at}
 use Rattle.fish_chain.specs.Walks.{HasBegun}
 use Rattle.fish_rule.proofs.Descents.{head_here}
@@ -19,13 +19,13 @@ overflow_add-walk g c =
     let low_end = c.args.log.now.fits.low_end in
     let here = head_here v c.from.result x in
     ⊎_elim (λ (e : x ≡ 0). omega arith)
-        (λ (m : HasNode (after_head v c.from.result x) c.from.result x).
-        let node : HasNode u c.from.result x =
-            subst (λ (z : View). HasNode z c.from.result x) (sym c.load_head-place.ensures.view) m in
-        let law = node_law key u c.from.result x c.load_head-place.ensures.pass.about
-            c.load_head-place.ensures.pass.stands node in
-        let within = law.1 in omega arith)
-        here
+    (λ (m : HasNode (after_head v c.from.result x) c.from.result x).
+    let node : HasNode u c.from.result x =
+    subst (λ (z : View). HasNode z c.from.result x) (sym c.load_head-place.ensures.view) m in
+    let law = node_law key u c.from.result x c.load_head-place.ensures.pass.about
+    c.load_head-place.ensures.pass.stands node in
+    let within = law.1 in omega arith)
+    here
 
 pub returns-clause-pass : goal.returns-clause-pass
 returns-clause-pass g c = c.keep_walk.ensures.pass c.args.log.now c.load_head-place.ensures.pass
@@ -36,10 +36,20 @@ returns-clause-begun g c =
     let x : ℕ = c.load_head-place.result in
     let bucket = c.from.ensures in
     let same : view c.keep_walk.new.pass ≡ after_head v c.args.bucket x =
-        c.keep_walk.ensures.view ∙ c.load_head-place.ensures.view ∙ ap (λ (z : ℕ). after_head v z x) bucket in
-    let walk : walk_of c.keep_walk.new.pass ≡ record { bucket = c.args.bucket; from = c.args.from; to = c.args.to;
-        given = x + 1; place = x } =
-        c.keep_walk.ensures.walk ∙ (λ i. record { bucket = c.from-2.ensures i; from = c.from-3.ensures i;
-            to = c.from-4.ensures i; given = x + 1; place = x }) in
+    c.keep_walk.ensures.view ∙ c.load_head-place.ensures.view ∙ ap (λ (z : ℕ). after_head v z x) bucket in
+    let walk : walk_of c.keep_walk.new.pass ≡ record {
+      bucket = c.args.bucket;
+      from = c.args.from;
+      to = c.args.to;
+      given = x + 1;
+      place = x;
+    } =
+    c.keep_walk.ensures.walk ∙ (λ i. record {
+      bucket = c.from-2.ensures i;
+      from = c.from-3.ensures i;
+      to = c.from-4.ensures i;
+      given = x + 1;
+      place = x;
+    }) in
     subst (λ (z : View × Walk). HasBegun z.0 z.1 c.args.bucket c.args.from c.args.to) (λ i. (sym same i, sym walk i))
-        (begun_at v c.args.bucket c.args.from c.args.to x c.requires.settled)
+    (begun_at v c.args.bucket c.args.from c.args.to x c.requires.settled)

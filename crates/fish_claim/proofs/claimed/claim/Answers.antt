@@ -1,7 +1,7 @@
 -- A region is published at once where it is no record's.
 use Rattle.std.proofs.Common.{◌≡◌, ℕ, refl, sym, ap, ◌∙◌, subst, arith, Some}
-use Rattle.fish_claim.proofs.Claims.{can_publish_void, can_store_header, claimed_as, claimed_flight,
-    claimed_law, kind_is, mark_shuts}
+use Rattle.fish_claim.proofs.Claims.{can_publish_void, can_store_header, claimed_as, claimed_flight}
+use Rattle.fish_claim.proofs.Claims.{claimed_law, kind_is, mark_shuts}
 use Rattle.fish_layout.specs.Header.{void_word}
 use Rattle.fish_rule.specs.Passes.{view}
 use Rattle.fish_rule.specs.Steps.{after_publish, after_store, flight_at, with_word}
@@ -16,8 +16,8 @@ pub kind_in-requires : goal.kind_in-requires
 kind_in-requires c =
     let of = c.claim_lines-region.ensures.pass in
     let law = claimed_law
-        (view c.args.pass.now) _ c.args.lines _ _ c.claim_lines-region.ensures.view c.args.log.now.key of.about
-        of.stands in
+    (view c.args.pass.now) _ c.args.lines _ _ c.claim_lines-region.ensures.view c.args.log.now.key of.about
+    of.stands in
     let low_line = law.low_line in
     let same = c.claim_lines-region.ensures.lines in
     let some = c.requires.lines in
@@ -27,8 +27,8 @@ pub overflow_cast-result : goal.overflow_cast-result
 overflow_cast-result c =
     let of = c.claim_lines-region.ensures.pass in
     let law = claimed_law
-        (view c.args.pass.now) _ c.args.lines _ _ c.claim_lines-region.ensures.view c.args.log.now.key of.about
-        of.stands in
+    (view c.args.pass.now) _ c.args.lines _ _ c.claim_lines-region.ensures.view c.args.log.now.key of.about
+    of.stands in
     let number = law.number in
     omega arith
 
@@ -36,8 +36,8 @@ pub overflow_cast-result-in-Void : goal.overflow_cast-result-in-Void
 overflow_cast-result-in-Void c =
     let of = c.claim_lines-region.ensures.pass in
     let law = claimed_law
-        (view c.args.pass.now) _ c.args.lines _ _ c.claim_lines-region.ensures.view c.args.log.now.key of.about
-        of.stands in
+    (view c.args.pass.now) _ c.args.lines _ _ c.claim_lines-region.ensures.view c.args.log.now.key of.about
+    of.stands in
     let number = law.number in
     omega arith
 
@@ -45,9 +45,9 @@ pub store_word-requires-clause-view : goal.store_word-requires-clause-view
 store_word-requires-clause-view c =
     let got = c.claim_lines-region in
     let kind = kind_is c.args.log.now
-        (view c.args.pass.now) c.claim_lines-region.new.pass c.args.lines c.claim_lines-region.result Void
+    (view c.args.pass.now) c.claim_lines-region.new.pass c.args.lines c.claim_lines-region.result Void
     c.claim_lines-region.ensures.pass c.claim_lines-region.ensures.view c.claim_lines-region.ensures.lines
-        (sym c.in-Void.is ∙ c.kind_in.ensures) in (
+    (sym c.in-Void.is ∙ c.kind_in.ensures) in (
       flight_at got.result.number got.result.line c.args.lines,
       can_store_header (view c.args.pass.now)
           (view got.new.pass) c.args.lines _ _ got.ensures.view c.requires.lines.0 kind,
@@ -60,11 +60,11 @@ publish_region-requires-clause-view c =
     let got = c.claim_lines-region in
     let f : Flight = flight_at got.result.number got.result.line c.args.lines in
     let kind = kind_is c.args.log.now
-        (view c.args.pass.now) c.claim_lines-region.new.pass c.args.lines c.claim_lines-region.result Void
+    (view c.args.pass.now) c.claim_lines-region.new.pass c.args.lines c.claim_lines-region.result Void
     c.claim_lines-region.ensures.pass c.claim_lines-region.ensures.view c.claim_lines-region.ensures.lines
-        (sym c.in-Void.is ∙ c.kind_in.ensures) in
+    (sym c.in-Void.is ∙ c.kind_in.ensures) in
     let stored = subst (λ (z : ℕ). view c.store_word.new.pass ≡ after_store
-        (view got.new.pass) f z) c.void_header.ensures
+    (view got.new.pass) f z) c.void_header.ensures
     (c.store_word.ensures.view f (claimed_flight (view c.args.pass.now) _ c.args.lines _ _ got.ensures.view)) in (
       with_word f (void_word c.args.lines),
       can_publish_void (view c.args.pass.now) (view got.new.pass) c.args.lines _ _ got.ensures.view
@@ -79,24 +79,24 @@ unreachable-requires c =
     let got = c.claim_lines-region in
     let f : Flight = flight_at got.result.number got.result.line c.args.lines in
     let kind = kind_is c.args.log.now
-        (view c.args.pass.now) c.claim_lines-region.new.pass c.args.lines c.claim_lines-region.result Mark
+    (view c.args.pass.now) c.claim_lines-region.new.pass c.args.lines c.claim_lines-region.result Mark
     c.claim_lines-region.ensures.pass c.claim_lines-region.ensures.view c.claim_lines-region.ensures.lines
-        (sym c.in-Mark.is ∙ c.kind_in.ensures) in
+    (sym c.in-Mark.is ∙ c.kind_in.ensures) in
     let shut = mark_shuts (view c.args.pass.now) (view got.new.pass) c.args.lines _ _ got.ensures.view
-        (view c.publish_region-in-Mark.new.pass) kind
+    (view c.publish_region-in-Mark.new.pass) kind
     (c.publish_region-in-Mark.ensures.view f
-        (claimed_flight (view c.args.pass.now) _ c.args.lines _ _ got.ensures.view)) in
+    (claimed_flight (view c.args.pass.now) _ c.args.lines _ _ got.ensures.view)) in
     c.in_default.not-Some _ (c.is_shut.ensures ∙ shut)
 
 pub returns-in-Stored-clause-claimed : goal.returns-in-Stored-clause-claimed
 returns-in-Stored-clause-claimed c =
     let got = c.claim_lines-region in
     let kind = kind_is c.args.log.now
-        (view c.args.pass.now) c.claim_lines-region.new.pass c.args.lines c.claim_lines-region.result Stored
+    (view c.args.pass.now) c.claim_lines-region.new.pass c.args.lines c.claim_lines-region.result Stored
     c.claim_lines-region.ensures.pass c.claim_lines-region.ensures.view c.claim_lines-region.ensures.lines
-        (sym c.in-Stored.is ∙ c.kind_in.ensures) in
+    (sym c.in-Stored.is ∙ c.kind_in.ensures) in
     claimed_as (view c.args.pass.now)
-        (view got.new.pass) c.args.lines got.result.number got.result.line _ Stored kind refl got.ensures.view
+    (view got.new.pass) c.args.lines got.result.number got.result.line _ Stored kind refl got.ensures.view
 
 pub returns-in-Void-clause-claimed : goal.returns-in-Void-clause-claimed
 returns-in-Void-clause-claimed c =
@@ -104,38 +104,41 @@ returns-in-Void-clause-claimed c =
     let f : Flight = flight_at got.result.number got.result.line c.args.lines in
     let x : ℕ = void_word c.args.lines in
     let kind = kind_is c.args.log.now
-        (view c.args.pass.now) c.claim_lines-region.new.pass c.args.lines c.claim_lines-region.result Void
+    (view c.args.pass.now) c.claim_lines-region.new.pass c.args.lines c.claim_lines-region.result Void
     c.claim_lines-region.ensures.pass c.claim_lines-region.ensures.view c.claim_lines-region.ensures.lines
-        (sym c.in-Void.is ∙ c.kind_in.ensures) in
+    (sym c.in-Void.is ∙ c.kind_in.ensures) in
     let stored : view c.store_word.new.pass ≡ after_store (view got.new.pass) f x =
     subst (λ (z : ℕ). view c.store_word.new.pass ≡ after_store (view got.new.pass) f z) c.void_header.ensures
     (c.store_word.ensures.view f (claimed_flight (view c.args.pass.now) _ c.args.lines _ _ got.ensures.view)) in
     let published : view c.publish_region.new.pass ≡ after_publish (view c.store_word.new.pass) (with_word f x) =
     c.publish_region.ensures.view (with_word f x) (ap (λ (z : View). z.flight) stored) in
     claimed_as (view c.args.pass.now)
-        (view c.publish_region.new.pass) c.args.lines got.result.number got.result.line _ Void kind refl
+    (view c.publish_region.new.pass) c.args.lines got.result.number got.result.line _ Void kind refl
     (published ∙ ap (λ (z : View). after_publish z (with_word f x))
-        (stored ∙ ap (λ (z : View). after_store z f x) got.ensures.view))
+    (stored ∙ ap (λ (z : View). after_store z f x) got.ensures.view))
 
 pub returns-in-Some-clause-claimed : goal.returns-in-Some-clause-claimed
 returns-in-Some-clause-claimed c =
     let got = c.claim_lines-region in
     let f : Flight = flight_at got.result.number got.result.line c.args.lines in
     let kind = kind_is c.args.log.now
-        (view c.args.pass.now) c.claim_lines-region.new.pass c.args.lines c.claim_lines-region.result Mark
+    (view c.args.pass.now) c.claim_lines-region.new.pass c.args.lines c.claim_lines-region.result Mark
     c.claim_lines-region.ensures.pass c.claim_lines-region.ensures.view c.claim_lines-region.ensures.lines
-        (sym c.in-Mark.is ∙ c.kind_in.ensures) in
+    (sym c.in-Mark.is ∙ c.kind_in.ensures) in
     let published : view c.publish_region-in-Mark.new.pass ≡ after_publish (view got.new.pass) f =
     c.publish_region-in-Mark.ensures.view f
-        (claimed_flight (view c.args.pass.now) _ c.args.lines _ _ got.ensures.view) in
+    (claimed_flight (view c.args.pass.now) _ c.args.lines _ _ got.ensures.view) in
     let shut = mark_shuts (view c.args.pass.now) (view got.new.pass) c.args.lines _ _ got.ensures.view
-        (view c.publish_region-in-Mark.new.pass) kind published in
+    (view c.publish_region-in-Mark.new.pass) kind published in
     let told : Some c.in-Some.shut ≡ Some
-        (record { line = got.result.line; lines = c.args.lines; end = (view c.args.pass.now).about.end }) =
-        sym c.in-Some.is ∙ c.is_shut.ensures ∙ shut in
-    let same : c.in-Some.shut ≡ record { line = got.result.line; lines = c.args.lines;
-        end = (view c.args.pass.now).about.end } = cc in
+    (record { line = got.result.line; lines = c.args.lines; end = (view c.args.pass.now).about.end }) =
+    sym c.in-Some.is ∙ c.is_shut.ensures ∙ shut in
+    let same : c.in-Some.shut ≡ record {
+      line = got.result.line;
+      lines = c.args.lines;
+      end = (view c.args.pass.now).about.end;
+    } = cc in
     claimed_as (view c.args.pass.now)
-        (view c.publish_region-in-Mark.new.pass) c.args.lines got.result.number got.result.line _ Mark kind
+    (view c.publish_region-in-Mark.new.pass) c.args.lines got.result.number got.result.line _ Mark kind
     (ap (λ (z : Shut). answer.Overflow z) same)
     (published ∙ ap (λ (z : View). after_publish z f) got.ensures.view)

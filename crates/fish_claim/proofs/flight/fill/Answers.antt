@@ -18,7 +18,7 @@ store_word-requires-clause-view c =
     let less : i < length words = omega arith in
     let many : length (take i words) ≡ i = length-take-le i words (omega arith) in
     let line = in_region (view c.args.pass.now).flight f c.in-Some.region can.flying
-        (sym c.in-Some.is ∙ c.in_flight.ensures) in (
+    (sym c.in-Some.is ∙ c.in_flight.ensures) in (
       with_words f (take i words),
       can_store_next (view c.args.pass.now) f words can (view c.loop-offset.pass) i
           (c.loop-offset.invariant.known f can.flying) many less,
@@ -39,7 +39,7 @@ loop-offset-preserved c =
       known = λ g flying.
           let same : f ≡ g = (let e : Some f ≡ Some g = sym can.flying ∙ flying in cc) in
           filled_more (view c.args.pass.now) f words can (view c.loop-offset.pass)
-              (view c.store_word.new.pass) i is (omega arith) stored
+          (view c.store_word.new.pass) i is (omega arith) stored
           ∙ ap (λ (z : Flight). filled_view (view c.args.pass.now) z (take (i + 1) words)) same;
     }
 

@@ -17,11 +17,11 @@ fill-requires-clause-view c =
     let u = view c.claim-answer.new.pass in
     let rows = ap (λ (z : Key). z.rows.value) c.requires.pass.about ∙ c.requires.rows in
     let plain = subst (λ (z : ℕ). IsStorable v.about z place.number c.args.lines p.0) c.lane-lane.ensures
-        (p.1 v.about rows) in (
+    (p.1 v.about rows) in (
       flight_at place.number place.line c.args.lines,
       subst (CanFill u (flight_at place.number place.line c.args.lines)) (sym c.as_slice.ensures)
           (body_law v u c.args.lines place.number place.line p.0 c.in_ok-body.body
-              (placed_law v u c.args.lines place.number place.line place.ensures.claimed) plain p.3),
+          (placed_law v u c.args.lines place.number place.line place.ensures.claimed) plain p.3),
     )
 
 pub publish-requires-clause-view : goal.publish-requires-clause-view
@@ -31,7 +31,7 @@ publish-requires-clause-view c =
     let f = flight_at place.number place.line c.args.lines in
     let u = view c.fill.new.pass in
     let placed = placed_law (view c.args.pass.now)
-        (view c.claim-answer.new.pass) c.args.lines place.number place.line place.ensures.claimed in
+    (view c.claim-answer.new.pass) c.args.lines place.number place.line place.ensures.claimed in
     let filled = subst (λ (z : List ℕ). IsFilled u (with_words f z)) c.as_slice.ensures
-        (c.fill.ensures.filled f (ap (λ (z : View). z.flight) placed.known)) in
+    (c.fill.ensures.filled f (ap (λ (z : View). z.flight) placed.known)) in
     (with_words f c.in_ok-body.body, plain_publish u f p.0 c.in_ok-body.body filled refl p.3 p.2, filled.stored)

@@ -15,8 +15,14 @@ pub returns : goal.returns
 unfolding is_record
 returns c =
     let text : List ℕ = c.args.payload in
-    let p : BodyParts = record { form = Json; lane = c.args.lane; version = 0; number = c.args.number;
-        keys = c.new.result; payload = text } in
+    let p : BodyParts = record {
+      form = Json;
+      lane = c.args.lane;
+      version = 0;
+      number = c.args.number;
+      keys = c.new.result;
+      payload = text;
+    } in
     let lane = c.requires.lane in
     let number = c.requires.number in
     let keys : p.keys ≡ [] = c.new.ensures in
@@ -38,8 +44,14 @@ returns c =
     let len = c.len.ensures in
     let same = c.if-len-lines.false in
     let read = subst (λ (z : List ℕ). is_some (record_of z) ≡ true) c.as_bytes-2.ensures.value
-        (ap is_some c.in-Ok.ensures.ok) in
+    (ap is_some c.in-Ok.ensures.ok) in
     let storable : (k : Key) → k.rows.value ≡ [] → IsStorable k c.args.lane c.args.number c.args.lines p =
-        λ k none. record { lane_is = refl; number_is = refl; lines_is = omega arith; version = refl; reads = read;
-            keys = no_keys k.rows.value p none keys } in
+    λ k none. record {
+      lane_is = refl;
+      number_is = refl;
+      lines_is = omega arith;
+      version = refl;
+      reads = read;
+      keys = no_keys k.rows.value p none keys;
+    } in
     (p, storable, keys, is)
