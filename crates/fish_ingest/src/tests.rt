@@ -7,8 +7,10 @@ ghost use Rattle.fish_ingest.specs.Records.{IsOrigin};
 
 mod chains;
 mod definitions;
+mod linked;
 mod nodes;
 mod store;
+mod threads;
 
 use crate::{IngestRefusal, Origin, prepare};
 use fish_lang::parse_def;

@@ -44,5 +44,7 @@ pub(super) fn defined(alloc: Global, sources: &[&str]) -> Result<(Start, Vec<Act
     for source in sources {
         add_def(alloc, &mut catalog, &mut defs, *source)?;
     }
+    // the rows are numbered, so the ids ascend
+    let _rows = catalog.rows();
     Ok((Start::Empty { catalog }, defs))
 }
