@@ -30,7 +30,13 @@ fn push_links(
     found: &Record,
     links: &mut Vec<Linked>,
 ) -> Result<(), Fail> {
+    if number >= 1 << 28 {
+        return Err(Fail::new("too great a number"));
+    }
     for (key, value) in keys(alloc, defs, found)?.as_slice().iter().enumerate() {
+        if key >= 16 {
+            return Err(Fail::new("too many keys"));
+        }
         links.push(Linked {
             bucket: bucket_of(key_hash(value.id, &value.value), 16),
             number: number as u32,

@@ -77,21 +77,43 @@ fn store_both<R: Threads + Sync>(
     alloc: Global,
     log: &Log,
     defs: &[ActiveDef],
-    one: &mut Pass,
-    two: &mut Pass,
+    pair: &mut (Pass, Pass),
 ) -> (Result<usize, AllocError>, Result<usize, AllocError>)
     requires active { AreActive log.now.key.rows.value defs.now }
     requires defs { AreDefs defs.now }
-    requires one { IsPassOf log.now one.old }
-    requires two { IsPassOf log.now two.old }
-    ensures one { IsPassOf log.now one.new }
-    ensures two { IsPassOf log.now two.new }
+    requires pair { IsPassOf log.now pair.old.0 × IsPassOf log.now pair.old.1 }
+    ensures { IsPassOf log.now pair.new.0 × IsPassOf log.now pair.new.1 }
 {
+    let (one, two) = pair;
     join_mut(
         rt,
         &mut || store_until_shut(alloc, log, one, defs),
         &mut || store_until_shut(alloc, log, two, defs),
     )
+}
+
+/// Four lanes store at once. How many records each stored.
+fn store_all<R: Threads + Sync>(
+    rt: &R,
+    alloc: Global,
+    log: &Log,
+    defs: &[ActiveDef],
+    low: &mut (Pass, Pass),
+    high: &mut (Pass, Pass),
+) -> Result<[usize; 4], AllocError>
+    requires active { AreActive log.now.key.rows.value defs.now }
+    requires defs { AreDefs defs.now }
+    requires low { IsPassOf log.now low.old.0 × IsPassOf log.now low.old.1 }
+    requires high { IsPassOf log.now high.old.0 × IsPassOf log.now high.old.1 }
+    ensures low { IsPassOf log.now low.new.0 × IsPassOf log.now low.new.1 }
+    ensures high { IsPassOf log.now high.new.0 × IsPassOf log.now high.new.1 }
+{
+    let (low, high) = join_mut(
+        rt,
+        &mut || store_both(rt, alloc, log, defs, low),
+        &mut || store_both(rt, alloc, log, defs, high),
+    );
+    Ok([low.0?, low.1?, high.0?, high.1?])
 }
 
 /// The control pass takes back a lane.
@@ -188,29 +210,29 @@ fn four_threads_link_at_once(rt: HostRuntime) -> Result<(), Fail> {
     };
     let (start, defs) = defined(alloc, SOURCES.as_slice())?;
     let (log, mut main) = open_log(alloc, shape, &start)?;
-    let mut second = split_pass(&log, &mut main, 2);
-    let mut third = split_pass(&log, &mut main, 3);
-    let mut fourth = split_pass(&log, &mut main, 4);
-    let mut fifth = split_pass(&log, &mut main, 5);
+    let mut low = (
+        split_pass(&log, &mut main, 2),
+        split_pass(&log, &mut main, 3),
+    );
+    let mut high = (
+        split_pass(&log, &mut main, 4),
+        split_pass(&log, &mut main, 5),
+    );
     let payload = payload_of(alloc, 1, 0)?;
     let first = claimed(alloc, &log, &mut main, defs.as_slice(), payload.as_bytes())?;
     let Some(mut first) = first else {
         return Err(Fail::new("no place"));
     };
-    let (low, high) = join_mut(
-        &rt,
-        &mut || store_both(&rt, alloc, &log, defs.as_slice(), &mut second, &mut third),
-        &mut || store_both(&rt, alloc, &log, defs.as_slice(), &mut fourth, &mut fifth),
-    );
+    let stored = store_all(&rt, alloc, &log, defs.as_slice(), &mut low, &mut high)?;
     finish(&log, &mut main, &mut first);
-    take_back_all(&log, &mut main, (second, third), (fourth, fifth))?;
+    take_back_all(&log, &mut main, low, high)?;
     let (found, settled) = walks(alloc, &log, &mut main)?;
     let Ok(remains) = close_log(alloc, log, main) else {
         return Err(Fail::new("no memory"));
     };
-    let stored = [1, low.0?, low.1?, high.0?, high.1?];
     assert_eq!(rt; remains.log.len(), settled as usize);
-    for (lane, count) in [1, 2, 3, 4, 5].iter().zip(stored.iter()) {
+    assert_eq!(rt; stored_in_order(alloc, &remains.log, 1)?, 1);
+    for (lane, count) in [2, 3, 4, 5].iter().zip(stored.iter()) {
         assert_eq!(rt;
             stored_in_order(alloc, &remains.log, *lane)?,
             *count,

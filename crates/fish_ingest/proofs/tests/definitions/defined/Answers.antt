@@ -6,4 +6,5 @@ use Rattle.fish_ingest.proofs.tests.definitions.defined.Goals as goal
 
 -- they are the ids of the definitions
 pub returns-clause-defs : goal.returns-clause-defs
-returns-clause-defs c = active_defs (subst IsCatalog c.rows-_rows.ensures.value c.rows-_rows.ensures.kept) c.loop-source.invariant
+returns-clause-defs c =
+    active_defs (subst IsCatalog c.rows-rows.ensures.value c.rows-rows.ensures.kept) c.loop-source.invariant
