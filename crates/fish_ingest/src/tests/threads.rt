@@ -110,8 +110,18 @@ fn store_all<R: Threads + Sync>(
 {
     let (low, high) = join_mut(
         rt,
-        &mut || store_both(rt, alloc, log, defs, low),
-        &mut || store_both(rt, alloc, log, defs, high),
+        &mut ||
+            requires active { AreActive log.now.key.rows.value defs.now }
+            requires defs { AreDefs defs.now }
+            requires pair { IsPassOf log.now low.now.0 × IsPassOf log.now low.now.1 }
+            ensures { IsPassOf log.entry.now low.exit.now.0 × IsPassOf log.entry.now low.exit.now.1 }
+        { store_both(rt, alloc, log, defs, low) },
+        &mut ||
+            requires active { AreActive log.now.key.rows.value defs.now }
+            requires defs { AreDefs defs.now }
+            requires pair { IsPassOf log.now high.now.0 × IsPassOf log.now high.now.1 }
+            ensures { IsPassOf log.entry.now high.exit.now.0 × IsPassOf log.entry.now high.exit.now.1 }
+        { store_both(rt, alloc, log, defs, high) },
     );
     Ok([low.0?, low.1?, high.0?, high.1?])
 }
