@@ -5,6 +5,13 @@ ghost use Rattle.std.specs.Prelude.{◌≡◌, ◌<◌, IsTrue};
 ghost use Rattle.fish_ingest.specs.Definitions.{AreDefs};
 ghost use Rattle.fish_ingest.specs.Records.{IsOrigin};
 
+mod chains;
+mod definitions;
+mod linked;
+mod nodes;
+mod store;
+mod threads;
+
 use crate::{IngestRefusal, Origin, prepare};
 use fish_lang::parse_def;
 use fish_layout::{Body, BodyParts, MAX_PAYLOAD, read_body};
