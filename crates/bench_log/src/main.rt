@@ -23,7 +23,7 @@ use std::time::Clock;
 use workload::Workload;
 
 /// How often each measurement is made; the best one counts.
-const ROUNDS: u32 = 5;
+const ROUNDS: u32 = 3;
 
 /// All measurements, once each.
 fn round<R: Threads + Sync + Clock + AllocGlobal + Eprint, L: Ledger>(
