@@ -4,7 +4,7 @@ PROGRAM = crates/fishstore/out/fishstore
 EXAMPLE = select 'take type' '"PushEvent"' examples/events.jsonl
 CRATES = $(shell sed -n 's/^\([a-z0-9_]*\).*:.*/\1/p' crates.txt)
 
-.PHONY: demo build test gate install bench bench_claim clean
+.PHONY: demo build test gate install bench bench_log clean
 
 # Proves and builds the program, and runs it on the example.
 demo: build
@@ -29,10 +29,10 @@ install: build
 bench: build
 	bench/select.sh
 
-# Times the log's stores from 1, 2 and 4 lanes beside a plain C++ loop.
-bench_claim:
-	cd crates/bench_claim && rt run > /dev/null
-	bench/claim.sh
+# Times the log: stores beside a plain C++ loop, linked key entries, and walks.
+bench_log:
+	cd crates/bench_log && rt run > /dev/null
+	bench/log.sh
 
 clean:
 	rm -rf crates/*/out bench/data

@@ -1,0 +1,37 @@
+-- The records that a lane is to store.
+use Rattle.std.specs.Prelude.{ℕ, ◌≡◌, List, All}
+use Rattle.bench_log.specs.declared.lanes.Lane.{Lane}
+use Rattle.bench_log.specs.declared.measures.Opened.{Opened}
+use Rattle.fish_ingest.specs.Definitions.{AreDefs}
+use Rattle.fish_ingest.specs.Records.{IsPreparedFor}
+use Rattle.fish_ingest.specs.declared.origin.Origin.{Origin}
+use Rattle.fish_ingest.specs.declared.prepared.Prepared.{Prepared}
+use Rattle.fish_psf.specs.declared.key.ActiveDef.{ActiveDef}
+use Rattle.fish_rule.specs.Keys.{AreActive}
+use Rattle.fish_rule.specs.Passes.{IsPassOf, view}
+use Rattle.fish_rule.specs.Table.{first_view}
+use Rattle.fish_rule.specs.declared.table.Log.{Log}
+
+-- a record was prepared for a lane under these definitions, at version 0
+pub record IsRecordOf (lane : ℕ) (defs : List ActiveDef) (prepared : Prepared) : Type 0 where
+  pub origin : Origin
+  pub payload : List ℕ
+  pub made : IsPreparedFor defs origin payload prepared
+  pub lane_is : origin.lane ≡ lane
+  pub version_is : origin.version ≡ 0
+
+-- a record was prepared for a lane under the definitions that the log begins with
+abbrev pub IsStorable : Log → ℕ → Prepared → Type 0
+IsStorable log lane prepared = (defs : List ActiveDef) × AreActive log.key.rows.value defs × IsRecordOf lane defs prepared
+
+-- the lane's pass steps on the log, and its records may be stored there
+pub record IsLaneOf (log : Log) (lane : Lane) : Type 0 where
+  pub pass : IsPassOf log lane.pass
+  pub records : All (IsStorable log (view lane.pass).lane) lane.records.items
+
+-- the log is empty, and begins with the definitions
+pub record IsOpened (opened : Opened) : Type 0 where
+  pub pass : IsPassOf opened.log opened.main
+  pub view_is : view opened.main ≡ first_view opened.log.key
+  pub active : AreActive opened.log.key.rows.value opened.defs.items
+  pub defs : AreDefs opened.defs.items

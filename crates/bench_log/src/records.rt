@@ -1,0 +1,57 @@
+//! The records of a lane, made before any of them is stored.
+
+ghost use Rattle.std.specs.Prelude.{◌≤◌, All, IfOk};
+ghost use Rattle.bench_log.specs.Lanes.{IsRecordOf};
+ghost use Rattle.fish_ingest.specs.Definitions.{AreDefs};
+
+use crate::workload::Workload;
+use fish_ingest::{Origin, Prepared, prepare};
+use fish_psf::{ActiveDef, Steps};
+use fish_value::Form;
+use std::alloc::{AllocError, Global};
+use std::sync::ledger::Ledger;
+
+/// So many records of a workload for a lane.
+pub fn records_of<L: Ledger>(
+    alloc: Global,
+    defs: &[ActiveDef],
+    workload: Workload,
+    lane: u8,
+    count: u64,
+    steps: &mut Steps<L>,
+) -> Result<Vec<Prepared>, AllocError>
+    requires defs { AreDefs defs.now }
+    requires lane { (1 ≤ lane) × (lane ≤ 16) }
+    ensures { IfOk result (λ records. All (IsRecordOf lane defs.now) records.items) }
+{
+    let mut records = Vec::new(alloc);
+    for place in 0..count {
+        let place = place.saturating_mul(4).saturating_add(u64::from(lane));
+        let payload = workload.payload(alloc, place)?;
+        records.push(record_of(alloc, defs, lane, payload.as_bytes(), steps)?)?;
+    }
+    Ok(records)
+}
+
+/// The record of a payload. A payload that is none fails as a want of memory does.
+fn record_of<L: Ledger>(
+    alloc: Global,
+    defs: &[ActiveDef],
+    lane: u8,
+    payload: &[u8],
+    steps: &mut Steps<L>,
+) -> Result<Prepared, AllocError>
+    requires defs { AreDefs defs.now }
+    requires lane { (1 ≤ lane) × (lane ≤ 16) }
+    ensures { IfOk result (IsRecordOf lane defs.now) }
+{
+    let origin = Origin {
+        lane,
+        version: 0,
+        form: Form::Json,
+    };
+    match prepare(alloc, defs, origin, payload, steps) {
+        Ok(prepared) => Ok(prepared),
+        Err(_) => Err(AllocError),
+    }
+}
