@@ -1,11 +1,13 @@
-//! The key entries that the records of a closed log have, each with the bucket of its chain.
+//! The key entries that the records of a closed log have, each with its bucket among 16, and those
+//! that walks gave.
 
 ghost use Rattle.std.specs.Prelude.{◌≡◌, ◌<◌};
 
 use fish_catalog::{Entries, Entry};
+use fish_chain::Node;
 use fish_layout::{bucket_of, key_hash};
 use fish_psf::{ActiveDef, Record, Steps, keys, parse};
-use std::alloc::Global;
+use std::alloc::{AllocError, Global};
 use std::marker::Brand;
 use std::sync::ledger::{Blank, Ledger};
 use std::test::Fail;
@@ -22,7 +24,7 @@ pub(super) struct Linked {
     pub key: u16,
 }
 
-/// The entries of a record with 16 buckets.
+/// The entries of a record behind those of others.
 fn push_links(
     alloc: Global,
     defs: &[ActiveDef],
@@ -78,15 +80,38 @@ pub(super) fn links_of(
     links_with::<Brand>(alloc, Blank::new(1), defs, entries)
 }
 
-/// The entries by bucket, and in each bucket newest first.
-pub(super) fn links_in(alloc: Global, links: &[Linked]) -> Result<Vec<Linked>, Fail> {
-    let mut chains = Vec::new(alloc);
-    for bucket in 0..16 {
-        for link in links.iter().rev() {
-            if link.bucket == bucket {
-                chains.push(*link)?;
-            }
+/// The entries of one bucket, newest first, behind those of others.
+fn push_chain(links: &[Linked], bucket: u64, chains: &mut Vec<Linked>) -> Result<(), AllocError> {
+    for link in links.iter().rev() {
+        if link.bucket == bucket {
+            chains.push(*link)?;
         }
     }
+    Ok(())
+}
+
+/// The entries by bucket, and in each bucket newest first.
+pub(super) fn links_in(alloc: Global, links: &[Linked]) -> Result<Vec<Linked>, AllocError> {
+    let mut chains = Vec::new(alloc);
+    for bucket in 0..16 {
+        push_chain(links, bucket, &mut chains)?;
+    }
     Ok(chains)
+}
+
+/// What a walk down a bucket's chain gave, behind what walks down others did.
+pub(super) fn push_nodes(
+    bucket: u32,
+    nodes: &[Node],
+    found: &mut Vec<Linked>,
+) -> Result<(), AllocError> {
+    for node in nodes {
+        found.push(Linked {
+            bucket: u64::from(bucket),
+            number: node.number,
+            id: node.id,
+            key: node.key,
+        })?;
+    }
+    Ok(())
 }

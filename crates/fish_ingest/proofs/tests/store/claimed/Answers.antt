@@ -1,5 +1,5 @@
 -- The lines of what was prepared are in flight.
-use Rattle.std.proofs.Common.{◌≡◌, ℕ, ◌*◌, length, refl, sym, ap, ◌∙◌, subst, arith}
+use Rattle.std.proofs.Common.{◌≡◌, ℕ, refl, sym, ap, ◌∙◌, subst, arith}
 use Rattle.fish_claim.proofs.Bodies.{placed_law}
 use Rattle.fish_ingest.proofs.Stored.{body_fills}
 use Rattle.fish_rule.specs.Keys.{AreActive}

@@ -1,7 +1,5 @@
 -- The record is written, so it may be published, and then nothing is in flight.
-use Rattle.std.proofs.Common.{◌≡◌, ℕ, ap, ◌∙◌}
-use Rattle.fish_ingest.specs.Writing.{HasWritten}
-use Rattle.fish_rule.specs.Passes.{view}
+use Rattle.std.proofs.Common.{ap, ◌∙◌}
 use Rattle.fish_rule.specs.declared.view.Flight.{Flight}
 use Rattle.fish_rule.specs.declared.view.View.{View}
 use Rattle.fish_ingest.proofs.tests.store.finish.Goals as goal

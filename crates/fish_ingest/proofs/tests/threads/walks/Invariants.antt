@@ -5,6 +5,3 @@ use Rattle.fish_ingest.proofs.tests.threads.walks.Given as goal
 
 abbrev pub invariant-loop-bucket : goal.invariant-loop-bucket
 invariant-loop-bucket l = IsPassOf l.log l.pass × IsAlone (view l.pass)
-
-abbrev pub invariant-loop-node : goal.invariant-loop-node
-invariant-loop-node l = IsPassOf l.log l.pass × IsAlone (view l.pass)
