@@ -60,7 +60,8 @@ parts_proper {defs} {origin} {payload} {keys} {text} are from h =
     }
 
 -- and their words are those of the payload
-unfoldable pub body_for : {defs : List ActiveDef} {origin : Origin} {payload : List ℕ} {keys : List KeyPart} {text words : List ℕ}
+unfoldable pub body_for : {defs : List ActiveDef} {origin : Origin} {payload : List ℕ} {keys : List
+    KeyPart} {text words : List ℕ}
     → AreDefs defs → IsOrigin origin → AreRead defs origin payload keys text
     → words ≡ body_words (parts_of origin keys text) → IsBodyFor defs origin payload words
 body_for {defs} {origin} {payload} {keys} {text} {words} are from h is =

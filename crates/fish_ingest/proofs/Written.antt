@@ -1,6 +1,6 @@
 -- A record that was prepared, on its way into the region that was claimed for it.
-use Rattle.std.proofs.Common.{◌≡◌, ℕ, ◌+◌, ◌*◌, ◌<◌, ◌≤◌, zero, suc, List, length, refl, sym, ap, ◌∙◌, subst, arith}
-use Rattle.std.proofs.Common.{Option, Some}
+use Rattle.std.proofs.Common.{◌≡◌, ℕ, ◌*◌, ◌<◌, suc, List, length, refl, ap, ◌∙◌, subst, arith}
+use Rattle.std.proofs.Common.{Some}
 use Rattle.std.specs.List.{slice_get}
 use Rattle.fish_chain.proofs.Laws.{linked_filled, linked_flight}
 use Rattle.fish_chain.proofs.Partly.{IsPartly, partly_links, partly_publish}
@@ -18,7 +18,6 @@ use Rattle.fish_layout.specs.declared.parts.BodyParts.{BodyParts}
 use Rattle.fish_layout.specs.declared.parts.KeyPart.{KeyPart}
 use Rattle.fish_rule.specs.Flying.{region_of}
 use Rattle.fish_rule.specs.Regions.{IsRecord}
-use Rattle.fish_rule.specs.declared.table.Region.{Region}
 use Rattle.fish_rule.specs.declared.view.Flight.{Flight}
 use Rattle.fish_rule.specs.declared.view.View.{View}
 
@@ -96,7 +95,14 @@ writing_begins v u f p words none is filled made = record {
 module _ (v : View) (f : Flight) (p : BodyParts) (c : ℕ) (u : View) (s : IsWriting v f p c u) where
   -- the same as the links have it
   abbrev partly : IsPartly p c u
-  partly = record { flight = s.flight; filled = s.filled; count = s.count; words = s.words; made = s.made; same = s.same }
+  partly = record {
+    flight = s.flight;
+    filled = s.filled;
+    count = s.count;
+    words = s.words;
+    made = s.made;
+    same = s.same;
+  }
 
   -- it has an entry for each key
   entries : keys_of (body_of s.flight.words 0) ≡ length p.keys

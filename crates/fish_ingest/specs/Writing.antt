@@ -1,12 +1,11 @@
 -- When what was prepared may be written for a claim, and what the pass knows afterwards.
-use Rattle.std.specs.Prelude.{ℕ, ◌≡◌, ◌*◌, ◌^◌, ◌<◌, List, [], length, Some}
+use Rattle.std.specs.Prelude.{ℕ, ◌≡◌, ◌*◌, List, [], length, Some}
 use Rattle.fish_ingest.specs.Records.{IsPreparedFor}
 use Rattle.fish_ingest.specs.declared.origin.Origin.{Origin}
 use Rattle.fish_ingest.specs.declared.prepared.Prepared.{Prepared}
 use Rattle.fish_psf.specs.declared.key.ActiveDef.{ActiveDef}
 use Rattle.fish_rule.specs.Flying.{region_of}
 use Rattle.fish_rule.specs.Keys.{AreActive}
-use Rattle.fish_rule.specs.Logs.{Learns}
 use Rattle.fish_rule.specs.Steps.{CanPublish, flight_kind}
 use Rattle.fish_rule.specs.declared.view.Flight.{Flight}
 use Rattle.fish_rule.specs.declared.view.Kind.TheVariants.{Stored}

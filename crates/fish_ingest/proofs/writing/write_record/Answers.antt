@@ -1,12 +1,13 @@
 -- The record gets the number of its claim, and each of its entries is linked into the bucket of its key.
-use Rattle.std.proofs.Common.{◌≡◌, ℕ, ◌+◌, ◌<◌, List, length, refl, sym, ap, ◌∙◌, subst, arith, add-one, get_or, Option, Some}
+use Rattle.std.proofs.Common.{◌≡◌, ℕ, ◌<◌, List, length, refl, sym, ap, ◌∙◌, subst, arith, add-one, get_or}
+use Rattle.std.proofs.Common.{Option, Some}
 use Rattle.std.proofs.lemmas.Option.{slice_get_read}
 use Rattle.std.specs.List.{slice_get}
 use Rattle.fish_claim.proofs.Fills.{in_region}
 use Rattle.fish_claim.specs.Fills.{CanFill}
 use Rattle.fish_ingest.proofs.Stored.{numbered}
-use Rattle.fish_ingest.proofs.Written.{IsWriting, can_fill, parts_at, writing_begins, writing_done, writing_links, writing_more}
-use Rattle.fish_ingest.specs.Writing.{CanWrite, HasWritten}
+use Rattle.fish_ingest.proofs.Written.{IsWriting, can_fill, parts_at, writing_done, writing_links, writing_more}
+use Rattle.fish_ingest.specs.Writing.{HasWritten}
 use Rattle.fish_layout.proofs.Sizes.{few_keys_of}
 use Rattle.fish_layout.specs.Body.{IsBody}
 use Rattle.fish_layout.specs.Hash.{bucket_in, key_hash_of}
@@ -55,7 +56,8 @@ fill-requires-clause-view c =
     let v = view c.args.pass.now in
     let number = number_is v f c.in-Some.region c.in_flight.result can.flying c.in-Some.is c.in_flight.ensures in
     let b = can.made.0 in
-    let body = subst (λ (z : ℕ). IsBody (numbered z b.0) c.set_number.new.body) (sym number) (c.set_number.ensures b.0 b.2) in
+    let body = subst (λ (z : ℕ). IsBody (numbered z b.0) c.set_number.new.body) (sym number)
+    (c.set_number.ensures b.0 b.2) in
     (f, subst (CanFill v f) (sym c.as_slice.ensures) (can_fill v f c.args.prepared.now can c.set_number.new.body body))
 
 pub overflow_cast-place : goal.overflow_cast-place
