@@ -13,6 +13,7 @@ returns c =
     record {
       pass = c.in_ok-log.ensures.pass;
       view_is = c.in_ok-log.ensures.view;
-      active = subst (λ (rows : List CatRow). AreActive rows c.in_ok-catalog.field-0.defs.items) (sym c.in_ok-log.ensures.key.rows) active;
+      active = subst (λ (rows : List CatRow). AreActive rows c.in_ok-catalog.field-0.defs.items)
+          (sym c.in_ok-log.ensures.key.rows) active;
       defs = active_defs kept active;
     }
