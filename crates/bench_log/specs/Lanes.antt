@@ -22,8 +22,8 @@ pub record IsRecordOf (lane : ℕ) (defs : List ActiveDef) (prepared : Prepared)
 
 -- a record was prepared for a lane under the definitions that the log begins with
 abbrev pub IsStorable : Log → ℕ → Prepared → Type 0
-IsStorable log lane prepared = (defs : List ActiveDef) × AreActive log.key.rows.value defs
-    × IsRecordOf lane defs prepared
+IsStorable log lane prepared =
+    (defs : List ActiveDef) × AreActive log.key.rows.value defs × IsRecordOf lane defs prepared
 
 -- the lane's pass steps on the log, and its records may be stored there
 pub record IsLaneOf (log : Log) (lane : Lane) : Type 0 where

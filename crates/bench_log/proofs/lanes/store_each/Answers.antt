@@ -1,5 +1,5 @@
 -- The next record is one of those that were passed, and storing it leaves the later ones.
-use Rattle.std.proofs.Common.{◌≡◌, ◌≢◌, ℕ, ◌<◌, get_or, length, refl, sym, ◌∙◌, subst, arith, get_or-set_other}
+use Rattle.std.proofs.Common.{◌≡◌, ◌≢◌, ℕ, ◌<◌, get_or, length, sym, ◌∙◌, subst, arith, get_or-set_other}
 use Rattle.std.proofs.Math.ListN.{length-set}
 use Rattle.bench_log.specs.Lanes.{IsStorable}
 use Rattle.fish_ingest.specs.declared.prepared.Prepared.{Prepared}

@@ -1,6 +1,5 @@
 -- Each lane was made for the log, and the runtime may be shared.
 use Rattle.std.proofs.Common.{List, rules, sym, subst}
-use Rattle.bench_log.specs.Lanes.{IsLaneOf}
 use Rattle.fish_psf.specs.declared.key.ActiveDef.{ActiveDef}
 use Rattle.fish_rule.specs.Keys.{AreActive}
 use Rattle.bench_log.proofs.measures.four_lanes.Goals as goal
