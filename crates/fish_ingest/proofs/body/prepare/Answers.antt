@@ -22,6 +22,6 @@ unfolding body_for
 returns-clause-prepared g c =
     let found = c.in_ok-found.ensures in
     let made = body_for c.requires.defs c.requires.origin
-    (are_read (fields_of c.in_ok-found.found) found.fields c.in_ok-keys.ensures c.in_ok-text_of.ensures
-    found.accepted) c.in_ok-body.ensures in
+        (are_read (fields_of c.in_ok-found.found) found.fields c.in_ok-keys.ensures c.in_ok-text_of.ensures
+        found.accepted) c.in_ok-body.ensures in
     (made, refl)

@@ -86,11 +86,11 @@ link-requires-clause-view c =
     let keys : c.as_slice-key-items.result.now ≡ p.keys = c.as_slice-key-items.ensures ∙ can.made.1 in
     let size = ap length keys in
     let inside : c.loop-place.place < length c.as_slice-key-items.result.now =
-    (let t = c.loop-place-test.true in let e = c.loop-place.auto.place-end in omega arith) in
+        (let t = c.loop-place-test.true in let e = c.loop-place.auto.place-end in omega arith) in
     let buckets : u.about.buckets ≡ c.buckets.result =
-    ap (λ (z : Key). z.buckets) c.loop-place.invariant.of.about ∙ sym c.buckets.ensures.value in
+        ap (λ (z : Key). z.buckets) c.loop-place.invariant.of.about ∙ sym c.buckets.ensures.value in
     let hashed : bucket_in (key_hash_of k.id k.value) u.about.buckets ≡ c.bucket_of-bucket.result =
-    (λ i. bucket_in (sym c.key_hash.ensures i) (buckets i)) ∙ sym c.bucket_of-bucket.ensures.value in
+        (λ i. bucket_in (sym c.key_hash.ensures i) (buckets i)) ∙ sym c.bucket_of-bucket.ensures.value in
     let fits = c.bucket_of-bucket.ensures.fits in (
       s.flight,
       writing_links (view c.args.pass.now) f p c.loop-place.place u s k c.bucket_of-bucket.result
@@ -106,10 +106,10 @@ loop-place-preserved c = record {
       let p = parts_at v f c.args.prepared.now can in
       let size = ap length (c.as_slice-key-items.ensures ∙ can.made.1) in
       let less : c.loop-place.place < length p.keys =
-      (let t = c.loop-place-test.true in let e = c.loop-place.auto.place-end in omega arith) in
+          (let t = c.loop-place-test.true in let e = c.loop-place.auto.place-end in omega arith) in
       subst (λ (z : ℕ). IsWriting v f p z (view c.link.new.pass)) (sym (add-one c.loop-place.place))
-      (writing_more v f p c.loop-place.place (view c.loop-place.pass) s (view c.link.new.pass)
-      c.bucket_of-bucket.result less (c.link.ensures.linked s.flight s.filled.flying));
+          (writing_more v f p c.loop-place.place (view c.loop-place.pass) s (view c.link.new.pass)
+          c.bucket_of-bucket.result less (c.link.ensures.linked s.flight s.filled.flying));
 }
 
 pub returns-clause-written : goal.returns-clause-written
@@ -122,6 +122,6 @@ returns-clause-written c f flying =
     let p = parts_at v g c.args.prepared.now can in
     let size = ap length (c.as_slice-key-items.ensures ∙ can.made.1) in
     let all : c.loop-place.place ≡ length p.keys =
-    (let t = c.loop-place-test.false in let e = c.loop-place.auto.place-end in omega arith) in
+        (let t = c.loop-place-test.false in let e = c.loop-place.auto.place-end in omega arith) in
     subst (λ (z : Flight). HasWritten v z (view c.loop-place.pass)) same
-    (writing_done v g p c.loop-place.place (view c.loop-place.pass) s all)
+        (writing_done v g p c.loop-place.place (view c.loop-place.pass) s all)
