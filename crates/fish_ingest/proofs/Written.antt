@@ -1,5 +1,5 @@
 -- A record that was prepared, on its way into the region that was claimed for it.
-use Rattle.std.proofs.Common.{◌≡◌, ℕ, ◌*◌, ◌<◌, suc, List, length, refl, ap, ◌∙◌, subst, arith}
+use Rattle.std.proofs.Common.{◌≡◌, ℕ, ◌*◌, ◌<◌, suc, List, length, refl, sym, ap, ◌∙◌, subst, arith}
 use Rattle.std.proofs.Common.{Some}
 use Rattle.std.specs.List.{slice_get}
 use Rattle.fish_chain.proofs.Laws.{linked_filled, linked_flight}
@@ -8,7 +8,7 @@ use Rattle.fish_chain.specs.Links.{CanLink, IsLinked}
 use Rattle.fish_claim.proofs.Filled.{body_keys}
 use Rattle.fish_claim.specs.Fills.{CanFill, IsFilled, filled_view, with_words}
 use Rattle.fish_ingest.proofs.Stored.{body_fills, numbered, numbered_fills, record_of_body}
-use Rattle.fish_ingest.specs.Writing.{CanWrite, HasWritten}
+use Rattle.fish_ingest.specs.Writing.{CanWrite, HasStored, HasWritten}
 use Rattle.fish_ingest.specs.declared.prepared.Prepared.{Prepared}
 use Rattle.fish_layout.specs.Body.{IsBody, body_lines}
 use Rattle.fish_layout.specs.Cleared.{body_of}
@@ -16,7 +16,9 @@ use Rattle.fish_layout.specs.Hash.{bucket_in, key_hash_of}
 use Rattle.fish_layout.specs.Header.{keys_of}
 use Rattle.fish_layout.specs.declared.parts.BodyParts.{BodyParts}
 use Rattle.fish_layout.specs.declared.parts.KeyPart.{KeyPart}
+use Rattle.fish_rule.proofs.Extending.{learns_both, learns_self}
 use Rattle.fish_rule.specs.Flying.{region_of}
+use Rattle.fish_rule.specs.Logs.{Learns}
 use Rattle.fish_rule.specs.Regions.{IsRecord}
 use Rattle.fish_rule.specs.declared.view.Flight.{Flight}
 use Rattle.fish_rule.specs.declared.view.View.{View}
@@ -60,6 +62,7 @@ pub record HasKept (v u : View) : Type 0 where
   pub out : u.out ≡ v.out
   pub shut : u.shut ≡ v.shut
   pub own : u.own ≡ v.own
+  pub learns : Learns v u
 
 -- the record with these parts is filled in the region of the claim f, and so many of its entries are linked
 pub record IsWriting (v : View) (f : Flight) (p : BodyParts) (linked : ℕ) (u : View) : Type 0 where
@@ -71,6 +74,24 @@ pub record IsWriting (v : View) (f : Flight) (p : BodyParts) (linked : ℕ) (u :
   pub same : body_of flight.words ≡ body_of words
   pub region : region_of flight ≡ region_of f
   pub kept : HasKept v u
+
+-- to store words takes away nothing that was learned
+fill_learns : (v : View) (f : Flight) (words : List ℕ) → Learns v (filled_view v f words)
+fill_learns v f words =
+    let s = learns_self v in
+    record {
+      about = s.about;
+      count = s.count;
+      settled = s.settled;
+      found = s.found;
+      known = s.known;
+      records = s.records;
+      nodes = s.nodes;
+      lows = s.lows;
+      tops = s.tops;
+      gaps = s.gaps;
+      labels = s.labels;
+    }
 
 -- so it is once the words are stored
 pub writing_begins : (v u : View) (f : Flight) (p : BodyParts) (words : List ℕ) → f.linked ≡ 0
@@ -89,6 +110,7 @@ writing_begins v u f p words none is filled made = record {
     out = ap (λ (z : View). z.out) is;
     shut = ap (λ (z : View). z.shut) is;
     own = ap (λ (z : View). z.own) is;
+    learns = subst (Learns v) (sym is) (fill_learns v f words);
   };
 }
 
@@ -133,6 +155,7 @@ module _ (v : View) (f : Flight) (p : BodyParts) (c : ℕ) (u : View) (s : IsWri
           out = ap (λ (z : View). z.out) known ∙ s.kept.out;
           shut = ap (λ (z : View). z.shut) known ∙ s.kept.shut;
           own = ap (λ (z : View). z.own) known ∙ s.kept.own;
+          learns = learns_both v u t s.kept.learns is.changed.learns;
         };
       }
 
@@ -148,4 +171,15 @@ module _ (v : View) (f : Flight) (p : BodyParts) (c : ℕ) (u : View) (s : IsWri
     out = s.kept.out;
     shut = s.kept.shut;
     own = s.kept.own;
+    learns = s.kept.learns;
+  }
+
+  -- and the words are its words
+  pub writing_stored : HasStored p u
+  writing_stored = record {
+    flight = s.flight;
+    flying = s.filled.flying;
+    words = s.words;
+    made = s.made;
+    same = s.same;
   }

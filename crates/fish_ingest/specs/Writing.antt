@@ -3,9 +3,13 @@ use Rattle.std.specs.Prelude.{ℕ, ◌≡◌, ◌*◌, List, [], length, Some}
 use Rattle.fish_ingest.specs.Records.{IsPreparedFor}
 use Rattle.fish_ingest.specs.declared.origin.Origin.{Origin}
 use Rattle.fish_ingest.specs.declared.prepared.Prepared.{Prepared}
+use Rattle.fish_layout.specs.Body.{IsBody}
+use Rattle.fish_layout.specs.Cleared.{body_of}
+use Rattle.fish_layout.specs.declared.parts.BodyParts.{BodyParts}
 use Rattle.fish_psf.specs.declared.key.ActiveDef.{ActiveDef}
 use Rattle.fish_rule.specs.Flying.{region_of}
 use Rattle.fish_rule.specs.Keys.{AreActive}
+use Rattle.fish_rule.specs.Logs.{Learns}
 use Rattle.fish_rule.specs.Steps.{CanPublish, flight_kind}
 use Rattle.fish_rule.specs.declared.view.Flight.{Flight}
 use Rattle.fish_rule.specs.declared.view.Kind.TheVariants.{Stored}
@@ -27,7 +31,20 @@ pub record CanWrite (v : View) (f : Flight) (prepared : Prepared) : Type 0 where
   pub lane_is : origin.lane ≡ v.lane
   pub version_is : origin.version ≡ 0
 
--- the record of the claim f is written with all its entries linked, and else the pass is as it was
+-- the parts of the record that was prepared, with the number of the claim
+abbrev pub claimed_parts : (v : View) (f : Flight) (prepared : Prepared) → CanWrite v f prepared → BodyParts
+claimed_parts v f prepared can = record can.made.0.0 { number = f.number }
+
+-- the words of the record in flight are those of these parts, but for the links
+pub record HasStored (p : BodyParts) (u : View) : Type 0 where
+  pub flight : Flight
+  pub flying : u.flight ≡ Some flight
+  pub words : List ℕ
+  pub made : IsBody p words
+  pub same : body_of flight.words ≡ body_of words
+
+-- the record of the claim f is written with all its entries linked, and else the pass is as it was, but for what it
+-- learned since
 pub record HasWritten (v : View) (f : Flight) (u : View) : Type 0 where
   pub flight : Flight
   pub ready : CanPublish u flight
@@ -38,3 +55,4 @@ pub record HasWritten (v : View) (f : Flight) (u : View) : Type 0 where
   pub out : u.out ≡ v.out
   pub shut : u.shut ≡ v.shut
   pub own : u.own ≡ v.own
+  pub learns : Learns v u

@@ -1,7 +1,7 @@
 //! The words of a record into the region that was claimed for it, and its entries into their chains.
 
 ghost use Rattle.std.specs.Prelude.{◌≡◌, Some};
-ghost use Rattle.fish_ingest.specs.Writing.{CanWrite, HasWritten};
+ghost use Rattle.fish_ingest.specs.Writing.{CanWrite, HasStored, HasWritten, claimed_parts};
 ghost use Rattle.fish_rule.specs.Passes.{IsPassOf, view};
 ghost use Rattle.fish_rule.specs.declared.view.Flight.{Flight};
 
@@ -18,6 +18,8 @@ pub fn write_record(log: &Log, pass: &mut Pass, prepared: &mut Prepared)
     requires can { (f : Flight) × CanWrite (view pass.old) f prepared.old }
     ensures pass { IsPassOf log.now pass.new }
     ensures written { (f : Flight) → (view pass.old).flight ≡ Some f → HasWritten (view pass.old) f (view pass.new) }
+    ensures stored { (f : Flight) → (can : CanWrite (view pass.old) f prepared.old)
+        → HasStored (claimed_parts (view pass.old) f prepared.old can) (view pass.new) }
 {
     let Some(region) = in_flight(pass) else {
         unreachable!()

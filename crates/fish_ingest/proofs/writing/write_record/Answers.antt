@@ -7,6 +7,7 @@ use Rattle.fish_claim.proofs.Fills.{in_region}
 use Rattle.fish_claim.specs.Fills.{CanFill}
 use Rattle.fish_ingest.proofs.Stored.{numbered}
 use Rattle.fish_ingest.proofs.Written.{IsWriting, can_fill, parts_at, writing_done, writing_links, writing_more}
+use Rattle.fish_ingest.proofs.Written.{writing_stored}
 use Rattle.fish_ingest.specs.Writing.{HasWritten}
 use Rattle.fish_layout.proofs.Sizes.{few_keys_of}
 use Rattle.fish_layout.specs.Body.{IsBody}
@@ -127,3 +128,10 @@ returns-clause-written c f flying =
     (let t = c.loop-place-test.false in let e = c.loop-place.auto.place-end in omega arith) in
     subst (λ (z : Flight). HasWritten v z (view c.loop-place.pass)) same
     (writing_done v g p c.loop-place.place (view c.loop-place.pass) s all)
+
+-- its words are those of the record that was prepared
+pub returns-clause-stored : goal.returns-clause-stored
+returns-clause-stored c f can =
+    let v = view c.args.pass.now in
+    let p = parts_at v f c.args.prepared.now can in
+    writing_stored v f p c.loop-place.place (view c.loop-place.pass) (c.loop-place.invariant.writing f can)
