@@ -1,2 +1,4 @@
 pub mod Canonical
+pub mod Listing
 pub mod Rows
+pub mod Words

@@ -4,10 +4,12 @@
 
 mod catalog;
 mod entry;
+mod listed;
 mod row;
 #[cfg(test)]
 mod tests;
 
 pub use catalog::{CatRefusal, Catalog, MAX_ACTIVE, MAX_ROWS};
 pub use entry::{Entries, Entry};
+pub use listed::Listed;
 pub use row::{CatRow, MAX_NAME};
