@@ -1,5 +1,5 @@
 -- A store of the first word of the own entry that is next to be linked.
-use Rattle.std.proofs.Common.{◌≡◌, ℕ, ◌+◌, ◌-◌, ◌*◌, ◌%◌, ◌<◌, ◌≤◌, length, set, sym, refl, ap, ◌∙◌, subst}
+use Rattle.std.proofs.Common.{◌≡◌, ℕ, ◌+◌, ◌-◌, ◌*◌, ◌%◌, ◌<◌, ◌≤◌, length, get_or, set, sym, refl, ap, ◌∙◌, subst}
 use Rattle.std.proofs.Common.{arith, get_or-set_other, get_or-set_same, length-set}
 use mathlib.Core.Option.{none, some}
 use Rattle.std.proofs.Math.ListN.{get_elem?}
@@ -15,7 +15,9 @@ use Rattle.fish_rule.proofs.Bounds.{starts_above}
 use Rattle.fish_rule.proofs.Flights.{one_flight}
 use Rattle.fish_rule.proofs.OwnWords.{Becomes, flight_is, write_kept, write_lasts}
 use Rattle.fish_rule.proofs.Worlds.{world-log}
-use Rattle.fish_rule.specs.Linking.{CanAim, after_aim, own_place}
+use Rattle.fish_rule.specs.Linking.{CanAim, IsFilled, after_aim, own_place}
+use Rattle.fish_rule.specs.Regions.{IsRecord}
+use Rattle.fish_layout.proofs.Clearing.{cleared_head, cleared_same}
 use Rattle.fish_rule.specs.Told.{told_aim}
 use Rattle.fish_rule.specs.Parts.{InFlight}
 use Rattle.fish_rule.specs.Rule.{Final, Rule}
@@ -26,6 +28,10 @@ use Rattle.fish_rule.specs.declared.view.Flight.{Flight}
 use Rattle.fish_rule.specs.declared.view.Key.{Key}
 use Rattle.fish_rule.specs.declared.view.Kind.TheVariants.{Mark, Stored}
 use Rattle.fish_rule.specs.declared.view.View.{View}
+
+-- words that are filled are those of a record
+pub filled_record : (v : View) (f : Flight) → IsFilled v f → IsRecord v.lane f.number f.lines (body_of f.words)
+filled_record v f h = (h.keyed.0, h.keyed.1.record_of)
 
 module _ (k : Key) (w : World) (r : Rule k w) (id : ℕ) (v : View) (at : get_elem? w.views id ≡ some v)
     (f : Flight) (can : CanAim v f) where
@@ -39,13 +45,13 @@ module _ (k : Key) (w : World) (r : Rule k w) (id : ℕ) (v : View) (at : get_el
 
   -- the record in flight stands in the log
   pub own_body : body w.log f.line ≡ body_of f.words
-  own_body = body_stored v.about w.log f.words v.lane f.number f.lines f.line f.linked can.record_of can.full lines_some
+  own_body = body_stored w.log f.words v.lane f.number f.lines f.line f.linked (filled_record v f can.filled) can.full lines_some
       (let m = can.more in omega arith) own.written
 
   -- the entry is within the region
   pub own_room : entry_at f.linked < f.lines * 4
   own_room =
-      let p = can.record_of in
+      let p = filled_record v f can.filled in
       let keys : keys_of (body_of f.words 0) ≡ length p.0.keys = spelled_keys p.1.spells in
       let lines = p.1.lines_is in
       let room : 1 + 3 * length p.0.keys ≤ body_lines p.0 * 4 = roomy p.0 in
@@ -61,6 +67,15 @@ module _ (k : Key) (w : World) (r : Rule k w) (id : ℕ) (v : View) (at : get_el
       (omega arith, ap (λ (z : ℕ). z % 3) e ∙ mod-mul-add f.linked 3 1 (omega arith))
 
   module _ (x : ℕ) where
+    -- it stands for no body's word
+    aimed_body : body_of (set f.words (entry_at f.linked) x) ≡ body_of f.words
+    aimed_body =
+        let head : body w.log f.line 0 ≡ get_or f.words 0 0 =
+        ap (λ (z : ℕ → ℕ). z 0) own_body ∙ cleared_head (λ i. get_or f.words i 0) in
+        cleared_same (λ i. get_or f.words i 0) (λ i. get_or (set f.words (entry_at f.linked) x) i 0) (λ i within plain.
+        get_or-set_other f.words (entry_at f.linked) i x 0
+        (λ e. plain (subst (λ (z : ℕ × ℕ). IsKeyWord (keys_of z.0) z.1) (λ j. (head j, sym e j)) own_key)))
+
     -- one word is another
     pub becomes : Becomes (f.lines * 4) f.linked (entry_at f.linked) x
         (IsKeyWord (keys_of (body w.log f.line 0)) (entry_at f.linked)) f.words (set f.words (entry_at f.linked) x)
@@ -77,7 +92,7 @@ module _ (k : Key) (w : World) (r : Rule k w) (id : ℕ) (v : View) (at : get_el
           here = omega arith;
           value = get_or-set_same f.words (entry_at f.linked) x 0 (omega arith);
           same = λ i ne less. (omega arith, get_or-set_other f.words (entry_at f.linked) i x 0 ne);
-          linking = λ some_. (own_key, same_length);
+          linking = λ some_. (own_key, same_length, aimed_body);
         }
 
     -- the world afterwards

@@ -19,11 +19,11 @@ use Rattle.fish_rule.proofs.Room.{few_lines, few_numbers, few_slots}
 use Rattle.fish_rule.proofs.Worlds.{area-in, world-dir, world-log, world-tail}
 use Rattle.fish_rule.specs.Regions.{dir_word, kind_of}
 use Rattle.fish_rule.specs.Rule.{Rule}
-use Rattle.fish_rule.specs.Steps.{CanClaim, CanPublish, CanStore, IsReady, after_claim, after_publish}
+use Rattle.fish_rule.specs.Steps.{CanClaim, CanPublish, CanStore, after_claim, after_publish}
 use Rattle.fish_rule.specs.Steps.{after_store, flight_kind}
 use Rattle.fish_rule.specs.Reading.{CanLook, after_end, after_look}
 use Rattle.fish_rule.specs.Table.{Ruled, Sat, Stands, Told}
-use Rattle.fish_rule.specs.Told.{ToldEnd, ToldLook, number_at, told_claim, told_publish, told_store}
+use Rattle.fish_rule.specs.Told.{ToldClaim, ToldEnd, ToldLook, number_at, told_publish, told_store}
 use Rattle.fish_rule.specs.World.{World, dir_at, high, log_at, low, put, slots, total, world}
 use Rattle.fish_rule.specs.declared.view.Flight.{Flight}
 use Rattle.fish_rule.specs.declared.view.Key.{Key}
@@ -70,9 +70,9 @@ loaded_words k ws vs i r = subst (λ (z : List ℕ). Rule k (world k z vs)) (sym
 -- a fetch-and-add of one number and so many lines
 pub claim_allowed : (given k : Key) → given ≡ k → (size id : ℕ) (me : Sat) (x m : ℕ) → me.0.about ≡ k
     → CanClaim me.0 → 0 < m → m ≤ 18625 → x ≡ 68719476736 + m
-    → Allows (Ruled given) size id me 0 (λ n. (n + x) % 2 ^ 64) (told_claim (step size 0 x 0 none) me)
+    → Allows (Ruled given) size id me 0 (λ n. (n + x) % 2 ^ 64) (ToldClaim (step size 0 x 0 none) me)
 claim_allowed given k same size id me x m about can some_lines few is =
-    allowed given k same size id me 0 (λ n. (n + x) % 2 ^ 64) (told_claim (step size 0 x 0 none) me) (λ ws vs wide r at.
+    allowed given k same size id me 0 (λ n. (n + x) % 2 ^ 64) (ToldClaim (step size 0 x 0 none) me) (λ ws vs wide r at.
     let w : World = world k ws vs in
     let found : ℕ = get_or ws 0 0 in
     let room = few_lines k w r in
@@ -96,10 +96,15 @@ claim_allowed given k same size id me x m about can some_lines few is =
       v',
       subst (Rule k) (sym moved) kept,
       record {
-        view = ap (λ (z : ℕ). after_claim me.0 z w.count w.line) (sym lines);
-        held = refl;
-        stands = subst (λ (z : ℕ). Stands (after_claim me.0 z w.count w.line)) (sym lines)
-            (stands k _ id v' kept about (there vs id me.0 v' at));
+        told = record {
+          view = ap (λ (z : ℕ). after_claim me.0 z w.count w.line) (sym lines);
+          held = refl;
+          stands = subst (λ (z : ℕ). Stands (after_claim me.0 z w.count w.line)) (sym lines)
+              (stands k _ id v' kept about (there vs id me.0 v' at));
+        };
+        counted = (r.facts id me.0 at).counted;
+        within = subst (λ (z : Key). w.count < z.number + slots z) (sym about)
+            (let s = few_slots k _ kept in omega arith);
       },
     ))
 
@@ -151,9 +156,8 @@ publish_allowed given k same size id me f i x about can is word =
     let room = few_slots k w r in
     let ends : kind_of k.end f.line (f.line + f.lines) ≡ flight_kind me.0 f =
     ap (λ (z : Key). kind_of z.end f.line (f.line + f.lines)) (sym about) in
-    let ready : IsReady k (flight_kind me.0 f) me.0.lane f =
-    subst (λ (z : Key). IsReady z (flight_kind me.0 f) me.0.lane f) about can.ready in
-    let kept' = publish_kept k w r id me.0 at f can.live can.flying (flight_kind me.0 f) ends ready in
+    let kept' = publish_kept k w r id me.0 at f can.live can.flying (flight_kind me.0 f) ends can.version can.entered
+    can.ready in
     let kept : Rule k (record w { dir = put w.dir f.number x; views = set vs id v' }) =
     subst (λ (z : ℕ × Key). Rule k (record w {
       dir = put w.dir f.number z.0;

@@ -1,6 +1,6 @@
 -- The rule holds of an empty log with one pass.
-use Rattle.std.proofs.Common.{◌≡◌, ℕ, ◌+◌, ◌-◌, ◌*◌, ◌<◌, ◌≤◌, zero, suc, List, [], ◌∷◌, slice_index, sym}
-use Rattle.std.proofs.Common.{refl, ap, ◌∙◌, subst, inl, ⊎_elim, arith}
+use Rattle.std.proofs.Common.{◌≡◌, ℕ, ◌+◌, ◌-◌, ◌*◌, ◌<◌, ◌≤◌, zero, suc, List, [], ◌∷◌, length, map, slice_index, sym}
+use Rattle.std.proofs.Common.{refl, ap, ◌∙◌, subst, inl, inr, ⊎_elim, arith}
 use Rattle.std.proofs.Math.Decide.{dec_le}
 use Rattle.std.proofs.Math.ListN.{get_elem?}
 use mathlib.Core.Option.{some, some-injective, some-ne-none}
@@ -13,15 +13,23 @@ use Rattle.fish_rule.specs.declared.view.Kind.TheVariants.{Stored}
 use Rattle.fish_rule.specs.Parts.{Fits, Flies, Limit, Regions, Rests, Space, quotas}
 use Rattle.fish_rule.specs.Facts.{Facts, Owns, ShutOk}
 use Rattle.fish_rule.specs.Rule.{Rule}
-use Rattle.fish_rule.specs.Start.{IsEmpty, empty_world}
+use Rattle.fish_rule.specs.Start.{IsEmpty, IsOpening, empty_world}
 use Rattle.fish_rule.specs.Table.{Ruled, Stands, first_view}
 use Rattle.fish_rule.specs.Views.{Each}
-use Rattle.fish_rule.specs.World.{World, area, dir_at, heads_at, high, log_at, log_size, low, slots, world}
+use Rattle.fish_rule.specs.World.{World, area, dir_at, heads_at, high, log_at, log_size, low, registry_size, slots, world}
 use Rattle.fish_rule.specs.declared.view.Key.{Key}
 use Rattle.fish_rule.specs.declared.view.View.{View}
+use Rattle.std.proofs.lemmas.List.{length-map}
+use Rattle.fish_catalog.proofs.Listings.{listing_of_catalog}
+use Rattle.fish_catalog.specs.Listing.{IsListing, listed_of}
+use Rattle.fish_catalog.specs.declared.listed.Listed.{Listed}
+use Rattle.fish_rule.specs.Epochs.{Carries, IsUnmade, Registry, Stays, Versions}
+use Rattle.fish_rule.specs.Registry.{definitions_at, version_in}
+use Rattle.fish_rule.specs.declared.view.Epoch.{Epoch}
+use Rattle.fish_rule.specs.declared.view.Epoch.TheVariants.{Out}
 
--- where all words behind the first are 0, so is an area of them
-area-zero : (ws : List ℕ) (at base size : ℕ) → 0 < at → ((i : ℕ) → 0 < i → slice_index ws i ≡ 0) → (n : ℕ)
+-- where all words from the heads on are 0, so is an area of them
+area-zero : (ws : List ℕ) (at base size : ℕ) → heads_at ≤ at → ((i : ℕ) → heads_at ≤ i → slice_index ws i ≡ 0) → (n : ℕ)
     → area ws at base size n ≡ 0
 unfolding area
 area-zero ws at base size behind zeros n = by (dec_le base n) (dec_le (suc n) (base + size))
@@ -64,21 +72,22 @@ module _ (k : Key) (ws : List ℕ) (fits : Fits k) (empty : IsEmpty k ws) where
   log_zero p = area-zero ws (log_at k) (k.line * 4) (log_size k) (omega arith) empty.zeros p
 
   -- the words spell the empty world
-  pub empty_words : world k ws (first_view k ∷ []) ≡ empty_world k
+  pub empty_words : world k ws (first_view k ∷ []) ≡ empty_world k (area ws 2 2 registry_size)
   empty_words = λ j. record {
     count = count_is j;
     line = line_is j;
-    settled = empty.zeros 1 (omega arith) j;
+    settled = empty.settled j;
+    registry = area ws 2 2 registry_size;
     head = λ b. area-zero ws heads_at 0 k.buckets (omega arith) empty.zeros b j;
     dir = λ n. dir_zero n j;
     log = λ p. log_zero p j;
     views = first_view k ∷ [];
   }
 
-module _ (k : Key) (fits : Fits k) where
+module _ (k : Key) (g : ℕ → ℕ) (fits : Fits k) (opening_ : IsOpening k.rows.value g) where
   -- the world at the start
   abbrev w : World
-  w = empty_world k
+  w = empty_world k g
 
   -- no number is claimed
   none : (n : ℕ) → k.number ≤ n → n < k.number → ⊥
@@ -138,12 +147,63 @@ module _ (k : Key) (fits : Fits k) where
       (λ (l : IsLinking h.line h.entry w.views). subst (λ (z : View). LinksAt h.line h.entry z.flight)
       (sym (at_one (first_view k) l.view l.seat l.at).1) l.links) h.shows
 
+  -- every record would be of version 0
+  abbrev version_of : ℕ → ℕ
+  version_of _ = 0
+
+  -- every lane is out
+  abbrev state : ℕ → Epoch
+  state _ = Out
+
+  -- the definitions are those of the start
+  began : definitions_at k.rows.value g (version_in g) ≡ map listed_of k.rows.value
+  began = ap (definitions_at k.rows.value g) opening_.version
+
+  versions : Versions k k.number g version_of
+  versions = record {
+    few = (let z = opening_.version in omega arith);
+    upto = λ n above below. absurd (none n above below);
+    listings = λ v reached. (let z = opening_.version in let e : v ≡ 0 = omega arith in
+        subst (λ (u : ℕ). IsListing (definitions_at k.rows.value g u)) (sym e)
+        (listing_of_catalog k.rows.value opening_.catalog));
+    operations = λ v less. (let z = opening_.version in absurd (omega arith));
+    opened = opening_.opened;
+    rows = λ id row there. let h = opening_.words id row there in
+        (h.0, λ i above below. h.1 i below);
+  }
+
+  -- no word of an operation or a row that is still to come is set
+  unmade_zero : (p : ℕ) → IsUnmade k.rows.value g p → g p ≡ 0
+  unmade_zero p (inl h) = (let z = opening_.version in let a = h.1 in
+      ap g h.3 ∙ opening_.operations h.0 (omega arith) h.2)
+  unmade_zero p (inr h) =
+      let all : length (definitions_at k.rows.value g (version_in g)) ≡ length k.rows.value =
+      ap (λ (z : List Listed). length z) began ∙ length-map k.rows.value listed_of in
+      let a = h.2 in
+      ap g h.5 ∙ opening_.rest h.0 h.1 (omega arith) h.3 h.4
+
+  registry : Registry k k.number g state version_of w.views
+  registry = record {
+    epochs = record { words = λ l above below. opening_.out l above below; past = λ l above below. tt };
+    versions = versions;
+    each = each_one (λ v. Stays k g state v.lane v.out v.epoch v.learned.version v.learned.words v.rows v.draft)
+        (first_view k) (record {
+          tied = λ l has. ((λ _. refl), (λ _. refl));
+          reached = omega arith;
+          read = tt;
+          main = λ _. record { version = sym opening_.version; definitions = began; unmade = unmade_zero };
+        });
+    flights = each_one (λ v. Carries k g version_of v.lane v.epoch v.flight) (first_view k) tt;
+  }
+
   -- the rule holds
   pub empty_rule : Rule k w
   empty_rule = record {
     start = start;
     lane_of = lane_of;
+    version_of = version_of;
     quota = quota;
+    state = state;
     key_fits = fits;
     about = each_one (λ v. 1 ≤ v.lane → v.about ≡ k) (first_view k) (λ _. refl);
     seats = record {
@@ -176,6 +236,8 @@ module _ (k : Key) (fits : Fits k) where
           gaps = tt;
           labels = tt;
         });
+    registry = registry;
+    keyed = record { each = λ n above below stored. absurd (none n above below) };
     shuts = each_one (λ v. ShutOk k w.count w.dir start v.shut) (first_view k) tt;
   }
 
@@ -183,9 +245,15 @@ module _ (k : Key) (fits : Fits k) where
 pub begins : (k : Key) → Fits k → (ws : List ℕ) → IsEmpty k ws → Ruled k (opening ws [] (first_view k))
 begins k fits ws empty = record {
   wide = empty.wide;
-  rule = subst (Rule k) (sym (empty_words k ws fits empty)) (empty_rule k fits);
+  rule = subst (Rule k) (sym (empty_words k ws fits empty))
+      (empty_rule k (area ws 2 2 registry_size) fits empty.registry);
 }
 
 -- the first pass's view stands
 pub first_stands : (k : Key) → Fits k → (ws : List ℕ) → IsEmpty k ws → Stands (first_view k)
-first_stands k fits ws empty = record { moment = empty_world k; rule = empty_rule k fits; seat = 0; at = refl }
+first_stands k fits ws empty = record {
+  moment = empty_world k (area ws 2 2 registry_size);
+  rule = empty_rule k (area ws 2 2 registry_size) fits empty.registry;
+  seat = 0;
+  at = refl;
+}

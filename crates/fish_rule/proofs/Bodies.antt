@@ -105,12 +105,12 @@ body_same log log' a lines some lined same =
     cleared_same (λ i. log (a * 4 + i)) (λ i. log' (a * 4 + i)) (λ i within plain. same i (omega arith))
 
 -- a region whose words were all stored has the body of these words, however many of its entries are linked
-pub body_stored : (k : Key) (log : ℕ → ℕ) (words : List ℕ) (lane number lines line linked : ℕ)
-    → IsRecord k lane number lines (body_of words) → length words ≡ lines * 4 → 1 ≤ lines
+pub body_stored : (log : ℕ → ℕ) (words : List ℕ) (lane number lines line linked : ℕ)
+    → IsRecord lane number lines (body_of words) → length words ≡ lines * 4 → 1 ≤ lines
     → linked ≤ keys_of (body_of words 0)
     → ((i : ℕ) → i < length words → ¬ IsLinkedWord linked i → log (line * 4 + i) ≡ get_or words i 0)
     → body log line ≡ body_of words
-body_stored k log words lane number lines line linked is full some few written =
+body_stored log words lane number lines line linked is full some few written =
     let f : ℕ → ℕ = λ i. get_or words i 0 in
     let head : body_of words 0 ≡ f 0 = cleared_head f in
     let lined : lines_of (f 0) ≡ lines = ap lines_of (sym head) ∙ spelled_lines is.1.spells ∙ is.1.lines_is in

@@ -8,22 +8,30 @@ use Rattle.std.proofs.Math.ListN.{get_elem?}
 use Rattle.atomic_table.proofs.Lists.{set_here}
 use Rattle.fish_rule.proofs.Common.{each_set, has_own, no_flight, only_main, pairs_set, seats_kept, within_list}
 use Rattle.fish_rule.proofs.Frames.{flight_there}
-use Rattle.fish_rule.proofs.Kept.{chained_later, facts_later, finished_later, flight_later, owns_later}
+use Rattle.fish_rule.proofs.Kept.{chained_later, facts_later, finished_later, flight_later, keyed_kept, owns_later}
 use Rattle.fish_rule.proofs.Kept.{published, shut_later}
 use Rattle.fish_rule.proofs.Links.{chains_set, links_set}
 use Rattle.fish_rule.proofs.Quotas.{quotas_lower}
 use Rattle.fish_rule.proofs.Worlds.{put-else, put-here}
-use Rattle.fish_rule.specs.Chains.{LinksAt}
+use Rattle.fish_rule.specs.Chains.{Chained, LinksAt}
 use Rattle.fish_rule.specs.Parts.{Flies, InFlight, Limit, MayOverflow, Regions, Space, quotas}
-use Rattle.fish_rule.specs.Facts.{IsStoredBy}
+use Rattle.fish_rule.specs.Facts.{Facts, IsStoredBy}
 use Rattle.fish_rule.specs.Rule.{Final, Rule}
 use Rattle.fish_rule.specs.Steps.{CanClaim, after_claim, flight_at}
 use Rattle.fish_rule.specs.Views.{Has, HasFlight, IsFlightOf, IsOver}
-use Rattle.fish_rule.specs.World.{World, put}
+use Rattle.fish_rule.specs.World.{World, high, put}
 use Rattle.fish_rule.specs.declared.view.Flight.{Flight}
 use Rattle.fish_rule.specs.declared.view.Key.{Key}
 use Rattle.fish_rule.specs.declared.view.Kind.TheVariants.{Stored}
 use Rattle.fish_rule.specs.declared.view.View.{View}
+use Rattle.fish_rule.proofs.Registers.{endures_same}
+use Rattle.fish_layout.specs.Cleared.{body_of}
+use Rattle.fish_rule.specs.Epochs.{Carries, IsAtMost, Registry, Versions}
+use Rattle.fish_rule.specs.Keys.{IsKeyed}
+use Rattle.fish_rule.specs.Regions.{code}
+use Rattle.fish_rule.specs.Registry.{AreActiveAt, version_in}
+use Rattle.fish_rule.specs.declared.view.Epoch.{Epoch}
+use Rattle.fish_rule.specs.declared.view.Epoch.TheVariants.{Confirmed}
 
 module _ (k : Key) (w : World) (r : Rule k w) (id : ℕ) (v : View) (at : get_elem? w.views id ≡ some v) (m : ℕ)
     (can : CanClaim v) (some_lines : 0 < m) (few_lines : m ≤ 18625) where
@@ -43,6 +51,10 @@ module _ (k : Key) (w : World) (r : Rule k w) (id : ℕ) (v : View) (at : get_el
   abbrev lane_of' : ℕ → ℕ
   lane_of' = put r.lane_of w.count v.lane
 
+  -- and is of the version at which the pass is entered
+  abbrev version_of' : ℕ → ℕ
+  version_of' = put r.version_of w.count can.version
+
   -- up to the old count nothing moves
   old_start : (n : ℕ) → n ≤ w.count → start' n ≡ r.start n
   old_start n h = put-else r.start (suc w.count) (w.line + m) n (λ e. omega arith)
@@ -56,6 +68,9 @@ module _ (k : Key) (w : World) (r : Rule k w) (id : ℕ) (v : View) (at : get_el
   old_lane : (n : ℕ) → n < w.count → lane_of' n ≡ r.lane_of n
   old_lane n h = put-else r.lane_of w.count v.lane n (λ e. omega arith)
 
+  old_version : (n : ℕ) → n < w.count → version_of' n ≡ r.version_of n
+  old_version n h = put-else r.version_of w.count can.version n (λ e. omega arith)
+
   -- no entry was linked
   none_linked : (a c : ℕ) → LinksAt a c v.flight → LinksAt a c claimer.flight
   none_linked a c h = absurd (subst (LinksAt a c) can.idle h)
@@ -66,6 +81,7 @@ module _ (k : Key) (w : World) (r : Rule k w) (id : ℕ) (v : View) (at : get_el
     counts = omega arith;
     lines = omega arith;
     settles = omega arith;
+    registered = endures_same k.rows.value w.registry;
     heads = λ b. omega arith;
     links = links_set k w r id v claimer at none_linked;
     rises = λ b p h. omega arith;
@@ -229,6 +245,88 @@ module _ (k : Key) (w : World) (r : Rule k w) (id : ℕ) (v : View) (at : get_el
       pick (yes less) = (less, set_)
       pick (no more) = absurd (set_ (r.space.dir_beyond n (omega arith)))
 
+  -- the same of any
+  keyed_old : (n : ℕ) → high (w.dir n) ≡ code Stored → (n < w.count) × (w.dir n ≢ 0)
+  keyed_old n stored = pick (dec_lt n w.count)
+    where
+      set_ : w.dir n ≢ 0
+      set_ = published (w.dir n) Stored stored
+
+      pick : Dec (n < w.count) → (n < w.count) × (w.dir n ≢ 0)
+      pick (yes less) = (less, set_)
+      pick (no more) = absurd (set_ (r.space.dir_beyond n (omega arith)))
+
+  -- the version is one that the registry has reached
+  version_reached : can.version ≤ version_in w.registry
+  version_reached =
+      let has = has_own w.views id v at can.live r.seats in
+      let state : r.state v.lane ≡ v.epoch = ((r.registry.each id v at).tied v.lane has).0 refl in
+      subst (IsAtMost (version_in w.registry)) (state ∙ can.entered)
+      (r.registry.epochs.past v.lane has.0 has.1)
+
+  versions : Versions k (suc w.count) w.registry version_of'
+  versions =
+      let h = r.registry.versions in
+      record {
+        few = h.few;
+        upto = λ n above below. pick n above below (ℕ_discrete n w.count);
+        listings = h.listings;
+        operations = h.operations;
+        opened = h.opened;
+        rows = h.rows;
+      }
+    where
+      pick : (n : ℕ) → k.number ≤ n → n < suc w.count → Dec (n ≡ w.count) → version_of' n ≤ version_in w.registry
+      pick n above below (yes e) = subst (λ (z : ℕ). z ≤ version_in w.registry)
+          (sym (ap version_of' e ∙ put-here r.version_of w.count can.version)) version_reached
+      pick n above below (no ne) = (let less : n < w.count = omega arith in
+          subst (λ (z : ℕ). z ≤ version_in w.registry) (sym (old_version n less))
+          (r.registry.versions.upto n above less))
+
+  -- the records in flight keep their versions
+  others_carry : (lane : ℕ) (epoch : Epoch) (o : Option Flight)
+      → Flies k w.count w.dir w.log r.start r.lane_of lane o → Carries k w.registry r.version_of lane epoch o
+      → Carries k w.registry version_of' lane epoch o
+  others_carry lane epoch None flies h = h
+  others_carry lane epoch (Some g) flies h =
+      let e : version_of' g.number ≡ r.version_of g.number = old_version g.number flies.below in
+      record {
+        entered = h.entered ∙ ap Confirmed (sym e);
+        keyed = λ some_. subst (λ (z : ℕ). IsKeyed (AreActiveAt k.rows.value w.registry) z lane g.number g.lines
+            (body_of g.words)) (sym e) (h.keyed some_);
+      }
+
+  registry : Registry k (suc w.count) w.registry r.state version_of' (set w.views id claimer)
+  registry = record {
+    epochs = r.registry.epochs;
+    versions = versions;
+    each = each_set _ w.views id claimer (λ j u ne at_u. r.registry.each j u at_u) (r.registry.each id v at);
+    flights = each_set _ w.views id claimer
+        (λ j u ne at_u. others_carry u.lane u.epoch u.flight (r.space.flights j u at_u) (r.registry.flights j u at_u))
+        (record {
+          entered = can.entered ∙ ap Confirmed (sym (put-here r.version_of w.count can.version));
+          keyed = λ some_. absurd (omega arith);
+        });
+  }
+
+  -- what the pass has learned
+  claim_facts : Facts k (suc w.count) w.dir w.log start' claimer.learned
+  claim_facts =
+      let h = facts_later k w claimed r.start start' r.lane_of lane_of' claim_final v.learned (r.facts id v at) in
+      record {
+        counted = omega arith;
+        found = h.found;
+        known = h.known;
+        records = h.records;
+        gaps = h.gaps;
+        labels = h.labels;
+      }
+
+  claim_chained : Chained k w.dir w.log (set w.views id claimer) w.head claimer.learned
+  claim_chained =
+      let h = chained_later k w claimed r.start start' r.lane_of lane_of' claim_final v.learned (r.chained id v at) in
+      record { nodes = h.nodes; lows = h.lows; tops = h.tops }
+
   -- a claim keeps the rule
   pub claim_kept : Rule k claimed
   claim_kept =
@@ -236,7 +334,9 @@ module _ (k : Key) (w : World) (r : Rule k w) (id : ℕ) (v : View) (at : get_el
       record {
         start = start';
         lane_of = lane_of';
+        version_of = version_of';
         quota = lim.0;
+        state = r.state;
         key_fits = r.key_fits;
         about = each_set _ w.views id claimer (λ j u ne at_u. r.about j u at_u) (r.about id v at);
         seats = seats_kept w.views id v claimer at refl refl r.seats;
@@ -249,7 +349,7 @@ module _ (k : Key) (w : World) (r : Rule k w) (id : ℕ) (v : View) (at : get_el
         chained = each_set _ w.views id claimer
             (λ j u ne at_u. chained_later k w claimed r.start start' r.lane_of lane_of' claim_final u.learned
             (r.chained j u at_u))
-            (chained_later k w claimed r.start start' r.lane_of lane_of' claim_final v.learned (r.chained id v at));
+            claim_chained;
         floors = each_set _ w.views id claimer (λ j u ne at_u. r.floors j u at_u) (r.floors id v at);
         chains = chains_set k w r id v claimer at none_linked (λ a c h. let less : c < 0 = h.0 in absurd (omega arith));
         own = each_set _ w.views id claimer
@@ -260,7 +360,10 @@ module _ (k : Key) (w : World) (r : Rule k w) (id : ℕ) (v : View) (at : get_el
         facts = each_set _ w.views id claimer
             (λ j u ne at_u. facts_later k w claimed r.start start' r.lane_of lane_of' claim_final u.learned
             (r.facts j u at_u))
-            (facts_later k w claimed r.start start' r.lane_of lane_of' claim_final v.learned (r.facts id v at));
+            claim_facts;
+        registry = registry;
+        keyed = keyed_kept k w claimed r.start start' r.lane_of lane_of' claim_final r.version_of version_of'
+            old_version r.keyed (λ n below stored. keyed_old n stored);
         shuts = each_set _ w.views id claimer
             (λ j u ne at_u. shut_later k w claimed r.start start' r.lane_of lane_of' claim_final u.shut
             (r.shuts j u at_u))

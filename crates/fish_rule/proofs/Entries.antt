@@ -67,20 +67,20 @@ module _ (v : View) (w : World) (r : Rule v.about w) (j : ℕ) (at : get_elem? w
       (subst (λ (z : ℕ). ¬ IsKeyWord (keys_of z) i) same plain)) ∙ stands_there i (omega arith) plain)
 
   -- the record there
-  holds_record : (k : Key) (kind : Kind) (lane n lines : ℕ) (e : ℕ → ℕ) → kind ≡ Stored → Holds k kind lane n lines e
-      → IsRecord k lane n lines e
-  holds_record k Stored lane n lines e q h = h
-  holds_record k Void lane n lines e q h = cc
-  holds_record k Mark lane n lines e q h = cc
+  holds_record : (kind : Kind) (lane n lines : ℕ) (e : ℕ → ℕ) → kind ≡ Stored → Holds kind lane n lines e
+      → IsRecord lane n lines e
+  holds_record Stored lane n lines e q h = h
+  holds_record Void lane n lines e q h = cc
+  holds_record Mark lane n lines e q h = cc
 
-  pub record_there : IsRecord v.about (r.lane_of f.number) f.number f.lines (body_of words)
+  pub record_there : IsRecord (r.lane_of f.number) f.number f.lines (body_of words)
   record_there =
       let t = region_found v.about w r f found in
       let line = found.line in
       let lines = found.lines in
       let size : r.start (suc f.number) - r.start f.number ≡ f.lines = omega arith in
-      subst (λ (z : ℕ × (ℕ → ℕ)). IsRecord v.about (r.lane_of f.number) f.number z.0 z.1) (λ i. (size i, body_read i))
-      (holds_record _ _ _ f.number _ _ (t.1 ∙ is) t.0.holds)
+      subst (λ (z : ℕ × (ℕ → ℕ)). IsRecord (r.lane_of f.number) f.number z.0 z.1) (λ i. (size i, body_read i))
+      (holds_record _ _ f.number _ _ (t.1 ∙ is) t.0.holds)
 
   -- the words are those of a record with the same parts but for the previous nodes
   pub body_there : (q : BodyParts) × IsBody q words × (unlinked q ≡ record_there.0)

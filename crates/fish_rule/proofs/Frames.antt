@@ -8,6 +8,9 @@ use Rattle.fish_rule.proofs.Common.{each_set, pairs_set, within_list}
 use Rattle.fish_rule.specs.Parts.{MayOverflow}
 use Rattle.fish_rule.specs.Views.{Each, Has, HasFlight, IsFlightOf}
 use Rattle.fish_rule.specs.declared.view.View.{View}
+use Rattle.fish_rule.specs.Epochs.{Carries, Registry, Stays}
+use Rattle.fish_rule.specs.declared.view.Epoch.{Epoch}
+use Rattle.fish_rule.specs.declared.view.Key.{Key}
 
 -- one place of a list has one view
 pub one_view : (vs : List View) (id : ℕ) (v u : View) → get_elem? vs id ≡ some v → get_elem? vs id ≡ some u → v ≡ u
@@ -50,3 +53,15 @@ module _ (vs : List View) (id : ℕ) (v v' : View) (at : get_elem? vs id ≡ som
       → Each (λ u. (l : ℕ) → Has u.lane u.out l → MayOverflow end u.shut u.flight → quota l ≡ 1) (set vs id v')
   may_kept end quota lane out back all = each_set _ vs id v' (λ j u ne at_u. all j u at_u)
       (λ l has may. all id v at l (subst (λ (z : ℕ × List ℕ). Has z.0 z.1 l) (λ d. (lane d, out d)) has) (back may))
+
+-- the registry's part stays where its words do, and the stepping pass keeps to it
+pub registry_set : (k : Key) (count : ℕ) (g : ℕ → ℕ) (state : ℕ → Epoch) (version_of : ℕ → ℕ) (vs : List View) (id : ℕ)
+    (v' : View) → Registry k count g state version_of vs
+    → Stays k g state v'.lane v'.out v'.epoch v'.learned.version v'.learned.words v'.rows v'.draft
+    → Carries k g version_of v'.lane v'.epoch v'.flight → Registry k count g state version_of (set vs id v')
+registry_set k count g state version_of vs id v' r stays carries = record {
+  epochs = r.epochs;
+  versions = r.versions;
+  each = each_set _ vs id v' (λ j u ne at_u. r.each j u at_u) stays;
+  flights = each_set _ vs id v' (λ j u ne at_u. r.flights j u at_u) carries;
+}

@@ -70,7 +70,7 @@ module _ (k : Key) (w : World) (r : Rule k w) (id : ℕ) (v : View) (at : get_el
             (λ (g : Linked k w.dir w.log w.views b (w.head b)). final.links b (w.head b) g) (r.chains b).some);
         lows = still.lows;
         tops = (omega arith, still.tops);
-      })
+      }) (r.registry.each id v at)
 
   -- and all that lasts
   pub head_lasts : Final k r.start head_kept.start r.lane_of head_kept.lane_of w
@@ -127,7 +127,7 @@ module _ (k : Key) (w : World) (r : Rule k w) (id : ℕ) (v : View) (at : get_el
             (λ (g : Linked k w.dir w.log w.views b (w.log p)). final.links b (w.log p) g) next.is);
         lows = (record { bucket = b; linked = final.links b p node_linked; low = omega arith }, still.lows);
         tops = still.tops;
-      })
+      }) (r.registry.each id v at)
 
   -- and all that lasts
   pub previous_lasts : Final k r.start previous_kept.start r.lane_of previous_kept.lane_of w

@@ -1,5 +1,5 @@
 -- A join changes no word: a lane comes back, with its records and all that its pass knew.
-use Rattle.std.proofs.Common.{◌≡◌, ◌≢◌, ℕ, List, set, sym, refl, ◌∙◌, subst, ⊎_elim, arith}
+use Rattle.std.proofs.Common.{◌≡◌, ◌≢◌, ℕ, List, set, sym, refl, ap, ◌∙◌, subst, inl, ⊎_elim, arith}
 use mathlib.Core.Option.{some}
 use Rattle.std.proofs.Math.ListN.{get_elem?}
 use Rattle.atomic_table.proofs.Lists.{set_else}
@@ -22,6 +22,10 @@ use Rattle.fish_rule.specs.Walks.{IsGap, IsLabel}
 use Rattle.fish_rule.specs.World.{World}
 use Rattle.fish_rule.specs.declared.view.Key.{Key}
 use Rattle.fish_rule.specs.declared.view.View.{View}
+use Rattle.fish_rule.proofs.Registers.{endures_same}
+use Rattle.fish_rule.specs.Epochs.{Registry, Stays}
+use Rattle.fish_rule.specs.Registry.{IsRegistered}
+use Rattle.fish_rule.specs.declared.view.Epoch.TheVariants.{Out}
 
 module _ (k : Key) (w : World) (r : Rule k w) (id other : ℕ) (v u : View) (at : get_elem? w.views id ≡ some v)
     (ne : other ≢ id)
@@ -131,6 +135,7 @@ module _ (k : Key) (w : World) (r : Rule k w) (id other : ℕ) (v u : View) (at 
     counts = omega arith;
     lines = omega arith;
     settles = omega arith;
+    registered = endures_same k.rows.value w.registry;
     heads = λ b. omega arith;
     links = links_views k w r (set taken other spent) links_join;
     rises = λ b p h. omega arith;
@@ -159,12 +164,51 @@ module _ (k : Key) (w : World) (r : Rule k w) (id other : ℕ) (v u : View) (at 
         tops = all_append _ v.learned.tops u.learned.tops a.tops b.tops;
       }
 
+  -- the lane that came back is out, and what either knew of the registry is so
+  both_stays : Stays k w.registry r.state both.lane both.out both.epoch both.learned.version both.learned.words both.rows
+      both.draft
+  both_stays =
+      let a = r.registry.each id v at in
+      let b = r.registry.each other u at_u in
+      let main = can.main in
+      let above = can.above in
+      let few = r.seats.few other u at_u in
+      let back : r.state u.lane ≡ Out = (b.tied u.lane (omega arith, few, inl refl)).0 refl ∙ can.outside in
+      record {
+        tied = λ x has. ⊎_elim (λ (old : Has v.lane v.out x). a.tied x old)
+            (λ (e : x ≡ u.lane). ((λ same. absurd (omega arith)), (λ _. ap r.state e ∙ back)))
+            (both_has v.lane u.lane v.out x has);
+        reached = (let p = a.reached in let q = b.reached in omega arith);
+        read = all_append (IsRegistered k.rows.value w.registry) v.learned.words u.learned.words a.read b.read;
+        main = λ e. let m = a.main e in
+            record {
+              version = (let p = m.version in let q = b.reached in omega arith);
+              definitions = m.definitions;
+              unmade = m.unmade;
+            };
+      }
+
+  join_registry : Registry k w.count w.registry r.state r.version_of (set taken other spent)
+  join_registry = record {
+    epochs = r.registry.epochs;
+    versions = r.registry.versions;
+    each = each_join _ r.registry.each both_stays (record {
+      tied = λ x has. absurd (has_none x has);
+      reached = omega arith;
+      read = tt;
+      main = λ e. absurd (omega arith);
+    });
+    flights = each_join _ r.registry.flights (r.registry.flights id v at) tt;
+  }
+
   -- a join keeps the rule
   pub join_kept : Rule k (record w { views = set (set w.views id (join_both v u)) other spent })
   join_kept = record {
     start = r.start;
     lane_of = r.lane_of;
+    version_of = r.version_of;
     quota = r.quota;
+    state = r.state;
     key_fits = r.key_fits;
     about = each_join _ r.about (r.about id v at) (λ h. absurd (omega arith));
     seats = record { apart = join_apart; few = each_join _ r.seats.few (r.seats.few id v at) (omega arith) };
@@ -208,6 +252,8 @@ module _ (k : Key) (w : World) (r : Rule k w) (id other : ℕ) (v u : View) (at 
       gaps = tt;
       labels = tt;
     });
+    registry = join_registry;
+    keyed = r.keyed;
     shuts = each_join _ r.shuts (shut_either k w.count w.dir r.start v.shut u.shut (r.shuts id v at)
         (r.shuts other u at_u)) tt;
   }
@@ -220,6 +266,7 @@ module _ (k : Key) (w : World) (r : Rule k w) (id other : ℕ) (v u : View) (at 
     counts = omega arith;
     lines = omega arith;
     settles = omega arith;
+    registered = endures_same k.rows.value w.registry;
     heads = λ b. omega arith;
     links = links_views k w r (set taken other spent) links_join;
     rises = λ b p h. omega arith;

@@ -26,6 +26,10 @@ use Rattle.fish_rule.specs.declared.view.Learned.{Learned}
 use Rattle.fish_rule.specs.declared.view.Own.{Own}
 use Rattle.fish_rule.specs.declared.view.Recorded.{Recorded}
 use Rattle.fish_rule.specs.declared.view.Shut.{Shut}
+use Rattle.fish_rule.proofs.Registers.{active_later, keyed_map}
+use Rattle.fish_rule.specs.Epochs.{Keyed}
+use Rattle.fish_rule.specs.Keys.{IsKeyed}
+use Rattle.fish_rule.specs.Registry.{AreActiveAt}
 
 -- ---- directory words
 
@@ -64,7 +68,7 @@ module _ (k : Key) (w w' : World) (start start' lane_of lane_of' : ℕ → ℕ)
         line = subst (λ (z : ℕ × ℕ). low z.0 ≡ z.1) (λ i. (sym d i, sym a i)) h.line;
         lined = subst (λ (z : ℕ × ℕ × (ℕ → ℕ)). lines_of (z.2 0) ≤ z.1 - z.0)
             (λ i. (sym a i, sym b i, sym e i)) h.lined;
-        holds = subst (λ (z : ℕ × ℕ × ℕ × (ℕ → ℕ)). Holds k (kind_of k.end z.0 z.1) z.2 n (z.1 - z.0) z.3)
+        holds = subst (λ (z : ℕ × ℕ × ℕ × (ℕ → ℕ)). Holds (kind_of k.end z.0 z.1) z.2 n (z.1 - z.0) z.3)
             (λ i. (sym a i, sym b i, sym l i, sym e i)) h.holds;
       }
 
@@ -252,4 +256,35 @@ module _ (k : Key) (w w' : World) (start start' lane_of lane_of' : ℕ → ℕ)
           low = (let a = m.low in let b = f.rises m.bucket x.place m.linked in omega arith);
         }) l.lows h.lows;
     tops = all_map _ _ (λ x m. let b = f.heads x.bucket in omega arith) l.tops h.tops;
+  }
+
+  -- the keys of a published record stay those of its version
+  pub keyed_later : (version_of version_of' : ℕ → ℕ) → ((n : ℕ) → n < w.count → version_of' n ≡ version_of n) → (n : ℕ)
+      → n < w.count → w.dir n ≢ 0
+      → IsKeyed (AreActiveAt k.rows.value w.registry) (version_of n) (lane_of n) n (start (suc n) - start n)
+      (body w.log (start n))
+      → IsKeyed (AreActiveAt k.rows.value w'.registry) (version_of' n) (lane_of' n) n (start' (suc n) - start' n)
+      (body w'.log (start' n))
+  keyed_later version_of version_of' versions n below set h =
+      let a : start' n ≡ start n = f.starts n (omega arith) in
+      let b : start' (suc n) ≡ start (suc n) = f.starts (suc n) below in
+      let e : body w'.log (start' n) ≡ body w.log (start n) = ap (body w'.log) a ∙ f.bodies n below set in
+      let l = f.lanes n below in
+      let u = versions n below in
+      subst (λ (z : ℕ × ℕ × ℕ × ℕ × (ℕ → ℕ)).
+      IsKeyed (AreActiveAt k.rows.value w'.registry) z.0 z.1 n (z.3 - z.2) z.4)
+      (λ i. (sym u i, sym l i, sym a i, sym b i, sym e i))
+      (keyed_map (AreActiveAt k.rows.value w.registry) (AreActiveAt k.rows.value w'.registry)
+      (active_later k.rows.value w.registry w'.registry f.registered) (version_of n) (lane_of n) n
+      (start (suc n) - start n) (body w.log (start n)) h)
+
+  -- all records have the keys of their versions where no record is new
+  pub keyed_kept : (version_of version_of' : ℕ → ℕ) → ((n : ℕ) → n < w.count → version_of' n ≡ version_of n)
+      → Keyed k w.count w.registry w.dir w.log start lane_of version_of
+      → ((n : ℕ) → n < w'.count → high (w'.dir n) ≡ code Stored → (n < w.count) × (w.dir n ≢ 0))
+      → Keyed k w'.count w'.registry w'.dir w'.log start' lane_of' version_of'
+  keyed_kept version_of version_of' versions h before = record {
+    each = λ n above below stored. let b = before n below stored in
+        keyed_later version_of version_of' versions n b.0 b.1
+        (h.each n above b.0 (ap high (sym (f.dirs n b.0 b.1)) ∙ stored));
   }

@@ -1,5 +1,5 @@
 -- Which key entries records have: what the links of their entries have no part in, and records with none.
-use Rattle.std.proofs.Common.{◌≡◌, List, [], ◌∷◌, map, refl, sym, ap, ◌∙◌, subst}
+use Rattle.std.proofs.Common.{ℕ, ◌≡◌, List, [], ◌∷◌, map, refl, sym, ap, ◌∙◌, subst}
 use Rattle.fish_catalog.specs.declared.row.CatRow.{CatRow}
 use Rattle.fish_layout.specs.Cleared.{unlink, unlinked}
 use Rattle.fish_layout.specs.declared.parts.BodyParts.{BodyParts}
@@ -13,18 +13,16 @@ property-unlink [] = refl
 property-unlink (k ∷ keys) = ap (λ rest. property k ∷ rest) (property-unlink keys)
 
 -- so a record has its keys without its links too
-pub unlinked_keys : {rows : List CatRow} {p : BodyParts} → HasKeys rows p → HasKeys rows (unlinked p)
-unlinked_keys {rows} {p} h = record {
+pub unlinked_keys : {active : ℕ → List (ℕ × List ℕ) → Type 0} {p : BodyParts} → HasKeys active p
+    → HasKeys active (unlinked p)
+unlinked_keys {active} {p} h = record {
   defs = h.defs;
-  active = h.active;
+  are = h.are;
   keys = property-unlink p.keys ∙ h.keys;
 }
 
--- without definitions a record has no keys
-pub no_keys : (rows : List CatRow) (p : BodyParts) → rows ≡ [] → p.keys ≡ [] → HasKeys rows p
+-- a record of a version without active definitions has no keys
+pub no_keys : {active : ℕ → List (ℕ × List ℕ) → Type 0} (p : BodyParts) → active p.version [] → p.keys ≡ []
+    → HasKeys active p
 unfolding keys_of
-no_keys rows p none is = subst (λ (z : List CatRow). HasKeys z p) (sym none) (record {
-  defs = [];
-  active = refl;
-  keys = ap (map property) is;
-})
+no_keys p none is = record { defs = []; are = none; keys = ap (map property) is }

@@ -6,7 +6,7 @@ use mathlib.Core.Option.{some}
 use Rattle.std.proofs.Math.ListN.{get_elem?}
 use Rattle.fish_rule.proofs.Bodies.{tail_is}
 use Rattle.fish_rule.proofs.Common.{all_among, each_set, only_main, seats_kept}
-use Rattle.fish_rule.proofs.Frames.{alone_kept, flight_there, may_kept, one_view}
+use Rattle.fish_rule.proofs.Frames.{alone_kept, flight_there, may_kept, one_view, registry_set}
 use Rattle.fish_rule.proofs.Kept.{chained_later, published}
 use Rattle.fish_rule.proofs.Links.{chains_set, links_set}
 use Rattle.fish_rule.specs.Chains.{Chained}
@@ -26,6 +26,8 @@ use Rattle.fish_rule.specs.declared.view.Kind.TheVariants.{Mark, Stored, Void}
 use Rattle.fish_rule.specs.declared.view.Learned.{Learned}
 use Rattle.fish_rule.specs.declared.view.Position.{Position}
 use Rattle.fish_rule.specs.declared.view.View.{View}
+use Rattle.fish_rule.proofs.Registers.{endures_same}
+use Rattle.fish_rule.specs.Epochs.{Stays}
 
 module _ (k : Key) (w : World) (r : Rule k w) (id : ℕ) (v : View) (at : get_elem? w.views id ≡ some v) where
   -- the view with other facts, another note of the tail and another clock
@@ -39,6 +41,7 @@ module _ (k : Key) (w : World) (r : Rule k w) (id : ℕ) (v : View) (at : get_el
     counts = omega arith;
     lines = omega arith;
     settles = omega arith;
+    registered = endures_same k.rows.value w.registry;
     heads = λ b. omega arith;
     links = links_set k w r id v (learner l t c) at (λ a c h. h);
     rises = λ b p h. omega arith;
@@ -60,13 +63,16 @@ module _ (k : Key) (w : World) (r : Rule k w) (id : ℕ) (v : View) (at : get_el
   unfoldable pub learns : (l : Learned) (t : Option Position) (c : Clock)
       → (v.lane ≡ 1 → v.out ≡ [] → Rests w.count w.line t) → Facts k w.count w.dir w.log r.start l
       → l.settled ≤ w.settled → Chained k w.dir w.log (set w.views id (learner l t c)) w.head l
+      → Stays k w.registry r.state v.lane v.out v.epoch l.version l.words v.rows v.draft
       → Rule k (record w { views = set w.views id (learner l t c) })
-  learns l t c rests facts floor chained =
+  learns l t c rests facts floor chained stays =
       let v' : View = learner l t c in
       record {
         start = r.start;
         lane_of = r.lane_of;
+        version_of = r.version_of;
         quota = r.quota;
+        state = r.state;
         key_fits = r.key_fits;
         about = each_set _ w.views id v' (λ j u ne at_u. r.about j u at_u) (r.about id v at);
         seats = seats_kept w.views id v v' at refl refl r.seats;
@@ -99,6 +105,9 @@ module _ (k : Key) (w : World) (r : Rule k w) (id : ℕ) (v : View) (at : get_el
         floors = each_set _ w.views id v' (λ j u ne at_u. r.floors j u at_u) floor;
         own = each_set _ w.views id v' (λ j u ne at_u. r.own j u at_u) (r.own id v at);
         facts = each_set _ w.views id v' (λ j u ne at_u. r.facts j u at_u) facts;
+        registry = registry_set k w.count w.registry r.state r.version_of w.views id v' r.registry stays
+            (r.registry.flights id v at);
+        keyed = r.keyed;
         shuts = each_set _ w.views id v' (λ j u ne at_u. r.shuts j u at_u) (r.shuts id v at);
       }
 
@@ -119,6 +128,7 @@ module _ (k : Key) (w : World) (r : Rule k w) (id : ℕ) (v : View) (at : get_el
         gaps = h.gaps;
         labels = h.labels;
       }) (r.floors id v at) (record { nodes = still.nodes; lows = still.lows; tops = still.tops })
+      (r.registry.each id v at)
 
   -- and all that lasts
   pub end_lasts : (x : ℕ) (count : high x ≡ w.count) (line : low x ≡ w.line)
@@ -129,6 +139,7 @@ module _ (k : Key) (w : World) (r : Rule k w) (id : ℕ) (v : View) (at : get_el
     counts = omega arith;
     lines = omega arith;
     settles = omega arith;
+    registered = endures_same k.rows.value w.registry;
     heads = λ b. omega arith;
     links = links_set k w r id v (after_end v x) at (λ a c h. h);
     rises = λ b p h. omega arith;
@@ -168,7 +179,7 @@ module _ (k : Key) (w : World) (r : Rule k w) (id : ℕ) (v : View) (at : get_el
         gaps = h.gaps;
         labels = h.labels;
       }) (omega arith)
-      (record { nodes = still.nodes; lows = still.lows; tops = still.tops })
+      (record { nodes = still.nodes; lows = still.lows; tops = still.tops }) (r.registry.each id v at)
 
   -- and all that lasts
   pub settled_lasts : Final k r.start settled_kept.start r.lane_of settled_kept.lane_of w
@@ -178,6 +189,7 @@ module _ (k : Key) (w : World) (r : Rule k w) (id : ℕ) (v : View) (at : get_el
     counts = omega arith;
     lines = omega arith;
     settles = omega arith;
+    registered = endures_same k.rows.value w.registry;
     heads = λ b. omega arith;
     links = links_set k w r id v (after_settled v w.settled) at (λ a c h. h);
     rises = λ b p h. omega arith;
@@ -218,6 +230,7 @@ module _ (k : Key) (w : World) (r : Rule k w) (id : ℕ) (v : View) (at : get_el
         gaps = h.gaps;
         labels = h.labels;
       }) (r.floors id v at) (record { nodes = still.nodes; lows = still.lows; tops = still.tops })
+      (r.registry.each id v at)
     where
       each : (x : ℕ) → x ≡ w.dir n → Rattle.fish_rule.specs.Views.AllOf (IsFound k w.count w.dir r.start)
           (found_after n (lines_at n) x v.learned.found)
@@ -249,6 +262,7 @@ module _ (k : Key) (w : World) (r : Rule k w) (id : ℕ) (v : View) (at : get_el
     counts = omega arith;
     lines = omega arith;
     settles = omega arith;
+    registered = endures_same k.rows.value w.registry;
     heads = λ b. omega arith;
     links = links_set k w r id v (after_look v n (lines_at n) x) at (λ a c h. h);
     rises = λ b p h. omega arith;

@@ -9,7 +9,9 @@ pub mod Closing
 pub mod Common
 pub mod Counts
 pub mod Crossing
+pub mod Defines
 pub mod Descents
+pub mod Enters
 pub mod Entries
 pub mod Extending
 pub mod Fills
@@ -32,6 +34,8 @@ pub mod Nodes
 pub mod OwnWords
 pub mod Publishes
 pub mod Quotas
+pub mod Registers
+pub mod Registries
 pub mod Room
 pub mod Schedules
 pub mod Settles

@@ -9,13 +9,13 @@ use Rattle.fish_layout.proofs.Spelled.{spelled_lines}
 use Rattle.fish_layout.specs.Bucket.{bucket_of}
 use Rattle.fish_layout.specs.Cleared.{body_of, entry_at}
 use Rattle.fish_layout.specs.Header.{keys_of, lines_of}
-use Rattle.fish_rule.proofs.Aims.{own_body}
+use Rattle.fish_rule.proofs.Aims.{filled_record, own_body}
 use Rattle.fish_rule.proofs.Common.{each_set, seats_kept, within_list}
-use Rattle.fish_rule.proofs.Frames.{alone_kept, flight_there, may_kept}
-use Rattle.fish_rule.proofs.Kept.{chained_later, facts_later, finished_later}
+use Rattle.fish_rule.proofs.Frames.{alone_kept, flight_there, may_kept, registry_set}
+use Rattle.fish_rule.proofs.Kept.{chained_later, facts_later, finished_later, keyed_kept, published}
 use Rattle.fish_rule.proofs.Links.{linked_map, linking_own, linking_to}
 use Rattle.fish_rule.proofs.Spots.{spot}
-use Rattle.fish_rule.proofs.OwnWords.{flight_is}
+use Rattle.fish_rule.proofs.OwnWords.{carried_is, flight_is, known_keyed}
 use Rattle.fish_rule.specs.Chains.{Chain, Chained, IsKeyEntry, IsLinking, IsStoredAt, Linked, LinksAt, Shows}
 use Rattle.fish_rule.specs.Linking.{CanAim, linked_once, own_place}
 use Rattle.fish_rule.specs.Parts.{Flies, InFlight}
@@ -30,6 +30,8 @@ use Rattle.fish_rule.specs.declared.view.Key.{Key}
 use Rattle.fish_rule.specs.declared.view.Kind.TheVariants.{Stored}
 use Rattle.fish_rule.specs.declared.view.Learned.{Learned}
 use Rattle.fish_rule.specs.declared.view.View.{View}
+use Rattle.fish_rule.proofs.Registers.{endures_same}
+use Rattle.fish_rule.specs.Epochs.{IsCarried, Stays}
 
 module _ (k : Key) (w : World) (r : Rule k w) (id : ℕ) (v : View) (at : get_elem? w.views id ≡ some v)
     (f : Flight) (can : CanAim v f) (b : ℕ) (bucket : bucket_of k.buckets (body_of f.words) f.linked ≡ b)
@@ -77,7 +79,7 @@ module _ (k : Key) (w : World) (r : Rule k w) (id : ℕ) (v : View) (at : get_el
     own_stays : body log' f.line ≡ body_of f.words
     own_stays =
         let e = own_body k w r id v at f can in
-        let p = can.record_of.1 in
+        let p = (filled_record v f can.filled).1 in
         let lined : lines_of (body_of f.words 0) ≡ f.lines = spelled_lines p.spells ∙ p.lines_is in
         let line : r.start f.number ≡ f.line = own.line in
         let lines = own.lines in
@@ -157,6 +159,7 @@ module _ (k : Key) (w : World) (r : Rule k w) (id : ℕ) (v : View) (at : get_el
       counts = omega arith;
       lines = omega arith;
       settles = omega arith;
+      registered = endures_same k.rows.value w.registry;
       heads = leaves.heads;
       links = link_to;
       rises = leaves.rises;
@@ -189,22 +192,31 @@ module _ (k : Key) (w : World) (r : Rule k w) (id : ℕ) (v : View) (at : get_el
         kind = (let about : v.about ≡ k = r.about id v at own.live in
             subst (λ (z : Key). kind_of z.end f.line (f.line + f.lines) ≡ Stored) about can.kind);
         full = can.full;
-        record_of = subst (IsRecord k v.lane f.number f.lines) (sym own_stays)
-            (let about : v.about ≡ k = r.about id v at own.live in
-            subst (λ (z : Key). IsRecord z v.lane f.number f.lines (body_of f.words)) about can.record_of);
+        record_of = subst (IsRecord v.lane f.number f.lines) (sym own_stays) (filled_record v f can.filled);
         upto = subst (λ (z : ℕ → ℕ). suc f.linked ≤ keys_of (z 0)) (sym own_stays) can.more;
       };
     }
 
+    -- it keeps its version, and has the keys of that version
+    own_carried : IsCarried k w.registry r.version_of v.lane v.epoch (linked_once f)
+    own_carried = record {
+      entered = (carried_is k w r id v at f can.flying).entered;
+      keyed = λ _. known_keyed k w r id v at f can.flying own.live can.filled.version can.filled.entered
+          (body_of f.words) can.filled.keyed;
+    }
+
     module _ (chains : (c : ℕ) → Chain (After c) (head' c) log')
         (facts : Facts k w.count w.dir log' r.start learned) (floor : learned.settled ≤ w.settled)
-        (chained : Chained k w.dir log' linked_world.views head' learned) where
+        (chained : Chained k w.dir log' linked_world.views head' learned)
+        (stays : Stays k w.registry r.state v.lane v.out v.epoch learned.version learned.words v.rows v.draft) where
       -- the rule is kept
       pub link_kept : Rule k linked_world
       link_kept = record {
         start = r.start;
         lane_of = r.lane_of;
+        version_of = r.version_of;
         quota = r.quota;
+        state = r.state;
         key_fits = r.key_fits;
         about = each_set _ w.views id linker (λ j u ne at_u. r.about j u at_u) (r.about id v at);
         seats = seats_kept w.views id v linker at refl refl r.seats;
@@ -242,6 +254,9 @@ module _ (k : Key) (w : World) (r : Rule k w) (id : ℕ) (v : View) (at : get_el
         facts = each_set _ w.views id linker
             (λ j u ne at_u. facts_later k w linked_world r.start r.start r.lane_of r.lane_of link_final u.learned
             (r.facts j u at_u)) facts;
+        registry = registry_set k w.count w.registry r.state r.version_of w.views id linker r.registry stays own_carried;
+        keyed = keyed_kept k w linked_world r.start r.start r.lane_of r.lane_of link_final r.version_of r.version_of
+            (λ n below. refl) r.keyed (λ n below stored. (below, published (w.dir n) Stored stored));
         shuts = each_set _ w.views id linker (λ j u ne at_u. r.shuts j u at_u) (r.shuts id v at);
       }
 

@@ -89,7 +89,7 @@ whole_later k log log' lane f some_ same h =
     record {
       kind = h.kind;
       full = h.full;
-      record_of = subst (IsRecord k lane f.number f.lines) (sym e) h.record_of;
+      record_of = subst (IsRecord lane f.number f.lines) (sym e) h.record_of;
       upto = subst (λ (z : ℕ → ℕ). f.linked ≤ keys_of (z 0)) (sym e) h.upto;
     }
 

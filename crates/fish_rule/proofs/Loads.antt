@@ -31,10 +31,11 @@ use Rattle.fish_rule.specs.declared.view.Key.{Key}
 use Rattle.fish_rule.specs.declared.view.Kind.{Kind}
 use Rattle.fish_rule.specs.declared.view.Kind.TheVariants.{Mark, Stored, Void}
 use Rattle.fish_rule.specs.declared.view.View.{View}
+use Rattle.fish_rule.proofs.Registers.{endures_same}
 
 -- the header of a region that isn't a mark tells its lines
 pub lined_whole : (k : Key) (kind : Kind) (lane n lines : ℕ) (e : ℕ → ℕ) → kind ≢ Mark → lines < 65536
-    → Holds k kind lane n lines e → lines_of (e 0) ≡ lines
+    → Holds kind lane n lines e → lines_of (e 0) ≡ lines
 lined_whole k Stored lane n lines e ne few h = spelled_lines h.1.spells ∙ h.1.lines_is
 lined_whole k Void lane n lines e ne few h = ap (λ (f : ℕ → ℕ). lines_of (f 0)) h ∙ ap lines_of (void-head lines)
     ∙ lines_of-void lines few
@@ -154,7 +155,7 @@ module _ (k : Key) (w : World) (r : Rule k w) (id : ℕ) (v : View) (at : get_el
   pub read_kept : Rule k (record w { views = set w.views id reader })
   read_kept = learns k w r id v at reader.learned v.tail reader.clock (r.tails id v at) read_facts (r.floors id v at)
       (let still = still_chained k w r id v at reader.learned v.tail reader.clock in
-      record { nodes = still.nodes; lows = still.lows; tops = still.tops })
+      record { nodes = still.nodes; lows = still.lows; tops = still.tops }) (r.registry.each id v at)
 
   -- and all that lasts
   pub read_lasts : Final k r.start read_kept.start r.lane_of read_kept.lane_of w
@@ -164,6 +165,7 @@ module _ (k : Key) (w : World) (r : Rule k w) (id : ℕ) (v : View) (at : get_el
     counts = omega arith;
     lines = omega arith;
     settles = omega arith;
+    registered = endures_same k.rows.value w.registry;
     heads = λ b. omega arith;
     links = links_set k w r id v (reader) at (λ a c h. h);
     rises = λ b p h. omega arith;

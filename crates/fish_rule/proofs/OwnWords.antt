@@ -7,14 +7,14 @@ use mathlib.Core.Option.{some}
 use Rattle.std.proofs.Math.ListN.{get_elem?}
 use Rattle.fish_layout.proofs.Clearing.{cleared_head, cleared_same}
 use Rattle.fish_layout.proofs.Spelled.{spelled_lines}
-use Rattle.fish_layout.specs.Cleared.{IsKeyWord, entry_at}
+use Rattle.fish_layout.specs.Cleared.{IsKeyWord, body_of, entry_at}
 use Rattle.fish_layout.specs.Header.{keys_of, lines_of}
 use Rattle.fish_rule.proofs.Bodies.{body_same}
 use Rattle.fish_rule.proofs.Bounds.{ends_within, flight_behind, one_region}
 use Rattle.fish_rule.proofs.Common.{each_set, seats_kept}
 use Rattle.fish_rule.proofs.Flights.{one_flight}
-use Rattle.fish_rule.proofs.Frames.{alone_kept, flight_there, may_kept, one_view}
-use Rattle.fish_rule.proofs.Kept.{chained_later, facts_later, finished_later, flight_later}
+use Rattle.fish_rule.proofs.Frames.{alone_kept, flight_there, may_kept, one_view, registry_set}
+use Rattle.fish_rule.proofs.Kept.{chained_later, facts_later, finished_later, flight_later, keyed_kept, published}
 use Rattle.fish_rule.proofs.Links.{chains_same, linked_map, linking_from, linking_own, linking_to, whole_later}
 use Rattle.fish_rule.proofs.Spots.{IsFlier, Spot, spot, which}
 use Rattle.fish_rule.proofs.Worlds.{put-else, put-here}
@@ -28,11 +28,43 @@ use Rattle.fish_rule.specs.declared.view.Clock.{Clock}
 use Rattle.fish_rule.specs.declared.view.Flight.{Flight}
 use Rattle.fish_rule.specs.declared.view.Key.{Key}
 use Rattle.fish_rule.specs.declared.view.View.{View}
+use Rattle.fish_rule.proofs.Registers.{endures_same}
+use Rattle.fish_rule.specs.Epochs.{Carries, IsCarried}
+use Rattle.fish_rule.specs.Keys.{IsKeyed}
+use Rattle.fish_rule.specs.Registry.{AreActiveAt, KnowsActive}
+use Rattle.fish_rule.specs.declared.view.Kind.TheVariants.{Stored}
+use Rattle.fish_rule.proofs.Registers.{active_known, keyed_map}
+use Rattle.fish_rule.specs.declared.view.Epoch.TheVariants.{Confirmed}
 
 -- what is so of the record in flight where it is known
 pub flight_is : (k : Key) (w : World) (r : Rule k w) (id : ℕ) (v : View) → get_elem? w.views id ≡ some v
     → (f : Flight) → v.flight ≡ Some f → InFlight k w.count w.dir w.log r.start r.lane_of v.lane f
 flight_is k w r id v at f is = subst (Flies k w.count w.dir w.log r.start r.lane_of v.lane) is (r.space.flights id v at)
+
+-- a pass is entered at one version
+pub confirmed_once : {a b : ℕ} → Confirmed a ≡ Confirmed b → a ≡ b
+confirmed_once e = cc
+
+-- and of its version and keys
+pub carried_is : (k : Key) (w : World) (r : Rule k w) (id : ℕ) (v : View) → get_elem? w.views id ≡ some v
+    → (f : Flight) → v.flight ≡ Some f → IsCarried k w.registry r.version_of v.lane v.epoch f
+carried_is k w r id v at f is = subst (Carries k w.registry r.version_of v.lane v.epoch) is (r.registry.flights id v at)
+
+-- what its pass knows of its keys is so
+pub known_keyed : (k : Key) (w : World) (r : Rule k w) (id : ℕ) (v : View) → get_elem? w.views id ≡ some v
+    → (f : Flight) → v.flight ≡ Some f → 1 ≤ v.lane → (version : ℕ) → v.epoch ≡ Confirmed version → (e : ℕ → ℕ)
+    → IsKeyed (KnowsActive v.about.rows.value v.learned) version v.lane f.number f.lines e
+    → IsKeyed (AreActiveAt k.rows.value w.registry) (r.version_of f.number) v.lane f.number f.lines e
+known_keyed k w r id v at f is live version entered e h =
+    let stays = r.registry.each id v at in
+    let same : version ≡ r.version_of f.number =
+    confirmed_once (sym entered ∙ (carried_is k w r id v at f is).entered) in
+    let about : v.about ≡ k = r.about id v at live in
+    subst (λ (z : ℕ). IsKeyed (AreActiveAt k.rows.value w.registry) z v.lane f.number f.lines e) same
+    (keyed_map (KnowsActive v.about.rows.value v.learned) (AreActiveAt k.rows.value w.registry)
+    (λ u ts known. active_known k.rows.value w.registry v.learned stays.reached stays.read u ts
+    (subst (λ (z : Key). KnowsActive z.rows.value v.learned u ts) about known))
+    version v.lane f.number f.lines e h)
 
 -- words become these by a store of x at offset o of a region of so many words: either behind those that are
 -- there, or, once entries are linked, in a key entry's first word alone
@@ -44,7 +76,7 @@ pub record Becomes (size linked o x : ℕ) (keyed : Type 0) (words words' : List
   pub here : o < length words'
   pub value : get_or words' o 0 ≡ x
   pub same : (i : ℕ) → i ≢ o → i < length words' → (i < length words) × (get_or words' i 0 ≡ get_or words i 0)
-  pub linking : 0 < linked → keyed × (length words' ≡ length words)
+  pub linking : 0 < linked → keyed × (length words' ≡ length words) × (body_of words' ≡ body_of words)
 
 module _ (k : Key) (w : World) (r : Rule k w) (id : ℕ) (v : View) (at : get_elem? w.views id ≡ some v)
     (f : Flight) (flying : v.flight ≡ Some f) (o x : ℕ) (words' : List ℕ) (clock : Clock)
@@ -185,6 +217,7 @@ module _ (k : Key) (w : World) (r : Rule k w) (id : ℕ) (v : View) (at : get_el
     counts = omega arith;
     lines = omega arith;
     settles = omega arith;
+    registered = endures_same k.rows.value w.registry;
     heads = λ b. omega arith;
     links = links_stay;
     rises = λ b p h. (let e = put-else w.log own_word x p (not_linked b p h) in omega arith);
@@ -224,7 +257,7 @@ module _ (k : Key) (w : World) (r : Rule k w) (id : ℕ) (v : View) (at : get_el
       whole_still some_ h = (let e = own_stays some_ in let l = (becomes.linking some_).1 in record {
         kind = h.kind;
         full = l ∙ h.full;
-        record_of = subst (IsRecord k v.lane f.number f.lines) (sym e) h.record_of;
+        record_of = subst (IsRecord v.lane f.number f.lines) (sym e) h.record_of;
         upto = subst (λ (z : ℕ → ℕ). f.linked ≤ keys_of (z 0)) (sym e) h.upto;
       })
 
@@ -245,12 +278,24 @@ module _ (k : Key) (w : World) (r : Rule k w) (id : ℕ) (v : View) (at : get_el
       flight_later k w written r.start r.start r.lane_of r.lane_of write_final u.lane g h h.unpublished same
       (λ some_. whole_later k w.log written.log u.lane g (omega arith) same (h.whole some_))
 
+  -- the record in flight keeps its version, and its keys once entries are linked
+  own_carried : IsCarried k w.registry r.version_of v.lane v.epoch rewritten
+  own_carried =
+      let h = carried_is k w r id v at f flying in
+      record {
+        entered = h.entered;
+        keyed = λ some_. subst (λ (z : ℕ → ℕ). IsKeyed (AreActiveAt k.rows.value w.registry) (r.version_of f.number) v.lane
+            f.number f.lines z) (sym (becomes.linking some_).2) (h.keyed some_);
+      }
+
   -- a store keeps the rule
   pub write_kept : Rule k written
   write_kept = record {
     start = r.start;
     lane_of = r.lane_of;
+    version_of = r.version_of;
     quota = r.quota;
+    state = r.state;
     key_fits = r.key_fits;
     about = each_set _ w.views id writer (λ j u ne at_u. r.about j u at_u) (r.about id v at);
     seats = seats_kept w.views id v writer at refl refl r.seats;
@@ -295,6 +340,10 @@ module _ (k : Key) (w : World) (r : Rule k w) (id : ℕ) (v : View) (at : get_el
         (λ j u ne at_u. facts_later k w written r.start r.start r.lane_of r.lane_of write_final u.learned
         (r.facts j u at_u))
         (facts_later k w written r.start r.start r.lane_of r.lane_of write_final v.learned (r.facts id v at));
+    registry = registry_set k w.count w.registry r.state r.version_of w.views id writer r.registry
+        (r.registry.each id v at) own_carried;
+    keyed = keyed_kept k w written r.start r.start r.lane_of r.lane_of write_final r.version_of r.version_of
+        (λ n below. refl) r.keyed (λ n below stored. (below, published (w.dir n) Stored stored));
     shuts = each_set _ w.views id writer (λ j u ne at_u. r.shuts j u at_u) (r.shuts id v at);
   }
 

@@ -15,11 +15,11 @@ use Rattle.fish_rule.proofs.Bodies.{body_stored, code_once, body_void, high-pack
 use Rattle.fish_rule.proofs.Bodies.{low-pack, mark-past, void-head}
 use Rattle.fish_rule.proofs.Bounds.{ends_within}
 use Rattle.fish_rule.proofs.Common.{among_left, among_right, among_either, each_set, has_own, seats_kept}
-use Rattle.fish_rule.proofs.Frames.{alone_kept, flight_there, may_kept, one_view}
+use Rattle.fish_rule.proofs.Frames.{alone_kept, flight_there, may_kept, one_view, registry_set}
 use Rattle.fish_rule.proofs.Kept.{chained_later, facts_later, finished_later, flight_later, owns_later}
 use Rattle.fish_rule.proofs.Kept.{published, shut_later, stored_later}
 use Rattle.fish_rule.proofs.Links.{chains_same, linked_counted, linking_from}
-use Rattle.fish_rule.proofs.OwnWords.{flight_is}
+use Rattle.fish_rule.proofs.OwnWords.{flight_is, known_keyed}
 use Rattle.fish_rule.proofs.Worlds.{put-else, put-here}
 use Rattle.fish_rule.specs.Chains.{Linked, LinksAt, Shows}
 use Rattle.fish_rule.specs.Parts.{Flies, InFlight, IsEntryWord, IsFinished, MayOverflow}
@@ -35,6 +35,11 @@ use Rattle.fish_rule.specs.declared.view.Kind.{Kind}
 use Rattle.fish_rule.specs.declared.view.Kind.TheVariants.{Mark, Stored, Void}
 use Rattle.fish_rule.specs.declared.view.Own.{Own}
 use Rattle.fish_rule.specs.declared.view.View.{View}
+use Rattle.fish_rule.proofs.Registers.{endures_same}
+use Rattle.fish_rule.specs.Epochs.{Keyed}
+use Rattle.fish_rule.specs.Keys.{IsKeyed}
+use Rattle.fish_rule.specs.Registry.{AreActiveAt, KnowsActive}
+use Rattle.fish_rule.specs.declared.view.Epoch.TheVariants.{Confirmed}
 
 -- the word 0 has no lines
 no_lines : lines_of 0 ≡ 0
@@ -67,7 +72,12 @@ small_line k w r f lane h = pick (Rattle.std.proofs.Math.Decide.dec_le f.number 
 module _ (k : Key) (w : World) (r : Rule k w) (id : ℕ) (v : View) (at : get_elem? w.views id ≡ some v)
     (f : Flight) (live : 1 ≤ v.lane) (flying : v.flight ≡ Some f) (kind : Kind)
     (is_kind : kind_of k.end f.line (f.line + f.lines) ≡ kind)
-    (ready : IsReady k kind v.lane f) where
+    (version : ℕ) (entered : v.epoch ≡ Confirmed version)
+    (ready : IsReady (KnowsActive v.about.rows.value v.learned) version kind v.lane f) where
+  -- which texts the pass knows to be active
+  abbrev active : ℕ → List (ℕ × List ℕ) → Type 0
+  active = KnowsActive v.about.rows.value v.learned
+
   -- the view afterwards
   abbrev pub publisher : View
   publisher = record v {
@@ -160,9 +170,9 @@ module _ (k : Key) (w : World) (r : Rule k w) (id : ℕ) (v : View) (at : get_el
       → Shows k w.dir w.views a c
   shows_before a c few (inl s) = pick (ℕ_discrete s.number f.number)
     where
-      all_linked : (kd : Kind) → kd ≡ Stored → IsReady k kd v.lane f → f.linked ≡ keys_of (body w.log f.line 0)
+      all_linked : (kd : Kind) → kd ≡ Stored → IsReady active version kd v.lane f → f.linked ≡ keys_of (body w.log f.line 0)
       all_linked Stored e h = h.2 ∙ ap (λ (z : ℕ → ℕ). keys_of (z 0))
-          (sym (body_stored k w.log f.words v.lane f.number f.lines f.line f.linked h.1 h.0 sized.0
+          (sym (body_stored w.log f.words v.lane f.number f.lines f.line f.linked (h.1.0, h.1.1.record_of) h.0 sized.0
           (let q = h.2 in omega arith) own.written))
       all_linked Void e h = cc
       all_linked Mark e h = cc
@@ -194,6 +204,7 @@ module _ (k : Key) (w : World) (r : Rule k w) (id : ℕ) (v : View) (at : get_el
     counts = omega arith;
     lines = omega arith;
     settles = omega arith;
+    registered = endures_same k.rows.value w.registry;
     heads = λ b. omega arith;
     links = links_on;
     rises = λ b p h. omega arith;
@@ -205,15 +216,16 @@ module _ (k : Key) (w : World) (r : Rule k w) (id : ℕ) (v : View) (at : get_el
   }
 
   -- what the region holds
-  filled : (kd : Kind) → IsReady k kd v.lane f → (lines_of (body w.log f.line 0) ≤ f.lines)
-      × Holds k kd v.lane f.number f.lines (body w.log f.line)
+  filled : (kd : Kind) → IsReady active version kd v.lane f → (lines_of (body w.log f.line 0) ≤ f.lines)
+      × Holds kd v.lane f.number f.lines (body w.log f.line)
   filled Stored h =
       let e : body w.log f.line ≡ body_of f.words =
-      body_stored k w.log f.words v.lane f.number f.lines f.line f.linked h.1 h.0 sized.0
+      body_stored w.log f.words v.lane f.number f.lines f.line f.linked (h.1.0, h.1.1.record_of) h.0 sized.0
       (let q = h.2 in omega arith) own.written in
-      let lined : lines_of (body_of f.words 0) ≡ f.lines = spelled_lines h.1.1.spells ∙ h.1.1.lines_is in (
+      let q = h.1.1.record_of in
+      let lined : lines_of (body_of f.words 0) ≡ f.lines = spelled_lines q.spells ∙ q.lines_is in (
         subst (λ (z : ℕ → ℕ). lines_of (z 0) ≤ f.lines) (sym e) (omega arith),
-        subst (IsRecord k v.lane f.number f.lines) (sym e) h.1,
+        subst (IsRecord v.lane f.number f.lines) (sym e) (h.1.0, h.1.1.record_of),
       )
   filled Void h =
       let s = sized in
@@ -244,9 +256,9 @@ module _ (k : Key) (w : World) (r : Rule k w) (id : ℕ) (v : View) (at : get_el
         line = ap low dir_here ∙ low-pack (code kind) f.line (small_line k w r f v.lane own) ∙ sym a;
         lined = subst (λ (z : ℕ × ℕ). lines_of (body w.log z.0 0) ≤ z.1 - z.0) (λ i. (sym a i, sym b i))
             (subst (λ (z : ℕ). lines_of (body w.log f.line 0) ≤ z) (sym size) h.0);
-        holds = subst (λ (z : ℕ × ℕ × ℕ). Holds k (kind_of k.end z.0 z.1) z.2 f.number (z.1 - z.0)
+        holds = subst (λ (z : ℕ × ℕ × ℕ). Holds (kind_of k.end z.0 z.1) z.2 f.number (z.1 - z.0)
             (body w.log z.0)) (λ i. (sym a i, sym b i, sym own.owner i))
-            (subst (λ (z : Kind × ℕ). Holds k z.0 v.lane f.number z.1 (body w.log f.line))
+            (subst (λ (z : Kind × ℕ). Holds z.0 v.lane f.number z.1 (body w.log f.line))
             (λ i. (sym is_kind i, sym size i)) h.1);
       }
 
@@ -372,7 +384,7 @@ module _ (k : Key) (w : World) (r : Rule k w) (id : ℕ) (v : View) (at : get_el
       (record { number = f.number; kind = kind; line = f.line; lines = f.lines })
   found_here = record { above = own.above; below = own.below; kind = kind_here; line = own.line; lines = own.lines }
 
-  records_here : (kd : Kind) → kind ≡ kd → IsReady k kd v.lane f
+  records_here : (kd : Kind) → kind ≡ kd → IsReady active version kd v.lane f
       → AllOf (IsRecorded k w.count dir' w.log r.start) (records_after kd f v.learned.records)
   records_here Stored is h = (
     record {
@@ -380,7 +392,7 @@ module _ (k : Key) (w : World) (r : Rule k w) (id : ℕ) (v : View) (at : get_el
       below = own.below;
       stored = kind_here ∙ ap code is;
       words = ap (body w.log) own.line
-          ∙ body_stored k w.log f.words v.lane f.number f.lines f.line f.linked h.1 h.0 sized.0
+          ∙ body_stored w.log f.words v.lane f.number f.lines f.line f.linked (h.1.0, h.1.1.record_of) h.0 sized.0
           (let q = h.2 in omega arith) own.written;
     },
     (facts_later k w publication r.start r.start r.lane_of r.lane_of publish_final v.learned (r.facts id v at)).records,
@@ -423,12 +435,44 @@ module _ (k : Key) (w : World) (r : Rule k w) (id : ℕ) (v : View) (at : get_el
     };
   }
 
+  -- the record has the keys of its version
+  own_keyed : (kd : Kind) → kind ≡ kd → kd ≡ Stored → IsReady active version kd v.lane f
+      → IsKeyed (AreActiveAt k.rows.value w.registry) (r.version_of f.number) (r.lane_of f.number) f.number
+      (r.start (suc f.number) - r.start f.number) (body w.log (r.start f.number))
+  own_keyed Void is e h = cc
+  own_keyed Mark is e h = cc
+  own_keyed Stored is e h =
+      let a : r.start f.number ≡ f.line = own.line in
+      let b : r.start (suc f.number) ≡ f.line + f.lines = own.lines in
+      let size : r.start (suc f.number) - r.start f.number ≡ f.lines = omega arith in
+      let words : body w.log (r.start f.number) ≡ body_of f.words = ap (body w.log) a
+      ∙ body_stored w.log f.words v.lane f.number f.lines f.line f.linked (h.1.0, h.1.1.record_of) h.0 sized.0
+      (let q = h.2 in omega arith) own.written in
+      subst (λ (z : ℕ × ℕ × (ℕ → ℕ)). IsKeyed (AreActiveAt k.rows.value w.registry) (r.version_of f.number) z.0 f.number
+      z.1 z.2) (λ i. (sym own.owner i, sym size i, sym words i))
+      (known_keyed k w r id v at f flying live version entered (body_of f.words) h.1)
+
+  keyed : Keyed k w.count w.registry dir' w.log r.start r.lane_of r.version_of
+  keyed = record { each = λ n above below stored. pick n above below stored (ℕ_discrete n f.number) }
+    where
+      pick : (n : ℕ) → k.number ≤ n → n < w.count → high (dir' n) ≡ code Stored → Dec (n ≡ f.number)
+          → IsKeyed (AreActiveAt k.rows.value w.registry) (r.version_of n) (r.lane_of n) n
+          (r.start (suc n) - r.start n) (body w.log (r.start n))
+      pick n above below stored (yes e) =
+          subst (λ (z : ℕ). IsKeyed (AreActiveAt k.rows.value w.registry) (r.version_of z) (r.lane_of z) z
+          (r.start (suc z) - r.start z) (body w.log (r.start z))) (sym e)
+          (own_keyed kind refl (code_once kind Stored
+          (sym kind_here ∙ ap (λ (z : ℕ). high (dir' z)) (sym e) ∙ stored)) ready)
+      pick n above below stored (no ne) = r.keyed.each n above below (ap high (sym (dir_else n ne)) ∙ stored)
+
   -- a publication keeps the rule
   pub publish_kept : Rule k publication
   publish_kept = record {
     start = r.start;
     lane_of = r.lane_of;
+    version_of = r.version_of;
     quota = r.quota;
+    state = r.state;
     key_fits = r.key_fits;
     about = each_set _ w.views id publisher (λ j u ne at_u. r.about j u at_u) (r.about id v at);
     seats = seats_kept w.views id v publisher at refl refl r.seats;
@@ -470,6 +514,9 @@ module _ (k : Key) (w : World) (r : Rule k w) (id : ℕ) (v : View) (at : get_el
     facts = each_set _ w.views id publisher
         (λ j u ne at_u. facts_later k w publication r.start r.start r.lane_of r.lane_of publish_final u.learned
         (r.facts j u at_u)) own_facts;
+    registry = registry_set k w.count w.registry r.state r.version_of w.views id publisher r.registry
+        (r.registry.each id v at) tt;
+    keyed = keyed;
     shuts = each_set _ w.views id publisher
         (λ j u ne at_u. shut_later k w publication r.start r.start r.lane_of r.lane_of publish_final u.shut
         (r.shuts j u at_u)) (own_shut kind refl);

@@ -17,11 +17,15 @@ use Rattle.fish_rule.proofs.Joins.{join_kept, join_lasts}
 use Rattle.fish_rule.proofs.Splits.{split_kept, split_lasts}
 use Rattle.fish_rule.specs.Machine.{Event, EverySchedule, EveryStepIsFinal, Exchanged, Runs, aims, claims}
 use Rattle.fish_rule.specs.Machine.{ends, heads, joins, looks, nodes, previouses, publishes, raises, reads}
-use Rattle.fish_rule.specs.Machine.{settles, splices, splits, stores, swings}
+use Rattle.fish_rule.specs.Machine.{announces, bumps, defines, registers, retires, settles, splices, splits, stores}
+use Rattle.fish_rule.specs.Machine.{swings, versions}
+use Rattle.fish_rule.proofs.Defines.{bump_kept, bump_lasts, define_kept, define_lasts}
+use Rattle.fish_rule.proofs.Enters.{announce_kept, announce_lasts, registry_kept, registry_lasts, retire_kept, retire_lasts}
+use Rattle.fish_rule.proofs.Enters.{version_kept, version_lasts}
 use Rattle.fish_rule.specs.Regions.{dir_word, kind_of}
 use Rattle.fish_rule.specs.Rule.{Final, Rule}
 use Rattle.fish_rule.specs.Start.{empty_world}
-use Rattle.fish_rule.specs.Steps.{IsReady, flight_kind}
+use Rattle.fish_rule.specs.Steps.{flight_kind}
 use Rattle.fish_rule.specs.Reading.{after_look}
 use Rattle.fish_rule.specs.World.{World, put}
 use Rattle.fish_rule.specs.declared.view.Key.{Key}
@@ -51,15 +55,13 @@ event_lasts k (stores id x) w u r g = (let v = g.0 in let f = g.1 in let s = g.2
 event_lasts k (publishes id) w u r g = (let v = g.0 in let f = g.1 in let s = g.2 in let can = g.3 in
     let ends_ : kind_of k.end f.line (f.line + f.lines) ≡ flight_kind v f =
     ap (λ (z : Key). kind_of z.end f.line (f.line + f.lines)) (sym s.about) in
-    let ready : IsReady k (flight_kind v f) v.lane f =
-    subst (λ (z : Key). IsReady z (flight_kind v f) v.lane f) s.about can.ready in
     lasts_at k w r u _ g.4 (subst (λ (z : Key). Lasts k w r
     (record w {
       dir = put w.dir f.number (dir_word (flight_kind v f) f.line);
       views = set w.views id (publisher_at v f z);
     })) (sym s.about) (
-      publish_kept k w r id v s.at f can.live can.flying (flight_kind v f) ends_ ready,
-      publish_lasts k w r id v s.at f can.live can.flying (flight_kind v f) ends_ ready,
+      publish_kept k w r id v s.at f can.live can.flying (flight_kind v f) ends_ can.version can.entered can.ready,
+      publish_lasts k w r id v s.at f can.live can.flying (flight_kind v f) ends_ can.version can.entered can.ready,
     )))
 event_lasts k (looks id n) w u r g = (let v = g.0 in let s = g.2 in
     lasts_at k w r u _ g.5 (subst (λ (z : ℕ). Lasts k w r
@@ -89,6 +91,24 @@ event_lasts k (splices id b q x) w u r g = (let v = g.0 in let f = g.1 in let s 
     exchange_lasts k w r u _ _ (w.log q) x g.4
     (λ e. (splice_kept k w r id v s.at s.about f b q x can e, splice_lasts k w r id v s.at s.about f b q x can e))
     (λ ne. (previous_kept k w r id v s.at b q can.node, previous_lasts k w r id v s.at b q can.node)))
+event_lasts k (versions id) w u r g = (let v = g.0 in let s = g.1 in
+    lasts_at k w r u _ g.2 (version_kept k w r id v s.at, version_lasts k w r id v s.at))
+event_lasts k (announces id x) w u r g = (let v = g.0 in let s = g.1 in
+    lasts_at k w r u _ g.3 (announce_kept k w r id v s.at x g.2, announce_lasts k w r id v s.at x g.2))
+event_lasts k (retires id) w u r g = (let v = g.0 in let s = g.1 in
+    lasts_at k w r u _ g.3 (retire_kept k w r id v s.at g.2, retire_lasts k w r id v s.at g.2))
+event_lasts k (registers id p) w u r g = (let v = g.0 in let s = g.1 in
+    lasts_at k w r u _ g.3 (
+      registry_kept k w r id v s.at s.about p g.2,
+      registry_lasts k w r id v s.at s.about p g.2,
+    ))
+event_lasts k (defines id p x) w u r g = (let v = g.0 in let s = g.1 in
+    lasts_at k w r u _ g.3 (
+      define_kept k w r id v s.at g.2.main p x g.2,
+      define_lasts k w r id v s.at g.2.main p x g.2,
+    ))
+event_lasts k (bumps id) w u r g = (let v = g.0 in let s = g.1 in
+    lasts_at k w r u _ g.3 (bump_kept k w r id v s.at g.2.main g.2, bump_lasts k w r id v s.at g.2.main g.2))
 event_lasts k (splits id l) w u r g = (let v = g.0 in let s = g.1 in
     lasts_at k w r u _ g.3 (split_kept k w r id v s.at l g.2, split_lasts k w r id v s.at l g.2))
 event_lasts k (joins id other) w u r g = (let v = g.0 in let b = g.1 in let s = g.2 in
@@ -104,4 +124,4 @@ runs_kept k (e ∷ events) w u r g = runs_kept k events g.0 u (event_lasts k e w
 
 -- from an empty log on the rule holds
 pub every_schedule : EverySchedule
-every_schedule k events u fits g = runs_kept k events (empty_world k) u (empty_rule k fits) g
+every_schedule k g events u fits opening runs = runs_kept k events (empty_world k g) u (empty_rule k g fits opening) runs

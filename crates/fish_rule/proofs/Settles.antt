@@ -8,7 +8,7 @@ use Rattle.atomic_table.specs.Table.{Allows, step}
 use Rattle.fish_rule.proofs.Allowed.{allowed, loaded_words, stands, there}
 use Rattle.fish_rule.proofs.Bodies.{code_once}
 use Rattle.fish_rule.proofs.Common.{all_among, each_set, seats_kept}
-use Rattle.fish_rule.proofs.Frames.{alone_kept, flight_there, may_kept}
+use Rattle.fish_rule.proofs.Frames.{alone_kept, flight_there, may_kept, registry_set}
 use Rattle.fish_rule.proofs.Kept.{chained_later, published}
 use Rattle.fish_rule.proofs.Learns.{settled_kept}
 use Rattle.fish_rule.proofs.Links.{chains_set, links_set}
@@ -25,6 +25,7 @@ use Rattle.fish_rule.specs.declared.view.Found.{Found}
 use Rattle.fish_rule.specs.declared.view.Key.{Key}
 use Rattle.fish_rule.specs.declared.view.Kind.TheVariants.{Mark}
 use Rattle.fish_rule.specs.declared.view.View.{View}
+use Rattle.fish_rule.proofs.Registers.{endures_same}
 
 module _ (k : Key) (w : World) (r : Rule k w) (id : ℕ) (v : View) (at : get_elem? w.views id ≡ some v)
     (about : v.about ≡ k) (m : ℕ) (can : CanRaise v m) where
@@ -42,6 +43,7 @@ module _ (k : Key) (w : World) (r : Rule k w) (id : ℕ) (v : View) (at : get_el
     counts = omega arith;
     lines = omega arith;
     settles = omega arith;
+    registered = endures_same k.rows.value w.registry;
     heads = λ b. omega arith;
     links = links_set k w r id v (raiser) at (λ a c h. h);
     rises = λ b p h. omega arith;
@@ -82,7 +84,9 @@ module _ (k : Key) (w : World) (r : Rule k w) (id : ℕ) (v : View) (at : get_el
   raise_kept = record {
     start = r.start;
     lane_of = r.lane_of;
+    version_of = r.version_of;
     quota = r.quota;
+    state = r.state;
     key_fits = r.key_fits;
     about = each_set _ w.views id raiser (λ j u ne at_u. r.about j u at_u) (r.about id v at);
     seats = seats_kept w.views id v raiser at refl refl r.seats;
@@ -125,6 +129,9 @@ module _ (k : Key) (w : World) (r : Rule k w) (id : ℕ) (v : View) (at : get_el
           gaps = h.gaps;
           labels = h.labels;
         });
+    registry = registry_set k w.count w.registry r.state r.version_of w.views id raiser r.registry
+        (r.registry.each id v at) (r.registry.flights id v at);
+    keyed = r.keyed;
     shuts = each_set _ w.views id raiser (λ j u ne at_u. r.shuts j u at_u) (r.shuts id v at);
   }
 

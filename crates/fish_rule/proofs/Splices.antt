@@ -179,7 +179,7 @@ module _ (k : Key) (w : World) (r : Rule k w) (id : ℕ) (v : View) (at : get_el
       whole_stays some_ = (let whole = h.whole some_ in let e = body_stays some_ in record {
         kind = whole.kind;
         full = whole.full;
-        record_of = subst (IsRecord k u.lane g.number g.lines) (sym e) whole.record_of;
+        record_of = subst (IsRecord u.lane g.number g.lines) (sym e) whole.record_of;
         upto = subst (λ (z : ℕ → ℕ). g.linked ≤ keys_of (z 0)) (sym e) whole.upto;
       })
 
@@ -295,14 +295,14 @@ module _ (k : Key) (w : World) (r : Rule k w) (id : ℕ) (v : View) (at : get_el
   pub splice_kept : Rule k splice_world
   splice_kept =
       link_kept k w r id v at f can.aim b bucket w.head log' splicer.learned splicer.clock leaves chains facts
-      (r.floors id v at) chained
+      (r.floors id v at) chained (r.registry.each id v at)
 
   -- and all that lasts
   pub splice_lasts : Final k r.start splice_kept.start r.lane_of splice_kept.lane_of w splice_world
   unfolding splice_kept
   splice_lasts =
       link_lasts k w r id v at f can.aim b bucket w.head log' splicer.learned splicer.clock leaves chains facts
-      (r.floors id v at) chained
+      (r.floors id v at) chained (r.registry.each id v at)
 
 -- a splice leaves the key
 about_splice : (v : View) {k : Key} (f : Flight) (b q x y : ℕ) → v.about ≡ k → (after_splice v f b q x y).about ≡ k

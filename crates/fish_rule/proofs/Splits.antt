@@ -1,5 +1,5 @@
 -- A split changes no word: a lane goes to a new pass, with its records and all that the control pass knew.
-use Rattle.std.proofs.Common.{◌≡◌, ℕ, List, [], ◌∷◌, ◌++◌, set, sym, refl, subst, inr, ⊎_elim, arith}
+use Rattle.std.proofs.Common.{◌∙◌, ap, ◌≡◌, ℕ, List, [], ◌∷◌, ◌++◌, set, sym, refl, subst, inr, ⊎_elim, arith}
 use mathlib.Core.Option.{some}
 use Rattle.std.proofs.Math.ListN.{get_elem?}
 use Rattle.atomic_table.proofs.Lists.{at_longer, at_snoc}
@@ -21,6 +21,9 @@ use Rattle.fish_rule.specs.Views.{Each, Has, IsFlightOf}
 use Rattle.fish_rule.specs.World.{World}
 use Rattle.fish_rule.specs.declared.view.Key.{Key}
 use Rattle.fish_rule.specs.declared.view.View.{View}
+use Rattle.fish_rule.proofs.Registers.{endures_same}
+use Rattle.fish_rule.specs.Epochs.{Registry, Stays}
+use Rattle.fish_rule.specs.declared.view.Epoch.TheVariants.{Out}
 
 module _ (k : Key) (w : World) (r : Rule k w) (id : ℕ) (v : View) (at : get_elem? w.views id ≡ some v) (l : ℕ)
     (can : CanSplit v l) where
@@ -130,6 +133,7 @@ module _ (k : Key) (w : World) (r : Rule k w) (id : ℕ) (v : View) (at : get_el
     counts = omega arith;
     lines = omega arith;
     settles = omega arith;
+    registered = endures_same k.rows.value w.registry;
     heads = λ b. omega arith;
     links = links_views k w r (cut ++ right ∷ []) links_cut;
     rises = λ b p h. omega arith;
@@ -148,12 +152,46 @@ module _ (k : Key) (w : World) (r : Rule k w) (id : ℕ) (v : View) (at : get_el
         cut ++ right ∷ [];
   }) r.start r.start r.lane_of r.lane_of split_final
 
+  -- the control pass is as far entered as before, and the lane that it gave out is out
+  left_stays : Stays k w.registry r.state v.lane (l ∷ v.out) v.epoch v.learned.version v.learned.words v.rows v.draft
+  left_stays = (let h = r.registry.each id v at in record {
+    tied = λ x has. h.tied x (left_has v.lane l v.out x can.main can.above has).0;
+    reached = h.reached;
+    read = h.read;
+    main = h.main;
+  })
+
+  right_stays : Stays k w.registry r.state l [] Out v.learned.version v.learned.words [] []
+  right_stays =
+      let h = r.registry.each id v at in
+      let main = can.main in
+      let above = can.above in
+      let here : Has v.lane v.out l = (omega arith, can.below, inr (can.main, can.here)) in
+      let state : r.state l ≡ Out = (h.tied l here).1 (λ e. omega arith) in
+      record {
+        tied = λ x has. let e : x ≡ l = has_one l [] x can.above has in
+            ((λ _. ap r.state e ∙ state), (λ ne. absurd (ne e)));
+        reached = h.reached;
+        read = h.read;
+        main = λ e. absurd (omega arith);
+      }
+
+  split_registry : Registry k w.count w.registry r.state r.version_of (cut ++ right ∷ [])
+  split_registry = record {
+    epochs = r.registry.epochs;
+    versions = r.registry.versions;
+    each = each_cut _ r.registry.each left_stays right_stays;
+    flights = each_cut _ r.registry.flights (r.registry.flights id v at) tt;
+  }
+
   -- a split keeps the rule
   pub split_kept : Rule k (record w { views = set w.views id (split_left l v) ++ split_right l v ∷ [] })
   split_kept = record {
     start = r.start;
     lane_of = r.lane_of;
+    version_of = r.version_of;
     quota = r.quota;
+    state = r.state;
     key_fits = r.key_fits;
     about = each_cut _ r.about (r.about id v at) (λ _. let m = can.main in r.about id v at (omega arith));
     seats = split_seats;
@@ -178,6 +216,8 @@ module _ (k : Key) (w : World) (r : Rule k w) (id : ℕ) (v : View) (at : get_el
     floors = each_cut _ r.floors (r.floors id v at) (r.floors id v at);
     own = each_cut _ r.own left_owns right_owns;
     facts = each_cut _ r.facts (r.facts id v at) (r.facts id v at);
+    registry = split_registry;
+    keyed = r.keyed;
     shuts = each_cut _ r.shuts (r.shuts id v at) (r.shuts id v at);
   }
 
@@ -191,6 +231,7 @@ module _ (k : Key) (w : World) (r : Rule k w) (id : ℕ) (v : View) (at : get_el
     counts = omega arith;
     lines = omega arith;
     settles = omega arith;
+    registered = endures_same k.rows.value w.registry;
     heads = λ b. omega arith;
     links = links_views k w r (cut ++ right ∷ []) links_cut;
     rises = λ b p h. omega arith;

@@ -39,12 +39,12 @@ module _ (k : Key) (w : World) (r : Rule k w) where
     pub below : number < w.count
     pub line : r.start number ≡ a
     pub kind : kind_of k.end (r.start number) (r.start (suc number)) ≡ Stored
-    pub record_of : IsRecord k (r.lane_of number) number (r.start (suc number) - r.start number) (body w.log a)
+    pub record_of : IsRecord (r.lane_of number) number (r.start (suc number) - r.start number) (body w.log a)
     pub owner : (w.dir number ≢ 0) ⊎ ((w.dir number ≡ 0) × IsFlier w number c)
 
   -- a record where the kind says so
-  record_held : (kind : Kind) (lane n lines : ℕ) (e : ℕ → ℕ) → kind ≡ Stored → Holds k kind lane n lines e
-      → IsRecord k lane n lines e
+  record_held : (kind : Kind) (lane n lines : ℕ) (e : ℕ → ℕ) → kind ≡ Stored → Holds kind lane n lines e
+      → IsRecord lane n lines e
   record_held Stored lane n lines e q h = h
   record_held Void lane n lines e q h = cc
   record_held Mark lane n lines e q h = cc
@@ -69,7 +69,7 @@ module _ (k : Key) (w : World) (r : Rule k w) where
             below = below;
             line = line;
             kind = kind;
-            record_of = subst (λ (z : ℕ). IsRecord k (r.lane_of h.number) h.number
+            record_of = subst (λ (z : ℕ). IsRecord (r.lane_of h.number) h.number
                 (r.start (suc h.number) - r.start h.number) (body w.log z)) line
                 (record_held _ _ h.number _ _ kind f.holds);
             owner = inl set_;
@@ -92,7 +92,7 @@ module _ (k : Key) (w : World) (r : Rule k w) where
         below = h.below;
         line = s ∙ line;
         kind = subst (λ (z : ℕ × ℕ). kind_of k.end z.0 z.1 ≡ Stored) (λ i. (sym s i, sym e i)) whole.kind;
-        record_of = subst (λ (z : ℕ × ℕ × ℕ). IsRecord k z.0 f.number z.1 (body w.log z.2))
+        record_of = subst (λ (z : ℕ × ℕ × ℕ). IsRecord z.0 f.number z.1 (body w.log z.2))
             (λ i. (sym h.owner i, sym size i, line i)) whole.record_of;
         owner = inr (
           h.unpublished,

@@ -4,7 +4,7 @@ use Rattle.std.proofs.Common.{ap, ◌∙◌, inl, inr, ◌⊎◌, arith, get_or-
 use Rattle.std.proofs.Math.Decide.{ℕ_discrete, dec_le}
 use Rattle.fish_layout.proofs.Clearing.{choose_first, choose_second}
 use Rattle.fish_layout.specs.Cleared.{choose}
-use Rattle.fish_rule.specs.World.{area, dir_at, heads_at, high, log_at, log_size, low, put, slots, total, world}
+use Rattle.fish_rule.specs.World.{area, dir_at, heads_at, high, log_at, log_size, low, put, registry_size, slots, total, world}
 use Rattle.fish_rule.specs.declared.view.Key.{Key}
 use Rattle.fish_rule.specs.declared.view.View.{View}
 
@@ -102,6 +102,7 @@ world-tail k ws vs us x some =
       count = high (here j);
       line = low (here j);
       settled = get_or-set_other ws 0 1 x 0 (omega arith) j;
+      registry = area-else ws 2 2 registry_size 0 x (inl (omega arith)) j;
       head = area-else ws heads_at 0 k.buckets 0 x (inl (omega arith)) j;
       dir = area-else ws (dir_at k) k.number (slots k) 0 x (inl (omega arith)) j;
       log = area-else ws (log_at k) (k.line * 4) (log_size k) 0 x (inl (omega arith)) j;
@@ -117,9 +118,27 @@ world-settled k ws vs us x some =
       count = high (apart j);
       line = low (apart j);
       settled = get_or-set_same ws 1 x 0 some j;
+      registry = area-else ws 2 2 registry_size 1 x (inl (omega arith)) j;
       head = area-else ws heads_at 0 k.buckets 1 x (inl (omega arith)) j;
       dir = area-else ws (dir_at k) k.number (slots k) 1 x (inl (omega arith)) j;
       log = area-else ws (log_at k) (k.line * 4) (log_size k) 1 x (inl (omega arith)) j;
+      views = us;
+    }
+
+-- a store of a word of the registry
+pub world-registry : (k : Key) (ws : List ℕ) (vs us : List View) (p x : ℕ) → 2 ≤ p → p < heads_at
+    → length ws ≡ total k
+    → world k (set ws p x) us ≡ record (world k ws vs) { registry = put (world k ws vs).registry p x; views = us }
+world-registry k ws vs us p x above below wide =
+    let apart : get_or (set ws p x) 0 0 ≡ get_or ws 0 0 = get_or-set_other ws p 0 x 0 (omega arith) in
+    λ j. record {
+      count = high (apart j);
+      line = low (apart j);
+      settled = get_or-set_other ws p 1 x 0 (omega arith) j;
+      registry = area-store ws 2 2 registry_size p p x above (omega arith) (omega arith) (omega arith) j;
+      head = area-else ws heads_at 0 k.buckets p x (inl (omega arith)) j;
+      dir = area-else ws (dir_at k) k.number (slots k) p x (inl (omega arith)) j;
+      log = area-else ws (log_at k) (k.line * 4) (log_size k) p x (inl (omega arith)) j;
       views = us;
     }
 
@@ -133,6 +152,7 @@ world-head k ws vs us b i x below is wide =
       count = high (apart j);
       line = low (apart j);
       settled = get_or-set_other ws i 1 x 0 (omega arith) j;
+      registry = area-else ws 2 2 registry_size i x (inr (omega arith)) j;
       head = area-store ws heads_at 0 k.buckets b i x (omega arith) (omega arith) (omega arith) (omega arith) j;
       dir = area-else ws (dir_at k) k.number (slots k) i x (inl (omega arith)) j;
       log = area-else ws (log_at k) (k.line * 4) (log_size k) i x (inl (omega arith)) j;
@@ -149,6 +169,7 @@ world-dir k ws vs us n i x above below is wide =
       count = high (apart j);
       line = low (apart j);
       settled = get_or-set_other ws i 1 x 0 (omega arith) j;
+      registry = area-else ws 2 2 registry_size i x (inr (omega arith)) j;
       head = area-else ws heads_at 0 k.buckets i x (inr (omega arith)) j;
       dir = area-store ws (dir_at k) k.number (slots k) n i x above below is (omega arith) j;
       log = area-else ws (log_at k) (k.line * 4) (log_size k) i x (inl (omega arith)) j;
@@ -165,6 +186,7 @@ world-log k ws vs us p i x above below is wide =
       count = high (apart j);
       line = low (apart j);
       settled = get_or-set_other ws i 1 x 0 (omega arith) j;
+      registry = area-else ws 2 2 registry_size i x (inr (omega arith)) j;
       head = area-else ws heads_at 0 k.buckets i x (inr (omega arith)) j;
       dir = area-else ws (dir_at k) k.number (slots k) i x (inr (omega arith)) j;
       log = area-store ws (log_at k) (k.line * 4) (log_size k) p i x above below is (omega arith) j;

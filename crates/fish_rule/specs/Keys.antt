@@ -1,5 +1,5 @@
 -- Which key entries a record has: the values that the active definitions give for it.
-use Rattle.std.specs.Prelude.{ℕ, ◌≡◌, List, filter, map}
+use Rattle.std.specs.Prelude.{ℕ, ◌≡◌, ◌<◌, List, filter, map}
 use Rattle.fish_catalog.specs.Rows.{is_active}
 use Rattle.fish_catalog.specs.declared.row.CatRow.{CatRow}
 use Rattle.fish_lang.specs.Canonical.{definition_text}
@@ -10,6 +10,7 @@ use Rattle.fish_psf.specs.Keys.{keys_of}
 use Rattle.fish_psf.specs.Records.{fields_of_payload}
 use Rattle.fish_psf.specs.declared.key.ActiveDef.{ActiveDef}
 use Rattle.fish_psf.specs.declared.key.KeyValue.{KeyValue}
+use Rattle.fish_rule.specs.Regions.{IsRecordOf}
 
 -- a definition under its id, as its row keeps it
 abbrev pub text_of : ActiveDef → ℕ × List ℕ
@@ -23,8 +24,20 @@ AreActive rows defs = map text_of defs ≡ map (λ row. (row.id, row.def)) (filt
 abbrev pub property : KeyPart → KeyValue
 property key = record { id = key.id; value = key.value }
 
--- the record has a key entry for each active definition that gives a value for its payload, and no other
-pub record HasKeys (rows : List CatRow) (p : BodyParts) : Type 0 where
+-- the record has a key entry for each definition that is active at its version and gives a value for its payload,
+-- and no other; `active` says which texts are those of a version's active definitions
+pub record HasKeys (active : ℕ → List (ℕ × List ℕ) → Type 0) (p : BodyParts) : Type 0 where
   pub defs : List ActiveDef
-  pub active : AreActive rows defs
+  pub are : active p.version (map text_of defs)
   pub keys : map property p.keys ≡ keys_of (fields_of_payload p.form p.payload) defs
+
+-- e has the words of a record of this version, lane, number and lines, with the keys of that version
+pub record IsKeyedOf (active : ℕ → List (ℕ × List ℕ) → Type 0) (version lane number lines : ℕ) (e : ℕ → ℕ)
+    (p : BodyParts) : Type 0 where
+  pub record_of : IsRecordOf lane number lines e p
+  pub version_is : p.version ≡ version
+  pub keys : HasKeys active p
+
+-- some record
+abbrev pub IsKeyed : (ℕ → List (ℕ × List ℕ) → Type 0) → ℕ → ℕ → ℕ → ℕ → (ℕ → ℕ) → Type 0
+IsKeyed active version lane number lines e = (p : BodyParts) × IsKeyedOf active version lane number lines e p

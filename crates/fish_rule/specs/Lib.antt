@@ -1,4 +1,6 @@
 pub mod Chains
+pub mod Entering
+pub mod Epochs
 pub mod Facts
 pub mod Flying
 pub mod Keys
@@ -9,6 +11,7 @@ pub mod Parts
 pub mod Passes
 pub mod Reading
 pub mod Regions
+pub mod Registry
 pub mod Rule
 pub mod Seating
 pub mod Start

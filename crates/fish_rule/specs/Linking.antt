@@ -6,9 +6,11 @@ use Rattle.std.proofs.Math.Decide.{ℕ_discrete}
 use Rattle.fish_layout.specs.Bucket.{bucket_of}
 use Rattle.fish_layout.specs.Cleared.{body_of, choose, entry_at}
 use Rattle.fish_layout.specs.Header.{keys_of}
-use Rattle.fish_rule.specs.Regions.{IsRecord}
+use Rattle.fish_rule.specs.Keys.{IsKeyed}
+use Rattle.fish_rule.specs.Registry.{KnowsActive}
 use Rattle.fish_rule.specs.Steps.{flight_kind, loaded, ticked}
 use Rattle.fish_rule.specs.Views.{Among}
+use Rattle.fish_rule.specs.declared.view.Epoch.TheVariants.{Confirmed}
 use Rattle.fish_rule.specs.declared.view.Flight.{Flight}
 use Rattle.fish_rule.specs.declared.view.Gap.{Gap}
 use Rattle.fish_rule.specs.declared.view.Kind.TheVariants.{Stored}
@@ -86,12 +88,18 @@ after_node v p x = record v {
 abbrev pub own_place : Flight → ℕ
 own_place f = f.line * 4 + entry_at f.linked
 
+-- the words of f are those of a record of the version at which the pass is entered, with the keys of that version
+pub record IsFilled (v : View) (f : Flight) : Type 0 where
+  pub version : ℕ
+  pub entered : v.epoch ≡ Confirmed version
+  pub keyed : IsKeyed (KnowsActive v.about.rows.value v.learned) version v.lane f.number f.lines (body_of f.words)
+
 -- f is in flight and a whole record, and an entry of it is still to be linked
 pub record CanAim (v : View) (f : Flight) : Type 0 where
   pub flying : v.flight ≡ Some f
   pub kind : flight_kind v f ≡ Stored
   pub full : length f.words ≡ f.lines * 4
-  pub record_of : IsRecord v.about v.lane f.number f.lines (body_of f.words)
+  pub filled : IsFilled v f
   pub more : f.linked < keys_of (body_of f.words 0)
 
 -- a record in flight whose next entry is aimed at a place

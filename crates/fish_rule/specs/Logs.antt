@@ -22,6 +22,7 @@ use Rattle.fish_rule.specs.declared.view.Learned.{Learned}
 use Rattle.fish_rule.specs.declared.view.Node.{Node}
 use Rattle.fish_rule.specs.declared.view.Own.{Own}
 use Rattle.fish_rule.specs.declared.view.Recorded.{Recorded}
+use Rattle.fish_rule.specs.declared.view.RegistryWord.{RegistryWord}
 use Rattle.fish_rule.specs.declared.view.Kind.TheVariants.{Mark, Stored, Void}
 use Rattle.fish_rule.specs.declared.view.View.{View}
 use Rattle.fish_value.specs.declared.field.Form.{Form}
@@ -55,6 +56,8 @@ pub record Learns (v u : View) : Type 0 where
   pub about : u.about ≡ v.about
   pub count : v.learned.count ≤ u.learned.count
   pub settled : v.learned.settled ≤ u.learned.settled
+  pub version : v.learned.version ≤ u.learned.version
+  pub words : (x : RegistryWord) → Among x v.learned.words → Among x u.learned.words
   pub found : (x : Found) → Among x v.learned.found → Among x u.learned.found
   pub known : (x : Known) → Among x v.learned.known → Among x u.learned.known
   pub records : (x : Recorded) → Among x v.learned.records → Among x u.learned.records
@@ -82,6 +85,9 @@ pub record Extends (v u : View) : Type 0 where
   pub out : u.out ≡ v.out
   pub shut : u.shut ≡ v.shut
   pub flight : u.flight ≡ v.flight
+  pub epoch : u.epoch ≡ v.epoch
+  pub rows : u.rows ≡ v.rows
+  pub draft : u.draft ≡ v.draft
   pub tail : u.tail ≡ v.tail
   pub own : u.own ≡ v.own
 

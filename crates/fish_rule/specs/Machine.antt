@@ -2,6 +2,9 @@
 use Rattle.std.specs.Prelude.{ℕ, ◌≡◌, ◌≢◌, ◌+◌, ◌-◌, ◌*◌, ◌<◌, ◌≤◌, ◌⊎◌, suc, List, [], ◌∷◌, ◌++◌, length, max}
 use mathlib.Core.Option.{some}
 use Rattle.std.proofs.Math.ListN.{get_elem?, set}
+use Rattle.fish_rule.specs.Entering.{CanAnnounce, CanBump, CanDefine, CanEnter, CanLoadRegistry, after_announce}
+use Rattle.fish_rule.specs.Entering.{after_bump, after_define, after_registry, after_retire, after_version}
+use Rattle.fish_rule.specs.Registry.{epoch_at}
 use Rattle.fish_rule.specs.Linking.{CanAim, CanLoadHead, CanSplice, CanSwing, HasNode, after_aim, after_head}
 use Rattle.fish_rule.specs.Linking.{after_node, after_previous, own_place, spliced, swung}
 use Rattle.fish_rule.specs.Parts.{Fits}
@@ -11,7 +14,7 @@ use Rattle.fish_rule.specs.Seating.{CanJoin, CanSplit, join_both, spent, split_l
 use Rattle.fish_rule.specs.Steps.{CanClaim, CanPublish, CanStore, after_claim, after_publish, after_store, flight_kind}
 use Rattle.fish_rule.specs.Reading.{CanLook, CanRaise, CanRead, after_end, after_look, after_raise}
 use Rattle.fish_rule.specs.Reading.{after_read, after_settled}
-use Rattle.fish_rule.specs.Start.{empty_world}
+use Rattle.fish_rule.specs.Start.{IsOpening, empty_world}
 use Rattle.fish_rule.specs.World.{World, high, low, put}
 use Rattle.fish_rule.specs.declared.view.Flight.{Flight}
 use Rattle.fish_rule.specs.declared.view.Found.{Found}
@@ -34,6 +37,12 @@ pub data Event : Type 0 where
   aims : ℕ → ℕ → Event
   swings : ℕ → ℕ → ℕ → Event
   splices : ℕ → ℕ → ℕ → ℕ → Event
+  versions : ℕ → Event
+  announces : ℕ → ℕ → Event
+  retires : ℕ → Event
+  registers : ℕ → ℕ → Event
+  defines : ℕ → ℕ → ℕ → Event
+  bumps : ℕ → Event
   splits : ℕ → ℕ → Event
   joins : ℕ → ℕ → Event
 
@@ -90,6 +99,18 @@ Goes k w (splices id b q x) u = (v : View) × (f : Flight) × Seated k w id v ×
       views = set w.views id (spliced v f b q);
     })
     (record w { views = set w.views id (after_previous v b q (w.log q)) })
+Goes k w (versions id) u = (v : View) × Seated k w id v
+    × (u ≡ record w { views = set w.views id (after_version v (w.registry 2)) })
+Goes k w (announces id x) u = (v : View) × Seated k w id v × CanAnnounce v x
+    × (u ≡ record w { registry = put w.registry (epoch_at v.lane) (suc x); views = set w.views id (after_announce v x) })
+Goes k w (retires id) u = (v : View) × Seated k w id v × CanEnter v
+    × (u ≡ record w { registry = put w.registry (epoch_at v.lane) 0; views = set w.views id (after_retire v) })
+Goes k w (registers id p) u = (v : View) × Seated k w id v × CanLoadRegistry v p
+    × (u ≡ record w { views = set w.views id (after_registry v p (w.registry p)) })
+Goes k w (defines id p x) u = (v : View) × Seated k w id v × CanDefine v p x
+    × (u ≡ record w { registry = put w.registry p x; views = set w.views id (after_define v p x) })
+Goes k w (bumps id) u = (v : View) × Seated k w id v × CanBump v
+    × (u ≡ record w { registry = put w.registry 2 (suc v.learned.version); views = set w.views id (after_bump v) })
 Goes k w (splits id l) u = (v : View) × Seated k w id v × CanSplit v l
     × (u ≡ record w { views = set w.views id (split_left l v) ++ split_right l v ∷ [] })
 Goes k w (joins id other) u = (v : View) × (b : View) × Seated k w id v × (other ≢ id)
@@ -103,7 +124,8 @@ Runs k w (e ∷ es) u = (m : World) × Goes k w e m × Runs k m es u
 
 -- from an empty log on, the rule holds after every list of steps
 abbrev pub EverySchedule : Type 0
-EverySchedule = (k : Key) (events : List Event) (u : World) → Fits k → Runs k (empty_world k) events u → Rule k u
+EverySchedule = (k : Key) (g : ℕ → ℕ) (events : List Event) (u : World) → Fits k → IsOpening k.rows.value g
+    → Runs k (empty_world k g) events u → Rule k u
 
 -- and each step keeps for good what lasts
 abbrev pub EveryStepIsFinal : Type 0

@@ -56,7 +56,7 @@ pub record IsFinished (k : Key) (dir log start lane_of : ℕ → ℕ) (n : ℕ) 
   pub kind : high (dir n) ≡ code (kind_of k.end (start n) (start (suc n)))
   pub line : low (dir n) ≡ start n
   pub lined : lines_of (body log (start n) 0) ≤ start (suc n) - start n
-  pub holds : Holds k (kind_of k.end (start n) (start (suc n))) (lane_of n) n (start (suc n) - start n)
+  pub holds : Holds (kind_of k.end (start n) (start (suc n))) (lane_of n) n (start (suc n) - start n)
       (body log (start n))
 
 -- word i of a region is the first of one of the key entries that are linked
@@ -67,7 +67,7 @@ IsLinkedWord linked i = (c : ℕ) × (c < linked) × (i ≡ entry_at c)
 pub record Whole (k : Key) (log : ℕ → ℕ) (lane : ℕ) (f : Flight) : Type 0 where
   pub kind : kind_of k.end f.line (f.line + f.lines) ≡ Stored
   pub full : length f.words ≡ f.lines * 4
-  pub record_of : IsRecord k lane f.number f.lines (body log f.line)
+  pub record_of : IsRecord lane f.number f.lines (body log f.line)
   pub upto : f.linked ≤ keys_of (body log f.line 0)
 
 -- a record in flight with a pass of this lane: its region is claimed and its number not published;

@@ -6,8 +6,6 @@ use Rattle.fish_layout.specs.Cleared.{Spells, choose}
 use Rattle.fish_layout.specs.Header.{void_word}
 use Rattle.fish_layout.specs.declared.parts.BodyParts.{BodyParts}
 use Rattle.fish_psf.specs.Records.{is_record}
-use Rattle.fish_rule.specs.Keys.{HasKeys}
-use Rattle.fish_rule.specs.declared.view.Key.{Key}
 use Rattle.fish_rule.specs.declared.view.Kind.{Kind}
 use Rattle.fish_rule.specs.declared.view.Kind.TheVariants.{Mark, Stored, Void}
 
@@ -30,27 +28,24 @@ kind_of end a b = choose (dec_lt end b) Mark (kind_within a b)
 abbrev pub dir_word : Kind → ℕ → ℕ
 dir_word kind line = line + code kind * 68719476736
 
--- e has the words of a record of this lane, number and lines, whose payload is a record of its form, with the
--- keys that the definitions of the table's start give for it
-pub record IsRecordOf (k : Key) (lane number lines : ℕ) (e : ℕ → ℕ) (p : BodyParts) : Type 0 where
+-- e has the words of a record of this lane, number and lines, whose payload is a record of its form
+pub record IsRecordOf (lane number lines : ℕ) (e : ℕ → ℕ) (p : BodyParts) : Type 0 where
   pub spells : Spells p e
   pub lane_is : p.lane ≡ lane
   pub number_is : p.number ≡ number
   pub lines_is : body_lines p ≡ lines
   pub reads : IsTrue (is_record p.form p.payload)
-  pub version_is : p.version ≡ 0
-  pub keys : HasKeys k.rows.value p
 
 -- some record
-abbrev pub IsRecord : Key → ℕ → ℕ → ℕ → (ℕ → ℕ) → Type 0
-IsRecord k lane number lines e = (p : BodyParts) × IsRecordOf k lane number lines e p
+abbrev pub IsRecord : ℕ → ℕ → ℕ → (ℕ → ℕ) → Type 0
+IsRecord lane number lines e = (p : BodyParts) × IsRecordOf lane number lines e p
 
 -- the words of a void: its header, and zeros
 unfoldable pub void_body : ℕ → ℕ → ℕ
 void_body lines i = choose (ℕ_discrete i 0) (void_word lines) 0
 
 -- what a published region of a kind holds: a record, the words of a void, or nothing
-abbrev pub Holds : Key → Kind → ℕ → ℕ → ℕ → (ℕ → ℕ) → Type 0
-Holds k Stored lane number lines e = IsRecord k lane number lines e
-Holds k Void lane number lines e = e ≡ void_body lines
-Holds k Mark lane number lines e = e 0 ≡ 0
+abbrev pub Holds : Kind → ℕ → ℕ → ℕ → (ℕ → ℕ) → Type 0
+Holds Stored lane number lines e = IsRecord lane number lines e
+Holds Void lane number lines e = e ≡ void_body lines
+Holds Mark lane number lines e = e 0 ≡ 0

@@ -1,18 +1,23 @@
 -- The rule: all parts at once. And what every step leaves as it was.
 use Rattle.std.specs.Prelude.{ℕ, ◌≡◌, ◌≢◌, ◌*◌, ◌<◌, ◌≤◌, []}
 use Rattle.fish_rule.specs.Chains.{Chain, Chained, Linked}
+use Rattle.fish_rule.specs.Epochs.{Keyed, Registry}
 use Rattle.fish_rule.specs.Parts.{Fits, Limit, Rests, Seats, Settled, Space}
 use Rattle.fish_rule.specs.Facts.{Facts, Owns, ShutOk}
+use Rattle.fish_rule.specs.Registry.{Endures}
 use Rattle.fish_rule.specs.Views.{Each}
 use Rattle.fish_rule.specs.World.{World, body}
+use Rattle.fish_rule.specs.declared.view.Epoch.{Epoch}
 use Rattle.fish_rule.specs.declared.view.Key.{Key}
 
--- the parts, over the lines at which regions begin, the lanes that claimed them, and the lanes that
--- may still claim past the end
+-- the parts, over the lines at which regions begin, the lanes and the versions that claimed them, the lanes that
+-- may still claim past the end, and how far each lane is entered
 pub record Rule (k : Key) (w : World) : Type 0 where
   pub start : ℕ → ℕ
   pub lane_of : ℕ → ℕ
+  pub version_of : ℕ → ℕ
   pub quota : ℕ → ℕ
+  pub state : ℕ → Epoch
   pub key_fits : Fits k
   pub about : Each (λ v. 1 ≤ v.lane → v.about ≡ k) w.views
   pub seats : Seats w.views
@@ -25,16 +30,19 @@ pub record Rule (k : Key) (w : World) : Type 0 where
   pub chained : Each (λ v. Chained k w.dir w.log w.views w.head v.learned) w.views
   pub own : Each (λ v. Owns k w.count w.dir lane_of v.lane v.out v.own) w.views
   pub facts : Each (λ v. Facts k w.count w.dir w.log start v.learned) w.views
+  pub registry : Registry k w.count w.registry state version_of w.views
+  pub keyed : Keyed k w.count w.registry w.dir w.log start lane_of version_of
   pub shuts : Each (λ v. ShutOk k w.count w.dir start v.shut) w.views
 
--- what every step keeps for good: the tail, the settled number, heads and the first words of linked key entries
+-- what every step keeps for good: the tail, the settled number, the version, heads and the first words of linked key entries
 -- only rise; linked entries stay linked; claimed regions stay where they are; directory words that are set, and
 -- the words of published regions but for previous nodes, never change; no word of a record below the settled
--- number changes at all
+-- number changes at all, and no operation and no row that a version has, but for its boundaries
 pub record Final (k : Key) (start start' lane_of lane_of' : ℕ → ℕ) (w w' : World) : Type 0 where
   pub counts : w.count ≤ w'.count
   pub lines : w.line ≤ w'.line
   pub settles : w.settled ≤ w'.settled
+  pub registered : Endures k.rows.value w.registry w'.registry
   pub heads : (b : ℕ) → w.head b ≤ w'.head b
   pub links : (b p : ℕ) → Linked k w.dir w.log w.views b p → Linked k w'.dir w'.log w'.views b p
   pub rises : (b p : ℕ) → Linked k w.dir w.log w.views b p → w.log p ≤ w'.log p

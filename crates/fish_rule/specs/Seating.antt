@@ -5,6 +5,7 @@ use Rattle.fish_layout.specs.Cleared.{choose}
 use Rattle.fish_rule.specs.Steps.{ticked}
 use Rattle.fish_rule.specs.Views.{Among}
 use Rattle.fish_rule.specs.declared.view.Clock.{Clock}
+use Rattle.fish_rule.specs.declared.view.Epoch.TheVariants.{Out}
 use Rattle.fish_rule.specs.declared.view.Learned.{Learned}
 use Rattle.fish_rule.specs.declared.view.Own.{Own}
 use Rattle.fish_rule.specs.declared.view.Shut.{Shut}
@@ -46,6 +47,9 @@ split_right l v = record {
   out = [];
   shut = v.shut;
   flight = None;
+  epoch = Out;
+  rows = [];
+  draft = [];
   tail = None;
   own = of_lane l v.own;
   learned = v.learned;
@@ -54,12 +58,13 @@ split_right l v = record {
 
 -- ---- join
 
--- the other pass's lane is out, and it has nothing in flight
+-- the other pass's lane is out, and it has nothing in flight and isn't entered
 pub record CanJoin (v u : View) : Type 0 where
   pub main : v.lane ≡ 1
   pub above : 2 ≤ u.lane
   pub out : Among u.lane v.out
   pub idle : u.flight ≡ None
+  pub outside : u.epoch ≡ Out
 
 -- the lanes without l
 abbrev pub without : ℕ → List ℕ → List ℕ
@@ -71,6 +76,8 @@ abbrev pub learned_both : Learned → Learned → Learned
 learned_both a b = record {
   count = max a.count b.count;
   settled = max a.settled b.settled;
+  version = max a.version b.version;
+  words = a.words ++ b.words;
   found = a.found ++ b.found;
   known = a.known ++ b.known;
   records = a.records ++ b.records;
@@ -102,6 +109,8 @@ abbrev pub unlearned : Learned
 unlearned = record {
   count = 0;
   settled = 0;
+  version = 0;
+  words = [];
   found = [];
   known = [];
   records = [];
@@ -120,6 +129,9 @@ spent = record {
   out = [];
   shut = None;
   flight = None;
+  epoch = Out;
+  rows = [];
+  draft = [];
   tail = None;
   own = [];
   learned = unlearned;

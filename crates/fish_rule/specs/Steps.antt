@@ -3,10 +3,12 @@ use Rattle.std.specs.Prelude.{ℕ, ◌≡◌, ◌+◌, ◌*◌, ◌<◌, ◌≤�
 use Rattle.std.specs.Prelude.{Option, Some, None}
 use Rattle.fish_layout.specs.Cleared.{body_of}
 use Rattle.fish_layout.specs.Header.{keys_of, void_word}
-use Rattle.fish_rule.specs.Regions.{IsRecord, kind_of}
+use Rattle.fish_rule.specs.Keys.{IsKeyed}
+use Rattle.fish_rule.specs.Regions.{kind_of}
+use Rattle.fish_rule.specs.Registry.{KnowsActive}
 use Rattle.fish_rule.specs.declared.view.Clock.{Clock}
+use Rattle.fish_rule.specs.declared.view.Epoch.TheVariants.{Confirmed}
 use Rattle.fish_rule.specs.declared.view.Flight.{Flight}
-use Rattle.fish_rule.specs.declared.view.Key.{Key}
 use Rattle.fish_rule.specs.declared.view.Kind.{Kind}
 use Rattle.fish_rule.specs.declared.view.Kind.TheVariants.{Mark, Stored, Void}
 use Rattle.fish_rule.specs.declared.view.Learned.{Learned}
@@ -35,21 +37,24 @@ loaded c = record c { steps = suc c.steps; loads = suc c.loads }
 
 -- ---- claim: a fetch-and-add on the tail
 
--- the pass is live, has nothing in flight, and isn't shut
+-- the pass is live and entered, has nothing in flight, and isn't shut
 pub record CanClaim (v : View) : Type 0 where
   pub live : 1 ≤ v.lane
   pub idle : v.flight ≡ None
   pub ready : v.shut ≡ None
+  pub version : ℕ
+  pub entered : v.epoch ≡ Confirmed version
 
 -- a record just claimed
 abbrev pub flight_at : ℕ → ℕ → ℕ → Flight
 flight_at n line lines = record { number = n; line = line; lines = lines; words = []; linked = 0 }
 
--- the region of so many lines at this tail is in flight
+-- the region of so many lines at this tail is in flight, and its number is counted
 abbrev pub after_claim : View → ℕ → ℕ → ℕ → View
 after_claim v lines n line = record v {
   flight = Some (flight_at n line lines);
   tail = Some (record { number = suc n; line = line + lines });
+  learned = record v.learned { count = suc n };
   clock = ticked v.clock;
 }
 
@@ -76,19 +81,21 @@ after_store v f x = record v { flight = Some (with_word f x); clock = ticked v.c
 abbrev pub flight_kind : View → Flight → Kind
 flight_kind v f = kind_of v.about.end f.line (f.line + f.lines)
 
--- what is stored of a region before it may be published: all words of a record of this lane, with
--- all its entries linked; of a void its header; of a mark nothing
-abbrev pub IsReady : Key → Kind → ℕ → Flight → Type 0
-IsReady k Stored lane f = (length f.words ≡ f.lines * 4) × IsRecord k lane f.number f.lines (body_of f.words)
-    × (f.linked ≡ keys_of (body_of f.words 0))
-IsReady k Void lane f = (f.words ≡ void_word f.lines ∷ []) × (f.linked ≡ 0)
-IsReady k Mark lane f = f.words ≡ []
+-- what is stored of a region before it may be published: all words of a record of this version and lane, with the
+-- keys of that version, all its entries linked; of a void its header; of a mark nothing
+abbrev pub IsReady : (ℕ → List (ℕ × List ℕ) → Type 0) → ℕ → Kind → ℕ → Flight → Type 0
+IsReady active version Stored lane f = (length f.words ≡ f.lines * 4)
+    × IsKeyed active version lane f.number f.lines (body_of f.words) × (f.linked ≡ keys_of (body_of f.words 0))
+IsReady active version Void lane f = (f.words ≡ void_word f.lines ∷ []) × (f.linked ≡ 0)
+IsReady active version Mark lane f = f.words ≡ []
 
 -- f is in flight and ready
 pub record CanPublish (v : View) (f : Flight) : Type 0 where
   pub live : 1 ≤ v.lane
   pub flying : v.flight ≡ Some f
-  pub ready : IsReady v.about (flight_kind v f) v.lane f
+  pub version : ℕ
+  pub entered : v.epoch ≡ Confirmed version
+  pub ready : IsReady (KnowsActive v.about.rows.value v.learned) version (flight_kind v f) v.lane f
 
 -- a record joins the own ones
 abbrev pub own_after : Kind → ℕ → ℕ → List Own → List Own

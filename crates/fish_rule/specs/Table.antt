@@ -1,11 +1,13 @@
 -- The rule as the table's, and what a step tells its pass.
-use Rattle.std.specs.Prelude.{ℕ, ◌≡◌, [], length, Bool, Some, None}
+use Rattle.std.specs.Prelude.{ℕ, ◌≡◌, [], length, map, Bool, Some, None}
 use mathlib.Core.Option.{some}
 use Rattle.std.proofs.Math.ListN.{get_elem?}
 use Rattle.atomic_table.specs.Table.{Me, State}
+use Rattle.fish_catalog.specs.Listing.{listed_of}
 use Rattle.fish_rule.specs.Rule.{Rule}
 use Rattle.fish_rule.specs.Seating.{fresh, unlearned}
 use Rattle.fish_rule.specs.World.{World, total, world}
+use Rattle.fish_rule.specs.declared.view.Epoch.TheVariants.{Out}
 use Rattle.fish_rule.specs.declared.view.Key.{Key}
 use Rattle.fish_rule.specs.declared.view.View.{View}
 
@@ -22,6 +24,9 @@ first_view k = record {
   out = [];
   shut = None;
   flight = None;
+  epoch = Out;
+  rows = map listed_of k.rows.value;
+  draft = [];
   tail = Some (record { number = k.number; line = k.line });
   own = [];
   learned = record unlearned { count = k.number };

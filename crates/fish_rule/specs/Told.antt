@@ -1,12 +1,16 @@
 -- What each kind of step tells the pass that makes it.
-use Rattle.std.specs.Prelude.{ℕ, ◌≡◌, ◌≢◌, ◌≤◌, ◌-◌, [], ◌+◌, ◌*◌, Bool, Some, ◌<◌}
+use Rattle.std.specs.Prelude.{ℕ, ◌≡◌, ◌≢◌, ◌≤◌, ◌-◌, [], ◌+◌, ◌*◌, Bool, Some, ◌<◌, length, slice_get}
 use Rattle.atomic_table.specs.Table.{Step}
 use Rattle.fish_rule.specs.Parts.{Rests}
 use Rattle.fish_rule.specs.Regions.{dir_word}
 use Rattle.fish_rule.specs.Steps.{after_claim, after_publish, after_store}
 use Rattle.fish_rule.specs.Reading.{IsAlone, after_end, after_look, after_raise, after_read, after_settled}
 use Rattle.fish_rule.specs.Views.{Among}
-use Rattle.fish_rule.specs.World.{dir_at, high, log_at, low, heads_at}
+use Rattle.fish_rule.specs.World.{dir_at, high, log_at, low, heads_at, slots}
+use Rattle.fish_catalog.specs.Words.{IsWritable, row_word}
+use Rattle.fish_catalog.specs.declared.row.CatRow.{CatRow}
+use Rattle.fish_rule.specs.Entering.{after_announce, after_bump, after_define, after_registry, after_retire, after_version}
+use Rattle.fish_rule.specs.Registry.{row_at}
 use Rattle.fish_rule.specs.declared.view.Flight.{Flight}
 use Rattle.fish_rule.specs.declared.view.Found.{Found}
 use Rattle.fish_rule.specs.declared.view.Key.{Key}
@@ -14,9 +18,12 @@ use Rattle.fish_rule.specs.Table.{Sat, Told}
 use Rattle.fish_rule.specs.Linking.{HasNode, LowRises, TopRises, after_aim, after_head, after_node}
 use Rattle.fish_rule.specs.Linking.{after_previous, after_splice, after_swing}
 
--- a claim: the operand is a count of one and the lines, and the value found is the tail
-abbrev pub told_claim : Step Bool → Sat → ℕ → Sat → Type 0
-told_claim st m found m' = Told m (after_claim m.0 (st.first - 68719476736) (high found) (low found)) m'
+-- a claim: the operand is a count of one and the lines, and the value found is the tail, whose count only rises
+-- and stays within the directory
+pub record ToldClaim (st : Step Bool) (m : Sat) (found : ℕ) (m' : Sat) : Type 0 where
+  pub told : Told m (after_claim m.0 (st.first - 68719476736) (high found) (low found)) m'
+  pub counted : m.0.learned.count ≤ high found
+  pub within : high found < m.0.about.number + slots m.0.about
 
 -- a store of a word of the region in flight
 abbrev pub told_store : Step Bool → Sat → ℕ → Sat → Type 0
@@ -107,3 +114,34 @@ pub record ToldSplice (st : Step Bool) (m : Sat) (found : ℕ) (m' : Sat) : Type
   pub rises : LowRises m.0 (place_at m.0.about st.word) found
   pub less : found < place_at m.0.about st.word
   pub other : found ≢ st.second
+
+-- ---- the registry
+
+-- a load of the version, which only rises, and is at most 512
+pub record ToldVersion (st : Step Bool) (m : Sat) (found : ℕ) (m' : Sat) : Type 0 where
+  pub told : Told m (after_version m.0 found) m'
+  pub rises : m.0.learned.version ≤ found
+  pub few : found ≤ 512
+
+-- an announcement of a version
+abbrev pub told_announce : Step Bool → Sat → ℕ → Sat → Type 0
+told_announce st m found m' = Told m (after_announce m.0 (st.first - 1)) m'
+
+-- a retirement
+abbrev pub told_retire : Step Bool → Sat → ℕ → Sat → Type 0
+told_retire st m found m' = Told m (after_retire m.0) m'
+
+-- a load of a word of the registry that lasts: word 3 counts the rows of the start, and their words are theirs
+pub record ToldRegistry (st : Step Bool) (m : Sat) (found : ℕ) (m' : Sat) : Type 0 where
+  pub told : Told m (after_registry m.0 st.word found) m'
+  pub opened : st.word ≡ 3 → found ≡ length m.0.about.rows.value
+  pub row : (id i : ℕ) (row : CatRow) → slice_get m.0.about.rows.value id ≡ Some row → 2 ≤ i → i < 39
+      → st.word ≡ row_at id i → IsWritable row × (found ≡ row_word row i)
+
+-- a store of a word of the next operation or row
+abbrev pub told_define : Step Bool → Sat → ℕ → Sat → Type 0
+told_define st m found m' = Told m (after_define m.0 st.word st.first) m'
+
+-- a store of the version plus one
+abbrev pub told_bump : Step Bool → Sat → ℕ → Sat → Type 0
+told_bump st m found m' = Told m (after_bump m.0) m'

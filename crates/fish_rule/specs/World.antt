@@ -6,11 +6,13 @@ use Rattle.fish_rule.specs.declared.view.Key.{Key}
 use Rattle.fish_rule.specs.declared.view.View.{View}
 
 -- all that a moment is: how many numbers and lines are claimed, below which number all is settled,
--- the head of each chain, the directory by number, the log by place, and each pass's view
+-- the words of the registry by their index, the head of each chain, the directory by number, the log by
+-- place, and each pass's view
 pub record World : Type 0 where
   pub count : ℕ
   pub line : ℕ
   pub settled : ℕ
+  pub registry : ℕ → ℕ
   pub head : ℕ → ℕ
   pub dir : ℕ → ℕ
   pub log : ℕ → ℕ
@@ -39,6 +41,10 @@ slots k = k.end - k.line + 16
 -- how many words of the log there are
 abbrev pub log_size : Key → ℕ
 log_size k = (k.end - k.line) * 4
+
+-- the words of the registry: from the version, which is word 2, up to the heads
+abbrev pub registry_size : ℕ
+registry_size = 10514
 
 -- the first head, behind the tail, the settled number, the version, the count of opened rows, 16
 -- epochs, 512 operations and 256 rows of 39 words
@@ -69,6 +75,7 @@ world k ws vs = record {
   count = high (slice_index ws 0);
   line = low (slice_index ws 0);
   settled = slice_index ws 1;
+  registry = area ws 2 2 registry_size;
   head = area ws heads_at 0 k.buckets;
   dir = area ws (dir_at k) k.number (slots k);
   log = area ws (log_at k) (k.line * 4) (log_size k);

@@ -1,7 +1,7 @@
 //! What each step tells its pass.
-ghost use Rattle.fish_rule.specs.Told.{ToldEnd, ToldHead, ToldLook, ToldPrevious, ToldRaise, ToldSettled};
-ghost use Rattle.fish_rule.specs.Told.{ToldSplice, ToldSwing, told_aim, told_claim, told_node, told_publish};
-ghost use Rattle.fish_rule.specs.Told.{told_read, told_store};
+ghost use Rattle.fish_rule.specs.Told.{ToldClaim, ToldEnd, ToldHead, ToldLook, ToldPrevious, ToldRaise, ToldRegistry};
+ghost use Rattle.fish_rule.specs.Told.{ToldSettled, ToldSplice, ToldSwing, ToldVersion, told_aim, told_announce, told_bump};
+ghost use Rattle.fish_rule.specs.Told.{told_define, told_node, told_publish, told_read, told_retire, told_store};
 
 use crate::view::View;
 use atomic_table::Play;
@@ -10,7 +10,7 @@ use atomic_table::Play;
 pub(crate) struct Claim;
 
 impl Play<bool, View> for Claim {
-    ghost then = { told_claim };
+    ghost then = { ToldClaim };
 }
 
 /// A store of a word of the region in flight.
@@ -102,4 +102,46 @@ pub(crate) struct Splice;
 
 impl Play<bool, View> for Splice {
     ghost then = { ToldSplice };
+}
+
+/// A load of the version.
+pub(crate) struct Version;
+
+impl Play<bool, View> for Version {
+    ghost then = { ToldVersion };
+}
+
+/// A store of the version in the own epoch word.
+pub(crate) struct Announce;
+
+impl Play<bool, View> for Announce {
+    ghost then = { told_announce };
+}
+
+/// A store of 0 in the own epoch word.
+pub(crate) struct Retire;
+
+impl Play<bool, View> for Retire {
+    ghost then = { told_retire };
+}
+
+/// A load of a word of the registry that lasts.
+pub(crate) struct Register;
+
+impl Play<bool, View> for Register {
+    ghost then = { ToldRegistry };
+}
+
+/// A store of a word of the next operation or row.
+pub(crate) struct Define;
+
+impl Play<bool, View> for Define {
+    ghost then = { told_define };
+}
+
+/// A store of the version plus one.
+pub(crate) struct Bump;
+
+impl Play<bool, View> for Bump {
+    ghost then = { told_bump };
 }

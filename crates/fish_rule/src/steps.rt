@@ -10,7 +10,7 @@ ghost use Rattle.fish_rule.specs.Steps.{CanClaim, CanPublish, CanStore, after_cl
 ghost use Rattle.fish_rule.specs.Reading.{CanLook, CanRaise, CanRead, IsAlone, after_end, after_look};
 ghost use Rattle.fish_rule.specs.Reading.{after_raise, after_read, after_settled};
 ghost use Rattle.fish_rule.specs.Views.{Among};
-ghost use Rattle.fish_rule.specs.World.{high, low};
+ghost use Rattle.fish_rule.specs.World.{high, low, slots};
 ghost use Rattle.fish_rule.specs.declared.view.Flight.{Flight};
 ghost use Rattle.fish_rule.specs.declared.view.Found.{Found};
 
@@ -57,6 +57,8 @@ pub fn claim_lines(log: &Log, pass: &mut Pass, lines: u64) -> Region
     ensures pass { IsPassOf log.now pass.new }
     ensures view { view pass.new ≡ after_claim (view pass.old) lines result.number result.line }
     ensures lines { result.lines ≡ lines }
+    ensures counted { (view pass.old).learned.count ≤ result.number }
+    ensures within { result.number < log.now.key.number + slots log.now.key }
 {
     let found = log
         .table

@@ -1,7 +1,7 @@
 //! What a pass knows of the log, as plain data. The program never makes a view: it stands in
 //! contracts alone, where an array is a list of any length.
 
-use fish_catalog::Catalog;
+use fish_catalog::{Catalog, Listed};
 use std::snapshot::Snapshot;
 
 /// What is fixed when a table is made.
@@ -114,12 +114,31 @@ pub struct Own {
     pub number: u64,
 }
 
+/// A word of the registry.
+pub struct RegistryWord {
+    /// Its index in the table.
+    pub index: u64,
+    pub value: u64,
+}
+
+/// How far a pass is entered.
+pub enum Epoch {
+    /// It is not.
+    Out,
+    /// It announced a version in its epoch word.
+    Announced(u64),
+    /// It announced a version, and found it to be the registry's afterwards.
+    Confirmed(u64),
+}
+
 /// What a step loaded.
 pub enum Noted {
     /// The directory word of a number.
     Directory(u64),
     /// The tail.
     Tail,
+    /// The version.
+    Version,
 }
 
 /// One load, and the value that it found.
@@ -146,6 +165,10 @@ pub struct Learned {
     pub count: u64,
     /// Every number below is settled.
     pub settled: u64,
+    /// The registry has reached this version.
+    pub version: u64,
+    /// Words of the registry that don't change.
+    pub words: [RegistryWord; 0],
     pub found: [Found; 0],
     pub known: [Known; 0],
     pub records: [Recorded; 0],
@@ -171,6 +194,12 @@ pub struct View {
     pub shut: Option<Shut>,
     /// Its record in flight.
     pub flight: Option<Flight>,
+    /// How far it is entered.
+    pub epoch: Epoch,
+    /// Of the control pass: the definitions as the version has them.
+    pub rows: [Listed; 0],
+    /// Of the control pass: the words of the next operation and row that it stored, newest first.
+    pub draft: [RegistryWord; 0],
     /// The tail as its last step left it, unless it joined another pass since.
     pub tail: Option<Position>,
     /// The records that its lanes published.

@@ -18,7 +18,7 @@ fetch_add-found-requires c =
 
 pub invariant_of-pass : goal.invariant_of-pass
 invariant_of-pass c =
-    let told = c.fetch_add-found.ensures.2 in
+    let told = c.fetch_add-found.ensures.2.told in
     let e : 68719476736 + c.args.lines - 68719476736 ≡ c.args.lines = omega arith in
     let at = c.position_in-number.ensures in
     record {

@@ -1,0 +1,335 @@
+-- Entering and leaving: a load of the version, and stores of the own epoch word.
+use Rattle.std.proofs.Common.{◌≡◌, ◌≢◌, ℕ, ◌+◌, ◌<◌, ◌≤◌, suc, List, length, set, sym, refl, ap, ◌∙◌, subst, inl, inr, ⊎_elim}
+use Rattle.std.proofs.Common.{arith, Some, None, Option}
+use Rattle.std.proofs.Math.Decide.{ℕ_discrete}
+use mathlib.Core.Option.{some}
+use Rattle.std.proofs.Math.ListN.{get_elem?}
+use Rattle.fish_layout.specs.Cleared.{choose}
+use Rattle.fish_rule.proofs.Common.{each_set, has_own}
+use Rattle.fish_rule.proofs.OwnWords.{confirmed_once}
+use Rattle.fish_rule.proofs.Registers.{endures_same, has_read, length_grows}
+use Rattle.fish_rule.proofs.Registries.{carries_later, main_later, read_later, register_lasts, registers, versions_later}
+use Rattle.fish_rule.proofs.Worlds.{put-else, put-here}
+use Rattle.fish_rule.specs.Entering.{CanAnnounce, CanEnter, CanLoadRegistry, after_announce, after_registry, after_retire}
+use Rattle.fish_rule.specs.Entering.{after_version}
+use Rattle.fish_rule.specs.Epochs.{Carries, Epochs, IsAtMost, Registry, Stays, confirmed, epoch_word}
+use Rattle.fish_rule.specs.Registry.{Endures, IsLasting, IsRegistered, definitions_at, epoch_at, version_in}
+use Rattle.fish_rule.specs.Rule.{Final, Rule}
+use Rattle.fish_rule.proofs.Learns.{learn_final, learns, still_chained}
+use Rattle.fish_catalog.specs.declared.row.CatRow.{CatRow}
+use Rattle.fish_rule.specs.declared.view.Clock.{Clock}
+use Rattle.fish_rule.specs.Steps.{ticked}
+use Rattle.fish_rule.specs.Views.{Has}
+use Rattle.fish_rule.specs.World.{World, put}
+use Rattle.fish_rule.specs.declared.view.Epoch.{Epoch}
+use Rattle.fish_rule.specs.declared.view.Epoch.TheVariants.{Announced, Confirmed, Out}
+use Rattle.fish_rule.specs.declared.view.Flight.{Flight}
+use Rattle.fish_rule.specs.declared.view.Key.{Key}
+use Rattle.fish_rule.specs.declared.view.RegistryWord.{RegistryWord}
+use Rattle.fish_rule.specs.declared.view.View.{View}
+
+-- ---- the own epoch
+
+module _ (k : Key) (w : World) (r : Rule k w) (id : ℕ) (v : View) (at : get_elem? w.views id ≡ some v)
+    (g' : ℕ → ℕ) (epoch' : Epoch) (version : ℕ)
+    (endures : Endures k.rows.value w.registry g') (still : version_in g' ≡ version_in w.registry)
+    (others : (p : ℕ) → p ≢ epoch_at v.lane → g' p ≡ w.registry p)
+    (own : 1 ≤ v.lane → v.lane ≤ 16 → g' (epoch_at v.lane) ≡ epoch_word epoch')
+    (past : 1 ≤ v.lane → v.lane ≤ 16 → IsAtMost (version_in w.registry) epoch')
+    (reached : version ≤ version_in w.registry) (main : v.lane ≡ 1 → version ≡ version_in w.registry)
+    (carries : Carries k w.registry r.version_of v.lane epoch' v.flight) where
+  -- how far each lane is entered afterwards
+  abbrev pub state' : ℕ → Epoch
+  state' = put r.state v.lane epoch'
+
+  pub epochs : Epochs g' state'
+  epochs = record {
+    words = λ l above below. (pick l above below (ℕ_discrete l v.lane)).0;
+    past = λ l above below. (pick l above below (ℕ_discrete l v.lane)).1;
+  }
+    where
+      pick : (l : ℕ) → 1 ≤ l → l ≤ 16 → Dec (l ≡ v.lane) → (g' (epoch_at l) ≡ epoch_word (state' l))
+          × IsAtMost (version_in g') (state' l)
+      pick l above below (yes e) =
+          let state : state' l ≡ epoch' = ap state' e ∙ put-here r.state v.lane epoch' in
+          let a : 1 ≤ v.lane = subst (λ (z : ℕ). 1 ≤ z) e above in
+          let b : v.lane ≤ 16 = subst (λ (z : ℕ). z ≤ 16) e below in (
+            ap (λ (z : ℕ). g' (epoch_at z)) e ∙ own a b ∙ ap epoch_word (sym state),
+            subst (λ (z : ℕ × Epoch). IsAtMost z.0 z.1) (λ i. (sym still i, sym state i)) (past a b),
+          )
+      pick l above below (no ne) =
+          let state : state' l ≡ r.state l = put-else r.state v.lane epoch' l ne in (
+            others (epoch_at l) (λ e. ne (omega arith)) ∙ r.registry.epochs.words l above below
+                ∙ ap epoch_word (sym state),
+            subst (λ (z : ℕ × Epoch). IsAtMost z.0 z.1) (λ i. (sym still i, sym state i))
+                (r.registry.epochs.past l above below),
+          )
+
+  -- a word of which nothing is made is no epoch
+  unmade_else : (p : ℕ) → 20 ≤ p → v.lane ≤ 16 → g' p ≡ w.registry p
+  unmade_else p above few = others p (λ e. omega arith)
+
+  -- what the other passes know
+  pub other_stays : (j : ℕ) (u : View) → j ≢ id → get_elem? w.views j ≡ some u
+      → Stays k g' state' u.lane u.out u.epoch u.learned.version u.learned.words u.rows u.draft
+  other_stays j u ne at_u =
+      let h = r.registry.each j u at_u in
+      let few = r.seats.few id v at in
+      record {
+        tied = λ l has. let other : l ≢ v.lane = λ e. ne (r.seats.apart j id u v l at_u at has
+            (subst (Has v.lane v.out) (sym e) (has_own w.views id v at (let a = has.0 in omega arith) r.seats))) in
+            let state : state' l ≡ r.state l = put-else r.state v.lane epoch' l other in
+            ((λ e. state ∙ (h.tied l has).0 e), (λ e. state ∙ (h.tied l has).1 e));
+        reached = (let a = h.reached in omega arith);
+        read = read_later k w.registry g' endures u.learned.words h.read;
+        main = λ e. main_later k w.registry g' endures u.learned.version u.rows u.draft still
+            (λ p unmade. unmade_else p
+            (⊎_elim (λ m. let q = m.3 in omega arith) (λ m. let q = m.5 in omega arith) unmade) few) (h.main e);
+      }
+
+  -- and what the pass itself knows
+  pub own_stays : Stays k g' state' v.lane v.out epoch' version v.learned.words v.rows v.draft
+  own_stays =
+      let h = r.registry.each id v at in
+      let few = r.seats.few id v at in
+      record {
+        tied = λ l has. ((λ e. ap state' e ∙ put-here r.state v.lane epoch'),
+            (λ ne. put-else r.state v.lane epoch' l ne ∙ (h.tied l has).1 ne));
+        reached = (let a = h.reached in omega arith);
+        read = read_later k w.registry g' endures v.learned.words h.read;
+        main = λ e. let m = main_later k w.registry g' endures v.learned.version v.rows v.draft still
+            (λ p unmade. unmade_else p
+            (⊎_elim (λ m. let q = m.3 in omega arith) (λ m. let q = m.5 in omega arith) unmade) few) (h.main e) in
+            record { version = main e ∙ sym still; definitions = m.definitions; unmade = m.unmade };
+      }
+
+  module _ (clock : Clock) where
+    -- the view afterwards
+    abbrev pub mover : View
+    mover = record v { epoch = epoch'; learned = record v.learned { version = version }; clock = clock }
+
+    -- the registry's part afterwards
+    pub move_registry : Registry k w.count g' state' r.version_of (set w.views id mover)
+    move_registry = record {
+      epochs = epochs;
+      versions = versions_later k w.registry g' endures w.count r.version_of still r.registry.versions;
+      each = each_set _ w.views id mover other_stays own_stays;
+      flights = each_set _ w.views id mover
+          (λ j u ne at_u. carries_later k w.registry g' endures r.version_of u.lane u.epoch u.flight
+          (r.registry.flights j u at_u))
+          (carries_later k w.registry g' endures r.version_of v.lane epoch' v.flight carries);
+    }
+
+    -- the step keeps the rule
+    unfoldable pub moves : Rule k (record w { registry = g'; views = set w.views id mover })
+    moves = registers k w r id v at g' epoch' version v.learned.words v.rows v.draft clock endures state' move_registry
+
+    -- and all that lasts
+    pub moves_last : Final k r.start moves.start r.lane_of moves.lane_of w
+        (record w { registry = g'; views = set w.views id mover })
+    unfolding moves
+    moves_last = register_lasts k w r id v at g' epoch' version v.learned.words v.rows v.draft clock endures state'
+        move_registry
+
+-- ---- stores of the own epoch word
+
+-- a word that lasts is no epoch
+lasting_else : (rows : List CatRow) (g : ℕ → ℕ) (lane x p : ℕ) → 1 ≤ lane → lane ≤ 16 → IsLasting rows g p
+    → put g (epoch_at lane) x p ≡ g p
+lasting_else rows g lane x p live few (inl e) = put-else g (epoch_at lane) x p (λ h. omega arith)
+lasting_else rows g lane x p live few (inr (inl m)) = (let q = m.3 in put-else g (epoch_at lane) x p (λ h. omega arith))
+lasting_else rows g lane x p live few (inr (inr m)) = (let q = m.5 in put-else g (epoch_at lane) x p (λ h. omega arith))
+
+-- so it stays
+epoch_endures : (rows : List CatRow) (g : ℕ → ℕ) (lane x : ℕ) → 1 ≤ lane → lane ≤ 16
+    → Endures rows g (put g (epoch_at lane) x)
+epoch_endures rows g lane x live few = record {
+  rises = (let e = put-else g (epoch_at lane) x 2 (λ h. omega arith) in omega arith);
+  same = λ p h. lasting_else rows g lane x p live few h;
+}
+
+-- nothing in flight carries nothing
+carries_none : (k : Key) (g : ℕ → ℕ) (version_of : ℕ → ℕ) (lane : ℕ) (epoch : Epoch) (o : Option Flight) → o ≡ None
+    → Carries k g version_of lane epoch o
+carries_none k g version_of lane epoch o e = subst (Carries k g version_of lane epoch) (sym e) tt
+
+module _ (k : Key) (w : World) (r : Rule k w) (id : ℕ) (v : View) (at : get_elem? w.views id ≡ some v) where
+  -- the lane is one of 1 to 16
+  few : v.lane ≤ 16
+  few = r.seats.few id v at
+
+  module _ (u : ℕ) (can : CanAnnounce v u) where
+    -- an announcement keeps the rule
+    pub announce_kept : Rule k (record w {
+      registry = put w.registry (epoch_at v.lane) (suc u);
+      views = set w.views id (after_announce v u);
+    })
+    announce_kept = moves k w r id v at (put w.registry (epoch_at v.lane) (suc u)) (Announced u) v.learned.version
+        (epoch_endures k.rows.value w.registry v.lane (suc u) can.can.live few)
+        (let some_ = can.can.live in put-else w.registry (epoch_at v.lane) (suc u) 2 (λ h. omega arith))
+        (λ p ne. put-else w.registry (epoch_at v.lane) (suc u) p ne)
+        (λ _ _. put-here w.registry (epoch_at v.lane) (suc u))
+        (λ _ _. let a = can.reached in let b = (r.registry.each id v at).reached in omega arith)
+        (r.registry.each id v at).reached (λ e. ((r.registry.each id v at).main e).version)
+        (carries_none k w.registry r.version_of v.lane (Announced u) v.flight can.can.idle) (ticked v.clock)
+
+    -- and all that lasts
+    pub announce_lasts : Final k r.start announce_kept.start r.lane_of announce_kept.lane_of w (record w {
+      registry = put w.registry (epoch_at v.lane) (suc u);
+      views = set w.views id (after_announce v u);
+    })
+    unfolding announce_kept
+    announce_lasts = moves_last k w r id v at (put w.registry (epoch_at v.lane) (suc u)) (Announced u) v.learned.version
+        (epoch_endures k.rows.value w.registry v.lane (suc u) can.can.live few)
+        (let some_ = can.can.live in put-else w.registry (epoch_at v.lane) (suc u) 2 (λ h. omega arith))
+        (λ p ne. put-else w.registry (epoch_at v.lane) (suc u) p ne)
+        (λ _ _. put-here w.registry (epoch_at v.lane) (suc u))
+        (λ _ _. let a = can.reached in let b = (r.registry.each id v at).reached in omega arith)
+        (r.registry.each id v at).reached (λ e. ((r.registry.each id v at).main e).version)
+        (carries_none k w.registry r.version_of v.lane (Announced u) v.flight can.can.idle) (ticked v.clock)
+
+  module _ (can : CanEnter v) where
+    -- a retirement keeps the rule
+    pub retire_kept : Rule k (record w {
+      registry = put w.registry (epoch_at v.lane) 0;
+      views = set w.views id (after_retire v);
+    })
+    retire_kept = moves k w r id v at (put w.registry (epoch_at v.lane) 0) Out v.learned.version
+        (epoch_endures k.rows.value w.registry v.lane 0 can.live few)
+        (let some_ = can.live in put-else w.registry (epoch_at v.lane) 0 2 (λ h. omega arith))
+        (λ p ne. put-else w.registry (epoch_at v.lane) 0 p ne)
+        (λ _ _. put-here w.registry (epoch_at v.lane) 0) (λ _ _. tt)
+        (r.registry.each id v at).reached (λ e. ((r.registry.each id v at).main e).version)
+        (carries_none k w.registry r.version_of v.lane Out v.flight can.idle) (ticked v.clock)
+
+    -- and all that lasts
+    pub retire_lasts : Final k r.start retire_kept.start r.lane_of retire_kept.lane_of w (record w {
+      registry = put w.registry (epoch_at v.lane) 0;
+      views = set w.views id (after_retire v);
+    })
+    unfolding retire_kept
+    retire_lasts = moves_last k w r id v at (put w.registry (epoch_at v.lane) 0) Out v.learned.version
+        (epoch_endures k.rows.value w.registry v.lane 0 can.live few)
+        (let some_ = can.live in put-else w.registry (epoch_at v.lane) 0 2 (λ h. omega arith))
+        (λ p ne. put-else w.registry (epoch_at v.lane) 0 p ne)
+        (λ _ _. put-here w.registry (epoch_at v.lane) 0) (λ _ _. tt)
+        (r.registry.each id v at).reached (λ e. ((r.registry.each id v at).main e).version)
+        (carries_none k w.registry r.version_of v.lane Out v.flight can.idle) (ticked v.clock)
+
+-- ---- a load of the version
+
+-- a load of the version leaves the epoch's word
+confirmed_word : (e : Epoch) (x : ℕ) → epoch_word (confirmed e x) ≡ epoch_word e
+confirmed_word Out x = refl
+confirmed_word (Confirmed u) x = refl
+confirmed_word (Announced u) x = by (ℕ_discrete x u)
+  where
+    by : (d : Dec (x ≡ u)) → epoch_word (choose d (Confirmed u) (Announced u)) ≡ suc u
+    by (yes e) = refl
+    by (no ne) = refl
+
+-- and its version
+confirmed_most : (e : Epoch) (x v : ℕ) → IsAtMost v e → IsAtMost v (confirmed e x)
+confirmed_most Out x v h = h
+confirmed_most (Confirmed u) x v h = h
+confirmed_most (Announced u) x v h = by (ℕ_discrete x u)
+  where
+    by : (d : Dec (x ≡ u)) → IsAtMost v (choose d (Confirmed u) (Announced u))
+    by (yes e) = h
+    by (no ne) = h
+
+-- and what the pass carries
+confirmed_carries : (k : Key) (g : ℕ → ℕ) (version_of : ℕ → ℕ) (lane : ℕ) (e : Epoch) (x : ℕ) (o : Option Flight)
+    → Carries k g version_of lane e o → Carries k g version_of lane (confirmed e x) o
+confirmed_carries k g version_of lane e x None h = h
+confirmed_carries k g version_of lane e x (Some f) h = record {
+  entered = ap (λ (z : Epoch). confirmed z x) h.entered;
+  keyed = h.keyed;
+}
+
+module _ (k : Key) (w : World) (r : Rule k w) (id : ℕ) (v : View) (at : get_elem? w.views id ≡ some v) where
+  -- the own lane is as far entered as the pass
+  own_state : 1 ≤ v.lane → r.state v.lane ≡ v.epoch
+  own_state some_ = ((r.registry.each id v at).tied v.lane (has_own w.views id v at some_ r.seats)).0 refl
+
+  -- a load of the version keeps the rule
+  pub version_kept : Rule k (record w { views = set w.views id (after_version v (w.registry 2)) })
+  version_kept = moves k w r id v at w.registry (confirmed v.epoch (w.registry 2)) (w.registry 2)
+      (endures_same k.rows.value w.registry) refl (λ p ne. refl)
+      (λ a b. r.registry.epochs.words v.lane a b ∙ ap epoch_word (own_state a)
+      ∙ sym (confirmed_word v.epoch (w.registry 2)))
+      (λ a b. confirmed_most v.epoch (w.registry 2) (version_in w.registry)
+      (subst (IsAtMost (version_in w.registry)) (own_state a) (r.registry.epochs.past v.lane a b)))
+      (omega arith) (λ e. refl)
+      (confirmed_carries k w.registry r.version_of v.lane v.epoch (w.registry 2) v.flight (r.registry.flights id v at))
+      (after_version v (w.registry 2)).clock
+
+  -- and all that lasts
+  pub version_lasts : Final k r.start version_kept.start r.lane_of version_kept.lane_of w
+      (record w { views = set w.views id (after_version v (w.registry 2)) })
+  unfolding version_kept
+  version_lasts = moves_last k w r id v at w.registry (confirmed v.epoch (w.registry 2)) (w.registry 2)
+      (endures_same k.rows.value w.registry) refl (λ p ne. refl)
+      (λ a b. r.registry.epochs.words v.lane a b ∙ ap epoch_word (own_state a)
+      ∙ sym (confirmed_word v.epoch (w.registry 2)))
+      (λ a b. confirmed_most v.epoch (w.registry 2) (version_in w.registry)
+      (subst (IsAtMost (version_in w.registry)) (own_state a) (r.registry.epochs.past v.lane a b)))
+      (omega arith) (λ e. refl)
+      (confirmed_carries k w.registry r.version_of v.lane v.epoch (w.registry 2) v.flight (r.registry.flights id v at))
+      (after_version v (w.registry 2)).clock
+
+  -- what is known of the version is so
+  pub version_rises : v.learned.version ≤ w.registry 2
+  version_rises = (r.registry.each id v at).reached
+
+  -- ---- a load of a word that lasts
+
+  module _ (about : v.about ≡ k) (p : ℕ) (can : CanLoadRegistry v p) where
+    -- the word lasts
+    pub lasts_there : IsLasting k.rows.value w.registry p
+    lasts_there = by can
+      where
+        by : CanLoadRegistry v p → IsLasting k.rows.value w.registry p
+        by (inl e) = inl e
+        by (inr (inl h)) = (let a = version_rises in let b = h.2 in inr (inl (h.0, h.1, (omega arith), h.3)))
+        by (inr (inr h)) =
+            let row = h.2 in
+            let stays = r.registry.each id v at in
+            let a = version_rises in
+            let b = row.reached in
+            let there : h.0 < length (definitions_at k.rows.value w.registry row.version) =
+            subst (λ (z : Key). h.0 < length (definitions_at z.rows.value w.registry row.version)) about
+            (row.there w.registry (has_read k.rows.value w.registry v.learned.words stays.read)) in
+            let up = length_grows k.rows.value w.registry row.version (version_in w.registry) (omega arith) in
+            inr (inr (h.0, h.1, (omega arith), h.3, h.4, h.5))
+
+    -- the view afterwards
+    abbrev pub registered_view : View
+    registered_view = after_registry v p (w.registry p)
+
+    -- a load of it keeps the rule
+    pub registry_kept : Rule k (record w { views = set w.views id registered_view })
+    registry_kept =
+        let h = r.facts id v at in
+        let stays = r.registry.each id v at in
+        let still = still_chained k w r id v at registered_view.learned v.tail registered_view.clock in
+        learns k w r id v at registered_view.learned v.tail registered_view.clock (r.tails id v at) (record {
+          counted = h.counted;
+          found = h.found;
+          known = h.known;
+          records = h.records;
+          gaps = h.gaps;
+          labels = h.labels;
+        }) (r.floors id v at) (record { nodes = still.nodes; lows = still.lows; tops = still.tops })
+        (record {
+          tied = stays.tied;
+          reached = stays.reached;
+          read = (record { lasts = lasts_there; word = refl }, stays.read);
+          main = stays.main;
+        })
+
+    -- and all that lasts
+    pub registry_lasts : Final k r.start registry_kept.start r.lane_of registry_kept.lane_of w
+        (record w { views = set w.views id registered_view })
+    unfolding registry_kept learns
+    registry_lasts = learn_final k w r id v at registered_view.learned v.tail registered_view.clock

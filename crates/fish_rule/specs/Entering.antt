@@ -1,0 +1,93 @@
+-- How a pass enters the registry's version and leaves, and how the control pass changes the registry: what each
+-- pass knows after these steps, and when it may make them.
+use Rattle.std.specs.Prelude.{ℕ, ◌≡◌, ◌<◌, ◌≤◌, ◌⊎◌, suc, List, ◌∷◌, length, None}
+use Rattle.fish_catalog.specs.declared.listed.Listed.{Listed}
+use Rattle.fish_rule.specs.Epochs.{confirmed}
+use Rattle.fish_rule.specs.Registry.{IsOperation, KnowsRow, drafted, made, op_at, row_at, row_in}
+use Rattle.fish_rule.specs.Steps.{noted, ticked}
+use Rattle.fish_rule.specs.declared.view.Epoch.TheVariants.{Announced, Out}
+use Rattle.fish_rule.specs.declared.view.Learned.{Learned}
+use Rattle.fish_rule.specs.declared.view.Noted.TheVariants.{Version}
+use Rattle.fish_rule.specs.declared.view.RegistryWord.{RegistryWord}
+use Rattle.fish_rule.specs.declared.view.View.{View}
+
+-- ---- load version
+
+-- the version is seen, and an announced one is confirmed where it is that very version
+abbrev pub after_version : View → ℕ → View
+after_version v x = record v {
+  epoch = confirmed v.epoch x;
+  learned = record v.learned { version = x };
+  clock = noted v.clock Version x;
+}
+
+-- ---- announce and retire: a store of the own epoch word
+
+-- the pass has nothing in flight
+pub record CanEnter (v : View) : Type 0 where
+  pub live : 1 ≤ v.lane
+  pub idle : v.flight ≡ None
+
+-- and the registry has reached this version
+pub record CanAnnounce (v : View) (u : ℕ) : Type 0 where
+  pub can : CanEnter v
+  pub reached : u ≤ v.learned.version
+
+-- the version is announced
+abbrev pub after_announce : View → ℕ → View
+after_announce v u = record v { epoch = Announced u; clock = ticked v.clock }
+
+-- the pass is out
+abbrev pub after_retire : View → View
+after_retire v = record v { epoch = Out; clock = ticked v.clock }
+
+-- ---- read row: a load of an operation, of a word of a row, or of the count of opened rows
+
+-- by what the pass knows, the word at the index lasts
+abbrev pub CanLoadRegistry : View → ℕ → Type 0
+CanLoadRegistry v p = (p ≡ 3) ⊎ (((u : ℕ) × (1 ≤ u) × (u ≤ v.learned.version) × (p ≡ op_at u))
+    ⊎ ((id : ℕ) × (i : ℕ) × KnowsRow v.about.rows.value v.learned id × (2 ≤ i) × (i < 39) × (p ≡ row_at id i)))
+
+-- the word is known
+abbrev pub after_registry : View → ℕ → ℕ → View
+after_registry v p x = record v {
+  learned = record v.learned { words = record { index = p; value = x } ∷ v.learned.words };
+  clock = ticked v.clock;
+}
+
+-- ---- define: a store of a word of the next operation or row
+
+-- the word at the index is the next operation, or one of the next row, whose boundaries stay none
+abbrev pub IsNextWord : View → ℕ → ℕ → Type 0
+IsNextWord v p x = ((v.learned.version < 512) × (p ≡ op_at (suc v.learned.version)))
+    ⊎ ((i : ℕ) × (length v.rows < 256) × (i < 39) × (p ≡ row_at (length v.rows) i) × ((2 ≤ i) ⊎ (x ≡ 0)))
+
+-- the control pass may store it
+pub record CanDefine (v : View) (p x : ℕ) : Type 0 where
+  pub main : v.lane ≡ 1
+  pub next : IsNextWord v p x
+
+-- the word is stored
+abbrev pub after_define : View → ℕ → ℕ → View
+after_define v p x = record v { draft = record { index = p; value = x } ∷ v.draft; clock = ticked v.clock }
+
+-- ---- bump: a store of the version plus one
+
+-- the next operation as it was stored
+abbrev pub next_operation : View → ℕ
+next_operation v = drafted v.draft (op_at (suc v.learned.version))
+
+-- the control pass is out, versions are left, and the next operation is one that may be made
+pub record CanBump (v : View) : Type 0 where
+  pub main : v.lane ≡ 1
+  pub outside : v.epoch ≡ Out
+  pub few : v.learned.version < 512
+  pub operation : IsOperation (row_in (drafted v.draft) (length v.rows)) v.rows (next_operation v)
+
+-- the operation is made
+abbrev pub after_bump : View → View
+after_bump v = record v {
+  rows = made (drafted v.draft) (next_operation v) v.rows;
+  learned = record v.learned { version = suc v.learned.version };
+  clock = ticked v.clock;
+}

@@ -1,0 +1,104 @@
+-- The words of the registry: which definitions each version has, and which words last.
+use Rattle.std.specs.Prelude.{ℕ, ◌≡◌, ◌+◌, ◌*◌, ◌%◌, ◌<◌, ◌≤◌, ◌⊎◌, zero, suc, List, [], ◌∷◌, ◌++◌, length, map, true}
+use Rattle.std.proofs.Math.Decide.{ℕ_discrete, dec_lt}
+use Rattle.fish_catalog.specs.Listing.{IsNew, IsOnAt, active_texts, ended_at, listed_in, listed_of}
+use Rattle.fish_catalog.specs.Words.{name_in, text_in}
+use Rattle.fish_catalog.specs.declared.listed.Listed.{Listed}
+use Rattle.fish_catalog.specs.declared.row.CatRow.{CatRow}
+use Rattle.fish_layout.specs.Cleared.{choose}
+use Rattle.fish_rule.specs.Views.{AllOf}
+use Rattle.fish_rule.specs.declared.view.Learned.{Learned}
+use Rattle.fish_rule.specs.declared.view.RegistryWord.{RegistryWord}
+
+-- ---- where its words lie in the table
+
+-- the version
+abbrev pub version_in : (ℕ → ℕ) → ℕ
+version_in g = g 2
+
+-- the epoch word of a lane, from 1 on
+abbrev pub epoch_at : ℕ → ℕ
+epoch_at lane = 3 + lane
+
+-- the operation that made a version, from 1 on
+abbrev pub op_at : ℕ → ℕ
+op_at v = 19 + v
+
+-- word i of the row with an id
+abbrev pub row_at : ℕ → ℕ → ℕ
+row_at id i = 532 + (id * 39 + i)
+
+-- the words of the row with an id
+abbrev pub row_in : (ℕ → ℕ) → ℕ → ℕ → ℕ
+row_in g id i = g (row_at id i)
+
+-- ---- the definitions of a version
+
+-- an operation of kind 1 registers the next row, every other one ends the row with its id
+abbrev pub made : (ℕ → ℕ) → ℕ → List Listed → List Listed
+made g x ls = choose (dec_lt x 512) (ls ++ listed_in (row_in g (length ls)) (length ls) true ∷ []) (ended_at (x % 256) ls)
+
+-- the definitions at a version: those of the start, changed by the operations that made the versions from 1 on
+abbrev pub definitions_at : List CatRow → (ℕ → ℕ) → ℕ → List Listed
+definitions_at rows g zero = map listed_of rows
+definitions_at rows g (suc v) = made g (g (op_at (suc v))) (definitions_at rows g v)
+
+-- the operation x registers the definition that the words of the next row spell, or it ends an active one
+abbrev pub IsOperation : (ℕ → ℕ) → List Listed → ℕ → Type 0
+IsOperation f ls x = ((x ≡ 256 + length ls) × IsNew ls (name_in f) (text_in f))
+    ⊎ ((id : ℕ) × (x ≡ 512 + id) × (id < 256) × IsOnAt ls id)
+
+-- these are the active definitions at a version that the registry has reached
+abbrev pub AreActiveAt : List CatRow → (ℕ → ℕ) → ℕ → List (ℕ × List ℕ) → Type 0
+AreActiveAt rows g v ts = (v ≤ version_in g) × (active_texts (definitions_at rows g v) ≡ ts)
+
+-- ---- words that last
+
+-- the index is that of an operation that made a version which the registry has reached
+abbrev pub IsOpIndex : (ℕ → ℕ) → ℕ → Type 0
+IsOpIndex g p = (v : ℕ) × (1 ≤ v) × (v ≤ version_in g) × (p ≡ op_at v)
+
+-- the index is that of a word of a row, behind its boundaries
+abbrev pub IsRowIndex : List CatRow → (ℕ → ℕ) → ℕ → Type 0
+IsRowIndex rows g p = (id : ℕ) × (i : ℕ) × (id < length (definitions_at rows g (version_in g))) × (2 ≤ i) × (i < 39)
+    × (p ≡ row_at id i)
+
+-- the word at the index lasts: the count of opened rows, an operation, or a word of a row
+abbrev pub IsLasting : List CatRow → (ℕ → ℕ) → ℕ → Type 0
+IsLasting rows g p = (p ≡ 3) ⊎ (IsOpIndex g p ⊎ IsRowIndex rows g p)
+
+-- the version only rises, and words that last never change
+pub record Endures (rows : List CatRow) (g g' : ℕ → ℕ) : Type 0 where
+  pub rises : version_in g ≤ version_in g'
+  pub same : (p : ℕ) → IsLasting rows g p → g' p ≡ g p
+
+-- ---- what a pass knows of it
+
+-- a word that was read is one that lasts
+pub record IsRegistered (rows : List CatRow) (g : ℕ → ℕ) (x : RegistryWord) : Type 0 where
+  pub lasts : IsLasting rows g x.index
+  pub word : g x.index ≡ x.value
+
+-- the registry has these words
+abbrev pub HasRead : (ℕ → ℕ) → List RegistryWord → Type 0
+HasRead g words = AllOf (λ x. g x.index ≡ x.value) words
+
+-- by the words read, the definitions at a version are these, and the registry has reached it
+pub record KnowsDefinitions (rows : List CatRow) (l : Learned) (v : ℕ) (ls : List Listed) : Type 0 where
+  pub reached : v ≤ l.version
+  pub are : (g : ℕ → ℕ) → HasRead g l.words → definitions_at rows g v ≡ ls
+
+-- by the words read, the active definitions at a version are these
+abbrev pub KnowsActive : List CatRow → Learned → ℕ → List (ℕ × List ℕ) → Type 0
+KnowsActive rows l v ts = (ls : List Listed) × KnowsDefinitions rows l v ls × (active_texts ls ≡ ts)
+
+-- by the words read, a row with this id is there
+pub record KnowsRow (rows : List CatRow) (l : Learned) (id : ℕ) : Type 0 where
+  pub version : ℕ
+  pub reached : version ≤ l.version
+  pub there : (g : ℕ → ℕ) → HasRead g l.words → id < length (definitions_at rows g version)
+
+-- the word that was stored last at an index, or 0
+abbrev pub drafted : List RegistryWord → ℕ → ℕ
+drafted [] p = 0
+drafted (x ∷ xs) p = choose (ℕ_discrete p x.index) x.value (drafted xs p)
