@@ -1,3 +1,4 @@
 pub mod Changes
 pub mod Listings
 pub mod Lookups
+pub mod RowWords
