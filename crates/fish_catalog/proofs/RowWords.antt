@@ -73,32 +73,32 @@ bytes_from b n room small =
     ∙ bytes_back b [] (small_at b small)
 
 -- a claim that holds chooses the first
-pub chosen_first : {P : Type 0} {X : Type 0} (d : Dec P) (x y : X) → P → choose d x y ≡ x
+chosen_first : {P : Type 0} {X : Type 0} (d : Dec P) (x y : X) → P → choose d x y ≡ x
 chosen_first (yes p) x y holds = refl
 chosen_first (no n) x y holds = absurd (n holds)
 
 -- and one that fails the second
-pub chosen_second : {P : Type 0} {X : Type 0} (d : Dec P) (x y : X) → ¬ P → choose d x y ≡ y
+chosen_second : {P : Type 0} {X : Type 0} (d : Dec P) (x y : X) → ¬ P → choose d x y ≡ y
 chosen_second (yes p) x y fails = absurd (fails p)
 chosen_second (no n) x y fails = refl
 
--- the word of a place behind the third is one of the name in front of the eighth
-word_of_name : (row : CatRow) (i : ℕ) → i < 4 → row_word row (3 + i) ≡ word_at row.name (0 + i)
+-- a word of the name
+pub word_of_name : (row : CatRow) (k : ℕ) → 3 ≤ k → k < 7 → row_word row k ≡ word_at row.name (k - 3)
 unfolding row_word
-word_of_name row i few =
-    let place : 3 + i ≡ suc (suc (suc i)) = omega arith in
-    let same : i ≡ 0 + i = omega arith in
-    ap (row_word row) place ∙ chosen_first (dec_lt i 4) (word_at row.name i) (word_at row.def (i - 4)) few
-    ∙ ap (word_at row.name) same
+word_of_name row k low few =
+    let i : ℕ = k - 3 in
+    let place : k ≡ suc (suc (suc i)) = omega arith in
+    ap (row_word row) place ∙ chosen_first (dec_lt i 4) (word_at row.name i) (word_at row.def (i - 4)) (omega arith)
 
--- and one of the text from there on
-word_of_text : (row : CatRow) (i : ℕ) → i < 32 → row_word row (7 + i) ≡ word_at row.def (0 + i)
+-- a word of the text
+pub word_of_text : (row : CatRow) (k : ℕ) → 7 ≤ k → row_word row k ≡ word_at row.def (k - 7)
 unfolding row_word
-word_of_text row i few =
-    let place : 7 + i ≡ suc (suc (suc (4 + i))) = omega arith in
-    let same : 4 + i - 4 ≡ 0 + i = omega arith in
+word_of_text row k low =
+    let i : ℕ = k - 3 in
+    let place : k ≡ suc (suc (suc i)) = omega arith in
+    let same : i - 4 ≡ k - 7 = omega arith in
     ap (row_word row) place
-    ∙ chosen_second (dec_lt (4 + i) 4) (word_at row.name (4 + i)) (word_at row.def (4 + i - 4)) (λ less. omega arith)
+    ∙ chosen_second (dec_lt i 4) (word_at row.name i) (word_at row.def (i - 4)) (λ less. omega arith)
     ∙ ap (word_at row.def) same
 
 -- a bit says its yes
@@ -129,13 +129,17 @@ active_back row h =
     omega (arith, h.short_name, h.short_text, bit_small (is_active row)) in
     ap (λ n. n == 1) bit ∙ bit_back (is_active row)
 
+-- counted from a place on, or from 0
+at_0 : (f : ℕ → ℕ) (a i : ℕ) → f (a + i - a) ≡ f (0 + i)
+at_0 f a i = let same : a + i - a ≡ 0 + i = omega arith in ap f same
+
 -- the name comes back from a row's words
 pub name_back : (row : CatRow) → IsWritable row → name_in (row_word row) ≡ row.name
 unfolding name_in
 name_back row h =
     ap (bytes_in (map (row_word row) (range_with_len 3 4))) (size_of_name row h)
     ∙ ap (λ ws. bytes_in ws (length row.name))
-    (ranges_same (row_word row) (word_at row.name) 3 0 4 (word_of_name row))
+    (ranges_same (row_word row) (word_at row.name) 3 0 4 (λ i few. word_of_name row (3 + i) (omega arith) (omega arith) ∙ at_0 (word_at row.name) 3 i))
     ∙ bytes_from row.name 4 h.short_name h.name
 
 -- and so does the text
@@ -144,7 +148,7 @@ unfolding text_in
 text_back row h =
     ap (bytes_in (map (row_word row) (range_with_len 7 32))) (size_of_text row h)
     ∙ ap (λ ws. bytes_in ws (length row.def))
-    (ranges_same (row_word row) (word_at row.def) 7 0 32 (word_of_text row))
+    (ranges_same (row_word row) (word_at row.def) 7 0 32 (λ i few. word_of_text row (7 + i) (omega arith) ∙ at_0 (word_at row.def) 7 i))
     ∙ bytes_from row.def 32 (omega (arith, h.short_text)) h.text
 
 -- the definition of a row comes back from its words
