@@ -9,14 +9,14 @@ use Rattle.fish_catalog.specs.Rows.{AwaitsFrom, HasActive, IsActive, IsCatalog, 
 use Rattle.fish_catalog.specs.declared.catalog.TheConstants.{MAX_ACTIVE, MAX_ROWS}
 use Rattle.fish_catalog.specs.declared.row.CatRow.{CatRow}
 
--- a row of the longer list is one of before, or the last
-push_cases : (rows : List CatRow) (y : CatRow) (k : ℕ) (x : CatRow) → slice_get (rows ++ y ∷ []) k ≡ Some x →
-    (slice_get rows k ≡ Some x) ⊎ ((k ≡ length rows) × (y ≡ x))
+-- an element of the longer list is one of before, or the last
+pub push_cases : {X : Type 0} (xs : List X) (y : X) (k : ℕ) (x : X) → slice_get (xs ++ y ∷ []) k ≡ Some x →
+    (slice_get xs k ≡ Some x) ⊎ ((k ≡ length xs) × (y ≡ x))
 push_cases [] y zero x h = inr (refl, same_Some y x h)
 push_cases [] y (suc k) x h = absurd (cc)
-push_cases (r ∷ rows) y zero x h = inl h
-push_cases (r ∷ rows) y (suc k) x h =
-    elim (push_cases rows y k x h) [ inl before ↦ inl before | inr last ↦ inr (omega (arith, last.0), last.1) ]
+push_cases (r ∷ xs) y zero x h = inl h
+push_cases (r ∷ xs) y (suc k) x h =
+    elim (push_cases xs y k x h) [ inl before ↦ inl before | inr last ↦ inr (omega (arith, last.0), last.1) ]
 
 -- two active rows of the longer list have two names
 apart_push : (rows : List CatRow) (y : CatRow) → IsCatalog rows → ¬ HasActive rows y.name →

@@ -1,2 +1,5 @@
 pub mod Changes
+pub mod Listings
 pub mod Lookups
+pub mod RowReads
+pub mod RowWords

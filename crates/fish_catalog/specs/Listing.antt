@@ -1,6 +1,6 @@
 -- The definitions as a version of the registry has them: what always holds of them, and how an operation
 -- changes them.
-use Rattle.std.specs.Prelude.{◌≡◌, ℕ, ◌<◌, ◌≤◌, ◌++◌, ◌∷◌, List, [], Bool, true, false, Some, All, count_by, filter, length, map, slice_get}
+use Rattle.std.specs.Prelude.{◌≡◌, ℕ, ◌<◌, ◌≤◌, List, Bool, true, false, Some, All, count_by, filter, length, map, slice_get}
 use Rattle.std.proofs.Math.Decide.{ℕ_discrete}
 use Rattle.fish_layout.specs.Cleared.{choose}
 use Rattle.fish_catalog.specs.Canonical.{IsCanonical}

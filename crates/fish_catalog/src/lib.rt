@@ -8,8 +8,10 @@ mod listed;
 mod row;
 #[cfg(test)]
 mod tests;
+mod words;
 
 pub use catalog::{CatRefusal, Catalog, MAX_ACTIVE, MAX_ROWS};
 pub use entry::{Entries, Entry};
 pub use listed::Listed;
 pub use row::{CatRow, MAX_NAME};
+pub use words::{ROW_WORDS, active_in, read_row, row_words};

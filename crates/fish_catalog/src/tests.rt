@@ -1,9 +1,11 @@
-//! One catalogue through a table of calls, with answers worked out by hand.
+//! One catalogue through a table of calls, and one row as words, with answers worked out by hand.
 
 ghost use Rattle.std.specs.Prelude.{IfOk, ◌≡◌};
 ghost use Rattle.fish_catalog.specs.Canonical.{IsCanonical};
 
-use crate::{CatRefusal, CatRow, Catalog, Entry, MAX_NAME};
+use crate::{
+    CatRefusal, CatRow, Catalog, Entry, MAX_NAME, ROW_WORDS, active_in, read_row, row_words,
+};
 use fish_lang::{LangRefusal, parse_def, print_def};
 use fish_value::{Form, Text};
 use std::alloc::Global;
@@ -131,5 +133,43 @@ fn entries(rt: HostRuntime) -> Result<(), Fail> {
     };
     assert!(rt; stored.again(alloc)?.is(&stored));
     assert!(rt; !stored.is(&Entry::Void));
+    Ok(())
+}
+
+/// The words that are not 0 of the row `kind`, `take type`, which begins at record 6 and is active.
+const ROW_PARTS: [(usize, u64); 5] = [
+    (0, 7),
+    (2, 4 + (9 << 8) + (1 << 16)),
+    (3, 0x646e_696b),
+    (7, 0x7079_7420_656b_6174),
+    (8, 0x65),
+];
+
+#[test]
+fn row_both_ways(rt: HostRuntime) -> Result<(), Fail> {
+    let alloc = rt.alloc();
+    let mut want = [0; ROW_WORDS];
+    for (place, word) in ROW_PARTS {
+        want[place] = word;
+    }
+    let name = Text::copy_of(alloc, "kind")?;
+    let len = name.as_bytes().len();
+    assert!(rt; 1 <= len && len <= MAX_NAME);
+    let row = CatRow {
+        id: 3,
+        name,
+        def: canonical(alloc, "take type")?,
+        from: Some(6),
+        to: None,
+    };
+    let words = row_words(&row);
+    for place in 0..ROW_WORDS {
+        assert_eq!(rt; words[place], want[place], "word {place}");
+    }
+    let listed = read_row(alloc, 3, active_in(want[2]), &want)?;
+    assert_eq!(rt; listed.id, 3);
+    assert_eq!(rt; listed.name.as_bytes(), "kind".as_bytes());
+    assert_eq!(rt; listed.def.as_bytes(), "take type".as_bytes());
+    assert!(rt; listed.active);
     Ok(())
 }
