@@ -93,8 +93,10 @@ module _ (k : Key) (w : World) (r : Rule k w) (id : ℕ) (v : View) (at : get_el
       let h = r.registry.each id v at in
       let few = r.seats.few id v at in
       record {
-        tied = λ l has. ((λ e. ap state' e ∙ put-here r.state v.lane epoch'),
-            (λ ne. put-else r.state v.lane epoch' l ne ∙ (h.tied l has).1 ne));
+        tied = λ l has. (
+          (λ e. ap state' e ∙ put-here r.state v.lane epoch'),
+          (λ ne. put-else r.state v.lane epoch' l ne ∙ (h.tied l has).1 ne),
+        );
         reached = (let a = h.reached in omega arith);
         read = read_later k w.registry g' endures v.learned.words h.read;
         main = λ e. let m = main_later k w.registry g' endures v.learned.version v.rows v.draft still

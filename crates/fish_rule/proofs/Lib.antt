@@ -34,6 +34,7 @@ pub mod Nodes
 pub mod OwnWords
 pub mod Publishes
 pub mod Quotas
+pub mod Registering
 pub mod Registers
 pub mod Registries
 pub mod Room

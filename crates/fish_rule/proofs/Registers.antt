@@ -88,7 +88,13 @@ module _ (rows : List CatRow) where
     definitions_later v reached = definitions_same g g' v
         (λ u a b. e.same (op_at u) (inr (inl (u, a, (omega arith), refl))))
         (λ id i less a b. e.same (row_at id i) (inr (inr (
-          id, i, (let grows = length_grows g v (version_in g) reached in omega arith), a, b, refl))))
+          id,
+          i,
+          (let grows = length_grows g v (version_in g) reached in omega arith),
+          a,
+          b,
+          refl,
+        ))))
 
     -- a word that lasts goes on lasting
     pub lasting_later : (p : ℕ) → IsLasting rows g p → IsLasting rows g' p
@@ -131,8 +137,11 @@ module _ (rows : List CatRow) where
 pub keyed_map : (A B : ℕ → List (ℕ × List ℕ) → Type 0) → ((v : ℕ) (ts : List (ℕ × List ℕ)) → A v ts → B v ts)
     → (version lane number lines : ℕ) (e : ℕ → ℕ) → IsKeyed A version lane number lines e
     → IsKeyed B version lane number lines e
-keyed_map A B f version lane number lines e h = (h.0, record {
-  record_of = h.1.record_of;
-  version_is = h.1.version_is;
-  keys = record { defs = h.1.keys.defs; are = f h.0.version _ h.1.keys.are; keys = h.1.keys.keys };
-})
+keyed_map A B f version lane number lines e h = (
+  h.0,
+  record {
+    record_of = h.1.record_of;
+    version_is = h.1.version_is;
+    keys = record { defs = h.1.keys.defs; are = f h.0.version _ h.1.keys.are; keys = h.1.keys.keys };
+  },
+)

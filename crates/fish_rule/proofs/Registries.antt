@@ -64,8 +64,15 @@ module _ (k : Key) (g g' : ℕ → ℕ) (e : Endures k.rows.value g g') where
       let defs : definitions_at rows g' v ≡ ls = definitions_later rows g g' e v (omega arith) in
       subst (λ (z : List Listed × ℕ). IsOperation (row_in g' (length z.0)) z.0 z.1) (λ i. (sym defs i, sym op i))
       (operation_later (row_in g (length ls)) (row_in g' (length ls)) ls x (λ room few i a b.
-      e.same (row_at (length ls) i) (inr (inr (length ls, i, (let q = length_registered g x ls few in
-      let up = length_grows rows g (suc v) (version_in g) less in omega arith), a, b, refl)))) (h.operations v less))
+      e.same (row_at (length ls) i) (inr (inr (
+        length ls,
+        i,
+        (let q = length_registered g x ls few in
+            let up = length_grows rows g (suc v) (version_in g) less in omega arith),
+        a,
+        b,
+        refl,
+      )))) (h.operations v less))
 
   -- the rows of the start stay
   pub rows_later : (count : ℕ) (version_of : ℕ → ℕ) → Versions k count g version_of → (id : ℕ) (row : CatRow)

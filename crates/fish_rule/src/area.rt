@@ -12,6 +12,18 @@ use crate::view::Key;
 /// The lines of a page.
 pub(crate) const PAGE_LINES: u64 = 32_768;
 
+/// The version.
+pub(crate) const VERSION: u64 = 2;
+
+/// The count of rows at the start.
+pub(crate) const OPENED: u64 = 3;
+
+/// The epoch word of lane 1.
+pub(crate) const EPOCHS: u64 = 4;
+
+/// The first word of the first row.
+pub(crate) const ROWS: u64 = 532;
+
 /// The first head.
 pub(crate) const HEADS: u64 = 10_516;
 

@@ -11,6 +11,7 @@ mod entry;
 mod law;
 mod linking;
 mod plays;
+mod registry;
 mod seats;
 mod steps;
 mod table;
@@ -24,6 +25,7 @@ pub use close::{CloseWant, Remains, close_log};
 pub use entry::{read_record, read_region};
 pub use law::law_every_schedule;
 pub use linking::{aim_entry, load_head, load_node, load_previous, splice_entry, swing_head};
+pub use registry::{announce, define_word, load_registry, load_version, raise_version, retire};
 pub use seats::{Start, base, buckets, join_pass, open_log, shape, split_pass};
 pub use steps::{
     claim_lines, in_flight, is_shut, kind_in, lane, load_settled, load_tail, look_at,
@@ -31,8 +33,8 @@ pub use steps::{
 };
 pub use table::{Base, Log, LogRule, Pass, Region, Shape, Walk};
 pub use view::{
-    Clock, Flight, Found, Gap, Key, Kind, Known, Label, Learned, Node, Note, Noted, Own, Position,
-    Recorded, Shut, View,
+    Clock, Epoch, Flight, Found, Gap, Key, Kind, Known, Label, Learned, Node, Note, Noted, Own,
+    Position, Recorded, RegistryWord, Shut, View,
 };
 pub use walk::{keep_walk, kept_walk};
 pub use word::{kind_of_word, line_of_word};

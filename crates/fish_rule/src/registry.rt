@@ -1,0 +1,100 @@
+//! One atomic step each, on the words of the registry: how a pass enters its version and leaves, how
+//! it reads the definitions, and how the control pass changes them.
+
+ghost use Rattle.std.specs.Prelude.{◌≡◌, ◌<◌, ◌≤◌, ℕ, Some, length, slice_get};
+ghost use Rattle.fish_catalog.specs.Words.{IsWritable, row_word};
+ghost use Rattle.fish_catalog.specs.declared.row.CatRow.{CatRow};
+ghost use Rattle.fish_rule.specs.Entering.{CanAnnounce, CanBump, CanDefine, CanEnter, CanLoadRegistry};
+ghost use Rattle.fish_rule.specs.Entering.{after_announce, after_bump, after_define, after_registry};
+ghost use Rattle.fish_rule.specs.Entering.{after_retire, after_version};
+ghost use Rattle.fish_rule.specs.Passes.{IsPassOf, view};
+ghost use Rattle.fish_rule.specs.Registry.{epoch_at, row_at};
+
+use crate::area::{EPOCHS, VERSION};
+use crate::plays::{Announce, Bump, Define, Register, Retire, Version};
+use crate::table::{Log, Pass};
+
+/// Loads the version. A version that the pass announced is confirmed where it is that very one.
+pub fn load_version(log: &Log, pass: &mut Pass) -> u64
+    requires pass { IsPassOf log.now pass.old }
+    ensures pass { IsPassOf log.now pass.new }
+    ensures view { view pass.new ≡ after_version (view pass.old) result }
+    ensures rises { (view pass.old).learned.version ≤ result }
+    ensures few { result ≤ 512 }
+{
+    log.table
+        .shared
+        .load::<Version>(&mut pass.seat, VERSION as usize)
+}
+
+/// Announces a version in the epoch word of the pass's lane.
+pub fn announce(log: &Log, pass: &mut Pass, version: u64)
+    requires pass { IsPassOf log.now pass.old }
+    requires view { CanAnnounce (view pass.old) version }
+    ensures pass { IsPassOf log.now pass.new }
+    ensures view { view pass.new ≡ after_announce (view pass.old) version }
+{
+    let index = epoch_index(pass.lane);
+    log.table
+        .shared
+        .store::<Announce>(&mut pass.seat, index, version + 1);
+}
+
+/// Stores in the epoch word of the pass's lane that it is out.
+pub fn retire(log: &Log, pass: &mut Pass)
+    requires pass { IsPassOf log.now pass.old }
+    requires view { CanEnter (view pass.old) }
+    ensures pass { IsPassOf log.now pass.new }
+    ensures view { view pass.new ≡ after_retire (view pass.old) }
+{
+    let index = epoch_index(pass.lane);
+    log.table.shared.store::<Retire>(&mut pass.seat, index, 0);
+}
+
+/// Loads a word of the registry that lasts: the count of rows at the start, which is word 3, an
+/// operation, or a word of a row.
+pub fn load_registry(log: &Log, pass: &mut Pass, index: u64) -> u64
+    requires pass { IsPassOf log.now pass.old }
+    requires view { CanLoadRegistry (view pass.old) index }
+    ensures pass { IsPassOf log.now pass.new }
+    ensures view { view pass.new ≡ after_registry (view pass.old) index result }
+    ensures opened { index ≡ 3 → result ≡ length (view pass.old).about.rows.value }
+    ensures row { (id i : ℕ) (row : CatRow) → slice_get (view pass.old).about.rows.value id ≡ Some row → 2 ≤ i
+        → i < 39 → index ≡ row_at id i → IsWritable row × (result ≡ row_word row i) }
+{
+    log.table
+        .shared
+        .load::<Register>(&mut pass.seat, index as usize)
+}
+
+/// Stores a word of the next operation or row.
+pub fn define_word(log: &Log, pass: &mut Pass, index: u64, word: u64)
+    requires pass { IsPassOf log.now pass.old }
+    requires view { CanDefine (view pass.old) index word }
+    ensures pass { IsPassOf log.now pass.new }
+    ensures view { view pass.new ≡ after_define (view pass.old) index word }
+{
+    log.table
+        .shared
+        .store::<Define>(&mut pass.seat, index as usize, word);
+}
+
+/// Stores the next version, which makes the next operation.
+pub fn raise_version(log: &Log, pass: &mut Pass, version: u64)
+    requires pass { IsPassOf log.now pass.old }
+    requires view { CanBump (view pass.old) }
+    requires version { version ≡ (view pass.old).learned.version }
+    ensures pass { IsPassOf log.now pass.new }
+    ensures view { view pass.new ≡ after_bump (view pass.old) }
+{
+    log.table
+        .shared
+        .store::<Bump>(&mut pass.seat, VERSION as usize, version + 1);
+}
+
+/// The index of a lane's epoch word.
+fn epoch_index(lane: u8) -> usize
+    ensures { result ≡ epoch_at lane }
+{
+    (EPOCHS - 1) as usize + usize::from(lane)
+}
