@@ -1,0 +1,174 @@
+-- The rounds of entering: what each leaves of the view.
+use Rattle.std.proofs.Common.{◌≡◌, ◌≢◌, ℕ, ◌+◌, ◌*◌, ◌<◌, ◌≤◌, suc, sym, refl, ap, ◌∙◌, subst, arith, None}
+use Rattle.std.proofs.Math.Decide.{ℕ_discrete}
+use Rattle.fish_layout.proofs.Clearing.{choose_first}
+use Rattle.fish_rule.proofs.Extending.{learns_both, learns_self}
+use Rattle.fish_rule.specs.Entering.{CanAnnounce, CanEnter, after_announce, after_version}
+use Rattle.fish_rule.specs.Epochs.{confirmed}
+use Rattle.fish_rule.specs.declared.view.Epoch.{Epoch}
+use Rattle.fish_rule.specs.declared.view.Epoch.TheVariants.{Announced, Confirmed}
+use Rattle.fish_rule.specs.declared.view.View.{View}
+use Rattle.fish_epoch.specs.Entering.{HasEntered, Keeps}
+
+-- ---- views
+
+-- a view keeps to itself
+pub keeps_self : (v : View) → Keeps v v
+keeps_self v = record {
+  learns = learns_self v;
+  lane = refl;
+  out = refl;
+  shut = refl;
+  flight = refl;
+  rows = refl;
+  draft = refl;
+  tail = refl;
+  own = refl;
+  loads = refl;
+}
+
+-- what keeps to what keeps to it keeps to it
+pub keeps_both : (a b c : View) → Keeps a b → Keeps b c → Keeps a c
+keeps_both a b c e f = record {
+  learns = learns_both a b c e.learns f.learns;
+  lane = f.lane ∙ e.lane;
+  out = f.out ∙ e.out;
+  shut = f.shut ∙ e.shut;
+  flight = f.flight ∙ e.flight;
+  rows = f.rows ∙ e.rows;
+  draft = f.draft ∙ e.draft;
+  tail = f.tail ∙ e.tail;
+  own = f.own ∙ e.own;
+  loads = f.loads ∙ e.loads;
+}
+
+-- a load of the version keeps to the view, where the version has risen
+pub keeps_version : (v : View) (x : ℕ) → v.learned.version ≤ x → Keeps v (after_version v x)
+keeps_version v x more = record {
+  learns = record {
+    about = refl;
+    count = omega arith;
+    settled = omega arith;
+    version = more;
+    words = λ y m. m;
+    found = λ y m. m;
+    known = λ y m. m;
+    records = λ y m. m;
+    nodes = λ y m. m;
+    lows = λ y m. m;
+    tops = λ y m. m;
+    gaps = λ y m. m;
+    labels = λ y m. m;
+  };
+  lane = refl;
+  out = refl;
+  shut = refl;
+  flight = refl;
+  rows = refl;
+  draft = refl;
+  tail = refl;
+  own = refl;
+  loads = refl;
+}
+
+-- and so does a store of the own epoch
+pub keeps_epoch : (v : View) (e : Epoch) → Keeps v (record v { epoch = e; clock = Rattle.fish_rule.specs.Steps.ticked v.clock })
+keeps_epoch v e = record {
+  learns = record {
+    about = refl;
+    count = omega arith;
+    settled = omega arith;
+    version = omega arith;
+    words = λ y m. m;
+    found = λ y m. m;
+    known = λ y m. m;
+    records = λ y m. m;
+    nodes = λ y m. m;
+    lows = λ y m. m;
+    tops = λ y m. m;
+    gaps = λ y m. m;
+    labels = λ y m. m;
+  };
+  lane = refl;
+  out = refl;
+  shut = refl;
+  flight = refl;
+  rows = refl;
+  draft = refl;
+  tail = refl;
+  own = refl;
+  loads = refl;
+}
+
+-- ---- rounds
+
+-- the version was announced, and the load behind it found what it found
+pub record IsRound (v : View) (version found : ℕ) (u : View) : Type 0 where
+  pub keeps : Keeps v u
+  pub epoch : u.epoch ≡ confirmed (Announced version) found
+  pub loaded : u.learned.version ≡ found
+  pub rises : version ≤ found
+  pub few : found ≤ 512
+  pub steps : u.clock.steps ≤ v.clock.steps + 3 + 2 * version
+
+-- one round from a view that has loaded the version
+pub round_of : (v a b c : View) (version found : ℕ) → Keeps v a → a.learned.version ≡ version
+    → a.clock.steps ≤ v.clock.steps + 1 + 2 * version → b ≡ after_announce a version → c ≡ after_version b found
+    → b.learned.version ≤ found → found ≤ 512 → IsRound v version found c
+round_of v a b c version found keeps loaded steps announced load rises few =
+    let seen : b.learned.version ≡ version = ap (λ (z : View). z.learned.version) announced ∙ loaded in
+    let more : b.clock.steps ≡ suc a.clock.steps = ap (λ (z : View). z.clock.steps) announced in
+    let last : c.clock.steps ≡ suc b.clock.steps = ap (λ (z : View). z.clock.steps) load in
+    record {
+      keeps = keeps_both v a c keeps (keeps_both a b c
+          (subst (Keeps a) (sym announced) (keeps_epoch a (Announced version)))
+          (subst (Keeps b) (sym load) (keeps_version b found rises)));
+      epoch = ap (λ (z : View). z.epoch) load ∙ ap (λ (z : View). confirmed z.epoch found) announced;
+      loaded = ap (λ (z : View). z.learned.version) load;
+      rises = omega arith;
+      few = few;
+      steps = omega arith;
+    }
+
+-- the first round
+pub first_round : (v a b c : View) (version found : ℕ) → a ≡ after_version v version → v.learned.version ≤ version
+    → b ≡ after_announce a version → c ≡ after_version b found → b.learned.version ≤ found → found ≤ 512
+    → IsRound v version found c
+first_round v a b c version found first reached announced load rises few =
+    let step : a.clock.steps ≡ suc v.clock.steps = ap (λ (z : View). z.clock.steps) first in
+    round_of v a b c version found (subst (Keeps v) (sym first) (keeps_version v version reached))
+    (ap (λ (z : View). z.learned.version) first) (omega arith) announced load rises few
+
+-- a round behind another that found a newer version
+pub next_round : (v a b c : View) (before version found : ℕ) → IsRound v before version a → version ≢ before
+    → b ≡ after_announce a version → c ≡ after_version b found → b.learned.version ≤ found → found ≤ 512
+    → IsRound v version found c
+next_round v a b c before version found h ne announced load rises few =
+    let s = h.steps in
+    let up = h.rises in
+    round_of v a b c version found h.keeps h.loaded (omega arith) announced load rises few
+
+-- a pass with nothing in flight may announce what it loaded
+pub may_announce : (v a : View) (version : ℕ) → CanEnter v → Keeps v a → a.learned.version ≡ version
+    → CanAnnounce a version
+may_announce v a version can keeps loaded = record {
+  can = record {
+    live = subst (λ (z : ℕ). 1 ≤ z) (sym keeps.lane) can.live;
+    idle = keeps.flight ∙ can.idle;
+  };
+  reached = omega arith;
+}
+
+-- a round that found the version that was announced has entered it
+pub round_over : (v u : View) (version found : ℕ) → IsRound v version found u → found ≡ version
+    → HasEntered v version u
+round_over v u version found h same =
+    let few = h.few in
+    let steps = h.steps in
+    record {
+      keeps = h.keeps;
+      epoch = h.epoch ∙ choose_first (ℕ_discrete found version) (Confirmed version) (Announced version) same;
+      loaded = h.loaded ∙ same;
+      few = omega arith;
+      rounds = omega arith;
+    }

@@ -1,0 +1,26 @@
+-- What a pass knows once it is entered.
+use Rattle.std.specs.Prelude.{ℕ, ◌≡◌, ◌+◌, ◌≤◌}
+use Rattle.fish_rule.specs.Logs.{Learns}
+use Rattle.fish_rule.specs.declared.view.Epoch.TheVariants.{Confirmed}
+use Rattle.fish_rule.specs.declared.view.View.{View}
+
+-- the second view is the first but for its epoch and what it learned since; no word of the log was loaded
+pub record Keeps (v u : View) : Type 0 where
+  pub learns : Learns v u
+  pub lane : u.lane ≡ v.lane
+  pub out : u.out ≡ v.out
+  pub shut : u.shut ≡ v.shut
+  pub flight : u.flight ≡ v.flight
+  pub rows : u.rows ≡ v.rows
+  pub draft : u.draft ≡ v.draft
+  pub tail : u.tail ≡ v.tail
+  pub own : u.own ≡ v.own
+  pub loads : u.clock.loads ≡ v.clock.loads
+
+-- the pass is entered at a version, which it has loaded, after at most 513 rounds of two steps and one step more
+pub record HasEntered (v : View) (version : ℕ) (u : View) : Type 0 where
+  pub keeps : Keeps v u
+  pub epoch : u.epoch ≡ Confirmed version
+  pub loaded : u.learned.version ≡ version
+  pub few : version ≤ 512
+  pub rounds : u.clock.steps ≤ v.clock.steps + 1027
