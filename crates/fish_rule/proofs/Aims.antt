@@ -15,7 +15,7 @@ use Rattle.fish_rule.proofs.Bounds.{starts_above}
 use Rattle.fish_rule.proofs.Flights.{one_flight}
 use Rattle.fish_rule.proofs.OwnWords.{Becomes, flight_is, write_kept, write_lasts}
 use Rattle.fish_rule.proofs.Worlds.{world-log}
-use Rattle.fish_rule.specs.Linking.{CanAim, IsFilled, after_aim, own_place}
+use Rattle.fish_rule.specs.Linking.{CanAim, HasBody, after_aim, own_place}
 use Rattle.fish_rule.specs.Regions.{IsRecord}
 use Rattle.fish_layout.proofs.Clearing.{cleared_head, cleared_same}
 use Rattle.fish_rule.specs.Told.{told_aim}
@@ -30,8 +30,8 @@ use Rattle.fish_rule.specs.declared.view.Kind.TheVariants.{Mark, Stored}
 use Rattle.fish_rule.specs.declared.view.View.{View}
 
 -- words that are filled are those of a record
-pub filled_record : (v : View) (f : Flight) → IsFilled v f → IsRecord v.lane f.number f.lines (body_of f.words)
-filled_record v f h = (h.keyed.0, h.keyed.1.record_of)
+pub body_record : (v : View) (f : Flight) → HasBody v f → IsRecord v.lane f.number f.lines (body_of f.words)
+body_record v f h = (h.keyed.0, h.keyed.1.record_of)
 
 module _ (k : Key) (w : World) (r : Rule k w) (id : ℕ) (v : View) (at : get_elem? w.views id ≡ some v)
     (f : Flight) (can : CanAim v f) where
@@ -45,13 +45,13 @@ module _ (k : Key) (w : World) (r : Rule k w) (id : ℕ) (v : View) (at : get_el
 
   -- the record in flight stands in the log
   pub own_body : body w.log f.line ≡ body_of f.words
-  own_body = body_stored w.log f.words v.lane f.number f.lines f.line f.linked (filled_record v f can.filled) can.full lines_some
+  own_body = body_stored w.log f.words v.lane f.number f.lines f.line f.linked (body_record v f can.body) can.full lines_some
       (let m = can.more in omega arith) own.written
 
   -- the entry is within the region
   pub own_room : entry_at f.linked < f.lines * 4
   own_room =
-      let p = filled_record v f can.filled in
+      let p = body_record v f can.body in
       let keys : keys_of (body_of f.words 0) ≡ length p.0.keys = spelled_keys p.1.spells in
       let lines = p.1.lines_is in
       let room : 1 + 3 * length p.0.keys ≤ body_lines p.0 * 4 = roomy p.0 in

@@ -9,7 +9,7 @@ use Rattle.fish_layout.proofs.Spelled.{spelled_lines}
 use Rattle.fish_layout.specs.Bucket.{bucket_of}
 use Rattle.fish_layout.specs.Cleared.{body_of, entry_at}
 use Rattle.fish_layout.specs.Header.{keys_of, lines_of}
-use Rattle.fish_rule.proofs.Aims.{filled_record, own_body}
+use Rattle.fish_rule.proofs.Aims.{body_record, own_body}
 use Rattle.fish_rule.proofs.Common.{each_set, seats_kept, within_list}
 use Rattle.fish_rule.proofs.Frames.{alone_kept, flight_there, may_kept, registry_set}
 use Rattle.fish_rule.proofs.Kept.{chained_later, facts_later, finished_later, keyed_kept, published}
@@ -79,7 +79,7 @@ module _ (k : Key) (w : World) (r : Rule k w) (id : ℕ) (v : View) (at : get_el
     own_stays : body log' f.line ≡ body_of f.words
     own_stays =
         let e = own_body k w r id v at f can in
-        let p = (filled_record v f can.filled).1 in
+        let p = (body_record v f can.body).1 in
         let lined : lines_of (body_of f.words 0) ≡ f.lines = spelled_lines p.spells ∙ p.lines_is in
         let line : r.start f.number ≡ f.line = own.line in
         let lines = own.lines in
@@ -192,7 +192,7 @@ module _ (k : Key) (w : World) (r : Rule k w) (id : ℕ) (v : View) (at : get_el
         kind = (let about : v.about ≡ k = r.about id v at own.live in
             subst (λ (z : Key). kind_of z.end f.line (f.line + f.lines) ≡ Stored) about can.kind);
         full = can.full;
-        record_of = subst (IsRecord v.lane f.number f.lines) (sym own_stays) (filled_record v f can.filled);
+        record_of = subst (IsRecord v.lane f.number f.lines) (sym own_stays) (body_record v f can.body);
         upto = subst (λ (z : ℕ → ℕ). suc f.linked ≤ keys_of (z 0)) (sym own_stays) can.more;
       };
     }
@@ -201,8 +201,8 @@ module _ (k : Key) (w : World) (r : Rule k w) (id : ℕ) (v : View) (at : get_el
     own_carried : IsCarried k w.registry r.version_of v.lane v.epoch (linked_once f)
     own_carried = record {
       entered = (carried_is k w r id v at f can.flying).entered;
-      keyed = λ _. known_keyed k w r id v at f can.flying own.live can.filled.version can.filled.entered
-          (body_of f.words) can.filled.keyed;
+      keyed = λ _. known_keyed k w r id v at f can.flying own.live can.body.version can.body.entered
+          (body_of f.words) can.body.keyed;
     }
 
     module _ (chains : (c : ℕ) → Chain (After c) (head' c) log')

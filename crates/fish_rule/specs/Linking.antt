@@ -89,7 +89,7 @@ abbrev pub own_place : Flight → ℕ
 own_place f = f.line * 4 + entry_at f.linked
 
 -- the words of f are those of a record of the version at which the pass is entered, with the keys of that version
-pub record IsFilled (v : View) (f : Flight) : Type 0 where
+pub record HasBody (v : View) (f : Flight) : Type 0 where
   pub version : ℕ
   pub entered : v.epoch ≡ Confirmed version
   pub keyed : IsKeyed (KnowsActive v.about.rows.value v.learned) version v.lane f.number f.lines (body_of f.words)
@@ -99,7 +99,7 @@ pub record CanAim (v : View) (f : Flight) : Type 0 where
   pub flying : v.flight ≡ Some f
   pub kind : flight_kind v f ≡ Stored
   pub full : length f.words ≡ f.lines * 4
-  pub filled : IsFilled v f
+  pub body : HasBody v f
   pub more : f.linked < keys_of (body_of f.words 0)
 
 -- a record in flight whose next entry is aimed at a place
