@@ -11,7 +11,11 @@ use Rattle.fish_rule.proofs.Worlds.{area-in, world-registry}
 use Rattle.fish_rule.specs.Entering.{CanAnnounce, CanBump, CanDefine, CanEnter, CanLoadRegistry, after_announce}
 use Rattle.fish_rule.specs.Entering.{after_bump, after_define, after_registry, after_retire, after_version}
 use Rattle.fish_rule.specs.Epochs.{IsUnmade}
-use Rattle.fish_rule.specs.Registry.{IsLasting, epoch_at, row_at, version_in}
+use Rattle.fish_rule.specs.Registry.{IsLasting, KnowsDefinitions, KnowsRow, epoch_at, row_at, version_in}
+use Rattle.fish_rule.proofs.Registers.{has_read, length_grows}
+use Rattle.std.proofs.lemmas.List.{length-map}
+use Rattle.fish_catalog.specs.Listing.{IsListing, listed_of}
+use Rattle.fish_catalog.specs.declared.listed.Listed.{Listed}
 use Rattle.fish_rule.specs.Rule.{Rule}
 use Rattle.fish_rule.specs.Table.{Ruled, Sat, Stands, Told}
 use Rattle.fish_rule.specs.Told.{ToldRegistry, ToldVersion, told_announce, told_bump, told_define, told_retire}
@@ -186,3 +190,34 @@ version_law v s =
 -- no pass has a lane above 16
 pub lane_law : (v : View) → Stands v → v.lane ≤ 16
 lane_law v s = s.rule.seats.few s.seat v s.at
+
+-- a row of the start is there at version 0, and so there are at most 256
+pub opened_law : (v : View) → Stands v → length v.about.rows.value ≤ 256
+opened_law v s =
+    let listing = s.rule.registry.versions.listings 0 (omega arith) in
+    let few = listing.few in
+    let size = length-map v.about.rows.value listed_of in
+    omega arith
+
+-- a row that is known is one of 256
+pub row_law : (v : View) (id : ℕ) → Stands v → KnowsRow v.about.rows.value v.learned id → id < 256
+row_law v id s h =
+    let w = s.moment in
+    let stays = s.rule.registry.each s.seat v s.at in
+    let there = h.there w.registry (has_read v.about.rows.value w.registry v.learned.words stays.read) in
+    let a = h.reached in
+    let b = stays.reached in
+    let up = length_grows v.about.rows.value w.registry h.version (version_in w.registry) (omega arith) in
+    let few = (s.rule.registry.versions.listings (version_in w.registry) (omega arith)).few in
+    omega arith
+
+-- definitions that are known are a listing
+pub listing_law : (v : View) (u : ℕ) (ls : List Listed) → Stands v
+    → KnowsDefinitions v.about.rows.value v.learned u ls → IsListing ls
+listing_law v u ls s h =
+    let w = s.moment in
+    let stays = s.rule.registry.each s.seat v s.at in
+    let a = h.reached in
+    let b = stays.reached in
+    subst IsListing (h.are w.registry (has_read v.about.rows.value w.registry v.learned.words stays.read))
+    (s.rule.registry.versions.listings u (omega arith))

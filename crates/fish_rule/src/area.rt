@@ -21,6 +21,9 @@ pub(crate) const OPENED: u64 = 3;
 /// The epoch word of lane 1.
 pub(crate) const EPOCHS: u64 = 4;
 
+/// The operation that made version 1.
+pub(crate) const OPERATIONS: u64 = 20;
+
 /// The first word of the first row.
 pub(crate) const ROWS: u64 = 532;
 

@@ -25,7 +25,10 @@ pub use close::{CloseWant, Remains, close_log};
 pub use entry::{read_record, read_region};
 pub use law::law_every_schedule;
 pub use linking::{aim_entry, load_head, load_node, load_previous, splice_entry, swing_head};
-pub use registry::{announce, define_word, load_registry, load_version, raise_version, retire};
+pub use registry::{
+    announce, define_word, load_opened, load_operation, load_row, load_version, raise_version,
+    retire,
+};
 pub use seats::{Start, base, buckets, join_pass, open_log, shape, split_pass};
 pub use steps::{
     claim_lines, in_flight, is_shut, kind_in, lane, load_settled, load_tail, look_at,

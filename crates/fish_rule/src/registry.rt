@@ -8,9 +8,9 @@ ghost use Rattle.fish_rule.specs.Entering.{CanAnnounce, CanBump, CanDefine, CanE
 ghost use Rattle.fish_rule.specs.Entering.{after_announce, after_bump, after_define, after_registry};
 ghost use Rattle.fish_rule.specs.Entering.{after_retire, after_version};
 ghost use Rattle.fish_rule.specs.Passes.{IsPassOf, view};
-ghost use Rattle.fish_rule.specs.Registry.{epoch_at, row_at};
+ghost use Rattle.fish_rule.specs.Registry.{KnowsRow, epoch_at, op_at, row_at};
 
-use crate::area::{EPOCHS, VERSION};
+use crate::area::{EPOCHS, OPENED, OPERATIONS, ROWS, VERSION};
 use crate::plays::{Announce, Bump, Define, Register, Retire, Version};
 use crate::table::{Log, Pass};
 
@@ -51,9 +51,41 @@ pub fn retire(log: &Log, pass: &mut Pass)
     log.table.shared.store::<Retire>(&mut pass.seat, index, 0);
 }
 
-/// Loads a word of the registry that lasts: the count of rows at the start, which is word 3, an
-/// operation, or a word of a row.
-pub fn load_registry(log: &Log, pass: &mut Pass, index: u64) -> u64
+/// Loads the count of rows at the start.
+pub fn load_opened(log: &Log, pass: &mut Pass) -> u64
+    requires pass { IsPassOf log.now pass.old }
+    ensures pass { IsPassOf log.now pass.new }
+    ensures view { view pass.new ≡ after_registry (view pass.old) 3 result }
+    ensures opened { result ≡ length (view pass.old).about.rows.value }
+{
+    load_registry(log, pass, OPENED)
+}
+
+/// Loads the operation that made a version which the registry has reached.
+pub fn load_operation(log: &Log, pass: &mut Pass, version: u64) -> u64
+    requires pass { IsPassOf log.now pass.old }
+    requires version { (1 ≤ version) × (version ≤ (view pass.old).learned.version) }
+    ensures pass { IsPassOf log.now pass.new }
+    ensures view { view pass.new ≡ after_registry (view pass.old) (op_at version) result }
+{
+    load_registry(log, pass, OPERATIONS + (version - 1))
+}
+
+/// Loads a word of a row, behind its boundaries.
+pub fn load_row(log: &Log, pass: &mut Pass, id: u64, place: u64) -> u64
+    requires pass { IsPassOf log.now pass.old }
+    requires row { KnowsRow (view pass.old).about.rows.value (view pass.old).learned id }
+    requires place { (2 ≤ place) × (place < 39) }
+    ensures pass { IsPassOf log.now pass.new }
+    ensures view { view pass.new ≡ after_registry (view pass.old) (row_at id place) result }
+    ensures row { (row : CatRow) → slice_get (view pass.old).about.rows.value id ≡ Some row
+        → IsWritable row × (result ≡ row_word row place) }
+{
+    load_registry(log, pass, ROWS + (id * 39 + place))
+}
+
+/// Loads a word of the registry that lasts.
+fn load_registry(log: &Log, pass: &mut Pass, index: u64) -> u64
     requires pass { IsPassOf log.now pass.old }
     requires view { CanLoadRegistry (view pass.old) index }
     ensures pass { IsPassOf log.now pass.new }
