@@ -1,3 +1,4 @@
+pub mod ActiveTexts
 pub mod Changes
 pub mod Listings
 pub mod Lookups

@@ -1,5 +1,7 @@
 -- What the functions that make and read a row's words stand on.
-use Rattle.std.proofs.Common.{◌≡◌, ℕ, ◌+◌, ◌*◌, ◌<◌, ◌≤◌, List, Bool, true, false, length, get_or, slice_index, map, take, drop, refl, sym, ap, subst, ◌∙◌, inl, inr, arith, length-drop, All}
+use Rattle.std.proofs.Common.{◌≡◌, ℕ, ◌+◌, ◌*◌, ◌<◌, ◌≤◌, List, Bool, true, false, length, get_or}
+use Rattle.std.proofs.Common.{slice_index, map, take, drop, refl, sym, ap, subst, ◌∙◌, inl, inr, arith}
+use Rattle.std.proofs.Common.{length-drop, All}
 use mir.Val.{bool_byte}
 use Rattle.std.specs.Prelude.{IsUtf8}
 use Rattle.std.specs.List.{range_with_len}

@@ -1,5 +1,7 @@
 -- The words of a row: which of them say what a version knows of it, and that they say it.
-use Rattle.std.proofs.Common.{◌≡◌, ℕ, suc, ◌+◌, ◌-◌, ◌*◌, ◌/◌, ◌%◌, ◌<◌, ◌≤◌, ◌==◌, List, [], Bool, true, false, length, get_or, map, refl, sym, ap, ◌∙◌, inl, inr, arith, append-nil, All}
+use Rattle.std.proofs.Common.{◌≡◌, ℕ, suc, ◌+◌, ◌-◌, ◌*◌, ◌/◌, ◌%◌, ◌<◌, ◌≤◌, ◌==◌, List, [], Bool, true}
+use Rattle.std.proofs.Common.{false, length, get_or, map, refl, sym, ap, ◌∙◌, inl, inr, arith, append-nil}
+use Rattle.std.proofs.Common.{All}
 use Rattle.std.specs.List.{range_with_len}
 use Rattle.std.proofs.Math.Decide.{dec_lt}
 use Rattle.std.proofs.Math.ListN.{get_or-eq_default}
@@ -139,7 +141,8 @@ unfolding name_in
 name_back row h =
     ap (bytes_in (map (row_word row) (range_with_len 3 4))) (size_of_name row h)
     ∙ ap (λ ws. bytes_in ws (length row.name))
-    (ranges_same (row_word row) (word_at row.name) 3 0 4 (λ i few. word_of_name row (3 + i) (omega arith) (omega arith) ∙ at_0 (word_at row.name) 3 i))
+    (ranges_same (row_word row) (word_at row.name) 3 0 4
+    (λ i few. word_of_name row (3 + i) (omega arith) (omega arith) ∙ at_0 (word_at row.name) 3 i))
     ∙ bytes_from row.name 4 h.short_name h.name
 
 -- and so does the text
@@ -148,7 +151,8 @@ unfolding text_in
 text_back row h =
     ap (bytes_in (map (row_word row) (range_with_len 7 32))) (size_of_text row h)
     ∙ ap (λ ws. bytes_in ws (length row.def))
-    (ranges_same (row_word row) (word_at row.def) 7 0 32 (λ i few. word_of_text row (7 + i) (omega arith) ∙ at_0 (word_at row.def) 7 i))
+    (ranges_same (row_word row) (word_at row.def) 7 0 32
+    (λ i few. word_of_text row (7 + i) (omega arith) ∙ at_0 (word_at row.def) 7 i))
     ∙ bytes_from row.def 32 (omega (arith, h.short_text)) h.text
 
 -- the definition of a row comes back from its words

@@ -14,7 +14,7 @@ use crate::row::CatRow;
 use fish_value::Bytes;
 use std::alloc::{AllocError, Global};
 
-/// The words of a row.
+/// How many words a row has.
 pub const ROW_WORDS: usize = 39;
 
 /// The words of a row.
