@@ -1,1 +1,4 @@
+pub mod Ended
+pub mod Reading
 pub mod Rounds
+pub mod Texts

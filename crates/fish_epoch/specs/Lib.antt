@@ -1,1 +1,3 @@
+pub mod Definitions
 pub mod Entering
+pub mod Rows

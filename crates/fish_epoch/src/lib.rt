@@ -4,6 +4,9 @@
 //! touched by `fish_rule` alone.
 #![tactic(auto)]
 
+mod definitions;
 mod entering;
+mod rows;
 
+pub use definitions::Defs;
 pub use entering::{enter, leave};

@@ -1,0 +1,38 @@
+-- One word more of the row is read.
+use Rattle.std.proofs.Common.{◌≡◌, ◌∙◌, ℕ, ◌+◌, ◌≤◌, ◌<◌, suc, sym, ap, subst, arith, length, length-set, Some, slice_get}
+use Rattle.std.specs.Prelude.{slice_index, slice_set}
+use Rattle.fish_rule.specs.Passes.{view}
+use Rattle.fish_epoch.proofs.Reading.{reads_both, reads_word, row_later, words_more}
+use Rattle.fish_epoch.specs.Rows.{HasWords}
+use Rattle.fish_epoch.proofs.rows.read_words.Goals as goal
+
+-- the row stays known
+pub load_row-requires-clause-row : goal.load_row-requires-clause-row
+load_row-requires-clause-row c =
+    row_later (view c.args.pass.now) (view c.loop-place.pass) c.args.id c.loop-place.invariant.reads.extends.learns
+    c.requires.row
+
+-- and so do the words
+pub loop-place-preserved : goal.loop-place-preserved
+loop-place-preserved c =
+    let v = view c.loop-place.pass in
+    let u = view c.load_row.new.pass in
+    let h = c.loop-place.invariant in
+    let more : suc c.loop-place.place ≡ c.loop-place.place + 1 = omega arith in
+    let wide = h.wide in
+    record {
+      of = c.load_row.ensures.pass;
+      reads = reads_both (view c.args.pass.now) v u h.reads (reads_word v u _ _ c.load_row.ensures.view);
+      wide = length-set c.loop-place.words c.loop-place.place c.load_row.result ∙ h.wide;
+      words = subst (λ (z : ℕ). HasWords u c.args.id z
+          (slice_index (slice_set c.loop-place.words c.loop-place.place c.load_row.result))) more
+          (words_more v u c.args.id c.loop-place.place c.load_row.result c.loop-place.words h.wide
+          c.loop-place-test.true c.load_row.ensures.view c.load_row.ensures.row h.words);
+    }
+
+-- at the end all are
+pub returns-clause-words : goal.returns-clause-words
+returns-clause-words c =
+    let end : c.loop-place.place ≡ 39 = (let a = c.loop-place-test.false in let b = c.loop-place.auto.place-end in omega arith) in
+    subst (λ (z : ℕ). HasWords (view c.loop-place.pass) c.args.id z (slice_index c.loop-place.words)) end
+    c.loop-place.invariant.words

@@ -1,0 +1,14 @@
+-- The words so far were read.
+use Rattle.std.proofs.Common.{◌≡◌, length}
+use Rattle.std.specs.Prelude.{slice_index}
+use Rattle.fish_rule.specs.Passes.{IsPassOf, view}
+use Rattle.fish_epoch.specs.Rows.{HasWords, OnlyReads}
+use Rattle.fish_epoch.proofs.rows.read_words.Given as goal
+
+abbrev pub invariant-loop-place : goal.invariant-loop-place
+invariant-loop-place l = record {
+  of : IsPassOf l.log l.pass;
+  reads : OnlyReads (view l.fn.pass) (view l.pass);
+  wide : length l.words ≡ 39;
+  words : HasWords (view l.pass) l.id l.place (slice_index l.words);
+}

@@ -1,0 +1,30 @@
+-- What the definitions of a version are that a pass has read.
+use Rattle.std.specs.Prelude.{ℕ, ◌≡◌, List, false, map, true}
+use Rattle.fish_catalog.specs.Listing.{active_texts}
+use Rattle.fish_psf.specs.declared.key.ActiveDef.{ActiveDef}
+use Rattle.fish_rule.specs.Keys.{text_of}
+use Rattle.fish_rule.specs.Registry.{KnowsDefinitions}
+use Rattle.fish_rule.specs.declared.view.View.{View}
+use Rattle.fish_epoch.specs.declared.definitions.Defs.{Defs}
+
+-- the version
+abbrev pub version_of : Defs → ℕ
+version_of d = d.version
+
+-- the active definitions
+abbrev pub active_defs : Defs → List ActiveDef
+active_defs d = d.active.items
+
+-- nothing has been read yet
+pub record IsUnread (d : Defs) : Type 0 where
+  pub unread : d.read ≡ false
+  pub version : version_of d ≡ 0
+
+-- by the words that the pass has read, these are the definitions of their version, and the active ones among them
+pub record AreRead (v : View) (d : Defs) : Type 0 where
+  pub rows : KnowsDefinitions v.about.rows.value v.learned (version_of d) d.rows.items
+  pub active : map text_of (active_defs d) ≡ active_texts d.rows.items
+
+-- what they hold was read by this pass, or by one that it learned of
+abbrev pub IsDefsOf : View → Defs → Type 0
+IsDefsOf v d = d.read ≡ true → AreRead v d

@@ -1,0 +1,115 @@
+//! The definitions of a version, as a pass reads them of the log's words.
+
+ghost use Rattle.std.specs.Prelude.{◌≡◌, ◌≤◌, IfOk, OnErr, OnOk, map, true};
+ghost use Rattle.fish_catalog.specs.Canonical.{IsCanonical};
+ghost use Rattle.fish_catalog.specs.Listing.{IsListing, active_texts};
+ghost use Rattle.fish_rule.specs.Keys.{text_of};
+ghost use Rattle.fish_rule.specs.Logs.{Extends};
+ghost use Rattle.fish_rule.specs.Passes.{IsPassOf, view};
+
+use crate::rows::read_rows;
+use fish_catalog::Listed;
+use fish_lang::{LangRefusal, parse_def};
+use fish_psf::ActiveDef;
+use fish_rule::{Log, Pass};
+use std::alloc::{AllocError, Global};
+
+/// The definitions of a version of one log's registry.
+#[derive(Debug, Drop)]
+pub struct Defs {
+    pub(crate) version: u16,
+    pub(crate) read: bool,
+    pub(crate) rows: Vec<Listed>,
+    pub(crate) active: Vec<ActiveDef>,
+}
+
+impl Defs {
+    ghost use Rattle.fish_epoch.specs.Definitions.{AreRead, IsDefsOf, IsUnread, active_defs, version_of};
+
+    /// No definition yet. Takes no memory.
+    pub fn new(alloc: Global) -> Defs
+        ensures { IsUnread result }
+    {
+        Defs {
+            version: 0,
+            read: false,
+            rows: Vec::new(alloc),
+            active: Vec::new(alloc),
+        }
+    }
+
+    /// The version of the last `refresh` that was answered with Ok, or 0 before the first.
+    pub fn version(&self) -> u16
+        ensures { result ≡ version_of self.now }
+    {
+        self.version
+    }
+
+    /// The active definitions of the version, in the order of their ids.
+    pub fn active(&self) -> &[ActiveDef]
+        ensures { result.now ≡ active_defs self.now }
+    {
+        self.active.as_slice()
+    }
+
+    /// Reads the definitions of a version that the pass has loaded: the words of its rows and
+    /// operations, once a version. Where they are those of this version already, nothing is read.
+    pub fn refresh(
+        &mut self,
+        log: &Log,
+        pass: &mut Pass,
+        version: u16,
+    ) -> Result<(), AllocError>
+        requires pass { IsPassOf log.now pass.old }
+        requires reached { version ≤ (view pass.old).learned.version }
+        requires defs { IsDefsOf (view pass.old) self.old }
+        ensures pass { IsPassOf log.now pass.new }
+        ensures extends { Extends (view pass.old) (view pass.new) }
+        ensures loads { (view pass.new).clock.loads ≡ (view pass.old).clock.loads }
+        ensures read { OnOk result (AreRead (view pass.new) self.new) }
+        ensures version { OnOk result (version_of self.new ≡ version) }
+        ensures once { self.old.read ≡ true → version_of self.old ≡ version → view pass.new ≡ view pass.old }
+
+        ensures refused { OnErr result (self.new ≡ self.old) }
+    {
+        if self.read && self.version == version {
+            return Ok(());
+        }
+        let alloc = *self.rows.allocator();
+        let rows = read_rows(alloc, log, pass, version)?;
+        let active = parse_active(alloc, rows.as_slice())?;
+        *self = Defs {
+            version,
+            read: true,
+            rows,
+            active,
+        };
+        Ok(())
+    }
+}
+
+/// The definitions that are active.
+fn parse_active(alloc: Global, rows: &[Listed]) -> Result<Vec<ActiveDef>, AllocError>
+    requires { IsListing rows.now }
+    ensures { IfOk result (λ defs. map text_of defs.items ≡ active_texts rows.now) }
+{
+    let mut active = Vec::new(alloc);
+    for row in rows {
+        if row.active {
+            active.push(parse_row(alloc, row)?)?;
+        }
+    }
+    Ok(active)
+}
+
+/// The definition that a row's text is.
+fn parse_row(alloc: Global, row: &Listed) -> Result<ActiveDef, AllocError>
+    requires { IsCanonical row.now.def }
+    ensures { IfOk result (λ active. text_of active ≡ (row.now.id, row.now.def)) }
+{
+    match parse_def(alloc, row.def.as_bytes()) {
+        Ok(def) => Ok(ActiveDef { id: row.id, def }),
+        Err(LangRefusal::OutOfMemory) => Err(AllocError),
+        Err(_) => unreachable!(),
+    }
+}

@@ -1,0 +1,123 @@
+//! The rows of a version from the log's words: those of the start, and what each operation made of
+//! them.
+
+ghost use Rattle.std.specs.Prelude.{◌≡◌, ◌<◌, ◌≤◌, ℕ, suc, IfOk, OnOk, Some, length, map, slice_get, slice_index};
+ghost use Rattle.fish_catalog.specs.Listing.{IsListing, ended_at, listed_of};
+ghost use Rattle.fish_epoch.specs.Rows.{HasRow, HasWords, OnlyReads};
+ghost use Rattle.fish_rule.specs.Passes.{IsPassOf, view};
+ghost use Rattle.fish_rule.specs.Registry.{KnowsDefinitions, KnowsRow};
+
+use fish_catalog::{Listed, ROW_WORDS, active_in, read_row};
+use fish_rule::{Log, Pass, load_opened, load_operation, load_row};
+use std::alloc::{AllocError, Global};
+
+/// The definitions of a version.
+pub(crate) fn read_rows(
+    alloc: Global,
+    log: &Log,
+    pass: &mut Pass,
+    version: u16,
+) -> Result<Vec<Listed>, AllocError>
+    requires pass { IsPassOf log.now pass.old }
+    requires reached { version ≤ (view pass.old).learned.version }
+    ensures pass { IsPassOf log.now pass.new }
+    ensures reads { OnlyReads (view pass.old) (view pass.new) }
+    ensures rows { IfOk result (λ rows.
+        KnowsDefinitions (view pass.new).about.rows.value (view pass.new).learned version rows.items) }
+{
+    let mut rows = first_rows(alloc, log, pass)?;
+    for before in 0..version {
+        make(alloc, log, pass, before, &mut rows)?;
+    }
+    Ok(rows)
+}
+
+/// The definitions of the start.
+fn first_rows(alloc: Global, log: &Log, pass: &mut Pass) -> Result<Vec<Listed>, AllocError>
+    requires pass { IsPassOf log.now pass.old }
+    ensures pass { IsPassOf log.now pass.new }
+    ensures reads { OnlyReads (view pass.old) (view pass.new) }
+    ensures rows { IfOk result (λ rows. rows.items ≡ map listed_of (view pass.old).about.rows.value) }
+{
+    let count = load_opened(log, pass);
+    let mut rows = Vec::new(alloc);
+    for id in 0..count {
+        rows.push(first_row(alloc, log, pass, id)?)?;
+    }
+    Ok(rows)
+}
+
+/// The definition of a row of the start.
+fn first_row(alloc: Global, log: &Log, pass: &mut Pass, id: u64) -> Result<Listed, AllocError>
+    requires pass { IsPassOf log.now pass.old }
+    requires there { id < length (view pass.old).about.rows.value }
+    ensures pass { IsPassOf log.now pass.new }
+    ensures reads { OnlyReads (view pass.old) (view pass.new) }
+    ensures row { IfOk result (λ l. slice_get (map listed_of (view pass.old).about.rows.value) id ≡ Some l) }
+{
+    let words = read_words(log, pass, id);
+    read_row(alloc, id as u16, active_in(words[2]), &words)
+}
+
+/// What the next operation makes of the definitions of a version.
+fn make(
+    alloc: Global,
+    log: &Log,
+    pass: &mut Pass,
+    version: u16,
+    rows: &mut Vec<Listed>,
+) -> Result<(), AllocError>
+    requires pass { IsPassOf log.now pass.old }
+    requires reached { version < (view pass.old).learned.version }
+    requires rows { KnowsDefinitions (view pass.old).about.rows.value (view pass.old).learned version rows.old.items }
+    ensures pass { IsPassOf log.now pass.new }
+    ensures reads { OnlyReads (view pass.old) (view pass.new) }
+    ensures rows { OnOk result (KnowsDefinitions (view pass.new).about.rows.value (view pass.new).learned
+        (suc version) rows.new.items) }
+{
+    let operation = load_operation(log, pass, u64::from(version) + 1);
+    if operation < 512 {
+        let row = registered_row(alloc, log, pass, rows.len() as u64)?;
+        rows.push(row)?;
+    } else {
+        end_row(rows.as_mut_slice(), (operation % 256) as u16);
+    }
+    Ok(())
+}
+
+/// The definition of a row that was registered.
+fn registered_row(alloc: Global, log: &Log, pass: &mut Pass, id: u64) -> Result<Listed, AllocError>
+    requires pass { IsPassOf log.now pass.old }
+    requires row { KnowsRow (view pass.old).about.rows.value (view pass.old).learned id }
+    ensures pass { IsPassOf log.now pass.new }
+    ensures reads { OnlyReads (view pass.old) (view pass.new) }
+    ensures row { IfOk result (HasRow (view pass.new) id) }
+{
+    let words = read_words(log, pass, id);
+    read_row(alloc, id as u16, true, &words)
+}
+
+/// Ends the definition with an id.
+fn end_row(rows: &mut [Listed], id: u16)
+    requires { IsListing rows.old }
+    ensures { rows.new ≡ ended_at id rows.old }
+{
+    if let Some(row) = rows.get_mut(usize::from(id)) {
+        row.active = false;
+    }
+}
+
+/// The words of a row, behind its boundaries, which are left 0.
+fn read_words(log: &Log, pass: &mut Pass, id: u64) -> [u64; ROW_WORDS]
+    requires pass { IsPassOf log.now pass.old }
+    requires row { KnowsRow (view pass.old).about.rows.value (view pass.old).learned id }
+    ensures pass { IsPassOf log.now pass.new }
+    ensures reads { OnlyReads (view pass.old) (view pass.new) }
+    ensures words { HasWords (view pass.new) id 39 (slice_index result) }
+{
+    let mut words = [0; ROW_WORDS];
+    for place in 2..ROW_WORDS {
+        words[place] = load_row(log, pass, id, place as u64);
+    }
+    words
+}
