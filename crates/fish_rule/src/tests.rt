@@ -6,8 +6,8 @@ ghost use Rattle.fish_catalog.specs.Canonical.{IsCanonical};
 ghost use Rattle.fish_rule.specs.Passes.{IsPassOf, view};
 
 use crate::{
-    Base, Log, Pass, Position, Shape, Start, base, is_shut, join_pass, load_registry, load_tail,
-    open_log, shape, split_pass,
+    Base, Log, Pass, Position, Shape, Start, base, is_shut, join_pass, load_opened, load_row,
+    load_tail, open_log, shape, split_pass,
 };
 use fish_catalog::Catalog;
 use fish_lang::{LangRefusal, parse_def, print_def};
@@ -60,7 +60,7 @@ fn first_row_word(log: &Log, pass: &mut Pass, place: u64) -> u64
     ensures pass { IsPassOf log.now pass.new }
     ensures row { 0 < length (view pass.new).about.rows.value }
 {
-    load_registry(log, pass, 532 + place)
+    load_row(log, pass, 0, place)
 }
 
 #[test]
@@ -77,7 +77,7 @@ fn a_log_has_the_words_of_its_catalog(rt: HostRuntime) -> Result<(), Fail> {
         bucket_bits: 4,
     };
     let (log, mut main) = open_log(alloc, one_page, &Start::Empty { catalog })?;
-    let opened = load_registry(&log, &mut main, 3);
+    let opened = load_opened(&log, &mut main);
     assert_eq!(rt; opened, 1);
     // 4 bytes of a name, 9 of a text, and that the row is active
     assert_eq!(rt; first_row_word(&log, &mut main, 2), 0x1_0904);
