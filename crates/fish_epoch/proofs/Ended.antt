@@ -51,12 +51,15 @@ end_there (suc k) n (l ∷ ls) d less h =
 
 module _ (ls : List Listed) (listing : IsListing ls) (id : ℕ) where
   numbered : AreFrom 0 ls
-  numbered = are_from 0 ls (λ k l there. listing.ids k l there)
+  numbered = are_from 0 ls (λ k l there. let e = listing.ids k l there in omega arith)
+
+  behind : 0 + id ≡ id
+  behind = omega arith
 
   -- the one with an id below the length ends at its place
   pub ended_here : (d : Listed) → id < length ls → set ls id (ended (get_or ls id d)) ≡ ended_at id ls
-  ended_here d less = end_there id 0 ls d less numbered
+  ended_here d less = end_there id 0 ls d less numbered ∙ ap (λ (z : ℕ). ended_at z ls) behind
 
   -- and past the length none ends
   pub ended_none : length ls ≤ id → ls ≡ ended_at id ls
-  ended_none past = sym (end_past id 0 ls past numbered)
+  ended_none past = sym (end_past id 0 ls past numbered) ∙ ap (λ (z : ℕ). ended_at z ls) behind

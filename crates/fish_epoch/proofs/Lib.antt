@@ -1,4 +1,5 @@
 pub mod Ended
+pub mod Outcomes
 pub mod Reading
 pub mod Rounds
 pub mod Texts

@@ -255,6 +255,11 @@ module _ (v u : View) (before x : ℕ) (ls : List Listed) (learns : Learns v u) 
         ∙ ap (λ (z : Listed). ls ++ z ∷ []) (sym (row g has));
   }
 
+-- an operation that was read is known
+pub operation_read : (v u : View) (p x : ℕ) → u ≡ after_registry v p x
+    → Among (record { index = p; value = x }) u.learned.words
+operation_read v u p x e = subst (λ (z : View). Among (record { index = p; value = x }) z.learned.words) (sym e) (inl refl)
+
 -- ---- by their laws
 
 -- definitions that are known are a listing

@@ -9,7 +9,7 @@ ghost use Rattle.fish_rule.specs.Passes.{IsPassOf, view};
 
 use crate::rows::read_rows;
 use fish_catalog::Listed;
-use fish_lang::{LangRefusal, parse_def};
+use fish_lang::parse_def;
 use fish_psf::ActiveDef;
 use fish_rule::{Log, Pass};
 use std::alloc::{AllocError, Global};
@@ -54,12 +54,7 @@ impl Defs {
 
     /// Reads the definitions of a version that the pass has loaded: the words of its rows and
     /// operations, once a version. Where they are those of this version already, nothing is read.
-    pub fn refresh(
-        &mut self,
-        log: &Log,
-        pass: &mut Pass,
-        version: u16,
-    ) -> Result<(), AllocError>
+    pub fn refresh(&mut self, log: &Log, pass: &mut Pass, version: u16) -> Result<(), AllocError>
         requires pass { IsPassOf log.now pass.old }
         requires reached { version ≤ (view pass.old).learned.version }
         requires defs { IsDefsOf (view pass.old) self.old }
@@ -107,9 +102,9 @@ fn parse_row(alloc: Global, row: &Listed) -> Result<ActiveDef, AllocError>
     requires { IsCanonical row.now.def }
     ensures { IfOk result (λ active. text_of active ≡ (row.now.id, row.now.def)) }
 {
-    match parse_def(alloc, row.def.as_bytes()) {
-        Ok(def) => Ok(ActiveDef { id: row.id, def }),
-        Err(LangRefusal::OutOfMemory) => Err(AllocError),
-        Err(_) => unreachable!(),
-    }
+    // a canonical text is a definition, so nothing but memory is wanting
+    let Ok(def) = parse_def(alloc, row.def.as_bytes()) else {
+        return Err(AllocError);
+    };
+    Ok(ActiveDef { id: row.id, def })
 }

@@ -77,7 +77,7 @@ fn make(
 {
     let operation = load_operation(log, pass, u64::from(version) + 1);
     if operation < 512 {
-        let row = registered_row(alloc, log, pass, rows.len() as u64)?;
+        let row = registered_row(alloc, log, pass, rows.as_slice().len() as u64)?;
         rows.push(row)?;
     } else {
         end_row(rows.as_mut_slice(), (operation % 256) as u16);
@@ -102,7 +102,9 @@ fn end_row(rows: &mut [Listed], id: u16)
     requires { IsListing rows.old }
     ensures { rows.new ≡ ended_at id rows.old }
 {
-    if let Some(row) = rows.get_mut(usize::from(id)) {
+    let place = usize::from(id);
+    if place < rows.len() {
+        let row = &mut rows[place];
         row.active = false;
     }
 }

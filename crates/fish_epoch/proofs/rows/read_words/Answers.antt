@@ -24,6 +24,7 @@ loop-place-preserved c =
       of = c.load_row.ensures.pass;
       reads = reads_both (view c.args.pass.now) v u h.reads (reads_word v u _ _ c.load_row.ensures.view);
       wide = length-set c.loop-place.words c.loop-place.place c.load_row.result ∙ h.wide;
+      within = (let a = c.loop-place-test.true in omega arith);
       words = subst (λ (z : ℕ). HasWords u c.args.id z
           (slice_index (slice_set c.loop-place.words c.loop-place.place c.load_row.result))) more
           (words_more v u c.args.id c.loop-place.place c.load_row.result c.loop-place.words h.wide
@@ -33,6 +34,7 @@ loop-place-preserved c =
 -- at the end all are
 pub returns-clause-words : goal.returns-clause-words
 returns-clause-words c =
-    let end : c.loop-place.place ≡ 39 = (let a = c.loop-place-test.false in let b = c.loop-place.auto.place-end in omega arith) in
+    let end : c.loop-place.place ≡ 39 = (let a = c.loop-place-test.false in
+    let b = c.loop-place.invariant.within in omega arith) in
     subst (λ (z : ℕ). HasWords (view c.loop-place.pass) c.args.id z (slice_index c.loop-place.words)) end
     c.loop-place.invariant.words

@@ -1,5 +1,5 @@
 -- The words so far were read.
-use Rattle.std.proofs.Common.{◌≡◌, length}
+use Rattle.std.proofs.Common.{◌≡◌, ◌≤◌, length}
 use Rattle.std.specs.Prelude.{slice_index}
 use Rattle.fish_rule.specs.Passes.{IsPassOf, view}
 use Rattle.fish_epoch.specs.Rows.{HasWords, OnlyReads}
@@ -10,5 +10,6 @@ invariant-loop-place l = record {
   of : IsPassOf l.log l.pass;
   reads : OnlyReads (view l.fn.pass) (view l.pass);
   wide : length l.words ≡ 39;
+  within : l.place ≤ 39;
   words : HasWords (view l.pass) l.id l.place (slice_index l.words);
 }

@@ -1,0 +1,8 @@
+-- What an answer gives, where it gives something.
+use Rattle.std.proofs.Common.{Ok, Err}
+use Rattle.std.specs.Prelude.{IfOk, Result}
+
+-- a fact about what was given follows from another
+pub ok_map : {A E : Type 0} {P Q : A → Type 0} (r : Result A E) → ((x : A) → P x → Q x) → IfOk r P → IfOk r Q
+ok_map (Ok x) f h = f x h
+ok_map (Err e) f h = tt

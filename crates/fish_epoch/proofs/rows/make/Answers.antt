@@ -1,0 +1,68 @@
+-- The operation is read, and then the row that it registers, or it ends one.
+use Rattle.std.proofs.Common.{◌≡◌, ◌∙◌, ◌++◌, ◌∷◌, [], ℕ, ◌+◌, ◌<◌, suc, sym, ap, subst, arith, length, List}
+use Rattle.fish_catalog.specs.Listing.{IsListing}
+use Rattle.fish_catalog.specs.declared.listed.Listed.{Listed}
+use Rattle.fish_rule.specs.Passes.{view}
+use Rattle.fish_rule.specs.Registry.{KnowsDefinitions, KnowsRow, op_at}
+use Rattle.fish_rule.specs.Views.{Among}
+use Rattle.fish_rule.specs.declared.view.RegistryWord.{RegistryWord}
+use Rattle.fish_rule.specs.declared.view.View.{View}
+use Rattle.fish_epoch.proofs.Reading.{known_listing, knows_later, made_ended, made_registered, operation_read, reads_both}
+use Rattle.fish_epoch.proofs.Reading.{reads_word, registered_known}
+use Rattle.fish_epoch.specs.Rows.{OnlyReads}
+use Rattle.fish_epoch.proofs.rows.make.Goals as goal
+
+-- the operation that was read, by the version that it made
+operation : (v u : View) (p version x : ℕ) → p ≡ suc version → u ≡ Rattle.fish_rule.specs.Entering.after_registry v (op_at p) x
+    → Among (record { index = op_at (suc version); value = x }) u.learned.words
+operation v u p version x e is = subst (λ (z : ℕ). Among (record { index = op_at z; value = x }) u.learned.words) e
+    (operation_read v u (op_at p) x is)
+
+pub registered_row-requires-clause-row : goal.registered_row-requires-clause-row
+registered_row-requires-clause-row c =
+    let v = view c.args.pass.now in
+    let u = view c.load_operation-operation.new.pass in
+    let load = c.load_operation-operation.ensures.view in
+    let size : length c.args.rows.now.items ≡ length c.as_slice.result.now =
+    ap (λ (z : List Listed). length z) (sym c.as_slice.ensures.value) in
+    subst (KnowsRow u.about.rows.value u.learned) size
+    (registered_known v u c.args.version c.load_operation-operation.result c.args.rows.now.items
+    (reads_word v u _ _ load).extends.learns c.requires.reached
+    (operation v u _ c.args.version _ (omega arith) load) c.requires.rows c.if-operation-lt512.true)
+
+pub returns-in_err-row-clause-reads : goal.returns-in_err-row-clause-reads
+returns-in_err-row-clause-reads c =
+    let u = view c.load_operation-operation.new.pass in
+    reads_both (view c.args.pass.now) u (view c.registered_row.new.pass)
+    (reads_word (view c.args.pass.now) u _ _ c.load_operation-operation.ensures.view) c.registered_row.ensures.reads
+
+pub returns-in_err-push-clause-reads : goal.returns-in_err-push-clause-reads
+returns-in_err-push-clause-reads c =
+    let u = view c.load_operation-operation.new.pass in
+    reads_both (view c.args.pass.now) u (view c.registered_row.new.pass)
+    (reads_word (view c.args.pass.now) u _ _ c.load_operation-operation.ensures.view) c.registered_row.ensures.reads
+
+pub end_row-requires : goal.end_row-requires
+end_row-requires c = subst IsListing (sym c.as_mut_slice.ensures.value)
+    (known_listing (view c.args.pass.now) c.args.version c.args.rows.now.items c.requires.pass.stands c.requires.rows)
+
+pub returns-in_ok-push-clause-reads : goal.returns-in_ok-push-clause-reads
+returns-in_ok-push-clause-reads c =
+    let u = view c.load_operation-operation.new.pass in
+    reads_both (view c.args.pass.now) u (view c.registered_row.new.pass)
+    (reads_word (view c.args.pass.now) u _ _ c.load_operation-operation.ensures.view) c.registered_row.ensures.reads
+
+pub returns-in_ok-push-clause-rows : goal.returns-in_ok-push-clause-rows
+returns-in_ok-push-clause-rows c =
+    let v = view c.args.pass.now in
+    let u = view c.load_operation-operation.new.pass in
+    let t = view c.registered_row.new.pass in
+    let load = c.load_operation-operation.ensures.view in
+    let size : length c.args.rows.now.items ≡ length c.as_slice.result.now =
+    ap (λ (z : List Listed). length z) (sym c.as_slice.ensures.value) in
+    subst (KnowsDefinitions t.about.rows.value t.learned (suc c.args.version)) (sym c.in_ok-push.ensures.items)
+    (made_registered v u c.args.version c.load_operation-operation.result c.args.rows.now.items
+    (reads_word v u _ _ load).extends.learns c.requires.reached
+    (operation v u _ c.args.version _ (omega arith) load) c.requires.rows t c.in_ok-row.row
+    c.if-operation-lt512.true c.registered_row.ensures.reads.extends.learns
+    (subst (λ (z : ℕ). Rattle.fish_epoch.specs.Rows.HasRow t z c.in_ok-row.row) (sym size) c.in_ok-row.ensures.row))
