@@ -31,6 +31,7 @@ pub mod Linkings
 pub mod Links
 pub mod Loads
 pub mod Nodes
+pub mod Opens
 pub mod OwnWords
 pub mod Publishes
 pub mod Quotas

@@ -10,6 +10,7 @@ mod close;
 mod entry;
 mod law;
 mod linking;
+mod opening;
 mod plays;
 mod registry;
 mod seats;

@@ -3,22 +3,21 @@
 //! No step here changes a word. The first pass is the control pass: it has lane 1, and each lane
 //! from 2 to 16 that is with no other pass.
 
-ghost use Rattle.std.specs.Prelude.{◌≡◌, ℕ, ◌+◌, ◌*◌, ◌<◌, ◌≤◌, IfOk, replicate};
+ghost use Rattle.std.specs.Prelude.{◌≡◌, ℕ, ◌<◌, ◌≤◌, IfOk};
 ghost use Rattle.fish_rule.specs.Logs.{Learns};
 ghost use Rattle.fish_rule.specs.Parts.{Fits};
 ghost use Rattle.fish_rule.specs.Passes.{IsPassOf, view};
 ghost use Rattle.fish_rule.specs.Seating.{CanJoin, CanSplit, join_both, split_left, split_right};
-ghost use Rattle.fish_rule.specs.Start.{IsEmpty, IsFirstKey, IsShape, rows_of};
+ghost use Rattle.fish_rule.specs.Start.{IsFirstKey, IsShape, rows_of};
 ghost use Rattle.fish_rule.specs.Reading.{after_end};
 ghost use Rattle.fish_rule.specs.Table.{first_view};
-ghost use Rattle.fish_rule.specs.World.{total};
 
-use crate::area::{PAGE_LINES, log_at};
+use crate::area::PAGE_LINES;
+use crate::opening::empty_words;
 use crate::plays::End;
 use crate::table::{Base, Log, Pass, Shape};
 use crate::view::{Key, View};
 use crate::walk::NO_WALK;
-use crate::word::tail_word;
 use atomic_table::{Join, Split, Table};
 use fish_catalog::Catalog;
 use std::alloc::{AllocError, Global};
@@ -73,39 +72,6 @@ fn key_of(shape: Shape, start: &Start) -> Key
     }
 }
 
-/// How many words the table of a key has.
-fn word_count(key: &Key) -> usize
-    requires { Fits key.now }
-    ensures { result ≡ total key.now }
-{
-    (log_at(key) + (key.end - key.line) * 4) as usize
-}
-
-/// The tail word at a key's number and line.
-fn tail_of(key: &Key) -> u64
-    requires { Fits key.now }
-    ensures { result ≡ key.now.number * 68719476736 + key.now.line }
-{
-    tail_word(key.number, key.line)
-}
-
-/// So many zero words.
-fn zero_words(alloc: Global, count: usize) -> Result<Vec<u64>, AllocError>
-    ensures { IfOk result (λ words. words.items ≡ replicate count 0) }
-{
-    vec![in alloc; 0u64; count]
-}
-
-/// The words of an empty log: the tail, and zeros.
-fn empty_words(alloc: Global, key: &Key) -> Result<Vec<u64>, AllocError>
-    requires { Fits key.now }
-    ensures { IfOk result (λ words. IsEmpty key.now words.items) }
-{
-    let mut words = zero_words(alloc, word_count(key))?;
-    words[0] = tail_of(key);
-    Ok(words)
-}
-
 /// The shape of the log.
 pub fn shape(log: &Log) -> Shape
     ensures { result ≡ log.now.shape }
@@ -141,7 +107,8 @@ pub fn open_log(alloc: Global, shape: Shape, start: &Start) -> Result<(Log, Pass
     ensures shape { IfOk result (λ r. r.0.shape ≡ shape) }
 {
     let key = key_of(shape, start);
-    let words = empty_words(alloc, &key)?;
+    let Start::Empty { catalog } = start;
+    let words = empty_words(alloc, &key, catalog)?;
     let (table, seat) = Table::of_words(alloc, &words, &key)?;
     let log = Log { table, key, shape };
     let pass = Pass {
