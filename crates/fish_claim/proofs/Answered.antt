@@ -129,8 +129,8 @@ module _ (v : View) (lines number line : ℕ) (counted : v.learned.count ≤ num
       }
 
   -- a mark shuts it
-  mark_unplaced : kind_at ≡ Mark
-      → Unplaced v (Some (record { line = line; lines = lines; end = v.about.end })) (claimed_view Mark v lines number line)
+  mark_unplaced : kind_at ≡ Mark → Unplaced v (Some (record { line = line; lines = lines; end = v.about.end }))
+      (claimed_view Mark v lines number line)
   mark_unplaced is =
       let f : Flight = flight_at number line lines in
       let claimed : View = after_claim v lines number line in
