@@ -109,8 +109,8 @@ still_links v u f words b c can =
     let about = ap (λ (z : View). z.about) c.known in
     let buckets = ap (λ (z : Key). z.buckets) about in
     record {
-      filled = refilled v u f words f.linked can.filled about (ap (λ (z : View). z.lane) c.known)
-          (ap (λ (z : View). z.flight) c.known) c.long c.body can.filled.linked;
+      filled = refilled v u f words f.linked can.filled c.learns (ap (λ (z : View). z.lane) c.known)
+          (ap (λ (z : View). z.epoch) c.known) (ap (λ (z : View). z.flight) c.known) c.long c.body can.filled.linked;
       next = refl;
       more = subst (λ (z : ℕ → ℕ). f.linked < keys_of (z 0)) (sym c.body) can.more;
       of_bucket = subst (λ (z : ℕ × (ℕ → ℕ)). bucket_of z.0 z.1 f.linked ≡ b)

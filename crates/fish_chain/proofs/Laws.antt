@@ -18,10 +18,8 @@ pub linked_filled : (v u : View) (f : Flight) (bucket : ℕ) → IsFilled v f
     → f.linked < keys_of (body_of f.words 0) → (is : IsLinked v f bucket u) → IsFilled u (linked_flight v u f bucket is)
 linked_filled v u f bucket filled more is =
     let c = is.changed in
-    let about = ap (λ (z : View). z.about) c.known in
-    let lane = ap (λ (z : View). z.lane) c.known in
-    refilled v u f is.words (suc f.linked) filled about lane
-    (ap (λ (z : View). z.flight) c.known) c.long c.body (omega arith)
+    refilled v u f is.words (suc f.linked) filled c.learns (ap (λ (z : View). z.lane) c.known)
+    (ap (λ (z : View). z.epoch) c.known) (ap (λ (z : View). z.flight) c.known) c.long c.body (omega arith)
 
 -- what was known to be linked still is
 pub linked_kept : (v u : View) (f : Flight) (bucket b p : ℕ) → IsLinked v f bucket u → HasNode v b p → HasNode u b p

@@ -1,5 +1,5 @@
 -- What a claim leaves in flight, and when it may be published at once.
-use Rattle.std.proofs.Common.{◌≡◌, ℕ, ◌+◌, ◌<◌, ◌≤◌, refl, sym, ap, ◌∙◌, subst, arith, Some}
+use Rattle.std.proofs.Common.{◌≡◌, ℕ, ◌+◌, ◌<◌, ◌≤◌, suc, refl, sym, ap, ◌∙◌, subst, arith, Some}
 use Rattle.fish_claim.specs.Claims.{IsClaimed, answer_of, claimed_view}
 use Rattle.fish_claim.specs.declared.claimed.Claimed.{Claimed}
 use Rattle.fish_layout.specs.Header.{void_word}
@@ -7,16 +7,18 @@ use Rattle.fish_rule.proofs.Bodies.{kind-inside}
 use Rattle.fish_rule.proofs.Laws.{FlightLaw, flight_law}
 use Rattle.fish_rule.specs.Passes.{IsPassOf, view}
 use Rattle.fish_rule.specs.Regions.{kind_of}
+use Rattle.fish_rule.specs.Registry.{KnowsActive}
 use Rattle.fish_rule.specs.Steps.{CanClaim, CanPublish, CanStore, IsReady, after_claim, after_publish}
 use Rattle.fish_rule.specs.Steps.{after_store, flight_at, shut_after, with_word}
 use Rattle.fish_rule.specs.Table.{Stands}
+use Rattle.fish_rule.specs.World.{slots}
 use Rattle.fish_rule.specs.declared.table.Log.{Log}
 use Rattle.fish_rule.specs.declared.table.Pass.{Pass}
 use Rattle.fish_rule.specs.declared.table.Region.{Region}
 use Rattle.fish_rule.specs.declared.view.Flight.{Flight}
 use Rattle.fish_rule.specs.declared.view.Key.{Key}
 use Rattle.fish_rule.specs.declared.view.Kind.{Kind}
-use Rattle.fish_rule.specs.declared.view.Kind.TheVariants.{Mark, Void}
+use Rattle.fish_rule.specs.declared.view.Kind.TheVariants.{Mark, Stored, Void}
 use Rattle.fish_rule.specs.declared.view.View.{View}
 
 module _ (v u : View) (lines n a : ℕ) (is : u ≡ after_claim v lines n a) where
@@ -56,7 +58,10 @@ module _ (v u : View) (lines n a : ℕ) (is : u ≡ after_claim v lines n a) whe
       let may : CanPublish w f = record {
         live = can.live;
         flying = refl;
-        ready = subst (λ (z : Kind). IsReady v.about z v.lane f) (sym kind) (refl, refl);
+        version = can.version;
+        entered = can.entered;
+        ready = subst (λ (z : Kind). IsReady (KnowsActive v.about.rows.value w.learned) can.version z v.lane f)
+            (sym kind) (refl, refl);
       } in
       subst (λ (z : View). CanPublish z f) (sym same) may
 
@@ -68,7 +73,10 @@ module _ (v u : View) (lines n a : ℕ) (is : u ≡ after_claim v lines n a) whe
       let may : CanPublish w f = record {
         live = can.live;
         flying = refl;
-        ready = subst (λ (z : Kind). IsReady v.about z v.lane f) (sym kind) refl;
+        version = can.version;
+        entered = can.entered;
+        ready = subst (λ (z : Kind). IsReady (KnowsActive v.about.rows.value w.learned) can.version z v.lane f)
+            (sym kind) refl;
       } in
       subst (λ (z : View). CanPublish z f) (sym is) may
 
@@ -88,13 +96,29 @@ kind_is log v p lines r kind of is long told =
     claimed_kind v (view p) lines r.number r.line is log.key kind of.about
     (subst (λ (z : ℕ). kind ≡ kind_of log.key.end r.line (r.line + z)) long told)
 
+-- whatever a claim became, its number is counted
+claimed_count : (kind : Kind) (v : View) (lines n a : ℕ) → (claimed_view kind v lines n a).learned.count ≡ suc n
+claimed_count Stored v lines n a = refl
+claimed_count Void v lines n a = refl
+claimed_count Mark v lines n a = refl
+
+-- and the pass is entered as it was
+claimed_epoch : (kind : Kind) (v : View) (lines n a : ℕ) → (claimed_view kind v lines n a).epoch ≡ v.epoch
+claimed_epoch Stored v lines n a = refl
+claimed_epoch Void v lines n a = refl
+claimed_epoch Mark v lines n a = refl
+
 -- a claim whose region has this kind is answered by it
-pub claimed_as : (v u : View) (lines n a : ℕ) (answer : Claimed) (kind : Kind)
-    → kind_of v.about.end a (a + lines) ≡ kind
+pub claimed_as : (k : Key) (v u : View) (lines n a : ℕ) (answer : Claimed) (kind : Kind) → v.about ≡ k
+    → v.learned.count ≤ n → n < k.number + slots k → kind_of v.about.end a (a + lines) ≡ kind
     → answer ≡ answer_of kind v.about.end n a lines → u ≡ claimed_view kind v lines n a → IsClaimed v lines answer u
-claimed_as v u lines n a answer kind is answered known = record {
+claimed_as k v u lines n a answer kind about counted within is answered known = record {
   number = n;
   line = a;
   answered = subst (λ (z : Kind). answer ≡ answer_of z v.about.end n a lines) (sym is) answered;
   known = subst (λ (z : Kind). u ≡ claimed_view z v lines n a) (sym is) known;
+  counted = counted;
+  within = subst (λ (z : Key). n < z.number + slots z) (sym about) within;
+  count = ap (λ (z : View). z.learned.count) known ∙ claimed_count kind v lines n a;
+  epoch = ap (λ (z : View). z.epoch) known ∙ claimed_epoch kind v lines n a;
 }

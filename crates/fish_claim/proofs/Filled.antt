@@ -1,5 +1,6 @@
 -- What a record that is filled may be used for.
 use Rattle.std.proofs.Common.{◌≡◌, ℕ, ◌+◌, ◌≤◌, ◌<◌, List, [], length, sym, ap, ◌∙◌, subst, Some}
+use Rattle.fish_claim.proofs.Known.{body_later}
 use Rattle.fish_claim.specs.Fills.{IsFilled, with_words}
 use Rattle.fish_layout.proofs.Clearing.{cleared_head}
 use Rattle.fish_layout.proofs.Spelled.{body_says}
@@ -8,7 +9,9 @@ use Rattle.fish_layout.specs.Cleared.{body_of}
 use Rattle.fish_layout.specs.Header.{keys_of}
 use Rattle.fish_layout.specs.declared.parts.BodyParts.{BodyParts}
 use Rattle.fish_rule.specs.Linking.{CanAim}
-use Rattle.fish_rule.specs.Regions.{IsRecord, kind_of}
+use Rattle.fish_rule.specs.Logs.{Learns}
+use Rattle.fish_rule.specs.Regions.{kind_of}
+use Rattle.fish_rule.specs.Registry.{KnowsActive}
 use Rattle.fish_rule.specs.Steps.{CanPublish, IsReady}
 use Rattle.fish_rule.specs.declared.view.Flight.{Flight}
 use Rattle.fish_rule.specs.declared.view.Key.{Key}
@@ -21,7 +24,7 @@ filled_aim v f is more = record {
   flying = is.flying;
   kind = is.stored;
   full = is.full;
-  record_of = is.record_of;
+  body = is.body;
   more = more;
 }
 
@@ -30,7 +33,10 @@ pub filled_publish : (v : View) (f : Flight) → IsFilled v f → f.linked ≡ k
 filled_publish v f is all = record {
   live = is.live;
   flying = is.flying;
-  ready = subst (λ (z : Kind). IsReady v.about z v.lane f) (sym is.stored) (is.full, is.record_of, all);
+  version = is.body.version;
+  entered = is.body.entered;
+  ready = subst (λ (z : Kind). IsReady (KnowsActive v.about.rows.value v.learned) is.body.version z v.lane f)
+      (sym is.stored) (is.full, is.body.keyed, all);
 }
 
 -- a record's words say how many key entries it has
@@ -43,17 +49,17 @@ pub plain_publish : (v : View) (f : Flight) (p : BodyParts) (words : List ℕ) �
 plain_publish v f p words is none body keys =
     filled_publish v (with_words f words) is (none ∙ sym (body_keys p words body ∙ ap length keys))
 
--- a record stays filled where its words change in previous nodes alone, and more entries are linked
-pub refilled : (v u : View) (f : Flight) (words : List ℕ) (linked : ℕ) → IsFilled v f → u.about ≡ v.about
-    → u.lane ≡ v.lane → u.flight ≡ Some (record f { words = words; linked = linked })
+-- a record stays filled where its words change in previous nodes alone, more entries are linked, and the pass only
+-- learns
+pub refilled : (v u : View) (f : Flight) (words : List ℕ) (linked : ℕ) → IsFilled v f → Learns v u
+    → u.lane ≡ v.lane → u.epoch ≡ v.epoch → u.flight ≡ Some (record f { words = words; linked = linked })
     → length words ≡ length f.words → body_of words ≡ body_of f.words → linked ≤ keys_of (body_of f.words 0)
     → IsFilled u (record f { words = words; linked = linked })
-refilled v u f words linked is about lane flying long body few = record {
+refilled v u f words linked is learns lane epoch flying long body few = record {
   live = subst (λ (z : ℕ). 1 ≤ z) (sym lane) is.live;
   flying = flying;
-  stored = ap (λ (z : Key). kind_of z.end f.line (f.line + f.lines)) about ∙ is.stored;
+  stored = ap (λ (z : Key). kind_of z.end f.line (f.line + f.lines)) learns.about ∙ is.stored;
   full = long ∙ is.full;
-  record_of = subst (λ (z : Key × ℕ × (ℕ → ℕ)). IsRecord z.0 z.1 f.number f.lines z.2)
-      (λ i. (sym about i, sym lane i, sym body i)) is.record_of;
+  body = body_later v u learns f words linked lane epoch body is.body;
   linked = subst (λ (z : ℕ → ℕ). linked ≤ keys_of (z 0)) (sym body) few;
 }

@@ -59,12 +59,13 @@ module _ (v : View) (f : Flight) (words : List ℕ) (can : CanFill v f words) wh
   pub is_filled : (u : View) → u ≡ filled_view v f words → IsFilled u (with_words f words)
   is_filled u is =
       let unlinked = can.unlinked in
+      let of = can.body.keyed.1.record_of in
       let filled : IsFilled (filled_view v f words) (with_words f words) = record {
-        live = subst (λ (z : ℕ). 1 ≤ z) can.written.1.lane_is can.written.1.spells.proper.some_lane;
+        live = subst (λ (z : ℕ). 1 ≤ z) of.lane_is of.spells.proper.some_lane;
         flying = refl;
         stored = can.stored;
         full = can.full;
-        record_of = can.written;
+        body = record { version = can.body.version; entered = can.body.entered; keyed = can.body.keyed };
         linked = omega arith;
       } in
       subst (λ (z : View). IsFilled z (with_words f words)) (sym is) filled

@@ -1,4 +1,6 @@
+pub mod Answered
 pub mod Bodies
 pub mod Claims
 pub mod Filled
 pub mod Fills
+pub mod Known

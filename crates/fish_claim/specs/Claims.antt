@@ -1,10 +1,11 @@
 -- What a claim of lines is answered, and what the pass knows afterwards.
-use Rattle.std.specs.Prelude.{ℕ, ◌≡◌, ◌+◌}
+use Rattle.std.specs.Prelude.{ℕ, ◌≡◌, ◌+◌, ◌<◌, ◌≤◌, suc}
 use Rattle.fish_claim.specs.declared.claimed.Claimed.{Claimed}
 use Rattle.fish_claim.specs.declared.claimed.Claimed.TheVariants as answer
 use Rattle.fish_layout.specs.Header.{void_word}
 use Rattle.fish_rule.specs.Regions.{kind_of}
 use Rattle.fish_rule.specs.Steps.{after_claim, after_publish, after_store, flight_at, with_word}
+use Rattle.fish_rule.specs.World.{slots}
 use Rattle.fish_rule.specs.declared.view.Kind.{Kind}
 use Rattle.fish_rule.specs.declared.view.Kind.TheVariants.{Mark, Stored, Void}
 use Rattle.fish_rule.specs.declared.view.View.{View}
@@ -29,3 +30,9 @@ pub record IsClaimed (v : View) (lines : ℕ) (answer : Claimed) (after : View) 
   pub line : ℕ
   pub answered : answer ≡ answer_of (kind_of v.about.end line (line + lines)) v.about.end number line lines
   pub known : after ≡ claimed_view (kind_of v.about.end line (line + lines)) v lines number line
+  -- the pass had counted no such number, the directory has room for it, and now it is counted
+  pub counted : v.learned.count ≤ number
+  pub within : number < v.about.number + slots v.about
+  pub count : after.learned.count ≡ suc number
+  -- the pass is entered as it was
+  pub epoch : after.epoch ≡ v.epoch

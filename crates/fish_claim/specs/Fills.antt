@@ -6,46 +6,48 @@ use Rattle.fish_layout.specs.Header.{keys_of}
 use Rattle.fish_layout.specs.declared.parts.BodyParts.{BodyParts}
 use Rattle.fish_psf.specs.Records.{is_record}
 use Rattle.fish_rule.specs.Keys.{HasKeys}
-use Rattle.fish_rule.specs.Regions.{IsRecord}
+use Rattle.fish_rule.specs.Linking.{HasBody}
+use Rattle.fish_rule.specs.Registry.{KnowsActive}
 use Rattle.fish_rule.specs.Steps.{flight_kind}
+use Rattle.fish_rule.specs.declared.view.Epoch.TheVariants.{Confirmed}
 use Rattle.fish_rule.specs.declared.view.Flight.{Flight}
-use Rattle.fish_rule.specs.declared.view.Key.{Key}
 use Rattle.fish_rule.specs.declared.view.Kind.TheVariants.{Stored}
 use Rattle.fish_rule.specs.declared.view.View.{View}
 
--- f is the record in flight, with nothing stored, and the words are all of a record for it: of the pass's lane,
--- with f's number and lines, version 0, and the keys that the log's definitions give for it
+-- a record in flight with these words
+abbrev pub with_words : Flight → List ℕ → Flight
+with_words f words = record f { words = words }
+
+-- f is the record in flight, with nothing stored, and the words are all of a record for it: of the pass's lane, with
+-- f's number and lines, of the version at which the pass is entered, and with the keys of that version
 pub record CanFill (v : View) (f : Flight) (words : List ℕ) : Type 0 where
   pub flying : v.flight ≡ Some f
   pub unfilled : f.words ≡ []
   pub unlinked : f.linked ≡ 0
   pub stored : flight_kind v f ≡ Stored
   pub full : length words ≡ f.lines * 4
-  pub written : IsRecord v.about v.lane f.number f.lines (body_of words)
+  pub body : HasBody v (with_words f words)
 
--- f is the record in flight of a pass that is live, with all words of a record, and no more of its
--- key entries are linked than it has
+-- f is the record in flight of a pass that is live, with all words of a record of its version with the keys of that
+-- version, and no more of its key entries are linked than it has
 pub record IsFilled (v : View) (f : Flight) : Type 0 where
   pub live : 1 ≤ v.lane
   pub flying : v.flight ≡ Some f
   pub stored : flight_kind v f ≡ Stored
   pub full : length f.words ≡ f.lines * 4
-  pub record_of : IsRecord v.about v.lane f.number f.lines (body_of f.words)
+  pub body : HasBody v f
   pub linked : f.linked ≤ keys_of (body_of f.words 0)
 
--- the parts of a record that may be stored: of this lane, number and lines, at version 0, with a payload that is a
--- record of its form and the keys that the log's definitions give for it
-pub record IsStorable (k : Key) (lane number lines : ℕ) (p : BodyParts) : Type 0 where
-  pub lane_is : p.lane ≡ lane
+-- the parts of a record that the pass may store: of its lane, of the version at which it is entered, of this number
+-- and lines, with a payload that is a record of its form and the keys that the definitions active at the version
+-- give for it, as far as the pass knows
+pub record IsStorable (v : View) (number lines : ℕ) (p : BodyParts) : Type 0 where
+  pub lane_is : p.lane ≡ v.lane
+  pub entered : v.epoch ≡ Confirmed p.version
   pub number_is : p.number ≡ number
   pub lines_is : body_lines p ≡ lines
-  pub version : p.version ≡ 0
   pub reads : IsTrue (is_record p.form p.payload)
-  pub keys : HasKeys k.rows.value p
-
--- a record in flight with these words
-abbrev pub with_words : Flight → List ℕ → Flight
-with_words f words = record f { words = words }
+  pub keys : HasKeys (KnowsActive v.about.rows.value v.learned) p
 
 -- the words are stored, a step each
 abbrev pub filled_view : View → Flight → List ℕ → View

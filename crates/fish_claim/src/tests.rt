@@ -5,10 +5,12 @@ ghost use Rattle.fish_claim.specs.Fills.{IsStorable};
 ghost use Rattle.fish_layout.specs.Body.{IsBody};
 ghost use Rattle.fish_layout.specs.declared.parts.BodyParts.{BodyParts};
 ghost use Rattle.fish_rule.specs.Passes.{IsPassOf};
-ghost use Rattle.fish_rule.specs.declared.view.Key.{Key};
+ghost use Rattle.fish_rule.specs.declared.view.Epoch.TheVariants.{Confirmed};
+ghost use Rattle.fish_rule.specs.declared.view.View.{View};
 
 use crate::{Claimed, claim, fill, publish};
 use fish_catalog::Catalog;
+use fish_epoch::enter;
 use fish_json::JsonRecord;
 use fish_layout::{Body, BodyParts, body_of};
 use fish_rule::{Log, Pass, Shape, Shut, Start, in_flight, is_shut, lane, open_log};
@@ -33,7 +35,8 @@ fn record_words(alloc: Global, lane: u8, number: u32, lines: u64) -> Result<Body
     requires number { number < 2 ^ 28 }
     requires lines { (0 < lines) × (lines ≤ 18625) }
     ensures { IfOk result (λ body. (p : BodyParts)
-        × ((k : Key) → k.rows.value ≡ [] → IsStorable k lane number lines p) × (p.keys ≡ []) × IsBody p body) }
+        × ((v : View) → v.lane ≡ lane → v.epoch ≡ Confirmed 0 → v.about.rows.value ≡ [] → IsStorable v number lines p)
+        × (p.keys ≡ []) × IsBody p body) }
 {
     let payload = object_of(alloc, (lines * 4 - 1) * 8)?;
     if payload.as_bytes().len() > 524_288 {
@@ -55,7 +58,7 @@ fn record_words(alloc: Global, lane: u8, number: u32, lines: u64) -> Result<Body
     Ok(body)
 }
 
-/// Claims so many lines, and stores and publishes a record at the place.
+/// Enters version 0, claims so many lines, and stores and publishes a record at the place.
 fn store(alloc: Global, log: &Log, pass: &mut Pass, lines: u64) -> Result<Claimed, Fail>
     requires pass { IsPassOf log.now pass.old }
     requires lines { (0 < lines) × (lines ≤ 18625) }
@@ -65,6 +68,9 @@ fn store(alloc: Global, log: &Log, pass: &mut Pass, lines: u64) -> Result<Claime
     let lane = lane(pass);
     if lane < 1 || lane > 16 || in_flight(pass).is_some() || is_shut(pass).is_some() {
         return Err(Fail::new("no claim may be made"));
+    }
+    if enter(log, pass) != 0 {
+        return Err(Fail::new("another version"));
     }
     let answer = claim(log, pass, lines);
     if let Claimed::Placed { number, .. } = answer {

@@ -75,6 +75,8 @@ module _ (a b c d e : View) (known x settled : ℕ) (to_b : b ≡ after_settled 
               about = l.learns.about;
               count = omega arith;
               settled = omega arith;
+              version = l.learns.version;
+              words = l.learns.words;
               found = l.learns.found;
               known = l.learns.known;
               records = l.learns.records;
@@ -88,6 +90,9 @@ module _ (a b c d e : View) (known x settled : ℕ) (to_b : b ≡ after_settled 
             out = l.out;
             shut = l.shut;
             flight = l.flight;
+            epoch = l.epoch;
+            rows = l.rows;
+            draft = l.draft;
             own = l.own;
           }
 

@@ -88,4 +88,7 @@ pub record Settles (v u : View) : Type 0 where
   pub out : u.out ≡ v.out
   pub shut : u.shut ≡ v.shut
   pub flight : u.flight ≡ v.flight
+  pub epoch : u.epoch ≡ v.epoch
+  pub rows : u.rows ≡ v.rows
+  pub draft : u.draft ≡ v.draft
   pub own : u.own ≡ v.own

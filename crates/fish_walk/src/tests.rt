@@ -5,13 +5,15 @@ ghost use Rattle.fish_claim.specs.Fills.{IsStorable};
 ghost use Rattle.fish_layout.specs.Body.{IsBody};
 ghost use Rattle.fish_layout.specs.declared.parts.BodyParts.{BodyParts};
 ghost use Rattle.fish_rule.specs.Passes.{IsPassOf};
-ghost use Rattle.fish_rule.specs.declared.view.Key.{Key};
+ghost use Rattle.fish_rule.specs.declared.view.Epoch.TheVariants.{Confirmed};
+ghost use Rattle.fish_rule.specs.declared.view.View.{View};
 
 mod settling;
 
 use crate::{Look, count_now, look, read_entry};
 use fish_catalog::{Catalog, Entry};
 use fish_claim::{Claimed, claim, fill, publish};
+use fish_epoch::enter;
 use fish_json::JsonRecord;
 use fish_layout::{Body, BodyParts, body_of};
 use fish_psf::Steps;
@@ -48,7 +50,8 @@ fn record_words(
     requires lane { (1 ≤ lane) × (lane ≤ 16) }
     requires number { number < 2 ^ 28 }
     requires lines { (0 < lines) × (lines ≤ 18625) }
-    ensures { IfOk result (λ body. (p : BodyParts) × ((k : Key) → k.rows.value ≡ [] → IsStorable k lane number lines p)
+    ensures { IfOk result (λ body. (p : BodyParts)
+        × ((v : View) → v.lane ≡ lane → v.epoch ≡ Confirmed 0 → v.about.rows.value ≡ [] → IsStorable v number lines p)
         × (p.keys ≡ []) × IsBody p body) }
 {
     if payload.as_bytes().len() > 524_288 {
@@ -72,8 +75,9 @@ fn record_words(
     Ok(body)
 }
 
-/// Claims so many lines, and stores and publishes a record there. Whether one was placed. What can't be
-/// fails as a want of memory does: an error crosses the join of threads only where it may be let go.
+/// Enters version 0, claims so many lines, and stores and publishes a record there. Whether one was placed.
+/// What can't be fails as a want of memory does: an error crosses the join of threads only where it may be
+/// let go.
 fn store(
     alloc: Global,
     log: &Log,
@@ -90,6 +94,9 @@ fn store(
     }
     let lane = lane(pass);
     if lane < 1 || lane > 16 || in_flight(pass).is_some() || is_shut(pass).is_some() {
+        return Err(AllocError);
+    }
+    if enter(log, pass) != 0 {
         return Err(AllocError);
     }
     if let Claimed::Placed { number, .. } = claim(log, pass, lines) {

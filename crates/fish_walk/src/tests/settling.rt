@@ -12,6 +12,7 @@ use super::{object_of, record_words, store};
 use crate::{Settled, settle};
 use fish_catalog::Catalog;
 use fish_claim::{Claimed, claim, fill, publish};
+use fish_epoch::enter;
 use fish_rule::{Log, Pass, Shape, Start, in_flight, is_shut, lane, open_log, split_pass};
 use std::alloc::Global;
 use std::test::Fail;
@@ -55,6 +56,9 @@ fn settled_around(
     let lane = lane(other);
     if lane < 1 || lane > 16 || in_flight(other).is_some() || is_shut(other).is_some() {
         return Err(Fail::new("no claim may be made"));
+    }
+    if enter(log, other) != 0 {
+        return Err(Fail::new("another version"));
     }
     let Claimed::Placed { number, .. } = claim(log, other, 1) else {
         return Err(Fail::new("no place"));

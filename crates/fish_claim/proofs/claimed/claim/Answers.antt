@@ -95,8 +95,9 @@ returns-in-Stored-clause-claimed c =
     (view c.args.pass.now) c.claim_lines-region.new.pass c.args.lines c.claim_lines-region.result Stored
     c.claim_lines-region.ensures.pass c.claim_lines-region.ensures.view c.claim_lines-region.ensures.lines
     (sym c.in-Stored.is ∙ c.kind_in.ensures) in
-    claimed_as (view c.args.pass.now)
-    (view got.new.pass) c.args.lines got.result.number got.result.line _ Stored kind refl got.ensures.view
+    claimed_as c.args.log.now.key (view c.args.pass.now)
+    (view got.new.pass) c.args.lines got.result.number got.result.line _ Stored c.requires.pass.about
+    got.ensures.counted got.ensures.within kind refl got.ensures.view
 
 pub returns-in-Void-clause-claimed : goal.returns-in-Void-clause-claimed
 returns-in-Void-clause-claimed c =
@@ -112,8 +113,9 @@ returns-in-Void-clause-claimed c =
     (c.store_word.ensures.view f (claimed_flight (view c.args.pass.now) _ c.args.lines _ _ got.ensures.view)) in
     let published : view c.publish_region.new.pass ≡ after_publish (view c.store_word.new.pass) (with_word f x) =
     c.publish_region.ensures.view (with_word f x) (ap (λ (z : View). z.flight) stored) in
-    claimed_as (view c.args.pass.now)
-    (view c.publish_region.new.pass) c.args.lines got.result.number got.result.line _ Void kind refl
+    claimed_as c.args.log.now.key (view c.args.pass.now)
+    (view c.publish_region.new.pass) c.args.lines got.result.number got.result.line _ Void c.requires.pass.about
+    got.ensures.counted got.ensures.within kind refl
     (published ∙ ap (λ (z : View). after_publish z (with_word f x))
     (stored ∙ ap (λ (z : View). after_store z f x) got.ensures.view))
 
@@ -138,7 +140,8 @@ returns-in-Some-clause-claimed c =
       lines = c.args.lines;
       end = (view c.args.pass.now).about.end;
     } = cc in
-    claimed_as (view c.args.pass.now)
-    (view c.publish_region-in-Mark.new.pass) c.args.lines got.result.number got.result.line _ Mark kind
+    claimed_as c.args.log.now.key (view c.args.pass.now)
+    (view c.publish_region-in-Mark.new.pass) c.args.lines got.result.number got.result.line _ Mark
+    c.requires.pass.about got.ensures.counted got.ensures.within kind
     (ap (λ (z : Shut). answer.Overflow z) same)
     (published ∙ ap (λ (z : View). after_publish z f) got.ensures.view)

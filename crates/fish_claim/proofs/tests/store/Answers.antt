@@ -2,9 +2,10 @@
 use Rattle.std.proofs.Common.{ℕ, List, refl, sym, ap, ◌∙◌, subst}
 use Rattle.fish_claim.proofs.Bodies.{body_law, placed_law}
 use Rattle.fish_claim.proofs.Filled.{plain_publish}
-use Rattle.fish_claim.specs.Fills.{CanFill, IsFilled, IsStorable, with_words}
+use Rattle.fish_claim.specs.Fills.{CanFill, IsFilled, with_words}
 use Rattle.fish_rule.specs.Passes.{view}
 use Rattle.fish_rule.specs.Steps.{flight_at}
+use Rattle.fish_rule.specs.declared.view.Epoch.TheVariants.{Confirmed}
 use Rattle.fish_rule.specs.declared.view.Key.{Key}
 use Rattle.fish_rule.specs.declared.view.View.{View}
 use Rattle.fish_claim.proofs.tests.store.Goals as goal
@@ -13,11 +14,12 @@ pub fill-requires-clause-view : goal.fill-requires-clause-view
 fill-requires-clause-view c =
     let p = c.in_ok-body.ensures in
     let place = c.in-Placed in
-    let v = view c.args.pass.now in
+    let v = view c.enter.new.pass in
     let u = view c.claim-answer.new.pass in
-    let rows = ap (λ (z : Key). z.rows.value) c.requires.pass.about ∙ c.requires.rows in
-    let plain = subst (λ (z : ℕ). IsStorable v.about z place.number c.args.lines p.0) c.lane-lane.ensures
-    (p.1 v.about rows) in (
+    let entered = c.enter.ensures.entered in
+    let rows = ap (λ (z : Key). z.rows.value) c.enter.ensures.pass.about ∙ c.requires.rows in
+    let plain = p.1 v (entered.keeps.lane ∙ sym c.lane-lane.ensures)
+    (entered.epoch ∙ ap Confirmed c.if-enter-ne0.false) rows in (
       flight_at place.number place.line c.args.lines,
       subst (CanFill u (flight_at place.number place.line c.args.lines)) (sym c.as_slice.ensures)
           (body_law v u c.args.lines place.number place.line p.0 c.in_ok-body.body
@@ -30,7 +32,7 @@ publish-requires-clause-view c =
     let place = c.in-Placed in
     let f = flight_at place.number place.line c.args.lines in
     let u = view c.fill.new.pass in
-    let placed = placed_law (view c.args.pass.now)
+    let placed = placed_law (view c.enter.new.pass)
     (view c.claim-answer.new.pass) c.args.lines place.number place.line place.ensures.claimed in
     let filled = subst (λ (z : List ℕ). IsFilled u (with_words f z)) c.as_slice.ensures
     (c.fill.ensures.filled f (ap (λ (z : View). z.flight) placed.known)) in

@@ -2,10 +2,12 @@
 use Rattle.std.proofs.Common.{◌≡◌, ℕ, ◌≤◌, List, [], length, is_some, true, refl, sym, ap, subst, arith}
 use Rattle.fish_json.specs.Reading.{record_of}
 use Rattle.fish_layout.proofs.Outlines.{body_length}
+use Rattle.fish_claim.proofs.Known.{knows_none}
 use Rattle.fish_claim.specs.Fills.{IsStorable}
 use Rattle.fish_layout.specs.Body.{IsBody}
 use Rattle.fish_rule.proofs.Keys.{no_keys}
-use Rattle.fish_rule.specs.declared.view.Key.{Key}
+use Rattle.fish_rule.specs.declared.view.Epoch.TheVariants.{Confirmed}
+use Rattle.fish_rule.specs.declared.view.View.{View}
 use Rattle.fish_layout.specs.declared.parts.BodyParts.{BodyParts}
 use Rattle.fish_psf.specs.Records.{is_record}
 use Rattle.fish_value.specs.declared.field.Form.TheVariants.{Json}
@@ -45,13 +47,14 @@ returns c =
     let same = c.if-len-lines.false in
     let read = subst (λ (z : List ℕ). is_some (record_of z) ≡ true) c.as_bytes-2.ensures.value
     (ap is_some c.in-Ok.ensures.ok) in
-    let storable : (k : Key) → k.rows.value ≡ [] → IsStorable k c.args.lane c.args.number c.args.lines p =
-    λ k none. record {
-      lane_is = refl;
+    let storable : (v : View) → v.lane ≡ c.args.lane → v.epoch ≡ Confirmed 0 → v.about.rows.value ≡ []
+    → IsStorable v c.args.number c.args.lines p =
+    λ v own entered none. record {
+      lane_is = sym own;
+      entered = entered;
       number_is = refl;
       lines_is = omega arith;
-      version = refl;
       reads = read;
-      keys = no_keys k.rows.value p none keys;
+      keys = no_keys p (knows_none v.about.rows.value v.learned none) keys;
     } in
     (p, storable, keys, is)

@@ -1,0 +1,57 @@
+-- Which active definitions a pass knows: at version 0 those of the start, and at each version those that it knew
+-- before it learned more.
+use Rattle.std.proofs.Common.{◌≡◌, ℕ, List, [], map, sym, refl, ap, ◌∙◌, subst, arith}
+use Rattle.fish_catalog.specs.Listing.{active_texts, listed_of}
+use Rattle.fish_catalog.specs.declared.row.CatRow.{CatRow}
+use Rattle.fish_layout.specs.Cleared.{body_of}
+use Rattle.fish_rule.proofs.Closing.{all_from}
+use Rattle.fish_rule.proofs.Common.{all_among}
+use Rattle.fish_rule.proofs.Registers.{keyed_map}
+use Rattle.fish_rule.specs.Keys.{IsKeyed}
+use Rattle.fish_rule.specs.Linking.{HasBody}
+use Rattle.fish_rule.specs.Logs.{Learns}
+use Rattle.fish_rule.specs.Registry.{HasRead, KnowsActive}
+use Rattle.fish_rule.specs.declared.view.Flight.{Flight}
+use Rattle.fish_rule.specs.declared.view.Key.{Key}
+use Rattle.fish_rule.specs.declared.view.Learned.{Learned}
+use Rattle.fish_rule.specs.declared.view.View.{View}
+
+-- ---- version 0
+
+-- at version 0 the active definitions are those of the start, and no word need be read
+pub knows_start : (rows : List CatRow) (l : Learned) → KnowsActive rows l 0 (active_texts (map listed_of rows))
+knows_start rows l = (map listed_of rows, record { reached = omega arith; are = λ g read. refl }, refl)
+
+-- so there are none where the start has no rows
+pub knows_none : (rows : List CatRow) (l : Learned) → rows ≡ [] → KnowsActive rows l 0 []
+knows_none rows l none = subst (KnowsActive rows l 0) (ap (λ (z : List CatRow). active_texts (map listed_of z)) none)
+    (knows_start rows l)
+
+-- ---- later
+
+module _ (v u : View) (learns : Learns v u) where
+  -- words that were read before are among those read since
+  read_before : (g : ℕ → ℕ) → HasRead g u.learned.words → HasRead g v.learned.words
+  read_before g read = all_from (λ x. g x.index ≡ x.value) v.learned.words
+      (λ x m. all_among (λ y. g y.index ≡ y.value) x u.learned.words read (learns.words x m))
+
+  -- what was known of active definitions still is
+  pub knows_later : (version : ℕ) (texts : List (ℕ × List ℕ)) → KnowsActive v.about.rows.value v.learned version texts
+      → KnowsActive u.about.rows.value u.learned version texts
+  knows_later version texts h =
+      let up = learns.version in
+      let reached = h.1.reached in
+      subst (λ (z : Key). KnowsActive z.rows.value u.learned version texts) (sym learns.about)
+      (h.0, record { reached = omega arith; are = λ g read. h.1.are g (read_before g read) }, h.2)
+
+  -- so words that are those of a record of the pass's version with its keys still are
+  pub body_later : (f : Flight) (words : List ℕ) (linked : ℕ) → u.lane ≡ v.lane → u.epoch ≡ v.epoch
+      → body_of words ≡ body_of f.words → HasBody v f → HasBody u (record f { words = words; linked = linked })
+  body_later f words linked lane epoch body h = record {
+    version = h.version;
+    entered = epoch ∙ h.entered;
+    keyed = subst (λ (z : ℕ × (ℕ → ℕ)). IsKeyed (KnowsActive u.about.rows.value u.learned) h.version z.0 f.number
+        f.lines z.1) (λ i. (sym lane i, sym body i))
+        (keyed_map (KnowsActive v.about.rows.value v.learned) (KnowsActive u.about.rows.value u.learned) knows_later
+        h.version v.lane f.number f.lines (body_of f.words) h.keyed);
+  }
