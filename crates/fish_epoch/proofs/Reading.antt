@@ -30,13 +30,15 @@ use Rattle.fish_epoch.specs.Rows.{HasRow, HasWords, OnlyReads}
 
 -- a view only reads of itself
 pub reads_self : (v : View) → OnlyReads v v
-reads_self v = record { extends = extends_self v; version = refl; loads = refl }
+reads_self v = record { extends = extends_self v; version = refl; count = refl; found = refl; loads = refl }
 
 -- and what only reads of what only reads
 pub reads_both : (a b c : View) → OnlyReads a b → OnlyReads b c → OnlyReads a c
 reads_both a b c e f = record {
   extends = extends_both a b c e.extends f.extends;
   version = f.version ∙ e.version;
+  count = f.count ∙ e.count;
+  found = f.found ∙ e.found;
   loads = f.loads ∙ e.loads;
 }
 
@@ -70,6 +72,8 @@ reads_word v u p x e = subst (OnlyReads v) (sym e) (record {
     own = refl;
   };
   version = refl;
+  count = refl;
+  found = refl;
   loads = refl;
 })
 

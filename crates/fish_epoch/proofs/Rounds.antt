@@ -24,6 +24,8 @@ keeps_self v = record {
   draft = refl;
   tail = refl;
   own = refl;
+  count = refl;
+  found = refl;
   loads = refl;
 }
 
@@ -39,6 +41,8 @@ keeps_both a b c e f = record {
   draft = f.draft ∙ e.draft;
   tail = f.tail ∙ e.tail;
   own = f.own ∙ e.own;
+  count = f.count ∙ e.count;
+  found = f.found ∙ e.found;
   loads = f.loads ∙ e.loads;
 }
 
@@ -68,6 +72,8 @@ keeps_version v x more = record {
   draft = refl;
   tail = refl;
   own = refl;
+  count = refl;
+  found = refl;
   loads = refl;
 }
 
@@ -97,6 +103,8 @@ keeps_epoch v e = record {
   draft = refl;
   tail = refl;
   own = refl;
+  count = refl;
+  found = refl;
   loads = refl;
 }
 

@@ -4,7 +4,8 @@ use Rattle.fish_rule.specs.Logs.{Learns}
 use Rattle.fish_rule.specs.declared.view.Epoch.TheVariants.{Confirmed}
 use Rattle.fish_rule.specs.declared.view.View.{View}
 
--- the second view is the first but for its epoch and what it learned since; no word of the log was loaded
+-- the second view is the first but for its epoch and what it learned of the registry since; no word of the log was
+-- loaded
 pub record Keeps (v u : View) : Type 0 where
   pub learns : Learns v u
   pub lane : u.lane ≡ v.lane
@@ -15,6 +16,8 @@ pub record Keeps (v u : View) : Type 0 where
   pub draft : u.draft ≡ v.draft
   pub tail : u.tail ≡ v.tail
   pub own : u.own ≡ v.own
+  pub count : u.learned.count ≡ v.learned.count
+  pub found : u.learned.found ≡ v.learned.found
   pub loads : u.clock.loads ≡ v.clock.loads
 
 -- the pass is entered at a version, which it has loaded, after at most 513 rounds of two steps and one step more

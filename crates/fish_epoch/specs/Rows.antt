@@ -9,10 +9,12 @@ use Rattle.fish_rule.specs.Registry.{HasRead, row_at, row_in}
 use Rattle.fish_rule.specs.Views.{Among}
 use Rattle.fish_rule.specs.declared.view.View.{View}
 
--- the second view is the first but for what it learned since; no word of the log was loaded
+-- the second view is the first but for what it learned of the registry since; no word of the log was loaded
 pub record OnlyReads (v u : View) : Type 0 where
   pub extends : Extends v u
   pub version : u.learned.version ≡ v.learned.version
+  pub count : u.learned.count ≡ v.learned.count
+  pub found : u.learned.found ≡ v.learned.found
   pub loads : u.clock.loads ≡ v.clock.loads
 
 -- the words of a row from place 2 up to a place were read, and a row of the start has its own there
