@@ -24,7 +24,9 @@ use Rattle.fish_rule.specs.Views.{AllOf, Among}
 use Rattle.fish_rule.specs.declared.view.Key.{Key}
 use Rattle.fish_rule.specs.declared.view.RegistryWord.{RegistryWord}
 use Rattle.fish_rule.specs.declared.view.View.{View}
+use Rattle.fish_epoch.specs.Definitions.{IsDefsOf, version_of}
 use Rattle.fish_epoch.specs.Rows.{HasRow, HasWords, OnlyReads}
+use Rattle.fish_epoch.specs.declared.definitions.Defs.{Defs}
 
 -- ---- views
 
@@ -263,6 +265,11 @@ module _ (v u : View) (before x : ℕ) (ls : List Listed) (learns : Learns v u) 
 pub operation_read : (v u : View) (p x : ℕ) → u ≡ after_registry v p x
     → Among (record { index = p; value = x }) u.learned.words
 operation_read v u p x e = subst (λ (z : View). Among (record { index = p; value = x }) z.learned.words) (sym e) (inl refl)
+
+-- what was read stays read
+pub defs_later : (v u : View) (d : Defs) → Learns v u → IsDefsOf v d → IsDefsOf u d
+defs_later v u d e h read = (let a = h read in
+    record { rows = knows_later v u (version_of d) d.rows.items e a.rows; active = a.active })
 
 -- ---- by their laws
 

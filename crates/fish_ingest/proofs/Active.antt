@@ -60,7 +60,7 @@ active_ascend n (row ∷ rows) few ids =
     (active_ascend (n + 1) rows (omega arith) later)
 
 -- the ids in the texts of definitions are theirs
-def_ids : (defs : List ActiveDef) → map (λ (t : ℕ × List ℕ). t.0) (map text_of defs) ≡ map id_of defs
+pub def_ids : (defs : List ActiveDef) → map (λ (t : ℕ × List ℕ). t.0) (map text_of defs) ≡ map id_of defs
 def_ids [] = refl
 def_ids (d ∷ ds) = ap (λ ids. d.id ∷ ids) (def_ids ds)
 

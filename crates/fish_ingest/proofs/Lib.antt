@@ -1,7 +1,12 @@
 pub mod Active
+pub mod Claiming
 pub mod Keys
 pub mod Parts
+pub mod Passed
 pub mod Payloads
+pub mod Places
+pub mod Recorded
+pub mod Starts
 pub mod Stored
 pub mod Values
 pub mod Written

@@ -1,6 +1,5 @@
 -- The words of a payload, once they have a number, are a record of the rule.
-use Rattle.std.proofs.Common.{◌≡◌, ℕ, ◌+◌, ◌*◌, ◌/◌, List, length, true, refl, sym, ap, ◌∙◌, subst}
-use Rattle.fish_catalog.specs.declared.row.CatRow.{CatRow}
+use Rattle.std.proofs.Common.{◌≡◌, ℕ, ◌+◌, ◌*◌, ◌/◌, List, length, map, true, refl, sym, ap, ◌∙◌, subst}
 use Rattle.fish_layout.proofs.Links.{unlink-unlinked}
 use Rattle.fish_layout.proofs.Outlines.{body_length}
 use Rattle.fish_layout.proofs.Sizes.{length-words_behind}
@@ -11,9 +10,7 @@ use Rattle.fish_layout.specs.declared.parts.BodyParts.{BodyParts}
 use Rattle.fish_psf.specs.Keys.{keys_of}
 use Rattle.fish_psf.specs.Records.{fields_of_payload, is_record}
 use Rattle.fish_psf.specs.declared.key.ActiveDef.{ActiveDef}
-use Rattle.fish_rule.specs.Keys.{AreActive, HasKeys}
-use Rattle.fish_rule.specs.Regions.{IsRecord}
-use Rattle.fish_rule.specs.declared.view.Key.{Key}
+use Rattle.fish_rule.specs.Keys.{HasKeys, IsKeyed, text_of}
 use Rattle.fish_ingest.specs.Records.{ArePartsFor, IsBodyFor}
 use Rattle.fish_ingest.specs.declared.origin.Origin.{Origin}
 
@@ -46,33 +43,36 @@ reads_parts : {defs : List ActiveDef} {origin : Origin} {payload : List ℕ} {p 
 reads_parts {defs} {origin} {payload} {p} h =
     ap (λ form. is_record form p.payload) h.form_is ∙ ap (is_record origin.form) h.payload_is ∙ h.reads
 
--- the keys that the definitions of the active rows give for a payload are those of the rows
-has_keys : {defs : List ActiveDef} {origin : Origin} {payload : List ℕ} {p : BodyParts} {rows : List CatRow} (n : ℕ)
-    → ArePartsFor defs origin payload p → AreActive rows defs → HasKeys rows (numbered n p)
-has_keys {defs} {origin} {payload} {p} n h active =
+-- the keys that definitions give for a payload are those of the version where they are active
+pub has_keys : {defs : List ActiveDef} {origin : Origin} {payload : List ℕ} {p : BodyParts}
+    {active : ℕ → List (ℕ × List ℕ) → Type 0} (n : ℕ) → ArePartsFor defs origin payload p
+    → active origin.version (map text_of defs) → HasKeys active (numbered n p)
+has_keys {defs} {origin} {payload} {p} {active} n h are =
     record {
       defs = defs;
-      active = active;
+      are = subst (λ v. active v (map text_of defs)) (sym h.version_is) are;
       keys = h.keys ∙ ap (λ form. keys_of (fields_of_payload form payload) defs) (sym h.form_is)
           ∙ ap (λ b. keys_of (fields_of_payload p.form b) defs) (sym h.payload_is);
     }
 
--- the words of a payload with a number are a record of it, where the table begins with the active definitions
-pub record_of_body : {defs : List ActiveDef} {origin : Origin} {payload words : List ℕ} {rows : List CatRow}
-    (k : Key) (n : ℕ) (new : List ℕ) (b : IsBodyFor defs origin payload words)
-    → IsBody (numbered n b.0) new → AreActive rows defs → k.rows.value ≡ rows → origin.version ≡ 0
-    → IsRecord k origin.lane n (body_lines b.0) (body_of new)
-record_of_body {defs} k n new b is active begun first =
+-- the words of a payload with a number are a record of its version, with the keys of that version
+pub keyed_of_body : {defs : List ActiveDef} {origin : Origin} {payload words : List ℕ}
+    {active : ℕ → List (ℕ × List ℕ) → Type 0} (n : ℕ) (new : List ℕ) (b : IsBodyFor defs origin payload words)
+    → IsBody (numbered n b.0) new → active origin.version (map text_of defs)
+    → IsKeyed active origin.version origin.lane n (body_lines b.0) (body_of new)
+keyed_of_body {defs} {active = active} n new b is are =
     let p : BodyParts = b.0 in
     let h = b.1 in (
       numbered n p,
       record {
-        spells = subst (λ q. Spells q (body_of new)) (same_parts (numbered n p) h.unlinked) (spelled_body new is);
-        lane_is = h.lane_is;
-        number_is = refl;
-        lines_is = numbered_lines n p;
-        reads = reads_parts h;
-        version_is = h.version_is ∙ first;
-        keys = has_keys n h (subst (λ r. AreActive r defs) (sym begun) active);
+        record_of = record {
+          spells = subst (λ q. Spells q (body_of new)) (same_parts (numbered n p) h.unlinked) (spelled_body new is);
+          lane_is = h.lane_is;
+          number_is = refl;
+          lines_is = numbered_lines n p;
+          reads = reads_parts h;
+        };
+        version_is = h.version_is;
+        keys = has_keys {active = active} n h are;
       },
     )

@@ -7,7 +7,7 @@ use Rattle.fish_chain.proofs.Partly.{IsPartly, partly_links, partly_publish}
 use Rattle.fish_chain.specs.Links.{CanLink, IsLinked}
 use Rattle.fish_claim.proofs.Filled.{body_keys}
 use Rattle.fish_claim.specs.Fills.{CanFill, IsFilled, filled_view, with_words}
-use Rattle.fish_ingest.proofs.Stored.{body_fills, numbered, numbered_fills, record_of_body}
+use Rattle.fish_ingest.proofs.Stored.{body_fills, keyed_of_body, numbered, numbered_fills}
 use Rattle.fish_ingest.specs.Writing.{CanWrite, HasStored, HasWritten}
 use Rattle.fish_ingest.specs.declared.prepared.Prepared.{Prepared}
 use Rattle.fish_layout.specs.Body.{IsBody, body_lines}
@@ -19,7 +19,8 @@ use Rattle.fish_layout.specs.declared.parts.KeyPart.{KeyPart}
 use Rattle.fish_rule.proofs.Extending.{learns_both, learns_self}
 use Rattle.fish_rule.specs.Flying.{region_of}
 use Rattle.fish_rule.specs.Logs.{Learns}
-use Rattle.fish_rule.specs.Regions.{IsRecord}
+use Rattle.fish_rule.specs.Keys.{IsKeyed}
+use Rattle.fish_rule.specs.Registry.{KnowsActive}
 use Rattle.fish_rule.specs.declared.view.Flight.{Flight}
 use Rattle.fish_rule.specs.declared.view.View.{View}
 
@@ -49,8 +50,13 @@ can_fill v f prepared can words is =
       unlinked = can.unlinked;
       stored = can.stored;
       full = numbered_fills f.number b.0 is ∙ ap (λ (z : ℕ). z * 4) lines;
-      written = subst (λ (z : ℕ × ℕ). IsRecord v.about z.0 f.number z.1 (body_of words)) (λ i. (can.lane_is i, lines i))
-          (record_of_body v.about f.number words b is can.active refl can.version_is);
+      body = record {
+        version = can.origin.version;
+        entered = can.entered;
+        keyed = subst (λ (z : ℕ × ℕ). IsKeyed (KnowsActive v.about.rows.value v.learned) can.origin.version z.0
+            f.number z.1 (body_of words)) (λ i. (can.lane_is i, lines i))
+            (keyed_of_body {active = KnowsActive v.about.rows.value v.learned} f.number words b is can.active);
+      };
     }
 
 -- ---- on the way
@@ -61,7 +67,12 @@ pub record HasKept (v u : View) : Type 0 where
   pub lane : u.lane ≡ v.lane
   pub out : u.out ≡ v.out
   pub shut : u.shut ≡ v.shut
+  pub epoch : u.epoch ≡ v.epoch
+  pub rows : u.rows ≡ v.rows
+  pub draft : u.draft ≡ v.draft
   pub own : u.own ≡ v.own
+  pub count : u.learned.count ≡ v.learned.count
+  pub found : u.learned.found ≡ v.learned.found
   pub learns : Learns v u
 
 -- the record with these parts is filled in the region of the claim f, and so many of its entries are linked
@@ -83,6 +94,8 @@ fill_learns v f words =
       about = s.about;
       count = s.count;
       settled = s.settled;
+      version = s.version;
+      words = s.words;
       found = s.found;
       known = s.known;
       records = s.records;
@@ -109,6 +122,11 @@ writing_begins v u f p words none is filled made = record {
     lane = ap (λ (z : View). z.lane) is;
     out = ap (λ (z : View). z.out) is;
     shut = ap (λ (z : View). z.shut) is;
+    epoch = ap (λ (z : View). z.epoch) is;
+    rows = ap (λ (z : View). z.rows) is;
+    draft = ap (λ (z : View). z.draft) is;
+    count = ap (λ (z : View). z.learned.count) is;
+    found = ap (λ (z : View). z.learned.found) is;
     own = ap (λ (z : View). z.own) is;
     learns = subst (Learns v) (sym is) (fill_learns v f words);
   };
@@ -154,6 +172,11 @@ module _ (v : View) (f : Flight) (p : BodyParts) (c : ℕ) (u : View) (s : IsWri
           lane = ap (λ (z : View). z.lane) known ∙ s.kept.lane;
           out = ap (λ (z : View). z.out) known ∙ s.kept.out;
           shut = ap (λ (z : View). z.shut) known ∙ s.kept.shut;
+          epoch = ap (λ (z : View). z.epoch) known ∙ s.kept.epoch;
+          rows = ap (λ (z : View). z.rows) known ∙ s.kept.rows;
+          draft = ap (λ (z : View). z.draft) known ∙ s.kept.draft;
+          count = ap (λ (z : View). z.learned.count) known ∙ s.kept.count;
+          found = ap (λ (z : View). z.learned.found) known ∙ s.kept.found;
           own = ap (λ (z : View). z.own) known ∙ s.kept.own;
           learns = learns_both v u t s.kept.learns is.changed.learns;
         };
@@ -170,6 +193,11 @@ module _ (v : View) (f : Flight) (p : BodyParts) (c : ℕ) (u : View) (s : IsWri
     lane = s.kept.lane;
     out = s.kept.out;
     shut = s.kept.shut;
+    epoch = s.kept.epoch;
+    rows = s.kept.rows;
+    draft = s.kept.draft;
+    count = s.kept.count;
+    found = s.kept.found;
     own = s.kept.own;
     learns = s.kept.learns;
   }

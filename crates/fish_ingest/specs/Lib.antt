@@ -1,4 +1,7 @@
 pub mod Definitions
 pub mod Entries
+pub mod Passing
+pub mod Placing
 pub mod Records
+pub mod Starting
 pub mod Writing

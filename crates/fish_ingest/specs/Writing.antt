@@ -1,5 +1,5 @@
 -- When what was prepared may be written for a claim, and what the pass knows afterwards.
-use Rattle.std.specs.Prelude.{ℕ, ◌≡◌, ◌*◌, List, [], length, Some}
+use Rattle.std.specs.Prelude.{ℕ, ◌≡◌, ◌*◌, List, [], length, map, Some}
 use Rattle.fish_ingest.specs.Records.{IsPreparedFor}
 use Rattle.fish_ingest.specs.declared.origin.Origin.{Origin}
 use Rattle.fish_ingest.specs.declared.prepared.Prepared.{Prepared}
@@ -8,15 +8,17 @@ use Rattle.fish_layout.specs.Cleared.{body_of}
 use Rattle.fish_layout.specs.declared.parts.BodyParts.{BodyParts}
 use Rattle.fish_psf.specs.declared.key.ActiveDef.{ActiveDef}
 use Rattle.fish_rule.specs.Flying.{region_of}
-use Rattle.fish_rule.specs.Keys.{AreActive}
+use Rattle.fish_rule.specs.Keys.{text_of}
 use Rattle.fish_rule.specs.Logs.{Learns}
+use Rattle.fish_rule.specs.Registry.{KnowsActive}
 use Rattle.fish_rule.specs.Steps.{CanPublish, flight_kind}
+use Rattle.fish_rule.specs.declared.view.Epoch.TheVariants.{Confirmed}
 use Rattle.fish_rule.specs.declared.view.Flight.{Flight}
 use Rattle.fish_rule.specs.declared.view.Kind.TheVariants.{Stored}
 use Rattle.fish_rule.specs.declared.view.View.{View}
 
--- f was just claimed for a record of the lines that were prepared, which are of the pass's lane, version 0, and the
--- definitions that the log begins with
+-- f was just claimed for a record of the lines that were prepared, which are of the pass's lane, of the version at
+-- which it is entered, and of the definitions that it knows to be active at that version
 pub record CanWrite (v : View) (f : Flight) (prepared : Prepared) : Type 0 where
   pub flying : v.flight ≡ Some f
   pub unfilled : f.words ≡ []
@@ -27,9 +29,9 @@ pub record CanWrite (v : View) (f : Flight) (prepared : Prepared) : Type 0 where
   pub origin : Origin
   pub payload : List ℕ
   pub made : IsPreparedFor defs origin payload prepared
-  pub active : AreActive v.about.rows.value defs
+  pub active : KnowsActive v.about.rows.value v.learned origin.version (map text_of defs)
   pub lane_is : origin.lane ≡ v.lane
-  pub version_is : origin.version ≡ 0
+  pub entered : v.epoch ≡ Confirmed origin.version
 
 -- the parts of the record that was prepared, with the number of the claim
 abbrev pub claimed_parts : (v : View) (f : Flight) (prepared : Prepared) → CanWrite v f prepared → BodyParts
@@ -54,5 +56,10 @@ pub record HasWritten (v : View) (f : Flight) (u : View) : Type 0 where
   pub lane : u.lane ≡ v.lane
   pub out : u.out ≡ v.out
   pub shut : u.shut ≡ v.shut
+  pub epoch : u.epoch ≡ v.epoch
+  pub rows : u.rows ≡ v.rows
+  pub draft : u.draft ≡ v.draft
   pub own : u.own ≡ v.own
+  pub count : u.learned.count ≡ v.learned.count
+  pub found : u.learned.found ≡ v.learned.found
   pub learns : Learns v u

@@ -1,19 +1,27 @@
-//! Ingesting: the words of a record from its payload, before anything is claimed for it.
+//! Ingesting: a record from the bytes of its payload to its place in every chain.
 //!
-//! A payload is parsed once, each active definition is evaluated on that parse, and the words are
-//! made with number 0. All memory is taken here; nothing here touches a shared word.
+//! A payload is parsed once. Then the pass enters the registry's version, each definition that is
+//! active there is evaluated on that parse, and the words are made with number 0. All memory is taken
+//! before the claim. Every shared word is touched by `fish_rule` alone.
 #![tactic(auto)]
 
 mod body;
+mod ingesting;
 mod origin;
+mod pending;
+mod placing;
 mod prepared;
 mod refusal;
+mod starting;
 #[cfg(test)]
 mod tests;
 mod writing;
 
 pub use body::prepare;
+pub use ingesting::{finish, ingest};
 pub use origin::Origin;
+pub use pending::Pending;
 pub use prepared::Prepared;
 pub use refusal::IngestRefusal;
+pub use starting::start;
 pub use writing::write_record;

@@ -1,10 +1,11 @@
-//! Why a payload has no words.
+//! Why a payload was not stored.
 
 use fish_psf::PsfRefusal;
+use fish_rule::Shut;
 use std::alloc::AllocError;
 use thiserror::Error;
 
-/// Why a payload was not made into a record.
+/// Why a payload was not stored.
 #[derive(Clone, Copy, Debug, PartialEq, Eq, Error)]
 pub enum IngestRefusal {
     #[error("a record has at most 524288 bytes")]
@@ -13,6 +14,31 @@ pub enum IngestRefusal {
     NotRecord,
     #[error("out of memory")]
     OutOfMemory,
+    /// The claim that shut the pass, in this call or earlier, ends past the log's end.
+    #[error("full at line {line}, {lines} lines of {end}")]
+    Full {
+        /// Its first line.
+        line: u64,
+        /// How many lines it asked for.
+        lines: u64,
+        /// The first line behind the log.
+        end: u64,
+    },
+}
+
+impl From<Shut> for IngestRefusal {
+    ghost use Rattle.std.specs.Prelude.{◌≡◌};
+    ghost use Rattle.fish_ingest.specs.Starting.{full_of};
+
+    ghost from_gives = { λ shut refusal. refusal ≡ full_of shut };
+
+    fn from(shut: Shut) -> IngestRefusal {
+        IngestRefusal::Full {
+            line: shut.line,
+            lines: shut.lines,
+            end: shut.end,
+        }
+    }
 }
 
 impl From<AllocError> for IngestRefusal {

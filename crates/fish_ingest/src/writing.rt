@@ -13,13 +13,13 @@ use fish_rule::{Log, Pass, buckets, in_flight};
 
 /// Stores the words of the record in flight and links each of its key entries. What is left is to
 /// publish it. Takes no memory.
-pub fn write_record(log: &Log, pass: &mut Pass, prepared: &mut Prepared)
+pub fn write_record(log: &Log, pass: &mut Pass, mut prepared: Prepared)
     requires pass { IsPassOf log.now pass.old }
-    requires can { (f : Flight) × CanWrite (view pass.old) f prepared.old }
+    requires can { (f : Flight) × CanWrite (view pass.old) f prepared }
     ensures pass { IsPassOf log.now pass.new }
     ensures written { (f : Flight) → (view pass.old).flight ≡ Some f → HasWritten (view pass.old) f (view pass.new) }
-    ensures stored { (f : Flight) → (can : CanWrite (view pass.old) f prepared.old)
-        → HasStored (claimed_parts (view pass.old) f prepared.old can) (view pass.new) }
+    ensures stored { (f : Flight) → (can : CanWrite (view pass.old) f prepared)
+        → HasStored (claimed_parts (view pass.old) f prepared can) (view pass.new) }
 {
     let Some(region) = in_flight(pass) else {
         unreachable!()

@@ -7,21 +7,21 @@ use Rattle.fish_ingest.proofs.body.prepare.Goals as goal
 
 -- a record is a text
 pub text_of-requires : goal.text_of-requires
-text_of-requires g c = record_text c.args.origin.form c.args.payload.now c.in_ok-found.ensures.accepted
+text_of-requires c = record_text c.args.origin.form c.args.payload.now c.requires.read.accepted
 
 -- the fields that the entries are made of are the payload's
 pub body_of-requires : goal.body_of-requires
-body_of-requires g c =
-    let found = c.in_ok-found.ensures in
+body_of-requires c =
+    let read = c.requires.read in
     parts_proper c.requires.defs c.requires.origin
-    (are_read (fields_of c.in_ok-found.found) found.fields c.in_ok-keys.ensures c.in_ok-text_of.ensures found.accepted)
+    (are_read (fields_of c.args.found.now) read.fields c.in_ok-keys.ensures c.in_ok-text_of.ensures read.accepted)
 
 -- and so are the words, and the keys
-pub returns-clause-prepared : goal.returns-clause-prepared
+pub returns : goal.returns
 unfolding body_for
-returns-clause-prepared g c =
-    let found = c.in_ok-found.ensures in
+returns c =
+    let read = c.requires.read in
     let made = body_for c.requires.defs c.requires.origin
-    (are_read (fields_of c.in_ok-found.found) found.fields c.in_ok-keys.ensures c.in_ok-text_of.ensures
-    found.accepted) c.in_ok-body.ensures in
+    (are_read (fields_of c.args.found.now) read.fields c.in_ok-keys.ensures c.in_ok-text_of.ensures read.accepted)
+    c.in_ok-body.ensures in
     (made, refl)

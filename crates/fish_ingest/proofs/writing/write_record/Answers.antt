@@ -59,7 +59,7 @@ fill-requires-clause-view c =
     let b = can.made.0 in
     let body = subst (λ (z : ℕ). IsBody (numbered z b.0) c.set_number.new.body) (sym number)
     (c.set_number.ensures b.0 b.2) in
-    (f, subst (CanFill v f) (sym c.as_slice.ensures) (can_fill v f c.args.prepared.now can c.set_number.new.body body))
+    (f, subst (CanFill v f) (sym c.as_slice.ensures) (can_fill v f c.args.prepared can c.set_number.new.body body))
 
 pub overflow_cast-place : goal.overflow_cast-place
 overflow_cast-place c =
@@ -83,7 +83,7 @@ link-requires-clause-view c =
     let f : Flight = c.requires.can.0 in
     let can = c.requires.can.1 in
     let s = c.loop-place.invariant.writing f can in
-    let p = parts_at (view c.args.pass.now) f c.args.prepared.now can in
+    let p = parts_at (view c.args.pass.now) f c.args.prepared can in
     let k : KeyPart = c.key-item.result in
     let u = view c.loop-place.pass in
     let keys : c.as_slice-key-items.result.now ≡ p.keys = c.as_slice-key-items.ensures ∙ can.made.1 in
@@ -106,7 +106,7 @@ loop-place-preserved c = record {
   writing = λ f can.
       let v = view c.args.pass.now in
       let s = c.loop-place.invariant.writing f can in
-      let p = parts_at v f c.args.prepared.now can in
+      let p = parts_at v f c.args.prepared can in
       let size = ap length (c.as_slice-key-items.ensures ∙ can.made.1) in
       let less : c.loop-place.place < length p.keys =
       (let t = c.loop-place-test.true in let e = c.loop-place.auto.place-end in omega arith) in
@@ -122,7 +122,7 @@ returns-clause-written c f flying =
     let same : g ≡ f = one_flight g f (sym c.requires.can.1.flying ∙ flying) in
     let can = c.requires.can.1 in
     let s = c.loop-place.invariant.writing g can in
-    let p = parts_at v g c.args.prepared.now can in
+    let p = parts_at v g c.args.prepared can in
     let size = ap length (c.as_slice-key-items.ensures ∙ can.made.1) in
     let all : c.loop-place.place ≡ length p.keys =
     (let t = c.loop-place-test.false in let e = c.loop-place.auto.place-end in omega arith) in
@@ -133,5 +133,5 @@ returns-clause-written c f flying =
 pub returns-clause-stored : goal.returns-clause-stored
 returns-clause-stored c f can =
     let v = view c.args.pass.now in
-    let p = parts_at v f c.args.prepared.now can in
+    let p = parts_at v f c.args.prepared can in
     writing_stored v f p c.loop-place.place (view c.loop-place.pass) (c.loop-place.invariant.writing f can)

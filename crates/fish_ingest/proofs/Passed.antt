@@ -1,0 +1,62 @@
+-- What calls leave of a pass, one after the other.
+use Rattle.std.proofs.Common.{◌≡◌, ◌≢◌, ℕ, refl, sym, ap, ◌∙◌, subst, inl, inr, ◌⊎◌, ⊎_elim, List}
+use Rattle.fish_epoch.specs.Entering.{HasEntered, Keeps}
+use Rattle.fish_epoch.specs.Rows.{OnlyReads}
+use Rattle.fish_ingest.specs.Passing.{GoesOn, OnlyFound}
+use Rattle.fish_rule.proofs.Extending.{learns_both, learns_self}
+use Rattle.fish_rule.specs.Logs.{Extends, Learns}
+use Rattle.fish_rule.specs.Views.{Among}
+use Rattle.fish_rule.specs.declared.view.Found.{Found}
+use Rattle.fish_rule.specs.declared.view.Kind.{Kind}
+use Rattle.fish_rule.specs.declared.view.View.{View}
+
+-- a pass goes on from itself
+pub on_self : (v : View) → GoesOn v v
+on_self v = record { learns = learns_self v; lane = refl; out = refl; rows = refl; draft = refl }
+
+-- and from what goes on from it
+pub on_both : (a b c : View) → GoesOn a b → GoesOn b c → GoesOn a c
+on_both a b c e f = record {
+  learns = learns_both a b c e.learns f.learns;
+  lane = f.lane ∙ e.lane;
+  out = f.out ∙ e.out;
+  rows = f.rows ∙ e.rows;
+  draft = f.draft ∙ e.draft;
+}
+
+-- so does a pass that entered
+pub on_keeps : (v u : View) → Keeps v u → GoesOn v u
+on_keeps v u h = record { learns = h.learns; lane = h.lane; out = h.out; rows = h.rows; draft = h.draft }
+
+-- a pass that read of the registry keeps to itself
+pub keeps_reads : (v u : View) → OnlyReads v u → Keeps v u
+keeps_reads v u h = record {
+  learns = h.extends.learns;
+  lane = h.extends.lane;
+  out = h.extends.out;
+  shut = h.extends.shut;
+  flight = h.extends.flight;
+  rows = h.extends.rows;
+  draft = h.extends.draft;
+  tail = h.extends.tail;
+  own = h.extends.own;
+  count = h.count;
+  found = h.found;
+  loads = h.loads;
+}
+
+-- ---- what was found
+
+module _ (P : Kind → Type 0) where
+  -- nothing was found where nothing is new
+  pub found_same : (v u : View) → u.learned.found ≡ v.learned.found → OnlyFound P v u
+  found_same v u e x m = inl (subst (Among x) e m)
+
+  -- what was found in two parts
+  pub found_both : (a b c : View) → OnlyFound P a b → OnlyFound P b c → OnlyFound P a c
+  found_both a b c e f x m = ⊎_elim (λ (n : Among x b.learned.found). e x n) (λ (h : P x.kind). inr h) (f x m)
+
+-- what meets P meets Q
+pub found_map : (P Q : Kind → Type 0) → ((kind : Kind) → P kind → Q kind) → (v u : View) → OnlyFound P v u
+    → OnlyFound Q v u
+found_map P Q f v u h x m = ⊎_elim (λ (n : Among x v.learned.found). inl n) (λ (p : P x.kind). inr (f x.kind p)) (h x m)

@@ -1,0 +1,332 @@
+-- The steps of an ingest put together.
+use Rattle.std.proofs.Common.{◌≡◌, ◌≢◌, ℕ, ◌+◌, ◌*◌, ◌<◌, ◌≤◌, zero, suc, List, [], ◌∷◌, ◌++◌, length, map, refl, sym, ap, ◌∙◌}
+use Rattle.std.proofs.Common.{subst, inl, inr, ◌⊎◌, ⊎_elim, arith, Some, None, Option, All, true}
+use Rattle.std.proofs.lemmas.List.Elements.{All-map}
+use Rattle.std.specs.List.Sorted.{IsStrictlyIncreasing}
+use Rattle.fish_catalog.proofs.ActiveTexts.{active_ids_below, active_ids_increase}
+use Rattle.fish_catalog.specs.declared.entry.Entry.TheVariants as entry
+use Rattle.fish_claim.proofs.Known.{knows_later}
+use Rattle.fish_epoch.specs.Definitions.{AreRead, active_defs}
+use Rattle.fish_epoch.specs.Entering.{HasEntered, Keeps}
+use Rattle.fish_epoch.specs.declared.definitions.Defs.{Defs}
+use Rattle.fish_ingest.proofs.Active.{def_ids}
+use Rattle.fish_ingest.proofs.Passed.{found_both, found_map, found_same, on_both, on_keeps, on_self}
+use Rattle.fish_ingest.proofs.Recorded.{tells_recorded}
+use Rattle.fish_ingest.specs.Definitions.{AreDefs, id_of}
+use Rattle.fish_ingest.specs.Passing.{GoesOn, OnlyFound}
+use Rattle.fish_ingest.specs.Placing.{CanPlace, HasPlaced, IsShutBy}
+use Rattle.fish_ingest.specs.Starting.{CanStart, HasIngested, HasNotClaimed, HasPrepared, HasStarted, IsFull, IsPending}
+use Rattle.fish_ingest.specs.Starting.{HasRefused, IsCause, IsEarly, IsLate, IsRecordFor, number_of}
+use Rattle.fish_ingest.specs.declared.refusal.IngestRefusal.{IngestRefusal}
+use Rattle.fish_ingest.specs.declared.refusal.IngestRefusal.TheVariants as refusal
+use Rattle.fish_psf.specs.Records.{is_record}
+use Rattle.fish_ingest.specs.Writing.{HasStored}
+use Rattle.fish_ingest.specs.declared.pending.Pending.{Pending}
+use Rattle.fish_ingest.specs.declared.prepared.Prepared.{Prepared}
+use Rattle.fish_layout.specs.declared.parts.BodyParts.{BodyParts}
+use Rattle.fish_psf.specs.declared.key.ActiveDef.{ActiveDef}
+use Rattle.fish_rule.proofs.Extending.{learns_both, learns_self}
+use Rattle.fish_rule.proofs.Flights.{one_flight}
+use Rattle.fish_rule.proofs.Registering.{listing_law}
+use Rattle.fish_rule.specs.Entering.{after_retire}
+use Rattle.fish_rule.specs.Epochs.{Carries}
+use Rattle.fish_rule.specs.Keys.{text_of}
+use Rattle.fish_rule.specs.Logs.{Learns, Tells}
+use Rattle.fish_rule.specs.Registry.{KnowsActive}
+use Rattle.fish_rule.specs.Steps.{CanClaim, CanPublish, after_publish, flight_kind, own_after, records_after, shut_after}
+use Rattle.fish_rule.specs.Table.{Stands}
+use Rattle.fish_rule.specs.Views.{Among}
+use Rattle.fish_rule.specs.declared.view.Epoch.TheVariants.{Confirmed, Out}
+use Rattle.fish_rule.specs.declared.view.Flight.{Flight}
+use Rattle.fish_rule.specs.declared.view.Found.{Found}
+use Rattle.fish_rule.specs.declared.view.Kind.{Kind}
+use Rattle.fish_rule.specs.declared.view.Kind.TheVariants.{Mark, Stored, Void}
+use Rattle.fish_rule.specs.declared.view.Recorded.{Recorded}
+use Rattle.fish_rule.specs.declared.view.Shut.{Shut}
+use Rattle.fish_rule.specs.declared.view.View.{View}
+use Rattle.fish_value.specs.declared.field.Form.{Form}
+
+-- ---- before
+
+-- a pass that isn't entered has nothing in flight
+carries_idle : (v : View) (o : Option Flight) (k : Rattle.fish_rule.specs.declared.view.Key.Key) (g version_of : ℕ → ℕ)
+    → v.epoch ≡ Out → Carries k g version_of v.lane v.epoch o → o ≡ None
+carries_idle v None k g version_of outside h = refl
+carries_idle v (Some f) k g version_of outside h = (let e : Out ≡ Confirmed (version_of f.number) =
+    sym outside ∙ h.entered in cc)
+
+pub idle_law : (v : View) → Stands v → CanStart v → v.flight ≡ None
+idle_law v s can = carries_idle v v.flight v.about s.moment.registry s.rule.version_of can.outside
+    (s.rule.registry.flights s.seat v s.at)
+
+-- ---- without a claim
+
+-- a call that did nothing claimed nothing
+pub not_claimed_self : (v : View) → Stands v → CanStart v → HasNotClaimed v v
+not_claimed_self v s can = record {
+  left = record { on = on_self v; outside = can.outside; idle = idle_law v s can; own = refl };
+  shut = refl;
+  tail = refl;
+  count = refl;
+  found = refl;
+}
+
+-- what the store of the own epoch leaves
+pub on_retire : (v : View) → GoesOn v (after_retire v)
+on_retire v = record {
+  learns = (let s = learns_self v in record {
+    about = s.about;
+    count = s.count;
+    settled = s.settled;
+    version = s.version;
+    words = s.words;
+    found = s.found;
+    known = s.known;
+    records = s.records;
+    nodes = s.nodes;
+    lows = s.lows;
+    tops = s.tops;
+    gaps = s.gaps;
+    labels = s.labels;
+  });
+  lane = refl;
+  out = refl;
+  rows = refl;
+  draft = refl;
+}
+
+-- it takes away nothing that was learned
+pub learns_retired : (v u : View) → u ≡ after_retire v → Learns v u
+learns_retired v u e = subst (Learns v) (sym e) (on_retire v).learns
+
+-- nor did one that entered, read of the registry and left
+pub not_claimed_left : (v a b c : View) → Stands v → CanStart v → Keeps v a → Keeps a b → c ≡ after_retire b
+    → HasNotClaimed v c
+not_claimed_left v a b c s can e f is = subst (HasNotClaimed v) (sym is) (record {
+  left = record {
+    on = on_both v b (after_retire b) (on_both v a b (on_keeps v a e) (on_keeps a b f)) (on_retire b);
+    outside = refl;
+    idle = f.flight ∙ e.flight ∙ idle_law v s can;
+    own = f.own ∙ e.own;
+  };
+  shut = f.shut ∙ e.shut;
+  tail = f.tail ∙ e.tail;
+  count = f.count ∙ e.count;
+  found = f.found ∙ e.found;
+})
+
+-- ---- definitions
+
+-- the active definitions that were read are in the order of their ids
+pub are_defs : (v : View) (d : Defs) → Stands v → AreRead v d → AreDefs (active_defs d)
+are_defs v d s h =
+    let listing = listing_law v _ d.rows.items s h.rows in
+    let ids : map (λ (t : ℕ × List ℕ). t.0) (map text_of (active_defs d)) ≡ map id_of (active_defs d) =
+    def_ids (active_defs d) in
+    record {
+      ascending = subst IsStrictlyIncreasing
+          (ap (map (λ (t : ℕ × List ℕ). t.0)) (sym h.active) ∙ ids) (active_ids_increase d.rows.items listing);
+      below = below_texts (active_defs d) (subst (All (λ t. t.0 < 256)) (sym h.active)
+          (active_ids_below d.rows.items listing));
+    }
+  where
+    below_texts : (defs : List ActiveDef) → All (λ (t : ℕ × List ℕ). t.0 < 256) (map text_of defs)
+        → All (λ d. d.id < 256) defs
+    below_texts [] h k d within = absurd (omega arith)
+    below_texts (x ∷ xs) h zero d within = h 0 (text_of x) (omega arith)
+    below_texts (x ∷ xs) h (suc k) d within = below_texts xs (λ j t less. h (suc j) t (omega arith)) k d (omega arith)
+
+-- ---- the record in flight
+
+module _ (v a b : View) (version : ℕ) (entered : HasEntered v version a) (keeps : Keeps a b) where
+  -- the pass on its way to the claim
+  on_way : GoesOn v b
+  on_way = on_both v a b (on_keeps v a entered.keeps) (on_keeps a b keeps)
+
+  -- a record that was prepared may be placed
+  pub may_place : (form : Form) (payload : List ℕ) (prepared : Prepared) → Stands v → CanStart v → v.shut ≡ None
+      → b.epoch ≡ a.epoch → HasPrepared b version form payload prepared → CanPlace b prepared
+  may_place form payload prepared s can unshut epoch h =
+      let at : b.epoch ≡ Confirmed version = epoch ∙ entered.epoch in
+      record {
+        claim = record {
+          live = subst (λ (z : ℕ). 1 ≤ z) (sym on_way.lane) can.live;
+          idle = keeps.flight ∙ entered.keeps.flight ∙ idle_law v s can;
+          ready = keeps.shut ∙ entered.keeps.shut ∙ unshut;
+          version = version;
+          entered = at;
+        };
+        defs = h.defs;
+        origin = h.origin;
+        payload = payload;
+        made = h.made;
+        active = subst (λ (z : ℕ). KnowsActive b.about.rows.value b.learned z (map text_of h.defs)) (sym h.version_is)
+            h.active;
+        lane_is = h.lane_is;
+        entered = at ∙ ap Confirmed (sym h.version_is);
+        lines = Rattle.fish_layout.specs.Body.body_lines h.made.0.0;
+        size = refl;
+      }
+
+  -- the record that the payload is, as the pass knows it later
+  record_for : (form : Form) (payload : List ℕ) (prepared : Prepared) (u : View)
+      (h : HasPrepared b version form payload prepared) → Learns b u → u.lane ≡ b.lane
+      → IsRecordFor u form payload h.made.0.0
+  record_for form payload prepared u h learns lane = record {
+    defs = h.defs;
+    origin = h.origin;
+    parts = h.made.0.1;
+    form_is = h.form_is;
+    lane_is = h.lane_is ∙ sym lane;
+    active = subst (λ (z : ℕ). KnowsActive u.about.rows.value u.learned z (map text_of h.defs)) (sym h.version_is)
+        (knows_later b u learns version (map text_of h.defs) h.active);
+  }
+
+  -- the record was placed
+  pub has_started : (form : Form) (payload : List ℕ) (prepared : Prepared) (pending : Pending) (u : View)
+      (s : Stands v) (can : CanStart v) (unshut : v.shut ≡ None) (epoch : b.epoch ≡ a.epoch)
+      (h : HasPrepared b version form payload prepared)
+      → HasPlaced b prepared (may_place form payload prepared s can unshut epoch h) pending u
+      → HasStarted v form payload pending u
+  unfolding may_place
+  has_started form payload prepared pending u s can unshut epoch h placed =
+      let fresh = placed.fresh in
+      let count : b.learned.count ≡ v.learned.count = keeps.count ∙ entered.keeps.count in
+      let number = placed.number_is in
+      record {
+        on = on_both v b u on_way placed.on;
+        unshut = unshut;
+        waits = record {
+          flight = placed.flight;
+          ready = placed.ready;
+          stored = placed.stored;
+          number_is = placed.number_is;
+        };
+        parts = h.made.0.0;
+        are = record_for form payload prepared u h placed.on.learns placed.on.lane;
+        words = subst (λ (z : ℕ). HasStored (record h.made.0.0 { number = z }) u) placed.number_is placed.words;
+        fresh = omega arith;
+        shut = placed.shut ∙ keeps.shut ∙ entered.keeps.shut;
+        own = placed.own ∙ keeps.own ∙ entered.keeps.own;
+        voids = found_both (λ kind. kind ≡ Void) v b u
+            (found_same (λ kind. kind ≡ Void) v b (keeps.found ∙ entered.keeps.found)) placed.voids;
+      }
+
+  -- the claim shut the pass, which then left
+  pub has_filled : (form : Form) (payload : List ℕ) (prepared : Prepared) (shut : Shut) (u c : View) (unshut : v.shut ≡ None)
+      (h : HasPrepared b version form payload prepared) (lines : ℕ)
+      → lines ≡ Rattle.fish_layout.specs.Body.body_lines h.made.0.0 → IsShutBy b lines shut u → c ≡ after_retire u
+      → IsFull v form payload shut c
+  has_filled form payload prepared shut u c unshut h lines size is retired =
+      subst (IsFull v form payload shut) (sym retired) (record {
+        left = record {
+          on = on_both v u (after_retire u) (on_both v b u on_way is.on) (on_retire u);
+          outside = refl;
+          idle = is.idle;
+          own = is.own ∙ keeps.own ∙ entered.keeps.own;
+        };
+        shut_is = is.shut_is;
+        by_claim = inr (unshut, (
+          h.made.0.0,
+          record_for form payload prepared (after_retire u) h
+              (learns_both b u (after_retire u) is.on.learns (on_retire u).learns) is.on.lane,
+          is.lines_is ∙ size,
+        ));
+        unstored = found_both (λ kind. kind ≢ Stored) v b (after_retire u)
+            (found_same (λ kind. kind ≢ Stored) v b (keeps.found ∙ entered.keeps.found)) is.unstored;
+      })
+
+-- a pass that was shut before claims nothing
+pub was_shut : (v : View) (form : Form) (payload : List ℕ) (shut : Shut) → Stands v → CanStart v → v.shut ≡ Some shut
+    → IsFull v form payload shut v
+was_shut v form payload shut s can is =
+    let none = not_claimed_self v s can in
+    record {
+      left = none.left;
+      shut_is = is;
+      by_claim = inl (is, none);
+      unstored = found_same (λ kind. kind ≢ Stored) v v refl;
+    }
+
+-- ---- the publication
+
+-- the record that was pending is published, and the pass is out
+pub has_ingested : (v u w : View) (form : Form) (payload : List ℕ) (pending : Pending) (s : HasStarted v form payload pending u)
+    → w ≡ after_retire (after_publish u s.waits.flight) → HasIngested v form payload (number_of pending) w
+has_ingested v u w form payload pending s is = subst (HasIngested v form payload (number_of pending)) (sym is) (
+    let f : Flight = s.waits.flight in
+    let p : View = after_publish u f in
+    let kind : flight_kind u f ≡ Stored = s.waits.stored in
+    let number : f.number ≡ number_of pending = s.waits.number_is in
+    let flights : s.words.flight ≡ f = one_flight s.words.flight f (sym s.words.flying ∙ s.waits.ready.flying) in
+    let newest : Among (record { number = number_of pending; words = s.words.flight.words }) (after_retire p).learned.records =
+    subst (λ (z : Kind). Among (record { number = number_of pending; words = s.words.flight.words })
+    (records_after z f u.learned.records)) (sym kind)
+    (inl (λ j. record { number = number j; words = (sym flights j).words })) in
+    let lane : s.parts.lane ≡ v.lane = s.are.parts.lane_is ∙ s.are.lane_is ∙ s.on.lane in
+    let form_ : s.parts.form ≡ form = s.are.parts.form_is ∙ s.are.form_is in
+    record {
+      on = record {
+        learns = learns_both v u (after_retire p) s.on.learns (publish_learns u f);
+        lane = s.on.lane;
+        out = s.on.out;
+        rows = s.on.rows;
+        draft = s.on.draft;
+      };
+      outside = refl;
+      idle = refl;
+      shut = ap (λ (z : Kind). shut_after z f u.about.end u.shut) kind ∙ s.shut;
+      own = ap (λ (z : Kind). own_after z u.lane f.number u.own) kind
+          ∙ (λ j. s.own j ++ record { lane = s.on.lane j; number = number j } ∷ []);
+      entry = subst (λ (z : ℕ × Form × List ℕ). Tells (after_retire p) (number_of pending) (entry.Stored z.0 z.1 z.2))
+          (λ j. (lane j, form_ j, s.are.parts.payload_is j))
+          (tells_recorded (after_retire p) (number_of pending) s.words.flight.words s.words.words
+          (record s.parts { number = number_of pending }) newest s.words.made s.words.same refl);
+      fresh = s.fresh;
+      found = λ x m. ⊎_elim
+          (λ (h : record { number = f.number; kind = flight_kind u f; line = f.line; lines = f.lines } ≡ x).
+          inr (inr (ap (λ (z : Found). z.number) (sym h) ∙ number)))
+          (λ (h : Among x u.learned.found). ⊎_elim (λ (o : Among x v.learned.found). inl o)
+          (λ (k : x.kind ≡ Void). inr (inl k)) (s.voids x h)) m;
+    })
+  where
+    more : (kind : Kind) (f : Flight) (records : List Recorded) (x : Recorded) → Among x records
+        → Among x (records_after kind f records)
+    more Stored f records x m = inr m
+    more Void f records x m = m
+    more Mark f records x m = m
+
+    publish_learns : (u : View) (f : Flight) → Learns u (after_retire (after_publish u f))
+    publish_learns u f = record {
+      about = refl;
+      count = omega arith;
+      settled = omega arith;
+      version = omega arith;
+      words = λ x m. m;
+      found = λ x m. inr m;
+      known = λ x m. m;
+      records = more (flight_kind u f) f u.learned.records;
+      nodes = λ x m. m;
+      lows = λ x m. m;
+      tops = λ x m. m;
+      gaps = λ x m. m;
+      labels = λ x m. m;
+    }
+
+-- ---- refusals
+
+-- what the parse refused claimed nothing
+pub refused_early : (v u : View) (form : Form) (payload : List ℕ) (e : IngestRefusal) → IsEarly e → HasNotClaimed v u
+    → HasRefused v form payload e u
+refused_early v u form payload refusal.TooLong early h = h
+refused_early v u form payload refusal.NotRecord early h = h
+refused_early v u form payload refusal.OutOfMemory early h = h
+refused_early v u form payload (refusal.Full line lines end) early h = absurd early
+
+-- what came behind the parse came of a record
+pub late_cause : (form : Form) (payload : List ℕ) (e : IngestRefusal) → IsLate e → is_record form payload ≡ true
+    → IsCause form payload e
+late_cause form payload refusal.OutOfMemory late h = tt
+late_cause form payload (refusal.Full line lines end) late h = h
+late_cause form payload refusal.TooLong late h = absurd late
+late_cause form payload refusal.NotRecord late h = absurd late

@@ -1,0 +1,19 @@
+-- What a call leaves of a pass.
+use Rattle.std.specs.Prelude.{ℕ, ◌≡◌, ◌≢◌, ◌⊎◌}
+use Rattle.fish_rule.specs.Logs.{Learns}
+use Rattle.fish_rule.specs.Views.{Among}
+use Rattle.fish_rule.specs.declared.view.Found.{Found}
+use Rattle.fish_rule.specs.declared.view.Kind.{Kind}
+use Rattle.fish_rule.specs.declared.view.View.{View}
+
+-- the second view is of the same pass, and knows what the first knew
+pub record GoesOn (v u : View) : Type 0 where
+  pub learns : Learns v u
+  pub lane : u.lane ≡ v.lane
+  pub out : u.out ≡ v.out
+  pub rows : u.rows ≡ v.rows
+  pub draft : u.draft ≡ v.draft
+
+-- what was found since are numbers of regions whose kind meets P
+abbrev pub OnlyFound : (Kind → Type 0) → View → View → Type 0
+OnlyFound P v u = (x : Found) → Among x u.learned.found → Among x v.learned.found ⊎ P x.kind

@@ -1,0 +1,150 @@
+//! The first half of an ingest: all but the publication.
+
+ghost use Rattle.std.specs.Prelude.{◌≡◌, ◌↔◌, ◌<◌, ◌≤◌, IfErr, IfOk, IsErrOf, None, length};
+ghost use Rattle.fish_epoch.specs.Definitions.{IsDefsOf};
+ghost use Rattle.fish_epoch.specs.Entering.{Keeps};
+ghost use Rattle.fish_ingest.specs.Placing.{CanPlace};
+ghost use Rattle.fish_ingest.specs.Records.{IsRead, refusal_of};
+ghost use Rattle.fish_ingest.specs.Starting.{CanStart, HasPrepared, HasRefused, HasStarted, IsCause, IsEarly, IsLate};
+ghost use Rattle.fish_ingest.specs.declared.refusal.IngestRefusal.TheVariants as refusal;
+ghost use Rattle.fish_rule.specs.Passes.{IsPassOf, view};
+ghost use Rattle.fish_rule.specs.declared.view.Epoch.TheVariants.{Confirmed};
+
+use crate::body::prepare;
+use crate::origin::Origin;
+use crate::pending::Pending;
+use crate::placing::place;
+use crate::prepared::Prepared;
+use crate::refusal::IngestRefusal;
+use fish_epoch::{Defs, enter, leave};
+use fish_layout::MAX_PAYLOAD;
+use fish_psf::{PsfRefusal, Record, Steps, parse};
+use fish_rule::{Log, Pass, is_shut, lane};
+use fish_value::Form;
+use std::alloc::{AllocError, Global};
+use std::marker::Brand;
+use std::sync::ledger::{Blank, Ledger};
+
+/// Stores a payload and links its key entries, and leaves it in flight: parses it, enters the
+/// registry's version, evaluates the definitions that are active there, takes all memory, claims,
+/// fills and links.
+pub fn start(
+    alloc: Global,
+    log: &Log,
+    pass: &mut Pass,
+    defs: &mut Defs,
+    form: Form,
+    payload: &[u8],
+) -> Result<Pending, IngestRefusal>
+    requires pass { IsPassOf log.now pass.old }
+    requires out { CanStart (view pass.old) }
+    requires defs { IsDefsOf (view pass.old) defs.old }
+    ensures pass { IsPassOf log.now pass.new }
+    ensures defs { IsDefsOf (view pass.new) defs.new }
+    ensures started { IfOk result (λ pending. HasStarted (view pass.old) form payload.now pending (view pass.new)) }
+
+    ensures too_long { IsErrOf result refusal.TooLong ↔ (MAX_PAYLOAD < length payload.now) }
+    ensures cause { IfErr result (IsCause form payload.now) }
+    ensures refused { IfErr result (λ e. HasRefused (view pass.old) form payload.now e (view pass.new)) }
+{
+    let found = parse_once(alloc, form, payload)?;
+    if let Some(shut) = is_shut(pass) {
+        return Err(IngestRefusal::from(shut));
+    }
+    start_read(alloc, log, pass, defs, form, &found, payload)
+}
+
+/// The same of a payload that was read, by a pass that isn't shut.
+fn start_read(
+    alloc: Global,
+    log: &Log,
+    pass: &mut Pass,
+    defs: &mut Defs,
+    form: Form,
+    found: &Record,
+    payload: &[u8],
+) -> Result<Pending, IngestRefusal>
+    requires pass { IsPassOf log.now pass.old }
+    requires out { CanStart (view pass.old) }
+    requires unshut { (view pass.old).shut ≡ None }
+    requires defs { IsDefsOf (view pass.old) defs.old }
+    requires read { IsRead form payload.now found.now }
+    ensures pass { IsPassOf log.now pass.new }
+    ensures defs { IsDefsOf (view pass.new) defs.new }
+    ensures started { IfOk result (λ pending. HasStarted (view pass.old) form payload.now pending (view pass.new)) }
+
+    ensures late { IfErr result IsLate }
+    ensures refused { IfErr result (λ e. HasRefused (view pass.old) form payload.now e (view pass.new)) }
+{
+    let version = enter(log, pass);
+    let made = prepare_at(alloc, log, pass, defs, version, form, found, payload);
+    let Ok(prepared) = made else {
+        leave(log, pass);
+        return Err(IngestRefusal::OutOfMemory);
+    };
+    match place(log, pass, prepared) {
+        Ok(pending) => Ok(pending),
+        Err(shut) => {
+            leave(log, pass);
+            Err(IngestRefusal::from(shut))
+        }
+    }
+}
+
+/// Makes the record that a payload is under the definitions of the version at which the pass is
+/// entered.
+fn prepare_at(
+    alloc: Global,
+    log: &Log,
+    pass: &mut Pass,
+    defs: &mut Defs,
+    version: u16,
+    form: Form,
+    found: &Record,
+    payload: &[u8],
+) -> Result<Prepared, AllocError>
+    requires pass { IsPassOf log.now pass.old }
+    requires live { 1 ≤ (view pass.old).lane }
+    requires version { ((view pass.old).learned.version ≡ version) × (version ≤ 512) }
+    requires defs { IsDefsOf (view pass.old) defs.old }
+    requires read { IsRead form payload.now found.now }
+    ensures pass { IsPassOf log.now pass.new }
+    ensures defs { IsDefsOf (view pass.new) defs.new }
+    ensures keeps { Keeps (view pass.old) (view pass.new) × ((view pass.new).epoch ≡ (view pass.old).epoch) }
+    ensures prepared { IfOk result (HasPrepared (view pass.new) version form payload.now) }
+{
+    defs.refresh(log, pass, version)?;
+    let origin = Origin {
+        lane: lane(pass),
+        version,
+        form,
+    };
+    prepare(alloc, defs.active(), origin, found, payload)
+}
+
+/// Reads a payload as a record of its form, with a counter of its own.
+fn parse_once(alloc: Global, form: Form, payload: &[u8]) -> Result<Record, IngestRefusal>
+    ensures read { IfOk result (IsRead form payload.now) }
+    ensures too_long { IsErrOf result refusal.TooLong ↔ (MAX_PAYLOAD < length payload.now) }
+    ensures cause { IfErr result (λ e. IsCause form payload.now e × IsEarly e) }
+{
+    parse_counted::<Brand>(alloc, Blank::new(1), form, payload)
+}
+
+/// The same with a counter of a blank.
+fn parse_counted<L: Ledger>(
+    alloc: Global,
+    blank: Blank,
+    form: Form,
+    payload: &[u8],
+) -> Result<Record, IngestRefusal>
+    requires name { blank.name ≡ L.name }
+    requires parts { blank.parts ≡ L.parts }
+    requires some { 0 < blank.parts }
+    ensures read { IfOk result (IsRead form payload.now) }
+    ensures too_long { IsErrOf result refusal.TooLong ↔ (MAX_PAYLOAD < length payload.now) }
+    ensures cause { IfErr result (λ e. IsCause form payload.now e × IsEarly e) }
+{
+    let mut parses = Steps::<L>::new(blank);
+    Ok(parse(alloc, form, payload, &mut parses)?)
+}
