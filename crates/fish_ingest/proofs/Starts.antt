@@ -140,11 +140,11 @@ are_defs v d s h =
 
 module _ (v a b : View) (version : ℕ) (entered : HasEntered v version a) (keeps : Keeps a b) where
   -- the pass on its way to the claim
-  on_way : GoesOn v b
+  pub on_way : GoesOn v b
   on_way = on_both v a b (on_keeps v a entered.keeps) (on_keeps a b keeps)
 
   -- a record that was prepared may be placed
-  pub may_place : (form : Form) (payload : List ℕ) (prepared : Prepared) → Stands v → CanStart v → v.shut ≡ None
+  unfoldable pub may_place : (form : Form) (payload : List ℕ) (prepared : Prepared) → Stands v → CanStart v → v.shut ≡ None
       → b.epoch ≡ a.epoch → HasPrepared b version form payload prepared → CanPlace b prepared
   may_place form payload prepared s can unshut epoch h =
       let at : b.epoch ≡ Confirmed version = epoch ∙ entered.epoch in

@@ -1,5 +1,5 @@
 -- The steps of the call, one after the other.
-use Rattle.std.proofs.Common.{◌≡◌, ℕ, List, refl, sym, ap, ◌∙◌, subst, Ok, Err}
+use Rattle.std.proofs.Common.{◌≡◌, ◌≤◌, ℕ, List, refl, sym, ap, ◌∙◌, subst, Ok, Err}
 use Rattle.fish_epoch.proofs.Reading.{defs_later}
 use Rattle.fish_ingest.proofs.Starts.{has_filled, has_started, idle_law, may_place, learns_retired, not_claimed_left}
 use Rattle.fish_ingest.proofs.Passed.{on_keeps}
@@ -35,9 +35,14 @@ returns-in_default-clause-defs c =
 
 pub returns-in-Ok-place-clause-defs : goal.returns-in-Ok-place-clause-defs
 returns-in-Ok-place-clause-defs c =
-    let may = place-requires-clause-can c in
-    defs_later (view c.prepare_at-made.new.pass) (view c.place.new.pass) c.prepare_at-made.new.defs
-    (c.in-Ok-place.ensures.placed may).on.learns c.prepare_at-made.ensures.defs
+    let v = view c.args.pass.now in
+    let a = view c.enter-version.new.pass in
+    let b = view c.prepare_at-made.new.pass in
+    let may = may_place v a b c.enter-version.result c.enter-version.ensures.entered c.prepare_at-made.ensures.keeps.0
+    c.args.form c.args.payload.now c.in-Ok.prepared c.requires.pass.stands c.requires.out c.requires.unshut
+    c.prepare_at-made.ensures.keeps.1 c.in-Ok.ensures.prepared in
+    defs_later b (view c.place.new.pass) c.prepare_at-made.new.defs (c.in-Ok-place.ensures.placed may).on.learns
+    c.prepare_at-made.ensures.defs
 
 pub returns-in-Ok-place-clause-started : goal.returns-in-Ok-place-clause-started
 returns-in-Ok-place-clause-started c =
@@ -54,10 +59,47 @@ returns-in-Ok-place-clause-started c =
 
 -- the claim that shut the pass
 pub leave-requires-in-Err-clause-idle : goal.leave-requires-in-Err-clause-idle
-leave-requires-in-Err-clause-idle c = ?
+leave-requires-in-Err-clause-idle c =
+    let v = view c.args.pass.now in
+    let a = view c.enter-version.new.pass in
+    let b = view c.prepare_at-made.new.pass in
+    let may = may_place v a b c.enter-version.result c.enter-version.ensures.entered c.prepare_at-made.ensures.keeps.0
+    c.args.form c.args.payload.now c.in-Ok.prepared c.requires.pass.stands c.requires.out c.requires.unshut
+    c.prepare_at-made.ensures.keeps.1 c.in-Ok.ensures.prepared in
+    let shut = c.in-Err.ensures.shut may in
+    record {
+      live = subst (λ (z : ℕ). 1 ≤ z)
+          (sym (shut.on.lane ∙ (on_keeps a b c.prepare_at-made.ensures.keeps.0).lane
+              ∙ (on_keeps v a c.enter-version.ensures.entered.keeps).lane)) c.requires.out.live;
+      idle = shut.idle;
+    }
 
 pub returns-in-Err-clause-defs : goal.returns-in-Err-clause-defs
-returns-in-Err-clause-defs c = ?
+returns-in-Err-clause-defs c =
+    let v = view c.args.pass.now in
+    let a = view c.enter-version.new.pass in
+    let b = view c.prepare_at-made.new.pass in
+    let may = may_place v a b c.enter-version.result c.enter-version.ensures.entered c.prepare_at-made.ensures.keeps.0
+    c.args.form c.args.payload.now c.in-Ok.prepared c.requires.pass.stands c.requires.out c.requires.unshut
+    c.prepare_at-made.ensures.keeps.1 c.in-Ok.ensures.prepared in
+    let u = view c.place.new.pass in
+    let w = view c.leave-in-Err.new.pass in
+    let d = c.prepare_at-made.new.defs in
+    defs_later u w d (learns_retired u w c.leave-in-Err.ensures.view)
+    (defs_later b u d (c.in-Err.ensures.shut may).on.learns c.prepare_at-made.ensures.defs)
 
 pub returns-in-Err-clause-refused : goal.returns-in-Err-clause-refused
-returns-in-Err-clause-refused c = ?
+unfolding may_place
+returns-in-Err-clause-refused c =
+    let v = view c.args.pass.now in
+    let a = view c.enter-version.new.pass in
+    let b = view c.prepare_at-made.new.pass in
+    let may = may_place v a b c.enter-version.result c.enter-version.ensures.entered c.prepare_at-made.ensures.keeps.0
+    c.args.form c.args.payload.now c.in-Ok.prepared c.requires.pass.stands c.requires.out c.requires.unshut
+    c.prepare_at-made.ensures.keeps.1 c.in-Ok.ensures.prepared in
+    subst (λ (e : IngestRefusal). HasRefused v c.args.form c.args.payload.now e (view c.leave-in-Err.new.pass))
+    (sym c.from.ensures)
+    (has_filled v a b c.enter-version.result c.enter-version.ensures.entered c.prepare_at-made.ensures.keeps.0
+        c.args.form c.args.payload.now c.in-Ok.prepared c.in-Err.shut (view c.place.new.pass)
+        (view c.leave-in-Err.new.pass) c.requires.unshut c.in-Ok.ensures.prepared may.lines may.size
+        (c.in-Err.ensures.shut may) c.leave-in-Err.ensures.view)
