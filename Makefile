@@ -4,7 +4,7 @@ PROGRAM = crates/fishstore/out/fishstore
 EXAMPLE = select 'take type' '"PushEvent"' examples/events.jsonl
 CRATES = $(shell sed -n 's/^\([a-z0-9_]*\).*:.*/\1/p' crates.txt)
 
-.PHONY: demo build test gate install bench bench_log clean
+.PHONY: demo build test gate install bench bench_log bench_ingest clean
 
 # Proves and builds the program, and runs it on the example.
 demo: build
@@ -33,6 +33,11 @@ bench: build
 bench_log:
 	cd crates/bench_log && rt run > /dev/null
 	bench/log.sh
+
+# Times ingest of events beside parsing them alone.
+bench_ingest:
+	cd crates/bench_ingest && rt run -- data/events.jsonl > /dev/null
+	bench/ingest.sh
 
 clean:
 	rm -rf crates/*/out bench/data
