@@ -1,6 +1,6 @@
 //! The words of a record from its payload.
 
-ghost use Rattle.std.specs.Prelude.{◌≡◌, IfOk, IfSome, IsUtf8, option_map};
+ghost use Rattle.std.specs.Prelude.{◌≡◌, option_map, IfOk, IfSome};
 ghost use Rattle.fish_ingest.specs.Definitions.{AreDefs};
 ghost use Rattle.fish_ingest.specs.Entries.{AreEntriesFor, IsEntry, IsShort};
 ghost use Rattle.fish_ingest.specs.Records.{IsOrigin, IsPreparedFor, IsRead};
@@ -11,13 +11,13 @@ ghost use Rattle.fish_rule.specs.Keys.{property};
 
 use crate::origin::Origin;
 use crate::prepared::Prepared;
-use fish_layout::{BodyParts, KeyPart, KeyParts, body_of};
+use fish_layout::{BodyHead, KeyPart, KeyParts, body_from};
 use fish_psf::{ActiveDef, Record, eval};
-use fish_value::{Text, Value};
+use fish_value::Value;
 use std::alloc::{AllocError, Global};
 
-/// Makes the record that a payload is, with a key entry for each definition that gives a value for what
-/// was read of it, and number 0.
+/// Makes the record that a payload is, with a key entry for each definition that gives a value for it,
+/// and number 0. The caller has parsed the payload, which is copied once, into the words.
 pub fn prepare(
     alloc: Global,
     defs: &[ActiveDef],
@@ -31,28 +31,14 @@ pub fn prepare(
     ensures { IfOk result (IsPreparedFor defs.now origin payload.now) }
 {
     let keys = entries_of(alloc, defs, found)?;
-    let parts = BodyParts {
+    let head = BodyHead {
         form: origin.form,
         lane: origin.lane,
         version: origin.version,
         number: 0,
-        keys,
-        payload: text_of(alloc, payload)?,
     };
-    let body = body_of(alloc, &parts)?;
-    let BodyParts { keys, .. } = parts;
+    let body = body_from(alloc, head, keys.as_slice(), payload)?;
     Ok(Prepared { body, keys })
-}
-
-/// A copy of bytes that are a text.
-fn text_of(alloc: Global, b: &[u8]) -> Result<Text, AllocError>
-    requires { IsUtf8 b.now }
-    ensures { IfOk result (λ text. text ≡ b.now) }
-{
-    match Text::from_bytes(alloc, b)? {
-        Some(text) => Ok(text),
-        None => unreachable!(),
-    }
 }
 
 /// The key entries of a record, with no previous nodes.
