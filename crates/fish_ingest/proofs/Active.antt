@@ -3,11 +3,15 @@ use Rattle.std.proofs.Common.{◌≡◌, ℕ, zero, suc, ◌+◌, ◌<◌, ◌�
 use Rattle.std.proofs.Common.{length, get_or, map, slice_get, refl, sym, ap, ◌∙◌, subst, arith}
 use Rattle.std.specs.Prelude.{cond, filter}
 use Rattle.std.specs.List.Sorted.{IsStrictlyIncreasing}
+use Rattle.fish_catalog.proofs.ActiveTexts.{active_of_catalog}
 use Rattle.fish_catalog.specs.Rows.{IsCatalog, is_active}
 use Rattle.fish_catalog.specs.declared.catalog.TheConstants.{MAX_ROWS}
 use Rattle.fish_catalog.specs.declared.row.CatRow.{CatRow}
+use Rattle.fish_claim.proofs.Known.{knows_start}
 use Rattle.fish_psf.specs.declared.key.ActiveDef.{ActiveDef}
 use Rattle.fish_rule.specs.Keys.{AreActive, text_of}
+use Rattle.fish_rule.specs.Registry.{KnowsActive}
+use Rattle.fish_rule.specs.declared.view.Learned.{Learned}
 use Rattle.fish_ingest.specs.Definitions.{AreDefs, id_of}
 
 -- the numbers ascend from a least one on, below 256
@@ -86,3 +90,8 @@ active_defs {rows} {defs} h active =
     λ k row at. let e = h.ids k row at in omega arith in
     let ascend : AscendFrom 0 (map row_id (filter is_active rows)) = active_ascend 0 rows (omega arith) numbered in
     defs_ascend defs (subst (AscendFrom 0) (sym (ids_same rows defs active)) ascend)
+
+-- at version 0 the definitions of the start are active, whatever else was learned
+pub knows_active : (rows : List CatRow) (l : Learned) (defs : List ActiveDef) → AreActive rows defs
+    → KnowsActive rows l 0 (map text_of defs)
+knows_active rows l defs h = subst (KnowsActive rows l 0) (active_of_catalog rows ∙ sym h) (knows_start rows l)

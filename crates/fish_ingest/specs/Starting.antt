@@ -1,6 +1,8 @@
 -- What an ingest asks of a pass, and what it leaves behind.
 use Rattle.std.specs.Prelude.{ℕ, ◌≡◌, ◌≢◌, ◌⊎◌, ◌<◌, ◌≤◌, List, [], ◌∷◌, ◌++◌, length, map, None, Some, true, false, ⊤}
 use Rattle.fish_catalog.specs.declared.entry.Entry.TheVariants as entry
+use Rattle.fish_epoch.specs.Definitions.{IsDefsOf}
+use Rattle.fish_epoch.specs.declared.definitions.Defs.{Defs}
 use Rattle.fish_ingest.specs.Passing.{GoesOn, OnlyFound}
 use Rattle.fish_ingest.specs.Records.{ArePartsFor, IsPreparedFor}
 use Rattle.fish_ingest.specs.Writing.{HasStored}
@@ -16,9 +18,12 @@ use Rattle.fish_psf.specs.Records.{is_record}
 use Rattle.fish_psf.specs.declared.key.ActiveDef.{ActiveDef}
 use Rattle.fish_rule.specs.Keys.{text_of}
 use Rattle.fish_rule.specs.Logs.{Tells}
+use Rattle.fish_rule.specs.Passes.{IsPassOf, view}
 use Rattle.fish_rule.specs.Registry.{KnowsActive}
 use Rattle.fish_rule.specs.Steps.{CanPublish, flight_kind}
 use Rattle.fish_rule.specs.Views.{Among}
+use Rattle.fish_rule.specs.declared.table.Log.{Log}
+use Rattle.fish_rule.specs.declared.table.Pass.{Pass}
 use Rattle.fish_rule.specs.declared.view.Epoch.TheVariants.{Out}
 use Rattle.fish_rule.specs.declared.view.Flight.{Flight}
 use Rattle.fish_rule.specs.declared.view.Found.{Found}
@@ -33,6 +38,12 @@ use Rattle.fish_value.specs.declared.field.Form.{Form}
 pub record CanStart (v : View) : Type 0 where
   pub live : 1 ≤ v.lane
   pub outside : v.epoch ≡ Out
+
+-- the pass is one of the log and may start, and its definitions are those that it read
+pub record CanIngest (log : Log) (pass : Pass) (defs : Defs) : Type 0 where
+  pub of : IsPassOf log pass
+  pub start : CanStart (view pass)
+  pub defs : IsDefsOf (view pass) defs
 
 -- the number of a record that isn't published yet
 abbrev pub number_of : Pending → ℕ

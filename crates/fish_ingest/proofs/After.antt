@@ -1,0 +1,30 @@
+-- Where an ingest leaves a pass, whatever it answers.
+use Rattle.std.proofs.Common.{◌≡◌, ◌≤◌, ℕ, List, sym, subst}
+use Rattle.fish_ingest.specs.Starting.{CanStart, HasIngested, HasLeft, HasRefused}
+use Rattle.fish_ingest.specs.declared.refusal.IngestRefusal.{IngestRefusal}
+use Rattle.fish_ingest.specs.declared.refusal.IngestRefusal.TheVariants as refusal
+use Rattle.fish_rule.specs.declared.view.View.{View}
+use Rattle.fish_value.specs.declared.field.Form.{Form}
+
+-- it may start again behind a record
+pub starts_again : (v u : View) (form : Form) (payload : List ℕ) (number : ℕ) → CanStart v
+    → HasIngested v form payload number u → CanStart u
+starts_again v u form payload number can h = record {
+  live = subst (λ (z : ℕ). 1 ≤ z) (sym h.on.lane) can.live;
+  outside = h.outside;
+}
+
+-- behind a refusal it has left
+pub left_refused : (v u : View) (form : Form) (payload : List ℕ) (e : IngestRefusal) → HasRefused v form payload e u
+    → HasLeft v u
+left_refused v u form payload refusal.TooLong h = h.left
+left_refused v u form payload refusal.NotRecord h = h.left
+left_refused v u form payload refusal.OutOfMemory h = h.left
+left_refused v u form payload (refusal.Full line lines end) h = h.left
+
+-- so it may start again there too
+pub starts_refused : (v u : View) → CanStart v → HasLeft v u → CanStart u
+starts_refused v u can h = record {
+  live = subst (λ (z : ℕ). 1 ≤ z) (sym h.on.lane) can.live;
+  outside = h.outside;
+}
