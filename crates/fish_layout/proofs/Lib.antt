@@ -10,6 +10,7 @@ pub mod Links
 pub mod Numbers
 pub mod Once
 pub mod Outlines
+pub mod PowersOfTwo
 pub mod Sizes
 pub mod Spelled
 pub mod Utf8

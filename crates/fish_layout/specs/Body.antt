@@ -8,6 +8,7 @@ use Rattle.fish_value.specs.declared.value.Value.TheVariants as kind
 use Rattle.fish_layout.specs.Bytes.{words_of_bytes}
 use Rattle.fish_layout.specs.Header.{form_code, header_word}
 use Rattle.fish_layout.specs.Values.{kind_code, value_bytes}
+use Rattle.fish_layout.specs.declared.parts.BodyHead.{BodyHead}
 use Rattle.fish_layout.specs.declared.parts.BodyParts.{BodyParts}
 use Rattle.fish_layout.specs.declared.parts.KeyPart.{KeyPart}
 
@@ -38,6 +39,18 @@ abbrev pub values_of : List KeyPart → List ℕ
 values_of ks = flat_map (λ k. value_bytes k.value) ks
 
 -- ---- the whole
+
+-- the parts of a record with this head, these key entries and this payload
+abbrev pub parts_of : BodyHead → List KeyPart → List ℕ → BodyParts
+parts_of head keys payload =
+    record {
+      form = head.form;
+      lane = head.lane;
+      version = head.version;
+      number = head.number;
+      keys = keys;
+      payload = payload;
+    }
 
 -- the words behind the header, without the padding: the key entries, the values and the payload
 abbrev pub words_behind : BodyParts → List ℕ

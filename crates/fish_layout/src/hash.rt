@@ -28,7 +28,12 @@ pub fn bucket_of(hash: u64, buckets: u64) -> u64
     ensures value { result ≡ bucket_in hash buckets }
     ensures fits { result < buckets }
 {
-    hash % buckets
+    if buckets.is_power_of_two() {
+        // a mask takes one step, a division some twenty
+        hash & (buckets - 1)
+    } else {
+        hash % buckets
+    }
 }
 
 /// The hash with a value's bytes behind those that it has seen.

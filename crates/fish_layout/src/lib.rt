@@ -21,7 +21,9 @@ mod write;
 pub use body::{Body, set_number};
 pub use hash::{bucket_of, key_hash};
 pub use header::{Header, header_of, void_header};
-pub use parts::{BodyParts, KeyPart, KeyParts, MAX_KEYS, MAX_LANE, MAX_PAYLOAD, MAX_VERSION};
+pub use parts::{
+    BodyHead, BodyParts, KeyPart, KeyParts, MAX_KEYS, MAX_LANE, MAX_PAYLOAD, MAX_VERSION,
+};
 pub use read::{Payload, read_body, read_payload};
 pub use word::{id_in, keys_in, lines_in, number_in, place_in};
-pub use write::body_of;
+pub use write::{body_from, body_of};

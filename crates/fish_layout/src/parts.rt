@@ -28,6 +28,18 @@ pub struct KeyPart {
 /// Properties in order.
 pub type KeyParts = Sequence<KeyPart>;
 
+/// What a record says of itself, beside its properties and its payload.
+#[derive(Clone, Copy, Debug, PartialEq, Eq)]
+pub struct BodyHead {
+    pub form: Form,
+    /// The lane that stored it, from 1 on.
+    pub lane: u8,
+    /// The version of the registry under which it was stored.
+    pub version: u16,
+    /// Its place in the order of claims.
+    pub number: u32,
+}
+
 /// All that stands in the words of a record.
 #[derive(Debug, Drop)]
 pub struct BodyParts {

@@ -2,44 +2,64 @@
 
 ghost use Rattle.std.specs.Prelude.{◌≡◌, ◌+◌, ◌<◌, ◌≤◌, ◌^◌, ◌++◌, ◌∷◌, [], IfOk, OnOk, length, slice_index};
 ghost use Rattle.fish_layout.specs.Body.{AreProperKeys, IsProper, IsProperValue, body_header};
-ghost use Rattle.fish_layout.specs.Body.{body_lines, body_words, entry_word, key_words};
+ghost use Rattle.fish_layout.specs.Body.{body_lines, body_words, entry_word, key_words, parts_of};
 ghost use Rattle.fish_layout.specs.Body.{value_word, values_of, words_behind};
 ghost use Rattle.std.specs.Int.{from_le_bytes};
 ghost use Rattle.std.specs.Int.Width.{w64};
 ghost use Rattle.fish_layout.specs.Bytes.{words_for as words_for_bytes, words_of_bytes};
 ghost use Rattle.fish_layout.specs.Values.{kind_code, value_bytes};
+ghost use Rattle.fish_layout.specs.declared.parts.BodyHead.{BodyHead};
 
 use crate::body::Body;
 use crate::header::Header;
-use crate::parts::{BodyParts, KeyPart};
+use crate::parts::{BodyHead, BodyParts, KeyPart};
 use crate::word::{pack_entry, pack_header, pack_value};
 use fish_value::Value;
+use smallvec::SmallVec;
 use std::alloc::{AllocError, Global};
+
+/// The bytes of a record's values. A few take no memory of their own.
+type ValueBytes = SmallVec<u8, 64>;
 
 /// The words of a record with these parts. They are taken from memory once, all together.
 pub fn body_of(alloc: Global, parts: &BodyParts) -> Result<Body, AllocError>
     requires { IsProper parts.now }
     ensures { IfOk result (λ body. body ≡ body_words parts.now) }
 {
-    let lines = count_lines(parts);
+    let head = BodyHead {
+        form: parts.form,
+        lane: parts.lane,
+        version: parts.version,
+        number: parts.number,
+    };
+    body_from(alloc, head, parts.keys.as_slice(), parts.payload.as_bytes())
+}
+
+/// The same from a head, key entries and the payload's bytes, which are copied into the words alone.
+pub fn body_from(
+    alloc: Global,
+    head: BodyHead,
+    keys: &[KeyPart],
+    payload: &[u8],
+) -> Result<Body, AllocError>
+    requires { IsProper (parts_of head keys.now payload.now) }
+    ensures { IfOk result (λ body. body ≡ body_words (parts_of head keys.now payload.now)) }
+{
+    let lines = count_lines(keys, payload);
     let mut words = Vec::with_capacity(alloc, lines * 4)?;
-    words.push(header_word_of(parts, lines))?;
-    push_words(alloc, &mut words, parts)?;
+    words.push(header_word_of(head, keys, payload, lines))?;
+    push_words(alloc, &mut words, head, keys, payload)?;
     words.resize(lines * 4, 0)?;
     Ok(Body::of_words(words))
 }
 
 /// How many lines a record takes.
-fn count_lines(parts: &BodyParts) -> usize
-    requires { IsProper parts.now }
-    ensures value { result ≡ body_lines parts.now }
+fn count_lines(keys: &[KeyPart], payload: &[u8]) -> usize
+    requires { (head : BodyHead) × IsProper (parts_of head keys.now payload.now) }
+    ensures value { (head : BodyHead) → result ≡ body_lines (parts_of head keys.now payload.now) }
     ensures fits { result ≤ 18625 }
 {
-    let keys = parts.keys.as_slice();
-    let words = 1
-        + 3 * keys.len()
-        + words_for(value_len(keys))
-        + words_for(parts.payload.as_bytes().len());
+    let words = 1 + 3 * keys.len() + words_for(value_len(keys)) + words_for(payload.len());
     (words + 3) / 4
 }
 
@@ -76,31 +96,37 @@ fn byte_len(value: &Value) -> usize
 }
 
 /// The header of a record.
-fn header_word_of(parts: &BodyParts, lines: usize) -> u64
-    requires proper { IsProper parts.now }
-    requires lines { lines ≡ body_lines parts.now }
-    ensures { result ≡ body_header parts.now }
+fn header_word_of(head: BodyHead, keys: &[KeyPart], payload: &[u8], lines: usize) -> u64
+    requires proper { IsProper (parts_of head keys.now payload.now) }
+    requires lines { lines ≡ body_lines (parts_of head keys.now payload.now) }
+    ensures { result ≡ body_header (parts_of head keys.now payload.now) }
 {
     let header = Header {
         lines: lines as u64,
-        form: Some(parts.form),
-        keys: parts.keys.len() as u16,
-        lane: parts.lane,
-        version: parts.version,
-        length: parts.payload.as_bytes().len() as u32,
+        form: Some(head.form),
+        keys: keys.len() as u16,
+        lane: head.lane,
+        version: head.version,
+        length: payload.len() as u32,
     };
-    pack_header(parts.form, &header)
+    pack_header(head.form, &header)
 }
 
 /// Puts the words behind the header behind the others, without the padding.
-fn push_words(alloc: Global, words: &mut Vec<u64>, parts: &BodyParts) -> Result<(), AllocError>
-    requires { IsProper parts.now }
-    ensures { OnOk result (words.new.items ≡ words.old.items ++ words_behind parts.now) }
+fn push_words(
+    alloc: Global,
+    words: &mut Vec<u64>,
+    head: BodyHead,
+    keys: &[KeyPart],
+    payload: &[u8],
+) -> Result<(), AllocError>
+    requires { IsProper (parts_of head keys.now payload.now) }
+    ensures { OnOk result (words.new.items ≡ words.old.items
+        ++ words_behind (parts_of head keys.now payload.now)) }
 {
-    let keys = parts.keys.as_slice();
-    push_keys(words, parts.number, keys)?;
+    push_keys(words, head.number, keys)?;
     push_values(alloc, words, keys)?;
-    push_bytes(words, parts.payload.as_bytes())
+    push_bytes(words, payload)
 }
 
 /// Puts the words of key entries behind the others.
@@ -151,7 +177,7 @@ fn code_of_kind(value: &Value) -> u64
 fn push_values(alloc: Global, words: &mut Vec<u64>, keys: &[KeyPart]) -> Result<(), AllocError>
     ensures { OnOk result (words.new.items ≡ words.old.items ++ words_of_bytes (values_of keys.now)) }
 {
-    let mut bytes = Vec::new(alloc);
+    let mut bytes = SmallVec::new(alloc);
     for key in keys {
         push_value(&mut bytes, &key.value)?;
     }
@@ -159,7 +185,7 @@ fn push_values(alloc: Global, words: &mut Vec<u64>, keys: &[KeyPart]) -> Result<
 }
 
 /// Puts the bytes of a value behind the others.
-fn push_value(bytes: &mut Vec<u8>, value: &Value) -> Result<(), AllocError>
+fn push_value(bytes: &mut ValueBytes, value: &Value) -> Result<(), AllocError>
     ensures { OnOk result (bytes.new.items ≡ bytes.old.items ++ value_bytes value.now) }
 {
     match value {

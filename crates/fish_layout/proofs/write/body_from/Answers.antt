@@ -1,13 +1,13 @@
 -- The header, the words behind it and the padding follow one another.
 use Rattle.std.proofs.Common.{◌≡◌, ◌+◌, ◌-◌, ◌*◌, [], ◌∷◌, ◌++◌, length, take, replicate, ap, ◌∙◌, arith, vec_len}
 use Rattle.std.proofs.lemmas.List.{take_all}
-use Rattle.fish_layout.specs.Body.{body_header, body_words, words_behind}
-use Rattle.fish_layout.proofs.write.body_of.Goals as goal
+use Rattle.fish_layout.specs.Body.{body_header, body_words, parts_of, words_behind}
+use Rattle.fish_layout.proofs.write.body_from.Goals as goal
 
 pub returns : goal.returns
 unfolding body_words
 returns c =
-    let p = c.args.parts.now in
+    let p = parts_of c.args.head c.args.keys.now c.args.payload.now in
     let front = body_header p ∷ words_behind p in
     let made : c.push_words.new.words.items ≡ front =
     c.in_ok-push_words.ensures
@@ -16,7 +16,7 @@ returns c =
     ∙ ap (λ x. x ∷ words_behind p) c.header_word_of.ensures in
     let size : vec_len c.push_words.new.words ≡ 1 + length (words_behind p) =
     omega (arith, ap length made, c.push_words.new.words.ok.0) in
-    let lines = c.count_lines-lines.ensures.value in
+    let lines = c.count_lines-lines.ensures.value c.args.head in
     c.of_words.ensures
     ∙ c.in_ok-resize.ensures.items
     ∙ ap (λ l.
