@@ -1,69 +1,44 @@
 //! The words of a record from its payload.
 
-ghost use Rattle.std.specs.Prelude.{◌≡◌, ◌≢◌, ◌↔◌, ◌+◌, ◌<◌, ◌≤◌, false, length, option_map};
-ghost use Rattle.std.specs.Prelude.{IfErr, IfOk, IfSome, IsErrOf, IsUtf8};
+ghost use Rattle.std.specs.Prelude.{◌≡◌, option_map, IfOk, IfSome};
 ghost use Rattle.fish_ingest.specs.Definitions.{AreDefs};
 ghost use Rattle.fish_ingest.specs.Entries.{AreEntriesFor, IsEntry, IsShort};
-ghost use Rattle.fish_ingest.specs.Records.{IsOrigin, IsPreparedFor};
+ghost use Rattle.fish_ingest.specs.Records.{IsOrigin, IsPreparedFor, IsRead};
 ghost use Rattle.fish_layout.specs.Body.{IsProperValue};
 ghost use Rattle.fish_psf.specs.Fields.{fields_of};
 ghost use Rattle.fish_psf.specs.Keys.{key_of};
-ghost use Rattle.fish_psf.specs.Records.{is_record};
 ghost use Rattle.fish_rule.specs.Keys.{property};
 
 use crate::origin::Origin;
 use crate::prepared::Prepared;
-use crate::refusal::IngestRefusal;
-use fish_layout::{BodyParts, KeyPart, KeyParts, MAX_PAYLOAD, body_of};
-use fish_psf::{ActiveDef, Record, Steps, eval, parse};
-use fish_value::{Text, Value};
+use fish_layout::{BodyHead, KeyPart, KeyParts, body_from};
+use fish_psf::{ActiveDef, Record, eval};
+use fish_value::Value;
 use std::alloc::{AllocError, Global};
-use std::sync::ledger::Ledger;
 
 /// Makes the record that a payload is, with a key entry for each definition that gives a value for it,
-/// and number 0. The payload is parsed once and copied twice.
-pub fn prepare<L: Ledger>(
+/// and number 0. The caller has parsed the payload, which is copied once, into the words.
+pub fn prepare(
     alloc: Global,
     defs: &[ActiveDef],
     origin: Origin,
+    found: &Record,
     payload: &[u8],
-    parses: &mut Steps<L>,
-) -> Result<Prepared, IngestRefusal>
+) -> Result<Prepared, AllocError>
     requires defs { AreDefs defs.now }
     requires origin { IsOrigin origin }
-    ensures prepared { IfOk result (IsPreparedFor defs.now origin payload.now) }
-    ensures counted { parses.new ≡ parses.old + 1 }
-
-    ensures too_long { IsErrOf result IngestRefusal.TooLong ↔ (MAX_PAYLOAD < length payload.now) }
-    ensures not_record { IsErrOf result IngestRefusal.NotRecord
-        → (length payload.now ≤ MAX_PAYLOAD) × (is_record origin.form payload.now ≡ false) }
-    ensures none { IfErr result (λ e. e ≢ IngestRefusal.OutOfMemory
-        → is_record origin.form payload.now ≡ false) }
+    requires read { IsRead origin.form payload.now found.now }
+    ensures { IfOk result (IsPreparedFor defs.now origin payload.now) }
 {
-    let found = parse(alloc, origin.form, payload, parses)?;
-    let keys = entries_of(alloc, defs, &found)?;
-    let parts = BodyParts {
+    let keys = entries_of(alloc, defs, found)?;
+    let head = BodyHead {
         form: origin.form,
         lane: origin.lane,
         version: origin.version,
         number: 0,
-        keys,
-        payload: text_of(alloc, payload)?,
     };
-    let body = body_of(alloc, &parts)?;
-    let BodyParts { keys, .. } = parts;
+    let body = body_from(alloc, head, keys.as_slice(), payload)?;
     Ok(Prepared { body, keys })
-}
-
-/// A copy of bytes that are a text.
-fn text_of(alloc: Global, b: &[u8]) -> Result<Text, AllocError>
-    requires { IsUtf8 b.now }
-    ensures { IfOk result (λ text. text ≡ b.now) }
-{
-    match Text::from_bytes(alloc, b)? {
-        Some(text) => Ok(text),
-        None => unreachable!(),
-    }
 }
 
 /// The key entries of a record, with no previous nodes.

@@ -1,27 +1,20 @@
 -- The parts that were put together are those of the payload, and proper.
-use Rattle.std.proofs.Common.{refl}
-use Rattle.fish_psf.specs.Fields.{fields_of}
-use Rattle.fish_ingest.proofs.Parts.{are_read, body_for, parts_proper}
-use Rattle.fish_ingest.proofs.Payloads.{record_text}
+use Rattle.std.proofs.Common.{refl, sym, ap, ◌∙◌, subst}
+use Rattle.fish_layout.specs.Body.{IsProper, body_words, parts_of}
+use Rattle.fish_ingest.proofs.Parts.{body_for, head_of, parts_proper}
 use Rattle.fish_ingest.proofs.body.prepare.Goals as goal
 
--- a record is a text
-pub text_of-requires : goal.text_of-requires
-text_of-requires g c = record_text c.args.origin.form c.args.payload.now c.in_ok-found.ensures.accepted
-
--- the fields that the entries are made of are the payload's
-pub body_of-requires : goal.body_of-requires
-body_of-requires g c =
-    let found = c.in_ok-found.ensures in
-    parts_proper c.requires.defs c.requires.origin
-    (are_read (fields_of c.in_ok-found.found) found.fields c.in_ok-keys.ensures c.in_ok-text_of.ensures found.accepted)
+-- the entries are those of the record that was read
+pub body_from-requires : goal.body_from-requires
+body_from-requires c =
+    subst (λ keys. IsProper (parts_of (head_of c.args.origin) keys c.args.payload.now)) (sym c.as_slice.ensures)
+    (parts_proper c.requires.defs c.requires.origin c.requires.read c.in_ok-keys.ensures)
 
 -- and so are the words, and the keys
-pub returns-clause-prepared : goal.returns-clause-prepared
+pub returns : goal.returns
 unfolding body_for
-returns-clause-prepared g c =
-    let found = c.in_ok-found.ensures in
-    let made = body_for c.requires.defs c.requires.origin
-    (are_read (fields_of c.in_ok-found.found) found.fields c.in_ok-keys.ensures c.in_ok-text_of.ensures
-    found.accepted) c.in_ok-body.ensures in
+returns c =
+    let words = c.in_ok-body.ensures
+    ∙ ap (λ keys. body_words (parts_of (head_of c.args.origin) keys c.args.payload.now)) c.as_slice.ensures in
+    let made = body_for c.requires.defs c.requires.origin c.requires.read c.in_ok-keys.ensures words in
     (made, refl)
