@@ -8,7 +8,7 @@ ghost use Rattle.fish_rule.specs.Passes.{IsPassOf, view};
 
 use fish_claim::{Claimed, claim, publish};
 use fish_ingest::{Origin, Prepared, prepare, write_record};
-use fish_psf::{ActiveDef, Steps};
+use fish_psf::{ActiveDef, Steps, parse};
 use fish_rule::{Log, Pass, in_flight, is_shut, lane};
 use fish_value::Form;
 use std::alloc::Global;
@@ -73,7 +73,10 @@ fn prepared<P: Ledger>(
     ensures { IfOk result (IsPreparedFor defs.now origin payload.now) }
 {
     let mut steps = Steps::<P>::new(blank);
-    match prepare(alloc, defs, origin, payload, &mut steps) {
+    let Ok(found) = parse(alloc, origin.form, payload, &mut steps) else {
+        return Err(NotStored);
+    };
+    match prepare(alloc, defs, origin, &found, payload) {
         Ok(prepared) => Ok(prepared),
         Err(_) => Err(NotStored),
     }

@@ -10,6 +10,7 @@ use Rattle.fish_psf.specs.declared.key.ActiveDef.{ActiveDef}
 use Rattle.fish_psf.specs.declared.record.Record.{Record}
 use Rattle.fish_psf.specs.declared.reading.PsfRefusal.{PsfRefusal}
 use Rattle.fish_psf.specs.declared.reading.PsfRefusal.TheVariants as parsing
+use Rattle.fish_psf.specs.declared.record.Record.{Record}
 use Rattle.fish_rule.specs.Keys.{property}
 use Rattle.fish_value.specs.declared.field.Form.{Form}
 use Rattle.fish_ingest.specs.declared.origin.Origin.{Origin}

@@ -1,9 +1,9 @@
 //! Payloads of both forms, with key entries that are worked out by hand, and the words of one record
 //! that another program packed by the table of bits.
 
-ghost use Rattle.std.specs.Prelude.{◌≡◌, ◌<◌, IsTrue};
+ghost use Rattle.std.specs.Prelude.{◌≡◌, ◌<◌, IfOk, IsTrue};
 ghost use Rattle.fish_ingest.specs.Definitions.{AreDefs};
-ghost use Rattle.fish_ingest.specs.Records.{IsOrigin};
+ghost use Rattle.fish_ingest.specs.Records.{IsOrigin, IsPreparedFor};
 
 mod chains;
 mod definitions;
@@ -12,10 +12,10 @@ mod nodes;
 mod store;
 mod threads;
 
-use crate::{IngestRefusal, Origin, prepare};
+use crate::{IngestRefusal, Origin, Prepared, prepare};
 use fish_lang::parse_def;
 use fish_layout::{Body, BodyParts, MAX_PAYLOAD, read_body};
-use fish_psf::{ActiveDef, Steps};
+use fish_psf::{ActiveDef, Steps, parse};
 use fish_value::{Form, print_value};
 use std::alloc::{AllocError, Global};
 use std::marker::Brand;
@@ -84,6 +84,22 @@ fn four_defs(alloc: Global) -> Result<Vec<ActiveDef>, Fail> {
     Ok(defs)
 }
 
+/// Parses a payload, and makes the record that it is.
+fn parse_and_prepare<P: Ledger>(
+    alloc: Global,
+    defs: &[ActiveDef],
+    origin: Origin,
+    payload: &[u8],
+    parses: &mut Steps<P>,
+) -> Result<Prepared, IngestRefusal>
+    requires defs { AreDefs defs.now }
+    requires origin { IsOrigin origin }
+    ensures { IfOk result (IsPreparedFor defs.now origin payload.now) }
+{
+    let found = parse(alloc, origin.form, payload, parses)?;
+    Ok(prepare(alloc, defs, origin, &found, payload)?)
+}
+
 /// The words of a payload under the definitions.
 fn body<P: Ledger>(
     alloc: Global,
@@ -101,7 +117,7 @@ fn body<P: Ledger>(
         return Err(Fail::new("ids out of order"));
     }
     let mut parses = Steps::<P>::new(blank);
-    match prepare(alloc, defs.as_slice(), origin, payload, &mut parses) {
+    match parse_and_prepare(alloc, defs.as_slice(), origin, payload, &mut parses) {
         Ok(prepared) => Ok(Ok(prepared.body)),
         Err(IngestRefusal::OutOfMemory) => Err(Fail::from(AllocError)),
         Err(refusal) => Ok(Err(refusal)),

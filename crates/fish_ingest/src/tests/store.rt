@@ -11,7 +11,8 @@ ghost use Rattle.fish_rule.specs.Keys.{AreActive};
 ghost use Rattle.fish_rule.specs.Passes.{IsPassOf, view};
 ghost use Rattle.fish_rule.specs.declared.view.Flight.{Flight};
 
-use crate::{Origin, Prepared, prepare, write_record};
+use super::parse_and_prepare;
+use crate::{Origin, Prepared, write_record};
 use fish_claim::{Claimed, claim, publish};
 use fish_psf::{ActiveDef, Steps};
 use fish_rule::{Log, Pass, in_flight, is_shut, lane};
@@ -36,7 +37,7 @@ fn prepared<P: Ledger>(
     ensures { IfOk result (IsPreparedFor defs.now origin payload.now) }
 {
     let mut parses = Steps::<P>::new(blank);
-    match prepare(alloc, defs, origin, payload, &mut parses) {
+    match parse_and_prepare(alloc, defs, origin, payload, &mut parses) {
         Ok(prepared) => Ok(prepared),
         Err(_) => Err(AllocError),
     }
