@@ -1,4 +1,5 @@
 pub mod Active
+pub mod After
 pub mod Claiming
 pub mod Keys
 pub mod Parts

@@ -7,7 +7,6 @@ use Rattle.fish_psf.specs.Fields.{fields_of}
 use Rattle.fish_psf.specs.Keys.{keys_of}
 use Rattle.fish_psf.specs.Records.{fields_of_payload, is_record}
 use Rattle.fish_psf.specs.declared.key.ActiveDef.{ActiveDef}
-use Rattle.fish_psf.specs.declared.record.Record.{Record}
 use Rattle.fish_psf.specs.declared.reading.PsfRefusal.{PsfRefusal}
 use Rattle.fish_psf.specs.declared.reading.PsfRefusal.TheVariants as parsing
 use Rattle.fish_psf.specs.declared.record.Record.{Record}

@@ -43,7 +43,7 @@ pub record CanStart (v : View) : Type 0 where
 pub record CanIngest (log : Log) (pass : Pass) (defs : Defs) : Type 0 where
   pub of : IsPassOf log pass
   pub start : CanStart (view pass)
-  pub defs : IsDefsOf (view pass) defs
+  pub read : IsDefsOf (view pass) defs
 
 -- the number of a record that isn't published yet
 abbrev pub number_of : Pending → ℕ

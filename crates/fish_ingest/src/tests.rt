@@ -7,8 +7,10 @@ ghost use Rattle.fish_ingest.specs.Records.{IsOrigin, IsPreparedFor};
 
 mod chains;
 mod definitions;
+mod lanes;
 mod linked;
 mod nodes;
+mod refusals;
 mod store;
 mod threads;
 

@@ -9,8 +9,9 @@ ghost use Rattle.std.specs.Prelude.{IfOk};
 ghost use Rattle.fish_rule.specs.Passes.{IsPassOf};
 
 use super::definitions::defined;
+use super::lanes::{lane_of, store};
 use super::nodes::nodes_of;
-use super::store::{claimed, finish, store};
+use super::store::{claimed, publish_record};
 use fish_rule::{Log, Pass, Shape, open_log, split_pass};
 use std::alloc::Global;
 use std::test::Fail;
@@ -47,14 +48,14 @@ fn older_last(alloc: Global, older: &[u8], newer: &[u8]) -> Result<(Log, Pass), 
         bucket_bits: 4,
     };
     let (log, mut main) = open_log(alloc, shape, &start)?;
-    let mut other = split_pass(&log, &mut main, 2);
-    let Some(mut first) = claimed(alloc, &log, &mut main, defs.as_slice(), older)? else {
+    let mut other = lane_of(alloc, split_pass(&log, &mut main, 2));
+    let Some(first) = claimed(alloc, &log, &mut main, defs.as_slice(), older)? else {
         return Err(Fail::new("no place"));
     };
-    if !store(alloc, &log, &mut other, defs.as_slice(), newer)? {
+    if store(alloc, &log, &mut other, newer) != Ok(1) {
         return Err(Fail::new("no place"));
     }
-    finish(&log, &mut main, &mut first);
+    publish_record(&log, &mut main, first);
     Ok((log, main))
 }
 

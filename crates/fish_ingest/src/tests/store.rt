@@ -1,11 +1,11 @@
-//! Payloads into a log: each is prepared, its lines are claimed, and its words and entries written.
+//! A record whose claim, words and publication are calls of their own.
 //!
-//! What can't be fails as a want of memory does: an error crosses the join of threads only where it
-//! may be let go.
+//! What can't be fails as a want of memory does.
 
 ghost use Rattle.std.specs.Prelude.{◌≡◌, ◌<◌, IfOk, IfSome, None};
 ghost use Rattle.fish_ingest.specs.Definitions.{AreDefs};
 ghost use Rattle.fish_ingest.specs.Records.{IsOrigin, IsPreparedFor};
+ghost use Rattle.fish_ingest.specs.Starting.{CanStart};
 ghost use Rattle.fish_ingest.specs.Writing.{CanWrite};
 ghost use Rattle.fish_rule.specs.Keys.{AreActive};
 ghost use Rattle.fish_rule.specs.Passes.{IsPassOf, view};
@@ -14,6 +14,7 @@ ghost use Rattle.fish_rule.specs.declared.view.Flight.{Flight};
 use super::parse_and_prepare;
 use crate::{Origin, Prepared, write_record};
 use fish_claim::{Claimed, claim, publish};
+use fish_epoch::enter;
 use fish_psf::{ActiveDef, Steps};
 use fish_rule::{Log, Pass, in_flight, is_shut, lane};
 use fish_value::Form;
@@ -57,7 +58,8 @@ fn prepared_once(
     prepared::<Brand>(alloc, Blank::new(1), defs, origin, payload)
 }
 
-/// Prepares a payload in JSON and claims its lines. What was prepared, where a record was placed.
+/// Prepares a payload in JSON at version 0 and claims its lines. What was prepared, where a record was
+/// placed.
 pub(super) fn claimed(
     alloc: Global,
     log: &Log,
@@ -66,6 +68,7 @@ pub(super) fn claimed(
     payload: &[u8],
 ) -> Result<Option<Prepared>, AllocError>
     requires pass { IsPassOf log.now pass.old }
+    requires out { CanStart (view pass.old) }
     requires active { AreActive log.now.key.rows.value defs.now }
     requires defs { AreDefs defs.now }
     ensures pass { IsPassOf log.now pass.new }
@@ -74,7 +77,7 @@ pub(super) fn claimed(
     ensures out { (view pass.new).out ≡ (view pass.old).out }
 {
     let lane = lane(pass);
-    if lane < 1 || lane > 16 || in_flight(pass).is_some() || is_shut(pass).is_some() {
+    if lane > 16 || in_flight(pass).is_some() || is_shut(pass).is_some() {
         return Err(AllocError);
     }
     let origin = Origin {
@@ -84,7 +87,7 @@ pub(super) fn claimed(
     };
     let prepared = prepared_once(alloc, defs, origin, payload)?;
     let lines = prepared.lines();
-    if lines < 1 || lines > 18_625 {
+    if lines < 1 || lines > 18_625 || enter(log, pass) != 0 {
         return Err(AllocError);
     }
     match claim(log, pass, lines) {
@@ -94,9 +97,9 @@ pub(super) fn claimed(
 }
 
 /// Writes what was prepared for the record in flight, and publishes it.
-pub(super) fn finish(log: &Log, pass: &mut Pass, prepared: &mut Prepared)
+pub(super) fn publish_record(log: &Log, pass: &mut Pass, prepared: Prepared)
     requires pass { IsPassOf log.now pass.old }
-    requires can { (f : Flight) × CanWrite (view pass.old) f prepared.old }
+    requires can { (f : Flight) × CanWrite (view pass.old) f prepared }
     ensures pass { IsPassOf log.now pass.new }
     ensures idle { (view pass.new).flight ≡ None }
     ensures lane { (view pass.new).lane ≡ (view pass.old).lane }
@@ -104,24 +107,4 @@ pub(super) fn finish(log: &Log, pass: &mut Pass, prepared: &mut Prepared)
 {
     write_record(log, pass, prepared);
     publish(log, pass);
-}
-
-/// Stores a payload in JSON. Whether a record was placed.
-pub(super) fn store(
-    alloc: Global,
-    log: &Log,
-    pass: &mut Pass,
-    defs: &[ActiveDef],
-    payload: &[u8],
-) -> Result<bool, AllocError>
-    requires pass { IsPassOf log.now pass.old }
-    requires active { AreActive log.now.key.rows.value defs.now }
-    requires defs { AreDefs defs.now }
-    ensures { IsPassOf log.now pass.new }
-{
-    let Some(mut prepared) = claimed(alloc, log, pass, defs, payload)? else {
-        return Ok(false);
-    };
-    finish(log, pass, &mut prepared);
-    Ok(true)
 }

@@ -2,7 +2,7 @@
 use Rattle.std.proofs.Common.{ap, ◌∙◌}
 use Rattle.fish_rule.specs.declared.view.Flight.{Flight}
 use Rattle.fish_rule.specs.declared.view.View.{View}
-use Rattle.fish_ingest.proofs.tests.store.finish.Goals as goal
+use Rattle.fish_ingest.proofs.tests.store.publish_record.Goals as goal
 
 -- it is written with all its entries linked
 pub publish-requires-clause-view : goal.publish-requires-clause-view
