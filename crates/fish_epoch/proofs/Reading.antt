@@ -24,7 +24,9 @@ use Rattle.fish_rule.specs.Views.{Among}
 use Rattle.fish_rule.specs.declared.view.Key.{Key}
 use Rattle.fish_rule.specs.declared.view.RegistryWord.{RegistryWord}
 use Rattle.fish_rule.specs.declared.view.View.{View}
+use Rattle.fish_epoch.specs.Definitions.{IsDefsOf, version_of}
 use Rattle.fish_epoch.specs.Rows.{HasRow, HasWords, OnlyReads}
+use Rattle.fish_epoch.specs.declared.definitions.Defs.{Defs}
 
 -- ---- views
 
@@ -104,6 +106,14 @@ row_later v u id e h =
       reached = omega arith;
       there = λ g read. h.there g (read_fewer g v.learned.words u.learned.words e.words read);
     })
+
+-- definitions that were read stay so
+pub defs_later : (v u : View) (d : Defs) → Learns v u → IsDefsOf v d → IsDefsOf u d
+defs_later v u d e h read = record {
+  read = read;
+  rows = knows_later v u (version_of d) d.rows.items e (h read).rows;
+  active = (h read).active;
+}
 
 -- a row of the start is known
 pub first_known : (v : View) (id : ℕ) → id < length v.about.rows.value → KnowsRow v.about.rows.value v.learned id

@@ -3,7 +3,6 @@
 
 ghost use Rattle.std.specs.Prelude.{◌≡◌, IfOk};
 ghost use Rattle.fish_catalog.specs.Canonical.{IsCanonical};
-ghost use Rattle.fish_epoch.specs.Definitions.{AreRead, IsUnread, version_of};
 ghost use Rattle.fish_rule.specs.Passes.{IsPassOf, view};
 ghost use Rattle.fish_rule.specs.Table.{first_view};
 
@@ -19,6 +18,7 @@ use std::test::Fail;
 /// Definitions as their canonical texts, by id.
 const TEXTS: [&str; 3] = ["take type", "bucket n by 10", "flag when a = 1"];
 
+/// The canonical text of the definition that a source is.
 fn canonical(alloc: Global, source: &str) -> Result<Text, LangRefusal>
     ensures { IfOk result IsCanonical }
 {
@@ -54,7 +54,7 @@ fn two_passes_enter_and_leave(rt: HostRuntime) -> Result<(), Fail> {
     assert_eq!(rt; enter(&log, &mut other), 0);
     leave(&log, &mut other);
     leave(&log, &mut main);
-    // left and entered once more
+    // a pass that left enters once more
     assert_eq!(rt; enter(&log, &mut main), 0);
     join_pass(&log, &mut main, other);
     leave(&log, &mut main);
@@ -62,7 +62,7 @@ fn two_passes_enter_and_leave(rt: HostRuntime) -> Result<(), Fail> {
     Ok(())
 }
 
-/// Whether the active definitions are those of the log.
+/// Asserts that the active definitions are those of the log.
 fn expect_all_active<R: Abort>(rt: &R, alloc: Global, defs: &Defs) -> Result<(), Fail> {
     let active = defs.active();
     assert_eq!(rt; active.len(), TEXTS.len());
