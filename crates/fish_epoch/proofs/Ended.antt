@@ -1,9 +1,8 @@
 -- The end of one definition, by its place.
-use Rattle.std.proofs.Common.{◌≡◌, ◌≢◌, ℕ, ◌+◌, ◌<◌, ◌≤◌, zero, suc, List, [], ◌∷◌, length, map, set, get_or, sym, refl}
-use Rattle.std.proofs.Common.{ap, ◌∙◌, arith, Some, slice_get, false}
+use Rattle.std.proofs.Common.{◌≡◌, ℕ, ◌+◌, ◌<◌, ◌≤◌, zero, suc, List, [], ◌∷◌, length, set, get_or, sym, refl}
+use Rattle.std.proofs.Common.{ap, ◌∙◌, arith, Some, slice_get}
 use Rattle.std.proofs.Math.Decide.{ℕ_discrete}
 use Rattle.fish_layout.proofs.Clearing.{choose_first, choose_second}
-use Rattle.fish_layout.specs.Cleared.{choose}
 use Rattle.fish_catalog.specs.Listing.{IsListing, ended, ended_at}
 use Rattle.fish_catalog.specs.declared.listed.Listed.{Listed}
 

@@ -6,7 +6,7 @@ use Rattle.std.specs.Prelude.{slice_index, slice_set}
 use Rattle.std.proofs.Math.Decide.{ℕ_discrete, dec_lt}
 use Rattle.std.proofs.lemmas.List.{length-map}
 use Rattle.std.proofs.lemmas.Option.{same_Some, slice_get-get_or, slice_get-map}
-use Rattle.fish_catalog.proofs.RowWords.{active_back, listed_back, listed_same}
+use Rattle.fish_catalog.proofs.RowWords.{listed_back, listed_same}
 use Rattle.fish_catalog.specs.Listing.{IsListing, ended_at, listed_in, listed_of}
 use Rattle.fish_catalog.specs.Words.{row_word, was_active}
 use Rattle.fish_catalog.specs.declared.listed.Listed.{Listed}
@@ -17,10 +17,10 @@ use Rattle.fish_rule.proofs.Extending.{extends_both, extends_self}
 use Rattle.fish_rule.proofs.Registers.{length_registered}
 use Rattle.fish_rule.proofs.Registering.{listing_law}
 use Rattle.fish_rule.specs.Entering.{after_registry}
-use Rattle.fish_rule.specs.Logs.{Extends, Learns}
+use Rattle.fish_rule.specs.Logs.{Learns}
 use Rattle.fish_rule.specs.Registry.{HasRead, KnowsDefinitions, KnowsRow, definitions_at, made, op_at, row_at, row_in}
 use Rattle.fish_rule.specs.Table.{Stands}
-use Rattle.fish_rule.specs.Views.{AllOf, Among}
+use Rattle.fish_rule.specs.Views.{Among}
 use Rattle.fish_rule.specs.declared.view.Key.{Key}
 use Rattle.fish_rule.specs.declared.view.RegistryWord.{RegistryWord}
 use Rattle.fish_rule.specs.declared.view.View.{View}
@@ -110,6 +110,14 @@ row_later v u id e h =
       reached = omega arith;
       there = λ g read. h.there g (read_fewer g v.learned.words u.learned.words e.words read);
     })
+
+-- definitions that were read stay so
+pub defs_later : (v u : View) (d : Defs) → Learns v u → IsDefsOf v d → IsDefsOf u d
+defs_later v u d e h read = record {
+  read = read;
+  rows = knows_later v u (version_of d) d.rows.items e (h read).rows;
+  active = (h read).active;
+}
 
 -- a row of the start is known
 pub first_known : (v : View) (id : ℕ) → id < length v.about.rows.value → KnowsRow v.about.rows.value v.learned id

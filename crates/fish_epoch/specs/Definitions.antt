@@ -20,8 +20,10 @@ pub record IsUnread (d : Defs) : Type 0 where
   pub unread : d.read ≡ false
   pub version : version_of d ≡ 0
 
--- by the words that the pass has read, these are the definitions of their version, and the active ones among them
+-- they were read: by the words that the pass has read, these are the definitions of their version, and the active
+-- ones among them
 pub record AreRead (v : View) (d : Defs) : Type 0 where
+  pub read : d.read ≡ true
   pub rows : KnowsDefinitions v.about.rows.value v.learned (version_of d) d.rows.items
   pub active : map text_of (active_defs d) ≡ active_texts d.rows.items
 

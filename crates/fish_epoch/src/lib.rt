@@ -7,6 +7,8 @@
 mod definitions;
 mod entering;
 mod rows;
+#[cfg(test)]
+mod tests;
 
 pub use definitions::Defs;
 pub use entering::{enter, leave};

@@ -1,7 +1,7 @@
 -- The text is canonical, so it is a definition, with this text.
-use Rattle.std.proofs.Common.{◌≡◌, ◌∙◌, ℕ, List, sym, ap, subst, Ok, Err}
+use Rattle.std.proofs.Common.{ℕ, List, sym, ap, subst, Ok}
 use Rattle.std.specs.Prelude.{Result}
-use Rattle.fish_lang.specs.Definition.{Definition, definition_of}
+use Rattle.fish_lang.specs.Definition.{definition_of}
 use Rattle.fish_lang.specs.Language.{IsOutcome}
 use Rattle.fish_lang.specs.Outcome.{Gives}
 use Rattle.fish_lang.specs.declared.definition.Def.{Def}

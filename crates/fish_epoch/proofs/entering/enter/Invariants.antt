@@ -1,7 +1,6 @@
 -- The last round announced `version` and found `found`, and versions only rise, up to 512.
 use Rattle.std.proofs.Common.{◌-◌}
 use Rattle.fish_epoch.proofs.Rounds.{IsRound}
-use Rattle.fish_rule.specs.Entering.{CanEnter}
 use Rattle.fish_rule.specs.Passes.{IsPassOf, view}
 use Rattle.fish_epoch.proofs.entering.enter.Given as goal
 

@@ -1,5 +1,5 @@
 -- The definition at the place of the id ends, or there is none.
-use Rattle.std.proofs.Common.{◌≡◌, ◌∙◌, ℕ, ◌<◌, ◌≤◌, sym, ap, arith, length, get_or, set}
+use Rattle.std.proofs.Common.{◌∙◌, ℕ, ap, arith, get_or, set}
 use Rattle.fish_catalog.specs.Listing.{ended}
 use Rattle.fish_epoch.proofs.Ended.{ended_here, ended_none}
 use Rattle.fish_epoch.proofs.rows.end_row.Goals as goal

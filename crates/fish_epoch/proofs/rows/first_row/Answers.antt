@@ -1,5 +1,4 @@
 -- The words spell the definition of the row.
-use Rattle.std.proofs.Common.{◌≡◌, ◌∙◌, sym, Ok, Err, arith}
 use Rattle.std.specs.Prelude.{slice_index}
 use Rattle.fish_epoch.proofs.Reading.{first_listed}
 use Rattle.fish_rule.specs.Passes.{view}

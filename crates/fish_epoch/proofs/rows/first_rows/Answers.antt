@@ -1,5 +1,5 @@
 -- Each turn puts the definition of one row more behind the others.
-use Rattle.std.proofs.Common.{◌≡◌, ◌∙◌, ◌++◌, ◌∷◌, [], ℕ, ◌+◌, suc, sym, ap, arith, length, map, take, slice_get, List}
+use Rattle.std.proofs.Common.{◌≡◌, ◌∙◌, ◌++◌, ◌∷◌, [], ℕ, ◌+◌, suc, sym, ap, arith, map, take, slice_get, List}
 use Rattle.fish_catalog.specs.Listing.{listed_of}
 use Rattle.fish_catalog.specs.declared.listed.Listed.{Listed}
 use Rattle.fish_rule.specs.Passes.{view}

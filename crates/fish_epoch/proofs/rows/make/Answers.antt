@@ -1,13 +1,12 @@
 -- The operation is read, and then the row that it registers, or it ends one.
-use Rattle.std.proofs.Common.{◌≡◌, ◌∙◌, ◌++◌, ◌∷◌, [], ℕ, ◌+◌, ◌<◌, suc, sym, ap, subst, arith, length, List}
+use Rattle.std.proofs.Common.{◌≡◌, ℕ, suc, sym, ap, subst, arith, length, List}
 use Rattle.fish_catalog.specs.Listing.{IsListing}
 use Rattle.fish_catalog.specs.declared.listed.Listed.{Listed}
 use Rattle.fish_rule.specs.Passes.{view}
 use Rattle.fish_rule.specs.Registry.{KnowsDefinitions, KnowsRow, op_at}
 use Rattle.fish_rule.specs.Views.{Among}
-use Rattle.fish_rule.specs.declared.view.RegistryWord.{RegistryWord}
 use Rattle.fish_rule.specs.declared.view.View.{View}
-use Rattle.fish_epoch.proofs.Reading.{known_listing, knows_later, made_ended, made_registered, operation_read, reads_both}
+use Rattle.fish_epoch.proofs.Reading.{known_listing, made_registered, operation_read, reads_both}
 use Rattle.fish_epoch.proofs.Reading.{reads_word, registered_known}
 use Rattle.fish_epoch.specs.Rows.{OnlyReads}
 use Rattle.fish_epoch.proofs.rows.make.Goals as goal

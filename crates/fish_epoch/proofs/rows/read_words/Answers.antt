@@ -1,5 +1,5 @@
 -- One word more of the row is read.
-use Rattle.std.proofs.Common.{◌≡◌, ◌∙◌, ℕ, ◌+◌, ◌≤◌, ◌<◌, suc, sym, ap, subst, arith, length, length-set, Some, slice_get}
+use Rattle.std.proofs.Common.{◌≡◌, ◌∙◌, ℕ, ◌+◌, suc, subst, arith, length-set}
 use Rattle.std.specs.Prelude.{slice_index, slice_set}
 use Rattle.fish_rule.specs.Passes.{view}
 use Rattle.fish_epoch.proofs.Reading.{reads_both, reads_word, row_later, words_more}
