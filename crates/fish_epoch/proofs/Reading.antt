@@ -274,11 +274,6 @@ pub operation_read : (v u : View) (p x : ℕ) → u ≡ after_registry v p x
     → Among (record { index = p; value = x }) u.learned.words
 operation_read v u p x e = subst (λ (z : View). Among (record { index = p; value = x }) z.learned.words) (sym e) (inl refl)
 
--- what was read stays read
-pub defs_later : (v u : View) (d : Defs) → Learns v u → IsDefsOf v d → IsDefsOf u d
-defs_later v u d e h read = (let a = h read in
-    record { rows = knows_later v u (version_of d) d.rows.items e a.rows; active = a.active })
-
 -- ---- by their laws
 
 -- definitions that are known are a listing

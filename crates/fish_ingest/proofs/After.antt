@@ -1,5 +1,7 @@
 -- Where an ingest leaves a pass, whatever it answers.
-use Rattle.std.proofs.Common.{◌≡◌, ◌≤◌, ℕ, List, sym, subst}
+use Rattle.std.proofs.Common.{◌≡◌, ◌≤◌, ℕ, List, Result, Ok, Err, sym, subst}
+use Rattle.std.specs.Prelude.{IfErr, IfOk}
+use Rattle.fish_ingest.specs.Passing.{GoesOn}
 use Rattle.fish_ingest.specs.Starting.{CanStart, HasIngested, HasLeft, HasRefused}
 use Rattle.fish_ingest.specs.declared.refusal.IngestRefusal.{IngestRefusal}
 use Rattle.fish_ingest.specs.declared.refusal.IngestRefusal.TheVariants as refusal
@@ -28,3 +30,11 @@ starts_refused v u can h = record {
   live = subst (λ (z : ℕ). 1 ≤ z) (sym h.on.lane) can.live;
   outside = h.outside;
 }
+
+-- whatever it answers, the pass goes on and may start again
+pub goes_on : (v u : View) (form : Form) (payload : List ℕ) (answer : Result ℕ IngestRefusal) → CanStart v
+    → IfOk answer (λ number. HasIngested v form payload number u) → IfErr answer (λ e. HasRefused v form payload e u)
+    → CanStart u × GoesOn v u
+goes_on v u form payload (Ok number) can done refused = (starts_again v u form payload number can done, done.on)
+goes_on v u form payload (Err e) can done refused =
+    let left = left_refused v u form payload e refused in (starts_refused v u can left, left.on)

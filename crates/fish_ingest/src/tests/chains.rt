@@ -9,10 +9,10 @@ ghost use Rattle.std.specs.Prelude.{IfOk};
 ghost use Rattle.fish_rule.specs.Passes.{IsPassOf};
 
 use super::definitions::defined;
-use super::lanes::{lane_of, store};
+use super::lanes::{split_lane, store};
 use super::nodes::nodes_of;
 use super::store::{claimed, publish_record};
-use fish_rule::{Log, Pass, Shape, open_log, split_pass};
+use fish_rule::{Log, Pass, Shape, open_log};
 use std::alloc::Global;
 use std::test::Fail;
 
@@ -48,7 +48,7 @@ fn older_last(alloc: Global, older: &[u8], newer: &[u8]) -> Result<(Log, Pass), 
         bucket_bits: 4,
     };
     let (log, mut main) = open_log(alloc, shape, &start)?;
-    let mut other = lane_of(alloc, split_pass(&log, &mut main, 2));
+    let mut other = split_lane(alloc, &log, &mut main, 2);
     let Some(first) = claimed(alloc, &log, &mut main, defs.as_slice(), older)? else {
         return Err(Fail::new("no place"));
     };

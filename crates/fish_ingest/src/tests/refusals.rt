@@ -3,7 +3,7 @@
 //! A payload of 524,000 bytes takes 16,376 lines, and one of 600 bytes 19, so a third record doesn't fit
 //! behind two on the first page of 32,768 lines.
 
-ghost use Rattle.std.specs.Prelude.{IfOk};
+ghost use Rattle.std.specs.Prelude.{◌≤◌, IfOk};
 ghost use Rattle.fish_ingest.specs.Starting.{CanIngest};
 
 use super::definitions::defined;
@@ -31,8 +31,10 @@ fn opened(alloc: Global, pages: u16) -> Result<(Log, Lane), Fail>
         pages,
         bucket_bits: 4,
     };
-    let (log, main) = open_log(alloc, shape, &start)?;
-    Ok((log, lane_of(alloc, main)))
+    let opened = open_log(alloc, shape, &start)?;
+    let (log, main) = opened;
+    let lane = lane_of(alloc, &log, main);
+    Ok((log, lane))
 }
 
 /// A payload of so many bytes, without a type.

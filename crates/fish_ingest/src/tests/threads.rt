@@ -13,13 +13,13 @@ ghost use Rattle.fish_rule.specs.Seating.{without};
 ghost use Rattle.fish_rule.specs.Views.{Among};
 
 use super::definitions::defined;
-use super::lanes::{Lane, lane_of, store};
+use super::lanes::{Lane, split_lane, store};
 use super::linked::{Linked, links_in, links_of, push_nodes};
 use super::nodes::nodes_of;
 use super::store::{claimed, publish_record};
 use crate::IngestRefusal;
 use fish_catalog::{Entries, Entry};
-use fish_rule::{Log, Pass, Shape, close_log, in_flight, join_pass, lane as lane_number, open_log, split_pass};
+use fish_rule::{Log, Pass, Shape, close_log, in_flight, join_pass, lane as lane_number, open_log};
 use fish_value::{Form, Text};
 use fish_walk::settle;
 use std::alloc::{AllocError, Global};
@@ -208,12 +208,12 @@ fn four_threads_ingest_at_once(rt: HostRuntime) -> Result<(), Fail> {
     let (start, defs) = defined(alloc, SOURCES.as_slice())?;
     let (log, mut main) = open_log(alloc, shape, &start)?;
     let mut low = (
-        lane_of(alloc, split_pass(&log, &mut main, 2)),
-        lane_of(alloc, split_pass(&log, &mut main, 3)),
+        split_lane(alloc, &log, &mut main, 2),
+        split_lane(alloc, &log, &mut main, 3),
     );
     let mut high = (
-        lane_of(alloc, split_pass(&log, &mut main, 4)),
-        lane_of(alloc, split_pass(&log, &mut main, 5)),
+        split_lane(alloc, &log, &mut main, 4),
+        split_lane(alloc, &log, &mut main, 5),
     );
     let payload = payload_of(alloc, 1, 0)?;
     let first = claimed(alloc, &log, &mut main, defs.as_slice(), payload.as_bytes())?;

@@ -1,11 +1,22 @@
--- The lane may store again, whatever the answer.
+-- Whatever the answer, the lane may store again.
+use Rattle.fish_epoch.specs.Definitions.{IsDefsOf}
+use Rattle.fish_ingest.proofs.After.{goes_on}
+use Rattle.fish_rule.specs.Passes.{view}
+use Rattle.fish_value.specs.declared.field.Form.TheVariants.{Json}
 use Rattle.fish_ingest.proofs.tests.lanes.store.Goals as goal
 
 pub returns-clause-ready : goal.returns-clause-ready
-returns-clause-ready c = ?
+returns-clause-ready c =
+    let on = goes_on (view c.args.lane.now.pass) (view c.ingest.new.pass) Json c.args.payload.now c.ingest.result
+    c.requires.start c.ingest.ensures.ingested c.ingest.ensures.refused in
+    record { of = c.ingest.ensures.pass; start = on.0; read = c.ingest.ensures.defs }
 
 pub returns-clause-lane : goal.returns-clause-lane
-returns-clause-lane c = ?
+returns-clause-lane c =
+    (goes_on (view c.args.lane.now.pass) (view c.ingest.new.pass) Json c.args.payload.now c.ingest.result
+        c.requires.start c.ingest.ensures.ingested c.ingest.ensures.refused).1.lane
 
 pub returns-clause-out : goal.returns-clause-out
-returns-clause-out c = ?
+returns-clause-out c =
+    (goes_on (view c.args.lane.now.pass) (view c.ingest.new.pass) Json c.args.payload.now c.ingest.result
+        c.requires.start c.ingest.ensures.ingested c.ingest.ensures.refused).1.out
