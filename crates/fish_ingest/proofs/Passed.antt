@@ -1,12 +1,10 @@
 -- What calls leave of a pass, one after the other.
-use Rattle.std.proofs.Common.{◌≡◌, ◌≢◌, ℕ, refl, sym, ap, ◌∙◌, subst, inl, inr, ◌⊎◌, ⊎_elim, List}
-use Rattle.fish_epoch.specs.Entering.{HasEntered, Keeps}
+use Rattle.std.proofs.Common.{◌≡◌, refl, ◌∙◌, subst, inl, inr, ⊎_elim}
+use Rattle.fish_epoch.specs.Entering.{Keeps}
 use Rattle.fish_epoch.specs.Rows.{OnlyReads}
 use Rattle.fish_ingest.specs.Passing.{GoesOn, OnlyFound}
 use Rattle.fish_rule.proofs.Extending.{learns_both, learns_self}
-use Rattle.fish_rule.specs.Logs.{Extends, Learns}
 use Rattle.fish_rule.specs.Views.{Among}
-use Rattle.fish_rule.specs.declared.view.Found.{Found}
 use Rattle.fish_rule.specs.declared.view.Kind.{Kind}
 use Rattle.fish_rule.specs.declared.view.View.{View}
 

@@ -1,26 +1,19 @@
 -- A record that was prepared, in the place that was claimed for it.
-use Rattle.std.proofs.Common.{◌≡◌, ℕ, ◌+◌, ◌*◌, ◌/◌, ◌<◌, ◌≤◌, List, length, map, refl, sym, ap, ◌∙◌, subst, arith, Some}
+use Rattle.std.proofs.Common.{◌≡◌, ℕ, ◌+◌, ◌*◌, ◌/◌, ◌<◌, ◌≤◌, length, map, refl, sym, ap, ◌∙◌, subst, arith}
 use Rattle.std.proofs.lemmas.Nat.{div-mul-add}
 use Rattle.fish_claim.proofs.Known.{knows_later}
 use Rattle.fish_ingest.proofs.Passed.{on_both}
 use Rattle.fish_ingest.proofs.Stored.{body_fills}
-use Rattle.fish_ingest.specs.Passing.{GoesOn, OnlyFound}
 use Rattle.fish_ingest.specs.Placing.{CanPlace, HasPlace, HasPlaced, IsShutBy}
 use Rattle.fish_ingest.specs.Writing.{CanWrite, HasStored, HasWritten, claimed_parts}
 use Rattle.fish_ingest.specs.declared.pending.Pending.{Pending}
 use Rattle.fish_ingest.specs.declared.prepared.Prepared.{Prepared}
 use Rattle.fish_layout.proofs.Sizes.{few_lines, some_lines}
-use Rattle.fish_layout.specs.Body.{body_lines}
-use Rattle.fish_rule.proofs.Flights.{one_flight}
-use Rattle.fish_rule.specs.Flying.{region_of}
 use Rattle.fish_rule.specs.Keys.{text_of}
-use Rattle.fish_rule.specs.Registry.{KnowsActive}
-use Rattle.fish_rule.specs.Steps.{CanPublish, flight_at, flight_kind}
+use Rattle.fish_rule.specs.Steps.{flight_at}
 use Rattle.fish_rule.specs.Views.{Among}
 use Rattle.fish_rule.specs.declared.table.Region.{Region}
 use Rattle.fish_rule.specs.declared.view.Flight.{Flight}
-use Rattle.fish_rule.specs.declared.view.Found.{Found}
-use Rattle.fish_rule.specs.declared.view.Kind.TheVariants.{Void}
 use Rattle.fish_rule.specs.declared.view.Shut.{Shut}
 use Rattle.fish_rule.specs.declared.view.View.{View}
 

@@ -1,7 +1,6 @@
 -- The steps of an ingest put together.
-use Rattle.std.proofs.Common.{◌≡◌, ◌≢◌, ℕ, ◌+◌, ◌*◌, ◌<◌, ◌≤◌, zero, suc, List, [], ◌∷◌, ◌++◌, length, map, refl, sym, ap, ◌∙◌}
-use Rattle.std.proofs.Common.{subst, inl, inr, ◌⊎◌, ⊎_elim, arith, Some, None, Option, All, true}
-use Rattle.std.proofs.lemmas.List.Elements.{All-map}
+use Rattle.std.proofs.Common.{◌≡◌, ◌≢◌, ℕ, ◌<◌, ◌≤◌, zero, suc, List, [], ◌∷◌, ◌++◌, map, refl, sym, ap, ◌∙◌}
+use Rattle.std.proofs.Common.{subst, inl, inr, ⊎_elim, arith, Some, None, Option, All, true}
 use Rattle.std.specs.List.Sorted.{IsStrictlyIncreasing}
 use Rattle.fish_catalog.proofs.ActiveTexts.{active_ids_below, active_ids_increase}
 use Rattle.fish_catalog.specs.declared.entry.Entry.TheVariants as entry
@@ -10,12 +9,12 @@ use Rattle.fish_epoch.specs.Definitions.{AreRead, active_defs}
 use Rattle.fish_epoch.specs.Entering.{HasEntered, Keeps}
 use Rattle.fish_epoch.specs.declared.definitions.Defs.{Defs}
 use Rattle.fish_ingest.proofs.Active.{def_ids}
-use Rattle.fish_ingest.proofs.Passed.{found_both, found_map, found_same, on_both, on_keeps, on_self}
+use Rattle.fish_ingest.proofs.Passed.{found_both, found_same, on_both, on_keeps, on_self}
 use Rattle.fish_ingest.proofs.Recorded.{tells_recorded}
 use Rattle.fish_ingest.specs.Definitions.{AreDefs, id_of}
-use Rattle.fish_ingest.specs.Passing.{GoesOn, OnlyFound}
+use Rattle.fish_ingest.specs.Passing.{GoesOn}
 use Rattle.fish_ingest.specs.Placing.{CanPlace, HasPlaced, IsShutBy}
-use Rattle.fish_ingest.specs.Starting.{CanStart, HasIngested, HasNotClaimed, HasPrepared, HasStarted, IsFull, IsPending}
+use Rattle.fish_ingest.specs.Starting.{CanStart, HasIngested, HasNotClaimed, HasPrepared, HasStarted, IsFull}
 use Rattle.fish_ingest.specs.Starting.{HasRefused, IsCause, IsEarly, IsLate, IsRecordFor, number_of}
 use Rattle.fish_ingest.specs.declared.refusal.IngestRefusal.{IngestRefusal}
 use Rattle.fish_ingest.specs.declared.refusal.IngestRefusal.TheVariants as refusal
@@ -23,7 +22,6 @@ use Rattle.fish_psf.specs.Records.{is_record}
 use Rattle.fish_ingest.specs.Writing.{HasStored}
 use Rattle.fish_ingest.specs.declared.pending.Pending.{Pending}
 use Rattle.fish_ingest.specs.declared.prepared.Prepared.{Prepared}
-use Rattle.fish_layout.specs.declared.parts.BodyParts.{BodyParts}
 use Rattle.fish_psf.specs.declared.key.ActiveDef.{ActiveDef}
 use Rattle.fish_rule.proofs.Extending.{learns_both, learns_self}
 use Rattle.fish_rule.proofs.Flights.{one_flight}
@@ -33,7 +31,7 @@ use Rattle.fish_rule.specs.Epochs.{Carries}
 use Rattle.fish_rule.specs.Keys.{text_of}
 use Rattle.fish_rule.specs.Logs.{Learns, Tells}
 use Rattle.fish_rule.specs.Registry.{KnowsActive}
-use Rattle.fish_rule.specs.Steps.{CanClaim, CanPublish, after_publish, flight_kind, own_after, records_after, shut_after}
+use Rattle.fish_rule.specs.Steps.{after_publish, flight_kind, own_after, records_after, shut_after}
 use Rattle.fish_rule.specs.Table.{Stands}
 use Rattle.fish_rule.specs.Views.{Among}
 use Rattle.fish_rule.specs.declared.view.Epoch.TheVariants.{Confirmed, Out}
@@ -226,12 +224,15 @@ module _ (v a b : View) (version : ℕ) (entered : HasEntered v version a) (keep
           own = is.own ∙ keeps.own ∙ entered.keeps.own;
         };
         shut_is = is.shut_is;
-        by_claim = inr (unshut, (
-          h.made.0.0,
-          record_for form payload prepared (after_retire u) h
-              (learns_both b u (after_retire u) is.on.learns (on_retire u).learns) is.on.lane,
-          is.lines_is ∙ size,
-        ));
+        by_claim = inr (
+          unshut,
+          (
+            h.made.0.0,
+            record_for form payload prepared (after_retire u) h
+                (learns_both b u (after_retire u) is.on.learns (on_retire u).learns) is.on.lane,
+            is.lines_is ∙ size,
+          ),
+        );
         unstored = found_both (λ kind. kind ≢ Stored) v b (after_retire u)
             (found_same (λ kind. kind ≢ Stored) v b (keeps.found ∙ entered.keeps.found)) is.unstored;
       })

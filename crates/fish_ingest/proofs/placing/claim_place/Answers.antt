@@ -1,8 +1,8 @@
 -- Each claim is a place, a void, or the end.
-use Rattle.std.proofs.Common.{◌≡◌, subst}
+use Rattle.std.proofs.Common.{subst}
 use Rattle.fish_claim.specs.Claims.{IsClaimed}
 use Rattle.fish_claim.specs.declared.claimed.Claimed.{Claimed}
-use Rattle.fish_ingest.proofs.Claiming.{trying_begins, trying_falls, trying_more, trying_placed, trying_shut}
+use Rattle.fish_ingest.proofs.Claiming.{trying_falls, trying_more, trying_placed, trying_shut}
 use Rattle.fish_rule.specs.Passes.{view}
 use Rattle.fish_ingest.proofs.placing.claim_place.Goals as goal
 

@@ -1,10 +1,7 @@
 -- The lines of the record are claimed, and its words written there.
-use Rattle.std.proofs.Common.{◌≡◌, ℕ, ◌*◌, ◌/◌, ◌<◌, ◌≤◌, refl, sym, ap, ◌∙◌, subst, arith, IfOk, IfErr, Ok, Err}
-use Rattle.std.specs.Prelude.{Result}
+use Rattle.std.proofs.Common.{refl, arith}
 use Rattle.fish_ingest.proofs.Places.{can_write, few_lines_of, has_placed, placed_flight, shut_by}
-use Rattle.fish_ingest.specs.Placing.{HasPlace, IsShutBy}
 use Rattle.fish_rule.specs.Passes.{view}
-use Rattle.fish_rule.specs.declared.view.Shut.{Shut}
 use Rattle.fish_ingest.proofs.placing.place.Goals as goal
 
 pub claim_place-requires-clause-lines : goal.claim_place-requires-clause-lines
@@ -17,8 +14,7 @@ claim_place-requires-clause-lines c =
 pub write_record-requires-clause-can : goal.write_record-requires-clause-can
 write_record-requires-clause-can c =
     let u = view c.claim_place.new.pass in
-    let place = c.in-Ok.ensures.placed in
-    (
+    let place = c.in-Ok.ensures.placed in (
       placed_flight (view c.args.pass.now) c.args.prepared c.requires.can c.in-Ok.number u c.lines.result c.lines.ensures place,
       can_write (view c.args.pass.now) c.args.prepared c.requires.can c.in-Ok.number u c.lines.result c.lines.ensures place,
     )

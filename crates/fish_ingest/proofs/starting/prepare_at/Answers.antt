@@ -1,5 +1,5 @@
 -- The definitions are those of the version, or those of before.
-use Rattle.std.proofs.Common.{◌≡◌, sym, ap, ◌∙◌, subst, true}
+use Rattle.std.proofs.Common.{sym, subst}
 use Rattle.fish_epoch.proofs.Reading.{defs_later}
 use Rattle.fish_epoch.specs.Definitions.{IsDefsOf}
 use Rattle.fish_epoch.specs.declared.definitions.Defs.{Defs}

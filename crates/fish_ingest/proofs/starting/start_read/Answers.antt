@@ -1,7 +1,7 @@
 -- The steps of the call, one after the other.
-use Rattle.std.proofs.Common.{◌≡◌, ◌≤◌, ℕ, List, refl, sym, ap, ◌∙◌, subst, Ok, Err}
+use Rattle.std.proofs.Common.{◌≤◌, ℕ, sym, ◌∙◌, subst}
 use Rattle.fish_epoch.proofs.Reading.{defs_later}
-use Rattle.fish_ingest.proofs.Starts.{has_filled, has_started, idle_law, may_place, learns_retired, not_claimed_left}
+use Rattle.fish_ingest.proofs.Starts.{has_filled, has_started, may_place, learns_retired, not_claimed_left}
 use Rattle.fish_ingest.proofs.Passed.{on_keeps}
 use Rattle.fish_ingest.specs.Starting.{HasRefused}
 use Rattle.fish_ingest.specs.declared.refusal.IngestRefusal.{IngestRefusal}
@@ -70,7 +70,7 @@ leave-requires-in-Err-clause-idle c =
     record {
       live = subst (λ (z : ℕ). 1 ≤ z)
           (sym (shut.on.lane ∙ (on_keeps a b c.prepare_at-made.ensures.keeps.0).lane
-              ∙ (on_keeps v a c.enter-version.ensures.entered.keeps).lane)) c.requires.out.live;
+          ∙ (on_keeps v a c.enter-version.ensures.entered.keeps).lane)) c.requires.out.live;
       idle = shut.idle;
     }
 
@@ -100,6 +100,6 @@ returns-in-Err-clause-refused c =
     subst (λ (e : IngestRefusal). HasRefused v c.args.form c.args.payload.now e (view c.leave-in-Err.new.pass))
     (sym c.from.ensures)
     (has_filled v a b c.enter-version.result c.enter-version.ensures.entered c.prepare_at-made.ensures.keeps.0
-        c.args.form c.args.payload.now c.in-Ok.prepared c.in-Err.shut (view c.place.new.pass)
-        (view c.leave-in-Err.new.pass) c.requires.unshut c.in-Ok.ensures.prepared may.lines may.size
-        (c.in-Err.ensures.shut may) c.leave-in-Err.ensures.view)
+    c.args.form c.args.payload.now c.in-Ok.prepared c.in-Err.shut (view c.place.new.pass)
+    (view c.leave-in-Err.new.pass) c.requires.unshut c.in-Ok.ensures.prepared may.lines may.size
+    (c.in-Err.ensures.shut may) c.leave-in-Err.ensures.view)

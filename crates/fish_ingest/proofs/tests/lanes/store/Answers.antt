@@ -1,5 +1,4 @@
 -- Whatever the answer, the lane may store again.
-use Rattle.fish_epoch.specs.Definitions.{IsDefsOf}
 use Rattle.fish_ingest.proofs.After.{goes_on}
 use Rattle.fish_rule.specs.Passes.{view}
 use Rattle.fish_value.specs.declared.field.Form.TheVariants.{Json}
@@ -14,9 +13,9 @@ returns-clause-ready c =
 pub returns-clause-lane : goal.returns-clause-lane
 returns-clause-lane c =
     (goes_on (view c.args.lane.now.pass) (view c.ingest.new.pass) Json c.args.payload.now c.ingest.result
-        c.requires.start c.ingest.ensures.ingested c.ingest.ensures.refused).1.lane
+    c.requires.start c.ingest.ensures.ingested c.ingest.ensures.refused).1.lane
 
 pub returns-clause-out : goal.returns-clause-out
 returns-clause-out c =
     (goes_on (view c.args.lane.now.pass) (view c.ingest.new.pass) Json c.args.payload.now c.ingest.result
-        c.requires.start c.ingest.ensures.ingested c.ingest.ensures.refused).1.out
+    c.requires.start c.ingest.ensures.ingested c.ingest.ensures.refused).1.out
