@@ -6,7 +6,7 @@ ghost use Rattle.fish_ingest.specs.Definitions.{AreDefs};
 
 use crate::workload::Workload;
 use fish_ingest::{Origin, Prepared, prepare};
-use fish_psf::{ActiveDef, Steps};
+use fish_psf::{ActiveDef, Steps, parse};
 use fish_value::Form;
 use std::alloc::{AllocError, Global};
 use std::sync::ledger::Ledger;
@@ -50,8 +50,8 @@ fn record_of<L: Ledger>(
         version: 0,
         form: Form::Json,
     };
-    match prepare(alloc, defs, origin, payload, steps) {
-        Ok(prepared) => Ok(prepared),
-        Err(_) => Err(AllocError),
-    }
+    let Ok(found) = parse(alloc, origin.form, payload, steps) else {
+        return Err(AllocError);
+    };
+    prepare(alloc, defs, origin, &found, payload)
 }
