@@ -4,17 +4,17 @@ ghost use Rattle.std.specs.Prelude.{◌≡◌};
 ghost use Rattle.bench_ingest.specs.Lanes.{IsLaneOf};
 
 use crate::store::store_payload;
-use fish_psf::ActiveDef;
+use fish_epoch::Defs;
 use fish_rule::{Log, Pass};
 use fish_value::Text;
 use std::alloc::Global;
 use std::thread::{Threads, join_mut};
 
-/// A lane with its share of the payloads.
+/// A lane with its share of the payloads, and the definitions that its pass read.
 #[derive(Drop)]
 pub struct Lane<'a> {
     pub pass: Pass,
-    pub defs: &'a [ActiveDef],
+    pub defs: Defs,
     pub payloads: &'a [Text],
 }
 
@@ -26,7 +26,7 @@ pub fn store_all(alloc: Global, log: &Log, lane: &mut Lane) -> u64
     let mut bytes = 0u64;
     for payload in lane.payloads {
         let payload = payload.as_bytes();
-        if store_payload(alloc, log, &mut lane.pass, lane.defs, payload).is_err() {
+        if store_payload(alloc, log, &mut lane.pass, &mut lane.defs, payload).is_err() {
             return bytes;
         }
         bytes = bytes.saturating_add(payload.len() as u64);

@@ -2,13 +2,15 @@
 
 ghost use Rattle.std.specs.Prelude.{IfOk};
 ghost use Rattle.std.specs.Thread.{IsSync};
-ghost use Rattle.bench_ingest.specs.Lanes.{CanStore, IsLaneOf, IsOpened};
+ghost use Rattle.bench_ingest.specs.Lanes.{IsLaneOf, IsOpened};
+ghost use Rattle.fish_ingest.specs.Starting.{CanStart};
+ghost use Rattle.fish_rule.specs.Passes.{IsPassOf, view};
 ghost use Rattle.fish_rule.specs.declared.table.Log.{Log};
 
-use crate::definitions::{Definitions, four_definitions};
+use crate::definitions::four_definitions;
 use crate::lanes::{Lane, store_all, store_both};
 use crate::parses::{parse_all, parse_both};
-use fish_psf::ActiveDef;
+use fish_epoch::Defs;
 use fish_rule::{Log, Pass, Shape, Start, open_log, split_pass};
 use fish_value::Text;
 use std::alloc::{AllocError, Global};
@@ -22,32 +24,30 @@ const SHAPE: Shape = Shape {
     bucket_bits: 16,
 };
 
-/// A log with its control pass, and the definitions that it begins with.
+/// A log with its control pass.
 #[derive(Drop)]
 pub struct Opened {
     log: Log,
     main: Pass,
-    defs: Vec<ActiveDef>,
 }
 
-/// An empty log.
+/// An empty log that begins with the definitions.
 fn open(alloc: Global) -> Result<Opened, AllocError>
     ensures { IfOk result IsOpened }
 {
-    let Definitions { catalog, defs } = four_definitions(alloc)?;
-    let _rows = catalog.rows();
+    let catalog = four_definitions(alloc)?;
     let start = Start::Empty { catalog };
     let (log, main) = open_log(alloc, SHAPE, &start)?;
-    Ok(Opened { log, main, defs })
+    Ok(Opened { log, main })
 }
 
-/// A lane with its share.
-fn lane_of<'a>(pass: Pass, defs: &'a [ActiveDef], payloads: &'a [Text]) -> Lane<'a>
-    ensures { (log : Log) → CanStore log pass defs.now → IsLaneOf log result }
+/// A lane with its share, whose pass has read no definition yet.
+fn lane_of<'a>(alloc: Global, pass: Pass, payloads: &'a [Text]) -> Lane<'a>
+    ensures { (log : Log) → IsPassOf log pass → CanStart (view pass) → IsLaneOf log result }
 {
     Lane {
         pass,
-        defs,
+        defs: Defs::new(alloc),
         payloads,
     }
 }
@@ -66,8 +66,8 @@ pub fn one_lane<R: Clock + AllocGlobal + Eprint>(
     payloads: &[Text],
 ) -> Result<(), AllocError> {
     let alloc = rt.alloc();
-    let Opened { log, main, defs } = open(alloc)?;
-    let mut one = lane_of(main, defs.as_slice(), payloads);
+    let Opened { log, main } = open(alloc)?;
+    let mut one = lane_of(alloc, main, payloads);
     let Ok(start) = Instant::now(rt) else {
         return Ok(());
     };
@@ -82,16 +82,11 @@ pub fn two_lanes<R: Threads + Sync + Clock + AllocGlobal + Eprint>(
     payloads: &[Text],
 ) -> Result<(), AllocError> {
     let alloc = rt.alloc();
-    let Opened {
-        log,
-        mut main,
-        defs,
-    } = open(alloc)?;
+    let Opened { log, mut main } = open(alloc)?;
     let second = split_pass(&log, &mut main, 2);
-    let defs = defs.as_slice();
     let (low, high) = payloads.split_at(payloads.len() / 2);
-    let mut one = lane_of(main, defs, low);
-    let mut two = lane_of(second, defs, high);
+    let mut one = lane_of(alloc, main, low);
+    let mut two = lane_of(alloc, second, high);
     let Ok(start) = Instant::now(rt) else {
         return Ok(());
     };
@@ -106,22 +101,17 @@ pub fn four_lanes<R: Threads + Sync + Clock + AllocGlobal + Eprint>(
     payloads: &[Text],
 ) -> Result<(), AllocError> {
     let alloc = rt.alloc();
-    let Opened {
-        log,
-        mut main,
-        defs,
-    } = open(alloc)?;
+    let Opened { log, mut main } = open(alloc)?;
     let second = split_pass(&log, &mut main, 2);
     let third = split_pass(&log, &mut main, 3);
     let fourth = split_pass(&log, &mut main, 4);
-    let defs = defs.as_slice();
     let (low, high) = payloads.split_at(payloads.len() / 2);
     let (first_share, second_share) = low.split_at(low.len() / 2);
     let (third_share, fourth_share) = high.split_at(high.len() / 2);
-    let mut one = lane_of(main, defs, first_share);
-    let mut two = lane_of(second, defs, second_share);
-    let mut three = lane_of(third, defs, third_share);
-    let mut four = lane_of(fourth, defs, fourth_share);
+    let mut one = lane_of(alloc, main, first_share);
+    let mut two = lane_of(alloc, second, second_share);
+    let mut three = lane_of(alloc, third, third_share);
+    let mut four = lane_of(alloc, fourth, fourth_share);
     let Ok(start) = Instant::now(rt) else {
         return Ok(());
     };

@@ -1,5 +1,5 @@
--- The records that a lane is to store.
-use Rattle.std.specs.Prelude.{ℕ, ◌≡◌, List, All}
+-- The records that a lane is to store, and when it may.
+use Rattle.std.specs.Prelude.{ℕ, ◌≡◌, ◌≤◌, List, All, None}
 use Rattle.bench_log.specs.declared.lanes.Lane.{Lane}
 use Rattle.bench_log.specs.declared.measures.Opened.{Opened}
 use Rattle.fish_ingest.specs.Definitions.{AreDefs}
@@ -7,10 +7,13 @@ use Rattle.fish_ingest.specs.Records.{IsPreparedFor}
 use Rattle.fish_ingest.specs.declared.origin.Origin.{Origin}
 use Rattle.fish_ingest.specs.declared.prepared.Prepared.{Prepared}
 use Rattle.fish_psf.specs.declared.key.ActiveDef.{ActiveDef}
+use Rattle.fish_rule.specs.Entering.{CanEnter}
 use Rattle.fish_rule.specs.Keys.{AreActive}
 use Rattle.fish_rule.specs.Passes.{IsPassOf, view}
 use Rattle.fish_rule.specs.Table.{first_view}
 use Rattle.fish_rule.specs.declared.table.Log.{Log}
+use Rattle.fish_rule.specs.declared.view.Epoch.TheVariants.{Confirmed}
+use Rattle.fish_rule.specs.declared.view.View.{View}
 
 -- a record was prepared for a lane under these definitions, at version 0
 pub record IsRecordOf (lane : ℕ) (defs : List ActiveDef) (prepared : Prepared) : Type 0 where
@@ -25,9 +28,16 @@ abbrev pub IsStorable : Log → ℕ → Prepared → Type 0
 IsStorable log lane prepared =
     (defs : List ActiveDef) × AreActive log.key.rows.value defs × IsRecordOf lane defs prepared
 
--- the lane's pass steps on the log, and its records may be stored there
+-- the pass is entered at the version of the records, and has nothing in flight
+pub record IsEntered (v : View) : Type 0 where
+  pub live : 1 ≤ v.lane
+  pub idle : v.flight ≡ None
+  pub epoch : v.epoch ≡ Confirmed 0
+
+-- the lane's pass steps on the log and has nothing in flight, and its records may be stored there
 pub record IsLaneOf (log : Log) (lane : Lane) : Type 0 where
   pub pass : IsPassOf log lane.pass
+  pub can : CanEnter (view lane.pass)
   pub records : All (IsStorable log (view lane.pass).lane) lane.records.items
 
 -- the log is empty, and begins with the definitions

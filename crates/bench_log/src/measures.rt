@@ -4,8 +4,9 @@ ghost use Rattle.std.specs.Prelude.{IfOk};
 ghost use Rattle.std.specs.Thread.{IsSync};
 ghost use Rattle.bench_log.specs.Lanes.{IsLaneOf, IsOpened};
 ghost use Rattle.fish_ingest.specs.Definitions.{AreDefs};
+ghost use Rattle.fish_rule.specs.Entering.{CanEnter};
 ghost use Rattle.fish_rule.specs.Keys.{AreActive};
-ghost use Rattle.fish_rule.specs.Passes.{IsPassOf};
+ghost use Rattle.fish_rule.specs.Passes.{IsPassOf, view};
 ghost use Rattle.fish_rule.specs.declared.table.Log.{Log};
 
 use crate::definitions::{Definitions, definitions_of};
@@ -53,8 +54,8 @@ fn lane_of<L: Ledger>(
     steps: &mut Steps<L>,
 ) -> Result<Lane, AllocError>
     requires { AreDefs defs.now }
-    ensures { IfOk result (λ l. (log : Log) → IsPassOf log pass → AreActive log.key.rows.value defs.now
-        → IsLaneOf log l) }
+    ensures { IfOk result (λ l. (log : Log) → IsPassOf log pass → CanEnter (view pass)
+        → AreActive log.key.rows.value defs.now → IsLaneOf log l) }
 {
     let number = lane(&pass);
     if number < 1 || number > 16 {
