@@ -12,7 +12,6 @@ use Rattle.fish_layout.specs.Header.{keys_of, lines_of, void_word}
 use Rattle.fish_rule.specs.Parts.{IsLinkedWord}
 use Rattle.fish_rule.specs.Regions.{IsRecord, code, kind_of, kind_within, void_body}
 use Rattle.fish_rule.specs.World.{body, high, low}
-use Rattle.fish_rule.specs.declared.view.Key.{Key}
 use Rattle.fish_rule.specs.declared.view.Kind.{Kind}
 use Rattle.fish_rule.specs.declared.view.Kind.TheVariants.{Mark, Stored, Void}
 

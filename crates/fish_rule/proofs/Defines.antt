@@ -1,6 +1,6 @@
 -- How the control pass changes the registry: a store of a word of the next operation or row, and a store of the
 -- version plus one.
-use Rattle.std.proofs.Common.{◌≡◌, ◌≢◌, ℕ, ◌+◌, ◌*◌, ◌%◌, ◌<◌, ◌≤◌, suc, List, [], ◌∷◌, ◌++◌, length, set, sym, refl}
+use Rattle.std.proofs.Common.{◌≡◌, ◌≢◌, ℕ, ◌%◌, ◌<◌, ◌≤◌, suc, List, [], ◌∷◌, ◌++◌, length, set, sym, refl}
 use Rattle.std.proofs.Common.{ap, ◌∙◌, subst, inl, inr, ⊎_elim, arith, true}
 use Rattle.std.proofs.Math.Decide.{ℕ_discrete, dec_le, dec_lt}
 use mathlib.Core.Option.{some}
@@ -8,16 +8,14 @@ use Rattle.std.proofs.Math.ListN.{get_elem?}
 use Rattle.fish_catalog.proofs.Listings.{listing_ended, listing_registered}
 use Rattle.fish_catalog.specs.Listing.{IsListing, ended_at, listed_in}
 use Rattle.fish_catalog.specs.declared.listed.Listed.{Listed}
-use Rattle.fish_catalog.specs.declared.row.CatRow.{CatRow}
 use Rattle.fish_layout.proofs.Clearing.{choose_first, choose_second}
-use Rattle.fish_layout.specs.Cleared.{choose}
 use Rattle.fish_rule.proofs.Common.{each_set, has_own}
 use Rattle.fish_rule.proofs.Registers.{definitions_same, length_made, made_same}
 use Rattle.fish_rule.proofs.Registries.{carries_later, listing_later, operation_kept, operation_later, read_later}
 use Rattle.fish_rule.proofs.Registries.{register_lasts, registers, rows_later, unmade_before, versions_later}
 use Rattle.fish_rule.proofs.Worlds.{put-else, put-here}
 use Rattle.fish_rule.specs.Entering.{CanBump, CanDefine, IsNextWord, after_bump, after_define, next_operation}
-use Rattle.fish_rule.specs.Epochs.{Epochs, IsAtMost, IsMain, IsUnmade, Registry, Stays, Versions}
+use Rattle.fish_rule.specs.Epochs.{IsAtMost, IsMain, IsUnmade, Registry, Stays, Versions}
 use Rattle.fish_rule.specs.Registry.{Endures, IsLasting, IsOperation, definitions_at, drafted, epoch_at, made, op_at}
 use Rattle.fish_rule.specs.Registry.{row_at, row_in, version_in}
 use Rattle.fish_rule.specs.Rule.{Final, Rule}
@@ -27,7 +25,6 @@ use Rattle.fish_rule.specs.World.{World, put}
 use Rattle.fish_rule.specs.declared.view.Epoch.{Epoch}
 use Rattle.fish_rule.specs.declared.view.Epoch.TheVariants.{Announced, Confirmed, Out}
 use Rattle.fish_rule.specs.declared.view.Key.{Key}
-use Rattle.fish_rule.specs.declared.view.RegistryWord.{RegistryWord}
 use Rattle.fish_rule.specs.declared.view.View.{View}
 
 -- ---- both

@@ -1,19 +1,18 @@
 -- Entering and leaving: a load of the version, and stores of the own epoch word.
-use Rattle.std.proofs.Common.{◌≡◌, ◌≢◌, ℕ, ◌+◌, ◌<◌, ◌≤◌, suc, List, length, set, sym, refl, ap, ◌∙◌, subst, inl, inr, ⊎_elim}
+use Rattle.std.proofs.Common.{◌≡◌, ◌≢◌, ℕ, ◌<◌, ◌≤◌, suc, List, length, set, sym, refl, ap, ◌∙◌, subst, inl, inr, ⊎_elim}
 use Rattle.std.proofs.Common.{arith, Some, None, Option}
 use Rattle.std.proofs.Math.Decide.{ℕ_discrete}
 use mathlib.Core.Option.{some}
 use Rattle.std.proofs.Math.ListN.{get_elem?}
 use Rattle.fish_layout.specs.Cleared.{choose}
 use Rattle.fish_rule.proofs.Common.{each_set, has_own}
-use Rattle.fish_rule.proofs.OwnWords.{confirmed_once}
 use Rattle.fish_rule.proofs.Registers.{endures_same, has_read, length_grows}
 use Rattle.fish_rule.proofs.Registries.{carries_later, main_later, read_later, register_lasts, registers, versions_later}
 use Rattle.fish_rule.proofs.Worlds.{put-else, put-here}
 use Rattle.fish_rule.specs.Entering.{CanAnnounce, CanEnter, CanLoadRegistry, after_announce, after_registry, after_retire}
 use Rattle.fish_rule.specs.Entering.{after_version}
 use Rattle.fish_rule.specs.Epochs.{Carries, Epochs, IsAtMost, Registry, Stays, confirmed, epoch_word}
-use Rattle.fish_rule.specs.Registry.{Endures, IsLasting, IsRegistered, definitions_at, epoch_at, version_in}
+use Rattle.fish_rule.specs.Registry.{Endures, IsLasting, definitions_at, epoch_at, version_in}
 use Rattle.fish_rule.specs.Rule.{Final, Rule}
 use Rattle.fish_rule.proofs.Learns.{learn_final, learns, still_chained}
 use Rattle.fish_catalog.specs.declared.row.CatRow.{CatRow}
@@ -25,7 +24,6 @@ use Rattle.fish_rule.specs.declared.view.Epoch.{Epoch}
 use Rattle.fish_rule.specs.declared.view.Epoch.TheVariants.{Announced, Confirmed, Out}
 use Rattle.fish_rule.specs.declared.view.Flight.{Flight}
 use Rattle.fish_rule.specs.declared.view.Key.{Key}
-use Rattle.fish_rule.specs.declared.view.RegistryWord.{RegistryWord}
 use Rattle.fish_rule.specs.declared.view.View.{View}
 
 -- ---- the own epoch

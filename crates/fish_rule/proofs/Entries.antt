@@ -20,7 +20,6 @@ use Rattle.fish_rule.specs.Table.{Stands}
 use Rattle.fish_rule.specs.Views.{Among}
 use Rattle.fish_rule.specs.World.{World, body}
 use Rattle.fish_rule.specs.declared.view.Found.{Found}
-use Rattle.fish_rule.specs.declared.view.Key.{Key}
 use Rattle.fish_rule.specs.declared.view.Kind.{Kind}
 use Rattle.fish_rule.specs.declared.view.Kind.TheVariants.{Mark, Stored, Void}
 use Rattle.fish_rule.specs.declared.view.View.{View}

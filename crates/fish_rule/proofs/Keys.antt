@@ -1,6 +1,5 @@
 -- Which key entries records have: what the links of their entries have no part in, and records with none.
-use Rattle.std.proofs.Common.{ℕ, ◌≡◌, List, [], ◌∷◌, map, refl, sym, ap, ◌∙◌, subst}
-use Rattle.fish_catalog.specs.declared.row.CatRow.{CatRow}
+use Rattle.std.proofs.Common.{ℕ, ◌≡◌, List, [], ◌∷◌, map, refl, ap, ◌∙◌}
 use Rattle.fish_layout.specs.Cleared.{unlink, unlinked}
 use Rattle.fish_layout.specs.declared.parts.BodyParts.{BodyParts}
 use Rattle.fish_layout.specs.declared.parts.KeyPart.{KeyPart}

@@ -46,6 +46,7 @@ pub mod Splits
 pub mod Spots
 pub mod Standing
 pub mod Swings
+pub mod ToPublish
 pub mod Walking
 pub mod Words
 pub mod Worlds

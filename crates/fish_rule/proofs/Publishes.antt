@@ -10,24 +10,24 @@ use Rattle.fish_layout.proofs.Clearing.{cleared_head}
 use Rattle.fish_layout.proofs.Headers.{lines_of-void}
 use Rattle.fish_layout.proofs.Spelled.{spelled_lines}
 use Rattle.fish_layout.specs.Cleared.{body_of}
-use Rattle.fish_layout.specs.Header.{field, keys_of, lines_of, void_word}
+use Rattle.fish_layout.specs.Header.{keys_of, lines_of, void_word}
 use Rattle.fish_rule.proofs.Bodies.{body_stored, code_once, body_void, high-pack, kind-inside, kind-mark}
 use Rattle.fish_rule.proofs.Bodies.{low-pack, mark-past, void-head}
-use Rattle.fish_rule.proofs.Bounds.{ends_within}
 use Rattle.fish_rule.proofs.Common.{among_left, among_right, among_either, each_set, has_own, seats_kept}
 use Rattle.fish_rule.proofs.Frames.{alone_kept, flight_there, may_kept, one_view, registry_set}
 use Rattle.fish_rule.proofs.Kept.{chained_later, facts_later, finished_later, flight_later, owns_later}
 use Rattle.fish_rule.proofs.Kept.{published, shut_later, stored_later}
 use Rattle.fish_rule.proofs.Links.{chains_same, linked_counted, linking_from}
 use Rattle.fish_rule.proofs.OwnWords.{flight_is, known_keyed}
+use Rattle.fish_rule.proofs.ToPublish.{may_before, no_lines, small_line}
 use Rattle.fish_rule.proofs.Worlds.{put-else, put-here}
 use Rattle.fish_rule.specs.Chains.{Linked, LinksAt, Shows}
-use Rattle.fish_rule.specs.Parts.{Flies, InFlight, IsEntryWord, IsFinished, MayOverflow}
+use Rattle.fish_rule.specs.Parts.{Flies, InFlight, IsEntryWord, IsFinished}
 use Rattle.fish_rule.specs.Facts.{Facts, IsFound, IsRecorded, IsStoredBy, Owns, ShutOk}
 use Rattle.fish_rule.specs.Regions.{Holds, IsRecord, code, dir_word, kind_of, void_body}
 use Rattle.fish_rule.specs.Rule.{Final, Rule}
 use Rattle.fish_rule.specs.Steps.{IsReady, learned_after, own_after, records_after, shut_after, ticked}
-use Rattle.fish_rule.specs.Views.{AllOf, Among, Has, HasFlight, IsFlightOf, IsOver}
+use Rattle.fish_rule.specs.Views.{AllOf, Among, Has, HasFlight, IsFlightOf}
 use Rattle.fish_rule.specs.World.{World, body, high, low, put}
 use Rattle.fish_rule.specs.declared.view.Flight.{Flight}
 use Rattle.fish_rule.specs.declared.view.Key.{Key}
@@ -40,34 +40,6 @@ use Rattle.fish_rule.specs.Epochs.{Keyed}
 use Rattle.fish_rule.specs.Keys.{IsKeyed}
 use Rattle.fish_rule.specs.Registry.{AreActiveAt, KnowsActive}
 use Rattle.fish_rule.specs.declared.view.Epoch.TheVariants.{Confirmed}
-
--- the word 0 has no lines
-no_lines : lines_of 0 ≡ 0
-unfolding lines_of field
-no_lines = refl
-
--- a line within the tail's fits a directory word
-pub small_line : (k : Key) (w : World) (r : Rule k w) (f : Flight) (lane : ℕ)
-    → InFlight k w.count w.dir w.log r.start r.lane_of lane f → f.line < 68719476736
-small_line k w r f lane h = pick (Rattle.std.proofs.Math.Decide.dec_le f.number r.limit.first)
-  where
-    start_is : r.start f.number ≡ f.line
-    start_is = h.line
-
-    pick : Dec (f.number ≤ r.limit.first) → f.line < 68719476736
-    pick (yes before) =
-        let up =
-        Rattle.fish_rule.proofs.Bounds.starts_rise k w.count w.line r.start r.space.regions f.number
-        r.limit.first h.above before r.limit.within in
-        let s = start_is in let fits = r.limit.fits in let low_end = r.key_fits.low_end in
-        omega arith
-    pick (no behind) =
-        let far =
-        Rattle.fish_rule.proofs.Bounds.starts_near k w.count w.line r.start r.space.regions r.limit.first
-        f.number r.limit.above (omega arith) (let b = h.below in omega arith) in
-        let s = start_is in let fits = r.limit.fits in let low_end = r.key_fits.low_end in
-        let few = r.limit.few in let below = h.below in
-        omega arith
 
 module _ (k : Key) (w : World) (r : Rule k w) (id : ℕ) (v : View) (at : get_elem? w.views id ≡ some v)
     (f : Flight) (live : 1 ≤ v.lane) (flying : v.flight ≡ Some f) (kind : Kind)
@@ -273,27 +245,6 @@ module _ (k : Key) (w : World) (r : Rule k w) (id : ℕ) (v : View) (at : get_el
       flight_later k w publication r.start r.start r.lane_of r.lane_of publish_final u.lane g h
       (dir_else g.number other ∙ h.unpublished) (λ i less. refl) h.whole
 
-  -- the pass might overflow before, if it may afterwards
-  may_before : (kd : Kind) → kind_of k.end f.line (f.line + f.lines) ≡ kd
-      → MayOverflow k.end (shut_after kd f k.end v.shut) None → MayOverflow k.end v.shut v.flight
-  may_before Stored is h = (
-    h.0,
-    λ over. let past : k.end < f.line + f.lines =
-        subst (IsOver k.end) flying over in let e : Mark ≡ Stored =
-        sym (kind-mark k.end f.line (f.line + f.lines) past) ∙ is in cc,
-  )
-  may_before Void is h = (
-    h.0,
-    λ over. let past : k.end < f.line + f.lines =
-        subst (IsOver k.end) flying over in let e : Mark ≡ Void =
-        sym (kind-mark k.end f.line (f.line + f.lines) past) ∙ is in cc,
-  )
-  may_before Mark is h = (let e : Some (record { line = f.line; lines = f.lines; end = k.end }) ≡ None = h.0 in
-      absurd (some_none e))
-    where
-      some_none : {A : Type 0} {x : A} → Some x ≡ None → ⊥
-      some_none e = cc
-
   -- ---- own numbers
 
   -- a record that was published before, or this one
@@ -495,7 +446,7 @@ module _ (k : Key) (w : World) (r : Rule k w) (id : ℕ) (v : View) (at : get_el
       fits = r.limit.fits;
       past = r.limit.past;
       few = r.limit.few;
-      may = may_kept w.views id v publisher at k.end r.quota refl refl (may_before kind is_kind) r.limit.may;
+      may = may_kept w.views id v publisher at k.end r.quota refl refl (may_before k v f flying kind is_kind) r.limit.may;
     };
     settling = record {
       within = r.settling.within;

@@ -1,8 +1,7 @@
 -- The steps on the words of the registry as the table allows them.
-use Rattle.std.proofs.Common.{◌≡◌, ℕ, ◌+◌, ◌-◌, ◌*◌, ◌<◌, ◌≤◌, suc, List, get_or, set, sym, refl, ap, ◌∙◌, subst, arith, length}
-use Rattle.std.proofs.Common.{inl, inr, ⊎_elim, slice_get}
-use mathlib.Core.Option.{none, some}
-use Rattle.std.proofs.Math.ListN.{get_elem?}
+use Rattle.std.proofs.Common.{◌≡◌, ℕ, ◌+◌, ◌-◌, ◌<◌, ◌≤◌, suc, List, get_or, set, sym, refl, ap, ◌∙◌, subst, arith, length}
+use Rattle.std.proofs.Common.{inl, inr, slice_get}
+use mathlib.Core.Option.{none}
 use Rattle.atomic_table.specs.Table.{Allows, step}
 use Rattle.fish_rule.proofs.Allowed.{allowed, loaded_words, stands, there}
 use Rattle.fish_rule.proofs.Defines.{bump_kept, define_kept, unmade_here}
@@ -11,7 +10,7 @@ use Rattle.fish_rule.proofs.Worlds.{area-in, world-registry}
 use Rattle.fish_rule.specs.Entering.{CanAnnounce, CanBump, CanDefine, CanEnter, CanLoadRegistry, after_announce}
 use Rattle.fish_rule.specs.Entering.{after_bump, after_define, after_registry, after_retire, after_version}
 use Rattle.fish_rule.specs.Epochs.{IsUnmade}
-use Rattle.fish_rule.specs.Registry.{IsLasting, KnowsDefinitions, KnowsRow, epoch_at, row_at, version_in}
+use Rattle.fish_rule.specs.Registry.{IsLasting, KnowsDefinitions, KnowsRow, epoch_at, version_in}
 use Rattle.fish_rule.proofs.Registers.{has_read, length_grows}
 use Rattle.std.proofs.lemmas.List.{length-map}
 use Rattle.fish_catalog.specs.Listing.{IsListing, listed_of}

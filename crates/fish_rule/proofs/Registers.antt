@@ -1,6 +1,6 @@
 -- What lasts of the registry's words, and what is known by them.
-use Rattle.std.proofs.Common.{◌≡◌, ℕ, ◌+◌, ◌*◌, ◌%◌, ◌<◌, ◌≤◌, zero, suc, List, [], ◌∷◌, ◌++◌, length, map, sym, refl, ap}
-use Rattle.std.proofs.Common.{◌∙◌, subst, inl, inr, ◌⊎◌, ⊎_elim, arith, true, length-append}
+use Rattle.std.proofs.Common.{◌≡◌, ℕ, ◌%◌, ◌<◌, ◌≤◌, zero, suc, List, [], ◌∷◌, ◌++◌, length, sym, refl, ap}
+use Rattle.std.proofs.Common.{◌∙◌, subst, inl, inr, arith, true, length-append}
 use Rattle.std.proofs.Math.Decide.{ℕ_discrete, dec_lt}
 use Rattle.std.proofs.lemmas.List.{length-map}
 use Rattle.fish_catalog.proofs.RowWords.{listed_same}
@@ -9,8 +9,8 @@ use Rattle.fish_catalog.specs.declared.listed.Listed.{Listed}
 use Rattle.fish_catalog.specs.declared.row.CatRow.{CatRow}
 use Rattle.fish_layout.specs.Cleared.{choose}
 use Rattle.fish_rule.proofs.Common.{all_map}
-use Rattle.fish_rule.specs.Keys.{HasKeys, IsKeyed}
-use Rattle.fish_rule.specs.Registry.{AreActiveAt, Endures, HasRead, IsLasting, IsOpIndex, IsRegistered, IsRowIndex}
+use Rattle.fish_rule.specs.Keys.{IsKeyed}
+use Rattle.fish_rule.specs.Registry.{AreActiveAt, Endures, HasRead, IsLasting, IsRegistered}
 use Rattle.fish_rule.specs.Registry.{KnowsActive, definitions_at, made, op_at, row_at, row_in, version_in}
 use Rattle.fish_rule.specs.Views.{AllOf}
 use Rattle.fish_rule.specs.declared.view.Learned.{Learned}

@@ -1,13 +1,13 @@
 -- A step that changes words of the registry, or what a pass knows of it, and nothing else.
-use Rattle.std.proofs.Common.{◌≡◌, ℕ, ◌+◌, ◌*◌, ◌<◌, ◌≤◌, suc, List, length, map, set, sym, refl, ap, ◌∙◌, subst}
-use Rattle.std.proofs.Common.{inl, inr, ⊎_elim, arith, Some, None, Option, slice_get, true}
+use Rattle.std.proofs.Common.{◌≡◌, ℕ, ◌<◌, ◌≤◌, suc, List, length, set, sym, refl, ap, ◌∙◌, subst}
+use Rattle.std.proofs.Common.{inl, inr, arith, Some, None, Option, slice_get, true}
 use mathlib.Core.Option.{some}
 use Rattle.std.proofs.Math.ListN.{get_elem?}
 use Rattle.std.proofs.lemmas.List.{length-map}
 use Rattle.std.proofs.lemmas.Option.{slice_get_within}
 use Rattle.fish_catalog.proofs.RowWords.{listed_same}
-use Rattle.fish_catalog.specs.Listing.{IsListing, IsNew, IsOnAt, listed_of}
-use Rattle.fish_catalog.specs.Words.{IsWritable, name_in, row_word, text_in}
+use Rattle.fish_catalog.specs.Listing.{IsListing, IsNew, listed_of}
+use Rattle.fish_catalog.specs.Words.{IsWritable, row_word}
 use Rattle.fish_catalog.specs.declared.listed.Listed.{Listed}
 use Rattle.fish_catalog.specs.declared.row.CatRow.{CatRow}
 use Rattle.fish_layout.specs.Cleared.{body_of}

@@ -1,14 +1,11 @@
 -- How a pass enters the registry's version and leaves, and how the control pass changes the registry: what each
 -- pass knows after these steps, and when it may make them.
-use Rattle.std.specs.Prelude.{ℕ, ◌≡◌, ◌<◌, ◌≤◌, ◌⊎◌, suc, List, ◌∷◌, length, None}
-use Rattle.fish_catalog.specs.declared.listed.Listed.{Listed}
+use Rattle.std.specs.Prelude.{ℕ, ◌≡◌, ◌<◌, ◌≤◌, ◌⊎◌, suc, ◌∷◌, length, None}
 use Rattle.fish_rule.specs.Epochs.{confirmed}
 use Rattle.fish_rule.specs.Registry.{IsOperation, KnowsRow, drafted, made, op_at, row_at, row_in}
 use Rattle.fish_rule.specs.Steps.{noted, ticked}
 use Rattle.fish_rule.specs.declared.view.Epoch.TheVariants.{Announced, Out}
-use Rattle.fish_rule.specs.declared.view.Learned.{Learned}
 use Rattle.fish_rule.specs.declared.view.Noted.TheVariants.{Version}
-use Rattle.fish_rule.specs.declared.view.RegistryWord.{RegistryWord}
 use Rattle.fish_rule.specs.declared.view.View.{View}
 
 -- ---- load version

@@ -1,7 +1,7 @@
 -- Epochs: how far each lane is entered, and that no version is behind the registry's.
-use Rattle.std.specs.Prelude.{ℕ, ◌≡◌, ◌≢◌, ◌+◌, ◌*◌, ◌<◌, ◌≤◌, ◌⊎◌, suc, ◌-◌, List, Option, Some, None, ⊤, length, slice_get}
+use Rattle.std.specs.Prelude.{ℕ, ◌≡◌, ◌≢◌, ◌<◌, ◌≤◌, ◌⊎◌, suc, ◌-◌, List, Option, Some, None, ⊤, length, slice_get}
 use Rattle.std.proofs.Math.Decide.{ℕ_discrete}
-use Rattle.fish_catalog.specs.Listing.{IsListing, is_on}
+use Rattle.fish_catalog.specs.Listing.{IsListing}
 use Rattle.fish_catalog.specs.Words.{row_word, IsWritable}
 use Rattle.fish_catalog.specs.declared.listed.Listed.{Listed}
 use Rattle.fish_catalog.specs.declared.row.CatRow.{CatRow}

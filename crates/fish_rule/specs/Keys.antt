@@ -1,5 +1,5 @@
 -- Which key entries a record has: the values that the active definitions give for it.
-use Rattle.std.specs.Prelude.{ℕ, ◌≡◌, ◌<◌, List, filter, map}
+use Rattle.std.specs.Prelude.{ℕ, ◌≡◌, List, filter, map}
 use Rattle.fish_catalog.specs.Rows.{is_active}
 use Rattle.fish_catalog.specs.declared.row.CatRow.{CatRow}
 use Rattle.fish_lang.specs.Canonical.{definition_text}

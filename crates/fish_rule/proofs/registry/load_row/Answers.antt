@@ -1,9 +1,7 @@
 -- The row is one of 256, and its word is told by its place.
-use Rattle.std.proofs.Common.{◌≡◌, ◌∙◌, ℕ, ◌+◌, ◌*◌, ◌≤◌, ◌<◌, arith, inr, refl, ap}
+use Rattle.std.proofs.Common.{arith, inr, refl}
 use Rattle.fish_rule.proofs.Registering.{row_law}
-use Rattle.fish_rule.specs.Entering.{after_registry}
 use Rattle.fish_rule.specs.Passes.{view}
-use Rattle.fish_rule.specs.Registry.{row_at}
 use Rattle.fish_rule.proofs.registry.load_row.Goals as goal
 
 pub overflow_mul-id : goal.overflow_mul-id

@@ -1,5 +1,5 @@
 -- The table allows a store of 0 in the own epoch word.
-use Rattle.std.proofs.Common.{◌≡◌, ◌∙◌, sym, refl, ap, arith, subst, ℕ, ◌<◌, ◌≤◌, ◌+◌}
+use Rattle.std.proofs.Common.{◌≡◌, ◌∙◌, sym, ap, arith, subst, ℕ, ◌<◌}
 use Rattle.fish_rule.proofs.Registering.{lane_law, retire_allowed}
 use Rattle.fish_rule.specs.Passes.{view}
 use Rattle.fish_rule.specs.Registry.{epoch_at}
