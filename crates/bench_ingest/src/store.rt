@@ -1,6 +1,6 @@
 //! One payload into the log: what is measured. All else in this program goes through it.
 
-ghost use Rattle.bench_ingest.specs.Lanes.{CanStore};
+ghost use Rattle.fish_ingest.specs.Starting.{CanIngest};
 
 use fish_epoch::Defs;
 use fish_ingest::ingest;
@@ -20,8 +20,8 @@ pub fn store_payload(
     defs: &mut Defs,
     payload: &[u8],
 ) -> Result<(), NotStored>
-    requires { CanStore log.now pass.old defs.old }
-    ensures { CanStore log.now pass.new defs.new }
+    requires { CanIngest log.now pass.old defs.old }
+    ensures { CanIngest log.now pass.new defs.new }
 {
     match ingest(alloc, log, pass, defs, Form::Json, payload) {
         Ok(_) => Ok(()),
