@@ -2,7 +2,8 @@
 use Rattle.std.proofs.Common.{◌≤◌, ℕ, List, Result, Ok, Err, sym, subst}
 use Rattle.std.specs.Prelude.{IfErr, IfOk}
 use Rattle.fish_ingest.specs.Passing.{GoesOn}
-use Rattle.fish_ingest.specs.Starting.{CanStart, HasIngested, HasLeft, HasRefused}
+use Rattle.fish_ingest.specs.Refusing.{HasLeft, HasRefused}
+use Rattle.fish_ingest.specs.Starting.{CanStart, HasIngested}
 use Rattle.fish_ingest.specs.declared.refusal.IngestRefusal.{IngestRefusal}
 use Rattle.fish_ingest.specs.declared.refusal.IngestRefusal.TheVariants as refusal
 use Rattle.fish_rule.specs.declared.view.View.{View}

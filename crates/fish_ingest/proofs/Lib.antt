@@ -1,6 +1,7 @@
 pub mod Active
 pub mod After
 pub mod Claiming
+pub mod Ends
 pub mod Keys
 pub mod Parts
 pub mod Passed

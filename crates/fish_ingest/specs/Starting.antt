@@ -1,5 +1,5 @@
 -- What an ingest asks of a pass, and what it leaves behind.
-use Rattle.std.specs.Prelude.{ℕ, ◌≡◌, ◌≢◌, ◌⊎◌, ◌<◌, ◌≤◌, List, [], ◌∷◌, ◌++◌, length, map, None, Some, true, false, ⊤}
+use Rattle.std.specs.Prelude.{ℕ, ◌≡◌, ◌⊎◌, ◌≤◌, List, [], ◌∷◌, ◌++◌, map, None, true}
 use Rattle.fish_catalog.specs.declared.entry.Entry.TheVariants as entry
 use Rattle.fish_epoch.specs.Definitions.{IsDefsOf}
 use Rattle.fish_epoch.specs.declared.definitions.Defs.{Defs}
@@ -9,11 +9,7 @@ use Rattle.fish_ingest.specs.Writing.{HasStored}
 use Rattle.fish_ingest.specs.declared.origin.Origin.{Origin}
 use Rattle.fish_ingest.specs.declared.pending.Pending.{Pending}
 use Rattle.fish_ingest.specs.declared.prepared.Prepared.{Prepared}
-use Rattle.fish_ingest.specs.declared.refusal.IngestRefusal.{IngestRefusal}
-use Rattle.fish_ingest.specs.declared.refusal.IngestRefusal.TheVariants as refusal
-use Rattle.fish_layout.specs.Body.{body_lines}
 use Rattle.fish_layout.specs.declared.parts.BodyParts.{BodyParts}
-use Rattle.fish_layout.specs.declared.parts.TheConstants.{MAX_PAYLOAD}
 use Rattle.fish_psf.specs.Records.{is_record}
 use Rattle.fish_psf.specs.declared.key.ActiveDef.{ActiveDef}
 use Rattle.fish_rule.specs.Keys.{text_of}
@@ -28,7 +24,6 @@ use Rattle.fish_rule.specs.declared.view.Epoch.TheVariants.{Out}
 use Rattle.fish_rule.specs.declared.view.Flight.{Flight}
 use Rattle.fish_rule.specs.declared.view.Found.{Found}
 use Rattle.fish_rule.specs.declared.view.Kind.TheVariants.{Stored, Void}
-use Rattle.fish_rule.specs.declared.view.Shut.{Shut}
 use Rattle.fish_rule.specs.declared.view.View.{View}
 use Rattle.fish_value.specs.declared.field.Form.{Form}
 
@@ -94,9 +89,11 @@ pub record HasStarted (v : View) (form : Form) (payload : List ℕ) (pending : P
   pub own : u.own ≡ v.own
   pub voids : OnlyFound (λ kind. kind ≡ Void) v u
 
--- the record is published: the pass's own numbers have gained this one and nothing else, and in every later moment
--- the entry at the number is the pass's lane, the form and the payload
+-- the payload is a record, and it is published: the pass's own numbers have gained this one and nothing else, and in
+-- every later moment the entry at the number is the pass's lane, the form and the payload
 pub record HasIngested (v : View) (form : Form) (payload : List ℕ) (number : ℕ) (u : View) : Type 0 where
+  pub accepted : is_record form payload ≡ true
+  pub unshut : v.shut ≡ None
   pub on : GoesOn v u
   pub outside : u.epoch ≡ Out
   pub idle : u.flight ≡ None
@@ -106,63 +103,3 @@ pub record HasIngested (v : View) (form : Form) (payload : List ℕ) (number : �
   pub fresh : v.learned.count ≤ number
   pub found : (x : Found) → Among x u.learned.found
       → Among x v.learned.found ⊎ ((x.kind ≡ Void) ⊎ (x.number ≡ number))
-
--- ---- refusals
-
--- the claim that shut a pass, as a refusal
-abbrev pub full_of : Shut → IngestRefusal
-full_of shut = refusal.Full shut.line shut.lines shut.end
-
--- why a refusal comes
-abbrev pub IsCause : Form → List ℕ → IngestRefusal → Type 0
-IsCause form payload refusal.TooLong = MAX_PAYLOAD < length payload
-IsCause form payload refusal.NotRecord = (length payload ≤ MAX_PAYLOAD) × (is_record form payload ≡ false)
-IsCause form payload refusal.OutOfMemory = ⊤
-IsCause form payload (refusal.Full line lines end) = is_record form payload ≡ true
-
--- it is one of the parse
-abbrev pub IsEarly : IngestRefusal → Type 0
-IsEarly (refusal.Full line lines end) = ⊥
-IsEarly e = ⊤
-
--- it comes behind the parse
-abbrev pub IsLate : IngestRefusal → Type 0
-IsLate refusal.OutOfMemory = ⊤
-IsLate (refusal.Full line lines end) = ⊤
-IsLate e = ⊥
-
--- the pass isn't entered and has nothing in flight, and no number is its own that wasn't before
-pub record HasLeft (v u : View) : Type 0 where
-  pub on : GoesOn v u
-  pub outside : u.epoch ≡ Out
-  pub idle : u.flight ≡ None
-  pub own : u.own ≡ v.own
-
--- and it claimed nothing
-pub record HasNotClaimed (v u : View) : Type 0 where
-  pub left : HasLeft v u
-  pub shut : u.shut ≡ v.shut
-  pub tail : u.tail ≡ v.tail
-  pub count : u.learned.count ≡ v.learned.count
-  pub found : u.learned.found ≡ v.learned.found
-
--- the claim that shut the pass came earlier, or it was one of this call, for the lines of the record that the
--- payload is at the version entered
-abbrev pub IsShutFor : View → Form → List ℕ → Shut → View → Type 0
-IsShutFor v form payload shut u = ((v.shut ≡ Some shut) × HasNotClaimed v u)
-    ⊎ ((v.shut ≡ None) × ((p : BodyParts) × IsRecordFor u form payload p × (shut.lines ≡ body_lines p)))
-
--- the pass is shut by this claim, and of what it claimed nothing is stored
-pub record IsFull (v : View) (form : Form) (payload : List ℕ) (shut : Shut) (u : View) : Type 0 where
-  pub left : HasLeft v u
-  pub shut_is : u.shut ≡ Some shut
-  pub by_claim : IsShutFor v form payload shut u
-  pub unstored : OnlyFound (λ kind. kind ≢ Stored) v u
-
--- what a refusal leaves
-abbrev pub HasRefused : View → Form → List ℕ → IngestRefusal → View → Type 0
-HasRefused v form payload refusal.TooLong u = HasNotClaimed v u
-HasRefused v form payload refusal.NotRecord u = HasNotClaimed v u
-HasRefused v form payload refusal.OutOfMemory u = HasNotClaimed v u
-HasRefused v form payload (refusal.Full line lines end) u =
-    IsFull v form payload (record { line = line; lines = lines; end = end }) u

@@ -2,7 +2,8 @@
 
 ghost use Rattle.std.specs.Prelude.{◌≡◌, ◌↔◌, ◌<◌, IfErr, IfOk, IsErrOf, Some, length};
 ghost use Rattle.fish_epoch.specs.Definitions.{IsDefsOf};
-ghost use Rattle.fish_ingest.specs.Starting.{CanStart, HasIngested, HasRefused, IsCause, IsPending, number_of};
+ghost use Rattle.fish_ingest.specs.Refusing.{HasRefused, IsCause};
+ghost use Rattle.fish_ingest.specs.Starting.{CanStart, HasIngested, IsPending, number_of};
 ghost use Rattle.fish_ingest.specs.declared.refusal.IngestRefusal.TheVariants as refusal;
 ghost use Rattle.fish_rule.specs.Entering.{after_retire};
 ghost use Rattle.fish_rule.specs.Passes.{IsPassOf, view};

@@ -28,7 +28,7 @@ pub enum IngestRefusal {
 
 impl From<Shut> for IngestRefusal {
     ghost use Rattle.std.specs.Prelude.{◌≡◌};
-    ghost use Rattle.fish_ingest.specs.Starting.{full_of};
+    ghost use Rattle.fish_ingest.specs.Refusing.{full_of};
 
     ghost from_gives = { λ shut refusal. refusal ≡ full_of shut };
 

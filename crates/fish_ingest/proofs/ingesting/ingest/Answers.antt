@@ -1,6 +1,6 @@
 -- The record that was started is published.
 use Rattle.std.proofs.Common.{sym, subst, ℕ}
-use Rattle.fish_ingest.proofs.Starts.{has_ingested}
+use Rattle.fish_ingest.proofs.Ends.{has_ingested}
 use Rattle.fish_ingest.specs.Starting.{HasIngested}
 use Rattle.fish_rule.specs.Passes.{view}
 use Rattle.fish_ingest.proofs.ingesting.ingest.Goals as goal

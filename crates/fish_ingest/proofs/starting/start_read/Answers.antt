@@ -3,7 +3,7 @@ use Rattle.std.proofs.Common.{◌≤◌, ℕ, sym, ◌∙◌, subst}
 use Rattle.fish_epoch.proofs.Reading.{defs_later}
 use Rattle.fish_ingest.proofs.Starts.{has_filled, has_started, may_place, learns_retired, not_claimed_left}
 use Rattle.fish_ingest.proofs.Passed.{on_keeps}
-use Rattle.fish_ingest.specs.Starting.{HasRefused}
+use Rattle.fish_ingest.specs.Refusing.{HasRefused}
 use Rattle.fish_ingest.specs.declared.refusal.IngestRefusal.{IngestRefusal}
 use Rattle.fish_rule.specs.Passes.{view}
 use Rattle.fish_ingest.proofs.starting.start_read.Goals as goal

@@ -1,0 +1,107 @@
+-- The publication of a pending record, and the refusals of an ingest.
+use Rattle.std.proofs.Common.{◌≡◌, ℕ, List, [], ◌∷◌, ◌++◌, refl, sym, ap, ◌∙◌}
+use Rattle.std.proofs.Common.{subst, inl, inr, ⊎_elim, arith, true}
+use Rattle.fish_catalog.specs.declared.entry.Entry.TheVariants as entry
+use Rattle.fish_ingest.proofs.Recorded.{tells_recorded}
+use Rattle.fish_ingest.specs.Refusing.{HasNotClaimed, HasRefused, IsCause, IsEarly, IsLate}
+use Rattle.fish_ingest.specs.Starting.{HasIngested, HasStarted, number_of}
+use Rattle.fish_ingest.specs.declared.refusal.IngestRefusal.{IngestRefusal}
+use Rattle.fish_ingest.specs.declared.refusal.IngestRefusal.TheVariants as refusal
+use Rattle.fish_psf.specs.Records.{is_record}
+use Rattle.fish_ingest.specs.declared.pending.Pending.{Pending}
+use Rattle.fish_rule.proofs.Extending.{learns_both}
+use Rattle.fish_rule.proofs.Flights.{one_flight}
+use Rattle.fish_rule.specs.Entering.{after_retire}
+use Rattle.fish_rule.specs.Logs.{Learns, Tells}
+use Rattle.fish_rule.specs.Steps.{after_publish, flight_kind, own_after, records_after, shut_after}
+use Rattle.fish_rule.specs.Views.{Among}
+use Rattle.fish_rule.specs.declared.view.Flight.{Flight}
+use Rattle.fish_rule.specs.declared.view.Found.{Found}
+use Rattle.fish_rule.specs.declared.view.Kind.{Kind}
+use Rattle.fish_rule.specs.declared.view.Kind.TheVariants.{Mark, Stored, Void}
+use Rattle.fish_rule.specs.declared.view.Recorded.{Recorded}
+use Rattle.fish_rule.specs.declared.view.View.{View}
+use Rattle.fish_value.specs.declared.field.Form.{Form}
+
+-- the record that was pending is published, and the pass is out
+pub has_ingested : (v u w : View) (form : Form) (payload : List ℕ) (pending : Pending) (s : HasStarted v form payload pending u)
+    → w ≡ after_retire (after_publish u s.waits.flight) → HasIngested v form payload (number_of pending) w
+has_ingested v u w form payload pending s is = subst (HasIngested v form payload (number_of pending)) (sym is) (
+    let f : Flight = s.waits.flight in
+    let p : View = after_publish u f in
+    let kind : flight_kind u f ≡ Stored = s.waits.stored in
+    let number : f.number ≡ number_of pending = s.waits.number_is in
+    let flights : s.words.flight ≡ f = one_flight s.words.flight f (sym s.words.flying ∙ s.waits.ready.flying) in
+    let newest : Among (record { number = number_of pending; words = s.words.flight.words }) (after_retire p).learned.records =
+    subst (λ (z : Kind). Among (record { number = number_of pending; words = s.words.flight.words })
+    (records_after z f u.learned.records)) (sym kind)
+    (inl (λ j. record { number = number j; words = (sym flights j).words })) in
+    let lane : s.parts.lane ≡ v.lane = s.are.parts.lane_is ∙ s.are.lane_is ∙ s.on.lane in
+    let form_ : s.parts.form ≡ form = s.are.parts.form_is ∙ s.are.form_is in
+    record {
+      accepted = subst (λ (z : Form). is_record z payload ≡ true) s.are.form_is s.are.parts.reads;
+      unshut = s.unshut;
+      on = record {
+        learns = learns_both v u (after_retire p) s.on.learns (publish_learns u f);
+        lane = s.on.lane;
+        out = s.on.out;
+        rows = s.on.rows;
+        draft = s.on.draft;
+      };
+      outside = refl;
+      idle = refl;
+      shut = ap (λ (z : Kind). shut_after z f u.about.end u.shut) kind ∙ s.shut;
+      own = ap (λ (z : Kind). own_after z u.lane f.number u.own) kind
+          ∙ (λ j. s.own j ++ record { lane = s.on.lane j; number = number j } ∷ []);
+      entry = subst (λ (z : ℕ × Form × List ℕ). Tells (after_retire p) (number_of pending) (entry.Stored z.0 z.1 z.2))
+          (λ j. (lane j, form_ j, s.are.parts.payload_is j))
+          (tells_recorded (after_retire p) (number_of pending) s.words.flight.words s.words.words
+          (record s.parts { number = number_of pending }) newest s.words.made s.words.same refl);
+      fresh = s.fresh;
+      found = λ x m. ⊎_elim
+          (λ (h : record { number = f.number; kind = flight_kind u f; line = f.line; lines = f.lines } ≡ x).
+          inr (inr (ap (λ (z : Found). z.number) (sym h) ∙ number)))
+          (λ (h : Among x u.learned.found). ⊎_elim (λ (o : Among x v.learned.found). inl o)
+          (λ (k : x.kind ≡ Void). inr (inl k)) (s.voids x h)) m;
+    })
+  where
+    more : (kind : Kind) (f : Flight) (records : List Recorded) (x : Recorded) → Among x records
+        → Among x (records_after kind f records)
+    more Stored f records x m = inr m
+    more Void f records x m = m
+    more Mark f records x m = m
+
+    publish_learns : (u : View) (f : Flight) → Learns u (after_retire (after_publish u f))
+    publish_learns u f = record {
+      about = refl;
+      count = omega arith;
+      settled = omega arith;
+      version = omega arith;
+      words = λ x m. m;
+      found = λ x m. inr m;
+      known = λ x m. m;
+      records = more (flight_kind u f) f u.learned.records;
+      nodes = λ x m. m;
+      lows = λ x m. m;
+      tops = λ x m. m;
+      gaps = λ x m. m;
+      labels = λ x m. m;
+    }
+
+-- ---- refusals
+
+-- what the parse refused claimed nothing
+pub refused_early : (v u : View) (form : Form) (payload : List ℕ) (e : IngestRefusal) → IsEarly e → HasNotClaimed v u
+    → HasRefused v form payload e u
+refused_early v u form payload refusal.TooLong early h = h
+refused_early v u form payload refusal.NotRecord early h = h
+refused_early v u form payload refusal.OutOfMemory early h = h
+refused_early v u form payload (refusal.Full line lines end) early h = absurd early
+
+-- what came behind the parse came of a record
+pub late_cause : (form : Form) (payload : List ℕ) (e : IngestRefusal) → IsLate e → is_record form payload ≡ true
+    → IsCause form payload e
+late_cause form payload refusal.OutOfMemory late h = tt
+late_cause form payload (refusal.Full line lines end) late h = h
+late_cause form payload refusal.TooLong late h = absurd late
+late_cause form payload refusal.NotRecord late h = absurd late

@@ -1,0 +1,73 @@
+-- Why a payload is refused, and what a refusal leaves behind.
+use Rattle.fish_ingest.specs.Passing.{GoesOn, OnlyFound}
+use Rattle.fish_ingest.specs.Starting.{IsRecordFor}
+use Rattle.fish_ingest.specs.declared.refusal.IngestRefusal.TheVariants as refusal
+use Rattle.fish_ingest.specs.declared.refusal.IngestRefusal.{IngestRefusal}
+use Rattle.fish_layout.specs.Body.{body_lines}
+use Rattle.fish_layout.specs.declared.parts.BodyParts.{BodyParts}
+use Rattle.fish_layout.specs.declared.parts.TheConstants.{MAX_PAYLOAD}
+use Rattle.fish_psf.specs.Records.{is_record}
+use Rattle.fish_rule.specs.declared.view.Epoch.TheVariants.{Out}
+use Rattle.fish_rule.specs.declared.view.Kind.TheVariants.{Stored}
+use Rattle.fish_rule.specs.declared.view.Shut.{Shut}
+use Rattle.fish_rule.specs.declared.view.View.{View}
+use Rattle.fish_value.specs.declared.field.Form.{Form}
+use Rattle.std.specs.Prelude.{ℕ, ◌≡◌, ◌≢◌, ◌⊎◌, ◌<◌, ◌≤◌, List, length, None, Some, true, false, ⊤}
+
+-- the claim that shut a pass, as a refusal
+abbrev pub full_of : Shut → IngestRefusal
+full_of shut = refusal.Full shut.line shut.lines shut.end
+
+-- why a refusal comes
+abbrev pub IsCause : Form → List ℕ → IngestRefusal → Type 0
+IsCause form payload refusal.TooLong = MAX_PAYLOAD < length payload
+IsCause form payload refusal.NotRecord = (length payload ≤ MAX_PAYLOAD) × (is_record form payload ≡ false)
+IsCause form payload refusal.OutOfMemory = ⊤
+IsCause form payload (refusal.Full line lines end) = is_record form payload ≡ true
+
+-- it is one of the parse
+abbrev pub IsEarly : IngestRefusal → Type 0
+IsEarly (refusal.Full line lines end) = ⊥
+IsEarly e = ⊤
+
+-- it comes behind the parse
+abbrev pub IsLate : IngestRefusal → Type 0
+IsLate refusal.OutOfMemory = ⊤
+IsLate (refusal.Full line lines end) = ⊤
+IsLate e = ⊥
+
+-- the pass isn't entered and has nothing in flight, and no number is its own that wasn't before
+pub record HasLeft (v u : View) : Type 0 where
+  pub on : GoesOn v u
+  pub outside : u.epoch ≡ Out
+  pub idle : u.flight ≡ None
+  pub own : u.own ≡ v.own
+
+-- and it claimed nothing
+pub record HasNotClaimed (v u : View) : Type 0 where
+  pub left : HasLeft v u
+  pub shut : u.shut ≡ v.shut
+  pub tail : u.tail ≡ v.tail
+  pub count : u.learned.count ≡ v.learned.count
+  pub found : u.learned.found ≡ v.learned.found
+
+-- the claim that shut the pass came earlier, or it was one of this call, for the lines of the record that the
+-- payload is at the version entered
+abbrev pub IsShutFor : View → Form → List ℕ → Shut → View → Type 0
+IsShutFor v form payload shut u = ((v.shut ≡ Some shut) × HasNotClaimed v u)
+    ⊎ ((v.shut ≡ None) × ((p : BodyParts) × IsRecordFor u form payload p × (shut.lines ≡ body_lines p)))
+
+-- the pass is shut by this claim, and of what it claimed nothing is stored
+pub record IsFull (v : View) (form : Form) (payload : List ℕ) (shut : Shut) (u : View) : Type 0 where
+  pub left : HasLeft v u
+  pub shut_is : u.shut ≡ Some shut
+  pub by_claim : IsShutFor v form payload shut u
+  pub unstored : OnlyFound (λ kind. kind ≢ Stored) v u
+
+-- what a refusal leaves
+abbrev pub HasRefused : View → Form → List ℕ → IngestRefusal → View → Type 0
+HasRefused v form payload refusal.TooLong u = HasNotClaimed v u
+HasRefused v form payload refusal.NotRecord u = HasNotClaimed v u
+HasRefused v form payload refusal.OutOfMemory u = HasNotClaimed v u
+HasRefused v form payload (refusal.Full line lines end) u =
+    IsFull v form payload (record { line = line; lines = lines; end = end }) u
