@@ -1,12 +1,9 @@
--- The publication of a pending record, and the refusals of an ingest.
+-- The publication of a pending record.
 use Rattle.std.proofs.Common.{◌≡◌, ℕ, List, [], ◌∷◌, ◌++◌, refl, sym, ap, ◌∙◌}
 use Rattle.std.proofs.Common.{subst, inl, inr, ⊎_elim, arith, true}
 use Rattle.fish_catalog.specs.declared.entry.Entry.TheVariants as entry
 use Rattle.fish_ingest.proofs.Recorded.{tells_recorded}
-use Rattle.fish_ingest.specs.Refusing.{HasNotClaimed, HasRefused, IsCause, IsEarly, IsLate}
 use Rattle.fish_ingest.specs.Starting.{HasIngested, HasStarted, number_of}
-use Rattle.fish_ingest.specs.declared.refusal.IngestRefusal.{IngestRefusal}
-use Rattle.fish_ingest.specs.declared.refusal.IngestRefusal.TheVariants as refusal
 use Rattle.fish_psf.specs.Records.{is_record}
 use Rattle.fish_ingest.specs.declared.pending.Pending.{Pending}
 use Rattle.fish_rule.proofs.Extending.{learns_both}
@@ -87,21 +84,3 @@ has_ingested v u w form payload pending s is = subst (HasIngested v form payload
       gaps = λ x m. m;
       labels = λ x m. m;
     }
-
--- ---- refusals
-
--- what the parse refused claimed nothing
-pub refused_early : (v u : View) (form : Form) (payload : List ℕ) (e : IngestRefusal) → IsEarly e → HasNotClaimed v u
-    → HasRefused v form payload e u
-refused_early v u form payload refusal.TooLong early h = h
-refused_early v u form payload refusal.NotRecord early h = h
-refused_early v u form payload refusal.OutOfMemory early h = h
-refused_early v u form payload (refusal.Full line lines end) early h = absurd early
-
--- what came behind the parse came of a record
-pub late_cause : (form : Form) (payload : List ℕ) (e : IngestRefusal) → IsLate e → is_record form payload ≡ true
-    → IsCause form payload e
-late_cause form payload refusal.OutOfMemory late h = tt
-late_cause form payload (refusal.Full line lines end) late h = h
-late_cause form payload refusal.TooLong late h = absurd late
-late_cause form payload refusal.NotRecord late h = absurd late

@@ -1,6 +1,6 @@
 -- The first half of an ingest put together.
 use Rattle.std.proofs.Common.{◌≡◌, ◌≢◌, ℕ, ◌<◌, ◌≤◌, zero, suc, List, [], ◌∷◌, map, refl, sym, ap, ◌∙◌}
-use Rattle.std.proofs.Common.{subst, inl, inr, arith, Some, None, Option, All}
+use Rattle.std.proofs.Common.{subst, inr, arith, Some, None, Option, All}
 use Rattle.std.specs.List.Sorted.{IsStrictlyIncreasing}
 use Rattle.fish_catalog.proofs.ActiveTexts.{active_ids_below, active_ids_increase}
 use Rattle.fish_claim.proofs.Known.{knows_later}
@@ -8,13 +8,12 @@ use Rattle.fish_epoch.specs.Definitions.{AreRead, active_defs}
 use Rattle.fish_epoch.specs.Entering.{HasEntered, Keeps}
 use Rattle.fish_epoch.specs.declared.definitions.Defs.{Defs}
 use Rattle.fish_ingest.proofs.Active.{def_ids}
-use Rattle.fish_ingest.proofs.Passed.{found_both, found_same, on_both, on_keeps, on_self}
+use Rattle.fish_ingest.proofs.Passed.{found_both, found_same, on_both, on_keeps}
 use Rattle.fish_ingest.specs.Definitions.{AreDefs, id_of}
 use Rattle.fish_ingest.specs.Passing.{GoesOn}
 use Rattle.fish_ingest.specs.Placing.{CanPlace, HasPlaced, IsShutBy}
 use Rattle.fish_ingest.specs.Refusing.{HasNotClaimed, IsFull}
-use Rattle.fish_ingest.specs.Starting.{CanStart, HasPrepared, HasStarted}
-use Rattle.fish_ingest.specs.Starting.{IsRecordFor}
+use Rattle.fish_ingest.specs.Starting.{CanStart, HasPrepared, HasStarted, IsRecordFor}
 use Rattle.fish_ingest.specs.Writing.{HasStored}
 use Rattle.fish_ingest.specs.declared.pending.Pending.{Pending}
 use Rattle.fish_ingest.specs.declared.prepared.Prepared.{Prepared}
@@ -49,16 +48,6 @@ idle_law v s can = carries_idle v v.flight v.about s.moment.registry s.rule.vers
     (s.rule.registry.flights s.seat v s.at)
 
 -- ---- without a claim
-
--- a call that did nothing claimed nothing
-pub not_claimed_self : (v : View) → Stands v → CanStart v → HasNotClaimed v v
-not_claimed_self v s can = record {
-  left = record { on = on_self v; outside = can.outside; idle = idle_law v s can; own = refl };
-  shut = refl;
-  tail = refl;
-  count = refl;
-  found = refl;
-}
 
 -- what the store of the own epoch leaves
 pub on_retire : (v : View) → GoesOn v (after_retire v)
@@ -227,15 +216,3 @@ module _ (v a b : View) (version : ℕ) (entered : HasEntered v version a) (keep
         unstored = found_both (λ kind. kind ≢ Stored) v b (after_retire u)
             (found_same (λ kind. kind ≢ Stored) v b (keeps.found ∙ entered.keeps.found)) is.unstored;
       })
-
--- a pass that was shut before claims nothing
-pub was_shut : (v : View) (form : Form) (payload : List ℕ) (shut : Shut) → Stands v → CanStart v → v.shut ≡ Some shut
-    → IsFull v form payload shut v
-was_shut v form payload shut s can is =
-    let none = not_claimed_self v s can in
-    record {
-      left = none.left;
-      shut_is = is;
-      by_claim = inl (is, none);
-      unstored = found_same (λ kind. kind ≢ Stored) v v refl;
-    }
