@@ -26,6 +26,14 @@ use std::alloc::{AllocError, Global};
 use std::marker::Brand;
 use std::sync::ledger::{Blank, Ledger};
 
+/// A payload, and what was read of it.
+#[derive(Clone, Copy)]
+struct Parsed<'a> {
+    form: Form,
+    payload: &'a [u8],
+    found: &'a Record,
+}
+
 /// Stores a payload and links its key entries, and leaves it in flight: parses it, enters the
 /// registry's version, evaluates the definitions that are active there, takes all memory, claims,
 /// fills and links.
@@ -52,33 +60,38 @@ pub fn start(
     if let Some(shut) = is_shut(pass) {
         return Err(IngestRefusal::from(shut));
     }
-    start_read(alloc, log, pass, defs, form, &found, payload)
+    let parsed = Parsed {
+        form,
+        payload,
+        found: &found,
+    };
+    start_parsed(alloc, log, pass, defs, parsed)
 }
 
 /// The same of a payload that was read, by a pass that isn't shut.
-fn start_read(
+fn start_parsed(
     alloc: Global,
     log: &Log,
     pass: &mut Pass,
     defs: &mut Defs,
-    form: Form,
-    found: &Record,
-    payload: &[u8],
+    parsed: Parsed,
 ) -> Result<Pending, IngestRefusal>
     requires pass { IsPassOf log.now pass.old }
     requires out { CanStart (view pass.old) }
     requires unshut { (view pass.old).shut ≡ None }
     requires defs { IsDefsOf (view pass.old) defs.old }
-    requires read { IsRead form payload.now found.now }
+    requires read { IsRead parsed.form parsed.payload.now parsed.found.now }
     ensures pass { IsPassOf log.now pass.new }
     ensures defs { IsDefsOf (view pass.new) defs.new }
-    ensures started { IfOk result (λ pending. HasStarted (view pass.old) form payload.now pending (view pass.new)) }
+    ensures started { IfOk result (λ pending.
+        HasStarted (view pass.old) parsed.entry.form parsed.entry.payload.now pending (view pass.new)) }
 
     ensures late { IfErr result IsLate }
-    ensures refused { IfErr result (λ e. HasRefused (view pass.old) form payload.now e (view pass.new)) }
+    ensures refused { IfErr result (λ e.
+        HasRefused (view pass.old) parsed.entry.form parsed.entry.payload.now e (view pass.new)) }
 {
     let version = enter(log, pass);
-    let made = prepare_at(alloc, log, pass, defs, version, form, found, payload);
+    let made = prepare_at(alloc, log, pass, defs, version, parsed);
     let Ok(prepared) = made else {
         leave(log, pass);
         return Err(IngestRefusal::OutOfMemory);
@@ -100,27 +113,25 @@ fn prepare_at(
     pass: &mut Pass,
     defs: &mut Defs,
     version: u16,
-    form: Form,
-    found: &Record,
-    payload: &[u8],
+    parsed: Parsed,
 ) -> Result<Prepared, AllocError>
     requires pass { IsPassOf log.now pass.old }
     requires live { 1 ≤ (view pass.old).lane }
     requires version { ((view pass.old).learned.version ≡ version) × (version ≤ 512) }
     requires defs { IsDefsOf (view pass.old) defs.old }
-    requires read { IsRead form payload.now found.now }
+    requires read { IsRead parsed.form parsed.payload.now parsed.found.now }
     ensures pass { IsPassOf log.now pass.new }
     ensures defs { IsDefsOf (view pass.new) defs.new }
     ensures keeps { Keeps (view pass.old) (view pass.new) × ((view pass.new).epoch ≡ (view pass.old).epoch) }
-    ensures prepared { IfOk result (HasPrepared (view pass.new) version form payload.now) }
+    ensures prepared { IfOk result (HasPrepared (view pass.new) version parsed.entry.form parsed.entry.payload.now) }
 {
     defs.refresh(log, pass, version)?;
     let origin = Origin {
         lane: lane(pass),
         version,
-        form,
+        form: parsed.form,
     };
-    prepare(alloc, defs.active(), origin, found, payload)
+    prepare(alloc, defs.active(), origin, parsed.found, parsed.payload)
 }
 
 /// Reads a payload as a record of its form, with a counter of its own.

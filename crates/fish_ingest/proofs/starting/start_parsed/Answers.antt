@@ -6,7 +6,7 @@ use Rattle.fish_ingest.proofs.Passed.{on_keeps}
 use Rattle.fish_ingest.specs.Refusing.{HasRefused}
 use Rattle.fish_ingest.specs.declared.refusal.IngestRefusal.{IngestRefusal}
 use Rattle.fish_rule.specs.Passes.{view}
-use Rattle.fish_ingest.proofs.starting.start_read.Goals as goal
+use Rattle.fish_ingest.proofs.starting.start_parsed.Goals as goal
 
 pub prepare_at-made-requires-clause-defs : goal.prepare_at-made-requires-clause-defs
 prepare_at-made-requires-clause-defs c =
@@ -22,8 +22,8 @@ returns-in_default-clause-refused c =
 pub place-requires-clause-can : goal.place-requires-clause-can
 place-requires-clause-can c =
     may_place (view c.args.pass.now) (view c.enter-version.new.pass) (view c.prepare_at-made.new.pass)
-    c.enter-version.result c.enter-version.ensures.entered c.prepare_at-made.ensures.keeps.0 c.args.form
-    c.args.payload.now c.in-Ok.prepared c.requires.pass.stands c.requires.out c.requires.unshut
+    c.enter-version.result c.enter-version.ensures.entered c.prepare_at-made.ensures.keeps.0 c.args.parsed.form
+    c.args.parsed.payload.now c.in-Ok.prepared c.requires.pass.stands c.requires.out c.requires.unshut
     c.prepare_at-made.ensures.keeps.1 c.in-Ok.ensures.prepared
 
 -- what was read stays read as the pass leaves
@@ -39,7 +39,7 @@ returns-in-Ok-place-clause-defs c =
     let a = view c.enter-version.new.pass in
     let b = view c.prepare_at-made.new.pass in
     let may = may_place v a b c.enter-version.result c.enter-version.ensures.entered c.prepare_at-made.ensures.keeps.0
-    c.args.form c.args.payload.now c.in-Ok.prepared c.requires.pass.stands c.requires.out c.requires.unshut
+    c.args.parsed.form c.args.parsed.payload.now c.in-Ok.prepared c.requires.pass.stands c.requires.out c.requires.unshut
     c.prepare_at-made.ensures.keeps.1 c.in-Ok.ensures.prepared in
     defs_later b (view c.place.new.pass) c.prepare_at-made.new.defs (c.in-Ok-place.ensures.placed may).on.learns
     c.prepare_at-made.ensures.defs
@@ -50,10 +50,10 @@ returns-in-Ok-place-clause-started c =
     let a = view c.enter-version.new.pass in
     let b = view c.prepare_at-made.new.pass in
     let may = may_place v a b c.enter-version.result c.enter-version.ensures.entered c.prepare_at-made.ensures.keeps.0
-    c.args.form c.args.payload.now c.in-Ok.prepared c.requires.pass.stands c.requires.out c.requires.unshut
+    c.args.parsed.form c.args.parsed.payload.now c.in-Ok.prepared c.requires.pass.stands c.requires.out c.requires.unshut
     c.prepare_at-made.ensures.keeps.1 c.in-Ok.ensures.prepared in
     has_started v a b c.enter-version.result c.enter-version.ensures.entered c.prepare_at-made.ensures.keeps.0
-    c.args.form c.args.payload.now c.in-Ok.prepared c.in-Ok-place.pending (view c.place.new.pass)
+    c.args.parsed.form c.args.parsed.payload.now c.in-Ok.prepared c.in-Ok-place.pending (view c.place.new.pass)
     c.requires.pass.stands c.requires.out c.requires.unshut c.prepare_at-made.ensures.keeps.1 c.in-Ok.ensures.prepared
     (c.in-Ok-place.ensures.placed may)
 
@@ -64,7 +64,7 @@ leave-requires-in-Err-clause-idle c =
     let a = view c.enter-version.new.pass in
     let b = view c.prepare_at-made.new.pass in
     let may = may_place v a b c.enter-version.result c.enter-version.ensures.entered c.prepare_at-made.ensures.keeps.0
-    c.args.form c.args.payload.now c.in-Ok.prepared c.requires.pass.stands c.requires.out c.requires.unshut
+    c.args.parsed.form c.args.parsed.payload.now c.in-Ok.prepared c.requires.pass.stands c.requires.out c.requires.unshut
     c.prepare_at-made.ensures.keeps.1 c.in-Ok.ensures.prepared in
     let shut = c.in-Err.ensures.shut may in
     record {
@@ -80,7 +80,7 @@ returns-in-Err-clause-defs c =
     let a = view c.enter-version.new.pass in
     let b = view c.prepare_at-made.new.pass in
     let may = may_place v a b c.enter-version.result c.enter-version.ensures.entered c.prepare_at-made.ensures.keeps.0
-    c.args.form c.args.payload.now c.in-Ok.prepared c.requires.pass.stands c.requires.out c.requires.unshut
+    c.args.parsed.form c.args.parsed.payload.now c.in-Ok.prepared c.requires.pass.stands c.requires.out c.requires.unshut
     c.prepare_at-made.ensures.keeps.1 c.in-Ok.ensures.prepared in
     let u = view c.place.new.pass in
     let w = view c.leave-in-Err.new.pass in
@@ -95,11 +95,11 @@ returns-in-Err-clause-refused c =
     let a = view c.enter-version.new.pass in
     let b = view c.prepare_at-made.new.pass in
     let may = may_place v a b c.enter-version.result c.enter-version.ensures.entered c.prepare_at-made.ensures.keeps.0
-    c.args.form c.args.payload.now c.in-Ok.prepared c.requires.pass.stands c.requires.out c.requires.unshut
+    c.args.parsed.form c.args.parsed.payload.now c.in-Ok.prepared c.requires.pass.stands c.requires.out c.requires.unshut
     c.prepare_at-made.ensures.keeps.1 c.in-Ok.ensures.prepared in
-    subst (λ (e : IngestRefusal). HasRefused v c.args.form c.args.payload.now e (view c.leave-in-Err.new.pass))
+    subst (λ (e : IngestRefusal). HasRefused v c.args.parsed.form c.args.parsed.payload.now e (view c.leave-in-Err.new.pass))
     (sym c.from.ensures)
     (has_filled v a b c.enter-version.result c.enter-version.ensures.entered c.prepare_at-made.ensures.keeps.0
-    c.args.form c.args.payload.now c.in-Ok.prepared c.in-Err.shut (view c.place.new.pass)
+    c.args.parsed.form c.args.parsed.payload.now c.in-Ok.prepared c.in-Err.shut (view c.place.new.pass)
     (view c.leave-in-Err.new.pass) c.requires.unshut c.in-Ok.ensures.prepared may.lines may.size
     (c.in-Err.ensures.shut may) c.leave-in-Err.ensures.view)
