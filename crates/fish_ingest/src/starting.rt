@@ -28,7 +28,7 @@ use std::sync::ledger::{Blank, Ledger};
 
 /// A payload, and what was read of it.
 #[derive(Clone, Copy)]
-struct Parsed<'a> {
+struct ParsedPayload<'a> {
     form: Form,
     payload: &'a [u8],
     found: &'a Record,
@@ -60,7 +60,7 @@ pub fn start(
     if let Some(shut) = is_shut(pass) {
         return Err(IngestRefusal::from(shut));
     }
-    let parsed = Parsed {
+    let parsed = ParsedPayload {
         form,
         payload,
         found: &found,
@@ -74,7 +74,7 @@ fn start_parsed(
     log: &Log,
     pass: &mut Pass,
     defs: &mut Defs,
-    parsed: Parsed,
+    parsed: ParsedPayload,
 ) -> Result<Pending, IngestRefusal>
     requires pass { IsPassOf log.now pass.old }
     requires out { CanStart (view pass.old) }
@@ -113,7 +113,7 @@ fn prepare_at(
     pass: &mut Pass,
     defs: &mut Defs,
     version: u16,
-    parsed: Parsed,
+    parsed: ParsedPayload,
 ) -> Result<Prepared, AllocError>
     requires pass { IsPassOf log.now pass.old }
     requires live { 1 ≤ (view pass.old).lane }
