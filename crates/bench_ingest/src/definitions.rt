@@ -28,7 +28,9 @@ fn add(alloc: Global, catalog: &mut Catalog, name: &str, source: &str) -> Result
     let Ok(def) = parse_def(alloc, source.as_bytes()) else {
         return Err(AllocError);
     };
-    let text = print_def(alloc, &def)?;
+    let printed = print_def(alloc, &def);
+    drop(def);
+    let text = printed?;
     match catalog.add(&name, &text) {
         Ok(_) => Ok(()),
         Err(_) => Err(AllocError),

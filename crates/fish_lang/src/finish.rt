@@ -24,7 +24,10 @@ pub fn finish(alloc: Global, state: State) -> Result<Option<Def>, AllocError>
             when: None,
         })),
         State::BehindOperand(head, joint, cond) => ended_with(alloc, head, joint, cond),
-        _ => Ok(None),
+        other => {
+            drop(other);
+            Ok(None)
+        }
     }
 }
 
@@ -34,7 +37,10 @@ fn taken(owner: Owner, path: Path) -> Option<Def>
 {
     match owner {
         Owner::Take => Some(Def::Take { path, when: None }),
-        _ => None,
+        other => {
+            drop((other, path));
+            None
+        }
     }
 }
 
@@ -58,7 +64,10 @@ fn ended(head: Head, whole: Whole, cond: Cond) -> Option<Def>
 {
     match whole {
         Whole::Top => Some(definition_with(head, cond)),
-        Whole::Group(_) => None,
+        Whole::Group(place) => {
+            drop((place, head, cond));
+            None
+        }
     }
 }
 

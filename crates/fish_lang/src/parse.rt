@@ -100,13 +100,22 @@ fn answer(alloc: Global, b: &[u8]) -> Result<Def, LangRefusal>
 fn unless_long(alloc: Global, def: Def) -> Result<Def, LangRefusal>
     ensures { Gives definition_of result (unless_long (definition_of def)) }
 {
-    let length = print_def(alloc, &def)?.as_bytes().len();
-    if length > MAX_CANONICAL {
-        return Err(LangRefusal::TooLong {
-            length: length as u64,
-        });
+    match print_def(alloc, &def) {
+        Ok(text) => {
+            let length = text.as_bytes().len();
+            if length > MAX_CANONICAL {
+                drop(def);
+                return Err(LangRefusal::TooLong {
+                    length: length as u64,
+                });
+            }
+            Ok(def)
+        }
+        Err(error) => {
+            drop(def);
+            Err(LangRefusal::from(error))
+        }
     }
-    Ok(def)
 }
 
 /// The definition that tokens are, of a text that ends at a place.

@@ -1,7 +1,7 @@
 //! What the parser knows between two tokens, and where a token leads.
 
 ghost use Rattle.std.specs.Prelude.{◌≡◌, ◌++◌, ◌∷◌, [], Option, Some, option_map, IfOk};
-ghost use Rattle.fish_lang.specs.Definition.{formula_of, compares, begins};
+ghost use Rattle.fish_lang.specs.Definition.{formula_of, both, compares, begins};
 ghost use Rattle.fish_lang.specs.Machine as machine;
 ghost use Rattle.fish_lang.specs.Moves as moves;
 ghost use Rattle.fish_lang.specs.Views.{whole_view, joint_view, operand_view, head_view, owner_view, steps_so_far, state_view};
@@ -108,8 +108,17 @@ fn from_step(
         (moves.name_of token)) }
 {
     match name_of(token) {
-        Some(step) => Ok(Some(State::BehindStep(owner, longer(alloc, path, step)?))),
-        None => Ok(None),
+        Some(step) => match longer(alloc, path, step) {
+            Ok(path) => Ok(Some(State::BehindStep(owner, path))),
+            Err(error) => {
+                drop(owner);
+                Err(error)
+            }
+        },
+        None => {
+            drop((owner, path));
+            Ok(None)
+        }
     }
 }
 
@@ -131,7 +140,10 @@ fn name_of(token: Token) -> Option<Text>
     match token {
         Token::Ident(s) => Some(s),
         Token::Str(s) => Some(s),
-        _ => None,
+        other => {
+            drop(other);
+            None
+        }
     }
 }
 
@@ -192,7 +204,10 @@ fn behind_test(
             Ok(Some(complete(alloc, head, place, Cond::Exists { path })?))
         }
         Token::Keyword(Keyword::Starts) => Ok(Some(State::Prefix(head, place, path))),
-        _ => Ok(None),
+        other => {
+            drop((other, head, place, path));
+            Ok(None)
+        }
     }
 }
 
@@ -220,15 +235,30 @@ fn from_operand(
 {
     match token {
         Token::Keyword(Keyword::Not) => {
-            Ok(Some(State::Operand(head, Operand::UnderNot(Box::new(alloc, place)?))))
+            match Box::new(alloc, place) {
+                Ok(place) => Ok(Some(State::Operand(head, Operand::UnderNot(place)))),
+                Err(error) => {
+                    drop(head);
+                    Err(AllocError::from(error))
+                }
+            }
         }
-        Token::Open => {
-            let group = Whole::Group(Box::new(alloc, place)?);
-            Ok(Some(State::Operand(head, Operand::InJoint(Joint::InWhole(group)))))
-        }
+        Token::Open => match Box::new(alloc, place) {
+            Ok(place) => {
+                let group = Whole::Group(place);
+                Ok(Some(State::Operand(head, Operand::InJoint(Joint::InWhole(group)))))
+            }
+            Err(error) => {
+                drop(head);
+                Err(AllocError::from(error))
+            }
+        },
         Token::Ident(s) => Ok(Some(in_test(alloc, head, place, s))),
         Token::Str(s) => Ok(Some(in_test(alloc, head, place, s))),
-        _ => Ok(None),
+        other => {
+            drop((other, head, place));
+            Ok(None)
+        }
     }
 }
 
@@ -258,7 +288,10 @@ fn from_literal(
             let cond = Cond::Compare { path, op, literal };
             Ok(Some(complete(alloc, head, place, cond)?))
         }
-        None => Ok(None),
+        None => {
+            drop((head, place, path));
+            Ok(None)
+        }
     }
 }
 
@@ -271,7 +304,10 @@ fn value_of(token: Token) -> Option<Value>
         Token::Keyword(Keyword::False) => Some(Value::Bool(false)),
         Token::Number { value, .. } => Some(Value::Int(value.unwrap_or(0))),
         Token::Str(s) => Some(Value::Text(s)),
-        _ => None,
+        other => {
+            drop(other);
+            None
+        }
     }
 }
 
@@ -292,7 +328,10 @@ fn from_prefix(
             let cond = Cond::Starts { path, prefix };
             Ok(Some(complete(alloc, head, place, cond)?))
         }
-        _ => Ok(None),
+        other => {
+            drop((other, head, place, path));
+            Ok(None)
+        }
     }
 }
 
@@ -304,13 +343,37 @@ fn complete(alloc: Global, head: Head, place: Operand, cond: Cond) -> Result<Sta
 {
     match place {
         Operand::InJoint(joint) => Ok(State::BehindOperand(head, joint, cond)),
-        Operand::BehindAnd(front, joint) => {
-            let both = Cond::And(Box::new(alloc, front)?, Box::new(alloc, cond)?);
-            Ok(State::BehindOperand(head, joint, both))
-        }
-        Operand::UnderNot(outer) => {
-            let not = Cond::Not(Box::new(alloc, cond)?);
-            complete(alloc, head, Box::into_inner(outer), not)
+        Operand::BehindAnd(front, joint) => match both_of(alloc, front, cond) {
+            Ok(both) => Ok(State::BehindOperand(head, joint, both)),
+            Err(error) => {
+                drop((head, joint));
+                Err(error)
+            }
+        },
+        Operand::UnderNot(outer) => match Box::new(alloc, cond) {
+            Ok(cond) => complete(alloc, head, Box::into_inner(outer), Cond::Not(cond)),
+            Err(error) => {
+                drop((head, outer));
+                Err(AllocError::from(error))
+            }
+        },
+    }
+}
+
+fn both_of(alloc: Global, front: Cond, cond: Cond) -> Result<Cond, AllocError>
+    ensures { IfOk result (λ a. formula_of a ≡ both (formula_of front) (formula_of cond)) }
+{
+    match Box::new(alloc, front) {
+        Ok(front) => match Box::new(alloc, cond) {
+            Ok(cond) => Ok(Cond::And(front, cond)),
+            Err(error) => {
+                drop(front);
+                Err(AllocError::from(error))
+            }
+        },
+        Err(error) => {
+            drop(cond);
+            Err(AllocError::from(error))
         }
     }
 }
@@ -330,16 +393,27 @@ fn from_joint(
         Token::Keyword(Keyword::And) => {
             Ok(Some(State::Operand(head, Operand::BehindAnd(cond, joint))))
         }
-        Token::Keyword(Keyword::Or) => {
-            let (whole, cond) = or_with(alloc, joint, cond)?;
-            let joint = Joint::BehindOr(cond, whole);
-            Ok(Some(State::Operand(head, Operand::InJoint(joint))))
+        Token::Keyword(Keyword::Or) => match or_with(alloc, joint, cond) {
+            Ok((whole, cond)) => {
+                let joint = Joint::BehindOr(cond, whole);
+                Ok(Some(State::Operand(head, Operand::InJoint(joint))))
+            }
+            Err(error) => {
+                drop(head);
+                Err(error)
+            }
+        },
+        Token::Close => match or_with(alloc, joint, cond) {
+            Ok((whole, cond)) => close(alloc, head, whole, cond),
+            Err(error) => {
+                drop(head);
+                Err(error)
+            }
+        },
+        other => {
+            drop((other, head, joint, cond));
+            Ok(None)
         }
-        Token::Close => {
-            let (whole, cond) = or_with(alloc, joint, cond)?;
-            close(alloc, head, whole, cond)
-        }
-        _ => Ok(None),
     }
 }
 
@@ -365,7 +439,10 @@ fn close(alloc: Global, head: Head, whole: Whole, cond: Cond) -> Result<Option<S
         ≡ moves.close (head_view head) (whole_view whole) (formula_of cond)) }
 {
     match whole {
-        Whole::Top => Ok(None),
+        Whole::Top => {
+            drop((head, cond));
+            Ok(None)
+        }
         Whole::Group(place) => Ok(Some(complete(alloc, head, Box::into_inner(place), cond)?)),
     }
 }

@@ -74,7 +74,9 @@ fn prepare<H: Host>(alloc: Global, words: &[Text], host: &mut H) -> Result<Prepa
     ensures refused { IfErr result (IsEarlyEnd words.now (H.faults host.old) (H.faults host.new)) }
 {
     let command = read_words(alloc, words)?;
-    prepare_select(alloc, &command, host)
+    let prepared = prepare_select(alloc, &command, host);
+    drop(command);
+    prepared
 }
 
 /// Reads the file of a command, and makes the report and its text.

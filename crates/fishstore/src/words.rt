@@ -74,11 +74,24 @@ pub fn read_words(alloc: Global, words: &[Text]) -> Result<Select, WordsRefusal>
         return Err(WordsRefusal::Usage(UsageCause::Words));
     }
     let def = parse_def(alloc, def.as_bytes())?;
-    let Some(value) = read_value(alloc, value.as_bytes())? else {
-        return Err(WordsRefusal::Usage(UsageCause::Value));
+    let value = match read_value(alloc, value.as_bytes()) {
+        Ok(Some(value)) => value,
+        Ok(None) => {
+            drop(def);
+            return Err(WordsRefusal::Usage(UsageCause::Value));
+        }
+        Err(error) => {
+            drop(def);
+            return Err(WordsRefusal::from(error));
+        }
     };
-    let file = file.again(alloc)?;
-    Ok(Select { def, value, file })
+    match file.again(alloc) {
+        Ok(file) => Ok(Select { def, value, file }),
+        Err(error) => {
+            drop((def, value));
+            Err(WordsRefusal::from(error))
+        }
+    }
 }
 
 /// Whether a value begins with a minus, which an option would.
