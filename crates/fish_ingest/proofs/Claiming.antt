@@ -5,7 +5,7 @@ use Rattle.fish_claim.proofs.Bodies.{placed_law}
 use Rattle.fish_claim.specs.Claims.{IsClaimed, answer_of, claimed_view}
 use Rattle.fish_claim.specs.declared.claimed.Claimed.TheVariants as answer
 use Rattle.fish_ingest.proofs.Passed.{found_both, found_map, found_same, on_both, on_self}
-use Rattle.fish_ingest.specs.Passing.{GoesOn, OnlyFound}
+use Rattle.fish_ingest.specs.Passing.{GoesOn, HasMark, OnlyFound}
 use Rattle.fish_ingest.specs.Placing.{HasPlace, IsShutBy}
 use Rattle.fish_rule.specs.Regions.{kind_of}
 use Rattle.fish_rule.specs.Steps.{CanClaim}
@@ -49,6 +49,31 @@ mark_found Mark v u lines number line shut is e known = (
         → Among x v.learned.found ⊎ (x.kind ≡ Mark)
     by x (inl h) = inr (ap (λ (z : Found). z.kind) (sym h) ∙ is)
     by x (inr h) = inl h
+
+    lines_in : Rattle.fish_claim.specs.declared.claimed.Claimed.Claimed → ℕ
+    lines_in (answer.Overflow s) = s.lines
+    lines_in (answer.Void n) = 0
+    lines_in (answer.Placed n l) = 0
+
+-- which is then known
+mark_there : (kind : Kind) (v u : View) (lines number line : ℕ) (shut : Shut) → kind_of v.about.end line (line + lines) ≡ kind
+    → answer.Overflow shut ≡ answer_of kind v.about.end number line lines → u ≡ claimed_view kind v lines number line
+    → HasMark u shut
+mark_there Stored v u lines number line shut is e known = absurd cc
+mark_there Void v u lines number line shut is e known = absurd cc
+mark_there Mark v u lines number line shut is e known =
+    let from : line ≡ shut.line = sym (ap line_in e) in
+    let size : lines ≡ shut.lines = sym (ap lines_in e) in (
+      number,
+      subst (λ (z : View). Among
+      (record { number = number; kind = Mark; line = shut.line; lines = shut.lines }) z.learned.found) (sym known)
+          (inl (λ j. record { number = number; kind = is j; line = from j; lines = size j })),
+    )
+  where
+    line_in : Rattle.fish_claim.specs.declared.claimed.Claimed.Claimed → ℕ
+    line_in (answer.Overflow s) = s.line
+    line_in (answer.Void n) = 0
+    line_in (answer.Placed n l) = 0
 
     lines_in : Rattle.fish_claim.specs.declared.claimed.Claimed.Claimed → ℕ
     lines_in (answer.Overflow s) = s.lines
@@ -131,6 +156,7 @@ module _ (v u t : View) (lines : ℕ) (h : IsTrying v u) where
         flying = ap (λ (z : View). z.flight) placed.known;
         kind = placed.stored;
         fresh = omega arith;
+        counted = (let c : t.learned.count ≡ suc number = ap (λ (z : View). z.learned.count) placed.known in omega arith);
         epoch = ap (λ (z : View). z.epoch) placed.known ∙ h.epoch;
         shut = ap (λ (z : View). z.shut) placed.known ∙ h.shut;
         own = ap (λ (z : View). z.own) placed.known ∙ h.own;
@@ -149,6 +175,8 @@ module _ (v u t : View) (lines : ℕ) (h : IsTrying v u) where
         idle = left.flight;
         shut_is = left.shut_is;
         lines_is = found.1;
+        mark = mark_there (kind_of u.about.end is.line (is.line + lines)) u t lines is.number is.line shut refl
+            is.answered is.known;
         epoch = left.epoch ∙ h.epoch;
         own = left.own ∙ h.own;
         unstored = found_both (λ kind. kind ≢ Stored) v u t

@@ -55,6 +55,7 @@ has_ingested v u w form payload pending s is = subst (HasIngested v form payload
           (tells_recorded (after_retire p) (number_of pending) s.words.flight.words s.words.words
           (record s.parts { number = number_of pending }) newest s.words.made s.words.same refl);
       fresh = s.fresh;
+      counted = s.counted;
       found = λ x m. ⊎_elim
           (λ (h : record { number = f.number; kind = flight_kind u f; line = f.line; lines = f.lines } ≡ x).
           inr (inr (ap (λ (z : Found). z.number) (sym h) ∙ number)))

@@ -78,6 +78,7 @@ module _ (v : View) (prepared : Prepared) (can : CanPlace v prepared) where
           number_is = same ∙ sym is;
           words = subst (λ (z : ℕ). HasStored (record can.made.0.0 { number = z }) t) (sym same) words;
           fresh = (let fresh = h.fresh in omega arith);
+          counted = (let counted = h.counted in let count = written.count in omega arith);
           epoch = written.epoch ∙ h.epoch;
           shut = written.shut ∙ h.shut;
           own = written.own ∙ h.own;

@@ -184,6 +184,7 @@ module _ (v a b : View) (version : ℕ) (entered : HasEntered v version a) (keep
         are = record_for form payload prepared u h placed.on.learns placed.on.lane;
         words = subst (λ (z : ℕ). HasStored (record h.made.0.0 { number = z }) u) placed.number_is placed.words;
         fresh = omega arith;
+        counted = (let counted = placed.counted in omega arith);
         shut = placed.shut ∙ keeps.shut ∙ entered.keeps.shut;
         own = placed.own ∙ keeps.own ∙ entered.keeps.own;
         voids = found_both (λ kind. kind ≡ Void) v b u
@@ -206,6 +207,7 @@ module _ (v a b : View) (version : ℕ) (entered : HasEntered v version a) (keep
         shut_is = is.shut_is;
         by_claim = inr (
           unshut,
+          is.mark,
           (
             h.made.0.0,
             record_for form payload prepared (after_retire u) h

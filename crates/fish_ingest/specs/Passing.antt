@@ -1,9 +1,11 @@
 -- What a call leaves of a pass.
-use Rattle.std.specs.Prelude.{◌≡◌, ◌⊎◌}
+use Rattle.std.specs.Prelude.{ℕ, ◌≡◌, ◌⊎◌}
 use Rattle.fish_rule.specs.Logs.{Learns}
 use Rattle.fish_rule.specs.Views.{Among}
 use Rattle.fish_rule.specs.declared.view.Found.{Found}
 use Rattle.fish_rule.specs.declared.view.Kind.{Kind}
+use Rattle.fish_rule.specs.declared.view.Kind.TheVariants.{Mark}
+use Rattle.fish_rule.specs.declared.view.Shut.{Shut}
 use Rattle.fish_rule.specs.declared.view.View.{View}
 
 -- the second view is of the same pass, and knows what the first knew
@@ -17,3 +19,7 @@ pub record GoesOn (v u : View) : Type 0 where
 -- what was found since are numbers of regions whose kind meets P
 abbrev pub OnlyFound : (Kind → Type 0) → View → View → Type 0
 OnlyFound P v u = (x : Found) → Among x u.learned.found → Among x v.learned.found ⊎ P x.kind
+
+-- the pass found the region of this claim to be a mark
+abbrev pub HasMark : View → Shut → Type 0
+HasMark v s = (n : ℕ) × Among (record { number = n; kind = Mark; line = s.line; lines = s.lines }) v.learned.found

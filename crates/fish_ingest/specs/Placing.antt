@@ -1,6 +1,6 @@
 -- A place in the log for a record, and the record there.
-use Rattle.std.specs.Prelude.{ℕ, ◌≡◌, ◌≢◌, ◌≤◌, List, map, None, Some}
-use Rattle.fish_ingest.specs.Passing.{GoesOn, OnlyFound}
+use Rattle.std.specs.Prelude.{ℕ, ◌≡◌, ◌≢◌, ◌<◌, ◌≤◌, List, map, None, Some}
+use Rattle.fish_ingest.specs.Passing.{GoesOn, HasMark, OnlyFound}
 use Rattle.fish_ingest.specs.Records.{IsPreparedFor}
 use Rattle.fish_ingest.specs.Writing.{HasStored}
 use Rattle.fish_ingest.specs.declared.origin.Origin.{Origin}
@@ -39,6 +39,7 @@ pub record HasPlace (v : View) (lines number : ℕ) (u : View) : Type 0 where
   pub flying : u.flight ≡ Some (flight_at number line lines)
   pub kind : flight_kind u (flight_at number line lines) ≡ Stored
   pub fresh : v.learned.count ≤ number
+  pub counted : number < u.learned.count
   pub epoch : u.epoch ≡ v.epoch
   pub shut : u.shut ≡ v.shut
   pub own : u.own ≡ v.own
@@ -50,6 +51,7 @@ pub record IsShutBy (v : View) (lines : ℕ) (shut : Shut) (u : View) : Type 0 w
   pub idle : u.flight ≡ None
   pub shut_is : u.shut ≡ Some shut
   pub lines_is : shut.lines ≡ lines
+  pub mark : HasMark u shut
   pub epoch : u.epoch ≡ v.epoch
   pub own : u.own ≡ v.own
   pub unstored : OnlyFound (λ kind. kind ≢ Stored) v u
@@ -63,6 +65,7 @@ pub record HasPlaced (v : View) (prepared : Prepared) (can : CanPlace v prepared
   pub number_is : flight.number ≡ pending.number
   pub words : HasStored (record can.made.0.0 { number = flight.number }) u
   pub fresh : v.learned.count ≤ flight.number
+  pub counted : flight.number < u.learned.count
   pub epoch : u.epoch ≡ v.epoch
   pub shut : u.shut ≡ v.shut
   pub own : u.own ≡ v.own

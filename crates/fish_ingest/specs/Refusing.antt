@@ -1,5 +1,5 @@
 -- Why a payload is refused, and what a refusal leaves behind.
-use Rattle.fish_ingest.specs.Passing.{GoesOn, OnlyFound}
+use Rattle.fish_ingest.specs.Passing.{GoesOn, HasMark, OnlyFound}
 use Rattle.fish_ingest.specs.Starting.{IsRecordFor}
 use Rattle.fish_ingest.specs.declared.refusal.IngestRefusal.TheVariants as refusal
 use Rattle.fish_ingest.specs.declared.refusal.IngestRefusal.{IngestRefusal}
@@ -55,7 +55,7 @@ pub record HasNotClaimed (v u : View) : Type 0 where
 -- payload is at the version entered
 abbrev pub IsShutFor : View → Form → List ℕ → Shut → View → Type 0
 IsShutFor v form payload shut u = ((v.shut ≡ Some shut) × HasNotClaimed v u)
-    ⊎ ((v.shut ≡ None) × ((p : BodyParts) × IsRecordFor u form payload p × (shut.lines ≡ body_lines p)))
+    ⊎ ((v.shut ≡ None) × HasMark u shut × ((p : BodyParts) × IsRecordFor u form payload p × (shut.lines ≡ body_lines p)))
 
 -- the pass is shut by this claim, and of what it claimed nothing is stored
 pub record IsFull (v : View) (form : Form) (payload : List ℕ) (shut : Shut) (u : View) : Type 0 where

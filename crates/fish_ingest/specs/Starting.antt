@@ -1,5 +1,5 @@
 -- What an ingest asks of a pass, and what it leaves behind.
-use Rattle.std.specs.Prelude.{ℕ, ◌≡◌, ◌⊎◌, ◌≤◌, List, [], ◌∷◌, ◌++◌, map, None, true}
+use Rattle.std.specs.Prelude.{ℕ, ◌≡◌, ◌⊎◌, ◌<◌, ◌≤◌, List, [], ◌∷◌, ◌++◌, map, None, true}
 use Rattle.fish_catalog.specs.declared.entry.Entry.TheVariants as entry
 use Rattle.fish_epoch.specs.Definitions.{IsDefsOf}
 use Rattle.fish_epoch.specs.declared.definitions.Defs.{Defs}
@@ -85,6 +85,7 @@ pub record HasStarted (v : View) (form : Form) (payload : List ℕ) (pending : P
   pub are : IsRecordFor u form payload parts
   pub words : HasStored (record parts { number = number_of pending }) u
   pub fresh : v.learned.count ≤ number_of pending
+  pub counted : number_of pending < u.learned.count
   pub shut : u.shut ≡ v.shut
   pub own : u.own ≡ v.own
   pub voids : OnlyFound (λ kind. kind ≡ Void) v u
@@ -101,5 +102,6 @@ pub record HasIngested (v : View) (form : Form) (payload : List ℕ) (number : �
   pub own : u.own ≡ v.own ++ record { lane = v.lane; number = number } ∷ []
   pub entry : Tells u number (entry.Stored v.lane form payload)
   pub fresh : v.learned.count ≤ number
+  pub counted : number < u.learned.count
   pub found : (x : Found) → Among x u.learned.found
       → Among x v.learned.found ⊎ ((x.kind ≡ Void) ⊎ (x.number ≡ number))

@@ -205,6 +205,13 @@ look_allowed given k same size id me n i about can is =
             (record { view = refl; held = refl; stands = stands k _ id v' kept about (there vs id me.0 v' at) });
         alone = λ alone none_. look_alone k w r id me.0 at n can about alone (sym word ∙ none_);
         known = λ f among same_. look_known k w r id me.0 at n x word f among (same_ ∙ index);
+        sees = record {
+          moment = w;
+          rule = subst (λ (z : Key). Rule z w) (sym about) r;
+          seat = id;
+          at = at;
+          is = word ∙ ap w.dir (sym index);
+        };
       },
     ))
 

@@ -1,6 +1,6 @@
 -- What the control pass, alone, concludes of the whole log.
 use Rattle.std.proofs.Common.{◌≡◌, ◌≢◌, ℕ, ◌+◌, ◌≤◌, zero, suc, List, [], ◌∷◌, ◌++◌, length, refl, sym, ap}
-use Rattle.std.proofs.Common.{◌∙◌, subst, inl, inr, ◌⊎◌, ⊎_elim, arith, Some}
+use Rattle.std.proofs.Common.{◌∙◌, subst, inl, inr, ◌⊎◌, ⊎_elim, arith, Some, None, Option}
 use mathlib.Core.Option.{some}
 use Rattle.std.proofs.Math.ListN.{get_elem?}
 use Rattle.atomic_table.proofs.Lists.{at_snoc}
@@ -22,6 +22,7 @@ use Rattle.fish_rule.specs.declared.view.Found.{Found}
 use Rattle.fish_rule.specs.declared.view.Key.{Key}
 use Rattle.fish_rule.specs.declared.view.Kind.TheVariants.{Mark, Void}
 use Rattle.fish_rule.specs.declared.view.Own.{Own}
+use Rattle.fish_rule.specs.declared.view.Position.{Position}
 use Rattle.fish_rule.specs.declared.view.View.{View}
 
 -- ---- one number
@@ -144,7 +145,12 @@ closes v entries x s alone tail told end =
             (λ (h : (v.about.number + length entries ≤ high x)
             × TellsMark v (v.about.number + length entries)). inr (h.1 v (learns_self v) w r s.seat s.at)) end;
       };
+      seat = s.seat;
+      last = v;
+      at = s.at;
+      later = learns_self v;
       owns = r.own s.seat v s.at;
+      rests = r.tails s.seat v s.at alone.main alone.all;
       facts = r.facts s.seat v s.at;
     }
 
@@ -160,16 +166,37 @@ tail_behind v x s alone tail =
     let count : high x ≡ w.count = rests.0 in
     omega arith
 
--- a log that is closed for a view is closed for one that knew less, and had the same lanes and records
-pub closed_before : (v u : View) (entries : List Entry) → Learns v u → u.lane ≡ v.lane → u.out ≡ v.out
-    → u.own ≡ v.own → IsClosed u entries → IsClosed v entries
-closed_before v u entries learns lane out own h =
+-- a tail that rests at one place rests at the same
+rests_same : (a b c d : ℕ) (t : Option Position) → a ≡ c → b ≡ d → Rests a b t → Rests c d t
+rests_same a b c d None e f h = tt
+rests_same a b c d (Some t) e f h = (h.0 ∙ e, h.1 ∙ f)
+
+-- a log that is closed for a view is closed for one that knew less, had the same lanes and records, and left the tail
+-- as it was found
+pub closed_before : (v u : View) (entries : List Entry) (x : ℕ) → Learns v u → u.lane ≡ v.lane → u.out ≡ v.out
+    → u.own ≡ v.own → u.tail ≡ Some (record { number = high x; line = low x }) → Rests (high x) (low x) v.tail
+    → IsClosed u entries → IsClosed v entries
+closed_before v u entries x learns lane out own tail rests h =
     let w : World = h.moment in
     let owns = subst (λ (z : ℕ × List ℕ × List Own). Owns u.about w.count w.dir h.rule.lane_of z.0 z.1 z.2)
     (λ i. (lane i, out i, own i)) h.owns in
     let facts = facts_back v u u.about w.count w.dir w.log h.rule.start learns h.facts in
-    subst (λ (z : Key). IsClosedAt z v.lane v.out v.own v.learned entries) learns.about
-    (record { moment = w; rule = h.rule; log = h.log; owns = owns; facts = facts })
+    let here : Rests w.count w.line (Some (record { number = high x; line = low x })) =
+    subst (Rests w.count w.line) tail h.rests in
+    let there : Rests w.count w.line v.tail = rests_same (high x) (low x) w.count w.line v.tail here.0 here.1 rests in
+    subst (λ (z : Key). IsClosedAt z (Learns v) v.lane v.out v.own v.tail v.learned entries) learns.about
+    (record {
+      moment = w;
+      rule = h.rule;
+      log = h.log;
+      seat = h.seat;
+      last = h.last;
+      at = h.at;
+      later = learns_both v u h.last learns h.later;
+      owns = owns;
+      rests = there;
+      facts = facts;
+    })
 
 -- a pass that only learns stays alone
 pub alone_later : (v u : View) → Extends v u → IsAlone v → IsAlone u

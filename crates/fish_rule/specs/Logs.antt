@@ -9,6 +9,7 @@ use Rattle.fish_layout.specs.Cleared.{IsKeyWord, Spells}
 use Rattle.fish_layout.specs.Header.{keys_of}
 use Rattle.fish_layout.specs.declared.parts.BodyParts.{BodyParts}
 use Rattle.fish_rule.specs.Facts.{Facts, Owns}
+use Rattle.fish_rule.specs.Parts.{Rests}
 use Rattle.fish_rule.specs.Regions.{code}
 use Rattle.fish_rule.specs.Rule.{Rule}
 use Rattle.fish_rule.specs.Views.{Among}
@@ -21,6 +22,7 @@ use Rattle.fish_rule.specs.declared.view.Label.{Label}
 use Rattle.fish_rule.specs.declared.view.Learned.{Learned}
 use Rattle.fish_rule.specs.declared.view.Node.{Node}
 use Rattle.fish_rule.specs.declared.view.Own.{Own}
+use Rattle.fish_rule.specs.declared.view.Position.{Position}
 use Rattle.fish_rule.specs.declared.view.Recorded.{Recorded}
 use Rattle.fish_rule.specs.declared.view.RegistryWord.{RegistryWord}
 use Rattle.fish_rule.specs.declared.view.Kind.TheVariants.{Mark, Stored, Void}
@@ -106,18 +108,23 @@ pub record IsWordRead (v u : View) (keys line offset : ℕ) (word : Option ℕ) 
 -- ---- the closed log
 
 -- the entries are the log of a moment that meets the rule, of which these own numbers are exact and
--- all of these facts hold
-pub record IsClosedAt (k : Key) (lane : ℕ) (out : List ℕ) (own : List Own) (learned : Learned)
-    (entries : List Entry) : Type 0 where
+-- all of these facts hold; a pass there has a view that is later, and nothing was claimed since the tail was here
+pub record IsClosedAt (k : Key) (is_later : View → Type 0) (lane : ℕ) (out : List ℕ) (own : List Own)
+    (tail : Option Position) (learned : Learned) (entries : List Entry) : Type 0 where
   pub moment : World
   pub rule : Rule k moment
   pub log : IsLog k moment entries
+  pub seat : ℕ
+  pub last : View
+  pub at : get_elem? moment.views seat ≡ some last
+  pub later : is_later last
   pub owns : Owns k moment.count moment.dir rule.lane_of lane out own
+  pub rests : Rests moment.count moment.line tail
   pub facts : Facts k moment.count moment.dir moment.log rule.start learned
 
 -- the same of all that a view knows
 abbrev pub IsClosed : View → List Entry → Type 0
-IsClosed v entries = IsClosedAt v.about v.lane v.out v.own v.learned entries
+IsClosed v entries = IsClosedAt v.about (Learns v) v.lane v.out v.own v.tail v.learned entries
 
 -- ---- one log
 

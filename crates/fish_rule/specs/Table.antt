@@ -49,3 +49,11 @@ pub record Told (m : Sat) (v : View) (m' : Sat) : Type 0 where
   pub view : m'.0 ≡ v
   pub held : m'.1 ≡ m.1
   pub stands : Stands v
+
+-- in some moment that meets the rule a pass has this view, and the directory word of a number is this one
+pub record Sees (v : View) (n word : ℕ) : Type 0 where
+  pub moment : World
+  pub rule : Rule v.about moment
+  pub seat : ℕ
+  pub at : get_elem? moment.views seat ≡ some v
+  pub is : word ≡ moment.dir n

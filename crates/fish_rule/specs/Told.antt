@@ -14,7 +14,7 @@ use Rattle.fish_rule.specs.Registry.{row_at}
 use Rattle.fish_rule.specs.declared.view.Flight.{Flight}
 use Rattle.fish_rule.specs.declared.view.Found.{Found}
 use Rattle.fish_rule.specs.declared.view.Key.{Key}
-use Rattle.fish_rule.specs.Table.{Sat, Told}
+use Rattle.fish_rule.specs.Table.{Sat, Sees, Told}
 use Rattle.fish_rule.specs.Linking.{HasNode, LowRises, TopRises, after_aim, after_head, after_node}
 use Rattle.fish_rule.specs.Linking.{after_previous, after_splice, after_swing}
 
@@ -49,6 +49,7 @@ pub record ToldLook (st : Step Bool) (m : Sat) (found : ℕ) (m' : Sat) : Type 0
   pub alone : IsAlone m.0 → found ≢ 0
   pub known : (f : Found) → Among f m.0.learned.found → f.number ≡ number_at m.0.about st.word
       → found ≡ dir_word f.kind f.line
+  pub sees : Sees m.0 (number_at m.0.about st.word) found
 
 -- a read of a word of a published region
 abbrev pub told_read : Step Bool → Sat → ℕ → Sat → Type 0

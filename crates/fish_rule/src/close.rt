@@ -2,8 +2,10 @@
 
 ghost use Rattle.std.specs.Prelude.{◌≡◌, ℕ, true, IfOk, IfErr};
 ghost use Rattle.fish_rule.specs.Logs.{Extends, IsClosed, Learns, TellsNext};
+ghost use Rattle.fish_rule.specs.Parts.{Rests};
 ghost use Rattle.fish_rule.specs.Passes.{IsOf, IsPassOf, view};
 ghost use Rattle.fish_rule.specs.Reading.{CanLook, IsAlone, after_end};
+ghost use Rattle.fish_rule.specs.World.{high, low};
 
 use crate::entry::read_record;
 use crate::steps::{load_tail, look_at};
@@ -54,7 +56,8 @@ fn all_entries(alloc: Global, log: &Log, main: &mut Pass) -> Result<Entries, All
     requires pass { IsPassOf log.now main.old }
     requires alone { IsAlone (view main.old) }
     ensures pass { IsPassOf log.now main.new }
-    ensures extends { (x : ℕ) × Extends (after_end (view main.old) x) (view main.new) }
+    ensures extends { (x : ℕ) × Extends (after_end (view main.old) x) (view main.new)
+        × Rests (high x) (low x) (view main.old).tail }
     ensures learns { Learns (view main.old) (view main.new) }
     ensures log { IfOk result (IsClosed (view main.new)) }
 {

@@ -9,6 +9,7 @@ ghost use Rattle.fish_rule.specs.Regions.{dir_word, kind_of};
 ghost use Rattle.fish_rule.specs.Steps.{CanClaim, CanPublish, CanStore, after_claim, after_publish, after_store};
 ghost use Rattle.fish_rule.specs.Reading.{CanLook, CanRaise, CanRead, IsAlone, after_end, after_look};
 ghost use Rattle.fish_rule.specs.Reading.{after_raise, after_read, after_settled};
+ghost use Rattle.fish_rule.specs.Table.{Sees};
 ghost use Rattle.fish_rule.specs.Views.{Among};
 ghost use Rattle.fish_rule.specs.World.{high, low, slots};
 ghost use Rattle.fish_rule.specs.declared.view.Flight.{Flight};
@@ -121,6 +122,7 @@ pub fn look_at(log: &Log, pass: &mut Pass, number: u64) -> u64
     ensures alone { IsAlone (view pass.old) → result ≢ 0 }
     ensures known { (f : Found) → Among f (view pass.old).learned.found → f.number ≡ number
         → result ≡ dir_word f.kind f.line }
+    ensures sees { Sees (view pass.old) number result }
 {
     let index = dir_at(&log.key) + (number - log.key.number);
     log.table

@@ -3,19 +3,21 @@ use Rattle.std.proofs.Common.{◌≡◌, ◌≢◌, ℕ, ◌+◌, ◌<◌, ◌�
 use Rattle.std.proofs.Common.{refl, sym, ap, subst, inl, inr, arith, append_assoc}
 use Rattle.std.proofs.Math.Decide.{dec_lt}
 use Rattle.fish_rule.proofs.Common.{among_left, among_right}
-use Rattle.fish_rule.proofs.Extending.{extends_both, extends_look, extends_self}
-use Rattle.fish_rule.specs.Logs.{Extends}
+use Rattle.fish_rule.proofs.Closing.{seen, seen_here, tells_mark}
+use Rattle.fish_rule.proofs.Extending.{extends_both, extends_look, extends_self, learns_both}
+use Rattle.fish_rule.specs.Logs.{Extends, Learns, TellsMark}
 use Rattle.fish_rule.specs.Reading.{after_look, found_after, kind_told}
 use Rattle.fish_rule.specs.Views.{Among}
 use Rattle.fish_rule.specs.World.{high, low}
 use Rattle.fish_rule.specs.declared.view.Found.{Found}
-use Rattle.fish_rule.specs.declared.view.Kind.TheVariants.{Mark}
+use Rattle.fish_rule.specs.declared.view.Kind.{Kind}
+use Rattle.fish_rule.specs.declared.view.Kind.TheVariants.{Mark, Stored, Void}
 use Rattle.fish_rule.specs.declared.view.Note.{Note}
 use Rattle.fish_rule.specs.declared.view.Noted.{Noted}
 use Rattle.fish_rule.specs.declared.view.Noted.TheVariants.{Directory}
 use Rattle.fish_rule.specs.declared.view.View.{View}
 use Rattle.fish_walk.specs.Looks.{look_of, look_of_kind}
-use Rattle.fish_walk.specs.Settling.{AreSettled, GoesOn, HasLoaded, IsEnd, IsMark, Looked, StopsAt}
+use Rattle.fish_walk.specs.Settling.{AreSettled, EndsAt, GoesOn, HasLoaded, IsEnd, IsMark, Looked, StopsAt}
 use Rattle.fish_walk.specs.declared.outcome.Look.{Look}
 use Rattle.fish_walk.specs.declared.outcome.Look.TheVariants as look
 
@@ -171,3 +173,25 @@ pub settled_still : (v u : View) (first n : ℕ) → Looked v u → AreSettled v
 settled_still v u first n looked settled m above below =
     let h = settled m above below in
     (h.0, looked.extends.learns.found h.0 h.1, h.2, h.3)
+
+-- a look that tells of a mark found one
+marked : (v u : View) (n lines x : ℕ) → u ≡ after_look v n lines x → IsMark x → TellsMark u n
+marked v u n lines zero e is = absurd (let bad : look.Unfinished ≡ look.Overflow = is in cc)
+marked v u n lines (suc x) e is =
+    tells_mark u (seen n lines (suc x)) (seen_here v u n lines (suc x) e (λ h. omega arith))
+    (mark_kind (kind_told (high (suc x))) is)
+  where
+    mark_kind : (kind : Kind) → look_of_kind kind ≡ look.Overflow → kind ≡ Mark
+    mark_kind Mark h = refl
+    mark_kind Stored h = absurd (let bad : look.Stored ≡ look.Overflow = h in cc)
+    mark_kind Void h = absurd (let bad : look.Void ≡ look.Overflow = h in cc)
+
+-- so the log ends there
+pub ends_by : (v u : View) (n lines x count : ℕ) (r : Look) → u ≡ after_look v n lines x → r ≡ look_of x
+    → r ≢ look.Unfinished → (r ≡ look.Unfinished) ⊎ (r ≡ look.Overflow) → n < count → EndsAt u n count
+ends_by v u n lines x count r e told ne is below = inr (below, marked v u n lines x e (mark_told r x told ne is))
+
+-- and ends there for a view that knows more
+pub ends_later : (v u : View) (n count : ℕ) → Learns v u → EndsAt v n count → EndsAt u n count
+ends_later v u n count learns (inl e) = inl e
+ends_later v u n count learns (inr h) = inr (h.0, λ x more. h.1 x (learns_both v u x learns more))

@@ -1,9 +1,9 @@
 -- What a call that settles numbers tells: how far it came, and why no further.
-use Rattle.std.specs.Prelude.{ℕ, ◌≡◌, ◌≢◌, ◌<◌, ◌≤◌, List, ◌++◌}
+use Rattle.std.specs.Prelude.{ℕ, ◌≡◌, ◌≢◌, ◌<◌, ◌≤◌, List, ◌++◌, Some}
 use Rattle.std.proofs.Common.{◌⊎◌}
-use Rattle.fish_rule.specs.Logs.{Extends, Learns}
+use Rattle.fish_rule.specs.Logs.{Extends, Learns, TellsMark}
 use Rattle.fish_rule.specs.Views.{Among}
-use Rattle.fish_rule.specs.World.{high}
+use Rattle.fish_rule.specs.World.{high, low}
 use Rattle.fish_rule.specs.declared.view.Found.{Found}
 use Rattle.fish_rule.specs.declared.view.Kind.TheVariants.{Mark}
 use Rattle.fish_rule.specs.declared.view.Note.{Note}
@@ -54,6 +54,15 @@ pub record HasEnd (P : ℕ → Type 0) (v u : View) (number count : ℕ) : Type 
 -- the number at which the settled ones stop: the count, or one whose word meets P
 abbrev pub StopsAt : (ℕ → Type 0) → View → View → ℕ → ℕ → Type 0
 StopsAt P v u number count = (number ≡ count) ⊎ HasEnd P v u number count
+
+-- the log ends here, in every moment of a view that knows as much: at the count, or at a mark below it
+abbrev pub EndsAt : View → ℕ → ℕ → Type 0
+EndsAt v number count = (number ≡ count) ⊎ ((number < count) × TellsMark v number)
+
+-- the tail is at this count, which the pass knows
+abbrev pub HasTail : View → ℕ → Type 0
+HasTail v count = (tail : ℕ) × (v.tail ≡ Some (record { number = high tail; line = low tail })) × (high tail ≡ count)
+    × (count ≤ v.learned.count)
 
 -- each number from the first up to the last was found published, and no mark
 abbrev pub AreSettled : View → ℕ → ℕ → Type 0

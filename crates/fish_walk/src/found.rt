@@ -3,6 +3,7 @@
 ghost use Rattle.std.specs.Prelude.{◌≡◌, ◌≢◌, ◌≤◌, ℕ, []};
 ghost use Rattle.fish_rule.specs.Passes.{IsPassOf, view};
 ghost use Rattle.fish_rule.specs.Reading.{CanLook, IsAlone, after_end, after_look};
+ghost use Rattle.fish_rule.specs.Table.{Sees};
 ghost use Rattle.fish_rule.specs.World.{high};
 ghost use Rattle.fish_walk.specs.Looks.{IsCount, look_of};
 ghost use Rattle.fish_walk.specs.declared.outcome.Look.TheVariants.{Unfinished};
@@ -18,6 +19,7 @@ pub fn look(log: &Log, pass: &mut Pass, number: u32) -> Look
     ensures view { (lines word : ℕ) × (view pass.new ≡ after_look (view pass.old) number lines word)
         × (result ≡ look_of word) }
     ensures alone { IsAlone (view pass.old) → result ≢ Unfinished }
+    ensures sees { (word : ℕ) × Sees (view pass.old) number word × (result ≡ look_of word) }
 {
     told_by(look_at(log, pass, u64::from(number)))
 }

@@ -3,7 +3,7 @@
 ghost use Rattle.std.specs.Prelude.{◌≡◌, ◌≤◌};
 ghost use Rattle.fish_rule.specs.Passes.{IsPassOf, view};
 ghost use Rattle.fish_rule.specs.Reading.{CanRaise, IsAlone};
-ghost use Rattle.fish_walk.specs.Settling.{AreSettled, CanSettle, HasCounted, IsEnd, IsMark, Looked, Raised};
+ghost use Rattle.fish_walk.specs.Settling.{AreSettled, CanSettle, EndsAt, HasCounted, HasTail, IsEnd, IsMark, Looked, Raised};
 ghost use Rattle.fish_walk.specs.Settling.{Settles, StopsAt};
 
 use crate::found::{count_now, look};
@@ -32,6 +32,8 @@ pub fn settle(log: &Log, pass: &mut Pass) -> Settled
     ensures stops { StopsAt IsEnd (view pass.old) (view pass.new) result.settled result.count }
     ensures alone { IsAlone (view pass.old)
         → StopsAt IsMark (view pass.old) (view pass.new) result.settled result.count }
+    ensures tail { HasTail (view pass.new) result.count }
+    ensures ends { IsAlone (view pass.old) → EndsAt (view pass.new) result.settled result.count }
 {
     let known = load_settled(log, pass);
     let count = count_now(log, pass);
@@ -50,6 +52,7 @@ fn settled_up_to(log: &Log, pass: &mut Pass, first: u32, count: u32) -> u32
     ensures settled { AreSettled (view pass.new) first result }
     ensures stops { StopsAt IsEnd (view pass.old) (view pass.new) result count }
     ensures alone { IsAlone (view pass.old) → StopsAt IsMark (view pass.old) (view pass.new) result count }
+    ensures ends { IsAlone (view pass.old) → EndsAt (view pass.new) result count }
 {
     for number in first..count {
         match look(log, pass, number) {

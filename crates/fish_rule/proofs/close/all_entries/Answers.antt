@@ -12,15 +12,15 @@ use Rattle.fish_rule.proofs.close.all_entries.Goals as goal
 
 pub returns-in_err-entry-clause-extends : goal.returns-in_err-entry-clause-extends
 returns-in_err-entry-clause-extends c =
-    (let e = c.loop-number.invariant.extends in (e.0, extends_both _ _ _ e.1 c.next_entry.ensures.extends))
+    (let e = c.loop-number.invariant.extends in (e.0, extends_both _ _ _ e.1 c.next_entry.ensures.extends, e.3))
 
 pub returns-in_err-push-in-Some-clause-extends : goal.returns-in_err-push-in-Some-clause-extends
 returns-in_err-push-in-Some-clause-extends c =
-    (let e = c.loop-number.invariant.extends in (e.0, extends_both _ _ _ e.1 c.next_entry.ensures.extends))
+    (let e = c.loop-number.invariant.extends in (e.0, extends_both _ _ _ e.1 c.next_entry.ensures.extends, e.3))
 
 pub returns-in-None-clause-extends : goal.returns-in-None-clause-extends
 returns-in-None-clause-extends c = (let e = c.loop-number.invariant.extends in
-    (e.0, extends_both _ _ _ e.1 c.next_entry.ensures.extends))
+    (e.0, extends_both _ _ _ e.1 c.next_entry.ensures.extends, e.3))
 
 pub returns-in_err-entry-clause-learns : goal.returns-in_err-entry-clause-learns
 returns-in_err-entry-clause-learns c =
@@ -75,7 +75,7 @@ loop-number-preserved c =
     record {
       of = c.next_entry.ensures.pass;
       alone = alone_later _ _ c.next_entry.ensures.extends inv.alone;
-      extends = (e.0, extends_both _ _ _ e.1 c.next_entry.ensures.extends, e.2);
+      extends = (e.0, extends_both _ _ _ e.1 c.next_entry.ensures.extends, e.2, e.3);
       learns = learns_both _ _ _ inv.learns c.next_entry.ensures.extends.learns;
       counted = omega arith;
       told = subst (AreTold v base) (sym entries)

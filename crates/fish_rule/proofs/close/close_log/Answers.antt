@@ -6,9 +6,10 @@ use Rattle.fish_rule.proofs.close.close_log.Goals as goal
 
 pub returns-in-Ok-clause-log : goal.returns-in-Ok-clause-log
 returns-in-Ok-clause-log c =
-    let e = c.all_entries.ensures.extends.1 in
+    let x = c.all_entries.ensures.extends in
+    let e = x.1 in
     closed_before (view c.args.main)
-    (view c.all_entries.new.main) c.in-Ok.entries c.all_entries.ensures.learns e.lane e.out e.own
+    (view c.all_entries.new.main) c.in-Ok.entries x.0 c.all_entries.ensures.learns e.lane e.out e.own e.tail x.2
     c.in-Ok.ensures.log
 
 pub returns-in-Err-clause-want : goal.returns-in-Err-clause-want

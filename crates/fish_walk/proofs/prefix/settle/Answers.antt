@@ -2,8 +2,9 @@
 use Rattle.std.proofs.Common.{◌≡◌, ℕ, max, sym, ap, ◌∙◌, subst, arith}
 use Rattle.fish_rule.specs.Passes.{view}
 use Rattle.fish_rule.specs.declared.view.Key.{Key}
+use Rattle.fish_rule.specs.declared.view.View.{View}
 use Rattle.fish_walk.specs.Settling.{AreSettled, IsEnd, IsMark}
-use Rattle.fish_walk.proofs.Looking.{stops_below}
+use Rattle.fish_walk.proofs.Looking.{ends_later, stops_below}
 use Rattle.fish_walk.proofs.Settling.{alone_still, can_raise, counted_here, settles_all, stops_here}
 use Rattle.fish_walk.proofs.prefix.settle.Goals as goal
 
@@ -61,3 +62,28 @@ returns-clause-alone c alone =
     stops_here _ (view known.new.pass) _ (view c.settled_up_to-settled.new.pass) _ known.result t.0 c.from.result
     known.ensures.view t.1 s.looked c.raise_to.ensures.raised
     IsMark c.settled_up_to-settled.result c.count_now-count.result (s.alone still)
+
+-- the tail is as the second load found it
+pub returns-clause-tail : goal.returns-clause-tail
+returns-clause-tail c =
+    let t = c.count_now-count.ensures.view in
+    let tail = ap (λ (z : View). z.tail) t.1 in
+    let known = ap (λ (z : View). z.learned.count) t.1 in
+    let looked = c.settled_up_to-settled.ensures.looked.count in
+    let raised = c.raise_to.ensures.raised.extends.learns.count in
+    let count = t.2 in (
+      t.0,
+      c.raise_to.ensures.raised.extends.tail ∙ c.settled_up_to-settled.ensures.looked.extends.tail ∙ tail,
+      sym t.2,
+      omega arith,
+    )
+
+-- and the log ends where the looks stopped
+pub returns-clause-ends : goal.returns-clause-ends
+returns-clause-ends c alone =
+    let t = c.count_now-count.ensures.view in
+    let known = c.load_settled-known in
+    let s = c.settled_up_to-settled.ensures in
+    let still = alone_still _ (view known.new.pass) _ (view c.settled_up_to-settled.new.pass) _ known.result t.0
+    c.from.result known.ensures.view t.1 s.looked c.raise_to.ensures.raised alone in
+    ends_later _ _ _ _ c.raise_to.ensures.raised.extends.learns (s.ends still)

@@ -1,7 +1,7 @@
 -- A look that tells of a void or a record settles one number more; at any other the numbers stop.
 use Rattle.fish_rule.proofs.Closing.{alone_later}
 use Rattle.fish_rule.specs.Passes.{view}
-use Rattle.fish_walk.proofs.Looking.{end_told, look_looks, looked_both, mark_told, settled_more}
+use Rattle.fish_walk.proofs.Looking.{end_told, ends_by, look_looks, looked_both, mark_told, settled_more}
 use Rattle.fish_walk.proofs.Looking.{settled_still, stops_by}
 use Rattle.fish_walk.specs.Settling.{IsEnd, IsMark}
 use Rattle.fish_walk.proofs.prefix.settled_up_to.Goals as goal
@@ -33,6 +33,13 @@ returns-in-Unfinished-clause-alone c alone =
     let ne = c.look.ensures.alone (alone_later _ _ c.loop-number.invariant.looked.extends alone) in
     stops_by IsMark _ _ _ _ t.0 t.1 c.args.count c.loop-number.invariant.looked t.2
     (mark_told c.look.result t.1 t.3 ne c.in-Unfinished.is) c.loop-number-test.true
+
+-- so the log ends there
+pub returns-in-Unfinished-clause-ends : goal.returns-in-Unfinished-clause-ends
+returns-in-Unfinished-clause-ends c alone =
+    let t = c.look.ensures.view in
+    let ne = c.look.ensures.alone (alone_later _ _ c.loop-number.invariant.looked.extends alone) in
+    ends_by _ _ _ t.0 t.1 c.args.count c.look.result t.2 t.3 ne c.in-Unfinished.is c.loop-number-test.true
 
 -- the last look told of a void or a record
 pub loop-number-preserved : goal.loop-number-preserved
