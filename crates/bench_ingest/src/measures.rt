@@ -36,7 +36,7 @@ fn open(alloc: Global) -> Result<Opened, AllocError>
     ensures { IfOk result IsOpened }
 {
     let catalog = four_definitions(alloc)?;
-    let start = Start::Empty { catalog };
+    let start = Start::first(alloc, SHAPE, catalog)?;
     let (log, main) = open_log(alloc, SHAPE, &start)?;
     Ok(Opened { log, main })
 }

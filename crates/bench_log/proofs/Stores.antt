@@ -25,16 +25,16 @@ use Rattle.fish_rule.specs.declared.view.Learned.{Learned}
 use Rattle.fish_rule.specs.declared.view.View.{View}
 
 -- the definitions of the start are known to be active at version 0
-knows_first : (rows : List CatRow) (l : Learned) (defs : List ActiveDef) → AreActive rows defs
-    → KnowsActive rows l 0 (map text_of defs)
-knows_first rows l defs are = subst (KnowsActive rows l 0) (active_of_catalog rows ∙ sym are) (knows_start rows l)
+knows_first : (k : Key) (l : Learned) (defs : List ActiveDef) → AreActive k.rows.value defs
+    → KnowsActive k l 0 (map text_of defs)
+knows_first k l defs are = subst (KnowsActive k l 0) (active_of_catalog k.rows.value ∙ sym are) (knows_start k l)
 
 module _ (log : Log) (v : View) (prepared : Prepared) (about : v.about ≡ log.key) (entered : IsEntered v)
     (may : IsStorable log v.lane prepared) where
   -- they are those of the record, at its version
-  active : KnowsActive v.about.rows.value v.learned may.2.origin.version (map text_of may.0)
-  active = subst (λ (n : ℕ). KnowsActive v.about.rows.value v.learned n (map text_of may.0)) (sym may.2.version_is)
-      (knows_first v.about.rows.value v.learned may.0
+  active : KnowsActive v.about v.learned may.2.origin.version (map text_of may.0)
+  active = subst (λ (n : ℕ). KnowsActive v.about v.learned n (map text_of may.0)) (sym may.2.version_is)
+      (knows_first v.about v.learned may.0
       (subst (λ (k : Key). AreActive k.rows.value may.0) (sym about) may.1))
 
   -- so it may be placed

@@ -39,8 +39,9 @@ fn open(alloc: Global, workload: Workload) -> Result<Opened, AllocError>
 {
     let Definitions { catalog, defs } = definitions_of(alloc, workload)?;
     let _rows = catalog.rows();
-    let start = Start::Empty { catalog };
-    let (log, main) = open_log(alloc, workload.shape(), &start)?;
+    let shape = workload.shape();
+    let start = Start::first(alloc, shape, catalog)?;
+    let (log, main) = open_log(alloc, shape, &start)?;
     Ok(Opened { log, main, defs })
 }
 

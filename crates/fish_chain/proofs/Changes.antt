@@ -128,14 +128,14 @@ module _ (u t : View) (f : Flight) where
   -- a load of a head
   pub head_changes : (b x : ℕ) → u.flight ≡ Some f → t ≡ after_head u b x → Changed u f f.words f.linked t
   head_changes b x flying is = record {
-    nodes = with_node b x u.learned.nodes;
+    nodes = with_node u.about b x u.learned.nodes;
     lows = u.learned.lows;
     tops = record { bucket = b; place = x } ∷ u.learned.tops;
     gaps = gap b (u.about.end * 4) x u.learned ∷ u.learned.gaps;
     clock = loaded u.clock;
     known = is ∙ (λ i. record u {
       flight = flying i;
-      learned = learned_head u.about.end b x u.learned;
+      learned = learned_head u.about b x u.learned;
       clock = loaded u.clock;
     });
     long = refl;
@@ -149,14 +149,14 @@ module _ (u t : View) (f : Flight) where
   -- a load of a first word
   pub previous_changes : (b q x : ℕ) → u.flight ≡ Some f → t ≡ after_previous u b q x → Changed u f f.words f.linked t
   previous_changes b q x flying is = record {
-    nodes = with_node b x u.learned.nodes;
+    nodes = with_node u.about b x u.learned.nodes;
     lows = record { place = q; value = x } ∷ u.learned.lows;
     tops = u.learned.tops;
     gaps = gap b q x u.learned ∷ u.learned.gaps;
     clock = loaded u.clock;
     known = is ∙ (λ i. record u {
       flight = flying i;
-      learned = learned_previous b q x u.learned;
+      learned = learned_previous u.about b q x u.learned;
       clock = loaded u.clock;
     });
     long = refl;

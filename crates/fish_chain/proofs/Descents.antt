@@ -1,14 +1,17 @@
 -- The steps of a walk, over plain views.
 use Rattle.std.proofs.Common.{◌≡◌, ℕ, ◌+◌, ◌*◌, ◌<◌, ◌≤◌, sym, refl, subst, ◌⊎◌, ⊎_elim, inl, inr, arith}
-use Rattle.fish_chain.specs.Walks.{LeadsTo, HasBegun, HasRange, IsNextNode, IsNumbered, IsWalking}
+use Rattle.fish_chain.specs.Walks.{LeadsTo, HasBegun, HasRange, IsNextNode, IsNumbered, IsPast, IsRest, IsWalking}
 use Rattle.fish_chain.specs.declared.walk.Node.{Node}
 use Rattle.fish_layout.specs.Entry.{entry_id, entry_number, entry_place}
-use Rattle.fish_rule.proofs.Descents.{entries_within, extends_node}
+use Rattle.fish_rule.proofs.Descents.{entries_behind, entries_within, extends_node}
 use Rattle.fish_rule.proofs.Descents.{head_clear, head_here, previous_clear, previous_here}
 use Rattle.fish_rule.proofs.Extending.{extends_both}
+use Rattle.fish_rule.proofs.Laws.{label_above, node_behind}
 use Rattle.fish_rule.proofs.Walking.{always_later, clear_both, label_entry, label_last, label_outside}
 use Rattle.fish_rule.specs.Linking.{HasNode, after_head, after_node, after_previous}
 use Rattle.fish_rule.specs.Logs.{Extends}
+use Rattle.fish_rule.specs.Parts.{first_head}
+use Rattle.fish_rule.specs.Table.{Stands}
 use Rattle.fish_rule.specs.Views.{Among}
 use Rattle.fish_rule.specs.Walking.{Always, IsClear, IsEntryIn, IsNodeIn}
 use Rattle.fish_rule.specs.declared.table.Walk.{Walk}
@@ -16,13 +19,29 @@ use Rattle.fish_rule.specs.declared.view.Key.{Key}
 use Rattle.fish_rule.specs.declared.view.Label.{Label}
 use Rattle.fish_rule.specs.declared.view.View.{View}
 
+-- ---- the base
+
+-- what a load tells of a place that is none of the table's
+pub first_known : (k : Key) (v : View) (b x : ℕ) → v.about ≡ k → (x ≤ k.line * 4 → x ≡ first_head k b)
+    → IsPast v x → x ≡ first_head v.about b
+first_known k v b x about first = subst (λ (z : Key). x ≤ z.line * 4 → x ≡ first_head z b) (sym about) first
+
+-- a place behind the key's base is behind the view's
+pub behind_known : (k : Key) (v : View) (x : ℕ) → v.about ≡ k → k.line * 4 < x → v.about.line * 4 < x
+behind_known k v x about more = subst (λ (z : Key). z.line * 4 < x) (sym about) more
+
+-- and one that isn't is not
+pub past_known : (k : Key) (v : View) (x : ℕ) → v.about ≡ k → x ≤ k.line * 4 → IsPast v x
+past_known k v x about less = subst (λ (z : Key). x ≤ z.line * 4) (sym about) less
+
 -- ---- a start
 
 -- a walk that stands at the head that was seen has its whole range before it
 pub begun_at : (v : View) (bucket from to place : ℕ) → to ≤ v.learned.settled
+    → (IsPast v place → place ≡ first_head v.about bucket)
     → HasBegun (after_head v bucket place)
     (record { bucket = bucket; from = from; to = to; given = place + 1; place = place }) bucket from to
-begun_at v bucket from to place known =
+begun_at v bucket from to place known first =
     let u : View = after_head v bucket place in
     let top : Always u (λ k w. (n c p : ℕ) → from ≤ n → n < to → IsEntryIn bucket n c p k w → p < place + 1) =
     λ x learns w r seat at n c p more less h.
@@ -35,7 +54,8 @@ begun_at v bucket from to place known =
       range = record { bucket_is = refl; from_is = refl; to_is = refl };
       walking = record {
         settled = known;
-        at = ⊎_elim (λ (e : place ≡ 0). inl e) (λ (m : HasNode u bucket place). inr (m, omega arith))
+        at = ⊎_elim (λ (e : IsPast v place). inl (record { past = e; first = λ _. first e }))
+            (λ (m : HasNode u bucket place). inr (m, omega arith))
             (head_here v bucket place);
         clear = λ x learns w r seat at n c p more less h under. omega arith;
       };
@@ -46,10 +66,13 @@ begun_at v bucket from to place known =
 
 -- below a record below the range there is nothing left
 pub stops_below : (v : View) (walk : Walk) (number : ℕ) → IsNumbered v walk.place number → number < walk.from
-    → 0 < walk.place → LeadsTo v walk 0
-stops_below v walk number is less some_ = record {
+    → 0 < walk.place → Stands v → LeadsTo v walk 0
+stops_below v walk number is less some_ stands = record {
   lower = some_;
-  at = inl refl;
+  at = inl (record {
+    past = omega arith;
+    first = λ from. let above = label_above v is.label stands is.read in let e = is.number_is in absurd (omega arith);
+  });
   clear = label_last v is.label walk.bucket walk.from walk.to walk.place is.read
       (let e = is.number_is in omega arith)
       (λ x learns w r seat at n c p more under h below. let e = is.place_is in omega arith);
@@ -57,19 +80,23 @@ stops_below v walk number is less some_ = record {
 
 -- else the walk goes on at what the first word leads to
 pub goes_down : (v : View) (walk : Walk) (previous : ℕ) → walk.to ≤ v.learned.settled → previous < walk.place
+    → (IsPast v previous → previous ≡ first_head v.about walk.bucket)
     → LeadsTo (after_previous v walk.bucket walk.place previous) walk previous
-goes_down v walk previous known less = record {
+goes_down v walk previous known less first = record {
   lower = less;
-  at = previous_here v walk.bucket walk.place previous;
+  at = ⊎_elim (λ (e : IsPast v previous). inl (record { past = e; first = λ _. first e }))
+      (λ (m : HasNode (after_previous v walk.bucket walk.place previous) walk.bucket previous). inr m)
+      (previous_here v walk.bucket walk.place previous);
   clear = previous_clear v walk.bucket walk.place previous walk.from walk.to known;
 }
 
 -- ---- a turn of a walk: an entry's second word is read, and the walk goes on below
 
--- a walk that isn't at the end stands at an entry of its bucket, below what it gave
-pub stands_at : (v : View) (walk : Walk) → IsWalking v walk → 0 < walk.place
+-- a walk that isn't past the table stands at an entry of its bucket, below what it gave
+pub stands_at : (v : View) (walk : Walk) → IsWalking v walk → v.about.line * 4 < walk.place
     → HasNode v walk.bucket walk.place × (walk.place < walk.given)
-stands_at v walk walking some_ = ⊎_elim (λ (e : walk.place ≡ 0). absurd (omega arith))
+stands_at v walk walking some_ = ⊎_elim
+    (λ (e : IsRest v walk.bucket walk.from walk.place). let past = e.past in absurd (omega arith))
     (λ (h : HasNode v walk.bucket walk.place × (walk.place < walk.given)). h) walking.at
 
 -- what the second word was when it was read
@@ -94,7 +121,8 @@ numbered v u p word number seen is = record {
 pub looked_node : (v u : View) (p word : ℕ) → u ≡ after_node v p word → Extends v u
 looked_node v u p word seen = subst (Extends v) (sym seen) (extends_node v p word)
 
-module _ (v u t : View) (walk : Walk) (word below : ℕ) (walking : IsWalking v walk) (some_ : 0 < walk.place)
+module _ (v u t : View) (walk : Walk) (word below : ℕ) (walking : IsWalking v walk)
+    (some_ : v.about.line * 4 < walk.place)
     (seen : u ≡ after_node v walk.place word) (looked : Extends u t) (goes : LeadsTo t walk below) where
   -- all of the turn only learns
   turn_looked : Extends v t
@@ -115,8 +143,8 @@ module _ (v u t : View) (walk : Walk) (word below : ℕ) (walking : IsWalking v 
 
   -- the walk stands at the end, or at an entry below a place that isn't above where it stood
   turn_at : (given_ : ℕ) → walk.place ≤ given_
-      → (below ≡ 0) ⊎ (HasNode t walk.bucket below × (below < given_))
-  turn_at given_ more = ⊎_elim (λ (e : below ≡ 0). inl e)
+      → IsRest t walk.bucket walk.from below ⊎ (HasNode t walk.bucket below × (below < given_))
+  turn_at given_ more = ⊎_elim (λ (e : IsRest t walk.bucket walk.from below). inl e)
       (λ (m : HasNode t walk.bucket below). inr (m, (let less = goes.lower in omega arith))) goes.at
 
   -- an entry outside the range is passed
@@ -151,6 +179,24 @@ module _ (v u t : View) (walk : Walk) (word below : ℕ) (walking : IsWalking v 
         below = omega arith;
         next = subst (λ (z : ℕ). Always t (IsClear walk.bucket walk.from walk.to walk.given z)) (sym place) turn_clear;
       }
+
+-- ---- the end
+
+-- a walk that is past the table stands where nothing of it is left
+pub rests_at : (v : View) (walk : Walk) → IsWalking v walk → Stands v → IsPast v walk.place
+    → IsRest v walk.bucket walk.from walk.place
+rests_at v walk walking stands past = ⊎_elim (λ (e : IsRest v walk.bucket walk.from walk.place). e)
+    (λ (h : HasNode v walk.bucket walk.place × (walk.place < walk.given)).
+    let behind = node_behind v walk.bucket walk.place stands h.0 in absurd (omega arith)) walking.at
+
+-- and no entry of the range is left
+pub clear_past : (v : View) (walk : Walk) → IsWalking v walk → IsPast v walk.place
+    → Always v (IsClear walk.bucket walk.from walk.to walk.given 0)
+clear_past v walk walking past u learns w r seat at n c p more less h under =
+    let behind = entries_behind v u learns w r seat at walk.bucket n c p h in
+    let low_ = walking.clear u learns w r seat at n c p more less h under in
+    let base_ = subst (λ (z : Key). walk.place ≤ z.line * 4) (sym learns.about) past in
+    absurd (omega arith)
 
 -- ---- one range
 

@@ -1,14 +1,14 @@
 -- One turn below a linked entry: aim at its first word, and splice.
-use Rattle.std.proofs.Common.{◌≡◌, ◌≢◌, ℕ, ◌-◌, ◌<◌, ◌≤◌, ◌⊎◌, inl, ⊎_elim, suc, List, set, refl, sym, ap}
+use Rattle.std.proofs.Common.{◌≡◌, ◌≢◌, ℕ, ◌-◌, ◌*◌, ◌<◌, ◌≤◌, ◌⊎◌, inl, ⊎_elim, suc, List, set, refl, sym, ap}
 use Rattle.std.proofs.Common.{◌∙◌, subst, arith, get_or-set_same}
 use Rattle.std.proofs.Math.Decide.{ℕ_discrete}
 use Rattle.fish_chain.proofs.Changes.{aim_changes, changed_next, link_aim, previous_changes}
-use Rattle.fish_rule.proofs.Descents.{node_here}
+use Rattle.fish_rule.proofs.Descents.{previous_here}
 use Rattle.fish_chain.proofs.Changes.{splice_changes, still_links}
 use Rattle.fish_chain.specs.Links.{CanLink, CanLinkBelow, Changed, IsBelow, IsLinked, with_linked}
 use Rattle.fish_layout.proofs.Clearing.{choose_first, choose_second}
 use Rattle.fish_layout.specs.Cleared.{entry_at}
-use Rattle.fish_rule.proofs.LinkLaws.{not_own, own_word}
+use Rattle.fish_rule.proofs.LinkLaws.{not_own, own_behind, own_word}
 use Rattle.fish_rule.specs.Linking.{CanAim, CanSplice, HasNode, LowRises, after_aim, after_previous}
 use Rattle.fish_rule.specs.Linking.{after_splice, aimed_at, own_place, spliced}
 use Rattle.fish_rule.specs.Table.{Stands}
@@ -25,7 +25,7 @@ pub record IsSplicing (v : View) (q place x : ℕ) (u : View) : Type 0 where
   pub changed : Changed v flight words flight.linked u
   pub higher : HasNode u bucket q
   pub low : Among (record { place = q; value = x }) u.learned.lows
-  pub node : (x ≡ 0) ⊎ HasNode u bucket x
+  pub node : (x ≤ u.about.line * 4) ⊎ HasNode u bucket x
   pub less : x < q
 
 module _ (v : View) (q place : ℕ) (f : Flight) (b : ℕ) (under : CanLinkBelow v f b q place) where
@@ -42,8 +42,7 @@ module _ (v : View) (q place : ℕ) (f : Flight) (b : ℕ) (under : CanLinkBelow
         changed = c;
         higher = c.learns.nodes (record { bucket = b; place = q }) under.node;
         low = subst (λ z. Among (record { place = q; value = x }) z.lows) (sym learned) (inl refl);
-        node = subst (λ z. (x ≡ 0) ⊎ Among (record { bucket = b; place = x }) z.nodes) (sym learned)
-            (node_here b x u.learned.nodes);
+        node = subst (λ (z : View). (x ≤ z.about.line * 4) ⊎ HasNode z b x) (sym is) (previous_here u b q x);
         less = less;
       }
 
@@ -75,7 +74,8 @@ module _ (v u : View) (q place x : ℕ) (s : IsSplicing v q place x u) where
   pub splice_over : Stands u → place ≤ x → IsBelow v s.flight s.bucket x u
   splice_over stands over =
       let at : place ≡ own_place s.flight = s.under.at in
-      let node : HasNode u s.bucket x = ⊎_elim (λ (e : x ≡ 0). absurd (omega arith))
+      let behind = own_behind u splicing stands splice_aim in
+      let node : HasNode u s.bucket x = ⊎_elim (λ (e : x ≤ u.about.line * 4). absurd (omega arith))
       (λ (n : HasNode u s.bucket x). n) s.node in
       let other : x ≢ own_place s.flight = not_own u splicing s.bucket x stands splice_aim node in
       record { words = s.words; changed = s.changed; node = node; above = omega arith }

@@ -1,14 +1,14 @@
 -- One turn at a head: aim at it, and swing it.
-use Rattle.std.proofs.Common.{◌≡◌, ◌≢◌, ℕ, ◌-◌, ◌<◌, ◌≤◌, ◌⊎◌, inl, ⊎_elim, suc, List, set, refl, sym, ap}
+use Rattle.std.proofs.Common.{◌≡◌, ◌≢◌, ℕ, ◌-◌, ◌*◌, ◌<◌, ◌≤◌, ◌⊎◌, inl, ⊎_elim, suc, List, set, refl, sym, ap}
 use Rattle.std.proofs.Common.{◌∙◌, subst, arith, get_or-set_same}
 use Rattle.std.proofs.Math.Decide.{ℕ_discrete}
 use Rattle.fish_chain.proofs.Changes.{aim_changes, changed_next, head_changes, link_aim}
-use Rattle.fish_rule.proofs.Descents.{node_here}
+use Rattle.fish_rule.proofs.Descents.{head_here}
 use Rattle.fish_chain.proofs.Changes.{still_links, swing_changes}
 use Rattle.fish_chain.specs.Links.{CanLink, Changed, IsBelow, IsLinked, with_linked}
 use Rattle.fish_layout.proofs.Clearing.{choose_first, choose_second}
 use Rattle.fish_layout.specs.Cleared.{entry_at}
-use Rattle.fish_rule.proofs.LinkLaws.{not_own, own_word}
+use Rattle.fish_rule.proofs.LinkLaws.{not_own, own_behind, own_word}
 use Rattle.fish_rule.specs.Linking.{CanAim, CanSwing, HasNode, TopRises, after_aim, after_head, after_swing}
 use Rattle.fish_rule.specs.Linking.{aimed_at, own_place, swung}
 use Rattle.fish_rule.specs.Table.{Stands}
@@ -24,7 +24,7 @@ pub record IsSwinging (v : View) (b place h : ℕ) (u : View) : Type 0 where
   pub words : List ℕ
   pub changed : Changed v flight words flight.linked u
   pub top : Among (record { bucket = b; place = h }) u.learned.tops
-  pub node : (h ≡ 0) ⊎ HasNode u b h
+  pub node : (h ≤ u.about.line * 4) ⊎ HasNode u b h
 
 -- a load of the head after other steps
 seen_head : (v u t : View) (b place h : ℕ) (f : Flight) (words : List ℕ) → CanLink v f f.linked b
@@ -39,8 +39,7 @@ seen_head v u t b place h f words can at c is =
       changed = changed_next v u t f words words f.linked c
           (head_changes u t (with_linked f words f.linked) b h (ap (λ (z : View). z.flight) c.known) is);
       top = subst (λ z. Among (record { bucket = b; place = h }) z.tops) (sym learned) (inl refl);
-      node = subst (λ z. (h ≡ 0) ⊎ Among (record { bucket = b; place = h }) z.nodes) (sym learned)
-          (node_here b h u.learned.nodes);
+      node = subst (λ (z : View). (h ≤ z.about.line * 4) ⊎ HasNode z b h) (sym is) (head_here u b h);
     }
 
 -- the first load
@@ -55,8 +54,7 @@ swing_begins v t b place h f can at is =
       words = f.words;
       changed = head_changes v t f b h can.filled.flying is;
       top = subst (λ z. Among (record { bucket = b; place = h }) z.tops) (sym learned) (inl refl);
-      node = subst (λ z. (h ≡ 0) ⊎ Among (record { bucket = b; place = h }) z.nodes) (sym learned)
-          (node_here b h v.learned.nodes);
+      node = subst (λ (z : View). (h ≤ z.about.line * 4) ⊎ HasNode z b h) (sym is) (head_here v b h);
     }
 
 module _ (v u : View) (b place h : ℕ) (s : IsSwinging v b place h u) where
@@ -76,7 +74,8 @@ module _ (v u : View) (b place h : ℕ) (s : IsSwinging v b place h u) where
   pub swing_over : Stands u → place ≤ h → IsBelow v s.flight b h u
   swing_over stands over =
       let at : place ≡ own_place s.flight = s.at in
-      let node : HasNode u b h = ⊎_elim (λ (e : h ≡ 0). absurd (omega arith)) (λ (n : HasNode u b h). n) s.node in
+      let behind = own_behind u swinging stands swing_aim in
+      let node : HasNode u b h = ⊎_elim (λ (e : h ≤ u.about.line * 4). absurd (omega arith)) (λ (n : HasNode u b h). n) s.node in
       let other : h ≢ own_place s.flight = not_own u swinging b h stands swing_aim node in
       record { words = s.words; changed = s.changed; node = node; above = omega arith }
 

@@ -1,20 +1,31 @@
 -- What a walk down the chain of a bucket gives: the key entries of the settled records in its range, newest first.
-use Rattle.std.specs.Prelude.{ℕ, ◌≡◌, ◌<◌, ◌≤◌, Option, Some, None}
+use Rattle.std.specs.Prelude.{ℕ, ◌≡◌, ◌*◌, ◌<◌, ◌≤◌, Option, Some, None}
 use Rattle.std.proofs.Common.{◌⊎◌}
 use Rattle.fish_chain.specs.declared.walk.Node.{Node}
 use Rattle.fish_layout.specs.Entry.{entry_number}
 use Rattle.fish_rule.specs.Linking.{HasNode}
+use Rattle.fish_rule.specs.Parts.{first_head}
 use Rattle.fish_rule.specs.Views.{Among}
 use Rattle.fish_rule.specs.Walking.{Always, IsClear, IsEntryIn, IsNodeIn}
 use Rattle.fish_rule.specs.declared.table.Walk.{Walk}
 use Rattle.fish_rule.specs.declared.view.Label.{Label}
 use Rattle.fish_rule.specs.declared.view.View.{View}
 
--- a walk over settled numbers stands at an entry of its bucket, or at the end of the chain, and no entry of its
--- range lies between what it gave and where it stands
+-- the place is none of the table's
+abbrev pub IsPast : View → ℕ → Type 0
+IsPast v place = place ≤ v.about.line * 4
+
+-- nothing of the table is left at the place where a walk goes on: it is the head that the bucket had at the start,
+-- unless the walk stopped before, since its range begins behind the base
+pub record IsRest (v : View) (bucket from place : ℕ) : Type 0 where
+  pub past : IsPast v place
+  pub first : from ≤ v.about.number → place ≡ first_head v.about bucket
+
+-- a walk over settled numbers stands at an entry of its bucket, or where nothing of the table is left, and no entry of
+-- its range lies between what it gave and where it stands
 pub record IsWalking (v : View) (walk : Walk) : Type 0 where
   pub settled : walk.to ≤ v.learned.settled
-  pub at : (walk.place ≡ 0) ⊎ (HasNode v walk.bucket walk.place × (walk.place < walk.given))
+  pub at : IsRest v walk.bucket walk.from walk.place ⊎ (HasNode v walk.bucket walk.place × (walk.place < walk.given))
   pub clear : Always v (IsClear walk.bucket walk.from walk.to walk.given walk.place)
 
 -- the walk has this bucket and range
@@ -37,10 +48,10 @@ pub record IsNumbered (v : View) (place number : ℕ) : Type 0 where
   pub number_is : entry_number label.word ≡ number
 
 -- a walk may go on at this place behind the entry where it stands: the place is lower, that of an entry of the
--- bucket or 0, and no entry of the range lies between
+-- bucket or none of the table's, and no entry of the range lies between
 pub record LeadsTo (v : View) (walk : Walk) (place : ℕ) : Type 0 where
   pub lower : place < walk.place
-  pub at : (place ≡ 0) ⊎ HasNode v walk.bucket place
+  pub at : IsRest v walk.bucket walk.from place ⊎ HasNode v walk.bucket place
   pub clear : Always v (IsClear walk.bucket walk.from walk.to walk.place place)
 
 -- the node is an entry of the walk's bucket and range, and the next one below what was given, in every later
@@ -52,7 +63,8 @@ pub record IsNextNode (v : View) (walk : Walk) (node : Node) : Type 0 where
   pub below : node.place < walk.given
   pub next : Always v (IsClear walk.bucket walk.from walk.to walk.given node.place)
 
--- what a walk gave: its next entry, which it then has given, or none where no entry of its range is left
+-- what a walk gave: its next entry, which it then has given, or none where no entry of its range is left, and the
+-- walk is past the table
 abbrev pub Gave : View → Walk → Walk → Option Node → Type 0
-Gave v walk walk' None = Always v (IsClear walk.bucket walk.from walk.to walk.given 0)
+Gave v walk walk' None = Always v (IsClear walk.bucket walk.from walk.to walk.given 0) × IsPast v walk'.place
 Gave v walk walk' (Some node) = IsNextNode v walk node × (walk'.given ≡ node.place)

@@ -8,4 +8,4 @@ mod chain;
 mod walk;
 
 pub use chain::link;
-pub use walk::{Node, walk_next, walk_start};
+pub use walk::{Node, walk_next, walk_rest, walk_start};

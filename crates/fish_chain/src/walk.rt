@@ -4,14 +4,15 @@
 //! none, whatever is linked meanwhile. It reads the first and the second word of an entry and no other.
 
 ghost use Rattle.std.specs.Prelude.{◌≡◌, ◌+◌, ◌<◌, ◌≤◌};
-ghost use Rattle.fish_chain.specs.Walks.{Gave, LeadsTo, HasBegun, HasRange, IsNumbered, IsWalking};
+ghost use Rattle.fish_chain.specs.Walks.{Gave, LeadsTo, HasBegun, HasRange, IsNumbered, IsPast, IsWalking};
+ghost use Rattle.fish_rule.specs.Parts.{IsOlder, first_head};
 ghost use Rattle.fish_rule.specs.Linking.{CanLoadHead, HasNode};
 ghost use Rattle.fish_rule.specs.Logs.{Extends};
 ghost use Rattle.fish_rule.specs.Passes.{IsPassOf, view, walk_of};
 
 use fish_layout::{id_in, number_in, place_in};
 use fish_psf::Steps;
-use fish_rule::{Log, Pass, Walk, keep_walk, kept_walk, load_head, load_node, load_previous};
+use fish_rule::{Log, Pass, Walk, base, keep_walk, kept_walk, load_head, load_node, load_previous};
 use std::sync::ledger::Ledger;
 
 /// A key entry of a record.
@@ -70,8 +71,9 @@ pub fn walk_next<L: Ledger>(log: &Log, pass: &mut Pass, loads: &mut Steps<L>) ->
     ensures gave { Gave (view pass.new) (walk_of pass.old) (walk_of pass.new) result }
     ensures counted { loads.new + (view pass.old).clock.loads ≡ loads.old + (view pass.new).clock.loads }
 {
+    let past = base(log).line * 4;
     let mut walk = kept_walk(pass);
-    while walk.place != 0 {
+    while walk.place > past {
         let place = walk.place;
         let entry = load_node(log, pass, place);
         loads.tick();
@@ -90,6 +92,20 @@ pub fn walk_next<L: Ledger>(log: &Log, pass: &mut Pass, loads: &mut Steps<L>) ->
     }
     keep_walk(pass, walk);
     None
+}
+
+/// Where the chain of the walk's bucket goes on below the base, or 0: the head that the bucket had at
+/// the start. For a walk from the base on, once it gave None. No load, and no memory.
+pub fn walk_rest(log: &Log, pass: &mut Pass) -> u64
+    requires pass { IsPassOf log.now pass.old }
+    requires walking { IsWalking (view pass.old) (walk_of pass.old) }
+    requires past { IsPast (view pass.old) (walk_of pass.old).place }
+    requires from { (walk_of pass.old).from ≤ log.now.key.number }
+    ensures kept { pass.new ≡ pass.old }
+    ensures rest { result ≡ first_head log.now.key (walk_of pass.old).bucket }
+    ensures older { IsOlder log.now.key.line result }
+{
+    kept_walk(pass).place
 }
 
 /// Where a walk goes on behind an entry of a record: at the next older one, or nowhere where all older

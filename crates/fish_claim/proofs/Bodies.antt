@@ -66,7 +66,7 @@ pub body_law : (v u : View) (lines number line : ℕ) (p : BodyParts) (words : L
     → Placed v lines number line u → IsStorable v number lines p → IsBody p words
     → CanFill u (flight_at number line lines) words
 body_law v u lines number line p words placed may is =
-    let keyed : IsKeyed (KnowsActive v.about.rows.value v.learned) p.version v.lane number lines (body_of words) = (
+    let keyed : IsKeyed (KnowsActive v.about v.learned) p.version v.lane number lines (body_of words) = (
       unlinked p,
       record {
         record_of = record {

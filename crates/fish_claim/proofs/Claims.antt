@@ -60,7 +60,7 @@ module _ (v u : View) (lines n a : ℕ) (is : u ≡ after_claim v lines n a) whe
         flying = refl;
         version = can.version;
         entered = can.entered;
-        ready = subst (λ (z : Kind). IsReady (KnowsActive v.about.rows.value w.learned) can.version z v.lane f)
+        ready = subst (λ (z : Kind). IsReady (KnowsActive v.about w.learned) can.version z v.lane f)
             (sym kind) (refl, refl);
       } in
       subst (λ (z : View). CanPublish z f) (sym same) may
@@ -75,7 +75,7 @@ module _ (v u : View) (lines n a : ℕ) (is : u ≡ after_claim v lines n a) whe
         flying = refl;
         version = can.version;
         entered = can.entered;
-        ready = subst (λ (z : Kind). IsReady (KnowsActive v.about.rows.value w.learned) can.version z v.lane f)
+        ready = subst (λ (z : Kind). IsReady (KnowsActive v.about w.learned) can.version z v.lane f)
             (sym kind) refl;
       } in
       subst (λ (z : View). CanPublish z f) (sym is) may

@@ -35,7 +35,7 @@ filled_publish v f is all = record {
   flying = is.flying;
   version = is.body.version;
   entered = is.body.entered;
-  ready = subst (λ (z : Kind). IsReady (KnowsActive v.about.rows.value v.learned) is.body.version z v.lane f)
+  ready = subst (λ (z : Kind). IsReady (KnowsActive v.about v.learned) is.body.version z v.lane f)
       (sym is.stored) (is.full, is.body.keyed, all);
 }
 

@@ -19,13 +19,13 @@ use Rattle.fish_rule.specs.declared.view.View.{View}
 -- ---- version 0
 
 -- at version 0 the active definitions are those of the start, and no word need be read
-pub knows_start : (rows : List CatRow) (l : Learned) → KnowsActive rows l 0 (active_texts (map listed_of rows))
-knows_start rows l = (map listed_of rows, record { reached = omega arith; are = λ g read. refl }, refl)
+pub knows_start : (k : Key) (l : Learned) → KnowsActive k l 0 (active_texts (map listed_of k.rows.value))
+knows_start k l = (map listed_of k.rows.value, record { reached = omega arith; are = λ g read. refl }, refl)
 
 -- so there are none where the start has no rows
-pub knows_none : (rows : List CatRow) (l : Learned) → rows ≡ [] → KnowsActive rows l 0 []
-knows_none rows l none = subst (KnowsActive rows l 0) (ap (λ (z : List CatRow). active_texts (map listed_of z)) none)
-    (knows_start rows l)
+pub knows_none : (k : Key) (l : Learned) → k.rows.value ≡ [] → KnowsActive k l 0 []
+knows_none k l none = subst (KnowsActive k l 0) (ap (λ (z : List CatRow). active_texts (map listed_of z)) none)
+    (knows_start k l)
 
 -- ---- later
 
@@ -36,12 +36,12 @@ module _ (v u : View) (learns : Learns v u) where
       (λ x m. all_among (λ y. g y.index ≡ y.value) x u.learned.words read (learns.words x m))
 
   -- what was known of active definitions still is
-  pub knows_later : (version : ℕ) (texts : List (ℕ × List ℕ)) → KnowsActive v.about.rows.value v.learned version texts
-      → KnowsActive u.about.rows.value u.learned version texts
+  pub knows_later : (version : ℕ) (texts : List (ℕ × List ℕ)) → KnowsActive v.about v.learned version texts
+      → KnowsActive u.about u.learned version texts
   knows_later version texts h =
       let up = learns.version in
       let reached = h.1.reached in
-      subst (λ (z : Key). KnowsActive z.rows.value u.learned version texts) (sym learns.about)
+      subst (λ (z : Key). KnowsActive z u.learned version texts) (sym learns.about)
       (h.0, record { reached = omega arith; are = λ g read. h.1.are g (read_before g read) }, h.2)
 
   -- so words that are those of a record of the pass's version with its keys still are
@@ -50,8 +50,8 @@ module _ (v u : View) (learns : Learns v u) where
   body_later f words linked lane epoch body h = record {
     version = h.version;
     entered = epoch ∙ h.entered;
-    keyed = subst (λ (z : ℕ × (ℕ → ℕ)). IsKeyed (KnowsActive u.about.rows.value u.learned) h.version z.0 f.number
+    keyed = subst (λ (z : ℕ × (ℕ → ℕ)). IsKeyed (KnowsActive u.about u.learned) h.version z.0 f.number
         f.lines z.1) (λ i. (sym lane i, sym body i))
-        (keyed_map (KnowsActive v.about.rows.value v.learned) (KnowsActive u.about.rows.value u.learned) knows_later
+        (keyed_map (KnowsActive v.about v.learned) (KnowsActive u.about u.learned) knows_later
         h.version v.lane f.number f.lines (body_of f.words) h.keyed);
   }

@@ -47,7 +47,7 @@ pub record IsStorable (v : View) (number lines : ℕ) (p : BodyParts) : Type 0 w
   pub number_is : p.number ≡ number
   pub lines_is : body_lines p ≡ lines
   pub reads : IsTrue (is_record p.form p.payload)
-  pub keys : HasKeys (KnowsActive v.about.rows.value v.learned) p
+  pub keys : HasKeys (KnowsActive v.about v.learned) p
 
 -- the words are stored, a step each
 abbrev pub filled_view : View → Flight → List ℕ → View

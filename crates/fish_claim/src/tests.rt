@@ -13,7 +13,7 @@ use fish_catalog::Catalog;
 use fish_epoch::enter;
 use fish_json::JsonRecord;
 use fish_layout::{Body, BodyParts, body_of};
-use fish_rule::{Log, Pass, Shape, Shut, Start, in_flight, is_shut, lane, open_log};
+use fish_rule::{Base, Log, Pass, Shape, Shut, Start, base, in_flight, is_shut, lane, open_log};
 use fish_value::{Form, Sequence, Text};
 use std::alloc::{AllocError, Global};
 use std::test::Fail;
@@ -97,9 +97,7 @@ fn one_page(rt: HostRuntime) -> Result<(), Fail> {
         pages: 1,
         bucket_bits: 4,
     };
-    let start = Start::Empty {
-        catalog: Catalog::new(alloc),
-    };
+    let start = Start::first(alloc, shape, Catalog::new(alloc))?;
     let (log, mut pass) = open_log(alloc, shape, &start)?;
     let shut = Shut {
         line: 32_752,
@@ -123,9 +121,7 @@ fn two_pages(rt: HostRuntime) -> Result<(), Fail> {
         pages: 2,
         bucket_bits: 4,
     };
-    let start = Start::Empty {
-        catalog: Catalog::new(alloc),
-    };
+    let start = Start::first(alloc, shape, Catalog::new(alloc))?;
     let (log, mut pass) = open_log(alloc, shape, &start)?;
     // lines claimed, answer
     let cases = [
@@ -141,5 +137,31 @@ fn two_pages(rt: HostRuntime) -> Result<(), Fail> {
             "{lines} lines"
         );
     }
+    Ok(())
+}
+
+#[test]
+fn a_log_far_on(rt: HostRuntime) -> Result<(), Fail> {
+    let alloc = rt.alloc();
+    let shape = Shape {
+        pages: 1,
+        bucket_bits: 4,
+    };
+    let mut start = Start::first(alloc, shape, Catalog::new(alloc))?;
+    start.base = Base {
+        number: 268_435_430,
+        line: 300_000_000,
+    };
+    let (log, mut pass) = open_log(alloc, shape, &start)?;
+    let shut = Shut {
+        line: 300_000_000,
+        lines: 10,
+        end: 300_000_009,
+    };
+    assert_eq!(rt;
+        store(alloc, &log, &mut pass, 10)?,
+        Claimed::Overflow { shut }
+    );
+    assert_eq!(rt; base(&log), start.base);
     Ok(())
 }

@@ -14,7 +14,7 @@ use Rattle.fish_catalog.specs.declared.row.CatRow.{CatRow}
 use Rattle.fish_layout.proofs.Clearing.{choose_first, choose_second}
 use Rattle.fish_rule.proofs.Common.{all_among}
 use Rattle.fish_rule.proofs.Extending.{extends_both, extends_self}
-use Rattle.fish_rule.proofs.Registers.{length_registered}
+use Rattle.fish_rule.proofs.Registers.{definitions_first, definitions_next, length_registered}
 use Rattle.fish_rule.proofs.Registering.{listing_law}
 use Rattle.fish_rule.specs.Entering.{after_registry}
 use Rattle.fish_rule.specs.Logs.{Learns}
@@ -90,22 +90,22 @@ read_fewer g (x ∷ ws) us sub h =
 
 -- definitions that are known stay known
 pub knows_later : (v u : View) (n : ℕ) (ls : List Listed) → Learns v u
-    → KnowsDefinitions v.about.rows.value v.learned n ls → KnowsDefinitions u.about.rows.value u.learned n ls
+    → KnowsDefinitions v.about v.learned n ls → KnowsDefinitions u.about u.learned n ls
 knows_later v u n ls e h =
     let up = e.version in
     let a = h.reached in
-    subst (λ (z : Key). KnowsDefinitions z.rows.value u.learned n ls) (sym e.about) (record {
+    subst (λ (z : Key). KnowsDefinitions z u.learned n ls) (sym e.about) (record {
       reached = omega arith;
       are = λ g read. h.are g (read_fewer g v.learned.words u.learned.words e.words read);
     })
 
 -- and so do rows
-pub row_later : (v u : View) (id : ℕ) → Learns v u → KnowsRow v.about.rows.value v.learned id
-    → KnowsRow u.about.rows.value u.learned id
+pub row_later : (v u : View) (id : ℕ) → Learns v u → KnowsRow v.about v.learned id
+    → KnowsRow u.about u.learned id
 row_later v u id e h =
     let up = e.version in
     let a = h.reached in
-    subst (λ (z : Key). KnowsRow z.rows.value u.learned id) (sym e.about) (record {
+    subst (λ (z : Key). KnowsRow z u.learned id) (sym e.about) (record {
       version = h.version;
       reached = omega arith;
       there = λ g read. h.there g (read_fewer g v.learned.words u.learned.words e.words read);
@@ -120,7 +120,7 @@ defs_later v u d e h read = record {
 }
 
 -- a row of the start is known
-pub first_known : (v : View) (id : ℕ) → id < length v.about.rows.value → KnowsRow v.about.rows.value v.learned id
+pub first_known : (v : View) (id : ℕ) → id < length v.about.rows.value → KnowsRow v.about v.learned id
 first_known v id less = record {
   version = 0;
   reached = omega arith;
@@ -220,35 +220,37 @@ take_more (y ∷ xs) (suc n) x h = ap (λ z. y ∷ z) (take_more xs n x h)
 
 -- ---- what an operation makes
 
-module _ (v u : View) (before x : ℕ) (ls : List Listed) (learns : Learns v u) (reached : before < v.learned.version)
+module _ (v u : View) (before x : ℕ) (ls : List Listed) (learns : Learns v u)
+    (from : v.about.version ≤ before) (reached : before < v.learned.version)
     (read : Among (record { index = op_at (suc before); value = x }) u.learned.words)
-    (known : KnowsDefinitions v.about.rows.value v.learned before ls) where
+    (known : KnowsDefinitions v.about v.learned before ls) where
   -- by the words, the next version's definitions are made by the operation
   made_by : (g : ℕ → ℕ) → HasRead g u.learned.words
-      → definitions_at u.about.rows.value g (suc before) ≡ made g x ls
+      → definitions_at u.about g (suc before) ≡ made g x ls
   made_by g has =
       let op : g (op_at (suc before)) ≡ x =
       all_among (λ y. g y.index ≡ y.value) (record { index = op_at (suc before); value = x }) u.learned.words has read in
       let old = (knows_later v u before ls learns known).are g has in
-      λ j. made g (op j) (old j)
+      definitions_next u.about g before (subst (λ (z : Key). z.version ≤ before) (sym learns.about) from)
+      ∙ (λ j. made g (op j) (old j))
 
   next_reached : suc before ≤ u.learned.version
   next_reached = (let up = learns.version in omega arith)
 
   -- a registration adds the next row, which is then known
-  pub registered_known : x < 512 → KnowsRow u.about.rows.value u.learned (length ls)
+  pub registered_known : x < 512 → KnowsRow u.about u.learned (length ls)
   registered_known less = record {
     version = suc before;
     reached = next_reached;
     there = λ g has.
-        let size : length (definitions_at u.about.rows.value g (suc before)) ≡ length (made g x ls) =
+        let size : length (definitions_at u.about g (suc before)) ≡ length (made g x ls) =
         ap (λ (z : List Listed). length z) (made_by g has) in
         let more = length_registered g x ls less in
         omega arith;
   }
 
   -- any other operation ends one
-  pub made_ended : ¬ (x < 512) → KnowsDefinitions u.about.rows.value u.learned (suc before) (ended_at (x % 256) ls)
+  pub made_ended : ¬ (x < 512) → KnowsDefinitions u.about u.learned (suc before) (ended_at (x % 256) ls)
   made_ended more = record {
     reached = next_reached;
     are = λ g has. made_by g has
@@ -258,12 +260,12 @@ module _ (v u : View) (before x : ℕ) (ls : List Listed) (learns : Learns v u) 
 
   -- the definition that was registered stands behind the others
   pub made_registered : (t : View) (l : Listed) → x < 512 → Learns u t → HasRow t (length ls) l
-      → KnowsDefinitions t.about.rows.value t.learned (suc before) (ls ++ l ∷ [])
+      → KnowsDefinitions t.about t.learned (suc before) (ls ++ l ∷ [])
   made_registered t l less later row = record {
     reached = (let up = later.version in let a = next_reached in omega arith);
     are = λ g has.
         let has_u = read_fewer g u.learned.words t.learned.words later.words has in
-        ap (λ (z : Key). definitions_at z.rows.value g (suc before)) later.about ∙ made_by g has_u
+        ap (λ (z : Key). definitions_at z g (suc before)) later.about ∙ made_by g has_u
         ∙ choose_first (dec_lt x 512) (ls ++ listed_in (row_in g (length ls)) (length ls) true ∷ [])
         (ended_at (x % 256) ls) less
         ∙ ap (λ (z : Listed). ls ++ z ∷ []) (sym (row g has));
@@ -278,5 +280,5 @@ operation_read v u p x e = subst (λ (z : View). Among (record { index = p; valu
 
 -- definitions that are known are a listing
 pub known_listing : (v : View) (n : ℕ) (ls : List Listed) → Stands v
-    → KnowsDefinitions v.about.rows.value v.learned n ls → IsListing ls
+    → KnowsDefinitions v.about v.learned n ls → IsListing ls
 known_listing = listing_law

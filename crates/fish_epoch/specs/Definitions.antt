@@ -24,7 +24,7 @@ pub record IsUnread (d : Defs) : Type 0 where
 -- ones among them
 pub record AreRead (v : View) (d : Defs) : Type 0 where
   pub read : d.read ≡ true
-  pub rows : KnowsDefinitions v.about.rows.value v.learned (version_of d) d.rows.items
+  pub rows : KnowsDefinitions v.about v.learned (version_of d) d.rows.items
   pub active : map text_of (active_defs d) ≡ active_texts d.rows.items
 
 -- what they hold was read by this pass, or by one that it learned of

@@ -8,7 +8,7 @@ ghost use Rattle.fish_rule.specs.Passes.{IsPassOf, view};
 ghost use Rattle.fish_rule.specs.Registry.{KnowsDefinitions, KnowsRow};
 
 use fish_catalog::{Listed, ROW_WORDS, active_in, read_row};
-use fish_rule::{Log, Pass, load_opened, load_operation, load_row};
+use fish_rule::{Log, Pass, first_version, load_opened, load_operation, load_row};
 use std::alloc::{AllocError, Global};
 
 /// The definitions of a version.
@@ -23,10 +23,11 @@ pub(crate) fn read_rows(
     ensures pass { IsPassOf log.now pass.new }
     ensures reads { OnlyReads (view pass.old) (view pass.new) }
     ensures rows { IfOk result (λ rows.
-        KnowsDefinitions (view pass.new).about.rows.value (view pass.new).learned version rows.items) }
+        KnowsDefinitions (view pass.new).about (view pass.new).learned version rows.items) }
 {
     let mut rows = first_rows(alloc, log, pass)?;
-    for before in 0..version {
+    let version = u64::from(version);
+    for before in first_version(log).min(version)..version {
         make(alloc, log, pass, before, &mut rows)?;
     }
     Ok(rows)
@@ -64,18 +65,19 @@ fn make(
     alloc: Global,
     log: &Log,
     pass: &mut Pass,
-    version: u16,
+    version: u64,
     rows: &mut Vec<Listed>,
 ) -> Result<(), AllocError>
     requires pass { IsPassOf log.now pass.old }
+    requires first { log.now.key.version ≤ version }
     requires reached { version < (view pass.old).learned.version }
-    requires rows { KnowsDefinitions (view pass.old).about.rows.value (view pass.old).learned version rows.old.items }
+    requires rows { KnowsDefinitions (view pass.old).about (view pass.old).learned version rows.old.items }
     ensures pass { IsPassOf log.now pass.new }
     ensures reads { OnlyReads (view pass.old) (view pass.new) }
-    ensures rows { OnOk result (KnowsDefinitions (view pass.new).about.rows.value (view pass.new).learned
+    ensures rows { OnOk result (KnowsDefinitions (view pass.new).about (view pass.new).learned
         (suc version) rows.new.items) }
 {
-    let operation = load_operation(log, pass, u64::from(version) + 1);
+    let operation = load_operation(log, pass, version + 1);
     if operation < 512 {
         let row = registered_row(alloc, log, pass, rows.as_slice().len() as u64)?;
         rows.push(row)?;
@@ -88,7 +90,7 @@ fn make(
 /// The definition of a row that was registered.
 fn registered_row(alloc: Global, log: &Log, pass: &mut Pass, id: u64) -> Result<Listed, AllocError>
     requires pass { IsPassOf log.now pass.old }
-    requires row { KnowsRow (view pass.old).about.rows.value (view pass.old).learned id }
+    requires row { KnowsRow (view pass.old).about (view pass.old).learned id }
     ensures pass { IsPassOf log.now pass.new }
     ensures reads { OnlyReads (view pass.old) (view pass.new) }
     ensures row { IfOk result (HasRow (view pass.new) id) }
@@ -112,7 +114,7 @@ fn end_row(rows: &mut [Listed], id: u16)
 /// The words of a row, behind its boundaries, which are left 0.
 fn read_words(log: &Log, pass: &mut Pass, id: u64) -> [u64; ROW_WORDS]
     requires pass { IsPassOf log.now pass.old }
-    requires row { KnowsRow (view pass.old).about.rows.value (view pass.old).learned id }
+    requires row { KnowsRow (view pass.old).about (view pass.old).learned id }
     ensures pass { IsPassOf log.now pass.new }
     ensures reads { OnlyReads (view pass.old) (view pass.new) }
     ensures words { HasWords (view pass.new) id 39 (slice_index result) }

@@ -43,7 +43,7 @@ fn opened(alloc: Global) -> Result<(Log, Pass), Fail>
         pages: 1,
         bucket_bits: 4,
     };
-    Ok(open_log(alloc, one_page, &Start::Empty { catalog })?)
+    Ok(open_log(alloc, one_page, &Start::first(alloc, one_page, catalog)?)?)
 }
 
 #[test]

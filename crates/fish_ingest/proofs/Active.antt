@@ -11,6 +11,7 @@ use Rattle.fish_claim.proofs.Known.{knows_start}
 use Rattle.fish_psf.specs.declared.key.ActiveDef.{ActiveDef}
 use Rattle.fish_rule.specs.Keys.{AreActive, text_of}
 use Rattle.fish_rule.specs.Registry.{KnowsActive}
+use Rattle.fish_rule.specs.declared.view.Key.{Key}
 use Rattle.fish_rule.specs.declared.view.Learned.{Learned}
 use Rattle.fish_ingest.specs.Definitions.{AreDefs, id_of}
 
@@ -92,6 +93,6 @@ active_defs {rows} {defs} h active =
     defs_ascend defs (subst (AscendFrom 0) (sym (ids_same rows defs active)) ascend)
 
 -- at version 0 the definitions of the start are active, whatever else was learned
-pub knows_active : (rows : List CatRow) (l : Learned) (defs : List ActiveDef) → AreActive rows defs
-    → KnowsActive rows l 0 (map text_of defs)
-knows_active rows l defs h = subst (KnowsActive rows l 0) (active_of_catalog rows ∙ sym h) (knows_start rows l)
+pub knows_active : (k : Key) (l : Learned) (defs : List ActiveDef) → AreActive k.rows.value defs
+    → KnowsActive k l 0 (map text_of defs)
+knows_active k l defs h = subst (KnowsActive k l 0) (active_of_catalog k.rows.value ∙ sym h) (knows_start k l)

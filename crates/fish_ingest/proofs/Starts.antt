@@ -138,7 +138,7 @@ module _ (v a b : View) (version : ℕ) (entered : HasEntered v version a) (keep
         origin = h.origin;
         payload = payload;
         made = h.made;
-        active = subst (λ (z : ℕ). KnowsActive b.about.rows.value b.learned z (map text_of h.defs)) (sym h.version_is)
+        active = subst (λ (z : ℕ). KnowsActive b.about b.learned z (map text_of h.defs)) (sym h.version_is)
             h.active;
         lane_is = h.lane_is;
         entered = at ∙ ap Confirmed (sym h.version_is);
@@ -156,7 +156,7 @@ module _ (v a b : View) (version : ℕ) (entered : HasEntered v version a) (keep
     parts = h.made.0.1;
     form_is = h.form_is;
     lane_is = h.lane_is ∙ sym lane;
-    active = subst (λ (z : ℕ). KnowsActive u.about.rows.value u.learned z (map text_of h.defs)) (sym h.version_is)
+    active = subst (λ (z : ℕ). KnowsActive u.about u.learned z (map text_of h.defs)) (sym h.version_is)
         (knows_later b u learns version (map text_of h.defs) h.active);
   }
 

@@ -53,9 +53,9 @@ can_fill v f prepared can words is =
       body = record {
         version = can.origin.version;
         entered = can.entered;
-        keyed = subst (λ (z : ℕ × ℕ). IsKeyed (KnowsActive v.about.rows.value v.learned) can.origin.version z.0
+        keyed = subst (λ (z : ℕ × ℕ). IsKeyed (KnowsActive v.about v.learned) can.origin.version z.0
             f.number z.1 (body_of words)) (λ i. (can.lane_is i, lines i))
-            (keyed_of_body {active = KnowsActive v.about.rows.value v.learned} f.number words b is can.active);
+            (keyed_of_body {active = KnowsActive v.about v.learned} f.number words b is can.active);
       };
     }
 

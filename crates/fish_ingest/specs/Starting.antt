@@ -61,7 +61,7 @@ pub record IsRecordFor (v : View) (form : Form) (payload : List ℕ) (p : BodyPa
   pub parts : ArePartsFor defs origin payload p
   pub form_is : origin.form ≡ form
   pub lane_is : origin.lane ≡ v.lane
-  pub active : KnowsActive v.about.rows.value v.learned origin.version (map text_of defs)
+  pub active : KnowsActive v.about v.learned origin.version (map text_of defs)
 
 -- what was prepared are its words and its keys
 pub record HasPrepared (v : View) (version : ℕ) (form : Form) (payload : List ℕ) (prepared : Prepared) : Type 0 where
@@ -71,7 +71,7 @@ pub record HasPrepared (v : View) (version : ℕ) (form : Form) (payload : List 
   pub form_is : origin.form ≡ form
   pub lane_is : origin.lane ≡ v.lane
   pub version_is : origin.version ≡ version
-  pub active : KnowsActive v.about.rows.value v.learned version (map text_of defs)
+  pub active : KnowsActive v.about v.learned version (map text_of defs)
 
 -- ---- afterwards
 

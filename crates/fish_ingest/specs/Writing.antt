@@ -29,7 +29,7 @@ pub record CanWrite (v : View) (f : Flight) (prepared : Prepared) : Type 0 where
   pub origin : Origin
   pub payload : List ℕ
   pub made : IsPreparedFor defs origin payload prepared
-  pub active : KnowsActive v.about.rows.value v.learned origin.version (map text_of defs)
+  pub active : KnowsActive v.about v.learned origin.version (map text_of defs)
   pub lane_is : origin.lane ≡ v.lane
   pub entered : v.epoch ≡ Confirmed origin.version
 

@@ -75,8 +75,9 @@ claim_allowed given k same size id me x m about can some_lines few is =
     allowed given k same size id me 0 (λ n. (n + x) % 2 ^ 64) (ToldClaim (step size 0 x 0 none) me) (λ ws vs wide r at.
     let w : World = world k ws vs in
     let found : ℕ = get_or ws 0 0 in
-    let room = few_lines k w r in
-    let numbers = few_numbers k w r in
+    let kept = claim_kept k w r id me.0 at m can some_lines few in
+    let room = few_lines k _ kept in
+    let numbers = few_numbers k _ kept in
     let parts : low found + high found * 68719476736 ≡ found = tail_is found in
     let v' : View = after_claim me.0 m w.count w.line in
     let sum : (found + x) % 2 ^ 64 ≡ (w.line + m) + suc w.count * 68719476736 =
@@ -84,7 +85,6 @@ claim_allowed given k same size id me x m about can some_lines few is =
     let new : ℕ = (found + x) % 2 ^ 64 in
     let count : high new ≡ suc w.count = ap high sum ∙ high-pack (suc w.count) (w.line + m) (omega arith) in
     let line : low new ≡ w.line + m = ap low sum ∙ low-pack (suc w.count) (w.line + m) (omega arith) in
-    let kept = claim_kept k w r id me.0 at m can some_lines few in
     let moved : world k (set ws 0 new) (set vs id v') ≡ record w {
       count = suc w.count;
       line = w.line + m;

@@ -1,16 +1,19 @@
 -- The rule holds of an empty log with one pass.
 use Rattle.std.proofs.Common.{◌≡◌, ℕ, ◌+◌, ◌-◌, ◌*◌, ◌<◌, ◌≤◌, zero, suc, List, [], ◌∷◌, length, map, slice_index, sym}
 use Rattle.std.proofs.Common.{refl, ap, ◌∙◌, subst, inl, inr, ⊎_elim, arith}
-use Rattle.std.proofs.Math.Decide.{dec_le}
+use Rattle.std.proofs.Math.Decide.{dec_le, dec_lt}
 use Rattle.std.proofs.Math.ListN.{get_elem?}
 use mathlib.Core.Option.{some, some-injective, some-ne-none}
 use Rattle.atomic_table.specs.Table.{opening}
 use Rattle.fish_layout.specs.Cleared.{choose}
 use Rattle.fish_rule.proofs.Bodies.{high-pack, low-pack}
 use Rattle.fish_rule.proofs.Kept.{published}
+use Rattle.fish_rule.proofs.Registers.{definitions_first}
+use Rattle.fish_rule.proofs.Worlds.{area-behind, area-in}
+use Rattle.std.proofs.lemmas.List.{get_or_past}
 use Rattle.fish_rule.specs.Chains.{Chained, IsLinking, IsStoredAt, Linked, LinksAt}
 use Rattle.fish_rule.specs.declared.view.Kind.TheVariants.{Stored}
-use Rattle.fish_rule.specs.Parts.{Fits, Flies, Limit, Regions, Rests, Space, quotas}
+use Rattle.fish_rule.specs.Parts.{Fits, Flies, Limit, Regions, Rests, Space, first_head, quotas}
 use Rattle.fish_rule.specs.Facts.{Facts, Owns, ShutOk}
 use Rattle.fish_rule.specs.Rule.{Rule}
 use Rattle.fish_rule.specs.Start.{IsEmpty, IsOpening, empty_world}
@@ -28,11 +31,11 @@ use Rattle.fish_rule.specs.Registry.{definitions_at, version_in}
 use Rattle.fish_rule.specs.declared.view.Epoch.{Epoch}
 use Rattle.fish_rule.specs.declared.view.Epoch.TheVariants.{Out}
 
--- where all words from the heads on are 0, so is an area of them
-area-zero : (ws : List ℕ) (at base size : ℕ) → heads_at ≤ at → ((i : ℕ) → heads_at ≤ i → slice_index ws i ≡ 0) → (n : ℕ)
+-- where all words from an index on are 0, so is an area of them
+area-zero : (ws : List ℕ) (from at base size : ℕ) → from ≤ at → ((i : ℕ) → from ≤ i → slice_index ws i ≡ 0) → (n : ℕ)
     → area ws at base size n ≡ 0
 unfolding area
-area-zero ws at base size behind zeros n = by (dec_le base n) (dec_le (suc n) (base + size))
+area-zero ws from at base size behind zeros n = by (dec_le base n) (dec_le (suc n) (base + size))
   where
     by : (d : Dec (base ≤ n)) (e : Dec (suc n ≤ base + size))
         → choose d (choose e (slice_index ws (at + (n - base))) 0) 0 ≡ 0
@@ -65,11 +68,25 @@ module _ (k : Key) (ws : List ℕ) (fits : Fits k) (empty : IsEmpty k ws) where
 
   -- no directory word is set
   dir_zero : (n : ℕ) → area ws (dir_at k) k.number (slots k) n ≡ 0
-  dir_zero n = area-zero ws (dir_at k) k.number (slots k) (omega arith) empty.zeros n
+  dir_zero n = area-zero ws (dir_at k) (dir_at k) k.number (slots k) (omega arith) empty.zeros n
 
   -- and no word of the log
   log_zero : (p : ℕ) → area ws (log_at k) (k.line * 4) (log_size k) p ≡ 0
-  log_zero p = area-zero ws (log_at k) (k.line * 4) (log_size k) (omega arith) empty.zeros p
+  log_zero p = area-zero ws (dir_at k) (log_at k) (k.line * 4) (log_size k) (omega arith) empty.zeros p
+
+  -- the heads are those of the start
+  head_first : (b : ℕ) → area ws heads_at 0 k.buckets b ≡ first_head k b
+  head_first b = by (dec_lt b k.buckets)
+    where
+      by : Dec (b < k.buckets) → area ws heads_at 0 k.buckets b ≡ first_head k b
+      by (yes less) =
+          let minus : heads_at + (b - 0) ≡ heads_at + b = omega arith in
+          area-in ws heads_at 0 k.buckets b (omega arith) (omega arith) ∙ ap (slice_index ws) minus
+          ∙ empty.heads b less
+      by (no more) =
+          let size = fits.all_heads in
+          area-behind ws heads_at 0 k.buckets b (omega arith)
+          ∙ sym (get_or_past k.heads.value b 0 (omega arith))
 
   -- the words spell the empty world
   pub empty_words : world k ws (first_view k ∷ []) ≡ empty_world k (area ws 2 2 registry_size)
@@ -78,13 +95,13 @@ module _ (k : Key) (ws : List ℕ) (fits : Fits k) (empty : IsEmpty k ws) where
     line = line_is j;
     settled = empty.settled j;
     registry = area ws 2 2 registry_size;
-    head = λ b. area-zero ws heads_at 0 k.buckets (omega arith) empty.zeros b j;
+    head = λ b. head_first b j;
     dir = λ n. dir_zero n j;
     log = λ p. log_zero p j;
     views = first_view k ∷ [];
   }
 
-module _ (k : Key) (g : ℕ → ℕ) (fits : Fits k) (opening_ : IsOpening k.rows.value g) where
+module _ (k : Key) (g : ℕ → ℕ) (fits : Fits k) (opening_ : IsOpening k.version k.rows.value g) where
   -- the world at the start
   abbrev w : World
   w = empty_world k g
@@ -147,37 +164,39 @@ module _ (k : Key) (g : ℕ → ℕ) (fits : Fits k) (opening_ : IsOpening k.row
       (λ (l : IsLinking h.line h.entry w.views). subst (λ (z : View). LinksAt h.line h.entry z.flight)
       (sym (at_one (first_view k) l.view l.seat l.at).1) l.links) h.shows
 
-  -- every record would be of version 0
+  -- every record would be of the start's version
   abbrev version_of : ℕ → ℕ
-  version_of _ = 0
+  version_of _ = k.version
 
   -- every lane is out
   abbrev state : ℕ → Epoch
   state _ = Out
 
   -- the definitions are those of the start
-  began : definitions_at k.rows.value g (version_in g) ≡ map listed_of k.rows.value
-  began = ap (definitions_at k.rows.value g) opening_.version
+  began : definitions_at k g (version_in g) ≡ map listed_of k.rows.value
+  began = definitions_first k g (version_in g) (let z = opening_.version in omega arith)
 
   versions : Versions k k.number g version_of
   versions = record {
-    few = (let z = opening_.version in omega arith);
+    from = (let z = opening_.version in omega arith);
+    few = (let z = opening_.version in let few = opening_.few in omega arith);
+    since = λ n above below. absurd (none n above below);
     upto = λ n above below. absurd (none n above below);
-    listings = λ v reached. (let z = opening_.version in let e : v ≡ 0 = omega arith in
-        subst (λ (u : ℕ). IsListing (definitions_at k.rows.value g u)) (sym e)
+    listings = λ v reached. (let z = opening_.version in
+        subst IsListing (sym (definitions_first k g v (omega arith)))
         (listing_of_catalog k.rows.value opening_.catalog));
-    operations = λ v less. (let z = opening_.version in absurd (omega arith));
+    operations = λ v from less. (let z = opening_.version in absurd (omega arith));
     opened = opening_.opened;
     rows = λ id row there. let h = opening_.words id row there in
         (h.0, λ i above below. h.1 i below);
   }
 
   -- no word of an operation or a row that is still to come is set
-  unmade_zero : (p : ℕ) → IsUnmade k.rows.value g p → g p ≡ 0
+  unmade_zero : (p : ℕ) → IsUnmade k g p → g p ≡ 0
   unmade_zero p (inl h) = (let z = opening_.version in let a = h.1 in
       ap g h.3 ∙ opening_.operations h.0 (omega arith) h.2)
   unmade_zero p (inr h) =
-      let all : length (definitions_at k.rows.value g (version_in g)) ≡ length k.rows.value =
+      let all : length (definitions_at k g (version_in g)) ≡ length k.rows.value =
       ap (λ (z : List Listed). length z) began ∙ length-map k.rows.value listed_of in
       let a = h.2 in
       ap g h.5 ∙ opening_.rest h.0 h.1 (omega arith) h.3 h.4
@@ -189,6 +208,8 @@ module _ (k : Key) (g : ℕ → ℕ) (fits : Fits k) (opening_ : IsOpening k.row
     each = each_one (λ v. Stays k g state v.lane v.out v.epoch v.learned.version v.learned.words v.rows v.draft)
         (first_view k) (record {
           tied = λ l has. ((λ _. refl), (λ _. refl));
+          from = λ _. omega arith;
+          since = tt;
           reached = omega arith;
           read = tt;
           main = λ _. record { version = sym opening_.version; definitions = began; unmade = unmade_zero };
@@ -213,7 +234,7 @@ module _ (k : Key) (g : ℕ → ℕ) (fits : Fits k) (opening_ : IsOpening k.row
     tails = each_one (λ v. v.lane ≡ 1 → v.out ≡ [] → Rests w.count w.line v.tail) (first_view k) (λ _ _. (refl, refl));
     space = space;
     limit = limit;
-    settling = record { within = omega arith; below = λ n above below. absurd (omega arith) };
+    settling = record { from = omega arith; within = omega arith; below = λ n above below. absurd (omega arith) };
     chains = λ b. record {
       some = inl refl;
       highest = λ p h. absurd (none_linked b p h);
@@ -221,7 +242,7 @@ module _ (k : Key) (g : ℕ → ℕ) (fits : Fits k) (opening_ : IsOpening k.row
     };
     chained = each_one (λ v. Chained k w.dir w.log w.views w.head v.learned) (first_view k)
         (record { nodes = tt; lows = tt; tops = tt });
-    floors = each_one (λ v. v.learned.settled ≤ 0) (first_view k) (omega arith);
+    floors = each_one (λ v. v.learned.settled ≤ k.number) (first_view k) (omega arith);
     own = each_one (λ v. Owns k w.count w.dir lane_of v.lane v.out v.own) (first_view k)
         (record {
           sound = λ o m. elim m [ ];

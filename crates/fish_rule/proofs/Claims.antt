@@ -26,7 +26,7 @@ use Rattle.fish_rule.specs.declared.view.Kind.TheVariants.{Stored}
 use Rattle.fish_rule.specs.declared.view.View.{View}
 use Rattle.fish_rule.proofs.Registers.{endures_same}
 use Rattle.fish_layout.specs.Cleared.{body_of}
-use Rattle.fish_rule.specs.Epochs.{Carries, IsAtMost, Registry, Versions}
+use Rattle.fish_rule.specs.Epochs.{Carries, IsAtMost, IsSince, Registry, Versions}
 use Rattle.fish_rule.specs.Keys.{IsKeyed}
 use Rattle.fish_rule.specs.Regions.{code}
 use Rattle.fish_rule.specs.Registry.{AreActiveAt, version_in}
@@ -81,7 +81,7 @@ module _ (k : Key) (w : World) (r : Rule k w) (id : ℕ) (v : View) (at : get_el
     counts = omega arith;
     lines = omega arith;
     settles = omega arith;
-    registered = endures_same k.rows.value w.registry;
+    registered = endures_same k w.registry;
     heads = λ b. omega arith;
     links = links_set k w r id v claimer at none_linked;
     rises = λ b p h. omega arith;
@@ -268,7 +268,9 @@ module _ (k : Key) (w : World) (r : Rule k w) (id : ℕ) (v : View) (at : get_el
   versions =
       let h = r.registry.versions in
       record {
+        from = h.from;
         few = h.few;
+        since = λ n above below. first n above below (ℕ_discrete n w.count);
         upto = λ n above below. pick n above below (ℕ_discrete n w.count);
         listings = h.listings;
         operations = h.operations;
@@ -276,6 +278,15 @@ module _ (k : Key) (w : World) (r : Rule k w) (id : ℕ) (v : View) (at : get_el
         rows = h.rows;
       }
     where
+      mine : k.version ≤ can.version
+      mine = subst (IsSince k.version) can.entered (r.registry.each id v at).since
+
+      first : (n : ℕ) → k.number ≤ n → n < suc w.count → Dec (n ≡ w.count) → k.version ≤ version_of' n
+      first n above below (yes e) = subst (λ (z : ℕ). k.version ≤ z)
+          (sym (ap version_of' e ∙ put-here r.version_of w.count can.version)) mine
+      first n above below (no ne) = (let less : n < w.count = omega arith in
+          subst (λ (z : ℕ). k.version ≤ z) (sym (old_version n less)) (r.registry.versions.since n above less))
+
       pick : (n : ℕ) → k.number ≤ n → n < suc w.count → Dec (n ≡ w.count) → version_of' n ≤ version_in w.registry
       pick n above below (yes e) = subst (λ (z : ℕ). z ≤ version_in w.registry)
           (sym (ap version_of' e ∙ put-here r.version_of w.count can.version)) version_reached
@@ -292,7 +303,7 @@ module _ (k : Key) (w : World) (r : Rule k w) (id : ℕ) (v : View) (at : get_el
       let e : version_of' g.number ≡ r.version_of g.number = old_version g.number flies.below in
       record {
         entered = h.entered ∙ ap Confirmed (sym e);
-        keyed = λ some_. subst (λ (z : ℕ). IsKeyed (AreActiveAt k.rows.value w.registry) z lane g.number g.lines
+        keyed = λ some_. subst (λ (z : ℕ). IsKeyed (AreActiveAt k w.registry) z lane g.number g.lines
             (body_of g.words)) (sym e) (h.keyed some_);
       }
 
@@ -345,7 +356,7 @@ module _ (k : Key) (w : World) (r : Rule k w) (id : ℕ) (v : View) (at : get_el
             (sym (only_main w.views j id u v r.seats at_u at main all can.live)))) (λ main all. (refl, refl));
         space = space;
         limit = lim.1;
-        settling = record { within = (let h = r.settling.within in omega arith); below = r.settling.below };
+        settling = record { from = r.settling.from; within = (let h = r.settling.within in omega arith); below = r.settling.below };
         chained = each_set _ w.views id claimer
             (λ j u ne at_u. chained_later k w claimed r.start start' r.lane_of lane_of' claim_final u.learned
             (r.chained j u at_u))

@@ -10,7 +10,7 @@ use Rattle.fish_catalog.specs.Listing.{IsListing, ended_at, listed_in}
 use Rattle.fish_catalog.specs.declared.listed.Listed.{Listed}
 use Rattle.fish_layout.proofs.Clearing.{choose_first, choose_second}
 use Rattle.fish_rule.proofs.Common.{each_set, has_own}
-use Rattle.fish_rule.proofs.Registers.{definitions_same, length_made, made_same}
+use Rattle.fish_rule.proofs.Registers.{definitions_next, length_made, made_same}
 use Rattle.fish_rule.proofs.Registries.{carries_later, listing_later, operation_kept, operation_later, read_later}
 use Rattle.fish_rule.proofs.Registries.{register_lasts, registers, rows_later, unmade_before, versions_later}
 use Rattle.fish_rule.proofs.Worlds.{put-else, put-here}
@@ -69,13 +69,13 @@ module _ (k : Key) (w : World) (r : Rule k w) (id : ℕ) (v : View) (at : get_el
 
   module _ (p x : ℕ) (can : CanDefine v p x) where
     -- nothing is made of the word
-    pub unmade_here : IsUnmade k.rows.value w.registry p
+    pub unmade_here : IsUnmade k w.registry p
     unmade_here = by can.next
       where
-        size : length (definitions_at k.rows.value w.registry (version_in w.registry)) ≡ length v.rows
+        size : length (definitions_at k w.registry (version_in w.registry)) ≡ length v.rows
         size = ap (λ (z : List Listed). length z) its.definitions
 
-        by : IsNextWord v p x → IsUnmade k.rows.value w.registry p
+        by : IsNextWord v p x → IsUnmade k w.registry p
         by (inl h) = (let e = its.version in let a = h.0 in let q = h.1 in
             inl (suc v.learned.version, (omega arith), (omega arith), h.1))
         by (inr h) = (let e = size in inr (length v.rows, h.0, (omega arith), h.1, h.2, h.3))
@@ -85,7 +85,7 @@ module _ (k : Key) (w : World) (r : Rule k w) (id : ℕ) (v : View) (at : get_el
     far_here = ⊎_elim (λ m. let q = m.3 in let a = m.1 in omega arith) (λ m. let q = m.5 in omega arith) unmade_here
 
     -- and no word that lasts
-    made_else : (q : ℕ) → IsLasting k.rows.value w.registry q → q ≢ p
+    made_else : (q : ℕ) → IsLasting k w.registry q → q ≢ p
     made_else q (inl h) e = (let far = far_here in omega arith)
     made_else q (inr (inl h)) e = ⊎_elim
         (λ m. let a = h.2 in let b = h.3 in let c = m.1 in let d = m.3 in omega arith)
@@ -101,7 +101,7 @@ module _ (k : Key) (w : World) (r : Rule k w) (id : ℕ) (v : View) (at : get_el
     still : version_in defined ≡ version_in w.registry
     still = (let far = far_here in put-else w.registry p x 2 (λ e. omega arith))
 
-    endures : Endures k.rows.value w.registry defined
+    endures : Endures k w.registry defined
     endures = record {
       rises = (let e = still in omega arith);
       same = λ q h. put-else w.registry p x q (made_else q h);
@@ -116,18 +116,20 @@ module _ (k : Key) (w : World) (r : Rule k w) (id : ℕ) (v : View) (at : get_el
         let h = r.registry.each id v at in
         record {
           tied = h.tied;
+          from = h.from;
+          since = h.since;
           reached = (let e = still in let a = h.reached in omega arith);
           read = read_later k w.registry defined endures v.learned.words h.read;
           main = λ _. record {
             version = its.version ∙ sym still;
-            definitions = ap (definitions_at k.rows.value defined) still
-                ∙ Rattle.fish_rule.proofs.Registers.definitions_later k.rows.value w.registry defined endures
+            definitions = ap (definitions_at k defined) still
+                ∙ Rattle.fish_rule.proofs.Registers.definitions_later k w.registry defined endures
                 (version_in w.registry) (omega arith) ∙ its.definitions;
             unmade = λ q u. pick q (unmade_before k w.registry defined endures still q u) (ℕ_discrete q p);
           };
         }
       where
-        pick : (q : ℕ) → IsUnmade k.rows.value w.registry q → Dec (q ≡ p) → defined q ≡ drafted definer.draft q
+        pick : (q : ℕ) → IsUnmade k w.registry q → Dec (q ≡ p) → defined q ≡ drafted definer.draft q
         pick q u (yes e) = ap defined e ∙ put-here w.registry p x
             ∙ sym (choose_first (ℕ_discrete q p) x (drafted v.draft q) e)
         pick q u (no ne) = put-else w.registry p x q ne ∙ its.unmade q u
@@ -145,6 +147,8 @@ module _ (k : Key) (w : World) (r : Rule k w) (id : ℕ) (v : View) (at : get_el
       each = each_set _ w.views id definer
           (λ j u ne at_u. let h = r.registry.each j u at_u in record {
             tied = h.tied;
+            from = h.from;
+            since = h.since;
             reached = (let e = still in let a = h.reached in omega arith);
             read = read_later k w.registry defined endures u.learned.words h.read;
             main = λ e. absurd (not_main j u ne at_u e);
@@ -176,7 +180,7 @@ module _ (k : Key) (w : World) (r : Rule k w) (id : ℕ) (v : View) (at : get_el
 
     -- the definitions before
     abbrev before : List Listed
-    before = definitions_at k.rows.value w.registry (version_in w.registry)
+    before = definitions_at k w.registry (version_in w.registry)
 
     up : version_in bumped ≡ suc (version_in w.registry)
     up = put-here w.registry 2 (suc v.learned.version) ∙ ap suc its.version
@@ -184,10 +188,10 @@ module _ (k : Key) (w : World) (r : Rule k w) (id : ℕ) (v : View) (at : get_el
     else_ : (q : ℕ) → q ≢ 2 → bumped q ≡ w.registry q
     else_ q ne = put-else w.registry 2 (suc v.learned.version) q ne
 
-    bump_endures : Endures k.rows.value w.registry bumped
+    bump_endures : Endures k w.registry bumped
     bump_endures = record { rises = (let e = up in omega arith); same = λ q h. else_ q (away q h) }
       where
-        away : (q : ℕ) → IsLasting k.rows.value w.registry q → q ≢ 2
+        away : (q : ℕ) → IsLasting k w.registry q → q ≢ 2
         away q (inl h) e = omega arith
         away q (inr (inl h)) e = (let a = h.3 in omega arith)
         away q (inr (inr h)) e = (let a = h.5 in omega arith)
@@ -216,23 +220,24 @@ module _ (k : Key) (w : World) (r : Rule k w) (id : ℕ) (v : View) (at : get_el
         (next_operation v) (λ room few i a b. row_is room i b) can.operation)
 
     -- the definitions up to the old version stay
-    same_before : definitions_at k.rows.value bumped (version_in w.registry) ≡ before
-    same_before = Rattle.fish_rule.proofs.Registers.definitions_later k.rows.value w.registry bumped bump_endures
+    same_before : definitions_at k bumped (version_in w.registry) ≡ before
+    same_before = Rattle.fish_rule.proofs.Registers.definitions_later k w.registry bumped bump_endures
         (version_in w.registry) (omega arith)
 
     -- the new version's are made by the operation
-    made_now : definitions_at k.rows.value bumped (suc (version_in w.registry))
+    made_now : definitions_at k bumped (suc (version_in w.registry))
         ≡ made w.registry (w.registry (op_at (suc (version_in w.registry)))) before
     made_now =
         let op = else_ (op_at (suc (version_in w.registry))) (λ e. omega arith) in
-        (λ j. made bumped (op j) (same_before j))
+        definitions_next k bumped (version_in w.registry) r.registry.versions.from
+        ∙ (λ j. made bumped (op j) (same_before j))
         ∙ made_same w.registry bumped (w.registry (op_at (suc (version_in w.registry)))) before
         (λ less i a b. else_ (row_at (length before) i) (λ e. omega arith))
 
     -- as the control pass stored them
-    made_known : definitions_at k.rows.value bumped (version_in bumped)
+    made_known : definitions_at k bumped (version_in bumped)
         ≡ made (drafted v.draft) (next_operation v) v.rows
-    made_known = ap (definitions_at k.rows.value bumped) up ∙ made_now
+    made_known = ap (definitions_at k bumped) up ∙ made_now
         ∙ (λ j. made w.registry (op_is j) (its.definitions j))
         ∙ made_same (drafted v.draft) w.registry (next_operation v) v.rows (λ less i a b. row_is (room less) i b)
       where
@@ -245,36 +250,40 @@ module _ (k : Key) (w : World) (r : Rule k w) (id : ℕ) (v : View) (at : get_el
         let few_ = can.few in
         let e = its.version in
         let rise = up in
+        let from_ = h.from in
         record {
+          from = omega arith;
           few = omega arith;
+          since = h.since;
           upto = λ n above below. (let a = h.upto n above below in omega arith);
           listings = λ u reached. list u reached (dec_le u (version_in w.registry));
-          operations = λ u less. op u less (dec_lt u (version_in w.registry));
+          operations = λ u from less. op u from less (dec_lt u (version_in w.registry));
           opened = else_ 3 (λ e. omega arith) ∙ h.opened;
           rows = rows_later k w.registry bumped bump_endures w.count r.version_of h;
         }
       where
         list : (u : ℕ) → u ≤ version_in bumped → Dec (u ≤ version_in w.registry)
-            → IsListing (definitions_at k.rows.value bumped u)
+            → IsListing (definitions_at k bumped u)
         list u reached (yes old) = listing_later k w.registry bumped bump_endures w.count r.version_of
             r.registry.versions u old
         list u reached (no new) =
             let rise = up in
             let e : suc (version_in w.registry) ≡ u = omega arith in
-            subst (λ (z : ℕ). IsListing (definitions_at k.rows.value bumped z)) e
+            subst (λ (z : ℕ). IsListing (definitions_at k bumped z)) e
             (subst IsListing (sym made_now) (listing_made w.registry _ before
             (r.registry.versions.listings (version_in w.registry) (omega arith)) operation))
 
-        op : (u : ℕ) → u < version_in bumped → Dec (u < version_in w.registry)
-            → IsOperation (row_in bumped (length (definitions_at k.rows.value bumped u)))
-            (definitions_at k.rows.value bumped u) (bumped (op_at (suc u)))
-        op u less (yes old) = operation_kept k w.registry bumped bump_endures w.count r.version_of r.registry.versions u old
-        op u less (no new) =
+        op : (u : ℕ) → k.version ≤ u → u < version_in bumped → Dec (u < version_in w.registry)
+            → IsOperation (row_in bumped (length (definitions_at k bumped u)))
+            (definitions_at k bumped u) (bumped (op_at (suc u)))
+        op u from less (yes old) = operation_kept k w.registry bumped bump_endures w.count r.version_of
+            r.registry.versions u from old
+        op u from less (no new) =
             let rise = up in
             let e : version_in w.registry ≡ u = omega arith in
             let word = else_ (op_at (suc (version_in w.registry))) (λ e. omega arith) in
-            subst (λ (z : ℕ). IsOperation (row_in bumped (length (definitions_at k.rows.value bumped z)))
-            (definitions_at k.rows.value bumped z) (bumped (op_at (suc z)))) e
+            subst (λ (z : ℕ). IsOperation (row_in bumped (length (definitions_at k bumped z)))
+            (definitions_at k bumped z) (bumped (op_at (suc z)))) e
             (subst (λ (z : List Listed × ℕ). IsOperation (row_in bumped (length z.0)) z.0 z.1)
             (λ i. (sym same_before i, sym word i))
             (operation_later (row_in w.registry (length before)) (row_in bumped (length before)) before _
@@ -291,6 +300,8 @@ module _ (k : Key) (w : World) (r : Rule k w) (id : ℕ) (v : View) (at : get_el
         let seen = its.version in
         record {
           tied = h.tied;
+          from = λ live. (let a = h.from live in omega arith);
+          since = h.since;
           reached = omega arith;
           read = read_later k w.registry bumped bump_endures v.learned.words h.read;
           main = λ _. record {
@@ -300,17 +311,17 @@ module _ (k : Key) (w : World) (r : Rule k w) (id : ℕ) (v : View) (at : get_el
           };
         }
       where
-        unmade_then : (q : ℕ) → IsUnmade k.rows.value bumped q → IsUnmade k.rows.value w.registry q
+        unmade_then : (q : ℕ) → IsUnmade k bumped q → IsUnmade k w.registry q
         unmade_then q (inl h) = (let rise = up in let a = h.1 in inl (h.0, (omega arith), h.2, h.3))
         unmade_then q (inr h) =
-            let size : length (definitions_at k.rows.value bumped (version_in bumped)) ≡ length
+            let size : length (definitions_at k bumped (version_in bumped)) ≡ length
             (made w.registry (w.registry (op_at (suc (version_in w.registry)))) before) =
-            ap (λ (z : List Listed). length z) (ap (definitions_at k.rows.value bumped) up ∙ made_now) in
+            ap (λ (z : List Listed). length z) (ap (definitions_at k bumped) up ∙ made_now) in
             let grows = length_made w.registry (w.registry (op_at (suc (version_in w.registry)))) before in
             let a = h.2 in
             inr (h.0, h.1, (omega arith), h.3, h.4, h.5)
 
-        away : (q : ℕ) → IsUnmade k.rows.value w.registry q → q ≢ 2
+        away : (q : ℕ) → IsUnmade k w.registry q → q ≢ 2
         away q (inl h) e = (let a = h.3 in omega arith)
         away q (inr h) e = (let a = h.5 in omega arith)
 
@@ -325,6 +336,8 @@ module _ (k : Key) (w : World) (r : Rule k w) (id : ℕ) (v : View) (at : get_el
       each = each_set _ w.views id bumper
           (λ j u ne at_u. let h = r.registry.each j u at_u in record {
             tied = h.tied;
+            from = h.from;
+            since = h.since;
             reached = (let rise = up in let a = h.reached in omega arith);
             read = read_later k w.registry bumped bump_endures u.learned.words h.read;
             main = λ e. absurd (not_main j u ne at_u e);

@@ -1,7 +1,11 @@
 -- Views that learn on the way down a chain, and what their owner may conclude at once.
-use Rattle.std.proofs.Common.{◌≡◌, ℕ, ◌*◌, ◌<◌, ◌≤◌, zero, suc, List, sym, refl, ap, ◌∙◌}
+use Rattle.std.proofs.Common.{◌≡◌, ℕ, ◌+◌, ◌*◌, ◌<◌, ◌≤◌, suc, List, ◌∷◌, sym, refl, ap, ◌∙◌}
 use Rattle.std.proofs.Common.{◌⊎◌, inl, inr, arith}
+use Rattle.std.proofs.Math.Decide.{dec_lt}
+use Rattle.fish_layout.specs.Cleared.{choose}
 use Rattle.fish_rule.proofs.Bodies.{kind-inside}
+use Rattle.fish_rule.proofs.Bounds.{starts_above}
+use Rattle.fish_rule.specs.World.{low}
 use Rattle.fish_rule.proofs.Kept.{published}
 use Rattle.fish_rule.proofs.Walking.{claimed_there, gap_clear, within_region}
 use Rattle.fish_rule.specs.Linking.{HasNode, after_head, after_node, after_previous, gap, with_node}
@@ -17,14 +21,22 @@ use Rattle.fish_rule.specs.declared.view.View.{View}
 -- ---- views that only learn
 
 -- the nodes that were known stay known
-pub nodes_stay : (b x : ℕ) (nodes : List Node) (n : Node) → Among n nodes → Among n (with_node b x nodes)
-nodes_stay b zero nodes n m = m
-nodes_stay b (suc x) nodes n m = inr m
+pub nodes_stay : (k : Key) (b x : ℕ) (nodes : List Node) (n : Node) → Among n nodes → Among n (with_node k b x nodes)
+nodes_stay k b x nodes n m = by (dec_lt (k.line * 4) x)
+  where
+    by : (d : Dec (k.line * 4 < x)) → Among n (choose d (record { bucket = b; place = x } ∷ nodes) nodes)
+    by (yes h) = inr m
+    by (no h) = m
 
--- a place that isn't 0 is that of a node
-pub node_here : (b x : ℕ) (nodes : List Node) → (x ≡ 0) ⊎ Among (record { bucket = b; place = x }) (with_node b x nodes)
-node_here b zero nodes = inl refl
-node_here b (suc x) nodes = inr (inl refl)
+-- a place behind the base's is that of a node
+pub node_here : (k : Key) (b x : ℕ) (nodes : List Node) → (x ≤ k.line * 4)
+    ⊎ Among (record { bucket = b; place = x }) (with_node k b x nodes)
+node_here k b x nodes = by (dec_lt (k.line * 4) x)
+  where
+    by : (d : Dec (k.line * 4 < x)) → (x ≤ k.line * 4)
+        ⊎ Among (record { bucket = b; place = x }) (choose d (record { bucket = b; place = x } ∷ nodes) nodes)
+    by (yes h) = inr (inl refl)
+    by (no h) = inl (omega arith)
 
 -- a head that is seen extends a view
 pub extends_head : (v : View) (b x : ℕ) → Extends v (after_head v b x)
@@ -38,7 +50,7 @@ extends_head v b x = record {
     found = λ x m. m;
     known = λ x m. m;
     records = λ x m. m;
-    nodes = nodes_stay b x v.learned.nodes;
+    nodes = nodes_stay v.about b x v.learned.nodes;
     lows = λ x m. m;
     tops = λ x m. inr m;
     gaps = λ x m. inr m;
@@ -67,7 +79,7 @@ extends_previous v b p x = record {
     found = λ x m. m;
     known = λ x m. m;
     records = λ x m. m;
-    nodes = nodes_stay b x v.learned.nodes;
+    nodes = nodes_stay v.about b x v.learned.nodes;
     lows = λ x m. inr m;
     tops = λ x m. m;
     gaps = λ x m. inr m;
@@ -115,13 +127,13 @@ extends_node v p x = record {
 
 -- ---- where a walk goes on
 
--- at the head that was seen, or nowhere
-pub head_here : (v : View) (b x : ℕ) → (x ≡ 0) ⊎ HasNode (after_head v b x) b x
-head_here v b x = node_here b x v.learned.nodes
+-- at the head that was seen, or behind no entry of the table
+pub head_here : (v : View) (b x : ℕ) → (x ≤ v.about.line * 4) ⊎ HasNode (after_head v b x) b x
+head_here v b x = node_here v.about b x v.learned.nodes
 
--- at the entry that the first word leads to, or nowhere
-pub previous_here : (v : View) (b p x : ℕ) → (x ≡ 0) ⊎ HasNode (after_previous v b p x) b x
-previous_here v b p x = node_here b x v.learned.nodes
+-- at the entry that the first word leads to, or behind no entry of the table
+pub previous_here : (v : View) (b p x : ℕ) → (x ≤ v.about.line * 4) ⊎ HasNode (after_previous v b p x) b x
+previous_here v b p x = node_here v.about b x v.learned.nodes
 
 -- above the head there is no entry of a settled record
 pub head_clear : (v : View) (b x from to : ℕ) → to ≤ v.learned.settled
@@ -134,6 +146,17 @@ pub previous_clear : (v : View) (b p x from to : ℕ) → to ≤ v.learned.settl
     → Always (after_previous v b p x) (IsClear b from to p x)
 previous_clear v b p x from to known =
     gap_clear (after_previous v b p x) (gap b p x v.learned) from to (inl refl) known
+
+-- every entry lies behind the base's place
+pub entries_behind : (v : View) → Always v (λ k w. (b n c p : ℕ) → IsEntryIn b n c p k w → k.line * 4 < p)
+entries_behind v u learns w r seat at b n c p h =
+    let k : Key = u.about in
+    let below = claimed_there k w r b n c p h in
+    let finished = r.space.finished n h.above below (published (w.dir n) Stored h.stored) in
+    let line = finished.line in
+    let from = starts_above k w.count w.line r.start r.space.regions n h.above (omega arith) in
+    let is : p ≡ low (w.dir n) * 4 + (1 + 3 * c) = h.is.is in
+    omega arith
 
 -- every entry lies below the log's end
 pub entries_within : (v : View) → Always v (λ k w. (b n c p : ℕ) → IsEntryIn b n c p k w → p < k.end * 4)

@@ -11,11 +11,10 @@ use Rattle.fish_rule.proofs.Registries.{carries_later, main_later, read_later, r
 use Rattle.fish_rule.proofs.Worlds.{put-else, put-here}
 use Rattle.fish_rule.specs.Entering.{CanAnnounce, CanEnter, CanLoadRegistry, after_announce, after_registry, after_retire}
 use Rattle.fish_rule.specs.Entering.{after_version}
-use Rattle.fish_rule.specs.Epochs.{Carries, Epochs, IsAtMost, Registry, Stays, confirmed, epoch_word}
+use Rattle.fish_rule.specs.Epochs.{Carries, Epochs, IsAtMost, IsSince, Registry, Stays, confirmed, epoch_word}
 use Rattle.fish_rule.specs.Registry.{Endures, IsLasting, definitions_at, epoch_at, version_in}
 use Rattle.fish_rule.specs.Rule.{Final, Rule}
 use Rattle.fish_rule.proofs.Learns.{learn_final, learns, still_chained}
-use Rattle.fish_catalog.specs.declared.row.CatRow.{CatRow}
 use Rattle.fish_rule.specs.declared.view.Clock.{Clock}
 use Rattle.fish_rule.specs.Steps.{ticked}
 use Rattle.fish_rule.specs.Views.{Has}
@@ -30,9 +29,10 @@ use Rattle.fish_rule.specs.declared.view.View.{View}
 
 module _ (k : Key) (w : World) (r : Rule k w) (id : ℕ) (v : View) (at : get_elem? w.views id ≡ some v)
     (g' : ℕ → ℕ) (epoch' : Epoch) (version : ℕ)
-    (endures : Endures k.rows.value w.registry g') (still : version_in g' ≡ version_in w.registry)
+    (endures : Endures k w.registry g') (still : version_in g' ≡ version_in w.registry)
     (others : (p : ℕ) → p ≢ epoch_at v.lane → g' p ≡ w.registry p)
     (own : 1 ≤ v.lane → v.lane ≤ 16 → g' (epoch_at v.lane) ≡ epoch_word epoch')
+    (from_ : 1 ≤ v.lane → k.version ≤ version) (since_ : IsSince k.version epoch')
     (past : 1 ≤ v.lane → v.lane ≤ 16 → IsAtMost (version_in w.registry) epoch')
     (reached : version ≤ version_in w.registry) (main : v.lane ≡ 1 → version ≡ version_in w.registry)
     (carries : Carries k w.registry r.version_of v.lane epoch' v.flight) where
@@ -78,6 +78,8 @@ module _ (k : Key) (w : World) (r : Rule k w) (id : ℕ) (v : View) (at : get_el
             (subst (Has v.lane v.out) (sym e) (has_own w.views id v at (let a = has.0 in omega arith) r.seats))) in
             let state : state' l ≡ r.state l = put-else r.state v.lane epoch' l other in
             ((λ e. state ∙ (h.tied l has).0 e), (λ e. state ∙ (h.tied l has).1 e));
+        from = h.from;
+        since = h.since;
         reached = (let a = h.reached in omega arith);
         read = read_later k w.registry g' endures u.learned.words h.read;
         main = λ e. main_later k w.registry g' endures u.learned.version u.rows u.draft still
@@ -95,6 +97,8 @@ module _ (k : Key) (w : World) (r : Rule k w) (id : ℕ) (v : View) (at : get_el
           (λ e. ap state' e ∙ put-here r.state v.lane epoch'),
           (λ ne. put-else r.state v.lane epoch' l ne ∙ (h.tied l has).1 ne),
         );
+        from = from_;
+        since = since_;
         reached = (let a = h.reached in omega arith);
         read = read_later k w.registry g' endures v.learned.words h.read;
         main = λ e. let m = main_later k w.registry g' endures v.learned.version v.rows v.draft still
@@ -134,18 +138,18 @@ module _ (k : Key) (w : World) (r : Rule k w) (id : ℕ) (v : View) (at : get_el
 -- ---- stores of the own epoch word
 
 -- a word that lasts is no epoch
-lasting_else : (rows : List CatRow) (g : ℕ → ℕ) (lane x p : ℕ) → 1 ≤ lane → lane ≤ 16 → IsLasting rows g p
+lasting_else : (k : Key) (g : ℕ → ℕ) (lane x p : ℕ) → 1 ≤ lane → lane ≤ 16 → IsLasting k g p
     → put g (epoch_at lane) x p ≡ g p
-lasting_else rows g lane x p live few (inl e) = put-else g (epoch_at lane) x p (λ h. omega arith)
-lasting_else rows g lane x p live few (inr (inl m)) = (let q = m.3 in put-else g (epoch_at lane) x p (λ h. omega arith))
-lasting_else rows g lane x p live few (inr (inr m)) = (let q = m.5 in put-else g (epoch_at lane) x p (λ h. omega arith))
+lasting_else k g lane x p live few (inl e) = put-else g (epoch_at lane) x p (λ h. omega arith)
+lasting_else k g lane x p live few (inr (inl m)) = (let q = m.3 in put-else g (epoch_at lane) x p (λ h. omega arith))
+lasting_else k g lane x p live few (inr (inr m)) = (let q = m.5 in put-else g (epoch_at lane) x p (λ h. omega arith))
 
 -- so it stays
-epoch_endures : (rows : List CatRow) (g : ℕ → ℕ) (lane x : ℕ) → 1 ≤ lane → lane ≤ 16
-    → Endures rows g (put g (epoch_at lane) x)
-epoch_endures rows g lane x live few = record {
+epoch_endures : (k : Key) (g : ℕ → ℕ) (lane x : ℕ) → 1 ≤ lane → lane ≤ 16
+    → Endures k g (put g (epoch_at lane) x)
+epoch_endures k g lane x live few = record {
   rises = (let e = put-else g (epoch_at lane) x 2 (λ h. omega arith) in omega arith);
-  same = λ p h. lasting_else rows g lane x p live few h;
+  same = λ p h. lasting_else k g lane x p live few h;
 }
 
 -- nothing in flight carries nothing
@@ -165,10 +169,10 @@ module _ (k : Key) (w : World) (r : Rule k w) (id : ℕ) (v : View) (at : get_el
       views = set w.views id (after_announce v u);
     })
     announce_kept = moves k w r id v at (put w.registry (epoch_at v.lane) (suc u)) (Announced u) v.learned.version
-        (epoch_endures k.rows.value w.registry v.lane (suc u) can.can.live few)
+        (epoch_endures k w.registry v.lane (suc u) can.can.live few)
         (let some_ = can.can.live in put-else w.registry (epoch_at v.lane) (suc u) 2 (λ h. omega arith))
         (λ p ne. put-else w.registry (epoch_at v.lane) (suc u) p ne)
-        (λ _ _. put-here w.registry (epoch_at v.lane) (suc u))
+        (λ _ _. put-here w.registry (epoch_at v.lane) (suc u)) (r.registry.each id v at).from tt
         (λ _ _. let a = can.reached in let b = (r.registry.each id v at).reached in omega arith)
         (r.registry.each id v at).reached (λ e. ((r.registry.each id v at).main e).version)
         (carries_none k w.registry r.version_of v.lane (Announced u) v.flight can.can.idle) (ticked v.clock)
@@ -180,10 +184,10 @@ module _ (k : Key) (w : World) (r : Rule k w) (id : ℕ) (v : View) (at : get_el
     })
     unfolding announce_kept
     announce_lasts = moves_last k w r id v at (put w.registry (epoch_at v.lane) (suc u)) (Announced u) v.learned.version
-        (epoch_endures k.rows.value w.registry v.lane (suc u) can.can.live few)
+        (epoch_endures k w.registry v.lane (suc u) can.can.live few)
         (let some_ = can.can.live in put-else w.registry (epoch_at v.lane) (suc u) 2 (λ h. omega arith))
         (λ p ne. put-else w.registry (epoch_at v.lane) (suc u) p ne)
-        (λ _ _. put-here w.registry (epoch_at v.lane) (suc u))
+        (λ _ _. put-here w.registry (epoch_at v.lane) (suc u)) (r.registry.each id v at).from tt
         (λ _ _. let a = can.reached in let b = (r.registry.each id v at).reached in omega arith)
         (r.registry.each id v at).reached (λ e. ((r.registry.each id v at).main e).version)
         (carries_none k w.registry r.version_of v.lane (Announced u) v.flight can.can.idle) (ticked v.clock)
@@ -195,10 +199,10 @@ module _ (k : Key) (w : World) (r : Rule k w) (id : ℕ) (v : View) (at : get_el
       views = set w.views id (after_retire v);
     })
     retire_kept = moves k w r id v at (put w.registry (epoch_at v.lane) 0) Out v.learned.version
-        (epoch_endures k.rows.value w.registry v.lane 0 can.live few)
+        (epoch_endures k w.registry v.lane 0 can.live few)
         (let some_ = can.live in put-else w.registry (epoch_at v.lane) 0 2 (λ h. omega arith))
         (λ p ne. put-else w.registry (epoch_at v.lane) 0 p ne)
-        (λ _ _. put-here w.registry (epoch_at v.lane) 0) (λ _ _. tt)
+        (λ _ _. put-here w.registry (epoch_at v.lane) 0) (r.registry.each id v at).from tt (λ _ _. tt)
         (r.registry.each id v at).reached (λ e. ((r.registry.each id v at).main e).version)
         (carries_none k w.registry r.version_of v.lane Out v.flight can.idle) (ticked v.clock)
 
@@ -209,10 +213,10 @@ module _ (k : Key) (w : World) (r : Rule k w) (id : ℕ) (v : View) (at : get_el
     })
     unfolding retire_kept
     retire_lasts = moves_last k w r id v at (put w.registry (epoch_at v.lane) 0) Out v.learned.version
-        (epoch_endures k.rows.value w.registry v.lane 0 can.live few)
+        (epoch_endures k w.registry v.lane 0 can.live few)
         (let some_ = can.live in put-else w.registry (epoch_at v.lane) 0 2 (λ h. omega arith))
         (λ p ne. put-else w.registry (epoch_at v.lane) 0 p ne)
-        (λ _ _. put-here w.registry (epoch_at v.lane) 0) (λ _ _. tt)
+        (λ _ _. put-here w.registry (epoch_at v.lane) 0) (r.registry.each id v at).from tt (λ _ _. tt)
         (r.registry.each id v at).reached (λ e. ((r.registry.each id v at).main e).version)
         (carries_none k w.registry r.version_of v.lane Out v.flight can.idle) (ticked v.clock)
 
@@ -238,6 +242,16 @@ confirmed_most (Announced u) x v h = by (ℕ_discrete x u)
     by (yes e) = h
     by (no ne) = h
 
+-- and is confirmed at no version before one that the registry was at
+confirmed_since : (e : Epoch) (x s : ℕ) → s ≤ x → IsSince s e → IsSince s (confirmed e x)
+confirmed_since Out x s from h = h
+confirmed_since (Confirmed u) x s from h = h
+confirmed_since (Announced u) x s from h = by (ℕ_discrete x u)
+  where
+    by : (d : Dec (x ≡ u)) → IsSince s (choose d (Confirmed u) (Announced u))
+    by (yes e) = omega arith
+    by (no ne) = tt
+
 -- and what the pass carries
 confirmed_carries : (k : Key) (g : ℕ → ℕ) (version_of : ℕ → ℕ) (lane : ℕ) (e : Epoch) (x : ℕ) (o : Option Flight)
     → Carries k g version_of lane e o → Carries k g version_of lane (confirmed e x) o
@@ -255,9 +269,11 @@ module _ (k : Key) (w : World) (r : Rule k w) (id : ℕ) (v : View) (at : get_el
   -- a load of the version keeps the rule
   pub version_kept : Rule k (record w { views = set w.views id (after_version v (w.registry 2)) })
   version_kept = moves k w r id v at w.registry (confirmed v.epoch (w.registry 2)) (w.registry 2)
-      (endures_same k.rows.value w.registry) refl (λ p ne. refl)
+      (endures_same k w.registry) refl (λ p ne. refl)
       (λ a b. r.registry.epochs.words v.lane a b ∙ ap epoch_word (own_state a)
       ∙ sym (confirmed_word v.epoch (w.registry 2)))
+      (λ _. r.registry.versions.from)
+      (confirmed_since v.epoch (w.registry 2) k.version r.registry.versions.from (r.registry.each id v at).since)
       (λ a b. confirmed_most v.epoch (w.registry 2) (version_in w.registry)
       (subst (IsAtMost (version_in w.registry)) (own_state a) (r.registry.epochs.past v.lane a b)))
       (omega arith) (λ e. refl)
@@ -269,9 +285,11 @@ module _ (k : Key) (w : World) (r : Rule k w) (id : ℕ) (v : View) (at : get_el
       (record w { views = set w.views id (after_version v (w.registry 2)) })
   unfolding version_kept
   version_lasts = moves_last k w r id v at w.registry (confirmed v.epoch (w.registry 2)) (w.registry 2)
-      (endures_same k.rows.value w.registry) refl (λ p ne. refl)
+      (endures_same k w.registry) refl (λ p ne. refl)
       (λ a b. r.registry.epochs.words v.lane a b ∙ ap epoch_word (own_state a)
       ∙ sym (confirmed_word v.epoch (w.registry 2)))
+      (λ _. r.registry.versions.from)
+      (confirmed_since v.epoch (w.registry 2) k.version r.registry.versions.from (r.registry.each id v at).since)
       (λ a b. confirmed_most v.epoch (w.registry 2) (version_in w.registry)
       (subst (IsAtMost (version_in w.registry)) (own_state a) (r.registry.epochs.past v.lane a b)))
       (omega arith) (λ e. refl)
@@ -286,21 +304,26 @@ module _ (k : Key) (w : World) (r : Rule k w) (id : ℕ) (v : View) (at : get_el
 
   module _ (about : v.about ≡ k) (p : ℕ) (can : CanLoadRegistry v p) where
     -- the word lasts
-    pub lasts_there : IsLasting k.rows.value w.registry p
+    pub lasts_there : IsLasting k w.registry p
     lasts_there = by can
       where
-        by : CanLoadRegistry v p → IsLasting k.rows.value w.registry p
+        by : CanLoadRegistry v p → IsLasting k w.registry p
         by (inl e) = inl e
-        by (inr (inl h)) = (let a = version_rises in let b = h.2 in inr (inl (h.0, h.1, (omega arith), h.3)))
+        by (inr (inl h)) = (let a = version_rises in let b = h.2 in inr (inl (
+              h.0,
+              subst (λ (z : Key). z.version < h.0) about h.1,
+              (omega arith),
+              h.3,
+            )))
         by (inr (inr h)) =
             let row = h.2 in
             let stays = r.registry.each id v at in
             let a = version_rises in
             let b = row.reached in
-            let there : h.0 < length (definitions_at k.rows.value w.registry row.version) =
-            subst (λ (z : Key). h.0 < length (definitions_at z.rows.value w.registry row.version)) about
-            (row.there w.registry (has_read k.rows.value w.registry v.learned.words stays.read)) in
-            let up = length_grows k.rows.value w.registry row.version (version_in w.registry) (omega arith) in
+            let there : h.0 < length (definitions_at k w.registry row.version) =
+            subst (λ (z : Key). h.0 < length (definitions_at z w.registry row.version)) about
+            (row.there w.registry (has_read k w.registry v.learned.words stays.read)) in
+            let up = length_grows k w.registry row.version (version_in w.registry) (omega arith) in
             inr (inr (h.0, h.1, (omega arith), h.3, h.4, h.5))
 
     -- the view afterwards
@@ -323,6 +346,8 @@ module _ (k : Key) (w : World) (r : Rule k w) (id : ℕ) (v : View) (at : get_el
         }) (r.floors id v at) (record { nodes = still.nodes; lows = still.lows; tops = still.tops })
         (record {
           tied = stays.tied;
+          from = stays.from;
+          since = stays.since;
           reached = stays.reached;
           read = (record { lasts = lasts_there; word = refl }, stays.read);
           main = stays.main;

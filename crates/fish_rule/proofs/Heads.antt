@@ -1,6 +1,10 @@
 -- Loads of heads and of first words of linked entries.
-use Rattle.std.proofs.Common.{◌≡◌, ◌≢◌, ℕ, ◌+◌, ◌-◌, ◌*◌, ◌<◌, ◌≤◌, zero, suc, List, get_or, set, sym, refl}
-use Rattle.std.proofs.Common.{ap, ◌∙◌, subst, ⊎_elim, arith}
+use Rattle.std.proofs.Common.{◌≡◌, ℕ, ◌+◌, ◌-◌, ◌*◌, ◌<◌, ◌≤◌, suc, List, ◌∷◌, get_or, set, sym, refl}
+use Rattle.std.proofs.Common.{ap, ◌∙◌, subst, ◌⊎◌, ⊎_elim, arith, Some}
+use Rattle.std.proofs.Math.Decide.{ℕ_discrete, dec_lt}
+use Rattle.fish_layout.specs.Cleared.{choose}
+use Rattle.fish_rule.proofs.OwnWords.{flight_is}
+use Rattle.fish_rule.specs.declared.view.Flight.{Flight}
 use mathlib.Core.Option.{none, some}
 use Rattle.std.proofs.Math.ListN.{get_elem?}
 use Rattle.atomic_table.specs.Table.{Allows, step}
@@ -16,6 +20,7 @@ use Rattle.fish_rule.proofs.Worlds.{area-in}
 use Rattle.fish_rule.specs.Chains.{IsLow, Linked}
 use Rattle.fish_rule.specs.Linking.{CanLoadHead, HasNode, LowRises, TopRises, after_head}
 use Rattle.fish_rule.specs.Linking.{after_previous, gap, with_node}
+use Rattle.fish_rule.specs.Parts.{first_head}
 use Rattle.fish_rule.specs.Rule.{Final, Rule}
 use Rattle.fish_rule.specs.Table.{Ruled, Sat, Told}
 use Rattle.fish_rule.specs.Told.{ToldHead, ToldPrevious, bucket_at, place_at}
@@ -26,11 +31,57 @@ use Rattle.fish_rule.specs.declared.view.Kind.TheVariants.{Mark, Stored}
 use Rattle.fish_rule.specs.declared.view.Node.{Node}
 use Rattle.fish_rule.specs.declared.view.View.{View}
 
--- a place that is 0 or linked joins the nodes
-pub node_joins : (P : Node → Type 0) (b x : ℕ) (nodes : List Node) → AllOf P nodes
-    → (x ≢ 0 → P (record { bucket = b; place = x })) → AllOf P (with_node b x nodes)
-node_joins P b zero nodes all here = all
-node_joins P b (suc x) nodes all here = (here (λ e. let z : suc x ≡ 0 = e in absurd (omega arith)), all)
+-- a place behind the base's that is linked joins the nodes
+pub node_joins : (P : Node → Type 0) (k : Key) (b x : ℕ) (nodes : List Node) → AllOf P nodes
+    → (k.line * 4 < x → P (record { bucket = b; place = x })) → AllOf P (with_node k b x nodes)
+node_joins P k b x nodes all here = by (dec_lt (k.line * 4) x)
+  where
+    by : (d : Dec (k.line * 4 < x)) → AllOf P (choose d (record { bucket = b; place = x } ∷ nodes) nodes)
+    by (yes h) = (here h, all)
+    by (no h) = all
+
+-- ---- the base
+
+module _ (k : Key) (w : World) (r : Rule k w) where
+  -- the head of the start is no place of the table
+  pub first_low : (b : ℕ) → first_head k b ≤ k.line * 4
+  first_low b = by (ℕ_discrete (first_head k b) 0)
+    where
+      by : Dec (first_head k b ≡ 0) → first_head k b ≤ k.line * 4
+      by (yes e) = omega arith
+      by (no ne) = (let less = r.key_fits.older_heads b ne in omega arith)
+
+  -- a record in flight is at or behind the base's line
+  pub flight_from : (id : ℕ) (v : View) → get_elem? w.views id ≡ some v → (f : Flight) → v.flight ≡ Some f
+      → k.line ≤ f.line
+  flight_from id v at f flying =
+      let own = flight_is k w r id v at f flying in
+      let line = own.line in
+      let below = own.below in
+      let from = starts_above k w.count w.line r.start r.space.regions f.number own.above (omega arith) in
+      omega arith
+
+  -- a linked place is behind the base's
+  pub linked_from : (b p : ℕ) → Linked k w.dir w.log w.views b p → k.line * 4 < p
+  linked_from b p h =
+      let s = spot k w r h.line h.entry h.shows in
+      let below = s.below in
+      let from = starts_above k w.count w.line r.start r.space.regions s.number s.above (omega arith) in
+      let line = s.line in
+      let is : p ≡ h.line * 4 + (1 + 3 * h.entry) = h.is.is in
+      omega arith
+
+  -- a place that is the start's head or linked is the start's head where it is no place of the table
+  pub first_else : (b x : ℕ) → (x ≡ first_head k b) ⊎ Linked k w.dir w.log w.views b x → x ≤ k.line * 4
+      → x ≡ first_head k b
+  first_else b x is low_ = ⊎_elim (λ (e : x ≡ first_head k b). e)
+      (λ (h : Linked k w.dir w.log w.views b x). let from = linked_from b x h in absurd (omega arith)) is
+
+  -- and linked where it is one
+  pub linked_else : (b x : ℕ) → (x ≡ first_head k b) ⊎ Linked k w.dir w.log w.views b x → k.line * 4 < x
+      → Linked k w.dir w.log w.views b x
+  linked_else b x is more = ⊎_elim (λ (e : x ≡ first_head k b). let low_ = first_low b in absurd (omega arith))
+      (λ (h : Linked k w.dir w.log w.views b x). h) is
 
 -- ---- heads
 
@@ -49,34 +100,35 @@ module _ (k : Key) (w : World) (r : Rule k w) (id : ℕ) (v : View) (at : get_el
   top_gap = gap_there k w r b v.learned.settled (v.about.end * 4) (w.head b) (r.floors id v at)
       (λ p linked under. (r.chains b).highest p linked)
 
-  -- a load of a head keeps the rule
-  pub head_kept : Rule k (record w { views = set w.views id top_seer })
-  head_kept =
-      let h = r.facts id v at in
-      let still = still_chained k w r id v at top_seer.learned v.tail top_seer.clock in
-      let final = learn_final k w r id v at top_seer.learned v.tail top_seer.clock in
-      learns k w r id v at top_seer.learned v.tail top_seer.clock (r.tails id v at)
-      (record {
-        counted = h.counted;
-        found = h.found;
-        known = h.known;
-        records = h.records;
-        gaps = (top_gap, h.gaps);
-        labels = h.labels;
-      })
-      (r.floors id v at) (record {
-        nodes = node_joins _ b (w.head b) v.learned.nodes still.nodes
-            (λ ne. ⊎_elim (λ (e : w.head b ≡ 0). absurd (ne e))
-            (λ (g : Linked k w.dir w.log w.views b (w.head b)). final.links b (w.head b) g) (r.chains b).some);
-        lows = still.lows;
-        tops = (omega arith, still.tops);
-      }) (r.registry.each id v at)
+  module _ (about : v.about ≡ k) where
+    -- a load of a head keeps the rule
+    pub head_kept : Rule k (record w { views = set w.views id top_seer })
+    head_kept =
+        let h = r.facts id v at in
+        let still = still_chained k w r id v at top_seer.learned v.tail top_seer.clock in
+        let final = learn_final k w r id v at top_seer.learned v.tail top_seer.clock in
+        learns k w r id v at top_seer.learned v.tail top_seer.clock (r.tails id v at)
+        (record {
+          counted = h.counted;
+          found = h.found;
+          known = h.known;
+          records = h.records;
+          gaps = (top_gap, h.gaps);
+          labels = h.labels;
+        })
+        (r.floors id v at) (record {
+          nodes = node_joins _ v.about b (w.head b) v.learned.nodes still.nodes
+              (λ more. final.links b (w.head b) (linked_else k w r b (w.head b) (r.chains b).some
+              (subst (λ (z : Key). z.line * 4 < w.head b) about more)));
+          lows = still.lows;
+          tops = (omega arith, still.tops);
+        }) (r.registry.each id v at)
 
-  -- and all that lasts
-  pub head_lasts : Final k r.start head_kept.start r.lane_of head_kept.lane_of w
-      (record w { views = set w.views id top_seer })
-  unfolding head_kept learns
-  head_lasts = learn_final k w r id v at top_seer.learned v.tail top_seer.clock
+    -- and all that lasts
+    pub head_lasts : Final k r.start head_kept.start r.lane_of head_kept.lane_of w
+        (record w { views = set w.views id top_seer })
+    unfolding head_kept learns
+    head_lasts = learn_final k w r id v at top_seer.learned v.tail top_seer.clock
 
 -- ---- first words
 
@@ -105,35 +157,36 @@ module _ (k : Key) (w : World) (r : Rule k w) (id : ℕ) (v : View) (at : get_el
   low_gap = gap_there k w r b v.learned.settled p (w.log p) (r.floors id v at)
       (λ q linked under. ((r.chains b).next p node_linked).most q linked under)
 
-  -- a load of a first word keeps the rule
-  pub previous_kept : Rule k (record w { views = set w.views id low_seer })
-  previous_kept =
-      let h = r.facts id v at in
-      let still = still_chained k w r id v at low_seer.learned v.tail low_seer.clock in
-      let final = learn_final k w r id v at low_seer.learned v.tail low_seer.clock in
-      let next = (r.chains b).next p node_linked in
-      learns k w r id v at low_seer.learned v.tail low_seer.clock (r.tails id v at)
-      (record {
-        counted = h.counted;
-        found = h.found;
-        known = h.known;
-        records = h.records;
-        gaps = (low_gap, h.gaps);
-        labels = h.labels;
-      })
-      (r.floors id v at) (record {
-        nodes = node_joins _ b (w.log p) v.learned.nodes still.nodes
-            (λ ne. ⊎_elim (λ (e : w.log p ≡ 0). absurd (ne e))
-            (λ (g : Linked k w.dir w.log w.views b (w.log p)). final.links b (w.log p) g) next.is);
-        lows = (record { bucket = b; linked = final.links b p node_linked; low = omega arith }, still.lows);
-        tops = still.tops;
-      }) (r.registry.each id v at)
+  module _ (about : v.about ≡ k) where
+    -- a load of a first word keeps the rule
+    pub previous_kept : Rule k (record w { views = set w.views id low_seer })
+    previous_kept =
+        let h = r.facts id v at in
+        let still = still_chained k w r id v at low_seer.learned v.tail low_seer.clock in
+        let final = learn_final k w r id v at low_seer.learned v.tail low_seer.clock in
+        let next = (r.chains b).next p node_linked in
+        learns k w r id v at low_seer.learned v.tail low_seer.clock (r.tails id v at)
+        (record {
+          counted = h.counted;
+          found = h.found;
+          known = h.known;
+          records = h.records;
+          gaps = (low_gap, h.gaps);
+          labels = h.labels;
+        })
+        (r.floors id v at) (record {
+          nodes = node_joins _ v.about b (w.log p) v.learned.nodes still.nodes
+              (λ more. final.links b (w.log p) (linked_else k w r b (w.log p) next.is
+              (subst (λ (z : Key). z.line * 4 < w.log p) about more)));
+          lows = (record { bucket = b; linked = final.links b p node_linked; low = omega arith }, still.lows);
+          tops = still.tops;
+        }) (r.registry.each id v at)
 
-  -- and all that lasts
-  pub previous_lasts : Final k r.start previous_kept.start r.lane_of previous_kept.lane_of w
-      (record w { views = set w.views id low_seer })
-  unfolding previous_kept learns
-  previous_lasts = learn_final k w r id v at low_seer.learned v.tail low_seer.clock
+    -- and all that lasts
+    pub previous_lasts : Final k r.start previous_kept.start r.lane_of previous_kept.lane_of w
+        (record w { views = set w.views id low_seer })
+    unfolding previous_kept learns
+    previous_lasts = learn_final k w r id v at low_seer.learned v.tail low_seer.clock
 
 -- a linked place is within the log's words
 pub place_within : (k : Key) (w : World) (r : Rule k w) (b p : ℕ) → Linked k w.dir w.log w.views b p
@@ -166,7 +219,7 @@ head_allowed given k same size id me b i about can is =
     let v' : View = after_head me.0 b x in
     let kept : Rule k (record w { views = set vs id v' }) =
     subst (λ (z : ℕ). Rule k (record w { views = set vs id (after_head me.0 b z) })) (sym word)
-    (head_kept k w r id me.0 at b) in (
+    (head_kept k w r id me.0 at b about) in (
       v',
       loaded_words k ws (set vs id v') i kept,
       record {
@@ -174,6 +227,10 @@ head_allowed given k same size id me b i about can is =
             (record { view = refl; held = refl; stands = stands k _ id v' kept about (there vs id me.0 v' at) });
         rises = subst (λ (z : ℕ × ℕ). TopRises me.0 z.0 z.1) (λ j. (sym index j, sym word j))
             (head_rises k w r id me.0 at b);
+        first = subst (λ (z : ℕ). x ≤ me.0.about.line * 4 → x ≡ first_head me.0.about z) (sym index)
+            (subst (λ (z : Key). x ≤ z.line * 4 → x ≡ first_head z b) (sym about)
+            (subst (λ (z : ℕ). z ≤ k.line * 4 → z ≡ first_head k b) (sym word)
+            (first_else k w r b (w.head b) (r.chains b).some)));
       },
     ))
 
@@ -193,7 +250,7 @@ previous_allowed given k same size id me b p i about node is =
     let v' : View = after_previous me.0 b p x in
     let kept : Rule k (record w { views = set vs id v' }) =
     subst (λ (z : ℕ). Rule k (record w { views = set vs id (after_previous me.0 b p z) })) (sym word)
-    (previous_kept k w r id me.0 at b p node) in
+    (previous_kept k w r id me.0 at b p node about) in
     let less = low_less k w r id me.0 at b p node in (
       v',
       loaded_words k ws (set vs id v') i kept,
@@ -205,5 +262,8 @@ previous_allowed given k same size id me b p i about node is =
         rises = subst (λ (z : ℕ × ℕ). LowRises me.0 z.0 z.1) (λ j. (sym index j, sym word j))
             (low_rises k w r id me.0 at b p node);
         less = subst (λ (z : ℕ × ℕ). z.0 < z.1) (λ j. (sym word j, sym index j)) less;
+        first = subst (λ (z : Key). x ≤ z.line * 4 → x ≡ first_head z b) (sym about)
+            (subst (λ (z : ℕ). z ≤ k.line * 4 → z ≡ first_head k b) (sym word)
+            (first_else k w r b (w.log p) ((r.chains b).next p linked).is));
       },
     ))

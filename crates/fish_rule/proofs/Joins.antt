@@ -135,7 +135,7 @@ module _ (k : Key) (w : World) (r : Rule k w) (id other : ℕ) (v u : View) (at 
     counts = omega arith;
     lines = omega arith;
     settles = omega arith;
-    registered = endures_same k.rows.value w.registry;
+    registered = endures_same k w.registry;
     heads = λ b. omega arith;
     links = links_views k w r (set taken other spent) links_join;
     rises = λ b p h. omega arith;
@@ -178,8 +178,10 @@ module _ (k : Key) (w : World) (r : Rule k w) (id other : ℕ) (v u : View) (at 
         tied = λ x has. ⊎_elim (λ (old : Has v.lane v.out x). a.tied x old)
             (λ (e : x ≡ u.lane). ((λ same. absurd (omega arith)), (λ _. ap r.state e ∙ back)))
             (both_has v.lane u.lane v.out x has);
+        from = λ live. (let p = a.from (omega arith) in omega arith);
+        since = a.since;
         reached = (let p = a.reached in let q = b.reached in omega arith);
-        read = all_append (IsRegistered k.rows.value w.registry) v.learned.words u.learned.words a.read b.read;
+        read = all_append (IsRegistered k w.registry) v.learned.words u.learned.words a.read b.read;
         main = λ e. let m = a.main e in
             record {
               version = (let p = m.version in let q = b.reached in omega arith);
@@ -194,6 +196,8 @@ module _ (k : Key) (w : World) (r : Rule k w) (id other : ℕ) (v u : View) (at 
     versions = r.registry.versions;
     each = each_join _ r.registry.each both_stays (record {
       tied = λ x has. absurd (has_none x has);
+      from = λ live. absurd (omega arith);
+      since = tt;
       reached = omega arith;
       read = tt;
       main = λ e. absurd (omega arith);
@@ -266,7 +270,7 @@ module _ (k : Key) (w : World) (r : Rule k w) (id other : ℕ) (v u : View) (at 
     counts = omega arith;
     lines = omega arith;
     settles = omega arith;
-    registered = endures_same k.rows.value w.registry;
+    registered = endures_same k w.registry;
     heads = λ b. omega arith;
     links = links_views k w r (set taken other spent) links_join;
     rises = λ b p h. omega arith;

@@ -261,9 +261,9 @@ module _ (k : Key) (w w' : World) (start start' lane_of lane_of' : ℕ → ℕ)
   -- the keys of a published record stay those of its version
   pub keyed_later : (version_of version_of' : ℕ → ℕ) → ((n : ℕ) → n < w.count → version_of' n ≡ version_of n) → (n : ℕ)
       → n < w.count → w.dir n ≢ 0
-      → IsKeyed (AreActiveAt k.rows.value w.registry) (version_of n) (lane_of n) n (start (suc n) - start n)
+      → IsKeyed (AreActiveAt k w.registry) (version_of n) (lane_of n) n (start (suc n) - start n)
       (body w.log (start n))
-      → IsKeyed (AreActiveAt k.rows.value w'.registry) (version_of' n) (lane_of' n) n (start' (suc n) - start' n)
+      → IsKeyed (AreActiveAt k w'.registry) (version_of' n) (lane_of' n) n (start' (suc n) - start' n)
       (body w'.log (start' n))
   keyed_later version_of version_of' versions n below set h =
       let a : start' n ≡ start n = f.starts n (omega arith) in
@@ -272,10 +272,10 @@ module _ (k : Key) (w w' : World) (start start' lane_of lane_of' : ℕ → ℕ)
       let l = f.lanes n below in
       let u = versions n below in
       subst (λ (z : ℕ × ℕ × ℕ × ℕ × (ℕ → ℕ)).
-      IsKeyed (AreActiveAt k.rows.value w'.registry) z.0 z.1 n (z.3 - z.2) z.4)
+      IsKeyed (AreActiveAt k w'.registry) z.0 z.1 n (z.3 - z.2) z.4)
       (λ i. (sym u i, sym l i, sym a i, sym b i, sym e i))
-      (keyed_map (AreActiveAt k.rows.value w.registry) (AreActiveAt k.rows.value w'.registry)
-      (active_later k.rows.value w.registry w'.registry f.registered) (version_of n) (lane_of n) n
+      (keyed_map (AreActiveAt k w.registry) (AreActiveAt k w'.registry)
+      (active_later k w.registry w'.registry f.registered) (version_of n) (lane_of n) n
       (start (suc n) - start n) (body w.log (start n)) h)
 
   -- all records have the keys of their versions where no record is new

@@ -6,13 +6,14 @@ use Rattle.fish_rule.proofs.Common.{all_among}
 use Rattle.fish_layout.specs.Header.{lines_of}
 use Rattle.fish_rule.proofs.Loads.{head_known, lines_found, region_found}
 use Rattle.fish_rule.proofs.Aims.{own_within}
-use Rattle.fish_rule.proofs.Heads.{node_linked, place_within}
+use Rattle.fish_rule.proofs.Heads.{first_low, linked_from, node_linked, place_within}
 use Rattle.fish_rule.proofs.Nodes.{second_within}
 use Rattle.fish_rule.proofs.Spots.{one_chain}
 use Rattle.fish_rule.proofs.OwnWords.{flight_is}
 use Rattle.fish_rule.specs.Linking.{CanAim, HasNode, own_place}
 use Rattle.fish_rule.proofs.Room.{few_lines, few_numbers, few_slots}
-use Rattle.fish_rule.specs.Parts.{Fits}
+use Rattle.fish_layout.specs.Entry.{entry_number}
+use Rattle.fish_rule.specs.Parts.{Fits, first_head}
 use Rattle.fish_rule.specs.Facts.{IsFound, IsKnown}
 use Rattle.fish_rule.specs.Reading.{CanLook, CanRead}
 use Rattle.fish_rule.specs.Table.{Stands}
@@ -21,7 +22,9 @@ use Rattle.fish_rule.specs.World.{World, slots}
 use Rattle.fish_rule.specs.declared.view.Flight.{Flight}
 use Rattle.fish_rule.specs.declared.view.Found.{Found}
 use Rattle.fish_rule.specs.declared.view.Key.{Key}
+use Rattle.fish_rule.specs.Walks.{IsLabel}
 use Rattle.fish_rule.specs.declared.view.Kind.TheVariants.{Mark}
+use Rattle.fish_rule.specs.declared.view.Label.{Label}
 use Rattle.fish_rule.specs.declared.view.View.{View}
 
 -- the region of a record in flight
@@ -157,3 +160,17 @@ aim_law k v f about s can =
     let fits = s.rule.key_fits in
     let some_ = fits.some_lines in
     subst (λ (z : Key). (z.line * 4 ≤ own_place f) × (own_place f < z.end * 4)) about (h.0, omega arith)
+
+-- the place of a linked entry is behind the base's
+pub node_behind : (v : View) (b p : ℕ) → Stands v → HasNode v b p → v.about.line * 4 < p
+node_behind v b p s node = linked_from v.about s.moment s.rule b p
+    (node_linked v.about s.moment s.rule s.seat v s.at b p node)
+
+-- a head of the start is no place of the table
+pub first_behind : (v : View) (b : ℕ) → Stands v → first_head v.about b ≤ v.about.line * 4
+first_behind v b s = first_low v.about s.moment s.rule b
+
+-- a number that a second word names is one of the table
+pub label_above : (v : View) (l : Label) → Stands v → Among l v.learned.labels → v.about.number ≤ entry_number l.word
+label_above v l s among = (all_among (IsLabel v.about s.moment.count s.moment.dir s.moment.log s.rule.start) l
+    v.learned.labels (s.rule.facts s.seat v s.at).labels among).above

@@ -40,6 +40,7 @@ pub mod Registers
 pub mod Registries
 pub mod Room
 pub mod Schedules
+pub mod Rolls
 pub mod Settles
 pub mod Splices
 pub mod Splits

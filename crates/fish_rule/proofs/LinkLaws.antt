@@ -1,12 +1,12 @@
 -- What the owner of a view may conclude of the entry that it is about to link.
-use Rattle.std.proofs.Common.{◌≡◌, ◌≢◌, ℕ, ◌<◌, ◌≤◌, suc, List, length, get_or, set, refl}
+use Rattle.std.proofs.Common.{◌≡◌, ◌≢◌, ℕ, ◌+◌, ◌*◌, ◌<◌, ◌≤◌, suc, List, length, get_or, set, refl}
 use Rattle.std.proofs.Common.{subst, sym, arith, get_or-set_other}
 use Rattle.fish_layout.proofs.Clearing.{cleared_head, cleared_same}
 use Rattle.fish_layout.specs.Cleared.{IsKeyWord, body_of, entry_at}
 use Rattle.fish_layout.specs.Header.{keys_of}
 use Rattle.fish_rule.proofs.Aims.{own_room}
 use Rattle.fish_rule.proofs.Bodies.{linked-key}
-use Rattle.fish_rule.proofs.Heads.{node_linked}
+use Rattle.fish_rule.proofs.Heads.{flight_from, node_linked}
 use Rattle.fish_rule.proofs.Swings.{own_unlinked}
 use Rattle.fish_rule.specs.Linking.{CanAim, HasNode, own_place}
 use Rattle.fish_rule.specs.Table.{Stands}
@@ -18,6 +18,13 @@ pub not_own : (v : View) (f : Flight) (b p : ℕ) → Stands v → CanAim v f �
 not_own v f b p s can node =
     own_unlinked v.about s.moment s.rule s.seat v s.at f can b p
     (node_linked v.about s.moment s.rule s.seat v s.at b p node)
+
+-- it is behind the base's
+pub own_behind : (v : View) (f : Flight) → Stands v → CanAim v f → v.about.line * 4 < own_place f
+own_behind v f s can =
+    let from = flight_from v.about s.moment s.rule s.seat v s.at f can.flying in
+    let is : own_place f ≡ f.line * 4 + (1 + 3 * f.linked) = refl in
+    omega arith
 
 -- its first word is one of the record's words
 pub own_word : (v : View) (f : Flight) → Stands v → CanAim v f → entry_at f.linked < length f.words

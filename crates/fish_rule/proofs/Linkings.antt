@@ -18,7 +18,7 @@ use Rattle.fish_rule.proofs.Spots.{spot}
 use Rattle.fish_rule.proofs.OwnWords.{carried_is, flight_is, known_keyed}
 use Rattle.fish_rule.specs.Chains.{Chain, Chained, IsKeyEntry, IsLinking, IsStoredAt, Linked, LinksAt, Shows}
 use Rattle.fish_rule.specs.Linking.{CanAim, linked_once, own_place}
-use Rattle.fish_rule.specs.Parts.{Flies, InFlight}
+use Rattle.fish_rule.specs.Parts.{Flies, InFlight, first_head}
 use Rattle.fish_rule.specs.Facts.{Facts}
 use Rattle.fish_rule.specs.Regions.{IsRecord, kind_of}
 use Rattle.fish_rule.specs.Rule.{Final, Rule}
@@ -159,7 +159,7 @@ module _ (k : Key) (w : World) (r : Rule k w) (id : ℕ) (v : View) (at : get_el
       counts = omega arith;
       lines = omega arith;
       settles = omega arith;
-      registered = endures_same k.rows.value w.registry;
+      registered = endures_same k w.registry;
       heads = leaves.heads;
       links = link_to;
       rises = leaves.rises;
@@ -205,7 +205,7 @@ module _ (k : Key) (w : World) (r : Rule k w) (id : ℕ) (v : View) (at : get_el
           (body_of f.words) can.body.keyed;
     }
 
-    module _ (chains : (c : ℕ) → Chain (After c) (head' c) log')
+    module _ (chains : (c : ℕ) → Chain (After c) (first_head k c) (head' c) log')
         (facts : Facts k w.count w.dir log' r.start learned) (floor : learned.settled ≤ w.settled)
         (chained : Chained k w.dir log' linked_world.views head' learned)
         (stays : Stays k w.registry r.state v.lane v.out v.epoch learned.version learned.words v.rows v.draft) where

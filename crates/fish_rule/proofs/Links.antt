@@ -12,7 +12,7 @@ use Rattle.fish_rule.proofs.Chained.{chain_same}
 use Rattle.fish_rule.proofs.Common.{within_list}
 use Rattle.fish_rule.proofs.Frames.{one_view}
 use Rattle.fish_rule.specs.Chains.{Chain, IsKeyEntry, IsLinking, IsStoredAt, Linked, LinksAt, Shows}
-use Rattle.fish_rule.specs.Parts.{Whole}
+use Rattle.fish_rule.specs.Parts.{Whole, first_head}
 use Rattle.fish_rule.specs.Regions.{IsRecord}
 use Rattle.fish_rule.specs.Rule.{Rule}
 use Rattle.fish_rule.specs.World.{World, body}
@@ -100,10 +100,10 @@ pub chains_same : (k : Key) (dir dir' log log' : ℕ → ℕ) (vs vs' : List Vie
     → ((b p : ℕ) → Linked k dir log vs b p → Linked k dir' log' vs' b p)
     → ((b p : ℕ) → Linked k dir' log' vs' b p → Linked k dir log vs b p)
     → ((b p : ℕ) → Linked k dir log vs b p → log' p ≡ log p)
-    → ((b : ℕ) → Chain (Linked k dir log vs b) (head b) log) → (b : ℕ)
-    → Chain (Linked k dir' log' vs' b) (head b) log'
+    → ((b : ℕ) → Chain (Linked k dir log vs b) (first_head k b) (head b) log) → (b : ℕ)
+    → Chain (Linked k dir' log' vs' b) (first_head k b) (head b) log'
 chains_same k dir dir' log log' vs vs' head to from same chains b =
-    chain_same (Linked k dir log vs b) (Linked k dir' log' vs' b) (head b) log log' (to b) (from b) (same b) (chains b)
+    chain_same (Linked k dir log vs b) (Linked k dir' log' vs' b) (first_head k b) (head b) log log' (to b) (from b) (same b) (chains b)
 
 module _ (k : Key) (w : World) (r : Rule k w) (views' : List View)
     (to : (a c : ℕ) → IsLinking a c w.views → IsLinking a c views') where
@@ -115,7 +115,7 @@ module _ (k : Key) (w : World) (r : Rule k w) (views' : List View)
 
   -- and the chains stay where nothing is linked anew
   pub chains_views : ((a c : ℕ) → IsLinking a c views' → IsLinking a c w.views) → (b : ℕ)
-      → Chain (Linked k w.dir w.log views' b) (w.head b) w.log
+      → Chain (Linked k w.dir w.log views' b) (first_head k b) (w.head b) w.log
   chains_views from = chains_same k w.dir w.dir w.log w.log w.views views' w.head links_views
       (linked_map k w.dir w.dir w.log w.log views' w.views
       (λ a c h. ⊎_elim (λ (s : IsStoredAt k w.dir a). inl s)
@@ -129,6 +129,6 @@ module _ (k : Key) (w : World) (r : Rule k w) (id : ℕ) (v v' : View) (at : get
   links_set = links_views k w r (set w.views id v') (λ a c. linking_to w.views id v v' at a c (keep a c))
 
   pub chains_set : ((a c : ℕ) → LinksAt a c v'.flight → LinksAt a c v.flight) → (b : ℕ)
-      → Chain (Linked k w.dir w.log (set w.views id v') b) (w.head b) w.log
+      → Chain (Linked k w.dir w.log (set w.views id v') b) (first_head k b) (w.head b) w.log
   chains_set back = chains_views k w r (set w.views id v') (λ a c. linking_to w.views id v v' at a c (keep a c))
       (λ a c. linking_from w.views id v v' at a c (λ h. linking_own w.views id v v' at a c (back a c h)))

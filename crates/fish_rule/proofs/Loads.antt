@@ -165,7 +165,7 @@ module _ (k : Key) (w : World) (r : Rule k w) (id : ℕ) (v : View) (at : get_el
     counts = omega arith;
     lines = omega arith;
     settles = omega arith;
-    registered = endures_same k.rows.value w.registry;
+    registered = endures_same k w.registry;
     heads = λ b. omega arith;
     links = links_set k w r id v (reader) at (λ a c h. h);
     rises = λ b p h. omega arith;

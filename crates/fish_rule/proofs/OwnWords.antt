@@ -53,17 +53,17 @@ carried_is k w r id v at f is = subst (Carries k w.registry r.version_of v.lane 
 -- what its pass knows of its keys is so
 pub known_keyed : (k : Key) (w : World) (r : Rule k w) (id : ℕ) (v : View) → get_elem? w.views id ≡ some v
     → (f : Flight) → v.flight ≡ Some f → 1 ≤ v.lane → (version : ℕ) → v.epoch ≡ Confirmed version → (e : ℕ → ℕ)
-    → IsKeyed (KnowsActive v.about.rows.value v.learned) version v.lane f.number f.lines e
-    → IsKeyed (AreActiveAt k.rows.value w.registry) (r.version_of f.number) v.lane f.number f.lines e
+    → IsKeyed (KnowsActive v.about v.learned) version v.lane f.number f.lines e
+    → IsKeyed (AreActiveAt k w.registry) (r.version_of f.number) v.lane f.number f.lines e
 known_keyed k w r id v at f is live version entered e h =
     let stays = r.registry.each id v at in
     let same : version ≡ r.version_of f.number =
     confirmed_once (sym entered ∙ (carried_is k w r id v at f is).entered) in
     let about : v.about ≡ k = r.about id v at live in
-    subst (λ (z : ℕ). IsKeyed (AreActiveAt k.rows.value w.registry) z v.lane f.number f.lines e) same
-    (keyed_map (KnowsActive v.about.rows.value v.learned) (AreActiveAt k.rows.value w.registry)
-    (λ u ts known. active_known k.rows.value w.registry v.learned stays.reached stays.read u ts
-    (subst (λ (z : Key). KnowsActive z.rows.value v.learned u ts) about known))
+    subst (λ (z : ℕ). IsKeyed (AreActiveAt k w.registry) z v.lane f.number f.lines e) same
+    (keyed_map (KnowsActive v.about v.learned) (AreActiveAt k w.registry)
+    (λ u ts known. active_known k w.registry v.learned stays.reached stays.read u ts
+    (subst (λ (z : Key). KnowsActive z v.learned u ts) about known))
     version v.lane f.number f.lines e h)
 
 -- words become these by a store of x at offset o of a region of so many words: either behind those that are
@@ -217,7 +217,7 @@ module _ (k : Key) (w : World) (r : Rule k w) (id : ℕ) (v : View) (at : get_el
     counts = omega arith;
     lines = omega arith;
     settles = omega arith;
-    registered = endures_same k.rows.value w.registry;
+    registered = endures_same k w.registry;
     heads = λ b. omega arith;
     links = links_stay;
     rises = λ b p h. (let e = put-else w.log own_word x p (not_linked b p h) in omega arith);
@@ -284,7 +284,7 @@ module _ (k : Key) (w : World) (r : Rule k w) (id : ℕ) (v : View) (at : get_el
       let h = carried_is k w r id v at f flying in
       record {
         entered = h.entered;
-        keyed = λ some_. subst (λ (z : ℕ → ℕ). IsKeyed (AreActiveAt k.rows.value w.registry) (r.version_of f.number) v.lane
+        keyed = λ some_. subst (λ (z : ℕ → ℕ). IsKeyed (AreActiveAt k w.registry) (r.version_of f.number) v.lane
             f.number f.lines z) (sym (becomes.linking some_).2) (h.keyed some_);
       }
 

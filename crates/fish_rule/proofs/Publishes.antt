@@ -45,10 +45,10 @@ module _ (k : Key) (w : World) (r : Rule k w) (id : ℕ) (v : View) (at : get_el
     (f : Flight) (live : 1 ≤ v.lane) (flying : v.flight ≡ Some f) (kind : Kind)
     (is_kind : kind_of k.end f.line (f.line + f.lines) ≡ kind)
     (version : ℕ) (entered : v.epoch ≡ Confirmed version)
-    (ready : IsReady (KnowsActive v.about.rows.value v.learned) version kind v.lane f) where
+    (ready : IsReady (KnowsActive v.about v.learned) version kind v.lane f) where
   -- which texts the pass knows to be active
   abbrev active : ℕ → List (ℕ × List ℕ) → Type 0
-  active = KnowsActive v.about.rows.value v.learned
+  active = KnowsActive v.about v.learned
 
   -- the view afterwards
   abbrev pub publisher : View
@@ -176,7 +176,7 @@ module _ (k : Key) (w : World) (r : Rule k w) (id : ℕ) (v : View) (at : get_el
     counts = omega arith;
     lines = omega arith;
     settles = omega arith;
-    registered = endures_same k.rows.value w.registry;
+    registered = endures_same k w.registry;
     heads = λ b. omega arith;
     links = links_on;
     rises = λ b p h. omega arith;
@@ -388,7 +388,7 @@ module _ (k : Key) (w : World) (r : Rule k w) (id : ℕ) (v : View) (at : get_el
 
   -- the record has the keys of its version
   own_keyed : (kd : Kind) → kind ≡ kd → kd ≡ Stored → IsReady active version kd v.lane f
-      → IsKeyed (AreActiveAt k.rows.value w.registry) (r.version_of f.number) (r.lane_of f.number) f.number
+      → IsKeyed (AreActiveAt k w.registry) (r.version_of f.number) (r.lane_of f.number) f.number
       (r.start (suc f.number) - r.start f.number) (body w.log (r.start f.number))
   own_keyed Void is e h = cc
   own_keyed Mark is e h = cc
@@ -399,7 +399,7 @@ module _ (k : Key) (w : World) (r : Rule k w) (id : ℕ) (v : View) (at : get_el
       let words : body w.log (r.start f.number) ≡ body_of f.words = ap (body w.log) a
       ∙ body_stored w.log f.words v.lane f.number f.lines f.line f.linked (h.1.0, h.1.1.record_of) h.0 sized.0
       (let q = h.2 in omega arith) own.written in
-      subst (λ (z : ℕ × ℕ × (ℕ → ℕ)). IsKeyed (AreActiveAt k.rows.value w.registry) (r.version_of f.number) z.0 f.number
+      subst (λ (z : ℕ × ℕ × (ℕ → ℕ)). IsKeyed (AreActiveAt k w.registry) (r.version_of f.number) z.0 f.number
       z.1 z.2) (λ i. (sym own.owner i, sym size i, sym words i))
       (known_keyed k w r id v at f flying live version entered (body_of f.words) h.1)
 
@@ -407,10 +407,10 @@ module _ (k : Key) (w : World) (r : Rule k w) (id : ℕ) (v : View) (at : get_el
   keyed = record { each = λ n above below stored. pick n above below stored (ℕ_discrete n f.number) }
     where
       pick : (n : ℕ) → k.number ≤ n → n < w.count → high (dir' n) ≡ code Stored → Dec (n ≡ f.number)
-          → IsKeyed (AreActiveAt k.rows.value w.registry) (r.version_of n) (r.lane_of n) n
+          → IsKeyed (AreActiveAt k w.registry) (r.version_of n) (r.lane_of n) n
           (r.start (suc n) - r.start n) (body w.log (r.start n))
       pick n above below stored (yes e) =
-          subst (λ (z : ℕ). IsKeyed (AreActiveAt k.rows.value w.registry) (r.version_of z) (r.lane_of z) z
+          subst (λ (z : ℕ). IsKeyed (AreActiveAt k w.registry) (r.version_of z) (r.lane_of z) z
           (r.start (suc z) - r.start z) (body w.log (r.start z))) (sym e)
           (own_keyed kind refl (code_once kind Stored
           (sym kind_here ∙ ap (λ (z : ℕ). high (dir' z)) (sym e) ∙ stored)) ready)
@@ -449,6 +449,7 @@ module _ (k : Key) (w : World) (r : Rule k w) (id : ℕ) (v : View) (at : get_el
       may = may_kept w.views id v publisher at k.end r.quota refl refl (may_before k v f flying kind is_kind) r.limit.may;
     };
     settling = record {
+      from = r.settling.from;
       within = r.settling.within;
       below = λ n above below. subst IsEntryWord
           (sym (dir_else n (is_other n (r.settling.below n above below).published))) (r.settling.below n above below);

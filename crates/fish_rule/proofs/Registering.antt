@@ -23,7 +23,7 @@ use Rattle.fish_rule.specs.declared.view.Key.{Key}
 use Rattle.fish_rule.specs.declared.view.View.{View}
 
 -- a word that lasts is one of the registry's
-pub lasting_within : (k : Key) (w : World) (r : Rule k w) (p : ℕ) → IsLasting k.rows.value w.registry p
+pub lasting_within : (k : Key) (w : World) (r : Rule k w) (p : ℕ) → IsLasting k w.registry p
     → (2 ≤ p) × (p < heads_at)
 lasting_within k w r p (inl h) = (omega arith, omega arith)
 lasting_within k w r p (inr (inl h)) = (let a = h.2 in let b = h.3 in let f = r.registry.versions.few in
@@ -36,7 +36,7 @@ lasting_within k w r p (inr (inr h)) =
     (omega arith, omega arith)
 
 -- and so is one of which nothing is made
-pub unmade_within : (k : Key) (w : World) (p : ℕ) → IsUnmade k.rows.value w.registry p → (2 ≤ p) × (p < heads_at)
+pub unmade_within : (k : Key) (w : World) (p : ℕ) → IsUnmade k w.registry p → (2 ≤ p) × (p < heads_at)
 unmade_within k w p (inl h) = (let a = h.2 in let b = h.3 in (omega arith, omega arith))
 unmade_within k w p (inr h) = (let a = h.3 in let b = h.4 in let c = h.5 in (omega arith, omega arith))
 
@@ -63,6 +63,8 @@ version_allowed given k same size id me about =
       record {
         told = record { view = refl; held = refl; stands = stands k _ id v' kept about (there vs id me.0 v' at) };
         rises = subst (λ (z : ℕ). me.0.learned.version ≤ z) (sym word) (version_rises k w r id me.0 at);
+        from = subst (λ (z : ℕ). me.0.about.version ≤ z) (sym word)
+            (subst (λ (z : Key). z.version ≤ w.registry 2) (sym about) r.registry.versions.from);
         few = subst (λ (z : ℕ). z ≤ 512) (sym word) r.registry.versions.few;
       },
     ))
@@ -199,24 +201,24 @@ opened_law v s =
     omega arith
 
 -- a row that is known is one of 256
-pub row_law : (v : View) (id : ℕ) → Stands v → KnowsRow v.about.rows.value v.learned id → id < 256
+pub row_law : (v : View) (id : ℕ) → Stands v → KnowsRow v.about v.learned id → id < 256
 row_law v id s h =
     let w = s.moment in
     let stays = s.rule.registry.each s.seat v s.at in
-    let there = h.there w.registry (has_read v.about.rows.value w.registry v.learned.words stays.read) in
+    let there = h.there w.registry (has_read v.about w.registry v.learned.words stays.read) in
     let a = h.reached in
     let b = stays.reached in
-    let up = length_grows v.about.rows.value w.registry h.version (version_in w.registry) (omega arith) in
+    let up = length_grows v.about w.registry h.version (version_in w.registry) (omega arith) in
     let few = (s.rule.registry.versions.listings (version_in w.registry) (omega arith)).few in
     omega arith
 
 -- definitions that are known are a listing
 pub listing_law : (v : View) (u : ℕ) (ls : List Listed) → Stands v
-    → KnowsDefinitions v.about.rows.value v.learned u ls → IsListing ls
+    → KnowsDefinitions v.about v.learned u ls → IsListing ls
 listing_law v u ls s h =
     let w = s.moment in
     let stays = s.rule.registry.each s.seat v s.at in
     let a = h.reached in
     let b = stays.reached in
-    subst IsListing (h.are w.registry (has_read v.about.rows.value w.registry v.learned.words stays.read))
+    subst IsListing (h.are w.registry (has_read v.about w.registry v.learned.words stays.read))
     (s.rule.registry.versions.listings u (omega arith))

@@ -1,18 +1,19 @@
 -- What lasts of the registry's words, and what is known by them.
-use Rattle.std.proofs.Common.{◌≡◌, ℕ, ◌%◌, ◌<◌, ◌≤◌, zero, suc, List, [], ◌∷◌, ◌++◌, length, sym, refl, ap}
+use Rattle.std.proofs.Common.{◌≡◌, ℕ, ◌%◌, ◌<◌, ◌≤◌, zero, suc, List, [], ◌∷◌, ◌++◌, length, map, sym, refl, ap}
 use Rattle.std.proofs.Common.{◌∙◌, subst, inl, inr, arith, true, length-append}
 use Rattle.std.proofs.Math.Decide.{ℕ_discrete, dec_lt}
 use Rattle.std.proofs.lemmas.List.{length-map}
 use Rattle.fish_catalog.proofs.RowWords.{listed_same}
-use Rattle.fish_catalog.specs.Listing.{active_texts, ended, ended_at, listed_in}
+use Rattle.fish_catalog.specs.Listing.{active_texts, ended, ended_at, listed_in, listed_of}
 use Rattle.fish_catalog.specs.declared.listed.Listed.{Listed}
-use Rattle.fish_catalog.specs.declared.row.CatRow.{CatRow}
+use Rattle.fish_layout.proofs.Clearing.{choose_first, choose_second}
 use Rattle.fish_layout.specs.Cleared.{choose}
 use Rattle.fish_rule.proofs.Common.{all_map}
 use Rattle.fish_rule.specs.Keys.{IsKeyed}
 use Rattle.fish_rule.specs.Registry.{AreActiveAt, Endures, HasRead, IsLasting, IsRegistered}
 use Rattle.fish_rule.specs.Registry.{KnowsActive, definitions_at, made, op_at, row_at, row_in, version_in}
 use Rattle.fish_rule.specs.Views.{AllOf}
+use Rattle.fish_rule.specs.declared.view.Key.{Key}
 use Rattle.fish_rule.specs.declared.view.Learned.{Learned}
 use Rattle.fish_rule.specs.declared.view.RegistryWord.{RegistryWord}
 
@@ -49,42 +50,73 @@ made_same g g' x ls same = by (dec_lt x 512)
         (listed_same (row_in g' (length ls)) (row_in g (length ls)) (length ls) true (same h))
     by (no h) = refl
 
-module _ (rows : List CatRow) where
+module _ (k : Key) where
+  -- up to the start's version they are those of the start
+  pub definitions_first : (g : ℕ → ℕ) (v : ℕ) → v ≤ k.version → definitions_at k g v ≡ map listed_of k.rows.value
+  definitions_first g zero less = refl
+  definitions_first g (suc v) less =
+      choose_first (dec_lt v k.version) (definitions_at k g v) (made g (g (op_at (suc v))) (definitions_at k g v))
+      (omega arith)
+      ∙ definitions_first g v (omega arith)
+
+  -- behind it each is made by its operation
+  pub definitions_next : (g : ℕ → ℕ) (v : ℕ) → k.version ≤ v
+      → definitions_at k g (suc v) ≡ made g (g (op_at (suc v))) (definitions_at k g v)
+  definitions_next g v more = choose_second (dec_lt v k.version) (definitions_at k g v)
+      (made g (g (op_at (suc v))) (definitions_at k g v)) (λ less. omega arith)
+
   -- a later version has no fewer definitions
-  pub length_grows : (g : ℕ → ℕ) (u v : ℕ) → u ≤ v → length (definitions_at rows g u) ≤ length (definitions_at rows g v)
+  grows_once : (g : ℕ → ℕ) (v : ℕ) (d : Dec (v < k.version)) → length (definitions_at k g v)
+      ≤ length (choose d (definitions_at k g v) (made g (g (op_at (suc v))) (definitions_at k g v)))
+  grows_once g v (yes h) = omega arith
+  grows_once g v (no h) = length_made g (g (op_at (suc v))) (definitions_at k g v)
+
+  pub length_grows : (g : ℕ → ℕ) (u v : ℕ) → u ≤ v → length (definitions_at k g u) ≤ length (definitions_at k g v)
   length_grows g u zero less = (let e : u ≡ 0 = omega arith in
-      subst (λ (z : ℕ). length (definitions_at rows g z) ≤ length (definitions_at rows g 0)) (sym e) (omega arith))
+      subst (λ (z : ℕ). length (definitions_at k g z) ≤ length (definitions_at k g 0)) (sym e) (omega arith))
   length_grows g u (suc v) less = by (dec_lt v u) (λ h. length_grows g u v h)
     where
-      by : Dec (v < u) → (u ≤ v → length (definitions_at rows g u) ≤ length (definitions_at rows g v))
-          → length (definitions_at rows g u) ≤ length (definitions_at rows g (suc v))
+      by : Dec (v < u) → (u ≤ v → length (definitions_at k g u) ≤ length (definitions_at k g v))
+          → length (definitions_at k g u) ≤ length (definitions_at k g (suc v))
       by (yes h) rest = (let e : u ≡ suc v = omega arith in
-          subst (λ (z : ℕ). length (definitions_at rows g z) ≤ length (definitions_at rows g (suc v))) (sym e) (omega arith))
+          subst (λ (z : ℕ). length (definitions_at k g z) ≤ length (definitions_at k g (suc v))) (sym e) (omega arith))
       by (no h) rest =
           let a = rest (omega arith) in
-          let b = length_made g (g (op_at (suc v))) (definitions_at rows g v) in
+          let b = grows_once g v (dec_lt v k.version) in
           omega arith
 
   -- the same operations and rows make the same definitions
-  pub definitions_same : (g g' : ℕ → ℕ) (v : ℕ) → ((u : ℕ) → 1 ≤ u → u ≤ v → g' (op_at u) ≡ g (op_at u))
-      → ((id i : ℕ) → id < length (definitions_at rows g v) → 2 ≤ i → i < 39 → g' (row_at id i) ≡ g (row_at id i))
-      → definitions_at rows g' v ≡ definitions_at rows g v
+  pub definitions_same : (g g' : ℕ → ℕ) (v : ℕ) → ((u : ℕ) → k.version < u → u ≤ v → g' (op_at u) ≡ g (op_at u))
+      → ((id i : ℕ) → id < length (definitions_at k g v) → 2 ≤ i → i < 39 → g' (row_at id i) ≡ g (row_at id i))
+      → definitions_at k g' v ≡ definitions_at k g v
   definitions_same g g' zero ops words = refl
-  definitions_same g g' (suc v) ops words =
-      let x : ℕ = g (op_at (suc v)) in
-      let ls : List Listed = definitions_at rows g v in
-      let grows = length_made g x ls in
-      let before : definitions_at rows g' v ≡ definitions_at rows g v =
-      definitions_same g g' v (λ u a b. ops u a (omega arith)) (λ id i less a b. words id i (omega arith) a b) in
-      (λ j. made g' (ops (suc v) (omega arith) (omega arith) j) (before j))
-      ∙ made_same g g' x ls (λ less i a b. words (length ls) i
-      (let e = length_registered g x ls less in omega arith) a b)
+  definitions_same g g' (suc v) ops words = by (dec_lt v k.version) (definitions_same g g' v) ops words
+    where
+      by : (d : Dec (v < k.version))
+          → (((u : ℕ) → k.version < u → u ≤ v → g' (op_at u) ≡ g (op_at u))
+          → ((id i : ℕ) → id < length (definitions_at k g v) → 2 ≤ i → i < 39 → g' (row_at id i) ≡ g (row_at id i))
+          → definitions_at k g' v ≡ definitions_at k g v)
+          → ((u : ℕ) → k.version < u → u ≤ suc v → g' (op_at u) ≡ g (op_at u))
+          → ((id i : ℕ) → id < length (choose d (definitions_at k g v) (made g (g (op_at (suc v))) (definitions_at k g v)))
+          → 2 ≤ i → i < 39 → g' (row_at id i) ≡ g (row_at id i))
+          → choose d (definitions_at k g' v) (made g' (g' (op_at (suc v))) (definitions_at k g' v))
+          ≡ choose d (definitions_at k g v) (made g (g (op_at (suc v))) (definitions_at k g v))
+      by (yes h) before ops words = before (λ u a b. ops u a (omega arith)) words
+      by (no h) before ops words =
+          let x : ℕ = g (op_at (suc v)) in
+          let ls : List Listed = definitions_at k g v in
+          let grows = length_made g x ls in
+          let old : definitions_at k g' v ≡ definitions_at k g v =
+          before (λ u a b. ops u a (omega arith)) (λ id i less a b. words id i (omega arith) a b) in
+          (λ j. made g' (ops (suc v) (omega arith) (omega arith) j) (old j))
+          ∙ made_same g g' x ls (λ less i a b. words (length ls) i
+          (let e = length_registered g x ls less in omega arith) a b)
 
   -- ---- what lasts
 
-  module _ (g g' : ℕ → ℕ) (e : Endures rows g g') where
+  module _ (g g' : ℕ → ℕ) (e : Endures k g g') where
     -- the definitions of a version that was reached stay
-    pub definitions_later : (v : ℕ) → v ≤ version_in g → definitions_at rows g' v ≡ definitions_at rows g v
+    pub definitions_later : (v : ℕ) → v ≤ version_in g → definitions_at k g' v ≡ definitions_at k g v
     definitions_later v reached = definitions_same g g' v
         (λ u a b. e.same (op_at u) (inr (inl (u, a, (omega arith), refl))))
         (λ id i less a b. e.same (row_at id i) (inr (inr (
@@ -97,7 +129,7 @@ module _ (rows : List CatRow) where
         ))))
 
     -- a word that lasts goes on lasting
-    pub lasting_later : (p : ℕ) → IsLasting rows g p → IsLasting rows g' p
+    pub lasting_later : (p : ℕ) → IsLasting k g p → IsLasting k g' p
     lasting_later p (inl h) = inl h
     lasting_later p (inr (inl h)) = (let up = e.rises in let b = h.2 in inr (inl (h.0, h.1, (omega arith), h.3)))
     lasting_later p (inr (inr h)) =
@@ -107,27 +139,27 @@ module _ (rows : List CatRow) where
         inr (inr (h.0, h.1, (omega arith), h.3, h.4, h.5))
 
     -- a word that was read stays
-    pub registered_later : (x : RegistryWord) → IsRegistered rows g x → IsRegistered rows g' x
+    pub registered_later : (x : RegistryWord) → IsRegistered k g x → IsRegistered k g' x
     registered_later x h = record { lasts = lasting_later x.index h.lasts; word = e.same x.index h.lasts ∙ h.word }
 
     -- and so do the active definitions
-    pub active_later : (v : ℕ) (ts : List (ℕ × List ℕ)) → AreActiveAt rows g v ts → AreActiveAt rows g' v ts
+    pub active_later : (v : ℕ) (ts : List (ℕ × List ℕ)) → AreActiveAt k g v ts → AreActiveAt k g' v ts
     active_later v ts h = (let up = e.rises in let a = h.0 in
         ((omega arith), ap active_texts (definitions_later v h.0) ∙ h.1))
 
   -- nothing changes where no word does
-  pub endures_same : (g : ℕ → ℕ) → Endures rows g g
+  pub endures_same : (g : ℕ → ℕ) → Endures k g g
   endures_same g = record { rises = omega arith; same = λ p h. refl }
 
   -- ---- what is known
 
   -- the words that were read stand there
-  pub has_read : (g : ℕ → ℕ) (ws : List RegistryWord) → AllOf (IsRegistered rows g) ws → HasRead g ws
-  has_read g ws h = all_map (IsRegistered rows g) (λ x. g x.index ≡ x.value) (λ x m. m.word) ws h
+  pub has_read : (g : ℕ → ℕ) (ws : List RegistryWord) → AllOf (IsRegistered k g) ws → HasRead g ws
+  has_read g ws h = all_map (IsRegistered k g) (λ x. g x.index ≡ x.value) (λ x m. m.word) ws h
 
   -- the active definitions that a pass knows are those
-  pub active_known : (g : ℕ → ℕ) (l : Learned) → l.version ≤ version_in g → AllOf (IsRegistered rows g) l.words
-      → (v : ℕ) (ts : List (ℕ × List ℕ)) → KnowsActive rows l v ts → AreActiveAt rows g v ts
+  pub active_known : (g : ℕ → ℕ) (l : Learned) → l.version ≤ version_in g → AllOf (IsRegistered k g) l.words
+      → (v : ℕ) (ts : List (ℕ × List ℕ)) → KnowsActive k l v ts → AreActiveAt k g v ts
   active_known g l reached words v ts h = (let a = h.1.reached in
       ((omega arith), ap active_texts (h.1.are g (has_read g l.words words)) ∙ h.2))
 

@@ -15,7 +15,7 @@ use Rattle.fish_rule.proofs.Common.{all_map, each_set, seats_kept}
 use Rattle.fish_rule.proofs.Frames.{alone_kept, flight_there, may_kept}
 use Rattle.fish_rule.proofs.Kept.{chained_later, keyed_kept, published}
 use Rattle.fish_rule.proofs.Links.{chains_set, links_set}
-use Rattle.fish_rule.proofs.Registers.{active_later, definitions_later, keyed_map, length_grows, length_registered}
+use Rattle.fish_rule.proofs.Registers.{active_later, definitions_later, definitions_next, keyed_map, length_grows, length_registered}
 use Rattle.fish_rule.proofs.Registers.{registered_later}
 use Rattle.fish_rule.specs.Epochs.{Carries, IsMain, IsUnmade, Registry, Versions}
 use Rattle.fish_rule.specs.Registry.{AreActiveAt, Endures, IsOperation, IsRegistered, definitions_at, op_at, row_at, row_in}
@@ -45,34 +45,35 @@ operation_later f f' ls x same (inl h) =
     let e = listed_same f f' 0 true l in
     inl (h.0, subst (λ (z : Listed). IsNew ls z.name z.def) e h.1)
 
-module _ (k : Key) (g g' : ℕ → ℕ) (e : Endures k.rows.value g g') where
+module _ (k : Key) (g g' : ℕ → ℕ) (e : Endures k g g') where
   -- the definitions of a version that was reached are a listing as before
   pub listing_later : (count : ℕ) (version_of : ℕ → ℕ) → Versions k count g version_of → (v : ℕ) → v ≤ version_in g
-      → IsListing (definitions_at k.rows.value g' v)
+      → IsListing (definitions_at k g' v)
   listing_later count version_of h v reached =
-      subst IsListing (sym (definitions_later k.rows.value g g' e v reached)) (h.listings v reached)
+      subst IsListing (sym (definitions_later k g g' e v reached)) (h.listings v reached)
 
   -- and the operation that made it is one as before
-  pub operation_kept : (count : ℕ) (version_of : ℕ → ℕ) → Versions k count g version_of → (v : ℕ) → v < version_in g
-      → IsOperation (row_in g' (length (definitions_at k.rows.value g' v))) (definitions_at k.rows.value g' v)
+  pub operation_kept : (count : ℕ) (version_of : ℕ → ℕ) → Versions k count g version_of → (v : ℕ) → k.version ≤ v
+      → v < version_in g
+      → IsOperation (row_in g' (length (definitions_at k g' v))) (definitions_at k g' v)
       (g' (op_at (suc v)))
-  operation_kept count version_of h v less =
-      let rows = k.rows.value in
-      let ls : List Listed = definitions_at rows g v in
+  operation_kept count version_of h v from less =
+      let ls : List Listed = definitions_at k g v in
       let x : ℕ = g (op_at (suc v)) in
       let op : g' (op_at (suc v)) ≡ x = e.same (op_at (suc v)) (inr (inl (suc v, (omega arith), (omega arith), refl))) in
-      let defs : definitions_at rows g' v ≡ ls = definitions_later rows g g' e v (omega arith) in
+      let defs : definitions_at k g' v ≡ ls = definitions_later k g g' e v (omega arith) in
       subst (λ (z : List Listed × ℕ). IsOperation (row_in g' (length z.0)) z.0 z.1) (λ i. (sym defs i, sym op i))
       (operation_later (row_in g (length ls)) (row_in g' (length ls)) ls x (λ room few i a b.
       e.same (row_at (length ls) i) (inr (inr (
         length ls,
         i,
         (let q = length_registered g x ls few in
-            let up = length_grows rows g (suc v) (version_in g) less in omega arith),
+            let made_ = ap (λ (z : List Listed). length z) (definitions_next k g v from) in
+              let up = length_grows k g (suc v) (version_in g) less in omega arith),
         a,
         b,
         refl,
-      )))) (h.operations v less))
+      )))) (h.operations v from less))
 
   -- the rows of the start stay
   pub rows_later : (count : ℕ) (version_of : ℕ → ℕ) → Versions k count g version_of → (id : ℕ) (row : CatRow)
@@ -80,7 +81,7 @@ module _ (k : Key) (g g' : ℕ → ℕ) (e : Endures k.rows.value g g') where
       → IsWritable row × ((i : ℕ) → 2 ≤ i → i < 39 → g' (row_at id i) ≡ row_word row i)
   rows_later count version_of h id row there =
       let all = length-map k.rows.value listed_of in
-      let up = length_grows k.rows.value g 0 (version_in g) (omega arith) in
+      let up = length_grows k g 0 (version_in g) (omega arith) in
       let within = slice_get_within k.rows.value id row there in
       let old = h.rows id row there in
       (old.0, λ i a b. e.same (row_at id i) (inr (inr (id, i, (omega arith), a, b, refl))) ∙ old.1 i a b)
@@ -89,10 +90,12 @@ module _ (k : Key) (g g' : ℕ → ℕ) (e : Endures k.rows.value g g') where
   pub versions_later : (count : ℕ) (version_of : ℕ → ℕ) → version_in g' ≡ version_in g → Versions k count g version_of
       → Versions k count g' version_of
   versions_later count version_of same h = record {
+    from = (let f = h.from in omega arith);
     few = (let f = h.few in omega arith);
+    since = h.since;
     upto = λ n above below. (let u = h.upto n above below in omega arith);
     listings = λ v reached. listing_later count version_of h v (omega arith);
-    operations = λ v less. operation_kept count version_of h v (omega arith);
+    operations = λ v from less. operation_kept count version_of h v from (omega arith);
     opened = e.same 3 (inl refl) ∙ h.opened;
     rows = rows_later count version_of h;
   }
@@ -103,36 +106,36 @@ module _ (k : Key) (g g' : ℕ → ℕ) (e : Endures k.rows.value g g') where
   carries_later version_of lane epoch None h = h
   carries_later version_of lane epoch (Some f) h = record {
     entered = h.entered;
-    keyed = λ some_. keyed_map (AreActiveAt k.rows.value g) (AreActiveAt k.rows.value g')
-        (active_later k.rows.value g g' e) (version_of f.number) lane f.number f.lines (body_of f.words)
+    keyed = λ some_. keyed_map (AreActiveAt k g) (AreActiveAt k g')
+        (active_later k g g' e) (version_of f.number) lane f.number f.lines (body_of f.words)
         (h.keyed some_);
   }
 
   -- words that were read stay
-  pub read_later : (words : List RegistryWord) → AllOf (IsRegistered k.rows.value g) words
-      → AllOf (IsRegistered k.rows.value g') words
-  read_later words h = all_map (IsRegistered k.rows.value g) (IsRegistered k.rows.value g')
-      (registered_later k.rows.value g g' e) words h
+  pub read_later : (words : List RegistryWord) → AllOf (IsRegistered k g) words
+      → AllOf (IsRegistered k g') words
+  read_later words h = all_map (IsRegistered k g) (IsRegistered k g')
+      (registered_later k g g' e) words h
 
   -- a word of which nothing is made was one before, where the version is the same
-  pub unmade_before : version_in g' ≡ version_in g → (p : ℕ) → IsUnmade k.rows.value g' p → IsUnmade k.rows.value g p
+  pub unmade_before : version_in g' ≡ version_in g → (p : ℕ) → IsUnmade k g' p → IsUnmade k g p
   unmade_before same p (inl h) = (let a = h.1 in inl (h.0, (omega arith), h.2, h.3))
   unmade_before same p (inr h) =
-      let defs : definitions_at k.rows.value g' (version_in g') ≡ definitions_at k.rows.value g (version_in g) =
-      ap (definitions_at k.rows.value g') same
-      ∙ definitions_later k.rows.value g g' e (version_in g) (omega arith) in
-      let size : length (definitions_at k.rows.value g' (version_in g')) ≡ length
-      (definitions_at k.rows.value g (version_in g)) = ap (λ (z : List Listed). length z) defs in
+      let defs : definitions_at k g' (version_in g') ≡ definitions_at k g (version_in g) =
+      ap (definitions_at k g') same
+      ∙ definitions_later k g g' e (version_in g) (omega arith) in
+      let size : length (definitions_at k g' (version_in g')) ≡ length
+      (definitions_at k g (version_in g)) = ap (λ (z : List Listed). length z) defs in
       let a = h.2 in
       inr (h.0, h.1, (omega arith), h.3, h.4, h.5)
 
   -- the control pass still knows the registry as it is
   pub main_later : (seen : ℕ) (rows : List Listed) (draft : List RegistryWord) → version_in g' ≡ version_in g
-      → ((p : ℕ) → IsUnmade k.rows.value g p → g' p ≡ g p) → IsMain k g seen rows draft → IsMain k g' seen rows draft
+      → ((p : ℕ) → IsUnmade k g p → g' p ≡ g p) → IsMain k g seen rows draft → IsMain k g' seen rows draft
   main_later seen rows draft same stay h = record {
     version = h.version ∙ sym same;
-    definitions = ap (definitions_at k.rows.value g') same
-        ∙ definitions_later k.rows.value g g' e (version_in g) (omega arith) ∙ h.definitions;
+    definitions = ap (definitions_at k g') same
+        ∙ definitions_later k g g' e (version_in g) (omega arith) ∙ h.definitions;
     unmade = λ p u. let before = unmade_before same p u in stay p before ∙ h.unmade p before;
   }
 
@@ -155,7 +158,7 @@ module _ (k : Key) (w : World) (r : Rule k w) (id : ℕ) (v : View) (at : get_el
   abbrev pub registered_world : World
   registered_world = record w { registry = g'; views = set w.views id registrant }
 
-  module _ (endures : Endures k.rows.value w.registry g') where
+  module _ (endures : Endures k w.registry g') where
     -- nothing that lasts has changed
     pub register_final : Final k r.start r.start r.lane_of r.lane_of w registered_world
     register_final = record {

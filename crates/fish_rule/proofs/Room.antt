@@ -15,13 +15,12 @@ module _ (k : Key) (w : World) (r : Rule k w) where
       let lines = r.key_fits.some_lines in
       omega arith
 
-  -- one number more has 28 bits
-  pub few_numbers : w.count + 1 < 268435456
-  few_numbers = (let s = few_slots in let few = r.key_fits.few_lines in let numbers = r.key_fits.few_numbers in
-      omega arith)
+  -- numbers have 28 bits
+  pub few_numbers : w.count < 268435456
+  few_numbers = (let s = few_slots in let numbers = r.key_fits.few_numbers in omega arith)
 
-  -- one region more has lines of 36 bits
-  pub few_lines : w.line + 18625 < 68719476736
+  -- lines have 36 bits
+  pub few_lines : w.line < 68719476736
   few_lines =
       let far = starts_near k w.count w.line r.start r.space.regions r.limit.first w.count r.limit.above r.limit.within
       (omega arith) in

@@ -43,7 +43,7 @@ module _ (k : Key) (w : World) (r : Rule k w) (id : ℕ) (v : View) (at : get_el
     counts = omega arith;
     lines = omega arith;
     settles = omega arith;
-    registered = endures_same k.rows.value w.registry;
+    registered = endures_same k w.registry;
     heads = λ b. omega arith;
     links = links_set k w r id v (raiser) at (λ a c h. h);
     rises = λ b p h. omega arith;
@@ -57,6 +57,7 @@ module _ (k : Key) (w : World) (r : Rule k w) (id : ℕ) (v : View) (at : get_el
   -- every number below is published, and no mark
   settling : Settled k w.count (max w.settled m) w.dir
   settling = record {
+    from = (let a = r.settling.from in omega arith);
     within = (let a = r.settling.within in let b = can.within in let c = (r.facts id v at).counted in omega arith);
     below = λ n above less. pick n above less (dec_lt n w.settled);
   }
@@ -155,6 +156,7 @@ settled_allowed given k same size id me about =
       record {
         told = record { view = refl; held = refl; stands = stands k _ id v' kept about (there vs id me.0 v' at) };
         rises = r.floors id me.0 at;
+        from = subst (λ (z : Key). z.number ≤ w.settled) (sym about) r.settling.from;
       },
     ))
 

@@ -20,7 +20,7 @@ use Rattle.fish_rule.proofs.Bounds.{ends_within, flight_behind, one_region}
 use Rattle.fish_rule.proofs.Chained.{chain_same, chain_spliced}
 use Rattle.fish_rule.proofs.Flights.{one_flight}
 use Rattle.fish_rule.proofs.Frames.{one_view}
-use Rattle.fish_rule.proofs.Heads.{low_less, low_rises, node_linked, place_within, previous_kept}
+use Rattle.fish_rule.proofs.Heads.{first_low, flight_from, low_less, low_rises, node_linked, place_within, previous_kept}
 use Rattle.fish_rule.proofs.Kept.{chained_later, facts_later}
 use Rattle.fish_rule.proofs.Linkings.{Leaves, link_final, link_from, link_here, link_kept, link_lasts, link_to}
 use Rattle.fish_rule.proofs.Spots.{IsFlier, Spot, lies_inside, one_chain, spot}
@@ -30,7 +30,7 @@ use Rattle.fish_rule.proofs.Worlds.{area-in, put-else, put-here, world-log}
 use Rattle.fish_rule.specs.Chains.{Chain, Chained, Linked}
 use Rattle.fish_rule.specs.Linking.{CanAim, CanSplice, HasNode, LowRises, after_previous, after_splice}
 use Rattle.fish_rule.specs.Linking.{own_place, spliced}
-use Rattle.fish_rule.specs.Parts.{Flies, InFlight, Whole}
+use Rattle.fish_rule.specs.Parts.{Flies, InFlight, Whole, first_head}
 use Rattle.fish_rule.specs.Facts.{Facts}
 use Rattle.fish_rule.specs.Regions.{IsRecord}
 use Rattle.fish_rule.specs.Rule.{Final, Rule}
@@ -246,13 +246,13 @@ module _ (k : Key) (w : World) (r : Rule k w) (id : ℕ) (v : View) (at : get_el
   here : Linked k w.dir log' splice_world.views b own_at
   here = link_here k w r id v at f can.aim b bucket w.head log' splicer.learned splicer.clock leaves
 
-  chains : (c : ℕ) → Chain (Linked k w.dir log' splice_world.views c) (w.head c) log'
+  chains : (c : ℕ) → Chain (Linked k w.dir log' splice_world.views c) (first_head k c) (w.head c) log'
   chains c = pick (ℕ_discrete c b)
     where
-      pick : Dec (c ≡ b) → Chain (Linked k w.dir log' splice_world.views c) (w.head c) log'
-      pick (yes e) = subst (λ (z : ℕ). Chain (Linked k w.dir log' splice_world.views z) (w.head z) log') (sym e)
+      pick : Dec (c ≡ b) → Chain (Linked k w.dir log' splice_world.views c) (first_head k c) (w.head c) log'
+      pick (yes e) = subst (λ (z : ℕ). Chain (Linked k w.dir log' splice_world.views z) (first_head k z) (w.head z) log') (sym e)
           (chain_spliced (Linked k w.dir w.log w.views b) (Linked k w.dir log' splice_world.views b)
-          (w.head b) own_at w.log log' (to b)
+          (first_head k b) (w.head b) own_at w.log log' (to b)
           (λ p l. ⊎_elim (λ (g : Linked k w.dir w.log w.views b p). inl g)
           (λ (t : (p ≡ own_at) × (b ≡ b)). inr t.0) (from b p l))
           here (r.chains b) q x higher can.below was can.less (put-here w.log q own_at)
@@ -260,7 +260,7 @@ module _ (k : Key) (w : World) (r : Rule k w) (id : ℕ) (v : View) (at : get_el
           ∙ aimed_there k w r id v at f can.aim x can.aimed)
           (λ p l ne. put-else w.log q own_at p ne))
       pick (no ne) = chain_same (Linked k w.dir w.log w.views c) (Linked k w.dir log' splice_world.views c)
-          (w.head c) w.log log' (to c)
+          (first_head k c) (w.head c) w.log log' (to c)
           (λ p l. ⊎_elim (λ (g : Linked k w.dir w.log w.views c p). g)
           (λ (t : (p ≡ own_at) × (c ≡ b)). absurd (ne t.1)) (from c p l))
           (λ p l. put-else w.log q own_at p (λ e. ne
@@ -315,7 +315,8 @@ about_splice v {k} f b q x y about = by (ℕ_discrete y x)
 -- the own place is no first word before
 previous_other : (k : Key) (w : World) (r : Rule k w) (id : ℕ) (v : View) (at : get_elem? w.views id ≡ some v)
     (f : Flight) (can : CanAim v f) (b q : ℕ) → Linked k w.dir w.log w.views b q → w.log q ≢ own_place f
-previous_other k w r id v at f can b q higher e = ⊎_elim (λ (z : w.log q ≡ 0). absurd (omega arith))
+previous_other k w r id v at f can b q higher e = ⊎_elim (λ (z : w.log q ≡ first_head k b).
+    let low_ = first_low k w r b in let behind = flight_from k w r id v at f can.flying in absurd (omega arith))
     (λ (l : Linked k w.dir w.log w.views b (w.log q)). own_unlinked k w r id v at f can b (w.log q) l e)
     ((r.chains b).next q higher).is
 
@@ -347,7 +348,7 @@ splice_allowed given k same size id me f b q x i new about can is own_is =
     subst (λ (z : View). Rule k (world k (set ws i y) (set vs id z))) (sym miss)
     (loaded_words k ws (set vs id (after_previous me.0 b q y)) i
     (subst (λ (z : ℕ). Rule k (record w { views = set vs id (after_previous me.0 b q z) })) (sym word)
-    (previous_kept k w r id me.0 at b q can.node)))) in
+    (previous_kept k w r id me.0 at b q can.node about)))) in
     let about' : v'.about ≡ k = about_splice me.0 f b q x y about in (
       v',
       rule,

@@ -133,7 +133,7 @@ module _ (k : Key) (w : World) (r : Rule k w) (id : ℕ) (v : View) (at : get_el
     counts = omega arith;
     lines = omega arith;
     settles = omega arith;
-    registered = endures_same k.rows.value w.registry;
+    registered = endures_same k w.registry;
     heads = λ b. omega arith;
     links = links_views k w r (cut ++ right ∷ []) links_cut;
     rises = λ b p h. omega arith;
@@ -156,6 +156,8 @@ module _ (k : Key) (w : World) (r : Rule k w) (id : ℕ) (v : View) (at : get_el
   left_stays : Stays k w.registry r.state v.lane (l ∷ v.out) v.epoch v.learned.version v.learned.words v.rows v.draft
   left_stays = (let h = r.registry.each id v at in record {
     tied = λ x has. h.tied x (left_has v.lane l v.out x can.main can.above has).0;
+    from = h.from;
+    since = h.since;
     reached = h.reached;
     read = h.read;
     main = h.main;
@@ -171,6 +173,8 @@ module _ (k : Key) (w : World) (r : Rule k w) (id : ℕ) (v : View) (at : get_el
       record {
         tied = λ x has. let e : x ≡ l = has_one l [] x can.above has in
             ((λ _. ap r.state e ∙ state), (λ ne. absurd (ne e)));
+        from = λ _. h.from (omega arith);
+        since = tt;
         reached = h.reached;
         read = h.read;
         main = λ e. absurd (omega arith);
@@ -231,7 +235,7 @@ module _ (k : Key) (w : World) (r : Rule k w) (id : ℕ) (v : View) (at : get_el
     counts = omega arith;
     lines = omega arith;
     settles = omega arith;
-    registered = endures_same k.rows.value w.registry;
+    registered = endures_same k w.registry;
     heads = λ b. omega arith;
     links = links_views k w r (cut ++ right ∷ []) links_cut;
     rises = λ b p h. omega arith;

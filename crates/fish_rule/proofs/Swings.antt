@@ -14,7 +14,7 @@ use Rattle.fish_rule.proofs.Aims.{becomes, own_room}
 use Rattle.fish_rule.proofs.Allowed.{allowed, loaded_words, stands, there}
 use Rattle.fish_rule.proofs.Chained.{chain_same, chain_swung}
 use Rattle.fish_rule.proofs.Flights.{one_flight}
-use Rattle.fish_rule.proofs.Heads.{head_kept, head_rises}
+use Rattle.fish_rule.proofs.Heads.{first_low, flight_from, head_kept, head_rises}
 use Rattle.fish_rule.proofs.Kept.{chained_later, facts_later}
 use Rattle.fish_rule.proofs.Linkings.{Leaves, link_final, link_from, link_here, link_kept, link_lasts, link_to}
 use Rattle.fish_rule.proofs.OwnWords.{flight_is, not_linked}
@@ -23,6 +23,7 @@ use Rattle.fish_rule.specs.Chains.{Chain, Chained, Linked}
 use Rattle.fish_rule.specs.Linking.{CanAim, CanSwing, TopRises, after_head, after_swing, own_place, swung}
 use Rattle.fish_rule.specs.Told.{ToldSwing, bucket_at}
 use Rattle.fish_rule.specs.Facts.{Facts}
+use Rattle.fish_rule.specs.Parts.{first_head}
 use Rattle.fish_rule.specs.Rule.{Final, Rule}
 use Rattle.fish_rule.specs.Steps.{ticked}
 use Rattle.fish_rule.specs.Table.{Ruled, Sat, Told}
@@ -89,24 +90,24 @@ module _ (k : Key) (w : World) (r : Rule k w) (id : ℕ) (v : View) (at : get_el
   here : Linked k w.dir w.log swing_world.views b own_at
   here = link_here k w r id v at f can.aim b bucket head' w.log swinger.learned swinger.clock leaves
 
-  chains : (c : ℕ) → Chain (Linked k w.dir w.log swing_world.views c) (head' c) w.log
+  chains : (c : ℕ) → Chain (Linked k w.dir w.log swing_world.views c) (first_head k c) (head' c) w.log
   chains c = pick (ℕ_discrete c b)
     where
-      pick : Dec (c ≡ b) → Chain (Linked k w.dir w.log swing_world.views c) (head' c) w.log
+      pick : Dec (c ≡ b) → Chain (Linked k w.dir w.log swing_world.views c) (first_head k c) (head' c) w.log
       pick (yes e) =
-          let old : Chain (Linked k w.dir w.log w.views b) h w.log =
-          subst (λ (z : ℕ). Chain (Linked k w.dir w.log w.views b) z w.log) top (r.chains b) in
-          let new : Chain (Linked k w.dir w.log swing_world.views b) own_at w.log =
+          let old : Chain (Linked k w.dir w.log w.views b) (first_head k b) h w.log =
+          subst (λ (z : ℕ). Chain (Linked k w.dir w.log w.views b) (first_head k b) z w.log) top (r.chains b) in
+          let new : Chain (Linked k w.dir w.log swing_world.views b) (first_head k b) own_at w.log =
           chain_swung (Linked k w.dir w.log w.views b)
-          (Linked k w.dir w.log swing_world.views b) h own_at w.log w.log (to b)
+          (Linked k w.dir w.log swing_world.views b) (first_head k b) h own_at w.log w.log (to b)
           (λ p l. ⊎_elim (λ (g : Linked k w.dir w.log w.views b p). inl g)
           (λ (t : (p ≡ own_at) × (b ≡ b)). inr t.0) (from b p l))
           here old can.less (aimed_there k w r id v at f can.aim h can.aimed) (λ p l. refl) in
-          subst (λ (z : ℕ × ℕ). Chain (Linked k w.dir w.log swing_world.views z.0) z.1 w.log)
+          subst (λ (z : ℕ × ℕ). Chain (Linked k w.dir w.log swing_world.views z.0) (first_head k z.0) z.1 w.log)
           (λ i. (sym e i, (sym (put-here w.head b own_at) ∙ ap head' (sym e)) i)) new
-      pick (no ne) = subst (λ (z : ℕ). Chain (Linked k w.dir w.log swing_world.views c) z w.log)
+      pick (no ne) = subst (λ (z : ℕ). Chain (Linked k w.dir w.log swing_world.views c) (first_head k c) z w.log)
           (sym (put-else w.head b own_at c ne))
-          (chain_same (Linked k w.dir w.log w.views c) (Linked k w.dir w.log swing_world.views c)
+          (chain_same (Linked k w.dir w.log w.views c) (Linked k w.dir w.log swing_world.views c) (first_head k c)
           (w.head c) w.log w.log (to c)
           (λ p l. ⊎_elim (λ (g : Linked k w.dir w.log w.views c p). g)
           (λ (t : (p ≡ own_at) × (c ≡ b)). absurd (ne t.1)) (from c p l)) (λ p l. refl) (r.chains c))
@@ -161,7 +162,8 @@ about_swing v {k} f b h x about = by (ℕ_discrete x h)
 -- the own place is no head before
 pub head_other : (k : Key) (w : World) (r : Rule k w) (id : ℕ) (v : View) (at : get_elem? w.views id ≡ some v)
     (f : Flight) (can : CanAim v f) (b : ℕ) → w.head b ≢ own_place f
-head_other k w r id v at f can b e = ⊎_elim (λ (z : w.head b ≡ 0). absurd (omega arith))
+head_other k w r id v at f can b e = ⊎_elim (λ (z : w.head b ≡ first_head k b).
+    let low_ = first_low k w r b in let behind = flight_from k w r id v at f can.flying in absurd (omega arith))
     (λ (l : Linked k w.dir w.log w.views b (w.head b)). own_unlinked k w r id v at f can b (w.head b) l e)
     (r.chains b).some
 
@@ -193,7 +195,7 @@ swing_allowed given k same size id me f b h i new about can is own =
     subst (λ (z : View). Rule k (world k (set ws i x) (set vs id z))) (sym miss)
     (loaded_words k ws (set vs id (after_head me.0 b x)) i
     (subst (λ (z : ℕ). Rule k (record w { views = set vs id (after_head me.0 b z) })) (sym word)
-    (head_kept k w r id me.0 at b)))) in
+    (head_kept k w r id me.0 at b about)))) in
     let about' : v'.about ≡ k = about_swing me.0 f b h x about in (
       v',
       rule,

@@ -53,17 +53,18 @@ pub record Linked (k : Key) (dir log : ℕ → ℕ) (views : List View) (b p : �
   pub is : IsKeyEntry k.buckets (body log line) b p line entry
   pub shows : Shows k dir views line entry
 
--- x is the next place of the chain below a bound, or 0 where no more is there
-pub record IsNext (linked : ℕ → Type 0) (bound x : ℕ) : Type 0 where
-  pub is : (x ≡ 0) ⊎ linked x
+-- x is the next place of the chain below a bound, or the start's head where no more of the table is there
+pub record IsNext (linked : ℕ → Type 0) (first bound x : ℕ) : Type 0 where
+  pub is : (x ≡ first) ⊎ linked x
   pub less : x < bound
   pub most : (q : ℕ) → linked q → q < bound → q ≤ x
 
--- the head is the greatest linked place, and the first word of each linked place's entry is the next lower one
-pub record Chain (linked : ℕ → Type 0) (head : ℕ) (log : ℕ → ℕ) : Type 0 where
-  pub some : (head ≡ 0) ⊎ linked head
+-- the head is the greatest linked place, and the first word of each linked place's entry is the next lower one;
+-- in place of one that is not there stands the head that the bucket had at the start
+pub record Chain (linked : ℕ → Type 0) (first head : ℕ) (log : ℕ → ℕ) : Type 0 where
+  pub some : (head ≡ first) ⊎ linked head
   pub highest : (p : ℕ) → linked p → p ≤ head
-  pub next : (p : ℕ) → linked p → IsNext linked p (log p)
+  pub next : (p : ℕ) → linked p → IsNext linked first p (log p)
 
 -- ---- what a pass has learned of chains
 

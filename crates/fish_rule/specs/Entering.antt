@@ -42,8 +42,8 @@ after_retire v = record v { epoch = Out; clock = ticked v.clock }
 
 -- by what the pass knows, the word at the index lasts
 abbrev pub CanLoadRegistry : View → ℕ → Type 0
-CanLoadRegistry v p = (p ≡ 3) ⊎ (((u : ℕ) × (1 ≤ u) × (u ≤ v.learned.version) × (p ≡ op_at u))
-    ⊎ ((id : ℕ) × (i : ℕ) × KnowsRow v.about.rows.value v.learned id × (2 ≤ i) × (i < 39) × (p ≡ row_at id i)))
+CanLoadRegistry v p = (p ≡ 3) ⊎ (((u : ℕ) × (v.about.version < u) × (u ≤ v.learned.version) × (p ≡ op_at u))
+    ⊎ ((id : ℕ) × (i : ℕ) × KnowsRow v.about v.learned id × (2 ≤ i) × (i < 39) × (p ≡ row_at id i)))
 
 -- the word is known
 abbrev pub after_registry : View → ℕ → ℕ → View

@@ -34,6 +34,12 @@ IsAtMost v Out = ⊤
 IsAtMost v (Announced u) = u ≤ v
 IsAtMost v (Confirmed u) = u ≤ v
 
+-- a version at which a pass is confirmed is at or past this one
+abbrev pub IsSince : ℕ → Epoch → Type 0
+IsSince s Out = ⊤
+IsSince s (Announced u) = ⊤
+IsSince s (Confirmed u) = s ≤ u
+
 -- the epoch once the version was found: an announced one is confirmed where it is that very version
 abbrev pub confirmed : Epoch → ℕ → Epoch
 confirmed Out found = Out
@@ -47,14 +53,17 @@ pub record Epochs (g : ℕ → ℕ) (state : ℕ → Epoch) : Type 0 where
 
 -- ---- versions
 
--- the versions of all records are at most the registry's; what each version has is a proper listing, and each
--- operation is one that may be made; the rows of the start stand in the words
+-- the version is at or past the start's, and so are those of all records, which are at most the registry's; what
+-- each version has is a proper listing, and each operation is one that may be made; the rows of the start stand in
+-- the words
 pub record Versions (k : Key) (count : ℕ) (g : ℕ → ℕ) (version_of : ℕ → ℕ) : Type 0 where
+  pub from : k.version ≤ version_in g
   pub few : version_in g ≤ 512
+  pub since : (n : ℕ) → k.number ≤ n → n < count → k.version ≤ version_of n
   pub upto : (n : ℕ) → k.number ≤ n → n < count → version_of n ≤ version_in g
-  pub listings : (v : ℕ) → v ≤ version_in g → IsListing (definitions_at k.rows.value g v)
-  pub operations : (v : ℕ) → v < version_in g
-      → IsOperation (row_in g (length (definitions_at k.rows.value g v))) (definitions_at k.rows.value g v) (g (op_at (suc v)))
+  pub listings : (v : ℕ) → v ≤ version_in g → IsListing (definitions_at k g v)
+  pub operations : (v : ℕ) → k.version ≤ v → v < version_in g
+      → IsOperation (row_in g (length (definitions_at k g v))) (definitions_at k g v) (g (op_at (suc v)))
   pub opened : g 3 ≡ length k.rows.value
   pub rows : (id : ℕ) (row : CatRow) → slice_get k.rows.value id ≡ Some row
       → IsWritable row × ((i : ℕ) → 2 ≤ i → i < 39 → g (row_at id i) ≡ row_word row i)
@@ -62,24 +71,26 @@ pub record Versions (k : Key) (count : ℕ) (g : ℕ → ℕ) (version_of : ℕ 
 -- ---- what holds of one pass
 
 -- no operation and no row has been made of the word at the index
-abbrev pub IsUnmade : List CatRow → (ℕ → ℕ) → ℕ → Type 0
-IsUnmade rows g p = ((v : ℕ) × (version_in g < v) × (v ≤ 512) × (p ≡ op_at v))
-    ⊎ ((id : ℕ) × (i : ℕ) × (length (definitions_at rows g (version_in g)) ≤ id) × (id < 256) × (i < 39) × (p ≡ row_at id i))
+abbrev pub IsUnmade : Key → (ℕ → ℕ) → ℕ → Type 0
+IsUnmade k g p = ((v : ℕ) × (version_in g < v) × (v ≤ 512) × (p ≡ op_at v))
+    ⊎ ((id : ℕ) × (i : ℕ) × (length (definitions_at k g (version_in g)) ≤ id) × (id < 256) × (i < 39) × (p ≡ row_at id i))
 
 -- the control pass knows the registry as it is: its version, its definitions, and all words of which nothing
 -- is made yet
 pub record IsMain (k : Key) (g : ℕ → ℕ) (seen : ℕ) (rows : List Listed) (draft : List RegistryWord) : Type 0 where
   pub version : seen ≡ version_in g
-  pub definitions : definitions_at k.rows.value g (version_in g) ≡ rows
-  pub unmade : (p : ℕ) → IsUnmade k.rows.value g p → g p ≡ drafted draft p
+  pub definitions : definitions_at k g (version_in g) ≡ rows
+  pub unmade : (p : ℕ) → IsUnmade k g p → g p ≡ drafted draft p
 
 -- a pass's lane is as far entered as the pass is, and every other lane that it has is out; what it knows of the
--- registry is so
+-- registry is so, and no version that it has seen or is confirmed at is before the start's
 pub record Stays (k : Key) (g : ℕ → ℕ) (state : ℕ → Epoch) (lane : ℕ) (out : List ℕ) (epoch : Epoch) (seen : ℕ)
     (words : List RegistryWord) (rows : List Listed) (draft : List RegistryWord) : Type 0 where
   pub tied : (l : ℕ) → Has lane out l → (l ≡ lane → state l ≡ epoch) × (l ≢ lane → state l ≡ Out)
+  pub from : 1 ≤ lane → k.version ≤ seen
+  pub since : IsSince k.version epoch
   pub reached : seen ≤ version_in g
-  pub read : AllOf (IsRegistered k.rows.value g) words
+  pub read : AllOf (IsRegistered k g) words
   pub main : lane ≡ 1 → IsMain k g seen rows draft
 
 -- a record in flight is of the version at which its pass is entered; once an entry of it is linked, it has the
@@ -87,7 +98,7 @@ pub record Stays (k : Key) (g : ℕ → ℕ) (state : ℕ → Epoch) (lane : ℕ
 pub record IsCarried (k : Key) (g : ℕ → ℕ) (version_of : ℕ → ℕ) (lane : ℕ) (epoch : Epoch) (f : Flight) : Type 0 where
   pub entered : epoch ≡ Confirmed (version_of f.number)
   pub keyed : 0 < f.linked
-      → IsKeyed (AreActiveAt k.rows.value g) (version_of f.number) lane f.number f.lines (body_of f.words)
+      → IsKeyed (AreActiveAt k g) (version_of f.number) lane f.number f.lines (body_of f.words)
 
 -- the same where there is one
 abbrev pub Carries : Key → (ℕ → ℕ) → (ℕ → ℕ) → ℕ → Epoch → Option Flight → Type 0
@@ -106,4 +117,4 @@ pub record Registry (k : Key) (count : ℕ) (g : ℕ → ℕ) (state : ℕ → E
 -- each published record has exactly the keys that the definitions active at its version give for it
 pub record Keyed (k : Key) (count : ℕ) (g dir log start lane_of version_of : ℕ → ℕ) : Type 0 where
   pub each : (n : ℕ) → k.number ≤ n → n < count → high (dir n) ≡ code Stored
-      → IsKeyed (AreActiveAt k.rows.value g) (version_of n) (lane_of n) n (start (suc n) - start n) (body log (start n))
+      → IsKeyed (AreActiveAt k g) (version_of n) (lane_of n) n (start (suc n) - start n) (body log (start n))

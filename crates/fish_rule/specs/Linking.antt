@@ -1,8 +1,8 @@
 -- How a pass links the key entries of its record into their chains: what it knows after each of
 -- these steps, and when it may make it.
-use Rattle.std.specs.Prelude.{ℕ, ◌≡◌, ◌+◌, ◌*◌, ◌<◌, ◌≤◌, zero, suc, List, ◌∷◌, length, slice_index}
+use Rattle.std.specs.Prelude.{ℕ, ◌≡◌, ◌+◌, ◌*◌, ◌<◌, ◌≤◌, suc, List, ◌∷◌, length, slice_index}
 use Rattle.std.specs.Prelude.{slice_set, Some}
-use Rattle.std.proofs.Math.Decide.{ℕ_discrete}
+use Rattle.std.proofs.Math.Decide.{ℕ_discrete, dec_lt}
 use Rattle.fish_layout.specs.Bucket.{bucket_of}
 use Rattle.fish_layout.specs.Cleared.{body_of, choose, entry_at}
 use Rattle.fish_layout.specs.Header.{keys_of}
@@ -14,6 +14,7 @@ use Rattle.fish_rule.specs.declared.view.Epoch.TheVariants.{Confirmed}
 use Rattle.fish_rule.specs.declared.view.Flight.{Flight}
 use Rattle.fish_rule.specs.declared.view.Gap.{Gap}
 use Rattle.fish_rule.specs.declared.view.Kind.TheVariants.{Stored}
+use Rattle.fish_rule.specs.declared.view.Key.{Key}
 use Rattle.fish_rule.specs.declared.view.Known.{Known}
 use Rattle.fish_rule.specs.declared.view.Learned.{Learned}
 use Rattle.fish_rule.specs.declared.view.Node.{Node}
@@ -26,26 +27,25 @@ pub record CanLoadHead (v : View) (b : ℕ) : Type 0 where
   pub live : 1 ≤ v.lane
   pub below : b < v.about.buckets
 
--- a place that isn't 0 is that of a linked entry of the bucket
-abbrev pub with_node : ℕ → ℕ → List Node → List Node
-with_node b zero nodes = nodes
-with_node b (suc p) nodes = record { bucket = b; place = suc p } ∷ nodes
+-- a place behind the base's is that of a linked entry of the bucket
+abbrev pub with_node : Key → ℕ → ℕ → List Node → List Node
+with_node k b x nodes = choose (dec_lt (k.line * 4) x) (record { bucket = b; place = x } ∷ nodes) nodes
 
 -- below the settled number no entry of the bucket lies between these places
 abbrev pub gap : ℕ → ℕ → ℕ → Learned → Gap
 gap b above below l = record { bucket = b; end = l.settled; above = above; below = below }
 
--- what a head that was found tells, in a log with this end
-abbrev pub learned_head : ℕ → ℕ → ℕ → Learned → Learned
-learned_head end b x l = record l {
-  nodes = with_node b x l.nodes;
+-- what a head that was found tells
+abbrev pub learned_head : Key → ℕ → ℕ → Learned → Learned
+learned_head k b x l = record l {
+  nodes = with_node k b x l.nodes;
   tops = record { bucket = b; place = x } ∷ l.tops;
-  gaps = gap b (end * 4) x l ∷ l.gaps;
+  gaps = gap b (k.end * 4) x l ∷ l.gaps;
 }
 
 -- the head is seen
 abbrev pub after_head : View → ℕ → ℕ → View
-after_head v b x = record v { learned = learned_head v.about.end b x v.learned; clock = loaded v.clock }
+after_head v b x = record v { learned = learned_head v.about b x v.learned; clock = loaded v.clock }
 
 -- whatever place the view knew the bucket's head to have reached, x is at or above it
 abbrev pub TopRises : View → ℕ → ℕ → Type 0
@@ -58,16 +58,16 @@ abbrev pub HasNode : View → ℕ → ℕ → Type 0
 HasNode v b p = Among (record { bucket = b; place = p }) v.learned.nodes
 
 -- what a first word that was found tells
-abbrev pub learned_previous : ℕ → ℕ → ℕ → Learned → Learned
-learned_previous b p x l = record l {
-  nodes = with_node b x l.nodes;
+abbrev pub learned_previous : Key → ℕ → ℕ → ℕ → Learned → Learned
+learned_previous k b p x l = record l {
+  nodes = with_node k b x l.nodes;
   lows = record { place = p; value = x } ∷ l.lows;
   gaps = gap b p x l ∷ l.gaps;
 }
 
 -- the first word is seen
 abbrev pub after_previous : View → ℕ → ℕ → ℕ → View
-after_previous v b p x = record v { learned = learned_previous b p x v.learned; clock = loaded v.clock }
+after_previous v b p x = record v { learned = learned_previous v.about b p x v.learned; clock = loaded v.clock }
 
 -- whatever value the view knew the first word at the place to have reached, x is at or above it
 abbrev pub LowRises : View → ℕ → ℕ → Type 0
@@ -92,7 +92,7 @@ own_place f = f.line * 4 + entry_at f.linked
 pub record HasBody (v : View) (f : Flight) : Type 0 where
   pub version : ℕ
   pub entered : v.epoch ≡ Confirmed version
-  pub keyed : IsKeyed (KnowsActive v.about.rows.value v.learned) version v.lane f.number f.lines (body_of f.words)
+  pub keyed : IsKeyed (KnowsActive v.about v.learned) version v.lane f.number f.lines (body_of f.words)
 
 -- f is in flight and a whole record, and an entry of it is still to be linked
 pub record CanAim (v : View) (f : Flight) : Type 0 where

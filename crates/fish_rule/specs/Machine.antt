@@ -124,7 +124,7 @@ Runs k w (e ∷ es) u = (m : World) × Goes k w e m × Runs k m es u
 
 -- from an empty log on, the rule holds after every list of steps
 abbrev pub EverySchedule : Type 0
-EverySchedule = (k : Key) (g : ℕ → ℕ) (events : List Event) (u : World) → Fits k → IsOpening k.rows.value g
+EverySchedule = (k : Key) (g : ℕ → ℕ) (events : List Event) (u : World) → Fits k → IsOpening k.version k.rows.value g
     → Runs k (empty_world k g) events u → Rule k u
 
 -- and each step keeps for good what lasts

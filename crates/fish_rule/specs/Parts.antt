@@ -17,14 +17,25 @@ use Rattle.fish_rule.specs.declared.view.View.{View}
 
 -- ---- the key
 
--- a table has at most 512 pages, and numbers below 2^28 and lines below 2^35
+-- no entry of a table that begins at the line is at the place: it is 0, or that of an older record's entry
+abbrev pub IsOlder : ℕ → ℕ → Type 0
+IsOlder line p = p ≢ 0 → p < line * 4
+
+-- the head that a bucket has at the start
+abbrev pub first_head : Key → ℕ → ℕ
+first_head k b = slice_index k.heads.value b
+
+-- a table has at most 512 pages; even 16 claims past its end leave numbers below 2^28 and lines below 2^36; each
+-- bucket's head at the start is that of older records
 pub record Fits (k : Key) : Type 0 where
   pub some_lines : k.line ≤ k.end
   pub few_lines : k.end ≤ k.line + 16777216
-  pub few_numbers : k.number ≤ 251000000
-  pub low_end : k.end ≤ 34359738368
+  pub few_numbers : k.number + (k.end - k.line) ≤ 268435439
+  pub low_end : k.end ≤ 68719176736
   pub some_buckets : 0 < k.buckets
   pub few_buckets : k.buckets ≤ 65536
+  pub all_heads : length k.heads.value ≡ k.buckets
+  pub older_heads : (b : ℕ) → IsOlder k.line (first_head k b)
 
 -- ---- seats
 
@@ -130,7 +141,8 @@ pub record IsEntryWord (word : ℕ) : Type 0 where
   pub published : word ≢ 0
   pub unmarked : high word ≢ code Mark
 
--- every number below the settled one is published, and no mark
+-- the settled number is at or past the base's; every number of the table below it is published, and no mark
 pub record Settled (k : Key) (count settled : ℕ) (dir : ℕ → ℕ) : Type 0 where
+  pub from : k.number ≤ settled
   pub within : settled ≤ count
   pub below : (n : ℕ) → k.number ≤ n → n < settled → IsEntryWord (dir n)

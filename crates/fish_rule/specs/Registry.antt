@@ -4,9 +4,9 @@ use Rattle.std.proofs.Math.Decide.{ℕ_discrete, dec_lt}
 use Rattle.fish_catalog.specs.Listing.{IsNew, IsOnAt, active_texts, ended_at, listed_in, listed_of}
 use Rattle.fish_catalog.specs.Words.{name_in, text_in}
 use Rattle.fish_catalog.specs.declared.listed.Listed.{Listed}
-use Rattle.fish_catalog.specs.declared.row.CatRow.{CatRow}
 use Rattle.fish_layout.specs.Cleared.{choose}
 use Rattle.fish_rule.specs.Views.{AllOf}
+use Rattle.fish_rule.specs.declared.view.Key.{Key}
 use Rattle.fish_rule.specs.declared.view.Learned.{Learned}
 use Rattle.fish_rule.specs.declared.view.RegistryWord.{RegistryWord}
 
@@ -38,10 +38,12 @@ row_in g id i = g (row_at id i)
 abbrev pub made : (ℕ → ℕ) → ℕ → List Listed → List Listed
 made g x ls = choose (dec_lt x 512) (ls ++ listed_in (row_in g (length ls)) (length ls) true ∷ []) (ended_at (x % 256) ls)
 
--- the definitions at a version: those of the start, changed by the operations that made the versions from 1 on
-abbrev pub definitions_at : List CatRow → (ℕ → ℕ) → ℕ → List Listed
-definitions_at rows g zero = map listed_of rows
-definitions_at rows g (suc v) = made g (g (op_at (suc v))) (definitions_at rows g v)
+-- the definitions at a version: those of the start, changed by the operations that made the versions behind the
+-- start's
+abbrev pub definitions_at : Key → (ℕ → ℕ) → ℕ → List Listed
+definitions_at k g zero = map listed_of k.rows.value
+definitions_at k g (suc v) = choose (dec_lt v k.version) (definitions_at k g v)
+    (made g (g (op_at (suc v))) (definitions_at k g v))
 
 -- the operation x registers the definition that the words of the next row spell, or it ends an active one
 abbrev pub IsOperation : (ℕ → ℕ) → List Listed → ℕ → Type 0
@@ -49,34 +51,34 @@ IsOperation f ls x = ((x ≡ 256 + length ls) × IsNew ls (name_in f) (text_in f
     ⊎ ((id : ℕ) × (x ≡ 512 + id) × (id < 256) × IsOnAt ls id)
 
 -- these are the active definitions at a version that the registry has reached
-abbrev pub AreActiveAt : List CatRow → (ℕ → ℕ) → ℕ → List (ℕ × List ℕ) → Type 0
-AreActiveAt rows g v ts = (v ≤ version_in g) × (active_texts (definitions_at rows g v) ≡ ts)
+abbrev pub AreActiveAt : Key → (ℕ → ℕ) → ℕ → List (ℕ × List ℕ) → Type 0
+AreActiveAt k g v ts = (v ≤ version_in g) × (active_texts (definitions_at k g v) ≡ ts)
 
 -- ---- words that last
 
 -- the index is that of an operation that made a version which the registry has reached
-abbrev pub IsOpIndex : (ℕ → ℕ) → ℕ → Type 0
-IsOpIndex g p = (v : ℕ) × (1 ≤ v) × (v ≤ version_in g) × (p ≡ op_at v)
+abbrev pub IsOpIndex : Key → (ℕ → ℕ) → ℕ → Type 0
+IsOpIndex k g p = (v : ℕ) × (k.version < v) × (v ≤ version_in g) × (p ≡ op_at v)
 
 -- the index is that of a word of a row, behind its boundaries
-abbrev pub IsRowIndex : List CatRow → (ℕ → ℕ) → ℕ → Type 0
-IsRowIndex rows g p = (id : ℕ) × (i : ℕ) × (id < length (definitions_at rows g (version_in g))) × (2 ≤ i) × (i < 39)
+abbrev pub IsRowIndex : Key → (ℕ → ℕ) → ℕ → Type 0
+IsRowIndex k g p = (id : ℕ) × (i : ℕ) × (id < length (definitions_at k g (version_in g))) × (2 ≤ i) × (i < 39)
     × (p ≡ row_at id i)
 
 -- the word at the index lasts: the count of opened rows, an operation, or a word of a row
-abbrev pub IsLasting : List CatRow → (ℕ → ℕ) → ℕ → Type 0
-IsLasting rows g p = (p ≡ 3) ⊎ (IsOpIndex g p ⊎ IsRowIndex rows g p)
+abbrev pub IsLasting : Key → (ℕ → ℕ) → ℕ → Type 0
+IsLasting k g p = (p ≡ 3) ⊎ (IsOpIndex k g p ⊎ IsRowIndex k g p)
 
 -- the version only rises, and words that last never change
-pub record Endures (rows : List CatRow) (g g' : ℕ → ℕ) : Type 0 where
+pub record Endures (k : Key) (g g' : ℕ → ℕ) : Type 0 where
   pub rises : version_in g ≤ version_in g'
-  pub same : (p : ℕ) → IsLasting rows g p → g' p ≡ g p
+  pub same : (p : ℕ) → IsLasting k g p → g' p ≡ g p
 
 -- ---- what a pass knows of it
 
 -- a word that was read is one that lasts
-pub record IsRegistered (rows : List CatRow) (g : ℕ → ℕ) (x : RegistryWord) : Type 0 where
-  pub lasts : IsLasting rows g x.index
+pub record IsRegistered (k : Key) (g : ℕ → ℕ) (x : RegistryWord) : Type 0 where
+  pub lasts : IsLasting k g x.index
   pub word : g x.index ≡ x.value
 
 -- the registry has these words
@@ -84,19 +86,19 @@ abbrev pub HasRead : (ℕ → ℕ) → List RegistryWord → Type 0
 HasRead g words = AllOf (λ x. g x.index ≡ x.value) words
 
 -- by the words read, the definitions at a version are these, and the registry has reached it
-pub record KnowsDefinitions (rows : List CatRow) (l : Learned) (v : ℕ) (ls : List Listed) : Type 0 where
+pub record KnowsDefinitions (k : Key) (l : Learned) (v : ℕ) (ls : List Listed) : Type 0 where
   pub reached : v ≤ l.version
-  pub are : (g : ℕ → ℕ) → HasRead g l.words → definitions_at rows g v ≡ ls
+  pub are : (g : ℕ → ℕ) → HasRead g l.words → definitions_at k g v ≡ ls
 
 -- by the words read, the active definitions at a version are these
-abbrev pub KnowsActive : List CatRow → Learned → ℕ → List (ℕ × List ℕ) → Type 0
-KnowsActive rows l v ts = (ls : List Listed) × KnowsDefinitions rows l v ls × (active_texts ls ≡ ts)
+abbrev pub KnowsActive : Key → Learned → ℕ → List (ℕ × List ℕ) → Type 0
+KnowsActive k l v ts = (ls : List Listed) × KnowsDefinitions k l v ls × (active_texts ls ≡ ts)
 
 -- by the words read, a row with this id is there
-pub record KnowsRow (rows : List CatRow) (l : Learned) (id : ℕ) : Type 0 where
+pub record KnowsRow (k : Key) (l : Learned) (id : ℕ) : Type 0 where
   pub version : ℕ
   pub reached : version ≤ l.version
-  pub there : (g : ℕ → ℕ) → HasRead g l.words → id < length (definitions_at rows g version)
+  pub there : (g : ℕ → ℕ) → HasRead g l.words → id < length (definitions_at k g version)
 
 -- the word that was stored last at an index, or 0
 abbrev pub drafted : List RegistryWord → ℕ → ℕ

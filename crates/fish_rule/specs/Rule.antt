@@ -2,7 +2,7 @@
 use Rattle.std.specs.Prelude.{ℕ, ◌≡◌, ◌≢◌, ◌*◌, ◌<◌, ◌≤◌, []}
 use Rattle.fish_rule.specs.Chains.{Chain, Chained, Linked}
 use Rattle.fish_rule.specs.Epochs.{Keyed, Registry}
-use Rattle.fish_rule.specs.Parts.{Fits, Limit, Rests, Seats, Settled, Space}
+use Rattle.fish_rule.specs.Parts.{Fits, first_head, Limit, Rests, Seats, Settled, Space}
 use Rattle.fish_rule.specs.Facts.{Facts, Owns, ShutOk}
 use Rattle.fish_rule.specs.Registry.{Endures}
 use Rattle.fish_rule.specs.Views.{Each}
@@ -26,7 +26,7 @@ pub record Rule (k : Key) (w : World) : Type 0 where
   pub limit : Limit k w.count w.views start quota
   pub settling : Settled k w.count w.settled w.dir
   pub floors : Each (λ v. v.learned.settled ≤ w.settled) w.views
-  pub chains : (b : ℕ) → Chain (Linked k w.dir w.log w.views b) (w.head b) w.log
+  pub chains : (b : ℕ) → Chain (Linked k w.dir w.log w.views b) (first_head k b) (w.head b) w.log
   pub chained : Each (λ v. Chained k w.dir w.log w.views w.head v.learned) w.views
   pub own : Each (λ v. Owns k w.count w.dir lane_of v.lane v.out v.own) w.views
   pub facts : Each (λ v. Facts k w.count w.dir w.log start v.learned) w.views
@@ -42,7 +42,7 @@ pub record Final (k : Key) (start start' lane_of lane_of' : ℕ → ℕ) (w w' :
   pub counts : w.count ≤ w'.count
   pub lines : w.line ≤ w'.line
   pub settles : w.settled ≤ w'.settled
-  pub registered : Endures k.rows.value w.registry w'.registry
+  pub registered : Endures k w.registry w'.registry
   pub heads : (b : ℕ) → w.head b ≤ w'.head b
   pub links : (b p : ℕ) → Linked k w.dir w.log w.views b p → Linked k w'.dir w'.log w'.views b p
   pub rises : (b p : ℕ) → Linked k w.dir w.log w.views b p → w.log p ≤ w'.log p

@@ -124,7 +124,15 @@ unlearned = record {
 -- the view of a pass that was joined
 abbrev pub spent : View
 spent = record {
-  about = record { number = 0; line = 0; end = 0; buckets = 0; rows = record { marker = record {}; value = [] } };
+  about = record {
+    number = 0;
+    line = 0;
+    end = 0;
+    buckets = 0;
+    version = 0;
+    heads = record { marker = record {}; value = [] };
+    rows = record { marker = record {}; value = [] };
+  };
   lane = 0;
   out = [];
   shut = None;

@@ -1,19 +1,22 @@
 -- The shape of a log, and the words of one that holds no record.
-use Rattle.std.specs.Prelude.{ℕ, ◌≡◌, ◌+◌, ◌*◌, ◌^◌, ◌<◌, ◌≤◌, List, [], ◌∷◌, Some, length, slice_get, slice_index}
+use Rattle.std.specs.Prelude.{ℕ, ◌≡◌, ◌+◌, ◌-◌, ◌*◌, ◌^◌, ◌<◌, ◌≤◌, List, [], ◌∷◌, Some, length, min, slice_get}
+use Rattle.std.specs.Prelude.{slice_index}
 use Rattle.fish_catalog.specs.Rows.{IsCatalog}
 use Rattle.fish_catalog.specs.Words.{IsWritable, row_word}
 use Rattle.fish_catalog.specs.declared.row.CatRow.{CatRow}
 use Rattle.fish_rule.specs.Registry.{epoch_at, op_at, row_at}
+use Rattle.fish_rule.specs.Parts.{IsOlder, first_head}
 use Rattle.fish_rule.specs.Table.{first_view}
-use Rattle.fish_rule.specs.World.{World, area, heads_at, registry_size, total}
+use Rattle.fish_rule.specs.World.{World, area, dir_at, heads_at, registry_size, total}
 use Rattle.fish_rule.specs.declared.seats.Start.{Start}
-use Rattle.fish_rule.specs.declared.seats.Start.TheVariants.{Empty}
 use Rattle.fish_rule.specs.declared.table.Shape.{Shape}
 use Rattle.fish_rule.specs.declared.view.Key.{Key}
 
--- the words of the registry are those of these rows of a catalogue at version 0, with every lane out
-pub record IsOpening (rows : List CatRow) (g : ℕ → ℕ) : Type 0 where
-  pub version : g 2 ≡ 0
+-- the words of the registry are those of these rows of a catalogue at a version, with every lane out and no
+-- operation made
+pub record IsOpening (s : ℕ) (rows : List CatRow) (g : ℕ → ℕ) : Type 0 where
+  pub version : g 2 ≡ s
+  pub few : s ≤ 512
   pub opened : g 3 ≡ length rows
   pub out : (l : ℕ) → 1 ≤ l → l ≤ 16 → g (epoch_at l) ≡ 0
   pub operations : (v : ℕ) → 1 ≤ v → v ≤ 512 → g (op_at v) ≡ 0
@@ -22,13 +25,15 @@ pub record IsOpening (rows : List CatRow) (g : ℕ → ℕ) : Type 0 where
       → IsWritable row × ((i : ℕ) → i < 39 → g (row_at id i) ≡ row_word row i)
   pub rest : (id i : ℕ) → length rows ≤ id → id < 256 → i < 39 → g (row_at id i) ≡ 0
 
--- the tail is at the key's number and line, the registry is that of the key's rows, and every other word is 0
+-- the tail is at the key's number and line, all before is settled, the registry is that of the key's rows and
+-- version, the heads are the key's, and every other word is 0
 pub record IsEmpty (k : Key) (ws : List ℕ) : Type 0 where
   pub wide : length ws ≡ total k
   pub tail : slice_index ws 0 ≡ k.number * 68719476736 + k.line
-  pub settled : slice_index ws 1 ≡ 0
-  pub registry : IsOpening k.rows.value (area ws 2 2 registry_size)
-  pub zeros : (i : ℕ) → heads_at ≤ i → slice_index ws i ≡ 0
+  pub settled : slice_index ws 1 ≡ k.number
+  pub registry : IsOpening k.version k.rows.value (area ws 2 2 registry_size)
+  pub heads : (b : ℕ) → b < k.buckets → slice_index ws (heads_at + b) ≡ first_head k b
+  pub zeros : (i : ℕ) → dir_at k ≤ i → slice_index ws i ≡ 0
 
 -- 1 to 512 pages, and 4 to 16 bits
 pub record IsShape (s : Shape) : Type 0 where
@@ -37,26 +42,43 @@ pub record IsShape (s : Shape) : Type 0 where
   pub some_bits : 4 ≤ s.bucket_bits
   pub few_bits : s.bucket_bits ≤ 16
 
--- the definitions that a log begins with
-abbrev pub rows_of : Start → List CatRow
-rows_of (Empty catalog) = catalog
+-- a table of this shape may begin so: there is one head for each bucket, of older records, and versions are left
+pub record CanOpen (s : Shape) (start : Start) : Type 0 where
+  pub number : start.base.number ≤ 268435439
+  pub line : start.base.line ≤ 68719176736
+  pub version : start.version ≤ 512
+  pub heads : length start.heads ≡ 2 ^ s.bucket_bits
+  pub older : (b : ℕ) → IsOlder start.base.line (slice_index start.heads b)
 
--- the key of an empty log of this shape, with these definitions
-pub record IsFirstKey (s : Shape) (catalog : List CatRow) (k : Key) : Type 0 where
-  pub number : k.number ≡ 0
-  pub line : k.line ≡ 0
-  pub end : k.end ≡ s.pages * 32768
+-- there is no older record, and the definitions are these
+pub record IsFirst (catalog : List CatRow) (start : Start) : Type 0 where
+  pub number : start.base.number ≡ 0
+  pub line : start.base.line ≡ 0
+  pub version : start.version ≡ 0
+  pub rows : start.catalog ≡ catalog
+
+-- how many lines a table has: those of its pages, unless numbers or lines would end before
+abbrev pub table_lines : ℕ → ℕ → ℕ → ℕ
+table_lines pages number line = min (min (pages * 32768) (268435439 - number)) (68719176736 - line)
+
+-- the key of a table of this shape that begins so
+pub record IsFirstKey (s : Shape) (start : Start) (k : Key) : Type 0 where
+  pub number : k.number ≡ start.base.number
+  pub line : k.line ≡ start.base.line
+  pub end : k.end ≡ start.base.line + table_lines s.pages start.base.number start.base.line
   pub buckets : k.buckets ≡ 2 ^ s.bucket_bits
-  pub rows : k.rows.value ≡ catalog
+  pub version : k.version ≡ start.version
+  pub heads : k.heads.value ≡ start.heads
+  pub rows : k.rows.value ≡ start.catalog
 
--- an empty log with these words of the registry, and its control pass
+-- a table without an entry, with these words of the registry, and its control pass
 abbrev pub empty_world : Key → (ℕ → ℕ) → World
 empty_world k g = record {
   count = k.number;
   line = k.line;
-  settled = 0;
+  settled = k.number;
   registry = g;
-  head = λ _. 0;
+  head = first_head k;
   dir = λ _. 0;
   log = λ _. 0;
   views = first_view k ∷ [];

@@ -95,7 +95,7 @@ pub record CanPublish (v : View) (f : Flight) : Type 0 where
   pub flying : v.flight ≡ Some f
   pub version : ℕ
   pub entered : v.epoch ≡ Confirmed version
-  pub ready : IsReady (KnowsActive v.about.rows.value v.learned) version (flight_kind v f) v.lane f
+  pub ready : IsReady (KnowsActive v.about v.learned) version (flight_kind v f) v.lane f
 
 -- a record joins the own ones
 abbrev pub own_after : Kind → ℕ → ℕ → List Own → List Own

@@ -29,7 +29,7 @@ first_view k = record {
   draft = [];
   tail = Some (record { number = k.number; line = k.line });
   own = [];
-  learned = record unlearned { count = k.number };
+  learned = record unlearned { count = k.number; settled = k.number; version = k.version };
   clock = fresh;
 }
 

@@ -1,7 +1,7 @@
 -- What each kind of step tells the pass that makes it.
 use Rattle.std.specs.Prelude.{ℕ, ◌≡◌, ◌≢◌, ◌≤◌, ◌-◌, [], ◌+◌, ◌*◌, Bool, Some, ◌<◌, length, slice_get}
 use Rattle.atomic_table.specs.Table.{Step}
-use Rattle.fish_rule.specs.Parts.{Rests}
+use Rattle.fish_rule.specs.Parts.{Rests, first_head}
 use Rattle.fish_rule.specs.Regions.{dir_word}
 use Rattle.fish_rule.specs.Steps.{after_claim, after_publish, after_store}
 use Rattle.fish_rule.specs.Reading.{IsAlone, after_end, after_look, after_raise, after_read, after_settled}
@@ -63,10 +63,11 @@ pub record ToldEnd (st : Step Bool) (m : Sat) (found : ℕ) (m' : Sat) : Type 0 
   pub settled : m.0.learned.settled ≤ high found
   pub rests : m.0.lane ≡ 1 → m.0.out ≡ [] → Rests (high found) (low found) m.0.tail
 
--- a load of the settled number, which only rises
+-- a load of the settled number, which only rises, from the base's number on
 pub record ToldSettled (st : Step Bool) (m : Sat) (found : ℕ) (m' : Sat) : Type 0 where
   pub told : Told m (after_settled m.0 found) m'
   pub rises : m.0.learned.settled ≤ found
+  pub from : m.0.about.number ≤ found
 
 -- a raise of the settled number, which was at least what the pass knew it to be
 pub record ToldRaise (st : Step Bool) (m : Sat) (found : ℕ) (m' : Sat) : Type 0 where
@@ -79,18 +80,21 @@ pub record ToldRaise (st : Step Bool) (m : Sat) (found : ℕ) (m' : Sat) : Type 
 abbrev pub bucket_at : ℕ → ℕ
 bucket_at i = i - heads_at
 
--- a load of a head
+-- a load of a head: where it is no place of the table, it is the start's
 pub record ToldHead (st : Step Bool) (m : Sat) (found : ℕ) (m' : Sat) : Type 0 where
   pub told : Told m (after_head m.0 (bucket_at st.word) found) m'
   pub rises : TopRises m.0 (bucket_at st.word) found
+  pub first : found ≤ m.0.about.line * 4 → found ≡ first_head m.0.about (bucket_at st.word)
 
--- a load of the first word of a linked entry, which is below its place
+-- a load of the first word of a linked entry, which is below its place, and leads to the start's head where it
+-- leads to no place of the table
 pub record ToldPrevious (st : Step Bool) (m : Sat) (found : ℕ) (m' : Sat) : Type 0 where
   pub bucket : ℕ
   pub node : HasNode m.0 bucket (place_at m.0.about st.word)
   pub told : Told m (after_previous m.0 bucket (place_at m.0.about st.word) found) m'
   pub rises : LowRises m.0 (place_at m.0.about st.word) found
   pub less : found < place_at m.0.about st.word
+  pub first : found ≤ m.0.about.line * 4 → found ≡ first_head m.0.about bucket
 
 -- a load of the second word of a linked entry
 abbrev pub told_node : Step Bool → Sat → ℕ → Sat → Type 0
@@ -118,10 +122,11 @@ pub record ToldSplice (st : Step Bool) (m : Sat) (found : ℕ) (m' : Sat) : Type
 
 -- ---- the registry
 
--- a load of the version, which only rises, and is at most 512
+-- a load of the version, which only rises, from the start's on, and is at most 512
 pub record ToldVersion (st : Step Bool) (m : Sat) (found : ℕ) (m' : Sat) : Type 0 where
   pub told : Told m (after_version m.0 found) m'
   pub rises : m.0.learned.version ≤ found
+  pub from : m.0.about.version ≤ found
   pub few : found ≤ 512
 
 -- an announcement of a version

@@ -30,7 +30,7 @@ pub use registry::{
     announce, define_word, load_opened, load_operation, load_row, load_version, raise_version,
     retire,
 };
-pub use seats::{Start, base, buckets, join_pass, open_log, shape, split_pass};
+pub use seats::{Start, base, buckets, first_version, join_pass, open_log, shape, split_pass};
 pub use steps::{
     claim_lines, in_flight, is_shut, kind_in, lane, load_settled, load_tail, look_at,
     publish_region, raise_settled, read_word, store_word,

@@ -1,12 +1,14 @@
 //! The atomic steps on heads and on the first words of key entries, and loads of their second words.
 //!
 //! A chain goes down: from its head, the newest entry of a bucket, each first word is the place of
-//! the next older one, or 0. Heads and first words only rise.
+//! the next older one, and last the head that the bucket had at the start. Heads and first words only
+//! rise.
 
-ghost use Rattle.std.specs.Prelude.{◌≡◌, ◌≢◌, ◌<◌, ℕ, Some};
+ghost use Rattle.std.specs.Prelude.{◌≡◌, ◌≢◌, ◌*◌, ◌<◌, ◌≤◌, ℕ, Some};
 ghost use Rattle.fish_rule.specs.Linking.{CanAim, CanLoadHead, CanSplice, CanSwing, HasNode, LowRises};
 ghost use Rattle.fish_rule.specs.Linking.{TopRises, after_aim, after_head, after_node, after_previous};
 ghost use Rattle.fish_rule.specs.Linking.{after_splice, after_swing, own_place};
+ghost use Rattle.fish_rule.specs.Parts.{first_head};
 ghost use Rattle.fish_rule.specs.Passes.{IsPassOf, view};
 ghost use Rattle.fish_rule.specs.declared.view.Flight.{Flight};
 
@@ -14,20 +16,23 @@ use crate::area::{HEADS, log_at};
 use crate::plays::{Aim, Head, Label, Previous, Splice, Swing};
 use crate::table::{Log, Pass};
 
-/// Loads the head of a bucket: the place of its newest linked entry, or 0.
+/// Loads the head of a bucket: the place of its newest linked entry, or the head that it had at the
+/// start.
 pub fn load_head(log: &Log, pass: &mut Pass, bucket: u64) -> u64
     requires pass { IsPassOf log.now pass.old }
     requires view { CanLoadHead (view pass.old) bucket }
     ensures pass { IsPassOf log.now pass.new }
     ensures view { view pass.new ≡ after_head (view pass.old) bucket result }
     ensures rises { TopRises (view pass.old) bucket result }
+    ensures first { result ≤ log.now.key.line * 4 → result ≡ first_head log.now.key bucket }
 {
     log.table
         .shared
         .load::<Head>(&mut pass.seat, (HEADS + bucket) as usize)
 }
 
-/// Loads the first word of a linked entry: the place of the next older one of its bucket, or 0.
+/// Loads the first word of a linked entry: the place of the next older one of its bucket, or the head
+/// that the bucket had at the start.
 pub fn load_previous(log: &Log, pass: &mut Pass, place: u64) -> u64
     requires pass { IsPassOf log.now pass.old }
     requires node { (b : ℕ) × HasNode (view pass.old) b place }
@@ -36,6 +41,8 @@ pub fn load_previous(log: &Log, pass: &mut Pass, place: u64) -> u64
         → view pass.new ≡ after_previous (view pass.old) b place result }
     ensures rises { LowRises (view pass.old) place result }
     ensures less { result < place }
+    ensures first { (b : ℕ) → HasNode (view pass.old) b place → result ≤ log.now.key.line * 4
+        → result ≡ first_head log.now.key b }
 {
     let index = log_at(&log.key) + (place - log.key.line * 4);
     log.table

@@ -10,27 +10,33 @@ ghost use Rattle.fish_rule.specs.Registry.{row_at};
 ghost use Rattle.fish_rule.specs.Start.{IsEmpty};
 ghost use Rattle.fish_rule.specs.World.{heads_at, total};
 
-use crate::area::{OPENED, ROWS, log_at};
+use crate::area::{HEADS, OPENED, ROWS, VERSION, log_at};
+use crate::seats::Start;
 use crate::view::Key;
 use crate::word::tail_word;
-use fish_catalog::{CatRow, Catalog, ROW_WORDS, row_words};
+use fish_catalog::{CatRow, ROW_WORDS, row_words};
 use std::alloc::{AllocError, Global};
 
-/// The words of an empty log with these definitions.
+/// The words of a log without an entry that begins so.
 pub(crate) fn empty_words(
     alloc: Global,
     key: &Key,
-    catalog: &Catalog,
+    start: &Start,
 ) -> Result<Vec<u64>, AllocError>
     requires fits { Fits key.now }
-    requires rows { key.now.rows.value ≡ catalog.now }
+    requires rows { key.now.rows.value ≡ start.now.catalog }
+    requires heads { key.now.heads.value ≡ start.now.heads }
+    requires version { key.now.version ≤ 512 }
     ensures { IfOk result (λ words. IsEmpty key.now words.items) }
 {
-    let rows = catalog.rows();
+    let rows = start.catalog.rows();
     let mut words = zero_words(alloc, word_count(key))?;
     words[0] = tail_of(key);
+    words[1] = key.number;
+    words[VERSION as usize] = key.version;
     words[OPENED as usize] = rows.len() as u64;
     store_rows(&mut words, rows);
+    store_heads(&mut words, start.heads.as_slice());
     Ok(words)
 }
 
@@ -55,6 +61,18 @@ fn tail_of(key: &Key) -> u64
     ensures { result ≡ key.now.number * 68719476736 + key.now.line }
 {
     tail_word(key.number, key.line)
+}
+
+/// Stores the heads in the places of their buckets.
+fn store_heads(words: &mut [u64], heads: &[u64])
+    requires room { heads_at + length heads.now ≤ length words.old }
+    ensures heads { (b : ℕ) → b < length heads.now → slice_index words.new (heads_at + b) ≡ slice_index heads.now b }
+    ensures before { (p : ℕ) → p < heads_at → slice_index words.new p ≡ slice_index words.old p }
+    ensures behind { (p : ℕ) → heads_at + length heads.now ≤ p → slice_index words.new p ≡ slice_index words.old p }
+{
+    for (bucket, head) in heads.iter().enumerate() {
+        words[HEADS as usize + bucket] = *head;
+    }
 }
 
 /// Stores the words of rows in the places of their ids.

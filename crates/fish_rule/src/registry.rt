@@ -20,6 +20,7 @@ pub fn load_version(log: &Log, pass: &mut Pass) -> u64
     ensures pass { IsPassOf log.now pass.new }
     ensures view { view pass.new ≡ after_version (view pass.old) result }
     ensures rises { (view pass.old).learned.version ≤ result }
+    ensures from { log.now.key.version ≤ result }
     ensures few { result ≤ 512 }
 {
     log.table
@@ -64,7 +65,7 @@ pub fn load_opened(log: &Log, pass: &mut Pass) -> u64
 /// Loads the operation that made a version which the registry has reached.
 pub fn load_operation(log: &Log, pass: &mut Pass, version: u64) -> u64
     requires pass { IsPassOf log.now pass.old }
-    requires version { (1 ≤ version) × (version ≤ (view pass.old).learned.version) }
+    requires version { (log.now.key.version < version) × (version ≤ (view pass.old).learned.version) }
     ensures pass { IsPassOf log.now pass.new }
     ensures view { view pass.new ≡ after_registry (view pass.old) (op_at version) result }
 {
@@ -74,7 +75,7 @@ pub fn load_operation(log: &Log, pass: &mut Pass, version: u64) -> u64
 /// Loads a word of a row, behind its boundaries.
 pub fn load_row(log: &Log, pass: &mut Pass, id: u64, place: u64) -> u64
     requires pass { IsPassOf log.now pass.old }
-    requires row { KnowsRow (view pass.old).about.rows.value (view pass.old).learned id }
+    requires row { KnowsRow (view pass.old).about (view pass.old).learned id }
     requires place { (2 ≤ place) × (place < 39) }
     ensures pass { IsPassOf log.now pass.new }
     ensures view { view pass.new ≡ after_registry (view pass.old) (row_at id place) result }

@@ -3,12 +3,12 @@
 //! No step here changes a word. The first pass is the control pass: it has lane 1, and each lane
 //! from 2 to 16 that is with no other pass.
 
-ghost use Rattle.std.specs.Prelude.{◌≡◌, ℕ, ◌<◌, ◌≤◌, IfOk};
+ghost use Rattle.std.specs.Prelude.{◌≡◌, ℕ, ◌<◌, ◌≤◌, IfOk, replicate};
 ghost use Rattle.fish_rule.specs.Logs.{Learns};
 ghost use Rattle.fish_rule.specs.Parts.{Fits};
 ghost use Rattle.fish_rule.specs.Passes.{IsPassOf, view};
 ghost use Rattle.fish_rule.specs.Seating.{CanJoin, CanSplit, join_both, split_left, split_right};
-ghost use Rattle.fish_rule.specs.Start.{IsFirstKey, IsShape, rows_of};
+ghost use Rattle.fish_rule.specs.Start.{CanOpen, IsFirst, IsFirstKey, IsShape};
 ghost use Rattle.fish_rule.specs.Reading.{after_end};
 ghost use Rattle.fish_rule.specs.Table.{first_view};
 
@@ -20,17 +20,55 @@ use crate::view::{Key, View};
 use crate::walk::NO_WALK;
 use atomic_table::{Join, Split, Table};
 use fish_catalog::Catalog;
+use fish_value::Numbers64;
 use std::alloc::{AllocError, Global};
 use std::snapshot::Snapshot;
 
+/// The greatest number at which a log's claims that end within it may end.
+const MAX_NUMBER: u64 = 268_435_439;
+
+/// The greatest line at which a log may end.
+const MAX_LINE: u64 = 68_719_176_736;
+
 /// What a log begins with.
 #[derive(Debug, Drop)]
-pub enum Start {
-    /// No record, and these definitions.
-    Empty {
-        /// The rows of the store's catalogue.
-        catalog: Catalog,
-    },
+pub struct Start {
+    /// Where its numbers and lines begin.
+    pub base: Base,
+    /// Of each bucket the place of its newest entry of an older record, or 0.
+    pub heads: Numbers64,
+    /// The rows of the store's catalogue.
+    pub catalog: Catalog,
+    /// The version with which it begins.
+    pub version: u16,
+}
+
+impl Start {
+    /// No older record, and these definitions.
+    pub fn first(alloc: Global, shape: Shape, catalog: Catalog) -> Result<Start, AllocError>
+        requires { IsShape shape }
+        ensures can { IfOk result (CanOpen shape) }
+        ensures is { IfOk result (IsFirst catalog) }
+    {
+        let heads = no_heads(alloc, 1 << shape.bucket_bits)?;
+        Ok(Start {
+            base: Base { number: 0, line: 0 },
+            heads,
+            catalog,
+            version: 0,
+        })
+    }
+}
+
+/// So many heads of no older record.
+fn no_heads(alloc: Global, count: usize) -> Result<Numbers64, AllocError>
+    ensures { IfOk result (λ heads. heads ≡ replicate count 0) }
+{
+    let mut heads = Numbers64::new(alloc);
+    for _ in 0..count {
+        heads.push(0)?;
+    }
+    Ok(heads)
 }
 
 /// The lane LANE goes from the control pass to a new pass.
@@ -57,18 +95,24 @@ impl Join<View> for Meet {
 
 /// The key of a log of this shape that begins so.
 fn key_of(shape: Shape, start: &Start) -> Key
-    requires { IsShape shape }
-    ensures is { IsFirstKey shape (rows_of start.now) result }
+    requires shape { IsShape shape }
+    requires start { CanOpen shape start.now }
+    ensures is { IsFirstKey shape start.now result }
     ensures fits { Fits result }
 {
-    match start {
-        Start::Empty { catalog } => Key {
-            number: 0,
-            line: 0,
-            end: u64::from(shape.pages) * PAGE_LINES,
-            buckets: 1 << shape.bucket_bits,
-            rows: Snapshot::of(catalog),
-        },
+    let number = u64::from(start.base.number);
+    let line = start.base.line;
+    let lines = (u64::from(shape.pages) * PAGE_LINES)
+        .min(MAX_NUMBER - number)
+        .min(MAX_LINE - line);
+    Key {
+        number,
+        line,
+        end: line + lines,
+        buckets: 1 << shape.bucket_bits,
+        version: u64::from(start.version),
+        heads: Snapshot::of(&start.heads),
+        rows: Snapshot::of(&start.catalog),
     }
 }
 
@@ -98,17 +142,24 @@ pub fn base(log: &Log) -> Base
     }
 }
 
+/// The version with which the log begins.
+pub fn first_version(log: &Log) -> u64
+    ensures { result ≡ log.now.key.version }
+{
+    log.key.version
+}
+
 /// A log of this shape that begins so, and its control pass.
 pub fn open_log(alloc: Global, shape: Shape, start: &Start) -> Result<(Log, Pass), AllocError>
-    requires { IsShape shape }
+    requires shape { IsShape shape }
+    requires start { CanOpen shape start.now }
     ensures pass { IfOk result (λ r. IsPassOf r.0 r.1) }
     ensures view { IfOk result (λ r. view r.1 ≡ first_view r.0.key) }
-    ensures key { IfOk result (λ r. IsFirstKey shape (rows_of start.now) r.0.key) }
+    ensures key { IfOk result (λ r. IsFirstKey shape start.now r.0.key) }
     ensures shape { IfOk result (λ r. r.0.shape ≡ shape) }
 {
     let key = key_of(shape, start);
-    let Start::Empty { catalog } = start;
-    let words = empty_words(alloc, &key, catalog)?;
+    let words = empty_words(alloc, &key, start)?;
     let (table, seat) = Table::of_words(alloc, &words, &key)?;
     let log = Log { table, key, shape };
     let pass = Pass {

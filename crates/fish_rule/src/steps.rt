@@ -164,6 +164,7 @@ pub fn load_settled(log: &Log, pass: &mut Pass) -> u64
     ensures pass { IsPassOf log.now pass.new }
     ensures view { view pass.new ≡ after_settled (view pass.old) result }
     ensures rises { (view pass.old).learned.settled ≤ result }
+    ensures from { log.now.key.number ≤ result }
 {
     log.table.shared.load::<Settled>(&mut pass.seat, 1)
 }

@@ -24,9 +24,7 @@ fn two_threads_share_a_log(rt: HostRuntime) -> Result<(), Fail> {
         pages: 1,
         bucket_bits: 4,
     };
-    let start = Start::Empty {
-        catalog: Catalog::new(rt.alloc()),
-    };
+    let start = Start::first(rt.alloc(), one_page, Catalog::new(rt.alloc()))?;
     let (log, mut main) = open_log(rt.alloc(), one_page, &start)?;
     let mut other = split_pass(&log, &mut main, 2);
     let (here, there) = join_mut(
@@ -76,7 +74,7 @@ fn a_log_has_the_words_of_its_catalog(rt: HostRuntime) -> Result<(), Fail> {
         pages: 1,
         bucket_bits: 4,
     };
-    let (log, mut main) = open_log(alloc, one_page, &Start::Empty { catalog })?;
+    let (log, mut main) = open_log(alloc, one_page, &Start::first(alloc, one_page, catalog)?)?;
     let opened = load_opened(&log, &mut main);
     assert_eq!(rt; opened, 1);
     // 4 bytes of a name, 9 of a text, and that the row is active

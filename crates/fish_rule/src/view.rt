@@ -2,6 +2,7 @@
 //! contracts alone, where an array is a list of any length.
 
 use fish_catalog::{Catalog, Listed};
+use fish_value::Numbers64;
 use std::snapshot::Snapshot;
 
 /// What is fixed when a table is made.
@@ -15,6 +16,10 @@ pub struct Key {
     pub end: u64,
     /// How many chains there are.
     pub buckets: u64,
+    /// The version with which the table begins.
+    pub version: u64,
+    /// Of each bucket the place of its newest entry of an older record, or 0.
+    pub heads: Snapshot<Numbers64>,
     /// The definitions with which the table begins.
     pub rows: Snapshot<Catalog>,
 }

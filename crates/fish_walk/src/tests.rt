@@ -146,9 +146,7 @@ fn stored_and_read<L: Ledger>(alloc: Global, blank: Blank) -> Result<(), Fail>
         pages: 2,
         bucket_bits: 4,
     };
-    let start = Start::Empty {
-        catalog: Catalog::new(alloc),
-    };
+    let start = Start::first(alloc, shape, Catalog::new(alloc))?;
     let (log, mut pass) = open_log(alloc, shape, &start)?;
     for lines in LINES {
         store(alloc, &log, &mut pass, lines, object_of(alloc, lines)?)?;

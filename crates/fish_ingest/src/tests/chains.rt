@@ -42,11 +42,11 @@ const TWO: &[u8] = b"{\"a\":false}";
 fn older_last(alloc: Global, older: &[u8], newer: &[u8]) -> Result<(Log, Pass), Fail>
     ensures { IfOk result (λ r. IsPassOf r.0 r.1) }
 {
-    let (start, defs) = defined(alloc, SOURCES.as_slice())?;
     let shape = Shape {
         pages: 1,
         bucket_bits: 4,
     };
+    let (start, defs) = defined(alloc, shape, SOURCES.as_slice())?;
     let (log, mut main) = open_log(alloc, shape, &start)?;
     let mut other = split_lane(alloc, &log, &mut main, 2);
     let Some(first) = claimed(alloc, &log, &mut main, defs.as_slice(), older)? else {

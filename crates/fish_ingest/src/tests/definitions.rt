@@ -3,12 +3,12 @@
 ghost use Rattle.std.specs.Prelude.{IfOk, OnOk};
 ghost use Rattle.fish_ingest.specs.Definitions.{AreDefs};
 ghost use Rattle.fish_rule.specs.Keys.{AreActive};
-ghost use Rattle.fish_rule.specs.Start.{rows_of};
+ghost use Rattle.fish_rule.specs.Start.{CanOpen, IsShape};
 
 use fish_catalog::Catalog;
 use fish_lang::{parse_def, print_def};
 use fish_psf::ActiveDef;
-use fish_rule::Start;
+use fish_rule::{Shape, Start};
 use fish_value::Text;
 use std::alloc::Global;
 use std::test::Fail;
@@ -35,8 +35,14 @@ fn add_def(
 }
 
 /// The start of a log with the definitions that sources are, and these by id, from 0 on.
-pub(super) fn defined(alloc: Global, sources: &[&str]) -> Result<(Start, Vec<ActiveDef>), Fail>
-    ensures active { IfOk result (λ r. AreActive (rows_of r.0) r.1.items) }
+pub(super) fn defined(
+    alloc: Global,
+    shape: Shape,
+    sources: &[&str],
+) -> Result<(Start, Vec<ActiveDef>), Fail>
+    requires { IsShape shape }
+    ensures can { IfOk result (λ r. CanOpen shape r.0) }
+    ensures active { IfOk result (λ r. AreActive r.0.catalog r.1.items) }
     ensures defs { IfOk result (λ r. AreDefs r.1.items) }
 {
     let mut catalog = Catalog::new(alloc);
@@ -46,5 +52,5 @@ pub(super) fn defined(alloc: Global, sources: &[&str]) -> Result<(Start, Vec<Act
     }
     // the rows are numbered, so the ids ascend
     let _rows = catalog.rows();
-    Ok((Start::Empty { catalog }, defs))
+    Ok((Start::first(alloc, shape, catalog)?, defs))
 }

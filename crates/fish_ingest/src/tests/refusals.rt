@@ -26,11 +26,11 @@ fn opened(alloc: Global, pages: u16) -> Result<(Log, Lane), Fail>
     requires { (1 ≤ pages) × (pages ≤ 2) }
     ensures { IfOk result (λ r. CanIngest r.0 r.1.pass r.1.defs) }
 {
-    let (start, _) = defined(alloc, ["take type"].as_slice())?;
     let shape = Shape {
         pages,
         bucket_bits: 4,
     };
+    let (start, _) = defined(alloc, shape, ["take type"].as_slice())?;
     let opened = open_log(alloc, shape, &start)?;
     let (log, main) = opened;
     let lane = lane_of(alloc, &log, main);

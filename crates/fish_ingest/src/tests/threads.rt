@@ -205,7 +205,7 @@ fn four_threads_ingest_at_once(rt: HostRuntime) -> Result<(), Fail> {
         pages: 3,
         bucket_bits: 4,
     };
-    let (start, defs) = defined(alloc, SOURCES.as_slice())?;
+    let (start, defs) = defined(alloc, shape, SOURCES.as_slice())?;
     let (log, mut main) = open_log(alloc, shape, &start)?;
     let mut low = (
         split_lane(alloc, &log, &mut main, 2),

@@ -80,9 +80,7 @@ fn stops_at_a_record_in_flight(rt: HostRuntime) -> Result<(), Fail> {
         pages: 1,
         bucket_bits: 4,
     };
-    let start = Start::Empty {
-        catalog: Catalog::new(alloc),
-    };
+    let start = Start::first(alloc, shape, Catalog::new(alloc))?;
     let (log, mut main) = open_log(alloc, shape, &start)?;
     let mut second = split_pass(&log, &mut main, 2);
     let none = Settled {
@@ -128,9 +126,7 @@ fn stops_at_the_first_mark(rt: HostRuntime) -> Result<(), Fail> {
         pages: 2,
         bucket_bits: 4,
     };
-    let start = Start::Empty {
-        catalog: Catalog::new(alloc),
-    };
+    let start = Start::first(alloc, shape, Catalog::new(alloc))?;
     let (log, mut main) = open_log(alloc, shape, &start)?;
     let mut second = split_pass(&log, &mut main, 2);
     store_to_the_end(alloc, &log, &mut main)?;

@@ -25,4 +25,4 @@ join_mut-low-requires-after_bounds g c κs within =
     (right_starts 3 after_second (view third.result) (omega arith) third.ensures.right) in
     let four = c.lane_of-four.ensures log fourth.ensures.pass
     (right_starts 4 after_third (view fourth.result) (omega arith) fourth.ensures.right) in
-    ((search rules, ((one, two), search rules)), (search rules, ((three, four), search rules)))
+    ((search (rules, c.type_bounds.sync-R), ((one, two), search (rules, c.type_bounds.sync-R))), (search (rules, c.type_bounds.sync-R), ((three, four), search (rules, c.type_bounds.sync-R))))

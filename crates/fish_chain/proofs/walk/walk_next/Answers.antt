@@ -1,12 +1,9 @@
 -- Each turn passes an entry outside the range, or gives the next one of it.
 use Rattle.std.proofs.Common.{ℕ, ◌<◌, ◌≤◌, ◌⊎◌, inl, inr, sym, refl, ap, subst, arith}
-use Rattle.fish_chain.proofs.Descents.{clear_same, given_next, gone_on, looked_node, next_same, numbered}
-use Rattle.fish_chain.proofs.Descents.{passed_by, stands_at}
+use Rattle.fish_chain.proofs.Descents.{behind_known, clear_past, clear_same, given_next, gone_on, looked_node, next_same, numbered}
+use Rattle.fish_chain.proofs.Descents.{passed_by, past_known, stands_at}
 use Rattle.fish_rule.proofs.Extending.{extends_both}
-use Rattle.fish_chain.proofs.Descents.{clear_same, given_next, gone_on, looked_node, next_same, numbered}
-use Rattle.fish_chain.proofs.Descents.{passed_by, stands_at}
-use Rattle.fish_rule.proofs.Extending.{extends_both}
-use Rattle.fish_chain.specs.Walks.{IsNextNode, IsWalking}
+use Rattle.fish_chain.specs.Walks.{IsNextNode, IsPast, IsWalking}
 use Rattle.fish_chain.specs.declared.walk.Node.{Node}
 use Rattle.fish_layout.specs.Entry.{entry_number}
 use Rattle.fish_rule.specs.Logs.{Extends}
@@ -22,7 +19,10 @@ pub load_node-entry-requires-clause-node : goal.load_node-entry-requires-clause-
 load_node-entry-requires-clause-node g c =
     let walk = c.loop-walk.walk in
     let test = c.loop-walk-test.true in
-    (walk.bucket, (stands_at (view c.loop-walk.pass) walk c.loop-walk.invariant.walking (omega arith)).0)
+    let line = c.base-past.ensures.1 in
+    let behind = behind_known c.args.log.now.key (view c.loop-walk.pass) walk.place c.loop-walk.invariant.of.about
+    (omega arith) in
+    (walk.bucket, (stands_at (view c.loop-walk.pass) walk c.loop-walk.invariant.walking behind).0)
 
 pub place_below-requires-clause-label : goal.place_below-requires-clause-label
 place_below-requires-clause-label g c =
@@ -45,16 +45,21 @@ returns-then-from-walk-clause-extends g c =
 pub returns-then-from-walk-clause-walking : goal.returns-then-from-walk-clause-walking
 returns-then-from-walk-clause-walking g c =
     let test = c.loop-walk-test.true in
+    let line = c.base-past.ensures.1 in
+    let behind = behind_known c.args.log.now.key (view c.loop-walk.pass) c.loop-walk.walk.place
+    c.loop-walk.invariant.of.about (omega arith) in
     subst (λ (z : View × Walk). IsWalking z.0 z.1)
     (λ i. (sym c.keep_walk.ensures.view i, sym c.keep_walk.ensures.walk i))
     (gone_on (view c.loop-walk.pass) (view c.load_node-entry.new.pass) (view c.place_below.new.pass)
-    c.loop-walk.walk c.load_node-entry.result c.place_below.result c.loop-walk.invariant.walking (omega arith)
+    c.loop-walk.walk c.load_node-entry.result c.place_below.result c.loop-walk.invariant.walking behind
     c.load_node-entry.ensures.view c.place_below.ensures.extends c.place_below.ensures.below)
 
 pub returns-then-from-walk-clause-gave : goal.returns-then-from-walk-clause-gave
 returns-then-from-walk-clause-gave g c =
     let test = c.loop-walk-test.true in
     let inv = c.loop-walk.invariant in
+    let line = c.base-past.ensures.1 in
+    let behind = behind_known c.args.log.now.key (view c.loop-walk.pass) c.loop-walk.walk.place inv.of.about (omega arith) in
     let number = c.from.ensures in
     let again = c.from-then-walk-from.ensures in
     let node : Node = record {
@@ -64,7 +69,7 @@ returns-then-from-walk-clause-gave g c =
       key = c.place_in.result;
     } in
     let next = given_next (view c.loop-walk.pass) (view c.load_node-entry.new.pass) (view c.place_below.new.pass)
-    c.loop-walk.walk c.load_node-entry.result c.place_below.result inv.walking (omega arith)
+    c.loop-walk.walk c.load_node-entry.result c.place_below.result inv.walking behind
     c.load_node-entry.ensures.view c.place_below.ensures.extends c.place_below.ensures.below
     node c.number_in-number.ensures.value refl c.id_in.ensures c.place_in.ensures.value
     (omega (arith, c.if-walk-from.true)) (omega (arith, c.if-from-walk.true)) in (
@@ -80,6 +85,8 @@ loop-walk-preserved g c =
     let u = view c.load_node-entry.new.pass in
     let t = view c.place_below.new.pass in
     let test = c.loop-walk-test.true in
+    let line = c.base-past.ensures.1 in
+    let behind = behind_known c.args.log.now.key v c.loop-walk.walk.place inv.of.about (omega arith) in
     let seen = c.load_node-entry.ensures.view in
     let turn = extends_both v u t (looked_node v u c.loop-walk.walk.place c.load_node-entry.result seen)
     c.place_below.ensures.extends in
@@ -99,7 +106,7 @@ loop-walk-preserved g c =
       of = c.place_below.ensures.pass;
       extends = extends_both _ v t inv.extends turn;
       walking = passed_by v u t c.loop-walk.walk c.load_node-entry.result c.place_below.result inv.walking
-          (omega arith) seen c.place_below.ensures.extends c.place_below.ensures.below out;
+          behind seen c.place_below.ensures.extends c.place_below.ensures.below out;
       range = record { bucket_is = inv.range.bucket_is; from_is = inv.range.from_is; to_is = inv.range.to_is };
       given = inv.given;
       counted = omega arith;
@@ -112,8 +119,14 @@ pub returns-clause-gave : goal.returns-clause-gave
 returns-clause-gave g c =
     let inv = c.loop-walk.invariant in
     let walk = c.loop-walk.walk in
-    let clear = subst (λ (z : ℕ). Always (view c.loop-walk.pass) (IsClear walk.bucket walk.from walk.to walk.given z))
-    c.loop-walk-test.false inv.walking.clear in
-    clear_same (view c.keep_walk-2.new.pass) walk (walk_of c.args.pass.now) 0 inv.range inv.given
-    (subst (λ (z : View). Always z (IsClear walk.bucket walk.from walk.to walk.given 0))
-    (sym c.keep_walk-2.ensures.view) clear)
+    let v = view c.loop-walk.pass in
+    let over = c.loop-walk-test.false in
+    let line = c.base-past.ensures.1 in
+    let past = past_known c.args.log.now.key v walk.place inv.of.about (omega arith) in
+    let clear = clear_past v walk inv.walking past in (
+      clear_same (view c.keep_walk-2.new.pass) walk (walk_of c.args.pass.now) 0 inv.range inv.given
+          (subst (λ (z : View). Always z (IsClear walk.bucket walk.from walk.to walk.given 0))
+          (sym c.keep_walk-2.ensures.view) clear),
+      subst (λ (z : View × Walk). IsPast z.0 z.1.place)
+          (λ i. (sym c.keep_walk-2.ensures.view i, sym c.keep_walk-2.ensures.walk i)) past,
+    )

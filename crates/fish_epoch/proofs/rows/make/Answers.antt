@@ -1,10 +1,11 @@
 -- The operation is read, and then the row that it registers, or it ends one.
-use Rattle.std.proofs.Common.{◌≡◌, ℕ, suc, sym, ap, subst, arith, length, List}
+use Rattle.std.proofs.Common.{◌≡◌, ◌≤◌, ℕ, suc, sym, ap, subst, arith, length, List}
 use Rattle.fish_catalog.specs.Listing.{IsListing}
 use Rattle.fish_catalog.specs.declared.listed.Listed.{Listed}
 use Rattle.fish_rule.specs.Passes.{view}
 use Rattle.fish_rule.specs.Registry.{KnowsDefinitions, KnowsRow, op_at}
 use Rattle.fish_rule.specs.Views.{Among}
+use Rattle.fish_rule.specs.declared.view.Key.{Key}
 use Rattle.fish_rule.specs.declared.view.View.{View}
 use Rattle.fish_epoch.proofs.Reading.{known_listing, made_registered, operation_read, reads_both}
 use Rattle.fish_epoch.proofs.Reading.{reads_word, registered_known}
@@ -17,6 +18,10 @@ operation : (v u : View) (p version x : ℕ) → p ≡ suc version → u ≡ Rat
 operation v u p version x e is = subst (λ (z : ℕ). Among (record { index = op_at z; value = x }) u.learned.words) e
     (operation_read v u (op_at p) x is)
 
+-- the start's version is the key's
+from_here : (k : Key) (v : View) (n : ℕ) → v.about ≡ k → k.version ≤ n → v.about.version ≤ n
+from_here k v n about from = subst (λ (z : Key). z.version ≤ n) (sym about) from
+
 pub registered_row-requires-clause-row : goal.registered_row-requires-clause-row
 registered_row-requires-clause-row c =
     let v = view c.args.pass.now in
@@ -24,9 +29,9 @@ registered_row-requires-clause-row c =
     let load = c.load_operation-operation.ensures.view in
     let size : length c.args.rows.now.items ≡ length c.as_slice.result.now =
     ap (λ (z : List Listed). length z) (sym c.as_slice.ensures.value) in
-    subst (KnowsRow u.about.rows.value u.learned) size
+    subst (KnowsRow u.about u.learned) size
     (registered_known v u c.args.version c.load_operation-operation.result c.args.rows.now.items
-    (reads_word v u _ _ load).extends.learns c.requires.reached
+    (reads_word v u _ _ load).extends.learns (from_here c.args.log.now.key v c.args.version c.requires.pass.about c.requires.first) c.requires.reached
     (operation v u _ c.args.version _ (omega arith) load) c.requires.rows c.if-operation-lt512.true)
 
 pub returns-in_err-row-clause-reads : goal.returns-in_err-row-clause-reads
@@ -59,9 +64,9 @@ returns-in_ok-push-clause-rows c =
     let load = c.load_operation-operation.ensures.view in
     let size : length c.args.rows.now.items ≡ length c.as_slice.result.now =
     ap (λ (z : List Listed). length z) (sym c.as_slice.ensures.value) in
-    subst (KnowsDefinitions t.about.rows.value t.learned (suc c.args.version)) (sym c.in_ok-push.ensures.items)
+    subst (KnowsDefinitions t.about t.learned (suc c.args.version)) (sym c.in_ok-push.ensures.items)
     (made_registered v u c.args.version c.load_operation-operation.result c.args.rows.now.items
-    (reads_word v u _ _ load).extends.learns c.requires.reached
+    (reads_word v u _ _ load).extends.learns (from_here c.args.log.now.key v c.args.version c.requires.pass.about c.requires.first) c.requires.reached
     (operation v u _ c.args.version _ (omega arith) load) c.requires.rows t c.in_ok-row.row
     c.if-operation-lt512.true c.registered_row.ensures.reads.extends.learns
     (subst (λ (z : ℕ). Rattle.fish_epoch.specs.Rows.HasRow t z c.in_ok-row.row) (sym size) c.in_ok-row.ensures.row))

@@ -1,7 +1,9 @@
 -- Each turn makes one version more.
-use Rattle.std.proofs.Common.{◌≡◌, ℕ, ◌+◌, suc, subst, arith}
+use Rattle.std.proofs.Common.{◌≡◌, ◌∙◌, ◌≤◌, ℕ, ◌+◌, suc, subst, sym, arith}
 use Rattle.fish_rule.specs.Passes.{view}
-use Rattle.fish_rule.specs.Registry.{KnowsDefinitions}
+use Rattle.fish_rule.specs.Registry.{KnowsDefinitions, definitions_at}
+use Rattle.fish_rule.proofs.Registers.{definitions_first}
+use Rattle.fish_rule.specs.declared.view.Key.{Key}
 use Rattle.fish_epoch.proofs.Reading.{reads_both}
 use Rattle.fish_epoch.proofs.rows.read_rows.Goals as goal
 
@@ -19,6 +21,28 @@ loop-before-preserved c =
       of = c.make.ensures.pass;
       reads = reads_both (view c.args.pass.now) (view c.loop-before.pass) u c.loop-before.invariant.reads
           c.make.ensures.reads;
-      rows = subst (λ (z : ℕ). KnowsDefinitions u.about.rows.value u.learned z c.make.new.rows.items) more
+      rows = subst (λ (z : ℕ). KnowsDefinitions u.about u.learned z c.make.new.rows.items) more
           c.in_ok-make.ensures.rows;
+    }
+
+-- before the start's version nothing is made
+pub loop-before-init : goal.loop-before-init
+loop-before-init c =
+    let v = view c.args.pass.now in
+    let reads = c.first_rows.ensures.reads in
+    let rows = c.in_ok-rows.ensures.rows in
+    let about = reads.extends.learns.about in
+    let first : c.first_version.result ≡ c.args.log.now.key.version = c.first_version.ensures in
+    let least = c.min-before.ensures in
+    let same = reads.version in
+    let reached = c.requires.reached in
+    record {
+      of = c.first_rows.ensures.pass;
+      reads = reads;
+      rows = record {
+        reached = omega arith;
+        are = λ g has. subst (λ (z : Key). definitions_at z g c.min-before.result ≡ c.in_ok-rows.rows.items) (sym about)
+            (definitions_first v.about g c.min-before.result
+            (subst (λ (z : Key). c.min-before.result ≤ z.version) (sym c.requires.pass.about) (omega arith)) ∙ sym rows);
+      };
     }

@@ -8,5 +8,5 @@ abbrev pub invariant-loop-before : goal.invariant-loop-before
 invariant-loop-before l = record {
   of : IsPassOf l.log l.pass;
   reads : OnlyReads (view l.fn.pass) (view l.pass);
-  rows : KnowsDefinitions (view l.pass).about.rows.value (view l.pass).learned l.before l.rows.items;
+  rows : KnowsDefinitions (view l.pass).about (view l.pass).learned l.before l.rows.items;
 }

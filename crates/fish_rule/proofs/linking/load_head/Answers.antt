@@ -1,7 +1,8 @@
 -- The head is one of the table's words, and the table allows its load.
-use Rattle.std.proofs.Common.{◌≡◌, sym, refl, arith, subst, ℕ, ◌<◌, ◌+◌}
+use Rattle.std.proofs.Common.{◌≡◌, sym, refl, arith, subst, ℕ, ◌*◌, ◌<◌, ◌≤◌, ◌+◌}
 use Rattle.fish_rule.specs.Linking.{TopRises}
 use Rattle.fish_rule.specs.Told.{bucket_at}
+use Rattle.fish_rule.specs.Parts.{first_head}
 use Rattle.fish_rule.specs.Passes.{view}
 use Rattle.fish_rule.specs.World.{heads_at}
 use Rattle.fish_rule.specs.declared.view.Key.{Key}
@@ -24,3 +25,10 @@ pub returns-clause-rises : goal.returns-clause-rises
 returns-clause-rises c =
     (let index : bucket_at (heads_at + c.args.bucket) ≡ c.args.bucket = omega arith in
     subst (λ (z : ℕ). TopRises (view c.args.pass.now) z c.load.result) index c.load.ensures.2.rises)
+
+-- a place that is none of the table's is the start's head
+pub returns-clause-first : goal.returns-clause-first
+returns-clause-first c =
+    let index : bucket_at (heads_at + c.args.bucket) ≡ c.args.bucket = omega arith in
+    subst (λ (z : Key × ℕ). c.load.result ≤ z.0.line * 4 → c.load.result ≡ first_head z.0 z.1)
+    (λ i. (c.requires.pass.about i, index i)) c.load.ensures.2.first

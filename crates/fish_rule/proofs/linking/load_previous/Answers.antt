@@ -2,6 +2,7 @@
 use Rattle.std.proofs.Common.{◌≡◌, ◌∙◌, sym, ap, arith, subst, ℕ, ◌<◌, ◌≤◌, ◌+◌, ◌-◌, ◌*◌}
 use Rattle.fish_rule.proofs.Laws.{node_law, one_bucket}
 use Rattle.fish_rule.specs.Linking.{HasNode, LowRises, after_previous}
+use Rattle.fish_rule.specs.Parts.{first_head}
 use Rattle.fish_rule.specs.Passes.{view}
 use Rattle.fish_rule.specs.Told.{place_at}
 use Rattle.fish_rule.specs.World.{log_at}
@@ -73,3 +74,16 @@ returns-clause-less c =
     subst (λ (z : ℕ). c.load.result < z)
     (index log.key v.about c.log_at.result c.args.place c.requires.pass.about c.log_at.ensures law.0)
     c.load.ensures.2.less
+
+-- a place that is none of the table's is the start's head of the bucket
+pub returns-clause-first : goal.returns-clause-first
+returns-clause-first c b node =
+    let log = c.args.log.now in
+    let v = view c.args.pass.now in
+    let told = c.load.ensures.2 in
+    let law = node_law log.key v b c.args.place c.requires.pass.about c.requires.pass.stands node in
+    let at = index log.key v.about c.log_at.result c.args.place c.requires.pass.about c.log_at.ensures law.0 in
+    let same : told.bucket ≡ b = one_bucket v told.bucket b c.args.place c.requires.pass.stands
+    (subst (HasNode v told.bucket) at told.node) node in
+    subst (λ (z : Key × ℕ). c.load.result ≤ z.0.line * 4 → c.load.result ≡ first_head z.0 z.1)
+    (λ i. (c.requires.pass.about i, same i)) told.first

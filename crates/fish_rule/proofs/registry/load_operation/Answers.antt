@@ -1,14 +1,20 @@
 -- The operation's word lasts.
-use Rattle.std.proofs.Common.{◌≡◌, ◌∙◌, ℕ, ◌+◌, ◌-◌, ap, arith, inl, inr}
+use Rattle.std.proofs.Common.{◌≡◌, ◌∙◌, ℕ, ◌+◌, ◌-◌, ◌<◌, ap, arith, inl, inr, subst, sym}
 use Rattle.fish_rule.specs.Entering.{after_registry}
 use Rattle.fish_rule.specs.Passes.{view}
 use Rattle.fish_rule.specs.Registry.{op_at}
+use Rattle.fish_rule.specs.declared.view.Key.{Key}
 use Rattle.fish_rule.proofs.registry.load_operation.Goals as goal
 
 pub load_registry-requires-clause-view : goal.load_registry-requires-clause-view
 load_registry-requires-clause-view c =
     let some_ = c.requires.version.0 in
-    inr (inl (c.args.version, c.requires.version.0, c.requires.version.1, omega arith))
+    inr (inl (
+      c.args.version,
+      subst (λ (z : Key). z.version < c.args.version) (sym c.requires.pass.about) c.requires.version.0,
+      c.requires.version.1,
+      omega arith,
+    ))
 
 pub returns-clause-view : goal.returns-clause-view
 returns-clause-view c =

@@ -55,6 +55,6 @@ returns c =
       number_is = refl;
       lines_is = omega arith;
       reads = read;
-      keys = no_keys p (knows_none v.about.rows.value v.learned none) keys;
+      keys = no_keys p (knows_none v.about v.learned none) keys;
     } in
     (p, storable, keys, is)

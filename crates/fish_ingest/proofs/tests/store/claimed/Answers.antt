@@ -37,8 +37,8 @@ returns-in-Placed-clause-placed c =
         origin = _;
         payload = c.args.payload.now;
         made = made;
-        active = subst (λ (k : Key). KnowsActive k.rows.value u.learned 0 (map text_of c.args.defs.now)) (sym about)
-            (knows_active c.args.log.now.key.rows.value u.learned c.args.defs.now c.requires.active);
+        active = subst (λ (k : Key). KnowsActive k u.learned 0 (map text_of c.args.defs.now)) (sym about)
+            (knows_active c.args.log.now.key u.learned c.args.defs.now c.requires.active);
         lane_is = c.lane-lane.ensures ∙ sym (ap (λ (z : View). z.lane) placed.known ∙ entered.keeps.lane);
         entered = ap (λ (z : View). z.epoch) placed.known ∙ entered.epoch ∙ ap Confirmed at_0;
       },
