@@ -1,6 +1,7 @@
 //! A lane that stores its share of the payloads, and two that do so at once.
 
 ghost use Rattle.std.specs.Prelude.{◌≡◌};
+ghost use Rattle.std.specs.Thread.{IsSync};
 ghost use Rattle.bench_ingest.specs.Lanes.{IsLaneOf};
 
 use crate::store::store_payload;
@@ -51,4 +52,33 @@ pub fn store_both<R: Threads + Sync>(
         &mut || store_all(alloc, log, two),
     );
     first.saturating_add(second)
+}
+
+/// Four lanes at once. How many bytes were stored.
+pub fn store_four<R: Threads + Sync>(
+    rt: &R,
+    alloc: Global,
+    log: &Log,
+    one: &mut Lane,
+    two: &mut Lane,
+    three: &mut Lane,
+    four: &mut Lane,
+) -> u64
+    requires one { IsLaneOf log.now one.old }
+    requires two { IsLaneOf log.now two.old }
+    requires three { IsLaneOf log.now three.old }
+    requires four { IsLaneOf log.now four.old }
+{
+    let (low, high) = join_mut(
+        rt,
+        &mut ||
+            requires sync { IsSync R.row }
+            requires lanes { IsLaneOf log.now one.now × IsLaneOf log.now two.now }
+        { store_both(rt, alloc, log, one, two) },
+        &mut ||
+            requires sync { IsSync R.row }
+            requires lanes { IsLaneOf log.now three.now × IsLaneOf log.now four.now }
+        { store_both(rt, alloc, log, three, four) },
+    );
+    low.saturating_add(high)
 }

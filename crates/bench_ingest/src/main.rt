@@ -13,7 +13,7 @@ mod store;
 
 use events::read_events;
 use fish_value::Text;
-use measures::{four_lanes, one_lane, parse_four, parse_one, parse_two, two_lanes};
+use measures::{four_lanes, one_lane, parse_four, parse_one, parse_two, read_one, two_lanes};
 use std::alloc::AllocError;
 use std::io::Eprint;
 use std::process::ExitCode;
@@ -30,6 +30,7 @@ fn round<R: Threads + Sync + Clock + AllocGlobal + Eprint>(
     payloads: &[Text],
 ) -> Result<(), AllocError> {
     parse_one(rt, payloads);
+    read_one(rt, payloads);
     one_lane(rt, payloads)?;
     parse_two(rt, payloads);
     two_lanes(rt, payloads)?;

@@ -8,8 +8,8 @@ ghost use Rattle.fish_rule.specs.Passes.{IsPassOf, view};
 ghost use Rattle.fish_rule.specs.declared.table.Log.{Log};
 
 use crate::definitions::four_definitions;
-use crate::lanes::{Lane, store_all, store_both};
-use crate::parses::{parse_all, parse_both};
+use crate::lanes::{Lane, store_all, store_both, store_four};
+use crate::parses::{parse_all, parse_both, read_all};
 use fish_epoch::Defs;
 use fish_rule::{Log, Pass, Shape, Start, open_log, split_pass};
 use fish_value::Text;
@@ -115,18 +115,8 @@ pub fn four_lanes<R: Threads + Sync + Clock + AllocGlobal + Eprint>(
     let Ok(start) = Instant::now(rt) else {
         return Ok(());
     };
-    let (low, high) = join_mut(
-        rt,
-        &mut ||
-            requires sync { IsSync R.row }
-            requires lanes { IsLaneOf log one × IsLaneOf log two }
-        { store_both(rt, alloc, &log, &mut one, &mut two) },
-        &mut ||
-            requires sync { IsSync R.row }
-            requires lanes { IsLaneOf log three × IsLaneOf log four }
-        { store_both(rt, alloc, &log, &mut three, &mut four) },
-    );
-    report(rt, "ingest", 4, start, low.saturating_add(high));
+    let bytes = store_four(rt, alloc, &log, &mut one, &mut two, &mut three, &mut four);
+    report(rt, "ingest", 4, start, bytes);
     Ok(())
 }
 
@@ -137,6 +127,15 @@ pub fn parse_one<R: Clock + AllocGlobal + Eprint>(rt: &R, payloads: &[Text]) {
     };
     let bytes = parse_all(rt.alloc(), payloads);
     report(rt, "parse", 1, start, bytes);
+}
+
+/// One thread reads all payloads with one reader.
+pub fn read_one<R: Clock + AllocGlobal + Eprint>(rt: &R, payloads: &[Text]) {
+    let Ok(start) = Instant::now(rt) else {
+        return;
+    };
+    let bytes = read_all(rt.alloc(), payloads);
+    report(rt, "read", 1, start, bytes);
 }
 
 /// Two threads parse half of the payloads each.

@@ -7,7 +7,7 @@ ghost use Rattle.fish_rule.specs.Steps.{CanPublish, after_publish, flight_kind};
 ghost use Rattle.fish_rule.specs.declared.view.Flight.{Flight};
 ghost use Rattle.fish_rule.specs.declared.view.Kind.TheVariants.{Stored};
 
-use fish_rule::{Log, Pass, in_flight, publish_region, store_word};
+use fish_rule::{Log, Pass, in_flight, publish_region, region_index, store_at};
 
 /// Stores all words of the record in flight, in order.
 pub fn fill(log: &Log, pass: &mut Pass, body: &[u64])
@@ -21,8 +21,9 @@ pub fn fill(log: &Log, pass: &mut Pass, body: &[u64])
     let Some(region) = in_flight(pass) else {
         unreachable!()
     };
+    let first = region_index(log, &region);
     for (offset, word) in body.iter().enumerate() {
-        store_word(log, pass, &region, offset as u64, *word);
+        store_at(log, pass, first, offset as u64, *word);
     }
 }
 

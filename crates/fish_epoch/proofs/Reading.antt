@@ -24,9 +24,9 @@ use Rattle.fish_rule.specs.Views.{Among}
 use Rattle.fish_rule.specs.declared.view.Key.{Key}
 use Rattle.fish_rule.specs.declared.view.RegistryWord.{RegistryWord}
 use Rattle.fish_rule.specs.declared.view.View.{View}
-use Rattle.fish_epoch.specs.Definitions.{IsDefsOf, version_of}
+use Rattle.fish_epoch.specs.Definitions.{IsKnownOf, version_of}
 use Rattle.fish_epoch.specs.Rows.{HasRow, HasWords, OnlyReads}
-use Rattle.fish_epoch.specs.declared.definitions.Defs.{Defs}
+use Rattle.fish_epoch.specs.declared.definitions.Known.{Known}
 
 -- ---- views
 
@@ -112,7 +112,7 @@ row_later v u id e h =
     })
 
 -- definitions that were read stay so
-pub defs_later : (v u : View) (d : Defs) → Learns v u → IsDefsOf v d → IsDefsOf u d
+pub defs_later : (v u : View) (d : Known) → Learns v u → IsKnownOf v d → IsKnownOf u d
 defs_later v u d e h read = record {
   read = read;
   rows = knows_later v u (version_of d) d.rows.items e (h read).rows;

@@ -6,27 +6,32 @@ use Rattle.fish_rule.specs.Keys.{text_of}
 use Rattle.fish_rule.specs.Registry.{KnowsDefinitions}
 use Rattle.fish_rule.specs.declared.view.View.{View}
 use Rattle.fish_epoch.specs.declared.definitions.Defs.{Defs}
+use Rattle.fish_epoch.specs.declared.definitions.Known.{Known}
 
 -- the version
-abbrev pub version_of : Defs → ℕ
+abbrev pub version_of : Known → ℕ
 version_of d = d.version
 
 -- the active definitions
-abbrev pub active_defs : Defs → List ActiveDef
+abbrev pub active_defs : Known → List ActiveDef
 active_defs d = d.active.items
 
 -- nothing has been read yet
-pub record IsUnread (d : Defs) : Type 0 where
+pub record IsUnread (d : Known) : Type 0 where
   pub unread : d.read ≡ false
   pub version : version_of d ≡ 0
 
 -- they were read: by the words that the pass has read, these are the definitions of their version, and the active
 -- ones among them
-pub record AreRead (v : View) (d : Defs) : Type 0 where
+pub record AreRead (v : View) (d : Known) : Type 0 where
   pub read : d.read ≡ true
   pub rows : KnowsDefinitions v.about v.learned (version_of d) d.rows.items
   pub active : map text_of (active_defs d) ≡ active_texts d.rows.items
 
 -- what they hold was read by this pass, or by one that it learned of
+abbrev pub IsKnownOf : View → Known → Type 0
+IsKnownOf v d = d.read ≡ true → AreRead v d
+
+-- so it is of the definitions that are kept beside a reader
 abbrev pub IsDefsOf : View → Defs → Type 0
-IsDefsOf v d = d.read ≡ true → AreRead v d
+IsDefsOf v d = IsKnownOf v d.known

@@ -11,12 +11,21 @@ use crate::rows::read_rows;
 use fish_catalog::Listed;
 use fish_lang::parse_def;
 use fish_psf::ActiveDef;
+use fish_read::RecordReader;
 use fish_rule::{Log, Pass};
 use std::alloc::{AllocError, Global};
 
+/// What a lane keeps from call to call: the definitions that its pass has read, and the memory in which
+/// it reads payloads.
+#[derive(Drop)]
+pub struct Defs {
+    pub known: Known,
+    pub reader: RecordReader,
+}
+
 /// The definitions of a version of one log's registry.
 #[derive(Debug, Drop)]
-pub struct Defs {
+pub struct Known {
     pub(crate) version: u16,
     pub(crate) read: bool,
     pub(crate) rows: Vec<Listed>,
@@ -26,11 +35,57 @@ pub struct Defs {
 impl Defs {
     ghost use Rattle.fish_epoch.specs.Definitions.{AreRead, IsDefsOf, IsUnread, active_defs, version_of};
 
-    /// No definition yet. Takes no memory.
+    /// No definition yet, and a reader without memory. Takes no memory.
     pub fn new(alloc: Global) -> Defs
-        ensures { IsUnread result }
+        ensures { IsUnread result.known }
     {
         Defs {
+            known: Known::new(alloc),
+            reader: RecordReader::new(alloc),
+        }
+    }
+
+    /// The version of the last `refresh` that was answered with Ok, or 0 before the first.
+    pub fn version(&self) -> u16
+        ensures { result ≡ version_of self.now.known }
+    {
+        self.known.version()
+    }
+
+    /// The active definitions of the version, in the order of their ids.
+    pub fn active(&self) -> &[ActiveDef]
+        ensures { result.now ≡ active_defs self.now.known }
+    {
+        self.known.active()
+    }
+
+    /// Reads the definitions of a version that the pass has loaded: the words of its rows and
+    /// operations, once a version. Where they are those of this version already, nothing is read.
+    pub fn refresh(&mut self, log: &Log, pass: &mut Pass, version: u16) -> Result<(), AllocError>
+        requires pass { IsPassOf log.now pass.old }
+        requires reached { version ≤ (view pass.old).learned.version }
+        requires defs { IsDefsOf (view pass.old) self.old }
+        ensures pass { IsPassOf log.now pass.new }
+        ensures reads { OnlyReads (view pass.old) (view pass.new) }
+        ensures read { OnOk result (AreRead (view pass.new) self.new.known) }
+        ensures version { OnOk result (version_of self.new.known ≡ version) }
+        ensures once { self.old.known.read ≡ true → version_of self.old.known ≡ version
+            → view pass.new ≡ view pass.old }
+
+        ensures refused { OnErr result (self.new ≡ self.old) }
+    {
+        self.known.refresh(log, pass, version)
+    }
+}
+
+impl Known {
+    ghost use Rattle.fish_epoch.specs.Definitions.{AreRead, IsKnownOf, IsUnread, active_defs, version_of};
+
+    /// No definition yet. Takes no memory.
+    pub fn new(alloc: Global) -> Known
+        ensures { IsUnread result }
+    {
+        Known {
             version: 0,
             read: false,
             rows: Vec::new(alloc),
@@ -57,7 +112,7 @@ impl Defs {
     pub fn refresh(&mut self, log: &Log, pass: &mut Pass, version: u16) -> Result<(), AllocError>
         requires pass { IsPassOf log.now pass.old }
         requires reached { version ≤ (view pass.old).learned.version }
-        requires defs { IsDefsOf (view pass.old) self.old }
+        requires defs { IsKnownOf (view pass.old) self.old }
         ensures pass { IsPassOf log.now pass.new }
         ensures reads { OnlyReads (view pass.old) (view pass.new) }
         ensures read { OnOk result (AreRead (view pass.new) self.new) }
@@ -72,7 +127,7 @@ impl Defs {
         let alloc = *self.rows.allocator();
         let rows = read_rows(alloc, log, pass, version)?;
         let active = parse_active(alloc, rows.as_slice())?;
-        *self = Defs {
+        *self = Known {
             version,
             read: true,
             rows,

@@ -10,5 +10,5 @@ mod rows;
 #[cfg(test)]
 mod tests;
 
-pub use definitions::Defs;
+pub use definitions::{Defs, Known};
 pub use entering::{enter, leave};

@@ -3,10 +3,9 @@ use Rattle.std.proofs.Common.{◌≡◌, ℕ, List, refl, ap, ◌∙◌, arith}
 use Rattle.fish_layout.specs.Body.{IsProper, body_words, parts_of}
 use Rattle.fish_layout.specs.declared.parts.BodyHead.{BodyHead}
 use Rattle.fish_layout.specs.declared.parts.KeyPart.{KeyPart}
-use Rattle.fish_psf.specs.Fields.{fields_of}
+use Rattle.fish_psf.specs.Eval.{Fields}
 use Rattle.fish_psf.specs.Keys.{keys_of}
 use Rattle.fish_psf.specs.declared.key.ActiveDef.{ActiveDef}
-use Rattle.fish_psf.specs.declared.record.Record.{Record}
 use Rattle.fish_ingest.specs.Definitions.{AreDefs}
 use Rattle.fish_ingest.specs.Entries.{AreEntriesFor}
 use Rattle.fish_ingest.specs.Records.{ArePartsFor, IsBodyFor, IsOrigin, IsRead}
@@ -19,8 +18,8 @@ abbrev pub head_of : Origin → BodyHead
 head_of origin = record { form = origin.form; lane = origin.lane; version = origin.version; number = 0 }
 
 -- the key entries of a record that was read, and its payload, are proper parts
-pub parts_proper : {defs : List ActiveDef} {origin : Origin} {payload : List ℕ} {found : Record} {keys : List KeyPart}
-    → AreDefs defs → IsOrigin origin → IsRead origin.form payload found → AreEntriesFor (fields_of found) defs keys
+pub parts_proper : {defs : List ActiveDef} {origin : Origin} {payload : List ℕ} {found : Fields} {keys : List KeyPart}
+    → AreDefs defs → IsOrigin origin → IsRead origin.form payload found → AreEntriesFor found defs keys
     → IsProper (parts_of (head_of origin) keys payload)
 parts_proper {defs} {origin} {payload} {found} {keys} are from read made =
     record {
@@ -28,15 +27,15 @@ parts_proper {defs} {origin} {payload} {found} {keys} are from read made =
       lane = from.lane;
       version = from.version;
       number = omega arith;
-      keys = keys_proper (fields_of found) defs keys are made;
+      keys = keys_proper found defs keys are made;
       short = record_short origin.form payload read.accepted;
       text = record_text origin.form payload read.accepted;
     }
 
 -- and their words are those of the payload
-unfoldable pub body_for : {defs : List ActiveDef} {origin : Origin} {payload : List ℕ} {found : Record}
+unfoldable pub body_for : {defs : List ActiveDef} {origin : Origin} {payload : List ℕ} {found : Fields}
     {keys : List KeyPart} {words : List ℕ}
-    → AreDefs defs → IsOrigin origin → IsRead origin.form payload found → AreEntriesFor (fields_of found) defs keys
+    → AreDefs defs → IsOrigin origin → IsRead origin.form payload found → AreEntriesFor found defs keys
     → words ≡ body_words (parts_of (head_of origin) keys payload) → IsBodyFor defs origin payload words
 body_for {defs} {origin} {payload} {found} {keys} {words} are from read made is =
     let parts : ArePartsFor defs origin payload (parts_of (head_of origin) keys payload) =

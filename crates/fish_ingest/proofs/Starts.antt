@@ -6,7 +6,7 @@ use Rattle.fish_catalog.proofs.ActiveTexts.{active_ids_below, active_ids_increas
 use Rattle.fish_claim.proofs.Known.{knows_later}
 use Rattle.fish_epoch.specs.Definitions.{AreRead, active_defs}
 use Rattle.fish_epoch.specs.Entering.{HasEntered, Keeps}
-use Rattle.fish_epoch.specs.declared.definitions.Defs.{Defs}
+use Rattle.fish_epoch.specs.declared.definitions.Known.{Known}
 use Rattle.fish_ingest.proofs.Active.{def_ids}
 use Rattle.fish_ingest.proofs.Passed.{found_both, found_same, on_both, on_keeps}
 use Rattle.fish_ingest.specs.Definitions.{AreDefs, id_of}
@@ -96,7 +96,7 @@ not_claimed_left v a b c s can e f is = subst (HasNotClaimed v) (sym is) (record
 -- ---- definitions
 
 -- the active definitions that were read are in the order of their ids
-pub are_defs : (v : View) (d : Defs) → Stands v → AreRead v d → AreDefs (active_defs d)
+pub are_defs : (v : View) (d : Known) → Stands v → AreRead v d → AreDefs (active_defs d)
 are_defs v d s h =
     let listing = listing_law v _ d.rows.items s h.rows in
     let ids : map (λ (t : ℕ × List ℕ). t.0) (map text_of (active_defs d)) ≡ map id_of (active_defs d) =

@@ -3,13 +3,12 @@ use Rattle.std.specs.Prelude.{ℕ, ◌≡◌, ◌≤◌, List, IsTrue, map, true
 use Rattle.fish_layout.specs.Body.{IsBody}
 use Rattle.fish_layout.specs.Cleared.{AreUnlinked}
 use Rattle.fish_layout.specs.declared.parts.BodyParts.{BodyParts}
-use Rattle.fish_psf.specs.Fields.{fields_of}
+use Rattle.fish_psf.specs.Eval.{Fields}
 use Rattle.fish_psf.specs.Keys.{keys_of}
 use Rattle.fish_psf.specs.Records.{fields_of_payload, is_record}
 use Rattle.fish_psf.specs.declared.key.ActiveDef.{ActiveDef}
 use Rattle.fish_psf.specs.declared.reading.PsfRefusal.{PsfRefusal}
 use Rattle.fish_psf.specs.declared.reading.PsfRefusal.TheVariants as parsing
-use Rattle.fish_psf.specs.declared.record.Record.{Record}
 use Rattle.fish_rule.specs.Keys.{property}
 use Rattle.fish_value.specs.declared.field.Form.{Form}
 use Rattle.fish_ingest.specs.declared.origin.Origin.{Origin}
@@ -23,9 +22,9 @@ pub record IsOrigin (origin : Origin) : Type 0 where
   pub lane : origin.lane ≤ 16
   pub version : origin.version ≤ 512
 
--- this was read of a payload, which is a record of its form
-pub record IsRead (form : Form) (payload : List ℕ) (found : Record) : Type 0 where
-  pub fields : fields_of found ≡ fields_of_payload form payload
+-- these fields were read of a payload, which is a record of its form
+pub record IsRead (form : Form) (payload : List ℕ) (found : Fields) : Type 0 where
+  pub fields : found ≡ fields_of_payload form payload
   pub accepted : is_record form payload ≡ true
 
 -- the refusal of a parse, as one of a record

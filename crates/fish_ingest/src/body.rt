@@ -5,29 +5,28 @@ ghost use Rattle.fish_ingest.specs.Definitions.{AreDefs};
 ghost use Rattle.fish_ingest.specs.Entries.{AreEntriesFor, IsEntry, IsShort};
 ghost use Rattle.fish_ingest.specs.Records.{IsOrigin, IsPreparedFor, IsRead};
 ghost use Rattle.fish_layout.specs.Body.{IsProperValue};
-ghost use Rattle.fish_psf.specs.Fields.{fields_of};
 ghost use Rattle.fish_psf.specs.Keys.{key_of};
 ghost use Rattle.fish_rule.specs.Keys.{property};
 
 use crate::origin::Origin;
 use crate::prepared::Prepared;
 use fish_layout::{BodyHead, KeyPart, KeyParts, body_from};
-use fish_psf::{ActiveDef, Record, eval};
+use fish_psf::{ActiveDef, Parsed, eval};
 use fish_value::Value;
 use std::alloc::{AllocError, Global};
 
 /// Makes the record that a payload is, with a key entry for each definition that gives a value for it,
 /// and number 0. The caller has parsed the payload, which is copied once, into the words.
-pub fn prepare(
+pub fn prepare<R: Parsed>(
     alloc: Global,
     defs: &[ActiveDef],
     origin: Origin,
-    found: &Record,
+    found: &R,
     payload: &[u8],
 ) -> Result<Prepared, AllocError>
     requires defs { AreDefs defs.now }
     requires origin { IsOrigin origin }
-    requires read { IsRead origin.form payload.now found.now }
+    requires read { IsRead origin.form payload.now (R.fields found.now) }
     ensures { IfOk result (IsPreparedFor defs.now origin payload.now) }
 {
     let keys = entries_of(alloc, defs, found)?;
@@ -43,8 +42,8 @@ pub fn prepare(
 
 /// The key entries of a record, with no previous nodes.
 #[tactic(auto, unfolding(fish_psf::specs::Keys::keys_of))]
-fn entries_of(alloc: Global, defs: &[ActiveDef], found: &Record) -> Result<KeyParts, AllocError>
-    ensures { IfOk result (AreEntriesFor (fields_of found.now) defs.now) }
+fn entries_of<R: Parsed>(alloc: Global, defs: &[ActiveDef], found: &R) -> Result<KeyParts, AllocError>
+    ensures { IfOk result (AreEntriesFor (R.fields found.now) defs.now) }
 {
     let mut keys = KeyParts::new(alloc);
     for active in defs {
@@ -57,13 +56,13 @@ fn entries_of(alloc: Global, defs: &[ActiveDef], found: &Record) -> Result<KeyPa
 
 /// The key entry of one definition, where it gives a value.
 #[tactic(auto, using(crate::proofs::Values::value_short))]
-fn entry_of(
+fn entry_of<R: Parsed>(
     alloc: Global,
     active: &ActiveDef,
-    found: &Record,
+    found: &R,
 ) -> Result<Option<KeyPart>, AllocError>
     ensures value { IfOk result (λ entry.
-        option_map property entry ≡ key_of (fields_of found.now) active.now) }
+        option_map property entry ≡ key_of (R.fields found.now) active.now) }
     ensures entry { IfOk result (λ entry. IfSome entry IsEntry) }
 {
     let Some(value) = eval(alloc, &active.def, found)? else {

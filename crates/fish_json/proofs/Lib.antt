@@ -4,3 +4,4 @@ mod Readings
 mod Found
 mod Elements
 pub mod Records
+pub mod Short

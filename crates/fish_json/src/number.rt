@@ -1,6 +1,8 @@
 //! The text of a JSON number as `serde_json` takes it: a whole number of 64 bits, or a double.
 
-ghost use Rattle.std.specs.Prelude.{◌≡◌, true, false, ◌==◌, ◌<◌, length, slice_index, IsTrue, is_some, Some, MatchOption, option_and_then};
+ghost use Rattle.std.specs.Char.{is_ascii_digit};
+ghost use Rattle.std.specs.List.{list_all};
+ghost use Rattle.std.specs.Prelude.{◌≡◌, true, false, ◌==◌, ◌<◌, ◌≤◌, length, slice_index, IsTrue, is_some, Some, MatchOption, option_and_then};
 ghost use Rattle.serde_json.specs.Data.{unsigned, negative};
 ghost use Rattle.serde_json.specs.Find.{as_i64};
 ghost use Rattle.serde_json.specs.Read.{float_of, number_from, number_of};
@@ -8,9 +10,13 @@ ghost use Rattle.serde_json.specs.Read.{float_of, number_from, number_of};
 use fast_float::Numeral;
 
 /// Whether a number's text is in the range of a double.
+#[tactic(auto, using(crate::proofs::Short::short_number))]
 pub(crate) fn in_range(text: &str) -> bool
     ensures { result ≡ is_some (number_of text.now) }
 {
+    if is_short(text.as_bytes()) {
+        return true;
+    }
     let (is_negative, numeral) = parts(text);
     let is_whole = if is_negative {
         negative_int(&numeral).is_some()
@@ -18,6 +24,21 @@ pub(crate) fn in_range(text: &str) -> bool
         positive_int(&numeral).is_some()
     };
     is_whole || numeral.to_float::<f64>(is_negative).is_finite()
+}
+
+/// Whether bytes are one to eighteen digits, which are a whole number of 64 bits.
+fn is_short(bytes: &[u8]) -> bool
+    ensures { IsTrue result → (0 < length bytes.now) × (length bytes.now ≤ 18)
+        × (list_all is_ascii_digit bytes.now ≡ true) }
+{
+    !bytes.is_empty() && bytes.len() <= 18 && are_digits(bytes)
+}
+
+/// Whether bytes are digits.
+fn are_digits(bytes: &[u8]) -> bool
+    ensures { result ≡ list_all is_ascii_digit bytes.now }
+{
+    bytes.iter().all(|byte| byte.is_ascii_digit())
 }
 
 /// The whole number of 64 bits with a sign that a number's text is.

@@ -5,6 +5,8 @@ use Rattle.std.proofs.Common.{refl, sym, ap, ◌∙◌, subst}
 use Rattle.std.proofs.Common.{inl, inr, arith, append_assoc, length-append, length-drop}
 use Rattle.std.specs.Int.{from_le_bytes, to_le_bytes}
 use Rattle.std.specs.Int.Width.{w64}
+use Rattle.std.proofs.Common.{drop-drop, map}
+use Rattle.std.specs.Simd.{first_chunks}
 use Rattle.std.specs.List.{flat_map}
 use Rattle.std.proofs.lemmas.Bool.{cases_lt}
 use Rattle.std.proofs.lemmas.Grind.{flat_map-append}
@@ -150,6 +152,17 @@ words_split b c more front behind many =
     let parts : b ≡ c ++ more =
     sym (take-append-drop 8 b) ∙ ap (λ l. l ++ drop 8 b) (sym front) ∙ ap (λ l. c ++ l) (sym behind) in
     ap words_of_bytes parts ∙ words_chunk c more (ap length front ∙ length-take-le 8 b many)
+
+-- so many times eight bytes are as many words, and those behind them the others
+pub words_chunks : (k : ℕ) (b : List ℕ) → 8 * k ≤ length b →
+    words_of_bytes b ≡ map (from_le_bytes w64) (first_chunks 8 k b) ++ words_of_bytes (drop (k * 8) b)
+words_chunks zero b h = refl
+words_chunks (suc k) b h =
+    let size = length-drop 8 b in
+    words_split b (take 8 b) (drop 8 b) refl refl (omega arith)
+    ∙ ap (λ l. from_le_bytes w64 (take 8 b) ∷ l) (words_chunks k (drop 8 b) (omega arith))
+    ∙ ap (λ l. from_le_bytes w64 (take 8 b) ∷ (map (from_le_bytes w64) (first_chunks 8 k (drop 8 b)) ++ words_of_bytes l))
+    (drop-drop (k * 8) 8 b ∙ ap (λ n. drop n b) (omega arith))
 
 -- bytes that are none are no word
 pub words_empty : (b : List ℕ) → length b ≡ 0 → words_of_bytes b ≡ []

@@ -199,11 +199,8 @@ fn push_value(bytes: &mut ValueBytes, value: &Value) -> Result<(), AllocError>
 fn push_bytes(words: &mut Vec<u64>, bytes: &[u8]) -> Result<(), AllocError>
     ensures { OnOk result (words.new.items ≡ words.old.items ++ words_of_bytes bytes.now) }
 {
-    let mut rest = bytes;
-    while let Some((chunk, more)) = rest.split_first_chunk::<8>() {
-        words.push(u64::from_le_bytes(*chunk))?;
-        rest = more;
-    }
+    let (chunks, rest) = bytes.as_chunks::<8>();
+    words.extend(chunks.iter().map(|chunk: &[u8; 8]| u64::from_le_bytes(*chunk)))?;
     if rest.is_empty() {
         return Ok(());
     }

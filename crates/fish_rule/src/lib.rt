@@ -33,7 +33,7 @@ pub use registry::{
 pub use seats::{Start, base, buckets, first_version, join_pass, open_log, shape, split_pass};
 pub use steps::{
     claim_lines, in_flight, is_shut, kind_in, lane, load_settled, load_tail, look_at,
-    publish_region, raise_settled, read_word, store_word,
+    publish_region, raise_settled, read_word, region_index, store_at, store_word,
 };
 pub use table::{Base, Log, LogRule, Pass, Region, Shape, Walk};
 pub use view::{

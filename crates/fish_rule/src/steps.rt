@@ -1,7 +1,7 @@
 //! One atomic step each. What it does to the words and to what the pass knows is a definition, and
 //! the rule of the table allows it wherever the pass's view does.
 
-ghost use Rattle.std.specs.Prelude.{◌≡◌, ◌≢◌, ◌+◌, ◌*◌, ◌<◌, ◌≤◌, ℕ, [], length, Some};
+ghost use Rattle.std.specs.Prelude.{◌≡◌, ◌≢◌, ◌+◌, ◌-◌, ◌*◌, ◌<◌, ◌≤◌, ℕ, [], length, Some};
 ghost use Rattle.fish_rule.specs.Flying.{region_in};
 ghost use Rattle.fish_rule.specs.Passes.{IsPassOf, view};
 ghost use Rattle.fish_rule.specs.Parts.{Rests};
@@ -11,7 +11,7 @@ ghost use Rattle.fish_rule.specs.Reading.{CanLook, CanRaise, CanRead, IsAlone, a
 ghost use Rattle.fish_rule.specs.Reading.{after_raise, after_read, after_settled};
 ghost use Rattle.fish_rule.specs.Table.{Sees};
 ghost use Rattle.fish_rule.specs.Views.{Among};
-ghost use Rattle.fish_rule.specs.World.{high, low, slots};
+ghost use Rattle.fish_rule.specs.World.{high, low, slots, log_at as first_log_word};
 ghost use Rattle.fish_rule.specs.declared.view.Flight.{Flight};
 ghost use Rattle.fish_rule.specs.declared.view.Found.{Found};
 
@@ -86,6 +86,27 @@ pub fn store_word(log: &Log, pass: &mut Pass, region: &Region, offset: u64, word
     log.table
         .shared
         .store::<Store>(&mut pass.seat, index as usize, word);
+}
+
+/// The index of a region's first word among the words of the table.
+pub fn region_index(log: &Log, region: &Region) -> u64
+    requires { (log.now.key.line ≤ region.now.line) × (region.now.line < 68719476736) }
+    ensures { result ≡ first_log_word log.now.key + (region.now.line * 4 - log.now.key.line * 4) }
+{
+    log_at(&log.key) + (region.line * 4 - log.key.line * 4)
+}
+
+/// Stores the next word of the region in flight, whose first word has this index.
+pub fn store_at(log: &Log, pass: &mut Pass, first: u64, offset: u64, word: u64)
+    requires pass { IsPassOf log.now pass.old }
+    requires view { (f : Flight) × CanStore (view pass.old) f
+        × (first_log_word log.now.key + (f.line * 4 - log.now.key.line * 4) ≡ first) × (length f.words ≡ offset) }
+    ensures pass { IsPassOf log.now pass.new }
+    ensures view { (f : Flight) → (view pass.old).flight ≡ Some f → view pass.new ≡ after_store (view pass.old) f word }
+{
+    log.table
+        .shared
+        .store::<Store>(&mut pass.seat, (first + offset) as usize, word);
 }
 
 /// Publishes the region in flight, by a store of its directory word. A mark shuts the pass.

@@ -2,7 +2,6 @@
 use Rattle.std.proofs.Common.{◌≡◌, ◌++◌, ap, append-nil, subst, sym, ◌∙◌}
 use Rattle.std.specs.Prelude.{Option, option_to_list}
 use Rattle.fish_layout.specs.declared.parts.KeyPart.{KeyPart}
-use Rattle.fish_psf.specs.Fields.{fields_of}
 use Rattle.fish_ingest.specs.Entries.{AreEntriesFor}
 use Rattle.fish_ingest.proofs.Keys.{entries_more}
 use Rattle.fish_ingest.proofs.body.entries_of.Goals as goal
@@ -10,7 +9,7 @@ use Rattle.fish_ingest.proofs.body.entries_of.Goals.{in-Some+in_ok-push, in_defa
 
 -- the definition's entry, if there is one, stands behind the others
 pub loop-active-preserved : goal.loop-active-preserved
-loop-active-preserved c =
+loop-active-preserved g c =
     let keys = c.loop-active.keys in
     let found = c.in_ok-entry.ensures in
     let with = λ (entry : Option KeyPart). keys ++ option_to_list entry in
@@ -20,6 +19,6 @@ loop-active-preserved c =
       | in_default w ↦ w.keys-is ∙ sym (append-nil keys) ∙ ap with (sym w.in_default.is)
     ] in
     let more =
-    entries_more (fields_of c.args.found.now) c.args.defs.now c.loop-active.active-index c.active-item.result keys
+    entries_more (g.R.Parsed.fields c.args.found.now) c.args.defs.now c.loop-active.active-index c.active-item.result keys
     c.in_ok-entry.field-0 c.loop-active-test.true c.active-item.is found.value found.entry c.loop-active.invariant in
     subst (AreEntriesFor _ _) (sym grown) more

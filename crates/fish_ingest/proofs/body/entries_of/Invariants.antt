@@ -1,8 +1,7 @@
 -- The entries so far are those of the definitions so far.
 use Rattle.std.proofs.Common.{take}
-use Rattle.fish_psf.specs.Fields.{fields_of}
 use Rattle.fish_ingest.specs.Entries.{AreEntriesFor}
 use Rattle.fish_ingest.proofs.body.entries_of.Given as goal
 
 abbrev pub invariant-loop-active : goal.invariant-loop-active
-invariant-loop-active l = AreEntriesFor (fields_of l.found) (take l.active-index l.defs) l.keys
+invariant-loop-active g l = AreEntriesFor (g.R.Parsed.fields l.found) (take l.active-index l.defs) l.keys

@@ -1,8 +1,8 @@
 -- The definitions are those of the version, or those of before.
 use Rattle.std.proofs.Common.{sym, subst}
 use Rattle.fish_epoch.proofs.Reading.{defs_later}
-use Rattle.fish_epoch.specs.Definitions.{IsDefsOf}
-use Rattle.fish_epoch.specs.declared.definitions.Defs.{Defs}
+use Rattle.fish_epoch.specs.Definitions.{IsKnownOf}
+use Rattle.fish_epoch.specs.declared.definitions.Known.{Known}
 use Rattle.fish_ingest.proofs.Starts.{are_defs}
 use Rattle.fish_ingest.specs.Definitions.{AreDefs}
 use Rattle.fish_rule.specs.Passes.{view}
@@ -11,7 +11,7 @@ use Rattle.fish_ingest.proofs.starting.prepare_at.Goals as goal
 pub returns-in_err-refresh-clause-defs : goal.returns-in_err-refresh-clause-defs
 returns-in_err-refresh-clause-defs c =
     let u = view c.refresh.new.pass in
-    subst (λ (d : Defs). IsDefsOf u d) (sym c.in_err-refresh.ensures.refused)
+    subst (λ (d : Known). IsKnownOf u d) (sym c.in_err-refresh.ensures.refused)
     (defs_later (view c.args.pass.now) u c.args.defs.now c.refresh.ensures.reads.extends.learns c.requires.defs)
 
 pub prepare-requires-clause-defs : goal.prepare-requires-clause-defs

@@ -1,0 +1,128 @@
+//! Reads payloads of either form one after another, with memory that is kept.
+
+ghost use Rattle.std.specs.Prelude.{◌≡◌, ◌≢◌, ◌↔◌, ◌+◌, ◌<◌, ◌≤◌, true, false, length, IfOk, IfErr, OnOk, IsErrOf};
+ghost use Rattle.fish_psf.specs.Records.{fields_of_payload, is_record};
+ghost use Rattle.fish_read.specs.Rows.{fields_in_row, form_of_row};
+
+use fish_csv::{CsvReader, CsvRecordRefusal, CsvRow};
+use fish_json::{JsonReader, JsonRow, MAX_PAYLOAD, RecordRefusal};
+use fish_psf::{Parsed, PsfRefusal, Steps};
+use fish_value::{Field, Form, Path};
+use std::alloc::{AllocError, Global};
+use std::sync::ledger::Ledger;
+
+/// Reads payloads, and keeps its memory from one to the next. It has over 16 KiB in place, so make it
+/// once and don't move it.
+#[derive(Drop)]
+pub struct RecordReader {
+    json: JsonReader,
+    csv: CsvReader,
+}
+
+/// A record that was read. It lends the payload and the memory of the reader.
+#[derive(Drop)]
+pub enum RecordRow<'a> {
+    /// A line in JSON.
+    Json(JsonRow<'a>),
+    /// A row in CSV.
+    Csv(CsvRow<'a>),
+}
+
+impl RecordReader {
+    /// A reader that has no memory yet.
+    pub fn new(alloc: Global) -> RecordReader {
+        RecordReader {
+            json: JsonReader::new(alloc),
+            csv: CsvReader::new(alloc),
+        }
+    }
+
+    /// Reads a payload as a record of a form, and counts that, as [`parse`] does. The reader reads the
+    /// next one once the row is let go.
+    pub fn read<'a, P: Ledger>(
+        &'a mut self,
+        alloc: Global,
+        form: Form,
+        b: &'a [u8],
+        parses: &mut Steps<P>,
+    ) -> Result<RecordRow<'a>, PsfRefusal>
+        ensures form { IfOk result (λ found. form_of_row found ≡ form) }
+        ensures fields { IfOk result (λ found. fields_in_row found ≡ fields_of_payload form b.now) }
+        ensures accepted { OnOk result (is_record form b.now ≡ true) }
+        ensures counted { parses.new ≡ parses.old + 1 }
+
+        ensures too_long { IsErrOf result PsfRefusal.TooLong ↔ (MAX_PAYLOAD < length b.now) }
+        ensures not_record { IsErrOf result PsfRefusal.NotRecord
+            → (length b.now ≤ MAX_PAYLOAD) × (is_record form b.now ≡ false) }
+        ensures none { IfErr result (λ e. e ≢ PsfRefusal.OutOfMemory → is_record form b.now ≡ false) }
+    {
+        parses.tick();
+        match form {
+            Form::Json => json_row(alloc, &mut self.json, b),
+            Form::Csv => csv_row(&mut self.csv, b),
+        }
+    }
+}
+
+/// The same of a line in JSON.
+#[tactic(auto, using(fish_psf::proofs::RecordLemmas::json_records))]
+fn json_row<'a>(
+    alloc: Global,
+    reader: &'a mut JsonReader,
+    b: &'a [u8],
+) -> Result<RecordRow<'a>, PsfRefusal>
+    ensures form { IfOk result (λ found. form_of_row found ≡ Form.Json) }
+    ensures fields { IfOk result (λ found. fields_in_row found ≡ fields_of_payload Form.Json b.now) }
+    ensures accepted { OnOk result (is_record Form.Json b.now ≡ true) }
+
+    ensures too_long { IsErrOf result PsfRefusal.TooLong ↔ (MAX_PAYLOAD < length b.now) }
+    ensures not_record { IsErrOf result PsfRefusal.NotRecord
+        → (length b.now ≤ MAX_PAYLOAD) × (is_record Form.Json b.now ≡ false) }
+    ensures none { IfErr result (λ e. e ≢ PsfRefusal.OutOfMemory → is_record Form.Json b.now ≡ false) }
+{
+    if b.len() > MAX_PAYLOAD {
+        return Err(PsfRefusal::TooLong);
+    }
+    match reader.read(alloc, b) {
+        Ok(line) => Ok(RecordRow::Json(line)),
+        Err(RecordRefusal::TooLong) => Err(PsfRefusal::TooLong),
+        Err(RecordRefusal::NotJson) | Err(RecordRefusal::NotObject) => Err(PsfRefusal::NotRecord),
+        Err(RecordRefusal::OutOfMemory) => Err(PsfRefusal::OutOfMemory),
+    }
+}
+
+/// The same of a row in CSV.
+#[tactic(auto, using(fish_psf::proofs::RecordLemmas::csv_records))]
+fn csv_row<'a>(reader: &'a mut CsvReader, b: &[u8]) -> Result<RecordRow<'a>, PsfRefusal>
+    ensures form { IfOk result (λ found. form_of_row found ≡ Form.Csv) }
+    ensures fields { IfOk result (λ found. fields_in_row found ≡ fields_of_payload Form.Csv b.now) }
+    ensures accepted { OnOk result (is_record Form.Csv b.now ≡ true) }
+
+    ensures too_long { IsErrOf result PsfRefusal.TooLong ↔ (MAX_PAYLOAD < length b.now) }
+    ensures not_record { IsErrOf result PsfRefusal.NotRecord
+        → (length b.now ≤ MAX_PAYLOAD) × (is_record Form.Csv b.now ≡ false) }
+    ensures none { IfErr result (λ e. e ≢ PsfRefusal.OutOfMemory → is_record Form.Csv b.now ≡ false) }
+{
+    if b.len() > MAX_PAYLOAD {
+        return Err(PsfRefusal::TooLong);
+    }
+    match reader.read(b) {
+        Ok(row) => Ok(RecordRow::Csv(row)),
+        Err(CsvRecordRefusal::TooLong) => Err(PsfRefusal::TooLong),
+        Err(CsvRecordRefusal::NotRow) => Err(PsfRefusal::NotRecord),
+        Err(CsvRecordRefusal::OutOfMemory) => Err(PsfRefusal::OutOfMemory),
+    }
+}
+
+impl<'a> Parsed for RecordRow<'a> {
+    ghost use Rattle.fish_read.specs.Rows.{fields_in_row};
+
+    ghost fields = { fields_in_row };
+
+    fn at(&self, alloc: Global, path: &Path) -> Result<Field, AllocError> {
+        match self {
+            RecordRow::Json(line) => line.get(alloc, path),
+            RecordRow::Csv(row) => row.get(alloc, path),
+        }
+    }
+}
