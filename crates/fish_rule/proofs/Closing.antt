@@ -13,7 +13,7 @@ use Rattle.fish_rule.specs.Parts.{Rests}
 use Rattle.fish_rule.specs.Facts.{Facts, IsFound, IsKnown, IsRecorded, Owns}
 use Rattle.fish_rule.specs.Regions.{code}
 use Rattle.fish_rule.specs.Rule.{Rule}
-use Rattle.fish_rule.specs.Reading.{IsAlone, after_look, kind_told}
+use Rattle.fish_rule.specs.Reading.{IsAlone, after_end, after_look, kind_told}
 use Rattle.fish_rule.specs.Table.{Stands}
 use Rattle.fish_rule.specs.Views.{AllOf, Among}
 use Rattle.fish_rule.specs.Walks.{IsGap, IsLabel}
@@ -149,6 +149,9 @@ closes v entries x s alone tail told end =
       last = v;
       at = s.at;
       later = learns_self v;
+      lane_is = refl;
+      out_is = refl;
+      own_is = refl;
       owns = r.own s.seat v s.at;
       rests = r.tails s.seat v s.at alone.main alone.all;
       facts = r.facts s.seat v s.at;
@@ -193,6 +196,9 @@ closed_before v u entries x learns lane out own tail rests h =
       last = h.last;
       at = h.at;
       later = learns_both v u h.last learns h.later;
+      lane_is = h.lane_is ∙ lane;
+      out_is = h.out_is ∙ out;
+      own_is = h.own_is ∙ own;
       owns = owns;
       rests = there;
       facts = facts;
@@ -200,4 +206,12 @@ closed_before v u entries x learns lane out own tail rests h =
 
 -- a pass that only learns stays alone
 pub alone_later : (v u : View) → Extends v u → IsAlone v → IsAlone u
-alone_later v u e alone = record { main = e.lane ∙ alone.main; all = e.out ∙ alone.all; idle = e.flight ∙ alone.idle }
+alone_later v u e alone = record {
+  main = ap (λ (z : View). z.lane) e.frame ∙ alone.main;
+  all = ap (λ (z : View). z.out) e.frame ∙ alone.all;
+  idle = ap (λ (z : View). z.flight) e.frame ∙ alone.idle;
+}
+
+-- and so it does when it loads the tail
+pub alone_end : (v : View) (x : ℕ) → IsAlone v → IsAlone (after_end v x)
+alone_end v x alone = record { main = alone.main; all = alone.all; idle = alone.idle }

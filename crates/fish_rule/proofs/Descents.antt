@@ -6,6 +6,7 @@ use Rattle.fish_layout.specs.Cleared.{choose}
 use Rattle.fish_rule.proofs.Bodies.{kind-inside}
 use Rattle.fish_rule.proofs.Bounds.{starts_above}
 use Rattle.fish_rule.specs.World.{low}
+use Rattle.fish_rule.proofs.Extending.{later_loaded}
 use Rattle.fish_rule.proofs.Kept.{published}
 use Rattle.fish_rule.proofs.Walking.{claimed_there, gap_clear, within_region}
 use Rattle.fish_rule.specs.Linking.{HasNode, after_head, after_node, after_previous, gap, with_node}
@@ -56,15 +57,8 @@ extends_head v b x = record {
     gaps = λ x m. inr m;
     labels = λ x m. m;
   };
-  lane = refl;
-  out = refl;
-  shut = refl;
-  flight = refl;
-  epoch = refl;
-  rows = refl;
-  draft = refl;
-  tail = refl;
-  own = refl;
+  clock = later_loaded v.clock;
+  frame = refl;
 }
 
 -- so does a first word
@@ -85,15 +79,8 @@ extends_previous v b p x = record {
     gaps = λ x m. inr m;
     labels = λ x m. m;
   };
-  lane = refl;
-  out = refl;
-  shut = refl;
-  flight = refl;
-  epoch = refl;
-  rows = refl;
-  draft = refl;
-  tail = refl;
-  own = refl;
+  clock = later_loaded v.clock;
+  frame = refl;
 }
 
 -- and a second word
@@ -114,15 +101,8 @@ extends_node v p x = record {
     gaps = λ x m. m;
     labels = λ x m. inr m;
   };
-  lane = refl;
-  out = refl;
-  shut = refl;
-  flight = refl;
-  epoch = refl;
-  rows = refl;
-  draft = refl;
-  tail = refl;
-  own = refl;
+  clock = later_loaded v.clock;
+  frame = refl;
 }
 
 -- ---- where a walk goes on

@@ -1,12 +1,18 @@
 -- Views that only learn.
-use Rattle.std.proofs.Common.{◌≡◌, ◌≢◌, ℕ, ◌≤◌, max, zero, suc, List, refl, sym, ap, ◌∙◌, subst, inl, inr, arith}
+use Rattle.std.proofs.Common.{◌≡◌, ◌≢◌, ℕ, ◌≤◌, max, zero, suc, List, [], ◌∷◌, ◌++◌, refl, sym, ap, ◌∙◌, subst, inl, inr, arith}
+use Rattle.std.proofs.Common.{append_assoc}
 use Rattle.fish_rule.proofs.Common.{among_left, among_right}
-use Rattle.fish_rule.specs.Logs.{Extends, Learns}
+use Rattle.fish_rule.specs.Logs.{Extends, IsLater, Learns}
 use Rattle.fish_rule.specs.Seating.{join_both}
 use Rattle.fish_rule.specs.Reading.{after_end, after_look, after_read, found_after, kind_told}
+use Rattle.fish_rule.specs.Steps.{loaded, noted, ticked}
 use Rattle.fish_rule.specs.Views.{Among}
 use Rattle.fish_rule.specs.World.{high, low}
+use Rattle.fish_rule.specs.declared.view.Clock.{Clock}
 use Rattle.fish_rule.specs.declared.view.Found.{Found}
+use Rattle.fish_rule.specs.declared.view.Note.{Note}
+use Rattle.fish_rule.specs.declared.view.Noted.{Noted}
+use Rattle.fish_rule.specs.declared.view.Noted.TheVariants.{Directory}
 use Rattle.fish_rule.specs.declared.view.View.{View}
 
 -- ---- in general
@@ -54,34 +60,55 @@ learns_both a b c e f =
       labels = λ x m. f.labels x (e.labels x m);
     }
 
+-- ---- clocks
+
+-- a clock is no later than itself
+pub later_self : (c : Clock) → IsLater c c
+later_self c = record { steps = omega arith; loads = omega arith; notes = []; since = refl }
+
+-- what is later than a later one is later
+pub later_both : (a b c : Clock) → IsLater a b → IsLater b c → IsLater a c
+later_both a b c p q =
+    let first = p.steps in
+    let second = q.steps in
+    let one = p.loads in
+    let two = q.loads in
+    record {
+      steps = omega arith;
+      loads = omega arith;
+      notes = q.notes ++ p.notes;
+      since = q.since ∙ ap (λ (z : List Note). q.notes ++ z) p.since ∙ sym (append_assoc q.notes p.notes a.notes);
+    }
+
+-- a step makes a clock later
+pub later_ticked : (c : Clock) → IsLater c (ticked c)
+later_ticked c = record { steps = omega arith; loads = omega arith; notes = []; since = refl }
+
+-- and so do a load of a word of the log
+pub later_loaded : (c : Clock) → IsLater c (loaded c)
+later_loaded c = record { steps = omega arith; loads = omega arith; notes = []; since = refl }
+
+-- and one that is noted
+pub later_noted : (c : Clock) (what : Noted) (x : ℕ) → IsLater c (noted c what x)
+later_noted c what x = record {
+  steps = omega arith;
+  loads = omega arith;
+  notes = record { step = c.steps; what = what; value = x } ∷ [];
+  since = refl;
+}
+
+-- ---- views that extend others
+
 -- a view extends itself
 pub extends_self : (v : View) → Extends v v
-extends_self v = record {
-  learns = learns_self v;
-  lane = refl;
-  out = refl;
-  shut = refl;
-  flight = refl;
-  epoch = refl;
-  rows = refl;
-  draft = refl;
-  tail = refl;
-  own = refl;
-}
+extends_self v = record { learns = learns_self v; clock = later_self v.clock; frame = refl }
 
 -- and what extends an extension extends it
 pub extends_both : (a b c : View) → Extends a b → Extends b c → Extends a c
 extends_both a b c e f = record {
   learns = learns_both a b c e.learns f.learns;
-  lane = f.lane ∙ e.lane;
-  out = f.out ∙ e.out;
-  shut = f.shut ∙ e.shut;
-  flight = f.flight ∙ e.flight;
-  epoch = f.epoch ∙ e.epoch;
-  rows = f.rows ∙ e.rows;
-  draft = f.draft ∙ e.draft;
-  tail = f.tail ∙ e.tail;
-  own = f.own ∙ e.own;
+  clock = later_both a.clock b.clock c.clock e.clock f.clock;
+  frame = f.frame ∙ ap (λ (z : View). record z { learned = c.learned; clock = c.clock }) e.frame;
 }
 
 -- ---- a read
@@ -104,15 +131,8 @@ extends_read v place x = record {
     gaps = λ x m. m;
     labels = λ x m. m;
   };
-  lane = refl;
-  out = refl;
-  shut = refl;
-  flight = refl;
-  epoch = refl;
-  rows = refl;
-  draft = refl;
-  tail = refl;
-  own = refl;
+  clock = later_loaded v.clock;
+  frame = refl;
 }
 
 -- the same where the view is known by an equation
@@ -151,15 +171,8 @@ extends_look v n lines x = record {
     gaps = λ x m. m;
     labels = λ x m. m;
   };
-  lane = refl;
-  out = refl;
-  shut = refl;
-  flight = refl;
-  epoch = refl;
-  rows = refl;
-  draft = refl;
-  tail = refl;
-  own = refl;
+  clock = later_noted v.clock (Directory n) x;
+  frame = refl;
 }
 
 -- the region of a word that isn't 0 is found

@@ -18,14 +18,16 @@ use Rattle.fish_rule.proofs.Bounds.{starts_above}
 use Rattle.fish_rule.proofs.Bodies.{kind-inside}
 use Rattle.fish_rule.proofs.Worlds.{area-in}
 use Rattle.fish_rule.specs.Chains.{IsLow, Linked}
-use Rattle.fish_rule.specs.Linking.{CanLoadHead, HasNode, LowRises, TopRises, after_head}
-use Rattle.fish_rule.specs.Linking.{after_previous, gap, with_node}
+use Rattle.fish_rule.specs.Linking.{CanLoadHead, HasNode, LowRises, TopRises, after_head, head_seen}
+use Rattle.fish_rule.specs.Linking.{after_previous, gap, previous_seen, with_node}
+use Rattle.fish_rule.specs.Steps.{loaded}
 use Rattle.fish_rule.specs.Parts.{first_head}
 use Rattle.fish_rule.specs.Rule.{Final, Rule}
 use Rattle.fish_rule.specs.Table.{Ruled, Sat, Told}
 use Rattle.fish_rule.specs.Told.{ToldHead, ToldPrevious, bucket_at, place_at}
 use Rattle.fish_rule.specs.Views.{AllOf}
 use Rattle.fish_rule.specs.World.{World, heads_at, log_at, log_size, world}
+use Rattle.fish_rule.specs.declared.view.Clock.{Clock}
 use Rattle.fish_rule.specs.declared.view.Key.{Key}
 use Rattle.fish_rule.specs.declared.view.Kind.TheVariants.{Mark, Stored}
 use Rattle.fish_rule.specs.declared.view.Node.{Node}
@@ -86,9 +88,9 @@ module _ (k : Key) (w : World) (r : Rule k w) where
 -- ---- heads
 
 module _ (k : Key) (w : World) (r : Rule k w) (id : ℕ) (v : View) (at : get_elem? w.views id ≡ some v) (b : ℕ) where
-  -- the view afterwards
-  abbrev pub top_seer : View
-  top_seer = after_head v b (w.head b)
+  -- the view afterwards, with some clock
+  abbrev pub top_seer : Clock → View
+  top_seer clock = head_seen v b (w.head b) clock
 
   -- what is known of the head has been reached
   pub head_rises : TopRises v b (w.head b)
@@ -100,14 +102,14 @@ module _ (k : Key) (w : World) (r : Rule k w) (id : ℕ) (v : View) (at : get_el
   top_gap = gap_there k w r b v.learned.settled (v.about.end * 4) (w.head b) (r.floors id v at)
       (λ p linked under. (r.chains b).highest p linked)
 
-  module _ (about : v.about ≡ k) where
-    -- a load of a head keeps the rule
-    pub head_kept : Rule k (record w { views = set w.views id top_seer })
+  module _ (clock : Clock) (about : v.about ≡ k) where
+    -- a step that sees a head keeps the rule
+    pub head_kept : Rule k (record w { views = set w.views id (top_seer clock) })
     head_kept =
         let h = r.facts id v at in
-        let still = still_chained k w r id v at top_seer.learned v.tail top_seer.clock in
-        let final = learn_final k w r id v at top_seer.learned v.tail top_seer.clock in
-        learns k w r id v at top_seer.learned v.tail top_seer.clock (r.tails id v at)
+        let still = still_chained k w r id v at (top_seer clock).learned v.tail clock in
+        let final = learn_final k w r id v at (top_seer clock).learned v.tail clock in
+        learns k w r id v at (top_seer clock).learned v.tail clock (r.tails id v at)
         (record {
           counted = h.counted;
           found = h.found;
@@ -126,9 +128,9 @@ module _ (k : Key) (w : World) (r : Rule k w) (id : ℕ) (v : View) (at : get_el
 
     -- and all that lasts
     pub head_lasts : Final k r.start head_kept.start r.lane_of head_kept.lane_of w
-        (record w { views = set w.views id top_seer })
+        (record w { views = set w.views id (top_seer clock) })
     unfolding head_kept learns
-    head_lasts = learn_final k w r id v at top_seer.learned v.tail top_seer.clock
+    head_lasts = learn_final k w r id v at (top_seer clock).learned v.tail clock
 
 -- ---- first words
 
@@ -139,9 +141,9 @@ module _ (k : Key) (w : World) (r : Rule k w) (id : ℕ) (v : View) (at : get_el
   node_linked = all_among (λ x. Linked k w.dir w.log w.views x.bucket x.place) _ v.learned.nodes
       (r.chained id v at).nodes node
 
-  -- the view afterwards
-  abbrev pub low_seer : View
-  low_seer = after_previous v b p (w.log p)
+  -- the view afterwards, with some clock
+  abbrev pub low_seer : Clock → View
+  low_seer clock = previous_seen v b p (w.log p) clock
 
   -- what is known of the first word has been reached
   pub low_rises : LowRises v p (w.log p)
@@ -157,15 +159,15 @@ module _ (k : Key) (w : World) (r : Rule k w) (id : ℕ) (v : View) (at : get_el
   low_gap = gap_there k w r b v.learned.settled p (w.log p) (r.floors id v at)
       (λ q linked under. ((r.chains b).next p node_linked).most q linked under)
 
-  module _ (about : v.about ≡ k) where
-    -- a load of a first word keeps the rule
-    pub previous_kept : Rule k (record w { views = set w.views id low_seer })
+  module _ (clock : Clock) (about : v.about ≡ k) where
+    -- a step that sees a first word keeps the rule
+    pub previous_kept : Rule k (record w { views = set w.views id (low_seer clock) })
     previous_kept =
         let h = r.facts id v at in
-        let still = still_chained k w r id v at low_seer.learned v.tail low_seer.clock in
-        let final = learn_final k w r id v at low_seer.learned v.tail low_seer.clock in
+        let still = still_chained k w r id v at (low_seer clock).learned v.tail clock in
+        let final = learn_final k w r id v at (low_seer clock).learned v.tail clock in
         let next = (r.chains b).next p node_linked in
-        learns k w r id v at low_seer.learned v.tail low_seer.clock (r.tails id v at)
+        learns k w r id v at (low_seer clock).learned v.tail clock (r.tails id v at)
         (record {
           counted = h.counted;
           found = h.found;
@@ -184,9 +186,9 @@ module _ (k : Key) (w : World) (r : Rule k w) (id : ℕ) (v : View) (at : get_el
 
     -- and all that lasts
     pub previous_lasts : Final k r.start previous_kept.start r.lane_of previous_kept.lane_of w
-        (record w { views = set w.views id low_seer })
+        (record w { views = set w.views id (low_seer clock) })
     unfolding previous_kept learns
-    previous_lasts = learn_final k w r id v at low_seer.learned v.tail low_seer.clock
+    previous_lasts = learn_final k w r id v at (low_seer clock).learned v.tail clock
 
 -- a linked place is within the log's words
 pub place_within : (k : Key) (w : World) (r : Rule k w) (b p : ℕ) → Linked k w.dir w.log w.views b p
@@ -219,7 +221,7 @@ head_allowed given k same size id me b i about can is =
     let v' : View = after_head me.0 b x in
     let kept : Rule k (record w { views = set vs id v' }) =
     subst (λ (z : ℕ). Rule k (record w { views = set vs id (after_head me.0 b z) })) (sym word)
-    (head_kept k w r id me.0 at b about) in (
+    (head_kept k w r id me.0 at b (loaded me.0.clock) about) in (
       v',
       loaded_words k ws (set vs id v') i kept,
       record {
@@ -250,7 +252,7 @@ previous_allowed given k same size id me b p i about node is =
     let v' : View = after_previous me.0 b p x in
     let kept : Rule k (record w { views = set vs id v' }) =
     subst (λ (z : ℕ). Rule k (record w { views = set vs id (after_previous me.0 b p z) })) (sym word)
-    (previous_kept k w r id me.0 at b p node about) in
+    (previous_kept k w r id me.0 at b p node (loaded me.0.clock) about) in
     let less = low_less k w r id me.0 at b p node in (
       v',
       loaded_words k ws (set vs id v') i kept,

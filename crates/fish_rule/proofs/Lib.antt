@@ -6,6 +6,7 @@ pub mod Bounds
 pub mod Chained
 pub mod Claims
 pub mod Closing
+pub mod ClosedLogs
 pub mod Common
 pub mod Counts
 pub mod Crossing

@@ -25,7 +25,7 @@ use Rattle.fish_rule.proofs.Enters.{version_kept, version_lasts}
 use Rattle.fish_rule.specs.Regions.{dir_word, kind_of}
 use Rattle.fish_rule.specs.Rule.{Final, Rule}
 use Rattle.fish_rule.specs.Start.{empty_world}
-use Rattle.fish_rule.specs.Steps.{flight_kind}
+use Rattle.fish_rule.specs.Steps.{flight_kind, loaded, ticked}
 use Rattle.fish_rule.specs.Reading.{after_look}
 use Rattle.fish_rule.specs.World.{World, put}
 use Rattle.fish_rule.specs.declared.view.Key.{Key}
@@ -76,9 +76,15 @@ event_lasts k (settles id) w u r g = (let v = g.0 in let s = g.1 in
 event_lasts k (raises id m) w u r g = (let v = g.0 in let s = g.1 in
     lasts_at k w r u _ g.3 (raise_kept k w r id v s.at s.about m g.2, raise_lasts k w r id v s.at s.about m g.2))
 event_lasts k (heads id b) w u r g = (let v = g.0 in let s = g.1 in
-    lasts_at k w r u _ g.3 (head_kept k w r id v s.at b s.about, head_lasts k w r id v s.at b s.about))
+    lasts_at k w r u _ g.3 (
+      head_kept k w r id v s.at b (loaded v.clock) s.about,
+      head_lasts k w r id v s.at b (loaded v.clock) s.about,
+    ))
 event_lasts k (previouses id b p) w u r g = (let v = g.0 in let s = g.1 in
-    lasts_at k w r u _ g.3 (previous_kept k w r id v s.at b p g.2 s.about, previous_lasts k w r id v s.at b p g.2 s.about))
+    lasts_at k w r u _ g.3 (
+      previous_kept k w r id v s.at b p g.2 (loaded v.clock) s.about,
+      previous_lasts k w r id v s.at b p g.2 (loaded v.clock) s.about,
+    ))
 event_lasts k (nodes id b p) w u r g = (let v = g.0 in let s = g.1 in
     lasts_at k w r u _ g.3 (node_kept k w r id v s.at b p g.2, node_lasts k w r id v s.at b p g.2))
 event_lasts k (aims id x) w u r g = (let v = g.0 in let f = g.1 in let s = g.2 in
@@ -86,11 +92,17 @@ event_lasts k (aims id x) w u r g = (let v = g.0 in let f = g.1 in let s = g.2 i
 event_lasts k (swings id b h) w u r g = (let v = g.0 in let f = g.1 in let s = g.2 in let can = g.3 in
     exchange_lasts k w r u _ _ (w.head b) h g.4
     (λ e. (swing_kept k w r id v s.at s.about f b h can e, swing_lasts k w r id v s.at s.about f b h can e))
-    (λ ne. (head_kept k w r id v s.at b s.about, head_lasts k w r id v s.at b s.about)))
+    (λ ne. (
+      head_kept k w r id v s.at b (ticked v.clock) s.about,
+      head_lasts k w r id v s.at b (ticked v.clock) s.about,
+    )))
 event_lasts k (splices id b q x) w u r g = (let v = g.0 in let f = g.1 in let s = g.2 in let can = g.3 in
     exchange_lasts k w r u _ _ (w.log q) x g.4
     (λ e. (splice_kept k w r id v s.at s.about f b q x can e, splice_lasts k w r id v s.at s.about f b q x can e))
-    (λ ne. (previous_kept k w r id v s.at b q can.node s.about, previous_lasts k w r id v s.at b q can.node s.about)))
+    (λ ne. (
+      previous_kept k w r id v s.at b q can.node (ticked v.clock) s.about,
+      previous_lasts k w r id v s.at b q can.node (ticked v.clock) s.about,
+    )))
 event_lasts k (versions id) w u r g = (let v = g.0 in let s = g.1 in
     lasts_at k w r u _ g.2 (version_kept k w r id v s.at, version_lasts k w r id v s.at))
 event_lasts k (announces id x) w u r g = (let v = g.0 in let s = g.1 in

@@ -28,8 +28,9 @@ use Rattle.fish_rule.proofs.OwnWords.{flight_is}
 use Rattle.fish_rule.proofs.Swings.{aimed_there, own_unlinked}
 use Rattle.fish_rule.proofs.Worlds.{area-in, put-else, put-here, world-log}
 use Rattle.fish_rule.specs.Chains.{Chain, Chained, Linked}
-use Rattle.fish_rule.specs.Linking.{CanAim, CanSplice, HasNode, LowRises, after_previous, after_splice}
-use Rattle.fish_rule.specs.Linking.{own_place, spliced}
+use Rattle.fish_rule.specs.Linking.{CanAim, CanSplice, HasNode, LowRises, after_splice}
+use Rattle.fish_rule.specs.Linking.{own_place, previous_seen, spliced}
+use Rattle.fish_rule.specs.Steps.{ticked}
 use Rattle.fish_rule.specs.Parts.{Flies, InFlight, Whole, first_head}
 use Rattle.fish_rule.specs.Facts.{Facts}
 use Rattle.fish_rule.specs.Regions.{IsRecord}
@@ -308,7 +309,7 @@ module _ (k : Key) (w : World) (r : Rule k w) (id : ℕ) (v : View) (at : get_el
 about_splice : (v : View) {k : Key} (f : Flight) (b q x y : ℕ) → v.about ≡ k → (after_splice v f b q x y).about ≡ k
 about_splice v {k} f b q x y about = by (ℕ_discrete y x)
   where
-    by : (d : Dec (y ≡ x)) → (choose d (spliced v f b q) (after_previous v b q y)).about ≡ k
+    by : (d : Dec (y ≡ x)) → (choose d (spliced v f b q) (previous_seen v b q y (ticked v.clock))).about ≡ k
     by (yes e) = about
     by (no n) = about
 
@@ -339,16 +340,16 @@ splice_allowed given k same size id me f b q x i new about can is own_is =
     let rule : Rule k (world k (set ws i (either (eqb y x) new y)) (set vs id v')) =
     exchanged y x new (λ z. Rule k (world k (set ws i z) (set vs id v')))
     (λ e. let hit : v' ≡ spliced me.0 f b q =
-    choose_first (ℕ_discrete y x) (spliced me.0 f b q) (after_previous me.0 b q y) e in
+    choose_first (ℕ_discrete y x) (spliced me.0 f b q) (previous_seen me.0 b q y (ticked me.0.clock)) e in
     subst (λ (z : ℕ × View). Rule k (world k (set ws i z.0) (set vs id z.1))) (λ j. (sym own_is j, sym hit j))
     (subst (Rule k) (sym (world-log k ws vs (set vs id (spliced me.0 f b q)) q i
     (own_place f) within.0 within.1 is wide)) (splice_kept k w r id me.0 at about f b q x can (sym word ∙ e))))
-    (λ ne. let miss : v' ≡ after_previous me.0 b q y =
-    choose_second (ℕ_discrete y x) (spliced me.0 f b q) (after_previous me.0 b q y) ne in
+    (λ ne. let miss : v' ≡ previous_seen me.0 b q y (ticked me.0.clock) =
+    choose_second (ℕ_discrete y x) (spliced me.0 f b q) (previous_seen me.0 b q y (ticked me.0.clock)) ne in
     subst (λ (z : View). Rule k (world k (set ws i y) (set vs id z))) (sym miss)
-    (loaded_words k ws (set vs id (after_previous me.0 b q y)) i
-    (subst (λ (z : ℕ). Rule k (record w { views = set vs id (after_previous me.0 b q z) })) (sym word)
-    (previous_kept k w r id me.0 at b q can.node about)))) in
+    (loaded_words k ws (set vs id (previous_seen me.0 b q y (ticked me.0.clock))) i
+    (subst (λ (z : ℕ). Rule k (record w { views = set vs id (previous_seen me.0 b q z (ticked me.0.clock)) })) (sym word)
+    (previous_kept k w r id me.0 at b q can.node (ticked me.0.clock) about)))) in
     let about' : v'.about ≡ k = about_splice me.0 f b q x y about in (
       v',
       rule,

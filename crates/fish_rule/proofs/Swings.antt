@@ -20,7 +20,7 @@ use Rattle.fish_rule.proofs.Linkings.{Leaves, link_final, link_from, link_here, 
 use Rattle.fish_rule.proofs.OwnWords.{flight_is, not_linked}
 use Rattle.fish_rule.proofs.Worlds.{area-in, put-else, put-here, world-head}
 use Rattle.fish_rule.specs.Chains.{Chain, Chained, Linked}
-use Rattle.fish_rule.specs.Linking.{CanAim, CanSwing, TopRises, after_head, after_swing, own_place, swung}
+use Rattle.fish_rule.specs.Linking.{CanAim, CanSwing, TopRises, after_swing, head_seen, own_place, swung}
 use Rattle.fish_rule.specs.Told.{ToldSwing, bucket_at}
 use Rattle.fish_rule.specs.Facts.{Facts}
 use Rattle.fish_rule.specs.Parts.{first_head}
@@ -155,7 +155,7 @@ own_unlinked k w r id v at f can b p = not_linked k w r id v at f can.flying (en
 about_swing : (v : View) {k : Key} (f : Flight) (b h x : ℕ) → v.about ≡ k → (after_swing v f b h x).about ≡ k
 about_swing v {k} f b h x about = by (ℕ_discrete x h)
   where
-    by : (d : Dec (x ≡ h)) → (choose d (swung v f b) (after_head v b x)).about ≡ k
+    by : (d : Dec (x ≡ h)) → (choose d (swung v f b) (head_seen v b x (ticked v.clock))).about ≡ k
     by (yes e) = about
     by (no n) = about
 
@@ -186,16 +186,16 @@ swing_allowed given k same size id me f b h i new about can is own =
     let v_at = there vs id me.0 v' at in
     let rule : Rule k (world k (set ws i (either (eqb x h) new x)) (set vs id v')) =
     exchanged x h new (λ y. Rule k (world k (set ws i y) (set vs id v')))
-    (λ e. let hit : v' ≡ swung me.0 f b = choose_first (ℕ_discrete x h) (swung me.0 f b) (after_head me.0 b x) e in
+    (λ e. let hit : v' ≡ swung me.0 f b = choose_first (ℕ_discrete x h) (swung me.0 f b) (head_seen me.0 b x (ticked me.0.clock)) e in
     subst (λ (z : ℕ × View). Rule k (world k (set ws i z.0) (set vs id z.1))) (λ j. (sym own j, sym hit j))
     (subst (Rule k) (sym (world-head k ws vs (set vs id (swung me.0 f b)) b i (own_place f) below is wide))
     (swing_kept k w r id me.0 at about f b h can (sym word ∙ e))))
-    (λ ne. let miss : v' ≡ after_head me.0 b x =
-    choose_second (ℕ_discrete x h) (swung me.0 f b) (after_head me.0 b x) ne in
+    (λ ne. let miss : v' ≡ head_seen me.0 b x (ticked me.0.clock) =
+    choose_second (ℕ_discrete x h) (swung me.0 f b) (head_seen me.0 b x (ticked me.0.clock)) ne in
     subst (λ (z : View). Rule k (world k (set ws i x) (set vs id z))) (sym miss)
-    (loaded_words k ws (set vs id (after_head me.0 b x)) i
-    (subst (λ (z : ℕ). Rule k (record w { views = set vs id (after_head me.0 b z) })) (sym word)
-    (head_kept k w r id me.0 at b about)))) in
+    (loaded_words k ws (set vs id (head_seen me.0 b x (ticked me.0.clock))) i
+    (subst (λ (z : ℕ). Rule k (record w { views = set vs id (head_seen me.0 b z (ticked me.0.clock)) })) (sym word)
+    (head_kept k w r id me.0 at b (ticked me.0.clock) about)))) in
     let about' : v'.about ≡ k = about_swing me.0 f b h x about in (
       v',
       rule,

@@ -10,6 +10,7 @@ use Rattle.fish_rule.specs.Keys.{IsKeyed}
 use Rattle.fish_rule.specs.Registry.{KnowsActive}
 use Rattle.fish_rule.specs.Steps.{flight_kind, loaded, ticked}
 use Rattle.fish_rule.specs.Views.{Among}
+use Rattle.fish_rule.specs.declared.view.Clock.{Clock}
 use Rattle.fish_rule.specs.declared.view.Epoch.TheVariants.{Confirmed}
 use Rattle.fish_rule.specs.declared.view.Flight.{Flight}
 use Rattle.fish_rule.specs.declared.view.Gap.{Gap}
@@ -43,9 +44,13 @@ learned_head k b x l = record l {
   gaps = gap b (k.end * 4) x l ∷ l.gaps;
 }
 
--- the head is seen
+-- the head is seen, by a step that leaves this clock
+abbrev pub head_seen : View → ℕ → ℕ → Clock → View
+head_seen v b x clock = record v { learned = learned_head v.about b x v.learned; clock = clock }
+
+-- by a load
 abbrev pub after_head : View → ℕ → ℕ → View
-after_head v b x = record v { learned = learned_head v.about b x v.learned; clock = loaded v.clock }
+after_head v b x = head_seen v b x (loaded v.clock)
 
 -- whatever place the view knew the bucket's head to have reached, x is at or above it
 abbrev pub TopRises : View → ℕ → ℕ → Type 0
@@ -65,9 +70,13 @@ learned_previous k b p x l = record l {
   gaps = gap b p x l ∷ l.gaps;
 }
 
--- the first word is seen
+-- the first word is seen, by a step that leaves this clock
+abbrev pub previous_seen : View → ℕ → ℕ → ℕ → Clock → View
+previous_seen v b p x clock = record v { learned = learned_previous v.about b p x v.learned; clock = clock }
+
+-- by a load
 abbrev pub after_previous : View → ℕ → ℕ → ℕ → View
-after_previous v b p x = record v { learned = learned_previous v.about b p x v.learned; clock = loaded v.clock }
+after_previous v b p x = previous_seen v b p x (loaded v.clock)
 
 -- whatever value the view knew the first word at the place to have reached, x is at or above it
 abbrev pub LowRises : View → ℕ → ℕ → Type 0
@@ -132,12 +141,12 @@ swung v f b = record v {
     nodes = record { bucket = b; place = own_place f } ∷ v.learned.nodes;
     tops = record { bucket = b; place = own_place f } ∷ v.learned.tops;
   };
-  clock = loaded v.clock;
+  clock = ticked v.clock;
 }
 
--- the exchange was made where the head was as expected, and else the head is seen
+-- the exchange was made where the head was as expected, and else the head is seen; it is no load
 abbrev pub after_swing : View → Flight → ℕ → ℕ → ℕ → View
-after_swing v f b h found = choose (ℕ_discrete found h) (swung v f b) (after_head v b found)
+after_swing v f b h found = choose (ℕ_discrete found h) (swung v f b) (head_seen v b found (ticked v.clock))
 
 -- ---- splice: a compare-and-exchange on a linked entry's first word
 
@@ -158,9 +167,10 @@ spliced v f b q = record v {
     nodes = record { bucket = b; place = own_place f } ∷ v.learned.nodes;
     lows = record { place = q; value = own_place f } ∷ v.learned.lows;
   };
-  clock = loaded v.clock;
+  clock = ticked v.clock;
 }
 
--- the exchange was made where the first word was as expected, and else it is seen
+-- the exchange was made where the first word was as expected, and else it is seen; it is no load
 abbrev pub after_splice : View → Flight → ℕ → ℕ → ℕ → ℕ → View
-after_splice v f b q x found = choose (ℕ_discrete found x) (spliced v f b q) (after_previous v b q found)
+after_splice v f b q x found =
+    choose (ℕ_discrete found x) (spliced v f b q) (previous_seen v b q found (ticked v.clock))

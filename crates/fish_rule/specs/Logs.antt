@@ -1,5 +1,5 @@
 -- The log that the words spell, and what a pass knows of it.
-use Rattle.std.specs.Prelude.{ℕ, ◌≡◌, ◌+◌, ◌*◌, ◌<◌, ◌≤◌, suc, List, length, slice_index, Option, Some, None}
+use Rattle.std.specs.Prelude.{ℕ, ◌≡◌, ◌+◌, ◌*◌, ◌<◌, ◌≤◌, suc, List, ◌++◌, length, slice_index, Option, Some, None}
 use Rattle.std.proofs.Common.{◌⊎◌}
 use mathlib.Core.Option.{some}
 use Rattle.std.proofs.Math.ListN.{get_elem?}
@@ -14,6 +14,7 @@ use Rattle.fish_rule.specs.Regions.{code}
 use Rattle.fish_rule.specs.Rule.{Rule}
 use Rattle.fish_rule.specs.Views.{Among}
 use Rattle.fish_rule.specs.World.{World, body, high, low}
+use Rattle.fish_rule.specs.declared.view.Clock.{Clock}
 use Rattle.fish_rule.specs.declared.view.Found.{Found}
 use Rattle.fish_rule.specs.declared.view.Gap.{Gap}
 use Rattle.fish_rule.specs.declared.view.Key.{Key}
@@ -21,6 +22,7 @@ use Rattle.fish_rule.specs.declared.view.Known.{Known}
 use Rattle.fish_rule.specs.declared.view.Label.{Label}
 use Rattle.fish_rule.specs.declared.view.Learned.{Learned}
 use Rattle.fish_rule.specs.declared.view.Node.{Node}
+use Rattle.fish_rule.specs.declared.view.Note.{Note}
 use Rattle.fish_rule.specs.declared.view.Own.{Own}
 use Rattle.fish_rule.specs.declared.view.Position.{Position}
 use Rattle.fish_rule.specs.declared.view.Recorded.{Recorded}
@@ -80,18 +82,18 @@ pub record HasWords (v : View) (f : Found) (words : List ℕ) : Type 0 where
   pub read : (i : ℕ) → i < length words → ¬ IsKeyWord (keys_of (slice_index words 0)) i
       → Among (record { place = f.line * 4 + i; value = slice_index words i }) v.learned.known
 
+-- the second clock is the first some steps later: no step and no load is taken back, and every note is kept
+pub record IsLater (c d : Clock) : Type 0 where
+  pub steps : c.steps ≤ d.steps
+  pub loads : c.loads ≤ d.loads
+  pub notes : List Note
+  pub since : d.notes ≡ notes ++ c.notes
+
 -- the second view is the first but for what it learned since
 pub record Extends (v u : View) : Type 0 where
   pub learns : Learns v u
-  pub lane : u.lane ≡ v.lane
-  pub out : u.out ≡ v.out
-  pub shut : u.shut ≡ v.shut
-  pub flight : u.flight ≡ v.flight
-  pub epoch : u.epoch ≡ v.epoch
-  pub rows : u.rows ≡ v.rows
-  pub draft : u.draft ≡ v.draft
-  pub tail : u.tail ≡ v.tail
-  pub own : u.own ≡ v.own
+  pub clock : IsLater v.clock u.clock
+  pub frame : u ≡ record v { learned = u.learned; clock = u.clock }
 
 -- word i of the region at a line, which has n key entries, became known by one load, or it is the
 -- first of a key entry and nothing was loaded
@@ -108,7 +110,8 @@ pub record IsWordRead (v u : View) (keys line offset : ℕ) (word : Option ℕ) 
 -- ---- the closed log
 
 -- the entries are the log of a moment that meets the rule, of which these own numbers are exact and
--- all of these facts hold; a pass there has a view that is later, and nothing was claimed since the tail was here
+-- all of these facts hold; a pass there has a view that is later, of the same lanes and own numbers, and nothing
+-- was claimed since the tail was here
 pub record IsClosedAt (k : Key) (is_later : View → Type 0) (lane : ℕ) (out : List ℕ) (own : List Own)
     (tail : Option Position) (learned : Learned) (entries : List Entry) : Type 0 where
   pub moment : World
@@ -118,6 +121,9 @@ pub record IsClosedAt (k : Key) (is_later : View → Type 0) (lane : ℕ) (out :
   pub last : View
   pub at : get_elem? moment.views seat ≡ some last
   pub later : is_later last
+  pub lane_is : last.lane ≡ lane
+  pub out_is : last.out ≡ out
+  pub own_is : last.own ≡ own
   pub owns : Owns k moment.count moment.dir rule.lane_of lane out own
   pub rests : Rests moment.count moment.line tail
   pub facts : Facts k moment.count moment.dir moment.log rule.start learned

@@ -6,12 +6,13 @@ use Rattle.fish_rule.specs.Entering.{CanAnnounce, CanBump, CanDefine, CanEnter, 
 use Rattle.fish_rule.specs.Entering.{after_bump, after_define, after_registry, after_retire, after_version}
 use Rattle.fish_rule.specs.Registry.{epoch_at}
 use Rattle.fish_rule.specs.Linking.{CanAim, CanLoadHead, CanSplice, CanSwing, HasNode, after_aim, after_head}
-use Rattle.fish_rule.specs.Linking.{after_node, after_previous, own_place, spliced, swung}
+use Rattle.fish_rule.specs.Linking.{after_node, after_previous, head_seen, own_place, previous_seen, spliced, swung}
 use Rattle.fish_rule.specs.Parts.{Fits}
 use Rattle.fish_rule.specs.Regions.{dir_word}
 use Rattle.fish_rule.specs.Rule.{Final, Rule}
 use Rattle.fish_rule.specs.Seating.{CanJoin, CanSplit, join_both, spent, split_left, split_right}
 use Rattle.fish_rule.specs.Steps.{CanClaim, CanPublish, CanStore, after_claim, after_publish, after_store, flight_kind}
+use Rattle.fish_rule.specs.Steps.{ticked}
 use Rattle.fish_rule.specs.Reading.{CanLook, CanRaise, CanRead, after_end, after_look, after_raise}
 use Rattle.fish_rule.specs.Reading.{after_read, after_settled}
 use Rattle.fish_rule.specs.Start.{IsOpening, empty_world}
@@ -92,13 +93,13 @@ Goes k w (swings id b h) u = (v : View) × (f : Flight) × Seated k w id v × Ca
     × Exchanged (w.head b) h u (record w {
       head = put w.head b (own_place f);
       views = set w.views id (swung v f b);
-    }) (record w { views = set w.views id (after_head v b (w.head b)) })
+    }) (record w { views = set w.views id (head_seen v b (w.head b) (ticked v.clock)) })
 Goes k w (splices id b q x) u = (v : View) × (f : Flight) × Seated k w id v × CanSplice v f b q x
     × Exchanged (w.log q) x u (record w {
       log = put w.log q (own_place f);
       views = set w.views id (spliced v f b q);
     })
-    (record w { views = set w.views id (after_previous v b q (w.log q)) })
+    (record w { views = set w.views id (previous_seen v b q (w.log q) (ticked v.clock)) })
 Goes k w (versions id) u = (v : View) × Seated k w id v
     × (u ≡ record w { views = set w.views id (after_version v (w.registry 2)) })
 Goes k w (announces id x) u = (v : View) × Seated k w id v × CanAnnounce v x

@@ -1,5 +1,7 @@
-//! The theorem over every schedule. No call of the program needs it.
+//! The laws of the log: the theorem over every schedule, and what a closed log has of what passes
+//! knew. No call of the program needs them.
 
+ghost use Rattle.fish_rule.specs.Closed.{OwnIsClosed, ToldIsClosed};
 ghost use Rattle.fish_rule.specs.Machine.{EverySchedule, EveryStepIsFinal};
 
 /// From an empty log on, the rule holds after every list of steps of any passes, in any order; and
@@ -9,4 +11,13 @@ ghost use Rattle.fish_rule.specs.Machine.{EverySchedule, EveryStepIsFinal};
 pub fn law_every_schedule()
     ensures rule { EverySchedule }
     ensures final_words { EveryStepIsFinal }
+{}
+
+/// Once a log is closed, each entry that a pass was told of is the one at its number, and the records of
+/// a lane are exactly the own numbers of the pass that has the lane.
+///
+/// Its contract is that law.
+pub fn law_closed_log()
+    ensures told { ToldIsClosed }
+    ensures own { OwnIsClosed }
 {}

@@ -8,6 +8,7 @@ use Rattle.fish_rule.specs.Logs.{Tells, TellsMark, TellsNext}
 use Rattle.fish_rule.specs.Passes.{view}
 use Rattle.fish_rule.specs.World.{high}
 use Rattle.fish_rule.specs.declared.view.Key.{Key}
+use Rattle.fish_rule.specs.declared.view.View.{View}
 use Rattle.fish_rule.proofs.close.all_entries.Goals as goal
 
 pub returns-in_err-entry-clause-extends : goal.returns-in_err-entry-clause-extends
@@ -50,7 +51,7 @@ returns-in-None-clause-log c =
     let told : AreTold v base c.loop-number.entries =
     λ i x at. tells_later _ _ (base + i) x c.next_entry.ensures.extends.learns (inv.told i x at) in
     closes v c.loop-number.entries e.0 c.next_entry.ensures.pass.stands
-    (alone_later _ _ c.next_entry.ensures.extends inv.alone) more.tail
+    (alone_later _ _ c.next_entry.ensures.extends inv.alone) (ap (λ (z : View). z.tail) more.frame)
     (subst (λ (z : ℕ). AreTold v z c.loop-number.entries) (sym about) told)
     (inr (
       omega arith,
@@ -91,7 +92,7 @@ returns-clause-log c =
     let e = inv.extends in
     let v = view c.loop-number.main in
     let about : v.about.number ≡ c.args.log.now.key.number = ap (λ (z : Key). z.number) inv.of.about in
-    let tail = e.1.tail in
+    let tail = ap (λ (z : View). z.tail) e.1.frame in
     let behind = tail_behind v e.0 inv.of.stands inv.alone tail in
     let many = inv.many in
     let end : c.load_tail-end.result.number ≡ high e.0 = e.2 in

@@ -29,6 +29,14 @@ returns-in_ok-read_record-in-Stored-clause-extends c =
     extends_both _ _ _
     (extends_to_look _ _ c.args.number look.0 c.look_at-word.result look.1) c.read_record.ensures.extends)
 
+pub returns-in-Void-clause-extends : goal.returns-in-Void-clause-extends
+returns-in-Void-clause-extends c = (let look = c.look_at-word.ensures.view in
+    extends_to_look _ _ c.args.number look.0 c.look_at-word.result look.1)
+
+pub returns-in-Mark-clause-extends : goal.returns-in-Mark-clause-extends
+returns-in-Mark-clause-extends c = (let look = c.look_at-word.ensures.view in
+    extends_to_look _ _ c.args.number look.0 c.look_at-word.result look.1)
+
 pub returns-in_ok-read_record-in-Stored-clause-entry : goal.returns-in_ok-read_record-in-Stored-clause-entry
 returns-in_ok-read_record-in-Stored-clause-entry c =
     let look = c.look_at-word.ensures.view in

@@ -1,0 +1,9 @@
+-- What was told stands at the moment of the close, and own numbers are exact there.
+use Rattle.fish_rule.proofs.ClosedLogs.{own_closed, told_closed}
+use Rattle.fish_rule.proofs.law.law_closed_log.Goals as goal
+
+pub returns-clause-told : goal.returns-clause-told
+returns-clause-told c = told_closed
+
+pub returns-clause-own : goal.returns-clause-own
+returns-clause-own c = own_closed
