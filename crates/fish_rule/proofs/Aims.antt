@@ -16,7 +16,7 @@ use Rattle.fish_rule.proofs.Flights.{one_flight}
 use Rattle.fish_rule.proofs.OwnWords.{Becomes, flight_is, write_kept, write_lasts}
 use Rattle.fish_rule.proofs.Worlds.{world-log}
 use Rattle.fish_rule.specs.Linking.{CanAim, HasBody, after_aim, own_place}
-use Rattle.fish_rule.specs.Regions.{IsRecord}
+use Rattle.fish_rule.specs.Regions.{IsRecord, kind_of}
 use Rattle.fish_layout.proofs.Clearing.{cleared_head, cleared_same}
 use Rattle.fish_rule.specs.Told.{told_aim}
 use Rattle.fish_rule.specs.Parts.{InFlight}
@@ -26,7 +26,7 @@ use Rattle.fish_rule.specs.Table.{Ruled, Sat, Stands}
 use Rattle.fish_rule.specs.World.{World, body, log_at, log_size, put, world}
 use Rattle.fish_rule.specs.declared.view.Flight.{Flight}
 use Rattle.fish_rule.specs.declared.view.Key.{Key}
-use Rattle.fish_rule.specs.declared.view.Kind.TheVariants.{Mark, Stored}
+use Rattle.fish_rule.specs.declared.view.Kind.TheVariants.{Mark, Stored, Void}
 use Rattle.fish_rule.specs.declared.view.View.{View}
 
 -- words that are filled are those of a record
@@ -78,7 +78,8 @@ module _ (k : Key) (w : World) (r : Rule k w) (id : ℕ) (v : View) (at : get_el
 
     -- one word is another
     pub becomes : Becomes (f.lines * 4) f.linked (entry_at f.linked) x
-        (IsKeyWord (keys_of (body w.log f.line 0)) (entry_at f.linked)) f.words (set f.words (entry_at f.linked) x)
+        (IsKeyWord (keys_of (body w.log f.line 0)) (entry_at f.linked))
+        (kind_of k.end f.line (f.line + f.lines) ≡ Void) f.words (set f.words (entry_at f.linked) x)
     becomes =
         let full = can.full in
         let room = own_room in
@@ -93,6 +94,7 @@ module _ (k : Key) (w : World) (r : Rule k w) (id : ℕ) (v : View) (at : get_el
           value = get_or-set_same f.words (entry_at f.linked) x 0 (omega arith);
           same = λ i ne less. (omega arith, get_or-set_other f.words (entry_at f.linked) i x 0 ne);
           linking = λ some_. (own_key, same_length, aimed_body);
+          header = λ void. (let few = own.header void in omega arith);
         }
 
     -- the world afterwards

@@ -129,6 +129,7 @@ module _ (k : Key) (w : World) (r : Rule k w) (id : ℕ) (v : View) (at : get_el
     written = λ i less plain. absurd (omega arith);
     unwritten = λ i more less. r.space.log_beyond (w.line * 4 + i) (omega arith);
     whole = λ h. absurd (omega arith);
+    header = λ e. omega arith;
   }
 
   -- the records in flight with others

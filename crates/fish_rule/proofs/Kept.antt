@@ -208,6 +208,7 @@ module _ (k : Key) (w w' : World) (start start' lane_of lane_of' : ℕ → ℕ)
         written = λ i less plain. same i (omega arith) ∙ h.written i less plain;
         unwritten = λ i more less. same i less ∙ h.unwritten i more less;
         whole = whole;
+        header = h.header;
       }
 
   -- a record of a lane stays one

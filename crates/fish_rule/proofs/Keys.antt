@@ -1,5 +1,5 @@
 -- Which key entries records have: what the links of their entries have no part in, and records with none.
-use Rattle.std.proofs.Common.{ℕ, ◌≡◌, List, [], ◌∷◌, map, refl, ap, ◌∙◌}
+use Rattle.std.proofs.Common.{ℕ, ◌≡◌, List, [], ◌∷◌, map, refl, ap, ◌∙◌, arith}
 use Rattle.fish_layout.specs.Cleared.{unlink, unlinked}
 use Rattle.fish_layout.specs.declared.parts.BodyParts.{BodyParts}
 use Rattle.fish_layout.specs.declared.parts.KeyPart.{KeyPart}
@@ -17,6 +17,7 @@ pub unlinked_keys : {active : ℕ → List (ℕ × List ℕ) → Type 0} {p : Bo
 unlinked_keys {active} {p} h = record {
   defs = h.defs;
   are = h.are;
+  written = h.written;
   keys = property-unlink p.keys ∙ h.keys;
 }
 
@@ -24,4 +25,9 @@ unlinked_keys {active} {p} h = record {
 pub no_keys : {active : ℕ → List (ℕ × List ℕ) → Type 0} (p : BodyParts) → active p.version [] → p.keys ≡ []
     → HasKeys active p
 unfolding keys_of
-no_keys p none is = record { defs = []; are = none; keys = ap (map property) is }
+no_keys p none is = record {
+  defs = [];
+  are = none;
+  written = λ n d less. absurd (omega arith);
+  keys = ap (map property) is;
+}

@@ -195,6 +195,7 @@ module _ (k : Key) (w : World) (r : Rule k w) (id : ℕ) (v : View) (at : get_el
         record_of = subst (IsRecord v.lane f.number f.lines) (sym own_stays) (body_record v f can.body);
         upto = subst (λ (z : ℕ → ℕ). suc f.linked ≤ keys_of (z 0)) (sym own_stays) can.more;
       };
+      header = own.header;
     }
 
     -- it keeps its version, and has the keys of that version

@@ -20,7 +20,7 @@ use Rattle.fish_rule.proofs.Spots.{IsFlier, Spot, spot, which}
 use Rattle.fish_rule.proofs.Worlds.{put-else, put-here}
 use Rattle.fish_rule.specs.Chains.{IsLinking, IsStoredAt, Linked, LinksAt, Shows}
 use Rattle.fish_rule.specs.Parts.{Flies, InFlight, IsLinkedWord, Whole}
-use Rattle.fish_rule.specs.Regions.{IsRecord}
+use Rattle.fish_rule.specs.Regions.{IsRecord, kind_of}
 use Rattle.fish_rule.specs.Rule.{Final, Rule}
 use Rattle.fish_rule.specs.Views.{IsFlightOf, IsOver}
 use Rattle.fish_rule.specs.World.{World, body, put}
@@ -32,7 +32,7 @@ use Rattle.fish_rule.proofs.Registers.{endures_same}
 use Rattle.fish_rule.specs.Epochs.{Carries, IsCarried}
 use Rattle.fish_rule.specs.Keys.{IsKeyed}
 use Rattle.fish_rule.specs.Registry.{AreActiveAt, KnowsActive}
-use Rattle.fish_rule.specs.declared.view.Kind.TheVariants.{Stored}
+use Rattle.fish_rule.specs.declared.view.Kind.TheVariants.{Stored, Void}
 use Rattle.fish_rule.proofs.Registers.{active_known, keyed_map}
 use Rattle.fish_rule.specs.declared.view.Epoch.TheVariants.{Confirmed}
 
@@ -68,7 +68,7 @@ known_keyed k w r id v at f is live version entered e h =
 
 -- words become these by a store of x at offset o of a region of so many words: either behind those that are
 -- there, or, once entries are linked, in a key entry's first word alone
-pub record Becomes (size linked o x : ℕ) (keyed : Type 0) (words words' : List ℕ) : Type 0 where
+pub record Becomes (size linked o x : ℕ) (keyed void : Type 0) (words words' : List ℕ) : Type 0 where
   pub within : o < size
   pub unlinked : ¬ IsLinkedWord linked o
   pub fits : length words' ≤ size
@@ -77,10 +77,12 @@ pub record Becomes (size linked o x : ℕ) (keyed : Type 0) (words words' : List
   pub value : get_or words' o 0 ≡ x
   pub same : (i : ℕ) → i ≢ o → i < length words' → (i < length words) × (get_or words' i 0 ≡ get_or words i 0)
   pub linking : 0 < linked → keyed × (length words' ≡ length words) × (body_of words' ≡ body_of words)
+  pub header : void → length words' ≤ 1
 
 module _ (k : Key) (w : World) (r : Rule k w) (id : ℕ) (v : View) (at : get_elem? w.views id ≡ some v)
     (f : Flight) (flying : v.flight ≡ Some f) (o x : ℕ) (words' : List ℕ) (clock : Clock)
-    (becomes : Becomes (f.lines * 4) f.linked o x (IsKeyWord (keys_of (body w.log f.line 0)) o) f.words words') where
+    (becomes : Becomes (f.lines * 4) f.linked o x (IsKeyWord (keys_of (body w.log f.line 0)) o)
+    (kind_of k.end f.line (f.line + f.lines) ≡ Void) f.words words') where
   -- the record in flight afterwards
   abbrev pub rewritten : Flight
   rewritten = record f { words = words' }
@@ -243,6 +245,7 @@ module _ (k : Key) (w : World) (r : Rule k w) (id : ℕ) (v : View) (at : get_el
     unwritten = λ i more less. (let h = becomes.here in let l = becomes.longer in
         put-else w.log own_word x (f.line * 4 + i) (λ e. omega arith) ∙ own.unwritten i (omega arith) less);
     whole = λ some_. whole_still some_ (own.whole some_);
+    header = becomes.header;
   }
     where
       words : (i : ℕ) → i < length words' → ¬ IsLinkedWord f.linked i → Dec (i ≡ o)

@@ -174,6 +174,11 @@ keyed_map A B f version lane number lines e h = (
   record {
     record_of = h.1.record_of;
     version_is = h.1.version_is;
-    keys = record { defs = h.1.keys.defs; are = f h.0.version _ h.1.keys.are; keys = h.1.keys.keys };
+    keys = record {
+      defs = h.1.keys.defs;
+      are = f h.0.version _ h.1.keys.are;
+      written = h.1.keys.written;
+      keys = h.1.keys.keys;
+    };
   },
 )

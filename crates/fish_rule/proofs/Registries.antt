@@ -19,6 +19,7 @@ use Rattle.fish_rule.proofs.Registers.{active_later, definitions_later, definiti
 use Rattle.fish_rule.proofs.Registers.{registered_later}
 use Rattle.fish_rule.specs.Epochs.{Carries, IsMain, IsUnmade, Registry, Versions}
 use Rattle.fish_rule.specs.Registry.{AreActiveAt, Endures, IsOperation, IsRegistered, definitions_at, op_at, row_at, row_in}
+use Rattle.fish_rule.specs.Registry.{row_spelled}
 use Rattle.fish_rule.specs.Registry.{version_in}
 use Rattle.fish_rule.specs.Rule.{Final, Rule}
 use Rattle.fish_rule.specs.Views.{AllOf}
@@ -43,7 +44,14 @@ operation_later f f' ls x same (inl h) =
     let is = h.0 in
     let l : (i : ℕ) → 2 ≤ i → i < 39 → f i ≡ f' i = λ i a b. sym (same (omega arith) (omega arith) i a b) in
     let e = listed_same f f' 0 true l in
-    inl (h.0, subst (λ (z : Listed). IsNew ls z.name z.def) e h.1)
+    let row : row_spelled f ≡ row_spelled f' =
+    ap (λ (z : Listed). let q : CatRow = record { id = 0; name = z.name; def = z.def; from = None; to = None } in q) e in (
+      inl (
+        h.0,
+        subst (λ (z : Listed). IsNew ls z.name z.def) e h.1,
+        λ i a b. sym (l i a b) ∙ h.2 i a b ∙ ap (λ (z : CatRow). row_word z i) row,
+      )
+    )
 
 module _ (k : Key) (g g' : ℕ → ℕ) (e : Endures k g g') where
   -- the definitions of a version that was reached are a listing as before

@@ -197,6 +197,7 @@ module _ (k : Key) (w : World) (r : Rule k w) (id : ℕ) (v : View) (at : get_el
         written = λ i less plain. let short = h.short in same ne i (omega arith) ∙ h.written i less plain;
         unwritten = λ i more less. same ne i less ∙ h.unwritten i more less;
         whole = whole_stays;
+        header = h.header;
       }
       pick (yes e) =
           let linked = is_linked e in
@@ -216,6 +217,7 @@ module _ (k : Key) (w : World) (r : Rule k w) (id : ℕ) (v : View) (at : get_el
                 (λ m. plain (higher.entry, linked, omega arith)) ∙ h.written i less plain;
             unwritten = λ i more less. absurd (omega arith);
             whole = whole_stays;
+            header = h.header;
           }
 
   leaves : Leaves k w r id v at f can.aim b bucket w.head log' splicer.learned splicer.clock

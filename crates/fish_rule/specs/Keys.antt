@@ -1,9 +1,10 @@
 -- Which key entries a record has: the values that the active definitions give for it.
-use Rattle.std.specs.Prelude.{ℕ, ◌≡◌, List, filter, map}
+use Rattle.std.specs.Prelude.{ℕ, ◌≡◌, List, All, filter, map}
 use Rattle.fish_catalog.specs.Rows.{is_active}
 use Rattle.fish_catalog.specs.declared.row.CatRow.{CatRow}
 use Rattle.fish_lang.specs.Canonical.{definition_text}
 use Rattle.fish_lang.specs.Definition.{definition_of}
+use Rattle.fish_lang.specs.Language.{IsAccepted}
 use Rattle.fish_layout.specs.declared.parts.BodyParts.{BodyParts}
 use Rattle.fish_layout.specs.declared.parts.KeyPart.{KeyPart}
 use Rattle.fish_psf.specs.Keys.{keys_of}
@@ -16,6 +17,10 @@ use Rattle.fish_rule.specs.Regions.{IsRecordOf}
 abbrev pub text_of : ActiveDef → ℕ × List ℕ
 text_of d = (d.id, definition_text (definition_of d.def))
 
+-- the definition is what its text is read as
+abbrev pub IsWritten : ActiveDef → Type 0
+IsWritten d = IsAccepted (definition_text (definition_of d.def)) (definition_of d.def)
+
 -- the definitions of the active rows, in the order of their ids
 abbrev pub AreActive : List CatRow → List ActiveDef → Type 0
 AreActive rows defs = map text_of defs ≡ map (λ row. (row.id, row.def)) (filter is_active rows)
@@ -25,10 +30,12 @@ abbrev pub property : KeyPart → KeyValue
 property key = record { id = key.id; value = key.value }
 
 -- the record has a key entry for each definition that is active at its version and gives a value for its payload,
--- and no other; `active` says which texts are those of a version's active definitions
+-- and no other; `active` says which texts are those of a version's active definitions, and each definition is what its
+-- text is read as
 pub record HasKeys (active : ℕ → List (ℕ × List ℕ) → Type 0) (p : BodyParts) : Type 0 where
   pub defs : List ActiveDef
   pub are : active p.version (map text_of defs)
+  pub written : All IsWritten defs
   pub keys : map property p.keys ≡ keys_of (fields_of_payload p.form p.payload) defs
 
 -- e has the words of a record of this version, lane, number and lines, with the keys of that version

@@ -25,7 +25,6 @@ use Rattle.fish_rule.specs.declared.view.View.{View}
 
 -- the bucket is one of the table's
 pub record CanLoadHead (v : View) (b : ℕ) : Type 0 where
-  pub live : 1 ≤ v.lane
   pub below : b < v.about.buckets
 
 -- a place behind the base's is that of a linked entry of the bucket

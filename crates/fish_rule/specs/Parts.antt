@@ -10,7 +10,7 @@ use Rattle.fish_rule.specs.Views.{Each, Has, HasFlight, IsFlightOf, IsOver}
 use Rattle.fish_rule.specs.World.{body, high, low}
 use Rattle.fish_rule.specs.declared.view.Flight.{Flight}
 use Rattle.fish_rule.specs.declared.view.Key.{Key}
-use Rattle.fish_rule.specs.declared.view.Kind.TheVariants.{Mark, Stored}
+use Rattle.fish_rule.specs.declared.view.Kind.TheVariants.{Mark, Stored, Void}
 use Rattle.fish_rule.specs.declared.view.Position.{Position}
 use Rattle.fish_rule.specs.declared.view.Shut.{Shut}
 use Rattle.fish_rule.specs.declared.view.View.{View}
@@ -82,7 +82,7 @@ pub record Whole (k : Key) (log : ℕ → ℕ) (lane : ℕ) (f : Flight) : Type 
   pub upto : f.linked ≤ keys_of (body log f.line 0)
 
 -- a record in flight with a pass of this lane: its region is claimed and its number not published;
--- the words stored so far stand in the log, and zeros behind them
+-- the words stored so far stand in the log, and zeros behind them; of a void that is the header alone
 pub record InFlight (k : Key) (count : ℕ) (dir log start lane_of : ℕ → ℕ) (lane : ℕ) (f : Flight) : Type 0 where
   pub above : k.number ≤ f.number
   pub below : f.number < count
@@ -95,6 +95,7 @@ pub record InFlight (k : Key) (count : ℕ) (dir log start lane_of : ℕ → ℕ
   pub written : (i : ℕ) → i < length f.words → ¬ IsLinkedWord f.linked i → log (f.line * 4 + i) ≡ slice_index f.words i
   pub unwritten : (i : ℕ) → length f.words ≤ i → i < f.lines * 4 → log (f.line * 4 + i) ≡ 0
   pub whole : 0 < f.linked → Whole k log lane f
+  pub header : kind_of k.end f.line (f.line + f.lines) ≡ Void → length f.words ≤ 1
 
 -- the same where there is one
 abbrev pub Flies : Key → ℕ → (ℕ → ℕ) → (ℕ → ℕ) → (ℕ → ℕ) → (ℕ → ℕ) → ℕ → Option Flight → Type 0

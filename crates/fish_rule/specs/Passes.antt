@@ -1,5 +1,5 @@
 -- What a pass of the program knows, and which log it steps on.
-use Rattle.std.specs.Prelude.{◌≡◌}
+use Rattle.std.specs.Prelude.{◌≡◌, ◌≤◌}
 use Rattle.fish_rule.specs.Table.{Stands}
 use Rattle.fish_rule.specs.declared.table.Log.{Log}
 use Rattle.fish_rule.specs.declared.table.Pass.{Pass}
@@ -14,10 +14,11 @@ view p = p.seat.me.0
 abbrev pub walk_of : Pass → Walk
 walk_of p = p.walk
 
--- the pass steps on this log, and some moment of it meets the rule and has the pass's view
+-- the pass steps on this log, with a lane from 1 on, and some moment of it meets the rule and has the pass's view
 pub record IsPassOf (log : Log) (p : Pass) : Type 0 where
   pub table : p.seat.table_id ≡ log.table.shared.table_id
   pub about : (view p).about ≡ log.key
+  pub live : 1 ≤ (view p).lane
   pub stands : Stands (view p)
 
 -- two values of one log

@@ -17,7 +17,6 @@ use Rattle.fish_rule.specs.Steps.{loaded, noted, ticked}
 
 -- the number is one of the table's, below a count that the pass loaded
 pub record CanLook (v : View) (n : ℕ) : Type 0 where
-  pub live : 1 ≤ v.lane
   pub above : v.about.number ≤ n
   pub below : n < v.learned.count
 
@@ -56,7 +55,6 @@ pub record IsAlone (v : View) : Type 0 where
 -- the region was found and isn't a mark; the word is its header, or by its header that was read no
 -- first word of a key entry
 pub record CanRead (v : View) (f : Found) (i : ℕ) : Type 0 where
-  pub live : 1 ≤ v.lane
   pub found : Among f v.learned.found
   pub words : f.kind ≢ Mark
   pub inside : i < f.lines * 4
@@ -91,7 +89,6 @@ after_settled v x = record v { learned = record v.learned { settled = x }; clock
 
 -- each number below is known to be published, and no mark
 pub record CanRaise (v : View) (m : ℕ) : Type 0 where
-  pub live : 1 ≤ v.lane
   pub within : m ≤ v.learned.count
   pub known : (n : ℕ) → v.about.number ≤ n → n < m → (n < v.learned.settled)
       ⊎ ((f : Found) × Among f v.learned.found × (f.number ≡ n) × (f.kind ≢ Mark))

@@ -1,8 +1,9 @@
 -- The words of the registry: which definitions each version has, and which words last.
-use Rattle.std.specs.Prelude.{ℕ, ◌≡◌, ◌+◌, ◌*◌, ◌%◌, ◌<◌, ◌≤◌, ◌⊎◌, zero, suc, List, [], ◌∷◌, ◌++◌, length, map, true}
+use Rattle.std.specs.Prelude.{ℕ, ◌≡◌, ◌+◌, ◌*◌, ◌%◌, ◌<◌, ◌≤◌, ◌⊎◌, zero, suc, List, [], ◌∷◌, ◌++◌, length, map, true, None}
 use Rattle.std.proofs.Math.Decide.{ℕ_discrete, dec_lt}
 use Rattle.fish_catalog.specs.Listing.{IsNew, IsOnAt, active_texts, ended_at, listed_in, listed_of}
-use Rattle.fish_catalog.specs.Words.{name_in, text_in}
+use Rattle.fish_catalog.specs.Words.{name_in, row_word, text_in}
+use Rattle.fish_catalog.specs.declared.row.CatRow.{CatRow}
 use Rattle.fish_catalog.specs.declared.listed.Listed.{Listed}
 use Rattle.fish_layout.specs.Cleared.{choose}
 use Rattle.fish_rule.specs.Views.{AllOf}
@@ -45,9 +46,17 @@ definitions_at k g zero = map listed_of k.rows.value
 definitions_at k g (suc v) = choose (dec_lt v k.version) (definitions_at k g v)
     (made g (g (op_at (suc v))) (definitions_at k g v))
 
+-- the row of an active definition without boundaries that words spell
+abbrev pub row_spelled : (ℕ → ℕ) → CatRow
+row_spelled f = record { id = 0; name = name_in f; def = text_in f; from = None; to = None }
+
+-- the words behind the boundaries are those of that row, so they are 0 behind its name and its text
+abbrev pub AreRowWords : (ℕ → ℕ) → Type 0
+AreRowWords f = (i : ℕ) → 2 ≤ i → i < 39 → f i ≡ row_word (row_spelled f) i
+
 -- the operation x registers the definition that the words of the next row spell, or it ends an active one
 abbrev pub IsOperation : (ℕ → ℕ) → List Listed → ℕ → Type 0
-IsOperation f ls x = ((x ≡ 256 + length ls) × IsNew ls (name_in f) (text_in f))
+IsOperation f ls x = ((x ≡ 256 + length ls) × IsNew ls (name_in f) (text_in f) × AreRowWords f)
     ⊎ ((id : ℕ) × (x ≡ 512 + id) × (id < 256) × IsOnAt ls id)
 
 -- these are the active definitions at a version that the registry has reached

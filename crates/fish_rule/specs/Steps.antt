@@ -60,12 +60,17 @@ after_claim v lines n line = record v {
 
 -- ---- fill: a store of the next word of the own region
 
--- f is in flight, no entry of it is linked, and more words are to come; a mark has none
+-- the kind of a pass's region
+abbrev pub flight_kind : View → Flight → Kind
+flight_kind v f = kind_of v.about.end f.line (f.line + f.lines)
+
+-- f is in flight, no entry of it is linked, and more words are to come; a void has one word, and a mark none
 pub record CanStore (v : View) (f : Flight) : Type 0 where
   pub flying : v.flight ≡ Some f
   pub unlinked : f.linked ≡ 0
   pub more : length f.words < f.lines * 4
   pub within : f.line + f.lines ≤ v.about.end
+  pub header : flight_kind v f ≡ Void → f.words ≡ []
 
 -- a record in flight with one word more
 abbrev pub with_word : Flight → ℕ → Flight
@@ -76,10 +81,6 @@ abbrev pub after_store : View → Flight → ℕ → View
 after_store v f x = record v { flight = Some (with_word f x); clock = ticked v.clock }
 
 -- ---- publish: a store of the own directory word
-
--- the kind of a pass's region
-abbrev pub flight_kind : View → Flight → Kind
-flight_kind v f = kind_of v.about.end f.line (f.line + f.lines)
 
 -- what is stored of a region before it may be published: all words of a record of this version and lane, with the
 -- keys of that version, all its entries linked; of a void its header; of a mark nothing

@@ -23,7 +23,6 @@ pub fn read_region(
     line: u64,
 ) -> Result<(Vec<u64>, u64), AllocError>
     requires pass { IsPassOf log.now pass.old }
-    requires live { 1 ≤ (view pass.old).lane }
     requires found { (f : Found) × Among f (view pass.old).learned.found × (f.line ≡ line) × (f.kind ≢ Mark) }
     ensures pass { IsPassOf log.now pass.new }
     ensures extends { Extends (view pass.old) (view pass.new) }
@@ -54,7 +53,6 @@ pub fn read_record(
     line: u64,
 ) -> Result<Entry, AllocError>
     requires pass { IsPassOf log.now pass.old }
-    requires live { 1 ≤ (view pass.old).lane }
     requires found { (f : Found) × Among f (view pass.old).learned.found × (f.line ≡ line) × (f.kind ≡ Stored) }
     ensures pass { IsPassOf log.now pass.new }
     ensures extends { Extends (view pass.old) (view pass.new) }
@@ -77,7 +75,6 @@ pub fn read_record(
 /// A word behind the header, or none where it is the first one of a key entry.
 fn read_body_word(log: &Log, pass: &mut Pass, line: u64, keys: u64, offset: u64) -> Option<u64>
     requires pass { IsPassOf log.now pass.old }
-    requires live { 1 ≤ (view pass.old).lane }
     requires keys { keys < 2 ^ 9 }
     requires found { (f : Found) × Among f (view pass.old).learned.found × (f.line ≡ line) × (f.kind ≢ Mark)
         × (offset < f.lines * 4) }

@@ -20,7 +20,6 @@ read_word-requires-clause-view c =
     ] in (
       f.0,
       record {
-        live = c.requires.live;
         found = f.1;
         words = f.3;
         inside = f.4;

@@ -33,7 +33,7 @@ pub read_word-header-requires-clause-view : goal.read_word-header-requires-claus
 read_word-header-requires-clause-view c =
     let f = c.requires.found in
     let some_ = found_law (view c.args.pass.now) f.0 c.requires.pass.stands f.1 in
-    (f.0, record { live = c.requires.live; found = f.1; words = f.3; inside = omega arith; plain = inl refl }, f.2)
+    (f.0, record { found = f.1; words = f.3; inside = omega arith; plain = inl refl }, f.2)
 
 pub push_reserved-requires : goal.push_reserved-requires
 push_reserved-requires c =

@@ -1,5 +1,5 @@
 -- The own entry is within the log, and the table allows the store.
-use Rattle.std.proofs.Common.{◌≡◌, ◌∙◌, sym, refl, ap, arith, subst, ℕ, ◌<◌, ◌+◌, ◌-◌, ◌*◌}
+use Rattle.std.proofs.Common.{◌≡◌, ◌∙◌, sym, refl, ap, arith, subst, ℕ, ◌<◌, ◌≤◌, ◌+◌, ◌-◌, ◌*◌}
 use Rattle.fish_rule.proofs.Laws.{aim_law}
 use Rattle.fish_rule.proofs.Linked.{region_aim}
 use Rattle.fish_rule.specs.Flying.{region_in}
@@ -63,5 +63,6 @@ returns-clause-pass c =
     record {
       table = c.store.ensures.0 ∙ c.requires.pass.table;
       about = ap (λ (z : View). z.about) told.view ∙ refl ∙ c.requires.pass.about;
+      live = subst (λ (z : ℕ). 1 ≤ z) (sym (ap (λ (z : View). z.lane) told.view)) c.requires.pass.live;
       stands = subst Stands (sym told.view) told.stands;
     }

@@ -74,6 +74,8 @@ returns-clause-pass c =
       table = c.compare_exchange.ensures.0 ∙ c.requires.pass.table;
       about = ap (λ (z : View). z.about) told.view
           ∙ splice_about (view c.args.pass.now) f _ _ c.args.expected c.compare_exchange.result ∙ c.requires.pass.about;
+      live = subst (λ (z : ℕ). 1 ≤ z) (sym (ap (λ (z : View). z.lane) told.view
+          ∙ splice_lane (view c.args.pass.now) f _ _ c.args.expected c.compare_exchange.result)) c.requires.pass.live;
       stands = subst Stands (sym told.view) told.stands;
     }
 

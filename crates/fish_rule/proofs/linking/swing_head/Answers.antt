@@ -1,5 +1,5 @@
 -- The head is one of the table's words, and the table allows the exchange.
-use Rattle.std.proofs.Common.{◌≡◌, ◌∙◌, sym, refl, ap, arith, subst, ℕ, ◌<◌, ◌+◌}
+use Rattle.std.proofs.Common.{◌≡◌, ◌∙◌, sym, refl, ap, arith, subst, ℕ, ◌<◌, ◌≤◌, ◌+◌}
 use Rattle.fish_rule.proofs.Linked.{region_swing}
 use Rattle.fish_rule.specs.Flying.{region_in}
 use Rattle.fish_rule.specs.Linking.{TopRises, after_swing}
@@ -52,6 +52,8 @@ returns-clause-pass c =
       table = c.compare_exchange.ensures.0 ∙ c.requires.pass.table;
       about = ap (λ (z : View). z.about) told.view
           ∙ swing_about (view c.args.pass.now) f _ c.args.expected c.compare_exchange.result ∙ c.requires.pass.about;
+      live = subst (λ (z : ℕ). 1 ≤ z) (sym (ap (λ (z : View). z.lane) told.view
+          ∙ swing_lane (view c.args.pass.now) f _ c.args.expected c.compare_exchange.result)) c.requires.pass.live;
       stands = subst Stands (sym told.view) told.stands;
     }
 

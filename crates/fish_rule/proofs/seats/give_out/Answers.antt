@@ -1,4 +1,4 @@
-use Rattle.std.proofs.Common.{ℕ, ◌<◌, sym, ap, ◌∙◌, subst, arith}
+use Rattle.std.proofs.Common.{ℕ, ◌<◌, ◌≤◌, sym, ap, ◌∙◌, subst, arith}
 use Rattle.fish_rule.proofs.Standing.{left_stands, right_stands, splits}
 use Rattle.fish_rule.specs.Table.{Sat, Stands}
 use Rattle.fish_rule.proofs.seats.give_out.Goals as goal
@@ -20,6 +20,7 @@ returns-clause-main g c =
     record {
       table = c.split_seat-seat.ensures.0 ∙ c.requires.pass.table;
       about = ap (λ z. z.about) is ∙ c.requires.pass.about;
+      live = subst (λ (z : ℕ). 1 ≤ z) (sym (ap (λ z. z.lane) is)) c.requires.pass.live;
       stands = subst Stands (sym is)
           (left_stands c.args.main.now.seat.me.0 g.row.LANE c.requires.pass.stands c.requires.can);
     }
@@ -31,6 +32,7 @@ returns-clause-pass g c =
     record {
       table = c.split_seat-seat.ensures.3 ∙ c.requires.pass.table;
       about = ap (λ z. z.about) is ∙ c.requires.pass.about;
+      live = subst (λ (z : ℕ). 1 ≤ z) (sym (ap (λ z. z.lane) is)) (let above = c.requires.can.above in omega arith);
       stands = subst Stands (sym is)
           (right_stands c.args.main.now.seat.me.0 g.row.LANE c.requires.pass.stands c.requires.can);
     }

@@ -1,4 +1,4 @@
-use Rattle.std.proofs.Common.{length, sym, ap, ◌∙◌, subst}
+use Rattle.std.proofs.Common.{length, sym, ap, ◌∙◌, subst, ℕ, ◌≤◌, arith}
 use Rattle.fish_rule.proofs.Begins.{begins, first_stands}
 use Rattle.fish_rule.specs.Start.{IsEmpty}
 use Rattle.fish_rule.specs.Table.{Sat, Stands}
@@ -30,6 +30,7 @@ returns-clause-pass c =
     record {
       table = c.in_ok-table.ensures.2;
       about = ap (λ (z : View). z.about) is;
+      live = subst (λ (z : ℕ). 1 ≤ z) (sym (ap (λ (z : View). z.lane) is)) (omega arith);
       stands = subst Stands (sym is)
           (first_stands key c.key_of-key.ensures.fits c.in_ok-words.words.items c.in_ok-words.ensures);
     }

@@ -66,5 +66,6 @@ returns-clause-pass c =
     record {
       table = c.store.ensures.0 ∙ c.requires.pass.table;
       about = ap (λ (z : View). z.about) told.view ∙ c.requires.pass.about;
+      live = subst (λ (z : ℕ). 1 ≤ z) (sym (ap (λ (z : View). z.lane) told.view)) c.requires.pass.live;
       stands = subst Stands (sym told.view) told.stands;
     }
