@@ -1,4 +1,5 @@
 pub mod Canonical
+pub mod Clamps
 pub mod Listing
 pub mod Rows
 pub mod Words

@@ -2,10 +2,12 @@
 //!
 //! A row is never removed, and its id, name and definition never change.
 
-ghost use Rattle.std.specs.Prelude.{◌≡◌, ◌↔◌, ◌+◌, ◌<◌, ◌≤◌, ◌++◌, ◌∷◌, [], IfOk, IfSome, IsErrOf, IsSome, OnErr, OnOk, count_by, length};
+ghost use Rattle.std.specs.Prelude.{◌≡◌, ◌↔◌, ◌+◌, ◌<◌, ◌≤◌, ◌++◌, ◌∷◌, [], All, IfOk, IfSome, IsErrOf, IsSome, OnErr, OnOk, count_by, length, map};
 ghost use Rattle.fish_catalog.specs.Rows.{AwaitsFrom, HasActive, IsActiveNamed, IsCatalog, IsKnown, IsName, IsNewest, is_active, new_row, with_from};
 ghost use Rattle.fish_catalog.specs.Canonical.{IsCanonical};
+ghost use Rattle.fish_catalog.specs.Clamps.{IsClamped, clamped};
 
+use crate::clamp::clamp_rows;
 use crate::row::CatRow;
 use fish_value::Text;
 use std::alloc::{AllocError, Global};
@@ -175,5 +177,13 @@ impl Catalog {
     {
         let row = &mut self.rows[usize::from(id)];
         row.from = Some(from);
+    }
+
+    /// Cuts every boundary to a count, and has a row without a beginning begin there. Takes no memory.
+    pub fn clamp(&mut self, count: u32)
+        ensures rows { self.new ≡ map (clamped count) self.old }
+        ensures clamped { All (IsClamped count) self.new }
+    {
+        clamp_rows(self.rows.as_mut_slice(), count);
     }
 }

@@ -3,6 +3,7 @@
 #![tactic(auto)]
 
 mod catalog;
+mod clamp;
 mod entry;
 mod listed;
 mod row;

@@ -1,6 +1,7 @@
 -- The shape of a log, and the words of one that holds no record.
 use Rattle.std.specs.Prelude.{ℕ, ◌≡◌, ◌+◌, ◌-◌, ◌*◌, ◌^◌, ◌<◌, ◌≤◌, List, [], ◌∷◌, Some, length, min, slice_get}
-use Rattle.std.specs.Prelude.{slice_index}
+use Rattle.std.specs.Prelude.{slice_index, All, map}
+use Rattle.fish_catalog.specs.Clamps.{IsClamped, clamped}
 use Rattle.fish_catalog.specs.Rows.{IsCatalog}
 use Rattle.fish_catalog.specs.Words.{IsWritable, row_word}
 use Rattle.fish_catalog.specs.declared.row.CatRow.{CatRow}
@@ -42,20 +43,22 @@ pub record IsShape (s : Shape) : Type 0 where
   pub some_bits : 4 ≤ s.bucket_bits
   pub few_bits : s.bucket_bits ≤ 16
 
--- a table of this shape may begin so: there is one head for each bucket, of older records, and versions are left
+-- a table of this shape may begin so: there is one head for each bucket, of older records; versions are left; and
+-- each row's index begins, and neither begins nor ends behind the base's number
 pub record CanOpen (s : Shape) (start : Start) : Type 0 where
   pub number : start.base.number ≤ 268435439
   pub line : start.base.line ≤ 68719176736
   pub version : start.version ≤ 512
   pub heads : length start.heads ≡ 2 ^ s.bucket_bits
   pub older : (b : ℕ) → IsOlder start.base.line (slice_index start.heads b)
+  pub rows : All (IsClamped start.base.number) start.catalog
 
--- there is no older record, and the definitions are these
+-- there is no older record, and the definitions are these, whose indices begin at 0
 pub record IsFirst (catalog : List CatRow) (start : Start) : Type 0 where
   pub number : start.base.number ≡ 0
   pub line : start.base.line ≡ 0
   pub version : start.version ≡ 0
-  pub rows : start.catalog ≡ catalog
+  pub rows : start.catalog ≡ map (clamped 0) catalog
 
 -- how many lines a table has: those of its pages, unless numbers or lines would end before
 abbrev pub table_lines : ℕ → ℕ → ℕ → ℕ

@@ -44,13 +44,14 @@ pub struct Start {
 }
 
 impl Start {
-    /// No older record, and these definitions.
-    pub fn first(alloc: Global, shape: Shape, catalog: Catalog) -> Result<Start, AllocError>
+    /// No older record, and these definitions, whose indices begin at number 0.
+    pub fn first(alloc: Global, shape: Shape, mut catalog: Catalog) -> Result<Start, AllocError>
         requires { IsShape shape }
         ensures can { IfOk result (CanOpen shape) }
         ensures is { IfOk result (IsFirst catalog) }
     {
         let heads = no_heads(alloc, 1 << shape.bucket_bits)?;
+        catalog.clamp(0);
         Ok(Start {
             base: Base { number: 0, line: 0 },
             heads,
