@@ -1,18 +1,19 @@
 -- What each step leaves of a view while an entry is linked.
-use Rattle.std.proofs.Common.{◌≡◌, ℕ, ◌+◌, ◌*◌, ◌<◌, inr, suc, List, ◌∷◌, set, refl, sym, ap}
+use Rattle.std.proofs.Common.{◌≡◌, ℕ, ◌+◌, ◌*◌, ◌<◌, ◌≤◌, inr, suc, List, ◌∷◌, set, refl, sym, ap}
 use Rattle.std.proofs.Common.{◌∙◌, subst, arith, length-set, Some}
 use Rattle.fish_chain.specs.Links.{CanLink, Changed, chained_view, with_linked}
 use Rattle.fish_claim.proofs.Filled.{filled_aim, refilled}
 use Rattle.fish_layout.specs.Bucket.{bucket_of}
 use Rattle.fish_layout.specs.Cleared.{body_of, entry_at}
 use Rattle.fish_layout.specs.Header.{keys_of}
-use Rattle.fish_rule.proofs.Descents.{extends_head, extends_previous}
+use Rattle.fish_rule.proofs.Descents.{head_learns, previous_learns}
 use Rattle.fish_rule.proofs.Extending.{learns_both}
 use Rattle.fish_rule.proofs.LinkLaws.{body-set}
 use Rattle.fish_rule.specs.Logs.{Learns}
-use Rattle.fish_rule.specs.Linking.{CanAim, after_aim, after_head, after_previous, gap, learned_head}
-use Rattle.fish_rule.specs.Linking.{learned_previous, spliced, swung, with_node}
-use Rattle.fish_rule.specs.Steps.{loaded}
+use Rattle.fish_rule.specs.Linking.{CanAim, after_aim, gap, head_seen, learned_head}
+use Rattle.fish_rule.specs.Linking.{learned_previous, previous_seen, spliced, swung, with_node}
+use Rattle.fish_rule.specs.Steps.{loaded, ticked}
+use Rattle.fish_rule.specs.declared.view.Clock.{Clock}
 use Rattle.fish_rule.specs.declared.view.Flight.{Flight}
 use Rattle.fish_rule.specs.declared.view.Key.{Key}
 use Rattle.fish_rule.specs.declared.view.View.{View}
@@ -124,47 +125,55 @@ link_aim v f b can = filled_aim v f can.filled can.more
 
 -- ---- each step
 
+-- steps without a noted load
+pub record IsQuiet (c d : Clock) : Type 0 where
+  pub steps : c.steps ≤ d.steps
+  pub loads : c.loads ≤ d.loads
+  pub notes : d.notes ≡ c.notes
+
+-- one that is no load of a word of the log
+pub quiet_ticked : (c : Clock) → IsQuiet c (ticked c)
+quiet_ticked c = record { steps = omega arith; loads = omega arith; notes = refl }
+
+-- and one that is
+pub quiet_loaded : (c : Clock) → IsQuiet c (loaded c)
+quiet_loaded c = record { steps = omega arith; loads = omega arith; notes = refl }
+
 module _ (u t : View) (f : Flight) where
-  -- a load of a head
-  pub head_changes : (b x : ℕ) → u.flight ≡ Some f → t ≡ after_head u b x → Changed u f f.words f.linked t
-  head_changes b x flying is = record {
+  -- a step that sees a head
+  pub head_changes : (b x : ℕ) (clock : Clock) → IsQuiet u.clock clock → u.flight ≡ Some f
+      → t ≡ head_seen u b x clock → Changed u f f.words f.linked t
+  head_changes b x clock quiet flying is = record {
     nodes = with_node u.about b x u.learned.nodes;
     lows = u.learned.lows;
     tops = record { bucket = b; place = x } ∷ u.learned.tops;
     gaps = gap b (u.about.end * 4) x u.learned ∷ u.learned.gaps;
-    clock = loaded u.clock;
-    known = is ∙ (λ i. record u {
-      flight = flying i;
-      learned = learned_head u.about b x u.learned;
-      clock = loaded u.clock;
-    });
+    clock = clock;
+    known = is ∙ (λ i. record u { flight = flying i; learned = learned_head u.about b x u.learned; clock = clock });
     long = refl;
     body = refl;
-    learns = subst (Learns u) (sym is) (extends_head u b x).learns;
-    steps = omega arith;
-    loads = omega arith;
-    notes = refl;
+    learns = subst (Learns u) (sym is) (head_learns u b x clock);
+    steps = quiet.steps;
+    loads = quiet.loads;
+    notes = quiet.notes;
   }
 
-  -- a load of a first word
-  pub previous_changes : (b q x : ℕ) → u.flight ≡ Some f → t ≡ after_previous u b q x → Changed u f f.words f.linked t
-  previous_changes b q x flying is = record {
+  -- a step that sees a first word
+  pub previous_changes : (b q x : ℕ) (clock : Clock) → IsQuiet u.clock clock → u.flight ≡ Some f
+      → t ≡ previous_seen u b q x clock → Changed u f f.words f.linked t
+  previous_changes b q x clock quiet flying is = record {
     nodes = with_node u.about b x u.learned.nodes;
     lows = record { place = q; value = x } ∷ u.learned.lows;
     tops = u.learned.tops;
     gaps = gap b q x u.learned ∷ u.learned.gaps;
-    clock = loaded u.clock;
-    known = is ∙ (λ i. record u {
-      flight = flying i;
-      learned = learned_previous u.about b q x u.learned;
-      clock = loaded u.clock;
-    });
+    clock = clock;
+    known = is ∙ (λ i. record u { flight = flying i; learned = learned_previous u.about b q x u.learned; clock = clock });
     long = refl;
     body = refl;
-    learns = subst (Learns u) (sym is) (extends_previous u b q x).learns;
-    steps = omega arith;
-    loads = omega arith;
-    notes = refl;
+    learns = subst (Learns u) (sym is) (previous_learns u b q x clock);
+    steps = quiet.steps;
+    loads = quiet.loads;
+    notes = quiet.notes;
   }
 
   -- an aim
@@ -192,7 +201,7 @@ module _ (u t : View) (f : Flight) where
     lows = u.learned.lows;
     tops = record { bucket = b; place = f.line * 4 + entry_at f.linked } ∷ u.learned.tops;
     gaps = u.learned.gaps;
-    clock = loaded u.clock;
+    clock = ticked u.clock;
     known = is;
     long = refl;
     body = refl;
@@ -209,7 +218,7 @@ module _ (u t : View) (f : Flight) where
     lows = record { place = q; value = f.line * 4 + entry_at f.linked } ∷ u.learned.lows;
     tops = u.learned.tops;
     gaps = u.learned.gaps;
-    clock = loaded u.clock;
+    clock = ticked u.clock;
     known = is;
     long = refl;
     body = refl;

@@ -2,7 +2,7 @@
 use Rattle.std.proofs.Common.{◌≡◌, ◌≢◌, ℕ, ◌-◌, ◌*◌, ◌<◌, ◌≤◌, ◌⊎◌, inl, ⊎_elim, suc, List, set, refl, sym, ap}
 use Rattle.std.proofs.Common.{◌∙◌, subst, arith, get_or-set_same}
 use Rattle.std.proofs.Math.Decide.{ℕ_discrete}
-use Rattle.fish_chain.proofs.Changes.{aim_changes, changed_next, link_aim, previous_changes}
+use Rattle.fish_chain.proofs.Changes.{aim_changes, changed_next, link_aim, previous_changes, quiet_loaded, quiet_ticked}
 use Rattle.fish_rule.proofs.Descents.{previous_here}
 use Rattle.fish_chain.proofs.Changes.{splice_changes, still_links}
 use Rattle.fish_chain.specs.Links.{CanLink, CanLinkBelow, Changed, IsBelow, IsLinked, with_linked}
@@ -10,7 +10,9 @@ use Rattle.fish_layout.proofs.Clearing.{choose_first, choose_second}
 use Rattle.fish_layout.specs.Cleared.{entry_at}
 use Rattle.fish_rule.proofs.LinkLaws.{not_own, own_behind, own_word}
 use Rattle.fish_rule.specs.Linking.{CanAim, CanSplice, HasNode, LowRises, after_aim, after_previous}
-use Rattle.fish_rule.specs.Linking.{after_splice, aimed_at, own_place, spliced}
+use Rattle.fish_rule.specs.Linking.{after_splice, aimed_at, own_place, previous_seen, spliced}
+use Rattle.fish_rule.specs.Steps.{loaded, ticked}
+use Rattle.fish_rule.specs.declared.view.Clock.{Clock}
 use Rattle.fish_rule.specs.Table.{Stands}
 use Rattle.fish_rule.specs.Views.{Among}
 use Rattle.fish_rule.specs.declared.view.Flight.{Flight}
@@ -30,9 +32,9 @@ pub record IsSplicing (v : View) (q place x : ℕ) (u : View) : Type 0 where
 
 module _ (v : View) (q place : ℕ) (f : Flight) (b : ℕ) (under : CanLinkBelow v f b q place) where
   -- a first word that was seen
-  seen_low : (u t : View) (x : ℕ) (words : List ℕ) → Changed v f words f.linked t → t ≡ after_previous u b q x
-      → x < q → IsSplicing v q place x t
-  seen_low u t x words c is less =
+  seen_low : (u t : View) (x : ℕ) (words : List ℕ) (clock : Clock) → Changed v f words f.linked t
+      → t ≡ previous_seen u b q x clock → x < q → IsSplicing v q place x t
+  seen_low u t x words clock c is less =
       let learned = ap (λ (z : View). z.learned) is in
       record {
         flight = f;
@@ -48,14 +50,16 @@ module _ (v : View) (q place : ℕ) (f : Flight) (b : ℕ) (under : CanLinkBelow
 
   -- the first load
   pub splice_begins : (t : View) (x : ℕ) → t ≡ after_previous v b q x → x < q → IsSplicing v q place x t
-  splice_begins t x is less = seen_low v t x f.words (previous_changes v t f b q x under.can.filled.flying is) is less
+  splice_begins t x is less = seen_low v t x f.words (loaded v.clock)
+      (previous_changes v t f b q x (loaded v.clock) (quiet_loaded v.clock) under.can.filled.flying is) is less
 
-  -- a load after other steps
+  -- an exchange after other steps that wasn't made
   pub splice_goes : (u t : View) (x : ℕ) (words : List ℕ) → Changed v f words f.linked u
-      → t ≡ after_previous u b q x → x < q → IsSplicing v q place x t
+      → t ≡ previous_seen u b q x (ticked u.clock) → x < q → IsSplicing v q place x t
   splice_goes u t x words c is less =
-      seen_low u t x words (changed_next v u t f words words f.linked c
-      (previous_changes u t (with_linked f words f.linked) b q x (ap (λ (z : View). z.flight) c.known) is)) is less
+      seen_low u t x words (ticked u.clock) (changed_next v u t f words words f.linked c
+      (previous_changes u t (with_linked f words f.linked) b q x (ticked u.clock) (quiet_ticked u.clock)
+      (ap (λ (z : View). z.flight) c.known) is)) is less
 
 module _ (v u : View) (q place x : ℕ) (s : IsSplicing v q place x u) where
   -- the record in flight
@@ -132,7 +136,7 @@ module _ (v u : View) (q place x : ℕ) (s : IsSplicing v q place x u) where
     pub splice_miss : (w : View) (y : ℕ) → y ≢ x → y < q
         → w ≡ after_splice t (aimed_at splicing x) s.bucket q x y → IsSplicing v q place y w
     splice_miss w y miss less was =
-        let seen : w ≡ after_previous t s.bucket q y = was ∙ choose_second (ℕ_discrete y x) _ _ miss in
+        let seen : w ≡ previous_seen t s.bucket q y (ticked t.clock) = was ∙ choose_second (ℕ_discrete y x) _ _ miss in
         splice_goes v q place s.flight s.bucket s.under t w y aims aimed seen less
 
     -- so fewer places are left

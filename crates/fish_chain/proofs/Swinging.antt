@@ -2,15 +2,17 @@
 use Rattle.std.proofs.Common.{◌≡◌, ◌≢◌, ℕ, ◌-◌, ◌*◌, ◌<◌, ◌≤◌, ◌⊎◌, inl, ⊎_elim, suc, List, set, refl, sym, ap}
 use Rattle.std.proofs.Common.{◌∙◌, subst, arith, get_or-set_same}
 use Rattle.std.proofs.Math.Decide.{ℕ_discrete}
-use Rattle.fish_chain.proofs.Changes.{aim_changes, changed_next, head_changes, link_aim}
+use Rattle.fish_chain.proofs.Changes.{IsQuiet, aim_changes, changed_next, head_changes, link_aim, quiet_loaded}
 use Rattle.fish_rule.proofs.Descents.{head_here}
-use Rattle.fish_chain.proofs.Changes.{still_links, swing_changes}
+use Rattle.fish_chain.proofs.Changes.{quiet_ticked, still_links, swing_changes}
 use Rattle.fish_chain.specs.Links.{CanLink, Changed, IsBelow, IsLinked, with_linked}
 use Rattle.fish_layout.proofs.Clearing.{choose_first, choose_second}
 use Rattle.fish_layout.specs.Cleared.{entry_at}
 use Rattle.fish_rule.proofs.LinkLaws.{not_own, own_behind, own_word}
 use Rattle.fish_rule.specs.Linking.{CanAim, CanSwing, HasNode, TopRises, after_aim, after_head, after_swing}
-use Rattle.fish_rule.specs.Linking.{aimed_at, own_place, swung}
+use Rattle.fish_rule.specs.Linking.{aimed_at, head_seen, own_place, swung}
+use Rattle.fish_rule.specs.Steps.{loaded, ticked}
+use Rattle.fish_rule.specs.declared.view.Clock.{Clock}
 use Rattle.fish_rule.specs.Table.{Stands}
 use Rattle.fish_rule.specs.Views.{Among}
 use Rattle.fish_rule.specs.declared.view.Flight.{Flight}
@@ -26,10 +28,11 @@ pub record IsSwinging (v : View) (b place h : ℕ) (u : View) : Type 0 where
   pub top : Among (record { bucket = b; place = h }) u.learned.tops
   pub node : (h ≤ u.about.line * 4) ⊎ HasNode u b h
 
--- a load of the head after other steps
-seen_head : (v u t : View) (b place h : ℕ) (f : Flight) (words : List ℕ) → CanLink v f f.linked b
-    → place ≡ own_place f → Changed v f words f.linked u → t ≡ after_head u b h → IsSwinging v b place h t
-seen_head v u t b place h f words can at c is =
+-- a step that sees the head after other steps
+seen_head : (v u t : View) (b place h : ℕ) (f : Flight) (words : List ℕ) (clock : Clock) → IsQuiet u.clock clock
+    → CanLink v f f.linked b → place ≡ own_place f → Changed v f words f.linked u → t ≡ head_seen u b h clock
+    → IsSwinging v b place h t
+seen_head v u t b place h f words clock quiet can at c is =
     let learned = ap (λ (z : View). z.learned) is in
     record {
       flight = f;
@@ -37,7 +40,8 @@ seen_head v u t b place h f words can at c is =
       at = at;
       words = words;
       changed = changed_next v u t f words words f.linked c
-          (head_changes u t (with_linked f words f.linked) b h (ap (λ (z : View). z.flight) c.known) is);
+          (head_changes u t (with_linked f words f.linked) b h clock quiet (ap (λ (z : View). z.flight) c.known)
+          is);
       top = subst (λ z. Among (record { bucket = b; place = h }) z.tops) (sym learned) (inl refl);
       node = subst (λ (z : View). (h ≤ z.about.line * 4) ⊎ HasNode z b h) (sym is) (head_here u b h);
     }
@@ -52,7 +56,7 @@ swing_begins v t b place h f can at is =
       can = can;
       at = at;
       words = f.words;
-      changed = head_changes v t f b h can.filled.flying is;
+      changed = head_changes v t f b h (loaded v.clock) (quiet_loaded v.clock) can.filled.flying is;
       top = subst (λ z. Among (record { bucket = b; place = h }) z.tops) (sym learned) (inl refl);
       node = subst (λ (z : View). (h ≤ z.about.line * 4) ⊎ HasNode z b h) (sym is) (head_here v b h);
     }
@@ -122,8 +126,8 @@ module _ (v u : View) (b place h : ℕ) (s : IsSwinging v b place h u) where
     pub swing_miss : (w : View) (x : ℕ) → x ≢ h → w ≡ after_swing t (aimed_at swinging h) b h x
         → IsSwinging v b place x w
     swing_miss w x miss was =
-        let seen : w ≡ after_head t b x = was ∙ choose_second (ℕ_discrete x h) _ _ miss in
-        seen_head v t w b place x s.flight aims s.can s.at aimed seen
+        let seen : w ≡ head_seen t b x (ticked t.clock) = was ∙ choose_second (ℕ_discrete x h) _ _ miss in
+        seen_head v t w b place x s.flight aims (ticked t.clock) (quiet_ticked t.clock) s.can s.at aimed seen
 
     -- so fewer places are left
     pub swing_falls : (x : ℕ) → TopRises t b x → x ≢ h → h < place → place - x < place - h

@@ -45,6 +45,7 @@ module _ (v u : View) (lines n a : ℕ) (is : u ≡ after_claim v lines n a) whe
         unlinked = refl;
         more = omega arith;
         within = subst (λ (z : View). a + lines ≤ z.about.end) (sym is) inside;
+        header = λ void. refl;
       }
 
   -- a void with its header may be published

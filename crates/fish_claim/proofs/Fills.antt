@@ -8,7 +8,7 @@ use Rattle.fish_rule.specs.Flying.{region_in, region_of}
 use Rattle.fish_rule.specs.Steps.{CanStore, after_store}
 use Rattle.fish_rule.specs.declared.table.Region.{Region}
 use Rattle.fish_rule.specs.declared.view.Flight.{Flight}
-use Rattle.fish_rule.specs.declared.view.Kind.TheVariants.{Mark, Stored}
+use Rattle.fish_rule.specs.declared.view.Kind.TheVariants.{Mark, Stored, Void}
 use Rattle.fish_rule.specs.declared.view.View.{View}
 
 -- the region that a pass keeps is that of its record in flight
@@ -36,6 +36,7 @@ module _ (v : View) (f : Flight) (words : List ℕ) (can : CanFill v f words) wh
         unlinked = can.unlinked;
         more = omega arith;
         within = inside;
+        header = λ void. (let bad : Stored ≡ Void = sym can.stored ∙ void in cc);
       } in
       subst (λ (z : View). CanStore z (with_words f (take i words))) (sym is) may
 

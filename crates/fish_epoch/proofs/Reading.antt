@@ -13,7 +13,7 @@ use Rattle.fish_catalog.specs.declared.listed.Listed.{Listed}
 use Rattle.fish_catalog.specs.declared.row.CatRow.{CatRow}
 use Rattle.fish_layout.proofs.Clearing.{choose_first, choose_second}
 use Rattle.fish_rule.proofs.Common.{all_among}
-use Rattle.fish_rule.proofs.Extending.{extends_both, extends_self}
+use Rattle.fish_rule.proofs.Extending.{extends_both, extends_self, later_ticked}
 use Rattle.fish_rule.proofs.Registers.{definitions_first, definitions_next, length_registered}
 use Rattle.fish_rule.proofs.Registering.{listing_law}
 use Rattle.fish_rule.specs.Entering.{after_registry}
@@ -63,15 +63,8 @@ reads_word v u p x e = subst (OnlyReads v) (sym e) (record {
       gaps = λ y m. m;
       labels = λ y m. m;
     };
-    lane = refl;
-    out = refl;
-    shut = refl;
-    flight = refl;
-    epoch = refl;
-    rows = refl;
-    draft = refl;
-    tail = refl;
-    own = refl;
+    clock = later_ticked v.clock;
+    frame = refl;
   };
   version = refl;
   count = refl;
@@ -117,6 +110,7 @@ defs_later v u d e h read = record {
   read = read;
   rows = knows_later v u (version_of d) d.rows.items e (h read).rows;
   active = (h read).active;
+  written = (h read).written;
 }
 
 -- a row of the start is known

@@ -2,11 +2,12 @@
 use Rattle.std.proofs.Common.{◌≡◌, ◌≢◌, ℕ, ◌+◌, ◌*◌, ◌≤◌, suc, sym, refl, ap, ◌∙◌, subst, arith}
 use Rattle.std.proofs.Math.Decide.{ℕ_discrete}
 use Rattle.fish_layout.proofs.Clearing.{choose_first}
-use Rattle.fish_rule.proofs.Extending.{learns_both, learns_self}
+use Rattle.fish_rule.proofs.Extending.{later_both, later_noted, later_self, later_ticked, learns_both, learns_self}
 use Rattle.fish_rule.specs.Entering.{CanAnnounce, CanEnter, after_announce, after_version}
 use Rattle.fish_rule.specs.Epochs.{confirmed}
 use Rattle.fish_rule.specs.declared.view.Epoch.{Epoch}
 use Rattle.fish_rule.specs.declared.view.Epoch.TheVariants.{Announced, Confirmed}
+use Rattle.fish_rule.specs.declared.view.Noted.TheVariants.{Version}
 use Rattle.fish_rule.specs.declared.view.View.{View}
 use Rattle.fish_epoch.specs.Entering.{HasEntered, Keeps}
 
@@ -16,14 +17,8 @@ use Rattle.fish_epoch.specs.Entering.{HasEntered, Keeps}
 pub keeps_self : (v : View) → Keeps v v
 keeps_self v = record {
   learns = learns_self v;
-  lane = refl;
-  out = refl;
-  shut = refl;
-  flight = refl;
-  rows = refl;
-  draft = refl;
-  tail = refl;
-  own = refl;
+  clock = later_self v.clock;
+  frame = refl;
   count = refl;
   found = refl;
   loads = refl;
@@ -33,14 +28,8 @@ keeps_self v = record {
 pub keeps_both : (a b c : View) → Keeps a b → Keeps b c → Keeps a c
 keeps_both a b c e f = record {
   learns = learns_both a b c e.learns f.learns;
-  lane = f.lane ∙ e.lane;
-  out = f.out ∙ e.out;
-  shut = f.shut ∙ e.shut;
-  flight = f.flight ∙ e.flight;
-  rows = f.rows ∙ e.rows;
-  draft = f.draft ∙ e.draft;
-  tail = f.tail ∙ e.tail;
-  own = f.own ∙ e.own;
+  clock = later_both a.clock b.clock c.clock e.clock f.clock;
+  frame = f.frame ∙ ap (λ (z : View). record z { epoch = c.epoch; learned = c.learned; clock = c.clock }) e.frame;
   count = f.count ∙ e.count;
   found = f.found ∙ e.found;
   loads = f.loads ∙ e.loads;
@@ -64,14 +53,8 @@ keeps_version v x more = record {
     gaps = λ y m. m;
     labels = λ y m. m;
   };
-  lane = refl;
-  out = refl;
-  shut = refl;
-  flight = refl;
-  rows = refl;
-  draft = refl;
-  tail = refl;
-  own = refl;
+  clock = later_noted v.clock Version x;
+  frame = refl;
   count = refl;
   found = refl;
   loads = refl;
@@ -95,14 +78,8 @@ keeps_epoch v e = record {
     gaps = λ y m. m;
     labels = λ y m. m;
   };
-  lane = refl;
-  out = refl;
-  shut = refl;
-  flight = refl;
-  rows = refl;
-  draft = refl;
-  tail = refl;
-  own = refl;
+  clock = later_ticked v.clock;
+  frame = refl;
   count = refl;
   found = refl;
   loads = refl;
@@ -161,8 +138,8 @@ pub may_announce : (v a : View) (version : ℕ) → CanEnter v → Keeps v a →
     → CanAnnounce a version
 may_announce v a version can keeps loaded = record {
   can = record {
-    live = subst (λ (z : ℕ). 1 ≤ z) (sym keeps.lane) can.live;
-    idle = keeps.flight ∙ can.idle;
+    live = subst (λ (z : ℕ). 1 ≤ z) (sym (ap (λ (z : View). z.lane) keeps.frame)) can.live;
+    idle = ap (λ (z : View). z.flight) keeps.frame ∙ can.idle;
   };
   reached = omega arith;
 }

@@ -1,6 +1,6 @@
 -- What a pass knows once it is entered.
 use Rattle.std.specs.Prelude.{ℕ, ◌≡◌, ◌+◌, ◌≤◌}
-use Rattle.fish_rule.specs.Logs.{Learns}
+use Rattle.fish_rule.specs.Logs.{IsLater, Learns}
 use Rattle.fish_rule.specs.declared.view.Epoch.TheVariants.{Confirmed}
 use Rattle.fish_rule.specs.declared.view.View.{View}
 
@@ -8,14 +8,8 @@ use Rattle.fish_rule.specs.declared.view.View.{View}
 -- loaded
 pub record Keeps (v u : View) : Type 0 where
   pub learns : Learns v u
-  pub lane : u.lane ≡ v.lane
-  pub out : u.out ≡ v.out
-  pub shut : u.shut ≡ v.shut
-  pub flight : u.flight ≡ v.flight
-  pub rows : u.rows ≡ v.rows
-  pub draft : u.draft ≡ v.draft
-  pub tail : u.tail ≡ v.tail
-  pub own : u.own ≡ v.own
+  pub clock : IsLater v.clock u.clock
+  pub frame : u ≡ record v { epoch = u.epoch; learned = u.learned; clock = u.clock }
   pub count : u.learned.count ≡ v.learned.count
   pub found : u.learned.found ≡ v.learned.found
   pub loads : u.clock.loads ≡ v.clock.loads

@@ -1,9 +1,9 @@
 //! The definitions of a version, as a pass reads them of the log's words.
 
-ghost use Rattle.std.specs.Prelude.{◌≡◌, ◌≤◌, IfOk, OnErr, OnOk, map, true};
+ghost use Rattle.std.specs.Prelude.{◌≡◌, ◌≤◌, All, IfOk, OnErr, OnOk, map, true};
 ghost use Rattle.fish_catalog.specs.Canonical.{IsCanonical};
 ghost use Rattle.fish_catalog.specs.Listing.{IsListing, active_texts};
-ghost use Rattle.fish_rule.specs.Keys.{text_of};
+ghost use Rattle.fish_rule.specs.Keys.{IsWritten, text_of};
 ghost use Rattle.fish_epoch.specs.Rows.{OnlyReads};
 ghost use Rattle.fish_rule.specs.Passes.{IsPassOf, view};
 
@@ -33,7 +33,7 @@ pub struct Known {
 }
 
 impl Defs {
-    ghost use Rattle.fish_epoch.specs.Definitions.{AreRead, IsDefsOf, IsUnread, active_defs, version_of};
+    ghost use Rattle.fish_epoch.specs.Definitions.{AreRead, IsDefsOf, IsUnread, active_defs, rows_of, version_of};
 
     /// No definition yet, and a reader without memory. Takes no memory.
     pub fn new(alloc: Global) -> Defs
@@ -59,6 +59,13 @@ impl Defs {
         self.known.active()
     }
 
+    /// All definitions of the version by id, ended ones too, with their names.
+    pub fn rows(&self) -> &[Listed]
+        ensures { result.now ≡ rows_of self.now.known }
+    {
+        self.known.rows()
+    }
+
     /// Reads the definitions of a version that the pass has loaded: the words of its rows and
     /// operations, once a version. Where they are those of this version already, nothing is read.
     pub fn refresh(&mut self, log: &Log, pass: &mut Pass, version: u16) -> Result<(), AllocError>
@@ -79,7 +86,7 @@ impl Defs {
 }
 
 impl Known {
-    ghost use Rattle.fish_epoch.specs.Definitions.{AreRead, IsKnownOf, IsUnread, active_defs, version_of};
+    ghost use Rattle.fish_epoch.specs.Definitions.{AreRead, IsKnownOf, IsUnread, active_defs, rows_of, version_of};
 
     /// No definition yet. Takes no memory.
     pub fn new(alloc: Global) -> Known
@@ -105,6 +112,13 @@ impl Known {
         ensures { result.now ≡ active_defs self.now }
     {
         self.active.as_slice()
+    }
+
+    /// All definitions of the version by id, ended ones too, with their names.
+    pub fn rows(&self) -> &[Listed]
+        ensures { result.now ≡ rows_of self.now }
+    {
+        self.rows.as_slice()
     }
 
     /// Reads the definitions of a version that the pass has loaded: the words of its rows and
@@ -140,7 +154,8 @@ impl Known {
 /// The definitions that are active.
 fn parse_active(alloc: Global, rows: &[Listed]) -> Result<Vec<ActiveDef>, AllocError>
     requires { IsListing rows.now }
-    ensures { IfOk result (λ defs. map text_of defs.items ≡ active_texts rows.now) }
+    ensures texts { IfOk result (λ defs. map text_of defs.items ≡ active_texts rows.now) }
+    ensures written { IfOk result (λ defs. All IsWritten defs.items) }
 {
     let mut active = Vec::new(alloc);
     for row in rows {
@@ -154,7 +169,8 @@ fn parse_active(alloc: Global, rows: &[Listed]) -> Result<Vec<ActiveDef>, AllocE
 /// The definition that a row's text is.
 fn parse_row(alloc: Global, row: &Listed) -> Result<ActiveDef, AllocError>
     requires { IsCanonical row.now.def }
-    ensures { IfOk result (λ active. text_of active ≡ (row.now.id, row.now.def)) }
+    ensures text { IfOk result (λ active. text_of active ≡ (row.now.id, row.now.def)) }
+    ensures written { IfOk result IsWritten }
 {
     // a canonical text is a definition, so nothing but memory is wanting
     let Ok(def) = parse_def(alloc, row.def.as_bytes()) else {

@@ -9,11 +9,14 @@ use Rattle.fish_rule.specs.World.{low}
 use Rattle.fish_rule.proofs.Extending.{later_loaded}
 use Rattle.fish_rule.proofs.Kept.{published}
 use Rattle.fish_rule.proofs.Walking.{claimed_there, gap_clear, within_region}
-use Rattle.fish_rule.specs.Linking.{HasNode, after_head, after_node, after_previous, gap, with_node}
-use Rattle.fish_rule.specs.Logs.{Extends}
+use Rattle.fish_rule.specs.Linking.{HasNode, after_head, after_node, after_previous, gap, head_seen, previous_seen}
+use Rattle.fish_rule.specs.Linking.{with_node}
+use Rattle.fish_rule.specs.Logs.{Extends, Learns}
 use Rattle.fish_rule.specs.Regions.{code}
+use Rattle.fish_rule.specs.Steps.{loaded}
 use Rattle.fish_rule.specs.Views.{Among}
 use Rattle.fish_rule.specs.Walking.{Always, IsClear, IsEntryIn}
+use Rattle.fish_rule.specs.declared.view.Clock.{Clock}
 use Rattle.fish_rule.specs.declared.view.Key.{Key}
 use Rattle.fish_rule.specs.declared.view.Kind.TheVariants.{Mark, Stored}
 use Rattle.fish_rule.specs.declared.view.Node.{Node}
@@ -39,49 +42,51 @@ node_here k b x nodes = by (dec_lt (k.line * 4) x)
     by (yes h) = inr (inl refl)
     by (no h) = inl (omega arith)
 
--- a head that is seen extends a view
-pub extends_head : (v : View) (b x : ℕ) → Extends v (after_head v b x)
-extends_head v b x = record {
-  learns = record {
-    about = refl;
-    count = omega arith;
-    settled = omega arith;
-    version = omega arith;
-    words = λ x m. m;
-    found = λ x m. m;
-    known = λ x m. m;
-    records = λ x m. m;
-    nodes = nodes_stay v.about b x v.learned.nodes;
-    lows = λ x m. m;
-    tops = λ x m. inr m;
-    gaps = λ x m. inr m;
-    labels = λ x m. m;
-  };
-  clock = later_loaded v.clock;
-  frame = refl;
+-- a head that is seen is learned on top
+pub head_learns : (v : View) (b x : ℕ) (clock : Clock) → Learns v (head_seen v b x clock)
+head_learns v b x clock = record {
+  about = refl;
+  count = omega arith;
+  settled = omega arith;
+  version = omega arith;
+  words = λ x m. m;
+  found = λ x m. m;
+  known = λ x m. m;
+  records = λ x m. m;
+  nodes = nodes_stay v.about b x v.learned.nodes;
+  lows = λ x m. m;
+  tops = λ x m. inr m;
+  gaps = λ x m. inr m;
+  labels = λ x m. m;
 }
 
--- so does a first word
-pub extends_previous : (v : View) (b p x : ℕ) → Extends v (after_previous v b p x)
-extends_previous v b p x = record {
-  learns = record {
-    about = refl;
-    count = omega arith;
-    settled = omega arith;
-    version = omega arith;
-    words = λ x m. m;
-    found = λ x m. m;
-    known = λ x m. m;
-    records = λ x m. m;
-    nodes = nodes_stay v.about b x v.learned.nodes;
-    lows = λ x m. inr m;
-    tops = λ x m. m;
-    gaps = λ x m. inr m;
-    labels = λ x m. m;
-  };
-  clock = later_loaded v.clock;
-  frame = refl;
+-- so is a first word
+pub previous_learns : (v : View) (b p x : ℕ) (clock : Clock) → Learns v (previous_seen v b p x clock)
+previous_learns v b p x clock = record {
+  about = refl;
+  count = omega arith;
+  settled = omega arith;
+  version = omega arith;
+  words = λ x m. m;
+  found = λ x m. m;
+  known = λ x m. m;
+  records = λ x m. m;
+  nodes = nodes_stay v.about b x v.learned.nodes;
+  lows = λ x m. inr m;
+  tops = λ x m. m;
+  gaps = λ x m. inr m;
+  labels = λ x m. m;
 }
+
+-- a load of a head extends a view
+pub extends_head : (v : View) (b x : ℕ) → Extends v (after_head v b x)
+extends_head v b x =
+    record { learns = head_learns v b x (loaded v.clock); clock = later_loaded v.clock; frame = refl }
+
+-- so does one of a first word
+pub extends_previous : (v : View) (b p x : ℕ) → Extends v (after_previous v b p x)
+extends_previous v b p x =
+    record { learns = previous_learns v b p x (loaded v.clock); clock = later_loaded v.clock; frame = refl }
 
 -- and a second word
 pub extends_node : (v : View) (p x : ℕ) → Extends v (after_node v p x)

@@ -6,13 +6,21 @@ use Rattle.fish_lang.specs.Language.{IsOutcome}
 use Rattle.fish_lang.specs.Outcome.{Gives}
 use Rattle.fish_lang.specs.declared.definition.Def.{Def}
 use Rattle.fish_lang.specs.declared.parse.LangRefusal.{LangRefusal}
-use Rattle.fish_epoch.proofs.Texts.{canonical_read, parsed_text}
+use Rattle.fish_epoch.proofs.Texts.{canonical_read, parsed_text, parsed_written}
 use Rattle.fish_epoch.proofs.definitions.parse_row.Goals as goal
 
-pub returns : goal.returns
-returns c =
+pub returns-clause-text : goal.returns-clause-text
+returns-clause-text c =
     let h = c.requires in
     let due = c.parse_def.ensures.only (Ok h.said)
     (subst (λ (b : List ℕ). IsOutcome b (Ok h.said)) (sym c.as_bytes.ensures) (canonical_read c.args.row.now.def h)) in
     ap (λ (t : List ℕ). (c.args.row.now.id, t)) (parsed_text c.args.row.now.def h c.in-Ok.def
     (subst (λ (z : Result Def LangRefusal). Gives definition_of z (Ok h.said)) c.in-Ok.is due))
+
+pub returns-clause-written : goal.returns-clause-written
+returns-clause-written c =
+    let h = c.requires in
+    let due = c.parse_def.ensures.only (Ok h.said)
+    (subst (λ (b : List ℕ). IsOutcome b (Ok h.said)) (sym c.as_bytes.ensures) (canonical_read c.args.row.now.def h)) in
+    parsed_written c.args.row.now.def h c.in-Ok.def
+    (subst (λ (z : Result Def LangRefusal). Gives definition_of z (Ok h.said)) c.in-Ok.is due)
