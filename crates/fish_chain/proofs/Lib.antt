@@ -3,5 +3,6 @@ pub mod Climbing
 pub mod Descents
 pub mod Laws
 pub mod Partly
+pub mod Passing
 pub mod Splicing
 pub mod Swinging

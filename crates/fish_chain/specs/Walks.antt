@@ -1,5 +1,5 @@
 -- What a walk down the chain of a bucket gives: the key entries of the settled records in its range, newest first.
-use Rattle.std.specs.Prelude.{ℕ, ◌≡◌, ◌*◌, ◌<◌, ◌≤◌, Option, Some, None}
+use Rattle.std.specs.Prelude.{ℕ, ◌≡◌, ◌+◌, ◌*◌, ◌<◌, ◌≤◌, List, [], ◌∷◌, length, Option, Some, None}
 use Rattle.std.proofs.Common.{◌⊎◌}
 use Rattle.fish_chain.specs.declared.walk.Node.{Node}
 use Rattle.fish_layout.specs.Entry.{entry_number}
@@ -62,6 +62,19 @@ pub record IsNextNode (v : View) (walk : Walk) (node : Node) : Type 0 where
   pub entry : Always v (IsNodeIn walk.bucket node.number node.key node.place node.id)
   pub below : node.place < walk.given
   pub next : Always v (IsClear walk.bucket walk.from walk.to walk.given node.place)
+
+-- places of entries of a bucket that are known to be linked, each below the one before: they lead from one place
+-- down to another
+abbrev pub LeadDown : View → ℕ → ℕ → ℕ → List ℕ → Type 0
+LeadDown v bucket from to [] = from ≡ to
+LeadDown v bucket from to (place ∷ places) = (from ≡ place) × HasNode v bucket place
+    × ((next : ℕ) × (next < place) × LeadDown v bucket next to places)
+
+-- going down from one place to another the pass loaded at most two words of each entry that it passed
+pub record IsBounded (v u : View) (bucket from to : ℕ) : Type 0 where
+  pub passed : List ℕ
+  pub down : LeadDown u bucket from to passed
+  pub few : u.clock.loads ≤ v.clock.loads + 2 * length passed
 
 -- what a walk gave: its next entry, which it then has given, or none where no entry of its range is left, and the
 -- walk is past the table

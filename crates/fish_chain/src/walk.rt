@@ -4,7 +4,7 @@
 //! none, whatever is linked meanwhile. It reads the first and the second word of an entry and no other.
 
 ghost use Rattle.std.specs.Prelude.{◌≡◌, ◌+◌, ◌<◌, ◌≤◌};
-ghost use Rattle.fish_chain.specs.Walks.{Gave, LeadsTo, HasBegun, HasRange, IsNumbered, IsPast, IsWalking};
+ghost use Rattle.fish_chain.specs.Walks.{Gave, LeadsTo, HasBegun, HasRange, IsBounded, IsNumbered, IsPast, IsWalking};
 ghost use Rattle.fish_rule.specs.Parts.{IsOlder, first_head};
 ghost use Rattle.fish_rule.specs.Linking.{CanLoadHead, HasNode};
 ghost use Rattle.fish_rule.specs.Logs.{Extends};
@@ -59,8 +59,8 @@ pub fn walk_start<L: Ledger>(
     keep_walk(pass, walk);
 }
 
-/// The next entry down, or none exactly where no entry of the walk's range is left. Two loads for each
-/// entry that it passes, and one for an entry below the range, where it ends.
+/// The next entry down, or none exactly where no entry of the walk's range is left. At most two loads
+/// for each entry that it passes.
 pub fn walk_next<L: Ledger>(log: &Log, pass: &mut Pass, loads: &mut Steps<L>) -> Option<Node>
     requires pass { IsPassOf log.now pass.old }
     requires walking { IsWalking (view pass.old) (walk_of pass.old) }
@@ -70,6 +70,8 @@ pub fn walk_next<L: Ledger>(log: &Log, pass: &mut Pass, loads: &mut Steps<L>) ->
     ensures range { let walk = walk_of pass.old in HasRange (walk_of pass.new) walk.bucket walk.from walk.to }
     ensures gave { Gave (view pass.new) (walk_of pass.old) (walk_of pass.new) result }
     ensures counted { loads.new + (view pass.old).clock.loads ≡ loads.old + (view pass.new).clock.loads }
+    ensures few { let walk = walk_of pass.old in
+        IsBounded (view pass.old) (view pass.new) walk.bucket walk.place (walk_of pass.new).place }
 {
     let past = base(log).line * 4;
     let mut walk = kept_walk(pass);
@@ -126,6 +128,7 @@ fn place_below<L: Ledger>(
     ensures extends { Extends (view pass.old) (view pass.new) }
     ensures below { LeadsTo (view pass.new) walk.now result }
     ensures counted { loads.new + (view pass.old).clock.loads ≡ loads.old + (view pass.new).clock.loads }
+    ensures few { (view pass.new).clock.loads ≤ (view pass.old).clock.loads + 1 }
 {
     if u64::from(number) < walk.from {
         return 0;

@@ -2,7 +2,9 @@
 use Rattle.std.proofs.Common.{ℕ, ◌<◌, ◌≤◌, ◌⊎◌, inl, inr, sym, refl, ap, subst, arith}
 use Rattle.fish_chain.proofs.Descents.{behind_known, clear_past, clear_same, given_next, gone_on, looked_node, next_same, numbered}
 use Rattle.fish_chain.proofs.Descents.{passed_by, past_known, stands_at}
+use Rattle.fish_chain.proofs.Passing.{bounded_more, bounded_same}
 use Rattle.fish_rule.proofs.Extending.{extends_both}
+use Rattle.fish_rule.specs.Linking.{HasNode}
 use Rattle.fish_chain.specs.Walks.{IsNextNode, IsPast, IsWalking}
 use Rattle.fish_chain.specs.declared.walk.Node.{Node}
 use Rattle.fish_layout.specs.Entry.{entry_number}
@@ -109,8 +111,37 @@ loop-walk-preserved g c =
           behind seen c.place_below.ensures.extends c.place_below.ensures.below out;
       range = record { bucket_is = inv.range.bucket_is; from_is = inv.range.from_is; to_is = inv.range.to_is };
       given = inv.given;
+      few = bounded_more _ v t _ _ c.loop-walk.walk.place c.place_below.result inv.few
+          (subst (λ (z : ℕ). HasNode v z c.loop-walk.walk.place) inv.range.bucket_is
+          (stands_at v c.loop-walk.walk inv.walking behind).0) turn.learns c.place_below.ensures.below.lower
+          (let more = c.place_below.ensures.few in omega arith);
       counted = omega arith;
     }
+
+-- an entry of the range was passed
+pub returns-then-from-walk-clause-few : goal.returns-then-from-walk-clause-few
+returns-then-from-walk-clause-few g c =
+    let inv = c.loop-walk.invariant in
+    let v = view c.loop-walk.pass in
+    let u = view c.load_node-entry.new.pass in
+    let t = view c.place_below.new.pass in
+    let test = c.loop-walk-test.true in
+    let line = c.base-past.ensures.1 in
+    let behind = behind_known c.args.log.now.key v c.loop-walk.walk.place inv.of.about (omega arith) in
+    let seen = c.load_node-entry.ensures.view in
+    let turn = extends_both v u t (looked_node v u c.loop-walk.walk.place c.load_node-entry.result seen)
+    c.place_below.ensures.extends in
+    let loads = ap (λ (z : View). z.clock.loads) seen in
+    let more = c.place_below.ensures.few in
+    bounded_same _ t _ _ _ _ _ _ _ (bounded_more _ v t _ _ c.loop-walk.walk.place c.place_below.result inv.few
+    (subst (λ (z : ℕ). HasNode v z c.loop-walk.walk.place) inv.range.bucket_is
+    (stands_at v c.loop-walk.walk inv.walking behind).0) turn.learns c.place_below.ensures.below.lower (omega arith))
+    c.keep_walk.ensures.view refl refl (sym (ap (λ (z : Walk). z.place) c.keep_walk.ensures.walk))
+
+-- and none was left
+pub returns-clause-few : goal.returns-clause-few
+returns-clause-few g c = bounded_same _ (view c.loop-walk.pass) _ _ _ _ _ _ _ c.loop-walk.invariant.few
+    c.keep_walk-2.ensures.view refl refl (sym (ap (λ (z : Walk). z.place) c.keep_walk-2.ensures.walk))
 
 pub returns-clause-pass : goal.returns-clause-pass
 returns-clause-pass g c = c.keep_walk-2.ensures.pass c.args.log.now c.loop-walk.invariant.of
