@@ -67,7 +67,7 @@ pub later_self : (c : Clock) → IsLater c c
 later_self c = record { steps = omega arith; loads = omega arith; notes = []; since = refl }
 
 -- what is later than a later one is later
-pub later_both : (a b c : Clock) → IsLater a b → IsLater b c → IsLater a c
+unfoldable pub later_both : (a b c : Clock) → IsLater a b → IsLater b c → IsLater a c
 later_both a b c p q =
     let first = p.steps in
     let second = q.steps in

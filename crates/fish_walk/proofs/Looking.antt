@@ -4,8 +4,8 @@ use Rattle.std.proofs.Common.{refl, sym, ap, subst, inl, inr, arith, append_asso
 use Rattle.std.proofs.Math.Decide.{dec_lt}
 use Rattle.fish_rule.proofs.Common.{among_left, among_right}
 use Rattle.fish_rule.proofs.Closing.{seen, seen_here, tells_mark}
-use Rattle.fish_rule.proofs.Extending.{extends_both, extends_look, extends_self, learns_both}
-use Rattle.fish_rule.specs.Logs.{Extends, Learns, TellsMark}
+use Rattle.fish_rule.proofs.Extending.{extends_both, extends_look, extends_self, later_both, later_self, learns_both}
+use Rattle.fish_rule.specs.Logs.{Extends, IsLater, Learns, TellsMark}
 use Rattle.fish_rule.specs.Reading.{after_look, found_after, kind_told}
 use Rattle.fish_rule.specs.Views.{Among}
 use Rattle.fish_rule.specs.World.{high, low}
@@ -17,38 +17,22 @@ use Rattle.fish_rule.specs.declared.view.Noted.{Noted}
 use Rattle.fish_rule.specs.declared.view.Noted.TheVariants.{Directory}
 use Rattle.fish_rule.specs.declared.view.View.{View}
 use Rattle.fish_walk.specs.Looks.{look_of, look_of_kind}
-use Rattle.fish_walk.specs.Settling.{AreSettled, EndsAt, GoesOn, HasLoaded, IsEnd, IsMark, Looked, StopsAt}
+use Rattle.fish_walk.specs.Settling.{AreSettled, EndsAt, HasLoaded, IsEnd, IsMark, Looked, StopsAt}
 use Rattle.fish_walk.specs.declared.outcome.Look.{Look}
 use Rattle.fish_walk.specs.declared.outcome.Look.TheVariants as look
 
 -- ---- loads
 
--- a view goes on from itself
-pub on_self : (v : View) → GoesOn v v
-on_self v = record { notes = []; since = refl; later = omega arith }
-
--- and what goes on twice goes on
-pub on_both : (a b c : View) → GoesOn a b → GoesOn b c → GoesOn a c
-on_both a b c p q =
-    let first = p.later in
-    let second = q.later in
-    record {
-      notes = q.notes ++ p.notes;
-      since = q.since ∙ ap (λ (z : List Note). q.notes ++ z) p.since
-          ∙ sym (append_assoc q.notes p.notes a.clock.notes);
-      later = omega arith;
-    }
-
 -- a load between two views was made between two that lie further apart
-pub loaded_within : (a b c d : View) (what : Noted) (value : ℕ) → GoesOn a b → HasLoaded b c what value
-    → GoesOn c d → HasLoaded a d what value
-unfolding on_both
+pub loaded_within : (a b c d : View) (what : Noted) (value : ℕ) → IsLater a.clock b.clock → HasLoaded b c what value
+    → IsLater c.clock d.clock → HasLoaded a d what value
+unfolding later_both
 loaded_within a b c d what value p load q =
-    let first = p.later in
+    let first = p.steps in
     let at = load.later in
     let note : Note = record { step = load.step; what = what; value = value } in
     record {
-      on = on_both a c d (on_both a b c p load.on) q;
+      on = later_both a.clock c.clock d.clock (later_both a.clock b.clock c.clock p load.on) q;
       step = load.step;
       later = omega arith;
       among = among_right note q.notes (load.on.notes ++ p.notes)
@@ -56,8 +40,8 @@ loaded_within a b c d what value p load q =
     }
 
 -- and so was a stop found
-pub stops_within : (P : ℕ → Type 0) (a b c d : View) (number count : ℕ) → GoesOn a b
-    → StopsAt P b c number count → GoesOn c d → StopsAt P a d number count
+pub stops_within : (P : ℕ → Type 0) (a b c d : View) (number count : ℕ) → IsLater a.clock b.clock
+    → StopsAt P b c number count → IsLater c.clock d.clock → StopsAt P a d number count
 stops_within P a b c d number count p (inl e) q = inl e
 stops_within P a b c d number count p (inr h) q = inr (record {
   below = h.below;
@@ -72,9 +56,10 @@ stops_within P a b c d number count p (inr h) q = inr (record {
 pub look_loads : (v u : View) (n lines x : ℕ) → u ≡ after_look v n lines x → HasLoaded v u (Directory n) x
 look_loads v u n lines x e = subst (λ (z : View). HasLoaded v z (Directory n) x) (sym e) (record {
   on = record {
+    steps = omega arith;
+    loads = omega arith;
     notes = record { step = v.clock.steps; what = Directory n; value = x } ∷ [];
     since = refl;
-    later = omega arith;
   };
   step = v.clock.steps;
   later = omega arith;
@@ -87,12 +72,12 @@ look_looks v u n lines x e = record {
   extends = subst (λ (z : View). Extends v z) (sym e) (extends_look v n lines x);
   count = ap (λ (z : View). z.learned.count) e;
   settled = ap (λ (z : View). z.learned.settled) e;
-  on = (look_loads v u n lines x e).on;
+  loads = ap (λ (z : View). z.clock.loads) e;
 }
 
 -- a view to which no look was added
 pub looked_self : (v : View) → Looked v v
-looked_self v = record { extends = extends_self v; count = refl; settled = refl; on = on_self v }
+looked_self v = record { extends = extends_self v; count = refl; settled = refl; loads = refl }
 
 -- and one to which looks were added twice
 pub looked_both : (a b c : View) → Looked a b → Looked b c → Looked a c
@@ -100,7 +85,7 @@ looked_both a b c p q = record {
   extends = extends_both a b c p.extends q.extends;
   count = q.count ∙ p.count;
   settled = q.settled ∙ p.settled;
-  on = on_both a b c p.on q.on;
+  loads = q.loads ∙ p.loads;
 }
 
 -- a look that tells of an end has found an end's word
@@ -120,7 +105,7 @@ pub stops_by : (P : ℕ → Type 0) (a v u : View) (n lines x count : ℕ) → L
 stops_by P a v u n lines x count looked e ends below = inr (record {
   below = below;
   word = x;
-  loaded = loaded_within a v u u (Directory n) x looked.on (look_loads v u n lines x e) (on_self u);
+  loaded = loaded_within a v u u (Directory n) x looked.extends.clock (look_loads v u n lines x e) (later_self u.clock);
   ends = ends;
 })
 

@@ -1,29 +1,28 @@
 -- Where the record is that was found at a number.
-use Rattle.std.proofs.Common.{◌≡◌, ◌≢◌, ℕ, ◌+◌, ◌*◌, ◌<◌, ◌≤◌, List, zero, suc, refl, sym, ap, ◌∙◌, subst, inl, arith}
+use Rattle.std.proofs.Common.{◌≡◌, ◌≢◌, ℕ, ◌+◌, ◌*◌, ◌<◌, ◌≤◌, List, zero, suc, refl, sym, ap, ◌∙◌, subst, inl, inr, arith}
 use Rattle.fish_rule.proofs.Entries.{stored_words}
 use Rattle.fish_rule.proofs.Extending.{extends_look}
 use Rattle.fish_rule.proofs.Laws.{fits_law, found_law, read_law}
 use Rattle.fish_rule.specs.Logs.{Extends}
-use Rattle.fish_rule.specs.Regions.{code, dir_word}
+use Rattle.fish_rule.specs.Regions.{code, dir_word, kind_of}
 use Rattle.fish_rule.specs.Reading.{CanLook, after_look, found_after, kind_told}
-use Rattle.fish_rule.specs.Table.{Stands}
+use Rattle.fish_rule.specs.Table.{Sees, Stands}
 use Rattle.fish_rule.specs.Views.{Among}
-use Rattle.fish_rule.specs.World.{high, low}
+use Rattle.fish_rule.specs.World.{World, high, low}
 use Rattle.fish_rule.specs.declared.view.Found.{Found}
 use Rattle.fish_rule.specs.declared.view.Kind.{Kind}
 use Rattle.fish_rule.specs.declared.view.Kind.TheVariants.{Mark, Stored, Void}
 use Rattle.fish_rule.specs.declared.view.View.{View}
-use Rattle.fish_walk.specs.Looks.{look_of, look_of_kind}
+use Rattle.fish_walk.specs.Looks.{IsEntryLook, look_of, look_of_kind}
 use Rattle.fish_walk.specs.declared.outcome.Look.TheVariants as Look
 
 -- its line has 36 bits
-low_line : (v : View) (f : Found) → Stands v → 1 ≤ v.lane → Among f v.learned.found → f.kind ≡ Stored
+low_line : (v : View) (f : Found) → Stands v → Among f v.learned.found → f.kind ≡ Stored
     → f.line < 68719476736
-low_line v f s live among is =
+low_line v f s among is =
     let some = found_law v f s among in
     let law = read_law v.about v f 0 refl s
     (record {
-      live = live;
       found = among;
       words = stored_words f.kind is;
       inside = omega arith;
@@ -34,12 +33,12 @@ low_line v f s live among is =
     omega arith
 
 -- so it is what the low bits of the directory word say
-pub word_line : (v : View) (f : Found) (x : ℕ) → Stands v → 1 ≤ v.lane → Among f v.learned.found
+pub word_line : (v : View) (f : Found) (x : ℕ) → Stands v → Among f v.learned.found
     → f.kind ≡ Stored → x ≡ dir_word f.kind f.line
     → f.line ≡ low x
 unfolding low
-word_line v f x s live among is word =
-    let small = low_line v f s live among is in
+word_line v f x s among is word =
+    let small = low_line v f s among is in
     let same : x ≡ f.line + 68719476736 = word ∙ ap (λ (k : Kind). f.line + code k * 68719476736) is ∙ (omega arith) in
     omega arith
 
@@ -48,12 +47,12 @@ pub look_extends : (v u : View) (n lines x : ℕ) → u ≡ after_look v n lines
 look_extends v u n lines x e = subst (Extends v) (sym e) (extends_look v n lines x)
 
 -- a look at a record that was found before finds it again, at the line of the word
-pub look_finds : (v u : View) (n lines x line : ℕ) (f : Found) → Stands v → 1 ≤ v.lane → u ≡ after_look v n lines x
+pub look_finds : (v u : View) (n lines x line : ℕ) (f : Found) → Stands v → u ≡ after_look v n lines x
     → x ≡ dir_word f.kind f.line → Among f v.learned.found → f.kind ≡ Stored → line ≡ low x
     → Among f u.learned.found × (f.line ≡ line) × (f.kind ≢ Mark)
-look_finds v u n lines x line f s live e word among is at =
+look_finds v u n lines x line f s e word among is at =
     let extends = look_extends v u n lines x e in
-    (extends.learns.found f among, word_line v f x s live among is word ∙ sym at, stored_words f.kind is)
+    (extends.learns.found f among, word_line v f x s among is word ∙ sym at, stored_words f.kind is)
 
 -- a look that tells of a record has found it
 found_stored : (n lines x : ℕ) (found : List Found) → Look.Stored ≡ look_of x → (f : Found)
@@ -81,5 +80,36 @@ stored_law v u n lines x e is =
 -- and the pass may look there again
 pub look_again : (v u : View) (n lines x : ℕ) → u ≡ after_look v n lines x → CanLook v n → CanLook u n
 look_again v u n lines x e can =
-    let may : CanLook (after_look v n lines x) n = record { live = can.live; above = can.above; below = can.below } in
+    let may : CanLook (after_look v n lines x) n = record { above = can.above; below = can.below } in
     subst (λ (z : View). CanLook z n) (sym e) may
+
+-- ---- settled numbers
+
+-- a code tells its kind
+told_code : (kind : Kind) → kind_told (code kind) ≡ kind
+told_code Stored = refl
+told_code Void = refl
+told_code Mark = refl
+
+-- the word of a kind that is no mark
+entry_look : (word : ℕ) (kind : Kind) → word ≢ 0 → kind_told (high word) ≡ kind → kind ≢ Mark
+    → IsEntryLook (look_of word)
+entry_look zero kind some_ is plain = absurd (some_ refl)
+entry_look (suc x) Stored some_ is plain = inl (ap look_of_kind is)
+entry_look (suc x) Void some_ is plain = inr (ap look_of_kind is)
+entry_look (suc x) Mark some_ is plain = absurd (plain refl)
+
+-- whoever looks at a number of the table below the settled number that it knows sees a record or a void
+pub settled_seen : (v : View) (n word : ℕ) → v.about.number ≤ n → n < v.learned.settled → Sees v n word
+    → IsEntryLook (look_of word)
+settled_seen v n word above below s =
+    let w : World = s.moment in
+    let r = s.rule in
+    let floor = r.floors s.seat v s.at in
+    let within = r.settling.within in
+    let e = r.settling.below n above (omega arith) in
+    let f = r.space.finished n above (omega arith) e.published in
+    let kind : Kind = kind_of v.about.end (r.start n) (r.start (suc n)) in
+    let same : kind_told (high word) ≡ kind = ap (λ (z : ℕ). kind_told (high z)) s.is ∙ ap kind_told f.kind
+    ∙ told_code kind in
+    entry_look word kind (λ none. e.published (sym s.is ∙ none)) same (λ m. e.unmarked (f.kind ∙ ap code m))

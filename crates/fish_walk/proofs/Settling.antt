@@ -1,7 +1,8 @@
 -- What the loads, the looks and the raise of a whole call tell together.
 use Rattle.std.proofs.Common.{◌≡◌, ◌≢◌, ℕ, ◌<◌, ◌≤◌, max, [], ◌∷◌, refl, sym, ap, ◌∙◌, subst, inl, inr, ◌⊎◌, arith}
 use Rattle.std.proofs.Math.Decide.{dec_lt}
-use Rattle.fish_rule.proofs.Extending.{extends_both}
+use Rattle.fish_rule.proofs.Extending.{extends_both, later_both, later_ticked}
+use Rattle.fish_rule.specs.Logs.{IsLater}
 use Rattle.fish_rule.specs.Reading.{CanRaise, IsAlone, after_end, after_settled}
 use Rattle.fish_rule.specs.Views.{Among}
 use Rattle.fish_rule.specs.World.{high}
@@ -10,23 +11,24 @@ use Rattle.fish_rule.specs.declared.view.Key.{Key}
 use Rattle.fish_rule.specs.declared.view.Kind.TheVariants.{Mark}
 use Rattle.fish_rule.specs.declared.view.Noted.TheVariants.{Tail}
 use Rattle.fish_rule.specs.declared.view.View.{View}
-use Rattle.fish_walk.proofs.Looking.{loaded_within, on_both, stops_within}
-use Rattle.fish_walk.specs.Settling.{AreSettled, GoesOn, HasCounted, HasLoaded, Looked, Raised, Settles, StopsAt}
+use Rattle.fish_walk.proofs.Looking.{loaded_within, stops_within}
+use Rattle.fish_walk.specs.Settling.{AreSettled, HasCounted, HasLoaded, Looked, Raised, Settles, StopsAt}
 
 -- the views of a call: as it began, and after each of its parts
 module _ (a b c d e : View) (known x settled : ℕ) (to_b : b ≡ after_settled a known) (to_c : c ≡ after_end b x)
     (looked : Looked c d) (raised : Raised d e settled) where
   -- until the count is loaded
-  on_b : GoesOn a b
-  on_b = subst (λ (z : View). GoesOn a z) (sym to_b) (record { notes = []; since = refl; later = omega arith })
+  on_b : IsLater a.clock b.clock
+  on_b = subst (λ (z : View). IsLater a.clock z.clock) (sym to_b) (later_ticked a.clock)
 
   -- the load of the count
   counts : HasLoaded b c Tail x
   counts = subst (λ (z : View). HasLoaded b z Tail x) (sym to_c) (record {
     on = record {
+      steps = omega arith;
+      loads = omega arith;
       notes = record { step = b.clock.steps; what = Tail; value = x } ∷ [];
       since = refl;
-      later = omega arith;
     };
     step = b.clock.steps;
     later = omega arith;
@@ -37,14 +39,16 @@ module _ (a b c d e : View) (known x settled : ℕ) (to_b : b ≡ after_settled 
   pub counted_here : (count : ℕ) → count ≡ high x → HasCounted a e count
   counted_here count is = record {
     tail = x;
-    loaded = loaded_within a b c e Tail x on_b counts (on_both c d e looked.on raised.on);
+    loaded = loaded_within a b c e Tail x on_b counts
+        (later_both c.clock d.clock e.clock looked.extends.clock raised.extends.clock);
     is = sym is;
   }
 
   -- and so is the stop
   pub stops_here : (P : ℕ → Type 0) (number count : ℕ) → StopsAt P c d number count → StopsAt P a e number count
   stops_here P number count stop =
-      stops_within P a c d e number count (on_both a b c on_b counts.on) stop raised.on
+      stops_within P a c d e number count (later_both a.clock b.clock c.clock on_b counts.on) stop
+      raised.extends.clock
 
   -- the view after a load of the settled number and one of the tail
   abbrev begun : View
@@ -86,33 +90,31 @@ module _ (a b c d e : View) (known x settled : ℕ) (to_b : b ≡ after_settled 
               gaps = l.learns.gaps;
               labels = l.learns.labels;
             };
-            lane = l.lane;
-            out = l.out;
-            shut = l.shut;
-            flight = l.flight;
-            epoch = l.epoch;
-            rows = l.rows;
-            draft = l.draft;
-            own = l.own;
+            clock = later_both a.clock b.clock e.clock on_b (later_both b.clock c.clock e.clock counts.on
+                (later_both c.clock d.clock e.clock looked.extends.clock raised.extends.clock));
+            loads = raised.loads ∙ looked.loads ∙ ap (λ (z : View). z.clock.loads) begun_is;
+            frame = l.frame ∙ (λ i. record a {
+              tail = sym (ap (λ (z : View). z.tail) l.frame) i;
+              learned = e.learned;
+              clock = e.clock;
+            });
           }
 
 -- the number at which the looks stopped may be the settled one
 pub can_raise : (a b c d : View) (known x first settled count : ℕ) → b ≡ after_settled a known
-    → c ≡ after_end b x → Looked c d → 1 ≤ a.lane → first ≡ max a.about.number known
+    → c ≡ after_end b x → Looked c d → first ≡ max a.about.number known
     → AreSettled d first settled → settled ≤ count → count ≡ high x → CanRaise d settled
-can_raise a b c d known x first settled count to_b to_c looked live from are within is =
+can_raise a b c d known x first settled count to_b to_c looked from are within is =
     let l = looked.extends in
     let same : c.learned.settled ≡ known = ap (λ (z : View). z.learned.settled) to_c
     ∙ ap (λ (z : View). z.learned.settled) to_b in
     let kept = looked.settled in
     let counted : c.learned.count ≡ high x = ap (λ (z : View). z.learned.count) to_c in
     let all = looked.count in
-    let lane : d.lane ≡ a.lane = l.lane ∙ ap (λ (z : View). z.lane) to_c ∙ ap (λ (z : View). z.lane) to_b in
     let about : d.about ≡ a.about = l.learns.about ∙ ap (λ (z : View). z.about) to_c
     ∙ ap (λ (z : View). z.about) to_b in
     let base : d.about.number ≡ a.about.number = ap (λ (z : Key). z.number) about in
     record {
-      live = omega arith;
       within = omega arith;
       known = λ n above below. pick n above below (dec_lt n first);
     }

@@ -1,5 +1,5 @@
 -- What a look tells.
-use Rattle.std.specs.Prelude.{ℕ, ◌≡◌, ◌+◌, ◌*◌, ◌≤◌, zero, suc, Option, Some, None, ⊤}
+use Rattle.std.specs.Prelude.{ℕ, ◌≡◌, ◌+◌, ◌*◌, ◌≤◌, ◌⊎◌, zero, suc, Option, Some, None, ⊤}
 use Rattle.fish_rule.specs.Reading.{kind_told}
 use Rattle.fish_rule.specs.Views.{Among}
 use Rattle.fish_rule.specs.World.{high}
@@ -21,6 +21,10 @@ look_of_kind kind.Mark = found.Overflow
 abbrev pub look_of : ℕ → Look
 look_of zero = found.Unfinished
 look_of (suc x) = look_of_kind (kind_told (high (suc x)))
+
+-- what is found at a number that is settled
+abbrev pub IsEntryLook : Look → Type 0
+IsEntryLook r = (r ≡ found.Stored) ⊎ (r ≡ found.Void)
 
 -- so many numbers are claimed where the tail is here
 abbrev pub IsCount : ℕ → Option Position → Type 0

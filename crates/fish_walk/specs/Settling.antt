@@ -1,12 +1,11 @@
 -- What a call that settles numbers tells: how far it came, and why no further.
-use Rattle.std.specs.Prelude.{ℕ, ◌≡◌, ◌≢◌, ◌<◌, ◌≤◌, List, ◌++◌, Some}
+use Rattle.std.specs.Prelude.{ℕ, ◌≡◌, ◌≢◌, ◌<◌, ◌≤◌, Some}
 use Rattle.std.proofs.Common.{◌⊎◌}
-use Rattle.fish_rule.specs.Logs.{Extends, Learns, TellsMark}
+use Rattle.fish_rule.specs.Logs.{Extends, IsLater, Learns, TellsMark}
 use Rattle.fish_rule.specs.Views.{Among}
 use Rattle.fish_rule.specs.World.{high, low}
 use Rattle.fish_rule.specs.declared.view.Found.{Found}
 use Rattle.fish_rule.specs.declared.view.Kind.TheVariants.{Mark}
-use Rattle.fish_rule.specs.declared.view.Note.{Note}
 use Rattle.fish_rule.specs.declared.view.Noted.{Noted}
 use Rattle.fish_rule.specs.declared.view.Noted.TheVariants.{Directory, Tail}
 use Rattle.fish_rule.specs.declared.view.View.{View}
@@ -15,15 +14,9 @@ use Rattle.fish_walk.specs.declared.outcome.Look.TheVariants.{Overflow, Unfinish
 
 -- ---- loads
 
--- the pass went on from the first view to the second, and made these loads
-pub record GoesOn (v u : View) : Type 0 where
-  pub notes : List Note
-  pub since : u.clock.notes ≡ notes ++ v.clock.notes
-  pub later : v.clock.steps ≤ u.clock.steps
-
 -- between the two views the pass loaded this, and found this value
 pub record HasLoaded (v u : View) (what : Noted) (value : ℕ) : Type 0 where
-  pub on : GoesOn v u
+  pub on : IsLater v.clock u.clock
   pub step : ℕ
   pub later : v.clock.steps ≤ step
   pub among : Among (record { step = step; what = what; value = value }) on.notes
@@ -59,10 +52,10 @@ StopsAt P v u number count = (number ≡ count) ⊎ HasEnd P v u number count
 abbrev pub EndsAt : View → ℕ → ℕ → Type 0
 EndsAt v number count = (number ≡ count) ⊎ ((number < count) × TellsMark v number)
 
--- the tail is at this count, which the pass knows
+-- the tail is at this count, which is the one that the pass knows
 abbrev pub HasTail : View → ℕ → Type 0
 HasTail v count = (tail : ℕ) × (v.tail ≡ Some (record { number = high tail; line = low tail })) × (high tail ≡ count)
-    × (count ≤ v.learned.count)
+    × (v.learned.count ≡ count)
 
 -- each number from the first up to the last was found published, and no mark
 abbrev pub AreSettled : View → ℕ → ℕ → Type 0
@@ -73,31 +66,26 @@ AreSettled v first last = (n : ℕ) → first ≤ n → n < last
 
 -- the pass may look at each number from the first up to the count
 pub record CanSettle (v : View) (first count : ℕ) : Type 0 where
-  pub live : 1 ≤ v.lane
   pub above : v.about.number ≤ first
   pub below : count ≤ v.learned.count
 
--- the second view is the first but for what looks told since
+-- the second view is the first but for what looks told since, which load no word of the log
 pub record Looked (v u : View) : Type 0 where
   pub extends : Extends v u
   pub count : u.learned.count ≡ v.learned.count
   pub settled : u.learned.settled ≡ v.learned.settled
-  pub on : GoesOn v u
+  pub loads : u.clock.loads ≡ v.clock.loads
 
 -- the second view is the first but for the settled number, which is at least this one
 pub record Raised (v u : View) (number : ℕ) : Type 0 where
   pub extends : Extends v u
   pub reaches : number ≤ u.learned.settled
-  pub on : GoesOn v u
+  pub count : u.learned.count ≡ v.learned.count
+  pub loads : u.clock.loads ≡ v.clock.loads
 
--- the second view is the first but for the tail and what was learned since
+-- the second view is the first but for the tail and what was learned since; no word of the log was loaded
 pub record Settles (v u : View) : Type 0 where
   pub learns : Learns v u
-  pub lane : u.lane ≡ v.lane
-  pub out : u.out ≡ v.out
-  pub shut : u.shut ≡ v.shut
-  pub flight : u.flight ≡ v.flight
-  pub epoch : u.epoch ≡ v.epoch
-  pub rows : u.rows ≡ v.rows
-  pub draft : u.draft ≡ v.draft
-  pub own : u.own ≡ v.own
+  pub clock : IsLater v.clock u.clock
+  pub loads : u.clock.loads ≡ v.clock.loads
+  pub frame : u ≡ record v { tail = u.tail; learned = u.learned; clock = u.clock }

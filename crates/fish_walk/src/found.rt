@@ -1,11 +1,11 @@
 //! What a number is found to be, and how many there are.
 
-ghost use Rattle.std.specs.Prelude.{◌≡◌, ◌≢◌, ◌≤◌, ℕ, []};
+ghost use Rattle.std.specs.Prelude.{◌≡◌, ◌≢◌, ◌<◌, ◌≤◌, ℕ, []};
 ghost use Rattle.fish_rule.specs.Passes.{IsPassOf, view};
 ghost use Rattle.fish_rule.specs.Reading.{CanLook, IsAlone, after_end, after_look};
 ghost use Rattle.fish_rule.specs.Table.{Sees};
 ghost use Rattle.fish_rule.specs.World.{high};
-ghost use Rattle.fish_walk.specs.Looks.{IsCount, look_of};
+ghost use Rattle.fish_walk.specs.Looks.{IsCount, IsEntryLook, look_of};
 ghost use Rattle.fish_walk.specs.declared.outcome.Look.TheVariants.{Unfinished};
 
 use crate::outcome::{Look, told_by};
@@ -20,6 +20,7 @@ pub fn look(log: &Log, pass: &mut Pass, number: u32) -> Look
         × (result ≡ look_of word) }
     ensures alone { IsAlone (view pass.old) → result ≢ Unfinished }
     ensures sees { (word : ℕ) × Sees (view pass.old) number word × (result ≡ look_of word) }
+    ensures settled { number < (view pass.old).learned.settled → IsEntryLook result }
 {
     told_by(look_at(log, pass, u64::from(number)))
 }

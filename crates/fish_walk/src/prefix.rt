@@ -1,6 +1,6 @@
 //! The stable prefix of the log: the numbers below the settled one, all published and no marks.
 
-ghost use Rattle.std.specs.Prelude.{◌≡◌, ◌≤◌};
+ghost use Rattle.std.specs.Prelude.{◌≡◌, ◌≤◌, min};
 ghost use Rattle.fish_rule.specs.Passes.{IsPassOf, view};
 ghost use Rattle.fish_rule.specs.Reading.{CanRaise, IsAlone};
 ghost use Rattle.fish_walk.specs.Settling.{AreSettled, CanSettle, EndsAt, HasCounted, HasTail, IsEnd, IsMark, Looked, Raised};
@@ -24,9 +24,9 @@ pub struct Settled {
 /// it looks at, and at most one raise.
 pub fn settle(log: &Log, pass: &mut Pass) -> Settled
     requires pass { IsPassOf log.now pass.old }
-    requires live { 1 ≤ (view pass.old).lane }
     ensures pass { IsPassOf log.now pass.new }
     ensures settles { Settles (view pass.old) (view pass.new) }
+    ensures rises { (view pass.old).learned.settled ≤ result.settled }
     ensures settled { result.settled ≤ (view pass.new).learned.settled }
     ensures count { HasCounted (view pass.old) (view pass.new) result.count }
     ensures stops { StopsAt IsEnd (view pass.old) (view pass.new) result.settled result.count }
@@ -49,6 +49,7 @@ fn settled_up_to(log: &Log, pass: &mut Pass, first: u32, count: u32) -> u32
     requires can { CanSettle (view pass.old) first count }
     ensures pass { IsPassOf log.now pass.new }
     ensures looked { Looked (view pass.old) (view pass.new) }
+    ensures from { min first count ≤ result }
     ensures settled { AreSettled (view pass.new) first result }
     ensures stops { StopsAt IsEnd (view pass.old) (view pass.new) result count }
     ensures alone { IsAlone (view pass.old) → StopsAt IsMark (view pass.old) (view pass.new) result count }

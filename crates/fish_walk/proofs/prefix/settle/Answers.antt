@@ -19,7 +19,7 @@ raise_to-requires-clause-can c =
     let base : c.base.result.number ≡ (view c.args.pass.now).about.number = c.base.ensures.0
     ∙ sym (ap (λ (z : Key). z.number) c.requires.pass.about) in
     can_raise (view c.args.pass.now) (view known.new.pass) (view c.count_now-count.new.pass) _ known.result t.0
-    c.max-first.result c.from.result c.count_now-count.result known.ensures.view t.1 s.looked c.requires.live
+    c.max-first.result c.from.result c.count_now-count.result known.ensures.view t.1 s.looked
     (c.max-first.ensures ∙ ap (λ (z : ℕ). max z known.result) base)
     (subst (AreSettled (view c.settled_up_to-settled.new.pass) c.max-first.result) (sym from) s.settled)
     (omega arith) t.2
@@ -70,10 +70,11 @@ returns-clause-tail c =
     let tail = ap (λ (z : View). z.tail) t.1 in
     let known = ap (λ (z : View). z.learned.count) t.1 in
     let looked = c.settled_up_to-settled.ensures.looked.count in
-    let raised = c.raise_to.ensures.raised.extends.learns.count in
+    let raised = c.raise_to.ensures.raised.count in
     let count = t.2 in (
       t.0,
-      c.raise_to.ensures.raised.extends.tail ∙ c.settled_up_to-settled.ensures.looked.extends.tail ∙ tail,
+      ap (λ (z : View). z.tail) c.raise_to.ensures.raised.extends.frame
+          ∙ ap (λ (z : View). z.tail) c.settled_up_to-settled.ensures.looked.extends.frame ∙ tail,
       sym t.2,
       omega arith,
     )
@@ -87,3 +88,13 @@ returns-clause-ends c alone =
     let still = alone_still _ (view known.new.pass) _ (view c.settled_up_to-settled.new.pass) _ known.result t.0
     c.from.result known.ensures.view t.1 s.looked c.raise_to.ensures.raised alone in
     ends_later _ _ _ _ c.raise_to.ensures.raised.extends.learns (s.ends still)
+
+-- the looks begin at or behind what was settled
+pub returns-clause-rises : goal.returns-clause-rises
+returns-clause-rises c =
+    let up = c.load_settled-known.ensures.rises in
+    let first = c.max-first.ensures in
+    let count = c.count_now-count.ensures.settled in
+    let known = ap (λ (z : View). z.learned.settled) c.load_settled-known.ensures.view in
+    let upto = c.settled_up_to-settled.ensures.from in
+    omega arith

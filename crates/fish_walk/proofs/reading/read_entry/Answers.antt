@@ -17,7 +17,7 @@ read_region-requires-clause-found g c =
     let told = c.look_at-word.ensures.view in
     let word = c.look_at-word.ensures.known f.0 f.1 (f.2 ∙ sym c.from.ensures) in
     let at = look_finds (view c.args.pass.now) (view c.look_at-word.new.pass) _ told.0 c.look_at-word.result
-    c.line_of_word.result f.0 c.requires.pass.stands c.requires.look.live told.1 word f.1 f.3
+    c.line_of_word.result f.0 c.requires.pass.stands told.1 word f.1 f.3
     c.line_of_word.ensures in
     (f.0, at.0, at.1, at.2)
 
@@ -49,7 +49,7 @@ read_payload-requires g c =
     let told = c.look_at-word.ensures.view in
     let word = c.look_at-word.ensures.known f.0 f.1 (f.2 ∙ sym c.from.ensures) in
     let at = look_finds (view c.args.pass.now) (view c.look_at-word.new.pass) _ told.0 c.look_at-word.result
-    c.line_of_word.result f.0 c.requires.pass.stands c.requires.look.live told.1 word f.1 f.3
+    c.line_of_word.result f.0 c.requires.pass.stands told.1 word f.1 f.3
     c.line_of_word.ensures in
     let words = c.in_ok-words.ensures.words f.0 at.0 at.1 at.2 in
     let q = found_body (view c.read_region.new.pass) f.0 c.in_ok-words.words.items c.read_region.ensures.pass.stands
@@ -63,7 +63,7 @@ returns-clause-entry g c =
     let told = c.look_at-word.ensures.view in
     let word = c.look_at-word.ensures.known f.0 f.1 (f.2 ∙ sym c.from.ensures) in
     let at = look_finds (view c.args.pass.now) (view c.look_at-word.new.pass) _ told.0 c.look_at-word.result
-    c.line_of_word.result f.0 c.requires.pass.stands c.requires.look.live told.1 word f.1 f.3
+    c.line_of_word.result f.0 c.requires.pass.stands told.1 word f.1 f.3
     c.line_of_word.ensures in
     let words = c.in_ok-words.ensures.words f.0 at.0 at.1 at.2 in
     let same : c.deref.result.now ≡ c.in_ok-words.words.items = c.deref.ensures.value in
@@ -89,7 +89,7 @@ returns-clause-counted g c =
       few = λ f was number is.
           let word = c.look_at-word.ensures.known f was (number ∙ sym c.from.ensures) in
           let at = look_finds (view c.args.pass.now) (view c.look_at-word.new.pass) _ told.0 c.look_at-word.result
-          c.line_of_word.result f c.requires.pass.stands c.requires.look.live told.1 word was is
+          c.line_of_word.result f c.requires.pass.stands told.1 word was is
           c.line_of_word.ensures in
           let full = (c.in_ok-words.ensures.words f at.0 at.1 at.2).full in
           omega arith;
