@@ -1,9 +1,10 @@
 -- What a claim leaves that placed no record: the pass may go on as it was.
-use Rattle.std.proofs.Common.{◌≡◌, ℕ, ◌+◌, ◌<◌, ◌≤◌, List, refl, sym, ap, ◌∙◌, subst, inr, arith, None, Some, Option}
+use Rattle.std.proofs.Common.{◌≡◌, [], ℕ, ◌+◌, ◌<◌, ◌≤◌, List, refl, sym, ap, ◌∙◌, subst, inr, arith, None, Some, Option}
 use Rattle.fish_claim.specs.Claims.{IsClaimed, answer_of, claimed_view}
 use Rattle.fish_claim.specs.declared.claimed.Claimed.TheVariants as answer
 use Rattle.fish_layout.specs.Header.{void_word}
 use Rattle.fish_rule.proofs.Extending.{learns_both}
+use Rattle.fish_rule.specs.Clocks.{IsLater}
 use Rattle.fish_rule.specs.Logs.{Learns}
 use Rattle.fish_rule.specs.Regions.{kind_of}
 use Rattle.fish_rule.specs.Steps.{CanClaim, after_claim, after_publish, after_store, flight_at, flight_kind, own_after}
@@ -85,14 +86,19 @@ publish_learns v f = record {
 -- its tail and what it learned; its next claim has a higher number, and there are only so many
 pub record Unplaced (v : View) (shut : Option Shut) (u : View) : Type 0 where
   pub learns : Learns v u
-  pub lane : u.lane ≡ v.lane
-  pub out : u.out ≡ v.out
+  pub clock : IsLater v.clock u.clock
+  pub frame : u ≡ record v {
+    shut = u.shut;
+    flight = u.flight;
+    tail = u.tail;
+    own = u.own;
+    learned = u.learned;
+    clock = u.clock;
+  }
   pub shut_is : u.shut ≡ shut
   pub flight : u.flight ≡ None
-  pub epoch : u.epoch ≡ v.epoch
-  pub rows : u.rows ≡ v.rows
-  pub draft : u.draft ≡ v.draft
   pub own : u.own ≡ v.own
+  pub version : u.learned.version ≡ v.learned.version
   pub more : v.learned.count < u.learned.count
   pub within : u.learned.count ≤ v.about.number + slots v.about
 
@@ -116,13 +122,11 @@ module _ (v : View) (lines number line : ℕ) (counted : v.learned.count ≤ num
         learns = learns_both v stored published
             (learns_both v claimed stored (claim_learns v lines number line counted) (store_learns claimed f x))
             (publish_learns stored (with_word f x));
-        lane = refl;
-        out = refl;
+        clock = record { steps = omega arith; loads = omega arith; notes = []; since = refl };
+        frame = refl;
         shut_is = ap (λ (z : Kind). shut_after z (with_word f x) v.about.end v.shut) is;
         flight = refl;
-        epoch = refl;
-        rows = refl;
-        draft = refl;
+        version = refl;
         own = ap (λ (z : Kind). own_after z v.lane number v.own) is;
         more = omega arith;
         within = omega arith;
@@ -137,13 +141,11 @@ module _ (v : View) (lines number line : ℕ) (counted : v.learned.count ≤ num
       record {
         learns = learns_both v claimed (after_publish claimed f) (claim_learns v lines number line counted)
             (publish_learns claimed f);
-        lane = refl;
-        out = refl;
+        clock = record { steps = omega arith; loads = omega arith; notes = []; since = refl };
+        frame = refl;
         shut_is = ap (λ (z : Kind). shut_after z f v.about.end v.shut) is;
         flight = refl;
-        epoch = refl;
-        rows = refl;
-        draft = refl;
+        version = refl;
         own = ap (λ (z : Kind). own_after z v.lane number v.own) is;
         more = omega arith;
         within = omega arith;
@@ -187,9 +189,9 @@ overflow_law v u lines shut is =
 -- so a pass that met a void may claim again
 pub void_claims : (v u : View) → CanClaim v → Unplaced v v.shut u → CanClaim u
 void_claims v u can left = record {
-  live = subst (λ (z : ℕ). 1 ≤ z) (sym left.lane) can.live;
+  live = subst (λ (z : ℕ). 1 ≤ z) (sym (ap (λ (z : View). z.lane) left.frame)) can.live;
   idle = left.flight;
   ready = left.shut_is ∙ can.ready;
   version = can.version;
-  entered = left.epoch ∙ can.entered;
+  entered = ap (λ (z : View). z.epoch) left.frame ∙ can.entered;
 }

@@ -2,7 +2,9 @@
 use Rattle.std.proofs.Common.{◌≡◌, ◌≢◌, ℕ, ◌+◌, ◌*◌, ◌≤◌, suc, sym, refl, ap, ◌∙◌, subst, arith}
 use Rattle.std.proofs.Math.Decide.{ℕ_discrete}
 use Rattle.fish_layout.proofs.Clearing.{choose_first}
-use Rattle.fish_rule.proofs.Extending.{later_both, later_noted, later_self, later_ticked, learns_both, learns_self}
+use Rattle.fish_rule.proofs.Clocks.{later_both, later_noted, later_self, later_ticked, loaded_within, noted_load}
+use Rattle.fish_rule.proofs.Extending.{learns_both, learns_self}
+use Rattle.fish_rule.specs.Clocks.{HasLoaded, IsLater}
 use Rattle.fish_rule.specs.Entering.{CanAnnounce, CanEnter, after_announce, after_version}
 use Rattle.fish_rule.specs.Epochs.{confirmed}
 use Rattle.fish_rule.specs.declared.view.Epoch.{Epoch}
@@ -91,7 +93,8 @@ keeps_epoch v e = record {
 pub record IsRound (v : View) (version found : ℕ) (u : View) : Type 0 where
   pub keeps : Keeps v u
   pub epoch : u.epoch ≡ confirmed (Announced version) found
-  pub loaded : u.learned.version ≡ found
+  pub known : u.learned.version ≡ found
+  pub loaded : HasLoaded v.clock u.clock Version found
   pub rises : version ≤ found
   pub few : found ≤ 512
   pub steps : u.clock.steps ≤ v.clock.steps + 3 + 2 * version
@@ -109,7 +112,12 @@ round_of v a b c version found keeps loaded steps announced load rises few =
           (subst (Keeps a) (sym announced) (keeps_epoch a (Announced version)))
           (subst (Keeps b) (sym load) (keeps_version b found rises)));
       epoch = ap (λ (z : View). z.epoch) load ∙ ap (λ (z : View). confirmed z.epoch found) announced;
-      loaded = ap (λ (z : View). z.learned.version) load;
+      known = ap (λ (z : View). z.learned.version) load;
+      loaded = loaded_within v.clock b.clock c.clock c.clock Version found
+          (later_both v.clock a.clock b.clock keeps.clock
+          (subst (λ (z : View). IsLater a.clock z.clock) (sym announced) (later_ticked a.clock)))
+          (subst (λ (z : View). HasLoaded b.clock z.clock Version found) (sym load) (noted_load b.clock Version found))
+          (later_self c.clock);
       rises = omega arith;
       few = few;
       steps = omega arith;
@@ -131,7 +139,7 @@ pub next_round : (v a b c : View) (before version found : ℕ) → IsRound v bef
 next_round v a b c before version found h ne announced load rises few =
     let s = h.steps in
     let up = h.rises in
-    round_of v a b c version found h.keeps h.loaded (omega arith) announced load rises few
+    round_of v a b c version found h.keeps h.known (omega arith) announced load rises few
 
 -- a pass with nothing in flight may announce what it loaded
 pub may_announce : (v a : View) (version : ℕ) → CanEnter v → Keeps v a → a.learned.version ≡ version
@@ -153,7 +161,8 @@ round_over v u version found h same =
     record {
       keeps = h.keeps;
       epoch = h.epoch ∙ choose_first (ℕ_discrete found version) (Confirmed version) (Announced version) same;
-      loaded = h.loaded ∙ same;
+      known = h.known ∙ same;
+      loaded = subst (HasLoaded v.clock u.clock Version) same h.loaded;
       few = omega arith;
       rounds = omega arith;
     }

@@ -9,7 +9,7 @@ use Rattle.fish_catalog.specs.declared.catalog.TheConstants.{MAX_ROWS}
 use Rattle.fish_catalog.specs.declared.row.CatRow.{CatRow}
 use Rattle.fish_claim.proofs.Known.{knows_start}
 use Rattle.fish_psf.specs.declared.key.ActiveDef.{ActiveDef}
-use Rattle.fish_rule.specs.Keys.{AreActive, text_of}
+use Rattle.fish_rule.specs.Keys.{AreActive, IsWritten, text_of}
 use Rattle.fish_rule.specs.Registry.{KnowsActive}
 use Rattle.fish_rule.specs.declared.view.Key.{Key}
 use Rattle.fish_rule.specs.declared.view.Learned.{Learned}
@@ -79,18 +79,20 @@ ids_same : (rows : List CatRow) (defs : List ActiveDef) → AreActive rows defs
     → map id_of defs ≡ map row_id (filter is_active rows)
 ids_same rows defs e = sym (def_ids defs) ∙ ap (map (λ (t : ℕ × List ℕ). t.0)) e ∙ row_ids (filter is_active rows)
 
--- definitions whose ids ascend so may be given to `prepare`
-pub defs_ascend : (defs : List ActiveDef) → AscendFrom 0 (map id_of defs) → AreDefs defs
-defs_ascend defs h = record { ascending = increases 0 (map id_of defs) h; below = below 0 defs h }
+-- definitions whose ids ascend so, and that are what their texts are read as, may be given to `prepare`
+pub defs_ascend : (defs : List ActiveDef) → AscendFrom 0 (map id_of defs) → All IsWritten defs → AreDefs defs
+defs_ascend defs h written =
+    record { ascending = increases 0 (map id_of defs) h; below = below 0 defs h; written = written }
 
 -- the definitions of the active rows of a catalogue may be given to `prepare`
-pub active_defs : {rows : List CatRow} {defs : List ActiveDef} → IsCatalog rows → AreActive rows defs → AreDefs defs
-active_defs {rows} {defs} h active =
+pub active_defs : {rows : List CatRow} {defs : List ActiveDef} → IsCatalog rows → AreActive rows defs
+    → All IsWritten defs → AreDefs defs
+active_defs {rows} {defs} h active written =
     let few : length rows ≤ MAX_ROWS = h.few in
     let numbered : (k : ℕ) (row : CatRow) → slice_get rows k ≡ Some row → row.id ≡ 0 + k =
     λ k row at. let e = h.ids k row at in omega arith in
     let ascend : AscendFrom 0 (map row_id (filter is_active rows)) = active_ascend 0 rows (omega arith) numbered in
-    defs_ascend defs (subst (AscendFrom 0) (sym (ids_same rows defs active)) ascend)
+    defs_ascend defs (subst (AscendFrom 0) (sym (ids_same rows defs active)) ascend) written
 
 -- at version 0 the definitions of the start are active, whatever else was learned
 pub knows_active : (k : Key) (l : Learned) (defs : List ActiveDef) → AreActive k.rows.value defs

@@ -1,6 +1,7 @@
 -- Where an ingest leaves a pass, whatever it answers.
 use Rattle.std.proofs.Common.{◌≤◌, ℕ, List, Result, Ok, Err, sym, subst}
 use Rattle.std.specs.Prelude.{IfErr, IfOk}
+use Rattle.fish_ingest.proofs.Passed.{on_lane}
 use Rattle.fish_ingest.specs.Passing.{GoesOn}
 use Rattle.fish_ingest.specs.Refusing.{HasLeft, HasRefused}
 use Rattle.fish_ingest.specs.Starting.{CanStart, HasIngested}
@@ -13,7 +14,7 @@ use Rattle.fish_value.specs.declared.field.Form.{Form}
 pub starts_again : (v u : View) (form : Form) (payload : List ℕ) (number : ℕ) → CanStart v
     → HasIngested v form payload number u → CanStart u
 starts_again v u form payload number can h = record {
-  live = subst (λ (z : ℕ). 1 ≤ z) (sym h.on.lane) can.live;
+  live = subst (λ (z : ℕ). 1 ≤ z) (sym (on_lane h.on)) can.live;
   outside = h.outside;
 }
 
@@ -28,7 +29,7 @@ left_refused v u form payload (refusal.Full line lines end) h = h.left
 -- so it may start again there too
 pub starts_refused : (v u : View) → CanStart v → HasLeft v u → CanStart u
 starts_refused v u can h = record {
-  live = subst (λ (z : ℕ). 1 ≤ z) (sym h.on.lane) can.live;
+  live = subst (λ (z : ℕ). 1 ≤ z) (sym (on_lane h.on)) can.live;
   outside = h.outside;
 }
 

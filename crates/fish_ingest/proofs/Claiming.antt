@@ -4,9 +4,11 @@ use Rattle.fish_claim.proofs.Answered.{Unplaced, overflow_law, void_claims, void
 use Rattle.fish_claim.proofs.Bodies.{placed_law}
 use Rattle.fish_claim.specs.Claims.{IsClaimed, answer_of, claimed_view}
 use Rattle.fish_claim.specs.declared.claimed.Claimed.TheVariants as answer
-use Rattle.fish_ingest.proofs.Passed.{found_both, found_map, found_same, on_both, on_self}
+use Rattle.fish_ingest.proofs.Passed.{found_both, found_map, found_same, moved_to, on_both, on_self}
 use Rattle.fish_ingest.specs.Passing.{GoesOn, HasMark, OnlyFound}
 use Rattle.fish_ingest.specs.Placing.{HasPlace, IsShutBy}
+use Rattle.fish_rule.proofs.Clocks.{later_ticked}
+use Rattle.fish_rule.specs.Clocks.{IsLater}
 use Rattle.fish_rule.specs.Regions.{kind_of}
 use Rattle.fish_rule.specs.Steps.{CanClaim}
 use Rattle.fish_rule.specs.Views.{Among}
@@ -90,6 +92,7 @@ pub record IsTrying (v u : View) : Type 0 where
   pub shut : u.shut ≡ v.shut
   pub own : u.own ≡ v.own
   pub fresh : v.learned.count ≤ u.learned.count
+  pub version : u.learned.version ≡ v.learned.version
   pub voids : OnlyFound (λ kind. kind ≡ Void) v u
 
 pub trying_begins : (v : View) → CanClaim v → IsTrying v v
@@ -100,12 +103,13 @@ trying_begins v can = record {
   shut = refl;
   own = refl;
   fresh = omega arith;
+  version = refl;
   voids = found_same (λ kind. kind ≡ Void) v v refl;
 }
 
 -- a claim that placed nothing goes on
 on_unplaced : (v u : View) (shut : Rattle.std.proofs.Common.Option Shut) → Unplaced v shut u → GoesOn v u
-on_unplaced v u shut h = record { learns = h.learns; lane = h.lane; out = h.out; rows = h.rows; draft = h.draft }
+on_unplaced v u shut h = record { learns = h.learns; clock = h.clock; frame = moved_to v u _ h.frame refl }
 
 module _ (v u t : View) (lines : ℕ) (h : IsTrying v u) where
   -- one void more
@@ -117,7 +121,8 @@ module _ (v u t : View) (lines : ℕ) (h : IsTrying v u) where
       record {
         on = on_both v u t h.on (on_unplaced u t u.shut left);
         can = void_claims u t h.can left;
-        epoch = left.epoch ∙ h.epoch;
+        epoch = ap (λ (z : View). z.epoch) left.frame ∙ h.epoch;
+        version = left.version ∙ h.version;
         shut = left.shut_is ∙ h.shut;
         own = left.own ∙ h.own;
         fresh = omega arith;
@@ -147,10 +152,8 @@ module _ (v u t : View) (lines : ℕ) (h : IsTrying v u) where
       record {
         on = on_both v u t h.on (record {
           learns = placed.learns;
-          lane = ap (λ (z : View). z.lane) placed.known;
-          out = ap (λ (z : View). z.out) placed.known;
-          rows = ap (λ (z : View). z.rows) placed.known;
-          draft = ap (λ (z : View). z.draft) placed.known;
+          clock = subst (λ (z : View). IsLater u.clock z.clock) (sym placed.known) (later_ticked u.clock);
+          frame = moved_to u t _ placed.known refl;
         });
         line = line;
         flying = ap (λ (z : View). z.flight) placed.known;
@@ -177,7 +180,8 @@ module _ (v u t : View) (lines : ℕ) (h : IsTrying v u) where
         lines_is = found.1;
         mark = mark_there (kind_of u.about.end is.line (is.line + lines)) u t lines is.number is.line shut refl
             is.answered is.known;
-        epoch = left.epoch ∙ h.epoch;
+        version = left.version ∙ h.version;
+        epoch = ap (λ (z : View). z.epoch) left.frame ∙ h.epoch;
         own = left.own ∙ h.own;
         unstored = found_both (λ kind. kind ≢ Stored) v u t
             (found_map (λ kind. kind ≡ Void) (λ kind. kind ≢ Stored) (λ kind e s. let q : Void ≡ Stored = sym e ∙ s in cc)

@@ -2,10 +2,13 @@
 use Rattle.std.proofs.Common.{◌≡◌, ℕ, List, [], ◌∷◌, ◌++◌, refl, sym, ap, ◌∙◌}
 use Rattle.std.proofs.Common.{subst, inl, inr, ⊎_elim, arith, true}
 use Rattle.fish_catalog.specs.declared.entry.Entry.TheVariants as entry
+use Rattle.fish_ingest.proofs.Passed.{on_lane}
 use Rattle.fish_ingest.proofs.Recorded.{tells_recorded}
+use Rattle.fish_ingest.specs.Passing.{moved}
 use Rattle.fish_ingest.specs.Starting.{HasIngested, HasStarted, number_of}
 use Rattle.fish_psf.specs.Records.{is_record}
 use Rattle.fish_ingest.specs.declared.pending.Pending.{Pending}
+use Rattle.fish_rule.proofs.Clocks.{later_both, later_ticked}
 use Rattle.fish_rule.proofs.Extending.{learns_both}
 use Rattle.fish_rule.proofs.Flights.{one_flight}
 use Rattle.fish_rule.specs.Entering.{after_retire}
@@ -33,23 +36,22 @@ has_ingested v u w form payload pending s is = subst (HasIngested v form payload
     subst (λ (z : Kind). Among (record { number = number_of pending; words = s.words.flight.words })
     (records_after z f u.learned.records)) (sym kind)
     (inl (λ j. record { number = number j; words = (sym flights j).words })) in
-    let lane : s.parts.lane ≡ v.lane = s.are.parts.lane_is ∙ s.are.lane_is ∙ s.on.lane in
+    let lane : s.parts.lane ≡ v.lane = s.are.parts.lane_is ∙ s.are.lane_is ∙ on_lane s.on in
     let form_ : s.parts.form ≡ form = s.are.parts.form_is ∙ s.are.form_is in
     record {
       accepted = subst (λ (z : Form). is_record z payload ≡ true) s.are.form_is s.are.parts.reads;
       unshut = s.unshut;
       on = record {
         learns = learns_both v u (after_retire p) s.on.learns (publish_learns u f);
-        lane = s.on.lane;
-        out = s.on.out;
-        rows = s.on.rows;
-        draft = s.on.draft;
+        clock = later_both v.clock u.clock (after_retire p).clock s.on.clock
+            (later_both u.clock p.clock (after_retire p).clock (later_ticked u.clock) (later_ticked p.clock));
+        frame = ap (λ (z : View). moved z (after_retire p)) s.on.frame;
       };
       outside = refl;
       idle = refl;
       shut = ap (λ (z : Kind). shut_after z f u.about.end u.shut) kind ∙ s.shut;
       own = ap (λ (z : Kind). own_after z u.lane f.number u.own) kind
-          ∙ (λ j. s.own j ++ record { lane = s.on.lane j; number = number j } ∷ []);
+          ∙ (λ j. s.own j ++ record { lane = on_lane s.on j; number = number j } ∷ []);
       entry = subst (λ (z : ℕ × Form × List ℕ). Tells (after_retire p) (number_of pending) (entry.Stored z.0 z.1 z.2))
           (λ j. (lane j, form_ j, s.are.parts.payload_is j))
           (tells_recorded (after_retire p) (number_of pending) s.words.flight.words s.words.words

@@ -48,5 +48,6 @@ body_for {defs} {origin} {payload} {found} {keys} {words} are from read made is 
       reads = read.accepted;
       unlinked = keys_unlinked keys made.entries;
       keys = made.values ∙ ap (λ fields. keys_of fields defs) read.fields;
+      written = are.written;
     } in
     (parts_of (head_of origin) keys payload, parts, record { proper = parts_proper are from read made; is = is })

@@ -1,43 +1,49 @@
 -- What calls leave of a pass, one after the other.
-use Rattle.std.proofs.Common.{◌≡◌, refl, ◌∙◌, subst, inl, inr, ⊎_elim}
+use Rattle.std.proofs.Common.{◌≡◌, ap, refl, sym, ◌∙◌, subst, inl, inr, ⊎_elim}
 use Rattle.fish_epoch.specs.Entering.{Keeps}
 use Rattle.fish_epoch.specs.Rows.{OnlyReads}
-use Rattle.fish_ingest.specs.Passing.{GoesOn, OnlyFound}
+use Rattle.fish_ingest.specs.Passing.{GoesOn, OnlyFound, moved}
+use Rattle.fish_rule.proofs.Clocks.{later_both, later_self}
 use Rattle.fish_rule.proofs.Extending.{learns_both, learns_self}
 use Rattle.fish_rule.specs.Views.{Among}
 use Rattle.fish_rule.specs.declared.view.Kind.{Kind}
 use Rattle.fish_rule.specs.declared.view.View.{View}
 
+-- where a view is another one that moved, it has moved
+pub moved_to : (v u w : View) → u ≡ w → w ≡ moved v w → u ≡ moved v u
+moved_to v u w e is = subst (λ (z : View). z ≡ moved v z) (sym e) is
+
 -- a pass goes on from itself
 pub on_self : (v : View) → GoesOn v v
-on_self v = record { learns = learns_self v; lane = refl; out = refl; rows = refl; draft = refl }
+on_self v = record { learns = learns_self v; clock = later_self v.clock; frame = refl }
 
 -- and from what goes on from it
 pub on_both : (a b c : View) → GoesOn a b → GoesOn b c → GoesOn a c
 on_both a b c e f = record {
   learns = learns_both a b c e.learns f.learns;
-  lane = f.lane ∙ e.lane;
-  out = f.out ∙ e.out;
-  rows = f.rows ∙ e.rows;
-  draft = f.draft ∙ e.draft;
+  clock = later_both a.clock b.clock c.clock e.clock f.clock;
+  frame = f.frame ∙ ap (λ (z : View). moved z c) e.frame;
 }
 
--- so does a pass that entered
+-- it keeps its lane
+pub on_lane : {v u : View} → GoesOn v u → u.lane ≡ v.lane
+on_lane h = ap (λ (z : View). z.lane) h.frame
+
+-- a pass that entered goes on
 pub on_keeps : (v u : View) → Keeps v u → GoesOn v u
-on_keeps v u h = record { learns = h.learns; lane = h.lane; out = h.out; rows = h.rows; draft = h.draft }
+on_keeps v u h = record { learns = h.learns; clock = h.clock; frame = moved_to v u _ h.frame refl }
 
 -- a pass that read of the registry keeps to itself
 pub keeps_reads : (v u : View) → OnlyReads v u → Keeps v u
 keeps_reads v u h = record {
   learns = h.extends.learns;
-  lane = h.extends.lane;
-  out = h.extends.out;
-  shut = h.extends.shut;
-  flight = h.extends.flight;
-  rows = h.extends.rows;
-  draft = h.extends.draft;
-  tail = h.extends.tail;
-  own = h.extends.own;
+  clock = h.extends.clock;
+  frame = h.extends.frame
+      ∙ (λ i. record v {
+        epoch = sym (ap (λ (z : View). z.epoch) h.extends.frame) i;
+        learned = u.learned;
+        clock = u.clock;
+      });
   count = h.count;
   found = h.found;
   loads = h.loads;

@@ -2,7 +2,7 @@
 use Rattle.std.proofs.Common.{◌≡◌, ℕ, ◌+◌, ◌*◌, ◌/◌, ◌<◌, ◌≤◌, length, map, refl, sym, ap, ◌∙◌, subst, arith}
 use Rattle.std.proofs.lemmas.Nat.{div-mul-add}
 use Rattle.fish_claim.proofs.Known.{knows_later}
-use Rattle.fish_ingest.proofs.Passed.{on_both}
+use Rattle.fish_ingest.proofs.Passed.{moved_to, on_both, on_lane}
 use Rattle.fish_ingest.proofs.Stored.{body_fills}
 use Rattle.fish_ingest.specs.Placing.{CanPlace, HasPlace, HasPlaced, IsShutBy}
 use Rattle.fish_ingest.specs.Writing.{CanWrite, HasStored, HasWritten, claimed_parts}
@@ -54,7 +54,7 @@ module _ (v : View) (prepared : Prepared) (can : CanPlace v prepared) where
       payload = can.payload;
       made = can.made;
       active = knows_later v u h.on.learns can.origin.version (map text_of can.defs) can.active;
-      lane_is = can.lane_is ∙ sym h.on.lane;
+      lane_is = can.lane_is ∙ sym (on_lane h.on);
       entered = h.epoch ∙ can.entered;
     }
 
@@ -66,11 +66,9 @@ module _ (v : View) (prepared : Prepared) (can : CanPlace v prepared) where
         let same : written.flight.number ≡ number = ap (λ (z : Region). z.number) written.region in
         record {
           on = on_both v u t h.on (record {
-            learns = written.learns;
-            lane = written.lane;
-            out = written.out;
-            rows = written.rows;
-            draft = written.draft;
+            learns = written.only.learns;
+            clock = written.only.clock;
+            frame = moved_to u t _ written.only.frame refl;
           });
           flight = written.flight;
           ready = written.ready;
@@ -78,11 +76,11 @@ module _ (v : View) (prepared : Prepared) (can : CanPlace v prepared) where
           number_is = same ∙ sym is;
           words = subst (λ (z : ℕ). HasStored (record can.made.0.0 { number = z }) t) (sym same) words;
           fresh = (let fresh = h.fresh in omega arith);
-          counted = (let counted = h.counted in let count = written.count in omega arith);
-          epoch = written.epoch ∙ h.epoch;
-          shut = written.shut ∙ h.shut;
-          own = written.own ∙ h.own;
-          voids = λ x m. h.voids x (subst (Among x) written.found m);
+          counted = (let counted = h.counted in let count = written.only.count in omega arith);
+          epoch = ap (λ (z : View). z.epoch) written.only.frame ∙ h.epoch;
+          shut = ap (λ (z : View). z.shut) written.only.frame ∙ h.shut;
+          own = ap (λ (z : View). z.own) written.only.frame ∙ h.own;
+          voids = λ x m. h.voids x (subst (Among x) written.only.found m);
         }
 
   -- the lines that shut the pass are the record's

@@ -8,7 +8,12 @@ use Rattle.fish_epoch.specs.Definitions.{AreRead, active_defs}
 use Rattle.fish_epoch.specs.Entering.{HasEntered, Keeps}
 use Rattle.fish_epoch.specs.declared.definitions.Known.{Known}
 use Rattle.fish_ingest.proofs.Active.{def_ids}
-use Rattle.fish_ingest.proofs.Passed.{found_both, found_same, on_both, on_keeps}
+use Rattle.fish_epoch.proofs.Rounds.{keeps_both}
+use Rattle.fish_epoch.specs.Rows.{OnlyReads}
+use Rattle.fish_ingest.proofs.Passed.{found_both, found_same, keeps_reads, on_both, on_keeps, on_lane}
+use Rattle.fish_rule.proofs.Clocks.{later_both, later_self, later_ticked, loaded_within}
+use Rattle.fish_rule.specs.Clocks.{HasLoaded}
+use Rattle.fish_rule.specs.declared.view.Noted.TheVariants.{Version}
 use Rattle.fish_ingest.specs.Definitions.{AreDefs, id_of}
 use Rattle.fish_ingest.specs.Passing.{GoesOn}
 use Rattle.fish_ingest.specs.Placing.{CanPlace, HasPlaced, IsShutBy}
@@ -67,10 +72,8 @@ on_retire v = record {
     gaps = s.gaps;
     labels = s.labels;
   });
-  lane = refl;
-  out = refl;
-  rows = refl;
-  draft = refl;
+  clock = later_ticked v.clock;
+  frame = refl;
 }
 
 -- it takes away nothing that was learned
@@ -78,20 +81,22 @@ pub learns_retired : (v u : View) → u ≡ after_retire v → Learns v u
 learns_retired v u e = subst (Learns v) (sym e) (on_retire v).learns
 
 -- nor did one that entered, read of the registry and left
-pub not_claimed_left : (v a b c : View) → Stands v → CanStart v → Keeps v a → Keeps a b → c ≡ after_retire b
+pub not_claimed_left : (v a b c : View) → Stands v → CanStart v → Keeps v a → OnlyReads a b → c ≡ after_retire b
     → HasNotClaimed v c
-not_claimed_left v a b c s can e f is = subst (HasNotClaimed v) (sym is) (record {
-  left = record {
-    on = on_both v b (after_retire b) (on_both v a b (on_keeps v a e) (on_keeps a b f)) (on_retire b);
-    outside = refl;
-    idle = f.flight ∙ e.flight ∙ idle_law v s can;
-    own = f.own ∙ e.own;
-  };
-  shut = f.shut ∙ e.shut;
-  tail = f.tail ∙ e.tail;
-  count = f.count ∙ e.count;
-  found = f.found ∙ e.found;
-})
+not_claimed_left v a b c s can e reads is =
+    let both = keeps_both v a b e (keeps_reads a b reads) in
+    subst (HasNotClaimed v) (sym is) (record {
+      left = record {
+        on = on_both v b (after_retire b) (on_keeps v b both) (on_retire b);
+        outside = refl;
+        idle = ap (λ (z : View). z.flight) both.frame ∙ idle_law v s can;
+        own = ap (λ (z : View). z.own) both.frame;
+      };
+      shut = ap (λ (z : View). z.shut) both.frame;
+      tail = ap (λ (z : View). z.tail) both.frame;
+      count = both.count;
+      found = both.found;
+    })
 
 -- ---- definitions
 
@@ -104,6 +109,7 @@ are_defs v d s h =
     record {
       ascending = subst IsStrictlyIncreasing
           (ap (map (λ (t : ℕ × List ℕ). t.0)) (sym h.active) ∙ ids) (active_ids_increase d.rows.items listing);
+      written = h.written;
       below = below_texts (active_defs d) (subst (All (λ t. t.0 < 256)) (sym h.active)
           (active_ids_below d.rows.items listing));
     }
@@ -116,35 +122,41 @@ are_defs v d s h =
 
 -- ---- the record in flight
 
-module _ (v a b : View) (version : ℕ) (entered : HasEntered v version a) (keeps : Keeps a b) where
-  -- the pass on its way to the claim
+module _ (v a b : View) (version : ℕ) (entered : HasEntered v version a) (reads : OnlyReads a b) where
+  -- on its way to the claim the pass entered, and read of the registry
+  pub both : Keeps v b
+  both = keeps_both v a b entered.keeps (keeps_reads a b reads)
+
+  -- it goes on
   pub on_way : GoesOn v b
-  on_way = on_both v a b (on_keeps v a entered.keeps) (on_keeps a b keeps)
+  on_way = on_keeps v b both
+
+  -- and is entered at the version
+  pub at_version : b.epoch ≡ Confirmed version
+  at_version = ap (λ (z : View). z.epoch) reads.extends.frame ∙ entered.epoch
 
   -- a record that was prepared may be placed
   unfoldable pub may_place : (form : Form) (payload : List ℕ) (prepared : Prepared) → Stands v → CanStart v → v.shut ≡ None
-      → b.epoch ≡ a.epoch → HasPrepared b version form payload prepared → CanPlace b prepared
-  may_place form payload prepared s can unshut epoch h =
-      let at : b.epoch ≡ Confirmed version = epoch ∙ entered.epoch in
-      record {
-        claim = record {
-          live = subst (λ (z : ℕ). 1 ≤ z) (sym on_way.lane) can.live;
-          idle = keeps.flight ∙ entered.keeps.flight ∙ idle_law v s can;
-          ready = keeps.shut ∙ entered.keeps.shut ∙ unshut;
-          version = version;
-          entered = at;
-        };
-        defs = h.defs;
-        origin = h.origin;
-        payload = payload;
-        made = h.made;
-        active = subst (λ (z : ℕ). KnowsActive b.about b.learned z (map text_of h.defs)) (sym h.version_is)
-            h.active;
-        lane_is = h.lane_is;
-        entered = at ∙ ap Confirmed (sym h.version_is);
-        lines = Rattle.fish_layout.specs.Body.body_lines h.made.0.0;
-        size = refl;
-      }
+      → HasPrepared b version form payload prepared → CanPlace b prepared
+  may_place form payload prepared s can unshut h = record {
+    claim = record {
+      live = subst (λ (z : ℕ). 1 ≤ z) (sym (on_lane on_way)) can.live;
+      idle = ap (λ (z : View). z.flight) both.frame ∙ idle_law v s can;
+      ready = ap (λ (z : View). z.shut) both.frame ∙ unshut;
+      version = version;
+      entered = at_version;
+    };
+    defs = h.defs;
+    origin = h.origin;
+    payload = payload;
+    made = h.made;
+    active = subst (λ (z : ℕ). KnowsActive b.about b.learned z (map text_of h.defs)) (sym h.version_is)
+        h.active;
+    lane_is = h.lane_is;
+    entered = at_version ∙ ap Confirmed (sym h.version_is);
+    lines = Rattle.fish_layout.specs.Body.body_lines h.made.0.0;
+    size = refl;
+  }
 
   -- the record that the payload is, as the pass knows it later
   record_for : (form : Form) (payload : List ℕ) (prepared : Prepared) (u : View)
@@ -162,14 +174,13 @@ module _ (v a b : View) (version : ℕ) (entered : HasEntered v version a) (keep
 
   -- the record was placed
   pub has_started : (form : Form) (payload : List ℕ) (prepared : Prepared) (pending : Pending) (u : View)
-      (s : Stands v) (can : CanStart v) (unshut : v.shut ≡ None) (epoch : b.epoch ≡ a.epoch)
-      (h : HasPrepared b version form payload prepared)
-      → HasPlaced b prepared (may_place form payload prepared s can unshut epoch h) pending u
+      (s : Stands v) (can : CanStart v) (unshut : v.shut ≡ None) (h : HasPrepared b version form payload prepared)
+      → HasPlaced b prepared (may_place form payload prepared s can unshut h) pending u
       → HasStarted v form payload pending u
   unfolding may_place
-  has_started form payload prepared pending u s can unshut epoch h placed =
+  has_started form payload prepared pending u s can unshut h placed =
       let fresh = placed.fresh in
-      let count : b.learned.count ≡ v.learned.count = keeps.count ∙ entered.keeps.count in
+      let count : b.learned.count ≡ v.learned.count = both.count in
       let number = placed.number_is in
       record {
         on = on_both v b u on_way placed.on;
@@ -181,15 +192,20 @@ module _ (v a b : View) (version : ℕ) (entered : HasEntered v version a) (keep
           number_is = placed.number_is;
         };
         parts = h.made.0.0;
-        are = record_for form payload prepared u h placed.on.learns placed.on.lane;
+        are = record_for form payload prepared u h placed.on.learns (on_lane placed.on);
         words = subst (λ (z : ℕ). HasStored (record h.made.0.0 { number = z }) u) placed.number_is placed.words;
         fresh = omega arith;
         counted = (let counted = placed.counted in omega arith);
-        shut = placed.shut ∙ keeps.shut ∙ entered.keeps.shut;
-        own = placed.own ∙ keeps.own ∙ entered.keeps.own;
+        shut = placed.shut ∙ ap (λ (z : View). z.shut) both.frame;
+        own = placed.own ∙ ap (λ (z : View). z.own) both.frame;
         voids = found_both (λ kind. kind ≡ Void) v b u
-            (found_same (λ kind. kind ≡ Void) v b (keeps.found ∙ entered.keeps.found)) placed.voids;
+            (found_same (λ kind. kind ≡ Void) v b both.found) placed.voids;
       }
+
+  -- the parts that were prepared are of the version
+  version_of : {form : Form} {payload : List ℕ} {prepared : Prepared} (h : HasPrepared b version form payload prepared)
+      → h.made.0.0.version ≡ version
+  version_of h = h.made.0.1.version_is ∙ h.version_is
 
   -- the claim shut the pass, which then left
   pub has_filled : (form : Form) (payload : List ℕ) (prepared : Prepared) (shut : Shut) (u c : View) (unshut : v.shut ≡ None)
@@ -202,19 +218,22 @@ module _ (v a b : View) (version : ℕ) (entered : HasEntered v version a) (keep
           on = on_both v u (after_retire u) (on_both v b u on_way is.on) (on_retire u);
           outside = refl;
           idle = is.idle;
-          own = is.own ∙ keeps.own ∙ entered.keeps.own;
+          own = is.own ∙ ap (λ (z : View). z.own) both.frame;
         };
         shut_is = is.shut_is;
-        by_claim = inr (
-          unshut,
-          is.mark,
-          (
-            h.made.0.0,
-            record_for form payload prepared (after_retire u) h
-                (learns_both b u (after_retire u) is.on.learns (on_retire u).learns) is.on.lane,
-            is.lines_is ∙ size,
-          ),
-        );
+        by_claim = inr (record {
+          unshut = unshut;
+          mark = is.mark;
+          parts = h.made.0.0;
+          are = record_for form payload prepared (after_retire u) h
+              (learns_both b u (after_retire u) is.on.learns (on_retire u).learns) (on_lane is.on);
+          lines_are = is.lines_is ∙ size;
+          version_is = version_of h ∙ sym (is.version ∙ reads.version ∙ entered.known);
+          loaded = subst (HasLoaded v.clock (after_retire u).clock Version) (sym (version_of h))
+              (loaded_within v.clock v.clock a.clock (after_retire u).clock Version version (later_self v.clock)
+              entered.loaded (later_both a.clock b.clock (after_retire u).clock reads.extends.clock
+              (later_both b.clock u.clock (after_retire u).clock is.on.clock (later_ticked u.clock))));
+        });
         unstored = found_both (λ kind. kind ≢ Stored) v b (after_retire u)
-            (found_same (λ kind. kind ≢ Stored) v b (keeps.found ∙ entered.keeps.found)) is.unstored;
+            (found_same (λ kind. kind ≢ Stored) v b both.found) is.unstored;
       })

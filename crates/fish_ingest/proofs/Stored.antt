@@ -51,6 +51,7 @@ has_keys {defs} {origin} {payload} {p} {active} n h are =
     record {
       defs = defs;
       are = subst (λ v. active v (map text_of defs)) (sym h.version_is) are;
+      written = h.written;
       keys = h.keys ∙ ap (λ form. keys_of (fields_of_payload form payload) defs) (sym h.form_is)
           ∙ ap (λ b. keys_of (fields_of_payload p.form b) defs) (sym h.payload_is);
     }

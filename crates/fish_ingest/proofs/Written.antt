@@ -1,5 +1,5 @@
 -- A record that was prepared, on its way into the region that was claimed for it.
-use Rattle.std.proofs.Common.{◌≡◌, ℕ, ◌*◌, ◌<◌, suc, List, length, refl, sym, ap, ◌∙◌, subst, arith}
+use Rattle.std.proofs.Common.{◌≡◌, ℕ, ◌*◌, ◌<◌, suc, List, [], length, refl, sym, ap, ◌∙◌, subst, arith}
 use Rattle.std.proofs.Common.{Some}
 use Rattle.std.specs.List.{slice_get}
 use Rattle.fish_chain.proofs.Laws.{linked_filled, linked_flight}
@@ -8,7 +8,7 @@ use Rattle.fish_chain.specs.Links.{CanLink, IsLinked}
 use Rattle.fish_claim.proofs.Filled.{body_keys}
 use Rattle.fish_claim.specs.Fills.{CanFill, IsFilled, filled_view, with_words}
 use Rattle.fish_ingest.proofs.Stored.{body_fills, keyed_of_body, numbered, numbered_fills}
-use Rattle.fish_ingest.specs.Writing.{CanWrite, HasStored, HasWritten}
+use Rattle.fish_ingest.specs.Writing.{CanWrite, HasStored, HasWritten, OnlyWrites}
 use Rattle.fish_ingest.specs.declared.prepared.Prepared.{Prepared}
 use Rattle.fish_layout.specs.Body.{IsBody, body_lines}
 use Rattle.fish_layout.specs.Cleared.{body_of}
@@ -16,7 +16,9 @@ use Rattle.fish_layout.specs.Hash.{bucket_in, key_hash_of}
 use Rattle.fish_layout.specs.Header.{keys_of}
 use Rattle.fish_layout.specs.declared.parts.BodyParts.{BodyParts}
 use Rattle.fish_layout.specs.declared.parts.KeyPart.{KeyPart}
+use Rattle.fish_rule.proofs.Clocks.{later_both}
 use Rattle.fish_rule.proofs.Extending.{learns_both, learns_self}
+use Rattle.fish_rule.specs.Clocks.{IsLater}
 use Rattle.fish_rule.specs.Flying.{region_of}
 use Rattle.fish_rule.specs.Logs.{Learns}
 use Rattle.fish_rule.specs.Keys.{IsKeyed}
@@ -61,20 +63,6 @@ can_fill v f prepared can words is =
 
 -- ---- on the way
 
--- the pass is as it was, but for its record in flight and what it knows of chains
-pub record HasKept (v u : View) : Type 0 where
-  pub about : u.about ≡ v.about
-  pub lane : u.lane ≡ v.lane
-  pub out : u.out ≡ v.out
-  pub shut : u.shut ≡ v.shut
-  pub epoch : u.epoch ≡ v.epoch
-  pub rows : u.rows ≡ v.rows
-  pub draft : u.draft ≡ v.draft
-  pub own : u.own ≡ v.own
-  pub count : u.learned.count ≡ v.learned.count
-  pub found : u.learned.found ≡ v.learned.found
-  pub learns : Learns v u
-
 -- the record with these parts is filled in the region of the claim f, and so many of its entries are linked
 pub record IsWriting (v : View) (f : Flight) (p : BodyParts) (linked : ℕ) (u : View) : Type 0 where
   pub flight : Flight
@@ -84,7 +72,7 @@ pub record IsWriting (v : View) (f : Flight) (p : BodyParts) (linked : ℕ) (u :
   pub made : IsBody p words
   pub same : body_of flight.words ≡ body_of words
   pub region : region_of flight ≡ region_of f
-  pub kept : HasKept v u
+  pub kept : OnlyWrites v u
 
 -- to store words takes away nothing that was learned
 fill_learns : (v : View) (f : Flight) (words : List ℕ) → Learns v (filled_view v f words)
@@ -106,6 +94,13 @@ fill_learns v f words =
       labels = s.labels;
     }
 
+-- nor any step or load when an entry is linked
+linked_later : (u t : View) (f : Flight) (bucket : ℕ) → IsLinked u f bucket t → IsLater u.clock t.clock
+linked_later u t f bucket is =
+    let c = is.changed in
+    subst (λ (z : View). IsLater u.clock z.clock) (sym c.known)
+    (record { steps = c.steps; loads = c.loads; notes = []; since = c.notes })
+
 -- so it is once the words are stored
 pub writing_begins : (v u : View) (f : Flight) (p : BodyParts) (words : List ℕ) → f.linked ≡ 0
     → u ≡ filled_view v f words → IsFilled u (with_words f words) → IsBody p words → IsWriting v f p 0 u
@@ -118,17 +113,12 @@ writing_begins v u f p words none is filled made = record {
   same = refl;
   region = refl;
   kept = record {
-    about = ap (λ (z : View). z.about) is;
-    lane = ap (λ (z : View). z.lane) is;
-    out = ap (λ (z : View). z.out) is;
-    shut = ap (λ (z : View). z.shut) is;
-    epoch = ap (λ (z : View). z.epoch) is;
-    rows = ap (λ (z : View). z.rows) is;
-    draft = ap (λ (z : View). z.draft) is;
+    learns = subst (Learns v) (sym is) (fill_learns v f words);
+    clock = subst (λ (z : View). IsLater v.clock z.clock) (sym is)
+        (record { steps = omega arith; loads = omega arith; notes = []; since = refl });
+    frame = subst (λ (z : View). z ≡ record v { flight = z.flight; learned = z.learned; clock = z.clock }) (sym is) refl;
     count = ap (λ (z : View). z.learned.count) is;
     found = ap (λ (z : View). z.learned.found) is;
-    own = ap (λ (z : View). z.own) is;
-    learns = subst (Learns v) (sym is) (fill_learns v f words);
   };
 }
 
@@ -168,17 +158,13 @@ module _ (v : View) (f : Flight) (p : BodyParts) (c : ℕ) (u : View) (s : IsWri
         same = is.changed.body ∙ s.same;
         region = s.region;
         kept = record {
-          about = ap (λ (z : View). z.about) known ∙ s.kept.about;
-          lane = ap (λ (z : View). z.lane) known ∙ s.kept.lane;
-          out = ap (λ (z : View). z.out) known ∙ s.kept.out;
-          shut = ap (λ (z : View). z.shut) known ∙ s.kept.shut;
-          epoch = ap (λ (z : View). z.epoch) known ∙ s.kept.epoch;
-          rows = ap (λ (z : View). z.rows) known ∙ s.kept.rows;
-          draft = ap (λ (z : View). z.draft) known ∙ s.kept.draft;
+          learns = learns_both v u t s.kept.learns is.changed.learns;
+          clock = later_both v.clock u.clock t.clock s.kept.clock (linked_later u t s.flight bucket is);
+          frame = subst (λ (z : View). z ≡ record u { flight = z.flight; learned = z.learned; clock = z.clock })
+              (sym known) refl
+              ∙ ap (λ (z : View). record z { flight = t.flight; learned = t.learned; clock = t.clock }) s.kept.frame;
           count = ap (λ (z : View). z.learned.count) known ∙ s.kept.count;
           found = ap (λ (z : View). z.learned.found) known ∙ s.kept.found;
-          own = ap (λ (z : View). z.own) known ∙ s.kept.own;
-          learns = learns_both v u t s.kept.learns is.changed.learns;
         };
       }
 
@@ -189,17 +175,7 @@ module _ (v : View) (f : Flight) (p : BodyParts) (c : ℕ) (u : View) (s : IsWri
     ready = partly_publish p c u partly all;
     stored = s.filled.stored;
     region = s.region;
-    about = s.kept.about;
-    lane = s.kept.lane;
-    out = s.kept.out;
-    shut = s.kept.shut;
-    epoch = s.kept.epoch;
-    rows = s.kept.rows;
-    draft = s.kept.draft;
-    count = s.kept.count;
-    found = s.kept.found;
-    own = s.kept.own;
-    learns = s.kept.learns;
+    only = s.kept;
   }
 
   -- and the words are its words

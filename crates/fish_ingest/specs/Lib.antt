@@ -1,5 +1,6 @@
 pub mod Definitions
 pub mod Entries
+pub mod Laws
 pub mod Passing
 pub mod Placing
 pub mod Records

@@ -1,5 +1,6 @@
 -- What a call leaves of a pass.
 use Rattle.std.specs.Prelude.{ℕ, ◌≡◌, ◌⊎◌}
+use Rattle.fish_rule.specs.Clocks.{IsLater}
 use Rattle.fish_rule.specs.Logs.{Learns}
 use Rattle.fish_rule.specs.Views.{Among}
 use Rattle.fish_rule.specs.declared.view.Found.{Found}
@@ -8,13 +9,23 @@ use Rattle.fish_rule.specs.declared.view.Kind.TheVariants.{Mark}
 use Rattle.fish_rule.specs.declared.view.Shut.{Shut}
 use Rattle.fish_rule.specs.declared.view.View.{View}
 
--- the second view is of the same pass, and knows what the first knew
+-- the first view with what the second one has that an ingest may change
+abbrev pub moved : View → View → View
+moved v u = record v {
+  shut = u.shut;
+  flight = u.flight;
+  epoch = u.epoch;
+  tail = u.tail;
+  own = u.own;
+  learned = u.learned;
+  clock = u.clock;
+}
+
+-- the second view is of the same pass, later, and knows what the first knew
 pub record GoesOn (v u : View) : Type 0 where
   pub learns : Learns v u
-  pub lane : u.lane ≡ v.lane
-  pub out : u.out ≡ v.out
-  pub rows : u.rows ≡ v.rows
-  pub draft : u.draft ≡ v.draft
+  pub clock : IsLater v.clock u.clock
+  pub frame : u ≡ moved v u
 
 -- what was found since are numbers of regions whose kind meets P
 abbrev pub OnlyFound : (Kind → Type 0) → View → View → Type 0

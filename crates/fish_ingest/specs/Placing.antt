@@ -48,6 +48,7 @@ pub record HasPlace (v : View) (lines number : ℕ) (u : View) : Type 0 where
 -- a claim of these lines shut the pass; all that it claimed since is void, but for the mark
 pub record IsShutBy (v : View) (lines : ℕ) (shut : Shut) (u : View) : Type 0 where
   pub on : GoesOn v u
+  pub version : u.learned.version ≡ v.learned.version
   pub idle : u.flight ≡ None
   pub shut_is : u.shut ≡ Some shut
   pub lines_is : shut.lines ≡ lines

@@ -1,5 +1,5 @@
 -- What the words of a record are that is made from a payload.
-use Rattle.std.specs.Prelude.{ℕ, ◌≡◌, ◌≤◌, List, IsTrue, map, true}
+use Rattle.std.specs.Prelude.{ℕ, ◌≡◌, ◌≤◌, List, All, IsTrue, map, true}
 use Rattle.fish_layout.specs.Body.{IsBody}
 use Rattle.fish_layout.specs.Cleared.{AreUnlinked}
 use Rattle.fish_layout.specs.declared.parts.BodyParts.{BodyParts}
@@ -9,7 +9,7 @@ use Rattle.fish_psf.specs.Records.{fields_of_payload, is_record}
 use Rattle.fish_psf.specs.declared.key.ActiveDef.{ActiveDef}
 use Rattle.fish_psf.specs.declared.reading.PsfRefusal.{PsfRefusal}
 use Rattle.fish_psf.specs.declared.reading.PsfRefusal.TheVariants as parsing
-use Rattle.fish_rule.specs.Keys.{property}
+use Rattle.fish_rule.specs.Keys.{IsWritten, property}
 use Rattle.fish_value.specs.declared.field.Form.{Form}
 use Rattle.fish_ingest.specs.declared.origin.Origin.{Origin}
 use Rattle.fish_ingest.specs.declared.prepared.Prepared.{Prepared}
@@ -34,7 +34,7 @@ refusal_of parsing.NotRecord = refusal.NotRecord
 refusal_of parsing.OutOfMemory = refusal.OutOfMemory
 
 -- the parts of the record that a payload is: of this origin, with number 0, the payload itself, and exactly the
--- keys that the definitions give for it, with no previous nodes
+-- keys that the definitions give for it, with no previous nodes; each definition is what its text is read as
 pub record ArePartsFor (defs : List ActiveDef) (origin : Origin) (payload : List ℕ) (p : BodyParts) : Type 0 where
   pub form_is : p.form ≡ origin.form
   pub lane_is : p.lane ≡ origin.lane
@@ -44,6 +44,7 @@ pub record ArePartsFor (defs : List ActiveDef) (origin : Origin) (payload : List
   pub reads : IsTrue (is_record origin.form payload)
   pub unlinked : AreUnlinked p.keys
   pub keys : map property p.keys ≡ keys_of (fields_of_payload origin.form payload) defs
+  pub written : All IsWritten defs
 
 -- the words are those of the record that a payload is
 abbrev pub IsBodyFor : List ActiveDef → Origin → List ℕ → List ℕ → Type 0

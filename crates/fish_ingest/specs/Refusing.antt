@@ -9,6 +9,8 @@ use Rattle.fish_layout.specs.declared.parts.TheConstants.{MAX_PAYLOAD}
 use Rattle.fish_psf.specs.Records.{is_record}
 use Rattle.fish_rule.specs.declared.view.Epoch.TheVariants.{Out}
 use Rattle.fish_rule.specs.declared.view.Kind.TheVariants.{Stored}
+use Rattle.fish_rule.specs.Clocks.{HasLoaded}
+use Rattle.fish_rule.specs.declared.view.Noted.TheVariants.{Version}
 use Rattle.fish_rule.specs.declared.view.Shut.{Shut}
 use Rattle.fish_rule.specs.declared.view.View.{View}
 use Rattle.fish_value.specs.declared.field.Form.{Form}
@@ -51,11 +53,20 @@ pub record HasNotClaimed (v u : View) : Type 0 where
   pub count : u.learned.count ≡ v.learned.count
   pub found : u.learned.found ≡ v.learned.found
 
--- the claim that shut the pass came earlier, or it was one of this call, for the lines of the record that the
--- payload is at the version entered
+-- the pass was shut in this call, by a claim of the lines of the record that the payload is at the version that it
+-- entered: the last one that it loaded, in this call
+pub record IsShutHere (v : View) (form : Form) (payload : List ℕ) (shut : Shut) (u : View) : Type 0 where
+  pub unshut : v.shut ≡ None
+  pub mark : HasMark u shut
+  pub parts : BodyParts
+  pub are : IsRecordFor u form payload parts
+  pub lines_are : shut.lines ≡ body_lines parts
+  pub version_is : parts.version ≡ u.learned.version
+  pub loaded : HasLoaded v.clock u.clock Version parts.version
+
+-- the claim that shut the pass came earlier, or in this call
 abbrev pub IsShutFor : View → Form → List ℕ → Shut → View → Type 0
-IsShutFor v form payload shut u = ((v.shut ≡ Some shut) × HasNotClaimed v u)
-    ⊎ ((v.shut ≡ None) × HasMark u shut × ((p : BodyParts) × IsRecordFor u form payload p × (shut.lines ≡ body_lines p)))
+IsShutFor v form payload shut u = ((v.shut ≡ Some shut) × HasNotClaimed v u) ⊎ IsShutHere v form payload shut u
 
 -- the pass is shut by this claim, and of what it claimed nothing is stored
 pub record IsFull (v : View) (form : Form) (payload : List ℕ) (shut : Shut) (u : View) : Type 0 where

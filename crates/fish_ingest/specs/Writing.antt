@@ -9,6 +9,7 @@ use Rattle.fish_layout.specs.declared.parts.BodyParts.{BodyParts}
 use Rattle.fish_psf.specs.declared.key.ActiveDef.{ActiveDef}
 use Rattle.fish_rule.specs.Flying.{region_of}
 use Rattle.fish_rule.specs.Keys.{text_of}
+use Rattle.fish_rule.specs.Clocks.{IsLater}
 use Rattle.fish_rule.specs.Logs.{Learns}
 use Rattle.fish_rule.specs.Registry.{KnowsActive}
 use Rattle.fish_rule.specs.Steps.{CanPublish, flight_kind}
@@ -45,6 +46,14 @@ pub record HasStored (p : BodyParts) (u : View) : Type 0 where
   pub made : IsBody p words
   pub same : body_of flight.words ≡ body_of words
 
+-- the pass is as it was, but for its record in flight and what it learned of chains since
+pub record OnlyWrites (v u : View) : Type 0 where
+  pub learns : Learns v u
+  pub clock : IsLater v.clock u.clock
+  pub frame : u ≡ record v { flight = u.flight; learned = u.learned; clock = u.clock }
+  pub count : u.learned.count ≡ v.learned.count
+  pub found : u.learned.found ≡ v.learned.found
+
 -- the record of the claim f is written with all its entries linked, and else the pass is as it was, but for what it
 -- learned since
 pub record HasWritten (v : View) (f : Flight) (u : View) : Type 0 where
@@ -52,14 +61,4 @@ pub record HasWritten (v : View) (f : Flight) (u : View) : Type 0 where
   pub ready : CanPublish u flight
   pub stored : flight_kind u flight ≡ Stored
   pub region : region_of flight ≡ region_of f
-  pub about : u.about ≡ v.about
-  pub lane : u.lane ≡ v.lane
-  pub out : u.out ≡ v.out
-  pub shut : u.shut ≡ v.shut
-  pub epoch : u.epoch ≡ v.epoch
-  pub rows : u.rows ≡ v.rows
-  pub draft : u.draft ≡ v.draft
-  pub own : u.own ≡ v.own
-  pub count : u.learned.count ≡ v.learned.count
-  pub found : u.learned.found ≡ v.learned.found
-  pub learns : Learns v u
+  pub only : OnlyWrites v u

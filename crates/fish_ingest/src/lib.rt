@@ -7,6 +7,7 @@
 
 mod body;
 mod ingesting;
+mod law;
 mod origin;
 mod pending;
 mod placing;
@@ -19,6 +20,7 @@ mod writing;
 
 pub use body::prepare;
 pub use ingesting::{finish, ingest};
+pub use law::law_ingested;
 pub use origin::Origin;
 pub use pending::Pending;
 pub use prepared::Prepared;

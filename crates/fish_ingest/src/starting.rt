@@ -2,7 +2,7 @@
 
 ghost use Rattle.std.specs.Prelude.{◌≡◌, ◌↔◌, ◌<◌, ◌≤◌, IfErr, IfOk, IsErrOf, None, length};
 ghost use Rattle.fish_epoch.specs.Definitions.{IsDefsOf, IsKnownOf};
-ghost use Rattle.fish_epoch.specs.Entering.{Keeps};
+ghost use Rattle.fish_epoch.specs.Rows.{OnlyReads};
 ghost use Rattle.fish_ingest.specs.Placing.{CanPlace};
 ghost use Rattle.fish_ingest.specs.Records.{IsRead, refusal_of};
 ghost use Rattle.fish_ingest.specs.Refusing.{HasRefused, IsCause, IsEarly, IsLate};
@@ -118,13 +118,12 @@ fn prepare_at(
     parsed: ParsedPayload<'_, '_>,
 ) -> Result<Prepared, AllocError>
     requires pass { IsPassOf log.now pass.old }
-    requires live { 1 ≤ (view pass.old).lane }
     requires version { ((view pass.old).learned.version ≡ version) × (version ≤ 512) }
     requires defs { IsKnownOf (view pass.old) defs.old }
     requires read { IsRead parsed.form parsed.payload.now (fields_in_row parsed.found.now) }
     ensures pass { IsPassOf log.now pass.new }
     ensures defs { IsKnownOf (view pass.new) defs.new }
-    ensures keeps { Keeps (view pass.old) (view pass.new) × ((view pass.new).epoch ≡ (view pass.old).epoch) }
+    ensures reads { OnlyReads (view pass.old) (view pass.new) }
     ensures prepared { IfOk result (HasPrepared (view pass.new) version parsed.entry.form parsed.entry.payload.now) }
 {
     defs.refresh(log, pass, version)?;

@@ -6,7 +6,7 @@ use Rattle.fish_layout.specs.Cleared.{choose}
 use Rattle.fish_rule.proofs.Bodies.{kind-inside}
 use Rattle.fish_rule.proofs.Bounds.{starts_above}
 use Rattle.fish_rule.specs.World.{low}
-use Rattle.fish_rule.proofs.Extending.{later_loaded}
+use Rattle.fish_rule.proofs.Clocks.{later_loaded}
 use Rattle.fish_rule.proofs.Kept.{published}
 use Rattle.fish_rule.proofs.Walking.{claimed_there, gap_clear, within_region}
 use Rattle.fish_rule.specs.Linking.{HasNode, after_head, after_node, after_previous, gap, head_seen, previous_seen}

@@ -1,17 +1,13 @@
 -- Views that only learn.
-use Rattle.std.proofs.Common.{◌≡◌, ◌≢◌, ℕ, ◌≤◌, max, zero, suc, List, [], ◌∷◌, ◌++◌, refl, sym, ap, ◌∙◌, subst, inl, inr, arith}
-use Rattle.std.proofs.Common.{append_assoc}
+use Rattle.std.proofs.Common.{◌≡◌, ◌≢◌, ℕ, ◌≤◌, max, zero, suc, List, refl, sym, ap, ◌∙◌, subst, inl, inr, arith}
 use Rattle.fish_rule.proofs.Common.{among_left, among_right}
-use Rattle.fish_rule.specs.Logs.{Extends, IsLater, Learns}
+use Rattle.fish_rule.proofs.Clocks.{later_both, later_loaded, later_noted, later_self}
+use Rattle.fish_rule.specs.Logs.{Extends, Learns}
 use Rattle.fish_rule.specs.Seating.{join_both}
 use Rattle.fish_rule.specs.Reading.{after_end, after_look, after_read, found_after, kind_told}
-use Rattle.fish_rule.specs.Steps.{loaded, noted, ticked}
 use Rattle.fish_rule.specs.Views.{Among}
 use Rattle.fish_rule.specs.World.{high, low}
-use Rattle.fish_rule.specs.declared.view.Clock.{Clock}
 use Rattle.fish_rule.specs.declared.view.Found.{Found}
-use Rattle.fish_rule.specs.declared.view.Note.{Note}
-use Rattle.fish_rule.specs.declared.view.Noted.{Noted}
 use Rattle.fish_rule.specs.declared.view.Noted.TheVariants.{Directory}
 use Rattle.fish_rule.specs.declared.view.View.{View}
 
@@ -59,43 +55,6 @@ learns_both a b c e f =
       gaps = λ x m. f.gaps x (e.gaps x m);
       labels = λ x m. f.labels x (e.labels x m);
     }
-
--- ---- clocks
-
--- a clock is no later than itself
-pub later_self : (c : Clock) → IsLater c c
-later_self c = record { steps = omega arith; loads = omega arith; notes = []; since = refl }
-
--- what is later than a later one is later
-unfoldable pub later_both : (a b c : Clock) → IsLater a b → IsLater b c → IsLater a c
-later_both a b c p q =
-    let first = p.steps in
-    let second = q.steps in
-    let one = p.loads in
-    let two = q.loads in
-    record {
-      steps = omega arith;
-      loads = omega arith;
-      notes = q.notes ++ p.notes;
-      since = q.since ∙ ap (λ (z : List Note). q.notes ++ z) p.since ∙ sym (append_assoc q.notes p.notes a.notes);
-    }
-
--- a step makes a clock later
-pub later_ticked : (c : Clock) → IsLater c (ticked c)
-later_ticked c = record { steps = omega arith; loads = omega arith; notes = []; since = refl }
-
--- and so do a load of a word of the log
-pub later_loaded : (c : Clock) → IsLater c (loaded c)
-later_loaded c = record { steps = omega arith; loads = omega arith; notes = []; since = refl }
-
--- and one that is noted
-pub later_noted : (c : Clock) (what : Noted) (x : ℕ) → IsLater c (noted c what x)
-later_noted c what x = record {
-  steps = omega arith;
-  loads = omega arith;
-  notes = record { step = c.steps; what = what; value = x } ∷ [];
-  since = refl;
-}
 
 -- ---- views that extend others
 

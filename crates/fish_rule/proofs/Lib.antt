@@ -5,6 +5,7 @@ pub mod Bodies
 pub mod Bounds
 pub mod Chained
 pub mod Claims
+pub mod Clocks
 pub mod Closing
 pub mod ClosedLogs
 pub mod Common

@@ -1,4 +1,5 @@
 pub mod Chains
+pub mod Clocks
 pub mod Closed
 pub mod Entering
 pub mod Epochs

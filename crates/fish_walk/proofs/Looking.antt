@@ -4,8 +4,10 @@ use Rattle.std.proofs.Common.{refl, sym, ap, subst, inl, inr, arith, append_asso
 use Rattle.std.proofs.Math.Decide.{dec_lt}
 use Rattle.fish_rule.proofs.Common.{among_left, among_right}
 use Rattle.fish_rule.proofs.Closing.{seen, seen_here, tells_mark}
-use Rattle.fish_rule.proofs.Extending.{extends_both, extends_look, extends_self, later_both, later_self, learns_both}
-use Rattle.fish_rule.specs.Logs.{Extends, IsLater, Learns, TellsMark}
+use Rattle.fish_rule.proofs.Clocks.{later_self, loaded_within, noted_load}
+use Rattle.fish_rule.proofs.Extending.{extends_both, extends_look, extends_self, learns_both}
+use Rattle.fish_rule.specs.Clocks.{HasLoaded, IsLater}
+use Rattle.fish_rule.specs.Logs.{Extends, Learns, TellsMark}
 use Rattle.fish_rule.specs.Reading.{after_look, found_after, kind_told}
 use Rattle.fish_rule.specs.Views.{Among}
 use Rattle.fish_rule.specs.World.{high, low}
@@ -17,54 +19,30 @@ use Rattle.fish_rule.specs.declared.view.Noted.{Noted}
 use Rattle.fish_rule.specs.declared.view.Noted.TheVariants.{Directory}
 use Rattle.fish_rule.specs.declared.view.View.{View}
 use Rattle.fish_walk.specs.Looks.{look_of, look_of_kind}
-use Rattle.fish_walk.specs.Settling.{AreSettled, EndsAt, HasLoaded, IsEnd, IsMark, Looked, StopsAt}
+use Rattle.fish_walk.specs.Settling.{AreSettled, EndsAt, IsEnd, IsMark, Looked, StopsAt}
 use Rattle.fish_walk.specs.declared.outcome.Look.{Look}
 use Rattle.fish_walk.specs.declared.outcome.Look.TheVariants as look
 
 -- ---- loads
 
--- a load between two views was made between two that lie further apart
-pub loaded_within : (a b c d : View) (what : Noted) (value : ℕ) → IsLater a.clock b.clock → HasLoaded b c what value
-    → IsLater c.clock d.clock → HasLoaded a d what value
-unfolding later_both
-loaded_within a b c d what value p load q =
-    let first = p.steps in
-    let at = load.later in
-    let note : Note = record { step = load.step; what = what; value = value } in
-    record {
-      on = later_both a.clock c.clock d.clock (later_both a.clock b.clock c.clock p load.on) q;
-      step = load.step;
-      later = omega arith;
-      among = among_right note q.notes (load.on.notes ++ p.notes)
-          (among_left note load.on.notes p.notes load.among);
-    }
-
--- and so was a stop found
+-- a stop was found between two views that lie further apart
 pub stops_within : (P : ℕ → Type 0) (a b c d : View) (number count : ℕ) → IsLater a.clock b.clock
     → StopsAt P b c number count → IsLater c.clock d.clock → StopsAt P a d number count
 stops_within P a b c d number count p (inl e) q = inl e
 stops_within P a b c d number count p (inr h) q = inr (record {
   below = h.below;
   word = h.word;
-  loaded = loaded_within a b c d (Directory number) h.word p h.loaded q;
+  loaded = loaded_within a.clock b.clock c.clock d.clock (Directory number) h.word p h.loaded q;
   ends = h.ends;
 })
 
 -- ---- looks
 
 -- a look is a load of the directory word
-pub look_loads : (v u : View) (n lines x : ℕ) → u ≡ after_look v n lines x → HasLoaded v u (Directory n) x
-look_loads v u n lines x e = subst (λ (z : View). HasLoaded v z (Directory n) x) (sym e) (record {
-  on = record {
-    steps = omega arith;
-    loads = omega arith;
-    notes = record { step = v.clock.steps; what = Directory n; value = x } ∷ [];
-    since = refl;
-  };
-  step = v.clock.steps;
-  later = omega arith;
-  among = inl refl;
-})
+pub look_loads : (v u : View) (n lines x : ℕ) → u ≡ after_look v n lines x
+    → HasLoaded v.clock u.clock (Directory n) x
+look_loads v u n lines x e =
+    subst (λ (z : View). HasLoaded v.clock z.clock (Directory n) x) (sym e) (noted_load v.clock (Directory n) x)
 
 -- and nothing else is learned by it
 pub look_looks : (v u : View) (n lines x : ℕ) → u ≡ after_look v n lines x → Looked v u
@@ -105,7 +83,7 @@ pub stops_by : (P : ℕ → Type 0) (a v u : View) (n lines x count : ℕ) → L
 stops_by P a v u n lines x count looked e ends below = inr (record {
   below = below;
   word = x;
-  loaded = loaded_within a v u u (Directory n) x looked.extends.clock (look_loads v u n lines x e) (later_self u.clock);
+  loaded = loaded_within a.clock v.clock u.clock u.clock (Directory n) x looked.extends.clock (look_loads v u n lines x e) (later_self u.clock);
   ends = ends;
 })
 

@@ -1,8 +1,9 @@
 -- What the loads, the looks and the raise of a whole call tell together.
 use Rattle.std.proofs.Common.{◌≡◌, ◌≢◌, ℕ, ◌<◌, ◌≤◌, max, [], ◌∷◌, refl, sym, ap, ◌∙◌, subst, inl, inr, ◌⊎◌, arith}
 use Rattle.std.proofs.Math.Decide.{dec_lt}
-use Rattle.fish_rule.proofs.Extending.{extends_both, later_both, later_ticked}
-use Rattle.fish_rule.specs.Logs.{IsLater}
+use Rattle.fish_rule.proofs.Clocks.{later_both, later_ticked, loaded_within, noted_load}
+use Rattle.fish_rule.proofs.Extending.{extends_both}
+use Rattle.fish_rule.specs.Clocks.{HasLoaded, IsLater}
 use Rattle.fish_rule.specs.Reading.{CanRaise, IsAlone, after_end, after_settled}
 use Rattle.fish_rule.specs.Views.{Among}
 use Rattle.fish_rule.specs.World.{high}
@@ -11,8 +12,8 @@ use Rattle.fish_rule.specs.declared.view.Key.{Key}
 use Rattle.fish_rule.specs.declared.view.Kind.TheVariants.{Mark}
 use Rattle.fish_rule.specs.declared.view.Noted.TheVariants.{Tail}
 use Rattle.fish_rule.specs.declared.view.View.{View}
-use Rattle.fish_walk.proofs.Looking.{loaded_within, stops_within}
-use Rattle.fish_walk.specs.Settling.{AreSettled, HasCounted, HasLoaded, Looked, Raised, Settles, StopsAt}
+use Rattle.fish_walk.proofs.Looking.{stops_within}
+use Rattle.fish_walk.specs.Settling.{AreSettled, HasCounted, Looked, Raised, Settles, StopsAt}
 
 -- the views of a call: as it began, and after each of its parts
 module _ (a b c d e : View) (known x settled : ℕ) (to_b : b ≡ after_settled a known) (to_c : c ≡ after_end b x)
@@ -22,24 +23,14 @@ module _ (a b c d e : View) (known x settled : ℕ) (to_b : b ≡ after_settled 
   on_b = subst (λ (z : View). IsLater a.clock z.clock) (sym to_b) (later_ticked a.clock)
 
   -- the load of the count
-  counts : HasLoaded b c Tail x
-  counts = subst (λ (z : View). HasLoaded b z Tail x) (sym to_c) (record {
-    on = record {
-      steps = omega arith;
-      loads = omega arith;
-      notes = record { step = b.clock.steps; what = Tail; value = x } ∷ [];
-      since = refl;
-    };
-    step = b.clock.steps;
-    later = omega arith;
-    among = inl refl;
-  })
+  counts : HasLoaded b.clock c.clock Tail x
+  counts = subst (λ (z : View). HasLoaded b.clock z.clock Tail x) (sym to_c) (noted_load b.clock Tail x)
 
   -- the count is one of this call's
   pub counted_here : (count : ℕ) → count ≡ high x → HasCounted a e count
   counted_here count is = record {
     tail = x;
-    loaded = loaded_within a b c e Tail x on_b counts
+    loaded = loaded_within a.clock b.clock c.clock e.clock Tail x on_b counts
         (later_both c.clock d.clock e.clock looked.extends.clock raised.extends.clock);
     is = sym is;
   }

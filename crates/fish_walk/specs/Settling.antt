@@ -1,12 +1,12 @@
 -- What a call that settles numbers tells: how far it came, and why no further.
 use Rattle.std.specs.Prelude.{ℕ, ◌≡◌, ◌≢◌, ◌<◌, ◌≤◌, Some}
 use Rattle.std.proofs.Common.{◌⊎◌}
-use Rattle.fish_rule.specs.Logs.{Extends, IsLater, Learns, TellsMark}
+use Rattle.fish_rule.specs.Clocks.{HasLoaded, IsLater}
+use Rattle.fish_rule.specs.Logs.{Extends, Learns, TellsMark}
 use Rattle.fish_rule.specs.Views.{Among}
 use Rattle.fish_rule.specs.World.{high, low}
 use Rattle.fish_rule.specs.declared.view.Found.{Found}
 use Rattle.fish_rule.specs.declared.view.Kind.TheVariants.{Mark}
-use Rattle.fish_rule.specs.declared.view.Noted.{Noted}
 use Rattle.fish_rule.specs.declared.view.Noted.TheVariants.{Directory, Tail}
 use Rattle.fish_rule.specs.declared.view.View.{View}
 use Rattle.fish_walk.specs.Looks.{look_of}
@@ -14,17 +14,10 @@ use Rattle.fish_walk.specs.declared.outcome.Look.TheVariants.{Overflow, Unfinish
 
 -- ---- loads
 
--- between the two views the pass loaded this, and found this value
-pub record HasLoaded (v u : View) (what : Noted) (value : ℕ) : Type 0 where
-  pub on : IsLater v.clock u.clock
-  pub step : ℕ
-  pub later : v.clock.steps ≤ step
-  pub among : Among (record { step = step; what = what; value = value }) on.notes
-
 -- the count is one that the pass loaded between the two views
 pub record HasCounted (v u : View) (count : ℕ) : Type 0 where
   pub tail : ℕ
-  pub loaded : HasLoaded v u Tail tail
+  pub loaded : HasLoaded v.clock u.clock Tail tail
   pub is : high tail ≡ count
 
 -- ---- stops
@@ -41,7 +34,7 @@ IsEnd word = (look_of word ≡ Unfinished) ⊎ IsMark word
 pub record HasEnd (P : ℕ → Type 0) (v u : View) (number count : ℕ) : Type 0 where
   pub below : number < count
   pub word : ℕ
-  pub loaded : HasLoaded v u (Directory number) word
+  pub loaded : HasLoaded v.clock u.clock (Directory number) word
   pub ends : P word
 
 -- the number at which the settled ones stop: the count, or one whose word meets P

@@ -18,7 +18,7 @@ pub announce-requires-in-loop-found-clause-view : goal.announce-requires-in-loop
 announce-requires-in-loop-found-clause-view c =
     let round = c.loop-found.invariant.round in
     may_announce (view c.args.pass.now) (view c.loop-found.pass) c.loop-found.found c.requires.idle round.keeps
-    round.loaded
+    round.known
 
 -- and every other round
 pub loop-found-preserved : goal.loop-found-preserved
