@@ -1,42 +1,42 @@
 # FishStore, with the Rattle kit's `rt` on the path.
 PREFIX ?= /usr/local
 PROGRAM = crates/fishstore/out/fishstore
-EXAMPLE = select 'take type' '"PushEvent"' examples/events.jsonl
-CRATES = $(shell sed -n 's/^\([a-z0-9_]*\).*:.*/\1/p' crates.txt)
+EXAMPLE = select 'take type' '"PushEvent"' events.jsonl
+TESTS = tests_language tests_log
+CRATES = $(shell sed -n 's/^\(fish[a-z_]*\).*:.*/\1/p' crates.txt)
 
-.PHONY: demo build test gate install bench bench_log bench_ingest clean
+.PHONY: demo build test edits gate install bench clean
 
-# Proves and builds the program, and runs it on the example.
-demo: build
-	$(PROGRAM) $(EXAMPLE)
+# Runs the program on the example, at once and with no proof.
+demo:
+	cd crates/fishstore && rt try --data events.jsonl=../../examples/events.jsonl -- $(EXAMPLE)
+	@echo 'This run was not proved. `make build` proves the program and builds $(PROGRAM).'
 
 # Proves and builds the program. What is proved already is not proved again.
 build:
-	cd crates/fishstore && rt run -- select 'take type' '"Push"' data/a > /dev/null
+	tools/build fishstore
 
-# Proves and runs the tests of every crate.
+# Proves every crate of the product, runs the tests, and runs the program over the cases.
 test:
-	set -e; for crate in $(CRATES); do (cd crates/$$crate && rt test); done
+	tools/build fishstore $(TESTS)
+	tools/cases cases/*.txt README.md
 
-# The merge gate: every proof from nothing, the must-fail edits, the programs and the tests.
+# Tries every wrong body of every crate: each has to be refused.
+edits:
+	rt all check --jobs 4
+	tools/edits --jobs 4 $(CRATES)
+
+# The merge gate: every proof from nothing, the must-fail edits, the programs, the tests and the cases.
 gate:
 	bash .ci/run
 
 install: build
 	install -D -m 755 $(PROGRAM) $(DESTDIR)$(PREFIX)/bin/fishstore
 
-# Times the program beside jq and a plain Rust program.
+# Times the program beside jq and a plain Rust program, and the log beside other stores.
 bench: build
 	bench/select.sh
-
-# Times the log: stores beside a plain C++ loop, linked key entries, and walks.
-bench_log:
-	cd crates/bench_log && rt run > /dev/null
 	bench/log.sh
-
-# Times ingest of events beside parsing them alone.
-bench_ingest:
-	cd crates/bench_ingest && rt run -- data/events.jsonl > /dev/null
 	bench/ingest.sh
 
 clean:

@@ -7,7 +7,7 @@ ghost use Rattle.fish_lang.specs.Views.{operand_view, joint_view, whole_view};
 use crate::definition::Cond;
 
 /// Where a whole condition stands.
-#[derive(Debug, Drop)]
+#[derive(Drop)]
 #[cycle(place)]
 pub enum Whole {
     /// Behind `when`.
@@ -17,7 +17,7 @@ pub enum Whole {
 }
 
 /// Where a part of an `or` stands.
-#[derive(Debug, Drop)]
+#[derive(Drop)]
 #[cycle(place)]
 pub enum Joint {
     /// At its front.
@@ -27,7 +27,7 @@ pub enum Joint {
 }
 
 /// Where a part of an `and` stands.
-#[derive(Debug, Drop)]
+#[derive(Drop)]
 #[cycle(place)]
 pub enum Operand {
     /// At its front.

@@ -5,16 +5,17 @@
 ghost use Rattle.std.specs.Prelude.{◌≡◌, ◌++◌, List, codes, string_bytes, option_map, IfOk, OnOk};
 ghost use Rattle.std.specs.Fmt.{signed_decimal};
 ghost use Rattle.fish_value.specs.Json.{quoted};
+ghost use Rattle.fish_value.specs.ValueText.{value_print};
 ghost use Rattle.fish_lang.specs.Canonical.{step_text, steps_text, path_text, op_text, opening, closing, closes_and, closes_or, formula_text, when_text, definition_text};
 ghost use Rattle.fish_lang.specs.Definition.{formula_of, definition_of};
 
 use crate::definition::{Cond, Def, Op};
 use crate::token::is_ident;
-use fish_value::{Path, Text, json_text, print_value};
+use fish_value::{Path, Text, Value, json_text, print_value};
 use std::alloc::{AllocError, Global};
 
 /// Which part of a condition stands at a place.
-#[derive(Clone, Copy, Debug, PartialEq, Eq)]
+#[derive(Clone, Copy, PartialEq, Eq)]
 pub enum Part {
     /// A whole condition.
     Whole,
@@ -84,20 +85,12 @@ fn write_cond(alloc: Global, out: &mut String, part: Part, cond: &Cond) -> Resul
         (string_bytes out.new ≡ string_bytes out.old ++ formula_text part (formula_of cond.now)) }
 {
     match cond {
-        Cond::Compare { path, op, literal } => {
-            write_path(alloc, out, path)?;
-            out.push_str(op_text(*op))?;
-            out.push_str(print_value(alloc, literal)?.as_str())
-        }
+        Cond::Compare { path, op, literal } => write_comparison(alloc, out, path, *op, literal),
         Cond::Exists { path } => {
             write_path(alloc, out, path)?;
             out.push_str(" exists")
         }
-        Cond::Starts { path, prefix } => {
-            write_path(alloc, out, path)?;
-            out.push_str(" starts ")?;
-            out.push_str(json_text(alloc, prefix)?.as_str())
-        }
+        Cond::Starts { path, prefix } => write_starts(alloc, out, path, prefix),
         Cond::Not(a) => {
             out.push_str("not ")?;
             write_cond(alloc, out, Part::OfAnd, a)
@@ -117,6 +110,37 @@ fn write_cond(alloc: Global, out: &mut String, part: Part, cond: &Cond) -> Resul
             shut(out, closes_or(part))
         }
     }
+}
+
+fn write_comparison(
+    alloc: Global,
+    out: &mut String,
+    path: &Path,
+    op: Op,
+    literal: &Value,
+) -> Result<(), AllocError>
+    ensures { OnOk result
+        (string_bytes out.new ≡ string_bytes out.old ++ (path_text path.now ++ (op_text op ++ value_print literal.now))) }
+{
+    write_path(alloc, out, path)?;
+    out.push_str(op_text(op))?;
+    let text = print_value(alloc, literal)?;
+    out.push_str(text.as_str())
+}
+
+fn write_starts(
+    alloc: Global,
+    out: &mut String,
+    path: &Path,
+    prefix: &Text,
+) -> Result<(), AllocError>
+    ensures { OnOk result
+        (string_bytes out.new ≡ string_bytes out.old ++ (path_text path.now ++ (codes " starts " ++ quoted prefix.now))) }
+{
+    write_path(alloc, out, path)?;
+    out.push_str(" starts ")?;
+    let text = json_text(alloc, prefix)?;
+    out.push_str(text.as_str())
 }
 
 fn closes_and(part: Part) -> bool

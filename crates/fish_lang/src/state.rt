@@ -13,7 +13,7 @@ use fish_value::{Path, Text, Value};
 use std::alloc::{AllocError, Global};
 
 /// What stands in front of a condition, without `when`.
-#[derive(Debug, Drop)]
+#[derive(Drop)]
 pub enum Head {
     Take(Path),
     Bucket(Path, i64),
@@ -21,7 +21,7 @@ pub enum Head {
 }
 
 /// What a path is part of.
-#[derive(Debug, Drop)]
+#[derive(Drop)]
 pub enum Owner {
     Take,
     Bucket,
@@ -30,7 +30,7 @@ pub enum Owner {
 }
 
 /// What comes next, and what is known so far.
-#[derive(Debug, Drop)]
+#[derive(Drop)]
 pub enum State {
     /// Nothing was read.
     Start,

@@ -13,7 +13,7 @@ use fish_value::{Text, read_int, read_json};
 use std::alloc::{AllocError, Global};
 
 /// A word that the language keeps.
-#[derive(Clone, Copy, Debug, PartialEq, Eq)]
+#[derive(Clone, Copy, PartialEq, Eq)]
 pub enum Keyword {
     Take,
     Bucket,
@@ -31,7 +31,7 @@ pub enum Keyword {
 }
 
 /// One token.
-#[derive(Debug, Drop)]
+#[derive(Drop)]
 pub enum Token {
     /// A word that the language keeps.
     Keyword(Keyword),
@@ -59,7 +59,7 @@ pub enum Token {
 }
 
 /// A token and the place of its first byte in the source.
-#[derive(Debug, Drop)]
+#[derive(Drop)]
 pub struct Placed {
     /// The token.
     pub token: Token,
