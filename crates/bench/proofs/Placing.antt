@@ -1,0 +1,77 @@
+-- A record that was prepared for the version of the start may be placed by a pass that is entered there.
+use Rattle.std.proofs.Common.{◌≡◌, ◌≤◌, ℕ, All, List, map, refl, sym, ap, ◌∙◌, subst, None, Some}
+use Rattle.bench.specs.Stores.{IsEntered, IsStorable}
+use Rattle.fish_catalog.proofs.ActiveTexts.{active_of_catalog}
+use Rattle.fish_catalog.specs.declared.row.CatRow.{CatRow}
+use Rattle.fish_claim.proofs.Bodies.{Placed, placed_law}
+use Rattle.fish_claim.proofs.Known.{knows_start}
+use Rattle.fish_claim.specs.Claims.{IsClaimed}
+use Rattle.fish_claim.specs.declared.claimed.Claimed.TheVariants as answer
+use Rattle.fish_ingest.specs.Placing.{CanPlace}
+use Rattle.fish_ingest.specs.Writing.{HasWritten}
+use Rattle.fish_ingest.specs.declared.prepared.Prepared.{Prepared}
+use Rattle.fish_layout.specs.Body.{body_lines}
+use Rattle.fish_psf.specs.declared.key.ActiveDef.{ActiveDef}
+use Rattle.fish_rule.specs.Keys.{AreActive, text_of}
+use Rattle.fish_rule.specs.Registry.{KnowsActive}
+use Rattle.fish_rule.specs.Steps.{after_publish, flight_at}
+use Rattle.fish_rule.specs.declared.table.Log.{Log}
+use Rattle.fish_rule.specs.declared.view.Epoch.TheVariants.{Confirmed}
+use Rattle.fish_rule.specs.declared.view.Key.{Key}
+use Rattle.fish_rule.specs.declared.view.Learned.{Learned}
+use Rattle.fish_rule.specs.declared.view.View.{View}
+
+-- the definitions of the start are known to be active at version 0
+knows_first : (k : Key) (l : Learned) (defs : List ActiveDef) → AreActive k.rows.value defs
+    → KnowsActive k l 0 (map text_of defs)
+knows_first k l defs are = subst (KnowsActive k l 0) (active_of_catalog k.rows.value ∙ sym are) (knows_start k l)
+
+module _ (log : Log) (v : View) (prepared : Prepared) (about : v.about ≡ log.key) (entered : IsEntered v)
+    (may : IsStorable log v.lane prepared) where
+  -- they are those of the record, at its version
+  active : KnowsActive v.about v.learned may.2.origin.version (map text_of may.0)
+  active = subst (λ (n : ℕ). KnowsActive v.about v.learned n (map text_of may.0)) (sym may.2.version_is)
+      (knows_first v.about v.learned may.0
+      (subst (λ (k : Key). AreActive k.rows.value may.0) (sym about) may.1))
+
+  -- so it may be placed
+  pub can_place : v.shut ≡ None → CanPlace v prepared
+  can_place ready = record {
+    claim = record { live = entered.live; idle = entered.idle; ready = ready; version = 0; entered = entered.epoch };
+    defs = may.0;
+    origin = may.2.origin;
+    payload = may.2.payload;
+    made = may.2.made;
+    active = active;
+    lane_is = may.2.lane_is;
+    entered = entered.epoch ∙ ap (λ (n : ℕ). Confirmed n) (sym may.2.version_is);
+    lines = body_lines may.2.made.0.0;
+    size = refl;
+  }
+
+-- records for a lane are for the same lane later
+pub storable_on : (log : Log) (before after : ℕ) (records : List Prepared) → after ≡ before
+    → All (IsStorable log before) records → All (IsStorable log after) records
+storable_on log before after records same = subst (λ (lane : ℕ). All (IsStorable log lane) records) (sym same)
+
+-- a pass goes on as it was entered
+entered_on : (v u : View) → IsEntered v → u.lane ≡ v.lane → u.flight ≡ None → u.epoch ≡ v.epoch → IsEntered u
+entered_on v u entered lane idle epoch =
+    record { live = subst (λ (n : ℕ). 1 ≤ n) (sym lane) entered.live; idle = idle; epoch = epoch ∙ entered.epoch }
+
+-- so it does behind the publication of a record that was placed
+module _ (v u : View) (lines number line : ℕ) (claimed : IsClaimed v lines (answer.Placed number line) u) where
+  placed : Placed v lines number line u
+  placed = placed_law v u lines number line claimed
+
+  pub flying : u.flight ≡ Some (flight_at number line lines)
+  flying = ap (λ (z : View). z.flight) placed.known
+
+  module _ (w t : View) (written : HasWritten u (flight_at number line lines) w)
+      (is : t ≡ after_publish w written.flight) where
+    pub lane_published : t.lane ≡ v.lane
+    lane_published = ap (λ (z : View). z.lane) is ∙ written.lane ∙ ap (λ (z : View). z.lane) placed.known
+
+    pub entered_published : IsEntered v → IsEntered t
+    entered_published entered = entered_on v t entered lane_published (ap (λ (z : View). z.flight) is)
+        (ap (λ (z : View). z.epoch) is ∙ written.epoch ∙ ap (λ (z : View). z.epoch) placed.known)

@@ -1,0 +1,46 @@
+-- The next lane may be given out, its pass is ready, and so is the control pass at the end.
+use Rattle.std.proofs.Common.{All, sym, subst, arith}
+use Rattle.std.proofs.lemmas.List.Elements.{All-push}
+use Rattle.bench.proofs.Splitting.{control_enters, control_splits, control_starts, left_controls, right_enters, right_starts}
+use Rattle.bench.specs.Opening.{IsReady}
+use Rattle.fish_rule.specs.Passes.{view}
+use Rattle.bench.proofs.opening.passes_of.Goals as goal
+
+pub split_pass-requires-clause-can : goal.split_pass-requires-clause-can
+split_pass-requires-clause-can c =
+    let counted = c.loop-number.auto.number in
+    let inside = c.loop-number-test.true in
+    let few = c.requires.few in
+    control_splits c.loop-number.number (view c.loop-number.main) c.loop-number.invariant.control (omega arith)
+    (omega arith)
+
+pub loop-number-preserved : goal.loop-number-preserved
+loop-number-preserved c =
+    let top = c.loop-number.number in
+    let v = view c.loop-number.main in
+    let control = c.loop-number.invariant.control in
+    let split = c.split_pass in
+    let u = view split.result in
+    let ready : IsReady c.args.log.now split.result = record {
+      of = split.ensures.pass;
+      enter = right_enters top v control u split.ensures.right;
+      start = right_starts top v control u split.ensures.right;
+    } in
+    record {
+      of = split.ensures.main;
+      control = left_controls top v control (view split.new.main) split.ensures.left;
+      ready = subst (All (IsReady c.args.log.now)) (sym c.in_ok-push.ensures.items) (All-push (IsReady c.args.log.now)
+          c.loop-number.passes.items split.result c.loop-number.invariant.ready ready);
+    }
+
+pub returns : goal.returns
+returns c =
+    let last = c.loop-number.main in
+    let control = c.loop-number.invariant.control in
+    let ready : IsReady c.args.log.now last = record {
+      of = c.loop-number.invariant.of;
+      enter = control_enters c.loop-number.number (view last) control;
+      start = control_starts c.loop-number.number (view last) control;
+    } in
+    subst (All (IsReady c.args.log.now)) (sym c.in_ok-push-2.ensures.items) (All-push (IsReady c.args.log.now)
+    c.loop-number.passes.items last c.loop-number.invariant.ready ready)

@@ -1,0 +1,7 @@
+-- All records so far are of the lane.
+use Rattle.std.proofs.Common.{All}
+use Rattle.bench.specs.Stores.{IsRecordOf}
+use Rattle.bench.proofs.records.records_of.Given as goal
+
+abbrev pub invariant-loop-place : goal.invariant-loop-place
+invariant-loop-place l = All (IsRecordOf l.lane l.defs) l.records.items

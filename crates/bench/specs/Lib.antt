@@ -1,0 +1,3 @@
+pub mod Ingests
+pub mod Opening
+pub mod Stores

@@ -1,0 +1,54 @@
+//! An empty log, and a pass for each lane.
+
+ghost use Rattle.std.specs.Prelude.{◌≤◌, All, IfOk};
+ghost use Rattle.bench.specs.Opening.{IsControl, IsOpened, IsReady};
+ghost use Rattle.fish_rule.specs.Keys.{AreActive};
+ghost use Rattle.fish_rule.specs.Passes.{IsPassOf, view};
+ghost use Rattle.fish_rule.specs.Start.{IsShape};
+
+use crate::definitions::Definitions;
+use fish_psf::ActiveDef;
+use fish_rule::{Log, Pass, Shape, Start, open_log, split_pass};
+use std::alloc::{AllocError, Global};
+
+/// A log with its control pass, and the definitions that it begins with.
+#[derive(Drop)]
+pub struct Opened {
+    pub log: Log,
+    pub main: Pass,
+    pub defs: Vec<ActiveDef>,
+}
+
+/// An empty log of a shape that begins with these definitions.
+pub fn open(alloc: Global, shape: Shape, definitions: Definitions) -> Result<Opened, AllocError>
+    requires shape { IsShape shape }
+    requires active { AreActive definitions.catalog definitions.defs.items }
+    ensures { IfOk result IsOpened }
+{
+    let Definitions { catalog, defs } = definitions;
+    let _rows = catalog.rows();
+    let start = Start::first(alloc, shape, catalog)?;
+    let (log, main) = open_log(alloc, shape, &start)?;
+    Ok(Opened { log, main, defs })
+}
+
+/// A pass for each of so many lanes, the control pass last.
+pub fn passes_of(
+    alloc: Global,
+    log: &Log,
+    main: Pass,
+    lanes: u8,
+) -> Result<Vec<Pass>, AllocError>
+    requires pass { IsPassOf log.now main }
+    requires control { IsControl 1 (view main) }
+    requires few { lanes ≤ 16 }
+    ensures { IfOk result (λ passes. All (IsReady log.now) passes.items) }
+{
+    let mut main = main;
+    let mut passes = Vec::new(alloc);
+    for number in 1..lanes {
+        passes.push(split_pass(log, &mut main, number + 1))?;
+    }
+    passes.push(main)?;
+    Ok(passes)
+}

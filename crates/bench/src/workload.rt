@@ -1,0 +1,101 @@
+//! What is stored: how large the log is, which definitions it begins with, and the payloads.
+
+ghost use Rattle.std.specs.Prelude.{IfOk};
+ghost use Rattle.bench.specs.Opening.{IsOpened};
+ghost use Rattle.fish_rule.specs.Start.{IsShape};
+
+use crate::definitions::{no_definitions, two_definitions};
+use crate::opening::{Opened, open};
+use fish_rule::Shape;
+use std::alloc::{AllocError, Global};
+
+/// What is stored.
+#[derive(Clone, Copy, Debug, PartialEq, Eq)]
+pub enum Workload {
+    /// Records of 1 KB without key entries.
+    Stores,
+    /// Records of 3 lines without key entries.
+    Plain,
+    /// Records of 3 lines with two key entries that are the same in all, in a log of 16 buckets.
+    FewChains,
+    /// Records of 3 lines with two key entries of their own, in a log of 65,536 buckets.
+    ManyChains,
+}
+
+impl Workload {
+    /// The word that its lines begin with.
+    pub fn name(self) -> &'static str {
+        match self {
+            Workload::Stores => "stores",
+            Workload::Plain => "plain",
+            Workload::FewChains => "few",
+            Workload::ManyChains => "many",
+        }
+    }
+
+    /// Whether its records have key entries.
+    pub fn has_keys(self) -> bool {
+        match self {
+            Workload::Stores | Workload::Plain => false,
+            Workload::FewChains | Workload::ManyChains => true,
+        }
+    }
+
+    /// A log in which all its records have room.
+    pub fn shape(self) -> Shape
+        ensures { IsShape result }
+    {
+        match self {
+            Workload::Stores => Shape {
+                pages: 256,
+                bucket_bits: 4,
+            },
+            Workload::Plain | Workload::FewChains => Shape {
+                pages: 32,
+                bucket_bits: 4,
+            },
+            Workload::ManyChains => Shape {
+                pages: 32,
+                bucket_bits: 16,
+            },
+        }
+    }
+
+    /// The payload of a record at its place among all of them.
+    pub fn payload(self, alloc: Global, place: u64) -> Result<String, AllocError> {
+        match self {
+            Workload::Stores => padded(alloc, "{\"p\":\"", 126),
+            Workload::Plain => padded(alloc, "{\"a\":100000,\"b\":100000,\"p\":\"", 7),
+            Workload::FewChains => pair_of(alloc, 100_000),
+            Workload::ManyChains => pair_of(alloc, 100_000 + place % 900_000),
+        }
+    }
+}
+
+/// An empty log for a workload.
+pub fn open_for(alloc: Global, workload: Workload) -> Result<Opened, AllocError>
+    ensures { IfOk result IsOpened }
+{
+    let definitions = if workload.has_keys() {
+        two_definitions(alloc)?
+    } else {
+        no_definitions(alloc)
+    };
+    open(alloc, workload.shape(), definitions)
+}
+
+/// An object whose last text is a word of eight bytes, so many times.
+fn padded(alloc: Global, begin: &str, words: u64) -> Result<String, AllocError> {
+    let mut text = String::new(alloc);
+    text.push_str(begin)?;
+    for _ in 0..words {
+        text.push_str("payload ")?;
+    }
+    text.push_str("\"}")?;
+    Ok(text)
+}
+
+/// An object with the same number of six digits under both names that the definitions take.
+fn pair_of(alloc: Global, value: u64) -> Result<String, AllocError> {
+    format!(in alloc; "{{\"a\":{value},\"b\":{value}}}")
+}

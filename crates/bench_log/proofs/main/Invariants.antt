@@ -1,5 +1,0 @@
--- The counter's ledger is that of the blank.
-use Rattle.bench_log.proofs.main.Given as goal
-
-abbrev pub ghosts-measure : goal.ghosts-measure
-ghosts-measure g a = record { name = a.blank.name; parts = a.blank.parts }

@@ -1,7 +1,0 @@
--- All records so far are of the lane.
-use Rattle.std.proofs.Common.{All}
-use Rattle.bench_log.specs.Lanes.{IsRecordOf}
-use Rattle.bench_log.proofs.records.records_of.Given as goal
-
-abbrev pub invariant-loop-place : goal.invariant-loop-place
-invariant-loop-place g l = All (IsRecordOf l.lane l.defs) l.records.items
