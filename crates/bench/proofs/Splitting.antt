@@ -43,7 +43,7 @@ module _ (top : ℕ) (v : View) (control : IsControl top v) where
       idle = control.idle;
       outside = control.outside;
       below = λ lane among. elim among [
-        inl same ↦ (let e = same in omega arith)
+        | inl same ↦ (let e = same in omega arith)
         | inr before ↦ (let within = control.below lane before in omega arith)
       ];
     })

@@ -9,8 +9,19 @@ use fish_psf::ActiveDef;
 use fish_value::Text;
 use std::alloc::{AllocError, Global};
 
-/// A flag over two fields.
-const PUSH: &str = "flag when type = \"PushEvent\" and public = true";
+/// A name and a definition each.
+pub type Sources = &'static [(&'static str, &'static str)];
+
+/// Two that take a field each.
+pub const TAKING: Sources = &[("a", "take a"), ("b", "take b")];
+
+/// One of each kind over events, and a second one that takes a text.
+pub const OVER_EVENTS: Sources = &[
+    ("type", "take type"),
+    ("login", "take actor.login"),
+    ("push", "flag when type = \"PushEvent\" and public = true"),
+    ("size", "bucket payload.size by 10"),
+];
 
 /// A catalogue, and the definitions of its active rows.
 #[derive(Drop)]
@@ -19,35 +30,17 @@ pub struct Definitions {
     pub defs: Vec<ActiveDef>,
 }
 
-/// No definition.
-pub fn no_definitions(alloc: Global) -> Definitions
-    ensures { AreActive result.catalog result.defs.items }
+/// The definitions of these sources.
+pub fn definitions_of(alloc: Global, sources: Sources) -> Result<Definitions, AllocError>
+    ensures { IfOk result (λ d. AreActive d.catalog d.defs.items) }
 {
-    Definitions {
+    let mut definitions = Definitions {
         catalog: Catalog::new(alloc),
         defs: Vec::new(alloc),
+    };
+    for &(name, source) in sources {
+        add(alloc, &mut definitions, name, source)?;
     }
-}
-
-/// Two definitions, each of which takes a field.
-pub fn two_definitions(alloc: Global) -> Result<Definitions, AllocError>
-    ensures { IfOk result (λ d. AreActive d.catalog d.defs.items) }
-{
-    let mut definitions = no_definitions(alloc);
-    add(alloc, &mut definitions, "a", "take a")?;
-    add(alloc, &mut definitions, "b", "take b")?;
-    Ok(definitions)
-}
-
-/// A definition of each kind over events, and a second one that takes a text.
-pub fn four_definitions(alloc: Global) -> Result<Definitions, AllocError>
-    ensures { IfOk result (λ d. AreActive d.catalog d.defs.items) }
-{
-    let mut definitions = no_definitions(alloc);
-    add(alloc, &mut definitions, "type", "take type")?;
-    add(alloc, &mut definitions, "login", "take actor.login")?;
-    add(alloc, &mut definitions, "push", PUSH)?;
-    add(alloc, &mut definitions, "size", "bucket payload.size by 10")?;
     Ok(definitions)
 }
 
@@ -80,11 +73,6 @@ fn add(
         drop(def);
         return Err(AllocError);
     };
-    match definitions.defs.push(ActiveDef { id, def }) {
-        Ok(()) => Ok(()),
-        Err(failed) => {
-            drop(failed);
-            Err(AllocError)
-        }
-    }
+    definitions.defs.push(ActiveDef { id, def })?;
+    Ok(())
 }

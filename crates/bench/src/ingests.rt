@@ -1,14 +1,14 @@
 //! Payloads are ingested by one lane or by more at once.
 
-ghost use Rattle.std.specs.Prelude.{◌≤◌, All, IfOk};
+ghost use Rattle.std.specs.Prelude.{All, IfOk};
 ghost use Rattle.bench.specs.Ingests.{IsIngestLane};
 ghost use Rattle.bench.specs.Opening.{IsControl, IsReady};
 ghost use Rattle.fish_ingest.specs.Starting.{CanIngest};
 ghost use Rattle.fish_rule.specs.Passes.{IsPassOf, view};
 ghost use Rattle.fish_rule.specs.declared.table.Log.{Log};
 
-use crate::definitions::four_definitions;
-use crate::lanes::{Lane, time_lanes};
+use crate::definitions::{OVER_EVENTS, definitions_of};
+use crate::lanes::{Lane, LaneCount, time_lanes};
 use crate::opening::{Opened, open, passes_of};
 use fish_epoch::Defs;
 use fish_ingest::ingest;
@@ -60,15 +60,14 @@ impl<'a> Lane<Log> for IngestLane<'a> {
 pub fn measure_ingest<R: Threads + Sync + Clock + AllocGlobal + Eprint>(
     rt: &R,
     payloads: &[Text],
-    lanes: u8,
-) -> Result<(), AllocError>
-    requires some { 1 ≤ lanes }
-    requires few { lanes ≤ 16 }
-{
+    lanes: LaneCount,
+) -> Result<(), AllocError> {
     let alloc = rt.alloc();
-    let Opened { log, main, defs } = open(alloc, SHAPE, four_definitions(alloc)?)?;
+    let definitions = definitions_of(alloc, OVER_EVENTS)?;
+    let Opened { log, main, defs } = open(alloc, SHAPE, definitions)?;
     let measured = ingest_in(rt, &log, main, payloads, lanes);
-    drop((log, defs));
+    drop(log);
+    drop(defs);
     measured
 }
 
@@ -78,16 +77,14 @@ fn ingest_in<R: Threads + Sync + Clock + AllocGlobal + Eprint>(
     log: &Log,
     main: Pass,
     payloads: &[Text],
-    lanes: u8,
+    lanes: LaneCount,
 ) -> Result<(), AllocError>
     requires pass { IsPassOf log.now main }
     requires control { IsControl 1 (view main) }
-    requires some { 1 ≤ lanes }
-    requires few { lanes ≤ 16 }
 {
     let alloc = rt.alloc();
     let passes = passes_of(alloc, log, main, lanes)?;
-    let share = payloads.len().div_ceil(usize::from(lanes));
+    let share = payloads.len().div_ceil(usize::from(lanes.number()));
     let mut lanes = lanes_of(alloc, log, passes, payloads, share)?;
     time_lanes(rt, "ingest", "bytes", log, lanes.as_mut_slice());
     drop(lanes);
@@ -130,13 +127,7 @@ fn lane_of<'a>(alloc: Global, pass: Pass, payloads: &'a [Text]) -> IngestLane<'a
 }
 
 /// Ingests payloads in order, up to one that isn't stored. How many bytes were.
-fn ingest_all(
-    alloc: Global,
-    log: &Log,
-    pass: &mut Pass,
-    defs: &mut Defs,
-    payloads: &[Text],
-) -> u64
+fn ingest_all(alloc: Global, log: &Log, pass: &mut Pass, defs: &mut Defs, payloads: &[Text]) -> u64
     requires { CanIngest log.now pass.old defs.old }
 {
     let mut bytes = 0u64;

@@ -1,10 +1,30 @@
 //! Lanes that run at once, each on a thread of its own, and the line that says how long they took.
 
-ghost use Rattle.std.specs.Prelude.{All};
+ghost use Rattle.std.specs.Prelude.{◌≤◌, All};
 
 use std::io::Eprint;
 use std::thread::{Threads, for_each_mut};
 use std::time::{Clock, Instant};
+
+/// How many lanes a measurement has.
+#[derive(Clone, Copy)]
+pub enum LaneCount {
+    One,
+    Two,
+    Four,
+}
+
+impl LaneCount {
+    pub fn number(self) -> u8
+        ensures { (1 ≤ result) × (result ≤ 4) }
+    {
+        match self {
+            LaneCount::One => 1,
+            LaneCount::Two => 2,
+            LaneCount::Four => 4,
+        }
+    }
+}
 
 /// What one thread does in a measurement, with something that all threads share.
 pub trait Lane<S> {

@@ -2,8 +2,6 @@
 //! standard error: what was done, the lanes, the nanoseconds, and how much was done.
 #![tactic(auto)]
 
-ghost use Rattle.std.specs.Prelude.{◌≤◌};
-
 mod definitions;
 mod events;
 mod ingests;
@@ -19,23 +17,44 @@ mod workload;
 use events::read_events;
 use fish_value::Text;
 use ingests::measure_ingest;
+use lanes::LaneCount;
 use parses::{Reading, measure_parses};
 use std::alloc::AllocError;
 use std::io::Eprint;
 use std::process::ExitCode;
-use std::rt::{Env, Files};
+use std::rt::Files;
 use std::thread::Threads;
 use std::time::Clock;
 use stores::measure_stores;
 use walks::measure_walk;
-use words::{Failure, Measurement, measurement_of};
+use words::{Failure, words_of};
 use workload::Workload;
 
 /// How often each measurement is made; the best one counts.
 const ROUNDS: u32 = 3;
 
+/// What is stored in the log, in how many lanes.
+const STORES: &[(Workload, LaneCount)] = &[
+    (Workload::Stores, LaneCount::One),
+    (Workload::Stores, LaneCount::Two),
+    (Workload::Stores, LaneCount::Four),
+    (Workload::Plain, LaneCount::One),
+    (Workload::Plain, LaneCount::Four),
+    (Workload::FewChains, LaneCount::One),
+    (Workload::FewChains, LaneCount::Four),
+    (Workload::ManyChains, LaneCount::One),
+    (Workload::ManyChains, LaneCount::Four),
+];
+
+/// In how many lanes payloads are ingested.
+const INGESTS: &[LaneCount] = &[LaneCount::One, LaneCount::Two, LaneCount::Four];
+
 fn main(rt: HostRuntime) -> ExitCode {
-    match measure(&rt) {
+    let measured = match words_of(&rt) {
+        Ok(words) => measure(&rt, words.as_slice()),
+        Err(failure) => Err(failure),
+    };
+    match measured {
         Ok(()) => ExitCode::SUCCESS,
         Err(failure) => {
             // Where standard error is closed, the status still tells.
@@ -45,18 +64,25 @@ fn main(rt: HostRuntime) -> ExitCode {
     }
 }
 
-/// What the command line asks for.
-fn measure<R: Threads + Sync + Clock + AllocGlobal + Eprint + Env + Files>(
+/// What the words ask for.
+fn measure<R: Threads + Sync + Clock + AllocGlobal + Eprint + Files>(
     rt: &R,
+    words: &[String],
 ) -> Result<(), Failure> {
-    match measurement_of(rt) {
-        Some(Measurement::Log) => Ok(measure_log(rt)?),
-        Some(Measurement::Ingest(name)) => {
-            let payloads = read_events(rt, name.as_str())?;
-            Ok(measure_ingests(rt, payloads.as_slice())?)
-        }
-        None => Err(Failure::Words),
+    match words {
+        [log] if log.as_str() == "log" => Ok(measure_log(rt)?),
+        [ingest, name] if ingest.as_str() == "ingest" => measure_file(rt, name.as_str()),
+        _ => Err(Failure::Words),
     }
+}
+
+/// Ingest of the events in the file of this name.
+fn measure_file<R: Threads + Sync + Clock + AllocGlobal + Eprint + Files>(
+    rt: &R,
+    name: &str,
+) -> Result<(), Failure> {
+    let payloads = read_events(rt, name)?;
+    Ok(measure_ingests(rt, payloads.as_slice())?)
 }
 
 /// The rounds of the log.
@@ -69,12 +95,8 @@ fn measure_log<R: Threads + Sync + Clock + AllocGlobal + Eprint>(rt: &R) -> Resu
 
 /// All measurements of the log, once each.
 fn log_round<R: Threads + Sync + Clock + AllocGlobal + Eprint>(rt: &R) -> Result<(), AllocError> {
-    measure_stores(rt, Workload::Stores, 1)?;
-    measure_stores(rt, Workload::Stores, 2)?;
-    measure_stores(rt, Workload::Stores, 4)?;
-    for workload in [Workload::Plain, Workload::FewChains, Workload::ManyChains] {
-        measure_stores(rt, workload, 1)?;
-        measure_stores(rt, workload, 4)?;
+    for &(workload, lanes) in STORES {
+        measure_stores(rt, workload, lanes)?;
     }
     measure_walk(rt, Workload::FewChains)
 }
@@ -85,9 +107,9 @@ fn measure_ingests<R: Threads + Sync + Clock + AllocGlobal + Eprint>(
     payloads: &[Text],
 ) -> Result<(), AllocError> {
     for _ in 0..ROUNDS {
-        ingest_round(rt, payloads, 1)?;
-        ingest_round(rt, payloads, 2)?;
-        ingest_round(rt, payloads, 4)?;
+        for &lanes in INGESTS {
+            ingest_round(rt, payloads, lanes)?;
+        }
     }
     Ok(())
 }
@@ -96,11 +118,8 @@ fn measure_ingests<R: Threads + Sync + Clock + AllocGlobal + Eprint>(
 fn ingest_round<R: Threads + Sync + Clock + AllocGlobal + Eprint>(
     rt: &R,
     payloads: &[Text],
-    lanes: u8,
-) -> Result<(), AllocError>
-    requires some { 1 ≤ lanes }
-    requires few { lanes ≤ 16 }
-{
+    lanes: LaneCount,
+) -> Result<(), AllocError> {
     measure_parses(rt, Reading::Tree, payloads, lanes)?;
     measure_parses(rt, Reading::Kept, payloads, lanes)?;
     measure_ingest(rt, payloads, lanes)

@@ -1,12 +1,13 @@
 //! An empty log, and a pass for each lane.
 
-ghost use Rattle.std.specs.Prelude.{◌≤◌, All, IfOk};
+ghost use Rattle.std.specs.Prelude.{All, IfOk};
 ghost use Rattle.bench.specs.Opening.{IsControl, IsOpened, IsReady};
 ghost use Rattle.fish_rule.specs.Keys.{AreActive};
 ghost use Rattle.fish_rule.specs.Passes.{IsPassOf, view};
 ghost use Rattle.fish_rule.specs.Start.{IsShape};
 
 use crate::definitions::Definitions;
+use crate::lanes::LaneCount;
 use fish_psf::ActiveDef;
 use fish_rule::{Log, Pass, Shape, Start, open_log, split_pass};
 use std::alloc::{AllocError, Global};
@@ -37,16 +38,15 @@ pub fn passes_of(
     alloc: Global,
     log: &Log,
     main: Pass,
-    lanes: u8,
+    lanes: LaneCount,
 ) -> Result<Vec<Pass>, AllocError>
     requires pass { IsPassOf log.now main }
     requires control { IsControl 1 (view main) }
-    requires few { lanes ≤ 16 }
     ensures { IfOk result (λ passes. All (IsReady log.now) passes.items) }
 {
     let mut main = main;
     let mut passes = Vec::new(alloc);
-    for number in 1..lanes {
+    for number in 1..lanes.number() {
         passes.push(split_pass(log, &mut main, number + 1))?;
     }
     passes.push(main)?;

@@ -1,9 +1,9 @@
 //! The same payloads are read alone, by as many threads: as a tree each, or by a reader that keeps its
 //! memory.
 
-ghost use Rattle.std.specs.Prelude.{◌≡◌, ◌<◌, ◌≤◌, All, IfOk, ⊤};
+ghost use Rattle.std.specs.Prelude.{◌≡◌, ◌<◌};
 
-use crate::lanes::{Lane, time_lanes};
+use crate::lanes::{Lane, LaneCount, time_lanes};
 use fish_psf::{Steps, parse};
 use fish_read::RecordReader;
 use fish_value::{Form, Text};
@@ -15,7 +15,7 @@ use std::thread::Threads;
 use std::time::Clock;
 
 /// How payloads are read.
-#[derive(Clone, Copy, Debug, PartialEq, Eq)]
+#[derive(Clone, Copy)]
 pub enum Reading {
     /// Each as a tree of its own, as `parse` of fish_psf gives it.
     Tree,
@@ -49,8 +49,8 @@ impl<'a> Lane<Reading> for ParseLane<'a> {
 
     fn run(&mut self, reading: &Reading) {
         self.bytes = match *reading {
-            Reading::Tree => parse_all(self.alloc, self.payloads),
-            Reading::Kept => read_all(self.alloc, self.payloads),
+            Reading::Tree => parse_all::<Brand>(self.alloc, Blank::new(1), self.payloads),
+            Reading::Kept => read_all::<Brand>(self.alloc, Blank::new(1), self.payloads),
         };
     }
 
@@ -64,12 +64,10 @@ pub fn measure_parses<R: Threads + Sync + Clock + AllocGlobal + Eprint>(
     rt: &R,
     reading: Reading,
     payloads: &[Text],
-    lanes: u8,
-) -> Result<(), AllocError>
-    requires { 1 ≤ lanes }
-{
+    lanes: LaneCount,
+) -> Result<(), AllocError> {
     let alloc = rt.alloc();
-    let share = payloads.len().div_ceil(usize::from(lanes)).max(1);
+    let share = payloads.len().div_ceil(usize::from(lanes.number())).max(1);
     let mut lanes = Vec::new(alloc);
     for payloads in payloads.chunks(share) {
         lanes.push(ParseLane {
@@ -82,70 +80,40 @@ pub fn measure_parses<R: Threads + Sync + Clock + AllocGlobal + Eprint>(
     Ok(())
 }
 
-/// Parses payloads in order, each as a tree. How many bytes were read.
-fn parse_all(alloc: Global, payloads: &[Text]) -> u64 {
+/// Parses payloads in order, each as a tree, with a counter of a blank. How many bytes were read.
+fn parse_all<P: Ledger>(alloc: Global, blank: Blank, payloads: &[Text]) -> u64
+    requires name { blank.name ≡ P.name }
+    requires parts { blank.parts ≡ P.parts }
+    requires some { 0 < blank.parts }
+{
+    let mut steps = Steps::<P>::new(blank);
     let mut bytes = 0u64;
     for payload in payloads {
         let payload = payload.as_bytes();
-        if parses_once(alloc, payload) {
+        if let Ok(tree) = parse(alloc, Form::Json, payload, &mut steps) {
+            drop(tree);
             bytes = bytes.saturating_add(payload.len() as u64);
         }
     }
     bytes
 }
 
-/// Whether a payload is a record, with a counter of its own.
-fn parses_once(alloc: Global, payload: &[u8]) -> bool {
-    parses::<Brand>(alloc, Blank::new(1), payload)
-}
-
-/// The same with a counter of a blank.
-fn parses<P: Ledger>(alloc: Global, blank: Blank, payload: &[u8]) -> bool
+/// Reads payloads in order with one reader, and a counter of a blank. How many bytes were read.
+fn read_all<P: Ledger>(alloc: Global, blank: Blank, payloads: &[Text]) -> u64
     requires name { blank.name ≡ P.name }
     requires parts { blank.parts ≡ P.parts }
     requires some { 0 < blank.parts }
 {
     let mut steps = Steps::<P>::new(blank);
-    match parse(alloc, Form::Json, payload, &mut steps) {
-        Ok(tree) => {
-            drop(tree);
-            true
-        }
-        Err(_) => false,
-    }
-}
-
-/// Reads payloads in order with one reader. How many bytes were read.
-fn read_all(alloc: Global, payloads: &[Text]) -> u64 {
-    let mut bytes = 0u64;
     let mut reader = RecordReader::new(alloc);
+    let mut bytes = 0u64;
     for payload in payloads {
         let payload = payload.as_bytes();
-        if reads_once(alloc, &mut reader, payload) {
+        if let Ok(row) = reader.read(alloc, Form::Json, payload, &mut steps) {
+            drop(row);
             bytes = bytes.saturating_add(payload.len() as u64);
         }
     }
     drop(reader);
     bytes
-}
-
-/// Whether a payload is a record, by a reader, with a counter of its own.
-fn reads_once(alloc: Global, reader: &mut RecordReader, payload: &[u8]) -> bool {
-    reads::<Brand>(alloc, Blank::new(1), reader, payload)
-}
-
-/// The same with a counter of a blank.
-fn reads<P: Ledger>(alloc: Global, blank: Blank, reader: &mut RecordReader, payload: &[u8]) -> bool
-    requires name { blank.name ≡ P.name }
-    requires parts { blank.parts ≡ P.parts }
-    requires some { 0 < blank.parts }
-{
-    let mut steps = Steps::<P>::new(blank);
-    match reader.read(alloc, Form::Json, payload, &mut steps) {
-        Ok(row) => {
-            drop(row);
-            true
-        }
-        Err(_) => false,
-    }
 }

@@ -7,7 +7,7 @@ ghost use Rattle.fish_ingest.specs.Definitions.{AreDefs};
 ghost use Rattle.fish_rule.specs.Keys.{AreActive};
 ghost use Rattle.fish_rule.specs.Passes.{IsPassOf, view};
 
-use crate::lanes::{Lane, time_lanes};
+use crate::lanes::{Lane, LaneCount, time_lanes};
 use crate::opening::{Opened, passes_of};
 use crate::records::records_of;
 use crate::workload::{Workload, open_for};
@@ -18,6 +18,8 @@ use fish_psf::ActiveDef;
 use fish_rule::{Log, Pass, is_shut, lane};
 use std::alloc::{AllocError, Global};
 use std::io::Eprint;
+use std::marker::Brand;
+use std::sync::ledger::Blank;
 use std::thread::Threads;
 use std::time::Clock;
 
@@ -51,15 +53,13 @@ impl Lane<Log> for StoreLane {
 pub fn measure_stores<R: Threads + Sync + Clock + AllocGlobal + Eprint>(
     rt: &R,
     workload: Workload,
-    lanes: u8,
-) -> Result<(), AllocError>
-    requires some { 1 ≤ lanes }
-    requires few { lanes ≤ 16 }
-{
+    lanes: LaneCount,
+) -> Result<(), AllocError> {
     let alloc = rt.alloc();
     let Opened { log, main, defs } = open_for(alloc, workload)?;
     let measured = store_in(rt, &log, main, defs.as_slice(), workload, lanes);
-    drop((log, defs));
+    drop(log);
+    drop(defs);
     measured
 }
 
@@ -70,18 +70,16 @@ fn store_in<R: Threads + Sync + Clock + AllocGlobal + Eprint>(
     main: Pass,
     defs: &[ActiveDef],
     workload: Workload,
-    lanes: u8,
+    lanes: LaneCount,
 ) -> Result<(), AllocError>
     requires pass { IsPassOf log.now main }
     requires control { IsControl 1 (view main) }
     requires active { AreActive log.now.key.rows.value defs.now }
     requires defs { AreDefs defs.now }
-    requires some { 1 ≤ lanes }
-    requires few { lanes ≤ 16 }
 {
     let alloc = rt.alloc();
     let passes = passes_of(alloc, log, main, lanes)?;
-    let share = RECORDS / u64::from(lanes);
+    let share = RECORDS / u64::from(lanes.number());
     let mut lanes = lanes_of(alloc, log, passes, defs, workload, share)?;
     time_lanes(rt, workload.name(), "records", log, lanes.as_mut_slice());
     drop(lanes);
@@ -129,7 +127,7 @@ pub fn lane_of(
         drop(pass);
         return Err(AllocError);
     }
-    match records_of(alloc, defs, workload, number, count) {
+    match records_of::<Brand>(alloc, Blank::new(1), defs, workload, number, count) {
         Ok(records) => Ok(StoreLane {
             pass,
             records,

@@ -22,7 +22,7 @@ use std::sync::ledger::{Blank, Ledger};
 use std::time::{Clock, Instant};
 
 /// A walk down a whole chain.
-#[derive(Clone, Copy, Debug)]
+#[derive(Clone, Copy)]
 struct Walked {
     /// How many entries it gave.
     nodes: u64,
@@ -37,7 +37,8 @@ pub fn measure_walk<R: Clock + AllocGlobal + Eprint>(
 ) -> Result<(), AllocError> {
     let Opened { log, main, defs } = open_for(rt.alloc(), workload)?;
     let walked = store_and_walk(rt, &log, main, defs.as_slice(), workload);
-    drop((log, defs));
+    drop(log);
+    drop(defs);
     let Walked { nodes, nanoseconds } = walked?;
     report(rt, "walk", 1, nanoseconds, nodes, "nodes");
     Ok(())

@@ -1,20 +1,11 @@
 //! The words of the command line, and why nothing was measured.
 
-use std::alloc::AllocError;
+use std::alloc::{AllocError, AllocFailed};
 use std::env;
 use std::rt::Env;
 
-/// What is measured.
-#[derive(Drop)]
-pub enum Measurement {
-    /// Stores, linked key entries and walks.
-    Log,
-    /// Ingest of the events in the file of this name, and reading them alone.
-    Ingest(String),
-}
-
 /// Why a measurement ended early, or wasn't made.
-#[derive(Clone, Copy, Debug, PartialEq, Eq)]
+#[derive(Clone, Copy)]
 pub enum Failure {
     /// The words ask for no measurement.
     Words,
@@ -30,6 +21,12 @@ impl From<AllocError> for Failure {
     }
 }
 
+impl From<AllocFailed<String>> for Failure {
+    fn from(_: AllocFailed<String>) -> Self {
+        Failure::OutOfMemory
+    }
+}
+
 impl Failure {
     /// The line for standard error.
     pub fn message(self) -> &'static str {
@@ -41,28 +38,14 @@ impl Failure {
     }
 }
 
-/// What the command line asks for, or none where it has too few words, too many or others.
-pub fn measurement_of<R: Env + AllocGlobal>(rt: &R) -> Option<Measurement> {
-    let Ok(mut args) = env::args(rt) else {
-        return None;
+/// The words of the command line, without the program's name.
+pub fn words_of<R: Env + AllocGlobal>(rt: &R) -> Result<Vec<String>, Failure> {
+    let Ok(args) = env::args(rt) else {
+        return Err(Failure::Words);
     };
-    args.next();
-    let first = args.next();
-    let name = args.next();
-    if args.next().is_some() {
-        return None;
+    let mut words = Vec::new(rt.alloc());
+    for word in args.skip(1) {
+        words.push(word)?;
     }
-    match first {
-        Some(word) => measurement_by(word.as_str(), name),
-        None => None,
-    }
-}
-
-/// The measurement of this name, with the file that is behind it.
-fn measurement_by(word: &str, name: Option<String>) -> Option<Measurement> {
-    match name {
-        None if word == "log" => Some(Measurement::Log),
-        Some(name) if word == "ingest" => Some(Measurement::Ingest(name)),
-        _ => None,
-    }
+    Ok(words)
 }

@@ -4,13 +4,13 @@ ghost use Rattle.std.specs.Prelude.{IfOk};
 ghost use Rattle.bench.specs.Opening.{IsOpened};
 ghost use Rattle.fish_rule.specs.Start.{IsShape};
 
-use crate::definitions::{no_definitions, two_definitions};
+use crate::definitions::{Sources, TAKING, definitions_of};
 use crate::opening::{Opened, open};
 use fish_rule::Shape;
 use std::alloc::{AllocError, Global};
 
 /// What is stored.
-#[derive(Clone, Copy, Debug, PartialEq, Eq)]
+#[derive(Clone, Copy)]
 pub enum Workload {
     /// Records of 1 KB without key entries.
     Stores,
@@ -33,16 +33,16 @@ impl Workload {
         }
     }
 
-    /// Whether its records have key entries.
-    pub fn has_keys(self) -> bool {
+    /// The definitions that give its key entries.
+    fn sources(self) -> Sources {
         match self {
-            Workload::Stores | Workload::Plain => false,
-            Workload::FewChains | Workload::ManyChains => true,
+            Workload::Stores | Workload::Plain => &[],
+            Workload::FewChains | Workload::ManyChains => TAKING,
         }
     }
 
     /// A log in which all its records have room.
-    pub fn shape(self) -> Shape
+    fn shape(self) -> Shape
         ensures { IsShape result }
     {
         match self {
@@ -76,11 +76,7 @@ impl Workload {
 pub fn open_for(alloc: Global, workload: Workload) -> Result<Opened, AllocError>
     ensures { IfOk result IsOpened }
 {
-    let definitions = if workload.has_keys() {
-        two_definitions(alloc)?
-    } else {
-        no_definitions(alloc)
-    };
+    let definitions = definitions_of(alloc, workload.sources())?;
     open(alloc, workload.shape(), definitions)
 }
 

@@ -10,7 +10,7 @@ pub split_pass-requires-clause-can : goal.split_pass-requires-clause-can
 split_pass-requires-clause-can c =
     let counted = c.loop-number.auto.number in
     let inside = c.loop-number-test.true in
-    let few = c.requires.few in
+    let few = c.number-number-end.ensures in
     control_splits c.loop-number.number (view c.loop-number.main) c.loop-number.invariant.control (omega arith)
     (omega arith)
 

@@ -4,4 +4,4 @@ use Rattle.bench.specs.Stores.{IsRecordOf}
 use Rattle.bench.proofs.records.records_of.Given as goal
 
 abbrev pub invariant-loop-place : goal.invariant-loop-place
-invariant-loop-place l = All (IsRecordOf l.lane l.defs) l.records.items
+invariant-loop-place g l = All (IsRecordOf l.lane l.defs) l.records.items
