@@ -6,8 +6,6 @@
 
 mod claimed;
 mod flight;
-#[cfg(test)]
-mod tests;
 
 pub use claimed::{Claimed, claim};
 pub use flight::{fill, publish};

@@ -7,8 +7,6 @@
 mod definitions;
 mod entering;
 mod rows;
-#[cfg(test)]
-mod tests;
 
 pub use definitions::{Defs, Known};
 pub use entering::{enter, leave};

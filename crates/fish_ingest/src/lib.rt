@@ -14,8 +14,6 @@ mod placing;
 mod prepared;
 mod refusal;
 mod starting;
-#[cfg(test)]
-mod tests;
 mod writing;
 
 pub use body::prepare;

@@ -12,6 +12,13 @@ pub struct Prepared {
 }
 
 impl Prepared {
+    /// Its words, with number 0.
+    pub fn words(&self) -> &[u64]
+        ensures { result.now ≡ self.now.body }
+    {
+        self.body.as_slice()
+    }
+
     /// How many lines of 32 bytes it takes.
     pub fn lines(&self) -> u64
         ensures { result ≡ length self.now.body / 4 }

@@ -16,8 +16,6 @@ mod registry;
 mod seats;
 mod steps;
 mod table;
-#[cfg(test)]
-mod tests;
 mod view;
 mod walk;
 mod word;

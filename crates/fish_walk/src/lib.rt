@@ -8,8 +8,6 @@ mod found;
 mod outcome;
 mod prefix;
 mod reading;
-#[cfg(test)]
-mod tests;
 
 pub use found::{count_now, look};
 pub use outcome::Look;

@@ -1,6 +1,0 @@
--- The pass stays one of the log.
-use Rattle.fish_rule.specs.Passes.{IsPassOf}
-use Rattle.fish_claim.proofs.tests.two_pages.Given as goal
-
-abbrev pub invariant-loop-lines : goal.invariant-loop-lines
-invariant-loop-lines g l = IsPassOf l.log l.pass

@@ -1,6 +1,0 @@
--- The definitions so far are those of the rows.
-use Rattle.fish_rule.specs.Keys.{AreActive}
-use Rattle.fish_ingest.proofs.tests.definitions.defined.Given as goal
-
-abbrev pub invariant-loop-source : goal.invariant-loop-source
-invariant-loop-source l = AreActive l.catalog l.defs.items

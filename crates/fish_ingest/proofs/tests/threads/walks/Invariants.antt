@@ -1,7 +1,0 @@
--- The pass stays one of the log, and alone.
-use Rattle.fish_rule.specs.Passes.{IsPassOf, view}
-use Rattle.fish_rule.specs.Reading.{IsAlone}
-use Rattle.fish_ingest.proofs.tests.threads.walks.Given as goal
-
-abbrev pub invariant-loop-bucket : goal.invariant-loop-bucket
-invariant-loop-bucket l = IsPassOf l.log l.pass × IsAlone (view l.pass)

@@ -1,6 +1,0 @@
--- The pass stays one of the log.
-use Rattle.fish_rule.specs.Passes.{IsPassOf}
-use Rattle.fish_walk.proofs.tests.settling.store_to_the_end.Given as goal
-
-abbrev pub invariant-loop-lines : goal.invariant-loop-lines
-invariant-loop-lines l = IsPassOf l.log l.pass

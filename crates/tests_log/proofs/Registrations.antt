@@ -1,0 +1,136 @@
+-- The operation that registers a row, once the row's words are stored.
+use Rattle.std.proofs.Common.{◌≡◌, ℕ, suc, ◌+◌, ◌%◌, ◌<◌, ◌≤◌, inl, List, [], ◌∷◌, ◌++◌, true, length, slice_index, refl, sym, ap, ◌∙◌, subst, arith}
+use Rattle.std.proofs.Math.Decide.{ℕ_discrete, dec_lt}
+use Rattle.fish_catalog.proofs.RowWords.{listed_same, name_back, text_back}
+use Rattle.fish_catalog.specs.Listing.{IsNew, ended_at, listed_in}
+use Rattle.fish_catalog.specs.Words.{IsWritable, name_in, row_word, text_in}
+use Rattle.fish_catalog.specs.declared.listed.Listed.{Listed}
+use Rattle.fish_catalog.specs.declared.row.CatRow.{CatRow}
+use Rattle.fish_layout.proofs.Clearing.{choose_first, choose_second}
+use Rattle.fish_rule.specs.Entering.{CanBump, CanDefine, after_bump, after_define, after_version, next_operation}
+use Rattle.fish_rule.specs.Epochs.{confirmed}
+use Rattle.fish_rule.specs.Logs.{Learns}
+use Rattle.fish_rule.specs.Registry.{IsOperation, drafted, made, op_at, row_at, row_in}
+use Rattle.fish_rule.specs.declared.view.Epoch.{Epoch}
+use Rattle.fish_rule.specs.declared.view.Epoch.TheVariants.{Out}
+use Rattle.fish_rule.specs.declared.view.Learned.{Learned}
+use Rattle.fish_rule.specs.declared.view.View.{View}
+use Rattle.tests_log.specs.Operations.{HasDrafted, IsRegisteredAs}
+
+-- a view of the same table that learned of a later version and nothing else
+learns_version : (v u : View) (version : ℕ) → u.about ≡ v.about → u.learned ≡ record v.learned { version = version }
+    → v.learned.version ≤ version → Learns v u
+learns_version v u version about learned later =
+    let P : Learned → Type 0 = λ l. Learns v (record u { learned = l }) in
+    subst P (sym learned) (record {
+      about = about;
+      count = omega arith;
+      settled = omega arith;
+      version = later;
+      words = λ x is. is;
+      found = λ x is. is;
+      known = λ x is. is;
+      records = λ x is. is;
+      nodes = λ x is. is;
+      lows = λ x is. is;
+      tops = λ x is. is;
+      gaps = λ x is. is;
+      labels = λ x is. is;
+    })
+
+-- the control pass, which is out, found this version, and then stored the words of the row
+pub record IsDrafted (v : View) (row : CatRow) (version id : ℕ) (u : View) : Type 0 where
+  pub main : v.lane ≡ 1
+  pub outside : v.epoch ≡ Out
+  pub is_id : id ≡ length v.rows
+  pub few : version < 512
+  pub risen : v.learned.version ≤ version
+  pub new : IsNew v.rows row.name row.def
+  pub writable : IsWritable row
+  pub words : List ℕ
+  pub says : (i : ℕ) → i < 39 → slice_index words i ≡ row_word row i
+  pub drafted : HasDrafted (after_version v version) words 39 u
+
+module _ (v : View) (row : CatRow) (version id : ℕ) (u : View) (is : IsDrafted v row version id u) where
+  only : u ≡ record (after_version v version) { draft = u.draft; clock = u.clock }
+  only = is.drafted.only
+
+  reached : u.learned.version ≡ version
+  reached = ap (λ (z : View). z.learned.version) only
+
+  same_rows : u.rows ≡ v.rows
+  same_rows = ap (λ (z : View). z.rows) only
+
+  -- the operation may be stored
+  pub can_store : CanDefine u (20 + version) (256 + id)
+  can_store = record {
+    main = ap (λ (z : View). z.lane) only ∙ is.main;
+    next = inl (
+      (let few = is.few in let e = reached in omega arith),
+      (let e = reached in omega arith),
+    );
+  }
+
+  -- the view then
+  abbrev behind : View
+  behind = after_define u (20 + version) (256 + id)
+
+  -- the words that stand in the next row
+  abbrev in_row : ℕ → ℕ
+  in_row = row_in (drafted behind.draft) (length v.rows)
+
+  in_row_is : (i : ℕ) → 2 ≤ i → i < 39 → in_row i ≡ row_word row i
+  in_row_is i low high =
+      let few = is.few in
+      choose_second (ℕ_discrete (row_at (length v.rows) i) (20 + version)) (256 + id)
+          (drafted u.draft (row_at (length v.rows) i)) (λ same. omega arith)
+      ∙ is.drafted.row i low high ∙ is.says i high
+
+  listed : (n : ℕ) → listed_in in_row n true ≡ record { id = n; name = row.name; def = row.def; active = true }
+  listed n =
+      listed_same in_row (row_word row) n true in_row_is
+      ∙ ap (λ (name : List ℕ). record { id = n; name = name; def = text_in (row_word row); active = true })
+          (name_back row is.writable)
+      ∙ ap (λ (text : List ℕ). record { id = n; name = row.name; def = text; active = true })
+          (text_back row is.writable)
+
+  operation : next_operation behind ≡ 256 + length v.rows
+  operation =
+      choose_first (ℕ_discrete (op_at (suc u.learned.version)) (20 + version)) (256 + id)
+          (drafted u.draft (op_at (suc u.learned.version))) (let e = reached in omega arith)
+      ∙ ap (λ (n : ℕ). 256 + n) is.is_id
+
+  may_register : IsNew v.rows (name_in in_row) (text_in in_row)
+  may_register =
+      subst (λ (l : Listed). IsNew v.rows l.name l.def) (sym (listed 0)) is.new
+
+  -- the version may be raised
+  pub can_raise : CanBump behind
+  can_raise = record {
+    main = ap (λ (z : View). z.lane) only ∙ is.main;
+    outside = ap (λ (z : View). z.epoch) only ∙ ap (λ (e : Epoch). confirmed e version) is.outside;
+    few = (let few = is.few in let e = reached in omega arith);
+    operation = subst (λ (ls : List Listed). IsOperation (row_in (drafted behind.draft) (length ls)) ls
+        (next_operation behind)) (sym same_rows) (inl (operation, may_register));
+  }
+
+  -- and then the row is one of the definitions
+  made_rows : made (drafted behind.draft) (next_operation behind) v.rows
+      ≡ v.rows ++ record { id = length v.rows; name = row.name; def = row.def; active = true } ∷ []
+  made_rows =
+      let room = is.new.room in
+      choose_first (dec_lt (next_operation behind) 512)
+          (v.rows ++ listed_in in_row (length v.rows) true ∷ []) (ended_at (next_operation behind % 256) v.rows)
+          (let e = operation in omega arith)
+      ∙ ap (λ (l : Listed). v.rows ++ l ∷ []) (listed (length v.rows))
+
+  pub registered : IsRegisteredAs v row (after_bump behind) (version + 1)
+  registered = record {
+    learns = learns_version v (after_bump behind) (suc version) (ap (λ (z : View). z.about) only)
+        (ap (λ (z : View). record z.learned { version = suc z.learned.version }) only)
+        (let risen = is.risen in omega arith);
+    reached = (let e = reached in omega arith);
+    rows = ap (made (drafted behind.draft) (next_operation behind)) same_rows ∙ made_rows;
+    lane = ap (λ (z : View). z.lane) only;
+    outside = ap (λ (z : View). z.epoch) only ∙ ap (λ (e : Epoch). confirmed e version) is.outside;
+  }

@@ -1,0 +1,25 @@
+-- Whatever the answer, the lane may store again.
+use Rattle.fish_ingest.proofs.After.{goes_on}
+use Rattle.fish_rule.specs.Passes.{view}
+use Rattle.tests_log.proofs.lanes.store_as.Goals as goal
+
+pub returns-clause-ready : goal.returns-clause-ready
+returns-clause-ready c =
+    let on = goes_on (view c.args.pass.now) (view c.ingest.new.pass) c.args.form c.args.payload.now c.ingest.result
+    c.requires.start c.ingest.ensures.ingested c.ingest.ensures.refused in
+    record { of = c.ingest.ensures.pass; start = on.0; read = c.ingest.ensures.defs }
+
+pub returns-clause-lane : goal.returns-clause-lane
+returns-clause-lane c =
+    (goes_on (view c.args.pass.now) (view c.ingest.new.pass) c.args.form c.args.payload.now c.ingest.result
+    c.requires.start c.ingest.ensures.ingested c.ingest.ensures.refused).1.lane
+
+pub returns-clause-out : goal.returns-clause-out
+returns-clause-out c =
+    (goes_on (view c.args.pass.now) (view c.ingest.new.pass) c.args.form c.args.payload.now c.ingest.result
+    c.requires.start c.ingest.ensures.ingested c.ingest.ensures.refused).1.out
+
+pub returns-clause-rows : goal.returns-clause-rows
+returns-clause-rows c =
+    (goes_on (view c.args.pass.now) (view c.ingest.new.pass) c.args.form c.args.payload.now c.ingest.result
+    c.requires.start c.ingest.ensures.ingested c.ingest.ensures.refused).1.rows

@@ -1,0 +1,6 @@
+pub mod Bodies
+pub mod Heads
+pub mod Lanes
+pub mod Operations
+pub mod Seats
+pub mod Walks

@@ -1,0 +1,203 @@
+//! Logs that begin at a base, behind older records: two records of one bucket, the walk over them that
+//! goes on at the head which the bucket had at the start, and the closed log.
+//!
+//! The one definition gives true for every payload here. A record of one entry and at most 8 bytes has 6
+//! words, so it takes two lines, and its entry stands in word 1.
+
+ghost use Rattle.std.specs.Prelude.{◌<◌, ◌≤◌, ◌*◌, IfOk};
+ghost use Rattle.fish_rule.specs.Passes.{IsPassOf, view};
+ghost use Rattle.fish_rule.specs.Reading.{IsAlone};
+ghost use Rattle.tests_log.specs.Heads.{AreOlder};
+ghost use Rattle.tests_log.specs.Lanes.{IsOutOf};
+
+use crate::entries::{entry_of, is_entry};
+use crate::expecting::expect;
+use crate::lanes::store;
+use crate::nodes::{BUCKET, expect_nodes};
+use crate::openings::{ONE_PAGE, closed, defined};
+use fish_catalog::Entries;
+use fish_chain::{Node, walk_rest};
+use fish_epoch::{Defs, enter, leave};
+use fish_ingest::IngestRefusal;
+use fish_rule::{Base, Log, Pass, Start, base, open_log};
+use fish_value::{Form, Numbers64, Text};
+use fish_walk::settle;
+use std::alloc::{AllocError, Global};
+use std::process::Abort;
+use std::test::Fail;
+
+/// The definition, and the version with which each log begins.
+const SOURCES: &[&str] = &["flag when not z exists"];
+
+const VERSION: u16 = 7;
+
+/// The payloads, oldest first.
+const PAYLOADS: [&str; 2] = ["{}", "{\"a\":1}"];
+
+/// Where a log begins, the head that the bucket has there, and the nodes that a walk gives.
+struct Case {
+    base: Base,
+    head: u64,
+    nodes: &'static [Node],
+}
+
+const CASES: &[Case] = &[
+    Case {
+        base: Base {
+            number: 7,
+            line: 100,
+        },
+        head: 397,
+        nodes: &[
+            Node {
+                number: 8,
+                place: 409,
+                id: 0,
+                key: 0,
+            },
+            Node {
+                number: 7,
+                place: 401,
+                id: 0,
+                key: 0,
+            },
+        ],
+    },
+    Case {
+        base: Base {
+            number: 268_435_430,
+            line: 300_000_000,
+        },
+        head: 1_199_999_997,
+        nodes: &[
+            Node {
+                number: 268_435_431,
+                place: 1_200_000_009,
+                id: 0,
+                key: 0,
+            },
+            Node {
+                number: 268_435_430,
+                place: 1_200_000_001,
+                id: 0,
+                key: 0,
+            },
+        ],
+    },
+];
+
+/// Sixteen heads, of which the bucket's is this place, below the line.
+fn heads_of(alloc: Global, head: u64, line: u64) -> Result<Numbers64, AllocError>
+    requires { head < line * 4 }
+    ensures { IfOk result (AreOlder line 16) }
+{
+    let mut heads = Numbers64::new(alloc);
+    for bucket in 0..16_u32 {
+        heads.push(head_of(bucket, head))?;
+    }
+    Ok(heads)
+}
+
+/// The head of a bucket: this place, or none.
+fn head_of(bucket: u32, head: u64) -> u64
+    ensures { result ≤ head }
+{
+    if bucket == BUCKET { head } else { 0 }
+}
+
+/// Stores the payloads. Their numbers.
+fn stored(alloc: Global, log: &Log, pass: &mut Pass) -> Result<[u32; 2], IngestRefusal>
+    requires { IsOutOf log.now pass.old }
+    ensures out { IsOutOf log.now pass.new }
+    ensures alone { IsAlone (view pass.old) → IsAlone (view pass.new) }
+{
+    let mut defs = Defs::new(alloc);
+    let first = store(alloc, log, pass, &mut defs, PAYLOADS[0].as_bytes());
+    let second = store(alloc, log, pass, &mut defs, PAYLOADS[1].as_bytes());
+    drop(defs);
+    Ok([first?, second?])
+}
+
+/// Asserts that the entries are those of lane 1 with the payloads.
+fn expect_entries<R: Abort>(rt: &R, alloc: Global, entries: &Entries) -> Result<(), Fail> {
+    expect(rt, "entries", &entries.len(), &PAYLOADS.len());
+    for (number, payload) in PAYLOADS.iter().enumerate() {
+        let want = entry_of(1, Form::Json, Text::copy_of(alloc, *payload)?);
+        let same = is_entry(entries, number as u32, &want);
+        drop(want);
+        expect(rt, "the same entry", &same, &true);
+    }
+    Ok(())
+}
+
+/// The log of a case, and its control pass.
+fn opened(alloc: Global, case: &Case) -> Result<(Log, Pass), Fail>
+    ensures out { IfOk result (λ r. IsOutOf r.0 r.1) }
+    ensures alone { IfOk result (λ r. IsAlone (view r.1)) }
+{
+    let Base { number, line } = case.base;
+    if number > 268_435_439 || line > 68_719_176_736 || case.head >= line * 4 {
+        return Err(Fail::new("no base"));
+    }
+    let heads = heads_of(alloc, case.head, line)?;
+    let (first, defs) = defined(alloc, ONE_PAGE, SOURCES)?;
+    drop(defs);
+    let Start {
+        base: _,
+        heads: _,
+        catalog,
+        version: _,
+    } = first;
+    let start = Start {
+        base: case.base,
+        heads,
+        catalog,
+        version: VERSION,
+    };
+    let opened = open_log(alloc, ONE_PAGE, &start);
+    drop(start);
+    Ok(opened?)
+}
+
+/// Asserts what a walk over all settled numbers gives, and where the chain goes on below the base.
+fn expect_walk<R: Abort>(
+    rt: &R,
+    alloc: Global,
+    log: &Log,
+    pass: &mut Pass,
+    case: &Case,
+) -> Result<(), Fail>
+    requires pass { IsPassOf log.now pass.old }
+    requires alone { IsAlone (view pass.old) }
+    ensures pass { IsPassOf log.now pass.new }
+    ensures alone { IsAlone (view pass.new) }
+{
+    let to = settle(log, pass).settled;
+    expect_nodes(rt, alloc, log, pass, (base(log).number, to), case.nodes)?;
+    expect(rt, "the rest", &walk_rest(log, pass), &case.head);
+    Ok(())
+}
+
+/// Asserts the numbers, the walk and the closed log of one case.
+fn expect_case<R: Abort>(rt: &R, alloc: Global, case: &Case) -> Result<(), Fail> {
+    let (log, mut main) = opened(alloc, case)?;
+    let version = enter(&log, &mut main);
+    leave(&log, &mut main);
+    expect(rt, "the version", &version, &VERSION);
+    let first = case.base.number;
+    let numbers = stored(alloc, &log, &mut main);
+    expect(rt, "numbers", &numbers, &Ok([first, first.saturating_add(1)]));
+    expect_walk(rt, alloc, &log, &mut main, case)?;
+    let entries = closed(alloc, log, main)?;
+    let done = expect_entries(rt, alloc, &entries);
+    drop(entries);
+    done
+}
+
+#[test]
+fn logs_behind_older_records(rt: HostRuntime) -> Result<(), Fail> {
+    for case in CASES {
+        expect_case(&rt, rt.alloc(), case)?;
+    }
+    Ok(())
+}

@@ -1,0 +1,160 @@
+//! The definitions with which a log begins: the words of their rows, and what a pass reads of them.
+
+ghost use Rattle.std.specs.Prelude.{◌≡◌, ◌<◌, ◌≤◌, IfOk, length};
+ghost use Rattle.fish_epoch.specs.Definitions.{IsUnread};
+ghost use Rattle.fish_rule.specs.Passes.{IsPassOf, view};
+ghost use Rattle.fish_rule.specs.Table.{first_view};
+
+use crate::expecting::{expect, expect_text};
+use crate::openings::{ONE_PAGE, canonical, defined_log, name_of};
+use fish_catalog::Catalog;
+use fish_epoch::{Defs, enter, leave};
+use fish_lang::print_def;
+use fish_psf::ActiveDef;
+use fish_rule::{Log, Pass, Start, load_opened, load_row, open_log};
+use std::alloc::Global;
+use std::process::Abort;
+use std::test::Fail;
+
+/// A place in the row of `kind`, which is `take type`, and its word.
+const ROW: &[(u64, u64)] = &[
+    // 4 bytes of a name, 9 of a text, and that the row is active
+    (2, 0x1_0904),
+    // kind
+    (3, 0x646e_696b),
+    (4, 0),
+    // take typ, and e
+    (7, 0x7079_7420_656b_6174),
+    (8, 0x65),
+];
+
+/// A catalogue with one row, by its name and its source. Its id is 0.
+pub(crate) fn one_row(alloc: Global, name: &str, source: &str) -> Result<Catalog, Fail>
+    ensures { IfOk result (λ catalog. 0 < length catalog) }
+{
+    let name = name_of(alloc, name)?;
+    let text = canonical(alloc, source)?;
+    let mut catalog = Catalog::new(alloc);
+    if catalog.add(&name, &text) == Ok(0) {
+        Ok(catalog)
+    } else {
+        drop(catalog);
+        Err(Fail::new("another id"))
+    }
+}
+
+/// Asserts words of the row with id 0.
+fn expect_row<R: Abort>(rt: &R, log: &Log, pass: &mut Pass)
+    requires pass { IsPassOf log.now pass.old }
+    requires row { 0 < length (view pass.old).about.rows.value }
+{
+    for &(place, want) in ROW {
+        let found = first_row_word(log, pass, place);
+        expect(rt, "a word", &found, &Some(want));
+    }
+}
+
+/// A word of the row with id 0, or none where its place isn't behind the boundaries.
+fn first_row_word(log: &Log, pass: &mut Pass, place: u64) -> Option<u64>
+    requires pass { IsPassOf log.now pass.old }
+    requires row { 0 < length (view pass.old).about.rows.value }
+    ensures pass { IsPassOf log.now pass.new }
+    ensures row { 0 < length (view pass.new).about.rows.value }
+{
+    if place < 2 || place >= 39 {
+        return None;
+    }
+    Some(load_row(log, pass, 0, place))
+}
+
+#[test]
+fn a_log_has_the_words_of_its_catalog(rt: HostRuntime) -> Result<(), Fail> {
+    let alloc = rt.alloc();
+    let start = Start::first(alloc, ONE_PAGE, one_row(alloc, "kind", "take type")?)?;
+    let opened = open_log(alloc, ONE_PAGE, &start);
+    drop(start);
+    let (log, mut main) = opened?;
+    let rows = load_opened(&log, &mut main);
+    expect(&rt, "rows", &rows, &1);
+    expect_row(&rt, &log, &mut main);
+    drop((log, main));
+    Ok(())
+}
+
+/// Definitions as their canonical texts, by id.
+const TEXTS: &[&str] = &["take type", "bucket n by 10", "flag when a = 1"];
+
+/// Asserts the id and the text of a definition.
+fn expect_def<R: Abort>(
+    rt: &R,
+    alloc: Global,
+    active: &ActiveDef,
+    id: usize,
+    want: &str,
+) -> Result<(), Fail> {
+    expect(rt, "the id", &usize::from(active.id), &id);
+    let text = print_def(alloc, &active.def)?;
+    expect_text(rt, "the text", text.as_str(), want);
+    Ok(())
+}
+
+/// Asserts that definitions are those with these texts.
+fn expect_defs<R: Abort>(
+    rt: &R,
+    alloc: Global,
+    active: &[ActiveDef],
+    texts: &[&str],
+) -> Result<(), Fail> {
+    expect(rt, "definitions", &active.len(), &texts.len());
+    for (id, active) in active.iter().enumerate() {
+        if id < texts.len() {
+            expect_def(rt, alloc, active, id, texts[id])?;
+        }
+    }
+    Ok(())
+}
+
+/// Asserts that the active definitions are those with these texts, at a version.
+pub(crate) fn expect_active<R: Abort>(
+    rt: &R,
+    alloc: Global,
+    defs: &Defs,
+    version: u16,
+    texts: &[&str],
+) -> Result<(), Fail> {
+    expect(rt, "the version", &defs.version(), &version);
+    expect_defs(rt, alloc, defs.active(), texts)
+}
+
+/// Asserts which definitions a pass reads at version 0, and which a second time, when they are those
+/// of this version already.
+fn expect_read<R: Abort>(
+    rt: &R,
+    alloc: Global,
+    log: &Log,
+    main: &mut Pass,
+    defs: &mut Defs,
+) -> Result<(), Fail>
+    requires pass { IsPassOf log.now main.old }
+    requires first { view main.old ≡ first_view log.now.key }
+    requires defs { IsUnread defs.old.known }
+{
+    expect_active(rt, alloc, defs, 0, &[])?;
+    let version = enter(log, main);
+    defs.refresh(log, main, version)?;
+    expect_active(rt, alloc, defs, 0, TEXTS)?;
+    defs.refresh(log, main, version)?;
+    expect_active(rt, alloc, defs, 0, TEXTS)?;
+    leave(log, main);
+    Ok(())
+}
+
+#[test]
+fn the_definitions_of_version_0(rt: HostRuntime) -> Result<(), Fail> {
+    let alloc = rt.alloc();
+    let (log, mut main) = defined_log(alloc, TEXTS)?;
+    let mut defs = Defs::new(alloc);
+    let done = expect_read(&rt, alloc, &log, &mut main, &mut defs);
+    drop((log, main, defs));
+    done
+}

@@ -1,0 +1,182 @@
+//! Entries as they are read back: by number while a log is open, and of the closed log.
+
+ghost use Rattle.std.specs.Prelude.{◌≡◌, ◌<◌, []};
+ghost use Rattle.fish_rule.specs.Passes.{IsPassOf};
+ghost use Rattle.tests_log.specs.Lanes.{IsOutOf};
+
+use crate::bodies::{object_of, store_lines};
+use crate::expecting::expect;
+use crate::lanes::{split_lane, store_as, take_back};
+use crate::openings::{TWO_PAGES, closed, defined_log, empty_log};
+use fish_catalog::{Entries, Entry};
+use fish_epoch::Defs;
+use fish_psf::Steps;
+use fish_rule::{Base, Log, Pass, base, lane};
+use fish_value::{Form, Text};
+use fish_walk::{Look, count_now, look, read_entry};
+use std::alloc::{AllocError, Global};
+use std::marker::Brand;
+use std::process::Abort;
+use std::sync::ledger::{Blank, Ledger};
+use std::test::Fail;
+
+/// The lines claimed one after the other, and what is found at each number. The fourth claim crosses
+/// the end of a page.
+const LINES: &[(u64, Look)] = &[
+    (1, Look::Stored),
+    (16_383, Look::Stored),
+    (16_383, Look::Stored),
+    (19, Look::Void),
+    (2, Look::Stored),
+];
+
+/// What is found at a number, where a record there is the entry that is wanted.
+fn found_at<L: Ledger>(
+    alloc: Global,
+    log: &Log,
+    pass: &mut Pass,
+    number: u32,
+    want: &Entry,
+    loads: &mut Steps<L>,
+) -> Result<Look, Fail>
+    requires { IsPassOf log.now pass.old }
+    ensures { IsPassOf log.now pass.new }
+{
+    let count = count_now(log, pass);
+    if number >= count || number < base(log).number || lane(pass) < 1 {
+        return Err(Fail::new("no such number"));
+    }
+    let found = look(log, pass, number);
+    if let Look::Stored = found {
+        let entry = read_entry(alloc, log, pass, number, loads)?;
+        let same = entry.is(want);
+        drop(entry);
+        if !same {
+            return Err(Fail::new("another entry"));
+        }
+    }
+    Ok(found)
+}
+
+/// The same with a counter of a blank.
+fn found_with<L: Ledger>(
+    alloc: Global,
+    blank: Blank,
+    log: &Log,
+    pass: &mut Pass,
+    number: u32,
+    want: &Entry,
+) -> Result<Look, Fail>
+    requires name { blank.name ≡ L.name }
+    requires parts { blank.parts ≡ L.parts }
+    requires some { 0 < blank.parts }
+    requires pass { IsPassOf log.now pass.old }
+    ensures { IsPassOf log.now pass.new }
+{
+    let mut loads = Steps::<L>::new(blank);
+    found_at(alloc, log, pass, number, want, &mut loads)
+}
+
+/// The entry of a lane with a payload in a form.
+pub(crate) fn entry_of(lane: u8, form: Form, payload: Text) -> Entry {
+    Entry::Stored {
+        lane,
+        form,
+        payload,
+    }
+}
+
+/// Stores records, and asserts what is found at each number.
+fn expect_found<R: Abort>(rt: &R, alloc: Global, log: &Log, pass: &mut Pass) -> Result<(), Fail>
+    requires pass { IsPassOf log.now pass.old }
+    requires rows { log.now.key.rows.value ≡ [] }
+    ensures { IsPassOf log.now pass.new }
+{
+    for &(lines, _) in LINES {
+        store_lines(alloc, log, pass, lines)?;
+    }
+    for (number, &(lines, want)) in LINES.iter().enumerate() {
+        let entry = entry_of(1, Form::Json, object_of(alloc, lines)?);
+        let blank = Blank::new(1);
+        let found = found_with::<Brand>(alloc, blank, log, pass, number as u32, &entry);
+        drop(entry);
+        expect(rt, "a number", &found?, &want);
+    }
+    Ok(())
+}
+
+#[test]
+fn entries_are_read_back(rt: HostRuntime) -> Result<(), Fail> {
+    let first = Base { number: 0, line: 0 };
+    let (log, mut pass) = empty_log(rt.alloc(), TWO_PAGES, first)?;
+    let done = expect_found(&rt, rt.alloc(), &log, &mut pass);
+    drop((log, pass));
+    done
+}
+
+/// Two payloads that one pass stores in a row, each in its form.
+const JSON: (Form, &str) = (Form::Json, "{\"type\":\"Push\"}");
+
+const CSV: (Form, &str) = (Form::Csv, "Push,12");
+
+/// The lane that stores them.
+const LANE: u8 = 3;
+
+/// A lane stores both payloads. Their numbers.
+fn both_stored(alloc: Global, log: &Log, pass: &mut Pass) -> Result<(u32, u32), Fail>
+    requires { IsOutOf log.now pass.old }
+    ensures { IsOutOf log.now pass.new }
+{
+    let mut defs = Defs::new(alloc);
+    let first = store_as(alloc, log, pass, &mut defs, JSON.0, JSON.1.as_bytes());
+    let second = store_as(alloc, log, pass, &mut defs, CSV.0, CSV.1.as_bytes());
+    drop(defs);
+    match (first, second) {
+        (Ok(first), Ok(second)) => Ok((first, second)),
+        _ => Err(Fail::new("refused")),
+    }
+}
+
+/// A log in which a lane stored both payloads, as it is closed, and their numbers.
+fn closed_behind_both(alloc: Global) -> Result<(Entries, (u32, u32)), Fail> {
+    let (log, mut main) = defined_log(alloc, &["take type", "take $1"])?;
+    let mut other = split_lane(&log, &mut main, LANE);
+    let numbers = both_stored(alloc, &log, &mut other)?;
+    take_back(&log, &mut main, other, LANE)?;
+    Ok((closed(alloc, log, main)?, numbers))
+}
+
+/// Whether the entry at a number is this one.
+pub(crate) fn is_entry(entries: &Entries, number: u32, want: &Entry) -> bool {
+    match entries.as_slice().get(number as usize) {
+        Some(entry) => entry.is(want),
+        None => false,
+    }
+}
+
+/// Whether the entry at a number is of the lane, with this payload in its form.
+fn is_of_lane(
+    alloc: Global,
+    entries: &Entries,
+    number: u32,
+    stored: (Form, &str),
+) -> Result<bool, AllocError> {
+    let (form, payload) = stored;
+    let want = entry_of(LANE, form, Text::copy_of(alloc, payload)?);
+    let same = is_entry(entries, number, &want);
+    drop(want);
+    Ok(same)
+}
+
+#[test]
+fn what_was_ingested_stands_in_the_closed_log(rt: HostRuntime) -> Result<(), Fail> {
+    let alloc = rt.alloc();
+    let (entries, (first, second)) = closed_behind_both(alloc)?;
+    let json = is_of_lane(alloc, &entries, first, JSON);
+    let csv = is_of_lane(alloc, &entries, second, CSV);
+    drop(entries);
+    expect(&rt, "ascends", &(first < second), &true);
+    expect(&rt, "the first entry", &json?, &true);
+    expect(&rt, "the second entry", &csv?, &true);
+    Ok(())
+}

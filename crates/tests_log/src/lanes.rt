@@ -1,0 +1,79 @@
+//! Passes of lanes that store payloads.
+
+ghost use Rattle.std.specs.Prelude.{◌≡◌, ◌≤◌, IfOk};
+ghost use Rattle.fish_ingest.specs.Starting.{CanIngest};
+ghost use Rattle.fish_rule.specs.Passes.{IsPassOf, view};
+ghost use Rattle.fish_rule.specs.Seating.{CanSplit, split_left, without};
+ghost use Rattle.fish_rule.specs.Views.{Among};
+ghost use Rattle.tests_log.specs.Lanes.{IsOutOf};
+
+use fish_epoch::Defs;
+use fish_ingest::{IngestRefusal, ingest};
+use fish_rule::{Log, Pass, in_flight, join_pass, lane as lane_of, split_pass};
+use fish_value::Form;
+use std::alloc::Global;
+use std::test::Fail;
+
+/// The pass of a lane, which the control pass gives out.
+pub(crate) fn split_lane(log: &Log, main: &mut Pass, number: u8) -> Pass
+    requires pass { IsPassOf log.now main.old }
+    requires can { CanSplit (view main.old) number }
+    ensures pass { IsPassOf log.now main.new }
+    ensures left { view main.new ≡ split_left number (view main.old) }
+    ensures out { IsOutOf log.now result }
+{
+    split_pass(log, main, number)
+}
+
+/// Stores a payload in a form. Its number, or why it was not stored.
+pub(crate) fn store_as(
+    alloc: Global,
+    log: &Log,
+    pass: &mut Pass,
+    defs: &mut Defs,
+    form: Form,
+    payload: &[u8],
+) -> Result<u32, IngestRefusal>
+    requires { CanIngest log.now pass.old defs.old }
+    ensures ready { CanIngest log.now pass.new defs.new }
+    ensures lane { (view pass.new).lane ≡ (view pass.old).lane }
+    ensures out { (view pass.new).out ≡ (view pass.old).out }
+    ensures rows { (view pass.new).rows ≡ (view pass.old).rows }
+{
+    ingest(alloc, log, pass, defs, form, payload)
+}
+
+/// Stores a payload in JSON. Its number, or why it was not stored.
+pub(crate) fn store(
+    alloc: Global,
+    log: &Log,
+    pass: &mut Pass,
+    defs: &mut Defs,
+    payload: &[u8],
+) -> Result<u32, IngestRefusal>
+    requires { CanIngest log.now pass.old defs.old }
+    ensures ready { CanIngest log.now pass.new defs.new }
+    ensures lane { (view pass.new).lane ≡ (view pass.old).lane }
+    ensures out { (view pass.new).out ≡ (view pass.old).out }
+    ensures rows { (view pass.new).rows ≡ (view pass.old).rows }
+{
+    store_as(alloc, log, pass, defs, Form::Json, payload)
+}
+
+/// The control pass takes back a lane.
+pub(crate) fn take_back(log: &Log, main: &mut Pass, other: Pass, lane: u8) -> Result<(), Fail>
+    requires main { IsPassOf log.now main.old }
+    requires other { IsOutOf log.now other }
+    requires control { (view main.old).lane ≡ 1 }
+    requires out { Among lane (view main.old).out }
+    requires above { 2 ≤ lane }
+    ensures pass { IsPassOf log.now main.new }
+    ensures kept { ((view main.new).lane ≡ 1) × ((view main.new).flight ≡ (view main.old).flight) }
+    ensures left { IfOk result (λ _. (view main.new).out ≡ without lane (view main.old).out) }
+{
+    if lane_of(&other) != lane || in_flight(&other).is_some() {
+        return Err(Fail::new("not the lane, or a record in flight"));
+    }
+    join_pass(log, main, other);
+    Ok(())
+}

@@ -1,0 +1,40 @@
+//! Tests of the log over the public calls of its crates: what no clause says, with expected values
+//! that are worked out by hand from the rules or by another program.
+#![tactic(auto)]
+
+#[cfg(test)]
+mod bases;
+#[cfg(test)]
+mod bodies;
+#[cfg(test)]
+mod chains;
+#[cfg(test)]
+mod claims;
+#[cfg(test)]
+mod definitions;
+#[cfg(test)]
+mod entries;
+#[cfg(test)]
+mod epochs;
+#[cfg(test)]
+mod expecting;
+#[cfg(test)]
+mod flights;
+#[cfg(test)]
+mod lanes;
+#[cfg(test)]
+mod linked;
+#[cfg(test)]
+mod nodes;
+#[cfg(test)]
+mod openings;
+#[cfg(test)]
+mod operations;
+#[cfg(test)]
+mod payloads;
+#[cfg(test)]
+mod refusals;
+#[cfg(test)]
+mod settling;
+#[cfg(test)]
+mod threads;

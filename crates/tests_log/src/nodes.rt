@@ -1,0 +1,89 @@
+//! The key entries that a walk down the chain of a bucket gives.
+
+ghost use Rattle.std.specs.Prelude.{◌≡◌, ◌<◌, OnOk};
+ghost use Rattle.fish_rule.specs.Passes.{IsPassOf, view, walk_of};
+ghost use Rattle.fish_rule.specs.Reading.{IsAlone};
+ghost use Rattle.tests_log.specs.Walks.{HasWalked};
+
+use crate::expecting::expect;
+use fish_chain::{Node, walk_next, walk_start};
+use fish_psf::Steps;
+use fish_rule::{Log, Pass, buckets, lane};
+use fish_walk::settle;
+use std::alloc::Global;
+use std::marker::Brand;
+use std::process::Abort;
+use std::sync::ledger::{Blank, Ledger};
+use std::test::Fail;
+
+/// The bucket of true under id 0 among sixteen: FNV-1a of the bytes 0 0 1 leaves 4.
+pub(crate) const BUCKET: u32 = 4;
+
+/// Those of the records with numbers from the first on and below the second, newest first, with a
+/// counter of a blank.
+fn walked<L: Ledger>(
+    alloc: Global,
+    blank: Blank,
+    log: &Log,
+    pass: &mut Pass,
+    bucket: u32,
+    range: (u32, u32),
+) -> Result<Vec<Node>, Fail>
+    requires name { blank.name ≡ L.name }
+    requires parts { blank.parts ≡ L.parts }
+    requires some { 0 < blank.parts }
+    requires pass { IsPassOf log.now pass.old }
+    ensures pass { IsPassOf log.now pass.new }
+    ensures alone { IsAlone (view pass.old) → IsAlone (view pass.new) }
+    ensures walked { OnOk result (HasWalked (view pass.new) (walk_of pass.new) range.0) }
+{
+    if lane(pass) < 1 || u64::from(bucket) >= buckets(log) {
+        return Err(Fail::new("no lane, or no bucket"));
+    }
+    let (from, to) = range;
+    if to > settle(log, pass).settled {
+        return Err(Fail::new("not settled"));
+    }
+    let mut loads = Steps::<L>::new(blank);
+    let mut nodes = Vec::new(alloc);
+    walk_start(log, pass, bucket, from, to, &mut loads);
+    while let Some(node) = walk_next(log, pass, &mut loads) {
+        nodes.push(node)?;
+    }
+    Ok(nodes)
+}
+
+/// The same with a counter of its own.
+pub(crate) fn nodes_of(
+    alloc: Global,
+    log: &Log,
+    pass: &mut Pass,
+    bucket: u32,
+    range: (u32, u32),
+) -> Result<Vec<Node>, Fail>
+    requires pass { IsPassOf log.now pass.old }
+    ensures pass { IsPassOf log.now pass.new }
+    ensures alone { IsAlone (view pass.old) → IsAlone (view pass.new) }
+    ensures walked { OnOk result (HasWalked (view pass.new) (walk_of pass.new) range.0) }
+{
+    walked::<Brand>(alloc, Blank::new(1), log, pass, bucket, range)
+}
+
+/// Asserts what a walk down the chain of that bucket gives.
+pub(crate) fn expect_nodes<R: Abort>(
+    rt: &R,
+    alloc: Global,
+    log: &Log,
+    pass: &mut Pass,
+    range: (u32, u32),
+    want: &[Node],
+) -> Result<(), Fail>
+    requires pass { IsPassOf log.now pass.old }
+    ensures pass { IsPassOf log.now pass.new }
+    ensures alone { IsAlone (view pass.old) → IsAlone (view pass.new) }
+    ensures walked { OnOk result (HasWalked (view pass.new) (walk_of pass.new) range.0) }
+{
+    let nodes = nodes_of(alloc, log, pass, BUCKET, range)?;
+    expect(rt, "nodes", &nodes.as_slice(), &want);
+    Ok(())
+}

@@ -1,0 +1,141 @@
+//! How far the numbers are settled while a record is in flight, once it is published, and at the
+//! log's end.
+
+ghost use Rattle.std.specs.Prelude.{◌≡◌, []};
+ghost use Rattle.fish_rule.specs.Passes.{IsPassOf};
+
+use crate::bodies::{claim_words, publish_words, store_lines};
+use crate::expecting::expect;
+use crate::openings::{ONE_PAGE, TWO_PAGES, empty_log};
+use fish_rule::{Base, Log, Pass, lane, split_pass};
+use fish_walk::{Settled, settle};
+use std::alloc::Global;
+use std::test::Fail;
+
+/// Where both logs begin.
+const FIRST: Base = Base { number: 0, line: 0 };
+
+/// What a pass settles.
+fn settled_by(log: &Log, pass: &mut Pass) -> Result<Settled, Fail>
+    requires { IsPassOf log.now pass.old }
+    ensures { IsPassOf log.now pass.new }
+{
+    if lane(pass) < 1 {
+        return Err(Fail::new("no lane"));
+    }
+    Ok(settle(log, pass))
+}
+
+/// What one pass settles while another has a record of one line in flight, and what it settles
+/// once that is published. In between it stores one itself.
+fn settled_around(
+    alloc: Global,
+    log: &Log,
+    other: &mut Pass,
+    pass: &mut Pass,
+) -> Result<(Settled, Settled), Fail>
+    requires other { IsPassOf log.now other.old }
+    requires pass { IsPassOf log.now pass.old }
+    requires rows { log.now.key.rows.value ≡ [] }
+    ensures other { IsPassOf log.now other.new }
+    ensures pass { IsPassOf log.now pass.new }
+{
+    let (_, Some(words)) = claim_words(alloc, log, other, 1)? else {
+        return Err(Fail::new("no place"));
+    };
+    store_lines(alloc, log, pass, 1)?;
+    let before = settled_by(log, pass)?;
+    publish_words(log, other, words.as_slice());
+    Ok((before, settled_by(log, pass)?))
+}
+
+/// What two passes settle: the second at first, while the other has a record in flight and once that is
+/// published, and then the other.
+fn settled_by_two(
+    alloc: Global,
+    log: &Log,
+    main: &mut Pass,
+    second: &mut Pass,
+) -> Result<[Settled; 4], Fail>
+    requires main { IsPassOf log.now main.old }
+    requires second { IsPassOf log.now second.old }
+    requires rows { log.now.key.rows.value ≡ [] }
+{
+    let first = settled_by(log, second)?;
+    let (before, after) = settled_around(alloc, log, main, second)?;
+    let other = settled_by(log, main)?;
+    Ok([first, before, after, other])
+}
+
+const AROUND: [Settled; 4] = [
+    Settled {
+        settled: 0,
+        count: 0,
+    },
+    Settled {
+        settled: 0,
+        count: 2,
+    },
+    Settled {
+        settled: 2,
+        count: 2,
+    },
+    Settled {
+        settled: 2,
+        count: 2,
+    },
+];
+
+#[test]
+fn stops_at_a_record_in_flight(rt: HostRuntime) -> Result<(), Fail> {
+    let (log, mut main) = empty_log(rt.alloc(), ONE_PAGE, FIRST)?;
+    let mut second = split_pass(&log, &mut main, 2);
+    let found = settled_by_two(rt.alloc(), &log, &mut main, &mut second);
+    drop((log, main, second));
+    expect(&rt, "settled", &found?, &AROUND);
+    Ok(())
+}
+
+/// The lines claimed one after the other in a log of two pages: three records, a void, two records,
+/// and a claim past the log's end.
+const TO_THE_END: &[u64] = &[1, 16_383, 16_383, 19, 2, 16_383, 16_383];
+
+/// What a pass settles once it has claimed past the log's end, and another once it has too.
+fn settled_at_the_end(
+    alloc: Global,
+    log: &Log,
+    main: &mut Pass,
+    second: &mut Pass,
+) -> Result<[Settled; 2], Fail>
+    requires main { IsPassOf log.now main.old }
+    requires second { IsPassOf log.now second.old }
+    requires rows { log.now.key.rows.value ≡ [] }
+{
+    for &lines in TO_THE_END {
+        store_lines(alloc, log, main, lines)?;
+    }
+    let one_mark = settled_by(log, main)?;
+    store_lines(alloc, log, second, 1)?;
+    Ok([one_mark, settled_by(log, second)?])
+}
+
+const AT_THE_END: [Settled; 2] = [
+    Settled {
+        settled: 6,
+        count: 7,
+    },
+    Settled {
+        settled: 6,
+        count: 8,
+    },
+];
+
+#[test]
+fn stops_at_the_first_mark(rt: HostRuntime) -> Result<(), Fail> {
+    let (log, mut main) = empty_log(rt.alloc(), TWO_PAGES, FIRST)?;
+    let mut second = split_pass(&log, &mut main, 2);
+    let found = settled_at_the_end(rt.alloc(), &log, &mut main, &mut second);
+    drop((log, main, second));
+    expect(&rt, "settled", &found?, &AT_THE_END);
+    Ok(())
+}
