@@ -7,8 +7,6 @@ mod clamp;
 mod entry;
 mod listed;
 mod row;
-#[cfg(test)]
-mod tests;
 mod words;
 
 pub use catalog::{CatRefusal, Catalog, MAX_ACTIVE, MAX_ROWS};

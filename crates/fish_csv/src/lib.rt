@@ -11,8 +11,6 @@ mod file;
 mod machine;
 mod reader;
 mod record;
-#[cfg(test)]
-mod tests;
 mod text;
 mod write;
 

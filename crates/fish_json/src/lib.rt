@@ -9,8 +9,6 @@ mod number;
 mod reader;
 mod record;
 mod row;
-#[cfg(test)]
-mod tests;
 
 pub use reader::JsonReader;
 pub use record::{JsonRecord, MAX_PAYLOAD, RecordRefusal};

@@ -17,6 +17,3 @@ pub use definition::{Cond, Def, Op};
 pub use law::{has_one_outcome, has_one_reading, reads_back};
 pub use parse::{LangRefusal, MAX_CANONICAL, MAX_SOURCE, parse_def};
 pub use print::print_def;
-
-#[cfg(test)]
-mod tests;

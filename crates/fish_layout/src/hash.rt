@@ -60,38 +60,3 @@ fn step(hash: u64, byte: u8) -> u64
 {
     (hash ^ u64::from(byte)).wrapping_mul(PRIME)
 }
-
-#[cfg(test)]
-use fish_value::Text;
-#[cfg(test)]
-use std::test::Fail;
-
-/// The vectors that the authors of FNV-1a give, and keys that another program hashed.
-#[test]
-fn hashes(rt: HostRuntime) -> Result<(), Fail> {
-    let alloc = rt.alloc();
-    assert_eq!(rt; mix(START, b""), 0xcbf2_9ce4_8422_2325);
-    assert_eq!(rt; mix(START, b"a"), 0xaf63_dc4c_8601_ec8c);
-    assert_eq!(rt; mix(START, b"foobar"), 0x8594_4171_f739_67e8);
-    let cases = [
-        (
-            0,
-            Value::Text(Text::copy_of(alloc, "Push")?),
-            0x4cb5_b66a_d1f4_1df5,
-        ),
-        (
-            0,
-            Value::Text(Text::copy_of(alloc, "")?),
-            0x0832_8807_b4eb_6fed,
-        ),
-        (1, Value::Int(7), 0x3233_1fbf_92b7_8323),
-        (0x102, Value::Int(-1), 0x238a_59cd_8ba3_e884),
-        (255, Value::Bool(true), 0xf921_0a1b_e416_4051),
-        (255, Value::Bool(false), 0xf921_091b_e416_3e9e),
-    ];
-    for (id, value, want) in &cases {
-        assert_eq!(rt; key_hash(*id, value), *want, "{want:x}");
-    }
-    assert_eq!(rt; bucket_of(0x4cb5_b66a_d1f4_1df5, 65_536), 0x1df5);
-    Ok(())
-}

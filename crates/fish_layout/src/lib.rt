@@ -13,8 +13,6 @@ mod outline;
 mod parts;
 mod proper;
 mod read;
-#[cfg(test)]
-mod tests;
 mod word;
 mod write;
 

@@ -200,7 +200,11 @@ fn push_bytes(words: &mut Vec<u64>, bytes: &[u8]) -> Result<(), AllocError>
     ensures { OnOk result (words.new.items ≡ words.old.items ++ words_of_bytes bytes.now) }
 {
     let (chunks, rest) = bytes.as_chunks::<8>();
-    words.extend(chunks.iter().map(|chunk: &[u8; 8]| u64::from_le_bytes(*chunk)))?;
+    words.extend(
+        chunks
+            .iter()
+            .map(|chunk: &[u8; 8]| u64::from_le_bytes(*chunk)),
+    )?;
     if rest.is_empty() {
         return Ok(());
     }

@@ -10,8 +10,6 @@ mod line;
 mod lines;
 mod open_line;
 mod splitter;
-#[cfg(test)]
-mod tests;
 
 pub use file::records;
 pub use found::{Records, RecordsRefusal};

@@ -39,6 +39,13 @@ impl<R: Files<File = File> + Clone + Drop + Send> FileHost<R> {
     {
         FileHost { rt, faults: 0 }
     }
+
+    /// How often a call or a feed that came back has failed, up to the largest number of 64 bits.
+    pub fn faults(&self) -> u64
+        ensures { result ≡ ⟦<FileHost<R> as Host>⟧.faults self.now }
+    {
+        self.faults
+    }
 }
 
 impl<R: Files<File = File> + Clone + Drop + Send> Host for FileHost<R> {
@@ -88,35 +95,4 @@ fn read_some(file: &mut File, buf: &mut [u8]) -> Option<usize>
         }
     }
     None
-}
-
-#[cfg(test)]
-mod tests {
-    use super::*;
-    use std::test::Fail;
-    use std::{env, process};
-
-    #[test]
-    fn reads(rt: HostRuntime) -> Result<(), Fail> {
-        let alloc = rt.alloc();
-        let folder = env::temp_dir(&rt)?;
-        let id = process::id(rt.process());
-        let path = format!(in alloc; "{}/fish_outside_{id}", folder.as_path().display())?;
-        fs::write(&rt, path.as_str(), "abc")?;
-        let name = Text::copy_of(alloc, path.as_str())?;
-        let mut host = FileHost::new(rt);
-        let mut feed = host.feed(alloc, &name)?;
-        let mut buf = [0; 8];
-        assert_eq!(rt; feed.read(&mut buf), Ok(3));
-        assert_eq!(rt; buf[..3], b"abc"[..]);
-        assert_eq!(rt; feed.read(&mut buf), Ok(0));
-        host.done(feed);
-        fs::remove_file(&rt, path.as_str())?;
-        match host.feed(alloc, &name) {
-            Ok(feed) => host.done(feed),
-            Err(refusal) => assert_eq!(rt; refusal, FeedRefusal::Failed),
-        }
-        assert_eq!(rt; host.faults, 1);
-        Ok(())
-    }
 }

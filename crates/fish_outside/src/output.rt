@@ -23,6 +23,13 @@ impl<P: Print + Drop> OutSink<P> {
     {
         OutSink { rt, faults: 0 }
     }
+
+    /// How often a write has failed, up to the largest number of 64 bits.
+    pub fn faults(&self) -> u64
+        ensures { result ≡ ⟦<OutSink<P> as Sink>⟧.faults self.now }
+    {
+        self.faults
+    }
 }
 
 impl<P: Print + Drop> Sink for OutSink<P> {
@@ -52,61 +59,4 @@ fn write_some(rt: &impl Print, piece: &[u8]) -> Option<usize>
         }
     }
     None
-}
-
-#[cfg(test)]
-mod tests {
-    use super::*;
-    use std::cell::Cell;
-    use std::fmt::Display;
-    use std::io;
-    use std::test::Fail;
-
-    /// An output that signals interrupt so often before it takes one byte.
-    #[derive(Drop)]
-    struct Interrupted {
-        left: Cell<u32>,
-    }
-
-    impl Print for Interrupted {
-        fn print<D: Display + Drop>(&self, _value: D) -> io::Result<()> {
-            Ok(())
-        }
-
-        fn println<D: Display + Drop>(&self, _value: D) -> io::Result<()> {
-            Ok(())
-        }
-
-        fn write_all(&self, _bytes: &[u8]) -> io::Result<()> {
-            Ok(())
-        }
-
-        fn write_some(&self, bytes: &[u8]) -> io::Result<usize> {
-            let left = self.left.get();
-            if left > 0 {
-                self.left.set(left - 1);
-                return Err(io::Error::from(ErrorKind::Interrupted));
-            }
-            Ok(bytes.len().min(1))
-        }
-    }
-
-    #[test]
-    fn tries_again(rt: HostRuntime) {
-        // how often signals interrupt, what a write of two bytes answers, and the faults then
-        for (often, want, faults) in [(0, Ok(1), 0), (63, Ok(1), 0), (64, Err(Failed), 1)] {
-            let left = Cell::new(often);
-            let mut sink = OutSink::new(Interrupted { left });
-            assert_eq!(rt; sink.write(b"ab"), want, "{often}");
-            assert_eq!(rt; sink.faults, faults, "{often}");
-        }
-    }
-
-    #[test]
-    fn writes(rt: HostRuntime) -> Result<(), Fail> {
-        let mut sink = OutSink::new(rt);
-        assert_eq!(rt; crate::sink::write_whole(&mut sink, b"fish\n"), Ok(()));
-        assert_eq!(rt; sink.write(b""), Ok(0));
-        Ok(())
-    }
 }

@@ -92,34 +92,3 @@ impl Host for SureHost {
 
     fn done(&mut self, _feed: SureSource) {}
 }
-
-#[cfg(test)]
-mod tests {
-    use super::*;
-    use crate::memory::HostFile;
-    use fish_value::Numbers64;
-    use std::test::Fail;
-
-    #[test]
-    fn reads(rt: HostRuntime) -> Result<(), Fail> {
-        let alloc = rt.alloc();
-        let mut fails = Numbers64::new(alloc);
-        fails.push(0)?;
-        let mut files = HostFiles::new(alloc);
-        files.push(HostFile {
-            name: Text::copy_of(alloc, "a")?,
-            bytes: Bytes::copy_of(alloc, b"xyz")?,
-            fails,
-        })?;
-        let mut host = SureHost::new(files);
-        // a name, and what two reads with room for two bytes answer
-        for (name, first, second) in [("a", 2, 1), ("b", 0, 0)] {
-            let mut feed = host.feed(alloc, &Text::copy_of(alloc, name)?)?;
-            let mut buf = [0; 2];
-            assert_eq!(rt; feed.read(&mut buf), Ok(first), "{name}");
-            assert_eq!(rt; feed.read(&mut buf), Ok(second), "{name}");
-            host.done(feed);
-        }
-        Ok(())
-    }
-}

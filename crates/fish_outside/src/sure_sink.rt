@@ -70,26 +70,3 @@ impl Sink for SureSink {
         Ok(piece.len())
     }
 }
-
-#[cfg(test)]
-mod tests {
-    use super::*;
-    use std::test::Fail;
-
-    #[test]
-    fn writes(rt: HostRuntime) -> Result<(), Fail> {
-        let mut sink = SureSink::new(rt.alloc(), 4)?;
-        // a piece, and what is kept then
-        let cases = [
-            (b"abc".as_slice(), b"abc".as_slice()),
-            (b"".as_slice(), b"abc".as_slice()),
-            (b"def".as_slice(), b"abcd".as_slice()),
-            (b"g".as_slice(), b"abcd".as_slice()),
-        ];
-        for (piece, kept) in cases {
-            assert_eq!(rt; sink.write(piece), Ok(piece.len()));
-            assert_eq!(rt; sink.as_bytes(), kept);
-        }
-        Ok(())
-    }
-}

@@ -10,8 +10,6 @@ mod properties;
 mod reading;
 mod record;
 mod steps;
-#[cfg(test)]
-mod tests;
 mod value;
 
 pub use condition::holds;

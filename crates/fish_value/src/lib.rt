@@ -11,8 +11,6 @@ mod number;
 mod path;
 mod row;
 mod sequence;
-#[cfg(test)]
-mod tests;
 mod text;
 mod value;
 mod value_text;

@@ -1,0 +1,220 @@
+//! Lines with answers from outside: RFC 8259, and what `serde_json` 1.0 of Rust says of the rest.
+//! Each is read as a tree and over a tape.
+
+use crate::told::{expect, field_at, path_of};
+use fish_json::{JsonReader, JsonRecord, RecordRefusal};
+use fish_value::Path;
+use std::alloc::{AllocError, Global};
+use std::process::Abort;
+use std::test::Fail;
+
+const NO_JSON: &str = "no JSON in UTF-8";
+
+const NO_OBJECT: &str = "JSON, but no object";
+
+const TOO_LONG: &str = "a record has at most 524288 bytes";
+
+/// Lines, paths with a dot between the names, and what is wanted.
+const LINES: &[(&str, &str, &str)] = &[
+    // Paths.
+    ("{}", "a", "missing"),
+    ("{\"a\":{\"b\":null}}", "a", "other"),
+    ("{\"a\":{\"b\":null}}", "a.b", "null"),
+    ("{\"a\":{\"b\":null}}", "a.b.c", "missing"),
+    ("{\"a\":{\"b\":null}}", "a.c", "missing"),
+    ("{\"a\":{\"b\":null}}", "b", "missing"),
+    ("{\"a\":[{\"b\":1}]}", "a", "other"),
+    ("{\"a\":[{\"b\":1}]}", "a.b", "missing"),
+    ("{\"a\":[[],{}],\"b\":{\"c\":true}}", "b.c", "true"),
+    ("{\"ab\":1,\"\":2}", "", "int 2"),
+    ("{\"ab\":1,\"\":2}", "a", "missing"),
+    // Of two equal names the last counts, also where they are written in two ways.
+    ("{\"a\":1,\"b\":3,\"a\":2}", "a", "int 2"),
+    ("{\"a\":1,\"\\u0061\":null}", "a", "null"),
+    ("{\"a\":{\"b\":1},\"a\":{\"c\":2}}", "a.b", "missing"),
+    ("{\"a\":{\"b\":1},\"a\":{\"c\":2}}", "a.c", "int 2"),
+    // Numbers: those of 64 bits with a sign, then any double.
+    ("{\"a\":0}", "a", "int 0"),
+    ("{\"a\":-1}", "a", "int -1"),
+    (
+        "{\"a\":9223372036854775807}",
+        "a",
+        "int 9223372036854775807",
+    ),
+    ("{\"a\":9223372036854775808}", "a", "other"),
+    (
+        "{\"a\":-9223372036854775808}",
+        "a",
+        "int -9223372036854775808",
+    ),
+    ("{\"a\":-9223372036854775809}", "a", "other"),
+    ("{\"a\":18446744073709551615}", "a", "other"),
+    ("{\"a\":18446744073709551616}", "a", "other"),
+    ("{\"a\":-0}", "a", "other"),
+    ("{\"a\":1.0}", "a", "other"),
+    ("{\"a\":1e0}", "a", "other"),
+    ("{\"a\":1e308}", "a", "other"),
+    ("{\"a\":5e-324}", "a", "other"),
+    ("{\"a\":1e-999}", "a", "other"),
+    // IEEE 754: below halfway from the greatest double to 2^1024, and above it.
+    ("{\"a\":1.797693134862315807e308}", "a", "other"),
+    ("{\"a\":-1.797693134862315807e308}", "a", "other"),
+    ("{\"a\":1.7976931348623159e308}", "a", NO_JSON),
+    ("{\"a\":-1.7976931348623159e308}", "a", NO_JSON),
+    ("{\"a\":1,\"b\":[1e999]}", "a", NO_JSON),
+    ("{\"a\":01}", "a", NO_JSON),
+    ("{\"a\":-}", "a", NO_JSON),
+    ("{\"a\":1.}", "a", NO_JSON),
+    ("{\"a\":.5}", "a", NO_JSON),
+    ("{\"a\":1e}", "a", NO_JSON),
+    ("{\"a\":+1}", "a", NO_JSON),
+    // Texts.
+    ("{\"a\":\"\\u00e9\\n\\u0000\"}", "a", "text é\n\0"),
+    (
+        "{\"a\":\"\\\"\\\\\\/\\b\\f\\n\\r\\t\"}",
+        "a",
+        "text \"\\/\u{8}\u{c}\n\r\t",
+    ),
+    ("{\"a\":\"\\ud83d\\ude00\"}", "a", "text 😀"),
+    ("{\"a\":\"\\uD83D\\uDE00\"}", "a", "text 😀"),
+    ("{\"a\":\"\\ud83d\"}", "a", NO_JSON),
+    ("{\"a\":\"\\ud83d\\u0061\"}", "a", NO_JSON),
+    ("{\"a\":\"\\ude00\\ud83d\"}", "a", NO_JSON),
+    ("{\"a\":\"\\x61\"}", "a", NO_JSON),
+    ("{\"a\":\"\0\"}", "a", NO_JSON),
+    ("{\"a\":\"\t\"}", "a", NO_JSON),
+    // Blanks round the object, and what is more than an object or less.
+    (" \t\r\n{ \"a\" : false } \n", "a", "false"),
+    ("{\"a\":1}\0", "a", NO_JSON),
+    ("{\"a\":1}{}", "a", NO_JSON),
+    ("\u{feff}{\"a\":1}", "a", NO_JSON),
+    ("{\"a\":1,}", "a", NO_JSON),
+    ("{a:1}", "a", NO_JSON),
+    ("{\"a\":1", "a", NO_JSON),
+    ("", "a", NO_JSON),
+    (" ", "a", NO_JSON),
+    ("[{\"a\":1}]", "a", NO_OBJECT),
+    ("\"a\"", "a", NO_OBJECT),
+    ("1", "a", NO_OBJECT),
+    ("null", "a", NO_OBJECT),
+];
+
+/// What a line has at a path, or why it is refused, by the tree.
+fn in_record(alloc: Global, line: &[u8], path: &Path) -> Result<String, AllocError> {
+    match JsonRecord::read(alloc, line) {
+        Ok(record) => {
+            let told = field_at(alloc, &record, path);
+            drop(record);
+            told
+        }
+        Err(refusal) => refusal_text(alloc, refusal),
+    }
+}
+
+/// The same over the tape.
+fn in_row(
+    alloc: Global,
+    reader: &mut JsonReader,
+    line: &[u8],
+    path: &Path,
+) -> Result<String, AllocError> {
+    match reader.read(alloc, line) {
+        Ok(row) => {
+            let told = field_at(alloc, &row, path);
+            drop(row);
+            told
+        }
+        Err(refusal) => refusal_text(alloc, refusal),
+    }
+}
+
+fn refusal_text(alloc: Global, refusal: RecordRefusal) -> Result<String, AllocError> {
+    format!(in alloc; "{refusal}")
+}
+
+/// Expects what a line has at a path, by both readers.
+fn expect_field<R: Abort>(
+    rt: &R,
+    alloc: Global,
+    reader: &mut JsonReader,
+    line: &str,
+    names: &str,
+    want: &str,
+) -> Result<(), AllocError> {
+    let path = path_of(alloc, names)?;
+    let found = in_record(alloc, line.as_bytes(), &path)?;
+    expect(rt, found.as_str(), want, line);
+    let found = in_row(alloc, reader, line.as_bytes(), &path)?;
+    expect(rt, found.as_str(), want, line);
+    Ok(())
+}
+
+#[test]
+fn fields(rt: HostRuntime) -> Result<(), Fail> {
+    let mut reader = JsonReader::new(rt.alloc());
+    for &(line, names, want) in LINES {
+        expect_field(&rt, rt.alloc(), &mut reader, line, names, want)?;
+    }
+    Ok(())
+}
+
+/// Bytes that are no text: one that begins no character, a surrogate, a long form of `/`.
+const NO_TEXTS: &[&[u8]] = &[
+    b"{\"a\":\"\xff\"}",
+    b"{\"a\":\"\xed\xa0\x80\"}",
+    b"{\"a\":\"\xc0\xaf\"}",
+];
+
+/// What both readers tell of bytes that are no text.
+fn refused(alloc: Global, line: &[u8]) -> Result<(String, String), AllocError> {
+    let path = path_of(alloc, "a")?;
+    let mut reader = JsonReader::new(alloc);
+    let row = in_row(alloc, &mut reader, line, &path)?;
+    Ok((in_record(alloc, line, &path)?, row))
+}
+
+#[test]
+fn bytes_that_are_no_text(rt: HostRuntime) -> Result<(), Fail> {
+    for &line in NO_TEXTS {
+        let (record, row) = refused(rt.alloc(), line)?;
+        expect(&rt, record.as_str(), NO_JSON, "no text");
+        expect(&rt, row.as_str(), NO_JSON, "no text in a row");
+    }
+    Ok(())
+}
+
+/// Arrays in an object, bytes of the line with the blanks behind it, and what is wanted.
+const SIZES: &[(usize, usize, &str)] = &[
+    (125, 0, "other"),
+    (126, 0, "other"),
+    (127, 0, NO_JSON),
+    (1, 524_288, "other"),
+    (1, 524_289, TOO_LONG),
+];
+
+/// An object whose one member is that many arrays, each in the other, with blanks behind it.
+fn nested(alloc: Global, arrays: usize, len: usize) -> Result<String, AllocError> {
+    let mut line = String::new(alloc);
+    line.push_str("{\"a\":")?;
+    for _ in 0..arrays {
+        line.push('[')?;
+    }
+    for _ in 0..arrays {
+        line.push(']')?;
+    }
+    line.push('}')?;
+    for _ in line.len()..len {
+        line.push(' ')?;
+    }
+    Ok(line)
+}
+
+#[test]
+fn limits(rt: HostRuntime) -> Result<(), Fail> {
+    let mut reader = JsonReader::new(rt.alloc());
+    for &(arrays, len, want) in SIZES {
+        let line = nested(rt.alloc(), arrays, len)?;
+        expect_field(&rt, rt.alloc(), &mut reader, line.as_str(), "a", want)?;
+    }
+    Ok(())
+}

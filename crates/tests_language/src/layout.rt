@@ -1,0 +1,279 @@
+//! Records with words from outside: a worked example, and words that another program packed by the
+//! same table of bits.
+
+ghost use Rattle.std.specs.Prelude.{IfOk, IfSome};
+ghost use Rattle.fish_layout.specs.Body.{IsBody};
+ghost use Rattle.fish_layout.specs.declared.parts.BodyParts.{BodyParts};
+
+use crate::told::{expect, expect_number, expect_words, text_of};
+use fish_layout::{Body, BodyParts, KeyPart, body_of, read_body, read_payload, set_number};
+use std::alloc::{AllocError, Global};
+use std::test::Fail;
+
+/// One text as a key, and a payload of 21 bytes.
+const PUSH: &[u64] = &[
+    0x0000_5401_0804_0002,
+    0,
+    0,
+    18,
+    0x6873_7550,
+    0x3a22_6570_7974_227b,
+    0x222c_2268_7375_5022,
+    0x7d_313a_226e,
+];
+
+/// A key of each kind, the greatest fields, and three words of padding.
+const KINDS: &[u64] = &[
+    0x0e00_800d_0004,
+    5,
+    0x0fff_ffff,
+    4,
+    0,
+    0x10_7fff_ffff,
+    0x821,
+    0xffff_ffff_ffff_ffff,
+    0x2f_ffff_ffff,
+    0x480a,
+    0xffff_ffff_ffff_fe01,
+    0xa9_c3ff,
+    0x62_2c61,
+    0,
+    0,
+    0,
+];
+
+/// Neither a key nor a payload.
+const BARE: &[u64] = &[0x1000_0001, 0, 0, 0];
+
+const NO_WORDS: &[u64] = &[];
+
+/// The words of records, their parts as a text, and what `read_payload` reads of them.
+const BODIES: &[(&[u64], &str, &str)] = &[
+    (
+        PUSH,
+        "Json 1 1 0 [0 0 text Push] {\"type\":\"Push\",\"n\":1}",
+        "Json 1 {\"type\":\"Push\",\"n\":1}",
+    ),
+    (
+        KINDS,
+        "Csv 16 512 268435455 [5 0 true] [0 7 int -2] [18446744073709551615 255 text é] a,b",
+        "Csv 16 a,b",
+    ),
+    (BARE, "Json 2 0 0 ", "Json 2 "),
+];
+
+/// A record's form, lane, version, number, keys and payload.
+fn parts_text(alloc: Global, parts: &BodyParts) -> Result<String, AllocError> {
+    let (form, lane) = (parts.form, parts.lane);
+    let mut told = format!(in alloc; "{form:?} {lane} {} {} ", parts.version, parts.number)?;
+    for key in parts.keys.as_slice() {
+        let text = key_text(alloc, key)?;
+        told.push_str(text.as_str())?;
+    }
+    told.push_str(parts.payload.as_str())?;
+    Ok(told)
+}
+
+fn key_text(alloc: Global, key: &KeyPart) -> Result<String, AllocError> {
+    let value = text_of(alloc, &key.value)?;
+    format!(in alloc; "[{} {} {}] ", key.prev, key.id, value.as_str())
+}
+
+/// The parts of the record that words are, or `none`.
+fn parts_in(alloc: Global, words: &[u64]) -> Result<String, AllocError> {
+    match read_body(alloc, words)? {
+        Some(parts) => {
+            let told = parts_text(alloc, &parts);
+            drop(parts);
+            told
+        }
+        None => String::from_str(alloc, "none"),
+    }
+}
+
+/// The words of the parts that words have.
+fn words_again(alloc: Global, words: &[u64]) -> Result<Option<Body>, AllocError>
+    ensures { IfOk result (λ o. IfSome o (λ body. (p : BodyParts) × IsBody p body)) }
+{
+    match read_body(alloc, words)? {
+        Some(parts) => {
+            let body = body_of(alloc, &parts);
+            drop(parts);
+            Ok(Some(body?))
+        }
+        None => Ok(None),
+    }
+}
+
+/// What `read_payload` reads of a record's words.
+fn payload_in(alloc: Global, words: &[u64]) -> Result<String, AllocError> {
+    match read_body(alloc, words)? {
+        Some(parts) => {
+            drop(parts);
+            let found = read_payload(alloc, words)?;
+            let (form, lane) = (found.form, found.lane);
+            format!(in alloc; "{form:?} {lane} {}", found.payload.as_str())
+        }
+        None => String::from_str(alloc, "none"),
+    }
+}
+
+#[test]
+fn bodies(rt: HostRuntime) -> Result<(), Fail> {
+    for &(words, want, want_payload) in BODIES {
+        let parts = parts_in(rt.alloc(), words)?;
+        expect(&rt, parts.as_str(), want, want);
+        let payload = payload_in(rt.alloc(), words)?;
+        expect(&rt, payload.as_str(), want_payload, want);
+        let again = words_again(rt.alloc(), words)?;
+        let body = again.as_ref().map_or(NO_WORDS, Body::as_slice);
+        expect_words(&rt, body, words, want);
+    }
+    Ok(())
+}
+
+/// A word of `KINDS`, the bits of it that are turned, and what is wrong then.
+const TURNED: &[(usize, u64, &str)] = &[
+    (0, 1 << 0, "a line more than there is"),
+    (0, 1 << 17, "a form that there is not"),
+    (0, 1 << 18, "a key less"),
+    (0, 1 << 31, "no lane"),
+    (0, 1 << 27, "lane 17"),
+    (0, 1 << 32, "version 513"),
+    (0, 1 << 42, "a payload of two bytes"),
+    (0, 1 << 62, "bit 62 of the header"),
+    (2, 1 << 0, "two numbers in one record"),
+    (2, 7 << 28, "two equal ids"),
+    (2, 255 << 28, "ids out of order"),
+    (2, 1 << 36, "an entry out of place"),
+    (2, 1 << 45, "bit 45 of an entry"),
+    (3, 3 << 0, "kind 3"),
+    (6, 1 << 0, "a truth value of eight bytes"),
+    (6, 1 << 11, "a gap between values"),
+    (9, 1 << 29, "bit 29 of a value's word"),
+    (10, 3 << 0, "a truth value 2"),
+    (11, 1 << 22, "a text that is not UTF-8"),
+    (11, 1 << 24, "padding of the values that is not zero"),
+    (12, 1 << 7, "a payload that is not UTF-8"),
+    (12, 1 << 24, "padding of the payload that is not zero"),
+    (15, 1 << 63, "padding of the line that is not zero"),
+];
+
+/// Words that are no record, of which the second to fourth begin `PUSH`, and what is wrong.
+const OTHERS: &[(&[u64], &str)] = &[
+    (&[], "no words"),
+    (&[0x5401_0804_0002], "one word"),
+    (&[0x5401_0804_0002, 0, 0, 18], "a line of two"),
+    (
+        &[
+            0x5401_0804_0002,
+            0,
+            0,
+            18,
+            0x6873_7550,
+            0x3a22_6570_7974_227b,
+            0x222c_2268_7375_5022,
+        ],
+        "a word too few",
+    ),
+    (
+        &[
+            0x5401_0804_0002,
+            0,
+            0,
+            18,
+            0x6873_7550,
+            0x3a22_6570_7974_227b,
+            0x222c_2268_7375_5022,
+            0x7d_313a_226e,
+            0,
+            0,
+            0,
+            0,
+        ],
+        "a line behind the record",
+    ),
+    (
+        &[
+            0x5401_0804_0003,
+            0,
+            0,
+            18,
+            0x6873_7550,
+            0x3a22_6570_7974_227b,
+            0x222c_2268_7375_5022,
+            0x7d_313a_226e,
+            0,
+            0,
+            0,
+            0,
+        ],
+        "a line too many",
+    ),
+    (&[0x2_0001, 0, 0, 0], "a void"),
+];
+
+/// Words of which one has other bits turned.
+fn turned(alloc: Global, words: &[u64], at: usize, bits: u64) -> Result<Vec<u64>, AllocError> {
+    let mut turned = Vec::new(alloc);
+    for (place, word) in words.iter().enumerate() {
+        let other = if place == at { *word ^ bits } else { *word };
+        turned.push(other)?;
+    }
+    Ok(turned)
+}
+
+#[test]
+fn refusals(rt: HostRuntime) -> Result<(), Fail> {
+    for &(at, bits, wrong) in TURNED {
+        let words = turned(rt.alloc(), KINDS, at, bits)?;
+        let parts = parts_in(rt.alloc(), words.as_slice())?;
+        expect(&rt, parts.as_str(), "none", wrong);
+    }
+    for &(words, wrong) in OTHERS {
+        let parts = parts_in(rt.alloc(), words)?;
+        expect(&rt, parts.as_str(), "none", wrong);
+    }
+    Ok(())
+}
+
+/// `KINDS` with another number in its three entries.
+const RENUMBERED: &[u64] = &[
+    0x0e00_800d_0004,
+    5,
+    0x0abc_def0,
+    4,
+    0,
+    0x10_7abc_def0,
+    0x821,
+    0xffff_ffff_ffff_ffff,
+    0x2f_fabc_def0,
+    0x480a,
+    0xffff_ffff_ffff_fe01,
+    0xa9_c3ff,
+    0x62_2c61,
+    0,
+    0,
+    0,
+];
+
+/// The words with the number 0x0abc_def0, where they are a record's.
+fn renumbered(alloc: Global, words: &[u64]) -> Result<Option<Body>, AllocError> {
+    match words_again(alloc, words)? {
+        Some(mut body) => {
+            set_number(&mut body, 0x0abc_def0);
+            Ok(Some(body))
+        }
+        None => Ok(None),
+    }
+}
+
+#[test]
+fn numbers(rt: HostRuntime) -> Result<(), Fail> {
+    let found = renumbered(rt.alloc(), KINDS)?;
+    let body = found.as_ref().map_or(NO_WORDS, Body::as_slice);
+    expect_words(&rt, body, RENUMBERED, "another number");
+    let len = found.as_ref().map_or(0, Body::len);
+    expect_number(&rt, len as u64, 16, "how many words");
+    Ok(())
+}

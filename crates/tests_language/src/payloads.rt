@@ -1,0 +1,154 @@
+//! Payloads of both forms, counted as they are read, with what is told of them worked out by hand.
+
+ghost use Rattle.std.specs.Prelude.{◌≡◌, ◌<◌};
+
+use crate::told::expect;
+use fish_lang::parse_def;
+use fish_psf::{ActiveDef, Keys, PsfRefusal, Record, Steps, keys, parse};
+use fish_value::{Form, print_value};
+use std::alloc::{AllocError, Global};
+use std::marker::Brand;
+use std::process::Abort;
+use std::sync::ledger::{Blank, Ledger};
+use std::test::Fail;
+
+const NO_RECORD: &str = "no record of its form";
+
+const TOO_LONG: &str = "a record has at most 524288 bytes";
+
+/// Ids and definitions.
+const DEFINITIONS: &[(u16, &str)] = &[
+    (3, "take $1"),
+    (4, "take $2"),
+    (5, "take $3 when $1 = \"a\""),
+    (9, "flag when $2 starts \"x\""),
+];
+
+/// A form, a payload, and what is told of it: its values by id, or why it is refused.
+const PAYLOADS: &[(Form, &[u8], &str)] = &[
+    (
+        Form::Csv,
+        b"a,\"x,1\",007",
+        "3 \"a\";4 \"x,1\";5 \"007\";9 true;",
+    ),
+    (Form::Csv, b"12,-3", "3 12;4 -3;"),
+    (Form::Csv, b"b,,0", "3 \"b\";4 \"\";"),
+    (Form::Csv, b"\"a\"\"b\"", "3 \"a\\\"b\";"),
+    (Form::Csv, b"a\nb", NO_RECORD),
+    (Form::Csv, b"a,\xff", NO_RECORD),
+    (
+        Form::Json,
+        b"{\"$1\":1,\"$2\":\"x\"}",
+        "3 1;4 \"x\";9 true;",
+    ),
+    (Form::Json, b"[1]", NO_RECORD),
+    (Form::Json, b"{", NO_RECORD),
+];
+
+/// A form, what a payload begins and ends with, how many bytes it has, and what is told of it.
+const LONG: &[(Form, &str, &str, usize, &str)] = &[
+    (Form::Csv, "7,", "", 524_288, "3 7;9 true;"),
+    (Form::Csv, "7,", "", 524_289, TOO_LONG),
+    (
+        Form::Json,
+        "{\"$1\":7,\"$2\":\"",
+        "\"}",
+        524_288,
+        "3 7;9 true;",
+    ),
+    (Form::Json, "{\"$1\":7,\"$2\":\"", "\"}", 524_289, TOO_LONG),
+    (Form::Json, "", "", 524_288, NO_RECORD),
+    (Form::Json, "", "", 524_289, TOO_LONG),
+];
+
+fn active(alloc: Global) -> Result<Vec<ActiveDef>, Fail> {
+    let mut defs = Vec::new(alloc);
+    for &(id, source) in DEFINITIONS {
+        let def = parse_def(alloc, source.as_bytes())?;
+        defs.push(ActiveDef { id, def })?;
+    }
+    Ok(defs)
+}
+
+/// The values of a record by their ids, as a text.
+fn values_of(alloc: Global, found: &Keys) -> Result<String, AllocError> {
+    let mut text = String::new(alloc);
+    for key in found.as_slice() {
+        let value = print_value(alloc, &key.value)?;
+        let told = format!(in alloc; "{} {};", key.id, value.as_str())?;
+        text.push_str(told.as_str())?;
+    }
+    Ok(text)
+}
+
+fn keys_told(alloc: Global, defs: &[ActiveDef], record: &Record) -> Result<String, AllocError> {
+    let found = keys(alloc, defs, record)?;
+    let told = values_of(alloc, &found);
+    drop(found);
+    told
+}
+
+/// What a payload of a form is.
+fn told<P: Ledger>(
+    alloc: Global,
+    parses: &mut Steps<P>,
+    form: Form,
+    payload: &[u8],
+    defs: &[ActiveDef],
+) -> Result<String, AllocError> {
+    match parse(alloc, form, payload, parses) {
+        Ok(record) => {
+            let told = keys_told(alloc, defs, &record);
+            drop(record);
+            told
+        }
+        Err(refusal) => refusal_text(alloc, refusal),
+    }
+}
+
+fn refusal_text(alloc: Global, refusal: PsfRefusal) -> Result<String, AllocError> {
+    format!(in alloc; "{refusal}")
+}
+
+/// A payload of so many bytes, filled with `x`.
+fn long_payload(alloc: Global, front: &str, end: &str, len: usize) -> Result<String, AllocError> {
+    let mut payload = String::from_str(alloc, front)?;
+    for _ in 0..len.saturating_sub(front.len() + end.len()) {
+        payload.push('x')?;
+    }
+    payload.push_str(end)?;
+    Ok(payload)
+}
+
+/// Expects what is told of all payloads, with one counter.
+fn expect_all<R: Abort, P: Ledger>(
+    rt: &R,
+    alloc: Global,
+    blank: Blank,
+    defs: &[ActiveDef],
+) -> Result<(), AllocError>
+    requires name { blank.name ≡ P.name }
+    requires parts { blank.parts ≡ P.parts }
+    requires some { 0 < blank.parts }
+{
+    let mut parses = Steps::<P>::new(blank);
+    for &(form, payload, want) in PAYLOADS {
+        let found = told(alloc, &mut parses, form, payload, defs)?;
+        expect(rt, found.as_str(), want, want);
+    }
+    for &(form, front, end, len, want) in LONG {
+        let payload = long_payload(alloc, front, end, len)?;
+        let found = told(alloc, &mut parses, form, payload.as_bytes(), defs)?;
+        expect(rt, found.as_str(), want, front);
+    }
+    Ok(())
+}
+
+#[test]
+fn payloads_of_both_forms(rt: HostRuntime) -> Result<(), Fail> {
+    let defs = active(rt.alloc())?;
+    let met = expect_all::<HostRuntime, Brand>(&rt, rt.alloc(), Blank::new(1), defs.as_slice());
+    drop(defs);
+    met?;
+    Ok(())
+}

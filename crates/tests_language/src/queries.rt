@@ -1,0 +1,165 @@
+//! Which records of a file have a value by a definition, through every call from the file's bytes on,
+//! worked out by hand.
+
+ghost use Rattle.std.specs.Prelude.{◌≡◌, ◌<◌};
+
+use crate::told::expect;
+use fish_lang::{Def, parse_def};
+use fish_lines::records;
+use fish_psf::{Record, Steps, eval, parse};
+use fish_value::{Form, Text, Value, read_value};
+use std::alloc::{AllocError, Global};
+use std::marker::Brand;
+use std::process::Abort;
+use std::sync::ledger::{Blank, Ledger};
+use std::test::Fail;
+
+/// Rows whose third column has no whole number but two: of the others the text is none.
+const TEXTS: &[u8] =
+    b"a,b,7x\na,b,\"7x\"\na,b,007\na,b,\"7,\"\na,b,+7\na,b, 7\na,b,\"7 \"\na,b,7.0\na,b\n7,7,\n";
+
+/// Rows whose third column has whole numbers and their like.
+const NUMBERS: &[u8] = b"a,b,7\r\na,b,\"7\"\r\na,b,07\r\na,b,0\r\na,b,-0\r\na,b,-7\r\na,b,00\r\n\
+a,b,9223372036854775807\r\na,b,9223372036854775808\r\na,b,-9223372036854775808\r\na,b,-\r\na,b,7";
+
+/// Lines of JSON with the same names.
+const LINES: &[u8] =
+    b"{\"$3\":7}\r\n{\"$3\":\"7\"}\n\n{\"$3\":7.0}\n{\"$3\":[7]}\n[7]\n{\"$3\":7,\"$3\":8}\n{\"$3\":7}";
+
+/// A form, a file, a value, and the numbers of the records that have it.
+const QUERIES: &[(Form, &[u8], &str, &str)] = &[
+    (Form::Csv, TEXTS, "7", ""),
+    (Form::Csv, TEXTS, "\"7x\"", "0;1;"),
+    (Form::Csv, TEXTS, "\"007\"", "2;"),
+    (Form::Csv, TEXTS, "\"7,\"", "3;"),
+    (Form::Csv, TEXTS, "\"+7\"", "4;"),
+    (Form::Csv, TEXTS, "\" 7\"", "5;"),
+    (Form::Csv, TEXTS, "\"7 \"", "6;"),
+    (Form::Csv, TEXTS, "\"7.0\"", "7;"),
+    (Form::Csv, TEXTS, "\"\"", "9;"),
+    (Form::Csv, TEXTS, "\"7\"", ""),
+    (Form::Csv, NUMBERS, "7", "0;1;11;"),
+    (Form::Csv, NUMBERS, "\"7\"", ""),
+    (Form::Csv, NUMBERS, "\"07\"", "2;"),
+    (Form::Csv, NUMBERS, "0", "3;"),
+    (Form::Csv, NUMBERS, "\"-0\"", "4;"),
+    (Form::Csv, NUMBERS, "-7", "5;"),
+    (Form::Csv, NUMBERS, "\"00\"", "6;"),
+    (Form::Csv, NUMBERS, "9223372036854775807", "7;"),
+    (Form::Csv, NUMBERS, "\"9223372036854775808\"", "8;"),
+    (Form::Csv, NUMBERS, "-9223372036854775808", "9;"),
+    (Form::Csv, NUMBERS, "\"-\"", "10;"),
+    (Form::Json, LINES, "7", "0;5;"),
+    (Form::Json, LINES, "\"7\"", "1;"),
+    (Form::Json, LINES, "8", "4;"),
+];
+
+/// Whether a definition gives a value on a record.
+fn gives(alloc: Global, def: &Def, record: &Record, value: &Value) -> Result<bool, AllocError> {
+    let found = eval(alloc, def, record)?;
+    let same = is_some_of(&found, value);
+    drop(found);
+    Ok(same)
+}
+
+fn is_some_of(found: &Option<Value>, value: &Value) -> bool {
+    match found {
+        Some(found) => found.is(value),
+        None => false,
+    }
+}
+
+/// Whether it does on a payload, which is a record.
+fn gives_on<P: Ledger>(
+    alloc: Global,
+    parses: &mut Steps<P>,
+    form: Form,
+    payload: &Text,
+    def: &Def,
+    value: &Value,
+) -> Result<bool, Fail> {
+    let record = parse(alloc, form, payload.as_bytes(), parses)?;
+    let same = gives(alloc, def, &record, value);
+    drop(record);
+    Ok(same?)
+}
+
+/// The numbers of the payloads on which it does.
+fn numbers_of<P: Ledger>(
+    alloc: Global,
+    parses: &mut Steps<P>,
+    form: Form,
+    payloads: &[Text],
+    def: &Def,
+    value: &Value,
+) -> Result<String, Fail> {
+    let mut numbers = String::new(alloc);
+    for (number, payload) in payloads.iter().enumerate() {
+        if gives_on(alloc, parses, form, payload, def, value)? {
+            let told = format!(in alloc; "{number};")?;
+            numbers.push_str(told.as_str())?;
+        }
+    }
+    Ok(numbers)
+}
+
+/// The numbers of a file's records on which a definition gives a value.
+fn numbers_in<P: Ledger>(
+    alloc: Global,
+    parses: &mut Steps<P>,
+    form: Form,
+    file: &[u8],
+    def: &Def,
+    value: &Value,
+) -> Result<String, Fail> {
+    let found = records(alloc, form, false, file)?;
+    let numbers = numbers_of(alloc, parses, form, found.payloads.as_slice(), def, value);
+    drop(found);
+    numbers
+}
+
+/// The same of a value's text.
+fn told<P: Ledger>(
+    alloc: Global,
+    parses: &mut Steps<P>,
+    form: Form,
+    file: &[u8],
+    def: &Def,
+    text: &str,
+) -> Result<String, Fail> {
+    match read_value(alloc, text.as_bytes())? {
+        Some(value) => {
+            let numbers = numbers_in(alloc, parses, form, file, def, &value);
+            drop(value);
+            numbers
+        }
+        None => Ok(String::from_str(alloc, "no value")?),
+    }
+}
+
+/// Expects the numbers of all queries, with one counter.
+fn expect_all<R: Abort, P: Ledger>(
+    rt: &R,
+    alloc: Global,
+    blank: Blank,
+    def: &Def,
+) -> Result<(), Fail>
+    requires name { blank.name ≡ P.name }
+    requires parts { blank.parts ≡ P.parts }
+    requires some { 0 < blank.parts }
+{
+    let mut parses = Steps::<P>::new(blank);
+    for &(form, file, text, want) in QUERIES {
+        let found = told(alloc, &mut parses, form, file, def, text)?;
+        expect(rt, found.as_str(), want, text);
+    }
+    Ok(())
+}
+
+#[test]
+fn values_of_the_third_column(rt: HostRuntime) -> Result<(), Fail> {
+    let def = parse_def(rt.alloc(), b"take $3")?;
+    let met = expect_all::<HostRuntime, Brand>(&rt, rt.alloc(), Blank::new(1), &def);
+    drop(def);
+    met
+}

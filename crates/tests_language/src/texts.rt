@@ -1,0 +1,85 @@
+//! Texts with answers from outside: RFC 8259, section 7, and RFC 3629.
+
+use crate::told::{expect, value_text};
+use fish_value::{Text, json_text, read_json, read_value};
+use std::alloc::{AllocError, Global};
+use std::test::Fail;
+
+/// What is told of a text, and the JSON string that stands for it.
+const STRINGS: &[(&str, &str)] = &[
+    ("text ", "\"\""),
+    ("text a\"b\\c\n\u{1}é", "\"a\\\"b\\\\c\\n\\u0001é\""),
+    (
+        "text \u{8}\u{c}\r\t\0\u{1f}",
+        "\"\\b\\f\\r\\t\\u0000\\u001f\"",
+    ),
+    ("text /\u{7f}\u{2028}😀", "\"/\u{7f}\u{2028}😀\""),
+];
+
+/// The JSON string of a text behind `text `.
+fn string_for(alloc: Global, told: &str) -> Result<String, AllocError> {
+    let text = Text::copy_of(alloc, told.strip_prefix("text ").unwrap_or(""))?;
+    let string = json_text(alloc, &text)?;
+    String::from_str(alloc, string.as_str())
+}
+
+/// What the value of a JSON string is.
+fn value_of(alloc: Global, string: &str) -> Result<String, AllocError> {
+    let found = read_value(alloc, string.as_bytes())?;
+    let told = value_text(alloc, &found);
+    drop(found);
+    told
+}
+
+#[test]
+fn strings(rt: HostRuntime) -> Result<(), Fail> {
+    for &(told, want) in STRINGS {
+        let string = string_for(rt.alloc(), told)?;
+        expect(&rt, string.as_str(), want, told);
+        let read = value_of(rt.alloc(), string.as_str())?;
+        expect(&rt, read.as_str(), told, want);
+    }
+    Ok(())
+}
+
+/// Bytes, and whether they are a text and JSON.
+const BYTES: &[(&[u8], &str)] = &[
+    (b"", "a text"),
+    (b"\"\xc3\xa9\"", "a text, JSON"),
+    (b"{\"a\":[1,null]}", "a text, JSON"),
+    (b"{\"a\":[1,null}", "a text"),
+    (b"\"\xff\"", "neither"),
+    (b"\"\xc3\"", "neither"),
+    (b"\"\xed\xa0\x80\"", "neither"),
+    (b"\"\xc0\xaf\"", "neither"),
+];
+
+fn is_text(alloc: Global, bytes: &[u8]) -> Result<bool, AllocError> {
+    let text = Text::from_bytes(alloc, bytes)?;
+    Ok(text.is_some())
+}
+
+fn is_json(alloc: Global, bytes: &[u8]) -> Result<bool, AllocError> {
+    let value = read_json(alloc, bytes)?;
+    let found = value.is_some();
+    drop(value);
+    Ok(found)
+}
+
+fn kind_of(alloc: Global, bytes: &[u8]) -> Result<&'static str, AllocError> {
+    match (is_text(alloc, bytes)?, is_json(alloc, bytes)?) {
+        (true, true) => Ok("a text, JSON"),
+        (true, false) => Ok("a text"),
+        (false, true) => Ok("JSON"),
+        (false, false) => Ok("neither"),
+    }
+}
+
+#[test]
+fn bytes(rt: HostRuntime) -> Result<(), Fail> {
+    for &(bytes, want) in BYTES {
+        let found = kind_of(rt.alloc(), bytes)?;
+        expect(&rt, found, want, "bytes");
+    }
+    Ok(())
+}

@@ -1,0 +1,97 @@
+//! Answers as texts, so that tables hold what is wanted in plain words, and the assertions.
+//!
+//! An assertion is what costs most to prove of a test, so these few are shared.
+
+use fish_psf::Parsed;
+use fish_value::{Field, Path, Text, Value};
+use std::alloc::{AllocError, Global};
+use std::process::Abort;
+
+/// Asserts of each row that what is told of its case is what is wanted.
+pub fn expect_all<R: Abort, C, E: Drop, F: Fn(Global, &C) -> Result<String, E>>(
+    rt: &R,
+    alloc: Global,
+    rows: &[(C, &str)],
+    told: F,
+) -> Result<(), E>
+    requires { F.IsAlwaysCallable told }
+{
+    for (number, row) in rows.iter().enumerate() {
+        let (case, want) = row;
+        let found = told(alloc, case)?;
+        assert_eq!(rt; found.as_str(), *want, "row {number}");
+    }
+    Ok(())
+}
+
+/// Asserts that a text is the one that is wanted.
+pub fn expect<R: Abort>(rt: &R, found: &str, want: &str, case: &str) {
+    assert_eq!(rt; found, want, "{case}");
+}
+
+/// The same of bytes.
+pub fn expect_bytes<R: Abort>(rt: &R, found: &[u8], want: &[u8], case: &str) {
+    assert_eq!(rt; found, want, "{case}");
+}
+
+/// The same of words.
+pub fn expect_words<R: Abort>(rt: &R, found: &[u64], want: &[u64], case: &str) {
+    assert_eq!(rt; found, want, "{case}");
+}
+
+/// The same of a number.
+pub fn expect_number<R: Abort>(rt: &R, found: u64, want: u64, case: &str) {
+    assert_eq!(rt; found, want, "{case}");
+}
+
+/// The same of a truth value.
+pub fn expect_truth<R: Abort>(rt: &R, found: bool, want: bool, case: &str) {
+    assert_eq!(rt; found, want, "{case}");
+}
+
+/// The path of names with a dot between them.
+pub fn path_of(alloc: Global, text: &str) -> Result<Path, AllocError> {
+    let mut names = text.split('.');
+    let first = names.next().unwrap_or("");
+    let mut path = Path::new(alloc, Text::copy_of(alloc, first)?);
+    for name in names {
+        path.push(Text::copy_of(alloc, name)?)?;
+    }
+    Ok(path)
+}
+
+/// What is found of a value: its kind and content, or `none`.
+pub fn value_text(alloc: Global, found: &Option<Value>) -> Result<String, AllocError> {
+    match found {
+        None => String::from_str(alloc, "none"),
+        Some(value) => text_of(alloc, value),
+    }
+}
+
+/// A value's kind and content.
+pub fn text_of(alloc: Global, value: &Value) -> Result<String, AllocError> {
+    match value {
+        Value::Bool(truth) => format!(in alloc; "{truth}"),
+        Value::Int(number) => format!(in alloc; "int {number}"),
+        Value::Text(text) => format!(in alloc; "text {}", text.as_str()),
+    }
+}
+
+/// What a record has at a path: the kind and content of the field.
+pub fn field_at<R: Parsed>(alloc: Global, rec: &R, path: &Path) -> Result<String, AllocError> {
+    let field = rec.at(alloc, path)?;
+    let told = field_text(alloc, &field);
+    drop(field);
+    told
+}
+
+fn field_text(alloc: Global, field: &Field) -> Result<String, AllocError> {
+    match field {
+        Field::Missing => String::from_str(alloc, "missing"),
+        Field::Null => String::from_str(alloc, "null"),
+        Field::Bool(truth) => format!(in alloc; "{truth}"),
+        Field::Int(number) => format!(in alloc; "int {number}"),
+        Field::Text(text) => format!(in alloc; "text {}", text.as_str()),
+        Field::Other => String::from_str(alloc, "other"),
+    }
+}
