@@ -8,8 +8,6 @@ mod file;
 mod outcome;
 mod run;
 mod select;
-#[cfg(test)]
-mod tests;
 mod words;
 
 use fish_outside::{FileHost, OutSink};
