@@ -5,7 +5,7 @@ EXAMPLE = select 'take type' '"PushEvent"' events.jsonl
 TESTS = tests_language tests_log
 CRATES = $(shell sed -n 's/^\(fish[a-z_]*\).*:.*/\1/p' crates.txt)
 
-.PHONY: demo build test edits gate install bench clean
+.PHONY: demo build test edits gate install bench bench_log bench_ingest bench_peers bench_program clean
 
 # Runs the program on the example, at once and with no proof.
 demo:
@@ -33,11 +33,25 @@ gate:
 install: build
 	install -D -m 755 $(PROGRAM) $(DESTDIR)$(PREFIX)/bin/fishstore
 
-# Times the program beside jq and a plain Rust program, and the log beside other stores.
+# Times the program beside jq and a plain Rust program.
 bench: build
 	bench/select.sh
+
+# Proves and builds the program of the three benchmarks below.
+bench_program:
+	tools/build bench
+
+# Times the log: stores beside a plain C++ loop, linked key entries, and walks.
+bench_log: bench_program
 	bench/log.sh
+
+# Times ingest of events beside reading them alone.
+bench_ingest: bench_program
 	bench/ingest.sh
+
+# Times ingest of events beside simdjson by hand and LMDB, where they are installed.
+bench_peers: bench_program
+	bench/peers.sh
 
 clean:
 	rm -rf crates/*/out bench/data

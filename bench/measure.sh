@@ -1,4 +1,4 @@
-# What the benchmarks of whole programs share; bench/select.sh and bench/csv.sh read it in.
+# What the benchmarks of whole programs share; the scripts of this folder read it in.
 
 # one run's seconds of processor time, and its peak in KiB, put behind a file
 measure() {
@@ -11,4 +11,38 @@ measure() {
 # the least seconds and the most KiB
 best() {
   sort -n "data/$1.runs" | awk 'NR == 1 { least = $1 } $2 > most { most = $2 } END { print least, most }'
+}
+
+# a program that writes a line on standard error for each work with so many lanes, put behind a file: what it does with
+# one lane counts where it runs on the last core, the rest where it runs on all. It has real-time priority where that is
+# allowed, so that other work on the machine waits.
+lanes() {
+  local name=$1 first=
+  shift
+  chrt -f 10 true 2> /dev/null && first="chrt -f 10"
+  taskset -c "$(($(nproc) - 1))" $first "$@" 2>&1 > /dev/null | grep ' 1 lanes ' >> "data/$name.runs"
+  [ "$(nproc)" -gt 1 ] || return 0
+  $first "$@" 2>&1 > /dev/null | grep -v ' 1 lanes ' >> "data/$name.runs" || true
+}
+
+# the least nanoseconds of one thing that is done, over all runs of a work with so many lanes
+least() {
+  awk -v work="$2" -v lanes="$3" '
+    $1 == work && $2 == lanes && $6 > 0 { each = $4 / $6; if (!least || each < least) least = each }
+    END { print least }' "data/$1.runs"
+}
+
+# the machine, in one line
+machine() {
+  local model
+  model=$(awk -F: '/model name/ { print $2; exit }' /proc/cpuinfo | sed 's/^ *//')
+  echo "$(nproc) cores, $model, load $(cut -d' ' -f1 /proc/loadavg)"
+}
+
+# a file of events of so many bytes
+events() {
+  command -v python3 > /dev/null || { echo "bench: python3 is missing: apt-get install python3" >&2; exit 1; }
+  mkdir -p data
+  [ -f "data/events-$1.jsonl" ] || python3 events.py "$1" > "data/events-$1.jsonl"
+  echo "data/events-$1.jsonl"
 }

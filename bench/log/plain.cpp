@@ -1,4 +1,4 @@
-// The plain loop beside bench_log: records of 128 words, each in memory of its own, are stored in order by
+// The plain loop beside `bench log`: records of 128 words, each in memory of its own, are stored in order by
 // sequentially consistent stores of eight bytes into an array, from 1, 2 and 4 threads that take their places by a
 // fetch-and-add. What is timed is the same as there: the records are made before.
 #include <atomic>

@@ -142,11 +142,30 @@ template <class Work> uint64_t in_lanes(const Events &events, int lanes, Work wo
     for (auto &thread : threads) thread.join();
     return bytes;
 }
+
+// whether the worked record of docs/FORMATS.md, number 0 by lane 1 at version 1, gets its words, its head and its
+// directory word
+bool stores_as_said() {
+    const uint64_t said[] = {0x0000540108040002, 0, 0, 18, 0x68737550, 0x3a2265707974227b, 0x222c226873755022,
+                             0x7d313a226e};
+    const auto payload = simdjson::padded_string(std::string(R"({"type":"Push","n":1})"));
+    const std::string_view line = payload;
+    Log log;
+    log.version.store(1);
+    if (Lane(log, 1).ingest(&line, &line + 1) != line.size()) return false;
+    for (int i = 0; i < 8; i++)
+        if (log.log[i] != said[i]) return false;
+    return log.heads[0x4cb5b66ad1f41df5 & ((1 << bucket_bits) - 1)] == 1 && log.directory[0] == uint64_t(1) << 36;
+}
 } // namespace
 
 int main(int words, char **word) {
     if (words < 2) {
         fprintf(stderr, "usage: simdjson FILE [ROUNDS]\n");
+        return 1;
+    }
+    if (!stores_as_said()) {
+        fprintf(stderr, "simdjson: the worked record of docs/FORMATS.md is not stored as it is said there\n");
         return 1;
     }
     const Events events(word[1]);

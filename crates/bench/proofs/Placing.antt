@@ -2,7 +2,6 @@
 use Rattle.std.proofs.Common.{◌≡◌, ◌≤◌, ℕ, All, List, map, refl, sym, ap, ◌∙◌, subst, None, Some}
 use Rattle.bench.specs.Stores.{IsEntered, IsStorable}
 use Rattle.fish_catalog.proofs.ActiveTexts.{active_of_catalog}
-use Rattle.fish_catalog.specs.declared.row.CatRow.{CatRow}
 use Rattle.fish_claim.proofs.Bodies.{Placed, placed_law}
 use Rattle.fish_claim.proofs.Known.{knows_start}
 use Rattle.fish_claim.specs.Claims.{IsClaimed}

@@ -1,5 +1,4 @@
 -- The pass keeps its lane as it enters.
-use Rattle.std.proofs.Common.{sym}
 use Rattle.bench.proofs.Placing.{storable_on}
 use Rattle.fish_rule.specs.Passes.{view}
 use Rattle.bench.proofs.stores.store_all.Goals as goal

@@ -3,7 +3,6 @@ use Rattle.std.proofs.Common.{Some}
 use Rattle.std.proofs.lemmas.List.Elements.{All-pop}
 use Rattle.bench.specs.Stores.{IsStorable}
 use Rattle.bench.proofs.Placing.{storable_on}
-use Rattle.fish_ingest.specs.declared.prepared.Prepared.{Prepared}
 use Rattle.fish_rule.specs.Passes.{view}
 use Rattle.bench.proofs.stores.store_each.Goals as goal
 

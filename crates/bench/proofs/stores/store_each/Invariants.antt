@@ -1,5 +1,5 @@
 -- The pass stays entered and keeps its lane, for which the records left were prepared.
-use Rattle.std.proofs.Common.{◌≡◌, All, length}
+use Rattle.std.proofs.Common.{All, length}
 use Rattle.bench.specs.Stores.{IsEntered, IsStorable}
 use Rattle.fish_rule.specs.Passes.{IsPassOf, view}
 use Rattle.bench.proofs.stores.store_each.Given as goal
