@@ -1,3 +1,4 @@
 pub mod Drafts
 pub mod Heads
 pub mod Registrations
+pub mod Seats

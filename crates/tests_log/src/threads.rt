@@ -208,6 +208,29 @@ fn take_four(log: &Log, main: &mut Pass, seats: [Seat; 4]) -> Result<[usize; 4],
     ensures alone { IfOk result (λ _. IsAlone (view main.new)) }
 {
     let [second, third, fourth, fifth] = seats;
+    take_seats(log, main, second, third, fourth, fifth)
+}
+
+/// The same of seats one by one.
+fn take_seats(
+    log: &Log,
+    main: &mut Pass,
+    second: Seat,
+    third: Seat,
+    fourth: Seat,
+    fifth: Seat,
+) -> Result<[usize; 4], Fail>
+    requires main { IsPassOf log.now main.old }
+    requires second { IsSeated log.now second }
+    requires third { IsSeated log.now third }
+    requires fourth { IsSeated log.now fourth }
+    requires fifth { IsSeated log.now fifth }
+    requires control { (view main.old).lane ≡ 1 }
+    requires idle { (view main.old).flight ≡ None }
+    requires out { (view main.old).out ≡ 5 ∷ 4 ∷ 3 ∷ 2 ∷ [] }
+    ensures pass { IsPassOf log.now main.new }
+    ensures alone { IfOk result (λ _. IsAlone (view main.new)) }
+{
     let second = take_seat(log, main, second, 2)?;
     let third = take_seat(log, main, third, 3)?;
     let fourth = take_seat(log, main, fourth, 4)?;

@@ -1,0 +1,10 @@
+-- Facts of four seats.
+use Rattle.std.proofs.Common.{ℕ, zero, suc, [], ◌∷◌, All, arith}
+
+-- what holds of each of four holds of all
+pub all_four : {A : Type 0} (P : A → Type 0) (a b c d : A) → P a → P b → P c → P d → All P (a ∷ b ∷ c ∷ d ∷ [])
+all_four P a b c d one two three four zero x less = one
+all_four P a b c d one two three four (suc zero) x less = two
+all_four P a b c d one two three four (suc (suc zero)) x less = three
+all_four P a b c d one two three four (suc (suc (suc zero))) x less = four
+all_four P a b c d one two three four (suc (suc (suc (suc k)))) x less = absurd (omega arith)
