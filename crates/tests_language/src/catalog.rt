@@ -2,8 +2,9 @@
 
 ghost use Rattle.std.specs.Prelude.{IfOk, ◌≡◌};
 ghost use Rattle.fish_catalog.specs.Canonical.{IsCanonical};
+ghost use Rattle.fish_catalog.specs.Rows.{IsRow};
 
-use crate::told::{expect, expect_truth, expect_words};
+use crate::told::expect;
 use fish_catalog::{
     CatRow, Catalog, Entry, Listed, MAX_NAME, ROW_WORDS, active_in, read_row, row_words,
 };
@@ -13,53 +14,45 @@ use std::alloc::{AllocError, Global};
 use std::process::Abort;
 use std::test::Fail;
 
-/// A call of a catalogue.
-#[derive(Clone, Copy)]
-enum Call {
-    Add(&'static str, &'static str),
-    SetFrom(u16, u32),
-    FindActive(&'static str),
-    FindNewest(&'static str),
-}
+/// Names, and the ids of the active row of the name and of its newest.
+const NONE_FOUND: &[(&str, &str)] = &[("kind", "none none")];
 
-/// Calls of one catalogue, and what each answers.
-const CALLS: &[(Call, &str)] = &[
-    (Call::FindActive("kind"), "none"),
-    (Call::FindNewest("kind"), "none"),
-    (Call::Add("kind", "take  \"type\""), "0"),
-    (Call::Add("kind", "take n"), "the name is active"),
-    (Call::Add("Kind", "bucket n by 10 when not (n<3)"), "1"),
-    (Call::FindActive("kind"), "0"),
-    (Call::FindNewest("Kind"), "1"),
-    (Call::FindActive("kin"), "none"),
-    (Call::SetFrom(1, 7), "set"),
-    (Call::Add("2", "take type"), "2"),
-    (Call::Add("3", "take type"), "3"),
-    (Call::SetFrom(0, 0), "set"),
-    (Call::Add("4", "take type"), "4"),
-    (Call::Add("5", "take type"), "5"),
-    (Call::Add("6", "take type"), "6"),
-    (Call::Add("7", "take type"), "7"),
-    (Call::Add("8", "take type"), "8"),
-    (Call::Add("9", "take type"), "9"),
-    (Call::Add("10", "take type"), "10"),
-    (Call::Add("11", "take type"), "11"),
-    (Call::Add("12", "take type"), "12"),
-    (Call::Add("13", "take type"), "13"),
-    (Call::Add("14", "take type"), "14"),
-    (Call::Add("15", "flag when n exists"), "15"),
-    (Call::Add("16", "take type"), "16 definitions are active"),
-    (Call::Add("15", "take n"), "the name is active"),
-    (Call::FindActive("16"), "none"),
-    (Call::FindNewest("15"), "15"),
+/// Names and definitions, and what adding them answers.
+const FIRST: &[((&str, &str), &str)] = &[
+    (("kind", "take  \"type\""), "0"),
+    (("kind", "take n"), "the name is active"),
+    (("Kind", "bucket n by 10 when not (n<3)"), "1"),
 ];
 
-/// Ids of rows, and the rows at the end: id, name, beginning, end and canonical text.
+const FIRST_FOUND: &[(&str, &str)] = &[("kind", "0 0"), ("Kind", "1 1"), ("kin", "none none")];
+
+const SECOND: &[((&str, &str), &str)] = &[(("2", "take type"), "2"), (("3", "take type"), "3")];
+
+const THIRD: &[((&str, &str), &str)] = &[
+    (("4", "take type"), "4"),
+    (("5", "take type"), "5"),
+    (("6", "take type"), "6"),
+    (("7", "take type"), "7"),
+    (("8", "take type"), "8"),
+    (("9", "take type"), "9"),
+    (("10", "take type"), "10"),
+    (("11", "take type"), "11"),
+    (("12", "take type"), "12"),
+    (("13", "take type"), "13"),
+    (("14", "take type"), "14"),
+    (("15", "flag when n exists"), "15"),
+    (("16", "take type"), "16 definitions are active"),
+    (("15", "take n"), "the name is active"),
+];
+
+const ALL_FOUND: &[(&str, &str)] = &[("16", "none none"), ("15", "15 15")];
+
+/// Ids, and the rows at the end: the id, the name, the canonical text, the beginning and the end.
 const ROWS: &[(usize, &str)] = &[
-    (0, "0 kind Some(0) None take type"),
-    (1, "1 Kind Some(7) None bucket n by 10 when not n < 3"),
-    (2, "2 2 None None take type"),
-    (15, "15 15 None None flag when n exists"),
+    (0, "0 kind take type, 0 none"),
+    (1, "1 Kind bucket n by 10 when not n < 3, 7 none"),
+    (2, "2 2 take type, none none"),
+    (15, "15 15 flag when n exists, none none"),
     (16, "none"),
 ];
 
@@ -73,160 +66,223 @@ fn canonical(alloc: Global, source: &str) -> Result<Text, Fail>
     Ok(text?)
 }
 
-/// Puts a definition in, if the name may be one.
-fn add(alloc: Global, catalog: &mut Catalog, name: &str, source: &str) -> Result<String, Fail> {
-    let text = Text::copy_of(alloc, name)?;
-    let def = canonical(alloc, source)?;
-    let len = text.as_bytes().len();
+/// A number as a text, or `none`.
+fn put_number(alloc: Global, told: &mut String, number: Option<u32>) -> Result<(), AllocError> {
+    match number {
+        Some(number) => {
+            let text = format!(in alloc; " {number}")?;
+            told.push_str(text.as_str())
+        }
+        None => told.push_str(" none"),
+    }
+}
+
+/// What adding a definition answers, if the name may be one.
+fn added(
+    alloc: Global,
+    catalog: &mut Catalog,
+    name: &Text,
+    def: &Text,
+) -> Result<String, AllocError>
+    requires { IsCanonical def.now }
+{
+    let len = name.as_bytes().len();
     if len == 0 || len > MAX_NAME {
-        return Ok(String::from_str(alloc, "no name")?);
+        return String::from_str(alloc, "no name");
     }
-    match catalog.add(&text, &def) {
-        Ok(id) => Ok(format!(in alloc; "{id}")?),
-        Err(refusal) => Ok(format!(in alloc; "{refusal}")?),
-    }
-}
-
-fn set_from(catalog: &mut Catalog, id: u16, from: u32) -> &'static str {
-    match catalog.rows().get(usize::from(id)) {
-        Some(row) if row.from.is_none() => {}
-        _ => return "not set",
-    }
-    catalog.set_from(id, from);
-    "set"
-}
-
-fn id_text(alloc: Global, id: Option<u16>) -> Result<String, AllocError> {
-    match id {
-        Some(id) => format!(in alloc; "{id}"),
-        None => String::from_str(alloc, "none"),
+    match catalog.add(name, def) {
+        Ok(id) => format!(in alloc; "{id}"),
+        Err(refusal) => format!(in alloc; "{refusal}"),
     }
 }
 
-/// What a call answers.
-fn answer(alloc: Global, catalog: &mut Catalog, call: Call) -> Result<String, Fail> {
-    match call {
-        Call::Add(name, source) => add(alloc, catalog, name, source),
-        Call::SetFrom(id, from) => Ok(String::from_str(alloc, set_from(catalog, id, from))?),
-        Call::FindActive(name) => {
-            let text = Text::copy_of(alloc, name)?;
-            Ok(id_text(alloc, catalog.find_active(&text))?)
-        }
-        Call::FindNewest(name) => {
-            let text = Text::copy_of(alloc, name)?;
-            Ok(id_text(alloc, catalog.find_newest(&text))?)
-        }
+fn add(alloc: Global, catalog: &mut Catalog, case: &(&str, &str)) -> Result<String, Fail> {
+    let def = canonical(alloc, case.1)?;
+    let name = Text::copy_of(alloc, case.0)?;
+    Ok(added(alloc, catalog, &name, &def)?)
+}
+
+fn expect_added<R: Abort>(
+    rt: &R,
+    alloc: Global,
+    catalog: &mut Catalog,
+    rows: &[((&str, &str), &str)],
+) -> Result<(), Fail> {
+    for (case, want) in rows {
+        let found = add(alloc, catalog, case)?;
+        expect(rt, found.as_str(), *want);
     }
+    Ok(())
+}
+
+/// The ids of the active row of a name and of its newest.
+fn found(alloc: Global, catalog: &Catalog, name: &str) -> Result<String, AllocError> {
+    let text = Text::copy_of(alloc, name)?;
+    let mut told = String::new(alloc);
+    put_number(alloc, &mut told, catalog.find_active(&text).map(u32::from))?;
+    put_number(alloc, &mut told, catalog.find_newest(&text).map(u32::from))?;
+    String::from_str(alloc, told.as_str().trim_start())
 }
 
 fn row_text(alloc: Global, row: &CatRow) -> Result<String, AllocError> {
-    let mut told = format!(in alloc; "{} {} {:?}", row.id, row.name.as_str(), row.from)?;
-    let rest = format!(in alloc; " {:?} {}", row.to, row.def.as_str())?;
-    told.push_str(rest.as_str())?;
+    let (name, def) = (row.name.as_str(), row.def.as_str());
+    let mut told = format!(in alloc; "{} {name} {def},", row.id)?;
+    put_number(alloc, &mut told, row.from)?;
+    put_number(alloc, &mut told, row.to)?;
     Ok(told)
 }
 
-fn row_told(alloc: Global, rows: &[CatRow], id: usize) -> Result<String, AllocError> {
-    match rows.get(id) {
+fn row_told(alloc: Global, catalog: &Catalog, id: usize) -> Result<String, AllocError> {
+    match catalog.rows().get(id) {
         Some(row) => row_text(alloc, row),
         None => String::from_str(alloc, "none"),
     }
 }
 
-fn expect_answers<R: Abort>(rt: &R, alloc: Global, catalog: &mut Catalog) -> Result<(), Fail> {
-    for &(call, want) in CALLS {
-        let found = answer(alloc, catalog, call)?;
-        expect(rt, found.as_str(), want, "a call");
+fn expect_found<R: Abort>(
+    rt: &R,
+    alloc: Global,
+    catalog: &Catalog,
+    rows: &[(&str, &str)],
+) -> Result<(), AllocError> {
+    for (name, want) in rows {
+        let ids = found(alloc, catalog, name)?;
+        expect(rt, ids.as_str(), *want);
     }
+    Ok(())
+}
+
+fn expect_rows<R: Abort>(rt: &R, alloc: Global, catalog: &Catalog) -> Result<(), AllocError> {
     for &(id, want) in ROWS {
-        let found = row_told(alloc, catalog.rows(), id)?;
-        expect(rt, found.as_str(), want, "a row");
+        let row = row_told(alloc, catalog, id)?;
+        expect(rt, row.as_str(), want);
     }
+    Ok(())
+}
+
+/// Sets where a row's index begins, if it is there and has no beginning.
+fn set_from(catalog: &mut Catalog, id: u16, from: u32) {
+    match catalog.rows().get(usize::from(id)) {
+        Some(row) if row.from.is_none() => {}
+        _ => return,
+    }
+    catalog.set_from(id, from);
+}
+
+fn expect_first<R: Abort>(rt: &R, alloc: Global, catalog: &mut Catalog) -> Result<(), Fail> {
+    expect_found(rt, alloc, catalog, NONE_FOUND)?;
+    expect_added(rt, alloc, catalog, FIRST)?;
+    expect_found(rt, alloc, catalog, FIRST_FOUND)?;
+    set_from(catalog, 1, 7);
+    Ok(())
+}
+
+fn expect_calls<R: Abort>(rt: &R, alloc: Global, catalog: &mut Catalog) -> Result<(), Fail> {
+    expect_first(rt, alloc, catalog)?;
+    expect_added(rt, alloc, catalog, SECOND)?;
+    set_from(catalog, 0, 0);
+    expect_added(rt, alloc, catalog, THIRD)?;
+    expect_found(rt, alloc, catalog, ALL_FOUND)?;
+    expect_rows(rt, alloc, catalog)?;
     Ok(())
 }
 
 #[test]
 fn calls(rt: HostRuntime) -> Result<(), Fail> {
     let mut catalog = Catalog::new(rt.alloc());
-    let met = expect_answers(&rt, rt.alloc(), &mut catalog);
+    let met = expect_calls(&rt, rt.alloc(), &mut catalog);
     drop(catalog);
     met
 }
 
-/// Whether a stored entry is its copy, and whether it is a void.
-fn sameness(alloc: Global, stored: &Entry) -> Result<(bool, bool), AllocError> {
-    let copy = stored.again(alloc)?;
-    let same = (copy.is(stored), stored.is(&Entry::Void));
+fn stored(alloc: Global, payload: &str) -> Result<Entry, AllocError> {
+    let payload = Text::copy_of(alloc, payload)?;
+    Ok(Entry::Stored {
+        lane: 2,
+        form: Form::Csv,
+        payload,
+    })
+}
+
+/// Whether an entry is its copy, and whether it is a void.
+fn sameness(alloc: Global, entry: &Entry) -> Result<&'static str, AllocError> {
+    let copy = entry.again(alloc)?;
+    let same = copy.is(entry);
     drop(copy);
-    Ok(same)
+    let void = Entry::Void;
+    let none = entry.is(&void);
+    drop(void);
+    Ok(if same && !none {
+        "a copy, no void"
+    } else {
+        "no copy, or a void"
+    })
+}
+
+fn entry_told(alloc: Global) -> Result<&'static str, AllocError> {
+    let entry = stored(alloc, "a,b")?;
+    let told = sameness(alloc, &entry);
+    drop(entry);
+    told
 }
 
 #[test]
 fn entries(rt: HostRuntime) -> Result<(), Fail> {
-    let payload = Text::copy_of(rt.alloc(), "a,b")?;
-    let stored = Entry::Stored {
-        lane: 2,
-        form: Form::Csv,
-        payload,
-    };
-    let same = sameness(rt.alloc(), &stored);
-    drop(stored);
-    let (copy, void) = same?;
-    expect_truth(&rt, copy, true, "a copy");
-    expect_truth(&rt, void, false, "a void");
+    expect(&rt, entry_told(rt.alloc())?, "a copy, no void");
     Ok(())
 }
 
-/// The words of the row `kind`, `take type`, which begins at record 6 and is active.
-const ROW: &[u64] = &[
-    7,
-    0,
-    4 + (9 << 8) + (1 << 16),
-    0x646e_696b,
-    0,
-    0,
-    0,
-    0x7079_7420_656b_6174,
-    0x65,
-    0,
-    0,
-    0,
-    0,
-    0,
-    0,
-    0,
-    0,
-    0,
-    0,
-    0,
-    0,
-    0,
-    0,
-    0,
-    0,
-    0,
-    0,
-    0,
-    0,
-    0,
-    0,
-    0,
-    0,
-    0,
-    0,
-    0,
-    0,
-    0,
-    0,
-];
+/// The words that are not 0 in hexadecimal digits, each behind its place.
+fn put_words(alloc: Global, told: &mut String, words: &[u64]) -> Result<(), AllocError> {
+    for (place, word) in words.iter().enumerate() {
+        if *word != 0 {
+            let text = format!(in alloc; "{place}:{word:x} ")?;
+            told.push_str(text.as_str())?;
+        }
+    }
+    Ok(())
+}
 
-/// The row's words, if its name may be one.
-fn words_of_row(alloc: Global) -> Result<Option<[u64; ROW_WORDS]>, Fail> {
-    let def = canonical(alloc, "take type")?;
-    let name = Text::copy_of(alloc, "kind")?;
+/// What is read of the words of a row: its id, whether it is active, its name and its text.
+fn put_listed(alloc: Global, told: &mut String, listed: &Listed) -> Result<(), AllocError> {
+    let text = format!(in alloc; "{} {} ", listed.id, listed.active)?;
+    told.push_str(text.as_str())?;
+    put_bytes(told, listed.name.as_bytes())?;
+    put_bytes(told, listed.def.as_bytes())
+}
+
+fn put_bytes(told: &mut String, bytes: &[u8]) -> Result<(), AllocError> {
+    for byte in bytes {
+        told.push(char::from(*byte))?;
+    }
+    told.push('|')
+}
+
+fn put_read(alloc: Global, told: &mut String, words: &[u64; ROW_WORDS]) -> Result<(), AllocError> {
+    let listed = read_row(alloc, 3, active_in(words[2]), words)?;
+    let done = put_listed(alloc, told, &listed);
+    drop(listed);
+    done
+}
+
+/// The words of a row, and what is read of them again.
+fn words_told(alloc: Global, row: &CatRow) -> Result<String, AllocError>
+    requires { IsRow row.now }
+{
+    let mut told = String::new(alloc);
+    let words = row_words(row);
+    put_words(alloc, &mut told, &words)?;
+    put_read(alloc, &mut told, &words)?;
+    Ok(told)
+}
+
+/// The same of the row `kind`, `take type`, which begins at record 6 and is active.
+fn both_ways(alloc: Global, name: Text, def: Text) -> Result<String, AllocError>
+    requires { IsCanonical def }
+{
     let len = name.as_bytes().len();
     if len == 0 || len > MAX_NAME {
-        return Ok(None);
+        return String::from_str(alloc, "no name");
     }
     let row = CatRow {
         id: 3,
@@ -235,37 +291,17 @@ fn words_of_row(alloc: Global) -> Result<Option<[u64; ROW_WORDS]>, Fail> {
         from: Some(6),
         to: None,
     };
-    let words = row_words(&row);
+    let told = words_told(alloc, &row);
     drop(row);
-    Ok(Some(words))
-}
-
-/// What is read of the words of a row: its id, whether it is active, its name and its text.
-fn listed_text(alloc: Global, words: &[u64; ROW_WORDS]) -> Result<String, AllocError> {
-    let listed = read_row(alloc, 3, active_in(words[2]), words)?;
-    let told = listed_told(alloc, &listed);
-    drop(listed);
     told
-}
-
-fn listed_told(alloc: Global, listed: &Listed) -> Result<String, AllocError> {
-    let mut told = format!(in alloc; "{} {}", listed.id, listed.active)?;
-    let name = format!(in alloc; " {:?}", listed.name.as_bytes())?;
-    told.push_str(name.as_str())?;
-    let def = format!(in alloc; " {:?}", listed.def.as_bytes())?;
-    told.push_str(def.as_str())?;
-    Ok(told)
 }
 
 #[test]
 fn row_both_ways(rt: HostRuntime) -> Result<(), Fail> {
-    let Some(words) = words_of_row(rt.alloc())? else {
-        panic!(rt; "a row");
-    };
-    expect_words(&rt, &words, ROW, "the words");
-    let told = listed_text(rt.alloc(), &words)?;
-    // `kind` and `take type` in ASCII
-    let want = "3 true [107, 105, 110, 100] [116, 97, 107, 101, 32, 116, 121, 112, 101]";
-    expect(&rt, told.as_str(), want, "the row again");
+    let def = canonical(rt.alloc(), "take type")?;
+    let name = Text::copy_of(rt.alloc(), "kind")?;
+    let told = both_ways(rt.alloc(), name, def)?;
+    let want = "0:7 2:10904 3:646e696b 7:70797420656b6174 8:65 3 true kind|take type|";
+    expect(&rt, told.as_str(), want);
     Ok(())
 }

@@ -1,6 +1,6 @@
 //! The language's table, and the cases round it.
 
-use crate::told::expect;
+use crate::told::{agreed, expect_all};
 use fish_lang::{Def, LangRefusal, parse_def, print_def};
 use std::alloc::{AllocError, Global};
 use std::test::Fail;
@@ -26,8 +26,8 @@ fn refusal_text(alloc: Global, refusal: LangRefusal) -> Result<String, AllocErro
     format!(in alloc; "{refusal}")
 }
 
-/// Definitions, and their canonical texts, each of which is its own.
-const PRINTED: &[(&str, &str)] = &[
+/// Definitions, and their canonical texts, each of which is its own; texts that are none, and why.
+const DEFINITIONS: &[(&str, &str)] = &[
     (
         "take  \"type\"  when not ( n<3 or n >5)",
         "take type when not (n < 3 or n > 5)",
@@ -58,10 +58,7 @@ const PRINTED: &[(&str, &str)] = &[
         "flag when ((((((((((((((((a = 1))))))))))))))))",
         "flag when a = 1",
     ),
-];
-
-/// Texts that are no definitions, and why.
-const REFUSED: &[(&str, &str)] = &[
+    // Refusals.
     ("bucket n by 0", "zero width at 12"),
     ("take type whem x exists", "unexpected at 10"),
     (
@@ -88,82 +85,64 @@ const REFUSED: &[(&str, &str)] = &[
     ),
 ];
 
-#[test]
-fn canonical_texts(rt: HostRuntime) -> Result<(), Fail> {
-    for &(source, want) in PRINTED {
-        let found = told(rt.alloc(), source)?;
-        expect(&rt, found.as_str(), want, source);
-        let again = told(rt.alloc(), want)?;
-        expect(&rt, again.as_str(), want, want);
+/// The canonical text of a definition, which is its own, or why it is refused.
+fn told_again(alloc: Global, source: &&str) -> Result<String, AllocError> {
+    let text = told(alloc, source)?;
+    if is_refusal(text.as_str()) {
+        return Ok(text);
     }
-    Ok(())
+    let again = told(alloc, text.as_str())?;
+    agreed(alloc, text.as_str(), again.as_str())
+}
+
+/// A definition begins with one of three words, and no refusal does.
+fn is_refusal(text: &str) -> bool {
+    !(text.starts_with("take ") || text.starts_with("bucket ") || text.starts_with("flag "))
 }
 
 #[test]
-fn refusals(rt: HostRuntime) -> Result<(), Fail> {
-    for &(source, want) in REFUSED {
-        let found = told(rt.alloc(), source)?;
-        expect(&rt, found.as_str(), want, source);
-    }
+fn definitions(rt: HostRuntime) -> Result<(), Fail> {
+    expect_all(&rt, rt.alloc(), DEFINITIONS, told_again)?;
     Ok(())
 }
 
-/// A definition's beginning, a piece, how often it follows, the end, and why the text is refused; an
-/// empty text where it is its own canonical text.
-const LONG: &[(&str, &str, usize, &str, &str)] = &[
-    ("take a", ".abc", 62, "", ""),
-    ("take a", ".abc", 62, ".", "unexpected at 255"),
-    ("take a", ".abc", 61, ".abcd", ""),
-    ("take a", ".abc", 62, ".b", "too long 256"),
-    ("take a", "b", 249, "", ""),
-    ("take a", "b", 250, "", "too long 256"),
+/// A text's beginning, a piece, how often it follows, and the end; and what is told of the text, or `itself`.
+const LONG: &[((&str, &str, usize, &str), &str)] = &[
+    (("take a", ".abc", 62, ""), "itself"),
+    (("take a", ".abc", 62, "."), "unexpected at 255"),
+    (("take a", ".abc", 61, ".abcd"), "itself"),
+    (("take a", ".abc", 62, ".b"), "too long 256"),
+    (("take a", "b", 249, ""), "itself"),
+    (("take a", "b", 250, ""), "too long 256"),
+    // Sources.
+    (("take a", " ", 4_090, ""), "take a"),
+    (("take a", " ", 4_091, ""), "too long 4097"),
+    (("take a", " ", 4_250, ""), "too long 4256"),
+    (("bucket n by", " ", 4_085, ""), "unexpected at 4096"),
+    (("bucket n by", " ", 4_086, ""), "too long 4097"),
 ];
 
-/// A text with a piece so often between its beginning and its end.
-fn long_text(
-    alloc: Global,
-    front: &str,
-    piece: &str,
-    times: usize,
-    end: &str,
-) -> Result<String, AllocError> {
+fn long_text(alloc: Global, case: &(&str, &str, usize, &str)) -> Result<String, AllocError> {
+    let (front, piece, times, end) = case;
     let mut text = String::from_str(alloc, front)?;
-    for _ in 0..times {
+    for _ in 0..*times {
         text.push_str(piece)?;
     }
     text.push_str(end)?;
     Ok(text)
 }
 
-#[test]
-fn long_canonical_texts(rt: HostRuntime) -> Result<(), Fail> {
-    for &(front, piece, times, end, refusal) in LONG {
-        let source = long_text(rt.alloc(), front, piece, times, end)?;
-        let want = if refusal.is_empty() {
-            source.as_str()
-        } else {
-            refusal
-        };
-        let found = told(rt.alloc(), source.as_str())?;
-        expect(&rt, found.as_str(), want, source.as_str());
+fn long_told(alloc: Global, case: &(&str, &str, usize, &str)) -> Result<String, AllocError> {
+    let source = long_text(alloc, case)?;
+    let text = told(alloc, source.as_str())?;
+    if text.as_str() == source.as_str() {
+        return String::from_str(alloc, "itself");
     }
-    Ok(())
+    Ok(text)
 }
 
-/// A source's beginning, the blanks behind it, and what is told of it.
-const BLANKS: &[(&str, usize, &str)] = &[
-    ("take a", 4_090, "take a"),
-    ("take a", 4_091, "too long 4097"),
-    ("bucket n by", 4_085, "unexpected at 4096"),
-    ("bucket n by", 4_086, "too long 4097"),
-];
-
 #[test]
-fn long_sources(rt: HostRuntime) -> Result<(), Fail> {
-    for &(front, blanks, want) in BLANKS {
-        let source = long_text(rt.alloc(), front, " ", blanks, "")?;
-        let found = told(rt.alloc(), source.as_str())?;
-        expect(&rt, found.as_str(), want, front);
-    }
+fn long_texts(rt: HostRuntime) -> Result<(), Fail> {
+    expect_all(&rt, rt.alloc(), LONG, long_told)?;
     Ok(())
 }

@@ -1,45 +1,53 @@
 //! The records of whole files of both forms, with answers worked out by hand.
 
-use crate::told::{expect, expect_number};
+use crate::told::{expect, expect_all};
 use fish_lines::{Records, records};
 use fish_value::Form;
 use std::alloc::{AllocError, Global};
 use std::test::Fail;
 
 /// Forms, headers, files, and the payloads with a bar behind each and how many lines or rows are refused.
-const FILES: &[(Form, bool, &[u8], &str)] = &[
+const FILES: &[((Form, bool, &[u8]), &str)] = &[
     (
-        Form::Json,
-        false,
-        b"{\"type\":\"Push\",\"n\":1}\n{\"type\":\"Open\",\"n\":2}\n{\"type\":\"Push\",\"n\":3}\n",
+        (
+            Form::Json,
+            false,
+            b"{\"type\":\"Push\",\"n\":1}\n{\"type\":\"Open\",\"n\":2}\n{\"type\":\"Push\",\"n\":3}\n",
+        ),
         "{\"type\":\"Push\",\"n\":1}|{\"type\":\"Open\",\"n\":2}|{\"type\":\"Push\",\"n\":3}| 0",
     ),
     (
-        Form::Json,
-        true,
-        b"\xef\xbb\xbf{\"n\":1}\r\n\n[1]\n{\"n\":\n{\"n\":2}",
+        (
+            Form::Json,
+            true,
+            b"\xef\xbb\xbf{\"n\":1}\r\n\n[1]\n{\"n\":\n{\"n\":2}",
+        ),
         "{\"n\":1}|{\"n\":2}| 2",
     ),
     // Lines that end in CR LF, in LF and not at all, a blank one, a mark, and one that is refused.
     (
-        Form::Json,
-        false,
-        b"\xef\xbb\xbf{\"n\":1}\r\n{\"n\":2}\n \t\r\n{\"n\":3,}\r\n{\"n\": 4}",
+        (
+            Form::Json,
+            false,
+            b"\xef\xbb\xbf{\"n\":1}\r\n{\"n\":2}\n \t\r\n{\"n\":3,}\r\n{\"n\": 4}",
+        ),
         "{\"n\":1}|{\"n\":2}|{\"n\": 4}| 1",
     ),
     // A mark in front of a later line is no JSON, and neither are bytes that are no text.
     (
-        Form::Json,
-        false,
-        b"{\"n\":1}\n\xef\xbb\xbf{\"n\":2}\n{\"n\":\"\xff\"}\r\n{\"n\":3}\r",
+        (
+            Form::Json,
+            false,
+            b"{\"n\":1}\n\xef\xbb\xbf{\"n\":2}\n{\"n\":\"\xff\"}\r\n{\"n\":3}\r",
+        ),
         "{\"n\":1}|{\"n\":3}| 2",
     ),
-    (Form::Csv, true, b"h1,h2\r\n1,2\n", "1,2| 0"),
-    (Form::Csv, false, b"a,\xff\nb\n", "b| 1"),
-    (Form::Csv, false, b"a,\"x,1\",007", "a,\"x,1\",007| 0"),
-    (Form::Csv, false, b"\"a\nb\",c\nd", "\"a\nb\",c|d| 0"),
-    (Form::Csv, true, b"", " 0"),
-    (Form::Csv, false, b"x\n\xef\xbb\xbf\ny\n", "x|y| 1"),
+    ((Form::Csv, true, b"h1,h2\r\n1,2\n"), "1,2| 0"),
+    ((Form::Csv, false, b"a,\xff\nb\n"), "b| 1"),
+    ((Form::Csv, false, b"a,\"x,1\",007"), "a,\"x,1\",007| 0"),
+    ((Form::Csv, false, b"\"a\nb\",c\nd"), "\"a\nb\",c|d| 0"),
+    ((Form::Csv, true, b""), " 0"),
+    ((Form::Csv, false, b"x\n\xef\xbb\xbf\ny\n"), "x|y| 1"),
 ];
 
 /// The payloads of a file with a bar behind each and how many lines or rows are refused, or why the file
@@ -66,17 +74,18 @@ fn records_text(alloc: Global, found: &Records) -> Result<String, AllocError> {
     Ok(told)
 }
 
+fn file_told(alloc: Global, case: &(Form, bool, &[u8])) -> Result<String, AllocError> {
+    told(alloc, case.0, case.1, case.2)
+}
+
 #[test]
 fn records_of_files(rt: HostRuntime) -> Result<(), Fail> {
-    for &(form, header, b, want) in FILES {
-        let found = told(rt.alloc(), form, header, b)?;
-        expect(&rt, found.as_str(), want, "a file");
-    }
+    expect_all(&rt, rt.alloc(), FILES, file_told)?;
     Ok(())
 }
 
 /// The bytes of a line of JSON, and those of what is told of a file of it: the line, and `| 0`, or ` 1`.
-const LINES: &[(usize, u64)] = &[(524_288, 524_291), (524_289, 2)];
+const LINES: &[(usize, &str)] = &[(524_288, "524291 bytes"), (524_289, "2 bytes")];
 
 /// A line of JSON of that many bytes.
 fn long_line(alloc: Global, len: usize) -> Result<String, AllocError> {
@@ -88,17 +97,15 @@ fn long_line(alloc: Global, len: usize) -> Result<String, AllocError> {
     Ok(line)
 }
 
-fn line_told(alloc: Global, len: usize) -> Result<String, AllocError> {
-    let line = long_line(alloc, len)?;
-    told(alloc, Form::Json, false, line.as_bytes())
+fn line_told(alloc: Global, len: &usize) -> Result<String, AllocError> {
+    let line = long_line(alloc, *len)?;
+    let told = told(alloc, Form::Json, false, line.as_bytes())?;
+    format!(in alloc; "{} bytes", told.len())
 }
 
 #[test]
 fn records_of_long_lines(rt: HostRuntime) -> Result<(), Fail> {
-    for &(len, want) in LINES {
-        let found = line_told(rt.alloc(), len)?;
-        expect_number(&rt, found.len() as u64, want, "a line");
-    }
+    expect_all(&rt, rt.alloc(), LINES, line_told)?;
     Ok(())
 }
 
@@ -112,8 +119,11 @@ fn large_told(alloc: Global) -> Result<(String, String), AllocError> {
 #[test]
 fn records_of_large_files(rt: HostRuntime) -> Result<(), Fail> {
     let (csv, json) = large_told(rt.alloc())?;
-    let want = "a file in CSV has at most 67108864 bytes";
-    expect(&rt, csv.as_str(), want, "a file in CSV");
-    expect(&rt, json.as_str(), " 1", "a file in JSON");
+    expect(
+        &rt,
+        csv.as_str(),
+        "a file in CSV has at most 67108864 bytes",
+    );
+    expect(&rt, json.as_str(), " 1");
     Ok(())
 }

@@ -1,33 +1,34 @@
 //! Hashes of keys: the vectors that the authors of FNV-1a give, and keys that another program hashed.
 
-use crate::told::{expect, expect_number};
+use crate::told::expect_all;
 use fish_layout::{bucket_of, key_hash};
 use fish_value::{Value, read_value};
 use std::alloc::{AllocError, Global};
 use std::test::Fail;
 
 /// An id, a value's text, and the hash of the id's two bytes and the value's.
-const HASHES: &[(u16, &str, &str)] = &[
+const HASHES: &[((u16, &str), &str)] = &[
     // `fo`, `foo`, `foob`, `fooba`, `foobar` and `chongo was here!` with a line's end, whose first two
     // bytes are the id.
-    (0x6f66, "\"\"", "08985907b541d342"),
-    (0x6f66, "\"o\"", "dcb27518fed9d577"),
-    (0x6f66, "\"ob\"", "dd120e790c2512af"),
-    (0x6f66, "\"oba\"", "cac165afa2fef40a"),
-    (0x6f66, "\"obar\"", "85944171f73967e8"),
-    (0x6863, "\"ongo was here!\\n\"", "46810940eff5f915"),
-    (0, "\"Push\"", "4cb5b66ad1f41df5"),
-    (0, "\"\"", "08328807b4eb6fed"),
-    (1, "7", "32331fbf92b78323"),
-    (0x102, "-1", "238a59cd8ba3e884"),
-    (255, "true", "f9210a1be4164051"),
-    (255, "false", "f921091be4163e9e"),
+    ((0x6f66, "\"\""), "08985907b541d342"),
+    ((0x6f66, "\"o\""), "dcb27518fed9d577"),
+    ((0x6f66, "\"ob\""), "dd120e790c2512af"),
+    ((0x6f66, "\"oba\""), "cac165afa2fef40a"),
+    ((0x6f66, "\"obar\""), "85944171f73967e8"),
+    ((0x6863, "\"ongo was here!\\n\""), "46810940eff5f915"),
+    ((0, "\"Push\""), "4cb5b66ad1f41df5"),
+    ((0, "\"\""), "08328807b4eb6fed"),
+    ((1, "7"), "32331fbf92b78323"),
+    ((0x102, "-1"), "238a59cd8ba3e884"),
+    ((255, "true"), "f9210a1be4164051"),
+    ((255, "false"), "f921091be4163e9e"),
 ];
 
 /// The hash of a key with this id and value in hexadecimal digits, or `none` where the text is no value.
-fn hash_of(alloc: Global, id: u16, text: &str) -> Result<String, AllocError> {
+fn hash_of(alloc: Global, case: &(u16, &str)) -> Result<String, AllocError> {
+    let (id, text) = case;
     let value = read_value(alloc, text.as_bytes())?;
-    let told = hash_text(alloc, id, &value);
+    let told = hash_text(alloc, *id, &value);
     drop(value);
     told
 }
@@ -41,26 +42,29 @@ fn hash_text(alloc: Global, id: u16, value: &Option<Value>) -> Result<String, Al
 
 #[test]
 fn hashes(rt: HostRuntime) -> Result<(), Fail> {
-    for &(id, text, want) in HASHES {
-        let hash = hash_of(rt.alloc(), id, text)?;
-        expect(&rt, hash.as_str(), want, text);
-    }
+    expect_all(&rt, rt.alloc(), HASHES, hash_of)?;
     Ok(())
 }
 
-/// A hash, how many buckets there are, and its bucket.
-const BUCKETS: &[(u64, u64, u64)] = &[
-    (0x4cb5_b66a_d1f4_1df5, 65_536, 0x1df5),
-    (0x4cb5_b66a_d1f4_1df5, 1, 0),
-    (0x4cb5_b66a_d1f4_1df5, 10, 7),
-    (18_446_744_073_709_551_615, 1_000, 615),
+/// A hash and how many buckets there are, and its bucket.
+const BUCKETS: &[((u64, u64), &str)] = &[
+    ((0x4cb5_b66a_d1f4_1df5, 65_536), "1df5"),
+    ((0x4cb5_b66a_d1f4_1df5, 1), "0"),
+    ((0x4cb5_b66a_d1f4_1df5, 10), "7"),
+    ((18_446_744_073_709_551_615, 1_000), "267"),
 ];
 
-#[test]
-fn buckets(rt: HostRuntime) {
-    for &(hash, buckets, want) in BUCKETS {
-        if buckets > 0 {
-            expect_number(&rt, bucket_of(hash, buckets), want, "a bucket");
-        }
+/// The bucket in hexadecimal digits, or `none` where there are no buckets.
+fn bucket_told(alloc: Global, case: &(u64, u64)) -> Result<String, AllocError> {
+    let (hash, buckets) = case;
+    if *buckets == 0 {
+        return String::from_str(alloc, "none");
     }
+    format!(in alloc; "{:x}", bucket_of(*hash, *buckets))
+}
+
+#[test]
+fn buckets(rt: HostRuntime) -> Result<(), Fail> {
+    expect_all(&rt, rt.alloc(), BUCKETS, bucket_told)?;
+    Ok(())
 }

@@ -1,6 +1,6 @@
 //! Headers of regions of the log, with words that another program packed by the table of bits.
 
-use crate::told::{expect, expect_number};
+use crate::told::{expect, expect_all};
 use fish_layout::{header_of, void_header};
 use std::alloc::{AllocError, Global};
 use std::test::Fail;
@@ -25,8 +25,8 @@ const HEADERS: &[(u64, &str)] = &[
     (0x2000_0400_0800_0001, "none"),
 ];
 
-fn told(alloc: Global, word: u64) -> Result<String, AllocError> {
-    let Some(header) = header_of(word) else {
+fn told(alloc: Global, word: &u64) -> Result<String, AllocError> {
+    let Some(header) = header_of(*word) else {
         return String::from_str(alloc, "none");
     };
     let (lines, form, keys) = (header.lines, header.form, header.keys);
@@ -36,15 +36,13 @@ fn told(alloc: Global, word: u64) -> Result<String, AllocError> {
 
 #[test]
 fn headers(rt: HostRuntime) -> Result<(), Fail> {
-    for &(word, want) in HEADERS {
-        let found = told(rt.alloc(), word)?;
-        expect(&rt, found.as_str(), want, want);
-    }
+    expect_all(&rt, rt.alloc(), HEADERS, told)?;
     Ok(())
 }
 
 #[test]
-fn voids(rt: HostRuntime) {
-    expect_number(&rt, void_header(1), 0x2_0001, "a void of a line");
-    expect_number(&rt, void_header(65_535), 0x2_ffff, "a void of 65,535 lines");
+fn voids(rt: HostRuntime) -> Result<(), Fail> {
+    let words = format!(in rt.alloc(); "{:x} {:x}", void_header(1), void_header(65_535))?;
+    expect(&rt, words.as_str(), "20001 2ffff");
+    Ok(())
 }

@@ -1,11 +1,10 @@
 //! Lines with answers from outside: RFC 8259, and what `serde_json` 1.0 of Rust says of the rest.
 //! Each is read as a tree and over a tape.
 
-use crate::told::{expect, field_at, path_of};
+use crate::told::{agreed, expect_all, field_at, path_of};
 use fish_json::{JsonReader, JsonRecord, RecordRefusal};
 use fish_value::Path;
 use std::alloc::{AllocError, Global};
-use std::process::Abort;
 use std::test::Fail;
 
 const NO_JSON: &str = "no JSON in UTF-8";
@@ -15,88 +14,89 @@ const NO_OBJECT: &str = "JSON, but no object";
 const TOO_LONG: &str = "a record has at most 524288 bytes";
 
 /// Lines, paths with a dot between the names, and what is wanted.
-const LINES: &[(&str, &str, &str)] = &[
+const LINES: &[((&[u8], &str), &str)] = &[
     // Paths.
-    ("{}", "a", "missing"),
-    ("{\"a\":{\"b\":null}}", "a", "other"),
-    ("{\"a\":{\"b\":null}}", "a.b", "null"),
-    ("{\"a\":{\"b\":null}}", "a.b.c", "missing"),
-    ("{\"a\":{\"b\":null}}", "a.c", "missing"),
-    ("{\"a\":{\"b\":null}}", "b", "missing"),
-    ("{\"a\":[{\"b\":1}]}", "a", "other"),
-    ("{\"a\":[{\"b\":1}]}", "a.b", "missing"),
-    ("{\"a\":[[],{}],\"b\":{\"c\":true}}", "b.c", "true"),
-    ("{\"ab\":1,\"\":2}", "", "int 2"),
-    ("{\"ab\":1,\"\":2}", "a", "missing"),
+    ((b"{}", "a"), "missing"),
+    ((b"{\"a\":{\"b\":null}}", "a"), "other"),
+    ((b"{\"a\":{\"b\":null}}", "a.b"), "null"),
+    ((b"{\"a\":{\"b\":null}}", "a.b.c"), "missing"),
+    ((b"{\"a\":{\"b\":null}}", "a.c"), "missing"),
+    ((b"{\"a\":{\"b\":null}}", "b"), "missing"),
+    ((b"{\"a\":[{\"b\":1}]}", "a"), "other"),
+    ((b"{\"a\":[{\"b\":1}]}", "a.b"), "missing"),
+    ((b"{\"a\":[[],{}],\"b\":{\"c\":true}}", "b.c"), "true"),
+    ((b"{\"ab\":1,\"\":2}", ""), "int 2"),
+    ((b"{\"ab\":1,\"\":2}", "a"), "missing"),
     // Of two equal names the last counts, also where they are written in two ways.
-    ("{\"a\":1,\"b\":3,\"a\":2}", "a", "int 2"),
-    ("{\"a\":1,\"\\u0061\":null}", "a", "null"),
-    ("{\"a\":{\"b\":1},\"a\":{\"c\":2}}", "a.b", "missing"),
-    ("{\"a\":{\"b\":1},\"a\":{\"c\":2}}", "a.c", "int 2"),
+    ((b"{\"a\":1,\"b\":3,\"a\":2}", "a"), "int 2"),
+    ((b"{\"a\":1,\"\\u0061\":null}", "a"), "null"),
+    ((b"{\"a\":{\"b\":1},\"a\":{\"c\":2}}", "a.b"), "missing"),
+    ((b"{\"a\":{\"b\":1},\"a\":{\"c\":2}}", "a.c"), "int 2"),
     // Numbers: those of 64 bits with a sign, then any double.
-    ("{\"a\":0}", "a", "int 0"),
-    ("{\"a\":-1}", "a", "int -1"),
+    ((b"{\"a\":0}", "a"), "int 0"),
+    ((b"{\"a\":-1}", "a"), "int -1"),
     (
-        "{\"a\":9223372036854775807}",
-        "a",
+        (b"{\"a\":9223372036854775807}", "a"),
         "int 9223372036854775807",
     ),
-    ("{\"a\":9223372036854775808}", "a", "other"),
+    ((b"{\"a\":9223372036854775808}", "a"), "other"),
     (
-        "{\"a\":-9223372036854775808}",
-        "a",
+        (b"{\"a\":-9223372036854775808}", "a"),
         "int -9223372036854775808",
     ),
-    ("{\"a\":-9223372036854775809}", "a", "other"),
-    ("{\"a\":18446744073709551615}", "a", "other"),
-    ("{\"a\":18446744073709551616}", "a", "other"),
-    ("{\"a\":-0}", "a", "other"),
-    ("{\"a\":1.0}", "a", "other"),
-    ("{\"a\":1e0}", "a", "other"),
-    ("{\"a\":1e308}", "a", "other"),
-    ("{\"a\":5e-324}", "a", "other"),
-    ("{\"a\":1e-999}", "a", "other"),
+    ((b"{\"a\":-9223372036854775809}", "a"), "other"),
+    ((b"{\"a\":18446744073709551615}", "a"), "other"),
+    ((b"{\"a\":18446744073709551616}", "a"), "other"),
+    ((b"{\"a\":-0}", "a"), "other"),
+    ((b"{\"a\":1.0}", "a"), "other"),
+    ((b"{\"a\":1e0}", "a"), "other"),
+    ((b"{\"a\":1e308}", "a"), "other"),
+    ((b"{\"a\":5e-324}", "a"), "other"),
+    ((b"{\"a\":1e-999}", "a"), "other"),
     // IEEE 754: below halfway from the greatest double to 2^1024, and above it.
-    ("{\"a\":1.797693134862315807e308}", "a", "other"),
-    ("{\"a\":-1.797693134862315807e308}", "a", "other"),
-    ("{\"a\":1.7976931348623159e308}", "a", NO_JSON),
-    ("{\"a\":-1.7976931348623159e308}", "a", NO_JSON),
-    ("{\"a\":1,\"b\":[1e999]}", "a", NO_JSON),
-    ("{\"a\":01}", "a", NO_JSON),
-    ("{\"a\":-}", "a", NO_JSON),
-    ("{\"a\":1.}", "a", NO_JSON),
-    ("{\"a\":.5}", "a", NO_JSON),
-    ("{\"a\":1e}", "a", NO_JSON),
-    ("{\"a\":+1}", "a", NO_JSON),
+    ((b"{\"a\":1.797693134862315807e308}", "a"), "other"),
+    ((b"{\"a\":-1.797693134862315807e308}", "a"), "other"),
+    ((b"{\"a\":1.7976931348623159e308}", "a"), NO_JSON),
+    ((b"{\"a\":-1.7976931348623159e308}", "a"), NO_JSON),
+    ((b"{\"a\":1,\"b\":[1e999]}", "a"), NO_JSON),
+    ((b"{\"a\":01}", "a"), NO_JSON),
+    ((b"{\"a\":-}", "a"), NO_JSON),
+    ((b"{\"a\":1.}", "a"), NO_JSON),
+    ((b"{\"a\":.5}", "a"), NO_JSON),
+    ((b"{\"a\":1e}", "a"), NO_JSON),
+    ((b"{\"a\":+1}", "a"), NO_JSON),
     // Texts.
-    ("{\"a\":\"\\u00e9\\n\\u0000\"}", "a", "text é\n\0"),
+    ((b"{\"a\":\"\\u00e9\\n\\u0000\"}", "a"), "text é\n\0"),
     (
-        "{\"a\":\"\\\"\\\\\\/\\b\\f\\n\\r\\t\"}",
-        "a",
+        (b"{\"a\":\"\\\"\\\\\\/\\b\\f\\n\\r\\t\"}", "a"),
         "text \"\\/\u{8}\u{c}\n\r\t",
     ),
-    ("{\"a\":\"\\ud83d\\ude00\"}", "a", "text 😀"),
-    ("{\"a\":\"\\uD83D\\uDE00\"}", "a", "text 😀"),
-    ("{\"a\":\"\\ud83d\"}", "a", NO_JSON),
-    ("{\"a\":\"\\ud83d\\u0061\"}", "a", NO_JSON),
-    ("{\"a\":\"\\ude00\\ud83d\"}", "a", NO_JSON),
-    ("{\"a\":\"\\x61\"}", "a", NO_JSON),
-    ("{\"a\":\"\0\"}", "a", NO_JSON),
-    ("{\"a\":\"\t\"}", "a", NO_JSON),
+    ((b"{\"a\":\"\\ud83d\\ude00\"}", "a"), "text 😀"),
+    ((b"{\"a\":\"\\uD83D\\uDE00\"}", "a"), "text 😀"),
+    ((b"{\"a\":\"\\ud83d\"}", "a"), NO_JSON),
+    ((b"{\"a\":\"\\ud83d\\u0061\"}", "a"), NO_JSON),
+    ((b"{\"a\":\"\\ude00\\ud83d\"}", "a"), NO_JSON),
+    ((b"{\"a\":\"\\x61\"}", "a"), NO_JSON),
+    ((b"{\"a\":\"\0\"}", "a"), NO_JSON),
+    ((b"{\"a\":\"\t\"}", "a"), NO_JSON),
     // Blanks round the object, and what is more than an object or less.
-    (" \t\r\n{ \"a\" : false } \n", "a", "false"),
-    ("{\"a\":1}\0", "a", NO_JSON),
-    ("{\"a\":1}{}", "a", NO_JSON),
-    ("\u{feff}{\"a\":1}", "a", NO_JSON),
-    ("{\"a\":1,}", "a", NO_JSON),
-    ("{a:1}", "a", NO_JSON),
-    ("{\"a\":1", "a", NO_JSON),
-    ("", "a", NO_JSON),
-    (" ", "a", NO_JSON),
-    ("[{\"a\":1}]", "a", NO_OBJECT),
-    ("\"a\"", "a", NO_OBJECT),
-    ("1", "a", NO_OBJECT),
-    ("null", "a", NO_OBJECT),
+    ((b" \t\r\n{ \"a\" : false } \n", "a"), "false"),
+    ((b"{\"a\":1}\0", "a"), NO_JSON),
+    ((b"{\"a\":1}{}", "a"), NO_JSON),
+    ((b"\xef\xbb\xbf{\"a\":1}", "a"), NO_JSON),
+    ((b"{\"a\":1,}", "a"), NO_JSON),
+    ((b"{a:1}", "a"), NO_JSON),
+    ((b"{\"a\":1", "a"), NO_JSON),
+    ((b"", "a"), NO_JSON),
+    ((b" ", "a"), NO_JSON),
+    ((b"[{\"a\":1}]", "a"), NO_OBJECT),
+    ((b"\"a\"", "a"), NO_OBJECT),
+    ((b"1", "a"), NO_OBJECT),
+    ((b"null", "a"), NO_OBJECT),
+    // Bytes that are no text: one that begins no character, a surrogate, a long form of `/`.
+    ((b"{\"a\":\"\xff\"}", "a"), NO_JSON),
+    ((b"{\"a\":\"\xed\xa0\x80\"}", "a"), NO_JSON),
+    ((b"{\"a\":\"\xc0\xaf\"}", "a"), NO_JSON),
 ];
 
 /// What a line has at a path, or why it is refused, by the tree.
@@ -132,64 +132,44 @@ fn refusal_text(alloc: Global, refusal: RecordRefusal) -> Result<String, AllocEr
     format!(in alloc; "{refusal}")
 }
 
-/// Expects what a line has at a path, by both readers.
-fn expect_field<R: Abort>(
-    rt: &R,
-    alloc: Global,
-    reader: &mut JsonReader,
-    line: &str,
-    names: &str,
-    want: &str,
-) -> Result<(), AllocError> {
+/// A line that a reader reads before, so that it has memory of another one.
+const BEFORE: &[u8] = b"{\"a\":[\"x\",{\"b\":[1,2]}],\"b\":\"\\n\",\"c\":{}}";
+
+/// The same over the tape of a reader that has read another line.
+fn in_later_row(alloc: Global, line: &[u8], path: &Path) -> Result<String, AllocError> {
+    let mut reader = JsonReader::new(alloc);
+    let before = in_row(alloc, &mut reader, BEFORE, path);
+    let told = in_row(alloc, &mut reader, line, path);
+    drop(reader);
+    drop(before?);
+    told
+}
+
+/// What a line has at a path, by both.
+fn told(alloc: Global, line: &[u8], names: &str) -> Result<String, AllocError> {
     let path = path_of(alloc, names)?;
-    let found = in_record(alloc, line.as_bytes(), &path)?;
-    expect(rt, found.as_str(), want, line);
-    let found = in_row(alloc, reader, line.as_bytes(), &path)?;
-    expect(rt, found.as_str(), want, line);
-    Ok(())
+    let tree = in_record(alloc, line, &path)?;
+    let tape = in_later_row(alloc, line, &path)?;
+    agreed(alloc, tree.as_str(), tape.as_str())
+}
+
+fn line_told(alloc: Global, case: &(&[u8], &str)) -> Result<String, AllocError> {
+    told(alloc, case.0, case.1)
 }
 
 #[test]
 fn fields(rt: HostRuntime) -> Result<(), Fail> {
-    let mut reader = JsonReader::new(rt.alloc());
-    for &(line, names, want) in LINES {
-        expect_field(&rt, rt.alloc(), &mut reader, line, names, want)?;
-    }
+    expect_all(&rt, rt.alloc(), LINES, line_told)?;
     Ok(())
 }
 
-/// Bytes that are no text: one that begins no character, a surrogate, a long form of `/`.
-const NO_TEXTS: &[&[u8]] = &[
-    b"{\"a\":\"\xff\"}",
-    b"{\"a\":\"\xed\xa0\x80\"}",
-    b"{\"a\":\"\xc0\xaf\"}",
-];
-
-/// What both readers tell of bytes that are no text.
-fn refused(alloc: Global, line: &[u8]) -> Result<(String, String), AllocError> {
-    let path = path_of(alloc, "a")?;
-    let mut reader = JsonReader::new(alloc);
-    let row = in_row(alloc, &mut reader, line, &path)?;
-    Ok((in_record(alloc, line, &path)?, row))
-}
-
-#[test]
-fn bytes_that_are_no_text(rt: HostRuntime) -> Result<(), Fail> {
-    for &line in NO_TEXTS {
-        let (record, row) = refused(rt.alloc(), line)?;
-        expect(&rt, record.as_str(), NO_JSON, "no text");
-        expect(&rt, row.as_str(), NO_JSON, "no text in a row");
-    }
-    Ok(())
-}
-
-/// Arrays in an object, bytes of the line with the blanks behind it, and what is wanted.
-const SIZES: &[(usize, usize, &str)] = &[
-    (125, 0, "other"),
-    (126, 0, "other"),
-    (127, 0, NO_JSON),
-    (1, 524_288, "other"),
-    (1, 524_289, TOO_LONG),
+/// Arrays in an object and bytes of the line with the blanks behind it, and what is wanted.
+const SIZES: &[((usize, usize), &str)] = &[
+    ((125, 0), "other"),
+    ((126, 0), "other"),
+    ((127, 0), NO_JSON),
+    ((1, 524_288), "other"),
+    ((1, 524_289), TOO_LONG),
 ];
 
 /// An object whose one member is that many arrays, each in the other, with blanks behind it.
@@ -209,12 +189,13 @@ fn nested(alloc: Global, arrays: usize, len: usize) -> Result<String, AllocError
     Ok(line)
 }
 
+fn nested_told(alloc: Global, case: &(usize, usize)) -> Result<String, AllocError> {
+    let line = nested(alloc, case.0, case.1)?;
+    told(alloc, line.as_bytes(), "a")
+}
+
 #[test]
 fn limits(rt: HostRuntime) -> Result<(), Fail> {
-    let mut reader = JsonReader::new(rt.alloc());
-    for &(arrays, len, want) in SIZES {
-        let line = nested(rt.alloc(), arrays, len)?;
-        expect_field(&rt, rt.alloc(), &mut reader, line.as_str(), "a", want)?;
-    }
+    expect_all(&rt, rt.alloc(), SIZES, nested_told)?;
     Ok(())
 }

@@ -4,14 +4,13 @@
 ghost use Rattle.std.specs.Prelude.{◌≡◌, ◌<◌};
 
 use crate::json_payloads::{Seeded, change_byte, nested, object};
-use crate::told::{expect, expect_truth, field_at, path_of};
+use crate::told::{expect, field_at, path_of};
 use fish_json::{JsonReader, JsonRecord};
 use fish_psf::{Parsed, Steps};
 use fish_read::RecordReader;
 use fish_value::{Form, Path};
 use std::alloc::{AllocError, Global};
 use std::marker::Brand;
-use std::process::Abort;
 use std::sync::ledger::{Blank, Ledger};
 use std::test::Fail;
 
@@ -113,45 +112,65 @@ fn of_any_form(told: &str) -> &str {
     }
 }
 
-/// Expects that all tell the same of a payload, and answers whether it is a record.
-fn expect_same<R: Abort, P: Ledger>(
-    rt: &R,
+/// What a payload is by all of them: a record or none, or which of them differs from the tree.
+fn kind_of<P: Ledger>(
     alloc: Global,
     readers: &mut Readers<P>,
     b: &[u8],
-) -> Result<bool, AllocError> {
+) -> Result<&'static str, AllocError> {
     let paths = readers.paths.as_slice();
     let tree = by_tree(alloc, b, paths)?;
     let tape = by_tape(alloc, &mut readers.line, b, paths)?;
-    expect(rt, tape.as_str(), tree.as_str(), "by the tape");
     let row = by_form(alloc, &mut readers.payload, &mut readers.parses, b, paths)?;
-    expect(rt, row.as_str(), of_any_form(tree.as_str()), "by the form");
-    Ok(!is_refusal(tree.as_str()))
+    if tape.as_str() != tree.as_str() {
+        return Ok("the tape differs");
+    }
+    if row.as_str() != of_any_form(tree.as_str()) {
+        return Ok("the row differs");
+    }
+    Ok(if is_refusal(tree.as_str()) {
+        "none"
+    } else {
+        "a record"
+    })
 }
 
-/// Expects the same of an object, which is a record, and of its beginnings, which are none.
-fn expect_parts<R: Abort, P: Ledger>(
-    rt: &R,
+/// Puts a payload into a report where it is another kind than what is wanted.
+fn report_other<P: Ledger>(
     alloc: Global,
     readers: &mut Readers<P>,
+    report: &mut String,
+    b: &[u8],
+    want: &str,
+) -> Result<(), AllocError> {
+    let kind = kind_of(alloc, readers, b)?;
+    if kind == want {
+        return Ok(());
+    }
+    let told = format!(in alloc; "{kind}: {b:?}; ")?;
+    report.push_str(told.as_str())
+}
+
+/// Reports of an object, which is a record, and of its beginnings, which are none.
+fn report_parts<P: Ledger>(
+    alloc: Global,
+    readers: &mut Readers<P>,
+    report: &mut String,
     b: &[u8],
 ) -> Result<(), AllocError> {
     for end in 0..b.len() {
         let (front, _) = b.split_at(end);
-        let is_record = expect_same(rt, alloc, readers, front)?;
-        expect_truth(rt, is_record, false, "a part of an object");
+        report_other(alloc, readers, report, front, "none")?;
     }
-    let is_record = expect_same(rt, alloc, readers, b)?;
-    expect_truth(rt, is_record, true, "an object");
-    Ok(())
+    report_other(alloc, readers, report, b, "a record")
 }
 
-/// Expects the same of an object with another byte at one place, again and again, and answers how
-/// many of those payloads are records.
-fn count_changed<R: Abort, P: Ledger>(
-    rt: &R,
+/// Reports of an object with another byte at one place, again and again, and counts those that are
+/// records.
+fn report_changed<P: Ledger>(
     alloc: Global,
     readers: &mut Readers<P>,
+    report: &mut String,
     b: &[u8],
     seeded: &mut Seeded,
 ) -> Result<u64, AllocError> {
@@ -159,84 +178,96 @@ fn count_changed<R: Abort, P: Ledger>(
     for _ in 0..CHANGES {
         let mut changed = b.to_vec(alloc)?;
         change_byte(seeded, &mut changed);
-        if expect_same(rt, alloc, readers, changed.as_slice())? {
+        if kind_of(alloc, readers, changed.as_slice())? == "a record" {
             records = records.saturating_add(1);
+        } else {
+            report_other(alloc, readers, report, changed.as_slice(), "none")?;
         }
     }
     Ok(records)
 }
 
-/// Expects the same of all payloads of a seed.
-fn expect_objects<R: Abort, P: Ledger>(
-    rt: &R,
+/// Reports of all payloads of a seed.
+fn report_seed<P: Ledger>(
     alloc: Global,
     readers: &mut Readers<P>,
+    report: &mut String,
     seed: u64,
 ) -> Result<(), AllocError> {
     let mut seeded = Seeded::new(seed);
     let mut records = 0u64;
     for _ in 0..OBJECTS {
         let text = object(alloc, &mut seeded)?;
-        expect_parts(rt, alloc, readers, text.as_bytes())?;
-        let changed = count_changed(rt, alloc, readers, text.as_bytes(), &mut seeded)?;
+        report_parts(alloc, readers, report, text.as_bytes())?;
+        let changed = report_changed(alloc, readers, report, text.as_bytes(), &mut seeded)?;
         records = records.saturating_add(changed);
     }
-    let is_some = 0 < records && records < OBJECTS * CHANGES;
-    expect_truth(
-        rt,
-        is_some,
-        true,
-        "some changed objects are records, and some are none",
-    );
+    // Of the changed ones some are records and some are none, or the seed is a poor one.
+    if records == 0 || records >= OBJECTS * CHANGES {
+        report.push_str("a poor seed; ")?;
+    }
     Ok(())
 }
 
-/// Values in one another, and whether that is a record.
-const DEPTHS: &[(usize, bool)] = &[(126, true), (127, true), (128, false)];
+/// Values in one another, and what they are.
+const DEPTHS: &[(usize, &str)] = &[(126, "a record"), (127, "a record"), (128, "none")];
 
 /// Arrays alone, objects alone, and both.
 const KINDS: &[u64] = &[0, u64::MAX, 0xaaaa_aaaa_aaaa_aaaa, 0x1234_5678_9abc_def0];
 
-/// Expects the same of payloads that nest so deep.
-fn expect_nested<R: Abort, P: Ledger>(
-    rt: &R,
+/// Reports of payloads that nest so deep.
+fn report_nested<P: Ledger>(
     alloc: Global,
     readers: &mut Readers<P>,
+    report: &mut String,
     depth: usize,
-    want: bool,
+    want: &str,
 ) -> Result<(), AllocError> {
-    for &kinds in KINDS {
-        let text = nested(alloc, depth, kinds)?;
-        let is_record = expect_same(rt, alloc, readers, text.as_bytes())?;
-        expect_truth(rt, is_record, want, text.as_str());
+    for kinds in KINDS {
+        let text = nested(alloc, depth, *kinds)?;
+        report_other(alloc, readers, report, text.as_bytes(), want)?;
     }
     Ok(())
 }
 
-/// All of it, with readers of its own.
-fn expect_all<R: Abort, P: Ledger>(rt: &R, alloc: Global, blank: Blank) -> Result<(), AllocError>
+/// Reports of all payloads.
+fn report_all<P: Ledger>(
+    alloc: Global,
+    readers: &mut Readers<P>,
+    report: &mut String,
+) -> Result<(), AllocError> {
+    for &(depth, want) in DEPTHS {
+        report_nested(alloc, readers, report, depth, want)?;
+    }
+    for seed in 1..3 {
+        report_seed(alloc, readers, report, seed)?;
+    }
+    Ok(())
+}
+
+/// The report of all payloads, by readers that are made for it.
+fn reported<P: Ledger>(alloc: Global, blank: Blank, paths: Vec<Path>) -> Result<String, AllocError>
     requires name { blank.name ≡ P.name }
     requires parts { blank.parts ≡ P.parts }
     requires some { 0 < blank.parts }
 {
+    let mut report = String::new(alloc);
     let mut readers = Readers::<P> {
         line: JsonReader::new(alloc),
         payload: RecordReader::new(alloc),
         parses: Steps::new(blank),
-        paths: all_paths(alloc)?,
+        paths,
     };
-    for &(depth, want) in DEPTHS {
-        expect_nested(rt, alloc, &mut readers, depth, want)?;
-    }
-    for seed in 1..3 {
-        expect_objects(rt, alloc, &mut readers, seed)?;
-    }
-    Ok(())
+    let done = report_all(alloc, &mut readers, &mut report);
+    drop(readers);
+    done?;
+    Ok(report)
 }
 
 #[test]
 fn payloads_of_a_seed(rt: HostRuntime) -> Result<(), Fail> {
-    let alloc = rt.alloc();
-    expect_all::<HostRuntime, Brand>(&rt, alloc, Blank::new(1))?;
+    let paths = all_paths(rt.alloc())?;
+    let report = reported::<Brand>(rt.alloc(), Blank::new(1), paths)?;
+    expect(&rt, report.as_str(), "");
     Ok(())
 }

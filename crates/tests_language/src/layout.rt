@@ -5,7 +5,7 @@ ghost use Rattle.std.specs.Prelude.{IfOk, IfSome};
 ghost use Rattle.fish_layout.specs.Body.{IsBody};
 ghost use Rattle.fish_layout.specs.declared.parts.BodyParts.{BodyParts};
 
-use crate::told::{expect, expect_number, expect_words, text_of};
+use crate::told::{expect, expect_all, text_of};
 use fish_layout::{Body, BodyParts, KeyPart, body_of, read_body, read_payload, set_number};
 use std::alloc::{AllocError, Global};
 use std::test::Fail;
@@ -45,21 +45,18 @@ const KINDS: &[u64] = &[
 /// Neither a key nor a payload.
 const BARE: &[u64] = &[0x1000_0001, 0, 0, 0];
 
-const NO_WORDS: &[u64] = &[];
-
-/// The words of records, their parts as a text, and what `read_payload` reads of them.
-const BODIES: &[(&[u64], &str, &str)] = &[
+/// The words of records, and their parts as a text, what `read_payload` reads of them, and whether the parts
+/// have those words.
+const BODIES: &[(&[u64], &str)] = &[
     (
         PUSH,
-        "Json 1 1 0 [0 0 text Push] {\"type\":\"Push\",\"n\":1}",
-        "Json 1 {\"type\":\"Push\",\"n\":1}",
+        "Json 1 1 0 [0 0 text Push] {\"type\":\"Push\",\"n\":1} / Json 1 {\"type\":\"Push\",\"n\":1} / true",
     ),
     (
         KINDS,
-        "Csv 16 512 268435455 [5 0 true] [0 7 int -2] [18446744073709551615 255 text é] a,b",
-        "Csv 16 a,b",
+        "Csv 16 512 268435455 [5 0 true] [0 7 int -2] [18446744073709551615 255 text é] a,b / Csv 16 a,b / true",
     ),
-    (BARE, "Json 2 0 0 ", "Json 2 "),
+    (BARE, "Json 2 0 0  / Json 2  / true"),
 ];
 
 /// A record's form, lane, version, number, keys and payload.
@@ -118,99 +115,122 @@ fn payload_in(alloc: Global, words: &[u64]) -> Result<String, AllocError> {
     }
 }
 
+/// Whether a record is the words that its parts have.
+fn has_words(alloc: Global, words: &[u64]) -> Result<bool, AllocError> {
+    let again = words_again(alloc, words)?;
+    Ok(again.is_some_and(|body| body.as_slice() == words))
+}
+
+fn told(alloc: Global, words: &&[u64]) -> Result<String, AllocError> {
+    let parts = parts_in(alloc, words)?;
+    let payload = payload_in(alloc, words)?;
+    let again = has_words(alloc, words)?;
+    format!(in alloc; "{} / {} / {again}", parts.as_str(), payload.as_str())
+}
+
 #[test]
 fn bodies(rt: HostRuntime) -> Result<(), Fail> {
-    for &(words, want, want_payload) in BODIES {
-        let parts = parts_in(rt.alloc(), words)?;
-        expect(&rt, parts.as_str(), want, want);
-        let payload = payload_in(rt.alloc(), words)?;
-        expect(&rt, payload.as_str(), want_payload, want);
-        let again = words_again(rt.alloc(), words)?;
-        let body = again.as_ref().map_or(NO_WORDS, Body::as_slice);
-        expect_words(&rt, body, words, want);
-    }
+    expect_all(&rt, rt.alloc(), BODIES, told)?;
     Ok(())
 }
 
 /// A word of `KINDS`, the bits of it that are turned, and what is wrong then.
-const TURNED: &[(usize, u64, &str)] = &[
-    (0, 1 << 0, "a line more than there is"),
-    (0, 1 << 17, "a form that there is not"),
-    (0, 1 << 18, "a key less"),
-    (0, 1 << 31, "no lane"),
-    (0, 1 << 27, "lane 17"),
-    (0, 1 << 32, "version 513"),
-    (0, 1 << 42, "a payload of two bytes"),
-    (0, 1 << 62, "bit 62 of the header"),
-    (2, 1 << 0, "two numbers in one record"),
-    (2, 7 << 28, "two equal ids"),
-    (2, 255 << 28, "ids out of order"),
-    (2, 1 << 36, "an entry out of place"),
-    (2, 1 << 45, "bit 45 of an entry"),
-    (3, 3 << 0, "kind 3"),
-    (6, 1 << 0, "a truth value of eight bytes"),
-    (6, 1 << 11, "a gap between values"),
-    (9, 1 << 29, "bit 29 of a value's word"),
-    (10, 3 << 0, "a truth value 2"),
-    (11, 1 << 22, "a text that is not UTF-8"),
-    (11, 1 << 24, "padding of the values that is not zero"),
-    (12, 1 << 7, "a payload that is not UTF-8"),
-    (12, 1 << 24, "padding of the payload that is not zero"),
-    (15, 1 << 63, "padding of the line that is not zero"),
+const TURNED: &[((usize, u64, &str), &str)] = &[
+    ((0, 1 << 0, "a line more than there is"), "none"),
+    ((0, 1 << 17, "a form that there is not"), "none"),
+    ((0, 1 << 18, "a key less"), "none"),
+    ((0, 1 << 31, "no lane"), "none"),
+    ((0, 1 << 27, "lane 17"), "none"),
+    ((0, 1 << 32, "version 513"), "none"),
+    ((0, 1 << 42, "a payload of two bytes"), "none"),
+    ((0, 1 << 62, "bit 62 of the header"), "none"),
+    ((2, 1 << 0, "two numbers in one record"), "none"),
+    ((2, 7 << 28, "two equal ids"), "none"),
+    ((2, 255 << 28, "ids out of order"), "none"),
+    ((2, 1 << 36, "an entry out of place"), "none"),
+    ((2, 1 << 45, "bit 45 of an entry"), "none"),
+    ((3, 3 << 0, "kind 3"), "none"),
+    ((6, 1 << 0, "a truth value of eight bytes"), "none"),
+    ((6, 1 << 11, "a gap between values"), "none"),
+    ((9, 1 << 29, "bit 29 of a value's word"), "none"),
+    ((10, 3 << 0, "a truth value 2"), "none"),
+    ((11, 1 << 22, "a text that is not UTF-8"), "none"),
+    (
+        (11, 1 << 24, "padding of the values that is not zero"),
+        "none",
+    ),
+    ((12, 1 << 7, "a payload that is not UTF-8"), "none"),
+    (
+        (12, 1 << 24, "padding of the payload that is not zero"),
+        "none",
+    ),
+    (
+        (15, 1 << 63, "padding of the line that is not zero"),
+        "none",
+    ),
 ];
 
 /// Words that are no record, of which the second to fourth begin `PUSH`, and what is wrong.
-const OTHERS: &[(&[u64], &str)] = &[
-    (&[], "no words"),
-    (&[0x5401_0804_0002], "one word"),
-    (&[0x5401_0804_0002, 0, 0, 18], "a line of two"),
+const OTHERS: &[((&[u64], &str), &str)] = &[
+    ((&[], "no words"), "none"),
+    ((&[0x5401_0804_0002], "one word"), "none"),
+    ((&[0x5401_0804_0002, 0, 0, 18], "a line of two"), "none"),
     (
-        &[
-            0x5401_0804_0002,
-            0,
-            0,
-            18,
-            0x6873_7550,
-            0x3a22_6570_7974_227b,
-            0x222c_2268_7375_5022,
-        ],
-        "a word too few",
+        (
+            &[
+                0x5401_0804_0002,
+                0,
+                0,
+                18,
+                0x6873_7550,
+                0x3a22_6570_7974_227b,
+                0x222c_2268_7375_5022,
+            ],
+            "a word too few",
+        ),
+        "none",
     ),
     (
-        &[
-            0x5401_0804_0002,
-            0,
-            0,
-            18,
-            0x6873_7550,
-            0x3a22_6570_7974_227b,
-            0x222c_2268_7375_5022,
-            0x7d_313a_226e,
-            0,
-            0,
-            0,
-            0,
-        ],
-        "a line behind the record",
+        (
+            &[
+                0x5401_0804_0002,
+                0,
+                0,
+                18,
+                0x6873_7550,
+                0x3a22_6570_7974_227b,
+                0x222c_2268_7375_5022,
+                0x7d_313a_226e,
+                0,
+                0,
+                0,
+                0,
+            ],
+            "a line behind the record",
+        ),
+        "none",
     ),
     (
-        &[
-            0x5401_0804_0003,
-            0,
-            0,
-            18,
-            0x6873_7550,
-            0x3a22_6570_7974_227b,
-            0x222c_2268_7375_5022,
-            0x7d_313a_226e,
-            0,
-            0,
-            0,
-            0,
-        ],
-        "a line too many",
+        (
+            &[
+                0x5401_0804_0003,
+                0,
+                0,
+                18,
+                0x6873_7550,
+                0x3a22_6570_7974_227b,
+                0x222c_2268_7375_5022,
+                0x7d_313a_226e,
+                0,
+                0,
+                0,
+                0,
+            ],
+            "a line too many",
+        ),
+        "none",
     ),
-    (&[0x2_0001, 0, 0, 0], "a void"),
+    ((&[0x2_0001, 0, 0, 0], "a void"), "none"),
 ];
 
 /// Words of which one has other bits turned.
@@ -223,17 +243,19 @@ fn turned(alloc: Global, words: &[u64], at: usize, bits: u64) -> Result<Vec<u64>
     Ok(turned)
 }
 
+fn turned_told(alloc: Global, case: &(usize, u64, &str)) -> Result<String, AllocError> {
+    let words = turned(alloc, KINDS, case.0, case.1)?;
+    parts_in(alloc, words.as_slice())
+}
+
+fn other_told(alloc: Global, case: &(&[u64], &str)) -> Result<String, AllocError> {
+    parts_in(alloc, case.0)
+}
+
 #[test]
 fn refusals(rt: HostRuntime) -> Result<(), Fail> {
-    for &(at, bits, wrong) in TURNED {
-        let words = turned(rt.alloc(), KINDS, at, bits)?;
-        let parts = parts_in(rt.alloc(), words.as_slice())?;
-        expect(&rt, parts.as_str(), "none", wrong);
-    }
-    for &(words, wrong) in OTHERS {
-        let parts = parts_in(rt.alloc(), words)?;
-        expect(&rt, parts.as_str(), "none", wrong);
-    }
+    expect_all(&rt, rt.alloc(), TURNED, turned_told)?;
+    expect_all(&rt, rt.alloc(), OTHERS, other_told)?;
     Ok(())
 }
 
@@ -268,12 +290,22 @@ fn renumbered(alloc: Global, words: &[u64]) -> Result<Option<Body>, AllocError> 
     }
 }
 
+/// Whether the words of `KINDS` are then those, and how many they are.
+fn renumbered_told(alloc: Global) -> Result<String, AllocError> {
+    match renumbered(alloc, KINDS)? {
+        Some(body) => {
+            let same = body.as_slice() == RENUMBERED;
+            let told = format!(in alloc; "{same} {}", body.len());
+            drop(body);
+            told
+        }
+        None => String::from_str(alloc, "none"),
+    }
+}
+
 #[test]
 fn numbers(rt: HostRuntime) -> Result<(), Fail> {
-    let found = renumbered(rt.alloc(), KINDS)?;
-    let body = found.as_ref().map_or(NO_WORDS, Body::as_slice);
-    expect_words(&rt, body, RENUMBERED, "another number");
-    let len = found.as_ref().map_or(0, Body::len);
-    expect_number(&rt, len as u64, 16, "how many words");
+    let told = renumbered_told(rt.alloc())?;
+    expect(&rt, told.as_str(), "true 16");
     Ok(())
 }

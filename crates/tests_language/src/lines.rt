@@ -1,28 +1,28 @@
 //! Lines of files in every cutting, with answers worked out by hand.
 
-use crate::told::{expect, expect_bytes};
+use crate::told::expect_all;
 use fish_lines::{Line, LineList, lines_of_pieces};
 use fish_value::Bytes;
 use std::alloc::{AllocError, Global};
 use std::test::Fail;
 
-/// A file, and its lines with a bar behind each.
-const FILES: &[(&[u8], &[u8])] = &[
+/// A file, and its lines with a bar behind each, with a character of that number for each byte.
+const FILES: &[(&[u8], &str)] = &[
     (
         b"{\"type\":\"Push\",\"n\":1}\n{\"type\":\"Open\",\"n\":2}\n{\"type\":\"Push\",\"n\":3}\n",
-        b"{\"type\":\"Push\",\"n\":1}|{\"type\":\"Open\",\"n\":2}|{\"type\":\"Push\",\"n\":3}|",
+        "{\"type\":\"Push\",\"n\":1}|{\"type\":\"Open\",\"n\":2}|{\"type\":\"Push\",\"n\":3}|",
     ),
-    (b"", b""),
+    (b"", ""),
     // One CR is dropped in front of an LF and at the end, and no other.
-    (b"a\r\nb\r\r\nc\rd\ne\r", b"a|b\r|c\rd|e|"),
+    (b"a\r\nb\r\r\nc\rd\ne\r", "a|b\r|c\rd|e|"),
     // Blank lines count nowhere, with an LF or at the end.
-    (b"\n \t\r\r\n\r\na\n\n\r \r", b"a|"),
+    (b"\n \t\r\r\n\r\na\n\n\r \r", "a|"),
     // A byte order mark is dropped at the start alone, and once.
-    (b"\xef\xbb\xbfa\n\xef\xbb\xbfb\n", b"a|\xef\xbb\xbfb|"),
-    (b"\xef\xbb\xbf\xef\xbb\xbfa", b"\xef\xbb\xbfa|"),
+    (b"\xef\xbb\xbfa\n\xef\xbb\xbfb\n", "a|\u{ef}\u{bb}\u{bf}b|"),
+    (b"\xef\xbb\xbf\xef\xbb\xbfa", "\u{ef}\u{bb}\u{bf}a|"),
     // What is only the beginning of a mark is text.
-    (b"\xef\xbb", b"\xef\xbb|"),
-    (b"\xef\xbb\r\n\xbf", b"\xef\xbb|\xbf|"),
+    (b"\xef\xbb", "\u{ef}\u{bb}|"),
+    (b"\xef\xbb\r\n\xbf", "\u{ef}\u{bb}|\u{bf}|"),
 ];
 
 /// The lines of a file that comes in two pieces, or byte by byte where the first is to have as many
@@ -42,51 +42,65 @@ fn lines_in_two(alloc: Global, b: &[u8], at: usize) -> Result<LineList, AllocErr
 }
 
 /// Lines with a bar behind each. One that is too long is `*`.
-fn joined(alloc: Global, lines: &[Line]) -> Result<Vec<u8>, AllocError> {
-    let mut told = Vec::new(alloc);
+fn joined(alloc: Global, lines: &[Line]) -> Result<String, AllocError> {
+    let mut told = String::new(alloc);
     for line in lines {
         match line {
-            Line::Whole(bytes) => told.extend_from_slice(bytes.as_bytes())?,
-            _ => told.push(b'*')?,
+            Line::Whole(bytes) => push_bytes(&mut told, bytes.as_bytes())?,
+            Line::TooLong => told.push('*')?,
         }
-        told.push(b'|')?;
+        told.push('|')?;
     }
     Ok(told)
 }
 
-fn told_in_two(alloc: Global, b: &[u8], at: usize) -> Result<Vec<u8>, AllocError> {
+fn push_bytes(told: &mut String, bytes: &[u8]) -> Result<(), AllocError> {
+    for byte in bytes {
+        told.push(char::from(*byte))?;
+    }
+    Ok(())
+}
+
+fn told_in_two(alloc: Global, b: &[u8], at: usize) -> Result<String, AllocError> {
     let found = lines_in_two(alloc, b, at)?;
     let told = joined(alloc, found.as_slice());
     drop(found);
     told
 }
 
-#[test]
-fn lines_of_every_cutting(rt: HostRuntime) -> Result<(), Fail> {
-    for &(b, want) in FILES {
-        for at in 0..b.len() + 2 {
-            let told = told_in_two(rt.alloc(), b, at)?;
-            expect_bytes(&rt, told.as_slice(), want, "a cut");
+/// The lines of a file, which are the same in every cutting.
+fn told(alloc: Global, b: &&[u8]) -> Result<String, AllocError> {
+    let whole = told_in_two(alloc, b, 0)?;
+    for at in 1..b.len() + 2 {
+        let cut = told_in_two(alloc, b, at)?;
+        if cut.as_str() != whole.as_str() {
+            return format!(in alloc; "{} cut at {at}", cut.as_str());
         }
     }
+    Ok(whole)
+}
+
+#[test]
+fn lines_of_every_cutting(rt: HostRuntime) -> Result<(), Fail> {
+    expect_all(&rt, rt.alloc(), FILES, told)?;
     Ok(())
 }
 
 /// A byte, how often it stands in a file, what stands behind, whole lines and lines too long.
-const LONG: &[(u8, usize, &[u8], &str)] = &[
-    (b'x', 524_288, b"", "1 0"),
-    (b'x', 524_288, b"\r\nx", "2 0"),
-    (b'x', 524_288, b"\r", "1 0"),
-    (b'x', 524_288, b"\r\r\n", "0 1"),
-    (b'x', 524_289, b"\nx", "1 1"),
-    (b'x', 1_572_864, b"", "0 1"),
-    (b' ', 524_288, b"\r\n", "0 0"),
-    (b' ', 524_289, b"\n", "0 1"),
-    (b' ', 524_289, b"", "0 1"),
+const LONG: &[((u8, usize, &[u8]), &str)] = &[
+    ((b'x', 524_288, b""), "1 0"),
+    ((b'x', 524_288, b"\r\nx"), "2 0"),
+    ((b'x', 524_288, b"\r"), "1 0"),
+    ((b'x', 524_288, b"\r\r\n"), "0 1"),
+    ((b'x', 524_289, b"\nx"), "1 1"),
+    ((b'x', 1_572_864, b""), "0 1"),
+    ((b' ', 524_288, b"\r\n"), "0 0"),
+    ((b' ', 524_289, b"\n"), "0 1"),
+    ((b' ', 524_289, b""), "0 1"),
 ];
 
 /// Where files are cut. The last is the end of each.
-const CUTS: &[usize] = &[0, 65_536, 524_288, usize::MAX];
+const CUTS: &[usize] = &[65_536, 524_288, usize::MAX];
 
 /// How many lines are whole, and how many are too long.
 fn count(alloc: Global, lines: &[Line]) -> Result<String, AllocError> {
@@ -104,20 +118,23 @@ fn count_in_two(alloc: Global, b: &[u8], at: usize) -> Result<String, AllocError
     told
 }
 
-fn long_file(alloc: Global, byte: u8, len: usize, end: &[u8]) -> Result<Vec<u8>, AllocError> {
-    let mut b = vec![in alloc; byte; len]?;
+/// The same of a file, which is the same wherever it is cut.
+fn long_told(alloc: Global, case: &(u8, usize, &[u8])) -> Result<String, AllocError> {
+    let (byte, len, end) = case;
+    let mut b = vec![in alloc; *byte; *len]?;
     b.extend_from_slice(end)?;
-    Ok(b)
+    let whole = count_in_two(alloc, b.as_slice(), 0)?;
+    for at in CUTS {
+        let cut = count_in_two(alloc, b.as_slice(), *at)?;
+        if cut.as_str() != whole.as_str() {
+            return format!(in alloc; "{} cut at {at}", cut.as_str());
+        }
+    }
+    Ok(whole)
 }
 
 #[test]
 fn long_lines(rt: HostRuntime) -> Result<(), Fail> {
-    for &(byte, len, end, want) in LONG {
-        let b = long_file(rt.alloc(), byte, len, end)?;
-        for &at in CUTS {
-            let found = count_in_two(rt.alloc(), b.as_slice(), at)?;
-            expect(&rt, found.as_str(), want, "a cut");
-        }
-    }
+    expect_all(&rt, rt.alloc(), LONG, long_told)?;
     Ok(())
 }

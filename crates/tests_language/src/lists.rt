@@ -1,63 +1,61 @@
 //! Bytes, numbers and paths: what was put in comes out in order.
 
-use crate::told::{expect, expect_bytes, expect_truth};
+use crate::told::expect;
 use fish_value::{Bytes, Numbers, Path, Text};
 use std::alloc::{AllocError, Global};
 use std::test::Fail;
 
-/// Pieces that are appended to two bytes one after the other, and the bytes then.
-const PIECES: &[(&[u8], &[u8])] = &[
-    (b"", b"a\xff"),
-    (b"bc", b"a\xffbc"),
-    (b"", b"a\xffbc"),
-];
+/// Pieces that are appended to two bytes one after the other.
+const PIECES: &[&[u8]] = &[b"", b"bc", b""];
 
-/// A second copy of bytes that a piece is appended to.
-fn appended(alloc: Global, bytes: &mut Bytes, piece: &[u8]) -> Result<Bytes, AllocError> {
-    bytes.append(piece)?;
-    bytes.again(alloc)
+/// Bytes as numbers, and how many they are.
+fn put_bytes(alloc: Global, told: &mut String, bytes: &Bytes) -> Result<(), AllocError> {
+    let text = format!(in alloc; "{:?} {}, ", bytes.as_bytes(), bytes.len())?;
+    told.push_str(text.as_str())?;
+    told.push_str(if bytes.is_empty() { "empty; " } else { "" })
+}
+
+/// Puts a second copy of them behind a text.
+fn put_again(alloc: Global, told: &mut String, bytes: &Bytes) -> Result<(), AllocError> {
+    let again = bytes.again(alloc)?;
+    put_bytes(alloc, told, &again)
+}
+
+fn bytes_told(alloc: Global) -> Result<String, AllocError> {
+    let mut told = String::new(alloc);
+    put_bytes(alloc, &mut told, &Bytes::new(alloc))?;
+    let mut bytes = Bytes::copy_of(alloc, b"a\xff")?;
+    for piece in PIECES {
+        bytes.append(piece)?;
+        put_again(alloc, &mut told, &bytes)?;
+    }
+    Ok(told)
 }
 
 #[test]
 fn bytes(rt: HostRuntime) -> Result<(), Fail> {
-    expect_truth(&rt, Bytes::new(rt.alloc()).is_empty(), true, "no bytes");
-    let mut bytes = Bytes::copy_of(rt.alloc(), b"a\xff")?;
-    for &(piece, want) in PIECES {
-        let again = appended(rt.alloc(), &mut bytes, piece)?;
-        expect_bytes(&rt, again.as_bytes(), want, "a copy");
-        expect_truth(&rt, again.len() == want.len(), true, "the length");
-        expect_truth(
-            &rt,
-            again.is_empty(),
-            want.is_empty(),
-            "whether it is empty",
-        );
-    }
+    let told = bytes_told(rt.alloc())?;
+    let want = "[] 0, empty; [97, 255] 2, [97, 255, 98, 99] 4, [97, 255, 98, 99] 4, ";
+    expect(&rt, told.as_str(), want);
     Ok(())
 }
 
-/// Numbers as a text, from the last to the first.
+/// Numbers from the last to the first, and whether there were none before and are none then.
 fn turned_round(alloc: Global, numbers: &[u32]) -> Result<String, AllocError> {
     let mut list = Numbers::new(alloc);
-    let mut told = format!(in alloc; "{} ", list.is_empty())?;
+    let none = list.is_empty();
     for number in numbers {
         list.push(*number)?;
     }
     list.reverse();
-    let text = format!(in alloc; "{:?} {} {}", list.as_slice(), list.len(), list.is_empty())?;
-    told.push_str(text.as_str())?;
-    Ok(told)
+    let (len, none_then) = (list.len(), list.is_empty());
+    format!(in alloc; "{none} {:?} {len} {none_then}", list.as_slice())
 }
 
 #[test]
 fn numbers(rt: HostRuntime) -> Result<(), Fail> {
     let told = turned_round(rt.alloc(), &[1, 2, 3])?;
-    expect(
-        &rt,
-        told.as_str(),
-        "true [3, 2, 1] 3 false",
-        "three numbers",
-    );
+    expect(&rt, told.as_str(), "true [3, 2, 1] 3 false");
     Ok(())
 }
 
@@ -82,11 +80,15 @@ fn names_of(alloc: Global, path: &Path, text: &Text) -> Result<String, AllocErro
     Ok(told)
 }
 
+fn path_told(alloc: Global) -> Result<String, AllocError> {
+    let text = Text::copy_of(alloc, "a")?;
+    let path = path_of(alloc, "a", &["b c", ""])?;
+    names_of(alloc, &path, &text)
+}
+
 #[test]
 fn paths(rt: HostRuntime) -> Result<(), Fail> {
-    let path = path_of(rt.alloc(), "a", &["b c", ""])?;
-    let text = Text::copy_of(rt.alloc(), "a")?;
-    let names = names_of(rt.alloc(), &path, &text)?;
-    expect(&rt, names.as_str(), "true a|b c||", "a path");
+    let told = path_told(rt.alloc())?;
+    expect(&rt, told.as_str(), "true a|b c||");
     Ok(())
 }

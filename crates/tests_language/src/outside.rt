@@ -1,13 +1,13 @@
-//! The outside in memory, which fails by a plan or never, with answers worked out by hand.
+//! The outside in memory, which fails by a plan or never: what the calls of one object answer one after the
+//! other, worked out by hand.
 
-use crate::told::{expect, expect_bytes, expect_truth};
+use crate::told::{expect, expect_all};
 use fish_outside::{
     Failed, FaultPlan, FeedRefusal, Host, HostFile, HostFiles, MemoryHost, MemorySink, Sink,
     Source, SureHost, SureSink, write_whole,
 };
 use fish_value::{Bytes, Numbers64, Text};
 use std::alloc::{AllocError, Global};
-use std::process::Abort;
 use std::test::Fail;
 
 fn numbers(alloc: Global, all: &[u64]) -> Result<Numbers64, AllocError> {
@@ -39,131 +39,133 @@ fn host_failing(alloc: Global, call: u64) -> Result<MemoryHost, AllocError> {
     Ok(MemoryHost::new(files(alloc)?, fails))
 }
 
-/// How many calls there were, and how many faults.
-fn plan_text(alloc: Global, plan: &FaultPlan) -> Result<String, AllocError> {
-    format!(in alloc; "{} calls, {} faults", plan.calls, plan.faults)
+/// Puts behind a text how many calls there were and how many faults.
+fn put_plan(alloc: Global, told: &mut String, plan: &FaultPlan) -> Result<(), AllocError> {
+    let text = format!(in alloc; "{} calls, {} faults", plan.calls, plan.faults)?;
+    told.push_str(text.as_str())
 }
 
-/// What a call of a host with two `a` answers, in the order of the calls, of which the third fails.
-const FEEDS: &[(&str, &str)] = &[
-    ("b", "failed"),
-    ("a", "a feed, 0 faults"),
-    ("a", "failed"),
-    ("a", "a feed, 0 faults"),
-];
+/// Puts bytes behind a text.
+fn put_bytes(told: &mut String, bytes: &[u8]) -> Result<(), AllocError> {
+    for byte in bytes {
+        told.push(char::from(*byte))?;
+    }
+    told.push_str(", ")
+}
 
 /// What a call answers. The feed goes back at once.
-fn feed_told(alloc: Global, host: &mut MemoryHost, name: &str) -> Result<String, AllocError> {
+fn put_feed(
+    alloc: Global,
+    told: &mut String,
+    host: &mut MemoryHost,
+    name: &str,
+) -> Result<(), AllocError> {
     let name = Text::copy_of(alloc, name)?;
     match host.feed(alloc, &name) {
         Ok(feed) => {
-            let told = format!(in alloc; "a feed, {} faults", feed.plan.faults);
+            let fresh = feed.plan.faults == 0;
             host.done(feed);
-            told
+            told.push_str(if fresh {
+                "a feed, "
+            } else {
+                "a feed with faults, "
+            })
         }
-        Err(FeedRefusal::Failed) => String::from_str(alloc, "failed"),
+        Err(FeedRefusal::Failed) => told.push_str("failed, "),
         Err(FeedRefusal::OutOfMemory) => Err(AllocError),
     }
 }
 
-fn expect_feeds<R: Abort>(rt: &R, alloc: Global, host: &mut MemoryHost) -> Result<(), AllocError> {
-    for &(name, want) in FEEDS {
-        let found = feed_told(alloc, host, name)?;
-        expect(rt, found.as_str(), want, name);
+/// The names that a host is asked for, one after the other.
+const NAMES: &[&str] = &["b", "a", "a", "a"];
+
+fn feeds_told(alloc: Global, host: &mut MemoryHost) -> Result<String, AllocError> {
+    let mut told = String::new(alloc);
+    for name in NAMES {
+        put_feed(alloc, &mut told, host, name)?;
     }
-    let plan = plan_text(alloc, &host.plan)?;
-    expect(rt, plan.as_str(), "4 calls, 2 faults", "the host");
-    Ok(())
+    put_plan(alloc, &mut told, &host.plan)?;
+    Ok(told)
 }
 
+/// There is no `b`, and the third call fails.
 #[test]
 fn feeds(rt: HostRuntime) -> Result<(), Fail> {
     let mut host = host_failing(rt.alloc(), 2)?;
-    let met = expect_feeds(&rt, rt.alloc(), &mut host);
+    let told = feeds_told(rt.alloc(), &mut host);
     drop(host);
-    met?;
+    expect(
+        &rt,
+        told?.as_str(),
+        "failed, a feed, failed, a feed, 4 calls, 2 faults",
+    );
     Ok(())
 }
 
-/// What each read with room for two bytes answers, and the bytes in the buffer then.
-const READS: &[&str] = &["2 ab", "failed ..", "2 cd", "failed ..", "1 e.", "0 .."];
-
-/// What a read or a write of some bytes answers.
-fn count_text(alloc: Global, found: Result<usize, Failed>) -> Result<String, AllocError> {
-    match found {
-        Ok(count) => format!(in alloc; "{count}"),
-        Err(Failed) => String::from_str(alloc, "failed"),
+/// What a read with room for two bytes answers, and the bytes in the buffer then.
+fn put_read<S: Source>(alloc: Global, told: &mut String, feed: &mut S) -> Result<(), AllocError> {
+    let mut buf = *b"..";
+    match feed.read(&mut buf) {
+        Ok(count) => {
+            let text = format!(in alloc; "{count} ")?;
+            told.push_str(text.as_str())?;
+        }
+        Err(Failed) => told.push_str("failed ")?,
     }
+    put_bytes(told, &buf)
 }
 
-/// What a read of a source answers, and the bytes in the buffer then.
-fn read_told<S: Source>(alloc: Global, feed: &mut S) -> Result<String, AllocError> {
-    let mut buf = *b"..";
-    let result = feed.read(&mut buf);
-    let mut told = count_text(alloc, result)?;
-    told.push(' ')?;
-    for byte in buf {
-        told.push(char::from(byte))?;
+fn reads_told<S: Source>(alloc: Global, feed: &mut S, reads: u32) -> Result<String, AllocError> {
+    let mut told = String::new(alloc);
+    for _ in 0..reads {
+        put_read(alloc, &mut told, feed)?;
     }
     Ok(told)
 }
 
-fn expect_reads<R: Abort, S: Source>(
-    rt: &R,
-    alloc: Global,
-    feed: &mut S,
-    wants: &[&str],
-) -> Result<(), AllocError> {
-    for &want in wants {
-        let found = read_told(alloc, feed)?;
-        expect(rt, found.as_str(), want, "a read");
-    }
-    Ok(())
-}
-
-/// Expects what reads of a feed of a name answer.
-fn expect_feed<R: Abort, H: Host>(
-    rt: &R,
+/// What so many reads of the file of a name answer.
+fn feed_told<H: Host>(
     alloc: Global,
     host: &mut H,
     name: &str,
-    wants: &[&str],
-) -> Result<(), AllocError> {
+    reads: u32,
+) -> Result<String, AllocError> {
     let name = Text::copy_of(alloc, name)?;
     match host.feed(alloc, &name) {
         Ok(mut feed) => {
-            let met = expect_reads(rt, alloc, &mut feed, wants);
+            let told = reads_told(alloc, &mut feed, reads);
             host.done(feed);
-            met
+            told
         }
-        Err(_) => panic!(rt; "a feed"),
+        Err(refusal) => format!(in alloc; "{refusal}"),
     }
 }
 
+fn host_told(alloc: Global, host: &mut MemoryHost) -> Result<String, AllocError> {
+    let mut told = feed_told(alloc, host, "a", 6)?;
+    put_plan(alloc, &mut told, &host.plan)?;
+    Ok(told)
+}
+
+/// The second and the fourth read of the file fail.
 #[test]
 fn reads(rt: HostRuntime) -> Result<(), Fail> {
     let mut host = host_failing(rt.alloc(), 1)?;
-    let met = expect_feed(&rt, rt.alloc(), &mut host, "a", READS);
-    let plan = plan_text(rt.alloc(), &host.plan);
+    let told = host_told(rt.alloc(), &mut host);
     drop(host);
-    met?;
-    expect(&rt, plan?.as_str(), "1 calls, 2 faults", "the host");
+    expect(
+        &rt,
+        told?.as_str(),
+        "2 ab, failed .., 2 cd, failed .., 1 e., 0 .., 1 calls, 2 faults",
+    );
     Ok(())
 }
 
-/// A piece, what writing it answers, and all that was written then. The second write fails.
-const WRITES: &[(&[u8], &str, &[u8])] = &[
-    (b"ab", "written", b"ab"),
-    (b"cd", "failed", b"ab"),
-    (b"", "written", b"ab"),
-    (b"efg", "written", b"abefg"),
-];
-
 /// What writing a whole piece answers.
-fn whole_told<W: Sink>(sink: &mut W, piece: &[u8]) -> &'static str {
+fn put_write<W: Sink>(told: &mut String, sink: &mut W, piece: &[u8]) -> Result<(), AllocError> {
     match write_whole(sink, piece) {
-        Ok(()) => "written",
-        Err(Failed) => "failed",
+        Ok(()) => told.push_str("written "),
+        Err(Failed) => told.push_str("failed "),
     }
 }
 
@@ -173,16 +175,31 @@ fn sink_failing(alloc: Global, write: u64) -> Result<MemorySink, AllocError> {
     Ok(MemorySink::new(alloc, fails))
 }
 
+/// Pieces that are written one after the other.
+const PIECES: &[&[u8]] = &[b"ab", b"cd", b"", b"efg"];
+
+/// What writing each answers, and all that was written then.
+fn writes_told(alloc: Global, sink: &mut MemorySink) -> Result<String, AllocError> {
+    let mut told = String::new(alloc);
+    for piece in PIECES {
+        put_write(&mut told, sink, piece)?;
+        put_bytes(&mut told, sink.as_bytes())?;
+    }
+    put_plan(alloc, &mut told, &sink.plan)?;
+    Ok(told)
+}
+
+/// The second write fails, and an empty piece takes none.
 #[test]
 fn writes(rt: HostRuntime) -> Result<(), Fail> {
     let mut sink = sink_failing(rt.alloc(), 1)?;
-    for &(piece, want, all) in WRITES {
-        expect(&rt, whole_told(&mut sink, piece), want, "a piece");
-        expect_bytes(&rt, sink.as_bytes(), all, "all that was written");
-    }
-    let plan = plan_text(rt.alloc(), &sink.plan);
+    let told = writes_told(rt.alloc(), &mut sink);
     drop(sink);
-    expect(&rt, plan?.as_str(), "3 calls, 1 faults", "the sink");
+    expect(
+        &rt,
+        told?.as_str(),
+        "written ab, failed ab, written ab, written abefg, 3 calls, 1 faults",
+    );
     Ok(())
 }
 
@@ -205,35 +222,40 @@ impl Sink for Narrow {
     }
 }
 
-/// The number of the write that fails, and what was written of `abcde` then.
-const PARTS: &[(u64, &str, &[u8])] = &[
-    (0, "failed", b""),
-    (1, "failed", b"ab"),
-    (2, "failed", b"abcd"),
-    (3, "written", b"abcde"),
+/// The number of the write that fails, what writing `abcde` answers, and what was written then.
+const PARTS: &[(u64, &str)] = &[
+    (0, "failed , "),
+    (1, "failed ab, "),
+    (2, "failed abcd, "),
+    (3, "written abcde, "),
 ];
 
-fn expect_parts<R: Abort>(rt: &R, narrow: &mut Narrow, want: &str, all: &[u8]) {
-    expect(rt, whole_told(narrow, b"abcde"), want, "five bytes");
-    expect_bytes(rt, narrow.sink.as_bytes(), all, "all that was written");
+fn narrow_told(alloc: Global, narrow: &mut Narrow) -> Result<String, AllocError> {
+    let mut told = String::new(alloc);
+    put_write(&mut told, narrow, b"abcde")?;
+    put_bytes(&mut told, narrow.sink.as_bytes())?;
+    Ok(told)
+}
+
+fn parts_told(alloc: Global, fail: &u64) -> Result<String, AllocError> {
+    let sink = sink_failing(alloc, *fail)?;
+    let mut narrow = Narrow { sink };
+    let told = narrow_told(alloc, &mut narrow);
+    drop(narrow);
+    told
 }
 
 #[test]
 fn writes_in_parts(rt: HostRuntime) -> Result<(), Fail> {
-    for &(fail, want, all) in PARTS {
-        let sink = sink_failing(rt.alloc(), fail)?;
-        let mut narrow = Narrow { sink };
-        expect_parts(&rt, &mut narrow, want, all);
-        drop(narrow);
-    }
+    expect_all(&rt, rt.alloc(), PARTS, parts_told)?;
     Ok(())
 }
 
 /// A name, and what reads with room for two bytes answer. A name that isn't among the files is that of an
-/// empty file.
-const SURE_READS: &[(&str, &[&str])] = &[
-    ("a", &["2 xy", "1 z.", "0 .."]),
-    ("b", &["0 ..", "0 .."]),
+/// empty file, and the file's own plan of faults counts nothing.
+const SURE_READS: &[((&str, u32), &str)] = &[
+    (("a", 3), "2 xy, 1 z., 0 .., "),
+    (("b", 2), "0 .., 0 .., "),
 ];
 
 fn sure_host(alloc: Global) -> Result<SureHost, AllocError> {
@@ -242,32 +264,42 @@ fn sure_host(alloc: Global) -> Result<SureHost, AllocError> {
     Ok(SureHost::new(files))
 }
 
+fn sure_told(alloc: Global, case: &(&str, u32)) -> Result<String, AllocError> {
+    let mut host = sure_host(alloc)?;
+    let told = feed_told(alloc, &mut host, case.0, case.1);
+    drop(host);
+    told
+}
+
 #[test]
 fn sure_reads(rt: HostRuntime) -> Result<(), Fail> {
-    let mut host = sure_host(rt.alloc())?;
-    for &(name, wants) in SURE_READS {
-        expect_feed(&rt, rt.alloc(), &mut host, name, wants)?;
-    }
-    drop(host);
+    expect_all(&rt, rt.alloc(), SURE_READS, sure_told)?;
     Ok(())
 }
 
-/// A piece, and what is kept then of all pieces, for which there is room for four bytes.
-const KEPT: &[(&[u8], &[u8])] = &[
-    (b"abc", b"abc"),
-    (b"", b"abc"),
-    (b"def", b"abcd"),
-    (b"g", b"abcd"),
-];
+/// Pieces that are written to a sink with room for four bytes.
+const SURE_PIECES: &[&[u8]] = &[b"abc", b"", b"def", b"g"];
+
+/// Whether each is taken whole, and what is kept then.
+fn kept_told(alloc: Global, sink: &mut SureSink) -> Result<String, AllocError> {
+    let mut told = String::new(alloc);
+    for piece in SURE_PIECES {
+        let whole = sink.write(piece) == Ok(piece.len());
+        told.push_str(if whole { "whole " } else { "cut " })?;
+        put_bytes(&mut told, sink.as_bytes())?;
+    }
+    Ok(told)
+}
 
 #[test]
 fn sure_writes(rt: HostRuntime) -> Result<(), Fail> {
     let mut sink = SureSink::new(rt.alloc(), 4)?;
-    for &(piece, kept) in KEPT {
-        let is_whole = sink.write(piece) == Ok(piece.len());
-        expect_truth(&rt, is_whole, true, "a piece is taken whole");
-        expect_bytes(&rt, sink.as_bytes(), kept, "what is kept");
-    }
+    let told = kept_told(rt.alloc(), &mut sink);
     drop(sink);
+    expect(
+        &rt,
+        told?.as_str(),
+        "whole abc, whole abc, whole abcd, whole abcd, ",
+    );
     Ok(())
 }

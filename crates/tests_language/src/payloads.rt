@@ -2,13 +2,12 @@
 
 ghost use Rattle.std.specs.Prelude.{◌≡◌, ◌<◌};
 
-use crate::told::expect;
+use crate::told::expect_all;
 use fish_lang::parse_def;
 use fish_psf::{ActiveDef, Keys, PsfRefusal, Record, Steps, keys, parse};
 use fish_value::{Form, print_value};
 use std::alloc::{AllocError, Global};
 use std::marker::Brand;
-use std::process::Abort;
 use std::sync::ledger::{Blank, Ledger};
 use std::test::Fail;
 
@@ -25,40 +24,38 @@ const DEFINITIONS: &[(u16, &str)] = &[
 ];
 
 /// A form, a payload, and what is told of it: its values by id, or why it is refused.
-const PAYLOADS: &[(Form, &[u8], &str)] = &[
+const PAYLOADS: &[((Form, &[u8]), &str)] = &[
     (
-        Form::Csv,
-        b"a,\"x,1\",007",
+        (Form::Csv, b"a,\"x,1\",007"),
         "3 \"a\";4 \"x,1\";5 \"007\";9 true;",
     ),
-    (Form::Csv, b"12,-3", "3 12;4 -3;"),
-    (Form::Csv, b"b,,0", "3 \"b\";4 \"\";"),
-    (Form::Csv, b"\"a\"\"b\"", "3 \"a\\\"b\";"),
-    (Form::Csv, b"a\nb", NO_RECORD),
-    (Form::Csv, b"a,\xff", NO_RECORD),
+    ((Form::Csv, b"12,-3"), "3 12;4 -3;"),
+    ((Form::Csv, b"b,,0"), "3 \"b\";4 \"\";"),
+    ((Form::Csv, b"\"a\"\"b\""), "3 \"a\\\"b\";"),
+    ((Form::Csv, b"a\nb"), NO_RECORD),
+    ((Form::Csv, b"a,\xff"), NO_RECORD),
     (
-        Form::Json,
-        b"{\"$1\":1,\"$2\":\"x\"}",
+        (Form::Json, b"{\"$1\":1,\"$2\":\"x\"}"),
         "3 1;4 \"x\";9 true;",
     ),
-    (Form::Json, b"[1]", NO_RECORD),
-    (Form::Json, b"{", NO_RECORD),
+    ((Form::Json, b"[1]"), NO_RECORD),
+    ((Form::Json, b"{"), NO_RECORD),
 ];
 
 /// A form, what a payload begins and ends with, how many bytes it has, and what is told of it.
-const LONG: &[(Form, &str, &str, usize, &str)] = &[
-    (Form::Csv, "7,", "", 524_288, "3 7;9 true;"),
-    (Form::Csv, "7,", "", 524_289, TOO_LONG),
+const LONG: &[((Form, &str, &str, usize), &str)] = &[
+    ((Form::Csv, "7,", "", 524_288), "3 7;9 true;"),
+    ((Form::Csv, "7,", "", 524_289), TOO_LONG),
     (
-        Form::Json,
-        "{\"$1\":7,\"$2\":\"",
-        "\"}",
-        524_288,
+        (Form::Json, "{\"$1\":7,\"$2\":\"", "\"}", 524_288),
         "3 7;9 true;",
     ),
-    (Form::Json, "{\"$1\":7,\"$2\":\"", "\"}", 524_289, TOO_LONG),
-    (Form::Json, "", "", 524_288, NO_RECORD),
-    (Form::Json, "", "", 524_289, TOO_LONG),
+    (
+        (Form::Json, "{\"$1\":7,\"$2\":\"", "\"}", 524_289),
+        TOO_LONG,
+    ),
+    ((Form::Json, "", "", 524_288), NO_RECORD),
+    ((Form::Json, "", "", 524_289), TOO_LONG),
 ];
 
 fn active(alloc: Global) -> Result<Vec<ActiveDef>, Fail> {
@@ -91,12 +88,17 @@ fn keys_told(alloc: Global, defs: &[ActiveDef], record: &Record) -> Result<Strin
 /// What a payload of a form is.
 fn told<P: Ledger>(
     alloc: Global,
-    parses: &mut Steps<P>,
+    blank: Blank,
     form: Form,
     payload: &[u8],
     defs: &[ActiveDef],
-) -> Result<String, AllocError> {
-    match parse(alloc, form, payload, parses) {
+) -> Result<String, AllocError>
+    requires name { blank.name ≡ P.name }
+    requires parts { blank.parts ≡ P.parts }
+    requires some { 0 < blank.parts }
+{
+    let mut parses = Steps::<P>::new(blank);
+    match parse(alloc, form, payload, &mut parses) {
         Ok(record) => {
             let told = keys_told(alloc, defs, &record);
             drop(record);
@@ -104,6 +106,14 @@ fn told<P: Ledger>(
         }
         Err(refusal) => refusal_text(alloc, refusal),
     }
+}
+
+/// The same with a counter of its own.
+fn told_once(alloc: Global, form: Form, payload: &[u8]) -> Result<String, Fail> {
+    let defs = active(alloc)?;
+    let told = told::<Brand>(alloc, Blank::new(1), form, payload, defs.as_slice());
+    drop(defs);
+    Ok(told?)
 }
 
 fn refusal_text(alloc: Global, refusal: PsfRefusal) -> Result<String, AllocError> {
@@ -120,35 +130,17 @@ fn long_payload(alloc: Global, front: &str, end: &str, len: usize) -> Result<Str
     Ok(payload)
 }
 
-/// Expects what is told of all payloads, with one counter.
-fn expect_all<R: Abort, P: Ledger>(
-    rt: &R,
-    alloc: Global,
-    blank: Blank,
-    defs: &[ActiveDef],
-) -> Result<(), AllocError>
-    requires name { blank.name ≡ P.name }
-    requires parts { blank.parts ≡ P.parts }
-    requires some { 0 < blank.parts }
-{
-    let mut parses = Steps::<P>::new(blank);
-    for &(form, payload, want) in PAYLOADS {
-        let found = told(alloc, &mut parses, form, payload, defs)?;
-        expect(rt, found.as_str(), want, want);
-    }
-    for &(form, front, end, len, want) in LONG {
-        let payload = long_payload(alloc, front, end, len)?;
-        let found = told(alloc, &mut parses, form, payload.as_bytes(), defs)?;
-        expect(rt, found.as_str(), want, front);
-    }
-    Ok(())
+fn payload_told(alloc: Global, case: &(Form, &[u8])) -> Result<String, Fail> {
+    told_once(alloc, case.0, case.1)
+}
+
+fn long_told(alloc: Global, case: &(Form, &str, &str, usize)) -> Result<String, Fail> {
+    let payload = long_payload(alloc, case.1, case.2, case.3)?;
+    told_once(alloc, case.0, payload.as_bytes())
 }
 
 #[test]
 fn payloads_of_both_forms(rt: HostRuntime) -> Result<(), Fail> {
-    let defs = active(rt.alloc())?;
-    let met = expect_all::<HostRuntime, Brand>(&rt, rt.alloc(), Blank::new(1), defs.as_slice());
-    drop(defs);
-    met?;
-    Ok(())
+    expect_all(&rt, rt.alloc(), PAYLOADS, payload_told)?;
+    expect_all(&rt, rt.alloc(), LONG, long_told)
 }

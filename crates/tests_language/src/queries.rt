@@ -3,14 +3,13 @@
 
 ghost use Rattle.std.specs.Prelude.{◌≡◌, ◌<◌};
 
-use crate::told::expect;
+use crate::told::expect_all;
 use fish_lang::{Def, parse_def};
 use fish_lines::records;
 use fish_psf::{Record, Steps, eval, parse};
 use fish_value::{Form, Text, Value, read_value};
 use std::alloc::{AllocError, Global};
 use std::marker::Brand;
-use std::process::Abort;
 use std::sync::ledger::{Blank, Ledger};
 use std::test::Fail;
 
@@ -27,31 +26,31 @@ const LINES: &[u8] =
     b"{\"$3\":7}\r\n{\"$3\":\"7\"}\n\n{\"$3\":7.0}\n{\"$3\":[7]}\n[7]\n{\"$3\":7,\"$3\":8}\n{\"$3\":7}";
 
 /// A form, a file, a value, and the numbers of the records that have it.
-const QUERIES: &[(Form, &[u8], &str, &str)] = &[
-    (Form::Csv, TEXTS, "7", ""),
-    (Form::Csv, TEXTS, "\"7x\"", "0;1;"),
-    (Form::Csv, TEXTS, "\"007\"", "2;"),
-    (Form::Csv, TEXTS, "\"7,\"", "3;"),
-    (Form::Csv, TEXTS, "\"+7\"", "4;"),
-    (Form::Csv, TEXTS, "\" 7\"", "5;"),
-    (Form::Csv, TEXTS, "\"7 \"", "6;"),
-    (Form::Csv, TEXTS, "\"7.0\"", "7;"),
-    (Form::Csv, TEXTS, "\"\"", "9;"),
-    (Form::Csv, TEXTS, "\"7\"", ""),
-    (Form::Csv, NUMBERS, "7", "0;1;11;"),
-    (Form::Csv, NUMBERS, "\"7\"", ""),
-    (Form::Csv, NUMBERS, "\"07\"", "2;"),
-    (Form::Csv, NUMBERS, "0", "3;"),
-    (Form::Csv, NUMBERS, "\"-0\"", "4;"),
-    (Form::Csv, NUMBERS, "-7", "5;"),
-    (Form::Csv, NUMBERS, "\"00\"", "6;"),
-    (Form::Csv, NUMBERS, "9223372036854775807", "7;"),
-    (Form::Csv, NUMBERS, "\"9223372036854775808\"", "8;"),
-    (Form::Csv, NUMBERS, "-9223372036854775808", "9;"),
-    (Form::Csv, NUMBERS, "\"-\"", "10;"),
-    (Form::Json, LINES, "7", "0;5;"),
-    (Form::Json, LINES, "\"7\"", "1;"),
-    (Form::Json, LINES, "8", "4;"),
+const QUERIES: &[((Form, &[u8], &str), &str)] = &[
+    ((Form::Csv, TEXTS, "7"), ""),
+    ((Form::Csv, TEXTS, "\"7x\""), "0;1;"),
+    ((Form::Csv, TEXTS, "\"007\""), "2;"),
+    ((Form::Csv, TEXTS, "\"7,\""), "3;"),
+    ((Form::Csv, TEXTS, "\"+7\""), "4;"),
+    ((Form::Csv, TEXTS, "\" 7\""), "5;"),
+    ((Form::Csv, TEXTS, "\"7 \""), "6;"),
+    ((Form::Csv, TEXTS, "\"7.0\""), "7;"),
+    ((Form::Csv, TEXTS, "\"\""), "9;"),
+    ((Form::Csv, TEXTS, "\"7\""), ""),
+    ((Form::Csv, NUMBERS, "7"), "0;1;11;"),
+    ((Form::Csv, NUMBERS, "\"7\""), ""),
+    ((Form::Csv, NUMBERS, "\"07\""), "2;"),
+    ((Form::Csv, NUMBERS, "0"), "3;"),
+    ((Form::Csv, NUMBERS, "\"-0\""), "4;"),
+    ((Form::Csv, NUMBERS, "-7"), "5;"),
+    ((Form::Csv, NUMBERS, "\"00\""), "6;"),
+    ((Form::Csv, NUMBERS, "9223372036854775807"), "7;"),
+    ((Form::Csv, NUMBERS, "\"9223372036854775808\""), "8;"),
+    ((Form::Csv, NUMBERS, "-9223372036854775808"), "9;"),
+    ((Form::Csv, NUMBERS, "\"-\""), "10;"),
+    ((Form::Json, LINES, "7"), "0;5;"),
+    ((Form::Json, LINES, "\"7\""), "1;"),
+    ((Form::Json, LINES, "8"), "4;"),
 ];
 
 /// Whether a definition gives a value on a record.
@@ -106,60 +105,52 @@ fn numbers_of<P: Ledger>(
 /// The numbers of a file's records on which a definition gives a value.
 fn numbers_in<P: Ledger>(
     alloc: Global,
-    parses: &mut Steps<P>,
-    form: Form,
-    file: &[u8],
+    blank: Blank,
+    case: &(Form, &[u8], &str),
     def: &Def,
     value: &Value,
-) -> Result<String, Fail> {
-    let found = records(alloc, form, false, file)?;
-    let numbers = numbers_of(alloc, parses, form, found.payloads.as_slice(), def, value);
-    drop(found);
-    numbers
-}
-
-/// The same of a value's text.
-fn told<P: Ledger>(
-    alloc: Global,
-    parses: &mut Steps<P>,
-    form: Form,
-    file: &[u8],
-    def: &Def,
-    text: &str,
-) -> Result<String, Fail> {
-    match read_value(alloc, text.as_bytes())? {
-        Some(value) => {
-            let numbers = numbers_in(alloc, parses, form, file, def, &value);
-            drop(value);
-            numbers
-        }
-        None => Ok(String::from_str(alloc, "no value")?),
-    }
-}
-
-/// Expects the numbers of all queries, with one counter.
-fn expect_all<R: Abort, P: Ledger>(
-    rt: &R,
-    alloc: Global,
-    blank: Blank,
-    def: &Def,
-) -> Result<(), Fail>
+) -> Result<String, Fail>
     requires name { blank.name ≡ P.name }
     requires parts { blank.parts ≡ P.parts }
     requires some { 0 < blank.parts }
 {
     let mut parses = Steps::<P>::new(blank);
-    for &(form, file, text, want) in QUERIES {
-        let found = told(alloc, &mut parses, form, file, def, text)?;
-        expect(rt, found.as_str(), want, text);
+    let found = records(alloc, case.0, false, case.1)?;
+    let payloads = found.payloads.as_slice();
+    let numbers = numbers_of(alloc, &mut parses, case.0, payloads, def, value);
+    drop(found);
+    numbers
+}
+
+/// The same of a value that is there, with a counter of its own.
+fn numbers_with(
+    alloc: Global,
+    case: &(Form, &[u8], &str),
+    def: &Def,
+    value: &Option<Value>,
+) -> Result<String, Fail> {
+    match value {
+        Some(value) => numbers_in::<Brand>(alloc, Blank::new(1), case, def, value),
+        None => Ok(String::from_str(alloc, "no value")?),
     }
-    Ok(())
+}
+
+fn with_def(alloc: Global, case: &(Form, &[u8], &str), def: &Def) -> Result<String, Fail> {
+    let value = read_value(alloc, case.2.as_bytes())?;
+    let numbers = numbers_with(alloc, case, def, &value);
+    drop(value);
+    numbers
+}
+
+/// The same by the third column.
+fn told(alloc: Global, case: &(Form, &[u8], &str)) -> Result<String, Fail> {
+    let def = parse_def(alloc, b"take $3")?;
+    let numbers = with_def(alloc, case, &def);
+    drop(def);
+    numbers
 }
 
 #[test]
 fn values_of_the_third_column(rt: HostRuntime) -> Result<(), Fail> {
-    let def = parse_def(rt.alloc(), b"take $3")?;
-    let met = expect_all::<HostRuntime, Brand>(&rt, rt.alloc(), Blank::new(1), &def);
-    drop(def);
-    met
+    expect_all(&rt, rt.alloc(), QUERIES, told)
 }

@@ -1,130 +1,128 @@
 //! Definitions on lines, with values worked out by hand from what each word of the language means.
 
-use crate::told::{expect, expect_truth, value_text};
+use crate::told::{agreed, expect_all, value_text};
 use fish_json::{JsonReader, JsonRecord};
 use fish_lang::{Def, parse_def};
 use fish_psf::{Parsed, Record, eval, holds};
 use fish_value::Value;
 use std::alloc::{AllocError, Global};
-use std::process::Abort;
 use std::test::Fail;
 
 /// Definitions, lines, and the value that is wanted.
-const VALUES: &[(&str, &str, &str)] = &[
+const VALUES: &[((&str, &str), &str)] = &[
     // The value at a path.
-    ("take a", "{\"a\":false}", "false"),
-    ("take a", "{\"a\":-7}", "int -7"),
-    ("take a", "{\"a\":\"\\u00e9\"}", "text é"),
-    ("take a", "{\"a\":\"\"}", "text "),
-    ("take a", "{\"a\":null}", "none"),
-    ("take a", "{\"a\":1.5}", "none"),
-    ("take a", "{\"a\":[1]}", "none"),
-    ("take a", "{\"b\":1}", "none"),
+    (("take a", "{\"a\":false}"), "false"),
+    (("take a", "{\"a\":-7}"), "int -7"),
+    (("take a", "{\"a\":\"\\u00e9\"}"), "text é"),
+    (("take a", "{\"a\":\"\"}"), "text "),
+    (("take a", "{\"a\":null}"), "none"),
+    (("take a", "{\"a\":1.5}"), "none"),
+    (("take a", "{\"a\":[1]}"), "none"),
+    (("take a", "{\"b\":1}"), "none"),
     (
-        "take a.b.\"c d\"",
-        "{\"a\":{\"b\":{\"c d\":1}},\"c d\":2}",
+        ("take a.b.\"c d\"", "{\"a\":{\"b\":{\"c d\":1}},\"c d\":2}"),
         "int 1",
     ),
-    ("take a.b", "{\"a\":{\"c\":1},\"b\":2}", "none"),
-    ("take a when b = 1", "{\"a\":2,\"b\":1}", "int 2"),
-    ("take a when b = 1", "{\"a\":2,\"b\":2}", "none"),
+    (("take a.b", "{\"a\":{\"c\":1},\"b\":2}"), "none"),
+    (("take a when b = 1", "{\"a\":2,\"b\":1}"), "int 2"),
+    (("take a when b = 1", "{\"a\":2,\"b\":2}"), "none"),
     // Rounding down.
-    ("bucket n by 10", "{\"n\":0}", "int 0"),
-    ("bucket n by 10", "{\"n\":9}", "int 0"),
-    ("bucket n by 10", "{\"n\":10}", "int 10"),
-    ("bucket n by 10", "{\"n\":19}", "int 10"),
-    ("bucket n by 10", "{\"n\":-1}", "int -10"),
-    ("bucket n by 10", "{\"n\":-10}", "int -10"),
+    (("bucket n by 10", "{\"n\":0}"), "int 0"),
+    (("bucket n by 10", "{\"n\":9}"), "int 0"),
+    (("bucket n by 10", "{\"n\":10}"), "int 10"),
+    (("bucket n by 10", "{\"n\":19}"), "int 10"),
+    (("bucket n by 10", "{\"n\":-1}"), "int -10"),
+    (("bucket n by 10", "{\"n\":-10}"), "int -10"),
     (
-        "bucket n by 1",
-        "{\"n\":-9223372036854775808}",
+        ("bucket n by 1", "{\"n\":-9223372036854775808}"),
         "int -9223372036854775808",
     ),
-    ("bucket n by 10", "{\"n\":-9223372036854775808}", "none"),
+    (("bucket n by 10", "{\"n\":-9223372036854775808}"), "none"),
     (
-        "bucket n by 10",
-        "{\"n\":-9223372036854775800}",
+        ("bucket n by 10", "{\"n\":-9223372036854775800}"),
         "int -9223372036854775800",
     ),
     (
-        "bucket n by 9223372036854775807",
-        "{\"n\":9223372036854775806}",
+        (
+            "bucket n by 9223372036854775807",
+            "{\"n\":9223372036854775806}",
+        ),
         "int 0",
     ),
     (
-        "bucket n by 9223372036854775807",
-        "{\"n\":-1}",
+        ("bucket n by 9223372036854775807", "{\"n\":-1}"),
         "int -9223372036854775807",
     ),
     (
-        "bucket n by 9223372036854775807",
-        "{\"n\":-9223372036854775808}",
+        (
+            "bucket n by 9223372036854775807",
+            "{\"n\":-9223372036854775808}",
+        ),
         "none",
     ),
-    ("bucket n by 10", "{\"n\":\"9\"}", "none"),
-    ("bucket n by 10", "{\"n\":true}", "none"),
+    (("bucket n by 10", "{\"n\":\"9\"}"), "none"),
+    (("bucket n by 10", "{\"n\":true}"), "none"),
     (
-        "bucket n by 10 when a exists",
-        "{\"n\":25,\"a\":null}",
+        ("bucket n by 10 when a exists", "{\"n\":25,\"a\":null}"),
         "int 20",
     ),
-    ("bucket n by 10 when a exists", "{\"n\":25}", "none"),
+    (("bucket n by 10 when a exists", "{\"n\":25}"), "none"),
     // A flag is true or nothing.
-    ("flag when a exists", "{\"a\":false}", "true"),
-    ("flag when a exists", "{}", "none"),
+    (("flag when a exists", "{\"a\":false}"), "true"),
+    (("flag when a exists", "{}"), "none"),
 ];
 
 /// Conditions, lines, and whether they hold.
-const CONDITIONS: &[(&str, &str, &str)] = &[
-    ("flag when a = 1", "{\"a\":1}", "true"),
-    ("flag when a = 1", "{\"a\":2}", "false"),
-    ("flag when a = 1", "{\"a\":\"1\"}", "false"),
-    ("flag when a = 1", "{\"a\":1.0}", "false"),
-    ("flag when a = true", "{\"a\":1}", "false"),
-    ("flag when a = \"\"", "{\"a\":null}", "false"),
-    ("flag when a = \"x\"", "{\"a\":\"\\u0078\"}", "true"),
-    ("flag when a != 1", "{\"a\":1}", "false"),
-    ("flag when a != 1", "{\"a\":2}", "true"),
-    ("flag when a != 1", "{\"a\":\"1\"}", "true"),
-    ("flag when a != 1", "{\"a\":null}", "true"),
-    ("flag when a != 1", "{\"a\":[]}", "true"),
-    ("flag when a != 1", "{\"b\":2}", "false"),
-    ("flag when a < 0", "{\"a\":-9223372036854775808}", "true"),
-    ("flag when a < 0", "{\"a\":0}", "false"),
-    ("flag when a <= 0", "{\"a\":0}", "true"),
-    ("flag when a <= 0", "{\"a\":1}", "false"),
-    ("flag when a > 0", "{\"a\":0}", "false"),
-    ("flag when a >= 0", "{\"a\":0}", "true"),
-    ("flag when a >= 0", "{\"a\":-1}", "false"),
-    ("flag when a < 1", "{\"a\":\"0\"}", "false"),
-    ("flag when a >= 1", "{\"a\":null}", "false"),
-    ("flag when a < true", "{\"a\":false}", "true"),
-    ("flag when a >= true", "{\"a\":false}", "false"),
-    ("flag when a < \"b\"", "{\"a\":\"ab\"}", "true"),
-    ("flag when a > \"a\"", "{\"a\":\"ab\"}", "true"),
-    ("flag when a < \"a\"", "{\"a\":\"B\"}", "true"),
-    ("flag when a < \"z\"", "{\"a\":\"é\"}", "false"),
+const CONDITIONS: &[((&str, &str), &str)] = &[
+    (("flag when a = 1", "{\"a\":1}"), "true"),
+    (("flag when a = 1", "{\"a\":2}"), "false"),
+    (("flag when a = 1", "{\"a\":\"1\"}"), "false"),
+    (("flag when a = 1", "{\"a\":1.0}"), "false"),
+    (("flag when a = true", "{\"a\":1}"), "false"),
+    (("flag when a = \"\"", "{\"a\":null}"), "false"),
+    (("flag when a = \"x\"", "{\"a\":\"\\u0078\"}"), "true"),
+    (("flag when a != 1", "{\"a\":1}"), "false"),
+    (("flag when a != 1", "{\"a\":2}"), "true"),
+    (("flag when a != 1", "{\"a\":\"1\"}"), "true"),
+    (("flag when a != 1", "{\"a\":null}"), "true"),
+    (("flag when a != 1", "{\"a\":[]}"), "true"),
+    (("flag when a != 1", "{\"b\":2}"), "false"),
+    (("flag when a < 0", "{\"a\":-9223372036854775808}"), "true"),
+    (("flag when a < 0", "{\"a\":0}"), "false"),
+    (("flag when a <= 0", "{\"a\":0}"), "true"),
+    (("flag when a <= 0", "{\"a\":1}"), "false"),
+    (("flag when a > 0", "{\"a\":0}"), "false"),
+    (("flag when a >= 0", "{\"a\":0}"), "true"),
+    (("flag when a >= 0", "{\"a\":-1}"), "false"),
+    (("flag when a < 1", "{\"a\":\"0\"}"), "false"),
+    (("flag when a >= 1", "{\"a\":null}"), "false"),
+    (("flag when a < true", "{\"a\":false}"), "true"),
+    (("flag when a >= true", "{\"a\":false}"), "false"),
+    (("flag when a < \"b\"", "{\"a\":\"ab\"}"), "true"),
+    (("flag when a > \"a\"", "{\"a\":\"ab\"}"), "true"),
+    (("flag when a < \"a\"", "{\"a\":\"B\"}"), "true"),
+    (("flag when a < \"z\"", "{\"a\":\"é\"}"), "false"),
     // By the bytes U+FFFD comes before U+1F600, by the units of UTF-16 behind it.
-    ("flag when a < \"😀\"", "{\"a\":\"\\ufffd\"}", "true"),
-    ("flag when a exists", "{\"a\":null}", "true"),
-    ("flag when a exists", "{\"a\":{}}", "true"),
-    ("flag when a.b exists", "{\"a\":{}}", "false"),
-    ("flag when a starts \"ab\"", "{\"a\":\"abc\"}", "true"),
-    ("flag when a starts \"ab\"", "{\"a\":\"a\"}", "false"),
-    ("flag when a starts \"\"", "{\"a\":\"\"}", "true"),
-    ("flag when a starts \"\"", "{\"a\":1}", "false"),
-    ("flag when a starts \"1\"", "{\"a\":12}", "false"),
-    ("flag when not a = 1", "{}", "true"),
-    ("flag when a = 1 and b = 2", "{\"a\":1,\"b\":2}", "true"),
-    ("flag when a = 1 and b = 2", "{\"a\":1,\"b\":3}", "false"),
-    ("flag when a = 1 and b = 2", "{\"a\":3,\"b\":2}", "false"),
-    ("flag when a = 1 or b = 2", "{\"a\":3,\"b\":2}", "true"),
-    ("flag when a = 1 or b = 2", "{\"a\":1}", "true"),
-    ("flag when a = 1 or b = 2", "{\"a\":2,\"b\":1}", "false"),
+    (("flag when a < \"😀\"", "{\"a\":\"\\ufffd\"}"), "true"),
+    (("flag when a exists", "{\"a\":null}"), "true"),
+    (("flag when a exists", "{\"a\":{}}"), "true"),
+    (("flag when a.b exists", "{\"a\":{}}"), "false"),
+    (("flag when a starts \"ab\"", "{\"a\":\"abc\"}"), "true"),
+    (("flag when a starts \"ab\"", "{\"a\":\"a\"}"), "false"),
+    (("flag when a starts \"\"", "{\"a\":\"\"}"), "true"),
+    (("flag when a starts \"\"", "{\"a\":1}"), "false"),
+    (("flag when a starts \"1\"", "{\"a\":12}"), "false"),
+    (("flag when not a = 1", "{}"), "true"),
+    (("flag when a = 1 and b = 2", "{\"a\":1,\"b\":2}"), "true"),
+    (("flag when a = 1 and b = 2", "{\"a\":1,\"b\":3}"), "false"),
+    (("flag when a = 1 and b = 2", "{\"a\":3,\"b\":2}"), "false"),
+    (("flag when a = 1 or b = 2", "{\"a\":3,\"b\":2}"), "true"),
+    (("flag when a = 1 or b = 2", "{\"a\":1}"), "true"),
+    (("flag when a = 1 or b = 2", "{\"a\":2,\"b\":1}"), "false"),
 ];
 
 /// What a definition gives on a record.
-pub fn value_on<R: Parsed>(alloc: Global, def: &Def, rec: &R) -> Result<String, AllocError> {
+fn value_on<R: Parsed>(alloc: Global, def: &Def, rec: &R) -> Result<String, AllocError> {
     let found = eval(alloc, def, rec)?;
     let told = value_text(alloc, &found);
     drop(found);
@@ -156,42 +154,26 @@ fn in_row(alloc: Global, def: &Def, line: &str) -> Result<String, Fail> {
     Ok(told?)
 }
 
-/// Expects what it gives on a line, read in each way.
-fn expect_on<R: Abort>(
-    rt: &R,
-    alloc: Global,
-    def: &Def,
-    line: &str,
-    want: &str,
-) -> Result<(), Fail> {
-    let found = in_record(alloc, def, line)?;
-    expect(rt, found.as_str(), want, line);
-    let found = in_any_form(alloc, def, line)?;
-    expect(rt, found.as_str(), want, line);
-    let found = in_row(alloc, def, line)?;
-    expect(rt, found.as_str(), want, line);
-    Ok(())
+/// What it gives on a line, read in each way.
+fn on_line(alloc: Global, def: &Def, line: &str) -> Result<String, Fail> {
+    let record = in_record(alloc, def, line)?;
+    let any = in_any_form(alloc, def, line)?;
+    let row = in_row(alloc, def, line)?;
+    let both = agreed(alloc, record.as_str(), any.as_str())?;
+    Ok(agreed(alloc, both.as_str(), row.as_str())?)
 }
 
-fn expect_value<R: Abort>(
-    rt: &R,
-    alloc: Global,
-    source: &str,
-    line: &str,
-    want: &str,
-) -> Result<(), Fail> {
-    let def = parse_def(alloc, source.as_bytes())?;
-    let met = expect_on(rt, alloc, &def, line, want);
+/// What a definition gives on a line.
+fn value_by(alloc: Global, case: &(&str, &str)) -> Result<String, Fail> {
+    let def = parse_def(alloc, case.0.as_bytes())?;
+    let told = on_line(alloc, &def, case.1);
     drop(def);
-    met
+    told
 }
 
 #[test]
 fn values(rt: HostRuntime) -> Result<(), Fail> {
-    for &(source, line, want) in VALUES {
-        expect_value(&rt, rt.alloc(), source, line, want)?;
-    }
-    Ok(())
+    expect_all(&rt, rt.alloc(), VALUES, value_by)
 }
 
 /// Whether a flag's condition holds on a line: `true` or `false`, or `no flag`.
@@ -205,29 +187,25 @@ fn holds_on(alloc: Global, def: &Def, line: &str) -> Result<&'static str, Fail> 
     Ok(if truth? { "true" } else { "false" })
 }
 
-fn holds_by(alloc: Global, source: &str, line: &str) -> Result<&'static str, Fail> {
-    let def = parse_def(alloc, source.as_bytes())?;
-    let truth = holds_on(alloc, &def, line);
+fn holds_by(alloc: Global, case: &(&str, &str)) -> Result<String, Fail> {
+    let def = parse_def(alloc, case.0.as_bytes())?;
+    let truth = holds_on(alloc, &def, case.1);
     drop(def);
-    truth
+    Ok(String::from_str(alloc, truth?)?)
 }
 
 #[test]
 fn conditions(rt: HostRuntime) -> Result<(), Fail> {
-    for &(source, line, want) in CONDITIONS {
-        let found = holds_by(rt.alloc(), source, line)?;
-        expect(&rt, found, want, source);
-    }
-    Ok(())
+    expect_all(&rt, rt.alloc(), CONDITIONS, holds_by)
 }
 
-/// A definition, the bytes of a text at `a`, and how what is told of the value begins.
-const LONG: &[(&str, usize, &str)] = &[
-    ("take a", 256, "text xxx"),
-    ("take a", 257, "none"),
-    ("take a", 500_000, "none"),
-    ("flag when a starts \"x\"", 257, "true"),
-    ("flag when a > \"x\"", 257, "true"),
+/// A definition and the bytes of a text at `a`, and how many bytes are told of the value and how they begin.
+const LONG: &[((&str, usize), &str)] = &[
+    (("take a", 256), "261 bytes text"),
+    (("take a", 257), "4 bytes none"),
+    (("take a", 500_000), "4 bytes none"),
+    (("flag when a starts \"x\"", 257), "4 bytes true"),
+    (("flag when a > \"x\"", 257), "4 bytes true"),
 ];
 
 /// A line whose `a` is a text of that many bytes.
@@ -240,20 +218,14 @@ fn long_line(alloc: Global, len: usize) -> Result<String, AllocError> {
     Ok(line)
 }
 
-/// What a definition gives on a line.
-pub fn value_by(alloc: Global, source: &str, line: &str) -> Result<String, Fail> {
-    let def = parse_def(alloc, source.as_bytes())?;
-    let told = in_record(alloc, &def, line);
-    drop(def);
-    told
+fn long_told(alloc: Global, case: &(&str, usize)) -> Result<String, Fail> {
+    let line = long_line(alloc, case.1)?;
+    let told = value_by(alloc, &(case.0, line.as_str()))?;
+    let kind = told.as_str().trim_end_matches('x').trim_end();
+    Ok(format!(in alloc; "{} bytes {kind}", told.len())?)
 }
 
 #[test]
 fn long_texts(rt: HostRuntime) -> Result<(), Fail> {
-    for &(source, len, want) in LONG {
-        let line = long_line(rt.alloc(), len)?;
-        let found = value_by(rt.alloc(), source, line.as_str())?;
-        expect_truth(&rt, found.as_str().starts_with(want), true, source);
-    }
-    Ok(())
+    expect_all(&rt, rt.alloc(), LONG, long_told)
 }

@@ -1,7 +1,7 @@
 //! Real files and standard output, of which nothing is proved: one that is there and one that isn't,
 //! and an output that signals interrupt.
 
-use crate::told::{expect, expect_number, expect_truth};
+use crate::told::{expect, expect_all};
 use fish_outside::{FileHost, Host, OutSink, Sink, Source, write_whole};
 use fish_value::Text;
 use std::alloc::{AllocError, Global};
@@ -40,16 +40,26 @@ fn new_file(rt: &HostRuntime) -> Result<Text, Fail> {
     Ok(Text::from_string(path))
 }
 
+/// What is told of a file that is there and then isn't, and how often the host has failed.
+fn file_told<H: Host>(rt: &HostRuntime, host: &mut H, name: &Text) -> Result<String, Fail> {
+    let there = feed_told(rt.alloc(), host, name)?;
+    fs::remove_file(rt, name.as_str())?;
+    let gone = feed_told(rt.alloc(), host, name)?;
+    Ok(format!(in rt.alloc(); "{}, {}", there.as_str(), gone.as_str())?)
+}
+
 #[test]
 fn reads(rt: HostRuntime) -> Result<(), Fail> {
     let name = new_file(&rt)?;
     let mut host = FileHost::new(rt);
-    let told = feed_told(rt.alloc(), &mut host, &name)?;
-    expect(&rt, told.as_str(), "Ok(3) 97 98 99 Ok(0)", "a file");
-    fs::remove_file(&rt, name.as_str())?;
-    let told = feed_told(rt.alloc(), &mut host, &name)?;
-    expect(&rt, told.as_str(), "the outside failed", "no file");
-    expect_number(&rt, host.faults(), 1, "faults of the host");
+    let told = file_told(&rt, &mut host, &name)?;
+    expect(
+        &rt,
+        told.as_str(),
+        "Ok(3) 97 98 99 Ok(0), the outside failed",
+    );
+    let faults = format!(in rt.alloc(); "{}", host.faults())?;
+    expect(&rt, faults.as_str(), "1");
     Ok(())
 }
 
@@ -85,8 +95,8 @@ impl Print for Interrupted {
 /// How often signals interrupt, and what a write of two bytes answers and the faults then.
 const INTERRUPTED: &[(u32, &str)] = &[(0, "Ok(1) 0"), (63, "Ok(1) 0"), (64, "Err(Failed) 1")];
 
-fn write_told(alloc: Global, often: u32) -> Result<String, AllocError> {
-    let left = Cell::new(often);
+fn write_told(alloc: Global, often: &u32) -> Result<String, AllocError> {
+    let left = Cell::new(*often);
     let mut sink = OutSink::new(Interrupted { left });
     let result = sink.write(b"ab");
     let faults = sink.faults();
@@ -96,18 +106,17 @@ fn write_told(alloc: Global, often: u32) -> Result<String, AllocError> {
 
 #[test]
 fn tries_again(rt: HostRuntime) -> Result<(), Fail> {
-    for &(often, want) in INTERRUPTED {
-        let found = write_told(rt.alloc(), often)?;
-        expect(&rt, found.as_str(), want, want);
-    }
+    expect_all(&rt, rt.alloc(), INTERRUPTED, write_told)?;
     Ok(())
 }
 
+/// What writing five bytes to standard output answers, and writing none.
 #[test]
-fn writes(rt: HostRuntime) {
+fn writes(rt: HostRuntime) -> Result<(), Fail> {
     let mut sink = OutSink::new(rt);
     let whole = write_whole(&mut sink, b"fish\n");
-    expect_truth(&rt, whole == Ok(()), true, "five bytes");
     let none = sink.write(b"");
-    expect_truth(&rt, none == Ok(0), true, "no bytes");
+    let told = format!(in rt.alloc(); "{whole:?} {none:?}")?;
+    expect(&rt, told.as_str(), "Ok(()) Ok(0)");
+    Ok(())
 }

@@ -1,6 +1,6 @@
 //! Texts with answers from outside: RFC 8259, section 7, and RFC 3629.
 
-use crate::told::{expect, value_text};
+use crate::told::{expect_all, value_text};
 use fish_value::{Text, json_text, read_json, read_value};
 use std::alloc::{AllocError, Global};
 use std::test::Fail;
@@ -16,29 +16,28 @@ const STRINGS: &[(&str, &str)] = &[
     ("text /\u{7f}\u{2028}😀", "\"/\u{7f}\u{2028}😀\""),
 ];
 
-/// The JSON string of a text behind `text `.
-fn string_for(alloc: Global, told: &str) -> Result<String, AllocError> {
-    let text = Text::copy_of(alloc, told.strip_prefix("text ").unwrap_or(""))?;
-    let string = json_text(alloc, &text)?;
-    String::from_str(alloc, string.as_str())
-}
-
 /// What the value of a JSON string is.
-fn value_of(alloc: Global, string: &str) -> Result<String, AllocError> {
+fn value_of(alloc: Global, string: &Text) -> Result<String, AllocError> {
     let found = read_value(alloc, string.as_bytes())?;
     let told = value_text(alloc, &found);
     drop(found);
     told
 }
 
+/// The JSON string of a text behind `text `, whose value is that text.
+fn string_for(alloc: Global, told: &&str) -> Result<String, AllocError> {
+    let text = Text::copy_of(alloc, told.strip_prefix("text ").unwrap_or(""))?;
+    let string = json_text(alloc, &text)?;
+    let again = value_of(alloc, &string)?;
+    if again.as_str() == *told {
+        return String::from_str(alloc, string.as_str());
+    }
+    format!(in alloc; "{} of {}", again.as_str(), string.as_str())
+}
+
 #[test]
 fn strings(rt: HostRuntime) -> Result<(), Fail> {
-    for &(told, want) in STRINGS {
-        let string = string_for(rt.alloc(), told)?;
-        expect(&rt, string.as_str(), want, told);
-        let read = value_of(rt.alloc(), string.as_str())?;
-        expect(&rt, read.as_str(), told, want);
-    }
+    expect_all(&rt, rt.alloc(), STRINGS, string_for)?;
     Ok(())
 }
 
@@ -66,20 +65,18 @@ fn is_json(alloc: Global, bytes: &[u8]) -> Result<bool, AllocError> {
     Ok(found)
 }
 
-fn kind_of(alloc: Global, bytes: &[u8]) -> Result<&'static str, AllocError> {
-    match (is_text(alloc, bytes)?, is_json(alloc, bytes)?) {
-        (true, true) => Ok("a text, JSON"),
-        (true, false) => Ok("a text"),
-        (false, true) => Ok("JSON"),
-        (false, false) => Ok("neither"),
-    }
+fn kind_of(alloc: Global, bytes: &&[u8]) -> Result<String, AllocError> {
+    let kind = match (is_text(alloc, bytes)?, is_json(alloc, bytes)?) {
+        (true, true) => "a text, JSON",
+        (true, false) => "a text",
+        (false, true) => "JSON",
+        (false, false) => "neither",
+    };
+    String::from_str(alloc, kind)
 }
 
 #[test]
 fn bytes(rt: HostRuntime) -> Result<(), Fail> {
-    for &(bytes, want) in BYTES {
-        let found = kind_of(rt.alloc(), bytes)?;
-        expect(&rt, found, want, "bytes");
-    }
+    expect_all(&rt, rt.alloc(), BYTES, kind_of)?;
     Ok(())
 }

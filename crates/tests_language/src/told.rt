@@ -1,6 +1,4 @@
-//! Answers as texts, so that tables hold what is wanted in plain words, and the assertions.
-//!
-//! An assertion is what costs most to prove of a test, so these few are shared.
+//! Answers as texts, so that tables hold what is wanted in plain words, and the two assertions.
 
 use fish_psf::Parsed;
 use fish_value::{Field, Path, Text, Value};
@@ -8,7 +6,7 @@ use std::alloc::{AllocError, Global};
 use std::process::Abort;
 
 /// Asserts of each row that what is told of its case is what is wanted.
-pub fn expect_all<R: Abort, C, E: Drop, F: Fn(Global, &C) -> Result<String, E>>(
+pub fn expect_all<R: Abort, C, E, F: Fn(Global, &C) -> Result<String, E>>(
     rt: &R,
     alloc: Global,
     rows: &[(C, &str)],
@@ -24,29 +22,17 @@ pub fn expect_all<R: Abort, C, E: Drop, F: Fn(Global, &C) -> Result<String, E>>(
     Ok(())
 }
 
-/// Asserts that a text is the one that is wanted.
-pub fn expect<R: Abort>(rt: &R, found: &str, want: &str, case: &str) {
-    assert_eq!(rt; found, want, "{case}");
+/// The same of one text.
+pub fn expect<R: Abort>(rt: &R, found: &str, want: &str) {
+    assert_eq!(rt; found, want);
 }
 
-/// The same of bytes.
-pub fn expect_bytes<R: Abort>(rt: &R, found: &[u8], want: &[u8], case: &str) {
-    assert_eq!(rt; found, want, "{case}");
-}
-
-/// The same of words.
-pub fn expect_words<R: Abort>(rt: &R, found: &[u64], want: &[u64], case: &str) {
-    assert_eq!(rt; found, want, "{case}");
-}
-
-/// The same of a number.
-pub fn expect_number<R: Abort>(rt: &R, found: u64, want: u64, case: &str) {
-    assert_eq!(rt; found, want, "{case}");
-}
-
-/// The same of a truth value.
-pub fn expect_truth<R: Abort>(rt: &R, found: bool, want: bool, case: &str) {
-    assert_eq!(rt; found, want, "{case}");
+/// What two ways tell of one thing.
+pub fn agreed(alloc: Global, one: &str, other: &str) -> Result<String, AllocError> {
+    if one == other {
+        return String::from_str(alloc, one);
+    }
+    format!(in alloc; "{one} or {other}")
 }
 
 /// The path of names with a dot between them.

@@ -1,6 +1,6 @@
 //! Values with answers from outside: what Rust's own `parse` and its `serde_json` 1.0 say.
 
-use crate::told::{expect, expect_all, expect_number, value_text};
+use crate::told::{expect_all, value_text};
 use fish_value::{Value, print_value, read_int, read_value};
 use std::alloc::{AllocError, Global};
 use std::test::Fail;
@@ -61,7 +61,7 @@ const VALUES: &[(&str, &str)] = &[
 ];
 
 /// What the value of a text is.
-pub fn value_in(alloc: Global, text: &str) -> Result<String, AllocError> {
+fn value_in(alloc: Global, text: &&str) -> Result<String, AllocError> {
     let found = read_value(alloc, text.as_bytes())?;
     let told = value_text(alloc, &found);
     drop(found);
@@ -70,20 +70,17 @@ pub fn value_in(alloc: Global, text: &str) -> Result<String, AllocError> {
 
 #[test]
 fn values(rt: HostRuntime) -> Result<(), Fail> {
-    for &(text, want) in VALUES {
-        let found = value_in(rt.alloc(), text)?;
-        expect(&rt, found.as_str(), want, text);
-    }
+    expect_all(&rt, rt.alloc(), VALUES, value_in)?;
     Ok(())
 }
 
 /// A piece, how often it stands in a string, and the bytes of what is told of the string's value:
 /// `text ` and the text, or `none`.
-const LONG: &[(&str, usize, u64)] = &[
-    ("a", 256, 5 + 256),
-    ("a", 257, 4),
-    ("\\u00e9", 128, 5 + 256),
-    ("\\u00e9", 129, 4),
+const LONG: &[((&str, usize), &str)] = &[
+    (("a", 256), "261 bytes"),
+    (("a", 257), "4 bytes"),
+    (("\\u00e9", 128), "261 bytes"),
+    (("\\u00e9", 129), "4 bytes"),
 ];
 
 /// The JSON string of that many times a piece.
@@ -97,28 +94,31 @@ fn string_of(alloc: Global, piece: &str, times: usize) -> Result<String, AllocEr
     Ok(text)
 }
 
+fn long_told(alloc: Global, case: &(&str, usize)) -> Result<String, AllocError> {
+    let (piece, times) = case;
+    let text = string_of(alloc, piece, *times)?;
+    let told = value_in(alloc, &text.as_str())?;
+    format!(in alloc; "{} bytes", told.len())
+}
+
 #[test]
 fn long_values(rt: HostRuntime) -> Result<(), Fail> {
-    for &(piece, times, want) in LONG {
-        let text = string_of(rt.alloc(), piece, times)?;
-        let found = value_in(rt.alloc(), text.as_str())?;
-        expect_number(&rt, found.len() as u64, want, text.as_str());
-    }
+    expect_all(&rt, rt.alloc(), LONG, long_told)?;
     Ok(())
 }
 
 /// Two texts of values, and whether the values are the same.
-const SAME: &[(&str, &str, &str)] = &[
-    ("true", "true", "same"),
-    ("true", "false", "other"),
-    ("-1", "-1", "same"),
-    ("1", "-1", "other"),
-    ("1", "true", "other"),
-    ("1", "\"1\"", "other"),
-    ("\"a\"", "\"\\u0061\"", "same"),
-    ("\"a\"", "\"ab\"", "other"),
-    ("\"ab\"", "\"a\"", "other"),
-    ("\"\"", "\"\"", "same"),
+const SAME: &[((&str, &str), &str)] = &[
+    (("true", "true"), "same"),
+    (("true", "false"), "other"),
+    (("-1", "-1"), "same"),
+    (("1", "-1"), "other"),
+    (("1", "true"), "other"),
+    (("1", "\"1\""), "other"),
+    (("\"a\"", "\"\\u0061\""), "same"),
+    (("\"a\"", "\"ab\""), "other"),
+    (("\"ab\"", "\"a\""), "other"),
+    (("\"\"", "\"\""), "same"),
 ];
 
 /// Whether two values are the same.
@@ -139,19 +139,17 @@ fn sameness_with(alloc: Global, a: &Option<Value>, b: &str) -> Result<&'static s
 }
 
 /// The same of two texts.
-fn sameness_of(alloc: Global, a: &str, b: &str) -> Result<&'static str, AllocError> {
+fn sameness_of(alloc: Global, case: &(&str, &str)) -> Result<String, AllocError> {
+    let (a, b) = case;
     let a = read_value(alloc, a.as_bytes())?;
     let same = sameness_with(alloc, &a, b);
     drop(a);
-    same
+    String::from_str(alloc, same?)
 }
 
 #[test]
 fn same_values(rt: HostRuntime) -> Result<(), Fail> {
-    for &(a, b, want) in SAME {
-        let same = sameness_of(rt.alloc(), a, b)?;
-        expect(&rt, same, want, a);
-    }
+    expect_all(&rt, rt.alloc(), SAME, sameness_of)?;
     Ok(())
 }
 
@@ -164,7 +162,7 @@ const PRINTED: &[(&str, &str)] = &[
 ];
 
 /// How the value of a text is printed, or `none` where the text is no value.
-fn printed(alloc: Global, text: &str) -> Result<String, AllocError> {
+fn printed(alloc: Global, text: &&str) -> Result<String, AllocError> {
     let found = read_value(alloc, text.as_bytes())?;
     let text = print_found(alloc, &found);
     drop(found);
@@ -180,9 +178,6 @@ fn print_found(alloc: Global, found: &Option<Value>) -> Result<String, AllocErro
 
 #[test]
 fn printed_values(rt: HostRuntime) -> Result<(), Fail> {
-    for &(text, want) in PRINTED {
-        let found = printed(rt.alloc(), text)?;
-        expect(&rt, found.as_str(), want, text);
-    }
+    expect_all(&rt, rt.alloc(), PRINTED, printed)?;
     Ok(())
 }
