@@ -7,10 +7,10 @@ use Rattle.bench.proofs.ingests.lanes_of.Goals as goal
 
 pub loop-pass-preserved : goal.loop-pass-preserved
 loop-pass-preserved c =
-    let popped = All-pop (IsReady c.args.log.now) c.loop-pass.passes.items c.pop.new.self.items (Some c.in-Some.pass)
-    c.in-Some.ensures.items c.loop-pass.invariant.left in
-    record {
-      left = popped.0;
-      made = subst (All (IsIngestLane c.args.log.now)) (sym c.in_ok-push.ensures.items) (All-push (IsIngestLane c.args.log.now) c.loop-pass.lanes.items
-          c.lane_of.result c.loop-pass.invariant.made (c.lane_of.ensures c.args.log.now popped.1));
-    }
+    let log = c.args.log.now in
+    let before = c.loop-pass.invariant in
+    let popped = All-pop (IsReady log) c.loop-pass.passes.items c.pop.new.self.items (Some c.in-Some.pass)
+    c.in-Some.ensures.items before.left in
+    let pushed = All-push (IsIngestLane log) c.loop-pass.lanes.items c.lane_of.result before.made
+    (c.lane_of.ensures log popped.1) in
+    record { left = popped.0; made = subst (All (IsIngestLane log)) (sym c.in_ok-push.ensures.items) pushed }

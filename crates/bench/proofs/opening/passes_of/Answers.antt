@@ -1,7 +1,14 @@
 -- The next lane may be given out, its pass is ready, and so is the control pass at the end.
 use Rattle.std.proofs.Common.{All, sym, subst, arith}
 use Rattle.std.proofs.lemmas.List.Elements.{All-push}
-use Rattle.bench.proofs.Splitting.{control_enters, control_splits, control_starts, left_controls, right_enters, right_starts}
+use Rattle.bench.proofs.Splitting.{
+  control_enters,
+  control_splits,
+  control_starts,
+  left_controls,
+  right_enters,
+  right_starts,
+}
 use Rattle.bench.specs.Opening.{IsReady}
 use Rattle.fish_rule.specs.Passes.{view}
 use Rattle.bench.proofs.opening.passes_of.Goals as goal
@@ -16,31 +23,33 @@ split_pass-requires-clause-can c =
 
 pub loop-number-preserved : goal.loop-number-preserved
 loop-number-preserved c =
+    let log = c.args.log.now in
     let top = c.loop-number.number in
     let v = view c.loop-number.main in
-    let control = c.loop-number.invariant.control in
+    let before = c.loop-number.invariant in
     let split = c.split_pass in
     let u = view split.result in
-    let ready : IsReady c.args.log.now split.result = record {
+    let ready : IsReady log split.result = record {
       of = split.ensures.pass;
-      enter = right_enters top v control u split.ensures.right;
-      start = right_starts top v control u split.ensures.right;
+      enter = right_enters top v before.control u split.ensures.right;
+      start = right_starts top v before.control u split.ensures.right;
     } in
+    let pushed = All-push (IsReady log) c.loop-number.passes.items split.result before.ready ready in
     record {
       of = split.ensures.main;
-      control = left_controls top v control (view split.new.main) split.ensures.left;
-      ready = subst (All (IsReady c.args.log.now)) (sym c.in_ok-push.ensures.items) (All-push (IsReady c.args.log.now)
-          c.loop-number.passes.items split.result c.loop-number.invariant.ready ready);
+      control = left_controls top v before.control (view split.new.main) split.ensures.left;
+      ready = subst (All (IsReady log)) (sym c.in_ok-push.ensures.items) pushed;
     }
 
 pub returns : goal.returns
 returns c =
+    let log = c.args.log.now in
     let last = c.loop-number.main in
-    let control = c.loop-number.invariant.control in
-    let ready : IsReady c.args.log.now last = record {
-      of = c.loop-number.invariant.of;
-      enter = control_enters c.loop-number.number (view last) control;
-      start = control_starts c.loop-number.number (view last) control;
+    let before = c.loop-number.invariant in
+    let ready : IsReady log last = record {
+      of = before.of;
+      enter = control_enters c.loop-number.number (view last) before.control;
+      start = control_starts c.loop-number.number (view last) before.control;
     } in
-    subst (All (IsReady c.args.log.now)) (sym c.in_ok-push-2.ensures.items) (All-push (IsReady c.args.log.now)
-    c.loop-number.passes.items last c.loop-number.invariant.ready ready)
+    let pushed = All-push (IsReady log) c.loop-number.passes.items last before.ready ready in
+    subst (All (IsReady log)) (sym c.in_ok-push-2.ensures.items) pushed
