@@ -30,9 +30,8 @@ pub fn records_of<L: Ledger>(
     let mut steps = Steps::<L>::new(blank);
     let mut records = Vec::new(alloc);
     for place in 0..count {
-        let place = place.saturating_mul(4).saturating_add(u64::from(lane));
-        let payload = workload.payload(alloc, place)?;
-        records.push(record_of(alloc, defs, lane, payload.as_bytes(), &mut steps)?)?;
+        let payload = workload.payload(alloc, lane, place)?;
+        records.push(record_of(alloc, defs, lane, payload, &mut steps)?)?;
     }
     Ok(records)
 }
@@ -42,7 +41,7 @@ fn record_of<L: Ledger>(
     alloc: Global,
     defs: &[ActiveDef],
     lane: u8,
-    payload: &[u8],
+    payload: String,
     steps: &mut Steps<L>,
 ) -> Result<Prepared, AllocError>
     requires defs { AreDefs defs.now }
@@ -54,6 +53,7 @@ fn record_of<L: Ledger>(
         version: 0,
         form: Form::Json,
     };
+    let payload = payload.as_bytes();
     let Ok(found) = parse(alloc, origin.form, payload, steps) else {
         return Err(AllocError);
     };

@@ -61,13 +61,16 @@ impl Workload {
         }
     }
 
-    /// The payload of a record at its place among all of them.
-    pub fn payload(self, alloc: Global, place: u64) -> Result<String, AllocError> {
+    /// The payload of a record at its place among those of a lane.
+    pub fn payload(self, alloc: Global, lane: u8, place: u64) -> Result<String, AllocError> {
         match self {
             Workload::Stores => padded(alloc, "{\"p\":\"", 126),
             Workload::Plain => padded(alloc, "{\"a\":100000,\"b\":100000,\"p\":\"", 7),
             Workload::FewChains => pair_of(alloc, 100_000),
-            Workload::ManyChains => pair_of(alloc, 100_000 + place % 900_000),
+            Workload::ManyChains => {
+                let number = place.saturating_mul(4).saturating_add(u64::from(lane));
+                pair_of(alloc, 100_000 + number % 900_000)
+            }
         }
     }
 }
