@@ -68,7 +68,7 @@ mark_there Mark v u lines number line shut is e known =
     let size : lines ≡ shut.lines = sym (ap lines_in e) in (
       number,
       subst (λ (z : View). Among
-      (record { number = number; kind = Mark; line = shut.line; lines = shut.lines }) z.learned.found) (sym known)
+          (record { number = number; kind = Mark; line = shut.line; lines = shut.lines }) z.learned.found) (sym known)
           (inl (λ j. record { number = number; kind = is j; line = from j; lines = size j })),
     )
   where

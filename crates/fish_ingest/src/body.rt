@@ -42,7 +42,11 @@ pub fn prepare<R: Parsed>(
 
 /// The key entries of a record, with no previous nodes.
 #[tactic(auto, unfolding(fish_psf::specs::Keys::keys_of))]
-fn entries_of<R: Parsed>(alloc: Global, defs: &[ActiveDef], found: &R) -> Result<KeyParts, AllocError>
+fn entries_of<R: Parsed>(
+    alloc: Global,
+    defs: &[ActiveDef],
+    found: &R,
+) -> Result<KeyParts, AllocError>
     ensures { IfOk result (AreEntriesFor (R.fields found.now) defs.now) }
 {
     let mut keys = KeyParts::new(alloc);

@@ -310,11 +310,11 @@ module _ (k : Key) (w : World) (r : Rule k w) (id : ℕ) (v : View) (at : get_el
         by : CanLoadRegistry v p → IsLasting k w.registry p
         by (inl e) = inl e
         by (inr (inl h)) = (let a = version_rises in let b = h.2 in inr (inl (
-              h.0,
-              subst (λ (z : Key). z.version < h.0) about h.1,
-              (omega arith),
-              h.3,
-            )))
+          h.0,
+          subst (λ (z : Key). z.version < h.0) about h.1,
+          (omega arith),
+          h.3,
+        )))
         by (inr (inr h)) =
             let row = h.2 in
             let stays = r.registry.each id v at in

@@ -77,7 +77,7 @@ module _ (k : Key) (g g' : ℕ → ℕ) (e : Endures k g g') where
         i,
         (let q = length_registered g x ls few in
             let made_ = ap (λ (z : List Listed). length z) (definitions_next k g v from) in
-              let up = length_grows k g (suc v) (version_in g) less in omega arith),
+            let up = length_grows k g (suc v) (version_in g) less in omega arith),
         a,
         b,
         refl,

@@ -18,11 +18,7 @@ use fish_catalog::{CatRow, ROW_WORDS, row_words};
 use std::alloc::{AllocError, Global};
 
 /// The words of a log without an entry that begins so.
-pub(crate) fn empty_words(
-    alloc: Global,
-    key: &Key,
-    start: &Start,
-) -> Result<Vec<u64>, AllocError>
+pub(crate) fn empty_words(alloc: Global, key: &Key, start: &Start) -> Result<Vec<u64>, AllocError>
     requires fits { Fits key.now }
     requires rows { key.now.rows.value ≡ start.now.catalog }
     requires heads { key.now.heads.value ≡ start.now.heads }

@@ -31,9 +31,9 @@ drafted_next v u words place x h is =
     let next : View = after_define u (row_at n place) x in
     let each : (i : ℕ) → 2 ≤ i → i < place + 1 → Dec (i ≡ place) → drafted next.draft (row_at n i) ≡ slice_index words i =
     λ i behind within d. elim d [
-      yes e ↦ choose_first (ℕ_discrete (row_at n i) (row_at n place)) x (drafted u.draft (row_at n i)) (ap (row_at n) e)
+      | yes e ↦ choose_first (ℕ_discrete (row_at n i) (row_at n place)) x (drafted u.draft (row_at n i)) (ap (row_at n) e)
           ∙ is ∙ ap (slice_index words) (sym e)
-    | no ne ↦ choose_second (ℕ_discrete (row_at n i) (row_at n place)) x (drafted u.draft (row_at n i))
+      | no ne ↦ choose_second (ℕ_discrete (row_at n i) (row_at n place)) x (drafted u.draft (row_at n i))
           (λ same. ne (omega arith)) ∙ h.row i behind (omega arith)
     ] in
     record {

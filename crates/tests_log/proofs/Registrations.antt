@@ -83,21 +83,21 @@ module _ (v : View) (row : CatRow) (version id : ℕ) (u : View) (is : IsDrafted
   in_row_is i low high =
       let few = is.few in
       choose_second (ℕ_discrete (row_at (length v.rows) i) (20 + version)) (256 + id)
-          (drafted u.draft (row_at (length v.rows) i)) (λ same. omega arith)
+      (drafted u.draft (row_at (length v.rows) i)) (λ same. omega arith)
       ∙ is.drafted.row i low high ∙ is.says i high
 
   listed : (n : ℕ) → listed_in in_row n true ≡ record { id = n; name = row.name; def = row.def; active = true }
   listed n =
       listed_same in_row (row_word row) n true in_row_is
       ∙ ap (λ (name : List ℕ). record { id = n; name = name; def = text_in (row_word row); active = true })
-          (name_back row is.writable)
+      (name_back row is.writable)
       ∙ ap (λ (text : List ℕ). record { id = n; name = row.name; def = text; active = true })
-          (text_back row is.writable)
+      (text_back row is.writable)
 
   operation : next_operation behind ≡ 256 + length v.rows
   operation =
       choose_first (ℕ_discrete (op_at (suc u.learned.version)) (20 + version)) (256 + id)
-          (drafted u.draft (op_at (suc u.learned.version))) (let e = reached in omega arith)
+      (drafted u.draft (op_at (suc u.learned.version))) (let e = reached in omega arith)
       ∙ ap (λ (n : ℕ). 256 + n) is.is_id
 
   may_register : IsNew v.rows (name_in in_row) (text_in in_row)
@@ -120,8 +120,8 @@ module _ (v : View) (row : CatRow) (version id : ℕ) (u : View) (is : IsDrafted
   made_rows =
       let room = is.new.room in
       choose_first (dec_lt (next_operation behind) 512)
-          (v.rows ++ listed_in in_row (length v.rows) true ∷ []) (ended_at (next_operation behind % 256) v.rows)
-          (let e = operation in omega arith)
+      (v.rows ++ listed_in in_row (length v.rows) true ∷ []) (ended_at (next_operation behind % 256) v.rows)
+      (let e = operation in omega arith)
       ∙ ap (λ (l : Listed). v.rows ++ l ∷ []) (listed (length v.rows))
 
   pub registered : IsRegisteredAs v row (after_bump behind) (version + 1)

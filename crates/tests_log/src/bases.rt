@@ -186,7 +186,12 @@ fn expect_case<R: Abort>(rt: &R, alloc: Global, case: &Case) -> Result<(), Fail>
     expect(rt, "the version", &version, &VERSION);
     let first = case.base.number;
     let numbers = stored(alloc, &log, &mut main);
-    expect(rt, "numbers", &numbers, &Ok([first, first.saturating_add(1)]));
+    expect(
+        rt,
+        "numbers",
+        &numbers,
+        &Ok([first, first.saturating_add(1)]),
+    );
     expect_walk(rt, alloc, &log, &mut main, case)?;
     let entries = closed(alloc, log, main)?;
     let done = expect_entries(rt, alloc, &entries);

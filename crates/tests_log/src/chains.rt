@@ -73,55 +73,71 @@ const CASES: &[Case] = &[
     Case {
         older: ONE,
         newer: ONE,
-        nodes: &[Node {
+        nodes: &[
+            Node {
                 number: 1,
                 place: 9,
                 id: 0,
                 key: 0,
-            }, OLDEST],
+            },
+            OLDEST,
+        ],
         newest: 1,
     },
     Case {
         older: TWO,
         newer: ONE,
-        nodes: &[Node {
+        nodes: &[
+            Node {
                 number: 1,
                 place: 13,
                 id: 0,
                 key: 0,
-            }, SECOND, OLDEST],
+            },
+            SECOND,
+            OLDEST,
+        ],
         newest: 1,
     },
     Case {
         older: ONE,
         newer: TWO,
-        nodes: &[Node {
+        nodes: &[
+            Node {
                 number: 1,
                 place: 12,
                 id: 9,
                 key: 1,
-            }, Node {
+            },
+            Node {
                 number: 1,
                 place: 9,
                 id: 0,
                 key: 0,
-            }, OLDEST],
+            },
+            OLDEST,
+        ],
         newest: 2,
     },
     Case {
         older: TWO,
         newer: TWO,
-        nodes: &[Node {
+        nodes: &[
+            Node {
                 number: 1,
                 place: 16,
                 id: 9,
                 key: 1,
-            }, Node {
+            },
+            Node {
                 number: 1,
                 place: 13,
                 id: 0,
                 key: 0,
-            }, SECOND, OLDEST],
+            },
+            SECOND,
+            OLDEST,
+        ],
         newest: 2,
     },
 ];

@@ -28,7 +28,10 @@ fn versions(log: &Log, main: &mut Pass) -> [u16; 3]
 
 #[test]
 fn two_passes_enter_and_leave(rt: HostRuntime) -> Result<(), Fail> {
-    let (log, mut main) = defined_log(rt.alloc(), &["take type", "bucket n by 10", "flag when a = 1"])?;
+    let (log, mut main) = defined_log(
+        rt.alloc(),
+        &["take type", "bucket n by 10", "flag when a = 1"],
+    )?;
     let found = versions(&log, &mut main);
     let shut = is_shut(&main);
     drop((log, main));

@@ -42,11 +42,7 @@ fn push_links(
 }
 
 /// Key entries of a record behind those of others.
-fn push_keys(
-    keys: &[KeyValue],
-    number: u32,
-    links: &mut Vec<Linked>,
-) -> Result<(), AllocError> {
+fn push_keys(keys: &[KeyValue], number: u32, links: &mut Vec<Linked>) -> Result<(), AllocError> {
     for (key, value) in keys.iter().enumerate() {
         links.push(Linked {
             bucket: bucket_of(key_hash(value.id, &value.value), 16),

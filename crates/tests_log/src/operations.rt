@@ -110,10 +110,20 @@ fn expect_operation<R: Abort>(
     requires control { (view pass.old).lane ≡ 1 }
     requires none { (view pass.old).rows ≡ [] }
 {
-    expect(rt, "without a key", &store(alloc, log, pass, defs, b"{}"), &Ok(0));
+    expect(
+        rt,
+        "without a key",
+        &store(alloc, log, pass, defs, b"{}"),
+        &Ok(0),
+    );
     expect_active(rt, alloc, defs, 0, &[])?;
     expect(rt, "the version", &register_first(alloc, log, pass)?, &1);
-    expect(rt, "with a key", &store(alloc, log, pass, defs, b"{}"), &Ok(1));
+    expect(
+        rt,
+        "with a key",
+        &store(alloc, log, pass, defs, b"{}"),
+        &Ok(1),
+    );
     expect_active(rt, alloc, defs, 1, &[SOURCE])?;
     expect_nodes(rt, alloc, log, pass, (0, 2), NODES)
 }
