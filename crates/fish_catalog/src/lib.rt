@@ -6,11 +6,13 @@ mod catalog;
 mod clamp;
 mod entry;
 mod listed;
+mod page_start;
 mod row;
 mod words;
 
 pub use catalog::{CatRefusal, Catalog, MAX_ACTIVE, MAX_ROWS};
 pub use entry::{Entries, Entry};
 pub use listed::Listed;
+pub use page_start::{PageStart, PageStarts};
 pub use row::{CatRow, MAX_NAME};
 pub use words::{ROW_WORDS, active_in, read_row, row_words};

@@ -1,17 +1,18 @@
 -- What ingests say together, and of the closed log.
 use Rattle.std.specs.Prelude.{ℕ, ◌≡◌, ◌+◌, ◌<◌, List, Some, slice_get}
-use Rattle.fish_catalog.specs.declared.entry.Entry.{Entry}
 use Rattle.fish_catalog.specs.declared.entry.Entry.TheVariants as entry
 use Rattle.fish_ingest.specs.Starting.{HasIngested}
-use Rattle.fish_rule.specs.Logs.{IsClosed, Learns}
+use Rattle.fish_rule.specs.Closing.{IsClosed}
+use Rattle.fish_rule.specs.Logs.{Learns}
+use Rattle.fish_rule.specs.declared.close.Remains.{Remains}
 use Rattle.fish_rule.specs.declared.view.View.{View}
 use Rattle.fish_value.specs.declared.field.Form.{Form}
 
 -- what was ingested is the entry at its number in each log that is closed for a pass that knows as much
 abbrev pub IngestedIsClosed : Type 0
-IngestedIsClosed = (v u x : View) (form : Form) (payload : List ℕ) (i : ℕ) (entries : List Entry)
-    → HasIngested v form payload (x.about.number + i) u → Learns u x → IsClosed x entries
-    → slice_get entries i ≡ Some (entry.Stored v.lane form payload)
+IngestedIsClosed = (v u x : View) (form : Form) (payload : List ℕ) (i : ℕ) (remains : Remains)
+    → HasIngested v form payload (x.about.number + i) u → Learns u x → IsClosed x remains
+    → slice_get remains.log i ≡ Some (entry.Stored v.lane form payload)
 
 -- of two ingests, the later by a pass that knows what the earlier one's knew, the later has the greater number
 abbrev pub IngestedAscend : Type 0

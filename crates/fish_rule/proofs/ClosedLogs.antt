@@ -14,14 +14,16 @@ use Rattle.fish_rule.proofs.Bounds.{starts_rise}
 use Rattle.fish_rule.proofs.Extending.{learns_both}
 use Rattle.fish_rule.proofs.Kept.{published}
 use Rattle.fish_rule.specs.Closed.{IsOfLane, OwnIsClosed, ToldIsClosed}
+use Rattle.fish_rule.specs.Closing.{IsClosed}
 use Rattle.fish_rule.specs.Facts.{IsStoredBy}
-use Rattle.fish_rule.specs.Logs.{IsClosed, IsEntry, IsLog, IsStoredEntry, Learns, Tells}
+use Rattle.fish_rule.specs.Logs.{IsEntry, IsLog, IsStoredEntry, Learns, Tells}
 use Rattle.fish_rule.specs.Parts.{IsEntryWord}
 use Rattle.fish_rule.specs.Regions.{Holds, IsRecord, code, kind_of}
 use Rattle.fish_rule.specs.Rule.{Rule}
 use Rattle.fish_rule.specs.Views.{Among, Has}
 use Rattle.fish_rule.specs.Walking.{Always}
 use Rattle.fish_rule.specs.World.{World, body, high}
+use Rattle.fish_rule.specs.declared.close.Remains.{Remains}
 use Rattle.fish_rule.specs.declared.view.Key.{Key}
 use Rattle.fish_rule.specs.declared.view.Kind.{Kind}
 use Rattle.fish_rule.specs.declared.view.Kind.TheVariants.{Mark, Stored, Void}
@@ -46,7 +48,7 @@ here_get (x ∷ xs) zero e at = ap some (one x e at)
 here_get (x ∷ xs) (suc n) e at = here_get xs n e at
 
 -- something stands at a place of the list
-there_is : (xs : List Entry) (n : ℕ) → n < length xs → (e : Entry) × (get_elem? xs n ≡ some e)
+pub there_is : (xs : List Entry) (n : ℕ) → n < length xs → (e : Entry) × (get_elem? xs n ≡ some e)
 there_is [] n h = absurd (omega arith)
 there_is (x ∷ xs) zero h = (x, refl)
 there_is (x ∷ xs) (suc n) h = there_is xs n (omega arith)
@@ -167,9 +169,9 @@ module _ (k : Key) (w : World) (r : Rule k w) where
 -- ---- the closed log
 
 -- what always holds of what a pass knows holds of the moment at which the log was closed
-pub always_closed : (v u : View) (P : Key → World → Type 0) (entries : List Entry) → Learns v u
-    → (c : IsClosed u entries) → Always v P → P u.about c.moment
-always_closed v u P entries learns c all =
+pub always_closed : (v u : View) (P : Key → World → Type 0) (remains : Remains) → Learns v u
+    → (c : IsClosed u remains) → Always v P → P u.about c.moment
+always_closed v u P remains learns c all =
     let about = c.later.about in
     subst (λ (z : Key). P z c.moment) about
     (all c.last (learns_both v u c.last learns c.later) c.moment
@@ -177,8 +179,8 @@ always_closed v u P entries learns c all =
 
 -- an entry that was told stands in the log
 pub told_closed : ToldIsClosed
-told_closed v u i e entries learns c tells = entry_in u.about c.moment c.rule entries c.log i e
-    (always_closed v u (λ k w. IsEntry w (u.about.number + i) e) entries learns c tells)
+told_closed v u i e remains learns c tells = entry_in u.about c.moment c.rule remains.log c.log i e
+    (always_closed v u (λ k w. IsEntry w (u.about.number + i) e) remains learns c tells)
 
 -- a record of the log is of the lane that claimed it
 entry_stored : (w : World) (n : ℕ) (e : Entry) → IsEntry w n e → high (w.dir n) ≡ code Stored
@@ -187,9 +189,9 @@ entry_stored w n (entry.Stored lane form payload) h is = (lane, form, payload, r
 entry_stored w n entry.Void h is = (let bad : code Void ≡ code Stored = sym h ∙ is in absurd (omega arith))
 
 -- an own number has a record of its lane in the log
-own_there : (v : View) (entries : List Entry) (l i : ℕ) → (c : IsClosed v entries)
-    → Among (record { lane = l; number = v.about.number + i }) v.own → IsOfLane entries l i
-own_there v entries l i c among =
+own_there : (v : View) (remains : Remains) (l i : ℕ) → (c : IsClosed v remains)
+    → Among (record { lane = l; number = v.about.number + i }) v.own → IsOfLane remains.log l i
+own_there v remains l i c among =
     let o : Own = record { lane = l; number = v.about.number + i } in
     let by = (c.owns.sound o among).1 in
     let n : ℕ = v.about.number + i in
@@ -197,9 +199,9 @@ own_there v entries l i c among =
       published = published (c.moment.dir n) Stored by.stored;
       unmarked = λ m. (let s = by.stored in omega arith);
     } in
-    let t = there_is entries i (within_log v.about c.moment c.rule entries c.log i word) in
-    let at : slice_get entries i ≡ Some t.0 = get_here entries i t.0 t.1 in
-    let is = entry_at v.about c.moment c.rule entries c.log i t.0 at in
+    let t = there_is remains.log i (within_log v.about c.moment c.rule remains.log c.log i word) in
+    let at : slice_get remains.log i ≡ Some t.0 = get_here remains.log i t.0 t.1 in
+    let is = entry_at v.about c.moment c.rule remains.log c.log i t.0 at in
     let e = entry_stored c.moment n t.0 is by.stored in
     let stored = subst (IsEntry c.moment n) e.3 is in
     let lane = stored_by v.about c.moment c.rule n e.0 e.1 e.2 (omega arith) stored in
@@ -207,14 +209,14 @@ own_there v entries l i c among =
     (e.1, e.2, at ∙ ap Some e.3 ∙ ap (λ (z : ℕ). Some (entry.Stored z e.1 e.2)) same)
 
 -- and a record of the lane in the log has an own number
-there_own : (v : View) (entries : List Entry) (l i : ℕ) → (c : IsClosed v entries) → Has v.lane v.out l
-    → IsOfLane entries l i → Among (record { lane = l; number = v.about.number + i }) v.own
-there_own v entries l i c has is =
+there_own : (v : View) (remains : Remains) (l i : ℕ) → (c : IsClosed v remains) → Has v.lane v.out l
+    → IsOfLane remains.log l i → Among (record { lane = l; number = v.about.number + i }) v.own
+there_own v remains l i c has is =
     let o : Own = record { lane = l; number = v.about.number + i } in
-    let stored = entry_at v.about c.moment c.rule entries c.log i _ is.2 in
+    let stored = entry_at v.about c.moment c.rule remains.log c.log i _ is.2 in
     c.owns.complete o has
     (stored_by v.about c.moment c.rule (v.about.number + i) l is.0 is.1 (omega arith) stored)
 
 -- so the own numbers are exactly the lane's records
 pub own_closed : OwnIsClosed
-own_closed v entries l i c has = (own_there v entries l i c, there_own v entries l i c has)
+own_closed v remains l i c has = (own_there v remains l i c, there_own v remains l i c has)

@@ -8,7 +8,8 @@ use Rattle.fish_catalog.specs.declared.entry.Entry.{Entry}
 use Rattle.fish_catalog.specs.declared.entry.Entry.TheVariants as entry
 use Rattle.fish_rule.proofs.Common.{all_among}
 use Rattle.fish_rule.proofs.Extending.{extends_look, found_here, learns_both, learns_self}
-use Rattle.fish_rule.specs.Logs.{Extends, IsClosed, IsClosedAt, Learns, Tells, TellsMark}
+use Rattle.fish_rule.specs.Closing.{IsClosed, IsClosedAt, ReadsOn}
+use Rattle.fish_rule.specs.Logs.{AreTold, Extends, Learns, Tells, TellsMark}
 use Rattle.fish_rule.specs.Parts.{Rests}
 use Rattle.fish_rule.specs.Facts.{Facts, IsFound, IsKnown, IsRecorded, Owns}
 use Rattle.fish_rule.specs.Regions.{code}
@@ -18,6 +19,7 @@ use Rattle.fish_rule.specs.Table.{Stands}
 use Rattle.fish_rule.specs.Views.{AllOf, Among}
 use Rattle.fish_rule.specs.Walks.{IsGap, IsLabel}
 use Rattle.fish_rule.specs.World.{World, high, low}
+use Rattle.fish_rule.specs.declared.close.Remains.{Remains}
 use Rattle.fish_rule.specs.declared.view.Found.{Found}
 use Rattle.fish_rule.specs.declared.view.Key.{Key}
 use Rattle.fish_rule.specs.declared.view.Kind.TheVariants.{Mark, Void}
@@ -40,32 +42,35 @@ tells_later v u n e learns tells x more = tells x (learns_both v u x learns more
 
 -- ---- the entries so far
 
--- each of the entries stands at its number
-abbrev pub AreTold : View → ℕ → List Entry → Type 0
-AreTold v base entries = (i : ℕ) (e : Entry) → get_elem? entries i ≡ some e → Tells v (base + i) e
+-- what holds of each element of a list by its place, and of one more, holds of each of the longer list
+module _ {A : Type 0} where
+  pub each_more : (P : ℕ → A → Type 0) (xs : List A) (y : A)
+      → ((i : ℕ) (x : A) → get_elem? xs i ≡ some x → P i x) → P (length xs) y
+      → (i : ℕ) (x : A) → get_elem? (xs ++ y ∷ []) i ≡ some x → P i x
+  each_more P xs y old next i x at = pick (Rattle.std.proofs.Math.Decide.ℕ_discrete i (length xs))
+    where
+      last : get_elem? (xs ++ y ∷ []) (length xs) ≡ some y
+      last = Rattle.atomic_table.proofs.Lists.at_last xs y (length xs) refl
 
--- they stay told, and one more is
+      pick : Dec (i ≡ length xs) → P i x
+      pick (yes same) =
+          let here : y ≡ x = mathlib.Core.Option.some-injective y x
+          (sym last ∙ ap (get_elem? (xs ++ y ∷ [])) (sym same) ∙ at) in
+          subst (λ (z : ℕ × A). P z.0 z.1) (λ d. (sym same d, here d)) next
+      pick (no ne) = old i x (before xs i ne at)
+        where
+          before : (zs : List A) (m : ℕ) → m ≢ length zs → get_elem? (zs ++ y ∷ []) m ≡ some x
+              → get_elem? zs m ≡ some x
+          before [] zero n g = absurd (n refl)
+          before [] (suc m) n g = absurd (mathlib.Core.Option.some-ne-none x (sym g))
+          before (z ∷ zs) zero n g = g
+          before (z ∷ zs) (suc m) n g = before zs m (λ h. n (ap suc h)) g
+
+-- entries stay told, and one more is
 pub told_more : (v u : View) (base : ℕ) (entries : List Entry) (e : Entry) → Learns v u
     → AreTold v base entries → Tells u (base + length entries) e → AreTold u base (entries ++ e ∷ [])
-told_more v u base entries e learns told next i x at =
-    pick (Rattle.std.proofs.Math.Decide.ℕ_discrete i (length entries))
-  where
-    last : get_elem? (entries ++ e ∷ []) (length entries) ≡ some e
-    last = Rattle.atomic_table.proofs.Lists.at_last entries e (length entries) refl
-
-    pick : Dec (i ≡ length entries) → Tells u (base + i) x
-    pick (yes same) =
-        let here : e ≡ x = mathlib.Core.Option.some-injective e x
-        (sym last ∙ ap (get_elem? (entries ++ e ∷ [])) (sym same) ∙ at) in
-        subst (λ (z : ℕ × Entry). Tells u (base + z.0) z.1) (λ d. (sym same d, here d)) next
-    pick (no ne) = tells_later v u (base + i) x learns (told i x (before entries i x ne at))
-      where
-        before : (xs : List Entry) (m : ℕ) (y : Entry) → m ≢ length xs → get_elem? (xs ++ e ∷ []) m ≡ some y
-            → get_elem? xs m ≡ some y
-        before [] zero y n g = absurd (n refl)
-        before [] (suc m) y n g = absurd (mathlib.Core.Option.some-ne-none y (sym g))
-        before (z ∷ zs) zero y n g = g
-        before (z ∷ zs) (suc m) y n g = before zs m y (λ h. n (ap suc h)) g
+told_more v u base entries e learns told next = each_more (λ i x. Tells u (base + i) x) entries e
+    (λ i x at. tells_later v u (base + i) x learns (told i x at)) next
 
 -- ---- the whole
 
@@ -121,42 +126,6 @@ tells_mark v f among is u learns w r j at = found_kind v f among u learns w r j 
 
 -- ---- the end
 
--- entries that are told up to a mark or up to the count are the closed log
-pub closes : (v : View) (entries : List Entry) (x : ℕ) → Stands v → IsAlone v
-    → v.tail ≡ Some (record { number = high x; line = low x }) → AreTold v v.about.number entries
-    → (v.about.number + length entries ≡ high x)
-    ⊎ ((v.about.number + length entries ≤ high x) × TellsMark v (v.about.number + length entries))
-    → IsClosed v entries
-closes v entries x s alone tail told end =
-    let w : World = s.moment in
-    let r = s.rule in
-    let rests : Rests w.count w.line (Some (record { number = high x; line = low x })) =
-    subst (Rests w.count w.line) tail (r.tails s.seat v s.at alone.main alone.all) in
-    let count : high x ≡ w.count = rests.0 in
-    record {
-      moment = w;
-      rule = r;
-      log = record {
-        each = λ i e at. told i e at v (learns_self v) w r s.seat s.at;
-        within = ⊎_elim (λ (h : v.about.number + length entries ≡ high x). omega arith)
-            (λ (h : (v.about.number + length entries ≤ high x)
-            × TellsMark v (v.about.number + length entries)). let le = h.0 in omega arith) end;
-        ends = ⊎_elim (λ (h : v.about.number + length entries ≡ high x). inl (h ∙ count))
-            (λ (h : (v.about.number + length entries ≤ high x)
-            × TellsMark v (v.about.number + length entries)). inr (h.1 v (learns_self v) w r s.seat s.at)) end;
-      };
-      seat = s.seat;
-      last = v;
-      at = s.at;
-      later = learns_self v;
-      lane_is = refl;
-      out_is = refl;
-      own_is = refl;
-      owns = r.own s.seat v s.at;
-      rests = r.tails s.seat v s.at alone.main alone.all;
-      facts = r.facts s.seat v s.at;
-    }
-
 -- the tail that the pass left is at or behind the table's first number
 pub tail_behind : (v : View) (x : ℕ) → Stands v → IsAlone v
     → v.tail ≡ Some (record { number = high x; line = low x }) → v.about.number ≤ high x
@@ -174,28 +143,36 @@ rests_same : (a b c d : ℕ) (t : Option Position) → a ≡ c → b ≡ d → R
 rests_same a b c d None e f h = tt
 rests_same a b c d (Some t) e f h = (h.0 ∙ e, h.1 ∙ f)
 
--- a log that is closed for a view is closed for one that knew less, had the same lanes and records, and left the tail
--- as it was found
-pub closed_before : (v u : View) (entries : List Entry) (x : ℕ) → Learns v u → u.lane ≡ v.lane → u.out ≡ v.out
-    → u.own ≡ v.own → u.tail ≡ Some (record { number = high x; line = low x }) → Rests (high x) (low x) v.tail
-    → IsClosed u entries → IsClosed v entries
-closed_before v u entries x learns lane out own tail rests h =
+-- what is closed for a view is closed for the one that it read on from
+pub closed_before : (v u : View) (remains : Remains) → ReadsOn v u → IsClosed u remains → IsClosed v remains
+closed_before v u remains on h =
     let w : World = h.moment in
+    let x : ℕ = on.found in
+    let lane : u.lane ≡ v.lane = ap (λ (z : View). z.lane) on.frame in
+    let out : u.out ≡ v.out = ap (λ (z : View). z.out) on.frame in
+    let own : u.own ≡ v.own = ap (λ (z : View). z.own) on.frame in
     let owns = subst (λ (z : ℕ × List ℕ × List Own). Owns u.about w.count w.dir h.rule.lane_of z.0 z.1 z.2)
     (λ i. (lane i, out i, own i)) h.owns in
-    let facts = facts_back v u u.about w.count w.dir w.log h.rule.start learns h.facts in
+    let facts = facts_back v u u.about w.count w.dir w.log h.rule.start on.learns h.facts in
     let here : Rests w.count w.line (Some (record { number = high x; line = low x })) =
-    subst (Rests w.count w.line) tail h.rests in
-    let there : Rests w.count w.line v.tail = rests_same (high x) (low x) w.count w.line v.tail here.0 here.1 rests in
-    subst (λ (z : Key). IsClosedAt z (Learns v) v.lane v.out v.own v.tail v.learned entries) learns.about
+    subst (Rests w.count w.line) on.tail h.rests in
+    let there : Rests w.count w.line v.tail =
+    rests_same (high x) (low x) w.count w.line v.tail here.0 here.1 on.rests in
+    subst (λ (z : Key). IsClosedAt z (Learns v) v.lane v.out v.own v.tail v.learned remains) on.learns.about
     (record {
       moment = w;
       rule = h.rule;
       log = h.log;
+      base = h.base;
+      lines = h.lines;
+      many_heads = h.many_heads;
+      heads = h.heads;
+      version = h.version;
+      starts = h.starts;
       seat = h.seat;
       last = h.last;
       at = h.at;
-      later = learns_both v u h.last learns h.later;
+      later = learns_both v u h.last on.learns h.later;
       lane_is = h.lane_is ∙ lane;
       out_is = h.out_is ∙ out;
       own_is = h.own_is ∙ own;

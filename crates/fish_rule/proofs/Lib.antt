@@ -6,6 +6,7 @@ pub mod Bounds
 pub mod Chained
 pub mod Claims
 pub mod Clocks
+pub mod Closes
 pub mod Closing
 pub mod ClosedLogs
 pub mod Common
@@ -13,11 +14,13 @@ pub mod Counts
 pub mod Crossing
 pub mod Defines
 pub mod Descents
+pub mod Ending
 pub mod Enters
 pub mod Entries
 pub mod Extending
 pub mod Fills
 pub mod Flights
+pub mod Following
 pub mod Frames
 pub mod Gaps
 pub mod Heads

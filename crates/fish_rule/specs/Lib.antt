@@ -1,6 +1,7 @@
 pub mod Chains
 pub mod Clocks
 pub mod Closed
+pub mod Closing
 pub mod Entering
 pub mod Epochs
 pub mod Facts

@@ -99,31 +99,6 @@ pub record IsWordRead (v u : View) (keys line offset : ℕ) (word : Option ℕ) 
   pub extends : Extends v u
   pub told : IsWordTold v u keys line offset word
 
--- ---- the closed log
-
--- the entries are the log of a moment that meets the rule, of which these own numbers are exact and
--- all of these facts hold; a pass there has a view that is later, of the same lanes and own numbers, and nothing
--- was claimed since the tail was here
-pub record IsClosedAt (k : Key) (is_later : View → Type 0) (lane : ℕ) (out : List ℕ) (own : List Own)
-    (tail : Option Position) (learned : Learned) (entries : List Entry) : Type 0 where
-  pub moment : World
-  pub rule : Rule k moment
-  pub log : IsLog k moment entries
-  pub seat : ℕ
-  pub last : View
-  pub at : get_elem? moment.views seat ≡ some last
-  pub later : is_later last
-  pub lane_is : last.lane ≡ lane
-  pub out_is : last.out ≡ out
-  pub own_is : last.own ≡ own
-  pub owns : Owns k moment.count moment.dir rule.lane_of lane out own
-  pub rests : Rests moment.count moment.line tail
-  pub facts : Facts k moment.count moment.dir moment.log rule.start learned
-
--- the same of all that a view knows
-abbrev pub IsClosed : View → List Entry → Type 0
-IsClosed v entries = IsClosedAt v.about (Learns v) v.lane v.out v.own v.tail v.learned entries
-
 -- ---- one log
 
 -- the number at which the log ends, in every moment of a view that knows as much
@@ -135,3 +110,7 @@ TellsMark v n = (u : View) → Learns v u → (w : World) → Rule u.about w →
 abbrev pub TellsNext : View → ℕ → Option Entry → Type 0
 TellsNext v n None = TellsMark v n
 TellsNext v n (Some e) = Tells v n e
+
+-- each of the entries stands at its number
+abbrev pub AreTold : View → ℕ → List Entry → Type 0
+AreTold v base entries = (i : ℕ) (e : Entry) → get_elem? entries i ≡ some e → Tells v (base + i) e

@@ -1,27 +1,40 @@
-//! The end of a log: the control pass reads every entry, and the table goes.
+//! The end of a log: the control pass reads every entry and every head, and the table goes.
 
-ghost use Rattle.std.specs.Prelude.{◌≡◌, ℕ, true, IfOk, IfErr};
-ghost use Rattle.fish_rule.specs.Logs.{Extends, IsClosed, Learns, TellsNext};
-ghost use Rattle.fish_rule.specs.Parts.{Rests};
+ghost use Rattle.std.specs.Prelude.{◌≡◌, ◌+◌, ◌<◌, ◌≤◌, ℕ, [], true, suc, length, IfOk, IfErr, OnOk};
+ghost use Rattle.fish_rule.specs.Closing.{AreHeads, HasStart, IsAdded, IsClosed, IsNext, IsRead, IsReadUpTo, ReadsOn, page_of};
+ghost use Rattle.fish_rule.specs.Logs.{Extends, Learns};
 ghost use Rattle.fish_rule.specs.Passes.{IsOf, IsPassOf, view};
-ghost use Rattle.fish_rule.specs.Reading.{CanLook, IsAlone, after_end};
-ghost use Rattle.fish_rule.specs.World.{high, low};
+ghost use Rattle.fish_rule.specs.Reading.{CanLook, IsAlone};
 
+use crate::area::PAGE_LINES;
 use crate::entry::read_record;
-use crate::steps::{load_tail, look_at};
+use crate::linking::load_head;
+use crate::registry::load_version;
+use crate::steps::{load_tail, look_at, raise_settled};
 use crate::table::{Log, Pass};
 use crate::view::Kind;
 use crate::word::{kind_of_word, line_of_word};
-use fish_catalog::{Entries, Entry};
+use fish_catalog::{Entries, Entry, PageStart, PageStarts};
+use fish_value::Numbers64;
 use std::alloc::{AllocError, Global};
 
-/// What is left of a log.
+/// What is left of a log, from which the next one can begin.
 #[derive(Debug, Drop)]
 pub struct Remains {
     /// Whether there was one.
     pub opened: bool,
+    /// The number of its first entry.
+    pub base: u32,
     /// Its entries.
     pub log: Entries,
+    /// The line behind its last entry.
+    pub lines: u64,
+    /// Of each bucket the place of its newest entry, or 0.
+    pub heads: Numbers64,
+    /// The first region in each page.
+    pub starts: PageStarts,
+    /// The version of its definitions.
+    pub version: u16,
 }
 
 /// There was no memory to close a log, which comes back with its control pass.
@@ -31,65 +44,220 @@ pub struct CloseWant {
     pub pass: Pass,
 }
 
-/// Closes a log, and shows its entries. No lane may be out, and nothing in flight.
+/// What was read of a log so far.
+#[derive(Drop)]
+struct ReadLog {
+    /// The entries.
+    entries: Entries,
+    /// The first region in each page.
+    starts: PageStarts,
+    /// One more than the last page that has a region, or 0.
+    next_page: u64,
+    /// The line at which the log ends.
+    lines: u64,
+}
+
+/// What stands at a number: an entry, or none at a mark.
+#[derive(Drop)]
+struct Next {
+    line: u64,
+    entry: Option<Entry>,
+}
+
+/// Closes a log, and shows what is left of it. No lane may be out, and nothing in flight.
 pub fn close_log(alloc: Global, log: Log, main: Pass) -> Result<Remains, CloseWant>
     requires pass { IsPassOf log main }
     requires alone { IsAlone (view main) }
     ensures opened { IfOk result (λ r. r.opened ≡ true) }
-    ensures log { IfOk result (λ r. IsClosed (view main) r.log) }
-
+    ensures log { IfOk result (λ r. IsClosed (view main) r) }
     ensures want { IfErr result (λ want. IsOf log want.log × IsPassOf want.log want.pass
         × Learns (view main) (view want.pass) × IsAlone (view want.pass)) }
 {
     let mut main = main;
-    match all_entries(alloc, &log, &mut main) {
-        Ok(entries) => Ok(Remains {
-            opened: true,
-            log: entries,
-        }),
+    match read_remains(alloc, &log, &mut main) {
+        Ok(remains) => Ok(remains),
         Err(AllocError) => Err(CloseWant { log, pass: main }),
     }
 }
 
-/// All entries, up to the first mark or the count.
-fn all_entries(alloc: Global, log: &Log, main: &mut Pass) -> Result<Entries, AllocError>
+/// All that is left of a log.
+fn read_remains(alloc: Global, log: &Log, main: &mut Pass) -> Result<Remains, AllocError>
     requires pass { IsPassOf log.now main.old }
     requires alone { IsAlone (view main.old) }
     ensures pass { IsPassOf log.now main.new }
-    ensures extends { (x : ℕ) × Extends (after_end (view main.old) x) (view main.new)
-        × Rests (high x) (low x) (view main.old).tail }
-    ensures learns { Learns (view main.old) (view main.new) }
-    ensures log { IfOk result (IsClosed (view main.new)) }
+    ensures on { ReadsOn (view main.old) (view main.new) }
+    ensures remains { IfOk result (λ r. (r.opened ≡ true) × IsClosed (view main.new) r) }
 {
-    let end = load_tail(log, main).number;
-    let mut entries = Entries::new(alloc);
-    for number in log.key.number..end {
-        match next_entry(alloc, log, main, number)? {
-            Some(entry) => entries.push(entry)?,
-            None => return Ok(entries),
+    let tail = load_tail(log, main);
+    let mut read = ReadLog {
+        entries: Entries::new(alloc),
+        starts: PageStarts::new(alloc),
+        next_page: 0,
+        lines: tail.line,
+    };
+    let mut heads = Numbers64::new(alloc);
+    match read_words(alloc, log, main, tail.number, &mut read, &mut heads) {
+        Ok(()) => {
+            let version = load_version(log, main);
+            Ok(Remains {
+                opened: true,
+                base: log.key.number as u32,
+                log: read.entries,
+                lines: read.lines,
+                heads,
+                starts: read.starts,
+                version: version as u16,
+            })
+        }
+        Err(error) => {
+            drop((read, heads));
+            Err(error)
         }
     }
-    Ok(entries)
 }
 
-/// The entry at a number, or none at a mark.
+/// The entries up to the first mark or the end, and then the heads.
+fn read_words(
+    alloc: Global,
+    log: &Log,
+    main: &mut Pass,
+    end: u64,
+    read: &mut ReadLog,
+    heads: &mut Numbers64,
+) -> Result<(), AllocError>
+    requires pass { IsPassOf log.now main.old }
+    requires alone { IsAlone (view main.old) }
+    requires from { log.now.key.number ≤ end }
+    requires counted { end ≤ (view main.old).learned.count }
+    requires read { IsReadUpTo (view main.old) log.now.key.number read.old }
+    requires heads { heads.old ≡ [] }
+    ensures pass { IsPassOf log.now main.new }
+    ensures extends { Extends (view main.old) (view main.new) }
+    ensures read { OnOk result (IsRead (view main.new) end read.old.lines read.new) }
+    ensures heads { OnOk result ((settled : ℕ) × (log.now.key.number + length read.new.entries ≤ settled)
+        × AreHeads (view main.new) settled log.now.key.buckets heads.new) }
+{
+    all_entries(alloc, log, main, end, read)?;
+    let next = log.key.number + read.entries.len() as u64;
+    raise_settled(log, main, next);
+    all_heads(log, main, heads)
+}
+
+/// All entries, up to the first mark or the end.
+fn all_entries(
+    alloc: Global,
+    log: &Log,
+    main: &mut Pass,
+    end: u64,
+    read: &mut ReadLog,
+) -> Result<(), AllocError>
+    requires pass { IsPassOf log.now main.old }
+    requires alone { IsAlone (view main.old) }
+    requires from { log.now.key.number ≤ end }
+    requires counted { end ≤ (view main.old).learned.count }
+    requires read { IsReadUpTo (view main.old) log.now.key.number read.old }
+    ensures pass { IsPassOf log.now main.new }
+    ensures extends { Extends (view main.old) (view main.new) }
+    ensures read { OnOk result (IsRead (view main.new) end read.old.lines read.new) }
+{
+    for number in log.key.number..end {
+        if !add_entry(alloc, log, main, number, read)? {
+            return Ok(());
+        }
+    }
+    Ok(())
+}
+
+/// Adds what stands at a number, and says whether the log goes on. At a mark it ends.
+fn add_entry(
+    alloc: Global,
+    log: &Log,
+    main: &mut Pass,
+    number: u64,
+    read: &mut ReadLog,
+) -> Result<bool, AllocError>
+    requires pass { IsPassOf log.now main.old }
+    requires alone { IsAlone (view main.old) }
+    requires look { CanLook (view main.old) number }
+    requires read { IsReadUpTo (view main.old) number read.old }
+    ensures pass { IsPassOf log.now main.new }
+    ensures extends { Extends (view main.old) (view main.new) }
+    ensures read { IfOk result (λ goes. IsAdded (view main.new) number goes read.old.lines read.new) }
+{
+    let Next { line, entry } = next_entry(alloc, log, main, number)?;
+    match entry {
+        Some(entry) => {
+            read.entries.push(entry)?;
+            add_start(read, number, line)?;
+            Ok(true)
+        }
+        None => {
+            read.lines = line;
+            Ok(false)
+        }
+    }
+}
+
+/// Adds the region of a number where it is the first one in its page.
+fn add_start(read: &mut ReadLog, number: u64, line: u64) -> Result<(), AllocError>
+    requires { number < 268435456 }
+    ensures { OnOk result (HasStart read.old number line read.new) }
+{
+    let page = line / PAGE_LINES;
+    if page >= read.next_page {
+        read.starts.push(PageStart {
+            number: number as u32,
+            line,
+        })?;
+        read.next_page = page + 1;
+    }
+    Ok(())
+}
+
+/// What stands at a number.
 fn next_entry(
     alloc: Global,
     log: &Log,
     main: &mut Pass,
     number: u64,
-) -> Result<Option<Entry>, AllocError>
+) -> Result<Next, AllocError>
     requires pass { IsPassOf log.now main.old }
     requires alone { IsAlone (view main.old) }
     requires look { CanLook (view main.old) number }
     ensures pass { IsPassOf log.now main.new }
     ensures extends { Extends (view main.old) (view main.new) }
-    ensures entry { IfOk result (TellsNext (view main.new) number) }
+    ensures next { IfOk result (IsNext (view main.new) number) }
 {
     let word = look_at(log, main, number);
+    let line = line_of_word(word);
     match kind_of_word(word) {
-        Kind::Stored => Ok(Some(read_record(alloc, log, main, line_of_word(word))?)),
-        Kind::Void => Ok(Some(Entry::Void)),
-        Kind::Mark => Ok(None),
+        Kind::Stored => {
+            let entry = read_record(alloc, log, main, line)?;
+            Ok(Next {
+                line,
+                entry: Some(entry),
+            })
+        }
+        Kind::Void => Ok(Next {
+            line,
+            entry: Some(Entry::Void),
+        }),
+        Kind::Mark => Ok(Next { line, entry: None }),
     }
+}
+
+/// The heads of all buckets.
+fn all_heads(log: &Log, main: &mut Pass, heads: &mut Numbers64) -> Result<(), AllocError>
+    requires pass { IsPassOf log.now main.old }
+    requires heads { heads.old ≡ [] }
+    ensures pass { IsPassOf log.now main.new }
+    ensures extends { Extends (view main.old) (view main.new) }
+    ensures heads { OnOk result
+        (AreHeads (view main.new) (view main.old).learned.settled log.now.key.buckets heads.new) }
+{
+    for bucket in 0..log.key.buckets {
+        let head = load_head(log, main, bucket);
+        heads.push(head)?;
+    }
+    Ok(())
 }

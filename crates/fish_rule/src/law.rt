@@ -1,7 +1,7 @@
 //! The laws of the log: the theorem over every schedule, and what a closed log has of what passes
 //! knew. No call of the program needs them.
 
-ghost use Rattle.fish_rule.specs.Closed.{OwnIsClosed, ToldIsClosed};
+ghost use Rattle.fish_rule.specs.Closed.{EndsWhereNextBegins, OwnIsClosed, ToldIsClosed};
 ghost use Rattle.fish_rule.specs.Machine.{EverySchedule, EveryStepIsFinal};
 
 /// From an empty log on, the rule holds after every list of steps of any passes, in any order; and
@@ -14,10 +14,12 @@ pub fn law_every_schedule()
 {}
 
 /// Once a log is closed, each entry that a pass was told of is the one at its number, and the records of
-/// a lane are exactly the own numbers of the pass that has the lane.
+/// a lane are exactly the own numbers of the pass that has the lane. What is left of it may begin the next
+/// one.
 ///
 /// Its contract is that law.
 pub fn law_closed_log()
     ensures told { ToldIsClosed }
     ensures own { OwnIsClosed }
+    ensures next { EndsWhereNextBegins }
 {}

@@ -1,5 +1,6 @@
 -- What was told stands at the moment of the close, and own numbers are exact there.
 use Rattle.fish_rule.proofs.ClosedLogs.{own_closed, told_closed}
+use Rattle.fish_rule.proofs.Following.{may_follow}
 use Rattle.fish_rule.proofs.law.law_closed_log.Goals as goal
 
 pub returns-clause-told : goal.returns-clause-told
@@ -7,3 +8,6 @@ returns-clause-told c = told_closed
 
 pub returns-clause-own : goal.returns-clause-own
 returns-clause-own c = own_closed
+
+pub returns-clause-next : goal.returns-clause-next
+returns-clause-next c = may_follow

@@ -1,0 +1,17 @@
+-- The heads so far are those of as many buckets, and nothing was settled meanwhile.
+use Rattle.std.proofs.Common.{◌≡◌, ℕ, length}
+use mathlib.Core.Option.{some}
+use Rattle.std.proofs.Math.ListN.{get_elem?}
+use Rattle.fish_rule.specs.Closing.{HasHead}
+use Rattle.fish_rule.specs.Logs.{Extends}
+use Rattle.fish_rule.specs.Passes.{IsPassOf, view}
+use Rattle.fish_rule.proofs.close.all_heads.Given as goal
+
+abbrev pub invariant-loop-bucket : goal.invariant-loop-bucket
+invariant-loop-bucket l = record {
+  of : IsPassOf l.log l.main;
+  extends : Extends (view l.fn.main) (view l.main);
+  same : (view l.main).learned.settled ≡ (view l.fn.main).learned.settled;
+  many : length l.heads ≡ l.bucket;
+  each : (b x : ℕ) → get_elem? l.heads b ≡ some x → HasHead (view l.main) (view l.fn.main).learned.settled b x;
+}

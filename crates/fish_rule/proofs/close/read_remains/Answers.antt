@@ -1,0 +1,67 @@
+-- What was read is what is left, and the pass read on.
+use Rattle.std.proofs.Common.{◌≡◌, ◌∙◌, ◌+◌, ◌≤◌, length, ℕ, List, arith, ap, refl, sym, subst, Some, Option}
+use Rattle.fish_rule.proofs.Closes.{closes}
+use Rattle.fish_rule.proofs.Ending.{alone_on, heads_later, read_later, reads_on, reads_version, to_version}
+use Rattle.fish_rule.specs.Closing.{AreHeads}
+use Rattle.fish_rule.specs.Parts.{Rests}
+use Rattle.fish_rule.specs.Passes.{view}
+use Rattle.fish_rule.specs.World.{high, low}
+use Rattle.fish_rule.specs.declared.view.Key.{Key}
+use Rattle.fish_rule.specs.declared.view.Position.{Position}
+use Rattle.fish_rule.specs.declared.view.View.{View}
+use Rattle.fish_rule.proofs.close.read_remains.Goals as goal
+
+pub returns-in-Err-clause-on : goal.returns-in-Err-clause-on
+returns-in-Err-clause-on c =
+    let v = view c.args.main.now in
+    let x = c.load_tail-tail.ensures.view in
+    let number : c.load_tail-tail.result.number ≡ high x.0 = x.2 in
+    let line : c.load_tail-tail.result.line ≡ low x.0 = x.3 in
+    let counted = c.load_tail-tail.ensures.counted in
+    let rests = subst (λ (z : ℕ × ℕ). Rests z.0 z.1 v.tail) (λ i. (number i, line i))
+    (c.load_tail-tail.ensures.rests c.requires.alone.main c.requires.alone.all) in
+    reads_on v (view c.load_tail-tail.new.pass) (view c.read_words.new.main) x.0 x.1 (omega arith) rests
+    c.read_words.ensures.extends
+
+pub returns-in-Ok-clause-on : goal.returns-in-Ok-clause-on
+returns-in-Ok-clause-on c =
+    let v = view c.args.main.now in
+    let x = c.load_tail-tail.ensures.view in
+    let number : c.load_tail-tail.result.number ≡ high x.0 = x.2 in
+    let line : c.load_tail-tail.result.line ≡ low x.0 = x.3 in
+    let counted = c.load_tail-tail.ensures.counted in
+    let rests = subst (λ (z : ℕ × ℕ). Rests z.0 z.1 v.tail) (λ i. (number i, line i))
+    (c.load_tail-tail.ensures.rests c.requires.alone.main c.requires.alone.all) in
+    let on = reads_on v (view c.load_tail-tail.new.pass) (view c.read_words.new.main) x.0 x.1 (omega arith) rests
+    c.read_words.ensures.extends in
+    reads_version v (view c.read_words.new.main) (view c.load_version-version.new.pass) c.load_version-version.result on
+    c.load_version-version.ensures.view c.load_version-version.ensures.rises
+
+pub returns-in-Ok-clause-remains : goal.returns-in-Ok-clause-remains
+returns-in-Ok-clause-remains c =
+    let v = view c.args.main.now in
+    let u = view c.read_words.new.main in
+    let w = view c.load_version-version.new.pass in
+    let y : ℕ = c.load_version-version.result in
+    let tail : Position = c.load_tail-tail.result in
+    let x = c.load_tail-tail.ensures.view in
+    let on = returns-in-Ok-clause-on c in
+    let learns = to_version u w y c.load_version-version.ensures.view c.load_version-version.ensures.rises in
+    let about : w.about ≡ c.args.log.now.key = c.load_version-version.ensures.pass.about in
+    let first : w.about.number ≡ c.args.log.now.key.number = ap (λ (z : Key). z.number) about in
+    let heads = c.in-Ok.ensures.heads in
+    let far = heads.1 in
+    let at : Some (record { number = high x.0; line = low x.0 }) ≡ Some tail =
+    λ i. Some (record { number = sym x.2 i; line = sym x.3 i }) in
+    let is_tail : w.tail ≡ Some tail =
+    ap (λ (z : View). z.tail) c.load_version-version.ensures.view
+    ∙ ap (λ (z : View). z.tail) c.read_words.ensures.extends.frame ∙ ap (λ (z : View). z.tail) x.1 ∙ at in (
+      refl,
+      closes w tail c.read_words.new.read heads.0 c.args.log.now.key.number y c.read_words.new.heads
+          c.load_version-version.ensures.pass.stands
+          (alone_on v w on c.requires.alone) is_tail
+          (read_later u w tail.number tail.line c.read_words.new.read learns c.in-Ok.ensures.read) (omega arith)
+          (subst (λ (k : Key). AreHeads w heads.0 k.buckets c.read_words.new.heads) (sym about)
+          (heads_later u w heads.0 c.args.log.now.key.buckets c.read_words.new.heads learns heads.2)) (sym first)
+          (sym (ap (λ (z : View). z.learned.version) c.load_version-version.ensures.view)),
+    )
