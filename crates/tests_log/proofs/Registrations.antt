@@ -1,16 +1,18 @@
 -- The operation that registers a row, once the row's words are stored.
-use Rattle.std.proofs.Common.{◌≡◌, ℕ, suc, ◌+◌, ◌%◌, ◌<◌, ◌≤◌, inl, List, [], ◌∷◌, ◌++◌, true, length, slice_index, refl, sym, ap, ◌∙◌, subst, arith}
+use Rattle.fish_layout.specs.Cleared.{choose}
+use Rattle.std.proofs.Common.{◌≡◌, ℕ, zero, suc, ◌+◌, ◌-◌, ◌*◌, ◌%◌, ◌<◌, ◌≤◌, inl, List, [], ◌∷◌, ◌++◌, true, length, slice_index, refl, sym, ap, ◌∙◌, subst, arith}
 use Rattle.std.proofs.Math.Decide.{ℕ_discrete, dec_lt}
 use Rattle.fish_catalog.proofs.RowWords.{listed_same, name_back, text_back}
 use Rattle.fish_catalog.specs.Listing.{IsNew, ended_at, listed_in}
-use Rattle.fish_catalog.specs.Words.{IsWritable, name_in, row_word, text_in}
+use Rattle.fish_catalog.specs.Rows.{is_active}
+use Rattle.fish_catalog.specs.Words.{IsWritable, bit_of, name_in, row_word, text_in, word_at}
 use Rattle.fish_catalog.specs.declared.listed.Listed.{Listed}
 use Rattle.fish_catalog.specs.declared.row.CatRow.{CatRow}
 use Rattle.fish_layout.proofs.Clearing.{choose_first, choose_second}
 use Rattle.fish_rule.specs.Entering.{CanBump, CanDefine, after_bump, after_define, after_version, next_operation}
 use Rattle.fish_rule.specs.Epochs.{confirmed}
 use Rattle.fish_rule.specs.Logs.{Learns}
-use Rattle.fish_rule.specs.Registry.{IsOperation, drafted, made, op_at, row_at, row_in}
+use Rattle.fish_rule.specs.Registry.{AreRowWords, IsOperation, drafted, made, op_at, row_at, row_in, row_spelled}
 use Rattle.fish_rule.specs.declared.view.Epoch.{Epoch}
 use Rattle.fish_rule.specs.declared.view.Epoch.TheVariants.{Out}
 use Rattle.fish_rule.specs.declared.view.Learned.{Learned}
@@ -38,6 +40,17 @@ learns_version v u version about learned later =
       labels = λ x is. is;
     })
 
+-- the words of an active row behind its boundaries are those of another one of its name and text
+words_else : (row other : CatRow) → row.name ≡ other.name → row.def ≡ other.def → is_active row ≡ is_active other
+    → (i : ℕ) → 2 ≤ i → row_word row i ≡ row_word other i
+unfolding row_word
+words_else row other name text active zero low = absurd (omega arith)
+words_else row other name text active (suc zero) low = absurd (omega arith)
+words_else row other name text active (suc (suc zero)) low =
+    λ i. length (name i) + length (text i) * 256 + bit_of (active i) * 65536
+words_else row other name text active (suc (suc (suc k))) low =
+    λ i. choose (dec_lt k 4) (word_at (name i) k) (word_at (text i) (k - 4))
+
 -- the control pass, which is out, found this version, and then stored the words of the row
 pub record IsDrafted (v : View) (row : CatRow) (version id : ℕ) (u : View) : Type 0 where
   pub main : v.lane ≡ 1
@@ -47,6 +60,7 @@ pub record IsDrafted (v : View) (row : CatRow) (version id : ℕ) (u : View) : T
   pub risen : v.learned.version ≤ version
   pub new : IsNew v.rows row.name row.def
   pub writable : IsWritable row
+  pub active : is_active row ≡ true
   pub words : List ℕ
   pub says : (i : ℕ) → i < 39 → slice_index words i ≡ row_word row i
   pub drafted : HasDrafted (after_version v version) words 39 u
@@ -104,6 +118,13 @@ module _ (v : View) (row : CatRow) (version id : ℕ) (u : View) (is : IsDrafted
   may_register =
       subst (λ (l : Listed). IsNew v.rows l.name l.def) (sym (listed 0)) is.new
 
+  -- behind the boundaries the words are those of a row of this name and text
+  row_words : AreRowWords in_row
+  row_words i low few =
+      let name : name_in in_row ≡ row.name = ap (λ (l : Listed). l.name) (listed 0) in
+      let text : text_in in_row ≡ row.def = ap (λ (l : Listed). l.def) (listed 0) in
+      in_row_is i low few ∙ words_else row (row_spelled in_row) (sym name) (sym text) is.active i low
+
   -- the version may be raised
   pub can_raise : CanBump behind
   can_raise = record {
@@ -111,7 +132,7 @@ module _ (v : View) (row : CatRow) (version id : ℕ) (u : View) (is : IsDrafted
     outside = ap (λ (z : View). z.epoch) only ∙ ap (λ (e : Epoch). confirmed e version) is.outside;
     few = (let few = is.few in let e = reached in omega arith);
     operation = subst (λ (ls : List Listed). IsOperation (row_in (drafted behind.draft) (length ls)) ls
-        (next_operation behind)) (sym same_rows) (inl (operation, may_register));
+        (next_operation behind)) (sym same_rows) (inl (operation, may_register, row_words));
   }
 
   -- and then the row is one of the definitions

@@ -1,19 +1,20 @@
 //! Logs that tests open, of sixteen buckets, and the definitions that they begin with.
 
-ghost use Rattle.std.specs.Prelude.{◌≡◌, ◌≤◌, [], IfOk, OnOk};
+ghost use Rattle.std.specs.Prelude.{◌≡◌, ◌≤◌, [], All, IfOk, OnOk};
 ghost use Rattle.fish_catalog.specs.Canonical.{IsCanonical};
 ghost use Rattle.fish_catalog.specs.Rows.{IsName};
 ghost use Rattle.fish_ingest.specs.Definitions.{AreDefs};
 ghost use Rattle.fish_lang.specs.Canonical.{definition_text};
 ghost use Rattle.fish_lang.specs.Definition.{definition_of};
-ghost use Rattle.fish_rule.specs.Keys.{AreActive};
+ghost use Rattle.fish_lang.specs.Language.{IsAccepted};
+ghost use Rattle.fish_rule.specs.Keys.{AreActive, IsWritten};
 ghost use Rattle.fish_rule.specs.Passes.{IsPassOf, view};
 ghost use Rattle.fish_rule.specs.Reading.{IsAlone};
 ghost use Rattle.fish_rule.specs.Start.{CanOpen, IsShape};
 ghost use Rattle.fish_rule.specs.Table.{first_view};
 
 use fish_catalog::{Catalog, Entries};
-use fish_lang::{Def, LangRefusal, parse_def, print_def};
+use fish_lang::{Def, LangRefusal, parse_def, print_def, reads_back};
 use fish_psf::ActiveDef;
 use fish_rule::{Base, Log, Pass, Remains, Shape, Start, close_log, open_log};
 use fish_value::Text;
@@ -68,7 +69,9 @@ pub(crate) fn name_of(alloc: Global, name: &str) -> Result<Text, Fail>
 pub(crate) fn parsed(alloc: Global, source: &str) -> Result<(Def, Text), LangRefusal>
     ensures canonical { IfOk result (λ r. IsCanonical r.1) }
     ensures is { IfOk result (λ r. r.1 ≡ definition_text (definition_of r.0)) }
+    ensures read { IfOk result (λ r. IsAccepted (definition_text (definition_of r.0)) (definition_of r.0)) }
 {
+    reads_back();
     let def = parse_def(alloc, source.as_bytes())?;
     match print_def(alloc, &def) {
         Ok(text) => Ok((def, text)),
@@ -95,8 +98,10 @@ fn add_def(
     defs: &mut Vec<ActiveDef>,
     source: &str,
 ) -> Result<(), Fail>
-    requires { AreActive catalog.old defs.old.items }
-    ensures { OnOk result (AreActive catalog.new defs.new.items) }
+    requires active { AreActive catalog.old defs.old.items }
+    requires written { All IsWritten defs.old.items }
+    ensures active { OnOk result (AreActive catalog.new defs.new.items) }
+    ensures written { OnOk result (All IsWritten defs.new.items) }
 {
     let name = name_of(alloc, source)?;
     let (def, text) = parsed(alloc, source)?;
@@ -116,8 +121,10 @@ fn add_defs(
     defs: &mut Vec<ActiveDef>,
     sources: &[&str],
 ) -> Result<(), Fail>
-    requires { AreActive catalog.old defs.old.items }
-    ensures { OnOk result (AreActive catalog.new defs.new.items) }
+    requires active { AreActive catalog.old defs.old.items }
+    requires written { All IsWritten defs.old.items }
+    ensures active { OnOk result (AreActive catalog.new defs.new.items) }
+    ensures written { OnOk result (All IsWritten defs.new.items) }
 {
     for source in sources {
         add_def(alloc, catalog, defs, *source)?;
@@ -128,6 +135,7 @@ fn add_defs(
 /// The definitions that sources are, by id from 0 on, and their catalogue.
 fn cataloged(alloc: Global, sources: &[&str]) -> Result<(Catalog, Vec<ActiveDef>), Fail>
     ensures active { IfOk result (λ r. AreActive r.0 r.1.items) }
+    ensures written { IfOk result (λ r. All IsWritten r.1.items) }
 {
     let mut catalog = Catalog::new(alloc);
     let mut defs = Vec::new(alloc);
@@ -181,7 +189,7 @@ pub(crate) fn closed(alloc: Global, log: Log, main: Pass) -> Result<Entries, Fai
     requires alone { IsAlone (view main) }
 {
     match close_log(alloc, log, main) {
-        Ok(Remains { opened: _, log }) => Ok(log),
+        Ok(Remains { log, .. }) => Ok(log),
         Err(want) => {
             drop(want);
             Err(Fail::new("no memory"))

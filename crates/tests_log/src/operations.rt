@@ -56,8 +56,8 @@ fn define_row(log: &Log, pass: &mut Pass, id: u64, words: &[u64; ROW_WORDS])
     }
 }
 
-/// Registers a row as the definition with the next id. The version that it makes, or none where no
-/// version is left.
+/// Registers a row as the definition with the next id. The version that it makes, or none where the row
+/// has ended or no version is left.
 fn register(log: &Log, pass: &mut Pass, id: u64, row: &CatRow) -> Option<u64>
     requires pass { IsPassOf log.now pass.old }
     requires control { (view pass.old).lane ≡ 1 }
@@ -68,6 +68,9 @@ fn register(log: &Log, pass: &mut Pass, id: u64, row: &CatRow) -> Option<u64>
     ensures pass { IsPassOf log.now pass.new }
     ensures registered { IfSome result (IsRegisteredAs (view pass.old) row.now (view pass.new)) }
 {
+    if !row.is_active() {
+        return None;
+    }
     let version = load_version(log, pass);
     if version >= 512 {
         return None;

@@ -1,14 +1,16 @@
 //! Payloads of both forms, with key entries that are worked out by hand, and the words of one record
 //! that another program packed by the table of bits.
 
-ghost use Rattle.std.specs.Prelude.{IfOk, IsTrue};
+ghost use Rattle.std.specs.Prelude.{All, IfOk, IsTrue};
 ghost use Rattle.fish_ingest.specs.Definitions.{AreDefs};
 ghost use Rattle.fish_ingest.specs.Records.{IsOrigin};
+ghost use Rattle.fish_rule.specs.Keys.{IsWritten};
 
 use crate::expecting::{expect, expect_text};
 use crate::flights::prepared;
+use crate::openings::parsed;
 use fish_ingest::{IngestRefusal, Origin, Prepared};
-use fish_lang::{LangRefusal, parse_def};
+use fish_lang::LangRefusal;
 use fish_layout::{BodyParts, KeyPart, MAX_PAYLOAD, read_body};
 use fish_psf::ActiveDef;
 use fish_value::{Form, print_value};
@@ -74,6 +76,7 @@ const WORDS: &[u64] = &[
 
 /// Whether definitions may be active together.
 fn are_defs(defs: &[ActiveDef]) -> bool
+    requires written { All IsWritten defs.now }
     ensures { IsTrue result → AreDefs defs.now }
 {
     let mut least = 0;
@@ -100,8 +103,12 @@ fn push_def(
     defs: &mut Vec<ActiveDef>,
     id: u16,
     source: &str,
-) -> Result<(), LangRefusal> {
-    let def = parse_def(alloc, source.as_bytes())?;
+) -> Result<(), LangRefusal>
+    requires written { All IsWritten defs.old.items }
+    ensures written { All IsWritten defs.new.items }
+{
+    let (def, text) = parsed(alloc, source)?;
+    drop(text);
     match defs.push(ActiveDef { id, def }) {
         Ok(()) => Ok(()),
         Err(error) => Err(LangRefusal::from(AllocError::from(error))),
@@ -109,7 +116,10 @@ fn push_def(
 }
 
 /// Adds the definitions.
-fn push_defs(alloc: Global, defs: &mut Vec<ActiveDef>) -> Result<(), LangRefusal> {
+fn push_defs(alloc: Global, defs: &mut Vec<ActiveDef>) -> Result<(), LangRefusal>
+    requires written { All IsWritten defs.old.items }
+    ensures written { All IsWritten defs.new.items }
+{
     for &(id, source) in DEFINITIONS {
         push_def(alloc, defs, id, source)?;
     }

@@ -5,6 +5,7 @@ use Rattle.fish_rule.specs.Passes.{view}
 use Rattle.fish_rule.specs.Steps.{flight_at}
 use Rattle.fish_rule.specs.declared.view.Epoch.TheVariants.{Confirmed}
 use Rattle.fish_rule.specs.declared.view.Key.{Key}
+use Rattle.fish_rule.specs.declared.view.View.{View}
 use Rattle.tests_log.proofs.bodies.claim_words.Goals as goal
 
 pub returns-clause-words : goal.returns-clause-words
@@ -15,7 +16,7 @@ returns-clause-words c =
     let u = view c.claim-answer.new.pass in
     let entered = c.enter.ensures.entered in
     let rows = ap (λ (z : Key). z.rows.value) c.enter.ensures.pass.about ∙ c.requires.rows in
-    let plain = p.1 v (entered.keeps.lane ∙ sym c.lane-lane.ensures)
+    let plain = p.1 v (ap (λ (z : View). z.lane) entered.keeps.frame ∙ sym c.lane-lane.ensures)
     (entered.epoch ∙ ap Confirmed c.if-enter-ne0.false) rows in
     record {
       flight = flight_at place.number place.line c.args.lines;

@@ -39,7 +39,7 @@ returns-in-Placed-clause-placed c =
         made = made;
         active = subst (λ (k : Key). KnowsActive k u.learned 0 (map text_of c.args.defs.now)) (sym about)
             (knows_active c.args.log.now.key u.learned c.args.defs.now c.requires.active);
-        lane_is = c.lane-lane.ensures ∙ sym (ap (λ (z : View). z.lane) placed.known ∙ entered.keeps.lane);
+        lane_is = c.lane-lane.ensures ∙ sym (ap (λ (z : View). z.lane) placed.known ∙ ap (λ (z : View). z.lane) entered.keeps.frame);
         entered = ap (λ (z : View). z.epoch) placed.known ∙ entered.epoch ∙ ap Confirmed at_0;
       },
     )

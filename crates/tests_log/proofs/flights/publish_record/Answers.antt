@@ -23,11 +23,11 @@ pub returns-clause-lane : goal.returns-clause-lane
 returns-clause-lane c =
     let f : Flight = c.requires.can.0 in
     let done = c.write_record.ensures.written f c.requires.can.1.flying in
-    ap (λ (z : View). z.lane) (c.publish.ensures.view done.flight done.ready.flying) ∙ done.lane
+    ap (λ (z : View). z.lane) (c.publish.ensures.view done.flight done.ready.flying) ∙ ap (λ (z : View). z.lane) done.only.frame
 
 -- and the lanes that are out
 pub returns-clause-out : goal.returns-clause-out
 returns-clause-out c =
     let f : Flight = c.requires.can.0 in
     let done = c.write_record.ensures.written f c.requires.can.1.flying in
-    ap (λ (z : View). z.out) (c.publish.ensures.view done.flight done.ready.flying) ∙ done.out
+    ap (λ (z : View). z.out) (c.publish.ensures.view done.flight done.ready.flying) ∙ ap (λ (z : View). z.out) done.only.frame

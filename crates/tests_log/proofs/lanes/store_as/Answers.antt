@@ -1,6 +1,8 @@
 -- Whatever the answer, the lane may store again.
+use Rattle.std.proofs.Common.{ap}
 use Rattle.fish_ingest.proofs.After.{goes_on}
 use Rattle.fish_rule.specs.Passes.{view}
+use Rattle.fish_rule.specs.declared.view.View.{View}
 use Rattle.tests_log.proofs.lanes.store_as.Goals as goal
 
 pub returns-clause-ready : goal.returns-clause-ready
@@ -11,15 +13,15 @@ returns-clause-ready c =
 
 pub returns-clause-lane : goal.returns-clause-lane
 returns-clause-lane c =
-    (goes_on (view c.args.pass.now) (view c.ingest.new.pass) c.args.form c.args.payload.now c.ingest.result
-    c.requires.start c.ingest.ensures.ingested c.ingest.ensures.refused).1.lane
+    ap (λ (z : View). z.lane) (goes_on (view c.args.pass.now) (view c.ingest.new.pass) c.args.form c.args.payload.now
+    c.ingest.result c.requires.start c.ingest.ensures.ingested c.ingest.ensures.refused).1.frame
 
 pub returns-clause-out : goal.returns-clause-out
 returns-clause-out c =
-    (goes_on (view c.args.pass.now) (view c.ingest.new.pass) c.args.form c.args.payload.now c.ingest.result
-    c.requires.start c.ingest.ensures.ingested c.ingest.ensures.refused).1.out
+    ap (λ (z : View). z.out) (goes_on (view c.args.pass.now) (view c.ingest.new.pass) c.args.form c.args.payload.now
+    c.ingest.result c.requires.start c.ingest.ensures.ingested c.ingest.ensures.refused).1.frame
 
 pub returns-clause-rows : goal.returns-clause-rows
 returns-clause-rows c =
-    (goes_on (view c.args.pass.now) (view c.ingest.new.pass) c.args.form c.args.payload.now c.ingest.result
-    c.requires.start c.ingest.ensures.ingested c.ingest.ensures.refused).1.rows
+    ap (λ (z : View). z.rows) (goes_on (view c.args.pass.now) (view c.ingest.new.pass) c.args.form c.args.payload.now
+    c.ingest.result c.requires.start c.ingest.ensures.ingested c.ingest.ensures.refused).1.frame

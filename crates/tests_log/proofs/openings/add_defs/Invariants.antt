@@ -1,6 +1,10 @@
--- The definitions so far are those of the rows.
-use Rattle.fish_rule.specs.Keys.{AreActive}
+-- The definitions so far are those of the rows, and each is what its text is read as.
+use Rattle.std.proofs.Common.{All}
+use Rattle.fish_rule.specs.Keys.{AreActive, IsWritten}
 use Rattle.tests_log.proofs.openings.add_defs.Given as goal
 
 abbrev pub invariant-loop-source : goal.invariant-loop-source
-invariant-loop-source l = AreActive l.catalog l.defs.items
+invariant-loop-source l = record {
+  active : AreActive l.catalog l.defs.items;
+  written : All IsWritten l.defs.items;
+}

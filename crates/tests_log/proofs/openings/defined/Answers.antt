@@ -8,3 +8,4 @@ use Rattle.tests_log.proofs.openings.defined.Goals as goal
 pub returns-in-Ok-clause-defs : goal.returns-in-Ok-clause-defs
 returns-in-Ok-clause-defs c =
     active_defs (subst IsCatalog c.rows-rows.ensures.value c.rows-rows.ensures.kept) c.in_ok-catalog.ensures.active
+    c.in_ok-catalog.ensures.written

@@ -19,6 +19,7 @@ drafted c = record {
   risen = c.load_version-version.ensures.rises;
   new = c.requires.new;
   writable = c.row_words.ensures.writable;
+  active = (let is = c.is_active.ensures.value in cc);
   words = c.row_words.result;
   says = c.row_words.ensures.words;
   drafted = subst (λ (z : View). HasDrafted z c.row_words.result 39 (view c.define_row.new.pass))

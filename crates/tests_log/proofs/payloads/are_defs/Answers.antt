@@ -13,3 +13,4 @@ returns c holds =
     drop_all c.loop-active.active-index c.args.defs.now past in
     defs_ascend c.args.defs.now
     (c.loop-active.invariant (subst (λ ds. AscendFrom c.loop-active.least (map id_of ds)) (sym none) tt))
+    c.requires.written
