@@ -1,3 +1,4 @@
+pub mod Activity
 pub mod Drafts
 pub mod Heads
 pub mod Registrations

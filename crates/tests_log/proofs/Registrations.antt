@@ -5,7 +5,8 @@ use Rattle.std.proofs.Math.Decide.{ℕ_discrete, dec_lt}
 use Rattle.fish_catalog.proofs.RowWords.{listed_same, name_back, text_back}
 use Rattle.fish_catalog.specs.Listing.{IsNew, ended_at, listed_in}
 use Rattle.fish_catalog.specs.Rows.{is_active}
-use Rattle.fish_catalog.specs.Words.{IsWritable, bit_of, name_in, row_word, text_in, word_at}
+use Rattle.fish_catalog.specs.Words.{IsWritable, bit_of, name_in, row_word, text_in}
+use Rattle.fish_layout.specs.Bytes.{word_at}
 use Rattle.fish_catalog.specs.declared.listed.Listed.{Listed}
 use Rattle.fish_catalog.specs.declared.row.CatRow.{CatRow}
 use Rattle.fish_layout.proofs.Clearing.{choose_first, choose_second}

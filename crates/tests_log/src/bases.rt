@@ -145,9 +145,10 @@ fn opened(alloc: Global, case: &Case) -> Result<(Log, Pass), Fail>
     let Start {
         base: _,
         heads: _,
-        catalog,
+        mut catalog,
         version: _,
     } = first;
+    catalog.clamp(case.base.number);
     let start = Start {
         base: case.base,
         heads,
