@@ -6,7 +6,7 @@ use Rattle.std.proofs.lemmas.Bool.{cases_Bool}
 use Rattle.std.proofs.lemmas.Bool.Decides.{nat_tests}
 use Rattle.std.proofs.lemmas.Str.{IsUtf8-from_is_utf8, is_utf8-from_IsUtf8}
 use Rattle.csv.specs.Reading.{strip_bom}
-use Rattle.fish_csv.specs.declared.record.TheConstants.{MAX_PAYLOAD}
+use Rattle.fish_value.specs.Limits.{longest_payload}
 use Rattle.fish_csv.specs.Reading.{only, row_of, row_reading, rows_in}
 use Rattle.fish_csv.specs.Rows.{kept}
 use Rattle.fish_csv.proofs.Records.{rows-nil, rows-there}
@@ -32,17 +32,17 @@ unfolding row_reading
 row_reading_text b text e same = rw (e, same) refl
 
 -- within the limit a payload's row is that of its reading, above it there is none
-pub row_of_short : (b : List ℕ) → length b ≤ MAX_PAYLOAD → row_of b ≡ row_reading b
+pub row_of_short : (b : List ℕ) → length b ≤ longest_payload → row_of b ≡ row_reading b
 unfolding row_of
-row_of_short b h = let fits : nat_le (length b) MAX_PAYLOAD ≡ true = grind (arith, nat_tests) in rw fits refl
+row_of_short b h = let fits : nat_le (length b) longest_payload ≡ true = grind (arith, nat_tests) in rw fits refl
 
-pub row_of_long : (b : List ℕ) → MAX_PAYLOAD < length b → row_of b ≡ None
+pub row_of_long : (b : List ℕ) → longest_payload < length b → row_of b ≡ None
 unfolding row_of
-row_of_long b h = let long : nat_le (length b) MAX_PAYLOAD ≡ false = grind (arith, nat_tests) in rw long refl
+row_of_long b h = let long : nat_le (length b) longest_payload ≡ false = grind (arith, nat_tests) in rw long refl
 
 pub row_of_none : (b : List ℕ) → row_reading b ≡ None → row_of b ≡ None
 unfolding row_of
-row_of_none b e = elim (cases_Bool (nat_le (length b) MAX_PAYLOAD)) [ inl short ↦ rw short e | inr long ↦ rw long refl ]
+row_of_none b e = elim (cases_Bool (nat_le (length b) longest_payload)) [ inl short ↦ rw short e | inr long ↦ rw long refl ]
 
 -- these, for the call that tests a payload
 pub ruleset readings = (text_yes, text_no, row_of_none, row_of_long, row_reading_other)
@@ -67,7 +67,7 @@ pub read_none : (b text : List ℕ) (fields : List (List ℕ)) (found : Bool) �
 read_none b text fields found same utf8 one none = row_reading_text b text utf8 same ∙ one ∙ rw none refl
 
 -- a text that is one row
-pub read_some : (b text : List ℕ) (fields : List (List ℕ)) (found : Bool) → text ≡ strip_bom b → is_utf8 b ≡ true → length b ≤ MAX_PAYLOAD
+pub read_some : (b text : List ℕ) (fields : List (List ℕ)) (found : Bool) → text ≡ strip_bom b → is_utf8 b ≡ true → length b ≤ longest_payload
     → only (rows_in text) ≡ (if found then Some fields else None) → found ≡ true → row_of b ≡ Some fields
 read_some b text fields found same utf8 short one is = row_of_short b short ∙ row_reading_text b text utf8 same ∙ one ∙ rw is refl
 

@@ -6,7 +6,7 @@ use Rattle.std.proofs.lemmas.List.{take-append-le, take_all}
 use Rattle.csv.specs.Machine.{Read, field_after, fields_after, is_end, next_record, step}
 use Rattle.csv.specs.Reading.{default_config, strip_bom}
 use Rattle.std.specs.Str.{is_utf8}
-use Rattle.fish_csv.specs.declared.record.TheConstants.{MAX_PAYLOAD}
+use Rattle.fish_value.specs.Limits.{longest_payload}
 use Rattle.fish_csv.proofs.Marks.{strip-same}
 use Rattle.fish_csv.proofs.Readings.{kept_some, read_some}
 use Rattle.csv.specs.Writing.{default_writer, is_blank, read_back, row_body, row_text}
@@ -88,7 +88,7 @@ stored-row fields =
     (rows-more (stored_text fields) (read_back fields) st.StartRecord [] one).0 ∙ rw rows-nil refl
 
 -- a stored text in UTF-8 within the limit, with no byte order mark at its front, is a payload
-pub kept-stored : (text behind : List ℕ) → IsStored text → length text ≤ MAX_PAYLOAD → is_utf8 text ≡ true → behind ≡ strip_bom text → length text ≤ length behind
+pub kept-stored : (text behind : List ℕ) → IsStored text → length text ≤ longest_payload → is_utf8 text ≡ true → behind ≡ strip_bom text → length text ≤ length behind
     → Some text ≡ kept text
 kept-stored text behind (fields, e) short utf8 same long =
     let whole : length text ≤ length (strip_bom text) = omega (arith, ap length same) in

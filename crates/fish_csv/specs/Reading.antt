@@ -6,7 +6,7 @@ use Rattle.csv.specs.Records.{field_at}
 use Rattle.fish_value.specs.Number.{int_of}
 use Rattle.fish_value.specs.declared.field.Field.{Field}
 use Rattle.fish_value.specs.declared.field.Field.TheVariants as kind
-use Rattle.fish_csv.specs.declared.record.TheConstants.{MAX_PAYLOAD}
+use Rattle.fish_value.specs.Limits.{longest_payload}
 
 -- the fields of each row of a text, as `csv` reads it with its defaults
 unfoldable pub rows_in : List ℕ → List (List (List ℕ))
@@ -25,7 +25,7 @@ row_reading b = if is_utf8 b then only (rows_in (strip_bom b)) else None
 
 -- the fields of the row that a payload is: none over 524,288 bytes
 unfoldable pub row_of : List ℕ → Option (List (List ℕ))
-row_of b = if nat_le (length b) MAX_PAYLOAD then row_reading b else None
+row_of b = if nat_le (length b) longest_payload then row_reading b else None
 
 -- the place, from 0, that a number from 1 on stands for
 abbrev pub place_of : ℤ → Option ℕ

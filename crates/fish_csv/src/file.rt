@@ -3,6 +3,7 @@
 ghost use Rattle.std.specs.Prelude.{◌≡◌, ◌≢◌, ◌↔◌, ◌+◌, ◌<◌, ◌≤◌, ◌++◌, ◌∷◌, [], false, true, length, take, drop, IfOk, OnOk, IsErrOf, MatchOption};
 ghost use Rattle.std.specs.List.{list_any};
 ghost use Rattle.csv.specs.Records.{fields_of};
+ghost use Rattle.fish_value.specs.Limits.{longest_file};
 ghost use Rattle.fish_csv.specs.Reading.{rows_in};
 ghost use Rattle.fish_csv.specs.Rows.{accepted, kept, outcomes, outcomes_of, refused as refused_of, without_header};
 ghost use Rattle.fish_csv.specs.Turns.{IsStored, TakesRow, ends_line, is_mark};
@@ -55,8 +56,8 @@ pub fn rows(alloc: Global, b: &[u8], header: bool) -> Result<CsvRows, CsvRefusal
     ensures texts { IfOk result (λ found. found.texts ≡ accepted (outcomes header b.now)) }
     ensures refused { IfOk result (λ found. found.refused ≡ refused_of (outcomes header b.now)) }
 
-    ensures length { OnOk result (length b.now ≤ MAX_FILE) }
-    ensures too_long { IsErrOf result CsvRefusal.FileTooLong ↔ (MAX_FILE < length b.now) }
+    ensures length { OnOk result (length b.now ≤ longest_file) }
+    ensures too_long { IsErrOf result CsvRefusal.FileTooLong ↔ (longest_file < length b.now) }
 {
     if b.len() > MAX_FILE {
         return Err(CsvRefusal::FileTooLong);
@@ -66,7 +67,7 @@ pub fn rows(alloc: Global, b: &[u8], header: bool) -> Result<CsvRows, CsvRefusal
 
 /// The same of a text without a byte order mark at its front.
 fn all_rows(alloc: Global, b: &[u8], header: bool) -> Result<CsvRows, AllocError>
-    requires { length b.now ≤ MAX_FILE }
+    requires { length b.now ≤ longest_file }
     ensures texts { IfOk result (λ found. found.texts ≡ accepted (outcomes_of header (rows_in b.now))) }
     ensures refused { IfOk result (λ found. found.refused ≡ refused_of (outcomes_of header (rows_in b.now))) }
 {

@@ -4,10 +4,11 @@ ghost use Rattle.std.specs.Prelude.{◌≡◌, ◌≢◌, ◌<◌, ◌≤◌, tr
 ghost use Rattle.std.specs.List.{list_all};
 ghost use Rattle.std.specs.Str.{is_utf8};
 ghost use Rattle.csv.specs.Records.{fields_of};
+ghost use Rattle.fish_value.specs.Limits.{longest_payload};
 ghost use Rattle.fish_csv.specs.Reading.{field_in, row_of, row_reading};
 
 use crate::column::field_at;
-use crate::record::{CsvRecordRefusal, MAX_PAYLOAD};
+use crate::record::CsvRecordRefusal;
 use crate::text::{read_one, text_of};
 use csv::ByteRecord;
 use fish_value::{Field, Path};
@@ -38,10 +39,10 @@ impl CsvReader {
     pub fn read<'r>(&'r mut self, b: &[u8]) -> Result<CsvRow<'r>, CsvRecordRefusal>
         ensures ok { IfOk result (λ found. row_of b.now ≡ Some (row_fields found)) }
 
-        ensures length { OnOk result (length b.now ≤ MAX_PAYLOAD) }
-        ensures too_long { IsErrOf result CsvRecordRefusal.TooLong → MAX_PAYLOAD < length b.now }
+        ensures length { OnOk result (length b.now ≤ longest_payload) }
+        ensures too_long { IsErrOf result CsvRecordRefusal.TooLong → longest_payload < length b.now }
         ensures not_row { IsErrOf result CsvRecordRefusal.NotRow
-            → (length b.now ≤ MAX_PAYLOAD) × (row_reading b.now ≡ None) }
+            → (length b.now ≤ longest_payload) × (row_reading b.now ≡ None) }
         ensures none { IfErr result (λ e. e ≢ CsvRecordRefusal.OutOfMemory → row_of b.now ≡ None) }
     {
         let text = text_of(b)?;

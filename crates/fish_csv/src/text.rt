@@ -4,6 +4,7 @@ ghost use Rattle.std.specs.Prelude.{◌≡◌, ◌≢◌, ◌<◌, ◌≤◌, le
 ghost use Rattle.std.specs.Str.{is_utf8};
 ghost use Rattle.csv.specs.Reading.{strip_bom};
 ghost use Rattle.csv.specs.Records.{fields_of};
+ghost use Rattle.fish_value.specs.Limits.{longest_payload};
 ghost use Rattle.fish_csv.specs.Reading.{only, row_of, row_reading, rows_in};
 
 use crate::bytes::{without_ends, without_mark};
@@ -16,11 +17,11 @@ use std::alloc::AllocError;
 #[tactic(auto, using(crate::proofs::Readings::readings))]
 pub(crate) fn text_of(b: &[u8]) -> Result<&[u8], CsvRecordRefusal>
     ensures ok { IfOk result (λ text.
-        (text.now ≡ strip_bom b.now) × (is_utf8 b.now ≡ true) × (length b.now ≤ MAX_PAYLOAD)) }
+        (text.now ≡ strip_bom b.now) × (is_utf8 b.now ≡ true) × (length b.now ≤ longest_payload)) }
 
-    ensures too_long { IsErrOf result CsvRecordRefusal.TooLong → MAX_PAYLOAD < length b.now }
+    ensures too_long { IsErrOf result CsvRecordRefusal.TooLong → longest_payload < length b.now }
     ensures not_row { IsErrOf result CsvRecordRefusal.NotRow
-        → (length b.now ≤ MAX_PAYLOAD) × (row_reading b.now ≡ None) }
+        → (length b.now ≤ longest_payload) × (row_reading b.now ≡ None) }
     ensures none { IfErr result (λ e. (e ≢ CsvRecordRefusal.OutOfMemory) × (row_of b.now ≡ None)) }
 {
     if b.len() > MAX_PAYLOAD {

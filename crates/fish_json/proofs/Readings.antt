@@ -10,7 +10,7 @@ use Rattle.json.proofs.Unique.Spelling.{value-json_tokens_back, tokens-document}
 use Rattle.serde_json.specs.Data.{Data, null}
 use Rattle.serde_json.specs.Read.{max_depth, of_json, read}
 use Rattle.fish_value.specs.Json.{reading}
-use Rattle.fish_json.specs.declared.record.TheConstants.{MAX_PAYLOAD}
+use Rattle.fish_value.specs.Limits.{longest_payload}
 use Rattle.fish_json.specs.Reading.{if_object, record_of}
 use Rattle.fish_json.specs.Tape.{data_at, open_after, Stands}
 use Rattle.fish_json.proofs.Depth.{good, open_after-json, passed, has_data}
@@ -147,16 +147,16 @@ no_object : (o : Option Data) → is_some o ≡ true → is_some (if_object (unw
 no_object None some object = absurd (cc)
 no_object (Some d) some object = (refl, none_of (if_object d) object)
 
-pub record_yes : (b : List ℕ) (ts : List Token) → length b ≤ MAX_PAYLOAD → reading b ≡ data_at ts
+pub record_yes : (b : List ℕ) (ts : List Token) → length b ≤ longest_payload → reading b ≡ data_at ts
     → is_some (data_at ts) ≡ true → is_some (if_object (unwrap_or (data_at ts) null)) ≡ true
     → record_of b ≡ Some (unwrap_or (data_at ts) null)
 unfolding record_of
-record_yes b ts short is some object = rw (le-leb (length b) MAX_PAYLOAD short, is) (an_object (data_at ts) some object)
+record_yes b ts short is some object = rw (le-leb (length b) longest_payload short, is) (an_object (data_at ts) some object)
 
-pub record_no : (b : List ℕ) (ts : List Token) → length b ≤ MAX_PAYLOAD → reading b ≡ data_at ts
+pub record_no : (b : List ℕ) (ts : List Token) → length b ≤ longest_payload → reading b ≡ data_at ts
     → is_some (data_at ts) ≡ true → is_some (if_object (unwrap_or (data_at ts) null)) ≡ false
     → IsSome (reading b) × (record_of b ≡ None)
 unfolding record_of
 record_no b ts short is some object =
     let none = no_object (data_at ts) some object in
-    (ap is_some is ∙ some, rw (le-leb (length b) MAX_PAYLOAD short, is) none.1)
+    (ap is_some is ∙ some, rw (le-leb (length b) longest_payload short, is) none.1)

@@ -8,7 +8,7 @@ use Rattle.serde_json.specs.Read.{read}
 use Rattle.fish_value.specs.Json.{reading}
 use Rattle.fish_value.specs.declared.field.Field.TheVariants.{Missing}
 use Rattle.fish_json.specs.Reading.{at_path, field, field_in, field_of, if_object, record_of}
-use Rattle.fish_json.specs.declared.record.TheConstants.{MAX_PAYLOAD}
+use Rattle.fish_value.specs.Limits.{longest_payload}
 
 -- what a payload has at a path is what its record has there
 pub field_of_record : (b : List ℕ) (path : List (List ℕ)) (d : Data) → record_of b ≡ Some d
@@ -30,4 +30,4 @@ tested false text o d e = cc
 -- a record's bytes are a text
 pub record_is_text : (b : List ℕ) (d : Data) → record_of b ≡ Some d → IsUtf8 b
 unfolding record_of reading
-record_is_text b d e = IsUtf8-from_is_utf8 b (tested (nat_le (length b) MAX_PAYLOAD) (is_utf8 b) (read b) d e)
+record_is_text b d e = IsUtf8-from_is_utf8 b (tested (nat_le (length b) longest_payload) (is_utf8 b) (read b) d e)

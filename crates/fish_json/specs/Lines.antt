@@ -3,7 +3,7 @@ use Rattle.std.specs.Prelude.{ℕ, ◌==◌, ◌&&◌, ◌||◌, List, [], ◌�
 use Rattle.std.specs.List.{filter_map, list_all, slice_split, starts_with}
 use Rattle.std.specs.Str.Lines.{strip_carriage_return}
 use Rattle.fish_json.specs.Reading.{record_of}
-use Rattle.fish_json.specs.declared.record.TheConstants.{MAX_PAYLOAD}
+use Rattle.fish_value.specs.Limits.{longest_payload}
 
 -- U+FEFF in UTF-8, which some writers put at a file's start
 abbrev pub byte_order_mark : List ℕ
@@ -23,7 +23,7 @@ is_blank_byte b = b == 32 || b == 9 || b == 13
 
 -- a line of at most 524,288 bytes is blank where all of them are spaces, tabs or CRs
 abbrev pub is_blank : List ℕ → Bool
-is_blank line = nat_le (length line) MAX_PAYLOAD && list_all is_blank_byte line
+is_blank line = nat_le (length line) longest_payload && list_all is_blank_byte line
 
 -- a line's payload is the line itself, where it is a record
 abbrev pub payload_of : List ℕ → Option (List ℕ)

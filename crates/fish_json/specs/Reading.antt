@@ -5,7 +5,7 @@ use Rattle.serde_json.specs.Find.{as_i64, get}
 use Rattle.fish_value.specs.Json.{reading}
 use Rattle.fish_value.specs.declared.field.Field.{Field}
 use Rattle.fish_value.specs.declared.field.Field.TheVariants as kind
-use Rattle.fish_json.specs.declared.record.TheConstants.{MAX_PAYLOAD}
+use Rattle.fish_value.specs.Limits.{longest_payload}
 
 -- the data where it is an object
 abbrev pub if_object : Data → Option Data
@@ -14,7 +14,7 @@ if_object _ = None
 
 -- the object that bytes are: none over 524,288 bytes, and none where they are not JSON or another JSON value
 unfoldable pub record_of : List ℕ → Option Data
-record_of b = if nat_le (length b) MAX_PAYLOAD then option_and_then if_object (reading b) else None
+record_of b = if nat_le (length b) longest_payload then option_and_then if_object (reading b) else None
 
 -- a number is an Int where it is whole and within 64 bits with a sign, else it is of another kind
 abbrev pub int_or_other : Option ℤ → Field

@@ -4,6 +4,7 @@ ghost use Rattle.std.specs.Prelude.{◌≡◌, ◌≢◌, ◌<◌, ◌≤◌, le
 ghost use Rattle.serde_json.specs.Data.{Data};
 ghost use Rattle.serde_json.specs.Read.{read as read_text};
 ghost use Rattle.fish_value.specs.Json.{reading};
+ghost use Rattle.fish_value.specs.Limits.{longest_payload};
 ghost use Rattle.fish_json.specs.Reading.{if_object, record_of};
 ghost use Rattle.fish_json.specs.Row.{row_contents};
 ghost use Rattle.fish_json.specs.Tape.{data_at, Stands};
@@ -36,12 +37,12 @@ impl JsonReader {
     pub fn read<'a>(&'a mut self, alloc: Global, b: &'a [u8]) -> Result<JsonRow<'a>, RecordRefusal>
         ensures ok { IfOk result (λ found. record_of b.now ≡ Some (row_contents found)) }
 
-        ensures length { OnOk result (length b.now ≤ MAX_PAYLOAD) }
-        ensures too_long { IsErrOf result RecordRefusal.TooLong → MAX_PAYLOAD < length b.now }
+        ensures length { OnOk result (length b.now ≤ longest_payload) }
+        ensures too_long { IsErrOf result RecordRefusal.TooLong → longest_payload < length b.now }
         ensures not_json { IsErrOf result RecordRefusal.NotJson
-            → (length b.now ≤ MAX_PAYLOAD) × (reading b.now ≡ None) }
+            → (length b.now ≤ longest_payload) × (reading b.now ≡ None) }
         ensures not_object { IsErrOf result RecordRefusal.NotObject
-            → (length b.now ≤ MAX_PAYLOAD) × IsSome (reading b.now) × (record_of b.now ≡ None) }
+            → (length b.now ≤ longest_payload) × IsSome (reading b.now) × (record_of b.now ≡ None) }
         ensures none { IfErr result (λ e. e ≢ RecordRefusal.OutOfMemory → record_of b.now ≡ None) }
     {
         if b.len() > MAX_PAYLOAD {

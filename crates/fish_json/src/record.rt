@@ -4,6 +4,7 @@ ghost use Rattle.std.specs.Prelude.{◌≡◌, ◌≢◌, ◌<◌, ◌≤◌, �
 ghost use Rattle.serde_json.specs.Data.{Data};
 ghost use Rattle.serde_json.specs.View.{view};
 ghost use Rattle.fish_value.specs.Json.{reading};
+ghost use Rattle.fish_value.specs.Limits.{longest_payload};
 ghost use Rattle.fish_json.specs.Reading.{at_path, field_in, kind_of, record_of};
 
 use fish_value::{Field, Path, Text, read_json};
@@ -52,12 +53,12 @@ impl JsonRecord {
     pub fn read(alloc: Global, b: &[u8]) -> Result<JsonRecord, RecordRefusal>
         ensures ok { IfOk result (λ found. record_of b.now ≡ Some (contents found)) }
 
-        ensures length { OnOk result (length b.now ≤ MAX_PAYLOAD) }
-        ensures too_long { IsErrOf result RecordRefusal.TooLong → MAX_PAYLOAD < length b.now }
+        ensures length { OnOk result (length b.now ≤ longest_payload) }
+        ensures too_long { IsErrOf result RecordRefusal.TooLong → longest_payload < length b.now }
         ensures not_json { IsErrOf result RecordRefusal.NotJson
-            → (length b.now ≤ MAX_PAYLOAD) × (reading b.now ≡ None) }
+            → (length b.now ≤ longest_payload) × (reading b.now ≡ None) }
         ensures not_object { IsErrOf result RecordRefusal.NotObject
-            → (length b.now ≤ MAX_PAYLOAD) × IsSome (reading b.now) × (record_of b.now ≡ None) }
+            → (length b.now ≤ longest_payload) × IsSome (reading b.now) × (record_of b.now ≡ None) }
         ensures none { IfErr result (λ e. e ≢ RecordRefusal.OutOfMemory → record_of b.now ≡ None) }
     {
         if b.len() > MAX_PAYLOAD {

@@ -11,7 +11,7 @@ use Rattle.fish_lang.specs.Token.{tokens}
 use Rattle.fish_lang.specs.declared.definition.Def.{Def}
 use Rattle.fish_lang.specs.declared.parse.LangRefusal.{LangRefusal}
 use Rattle.fish_lang.specs.declared.parse.LangRefusal.TheVariants as refusal
-use Rattle.fish_lang.specs.declared.parse.TheConstants.{MAX_SOURCE, MAX_CANONICAL}
+use Rattle.fish_lang.specs.Limits.{longest_source, longest_canonical}
 use Rattle.fish_lang.proofs.Verdicts.{run-verdict, run-only}
 
 -- what a comparison says
@@ -29,7 +29,7 @@ is_not_below a b h = grind (arith, nat_tests)
 
 -- a definition, by the length of its canonical text
 read-answer : (b : List ℕ) (d : Definition) (long : Bool)
-    → nat_lt MAX_CANONICAL (length (definition_text d)) ≡ long
+    → nat_lt longest_canonical (length (definition_text d)) ≡ long
     → IsVerdict (tokens b) (length b) (Ok d)
     → IsAnswer b (if long then Err (refusal.TooLong (length (definition_text d))) else Ok d)
 read-answer b d true e h = record { said = d; read = h; long = below _ _ e; size = refl }
@@ -37,7 +37,7 @@ read-answer b d false e h = (h, not_below _ _ e)
 
 answer-of : (b : List ℕ) (r : Result Definition LangRefusal) → IsVerdict (tokens b) (length b) r
     → IsAnswer b (and_then r unless_long)
-answer-of b (Ok d) h = read-answer b d (nat_lt MAX_CANONICAL (length (definition_text d))) refl h
+answer-of b (Ok d) h = read-answer b d (nat_lt longest_canonical (length (definition_text d))) refl h
 answer-of b (Err (refusal.Unexpected at)) h = h
 answer-of b (Err (refusal.TooDeep at)) h = h
 answer-of b (Err (refusal.NumberTooLarge at)) h = h
@@ -45,7 +45,7 @@ answer-of b (Err (refusal.ZeroWidth at)) h = h
 answer-of b (Err (refusal.TooLong n)) h = absurd h
 answer-of b (Err refusal.OutOfMemory) h = absurd h
 
-source-outcome : (b : List ℕ) (long : Bool) → nat_lt MAX_SOURCE (length b) ≡ long
+source-outcome : (b : List ℕ) (long : Bool) → nat_lt longest_source (length b) ≡ long
     → IsOutcome b (if long then Err (refusal.TooLong (length b)) else and_then
     (run start (tokens b) (length b)) unless_long)
 source-outcome b true e = inl (below _ _ e, refl)
@@ -54,19 +54,19 @@ source-outcome b false e =
 
 pub outcome-is : (b : List ℕ) → IsOutcome b (outcome b)
 unfolding outcome
-outcome-is b = source-outcome b (nat_lt MAX_SOURCE (length b)) refl
+outcome-is b = source-outcome b (nat_lt longest_source (length b)) refl
 
 only-answer : (b : List ℕ) (due : Result Definition LangRefusal) → IsAnswer b due
     → and_then (run start (tokens b) (length b)) unless_long ≡ due
 only-answer b (Ok d) h = rw (
   run-only (tokens b) (length b) (Ok d) h.0,
-  is_not_below MAX_CANONICAL
+  is_not_below longest_canonical
       (length (definition_text d)) h.1,
 )
 only-answer b (Err (refusal.TooLong n)) h =
     rw (
       run-only (tokens b) (length b) (Ok h.said) h.read,
-      is_below MAX_CANONICAL
+      is_below longest_canonical
           (length (definition_text h.said)) h.long,
       h.size,
     )
@@ -81,8 +81,8 @@ only-answer b (Err refusal.OutOfMemory) h = absurd h
 
 pub outcome-only : (b : List ℕ) (due : Result Definition LangRefusal) → IsOutcome b due → outcome b ≡ due
 unfolding outcome
-outcome-only b due (inl h) = rw (is_below MAX_SOURCE (length b) h.0, h.1)
-outcome-only b due (inr h) = rw (is_not_below MAX_SOURCE (length b) h.0) (only-answer b due h.1)
+outcome-only b due (inl h) = rw (is_below longest_source (length b) h.0, h.1)
+outcome-only b due (inr h) = rw (is_not_below longest_source (length b) h.0) (only-answer b due h.1)
 
 -- what is given is due
 pub Gives-due : (r : Result Def LangRefusal) (due : Result Definition LangRefusal) (b : List ℕ)

@@ -7,7 +7,7 @@ use Rattle.fish_lang.specs.Derivation.{Derivation, meaning}
 use Rattle.fish_lang.specs.Token.{tokens, token_of}
 use Rattle.fish_lang.specs.declared.parse.LangRefusal.{LangRefusal}
 use Rattle.fish_lang.specs.declared.parse.LangRefusal.TheVariants as refusal
-use Rattle.fish_lang.specs.declared.parse.TheConstants.{MAX_SOURCE, MAX_CANONICAL}
+use Rattle.fish_lang.specs.Limits.{longest_source, longest_canonical}
 use Rattle.fish_lang.specs.declared.fault.Fault.{Fault}
 use Rattle.fish_lang.specs.declared.fault.Fault.TheVariants.{TooDeep, NumberTooLarge, ZeroWidth}
 use Rattle.fish_lang.specs.declared.token.Token.{Token}
@@ -84,19 +84,19 @@ IsVerdict ts end (Err refusal.OutOfMemory) = ⊥
 pub record HasLongText (ts : List Placed) (n : ℕ) : Type 0 where
   pub said : Definition
   pub read : IsRead ts said
-  pub long : MAX_CANONICAL < length (definition_text said)
+  pub long : longest_canonical < length (definition_text said)
   pub size : n ≡ length (definition_text said)
 
 -- what a source of no more than the most bytes is
 abbrev pub IsAnswer : List ℕ → Result Definition LangRefusal → Type 0
-IsAnswer b (Ok d) = IsRead (tokens b) d × (length (definition_text d) ≤ MAX_CANONICAL)
+IsAnswer b (Ok d) = IsRead (tokens b) d × (length (definition_text d) ≤ longest_canonical)
 IsAnswer b (Err (refusal.TooLong n)) = HasLongText (tokens b) n
 IsAnswer b (Err e) = IsVerdict (tokens b) (length b) (Err e)
 
 -- what a source is: too long, or what its tokens are
 abbrev pub IsOutcome : List ℕ → Result Definition LangRefusal → Type 0
-IsOutcome b r = ((MAX_SOURCE < length b) × (r ≡ Err (refusal.TooLong (length b)))) ⊎
-    ((length b ≤ MAX_SOURCE) × IsAnswer b r)
+IsOutcome b r = ((longest_source < length b) × (r ≡ Err (refusal.TooLong (length b)))) ⊎
+    ((length b ≤ longest_source) × IsAnswer b r)
 
 -- the source is this definition
 abbrev pub IsAccepted : List ℕ → Definition → Type 0

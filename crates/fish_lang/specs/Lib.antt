@@ -3,6 +3,7 @@ pub mod Definition
 pub mod Derivation
 pub mod Grammar
 pub mod Language
+pub mod Limits
 pub mod Machine
 pub mod Moves
 pub mod Outcome

@@ -8,7 +8,7 @@ use Rattle.fish_lang.specs.Moves.{advance, fault_at, finish}
 use Rattle.fish_lang.specs.Token.{tokens}
 use Rattle.fish_lang.specs.declared.parse.LangRefusal.{LangRefusal}
 use Rattle.fish_lang.specs.declared.parse.LangRefusal.TheVariants as refusal
-use Rattle.fish_lang.specs.declared.parse.TheConstants.{MAX_SOURCE, MAX_CANONICAL}
+use Rattle.fish_lang.specs.Limits.{longest_source, longest_canonical}
 use Rattle.fish_lang.specs.declared.fault.Fault.{Fault}
 use Rattle.fish_lang.specs.declared.fault.Fault.TheVariants.{TooDeep, NumberTooLarge, ZeroWidth}
 use Rattle.fish_lang.specs.declared.token.Placed.{Placed}
@@ -57,10 +57,10 @@ run state (placed ∷ more) end = and_then (turn state placed) (λ next. run nex
 
 -- a definition, unless its canonical text is too long
 abbrev pub unless_long : Definition → Result Definition LangRefusal
-unless_long d = if nat_lt MAX_CANONICAL (length (definition_text d)) then Err
+unless_long d = if nat_lt longest_canonical (length (definition_text d)) then Err
     (refusal.TooLong (length (definition_text d))) else Ok d
 
 -- a source
 unfoldable pub outcome : List ℕ → Result Definition LangRefusal
-outcome b = if nat_lt MAX_SOURCE (length b) then Err (refusal.TooLong (length b)) else and_then
+outcome b = if nat_lt longest_source (length b) then Err (refusal.TooLong (length b)) else and_then
     (run start (tokens b) (length b)) unless_long

@@ -2,7 +2,7 @@
 use Rattle.std.specs.Prelude.{ℕ, List, [], ◌∷◌, length, map, nat_le, if◌then◌else◌}
 use Rattle.std.specs.List.{slice_split}
 use Rattle.fish_json.specs.Lines.{is_blank, is_line_end, lines_of, without_mark}
-use Rattle.fish_json.specs.declared.record.TheConstants.{MAX_PAYLOAD}
+use Rattle.fish_value.specs.Limits.{longest_payload}
 use Rattle.fish_lines.specs.declared.splitter.Line.{Line}
 use Rattle.fish_lines.specs.declared.splitter.Line.TheVariants.{Whole, TooLong}
 
@@ -32,7 +32,7 @@ with_line line more = if is_blank line then more else line ∷ more
 
 -- a line as it is given: its bytes, or that it has more than 524,288
 abbrev pub given : List ℕ → Line
-given line = if nat_le (length line) MAX_PAYLOAD then Whole line else TooLong
+given line = if nat_le (length line) longest_payload then Whole line else TooLong
 
 -- the lines among some parts, as they are given: each without one CR at its end, and the blank ones count nowhere
 abbrev pub given_of : List (List ℕ) → List Line

@@ -1,10 +1,10 @@
 //! The records of a whole file: their payloads in order, and how many lines or rows are none.
 
 ghost use Rattle.std.specs.Prelude.{◌≡◌, ◌↔◌, ◌<◌, length, IfOk, IsErrOf, IsUtf8};
+ghost use Rattle.fish_value.specs.Limits.{longest_file};
 ghost use Rattle.fish_json.specs.Lines as json;
 ghost use Rattle.fish_json.specs.Lines.{payload_of};
 ghost use Rattle.fish_csv.specs.Rows as csv;
-ghost use Rattle.fish_csv.specs.declared.file.TheConstants.{MAX_FILE};
 ghost use Rattle.fish_lines.specs.File.{accepted, outcomes, refused as refused_of};
 
 use crate::found::{Records, RecordsRefusal};
@@ -21,7 +21,7 @@ pub fn records(alloc: Global, form: Form, header: bool, b: &[u8]) -> Result<Reco
     ensures payloads { IfOk result (λ found. found.payloads ≡ accepted (outcomes form header b.now)) }
     ensures refused { IfOk result (λ found. found.refused ≡ refused_of (outcomes form header b.now)) }
 
-    ensures too_long { IsErrOf result RecordsRefusal.FileTooLong ↔ ((form ≡ Form.Csv) × (MAX_FILE < length b.now)) }
+    ensures too_long { IsErrOf result RecordsRefusal.FileTooLong ↔ ((form ≡ Form.Csv) × (longest_file < length b.now)) }
 {
     match form {
         Form::Json => Ok(json_records(alloc, b)?),
@@ -34,7 +34,7 @@ fn csv_records(alloc: Global, header: bool, b: &[u8]) -> Result<Records, Records
     ensures payloads { IfOk result (λ found. found.payloads ≡ accepted (csv.outcomes header b.now)) }
     ensures refused { IfOk result (λ found. found.refused ≡ refused_of (csv.outcomes header b.now)) }
 
-    ensures too_long { IsErrOf result RecordsRefusal.FileTooLong ↔ (MAX_FILE < length b.now) }
+    ensures too_long { IsErrOf result RecordsRefusal.FileTooLong ↔ (longest_file < length b.now) }
 {
     match rows(alloc, b, header) {
         Ok(CsvRows { texts, refused }) => Ok(Records {

@@ -7,7 +7,7 @@ ghost use Rattle.std.specs.Prelude.{◌≡◌, ◌≤◌, ◌++◌, ◌∷◌, �
 ghost use Rattle.std.specs.List.{slice_split};
 ghost use Rattle.fish_json.specs.Lines.{is_line_end};
 ghost use Rattle.fish_lines.specs.Lines.{given_of};
-ghost use Rattle.fish_lines.specs.Open.{IsOpen, cr_if, ends_in_cr, line_in};
+ghost use Rattle.fish_lines.specs.Open.{IsOpen, cr_if, ends_in_cr, line_in, longest_kept};
 
 use crate::line::{is_blank, without_carriage_return};
 use crate::splitter::Line;
@@ -110,7 +110,7 @@ fn ends_in_cr(b: &[u8]) -> bool
 
 /// Puts a CR, where there is to be one, and a text behind bytes, as far as they are kept.
 fn append(alloc: Global, bytes: &mut Bytes, cr: bool, text: &[u8]) -> Result<(), AllocError>
-    ensures ok { OnOk result (length bytes.old ≤ KEPT → bytes.new ≡ take KEPT (bytes.old ++ cr_if cr ++ text.now)) }
+    ensures ok { OnOk result (length bytes.old ≤ longest_kept → bytes.new ≡ take longest_kept (bytes.old ++ cr_if cr ++ text.now)) }
     ensures err { OnErr result (bytes.new ≡ bytes.old) }
 {
     if !cr {
@@ -123,7 +123,7 @@ fn append(alloc: Global, bytes: &mut Bytes, cr: bool, text: &[u8]) -> Result<(),
 
 /// Puts as much of a text behind bytes as is kept.
 fn append_kept(bytes: &mut Bytes, text: &[u8]) -> Result<(), AllocError>
-    ensures ok { OnOk result (length bytes.old ≤ KEPT → bytes.new ≡ take KEPT (bytes.old ++ text.now)) }
+    ensures ok { OnOk result (length bytes.old ≤ longest_kept → bytes.new ≡ take longest_kept (bytes.old ++ text.now)) }
     ensures err { OnErr result (bytes.new ≡ bytes.old) }
 {
     bytes.append(first(text, KEPT.saturating_sub(bytes.len())))

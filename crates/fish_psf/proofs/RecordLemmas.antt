@@ -5,7 +5,7 @@ use Rattle.std.proofs.lemmas.Bool.Decides.{nat_tests}
 use Rattle.serde_json.specs.Data.{Data}
 use Rattle.fish_value.specs.declared.field.Form.TheVariants.{Json, Csv}
 use Rattle.fish_json.specs.Reading.{record_of, field_in as json_field_in}
-use Rattle.fish_json.specs.declared.record.TheConstants.{MAX_PAYLOAD}
+use Rattle.fish_value.specs.Limits.{longest_payload}
 use Rattle.fish_json.proofs.Records.{field_of_record}
 use Rattle.fish_csv.specs.Reading.{row_of, field_in as csv_field_in}
 use Rattle.fish_csv.proofs.Columns.{field_of_row}
@@ -27,9 +27,9 @@ pub json_none : (b : List ℕ) → record_of b ≡ None → is_record Json b ≡
 unfolding is_record
 json_none b h = ap is_some h
 
-pub json_long : (b : List ℕ) → MAX_PAYLOAD < length b → is_record Json b ≡ false
+pub json_long : (b : List ℕ) → longest_payload < length b → is_record Json b ≡ false
 unfolding is_record record_of
-json_long b h = (let long : nat_le (length b) MAX_PAYLOAD ≡ false = grind (arith, nat_tests) in rw long refl)
+json_long b h = (let long : nat_le (length b) longest_payload ≡ false = grind (arith, nat_tests) in rw long refl)
 
 -- a row that was read is a record with the row's fields
 pub csv_accepted : (b : List ℕ) (fields : List (List ℕ)) → row_of b ≡ Some fields → is_record Csv b ≡ true
@@ -46,7 +46,7 @@ pub csv_none : (b : List ℕ) → row_of b ≡ None → is_record Csv b ≡ fals
 unfolding is_record
 csv_none b h = ap is_some h
 
-pub csv_long : (b : List ℕ) → MAX_PAYLOAD < length b → is_record Csv b ≡ false
+pub csv_long : (b : List ℕ) → longest_payload < length b → is_record Csv b ≡ false
 csv_long b h = csv_none b (row_of_long b h)
 
 -- both forms, each with what was read and with what wasn't

@@ -1,6 +1,7 @@
 //! A payload of either form, read as a record.
 
 ghost use Rattle.std.specs.Prelude.{◌≡◌, ◌≢◌, ◌↔◌, ◌+◌, ◌<◌, ◌≤◌, true, false, length, IfOk, IfErr, OnOk, IsErrOf};
+ghost use Rattle.fish_value.specs.Limits.{longest_payload};
 ghost use Rattle.fish_psf.specs.Fields.{fields_of, form_of};
 ghost use Rattle.fish_psf.specs.Records.{fields_of_payload, is_record};
 
@@ -36,9 +37,9 @@ pub fn parse<P: Ledger>(
     ensures accepted { OnOk result (is_record form b.now ≡ true) }
     ensures counted { parses.new ≡ parses.old + 1 }
 
-    ensures too_long { IsErrOf result PsfRefusal.TooLong ↔ (MAX_PAYLOAD < length b.now) }
+    ensures too_long { IsErrOf result PsfRefusal.TooLong ↔ (longest_payload < length b.now) }
     ensures not_record { IsErrOf result PsfRefusal.NotRecord
-        → (length b.now ≤ MAX_PAYLOAD) × (is_record form b.now ≡ false) }
+        → (length b.now ≤ longest_payload) × (is_record form b.now ≡ false) }
     ensures none { IfErr result (λ e. e ≢ PsfRefusal.OutOfMemory → is_record form b.now ≡ false) }
 {
     parses.tick();
@@ -55,9 +56,9 @@ fn json_record(alloc: Global, b: &[u8]) -> Result<Record, PsfRefusal>
     ensures fields { IfOk result (λ found. fields_of found ≡ fields_of_payload Form.Json b.now) }
     ensures accepted { OnOk result (is_record Form.Json b.now ≡ true) }
 
-    ensures too_long { IsErrOf result PsfRefusal.TooLong ↔ (MAX_PAYLOAD < length b.now) }
+    ensures too_long { IsErrOf result PsfRefusal.TooLong ↔ (longest_payload < length b.now) }
     ensures not_record { IsErrOf result PsfRefusal.NotRecord
-        → (length b.now ≤ MAX_PAYLOAD) × (is_record Form.Json b.now ≡ false) }
+        → (length b.now ≤ longest_payload) × (is_record Form.Json b.now ≡ false) }
     ensures none { IfErr result (λ e. e ≢ PsfRefusal.OutOfMemory → is_record Form.Json b.now ≡ false) }
 {
     if b.len() > MAX_PAYLOAD {
@@ -78,9 +79,9 @@ fn csv_record(alloc: Global, b: &[u8]) -> Result<Record, PsfRefusal>
     ensures fields { IfOk result (λ found. fields_of found ≡ fields_of_payload Form.Csv b.now) }
     ensures accepted { OnOk result (is_record Form.Csv b.now ≡ true) }
 
-    ensures too_long { IsErrOf result PsfRefusal.TooLong ↔ (MAX_PAYLOAD < length b.now) }
+    ensures too_long { IsErrOf result PsfRefusal.TooLong ↔ (longest_payload < length b.now) }
     ensures not_record { IsErrOf result PsfRefusal.NotRecord
-        → (length b.now ≤ MAX_PAYLOAD) × (is_record Form.Csv b.now ≡ false) }
+        → (length b.now ≤ longest_payload) × (is_record Form.Csv b.now ≡ false) }
     ensures none { IfErr result (λ e. e ≢ PsfRefusal.OutOfMemory → is_record Form.Csv b.now ≡ false) }
 {
     if b.len() > MAX_PAYLOAD {

@@ -1,4 +1,5 @@
 pub mod Json
+pub mod Limits
 pub mod Number
 pub mod Same
 pub mod ValueText

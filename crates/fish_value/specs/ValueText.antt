@@ -6,8 +6,8 @@ use Rattle.std.specs.Str.Parse.{true_text, false_text}
 use Rattle.serde_json.specs.Data.{Data}
 use Rattle.serde_json.specs.Find.{as_str}
 use Rattle.fish_value.specs.Json.{quoted, reading}
+use Rattle.fish_value.specs.Limits.{longest_value}
 use Rattle.fish_value.specs.Number.{int_of}
-use Rattle.fish_value.specs.declared.value_text.TheConstants.{MAX_VALUE}
 use Rattle.fish_value.specs.declared.value.Value.{Value}
 use Rattle.fish_value.specs.declared.value.Value.TheVariants as kind
 
@@ -20,7 +20,7 @@ value_print (kind.Text s) = quoted s
 
 -- a text as a value: none over 256 bytes
 abbrev pub text_value : List ℕ → Option Value
-text_value s = if nat_le (length s) MAX_VALUE then Some (kind.Text s) else None
+text_value s = if nat_le (length s) longest_value then Some (kind.Text s) else None
 
 -- the text begins and ends with a quotation mark
 abbrev pub is_quoted : List ℕ → Bool

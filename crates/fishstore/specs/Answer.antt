@@ -1,5 +1,6 @@
 -- What a command answers, from the whole list of a file's bytes.
 use Rattle.std.specs.Prelude.{ℕ, List, [], length, map, nat_lt, if◌then◌else◌}
+use Rattle.fish_value.specs.Limits.{longest_file}
 use Rattle.fish_value.specs.declared.field.Form.TheVariants.{Json}
 use Rattle.fish_value.specs.declared.row.Row.{Row}
 use Rattle.fish_value.specs.declared.value.Value.{Value}
@@ -10,7 +11,6 @@ use Rattle.fish_psf.specs.Eval.{eval}
 use Rattle.fish_psf.specs.Select.{Evaluation, Entry, stored, select}
 use Rattle.fish_report.specs.declared.item.Item.{Item}
 use Rattle.fish_report.specs.declared.item.Item.TheVariants as item
-use Rattle.fishstore.specs.declared.run.TheConstants.{MAX_FILE}
 use Rattle.fishstore.specs.Words.{Asked}
 
 -- what a definition gives for a payload
@@ -33,4 +33,4 @@ selection asked b =
 
 -- what `select` answers for a file
 abbrev pub answer_of : Asked → List ℕ → Item
-answer_of asked b = if nat_lt MAX_FILE (length b) then item.SelectTooLong asked.file else selection asked b
+answer_of asked b = if nat_lt longest_file (length b) then item.SelectTooLong asked.file else selection asked b

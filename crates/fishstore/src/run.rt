@@ -4,6 +4,7 @@ ghost use Rattle.std.specs.Prelude.{◌≡◌, ◌∷◌, [], IfOk, IfErr, IfSom
 ghost use Rattle.fish_outside.specs.Causes.{Rose};
 ghost use Rattle.fish_outside.specs.Told.{StillTold};
 ghost use Rattle.fish_report.specs.ReportText.{report_text};
+ghost use Rattle.fish_value.specs.Limits.{longest_file};
 ghost use Rattle.fishstore.specs.Answer.{answer_of};
 ghost use Rattle.fishstore.specs.Contents.{IsContents, IsWithin};
 ghost use Rattle.fishstore.specs.Faults.{IsEarlyEnd, IsStepFault};
@@ -96,8 +97,8 @@ fn prepare_select<H: Host>(alloc: Global, command: &Select, host: &mut H) -> Res
 
 /// The report of a command for what its file holds.
 fn report_of(alloc: Global, command: &Select, contents: Contents) -> Result<Report, AllocError>
-    requires { IsWithin MAX_FILE contents }
-    ensures { IfOk result (λ report. (b : _) → IsContents MAX_FILE b contents
+    requires { IsWithin longest_file contents }
+    ensures { IfOk result (λ report. (b : _) → IsContents longest_file b contents
         → report.items ≡ answer_of (asked_of command.now) b ∷ []) }
 {
     let item = match contents {

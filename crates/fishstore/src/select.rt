@@ -3,11 +3,11 @@
 ghost use Rattle.std.specs.Prelude.{◌≡◌, ◌+◌, ◌<◌, ◌≤◌, ◌^◌, ◌++◌, ◌∷◌, [], length, IfOk, IsUtf8, OnOk};
 ghost use Rattle.fish_lines.specs.Lines.{file_lines};
 ghost use Rattle.fish_psf.specs.Select.{has_value};
+ghost use Rattle.fish_value.specs.Limits.{longest_file};
 ghost use Rattle.fishstore.specs.Answer.{selection};
 ghost use Rattle.fishstore.specs.Tally.{no_lines, with_line, with_lines, with_record};
 ghost use Rattle.fishstore.specs.Words.{asked_of};
 
-use crate::run::MAX_FILE;
 use crate::words::Select;
 use fish_json::{JsonReader, RecordRefusal};
 use fish_lines::Lines;
@@ -29,7 +29,7 @@ pub struct Tally {
 
 /// The answer of `select` for a file.
 pub fn select(alloc: Global, command: &Select, b: &[u8]) -> Result<Item, AllocError>
-    requires { length b.now ≤ MAX_FILE }
+    requires { length b.now ≤ longest_file }
     ensures { IfOk result (λ item. item ≡ selection (asked_of command.now) b.now) }
 {
     let mut tally = tally_of(alloc, command, b)?;
@@ -43,7 +43,7 @@ pub fn select(alloc: Global, command: &Select, b: &[u8]) -> Result<Item, AllocEr
 
 /// What all lines of a file give.
 fn tally_of(alloc: Global, command: &Select, b: &[u8]) -> Result<Tally, AllocError>
-    requires { length b.now ≤ MAX_FILE }
+    requires { length b.now ≤ longest_file }
     ensures { IfOk result (λ tally. tally ≡ with_lines (asked_of command.now) no_lines (file_lines b.now)) }
 {
     let mut tally = Tally {
