@@ -1,5 +1,5 @@
 -- Which fault each refusal of a step is, and where a step may end by it.
-use Rattle.std.specs.Prelude.{ℕ, List, ◌++◌, codes, decimal, Err, ⊤}
+use Rattle.std.specs.Prelude.{ℕ, List, ◌++◌, codes, decimal, Option, Some, None, Err, ⊤}
 use Rattle.fish_outside.specs.Causes.{Rose}
 use Rattle.fish_outside.specs.declared.fault.FeedRefusal.{FeedRefusal}
 use Rattle.fish_outside.specs.declared.fault.FeedRefusal.TheVariants as feed
@@ -30,6 +30,14 @@ fault_line (fault.Usage cause.Value) = codes "fault usage value"
 fault_line fault.Input = codes "fault input"
 fault_line fault.Output = codes "fault output"
 fault_line fault.Memory = codes "fault memory"
+
+-- the fault that standard error tells of: each, but for none
+abbrev pub told_fault : Fault → Option Fault
+told_fault fault.None = None
+told_fault (fault.Usage cause) = Some (fault.Usage cause)
+told_fault fault.Input = Some fault.Input
+told_fault fault.Output = Some fault.Output
+told_fault fault.Memory = Some fault.Memory
 
 -- what a refusal of the words ends a run by
 abbrev pub words_fault : WordsRefusal → Fault

@@ -36,11 +36,11 @@ fn main(rt: HostRuntime) -> ExitCode {
             },
         ),
     };
-    if outcome.fault != Fault::None {
+    if let Some(fault) = outcome.told() {
         // Where standard error is closed, the status still tells.
-        let _ = rt.eprintln(outcome.fault);
+        let _ = rt.eprintln(fault);
     }
-    ExitCode::from(outcome.status)
+    outcome.exit_code()
 }
 
 /// The words of the command line, without the program's name.

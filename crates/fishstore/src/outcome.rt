@@ -2,7 +2,9 @@
 
 ghost use Rattle.std.specs.Prelude.{◌≡◌};
 ghost use Rattle.std.specs.List.{list_any};
+ghost use Rattle.std.specs.Process.{exit_status};
 ghost use Rattle.fish_report.specs.ReportText.{is_refusal};
+ghost use Rattle.fishstore.specs.Faults.{told_fault};
 ghost use Rattle.fishstore.specs.Outcome.{status_of};
 
 use crate::words::{UsageCause, WordsRefusal};
@@ -11,6 +13,7 @@ use fish_outside::FeedRefusal;
 use fish_report::{Item, Report};
 use std::alloc::AllocError;
 use std::fmt;
+use std::process::ExitCode;
 
 /// What stopped a run.
 #[derive(Clone, Copy, Debug, PartialEq, Eq)]
@@ -128,6 +131,23 @@ impl Outcome {
             fault,
             report,
         }
+    }
+
+    /// The fault whose line goes to standard error, where there is one.
+    pub fn told(&self) -> Option<Fault>
+        ensures { result ≡ told_fault self.now.fault }
+    {
+        match self.fault {
+            Fault::None => None,
+            fault => Some(fault),
+        }
+    }
+
+    /// The status with which the process ends.
+    pub fn exit_code(&self) -> ExitCode
+        ensures { exit_status result ≡ self.now.status }
+    {
+        ExitCode::from(self.status)
     }
 }
 
