@@ -1,7 +1,7 @@
 -- What a read of a whole file gives.
-use Rattle.std.specs.Prelude.{◌≡◌, ℕ, ◌<◌, ◌≤◌, List, length, Some, Result, IsErrOf, ⊤}
+use Rattle.std.specs.Prelude.{◌≡◌, ℕ, ◌<◌, ◌≤◌, List, length, Option, Some, Result, IsErrOf, ⊤}
 use Rattle.fish_outside.specs.Causes.{Rose}
-use Rattle.fish_outside.specs.Told.{Files}
+use Rattle.fish_outside.specs.Told.{Files, Took}
 use Rattle.fish_outside.specs.declared.fault.FeedRefusal.{FeedRefusal}
 use Rattle.fish_outside.specs.declared.fault.FeedRefusal.TheVariants.{Failed}
 use Rattle.fishstore.specs.declared.file.Contents.{Contents}
@@ -16,6 +16,10 @@ IsContents limit b TooLong = limit < length b
 abbrev pub IsWithin : ℕ → Contents → Type 0
 IsWithin limit (Whole bytes) = length bytes ≤ limit
 IsWithin limit TooLong = ⊤
+
+-- at most so many bytes were taken from the front of what was left
+abbrev pub TookAtMost : ℕ → Option (List ℕ) → Option (List ℕ) → Type 0
+TookAtMost most old new = (bytes : List ℕ) × (length bytes ≤ most) × Took old new bytes
 
 -- the file of this name was read
 abbrev pub ReadsFile : ℕ → List ℕ → Files → Contents → Type 0

@@ -2,7 +2,7 @@
 
 ghost use Rattle.std.specs.Prelude.{◌≡◌, ◌+◌, ◌<◌, ◌≤◌, ◌^◌, ◌++◌, length, take, IfOk, IfSome, Some, vec_len};
 ghost use Rattle.fish_outside.specs.Told.{IsAtEnd, StillTold, Took};
-ghost use Rattle.fishstore.specs.Contents.{HasReadCause, IsContents, IsWithin, ReadsFile};
+ghost use Rattle.fishstore.specs.Contents.{HasReadCause, IsContents, IsWithin, ReadsFile, TookAtMost};
 
 use fish_outside::{FeedRefusal, Host, Source};
 use fish_value::{Bytes, Text};
@@ -51,6 +51,7 @@ fn read_whole<S: Source>(
     ensures whole { IfOk result (λ contents.
         IfSome (S.left source.new) (λ rest. (b : _) × (S.left source.old ≡ Some b) × IsContents limit b contents)) }
     ensures within { IfOk result (IsWithin limit) }
+    ensures most { TookAtMost (limit + 1) (S.left source.old) (S.left source.new) }
 
     ensures cause { HasReadCause (S.faults source.old) (S.faults source.new) result }
 {
@@ -77,6 +78,7 @@ fn read_part<S: Source>(
     ensures took { IfOk result (λ n. (more : _) × (bytes.new ≡ bytes.old ++ more)
         × Took (S.left source.old) (S.left source.new) more) }
     ensures end { IfOk result (λ n. 0 < length part.old → n ≡ 0 → IsAtEnd (S.left source.new)) }
+    ensures most { TookAtMost (length part.old) (S.left source.old) (S.left source.new) }
     ensures cause { HasReadCause (S.faults source.old) (S.faults source.new) result }
 {
     let count = source.read(part)?;
