@@ -4,21 +4,19 @@
 //! standard output, and ends with the status of the run.
 #![tactic(auto)]
 
+mod args;
 mod file;
 mod outcome;
 mod run;
 mod select;
 mod words;
 
+use args::words_of;
 use fish_outside::{FileHost, OutSink};
 use fish_report::{Items, Report};
-use fish_value::{Text, Texts};
-use outcome::{Fault, Outcome};
+use outcome::Outcome;
 use run::run;
 use std::process::ExitCode;
-use std::rt::Env;
-use std::{env, io};
-use words::UsageCause;
 
 fn main(rt: HostRuntime) -> ExitCode {
     let outcome = match words_of(&rt) {
@@ -41,26 +39,4 @@ fn main(rt: HostRuntime) -> ExitCode {
         let _ = rt.eprintln(fault);
     }
     outcome.exit_code()
-}
-
-/// The words of the command line, without the program's name.
-fn words_of<R: Env + AllocGlobal>(rt: &R) -> Result<Texts, Fault> {
-    let mut words = Texts::new(rt.alloc());
-    let args = match env::args(rt) {
-        Ok(args) => args,
-        Err(error) => return Err(words_fault(&error)),
-    };
-    for word in args.skip(1) {
-        words.push(Text::from_string(word))?;
-    }
-    Ok(words)
-}
-
-/// Words that are no text are no command.
-fn words_fault(error: &io::Error) -> Fault {
-    if error.kind() == io::ErrorKind::OutOfMemory {
-        Fault::Memory
-    } else {
-        Fault::Usage(UsageCause::Words)
-    }
 }

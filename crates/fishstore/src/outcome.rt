@@ -16,7 +16,7 @@ use std::fmt;
 use std::process::ExitCode;
 
 /// What stopped a run.
-#[derive(Clone, Copy, Debug, PartialEq, Eq)]
+#[derive(Clone, Copy, Debug)]
 pub enum Fault {
     /// Nothing did.
     None,

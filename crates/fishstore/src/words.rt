@@ -20,7 +20,7 @@ pub struct Select {
 }
 
 /// Why words are no command.
-#[derive(Clone, Copy, Debug, PartialEq, Eq)]
+#[derive(Clone, Copy, Debug)]
 pub enum UsageCause {
     /// They are off the grammar of commands.
     Words,
@@ -31,7 +31,7 @@ pub enum UsageCause {
 }
 
 /// Why a command was not read.
-#[derive(Clone, Copy, Debug, PartialEq, Eq)]
+#[derive(Clone, Copy, Debug)]
 pub enum WordsRefusal {
     Usage(UsageCause),
     OutOfMemory,
