@@ -16,7 +16,7 @@ mod value;
 mod value_text;
 
 pub use bytes::Bytes;
-pub use field::{Field, Form};
+pub use field::{Field, FieldView, Form};
 pub use json::{json_text, read_json};
 pub use number::read_int;
 pub use path::Path;
