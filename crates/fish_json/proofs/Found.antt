@@ -1,5 +1,5 @@
 -- The last member with a name, in a tape, is the one that stays in the data: equal names.
-use Rattle.std.proofs.Common.{◌≡◌, ℕ, ◌+◌, ◌<◌, ◌≤◌, List, ◌∷◌, length, drop, get_or, Bool, true, false, cond, Option, Some, None, option_map, option_and_then, Result, Ok, Err, IfOk, bytes_eq, refl, sym, ap, ◌∙◌, subst, drop-cons, add-one, suc}
+use Rattle.std.proofs.Common.{◌≡◌, ℕ, ◌+◌, ◌<◌, ◌≤◌, List, ◌∷◌, length, drop, get_or, Bool, true, false, cond, Option, Some, None, option_map, option_and_then, bytes_eq, refl, sym, ap, ◌∙◌, subst, drop-cons, add-one, suc}
 use Rattle.std.proofs.lemmas.List.{drop_all}
 use Rattle.std.proofs.lemmas.Slice.Eq.{bytes_eq-Decides}
 use Rattle.json.specs.Token.{Token}
@@ -124,8 +124,7 @@ path_on path more first d e r is some h =
     subst (FindsData r) (sym (ap (λ l. at_path l d) is ∙ ap (option_and_then (at_path more)) some)) h
 
 -- what was found is the field
-pub field_found : {E : Type 0} (path : List (List ℕ)) (d e : Data) (r : Result Field E)
-    → at_path path d ≡ Some e → IfOk r (λ f. f ≡ kind_of e) → IfOk r (λ f. f ≡ field_in path d)
+pub field_found : (path : List (List ℕ)) (d e : Data) (f : Field) → at_path path d ≡ Some e → f ≡ kind_of e
+    → f ≡ field_in path d
 unfolding field_in
-field_found path d e (Ok f) is h = h ∙ sym (ap field_of is)
-field_found path d e (Err x) is h = tt
+field_found path d e f is h = h ∙ sym (ap field_of is)

@@ -5,9 +5,10 @@ ghost use Rattle.serde_json.specs.Data.{Data};
 ghost use Rattle.serde_json.specs.View.{view};
 ghost use Rattle.fish_value.specs.Json.{reading};
 ghost use Rattle.fish_value.specs.Limits.{longest_payload};
+ghost use Rattle.fish_value.specs.Seen.{field_seen};
 ghost use Rattle.fish_json.specs.Reading.{at_path, field_in, kind_of, record_of};
 
-use fish_value::{Field, Path, Text, read_json};
+use fish_value::{Field, FieldView, Path, Text, read_json};
 use std::alloc::{AllocError, Global};
 use thiserror::Error;
 
@@ -73,20 +74,27 @@ impl JsonRecord {
         Ok(JsonRecord { value })
     }
 
-    /// What the record has at a path. An object, an array, and a number that is no whole number of
-    /// 64 bits are [`Field::Other`].
+    /// What the record has at a path, its text lent. An object, an array, and a number that is no
+    /// whole number of 64 bits are [`FieldView::Other`]. It takes no memory.
     #[tactic(auto, unfolding(crate::specs::Contents::contents, crate::specs::Reading::field_in))]
-    pub fn get(&self, alloc: Global, path: &Path) -> Result<Field, AllocError>
-        ensures { IfOk result (λ field. field ≡ field_in path.now (contents self.now)) }
+    pub fn look(&self, path: &Path) -> FieldView<'_>
+        ensures { field_seen result ≡ field_in path.now (contents self.now) }
     {
         let (first, more) = path.parts();
         let Some(outer) = self.value.get(first.as_str()) else {
-            return Ok(Field::Missing);
+            return FieldView::Missing;
         };
         let Some(inner) = walk(outer, more) else {
-            return Ok(Field::Missing);
+            return FieldView::Missing;
         };
-        field(alloc, inner)
+        field(inner)
+    }
+
+    /// The same, its text copied.
+    pub fn get(&self, alloc: Global, path: &Path) -> Result<Field, AllocError>
+        ensures { IfOk result (λ field. field ≡ field_in path.now (contents self.now)) }
+    {
+        self.look(path).to_field(alloc)
     }
 }
 
@@ -101,15 +109,18 @@ fn walk<'a>(value: &'a serde_json::Value, steps: &[Text]) -> Option<&'a serde_js
     Some(found)
 }
 
-/// A value as a field. Its text is copied.
-fn field(alloc: Global, value: &serde_json::Value) -> Result<Field, AllocError>
-    ensures { IfOk result (λ field. field ≡ kind_of (view value.now)) }
+/// A value as a field. Its text is lent.
+fn field(value: &serde_json::Value) -> FieldView<'_>
+    ensures { field_seen result ≡ kind_of (view value.now) }
 {
     match value {
-        serde_json::Value::Null => Ok(Field::Null),
-        serde_json::Value::Bool(truth) => Ok(Field::Bool(*truth)),
-        serde_json::Value::Number(number) => Ok(number.as_i64().map_or(Field::Other, Field::Int)),
-        serde_json::Value::String(text) => Ok(Field::Text(Text::copy_of(alloc, text.as_str())?)),
-        serde_json::Value::Array(_) | serde_json::Value::Object(_) => Ok(Field::Other),
+        serde_json::Value::Null => FieldView::Null,
+        serde_json::Value::Bool(truth) => FieldView::Bool(*truth),
+        serde_json::Value::Number(number) => match number.as_i64() {
+            Some(number) => FieldView::Int(number),
+            None => FieldView::Other,
+        },
+        serde_json::Value::String(text) => FieldView::Text(text.as_str()),
+        serde_json::Value::Array(_) | serde_json::Value::Object(_) => FieldView::Other,
     }
 }

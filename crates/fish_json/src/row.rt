@@ -4,11 +4,12 @@ ghost use Rattle.std.specs.Prelude.{◌≡◌, IfOk, IsSome, unwrap_or, option_a
 ghost use Rattle.serde_json.specs.Data.{Data, null};
 ghost use Rattle.serde_json.specs.Find.{as_i64, get};
 ghost use Rattle.serde_json.specs.Read.{number_of};
+ghost use Rattle.fish_value.specs.Seen.{field_seen};
 ghost use Rattle.fish_json.specs.Reading.{at_path, field_in, int_or_other, kind_of};
 ghost use Rattle.fish_json.specs.Tape.{data_at, FindsData, Stands};
 
 use crate::number::as_int;
-use fish_value::{Field, Path, Text};
+use fish_value::{Field, FieldView, Path, Text};
 use json::{Element, Tape};
 use std::alloc::{AllocError, Global};
 
@@ -31,15 +32,23 @@ impl<'a> JsonRow<'a> {
         JsonRow { tape }
     }
 
-    /// What the record has at a path. An object, an array, and a number that is no whole number of
-    /// 64 bits are [`Field::Other`]. It takes time in the length of the objects on the path.
+    /// What the record has at a path, its text lent. An object, an array, and a number that is no
+    /// whole number of 64 bits are [`FieldView::Other`]. It takes no memory, and time in the length
+    /// of the objects on the path.
+    pub fn look(&self, path: &Path) -> FieldView<'_>
+        ensures { field_seen result ≡ field_in path.now (row_contents self.now) }
+    {
+        match self.find(path) {
+            Some(value) => field(&value),
+            None => FieldView::Missing,
+        }
+    }
+
+    /// The same, its text copied.
     pub fn get(&self, alloc: Global, path: &Path) -> Result<Field, AllocError>
         ensures { IfOk result (λ field. field ≡ field_in path.now (row_contents self.now)) }
     {
-        match self.find(path) {
-            Some(value) => field(alloc, &value),
-            None => Ok(Field::Missing),
-        }
+        self.look(path).to_field(alloc)
     }
 
     /// Where a path leads.
@@ -69,28 +78,31 @@ fn step<'t, 'a>(value: &Element<'t, 'a>, name: &Text) -> Option<Element<'t, 'a>>
     value.get(name.as_str())
 }
 
-/// A value as a field. Its text is copied.
-fn field(alloc: Global, value: &Element<'_, '_>) -> Result<Field, AllocError>
-    ensures { (d : Data) → Stands value.now d → IfOk result (λ field. field ≡ kind_of d) }
+/// A value as a field. Its text is lent.
+fn field<'a>(value: &Element<'_, 'a>) -> FieldView<'a>
+    ensures { (d : Data) → Stands value.now d → field_seen result ≡ kind_of d }
 {
     if let Some(text) = value.as_str() {
-        return Ok(Field::Text(Text::copy_of(alloc, text)?));
+        return FieldView::Text(text);
     }
     if let Some(text) = value.as_number() {
-        return Ok(number(text));
+        return number(text);
     }
     if let Some(truth) = value.as_bool() {
-        return Ok(Field::Bool(truth));
+        return FieldView::Bool(truth);
     }
     if value.is_null() {
-        return Ok(Field::Null);
+        return FieldView::Null;
     }
-    Ok(Field::Other)
+    FieldView::Other
 }
 
 /// A number's text as a field.
-fn number(text: &str) -> Field
-    ensures { result ≡ int_or_other (option_and_then as_i64 (number_of text.now)) }
+fn number(text: &str) -> FieldView<'_>
+    ensures { field_seen result ≡ int_or_other (option_and_then as_i64 (number_of text.now)) }
 {
-    as_int(text).map_or(Field::Other, Field::Int)
+    match as_int(text) {
+        Some(number) => FieldView::Int(number),
+        None => FieldView::Other,
+    }
 }

@@ -1,13 +1,11 @@
 -- Each test of the tape's value finds the kind of its data.
-use Rattle.std.proofs.Common.{ap, sym, ◌∙◌}
-use Rattle.fish_value.specs.declared.field.Field.TheVariants as kind
+use Rattle.std.proofs.Common.{sym, ◌∙◌}
 use Rattle.fish_json.proofs.Elements.{kind_text, kind_number, kind_bool, kind_null, kind_other}
 use Rattle.fish_json.proofs.row.field.Goals as goal
 
 pub returns-in-Some : goal.returns-in-Some
 returns-in-Some c =
-    λ d h. ap kind.Text c.in_ok-copy_of.ensures
-    ∙ kind_text h.0 d c.in-Some.text.now (sym (c.in-Some.ensures h.0 h.1)) h.2
+    λ d h. kind_text h.0 d c.in-Some.text.now (sym (c.in-Some.ensures h.0 h.1)) h.2
 
 pub returns-in-Some-as_number : goal.returns-in-Some-as_number
 returns-in-Some-as_number c =

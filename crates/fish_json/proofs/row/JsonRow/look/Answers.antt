@@ -2,10 +2,10 @@
 use Rattle.std.proofs.Common.{ap, sym}
 use Rattle.fish_json.specs.Reading.{field_in, field_of}
 use Rattle.fish_json.proofs.Found.{field_found}
-use Rattle.fish_json.proofs.row.JsonRow.get.Goals as goal
+use Rattle.fish_json.proofs.row.JsonRow.look.Goals as goal
 
 pub returns-in-Some : goal.returns-in-Some
-returns-in-Some c = let x = c.in-Some.ensures in field_found _ _ x.0 c.field.result x.1 (c.field.ensures x.0 x.2)
+returns-in-Some c = let x = c.in-Some.ensures in field_found _ _ x.0 _ x.1 (c.field.ensures x.0 x.2)
 
 pub returns-in-None : goal.returns-in-None
 unfolding field_in
