@@ -1,14 +1,9 @@
 -- What a row has at a path.
-use Rattle.std.specs.Prelude.{None, Result, Ok, Err, IfOk}
-use Rattle.std.proofs.Common.{◌≡◌, ◌∙◌, ℕ, List, Some, refl}
+use Rattle.std.specs.Prelude.{None}
+use Rattle.std.proofs.Common.{◌≡◌, ℕ, List, Some, refl}
 use Rattle.csv.specs.Records.{field_at}
 use Rattle.fish_csv.specs.Reading.{column_at, field, field_in, field_of, row_of}
 use Rattle.fish_value.specs.declared.field.Field.TheVariants as kind
-
--- an answer that is one value is what that value is
-pub IfOk-same : {T E : Type 0} (r : Result T E) (a b : T) → a ≡ b → IfOk r (λ f. f ≡ a) → IfOk r (λ f. f ≡ b)
-IfOk-same (Ok x) a b e h = h ∙ e
-IfOk-same (Err x) a b e h = tt
 
 -- a path that names no column
 pub no-column : (path fields : List (List ℕ)) → None ≡ column_at path → kind.Missing ≡ field_in path fields

@@ -1,28 +1,28 @@
 //! Columns by their names, `$1`, `$2` and so on.
 
-ghost use Rattle.std.specs.Prelude.{◌≡◌, true, IfOk};
+ghost use Rattle.std.specs.Prelude.{◌≡◌, true};
 ghost use Rattle.std.specs.List.{list_all};
 ghost use Rattle.std.specs.Str.{is_utf8};
 ghost use Rattle.csv.specs.Records.{fields_of};
+ghost use Rattle.fish_value.specs.Seen.{field_seen};
 ghost use Rattle.fish_csv.specs.Reading.{column_at, column_of, field_in, field_of, place_of};
 
 use crate::bytes::first_and_rest;
 use csv::ByteRecord;
-use fish_value::{Field, Path, Text, read_int};
-use std::alloc::{AllocError, Global};
+use fish_value::{FieldView, Path, read_int};
 
-/// What a row has at a path.
-pub(crate) fn field_at(alloc: Global, row: &ByteRecord, path: &Path) -> Result<Field, AllocError>
+/// What a row has at a path, its text lent.
+pub(crate) fn field_at<'r>(row: &'r ByteRecord, path: &Path) -> FieldView<'r>
     requires { list_all is_utf8 (fields_of row.now) ≡ true }
-    ensures { IfOk result (λ field. field ≡ field_in path.now (fields_of row.now)) }
+    ensures { field_seen result ≡ field_in path.now (fields_of row.now) }
 {
     let Some(place) = find_column(path) else {
-        return Ok(Field::Missing);
+        return FieldView::Missing;
     };
     let Some(text) = row.get(place) else {
-        return Ok(Field::Missing);
+        return FieldView::Missing;
     };
-    to_field(alloc, text)
+    to_field(text)
 }
 
 /// The place, from 0, of the column that a path names.
@@ -57,16 +57,16 @@ fn to_place(number: i64) -> Option<usize>
     Some((number - 1) as usize)
 }
 
-/// A text as a field. It is copied where it is no whole number.
-fn to_field(alloc: Global, text: &[u8]) -> Result<Field, AllocError>
+/// A text as a field. It is lent where it is no whole number.
+fn to_field(text: &[u8]) -> FieldView<'_>
     requires { is_utf8 text.now ≡ true }
-    ensures { IfOk result (λ field. field ≡ field_of (Some text.now)) }
+    ensures { field_seen result ≡ field_of (Some text.now) }
 {
     if let Some(number) = read_int(text) {
-        return Ok(Field::Int(number));
+        return FieldView::Int(number);
     }
-    match Text::from_bytes(alloc, text)? {
-        Some(text) => Ok(Field::Text(text)),
-        None => unreachable!(),
+    match simdutf8::basic::from_utf8(text) {
+        Ok(text) => FieldView::Text(text),
+        Err(_) => unreachable!(),
     }
 }

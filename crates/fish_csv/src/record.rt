@@ -5,12 +5,13 @@ ghost use Rattle.std.specs.List.{list_all};
 ghost use Rattle.std.specs.Str.{is_utf8};
 ghost use Rattle.csv.specs.Records.{fields_of};
 ghost use Rattle.fish_value.specs.Limits.{longest_payload};
+ghost use Rattle.fish_value.specs.Seen.{field_seen};
 ghost use Rattle.fish_csv.specs.Reading.{field_in, row_of, row_reading};
 
 use crate::column::field_at;
 use crate::text::{read_one, text_of};
 use csv::ByteRecord;
-use fish_value::{Field, Path};
+use fish_value::{Field, FieldView, Path};
 use std::alloc::{AllocError, Global};
 use thiserror::Error;
 
@@ -72,11 +73,19 @@ impl CsvRecord {
         Ok(CsvRecord { row })
     }
 
-    /// What the record has at a path: a column by its name, `$1` for the first. A whole number of
-    /// 64 bits is [`Field::Int`], any other text is [`Field::Text`].
+    /// What the record has at a path, its text lent: a column by its name, `$1` for the first. A
+    /// whole number of 64 bits is [`FieldView::Int`], any other text is [`FieldView::Text`]. It takes
+    /// no memory.
+    pub fn look(&self, path: &Path) -> FieldView<'_>
+        ensures { field_seen result ≡ field_in path.now (fields_in self.now) }
+    {
+        field_at(&self.row, path)
+    }
+
+    /// The same, its text copied.
     pub fn get(&self, alloc: Global, path: &Path) -> Result<Field, AllocError>
         ensures { IfOk result (λ field. field ≡ field_in path.now (fields_in self.now)) }
     {
-        field_at(alloc, &self.row, path)
+        self.look(path).to_field(alloc)
     }
 }

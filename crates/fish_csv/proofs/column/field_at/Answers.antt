@@ -1,5 +1,6 @@
 -- The path names a column or none, and the row has it or not.
-use Rattle.fish_csv.proofs.Columns.{IfOk-same, no-column, no-field, the-field}
+use Rattle.std.proofs.Common.{◌∙◌}
+use Rattle.fish_csv.proofs.Columns.{no-column, no-field, the-field}
 use Rattle.fish_csv.proofs.Texts.{field-text}
 use Rattle.fish_csv.proofs.column.field_at.Goals as goal
 
@@ -13,4 +14,4 @@ pub to_field-requires : goal.to_field-requires
 to_field-requires c = field-text _ c.in-Some.place _ c.requires c.in-Some-get.ensures.value
 
 pub returns : goal.returns
-returns c = IfOk-same c.to_field.result _ _ (the-field c.args.path.now _ c.in-Some.place _ c.in-Some.ensures c.in-Some-get.ensures.value) c.to_field.ensures
+returns c = c.to_field.ensures ∙ the-field c.args.path.now _ c.in-Some.place _ c.in-Some.ensures c.in-Some-get.ensures.value
