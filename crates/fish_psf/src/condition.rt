@@ -2,43 +2,42 @@
 
 ghost use Rattle.std.specs.Prelude.{◌≡◌, IfOk};
 ghost use Rattle.std.specs.Ordering.{bool_cmp};
+ghost use Rattle.fish_value.specs.Seen.{field_seen};
 ghost use Rattle.fish_lang.specs.Definition.{formula_of};
 ghost use Rattle.fish_psf.specs.Eval.{begins_with, exists, holds, meets, meets_order, meets_other, order_of};
 
 use crate::parsed::Parsed;
 use fish_lang::{Cond, Op};
-use fish_value::{Field, Text, Value};
+use fish_value::{FieldView, Text, Value};
 use std::alloc::{AllocError, Global};
 use std::cmp::Ordering;
 
 /// Whether a condition holds on a record. It looks at the fields from the left, and no further than
-/// it has to.
-pub fn holds<R: Parsed>(alloc: Global, cond: &Cond, rec: &R) -> Result<bool, AllocError>
+/// it has to. It takes no memory, and answers Ok.
+pub fn holds<R: Parsed>(_alloc: Global, cond: &Cond, rec: &R) -> Result<bool, AllocError>
     ensures { IfOk result (λ truth. truth ≡ holds (formula_of cond.now) (R.fields rec.now)) }
 {
+    Ok(is_met(cond, rec))
+}
+
+/// The same, as the truth value alone.
+pub(crate) fn is_met<R: Parsed>(cond: &Cond, rec: &R) -> bool
+    ensures { result ≡ holds (formula_of cond.now) (R.fields rec.now) }
+{
     match cond {
-        Cond::Compare { path, op, literal } => Ok(compares(*op, &rec.at(alloc, path)?, literal)),
-        Cond::Exists { path } => Ok(exists(&rec.at(alloc, path)?)),
-        Cond::Starts { path, prefix } => Ok(begins_with(prefix, &rec.at(alloc, path)?)),
-        Cond::Not(inner) => Ok(!holds(alloc, inner, rec)?),
-        Cond::And(left, right) => {
-            if !holds(alloc, left, rec)? {
-                return Ok(false);
-            }
-            holds(alloc, right, rec)
-        }
-        Cond::Or(left, right) => {
-            if holds(alloc, left, rec)? {
-                return Ok(true);
-            }
-            holds(alloc, right, rec)
-        }
+        Cond::Compare { path, op, literal } => compares(*op, &rec.look(path), literal),
+        Cond::Exists { path } => exists(&rec.look(path)),
+        Cond::Starts { path, prefix } => begins_with(prefix, &rec.look(path)),
+        Cond::Not(inner) => !is_met(inner, rec),
+        Cond::And(left, right) => is_met(left, rec) && is_met(right, rec),
+        Cond::Or(left, right) => is_met(left, rec) || is_met(right, rec),
     }
 }
 
 /// Whether a field compares so with a literal.
-fn compares(op: Op, field: &Field, literal: &Value) -> bool
-    ensures { result ≡ meets_order op field.now (order_of field.now literal.now) }
+fn compares(op: Op, field: &FieldView<'_>, literal: &Value) -> bool
+    ensures { result ≡ meets_order op (field_seen field.now)
+        (order_of (field_seen field.now) literal.now) }
 {
     match order_of(field, literal) {
         Some(order) => meets(op, order),
@@ -47,13 +46,13 @@ fn compares(op: Op, field: &Field, literal: &Value) -> bool
 }
 
 /// The order of a field and a literal of one kind.
-fn order_of(field: &Field, literal: &Value) -> Option<Ordering>
-    ensures { result ≡ order_of field.now literal.now }
+fn order_of(field: &FieldView<'_>, literal: &Value) -> Option<Ordering>
+    ensures { result ≡ order_of (field_seen field.now) literal.now }
 {
     match (field, literal) {
-        (Field::Bool(a), Value::Bool(b)) => Some(a.cmp(b)),
-        (Field::Int(a), Value::Int(b)) => Some(a.cmp(b)),
-        (Field::Text(a), Value::Text(b)) => Some(a.as_bytes().cmp(b.as_bytes())),
+        (FieldView::Bool(a), Value::Bool(b)) => Some(a.cmp(b)),
+        (FieldView::Int(a), Value::Int(b)) => Some(a.cmp(b)),
+        (FieldView::Text(a), Value::Text(b)) => Some(a.as_bytes().cmp(b.as_bytes())),
         _ => None,
     }
 }
@@ -73,8 +72,8 @@ fn meets(op: Op, order: Ordering) -> bool
 }
 
 /// Whether a field of another kind than the literal's compares so.
-fn meets_other(op: Op, field: &Field) -> bool
-    ensures { result ≡ meets_other op field.now }
+fn meets_other(op: Op, field: &FieldView<'_>) -> bool
+    ensures { result ≡ meets_other op (field_seen field.now) }
 {
     match op {
         Op::Ne => exists(field),
@@ -83,21 +82,25 @@ fn meets_other(op: Op, field: &Field) -> bool
 }
 
 /// Whether there is something, be it null.
-fn exists(field: &Field) -> bool
-    ensures { result ≡ exists field.now }
+fn exists(field: &FieldView<'_>) -> bool
+    ensures { result ≡ exists (field_seen field.now) }
 {
     match field {
-        Field::Missing => false,
-        Field::Null | Field::Bool(_) | Field::Int(_) | Field::Text(_) | Field::Other => true,
+        FieldView::Missing => false,
+        FieldView::Null
+        | FieldView::Bool(_)
+        | FieldView::Int(_)
+        | FieldView::Text(_)
+        | FieldView::Other => true,
     }
 }
 
 /// Whether a field is a text that begins so.
-fn begins_with(prefix: &Text, field: &Field) -> bool
-    ensures { result ≡ begins_with prefix.now field.now }
+fn begins_with(prefix: &Text, field: &FieldView<'_>) -> bool
+    ensures { result ≡ begins_with prefix.now (field_seen field.now) }
 {
     match field {
-        Field::Text(text) => text.as_bytes().starts_with(prefix.as_bytes()),
+        FieldView::Text(text) => text.as_bytes().starts_with(prefix.as_bytes()),
         _ => false,
     }
 }

@@ -1,11 +1,12 @@
 //! What evaluation asks of a record, whatever its form and however it was read.
 
 ghost use Rattle.std.specs.Prelude.{◌≡◌, ℕ, List, IfOk};
+ghost use Rattle.fish_value.specs.Seen.{field_seen};
 ghost use Rattle.fish_value.specs.declared.field.Field.{Field as FieldAt};
 
 use fish_csv::{CsvRecord, CsvRow};
 use fish_json::{JsonRecord, JsonRow};
-use fish_value::{Field, Path};
+use fish_value::{Field, FieldView, Path};
 use std::alloc::{AllocError, Global};
 
 /// A record that was read, which tells what it has at each path.
@@ -13,9 +14,16 @@ pub trait Parsed {
     /// What it has at each path.
     ghost fields: { Self → List (List ℕ) → FieldAt };
 
-    /// What it has at a path.
+    /// What it has at a path, its text lent. It takes no memory.
+    fn look(&self, path: &Path) -> FieldView<'_>
+        ensures { field_seen result ≡ fields self.now path.now };
+
+    /// The same, its text copied.
     fn at(&self, alloc: Global, path: &Path) -> Result<Field, AllocError>
-        ensures { IfOk result (λ field. field ≡ fields self.now path.now) };
+        ensures { IfOk result (λ field. field ≡ fields self.now path.now) }
+    {
+        self.look(path).to_field(alloc)
+    }
 }
 
 impl Parsed for JsonRecord {
@@ -24,8 +32,8 @@ impl Parsed for JsonRecord {
 
     ghost fields = { λ r path. field_in path (contents r) };
 
-    fn at(&self, alloc: Global, path: &Path) -> Result<Field, AllocError> {
-        self.get(alloc, path)
+    fn look(&self, path: &Path) -> FieldView<'_> {
+        self.look(path)
     }
 }
 
@@ -35,8 +43,8 @@ impl<'a> Parsed for JsonRow<'a> {
 
     ghost fields = { λ r path. field_in path (row_contents r) };
 
-    fn at(&self, alloc: Global, path: &Path) -> Result<Field, AllocError> {
-        self.get(alloc, path)
+    fn look(&self, path: &Path) -> FieldView<'_> {
+        self.look(path)
     }
 }
 
@@ -46,8 +54,8 @@ impl Parsed for CsvRecord {
 
     ghost fields = { λ r path. row_field_in path (fields_in r) };
 
-    fn at(&self, alloc: Global, path: &Path) -> Result<Field, AllocError> {
-        self.get(alloc, path)
+    fn look(&self, path: &Path) -> FieldView<'_> {
+        self.look(path)
     }
 }
 
@@ -57,7 +65,7 @@ impl<'r> Parsed for CsvRow<'r> {
 
     ghost fields = { λ r path. row_field_in path (row_fields r) };
 
-    fn at(&self, alloc: Global, path: &Path) -> Result<Field, AllocError> {
-        self.get(alloc, path)
+    fn look(&self, path: &Path) -> FieldView<'_> {
+        self.look(path)
     }
 }

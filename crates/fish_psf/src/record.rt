@@ -5,8 +5,7 @@ ghost use Rattle.std.specs.Prelude.{◌≡◌};
 use crate::parsed::Parsed;
 use fish_csv::CsvRecord;
 use fish_json::JsonRecord;
-use fish_value::{Field, Path};
-use std::alloc::{AllocError, Global};
+use fish_value::{FieldView, Path};
 
 /// A record that was read.
 #[derive(Debug, Drop)]
@@ -22,10 +21,10 @@ impl Parsed for Record {
 
     ghost fields = { fields_of };
 
-    fn at(&self, alloc: Global, path: &Path) -> Result<Field, AllocError> {
+    fn look(&self, path: &Path) -> FieldView<'_> {
         match self {
-            Record::Json(line) => line.get(alloc, path),
-            Record::Csv(row) => row.get(alloc, path),
+            Record::Json(line) => line.look(path),
+            Record::Csv(row) => row.look(path),
         }
     }
 }

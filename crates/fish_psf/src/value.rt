@@ -1,13 +1,14 @@
 //! The value that a definition gives for a record.
 
 ghost use Rattle.std.specs.Prelude.{◌≡◌, IfOk, option_map};
+ghost use Rattle.fish_value.specs.Seen.{field_seen};
 ghost use Rattle.fish_lang.specs.Definition.{definition_of, formula_of};
 ghost use Rattle.fish_psf.specs.Eval.{bucket, bucket_of, eval, holds_when, value_of};
 
-use crate::condition::holds;
+use crate::condition::is_met;
 use crate::parsed::Parsed;
 use fish_lang::{Cond, Def};
-use fish_value::{Field, MAX_VALUE, Value};
+use fish_value::{FieldView, MAX_VALUE, Text, Value};
 use std::alloc::{AllocError, Global};
 
 /// The value that a definition gives for a record, or none.
@@ -21,19 +22,19 @@ pub fn eval<R: Parsed>(alloc: Global, def: &Def, rec: &R) -> Result<Option<Value
 {
     match def {
         Def::Take { path, when } => {
-            if !holds_when(alloc, when, rec)? {
+            if !holds_when(when, rec) {
                 return Ok(None);
             }
-            Ok(value_of(rec.at(alloc, path)?))
+            value_of(alloc, &rec.look(path))
         }
         Def::Bucket { path, width, when } => {
-            if !holds_when(alloc, when, rec)? {
+            if !holds_when(when, rec) {
                 return Ok(None);
             }
-            Ok(bucket_of(*width, &rec.at(alloc, path)?))
+            Ok(bucket_of(*width, &rec.look(path)))
         }
         Def::Flag { when } => {
-            if !holds(alloc, when, rec)? {
+            if !is_met(when, rec) {
                 return Ok(None);
             }
             Ok(Some(Value::Bool(true)))
@@ -42,40 +43,38 @@ pub fn eval<R: Parsed>(alloc: Global, def: &Def, rec: &R) -> Result<Option<Value
 }
 
 /// A condition that is not there holds.
-fn holds_when<R: Parsed>(alloc: Global, when: &Option<Cond>, rec: &R) -> Result<bool, AllocError>
-    ensures { IfOk result (λ truth.
-        truth ≡ holds_when (option_map formula_of when.now) (R.fields rec.now)) }
+fn holds_when<R: Parsed>(when: &Option<Cond>, rec: &R) -> bool
+    ensures { result ≡ holds_when (option_map formula_of when.now) (R.fields rec.now) }
 {
     match when {
-        Some(cond) => holds(alloc, cond, rec),
-        None => Ok(true),
+        Some(cond) => is_met(cond, rec),
+        None => true,
     }
 }
 
-/// A field as a value.
-fn value_of(field: Field) -> Option<Value>
-    ensures { result ≡ value_of field }
+/// A field as a value. A text is copied where it is short enough.
+fn value_of(alloc: Global, field: &FieldView<'_>) -> Result<Option<Value>, AllocError>
+    ensures { IfOk result (λ value. value ≡ value_of (field_seen field.now)) }
 {
     match field {
-        Field::Bool(truth) => Some(Value::Bool(truth)),
-        Field::Int(number) => Some(Value::Int(number)),
-        Field::Text(text) => {
-            if text.as_bytes().len() <= MAX_VALUE {
-                Some(Value::Text(text))
-            } else {
-                None
+        FieldView::Bool(truth) => Ok(Some(Value::Bool(*truth))),
+        FieldView::Int(number) => Ok(Some(Value::Int(*number))),
+        FieldView::Text(text) => {
+            if text.len() > MAX_VALUE {
+                return Ok(None);
             }
+            Ok(Some(Value::Text(Text::copy_of(alloc, text)?)))
         }
-        Field::Missing | Field::Null | Field::Other => None,
+        FieldView::Missing | FieldView::Null | FieldView::Other => Ok(None),
     }
 }
 
 /// A field rounded down to a multiple of a width.
-fn bucket_of(width: i64, field: &Field) -> Option<Value>
-    ensures { result ≡ bucket_of width field.now }
+fn bucket_of(width: i64, field: &FieldView<'_>) -> Option<Value>
+    ensures { result ≡ bucket_of width (field_seen field.now) }
 {
     match field {
-        Field::Int(number) => bucket(width, *number).map(Value::Int),
+        FieldView::Int(number) => bucket(width, *number).map(Value::Int),
         _ => None,
     }
 }

@@ -7,8 +7,8 @@ ghost use Rattle.fish_read.specs.Rows.{fields_in_row, form_of_row};
 use fish_csv::{CsvReader, CsvRecordRefusal, CsvRow};
 use fish_json::{JsonReader, JsonRow, MAX_PAYLOAD, RecordRefusal};
 use fish_psf::{Parsed, PsfRefusal, Steps};
-use fish_value::{Field, Form, Path};
-use std::alloc::{AllocError, Global};
+use fish_value::{FieldView, Form, Path};
+use std::alloc::Global;
 use std::sync::ledger::Ledger;
 
 /// Reads payloads, and keeps its memory from one to the next. It has over 16 KiB in place, so make it
@@ -119,10 +119,10 @@ impl<'a> Parsed for RecordRow<'a> {
 
     ghost fields = { fields_in_row };
 
-    fn at(&self, alloc: Global, path: &Path) -> Result<Field, AllocError> {
+    fn look(&self, path: &Path) -> FieldView<'_> {
         match self {
-            RecordRow::Json(line) => line.get(alloc, path),
-            RecordRow::Csv(row) => row.get(alloc, path),
+            RecordRow::Json(line) => line.look(path),
+            RecordRow::Csv(row) => row.look(path),
         }
     }
 }
