@@ -1,5 +1,5 @@
 -- The heads with which a log begins, one after the other.
-use Rattle.std.proofs.Common.{ℕ, zero, suc, ◌+◌, List, [], ◌∷◌, ◌++◌, length, slice_index, arith}
+use Rattle.std.proofs.Common.{ℕ, zero, suc, ◌+◌, List, [], ◌∷◌, ◌++◌, slice_index, arith}
 use Rattle.std.proofs.lemmas.List.{length-append}
 use Rattle.fish_rule.specs.Parts.{IsOlder}
 use Rattle.tests_log.specs.Heads.{AreOlder}

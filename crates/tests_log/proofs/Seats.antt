@@ -1,5 +1,5 @@
 -- Facts of four seats.
-use Rattle.std.proofs.Common.{ℕ, zero, suc, [], ◌∷◌, All, arith}
+use Rattle.std.proofs.Common.{zero, suc, [], ◌∷◌, All, arith}
 
 -- what holds of each of four holds of all
 pub all_four : {A : Type 0} (P : A → Type 0) (a b c d : A) → P a → P b → P c → P d → All P (a ∷ b ∷ c ∷ d ∷ [])

@@ -10,7 +10,7 @@ ghost use Rattle.fish_rule.specs.Reading.{IsAlone};
 ghost use Rattle.tests_log.specs.Heads.{AreOlder};
 ghost use Rattle.tests_log.specs.Lanes.{IsOutOf};
 
-use crate::entries::{entry_of, is_entry};
+use crate::entries::has_entry;
 use crate::expecting::expect;
 use crate::lanes::store;
 use crate::nodes::{BUCKET, expect_nodes};
@@ -20,7 +20,7 @@ use fish_chain::{Node, walk_rest};
 use fish_epoch::{Defs, enter, leave};
 use fish_ingest::IngestRefusal;
 use fish_rule::{Base, Log, Pass, Start, base, open_log};
-use fish_value::{Form, Numbers64, Text};
+use fish_value::{Form, Numbers64};
 use fish_walk::settle;
 use std::alloc::{AllocError, Global};
 use std::process::Abort;
@@ -119,15 +119,12 @@ fn stored(alloc: Global, log: &Log, pass: &mut Pass) -> Result<[u32; 2], IngestR
 }
 
 /// Asserts that the entries are those of lane 1 with the payloads.
-fn expect_entries<R: Abort>(rt: &R, alloc: Global, entries: &Entries) -> Result<(), Fail> {
-    expect(rt, "entries", &entries.len(), &PAYLOADS.len());
-    for (number, payload) in PAYLOADS.iter().enumerate() {
-        let want = entry_of(1, Form::Json, Text::copy_of(alloc, *payload)?);
-        let same = is_entry(entries, number as u32, &want);
-        drop(want);
-        expect(rt, "the same entry", &same, &true);
-    }
-    Ok(())
+fn expect_entries<R: Abort>(rt: &R, alloc: Global, entries: &Entries) {
+    let [first, second] = PAYLOADS;
+    let first = has_entry(alloc, entries, 0, 1, (Form::Json, first));
+    let second = has_entry(alloc, entries, 1, 1, (Form::Json, second));
+    expect(rt, "entries", &entries.len(), &2);
+    expect(rt, "the same entries", &[first, second], &[true; 2]);
 }
 
 /// The log of a case, and its control pass.
@@ -195,9 +192,9 @@ fn expect_case<R: Abort>(rt: &R, alloc: Global, case: &Case) -> Result<(), Fail>
     );
     expect_walk(rt, alloc, &log, &mut main, case)?;
     let entries = closed(alloc, log, main)?;
-    let done = expect_entries(rt, alloc, &entries);
+    expect_entries(rt, alloc, &entries);
     drop(entries);
-    done
+    Ok(())
 }
 
 #[test]

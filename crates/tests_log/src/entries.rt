@@ -14,7 +14,7 @@ use fish_psf::Steps;
 use fish_rule::{Base, Log, Pass, base, lane};
 use fish_value::{Form, Text};
 use fish_walk::{Look, count_now, look, read_entry};
-use std::alloc::{AllocError, Global};
+use std::alloc::Global;
 use std::marker::Brand;
 use std::process::Abort;
 use std::sync::ledger::{Blank, Ledger};
@@ -77,17 +77,29 @@ fn found_with<L: Ledger>(
     found_at(alloc, log, pass, number, want, &mut loads)
 }
 
-/// The entry of a lane with a payload in a form.
-pub(crate) fn entry_of(lane: u8, form: Form, payload: Text) -> Entry {
-    Entry::Stored {
-        lane,
-        form,
-        payload,
-    }
+/// What is found at a number, where a record there fills so many lines.
+fn found_once(
+    alloc: Global,
+    log: &Log,
+    pass: &mut Pass,
+    number: u32,
+    lines: u64,
+) -> Result<Look, Fail>
+    requires { IsPassOf log.now pass.old }
+    ensures { IsPassOf log.now pass.new }
+{
+    let want = Entry::Stored {
+        lane: 1,
+        form: Form::Json,
+        payload: object_of(alloc, lines)?,
+    };
+    let found = found_with::<Brand>(alloc, Blank::new(1), log, pass, number, &want);
+    drop(want);
+    found
 }
 
-/// Stores records, and asserts what is found at each number.
-fn expect_found<R: Abort>(rt: &R, alloc: Global, log: &Log, pass: &mut Pass) -> Result<(), Fail>
+/// Stores the records.
+fn store_all(alloc: Global, log: &Log, pass: &mut Pass) -> Result<(), Fail>
     requires pass { IsPassOf log.now pass.old }
     requires rows { log.now.key.rows.value ≡ [] }
     ensures { IsPassOf log.now pass.new }
@@ -95,12 +107,18 @@ fn expect_found<R: Abort>(rt: &R, alloc: Global, log: &Log, pass: &mut Pass) -> 
     for &(lines, _) in LINES {
         store_lines(alloc, log, pass, lines)?;
     }
+    Ok(())
+}
+
+/// Stores records, and asserts what is found at each number.
+fn expect_found<R: Abort>(rt: &R, alloc: Global, log: &Log, pass: &mut Pass) -> Result<(), Fail>
+    requires pass { IsPassOf log.now pass.old }
+    requires rows { log.now.key.rows.value ≡ [] }
+{
+    store_all(alloc, log, pass)?;
     for (number, &(lines, want)) in LINES.iter().enumerate() {
-        let entry = entry_of(1, Form::Json, object_of(alloc, lines)?);
-        let blank = Blank::new(1);
-        let found = found_with::<Brand>(alloc, blank, log, pass, number as u32, &entry);
-        drop(entry);
-        expect(rt, "a number", &found?, &want);
+        let found = found_once(alloc, log, pass, number as u32, lines)?;
+        expect(rt, "a number", &found, &want);
     }
     Ok(())
 }
@@ -147,36 +165,48 @@ fn closed_behind_both(alloc: Global) -> Result<(Entries, (u32, u32)), Fail> {
 }
 
 /// Whether the entry at a number is this one.
-pub(crate) fn is_entry(entries: &Entries, number: u32, want: &Entry) -> bool {
+fn is_entry(entries: &Entries, number: u32, want: &Entry) -> bool {
     match entries.as_slice().get(number as usize) {
         Some(entry) => entry.is(want),
         None => false,
     }
 }
 
-/// Whether the entry at a number is of the lane, with this payload in its form.
-fn is_of_lane(
+/// Whether the entry at a number is of a lane, with this payload in its form.
+pub(crate) fn has_entry(
     alloc: Global,
     entries: &Entries,
     number: u32,
+    lane: u8,
     stored: (Form, &str),
-) -> Result<bool, AllocError> {
+) -> bool {
     let (form, payload) = stored;
-    let want = entry_of(LANE, form, Text::copy_of(alloc, payload)?);
+    let Ok(payload) = Text::copy_of(alloc, payload) else {
+        return false;
+    };
+    let want = Entry::Stored {
+        lane,
+        form,
+        payload,
+    };
     let same = is_entry(entries, number, &want);
     drop(want);
-    Ok(same)
+    same
+}
+
+/// Whether the numbers ascend, and whether each payload stands at its number.
+fn compared(alloc: Global, entries: &Entries, numbers: (u32, u32)) -> [bool; 3] {
+    let (first, second) = numbers;
+    let json = has_entry(alloc, entries, first, LANE, JSON);
+    let csv = has_entry(alloc, entries, second, LANE, CSV);
+    [first < second, json, csv]
 }
 
 #[test]
 fn what_was_ingested_stands_in_the_closed_log(rt: HostRuntime) -> Result<(), Fail> {
-    let alloc = rt.alloc();
-    let (entries, (first, second)) = closed_behind_both(alloc)?;
-    let json = is_of_lane(alloc, &entries, first, JSON);
-    let csv = is_of_lane(alloc, &entries, second, CSV);
+    let (entries, numbers) = closed_behind_both(rt.alloc())?;
+    let found = compared(rt.alloc(), &entries, numbers);
     drop(entries);
-    expect(&rt, "ascends", &(first < second), &true);
-    expect(&rt, "the first entry", &json?, &true);
-    expect(&rt, "the second entry", &csv?, &true);
+    expect(&rt, "ascend, and the entries", &found, &[true; 3]);
     Ok(())
 }

@@ -2,7 +2,6 @@
 use Rattle.std.proofs.Common.{ℕ, ◌+◌, ◌*◌, ◌<◌, slice_index, sym, refl, subst}
 use Rattle.fish_rule.specs.Entering.{CanDefine, after_define}
 use Rattle.fish_rule.specs.Passes.{view}
-use Rattle.fish_rule.specs.declared.view.View.{View}
 use Rattle.tests_log.proofs.Drafts.{can_draft, drafted_next, drafted_none}
 use Rattle.tests_log.specs.Operations.{HasDrafted}
 use Rattle.tests_log.proofs.operations.define_row.Goals as goal
