@@ -1,5 +1,6 @@
 -- The words of the next row, stored one after the other.
-use Rattle.std.proofs.Common.{◌≡◌, ℕ, ◌+◌, ◌<◌, ◌≤◌, inl, inr, List, length, slice_index, refl, sym, ap, ◌∙◌, subst, arith}
+use Rattle.std.proofs.Common.{◌≡◌, ℕ, ◌+◌, ◌<◌, ◌≤◌, inl, inr, List}
+use Rattle.std.proofs.Common.{length, slice_index, refl, sym, ap, ◌∙◌, subst, arith}
 use Rattle.std.proofs.Math.Decide.{ℕ_discrete}
 use Rattle.fish_layout.proofs.Clearing.{choose_first, choose_second}
 use Rattle.fish_rule.specs.Entering.{CanDefine, after_define}
@@ -29,7 +30,8 @@ pub drafted_next : (v u : View) (words : List ℕ) (place x : ℕ) → HasDrafte
 drafted_next v u words place x h is =
     let n : ℕ = length v.rows in
     let next : View = after_define u (row_at n place) x in
-    let each : (i : ℕ) → 2 ≤ i → i < place + 1 → Dec (i ≡ place) → drafted next.draft (row_at n i) ≡ slice_index words i =
+    let each : (i : ℕ) → 2 ≤ i → i < place + 1 → Dec (i ≡ place)
+    → drafted next.draft (row_at n i) ≡ slice_index words i =
     λ i behind within d. elim d [
       | yes e ↦ choose_first (ℕ_discrete (row_at n i) (row_at n place)) x (drafted u.draft (row_at n i)) (ap (row_at n) e)
           ∙ is ∙ ap (slice_index words) (sym e)

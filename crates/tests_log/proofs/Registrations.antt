@@ -1,6 +1,7 @@
 -- The operation that registers a row, once the row's words are stored.
 use Rattle.fish_layout.specs.Cleared.{choose}
-use Rattle.std.proofs.Common.{◌≡◌, ℕ, zero, suc, ◌+◌, ◌-◌, ◌*◌, ◌%◌, ◌<◌, ◌≤◌, inl, List, [], ◌∷◌, ◌++◌, true, length, slice_index, sym, ap, ◌∙◌, subst, arith}
+use Rattle.std.proofs.Common.{◌≡◌, ℕ, zero, suc, ◌+◌, ◌-◌, ◌*◌, ◌%◌, ◌<◌, ◌≤◌, inl, List, []}
+use Rattle.std.proofs.Common.{◌∷◌, ◌++◌, true, length, slice_index, sym, ap, ◌∙◌, subst, arith}
 use Rattle.std.proofs.Math.Decide.{ℕ_discrete, dec_lt}
 use Rattle.fish_catalog.proofs.RowWords.{listed_same, name_back, text_back}
 use Rattle.fish_catalog.specs.Listing.{IsNew, ended_at, listed_in}
