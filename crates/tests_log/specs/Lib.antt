@@ -2,5 +2,4 @@ pub mod Bodies
 pub mod Heads
 pub mod Lanes
 pub mod Operations
-pub mod Seats
 pub mod Walks

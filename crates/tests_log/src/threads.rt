@@ -17,7 +17,6 @@ ghost use Rattle.fish_rule.specs.Start.{CanOpen};
 ghost use Rattle.fish_rule.specs.Table.{first_view};
 ghost use Rattle.fish_rule.specs.Views.{Among};
 ghost use Rattle.tests_log.specs.Lanes.{IsOutOf};
-ghost use Rattle.tests_log.specs.Seats.{IsSeated};
 
 use crate::expecting::expect;
 use crate::flights::{claimed, publish_record};
@@ -136,17 +135,17 @@ struct Seat {
 
 /// Stores records until the log is full. A want of memory counts as no record, so that it shows.
 fn fill_seat(alloc: Global, log: &Log, seat: &mut Seat)
-    requires { IsSeated log.now seat.old }
-    ensures { IsSeated log.now seat.new }
+    requires { IsOutOf log.now seat.old.pass }
+    ensures { IsOutOf log.now seat.new.pass }
 {
     seat.stored = fill_log(alloc, log, &mut seat.pass).unwrap_or(0);
 }
 
 /// All seats do so at once, each on a thread.
 fn fill_seats<R: Threads + Sync>(rt: &R, alloc: Global, log: &Log, seats: &mut [Seat])
-    requires seats { All (IsSeated log.now) seats.old }
+    requires seats { All (λ seat. IsOutOf log.now seat.pass) seats.old }
     requires some { 0 < length seats.old }
-    ensures { All (IsSeated log.now) seats.new }
+    ensures { All (λ seat. IsOutOf log.now seat.pass) seats.new }
 {
     let threads = seats.len();
     for_each_mut(rt, seats, threads, &|_, seat| fill_seat(alloc, log, seat));
@@ -158,7 +157,7 @@ fn split_seat(log: &Log, main: &mut Pass, lane: u8) -> Seat
     requires can { CanSplit (view main.old) lane }
     ensures pass { IsPassOf log.now main.new }
     ensures left { view main.new ≡ split_left lane (view main.old) }
-    ensures seat { IsSeated log.now result }
+    ensures seat { IsOutOf log.now result.pass }
 {
     let pass = split_lane(log, main, lane);
     Seat { pass, stored: 0 }
@@ -172,7 +171,7 @@ fn split_four(log: &Log, main: &mut Pass) -> [Seat; 4]
     ensures control { ((view main.new).lane ≡ 1) × ((view main.new).flight ≡ None) }
     ensures start { CanStart (view main.new) }
     ensures out { (view main.new).out ≡ 5 ∷ 4 ∷ 3 ∷ 2 ∷ [] }
-    ensures seats { All (IsSeated log.now) result }
+    ensures seats { All (λ seat. IsOutOf log.now seat.pass) result }
 {
     let second = split_seat(log, main, 2);
     let third = split_seat(log, main, 3);
@@ -184,7 +183,7 @@ fn split_four(log: &Log, main: &mut Pass) -> [Seat; 4]
 /// The control pass takes back a seat. How many records were stored there.
 fn take_seat(log: &Log, main: &mut Pass, seat: Seat, lane: u8) -> Result<usize, Fail>
     requires main { IsPassOf log.now main.old }
-    requires seat { IsSeated log.now seat }
+    requires seat { IsOutOf log.now seat.pass }
     requires control { (view main.old).lane ≡ 1 }
     requires out { Among lane (view main.old).out }
     requires above { 2 ≤ lane }
@@ -200,7 +199,7 @@ fn take_seat(log: &Log, main: &mut Pass, seat: Seat, lane: u8) -> Result<usize, 
 /// The control pass takes back all lanes. How many records each stored.
 fn take_four(log: &Log, main: &mut Pass, seats: [Seat; 4]) -> Result<[usize; 4], Fail>
     requires main { IsPassOf log.now main.old }
-    requires seats { All (IsSeated log.now) seats }
+    requires seats { All (λ seat. IsOutOf log.now seat.pass) seats }
     requires control { (view main.old).lane ≡ 1 }
     requires idle { (view main.old).flight ≡ None }
     requires out { (view main.old).out ≡ 5 ∷ 4 ∷ 3 ∷ 2 ∷ [] }
@@ -221,10 +220,10 @@ fn take_seats(
     fifth: Seat,
 ) -> Result<[usize; 4], Fail>
     requires main { IsPassOf log.now main.old }
-    requires second { IsSeated log.now second }
-    requires third { IsSeated log.now third }
-    requires fourth { IsSeated log.now fourth }
-    requires fifth { IsSeated log.now fifth }
+    requires second { IsOutOf log.now second.pass }
+    requires third { IsOutOf log.now third.pass }
+    requires fourth { IsOutOf log.now fourth.pass }
+    requires fifth { IsOutOf log.now fifth.pass }
     requires control { (view main.old).lane ≡ 1 }
     requires idle { (view main.old).flight ≡ None }
     requires out { (view main.old).out ≡ 5 ∷ 4 ∷ 3 ∷ 2 ∷ [] }
