@@ -69,8 +69,8 @@ module _ (v u : View) (lines number line : ℕ) (claimed : IsClaimed v lines (an
   module _ (w t : View) (written : HasWritten u (flight_at number line lines) w)
       (is : t ≡ after_publish w written.flight) where
     pub lane_published : t.lane ≡ v.lane
-    lane_published = ap (λ (z : View). z.lane) is ∙ written.lane ∙ ap (λ (z : View). z.lane) placed.known
+    lane_published = ap (λ (z : View). z.lane) is ∙ ap (λ (z : View). z.lane) written.only.frame ∙ ap (λ (z : View). z.lane) placed.known
 
     pub entered_published : IsEntered v → IsEntered t
     entered_published entered = entered_on v t entered lane_published (ap (λ (z : View). z.flight) is)
-        (ap (λ (z : View). z.epoch) is ∙ written.epoch ∙ ap (λ (z : View). z.epoch) placed.known)
+        (ap (λ (z : View). z.epoch) is ∙ ap (λ (z : View). z.epoch) written.only.frame ∙ ap (λ (z : View). z.epoch) placed.known)

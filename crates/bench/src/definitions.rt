@@ -1,10 +1,10 @@
 //! The definitions that a log begins with.
 
-ghost use Rattle.std.specs.Prelude.{IfOk, OnOk};
-ghost use Rattle.fish_rule.specs.Keys.{AreActive};
+ghost use Rattle.std.specs.Prelude.{All, IfOk, OnOk};
+ghost use Rattle.fish_rule.specs.Keys.{AreActive, IsWritten};
 
 use fish_catalog::Catalog;
-use fish_lang::{parse_def, print_def};
+use fish_lang::{parse_def, print_def, reads_back};
 use fish_psf::ActiveDef;
 use fish_value::Text;
 use std::alloc::{AllocError, Global};
@@ -32,7 +32,8 @@ pub struct Definitions {
 
 /// The definitions of these sources.
 pub fn definitions_of(alloc: Global, sources: Sources) -> Result<Definitions, AllocError>
-    ensures { IfOk result (λ d. AreActive d.catalog d.defs.items) }
+    ensures active { IfOk result (λ d. AreActive d.catalog d.defs.items) }
+    ensures written { IfOk result (λ d. All IsWritten d.defs.items) }
 {
     let mut definitions = Definitions {
         catalog: Catalog::new(alloc),
@@ -51,9 +52,12 @@ fn add(
     name: &str,
     source: &str,
 ) -> Result<(), AllocError>
-    requires { AreActive definitions.old.catalog definitions.old.defs.items }
-    ensures { OnOk result (AreActive definitions.new.catalog definitions.new.defs.items) }
+    requires active { AreActive definitions.old.catalog definitions.old.defs.items }
+    requires written { All IsWritten definitions.old.defs.items }
+    ensures active { OnOk result (AreActive definitions.new.catalog definitions.new.defs.items) }
+    ensures written { OnOk result (All IsWritten definitions.new.defs.items) }
 {
+    reads_back();
     let name = Text::copy_of(alloc, name)?;
     let size = name.as_bytes().len();
     if size < 1 || size > 32 {

@@ -2,7 +2,7 @@
 
 ghost use Rattle.std.specs.Prelude.{All, IfOk};
 ghost use Rattle.bench.specs.Opening.{IsControl, IsOpened, IsReady};
-ghost use Rattle.fish_rule.specs.Keys.{AreActive};
+ghost use Rattle.fish_rule.specs.Keys.{AreActive, IsWritten};
 ghost use Rattle.fish_rule.specs.Passes.{IsPassOf, view};
 ghost use Rattle.fish_rule.specs.Start.{IsShape};
 
@@ -24,6 +24,7 @@ pub struct Opened {
 pub fn open(alloc: Global, shape: Shape, definitions: Definitions) -> Result<Opened, AllocError>
     requires shape { IsShape shape }
     requires active { AreActive definitions.catalog definitions.defs.items }
+    requires written { All IsWritten definitions.defs.items }
     ensures { IfOk result IsOpened }
 {
     let Definitions { catalog, defs } = definitions;

@@ -1,4 +1,3 @@
-pub mod Activity
 pub mod Drafts
 pub mod Heads
 pub mod Registrations

@@ -1,6 +1,10 @@
--- The definitions so far are those of the catalogue's active rows.
-use Rattle.fish_rule.specs.Keys.{AreActive}
+-- The definitions so far are those of the catalogue's active rows, and each is what its text is read as.
+use Rattle.std.proofs.Common.{All}
+use Rattle.fish_rule.specs.Keys.{AreActive, IsWritten}
 use Rattle.bench.proofs.definitions.definitions_of.Given as goal
 
 abbrev pub invariant-loop-name : goal.invariant-loop-name
-invariant-loop-name l = AreActive l.definitions.catalog l.definitions.defs.items
+invariant-loop-name l = record {
+  active : AreActive l.definitions.catalog l.definitions.defs.items;
+  written : All IsWritten l.definitions.defs.items;
+}
