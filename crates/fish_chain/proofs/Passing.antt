@@ -11,9 +11,11 @@ down_later : (v u : View) (b from to : ℕ) (places : List ℕ) → Learns v u �
     → LeadDown u b from to places
 down_later v u b from to [] learns e = e
 down_later v u b from to (p ∷ places) learns h =
-    let rest = h.2 in
-    (h.0, learns.nodes (record { bucket = b; place = p }) h.1,
-    (rest.0, rest.1, down_later v u b rest.0 to places learns rest.2))
+    let rest = h.2 in (
+      h.0,
+      learns.nodes (record { bucket = b; place = p }) h.1,
+      (rest.0, rest.1, down_later v u b rest.0 to places learns rest.2),
+    )
 
 -- one entry more
 down_more : (v : View) (b from mid to : ℕ) (places : List ℕ) → LeadDown v b from mid places → HasNode v b mid

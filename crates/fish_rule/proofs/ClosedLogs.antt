@@ -99,8 +99,8 @@ module _ (k : Key) (w : World) (r : Rule k w) where
   entry_once n (entry.Stored la fa pa) (entry.Stored lb fb pb) (p, a) (q, b) =
       let same : p ≡ q = spelled_once a.spells b.spells (a.number_is ∙ sym b.number_is) in
       λ i. entry.Stored ((sym a.lane_is ∙ ap (λ (z : BodyParts). z.lane) same ∙ b.lane_is) i)
-          ((sym a.form_is ∙ ap (λ (z : BodyParts). z.form) same ∙ b.form_is) i)
-          ((sym a.payload_is ∙ ap (λ (z : BodyParts). z.payload) same ∙ b.payload_is) i)
+      ((sym a.form_is ∙ ap (λ (z : BodyParts). z.form) same ∙ b.form_is) i)
+      ((sym a.payload_is ∙ ap (λ (z : BodyParts). z.payload) same ∙ b.payload_is) i)
   entry_once n (entry.Stored la fa pa) entry.Void (p, a) void = (let s = a.stored in absurd (omega arith))
   entry_once n entry.Void (entry.Stored lb fb pb) void (q, b) = (let s = b.stored in absurd (omega arith))
   entry_once n entry.Void entry.Void void void' = refl

@@ -51,8 +51,8 @@ module _ (v : View) (s : Stands v) (alone : IsAlone v) where
       let t = spot v.about s.moment s.rule h.line h.entry h.shows in (
         t,
         ⊎_elim (λ (set_ : s.moment.dir t.number ≢ 0). set_)
-        (λ (f : (s.moment.dir t.number ≡ 0) × IsFlier s.moment t.number h.entry).
-        absurd (none_flies t.number h.entry f.1)) t.owner,
+            (λ (f : (s.moment.dir t.number ≡ 0) × IsFlier s.moment t.number h.entry).
+            absurd (none_flies t.number h.entry f.1)) t.owner,
       )
 
   module _ (upto : ℕ) (logged : (n : ℕ) → v.about.number ≤ n → s.moment.dir n ≢ 0
@@ -170,9 +170,8 @@ closes v tail read settled base version heads s alone is_tail h far are base_is 
       starts = record {
         rise = upto.rise;
         sound = λ t m. (let x = upto.sound t m in
-        let below = x.1 in (x.0, omega arith, line_at v s t.number t.line x.2));
-        first = λ n line above below begins. (let c = upto.covers n above (omega arith) in
-        (
+            let below = x.1 in (x.0, omega arith, line_at v s t.number t.line x.2));
+        first = λ n line above below begins. (let c = upto.covers n above (omega arith) in (
           c.start,
           c.among,
           c.page ∙ ap Rattle.fish_rule.specs.Closing.page_of (sym (line_at v s n c.line c.has) ∙ begins),

@@ -97,7 +97,7 @@ upto_later v u n read learns h =
           (tells_later v u (v.about.number + i) e learns (h.told i e at));
       rise = h.rise;
       sound = λ s m. (let x = h.sound s m in
-      let above = x.0 in (omega arith, x.1, line_later v u s.number s.line learns x.2));
+          let above = x.0 in (omega arith, x.1, line_later v u s.number s.line learns x.2));
       covers = λ m above below. covered_later v u read.starts m learns (h.covers m (omega arith) below);
       paged = h.paged;
       last = h.last;
@@ -169,7 +169,7 @@ module _ (u : View) (n line : ℕ) (e : Entry) (old new : ReadLog) (s : Stands u
         told = told_one;
         rise = subst PagesRise (sym starts) h.rise;
         sound = λ t m. (let x = h.sound t (subst (Among t) starts m) in
-        let less = x.1 in (x.0, omega arith, x.2));
+            let less = x.1 in (x.0, omega arith, x.2));
         covers = subst (λ (z : List PageStart). (m : ℕ) → u.about.number ≤ m → m < suc n → IsCovered u z m) (sym starts)
             (covers_more u u.about.number n old.starts h.covers here);
         paged = λ t m. (let x = h.paged t (subst (Among t) starts m) in omega arith);

@@ -46,11 +46,11 @@ operation_later f f' ls x same (inl h) =
     let e = listed_same f f' 0 true l in
     let row : row_spelled f ≡ row_spelled f' =
     ap (λ (z : Listed). let q : CatRow = record { id = 0; name = z.name; def = z.def; from = None; to = None } in q) e in (
-      inl (
-        h.0,
-        subst (λ (z : Listed). IsNew ls z.name z.def) e h.1,
-        λ i a b. sym (l i a b) ∙ h.2 i a b ∙ ap (λ (z : CatRow). row_word z i) row,
-      )
+    inl (
+      h.0,
+      subst (λ (z : Listed). IsNew ls z.name z.def) e h.1,
+      λ i a b. sym (l i a b) ∙ h.2 i a b ∙ ap (λ (z : CatRow). row_word z i) row,
+    )
     )
 
 module _ (k : Key) (g g' : ℕ → ℕ) (e : Endures k g g') where

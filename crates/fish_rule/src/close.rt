@@ -215,12 +215,7 @@ fn add_start(read: &mut ReadLog, number: u64, line: u64) -> Result<(), AllocErro
 }
 
 /// What stands at a number.
-fn next_entry(
-    alloc: Global,
-    log: &Log,
-    main: &mut Pass,
-    number: u64,
-) -> Result<Next, AllocError>
+fn next_entry(alloc: Global, log: &Log, main: &mut Pass, number: u64) -> Result<Next, AllocError>
     requires pass { IsPassOf log.now main.old }
     requires alone { IsAlone (view main.old) }
     requires look { CanLook (view main.old) number }

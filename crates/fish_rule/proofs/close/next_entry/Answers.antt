@@ -66,8 +66,13 @@ returns-in-Void-clause-next c =
     let kind = sym c.in-Void.ensures in
     record {
       tells = tells_void (view c.look_at-word.new.pass) (seen c.args.number look.0 x) here kind;
-      lined = (seen c.args.number look.0 x, here, refl, λ e. (let q : Void ≡ Mark = sym kind ∙ e in cc),
-          sym c.line_of_word-line.ensures);
+      lined = (
+        seen c.args.number look.0 x,
+        here,
+        refl,
+        λ e. (let q : Void ≡ Mark = sym kind ∙ e in cc),
+        sym c.line_of_word-line.ensures,
+      );
     }
 
 pub returns-in-Mark-clause-next : goal.returns-in-Mark-clause-next

@@ -38,4 +38,4 @@ returns-clause-read c =
     (subst (Learns v) (sym c.raise_settled.ensures.view) (extends_raise v _ _ c.raise_settled.ensures.rises).learns)
     c.all_heads.ensures.extends.learns in
     on_ok_weaker c.all_heads.result (λ _. read_later v (view c.all_heads.new.main) c.args.end c.args.read.now.lines
-        c.all_entries.new.read learns c.in_ok-all_entries.ensures.read) c.all_heads.ensures.heads
+    c.all_entries.new.read learns c.in_ok-all_entries.ensures.read) c.all_heads.ensures.heads
