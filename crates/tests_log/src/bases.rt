@@ -14,12 +14,12 @@ use crate::entries::has_entry;
 use crate::expecting::expect;
 use crate::lanes::store;
 use crate::nodes::{BUCKET, expect_nodes};
-use crate::openings::{ONE_PAGE, closed, defined};
-use fish_catalog::Entries;
+use crate::openings::{ONE_PAGE, defined, left};
+use fish_catalog::{Entries, PageStart};
 use fish_chain::{Node, walk_rest};
 use fish_epoch::{Defs, enter, leave};
 use fish_ingest::IngestRefusal;
-use fish_rule::{Base, Log, Pass, Start, base, open_log};
+use fish_rule::{Base, Log, Pass, Remains, Start, base, open_log};
 use fish_value::{Form, Numbers64};
 use fish_walk::settle;
 use std::alloc::{AllocError, Global};
@@ -127,6 +127,34 @@ fn expect_entries<R: Abort>(rt: &R, alloc: Global, entries: &Entries) {
     expect(rt, "the same entries", &[first, second], &[true; 2]);
 }
 
+/// Asserts what else is left: the base, the line behind two records of two lines, the heads, one page with
+/// regions, and the version.
+fn expect_left<R: Abort>(rt: &R, case: &Case, remains: &Remains) {
+    let Base { number, line } = case.base;
+    expect(rt, "the base", &remains.base, &number);
+    expect(rt, "the line", &remains.lines, &line.saturating_add(4));
+    expect(rt, "the version left", &remains.version, &VERSION);
+    expect_heads(rt, case, remains.heads.as_slice());
+    let starts = remains.starts.as_slice();
+    expect(rt, "page starts", &starts.len(), &1);
+    let start = PageStart { number, line };
+    expect(rt, "the page start", &starts.first(), &Some(&start));
+}
+
+/// Asserts that the bucket's head is the newest entry's place, and that no other bucket has one.
+fn expect_heads<R: Abort>(rt: &R, case: &Case, heads: &[u64]) {
+    expect(rt, "heads", &heads.len(), &16);
+    let newest = case.nodes.first().map(|node| node.place);
+    expect(
+        rt,
+        "the head",
+        &heads.get(BUCKET as usize).copied(),
+        &newest,
+    );
+    let others = heads.iter().filter(|head| **head != 0).count();
+    expect(rt, "buckets with a head", &others, &1);
+}
+
 /// The log of a case, and its control pass.
 fn opened(alloc: Global, case: &Case) -> Result<(Log, Pass), Fail>
     ensures out { IfOk result (λ r. IsOutOf r.0 r.1) }
@@ -191,9 +219,10 @@ fn expect_case<R: Abort>(rt: &R, alloc: Global, case: &Case) -> Result<(), Fail>
         &Ok([first, first.saturating_add(1)]),
     );
     expect_walk(rt, alloc, &log, &mut main, case)?;
-    let entries = closed(alloc, log, main)?;
-    expect_entries(rt, alloc, &entries);
-    drop(entries);
+    let remains = left(alloc, log, main)?;
+    expect_entries(rt, alloc, &remains.log);
+    expect_left(rt, case, &remains);
+    drop(remains);
     Ok(())
 }
 

@@ -188,8 +188,17 @@ pub(crate) fn closed(alloc: Global, log: Log, main: Pass) -> Result<Entries, Fai
     requires pass { IsPassOf log main }
     requires alone { IsAlone (view main) }
 {
+    let Remains { log, .. } = left(alloc, log, main)?;
+    Ok(log)
+}
+
+/// Closes a log. What is left of it.
+pub(crate) fn left(alloc: Global, log: Log, main: Pass) -> Result<Remains, Fail>
+    requires pass { IsPassOf log main }
+    requires alone { IsAlone (view main) }
+{
     match close_log(alloc, log, main) {
-        Ok(Remains { log, .. }) => Ok(log),
+        Ok(remains) => Ok(remains),
         Err(want) => {
             drop(want);
             Err(Fail::new("no memory"))
