@@ -2,7 +2,6 @@
 PREFIX ?= /usr/local
 PROGRAM = crates/fishstore/out/fishstore
 EXAMPLE = select 'take type' '"PushEvent"' events.jsonl
-TESTS = tests_language tests_log
 CRATES = $(shell sed -n 's/^\(fish[a-z_]*\).*:.*/\1/p' crates.txt)
 
 .PHONY: demo build test edits gate install bench bench_log bench_ingest bench_peers bench_program clean
@@ -14,11 +13,11 @@ demo:
 
 # Proves and builds the program. What is proved already is not proved again.
 build:
-	tools/build fishstore
+	cd crates/fishstore && rt run --jobs 4 -- select 'take type' '"Push"' data/a > /dev/null
 
-# Proves every crate of the product, runs the tests, and runs the program over the cases.
+# Proves every crate, runs the tests, and runs the program over the cases.
 test:
-	tools/build fishstore $(TESTS)
+	rt all test --jobs 4
 	tools/cases cases/*.txt README.md
 
 # Tries every wrong body of every crate: each has to be refused.
@@ -39,7 +38,7 @@ bench: build
 
 # Proves and builds the program of the three benchmarks below.
 bench_program:
-	tools/build bench
+	cd crates/bench && rt run -- ingest data/events.jsonl > /dev/null
 
 # Times the log: stores beside a plain C++ loop, linked key entries, and walks.
 bench_log: bench_program
