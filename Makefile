@@ -17,7 +17,10 @@ build:
 
 # Proves every crate, runs the tests, and runs the program over the cases.
 test:
-	rt all test --jobs 4
+	rt all check --jobs 4
+	cd crates/tests_language && rt test --jobs 4
+	cd crates/tests_log && rt test --jobs 4
+	$(MAKE) build
 	tools/cases cases/*.txt README.md
 
 # Tries every wrong body of every crate: each has to be refused.
