@@ -7,7 +7,7 @@ use Rattle.std.proofs.lemmas.List.Elements.{All-filter, All-map}
 use Rattle.fish_catalog.specs.Canonical.{IsCanonical}
 use Rattle.fish_catalog.specs.Listing.{IsListing, active_texts, is_on, listed_of}
 use Rattle.fish_catalog.specs.Rows.{is_active}
-use Rattle.fish_catalog.specs.declared.catalog.TheConstants.{MAX_ROWS}
+use Rattle.fish_catalog.specs.Limits.{most_rows}
 use Rattle.fish_catalog.specs.declared.listed.Listed.{Listed}
 use Rattle.fish_catalog.specs.declared.row.CatRow.{CatRow}
 
@@ -68,7 +68,7 @@ active_ascend n (l ∷ ls) few ids =
 -- the active ones of a version
 listing_ascends : (ls : List Listed) → IsListing ls → AscendFrom 0 (filter is_on ls)
 listing_ascends ls h =
-    let few : length ls ≤ MAX_ROWS = h.few in
+    let few : length ls ≤ most_rows = h.few in
     active_ascend 0 ls (omega arith) (λ k l at. let e = h.ids k l at in omega arith)
 
 -- ids that ascend so are below 256

@@ -1,12 +1,14 @@
 -- What always holds of rows stays, as one is put behind the others, and as a beginning is set.
-use Rattle.std.proofs.Common.{◌≡◌, ℕ, zero, suc, ◌+◌, ◌<◌, List, [], ◌∷◌, ◌++◌, Option, Some, None, ◌⊎◌, inl, inr, cond, is_none, length, get_or, set, refl, sym, ap, subst, ◌∙◌, arith, length-append, slice_get, All, count_by}
+use Rattle.std.proofs.Common.{◌≡◌, ℕ, zero, suc, ◌+◌, ◌<◌, List, [], ◌∷◌, ◌++◌, Option, Some, None, ◌⊎◌, inl, inr, cond}
+use Rattle.std.proofs.Common.{is_none, length, get_or, set, refl, sym, ap, subst, ◌∙◌, arith, length-append, slice_get}
+use Rattle.std.proofs.Common.{All, count_by}
 use Rattle.std.proofs.lemmas.List.Elements.{All-push, All-set}
 use Rattle.std.proofs.lemmas.List.Sums.{sum_by-set, sum_by_push}
 use Rattle.std.proofs.lemmas.Option.{get_or_from_slice_get, same_Some, slice_get_within}
 use Rattle.std.proofs.Math.ListN.{length-set}
 use Rattle.fish_catalog.specs.Canonical.{IsCanonical}
 use Rattle.fish_catalog.specs.Rows.{AwaitsFrom, HasActive, IsActive, IsCatalog, IsInOrder, IsName, IsRow, is_active, new_row, with_from}
-use Rattle.fish_catalog.specs.declared.catalog.TheConstants.{MAX_ACTIVE, MAX_ROWS}
+use Rattle.fish_catalog.specs.Limits.{most_active, most_rows}
 use Rattle.fish_catalog.specs.declared.row.CatRow.{CatRow}
 
 -- an element of the longer list is one of before, or the last
@@ -61,7 +63,7 @@ count_push rows y active = omega (
 
 -- an active row with the next id, behind the others
 pub IsCatalog-push : (rows : List CatRow) (y : CatRow) → IsCatalog rows → y.id ≡ length rows → IsRow y → IsActive y →
-    ¬ HasActive rows y.name → count_by is_active rows < MAX_ACTIVE → length rows < MAX_ROWS →
+    ¬ HasActive rows y.name → count_by is_active rows < most_active → length rows < most_rows →
     IsCatalog (rows ++ y ∷ [])
 IsCatalog-push rows y old next proper active fresh room_active room = record {
   few = omega (arith, length-append rows (y ∷ []));
@@ -77,14 +79,14 @@ IsCatalog-push rows y old next proper active fresh room_active room = record {
 -- a list that a push of the new row gave
 pub IsCatalog-added : (rows seen now : List CatRow) (id : ℕ) (name def name_copy def_copy : List ℕ) → rows ≡ seen →
     now ≡ rows ++ new_row id name_copy def_copy ∷ [] → id ≡ length rows → name_copy ≡ name → def_copy ≡ def →
-    IsCatalog rows → IsName name → IsCanonical def → ¬ HasActive seen name → count_by is_active seen < MAX_ACTIVE →
-    length seen < MAX_ROWS → IsCatalog now
+    IsCatalog rows → IsName name → IsCanonical def → ¬ HasActive seen name → count_by is_active seen < most_active →
+    length seen < most_rows → IsCatalog now
 IsCatalog-added rows seen now id name def name_copy def_copy is pushed next named spelled old short text fresh active
     room =
     subst IsCatalog (sym pushed) (IsCatalog-push rows (new_row id name_copy def_copy) old next
     (record { name = subst IsName (sym named) short; text = subst IsCanonical (sym spelled) text; order = tt })
     refl (λ has. fresh (subst (HasActive seen) named (subst (λ r. HasActive r name_copy) is has)))
-    (subst (λ r. count_by is_active r < MAX_ACTIVE) (sym is) active) (subst (λ r. length r < MAX_ROWS) (sym is) room))
+    (subst (λ r. count_by is_active r < most_active) (sym is) active) (subst (λ r. length r < most_rows) (sym is) room))
 
 -- a row with another beginning, or the same row
 record SameButFrom (a b : CatRow) : Type 0 where

@@ -1,12 +1,12 @@
 -- Rows whose boundaries were cut are those of a catalogue, and begin and end within the count.
-use Rattle.std.proofs.Common.{◌≡◌, ℕ, ◌<◌, ◌≤◌, ◌+◌, zero, suc, List, [], ◌∷◌, Bool, Option, Some, None, cond, is_none, length, map, min}
-use Rattle.std.proofs.Common.{◌++◌, drop, set, take, get_or, refl, sym, ap, subst, ◌∙◌, arith, slice_get, All, count_by, option_map}
+use Rattle.std.proofs.Common.{◌≡◌, ℕ, ◌<◌, ◌≤◌, ◌+◌, zero, suc, List, [], ◌∷◌, Option, Some, None, cond, is_none, length, map, min}
+use Rattle.std.proofs.Common.{◌++◌, drop, set, take, get_or, refl, sym, ap, ◌∙◌, arith, slice_get, All, count_by, option_map}
 use Rattle.std.proofs.lemmas.List.{length-map}
 use Rattle.std.proofs.lemmas.List.Sums.{sum_by-cons}
 use Rattle.std.proofs.lemmas.Option.{same_Some}
 use Rattle.std.proofs.Math.Seq.{take-append_seam}
 use Rattle.fish_catalog.specs.Clamps.{IsClamped, begun_by, clamped}
-use Rattle.fish_catalog.specs.Rows.{IsActive, IsCatalog, IsInOrder, IsRow, is_active}
+use Rattle.fish_catalog.specs.Rows.{IsCatalog, IsInOrder, IsRow, is_active}
 use Rattle.fish_catalog.specs.declared.row.CatRow.{CatRow}
 
 -- a cut index ends where it begins or behind

@@ -6,7 +6,7 @@ use Rattle.fish_layout.specs.Cleared.{choose}
 use Rattle.fish_catalog.specs.Canonical.{IsCanonical}
 use Rattle.fish_catalog.specs.Rows.{IsName, is_active}
 use Rattle.fish_catalog.specs.Words.{name_in, text_in}
-use Rattle.fish_catalog.specs.declared.catalog.TheConstants.{MAX_ACTIVE, MAX_ROWS}
+use Rattle.fish_catalog.specs.Limits.{most_active, most_rows}
 use Rattle.fish_catalog.specs.declared.listed.Listed.{Listed}
 use Rattle.fish_catalog.specs.declared.row.CatRow.{CatRow}
 
@@ -25,23 +25,23 @@ listed_in f id active = record { id = id; name = name_in f; def = text_in f; act
 -- what always holds of the definitions of a version
 pub record IsListing (ls : List Listed) : Type 0 where
   -- at most 256 are there
-  pub few : length ls ≤ MAX_ROWS
+  pub few : length ls ≤ most_rows
   -- their ids are 0, 1, 2 and so on
   pub ids : (n : ℕ) (l : Listed) → slice_get ls n ≡ Some l → l.id ≡ n
   pub names : All (λ l. IsName l.name) ls
   pub texts : All (λ l. IsCanonical l.def) ls
   -- at most 16 are active
-  pub few_active : count_by is_on ls ≤ MAX_ACTIVE
+  pub few_active : count_by is_on ls ≤ most_active
   -- no two active ones have one name
   pub apart : (i j : ℕ) (one other : Listed) → slice_get ls i ≡ Some one → slice_get ls j ≡ Some other
       → one.active ≡ true → other.active ≡ true → one.name ≡ other.name → i ≡ j
 
 -- a definition of this name and text may be registered: there is room, and no active one has the name
 pub record IsNew (ls : List Listed) (name text : List ℕ) : Type 0 where
-  pub room : length ls < MAX_ROWS
+  pub room : length ls < most_rows
   pub name_is : IsName name
   pub text_is : IsCanonical text
-  pub few : count_by is_on ls < MAX_ACTIVE
+  pub few : count_by is_on ls < most_active
   pub free : (n : ℕ) (l : Listed) → slice_get ls n ≡ Some l → l.active ≡ true → l.name ≡ name → ⊥
 
 -- the definition with this id is active

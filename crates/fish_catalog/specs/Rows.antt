@@ -1,13 +1,12 @@
 -- The rows of a catalogue: what always holds of them, what a name finds, and how they change.
 use Rattle.std.specs.Prelude.{◌≡◌, ℕ, zero, suc, ◌≤◌, List, [], ◌∷◌, Bool, Option, Some, None, is_none, All, count_by, length, slice_get}
 use Rattle.fish_catalog.specs.Canonical.{IsCanonical}
-use Rattle.fish_catalog.specs.declared.catalog.TheConstants.{MAX_ACTIVE, MAX_ROWS}
+use Rattle.fish_catalog.specs.Limits.{longest_name, most_active, most_rows}
 use Rattle.fish_catalog.specs.declared.row.CatRow.{CatRow}
-use Rattle.fish_catalog.specs.declared.row.TheConstants.{MAX_NAME}
 
 -- a name has 1 to 32 bytes
 abbrev pub IsName : List ℕ → Type 0
-IsName name = (1 ≤ length name) × (length name ≤ MAX_NAME)
+IsName name = (1 ≤ length name) × (length name ≤ longest_name)
 
 -- the row's index has no end, as a test
 abbrev pub is_active : CatRow → Bool
@@ -32,12 +31,12 @@ pub record IsRow (row : CatRow) : Type 0 where
 -- what holds of the rows of a catalogue
 pub record IsCatalog (rows : List CatRow) : Type 0 where
   -- at most 256 are there
-  pub few : length rows ≤ MAX_ROWS
+  pub few : length rows ≤ most_rows
   -- their ids are 0, 1, 2 and so on
   pub ids : (k : ℕ) (row : CatRow) → slice_get rows k ≡ Some row → row.id ≡ k
   pub each : All IsRow rows
   -- at most 16 are active
-  pub few_active : count_by is_active rows ≤ MAX_ACTIVE
+  pub few_active : count_by is_active rows ≤ most_active
   -- no two active rows have one name
   pub apart : (j k : ℕ) (one other : CatRow) → slice_get rows j ≡ Some one → slice_get rows k ≡ Some other →
       IsActive one → IsActive other → one.name ≡ other.name → j ≡ k

@@ -2,10 +2,13 @@
 //!
 //! A row is never removed, and its id, name and definition never change.
 
-ghost use Rattle.std.specs.Prelude.{◌≡◌, ◌↔◌, ◌+◌, ◌<◌, ◌≤◌, ◌++◌, ◌∷◌, [], All, IfOk, IfSome, IsErrOf, IsSome, OnErr, OnOk, count_by, length, map};
-ghost use Rattle.fish_catalog.specs.Rows.{AwaitsFrom, HasActive, IsActiveNamed, IsCatalog, IsKnown, IsName, IsNewest, is_active, new_row, with_from};
+ghost use Rattle.std.specs.Prelude.{◌≡◌, ◌↔◌, ◌+◌, ◌<◌, ◌≤◌, ◌++◌, ◌∷◌, [], All, IfOk, IfSome, IsErrOf, IsSome, OnErr};
+ghost use Rattle.std.specs.Prelude.{OnOk, count_by, length, map};
+ghost use Rattle.fish_catalog.specs.Rows.{AwaitsFrom, HasActive, IsActiveNamed, IsCatalog, IsKnown, IsName, IsNewest};
+ghost use Rattle.fish_catalog.specs.Rows.{is_active, new_row, with_from};
 ghost use Rattle.fish_catalog.specs.Canonical.{IsCanonical};
 ghost use Rattle.fish_catalog.specs.Clamps.{IsClamped, clamped};
+ghost use Rattle.fish_catalog.specs.Limits.{most_active, most_rows};
 
 use crate::clamp::clamp_rows;
 use crate::row::CatRow;
@@ -121,10 +124,10 @@ impl Catalog {
 
         ensures active { IsErrOf result CatRefusal.NameActive ↔ HasActive self.old name.now }
         ensures many_active { IsErrOf result CatRefusal.TooManyActive ↔
-            ((¬ HasActive self.old name.now) × (MAX_ACTIVE ≤ count_by is_active self.old)) }
+            ((¬ HasActive self.old name.now) × (most_active ≤ count_by is_active self.old)) }
         ensures many { IsErrOf result CatRefusal.TooManyDefinitions ↔
-            ((¬ HasActive self.old name.now) × (count_by is_active self.old < MAX_ACTIVE)
-            × (MAX_ROWS ≤ length self.old)) }
+            ((¬ HasActive self.old name.now) × (count_by is_active self.old < most_active)
+            × (most_rows ≤ length self.old)) }
         ensures refused { OnErr result (self.new ≡ self.old) }
     {
         if self.find_active(name).is_some() {
@@ -151,8 +154,8 @@ impl Catalog {
         requires name { IsName name.now }
         requires def { IsCanonical def.now }
         requires apart { ¬ HasActive self.old name.now }
-        requires active { count_by is_active self.old < MAX_ACTIVE }
-        requires room { length self.old < MAX_ROWS }
+        requires active { count_by is_active self.old < most_active }
+        requires room { length self.old < most_rows }
         ensures id { IfOk result (λ id. id ≡ length self.old) }
         ensures added { OnOk result (self.new ≡ self.old ++ new_row (length self.old) name.now def.now ∷ []) }
         ensures refused { OnErr result (self.new ≡ self.old) }

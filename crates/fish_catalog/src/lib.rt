@@ -14,5 +14,5 @@ pub use catalog::{CatRefusal, Catalog, MAX_ACTIVE, MAX_ROWS};
 pub use entry::{Entries, Entry};
 pub use listed::Listed;
 pub use page_start::{PageStart, PageStarts};
-pub use row::{CatRow, MAX_NAME};
+pub use row::{CatRow, MAX_NAME, is_name};
 pub use words::{ROW_WORDS, active_in, read_row, row_words};

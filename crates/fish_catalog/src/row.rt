@@ -1,12 +1,20 @@
 //! One row of the catalogue: a definition under its name, and where its index begins and ends.
 
 ghost use Rattle.std.specs.Prelude.{◌≡◌, ◌↔◌, IsTrue};
-ghost use Rattle.fish_catalog.specs.Rows.{IsActive, is_active};
+ghost use Rattle.fish_catalog.specs.Rows.{IsActive, IsName, is_active};
 
 use fish_value::Text;
 
 /// The most bytes of a name.
 pub const MAX_NAME: usize = 32;
+
+/// Whether a text can be a name: it has 1 to 32 bytes.
+pub fn is_name(name: &Text) -> bool
+    ensures { IsTrue result ↔ IsName name.now }
+{
+    let len = name.as_bytes().len();
+    1 <= len && len <= MAX_NAME
+}
 
 /// A definition that was registered.
 #[derive(Debug, Drop)]

@@ -11,12 +11,14 @@ unfolding field_in
 no-column path fields e = rw (← e) refl
 
 -- a column that the row doesn't have
-pub no-field : (path fields : List (List ℕ)) (at : ℕ) → Some at ≡ column_at path → None ≡ field_at fields at → kind.Missing ≡ field_in path fields
+pub no-field : (path fields : List (List ℕ)) (at : ℕ) → Some at ≡ column_at path → None ≡ field_at fields at
+    → kind.Missing ≡ field_in path fields
 unfolding field_in
 no-field path fields at e f = rw (← e, ← f) refl
 
 -- a column that the row has
-pub the-field : (path fields : List (List ℕ)) (at : ℕ) (text : List ℕ) → Some at ≡ column_at path → Some text ≡ field_at fields at → field_of (Some text) ≡ field_in path fields
+pub the-field : (path fields : List (List ℕ)) (at : ℕ) (text : List ℕ) → Some at ≡ column_at path
+    → Some text ≡ field_at fields at → field_of (Some text) ≡ field_in path fields
 unfolding field_in
 the-field path fields at text e f = rw (← e, ← f) refl
 

@@ -1,6 +1,7 @@
 -- What a search for bytes says of the bytes up to the place that it found.
 use Rattle.std.specs.Prelude.{None}
-use Rattle.std.proofs.Common.{◌≡◌, ◌==◌, ◌<◌, ◌≤◌, ◌++◌, ◌∷◌, [], ℕ, List, Bool, Some, zero, suc, refl, ap, true, false, length, take, drop, arith}
+use Rattle.std.proofs.Common.{◌≡◌, ◌==◌, ◌<◌, ◌≤◌, ◌++◌, ◌∷◌, [], ℕ, List, Bool, Some, zero, suc, refl, ap, true, false}
+use Rattle.std.proofs.Common.{length, take, drop, arith}
 use Rattle.std.specs.List.{list_any}
 use Rattle.std.proofs.lemmas.Bool.{eqb-true}
 use Rattle.std.proofs.lemmas.List.{take_all}
@@ -13,7 +14,8 @@ not-true true n = absurd (n refl)
 not-true false n = refl
 
 -- bytes of which none passes a test
-none-below : (test : ℕ → Bool) (b : List ℕ) (n : ℕ) → ((k : ℕ) → k < n → Passes test b k → ⊥) → n ≤ length b → list_any test (take n b) ≡ false
+none-below : (test : ℕ → Bool) (b : List ℕ) (n : ℕ) → ((k : ℕ) → k < n → Passes test b k → ⊥) → n ≤ length b
+    → list_any test (take n b) ≡ false
 none-below test b zero none h = refl
 none-below test [] (suc n) none h = absurd (omega arith)
 none-below test (c ∷ b) (suc n) none h =
@@ -24,7 +26,9 @@ pub none-before : (test : ℕ → Bool) (b : List ℕ) (n : ℕ) → IsFirstByte
 none-before test b n found = none-below test b n (λ k lt. found.0.before k (omega arith) lt) (omega (arith, found.0.high))
 
 pub none-in : (test : ℕ → Bool) (b : List ℕ) → IsFirstByte test b None → list_any test b ≡ false
-none-in test b none = rw (take_all (length b) b (omega arith)) at (none-below test b (length b) (λ k lt. none k (omega arith) lt) (omega arith))
+none-in test b none =
+    rw (take_all (length b) b (omega arith)) at
+    (none-below test b (length b) (λ k lt. none k (omega arith) lt) (omega arith))
 
 -- where no quote stands, nothing is written twice
 pub escaped-plain : (b : List ℕ) → IsFirstByte (is_byte 34) b None → escaped default_writer b ≡ b
@@ -37,7 +41,8 @@ unfolding escaped
 escaped-at [] n none here h = absurd (omega arith)
 escaped-at (c ∷ b) zero none here h = rw here (ap (λ t. 34 ∷ t ∷ escaped default_writer b) (eqb-true c 34 here))
 escaped-at (c ∷ b) (suc n) none here h =
-    rw (not-true (c == 34) (none 0 (omega arith))) (ap (λ t. c ∷ t) (escaped-at b n (λ k lt. none (suc k) (omega arith)) here (omega arith)))
+    rw (not-true (c == 34) (none 0 (omega arith)))
+    (ap (λ t. c ∷ t) (escaped-at b n (λ k lt. none (suc k) (omega arith)) here (omega arith)))
 
 pub escaped-found : (b run behind : List ℕ) (n : ℕ) → IsFirstByte (is_byte 34) b (Some n) → run ≡ take n b → behind ≡ drop 1 (drop n b)
     → escaped default_writer b ≡ (run ++ (34 ∷ 34 ∷ [])) ++ escaped default_writer behind

@@ -26,7 +26,8 @@ Leaves x = (is_end x.1 ≡ true → IsBetween x.0) × (is_end x.1 ≡ false → 
 
 -- what a step leaves outside quotes, by what the byte is: a comma, CR, LF
 abbrev pub after-plain : Bool → Bool → Bool → State × Action
-after-plain a r n = if a then (st.StartField, act.EndField) else if r || n then (if r then st.AfterCr else st.StartRecord, act.EndRecord) else (st.InField, act.Copy)
+after-plain a r n = if a then (st.StartField, act.EndField) else if r || n then
+    (if r then st.AfterCr else st.StartRecord, act.EndRecord) else (st.InField, act.Copy)
 
 plain-leaves : (a r n : Bool) → Leaves (after-plain a r n)
 plain-leaves true r n = (λ e. cc e, λ e. refl)

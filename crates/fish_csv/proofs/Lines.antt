@@ -1,6 +1,7 @@
 -- A line without quotes is a row with the parts between its commas, and is the text that is stored for it.
 use Rattle.std.specs.Prelude.{◌||◌, Option}
-use Rattle.std.proofs.Common.{◌≡◌, ◌==◌, ◌<◌, ◌≤◌, ◌++◌, ◌∷◌, ◌∙◌, [], ℕ, List, Bool, Some, refl, sym, ap, true, false, length, length-append, append_assoc, arith, inl, inr}
+use Rattle.std.proofs.Common.{◌≡◌, ◌==◌, ◌<◌, ◌≤◌, ◌++◌, ◌∷◌, ◌∙◌, [], ℕ, List, Bool, Some, refl, sym, ap, true, false}
+use Rattle.std.proofs.Common.{length, length-append, append_assoc, arith, inl, inr}
 use Rattle.std.specs.List.{list_any, onto_first, slice_split}
 use Rattle.std.proofs.lemmas.Bool.{cases_Bool, eq-eqb, eqb-true, false≢true}
 use Rattle.std.proofs.lemmas.Bool.Decides.{nat_tests}
@@ -37,14 +38,16 @@ no-need c e comma =
     rw (comma, first.0, first.1, last.1) refl
 
 -- a comma stands in front of each part but the first
-comma-front : (c : ℕ) (y x : List ℕ) (ys : List (List ℕ)) → is_comma c ≡ true → field_text default_writer y ≡ y → y ++ fields_text default_writer ys ≡ x
+comma-front : (c : ℕ) (y x : List ℕ) (ys : List (List ℕ)) → is_comma c ≡ true → field_text default_writer y ≡ y
+    → y ++ fields_text default_writer ys ≡ x
     → fields_text default_writer (y ∷ ys) ≡ c ∷ x
 unfolding fields_text
 comma-front c y x ys comma text e = rw (text, eqb-true c 44 comma) (ap (λ t. 44 ∷ t) e)
 
 -- the first part of a line and the others: none calls for quotes, and with the commas they are the line
 abbrev Parts : List ℕ → Type 0
-Parts x = (y : List ℕ) × (ys : List (List ℕ)) × (parts_of x ≡ y ∷ ys) × (list_any (needs_byte default_writer) y ≡ false) × (y ++ fields_text default_writer ys ≡ x)
+Parts x = (y : List ℕ) × (ys : List (List ℕ)) × (parts_of x ≡ y ∷ ys)
+    × (list_any (needs_byte default_writer) y ≡ false) × (y ++ fields_text default_writer ys ≡ x)
 
 parts : (x : List ℕ) → list_any is_mark x ≡ false → Parts x
 unfolding fields_text
@@ -54,14 +57,25 @@ parts (c ∷ x) e =
     let more = parts x both.1 in
     elim (cases_Bool (is_comma c)) [
       | inl comma ↦
-          let text : field_text default_writer more.0 ≡ more.0 = rw more.3 refl in
-          ([], more.0 ∷ more.1, slice_split-cons_yes is_comma c x comma ∙ ap (λ t. [] ∷ t) more.2, refl, comma-front c more.0 x more.1 comma text more.4)
-      | inr other ↦
-          (c ∷ more.0, more.1, slice_split-cons_no is_comma c x other ∙ ap (onto_first c) more.2, rw (no-need c both.0 other) more.3, ap (λ t. c ∷ t) more.4)
+          let text : field_text default_writer more.0 ≡ more.0 = rw more.3 refl in (
+            [],
+            more.0 ∷ more.1,
+            slice_split-cons_yes is_comma c x comma ∙ ap (λ t. [] ∷ t) more.2,
+            refl,
+            comma-front c more.0 x more.1 comma text more.4,
+          )
+      | inr other ↦ (
+        c ∷ more.0,
+        more.1,
+        slice_split-cons_no is_comma c x other ∙ ap (onto_first c) more.2,
+        rw (no-need c both.0 other) more.3,
+        ap (λ t. c ∷ t) more.4,
+      )
     ]
 
 -- a line that is not empty is no blank row
-not-blank : (y : List ℕ) (ys : List (List ℕ)) (c : ℕ) (x : List ℕ) → list_any (needs_byte default_writer) y ≡ false → y ++ fields_text default_writer ys ≡ c ∷ x → is_blank default_writer (y ∷ ys) ≡ false
+not-blank : (y : List ℕ) (ys : List (List ℕ)) (c : ℕ) (x : List ℕ) → list_any (needs_byte default_writer) y ≡ false
+    → y ++ fields_text default_writer ys ≡ c ∷ x → is_blank default_writer (y ∷ ys) ≡ false
 unfolding is_blank fields_text
 not-blank [] [] c x plain e = cc e
 not-blank (b ∷ y) [] c x plain e = rw plain (grind (arith, nat_tests))
@@ -134,10 +148,18 @@ line-run fields field (c ∷ x) tail e ends =
     let first = neither (c == 34) (c == 13) last.0 in
     elim (cases_Bool (is_comma c)) [
       | inl comma ↦
-          plain-comma c fields field (x ++ tail) (eqb-true c 44 comma) ∙ field-same (fields ++ (field ∷ [])) x tail both.1 ends ∙ line-run (fields ++ (field ∷ [])) [] x tail both.1 ends
-          ∙ rw (joined-none x, slice_split-cons_yes is_comma c x comma, append-nil field, append_assoc fields (field ∷ []) (parts_of x)) refl
+          plain-comma c fields field (x ++ tail) (eqb-true c 44 comma)
+          ∙ field-same (fields ++ (field ∷ [])) x tail both.1 ends
+          ∙ line-run (fields ++ (field ∷ [])) [] x tail both.1 ends
+          ∙ rw (
+            joined-none x,
+            slice_split-cons_yes is_comma c x comma,
+            append-nil field,
+            append_assoc fields (field ∷ []) (parts_of x),
+          ) refl
       | inr other ↦
-          plain-other c fields field (x ++ tail) (λ same. false≢true (sym other ∙ eq-eqb c 44 same)) (rw (first.1, last.1) refl) ∙ line-run fields (field ++ (c ∷ [])) x tail both.1 ends
+          plain-other c fields field (x ++ tail) (λ same. false≢true (sym other ∙ eq-eqb c 44 same))
+          (rw (first.1, last.1) refl) ∙ line-run fields (field ++ (c ∷ [])) x tail both.1 ends
           ∙ rw (onto-more c field (parts_of x), slice_split-cons_no is_comma c x other) refl
     ]
 
@@ -148,20 +170,27 @@ line-first c x tail e ends =
     let last = neither (c == 34 || c == 13) (c == 10) (neither (is_mark c) (list_any is_mark x) e).0 in
     let first = neither (c == 34) (c == 13) last.0 in
     let begins : (c == 13 || c == 10) ≡ false = rw (first.1, last.1) refl in
-    row-other c [] [] (x ++ tail) begins ∙ field-same [] (c ∷ x) tail e ends ∙ line-run [] [] (c ∷ x) tail e ends ∙ ap (λ rows. after-line rows tail) (joined-none (c ∷ x))
+    row-other c [] [] (x ++ tail) begins ∙ field-same [] (c ∷ x) tail e ends ∙ line-run [] [] (c ∷ x) tail e ends
+    ∙ ap (λ rows. after-line rows tail) (joined-none (c ∷ x))
 
 -- the row of a line, and the rows behind it
-line-rows : (c : ℕ) (x tail : List ℕ) → list_any is_mark (c ∷ x) ≡ false → ends_line tail ≡ true → rows_in ((c ∷ x) ++ tail) ≡ parts_of (c ∷ x) ∷ rows_in tail
+line-rows : (c : ℕ) (x tail : List ℕ) → list_any is_mark (c ∷ x) ≡ false → ends_line tail ≡ true
+    → rows_in ((c ∷ x) ++ tail) ≡ parts_of (c ∷ x) ∷ rows_in tail
 line-rows c x [] e ends = rows-next ((c ∷ x) ++ []) ∙ rw (line-first c x [] e ends) refl
-line-rows c x (d ∷ rest) e ends = rows-next ((c ∷ x) ++ (d ∷ rest)) ∙ rw (line-first c x (d ∷ rest) e ends) (ap (λ rows. parts_of (c ∷ x) ∷ rows) (sym (rows-end d rest ends)))
+line-rows c x (d ∷ rest) e ends = rows-next ((c ∷ x) ++ (d ∷ rest))
+    ∙ rw (line-first c x (d ∷ rest) e ends) (ap (λ rows. parts_of (c ∷ x) ∷ rows) (sym (rows-end d rest ends)))
 
 -- a line of a text and what is behind it, as the code names them
 pub TakesRow-line : (b line rest : List ℕ) (outcome : Option (List ℕ)) → b ≡ line ++ rest → 0 < length line
     → list_any is_mark line ≡ false → ends_line rest ≡ true → outcome ≡ kept line → TakesRow b outcome rest
 unfolding payload_of
 TakesRow-line b [] rest outcome same some e ends is = absurd (omega arith)
-TakesRow-line b (c ∷ x) rest outcome same some e ends is =
-    (parts_of (c ∷ x), ap rows_in same ∙ line-rows c x rest e ends, ap kept (line-stored c x e) ∙ sym is, omega (arith, ap length same, length-append (c ∷ x) rest))
+TakesRow-line b (c ∷ x) rest outcome same some e ends is = (
+  parts_of (c ∷ x),
+  ap rows_in same ∙ line-rows c x rest e ends,
+  ap kept (line-stored c x e) ∙ sym is,
+  omega (arith, ap length same, length-append (c ∷ x) rest),
+)
 
 -- a line is a text that is stored
 pub IsStored-line : (line : List ℕ) → 0 < length line → list_any is_mark line ≡ false → IsStored line
@@ -169,5 +198,6 @@ IsStored-line [] some e = absurd (omega arith)
 IsStored-line (c ∷ x) some e = (parts_of (c ∷ x), sym (line-stored c x e))
 
 -- line ends in front of the row count nowhere
-pub TakesRow-same : (b behind rest : List ℕ) (outcome : Option (List ℕ)) → rows_in behind ≡ rows_in b → length behind ≤ length b → TakesRow behind outcome rest → TakesRow b outcome rest
+pub TakesRow-same : (b behind rest : List ℕ) (outcome : Option (List ℕ)) → rows_in behind ≡ rows_in b
+    → length behind ≤ length b → TakesRow behind outcome rest → TakesRow b outcome rest
 TakesRow-same b behind rest outcome same within (fields, rows, payload, less) = (fields, sym same ∙ rows, payload, omega (arith, less))

@@ -54,7 +54,8 @@ several fields (x ∷ more) h = refl
 
 -- a row is the only one where no byte is left behind it but line ends
 pub one_row : (b : List ℕ) (fields : List (List ℕ)) (rest text : List ℕ) (empty : Bool)
-    → rows_in b ≡ fields ∷ rows_in rest → rows_in text ≡ rows_in rest → IfSome (slice_get text 0) (λ c. (c == 13 || c == 10) ≡ false) → empty ≡ (length text == 0)
+    → rows_in b ≡ fields ∷ rows_in rest → rows_in text ≡ rows_in rest
+    → IfSome (slice_get text 0) (λ c. (c == 13 || c == 10) ≡ false) → empty ≡ (length text == 0)
     → only (rows_in b) ≡ (if empty then Some fields else None)
 one_row b fields rest [] empty first same begins e = rw (first, sym same, rows-nil, e) refl
 one_row b fields rest (c ∷ text) empty first same begins e =
@@ -67,7 +68,8 @@ pub read_none : (b text : List ℕ) (fields : List (List ℕ)) (found : Bool) �
 read_none b text fields found same utf8 one none = row_reading_text b text utf8 same ∙ one ∙ rw none refl
 
 -- a text that is one row
-pub read_some : (b text : List ℕ) (fields : List (List ℕ)) (found : Bool) → text ≡ strip_bom b → is_utf8 b ≡ true → length b ≤ longest_payload
+pub read_some : (b text : List ℕ) (fields : List (List ℕ)) (found : Bool) → text ≡ strip_bom b → is_utf8 b ≡ true
+    → length b ≤ longest_payload
     → only (rows_in text) ≡ (if found then Some fields else None) → found ≡ true → row_of b ≡ Some fields
 read_some b text fields found same utf8 short one is = row_of_short b short ∙ row_reading_text b text utf8 same ∙ one ∙ rw is refl
 

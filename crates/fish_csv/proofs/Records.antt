@@ -1,6 +1,7 @@
 -- All rows of a text, row by row: the number of rows that `csv`'s definition counts down is always enough.
 use Rattle.std.specs.Prelude.{◌-◌, ◌||◌, ◌⊎◌, Option, None, if◌then◌else◌}
-use Rattle.std.proofs.Common.{◌≡◌, ◌==◌, ◌<◌, ◌≤◌, ◌+◌, ◌++◌, ◌∷◌, ◌∙◌, [], ℕ, List, Bool, Some, zero, suc, refl, sym, ap, true, false, length, take, drop, add-one, arith, inl, inr}
+use Rattle.std.proofs.Common.{◌≡◌, ◌==◌, ◌<◌, ◌≤◌, ◌+◌, ◌++◌, ◌∷◌, ◌∙◌, [], ℕ, List, Bool, Some, zero, suc, refl, sym}
+use Rattle.std.proofs.Common.{ap, true, false, length, take, drop, add-one, arith, inl, inr}
 use Rattle.std.proofs.lemmas.Bool.{cases_Bool, eqb-true}
 use Rattle.std.proofs.lemmas.List.{take-append-drop}
 use Rattle.csv.proofs.ReadFacts.{run-copies}
@@ -28,9 +29,15 @@ begun s fields field [] h = rw (inside-ends s h) ((fields ++ (field ∷ []), st.
 begun s fields field (c ∷ rest) h =
     let leaves = inside-leaves s c h in
     elim (cases_Bool (is_end (step default_config s c).1)) [
-      | inl ends ↦ rw ends ((fields_after (step default_config s c).1 fields field, (step default_config s c).0, rest), refl, leaves.0 ends, omega arith)
+      | inl ends ↦ rw ends (
+        (fields_after (step default_config s c).1 fields field, (step default_config s c).0, rest),
+        refl,
+        leaves.0 ends,
+        omega arith,
+      )
       | inr on ↦
-          let later = begun (step default_config s c).0 (fields_after (step default_config s c).1 fields field) (field_after (step default_config s c).1 c field) rest (leaves.1 on) in
+          let later = begun (step default_config s c).0 (fields_after (step default_config s c).1 fields field)
+          (field_after (step default_config s c).1 c field) rest (leaves.1 on) in
           rw on (later.0, later.1, later.2, omega (arith, later.3))
     ]
 
@@ -68,7 +75,8 @@ after-cr (c ∷ rest) = elim (cases_Bool (c == 10)) [
 ]
 
 -- between rows a text goes on as from its start
-between-same : (s : State) (b : List ℕ) → IsBetween s → next_record default_config s [] [] b ≡ next_record default_config st.StartRecord [] [] b
+between-same : (s : State) (b : List ℕ) → IsBetween s
+    → next_record default_config s [] [] b ≡ next_record default_config st.StartRecord [] [] b
 between-same s b (inl e) = rw e refl
 between-same s b (inr e) = rw e (after-cr b)
 
@@ -82,12 +90,14 @@ next-alike f g xs None h same = refl
 next-alike f g xs (Some q) h same = ap (λ rows. q.0 ∷ rows) (same q.1 q.2 h.0 h.1)
 
 -- counts that are both above the length of the text give the same rows
-enough : (m n : ℕ) (s : State) (xs : List ℕ) → IsBetween s → length xs < m → length xs < n → records_from default_config m s xs ≡ records_from default_config n s xs
+enough : (m n : ℕ) (s : State) (xs : List ℕ) → IsBetween s → length xs < m → length xs < n
+    → records_from default_config m s xs ≡ records_from default_config n s xs
 unfolding records_from
 enough zero n s xs h a b = absurd (omega arith)
 enough (suc m) zero s xs h a b = absurd (omega arith)
 enough (suc m) (suc n) s xs h a b =
-    next-alike (records_from default_config m) (records_from default_config n) xs (next_record default_config s [] [] xs) (IsNext-between s xs h)
+    next-alike (records_from default_config m) (records_from default_config n) xs
+    (next_record default_config s [] [] xs) (IsNext-between s xs h)
     (λ s2 ys h2 lt. enough m n s2 ys h2 (omega arith) (omega arith))
 
 -- between rows the rows that are left are those of the text that is left
@@ -100,7 +110,8 @@ rows-left (suc n) s xs h a = rw (between-same s xs h) (enough (suc n) (length xs
 pub rows-next : (xs : List ℕ) → rows_in xs ≡ records_next (λ s ys. rows_in ys) (row_from place.Row [] [] xs)
 unfolding records_from rows_in
 rows-next xs = rw (add-one (length xs))
-    (next-alike (records_from default_config (length xs)) (λ s ys. rows_in ys) xs (row_from place.Row [] [] xs) (next-row xs) (λ s ys h lt. rows-left (length xs) s ys h lt))
+    (next-alike (records_from default_config (length xs)) (λ s ys. rows_in ys) xs (row_from place.Row [] [] xs)
+    (next-row xs) (λ s ys h lt. rows-left (length xs) s ys h lt))
 
 -- a text with no first row has no rows
 pub rows-none : (xs : List ℕ) → row_from place.Row [] [] xs ≡ None → rows_in xs ≡ []
@@ -135,7 +146,8 @@ rows-there c xs e none =
 run-taken : (at : Place) (fields : List (List ℕ)) (field rest : List ℕ) (n : ℕ) → Runs default_config (state_of at) (take n rest)
     → row_from at fields field rest ≡ row_from at fields (field ++ take n rest) (drop n rest)
 run-taken at fields field rest n runs =
-    ap (λ t. row_from at fields field t) (sym (take-append-drop n rest)) ∙ run-copies default_config (state_of at) fields field (take n rest) (drop n rest) runs
+    ap (λ t. row_from at fields field t) (sym (take-append-drop n rest))
+    ∙ run-copies default_config (state_of at) fields field (take n rest) (drop n rest) runs
 
 -- a turn's run, as the code names its parts
 pub turn-run : (b : List ℕ) (at : Place) (fields : List (List ℕ)) (field rest run behind after : List ℕ) (n : ℕ)

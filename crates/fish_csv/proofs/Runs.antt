@@ -23,10 +23,12 @@ Runs-below s test (c ∷ b) (suc n) joins none h =
     (joins c (not-true (test c) (none 0 (omega arith))), Runs-below s test b n joins (λ k lt. none (suc k) (omega arith)) (omega arith))
 
 -- the bytes up to the first that passes the test, or to the end
-pub Runs-found : (s : State) (test : ℕ → Bool) (b : List ℕ) (found : Option ℕ) → ((c : ℕ) → test c ≡ false → step default_config s c ≡ (s, act.Copy))
+pub Runs-found : (s : State) (test : ℕ → Bool) (b : List ℕ) (found : Option ℕ)
+    → ((c : ℕ) → test c ≡ false → step default_config s c ≡ (s, act.Copy))
     → IsFirstByte test b found → Runs default_config s (take (unwrap_or found (length b)) b)
 Runs-found s test b None joins none = Runs-below s test b (length b) joins (λ k lt. none k (omega arith) lt) (omega arith)
-Runs-found s test b (Some n) joins first = Runs-below s test b n joins (λ k lt. first.0.before k (omega arith) lt) (omega (arith, first.0.high))
+Runs-found s test b (Some n) joins first =
+    Runs-below s test b n joins (λ k lt. first.0.before k (omega arith) lt) (omega (arith, first.0.high))
 
 -- outside quotes, each byte that is no comma and no line end
 pub joins-plain : (c : ℕ) → is_byte3 44 13 10 c ≡ false → step default_config st.InField c ≡ (st.InField, act.Copy)

@@ -23,7 +23,8 @@ either false b e = inr e
 
 -- a comma ends a field
 pub plain-comma : (c : ℕ) (fields : List (List ℕ)) (field rest : List ℕ) → c ≡ 44
-    → next_record default_config st.InField fields field (c ∷ rest) ≡ next_record default_config st.StartField (fields ++ (field ∷ [])) [] rest
+    → next_record default_config st.InField fields field (c ∷ rest) ≡ next_record default_config st.StartField
+    (fields ++ (field ∷ [])) [] rest
 unfolding next_record
 plain-comma c fields field rest e = rw e refl
 
@@ -63,13 +64,15 @@ quoted-quote c fields field rest e = rw e refl
 
 -- another byte between quotes
 pub quoted-other : (c : ℕ) (fields : List (List ℕ)) (field rest : List ℕ) → c ≢ 34
-    → next_record default_config st.InQuoted fields field (c ∷ rest) ≡ next_record default_config st.InQuoted fields (field ++ (c ∷ [])) rest
+    → next_record default_config st.InQuoted fields field (c ∷ rest) ≡ next_record default_config st.InQuoted fields
+    (field ++ (c ∷ [])) rest
 unfolding next_record
 quoted-other c fields field rest n = rw (ne_eqb c 34 n) refl
 
 -- a quote behind a quote
 pub closed-quote : (fields : List (List ℕ)) (field rest : List ℕ)
-    → next_record default_config st.AfterQuote fields field (34 ∷ rest) ≡ next_record default_config st.InQuoted fields (field ++ (34 ∷ [])) rest
+    → next_record default_config st.AfterQuote fields field (34 ∷ rest) ≡ next_record default_config st.InQuoted fields
+    (field ++ (34 ∷ [])) rest
 unfolding next_record
 closed-quote fields field rest = refl
 
@@ -92,14 +95,16 @@ row-other c fields field rest e =
     record-same fields field c rest q.0 q.1
 
 -- what one byte does at a place it does at each place that takes it alike
-pub Advances-as : (at to : Place) (c : ℕ) (fields : List (List ℕ)) (field : List ℕ) (o : Option Place) (after : List (List ℕ)) (next : List ℕ)
+pub Advances-as : (at to : Place) (c : ℕ) (fields : List (List ℕ)) (field : List ℕ) (o : Option Place)
+    (after : List (List ℕ)) (next : List ℕ)
     → ((rest : List ℕ) → row_from at fields field (c ∷ rest) ≡ row_from to fields field (c ∷ rest))
     → Advances to c fields field o after next → Advances at c fields field o after next
 Advances-as at to c fields field None after next same h = λ rest. let x = h rest in (x.0, x.1, same rest ∙ x.2)
 Advances-as at to c fields field (Some p) after next same h = λ rest. same rest ∙ h rest
 
 -- the same of a call's answer
-pub IfOk-as : {E : Type 0} (r : Result (Option Place) E) (at to : Place) (c : ℕ) (fields : List (List ℕ)) (field : List ℕ) (after : List (List ℕ)) (next : List ℕ)
+pub IfOk-as : {E : Type 0} (r : Result (Option Place) E) (at to : Place) (c : ℕ) (fields : List (List ℕ))
+    (field : List ℕ) (after : List (List ℕ)) (next : List ℕ)
     → ((rest : List ℕ) → row_from at fields field (c ∷ rest) ≡ row_from to fields field (c ∷ rest))
     → IfOk r (λ o. Advances to c fields field o after next) → IfOk r (λ o. Advances at c fields field o after next)
 IfOk-as (Ok o) at to c fields field after next same h = Advances-as at to c fields field o after next same h
@@ -110,7 +115,8 @@ pub end-row : (fields : List (List ℕ)) (field : List ℕ) → row_from place.R
 unfolding next_record
 end-row fields field = refl
 
-pub end-other : (at : Place) (fields : List (List ℕ)) (field : List ℕ) → at ≢ place.Row → row_from at fields field [] ≡ Some (fields ++ (field ∷ []), st.StartRecord, [])
+pub end-other : (at : Place) (fields : List (List ℕ)) (field : List ℕ) → at ≢ place.Row
+    → row_from at fields field [] ≡ Some (fields ++ (field ∷ []), st.StartRecord, [])
 unfolding next_record
 end-other place.Row fields field n = absurd (n refl)
 end-other place.Field fields field n = refl

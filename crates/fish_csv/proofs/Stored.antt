@@ -1,6 +1,7 @@
 -- The text that is stored for a row, and that it reads back as one row.
 use Rattle.std.specs.Prelude.{◌-◌, None, if◌then◌else◌}
-use Rattle.std.proofs.Common.{◌≡◌, ◌≤◌, ◌++◌, ◌∷◌, ◌∙◌, [], ℕ, List, Some, refl, sym, ap, subst, true, length, take, length-append, append_assoc, arith, inl, inr}
+use Rattle.std.proofs.Common.{◌≡◌, ◌≤◌, ◌++◌, ◌∷◌, ◌∙◌, [], ℕ, List, Some, refl, sym, ap, subst, true, length, take}
+use Rattle.std.proofs.Common.{length-append, append_assoc, arith, inl, inr}
 use Rattle.std.proofs.lemmas.Bool.{cases_Bool}
 use Rattle.std.proofs.lemmas.List.{take-append-le, take_all}
 use Rattle.csv.specs.Machine.{Read, field_after, fields_after, is_end, next_record, step}
@@ -34,8 +35,10 @@ but-last x c =
 pub stored-is : (fields : List (List ℕ)) → stored_text fields ≡ row_body default_writer fields ++ blank_quotes fields
 unfolding stored_text
 stored-is fields =
-    let parts : row_text default_writer fields ≡ (row_body default_writer fields ++ blank_quotes fields) ++ (10 ∷ []) = sym (append_assoc (row_body default_writer fields) (blank_quotes fields) (10 ∷ [])) in
-    subst (λ t. take (length t - 1) t ≡ row_body default_writer fields ++ blank_quotes fields) (sym parts) (but-last (row_body default_writer fields ++ blank_quotes fields) 10)
+    let parts : row_text default_writer fields ≡ (row_body default_writer fields ++ blank_quotes fields) ++ (10 ∷ []) =
+    sym (append_assoc (row_body default_writer fields) (blank_quotes fields) (10 ∷ [])) in
+    subst (λ t. take (length t - 1) t ≡ row_body default_writer fields ++ blank_quotes fields) (sym parts)
+    (but-last (row_body default_writer fields ++ blank_quotes fields) 10)
 
 -- the row's text is that text and LF
 stored-lf : (fields : List (List ℕ)) → row_text default_writer fields ≡ stored_text fields ++ (10 ∷ [])
@@ -71,13 +74,19 @@ end-as-lf st.AfterCr fields after field [] e = absurd (none-left _ (after, st.St
 end-as-lf st.InComment fields after field [] e = absurd (none-left _ (after, st.StartRecord, 0 ∷ []) e refl refl)
 end-as-lf st.InEscape fields after field [] e = absurd (none-left _ (after, st.StartRecord, 0 ∷ []) e refl refl)
 end-as-lf st.InQuoted fields after field [] e = absurd (none-left _ (after, st.StartRecord, 0 ∷ []) e refl refl)
-end-as-lf st.StartField fields after field [] e = ap (λ rows. Some (rows, st.StartRecord, [])) (same-fields _ (after, st.StartRecord, 0 ∷ []) e)
-end-as-lf st.InField fields after field [] e = ap (λ rows. Some (rows, st.StartRecord, [])) (same-fields _ (after, st.StartRecord, 0 ∷ []) e)
-end-as-lf st.AfterQuote fields after field [] e = ap (λ rows. Some (rows, st.StartRecord, [])) (same-fields _ (after, st.StartRecord, 0 ∷ []) e)
+end-as-lf st.StartField fields after field [] e =
+    ap (λ rows. Some (rows, st.StartRecord, [])) (same-fields _ (after, st.StartRecord, 0 ∷ []) e)
+end-as-lf st.InField fields after field [] e =
+    ap (λ rows. Some (rows, st.StartRecord, [])) (same-fields _ (after, st.StartRecord, 0 ∷ []) e)
+end-as-lf st.AfterQuote fields after field [] e =
+    ap (λ rows. Some (rows, st.StartRecord, [])) (same-fields _ (after, st.StartRecord, 0 ∷ []) e)
 end-as-lf s fields after field (c ∷ x) e = elim (cases_Bool (is_end (step default_config s c).1)) [
   | inl ends ↦
-      absurd (longer x (same-rest (fields_after (step default_config s c).1 fields field, (step default_config s c).0, x ++ (10 ∷ 0 ∷ [])) (after, st.StartRecord, 0 ∷ []) (rw ends at e)))
-  | inr on ↦ rw on (end-as-lf (step default_config s c).0 (fields_after (step default_config s c).1 fields field) after (field_after (step default_config s c).1 c field) x (rw on at e))
+      absurd (longer x (same-rest
+      (fields_after (step default_config s c).1 fields field, (step default_config s c).0, x ++ (10 ∷ 0 ∷ []))
+      (after, st.StartRecord, 0 ∷ []) (rw ends at e)))
+  | inr on ↦ rw on (end-as-lf (step default_config s c).0 (fields_after (step default_config s c).1 fields field) after
+      (field_after (step default_config s c).1 c field) x (rw on at e))
 ]
 
 -- the stored text of a row reads as one row
@@ -88,7 +97,8 @@ stored-row fields =
     (rows-more (stored_text fields) (read_back fields) st.StartRecord [] one).0 ∙ rw rows-nil refl
 
 -- a stored text in UTF-8 within the limit, with no byte order mark at its front, is a payload
-pub kept-stored : (text behind : List ℕ) → IsStored text → length text ≤ longest_payload → is_utf8 text ≡ true → behind ≡ strip_bom text → length text ≤ length behind
+pub kept-stored : (text behind : List ℕ) → IsStored text → length text ≤ longest_payload → is_utf8 text ≡ true
+    → behind ≡ strip_bom text → length text ≤ length behind
     → Some text ≡ kept text
 kept-stored text behind (fields, e) short utf8 same long =
     let whole : length text ≤ length (strip_bom text) = omega (arith, ap length same) in

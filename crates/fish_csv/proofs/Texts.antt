@@ -1,13 +1,15 @@
 -- The fields of a text in UTF-8 are texts in UTF-8: all bytes that no field takes are ASCII.
 use Rattle.std.specs.Prelude.{◌||◌, ◌&&◌, ◌⊎◌, Option, None, IsUtf8, if◌then◌else◌}
-use Rattle.std.proofs.Common.{◌≡◌, ◌==◌, ◌<◌, ◌+◌, ◌++◌, ◌∷◌, ◌∙◌, [], ℕ, List, Bool, Some, suc, zero, refl, sym, ap, subst, true, false, length, take, drop, get_or, add-one, arith, inl, inr, append_assoc}
+use Rattle.std.proofs.Common.{◌≡◌, ◌==◌, ◌<◌, ◌+◌, ◌++◌, ◌∷◌, ◌∙◌, [], ℕ, List, Bool, Some, suc, zero, refl, sym, ap}
+use Rattle.std.proofs.Common.{subst, true, false, length, take, drop, get_or, add-one, arith, inl, inr, append_assoc}
 use Rattle.std.specs.List.{list_all}
 use Rattle.std.specs.Str.{IsCharBoundary, is_utf8}
 use Rattle.std.proofs.lemmas.Bool.{cases_Bool, eqb-true}
 use Rattle.std.proofs.lemmas.List.{append-nil}
 use Rattle.std.proofs.lemmas.List.Folds.{list_all-append}
 use lib.Utf8.{encode}
-use Rattle.std.proofs.lemmas.Str.{IsCharBoundary-after_ascii, IsUtf8-append, IsUtf8-drop, IsUtf8-from_is_utf8, IsUtf8-past_char, IsUtf8-take, is_utf8-from_IsUtf8}
+use Rattle.std.proofs.lemmas.Str.{IsCharBoundary-after_ascii, IsUtf8-append, IsUtf8-drop, IsUtf8-from_is_utf8}
+use Rattle.std.proofs.lemmas.Str.{IsUtf8-past_char, IsUtf8-take, is_utf8-from_IsUtf8}
 use Rattle.csv.specs.Machine.{Read, field_after, fields_after, is_end, next_record, step}
 use Rattle.csv.specs.Reading.{default_config, is_bom, records_next, strip_bom}
 use Rattle.csv.specs.Records.{field_at}
@@ -46,7 +48,8 @@ length-front (x ∷ p) rest c = omega (arith, length-front p rest c)
 -- what stands in front of an ASCII byte of a text is a text, and what stands behind it
 in-front : (p rest : List ℕ) (c : ℕ) → c < 128 → IsUtf8 (p ++ (c ∷ rest)) → IsUtf8 p
 in-front p rest c small h =
-    let at : IsCharBoundary (p ++ (c ∷ rest)) (length p) = (omega (arith, length-front p rest c), λ lt wide. absurd (omega (arith, get-front p rest c, wide))) in
+    let at : IsCharBoundary (p ++ (c ∷ rest)) (length p) =
+    (omega (arith, length-front p rest c), λ lt wide. absurd (omega (arith, get-front p rest c, wide))) in
     rw (take-front p rest c) at (IsUtf8-take (p ++ (c ∷ rest)) (length p) h at)
 
 behind : (p rest : List ℕ) (c : ℕ) → c < 128 → IsUtf8 (p ++ (c ∷ rest)) → IsUtf8 rest
@@ -64,10 +67,15 @@ one-more fields field all h = rw (list_all-append is_utf8 fields (field ∷ []),
 -- an action keeps texts, where each byte that it doesn't copy is ASCII
 kept : (a : Action) (c : ℕ) (fields : List (List ℕ)) (field rest : List ℕ) → (a ≡ act.Copy) ⊎ (c < 128)
     → AreTexts fields → IsUtf8 (field ++ (c ∷ rest)) → AreTexts (fields_after a fields field) × IsUtf8 (field_after a c field ++ rest)
-kept a c fields field rest (inl copies) all text = subst (λ b. AreTexts (fields_after b fields field) × IsUtf8 (field_after b c field ++ rest)) (sym copies) (all, rw (append_assoc field (c ∷ []) rest) text)
-kept act.Skip c fields field rest (inr small) all text = (all, IsUtf8-append field rest (in-front field rest c small text) (behind field rest c small text))
-kept act.EndField c fields field rest (inr small) all text = (one-more fields field all (in-front field rest c small text), behind field rest c small text)
-kept act.EndRecord c fields field rest (inr small) all text = (one-more fields field all (in-front field rest c small text), behind field rest c small text)
+kept a c fields field rest (inl copies) all text =
+    subst (λ b. AreTexts (fields_after b fields field) × IsUtf8 (field_after b c field ++ rest)) (sym copies)
+    (all, rw (append_assoc field (c ∷ []) rest) text)
+kept act.Skip c fields field rest (inr small) all text =
+    (all, IsUtf8-append field rest (in-front field rest c small text) (behind field rest c small text))
+kept act.EndField c fields field rest (inr small) all text =
+    (one-more fields field all (in-front field rest c small text), behind field rest c small text)
+kept act.EndRecord c fields field rest (inr small) all text =
+    (one-more fields field all (in-front field rest c small text), behind field rest c small text)
 kept act.Copy c fields field rest (inr small) all text = (all, rw (append_assoc field (c ∷ []) rest) text)
 
 -- a byte that passes a test for an ASCII byte
@@ -81,11 +89,14 @@ plain-copies c false true n ea er en = inr (small c 13 er (omega arith))
 plain-copies c false false true ea er en = inr (small c 10 en (omega arith))
 plain-copies c false false false ea er en = inl refl
 
-field-copies : (first : Action) (c : ℕ) (q : Bool) → (c == 34) ≡ q → ((if q then (st.InQuoted, first) else after-plain (c == 44) (c == 13) (c == 10)).1 ≡ act.Copy) ⊎ (c < 128)
+field-copies : (first : Action) (c : ℕ) (q : Bool) → (c == 34) ≡ q
+    → ((if q then (st.InQuoted, first) else after-plain (c == 44) (c == 13) (c == 10)).1 ≡ act.Copy) ⊎ (c < 128)
 field-copies first c true e = inr (small c 34 e (omega arith))
 field-copies first c false e = plain-copies c (c == 44) (c == 13) (c == 10) refl refl refl
 
-quoted-copies : (c : ℕ) (q : Bool) → (c == 34) ≡ q → (let x : State × Action = (if q then (st.AfterQuote, act.Skip) else (st.InQuoted, act.Copy)) in x.1 ≡ act.Copy) ⊎ (c < 128)
+quoted-copies : (c : ℕ) (q : Bool) → (c == 34) ≡ q
+    → (let x : State × Action = (if q then (st.AfterQuote, act.Skip) else (st.InQuoted, act.Copy)) in x.1 ≡ act.Copy)
+    ⊎ (c < 128)
 quoted-copies c true e = inr (small c 34 e (omega arith))
 quoted-copies c false e = inl refl
 
@@ -112,11 +123,13 @@ next-texts s fields field (c ∷ rest) q h all text e =
     let next = kept (step default_config s c).1 c fields field rest (step-copies s c h) all text in
     elim (cases_Bool (is_end (step default_config s c).1)) [
       | inl ends ↦
-          let last : Some (fields_after (step default_config s c).1 fields field, (step default_config s c).0, rest) ≡ Some q = rw ends at e in
+          let last : Some (fields_after (step default_config s c).1 fields field, (step default_config s c).0, rest)
+          ≡ Some q = rw ends at e in
           let same : fields_after (step default_config s c).1 fields field ≡ q.0 = cc in
           rw (← same) next.0
       | inr on ↦
-          next-texts (step default_config s c).0 (fields_after (step default_config s c).1 fields field) (field_after (step default_config s c).1 c field) rest q (leaves.1 on) next.0 next.1 (rw on at e)
+          next-texts (step default_config s c).0 (fields_after (step default_config s c).1 fields field)
+          (field_after (step default_config s c).1 c field) rest q (leaves.1 on) next.0 next.1 (rw on at e)
     ]
 
 -- a line end is ASCII
@@ -140,7 +153,8 @@ only-is : (x fields : List (List ℕ)) (rows : List (List (List ℕ))) → only 
 only-is x fields [] e = cc
 only-is x fields (y ∷ more) e = cc
 
-only-first : (more : State → List ℕ → List (List (List ℕ))) (o : Option Read) (fields : List (List ℕ)) → only (records_next more o) ≡ Some fields
+only-first : (more : State → List ℕ → List (List (List ℕ))) (o : Option Read) (fields : List (List ℕ))
+    → only (records_next more o) ≡ Some fields
     → (q : Read) × (o ≡ Some q) × (q.0 ≡ fields)
 only-first more None fields e = cc e
 only-first more (Some q) fields e = (q, refl, only-is q.0 fields (more q.1 q.2) e)
@@ -161,7 +175,8 @@ strip-text (x ∷ y ∷ z ∷ rest) h = elim (cases_Bool (is_bom x y z)) [
 ]
 
 -- the fields of a payload are texts
-pub one-texts : (b text : List ℕ) (fields : List (List ℕ)) → is_utf8 b ≡ true → text ≡ strip_bom b → only (rows_in text) ≡ Some fields → AreTexts fields
+pub one-texts : (b text : List ℕ) (fields : List (List ℕ)) → is_utf8 b ≡ true → text ≡ strip_bom b
+    → only (rows_in text) ≡ Some fields → AreTexts fields
 one-texts b text fields e same one =
     let first = only-first _ _ fields (rw (rows-next text) at one) in
     rw (← first.2) (first-texts text first.0 (rw (← same) at (strip-text b (IsUtf8-from_is_utf8 b e))) first.1)

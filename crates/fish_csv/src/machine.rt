@@ -1,6 +1,7 @@
 //! Reads rows from a slice as `csv` does with its defaults, with memory that the caller keeps.
 
-ghost use Rattle.std.specs.Prelude.{◌≡◌, ◌≢◌, ◌<◌, ◌≤◌, ◌++◌, ◌∷◌, [], length, take, true, OnOk, IfOk, MatchOption, IsTrue, ◌==◌, ◌||◌, ℕ, List};
+ghost use Rattle.std.specs.Prelude.{◌≡◌, ◌≢◌, ◌<◌, ◌≤◌, ◌++◌, ◌∷◌, [], length, take, true, OnOk, IfOk, MatchOption};
+ghost use Rattle.std.specs.Prelude.{IsTrue, ◌==◌, ◌||◌, ℕ, List};
 ghost use Rattle.csv.specs.Machine.{Runs};
 ghost use Rattle.csv.specs.Reading.{default_config};
 ghost use Rattle.csv.specs.Records.{fields_of, partial_of};

@@ -6,7 +6,7 @@ use Rattle.std.specs.List.Sorted.{IsStrictlyIncreasing}
 use Rattle.fish_catalog.proofs.ActiveTexts.{active_of_catalog}
 use Rattle.fish_catalog.specs.Clamps.{clamped}
 use Rattle.fish_catalog.specs.Rows.{IsCatalog, is_active}
-use Rattle.fish_catalog.specs.declared.catalog.TheConstants.{MAX_ROWS}
+use Rattle.fish_catalog.specs.Limits.{most_rows}
 use Rattle.fish_catalog.specs.declared.row.CatRow.{CatRow}
 use Rattle.fish_claim.proofs.Known.{knows_start}
 use Rattle.fish_psf.specs.declared.key.ActiveDef.{ActiveDef}
@@ -89,7 +89,7 @@ defs_ascend defs h written =
 pub active_defs : {rows : List CatRow} {defs : List ActiveDef} → IsCatalog rows → AreActive rows defs
     → All IsWritten defs → AreDefs defs
 active_defs {rows} {defs} h active written =
-    let few : length rows ≤ MAX_ROWS = h.few in
+    let few : length rows ≤ most_rows = h.few in
     let numbered : (k : ℕ) (row : CatRow) → slice_get rows k ≡ Some row → row.id ≡ 0 + k =
     λ k row at. let e = h.ids k row at in omega arith in
     let ascend : AscendFrom 0 (map row_id (filter is_active rows)) = active_ascend 0 rows (omega arith) numbered in

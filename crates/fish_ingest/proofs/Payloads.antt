@@ -10,7 +10,7 @@ use Rattle.fish_value.specs.declared.field.Form.TheVariants.{Json, Csv}
 use Rattle.fish_json.specs.Reading.{record_of}
 use Rattle.fish_json.proofs.Records.{record_is_text}
 use Rattle.fish_csv.specs.Reading.{row_of, row_reading}
-use Rattle.fish_csv.specs.declared.record.TheConstants.{MAX_PAYLOAD}
+use Rattle.fish_value.specs.Limits.{longest_payload}
 use Rattle.fish_psf.specs.Records.{is_record}
 
 -- an object in JSON is a text
@@ -32,13 +32,13 @@ tested_short true o h = refl
 tested_short false o h = absurd cc
 
 -- a length that is tested to be within the limit, is
-within : (b : List ℕ) → nat_le (length b) MAX_PAYLOAD ≡ true → length b ≤ 524288
+within : (b : List ℕ) → nat_le (length b) longest_payload ≡ true → length b ≤ 524288
 within b h = grind (arith, nat_tests)
 
 -- a row in CSV is a text
 row_is_text : (b : List ℕ) → is_some (row_of b) ≡ true → IsUtf8 b
 unfolding row_of row_reading
-row_is_text b h = IsUtf8-from_is_utf8 b (tested (nat_le (length b) MAX_PAYLOAD) (is_utf8 b) _ h).1
+row_is_text b h = IsUtf8-from_is_utf8 b (tested (nat_le (length b) longest_payload) (is_utf8 b) _ h).1
 
 -- a record of either form is a text
 pub record_text : (form : Form) (b : List ℕ) → is_record form b ≡ true → IsUtf8 b
@@ -49,5 +49,5 @@ record_text Csv b h = row_is_text b h
 -- and has at most 524,288 bytes
 pub record_short : (form : Form) (b : List ℕ) → is_record form b ≡ true → length b ≤ 524288
 unfolding is_record record_of row_of
-record_short Json b h = within b (tested_short (nat_le (length b) MAX_PAYLOAD) _ h)
-record_short Csv b h = within b (tested_short (nat_le (length b) MAX_PAYLOAD) _ h)
+record_short Json b h = within b (tested_short (nat_le (length b) longest_payload) _ h)
+record_short Csv b h = within b (tested_short (nat_le (length b) longest_payload) _ h)

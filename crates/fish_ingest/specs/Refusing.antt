@@ -5,7 +5,6 @@ use Rattle.fish_ingest.specs.declared.refusal.IngestRefusal.TheVariants as refus
 use Rattle.fish_ingest.specs.declared.refusal.IngestRefusal.{IngestRefusal}
 use Rattle.fish_layout.specs.Body.{body_lines}
 use Rattle.fish_layout.specs.declared.parts.BodyParts.{BodyParts}
-use Rattle.fish_layout.specs.declared.parts.TheConstants.{MAX_PAYLOAD}
 use Rattle.fish_psf.specs.Records.{is_record}
 use Rattle.fish_rule.specs.declared.view.Epoch.TheVariants.{Out}
 use Rattle.fish_rule.specs.declared.view.Kind.TheVariants.{Stored}
@@ -13,6 +12,7 @@ use Rattle.fish_rule.specs.Clocks.{HasLoaded}
 use Rattle.fish_rule.specs.declared.view.Noted.TheVariants.{Version}
 use Rattle.fish_rule.specs.declared.view.Shut.{Shut}
 use Rattle.fish_rule.specs.declared.view.View.{View}
+use Rattle.fish_value.specs.Limits.{longest_payload}
 use Rattle.fish_value.specs.declared.field.Form.{Form}
 use Rattle.std.specs.Prelude.{ℕ, ◌≡◌, ◌≢◌, ◌⊎◌, ◌<◌, ◌≤◌, List, length, None, Some, true, false, ⊤}
 
@@ -22,8 +22,8 @@ full_of shut = refusal.Full shut.line shut.lines shut.end
 
 -- why a refusal comes
 abbrev pub IsCause : Form → List ℕ → IngestRefusal → Type 0
-IsCause form payload refusal.TooLong = MAX_PAYLOAD < length payload
-IsCause form payload refusal.NotRecord = (length payload ≤ MAX_PAYLOAD) × (is_record form payload ≡ false)
+IsCause form payload refusal.TooLong = longest_payload < length payload
+IsCause form payload refusal.NotRecord = (length payload ≤ longest_payload) × (is_record form payload ≡ false)
 IsCause form payload refusal.OutOfMemory = ⊤
 IsCause form payload (refusal.Full line lines end) = is_record form payload ≡ true
 

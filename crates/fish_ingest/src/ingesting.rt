@@ -9,13 +9,13 @@ ghost use Rattle.fish_rule.specs.Entering.{after_retire};
 ghost use Rattle.fish_rule.specs.Passes.{IsPassOf, view};
 ghost use Rattle.fish_rule.specs.Steps.{after_publish};
 ghost use Rattle.fish_rule.specs.declared.view.Flight.{Flight};
+ghost use Rattle.fish_value.specs.Limits.{longest_payload};
 
 use crate::pending::Pending;
 use crate::refusal::IngestRefusal;
 use crate::starting::start;
 use fish_claim::publish;
 use fish_epoch::{Defs, leave};
-use fish_layout::MAX_PAYLOAD;
 use fish_rule::{Log, Pass};
 use fish_value::Form;
 use std::alloc::Global;
@@ -51,7 +51,7 @@ pub fn ingest(
     ensures defs { IsDefsOf (view pass.new) defs.new }
     ensures ingested { IfOk result (λ number. HasIngested (view pass.old) form payload.now number (view pass.new)) }
 
-    ensures too_long { IsErrOf result refusal.TooLong ↔ (MAX_PAYLOAD < length payload.now) }
+    ensures too_long { IsErrOf result refusal.TooLong ↔ (longest_payload < length payload.now) }
     ensures cause { IfErr result (IsCause form payload.now) }
     ensures refused { IfErr result (λ e. HasRefused (view pass.old) form payload.now e (view pass.new)) }
 {

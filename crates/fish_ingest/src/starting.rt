@@ -11,6 +11,7 @@ ghost use Rattle.fish_ingest.specs.declared.refusal.IngestRefusal.TheVariants as
 ghost use Rattle.fish_read.specs.Rows.{fields_in_row};
 ghost use Rattle.fish_rule.specs.Passes.{IsPassOf, view};
 ghost use Rattle.fish_rule.specs.declared.view.Epoch.TheVariants.{Confirmed};
+ghost use Rattle.fish_value.specs.Limits.{longest_payload};
 
 use crate::body::prepare;
 use crate::origin::Origin;
@@ -19,7 +20,6 @@ use crate::placing::place;
 use crate::prepared::Prepared;
 use crate::refusal::IngestRefusal;
 use fish_epoch::{Defs, Known, enter, leave};
-use fish_layout::MAX_PAYLOAD;
 use fish_psf::{PsfRefusal, Steps};
 use fish_read::{RecordReader, RecordRow};
 use fish_rule::{Log, Pass, is_shut, lane};
@@ -54,7 +54,7 @@ pub fn start(
     ensures defs { IsDefsOf (view pass.new) defs.new }
     ensures started { IfOk result (λ pending. HasStarted (view pass.old) form payload.now pending (view pass.new)) }
 
-    ensures too_long { IsErrOf result refusal.TooLong ↔ (MAX_PAYLOAD < length payload.now) }
+    ensures too_long { IsErrOf result refusal.TooLong ↔ (longest_payload < length payload.now) }
     ensures cause { IfErr result (IsCause form payload.now) }
     ensures refused { IfErr result (λ e. HasRefused (view pass.old) form payload.now e (view pass.new)) }
 {
@@ -143,7 +143,7 @@ fn parse_once<'a>(
     payload: &'a [u8],
 ) -> Result<RecordRow<'a>, IngestRefusal>
     ensures read { IfOk result (λ found. IsRead form payload.now (fields_in_row found)) }
-    ensures too_long { IsErrOf result refusal.TooLong ↔ (MAX_PAYLOAD < length payload.now) }
+    ensures too_long { IsErrOf result refusal.TooLong ↔ (longest_payload < length payload.now) }
     ensures cause { IfErr result (λ e. IsCause form payload.now e × IsEarly e) }
 {
     parse_counted::<Brand>(alloc, reader, Blank::new(1), form, payload)
@@ -161,7 +161,7 @@ fn parse_counted<'a, L: Ledger>(
     requires parts { blank.parts ≡ L.parts }
     requires some { 0 < blank.parts }
     ensures read { IfOk result (λ found. IsRead form payload.now (fields_in_row found)) }
-    ensures too_long { IsErrOf result refusal.TooLong ↔ (MAX_PAYLOAD < length payload.now) }
+    ensures too_long { IsErrOf result refusal.TooLong ↔ (longest_payload < length payload.now) }
     ensures cause { IfErr result (λ e. IsCause form payload.now e × IsEarly e) }
 {
     let mut parses = Steps::<L>::new(blank);

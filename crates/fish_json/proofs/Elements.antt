@@ -1,5 +1,6 @@
 -- What a value of the tape is, as data.
-use Rattle.std.proofs.Common.{◌≡◌, ℕ, List, Bool, true, false, Option, Some, None, option_map, option_and_then, is_some, MatchOption, refl, sym, ap, ◌∙◌}
+use Rattle.std.proofs.Common.{◌≡◌, ℕ, List, Bool, true, false, Option, Some, None, option_map, option_and_then, is_some}
+use Rattle.std.proofs.Common.{MatchOption, refl, sym, ap, ◌∙◌}
 use Rattle.json.specs.Json as json
 use Rattle.json.specs.Token.{Token}
 use Rattle.json.specs.Find.{BeginsWith, InMembers, as_str, as_number, as_bool, as_object, is_null}

@@ -1,5 +1,7 @@
 -- The last member with a name, in a tape, is the one that stays in the data: equal names.
-use Rattle.std.proofs.Common.{◌≡◌, ℕ, ◌+◌, ◌<◌, ◌≤◌, List, ◌∷◌, length, drop, get_or, Bool, true, false, cond, Option, Some, None, option_map, option_and_then, bytes_eq, refl, sym, ap, ◌∙◌, subst, drop-cons, add-one, suc}
+use Rattle.std.proofs.Common.{◌≡◌, ℕ, ◌+◌, ◌<◌, ◌≤◌, List, ◌∷◌, length, drop, get_or, Bool, true, false, cond, Option}
+use Rattle.std.proofs.Common.{Some, None, option_map, option_and_then, bytes_eq, refl, sym, ap, ◌∙◌, subst, drop-cons}
+use Rattle.std.proofs.Common.{add-one, suc}
 use Rattle.std.proofs.lemmas.List.{drop_all}
 use Rattle.std.proofs.lemmas.Slice.Eq.{bytes_eq-Decides}
 use Rattle.json.specs.Token.{Token}

@@ -1,5 +1,6 @@
 -- Which values are good: those that have data and nest at most 127 deep.
-use Rattle.std.proofs.Common.{◌≡◌, ℕ, ◌+◌, ◌≤◌, ◌<◌, nat_lt, Bool, true, ◌&&◌, Option, Some, None, option_map, option_and_then, is_some, refl, ap, arith, lt-ltb}
+use Rattle.std.proofs.Common.{◌≡◌, ℕ, ◌+◌, ◌≤◌, ◌<◌, nat_lt, Bool, true, ◌&&◌, Option, Some, None, option_map}
+use Rattle.std.proofs.Common.{option_and_then, is_some, refl, ap, arith, lt-ltb}
 use Rattle.json.specs.Json as json
 use Rattle.json.specs.Tree.{depth, items_depth, members_depth}
 use Rattle.serde_json.specs.Data.{Data, Items, Members, number, array, object, item, put}

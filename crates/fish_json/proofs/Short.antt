@@ -1,6 +1,7 @@
 -- Digits alone, up to eighteen, are a number.
-use Rattle.std.proofs.Common.{◌≡◌, ℕ, ◌+◌, ◌-◌, ◌<◌, ◌≤◌, ◌^◌, ◌==◌, ◌&&◌, List, [], ◌∷◌, ◌++◌, length, get_or, take, drop, Bool, true, false, refl, sym, ap, ◌∙◌, arith, append-nil, subst, ne_eqb}
-use Rattle.std.specs.Prelude.{is_some, Some, None, Option, if◌then◌else◌, nat_lt, slice_range}
+use Rattle.std.proofs.Common.{◌≡◌, ℕ, ◌-◌, ◌<◌, ◌≤◌, ◌^◌, ◌==◌, ◌&&◌, List, [], ◌∷◌, ◌++◌, length, get_or}
+use Rattle.std.proofs.Common.{true, false, refl, sym, ap, ◌∙◌, arith, append-nil, subst, ne_eqb}
+use Rattle.std.specs.Prelude.{is_some, nat_lt, slice_range}
 use Rattle.std.specs.Char.{is_ascii_digit}
 use Rattle.std.specs.List.{list_all}
 use Rattle.std.specs.Str.Parse.{AllDigits, digits_value}
@@ -12,8 +13,7 @@ use native.Mathlib.Nat.{pow-le-pow_right}
 use Rattle.std.specs.Str.{all_ascii_digits}
 use Rattle.std.specs.Float.Numeral.{scan_numeral, digits_end}
 use Rattle.fast_float.proofs.Integers.{digits_len_all}
-use Rattle.serde_json.specs.Data.{Num}
-use Rattle.serde_json.specs.Read.{number_of, number_from}
+use Rattle.serde_json.specs.Read.{number_of}
 
 -- what is tested to be digits has digits
 told : (s : List ℕ) → list_all is_ascii_digit s ≡ all_ascii_digits s
@@ -57,7 +57,9 @@ pub short_number : (s : List ℕ) → 0 < length s → length s ≤ 18 → list_
 unfolding number_of
 short_number s some few h =
     let d = all_digits s h in
-    let small : digits_value 10 (s ++ []) < 10 ^ 18 = subst (λ l. digits_value 10 l < 10 ^ 18) (sym (append-nil s)) (omega (arith, digits_value-lt 10 s d, pow-le-pow_right {n = 10} (omega arith) few)) in
+    let small : digits_value 10 (s ++ []) < 10 ^ 18 =
+        subst (λ l. digits_value 10 l < 10 ^ 18) (sym (append-nil s))
+        (omega (arith, digits_value-lt 10 s d, pow-le-pow_right {n = 10} (omega arith) few)) in
     let first = no_minus s some d in
     let whole : nat_lt 0 (length s) ≡ true = grind (arith, nat_tests) in
     let fits : nat_lt (digits_value 10 (s ++ [])) (2 ^ 64) ≡ true = grind (arith, nat_tests) in

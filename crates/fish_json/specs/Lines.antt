@@ -1,5 +1,6 @@
 -- The records of a file in JSON Lines, by the whole list of its bytes.
-use Rattle.std.specs.Prelude.{ℕ, ◌==◌, ◌&&◌, ◌||◌, List, [], ◌∷◌, length, drop, map, filter, nat_eq, nat_le, Bool, not, Option, option_map, is_none, count_by, if◌then◌else◌}
+use Rattle.std.specs.Prelude.{ℕ, ◌==◌, ◌&&◌, ◌||◌, List, [], ◌∷◌, length, drop, map, filter, nat_eq, nat_le, Bool, not}
+use Rattle.std.specs.Prelude.{Option, option_map, is_none, count_by, if◌then◌else◌}
 use Rattle.std.specs.List.{filter_map, list_all, slice_split, starts_with}
 use Rattle.std.specs.Str.Lines.{strip_carriage_return}
 use Rattle.fish_json.specs.Reading.{record_of}

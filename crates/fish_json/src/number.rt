@@ -2,7 +2,8 @@
 
 ghost use Rattle.std.specs.Char.{is_ascii_digit};
 ghost use Rattle.std.specs.List.{list_all};
-ghost use Rattle.std.specs.Prelude.{◌≡◌, true, false, ◌==◌, ◌<◌, ◌≤◌, length, slice_index, IsTrue, is_some, Some, MatchOption, option_and_then};
+ghost use Rattle.std.specs.Prelude.{◌≡◌, true, false, ◌==◌, ◌<◌, ◌≤◌, length, slice_index, IsTrue, is_some, Some};
+ghost use Rattle.std.specs.Prelude.{MatchOption, option_and_then};
 ghost use Rattle.serde_json.specs.Data.{unsigned, negative};
 ghost use Rattle.serde_json.specs.Find.{as_i64};
 ghost use Rattle.serde_json.specs.Read.{float_of, number_from, number_of};

@@ -1,11 +1,17 @@
 -- What a source means can be written, nests no deeper than 16, and so is read from its canonical text.
-use Rattle.std.proofs.Common.{◌≡◌, ℕ, ◌+◌, ◌<◌, ◌≤◌, zero, suc, List, [], ◌∷◌, ◌++◌, refl, sym, ◌∙◌, ap, subst, arith, length, take, drop, inl, inr}
+use Rattle.std.proofs.Common.{◌≡◌, ℕ, ◌+◌, ◌<◌, ◌≤◌, zero, suc, List, [], ◌∷◌, ◌++◌, refl, sym, ◌∙◌, ap, subst, arith}
+use Rattle.std.proofs.Common.{length, take, drop, inl, inr}
 use Rattle.std.specs.Prelude.{Bool, true, false, nat_lt, if◌then◌else◌, Option, Some, None, IsUtf8}
 use Rattle.std.proofs.lemmas.Bool.Decides.{nat_tests}
 use Rattle.fish_lang.specs.Canonical.{definition_text}
 use Rattle.fish_lang.specs.Definition.{Steps, Definition}
-use Rattle.fish_lang.specs.Grammar.{Spot, spot, spelled, spots, step_token, path_spots, literal_spot, test_spots, cond_spots, conj_spots, neg_spots}
-use Rattle.fish_lang.specs.Derivation.{Step, ident, string, Path, one_step, more_steps, Literal, truth, number, text, Test, compare, exist, start, Cond, one_conj, more_conjs, Conj, one_neg, more_negs, Neg, not_neg, group, test, Derivation, take_def, bucket_def, flag_def, step_name, path_steps, literal_value, test_formula, cond_formula, conj_formula, neg_formula, meaning}
+use Rattle.fish_lang.specs.Grammar.{Spot, spot, spelled, spots, step_token, path_spots, literal_spot, test_spots}
+use Rattle.fish_lang.specs.Grammar.{cond_spots, conj_spots, neg_spots}
+use Rattle.fish_lang.specs.Derivation.{Step, ident, string, Path, one_step, more_steps, Literal, truth, number, text}
+use Rattle.fish_lang.specs.Derivation.{Test, compare, exist, start, Cond, one_conj, more_conjs, Conj, one_neg}
+use Rattle.fish_lang.specs.Derivation.{more_negs, Neg, not_neg, group, test, Derivation, take_def, bucket_def, flag_def}
+use Rattle.fish_lang.specs.Derivation.{step_name, path_steps, literal_value, test_formula, cond_formula, conj_formula}
+use Rattle.fish_lang.specs.Derivation.{neg_formula, meaning}
 use Rattle.fish_lang.specs.Language.{kinds, unrefused, IsRead, IsAccepted}
 use Rattle.fish_lang.specs.Token.{tokens, tokens_from, token_of, listed, length_behind}
 use Rattle.fish_lang.specs.declared.fault.Fault.TheVariants.{TooDeep}

@@ -5,12 +5,15 @@ use Rattle.std.proofs.lemmas.Bool.Decides.{nat_tests}
 use Rattle.fish_value.specs.declared.value.Value.{Value}
 use Rattle.fish_value.specs.declared.value.Value.TheVariants as value
 use Rattle.fish_lang.specs.Definition.{Steps, Formula, compares, is_there, begins, negated, both, either, Definition, takes, buckets, flags}
-use Rattle.fish_lang.specs.Grammar.{Spot, keyword, spots, path_spots, literal_spot, test_spots, cond_spots, conj_spots, neg_spots, width_fault, nesting_fault, when_spots}
-use Rattle.fish_lang.specs.Derivation.{Path, one_step, more_steps, compare, exist, start, step_name, path_steps, literal_value, cond_formula, conj_formula, neg_formula, meaning}
+use Rattle.fish_lang.specs.Grammar.{Spot, keyword, spots, path_spots, literal_spot, test_spots, cond_spots, conj_spots}
+use Rattle.fish_lang.specs.Grammar.{neg_spots, width_fault, nesting_fault, when_spots}
+use Rattle.fish_lang.specs.Derivation.{Path, one_step, more_steps, compare, exist, start, step_name, path_steps}
+use Rattle.fish_lang.specs.Derivation.{literal_value, cond_formula, conj_formula, neg_formula, meaning}
 use Rattle.fish_lang.specs.Token.{is_ident}
 use Rattle.fish_lang.specs.declared.definition.Op.{Op}
 use Rattle.fish_lang.specs.declared.token.Keyword.TheVariants as word
-use Rattle.fish_lang.proofs.Depths.{step_of, further_steps, path_of, literal_of, cond_of, conj_of, neg_of, cond_depth, conj_depth, neg_depth}
+use Rattle.fish_lang.proofs.Depths.{step_of, further_steps, path_of, literal_of, cond_of, conj_of, neg_of, cond_depth}
+use Rattle.fish_lang.proofs.Depths.{conj_depth, neg_depth}
 use Rattle.fish_lang.proofs.Spelling.{when_of, derivation_of}
 use Rattle.fish_lang.proofs.Writable.{IsCondition, IsPath, IsWhen, IsWritable}
 

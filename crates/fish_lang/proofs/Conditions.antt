@@ -5,7 +5,8 @@ use Rattle.fish_value.specs.declared.value.Value.{Value}
 use Rattle.fish_value.specs.declared.value.Value.TheVariants as value
 use Rattle.fish_lang.specs.Canonical.{step_text, steps_text, path_text, op_text, formula_text}
 use Rattle.fish_lang.specs.Definition.{Steps, Formula, compares, is_there, begins, negated, both, either}
-use Rattle.fish_lang.specs.Grammar.{Spot, spot, keyword, spelled, step_token, path_spots, literal_spot, test_spots, cond_spots, conj_spots, neg_spots, nesting_fault}
+use Rattle.fish_lang.specs.Grammar.{Spot, spot, keyword, spelled, step_token, path_spots, literal_spot, test_spots}
+use Rattle.fish_lang.specs.Grammar.{cond_spots, conj_spots, neg_spots, nesting_fault}
 use Rattle.fish_lang.specs.Derivation.{Path, one_step, more_steps, compare, exist, start}
 use Rattle.fish_lang.specs.Token.{is_ident}
 use Rattle.fish_value.specs.ValueText.{value_print}
@@ -18,7 +19,8 @@ use Rattle.fish_lang.specs.declared.token.Keyword.TheVariants as word
 use Rattle.fish_lang.specs.declared.token.Token.{Token}
 use Rattle.fish_lang.specs.declared.token.Token.TheVariants as kind
 use Rattle.fish_lang.proofs.Depths.{step_of, further_steps, path_of, literal_of, cond_of, conj_of, neg_of}
-use Rattle.fish_lang.proofs.Lexed.{lexed-not, lexed-and, lexed-or, lexed-starts, lexed-exists, lexed-true, lexed-false, lexed-op, lexed-string, lexed-ident}
+use Rattle.fish_lang.proofs.Lexed.{lexed-not, lexed-and, lexed-or, lexed-starts, lexed-exists, lexed-true, lexed-false}
+use Rattle.fish_lang.proofs.Lexed.{lexed-op, lexed-string, lexed-ident}
 use Rattle.fish_lang.proofs.Numerals.{lexed-int}
 use Rattle.fish_lang.proofs.Ways.{spelled-append}
 use Rattle.fish_lang.proofs.Writable.{AreTexts, IsPath, IsLiteral, IsCondition}

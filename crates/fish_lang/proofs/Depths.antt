@@ -4,7 +4,10 @@ use Rattle.std.specs.Prelude.{max, ℤ, pos, negsuc, Bool, true, false, Some}
 use Rattle.fish_value.specs.declared.value.Value.{Value}
 use Rattle.fish_value.specs.declared.value.Value.TheVariants as value
 use Rattle.fish_lang.specs.Definition.{Steps, Formula, compares, is_there, begins, negated, both, either}
-use Rattle.fish_lang.specs.Derivation.{Step, ident, string, Path, one_step, more_steps, Literal, truth, number, text, Test, compare, exist, start, Cond, one_conj, more_conjs, Conj, one_neg, more_negs, Neg, not_neg, group, test, test_formula, cond_formula, conj_formula, neg_formula}
+use Rattle.fish_lang.specs.Derivation.{Step, ident, string, Path, one_step, more_steps, Literal, truth, number, text}
+use Rattle.fish_lang.specs.Derivation.{Test, compare, exist, start, Cond, one_conj, more_conjs, Conj, one_neg}
+use Rattle.fish_lang.specs.Derivation.{more_negs, Neg, not_neg, group, test, test_formula, cond_formula, conj_formula}
+use Rattle.fish_lang.specs.Derivation.{neg_formula}
 use Rattle.fish_lang.specs.Token.{is_ident}
 
 abbrev pub step_of : Bool → List ℕ → Step

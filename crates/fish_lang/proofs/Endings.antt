@@ -5,46 +5,54 @@ use Rattle.std.proofs.lemmas.Str.{IsUtf8-from_ascii}
 use Rattle.fish_value.specs.Number.{int_of}
 use Rattle.fish_lang.specs.Definition.{Definition}
 use Rattle.fish_lang.specs.Grammar.{Spot, spot, keyword, spots, path_spots}
-use Rattle.fish_lang.specs.Derivation.{Step, ident, Path, one_step, more_steps, truth, Cond, one_conj, more_conjs, one_neg, Neg, compare, exist, start, test, Derivation, take_def, bucket_def, flag_def, meaning, cond_formula}
+use Rattle.fish_lang.specs.Derivation.{Step, ident, Path, one_step, more_steps, truth, Cond, one_conj, more_conjs}
+use Rattle.fish_lang.specs.Derivation.{one_neg, Neg, compare, exist, start, test, Derivation, take_def, bucket_def}
+use Rattle.fish_lang.specs.Derivation.{flag_def, meaning, cond_formula}
 use Rattle.fish_lang.specs.Moves.{finish, definition_with}
 use Rattle.fish_lang.specs.declared.token.Keyword.TheVariants as word
 use Rattle.fish_lang.specs.declared.token.Token.TheVariants as kind
 use Rattle.fish_lang.specs.Language.{AreTokens}
-use Rattle.fish_lang.specs.Token.{token_of, keyword_of, plain_word, is_ident, sign_token}
+use Rattle.fish_lang.specs.Token.{token_of, keyword_of, condition_word, literal_word, plain_word, is_ident, sign_token}
 use Rattle.fish_lang.specs.declared.token.Token.{Token}
 use Rattle.fish_lang.proofs.Lexed.{string-token}
-use Rattle.fish_lang.proofs.Trees.{Whole, Joint, Operand, in_joint, behind_and, under_not, whole_behind, top, in_group, in_whole, behind_or, Head, take_when, bucket_when, flag_when, Owner, of_take, of_bucket, of_test, Tree, start_tree, flag_tree, first_of_take, first_of_bucket, behind_dot, behind_step, width, behind_width, operand, literal, prefix, behind_operand, head_state, state_of, before, owner_before, with_cond, with_cond-spots, round, round_joint, behind, joint_behind, round-spots, round_joint-spots}
+use Rattle.fish_lang.proofs.Trees.{Whole, Joint, Operand, in_joint, behind_and, under_not, whole_behind, top, in_group}
+use Rattle.fish_lang.proofs.Trees.{in_whole, behind_or, Head, take_when, bucket_when, flag_when, Owner, of_take}
+use Rattle.fish_lang.proofs.Trees.{of_bucket, of_test, Tree, start_tree, flag_tree, first_of_take, first_of_bucket}
+use Rattle.fish_lang.proofs.Trees.{behind_dot, behind_step, width, behind_width, operand, literal, prefix}
+use Rattle.fish_lang.proofs.Trees.{behind_operand, head_state, state_of, before, owner_before, with_cond}
+use Rattle.fish_lang.proofs.Trees.{with_cond-spots, round, round_joint, behind, joint_behind, round-spots}
+use Rattle.fish_lang.proofs.Trees.{round_joint-spots}
 
 -- the tokens with which the derivations below go on
 abbrev IsToken : Token → Type 0
 IsToken t = (bytes : List ℕ) × (token_of bytes ≡ Some t)
 
 take-token : IsToken (kind.Keyword word.Take)
-unfolding token_of keyword_of
+unfolding token_of keyword_of condition_word literal_word
 take-token = (codes "take", refl)
 
 by-token : IsToken (kind.Keyword word.By)
-unfolding token_of keyword_of
+unfolding token_of keyword_of condition_word literal_word
 by-token = (codes "by", refl)
 
 when-token : IsToken (kind.Keyword word.When)
-unfolding token_of keyword_of
+unfolding token_of keyword_of condition_word literal_word
 when-token = (codes "when", refl)
 
 exists-token : IsToken (kind.Keyword word.Exists)
-unfolding token_of keyword_of
+unfolding token_of keyword_of condition_word literal_word
 exists-token = (codes "exists", refl)
 
 true-token : IsToken (kind.Keyword word.True)
-unfolding token_of keyword_of
+unfolding token_of keyword_of condition_word literal_word
 true-token = (codes "true", refl)
 
 ident-token : IsToken (kind.Ident (codes "a"))
-unfolding token_of keyword_of plain_word is_ident
+unfolding token_of keyword_of condition_word literal_word plain_word is_ident
 ident-token = (codes "a", refl)
 
 number-token : IsToken (kind.Number false (Some (pos 1)))
-unfolding token_of keyword_of plain_word int_of
+unfolding token_of keyword_of condition_word literal_word plain_word int_of
 number-token = (codes "1", refl)
 
 dot-token : IsToken kind.Dot

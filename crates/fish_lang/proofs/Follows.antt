@@ -2,10 +2,16 @@
 use Rattle.std.proofs.Common.{◌≡◌, suc, List, [], ◌∷◌, ◌++◌, refl, sym, subst}
 use Rattle.std.specs.Prelude.{true, false, Some, None, unwrap_or, pos}
 use Rattle.fish_lang.specs.Definition.{Steps, compares, is_there, begins, either}
-use Rattle.fish_lang.specs.Grammar.{Spot, spot, path_spots, step_token, literal_spot, keyword, test_spots, cond_spots, conj_spots, neg_spots, spots}
-use Rattle.fish_lang.specs.Derivation.{Step, ident, string, Path, one_step, more_steps, Literal, truth, number, text, Test, compare, exist, start, Cond, one_conj, more_conjs, Conj, one_neg, more_negs, Neg, not_neg, group, test, Derivation, take_def, bucket_def, flag_def, path_steps, step_name, literal_value, test_formula, cond_formula, conj_formula, neg_formula, meaning}
+use Rattle.fish_lang.specs.Grammar.{Spot, spot, path_spots, step_token, literal_spot, keyword, test_spots, cond_spots}
+use Rattle.fish_lang.specs.Grammar.{conj_spots, neg_spots, spots}
+use Rattle.fish_lang.specs.Derivation.{Step, ident, string, Path, one_step, more_steps, Literal, truth, number, text}
+use Rattle.fish_lang.specs.Derivation.{Test, compare, exist, start, Cond, one_conj, more_conjs, Conj, one_neg}
+use Rattle.fish_lang.specs.Derivation.{more_negs, Neg, not_neg, group, test, Derivation, take_def, bucket_def, flag_def}
+use Rattle.fish_lang.specs.Derivation.{path_steps, step_name, literal_value, test_formula, cond_formula, conj_formula}
+use Rattle.fish_lang.specs.Derivation.{neg_formula, meaning}
 use Rattle.fish_lang.specs.Machine as machine
-use Rattle.fish_lang.specs.Machine.{State, Head, Owner, Whole, Joint, Operand, complete, at_front, nesting, joint_nesting, whole_nesting, or_with, whole_of}
+use Rattle.fish_lang.specs.Machine.{State, Head, Owner, Whole, Joint, Operand, complete, at_front, nesting}
+use Rattle.fish_lang.specs.Machine.{joint_nesting, whole_nesting, or_with, whole_of}
 use Rattle.fish_lang.specs.Moves.{advance, fault_at, finish, definition_with}
 use Rattle.fish_lang.specs.declared.definition.Op.{Op}
 use Rattle.fish_lang.specs.declared.token.Keyword.TheVariants as word

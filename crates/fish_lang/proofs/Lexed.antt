@@ -11,7 +11,8 @@ use Rattle.serde_json.specs.Data.{string}
 use Rattle.fish_value.specs.Json.{quoted, reading}
 use Rattle.fish_value.specs.Number.{is_number}
 use Rattle.fish_lang.specs.Canonical.{op_text}
-use Rattle.fish_lang.specs.Token.{token_of, length_behind, is_word_byte, begins_word, plain_word, keyword_of, is_ident, is_blank, sign_token}
+use Rattle.fish_lang.specs.Token.{token_of, length_behind, is_word_byte, begins_word, plain_word, keyword_of, condition_word, literal_word, is_ident}
+use Rattle.fish_lang.specs.Token.{is_blank, sign_token}
 use Rattle.fish_lang.specs.declared.definition.Op.{Op}
 use Rattle.fish_lang.specs.declared.definition.Op.TheVariants.{Eq, Ne, Lt, Le, Gt, Ge}
 use Rattle.fish_lang.specs.declared.token.Keyword.{Keyword}
@@ -29,59 +30,59 @@ spaced c w rest t begins all is = lexed-word c w (32 ∷ rest) t begins all refl
     ∙ ap (λ ts. t ∷ ts) (lexed-blank rest)
 
 pub lexed-take : (rest : List ℕ) → lexed (codes "take " ++ rest) ≡ kind.Keyword word.Take ∷ lexed rest
-unfolding token_of keyword_of
+unfolding token_of keyword_of condition_word literal_word
 lexed-take rest = spaced 116 (codes "ake") rest (kind.Keyword word.Take) refl refl refl
 
 pub lexed-bucket : (rest : List ℕ) → lexed (codes "bucket " ++ rest) ≡ kind.Keyword word.Bucket ∷ lexed rest
-unfolding token_of keyword_of
+unfolding token_of keyword_of condition_word literal_word
 lexed-bucket rest = spaced 98 (codes "ucket") rest (kind.Keyword word.Bucket) refl refl refl
 
 pub lexed-flag : (rest : List ℕ) → lexed (codes "flag " ++ rest) ≡ kind.Keyword word.Flag ∷ lexed rest
-unfolding token_of keyword_of
+unfolding token_of keyword_of condition_word literal_word
 lexed-flag rest = spaced 102 (codes "lag") rest (kind.Keyword word.Flag) refl refl refl
 
 pub lexed-when : (rest : List ℕ) → lexed (codes "when " ++ rest) ≡ kind.Keyword word.When ∷ lexed rest
-unfolding token_of keyword_of
+unfolding token_of keyword_of condition_word literal_word
 lexed-when rest = spaced 119 (codes "hen") rest (kind.Keyword word.When) refl refl refl
 
 pub lexed-by : (rest : List ℕ) → lexed (codes " by " ++ rest) ≡ kind.Keyword word.By ∷ lexed rest
-unfolding token_of keyword_of
+unfolding token_of keyword_of condition_word literal_word
 lexed-by rest = lexed-blank (codes "by " ++ rest)
     ∙ spaced 98 (codes "y") rest (kind.Keyword word.By) refl refl refl
 
 pub lexed-not : (rest : List ℕ) → lexed (codes "not " ++ rest) ≡ kind.Keyword word.Not ∷ lexed rest
-unfolding token_of keyword_of
+unfolding token_of keyword_of condition_word literal_word
 lexed-not rest = spaced 110 (codes "ot") rest (kind.Keyword word.Not) refl refl refl
 
 pub lexed-and : (rest : List ℕ) → lexed (codes " and " ++ rest) ≡ kind.Keyword word.And ∷ lexed rest
-unfolding token_of keyword_of
+unfolding token_of keyword_of condition_word literal_word
 lexed-and rest = lexed-blank (codes "and " ++ rest)
     ∙ spaced 97 (codes "nd") rest (kind.Keyword word.And) refl refl refl
 
 pub lexed-or : (rest : List ℕ) → lexed (codes " or " ++ rest) ≡ kind.Keyword word.Or ∷ lexed rest
-unfolding token_of keyword_of
+unfolding token_of keyword_of condition_word literal_word
 lexed-or rest = lexed-blank (codes "or " ++ rest)
     ∙ spaced 111 (codes "r") rest (kind.Keyword word.Or) refl refl refl
 
 pub lexed-starts : (rest : List ℕ) → lexed (codes " starts " ++ rest) ≡ kind.Keyword word.Starts ∷ lexed rest
-unfolding token_of keyword_of
+unfolding token_of keyword_of condition_word literal_word
 lexed-starts rest = lexed-blank (codes "starts " ++ rest)
     ∙ spaced 115 (codes "tarts") rest (kind.Keyword word.Starts) refl refl refl
 
 pub lexed-exists : (rest : List ℕ) → EndsWord rest → lexed (codes " exists" ++ rest)
     ≡ kind.Keyword word.Exists ∷ lexed rest
-unfolding token_of keyword_of
+unfolding token_of keyword_of condition_word literal_word
 lexed-exists rest e = lexed-blank (codes "exists" ++ rest)
     ∙ lexed-word 101 (codes "xists") rest (kind.Keyword word.Exists) refl refl e refl
 
 pub lexed-true : (rest : List ℕ) → EndsWord rest → lexed (codes "true" ++ rest)
     ≡ kind.Keyword word.True ∷ lexed rest
-unfolding token_of keyword_of
+unfolding token_of keyword_of condition_word literal_word
 lexed-true rest e = lexed-word 116 (codes "rue") rest (kind.Keyword word.True) refl refl e refl
 
 pub lexed-false : (rest : List ℕ) → EndsWord rest → lexed (codes "false" ++ rest)
     ≡ kind.Keyword word.False ∷ lexed rest
-unfolding token_of keyword_of
+unfolding token_of keyword_of condition_word literal_word
 lexed-false rest e = lexed-word 102 (codes "alse") rest (kind.Keyword word.False) refl refl e refl
 
 -- a sign of comparison between spaces

@@ -1,6 +1,7 @@
 pub mod Accepted
 pub mod Canonical
 pub mod Conditions
+pub mod Cuts
 pub mod Depths
 pub mod Endings
 pub mod Follows
@@ -10,6 +11,7 @@ pub mod Outcomes
 pub mod Proper
 pub mod Spelling
 pub mod Steps
+pub mod StringEnds
 pub mod Strings
 pub mod TokenLemmas
 pub mod Trees

@@ -9,7 +9,7 @@ use Rattle.std.specs.Str.Parse.{AllDigits, digits_value}
 use Rattle.std.proofs.lemmas.Bool.Decides.{nat_tests}
 use Rattle.std.proofs.lemmas.Fmt.{decimal_is_IsNumeral, first_decimal, decimal_digit}
 use Rattle.fish_value.specs.Number.{is_number, is_positive, int_of, fits_i64}
-use Rattle.fish_lang.specs.Token.{token_of, is_word_byte, is_blank, plain_word, keyword_of}
+use Rattle.fish_lang.specs.Token.{token_of, is_word_byte, is_blank, plain_word, keyword_of, condition_word, literal_word}
 use Rattle.fish_lang.specs.declared.token.Token.TheVariants as kind
 use Rattle.fish_lang.proofs.Depths.{is_negative}
 use Rattle.fish_lang.proofs.Words.{lexed, lexed-word, EndsWord}
@@ -34,7 +34,7 @@ low-byte : (c k : ℕ) → c < 97 → 97 ≤ k → nat_eq c k ≡ false
 low-byte c k h i = grind (arith, nat_tests)
 
 no_keyword : (c : ℕ) (w : List ℕ) → c < 97 → keyword_of (c ∷ w) ≡ None
-unfolding keyword_of
+unfolding keyword_of condition_word literal_word
 no_keyword c w h =
     rw (
       low-byte c 116 h (omega arith),

@@ -7,7 +7,8 @@ use Rattle.std.proofs.lemmas.Str.{IsUtf8-from_is_utf8}
 use Rattle.serde_json.specs.Find.{as_str}
 use Rattle.fish_value.specs.Json.{reading}
 use Rattle.fish_value.specs.Number.{is_number, int_of, fits_i64}
-use Rattle.fish_lang.specs.Token.{token_of, keyword_of, word_or_keyword, plain_word, string_token, sign_token, is_ident, is_blank, begins_word}
+use Rattle.fish_lang.specs.Token.{token_of, keyword_of, word_or_keyword, plain_word, string_token, sign_token, is_ident}
+use Rattle.fish_lang.specs.Token.{is_blank, begins_word}
 use Rattle.fish_lang.specs.declared.definition.Op.TheVariants as op
 use Rattle.fish_lang.specs.declared.token.Keyword.{Keyword}
 use Rattle.fish_lang.specs.declared.token.Token.{Token}

@@ -4,7 +4,9 @@ use Rattle.std.specs.Prelude.{ℤ, true, false, Option, Some, None, option_map}
 use Rattle.fish_value.specs.declared.value.Value.{Value}
 use Rattle.fish_lang.specs.Definition.{compares, begins}
 use Rattle.fish_lang.specs.Grammar.{Spot, step_token, literal_spot}
-use Rattle.fish_lang.specs.Derivation.{Step, ident, string, Path, one_step, more_steps, Literal, truth, number, text, compare, exist, start, Conj, group, test, path_steps, step_name, literal_value, conj_formula, one_conj, more_conjs}
+use Rattle.fish_lang.specs.Derivation.{Step, ident, string, Path, one_step, more_steps, Literal, truth, number, text}
+use Rattle.fish_lang.specs.Derivation.{compare, exist, start, Conj, group, test, path_steps, step_name, literal_value}
+use Rattle.fish_lang.specs.Derivation.{conj_formula, one_conj, more_conjs}
 use Rattle.fish_lang.specs.Machine as machine
 use Rattle.fish_lang.specs.Moves as moves
 use Rattle.fish_lang.specs.Machine.{State, complete, nesting}
@@ -13,7 +15,12 @@ use Rattle.fish_lang.specs.declared.definition.Op.{Op}
 use Rattle.fish_lang.specs.declared.token.Token.{Token}
 use Rattle.fish_lang.specs.declared.token.Token.TheVariants.{Keyword, Ident, Str, Number, Compare, Open, Close, Dot}
 use Rattle.fish_lang.specs.declared.token.Keyword.TheVariants.{Take, Bucket, Flag, By, When, Not, And, Or, Exists, Starts, True, False}
-use Rattle.fish_lang.proofs.Trees.{top, in_group, Joint, in_whole, behind_or, Operand, in_joint, behind_and, under_not, Head, take_when, bucket_when, flag_when, Owner, of_take, of_bucket, of_test, Tree, start_tree, flag_tree, first_of_take, first_of_bucket, behind_dot, behind_step, width, behind_width, operand, literal, prefix, behind_operand, joint_state, operand_state, head_state, owner_state, state_of, before, completed, completed-state, completed-before}
+use Rattle.fish_lang.proofs.Trees.{top, in_group, Joint, in_whole, behind_or, Operand, in_joint, behind_and, under_not}
+use Rattle.fish_lang.proofs.Trees.{Head, take_when, bucket_when, flag_when, Owner, of_take, of_bucket, of_test, Tree}
+use Rattle.fish_lang.proofs.Trees.{start_tree, flag_tree, first_of_take, first_of_bucket, behind_dot, behind_step}
+use Rattle.fish_lang.proofs.Trees.{width, behind_width, operand, literal, prefix, behind_operand, joint_state}
+use Rattle.fish_lang.proofs.Trees.{operand_state, head_state, owner_state, state_of, before, completed, completed-state}
+use Rattle.fish_lang.proofs.Trees.{completed-before}
 
 -- a token in its place
 abbrev pub placed_at : State → Token → Spot

@@ -3,7 +3,9 @@
 use Rattle.std.proofs.Common.{◌≡◌, List, [], ◌∷◌, ◌++◌, refl, ◌∙◌, append_assoc, append-nil}
 use Rattle.std.specs.Prelude.{ℤ, pos, false, Option, Some, unwrap_or}
 use Rattle.fish_lang.specs.Grammar.{Spot, spot, keyword, path_spots, nesting_fault, width_fault, cond_spots, conj_spots, neg_spots, spots}
-use Rattle.fish_lang.specs.Derivation.{Path, Cond, one_conj, more_conjs, Conj, one_neg, more_negs, Neg, not_neg, group, Derivation, take_def, bucket_def, flag_def, path_steps, cond_formula, conj_formula, neg_formula}
+use Rattle.fish_lang.specs.Derivation.{Path, Cond, one_conj, more_conjs, Conj, one_neg, more_negs, Neg, not_neg, group}
+use Rattle.fish_lang.specs.Derivation.{Derivation, take_def, bucket_def, flag_def, path_steps, cond_formula}
+use Rattle.fish_lang.specs.Derivation.{conj_formula, neg_formula}
 use Rattle.fish_lang.specs.Machine as machine
 use Rattle.fish_lang.specs.Machine.{State, complete, nesting, joint_nesting, whole_nesting}
 use Rattle.fish_lang.specs.declared.definition.Op.{Op}

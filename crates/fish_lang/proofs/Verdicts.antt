@@ -18,7 +18,8 @@ use Rattle.fish_lang.proofs.Follows.{Follows, Follows-append, followed}
 use Rattle.fish_lang.proofs.Trees.{start_tree, state_of, before}
 use Rattle.fish_lang.proofs.Steps.{longer, placed_at}
 use Rattle.fish_lang.proofs.Endings.{finishes, ends}
-use Rattle.fish_lang.proofs.Ways.{leads-same, leads-on, Follows-front, unrefused-append, kinds-append, spelled-append, spelled-unrefused, reached-more, Reached}
+use Rattle.fish_lang.proofs.Ways.{leads-same, leads-on, Follows-front, unrefused-append, kinds-append, spelled-append}
+use Rattle.fish_lang.proofs.Ways.{spelled-unrefused, reached-more, Reached}
 
 reached-well : (ts : List Placed) (s : State) → Reached ts s → BeginsWell ts
 reached-well ts s r =

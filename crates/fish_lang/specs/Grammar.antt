@@ -1,6 +1,8 @@
 -- What a derivation spells: its tokens in their places, and which of them are refused there.
 use Rattle.std.specs.Prelude.{ℕ, zero, suc, ℤ, pos, nat_lt, List, [], ◌∷◌, ◌++◌, true, false, Option, Some, None, map, if◌then◌else◌}
-use Rattle.fish_lang.specs.Derivation.{Step, ident, string, Path, one_step, more_steps, Literal, truth, number, text, Test, compare, exist, start, Cond, one_conj, more_conjs, Conj, one_neg, more_negs, Neg, not_neg, group, test, Derivation, take_def, bucket_def, flag_def}
+use Rattle.fish_lang.specs.Derivation.{Step, ident, string, Path, one_step, more_steps, Literal, truth, number, text}
+use Rattle.fish_lang.specs.Derivation.{Test, compare, exist, start, Cond, one_conj, more_conjs, Conj, one_neg}
+use Rattle.fish_lang.specs.Derivation.{more_negs, Neg, not_neg, group, test, Derivation, take_def, bucket_def, flag_def}
 use Rattle.fish_lang.specs.declared.fault.Fault.{Fault}
 use Rattle.fish_lang.specs.declared.fault.Fault.TheVariants.{TooDeep, NumberTooLarge, ZeroWidth}
 use Rattle.fish_lang.specs.declared.token.Keyword.{Keyword}

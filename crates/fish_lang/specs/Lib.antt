@@ -7,5 +7,6 @@ pub mod Limits
 pub mod Machine
 pub mod Moves
 pub mod Outcome
+pub mod Pieces
 pub mod Token
 pub mod Views

@@ -4,7 +4,10 @@ use Rattle.std.specs.Prelude.{ℕ, pos, List, [], ◌∷◌, ◌++◌, Bool, tru
 use Rattle.fish_value.specs.declared.value.Value.{Value}
 use Rattle.fish_value.specs.declared.value.Value.TheVariants as value
 use Rattle.fish_lang.specs.Definition.{Steps, Formula, compares, is_there, begins, Definition, takes, buckets, flags}
-use Rattle.fish_lang.specs.Machine.{Whole, top, in_group, Joint, Operand, in_joint, behind_or, behind_and, under_not, Head, take_when, bucket_when, flag_when, Owner, of_take, of_bucket, of_test, State, start, flag, step, behind_step, width, behind_width, operand, literal, prefix, behind_operand, nesting, or_with, whole_of, complete, at_front}
+use Rattle.fish_lang.specs.Machine.{Whole, top, in_group, Joint, Operand, in_joint, behind_or, behind_and, under_not}
+use Rattle.fish_lang.specs.Machine.{Head, take_when, bucket_when, flag_when, Owner, of_take, of_bucket, of_test, State}
+use Rattle.fish_lang.specs.Machine.{start, flag, step, behind_step, width, behind_width, operand, literal, prefix}
+use Rattle.fish_lang.specs.Machine.{behind_operand, nesting, or_with, whole_of, complete, at_front}
 use Rattle.fish_lang.specs.Grammar.{number_fault, width_fault, nesting_fault}
 use Rattle.fish_lang.specs.declared.fault.Fault.{Fault}
 use Rattle.fish_lang.specs.declared.token.Keyword.TheVariants.{Take, Bucket, Flag, By, When, Not, And, Or, Exists, Starts, True, False}

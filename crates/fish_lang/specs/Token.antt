@@ -1,5 +1,7 @@
 -- The tokens of a text.
-use Rattle.std.specs.Prelude.{ℕ, zero, suc, ◌+◌, ◌&&◌, ◌||◌, ◌==◌, nat_lt, List, [], ◌∷◌, Bool, false, not, Option, Some, None, option_and_then, is_some, length, take, drop, slice_index, codes, if◌then◌else◌}
+use Rattle.std.specs.Prelude.{ℕ, zero, suc, ◌+◌, ◌&&◌, ◌||◌, ◌==◌, nat_lt, List, [], ◌∷◌, Bool, false, not, Option}
+use Rattle.std.specs.Prelude.{Some, None, option_and_then, is_some, length, take, drop, slice_index, codes}
+use Rattle.std.specs.Prelude.{if◌then◌else◌}
 use Rattle.std.specs.Char.{is_ascii_alphanumeric, is_ascii_digit}
 use Rattle.std.specs.List.{list_all}
 use Rattle.std.specs.Str.{bytes_eq, is_utf8}
@@ -48,6 +50,22 @@ length_behind c b =
     if c == 34 then string_length false b else (
     if takes_equals c && (slice_index b 0 == 61) then 1 else 0))
 
+-- the literal that a word is, or the word that is kept for later
+unfoldable pub literal_word : List ℕ → Option Keyword
+literal_word w =
+    if bytes_eq w (codes "true") then Some word.True else (
+    if bytes_eq w (codes "false") then Some word.False else (
+    if bytes_eq w (codes "each") then Some word.Each else None))
+
+-- the same, or the word of a condition
+unfoldable pub condition_word : List ℕ → Option Keyword
+condition_word w =
+    if bytes_eq w (codes "not") then Some word.Not else (
+    if bytes_eq w (codes "and") then Some word.And else (
+    if bytes_eq w (codes "or") then Some word.Or else (
+    if bytes_eq w (codes "exists") then Some word.Exists else (
+    if bytes_eq w (codes "starts") then Some word.Starts else literal_word w))))
+
 -- the word that the language keeps and that a word is
 unfoldable pub keyword_of : List ℕ → Option Keyword
 keyword_of w =
@@ -55,15 +73,7 @@ keyword_of w =
     if bytes_eq w (codes "bucket") then Some word.Bucket else (
     if bytes_eq w (codes "flag") then Some word.Flag else (
     if bytes_eq w (codes "by") then Some word.By else (
-    if bytes_eq w (codes "when") then Some word.When else (
-    if bytes_eq w (codes "not") then Some word.Not else (
-    if bytes_eq w (codes "and") then Some word.And else (
-    if bytes_eq w (codes "or") then Some word.Or else (
-    if bytes_eq w (codes "exists") then Some word.Exists else (
-    if bytes_eq w (codes "starts") then Some word.Starts else (
-    if bytes_eq w (codes "true") then Some word.True else (
-    if bytes_eq w (codes "false") then Some word.False else (
-    if bytes_eq w (codes "each") then Some word.Each else None))))))))))))
+    if bytes_eq w (codes "when") then Some word.When else condition_word w))))
 
 -- a word that can be a step: it begins with no digit, and is no keyword
 unfoldable pub is_ident : List ℕ → Bool

@@ -37,12 +37,14 @@ pub fn fault_at(state: &State, token: &Token) -> Option<Fault>
     }
 }
 
+/// Whether a token opens one nesting more.
 fn nests(token: &Token) -> bool
     ensures { result ≡ nests token.now }
 {
     matches!(token, Token::Keyword(Keyword::Not) | Token::Open)
 }
 
+/// The fault of a literal: a number outside an `i64`.
 fn number_of(token: &Token) -> Option<Fault>
     ensures { result ≡ number_of token.now }
 {
@@ -52,6 +54,7 @@ fn number_of(token: &Token) -> Option<Fault>
     }
 }
 
+/// The fault of a width: a number outside an `i64`, or 0.
 fn width_of(token: &Token) -> Option<Fault>
     ensures { result ≡ width_of token.now }
 {

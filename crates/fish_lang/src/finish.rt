@@ -31,6 +31,7 @@ pub fn finish(alloc: Global, state: State) -> Result<Option<Def>, AllocError>
     }
 }
 
+/// The definition that ends behind a path, which `take` alone may.
 fn taken(owner: Owner, path: Path) -> Option<Def>
     ensures { option_map definition_of result
         ≡ moves.finish (machine.behind_step (owner_view owner) path) }
@@ -44,6 +45,7 @@ fn taken(owner: Owner, path: Path) -> Option<Def>
     }
 }
 
+/// The definition that ends behind a part of an `or`.
 fn ended_with(
     alloc: Global,
     head: Head,
@@ -58,6 +60,7 @@ fn ended_with(
     Ok(ended(head, whole, cond))
 }
 
+/// The definition that ends with a whole condition, where no group is open.
 fn ended(head: Head, whole: Whole, cond: Cond) -> Option<Def>
     ensures { option_map definition_of result
         ≡ moves.ended (head_view head) (whole_view whole) (formula_of cond) }
@@ -71,6 +74,7 @@ fn ended(head: Head, whole: Whole, cond: Cond) -> Option<Def>
     }
 }
 
+/// The definition that a condition completes.
 fn definition_with(head: Head, cond: Cond) -> Def
     ensures { definition_of result ≡ moves.definition_with (head_view head) (formula_of cond) }
 {

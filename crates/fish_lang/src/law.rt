@@ -4,7 +4,21 @@ ghost use Rattle.std.specs.Prelude.{◌≡◌, ℕ, List, Result};
 ghost use Rattle.fish_lang.specs.Canonical.{definition_text};
 ghost use Rattle.fish_lang.specs.Definition.{Definition};
 ghost use Rattle.fish_lang.specs.Language.{IsAccepted, IsOutcome};
+ghost use Rattle.fish_lang.specs.Pieces.{IsCut, tokens_in};
+ghost use Rattle.fish_lang.specs.Token.{tokens};
 ghost use Rattle.fish_lang.specs.declared.parse.LangRefusal.{LangRefusal};
+
+/// A source is cut into pieces, which are its blanks and the texts of its tokens: in order they are the
+/// source, and each is the longest that can stand where it begins. A string ends at the first quote that
+/// no odd run of backslashes precedes.
+pub fn cuts_the_longest()
+    ensures { (b : List ℕ) → (pieces : List (List ℕ)) × IsCut b pieces }
+{}
+
+/// The tokens of a source are those of such pieces, each at the place of its first byte.
+pub fn lexes_the_pieces()
+    ensures { (b : List ℕ) (pieces : List (List ℕ)) → IsCut b pieces → tokens b ≡ tokens_in 0 pieces }
+{}
 
 /// A source is a definition or is refused, in one way alone.
 pub fn has_one_outcome()

@@ -14,6 +14,6 @@ mod state;
 mod token;
 
 pub use definition::{Cond, Def, Op};
-pub use law::{has_one_outcome, has_one_reading, reads_back};
+pub use law::{cuts_the_longest, has_one_outcome, has_one_reading, lexes_the_pieces, reads_back};
 pub use parse::{LangRefusal, MAX_CANONICAL, MAX_SOURCE, parse_def};
 pub use print::print_def;

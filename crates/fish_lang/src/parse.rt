@@ -67,12 +67,13 @@ impl From<AllocError> for LangRefusal {
 
     ghost from_gives = { λ _ refusal. refusal ≡ OutOfMemory };
 
+    /// Want of memory is a refusal of its own.
     fn from(_: AllocError) -> Self {
         LangRefusal::OutOfMemory
     }
 }
 
-/// The definition that a text is. Takes time and memory linear in its length.
+/// The definition that a text is.
 pub fn parse_def(alloc: Global, b: &[u8]) -> Result<Def, LangRefusal>
     // What is answered is what the language says.
     ensures answer { UnlessMemory definition_of result (IsOutcome b.now) }
@@ -82,6 +83,7 @@ pub fn parse_def(alloc: Global, b: &[u8]) -> Result<Def, LangRefusal>
     answer(alloc, b)
 }
 
+/// The same by the machine of the parser.
 #[tactic(auto, unfolding(crate::specs::Outcome::outcome))]
 fn answer(alloc: Global, b: &[u8]) -> Result<Def, LangRefusal>
     ensures { Gives definition_of result (outcome b.now) }
@@ -97,6 +99,7 @@ fn answer(alloc: Global, b: &[u8]) -> Result<Def, LangRefusal>
     }
 }
 
+/// The definition, unless its canonical text is too long.
 fn unless_long(alloc: Global, def: Def) -> Result<Def, LangRefusal>
     ensures { Gives definition_of result (unless_long (definition_of def)) }
 {
@@ -147,6 +150,7 @@ fn next(alloc: Global, state: State, placed: Placed) -> Result<State, LangRefusa
     }
 }
 
+/// The next state, unless the token is refused in its place.
 fn unless(fault: Option<Fault>, next: State, at: u64) -> Result<State, LangRefusal>
     ensures { result ≡ unless_fault fault next at }
 {

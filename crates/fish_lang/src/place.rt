@@ -50,6 +50,7 @@ pub fn nests_less(place: &Operand, most: u8) -> bool
     }
 }
 
+/// The same of what stands in front of a part of an `or`.
 #[cycle(nests)]
 fn joint_nests_less(joint: &Joint, most: u8) -> bool
     ensures { result ≡ nat_lt (joint_nesting (joint_view joint.now)) most }
@@ -60,6 +61,7 @@ fn joint_nests_less(joint: &Joint, most: u8) -> bool
     }
 }
 
+/// The same of what stands in front of a whole condition.
 #[cycle(nests)]
 fn whole_nests_less(whole: &Whole, most: u8) -> bool
     ensures { result ≡ nat_lt (whole_nesting (whole_view whole.now)) most }

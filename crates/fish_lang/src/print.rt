@@ -6,7 +6,8 @@ ghost use Rattle.std.specs.Prelude.{◌≡◌, ◌++◌, List, codes, string_byt
 ghost use Rattle.std.specs.Fmt.{signed_decimal};
 ghost use Rattle.fish_value.specs.Json.{quoted};
 ghost use Rattle.fish_value.specs.ValueText.{value_print};
-ghost use Rattle.fish_lang.specs.Canonical.{step_text, steps_text, path_text, op_text, opening, closing, closes_and, closes_or, formula_text, when_text, definition_text};
+ghost use Rattle.fish_lang.specs.Canonical.{step_text, steps_text, path_text, op_text, opening, closing, closes_and};
+ghost use Rattle.fish_lang.specs.Canonical.{closes_or, formula_text, when_text, definition_text};
 ghost use Rattle.fish_lang.specs.Definition.{formula_of, definition_of};
 
 use crate::definition::{Cond, Def, Op};
@@ -34,6 +35,7 @@ pub fn print_def(alloc: Global, def: &Def) -> Result<Text, AllocError>
     Ok(Text::from_string(out))
 }
 
+/// Writes a definition.
 fn write_def(alloc: Global, out: &mut String, def: &Def) -> Result<(), AllocError>
     ensures { OnOk result
         (string_bytes out.new ≡ string_bytes out.old ++ definition_text (definition_of def.now)) }
@@ -57,6 +59,7 @@ fn write_def(alloc: Global, out: &mut String, def: &Def) -> Result<(), AllocErro
     }
 }
 
+/// Writes ` by ` and a width.
 fn write_width(alloc: Global, out: &mut String, width: i64) -> Result<(), AllocError>
     ensures { OnOk result
         (string_bytes out.new ≡ string_bytes out.old ++ (codes " by " ++ signed_decimal width)) }
@@ -66,6 +69,7 @@ fn write_width(alloc: Global, out: &mut String, width: i64) -> Result<(), AllocE
     out.push_str(text.as_str())
 }
 
+/// Writes ` when ` and a condition, where there is one.
 fn write_when(alloc: Global, out: &mut String, when: &Option<Cond>) -> Result<(), AllocError>
     ensures { OnOk result
         (string_bytes out.new
@@ -80,38 +84,56 @@ fn write_when(alloc: Global, out: &mut String, when: &Option<Cond>) -> Result<()
     }
 }
 
+/// Writes a condition, in parentheses where its place asks for them.
+#[cycle(conditions)]
 fn write_cond(alloc: Global, out: &mut String, part: Part, cond: &Cond) -> Result<(), AllocError>
     ensures { OnOk result
         (string_bytes out.new ≡ string_bytes out.old ++ formula_text part (formula_of cond.now)) }
 {
     match cond {
         Cond::Compare { path, op, literal } => write_comparison(alloc, out, path, *op, literal),
-        Cond::Exists { path } => {
-            write_path(alloc, out, path)?;
-            out.push_str(" exists")
-        }
+        Cond::Exists { path } => write_exists(alloc, out, path),
         Cond::Starts { path, prefix } => write_starts(alloc, out, path, prefix),
-        Cond::Not(a) => {
-            out.push_str("not ")?;
-            write_cond(alloc, out, Part::OfAnd, a)
-        }
+        Cond::Not(a) => write_behind(alloc, out, "not ", Part::OfAnd, a),
         Cond::And(a, b) => {
-            open(out, closes_and(part))?;
-            write_cond(alloc, out, Part::OfOr, a)?;
-            out.push_str(" and ")?;
-            write_cond(alloc, out, Part::OfAnd, b)?;
-            shut(out, closes_and(part))
+            write_behind(alloc, out, opening(closes_and(part)), Part::OfOr, a)?;
+            write_behind(alloc, out, " and ", Part::OfAnd, b)?;
+            out.push_str(closing(closes_and(part)))
         }
         Cond::Or(a, b) => {
-            open(out, closes_or(part))?;
-            write_cond(alloc, out, Part::Whole, a)?;
-            out.push_str(" or ")?;
-            write_cond(alloc, out, Part::OfOr, b)?;
-            shut(out, closes_or(part))
+            write_behind(alloc, out, opening(closes_or(part)), Part::Whole, a)?;
+            write_behind(alloc, out, " or ", Part::OfOr, b)?;
+            out.push_str(closing(closes_or(part)))
         }
     }
 }
 
+/// Writes a text and a condition behind it.
+#[cycle(conditions)]
+fn write_behind(
+    alloc: Global,
+    out: &mut String,
+    front: &str,
+    part: Part,
+    cond: &Cond,
+) -> Result<(), AllocError>
+    ensures { OnOk result (string_bytes out.new
+        ≡ string_bytes out.old ++ (front.now ++ formula_text part (formula_of cond.now))) }
+{
+    out.push_str(front)?;
+    write_cond(alloc, out, part, cond)
+}
+
+/// Writes a path and ` exists`.
+fn write_exists(alloc: Global, out: &mut String, path: &Path) -> Result<(), AllocError>
+    ensures { OnOk result
+        (string_bytes out.new ≡ string_bytes out.old ++ (path_text path.now ++ codes " exists")) }
+{
+    write_path(alloc, out, path)?;
+    out.push_str(" exists")
+}
+
+/// Writes a path, a sign of comparison and a literal.
 fn write_comparison(
     alloc: Global,
     out: &mut String,
@@ -128,6 +150,7 @@ fn write_comparison(
     out.push_str(text.as_str())
 }
 
+/// Writes a path, ` starts ` and a string.
 fn write_starts(
     alloc: Global,
     out: &mut String,
@@ -143,30 +166,35 @@ fn write_starts(
     out.push_str(text.as_str())
 }
 
+/// Whether an `and` needs parentheses at a place.
 fn closes_and(part: Part) -> bool
     ensures { result ≡ closes_and part }
 {
     matches!(part, Part::OfAnd)
 }
 
+/// Whether an `or` needs parentheses at a place.
 fn closes_or(part: Part) -> bool
     ensures { result ≡ closes_or part }
 {
     matches!(part, Part::OfOr | Part::OfAnd)
 }
 
-fn open(out: &mut String, wanted: bool) -> Result<(), AllocError>
-    ensures { OnOk result (string_bytes out.new ≡ string_bytes out.old ++ opening wanted) }
+/// `(` where it is wanted.
+fn opening(wanted: bool) -> &'static str
+    ensures { result.now ≡ opening wanted }
 {
-    if wanted { out.push_str("(") } else { Ok(()) }
+    if wanted { "(" } else { "" }
 }
 
-fn shut(out: &mut String, wanted: bool) -> Result<(), AllocError>
-    ensures { OnOk result (string_bytes out.new ≡ string_bytes out.old ++ closing wanted) }
+/// `)` where it is wanted.
+fn closing(wanted: bool) -> &'static str
+    ensures { result.now ≡ closing wanted }
 {
-    if wanted { out.push_str(")") } else { Ok(()) }
+    if wanted { ")" } else { "" }
 }
 
+/// A sign of comparison between two spaces.
 fn op_text(op: Op) -> &'static str
     ensures { result.now ≡ op_text op }
 {
@@ -180,6 +208,7 @@ fn op_text(op: Op) -> &'static str
     }
 }
 
+/// Writes the steps of a path with dots between.
 fn write_path(alloc: Global, out: &mut String, path: &Path) -> Result<(), AllocError>
     ensures { OnOk result (string_bytes out.new ≡ string_bytes out.old ++ path_text path.now) }
 {

@@ -73,6 +73,7 @@ pub fn advance(alloc: Global, state: State, token: Token) -> Result<Option<State
     }
 }
 
+/// The first word says what a definition takes.
 fn from_start(token: Token) -> Option<State>
     ensures { option_map state_view result ≡ moves.from_start token }
 {
@@ -96,6 +97,7 @@ fn from_head(head: Head, token: Token) -> Option<State>
     }
 }
 
+/// A name or a string is a step.
 fn from_step(
     alloc: Global,
     owner: Owner,
@@ -122,6 +124,7 @@ fn from_step(
     }
 }
 
+/// A path with one more step.
 fn longer(alloc: Global, path: Option<Path>, step: Text) -> Result<Path, AllocError>
     ensures { IfOk result (λ p. p ≡ steps_so_far path ++ step ∷ []) }
 {
@@ -134,6 +137,7 @@ fn longer(alloc: Global, path: Option<Path>, step: Text) -> Result<Path, AllocEr
     }
 }
 
+/// The step that a token is, if it is one.
 fn name_of(token: Token) -> Option<Text>
     ensures { result ≡ moves.name_of token }
 {
@@ -147,6 +151,7 @@ fn name_of(token: Token) -> Option<Text>
     }
 }
 
+/// A dot leads on to a further step, any other token behind the path.
 fn from_path(
     alloc: Global,
     owner: Owner,
@@ -162,6 +167,7 @@ fn from_path(
     }
 }
 
+/// What follows a path, by what it is part of.
 fn behind_path(
     alloc: Global,
     owner: Owner,
@@ -178,6 +184,7 @@ fn behind_path(
     }
 }
 
+/// `by` leads to the width of a bucket.
 fn behind_bucket(path: Path, token: Token) -> Option<State>
     ensures { option_map state_view result ≡ moves.behind_bucket path token }
 {
@@ -187,6 +194,7 @@ fn behind_bucket(path: Path, token: Token) -> Option<State>
     }
 }
 
+/// A sign of comparison, `exists` or `starts` makes a test of a path.
 fn behind_test(
     alloc: Global,
     head: Head,
@@ -211,6 +219,7 @@ fn behind_test(
     }
 }
 
+/// A number without a minus is a width.
 fn from_width(path: Path, token: Token) -> Option<State>
     ensures { option_map state_view result ≡ moves.from_width path token }
 {
@@ -223,6 +232,7 @@ fn from_width(path: Path, token: Token) -> Option<State>
     }
 }
 
+/// `not` and `(` go one deeper, and a step begins a test.
 fn from_operand(
     alloc: Global,
     head: Head,
@@ -270,6 +280,7 @@ fn in_test(alloc: Global, head: Head, place: Operand, step: Text) -> State
     State::BehindStep(Owner::Test(head, place), Path::new(alloc, step))
 }
 
+/// A literal completes a comparison.
 fn from_literal(
     alloc: Global,
     head: Head,
@@ -311,6 +322,7 @@ fn value_of(token: Token) -> Option<Value>
     }
 }
 
+/// A string completes a test of how a text begins.
 fn from_prefix(
     alloc: Global,
     head: Head,
@@ -360,6 +372,7 @@ fn complete(alloc: Global, head: Head, place: Operand, cond: Cond) -> Result<Sta
     }
 }
 
+/// Two conditions joined by `and`.
 fn both_of(alloc: Global, front: Cond, cond: Cond) -> Result<Cond, AllocError>
     ensures { IfOk result (λ a. formula_of a ≡ both (formula_of front) (formula_of cond)) }
 {
@@ -378,6 +391,7 @@ fn both_of(alloc: Global, front: Cond, cond: Cond) -> Result<Cond, AllocError>
     }
 }
 
+/// `and`, `or` and `)` join or end what was read.
 fn from_joint(
     alloc: Global,
     head: Head,

@@ -1,12 +1,15 @@
 //! Tokens: the words and signs of a definition.
 
-ghost use Rattle.std.specs.Prelude.{◌≡◌, ◌==◌, ◌+◌, ◌≤◌, ◌<◌, List, [], ◌∷◌, ◌++◌, drop, take, length, slice_index, true, false, Some, IfOk, OnOk, option_map, option_and_then};
+ghost use Rattle.std.specs.Prelude.{◌≡◌, ◌==◌, ◌+◌, ◌≤◌, ◌<◌, List, [], ◌∷◌, ◌++◌, drop, take, length, slice_index};
+ghost use Rattle.std.specs.Prelude.{true, false, Some, IfOk, OnOk, option_map, option_and_then};
 ghost use Rattle.std.specs.Char.{is_ascii_digit};
 ghost use Rattle.std.specs.List.{list_all};
 ghost use Rattle.serde_json.specs.Find.{as_str};
 ghost use Rattle.fish_value.specs.Json.{reading};
 ghost use Rattle.fish_value.specs.Number.{is_number, is_positive};
-ghost use Rattle.fish_lang.specs.Token.{is_blank, is_word_byte, begins_word, takes_equals, run_length, string_length, length_behind, keyword_of, is_ident, plain_word, word_or_keyword, string_token, sign_token, token_of, listed, tokens};
+ghost use Rattle.fish_lang.specs.Token.{is_blank, is_word_byte, begins_word, takes_equals, run_length, string_length};
+ghost use Rattle.fish_lang.specs.Token.{condition_word, length_behind, literal_word, keyword_of, is_ident, plain_word, word_or_keyword, string_token};
+ghost use Rattle.fish_lang.specs.Token.{sign_token, token_of, listed, tokens};
 
 use crate::definition::Op;
 use fish_value::{Text, read_int, read_json};
@@ -112,18 +115,21 @@ fn length_behind(c: u8, b: &[u8]) -> usize
     0
 }
 
+/// Whether a byte can stand in a word.
 fn is_word_byte(c: u8) -> bool
     ensures { result ≡ is_word_byte c }
 {
     c.is_ascii_alphanumeric() || c == b'_' || c == b'$'
 }
 
+/// Whether a byte can begin a word or a number.
 fn begins_word(c: u8) -> bool
     ensures { result ≡ begins_word c }
 {
     is_word_byte(c) || c == b'-'
 }
 
+/// Whether a sign takes a `=` behind it in.
 fn takes_equals(c: u8) -> bool
     ensures { result ≡ takes_equals c }
 {
@@ -177,6 +183,7 @@ fn read_token(alloc: Global, piece: &[u8]) -> Result<Option<Token>, AllocError>
     Ok(Some(sign(piece)))
 }
 
+/// The token of a word: a keyword, a number, a step, or what fits nowhere.
 fn word(alloc: Global, w: &[u8]) -> Result<Token, AllocError>
     ensures { IfOk result (λ token. token ≡ word_or_keyword (keyword_of w.now) w.now) }
 {
@@ -186,6 +193,7 @@ fn word(alloc: Global, w: &[u8]) -> Result<Token, AllocError>
     }
 }
 
+/// The token of a word that is no keyword.
 #[tactic(auto, unfolding(crate::specs::Token::plain_word))]
 fn plain(alloc: Global, w: &[u8]) -> Result<Token, AllocError>
     ensures { IfOk result (λ token. token ≡ plain_word w.now) }
@@ -202,14 +210,15 @@ fn plain(alloc: Global, w: &[u8]) -> Result<Token, AllocError>
     Ok(Token::Other)
 }
 
+/// The token of a word that can be a step.
 fn ident(alloc: Global, w: &[u8]) -> Result<Token, AllocError>
     requires { is_ident w.now ≡ true }
     ensures { IfOk result (λ token. token ≡ Token.Ident w.now) }
 {
     match Text::from_bytes(alloc, w)? {
         Some(text) => Ok(Token::Ident(text)),
-        // Its bytes are ASCII, so this arm is not reached.
-        None => Ok(Token::Other),
+        // Its bytes are ASCII.
+        None => unreachable!(),
     }
 }
 
@@ -224,12 +233,14 @@ fn is_number(b: &[u8]) -> bool
     }
 }
 
+/// Whether bytes are digits, of which the first is not 0.
 fn is_positive(b: &[u8]) -> bool
     ensures { result ≡ is_positive b.now }
 {
     !b.is_empty() && b[0] != b'0' && has_digits(b)
 }
 
+/// Whether all bytes are digits.
 fn has_digits(b: &[u8]) -> bool
     ensures { result ≡ list_all is_ascii_digit b.now }
 {
@@ -244,12 +255,14 @@ pub fn is_ident(w: &[u8]) -> bool
     !w.is_empty() && has_word_bytes(w) && !w[0].is_ascii_digit() && kept_word(w).is_none()
 }
 
+/// Whether all bytes can stand in a word.
 fn has_word_bytes(w: &[u8]) -> bool
     ensures { result ≡ list_all is_word_byte w.now }
 {
     w.iter().all(|c| is_word_byte(*c))
 }
 
+/// The keyword that a word is, if it is one.
 #[tactic(auto, unfolding(crate::specs::Token::keyword_of))]
 fn kept_word(w: &[u8]) -> Option<Keyword>
     ensures { result ≡ keyword_of w.now }
@@ -269,6 +282,14 @@ fn kept_word(w: &[u8]) -> Option<Keyword>
     if w == b"when".as_slice() {
         return Some(Keyword::When);
     }
+    condition_word(w)
+}
+
+/// The word of a condition that a word is, or a literal.
+#[tactic(auto, unfolding(crate::specs::Token::condition_word))]
+fn condition_word(w: &[u8]) -> Option<Keyword>
+    ensures { result ≡ condition_word w.now }
+{
     if w == b"not".as_slice() {
         return Some(Keyword::Not);
     }
@@ -284,6 +305,14 @@ fn kept_word(w: &[u8]) -> Option<Keyword>
     if w == b"starts".as_slice() {
         return Some(Keyword::Starts);
     }
+    literal_word(w)
+}
+
+/// The literal that a word is, or the word that is kept for later.
+#[tactic(auto, unfolding(crate::specs::Token::literal_word))]
+fn literal_word(w: &[u8]) -> Option<Keyword>
+    ensures { result ≡ literal_word w.now }
+{
     if w == b"true".as_slice() {
         return Some(Keyword::True);
     }
@@ -306,6 +335,7 @@ fn quotation(alloc: Global, b: &[u8]) -> Result<Token, AllocError>
     }
 }
 
+/// The token of a string with this reading.
 fn text_token(s: Text) -> Token
     ensures { result ≡ string_token (Some s) }
 {
@@ -314,6 +344,7 @@ fn text_token(s: Text) -> Token
     Token::Str(s)
 }
 
+/// The token of a sign, or of a byte that fits nowhere.
 #[tactic(auto, unfolding(crate::specs::Token::sign_token))]
 fn sign(b: &[u8]) -> Token
     ensures { result ≡ sign_token b.now }

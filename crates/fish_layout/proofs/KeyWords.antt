@@ -1,5 +1,5 @@
 -- What the three words of a key entry say.
-use Rattle.std.proofs.Common.{◌≡◌, ℕ, zero, suc, ◌+◌, ◌*◌, ◌^◌, ◌<◌}
+use Rattle.std.proofs.Common.{◌≡◌, ℕ, zero, suc, ◌+◌, ◌-◌, ◌*◌, ◌^◌, ◌<◌}
 use Rattle.std.proofs.Common.{List, [], ◌∷◌, ◌++◌, length, get_or, take, drop}
 use Rattle.std.proofs.Common.{sym, ap, ◌∙◌, arith, length-append}
 use Rattle.std.proofs.lemmas.List.{get_or-drop}
@@ -12,7 +12,7 @@ use Rattle.fish_layout.specs.Entry.{entry_id, entry_number, entry_place, value_k
 use Rattle.fish_layout.specs.Values.{kind_code, value_bytes}
 use Rattle.fish_layout.specs.declared.parts.BodyParts.{BodyParts}
 use Rattle.fish_layout.specs.declared.parts.KeyPart.{KeyPart}
-use Rattle.fish_layout.proofs.Entries.{few_bytes_at, proper_at}
+use Rattle.fish_layout.proofs.Entries.{few_bytes_at, proper_at, value_at}
 use Rattle.fish_layout.proofs.Fields.{field_is}
 use Rattle.fish_layout.proofs.Links.{after_keys, body_parted}
 use Rattle.fish_layout.proofs.Sizes.{few_bytes, few_keys_of}
@@ -150,3 +150,14 @@ pub body_key : {p : BodyParts} {ws : List ℕ} (c : ℕ) (k : KeyPart) → IsBod
     k ≡ get_or p.keys c k → SaysKey p (λ i. get_or ws i 0) c k
 body_key {p} {ws} c k h within is =
     words_say p (λ i. get_or ws i 0) c k h.proper (λ i. ap (λ b. get_or b i 0) h.is) within is
+
+-- the bytes that the third word points at are those of the key's value
+pub value_pointed : {p : BodyParts} {ws : List ℕ} (c : ℕ) (k : KeyPart) (values : List ℕ) (from size : ℕ) → IsBody p ws →
+    c < length p.keys → k ≡ get_or p.keys c k → values ≡ values_of p.keys →
+    from ≡ value_offset (get_or ws (entry_at c + 2) 0) → size ≡ value_size (get_or ws (entry_at c + 2) 0) →
+    take (from + size - from) (drop from values) ≡ value_bytes k.value
+value_pointed {p} {ws} c k values from size h within is same offset_is size_is =
+    let says = body_key c k h within is in
+    ap (λ l. take (from + size - from) (drop from l)) same
+    ∙ value_at p.keys c k from (from + size) within is (offset_is ∙ says.offset)
+    (ap (λ n. from + n) (size_is ∙ says.size))

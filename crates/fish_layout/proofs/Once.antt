@@ -150,6 +150,16 @@ body_once {p} {q} {ws} hp hq number =
     ∙ ap (λ x. record p { form = q.form; lane = q.lane; version = q.version; number = q.number; keys = x }) keys
     ∙ ap (λ x. record q { payload = x }) payload
 
+-- so are parts whose number is 0 where there is no key
+pub body_back : {p q : BodyParts} {ws : List ℕ} → IsBody p ws → IsBody q ws → (length p.keys ≡ 0 → p.number ≡ 0) →
+    (length q.keys ≡ 0 → q.number ≡ 0) → p ≡ q
+body_back {p} {q} {ws} hp hq none_p none_q =
+    let keys : length p.keys ≡ length q.keys = sym (body_says hp).keys ∙ (body_says hq).keys in
+    body_once hp hq (elim (ℕ_discrete (length p.keys) 0) [
+      | yes none ↦ none_p none ∙ sym (none_q (sym keys ∙ none))
+      | no some ↦ body_number hp hq (omega arith)
+    ])
+
 -- what is spelled twice has the same words
 spelled_words : {p q : BodyParts} {e : ℕ → ℕ} → Spells p e → Spells q e → body_words p ≡ body_words q
 spelled_words {p} {q} {e} sp sq =

@@ -49,11 +49,14 @@ pub fn read_payload(alloc: Global, words: &[u64]) -> Result<Payload, AllocError>
 }
 
 /// The parts of the record that words are, or none where they are no record. The number of a
-/// record with no key stands nowhere in its words, and is given as 0.
+/// record with no key stands nowhere in its words, and is given as 0; of words that `body_of` made
+/// all other parts come back as they were.
 pub fn read_body(alloc: Global, words: &[u64]) -> Result<Option<BodyParts>, AllocError>
     ensures parts { IfOk result (λ o.
         MatchOption o (¬ ((p : BodyParts) × IsBody p words.now)) (λ p. IsBody p words.now)) }
     ensures number { IfOk result (λ o. IfSome o (λ p. length p.keys ≡ 0 → p.number ≡ 0)) }
+    ensures back { IfOk result (λ o.
+        (p : BodyParts) → IsBody p words.now → (length p.keys ≡ 0 → p.number ≡ 0) → o ≡ Some p) }
 {
     let Some(parts) = read_parts(alloc, words)? else {
         return Ok(None);

@@ -1,5 +1,6 @@
 -- What a splitter has given and still gives, after each of its steps.
-use Rattle.std.proofs.Common.{◌≡◌, ℕ, ◌+◌, ◌<◌, take, length, get_or, List, [], ◌∷◌, ◌++◌, Bool, true, false, refl, sym, ap, ◌∙◌, append_assoc, append-nil}
+use Rattle.std.proofs.Common.{◌≡◌, ℕ, ◌+◌, ◌<◌, take, length, get_or, List, [], ◌∷◌, ◌++◌, Bool, true, false, refl, sym}
+use Rattle.std.proofs.Common.{ap, ◌∙◌, append_assoc, append-nil}
 use Rattle.std.specs.List.{concat, slice_split}
 use Rattle.std.proofs.lemmas.List.{take_more}
 use Rattle.std.proofs.lemmas.List.Folds.{concat-append}
@@ -12,7 +13,8 @@ use Rattle.fish_lines.specs.declared.splitter.Line.{Line}
 use Rattle.fish_lines.specs.declared.splitter.Splitter.{Splitter}
 use Rattle.fish_lines.proofs.KeptLemmas.{line_in_open}
 use Rattle.fish_lines.proofs.MarkLemmas.{decided_stays, undecided_cases}
-use Rattle.fish_lines.proofs.PartLemmas.{ended-append, ended-cut, ended-last, given_of-append, last-append, last-cut, no_end-front, parts_of_bytes, slice_split-append}
+use Rattle.fish_lines.proofs.PartLemmas.{ended-append, ended-cut, ended-last, given_of-append, last-append, last-cut}
+use Rattle.fish_lines.proofs.PartLemmas.{no_end-front, parts_of_bytes, slice_split-append}
 
 -- ---- a piece behind an open line
 

@@ -25,6 +25,7 @@ impl From<Failed> for FeedRefusal {
 
     ghost from_gives = { λ _ made. made ≡ refusal.Failed };
 
+    /// A fault of the outside stays one.
     fn from(_: Failed) -> Self {
         FeedRefusal::Failed
     }
@@ -36,6 +37,7 @@ impl From<AllocError> for FeedRefusal {
 
     ghost from_gives = { λ _ made. made ≡ refusal.OutOfMemory };
 
+    /// Want of memory stays what it is.
     fn from(_: AllocError) -> Self {
         FeedRefusal::OutOfMemory
     }

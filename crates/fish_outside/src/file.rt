@@ -55,6 +55,7 @@ impl<R: Files<File = File> + Clone + Drop + Send> Host for FileHost<R> {
 
     ghost faults = { λ host. host.faults };
 
+    /// Opens a file. Where the system refuses that, a fault is counted.
     fn feed(&mut self, _alloc: Global, name: &Text) -> Result<FileFeed, FeedRefusal> {
         match fs::open(&self.rt, name.as_str()) {
             Ok(file) => Ok(FileFeed { file, faults: 0 }),
@@ -65,6 +66,7 @@ impl<R: Files<File = File> + Clone + Drop + Send> Host for FileHost<R> {
         }
     }
 
+    /// Adds the faults of a feed that came back.
     fn done(&mut self, feed: FileFeed) {
         self.faults = self.faults.saturating_add(feed.faults);
     }
@@ -75,6 +77,7 @@ impl Source for FileFeed {
 
     ghost faults = { λ feed. feed.faults };
 
+    /// Reads from the file. What isn't read in the end is one fault.
     fn read(&mut self, buf: &mut [u8]) -> Result<usize, Failed> {
         if let Some(count) = read_some(&mut self.file, buf) {
             return Ok(count);
@@ -84,6 +87,7 @@ impl Source for FileFeed {
     }
 }
 
+/// Reads once without an interruption, if that comes within the tries.
 fn read_some(file: &mut File, buf: &mut [u8]) -> Option<usize>
     ensures { IfSome result (λ n. n ≤ length buf.new) }
 {

@@ -41,6 +41,7 @@ impl Source for MemorySource {
 
     ghost faults = { λ source. source.plan.faults };
 
+    /// Fails where the plan says so, and else gives the next bytes.
     fn read(&mut self, buf: &mut [u8]) -> Result<usize, Failed>
         ensures bound { IfOk result (λ n. n ≤ length buf.new) }
         ensures bytes { Reads (Some self.old.rest) (Some self.new.rest) result buf.new }
@@ -75,6 +76,7 @@ pub(crate) fn find_file<'a>(files: &'a [HostFile], name: &Text) -> Option<&'a Ho
     files.iter().find(|file| has_name(file, name))
 }
 
+/// Whether a file has a name.
 fn has_name(file: &HostFile, name: &Text) -> bool
     ensures { result ≡ bytes_eq file.now.name name.now }
 {
@@ -111,6 +113,7 @@ impl Host for MemoryHost {
 
     ghost faults = { λ host. host.plan.faults };
 
+    /// Fails where the plan says so or no file has the name, and else copies the file.
     fn feed(&mut self, alloc: Global, name: &Text) -> Result<MemorySource, FeedRefusal>
         ensures feed { IfOk result (λ feed.
             option_map feed_of (file_of self.old.files name.now) ≡ Some feed) }
@@ -129,6 +132,7 @@ impl Host for MemoryHost {
         Ok(MemorySource::new(bytes, fails))
     }
 
+    /// Adds the faults of a feed that came back.
     fn done(&mut self, feed: MemorySource)
         ensures files { self.new.files ≡ self.old.files }
         ensures counted { self.new.plan ≡ record self.old.plan {
@@ -183,6 +187,7 @@ impl Sink for MemorySink {
 
     ghost faults = { λ sink. sink.plan.faults };
 
+    /// Fails where the plan says so or memory runs out, and else takes the whole piece.
     fn write(&mut self, piece: &[u8]) -> Result<usize, Failed>
         ensures bound { IfOk result (λ n. n ≤ length piece.now) }
         ensures bytes { Writes (Some self.old.bytes) (Some self.new.bytes) result piece.now }

@@ -37,6 +37,7 @@ impl<P: Print + Drop> Sink for OutSink<P> {
 
     ghost faults = { λ sink. sink.faults };
 
+    /// Writes a first part of a piece. What isn't written in the end is one fault.
     fn write(&mut self, piece: &[u8]) -> Result<usize, Failed> {
         if let Some(count) = write_some(&self.rt, piece) {
             return Ok(count);

@@ -42,6 +42,7 @@ impl Source for SureSource {
 
     ghost faults = { λ _. 0 };
 
+    /// Gives the next bytes, as many as fit.
     fn read(&mut self, buf: &mut [u8]) -> Result<usize, Failed> {
         let (_, rest) = self.bytes.as_bytes().split_at(self.at);
         let count = copy_front(rest, buf);
@@ -83,6 +84,7 @@ impl Host for SureHost {
 
     ghost faults = { λ _. 0 };
 
+    /// A feed of the file of that name, or of no bytes.
     fn feed(&mut self, alloc: Global, name: &Text) -> Result<SureSource, FeedRefusal> {
         match find_file(self.files.as_slice(), name) {
             Some(file) => Ok(SureSource::new(file.bytes.again(alloc)?)),
@@ -90,5 +92,6 @@ impl Host for SureHost {
         }
     }
 
+    /// A feed that never fails has no faults to add.
     fn done(&mut self, _feed: SureSource) {}
 }

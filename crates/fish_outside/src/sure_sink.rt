@@ -51,6 +51,7 @@ impl Sink for SureSink {
 
     ghost faults = { λ _. 0 };
 
+    /// Takes the whole piece, and keeps what the room has place for.
     fn write(&mut self, piece: &[u8]) -> Result<usize, Failed>
         ensures bound { IfOk result (λ n. n ≤ length piece.now) }
         ensures bytes { Writes (told_of self.old) (told_of self.new) result piece.now }

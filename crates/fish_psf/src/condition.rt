@@ -1,6 +1,6 @@
 //! Whether a condition holds on a record.
 
-ghost use Rattle.std.specs.Prelude.{◌≡◌, IfOk};
+ghost use Rattle.std.specs.Prelude.{◌≡◌};
 ghost use Rattle.std.specs.Ordering.{bool_cmp};
 ghost use Rattle.fish_value.specs.Seen.{field_seen};
 ghost use Rattle.fish_lang.specs.Definition.{formula_of};
@@ -9,28 +9,20 @@ ghost use Rattle.fish_psf.specs.Eval.{begins_with, exists, holds, meets, meets_o
 use crate::parsed::Parsed;
 use fish_lang::{Cond, Op};
 use fish_value::{FieldView, Text, Value};
-use std::alloc::{AllocError, Global};
 use std::cmp::Ordering;
 
 /// Whether a condition holds on a record. It looks at the fields from the left, and no further than
-/// it has to. It takes no memory, and answers Ok.
-pub fn holds<R: Parsed>(_alloc: Global, cond: &Cond, rec: &R) -> Result<bool, AllocError>
-    ensures { IfOk result (λ truth. truth ≡ holds (formula_of cond.now) (R.fields rec.now)) }
-{
-    Ok(is_met(cond, rec))
-}
-
-/// The same, as the truth value alone.
-pub(crate) fn is_met<R: Parsed>(cond: &Cond, rec: &R) -> bool
+/// it has to. It takes no memory.
+pub fn holds<R: Parsed>(cond: &Cond, rec: &R) -> bool
     ensures { result ≡ holds (formula_of cond.now) (R.fields rec.now) }
 {
     match cond {
         Cond::Compare { path, op, literal } => compares(*op, &rec.look(path), literal),
         Cond::Exists { path } => exists(&rec.look(path)),
         Cond::Starts { path, prefix } => begins_with(prefix, &rec.look(path)),
-        Cond::Not(inner) => !is_met(inner, rec),
-        Cond::And(left, right) => is_met(left, rec) && is_met(right, rec),
-        Cond::Or(left, right) => is_met(left, rec) || is_met(right, rec),
+        Cond::Not(inner) => !holds(inner, rec),
+        Cond::And(left, right) => holds(left, rec) && holds(right, rec),
+        Cond::Or(left, right) => holds(left, rec) || holds(right, rec),
     }
 }
 

@@ -1,9 +1,8 @@
 //! A payload of either form, read as a record.
 
-ghost use Rattle.std.specs.Prelude.{◌≡◌, ◌≢◌, ◌↔◌, ◌+◌, ◌<◌, ◌≤◌, true, false, length, IfOk, IfErr, OnOk, IsErrOf};
-ghost use Rattle.fish_value.specs.Limits.{longest_payload};
+ghost use Rattle.std.specs.Prelude.{◌≡◌, ◌+◌};
 ghost use Rattle.fish_psf.specs.Fields.{fields_of, form_of};
-ghost use Rattle.fish_psf.specs.Records.{fields_of_payload, is_record};
+ghost use Rattle.fish_psf.specs.Parsing.{IsParsed};
 
 use crate::record::Record;
 use crate::steps::Steps;
@@ -32,15 +31,8 @@ pub fn parse<P: Ledger>(
     b: &[u8],
     parses: &mut Steps<P>,
 ) -> Result<Record, PsfRefusal>
-    ensures form { IfOk result (λ found. form_of found ≡ form) }
-    ensures fields { IfOk result (λ found. fields_of found ≡ fields_of_payload form b.now) }
-    ensures accepted { OnOk result (is_record form b.now ≡ true) }
+    ensures parsed { IsParsed form_of fields_of form b.now result }
     ensures counted { parses.new ≡ parses.old + 1 }
-
-    ensures too_long { IsErrOf result PsfRefusal.TooLong ↔ (longest_payload < length b.now) }
-    ensures not_record { IsErrOf result PsfRefusal.NotRecord
-        → (length b.now ≤ longest_payload) × (is_record form b.now ≡ false) }
-    ensures none { IfErr result (λ e. e ≢ PsfRefusal.OutOfMemory → is_record form b.now ≡ false) }
 {
     parses.tick();
     match form {
@@ -52,14 +44,7 @@ pub fn parse<P: Ledger>(
 /// The same of a line in JSON.
 #[tactic(auto, using(crate::proofs::RecordLemmas::json_records))]
 fn json_record(alloc: Global, b: &[u8]) -> Result<Record, PsfRefusal>
-    ensures form { IfOk result (λ found. form_of found ≡ Form.Json) }
-    ensures fields { IfOk result (λ found. fields_of found ≡ fields_of_payload Form.Json b.now) }
-    ensures accepted { OnOk result (is_record Form.Json b.now ≡ true) }
-
-    ensures too_long { IsErrOf result PsfRefusal.TooLong ↔ (longest_payload < length b.now) }
-    ensures not_record { IsErrOf result PsfRefusal.NotRecord
-        → (length b.now ≤ longest_payload) × (is_record Form.Json b.now ≡ false) }
-    ensures none { IfErr result (λ e. e ≢ PsfRefusal.OutOfMemory → is_record Form.Json b.now ≡ false) }
+    ensures { IsParsed form_of fields_of Form.Json b.now result }
 {
     if b.len() > MAX_PAYLOAD {
         return Err(PsfRefusal::TooLong);
@@ -75,14 +60,7 @@ fn json_record(alloc: Global, b: &[u8]) -> Result<Record, PsfRefusal>
 /// The same of a row in CSV.
 #[tactic(auto, using(crate::proofs::RecordLemmas::csv_records))]
 fn csv_record(alloc: Global, b: &[u8]) -> Result<Record, PsfRefusal>
-    ensures form { IfOk result (λ found. form_of found ≡ Form.Csv) }
-    ensures fields { IfOk result (λ found. fields_of found ≡ fields_of_payload Form.Csv b.now) }
-    ensures accepted { OnOk result (is_record Form.Csv b.now ≡ true) }
-
-    ensures too_long { IsErrOf result PsfRefusal.TooLong ↔ (longest_payload < length b.now) }
-    ensures not_record { IsErrOf result PsfRefusal.NotRecord
-        → (length b.now ≤ longest_payload) × (is_record Form.Csv b.now ≡ false) }
-    ensures none { IfErr result (λ e. e ≢ PsfRefusal.OutOfMemory → is_record Form.Csv b.now ≡ false) }
+    ensures { IsParsed form_of fields_of Form.Csv b.now result }
 {
     if b.len() > MAX_PAYLOAD {
         return Err(PsfRefusal::TooLong);

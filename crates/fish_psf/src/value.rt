@@ -5,7 +5,7 @@ ghost use Rattle.fish_value.specs.Seen.{field_seen};
 ghost use Rattle.fish_lang.specs.Definition.{definition_of, formula_of};
 ghost use Rattle.fish_psf.specs.Eval.{bucket, bucket_of, eval, holds_when, value_of};
 
-use crate::condition::is_met;
+use crate::condition::holds;
 use crate::parsed::Parsed;
 use fish_lang::{Cond, Def};
 use fish_value::{FieldView, MAX_VALUE, Text, Value};
@@ -34,7 +34,7 @@ pub fn eval<R: Parsed>(alloc: Global, def: &Def, rec: &R) -> Result<Option<Value
             Ok(bucket_of(*width, &rec.look(path)))
         }
         Def::Flag { when } => {
-            if !is_met(when, rec) {
+            if !holds(when, rec) {
                 return Ok(None);
             }
             Ok(Some(Value::Bool(true)))
@@ -47,7 +47,7 @@ fn holds_when<R: Parsed>(when: &Option<Cond>, rec: &R) -> bool
     ensures { result ≡ holds_when (option_map formula_of when.now) (R.fields rec.now) }
 {
     match when {
-        Some(cond) => is_met(cond, rec),
+        Some(cond) => holds(cond, rec),
         None => true,
     }
 }

@@ -1,7 +1,7 @@
 //! Reads payloads of either form one after another, with memory that is kept.
 
-ghost use Rattle.std.specs.Prelude.{◌≡◌, ◌≢◌, ◌↔◌, ◌+◌, ◌<◌, ◌≤◌, true, false, length, IfOk, IfErr, OnOk, IsErrOf};
-ghost use Rattle.fish_psf.specs.Records.{fields_of_payload, is_record};
+ghost use Rattle.std.specs.Prelude.{◌≡◌, ◌+◌};
+ghost use Rattle.fish_psf.specs.Parsing.{IsParsed};
 ghost use Rattle.fish_read.specs.Rows.{fields_in_row, form_of_row};
 
 use fish_csv::{CsvReader, CsvRecordRefusal, CsvRow};
@@ -46,15 +46,8 @@ impl RecordReader {
         b: &'a [u8],
         parses: &mut Steps<P>,
     ) -> Result<RecordRow<'a>, PsfRefusal>
-        ensures form { IfOk result (λ found. form_of_row found ≡ form) }
-        ensures fields { IfOk result (λ found. fields_in_row found ≡ fields_of_payload form b.now) }
-        ensures accepted { OnOk result (is_record form b.now ≡ true) }
+        ensures parsed { IsParsed form_of_row fields_in_row form b.now result }
         ensures counted { parses.new ≡ parses.old + 1 }
-
-        ensures too_long { IsErrOf result PsfRefusal.TooLong ↔ (MAX_PAYLOAD < length b.now) }
-        ensures not_record { IsErrOf result PsfRefusal.NotRecord
-            → (length b.now ≤ MAX_PAYLOAD) × (is_record form b.now ≡ false) }
-        ensures none { IfErr result (λ e. e ≢ PsfRefusal.OutOfMemory → is_record form b.now ≡ false) }
     {
         parses.tick();
         match form {
@@ -71,14 +64,7 @@ fn json_row<'a>(
     reader: &'a mut JsonReader,
     b: &'a [u8],
 ) -> Result<RecordRow<'a>, PsfRefusal>
-    ensures form { IfOk result (λ found. form_of_row found ≡ Form.Json) }
-    ensures fields { IfOk result (λ found. fields_in_row found ≡ fields_of_payload Form.Json b.now) }
-    ensures accepted { OnOk result (is_record Form.Json b.now ≡ true) }
-
-    ensures too_long { IsErrOf result PsfRefusal.TooLong ↔ (MAX_PAYLOAD < length b.now) }
-    ensures not_record { IsErrOf result PsfRefusal.NotRecord
-        → (length b.now ≤ MAX_PAYLOAD) × (is_record Form.Json b.now ≡ false) }
-    ensures none { IfErr result (λ e. e ≢ PsfRefusal.OutOfMemory → is_record Form.Json b.now ≡ false) }
+    ensures { IsParsed form_of_row fields_in_row Form.Json b.now result }
 {
     if b.len() > MAX_PAYLOAD {
         return Err(PsfRefusal::TooLong);
@@ -94,14 +80,7 @@ fn json_row<'a>(
 /// The same of a row in CSV.
 #[tactic(auto, using(fish_psf::proofs::RecordLemmas::csv_records))]
 fn csv_row<'a>(reader: &'a mut CsvReader, b: &[u8]) -> Result<RecordRow<'a>, PsfRefusal>
-    ensures form { IfOk result (λ found. form_of_row found ≡ Form.Csv) }
-    ensures fields { IfOk result (λ found. fields_in_row found ≡ fields_of_payload Form.Csv b.now) }
-    ensures accepted { OnOk result (is_record Form.Csv b.now ≡ true) }
-
-    ensures too_long { IsErrOf result PsfRefusal.TooLong ↔ (MAX_PAYLOAD < length b.now) }
-    ensures not_record { IsErrOf result PsfRefusal.NotRecord
-        → (length b.now ≤ MAX_PAYLOAD) × (is_record Form.Csv b.now ≡ false) }
-    ensures none { IfErr result (λ e. e ≢ PsfRefusal.OutOfMemory → is_record Form.Csv b.now ≡ false) }
+    ensures { IsParsed form_of_row fields_in_row Form.Csv b.now result }
 {
     if b.len() > MAX_PAYLOAD {
         return Err(PsfRefusal::TooLong);

@@ -1,5 +1,6 @@
 -- The text of a report, by cases: one word an item.
-use Rattle.std.specs.Prelude.{ℕ, ◌==◌, ◌&&◌, List, [], ◌∷◌, ◌++◌, length, decimal, codes, Bool, true, false, not, nat_le, nat_lt, if◌then◌else◌}
+use Rattle.std.specs.Prelude.{ℕ, ◌==◌, ◌&&◌, List, [], ◌∷◌, ◌++◌, length, decimal, codes, Bool, true, false, not}
+use Rattle.std.specs.Prelude.{nat_le, nat_lt, if◌then◌else◌}
 use Rattle.std.specs.List.{flat_map, list_all}
 use Rattle.fish_value.specs.Json.{quoted}
 use Rattle.fish_value.specs.declared.row.Row.{Row}
@@ -24,7 +25,10 @@ row_text row = decimal row.number ++ (32 ∷ (decimal (length row.payload) ++ (3
 
 -- `select found K of N refused R`, then a line for each row
 unfoldable pub select_text : List Row → ℕ → ℕ → List ℕ
-select_text rows count refused = codes "select found " ++ (decimal (length rows) ++ (codes " of " ++ (decimal count ++ (codes " refused " ++ (decimal refused ++ (10 ∷ flat_map row_text rows))))))
+select_text rows count refused =
+    codes "select found " ++
+    (decimal (length rows) ++
+    (codes " of " ++ (decimal count ++ (codes " refused " ++ (decimal refused ++ (10 ∷ flat_map row_text rows))))))
 
 -- `refused select FILE too long`
 unfoldable pub too_long_text : List ℕ → List ℕ

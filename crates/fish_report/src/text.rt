@@ -2,7 +2,8 @@
 
 ghost use Rattle.std.specs.Prelude.{◌≡◌, ◌++◌, ◌∷◌, [], decimal, codes, IfOk, OnOk, string_bytes};
 ghost use Rattle.std.specs.List.{flat_map, list_all};
-ghost use Rattle.fish_report.specs.ReportText.{file_text, is_bare_byte, is_bare_word, item_text, report_text, row_text, select_text, too_long_text};
+ghost use Rattle.fish_report.specs.ReportText.{file_text, is_bare_byte, is_bare_word, item_text, report_text, row_text};
+ghost use Rattle.fish_report.specs.ReportText.{select_text, too_long_text};
 
 use crate::item::{Item, Report};
 use fish_value::{Row, Text, json_text};
@@ -20,6 +21,7 @@ pub fn report_text(alloc: Global, r: &Report) -> Result<Text, AllocError>
     Ok(Text::from_string(text))
 }
 
+/// Puts the text of an item behind the others.
 fn push_item(alloc: Global, text: &mut String, item: &Item) -> Result<(), AllocError>
     ensures { OnOk result (string_bytes text.new ≡ string_bytes text.old ++ item_text item.now) }
 {
@@ -33,6 +35,7 @@ fn push_item(alloc: Global, text: &mut String, item: &Item) -> Result<(), AllocE
     }
 }
 
+/// Puts the head of a selection and its rows behind the others.
 fn push_select(text: &mut String, rows: &[Row], count: u64, refused: u64) -> Result<(), AllocError>
     ensures { OnOk result
         (string_bytes text.new ≡ string_bytes text.old ++ select_text rows.now count refused) }
@@ -43,6 +46,7 @@ fn push_select(text: &mut String, rows: &[Row], count: u64, refused: u64) -> Res
     Ok(())
 }
 
+/// Puts a line for each row behind the others.
 fn push_rows(text: &mut String, rows: &[Row]) -> Result<(), AllocError>
     ensures { OnOk result
         (string_bytes text.new ≡ string_bytes text.old ++ flat_map row_text rows.now) }
@@ -53,6 +57,7 @@ fn push_rows(text: &mut String, rows: &[Row]) -> Result<(), AllocError>
     Ok(())
 }
 
+/// Puts the line of a row behind the others.
 #[tactic(auto, unfolding(crate::specs::ReportText::row_text))]
 fn push_row(text: &mut String, row: &Row) -> Result<(), AllocError>
     ensures { OnOk result (string_bytes text.new ≡ string_bytes text.old ++ row_text row.now) }
@@ -65,6 +70,7 @@ fn push_row(text: &mut String, row: &Row) -> Result<(), AllocError>
     text.push_str("\n")
 }
 
+/// Puts a number in decimals behind the others.
 fn push_decimal(text: &mut String, number: u64) -> Result<(), AllocError>
     ensures { OnOk result (string_bytes text.new ≡ string_bytes text.old ++ decimal number) }
 {
@@ -72,6 +78,7 @@ fn push_decimal(text: &mut String, number: u64) -> Result<(), AllocError>
     text.push_str(digits.format(number))
 }
 
+/// Puts the line of a file that is too long behind the others.
 fn push_too_long(alloc: Global, text: &mut String, file: &Text) -> Result<(), AllocError>
     ensures { OnOk result (string_bytes text.new ≡ string_bytes text.old ++ too_long_text file.now) }
 {
@@ -81,6 +88,7 @@ fn push_too_long(alloc: Global, text: &mut String, file: &Text) -> Result<(), Al
     Ok(())
 }
 
+/// Puts the name of a file behind the others, bare where it can be, else as a JSON string.
 #[tactic(auto, unfolding(crate::specs::ReportText::file_text))]
 fn push_file(alloc: Global, text: &mut String, file: &Text) -> Result<(), AllocError>
     ensures { OnOk result (string_bytes text.new ≡ string_bytes text.old ++ file_text file.now) }
@@ -99,12 +107,14 @@ fn is_bare_word(name: &[u8]) -> bool
     !name.is_empty() && has_bare_bytes_only(name)
 }
 
+/// Whether each byte can stand in a bare word.
 fn has_bare_bytes_only(name: &[u8]) -> bool
     ensures { result ≡ list_all is_bare_byte name.now }
 {
     name.iter().all(|b| is_bare_byte(*b))
 }
 
+/// Whether a byte can stand in a bare word.
 fn is_bare_byte(b: u8) -> bool
     ensures { result ≡ is_bare_byte b }
 {

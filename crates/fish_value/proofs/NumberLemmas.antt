@@ -1,6 +1,7 @@
 -- The texts of numbers are numerals as std's `parse` wants them, and ASCII, so texts.
 use Rattle.std.proofs.Common.{◌≡◌, ℕ, ◌<◌, zero, suc, List, [], ◌∷◌, refl, sym, ◌∙◌, ap, subst, arith, ◌⊎◌, inl, inr}
-use Rattle.std.specs.Prelude.{Bool, true, false, length, slice_index, ◌&&◌, ◌||◌, ◌==◌, nat_lt, Option, Some, None, Result, Ok, Err, ℤ, pos, negsuc, FitsSigned, if◌then◌else◌}
+use Rattle.std.specs.Prelude.{Bool, true, false, length, slice_index, ◌&&◌, ◌||◌, ◌==◌, nat_lt, Option, Some, None}
+use Rattle.std.specs.Prelude.{Result, Ok, Err, ℤ, pos, negsuc, FitsSigned, if◌then◌else◌}
 use Rattle.std.specs.Int.{w64}
 use Rattle.std.specs.Bool.{Decides}
 use Rattle.std.specs.Char.{is_ascii_digit, digit_value}
@@ -75,7 +76,8 @@ IsNumberText-zero x [] h is = IsNumberText-digits x [] (grind (arith, nat_tests)
 IsNumberText-zero x (y ∷ ys) h is = absurd (grind (arith, nat_tests))
 
 -- behind the choice between a minus and none
-IsNumberText-signed : (x : ℕ) (xs : List ℕ) (minus : Bool) → (x == 45) ≡ minus → (if minus then is_positive xs else is_positive (x ∷ xs)) ≡ true → IsNumberText (x ∷ xs)
+IsNumberText-signed : (x : ℕ) (xs : List ℕ) (minus : Bool) → (x == 45) ≡ minus
+    → (if minus then is_positive xs else is_positive (x ∷ xs)) ≡ true → IsNumberText (x ∷ xs)
 IsNumberText-signed x xs true e h = IsNumberText-minus x xs e h
 IsNumberText-signed x xs false e h = IsNumberText-digits x xs (positive (x ∷ xs) h).1
 

@@ -1,5 +1,6 @@
 -- The texts of whole numbers, in the one form that stands for a number.
-use Rattle.std.specs.Prelude.{ℕ, ◌^◌, ℤ, pos, negsuc, List, Bool, not, ◌&&◌, ◌||◌, ◌==◌, nat_lt, Option, Some, None, length, drop, slice_index, if◌then◌else◌}
+use Rattle.std.specs.Prelude.{ℕ, ◌^◌, ℤ, pos, negsuc, List, Bool, not, ◌&&◌, ◌||◌, ◌==◌, nat_lt, Option, Some, None}
+use Rattle.std.specs.Prelude.{length, drop, slice_index, if◌then◌else◌}
 use Rattle.std.specs.Char.{is_ascii_digit}
 use Rattle.std.specs.List.{list_all}
 use Rattle.std.specs.Str.Parse.{starts_with_minus, signed_digits_value}

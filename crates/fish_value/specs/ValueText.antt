@@ -1,5 +1,6 @@
 -- The texts of values.
-use Rattle.std.specs.Prelude.{ℕ, ◌&&◌, ◌==◌, ◌-◌, ℤ, List, Bool, true, false, nat_le, nat_lt, Option, Some, None, option_and_then, length, slice_index, if◌then◌else◌}
+use Rattle.std.specs.Prelude.{ℕ, ◌&&◌, ◌==◌, ◌-◌, ℤ, List, Bool, true, false, nat_le, nat_lt, Option, Some, None}
+use Rattle.std.specs.Prelude.{option_and_then, length, slice_index, if◌then◌else◌}
 use Rattle.std.specs.Fmt.{signed_decimal}
 use Rattle.std.specs.Str.{bytes_eq}
 use Rattle.std.specs.Str.Parse.{true_text, false_text}
@@ -37,4 +38,5 @@ int_or_string None b = if is_quoted b then string_value (reading b) else None
 
 -- the value that a text stands for: `true`, `false`, a whole number, or a JSON string of at most 256 bytes when read
 unfoldable pub value_text : List ℕ → Option Value
-value_text b = if bytes_eq b true_text then Some (kind.Bool true) else (if bytes_eq b false_text then Some (kind.Bool false) else int_or_string (int_of b) b)
+value_text b = if bytes_eq b true_text then Some (kind.Bool true) else
+    (if bytes_eq b false_text then Some (kind.Bool false) else int_or_string (int_of b) b)

@@ -8,18 +8,17 @@ use Rattle.fish_value.specs.declared.field.Form.TheVariants.{Json}
 use Rattle.fish_value.specs.declared.row.Row.{Row}
 use Rattle.fish_json.specs.Lines.{payload_of, outcomes, outcomes_of, accepted, refused}
 use Rattle.fish_lines.specs.Lines.{file_lines}
-use Rattle.fish_json.specs.Reading.{field}
-use Rattle.fish_psf.specs.Eval.{eval}
+use Rattle.fish_psf.specs.Records.{evaluation, fields_of_payload}
 use Rattle.fish_psf.specs.Select.{has_value, row_of, select, stored}
 use Rattle.fish_report.specs.declared.item.Item.TheVariants as item
-use Rattle.fishstore.specs.Answer.{evaluation, log_of, rows_of, selection}
+use Rattle.fishstore.specs.Answer.{log_of, rows_of, selection}
 use Rattle.fishstore.specs.Tally.{no_lines, rows_with, with_line, with_lines, with_outcome}
 use Rattle.fishstore.specs.declared.select.Tally.{Tally}
 use Rattle.fishstore.specs.Words.{Asked}
 
 -- the row of a payload and its number, where the definition has the value
 abbrev row_at : Asked → ℕ × List ℕ → Option Row
-row_at c e = if has_value (eval c.def (field e.1)) c.value then Some (record { number = e.0; payload = e.1 }) else None
+row_at c e = if has_value (evaluation c.def Json e.1) c.value then Some (record { number = e.0; payload = e.1 }) else None
 
 -- u is t with these outcomes on it
 record Adds (c : Asked) (t u : Tally) (os : List (Option (List ℕ))) : Type 0 where
@@ -44,9 +43,9 @@ Adds-none c t u os h =
 
 -- rows with one more in front of the others
 rows_with-then : (c : Asked) (n : ℕ) (payload : List ℕ) (rows : List Row)
-    → rows_with c n (field payload) payload ++ rows ≡ cons_option (row_at c (n, payload)) rows
+    → rows_with c n (fields_of_payload Json payload) payload ++ rows ≡ cons_option (row_at c (n, payload)) rows
 rows_with-then c n payload rows =
-    elim (has_value (eval c.def (field payload)) c.value) as
+    elim (has_value (evaluation c.def Json payload) c.value) as
     (λ t. (if t then record { number = n; payload = payload } ∷ [] else []) ++ rows
     ≡ cons_option (if t then Some (record { number = n; payload = payload }) else None) rows) [
       | true ↦ refl

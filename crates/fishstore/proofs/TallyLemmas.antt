@@ -6,6 +6,8 @@ use Rattle.fish_json.specs.Lines.{payload_of}
 use Rattle.fish_json.specs.Reading.{record_of, field_in, field}
 use Rattle.fish_json.proofs.Records.{field_of_record, record_is_text}
 use Rattle.fish_psf.specs.Eval.{Fields}
+use Rattle.fish_psf.specs.Records.{fields_of_payload}
+use Rattle.fish_value.specs.declared.field.Form.TheVariants.{Json}
 use Rattle.fishstore.specs.Tally.{with_line, with_record}
 use Rattle.fishstore.specs.declared.select.Tally.{Tally}
 use Rattle.fishstore.specs.Words.{Asked}
@@ -36,6 +38,7 @@ with_record_same asked t fields other payload h = ap (λ f. with_record asked t 
 -- a line that was read counts as its record
 pub with_line_read : (asked : Asked) (t : Tally) (line : List ℕ) (d : Data) → record_of line ≡ Some d
     → with_record asked t (λ path. field_in path d) line ≡ with_line asked t line
+unfolding fields_of_payload
 with_line_read asked t line d h =
-    rw h (with_record_same asked t (λ path. field_in path d) (field line) line
+    rw h (with_record_same asked t (λ path. field_in path d) (fields_of_payload Json line) line
     (λ i path. (record_is_read line d h).same path i))

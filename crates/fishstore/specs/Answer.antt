@@ -5,17 +5,12 @@ use Rattle.fish_value.specs.declared.field.Form.TheVariants.{Json}
 use Rattle.fish_value.specs.declared.row.Row.{Row}
 use Rattle.fish_value.specs.declared.value.Value.{Value}
 use Rattle.fish_json.specs.Lines.{outcomes, accepted, refused}
-use Rattle.fish_json.specs.Reading.{field}
 use Rattle.fish_lang.specs.Definition.{Definition}
-use Rattle.fish_psf.specs.Eval.{eval}
-use Rattle.fish_psf.specs.Select.{Evaluation, Entry, stored, select}
+use Rattle.fish_psf.specs.Records.{evaluation}
+use Rattle.fish_psf.specs.Select.{Entry, stored, select}
 use Rattle.fish_report.specs.declared.item.Item.{Item}
 use Rattle.fish_report.specs.declared.item.Item.TheVariants as item
 use Rattle.fishstore.specs.Words.{Asked}
-
--- what a definition gives for a payload
-abbrev pub evaluation : Definition → Evaluation
-evaluation def form payload = eval def (field payload)
 
 -- a file's payloads as a log: each is stored, at its place
 abbrev pub log_of : List (List ℕ) → List Entry

@@ -1,5 +1,5 @@
 -- Which fault each refusal of a step is, and where a step may end by it.
-use Rattle.std.specs.Prelude.{ℕ, List, ◌++◌, codes, decimal, Option, Some, None, Err, ⊤}
+use Rattle.std.specs.Prelude.{ℕ, List, [], ◌++◌, codes, decimal, Option, Some, None, Err, ⊤}
 use Rattle.fish_outside.specs.Causes.{Rose}
 use Rattle.fish_outside.specs.declared.fault.FeedRefusal.{FeedRefusal}
 use Rattle.fish_outside.specs.declared.fault.FeedRefusal.TheVariants as feed
@@ -8,6 +8,7 @@ use Rattle.fish_lang.specs.declared.parse.LangRefusal.TheVariants as lang
 use Rattle.fishstore.specs.Words.{IsCommand, IsSomeCommand}
 use Rattle.fishstore.specs.declared.outcome.Fault.{Fault}
 use Rattle.fishstore.specs.declared.outcome.Fault.TheVariants as fault
+use Rattle.fishstore.specs.declared.words.UsageCause.{UsageCause}
 use Rattle.fishstore.specs.declared.words.UsageCause.TheVariants as cause
 use Rattle.fishstore.specs.declared.words.WordsRefusal.{WordsRefusal}
 use Rattle.fishstore.specs.declared.words.WordsRefusal.TheVariants as refusal
@@ -21,12 +22,21 @@ definition_kind (lang.NumberTooLarge at) = codes "number too large at " ++ decim
 definition_kind (lang.ZeroWidth at) = codes "zero width at " ++ decimal at
 definition_kind lang.OutOfMemory = codes "out of memory"
 
+-- a number behind words, where there is one
+abbrev pub number_text : Option ℕ → List ℕ
+number_text None = []
+number_text (Some n) = decimal n
+
+-- why words are no command
+abbrev pub cause_text : UsageCause → List ℕ
+cause_text cause.Words = codes "words"
+cause_text (cause.Definition refusal) = codes "definition " ++ definition_kind refusal
+cause_text cause.Value = codes "value"
+
 -- the line on standard error that tells of a fault, where there is one
 abbrev pub fault_line : Fault → List ℕ
 fault_line fault.None = codes "fault none"
-fault_line (fault.Usage cause.Words) = codes "fault usage words"
-fault_line (fault.Usage (cause.Definition refusal)) = codes "fault usage definition " ++ definition_kind refusal
-fault_line (fault.Usage cause.Value) = codes "fault usage value"
+fault_line (fault.Usage cause) = codes "fault usage " ++ cause_text cause
 fault_line fault.Input = codes "fault input"
 fault_line fault.Output = codes "fault output"
 fault_line fault.Memory = codes "fault memory"

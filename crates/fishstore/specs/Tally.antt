@@ -1,9 +1,10 @@
 -- What has been found in the lines so far, and what one more line adds. Private clauses speak of it.
 use Rattle.std.specs.Prelude.{ℕ, ◌+◌, ◌++◌, List, [], ◌∷◌, Option, Some, None, if◌then◌else◌}
 use Rattle.fish_json.specs.Lines.{payload_of}
-use Rattle.fish_json.specs.Reading.{field}
 use Rattle.fish_psf.specs.Eval.{Fields, eval}
+use Rattle.fish_psf.specs.Records.{fields_of_payload}
 use Rattle.fish_psf.specs.Select.{has_value}
+use Rattle.fish_value.specs.declared.field.Form.TheVariants.{Json}
 use Rattle.fish_value.specs.declared.row.Row.{Row}
 use Rattle.fishstore.specs.declared.select.Tally.{Tally}
 use Rattle.fishstore.specs.Words.{Asked}
@@ -24,7 +25,7 @@ with_record asked t fields payload =
 
 -- one more record, or one more refused line
 abbrev pub with_outcome : Asked → Tally → Option (List ℕ) → Tally
-with_outcome asked t (Some payload) = with_record asked t (field payload) payload
+with_outcome asked t (Some payload) = with_record asked t (fields_of_payload Json payload) payload
 with_outcome asked t None = record t { refused = t.refused + 1 }
 
 -- one more line

@@ -1,10 +1,10 @@
 //! How a run ends.
 
-ghost use Rattle.std.specs.Prelude.{◌≡◌};
+ghost use Rattle.std.specs.Prelude.{◌≡◌, ◌++◌};
 ghost use Rattle.std.specs.List.{list_any};
 ghost use Rattle.std.specs.Process.{exit_status};
 ghost use Rattle.fish_report.specs.ReportText.{is_refusal};
-ghost use Rattle.fishstore.specs.Faults.{told_fault};
+ghost use Rattle.fishstore.specs.Faults.{definition_kind, number_text, told_fault};
 ghost use Rattle.fishstore.specs.Outcome.{status_of};
 
 use crate::words::{UsageCause, WordsRefusal};
@@ -40,32 +40,60 @@ impl fmt::Display for Fault {
     fn fmt<W: fmt::Write>(&self, f: &mut fmt::Formatter<W>) -> fmt::Result {
         match self {
             Fault::None => write!(f, "fault none"),
-            Fault::Usage(UsageCause::Words) => write!(f, "fault usage words"),
-            Fault::Usage(UsageCause::Definition(refusal)) => match refusal {
-                LangRefusal::Unexpected { at } => write!(
-                    f,
-                    "fault usage definition unexpected at {at}"
-                ),
-                LangRefusal::TooDeep { at } => write!(f, "fault usage definition too deep at {at}"),
-                LangRefusal::TooLong { length } => write!(
-                    f,
-                    "fault usage definition too long {length}"
-                ),
-                LangRefusal::NumberTooLarge { at } => write!(
-                    f,
-                    "fault usage definition number too large at {at}"
-                ),
-                LangRefusal::ZeroWidth { at } => write!(
-                    f,
-                    "fault usage definition zero width at {at}"
-                ),
-                LangRefusal::OutOfMemory => write!(f, "fault usage definition out of memory"),
-            },
-            Fault::Usage(UsageCause::Value) => write!(f, "fault usage value"),
+            Fault::Usage(cause) => write!(f, "fault usage {cause}"),
             Fault::Input => write!(f, "fault input"),
             Fault::Output => write!(f, "fault output"),
             Fault::Memory => write!(f, "fault memory"),
         }
+    }
+}
+
+/// Why words are no command.
+impl fmt::Display for UsageCause {
+    ghost use Rattle.std.specs.Prelude.{Some};
+    ghost use Rattle.fishstore.specs.Faults.{cause_text};
+
+    ghost output = { λ cause. Some (cause_text cause) };
+
+    fn fmt<W: fmt::Write>(&self, f: &mut fmt::Formatter<W>) -> fmt::Result {
+        match self {
+            UsageCause::Words => write!(f, "words"),
+            UsageCause::Definition(refusal) => write!(f, "definition {}", Kind(*refusal)),
+            UsageCause::Value => write!(f, "value"),
+        }
+    }
+}
+
+/// Why a definition was refused, as the line on standard error tells it.
+#[derive(Clone, Copy)]
+struct Kind(LangRefusal);
+
+impl fmt::Display for Kind {
+    ghost use Rattle.std.specs.Prelude.{Some};
+    ghost use Rattle.fishstore.specs.Faults.{definition_kind};
+
+    ghost output = { λ kind. Some (definition_kind kind.0) };
+
+    fn fmt<W: fmt::Write>(&self, f: &mut fmt::Formatter<W>) -> fmt::Result {
+        let (words, number) = kind_of(self.0);
+        match number {
+            Some(number) => write!(f, "{words}{number}"),
+            None => write!(f, "{words}"),
+        }
+    }
+}
+
+/// Why a definition was refused, in words, and the number behind them.
+fn kind_of(refusal: LangRefusal) -> (&'static str, Option<u64>)
+    ensures { definition_kind refusal ≡ result.0.now ++ number_text result.1 }
+{
+    match refusal {
+        LangRefusal::Unexpected { at } => ("unexpected at ", Some(at)),
+        LangRefusal::TooDeep { at } => ("too deep at ", Some(at)),
+        LangRefusal::TooLong { length } => ("too long ", Some(length)),
+        LangRefusal::NumberTooLarge { at } => ("number too large at ", Some(at)),
+        LangRefusal::ZeroWidth { at } => ("zero width at ", Some(at)),
+        LangRefusal::OutOfMemory => ("out of memory", None),
     }
 }
 

@@ -121,7 +121,7 @@ fn push_row(alloc: Global, rows: &mut Rows, number: u32, line: &[u8]) -> Result<
         ≡ rows.old ++ record { number = number; payload = line.now } ∷ []) }
 {
     let Some(payload) = Text::from_bytes(alloc, line)? else {
-        return Ok(());
+        unreachable!()
     };
     rows.push(Row { number, payload })
 }

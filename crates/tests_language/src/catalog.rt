@@ -6,7 +6,7 @@ ghost use Rattle.fish_catalog.specs.Rows.{IsRow};
 
 use crate::told::expect;
 use fish_catalog::{
-    CatRow, Catalog, Entry, Listed, MAX_NAME, ROW_WORDS, active_in, read_row, row_words,
+    CatRow, Catalog, Entry, Listed, ROW_WORDS, active_in, is_name, read_row, row_words,
 };
 use fish_lang::{parse_def, print_def};
 use fish_value::{Form, Text};
@@ -86,8 +86,7 @@ fn added(
 ) -> Result<String, AllocError>
     requires { IsCanonical def.now }
 {
-    let len = name.as_bytes().len();
-    if len == 0 || len > MAX_NAME {
+    if !is_name(name) {
         return String::from_str(alloc, "no name");
     }
     match catalog.add(name, def) {
@@ -280,8 +279,7 @@ fn words_told(alloc: Global, row: &CatRow) -> Result<String, AllocError>
 fn both_ways(alloc: Global, name: Text, def: Text) -> Result<String, AllocError>
     requires { IsCanonical def }
 {
-    let len = name.as_bytes().len();
-    if len == 0 || len > MAX_NAME {
+    if !is_name(&name) {
         return String::from_str(alloc, "no name");
     }
     let row = CatRow {

@@ -1,8 +1,8 @@
 //! Rows with answers from outside: RFC 4180, and what `csv` 1.4 of Rust says of the rest. Each is read
 //! as a record that owns its fields and by a reader that lends them.
 
-use crate::told::{agreed, expect_all, field_at, path_of};
-use fish_csv::{CsvReader, CsvRecord, CsvRecordRefusal};
+use crate::told::{agreed, expect_all, field_or_refusal, path_of};
+use fish_csv::{CsvReader, CsvRecord};
 use fish_value::Path;
 use std::alloc::{AllocError, Global};
 use std::test::Fail;
@@ -71,67 +71,31 @@ const ROWS: &[((&[u8], &str), &str)] = &[
     ((b"\"\xc3\"\xa9,1", "$1"), NO_ROW),
 ];
 
-/// What a row has at a path, or why it is refused, by the record.
-fn in_record(alloc: Global, row: &[u8], path: &Path) -> Result<String, AllocError> {
-    match CsvRecord::read(alloc, row) {
-        Ok(record) => {
-            let told = field_at(alloc, &record, path);
-            drop(record);
-            told
-        }
-        Err(refusal) => refusal_text(alloc, refusal),
-    }
-}
-
-/// The same by the reader.
-fn in_row(
-    alloc: Global,
-    reader: &mut CsvReader,
-    row: &[u8],
-    path: &Path,
-) -> Result<String, AllocError> {
-    match reader.read(row) {
-        Ok(row) => {
-            let told = field_at(alloc, &row, path);
-            drop(row);
-            told
-        }
-        Err(refusal) => refusal_text(alloc, refusal),
-    }
-}
-
-fn refusal_text(alloc: Global, refusal: CsvRecordRefusal) -> Result<String, AllocError> {
-    format!(in alloc; "{refusal}")
-}
-
 /// A row that a reader reads before, so that it has memory of another one.
 const BEFORE: &[u8] = b"1,\"\"\"2\"\"\",3,4,5,6,7,8,9,10,\"11\n\"";
 
-/// The same by a reader that has read another row.
+/// What a row has at a path, or why it is refused, by a reader that has read another row.
 fn in_later_row(alloc: Global, row: &[u8], path: &Path) -> Result<String, AllocError> {
     let mut reader = CsvReader::new(alloc);
-    let before = in_row(alloc, &mut reader, BEFORE, path);
-    let told = in_row(alloc, &mut reader, row, path);
+    let before = field_or_refusal(alloc, reader.read(BEFORE), path);
+    let told = field_or_refusal(alloc, reader.read(row), path);
     drop(reader);
     drop(before?);
     told
 }
 
-/// What a row has at a path, by both.
-fn told(alloc: Global, row: &[u8], names: &str) -> Result<String, AllocError> {
+/// The same by a record too.
+fn told(alloc: Global, case: &(&[u8], &str)) -> Result<String, AllocError> {
+    let (row, names) = *case;
     let path = path_of(alloc, names)?;
-    let record = in_record(alloc, row, &path)?;
+    let record = field_or_refusal(alloc, CsvRecord::read(alloc, row), &path)?;
     let lent = in_later_row(alloc, row, &path)?;
     agreed(alloc, record.as_str(), lent.as_str())
 }
 
-fn row_told(alloc: Global, case: &(&[u8], &str)) -> Result<String, AllocError> {
-    told(alloc, case.0, case.1)
-}
-
 #[test]
 fn fields(rt: HostRuntime) -> Result<(), Fail> {
-    expect_all(&rt, rt.alloc(), ROWS, row_told)?;
+    expect_all(&rt, rt.alloc(), ROWS, told)?;
     Ok(())
 }
 
@@ -152,7 +116,7 @@ fn long_row(alloc: Global, len: usize) -> Result<String, AllocError> {
 /// What is told of it: how many bytes, where they are `text ` and all of the field.
 fn long_told(alloc: Global, len: &usize) -> Result<String, AllocError> {
     let row = long_row(alloc, *len)?;
-    let told = told(alloc, row.as_bytes(), "$2")?;
+    let told = told(alloc, &(row.as_bytes(), "$2"))?;
     if told.as_str().trim_end_matches('y') == "text " {
         return format!(in alloc; "{} bytes", told.len());
     }

@@ -1,8 +1,8 @@
 //! Lines with answers from outside: RFC 8259, and what `serde_json` 1.0 of Rust says of the rest.
 //! Each is read as a tree and over a tape.
 
-use crate::told::{agreed, expect_all, field_at, path_of};
-use fish_json::{JsonReader, JsonRecord, RecordRefusal};
+use crate::told::{agreed, expect_all, field_or_refusal, path_of};
+use fish_json::{JsonReader, JsonRecord};
 use fish_value::Path;
 use std::alloc::{AllocError, Global};
 use std::test::Fail;
@@ -99,67 +99,31 @@ const LINES: &[((&[u8], &str), &str)] = &[
     ((b"{\"a\":\"\xc0\xaf\"}", "a"), NO_JSON),
 ];
 
-/// What a line has at a path, or why it is refused, by the tree.
-fn in_record(alloc: Global, line: &[u8], path: &Path) -> Result<String, AllocError> {
-    match JsonRecord::read(alloc, line) {
-        Ok(record) => {
-            let told = field_at(alloc, &record, path);
-            drop(record);
-            told
-        }
-        Err(refusal) => refusal_text(alloc, refusal),
-    }
-}
-
-/// The same over the tape.
-fn in_row(
-    alloc: Global,
-    reader: &mut JsonReader,
-    line: &[u8],
-    path: &Path,
-) -> Result<String, AllocError> {
-    match reader.read(alloc, line) {
-        Ok(row) => {
-            let told = field_at(alloc, &row, path);
-            drop(row);
-            told
-        }
-        Err(refusal) => refusal_text(alloc, refusal),
-    }
-}
-
-fn refusal_text(alloc: Global, refusal: RecordRefusal) -> Result<String, AllocError> {
-    format!(in alloc; "{refusal}")
-}
-
 /// A line that a reader reads before, so that it has memory of another one.
 const BEFORE: &[u8] = b"{\"a\":[\"x\",{\"b\":[1,2]}],\"b\":\"\\n\",\"c\":{}}";
 
-/// The same over the tape of a reader that has read another line.
+/// What a line has at a path, or why it is refused, by a reader that has read another line.
 fn in_later_row(alloc: Global, line: &[u8], path: &Path) -> Result<String, AllocError> {
     let mut reader = JsonReader::new(alloc);
-    let before = in_row(alloc, &mut reader, BEFORE, path);
-    let told = in_row(alloc, &mut reader, line, path);
+    let before = field_or_refusal(alloc, reader.read(alloc, BEFORE), path);
+    let told = field_or_refusal(alloc, reader.read(alloc, line), path);
     drop(reader);
     drop(before?);
     told
 }
 
-/// What a line has at a path, by both.
-fn told(alloc: Global, line: &[u8], names: &str) -> Result<String, AllocError> {
+/// The same by a record too.
+fn told(alloc: Global, case: &(&[u8], &str)) -> Result<String, AllocError> {
+    let (line, names) = *case;
     let path = path_of(alloc, names)?;
-    let tree = in_record(alloc, line, &path)?;
+    let tree = field_or_refusal(alloc, JsonRecord::read(alloc, line), &path)?;
     let tape = in_later_row(alloc, line, &path)?;
     agreed(alloc, tree.as_str(), tape.as_str())
 }
 
-fn line_told(alloc: Global, case: &(&[u8], &str)) -> Result<String, AllocError> {
-    told(alloc, case.0, case.1)
-}
-
 #[test]
 fn fields(rt: HostRuntime) -> Result<(), Fail> {
-    expect_all(&rt, rt.alloc(), LINES, line_told)?;
+    expect_all(&rt, rt.alloc(), LINES, told)?;
     Ok(())
 }
 
@@ -191,7 +155,7 @@ fn nested(alloc: Global, arrays: usize, len: usize) -> Result<String, AllocError
 
 fn nested_told(alloc: Global, case: &(usize, usize)) -> Result<String, AllocError> {
     let line = nested(alloc, case.0, case.1)?;
-    told(alloc, line.as_bytes(), "a")
+    told(alloc, &(line.as_bytes(), "a"))
 }
 
 #[test]

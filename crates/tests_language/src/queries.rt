@@ -53,6 +53,19 @@ const QUERIES: &[((Form, &[u8], &str), &str)] = &[
     ((Form::Json, LINES, "8"), "4;"),
 ];
 
+/// A row with a comma inside a field, and one of a number alone.
+const COLUMNS: &[u8] = b"a,\"x,1\",007\n";
+
+const NUMBER: &[u8] = b"7\n";
+
+/// A definition with a form, a file and a value, and the numbers of the records that have it.
+const FIELDS: &[((&str, (Form, &[u8], &str)), &str)] = &[
+    (("take $2", (Form::Csv, COLUMNS, "\"x,1\"")), "0;"),
+    (("take $3", (Form::Csv, COLUMNS, "7")), ""),
+    (("take $3", (Form::Csv, COLUMNS, "\"007\"")), "0;"),
+    (("take $1", (Form::Csv, NUMBER, "7")), "0;"),
+];
+
 /// Whether a definition gives a value on a record.
 fn gives(alloc: Global, def: &Def, record: &Record, value: &Value) -> Result<bool, AllocError> {
     let found = eval(alloc, def, record)?;
@@ -135,6 +148,7 @@ fn numbers_with(
     }
 }
 
+/// The same of a value's text.
 fn with_def(alloc: Global, case: &(Form, &[u8], &str), def: &Def) -> Result<String, Fail> {
     let value = read_value(alloc, case.2.as_bytes())?;
     let numbers = numbers_with(alloc, case, def, &value);
@@ -142,15 +156,30 @@ fn with_def(alloc: Global, case: &(Form, &[u8], &str), def: &Def) -> Result<Stri
     numbers
 }
 
-/// The same by the third column.
-fn told(alloc: Global, case: &(Form, &[u8], &str)) -> Result<String, Fail> {
-    let def = parse_def(alloc, b"take $3")?;
+/// The same of a definition's text.
+fn told_by(alloc: Global, def: &str, case: &(Form, &[u8], &str)) -> Result<String, Fail> {
+    let def = parse_def(alloc, def.as_bytes())?;
     let numbers = with_def(alloc, case, &def);
     drop(def);
     numbers
 }
 
+/// The same by the third column.
+fn told(alloc: Global, case: &(Form, &[u8], &str)) -> Result<String, Fail> {
+    told_by(alloc, "take $3", case)
+}
+
 #[test]
 fn values_of_the_third_column(rt: HostRuntime) -> Result<(), Fail> {
     expect_all(&rt, rt.alloc(), QUERIES, told)
+}
+
+/// What is told of a definition on a file.
+fn field_told(alloc: Global, case: &(&str, (Form, &[u8], &str))) -> Result<String, Fail> {
+    told_by(alloc, case.0, &case.1)
+}
+
+#[test]
+fn values_of_columns(rt: HostRuntime) -> Result<(), Fail> {
+    expect_all(&rt, rt.alloc(), FIELDS, field_told)
 }

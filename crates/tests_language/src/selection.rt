@@ -182,9 +182,9 @@ fn holds_on(alloc: Global, def: &Def, line: &str) -> Result<&'static str, Fail> 
         return Ok("no flag");
     };
     let record = JsonRecord::read(alloc, line.as_bytes())?;
-    let truth = holds(alloc, when, &record);
+    let truth = holds(when, &record);
     drop(record);
-    Ok(if truth? { "true" } else { "false" })
+    Ok(if truth { "true" } else { "false" })
 }
 
 fn holds_by(alloc: Global, case: &(&str, &str)) -> Result<String, Fail> {

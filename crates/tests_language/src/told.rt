@@ -3,6 +3,7 @@
 use fish_psf::Parsed;
 use fish_value::{Field, Path, Text, Value};
 use std::alloc::{AllocError, Global};
+use std::fmt::Display;
 use std::process::Abort;
 
 /// Asserts of each row that what is told of its case is what is wanted.
@@ -71,6 +72,27 @@ pub fn field_at<R: Parsed>(alloc: Global, rec: &R, path: &Path) -> Result<String
     told
 }
 
+/// What a record that was read has at a path, or the message of why it was not read.
+pub fn field_or_refusal<R: Parsed + Drop, E: Display + Drop>(
+    alloc: Global,
+    read: Result<R, E>,
+    path: &Path,
+) -> Result<String, AllocError> {
+    match read {
+        Ok(record) => {
+            let told = field_at(alloc, &record, path);
+            drop(record);
+            told
+        }
+        Err(refusal) => {
+            let told = format!(in alloc; "{refusal}");
+            drop(refusal);
+            told
+        }
+    }
+}
+
+/// A field's kind and content.
 fn field_text(alloc: Global, field: &Field) -> Result<String, AllocError> {
     match field {
         Field::Missing => String::from_str(alloc, "missing"),

@@ -8,7 +8,8 @@ use Rattle.fish_csv.proofs.bytes.without_mark.Goals.{then-b-lt3-via-then-b-lt3, 
 pub returns-then-b-lt3 : goal.returns-then-b-lt3
 returns-then-b-lt3 c = elim c.then-b-lt3.branch [
   | then-b-lt3-via-then-b-lt3 w ↦ sym (strip-short c.args.b.now (omega arith))
-  | then-b-lt3-via-else-b-lt3+then-not-is_mark w ↦ sym (strip-other c.args.b.now (omega arith) (sym w.is_mark.ensures ∙ w.if-not-is_mark.true))
+  | then-b-lt3-via-else-b-lt3+then-not-is_mark w ↦
+      sym (strip-other c.args.b.now (omega arith) (sym w.is_mark.ensures ∙ w.if-not-is_mark.true))
 ]
 
 pub returns : goal.returns

@@ -7,8 +7,10 @@ use Rattle.fish_csv.proofs.file.all_rows.Given as goal
 
 abbrev pub invariant-loop-found : goal.invariant-loop-found
 invariant-loop-found l = record {
-  texts : accepted (map payload_of (without_header l.fn.header (rows_in l.fn.b))) ≡ l.found.texts ++ accepted (map payload_of (rows_in l.rest));
-  refused : refused (map payload_of (without_header l.fn.header (rows_in l.fn.b))) ≡ l.found.refused + refused (map payload_of (rows_in l.rest));
+  texts : accepted (map payload_of (without_header l.fn.header (rows_in l.fn.b))) ≡ l.found.texts ++ accepted
+      (map payload_of (rows_in l.rest));
+  refused : refused (map payload_of (without_header l.fn.header (rows_in l.fn.b))) ≡ l.found.refused + refused
+      (map payload_of (rows_in l.rest));
   small : l.found.refused + length l.rest ≤ longest_file;
 }
 

@@ -10,8 +10,11 @@ returns-then-is_line_end-clause-goes c = λ rest.
 
 pub returns-else-is_line_end-clause-goes : goal.returns-else-is_line_end-clause-goes
 returns-else-is_line_end-clause-goes c =
-    rw c.in-Row.is (IfOk-as _ place.Row place.Field c.args.c _ _ _ _ (λ rest. row-other c.args.c _ _ rest (sym c.is_line_end.ensures ∙ c.if-is_line_end.false)) c.advance_field.ensures.goes)
+    rw c.in-Row.is (IfOk-as _ place.Row place.Field c.args.c _ _ _ _
+    (λ rest. row-other c.args.c _ _ rest
+    (sym c.is_line_end.ensures ∙ c.if-is_line_end.false)) c.advance_field.ensures.goes)
 
 pub returns-else-c-eq34-clause-goes : goal.returns-else-c-eq34-clause-goes
 returns-else-c-eq34-clause-goes c =
-    rw c.in-Closed.is (IfOk-as _ place.Closed place.Plain c.args.c _ _ _ _ (λ rest. closed-other c.args.c _ _ rest c.if-c-eq34.false) c.advance_plain-in-Closed.ensures.goes)
+    rw c.in-Closed.is (IfOk-as _ place.Closed place.Plain c.args.c _ _ _ _
+    (λ rest. closed-other c.args.c _ _ rest c.if-c-eq34.false) c.advance_plain-in-Closed.ensures.goes)

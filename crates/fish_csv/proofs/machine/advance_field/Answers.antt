@@ -8,4 +8,5 @@ returns-then-c-eq34-clause-goes c = λ rest. field-quote c.args.c _ _ rest c.if-
 
 pub returns-clause-goes : goal.returns-clause-goes
 returns-clause-goes c =
-    IfOk-as _ place.Field place.Plain c.args.c _ _ _ _ (λ rest. field-other c.args.c _ _ rest c.if-c-eq34.false) c.advance_plain.ensures.goes
+    IfOk-as _ place.Field place.Plain c.args.c _ _ _ _
+    (λ rest. field-other c.args.c _ _ rest c.if-c-eq34.false) c.advance_plain.ensures.goes

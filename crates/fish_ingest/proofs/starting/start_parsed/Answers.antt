@@ -1,5 +1,5 @@
 -- The steps of the call, one after the other.
-use Rattle.std.proofs.Common.{◌≤◌, ℕ, sym, ◌∙◌, subst}
+use Rattle.std.proofs.Common.{◌≤◌, ℕ, sym, subst}
 use Rattle.fish_epoch.proofs.Reading.{defs_later}
 use Rattle.fish_ingest.proofs.Starts.{has_filled, has_started, may_place, learns_retired, not_claimed_left}
 use Rattle.fish_ingest.proofs.Passed.{on_lane}

@@ -4,8 +4,8 @@ use Rattle.std.specs.Prelude.{true, false, IsSome, ◌↔◌, IsUtf8}
 use Rattle.fish_lang.proofs.TokenLemmas.{IsUtf8-ident}
 use Rattle.fish_lang.proofs.token.ident.Goals as goal
 
-pub returns-in-None : goal.returns-in-None
-returns-in-None c =
+pub unreachable-requires : goal.unreachable-requires
+unreachable-requires c =
     let text : IsSome c.in_ok-text.field-0 ↔ IsUtf8 c.args.w.now = c.in_ok-text.ensures.text in
     let none : false ≡ true = (rw c.in-None.is at text).1 (IsUtf8-ident c.args.w.now c.requires) in
     cc

@@ -1,9 +1,7 @@
 -- The entry's words say its key, and its value's bytes stand where they say.
-use Rattle.std.proofs.Common.{◌≡◌, ◌+◌, ◌-◌, Some, length, take, drop, ap, ◌∙◌, sym, arith}
-use Rattle.fish_layout.specs.Body.{values_of}
-use Rattle.fish_layout.specs.Values.{value_bytes}
-use Rattle.fish_layout.proofs.Entries.{proper_at, some_same, value_at, values_within}
-use Rattle.fish_layout.proofs.KeyWords.{body_key}
+use Rattle.std.proofs.Common.{◌≡◌, Some, length, ap, ◌∙◌, sym, arith}
+use Rattle.fish_layout.proofs.Entries.{proper_at, some_same, values_within}
+use Rattle.fish_layout.proofs.KeyWords.{body_key, value_pointed}
 use Rattle.fish_layout.proofs.keys.read_key.Goals as goal
 
 pub returns-then-values-end : goal.returns-then-values-end
@@ -22,15 +20,7 @@ returns-then-values-end c p k h values within is =
 pub returns-in_default : goal.returns-in_default
 returns-in_default c p k h values within is =
     let says = body_key c.args.place k h within is in
-    let from : c.offset_in-from.result ≡ length (values_of (take c.args.place p.keys)) =
-    c.offset_in-from.ensures.value ∙ says.offset in
-    let end : c.offset_in-from.result + c.size_in.result ≡ c.offset_in-from.result + length (value_bytes k.value) =
-    ap (λ n. c.offset_in-from.result + n) (c.size_in.ensures.value ∙ says.size) in
-    let bytes =
-    ap (λ l. take (c.offset_in-from.result + c.size_in.result - c.offset_in-from.result)
-    (drop c.offset_in-from.result l)) values
-    ∙ value_at p.keys c.args.place k c.offset_in-from.result (c.offset_in-from.result + c.size_in.result) within is
-    from end in
+    let bytes = value_pointed c.args.place k _ _ _ h within is values c.offset_in-from.ensures.value c.size_in.ensures.value in
     let found =
     c.in_ok-value.ensures k.value (proper_at 0 p.keys c.args.place k h.proper.keys within is).1
     (c.kind_in.ensures ∙ says.kind) bytes in
@@ -40,15 +30,7 @@ returns-in_default c p k h values within is =
 pub returns : goal.returns
 returns c p k h values within is =
     let says = body_key c.args.place k h within is in
-    let from : c.offset_in-from.result ≡ length (values_of (take c.args.place p.keys)) =
-    c.offset_in-from.ensures.value ∙ says.offset in
-    let end : c.offset_in-from.result + c.size_in.result ≡ c.offset_in-from.result + length (value_bytes k.value) =
-    ap (λ n. c.offset_in-from.result + n) (c.size_in.ensures.value ∙ says.size) in
-    let bytes =
-    ap (λ l. take (c.offset_in-from.result + c.size_in.result - c.offset_in-from.result)
-    (drop c.offset_in-from.result l)) values
-    ∙ value_at p.keys c.args.place k c.offset_in-from.result (c.offset_in-from.result + c.size_in.result) within is
-    from end in
+    let bytes = value_pointed c.args.place k _ _ _ h within is values c.offset_in-from.ensures.value c.size_in.ensures.value in
     let found =
     c.in_ok-value.ensures k.value (proper_at 0 p.keys c.args.place k h.proper.keys within is).1
     (c.kind_in.ensures ∙ says.kind) bytes in

@@ -1,5 +1,6 @@
 -- Eight bytes are one word more, and the last bytes are the last word.
-use Rattle.std.proofs.Common.{◌≡◌, ℕ, ◌+◌, ◌*◌, ◌/◌, ◌<◌, ◌≤◌, List, [], ◌∷◌, ◌++◌, map, drop, length, ap, ◌∙◌, sym, append_assoc, append-nil, arith, rules, refl}
+use Rattle.std.proofs.Common.{◌≡◌, ℕ, ◌*◌, ◌/◌, ◌<◌, ◌≤◌, List, [], ◌∷◌, ◌++◌, map, drop, length, ap, ◌∙◌, sym}
+use Rattle.std.proofs.Common.{append_assoc, append-nil, arith, rules}
 use Rattle.std.specs.Int.{from_le_bytes}
 use Rattle.std.specs.Int.Width.{w64}
 use Rattle.std.proofs.lemmas.Bool.Decides.{nat_tests}

@@ -7,11 +7,17 @@ use Rattle.fish_csv.proofs.Texts.{found-texts}
 use Rattle.fish_csv.proofs.reader.CsvReader.read.Goals as goal
 
 pub invariant_of-result : goal.invariant_of-result
-invariant_of-result c = record { texts = found-texts c.args.b.now c.in_ok-text.text.now _ c.in_ok-read_one.field-0 c.in_ok-text.ensures.ok.0 c.in_ok-text.ensures.ok.1 c.in_ok-read_one.ensures c.if-not-branch.false }
+invariant_of-result c =
+    record {
+      texts = found-texts c.args.b.now c.in_ok-text.text.now _ c.in_ok-read_one.field-0
+          c.in_ok-text.ensures.ok.0 c.in_ok-text.ensures.ok.1 c.in_ok-read_one.ensures c.if-not-branch.false;
+    }
 
 pub returns-then-not-branch : goal.returns-then-not-branch
 returns-then-not-branch c =
-    let none : row_reading c.args.b.now ≡ None = read_none c.args.b.now c.in_ok-text.text.now _ c.in_ok-read_one.field-0 c.in_ok-text.ensures.ok.0 c.in_ok-text.ensures.ok.1 c.in_ok-read_one.ensures c.if-not-branch.true in
+    let none : row_reading c.args.b.now ≡ None =
+    read_none c.args.b.now c.in_ok-text.text.now _ c.in_ok-read_one.field-0 c.in_ok-text.ensures.ok.0
+    c.in_ok-text.ensures.ok.1 c.in_ok-read_one.ensures c.if-not-branch.true in
     record {
       ok = tt;
       length = tt;
@@ -23,7 +29,8 @@ returns-then-not-branch c =
 pub returns : goal.returns
 unfolding row_fields
 returns c = record {
-  ok = read_some c.args.b.now c.in_ok-text.text.now _ c.in_ok-read_one.field-0 c.in_ok-text.ensures.ok.0 c.in_ok-text.ensures.ok.1 c.in_ok-text.ensures.ok.2 c.in_ok-read_one.ensures c.if-not-branch.false;
+  ok = read_some c.args.b.now c.in_ok-text.text.now _ c.in_ok-read_one.field-0 c.in_ok-text.ensures.ok.0
+      c.in_ok-text.ensures.ok.1 c.in_ok-text.ensures.ok.2 c.in_ok-read_one.ensures c.if-not-branch.false;
   length = c.in_ok-text.ensures.ok.2;
   too_long = search rules;
   not_row = search rules;
