@@ -7,8 +7,10 @@ use Rattle.fish_rule.proofs.Extending.{learns_both, learns_self}
 use Rattle.fish_rule.specs.Clocks.{HasLoaded, IsLater}
 use Rattle.fish_rule.specs.Entering.{CanAnnounce, CanEnter, after_announce, after_version}
 use Rattle.fish_rule.specs.Epochs.{confirmed}
+use Rattle.fish_rule.specs.Logs.{Learns}
 use Rattle.fish_rule.specs.declared.view.Epoch.{Epoch}
 use Rattle.fish_rule.specs.declared.view.Epoch.TheVariants.{Announced, Confirmed}
+use Rattle.fish_rule.specs.declared.view.Learned.{Learned}
 use Rattle.fish_rule.specs.declared.view.Noted.TheVariants.{Version}
 use Rattle.fish_rule.specs.declared.view.View.{View}
 use Rattle.fish_epoch.specs.Entering.{HasEntered, Keeps}
@@ -37,24 +39,30 @@ keeps_both a b c e f = record {
   loads = f.loads ∙ e.loads;
 }
 
+-- a view of the same table that learned of a later version, or of this one, and nothing else
+pub learns_version : (v u : View) (version : ℕ) → u.about ≡ v.about → u.learned ≡ record v.learned { version = version }
+    → v.learned.version ≤ version → Learns v u
+learns_version v u version about learned later =
+    subst (λ (l : Learned). Learns v (record u { learned = l })) (sym learned) (record {
+      about = about;
+      count = omega arith;
+      settled = omega arith;
+      version = later;
+      words = λ y m. m;
+      found = λ y m. m;
+      known = λ y m. m;
+      records = λ y m. m;
+      nodes = λ y m. m;
+      lows = λ y m. m;
+      tops = λ y m. m;
+      gaps = λ y m. m;
+      labels = λ y m. m;
+    })
+
 -- a load of the version keeps to the view, where the version has risen
 pub keeps_version : (v : View) (x : ℕ) → v.learned.version ≤ x → Keeps v (after_version v x)
 keeps_version v x more = record {
-  learns = record {
-    about = refl;
-    count = omega arith;
-    settled = omega arith;
-    version = more;
-    words = λ y m. m;
-    found = λ y m. m;
-    known = λ y m. m;
-    records = λ y m. m;
-    nodes = λ y m. m;
-    lows = λ y m. m;
-    tops = λ y m. m;
-    gaps = λ y m. m;
-    labels = λ y m. m;
-  };
+  learns = learns_version v (after_version v x) x refl refl more;
   clock = later_noted v.clock Version x;
   frame = refl;
   count = refl;
@@ -65,21 +73,7 @@ keeps_version v x more = record {
 -- and so does a store of the own epoch
 pub keeps_epoch : (v : View) (e : Epoch) → Keeps v (record v { epoch = e; clock = Rattle.fish_rule.specs.Steps.ticked v.clock })
 keeps_epoch v e = record {
-  learns = record {
-    about = refl;
-    count = omega arith;
-    settled = omega arith;
-    version = omega arith;
-    words = λ y m. m;
-    found = λ y m. m;
-    known = λ y m. m;
-    records = λ y m. m;
-    nodes = λ y m. m;
-    lows = λ y m. m;
-    tops = λ y m. m;
-    gaps = λ y m. m;
-    labels = λ y m. m;
-  };
+  learns = learns_version v _ v.learned.version refl refl (omega arith);
   clock = later_ticked v.clock;
   frame = refl;
   count = refl;
