@@ -83,7 +83,8 @@ pub stops_by : (P : ℕ → Type 0) (a v u : View) (n lines x count : ℕ) → L
 stops_by P a v u n lines x count looked e ends below = inr (record {
   below = below;
   word = x;
-  loaded = loaded_within a.clock v.clock u.clock u.clock (Directory n) x looked.extends.clock (look_loads v u n lines x e) (later_self u.clock);
+  loaded = loaded_within a.clock v.clock u.clock u.clock (Directory n) x looked.extends.clock
+      (look_loads v u n lines x e) (later_self u.clock);
   ends = ends;
 })
 
