@@ -15,7 +15,7 @@ use Rattle.fish_layout.proofs.Clearing.{choose_first, choose_second}
 use Rattle.fish_rule.proofs.Common.{all_among}
 use Rattle.fish_rule.proofs.Clocks.{later_ticked}
 use Rattle.fish_rule.proofs.Extending.{extends_both, extends_self}
-use Rattle.fish_rule.proofs.Registers.{definitions_first, definitions_next, length_registered}
+use Rattle.fish_rule.proofs.Registers.{definitions_next, length_registered}
 use Rattle.fish_rule.proofs.Registering.{listing_law}
 use Rattle.fish_rule.specs.Entering.{after_registry}
 use Rattle.fish_rule.specs.Logs.{Learns}

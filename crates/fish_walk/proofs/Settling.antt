@@ -1,5 +1,5 @@
 -- What the loads, the looks and the raise of a whole call tell together.
-use Rattle.std.proofs.Common.{◌≡◌, ◌≢◌, ℕ, ◌<◌, ◌≤◌, max, [], ◌∷◌, refl, sym, ap, ◌∙◌, subst, inl, inr, ◌⊎◌, arith}
+use Rattle.std.proofs.Common.{◌≡◌, ◌≢◌, ℕ, ◌<◌, ◌≤◌, max, sym, ap, ◌∙◌, subst, inl, inr, ◌⊎◌, arith}
 use Rattle.std.proofs.Math.Decide.{dec_lt}
 use Rattle.fish_rule.proofs.Clocks.{later_both, later_ticked, loaded_within, noted_load}
 use Rattle.fish_rule.proofs.Extending.{extends_both}
