@@ -1,12 +1,14 @@
 -- Why a payload is refused, and what a refusal leaves behind.
-use Rattle.fish_ingest.specs.Passing.{GoesOn, HasMark, OnlyFound}
-use Rattle.fish_ingest.specs.Starting.{IsRecordFor}
+use Rattle.fish_ingest.specs.Passing.{OnlyIngests, HasMark, FoundSince}
+use Rattle.fish_ingest.specs.Preparation.{IsRecordFor}
 use Rattle.fish_ingest.specs.declared.refusal.IngestRefusal.TheVariants as refusal
 use Rattle.fish_ingest.specs.declared.refusal.IngestRefusal.{IngestRefusal}
 use Rattle.fish_layout.specs.Body.{body_lines}
 use Rattle.fish_layout.specs.declared.parts.BodyParts.{BodyParts}
 use Rattle.fish_layout.specs.declared.parts.TheConstants.{MAX_PAYLOAD}
 use Rattle.fish_psf.specs.Records.{is_record}
+use Rattle.fish_psf.specs.declared.reading.PsfRefusal.{PsfRefusal}
+use Rattle.fish_psf.specs.declared.reading.PsfRefusal.TheVariants as parsing
 use Rattle.fish_rule.specs.declared.view.Epoch.TheVariants.{Out}
 use Rattle.fish_rule.specs.declared.view.Kind.TheVariants.{Stored}
 use Rattle.fish_rule.specs.Clocks.{HasLoaded}
@@ -19,6 +21,12 @@ use Rattle.std.specs.Prelude.{ℕ, ◌≡◌, ◌≢◌, ◌⊎◌, ◌<◌, ◌
 -- the claim that shut a pass, as a refusal
 abbrev pub full_of : Shut → IngestRefusal
 full_of shut = refusal.Full shut.line shut.lines shut.end
+
+-- the refusal of a parse, as one of a record
+abbrev pub refusal_of : PsfRefusal → IngestRefusal
+refusal_of parsing.TooLong = refusal.TooLong
+refusal_of parsing.NotRecord = refusal.NotRecord
+refusal_of parsing.OutOfMemory = refusal.OutOfMemory
 
 -- why a refusal comes
 abbrev pub IsCause : Form → List ℕ → IngestRefusal → Type 0
@@ -40,7 +48,7 @@ IsLate e = ⊥
 
 -- the pass isn't entered and has nothing in flight, and no number is its own that wasn't before
 pub record HasLeft (v u : View) : Type 0 where
-  pub on : GoesOn v u
+  pub on : OnlyIngests v u
   pub outside : u.epoch ≡ Out
   pub idle : u.flight ≡ None
   pub own : u.own ≡ v.own
@@ -73,7 +81,7 @@ pub record IsFull (v : View) (form : Form) (payload : List ℕ) (shut : Shut) (u
   pub left : HasLeft v u
   pub shut_is : u.shut ≡ Some shut
   pub by_claim : IsShutFor v form payload shut u
-  pub unstored : OnlyFound (λ kind. kind ≢ Stored) v u
+  pub unstored : FoundSince (λ kind. kind ≢ Stored) v u
 
 -- what a refusal leaves
 abbrev pub HasRefused : View → Form → List ℕ → IngestRefusal → View → Type 0
