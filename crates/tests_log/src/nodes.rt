@@ -108,14 +108,7 @@ pub(crate) fn nodes_of(
     if range.1 > settle(log, pass).settled {
         return Err(Fail::new("not settled"));
     }
-    Ok(walked::<Brand>(
-        alloc,
-        Blank::new(1),
-        log,
-        pass,
-        bucket,
-        range,
-    )?)
+    Ok(walked::<Brand>(alloc, Blank::new(1), log, pass, bucket, range)?)
 }
 
 /// Asserts what a walk down the chain of that bucket gives.
