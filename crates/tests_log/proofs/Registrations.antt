@@ -14,11 +14,9 @@ use Rattle.fish_layout.proofs.Clearing.{choose_first, choose_second}
 use Rattle.fish_epoch.proofs.Rounds.{learns_version}
 use Rattle.fish_rule.specs.Entering.{CanBump, CanDefine, after_bump, after_define, after_version, next_operation}
 use Rattle.fish_rule.specs.Epochs.{confirmed}
-use Rattle.fish_rule.specs.Logs.{Learns}
 use Rattle.fish_rule.specs.Registry.{AreRowWords, IsOperation, drafted, made, op_at, row_at, row_in, row_spelled}
 use Rattle.fish_rule.specs.declared.view.Epoch.{Epoch}
 use Rattle.fish_rule.specs.declared.view.Epoch.TheVariants.{Out}
-use Rattle.fish_rule.specs.declared.view.Learned.{Learned}
 use Rattle.fish_rule.specs.declared.view.View.{View}
 use Rattle.tests_log.specs.Operations.{HasDrafted, IsRegisteredAs}
 
