@@ -34,6 +34,7 @@ gate:
 
 install: build
 	install -D -m 755 $(PROGRAM) $(DESTDIR)$(PREFIX)/bin/fishstore
+	install -D -m 644 docs/fishstore.1 $(DESTDIR)$(PREFIX)/share/man/man1/fishstore.1
 
 # Times the program beside jq and a plain Rust program.
 bench: build

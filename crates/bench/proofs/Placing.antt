@@ -6,9 +6,9 @@ use Rattle.fish_claim.proofs.Bodies.{Placed, placed_law}
 use Rattle.fish_claim.proofs.Known.{knows_start}
 use Rattle.fish_claim.specs.Claims.{IsClaimed}
 use Rattle.fish_claim.specs.declared.claimed.Claimed.TheVariants as answer
-use Rattle.fish_ingest.specs.Placing.{CanPlace}
-use Rattle.fish_ingest.specs.Writing.{HasWritten}
-use Rattle.fish_ingest.specs.declared.prepared.Prepared.{Prepared}
+use Rattle.fish_ingest.specs.Placement.{CanPlace}
+use Rattle.fish_ingest.specs.Placement.{HasWritten}
+use Rattle.fish_ingest.specs.declared.preparation.Prepared.{Prepared}
 use Rattle.fish_layout.specs.Body.{body_lines}
 use Rattle.fish_psf.specs.declared.key.ActiveDef.{ActiveDef}
 use Rattle.fish_rule.specs.Keys.{AreActive, text_of}

@@ -1,35 +1,15 @@
--- The definitions that a lane keeps may go to another thread. The search for it, which is done anew wherever a thread
--- is given a lane, doesn't go deep enough by itself.
+-- A lane of ingests may go to another thread.
 use Rattle.std.proofs.Crossing.{crosses}
 use denote.Param.Send.{IsSend, recorded_send, sendable, struct_send}
 use denote.Ref.{NamedLft}
 use denote.Struct.Declared.{shape}
 use Rattle.bench.specs.contracts.ingests.IngestLane.{the_row as lane_row, the_type as lane_type}
-use Rattle.fish_catalog.proofs.listed.Listed.TheSendSync.{the_send as listed_send}
-use Rattle.fish_epoch.specs.contracts.definitions.Defs.{the_field as defs_field, the_type as defs_type}
-use Rattle.fish_epoch.specs.contracts.definitions.Known.{the_field as known_field}
-use Rattle.fish_lang.proofs.definition.Cond.TheLaws.TheKnot.{send-Cond}
-use Rattle.fish_psf.specs.contracts.key.ActiveDef.{the_row as active_row}
-use Rattle.fish_read.proofs.reader.RecordReader.TheSendSync.{the_field_send as reader_send}
+use Rattle.fish_epoch.proofs.Crossing.{defs_field_send}
 use Rattle.fish_rule.proofs.table.Pass.TheSendSync.{the_field_send as pass_send}
-use Rattle.fish_value.proofs.path.Path.TheSendSync.{the_send as path_send}
-use Rattle.fish_value.proofs.text.Text.TheSendSync.{the_send as text_send, the_sync as text_sync}
+use Rattle.fish_value.proofs.text.Text.TheSendSync.{the_sync as text_sync}
 
--- a definition, whose condition may have others inside
-active_send : IsSend active_row
-active_send = search (sendable, crosses, send-Cond, path_send, text_send) depth 40
-
--- the definitions that were read
-known_send : IsSend known_field.row
-known_send = search (sendable, crosses, listed_send, active_send) depth 40
-
--- those with the reader's memory
-defs_send : IsSend defs_field.row
-defs_send = struct_send (shape defs_type) (known_send, (reader_send, tt))
-
--- and so a lane
 pub lane_send : (κ : NamedLft) → IsSend (lane_row κ)
 lane_send κ = recorded_send _ _ _ (lane_type κ).to_one (struct_send (shape (lane_type κ)) (
   search (sendable, crosses) depth 20,
-  (pass_send, (defs_send, (search (sendable, crosses, text_sync) depth 20, (search sendable, tt)))),
+  (pass_send, (defs_field_send, (search (sendable, crosses, text_sync) depth 20, (search sendable, tt)))),
 ))

@@ -1,7 +1,7 @@
 -- The passes of a new log: the control pass, and those that it gives lanes to.
 use Rattle.std.proofs.Common.{◌≡◌, ◌≤◌, ◌<◌, ◌+◌, ℕ, refl, sym, subst, arith, inl, inr}
 use Rattle.bench.specs.Opening.{IsControl}
-use Rattle.fish_ingest.specs.Starting.{CanStart}
+use Rattle.fish_ingest.specs.Ingestion.{CanStart}
 use Rattle.fish_rule.specs.Entering.{CanEnter}
 use Rattle.fish_rule.specs.Seating.{CanSplit, split_left, split_right}
 use Rattle.fish_rule.specs.Table.{first_view}

@@ -1,8 +1,8 @@
 -- A log that was just opened, and the passes that are made of its control pass.
 use Rattle.std.specs.Prelude.{ℕ, ◌≡◌, ◌≤◌, None}
 use Rattle.bench.specs.declared.opening.Opened.{Opened}
-use Rattle.fish_ingest.specs.Definitions.{AreDefs}
-use Rattle.fish_ingest.specs.Starting.{CanStart}
+use Rattle.fish_ingest.specs.Preparation.{AreDefs}
+use Rattle.fish_ingest.specs.Ingestion.{CanStart}
 use Rattle.fish_rule.specs.Entering.{CanEnter}
 use Rattle.fish_rule.specs.Keys.{AreActive}
 use Rattle.fish_rule.specs.Passes.{IsPassOf, view}

@@ -2,9 +2,9 @@
 use Rattle.std.specs.Prelude.{ℕ, ◌≡◌, ◌≤◌, List, All, None}
 use Rattle.bench.specs.Opening.{IsReady}
 use Rattle.bench.specs.declared.stores.StoreLane.{StoreLane}
-use Rattle.fish_ingest.specs.Records.{IsPreparedFor}
-use Rattle.fish_ingest.specs.declared.origin.Origin.{Origin}
-use Rattle.fish_ingest.specs.declared.prepared.Prepared.{Prepared}
+use Rattle.fish_ingest.specs.Preparation.{IsPreparedFor}
+use Rattle.fish_ingest.specs.declared.preparation.Origin.{Origin}
+use Rattle.fish_ingest.specs.declared.preparation.Prepared.{Prepared}
 use Rattle.fish_psf.specs.declared.key.ActiveDef.{ActiveDef}
 use Rattle.fish_rule.specs.Keys.{AreActive}
 use Rattle.fish_rule.specs.Passes.{view}

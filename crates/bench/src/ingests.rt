@@ -3,7 +3,7 @@
 ghost use Rattle.std.specs.Prelude.{All, IfOk};
 ghost use Rattle.bench.specs.Ingests.{IsIngestLane};
 ghost use Rattle.bench.specs.Opening.{IsControl, IsReady};
-ghost use Rattle.fish_ingest.specs.Starting.{CanIngest};
+ghost use Rattle.fish_ingest.specs.Ingestion.{CanIngest};
 ghost use Rattle.fish_rule.specs.Passes.{IsPassOf, view};
 ghost use Rattle.fish_rule.specs.declared.table.Log.{Log};
 

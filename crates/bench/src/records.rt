@@ -2,7 +2,7 @@
 
 ghost use Rattle.std.specs.Prelude.{◌≡◌, ◌<◌, ◌≤◌, All, IfOk};
 ghost use Rattle.bench.specs.Stores.{IsRecordOf};
-ghost use Rattle.fish_ingest.specs.Definitions.{AreDefs};
+ghost use Rattle.fish_ingest.specs.Preparation.{AreDefs};
 
 use crate::workload::Workload;
 use fish_ingest::{Origin, Prepared, prepare};

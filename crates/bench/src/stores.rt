@@ -3,7 +3,7 @@
 ghost use Rattle.std.specs.Prelude.{◌≡◌, ◌≤◌, All, IfOk, None};
 ghost use Rattle.bench.specs.Opening.{IsControl, IsOpened, IsReady};
 ghost use Rattle.bench.specs.Stores.{IsEntered, IsStorable, IsStoreLane};
-ghost use Rattle.fish_ingest.specs.Definitions.{AreDefs};
+ghost use Rattle.fish_ingest.specs.Preparation.{AreDefs};
 ghost use Rattle.fish_rule.specs.Keys.{AreActive};
 ghost use Rattle.fish_rule.specs.Passes.{IsPassOf, view};
 

@@ -2,6 +2,7 @@
 use Rattle.std.proofs.Common.{◌≡◌, ℕ, ◌+◌, ◌*◌, ◌<◌, ◌≤◌, inr, suc, List, ◌∷◌, set, refl, sym, ap}
 use Rattle.std.proofs.Common.{◌∙◌, subst, arith, length-set, Some}
 use Rattle.fish_chain.specs.Links.{CanLink, Changed, chained_view, with_linked}
+use Rattle.fish_claim.proofs.Answered.{learns_same}
 use Rattle.fish_claim.proofs.Filled.{filled_aim, refilled}
 use Rattle.fish_layout.specs.Bucket.{bucket_of}
 use Rattle.fish_layout.specs.Cleared.{body_of, entry_at}
@@ -28,21 +29,7 @@ for_each v f P one here g two = (let same : f ≡ g = (let e : Some f ≡ Some g
 
 -- by an aim
 aim_learns : (u : View) (f : Flight) (x : ℕ) → Learns u (after_aim u f x)
-aim_learns u f x = record {
-  about = refl;
-  count = omega arith;
-  settled = omega arith;
-  version = omega arith;
-  words = λ x m. m;
-  found = λ x m. m;
-  known = λ x m. m;
-  records = λ x m. m;
-  nodes = λ x m. m;
-  lows = λ x m. m;
-  tops = λ x m. m;
-  gaps = λ x m. m;
-  labels = λ x m. m;
-}
+aim_learns u f x = learns_same u (after_aim u f x) refl refl
 
 -- by a swing that was made
 swing_learns : (u : View) (f : Flight) (b : ℕ) → Learns u (swung u f b)

@@ -1,9 +1,9 @@
 -- The entries that a walk passes, one after the other.
-use Rattle.std.proofs.Common.{◌≡◌, ℕ, ◌+◌, ◌*◌, ◌<◌, ◌≤◌, List, [], ◌∷◌, ◌++◌, length, refl, sym, ◌∙◌, subst, arith}
+use Rattle.std.proofs.Common.{◌≡◌, ℕ, ◌+◌, ◌<◌, ◌≤◌, List, [], ◌∷◌, ◌++◌, refl, sym, subst, arith}
 use Rattle.std.proofs.Common.{length-append}
 use Rattle.fish_chain.specs.Walks.{IsBounded, LeadDown}
 use Rattle.fish_rule.specs.Linking.{HasNode}
-use Rattle.fish_rule.specs.Logs.{Extends, Learns}
+use Rattle.fish_rule.specs.Logs.{Learns}
 use Rattle.fish_rule.specs.declared.view.View.{View}
 
 -- what leads down leads down for whoever knows as much

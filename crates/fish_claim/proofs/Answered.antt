@@ -1,5 +1,6 @@
 -- What a claim leaves that placed no record: the pass may go on as it was.
-use Rattle.std.proofs.Common.{◌≡◌, [], ℕ, ◌+◌, ◌<◌, ◌≤◌, List, refl, sym, ap, ◌∙◌, subst, inr, arith, None, Some, Option}
+use Rattle.std.proofs.Common.{◌≡◌, [], ℕ, ◌+◌, ◌<◌, ◌≤◌, suc, List, refl, sym, ap, ◌∙◌, subst, inr, arith, None, Some}
+use Rattle.std.proofs.Common.{Option}
 use Rattle.fish_claim.specs.Claims.{IsClaimed, answer_of, claimed_view}
 use Rattle.fish_claim.specs.declared.claimed.Claimed.TheVariants as answer
 use Rattle.fish_layout.specs.Header.{void_word}
@@ -14,48 +15,46 @@ use Rattle.fish_rule.specs.World.{slots}
 use Rattle.fish_rule.specs.declared.view.Flight.{Flight}
 use Rattle.fish_rule.specs.declared.view.Kind.{Kind}
 use Rattle.fish_rule.specs.declared.view.Kind.TheVariants.{Mark, Stored, Void}
+use Rattle.fish_rule.specs.declared.view.Learned.{Learned}
 use Rattle.fish_rule.specs.declared.view.Recorded.{Recorded}
 use Rattle.fish_rule.specs.declared.view.Shut.{Shut}
 use Rattle.fish_rule.specs.declared.view.View.{View}
 
 -- ---- what is known after it
 
+-- a view of the same table that counts more numbers, or as many, and learned nothing else
+pub learns_count : (v u : View) (count : ℕ) → u.about ≡ v.about → u.learned ≡ record v.learned { count = count }
+    → v.learned.count ≤ count → Learns v u
+learns_count v u count about learned more =
+    subst (λ (l : Learned). Learns v (record u { learned = l })) (sym learned) (record {
+      about = about;
+      count = more;
+      settled = omega arith;
+      version = omega arith;
+      words = λ x m. m;
+      found = λ x m. m;
+      known = λ x m. m;
+      records = λ x m. m;
+      nodes = λ x m. m;
+      lows = λ x m. m;
+      tops = λ x m. m;
+      gaps = λ x m. m;
+      labels = λ x m. m;
+    })
+
+-- what a view knew is known where the table and what was learned are the same
+pub learns_same : (v u : View) → u.about ≡ v.about → u.learned ≡ v.learned → Learns v u
+learns_same v u about learned = learns_count v u v.learned.count about learned (omega arith)
+
 -- a claim counts its number, and takes away nothing that was learned
 pub claim_learns : (v : View) (lines number line : ℕ) → v.learned.count ≤ number
     → Learns v (after_claim v lines number line)
-claim_learns v lines number line counted = record {
-  about = refl;
-  count = omega arith;
-  settled = omega arith;
-  version = omega arith;
-  words = λ x m. m;
-  found = λ x m. m;
-  known = λ x m. m;
-  records = λ x m. m;
-  nodes = λ x m. m;
-  lows = λ x m. m;
-  tops = λ x m. m;
-  gaps = λ x m. m;
-  labels = λ x m. m;
-}
+claim_learns v lines number line counted =
+    learns_count v (after_claim v lines number line) (suc number) refl refl (omega arith)
 
 -- nor does a store
 store_learns : (v : View) (f : Flight) (x : ℕ) → Learns v (after_store v f x)
-store_learns v f x = record {
-  about = refl;
-  count = omega arith;
-  settled = omega arith;
-  version = omega arith;
-  words = λ x m. m;
-  found = λ x m. m;
-  known = λ x m. m;
-  records = λ x m. m;
-  nodes = λ x m. m;
-  lows = λ x m. m;
-  tops = λ x m. m;
-  gaps = λ x m. m;
-  labels = λ x m. m;
-}
+store_learns v f x = learns_same v (after_store v f x) refl refl
 
 -- a publication adds to the records that are known, or leaves them
 records_more : (kind : Kind) (f : Flight) (records : List Recorded) (x : Recorded) → Among x records
@@ -65,7 +64,7 @@ records_more Void f records x m = m
 records_more Mark f records x m = m
 
 -- and it takes away nothing either
-publish_learns : (v : View) (f : Flight) → Learns v (after_publish v f)
+pub publish_learns : (v : View) (f : Flight) → Learns v (after_publish v f)
 publish_learns v f = record {
   about = refl;
   count = omega arith;

@@ -15,7 +15,7 @@ use Rattle.fish_layout.proofs.Clearing.{choose_first, choose_second}
 use Rattle.fish_rule.proofs.Common.{all_among}
 use Rattle.fish_rule.proofs.Clocks.{later_ticked}
 use Rattle.fish_rule.proofs.Extending.{extends_both, extends_self}
-use Rattle.fish_rule.proofs.Registers.{definitions_first, definitions_next, length_registered}
+use Rattle.fish_rule.proofs.Registers.{definitions_next, length_registered}
 use Rattle.fish_rule.proofs.Registering.{listing_law}
 use Rattle.fish_rule.specs.Entering.{after_registry}
 use Rattle.fish_rule.specs.Logs.{Learns}
@@ -26,7 +26,7 @@ use Rattle.fish_rule.specs.declared.view.Key.{Key}
 use Rattle.fish_rule.specs.declared.view.RegistryWord.{RegistryWord}
 use Rattle.fish_rule.specs.declared.view.View.{View}
 use Rattle.fish_epoch.specs.Definitions.{IsKnownOf, version_of}
-use Rattle.fish_epoch.specs.Rows.{HasRow, HasWords, OnlyReads}
+use Rattle.fish_epoch.specs.Rows.{HasRow, HasRowWords, OnlyReads}
 use Rattle.fish_epoch.specs.declared.definitions.Known.{Known}
 
 -- ---- views
@@ -128,7 +128,7 @@ first_known v id less = record {
 pub words_more : (v u : View) (id place x : ℕ) (ws : List ℕ) → length ws ≡ 39 → place < 39 → u ≡ after_registry v (row_at id place) x
     → ((row : CatRow) → slice_get v.about.rows.value id ≡ Some row
     → Rattle.fish_catalog.specs.Words.IsWritable row × (x ≡ row_word row place))
-    → HasWords v id place (slice_index ws) → HasWords u id (suc place) (slice_index (slice_set ws place x))
+    → HasRowWords v id place (slice_index ws) → HasRowWords u id (suc place) (slice_index (slice_set ws place x))
 words_more v u id place x ws wide room is row h = record {
   among = λ i from upto. read_ i from upto (ℕ_discrete i place);
   first = λ r there i from upto. firsts r
@@ -166,14 +166,14 @@ words_more v u id place x ws wide room is row h = record {
         let t = h.first r there i from (omega arith) in (t.0, else_ i ne ∙ t.1)
 
 -- no word is read yet
-pub words_none : (v : View) (id : ℕ) (f : ℕ → ℕ) → HasWords v id 2 f
+pub words_none : (v : View) (id : ℕ) (f : ℕ → ℕ) → HasRowWords v id 2 f
 words_none v id f = record {
   among = λ i from upto. absurd (omega arith);
   first = λ row there i from upto. absurd (omega arith);
 }
 
 -- the definition that a row's words spell, by the words read
-pub row_read : (u : View) (id : ℕ) (f : ℕ → ℕ) (l : Listed) → HasWords u id 39 f → l ≡ listed_in f id true → HasRow u id l
+pub row_read : (u : View) (id : ℕ) (f : ℕ → ℕ) (l : Listed) → HasRowWords u id 39 f → l ≡ listed_in f id true → HasRow u id l
 row_read u id f l words is g read = is ∙ listed_same f (row_in g id) id true (λ i from upto.
     sym (all_among (λ y. g y.index ≡ y.value) (record { index = row_at id i; value = f i }) u.learned.words read
     (words.among i from upto)))
@@ -188,7 +188,7 @@ start_ids v s id row there =
 
 -- the words of a row of the start spell its definition
 pub first_listed : (v u : View) (id : ℕ) (f : ℕ → ℕ) (l : Listed) (active : Bool) → Stands v → u.about ≡ v.about
-    → id < length v.about.rows.value → HasWords u id 39 f → active ≡ was_active (f 2) → l ≡ listed_in f id active
+    → id < length v.about.rows.value → HasRowWords u id 39 f → active ≡ was_active (f 2) → l ≡ listed_in f id active
     → slice_get (map listed_of v.about.rows.value) id ≡ Some l
 first_listed v u id f l active s about less words on is =
     let rows = v.about.rows.value in

@@ -7,17 +7,19 @@ use Rattle.fish_rule.proofs.Extending.{learns_both, learns_self}
 use Rattle.fish_rule.specs.Clocks.{HasLoaded, IsLater}
 use Rattle.fish_rule.specs.Entering.{CanAnnounce, CanEnter, after_announce, after_version}
 use Rattle.fish_rule.specs.Epochs.{confirmed}
+use Rattle.fish_rule.specs.Logs.{Learns}
 use Rattle.fish_rule.specs.declared.view.Epoch.{Epoch}
 use Rattle.fish_rule.specs.declared.view.Epoch.TheVariants.{Announced, Confirmed}
+use Rattle.fish_rule.specs.declared.view.Learned.{Learned}
 use Rattle.fish_rule.specs.declared.view.Noted.TheVariants.{Version}
 use Rattle.fish_rule.specs.declared.view.View.{View}
-use Rattle.fish_epoch.specs.Entering.{HasEntered, Keeps}
+use Rattle.fish_epoch.specs.Entering.{HasEntered, OnlyEnters}
 
 -- ---- views
 
 -- a view keeps to itself
-pub keeps_self : (v : View) → Keeps v v
-keeps_self v = record {
+pub enters_self : (v : View) → OnlyEnters v v
+enters_self v = record {
   learns = learns_self v;
   clock = later_self v.clock;
   frame = refl;
@@ -27,8 +29,8 @@ keeps_self v = record {
 }
 
 -- what keeps to what keeps to it keeps to it
-pub keeps_both : (a b c : View) → Keeps a b → Keeps b c → Keeps a c
-keeps_both a b c e f = record {
+pub enters_both : (a b c : View) → OnlyEnters a b → OnlyEnters b c → OnlyEnters a c
+enters_both a b c e f = record {
   learns = learns_both a b c e.learns f.learns;
   clock = later_both a.clock b.clock c.clock e.clock f.clock;
   frame = f.frame ∙ ap (λ (z : View). record z { epoch = c.epoch; learned = c.learned; clock = c.clock }) e.frame;
@@ -37,24 +39,30 @@ keeps_both a b c e f = record {
   loads = f.loads ∙ e.loads;
 }
 
+-- a view of the same table that learned of a later version, or of this one, and nothing else
+pub learns_version : (v u : View) (version : ℕ) → u.about ≡ v.about → u.learned ≡ record v.learned { version = version }
+    → v.learned.version ≤ version → Learns v u
+learns_version v u version about learned later =
+    subst (λ (l : Learned). Learns v (record u { learned = l })) (sym learned) (record {
+      about = about;
+      count = omega arith;
+      settled = omega arith;
+      version = later;
+      words = λ y m. m;
+      found = λ y m. m;
+      known = λ y m. m;
+      records = λ y m. m;
+      nodes = λ y m. m;
+      lows = λ y m. m;
+      tops = λ y m. m;
+      gaps = λ y m. m;
+      labels = λ y m. m;
+    })
+
 -- a load of the version keeps to the view, where the version has risen
-pub keeps_version : (v : View) (x : ℕ) → v.learned.version ≤ x → Keeps v (after_version v x)
-keeps_version v x more = record {
-  learns = record {
-    about = refl;
-    count = omega arith;
-    settled = omega arith;
-    version = more;
-    words = λ y m. m;
-    found = λ y m. m;
-    known = λ y m. m;
-    records = λ y m. m;
-    nodes = λ y m. m;
-    lows = λ y m. m;
-    tops = λ y m. m;
-    gaps = λ y m. m;
-    labels = λ y m. m;
-  };
+pub enters_version : (v : View) (x : ℕ) → v.learned.version ≤ x → OnlyEnters v (after_version v x)
+enters_version v x more = record {
+  learns = learns_version v (after_version v x) x refl refl more;
   clock = later_noted v.clock Version x;
   frame = refl;
   count = refl;
@@ -63,23 +71,9 @@ keeps_version v x more = record {
 }
 
 -- and so does a store of the own epoch
-pub keeps_epoch : (v : View) (e : Epoch) → Keeps v (record v { epoch = e; clock = Rattle.fish_rule.specs.Steps.ticked v.clock })
-keeps_epoch v e = record {
-  learns = record {
-    about = refl;
-    count = omega arith;
-    settled = omega arith;
-    version = omega arith;
-    words = λ y m. m;
-    found = λ y m. m;
-    known = λ y m. m;
-    records = λ y m. m;
-    nodes = λ y m. m;
-    lows = λ y m. m;
-    tops = λ y m. m;
-    gaps = λ y m. m;
-    labels = λ y m. m;
-  };
+pub enters_epoch : (v : View) (e : Epoch) → OnlyEnters v (record v { epoch = e; clock = Rattle.fish_rule.specs.Steps.ticked v.clock })
+enters_epoch v e = record {
+  learns = learns_version v _ v.learned.version refl refl (omega arith);
   clock = later_ticked v.clock;
   frame = refl;
   count = refl;
@@ -91,7 +85,7 @@ keeps_epoch v e = record {
 
 -- the version was announced, and the load behind it found what it found
 pub record IsRound (v : View) (version found : ℕ) (u : View) : Type 0 where
-  pub keeps : Keeps v u
+  pub keeps : OnlyEnters v u
   pub epoch : u.epoch ≡ confirmed (Announced version) found
   pub known : u.learned.version ≡ found
   pub loaded : HasLoaded v.clock u.clock Version found
@@ -100,7 +94,7 @@ pub record IsRound (v : View) (version found : ℕ) (u : View) : Type 0 where
   pub steps : u.clock.steps ≤ v.clock.steps + 3 + 2 * version
 
 -- one round from a view that has loaded the version
-pub round_of : (v a b c : View) (version found : ℕ) → Keeps v a → a.learned.version ≡ version
+pub round_of : (v a b c : View) (version found : ℕ) → OnlyEnters v a → a.learned.version ≡ version
     → a.clock.steps ≤ v.clock.steps + 1 + 2 * version → b ≡ after_announce a version → c ≡ after_version b found
     → b.learned.version ≤ found → found ≤ 512 → IsRound v version found c
 round_of v a b c version found keeps loaded steps announced load rises few =
@@ -108,9 +102,9 @@ round_of v a b c version found keeps loaded steps announced load rises few =
     let more : b.clock.steps ≡ suc a.clock.steps = ap (λ (z : View). z.clock.steps) announced in
     let last : c.clock.steps ≡ suc b.clock.steps = ap (λ (z : View). z.clock.steps) load in
     record {
-      keeps = keeps_both v a c keeps (keeps_both a b c
-          (subst (Keeps a) (sym announced) (keeps_epoch a (Announced version)))
-          (subst (Keeps b) (sym load) (keeps_version b found rises)));
+      keeps = enters_both v a c keeps (enters_both a b c
+          (subst (OnlyEnters a) (sym announced) (enters_epoch a (Announced version)))
+          (subst (OnlyEnters b) (sym load) (enters_version b found rises)));
       epoch = ap (λ (z : View). z.epoch) load ∙ ap (λ (z : View). confirmed z.epoch found) announced;
       known = ap (λ (z : View). z.learned.version) load;
       loaded = loaded_within v.clock b.clock c.clock c.clock Version found
@@ -129,7 +123,7 @@ pub first_round : (v a b c : View) (version found : ℕ) → a ≡ after_version
     → IsRound v version found c
 first_round v a b c version found first reached announced load rises few =
     let step : a.clock.steps ≡ suc v.clock.steps = ap (λ (z : View). z.clock.steps) first in
-    round_of v a b c version found (subst (Keeps v) (sym first) (keeps_version v version reached))
+    round_of v a b c version found (subst (OnlyEnters v) (sym first) (enters_version v version reached))
     (ap (λ (z : View). z.learned.version) first) (omega arith) announced load rises few
 
 -- a round behind another that found a newer version
@@ -142,7 +136,7 @@ next_round v a b c before version found h ne announced load rises few =
     round_of v a b c version found h.keeps h.known (omega arith) announced load rises few
 
 -- a pass with nothing in flight may announce what it loaded
-pub may_announce : (v a : View) (version : ℕ) → CanEnter v → Keeps v a → a.learned.version ≡ version
+pub may_announce : (v a : View) (version : ℕ) → CanEnter v → OnlyEnters v a → a.learned.version ≡ version
     → CanAnnounce a version
 may_announce v a version can keeps loaded = record {
   can = record {

@@ -8,7 +8,7 @@ use Rattle.fish_rule.specs.declared.view.View.{View}
 
 -- the second view is the first but for its epoch and what it learned of the registry since; no word of the log was
 -- loaded
-pub record Keeps (v u : View) : Type 0 where
+pub record OnlyEnters (v u : View) : Type 0 where
   pub learns : Learns v u
   pub clock : IsLater v.clock u.clock
   pub frame : u ≡ record v { epoch = u.epoch; learned = u.learned; clock = u.clock }
@@ -19,7 +19,7 @@ pub record Keeps (v u : View) : Type 0 where
 -- the pass is entered at a version, which it has loaded on the way and knows to be the last, after at most 513 rounds of
 -- two steps and one step more
 pub record HasEntered (v : View) (version : ℕ) (u : View) : Type 0 where
-  pub keeps : Keeps v u
+  pub keeps : OnlyEnters v u
   pub epoch : u.epoch ≡ Confirmed version
   pub known : u.learned.version ≡ version
   pub loaded : HasLoaded v.clock u.clock Version version

@@ -18,7 +18,7 @@ pub record OnlyReads (v u : View) : Type 0 where
   pub loads : u.clock.loads ≡ v.clock.loads
 
 -- the words of a row from place 2 up to a place were read, and a row of the start has its own there
-pub record HasWords (v : View) (id upto : ℕ) (f : ℕ → ℕ) : Type 0 where
+pub record HasRowWords (v : View) (id upto : ℕ) (f : ℕ → ℕ) : Type 0 where
   pub among : (i : ℕ) → 2 ≤ i → i < upto → Among (record { index = row_at id i; value = f i }) v.learned.words
   pub first : (row : CatRow) → slice_get v.about.rows.value id ≡ Some row → (i : ℕ) → 2 ≤ i → i < upto
       → IsWritable row × (f i ≡ row_word row i)

@@ -3,7 +3,7 @@
 
 ghost use Rattle.std.specs.Prelude.{◌≡◌, ◌<◌, ◌≤◌, ℕ, suc, IfOk, OnOk, Some, length, map, slice_get, slice_index};
 ghost use Rattle.fish_catalog.specs.Listing.{IsListing, ended_at, listed_of};
-ghost use Rattle.fish_epoch.specs.Rows.{HasRow, HasWords, OnlyReads};
+ghost use Rattle.fish_epoch.specs.Rows.{HasRow, HasRowWords, OnlyReads};
 ghost use Rattle.fish_rule.specs.Passes.{IsPassOf, view};
 ghost use Rattle.fish_rule.specs.Registry.{KnowsDefinitions, KnowsRow};
 
@@ -117,7 +117,7 @@ fn read_words(log: &Log, pass: &mut Pass, id: u64) -> [u64; ROW_WORDS]
     requires row { KnowsRow (view pass.old).about (view pass.old).learned id }
     ensures pass { IsPassOf log.now pass.new }
     ensures reads { OnlyReads (view pass.old) (view pass.new) }
-    ensures words { HasWords (view pass.new) id 39 (slice_index result) }
+    ensures words { HasRowWords (view pass.new) id 39 (slice_index result) }
 {
     let mut words = [0; ROW_WORDS];
     for place in 2..ROW_WORDS {

@@ -1,7 +1,7 @@
 -- What ingests say together, and of the closed log.
 use Rattle.std.specs.Prelude.{ℕ, ◌≡◌, ◌+◌, ◌<◌, List, Some, slice_get}
 use Rattle.fish_catalog.specs.declared.entry.Entry.TheVariants as entry
-use Rattle.fish_ingest.specs.Starting.{HasIngested}
+use Rattle.fish_ingest.specs.Ingestion.{HasIngested}
 use Rattle.fish_rule.specs.Closing.{IsClosed}
 use Rattle.fish_rule.specs.Logs.{Learns}
 use Rattle.fish_rule.specs.declared.close.Remains.{Remains}

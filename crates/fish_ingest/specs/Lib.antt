@@ -1,9 +1,6 @@
-pub mod Definitions
-pub mod Entries
+pub mod Ingestion
 pub mod Laws
 pub mod Passing
-pub mod Placing
-pub mod Records
-pub mod Refusing
-pub mod Starting
-pub mod Writing
+pub mod Placement
+pub mod Preparation
+pub mod Refusal

@@ -22,14 +22,14 @@ moved v u = record v {
 }
 
 -- the second view is of the same pass, later, and knows what the first knew
-pub record GoesOn (v u : View) : Type 0 where
+pub record OnlyIngests (v u : View) : Type 0 where
   pub learns : Learns v u
   pub clock : IsLater v.clock u.clock
   pub frame : u ≡ moved v u
 
 -- what was found since are numbers of regions whose kind meets P
-abbrev pub OnlyFound : (Kind → Type 0) → View → View → Type 0
-OnlyFound P v u = (x : Found) → Among x u.learned.found → Among x v.learned.found ⊎ P x.kind
+abbrev pub FoundSince : (Kind → Type 0) → View → View → Type 0
+FoundSince P v u = (x : Found) → Among x u.learned.found → Among x v.learned.found ⊎ P x.kind
 
 -- the pass found the region of this claim to be a mark
 abbrev pub HasMark : View → Shut → Type 0

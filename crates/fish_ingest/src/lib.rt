@@ -5,23 +5,12 @@
 //! before the claim. Every shared word is touched by `fish_rule` alone.
 #![tactic(auto)]
 
-mod body;
-mod ingesting;
-mod law;
-mod origin;
-mod pending;
-mod placing;
-mod prepared;
+mod ingestion;
+mod placement;
+mod preparation;
 mod refusal;
-mod starting;
-mod writing;
 
-pub use body::prepare;
-pub use ingesting::{finish, ingest};
-pub use law::law_ingested;
-pub use origin::Origin;
-pub use pending::Pending;
-pub use prepared::Prepared;
+pub use ingestion::{finish, ingest, law_ingested, start};
+pub use placement::{Pending, write_record};
+pub use preparation::{Origin, Prepared, prepare};
 pub use refusal::IngestRefusal;
-pub use starting::start;
-pub use writing::write_record;

@@ -28,7 +28,7 @@ pub enum IngestRefusal {
 
 impl From<Shut> for IngestRefusal {
     ghost use Rattle.std.specs.Prelude.{◌≡◌};
-    ghost use Rattle.fish_ingest.specs.Refusing.{full_of};
+    ghost use Rattle.fish_ingest.specs.Refusal.{full_of};
 
     ghost from_gives = { λ shut refusal. refusal ≡ full_of shut };
 
@@ -54,7 +54,7 @@ impl From<AllocError> for IngestRefusal {
 
 impl From<PsfRefusal> for IngestRefusal {
     ghost use Rattle.std.specs.Prelude.{◌≡◌};
-    ghost use Rattle.fish_ingest.specs.Records.{refusal_of};
+    ghost use Rattle.fish_ingest.specs.Refusal.{refusal_of};
 
     ghost from_gives = { λ found refusal. refusal ≡ refusal_of found };
 

@@ -1,8 +1,7 @@
 -- What loads and looks tell, one after the other.
-use Rattle.std.proofs.Common.{◌≡◌, ◌≢◌, ℕ, ◌+◌, ◌<◌, ◌≤◌, zero, suc, List, [], ◌∷◌, ◌++◌, ◌∙◌, ◌⊎◌}
-use Rattle.std.proofs.Common.{refl, sym, ap, subst, inl, inr, arith, append_assoc}
+use Rattle.std.proofs.Common.{◌≡◌, ◌≢◌, ℕ, ◌+◌, ◌<◌, ◌≤◌, zero, suc, List, ◌∙◌, ◌⊎◌}
+use Rattle.std.proofs.Common.{refl, sym, ap, subst, inl, inr, arith}
 use Rattle.std.proofs.Math.Decide.{dec_lt}
-use Rattle.fish_rule.proofs.Common.{among_left, among_right}
 use Rattle.fish_rule.proofs.Closing.{seen, seen_here, tells_mark}
 use Rattle.fish_rule.proofs.Clocks.{later_self, loaded_within, noted_load}
 use Rattle.fish_rule.proofs.Extending.{extends_both, extends_look, extends_self, learns_both}
@@ -14,12 +13,10 @@ use Rattle.fish_rule.specs.World.{high, low}
 use Rattle.fish_rule.specs.declared.view.Found.{Found}
 use Rattle.fish_rule.specs.declared.view.Kind.{Kind}
 use Rattle.fish_rule.specs.declared.view.Kind.TheVariants.{Mark, Stored, Void}
-use Rattle.fish_rule.specs.declared.view.Note.{Note}
-use Rattle.fish_rule.specs.declared.view.Noted.{Noted}
 use Rattle.fish_rule.specs.declared.view.Noted.TheVariants.{Directory}
 use Rattle.fish_rule.specs.declared.view.View.{View}
 use Rattle.fish_walk.specs.Looks.{look_of, look_of_kind}
-use Rattle.fish_walk.specs.Settling.{AreSettled, EndsAt, IsEnd, IsMark, Looked, StopsAt}
+use Rattle.fish_walk.specs.Settling.{AreSettled, EndsAt, IsEnd, IsMark, OnlyLooks, StopsAt}
 use Rattle.fish_walk.specs.declared.outcome.Look.{Look}
 use Rattle.fish_walk.specs.declared.outcome.Look.TheVariants as look
 
@@ -45,7 +42,7 @@ look_loads v u n lines x e =
     subst (λ (z : View). HasLoaded v.clock z.clock (Directory n) x) (sym e) (noted_load v.clock (Directory n) x)
 
 -- and nothing else is learned by it
-pub look_looks : (v u : View) (n lines x : ℕ) → u ≡ after_look v n lines x → Looked v u
+pub look_looks : (v u : View) (n lines x : ℕ) → u ≡ after_look v n lines x → OnlyLooks v u
 look_looks v u n lines x e = record {
   extends = subst (λ (z : View). Extends v z) (sym e) (extends_look v n lines x);
   count = ap (λ (z : View). z.learned.count) e;
@@ -54,11 +51,11 @@ look_looks v u n lines x e = record {
 }
 
 -- a view to which no look was added
-pub looked_self : (v : View) → Looked v v
+pub looked_self : (v : View) → OnlyLooks v v
 looked_self v = record { extends = extends_self v; count = refl; settled = refl; loads = refl }
 
 -- and one to which looks were added twice
-pub looked_both : (a b c : View) → Looked a b → Looked b c → Looked a c
+pub looked_both : (a b c : View) → OnlyLooks a b → OnlyLooks b c → OnlyLooks a c
 looked_both a b c p q = record {
   extends = extends_both a b c p.extends q.extends;
   count = q.count ∙ p.count;
@@ -78,12 +75,13 @@ mark_told r x e ne (inl is) = absurd (ne is)
 mark_told r x e ne (inr is) = sym e ∙ is
 
 -- so the numbers stop here
-pub stops_by : (P : ℕ → Type 0) (a v u : View) (n lines x count : ℕ) → Looked a v → u ≡ after_look v n lines x
+pub stops_by : (P : ℕ → Type 0) (a v u : View) (n lines x count : ℕ) → OnlyLooks a v → u ≡ after_look v n lines x
     → P x → n < count → StopsAt P a u n count
 stops_by P a v u n lines x count looked e ends below = inr (record {
   below = below;
   word = x;
-  loaded = loaded_within a.clock v.clock u.clock u.clock (Directory n) x looked.extends.clock (look_loads v u n lines x e) (later_self u.clock);
+  loaded = loaded_within a.clock v.clock u.clock u.clock (Directory n) x looked.extends.clock
+      (look_loads v u n lines x e) (later_self u.clock);
   ends = ends;
 })
 
@@ -132,7 +130,7 @@ settled_more v u first n lines x r e told is settled m above below = pick (dec_l
         (here.0, subst (λ (z : View). Among here.0 z.learned.found) (sym e) here.1, here.2 ∙ same, here.3)
 
 -- what was settled before a look is settled after it
-pub settled_still : (v u : View) (first n : ℕ) → Looked v u → AreSettled v first n → AreSettled u first n
+pub settled_still : (v u : View) (first n : ℕ) → OnlyLooks v u → AreSettled v first n → AreSettled u first n
 settled_still v u first n looked settled m above below =
     let h = settled m above below in
     (h.0, looked.extends.learns.found h.0 h.1, h.2, h.3)

@@ -1,5 +1,5 @@
 -- What the loads, the looks and the raise of a whole call tell together.
-use Rattle.std.proofs.Common.{◌≡◌, ◌≢◌, ℕ, ◌<◌, ◌≤◌, max, [], ◌∷◌, refl, sym, ap, ◌∙◌, subst, inl, inr, ◌⊎◌, arith}
+use Rattle.std.proofs.Common.{◌≡◌, ◌≢◌, ℕ, ◌<◌, ◌≤◌, max, sym, ap, ◌∙◌, subst, inl, inr, ◌⊎◌, arith}
 use Rattle.std.proofs.Math.Decide.{dec_lt}
 use Rattle.fish_rule.proofs.Clocks.{later_both, later_ticked, loaded_within, noted_load}
 use Rattle.fish_rule.proofs.Extending.{extends_both}
@@ -13,11 +13,11 @@ use Rattle.fish_rule.specs.declared.view.Kind.TheVariants.{Mark}
 use Rattle.fish_rule.specs.declared.view.Noted.TheVariants.{Tail}
 use Rattle.fish_rule.specs.declared.view.View.{View}
 use Rattle.fish_walk.proofs.Looking.{stops_within}
-use Rattle.fish_walk.specs.Settling.{AreSettled, HasCounted, Looked, Raised, Settles, StopsAt}
+use Rattle.fish_walk.specs.Settling.{AreSettled, HasLoadedCount, OnlyLooks, OnlyRaises, OnlySettles, StopsAt}
 
 -- the views of a call: as it began, and after each of its parts
 module _ (a b c d e : View) (known x settled : ℕ) (to_b : b ≡ after_settled a known) (to_c : c ≡ after_end b x)
-    (looked : Looked c d) (raised : Raised d e settled) where
+    (looked : OnlyLooks c d) (raised : OnlyRaises d e settled) where
   -- until the count is loaded
   on_b : IsLater a.clock b.clock
   on_b = subst (λ (z : View). IsLater a.clock z.clock) (sym to_b) (later_ticked a.clock)
@@ -27,7 +27,7 @@ module _ (a b c d e : View) (known x settled : ℕ) (to_b : b ≡ after_settled 
   counts = subst (λ (z : View). HasLoaded b.clock z.clock Tail x) (sym to_c) (noted_load b.clock Tail x)
 
   -- the count is one of this call's
-  pub counted_here : (count : ℕ) → count ≡ high x → HasCounted a e count
+  pub counted_here : (count : ℕ) → count ≡ high x → HasLoadedCount a e count
   counted_here count is = record {
     tail = x;
     loaded = loaded_within a.clock b.clock c.clock e.clock Tail x on_b counts
@@ -56,10 +56,10 @@ module _ (a b c d e : View) (known x settled : ℕ) (to_b : b ≡ after_settled 
 
   -- the settled number rises, and else only the tail changes
   pub settles_all : a.learned.settled ≤ known → (count : ℕ) → count ≡ high x → b.learned.count ≤ count
-      → Settles a e
-  settles_all rises count is more = subst (λ (z : View). Looked z d → Settles a e) (sym begun_is) all looked
+      → OnlySettles a e
+  settles_all rises count is more = subst (λ (z : View). OnlyLooks z d → OnlySettles a e) (sym begun_is) all looked
     where
-      all : Looked (after_end (after_settled a known) x) d → Settles a e
+      all : OnlyLooks (after_end (after_settled a known) x) d → OnlySettles a e
       all h =
           let l = extends_both (after_end (after_settled a known) x) d e h.extends raised.extends in
           let up = l.learns.settled in
@@ -93,7 +93,7 @@ module _ (a b c d e : View) (known x settled : ℕ) (to_b : b ≡ after_settled 
 
 -- the number at which the looks stopped may be the settled one
 pub can_raise : (a b c d : View) (known x first settled count : ℕ) → b ≡ after_settled a known
-    → c ≡ after_end b x → Looked c d → first ≡ max a.about.number known
+    → c ≡ after_end b x → OnlyLooks c d → first ≡ max a.about.number known
     → AreSettled d first settled → settled ≤ count → count ≡ high x → CanRaise d settled
 can_raise a b c d known x first settled count to_b to_c looked from are within is =
     let l = looked.extends in

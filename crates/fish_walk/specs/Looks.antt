@@ -27,13 +27,13 @@ abbrev pub IsEntryLook : Look → Type 0
 IsEntryLook r = (r ≡ found.Stored) ⊎ (r ≡ found.Void)
 
 -- so many numbers are claimed where the tail is here
-abbrev pub IsCount : ℕ → Option Position → Type 0
-IsCount n None = ⊤
-IsCount n (Some tail) = tail.number ≡ n
+abbrev pub IsTailCount : ℕ → Option Position → Type 0
+IsTailCount n None = ⊤
+IsTailCount n (Some tail) = tail.number ≡ n
 
 -- between the two views a counter rose by one for the directory word of a number, and by one for
 -- each word of the log that was loaded, at most those of the record there
-pub record IsCounted (v u : View) (number old new : ℕ) : Type 0 where
+pub record CountsLoads (v u : View) (number old new : ℕ) : Type 0 where
   pub exact : new + v.clock.loads ≡ old + u.clock.loads + 1
   pub few : (f : Found) → Among f v.learned.found → f.number ≡ number → f.kind ≡ kind.Stored
       → new ≤ old + 1 + f.lines * 4

@@ -15,7 +15,7 @@ use Rattle.fish_walk.specs.declared.outcome.Look.TheVariants.{Overflow, Unfinish
 -- ---- loads
 
 -- the count is one that the pass loaded between the two views
-pub record HasCounted (v u : View) (count : ℕ) : Type 0 where
+pub record HasLoadedCount (v u : View) (count : ℕ) : Type 0 where
   pub tail : ℕ
   pub loaded : HasLoaded v.clock u.clock Tail tail
   pub is : high tail ≡ count
@@ -63,21 +63,21 @@ pub record CanSettle (v : View) (first count : ℕ) : Type 0 where
   pub below : count ≤ v.learned.count
 
 -- the second view is the first but for what looks told since, which load no word of the log
-pub record Looked (v u : View) : Type 0 where
+pub record OnlyLooks (v u : View) : Type 0 where
   pub extends : Extends v u
   pub count : u.learned.count ≡ v.learned.count
   pub settled : u.learned.settled ≡ v.learned.settled
   pub loads : u.clock.loads ≡ v.clock.loads
 
 -- the second view is the first but for the settled number, which is at least this one
-pub record Raised (v u : View) (number : ℕ) : Type 0 where
+pub record OnlyRaises (v u : View) (number : ℕ) : Type 0 where
   pub extends : Extends v u
   pub reaches : number ≤ u.learned.settled
   pub count : u.learned.count ≡ v.learned.count
   pub loads : u.clock.loads ≡ v.clock.loads
 
 -- the second view is the first but for the tail and what was learned since; no word of the log was loaded
-pub record Settles (v u : View) : Type 0 where
+pub record OnlySettles (v u : View) : Type 0 where
   pub learns : Learns v u
   pub clock : IsLater v.clock u.clock
   pub loads : u.clock.loads ≡ v.clock.loads

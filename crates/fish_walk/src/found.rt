@@ -5,7 +5,7 @@ ghost use Rattle.fish_rule.specs.Passes.{IsPassOf, view};
 ghost use Rattle.fish_rule.specs.Reading.{CanLook, IsAlone, after_end, after_look};
 ghost use Rattle.fish_rule.specs.Table.{Sees};
 ghost use Rattle.fish_rule.specs.World.{high};
-ghost use Rattle.fish_walk.specs.Looks.{IsCount, IsEntryLook, look_of};
+ghost use Rattle.fish_walk.specs.Looks.{IsTailCount, IsEntryLook, look_of};
 ghost use Rattle.fish_walk.specs.declared.outcome.Look.TheVariants.{Unfinished};
 
 use crate::outcome::{Look, told_by};
@@ -32,7 +32,7 @@ pub fn count_now(log: &Log, pass: &mut Pass) -> u32
     ensures view { (x : ℕ) × (view pass.new ≡ after_end (view pass.old) x) × (result ≡ high x) }
     ensures counted { (view pass.old).learned.count ≤ result }
     ensures settled { (view pass.old).learned.settled ≤ result }
-    ensures rests { (view pass.old).lane ≡ 1 → (view pass.old).out ≡ [] → IsCount result (view pass.old).tail }
+    ensures rests { (view pass.old).lane ≡ 1 → (view pass.old).out ≡ [] → IsTailCount result (view pass.old).tail }
 {
     load_tail(log, pass).number as u32
 }

@@ -3,8 +3,8 @@
 ghost use Rattle.std.specs.Prelude.{◌≡◌, ◌≤◌, min};
 ghost use Rattle.fish_rule.specs.Passes.{IsPassOf, view};
 ghost use Rattle.fish_rule.specs.Reading.{CanRaise, IsAlone};
-ghost use Rattle.fish_walk.specs.Settling.{AreSettled, CanSettle, EndsAt, HasCounted, HasTail, IsEnd, IsMark, Looked, Raised};
-ghost use Rattle.fish_walk.specs.Settling.{Settles, StopsAt};
+ghost use Rattle.fish_walk.specs.Settling.{AreSettled, CanSettle, EndsAt, HasLoadedCount, HasTail, IsEnd, IsMark, OnlyLooks, OnlyRaises};
+ghost use Rattle.fish_walk.specs.Settling.{OnlySettles, StopsAt};
 
 use crate::found::{count_now, look};
 use crate::outcome::Look;
@@ -25,10 +25,10 @@ pub struct Settled {
 pub fn settle(log: &Log, pass: &mut Pass) -> Settled
     requires pass { IsPassOf log.now pass.old }
     ensures pass { IsPassOf log.now pass.new }
-    ensures settles { Settles (view pass.old) (view pass.new) }
+    ensures settles { OnlySettles (view pass.old) (view pass.new) }
     ensures rises { (view pass.old).learned.settled ≤ result.settled }
     ensures settled { result.settled ≤ (view pass.new).learned.settled }
-    ensures count { HasCounted (view pass.old) (view pass.new) result.count }
+    ensures count { HasLoadedCount (view pass.old) (view pass.new) result.count }
     ensures stops { StopsAt IsEnd (view pass.old) (view pass.new) result.settled result.count }
     ensures alone { IsAlone (view pass.old)
         → StopsAt IsMark (view pass.old) (view pass.new) result.settled result.count }
@@ -48,7 +48,7 @@ fn settled_up_to(log: &Log, pass: &mut Pass, first: u32, count: u32) -> u32
     requires pass { IsPassOf log.now pass.old }
     requires can { CanSettle (view pass.old) first count }
     ensures pass { IsPassOf log.now pass.new }
-    ensures looked { Looked (view pass.old) (view pass.new) }
+    ensures looked { OnlyLooks (view pass.old) (view pass.new) }
     ensures from { min first count ≤ result }
     ensures settled { AreSettled (view pass.new) first result }
     ensures stops { StopsAt IsEnd (view pass.old) (view pass.new) result count }
@@ -70,7 +70,7 @@ fn raise_to(log: &Log, pass: &mut Pass, known: u64, number: u64)
     requires can { CanRaise (view pass.old) number }
     requires known { (view pass.old).learned.settled ≡ known }
     ensures pass { IsPassOf log.now pass.new }
-    ensures raised { Raised (view pass.old) (view pass.new) number }
+    ensures raised { OnlyRaises (view pass.old) (view pass.new) number }
 {
     if known < number {
         raise_settled(log, pass, number);

@@ -7,7 +7,7 @@ ghost use Rattle.fish_rule.specs.Reading.{CanLook};
 ghost use Rattle.fish_rule.specs.Views.{Among};
 ghost use Rattle.fish_rule.specs.declared.view.Found.{Found};
 ghost use Rattle.fish_rule.specs.declared.view.Kind.TheVariants.{Stored};
-ghost use Rattle.fish_walk.specs.Looks.{IsCounted};
+ghost use Rattle.fish_walk.specs.Looks.{CountsLoads};
 
 use fish_catalog::Entry;
 use fish_layout::{Payload, read_payload};
@@ -33,7 +33,7 @@ pub fn read_entry<L: Ledger>(
     ensures extends { Extends (view pass.old) (view pass.new) }
     ensures entry { IfOk result (Tells (view pass.new) number) }
     ensures loads { loads.old + 1 ≤ loads.new }
-    ensures counted { IfOk result (λ _. IsCounted (view pass.old) (view pass.new) number loads.old loads.new) }
+    ensures counted { IfOk result (λ _. CountsLoads (view pass.old) (view pass.new) number loads.old loads.new) }
 {
     loads.tick();
     let word = look_at(log, pass, u64::from(number));

@@ -11,36 +11,14 @@ use Rattle.fish_layout.specs.Bytes.{word_at}
 use Rattle.fish_catalog.specs.declared.listed.Listed.{Listed}
 use Rattle.fish_catalog.specs.declared.row.CatRow.{CatRow}
 use Rattle.fish_layout.proofs.Clearing.{choose_first, choose_second}
+use Rattle.fish_epoch.proofs.Rounds.{learns_version}
 use Rattle.fish_rule.specs.Entering.{CanBump, CanDefine, after_bump, after_define, after_version, next_operation}
 use Rattle.fish_rule.specs.Epochs.{confirmed}
-use Rattle.fish_rule.specs.Logs.{Learns}
 use Rattle.fish_rule.specs.Registry.{AreRowWords, IsOperation, drafted, made, op_at, row_at, row_in, row_spelled}
 use Rattle.fish_rule.specs.declared.view.Epoch.{Epoch}
 use Rattle.fish_rule.specs.declared.view.Epoch.TheVariants.{Out}
-use Rattle.fish_rule.specs.declared.view.Learned.{Learned}
 use Rattle.fish_rule.specs.declared.view.View.{View}
 use Rattle.tests_log.specs.Operations.{HasDrafted, IsRegisteredAs}
-
--- a view of the same table that learned of a later version and nothing else
-learns_version : (v u : View) (version : ℕ) → u.about ≡ v.about → u.learned ≡ record v.learned { version = version }
-    → v.learned.version ≤ version → Learns v u
-learns_version v u version about learned later =
-    let P : Learned → Type 0 = λ l. Learns v (record u { learned = l }) in
-    subst P (sym learned) (record {
-      about = about;
-      count = omega arith;
-      settled = omega arith;
-      version = later;
-      words = λ x is. is;
-      found = λ x is. is;
-      known = λ x is. is;
-      records = λ x is. is;
-      nodes = λ x is. is;
-      lows = λ x is. is;
-      tops = λ x is. is;
-      gaps = λ x is. is;
-      labels = λ x is. is;
-    })
 
 -- the words of an active row behind its boundaries are those of another one of its name and text
 words_else : (row other : CatRow) → row.name ≡ other.name → row.def ≡ other.def → is_active row ≡ is_active other

@@ -1,5 +1,5 @@
 -- Passes between two ingests.
-use Rattle.fish_ingest.specs.Starting.{CanStart}
+use Rattle.fish_ingest.specs.Ingestion.{CanStart}
 use Rattle.fish_rule.specs.Passes.{IsPassOf, view}
 use Rattle.fish_rule.specs.declared.table.Log.{Log}
 use Rattle.fish_rule.specs.declared.table.Pass.{Pass}

@@ -4,9 +4,11 @@
 //! The one definition gives true for every payload here. A record of one entry and at most 8 bytes has 6
 //! words, so it takes two lines, and its entry stands in word 1.
 
-ghost use Rattle.std.specs.Prelude.{◌<◌, ◌≤◌, ◌*◌, IfOk};
+ghost use Rattle.std.specs.Prelude.{◌<◌, ◌≤◌, ◌*◌, All, IfOk};
+ghost use Rattle.fish_catalog.specs.Clamps.{IsClamped};
 ghost use Rattle.fish_rule.specs.Passes.{IsPassOf, view};
 ghost use Rattle.fish_rule.specs.Reading.{IsAlone};
+ghost use Rattle.fish_rule.specs.Start.{CanOpen};
 ghost use Rattle.tests_log.specs.Heads.{AreOlder};
 ghost use Rattle.tests_log.specs.Lanes.{IsOutOf};
 
@@ -15,7 +17,7 @@ use crate::expecting::expect;
 use crate::lanes::store;
 use crate::nodes::{BUCKET, expect_nodes};
 use crate::openings::{ONE_PAGE, defined, left};
-use fish_catalog::{Entries, PageStart};
+use fish_catalog::{Catalog, Entries, PageStart};
 use fish_chain::{Node, walk_rest};
 use fish_epoch::{Defs, enter, leave};
 use fish_ingest::IngestRefusal;
@@ -155,6 +157,38 @@ fn expect_heads<R: Abort>(rt: &R, case: &Case, heads: &[u64]) {
     expect(rt, "buckets with a head", &others, &1);
 }
 
+/// The catalogue with the definition, for a log that begins at a number.
+fn catalog_at(alloc: Global, number: u32) -> Result<Catalog, Fail>
+    ensures { IfOk result (λ catalog. All (IsClamped number) catalog) }
+{
+    let (first, defs) = defined(alloc, ONE_PAGE, SOURCES)?;
+    drop(defs);
+    let Start { mut catalog, .. } = first;
+    catalog.clamp(number);
+    Ok(catalog)
+}
+
+/// The start of a case, with these heads.
+fn start_with(alloc: Global, base: Base, heads: Numbers64) -> Result<Start, Fail>
+    requires number { base.number ≤ 268435439 }
+    requires line { base.line ≤ 68719176736 }
+    requires heads { AreOlder base.line 16 heads }
+    ensures { IfOk result (CanOpen ONE_PAGE) }
+{
+    match catalog_at(alloc, base.number) {
+        Ok(catalog) => Ok(Start {
+            base,
+            heads,
+            catalog,
+            version: VERSION,
+        }),
+        Err(fail) => {
+            drop(heads);
+            Err(fail)
+        }
+    }
+}
+
 /// The log of a case, and its control pass.
 fn opened(alloc: Global, case: &Case) -> Result<(Log, Pass), Fail>
     ensures out { IfOk result (λ r. IsOutOf r.0 r.1) }
@@ -165,21 +199,7 @@ fn opened(alloc: Global, case: &Case) -> Result<(Log, Pass), Fail>
         return Err(Fail::new("no base"));
     }
     let heads = heads_of(alloc, case.head, line)?;
-    let (first, defs) = defined(alloc, ONE_PAGE, SOURCES)?;
-    drop(defs);
-    let Start {
-        base: _,
-        heads: _,
-        mut catalog,
-        version: _,
-    } = first;
-    catalog.clamp(case.base.number);
-    let start = Start {
-        base: case.base,
-        heads,
-        catalog,
-        version: VERSION,
-    };
+    let start = start_with(alloc, case.base, heads)?;
     let opened = open_log(alloc, ONE_PAGE, &start);
     drop(start);
     Ok(opened?)
@@ -204,26 +224,61 @@ fn expect_walk<R: Abort>(
     Ok(())
 }
 
-/// Asserts the numbers, the walk and the closed log of one case.
-fn expect_case<R: Abort>(rt: &R, alloc: Global, case: &Case) -> Result<(), Fail> {
-    let (log, mut main) = opened(alloc, case)?;
-    let version = enter(&log, &mut main);
-    leave(&log, &mut main);
+/// Asserts the version, the numbers and the walk of an open log.
+fn expect_open<R: Abort>(
+    rt: &R,
+    alloc: Global,
+    log: &Log,
+    pass: &mut Pass,
+    case: &Case,
+) -> Result<(), Fail>
+    requires out { IsOutOf log.now pass.old }
+    requires alone { IsAlone (view pass.old) }
+    ensures pass { IsPassOf log.now pass.new }
+    ensures alone { IsAlone (view pass.new) }
+{
+    let version = enter(log, pass);
+    leave(log, pass);
     expect(rt, "the version", &version, &VERSION);
     let first = case.base.number;
-    let numbers = stored(alloc, &log, &mut main);
+    let numbers = stored(alloc, log, pass);
     expect(
         rt,
         "numbers",
         &numbers,
         &Ok([first, first.saturating_add(1)]),
     );
-    expect_walk(rt, alloc, &log, &mut main, case)?;
+    expect_walk(rt, alloc, log, pass, case)
+}
+
+/// Closes the log of a case, and asserts what is left of it.
+fn expect_closed<R: Abort>(
+    rt: &R,
+    alloc: Global,
+    log: Log,
+    main: Pass,
+    case: &Case,
+) -> Result<(), Fail>
+    requires pass { IsPassOf log main }
+    requires alone { IsAlone (view main) }
+{
     let remains = left(alloc, log, main)?;
     expect_entries(rt, alloc, &remains.log);
     expect_left(rt, case, &remains);
     drop(remains);
     Ok(())
+}
+
+/// Asserts the open and the closed log of one case.
+fn expect_case<R: Abort>(rt: &R, alloc: Global, case: &Case) -> Result<(), Fail> {
+    let (log, mut main) = opened(alloc, case)?;
+    match expect_open(rt, alloc, &log, &mut main, case) {
+        Ok(()) => expect_closed(rt, alloc, log, main, case),
+        Err(fail) => {
+            drop((log, main));
+            Err(fail)
+        }
+    }
 }
 
 #[test]

@@ -19,15 +19,25 @@ use fish_value::{Form, Sequence, Text};
 use std::alloc::{AllocError, Global};
 use std::test::Fail;
 
-/// An object in JSON that fills a record of so many lines: its words but for the header.
-pub(crate) fn object_of(alloc: Global, lines: u64) -> Result<Text, AllocError> {
-    let mut text = String::new(alloc);
+/// Writes an object in JSON that fills a record of so many lines: its words but for the header.
+fn write_object(text: &mut String, lines: u64) -> Result<(), AllocError> {
     text.push_str("{\"p\":\"")?;
     for _ in 2..lines.saturating_mul(4) {
         text.push_str("payload ")?;
     }
-    text.push_str("\"}")?;
-    Ok(Text::from_string(text))
+    text.push_str("\"}")
+}
+
+/// That object.
+pub(crate) fn object_of(alloc: Global, lines: u64) -> Result<Text, AllocError> {
+    let mut text = String::new(alloc);
+    match write_object(&mut text, lines) {
+        Ok(()) => Ok(Text::from_string(text)),
+        Err(error) => {
+            drop(text);
+            Err(error)
+        }
+    }
 }
 
 /// Whether a payload is a record in JSON.

@@ -6,8 +6,8 @@
 //! entry and `{}` take 2 lines, two and `{"a":false}` take 3.
 
 ghost use Rattle.std.specs.Prelude.{◌≡◌, IfOk};
-ghost use Rattle.fish_ingest.specs.Definitions.{AreDefs};
-ghost use Rattle.fish_ingest.specs.Starting.{CanStart};
+ghost use Rattle.fish_ingest.specs.Preparation.{AreDefs};
+ghost use Rattle.fish_ingest.specs.Ingestion.{CanStart};
 ghost use Rattle.fish_rule.specs.Keys.{AreActive};
 ghost use Rattle.fish_rule.specs.Passes.{IsPassOf, view};
 ghost use Rattle.fish_rule.specs.Seating.{CanSplit};

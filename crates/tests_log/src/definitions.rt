@@ -67,13 +67,21 @@ fn first_row_word(log: &Log, pass: &mut Pass, place: u64) -> Option<u64>
     Some(load_row(log, pass, 0, place))
 }
 
-#[test]
-fn a_log_has_the_words_of_its_catalog(rt: HostRuntime) -> Result<(), Fail> {
-    let alloc = rt.alloc();
-    let start = Start::first(alloc, ONE_PAGE, one_row(alloc, "kind", "take type")?)?;
+/// A log of one page with one definition, by its name and its source, and its control pass.
+fn one_row_log(alloc: Global, name: &str, source: &str) -> Result<(Log, Pass), Fail>
+    ensures pass { IfOk result (λ r. IsPassOf r.0 r.1) }
+    ensures row { IfOk result (λ r. 0 < length (view r.1).about.rows.value) }
+{
+    let catalog = one_row(alloc, name, source)?;
+    let start = Start::first(alloc, ONE_PAGE, catalog)?;
     let opened = open_log(alloc, ONE_PAGE, &start);
     drop(start);
-    let (log, mut main) = opened?;
+    Ok(opened?)
+}
+
+#[test]
+fn a_log_has_the_words_of_its_catalog(rt: HostRuntime) -> Result<(), Fail> {
+    let (log, mut main) = one_row_log(rt.alloc(), "kind", "take type")?;
     let rows = load_opened(&log, &mut main);
     expect(&rt, "rows", &rows, &1);
     expect_row(&rt, &log, &mut main);

@@ -1,7 +1,9 @@
 //! Entries as they are read back: by number while a log is open, and of the closed log.
 
-ghost use Rattle.std.specs.Prelude.{◌≡◌, ◌<◌, []};
-ghost use Rattle.fish_rule.specs.Passes.{IsPassOf};
+ghost use Rattle.std.specs.Prelude.{◌≡◌, ◌<◌, [], IfOk};
+ghost use Rattle.fish_rule.specs.Passes.{IsPassOf, view};
+ghost use Rattle.fish_rule.specs.Reading.{IsAlone};
+ghost use Rattle.fish_rule.specs.Table.{first_view};
 ghost use Rattle.tests_log.specs.Lanes.{IsOutOf};
 
 use crate::bodies::{object_of, store_lines};
@@ -155,13 +157,36 @@ fn both_stored(alloc: Global, log: &Log, pass: &mut Pass) -> Result<(u32, u32), 
     }
 }
 
+/// A lane that is given out stores both payloads, and is taken back. Their numbers.
+fn both_by_lane(alloc: Global, log: &Log, main: &mut Pass) -> Result<(u32, u32), Fail>
+    requires pass { IsPassOf log.now main.old }
+    requires first { view main.old ≡ first_view log.now.key }
+    ensures pass { IsPassOf log.now main.new }
+    ensures alone { IfOk result (λ _. IsAlone (view main.new)) }
+{
+    let mut other = split_lane(log, main, LANE);
+    match both_stored(alloc, log, &mut other) {
+        Ok(numbers) => {
+            take_back(log, main, other, LANE)?;
+            Ok(numbers)
+        }
+        Err(fail) => {
+            drop(other);
+            Err(fail)
+        }
+    }
+}
+
 /// A log in which a lane stored both payloads, as it is closed, and their numbers.
 fn closed_behind_both(alloc: Global) -> Result<(Entries, (u32, u32)), Fail> {
     let (log, mut main) = defined_log(alloc, &["take type", "take $1"])?;
-    let mut other = split_lane(&log, &mut main, LANE);
-    let numbers = both_stored(alloc, &log, &mut other)?;
-    take_back(&log, &mut main, other, LANE)?;
-    Ok((closed(alloc, log, main)?, numbers))
+    match both_by_lane(alloc, &log, &mut main) {
+        Ok(numbers) => Ok((closed(alloc, log, main)?, numbers)),
+        Err(fail) => {
+            drop((log, main));
+            Err(fail)
+        }
+    }
 }
 
 /// Whether the entry at a number is this one.

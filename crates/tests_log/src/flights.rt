@@ -3,10 +3,10 @@
 //! What can't be fails as a want of memory does.
 
 ghost use Rattle.std.specs.Prelude.{◌≡◌, ◌<◌, IfOk, None, ℕ};
-ghost use Rattle.fish_ingest.specs.Definitions.{AreDefs};
-ghost use Rattle.fish_ingest.specs.Records.{IsOrigin, IsPreparedFor};
-ghost use Rattle.fish_ingest.specs.Starting.{CanStart};
-ghost use Rattle.fish_ingest.specs.Writing.{CanWrite};
+ghost use Rattle.fish_ingest.specs.Preparation.{AreDefs};
+ghost use Rattle.fish_ingest.specs.Preparation.{IsOrigin, IsPreparedFor};
+ghost use Rattle.fish_ingest.specs.Ingestion.{CanStart};
+ghost use Rattle.fish_ingest.specs.Placement.{CanWrite};
 ghost use Rattle.fish_rule.specs.Keys.{AreActive};
 ghost use Rattle.fish_rule.specs.Passes.{IsPassOf, view};
 ghost use Rattle.fish_rule.specs.declared.view.Flight.{Flight};

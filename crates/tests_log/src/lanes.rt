@@ -1,7 +1,7 @@
 //! Passes of lanes that store payloads.
 
 ghost use Rattle.std.specs.Prelude.{◌≡◌, ◌≤◌, IfOk};
-ghost use Rattle.fish_ingest.specs.Starting.{CanIngest};
+ghost use Rattle.fish_ingest.specs.Ingestion.{CanIngest};
 ghost use Rattle.fish_rule.specs.Passes.{IsPassOf, view};
 ghost use Rattle.fish_rule.specs.Seating.{CanSplit, split_left, without};
 ghost use Rattle.fish_rule.specs.Views.{Among};

@@ -3,7 +3,7 @@
 ghost use Rattle.std.specs.Prelude.{◌≡◌, ◌≤◌, [], All, IfOk, OnOk};
 ghost use Rattle.fish_catalog.specs.Canonical.{IsCanonical};
 ghost use Rattle.fish_catalog.specs.Rows.{IsName};
-ghost use Rattle.fish_ingest.specs.Definitions.{AreDefs};
+ghost use Rattle.fish_ingest.specs.Preparation.{AreDefs};
 ghost use Rattle.fish_lang.specs.Canonical.{definition_text};
 ghost use Rattle.fish_lang.specs.Definition.{definition_of};
 ghost use Rattle.fish_lang.specs.Language.{IsAccepted};

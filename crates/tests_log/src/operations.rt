@@ -6,7 +6,7 @@
 ghost use Rattle.std.specs.Prelude.{◌≡◌, ◌<◌, [], IfOk, IfSome, length};
 ghost use Rattle.fish_catalog.specs.Listing.{IsNew};
 ghost use Rattle.fish_catalog.specs.Rows.{IsRow};
-ghost use Rattle.fish_ingest.specs.Starting.{CanIngest};
+ghost use Rattle.fish_ingest.specs.Ingestion.{CanIngest};
 ghost use Rattle.fish_rule.specs.Logs.{Learns};
 ghost use Rattle.fish_rule.specs.Passes.{IsPassOf, view};
 ghost use Rattle.fish_rule.specs.declared.view.Epoch.TheVariants.{Out};
@@ -101,6 +101,39 @@ fn register_first(alloc: Global, log: &Log, pass: &mut Pass) -> Result<u64, Fail
     }
 }
 
+/// Asserts the number that a payload without fields gets.
+fn expect_stored<R: Abort>(
+    rt: &R,
+    alloc: Global,
+    log: &Log,
+    pass: &mut Pass,
+    defs: &mut Defs,
+    want: u32,
+)
+    requires { CanIngest log.now pass.old defs.old }
+    ensures ready { CanIngest log.now pass.new defs.new }
+    ensures lane { (view pass.new).lane ≡ (view pass.old).lane }
+    ensures rows { (view pass.new).rows ≡ (view pass.old).rows }
+{
+    let number = store(alloc, log, pass, defs, b"{}");
+    expect(rt, "the number", &number, &Ok(want));
+}
+
+/// Asserts what a pass finds behind the operation: the definition, and a record with a key.
+fn expect_behind<R: Abort>(
+    rt: &R,
+    alloc: Global,
+    log: &Log,
+    pass: &mut Pass,
+    defs: &mut Defs,
+) -> Result<(), Fail>
+    requires { CanIngest log.now pass.old defs.old }
+{
+    expect_stored(rt, alloc, log, pass, defs, 1);
+    expect_active(rt, alloc, defs, 1, &[SOURCE]);
+    expect_nodes(rt, alloc, log, pass, (0, 2), NODES)
+}
+
 /// Asserts what a pass finds in front of the operation and behind it.
 fn expect_operation<R: Abort>(
     rt: &R,
@@ -113,22 +146,11 @@ fn expect_operation<R: Abort>(
     requires control { (view pass.old).lane ≡ 1 }
     requires none { (view pass.old).rows ≡ [] }
 {
-    expect(
-        rt,
-        "without a key",
-        &store(alloc, log, pass, defs, b"{}"),
-        &Ok(0),
-    );
+    expect_stored(rt, alloc, log, pass, defs, 0);
     expect_active(rt, alloc, defs, 0, &[]);
-    expect(rt, "the version", &register_first(alloc, log, pass)?, &1);
-    expect(
-        rt,
-        "with a key",
-        &store(alloc, log, pass, defs, b"{}"),
-        &Ok(1),
-    );
-    expect_active(rt, alloc, defs, 1, &[SOURCE]);
-    expect_nodes(rt, alloc, log, pass, (0, 2), NODES)
+    let version = register_first(alloc, log, pass)?;
+    expect(rt, "the version", &version, &1);
+    expect_behind(rt, alloc, log, pass, defs)
 }
 
 #[test]

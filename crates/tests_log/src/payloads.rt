@@ -2,8 +2,8 @@
 //! that another program packed by the table of bits.
 
 ghost use Rattle.std.specs.Prelude.{All, IfOk, IsTrue};
-ghost use Rattle.fish_ingest.specs.Definitions.{AreDefs};
-ghost use Rattle.fish_ingest.specs.Records.{IsOrigin};
+ghost use Rattle.fish_ingest.specs.Preparation.{AreDefs};
+ghost use Rattle.fish_ingest.specs.Preparation.{IsOrigin};
 ghost use Rattle.fish_rule.specs.Keys.{IsWritten};
 
 use crate::expecting::{expect, expect_text};

@@ -4,7 +4,7 @@
 //! behind two on the first page of 32,768 lines.
 
 ghost use Rattle.std.specs.Prelude.{IfOk};
-ghost use Rattle.fish_ingest.specs.Starting.{CanIngest};
+ghost use Rattle.fish_ingest.specs.Ingestion.{CanIngest};
 ghost use Rattle.fish_rule.specs.Start.{IsShape};
 ghost use Rattle.tests_log.specs.Lanes.{IsOutOf};
 

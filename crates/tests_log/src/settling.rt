@@ -1,12 +1,14 @@
 //! How far the numbers are settled while a record is in flight, once it is published, and at the
 //! log's end.
 
-ghost use Rattle.std.specs.Prelude.{◌≡◌, []};
-ghost use Rattle.fish_rule.specs.Passes.{IsPassOf};
+ghost use Rattle.std.specs.Prelude.{◌≡◌, [], IfOk};
+ghost use Rattle.fish_rule.specs.Passes.{IsPassOf, view};
+ghost use Rattle.tests_log.specs.Bodies.{IsPlainBody};
 
 use crate::bodies::{claim_words, publish_words, store_lines};
 use crate::expecting::expect;
 use crate::openings::{ONE_PAGE, TWO_PAGES, empty_log};
+use fish_layout::Body;
 use fish_rule::{Base, Log, Pass, lane, split_pass};
 use fish_walk::{Settled, settle};
 use std::alloc::Global;
@@ -26,6 +28,30 @@ fn settled_by(log: &Log, pass: &mut Pass) -> Result<Settled, Fail>
     Ok(settle(log, pass))
 }
 
+/// Claims a line. The words of a record that is placed there.
+fn words_of_line(alloc: Global, log: &Log, pass: &mut Pass) -> Result<Body, Fail>
+    requires pass { IsPassOf log.now pass.old }
+    requires rows { log.now.key.rows.value ≡ [] }
+    ensures pass { IsPassOf log.now pass.new }
+    ensures words { IfOk result (IsPlainBody (view pass.new)) }
+{
+    let (_, words) = claim_words(alloc, log, pass, 1)?;
+    match words {
+        Some(words) => Ok(words),
+        None => Err(Fail::new("no place")),
+    }
+}
+
+/// What a pass settles once it stored a record of one line.
+fn settled_behind(alloc: Global, log: &Log, pass: &mut Pass) -> Result<Settled, Fail>
+    requires pass { IsPassOf log.now pass.old }
+    requires rows { log.now.key.rows.value ≡ [] }
+    ensures { IsPassOf log.now pass.new }
+{
+    store_lines(alloc, log, pass, 1)?;
+    settled_by(log, pass)
+}
+
 /// What one pass settles while another has a record of one line in flight, and what it settles
 /// once that is published. In between it stores one itself.
 fn settled_around(
@@ -40,13 +66,11 @@ fn settled_around(
     ensures other { IsPassOf log.now other.new }
     ensures pass { IsPassOf log.now pass.new }
 {
-    let (_, Some(words)) = claim_words(alloc, log, other, 1)? else {
-        return Err(Fail::new("no place"));
-    };
-    store_lines(alloc, log, pass, 1)?;
-    let before = settled_by(log, pass)?;
+    let words = words_of_line(alloc, log, other)?;
+    let before = settled_behind(alloc, log, pass);
     publish_words(log, other, words.as_slice());
-    Ok((before, settled_by(log, pass)?))
+    drop(words);
+    Ok((before?, settled_by(log, pass)?))
 }
 
 /// What two passes settle: the second at first, while the other has a record in flight and once that is

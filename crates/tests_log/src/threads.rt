@@ -7,8 +7,8 @@
 //! end and that of line 65,475 the second's, so two of them are voids.
 
 ghost use Rattle.std.specs.Prelude.{◌≡◌, ◌<◌, ◌≤◌, ◌∷◌, [], All, None, IfOk, length};
-ghost use Rattle.fish_ingest.specs.Definitions.{AreDefs};
-ghost use Rattle.fish_ingest.specs.Starting.{CanIngest, CanStart};
+ghost use Rattle.fish_ingest.specs.Preparation.{AreDefs};
+ghost use Rattle.fish_ingest.specs.Ingestion.{CanIngest, CanStart};
 ghost use Rattle.fish_rule.specs.Keys.{AreActive};
 ghost use Rattle.fish_rule.specs.Passes.{IsPassOf, view};
 ghost use Rattle.fish_rule.specs.Reading.{IsAlone};
@@ -62,25 +62,31 @@ fn tails_at_once<R: Threads + Sync>(rt: &R, log: &Log, main: &mut Pass) -> [Posi
     [here, there, load_tail(log, main)]
 }
 
+/// Asserts what both passes load, and what an empty log is.
+fn expect_shared<R: Threads + Sync + Abort>(rt: &R, log: &Log, main: &mut Pass)
+    requires pass { IsPassOf log.now main.old }
+    requires first { view main.old ≡ first_view log.now.key }
+{
+    let tails = tails_at_once(rt, log, main);
+    expect(rt, "tails", &tails, &[NEXT, NEXT, NEXT]);
+    expect(rt, "shut", &is_shut(main), &None);
+    expect(rt, "the shape", &shape(log), &ONE_PAGE);
+    expect(rt, "the base", &base(log), &FIRST);
+}
+
 #[test]
 fn two_threads_share_a_log(rt: HostRuntime) -> Result<(), Fail> {
     let (log, mut main) = empty_log(rt.alloc(), ONE_PAGE, FIRST)?;
-    let tails = tails_at_once(&rt, &log, &mut main);
-    let (shut, shape, base) = (is_shut(&main), shape(&log), base(&log));
+    expect_shared(&rt, &log, &mut main);
     drop((log, main));
-    expect(&rt, "tails", &tails, &[NEXT, NEXT, NEXT]);
-    expect(&rt, "shut", &shut, &None);
-    expect(&rt, "the shape", &shape, &ONE_PAGE);
-    expect(&rt, "the base", &base, &FIRST);
     Ok(())
 }
 
 /// The definitions, by id. Values of both fall into five of the 16 buckets.
 const SOURCES: &[&str] = &["take type", "take n"];
 
-/// The payload of a lane's record, by its place in what the lane stores.
-fn payload_of(alloc: Global, lane: u8, place: usize) -> Result<Text, AllocError> {
-    let mut text = String::new(alloc);
+/// Writes the payload of a lane's record, by its place in what the lane stores.
+fn write_payload(text: &mut String, lane: u8, place: usize) -> Result<(), AllocError> {
     let (kind, n, place) = (10 + place % 20, 10 + place % 7, 10_000 + place % 10_000);
     write!(
         text,
@@ -89,8 +95,19 @@ fn payload_of(alloc: Global, lane: u8, place: usize) -> Result<Text, AllocError>
     for _ in 0..285 {
         text.push_str(" payload")?;
     }
-    text.push_str("\"}")?;
-    Ok(Text::from_string(text))
+    text.push_str("\"}")
+}
+
+/// That payload.
+fn payload_of(alloc: Global, lane: u8, place: usize) -> Result<Text, AllocError> {
+    let mut text = String::new(alloc);
+    match write_payload(&mut text, lane, place) {
+        Ok(()) => Ok(Text::from_string(text)),
+        Err(error) => {
+            drop(text);
+            Err(error)
+        }
+    }
 }
 
 /// Stores records until the log is full. How many.
@@ -255,10 +272,19 @@ fn ingest_by_four<R: Threads + Sync>(
 {
     let payload = payload_of(alloc, 1, 0)?;
     let mut seats = split_four(log, main);
-    let first = claimed(alloc, log, main, defs, payload.as_bytes())?;
-    fill_seats(rt, alloc, log, &mut seats);
-    publish_record(log, main, first);
-    take_four(log, main, seats)
+    let first = claimed(alloc, log, main, defs, payload.as_bytes());
+    drop(payload);
+    match first {
+        Ok(first) => {
+            fill_seats(rt, alloc, log, &mut seats);
+            publish_record(log, main, first);
+            take_four(log, main, seats)
+        }
+        Err(error) => {
+            drop(seats);
+            Err(Fail::from(error))
+        }
+    }
 }
 
 /// The entries that walks down all chains give over all settled numbers, and how many these are.
@@ -277,17 +303,60 @@ fn walks(alloc: Global, log: &Log, pass: &mut Pass) -> Result<(Vec<Linked>, u32)
     Ok((found, settled))
 }
 
-/// What the lanes left.
+/// What lanes stored, and what walks found of it.
 #[derive(Drop)]
-struct Left {
+struct Seen {
     /// How many records each of the lanes 2 to 5 stored.
     stored: [usize; 4],
     /// What walks down all chains gave.
     nodes: Vec<Linked>,
     /// How many numbers were settled.
     settled: u32,
-    /// The closed log.
+}
+
+/// The same, and the closed log.
+#[derive(Drop)]
+struct Left {
+    seen: Seen,
     entries: Entries,
+}
+
+/// Four lanes fill an open log.
+fn fill_open<R: Threads + Sync>(
+    rt: &R,
+    alloc: Global,
+    log: &Log,
+    main: &mut Pass,
+    defs: &[ActiveDef],
+) -> Result<Seen, Fail>
+    requires pass { IsPassOf log.now main.old }
+    requires first { view main.old ≡ first_view log.now.key }
+    requires active { AreActive log.now.key.rows.value defs.now }
+    requires defs { AreDefs defs.now }
+    ensures pass { IsPassOf log.now main.new }
+    ensures alone { IfOk result (λ _. IsAlone (view main.new)) }
+{
+    let stored = ingest_by_four(rt, alloc, log, main, defs)?;
+    let (nodes, settled) = walks(alloc, log, main)?;
+    Ok(Seen {
+        stored,
+        nodes,
+        settled,
+    })
+}
+
+/// Closes a log that was filled.
+fn close_filled(alloc: Global, log: Log, main: Pass, seen: Seen) -> Result<Left, Fail>
+    requires pass { IsPassOf log main }
+    requires alone { IsAlone (view main) }
+{
+    match closed(alloc, log, main) {
+        Ok(entries) => Ok(Left { seen, entries }),
+        Err(fail) => {
+            drop(seen);
+            Err(fail)
+        }
+    }
 }
 
 /// Opens a log that begins so, and lets four lanes fill it.
@@ -302,15 +371,13 @@ fn filled<R: Threads + Sync>(
     requires defs { AreDefs defs.now }
 {
     let (log, mut main) = open_log(alloc, THREE_PAGES, start)?;
-    let stored = ingest_by_four(rt, alloc, &log, &mut main, defs)?;
-    let (nodes, settled) = walks(alloc, &log, &mut main)?;
-    let entries = closed(alloc, log, main)?;
-    Ok(Left {
-        stored,
-        nodes,
-        settled,
-        entries,
-    })
+    match fill_open(rt, alloc, &log, &mut main, defs) {
+        Ok(seen) => close_filled(alloc, log, main, seen),
+        Err(fail) => {
+            drop((log, main));
+            Err(fail)
+        }
+    }
 }
 
 /// How many entries a lane stored, where they are its records in order and with nothing lost.
@@ -355,20 +422,23 @@ fn expect_chains<R: Abort>(
     defs: &[ActiveDef],
 ) -> Result<(), Fail> {
     let links = links_of(alloc, defs, &left.entries)?;
-    let chains = links_in(alloc, links.as_slice())?;
-    let same = left.nodes.as_slice() == chains.as_slice();
+    let chains = links_in(alloc, links.as_slice());
+    drop(links);
+    let chains = chains?;
+    let same = left.seen.nodes.as_slice() == chains.as_slice();
+    drop(chains);
     expect(rt, "the chains of the log", &same, &true);
     Ok(())
 }
 
 /// Asserts what the lanes left.
 fn expect_left<R: Abort>(rt: &R, alloc: Global, left: &Left) -> Result<(), Fail> {
-    let [second, third, fourth, fifth] = left.stored;
+    let [second, third, fourth, fifth] = left.seen.stored;
     let stored = stored_by_each(alloc, &left.entries)?;
     expect(rt, "records", &stored, &[1, second, third, fourth, fifth]);
-    expect(rt, "settled", &left.settled, &1_310);
+    expect(rt, "settled", &left.seen.settled, &1_310);
     expect(rt, "entries", &left.entries.len(), &1_310);
-    expect(rt, "nodes", &left.nodes.len(), &2_616);
+    expect(rt, "nodes", &left.seen.nodes.len(), &2_616);
     Ok(())
 }
 

@@ -3,7 +3,7 @@ use Rattle.std.proofs.Common.{List, ◌∙◌, sym, subst}
 use Rattle.bench.proofs.Splitting.{first_controls}
 use Rattle.fish_catalog.specs.Rows.{IsCatalog}
 use Rattle.fish_catalog.specs.declared.row.CatRow.{CatRow}
-use Rattle.fish_ingest.proofs.Active.{active_clamped, active_defs}
+use Rattle.fish_ingest.proofs.PreparationDefs.{active_clamped, active_defs}
 use Rattle.fish_rule.specs.Keys.{AreActive}
 use Rattle.fish_rule.specs.Passes.{view}
 use Rattle.bench.proofs.opening.open.Goals as goal

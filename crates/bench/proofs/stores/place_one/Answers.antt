@@ -1,8 +1,8 @@
 -- The record is written into the lines of its claim, and published; the pass stays entered, whatever the claim became.
 use Rattle.std.proofs.Common.{arith}
 use Rattle.bench.proofs.Placing.{can_place, entered_published, flying, lane_published}
-use Rattle.fish_ingest.proofs.Claiming.{trying_begins, trying_placed}
-use Rattle.fish_ingest.proofs.Places.{can_write, few_lines_of, placed_flight}
+use Rattle.fish_ingest.proofs.PlacementClaims.{trying_begins, trying_placed}
+use Rattle.fish_ingest.proofs.PlacementRecord.{can_write, few_lines_of, placed_flight}
 use Rattle.fish_rule.specs.Passes.{view}
 use Rattle.fish_rule.specs.Steps.{flight_at}
 use Rattle.bench.proofs.stores.place_one.Goals as goal

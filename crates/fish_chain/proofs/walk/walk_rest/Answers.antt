@@ -1,5 +1,5 @@
 -- The walk stands where nothing of the table is left, which is the start's head.
-use Rattle.std.proofs.Common.{◌≡◌, ◌≤◌, ℕ, ap, ◌∙◌, subst, sym}
+use Rattle.std.proofs.Common.{◌≡◌, ◌≤◌, ap, ◌∙◌, subst, sym}
 use Rattle.fish_chain.proofs.Descents.{rests_at}
 use Rattle.fish_rule.specs.Parts.{IsOlder, first_head}
 use Rattle.fish_rule.specs.Passes.{view, walk_of}

@@ -9,7 +9,7 @@ use Rattle.fish_rule.specs.declared.view.Key.{Key}
 use Rattle.fish_rule.specs.declared.view.View.{View}
 use Rattle.fish_epoch.proofs.Reading.{known_listing, made_registered, operation_read, reads_both}
 use Rattle.fish_epoch.proofs.Reading.{reads_word, registered_known}
-use Rattle.fish_epoch.specs.Rows.{OnlyReads}
+use Rattle.fish_epoch.specs.Rows.{HasRow, OnlyReads}
 use Rattle.fish_epoch.proofs.rows.make.Goals as goal
 
 -- the operation that was read, by the version that it made
@@ -22,29 +22,32 @@ operation v u p version x e is = subst (λ (z : ℕ). Among (record { index = op
 from_here : (k : Key) (v : View) (n : ℕ) → v.about ≡ k → k.version ≤ n → v.about.version ≤ n
 from_here k v n about from = subst (λ (z : Key). z.version ≤ n) (sym about) from
 
+-- to read the operation and then the row only reads
+reads_row : (v u t : View) (p x : ℕ) → u ≡ Rattle.fish_rule.specs.Entering.after_registry v p x → OnlyReads u t → OnlyReads v t
+reads_row v u t p x e = reads_both v u t (reads_word v u p x e)
+
 pub registered_row-requires-clause-row : goal.registered_row-requires-clause-row
 registered_row-requires-clause-row c =
     let v = view c.args.pass.now in
     let u = view c.load_operation-operation.new.pass in
     let load = c.load_operation-operation.ensures.view in
+    let from = from_here c.args.log.now.key v c.args.version c.requires.pass.about c.requires.first in
     let size : length c.args.rows.now.items ≡ length c.as_slice.result.now =
     ap (λ (z : List Listed). length z) (sym c.as_slice.ensures.value) in
     subst (KnowsRow u.about u.learned) size
     (registered_known v u c.args.version c.load_operation-operation.result c.args.rows.now.items
-    (reads_word v u _ _ load).extends.learns (from_here c.args.log.now.key v c.args.version c.requires.pass.about c.requires.first) c.requires.reached
+    (reads_word v u _ _ load).extends.learns from c.requires.reached
     (operation v u _ c.args.version _ (omega arith) load) c.requires.rows c.if-operation-lt512.true)
 
 pub returns-in_err-row-clause-reads : goal.returns-in_err-row-clause-reads
 returns-in_err-row-clause-reads c =
-    let u = view c.load_operation-operation.new.pass in
-    reads_both (view c.args.pass.now) u (view c.registered_row.new.pass)
-    (reads_word (view c.args.pass.now) u _ _ c.load_operation-operation.ensures.view) c.registered_row.ensures.reads
+    reads_row (view c.args.pass.now) (view c.load_operation-operation.new.pass) (view c.registered_row.new.pass) _ _
+    c.load_operation-operation.ensures.view c.registered_row.ensures.reads
 
 pub returns-in_err-push-clause-reads : goal.returns-in_err-push-clause-reads
 returns-in_err-push-clause-reads c =
-    let u = view c.load_operation-operation.new.pass in
-    reads_both (view c.args.pass.now) u (view c.registered_row.new.pass)
-    (reads_word (view c.args.pass.now) u _ _ c.load_operation-operation.ensures.view) c.registered_row.ensures.reads
+    reads_row (view c.args.pass.now) (view c.load_operation-operation.new.pass) (view c.registered_row.new.pass) _ _
+    c.load_operation-operation.ensures.view c.registered_row.ensures.reads
 
 pub end_row-requires : goal.end_row-requires
 end_row-requires c = subst IsListing (sym c.as_mut_slice.ensures.value)
@@ -52,9 +55,8 @@ end_row-requires c = subst IsListing (sym c.as_mut_slice.ensures.value)
 
 pub returns-in_ok-push-clause-reads : goal.returns-in_ok-push-clause-reads
 returns-in_ok-push-clause-reads c =
-    let u = view c.load_operation-operation.new.pass in
-    reads_both (view c.args.pass.now) u (view c.registered_row.new.pass)
-    (reads_word (view c.args.pass.now) u _ _ c.load_operation-operation.ensures.view) c.registered_row.ensures.reads
+    reads_row (view c.args.pass.now) (view c.load_operation-operation.new.pass) (view c.registered_row.new.pass) _ _
+    c.load_operation-operation.ensures.view c.registered_row.ensures.reads
 
 pub returns-in_ok-push-clause-rows : goal.returns-in_ok-push-clause-rows
 returns-in_ok-push-clause-rows c =
@@ -62,11 +64,12 @@ returns-in_ok-push-clause-rows c =
     let u = view c.load_operation-operation.new.pass in
     let t = view c.registered_row.new.pass in
     let load = c.load_operation-operation.ensures.view in
+    let from = from_here c.args.log.now.key v c.args.version c.requires.pass.about c.requires.first in
     let size : length c.args.rows.now.items ≡ length c.as_slice.result.now =
     ap (λ (z : List Listed). length z) (sym c.as_slice.ensures.value) in
     subst (KnowsDefinitions t.about t.learned (suc c.args.version)) (sym c.in_ok-push.ensures.items)
     (made_registered v u c.args.version c.load_operation-operation.result c.args.rows.now.items
-    (reads_word v u _ _ load).extends.learns (from_here c.args.log.now.key v c.args.version c.requires.pass.about c.requires.first) c.requires.reached
+    (reads_word v u _ _ load).extends.learns from c.requires.reached
     (operation v u _ c.args.version _ (omega arith) load) c.requires.rows t c.in_ok-row.row
     c.if-operation-lt512.true c.registered_row.ensures.reads.extends.learns
-    (subst (λ (z : ℕ). Rattle.fish_epoch.specs.Rows.HasRow t z c.in_ok-row.row) (sym size) c.in_ok-row.ensures.row))
+    (subst (λ (z : ℕ). HasRow t z c.in_ok-row.row) (sym size) c.in_ok-row.ensures.row))

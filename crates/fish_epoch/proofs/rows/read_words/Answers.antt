@@ -3,7 +3,7 @@ use Rattle.std.proofs.Common.{◌≡◌, ◌∙◌, ℕ, ◌+◌, suc, subst, ar
 use Rattle.std.specs.Prelude.{slice_index, slice_set}
 use Rattle.fish_rule.specs.Passes.{view}
 use Rattle.fish_epoch.proofs.Reading.{reads_both, reads_word, row_later, words_more}
-use Rattle.fish_epoch.specs.Rows.{HasWords}
+use Rattle.fish_epoch.specs.Rows.{HasRowWords}
 use Rattle.fish_epoch.proofs.rows.read_words.Goals as goal
 
 -- the row stays known
@@ -25,7 +25,7 @@ loop-place-preserved c =
       reads = reads_both (view c.args.pass.now) v u h.reads (reads_word v u _ _ c.load_row.ensures.view);
       wide = length-set c.loop-place.words c.loop-place.place c.load_row.result ∙ h.wide;
       within = (let a = c.loop-place-test.true in omega arith);
-      words = subst (λ (z : ℕ). HasWords u c.args.id z
+      words = subst (λ (z : ℕ). HasRowWords u c.args.id z
           (slice_index (slice_set c.loop-place.words c.loop-place.place c.load_row.result))) more
           (words_more v u c.args.id c.loop-place.place c.load_row.result c.loop-place.words h.wide
           c.loop-place-test.true c.load_row.ensures.view c.load_row.ensures.row h.words);
@@ -36,5 +36,5 @@ pub returns-clause-words : goal.returns-clause-words
 returns-clause-words c =
     let end : c.loop-place.place ≡ 39 = (let a = c.loop-place-test.false in
     let b = c.loop-place.invariant.within in omega arith) in
-    subst (λ (z : ℕ). HasWords (view c.loop-place.pass) c.args.id z (slice_index c.loop-place.words)) end
+    subst (λ (z : ℕ). HasRowWords (view c.loop-place.pass) c.args.id z (slice_index c.loop-place.words)) end
     c.loop-place.invariant.words

@@ -2,7 +2,7 @@
 use Rattle.std.proofs.Common.{◌≡◌, ◌≤◌, length}
 use Rattle.std.specs.Prelude.{slice_index}
 use Rattle.fish_rule.specs.Passes.{IsPassOf, view}
-use Rattle.fish_epoch.specs.Rows.{HasWords, OnlyReads}
+use Rattle.fish_epoch.specs.Rows.{HasRowWords, OnlyReads}
 use Rattle.fish_epoch.proofs.rows.read_words.Given as goal
 
 abbrev pub invariant-loop-place : goal.invariant-loop-place
@@ -11,5 +11,5 @@ invariant-loop-place l = record {
   reads : OnlyReads (view l.fn.pass) (view l.pass);
   wide : length l.words ≡ 39;
   within : l.place ≤ 39;
-  words : HasWords (view l.pass) l.id l.place (slice_index l.words);
+  words : HasRowWords (view l.pass) l.id l.place (slice_index l.words);
 }

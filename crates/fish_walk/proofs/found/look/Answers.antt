@@ -1,5 +1,5 @@
 -- The step's own moment says what stands at a settled number.
-use Rattle.std.proofs.Common.{sym, ap, ◌∙◌, subst, ℕ}
+use Rattle.std.proofs.Common.{sym, subst, ℕ}
 use Rattle.fish_rule.specs.Passes.{view}
 use Rattle.fish_rule.specs.Table.{Sees}
 use Rattle.fish_walk.proofs.Records.{settled_seen}

@@ -1,8 +1,8 @@
 -- The lines of what was prepared are in flight.
 use Rattle.std.proofs.Common.{◌≡◌, ℕ, map, refl, sym, ap, ◌∙◌, subst, arith}
 use Rattle.fish_claim.proofs.Bodies.{placed_law}
-use Rattle.fish_ingest.proofs.Active.{knows_active}
-use Rattle.fish_ingest.proofs.Stored.{body_fills}
+use Rattle.fish_ingest.proofs.PreparationDefs.{knows_active}
+use Rattle.fish_ingest.proofs.PlacementBody.{body_fills}
 use Rattle.fish_rule.specs.Keys.{text_of}
 use Rattle.fish_rule.specs.Passes.{view}
 use Rattle.fish_rule.specs.Registry.{KnowsActive}

@@ -1,6 +1,6 @@
 -- Whatever the answer, the lane may store again.
 use Rattle.std.proofs.Common.{ap}
-use Rattle.fish_ingest.proofs.After.{goes_on}
+use Rattle.fish_ingest.proofs.IngestionAfter.{goes_on}
 use Rattle.fish_rule.specs.Passes.{view}
 use Rattle.fish_rule.specs.declared.view.View.{View}
 use Rattle.tests_log.proofs.lanes.store_as.Goals as goal

@@ -4,13 +4,13 @@ use Rattle.fish_epoch.proofs.Reading.{defs_later}
 use Rattle.fish_rule.specs.Passes.{view}
 use Rattle.tests_log.proofs.operations.expect_operation.Goals as goal
 
-pub store-requires-2 : goal.store-requires-2
-store-requires-2 g c =
-    let told = c.in_ok-register_first.ensures in
+pub expect_behind-requires : goal.expect_behind-requires
+expect_behind-requires g c =
+    let told = c.in_ok-version.ensures in
     let lane = told.lane in
     record {
       of = c.register_first.ensures.pass;
       start = record { live = omega arith; outside = told.outside };
-      read = defs_later (view c.store.new.pass) (view c.register_first.new.pass) c.store.new.defs.known told.learns
-          c.store.ensures.ready.read;
+      read = defs_later (view c.expect_stored.new.pass) (view c.register_first.new.pass) c.expect_stored.new.defs.known told.learns
+          c.expect_stored.ensures.ready.read;
     }

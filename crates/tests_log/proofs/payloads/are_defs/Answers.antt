@@ -1,8 +1,8 @@
 -- At the end no id is left.
 use Rattle.std.proofs.Common.{◌≡◌, ◌≤◌, [], drop, length, map, subst, sym, arith}
 use Rattle.std.proofs.lemmas.List.{drop_all}
-use Rattle.fish_ingest.specs.Definitions.{id_of}
-use Rattle.fish_ingest.proofs.Active.{AscendFrom, defs_ascend}
+use Rattle.fish_ingest.specs.Preparation.{id_of}
+use Rattle.fish_ingest.proofs.PreparationDefs.{AscendFrom, defs_ascend}
 use Rattle.tests_log.proofs.payloads.are_defs.Goals as goal
 
 -- none of them is out of order

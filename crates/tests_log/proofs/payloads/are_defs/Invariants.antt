@@ -1,7 +1,7 @@
 -- Where the ids that are left ascend, all do.
 use Rattle.std.proofs.Common.{drop, map}
-use Rattle.fish_ingest.specs.Definitions.{id_of}
-use Rattle.fish_ingest.proofs.Active.{AscendFrom}
+use Rattle.fish_ingest.specs.Preparation.{id_of}
+use Rattle.fish_ingest.proofs.PreparationDefs.{AscendFrom}
 use Rattle.tests_log.proofs.payloads.are_defs.Given as goal
 
 abbrev pub invariant-loop-active : goal.invariant-loop-active

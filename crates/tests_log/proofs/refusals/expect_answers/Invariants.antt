@@ -1,5 +1,5 @@
 -- The pass may store again.
-use Rattle.fish_ingest.specs.Starting.{CanIngest}
+use Rattle.fish_ingest.specs.Ingestion.{CanIngest}
 use Rattle.tests_log.proofs.refusals.expect_answers.Given as goal
 
 abbrev pub invariant-loop-payload : goal.invariant-loop-payload

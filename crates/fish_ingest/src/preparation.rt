@@ -1,0 +1,173 @@
+//! The words of a record from its payload, before anything is claimed for it.
+
+ghost use Rattle.std.specs.Prelude.{◌≡◌, ◌≤◌, ◌/◌, option_map, IfOk, IfSome, length};
+ghost use Rattle.fish_epoch.specs.Definitions.{IsKnownOf};
+ghost use Rattle.fish_epoch.specs.Rows.{OnlyReads};
+ghost use Rattle.fish_ingest.specs.Preparation.{AreDefs, AreEntriesFor, HasPrepared, IsKey, IsOrigin, IsPreparedFor, IsRead};
+ghost use Rattle.fish_ingest.specs.Preparation.{IsShort};
+ghost use Rattle.fish_layout.specs.Body.{IsProperValue};
+ghost use Rattle.fish_psf.specs.Keys.{key_of};
+ghost use Rattle.fish_read.specs.Rows.{fields_in_row};
+ghost use Rattle.fish_rule.specs.Keys.{property};
+ghost use Rattle.fish_rule.specs.Passes.{IsPassOf, view};
+
+use fish_epoch::Known;
+use fish_layout::{Body, BodyHead, KeyPart, KeyParts, body_from};
+use fish_psf::{ActiveDef, Parsed, eval};
+use fish_read::RecordRow;
+use fish_rule::{Log, Pass, lane};
+use fish_value::{Form, Value};
+use std::alloc::{AllocError, Global};
+
+/// What a record says of where it comes from.
+#[derive(Clone, Copy, Debug, PartialEq, Eq)]
+pub struct Origin {
+    /// The lane that stores it, from 1 on.
+    pub lane: u8,
+    /// The version of the registry under which it is stored.
+    pub version: u16,
+    /// The form of its payload.
+    pub form: Form,
+}
+
+/// The words of a record and its keys, whose hashes say into which chains its entries go.
+#[derive(Debug, Drop)]
+pub struct Prepared {
+    pub(crate) body: Body,
+    pub(crate) keys: KeyParts,
+}
+
+impl Prepared {
+    ghost use Rattle.std.specs.Prelude.{◌≡◌, ◌/◌, length};
+
+    /// Its words, with number 0.
+    pub fn words(&self) -> &[u64]
+        ensures { result.now ≡ self.now.body }
+    {
+        self.body.as_slice()
+    }
+
+    /// How many lines of 32 bytes it takes.
+    pub fn lines(&self) -> u64
+        ensures { result ≡ length self.now.body / 4 }
+    {
+        self.body.len() as u64 / 4
+    }
+}
+
+/// A payload, and what was read of it.
+#[derive(Clone, Copy)]
+pub(crate) struct ParsedPayload<'p, 'r> {
+    pub form: Form,
+    pub payload: &'p [u8],
+    pub found: &'p RecordRow<'r>,
+}
+
+/// Makes the record that a payload is under the definitions of the version at which the pass is
+/// entered.
+pub(crate) fn prepare_at(
+    alloc: Global,
+    log: &Log,
+    pass: &mut Pass,
+    defs: &mut Known,
+    version: u16,
+    parsed: ParsedPayload<'_, '_>,
+) -> Result<Prepared, AllocError>
+    requires pass { IsPassOf log.now pass.old }
+    requires version { ((view pass.old).learned.version ≡ version) × (version ≤ 512) }
+    requires defs { IsKnownOf (view pass.old) defs.old }
+    requires read { IsRead parsed.form parsed.payload.now (fields_in_row parsed.found.now) }
+    ensures pass { IsPassOf log.now pass.new }
+    ensures defs { IsKnownOf (view pass.new) defs.new }
+    ensures reads { OnlyReads (view pass.old) (view pass.new) }
+    ensures prepared { IfOk result (HasPrepared (view pass.new) version parsed.entry.form parsed.entry.payload.now) }
+{
+    defs.refresh(log, pass, version)?;
+    let origin = Origin {
+        lane: lane(pass),
+        version,
+        form: parsed.form,
+    };
+    prepare(alloc, defs.active(), origin, parsed.found, parsed.payload)
+}
+
+/// Makes the record that a payload is, with a key entry for each definition that gives a value for it,
+/// and number 0. The caller has parsed the payload, which is copied once, into the words.
+pub fn prepare<R: Parsed>(
+    alloc: Global,
+    defs: &[ActiveDef],
+    origin: Origin,
+    found: &R,
+    payload: &[u8],
+) -> Result<Prepared, AllocError>
+    requires defs { AreDefs defs.now }
+    requires origin { IsOrigin origin }
+    requires read { IsRead origin.form payload.now (R.fields found.now) }
+    ensures { IfOk result (IsPreparedFor defs.now origin payload.now) }
+{
+    let keys = entries_of(alloc, defs, found)?;
+    let head = BodyHead {
+        form: origin.form,
+        lane: origin.lane,
+        version: origin.version,
+        number: 0,
+    };
+    let body = body_from(alloc, head, keys.as_slice(), payload)?;
+    Ok(Prepared { body, keys })
+}
+
+/// The key entries of a record, with no previous nodes.
+#[tactic(auto, unfolding(fish_psf::specs::Keys::keys_of))]
+fn entries_of<R: Parsed>(
+    alloc: Global,
+    defs: &[ActiveDef],
+    found: &R,
+) -> Result<KeyParts, AllocError>
+    ensures { IfOk result (AreEntriesFor (R.fields found.now) defs.now) }
+{
+    let mut keys = KeyParts::new(alloc);
+    for active in defs {
+        if let Some(entry) = entry_of(alloc, active, found)? {
+            keys.push(entry)?;
+        }
+    }
+    Ok(keys)
+}
+
+/// The key entry of one definition, where it gives a value.
+#[tactic(auto, using(crate::proofs::PreparationKeys::value_short))]
+fn entry_of<R: Parsed>(
+    alloc: Global,
+    active: &ActiveDef,
+    found: &R,
+) -> Result<Option<KeyPart>, AllocError>
+    ensures value { IfOk result (λ entry.
+        option_map property entry ≡ key_of (R.fields found.now) active.now) }
+    ensures entry { IfOk result (λ entry. IfSome entry IsKey) }
+{
+    let Some(value) = eval(alloc, &active.def, found)? else {
+        return Ok(None);
+    };
+    read_value(&value);
+    Ok(Some(KeyPart {
+        prev: 0,
+        id: active.id,
+        value,
+    }))
+}
+
+/// Reads a value, which shows that it is within its type: a number has 64 bits, a text is UTF-8.
+fn read_value(value: &Value)
+    requires { IsShort value.now }
+    ensures { IsProperValue value.now }
+{
+    match value {
+        Value::Bool(_) => {}
+        Value::Int(number) => {
+            let _number = *number;
+        }
+        Value::Text(text) => {
+            let _bytes = text.as_bytes();
+        }
+    }
+}
