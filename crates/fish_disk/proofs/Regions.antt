@@ -1,8 +1,9 @@
 -- What a torn write leaves alone, and what a whole write puts where.
 use Rattle.std.proofs.Common.{◌≡◌, ℕ, ◌+◌, ◌-◌, ◌≤◌, ◌⊎◌, inl, inr, List, ◌++◌, length, take, drop, refl, ap, sym, ◌∙◌, subst, arith, append_assoc, length-append, length-drop, take-append-drop}
-use Rattle.std.specs.Prelude.{Option, Some, IfSome}
+use Rattle.std.specs.Prelude.{Option, Some, None, IfSome, IsSome}
+use mathlib.Core.Bool.{true≢false}
 use Rattle.std.proofs.lemmas.List.{length-take-le, take-take, take_at, drop_at, drop-drop, drop-take}
-use Rattle.fish_disk.specs.Content.{HasWritten, part, put_at}
+use Rattle.fish_disk.specs.Content.{HasWritten, StillReads, WrittenThrough, part, put_at}
 use Rattle.fish_disk.specs.Crash.{Torn, TornFrom}
 
 -- what is told of a content holds of the one that is told
@@ -123,3 +124,25 @@ written_torn old new at piece within written c is =
     let here = told_at (λ n. (o : List ℕ) × (old ≡ Some o) × (n ≡ put_at at piece o)) new c is written in
     let start : at ≤ length here.0 = told_at (λ o. at ≤ length o) old here.0 here.1 within in
     (here.0, here.1, put_within at (length piece) piece here.0 c start (omega arith) here.2)
+
+-- a piece that is on the disk stands at its place in every image
+pub through_part : (old new : Option (List ℕ)) (images : List ℕ → Type 0) (at : ℕ) (piece : List ℕ) →
+    IfSome old (λ c. at ≤ length c) → WrittenThrough old new images at piece
+    → (c : List ℕ) → images c → part at (length piece) c ≡ piece
+through_part old new images at piece within through c image =
+    let is = through.durable c image in
+    let here = told_at (λ n. (o : List ℕ) × (old ≡ Some o) × (n ≡ put_at at piece o)) new c is through.written in
+    let start : at ≤ length here.0 = told_at (λ o. at ≤ length o) old here.0 here.1 within in
+    ap (λ (l : List ℕ). part at (length piece) l) here.2 ∙ put_part at piece here.0 start
+
+-- what is still told stays what it was
+pub still_told : (old new : Option (List ℕ)) (c : List ℕ) →
+    StillReads old new → IsSome new → old ≡ Some c → new ≡ Some c
+still_told old None c still told is = absurd (true≢false (sym told))
+still_told old (Some d) c still told is = sym still ∙ is
+
+-- what holds of a content that is told holds of it as long as it is still told
+pub still_holds : (P : List ℕ → Type 0) (old new : Option (List ℕ)) →
+    StillReads old new → IfSome old P → IfSome new P
+still_holds P old None still holds = tt
+still_holds P old (Some c) still holds = told_at P old c still holds
