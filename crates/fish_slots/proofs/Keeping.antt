@@ -1,6 +1,6 @@
 -- What the steps of a commit leave of slots and gates, over plain lists of bytes.
 use Rattle.std.proofs.Common.{◌≡◌, ℕ, zero, suc, ◌+◌, ◌*◌, ◌≤◌, ◌⊎◌, ⊎_elim, inl, inr, List, [], ◌∷◌, get_or, refl, ap, sym, ◌∙◌, subst, arith}
-use Rattle.std.specs.Prelude.{Result, Ok, Err, OnOk}
+use Rattle.std.specs.Prelude.{Option, Some, Result, Ok, Err, OnOk, unwrap_or}
 use Rattle.fish_disk.specs.Content.{part}
 use Rattle.fish_disk.specs.Crash.{LeavesOnly, Torn, TornFrom}
 use Rattle.fish_disk.proofs.Moments.{leaves_each}
@@ -21,6 +21,20 @@ pub torn_since : {D : Type 0} (images : D → List ℕ → Type 0) (since : D �
 torn_since images since moment old new at n only leaves =
     leaves_each images since moment old new (TornFrom (images old) at n) only
     (λ c image. (c, image, torn_same at n c)) leaves
+
+-- where every image is what is read, all images agree on a slot
+pub one_slot : (content : Option (List ℕ)) (images : List ℕ → Type 0) →
+    ((c : List ℕ) → images c → content ≡ Some c)
+    → (slot : ℕ) (c d : List ℕ) → images c → images d → SameSlot slot c d
+one_slot content images synced slot c d one other =
+    let same : c ≡ d = ap (λ told. unwrap_or told c) (sym (synced c one) ∙ synced d other) in
+    subst (λ e. SameSlot slot c e) same (refl, refl)
+
+-- so their gates can be relied on
+pub one_gates : (content : Option (List ℕ)) (images : List ℕ → Type 0) →
+    ((c : List ℕ) → images c → content ≡ Some c) → GatesAreSynced images images
+one_gates content images synced slot c d slot_le one other opened =
+    one_slot content images synced slot c d one other
 
 -- of two slots, either both are one or they are both there are
 same_or_other : (t s : ℕ) → t ≤ 1 → s ≤ 1 → (t ≡ s) ⊎ (t + s ≡ 1)
