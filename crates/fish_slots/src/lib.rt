@@ -9,4 +9,4 @@ mod place;
 mod slot;
 
 pub use place::SLOT_BYTES;
-pub use slot::{Gates, begin, best, close_old, open_gate, seal};
+pub use slot::{Gates, begin, best, close_old, open_gate, seal, switch};
