@@ -5,7 +5,6 @@ use mathlib.Core.Path.{transport}
 use Rattle.std.proofs.Math.Nat.{eq-or-lt_of_le}
 use Rattle.std.proofs.lemmas.List.{take_all, take-append-le, take_more}
 use Rattle.fish_disk.specs.Calls.{Only, after_call, after_calls, LeftNow, LeftSince}
-use Rattle.fish_disk.specs.Content.{put_at}
 use Rattle.fish_disk.specs.Crash.{LeavesOnly, Torn, TornFrom}
 use Rattle.fish_disk.specs.Memory.{bytes_of, images_of, moment_of, since_of}
 use Rattle.fish_disk.specs.declared.call.Call.{Call}

@@ -1,5 +1,5 @@
 -- A disk in memory, by its record of calls.
-use Rattle.std.specs.Prelude.{◌≡◌, ◌⊎◌, ℕ, ◌≤◌, List, [], Bool, length, take, None, unwrap_or, Result, IsErr, IsTrue, if◌then◌else◌}
+use Rattle.std.specs.Prelude.{◌≡◌, ℕ, ◌≤◌, List, [], Bool, length, take, None, unwrap_or, Result, IsErr, IsTrue, if◌then◌else◌}
 use mathlib.Core.Logic.{inl, inr}
 use Rattle.std.proofs.Common.{subst, le_trans}
 use Rattle.std.proofs.lemmas.List.{take_all}
@@ -8,7 +8,6 @@ use Rattle.fish_outside.specs.Memory.{is_planned, new_plan}
 use Rattle.fish_outside.specs.declared.fault.Failed.{Failed}
 use Rattle.fish_outside.specs.declared.plan.FaultPlan.{FaultPlan}
 use Rattle.fish_disk.specs.Calls.{Only, after_calls, LeftNow, LeftSince}
-use Rattle.fish_disk.specs.declared.call.Call.{Call}
 use Rattle.fish_disk.specs.declared.memory.MemoryDisk.{MemoryDisk}
 
 -- all its bytes: those of the last write, or the first ones

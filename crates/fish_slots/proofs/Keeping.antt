@@ -6,7 +6,7 @@ use Rattle.fish_disk.specs.Crash.{LeavesOnly, Torn, TornFrom}
 use Rattle.fish_disk.proofs.Moments.{leaves_each}
 use Rattle.fish_disk.proofs.Regions.{put_within, told_at, torn_apart, torn_same}
 use Rattle.fish_slots.specs.Places.{body_at, body_bytes, gate_at, lines_at}
-use Rattle.fish_slots.specs.Slots.{GatesAreSynced, IsOpen, SameSlot, body_of, line_count, lines_of}
+use Rattle.fish_slots.specs.Slots.{GatesAreSynced, IsOpen, SameSlot, body_of, line_count}
 
 -- what holds anyway holds where a call succeeds
 pub on_ok : {T E P : Type 0} (r : Result T E) → P → OnOk r P
@@ -14,7 +14,8 @@ on_ok (Ok x) p = p
 on_ok (Err e) p = tt
 
 -- all that a crash since the start of a write left is what the write may leave of an image
-pub torn_since : {D : Type 0} (images : D → List ℕ → Type 0) (since : D → ℕ → List ℕ → Type 0) (moment : D → ℕ) (old new : D) (at n : ℕ) →
+pub torn_since : {D : Type 0} (images : D → List ℕ → Type 0) (since : D → ℕ → List ℕ → Type 0) (moment : D → ℕ)
+    (old new : D) (at n : ℕ) →
     ((c : List ℕ) → since old (moment old) c → images old c)
     → LeavesOnly images since moment old new (TornFrom (images old) at n)
     → (c : List ℕ) → since new (moment old) c → TornFrom (images old) at n c

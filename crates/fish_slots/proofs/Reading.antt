@@ -1,6 +1,6 @@
 -- What a read of one byte at a gate tells of it.
-use Rattle.std.proofs.Common.{◌≡◌, ℕ, ◌-◌, ◌≤◌, List, [], ◌∷◌, length, take, drop, get_or, eqb, refl, ap, sym, ◌∙◌, arith, eq-eqb, length-drop}
-use Rattle.std.specs.Prelude.{◌↔◌, min, Option, Some, None, IfSome, IsTrue}
+use Rattle.std.proofs.Common.{◌≡◌, ℕ, ◌≤◌, List, [], ◌∷◌, length, take, drop, get_or, eqb, ap, sym, ◌∙◌, arith, eq-eqb}
+use Rattle.std.specs.Prelude.{◌↔◌, Option, Some, None, IfSome, IsTrue}
 use Rattle.std.proofs.lemmas.Bool.Decides.{nat_tests}
 use Rattle.std.proofs.lemmas.List.{drop_all}
 use Rattle.fish_disk.specs.Content.{Gave, part}

@@ -1,7 +1,6 @@
 -- A read of one byte gives the gate, or nothing behind the file's end.
 use Rattle.std.proofs.Common.{◌≡◌, length, rules, subst}
 use Rattle.fish_disk.specs.Content.{Gave}
-use Rattle.fish_slots.specs.Places.{gate_at}
 use Rattle.fish_slots.proofs.Reading.{gate_missing, gate_read}
 use Rattle.fish_slots.proofs.slot.is_open.Goals as goal
 

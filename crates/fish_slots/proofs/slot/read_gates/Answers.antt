@@ -1,5 +1,4 @@
 -- The second read changes nothing of what the first one saw.
-use Rattle.std.proofs.Common.{◌≡◌, [], ◌∷◌}
 use Rattle.std.specs.Prelude.{◌↔◌, IsTrue}
 use Rattle.fish_disk.proofs.Regions.{still_holds}
 use Rattle.fish_slots.specs.Slots.{IsOpen}

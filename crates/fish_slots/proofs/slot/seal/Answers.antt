@@ -1,5 +1,5 @@
 -- The body goes where its gate is closed, and meets nothing else.
-use Rattle.std.proofs.Common.{◌≡◌, length, subst, subst₂}
+use Rattle.std.proofs.Common.{◌≡◌, subst, subst₂}
 use Rattle.std.proofs.lemmas.Result.{on_ok_weaker}
 use Rattle.fish_disk.specs.Content.{WrittenThrough, part}
 use Rattle.fish_disk.specs.Crash.{LeavesOnly, TornFrom}

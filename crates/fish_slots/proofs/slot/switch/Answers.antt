@@ -1,12 +1,11 @@
 -- The new gate is open in every image before the old one is touched, and the old one before that.
-use Rattle.std.proofs.Common.{◌≡◌, ◌+◌, ◌-◌, ◌≤◌, ◌⊎◌, inl, inr, ℕ, List, [], ◌∷◌, length, arith, sym}
-use Rattle.std.specs.Prelude.{IfSome}
+use Rattle.std.proofs.Common.{◌-◌, ◌⊎◌, inl, inr, ℕ, List, [], ◌∷◌, arith}
 use Rattle.std.proofs.lemmas.Result.{on_ok_weaker}
-use Rattle.fish_disk.specs.Crash.{LeavesOnly, TornFrom}
+use Rattle.fish_disk.specs.Crash.{TornFrom}
 use Rattle.fish_disk.proofs.Moments.{leaves_more, leaves_then}
 use Rattle.fish_slots.specs.Places.{gate_at}
 use Rattle.fish_slots.specs.Slots.{IsOpen}
-use Rattle.fish_slots.proofs.Keeping.{on_ok, one_gates, other_gate, still_long}
+use Rattle.fish_slots.proofs.Keeping.{one_gates, other_gate, still_long}
 use Rattle.fish_slots.proofs.slot.switch.Goals as goal
 
 pub close_old-requires-clause-within : goal.close_old-requires-clause-within

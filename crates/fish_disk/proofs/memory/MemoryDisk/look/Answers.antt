@@ -1,5 +1,5 @@
 -- A call that changes nothing leaves what was left before, kept in the record or not.
-use Rattle.std.proofs.Common.{rules, ap}
+use Rattle.std.proofs.Common.{rules}
 use Rattle.fish_disk.proofs.Recorded.{looked, unrecorded}
 use Rattle.fish_disk.proofs.memory.MemoryDisk.look.Goals as goal
 

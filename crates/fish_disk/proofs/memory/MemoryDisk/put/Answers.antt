@@ -1,8 +1,8 @@
 -- What was put is one way for the write to end.
-use Rattle.std.proofs.Common.{◌≤◌, length, arith, rules, ◌∙◌, ap, sym}
+use Rattle.std.proofs.Common.{length, arith, rules, ◌∙◌, ap}
 use Rattle.fish_disk.specs.Content.{put_at}
 use Rattle.fish_disk.specs.Memory.{bytes_of}
-use Rattle.fish_disk.proofs.Regions.{put_within, torn_same}
+use Rattle.fish_disk.proofs.Regions.{put_within}
 use Rattle.fish_disk.proofs.memory.MemoryDisk.put.Goals as goal
 
 pub returns-in-Ok-clause-torn : goal.returns-in-Ok-clause-torn

@@ -1,5 +1,5 @@
 -- Wherever the call ends, what it left of the bytes that are read is one way for its write to end.
-use Rattle.std.proofs.Common.{◌≡◌, ◌≤◌, length, refl, rules, arith, ap, subst, sym}
+use Rattle.std.proofs.Common.{◌≡◌, length, rules, subst}
 use Rattle.fish_disk.specs.Crash.{Torn}
 use Rattle.fish_disk.specs.Memory.{bytes_of}
 use Rattle.fish_disk.proofs.Recorded.{not_wrote, wrote}
