@@ -1,5 +1,5 @@
 -- A disk in memory, by its record of calls.
-use Rattle.std.specs.Prelude.{◌≡◌, ℕ, ◌≤◌, List, [], Bool, length, take, None, unwrap_or, Result, IsErr, IsTrue, if◌then◌else◌}
+use Rattle.std.specs.Prelude.{◌≡◌, ◌⊎◌, ℕ, ◌≤◌, List, [], Bool, length, take, None, unwrap_or, Result, IsErr, IsTrue, if◌then◌else◌, ◌∷◌, ◌++◌, true}
 use mathlib.Core.Logic.{inl, inr}
 use Rattle.std.proofs.Common.{subst, le_trans}
 use Rattle.std.proofs.lemmas.List.{take_all}
@@ -8,6 +8,7 @@ use Rattle.fish_outside.specs.Memory.{is_planned, new_plan}
 use Rattle.fish_outside.specs.declared.fault.Failed.{Failed}
 use Rattle.fish_outside.specs.declared.plan.FaultPlan.{FaultPlan}
 use Rattle.fish_disk.specs.Calls.{Only, after_calls, LeftNow, LeftSince}
+use Rattle.fish_disk.specs.declared.call.Call.{Call}
 use Rattle.fish_disk.specs.declared.memory.MemoryDisk.{MemoryDisk}
 
 -- all its bytes: those of the last write, or the first ones
@@ -44,6 +45,18 @@ pub record Planned {T : Type 0} (old new : FaultPlan) (result : Result T Failed)
   pub fails : new.fails ≡ old.fails
   pub calls : new.calls ≡ counted_on old.calls 1
   pub failed : IsTrue (is_planned old) → IsErr result
+
+-- the plan after a call that memory refused to keep in the record: a fault beside a planned one
+abbrev pub refused : FaultPlan → FaultPlan
+refused plan = after_step
+    (record (after_step plan (is_planned plan)) { calls = counted_on plan.calls 1 })
+    true
+
+-- the call is in the record, whatever it answered, or memory refused that
+abbrev pub Records : MemoryDisk → MemoryDisk → Call → Type 0
+Records old new call =
+    (new.calls ≡ old.calls ++ call ∷ [])
+    ⊎ ((new.calls ≡ old.calls) × (new.plan ≡ refused old.plan))
 
 -- since now there is nothing else than now
 pub only_now_of : (disk : MemoryDisk) (c : List ℕ) → since_of disk (moment_of disk) c → images_of disk c

@@ -1,6 +1,6 @@
 //! A disk in memory that fails by a plan, keeps a record of its calls, and shows what a crash leaves.
 
-ghost use Rattle.std.specs.Prelude.{◌≡◌, ◌≤◌, ◌+◌, ◌++◌, ◌∷◌, [], ℕ, List, Some, length, is_err, IfOk, IfSome, OnErr, OnOk};
+ghost use Rattle.std.specs.Prelude.{◌≡◌, ◌≤◌, ◌+◌, ◌++◌, ◌∷◌, [], ℕ, List, Some, length, if◌then◌else◌, is_err, is_ok, IfOk, IfSome, OnErr, OnOk};
 ghost use Rattle.fish_outside.specs.Causes.{HasCause};
 ghost use Rattle.fish_disk.specs.Calls.{Only, after_call};
 ghost use Rattle.fish_disk.specs.Content.{Gave, StillReads, Wrote, put_at};
@@ -32,7 +32,7 @@ pub struct MemoryDisk {
 }
 
 impl MemoryDisk {
-    ghost use Rattle.fish_disk.specs.Memory.{IsNew, Planned, after_step, bytes_of, images_of, moment_of, since_of};
+    ghost use Rattle.fish_disk.specs.Memory.{IsNew, Planned, Records, after_step, bytes_of, images_of, moment_of, since_of};
 
     /// A disk of these bytes, whose calls of these numbers, from 0, fail.
     pub fn new(alloc: Global, bytes: Bytes, fails: Numbers64) -> MemoryDisk
@@ -129,6 +129,7 @@ impl MemoryDisk {
 
         ensures cause { HasCause self.old.plan.faults self.new.plan.faults result }
         ensures planned { Planned self.old.plan self.new.plan result }
+        ensures recorded { Records self.old self.new Call.Other }
     {
         let planned = self.plan.call();
         self.note(Call::Other)?;
@@ -210,7 +211,7 @@ fn torn(
 impl Disk for MemoryDisk {
     ghost use Rattle.std.specs.Prelude.{unwrap_or};
     ghost use Rattle.std.proofs.Common.{ap, inl, refl, sym};
-    ghost use Rattle.fish_disk.specs.Memory.{Planned, bytes_of, fewer_later_of, images_of, moment_of, only_now_of, since_of};
+    ghost use Rattle.fish_disk.specs.Memory.{Planned, Records, bytes_of, fewer_later_of, images_of, moment_of, only_now_of, since_of};
 
     ghost content = { λ disk. Some (bytes_of disk) };
 
@@ -241,6 +242,7 @@ impl Disk for MemoryDisk {
 
         ensures cause { HasCause self.old.plan.faults self.new.plan.faults result }
         ensures planned { Planned self.old.plan self.new.plan result }
+        ensures recorded { Records self.old self.new Call.Other }
     {
         self.look()?;
         Ok(copy_from(self.as_bytes(), at, buf))
@@ -255,6 +257,7 @@ impl Disk for MemoryDisk {
 
         ensures cause { HasCause self.old.plan.faults self.new.plan.faults result }
         ensures planned { Planned self.old.plan self.new.plan result }
+        ensures recorded { Records self.old self.new (Call.Write at piece.now) }
     {
         let planned = self.plan.call();
         self.note_write(at, piece)?;
@@ -270,6 +273,8 @@ impl Disk for MemoryDisk {
 
         ensures cause { HasCause self.old.plan.faults self.new.plan.faults result }
         ensures planned { Planned self.old.plan self.new.plan result }
+        ensures recorded { Records self.old self.new
+            (if is_ok result then Call.Sync (bytes_of self.old) else Call.Other) }
     {
         match self.plan.call() {
             Ok(()) => self.note_sync(),
@@ -288,6 +293,7 @@ impl Disk for MemoryDisk {
 
         ensures cause { HasCause self.old.plan.faults self.new.plan.faults result }
         ensures planned { Planned self.old.plan self.new.plan result }
+        ensures recorded { Records self.old self.new Call.Other }
     {
         self.look()?;
         Ok(self.as_bytes().len() as u64)
