@@ -160,7 +160,8 @@ pub fn switch<D: Disk>(disk: &mut D, slot: u8) -> Result<(), Failed>
     requires slot { slot ≤ 1 }
     requires within { IfSome (D.content disk.old) (λ c. gate_at 1 ≤ length c) }
     requires gates { GatesAreSynced (D.images disk.old) (D.images disk.old) }
-    requires sealed { (c d : List ℕ) → D.images disk.old c → D.images disk.old d → SameSlot slot c d }
+    requires sealed { (c d : List ℕ) → D.images disk.old c → D.images disk.old d →
+        SameSlot slot c d }
     requires opened { (c : List ℕ) → D.images disk.old c → IsOpen (1 - slot) c }
     ensures alone { OnOk result ((c : List ℕ) → D.images disk.new c → IsAlone slot c) }
     ensures one_open { LeavesOnly D.images D.since D.moment disk.old disk.new
