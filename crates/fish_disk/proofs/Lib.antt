@@ -1,0 +1,4 @@
+pub mod Moments
+pub mod Recorded
+pub mod Regions
+pub mod Room

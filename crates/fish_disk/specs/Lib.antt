@@ -1,0 +1,5 @@
+pub mod Calls
+pub mod Content
+pub mod Crash
+pub mod Memory
+pub mod Sure

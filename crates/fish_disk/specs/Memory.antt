@@ -1,0 +1,72 @@
+-- A disk in memory, by its record of calls.
+use Rattle.std.specs.Prelude.{◌≡◌, ◌⊎◌, ℕ, ◌≤◌, List, [], Bool, length, take, None, unwrap_or, Result, IsErr, IsTrue, if◌then◌else◌, ◌∷◌, ◌++◌, true}
+use mathlib.Core.Logic.{inl, inr}
+use Rattle.std.proofs.Common.{subst, le_trans}
+use Rattle.std.proofs.lemmas.List.{take_all}
+use Rattle.fish_outside.specs.Causes.{counted_on}
+use Rattle.fish_outside.specs.Memory.{is_planned, new_plan}
+use Rattle.fish_outside.specs.declared.fault.Failed.{Failed}
+use Rattle.fish_outside.specs.declared.plan.FaultPlan.{FaultPlan}
+use Rattle.fish_disk.specs.Calls.{Only, after_calls, LeftNow, LeftSince}
+use Rattle.fish_disk.specs.declared.call.Call.{Call}
+use Rattle.fish_disk.specs.declared.memory.MemoryDisk.{MemoryDisk}
+
+-- all its bytes: those of the last write, or the first ones
+abbrev pub bytes_of : MemoryDisk → List ℕ
+bytes_of disk = unwrap_or disk.written disk.first
+
+-- what a crash now may leave of it
+abbrev pub images_of : MemoryDisk → List ℕ → Type 0
+images_of disk c = LeftNow disk.first (bytes_of disk) disk.calls c
+
+-- what a crash since moment t may have left of it
+abbrev pub since_of : MemoryDisk → ℕ → List ℕ → Type 0
+since_of disk t c = LeftSince disk.first (bytes_of disk) disk.calls t c
+
+-- how many calls it has kept
+abbrev pub moment_of : MemoryDisk → ℕ
+moment_of disk = length disk.calls
+
+-- a disk of these bytes that has had no call, and whose calls of these numbers are to fail
+pub record IsNew (disk : MemoryDisk) (content failing : List ℕ) : Type 0 where
+  pub first : disk.first ≡ content
+  pub written : disk.written ≡ None
+  pub calls : disk.calls ≡ []
+  pub plan : disk.plan ≡ new_plan failing
+
+-- the plan, with one more fault if a step failed
+abbrev pub after_step : FaultPlan → Bool → FaultPlan
+after_step plan failed = record plan {
+  faults = if failed then counted_on plan.faults 1 else plan.faults;
+}
+
+-- one more call is counted, which fails where that is planned
+pub record Planned {T : Type 0} (old new : FaultPlan) (result : Result T Failed) : Type 0 where
+  pub fails : new.fails ≡ old.fails
+  pub calls : new.calls ≡ counted_on old.calls 1
+  pub failed : IsTrue (is_planned old) → IsErr result
+
+-- the plan after a call that memory refused to keep in the record: a fault beside a planned one
+abbrev pub refused : FaultPlan → FaultPlan
+refused plan = after_step
+    (record (after_step plan (is_planned plan)) { calls = counted_on plan.calls 1 })
+    true
+
+-- the call is in the record, whatever it answered, or memory refused that
+abbrev pub Records : MemoryDisk → MemoryDisk → Call → Type 0
+Records old new call =
+    (new.calls ≡ old.calls ++ call ∷ [])
+    ⊎ ((new.calls ≡ old.calls) × (new.plan ≡ refused old.plan))
+
+-- since now there is nothing else than now
+pub only_now_of : (disk : MemoryDisk) (c : List ℕ) → since_of disk (moment_of disk) c → images_of disk c
+only_now_of disk c (inl now) = now
+only_now_of disk c (inr was) =
+    let whole : take was.0 disk.calls ≡ disk.calls = take_all was.0 disk.calls was.1 in
+    inr (subst (λ calls. after_calls (Only disk.first) calls c) whole was.3)
+
+-- since a later moment a crash may have left less
+pub fewer_later_of : (disk : MemoryDisk) (t u : ℕ) (c : List ℕ) → t ≤ u → since_of disk u c → since_of disk t c
+fewer_later_of disk t u c later (inl now) = inl now
+fewer_later_of disk t u c later (inr was) =
+    inr (was.0, le_trans later was.1, was.2, was.3)

@@ -1,0 +1,22 @@
+-- A disk with room that never fails.
+use Rattle.std.specs.Prelude.{ℕ, List, length, take, nat_le, Option, Some, None, if◌then◌else◌}
+use Rattle.fish_disk.specs.Content.{put_at}
+use Rattle.fish_disk.specs.declared.sure.SureDisk.{SureDisk}
+
+-- for how many bytes it has room
+abbrev pub room_of : SureDisk → ℕ
+room_of disk = disk.room
+
+-- the bytes that it has kept
+abbrev pub kept_of : SureDisk → List ℕ
+kept_of disk = disk.bytes.items
+
+-- all its bytes, as long as nothing of them was dropped
+abbrev pub told_of : SureDisk → Option (List ℕ)
+told_of disk = if disk.told then Some disk.bytes.items else None
+
+-- bytes with a piece put over those from `at` on, as far as they fit the room. A piece that begins
+-- behind the end is dropped
+abbrev pub kept_with : ℕ → ℕ → List ℕ → List ℕ → List ℕ
+kept_with room at piece bytes =
+    if nat_le at (length bytes) then take room (put_at at piece bytes) else bytes

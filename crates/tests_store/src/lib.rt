@@ -1,0 +1,13 @@
+//! Tests of the store file: disks, slots and gates, over the public calls of the crates below.
+#![tactic(auto)]
+
+#[cfg(test)]
+mod commits;
+#[cfg(test)]
+mod crashes;
+#[cfg(test)]
+mod disks;
+#[cfg(test)]
+mod system;
+#[cfg(test)]
+mod told;

@@ -1,0 +1,76 @@
+//! A real file, of which nothing is proved: made at the first call, written, read and found again.
+
+use crate::told::{expect, put_bytes};
+use fish_disk::{Disk, FileDisk};
+use fish_value::Text;
+use std::alloc::AllocError;
+use std::test::Fail;
+use std::{env, fs, process};
+
+/// A path in the folder for files that don't stay, by a name that no other process has.
+fn new_path(rt: &HostRuntime) -> Result<Text, Fail> {
+    let folder = env::temp_dir(rt)?;
+    let id = process::id(rt.process());
+    let path = format!(in rt.alloc(); "{}/fish_disk_{id}", folder.as_path().display())?;
+    Ok(Text::from_string(path))
+}
+
+/// What the length, a write, another over its end, a sync and the length answer.
+fn written(rt: &HostRuntime, disk: &mut FileDisk<HostRuntime>) -> Result<String, AllocError> {
+    let empty = disk.length();
+    let first = disk.write_at(0, b"abcd");
+    let second = disk.write_at(3, b"xyz");
+    let synced = disk.sync();
+    let length = disk.length();
+    format!(in rt.alloc(); "{empty:?} {first:?} {second:?} {synced:?} {length:?} ")
+}
+
+/// What a read of four bytes from the third on answers, and one behind the end.
+fn put_read(
+    rt: &HostRuntime,
+    told: &mut String,
+    disk: &mut FileDisk<HostRuntime>,
+) -> Result<(), AllocError> {
+    let mut buf = *b"....";
+    let count = disk.read(2, &mut buf);
+    put_bytes(told, &buf)?;
+    let behind = disk.read(9, &mut buf);
+    let text = format!(in rt.alloc(); " {count:?} {behind:?}")?;
+    told.push_str(text.as_str())
+}
+
+#[test]
+fn keeps_bytes(rt: HostRuntime) -> Result<(), Fail> {
+    let path = new_path(&rt)?;
+    let name = path.again(rt.alloc())?;
+    let mut disk = FileDisk::at(rt, path);
+    let mut told = written(&rt, &mut disk)?;
+    drop(disk);
+    let again = name.again(rt.alloc())?;
+    let mut disk = FileDisk::at(rt, again);
+    put_read(&rt, &mut told, &mut disk)?;
+    let faults = disk.faults();
+    drop(disk);
+    fs::remove_file(&rt, name.as_str())?;
+    let all = format!(in rt.alloc(); "{} {faults}", told.as_str())?;
+    expect(
+        &rt,
+        all.as_str(),
+        "Ok(0) Ok(()) Ok(()) Ok(()) Ok(6) cxyz Ok(4) Ok(0) 0",
+    );
+    Ok(())
+}
+
+/// A path in a folder that isn't there: each call fails and counts.
+#[test]
+fn counts_faults(rt: HostRuntime) -> Result<(), Fail> {
+    let path = Text::copy_of(rt.alloc(), "/no/such/folder/file")?;
+    let mut disk = FileDisk::at(rt, path);
+    let length = disk.length();
+    let synced = disk.sync();
+    let faults = disk.faults();
+    drop(disk);
+    let told = format!(in rt.alloc(); "{length:?} {synced:?} {faults}")?;
+    expect(&rt, told.as_str(), "Err(Failed) Err(Failed) 2");
+    Ok(())
+}
