@@ -1,6 +1,8 @@
 pub mod ActiveTexts
 pub mod Changes
 pub mod Clamping
+pub mod Closing
+pub mod Intervals
 pub mod Listings
 pub mod Lookups
 pub mod RowReads

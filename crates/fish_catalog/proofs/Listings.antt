@@ -30,7 +30,7 @@ no_end None h = refl
 no_end (Some n) h = absurd (cc)
 
 -- as many definitions are active as rows
-count_listed : (rows : List CatRow) → count_by is_on (map listed_of rows) ≡ count_by is_active rows
+pub count_listed : (rows : List CatRow) → count_by is_on (map listed_of rows) ≡ count_by is_active rows
 count_listed [] = refl
 count_listed (row ∷ rows) = omega (
   arith,
@@ -40,7 +40,7 @@ count_listed (row ∷ rows) = omega (
 )
 
 -- a row whose definition is active has no end
-active_row : (row : CatRow) (l : Listed) → listed_of row ≡ l → l.active ≡ true → IsActive row
+pub active_row : (row : CatRow) (l : Listed) → listed_of row ≡ l → l.active ≡ true → IsActive row
 active_row row l is on = no_end row.to (ap is_on is ∙ on)
 
 -- the rows of a catalogue are the definitions of a version

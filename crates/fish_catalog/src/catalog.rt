@@ -8,9 +8,12 @@ ghost use Rattle.fish_catalog.specs.Rows.{AwaitsFrom, HasActive, IsActiveNamed, 
 ghost use Rattle.fish_catalog.specs.Rows.{is_active, new_row, with_from};
 ghost use Rattle.fish_catalog.specs.Canonical.{IsCanonical};
 ghost use Rattle.fish_catalog.specs.Clamps.{IsClamped, clamped};
+ghost use Rattle.fish_catalog.specs.Closing.{AwaitsTo, MayClose, with_to};
+ghost use Rattle.fish_catalog.specs.Intervals.{AreIntervals};
 ghost use Rattle.fish_catalog.specs.Limits.{most_active, most_rows};
 
 use crate::clamp::clamp_rows;
+use crate::interval::{Intervals, add_interval};
 use crate::row::CatRow;
 use fish_value::Text;
 use std::alloc::{AllocError, Global};
@@ -38,6 +41,9 @@ pub enum CatRefusal {
     /// Memory ran out.
     #[error("out of memory")]
     OutOfMemory,
+    /// No active row has the name.
+    #[error("no active definition has the name")]
+    UnknownName,
 }
 
 impl From<AllocError> for CatRefusal {
@@ -115,6 +121,11 @@ impl Catalog {
         newest
     }
 
+    /// Where its rows are allocated.
+    pub fn allocator(&self) -> Global {
+        *self.rows.allocator()
+    }
+
     /// Puts an active row with the next id behind the others.
     pub fn add(&mut self, name: &Text, def: &Text) -> Result<u16, CatRefusal>
         requires name { IsName name.now }
@@ -128,7 +139,25 @@ impl Catalog {
         ensures many { IsErrOf result CatRefusal.TooManyDefinitions ↔
             ((¬ HasActive self.old name.now) × (count_by is_active self.old < most_active)
             × (most_rows ≤ length self.old)) }
+        ensures known { ¬ IsErrOf result CatRefusal.UnknownName }
         ensures refused { OnErr result (self.new ≡ self.old) }
+    {
+        self.may_add(name)?;
+        Ok(self.push_row(name, def)?)
+    }
+
+    /// Whether an active row of this name may be put behind the others. Takes no memory.
+    pub fn may_add(&self, name: &Text) -> Result<(), CatRefusal>
+        ensures active { IsErrOf result CatRefusal.NameActive ↔ HasActive self.now name.now }
+        ensures many_active { IsErrOf result CatRefusal.TooManyActive ↔
+            ((¬ HasActive self.now name.now) × (most_active ≤ count_by is_active self.now)) }
+        ensures many { IsErrOf result CatRefusal.TooManyDefinitions ↔
+            ((¬ HasActive self.now name.now) × (count_by is_active self.now < most_active)
+            × (most_rows ≤ length self.now)) }
+        ensures room { OnOk result ((¬ HasActive self.now name.now) × (count_by is_active self.now < most_active)
+            × (length self.now < most_rows)) }
+        ensures memory { ¬ IsErrOf result CatRefusal.OutOfMemory }
+        ensures known { ¬ IsErrOf result CatRefusal.UnknownName }
     {
         if self.find_active(name).is_some() {
             return Err(CatRefusal::NameActive);
@@ -139,7 +168,7 @@ impl Catalog {
         if self.rows.len() >= MAX_ROWS {
             return Err(CatRefusal::TooManyDefinitions);
         }
-        Ok(self.push_row(name, def)?)
+        Ok(())
     }
 
     /// How many rows are active.
@@ -180,6 +209,42 @@ impl Catalog {
     {
         let row = &mut self.rows[usize::from(id)];
         row.from = Some(from);
+    }
+
+    /// Tells where the index of an active row ends.
+    pub fn set_to(&mut self, id: u16, to: u32)
+        requires { AwaitsTo self.old id to }
+        ensures { self.new ≡ with_to self.old id to }
+    {
+        let row = &mut self.rows[usize::from(id)];
+        row.to = Some(to);
+    }
+
+    /// Ends the index of the active row with a name. Takes no memory.
+    pub fn close_row(&mut self, name: &Text, to: u32) -> Result<u16, CatRefusal>
+        requires { MayClose self.old name.now to }
+        ensures id { IfOk result (IsActiveNamed self.old name.now) }
+        ensures closed { IfOk result (λ id. self.new ≡ with_to self.old id to) }
+        ensures unknown { IsErrOf result CatRefusal.UnknownName ↔ (¬ HasActive self.old name.now) }
+        ensures refused { OnErr result (self.new ≡ self.old) }
+    {
+        let Some(id) = self.find_active(name) else {
+            return Err(CatRefusal::UnknownName);
+        };
+        self.set_to(id, to);
+        Ok(id)
+    }
+
+    /// Where the indices of the rows with a text hold, by id. Rows whose index hasn't begun have none.
+    pub fn intervals(&self, alloc: Global, def: &Text) -> Result<Intervals, AllocError>
+        ensures { IfOk result (AreIntervals self.now def.now) }
+    {
+        let mut intervals = Intervals::new(alloc);
+        let rows = self.rows();
+        for row in rows {
+            add_interval(&mut intervals, row, def)?;
+        }
+        Ok(intervals)
     }
 
     /// Cuts every boundary to a count, and has a row without a beginning begin there. Takes no memory.

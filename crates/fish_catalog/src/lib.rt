@@ -5,6 +5,7 @@
 mod catalog;
 mod clamp;
 mod entry;
+mod interval;
 mod listed;
 mod page_start;
 mod row;
@@ -12,6 +13,7 @@ mod words;
 
 pub use catalog::{CatRefusal, Catalog, MAX_ACTIVE, MAX_ROWS};
 pub use entry::{Entries, Entry};
+pub use interval::{Interval, Intervals};
 pub use listed::Listed;
 pub use page_start::{PageStart, PageStarts};
 pub use row::{CatRow, MAX_NAME, is_name};

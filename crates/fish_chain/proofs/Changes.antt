@@ -47,6 +47,7 @@ swing_learns u f b = record {
   tops = λ x m. inr m;
   gaps = λ x m. m;
   labels = λ x m. m;
+  unended = λ x m. m;
 }
 
 -- by a splice that was made
@@ -65,6 +66,7 @@ splice_learns u f b q = record {
   tops = λ x m. m;
   gaps = λ x m. m;
   labels = λ x m. m;
+  unended = λ x m. m;
 }
 
 -- ---- one step after others

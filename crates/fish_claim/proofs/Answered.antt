@@ -40,6 +40,7 @@ learns_count v u count about learned more =
       tops = λ x m. m;
       gaps = λ x m. m;
       labels = λ x m. m;
+      unended = λ x m. m;
     })
 
 -- what a view knew is known where the table and what was learned are the same
@@ -79,6 +80,7 @@ publish_learns v f = record {
   tops = λ x m. m;
   gaps = λ x m. m;
   labels = λ x m. m;
+  unended = λ x m. m;
 }
 
 -- the claim placed no record: the pass has nothing in flight, is shut by this or not, and else is as it was, but for

@@ -63,6 +63,7 @@ reads_word v u p x e = subst (OnlyReads v) (sym e) (record {
       tops = λ y m. m;
       gaps = λ y m. m;
       labels = λ y m. m;
+      unended = λ y m. m;
     };
     clock = later_ticked v.clock;
     frame = refl;

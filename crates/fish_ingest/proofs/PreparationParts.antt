@@ -5,7 +5,7 @@ use Rattle.std.proofs.lemmas.Str.{IsUtf8-from_is_utf8}
 use Rattle.std.specs.Prelude.{IsUtf8, if◌then◌else◌, is_some, nat_le}
 use Rattle.std.specs.Str.{is_utf8}
 use Rattle.fish_csv.specs.Reading.{row_of, row_reading}
-use Rattle.fish_csv.specs.declared.record.TheConstants.{MAX_PAYLOAD}
+use Rattle.fish_value.specs.Limits.{longest_payload}
 use Rattle.fish_ingest.proofs.PreparationKeys.{keys_proper, keys_unlinked}
 use Rattle.fish_ingest.specs.Preparation.{AreDefs}
 use Rattle.fish_ingest.specs.Preparation.{AreEntriesFor}
@@ -45,13 +45,13 @@ tested_short true o h = refl
 tested_short false o h = absurd cc
 
 -- a length that is tested to be within the limit, is
-within : (b : List ℕ) → nat_le (length b) MAX_PAYLOAD ≡ true → length b ≤ 524288
+within : (b : List ℕ) → nat_le (length b) longest_payload ≡ true → length b ≤ 524288
 within b h = grind (arith, nat_tests)
 
 -- a row in CSV is a text
 row_is_text : (b : List ℕ) → is_some (row_of b) ≡ true → IsUtf8 b
 unfolding row_of row_reading
-row_is_text b h = IsUtf8-from_is_utf8 b (tested (nat_le (length b) MAX_PAYLOAD) (is_utf8 b) _ h).1
+row_is_text b h = IsUtf8-from_is_utf8 b (tested (nat_le (length b) longest_payload) (is_utf8 b) _ h).1
 
 -- a record of either form is a text
 pub record_text : (form : Form) (b : List ℕ) → is_record form b ≡ true → IsUtf8 b
@@ -62,8 +62,8 @@ record_text Csv b h = row_is_text b h
 -- and has at most 524,288 bytes
 pub record_short : (form : Form) (b : List ℕ) → is_record form b ≡ true → length b ≤ 524288
 unfolding is_record record_of row_of
-record_short Json b h = within b (tested_short (nat_le (length b) MAX_PAYLOAD) _ h)
-record_short Csv b h = within b (tested_short (nat_le (length b) MAX_PAYLOAD) _ h)
+record_short Json b h = within b (tested_short (nat_le (length b) longest_payload) _ h)
+record_short Csv b h = within b (tested_short (nat_le (length b) longest_payload) _ h)
 
 -- ---- parts
 

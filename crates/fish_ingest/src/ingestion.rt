@@ -13,13 +13,13 @@ ghost use Rattle.fish_rule.specs.Entering.{after_retire};
 ghost use Rattle.fish_rule.specs.Passes.{IsPassOf, view};
 ghost use Rattle.fish_rule.specs.Steps.{after_publish};
 ghost use Rattle.fish_rule.specs.declared.view.Flight.{Flight};
+ghost use Rattle.fish_value.specs.Limits.{longest_payload};
 
 use crate::placement::{Pending, place};
 use crate::preparation::{ParsedPayload, Prepared, prepare_at};
 use crate::refusal::IngestRefusal;
 use fish_claim::publish;
 use fish_epoch::{Defs, Known, enter, leave};
-use fish_layout::MAX_PAYLOAD;
 use fish_psf::Steps;
 use fish_read::{RecordReader, RecordRow};
 use fish_rule::{Log, Pass, is_shut};
@@ -42,7 +42,7 @@ pub fn ingest(
     ensures defs { IsDefsOf (view pass.new) defs.new }
     ensures ingested { IfOk result (λ number. HasIngested (view pass.old) form payload.now number (view pass.new)) }
 
-    ensures too_long { IsErrOf result refusal.TooLong ↔ (MAX_PAYLOAD < length payload.now) }
+    ensures too_long { IsErrOf result refusal.TooLong ↔ (longest_payload < length payload.now) }
     ensures cause { IfErr result (IsCause form payload.now) }
     ensures refused { IfErr result (λ e. HasRefused (view pass.old) form payload.now e (view pass.new)) }
 {

@@ -1,6 +1,6 @@
 -- The rule holds of an empty log with one pass.
-use Rattle.std.proofs.Common.{◌≡◌, ℕ, ◌+◌, ◌-◌, ◌*◌, ◌<◌, ◌≤◌, zero, suc, List, [], ◌∷◌, length, map, slice_index, sym}
-use Rattle.std.proofs.Common.{refl, ap, ◌∙◌, subst, inl, inr, ⊎_elim, arith}
+use Rattle.std.proofs.Common.{◌≡◌, ℕ, ◌+◌, ◌-◌, ◌*◌, ◌<◌, ◌≤◌, zero, suc, List, [], ◌∷◌, slice_index, sym}
+use Rattle.std.proofs.Common.{refl, ap, ◌∙◌, subst, inl, ⊎_elim, arith}
 use Rattle.std.proofs.Math.Decide.{dec_le, dec_lt}
 use Rattle.std.proofs.Math.ListN.{get_elem?}
 use mathlib.Core.Option.{some, some-injective, some-ne-none}
@@ -8,6 +8,7 @@ use Rattle.atomic_table.specs.Table.{opening}
 use Rattle.fish_layout.specs.Cleared.{choose}
 use Rattle.fish_rule.proofs.Bodies.{high-pack, low-pack}
 use Rattle.fish_rule.proofs.Kept.{published}
+use Rattle.fish_rule.proofs.FirstBoundaries.{began, first_boundaries, owned_first}
 use Rattle.fish_rule.proofs.Registers.{definitions_first}
 use Rattle.fish_rule.proofs.Worlds.{area-behind, area-in}
 use Rattle.std.proofs.lemmas.List.{get_or_past}
@@ -22,12 +23,9 @@ use Rattle.fish_rule.specs.Views.{Each}
 use Rattle.fish_rule.specs.World.{World, area, dir_at, heads_at, high, log_at, log_size, low, registry_size, slots, world}
 use Rattle.fish_rule.specs.declared.view.Key.{Key}
 use Rattle.fish_rule.specs.declared.view.View.{View}
-use Rattle.std.proofs.lemmas.List.{length-map}
 use Rattle.fish_catalog.proofs.Listings.{listing_of_catalog}
-use Rattle.fish_catalog.specs.Listing.{IsListing, listed_of}
-use Rattle.fish_catalog.specs.declared.listed.Listed.{Listed}
-use Rattle.fish_rule.specs.Epochs.{Carries, IsUnmade, Registry, Stays, Versions}
-use Rattle.fish_rule.specs.Registry.{definitions_at, version_in}
+use Rattle.fish_catalog.specs.Listing.{IsListing}
+use Rattle.fish_rule.specs.Epochs.{Carries, Registry, Stays, Versions}
 use Rattle.fish_rule.specs.declared.view.Epoch.{Epoch}
 use Rattle.fish_rule.specs.declared.view.Epoch.TheVariants.{Out}
 
@@ -101,7 +99,7 @@ module _ (k : Key) (ws : List ℕ) (fits : Fits k) (empty : IsEmpty k ws) where
     views = first_view k ∷ [];
   }
 
-module _ (k : Key) (g : ℕ → ℕ) (fits : Fits k) (opening_ : IsOpening k.version k.rows.value g) where
+module _ (k : Key) (g : ℕ → ℕ) (fits : Fits k) (opening_ : IsOpening k.version k.number k.rows.value g) where
   -- the world at the start
   abbrev w : World
   w = empty_world k g
@@ -172,10 +170,6 @@ module _ (k : Key) (g : ℕ → ℕ) (fits : Fits k) (opening_ : IsOpening k.ver
   abbrev state : ℕ → Epoch
   state _ = Out
 
-  -- the definitions are those of the start
-  began : definitions_at k g (version_in g) ≡ map listed_of k.rows.value
-  began = definitions_first k g (version_in g) (let z = opening_.version in omega arith)
-
   versions : Versions k k.number g version_of
   versions = record {
     from = (let z = opening_.version in omega arith);
@@ -191,28 +185,21 @@ module _ (k : Key) (g : ℕ → ℕ) (fits : Fits k) (opening_ : IsOpening k.ver
         (h.0, λ i above below. h.1 i below);
   }
 
-  -- no word of an operation or a row that is still to come is set
-  unmade_zero : (p : ℕ) → IsUnmade k g p → g p ≡ 0
-  unmade_zero p (inl h) = (let z = opening_.version in let a = h.1 in
-      ap g h.3 ∙ opening_.operations h.0 (omega arith) h.2)
-  unmade_zero p (inr h) =
-      let all : length (definitions_at k g (version_in g)) ≡ length k.rows.value =
-      ap (λ (z : List Listed). length z) began ∙ length-map k.rows.value listed_of in
-      let a = h.2 in
-      ap g h.5 ∙ opening_.rest h.0 h.1 (omega arith) h.3 h.4
-
   registry : Registry k k.number g state version_of w.views
   registry = record {
     epochs = record { words = λ l above below. opening_.out l above below; past = λ l above below. tt };
     versions = versions;
-    each = each_one (λ v. Stays k g state v.lane v.out v.epoch v.learned.version v.learned.words v.rows v.draft)
+    boundaries = first_boundaries k g opening_;
+    each = each_one (Stays k k.number g state version_of)
         (first_view k) (record {
           tied = λ l has. ((λ _. refl), (λ _. refl));
           from = λ _. omega arith;
           since = tt;
           reached = omega arith;
           read = tt;
-          main = λ _. record { version = sym opening_.version; definitions = began; unmade = unmade_zero };
+          unended = tt;
+          main = λ _. record { version = sym opening_.version; definitions = began k g opening_; owned = owned_first k g opening_ };
+          waits = tt;
         });
     flights = each_one (λ v. Carries k g version_of v.lane v.epoch v.flight) (first_view k) tt;
   }

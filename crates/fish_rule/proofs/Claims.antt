@@ -1,12 +1,12 @@
 -- A claim: the tail moves on by one number and so many lines, and the region between is in flight.
 -- All of it stands over one world, one view and one step: cut in two, each lemma would name them all again.
-use Rattle.std.proofs.Common.{◌≡◌, ◌≢◌, ℕ, ◌+◌, ◌*◌, ◌<◌, ◌≤◌, suc, set, sym, refl, ap, ◌∙◌, subst, arith}
+use Rattle.std.proofs.Common.{◌≡◌, ◌≢◌, ℕ, ◌+◌, ◌*◌, ◌<◌, ◌≤◌, suc, length, set, sym, refl, ap, ◌∙◌, subst, arith}
 use Rattle.std.proofs.Common.{Some, None, Option}
 use Rattle.std.proofs.Math.Decide.{ℕ_discrete, dec_lt}
 use mathlib.Core.Option.{some}
 use Rattle.std.proofs.Math.ListN.{get_elem?}
 use Rattle.atomic_table.proofs.Lists.{set_here}
-use Rattle.fish_rule.proofs.Common.{each_set, has_own, no_flight, only_main, pairs_set, seats_kept, within_list}
+use Rattle.fish_rule.proofs.Common.{all_map, each_set, has_own, no_flight, only_main, pairs_set, seats_kept, within_list}
 use Rattle.fish_rule.proofs.Frames.{flight_there}
 use Rattle.fish_rule.proofs.Kept.{chained_later, facts_later, finished_later, flight_later, keyed_kept, owns_later}
 use Rattle.fish_rule.proofs.Kept.{published, shut_later}
@@ -26,10 +26,13 @@ use Rattle.fish_rule.specs.declared.view.Kind.TheVariants.{Stored}
 use Rattle.fish_rule.specs.declared.view.View.{View}
 use Rattle.fish_rule.proofs.Registers.{endures_same}
 use Rattle.fish_layout.specs.Cleared.{body_of}
-use Rattle.fish_rule.specs.Epochs.{Carries, IsAtMost, IsSince, Registry, Versions}
+use Rattle.fish_rule.specs.Boundaries.{Boundaries, IsOpenIn, IsUnended, Lists}
+use Rattle.fish_rule.specs.Epochs.{Carries, IsAtMost, Registry, Stays, Versions}
 use Rattle.fish_rule.specs.Keys.{IsKeyed}
 use Rattle.fish_rule.specs.Regions.{code}
-use Rattle.fish_rule.specs.Registry.{AreActiveAt, version_in}
+use Rattle.fish_rule.specs.Registry.{AreActiveAt, HasBoundary, definitions_at, version_in}
+use Rattle.fish_rule.specs.Rounds.{IsSince, Waits}
+use Rattle.fish_rule.specs.declared.view.Round.{Round}
 use Rattle.fish_rule.specs.declared.view.Epoch.{Epoch}
 use Rattle.fish_rule.specs.declared.view.Epoch.TheVariants.{Confirmed}
 
@@ -308,11 +311,96 @@ module _ (k : Key) (w : World) (r : Rule k w) (id : ℕ) (v : View) (at : get_el
             (body_of g.words)) (sym e) (h.keyed some_);
       }
 
+  -- the lane is as far entered as the pass
+  own_state : r.state v.lane ≡ Confirmed can.version
+  own_state = ((r.registry.each id v at).tied v.lane (has_own w.views id v at can.live r.seats)).0 refl ∙ can.entered
+
+  -- where an index has begun, the new record's version has the definition
+  boundaries : Boundaries k (suc w.count) w.registry r.state version_of'
+  boundaries =
+      let h = r.registry.boundaries in
+      record {
+        unmade = h.unmade;
+        in_order = h.in_order;
+        claimed = λ n i x few bound is. (let a = h.claimed n i x few bound is in omega arith);
+        entered = h.entered;
+        begun = λ n from m few is above after below. begins n from m few is above after below (ℕ_discrete m w.count);
+        unended = λ n to m few is above before below.
+            (let most = h.claimed n 1 to few (omega arith) is in
+            let less : m < w.count = omega arith in
+            subst (λ (z : ℕ). IsOpenIn (definitions_at k w.registry z) n) (sym (old_version m less))
+            (h.unended n to m few is above before less));
+        running = h.running;
+      }
+    where
+      begins : (n from m : ℕ) → n < 256 → HasBoundary w.registry n 0 from → k.number ≤ m → from ≤ m
+          → m < suc w.count → Dec (m ≡ w.count) → n < length (definitions_at k w.registry (version_of' m))
+      begins n from m few is above after below (yes e) =
+          let has = has_own w.views id v at can.live r.seats in
+          let lists = subst (Lists k w.registry n) own_state
+          (r.registry.boundaries.entered n from v.lane few is has.0 has.1) in
+          subst (λ (z : ℕ). n < length (definitions_at k w.registry z))
+          (sym (ap version_of' e ∙ put-here r.version_of w.count can.version)) lists
+      begins n from m few is above after below (no ne) = (let less : m < w.count = omega arith in
+          subst (λ (z : ℕ). n < length (definitions_at k w.registry z)) (sym (old_version m less))
+          (r.registry.boundaries.begun n from m few is above after less))
+
+  -- a registration waits on: once all lanes were looked at, the new record has at least its version
+  waiting : (lane : ℕ) (o : Option Round) → Waits k w.count w.registry r.state r.version_of lane o
+      → Waits k (suc w.count) w.registry r.state version_of' lane o
+  waiting lane None h = h
+  waiting lane (Some o) h = record {
+    main = h.main;
+    few = h.few;
+    reached = h.reached;
+    listed = h.listed;
+    unset = h.unset;
+    clear = h.clear;
+    bound = λ n is. let b = h.bound n is in
+        record {
+          all = b.all;
+          within = (let a = b.within in omega arith);
+          since = λ m above after below. (after_bound n is m above after below (ℕ_discrete m w.count));
+        };
+  }
+    where
+      after_bound : (n : ℕ) → o.bound ≡ Some n → (m : ℕ) → k.number ≤ m → n ≤ m → m < suc w.count → Dec (m ≡ w.count)
+          → o.version ≤ version_of' m
+      after_bound n is m above after below (yes e) =
+          let has = has_own w.views id v at can.live r.seats in
+          let since = subst (IsSince o.version) own_state
+          (h.clear v.lane has.0 has.1 ((h.bound n is).all v.lane has.0 has.1)) in
+          subst (λ (z : ℕ). o.version ≤ z) (sym (ap version_of' e ∙ put-here r.version_of w.count can.version)) since
+      after_bound n is m above after below (no ne) = (let less : m < w.count = omega arith in
+          subst (λ (z : ℕ). o.version ≤ z) (sym (old_version m less)) ((h.bound n is).since m above after less))
+
+  -- what a pass knows of the registry is so
+  stays_on : (u : View) → Stays k w.count w.registry r.state r.version_of u
+      → Stays k (suc w.count) w.registry r.state version_of' u
+  stays_on u h = record {
+    tied = h.tied;
+    from = h.from;
+    since = h.since;
+    reached = h.reached;
+    read = h.read;
+    unended = all_map (IsUnended k w.count w.registry r.version_of) (IsUnended k (suc w.count) w.registry version_of')
+        (λ x m. record {
+          within = (let a = m.within in omega arith);
+          running = λ n above below. (let a = m.within in let less : n < w.count = omega arith in
+              subst (λ (z : ℕ). IsOpenIn (definitions_at k w.registry z) x.id) (sym (old_version n less))
+              (m.running n above below));
+        }) u.learned.unended h.unended;
+    main = h.main;
+    waits = waiting u.lane u.round h.waits;
+  }
+
   registry : Registry k (suc w.count) w.registry r.state version_of' (set w.views id claimer)
   registry = record {
     epochs = r.registry.epochs;
     versions = versions;
-    each = each_set _ w.views id claimer (λ j u ne at_u. r.registry.each j u at_u) (r.registry.each id v at);
+    boundaries = boundaries;
+    each = each_set _ w.views id claimer (λ j u ne at_u. stays_on u (r.registry.each j u at_u))
+        (stays_on v (r.registry.each id v at));
     flights = each_set _ w.views id claimer
         (λ j u ne at_u. others_carry u.lane u.epoch u.flight (r.space.flights j u at_u) (r.registry.flights j u at_u))
         (record {

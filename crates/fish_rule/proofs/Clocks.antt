@@ -1,5 +1,5 @@
 -- Clocks that go on, and loads between two of them.
-use Rattle.std.proofs.Common.{◌≡◌, ℕ, ◌≤◌, List, [], ◌∷◌, ◌++◌, append_assoc, ap, arith, inl, refl, sym, ◌∙◌}
+use Rattle.std.proofs.Common.{ℕ, List, [], ◌∷◌, ◌++◌, append_assoc, ap, arith, inl, refl, sym, ◌∙◌}
 use Rattle.fish_rule.proofs.Common.{among_left, among_right}
 use Rattle.fish_rule.specs.Clocks.{HasLoaded, IsLater}
 use Rattle.fish_rule.specs.Steps.{loaded, noted, ticked}

@@ -1,6 +1,6 @@
 -- What the entries of a log say of the moment that spells them, and what a closed log has of what passes knew.
 use Rattle.std.proofs.Common.{◌≡◌, ◌≢◌, ℕ, ◌+◌, ◌<◌, ◌≤◌, zero, suc, List, [], ◌∷◌, length, refl, sym, ap, ◌∙◌, subst}
-use Rattle.std.proofs.Common.{◌⊎◌, ⊎_elim, arith, Some, slice_get}
+use Rattle.std.proofs.Common.{⊎_elim, arith, Some, slice_get}
 use mathlib.Core.Option.{some, some-injective, some-ne-none}
 use Rattle.std.proofs.Math.Decide.{dec_lt}
 use Rattle.std.proofs.Math.ListN.{get_elem?}
@@ -16,7 +16,7 @@ use Rattle.fish_rule.proofs.Kept.{published}
 use Rattle.fish_rule.specs.Closed.{IsOfLane, OwnIsClosed, ToldIsClosed}
 use Rattle.fish_rule.specs.Closing.{IsClosed}
 use Rattle.fish_rule.specs.Facts.{IsStoredBy}
-use Rattle.fish_rule.specs.Logs.{IsEntry, IsLog, IsStoredEntry, Learns, Tells}
+use Rattle.fish_rule.specs.Logs.{IsEntry, IsLog, Learns}
 use Rattle.fish_rule.specs.Parts.{IsEntryWord}
 use Rattle.fish_rule.specs.Regions.{Holds, IsRecord, code, kind_of}
 use Rattle.fish_rule.specs.Rule.{Rule}

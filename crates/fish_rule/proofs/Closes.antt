@@ -1,9 +1,8 @@
 -- What the control pass, alone, has read is what is left of the log.
 use Rattle.std.proofs.Common.{◌≡◌, ◌≢◌, ℕ, ◌+◌, ◌-◌, ◌*◌, ◌<◌, ◌≤◌, suc, List, length, refl, sym, ap, true}
-use Rattle.std.proofs.Common.{◌∙◌, subst, inl, inr, ◌⊎◌, ⊎_elim, arith, Some, None, Option}
-use mathlib.Core.Option.{some, some-injective}
+use Rattle.std.proofs.Common.{◌∙◌, subst, inl, inr, ⊎_elim, arith, Some, None}
+use mathlib.Core.Option.{some-injective}
 use Rattle.std.proofs.Math.ListN.{get_elem?}
-use Rattle.fish_catalog.specs.declared.page_start.PageStart.{PageStart}
 use Rattle.fish_rule.proofs.Bodies.{kind-inside}
 use Rattle.fish_rule.proofs.ClosedLogs.{within_log}
 use Rattle.fish_rule.proofs.Common.{all_among, only_main}
@@ -16,13 +15,11 @@ use Rattle.fish_rule.specs.Logs.{IsLog}
 use Rattle.fish_rule.specs.Parts.{Flies, InFlight, Rests, first_head}
 use Rattle.fish_rule.specs.Reading.{IsAlone}
 use Rattle.fish_rule.specs.Regions.{code}
-use Rattle.fish_rule.specs.Rule.{Rule}
 use Rattle.fish_rule.specs.Table.{Stands}
 use Rattle.fish_rule.specs.Views.{Among}
 use Rattle.fish_rule.specs.Walks.{IsGap}
 use Rattle.fish_rule.specs.World.{World, body, high}
 use Rattle.fish_rule.specs.declared.close.ReadLog.{ReadLog}
-use Rattle.fish_rule.specs.declared.view.Flight.{Flight}
 use Rattle.fish_rule.specs.declared.view.Found.{Found}
 use Rattle.fish_rule.specs.declared.view.Kind.TheVariants.{Mark, Stored}
 use Rattle.fish_rule.specs.declared.view.Position.{Position}

@@ -1,13 +1,13 @@
 -- What the control pass, alone, concludes of the whole log.
 use Rattle.std.proofs.Common.{◌≡◌, ◌≢◌, ℕ, ◌+◌, ◌≤◌, zero, suc, List, [], ◌∷◌, ◌++◌, length, refl, sym, ap}
-use Rattle.std.proofs.Common.{◌∙◌, subst, inl, inr, ◌⊎◌, ⊎_elim, arith, Some, None, Option}
+use Rattle.std.proofs.Common.{◌∙◌, subst, inl, inr, arith, Some, None, Option}
 use mathlib.Core.Option.{some}
 use Rattle.std.proofs.Math.ListN.{get_elem?}
 use Rattle.atomic_table.proofs.Lists.{at_snoc}
 use Rattle.fish_catalog.specs.declared.entry.Entry.{Entry}
 use Rattle.fish_catalog.specs.declared.entry.Entry.TheVariants as entry
 use Rattle.fish_rule.proofs.Common.{all_among}
-use Rattle.fish_rule.proofs.Extending.{extends_look, found_here, learns_both, learns_self}
+use Rattle.fish_rule.proofs.Extending.{extends_look, found_here, learns_both}
 use Rattle.fish_rule.specs.Closing.{IsClosed, IsClosedAt, ReadsOn}
 use Rattle.fish_rule.specs.Logs.{AreTold, Extends, Learns, Tells, TellsMark}
 use Rattle.fish_rule.specs.Parts.{Rests}

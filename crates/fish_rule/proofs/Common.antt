@@ -1,6 +1,6 @@
 -- Lists of views, one of which changes, and facts about lists.
 use Rattle.std.proofs.Common.{◌≡◌, ◌≢◌, ℕ, ◌<◌, ◌≤◌, zero, suc, List, [], ◌∷◌, ◌++◌, length, set, sym, refl}
-use Rattle.std.proofs.Common.{subst, inl, inr, ◌⊎◌, ⊎_elim, arith, None, Option}
+use Rattle.std.proofs.Common.{subst, inl, inr, ◌⊎◌, ⊎_elim, arith, Some, None, Option, slice_get}
 use mathlib.Core.Option.{some, some-ne-none}
 use Rattle.std.proofs.Math.ListN.{get_elem?}
 use Rattle.atomic_table.proofs.Lists.{at_set, at_snoc}
@@ -120,6 +120,12 @@ module _ {A : Type 0} where
   among_either x (y ∷ xs) ys (inl e) = inl (inl e)
   among_either x (y ∷ xs) ys (inr m) = ⊎_elim (λ (t : Among x xs). inl (inr t)) (λ (t : Among x ys). inr t)
       (among_either x xs ys m)
+
+  -- an element is there
+  pub there_is : (xs : List A) (i : ℕ) → i < length xs → (x : A) × (slice_get xs i ≡ Some x)
+  there_is [] i less = absurd (omega arith)
+  there_is (x ∷ xs) zero less = (x, refl)
+  there_is (x ∷ xs) (suc i) less = there_is xs i (omega arith)
 
 -- ---- options
 

@@ -1,26 +1,32 @@
 -- How the control pass changes the registry: a store of a word of the next operation or row, and a store of the
 -- version plus one.
 use Rattle.std.proofs.Common.{◌≡◌, ◌≢◌, ℕ, ◌%◌, ◌<◌, ◌≤◌, suc, List, [], ◌∷◌, ◌++◌, length, set, sym, refl}
-use Rattle.std.proofs.Common.{ap, ◌∙◌, subst, inl, inr, ⊎_elim, arith, true}
+use Rattle.std.proofs.Common.{◌+◌, ◌⊎◌, ap, ◌∙◌, subst, inl, inr, ⊎_elim, arith, true, Some, None, slice_get}
 use Rattle.std.proofs.Math.Decide.{ℕ_discrete, dec_le, dec_lt}
 use mathlib.Core.Option.{some}
 use Rattle.std.proofs.Math.ListN.{get_elem?}
+use Rattle.fish_catalog.proofs.Changes.{push_cases}
+use Rattle.fish_catalog.proofs.Clamping.{mapped_from}
 use Rattle.fish_catalog.proofs.Listings.{listing_ended, listing_registered}
-use Rattle.fish_catalog.specs.Listing.{IsListing, ended_at, listed_in}
+use Rattle.fish_catalog.specs.Listing.{IsListing, ended, ended_at, listed_in}
 use Rattle.fish_catalog.specs.declared.listed.Listed.{Listed}
 use Rattle.fish_layout.proofs.Clearing.{choose_first, choose_second}
+use Rattle.fish_layout.specs.Cleared.{choose}
+use Rattle.fish_rule.proofs.Bounded.{boundaries_later, listed_later, lists_later, open_later, unended_later, waits_later}
 use Rattle.fish_rule.proofs.Common.{each_set, has_own}
-use Rattle.fish_rule.proofs.Registers.{definitions_next, length_made, made_same}
-use Rattle.fish_rule.proofs.Registries.{carries_later, listing_later, operation_kept, operation_later, read_later}
-use Rattle.fish_rule.proofs.Registries.{register_lasts, registers, rows_later, unmade_before, versions_later}
+use Rattle.fish_rule.proofs.MainStores.{its, others_stay, store_endures, store_still, stores}
+use Rattle.fish_rule.proofs.Registers.{definitions_later, definitions_next, length_made, length_registered, made_same}
+use Rattle.fish_rule.proofs.Registries.{carries_later, listing_later, operation_kept, operation_later, owned_far, read_later}
+use Rattle.fish_rule.proofs.Registries.{register_lasts, registers, rows_later}
 use Rattle.fish_rule.proofs.Worlds.{put-else, put-here}
-use Rattle.fish_rule.specs.Entering.{CanBump, CanDefine, IsNextWord, after_bump, after_define, next_operation}
-use Rattle.fish_rule.specs.Epochs.{IsAtMost, IsMain, IsUnmade, Registry, Stays, Versions}
+use Rattle.fish_rule.specs.Boundaries.{Boundaries, IsOpenIn}
+use Rattle.fish_rule.specs.Entering.{CanBump, CanDefine, IsNextWord, after_bump, after_define, next_operation, round_after}
+use Rattle.fish_rule.specs.Epochs.{IsAtMost, IsOwned, IsUnmade, Registry, Stays, Versions}
 use Rattle.fish_rule.specs.Registry.{Endures, IsLasting, IsOperation, definitions_at, drafted, epoch_at, made, op_at}
 use Rattle.fish_rule.specs.Registry.{row_at, row_in, version_in}
+use Rattle.fish_rule.specs.Rounds.{IsSince, Waits}
 use Rattle.fish_rule.specs.Rule.{Final, Rule}
 use Rattle.fish_rule.specs.Steps.{ticked}
-use Rattle.fish_rule.specs.Views.{Has}
 use Rattle.fish_rule.specs.World.{World, put}
 use Rattle.fish_rule.specs.declared.view.Epoch.{Epoch}
 use Rattle.fish_rule.specs.declared.view.Epoch.TheVariants.{Announced, Confirmed, Out}
@@ -50,21 +56,31 @@ listing_made f x ls listing (inr h) =
     (ls ++ listed_in (row_in f (length ls)) (length ls) true ∷ []) (ended_at (x % 256) ls) (λ less. omega arith)))
     (listing_ended ls (x % 256) listing)
 
+-- an operation adds a definition that has not ended, or ends one: what it doesn't end stays open
+open_made : (f : ℕ → ℕ) (x : ℕ) (ls : List Listed) (n : ℕ) → IsOperation (row_in f (length ls)) ls x → IsListing ls
+    → x ≢ 512 + n → IsOpenIn ls n → IsOpenIn (made f x ls) n
+open_made f x ls n (inl t) listing other h =
+    let room = t.1.room in
+    let is = t.0 in
+    subst (λ (z : List Listed). IsOpenIn z n) (sym (choose_first (dec_lt x 512)
+    (ls ++ listed_in (row_in f (length ls)) (length ls) true ∷ []) (ended_at (x % 256) ls) (omega arith)))
+    (λ l there. ⊎_elim (λ (old : slice_get ls n ≡ Some l). h l old)
+    (λ (new : (n ≡ length ls) × (listed_in (row_in f (length ls)) (length ls) true ≡ l)).
+    ap (λ (z : Listed). z.active) (sym new.1))
+    (push_cases ls (listed_in (row_in f (length ls)) (length ls) true) n l there))
+open_made f x ls n (inr t) listing other h =
+    let is = t.1 in
+    let few = t.2 in
+    subst (λ (z : List Listed). IsOpenIn z n) (sym (choose_second (dec_lt x 512)
+    (ls ++ listed_in (row_in f (length ls)) (length ls) true ∷ []) (ended_at (x % 256) ls) (λ less. omega arith)))
+    (λ l there. let was = mapped_from (λ (z : Listed). choose (ℕ_discrete z.id (x % 256)) (ended z) z) ls n l there in
+    let place : was.0.id ≡ n = listing.ids n was.0 was.1 in
+    let kept : was.0.id ≢ x % 256 = λ same. other (omega arith) in
+    ap (λ (z : Listed). z.active)
+    (sym was.2 ∙ choose_second (ℕ_discrete was.0.id (x % 256)) (ended was.0) was.0 kept) ∙ h was.0 was.1)
+
 module _ (k : Key) (w : World) (r : Rule k w) (id : ℕ) (v : View) (at : get_elem? w.views id ≡ some v)
     (main : v.lane ≡ 1) where
-  -- the control pass knows the registry as it is
-  its : IsMain k w.registry v.learned.version v.rows v.draft
-  its = (r.registry.each id v at).main main
-
-  -- another pass isn't the control pass
-  not_main : (j : ℕ) (u : View) → j ≢ id → get_elem? w.views j ≡ some u → u.lane ≢ 1
-  not_main j u ne at_u e =
-      let mine : Has v.lane v.out 1 = subst (λ (z : ℕ). Has v.lane v.out z) main
-      (has_own w.views id v at (omega arith) r.seats) in
-      let others : Has u.lane u.out 1 = subst (λ (z : ℕ). Has u.lane u.out z) e
-      (has_own w.views j u at_u (omega arith) r.seats) in
-      ne (r.seats.apart j id u v 1 at_u at others mine)
-
   -- ---- define
 
   module _ (p x : ℕ) (can : CanDefine v p x) where
@@ -73,10 +89,10 @@ module _ (k : Key) (w : World) (r : Rule k w) (id : ℕ) (v : View) (at : get_el
     unmade_here = by can.next
       where
         size : length (definitions_at k w.registry (version_in w.registry)) ≡ length v.rows
-        size = ap (λ (z : List Listed). length z) its.definitions
+        size = ap (λ (z : List Listed). length z) (its k w r id v at main).definitions
 
         by : IsNextWord v p x → IsUnmade k w.registry p
-        by (inl h) = (let e = its.version in let a = h.0 in let q = h.1 in
+        by (inl h) = (let e = (its k w r id v at main).version in let a = h.0 in let q = h.1 in
             inl (suc v.learned.version, (omega arith), (omega arith), h.1))
         by (inr h) = (let e = size in inr (length v.rows, h.0, (omega arith), h.1, h.2, h.3))
 
@@ -90,86 +106,54 @@ module _ (k : Key) (w : World) (r : Rule k w) (id : ℕ) (v : View) (at : get_el
     made_else q (inr (inl h)) e = ⊎_elim
         (λ m. let a = h.2 in let b = h.3 in let c = m.1 in let d = m.3 in omega arith)
         (λ m. let a = h.2 in let b = h.3 in let c = m.5 in let f = r.registry.versions.few in omega arith) unmade_here
-    made_else q (inr (inr h)) e = ⊎_elim
+    made_else q (inr (inr (inl h))) e = ⊎_elim
         (λ m. let a = h.5 in let b = m.2 in let c = m.3 in omega arith)
         (λ m. let a = h.2 in let b = h.4 in let c = h.5 in let d = m.2 in let f = m.5 in omega arith) unmade_here
+    made_else q (inr (inr (inr h))) e = ⊎_elim
+        (λ m. let a = h.0.4 in let b = m.2 in let c = m.3 in omega arith)
+        (λ m. h.1 (ap w.registry h.0.4 ∙ r.registry.boundaries.unmade h.0.0 h.0.1
+        (let a = h.0.4 in let b = h.0.3 in let c = m.2 in let d = m.5 in omega arith) h.0.2 h.0.3)) unmade_here
 
-    -- the words afterwards
-    abbrev defined : ℕ → ℕ
-    defined = put w.registry p x
+    define_still : version_in (put w.registry p x) ≡ version_in w.registry
+    define_still = store_still k w r id v at main p x far_here made_else
 
-    still : version_in defined ≡ version_in w.registry
-    still = (let far = far_here in put-else w.registry p x 2 (λ e. omega arith))
+    define_endures : Endures k w.registry (put w.registry p x)
+    define_endures = store_endures k w r id v at main p x far_here made_else
 
-    endures : Endures k w.registry defined
-    endures = record {
-      rises = (let e = still in omega arith);
-      same = λ q h. put-else w.registry p x q (made_else q h);
-    }
+    -- a boundary that it may be is none, as it was
+    boundary_same : (n i : ℕ) → n < 256 → i < 2 → put w.registry p x (row_at n i) ≡ w.registry (row_at n i)
+    boundary_same n i few bound = pick (ℕ_discrete (row_at n i) p)
+      where
+        pick : Dec (row_at n i ≡ p) → put w.registry p x (row_at n i) ≡ w.registry (row_at n i)
+        pick (no ne) = put-else w.registry p x (row_at n i) ne
+        pick (yes e) = ⊎_elim
+            (λ (h : (v.learned.version < 512) × (p ≡ op_at (suc v.learned.version))). let a = h.0 in let b = h.1 in
+            absurd (omega arith))
+            (λ (h : (j : ℕ) × (length v.rows < 256) × (j < 39) × (p ≡ row_at (length v.rows) j) × ((2 ≤ j) ⊎ (x ≡ 0))).
+            let same = h.3 in
+            let small = h.2 in
+            let size : length (definitions_at k w.registry (version_in w.registry)) ≡ length v.rows =
+            ap (λ (z : List Listed). length z) (its k w r id v at main).definitions in
+            ⊎_elim (λ (far : 2 ≤ h.0). absurd (omega arith))
+            (λ (zero_ : x ≡ 0). ap (put w.registry p x) e ∙ put-here w.registry p x ∙ zero_
+            ∙ sym (r.registry.boundaries.unmade n i (omega arith) few bound)) h.4) can.next
 
     -- the view afterwards
-    abbrev pub definer : View
+    abbrev definer : View
     definer = after_define v p x
 
-    define_stays : Stays k defined r.state v.lane v.out v.epoch v.learned.version v.learned.words v.rows definer.draft
-    define_stays =
-        let h = r.registry.each id v at in
-        record {
-          tied = h.tied;
-          from = h.from;
-          since = h.since;
-          reached = (let e = still in let a = h.reached in omega arith);
-          read = read_later k w.registry defined endures v.learned.words h.read;
-          main = λ _. record {
-            version = its.version ∙ sym still;
-            definitions = ap (definitions_at k defined) still
-                ∙ Rattle.fish_rule.proofs.Registers.definitions_later k w.registry defined endures
-                (version_in w.registry) (omega arith) ∙ its.definitions;
-            unmade = λ q u. pick q (unmade_before k w.registry defined endures still q u) (ℕ_discrete q p);
-          };
-        }
-      where
-        pick : (q : ℕ) → IsUnmade k w.registry q → Dec (q ≡ p) → defined q ≡ drafted definer.draft q
-        pick q u (yes e) = ap defined e ∙ put-here w.registry p x
-            ∙ sym (choose_first (ℕ_discrete q p) x (drafted v.draft q) e)
-        pick q u (no ne) = put-else w.registry p x q ne ∙ its.unmade q u
-            ∙ sym (choose_second (ℕ_discrete q p) x (drafted v.draft q) ne)
-
-    define_registry : Registry k w.count defined r.state r.version_of (set w.views id definer)
-    define_registry = record {
-      epochs = record {
-        words = λ l above below. let far = far_here in put-else w.registry p x (epoch_at l) (λ e. omega arith)
-            ∙ r.registry.epochs.words l above below;
-        past = λ l above below. subst (λ (z : ℕ). IsAtMost z (r.state l)) (sym still)
-            (r.registry.epochs.past l above below);
-      };
-      versions = versions_later k w.registry defined endures w.count r.version_of still r.registry.versions;
-      each = each_set _ w.views id definer
-          (λ j u ne at_u. let h = r.registry.each j u at_u in record {
-            tied = h.tied;
-            from = h.from;
-            since = h.since;
-            reached = (let e = still in let a = h.reached in omega arith);
-            read = read_later k w.registry defined endures u.learned.words h.read;
-            main = λ e. absurd (not_main j u ne at_u e);
-          }) define_stays;
-      flights = each_set _ w.views id definer
-          (λ j u ne at_u. carries_later k w.registry defined endures r.version_of u.lane u.epoch u.flight
-          (r.registry.flights j u at_u))
-          (carries_later k w.registry defined endures r.version_of v.lane v.epoch v.flight (r.registry.flights id v at));
-    }
-
-    -- a definition keeps the rule
-    pub define_kept : Rule k (record w { registry = put w.registry p x; views = set w.views id (after_define v p x) })
-    define_kept = registers k w r id v at defined v.epoch v.learned.version v.learned.words v.rows definer.draft
-        (ticked v.clock) endures r.state define_registry
-
-    -- and all that lasts
-    pub define_lasts : Final k r.start define_kept.start r.lane_of define_kept.lane_of w
-        (record w { registry = put w.registry p x; views = set w.views id (after_define v p x) })
-    unfolding define_kept
-    define_lasts = register_lasts k w r id v at defined v.epoch v.learned.version v.learned.words v.rows definer.draft
-        (ticked v.clock) endures r.state define_registry
+    -- a definition keeps the rule, and all that lasts
+    pub defines_last : (s : Rule k (record w { registry = put w.registry p x; views = set w.views id definer }))
+        × Final k r.start s.start r.lane_of s.lane_of w
+        (record w { registry = put w.registry p x; views = set w.views id definer })
+    defines_last = stores k w r id v at main p x far_here made_else v.round
+        (boundaries_later k w.registry _ define_endures w.count r.state r.state r.version_of define_still boundary_same
+        (λ n i l few is above below. lists_later k w.registry _ define_endures n (r.state l)
+        (r.registry.epochs.past l above below) (r.registry.boundaries.entered n i l few is above below))
+        r.registry.versions r.registry.boundaries)
+        (waits_later k w.registry _ define_endures w.count r.state r.state r.version_of v.lane
+        (λ n few. boundary_same n 0 few (omega arith)) (λ l s above below reached h. h) v.round
+        (r.registry.each id v at).waits)
 
   -- ---- bump
 
@@ -183,7 +167,7 @@ module _ (k : Key) (w : World) (r : Rule k w) (id : ℕ) (v : View) (at : get_el
     before = definitions_at k w.registry (version_in w.registry)
 
     up : version_in bumped ≡ suc (version_in w.registry)
-    up = put-here w.registry 2 (suc v.learned.version) ∙ ap suc its.version
+    up = put-here w.registry 2 (suc v.learned.version) ∙ ap suc (its k w r id v at main).version
 
     else_ : (q : ℕ) → q ≢ 2 → bumped q ≡ w.registry q
     else_ q ne = put-else w.registry 2 (suc v.learned.version) q ne
@@ -194,34 +178,36 @@ module _ (k : Key) (w : World) (r : Rule k w) (id : ℕ) (v : View) (at : get_el
         away : (q : ℕ) → IsLasting k w.registry q → q ≢ 2
         away q (inl h) e = omega arith
         away q (inr (inl h)) e = (let a = h.3 in omega arith)
-        away q (inr (inr h)) e = (let a = h.5 in omega arith)
+        away q (inr (inr (inl h))) e = (let a = h.5 in omega arith)
+        away q (inr (inr (inr h))) e = (let a = h.0.4 in omega arith)
 
     -- the operation stands in the words as it was stored
     op_is : w.registry (op_at (suc (version_in w.registry))) ≡ next_operation v
     op_is =
         let few = can.few in
-        let e = its.version in
-        its.unmade (op_at (suc (version_in w.registry)))
-        (inl (suc (version_in w.registry), (omega arith), (omega arith), refl))
-        ∙ ap (λ (z : ℕ). drafted v.draft (op_at (suc z))) (sym its.version)
+        let e = (its k w r id v at main).version in
+        (its k w r id v at main).owned (op_at (suc (version_in w.registry)))
+        (inl (inl (suc (version_in w.registry), (omega arith), (omega arith), refl)))
+        ∙ ap (λ (z : ℕ). drafted v.draft (op_at (suc z))) (sym (its k w r id v at main).version)
 
     -- and so does the next row
     row_is : length v.rows < 256 → (i : ℕ) → i < 39
         → w.registry (row_at (length v.rows) i) ≡ drafted v.draft (row_at (length v.rows) i)
     row_is room i few =
-        let size : length before ≡ length v.rows = ap (λ (z : List Listed). length z) its.definitions in
-        its.unmade (row_at (length v.rows) i) (inr (length v.rows, i, (omega arith), room, few, refl))
+        let size : length before ≡ length v.rows = ap (λ (z : List Listed). length z) (its k w r id v at main).definitions in
+        (its k w r id v at main).owned (row_at (length v.rows) i)
+        (inl (inr (length v.rows, i, (omega arith), room, few, refl)))
 
     -- the operation is one that may be made
     operation : IsOperation (row_in w.registry (length before)) before (w.registry (op_at (suc (version_in w.registry))))
     operation = subst (λ (z : List Listed × ℕ). IsOperation (row_in w.registry (length z.0)) z.0 z.1)
-        (λ i. (sym its.definitions i, sym op_is i))
+        (λ i. (sym (its k w r id v at main).definitions i, sym op_is i))
         (operation_later (row_in (drafted v.draft) (length v.rows)) (row_in w.registry (length v.rows)) v.rows
         (next_operation v) (λ room few i a b. row_is room i b) can.operation)
 
     -- the definitions up to the old version stay
     same_before : definitions_at k bumped (version_in w.registry) ≡ before
-    same_before = Rattle.fish_rule.proofs.Registers.definitions_later k w.registry bumped bump_endures
+    same_before = definitions_later k w.registry bumped bump_endures
         (version_in w.registry) (omega arith)
 
     -- the new version's are made by the operation
@@ -238,7 +224,7 @@ module _ (k : Key) (w : World) (r : Rule k w) (id : ℕ) (v : View) (at : get_el
     made_known : definitions_at k bumped (version_in bumped)
         ≡ made (drafted v.draft) (next_operation v) v.rows
     made_known = ap (definitions_at k bumped) up ∙ made_now
-        ∙ (λ j. made w.registry (op_is j) (its.definitions j))
+        ∙ (λ j. made w.registry (op_is j) ((its k w r id v at main).definitions j))
         ∙ made_same (drafted v.draft) w.registry (next_operation v) v.rows (λ less i a b. row_is (room less) i b)
       where
         room : next_operation v < 512 → length v.rows < 256
@@ -248,7 +234,7 @@ module _ (k : Key) (w : World) (r : Rule k w) (id : ℕ) (v : View) (at : get_el
     bump_versions =
         let h = r.registry.versions in
         let few_ = can.few in
-        let e = its.version in
+        let e = (its k w r id v at main).version in
         let rise = up in
         let from_ = h.from in
         record {
@@ -293,22 +279,127 @@ module _ (k : Key) (w : World) (r : Rule k w) (id : ℕ) (v : View) (at : get_el
     abbrev pub bumper : View
     bumper = after_bump v
 
-    bump_stays : Stays k bumped r.state v.lane v.out v.epoch (suc v.learned.version) v.learned.words bumper.rows v.draft
+    -- the index of a row that the operation ends has its end
+    has_end : (n : ℕ) → n < 256 → w.registry (op_at (suc (version_in w.registry))) ≡ 512 + n → w.registry (row_at n 1) ≢ 0
+    has_end n few is none = can.ends n (sym op_is ∙ is)
+        (sym ((its k w r id v at main).owned (row_at n 1) (inr (n, 1, few, omega arith, refl))) ∙ none)
+
+    -- what has no end had not ended, and the operation ends it not
+    open_then : (n : ℕ) → n < 256 → w.registry (row_at n 1) ≡ 0
+        → IsOpenIn (made w.registry (w.registry (op_at (suc (version_in w.registry)))) before) n
+    open_then n few none = open_made w.registry (w.registry (op_at (suc (version_in w.registry)))) before n operation
+        (r.registry.versions.listings (version_in w.registry) (omega arith))
+        (λ is. has_end n few is none) (r.registry.boundaries.running n (version_in w.registry) few none (omega arith))
+
+    same_bound : (n i : ℕ) → n < 256 → i < 2 → bumped (row_at n i) ≡ w.registry (row_at n i)
+    same_bound n i few bound = else_ (row_at n i) (λ e. omega arith)
+
+    bump_boundaries : Boundaries k w.count bumped r.state r.version_of
+    bump_boundaries =
+        let h = r.registry.boundaries in
+        let versions = r.registry.versions in
+        record {
+          unmade = λ n i more few bound. same_bound n i few bound ∙ h.unmade n i (fewer n more) few bound;
+          in_order = λ n few none. same_bound n 1 few (omega arith)
+              ∙ h.in_order n few (sym (same_bound n 0 few (omega arith)) ∙ none);
+          claimed = λ n i x few bound is. h.claimed n i x few bound (sym (same_bound n i few bound) ∙ is);
+          entered = λ n x l few is above below. lists_later k w.registry bumped bump_endures n (r.state l)
+              (r.registry.epochs.past l above below)
+              (h.entered n x l few (sym (same_bound n 0 few (omega arith)) ∙ is) above below);
+          begun = λ n from m few is above after below. listed_later k w.registry bumped bump_endures n (r.version_of m)
+              (versions.upto m above below)
+              (h.begun n from m few (sym (same_bound n 0 few (omega arith)) ∙ is) above after below);
+          unended = λ n to m few is above before_ below. open_later k w.registry bumped bump_endures n (r.version_of m)
+              (versions.upto m above below)
+              (h.unended n to m few (sym (same_bound n 1 few (omega arith)) ∙ is) above before_ below);
+          running = λ n u few none reached. opened_at n u few (sym (same_bound n 1 few (omega arith)) ∙ none) reached
+              (dec_le u (version_in w.registry));
+        }
+      where
+        fewer : (n : ℕ) → length (definitions_at k bumped (version_in bumped)) ≤ n → length before ≤ n
+        fewer n more =
+            let size : length (definitions_at k bumped (version_in bumped)) ≡ length
+            (made w.registry (w.registry (op_at (suc (version_in w.registry)))) before) =
+            ap (λ (z : List Listed). length z) (ap (definitions_at k bumped) up ∙ made_now) in
+            let grows = length_made w.registry (w.registry (op_at (suc (version_in w.registry)))) before in
+            omega arith
+
+        opened_at : (n u : ℕ) → n < 256 → w.registry (row_at n 1) ≡ 0 → u ≤ version_in bumped
+            → Dec (u ≤ version_in w.registry) → IsOpenIn (definitions_at k bumped u) n
+        opened_at n u few none reached (yes old) = open_later k w.registry bumped bump_endures n u old
+            (r.registry.boundaries.running n u few none old)
+        opened_at n u few none reached (no new) =
+            let rise = up in
+            let e : suc (version_in w.registry) ≡ u = omega arith in
+            subst (λ (z : ℕ). IsOpenIn (definitions_at k bumped z) n) e
+            (subst (λ (z : List Listed). IsOpenIn z n) (sym made_now) (open_then n few none))
+
+    -- a registration waits from here on
+    bump_waits : Waits k w.count bumped r.state r.version_of v.lane
+        (round_after (next_operation v) (length v.rows) (suc v.learned.version))
+    bump_waits = by (dec_lt (next_operation v) 512)
+      where
+        size : length before ≡ length v.rows
+        size = ap (λ (z : List Listed). length z) (its k w r id v at main).definitions
+
+        room : next_operation v < 512 → length v.rows < 256
+        room less = ⊎_elim (λ h. let q = h.1.room in omega arith) (λ h. let q = h.1 in absurd (omega arith)) can.operation
+
+        here : r.state 1 ≡ Out
+        here = ap r.state (sym main)
+            ∙ ((r.registry.each id v at).tied v.lane (has_own w.views id v at (omega arith) r.seats)).0 refl ∙ can.outside
+
+        by : (d : Dec (next_operation v < 512)) → Waits k w.count bumped r.state r.version_of v.lane
+            (choose d (Some (record {
+              id = length v.rows;
+              version = suc v.learned.version;
+              checked = 1 ∷ [];
+              bound = None;
+            })) None)
+        by (no h) = tt
+        by (yes less) =
+            let seen = (its k w r id v at main).version in
+            let rise = up in
+            let op = op_is in
+            let grown = length_registered w.registry (w.registry (op_at (suc (version_in w.registry)))) before
+            (omega arith) in
+            let now : length (definitions_at k bumped (suc (version_in w.registry))) ≡ length
+            (made w.registry (w.registry (op_at (suc (version_in w.registry)))) before) =
+            ap (λ (z : List Listed). length z) made_now in
+            let e : suc (version_in w.registry) ≡ suc v.learned.version = omega arith in
+            let sized = size in
+            record {
+              main = main;
+              few = room less;
+              reached = omega arith;
+              listed = subst (λ (z : ℕ). length v.rows < length (definitions_at k bumped z)) e (omega arith);
+              unset = same_bound (length v.rows) 0 (room less) (omega arith)
+                  ∙ r.registry.boundaries.unmade (length v.rows) 0 (omega arith) (room less) (omega arith);
+              clear = λ l above below among. ⊎_elim
+                  (λ (t : 1 ≡ l). subst (IsSince (suc v.learned.version)) (sym (ap r.state (sym t) ∙ here)) tt)
+                  (λ t. elim t [ ]) among;
+              bound = λ n is. absurd cc;
+            }
+
+    bump_stays : Stays k w.count bumped r.state r.version_of bumper
     bump_stays =
         let h = r.registry.each id v at in
         let rise = up in
-        let seen = its.version in
+        let seen = (its k w r id v at main).version in
         record {
           tied = h.tied;
           from = λ live. (let a = h.from live in omega arith);
           since = h.since;
           reached = omega arith;
           read = read_later k w.registry bumped bump_endures v.learned.words h.read;
+          unended = unended_later k w.registry bumped bump_endures w.count r.version_of r.registry.versions
+              v.learned.unended h.unended;
           main = λ _. record {
-            version = ap suc its.version ∙ sym up;
+            version = ap suc (its k w r id v at main).version ∙ sym up;
             definitions = made_known;
-            unmade = λ q u. let b = unmade_then q u in else_ q (away q b) ∙ its.unmade q b;
+            owned = λ q u. let b = owned_then q u in else_ q (away q b) ∙ (its k w r id v at main).owned q b;
           };
+          waits = bump_waits;
         }
       where
         unmade_then : (q : ℕ) → IsUnmade k bumped q → IsUnmade k w.registry q
@@ -321,9 +412,12 @@ module _ (k : Key) (w : World) (r : Rule k w) (id : ℕ) (v : View) (at : get_el
             let a = h.2 in
             inr (h.0, h.1, (omega arith), h.3, h.4, h.5)
 
-        away : (q : ℕ) → IsUnmade k w.registry q → q ≢ 2
-        away q (inl h) e = (let a = h.3 in omega arith)
-        away q (inr h) e = (let a = h.5 in omega arith)
+        owned_then : (q : ℕ) → IsOwned k bumped q → IsOwned k w.registry q
+        owned_then q (inl h) = inl (unmade_then q h)
+        owned_then q (inr h) = inr h
+
+        away : (q : ℕ) → IsOwned k w.registry q → q ≢ 2
+        away q h e = (let far = owned_far k w.registry q h in omega arith)
 
     bump_registry : Registry k w.count bumped r.state r.version_of (set w.views id bumper)
     bump_registry = record {
@@ -333,15 +427,8 @@ module _ (k : Key) (w : World) (r : Rule k w) (id : ℕ) (v : View) (at : get_el
             (let rise = up in omega arith) (r.registry.epochs.past l above below);
       };
       versions = bump_versions;
-      each = each_set _ w.views id bumper
-          (λ j u ne at_u. let h = r.registry.each j u at_u in record {
-            tied = h.tied;
-            from = h.from;
-            since = h.since;
-            reached = (let rise = up in let a = h.reached in omega arith);
-            read = read_later k w.registry bumped bump_endures u.learned.words h.read;
-            main = λ e. absurd (not_main j u ne at_u e);
-          }) bump_stays;
+      boundaries = bump_boundaries;
+      each = each_set _ w.views id bumper (others_stay k w r id v at main bumped bump_endures) bump_stays;
       flights = each_set _ w.views id bumper
           (λ j u ne at_u. carries_later k w.registry bumped bump_endures r.version_of u.lane u.epoch u.flight
           (r.registry.flights j u at_u))
@@ -349,19 +436,13 @@ module _ (k : Key) (w : World) (r : Rule k w) (id : ℕ) (v : View) (at : get_el
           (r.registry.flights id v at));
     }
 
-    -- a bump keeps the rule
-    pub bump_kept : Rule k (record w {
-      registry = put w.registry 2 (suc v.learned.version);
-      views = set w.views id (after_bump v);
-    })
-    bump_kept = registers k w r id v at bumped v.epoch (suc v.learned.version) v.learned.words bumper.rows v.draft
-        (ticked v.clock) bump_endures r.state bump_registry
-
-    -- and all that lasts
-    pub bump_lasts : Final k r.start bump_kept.start r.lane_of bump_kept.lane_of w (record w {
-      registry = put w.registry 2 (suc v.learned.version);
-      views = set w.views id (after_bump v);
-    })
-    unfolding bump_kept
-    bump_lasts = register_lasts k w r id v at bumped v.epoch (suc v.learned.version) v.learned.words bumper.rows v.draft
-        (ticked v.clock) bump_endures r.state bump_registry
+    -- a bump keeps the rule, and all that lasts
+    pub bumps_last : (s : Rule k (record w { registry = bumped; views = set w.views id bumper }))
+        × Final k r.start s.start r.lane_of s.lane_of w
+        (record w { registry = bumped; views = set w.views id bumper })
+    bumps_last = (
+      registers k w r id v at bumped v.epoch (suc v.learned.version) v.learned.words bumper.rows v.draft bumper.round
+          (ticked v.clock) bump_endures r.state bump_registry,
+      register_lasts k w r id v at bumped v.epoch (suc v.learned.version) v.learned.words bumper.rows v.draft
+          bumper.round (ticked v.clock) bump_endures r.state bump_registry,
+    )

@@ -58,6 +58,7 @@ head_learns v b x clock = record {
   tops = λ x m. inr m;
   gaps = λ x m. inr m;
   labels = λ x m. m;
+  unended = λ x m. m;
 }
 
 -- so is a first word
@@ -76,6 +77,7 @@ previous_learns v b p x clock = record {
   tops = λ x m. m;
   gaps = λ x m. inr m;
   labels = λ x m. m;
+  unended = λ x m. m;
 }
 
 -- a load of a head extends a view
@@ -105,6 +107,7 @@ extends_node v p x = record {
     tops = λ x m. m;
     gaps = λ x m. m;
     labels = λ x m. inr m;
+    unended = λ x m. m;
   };
   clock = later_loaded v.clock;
   frame = refl;

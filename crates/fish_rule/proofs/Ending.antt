@@ -1,5 +1,5 @@
 -- What was read of a log so far, and how it grows.
-use Rattle.std.proofs.Common.{◌≡◌, ◌≢◌, ℕ, ◌+◌, ◌*◌, ◌/◌, ◌<◌, ◌≤◌, max, suc, List, [], ◌∷◌, ◌++◌, length, refl, sym, ap}
+use Rattle.std.proofs.Common.{◌≡◌, ℕ, ◌+◌, ◌*◌, ◌/◌, ◌<◌, ◌≤◌, suc, List, [], ◌∷◌, ◌++◌, length, refl, sym, ap}
 use Rattle.std.proofs.Common.{◌∙◌, subst, inl, inr, ⊎_elim, arith, length-append, Bool, true, false, Some}
 use mathlib.Core.Option.{some, some-ne-none}
 use Rattle.std.proofs.lemmas.Nat.{le-div}
@@ -318,6 +318,7 @@ extends_raise v m x more = record {
     tops = λ y a. a;
     gaps = λ y a. a;
     labels = λ y a. a;
+    unended = λ y a. a;
   };
   clock = later_ticked v.clock;
   frame = refl;
@@ -360,6 +361,7 @@ learns_version v y more = record {
   tops = λ x m. m;
   gaps = λ x m. m;
   labels = λ x m. m;
+  unended = λ x m. m;
 }
 
 pub to_version : (v u : View) (y : ℕ) → u ≡ after_version v y → v.learned.version ≤ y → Learns v u

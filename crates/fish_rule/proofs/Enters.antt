@@ -1,18 +1,22 @@
 -- Entering and leaving: a load of the version, and stores of the own epoch word.
-use Rattle.std.proofs.Common.{◌≡◌, ◌≢◌, ℕ, ◌<◌, ◌≤◌, suc, List, length, set, sym, refl, ap, ◌∙◌, subst, inl, inr, ⊎_elim}
+use Rattle.std.proofs.Common.{◌≡◌, ◌≢◌, ℕ, ◌<◌, ◌≤◌, suc, length, set, sym, refl, ap, ◌∙◌, subst, inl, inr}
 use Rattle.std.proofs.Common.{arith, Some, None, Option}
-use Rattle.std.proofs.Math.Decide.{ℕ_discrete}
+use Rattle.std.proofs.Math.Decide.{ℕ_discrete, dec_lt}
 use mathlib.Core.Option.{some}
 use Rattle.std.proofs.Math.ListN.{get_elem?}
 use Rattle.fish_layout.specs.Cleared.{choose}
+use Rattle.fish_rule.proofs.Bounded.{boundaries_later, lists_later, unended_later, waits_later}
 use Rattle.fish_rule.proofs.Common.{each_set, has_own}
 use Rattle.fish_rule.proofs.Registers.{endures_same, has_read, length_grows}
-use Rattle.fish_rule.proofs.Registries.{carries_later, main_later, read_later, register_lasts, registers, versions_later}
+use Rattle.fish_rule.proofs.Registries.{carries_later, main_later, owned_far, read_later, register_lasts, registers}
+use Rattle.fish_rule.proofs.Registries.{versions_later}
 use Rattle.fish_rule.proofs.Worlds.{put-else, put-here}
 use Rattle.fish_rule.specs.Entering.{CanAnnounce, CanEnter, CanLoadRegistry, after_announce, after_registry, after_retire}
 use Rattle.fish_rule.specs.Entering.{after_version}
-use Rattle.fish_rule.specs.Epochs.{Carries, Epochs, IsAtMost, IsSince, Registry, Stays, confirmed, epoch_word}
-use Rattle.fish_rule.specs.Registry.{Endures, IsLasting, definitions_at, epoch_at, version_in}
+use Rattle.fish_rule.specs.Boundaries.{Lists}
+use Rattle.fish_rule.specs.Epochs.{Carries, Epochs, IsAtMost, IsOwned, Registry, Stays, StaysWith, confirmed, epoch_word}
+use Rattle.fish_rule.specs.Registry.{Endures, HasBoundary, IsLasting, definitions_at, epoch_at, row_at, version_in}
+use Rattle.fish_rule.specs.Rounds.{IsSince}
 use Rattle.fish_rule.specs.Rule.{Final, Rule}
 use Rattle.fish_rule.proofs.Learns.{learn_final, learns, still_chained}
 use Rattle.fish_rule.specs.declared.view.Clock.{Clock}
@@ -32,7 +36,10 @@ module _ (k : Key) (w : World) (r : Rule k w) (id : ℕ) (v : View) (at : get_el
     (endures : Endures k w.registry g') (still : version_in g' ≡ version_in w.registry)
     (others : (p : ℕ) → p ≢ epoch_at v.lane → g' p ≡ w.registry p)
     (own : 1 ≤ v.lane → v.lane ≤ 16 → g' (epoch_at v.lane) ≡ epoch_word epoch')
-    (from_ : 1 ≤ v.lane → k.version ≤ version) (since_ : IsSince k.version epoch')
+    (from_ : 1 ≤ v.lane → k.version ≤ version)
+    (since_ : (s : ℕ) → s ≤ version_in w.registry → IsSince s v.epoch → IsSince s epoch')
+    (lists_ : (id : ℕ) → id < length (definitions_at k w.registry (version_in w.registry))
+    → Lists k w.registry id v.epoch → Lists k w.registry id epoch')
     (past : 1 ≤ v.lane → v.lane ≤ 16 → IsAtMost (version_in w.registry) epoch')
     (reached : version ≤ version_in w.registry) (main : v.lane ≡ 1 → version ≡ version_in w.registry)
     (carries : Carries k w.registry r.version_of v.lane epoch' v.flight) where
@@ -63,13 +70,60 @@ module _ (k : Key) (w : World) (r : Rule k w) (id : ℕ) (v : View) (at : get_el
                 (r.registry.epochs.past l above below),
           )
 
-  -- a word of which nothing is made is no epoch
-  unmade_else : (p : ℕ) → 20 ≤ p → v.lane ≤ 16 → g' p ≡ w.registry p
-  unmade_else p above few = others p (λ e. omega arith)
+  -- a word behind the epochs stays
+  far_else : (p : ℕ) → 20 ≤ p → v.lane ≤ 16 → g' p ≡ w.registry p
+  far_else p above few = others p (λ e. omega arith)
+
+  -- so does one that only the control pass stores
+  owned_else : (p : ℕ) → v.lane ≤ 16 → IsOwned k w.registry p → g' p ≡ w.registry p
+  owned_else p few h = far_else p (owned_far k w.registry p h) few
+
+  -- and a boundary
+  boundary_else : (n i : ℕ) → n < 256 → i < 2 → g' (row_at n i) ≡ w.registry (row_at n i)
+  boundary_else n i below bound = far_else (row_at n i) (omega arith) (r.seats.few id v at)
+
+  -- a lane is confirmed at no version before one before which it was confirmed at none
+  since_later : (l s : ℕ) → 1 ≤ l → l ≤ 16 → s ≤ version_in w.registry → IsSince s (r.state l) → IsSince s (state' l)
+  since_later l s above below reached h = pick (ℕ_discrete l v.lane)
+    where
+      pick : Dec (l ≡ v.lane) → IsSince s (state' l)
+      pick (yes e) =
+          let state : state' l ≡ epoch' = ap state' e ∙ put-here r.state v.lane epoch' in
+          let live : 1 ≤ v.lane = subst (λ (z : ℕ). 1 ≤ z) e above in
+          let here : r.state l ≡ v.epoch = ap r.state e
+          ∙ ((r.registry.each id v at).tied v.lane (has_own w.views id v at live r.seats)).0 refl in
+          subst (IsSince s) (sym state) (since_ s reached (subst (IsSince s) here h))
+      pick (no ne) = subst (IsSince s) (sym (put-else r.state v.lane epoch' l ne)) h
+
+  -- an index that has begun is that of a definition which each confirmed version lists
+  lists_then : (n i l : ℕ) → n < 256 → HasBoundary w.registry n 0 i → 1 ≤ l → l ≤ 16 → Lists k g' n (state' l)
+  lists_then n i l few is above below = pick (ℕ_discrete l v.lane)
+    where
+      now : ℕ
+      now = length (definitions_at k w.registry (version_in w.registry))
+
+      made : Dec (n < now) → n < now
+      made (yes h) = h
+      made (no h) = (let z = r.registry.boundaries.unmade n 0 (omega arith) few (omega arith) in absurd (omega arith))
+
+      old : Lists k w.registry n (r.state l)
+      old = r.registry.boundaries.entered n i l few is above below
+
+      pick : Dec (l ≡ v.lane) → Lists k g' n (state' l)
+      pick (yes e) =
+          let state : state' l ≡ epoch' = ap state' e ∙ put-here r.state v.lane epoch' in
+          let live : 1 ≤ v.lane = subst (λ (z : ℕ). 1 ≤ z) e above in
+          let low : v.lane ≤ 16 = subst (λ (z : ℕ). z ≤ 16) e below in
+          let here : r.state l ≡ v.epoch = ap r.state e
+          ∙ ((r.registry.each id v at).tied v.lane (has_own w.views id v at live r.seats)).0 refl in
+          subst (Lists k g' n) (sym state) (lists_later k w.registry g' endures n epoch' (past live low)
+          (lists_ n (made (dec_lt n now)) (subst (Lists k w.registry n) here old)))
+      pick (no ne) = subst (Lists k g' n) (sym (put-else r.state v.lane epoch' l ne))
+          (lists_later k w.registry g' endures n (r.state l) (r.registry.epochs.past l above below) old)
 
   -- what the other passes know
   pub other_stays : (j : ℕ) (u : View) → j ≢ id → get_elem? w.views j ≡ some u
-      → Stays k g' state' u.lane u.out u.epoch u.learned.version u.learned.words u.rows u.draft
+      → Stays k w.count g' state' r.version_of u
   other_stays j u ne at_u =
       let h = r.registry.each j u at_u in
       let few = r.seats.few id v at in
@@ -82,13 +136,16 @@ module _ (k : Key) (w : World) (r : Rule k w) (id : ℕ) (v : View) (at : get_el
         since = h.since;
         reached = (let a = h.reached in omega arith);
         read = read_later k w.registry g' endures u.learned.words h.read;
+        unended = unended_later k w.registry g' endures w.count r.version_of r.registry.versions u.learned.unended h.unended;
         main = λ e. main_later k w.registry g' endures u.learned.version u.rows u.draft still
-            (λ p unmade. unmade_else p
-            (⊎_elim (λ m. let q = m.3 in omega arith) (λ m. let q = m.5 in omega arith) unmade) few) (h.main e);
+            (λ p owned. owned_else p few owned) (h.main e);
+        waits = waits_later k w.registry g' endures w.count r.state state' r.version_of u.lane
+            (λ n below. boundary_else n 0 below (omega arith)) since_later u.round h.waits;
       }
 
   -- and what the pass itself knows
-  pub own_stays : Stays k g' state' v.lane v.out epoch' version v.learned.words v.rows v.draft
+  pub own_stays : StaysWith k w.count g' state' r.version_of v.lane v.out epoch' version v.learned.words v.learned.unended
+      v.rows v.draft v.round
   own_stays =
       let h = r.registry.each id v at in
       let few = r.seats.few id v at in
@@ -98,13 +155,15 @@ module _ (k : Key) (w : World) (r : Rule k w) (id : ℕ) (v : View) (at : get_el
           (λ ne. put-else r.state v.lane epoch' l ne ∙ (h.tied l has).1 ne),
         );
         from = from_;
-        since = since_;
+        since = since_ k.version r.registry.versions.from h.since;
         reached = (let a = h.reached in omega arith);
         read = read_later k w.registry g' endures v.learned.words h.read;
+        unended = unended_later k w.registry g' endures w.count r.version_of r.registry.versions v.learned.unended h.unended;
         main = λ e. let m = main_later k w.registry g' endures v.learned.version v.rows v.draft still
-            (λ p unmade. unmade_else p
-            (⊎_elim (λ m. let q = m.3 in omega arith) (λ m. let q = m.5 in omega arith) unmade) few) (h.main e) in
-            record { version = main e ∙ sym still; definitions = m.definitions; unmade = m.unmade };
+            (λ p owned. owned_else p few owned) (h.main e) in
+            record { version = main e ∙ sym still; definitions = m.definitions; owned = m.owned };
+        waits = waits_later k w.registry g' endures w.count r.state state' r.version_of v.lane
+            (λ n below. boundary_else n 0 below (omega arith)) since_later v.round h.waits;
       }
 
   module _ (clock : Clock) where
@@ -117,6 +176,8 @@ module _ (k : Key) (w : World) (r : Rule k w) (id : ℕ) (v : View) (at : get_el
     move_registry = record {
       epochs = epochs;
       versions = versions_later k w.registry g' endures w.count r.version_of still r.registry.versions;
+      boundaries = boundaries_later k w.registry g' endures w.count r.state state' r.version_of still boundary_else
+          lists_then r.registry.versions r.registry.boundaries;
       each = each_set _ w.views id mover other_stays own_stays;
       flights = each_set _ w.views id mover
           (λ j u ne at_u. carries_later k w.registry g' endures r.version_of u.lane u.epoch u.flight
@@ -126,14 +187,14 @@ module _ (k : Key) (w : World) (r : Rule k w) (id : ℕ) (v : View) (at : get_el
 
     -- the step keeps the rule
     unfoldable pub moves : Rule k (record w { registry = g'; views = set w.views id mover })
-    moves = registers k w r id v at g' epoch' version v.learned.words v.rows v.draft clock endures state' move_registry
+    moves = registers k w r id v at g' epoch' version v.learned.words v.rows v.draft v.round clock endures state' move_registry
 
     -- and all that lasts
     pub moves_last : Final k r.start moves.start r.lane_of moves.lane_of w
         (record w { registry = g'; views = set w.views id mover })
     unfolding moves
-    moves_last = register_lasts k w r id v at g' epoch' version v.learned.words v.rows v.draft clock endures state'
-        move_registry
+    moves_last = register_lasts k w r id v at g' epoch' version v.learned.words v.rows v.draft v.round clock endures
+        state' move_registry
 
 -- ---- stores of the own epoch word
 
@@ -142,7 +203,8 @@ lasting_else : (k : Key) (g : ℕ → ℕ) (lane x p : ℕ) → 1 ≤ lane → l
     → put g (epoch_at lane) x p ≡ g p
 lasting_else k g lane x p live few (inl e) = put-else g (epoch_at lane) x p (λ h. omega arith)
 lasting_else k g lane x p live few (inr (inl m)) = (let q = m.3 in put-else g (epoch_at lane) x p (λ h. omega arith))
-lasting_else k g lane x p live few (inr (inr m)) = (let q = m.5 in put-else g (epoch_at lane) x p (λ h. omega arith))
+lasting_else k g lane x p live few (inr (inr (inl m))) = (let q = m.5 in put-else g (epoch_at lane) x p (λ h. omega arith))
+lasting_else k g lane x p live few (inr (inr (inr m))) = (let q = m.0.4 in put-else g (epoch_at lane) x p (λ h. omega arith))
 
 -- so it stays
 epoch_endures : (k : Key) (g : ℕ → ℕ) (lane x : ℕ) → 1 ≤ lane → lane ≤ 16
@@ -172,8 +234,8 @@ module _ (k : Key) (w : World) (r : Rule k w) (id : ℕ) (v : View) (at : get_el
         (epoch_endures k w.registry v.lane (suc u) can.can.live few)
         (let some_ = can.can.live in put-else w.registry (epoch_at v.lane) (suc u) 2 (λ h. omega arith))
         (λ p ne. put-else w.registry (epoch_at v.lane) (suc u) p ne)
-        (λ _ _. put-here w.registry (epoch_at v.lane) (suc u)) (r.registry.each id v at).from tt
-        (λ _ _. let a = can.reached in let b = (r.registry.each id v at).reached in omega arith)
+        (λ _ _. put-here w.registry (epoch_at v.lane) (suc u)) (r.registry.each id v at).from
+        (λ s a b. tt) (λ n a b. tt) (λ _ _. let a = can.reached in let b = (r.registry.each id v at).reached in omega arith)
         (r.registry.each id v at).reached (λ e. ((r.registry.each id v at).main e).version)
         (carries_none k w.registry r.version_of v.lane (Announced u) v.flight can.can.idle) (ticked v.clock)
 
@@ -187,8 +249,8 @@ module _ (k : Key) (w : World) (r : Rule k w) (id : ℕ) (v : View) (at : get_el
         (epoch_endures k w.registry v.lane (suc u) can.can.live few)
         (let some_ = can.can.live in put-else w.registry (epoch_at v.lane) (suc u) 2 (λ h. omega arith))
         (λ p ne. put-else w.registry (epoch_at v.lane) (suc u) p ne)
-        (λ _ _. put-here w.registry (epoch_at v.lane) (suc u)) (r.registry.each id v at).from tt
-        (λ _ _. let a = can.reached in let b = (r.registry.each id v at).reached in omega arith)
+        (λ _ _. put-here w.registry (epoch_at v.lane) (suc u)) (r.registry.each id v at).from
+        (λ s a b. tt) (λ n a b. tt) (λ _ _. let a = can.reached in let b = (r.registry.each id v at).reached in omega arith)
         (r.registry.each id v at).reached (λ e. ((r.registry.each id v at).main e).version)
         (carries_none k w.registry r.version_of v.lane (Announced u) v.flight can.can.idle) (ticked v.clock)
 
@@ -202,7 +264,8 @@ module _ (k : Key) (w : World) (r : Rule k w) (id : ℕ) (v : View) (at : get_el
         (epoch_endures k w.registry v.lane 0 can.live few)
         (let some_ = can.live in put-else w.registry (epoch_at v.lane) 0 2 (λ h. omega arith))
         (λ p ne. put-else w.registry (epoch_at v.lane) 0 p ne)
-        (λ _ _. put-here w.registry (epoch_at v.lane) 0) (r.registry.each id v at).from tt (λ _ _. tt)
+        (λ _ _. put-here w.registry (epoch_at v.lane) 0) (r.registry.each id v at).from
+        (λ s a b. tt) (λ n a b. tt) (λ _ _. tt)
         (r.registry.each id v at).reached (λ e. ((r.registry.each id v at).main e).version)
         (carries_none k w.registry r.version_of v.lane Out v.flight can.idle) (ticked v.clock)
 
@@ -216,7 +279,8 @@ module _ (k : Key) (w : World) (r : Rule k w) (id : ℕ) (v : View) (at : get_el
         (epoch_endures k w.registry v.lane 0 can.live few)
         (let some_ = can.live in put-else w.registry (epoch_at v.lane) 0 2 (λ h. omega arith))
         (λ p ne. put-else w.registry (epoch_at v.lane) 0 p ne)
-        (λ _ _. put-here w.registry (epoch_at v.lane) 0) (r.registry.each id v at).from tt (λ _ _. tt)
+        (λ _ _. put-here w.registry (epoch_at v.lane) 0) (r.registry.each id v at).from
+        (λ s a b. tt) (λ n a b. tt) (λ _ _. tt)
         (r.registry.each id v at).reached (λ e. ((r.registry.each id v at).main e).version)
         (carries_none k w.registry r.version_of v.lane Out v.flight can.idle) (ticked v.clock)
 
@@ -252,6 +316,17 @@ confirmed_since (Announced u) x s from h = by (ℕ_discrete x u)
     by (yes e) = omega arith
     by (no ne) = tt
 
+-- which lists what the version lists
+confirmed_lists : (k : Key) (g : ℕ → ℕ) (id : ℕ) (e : Epoch) (x : ℕ) → id < length (definitions_at k g x)
+    → Lists k g id e → Lists k g id (confirmed e x)
+confirmed_lists k g id Out x listed h = h
+confirmed_lists k g id (Confirmed u) x listed h = h
+confirmed_lists k g id (Announced u) x listed h = by (ℕ_discrete x u)
+  where
+    by : (d : Dec (x ≡ u)) → Lists k g id (choose d (Confirmed u) (Announced u))
+    by (yes e) = subst (λ (z : ℕ). id < length (definitions_at k g z)) e listed
+    by (no ne) = tt
+
 -- and what the pass carries
 confirmed_carries : (k : Key) (g : ℕ → ℕ) (version_of : ℕ → ℕ) (lane : ℕ) (e : Epoch) (x : ℕ) (o : Option Flight)
     → Carries k g version_of lane e o → Carries k g version_of lane (confirmed e x) o
@@ -273,7 +348,8 @@ module _ (k : Key) (w : World) (r : Rule k w) (id : ℕ) (v : View) (at : get_el
       (λ a b. r.registry.epochs.words v.lane a b ∙ ap epoch_word (own_state a)
       ∙ sym (confirmed_word v.epoch (w.registry 2)))
       (λ _. r.registry.versions.from)
-      (confirmed_since v.epoch (w.registry 2) k.version r.registry.versions.from (r.registry.each id v at).since)
+      (λ s reached h. confirmed_since v.epoch (w.registry 2) s reached h)
+      (λ n listed h. confirmed_lists k w.registry n v.epoch (w.registry 2) listed h)
       (λ a b. confirmed_most v.epoch (w.registry 2) (version_in w.registry)
       (subst (IsAtMost (version_in w.registry)) (own_state a) (r.registry.epochs.past v.lane a b)))
       (omega arith) (λ e. refl)
@@ -289,7 +365,8 @@ module _ (k : Key) (w : World) (r : Rule k w) (id : ℕ) (v : View) (at : get_el
       (λ a b. r.registry.epochs.words v.lane a b ∙ ap epoch_word (own_state a)
       ∙ sym (confirmed_word v.epoch (w.registry 2)))
       (λ _. r.registry.versions.from)
-      (confirmed_since v.epoch (w.registry 2) k.version r.registry.versions.from (r.registry.each id v at).since)
+      (λ s reached h. confirmed_since v.epoch (w.registry 2) s reached h)
+      (λ n listed h. confirmed_lists k w.registry n v.epoch (w.registry 2) listed h)
       (λ a b. confirmed_most v.epoch (w.registry 2) (version_in w.registry)
       (subst (IsAtMost (version_in w.registry)) (own_state a) (r.registry.epochs.past v.lane a b)))
       (omega arith) (λ e. refl)
@@ -324,7 +401,7 @@ module _ (k : Key) (w : World) (r : Rule k w) (id : ℕ) (v : View) (at : get_el
             subst (λ (z : Key). h.0 < length (definitions_at z w.registry row.version)) about
             (row.there w.registry (has_read k w.registry v.learned.words stays.read)) in
             let up = length_grows k w.registry row.version (version_in w.registry) (omega arith) in
-            inr (inr (h.0, h.1, (omega arith), h.3, h.4, h.5))
+            inr (inr (inl (h.0, h.1, (omega arith), h.3, h.4, h.5)))
 
     -- the view afterwards
     abbrev pub registered_view : View
@@ -335,8 +412,8 @@ module _ (k : Key) (w : World) (r : Rule k w) (id : ℕ) (v : View) (at : get_el
     registry_kept =
         let h = r.facts id v at in
         let stays = r.registry.each id v at in
-        let still = still_chained k w r id v at registered_view.learned v.tail registered_view.clock in
-        learns k w r id v at registered_view.learned v.tail registered_view.clock (r.tails id v at) (record {
+        let still = still_chained k w r id v at registered_view.learned v.tail v.round registered_view.clock in
+        learns k w r id v at registered_view.learned v.tail v.round registered_view.clock (r.tails id v at) (record {
           counted = h.counted;
           found = h.found;
           known = h.known;
@@ -350,11 +427,13 @@ module _ (k : Key) (w : World) (r : Rule k w) (id : ℕ) (v : View) (at : get_el
           since = stays.since;
           reached = stays.reached;
           read = (record { lasts = lasts_there; word = refl }, stays.read);
+          unended = stays.unended;
           main = stays.main;
+          waits = stays.waits;
         })
 
     -- and all that lasts
     pub registry_lasts : Final k r.start registry_kept.start r.lane_of registry_kept.lane_of w
         (record w { views = set w.views id registered_view })
     unfolding registry_kept learns
-    registry_lasts = learn_final k w r id v at registered_view.learned v.tail registered_view.clock
+    registry_lasts = learn_final k w r id v at registered_view.learned v.tail v.round registered_view.clock

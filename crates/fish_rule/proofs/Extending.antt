@@ -29,6 +29,7 @@ learns_self v = record {
   tops = λ x m. m;
   gaps = λ x m. m;
   labels = λ x m. m;
+  unended = λ x m. m;
 }
 
 -- and what is learned on top of what was learned is all learned
@@ -54,6 +55,7 @@ learns_both a b c e f =
       tops = λ x m. f.tops x (e.tops x m);
       gaps = λ x m. f.gaps x (e.gaps x m);
       labels = λ x m. f.labels x (e.labels x m);
+      unended = λ x m. f.unended x (e.unended x m);
     }
 
 -- ---- views that extend others
@@ -89,6 +91,7 @@ extends_read v place x = record {
     tops = λ x m. m;
     gaps = λ x m. m;
     labels = λ x m. m;
+    unended = λ x m. m;
   };
   clock = later_loaded v.clock;
   frame = refl;
@@ -129,6 +132,7 @@ extends_look v n lines x = record {
     tops = λ x m. m;
     gaps = λ x m. m;
     labels = λ x m. m;
+    unended = λ x m. m;
   };
   clock = later_noted v.clock (Directory n) x;
   frame = refl;
@@ -159,6 +163,7 @@ learns_end v x more = record {
   tops = λ x m. m;
   gaps = λ x m. m;
   labels = λ x m. m;
+  unended = λ x m. m;
 }
 
 -- ---- a join
@@ -180,6 +185,7 @@ learns_join v u x more = record {
   tops = λ y m. among_left y v.learned.tops u.learned.tops m;
   gaps = λ y m. among_left y v.learned.gaps u.learned.gaps m;
   labels = λ y m. among_left y v.learned.labels u.learned.labels m;
+  unended = λ y m. among_left y v.learned.unended u.learned.unended m;
 }
 
 -- and what the other pass knew
@@ -199,6 +205,7 @@ learned_join v u x about more = record {
   tops = λ y m. among_right y v.learned.tops u.learned.tops m;
   gaps = λ y m. among_right y v.learned.gaps u.learned.gaps m;
   labels = λ y m. among_right y v.learned.labels u.learned.labels m;
+  unended = λ y m. among_right y v.learned.unended u.learned.unended m;
 }
 
 -- both, where the views are known by equations

@@ -1,5 +1,5 @@
 -- A log may begin where a closed one ends.
-use Rattle.std.proofs.Common.{◌≡◌, ◌≢◌, ℕ, ◌+◌, ◌-◌, ◌*◌, ◌<◌, ◌≤◌, zero, suc, List, [], ◌∷◌, length, refl, sym, ap}
+use Rattle.std.proofs.Common.{◌≡◌, ◌≢◌, ℕ, ◌+◌, ◌-◌, ◌<◌, zero, suc, List, [], ◌∷◌, length, refl, sym, ap}
 use Rattle.std.proofs.Common.{◌∙◌, subst, ⊎_elim, arith, slice_index}
 use mathlib.Core.Option.{some}
 use Rattle.std.proofs.Math.Decide.{dec_lt}
@@ -10,17 +10,14 @@ use Rattle.fish_rule.proofs.Bounds.{starts_rise}
 use Rattle.fish_rule.proofs.ClosedLogs.{claimed, entry_word, there_is}
 use Rattle.fish_rule.proofs.Kept.{published}
 use Rattle.fish_rule.proofs.Rolls.{next_fits, next_heads}
-use Rattle.fish_rule.specs.Closed.{EndsWhereNextBegins, MayFollow}
-use Rattle.fish_rule.specs.Closing.{IsClosed}
+use Rattle.fish_rule.specs.Closed.{EndsWhereNextBegins}
 use Rattle.fish_rule.specs.Logs.{IsLog}
 use Rattle.fish_rule.specs.Parts.{IsOlder}
 use Rattle.fish_rule.specs.Regions.{code, kind_of}
 use Rattle.fish_rule.specs.Rule.{Rule}
 use Rattle.fish_rule.specs.World.{World, high}
-use Rattle.fish_rule.specs.declared.close.Remains.{Remains}
 use Rattle.fish_rule.specs.declared.view.Key.{Key}
 use Rattle.fish_rule.specs.declared.view.Kind.TheVariants.{Mark}
-use Rattle.fish_rule.specs.declared.view.View.{View}
 
 -- what holds of 0 and of each element holds at each index
 at_index : (P : ℕ → Type 0) (xs : List ℕ) → P 0 → ((b x : ℕ) → get_elem? xs b ≡ some x → P x) → (b : ℕ)

@@ -57,11 +57,12 @@ module _ (vs : List View) (id : ℕ) (v v' : View) (at : get_elem? vs id ≡ som
 -- the registry's part stays where its words do, and the stepping pass keeps to it
 pub registry_set : (k : Key) (count : ℕ) (g : ℕ → ℕ) (state : ℕ → Epoch) (version_of : ℕ → ℕ) (vs : List View) (id : ℕ)
     (v' : View) → Registry k count g state version_of vs
-    → Stays k g state v'.lane v'.out v'.epoch v'.learned.version v'.learned.words v'.rows v'.draft
+    → Stays k count g state version_of v'
     → Carries k g version_of v'.lane v'.epoch v'.flight → Registry k count g state version_of (set vs id v')
 registry_set k count g state version_of vs id v' r stays carries = record {
   epochs = r.epochs;
   versions = r.versions;
+  boundaries = r.boundaries;
   each = each_set _ vs id v' (λ j u ne at_u. r.each j u at_u) stays;
   flights = each_set _ vs id v' (λ j u ne at_u. r.flights j u at_u) carries;
 }

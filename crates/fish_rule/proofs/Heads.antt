@@ -107,9 +107,9 @@ module _ (k : Key) (w : World) (r : Rule k w) (id : ℕ) (v : View) (at : get_el
     pub head_kept : Rule k (record w { views = set w.views id (top_seer clock) })
     head_kept =
         let h = r.facts id v at in
-        let still = still_chained k w r id v at (top_seer clock).learned v.tail clock in
-        let final = learn_final k w r id v at (top_seer clock).learned v.tail clock in
-        learns k w r id v at (top_seer clock).learned v.tail clock (r.tails id v at)
+        let still = still_chained k w r id v at (top_seer clock).learned v.tail v.round clock in
+        let final = learn_final k w r id v at (top_seer clock).learned v.tail v.round clock in
+        learns k w r id v at (top_seer clock).learned v.tail v.round clock (r.tails id v at)
         (record {
           counted = h.counted;
           found = h.found;
@@ -130,7 +130,7 @@ module _ (k : Key) (w : World) (r : Rule k w) (id : ℕ) (v : View) (at : get_el
     pub head_lasts : Final k r.start head_kept.start r.lane_of head_kept.lane_of w
         (record w { views = set w.views id (top_seer clock) })
     unfolding head_kept learns
-    head_lasts = learn_final k w r id v at (top_seer clock).learned v.tail clock
+    head_lasts = learn_final k w r id v at (top_seer clock).learned v.tail v.round clock
 
 -- ---- first words
 
@@ -164,10 +164,10 @@ module _ (k : Key) (w : World) (r : Rule k w) (id : ℕ) (v : View) (at : get_el
     pub previous_kept : Rule k (record w { views = set w.views id (low_seer clock) })
     previous_kept =
         let h = r.facts id v at in
-        let still = still_chained k w r id v at (low_seer clock).learned v.tail clock in
-        let final = learn_final k w r id v at (low_seer clock).learned v.tail clock in
+        let still = still_chained k w r id v at (low_seer clock).learned v.tail v.round clock in
+        let final = learn_final k w r id v at (low_seer clock).learned v.tail v.round clock in
         let next = (r.chains b).next p node_linked in
-        learns k w r id v at (low_seer clock).learned v.tail clock (r.tails id v at)
+        learns k w r id v at (low_seer clock).learned v.tail v.round clock (r.tails id v at)
         (record {
           counted = h.counted;
           found = h.found;
@@ -188,7 +188,7 @@ module _ (k : Key) (w : World) (r : Rule k w) (id : ℕ) (v : View) (at : get_el
     pub previous_lasts : Final k r.start previous_kept.start r.lane_of previous_kept.lane_of w
         (record w { views = set w.views id (low_seer clock) })
     unfolding previous_kept learns
-    previous_lasts = learn_final k w r id v at (low_seer clock).learned v.tail clock
+    previous_lasts = learn_final k w r id v at (low_seer clock).learned v.tail v.round clock
 
 -- a linked place is within the log's words
 pub place_within : (k : Key) (w : World) (r : Rule k w) (b p : ℕ) → Linked k w.dir w.log w.views b p

@@ -23,6 +23,7 @@ use Rattle.fish_rule.specs.World.{World}
 use Rattle.fish_rule.specs.declared.view.Key.{Key}
 use Rattle.fish_rule.specs.declared.view.View.{View}
 use Rattle.fish_rule.proofs.Registers.{endures_same}
+use Rattle.fish_rule.specs.Boundaries.{IsUnended}
 use Rattle.fish_rule.specs.Epochs.{Registry, Stays}
 use Rattle.fish_rule.specs.Registry.{IsRegistered}
 use Rattle.fish_rule.specs.declared.view.Epoch.TheVariants.{Out}
@@ -165,8 +166,7 @@ module _ (k : Key) (w : World) (r : Rule k w) (id other : ℕ) (v u : View) (at 
       }
 
   -- the lane that came back is out, and what either knew of the registry is so
-  both_stays : Stays k w.registry r.state both.lane both.out both.epoch both.learned.version both.learned.words both.rows
-      both.draft
+  both_stays : Stays k w.count w.registry r.state r.version_of both
   both_stays =
       let a = r.registry.each id v at in
       let b = r.registry.each other u at_u in
@@ -182,25 +182,31 @@ module _ (k : Key) (w : World) (r : Rule k w) (id other : ℕ) (v u : View) (at 
         since = a.since;
         reached = (let p = a.reached in let q = b.reached in omega arith);
         read = all_append (IsRegistered k w.registry) v.learned.words u.learned.words a.read b.read;
+        unended = all_append (IsUnended k w.count w.registry r.version_of) v.learned.unended u.learned.unended a.unended
+            b.unended;
         main = λ e. let m = a.main e in
             record {
               version = (let p = m.version in let q = b.reached in omega arith);
               definitions = m.definitions;
-              unmade = m.unmade;
+              owned = m.owned;
             };
+        waits = a.waits;
       }
 
   join_registry : Registry k w.count w.registry r.state r.version_of (set taken other spent)
   join_registry = record {
     epochs = r.registry.epochs;
     versions = r.registry.versions;
+    boundaries = r.registry.boundaries;
     each = each_join _ r.registry.each both_stays (record {
       tied = λ x has. absurd (has_none x has);
       from = λ live. absurd (omega arith);
       since = tt;
       reached = omega arith;
       read = tt;
+      unended = tt;
       main = λ e. absurd (omega arith);
+      waits = tt;
     });
     flights = each_join _ r.registry.flights (r.registry.flights id v at) tt;
   }

@@ -25,25 +25,26 @@ use Rattle.fish_rule.specs.declared.view.Kind.{Kind}
 use Rattle.fish_rule.specs.declared.view.Kind.TheVariants.{Mark, Stored, Void}
 use Rattle.fish_rule.specs.declared.view.Learned.{Learned}
 use Rattle.fish_rule.specs.declared.view.Position.{Position}
+use Rattle.fish_rule.specs.declared.view.Round.{Round}
 use Rattle.fish_rule.specs.declared.view.View.{View}
 use Rattle.fish_rule.proofs.Registers.{endures_same}
 use Rattle.fish_rule.specs.Epochs.{Stays}
 
 module _ (k : Key) (w : World) (r : Rule k w) (id : ℕ) (v : View) (at : get_elem? w.views id ≡ some v) where
-  -- the view with other facts, another note of the tail and another clock
-  abbrev pub learner : Learned → Option Position → Clock → View
-  learner l t c = record v { learned = l; tail = t; clock = c }
+  -- the view with other facts, another note of the tail, another registration that waits and another clock
+  abbrev pub learner : Learned → Option Position → Option Round → Clock → View
+  learner l t o c = record v { learned = l; tail = t; round = o; clock = c }
 
   -- nothing that lasts has changed
-  pub learn_final : (l : Learned) (t : Option Position) (c : Clock)
-      → Final k r.start r.start r.lane_of r.lane_of w (record w { views = set w.views id (learner l t c) })
-  learn_final l t c = record {
+  pub learn_final : (l : Learned) (t : Option Position) (o : Option Round) (c : Clock)
+      → Final k r.start r.start r.lane_of r.lane_of w (record w { views = set w.views id (learner l t o c) })
+  learn_final l t o c = record {
     counts = omega arith;
     lines = omega arith;
     settles = omega arith;
     registered = endures_same k w.registry;
     heads = λ b. omega arith;
-    links = links_set k w r id v (learner l t c) at (λ a c h. h);
+    links = links_set k w r id v (learner l t o c) at (λ a c h. h);
     rises = λ b p h. omega arith;
     starts = λ n h. refl;
     lanes = λ n h. refl;
@@ -53,20 +54,20 @@ module _ (k : Key) (w : World) (r : Rule k w) (id : ℕ) (v : View) (at : get_el
   }
 
   -- what was known of chains is so in the new world
-  pub still_chained : (l : Learned) (t : Option Position) (c : Clock)
-      → Chained k w.dir w.log (set w.views id (learner l t c)) w.head v.learned
-  still_chained l t c = chained_later k w
-      (record w { views = set w.views id (learner l t c) }) r.start r.start r.lane_of r.lane_of
-      (learn_final l t c) v.learned (r.chained id v at)
+  pub still_chained : (l : Learned) (t : Option Position) (o : Option Round) (c : Clock)
+      → Chained k w.dir w.log (set w.views id (learner l t o c)) w.head v.learned
+  still_chained l t o c = chained_later k w
+      (record w { views = set w.views id (learner l t o c) }) r.start r.start r.lane_of r.lane_of
+      (learn_final l t o c) v.learned (r.chained id v at)
 
   -- a load keeps the rule where the new facts hold
-  unfoldable pub learns : (l : Learned) (t : Option Position) (c : Clock)
+  unfoldable pub learns : (l : Learned) (t : Option Position) (o : Option Round) (c : Clock)
       → (v.lane ≡ 1 → v.out ≡ [] → Rests w.count w.line t) → Facts k w.count w.dir w.log r.start l
-      → l.settled ≤ w.settled → Chained k w.dir w.log (set w.views id (learner l t c)) w.head l
-      → Stays k w.registry r.state v.lane v.out v.epoch l.version l.words v.rows v.draft
-      → Rule k (record w { views = set w.views id (learner l t c) })
-  learns l t c rests facts floor chained stays =
-      let v' : View = learner l t c in
+      → l.settled ≤ w.settled → Chained k w.dir w.log (set w.views id (learner l t o c)) w.head l
+      → Stays k w.count w.registry r.state r.version_of (learner l t o c)
+      → Rule k (record w { views = set w.views id (learner l t o c) })
+  learns l t o c rests facts floor chained stays =
+      let v' : View = learner l t o c in
       record {
         start = r.start;
         lane_of = r.lane_of;
@@ -100,7 +101,7 @@ module _ (k : Key) (w : World) (r : Rule k w) (id : ℕ) (v : View) (at : get_el
         settling = r.settling;
         chained = each_set _ w.views id v' (λ j u ne at_u. chained_later k w
             (record w { views = set w.views id v' }) r.start r.start r.lane_of r.lane_of
-            (learn_final l t c) u.learned (r.chained j u at_u)) chained;
+            (learn_final l t o c) u.learned (r.chained j u at_u)) chained;
         chains = chains_set k w r id v v' at (λ a c h. h) (λ a c h. h);
         floors = each_set _ w.views id v' (λ j u ne at_u. r.floors j u at_u) floor;
         own = each_set _ w.views id v' (λ j u ne at_u. r.own j u at_u) (r.own id v at);
@@ -118,8 +119,8 @@ module _ (k : Key) (w : World) (r : Rule k w) (id : ℕ) (v : View) (at : get_el
       → Rule k (record w { views = set w.views id (after_end v x) })
   end_kept x count line =
       let h = r.facts id v at in
-      let still = still_chained (record v.learned { count = high x }) (after_end v x).tail (after_end v x).clock in
-      learns (record v.learned { count = high x }) (after_end v x).tail (after_end v x).clock
+      let still = still_chained (record v.learned { count = high x }) (after_end v x).tail v.round (after_end v x).clock in
+      learns (record v.learned { count = high x }) (after_end v x).tail v.round (after_end v x).clock
       (λ main all. (count, line)) (record {
         counted = subst (λ (z : ℕ). z ≤ w.count) (sym count) (omega arith);
         found = h.found;
@@ -169,8 +170,8 @@ module _ (k : Key) (w : World) (r : Rule k w) (id : ℕ) (v : View) (at : get_el
   pub settled_kept : Rule k (record w { views = set w.views id (after_settled v w.settled) })
   settled_kept =
       let h = r.facts id v at in
-      let still = still_chained (record v.learned { settled = w.settled }) v.tail (after_settled v w.settled).clock in
-      learns (record v.learned { settled = w.settled }) v.tail (after_settled v w.settled).clock
+      let still = still_chained (record v.learned { settled = w.settled }) v.tail v.round (after_settled v w.settled).clock in
+      learns (record v.learned { settled = w.settled }) v.tail v.round (after_settled v w.settled).clock
       (r.tails id v at) (record {
         counted = h.counted;
         found = h.found;
@@ -220,8 +221,8 @@ module _ (k : Key) (w : World) (r : Rule k w) (id : ℕ) (v : View) (at : get_el
       let still = still_chained (record v.learned {
         found =
             found_after n (lines_at n) x v.learned.found;
-      }) v.tail (after_look v n (lines_at n) x).clock in
-      learns (record v.learned { found = found_after n (lines_at n) x v.learned.found }) v.tail
+      }) v.tail v.round (after_look v n (lines_at n) x).clock in
+      learns (record v.learned { found = found_after n (lines_at n) x v.learned.found }) v.tail v.round
       (after_look v n (lines_at n) x).clock (r.tails id v at) (record {
         counted = h.counted;
         found = each x is;

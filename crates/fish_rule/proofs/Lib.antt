@@ -2,8 +2,11 @@ pub mod Aims
 pub mod Allowed
 pub mod Begins
 pub mod Bodies
+pub mod Bounded
+pub mod Bounding
 pub mod Bounds
 pub mod Chained
+pub mod Checks
 pub mod Claims
 pub mod Clocks
 pub mod Closes
@@ -19,11 +22,13 @@ pub mod Enters
 pub mod Entries
 pub mod Extending
 pub mod Fills
+pub mod FirstBoundaries
 pub mod Flights
 pub mod Following
 pub mod Frames
 pub mod Gaps
 pub mod Heads
+pub mod Intervals
 pub mod Joins
 pub mod Kept
 pub mod Keys
@@ -35,6 +40,7 @@ pub mod Linked
 pub mod Linkings
 pub mod Links
 pub mod Loads
+pub mod MainStores
 pub mod Nodes
 pub mod Opens
 pub mod OwnWords
@@ -46,6 +52,7 @@ pub mod Registries
 pub mod Room
 pub mod Schedules
 pub mod Rolls
+pub mod SetBoundaries
 pub mod Settles
 pub mod Splices
 pub mod Splits

@@ -209,7 +209,7 @@ module _ (k : Key) (w : World) (r : Rule k w) (id : ℕ) (v : View) (at : get_el
     module _ (chains : (c : ℕ) → Chain (After c) (first_head k c) (head' c) log')
         (facts : Facts k w.count w.dir log' r.start learned) (floor : learned.settled ≤ w.settled)
         (chained : Chained k w.dir log' linked_world.views head' learned)
-        (stays : Stays k w.registry r.state v.lane v.out v.epoch learned.version learned.words v.rows v.draft) where
+        (stays : Stays k w.count w.registry r.state r.version_of linker) where
       -- the rule is kept
       pub link_kept : Rule k linked_world
       link_kept = record {

@@ -32,8 +32,8 @@ module _ (k : Key) (w : World) (r : Rule k w) (id : ℕ) (v : View) (at : get_el
   pub node_kept : Rule k (record w { views = set w.views id node_seer })
   node_kept =
       let h = r.facts id v at in
-      let still = still_chained k w r id v at node_seer.learned v.tail node_seer.clock in
-      learns k w r id v at node_seer.learned v.tail node_seer.clock (r.tails id v at)
+      let still = still_chained k w r id v at node_seer.learned v.tail v.round node_seer.clock in
+      learns k w r id v at node_seer.learned v.tail v.round node_seer.clock (r.tails id v at)
       (record {
         counted = h.counted;
         found = h.found;
@@ -53,7 +53,7 @@ module _ (k : Key) (w : World) (r : Rule k w) (id : ℕ) (v : View) (at : get_el
   pub node_lasts : Final k r.start node_kept.start r.lane_of node_kept.lane_of w
       (record w { views = set w.views id node_seer })
   unfolding node_kept learns
-  node_lasts = learn_final k w r id v at node_seer.learned v.tail node_seer.clock
+  node_lasts = learn_final k w r id v at node_seer.learned v.tail v.round node_seer.clock
 
 -- a linked place's second word is within the log's words
 pub second_within : (k : Key) (w : World) (r : Rule k w) (b p : ℕ) → Linked k w.dir w.log w.views b p

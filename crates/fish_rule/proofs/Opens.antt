@@ -1,9 +1,10 @@
 -- The words of an empty log: the tail, the count of rows, and the words of the rows, among zeros.
 use Rattle.std.proofs.Common.{◌≡◌, ℕ, ◌+◌, ◌-◌, ◌*◌, ◌<◌, ◌≤◌, List, length, get_or, set, replicate, slice_get, slice_index}
-use Rattle.std.proofs.Common.{sym, ap, ◌∙◌, subst, arith, Some, get_or-set_other, get_or-set_same}
+use Rattle.std.proofs.Common.{sym, ap, ◌∙◌, subst, arith, All, Some, get_or-set_other, get_or-set_same}
 use Rattle.std.proofs.Math.Decide.{ℕ_discrete, dec_lt}
 use Rattle.std.proofs.lemmas.List.{get_or-replicate, get_or_past, length-replicate, length-set}
 use Rattle.std.proofs.lemmas.Option.{get_or_from_slice_get, slice_get_within}
+use Rattle.fish_catalog.specs.Clamps.{IsClamped}
 use Rattle.fish_catalog.specs.Rows.{IsCatalog}
 use Rattle.fish_catalog.specs.Words.{IsWritable, row_word}
 use Rattle.fish_catalog.specs.declared.row.CatRow.{CatRow}
@@ -129,6 +130,7 @@ abbrev pub tail_at : Key → ℕ
 tail_at k = k.number * 68719476736 + k.line
 
 module _ (k : Key) (rows : List CatRow) (ws us : List ℕ) (same : rows ≡ k.rows.value) (catalog : IsCatalog rows)
+    (clamped : All (IsClamped k.number) rows)
     (few : k.version ≤ 512) (wide : length us ≡ total k)
     (from : ws ≡ start_words (total k) (tail_at k) k.number k.version (length rows))
     (ts : List ℕ) (stored : AreStored rows ws ts (length rows))
@@ -156,7 +158,7 @@ module _ (k : Key) (rows : List CatRow) (ws us : List ℕ) (same : rows ≡ k.ro
       at p (omega arith) (omega arith) ∙ stored.before p below ∙ start.zeros p above
 
   -- they are those of the rows at the start's version
-  opening : IsOpening k.version rows g
+  opening : IsOpening k.version k.number rows g
   opening = record {
     version = at 2 (omega arith) (omega arith) ∙ stored.before 2 (omega arith) ∙ start.version_is;
     few = few;
@@ -164,6 +166,7 @@ module _ (k : Key) (rows : List CatRow) (ws us : List ℕ) (same : rows ≡ k.ro
     out = λ l above below. front_zero (epoch_at l) (omega arith) (omega arith);
     operations = λ v above below. front_zero (op_at v) (omega arith) (omega arith);
     catalog = catalog;
+    clamped = clamped;
     words = λ id row there.
         let inside = slice_get_within rows id row there in
         let few = catalog.few in
@@ -181,7 +184,7 @@ module _ (k : Key) (rows : List CatRow) (ws us : List ℕ) (same : rows ≡ k.ro
     wide = wide;
     tail = in_front 0 (omega arith) ∙ stored.before 0 (omega arith) ∙ start.tail;
     settled = in_front 1 (omega arith) ∙ stored.before 1 (omega arith) ∙ start.settled;
-    registry = subst (λ (z : List CatRow). IsOpening k.version z g) same opening;
+    registry = subst (λ (z : List CatRow). IsOpening k.version k.number z g) same opening;
     heads = heads;
     zeros = λ p behind. let few = catalog.few in
         behind_ p behind ∙ stored.behind p (omega arith) ∙ start.zeros p (omega arith);

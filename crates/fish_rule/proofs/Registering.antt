@@ -4,13 +4,14 @@ use Rattle.std.proofs.Common.{inl, inr, slice_get}
 use mathlib.Core.Option.{none}
 use Rattle.atomic_table.specs.Table.{Allows, step}
 use Rattle.fish_rule.proofs.Allowed.{allowed, loaded_words, stands, there}
-use Rattle.fish_rule.proofs.Defines.{bump_kept, define_kept, unmade_here}
+use Rattle.fish_rule.proofs.Defines.{bumps_last, defines_last, unmade_here}
 use Rattle.fish_rule.proofs.Enters.{announce_kept, lasts_there, registry_kept, retire_kept, version_kept, version_rises}
 use Rattle.fish_rule.proofs.Worlds.{area-in, world-registry}
 use Rattle.fish_rule.specs.Entering.{CanAnnounce, CanBump, CanDefine, CanEnter, CanLoadRegistry, after_announce}
 use Rattle.fish_rule.specs.Entering.{after_bump, after_define, after_registry, after_retire, after_version}
 use Rattle.fish_rule.specs.Epochs.{IsUnmade}
-use Rattle.fish_rule.specs.Registry.{IsLasting, KnowsDefinitions, KnowsRow, epoch_at, version_in}
+use Rattle.fish_rule.specs.Registry.{IsLasting, KnowsDefinitions, KnowsRow, definitions_at, drafted, epoch_at, row_at}
+use Rattle.fish_rule.specs.Registry.{version_in}
 use Rattle.fish_rule.proofs.Registers.{has_read, length_grows}
 use Rattle.std.proofs.lemmas.List.{length-map}
 use Rattle.fish_catalog.specs.Listing.{IsListing, listed_of}
@@ -28,7 +29,8 @@ pub lasting_within : (k : Key) (w : World) (r : Rule k w) (p : ℕ) → IsLastin
 lasting_within k w r p (inl h) = (omega arith, omega arith)
 lasting_within k w r p (inr (inl h)) = (let a = h.2 in let b = h.3 in let f = r.registry.versions.few in
     (omega arith, omega arith))
-lasting_within k w r p (inr (inr h)) =
+lasting_within k w r p (inr (inr (inr h))) = (let a = h.0.2 in let b = h.0.3 in let c = h.0.4 in (omega arith, omega arith))
+lasting_within k w r p (inr (inr (inl h))) =
     let few = (r.registry.versions.listings (version_in w.registry) (omega arith)).few in
     let a = h.2 in
     let b = h.4 in
@@ -41,7 +43,7 @@ unmade_within k w p (inl h) = (let a = h.2 in let b = h.3 in (omega arith, omega
 unmade_within k w p (inr h) = (let a = h.3 in let b = h.4 in let c = h.5 in (omega arith, omega arith))
 
 -- the word at an index of the registry
-word_at : (k : Key) (ws : List ℕ) (vs : List View) (p : ℕ) → 2 ≤ p → p < heads_at
+pub word_at : (k : Key) (ws : List ℕ) (vs : List View) (p : ℕ) → 2 ≤ p → p < heads_at
     → get_or ws p 0 ≡ (world k ws vs).registry p
 word_at k ws vs p above below = (let e : p ≡ 2 + (p - 2) = omega arith in
     ap (λ (z : ℕ). get_or ws z 0) e ∙ sym (area-in ws 2 2 registry_size p above (omega arith)))
@@ -66,6 +68,7 @@ version_allowed given k same size id me about =
         from = subst (λ (z : ℕ). me.0.about.version ≤ z) (sym word)
             (subst (λ (z : Key). z.version ≤ w.registry 2) (sym about) r.registry.versions.from);
         few = subst (λ (z : ℕ). z ≤ 512) (sym word) r.registry.versions.few;
+        main = λ e. word ∙ sym ((r.registry.each id me.0 at).main e).version;
       },
     ))
 
@@ -143,7 +146,7 @@ define_allowed given k same size id me p x about can =
     let w : World = world k ws vs in
     let v' : View = after_define me.0 p x in
     let within = unmade_within k w p (unmade_here k w r id me.0 at can.main p x can) in
-    let kept = define_kept k w r id me.0 at can.main p x can in
+    let kept = (defines_last k w r id me.0 at can.main p x can).0 in
     let moved = world-registry k ws vs (set vs id v') p x within.0 within.1 wide in (
       v',
       subst (Rule k) (sym moved) kept,
@@ -160,7 +163,7 @@ bump_allowed given k same size id me x about can is =
     let v' : View = after_bump me.0 in
     let kept : Rule k (record w { registry = put w.registry 2 x; views = set vs id v' }) =
     subst (λ (z : ℕ). Rule k (record w { registry = put w.registry 2 z; views = set vs id v' })) (sym is)
-    (bump_kept k w r id me.0 at can.main can) in
+    (bumps_last k w r id me.0 at can.main can).0 in
     let moved = world-registry k ws vs (set vs id v') 2 x (omega arith) (omega arith) wide in (
       v',
       subst (Rule k) (sym moved) kept,
@@ -191,6 +194,22 @@ version_law v s =
 -- no pass has a lane above 16
 pub lane_law : (v : View) → Stands v → v.lane ≤ 16
 lane_law v s = s.rule.seats.few s.seat v s.at
+
+-- the definitions that the control pass knows are a listing
+pub main_law : (v : View) → Stands v → v.lane ≡ 1 → IsListing v.rows
+main_law v s main =
+    subst IsListing ((s.rule.registry.each s.seat v s.at).main main).definitions
+    (s.rule.registry.versions.listings (version_in s.moment.registry) (omega arith))
+
+-- a row that is not made has no boundary, as the control pass knows
+pub unset_law : (v : View) → Stands v → v.lane ≡ 1 → (id i : ℕ) → length v.rows ≤ id → id < 256 → i < 2
+    → drafted v.draft (row_at id i) ≡ 0
+unset_law v s main id i more few bound =
+    let its = (s.rule.registry.each s.seat v s.at).main main in
+    let size : length (definitions_at v.about s.moment.registry (version_in s.moment.registry)) ≡ length v.rows =
+    ap (λ (z : List Listed). length z) its.definitions in
+    sym (its.owned (row_at id i) (inr (id, i, few, bound, refl)))
+    ∙ s.rule.registry.boundaries.unmade id i (omega arith) few bound
 
 -- a row of the start is there at version 0, and so there are at most 256
 pub opened_law : (v : View) → Stands v → length v.about.rows.value ≤ 256

@@ -119,24 +119,28 @@ module _ (k : Key) where
     pub definitions_later : (v : ℕ) → v ≤ version_in g → definitions_at k g' v ≡ definitions_at k g v
     definitions_later v reached = definitions_same g g' v
         (λ u a b. e.same (op_at u) (inr (inl (u, a, (omega arith), refl))))
-        (λ id i less a b. e.same (row_at id i) (inr (inr (
+        (λ id i less a b. e.same (row_at id i) (inr (inr (inl (
           id,
           i,
           (let grows = length_grows g v (version_in g) reached in omega arith),
           a,
           b,
           refl,
-        ))))
+        )))))
 
     -- a word that lasts goes on lasting
     pub lasting_later : (p : ℕ) → IsLasting k g p → IsLasting k g' p
     lasting_later p (inl h) = inl h
     lasting_later p (inr (inl h)) = (let up = e.rises in let b = h.2 in inr (inl (h.0, h.1, (omega arith), h.3)))
-    lasting_later p (inr (inr h)) =
+    lasting_later p (inr (inr (inl h))) =
         let up = length_grows g' (version_in g) (version_in g') e.rises in
         let same = ap (λ (z : List Listed). length z) (definitions_later (version_in g) (omega arith)) in
         let less = h.2 in
-        inr (inr (h.0, h.1, (omega arith), h.3, h.4, h.5))
+        inr (inr (inl (h.0, h.1, (omega arith), h.3, h.4, h.5)))
+    lasting_later p (inr (inr (inr h))) = inr (inr (inr (
+      h.0,
+      (λ none. h.1 (sym (e.same p (inr (inr (inr h)))) ∙ none)),
+    )))
 
     -- a word that was read stays
     pub registered_later : (x : RegistryWord) → IsRegistered k g x → IsRegistered k g' x

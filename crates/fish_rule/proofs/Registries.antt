@@ -17,7 +17,7 @@ use Rattle.fish_rule.proofs.Kept.{chained_later, keyed_kept, published}
 use Rattle.fish_rule.proofs.Links.{chains_set, links_set}
 use Rattle.fish_rule.proofs.Registers.{active_later, definitions_later, definitions_next, keyed_map, length_grows, length_registered}
 use Rattle.fish_rule.proofs.Registers.{registered_later}
-use Rattle.fish_rule.specs.Epochs.{Carries, IsMain, IsUnmade, Registry, Versions}
+use Rattle.fish_rule.specs.Epochs.{Carries, IsMain, IsOwned, IsUnmade, Registry, Versions}
 use Rattle.fish_rule.specs.Registry.{AreActiveAt, Endures, IsOperation, IsRegistered, definitions_at, op_at, row_at, row_in}
 use Rattle.fish_rule.specs.Registry.{row_spelled}
 use Rattle.fish_rule.specs.Registry.{version_in}
@@ -30,6 +30,7 @@ use Rattle.fish_rule.specs.declared.view.Flight.{Flight}
 use Rattle.fish_rule.specs.declared.view.Key.{Key}
 use Rattle.fish_rule.specs.declared.view.Kind.TheVariants.{Stored}
 use Rattle.fish_rule.specs.declared.view.RegistryWord.{RegistryWord}
+use Rattle.fish_rule.specs.declared.view.Round.{Round}
 use Rattle.fish_rule.specs.declared.view.View.{View}
 
 -- ---- what other words leave
@@ -72,7 +73,7 @@ module _ (k : Key) (g g' : ℕ → ℕ) (e : Endures k g g') where
       let defs : definitions_at k g' v ≡ ls = definitions_later k g g' e v (omega arith) in
       subst (λ (z : List Listed × ℕ). IsOperation (row_in g' (length z.0)) z.0 z.1) (λ i. (sym defs i, sym op i))
       (operation_later (row_in g (length ls)) (row_in g' (length ls)) ls x (λ room few i a b.
-      e.same (row_at (length ls) i) (inr (inr (
+      e.same (row_at (length ls) i) (inr (inr (inl (
         length ls,
         i,
         (let q = length_registered g x ls few in
@@ -81,7 +82,7 @@ module _ (k : Key) (g g' : ℕ → ℕ) (e : Endures k g g') where
         a,
         b,
         refl,
-      )))) (h.operations v from less))
+      ))))) (h.operations v from less))
 
   -- the rows of the start stay
   pub rows_later : (count : ℕ) (version_of : ℕ → ℕ) → Versions k count g version_of → (id : ℕ) (row : CatRow)
@@ -92,7 +93,7 @@ module _ (k : Key) (g g' : ℕ → ℕ) (e : Endures k g g') where
       let up = length_grows k g 0 (version_in g) (omega arith) in
       let within = slice_get_within k.rows.value id row there in
       let old = h.rows id row there in
-      (old.0, λ i a b. e.same (row_at id i) (inr (inr (id, i, (omega arith), a, b, refl))) ∙ old.1 i a b)
+      (old.0, λ i a b. e.same (row_at id i) (inr (inr (inl (id, i, (omega arith), a, b, refl)))) ∙ old.1 i a b)
 
   -- versions stay as they are where the registry's does
   pub versions_later : (count : ℕ) (version_of : ℕ → ℕ) → version_in g' ≡ version_in g → Versions k count g version_of
@@ -137,27 +138,39 @@ module _ (k : Key) (g g' : ℕ → ℕ) (e : Endures k g g') where
       let a = h.2 in
       inr (h.0, h.1, (omega arith), h.3, h.4, h.5)
 
+  -- and a word that only the control pass stores was one
+  pub owned_before : version_in g' ≡ version_in g → (p : ℕ) → IsOwned k g' p → IsOwned k g p
+  owned_before same p (inl h) = inl (unmade_before same p h)
+  owned_before same p (inr h) = inr h
+
   -- the control pass still knows the registry as it is
   pub main_later : (seen : ℕ) (rows : List Listed) (draft : List RegistryWord) → version_in g' ≡ version_in g
-      → ((p : ℕ) → IsUnmade k g p → g' p ≡ g p) → IsMain k g seen rows draft → IsMain k g' seen rows draft
+      → ((p : ℕ) → IsOwned k g p → g' p ≡ g p) → IsMain k g seen rows draft → IsMain k g' seen rows draft
   main_later seen rows draft same stay h = record {
     version = h.version ∙ sym same;
     definitions = ap (definitions_at k g') same
         ∙ definitions_later k g g' e (version_in g) (omega arith) ∙ h.definitions;
-    unmade = λ p u. let before = unmade_before same p u in stay p before ∙ h.unmade p before;
+    owned = λ p u. let before = owned_before same p u in stay p before ∙ h.owned p before;
   }
+
+-- a word that only the control pass stores is behind the epochs
+pub owned_far : (k : Key) (g : ℕ → ℕ) (p : ℕ) → IsOwned k g p → 20 ≤ p
+owned_far k g p (inl (inl h)) = (let a = h.1 in let b = h.3 in omega arith)
+owned_far k g p (inl (inr h)) = (let a = h.5 in omega arith)
+owned_far k g p (inr h) = (let a = h.4 in omega arith)
 
 -- ---- the class
 
 module _ (k : Key) (w : World) (r : Rule k w) (id : ℕ) (v : View) (at : get_elem? w.views id ≡ some v)
     (g' : ℕ → ℕ) (epoch : Epoch) (version : ℕ) (words : List RegistryWord) (rows : List Listed)
-    (draft : List RegistryWord) (clock : Clock) where
+    (draft : List RegistryWord) (round : Option Round) (clock : Clock) where
   -- the view afterwards
   abbrev pub registrant : View
   registrant = record v {
     epoch = epoch;
     rows = rows;
     draft = draft;
+    round = round;
     learned = record v.learned { version = version; words = words };
     clock = clock;
   }

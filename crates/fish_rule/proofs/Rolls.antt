@@ -1,6 +1,6 @@
 -- What a table leaves for one that begins where it ends: numbers and lines within the bounds of a start, and heads
 -- of which none is a place of the next table.
-use Rattle.std.proofs.Common.{◌≡◌, ◌≢◌, ℕ, ◌+◌, ◌-◌, ◌*◌, ◌<◌, ◌≤◌, suc, sym, ◌∙◌, subst, ◌⊎◌, ⊎_elim, arith}
+use Rattle.std.proofs.Common.{◌≡◌, ℕ, ◌*◌, ◌<◌, ◌≤◌, suc, sym, ◌∙◌, ⊎_elim, arith}
 use Rattle.std.proofs.Math.Decide.{dec_lt}
 use Rattle.fish_rule.proofs.Bodies.{kind-inside}
 use Rattle.fish_rule.proofs.Bounds.{starts_above, starts_rise}

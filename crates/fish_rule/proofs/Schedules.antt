@@ -19,7 +19,10 @@ use Rattle.fish_rule.specs.Machine.{Event, EverySchedule, EveryStepIsFinal, Exch
 use Rattle.fish_rule.specs.Machine.{ends, heads, joins, looks, nodes, previouses, publishes, raises, reads}
 use Rattle.fish_rule.specs.Machine.{announces, bumps, defines, registers, retires, settles, splices, splits, stores}
 use Rattle.fish_rule.specs.Machine.{swings, versions}
-use Rattle.fish_rule.proofs.Defines.{bump_kept, bump_lasts, define_kept, define_lasts}
+use Rattle.fish_rule.specs.Machine.{boundaries, bounds, checks, froms, tos}
+use Rattle.fish_rule.proofs.Checks.{boundaries_last, bounds_last, checks_last}
+use Rattle.fish_rule.proofs.Defines.{bumps_last, defines_last}
+use Rattle.fish_rule.proofs.SetBoundaries.{from_lasts, to_lasts}
 use Rattle.fish_rule.proofs.Enters.{announce_kept, announce_lasts, registry_kept, registry_lasts, retire_kept, retire_lasts}
 use Rattle.fish_rule.proofs.Enters.{version_kept, version_lasts}
 use Rattle.fish_rule.specs.Regions.{dir_word, kind_of}
@@ -115,12 +118,19 @@ event_lasts k (registers id p) w u r g = (let v = g.0 in let s = g.1 in
       registry_lasts k w r id v s.at s.about p g.2,
     ))
 event_lasts k (defines id p x) w u r g = (let v = g.0 in let s = g.1 in
-    lasts_at k w r u _ g.3 (
-      define_kept k w r id v s.at g.2.main p x g.2,
-      define_lasts k w r id v s.at g.2.main p x g.2,
-    ))
+    lasts_at k w r u _ g.3 (defines_last k w r id v s.at g.2.main p x g.2))
 event_lasts k (bumps id) w u r g = (let v = g.0 in let s = g.1 in
-    lasts_at k w r u _ g.3 (bump_kept k w r id v s.at g.2.main g.2, bump_lasts k w r id v s.at g.2.main g.2))
+    lasts_at k w r u _ g.3 (bumps_last k w r id v s.at g.2.main g.2))
+event_lasts k (checks id l) w u r g = (let v = g.0 in let s = g.1 in
+    lasts_at k w r u _ g.3 (checks_last k w r id v s.at l g.2))
+event_lasts k (bounds id) w u r g = (let v = g.0 in let o = g.1 in let x : ℕ = g.2 in let s = g.3 in
+    lasts_at k w r u _ g.7 (bounds_last k w r id v s.at o x g.4 g.5 g.6))
+event_lasts k (froms id) w u r g = (let v = g.0 in let o = g.1 in let n : ℕ = g.2 in let s = g.3 in
+    lasts_at k w r u _ g.5 (from_lasts k w r id v s.at o n g.4))
+event_lasts k (tos id row n) w u r g = (let v = g.0 in let s = g.1 in
+    lasts_at k w r u _ g.3 (to_lasts k w r id v s.at row n g.2))
+event_lasts k (boundaries id row i) w u r g = (let v = g.0 in let s = g.1 in
+    lasts_at k w r u _ g.3 (boundaries_last k w r id v s.at row i g.2))
 event_lasts k (splits id l) w u r g = (let v = g.0 in let s = g.1 in
     lasts_at k w r u _ g.3 (split_kept k w r id v s.at l g.2, split_lasts k w r id v s.at l g.2))
 event_lasts k (joins id other) w u r g = (let v = g.0 in let b = g.1 in let s = g.2 in

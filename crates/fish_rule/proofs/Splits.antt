@@ -153,17 +153,19 @@ module _ (k : Key) (w : World) (r : Rule k w) (id : ℕ) (v : View) (at : get_el
   }) r.start r.start r.lane_of r.lane_of split_final
 
   -- the control pass is as far entered as before, and the lane that it gave out is out
-  left_stays : Stays k w.registry r.state v.lane (l ∷ v.out) v.epoch v.learned.version v.learned.words v.rows v.draft
+  left_stays : Stays k w.count w.registry r.state r.version_of left
   left_stays = (let h = r.registry.each id v at in record {
     tied = λ x has. h.tied x (left_has v.lane l v.out x can.main can.above has).0;
     from = h.from;
     since = h.since;
     reached = h.reached;
     read = h.read;
+    unended = h.unended;
     main = h.main;
+    waits = h.waits;
   })
 
-  right_stays : Stays k w.registry r.state l [] Out v.learned.version v.learned.words [] []
+  right_stays : Stays k w.count w.registry r.state r.version_of right
   right_stays =
       let h = r.registry.each id v at in
       let main = can.main in
@@ -177,13 +179,16 @@ module _ (k : Key) (w : World) (r : Rule k w) (id : ℕ) (v : View) (at : get_el
         since = tt;
         reached = h.reached;
         read = h.read;
+        unended = h.unended;
         main = λ e. absurd (omega arith);
+        waits = tt;
       }
 
   split_registry : Registry k w.count w.registry r.state r.version_of (cut ++ right ∷ [])
   split_registry = record {
     epochs = r.registry.epochs;
     versions = r.registry.versions;
+    boundaries = r.registry.boundaries;
     each = each_cut _ r.registry.each left_stays right_stays;
     flights = each_cut _ r.registry.flights (r.registry.flights id v at) tt;
   }

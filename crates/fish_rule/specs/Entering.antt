@@ -1,11 +1,14 @@
 -- How a pass enters the registry's version and leaves, and how the control pass changes the registry: what each
 -- pass knows after these steps, and when it may make them.
-use Rattle.std.specs.Prelude.{ℕ, ◌≡◌, ◌<◌, ◌≤◌, ◌⊎◌, suc, ◌∷◌, length, None}
+use Rattle.std.specs.Prelude.{ℕ, ◌≡◌, ◌≢◌, ◌+◌, ◌<◌, ◌≤◌, ◌⊎◌, suc, [], ◌∷◌, length, Option, Some, None}
+use Rattle.std.proofs.Math.Decide.{dec_lt}
+use Rattle.fish_layout.specs.Cleared.{choose}
 use Rattle.fish_rule.specs.Epochs.{confirmed}
 use Rattle.fish_rule.specs.Registry.{IsOperation, KnowsRow, drafted, made, op_at, row_at, row_in}
 use Rattle.fish_rule.specs.Steps.{noted, ticked}
 use Rattle.fish_rule.specs.declared.view.Epoch.TheVariants.{Announced, Out}
 use Rattle.fish_rule.specs.declared.view.Noted.TheVariants.{Version}
+use Rattle.fish_rule.specs.declared.view.Round.{Round}
 use Rattle.fish_rule.specs.declared.view.View.{View}
 
 -- ---- load version
@@ -74,17 +77,26 @@ after_define v p x = record v { draft = record { index = p; value = x } ∷ v.dr
 abbrev pub next_operation : View → ℕ
 next_operation v = drafted v.draft (op_at (suc v.learned.version))
 
--- the control pass is out, versions are left, and the next operation is one that may be made
+-- the control pass is out, versions are left, no registration waits, and the next operation is one that may be
+-- made; the index of a row that it ends has its end
 pub record CanBump (v : View) : Type 0 where
   pub main : v.lane ≡ 1
   pub outside : v.epoch ≡ Out
   pub few : v.learned.version < 512
+  pub settled : v.round ≡ None
   pub operation : IsOperation (row_in (drafted v.draft) (length v.rows)) v.rows (next_operation v)
+  pub ends : (id : ℕ) → next_operation v ≡ 512 + id → drafted v.draft (row_at id 1) ≢ 0
+
+-- a registration waits once it is made: lane 1 is out
+abbrev pub round_after : ℕ → ℕ → ℕ → Option Round
+round_after x id version =
+    choose (dec_lt x 512) (Some (record { id = id; version = version; checked = 1 ∷ []; bound = None })) None
 
 -- the operation is made
 abbrev pub after_bump : View → View
 after_bump v = record v {
   rows = made (drafted v.draft) (next_operation v) v.rows;
+  round = round_after (next_operation v) (length v.rows) (suc v.learned.version);
   learned = record v.learned { version = suc v.learned.version };
   clock = ticked v.clock;
 }

@@ -6,10 +6,12 @@ use Rattle.fish_catalog.specs.Words.{row_word, IsWritable}
 use Rattle.fish_catalog.specs.declared.listed.Listed.{Listed}
 use Rattle.fish_catalog.specs.declared.row.CatRow.{CatRow}
 use Rattle.fish_layout.specs.Cleared.{body_of, choose}
+use Rattle.fish_rule.specs.Boundaries.{Boundaries, IsUnended}
 use Rattle.fish_rule.specs.Keys.{IsKeyed}
 use Rattle.fish_rule.specs.Regions.{code}
-use Rattle.fish_rule.specs.Registry.{AreActiveAt, IsOperation, IsRegistered, definitions_at, drafted, epoch_at, op_at}
-use Rattle.fish_rule.specs.Registry.{row_at, row_in, version_in}
+use Rattle.fish_rule.specs.Registry.{AreActiveAt, IsBoundaryIndex, IsOperation, IsRegistered, definitions_at, drafted}
+use Rattle.fish_rule.specs.Registry.{epoch_at, op_at, row_at, row_in, version_in}
+use Rattle.fish_rule.specs.Rounds.{IsSince, Waits}
 use Rattle.fish_rule.specs.Views.{AllOf, Each, Has}
 use Rattle.fish_rule.specs.World.{body, high}
 use Rattle.fish_rule.specs.declared.view.Epoch.{Epoch}
@@ -18,6 +20,8 @@ use Rattle.fish_rule.specs.declared.view.Flight.{Flight}
 use Rattle.fish_rule.specs.declared.view.Key.{Key}
 use Rattle.fish_rule.specs.declared.view.Kind.TheVariants.{Stored}
 use Rattle.fish_rule.specs.declared.view.RegistryWord.{RegistryWord}
+use Rattle.fish_rule.specs.declared.view.Round.{Round}
+use Rattle.fish_rule.specs.declared.view.Unended.{Unended}
 use Rattle.fish_rule.specs.declared.view.View.{View}
 
 -- ---- epochs
@@ -33,12 +37,6 @@ abbrev pub IsAtMost : ℕ → Epoch → Type 0
 IsAtMost v Out = ⊤
 IsAtMost v (Announced u) = u ≤ v
 IsAtMost v (Confirmed u) = u ≤ v
-
--- a version at which a pass is confirmed is at or past this one
-abbrev pub IsSince : ℕ → Epoch → Type 0
-IsSince s Out = ⊤
-IsSince s (Announced u) = ⊤
-IsSince s (Confirmed u) = s ≤ u
 
 -- the epoch once the version was found: an announced one is confirmed where it is that very version
 abbrev pub confirmed : Epoch → ℕ → Epoch
@@ -75,23 +73,34 @@ abbrev pub IsUnmade : Key → (ℕ → ℕ) → ℕ → Type 0
 IsUnmade k g p = ((v : ℕ) × (version_in g < v) × (v ≤ 512) × (p ≡ op_at v))
     ⊎ ((id : ℕ) × (i : ℕ) × (length (definitions_at k g (version_in g)) ≤ id) × (id < 256) × (i < 39) × (p ≡ row_at id i))
 
--- the control pass knows the registry as it is: its version, its definitions, and all words of which nothing
--- is made yet
+-- the word at the index is one that only the control pass stores: nothing is made of it yet, or it is a boundary
+abbrev pub IsOwned : Key → (ℕ → ℕ) → ℕ → Type 0
+IsOwned k g p = IsUnmade k g p ⊎ IsBoundaryIndex p
+
+-- the control pass knows the registry as it is: its version, its definitions, and all words that only it stores
 pub record IsMain (k : Key) (g : ℕ → ℕ) (seen : ℕ) (rows : List Listed) (draft : List RegistryWord) : Type 0 where
   pub version : seen ≡ version_in g
   pub definitions : definitions_at k g (version_in g) ≡ rows
-  pub unmade : (p : ℕ) → IsUnmade k g p → g p ≡ drafted draft p
+  pub owned : (p : ℕ) → IsOwned k g p → g p ≡ drafted draft p
 
 -- a pass's lane is as far entered as the pass is, and every other lane that it has is out; what it knows of the
 -- registry is so, and no version that it has seen or is confirmed at is before the start's
-pub record Stays (k : Key) (g : ℕ → ℕ) (state : ℕ → Epoch) (lane : ℕ) (out : List ℕ) (epoch : Epoch) (seen : ℕ)
-    (words : List RegistryWord) (rows : List Listed) (draft : List RegistryWord) : Type 0 where
+pub record StaysWith (k : Key) (count : ℕ) (g : ℕ → ℕ) (state : ℕ → Epoch) (version_of : ℕ → ℕ) (lane : ℕ)
+    (out : List ℕ) (epoch : Epoch) (seen : ℕ) (words : List RegistryWord) (ends : List Unended) (rows : List Listed)
+    (draft : List RegistryWord) (round : Option Round) : Type 0 where
   pub tied : (l : ℕ) → Has lane out l → (l ≡ lane → state l ≡ epoch) × (l ≢ lane → state l ≡ Out)
   pub from : 1 ≤ lane → k.version ≤ seen
   pub since : IsSince k.version epoch
   pub reached : seen ≤ version_in g
   pub read : AllOf (IsRegistered k g) words
+  pub unended : AllOf (IsUnended k count g version_of) ends
   pub main : lane ≡ 1 → IsMain k g seen rows draft
+  pub waits : Waits k count g state version_of lane round
+
+-- the same of the fields of a view
+abbrev pub Stays : Key → ℕ → (ℕ → ℕ) → (ℕ → Epoch) → (ℕ → ℕ) → View → Type 0
+Stays k count g state version_of v = StaysWith k count g state version_of v.lane v.out v.epoch v.learned.version
+    v.learned.words v.learned.unended v.rows v.draft v.round
 
 -- a record in flight is of the version at which its pass is entered; once an entry of it is linked, it has the
 -- keys of that version
@@ -107,11 +116,12 @@ Carries k g version_of lane epoch (Some f) = IsCarried k g version_of lane epoch
 
 -- ---- all of it
 
--- epochs, versions, and what holds of each pass
+-- epochs, versions, boundaries, and what holds of each pass
 pub record Registry (k : Key) (count : ℕ) (g : ℕ → ℕ) (state : ℕ → Epoch) (version_of : ℕ → ℕ) (views : List View) : Type 0 where
   pub epochs : Epochs g state
   pub versions : Versions k count g version_of
-  pub each : Each (λ v. Stays k g state v.lane v.out v.epoch v.learned.version v.learned.words v.rows v.draft) views
+  pub boundaries : Boundaries k count g state version_of
+  pub each : Each (Stays k count g state version_of) views
   pub flights : Each (λ v. Carries k g version_of v.lane v.epoch v.flight) views
 
 -- each published record has exactly the keys that the definitions active at its version give for it

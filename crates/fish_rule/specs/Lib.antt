@@ -1,3 +1,5 @@
+pub mod Boundaries
+pub mod Bounding
 pub mod Chains
 pub mod Clocks
 pub mod Closed
@@ -6,6 +8,7 @@ pub mod Entering
 pub mod Epochs
 pub mod Facts
 pub mod Flying
+pub mod Intervals
 pub mod Keys
 pub mod Linking
 pub mod Logs
@@ -15,6 +18,7 @@ pub mod Passes
 pub mod Reading
 pub mod Regions
 pub mod Registry
+pub mod Rounds
 pub mod Rule
 pub mod Seating
 pub mod Start

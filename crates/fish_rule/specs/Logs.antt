@@ -9,8 +9,6 @@ use Rattle.fish_layout.specs.Cleared.{IsKeyWord, Spells}
 use Rattle.fish_layout.specs.Header.{keys_of}
 use Rattle.fish_layout.specs.declared.parts.BodyParts.{BodyParts}
 use Rattle.fish_rule.specs.Clocks.{IsLater}
-use Rattle.fish_rule.specs.Facts.{Facts, Owns}
-use Rattle.fish_rule.specs.Parts.{Rests}
 use Rattle.fish_rule.specs.Regions.{code}
 use Rattle.fish_rule.specs.Rule.{Rule}
 use Rattle.fish_rule.specs.Views.{Among}
@@ -20,13 +18,11 @@ use Rattle.fish_rule.specs.declared.view.Gap.{Gap}
 use Rattle.fish_rule.specs.declared.view.Key.{Key}
 use Rattle.fish_rule.specs.declared.view.Known.{Known}
 use Rattle.fish_rule.specs.declared.view.Label.{Label}
-use Rattle.fish_rule.specs.declared.view.Learned.{Learned}
 use Rattle.fish_rule.specs.declared.view.Node.{Node}
-use Rattle.fish_rule.specs.declared.view.Own.{Own}
-use Rattle.fish_rule.specs.declared.view.Position.{Position}
 use Rattle.fish_rule.specs.declared.view.Recorded.{Recorded}
 use Rattle.fish_rule.specs.declared.view.RegistryWord.{RegistryWord}
 use Rattle.fish_rule.specs.declared.view.Kind.TheVariants.{Mark, Stored, Void}
+use Rattle.fish_rule.specs.declared.view.Unended.{Unended}
 use Rattle.fish_rule.specs.declared.view.View.{View}
 use Rattle.fish_value.specs.declared.field.Form.{Form}
 
@@ -69,6 +65,7 @@ pub record Learns (v u : View) : Type 0 where
   pub tops : (x : Node) → Among x v.learned.tops → Among x u.learned.tops
   pub gaps : (x : Gap) → Among x v.learned.gaps → Among x u.learned.gaps
   pub labels : (x : Label) → Among x v.learned.labels → Among x u.learned.labels
+  pub unended : (x : Unended) → Among x v.learned.unended → Among x u.learned.unended
 
 -- in every moment of a view that knows as much, this stands at number n
 abbrev pub Tells : View → ℕ → Entry → Type 0

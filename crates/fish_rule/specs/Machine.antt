@@ -4,7 +4,9 @@ use mathlib.Core.Option.{some}
 use Rattle.std.proofs.Math.ListN.{get_elem?, set}
 use Rattle.fish_rule.specs.Entering.{CanAnnounce, CanBump, CanDefine, CanEnter, CanLoadRegistry, after_announce}
 use Rattle.fish_rule.specs.Entering.{after_bump, after_define, after_registry, after_retire, after_version}
-use Rattle.fish_rule.specs.Registry.{epoch_at}
+use Rattle.fish_rule.specs.Bounding.{CanBound, CanLoadBoundary, CanSetFrom, CanSetTo, IsLane, after_bound}
+use Rattle.fish_rule.specs.Bounding.{after_boundary, after_check, after_from, after_to}
+use Rattle.fish_rule.specs.Registry.{epoch_at, row_at}
 use Rattle.fish_rule.specs.Linking.{CanAim, CanLoadHead, CanSplice, CanSwing, HasNode, after_aim, after_head}
 use Rattle.fish_rule.specs.Linking.{after_node, after_previous, head_seen, own_place, previous_seen, spliced, swung}
 use Rattle.fish_rule.specs.Parts.{Fits}
@@ -20,6 +22,7 @@ use Rattle.fish_rule.specs.World.{World, high, low, put}
 use Rattle.fish_rule.specs.declared.view.Flight.{Flight}
 use Rattle.fish_rule.specs.declared.view.Found.{Found}
 use Rattle.fish_rule.specs.declared.view.Key.{Key}
+use Rattle.fish_rule.specs.declared.view.Round.{Round}
 use Rattle.fish_rule.specs.declared.view.View.{View}
 
 -- one step of the pass at a seat: of its kind, with its operands
@@ -44,6 +47,11 @@ pub data Event : Type 0 where
   registers : ℕ → ℕ → Event
   defines : ℕ → ℕ → ℕ → Event
   bumps : ℕ → Event
+  checks : ℕ → ℕ → Event
+  bounds : ℕ → Event
+  froms : ℕ → Event
+  tos : ℕ → ℕ → ℕ → Event
+  boundaries : ℕ → ℕ → ℕ → Event
   splits : ℕ → ℕ → Event
   joins : ℕ → ℕ → Event
 
@@ -112,6 +120,22 @@ Goes k w (defines id p x) u = (v : View) × Seated k w id v × CanDefine v p x
     × (u ≡ record w { registry = put w.registry p x; views = set w.views id (after_define v p x) })
 Goes k w (bumps id) u = (v : View) × Seated k w id v × CanBump v
     × (u ≡ record w { registry = put w.registry 2 (suc v.learned.version); views = set w.views id (after_bump v) })
+Goes k w (checks id l) u = (v : View) × Seated k w id v × IsLane l
+    × (u ≡ record w { views = set w.views id (after_check v l (w.registry (epoch_at l))) })
+Goes k w (bounds id) u = (v : View) × (o : Round) × (x : ℕ) × Seated k w id v × CanBound v o × (high x ≡ w.count)
+    × (low x ≡ w.line) × (u ≡ record w { views = set w.views id (after_bound v o x) })
+Goes k w (froms id) u = (v : View) × (o : Round) × (n : ℕ) × Seated k w id v × CanSetFrom v o n
+    × (u ≡ record w {
+      registry = put w.registry (row_at o.id 0) (suc n);
+      views = set w.views id (after_from v o n);
+    })
+Goes k w (tos id row n) u = (v : View) × Seated k w id v × CanSetTo v row n
+    × (u ≡ record w {
+      registry = put w.registry (row_at row 1) (suc n);
+      views = set w.views id (after_to v row n);
+    })
+Goes k w (boundaries id row i) u = (v : View) × Seated k w id v × CanLoadBoundary row i
+    × (u ≡ record w { views = set w.views id (after_boundary v row i (w.registry (row_at row i))) })
 Goes k w (splits id l) u = (v : View) × Seated k w id v × CanSplit v l
     × (u ≡ record w { views = set w.views id (split_left l v) ++ split_right l v ∷ [] })
 Goes k w (joins id other) u = (v : View) × (b : View) × Seated k w id v × (other ≢ id)
@@ -125,7 +149,7 @@ Runs k w (e ∷ es) u = (m : World) × Goes k w e m × Runs k m es u
 
 -- from an empty log on, the rule holds after every list of steps
 abbrev pub EverySchedule : Type 0
-EverySchedule = (k : Key) (g : ℕ → ℕ) (events : List Event) (u : World) → Fits k → IsOpening k.version k.rows.value g
+EverySchedule = (k : Key) (g : ℕ → ℕ) (events : List Event) (u : World) → Fits k → IsOpening k.version k.number k.rows.value g
     → Runs k (empty_world k g) events u → Rule k u
 
 -- and each step keeps for good what lasts

@@ -1,5 +1,6 @@
 -- The words of the registry: which definitions each version has, and which words last.
-use Rattle.std.specs.Prelude.{ℕ, ◌≡◌, ◌+◌, ◌*◌, ◌%◌, ◌<◌, ◌≤◌, ◌⊎◌, zero, suc, List, [], ◌∷◌, ◌++◌, length, map, true, None}
+use Rattle.std.specs.Prelude.{ℕ, ◌≡◌, ◌≢◌, ◌+◌, ◌*◌, ◌%◌, ◌<◌, ◌≤◌, ◌⊎◌, zero, suc, List, [], ◌∷◌, ◌++◌, length, map}
+use Rattle.std.specs.Prelude.{true, None}
 use Rattle.std.proofs.Math.Decide.{ℕ_discrete, dec_lt}
 use Rattle.fish_catalog.specs.Listing.{IsNew, IsOnAt, active_texts, ended_at, listed_in, listed_of}
 use Rattle.fish_catalog.specs.Words.{name_in, row_word, text_in}
@@ -74,11 +75,23 @@ abbrev pub IsRowIndex : Key → (ℕ → ℕ) → ℕ → Type 0
 IsRowIndex k g p = (id : ℕ) × (i : ℕ) × (id < length (definitions_at k g (version_in g))) × (2 ≤ i) × (i < 39)
     × (p ≡ row_at id i)
 
--- the word at the index lasts: the count of opened rows, an operation, or a word of a row
-abbrev pub IsLasting : Key → (ℕ → ℕ) → ℕ → Type 0
-IsLasting k g p = (p ≡ 3) ⊎ (IsOpIndex k g p ⊎ IsRowIndex k g p)
+-- the index is that of a boundary of a row: word 0 tells where its index begins, word 1 where it ends
+abbrev pub IsBoundaryIndex : ℕ → Type 0
+IsBoundaryIndex p = (id : ℕ) × (i : ℕ) × (id < 256) × (i < 2) × (p ≡ row_at id i)
 
--- the version only rises, and words that last never change
+-- boundary i of the row with an id is this number
+abbrev pub HasBoundary : (ℕ → ℕ) → ℕ → ℕ → ℕ → Type 0
+HasBoundary g id i n = g (row_at id i) ≡ suc n
+
+-- the index is that of a boundary that is set
+abbrev pub IsSetBoundary : (ℕ → ℕ) → ℕ → Type 0
+IsSetBoundary g p = IsBoundaryIndex p × (g p ≢ 0)
+
+-- the word at the index lasts: the count of opened rows, an operation, a word of a row, or a boundary that is set
+abbrev pub IsLasting : Key → (ℕ → ℕ) → ℕ → Type 0
+IsLasting k g p = (p ≡ 3) ⊎ (IsOpIndex k g p ⊎ (IsRowIndex k g p ⊎ IsSetBoundary g p))
+
+-- the version only rises, and words that last never change; so a boundary is set once
 pub record Endures (k : Key) (g g' : ℕ → ℕ) : Type 0 where
   pub rises : version_in g ≤ version_in g'
   pub same : (p : ℕ) → IsLasting k g p → g' p ≡ g p

@@ -50,6 +50,7 @@ split_right l v = record {
   epoch = Out;
   rows = [];
   draft = [];
+  round = None;
   tail = None;
   own = of_lane l v.own;
   learned = v.learned;
@@ -86,6 +87,7 @@ learned_both a b = record {
   tops = a.tops ++ b.tops;
   gaps = a.gaps ++ b.gaps;
   labels = a.labels ++ b.labels;
+  unended = a.unended ++ b.unended;
 }
 
 -- the own claim that shut the pass, where there is one, else the other's
@@ -119,6 +121,7 @@ unlearned = record {
   tops = [];
   gaps = [];
   labels = [];
+  unended = [];
 }
 
 -- the view of a pass that was joined
@@ -140,6 +143,7 @@ spent = record {
   epoch = Out;
   rows = [];
   draft = [];
+  round = None;
   tail = None;
   own = [];
   learned = unlearned;

@@ -14,14 +14,15 @@ use Rattle.fish_rule.specs.declared.table.Shape.{Shape}
 use Rattle.fish_rule.specs.declared.view.Key.{Key}
 
 -- the words of the registry are those of these rows of a catalogue at a version, with every lane out and no
--- operation made
-pub record IsOpening (s : ℕ) (rows : List CatRow) (g : ℕ → ℕ) : Type 0 where
+-- operation made; each row's index begins, and neither begins nor ends behind the number at which the log begins
+pub record IsOpening (s number : ℕ) (rows : List CatRow) (g : ℕ → ℕ) : Type 0 where
   pub version : g 2 ≡ s
   pub few : s ≤ 512
   pub opened : g 3 ≡ length rows
   pub out : (l : ℕ) → 1 ≤ l → l ≤ 16 → g (epoch_at l) ≡ 0
   pub operations : (v : ℕ) → 1 ≤ v → v ≤ 512 → g (op_at v) ≡ 0
   pub catalog : IsCatalog rows
+  pub clamped : All (IsClamped number) rows
   pub words : (id : ℕ) (row : CatRow) → slice_get rows id ≡ Some row
       → IsWritable row × ((i : ℕ) → i < 39 → g (row_at id i) ≡ row_word row i)
   pub rest : (id i : ℕ) → length rows ≤ id → id < 256 → i < 39 → g (row_at id i) ≡ 0
@@ -32,7 +33,7 @@ pub record IsEmpty (k : Key) (ws : List ℕ) : Type 0 where
   pub wide : length ws ≡ total k
   pub tail : slice_index ws 0 ≡ k.number * 68719476736 + k.line
   pub settled : slice_index ws 1 ≡ k.number
-  pub registry : IsOpening k.version k.rows.value (area ws 2 2 registry_size)
+  pub registry : IsOpening k.version k.number k.rows.value (area ws 2 2 registry_size)
   pub heads : (b : ℕ) → b < k.buckets → slice_index ws (heads_at + b) ≡ first_head k b
   pub zeros : (i : ℕ) → dir_at k ≤ i → slice_index ws i ≡ 0
 

@@ -1,20 +1,30 @@
 -- The rule as the table's, and what a step tells its pass.
-use Rattle.std.specs.Prelude.{ℕ, ◌≡◌, [], length, map, Bool, Some, None}
+use Rattle.std.specs.Prelude.{ℕ, ◌≡◌, suc, List, [], ◌∷◌, length, map, Bool, Some, None}
 use mathlib.Core.Option.{some}
 use Rattle.std.proofs.Math.ListN.{get_elem?}
 use Rattle.atomic_table.specs.Table.{Me, State}
 use Rattle.fish_catalog.specs.Listing.{listed_of}
+use Rattle.fish_catalog.specs.Words.{row_word}
+use Rattle.fish_catalog.specs.declared.row.CatRow.{CatRow}
+use Rattle.fish_rule.specs.Registry.{row_at}
 use Rattle.fish_rule.specs.Rule.{Rule}
 use Rattle.fish_rule.specs.Seating.{fresh, unlearned}
 use Rattle.fish_rule.specs.World.{World, total, world}
 use Rattle.fish_rule.specs.declared.view.Epoch.TheVariants.{Out}
 use Rattle.fish_rule.specs.declared.view.Key.{Key}
+use Rattle.fish_rule.specs.declared.view.RegistryWord.{RegistryWord}
 use Rattle.fish_rule.specs.declared.view.View.{View}
 
 -- the words are as many as the key says, and the rule holds of them and the views
 pub record Ruled (k : Key) (s : State Bool View) : Type 0 where
   pub wide : length s.words ≡ total k
   pub rule : Rule k (world k s.words s.views)
+
+-- the boundaries of rows, whose ids begin at n
+abbrev pub boundaries_of : ℕ → List CatRow → List RegistryWord
+boundaries_of n [] = []
+boundaries_of n (row ∷ rows) = record { index = row_at n 0; value = row_word row 0 }
+    ∷ record { index = row_at n 1; value = row_word row 1 } ∷ boundaries_of (suc n) rows
 
 -- the view of the first pass: the control pass, with all lanes
 abbrev pub first_view : Key → View
@@ -26,7 +36,8 @@ first_view k = record {
   flight = None;
   epoch = Out;
   rows = map listed_of k.rows.value;
-  draft = [];
+  draft = boundaries_of 0 k.rows.value;
+  round = None;
   tail = Some (record { number = k.number; line = k.line });
   own = [];
   learned = record unlearned { count = k.number; settled = k.number; version = k.version };

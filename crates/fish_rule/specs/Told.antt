@@ -1,5 +1,5 @@
 -- What each kind of step tells the pass that makes it.
-use Rattle.std.specs.Prelude.{ℕ, ◌≡◌, ◌≢◌, ◌≤◌, ◌-◌, [], ◌+◌, ◌*◌, Bool, Some, ◌<◌, length, slice_get}
+use Rattle.std.specs.Prelude.{ℕ, ◌≡◌, ◌≢◌, ◌≤◌, ◌-◌, [], ◌+◌, ◌*◌, Bool, Some, None, ◌<◌, length, slice_get}
 use Rattle.atomic_table.specs.Table.{Step}
 use Rattle.fish_rule.specs.Parts.{Rests, first_head}
 use Rattle.fish_rule.specs.Regions.{dir_word}
@@ -10,10 +10,12 @@ use Rattle.fish_rule.specs.World.{dir_at, high, log_at, low, heads_at, slots}
 use Rattle.fish_catalog.specs.Words.{IsWritable, row_word}
 use Rattle.fish_catalog.specs.declared.row.CatRow.{CatRow}
 use Rattle.fish_rule.specs.Entering.{after_announce, after_bump, after_define, after_registry, after_retire, after_version}
+use Rattle.fish_rule.specs.Bounding.{after_bound, after_boundary, after_check, after_store_boundary}
 use Rattle.fish_rule.specs.Registry.{row_at}
 use Rattle.fish_rule.specs.declared.view.Flight.{Flight}
 use Rattle.fish_rule.specs.declared.view.Found.{Found}
 use Rattle.fish_rule.specs.declared.view.Key.{Key}
+use Rattle.fish_rule.specs.declared.view.Round.{Round}
 use Rattle.fish_rule.specs.Table.{Sat, Sees, Told}
 use Rattle.fish_rule.specs.Linking.{HasNode, LowRises, TopRises, after_aim, after_head, after_node}
 use Rattle.fish_rule.specs.Linking.{after_previous, after_splice, after_swing}
@@ -122,12 +124,14 @@ pub record ToldSplice (st : Step Bool) (m : Sat) (found : ℕ) (m' : Sat) : Type
 
 -- ---- the registry
 
--- a load of the version, which only rises, from the start's on, and is at most 512
+-- a load of the version, which only rises, from the start's on, and is at most 512; the control pass finds the version
+-- that it knows
 pub record ToldVersion (st : Step Bool) (m : Sat) (found : ℕ) (m' : Sat) : Type 0 where
   pub told : Told m (after_version m.0 found) m'
   pub rises : m.0.learned.version ≤ found
   pub from : m.0.about.version ≤ found
   pub few : found ≤ 512
+  pub main : m.0.lane ≡ 1 → found ≡ m.0.learned.version
 
 -- an announcement of a version
 abbrev pub told_announce : Step Bool → Sat → ℕ → Sat → Type 0
@@ -151,3 +155,28 @@ told_define st m found m' = Told m (after_define m.0 st.word st.first) m'
 -- a store of the version plus one
 abbrev pub told_bump : Step Bool → Sat → ℕ → Sat → Type 0
 told_bump st m found m' = Told m (after_bump m.0) m'
+
+-- ---- boundaries
+
+-- a load of a lane's epoch word, which is at most one more than a version
+pub record ToldCheck (st : Step Bool) (m : Sat) (found : ℕ) (m' : Sat) : Type 0 where
+  pub told : Told m (after_check m.0 (st.word - 3) found) m'
+  pub few : found ≤ 513
+
+-- a load of the tail behind the last lane
+pub record ToldBound (st : Step Bool) (m : Sat) (found : ℕ) (m' : Sat) : Type 0 where
+  pub told : (o : Round) → m.0.round ≡ Some o → Told m (after_bound m.0 o found) m'
+  pub counted : m.0.learned.count ≤ high found
+
+-- a store of where the index of the row that waits begins
+abbrev pub told_from : Step Bool → Sat → ℕ → Sat → Type 0
+told_from st m found m' = Told m (after_store_boundary m.0 st.word (st.first - 1) None) m'
+
+-- a store of where the index of an active row ends
+abbrev pub told_to : Step Bool → Sat → ℕ → Sat → Type 0
+told_to st m found m' = Told m (after_store_boundary m.0 st.word (st.first - 1) m.0.round) m'
+
+-- a load of a boundary, which is at most one more than a number
+pub record ToldBoundary (st : Step Bool) (m : Sat) (found : ℕ) (m' : Sat) : Type 0 where
+  pub told : (id i : ℕ) → id < 256 → i < 2 → st.word ≡ row_at id i → Told m (after_boundary m.0 id i found) m'
+  pub few : found ≤ 268435456

@@ -5,6 +5,7 @@
 
 ghost use Rattle.std.specs.Prelude.{◌≡◌};
 ghost use Rattle.fish_rule.specs.Parts.{Fits};
+ghost use Rattle.fish_rule.specs.Registry.{epoch_at};
 ghost use Rattle.fish_rule.specs.World.{dir_at as first_directory_word, log_at as first_log_word};
 
 use crate::view::Key;
@@ -44,4 +45,11 @@ pub(crate) fn log_at(key: &Key) -> u64
     ensures { result ≡ first_log_word key.now }
 {
     dir_at(key) + (key.end - key.line + 16)
+}
+
+/// The index of a lane's epoch word.
+pub(crate) fn epoch_index(lane: u8) -> usize
+    ensures { result ≡ epoch_at lane }
+{
+    (EPOCHS - 1) as usize + usize::from(lane)
 }

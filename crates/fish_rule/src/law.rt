@@ -2,6 +2,7 @@
 //! knew. No call of the program needs them.
 
 ghost use Rattle.fish_rule.specs.Closed.{EndsWhereNextBegins, OwnIsClosed, ToldIsClosed};
+ghost use Rattle.fish_rule.specs.Intervals.{IntervalsAreIndexed, IntervalsStay};
 ghost use Rattle.fish_rule.specs.Machine.{EverySchedule, EveryStepIsFinal};
 
 /// From an empty log on, the rule holds after every list of steps of any passes, in any order; and
@@ -22,4 +23,13 @@ pub fn law_closed_log()
     ensures told { ToldIsClosed }
     ensures own { OwnIsClosed }
     ensures next { EndsWhereNextBegins }
+{}
+
+/// A pass that knows of an interval, knows it for good, and so does each that knows as much: every record of the
+/// interval has the keys of a version at which the definition was active.
+///
+/// Its contract is that law.
+pub fn law_intervals()
+    ensures indexed { IntervalsAreIndexed }
+    ensures stay { IntervalsStay }
 {}

@@ -1,7 +1,8 @@
 //! The words of an empty log: the tail, and the registry's words of the definitions with which the
 //! log begins.
 
-ghost use Rattle.std.specs.Prelude.{◌≡◌, ℕ, ◌+◌, ◌*◌, ◌<◌, ◌≤◌, IfOk, Some, length, replicate, slice_get, slice_index};
+ghost use Rattle.std.specs.Prelude.{◌≡◌, ℕ, ◌+◌, ◌*◌, ◌<◌, ◌≤◌, All, IfOk, Some, length, replicate, slice_get, slice_index};
+ghost use Rattle.fish_catalog.specs.Clamps.{IsClamped};
 ghost use Rattle.fish_catalog.specs.Rows.{IsCatalog, IsRow};
 ghost use Rattle.fish_catalog.specs.Words.{IsWritable, row_word};
 ghost use Rattle.fish_catalog.specs.declared.row.CatRow.{CatRow};
@@ -21,6 +22,7 @@ use std::alloc::{AllocError, Global};
 pub(crate) fn empty_words(alloc: Global, key: &Key, start: &Start) -> Result<Vec<u64>, AllocError>
     requires fits { Fits key.now }
     requires rows { key.now.rows.value ≡ start.now.catalog }
+    requires clamped { All (IsClamped key.now.number) start.now.catalog }
     requires heads { key.now.heads.value ≡ start.now.heads }
     requires version { key.now.version ≤ 512 }
     ensures { IfOk result (λ words. IsEmpty key.now words.items) }

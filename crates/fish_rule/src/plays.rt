@@ -2,6 +2,7 @@
 ghost use Rattle.fish_rule.specs.Told.{ToldClaim, ToldEnd, ToldHead, ToldLook, ToldPrevious, ToldRaise, ToldRegistry};
 ghost use Rattle.fish_rule.specs.Told.{ToldSettled, ToldSplice, ToldSwing, ToldVersion, told_aim, told_announce, told_bump};
 ghost use Rattle.fish_rule.specs.Told.{told_define, told_node, told_publish, told_read, told_retire, told_store};
+ghost use Rattle.fish_rule.specs.Told.{ToldBound, ToldBoundary, ToldCheck, told_from, told_to};
 
 use crate::view::View;
 use atomic_table::Play;
@@ -144,4 +145,39 @@ pub(crate) struct Bump;
 
 impl Play<bool, View> for Bump {
     ghost then = { told_bump };
+}
+
+/// A load of a lane's epoch word.
+pub(crate) struct Check;
+
+impl Play<bool, View> for Check {
+    ghost then = { ToldCheck };
+}
+
+/// A load of the tail behind the last lane.
+pub(crate) struct Bound;
+
+impl Play<bool, View> for Bound {
+    ghost then = { ToldBound };
+}
+
+/// A store of where the index of the row that waits begins.
+pub(crate) struct SetFrom;
+
+impl Play<bool, View> for SetFrom {
+    ghost then = { told_from };
+}
+
+/// A store of where the index of an active row ends.
+pub(crate) struct SetTo;
+
+impl Play<bool, View> for SetTo {
+    ghost then = { told_to };
+}
+
+/// A load of a boundary.
+pub(crate) struct Boundary;
+
+impl Play<bool, View> for Boundary {
+    ghost then = { ToldBoundary };
 }

@@ -8,9 +8,9 @@ ghost use Rattle.fish_rule.specs.Entering.{CanAnnounce, CanBump, CanDefine, CanE
 ghost use Rattle.fish_rule.specs.Entering.{after_announce, after_bump, after_define, after_registry};
 ghost use Rattle.fish_rule.specs.Entering.{after_retire, after_version};
 ghost use Rattle.fish_rule.specs.Passes.{IsPassOf, view};
-ghost use Rattle.fish_rule.specs.Registry.{KnowsRow, epoch_at, op_at, row_at};
+ghost use Rattle.fish_rule.specs.Registry.{KnowsRow, op_at, row_at};
 
-use crate::area::{EPOCHS, OPENED, OPERATIONS, ROWS, VERSION};
+use crate::area::{OPENED, OPERATIONS, ROWS, VERSION, epoch_index};
 use crate::plays::{Announce, Bump, Define, Register, Retire, Version};
 use crate::table::{Log, Pass};
 
@@ -22,6 +22,7 @@ pub fn load_version(log: &Log, pass: &mut Pass) -> u64
     ensures rises { (view pass.old).learned.version ≤ result }
     ensures from { log.now.key.version ≤ result }
     ensures few { result ≤ 512 }
+    ensures main { (view pass.old).lane ≡ 1 → result ≡ (view pass.old).learned.version }
 {
     log.table
         .shared
@@ -123,11 +124,4 @@ pub fn raise_version(log: &Log, pass: &mut Pass, version: u64)
     log.table
         .shared
         .store::<Bump>(&mut pass.seat, VERSION as usize, version + 1);
-}
-
-/// The index of a lane's epoch word.
-fn epoch_index(lane: u8) -> usize
-    ensures { result ≡ epoch_at lane }
-{
-    (EPOCHS - 1) as usize + usize::from(lane)
 }

@@ -136,10 +136,32 @@ pub enum Epoch {
     Confirmed(u64),
 }
 
+/// A registration that waits for the number at which its index begins.
+pub struct Round {
+    /// The row's id.
+    pub id: u64,
+    /// The version that the registration made.
+    pub version: u64,
+    /// Lanes of which none is entered at an older version.
+    pub checked: [u64; 0],
+    /// Once all lanes are such: the number.
+    pub bound: Option<u64>,
+}
+
+/// A definition that had not ended at the version of any record below a number.
+pub struct Unended {
+    /// The row's id.
+    pub id: u64,
+    /// The number.
+    pub below: u64,
+}
+
 /// What a step loaded.
 pub enum Noted {
     /// The directory word of a number.
     Directory(u64),
+    /// The epoch word of a lane.
+    Epoch(u64),
     /// The tail.
     Tail,
     /// The version.
@@ -185,6 +207,7 @@ pub struct Learned {
     pub tops: [Node; 0],
     pub gaps: [Gap; 0],
     pub labels: [Label; 0],
+    pub unended: [Unended; 0],
 }
 
 /// What a pass knows.
@@ -203,8 +226,11 @@ pub struct View {
     pub epoch: Epoch,
     /// Of the control pass: the definitions as the version has them.
     pub rows: [Listed; 0],
-    /// Of the control pass: the words of the next operation and row that it stored, newest first.
+    /// Of the control pass: the words of the registry that it alone stores, newest first: the boundaries of
+    /// rows, and the next operation and row.
     pub draft: [RegistryWord; 0],
+    /// Of the control pass: the registration that waits.
+    pub round: Option<Round>,
     /// The tail as its last step left it, unless it joined another pass since.
     pub tail: Option<Position>,
     /// The records that its lanes published.

@@ -1,5 +1,5 @@
 -- One number more was read, or the log ends at it.
-use Rattle.std.proofs.Common.{◌≡◌, ℕ, Option, arith, refl, subst}
+use Rattle.std.proofs.Common.{ℕ, Option, arith, refl, subst}
 use Rattle.fish_catalog.specs.declared.entry.Entry.{Entry}
 use Rattle.fish_rule.proofs.Counts.{count_law}
 use Rattle.fish_rule.proofs.Ending.{lines_else, read_more, upto_later}

@@ -1,5 +1,5 @@
 -- Each turn reads one number more, and the last one that the log ends.
-use Rattle.std.proofs.Common.{◌≡◌, ◌∙◌, ◌+◌, ◌≤◌, suc, subst, ℕ, arith}
+use Rattle.std.proofs.Common.{◌≡◌, ◌∙◌, ◌+◌, suc, subst, ℕ, arith}
 use Rattle.fish_rule.proofs.Closing.{alone_later}
 use Rattle.fish_rule.proofs.Ending.{goes_on}
 use Rattle.fish_rule.proofs.Extending.{extends_both}

@@ -1,5 +1,5 @@
 -- Each load gives one head more.
-use Rattle.std.proofs.Common.{◌≡◌, ◌∙◌, ◌+◌, ◌*◌, ◌≤◌, ◌++◌, ◌∷◌, [], List, length, length-append, sym, ap, subst, ℕ, arith}
+use Rattle.std.proofs.Common.{◌≡◌, ◌∙◌, ◌*◌, ◌≤◌, ◌++◌, ◌∷◌, [], List, length, length-append, sym, ap, subst, ℕ, arith}
 use mathlib.Core.Option.{some}
 use Rattle.std.proofs.Math.ListN.{get_elem?}
 use Rattle.fish_rule.proofs.Descents.{extends_head}

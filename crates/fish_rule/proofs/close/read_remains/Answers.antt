@@ -1,5 +1,5 @@
 -- What was read is what is left, and the pass read on.
-use Rattle.std.proofs.Common.{◌≡◌, ◌∙◌, ◌+◌, ◌≤◌, length, ℕ, List, arith, ap, refl, sym, subst, Some, Option}
+use Rattle.std.proofs.Common.{◌≡◌, ◌∙◌, ℕ, arith, ap, refl, sym, subst, Some}
 use Rattle.fish_rule.proofs.Closes.{closes}
 use Rattle.fish_rule.proofs.Ending.{alone_on, heads_later, read_later, reads_on, reads_version, to_version}
 use Rattle.fish_rule.specs.Closing.{AreHeads}

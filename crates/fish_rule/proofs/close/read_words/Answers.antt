@@ -1,9 +1,8 @@
 -- What was read may be settled, and stays read.
-use Rattle.std.proofs.Common.{◌≡◌, ◌+◌, ◌<◌, ◌≤◌, ℕ, ⊎_elim, arith, ap, sym, subst, length}
+use Rattle.std.proofs.Common.{◌≡◌, ◌+◌, ◌≤◌, ⊎_elim, arith, ap, sym, subst}
 use Rattle.fish_rule.proofs.Ending.{extends_raise, read_later, settles_read}
 use Rattle.fish_rule.proofs.Extending.{extends_both, learns_both}
 use Rattle.std.proofs.lemmas.Result.{on_ok_weaker}
-use Rattle.fish_rule.specs.Closing.{HasMarkAt, IsRead}
 use Rattle.fish_rule.specs.Logs.{Extends, Learns}
 use Rattle.fish_rule.specs.Passes.{view}
 use Rattle.fish_rule.specs.Reading.{CanRaise}

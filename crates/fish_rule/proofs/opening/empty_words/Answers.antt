@@ -1,12 +1,12 @@
 -- The zeros with the tail, the count of rows, the rows and the heads are the words of a log without an entry.
-use Rattle.std.proofs.Common.{◌≡◌, ℕ, ◌+◌, ◌<◌, ◌≤◌, List, length, replicate, set, take, drop, ◌++◌, slice_index, sym, ap}
-use Rattle.std.proofs.Common.{◌∙◌, subst, arith}
+use Rattle.std.proofs.Common.{◌≡◌, ℕ, List, length, replicate, set, take, drop, ◌++◌, slice_index, sym, ap}
+use Rattle.std.proofs.Common.{◌∙◌, subst, arith, All}
+use Rattle.fish_catalog.specs.Clamps.{IsClamped}
 use Rattle.std.proofs.lemmas.Grind.{common_steps}
 use Rattle.fish_catalog.specs.declared.row.CatRow.{CatRow}
-use Rattle.fish_rule.proofs.Opens.{AreStored, opens, start_words, tail_at}
-use Rattle.fish_rule.specs.Parts.{first_head}
+use Rattle.fish_rule.proofs.Opens.{opens, start_words, tail_at}
 use Rattle.fish_rule.specs.Start.{IsEmpty}
-use Rattle.fish_rule.specs.World.{dir_at, heads_at, total}
+use Rattle.fish_rule.specs.World.{total}
 use Rattle.fish_rule.proofs.opening.empty_words.Goals as goal
 
 -- the words before the rows are stored, with the rows, and with the heads
@@ -36,7 +36,8 @@ returns c =
     let size : length c.as_slice.result.now ≡ key.buckets = ap length heads ∙ fits.all_heads in
     subst (IsEmpty key) (sym whole_after)
     (opens key rows c.deref_mut.result.now us (c.rows-rows.ensures.value ∙ sym c.requires.rows)
-    c.rows-rows.ensures.kept c.requires.version wide_after given_ ts
+    c.rows-rows.ensures.kept
+    (subst (All (IsClamped key.number)) (sym c.rows-rows.ensures.value) c.requires.clamped) c.requires.version wide_after given_ ts
     (record { placed = λ id row _. now.rows id row; before = now.before; behind = now.behind })
     (λ b less. last.heads b (omega arith) ∙ ap (λ (z : List ℕ). slice_index z b) heads)
     (λ p less. last.before p less ∙ ap (λ (z : List ℕ). slice_index z p) before)

@@ -1,5 +1,5 @@
 -- Each turn adds one.
-use Rattle.std.proofs.Common.{◌≡◌, ◌∙◌, ◌++◌, ◌∷◌, [], ℕ, List, ap, arith, refl, replicate}
+use Rattle.std.proofs.Common.{◌≡◌, ◌∙◌, ◌++◌, ◌∷◌, [], ℕ, List, ap, arith, replicate}
 use Rattle.std.proofs.lemmas.List.{replicate_more}
 use Rattle.fish_rule.proofs.seats.no_heads.Goals as goal
 

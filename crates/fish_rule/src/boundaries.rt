@@ -1,0 +1,80 @@
+//! One atomic step each, on the boundaries of indices: how the control pass finds the number at which an index
+//! begins, how it sets where one begins and ends, and how any pass learns that.
+
+ghost use Rattle.std.specs.Prelude.{◌≡◌, ◌≤◌, ℕ, Some};
+ghost use Rattle.fish_rule.specs.Bounding.{CanBound, CanLoadBoundary, CanSetFrom, CanSetTo, IsLane, after_bound};
+ghost use Rattle.fish_rule.specs.Bounding.{after_boundary, after_check, after_from, after_to};
+ghost use Rattle.fish_rule.specs.Passes.{IsPassOf, view};
+ghost use Rattle.fish_rule.specs.World.{high, low};
+ghost use Rattle.fish_rule.specs.declared.view.Round.{Round};
+
+use crate::area::{ROWS, epoch_index};
+use crate::plays::{Bound, Boundary, Check, SetFrom, SetTo};
+use crate::table::{Log, Pass};
+use crate::view::Position;
+use crate::word::position_in;
+
+/// Loads the epoch word of a lane: 0, or one more than the version at which its pass is entered.
+pub fn check_lane(log: &Log, pass: &mut Pass, lane: u8) -> u64
+    requires pass { IsPassOf log.now pass.old }
+    requires lane { IsLane lane }
+    ensures pass { IsPassOf log.now pass.new }
+    ensures view { view pass.new ≡ after_check (view pass.old) lane result }
+    ensures few { result ≤ 513 }
+{
+    let index = epoch_index(lane);
+    log.table.shared.load::<Check>(&mut pass.seat, index)
+}
+
+/// Loads the tail behind the last lane: its count is where the index of the registration that waits begins.
+pub fn load_bound(log: &Log, pass: &mut Pass) -> Position
+    requires pass { IsPassOf log.now pass.old }
+    requires view { (o : Round) × CanBound (view pass.old) o }
+    ensures pass { IsPassOf log.now pass.new }
+    ensures view { (o : Round) → (view pass.old).round ≡ Some o → (x : ℕ)
+        × (view pass.new ≡ after_bound (view pass.old) o x) × (result.number ≡ high x) × (result.line ≡ low x) }
+    ensures counted { (view pass.old).learned.count ≤ result.number }
+{
+    let found = log.table.shared.load::<Bound>(&mut pass.seat, 0);
+    position_in(found)
+}
+
+/// Stores where the index of the registration that waits begins.
+pub fn store_from(log: &Log, pass: &mut Pass, id: u64, from: u64)
+    requires pass { IsPassOf log.now pass.old }
+    requires view { (o : Round) × CanSetFrom (view pass.old) o from × (o.id ≡ id) }
+    ensures pass { IsPassOf log.now pass.new }
+    ensures view { (o : Round) → (view pass.old).round ≡ Some o → view pass.new ≡ after_from (view pass.old) o from }
+{
+    let index = ROWS + id * 39;
+    log.table
+        .shared
+        .store::<SetFrom>(&mut pass.seat, index as usize, from + 1);
+}
+
+/// Stores where the index of an active row ends.
+pub fn store_to(log: &Log, pass: &mut Pass, id: u64, to: u64)
+    requires pass { IsPassOf log.now pass.old }
+    requires view { CanSetTo (view pass.old) id to }
+    ensures pass { IsPassOf log.now pass.new }
+    ensures view { view pass.new ≡ after_to (view pass.old) id to }
+{
+    let index = ROWS + id * 39 + 1;
+    log.table
+        .shared
+        .store::<SetTo>(&mut pass.seat, index as usize, to + 1);
+}
+
+/// Loads a boundary of a row, where its index begins or where it ends: 0 for none, or one more than the number.
+pub fn load_boundary(log: &Log, pass: &mut Pass, id: u64, place: u64) -> u64
+    requires pass { IsPassOf log.now pass.old }
+    requires boundary { CanLoadBoundary id place }
+    ensures pass { IsPassOf log.now pass.new }
+    ensures view { view pass.new ≡ after_boundary (view pass.old) id place result }
+    ensures few { result ≤ 268435456 }
+{
+    let index = ROWS + id * 39 + place;
+    log.table
+        .shared
+        .load::<Boundary>(&mut pass.seat, index as usize)
+}
