@@ -1,0 +1,151 @@
+-- Views that go on as the control pass changes the registry.
+use Rattle.std.proofs.Common.{◌≡◌, ℕ, ◌≤◌, List, Option, Some, refl, sym, ap, ◌∙◌, subst, arith}
+use Rattle.fish_catalog.specs.declared.listed.Listed.{Listed}
+use Rattle.fish_registry.specs.Changing.{Changes, HasCounted, Stays}
+use Rattle.fish_registry.specs.Looking.{Looks}
+use Rattle.fish_rule.proofs.Clocks.{later_both, later_noted, later_self, loaded_within, noted_load}
+use Rattle.fish_rule.specs.Clocks.{HasLoaded, IsLater}
+use Rattle.fish_rule.specs.Entering.{after_version}
+use Rattle.fish_rule.specs.Epochs.{confirmed}
+use Rattle.fish_rule.specs.Logs.{Learns}
+use Rattle.fish_rule.specs.Reading.{after_end}
+use Rattle.fish_rule.specs.World.{high, low}
+use Rattle.fish_rule.specs.declared.view.Clock.{Clock}
+use Rattle.fish_rule.specs.declared.view.Epoch.{Epoch}
+use Rattle.fish_rule.specs.declared.view.Epoch.TheVariants.{Out}
+use Rattle.fish_rule.specs.declared.view.Noted.TheVariants.{Tail, Version}
+use Rattle.fish_rule.specs.declared.view.Position.{Position}
+use Rattle.fish_rule.specs.declared.view.RegistryWord.{RegistryWord}
+use Rattle.fish_rule.specs.declared.view.Round.{Round}
+use Rattle.fish_rule.specs.declared.view.View.{View}
+
+-- a view that is another one but for these changes it
+pub changes_from : (v u : View) (rows : List Listed) (draft : List RegistryWord) (round : Option Round)
+    (tail : Option Position) (count version : ℕ) (clock : Clock) → u ≡ record v {
+      rows = rows;
+      draft = draft;
+      round = round;
+      tail = tail;
+      learned = record v.learned { count = count; version = version };
+      clock = clock;
+    } → v.learned.count ≤ count → v.learned.version ≤ version → IsLater v.clock clock → clock.loads ≡ v.clock.loads
+    → Changes v u
+changes_from v u rows draft round tail count version clock is counted reached later loads =
+    let many : u.learned.count ≡ count = ap (λ (z : View). z.learned.count) is in
+    let made : u.learned.version ≡ version = ap (λ (z : View). z.learned.version) is in
+    let clock_is : u.clock ≡ clock = ap (λ (z : View). z.clock) is in
+    record {
+      frame = is ∙ (λ i. record v {
+        rows = ap (λ (z : View). z.rows) (sym is) i;
+        draft = ap (λ (z : View). z.draft) (sym is) i;
+        round = ap (λ (z : View). z.round) (sym is) i;
+        tail = ap (λ (z : View). z.tail) (sym is) i;
+        learned = record v.learned {
+          count = ap (λ (z : View). z.learned.count) (sym is) i;
+          version = ap (λ (z : View). z.learned.version) (sym is) i;
+        };
+        clock = ap (λ (z : View). z.clock) (sym is) i;
+      });
+      count = omega arith;
+      version = omega arith;
+      clock = subst (IsLater v.clock) (sym clock_is) later;
+      loads = ap (λ (z : Clock). z.loads) clock_is ∙ loads;
+    }
+
+-- and so does one that is another one but for its clock
+pub changes_stays : (v u : View) → Stays v u → Changes v u
+changes_stays v u h = changes_from v u v.rows v.draft v.round v.tail v.learned.count v.learned.version u.clock h.frame
+    (omega arith) (omega arith) h.clock h.loads
+
+-- or for the lanes that were looked at
+pub changes_looks : (v u : View) → Looks v u → Changes v u
+changes_looks v u h = changes_from v u v.rows v.draft u.round v.tail v.learned.count v.learned.version u.clock h.frame
+    (omega arith) (omega arith) h.clock h.loads
+
+-- a load of the tail changes a view
+pub changes_end : (v u : View) (x : ℕ) → u ≡ after_end v x → v.learned.count ≤ high x → Changes v u
+changes_end v u x is more = changes_from v u v.rows v.draft v.round (Some (record { number = high x; line = low x }))
+    (high x) v.learned.version (Rattle.fish_rule.specs.Steps.noted v.clock Tail x) is more (omega arith)
+    (later_noted v.clock Tail x) refl
+
+-- one change behind another
+pub changes_both : (a b c : View) → Changes a b → Changes b c → Changes a c
+changes_both a b c e f =
+    let p = e.count in
+    let q = f.count in
+    let r = e.version in
+    let s = f.version in
+    record {
+      frame = f.frame ∙ ap (λ (z : View). record z {
+        rows = c.rows;
+        draft = c.draft;
+        round = c.round;
+        tail = c.tail;
+        learned = record z.learned { count = c.learned.count; version = c.learned.version };
+        clock = c.clock;
+      }) e.frame;
+      count = omega arith;
+      version = omega arith;
+      clock = later_both a.clock b.clock c.clock e.clock f.clock;
+      loads = f.loads ∙ e.loads;
+    }
+
+-- what was learned stays so
+pub learns_changes : (v u : View) → Changes v u → Learns v u
+learns_changes v u h =
+    let P : View → Type 0 = λ z. Learns v z in
+    let c = h.count in
+    let r = h.version in
+    subst P (sym h.frame) (record {
+      about = refl;
+      count = h.count;
+      settled = omega arith;
+      version = h.version;
+      words = λ x m. m;
+      found = λ x m. m;
+      known = λ x m. m;
+      records = λ x m. m;
+      nodes = λ x m. m;
+      lows = λ x m. m;
+      tops = λ x m. m;
+      gaps = λ x m. m;
+      labels = λ x m. m;
+      unended = λ x m. m;
+    })
+
+-- a view stays itself
+pub stays_self : (v : View) → Stays v v
+stays_self v = record { frame = refl; clock = later_self v.clock; loads = refl }
+
+-- the control pass, which is out, finds the version that it knows, and nothing else changes
+pub stays_version : (v u : View) (x : ℕ) → v.epoch ≡ Out → x ≡ v.learned.version → u ≡ after_version v x → Stays v u
+stays_version v u x outside same is =
+    let epoch : confirmed v.epoch x ≡ v.epoch = ap (λ (e : Epoch). confirmed e x) outside ∙ sym outside in
+    let clock_is : u.clock ≡ Rattle.fish_rule.specs.Steps.noted v.clock Version x = ap (λ (z : View). z.clock) is in
+    record {
+      frame = is ∙ (λ i. record v {
+        epoch = epoch i;
+        learned = record v.learned { version = same i };
+        clock = ap (λ (z : View). z.clock) (sym is) i;
+      });
+      clock = subst (IsLater v.clock) (sym clock_is) (later_noted v.clock Version x);
+      loads = ap (λ (z : Clock). z.loads) clock_is;
+    }
+
+-- a load of the tail counts
+pub counted_end : (v u : View) (x n : ℕ) → u ≡ after_end v x → n ≡ high x → HasCounted v u n
+counted_end v u x n is same = record {
+  tail = x;
+  loaded = subst (λ (z : Clock). HasLoaded v.clock z Tail x) (sym (ap (λ (z : View). z.clock) is))
+      (noted_load v.clock Tail x);
+  is = same;
+}
+
+-- and so it does between two views that lie further apart
+pub counted_within : (a b c d : View) (n : ℕ) → IsLater a.clock b.clock → HasCounted b c n → IsLater c.clock d.clock
+    → HasCounted a d n
+counted_within a b c d n p h q = record {
+  tail = h.tail;
+  loaded = loaded_within a.clock b.clock c.clock d.clock Tail h.tail p h.loaded q;
+  is = h.is;
+}

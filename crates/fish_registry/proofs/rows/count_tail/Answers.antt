@@ -1,0 +1,14 @@
+-- A count has 28 bits.
+use Rattle.std.proofs.Common.{ap, arith}
+use Rattle.fish_rule.proofs.Counts.{count_law}
+use Rattle.fish_rule.specs.Passes.{view}
+use Rattle.fish_rule.specs.declared.view.View.{View}
+use Rattle.fish_registry.proofs.rows.count_tail.Goals as goal
+
+pub overflow_cast-result : goal.overflow_cast-result
+overflow_cast-result c =
+    let told = c.load_tail.ensures.view in
+    let few = count_law (view c.load_tail.new.pass) c.load_tail.ensures.pass.stands in
+    let count = ap (λ (v : View). v.learned.count) told.1 in
+    let same = told.2 in
+    omega arith

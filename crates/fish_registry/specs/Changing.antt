@@ -1,0 +1,34 @@
+-- How the control pass goes on in a call that changes the registry.
+use Rattle.std.specs.Prelude.{ℕ, ◌≡◌, ◌≤◌}
+use Rattle.fish_rule.specs.Clocks.{HasLoaded, IsLater}
+use Rattle.fish_rule.specs.World.{high}
+use Rattle.fish_rule.specs.declared.view.Noted.TheVariants.{Tail}
+use Rattle.fish_rule.specs.declared.view.View.{View}
+
+-- the second view is the first but for what the control pass knows of the registry and of the tail; no word of the log
+-- was loaded
+pub record Changes (v u : View) : Type 0 where
+  pub frame : u ≡ record v {
+    rows = u.rows;
+    draft = u.draft;
+    round = u.round;
+    tail = u.tail;
+    learned = record v.learned { count = u.learned.count; version = u.learned.version };
+    clock = u.clock;
+  }
+  pub count : v.learned.count ≤ u.learned.count
+  pub version : v.learned.version ≤ u.learned.version
+  pub clock : IsLater v.clock u.clock
+  pub loads : u.clock.loads ≡ v.clock.loads
+
+-- the second view is the first but for its clock
+pub record Stays (v u : View) : Type 0 where
+  pub frame : u ≡ record v { clock = u.clock }
+  pub clock : IsLater v.clock u.clock
+  pub loads : u.clock.loads ≡ v.clock.loads
+
+-- the number is the count of the tail that was loaded in between
+pub record HasCounted (v u : View) (n : ℕ) : Type 0 where
+  pub tail : ℕ
+  pub loaded : HasLoaded v.clock u.clock Tail tail
+  pub is : n ≡ high tail

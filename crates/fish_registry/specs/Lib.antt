@@ -1,0 +1,5 @@
+pub mod Changing
+pub mod Knowing
+pub mod Looking
+pub mod Refusing
+pub mod Rows

@@ -1,0 +1,74 @@
+-- How the control pass makes an operation: of the next row, or of one whose index ends.
+use Rattle.std.specs.Prelude.{ℕ, ◌≡◌, ◌≢◌, ◌<◌, ◌≤◌, suc, List, [], ◌∷◌, ◌++◌, Some, None, length, slice_index, true}
+use Rattle.fish_catalog.specs.Listing.{IsNew, IsOnAt, ended_at}
+use Rattle.fish_catalog.specs.Rows.{IsActive, IsRow}
+use Rattle.fish_catalog.specs.declared.row.CatRow.{CatRow}
+use Rattle.fish_registry.specs.Changing.{Changes}
+use Rattle.fish_rule.specs.Clocks.{IsLater}
+use Rattle.fish_rule.specs.Reading.{after_end}
+use Rattle.fish_rule.specs.Registry.{drafted, row_at}
+use Rattle.fish_rule.specs.World.{high}
+use Rattle.fish_rule.specs.declared.view.Epoch.TheVariants.{Out}
+use Rattle.fish_rule.specs.declared.view.View.{View}
+
+-- the words of the next row from place 2 up to a place are these, the boundaries are as before, and else only what
+-- was stored and the clock changed
+pub record HasDrafted (v : View) (words : List ℕ) (upto : ℕ) (u : View) : Type 0 where
+  pub only : u ≡ record v { draft = u.draft; clock = u.clock }
+  pub row : (i : ℕ) → 2 ≤ i → i < upto → drafted u.draft (row_at (length v.rows) i) ≡ slice_index words i
+  pub bounds : (n i : ℕ) → i < 2 → drafted u.draft (row_at n i) ≡ drafted v.draft (row_at n i)
+  pub clock : IsLater v.clock u.clock
+  pub loads : u.clock.loads ≡ v.clock.loads
+
+-- the control pass may make an operation: it is out, no registration waits, and versions are left
+pub record MayMake (v : View) (version : ℕ) : Type 0 where
+  pub main : v.lane ≡ 1
+  pub outside : v.epoch ≡ Out
+  pub settled : v.round ≡ None
+  pub is : version ≡ v.learned.version
+  pub few : version < 512
+
+-- the row may be the next one
+pub record MayRegister (v : View) (row : CatRow) : Type 0 where
+  pub row_of : IsRow row
+  pub active : IsActive row
+  pub id : row.id ≡ length v.rows
+  pub new : IsNew v.rows row.name row.def
+
+-- the registry has one version more, whose definitions are those before and one of this name and text; its
+-- registration waits, and the boundaries are as before
+pub record HasRegistered (v : View) (row : CatRow) (u : View) : Type 0 where
+  pub changes : Changes v u
+  pub rows : u.rows ≡ v.rows ++ record { id = row.id; name = row.name; def = row.def; active = true } ∷ []
+  pub version : u.learned.version ≡ suc v.learned.version
+  pub count : u.learned.count ≡ v.learned.count
+  pub round : u.round ≡ Some (record { id = row.id; version = suc v.learned.version; checked = 1 ∷ []; bound = None })
+  pub bounds : (n i : ℕ) → i < 2 → drafted u.draft (row_at n i) ≡ drafted v.draft (row_at n i)
+
+-- the index of an active row may end at a number
+pub record MayEnd (v : View) (id to : ℕ) : Type 0 where
+  pub on : IsOnAt v.rows id
+  pub few : id < 256
+  pub from : ℕ
+  pub began : drafted v.draft (row_at id 0) ≡ suc from
+  pub endless : drafted v.draft (row_at id 1) ≡ 0
+  pub within : to ≤ v.learned.count
+
+-- the registry has one version more, in which the row's definition has ended; its index ends at the number, and the
+-- other boundaries are as before
+pub record HasEnded (v : View) (id to : ℕ) (u : View) : Type 0 where
+  pub changes : Changes v u
+  pub rows : u.rows ≡ ended_at id v.rows
+  pub version : u.learned.version ≡ suc v.learned.version
+  pub count : u.learned.count ≡ v.learned.count
+  pub round : u.round ≡ None
+  pub end : drafted u.draft (row_at id 1) ≡ suc to
+  pub from : drafted u.draft (row_at id 0) ≡ drafted v.draft (row_at id 0)
+  pub bounds : (n i : ℕ) → i < 2 → n ≢ id → drafted u.draft (row_at n i) ≡ drafted v.draft (row_at n i)
+
+-- the tail was loaded, and its count is this number
+pub record HasTailed (v u : View) (n : ℕ) : Type 0 where
+  pub tail : ℕ
+  pub view : u ≡ after_end v tail
+  pub is : n ≡ high tail
+  pub more : v.learned.count ≤ n
