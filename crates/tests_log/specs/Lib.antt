@@ -1,5 +1,5 @@
 pub mod Bodies
 pub mod Heads
 pub mod Lanes
-pub mod Operations
+pub mod Registering
 pub mod Walks

@@ -2,6 +2,7 @@
 
 ghost use Rattle.std.specs.Prelude.{◌≡◌, ◌≤◌, IfOk};
 ghost use Rattle.fish_ingest.specs.Ingestion.{CanIngest};
+ghost use Rattle.fish_rule.specs.Logs.{Learns};
 ghost use Rattle.fish_rule.specs.Passes.{IsPassOf, view};
 ghost use Rattle.fish_rule.specs.Seating.{CanSplit, split_left, without};
 ghost use Rattle.fish_rule.specs.Views.{Among};
@@ -39,6 +40,9 @@ pub(crate) fn store_as(
     ensures lane { (view pass.new).lane ≡ (view pass.old).lane }
     ensures out { (view pass.new).out ≡ (view pass.old).out }
     ensures rows { (view pass.new).rows ≡ (view pass.old).rows }
+    ensures draft { (view pass.new).draft ≡ (view pass.old).draft }
+    ensures round { (view pass.new).round ≡ (view pass.old).round }
+    ensures learns { Learns (view pass.old) (view pass.new) }
 {
     ingest(alloc, log, pass, defs, form, payload)
 }
@@ -56,6 +60,9 @@ pub(crate) fn store(
     ensures lane { (view pass.new).lane ≡ (view pass.old).lane }
     ensures out { (view pass.new).out ≡ (view pass.old).out }
     ensures rows { (view pass.new).rows ≡ (view pass.old).rows }
+    ensures draft { (view pass.new).draft ≡ (view pass.old).draft }
+    ensures round { (view pass.new).round ≡ (view pass.old).round }
+    ensures learns { Learns (view pass.old) (view pass.new) }
 {
     store_as(alloc, log, pass, defs, Form::Json, payload)
 }

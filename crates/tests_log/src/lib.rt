@@ -9,6 +9,8 @@ mod bodies;
 #[cfg(test)]
 mod chains;
 #[cfg(test)]
+mod churn;
+#[cfg(test)]
 mod claims;
 #[cfg(test)]
 mod definitions;
@@ -29,11 +31,11 @@ mod nodes;
 #[cfg(test)]
 mod openings;
 #[cfg(test)]
-mod operations;
-#[cfg(test)]
 mod payloads;
 #[cfg(test)]
 mod refusals;
+#[cfg(test)]
+mod registrations;
 #[cfg(test)]
 mod settling;
 #[cfg(test)]

@@ -145,9 +145,9 @@ fn fill_log(alloc: Global, log: &Log, pass: &mut Pass) -> Result<usize, AllocErr
 
 /// A pass on its thread, and how many records it stored.
 #[derive(Drop)]
-struct Seat {
-    pass: Pass,
-    stored: usize,
+pub(crate) struct Seat {
+    pub(crate) pass: Pass,
+    pub(crate) stored: usize,
 }
 
 /// Stores records until the log is full. A want of memory counts as no record, so that it shows.
@@ -169,7 +169,7 @@ fn fill_seats<R: Threads + Sync>(rt: &R, alloc: Global, log: &Log, seats: &mut [
 }
 
 /// The seat of a lane, which the control pass gives out.
-fn split_seat(log: &Log, main: &mut Pass, lane: u8) -> Seat
+pub(crate) fn split_seat(log: &Log, main: &mut Pass, lane: u8) -> Seat
     requires pass { IsPassOf log.now main.old }
     requires can { CanSplit (view main.old) lane }
     ensures pass { IsPassOf log.now main.new }
@@ -198,7 +198,7 @@ fn split_four(log: &Log, main: &mut Pass) -> [Seat; 4]
 }
 
 /// The control pass takes back a seat. How many records were stored there.
-fn take_seat(log: &Log, main: &mut Pass, seat: Seat, lane: u8) -> Result<usize, Fail>
+pub(crate) fn take_seat(log: &Log, main: &mut Pass, seat: Seat, lane: u8) -> Result<usize, Fail>
     requires main { IsPassOf log.now main.old }
     requires seat { IsOutOf log.now seat.pass }
     requires control { (view main.old).lane ≡ 1 }
@@ -288,7 +288,7 @@ fn ingest_by_four<R: Threads + Sync>(
 }
 
 /// The entries that walks down all chains give over all settled numbers, and how many these are.
-fn walks(alloc: Global, log: &Log, pass: &mut Pass) -> Result<(Vec<Linked>, u32), Fail>
+pub(crate) fn walks(alloc: Global, log: &Log, pass: &mut Pass) -> Result<(Vec<Linked>, u32), Fail>
     requires pass { IsPassOf log.now pass.old }
     requires alone { IsAlone (view pass.old) }
     ensures pass { IsPassOf log.now pass.new }

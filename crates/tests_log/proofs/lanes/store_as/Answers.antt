@@ -25,3 +25,18 @@ pub returns-clause-rows : goal.returns-clause-rows
 returns-clause-rows c =
     ap (λ (z : View). z.rows) (goes_on (view c.args.pass.now) (view c.ingest.new.pass) c.args.form c.args.payload.now
     c.ingest.result c.requires.start c.ingest.ensures.ingested c.ingest.ensures.refused).1.frame
+
+pub returns-clause-draft : goal.returns-clause-draft
+returns-clause-draft c =
+    ap (λ (z : View). z.draft) (goes_on (view c.args.pass.now) (view c.ingest.new.pass) c.args.form c.args.payload.now
+    c.ingest.result c.requires.start c.ingest.ensures.ingested c.ingest.ensures.refused).1.frame
+
+pub returns-clause-round : goal.returns-clause-round
+returns-clause-round c =
+    ap (λ (z : View). z.round) (goes_on (view c.args.pass.now) (view c.ingest.new.pass) c.args.form c.args.payload.now
+    c.ingest.result c.requires.start c.ingest.ensures.ingested c.ingest.ensures.refused).1.frame
+
+pub returns-clause-learns : goal.returns-clause-learns
+returns-clause-learns c =
+    (goes_on (view c.args.pass.now) (view c.ingest.new.pass) c.args.form c.args.payload.now
+    c.ingest.result c.requires.start c.ingest.ensures.ingested c.ingest.ensures.refused).1.learns

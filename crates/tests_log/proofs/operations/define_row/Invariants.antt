@@ -1,7 +1,0 @@
--- The words up to the place are stored.
-use Rattle.fish_rule.specs.Passes.{IsPassOf, view}
-use Rattle.tests_log.specs.Operations.{HasDrafted}
-use Rattle.tests_log.proofs.operations.define_row.Given as goal
-
-abbrev pub invariant-loop-place : goal.invariant-loop-place
-invariant-loop-place l = IsPassOf l.log l.pass × HasDrafted (view l.fn.pass) l.words l.place (view l.pass)

@@ -1,0 +1,8 @@
+-- The registrar's call keeps what it keeps.
+use Rattle.tests_log.proofs.Kept.{kept_on}
+use Rattle.tests_log.proofs.registrations.end.Goals as goal
+
+pub returns-clause-kept : goal.returns-clause-kept
+returns-clause-kept c =
+    kept_on c.args.log.now c.args.main.now _ c.args.registrar.now _ c.requires c.end.ensures.pass c.end.ensures.knows
+    c.end.ensures.changes

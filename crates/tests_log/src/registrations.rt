@@ -1,0 +1,453 @@
+//! Definitions that are registered and ended on an open log, by the control pass.
+
+ghost use Rattle.std.specs.Prelude.{◌≡◌};
+ghost use Rattle.fish_ingest.specs.Ingestion.{CanIngest};
+ghost use Rattle.fish_registry.specs.Changing.{Changes};
+ghost use Rattle.fish_rule.specs.Passes.{IsPassOf, view};
+ghost use Rattle.fish_rule.specs.Seating.{CanSplit, split_left};
+ghost use Rattle.tests_log.specs.Lanes.{IsOutOf};
+ghost use Rattle.tests_log.specs.Registering.{IsKept, IsWorking};
+
+use crate::definitions::expect_active;
+use crate::expecting::expect;
+use crate::lanes::{split_lane, store};
+use crate::nodes::expect_nodes;
+use crate::openings::{ONE_PAGE, empty_log, name_of, parsed};
+use fish_catalog::Catalog;
+use fish_chain::Node;
+use fish_epoch::Defs;
+use fish_ingest::{IngestRefusal, finish, start};
+use fish_registry::{Poll, RegRefusal, Registrar};
+use fish_rule::{Base, Log, Pass};
+use fish_value::{Form, Text};
+use std::alloc::{AllocError, Global};
+use std::fmt::Write;
+use std::process::Abort;
+use std::test::Fail;
+
+/// Where an empty store begins.
+const FIRST: Base = Base { number: 0, line: 0 };
+
+/// Registers a definition. Its id, or why it was refused.
+pub(crate) fn begin(
+    alloc: Global,
+    log: &Log,
+    main: &mut Pass,
+    registrar: &mut Registrar,
+    name: &str,
+    source: &str,
+) -> Result<Result<u16, RegRefusal>, Fail>
+    requires { IsKept log.now main.old registrar.old }
+    ensures kept { IsKept log.now main.new registrar.new }
+    ensures changes { Changes (view main.old) (view main.new) }
+{
+    let name = name_of(alloc, name)?;
+    let (def, text) = parsed(alloc, source)?;
+    drop(text);
+    let begun = registrar.begin(log, main, &name, &def);
+    drop(def);
+    Ok(begun)
+}
+
+/// Ends a definition. Its id and where its index ends, or why it was refused.
+pub(crate) fn end(
+    alloc: Global,
+    log: &Log,
+    main: &mut Pass,
+    registrar: &mut Registrar,
+    name: &str,
+) -> Result<Result<(u16, u32), RegRefusal>, Fail>
+    requires { IsKept log.now main.old registrar.old }
+    ensures kept { IsKept log.now main.new registrar.new }
+    ensures changes { Changes (view main.old) (view main.new) }
+{
+    let name = name_of(alloc, name)?;
+    Ok(registrar.end(log, main, &name))
+}
+
+/// Looks at the lanes.
+pub(crate) fn poll(log: &Log, main: &mut Pass, registrar: &mut Registrar) -> Poll
+    requires { IsKept log.now main.old registrar.old }
+    ensures kept { IsKept log.now main.new registrar.new }
+    ensures changes { Changes (view main.old) (view main.new) }
+{
+    registrar.poll(log, main)
+}
+
+/// The name of the definition with a number.
+fn numbered(alloc: Global, n: u16) -> Result<Text, AllocError> {
+    let mut text = String::new(alloc);
+    match write!(text, "d{n}") {
+        Ok(()) => Ok(Text::from_string(text)),
+        Err(_) => {
+            drop(text);
+            Err(AllocError)
+        }
+    }
+}
+
+/// Registers the definition with a number and a name of its own. Its id, or why it was refused.
+pub(crate) fn begin_numbered(
+    alloc: Global,
+    log: &Log,
+    main: &mut Pass,
+    registrar: &mut Registrar,
+    n: u16,
+) -> Result<Result<u16, RegRefusal>, Fail>
+    requires { IsKept log.now main.old registrar.old }
+    ensures kept { IsKept log.now main.new registrar.new }
+    ensures changes { Changes (view main.old) (view main.new) }
+{
+    let name = numbered(alloc, n)?;
+    begin(alloc, log, main, registrar, name.as_str(), "take type")
+}
+
+/// Ends the definition with a number.
+pub(crate) fn end_numbered(
+    alloc: Global,
+    log: &Log,
+    main: &mut Pass,
+    registrar: &mut Registrar,
+    n: u16,
+) -> Result<Result<(u16, u32), RegRefusal>, Fail>
+    requires { IsKept log.now main.old registrar.old }
+    ensures kept { IsKept log.now main.new registrar.new }
+    ensures changes { Changes (view main.old) (view main.new) }
+{
+    let name = numbered(alloc, n)?;
+    end(alloc, log, main, registrar, name.as_str())
+}
+
+/// Registers the definition with a number on an empty log. Its index begins at once.
+fn begin_bound(
+    alloc: Global,
+    log: &Log,
+    main: &mut Pass,
+    registrar: &mut Registrar,
+    n: u16,
+) -> Result<(), Fail>
+    requires { IsKept log.now main.old registrar.old }
+    ensures { IsKept log.now main.new registrar.new }
+{
+    let begun = begin_numbered(alloc, log, main, registrar, n)?;
+    if begun != Ok(n) || poll(log, main, registrar) != (Poll::Bound { id: n, from: 0 }) {
+        return Err(Fail::new("not registered, or not bound"));
+    }
+    Ok(())
+}
+
+/// Ends the definitions with numbers from the first on and below the second, on an empty log.
+fn end_all(
+    alloc: Global,
+    log: &Log,
+    main: &mut Pass,
+    registrar: &mut Registrar,
+    range: (u16, u16),
+) -> Result<(), Fail>
+    requires { IsKept log.now main.old registrar.old }
+    ensures { IsKept log.now main.new registrar.new }
+{
+    for n in range.0..range.1 {
+        if end_numbered(alloc, log, main, registrar, n)? != Ok((n, 0)) {
+            return Err(Fail::new("not ended"));
+        }
+    }
+    Ok(())
+}
+
+/// Registers sixteen definitions.
+fn begin_sixteen(
+    alloc: Global,
+    log: &Log,
+    main: &mut Pass,
+    registrar: &mut Registrar,
+) -> Result<(), Fail>
+    requires { IsKept log.now main.old registrar.old }
+    ensures { IsKept log.now main.new registrar.new }
+{
+    for n in 0..16 {
+        begin_bound(alloc, log, main, registrar, n)?;
+    }
+    Ok(())
+}
+
+/// Ends the oldest definition and registers another one, 240 times.
+fn change_all(
+    alloc: Global,
+    log: &Log,
+    main: &mut Pass,
+    registrar: &mut Registrar,
+) -> Result<(), Fail>
+    requires { IsKept log.now main.old registrar.old }
+    ensures { IsKept log.now main.new registrar.new }
+{
+    for n in 16..256 {
+        end_all(alloc, log, main, registrar, (n - 16, n - 15))?;
+        begin_bound(alloc, log, main, registrar, n)?;
+    }
+    Ok(())
+}
+
+/// Asserts what becomes of one definition more.
+fn expect_begun<R: Abort>(
+    rt: &R,
+    alloc: Global,
+    log: &Log,
+    main: &mut Pass,
+    registrar: &mut Registrar,
+    want: &Result<u16, RegRefusal>,
+) -> Result<(), Fail>
+    requires { IsKept log.now main.old registrar.old }
+    ensures { IsKept log.now main.new registrar.new }
+{
+    let begun = begin_numbered(alloc, log, main, registrar, 300)?;
+    expect(rt, "one more", &begun, want);
+    Ok(())
+}
+
+/// Asserts each limit, with 16 definitions active and at version 16, and later at versions 496 to 512.
+fn expect_limits<R: Abort>(
+    rt: &R,
+    alloc: Global,
+    log: &Log,
+    main: &mut Pass,
+    registrar: &mut Registrar,
+) -> Result<(), Fail>
+    requires { IsKept log.now main.old registrar.old }
+{
+    let active = Err(RegRefusal::TooManyActive);
+    let rows = Err(RegRefusal::TooManyDefinitions);
+    let versions = Err(RegRefusal::TooManyVersions);
+    begin_sixteen(alloc, log, main, registrar)?;
+    expect_begun(rt, alloc, log, main, registrar, &active)?;
+    change_all(alloc, log, main, registrar)?;
+    expect_begun(rt, alloc, log, main, registrar, &active)?;
+    end_all(alloc, log, main, registrar, (240, 241))?;
+    expect_begun(rt, alloc, log, main, registrar, &rows)?;
+    end_all(alloc, log, main, registrar, (241, 256))?;
+    expect_begun(rt, alloc, log, main, registrar, &versions)?;
+    let ended = end_numbered(alloc, log, main, registrar, 255)?;
+    expect(rt, "an end more", &ended, &Err(RegRefusal::TooManyVersions));
+    Ok(())
+}
+
+#[test]
+fn versions_end(rt: HostRuntime) -> Result<(), Fail> {
+    let alloc = rt.alloc();
+    let (log, mut main) = empty_log(alloc, ONE_PAGE, FIRST)?;
+    let mut registrar = Registrar::new(Catalog::new(alloc));
+    let done = expect_limits(&rt, alloc, &log, &mut main, &mut registrar);
+    drop((log, main, registrar));
+    done
+}
+
+/// Asserts that one registration waits at a time, and the refusals of names.
+fn expect_names<R: Abort>(
+    rt: &R,
+    alloc: Global,
+    log: &Log,
+    main: &mut Pass,
+    registrar: &mut Registrar,
+) -> Result<(), Fail>
+    requires { IsKept log.now main.old registrar.old }
+{
+    let rolling = RegRefusal::Rolling { id: 0 };
+    let ended = end_numbered(alloc, log, main, registrar, 0)?;
+    expect(rt, "no row", &ended, &Err(RegRefusal::UnknownName));
+    let begun = begin_numbered(alloc, log, main, registrar, 0)?;
+    expect(rt, "the first", &begun, &Ok(0));
+    let begun = begin_numbered(alloc, log, main, registrar, 1)?;
+    expect(rt, "one more while it waits", &begun, &Err(rolling));
+    let ended = end_numbered(alloc, log, main, registrar, 0)?;
+    expect(rt, "its end while it waits", &ended, &Err(rolling));
+    let found = poll(log, main, registrar);
+    expect(rt, "its index", &found, &Poll::Bound { id: 0, from: 0 });
+    let begun = begin_numbered(alloc, log, main, registrar, 0)?;
+    expect(rt, "its name", &begun, &Err(RegRefusal::NameActive));
+    let found = poll(log, main, registrar);
+    expect(rt, "none waits", &found, &Poll::Idle);
+    Ok(())
+}
+
+#[test]
+fn one_registration_waits_at_a_time(rt: HostRuntime) -> Result<(), Fail> {
+    let alloc = rt.alloc();
+    let (log, mut main) = empty_log(alloc, ONE_PAGE, FIRST)?;
+    let mut registrar = Registrar::new(Catalog::new(alloc));
+    let done = expect_names(&rt, alloc, &log, &mut main, &mut registrar);
+    drop((log, main, registrar));
+    done
+}
+
+/// A definition that gives true for every record without z, under its text as its name.
+const SOURCE: &str = "flag when not z exists";
+
+/// The entry of the second record: the first one has no key, so it has one line, and the entry stands in word 1 of the
+/// next.
+const NODES: &[Node] = &[Node {
+    number: 1,
+    place: 5,
+    id: 0,
+    key: 0,
+}];
+
+/// Stores an empty record. Its number, or why it was not stored.
+fn store_empty(
+    alloc: Global,
+    log: &Log,
+    main: &mut Pass,
+    registrar: &Registrar,
+    defs: &mut Defs,
+) -> Result<u32, IngestRefusal>
+    requires { IsWorking log.now main.old registrar.now defs.old }
+    ensures { IsWorking log.now main.new registrar.now defs.new }
+{
+    store(alloc, log, main, defs, b"{}")
+}
+
+/// Registers a definition under its text as its name. Its id, or why it was refused.
+fn begin_between(
+    alloc: Global,
+    log: &Log,
+    main: &mut Pass,
+    registrar: &mut Registrar,
+    defs: &Defs,
+    source: &str,
+) -> Result<Result<u16, RegRefusal>, Fail>
+    requires { IsWorking log.now main.old registrar.old defs.now }
+    ensures { IsWorking log.now main.new registrar.new defs.now }
+{
+    begin(alloc, log, main, registrar, source, source)
+}
+
+/// Looks at the lanes.
+fn poll_between(log: &Log, main: &mut Pass, registrar: &mut Registrar, defs: &Defs) -> Poll
+    requires { IsWorking log.now main.old registrar.old defs.now }
+    ensures { IsWorking log.now main.new registrar.new defs.now }
+{
+    poll(log, main, registrar)
+}
+
+/// Asserts what a pass stores in front of a registration and behind it.
+fn expect_keys<R: Abort>(
+    rt: &R,
+    alloc: Global,
+    log: &Log,
+    main: &mut Pass,
+    registrar: &mut Registrar,
+    defs: &mut Defs,
+) -> Result<(), Fail>
+    requires { IsWorking log.now main.old registrar.old defs.old }
+{
+    let first = store_empty(alloc, log, main, registrar, defs);
+    expect(rt, "without a key", &first, &Ok(0));
+    expect_active(rt, alloc, defs, 0, &[]);
+    let begun = begin_between(alloc, log, main, registrar, defs, SOURCE)?;
+    expect(rt, "the registration", &begun, &Ok(0));
+    let found = poll_between(log, main, registrar, defs);
+    expect(rt, "its index", &found, &Poll::Bound { id: 0, from: 1 });
+    let second = store_empty(alloc, log, main, registrar, defs);
+    expect(rt, "with a key", &second, &Ok(1));
+    expect_active(rt, alloc, defs, 1, &[SOURCE]);
+    expect_nodes(rt, alloc, log, main, (0, 2), NODES)
+}
+
+#[test]
+fn records_behind_a_registration_have_its_keys(rt: HostRuntime) -> Result<(), Fail> {
+    let alloc = rt.alloc();
+    let (log, mut main) = empty_log(alloc, ONE_PAGE, FIRST)?;
+    let mut registrar = Registrar::new(Catalog::new(alloc));
+    let mut defs = Defs::new(alloc);
+    let done = expect_keys(&rt, alloc, &log, &mut main, &mut registrar, &mut defs);
+    drop((log, main, registrar, defs));
+    done
+}
+
+/// The pass of a lane, which the control pass gives out. Its registrar keeps what it knows.
+pub(crate) fn split_kept(log: &Log, main: &mut Pass, registrar: &Registrar, lane: u8) -> Pass
+    requires kept { IsKept log.now main.old registrar.now }
+    requires can { CanSplit (view main.old) lane }
+    ensures kept { IsKept log.now main.new registrar.now }
+    ensures left { view main.new ≡ split_left lane (view main.old) }
+    ensures out { IsOutOf log.now result }
+{
+    split_lane(log, main, lane)
+}
+
+/// What the control pass finds as it registers a definition while a lane has a record in flight, and behind it.
+#[derive(Clone, Copy, Debug, PartialEq, Eq)]
+struct Seen {
+    begun: Result<u16, RegRefusal>,
+    flying: Poll,
+    number: u32,
+    landed: Poll,
+    later: Poll,
+}
+
+/// Registers a definition while a lane has a record in flight.
+fn seen_in_flight(
+    alloc: Global,
+    log: &Log,
+    main: &mut Pass,
+    registrar: &mut Registrar,
+    other: &mut Pass,
+    defs: &mut Defs,
+) -> Result<Seen, Fail>
+    requires kept { IsKept log.now main.old registrar.old }
+    requires other { CanIngest log.now other.old defs.old }
+{
+    let payload = b"{\"type\":\"Push\",\"n\":1}";
+    let Ok(pending) = start(alloc, log, other, defs, Form::Json, payload) else {
+        return Err(Fail::new("not started"));
+    };
+    let begun = begin(alloc, log, main, registrar, "t", "take type");
+    let flying = poll(log, main, registrar);
+    let number = finish(log, other, pending);
+    let landed = poll(log, main, registrar);
+    let later = poll(log, main, registrar);
+    Ok(Seen {
+        begun: begun?,
+        flying,
+        number,
+        landed,
+        later,
+    })
+}
+
+/// The same with lane 2.
+fn seen_with_lane(
+    alloc: Global,
+    log: &Log,
+    main: &mut Pass,
+    registrar: &mut Registrar,
+) -> Result<Seen, Fail>
+    requires kept { IsKept log.now main.old registrar.old }
+    requires can { CanSplit (view main.old) 2 }
+{
+    let mut other = split_kept(log, main, registrar, 2);
+    let mut defs = Defs::new(alloc);
+    let seen = seen_in_flight(alloc, log, main, registrar, &mut other, &mut defs);
+    drop((other, defs));
+    seen
+}
+
+#[test]
+fn a_lane_in_flight_is_waited_for(rt: HostRuntime) -> Result<(), Fail> {
+    let alloc = rt.alloc();
+    let (log, mut main) = empty_log(alloc, ONE_PAGE, FIRST)?;
+    let mut registrar = Registrar::new(Catalog::new(alloc));
+    let seen = seen_with_lane(alloc, &log, &mut main, &mut registrar);
+    drop((log, main, registrar));
+    let want = Seen {
+        begun: Ok(0),
+        flying: Poll::NotYet {
+            seat: 2,
+            version: 0,
+        },
+        number: 0,
+        landed: Poll::Bound { id: 0, from: 1 },
+        later: Poll::Idle,
+    };
+    expect(&rt, "what was seen", &seen?, &want);
+    Ok(())
+}
