@@ -1,5 +1,6 @@
 -- A piece that is put over the last bytes and behind them, as far as there is room.
-use Rattle.std.proofs.Common.{◌≡◌, ℕ, zero, suc, ◌+◌, ◌-◌, ◌<◌, ◌≤◌, ◌⊎◌, ⊎_elim, inl, inr, List, [], ◌++◌, length, take, refl, ap, sym, ◌∙◌, arith, append_assoc, append-nil, length-append}
+use Rattle.std.proofs.Common.{◌≡◌, ℕ, zero, suc, ◌+◌, ◌-◌, ◌<◌, ◌≤◌, ◌⊎◌, ⊎_elim, inl, inr, List, [], ◌++◌, length}
+use Rattle.std.proofs.Common.{take, refl, ap, sym, ◌∙◌, arith, append_assoc, append-nil, length-append}
 use Rattle.std.specs.Prelude.{min, Bool, true, false, IsTrue, Some, None, unwrap_or, if◌then◌else◌}
 use mathlib.Core.Bool.{true≢false}
 use Rattle.fish_disk.specs.Crash.{TornFrom}

@@ -58,8 +58,8 @@ unfolding number_of
 short_number s some few h =
     let d = all_digits s h in
     let small : digits_value 10 (s ++ []) < 10 ^ 18 =
-        subst (λ l. digits_value 10 l < 10 ^ 18) (sym (append-nil s))
-        (omega (arith, digits_value-lt 10 s d, pow-le-pow_right {n = 10} (omega arith) few)) in
+    subst (λ l. digits_value 10 l < 10 ^ 18) (sym (append-nil s))
+    (omega (arith, digits_value-lt 10 s d, pow-le-pow_right {n = 10} (omega arith) few)) in
     let first = no_minus s some d in
     let whole : nat_lt 0 (length s) ≡ true = grind (arith, nat_tests) in
     let fits : nat_lt (digits_value 10 (s ++ [])) (2 ^ 64) ≡ true = grind (arith, nat_tests) in

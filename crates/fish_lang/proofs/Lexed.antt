@@ -11,7 +11,8 @@ use Rattle.serde_json.specs.Data.{string}
 use Rattle.fish_value.specs.Json.{quoted, reading}
 use Rattle.fish_value.specs.Number.{is_number}
 use Rattle.fish_lang.specs.Canonical.{op_text}
-use Rattle.fish_lang.specs.Token.{token_of, length_behind, is_word_byte, begins_word, plain_word, keyword_of, condition_word, literal_word, is_ident}
+use Rattle.fish_lang.specs.Token.{token_of, length_behind, is_word_byte, begins_word, plain_word, keyword_of}
+use Rattle.fish_lang.specs.Token.{condition_word, literal_word, is_ident}
 use Rattle.fish_lang.specs.Token.{is_blank, sign_token}
 use Rattle.fish_lang.specs.declared.definition.Op.{Op}
 use Rattle.fish_lang.specs.declared.definition.Op.TheVariants.{Eq, Ne, Lt, Le, Gt, Ge}

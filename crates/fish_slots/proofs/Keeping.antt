@@ -1,5 +1,6 @@
 -- What the steps of a commit leave of slots and gates, over plain lists of bytes.
-use Rattle.std.proofs.Common.{◌≡◌, ℕ, zero, suc, ◌+◌, ◌-◌, ◌*◌, ◌≤◌, ◌⊎◌, ⊎_elim, inl, inr, List, [], ◌∷◌, length, get_or, refl, ap, sym, ◌∙◌, subst, arith}
+use Rattle.std.proofs.Common.{◌≡◌, ℕ, zero, suc, ◌+◌, ◌-◌, ◌*◌, ◌≤◌, ◌⊎◌, ⊎_elim, inl, inr, List, [], ◌∷◌, length}
+use Rattle.std.proofs.Common.{get_or, refl, ap, sym, ◌∙◌, subst, arith}
 use Rattle.std.specs.Prelude.{Option, Some, None, IfSome, Result, Ok, Err, OnOk, unwrap_or}
 use Rattle.fish_disk.specs.Content.{HasWritten, part}
 use Rattle.fish_disk.specs.Crash.{LeavesOnly, Torn, TornFrom}

@@ -9,7 +9,7 @@ use Rattle.fish_csv.proofs.machine.read_row.Goals as goal
 pub returns-then-not-found : goal.returns-then-not-found
 returns-then-not-found c =
     let on = turn-run _ _ _ _ _ _ _ _ _ c.loop-c.invariant.same c.run_len.ensures.runs c.split_at.ensures.front
-        c.split_at.ensures.back c.in_ok-extend_from_slice.ensures.items in
+    c.split_at.ensures.back c.in_ok-extend_from_slice.ensures.items in
     rows-none c.args.b.now
     (turn-end c.args.b.now c.loop-c.place _ _ _ _ c.in_ok-found.found on c.in_default.ensures c.in_ok-found.ensures
     ∙ rw c.if-not-found.true refl)
@@ -17,7 +17,7 @@ returns-then-not-found c =
 pub returns-in_default : goal.returns-in_default
 returns-in_default c =
     let on = turn-run _ _ _ _ _ _ _ _ _ c.loop-c.invariant.same c.run_len.ensures.runs c.split_at.ensures.front
-        c.split_at.ensures.back c.in_ok-extend_from_slice.ensures.items in
+    c.split_at.ensures.back c.in_ok-extend_from_slice.ensures.items in
     let found = turn-end c.args.b.now c.loop-c.place _ _ _ _ c.in_ok-found.found on c.in_default.ensures
     c.in_ok-found.ensures ∙ rw c.if-not-found.false refl in
     rw c.in_default.ensures (rows-more c.args.b.now _ st.StartRecord [] found)
@@ -25,7 +25,7 @@ returns-in_default c =
 pub returns-in_default-2 : goal.returns-in_default-2
 returns-in_default-2 c =
     let on = turn-run _ _ _ _ _ _ _ _ _ c.loop-c.invariant.same c.run_len.ensures.runs c.split_at.ensures.front
-        c.split_at.ensures.back c.in_ok-extend_from_slice.ensures.items in
+    c.split_at.ensures.back c.in_ok-extend_from_slice.ensures.items in
     let last = (rw c.in_default-2.is at c.in_ok-next.ensures.goes) c.in-Some.more.now in
     rows-more c.args.b.now _ last.0 c.in-Some.more.now
     (on ∙ ap (λ t. row_from c.loop-c.place
@@ -34,7 +34,7 @@ returns-in_default-2 c =
 pub loop-c-preserved : goal.loop-c-preserved
 loop-c-preserved c =
     let on = turn-run _ _ _ _ _ _ _ _ _ c.loop-c.invariant.same c.run_len.ensures.runs c.split_at.ensures.front
-        c.split_at.ensures.back c.in_ok-extend_from_slice.ensures.items in
+    c.split_at.ensures.back c.in_ok-extend_from_slice.ensures.items in
     let next = (rw c.in-Some-2.is at c.in_ok-next.ensures.goes) c.in-Some.more.now in
     record {
       within = omega (
