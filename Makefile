@@ -20,6 +20,7 @@ test:
 	rt all check --jobs 4
 	cd crates/tests_language && rt test --jobs 4
 	cd crates/tests_log && rt test --jobs 4
+	cd crates/tests_store && rt test --jobs 4
 	$(MAKE) build
 	tools/cases cases/*.txt README.md
 
