@@ -1,3 +1,4 @@
+pub mod Keeping
 pub mod Placing
 pub mod Sending
 pub mod Splitting

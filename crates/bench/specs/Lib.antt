@@ -1,3 +1,4 @@
 pub mod Ingests
 pub mod Opening
+pub mod Registrations
 pub mod Stores

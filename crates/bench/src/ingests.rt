@@ -20,7 +20,7 @@ use std::thread::Threads;
 use std::time::Clock;
 
 /// A log in which 64 MiB of events have room with their headers and key entries.
-const SHAPE: Shape = Shape {
+pub const SHAPE: Shape = Shape {
     pages: 128,
     bucket_bits: 16,
 };
@@ -92,7 +92,7 @@ fn ingest_in<R: Threads + Sync + Clock + AllocGlobal + Eprint>(
 }
 
 /// A lane for each pass, with so many of the payloads each, as long as there are any.
-fn lanes_of<'a>(
+pub fn lanes_of<'a>(
     alloc: Global,
     log: &Log,
     passes: Vec<Pass>,

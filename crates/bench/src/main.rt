@@ -9,6 +9,7 @@ mod lanes;
 mod opening;
 mod parses;
 mod records;
+mod registrations;
 mod stores;
 mod walks;
 mod words;
@@ -19,6 +20,7 @@ use fish_value::Text;
 use ingests::measure_ingest;
 use lanes::LaneCount;
 use parses::{Reading, measure_parses};
+use registrations::{Changes, measure_registrations};
 use std::alloc::AllocError;
 use std::io::Eprint;
 use std::process::ExitCode;
@@ -110,6 +112,8 @@ fn measure_ingests<R: Threads + Sync + Clock + AllocGlobal + Eprint>(
         for &lanes in INGESTS {
             ingest_round(rt, payloads, lanes)?;
         }
+        measure_registrations(rt, payloads, Changes::None)?;
+        measure_registrations(rt, payloads, Changes::Hundred)?;
     }
     Ok(())
 }

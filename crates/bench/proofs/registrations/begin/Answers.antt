@@ -1,0 +1,8 @@
+-- The registrar's call keeps what it keeps.
+use Rattle.bench.proofs.Keeping.{kept_on}
+use Rattle.bench.proofs.registrations.begin.Goals as goal
+
+pub returns : goal.returns
+returns c =
+    kept_on 16 c.args.log.now c.args.main.now _ c.args.registrar.now _ c.requires.kept c.begin.ensures.pass
+    c.begin.ensures.knows c.begin.ensures.changes

@@ -1,0 +1,6 @@
+-- The registrar keeps what the pass knows.
+use Rattle.bench.specs.Registrations.{IsKept}
+use Rattle.bench.proofs.registrations.register_all.Given as goal
+
+abbrev pub invariant-loop-name : goal.invariant-loop-name
+invariant-loop-name l = IsKept 16 l.log l.main l.registrar

@@ -1,0 +1,276 @@
+//! Definitions that come and go while four lanes ingest.
+
+ghost use Rattle.std.specs.Prelude.{◌≡◌, ◌+◌, ◌<◌, ◌≤◌, [], All, IfOk, OnOk};
+ghost use Rattle.std.specs.Thread.{IsSync};
+ghost use Rattle.bench.specs.Opening.{IsReady};
+ghost use Rattle.bench.specs.Registrations.{AreLanes, IsKept};
+ghost use Rattle.fish_catalog.specs.Rows.{IsName};
+ghost use Rattle.fish_registry.specs.Refusing.{IsSaid};
+ghost use Rattle.fish_rule.specs.Passes.{IsPassOf, view};
+ghost use Rattle.fish_rule.specs.Table.{first_view};
+
+use crate::definitions::OVER_EVENTS;
+use crate::ingests::{IngestLane, SHAPE, lanes_of};
+use crate::lanes::time_lanes;
+use fish_catalog::Catalog;
+use fish_lang::{Def, parse_def};
+use fish_registry::{Poll, Registrar};
+use fish_rule::{Log, Pass, Start, open_log, split_pass};
+use fish_value::Text;
+use std::alloc::{AllocError, Global};
+use std::io::Eprint;
+use std::thread::{Threads, join_mut};
+use std::time::Clock;
+
+/// How often a registration is looked at before the measurement gives up.
+const TURNS: u32 = 1_000_000_000;
+
+/// How many definitions are registered, and ended again, while the lanes ingest.
+#[derive(Clone, Copy)]
+pub enum Changes {
+    None,
+    Hundred,
+}
+
+impl Changes {
+    /// What the line of the measurement begins with.
+    fn word(self) -> &'static str {
+        match self {
+            Changes::None => "steady",
+            Changes::Hundred => "changing",
+        }
+    }
+
+    fn number(self) -> u16 {
+        match self {
+            Changes::None => 0,
+            Changes::Hundred => 100,
+        }
+    }
+}
+
+/// Registers the definitions over events in an empty log, and ingests the payloads in lanes 2 to 5, in each as many of
+/// them, while the control pass makes so many changes.
+pub fn measure_registrations<R: Threads + Sync + Clock + AllocGlobal + Eprint>(
+    rt: &R,
+    payloads: &[Text],
+    changes: Changes,
+) -> Result<(), AllocError> {
+    let alloc = rt.alloc();
+    let (log, mut main) = open_empty(alloc)?;
+    let mut registrar = Registrar::new(Catalog::new(alloc));
+    let measured = ingest_beside(rt, &log, &mut main, &mut registrar, payloads, changes);
+    drop((log, main, registrar));
+    measured
+}
+
+/// A log without definitions, and its control pass.
+fn open_empty(alloc: Global) -> Result<(Log, Pass), AllocError>
+    ensures pass { IfOk result (λ r. IsPassOf r.0 r.1) }
+    ensures view { IfOk result (λ r. view r.1 ≡ first_view r.0.key) }
+    ensures rows { IfOk result (λ r. r.0.key.rows.value ≡ []) }
+{
+    let start = Start::first(alloc, SHAPE, Catalog::new(alloc))?;
+    let opened = open_log(alloc, SHAPE, &start);
+    drop(start);
+    opened
+}
+
+/// The same in a log that was opened.
+fn ingest_beside<R: Threads + Sync + Clock + AllocGlobal + Eprint>(
+    rt: &R,
+    log: &Log,
+    main: &mut Pass,
+    registrar: &mut Registrar,
+    payloads: &[Text],
+    changes: Changes,
+) -> Result<(), AllocError>
+    requires { IsKept 1 log.now main.old registrar.old }
+{
+    let alloc = rt.alloc();
+    let passes = four_passes(alloc, log, main, registrar)?;
+    let mut lanes = lanes_of(alloc, log, passes, payloads, payloads.len().div_ceil(4))?;
+    let measured = match register_all(alloc, log, main, registrar) {
+        Ok(()) => run_beside(rt, log, main, registrar, lanes.as_mut_slice(), changes),
+        Err(error) => Err(error),
+    };
+    drop(lanes);
+    measured
+}
+
+/// The passes of lanes 2 to 5.
+fn four_passes(
+    alloc: Global,
+    log: &Log,
+    main: &mut Pass,
+    registrar: &Registrar,
+) -> Result<Vec<Pass>, AllocError>
+    requires { IsKept 1 log.now main.old registrar.now }
+    ensures passes { IfOk result (λ passes. All (IsReady log.now) passes.items) }
+    ensures kept { OnOk result (IsKept 16 log.now main.new registrar.now) }
+{
+    let mut passes = Vec::new(alloc);
+    for number in 1..5u8 {
+        passes.push(next_pass(log, main, registrar, number))?;
+    }
+    Ok(passes)
+}
+
+/// The pass of the next lane.
+fn next_pass(log: &Log, main: &mut Pass, registrar: &Registrar, top: u8) -> Pass
+    requires kept { IsKept top log.now main.old registrar.now }
+    requires few { (1 ≤ top) × (top < 16) }
+    ensures ready { IsReady log.now result }
+    ensures kept { IsKept (top + 1) log.now main.new registrar.now }
+{
+    split_pass(log, main, top + 1)
+}
+
+/// Registers the definitions over events.
+fn register_all(
+    alloc: Global,
+    log: &Log,
+    main: &mut Pass,
+    registrar: &mut Registrar,
+) -> Result<(), AllocError>
+    requires { IsKept 16 log.now main.old registrar.old }
+    ensures { IsKept 16 log.now main.new registrar.new }
+{
+    for &(name, source) in OVER_EVENTS {
+        register(alloc, log, main, registrar, name, source)?;
+    }
+    Ok(())
+}
+
+/// Registers a definition, and waits until its index begins. What can't be registered fails as a want of memory does.
+fn register(
+    alloc: Global,
+    log: &Log,
+    main: &mut Pass,
+    registrar: &mut Registrar,
+    name: &str,
+    source: &str,
+) -> Result<(), AllocError>
+    requires { IsKept 16 log.now main.old registrar.old }
+    ensures { IsKept 16 log.now main.new registrar.new }
+{
+    let name = name_of(alloc, name)?;
+    let def = def_of(alloc, source)?;
+    let begun = begin(log, main, registrar, &name, &def);
+    drop(def);
+    if begun {
+        wait(log, main, registrar);
+        return Ok(());
+    }
+    Err(AllocError)
+}
+
+/// A text of 1 to 32 bytes as a name.
+fn name_of(alloc: Global, name: &str) -> Result<Text, AllocError>
+    ensures { IfOk result IsName }
+{
+    let name = Text::copy_of(alloc, name)?;
+    if name.as_bytes().is_empty() || name.as_bytes().len() > 32 {
+        return Err(AllocError);
+    }
+    Ok(name)
+}
+
+/// The definition that a source is.
+fn def_of(alloc: Global, source: &str) -> Result<Def, AllocError>
+    ensures { IfOk result IsSaid }
+{
+    match parse_def(alloc, source.as_bytes()) {
+        Ok(def) => Ok(def),
+        Err(_) => Err(AllocError),
+    }
+}
+
+/// Registers a definition. Whether it did.
+fn begin(log: &Log, main: &mut Pass, registrar: &mut Registrar, name: &Text, def: &Def) -> bool
+    requires kept { IsKept 16 log.now main.old registrar.old }
+    requires name { IsName name.now }
+    requires def { IsSaid def.now }
+    ensures { IsKept 16 log.now main.new registrar.new }
+{
+    registrar.begin(log, main, name, def).is_ok()
+}
+
+/// Looks at the lanes. Whether the registration still waits.
+fn look(log: &Log, main: &mut Pass, registrar: &mut Registrar) -> bool
+    requires { IsKept 16 log.now main.old registrar.old }
+    ensures { IsKept 16 log.now main.new registrar.new }
+{
+    matches!(registrar.poll(log, main), Poll::NotYet { .. })
+}
+
+/// Looks at the lanes until the index of the registration that waits begins.
+fn wait(log: &Log, main: &mut Pass, registrar: &mut Registrar)
+    requires { IsKept 16 log.now main.old registrar.old }
+    ensures { IsKept 16 log.now main.new registrar.new }
+{
+    for _ in 0..TURNS {
+        if !look(log, main, registrar) {
+            return;
+        }
+    }
+}
+
+/// Ends a definition. Whether it did.
+fn end(log: &Log, main: &mut Pass, registrar: &mut Registrar, name: &Text) -> bool
+    requires { IsKept 16 log.now main.old registrar.old }
+    ensures { IsKept 16 log.now main.new registrar.new }
+{
+    registrar.end(log, main, name).is_ok()
+}
+
+/// Registers a definition and ends it again, so often.
+fn change(
+    alloc: Global,
+    log: &Log,
+    main: &mut Pass,
+    registrar: &mut Registrar,
+    times: u16,
+) -> Result<(), AllocError>
+    requires { IsKept 16 log.now main.old registrar.old }
+    ensures { IsKept 16 log.now main.new registrar.new }
+{
+    for _ in 0..times {
+        register(
+            alloc,
+            log,
+            main,
+            registrar,
+            "public",
+            "flag when public = true",
+        )?;
+        let name = name_of(alloc, "public")?;
+        if !end(log, main, registrar, &name) {
+            return Err(AllocError);
+        }
+    }
+    Ok(())
+}
+
+/// The lanes ingest while the control pass makes the changes.
+fn run_beside<R: Threads + Sync + Clock + AllocGlobal + Eprint>(
+    rt: &R,
+    log: &Log,
+    main: &mut Pass,
+    registrar: &mut Registrar,
+    lanes: &mut [IngestLane],
+    changes: Changes,
+) -> Result<(), AllocError>
+    requires kept { IsKept 16 log.now main.old registrar.old }
+    requires lanes { AreLanes log.now lanes.old }
+{
+    let alloc = rt.alloc();
+    let (done, ()) = join_mut(
+        rt,
+        &mut || change(alloc, log, main, registrar, changes.number()),
+        &mut || -> ()
+            requires { IsSync R.row × AreLanes log.now lanes.now }
+        { time_lanes(rt, changes.word(), "bytes", log, lanes) },
+    );
+    done
+}
