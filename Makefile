@@ -4,7 +4,7 @@ PROGRAM = crates/fishstore/out/fishstore
 EXAMPLE = select 'take type' '"PushEvent"' events.jsonl
 CRATES = $(shell sed -n 's/^\(fish[a-z_]*\).*:.*/\1/p' crates.txt)
 
-.PHONY: demo build test edits gate install bench bench_log bench_ingest bench_peers bench_program clean
+.PHONY: demo build test edits gate install bench bench_log bench_ingest bench_registrations bench_peers bench_program clean
 
 # Runs the program on the example, at once and with no proof.
 demo:
@@ -41,7 +41,7 @@ install: build
 bench: build
 	bench/select.sh
 
-# Proves and builds the program of the three benchmarks below.
+# Proves and builds the program of the four benchmarks below.
 bench_program:
 	cd crates/bench && rt run -- ingest data/events.jsonl > /dev/null
 
@@ -52,6 +52,10 @@ bench_log: bench_program
 # Times ingest of events beside reading them alone.
 bench_ingest: bench_program
 	bench/ingest.sh
+
+# Times ingest of events while definitions are registered and ended, beside the same without.
+bench_registrations: bench_program
+	bench/registrations.sh
 
 # Times ingest of events beside simdjson by hand and LMDB, where they are installed.
 bench_peers: bench_program

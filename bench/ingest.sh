@@ -1,7 +1,6 @@
 #!/usr/bin/env bash
 # Measures ingest of a large file of events under four definitions from 1, 2 and 4 lanes, and reading the same payloads
-# alone, as trees and with the reader that ingest has; and ingest from 4 lanes beside the control pass, which does nothing, or
-# registers and ends a hundred definitions. All in the same runs. Of each the best round counts, by elapsed time.
+# alone, as trees and with the reader that ingest has, in the same runs. Of each the best round counts, by elapsed time.
 #
 # usage: bench/ingest.sh [BYTES]        (67108864 bytes where none are given, and no more)
 #
@@ -28,6 +27,3 @@ for count in 1 2 4; do
     -v tree="$(least ingest parse "$count")" 'BEGIN { if (ingest) printf "%d lanes: ingest %.0f MB/s, " \
     "reading alone %.0f MB/s (ratio %.2f), as trees %.0f MB/s\n", lanes, 1000 / ingest, 1000 / read, read / ingest, 1000 / tree }'
 done
-awk -v steady="$(least ingest steady 4)" -v changing="$(least ingest changing 4)" 'BEGIN { if (steady) printf "4 lanes beside the " \
-  "control pass: %.0f MB/s, while it registers and ends 100 definitions %.0f MB/s (ratio %.3f)\n", 1000 / steady, 1000 / changing, \
-  steady / changing }'

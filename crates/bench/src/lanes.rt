@@ -11,6 +11,7 @@ use std::time::{Clock, Instant};
 pub enum LaneCount {
     One,
     Two,
+    Three,
     Four,
 }
 
@@ -21,6 +22,7 @@ impl LaneCount {
         match self {
             LaneCount::One => 1,
             LaneCount::Two => 2,
+            LaneCount::Three => 3,
             LaneCount::Four => 4,
         }
     }

@@ -20,7 +20,7 @@ use fish_value::Text;
 use ingests::measure_ingest;
 use lanes::LaneCount;
 use parses::{Reading, measure_parses};
-use registrations::{Changes, measure_registrations};
+use registrations::{Changes, Work, measure_registrations};
 use std::alloc::AllocError;
 use std::io::Eprint;
 use std::process::ExitCode;
@@ -51,9 +51,12 @@ const STORES: &[(Workload, LaneCount)] = &[
 /// In how many lanes payloads are ingested.
 const INGESTS: &[LaneCount] = &[LaneCount::One, LaneCount::Two, LaneCount::Four];
 
+/// In how many lanes payloads are ingested beside the control pass.
+const BESIDE: &[LaneCount] = &[LaneCount::Three, LaneCount::Four];
+
 fn main(rt: HostRuntime) -> ExitCode {
     let measured = match words_of(&rt) {
-        Ok(words) => measure(&rt, words.as_slice()),
+        Ok(words) => measure(&rt, &rt, words.as_slice()),
         Err(failure) => Err(failure),
     };
     match measured {
@@ -69,11 +72,17 @@ fn main(rt: HostRuntime) -> ExitCode {
 /// What the words ask for.
 fn measure<R: Threads + Sync + Clock + AllocGlobal + Eprint + Files>(
     rt: &R,
+    clock: &HostRuntime,
     words: &[String],
 ) -> Result<(), Failure> {
     match words {
         [log] if log.as_str() == "log" => Ok(measure_log(rt)?),
         [ingest, name] if ingest.as_str() == "ingest" => measure_file(rt, name.as_str()),
+        [changes, name] if changes.as_str() == "registrations" => measure_changes(
+            rt,
+            clock,
+            name.as_str(),
+        ),
         _ => Err(Failure::Words),
     }
 }
@@ -85,6 +94,16 @@ fn measure_file<R: Threads + Sync + Clock + AllocGlobal + Eprint + Files>(
 ) -> Result<(), Failure> {
     let payloads = read_events(rt, name)?;
     Ok(measure_ingests(rt, payloads.as_slice())?)
+}
+
+/// Ingest of the events in the file of this name while definitions come and go, and while none does.
+fn measure_changes<R: Threads + Sync + Clock + AllocGlobal + Eprint + Files>(
+    rt: &R,
+    clock: &HostRuntime,
+    name: &str,
+) -> Result<(), Failure> {
+    let payloads = read_events(rt, name)?;
+    Ok(measure_registered(rt, clock, payloads.as_slice())?)
 }
 
 /// The rounds of the log.
@@ -112,8 +131,23 @@ fn measure_ingests<R: Threads + Sync + Clock + AllocGlobal + Eprint>(
         for &lanes in INGESTS {
             ingest_round(rt, payloads, lanes)?;
         }
-        measure_registrations(rt, payloads, Changes::None)?;
-        measure_registrations(rt, payloads, Changes::Hundred)?;
+    }
+    Ok(())
+}
+
+/// The rounds of ingest beside the control pass.
+fn measure_registered<R: Threads + Sync + Clock + AllocGlobal + Eprint>(
+    rt: &R,
+    clock: &HostRuntime,
+    payloads: &[Text],
+) -> Result<(), AllocError> {
+    for _ in 0..ROUNDS {
+        for &lanes in BESIDE {
+            let changes = Changes::None;
+            measure_registrations(rt, clock, payloads, Work { lanes, changes })?;
+            let changes = Changes::Hundred;
+            measure_registrations(rt, clock, payloads, Work { lanes, changes })?;
+        }
     }
     Ok(())
 }

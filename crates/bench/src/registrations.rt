@@ -1,4 +1,4 @@
-//! Definitions that come and go while four lanes ingest.
+//! Definitions that come and go while three or four lanes ingest.
 
 ghost use Rattle.std.specs.Prelude.{◌≡◌, ◌+◌, ◌<◌, ◌≤◌, [], All, IfOk, OnOk};
 ghost use Rattle.std.specs.Thread.{IsSync};
@@ -11,7 +11,7 @@ ghost use Rattle.fish_rule.specs.Table.{first_view};
 
 use crate::definitions::OVER_EVENTS;
 use crate::ingests::{IngestLane, SHAPE, lanes_of};
-use crate::lanes::time_lanes;
+use crate::lanes::{LaneCount, time_lanes};
 use fish_catalog::Catalog;
 use fish_lang::{Def, parse_def};
 use fish_registry::{Poll, Registrar};
@@ -19,11 +19,17 @@ use fish_rule::{Log, Pass, Start, open_log, split_pass};
 use fish_value::Text;
 use std::alloc::{AllocError, Global};
 use std::io::Eprint;
-use std::thread::{Threads, join_mut};
-use std::time::Clock;
+use std::thread::{Threads, join_mut, sleep};
+use std::time::{Clock, Duration};
 
 /// How often a registration is looked at before the measurement gives up.
 const TURNS: u32 = 1_000_000_000;
+
+/// How long the control pass sleeps between two looks, in microseconds: about ten records' time in a lane.
+const PAUSE: u64 = 20;
+
+/// The definition that comes and goes: its name and its text.
+const PUBLIC: (&str, &str) = ("public", "flag when public = true");
 
 /// How many definitions are registered, and ended again, while the lanes ingest.
 #[derive(Clone, Copy)]
@@ -49,17 +55,25 @@ impl Changes {
     }
 }
 
-/// Registers the definitions over events in an empty log, and ingests the payloads in lanes 2 to 5, in each as many of
-/// them, while the control pass makes so many changes.
+/// In how many lanes payloads are ingested, and how many changes the control pass makes beside them.
+#[derive(Clone, Copy)]
+pub struct Work {
+    pub lanes: LaneCount,
+    pub changes: Changes,
+}
+
+/// Registers the definitions over events in an empty log, and ingests the payloads in the lanes from 2 on, in each as many
+/// of them, while the control pass makes its changes. It sleeps by the clock.
 pub fn measure_registrations<R: Threads + Sync + Clock + AllocGlobal + Eprint>(
     rt: &R,
+    clock: &HostRuntime,
     payloads: &[Text],
-    changes: Changes,
+    work: Work,
 ) -> Result<(), AllocError> {
     let alloc = rt.alloc();
     let (log, mut main) = open_empty(alloc)?;
     let mut registrar = Registrar::new(Catalog::new(alloc));
-    let measured = ingest_beside(rt, &log, &mut main, &mut registrar, payloads, changes);
+    let measured = ingest_beside(rt, clock, &log, &mut main, &mut registrar, payloads, work);
     drop((log, main, registrar));
     measured
 }
@@ -79,38 +93,51 @@ fn open_empty(alloc: Global) -> Result<(Log, Pass), AllocError>
 /// The same in a log that was opened.
 fn ingest_beside<R: Threads + Sync + Clock + AllocGlobal + Eprint>(
     rt: &R,
+    clock: &HostRuntime,
     log: &Log,
     main: &mut Pass,
     registrar: &mut Registrar,
     payloads: &[Text],
-    changes: Changes,
+    work: Work,
 ) -> Result<(), AllocError>
     requires { IsKept 1 log.now main.old registrar.old }
 {
     let alloc = rt.alloc();
-    let passes = four_passes(alloc, log, main, registrar)?;
-    let mut lanes = lanes_of(alloc, log, passes, payloads, payloads.len().div_ceil(4))?;
-    let measured = match register_all(alloc, log, main, registrar) {
-        Ok(()) => run_beside(rt, log, main, registrar, lanes.as_mut_slice(), changes),
+    let count = work.lanes.number();
+    let passes = passes_of(alloc, log, main, registrar, count)?;
+    let share = payloads.len().div_ceil(usize::from(count));
+    let mut lanes = lanes_of(alloc, log, passes, payloads, share)?;
+    let measured = match register_all(clock, log, main, registrar) {
+        Ok(()) => run_beside(
+            rt,
+            clock,
+            log,
+            main,
+            registrar,
+            lanes.as_mut_slice(),
+            work.changes,
+        ),
         Err(error) => Err(error),
     };
     drop(lanes);
     measured
 }
 
-/// The passes of lanes 2 to 5.
-fn four_passes(
+/// The passes of so many lanes, from lane 2 on.
+fn passes_of(
     alloc: Global,
     log: &Log,
     main: &mut Pass,
     registrar: &Registrar,
+    count: u8,
 ) -> Result<Vec<Pass>, AllocError>
-    requires { IsKept 1 log.now main.old registrar.now }
+    requires kept { IsKept 1 log.now main.old registrar.now }
+    requires few { count ≤ 4 }
     ensures passes { IfOk result (λ passes. All (IsReady log.now) passes.items) }
     ensures kept { OnOk result (IsKept 16 log.now main.new registrar.now) }
 {
     let mut passes = Vec::new(alloc);
-    for number in 1..5u8 {
+    for number in 1..count + 1 {
         passes.push(next_pass(log, main, registrar, number))?;
     }
     Ok(passes)
@@ -128,7 +155,7 @@ fn next_pass(log: &Log, main: &mut Pass, registrar: &Registrar, top: u8) -> Pass
 
 /// Registers the definitions over events.
 fn register_all(
-    alloc: Global,
+    clock: &HostRuntime,
     log: &Log,
     main: &mut Pass,
     registrar: &mut Registrar,
@@ -136,30 +163,30 @@ fn register_all(
     requires { IsKept 16 log.now main.old registrar.old }
     ensures { IsKept 16 log.now main.new registrar.new }
 {
-    for &(name, source) in OVER_EVENTS {
-        register(alloc, log, main, registrar, name, source)?;
+    for definition in OVER_EVENTS {
+        register(clock, log, main, registrar, *definition)?;
     }
     Ok(())
 }
 
 /// Registers a definition, and waits until its index begins. What can't be registered fails as a want of memory does.
 fn register(
-    alloc: Global,
+    clock: &HostRuntime,
     log: &Log,
     main: &mut Pass,
     registrar: &mut Registrar,
-    name: &str,
-    source: &str,
+    definition: (&str, &str),
 ) -> Result<(), AllocError>
     requires { IsKept 16 log.now main.old registrar.old }
     ensures { IsKept 16 log.now main.new registrar.new }
 {
-    let name = name_of(alloc, name)?;
-    let def = def_of(alloc, source)?;
+    let (name, source) = definition;
+    let name = name_of(clock.alloc(), name)?;
+    let def = def_of(clock.alloc(), source)?;
     let begun = begin(log, main, registrar, &name, &def);
     drop(def);
     if begun {
-        wait(log, main, registrar);
+        wait(clock, log, main, registrar);
         return Ok(());
     }
     Err(AllocError)
@@ -204,8 +231,9 @@ fn look(log: &Log, main: &mut Pass, registrar: &mut Registrar) -> bool
     matches!(registrar.poll(log, main), Poll::NotYet { .. })
 }
 
-/// Looks at the lanes until the index of the registration that waits begins.
-fn wait(log: &Log, main: &mut Pass, registrar: &mut Registrar)
+/// Looks at the lanes until the index of the registration that waits begins, and sleeps between two looks, so that the
+/// lanes have the cores.
+fn wait(clock: &HostRuntime, log: &Log, main: &mut Pass, registrar: &mut Registrar)
     requires { IsKept 16 log.now main.old registrar.old }
     ensures { IsKept 16 log.now main.new registrar.new }
 {
@@ -213,6 +241,7 @@ fn wait(log: &Log, main: &mut Pass, registrar: &mut Registrar)
         if !look(log, main, registrar) {
             return;
         }
+        sleep(clock, Duration::from_micros(PAUSE));
     }
 }
 
@@ -226,7 +255,7 @@ fn end(log: &Log, main: &mut Pass, registrar: &mut Registrar, name: &Text) -> bo
 
 /// Registers a definition and ends it again, so often.
 fn change(
-    alloc: Global,
+    clock: &HostRuntime,
     log: &Log,
     main: &mut Pass,
     registrar: &mut Registrar,
@@ -236,15 +265,8 @@ fn change(
     ensures { IsKept 16 log.now main.new registrar.new }
 {
     for _ in 0..times {
-        register(
-            alloc,
-            log,
-            main,
-            registrar,
-            "public",
-            "flag when public = true",
-        )?;
-        let name = name_of(alloc, "public")?;
+        register(clock, log, main, registrar, PUBLIC)?;
+        let name = name_of(clock.alloc(), PUBLIC.0)?;
         if !end(log, main, registrar, &name) {
             return Err(AllocError);
         }
@@ -253,8 +275,9 @@ fn change(
 }
 
 /// The lanes ingest while the control pass makes the changes.
-fn run_beside<R: Threads + Sync + Clock + AllocGlobal + Eprint>(
+fn run_beside<R: Threads + Sync + Clock + Eprint>(
     rt: &R,
+    clock: &HostRuntime,
     log: &Log,
     main: &mut Pass,
     registrar: &mut Registrar,
@@ -264,10 +287,11 @@ fn run_beside<R: Threads + Sync + Clock + AllocGlobal + Eprint>(
     requires kept { IsKept 16 log.now main.old registrar.old }
     requires lanes { AreLanes log.now lanes.old }
 {
-    let alloc = rt.alloc();
     let (done, ()) = join_mut(
         rt,
-        &mut || change(alloc, log, main, registrar, changes.number()),
+        &mut || -> Result<(), AllocError>
+            requires { IsKept 16 log.now main.now registrar.now }
+        { change(clock, log, main, registrar, changes.number()) },
         &mut || -> ()
             requires { IsSync R.row × AreLanes log.now lanes.now }
         { time_lanes(rt, changes.word(), "bytes", log, lanes) },

@@ -2,5 +2,5 @@
 use Rattle.bench.specs.Registrations.{IsKept}
 use Rattle.bench.proofs.registrations.register_all.Given as goal
 
-abbrev pub invariant-loop-name : goal.invariant-loop-name
-invariant-loop-name l = IsKept 16 l.log l.main l.registrar
+abbrev pub invariant-loop-definition : goal.invariant-loop-definition
+invariant-loop-definition l = IsKept 16 l.log l.main l.registrar

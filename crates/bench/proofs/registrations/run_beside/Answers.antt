@@ -1,4 +1,4 @@
--- The log may be shared, and a pass and a registrar may go to a thread.
+-- The log and the runtime may be shared, and a pass and a registrar may go to a thread.
 use Rattle.std.proofs.Crossing.{crosses}
 use denote.Param.Send.{sendable}
 use Rattle.fish_registry.proofs.registrar.Registrar.TheSendSync.{the_send as registrar_send}

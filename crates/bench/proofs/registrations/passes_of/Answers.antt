@@ -3,7 +3,7 @@ use Rattle.std.proofs.Common.{All, sym, subst, arith}
 use Rattle.std.proofs.lemmas.List.Elements.{All-push}
 use Rattle.bench.proofs.Keeping.{kept_within}
 use Rattle.bench.specs.Opening.{IsReady}
-use Rattle.bench.proofs.registrations.four_passes.Goals as goal
+use Rattle.bench.proofs.registrations.passes_of.Goals as goal
 
 pub loop-number-preserved : goal.loop-number-preserved
 loop-number-preserved c =

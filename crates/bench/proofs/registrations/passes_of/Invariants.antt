@@ -2,7 +2,7 @@
 use Rattle.std.proofs.Common.{◌≤◌, All}
 use Rattle.bench.specs.Opening.{IsReady}
 use Rattle.bench.specs.Registrations.{IsKept}
-use Rattle.bench.proofs.registrations.four_passes.Given as goal
+use Rattle.bench.proofs.registrations.passes_of.Given as goal
 
 abbrev pub invariant-loop-number : goal.invariant-loop-number
 invariant-loop-number l = record {
