@@ -1,3 +1,4 @@
+pub mod Comparing
 pub mod IngestionAfter
 pub mod IngestionFinish
 pub mod IngestionStart

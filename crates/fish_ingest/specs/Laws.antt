@@ -1,10 +1,13 @@
 -- What ingests say together, and of the closed log.
-use Rattle.std.specs.Prelude.{ℕ, ◌≡◌, ◌+◌, ◌<◌, List, Some, slice_get}
+use Rattle.std.specs.Prelude.{ℕ, ◌≡◌, ◌+◌, ◌<◌, ◌≤◌, List, Some, slice_get}
 use Rattle.fish_catalog.specs.declared.entry.Entry.TheVariants as entry
 use Rattle.fish_ingest.specs.Ingestion.{HasIngested}
+use Rattle.fish_ingest.specs.Passing.{HasMark}
 use Rattle.fish_rule.specs.Closing.{IsClosed}
 use Rattle.fish_rule.specs.Logs.{Learns}
+use Rattle.fish_rule.specs.Table.{Stands}
 use Rattle.fish_rule.specs.declared.close.Remains.{Remains}
+use Rattle.fish_rule.specs.declared.view.Shut.{Shut}
 use Rattle.fish_rule.specs.declared.view.View.{View}
 use Rattle.fish_value.specs.declared.field.Form.{Form}
 
@@ -18,3 +21,20 @@ IngestedIsClosed = (v u x : View) (form : Form) (payload : List ℕ) (i : ℕ) (
 abbrev pub IngestedAscend : Type 0
 IngestedAscend = (a b c d : View) (form form' : Form) (payload payload' : List ℕ) (m n : ℕ)
     → HasIngested a form payload m b → Learns b c → HasIngested c form' payload' n d → m < n
+
+-- two passes were shut by these claims, which are what `Full` says of each, and in some moment a pass knows what both
+-- know, as it does after their join
+pub record AreShut (v u x : View) (s t : Shut) : Type 0 where
+  pub first : HasMark v s
+  pub second : HasMark u t
+  pub with_first : Learns v x
+  pub with_second : Learns u x
+  pub stands : Stands x
+
+-- two refusals with one line have as many lines
+abbrev pub FullAgrees : Type 0
+FullAgrees = (v u x : View) (s t : Shut) → AreShut v u x s t → s.line ≡ t.line → s.lines ≡ t.lines
+
+-- and of two others the one with the lower line ends at or before the line of the other
+abbrev pub FullFollows : Type 0
+FullFollows = (v u x : View) (s t : Shut) → AreShut v u x s t → s.line < t.line → s.line + s.lines ≤ t.line

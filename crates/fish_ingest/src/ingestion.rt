@@ -3,7 +3,7 @@
 ghost use Rattle.std.specs.Prelude.{◌≡◌, ◌↔◌, ◌<◌, ◌≤◌, IfErr, IfOk, IsErrOf, None, OnErr, Some, length};
 ghost use Rattle.fish_epoch.specs.Definitions.{IsDefsOf, IsKnownOf};
 ghost use Rattle.fish_ingest.specs.Ingestion.{CanIngest, CanStart, HasIngested, HasStarted, IsPending, CanPlaceFor};
-ghost use Rattle.fish_ingest.specs.Laws.{IngestedAscend, IngestedIsClosed};
+ghost use Rattle.fish_ingest.specs.Laws.{FullAgrees, FullFollows, IngestedAscend, IngestedIsClosed};
 ghost use Rattle.fish_ingest.specs.Placement.{number_of};
 ghost use Rattle.fish_ingest.specs.Preparation.{IsRead};
 ghost use Rattle.fish_ingest.specs.Refusal.{HasNotClaimed, HasRefused, IsCause, IsEarly, IsLate};
@@ -200,4 +200,14 @@ fn parse_counted<'a, L: Ledger>(
 pub fn law_ingested()
     ensures closed { IngestedIsClosed }
     ensures ascend { IngestedAscend }
+{}
+
+/// Refusals by a full log are compared by their lines alone, where one pass knows of both claims, as after a join of the
+/// passes that were refused: those with one line asked for as many lines, and of others the lower ends at or before
+/// the line of the other.
+///
+/// Its contract is that law. No call of the program needs it.
+pub fn law_full()
+    ensures agrees { FullAgrees }
+    ensures follows { FullFollows }
 {}

@@ -10,7 +10,7 @@ mod placement;
 mod preparation;
 mod refusal;
 
-pub use ingestion::{finish, ingest, law_ingested, start};
+pub use ingestion::{finish, ingest, law_full, law_ingested, start};
 pub use placement::{Pending, write_record};
 pub use preparation::{Origin, Prepared, prepare};
 pub use refusal::IngestRefusal;

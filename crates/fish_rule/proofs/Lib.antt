@@ -13,6 +13,7 @@ pub mod Closes
 pub mod Closing
 pub mod ClosedLogs
 pub mod Common
+pub mod Comparing
 pub mod Counts
 pub mod Crossing
 pub mod Defines

@@ -4,6 +4,7 @@ pub mod Chains
 pub mod Clocks
 pub mod Closed
 pub mod Closing
+pub mod Comparing
 pub mod Entering
 pub mod Epochs
 pub mod Facts

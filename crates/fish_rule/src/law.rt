@@ -1,7 +1,8 @@
-//! The laws of the log: the theorem over every schedule, and what a closed log has of what passes
-//! knew. No call of the program needs them.
+//! The laws of the log: the theorem over every schedule, what a closed log has of what passes knew, and what
+//! passes know together. No call of the program needs them.
 
 ghost use Rattle.fish_rule.specs.Closed.{EndsWhereNextBegins, OwnIsClosed, ToldIsClosed};
+ghost use Rattle.fish_rule.specs.Comparing.{OneLineIsOneClaim, OneNumberIsOneClaim, RegionsFollow};
 ghost use Rattle.fish_rule.specs.Intervals.{IntervalsAreIndexed, IntervalsStay};
 ghost use Rattle.fish_rule.specs.Machine.{EverySchedule, EveryStepIsFinal};
 
@@ -32,4 +33,15 @@ pub fn law_closed_log()
 pub fn law_intervals()
     ensures indexed { IntervalsAreIndexed }
     ensures stay { IntervalsStay }
+{}
+
+/// Two regions that passes found, as the marks of claims past the log's end that shut them, are compared where one
+/// pass knows of both, as after a join: with one line or one number they are one claim, and else the one with the
+/// lower number ends at or before the line of the other.
+///
+/// Its contract is that law.
+pub fn law_found_regions()
+    ensures line { OneLineIsOneClaim }
+    ensures number { OneNumberIsOneClaim }
+    ensures follow { RegionsFollow }
 {}
