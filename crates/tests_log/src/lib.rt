@@ -37,6 +37,8 @@ mod refusals;
 #[cfg(test)]
 mod registrations;
 #[cfg(test)]
+mod rounds;
+#[cfg(test)]
 mod settling;
 #[cfg(test)]
 mod threads;

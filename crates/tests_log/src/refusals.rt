@@ -1,19 +1,21 @@
-//! Payloads that are stored, and those that are refused, by one pass under `take type`.
+//! Payloads that are stored, and those that are refused, under `take type`: by one pass, and by two that are joined.
 //!
-//! A payload of 524,000 bytes takes 16,376 lines, and one of 600 bytes 19, so a third record doesn't fit
-//! behind two on the first page of 32,768 lines.
+//! A payload of 524,000 bytes takes 16,376 lines, one of 600 bytes 19 and one of 700 bytes 23, so a third record doesn't
+//! fit behind two on the first page of 32,768 lines.
 
-ghost use Rattle.std.specs.Prelude.{IfOk};
+ghost use Rattle.std.specs.Prelude.{◌≡◌, ◌∷◌, [], IfOk};
 ghost use Rattle.fish_ingest.specs.Ingestion.{CanIngest};
+ghost use Rattle.fish_rule.specs.Passes.{IsPassOf, view};
 ghost use Rattle.fish_rule.specs.Start.{IsShape};
+ghost use Rattle.fish_rule.specs.Table.{first_view};
 ghost use Rattle.tests_log.specs.Lanes.{IsOutOf};
 
 use crate::expecting::expect;
-use crate::lanes::store;
-use crate::openings::{ONE_PAGE, TWO_PAGES, defined};
+use crate::lanes::{split_lane, store, take_back};
+use crate::openings::{ONE_PAGE, TWO_PAGES, defined, defined_log};
 use fish_epoch::Defs;
 use fish_ingest::IngestRefusal;
-use fish_rule::{Log, Pass, Shape, open_log};
+use fish_rule::{Log, Pass, Shape, Shut, is_shut, open_log};
 use fish_walk::count_now;
 use std::alloc::{AllocError, Global};
 use std::process::Abort;
@@ -21,6 +23,20 @@ use std::test::Fail;
 
 /// A pass that is full.
 const FULL: IngestRefusal = IngestRefusal::Full {
+    line: 32_752,
+    lines: 19,
+    end: 32_768,
+};
+
+/// A pass that is refused behind it: its claim begins where that of the first ends.
+const FULL_BEHIND: IngestRefusal = IngestRefusal::Full {
+    line: 32_771,
+    lines: 23,
+    end: 32_768,
+};
+
+/// The claim of the first, as the control pass has it once it has taken back both.
+const SHUT: Shut = Shut {
     line: 32_752,
     lines: 19,
     end: 32_768,
@@ -55,6 +71,17 @@ const FULL_LOG: Answers = &[
     (Payload::Long(600), Err(FULL)),
     (Payload::Text("{}"), Err(FULL)),
 ];
+
+/// What lane 2 is answered, and lane 3 behind it, and lane 2 again.
+const SECOND: Answers = &[
+    (Payload::Long(524_000), Ok(0)),
+    (Payload::Long(524_000), Ok(1)),
+    (Payload::Long(600), Err(FULL)),
+];
+
+const THIRD: Answers = &[(Payload::Long(700), Err(FULL_BEHIND))];
+
+const AGAIN: Answers = &[(Payload::Text("{}"), Err(FULL))];
 
 /// The bytes of a payload.
 fn bytes_of(alloc: Global, payload: &Payload) -> Result<Vec<u8>, AllocError> {
@@ -139,4 +166,83 @@ fn voids(rt: HostRuntime) -> Result<(), Fail> {
 #[test]
 fn full(rt: HostRuntime) -> Result<(), Fail> {
     expect_log(&rt, rt.alloc(), ONE_PAGE, FULL_LOG, 3)
+}
+
+/// Asserts what each payload is answered in a lane, whose definitions are read anew.
+fn expect_lane<R: Abort>(
+    rt: &R,
+    alloc: Global,
+    log: &Log,
+    pass: &mut Pass,
+    answers: Answers,
+) -> Result<(), Fail>
+    requires { IsOutOf log.now pass.old }
+    ensures { IsOutOf log.now pass.new }
+{
+    let mut defs = Defs::new(alloc);
+    let done = expect_answers(rt, alloc, log, pass, &mut defs, answers);
+    drop(defs);
+    done
+}
+
+/// Asserts what two lanes are answered, one behind the other.
+fn expect_lanes<R: Abort>(
+    rt: &R,
+    alloc: Global,
+    log: &Log,
+    second: &mut Pass,
+    third: &mut Pass,
+) -> Result<(), Fail>
+    requires second { IsOutOf log.now second.old }
+    requires third { IsOutOf log.now third.old }
+    ensures second { IsOutOf log.now second.new }
+    ensures third { IsOutOf log.now third.new }
+{
+    expect_lane(rt, alloc, log, second, SECOND)?;
+    expect_lane(rt, alloc, log, third, THIRD)?;
+    expect_lane(rt, alloc, log, second, AGAIN)
+}
+
+/// The control pass takes back lanes 2 and 3.
+fn take_two(log: &Log, main: &mut Pass, second: Pass, third: Pass) -> Result<(), Fail>
+    requires main { IsPassOf log.now main.old }
+    requires second { IsOutOf log.now second }
+    requires third { IsOutOf log.now third }
+    requires control { (view main.old).lane ≡ 1 }
+    requires out { (view main.old).out ≡ 3 ∷ 2 ∷ [] }
+    ensures { IsPassOf log.now main.new }
+{
+    match take_back(log, main, second, 2) {
+        Ok(()) => take_back(log, main, third, 3),
+        Err(fail) => {
+            drop(third);
+            Err(fail)
+        }
+    }
+}
+
+/// Asserts what two lanes are answered, and which of their claims the control pass has afterwards.
+fn expect_joined<R: Abort>(rt: &R, alloc: Global, log: &Log, main: &mut Pass) -> Result<(), Fail>
+    requires pass { IsPassOf log.now main.old }
+    requires first { view main.old ≡ first_view log.now.key }
+{
+    let mut second = split_lane(log, main, 2);
+    let mut third = split_lane(log, main, 3);
+    match expect_lanes(rt, alloc, log, &mut second, &mut third) {
+        Ok(()) => take_two(log, main, second, third)?,
+        Err(fail) => {
+            drop((second, third));
+            return Err(fail);
+        }
+    }
+    expect(rt, "the claim that shut it", &is_shut(main), &Some(SHUT));
+    Ok(())
+}
+
+#[test]
+fn full_lanes_are_compared(rt: HostRuntime) -> Result<(), Fail> {
+    let (log, mut main) = defined_log(rt.alloc(), &["take type"])?;
+    let done = expect_joined(&rt, rt.alloc(), &log, &mut main);
+    drop((log, main));
+    done
 }

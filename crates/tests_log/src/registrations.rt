@@ -1,7 +1,6 @@
 //! Definitions that are registered and ended on an open log, by the control pass.
 
 ghost use Rattle.std.specs.Prelude.{◌≡◌};
-ghost use Rattle.fish_ingest.specs.Ingestion.{CanIngest};
 ghost use Rattle.fish_registry.specs.Changing.{Changes};
 ghost use Rattle.fish_rule.specs.Passes.{IsPassOf, view};
 ghost use Rattle.fish_rule.specs.Seating.{CanSplit, split_left};
@@ -16,10 +15,10 @@ use crate::openings::{ONE_PAGE, empty_log, name_of, parsed};
 use fish_catalog::Catalog;
 use fish_chain::Node;
 use fish_epoch::Defs;
-use fish_ingest::{IngestRefusal, finish, start};
+use fish_ingest::IngestRefusal;
 use fish_registry::{Poll, RegRefusal, Registrar};
 use fish_rule::{Base, Log, Pass};
-use fish_value::{Form, Text};
+use fish_value::Text;
 use std::alloc::{AllocError, Global};
 use std::fmt::Write;
 use std::process::Abort;
@@ -372,82 +371,4 @@ pub(crate) fn split_kept(log: &Log, main: &mut Pass, registrar: &Registrar, lane
     ensures out { IsOutOf log.now result }
 {
     split_lane(log, main, lane)
-}
-
-/// What the control pass finds as it registers a definition while a lane has a record in flight, and behind it.
-#[derive(Clone, Copy, Debug, PartialEq, Eq)]
-struct Seen {
-    begun: Result<u16, RegRefusal>,
-    flying: Poll,
-    number: u32,
-    landed: Poll,
-    later: Poll,
-}
-
-/// Registers a definition while a lane has a record in flight.
-fn seen_in_flight(
-    alloc: Global,
-    log: &Log,
-    main: &mut Pass,
-    registrar: &mut Registrar,
-    other: &mut Pass,
-    defs: &mut Defs,
-) -> Result<Seen, Fail>
-    requires kept { IsKept log.now main.old registrar.old }
-    requires other { CanIngest log.now other.old defs.old }
-{
-    let payload = b"{\"type\":\"Push\",\"n\":1}";
-    let Ok(pending) = start(alloc, log, other, defs, Form::Json, payload) else {
-        return Err(Fail::new("not started"));
-    };
-    let begun = begin(alloc, log, main, registrar, "t", "take type");
-    let flying = poll(log, main, registrar);
-    let number = finish(log, other, pending);
-    let landed = poll(log, main, registrar);
-    let later = poll(log, main, registrar);
-    Ok(Seen {
-        begun: begun?,
-        flying,
-        number,
-        landed,
-        later,
-    })
-}
-
-/// The same with lane 2.
-fn seen_with_lane(
-    alloc: Global,
-    log: &Log,
-    main: &mut Pass,
-    registrar: &mut Registrar,
-) -> Result<Seen, Fail>
-    requires kept { IsKept log.now main.old registrar.old }
-    requires can { CanSplit (view main.old) 2 }
-{
-    let mut other = split_kept(log, main, registrar, 2);
-    let mut defs = Defs::new(alloc);
-    let seen = seen_in_flight(alloc, log, main, registrar, &mut other, &mut defs);
-    drop((other, defs));
-    seen
-}
-
-#[test]
-fn a_lane_in_flight_is_waited_for(rt: HostRuntime) -> Result<(), Fail> {
-    let alloc = rt.alloc();
-    let (log, mut main) = empty_log(alloc, ONE_PAGE, FIRST)?;
-    let mut registrar = Registrar::new(Catalog::new(alloc));
-    let seen = seen_with_lane(alloc, &log, &mut main, &mut registrar);
-    drop((log, main, registrar));
-    let want = Seen {
-        begun: Ok(0),
-        flying: Poll::NotYet {
-            seat: 2,
-            version: 0,
-        },
-        number: 0,
-        landed: Poll::Bound { id: 0, from: 1 },
-        later: Poll::Idle,
-    };
-    expect(&rt, "what was seen", &seen?, &want);
-    Ok(())
 }

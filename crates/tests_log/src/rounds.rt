@@ -1,0 +1,221 @@
+//! Registrations beside a lane that has a record in flight: one that entered before is waited for, and one that entered
+//! behind is not.
+
+ghost use Rattle.std.specs.Prelude.{◌≡◌};
+ghost use Rattle.fish_ingest.specs.Ingestion.{CanIngest};
+ghost use Rattle.fish_rule.specs.Passes.{view};
+ghost use Rattle.fish_rule.specs.Seating.{CanSplit, split_left};
+ghost use Rattle.fish_rule.specs.Table.{first_view};
+ghost use Rattle.tests_log.specs.Registering.{IsKept};
+
+use crate::expecting::expect;
+use crate::lanes::store;
+use crate::openings::{ONE_PAGE, empty_log};
+use crate::registrations::{begin, end, poll, split_kept};
+use fish_catalog::Catalog;
+use fish_epoch::Defs;
+use fish_ingest::{finish, start};
+use fish_registry::{Poll, RegRefusal, Registrar};
+use fish_rule::{Base, Log, Pass};
+use fish_value::Form;
+use std::alloc::Global;
+use std::test::Fail;
+
+/// Where an empty store begins.
+const FIRST: Base = Base { number: 0, line: 0 };
+
+/// The payload of each record.
+const PUSH: &[u8] = b"{\"type\":\"Push\",\"n\":1}";
+
+/// What the control pass finds as it registers a definition while a lane has a record in flight, and behind it.
+#[derive(Clone, Copy, Debug, PartialEq, Eq)]
+struct Seen {
+    begun: Result<u16, RegRefusal>,
+    flying: Poll,
+    number: u32,
+    landed: Poll,
+    later: Poll,
+}
+
+/// Registers a definition while a lane has a record in flight.
+fn seen_in_flight(
+    alloc: Global,
+    log: &Log,
+    main: &mut Pass,
+    registrar: &mut Registrar,
+    other: &mut Pass,
+    defs: &mut Defs,
+) -> Result<Seen, Fail>
+    requires kept { IsKept log.now main.old registrar.old }
+    requires other { CanIngest log.now other.old defs.old }
+{
+    let Ok(pending) = start(alloc, log, other, defs, Form::Json, PUSH) else {
+        return Err(Fail::new("not started"));
+    };
+    let begun = begin(alloc, log, main, registrar, "t", "take type");
+    let flying = poll(log, main, registrar);
+    let number = finish(log, other, pending);
+    let landed = poll(log, main, registrar);
+    let later = poll(log, main, registrar);
+    Ok(Seen {
+        begun: begun?,
+        flying,
+        number,
+        landed,
+        later,
+    })
+}
+
+/// The same with lane 2.
+fn seen_with_lane(
+    alloc: Global,
+    log: &Log,
+    main: &mut Pass,
+    registrar: &mut Registrar,
+) -> Result<Seen, Fail>
+    requires kept { IsKept log.now main.old registrar.old }
+    requires can { CanSplit (view main.old) 2 }
+{
+    let mut other = split_kept(log, main, registrar, 2);
+    let mut defs = Defs::new(alloc);
+    let seen = seen_in_flight(alloc, log, main, registrar, &mut other, &mut defs);
+    drop((other, defs));
+    seen
+}
+
+#[test]
+fn a_lane_in_flight_is_waited_for(rt: HostRuntime) -> Result<(), Fail> {
+    let alloc = rt.alloc();
+    let (log, mut main) = empty_log(alloc, ONE_PAGE, FIRST)?;
+    let mut registrar = Registrar::new(Catalog::new(alloc));
+    let seen = seen_with_lane(alloc, &log, &mut main, &mut registrar);
+    drop((log, main, registrar));
+    let want = Seen {
+        begun: Ok(0),
+        flying: Poll::NotYet {
+            seat: 2,
+            version: 0,
+        },
+        number: 0,
+        landed: Poll::Bound { id: 0, from: 1 },
+        later: Poll::Idle,
+    };
+    expect(&rt, "what was seen", &seen?, &want);
+    Ok(())
+}
+
+/// Stores records. How many.
+fn store_pushes(alloc: Global, log: &Log, pass: &mut Pass, defs: &mut Defs, count: usize) -> usize
+    requires { CanIngest log.now pass.old defs.old }
+    ensures { CanIngest log.now pass.new defs.new }
+{
+    for stored in 0..count {
+        if store(alloc, log, pass, defs, PUSH).is_err() {
+            return stored;
+        }
+    }
+    count
+}
+
+/// A lane between two records: its pass, and the definitions that it read.
+#[derive(Drop)]
+struct Lane {
+    pass: Pass,
+    defs: Defs,
+}
+
+/// What comes of a registration behind 90 records, where one lane enters behind it and is in flight, and another stores
+/// nine records more.
+#[derive(Clone, Copy, Debug, PartialEq, Eq)]
+struct Behind {
+    before: usize,
+    begun: Result<u16, RegRefusal>,
+    beside: usize,
+    found: Poll,
+    ended: Result<(u16, u32), RegRefusal>,
+    number: u32,
+}
+
+/// Registers a definition behind 90 records, in front of a lane that is in flight.
+fn seen_behind(
+    alloc: Global,
+    log: &Log,
+    main: &mut Pass,
+    registrar: &mut Registrar,
+    second: &mut Lane,
+    third: &mut Lane,
+) -> Result<Behind, Fail>
+    requires kept { IsKept log.now main.old registrar.old }
+    requires second { CanIngest log.now second.old.pass second.old.defs }
+    requires third { CanIngest log.now third.old.pass third.old.defs }
+{
+    let before = store_pushes(alloc, log, &mut third.pass, &mut third.defs, 90);
+    let begun = begin(alloc, log, main, registrar, "t", "take type")?;
+    let lane = &mut second.pass;
+    let Ok(pending) = start(alloc, log, lane, &mut second.defs, Form::Json, PUSH) else {
+        return Err(Fail::new("not started"));
+    };
+    let beside = store_pushes(alloc, log, &mut third.pass, &mut third.defs, 9);
+    let found = poll(log, main, registrar);
+    let ended = end(alloc, log, main, registrar, "t");
+    let number = finish(log, &mut second.pass, pending);
+    Ok(Behind {
+        before,
+        begun,
+        beside,
+        found,
+        ended: ended?,
+        number,
+    })
+}
+
+/// The lane that the control pass gives out, which has read nothing.
+fn lane_of(alloc: Global, log: &Log, main: &mut Pass, registrar: &Registrar, lane: u8) -> Lane
+    requires kept { IsKept log.now main.old registrar.now }
+    requires can { CanSplit (view main.old) lane }
+    ensures kept { IsKept log.now main.new registrar.now }
+    ensures left { view main.new ≡ split_left lane (view main.old) }
+    ensures ready { CanIngest log.now result.pass result.defs }
+{
+    let pass = split_kept(log, main, registrar, lane);
+    Lane {
+        pass,
+        defs: Defs::new(alloc),
+    }
+}
+
+/// The same with lanes 2 and 3.
+fn seen_with_two(
+    alloc: Global,
+    log: &Log,
+    main: &mut Pass,
+    registrar: &mut Registrar,
+) -> Result<Behind, Fail>
+    requires kept { IsKept log.now main.old registrar.old }
+    requires first { view main.old ≡ first_view log.now.key }
+{
+    let mut second = lane_of(alloc, log, main, registrar, 2);
+    let mut third = lane_of(alloc, log, main, registrar, 3);
+    let seen = seen_behind(alloc, log, main, registrar, &mut second, &mut third);
+    drop((second, third));
+    seen
+}
+
+#[test]
+fn a_lane_that_entered_behind_is_not_waited_for(rt: HostRuntime) -> Result<(), Fail> {
+    let alloc = rt.alloc();
+    let (log, mut main) = empty_log(alloc, ONE_PAGE, FIRST)?;
+    let mut registrar = Registrar::new(Catalog::new(alloc));
+    let seen = seen_with_two(alloc, &log, &mut main, &mut registrar);
+    drop((log, main, registrar));
+    let want = Behind {
+        before: 90,
+        begun: Ok(0),
+        beside: 9,
+        found: Poll::Bound { id: 0, from: 100 },
+        ended: Ok((0, 100)),
+        number: 90,
+    };
+    expect(&rt, "what was seen", &seen?, &want);
+    Ok(())
+}
