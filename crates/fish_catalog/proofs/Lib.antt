@@ -7,3 +7,4 @@ pub mod Listings
 pub mod Lookups
 pub mod RowReads
 pub mod RowWords
+pub mod Texts

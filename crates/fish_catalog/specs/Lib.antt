@@ -1,8 +1,10 @@
 pub mod Canonical
 pub mod Clamps
 pub mod Closing
+pub mod Covering
 pub mod Intervals
 pub mod Limits
 pub mod Listing
+pub mod Restoring
 pub mod Rows
 pub mod Words

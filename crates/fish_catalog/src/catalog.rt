@@ -14,6 +14,7 @@ ghost use Rattle.fish_catalog.specs.Limits.{most_active, most_rows};
 
 use crate::clamp::clamp_rows;
 use crate::interval::{Intervals, add_interval};
+use crate::restore::{count_active, is_catalog};
 use crate::row::CatRow;
 use fish_value::Text;
 use std::alloc::{AllocError, Global};
@@ -81,6 +82,24 @@ impl Catalog {
     {
         Catalog {
             rows: Vec::new(alloc),
+        }
+    }
+
+    /// The catalogue of rows that were kept elsewhere, or none where they are those of no catalogue.
+    pub fn from_rows(alloc: Global, rows: Vec<CatRow>) -> Result<Option<Catalog>, AllocError>
+        ensures value { IfOk result (λ o. IfSome o (λ catalog. catalog ≡ rows.items)) }
+        ensures some { IfOk result (λ o. IsSome o ↔ IsCatalog rows.items) }
+    {
+        match is_catalog(alloc, rows.as_slice()) {
+            Ok(true) => Ok(Some(Catalog { rows })),
+            Ok(false) => {
+                drop(rows);
+                Ok(None)
+            }
+            Err(want) => {
+                drop(rows);
+                Err(want)
+            }
         }
     }
 
@@ -162,20 +181,13 @@ impl Catalog {
         if self.find_active(name).is_some() {
             return Err(CatRefusal::NameActive);
         }
-        if self.count_active() >= MAX_ACTIVE {
+        if count_active(self.rows()) >= MAX_ACTIVE {
             return Err(CatRefusal::TooManyActive);
         }
         if self.rows.len() >= MAX_ROWS {
             return Err(CatRefusal::TooManyDefinitions);
         }
         Ok(())
-    }
-
-    /// How many rows are active.
-    fn count_active(&self) -> usize
-        ensures { result ≡ count_by is_active self.now }
-    {
-        self.rows().iter().filter(|row| row.is_active()).count()
     }
 
     /// Puts an active row with the next id behind the others, where there is room for it.

@@ -2,18 +2,25 @@
 //! definitions in the order of their ids.
 #![tactic(auto)]
 
+mod canonical;
 mod catalog;
 mod clamp;
+mod commit;
 mod entry;
 mod interval;
+mod law;
 mod listed;
 mod page_start;
+mod restore;
 mod row;
 mod words;
 
+pub use canonical::is_canonical;
 pub use catalog::{CatRefusal, Catalog, MAX_ACTIVE, MAX_ROWS};
+pub use commit::{Checked, Commit};
 pub use entry::{Entries, Entry};
 pub use interval::{Interval, Intervals};
+pub use law::clamps_cover_alike;
 pub use listed::Listed;
 pub use page_start::{PageStart, PageStarts};
 pub use row::{CatRow, MAX_NAME, is_name};

@@ -1,6 +1,7 @@
 //! One row of the catalogue: a definition under its name, and where its index begins and ends.
 
 ghost use Rattle.std.specs.Prelude.{◌≡◌, ◌↔◌, IsTrue};
+ghost use Rattle.fish_catalog.specs.Covering.{Covers};
 ghost use Rattle.fish_catalog.specs.Rows.{IsActive, IsName, is_active};
 
 use fish_value::Text;
@@ -38,5 +39,18 @@ impl CatRow {
         ensures active { IsTrue result ↔ IsActive self.now }
     {
         self.to.is_none()
+    }
+
+    /// Whether its index covers a record.
+    pub fn covers(&self, number: u32) -> bool
+        ensures { IsTrue result ↔ Covers self.now number }
+    {
+        let Some(from) = self.from else {
+            return false;
+        };
+        match self.to {
+            Some(to) => from <= number && number < to,
+            None => from <= number,
+        }
     }
 }

@@ -1,0 +1,7 @@
+-- Each active row was compared with those in front of it.
+use Rattle.std.proofs.Common.{arith, refl}
+use Rattle.fish_catalog.proofs.Lookups.{apart_all}
+use Rattle.fish_catalog.proofs.restore.are_apart.Goals as goal
+
+pub returns : goal.returns
+returns c = ((λ _. apart_all c.args.rows.now (λ k less. c.loop-place.invariant k (omega arith))), λ _. refl)
