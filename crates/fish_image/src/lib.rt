@@ -1,0 +1,8 @@
+//! What bytes stand for a log: the body of a slot of a store file, and the words of its lines.
+#![tactic(auto)]
+
+mod read;
+mod slot;
+
+pub use read::read_slot;
+pub use slot::slot_body;
