@@ -1,0 +1,12 @@
+-- The reading goes on behind the padding.
+use Rattle.std.proofs.Common.{ℕ, arith, refl, subst, ◌<◌, ◌+◌, ◌-◌}
+use Rattle.fish_catalog.specs.declared.entry.Entry.TheVariants.{Void}
+use Rattle.fish_image.specs.Reached.{behind, page_of}
+use Rattle.fish_image.proofs.region.take_void.Goals as goal
+
+pub returns : goal.returns
+returns c k s h =
+    let line = h.line in
+    let test = c.if-at-lines.false in
+    let crosses : page_of s.line < page_of (s.line + c.args.lines - 1) = subst (λ (n : ℕ). page_of n < page_of (n + c.args.lines - 1)) line (omega arith) in
+    (behind s c.args.lines s.places Void, (crosses, refl), c.in_ok-pass.ensures k s Void h)
