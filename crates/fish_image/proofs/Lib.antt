@@ -1,3 +1,4 @@
+pub mod Agreement
 pub mod Regions
 pub mod RowKeys
 pub mod Spelling

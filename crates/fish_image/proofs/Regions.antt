@@ -116,8 +116,7 @@ module _ {n line c : ℕ} {keys : List KeyPart} {places q : List (ℕ × ℕ)} {
 pub link_all : {n line c : ℕ} {keys : List KeyPart} {places q : List (ℕ × ℕ)} {now : List ℕ} → IsLinkedTo n line c keys places q now
     → length keys ≤ c → AreLinked n line 0 keys places × AreHeads n (with_keys n line 0 keys places) now
 link_all {n} {line} {c} {keys} {places} {q} {now} h end =
-    let none : drop c keys ≡ [] = drop_all c keys end in
-    (
+    let none : drop c keys ≡ [] = drop_all c keys end in (
       h.there (subst (λ (z : List KeyPart). AreLinked n line c z q) (sym none) tt),
       subst (λ (z : List (ℕ × ℕ)). AreHeads n z now) (ap (λ (z : List KeyPart). with_keys n line c z q) (sym none) ∙ h.same) h.heads,
     )

@@ -5,4 +5,5 @@ pub mod Reached
 pub mod Reading
 pub mod Regions
 pub mod Slot
+pub mod Steps
 pub mod Terms

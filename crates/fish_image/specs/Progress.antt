@@ -2,7 +2,6 @@
 use Rattle.std.specs.Prelude.{ℕ, ◌≡◌, ◌^◌, ◌<◌, List, Bool, true, false, length, slice_index}
 use Rattle.fish_catalog.specs.declared.commit.Commit.{Commit}
 use Rattle.fish_layout.specs.declared.parts.KeyPart.{KeyPart}
-
 use Rattle.fish_image.specs.Reached.{AreLinked, Reached, head_of, with_keys}
 use Rattle.fish_image.specs.declared.progress.Progress.{Progress}
 

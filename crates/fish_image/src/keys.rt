@@ -6,7 +6,6 @@
 ghost use Rattle.std.specs.Prelude.{◌≡◌, ◌↔◌, IfOk, IsTrue, None};
 ghost use Rattle.fish_lang.specs.Definition.{definition_of};
 ghost use Rattle.fish_psf.specs.Eval.{eval};
-
 ghost use Rattle.fish_image.specs.Log.{HasId};
 ghost use Rattle.fish_image.specs.Terms.{AreCompleteIn, AreSoundIn, IndexCovers, IndexGives, IsSoundIn};
 

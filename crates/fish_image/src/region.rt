@@ -10,7 +10,6 @@ ghost use Rattle.fish_catalog.specs.declared.entry.Entry.TheVariants.{Void};
 ghost use Rattle.fish_layout.specs.Body.{IsBody, IsProper};
 ghost use Rattle.fish_layout.specs.Header.{lines_of};
 ghost use Rattle.fish_layout.specs.declared.parts.BodyParts.{BodyParts};
-
 ghost use Rattle.fish_image.specs.Log.{FollowsIn, IsKeptAt, IsRecordAt, behind_record, void_words};
 ghost use Rattle.fish_image.specs.Progress.{AreHeads, IsAt, Linked, Took};
 ghost use Rattle.fish_image.specs.Reached.{Reached, behind, page_of};
@@ -123,11 +122,7 @@ fn take_record(
 }
 
 /// The parts of the record with this number that words are, or none where they are no such record.
-fn read_numbered(
-    alloc: Global,
-    r: &[u64],
-    number: u32,
-) -> Result<Option<BodyParts>, AllocError>
+fn read_numbered(alloc: Global, r: &[u64], number: u32) -> Result<Option<BodyParts>, AllocError>
     requires { number < 2 ^ 28 }
     ensures { IfOk result (λ o. MatchOption o (¬ ((p : BodyParts) × IsBody p r.now × (p.number ≡ number)))
         (λ p. IsBody p r.now × (p.number ≡ number))) }

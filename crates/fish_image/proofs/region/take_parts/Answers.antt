@@ -44,8 +44,7 @@ returns c k s terms h =
     (subst (λ (xs : List IndexRow). HasKeysIn xs c.args.at.now.number p) c.as_slice.ensures.value asked) in
     let line = h.line in
     let lines = terms.lines in
-    let within = c.requires.can.within in
-    (
+    let within = c.requires.can.within in (
       behind_record k s c.args.lines p,
       (
         record {

@@ -28,5 +28,5 @@ pub returns : goal.returns
 returns c =
     let body = rw c.in-Some.is at c.in_ok-parts.ensures in
     IfOk-weaker c.take_parts-taken.result _ _ (λ yes took k s terms h.
-        of_parts yes k s c.args.lines c.args.r.now c.in-Some.parts _ c.requires.size body.0 (body.1 ∙ h.number) (took k s terms h))
+    of_parts yes k s c.args.lines c.args.r.now c.in-Some.parts _ c.requires.size body.0 (body.1 ∙ h.number) (took k s terms h))
     c.take_parts-taken.ensures

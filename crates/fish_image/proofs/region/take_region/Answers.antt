@@ -40,9 +40,9 @@ of_record : (yes : Bool) (c : Commit) (s : Reached) (lines : ℕ) (r : List ℕ)
     → Took yes c (FollowsIn c s lines r) new
 of_record taken c s lines r new other = elim taken as (λ y.
     Took y c (λ n. (q : BodyParts) × IsRecordAt c s lines r q × (n ≡ behind_record c s lines q)) new → Took y c (FollowsIn c s lines r) new) [
-  | true ↦ λ took. (took.0, inr took.1, took.2)
-  | false ↦ λ none n follows. not_record c s lines r n other (none n) follows
-]
+      | true ↦ λ took. (took.0, inr took.1, took.2)
+      | false ↦ λ none n follows. not_record c s lines r n other (none n) follows
+    ]
 
 pub returns-then-is_void : goal.returns-then-is_void
 returns-then-is_void c =
@@ -53,9 +53,9 @@ returns-then-is_void c =
     let some = c.requires.some in
     let small = c.lines_in-lines.ensures.fits in
     IfOk-weaker c.take_void.result _ _ (λ yes took k s terms h.
-        subst (λ (n : ℕ). Took yes k (FollowsIn k s n r) c.take_void.new.at) lines
-        (of_void yes k s c.lines_in-lines.result r _ (omega arith) small is
-        (let line = h.line in let all = terms.lines in let within = c.requires.can.within in omega arith) (took k s h)))
+    subst (λ (n : ℕ). Took yes k (FollowsIn k s n r) c.take_void.new.at) lines
+    (of_void yes k s c.lines_in-lines.result r _ (omega arith) small is
+    (let line = h.line in let all = terms.lines in let within = c.requires.can.within in omega arith) (took k s h)))
     c.take_void.ensures
 
 pub returns : goal.returns
@@ -64,6 +64,6 @@ returns c =
     let lines = c.lines_in-lines.ensures.value in
     let no = λ (is : r ≡ void_words c.lines_in-lines.result). absurd (cc (c.is_void.ensures.1 is, c.if-is_void.false)) in
     IfOk-weaker c.take_record.result _ _ (λ yes took k s terms h.
-        subst (λ (n : ℕ). Took yes k (FollowsIn k s n r) c.take_record.new.at) lines
-        (of_record yes k s c.lines_in-lines.result r _ no (took k s terms h)))
+    subst (λ (n : ℕ). Took yes k (FollowsIn k s n r) c.take_record.new.at) lines
+    (of_record yes k s c.lines_in-lines.result r _ no (took k s terms h)))
     c.take_record.ensures
