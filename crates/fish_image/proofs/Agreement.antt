@@ -150,6 +150,25 @@ no_log c w k log d h =
           d.lines all (ap (λ (z : Reached). z.line) same ∙ h.lines)
     ]
 
+-- behind a number of entries that agree another one agrees, where more of them do
+stops_first : (c : Commit) (w : List ℕ) (k n : ℕ) → IsDamaged c w k → IsDamaged c w n → k < n → ⊥
+stops_first c w k n d e less =
+    let t = agrees_first c w k n e.end less e.agrees in
+    let few = e.few in
+    let same = agrees_once c w k t.0 d.end t.1 d.agrees in
+    d.last (omega arith) t.2.0 (subst (λ (z : Reached). Follows c w z t.2.0) same t.2.1)
+
+-- words are damaged behind one number of entries
+pub one_damage : (c : Commit) (w : List ℕ) (k n : ℕ) → IsDamaged c w k → IsDamaged c w n → k ≡ n
+one_damage c w k n d e =
+    elim (cases_lt k n) [
+      | inl less ↦ absurd (stops_first c w k n d e less)
+      | inr more ↦ elim (cases_lt n k) [
+        | inl less ↦ absurd (stops_first c w n k e d less)
+        | inr same ↦ omega arith
+      ]
+    ]
+
 -- ---- steps
 
 -- a region is not at the end of the words

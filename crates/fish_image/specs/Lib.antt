@@ -1,3 +1,4 @@
+pub mod Checking
 pub mod Commits
 pub mod Log
 pub mod Progress

@@ -39,11 +39,11 @@ pub record Breaks (c : Commit) (w : List ℕ) (n : ℕ) : Type 0 where
   pub few : n < c.count
   pub never : (more : List ℕ) (m : Reached) → Follows c (w ++ more) end m → ⊥
 
--- all regions that stand there were read: those left of the words are not a region yet, if one is wanted
+-- all regions that stand there were read: where one more is wanted, what is left of the words is none as yet
 pub record Stops (c : Commit) (w left : List ℕ) (at : Progress) : Type 0 where
   pub end : Reached
   pub come : HasCome c w end at
-  pub left_is : left ≡ drop (4 * end.line) w
+  pub left_is : end.number < c.count → left ≡ drop (4 * end.line) w
   pub none : end.number < c.count → (m : Reached) → Follows c w end m → ⊥
 
 -- what reading all regions of words does

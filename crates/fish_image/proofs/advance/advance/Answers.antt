@@ -56,7 +56,7 @@ returns-in-Waits-clause-all c k w s terms come words =
     record {
       end = t.0;
       come = record { agrees = t.1.agrees; few = t.1.few; is_at = stepped.0 };
-      left_is = t.3;
+      left_is = λ _. t.3;
       none = λ wanted m follows. stepped.1 m (subst (λ (r : List ℕ). FollowsAt k t.0 r m) (sym t.3) follows);
     }
 

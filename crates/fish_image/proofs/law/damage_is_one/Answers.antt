@@ -1,0 +1,6 @@
+-- Where more entries agree, one agrees behind the fewer.
+use Rattle.fish_image.proofs.Agreement.{one_damage}
+use Rattle.fish_image.proofs.law.damage_is_one.Goals as goal
+
+pub returns : goal.returns
+returns c = one_damage
