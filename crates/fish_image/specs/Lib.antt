@@ -1,6 +1,7 @@
 pub mod Checking
 pub mod Commits
 pub mod Log
+pub mod Newest
 pub mod Progress
 pub mod Reached
 pub mod Reading
