@@ -1,5 +1,6 @@
 -- Key entries stand in the order of their places, so the first of a bucket is the newest.
-use Rattle.std.proofs.Common.{◌≡◌, ℕ, zero, suc, ◌+◌, ◌*◌, ◌<◌, ◌≤◌, List, [], ◌∷◌, Some, true, false, Bool, length, slice_get, inl, inr, ◌⊎◌}
+use Rattle.std.proofs.Common.{◌≡◌, ℕ, zero, suc, ◌+◌, ◌*◌, ◌<◌, ◌≤◌, List, [], ◌∷◌, Some, true, false, Bool, length}
+use Rattle.std.proofs.Common.{slice_get, inl, inr, ◌⊎◌}
 use Rattle.std.proofs.Common.{refl, sym, ap, subst, arith}
 use Rattle.std.specs.Prelude.{◌==◌, if◌then◌else◌}
 use Rattle.std.proofs.lemmas.Bool.{eqb-true, eqb-false}
@@ -105,8 +106,8 @@ keys_descend n line c (k ∷ ks) places h =
     subst (λ (b : ℕ). Descend b (with_keys n line (c + 1) ks ((bucket_of_key n k, place_of line c) ∷ places))) at all
 
 -- one region more
-region_descends : (c : Commit) (s : Reached) (lines : ℕ) (r : List ℕ) (n : Reached) → FollowsIn c s lines r n → Descend (4 * s.line) s.places
-    → Descend (4 * n.line) n.places
+region_descends : (c : Commit) (s : Reached) (lines : ℕ) (r : List ℕ) (n : Reached) → FollowsIn c s lines r n
+    → Descend (4 * s.line) s.places → Descend (4 * n.line) n.places
 region_descends c s lines r n (inl v) h =
     subst (λ (z : Reached). Descend (4 * z.line) z.places) (sym v.1)
     (descend_more (4 * s.line) (4 * (s.line + lines)) s.places (omega arith) h)

@@ -2,7 +2,11 @@
 use Rattle.std.proofs.Common.{◌≡◌, ℕ, ◌<◌, ◌≤◌, List, [], ◌∷◌, ◌++◌, Option, Some, None, append_assoc, append-nil}
 use Rattle.std.proofs.Common.{length, zero, suc, refl, sym, subst, ◌∙◌, arith, slice_get, inl, inr, ◌⊎◌}
 use Rattle.fish_catalog.specs.declared.commit.Commit.{Commit}
-use Rattle.fish_image.specs.Checking.{Seen}
+use Rattle.fish_image.specs.Checking.{Fed, IsChecker, Seen}
+use Rattle.fish_image.specs.declared.checker.Checker.{Checker}
+use Rattle.fish_image.specs.declared.refusal.ImageRefusal.{ImageRefusal}
+use Rattle.fish_image.specs.declared.refusal.ImageRefusal.TheVariants.{Damaged, OutOfMemory}
+use Rattle.std.specs.Prelude.{Result, Ok, Err}
 use Rattle.fish_image.specs.Log.{Follows, IsDamaged}
 use Rattle.fish_image.specs.Reached.{Reached}
 use Rattle.fish_image.specs.Steps.{Advances, Breaks, HasCome}
@@ -70,3 +74,9 @@ pushed (z ∷ xs) x y (suc k) h =
       | inl there ↦ (let less = there.0 in inl (omega arith, there.1))
       | inr here ↦ (let last = here.0 in inr (omega arith, here.1))
     ]
+
+-- whatever a piece comes to, the checker is one still
+pub fed_checker : (r : Result (Unit {0}) ImageRefusal) (c : Commit) (w piece : List ℕ) (new : Checker) → Fed r c w piece new → IsChecker new
+fed_checker (Ok x) c w piece new h = record { commit = c; words = w ++ piece; seen = h }
+fed_checker (Err (Damaged n)) c w piece new h = record { commit = c; words = w ++ piece; seen = h.0 }
+fed_checker (Err OutOfMemory) c w piece new h = record { commit = c; words = w; seen = h }

@@ -79,7 +79,8 @@ pub link_first : (n line : ℕ) (keys : List KeyPart) (places : List (ℕ × ℕ
 link_first n line keys places now h = record { heads = h; there = λ x. x; back = λ x. x; same = refl }
 
 -- the next key entry stands in front of the others
-pub next_key : (keys : List KeyPart) (c : ℕ) (key : KeyPart) → c < length keys → key ≡ get_or keys c key → drop c keys ≡ key ∷ drop (c + 1) keys
+pub next_key : (keys : List KeyPart) (c : ℕ) (key : KeyPart) → c < length keys → key ≡ get_or keys c key
+    → drop c keys ≡ key ∷ drop (c + 1) keys
 next_key keys c key less is =
     let t = parted keys c less in
     let same : t.0 ≡ key = sym (is ∙ get_or_from_slice_get keys c t.0 key t.1) in

@@ -15,7 +15,8 @@ use Rattle.fish_catalog.specs.declared.commit.Commit.{Commit}
 use Rattle.fish_catalog.specs.declared.row.CatRow.{CatRow}
 use Rattle.fish_image.specs.Commits.{HasBoundaries, HasTexts, IsBoundary}
 use Rattle.fish_image.specs.Reading.{AreRowsOf, IsRowOf, IsSpellable, IsTold}
-use Rattle.fish_image.specs.Slot.{boundary_word, boundary_words, bytes_behind, head_words, number, padded, row_bytes, slot_bytes, word, zeros}
+use Rattle.fish_image.specs.Slot.{boundary_word, boundary_words, bytes_behind, head_words, number, padded, row_bytes}
+use Rattle.fish_image.specs.Slot.{slot_bytes, word, zeros}
 
 -- ---- words
 
@@ -105,7 +106,8 @@ length-row row h =
 -- ---- the whole
 
 -- a slot's body in two parts
-pub slot_parts : (c : Commit) → slot_bytes c ≡ flat_map word (head_words c) ++ (flat_map row_bytes c.rows ++ zeros (bytes_behind (length c.rows)))
+pub slot_parts : (c : Commit) →
+    slot_bytes c ≡ flat_map word (head_words c) ++ (flat_map row_bytes c.rows ++ zeros (bytes_behind (length c.rows)))
 unfolding slot_bytes
 slot_parts c = refl
 
@@ -145,7 +147,8 @@ module _ (row : CatRow) (b : List ℕ) (is : b ≡ row_bytes row) (h : IsSpellab
 
   pub name_read : take (length row.name) (drop 18 b) ≡ row.name
   name_read =
-      ap (λ (l : List ℕ). take (length row.name) l) (name_behind ∙ append_assoc row.name (zeros (46 - length row.name)) (padded 256 row.def))
+      ap (λ (l : List ℕ). take (length row.name) l)
+      (name_behind ∙ append_assoc row.name (zeros (46 - length row.name)) (padded 256 row.def))
       ∙ take_at row.name (zeros (46 - length row.name) ++ padded 256 row.def) (length row.name) refl
 
   pub text_read : take (length row.def) (drop 64 b) ≡ row.def
@@ -253,7 +256,8 @@ module _ (c : Commit) (b : List ℕ) (h : IsTold c b) where
   -- the bytes are those of a slot's body, all of them
   pub told_length : length b ≡ 86016
   told_length =
-      let all = ap length told_parts ∙ length-append (flat_map word (head_words c)) (flat_map row_bytes c.rows ++ zeros (bytes_behind (length c.rows))) in
+      let all = ap length told_parts
+      ∙ length-append (flat_map word (head_words c)) (flat_map row_bytes c.rows ++ zeros (bytes_behind (length c.rows))) in
       let head = length-words (head_words c) in
       let rest = length-append (flat_map row_bytes c.rows) (zeros (bytes_behind (length c.rows))) in
       let rows = length-rows c.rows told_row in

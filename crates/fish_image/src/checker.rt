@@ -29,6 +29,16 @@ impl Checker {
     /// A checker that has seen no word.
     pub fn new(alloc: Global, c: &Commit) -> Result<Checker, AllocError>
         requires { IsWithin c.now }
+        ensures seen { IfOk result (λ checker. HasSeen c.now checker []) }
+        ensures checker { IfOk result IsChecker }
+    {
+        let checker = Checker::begin(alloc, c)?;
+        Ok(checker)
+    }
+
+    /// The same, part by part.
+    fn begin(alloc: Global, c: &Commit) -> Result<Checker, AllocError>
+        requires { IsWithin c.now }
         ensures { IfOk result (λ checker. HasSeen c.now checker []) }
     {
         Ok(Checker {
@@ -46,6 +56,15 @@ impl Checker {
 
     /// Takes the next words.
     pub fn feed(&mut self, words: &[u64]) -> Result<(), ImageRefusal>
+        requires { IsChecker self.old }
+        ensures fed { (c : Told) (w : List ℕ) → HasSeen c self.old w → Fed result c w words.now self.new }
+        ensures checker { IsChecker self.new }
+    {
+        self.read(words)
+    }
+
+    /// The same by the words that were left.
+    fn read(&mut self, words: &[u64]) -> Result<(), ImageRefusal>
         requires { IsChecker self.old }
         ensures { (c : Told) (w : List ℕ) → HasSeen c self.old w → Fed result c w words.now self.new }
     {

@@ -140,7 +140,7 @@ fn push_zeros(alloc: Global, body: &mut Bytes, count: usize) -> Result<(), Alloc
 }
 
 /// Whether the numbers of a commit are within their limits.
-pub(crate) fn is_within(c: &Commit) -> bool
+pub fn is_within(c: &Commit) -> bool
     ensures { IsTrue result ↔ IsWithin c.now }
 {
     c.turn < 3

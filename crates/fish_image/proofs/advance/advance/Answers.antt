@@ -1,5 +1,6 @@
 -- Each step goes on from where the last one came.
-use Rattle.std.proofs.Common.{◌≡◌, ℕ, ◌+◌, ◌-◌, ◌*◌, ◌<◌, ◌≤◌, List, ◌++◌, drop, drop-drop, length, length-drop, arith, sym, ap, subst, ◌∙◌, suc, add-one, take}
+use Rattle.std.proofs.Common.{◌≡◌, ℕ, ◌+◌, ◌-◌, ◌*◌, ◌<◌, ◌≤◌, List, ◌++◌, drop, drop-drop, length, length-drop, arith}
+use Rattle.std.proofs.Common.{sym, ap, subst, ◌∙◌, suc, add-one, take}
 use Rattle.std.proofs.lemmas.List.{drop-append-le, take_all}
 use Rattle.fish_catalog.specs.declared.commit.Commit.{Commit}
 use Rattle.fish_image.specs.Log.{Agrees, FollowsAt, region, region_lines}
@@ -74,7 +75,8 @@ returns-in-Damaged-clause-all c k w s terms come words =
       few = omega arith;
       never = λ more m follows. stepped more m
           (subst (λ (r : List ℕ). FollowsAt k t.0 r m)
-          (drop-append-le (4 * t.0.line) w more (agrees_within k w t.0.number t.0 t.1.agrees) ∙ ap (λ (r : List ℕ). r ++ more) (sym t.3)) follows);
+          (drop-append-le (4 * t.0.line) w more (agrees_within k w t.0.number t.0 t.1.agrees)
+          ∙ ap (λ (r : List ℕ). r ++ more) (sym t.3)) follows);
     }
 
 pub loop-number-preserved : goal.loop-number-preserved

@@ -15,4 +15,4 @@ cause_of OutOfMemory c w new h = tt
 
 pub returns-in-Err-clause-damaged : goal.returns-in-Err-clause-damaged
 returns-in-Err-clause-damaged c =
-    cause_of c.in-Err.refusal c.args.c.now c.args.words.now _ (c.in-Err.ensures c.args.c.now [] c.in_ok-checker.ensures)
+    cause_of c.in-Err.refusal c.args.c.now c.args.words.now _ (c.in-Err.ensures.fed c.args.c.now [] c.in_ok-checker.ensures.seen)

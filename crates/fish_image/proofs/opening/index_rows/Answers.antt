@@ -1,5 +1,6 @@
 -- One row more is kept.
-use Rattle.std.proofs.Common.{◌≡◌, ℕ, ◌<◌, List, [], ◌∷◌, ◌++◌, Some, length, length-append, get_or, slice_get, refl, arith, sym, ap, subst, ◌∙◌, inl, inr}
+use Rattle.std.proofs.Common.{◌≡◌, ℕ, ◌<◌, List, [], ◌∷◌, ◌++◌, Some, length, length-append, get_or}
+use Rattle.std.proofs.Common.{slice_get, refl, arith, sym, ap, subst, ◌∙◌, inl, inr}
 use Rattle.std.proofs.lemmas.Option.{same_Some, slice_get_read}
 use Rattle.fish_catalog.specs.declared.row.CatRow.{CatRow}
 use Rattle.fish_image.specs.Terms.{IsIndexRow}

@@ -11,7 +11,8 @@ pub returns-then-is_empty : goal.returns-then-is_empty
 returns-then-is_empty c =
     let body = rw c.in-Some.is at c.in_ok-parts.ensures.parts in
     let none = eqb-true (length c.in-Some.parts.keys) 0 (sym c.is_empty.ensures ∙ c.if-is_empty.true) in (
-      subst (λ (p : BodyParts). IsBody p c.args.r.now) (sym c.numbered.ensures) (keyless c.in-Some.parts c.args.r.now c.args.number body none c.requires),
+      subst (λ (p : BodyParts). IsBody p c.args.r.now) (sym c.numbered.ensures)
+          (keyless c.in-Some.parts c.args.r.now c.args.number body none c.requires),
       ap (λ (p : BodyParts). p.number) c.numbered.ensures,
     )
 

@@ -39,7 +39,8 @@ of_record : (yes : Bool) (c : Commit) (s : Reached) (lines : ℕ) (r : List ℕ)
     → Took yes c (λ n. (q : BodyParts) × IsRecordAt c s lines r q × (n ≡ behind_record c s lines q)) new
     → Took yes c (FollowsIn c s lines r) new
 of_record taken c s lines r new other = elim taken as (λ y.
-    Took y c (λ n. (q : BodyParts) × IsRecordAt c s lines r q × (n ≡ behind_record c s lines q)) new → Took y c (FollowsIn c s lines r) new) [
+    Took y c (λ n. (q : BodyParts) × IsRecordAt c s lines r q × (n ≡ behind_record c s lines q)) new
+    → Took y c (FollowsIn c s lines r) new) [
       | true ↦ λ took. (took.0, inr took.1, took.2)
       | false ↦ λ none n follows. not_record c s lines r n other (none n) follows
     ]

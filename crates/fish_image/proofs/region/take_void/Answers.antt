@@ -8,5 +8,6 @@ pub returns : goal.returns
 returns c k s h =
     let line = h.line in
     let test = c.if-at-lines.false in
-    let crosses : page_of s.line < page_of (s.line + c.args.lines - 1) = subst (λ (n : ℕ). page_of n < page_of (n + c.args.lines - 1)) line (omega arith) in
+    let crosses : page_of s.line < page_of (s.line + c.args.lines - 1) =
+    subst (λ (n : ℕ). page_of n < page_of (n + c.args.lines - 1)) line (omega arith) in
     (behind s c.args.lines s.places Void, (crosses, refl), c.in_ok-pass.ensures k s Void h)

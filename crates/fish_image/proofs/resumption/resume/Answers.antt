@@ -27,7 +27,8 @@ returns c k w terms stops =
     let count = terms.count in
     let less : stops.end.number < k.count = omega arith in
     let old = come_more k w c.args.words.now stops.end c.args.at.now stops.come in
-    let come : HasCome k (w ++ c.args.words.now) stops.end c.in_ok-next.next = record { agrees = old.agrees; few = old.few; is_at = c.in_ok-next.ensures k stops.end old.is_at } in
+    let come : HasCome k (w ++ c.args.words.now) stops.end c.in_ok-next.next =
+    record { agrees = old.agrees; few = old.few; is_at = c.in_ok-next.ensures k stops.end old.is_at } in
     let all = c.in_ok-all.ensures ∙ ap (λ (l : List ℕ). l ++ c.args.words.now) (stops.left_is less)
     ∙ sym (drop-append-le (4 * stops.end.line) w c.args.words.now (agrees_within k w stops.end.number stops.end stops.come.agrees)) in
     let read = c.in_ok-advanced.ensures.all k (w ++ c.args.words.now) stops.end terms come (c.as_slice.ensures.value ∙ all) in

@@ -14,7 +14,8 @@ returns-in-Some-clause-damaged c k w h =
     (subst (λ (o : Option ℕ). Seen o k w c.args.self.left.items c.args.self.at) c.in-Some.is h.seen)
 
 -- what is not broken stopped
-stopped : (o : Option ℕ) (c : Commit) (w left : List ℕ) (at : Progress) → ((n : ℕ) → o ≡ Some n → ⊥) → Seen o c w left at → Stops c w left at
+stopped : (o : Option ℕ) (c : Commit) (w left : List ℕ) (at : Progress)
+    → ((n : ℕ) → o ≡ Some n → ⊥) → Seen o c w left at → Stops c w left at
 stopped (Some n) c w left at not h = absurd (not n refl)
 stopped None c w left at not h = h
 
