@@ -1,0 +1,7 @@
+-- The checker has seen some words of a commit.
+use Rattle.fish_image.specs.Checking.{IsChecker}
+use Rattle.tests_store.proofs.images.check_pieces.Given as goal
+
+-- the checker has seen some words of a commit
+abbrev pub invariant-loop-piece : goal.invariant-loop-piece
+invariant-loop-piece l = IsChecker l.checker

@@ -1,0 +1,286 @@
+//! A small log whose words another program packed, held to a commit: whole, in pieces of every size, and
+//! with each bit changed.
+
+ghost use Rattle.std.specs.Prelude.{◌<◌};
+ghost use Rattle.fish_image.specs.Commits.{IsWithin};
+
+use crate::told::{expect, expect_all};
+use fish_catalog::{CatRow, Catalog, Checked, Commit};
+use fish_image::{Checker, ImageRefusal, check_image, is_within};
+use fish_value::Text;
+use std::alloc::{AllocError, Global};
+use std::test::Fail;
+
+/// Three records of two lines each, by lanes 1, 2 and 1, whose `type` is `Push`, `Pull` and `Push`. Their
+/// buckets are 5, 6 and 5 of 16.
+const WORDS: &[u64] = &[
+    0x3c0108040002,
+    0,
+    0,
+    0x12,
+    0x68737550,
+    0x3a2265707974227b,
+    0x7d226873755022,
+    0,
+    0x3c0110040002,
+    0,
+    1,
+    0x12,
+    0x6c6c7550,
+    0x3a2265707974227b,
+    0x7d226c6c755022,
+    0,
+    0x3c0108040002,
+    1,
+    2,
+    0x12,
+    0x68737550,
+    0x3a2265707974227b,
+    0x7d226873755022,
+    0,
+];
+
+/// How many words each of them has.
+const RECORD_WORDS: usize = 8;
+
+/// How many entries and lines a commit counts, where the index of a second definition begins that gives a
+/// value for each record, and the word that is changed, with the bits.
+type Case = (u32, u64, Option<u32>, usize, u64);
+
+/// What the answer is.
+const CASES: &[(Case, &str)] = &[
+    ((3, 6, None, 0, 0), "heads 5:17 6:9 starts 0 at 0"),
+    ((2, 4, None, 0, 0), "heads 5:1 6:9 starts 0 at 0"),
+    ((0, 0, None, 0, 0), "heads starts"),
+    // fewer entries than lines, more entries than there are, and lines that end within the last or behind it
+    ((2, 6, None, 0, 0), "damaged behind 2 entries"),
+    ((4, 6, None, 0, 0), "damaged behind 3 entries"),
+    ((3, 5, None, 0, 0), "damaged behind 2 entries"),
+    ((3, 7, None, 0, 0), "damaged behind 3 entries"),
+    // a key entry is wanted from the second record on, and behind the last
+    ((3, 6, Some(1), 0, 0), "damaged behind 1 entries"),
+    ((3, 6, Some(3), 0, 0), "heads 5:17 6:9 starts 0 at 0"),
+    // the value of a key, the payload, a previous node, the record's number, and padding
+    ((3, 6, None, 12, 1), "damaged behind 1 entries"),
+    ((3, 6, None, 13, 1), "damaged behind 1 entries"),
+    ((3, 6, None, 17, 1), "damaged behind 2 entries"),
+    ((3, 6, None, 10, 2), "damaged behind 1 entries"),
+    ((3, 6, None, 23, 0x8000_0000_0000_0000), "damaged behind 2 entries"),
+    // another lane: another log
+    ((3, 6, None, 8, 0x2000_0000), "heads 5:17 6:9 starts 0 at 0"),
+];
+
+fn row(
+    alloc: Global,
+    id: u16,
+    texts: (&str, &str),
+    from: Option<u32>,
+) -> Result<CatRow, AllocError> {
+    Ok(CatRow {
+        id,
+        name: Text::copy_of(alloc, texts.0)?,
+        def: Text::copy_of(alloc, texts.1)?,
+        from,
+        to: None,
+    })
+}
+
+/// The definitions, or none of them if they should be refused.
+fn catalog(alloc: Global, flag: Option<u32>) -> Result<Catalog, AllocError> {
+    let mut rows = Vec::new(alloc);
+    rows.push(row(alloc, 0, ("kind", "take type"), Some(0))?)?;
+    rows.push(row(alloc, 1, ("flag", "flag when type exists"), flag)?)?;
+    match Catalog::from_rows(alloc, rows)? {
+        Some(catalog) => Ok(catalog),
+        None => Ok(Catalog::new(alloc)),
+    }
+}
+
+fn commit(alloc: Global, case: &Case) -> Result<Commit, AllocError> {
+    Ok(Commit {
+        turn: 0,
+        pages: 1,
+        bucket_bits: 4,
+        count: case.0,
+        lines: case.1,
+        rows: catalog(alloc, case.2)?,
+    })
+}
+
+fn words(alloc: Global, at: usize, mask: u64) -> Result<Vec<u64>, AllocError> {
+    let mut words = Vec::from_slice(alloc, WORDS)?;
+    if at < words.len() {
+        words[at] ^= mask;
+    }
+    Ok(words)
+}
+
+/// The heads that are there, by bucket, and where pages begin to hold regions.
+fn checked_text(alloc: Global, checked: &Checked) -> Result<String, AllocError> {
+    let mut told = String::from_str(alloc, "heads ")?;
+    for (bucket, head) in checked.heads.as_slice().iter().enumerate() {
+        if *head != 0 {
+            let text = format!(in alloc; "{bucket}:{head} ")?;
+            told.push_str(text.as_str())?;
+        }
+    }
+    told.push_str("starts")?;
+    for start in checked.starts.as_slice() {
+        let text = format!(in alloc; " {} at {}", start.number, start.line)?;
+        told.push_str(text.as_str())?;
+    }
+    Ok(told)
+}
+
+fn answer_text(
+    alloc: Global,
+    answer: Result<Checked, ImageRefusal>,
+) -> Result<String, AllocError> {
+    match answer {
+        Ok(checked) => {
+            let told = checked_text(alloc, &checked);
+            drop(checked);
+            told
+        }
+        Err(refusal) => format!(in alloc; "{refusal}"),
+    }
+}
+
+fn image_text(alloc: Global, words: &[u64], c: &Commit) -> Result<String, AllocError> {
+    if !is_within(c) {
+        return String::from_str(alloc, "no commit");
+    }
+    answer_text(alloc, check_image(alloc, words, c))
+}
+
+fn case_told(alloc: Global, case: &Case) -> Result<String, AllocError> {
+    let c = commit(alloc, case)?;
+    let words = words(alloc, case.3, case.4)?;
+    let told = image_text(alloc, words.as_slice(), &c);
+    drop(c);
+    told
+}
+
+#[test]
+fn images(rt: HostRuntime) -> Result<(), Fail> {
+    expect_all(&rt, rt.alloc(), CASES, case_told)?;
+    Ok(())
+}
+
+/// The same as of all words at once, in pieces of so many words.
+fn check_pieces(
+    alloc: Global,
+    words: &[u64],
+    size: usize,
+    c: &Commit,
+) -> Result<Checked, ImageRefusal>
+    requires commit { IsWithin c.now }
+    requires size { 0 < size }
+{
+    let mut checker = Checker::new(alloc, c)?;
+    for piece in words.chunks(size) {
+        if let Err(refusal) = checker.feed(piece) {
+            drop(checker);
+            return Err(refusal);
+        }
+    }
+    checker.finish()
+}
+
+/// What all words are at once, and what they are in the first pieces of one size that differ from that.
+fn sizes_text(alloc: Global, words: &[u64], c: &Commit) -> Result<String, AllocError> {
+    if !is_within(c) {
+        return String::from_str(alloc, "no commit");
+    }
+    let whole = answer_text(alloc, check_image(alloc, words, c))?;
+    for size in 1..26 {
+        let told = answer_text(alloc, check_pieces(alloc, words, size, c))?;
+        if told.as_str() != whole.as_str() {
+            return format!(in alloc; "{whole}, and in pieces of {size} {told}");
+        }
+    }
+    Ok(whole)
+}
+
+fn pieces_told(alloc: Global, case: &Case) -> Result<String, AllocError> {
+    let c = commit(alloc, case)?;
+    let words = words(alloc, case.3, case.4)?;
+    let told = sizes_text(alloc, words.as_slice(), &c);
+    drop(c);
+    told
+}
+
+#[test]
+fn pieces(rt: HostRuntime) -> Result<(), Fail> {
+    expect_all(&rt, rt.alloc(), CASES, pieces_told)?;
+    Ok(())
+}
+
+/// Changes of one bit, by what they come to.
+#[derive(Clone, Copy)]
+struct Changes {
+    /// The words stand for another log, or for the same.
+    taken: u32,
+    /// They are damaged where the word stands.
+    there: u32,
+    /// They are damaged elsewhere.
+    elsewhere: u32,
+}
+
+/// What a change of one bit comes to.
+fn change(alloc: Global, c: &Commit, at: usize, bit: u32) -> Result<Changes, AllocError>
+    requires commit { IsWithin c.now }
+    requires bit { bit < 64 }
+{
+    let words = words(alloc, at, 1 << bit)?;
+    match check_image(alloc, words.as_slice(), c) {
+        Ok(checked) => {
+            drop(checked);
+            Ok(Changes {
+                taken: 1,
+                there: 0,
+                elsewhere: 0,
+            })
+        }
+        Err(ImageRefusal::Damaged { number }) if number as usize == at / RECORD_WORDS => {
+            Ok(Changes {
+                taken: 0,
+                there: 1,
+                elsewhere: 0,
+            })
+        }
+        Err(_) => Ok(Changes {
+            taken: 0,
+            there: 0,
+            elsewhere: 1,
+        }),
+    }
+}
+
+/// What the changes of each bit come to.
+fn changes_text(alloc: Global, c: &Commit) -> Result<String, AllocError> {
+    if !is_within(c) {
+        return String::from_str(alloc, "no commit");
+    }
+    let (mut taken, mut there, mut elsewhere) = (0u32, 0u32, 0u32);
+    for at in 0..WORDS.len() {
+        for bit in 0..64 {
+            let one = change(alloc, c, at, bit)?;
+            taken = taken.saturating_add(one.taken);
+            there = there.saturating_add(one.there);
+            elsewhere = elsewhere.saturating_add(one.elsewhere);
+        }
+    }
+    format!(in alloc; "taken {taken} there {there} elsewhere {elsewhere}")
+}
+
+/// Of each header, three bits give another lane of 1 to 16, and nine another version of at most 512. Every
+/// other bit is noticed in its own record.
+#[test]
+fn bits(rt: HostRuntime) -> Result<(), Fail> {
+    let c = commit(rt.alloc(), &(3, 6, None, 0, 0))?;
+    let told = changes_text(rt.alloc(), &c);
+    drop(c);
+    expect(&rt, told?.as_str(), "taken 36 there 1500 elsewhere 0");
+    Ok(())
+}
