@@ -65,7 +65,10 @@ const CASES: &[(Case, &str)] = &[
     ((3, 6, None, 13, 1), "damaged behind 1 entries"),
     ((3, 6, None, 17, 1), "damaged behind 2 entries"),
     ((3, 6, None, 10, 2), "damaged behind 1 entries"),
-    ((3, 6, None, 23, 0x8000_0000_0000_0000), "damaged behind 2 entries"),
+    (
+        (3, 6, None, 23, 0x8000_0000_0000_0000),
+        "damaged behind 2 entries",
+    ),
     // another lane: another log
     ((3, 6, None, 8, 0x2000_0000), "heads 5:17 6:9 starts 0 at 0"),
 ];
@@ -132,10 +135,7 @@ fn checked_text(alloc: Global, checked: &Checked) -> Result<String, AllocError> 
     Ok(told)
 }
 
-fn answer_text(
-    alloc: Global,
-    answer: Result<Checked, ImageRefusal>,
-) -> Result<String, AllocError> {
+fn answer_text(alloc: Global, answer: Result<Checked, ImageRefusal>) -> Result<String, AllocError> {
     match answer {
         Ok(checked) => {
             let told = checked_text(alloc, &checked);
