@@ -131,3 +131,12 @@ agrees_newest c w k s h b = head_newest (4 * s.line) s.places b (agrees_descends
 -- and all lie below what comes next
 pub agrees_lower : (c : Commit) (w : List ℕ) (k : ℕ) (s : Reached) → Agrees c w k s → (b p : ℕ) → IsAmong s.places b p → p < 4 * s.line
 agrees_lower c w k s h b p among = (descend_among (4 * s.line) s.places among.at b p (agrees_descends c w k s h) among.there).0
+
+-- a head is 0 or the place of a key entry that was read
+pub head_lower : (c : Commit) (w : List ℕ) (k : ℕ) (s : Reached) → Agrees c w k s → (b : ℕ) → (head_of s.places b ≡ 0 → ⊥)
+    → head_of s.places b < 4 * s.line
+head_lower c w k s h b some =
+    elim (agrees_newest c w k s h b).some [
+      | inl among ↦ agrees_lower c w k s h b (head_of s.places b) among
+      | inr none ↦ absurd (some none)
+    ]

@@ -1,6 +1,6 @@
 //! Laws of images. The functions do nothing; their contracts are the laws.
 
-ghost use Rattle.std.specs.Prelude.{◌≡◌, ◌*◌, ◌<◌, ℕ, List};
+ghost use Rattle.std.specs.Prelude.{◌≡◌, ◌≢◌, ◌*◌, ◌^◌, ◌<◌, ℕ, List, length, slice_index};
 ghost use Rattle.fish_catalog.specs.declared.commit.Checked.{Checked};
 ghost use Rattle.fish_catalog.specs.declared.commit.Commit.{Commit};
 ghost use Rattle.fish_catalog.specs.declared.entry.Entry.{Entry};
@@ -33,4 +33,12 @@ pub fn heads_are_newest()
         → (b : ℕ) → IsNewest s.places b (head_of s.places b) }
     ensures lower { (c : Commit) (w : List ℕ) (k : ℕ) (s : Reached) → Agrees c w k s
         → (b p : ℕ) → IsAmong s.places b p → p < 4 * s.line }
+{}
+
+/// The heads that are answered are as many as there are buckets, and each is 0 or lies within the lines.
+pub fn checked_heads_are_older()
+    ensures size { (c : Commit) (w : List ℕ) (checked : Checked) → HasChecked c w checked
+        → length checked.heads ≡ 2 ^ c.bucket_bits }
+    ensures older { (c : Commit) (w : List ℕ) (checked : Checked) → HasChecked c w checked
+        → (b : ℕ) → slice_index checked.heads b ≢ 0 → slice_index checked.heads b < 4 * c.lines }
 {}

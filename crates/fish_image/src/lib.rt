@@ -21,7 +21,9 @@ mod terms;
 
 pub use checker::Checker;
 pub use image::check_image;
-pub use law::{checked_is_one_log, damage_is_one, damaged_is_no_log, heads_are_newest};
+pub use law::{
+    checked_heads_are_older, checked_is_one_log, damage_is_one, damaged_is_no_log, heads_are_newest,
+};
 pub use read::read_slot;
 pub use refusal::ImageRefusal;
 pub use slot::{is_within, slot_body};
