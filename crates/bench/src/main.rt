@@ -4,6 +4,7 @@
 
 mod definitions;
 mod events;
+mod images;
 mod ingests;
 mod lanes;
 mod opening;
@@ -17,6 +18,7 @@ mod workload;
 
 use events::read_events;
 use fish_value::Text;
+use images::measure_image;
 use ingests::measure_ingest;
 use lanes::LaneCount;
 use parses::{Reading, measure_parses};
@@ -77,6 +79,7 @@ fn measure<R: Threads + Sync + Clock + AllocGlobal + Eprint + Files>(
 ) -> Result<(), Failure> {
     match words {
         [log] if log.as_str() == "log" => Ok(measure_log(rt)?),
+        [image] if image.as_str() == "image" => Ok(measure_images(rt)?),
         [ingest, name] if ingest.as_str() == "ingest" => measure_file(rt, name.as_str()),
         [changes, name] if changes.as_str() == "registrations" => measure_changes(
             rt,
@@ -120,6 +123,14 @@ fn log_round<R: Threads + Sync + Clock + AllocGlobal + Eprint>(rt: &R) -> Result
         measure_stores(rt, workload, lanes)?;
     }
     measure_walk(rt, Workload::FewChains)
+}
+
+/// The rounds of an image.
+fn measure_images<R: Clock + AllocGlobal + Eprint>(rt: &R) -> Result<(), AllocError> {
+    for _ in 0..ROUNDS {
+        measure_image(rt)?;
+    }
+    Ok(())
 }
 
 /// The rounds of ingest.
