@@ -42,11 +42,11 @@ pub fn plan(
 pub fn full(alloc: Global, from: u32, to: u32) -> Result<Plan, AllocError>
     ensures { IfOk result (λ plan. plan ≡ one_full from to) }
 {
-    let mut pieces = Sequence::new(alloc);
+    let mut one = Sequence::new(alloc);
     if from < to {
-        pieces.push(Piece::Full { from, to })?;
+        one.push(Piece::Full { from, to })?;
     }
-    Ok(Plan::of(pieces))
+    Ok(Plan::of(one))
 }
 
 /// The piece that ends at a number, of what is left of a range below settled.
