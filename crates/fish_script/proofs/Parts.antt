@@ -1,0 +1,82 @@
+-- A text is cut at its first LF.
+use Rattle.std.proofs.Common.{◌≡◌, ℕ, ◌+◌, ◌<◌, zero, suc, List, [], ◌∷◌, Bool, true, false, cond, length, take, drop, refl, sym, ap, ◌∙◌, arith}
+use Rattle.std.specs.Prelude.{if◌then◌else◌}
+use Rattle.std.specs.List.{slice_split, onto_first}
+use Rattle.std.specs.Str.Lines.{strip_carriage_return}
+use Rattle.memchr.specs.Find.{Passes, is_byte}
+use Rattle.fish_json.specs.Lines.{is_line_end}
+use Rattle.fish_script.specs.Lines.{lines, lines_of}
+
+-- a test that isn't true is false
+failed : (b : Bool) → ¬ (b ≡ true) → b ≡ false
+failed true h = absurd (h refl)
+failed false h = refl
+
+-- with no LF, the whole is the one part
+pub split_nowhere : (b : List ℕ) → ((k : ℕ) → k < length b → ¬ Passes (is_byte 10) b k)
+    → slice_split is_line_end b ≡ b ∷ []
+split_nowhere [] h = refl
+split_nowhere (x ∷ xs) h =
+    let here : is_line_end x ≡ false = failed (is_line_end x) (h 0 (omega arith)) in
+    rw here (ap (onto_first x) (split_nowhere xs (λ k within. h (suc k) (omega arith))))
+
+-- the first part ends at the first LF, and the others are those of what stands behind it
+pub split_first_end : (b : List ℕ) (k : ℕ) → k < length b → ((j : ℕ) → j < k → ¬ Passes (is_byte 10) b j)
+    → Passes (is_byte 10) b k
+    → slice_split is_line_end b ≡ take k b ∷ slice_split is_line_end (drop (k + 1) b)
+split_first_end [] k within before ends = absurd (omega arith)
+split_first_end (x ∷ xs) zero within before ends = (let here : is_line_end x ≡ true = ends in rw here)
+split_first_end (x ∷ xs) (suc k) within before ends =
+    let here : is_line_end x ≡ false = failed (is_line_end x) (before 0 (omega arith)) in
+    let next : suc k + 1 ≡ suc (k + 1) = omega arith in
+    rw (here, next) (ap (onto_first x)
+    (split_first_end xs k (omega arith) (λ j less. before (suc j) (omega arith)) ends))
+
+-- parts with at least one among them
+record Some_parts (parts : List (List ℕ)) : Type 0 where
+  first : List ℕ
+  more : List (List ℕ)
+  are : parts ≡ first ∷ more
+
+onto : (c : ℕ) (parts : List (List ℕ)) → Some_parts parts → Some_parts (onto_first c parts)
+onto c parts p = record { first = c ∷ p.first; more = p.more; are = ap (onto_first c) p.are }
+
+-- the parts at a byte whose test is known
+at : (c : ℕ) (x : List ℕ) (end : Bool) → is_line_end c ≡ end
+    → slice_split is_line_end (c ∷ x)
+    ≡ (if end then [] ∷ slice_split is_line_end x else onto_first c (slice_split is_line_end x))
+at c x end h = ap (λ b. cond b ([] ∷ slice_split is_line_end x) (onto_first c (slice_split is_line_end x))) h
+
+step : (c : ℕ) (x : List ℕ) (end : Bool) → is_line_end c ≡ end → Some_parts (slice_split is_line_end x)
+    → Some_parts (slice_split is_line_end (c ∷ x))
+step c x true h p = record { first = []; more = slice_split is_line_end x; are = at c x true h }
+step c x false h p =
+    let q = onto c (slice_split is_line_end x) p in
+    record { first = q.first; more = q.more; are = at c x false h ∙ q.are }
+
+-- bytes have a first part
+some_parts : (x : List ℕ) → Some_parts (slice_split is_line_end x)
+some_parts [] = record { first = []; more = []; are = refl }
+some_parts (c ∷ x) = step c x (is_line_end c) refl (some_parts x)
+
+cut_lines : (part : List ℕ) (parts : List (List ℕ)) → Some_parts parts
+    → lines_of (part ∷ parts) ≡ strip_carriage_return part ∷ lines_of parts
+cut_lines [] parts p = rw p.are
+cut_lines (c ∷ part) parts p = rw p.are
+
+-- the lines of a text that is cut at its first LF
+pub lines_cut : (b part behind : List ℕ) → slice_split is_line_end b ≡ part ∷ slice_split is_line_end behind
+    → lines b ≡ strip_carriage_return part ∷ lines behind
+unfolding lines
+lines_cut b part behind h = ap lines_of h ∙ cut_lines part (slice_split is_line_end behind) (some_parts behind)
+
+-- no bytes have no line
+pub lines_none : lines [] ≡ []
+unfolding lines
+lines_none = refl
+
+-- a text without an LF is one line, unless it is empty
+pub lines_last : (b : List ℕ) → 0 < length b → slice_split is_line_end b ≡ b ∷ [] → lines b ≡ b ∷ []
+unfolding lines
+lines_last [] some h = absurd (omega arith)
+lines_last (c ∷ b) some h = ap lines_of h

@@ -1,0 +1,276 @@
+-- A draft with one line more.
+use Rattle.std.proofs.Common.{◌≡◌, ℕ, zero, suc, ◌+◌, ◌<◌, ◌≤◌, List, [], ◌∷◌, ◌++◌, refl, sym, ap, subst, ◌∙◌, arith, length, append_assoc, length-append, cond}
+use Rattle.std.specs.Prelude.{Bool, true, false, count_by, if◌then◌else◌}
+use Rattle.std.proofs.lemmas.List.Sums.{sum_by_push}
+use Rattle.fish_script.proofs.Appending.{blocks_push, feeds_push, lanes_push, others_begin, others_push, place_push, read_push, stand_push}
+use Rattle.fish_script.specs.Drafts.{IsBegun, IsDraft, IsInFront, IsOpen, IsWritten, Pushes}
+use Rattle.fish_script.specs.Limits.{most_feeds, most_lanes}
+use Rattle.fish_script.specs.Places.{Fits, IsMisplaced, Stands, place_after, place_of, with_feed}
+use Rattle.fish_script.specs.Script.{AreBlocks, AreLanes, AreRead, IsRead, OthersFree, Reads, feeds_of, is_control, is_feed}
+use Rattle.fish_script.specs.declared.draft.Draft.{Draft}
+use Rattle.fish_script.specs.declared.draft.Place.{Place}
+use Rattle.fish_script.specs.declared.draft.Place.TheVariants.{Outside, Inside}
+use Rattle.fish_script.specs.declared.script.Block.{Block}
+use Rattle.fish_script.specs.declared.script.Statement.{Statement}
+use Rattle.fish_script.specs.declared.wording.Wording.{Wording}
+use Rattle.fish_script.specs.declared.wording.Wording.TheVariants as word
+use Rattle.fish_script.specs.declared.wording.Saying.{Saying}
+use Rattle.fish_script.specs.declared.wording.Saying.TheVariants as said
+
+-- what is to be shown of one line more
+pub draft_next : (ws : List Saying) (w : Saying) (old new : Draft) → IsDraft ws old → Stands old.place w
+    → new.place ≡ place_after old.place w → IsWritten (ws ++ w ∷ []) new.place new.blocks new.lanes new.lane
+    → IsDraft (ws ++ w ∷ []) new
+draft_next ws w old new h stands place written = record {
+  place = place_push Outside ws w ∙ ap (λ (p : Place). place_after p w) h.place ∙ sym place;
+  stand = stand_push Outside ws w h.stand (subst (λ (p : Place). Stands p w) (sym h.place) stands);
+  written = written;
+}
+
+-- `lanes`
+pub written_lanes : (ws : List Saying) (blocks : List Block) (lanes : List (List Statement)) (lane : List Statement)
+    → IsWritten ws Outside blocks lanes lane → IsWritten (ws ++ said.Lanes ∷ []) (Inside 0 0) blocks lanes lane
+written_lanes ws blocks lanes lane h = (ws, [], refl, h.0, (refl, refl, h.1, h.2))
+
+-- one line more inside of a block
+inside_push : (ws front inside : List Saying) (w : Saying) → ws ≡ front ++ said.Lanes ∷ inside
+    → ws ++ w ∷ [] ≡ front ++ said.Lanes ∷ (inside ++ w ∷ [])
+inside_push ws front inside w e = ap (λ (z : List Saying). z ++ w ∷ []) e ∙ append_assoc front (said.Lanes ∷ inside) (w ∷ [])
+
+-- a first lane without a statement
+first_lane : IsBegun (said.Lane ∷ []) 0 0 [] []
+first_lane = record {
+  ended = [];
+  own = [];
+  lines = refl;
+  are = refl;
+  read = tt;
+  count = refl;
+  few = omega arith;
+  files = refl;
+  few_feeds = omega arith;
+  free = tt;
+}
+
+-- the first `lane`
+pub written_first : (ws : List Saying) (feeds : ℕ) (blocks : List Block) (lanes : List (List Statement)) (lane : List Statement)
+    → IsWritten ws (Inside 0 feeds) blocks lanes lane → IsWritten (ws ++ said.Lane ∷ []) (Inside 1 feeds) blocks lanes lane
+written_first ws feeds blocks lanes lane h = (
+  h.0,
+  h.1 ++ said.Lane ∷ [],
+  inside_push ws h.0 h.1 said.Lane h.2,
+  h.3,
+  subst (λ (z : List Saying). IsBegun (z ++ said.Lane ∷ []) 0 feeds lanes lane) (sym h.4.0)
+      (subst (λ (z : ℕ). IsBegun (said.Lane ∷ []) 0 z lanes lane) (sym h.4.1)
+      (subst (λ (z : List (List Statement)). IsBegun (said.Lane ∷ []) 0 0 z lane) (sym h.4.2)
+      (subst (λ (z : List Statement). IsBegun (said.Lane ∷ []) 0 0 [] z) (sym h.4.3) first_lane))),
+)
+
+-- a later `lane`
+pub written_next : (ws : List Saying) (more feeds : ℕ) (blocks : List Block) (lanes : List (List Statement)) (lane : List Statement)
+    → IsWritten ws (Inside (suc more) feeds) blocks lanes lane → suc more < most_lanes
+    → IsWritten (ws ++ said.Lane ∷ []) (Inside (suc (suc more)) feeds) blocks (lanes ++ lane ∷ []) []
+written_next ws more feeds blocks lanes lane h room =
+    let b : IsBegun h.1 more feeds lanes lane = h.4 in (
+      h.0,
+      h.1 ++ said.Lane ∷ [],
+      inside_push ws h.0 h.1 said.Lane h.2,
+      h.3,
+      record {
+        ended = h.1;
+        own = [];
+        lines = refl;
+        are = subst (λ (z : List Saying). AreLanes z (lanes ++ lane ∷ [])) (sym b.lines)
+            (lanes_push b.ended b.own lanes lane b.are b.read);
+        read = tt;
+        count = omega (arith, length-append lanes (lane ∷ []), b.count);
+        few = omega arith;
+        files = omega (arith, feeds_push lanes lane, b.files);
+        few_feeds = b.few_feeds;
+        free = others_begin lanes lane b.free;
+      },
+    )
+
+-- `end`
+pub written_end : (ws : List Saying) (more feeds : ℕ) (blocks : List Block) (lanes : List (List Statement)) (lane : List Statement)
+    → IsWritten ws (Inside (suc more) feeds) blocks lanes lane
+    → AreBlocks (ws ++ said.End ∷ []) (blocks ++ record { several = true; lanes = lanes ++ lane ∷ [] } ∷ [])
+written_end ws more feeds blocks lanes lane h =
+    let b : IsBegun h.1 more feeds lanes lane = h.4 in
+    subst (λ (z : List Saying). AreBlocks z (blocks ++ record { several = true; lanes = lanes ++ lane ∷ [] } ∷ []))
+    (sym (inside_push ws h.0 h.1 said.End h.2))
+    (blocks_push h.0 (said.Lanes ∷ (h.1 ++ said.End ∷ [])) blocks (record { several = true; lanes = lanes ++ lane ∷ [] }) h.3 (record {
+      inside = h.1;
+      lines = refl;
+      are = subst (λ (z : List Saying). AreLanes z (lanes ++ lane ∷ [])) (sym b.lines)
+          (lanes_push b.ended b.own lanes lane b.are b.read);
+      some = omega (arith, length-append lanes (lane ∷ []));
+      few = omega (arith, length-append lanes (lane ∷ []), b.count, b.few);
+      few_feeds = omega (arith, feeds_push lanes lane, b.files, b.few_feeds);
+      free = b.free;
+    }))
+
+-- a statement by itself
+pub written_alone : (ws : List Saying) (blocks : List Block) (w : Wording) (s : Statement) → AreBlocks ws blocks → Reads w s
+    → AreBlocks (ws ++ said.States w ∷ []) (blocks ++ record { several = false; lanes = (s ∷ []) ∷ [] } ∷ [])
+written_alone ws blocks w s h reads =
+    blocks_push ws (said.States w ∷ []) blocks (record { several = false; lanes = (s ∷ []) ∷ [] }) h (record {
+      line = said.States w;
+      statement = s;
+      lines = refl;
+      read = reads;
+      one = refl;
+    })
+
+-- how many files are stored with one statement more
+files_push : (lane : List Statement) (s : Statement) → count_by is_feed (lane ++ s ∷ []) ≡ count_by is_feed lane + cond (is_feed s) 1 0
+files_push lane s = sum_by_push (λ (t : Statement). cond (is_feed t) 1 0) lane s
+
+-- a statement in a lane
+pub written_statement : (ws : List Saying) (begun feeds : ℕ) (blocks : List Block) (lanes : List (List Statement))
+    (lane : List Statement) (w : Wording) (s : Statement) → IsWritten ws (Inside begun feeds) blocks lanes lane → 1 ≤ begun
+    → Reads w s → Fits (Inside begun feeds) s
+    → IsWritten (ws ++ said.States w ∷ []) (Inside begun (if is_feed s then feeds + 1 else feeds)) blocks lanes (lane ++ s ∷ [])
+written_statement ws zero feeds blocks lanes lane w s h some reads fits = absurd (omega arith)
+written_statement ws (suc more) feeds blocks lanes lane w s h some reads fits =
+    let b : IsBegun h.1 more feeds lanes lane = h.4 in (
+      h.0,
+      h.1 ++ said.States w ∷ [],
+      inside_push ws h.0 h.1 (said.States w) h.2,
+      h.3,
+      record {
+        ended = b.ended;
+        own = b.own ++ said.States w ∷ [];
+        lines = ap (λ (z : List Saying). z ++ said.States w ∷ []) b.lines ∙ append_assoc b.ended (said.Lane ∷ b.own) (said.States w ∷ []);
+        are = b.are;
+        read = read_push b.own lane (said.States w) s b.read reads;
+        count = b.count;
+        few = b.few;
+        files = files (is_feed s) refl;
+        few_feeds = few_feeds (is_feed s) refl;
+        free = others_push lanes lane s b.free (λ control. omega (arith, fits.0 control, b.count));
+      },
+    )
+  where
+    files : (f : Bool) → is_feed s ≡ f → (if is_feed s then feeds + 1 else feeds) ≡ feeds_of lanes + count_by is_feed (lane ++ s ∷ [])
+    files true is =
+        let more : count_by is_feed (lane ++ s ∷ []) ≡ count_by is_feed lane + 1 =
+        files_push lane s ∙ ap (λ (z : Bool). count_by is_feed lane + cond z 1 0) is in
+        let sum : feeds + 1 ≡ feeds_of lanes + count_by is_feed (lane ++ s ∷ []) = omega (arith, h.4.files, more) in
+        rw is sum
+    files false is =
+        let same : count_by is_feed (lane ++ s ∷ []) ≡ count_by is_feed lane + 0 =
+        files_push lane s ∙ ap (λ (z : Bool). count_by is_feed lane + cond z 1 0) is in
+        let sum : feeds ≡ feeds_of lanes + count_by is_feed (lane ++ s ∷ []) = omega (arith, h.4.files, same) in
+        rw is sum
+
+    few_feeds : (f : Bool) → is_feed s ≡ f → (if is_feed s then feeds + 1 else feeds) ≤ most_feeds
+    few_feeds true is = let few : feeds + 1 ≤ most_feeds = omega (arith, fits.1 is) in rw is few
+    few_feeds false is = rw is h.4.few_feeds
+
+-- a statement stores a file where its wording does
+feed_read : (feeds : ℕ) (w : Wording) (s : Statement) → Reads w s → (if is_feed s then feeds + 1 else feeds) ≡ with_feed w feeds
+feed_read feeds (word.Register name source) s reads = let e : is_feed s ≡ false = ap is_feed reads.1 in rw e
+feed_read feeds (word.Deregister name) s reads = let e : is_feed s ≡ false = ap is_feed reads in rw e
+feed_read feeds (word.Ingest form header file) s reads = let e : is_feed s ≡ true = ap is_feed reads in rw e
+feed_read feeds (word.Scan look) s reads = let e : is_feed s ≡ false = ap is_feed reads in rw e
+feed_read feeds (word.Explain look) s reads = let e : is_feed s ≡ false = ap is_feed reads in rw e
+feed_read feeds word.Checkpoint s reads = let e : is_feed s ≡ false = ap is_feed reads in rw e
+
+-- where the line behind a statement stands
+pub place_statement : (begun feeds : ℕ) (w : Wording) (s : Statement) → Reads w s
+    → Inside begun (if is_feed s then feeds + 1 else feeds) ≡ place_after (Inside begun feeds) (said.States w)
+place_statement begun feeds w s reads = ap (λ (n : ℕ). Inside begun n) (feed_read feeds w s reads)
+
+-- ---- the steps of a draft
+
+-- `lanes`
+pub takes_lanes : (ws : List Saying) (old : Draft) → IsDraft ws old → old.place ≡ Outside
+    → IsDraft (ws ++ said.Lanes ∷ []) (record old { place = Inside 0 0 })
+takes_lanes ws old h is =
+    draft_next ws said.Lanes old (record old { place = Inside 0 0 }) h
+    (subst (λ (p : Place). Stands p said.Lanes) (sym is) (λ no. no, tt)) refl
+    (written_lanes ws old.blocks old.lanes old.lane
+    (subst (λ (p : Place). IsWritten ws p old.blocks old.lanes old.lane) is h.written))
+
+-- the first `lane`
+pub takes_first : (ws : List Saying) (old : Draft) (feeds : ℕ) → IsDraft ws old → old.place ≡ Inside 0 feeds
+    → IsDraft (ws ++ said.Lane ∷ []) (record old { place = Inside 1 feeds })
+takes_first ws old feeds h is =
+    draft_next ws said.Lane old (record old { place = Inside 1 feeds }) h
+    (subst (λ (p : Place). Stands p said.Lane) (sym is) (λ no. no, omega arith))
+    (ap (λ (p : Place). place_after p said.Lane) (sym is))
+    (written_first ws feeds old.blocks old.lanes old.lane
+    (subst (λ (p : Place). IsWritten ws p old.blocks old.lanes old.lane) is h.written))
+
+-- a later `lane`
+pub takes_next : (ws : List Saying) (old new : Draft) (begun feeds : ℕ) → IsDraft ws old → old.place ≡ Inside begun feeds
+    → 1 ≤ begun → begun < most_lanes → new.place ≡ Inside (begun + 1) feeds → new.blocks ≡ old.blocks
+    → new.lanes ≡ old.lanes ++ old.lane ∷ [] → new.lane ≡ [] → IsDraft (ws ++ said.Lane ∷ []) new
+takes_next ws old new zero feeds h is some room place blocks lanes lane = absurd (omega arith)
+takes_next ws old new (suc more) feeds h is some room place blocks lanes lane =
+    draft_next ws said.Lane old new h
+    (subst (λ (p : Place). Stands p said.Lane) (sym is) (λ no. no, room))
+    (place ∙ ap (λ (p : Place). place_after p said.Lane) (sym is))
+    (subst (λ (p : Place). IsWritten (ws ++ said.Lane ∷ []) p new.blocks new.lanes new.lane) (sym place)
+    (let e : suc (suc more) ≡ suc more + 1 = omega arith in
+    subst (λ (n : ℕ). IsWritten (ws ++ said.Lane ∷ []) (Inside n feeds) new.blocks new.lanes new.lane) e
+    (subst (λ (z : List Block). IsWritten (ws ++ said.Lane ∷ []) (Inside (suc (suc more)) feeds) z new.lanes new.lane) (sym blocks)
+    (subst (λ (z : List (List Statement)). IsWritten (ws ++ said.Lane ∷ []) (Inside (suc (suc more)) feeds) old.blocks z new.lane)
+    (sym lanes)
+    (subst (λ (z : List Statement). IsWritten (ws ++ said.Lane ∷ []) (Inside (suc (suc more)) feeds) old.blocks
+    (old.lanes ++ old.lane ∷ []) z) (sym lane)
+    (written_next ws more feeds old.blocks old.lanes old.lane
+    (subst (λ (p : Place). IsWritten ws p old.blocks old.lanes old.lane) is h.written) room))))))
+
+-- `end`
+pub takes_end : (ws : List Saying) (old new : Draft) (begun feeds : ℕ) → IsDraft ws old → old.place ≡ Inside begun feeds
+    → 1 ≤ begun → new.place ≡ Outside
+    → new.blocks ≡ old.blocks ++ record { several = true; lanes = old.lanes ++ old.lane ∷ [] } ∷ []
+    → new.lanes ≡ [] → new.lane ≡ [] → IsDraft (ws ++ said.End ∷ []) new
+takes_end ws old new zero feeds h is some place blocks lanes lane = absurd (omega arith)
+takes_end ws old new (suc more) feeds h is some place blocks lanes lane =
+    draft_next ws said.End old new h
+    (subst (λ (p : Place). Stands p said.End) (sym is) (λ no. omega arith, tt))
+    (place ∙ ap (λ (p : Place). place_after p said.End) (sym is))
+    (subst (λ (p : Place). IsWritten (ws ++ said.End ∷ []) p new.blocks new.lanes new.lane) (sym place) (
+      subst (λ (z : List Block). AreBlocks (ws ++ said.End ∷ []) z) (sym blocks)
+          (written_end ws more feeds old.blocks old.lanes old.lane
+          (subst (λ (p : Place). IsWritten ws p old.blocks old.lanes old.lane) is h.written)),
+      lanes,
+      lane,
+    ))
+
+-- a statement
+pub takes_statement : (ws : List Saying) (old new : Draft) (w : Wording) (s : Statement) → IsDraft ws old
+    → ¬ IsInFront old.place → Reads w s → Fits old.place s → Pushes old.place s old new
+    → IsDraft (ws ++ said.States w ∷ []) new
+takes_statement ws old new w s h ahead reads fits pushes = at old.place refl
+  where
+    at : (p : Place) → old.place ≡ p → IsDraft (ws ++ said.States w ∷ []) new
+    at Outside is =
+        let e : new ≡ record old { blocks = old.blocks ++ record { several = false; lanes = (s ∷ []) ∷ [] } ∷ [] } =
+        subst (λ (p : Place). Pushes p s old new) is pushes in
+        let was : IsWritten ws Outside old.blocks old.lanes old.lane =
+        subst (λ (p : Place). IsWritten ws p old.blocks old.lanes old.lane) is h.written in
+        subst (λ (d : Draft). IsDraft (ws ++ said.States w ∷ []) d) (sym e)
+        (draft_next ws (said.States w) old
+        (record old { blocks = old.blocks ++ record { several = false; lanes = (s ∷ []) ∷ [] } ∷ [] }) h
+        (subst (λ (p : Place). Stands p (said.States w)) (sym is) (λ no. no, (s, reads, tt)))
+        (is ∙ ap (λ (p : Place). place_after p (said.States w)) (sym is))
+        (subst (λ (p : Place). IsWritten (ws ++ said.States w ∷ []) p
+        (old.blocks ++ record { several = false; lanes = (s ∷ []) ∷ [] } ∷ []) old.lanes old.lane) (sym is)
+        (written_alone ws old.blocks w s was.0 reads, was.1, was.2)))
+    at (Inside begun feeds) is =
+        let e : new ≡ record old { lane = old.lane ++ s ∷ []; place = Inside begun (if is_feed s then feeds + 1 else feeds) } =
+        subst (λ (p : Place). Pushes p s old new) is pushes in
+        let was : IsWritten ws (Inside begun feeds) old.blocks old.lanes old.lane =
+        subst (λ (p : Place). IsWritten ws p old.blocks old.lanes old.lane) is h.written in
+        let kept : Fits (Inside begun feeds) s = subst (λ (p : Place). Fits p s) is fits in
+        let some : ¬ (begun ≡ 0) = subst (λ (p : Place). ¬ IsInFront p) is ahead in
+        subst (λ (d : Draft). IsDraft (ws ++ said.States w ∷ []) d) (sym e)
+        (draft_next ws (said.States w) old
+        (record old { lane = old.lane ++ s ∷ []; place = Inside begun (if is_feed s then feeds + 1 else feeds) }) h
+        (subst (λ (p : Place). Stands p (said.States w)) (sym is) (some, (s, reads, kept)))
+        (place_statement begun feeds w s reads ∙ ap (λ (p : Place). place_after p (said.States w)) (sym is))
+        (written_statement ws begun feeds old.blocks old.lanes old.lane w s was (omega arith) reads kept))

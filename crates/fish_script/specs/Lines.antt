@@ -1,0 +1,17 @@
+-- The lines of a text.
+use Rattle.std.specs.Prelude.{ℕ, List, [], ◌∷◌}
+use Rattle.std.specs.List.{slice_split}
+use Rattle.std.specs.Str.Lines.{strip_carriage_return}
+use Rattle.fish_json.specs.Lines.{is_line_end}
+
+-- the lines of the parts round the LFs: one CR in front of an LF is dropped, and what stands behind the last LF is a
+-- line where it isn't empty
+abbrev pub lines_of : List (List ℕ) → List (List ℕ)
+lines_of [] = []
+lines_of ([] ∷ []) = []
+lines_of ((c ∷ rest) ∷ []) = (c ∷ rest) ∷ []
+lines_of (part ∷ next ∷ parts) = strip_carriage_return part ∷ lines_of (next ∷ parts)
+
+-- the lines of a text
+unfoldable pub lines : List ℕ → List (List ℕ)
+lines b = lines_of (slice_split is_line_end b)

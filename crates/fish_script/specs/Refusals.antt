@@ -1,0 +1,108 @@
+-- What a text is: a script, or refused at its first line with a fault.
+use Rattle.std.specs.Prelude.{◌≡◌, ℕ, suc, ◌<◌, ◌≤◌, ◌⊎◌, List, [], ◌∷◌, ◌++◌, true, false, Some, None, Err, IsUtf8, length}
+use Rattle.fish_lang.specs.Language.{IsOutcome}
+use Rattle.fish_lang.specs.declared.parse.LangRefusal.{LangRefusal}
+use Rattle.fish_script.specs.Limits.{longest_script, most_feeds, most_lanes}
+use Rattle.fish_script.specs.Lines.{lines}
+use Rattle.fish_script.specs.Places.{AllStand, IsMisplaced, place_of}
+use Rattle.fish_script.specs.Script.{AreBlocks, Reads, is_control, is_feed}
+use Rattle.fish_script.specs.Wording.{saying_of}
+use Rattle.fish_script.specs.Words.{is_skipped}
+use Rattle.fish_script.specs.declared.draft.Place.{Place}
+use Rattle.fish_script.specs.declared.draft.Place.TheVariants.{Outside, Inside}
+use Rattle.fish_script.specs.declared.refusal.ScriptRefusal.{ScriptRefusal}
+use Rattle.fish_script.specs.declared.refusal.ScriptRefusal.TheVariants as refusal
+use Rattle.fish_script.specs.declared.script.Block.{Block}
+use Rattle.fish_script.specs.declared.script.Statement.{Statement}
+use Rattle.fish_script.specs.declared.wording.Wording.{Wording}
+use Rattle.fish_script.specs.declared.wording.Wording.TheVariants as word
+use Rattle.fish_script.specs.declared.wording.Saying.{Saying}
+use Rattle.fish_script.specs.declared.wording.Saying.TheVariants as said
+
+-- ---- what lines say
+
+-- a line says this: nothing where it is skipped
+abbrev pub Says : List ℕ → List Saying → Type 0
+Says b ws = ((is_skipped b ≡ true) × (ws ≡ []))
+    ⊎ ((l : Saying) × (is_skipped b ≡ false) × IsUtf8 b × (saying_of b ≡ Some l) × (ws ≡ l ∷ []))
+
+-- lines say this together
+abbrev pub AllSay : List (List ℕ) → List Saying → Type 0
+AllSay [] ws = ws ≡ []
+AllSay (b ∷ bs) ws = (own : List Saying) × (others : List Saying) × Says b own × AllSay bs others × (ws ≡ own ++ others)
+
+-- ---- faults of one line
+
+-- its text is refused as a definition for this
+abbrev pub HasFault : Wording → LangRefusal → Type 0
+HasFault (word.Register name source) why = IsOutcome source (Err why)
+HasFault w why = ⊥
+
+-- the statement is for the first lane alone, and this is another one
+abbrev pub IsLate : Place → Statement → Type 0
+IsLate Outside s = ⊥
+IsLate (Inside lanes feeds) s = (1 < lanes) × (is_control s ≡ true)
+
+-- the statement stores one file more than a block may
+abbrev pub IsFeedTooMany : Place → Statement → Type 0
+IsFeedTooMany Outside s = ⊥
+IsFeedTooMany (Inside lanes feeds) s = (most_feeds ≤ feeds) × (is_feed s ≡ true)
+
+-- there is one lane more than a block may have
+abbrev pub IsLaneTooMany : Place → Saying → Type 0
+IsLaneTooMany (Inside lanes feeds) said.Lane = most_lanes ≤ lanes
+IsLaneTooMany p l = ⊥
+
+-- the line n, which says this at this place, is refused for this
+abbrev pub IsFault : Place → Saying → ℕ → ScriptRefusal → Type 0
+IsFault p l n (refusal.Unexpected line) = (line ≡ n) × IsMisplaced p l
+IsFault p (said.States w) n (refusal.Definition line why) = (line ≡ n) × (¬ IsMisplaced p (said.States w)) × HasFault w why
+IsFault p (said.States w) n (refusal.ControlInLane line) =
+    (line ≡ n) × (¬ IsMisplaced p (said.States w)) × (s : Statement) × Reads w s × IsLate p s
+IsFault p (said.States w) n (refusal.TooManyFeeds line) =
+    (line ≡ n) × (¬ IsMisplaced p (said.States w)) × (s : Statement) × Reads w s × (¬ IsLate p s) × IsFeedTooMany p s
+IsFault p l n (refusal.TooManyLanes line) = (line ≡ n) × IsLaneTooMany p l
+IsFault p l n e = ⊥
+
+-- the line n, of these bytes at this place, is refused for this
+abbrev pub IsLineFault : Place → List ℕ → ℕ → ScriptRefusal → Type 0
+IsLineFault p b n (refusal.NotText line) = (line ≡ n) × (is_skipped b ≡ false) × ¬ IsUtf8 b
+IsLineFault p b n e = (is_skipped b ≡ false) × IsUtf8 b
+    × (((saying_of b ≡ None) × (e ≡ refusal.Unexpected n)) ⊎ ((l : Saying) × (saying_of b ≡ Some l) × IsFault p l n e))
+
+-- ---- the whole text
+
+-- the first line that is refused is refused for this
+pub record StopsAt (text : List ℕ) (e : ScriptRefusal) : Type 0 where
+  pub before : List (List ℕ)
+  pub line : List ℕ
+  pub behind : List (List ℕ)
+  pub splits : lines text ≡ before ++ line ∷ behind
+  -- what the lines in front of it say
+  pub ahead : List Saying
+  pub say : AllSay before ahead
+  pub stand : AllStand Outside ahead
+  pub fault : IsLineFault (place_of ahead) line (suc (length before)) e
+
+-- each line is in order, and the text ends within a block
+pub record StopsAtEnd (text : List ℕ) (e : ScriptRefusal) : Type 0 where
+  pub ws : List Saying
+  pub say : AllSay (lines text) ws
+  pub stand : AllStand Outside ws
+  pub lanes : ℕ
+  pub feeds : ℕ
+  pub within : place_of ws ≡ Inside lanes feeds
+  pub fault : e ≡ refusal.Unexpected (suc (length (lines text)))
+
+-- the text is this script
+pub record IsScript (text : List ℕ) (script : List Block) : Type 0 where
+  pub size : length text ≤ longest_script
+  pub ws : List Saying
+  pub say : AllSay (lines text) ws
+  pub blocks : AreBlocks ws script
+
+-- the text is refused for this; memory may run out at any text
+abbrev pub IsRefusal : List ℕ → ScriptRefusal → Type 0
+IsRefusal text refusal.OutOfMemory = Unit {0}
+IsRefusal text (refusal.TooLong n) = (longest_script < length text) × (n ≡ length text)
+IsRefusal text e = (length text ≤ longest_script) × (StopsAt text e ⊎ StopsAtEnd text e)

@@ -1,0 +1,397 @@
+//! What one line of a script says, as far as it needs no other line. A definition is not read yet.
+
+ghost use Rattle.std.specs.Prelude.{◌≡◌, true, IfOk, option_map};
+ghost use Rattle.std.specs.List.{list_all};
+ghost use Rattle.fish_value.specs.ValueText.{is_quoted};
+ghost use Rattle.fish_script.specs.Wording.{by_of, csv_of, deregister_of, file_of, ingest_of, is_bare_byte, is_bare_word, is_name};
+ghost use Rattle.fish_script.specs.Wording.{is_name_byte, json_of, limit_of, look_of, mark, number_of, range_of, register_of, saying_of, way_of, wording_of};
+
+use crate::script::{By, MAX_NUMBER};
+use crate::word::{first_word, is_end, unblank};
+use fish_value::{Bytes, Form, Text, Value, read_int, read_json, read_value};
+use std::alloc::{AllocError, Global};
+
+/// The most bytes of a name.
+const MAX_NAME: usize = 32;
+
+/// What a line says.
+#[derive(Drop)]
+pub enum Saying {
+    /// A block of several lanes begins.
+    Lanes,
+    /// A lane begins.
+    Lane,
+    /// The block ends.
+    End,
+    /// A statement.
+    States { wording: Wording },
+}
+
+/// A statement whose definition is not read.
+#[derive(Drop)]
+pub enum Wording {
+    Register {
+        name: Text,
+        /// The text of the definition, as it stands.
+        source: Bytes,
+    },
+    Deregister {
+        name: Text,
+    },
+    Ingest {
+        form: Form,
+        header: bool,
+        file: Text,
+    },
+    Scan {
+        look: Look,
+    },
+    Explain {
+        look: Look,
+    },
+    Checkpoint,
+}
+
+/// Which records are asked for.
+#[derive(Drop)]
+pub struct Look {
+    pub name: Text,
+    pub value: Value,
+    pub range: Range,
+}
+
+/// Of which numbers, and whether by the index.
+#[derive(Clone, Copy)]
+pub struct Range {
+    pub from: Option<u32>,
+    pub to: Option<u32>,
+    pub by: By,
+}
+
+/// What a line says, or none where it is no statement and none of `lanes`, `lane` and `end`.
+#[tactic(auto, unfolding(crate::specs::Wording::saying_of))]
+pub(crate) fn read_saying(alloc: Global, b: &[u8]) -> Result<Option<Saying>, AllocError>
+    ensures { IfOk result (λ said. said ≡ saying_of b.now) }
+{
+    let (word, behind) = first_word(b);
+    if is_end(behind) {
+        if let Some(said) = mark(word) {
+            return Ok(Some(said));
+        }
+    }
+    let wording = read_wording(alloc, word, behind)?;
+    Ok(wording.map(|wording| Saying::States { wording }))
+}
+
+/// `lanes`, `lane` or `end`
+#[tactic(auto, unfolding(crate::specs::Wording::mark))]
+fn mark(word: &[u8]) -> Option<Saying>
+    ensures { result ≡ mark word.now }
+{
+    if word == b"lanes".as_slice() {
+        return Some(Saying::Lanes);
+    }
+    if word == b"lane".as_slice() {
+        return Some(Saying::Lane);
+    }
+    if word == b"end".as_slice() {
+        return Some(Saying::End);
+    }
+    None
+}
+
+/// The statement of a line, by its first word and what stands behind it.
+#[tactic(auto, unfolding(crate::specs::Wording::wording_of))]
+fn read_wording(alloc: Global, word: &[u8], behind: &[u8]) -> Result<Option<Wording>, AllocError>
+    ensures { IfOk result (λ said. said ≡ wording_of word.now behind.now) }
+{
+    if word == b"register".as_slice() {
+        return read_register(alloc, behind);
+    }
+    if word == b"deregister".as_slice() {
+        return read_deregister(alloc, behind);
+    }
+    if word == b"ingest".as_slice() {
+        return read_ingest(alloc, behind);
+    }
+    if word == b"scan".as_slice() {
+        let look = read_look(alloc, behind)?;
+        return Ok(look.map(|look| Wording::Scan { look }));
+    }
+    if word == b"explain".as_slice() {
+        let look = read_look(alloc, behind)?;
+        return Ok(look.map(|look| Wording::Explain { look }));
+    }
+    if word == b"checkpoint".as_slice() && is_end(behind) {
+        return Ok(Some(Wording::Checkpoint));
+    }
+    Ok(None)
+}
+
+/// `NAME as DEF`
+#[tactic(auto, unfolding(crate::specs::Wording::register_of))]
+fn read_register(alloc: Global, b: &[u8]) -> Result<Option<Wording>, AllocError>
+    ensures { IfOk result (λ said. said ≡ register_of b.now) }
+{
+    let (name, behind) = first_word(b);
+    let (word, rest) = first_word(behind);
+    if !is_name(name) || word != b"as".as_slice() {
+        return Ok(None);
+    }
+    Ok(Some(Wording::Register {
+        name: name_text(alloc, name)?,
+        source: Bytes::copy_of(alloc, unblank(rest))?,
+    }))
+}
+
+/// `NAME`
+#[tactic(auto, unfolding(crate::specs::Wording::deregister_of))]
+fn read_deregister(alloc: Global, b: &[u8]) -> Result<Option<Wording>, AllocError>
+    ensures { IfOk result (λ said. said ≡ deregister_of b.now) }
+{
+    let (name, behind) = first_word(b);
+    if !is_name(name) || !is_end(behind) {
+        return Ok(None);
+    }
+    Ok(Some(Wording::Deregister {
+        name: name_text(alloc, name)?,
+    }))
+}
+
+/// `json FILE` or `csv FILE [header]`
+#[tactic(auto, unfolding(crate::specs::Wording::ingest_of))]
+fn read_ingest(alloc: Global, b: &[u8]) -> Result<Option<Wording>, AllocError>
+    ensures { IfOk result (λ said. said ≡ ingest_of b.now) }
+{
+    let (word, behind) = first_word(b);
+    if word == b"json".as_slice() {
+        return read_json_file(alloc, behind);
+    }
+    if word == b"csv".as_slice() {
+        return read_csv_file(alloc, behind);
+    }
+    Ok(None)
+}
+
+/// `FILE`
+#[tactic(auto, unfolding(crate::specs::Wording::json_of))]
+fn read_json_file(alloc: Global, b: &[u8]) -> Result<Option<Wording>, AllocError>
+    ensures { IfOk result (λ said. said ≡ json_of b.now) }
+{
+    let (word, behind) = first_word(b);
+    if !is_end(behind) {
+        return Ok(None);
+    }
+    let file = read_file(alloc, word)?;
+    Ok(file.map(|file| Wording::Ingest {
+        form: Form::Json,
+        header: false,
+        file,
+    }))
+}
+
+/// `FILE [header]`
+#[tactic(auto, unfolding(crate::specs::Wording::csv_of))]
+fn read_csv_file(alloc: Global, b: &[u8]) -> Result<Option<Wording>, AllocError>
+    ensures { IfOk result (λ said. said ≡ csv_of b.now) }
+{
+    let (word, behind) = first_word(b);
+    let (next, rest) = first_word(behind);
+    let header = !is_end(behind);
+    if header && (next != b"header".as_slice() || !is_end(rest)) {
+        return Ok(None);
+    }
+    let file = read_file(alloc, word)?;
+    Ok(file.map(|file| Wording::Ingest {
+        form: Form::Csv,
+        header,
+        file,
+    }))
+}
+
+/// `NAME = VALUE`, and of which numbers.
+#[tactic(auto, unfolding(crate::specs::Wording::look_of))]
+fn read_look(alloc: Global, b: &[u8]) -> Result<Option<Look>, AllocError>
+    ensures { IfOk result (λ look. look ≡ look_of b.now) }
+{
+    let (name, behind) = first_word(b);
+    let (sign, right) = first_word(behind);
+    if !is_name(name) || sign != b"=".as_slice() {
+        return Ok(None);
+    }
+    let (word, rest) = first_word(right);
+    let Some(value) = read_value(alloc, word)? else {
+        return Ok(None);
+    };
+    let Some(range) = read_range(rest) else {
+        return Ok(None);
+    };
+    Ok(Some(Look {
+        name: name_text(alloc, name)?,
+        value,
+        range,
+    }))
+}
+
+/// `[from N] [to N] [by HOW]`
+#[tactic(auto, unfolding(crate::specs::Wording::range_of))]
+fn read_range(b: &[u8]) -> Option<Range>
+    ensures { result ≡ range_of b.now }
+{
+    let (from, behind) = read_limit(b, b"from")?;
+    let (to, rest) = read_limit(behind, b"to")?;
+    let by = read_by(rest)?;
+    Some(Range { from, to, by })
+}
+
+/// `[KEY N]`: the number, if it is there, and what stands behind.
+#[tactic(auto, unfolding(crate::specs::Wording::limit_of))]
+fn read_limit<'b>(b: &'b [u8], key: &[u8]) -> Option<(Option<u32>, &'b [u8])>
+    ensures { option_map (λ p. (p.0, p.1.now)) result ≡ limit_of key.now b.now }
+{
+    let (word, behind) = first_word(b);
+    if word != key {
+        return Some((None, b));
+    }
+    let (digits, rest) = first_word(behind);
+    let number = read_number(digits)?;
+    Some((Some(number), rest))
+}
+
+/// `0` or `[1-9][0-9]*`, below 268435456.
+#[tactic(auto, unfolding(crate::specs::Wording::number_of))]
+fn read_number(word: &[u8]) -> Option<u32>
+    ensures { result ≡ number_of word.now }
+{
+    let number = read_int(word)?;
+    if number < 0 || number >= i64::from(MAX_NUMBER) {
+        return None;
+    }
+    Some(number as u32)
+}
+
+/// `[by index | by full | by auto]`, and then nothing more.
+#[tactic(auto, unfolding(crate::specs::Wording::by_of))]
+fn read_by(b: &[u8]) -> Option<By>
+    ensures { result ≡ by_of b.now }
+{
+    if is_end(b) {
+        return Some(By::Auto);
+    }
+    let (word, behind) = first_word(b);
+    let (way, rest) = first_word(behind);
+    if word != b"by".as_slice() || !is_end(rest) {
+        return None;
+    }
+    read_way(way)
+}
+
+/// `index`, `full` or `auto`
+#[tactic(auto, unfolding(crate::specs::Wording::way_of))]
+fn read_way(word: &[u8]) -> Option<By>
+    ensures { result ≡ way_of word.now }
+{
+    if word == b"index".as_slice() {
+        return Some(By::Index);
+    }
+    if word == b"full".as_slice() {
+        return Some(By::Full);
+    }
+    if word == b"auto".as_slice() {
+        return Some(By::Auto);
+    }
+    None
+}
+
+/// The file that a word names: a bare word, or a JSON string that isn't empty.
+#[tactic(auto, unfolding(crate::specs::Wording::file_of))]
+fn read_file(alloc: Global, word: &[u8]) -> Result<Option<Text>, AllocError>
+    ensures { IfOk result (λ file. file ≡ file_of word.now) }
+{
+    if is_bare_word(word) {
+        return Ok(Some(bare_text(alloc, word)?));
+    }
+    if !is_quoted(word) {
+        return Ok(None);
+    }
+    match read_json(alloc, word)? {
+        Some(serde_json::Value::String(s)) => {
+            if s.is_empty() {
+                Ok(None)
+            } else {
+                Ok(Some(Text::from_string(s)))
+            }
+        }
+        _ => Ok(None),
+    }
+}
+
+/// Whether a word begins and ends with a quotation mark.
+fn is_quoted(w: &[u8]) -> bool
+    ensures { result ≡ is_quoted w.now }
+{
+    w.len() > 1 && w[0] == b'"' && w[w.len() - 1] == b'"'
+}
+
+/// Whether a word can be a name.
+#[tactic(auto, unfolding(crate::specs::Wording::is_name))]
+fn is_name(w: &[u8]) -> bool
+    ensures { result ≡ is_name w.now }
+{
+    !w.is_empty() && w.len() <= MAX_NAME && has_name_bytes(w) && !w[0].is_ascii_digit()
+}
+
+fn has_name_bytes(w: &[u8]) -> bool
+    ensures { result ≡ list_all is_name_byte w.now }
+{
+    w.iter().all(|c| is_name_byte(*c))
+}
+
+fn is_name_byte(c: u8) -> bool
+    ensures { result ≡ is_name_byte c }
+{
+    c.is_ascii_alphanumeric() || c == b'_'
+}
+
+/// Whether a word can name a file as it stands: graphic ASCII but `"` and `#`.
+fn is_bare_word(w: &[u8]) -> bool
+    ensures { result ≡ is_bare_word w.now }
+{
+    !w.is_empty() && has_bare_bytes(w)
+}
+
+fn has_bare_bytes(w: &[u8]) -> bool
+    ensures { result ≡ list_all is_bare_byte w.now }
+{
+    w.iter().all(|c| is_bare_byte(*c))
+}
+
+fn is_bare_byte(c: u8) -> bool
+    ensures { result ≡ is_bare_byte c }
+{
+    0x21 <= c && c <= 0x7e && c != b'"' && c != b'#'
+}
+
+/// The text of a name.
+fn name_text(alloc: Global, w: &[u8]) -> Result<Text, AllocError>
+    requires { is_name w.now ≡ true }
+    ensures { IfOk result (λ text. text ≡ w.now) }
+{
+    match Text::from_bytes(alloc, w)? {
+        Some(text) => Ok(text),
+        // Its bytes are ASCII.
+        None => unreachable!(),
+    }
+}
+
+/// The text of a bare word.
+fn bare_text(alloc: Global, w: &[u8]) -> Result<Text, AllocError>
+    requires { is_bare_word w.now ≡ true }
+    ensures { IfOk result (λ text. text ≡ w.now) }
+{
+    match Text::from_bytes(alloc, w)? {
+        Some(text) => Ok(text),
+        // Its bytes are ASCII.
+        None => unreachable!(),
+    }
+}
