@@ -1,10 +1,11 @@
 -- A plan while it is built, from the top of the range down.
-use Rattle.std.proofs.Common.{◌≡◌, ℕ, zero, suc, ◌+◌, ◌-◌, ◌<◌, ◌≤◌, List, [], ◌∷◌, ◌++◌, Some, ◌⊎◌, inl, inr, length, max, min, slice_get, refl, sym, ap, subst, ◌∙◌, arith}
+use Rattle.std.proofs.Common.{◌≡◌, ℕ, zero, suc, ◌+◌, ◌-◌, ◌<◌, ◌≤◌, List, [], ◌∷◌, ◌++◌, Some, inl, inr, max, min}
+use Rattle.std.proofs.Common.{slice_get, refl, sym, ap, subst, ◌∙◌, arith}
 use Rattle.std.proofs.Math.Decide.{dec_lt}
 use Rattle.std.proofs.lemmas.Option.{same_Some, slice_get_within}
 use Rattle.fish_catalog.specs.declared.interval.Interval.{Interval}
 use Rattle.fish_plan.proofs.Lists.{longer, push_cases}
-use Rattle.fish_plan.specs.Cover.{IsCover, IsRight, cut}
+use Rattle.fish_plan.specs.Cover.{IsRight, cut}
 use Rattle.fish_plan.specs.Intervals.{IsHeld}
 use Rattle.fish_plan.specs.Next.{IsMet, IsNext}
 use Rattle.fish_plan.specs.Pieces.{Fill, piece_from, piece_to}
@@ -58,8 +59,8 @@ no_cut : (from settled to end : ℕ) → from < end → settled < end → end �
 no_cut from settled to end left less high = omega arith
 
 -- the last number of a full piece isn't held
-clear : (xs : List Interval) (from end : ℕ) (y : Piece) (a b : ℕ) → y ≡ Full a b → piece_to y ≡ end → piece_from y < end → IsRight xs from end y
-    → IsHeld xs (end - 1) → ⊥
+clear : (xs : List Interval) (from end : ℕ) (y : Piece) (a b : ℕ) → y ≡ Full a b → piece_to y ≡ end
+    → piece_from y < end → IsRight xs from end y → IsHeld xs (end - 1) → ⊥
 clear xs from end (Index id first last) a b is ends falls right held = absurd cc
 clear xs from end (Full first last) a b is ends falls right held =
     right (omega (arith, ends)) (end - 1) (omega arith) (omega (arith, ends)) held

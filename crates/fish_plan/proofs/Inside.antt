@@ -1,10 +1,11 @@
 -- Index pieces lie in their intervals, and hold what intervals hold.
-use Rattle.std.proofs.Common.{◌≡◌, ℕ, zero, suc, ◌+◌, ◌-◌, ◌<◌, ◌≤◌, List, [], ◌∷◌, Option, Some, None, slice_get, refl, sym, ap, subst, ◌∙◌, arith}
+use Rattle.std.proofs.Common.{◌≡◌, ℕ, zero, suc, ◌-◌, ◌<◌, ◌≤◌, List, [], ◌∷◌, Option, Some, None, slice_get, sym, ap}
+use Rattle.std.proofs.Common.{subst, ◌∙◌, arith}
 use Rattle.std.proofs.Math.Decide.{dec_lt}
 use Rattle.std.proofs.lemmas.Option.{same_Some}
 use Rattle.fish_catalog.specs.declared.interval.Interval.{Interval}
 use Rattle.fish_plan.proofs.Unique.{fill_order}
-use Rattle.fish_plan.specs.Cover.{IsCover, IsIndexed, IsRight, cut}
+use Rattle.fish_plan.specs.Cover.{IsCover, IsIndexed, cut}
 use Rattle.fish_plan.specs.Intervals.{Holds, IsBelowEnd, IsHeld}
 use Rattle.fish_plan.specs.Pieces.{Fill, IsIn, piece_from, piece_to}
 use Rattle.fish_plan.specs.declared.pieces.Piece.{Piece}

@@ -1,10 +1,11 @@
 -- A range has one plan at most, and each of its numbers is in one piece.
-use Rattle.std.proofs.Common.{◌≡◌, ℕ, zero, suc, ◌+◌, ◌-◌, ◌<◌, ◌≤◌, List, [], ◌∷◌, Some, ◌⊎◌, inl, inr, max, min, slice_get, refl, sym, ap, subst, ◌∙◌, arith}
+use Rattle.std.proofs.Common.{◌≡◌, ℕ, zero, suc, ◌+◌, ◌-◌, ◌<◌, ◌≤◌, List, [], ◌∷◌, Some, inl, inr, max, slice_get}
+use Rattle.std.proofs.Common.{refl, sym, ap, subst, ◌∙◌, arith}
 use Rattle.std.proofs.Math.Decide.{dec_lt}
 use Rattle.std.proofs.lemmas.Option.{same_Some}
 use Rattle.fish_catalog.specs.declared.interval.Interval.{Interval}
-use Rattle.fish_plan.specs.Cover.{IsCover, IsIndexed, IsRight, cut}
-use Rattle.fish_plan.specs.Intervals.{Holds, IsAhead, IsBelowEnd, IsHeld, IsOldest}
+use Rattle.fish_plan.specs.Cover.{IsCover, IsIndexed, cut}
+use Rattle.fish_plan.specs.Intervals.{IsHeld, IsOldest}
 use Rattle.fish_plan.specs.Pieces.{Fill, IsIn, piece_from, piece_to}
 use Rattle.fish_plan.specs.declared.pieces.Piece.{Piece}
 use Rattle.fish_plan.specs.declared.pieces.Piece.TheVariants.{Index, Full}

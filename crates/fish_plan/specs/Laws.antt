@@ -5,7 +5,7 @@ use Rattle.fish_plan.specs.Cover.{IsCover}
 use Rattle.fish_plan.specs.Intervals.{Holds, IsHeld}
 use Rattle.fish_plan.specs.Pieces.{IsIn, one_full}
 use Rattle.fish_plan.specs.declared.pieces.Piece.{Piece}
-use Rattle.fish_plan.specs.declared.pieces.Piece.TheVariants.{Index, Full}
+use Rattle.fish_plan.specs.declared.pieces.Piece.TheVariants.{Index}
 
 -- a range has one plan at most
 abbrev pub OnePlan : Type 0

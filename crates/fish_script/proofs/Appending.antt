@@ -1,9 +1,10 @@
 -- Lines and what they are, with one more behind the others.
-use Rattle.std.proofs.Common.{◌≡◌, ℕ, zero, suc, ◌+◌, ◌<◌, ◌≤◌, List, [], ◌∷◌, ◌++◌, refl, sym, ap, subst, ◌∙◌, arith, length, append_assoc}
+use Rattle.std.proofs.Common.{◌≡◌, suc, ◌+◌, ◌≤◌, List, [], ◌∷◌, ◌++◌, refl, sym, ap, ◌∙◌, arith, length, append_assoc}
 use Rattle.std.specs.Prelude.{Bool, true, false, count_by}
 use Rattle.std.proofs.lemmas.List.{append-nil}
 use Rattle.fish_script.specs.Places.{AllStand, Stands, place_after, place_from}
-use Rattle.fish_script.specs.Script.{AllFree, AreBlocks, AreFree, AreLanes, AreRead, IsBlock, IsRead, OthersFree, feeds_of, is_control, is_feed}
+use Rattle.fish_script.specs.Script.{AllFree, AreBlocks, AreFree, AreLanes, AreRead, IsBlock, IsRead, OthersFree}
+use Rattle.fish_script.specs.Script.{feeds_of, is_control, is_feed}
 use Rattle.fish_script.specs.declared.draft.Place.{Place}
 use Rattle.fish_script.specs.declared.script.Block.{Block}
 use Rattle.fish_script.specs.declared.script.Statement.{Statement}

@@ -1,5 +1,5 @@
 -- Names and bare words are ASCII, so they are texts.
-use Rattle.std.proofs.Common.{◌≡◌, ℕ, ◌<◌, ◌≤◌, zero, suc, List, [], ◌∷◌, refl, arith, length}
+use Rattle.std.proofs.Common.{◌≡◌, ℕ, ◌<◌, zero, suc, List, [], ◌∷◌, refl, arith, length}
 use Rattle.std.specs.Prelude.{Bool, true, false, not, ◌&&◌, nat_le, nat_lt, slice_index, IsUtf8}
 use Rattle.std.specs.Char.{is_ascii_digit}
 use Rattle.std.specs.List.{list_all}
@@ -31,7 +31,8 @@ pub IsUtf8-name : (w : List ℕ) → is_name w ≡ true → IsUtf8 w
 unfolding is_name
 IsUtf8-name w h = IsUtf8-from_ascii w (all_ascii is_name_byte name_byte w
     (both (nat_lt 0 (length w) && nat_le (length w) longest_name) (list_all is_name_byte w)
-    (both (nat_lt 0 (length w) && nat_le (length w) longest_name && list_all is_name_byte w) (not (is_ascii_digit (slice_index w 0))) h).0).1)
+    (both (nat_lt 0 (length w) && nat_le (length w) longest_name && list_all is_name_byte w)
+    (not (is_ascii_digit (slice_index w 0))) h).0).1)
 
 -- a bare word
 pub IsUtf8-bare : (w : List ℕ) → is_bare_word w ≡ true → IsUtf8 w

@@ -1,5 +1,10 @@
+pub mod Apart
 pub mod Appending
 pub mod Ascii
+pub mod Once
+pub mod OneScript
 pub mod Parts
 pub mod Reading
+pub mod Standing
+pub mod Steps
 pub mod Writing

@@ -1,5 +1,6 @@
 -- A text while its lines are read.
-use Rattle.std.proofs.Common.{◌≡◌, ℕ, zero, suc, ◌+◌, ◌<◌, ◌≤◌, List, [], ◌∷◌, ◌++◌, ◌⊎◌, inl, inr, refl, sym, ap, subst, ◌∙◌, arith, length, append_assoc, length-append}
+use Rattle.std.proofs.Common.{◌≡◌, ℕ, suc, ◌+◌, ◌≤◌, List, [], ◌∷◌, ◌++◌, inl, inr, refl, sym, ap, subst, ◌∙◌, arith}
+use Rattle.std.proofs.Common.{length, append_assoc, length-append}
 use Rattle.std.specs.Prelude.{Result, Ok, Err, IfErr, OnOk}
 use Rattle.std.proofs.lemmas.List.{append-nil}
 use Rattle.fish_script.proofs.Parts.{lines_none}
@@ -7,8 +8,7 @@ use Rattle.fish_script.specs.Drafts.{IsDraft, IsInside, IsSoFar, IsWritten, Take
 use Rattle.fish_script.specs.Limits.{longest_script}
 use Rattle.fish_script.specs.Lines.{lines}
 use Rattle.fish_script.specs.Places.{place_of}
-use Rattle.fish_script.specs.Refusals.{AllSay, IsLineFault, IsRefusal, IsScript, Says, StopsAt, StopsAtEnd}
-use Rattle.fish_script.specs.Script.{AreBlocks}
+use Rattle.fish_script.specs.Refusals.{AllSay, IsLineFault, IsRefusal, IsScript, Says, StopsAt}
 use Rattle.fish_script.specs.declared.draft.Draft.{Draft}
 use Rattle.fish_script.specs.declared.draft.Place.{Place}
 use Rattle.fish_script.specs.declared.draft.Place.TheVariants.{Outside, Inside}

@@ -17,7 +17,8 @@ use Rattle.fish_script.specs.declared.wording.Saying.{Saying}
 use Rattle.fish_script.specs.declared.wording.Saying.TheVariants as said
 
 -- the lines behind `lanes` are those of the lanes that have ended, and of the one that has begun
-pub record IsBegun (ws : List Saying) (more feeds : ℕ) (lanes : List (List Statement)) (lane : List Statement) : Type 0 where
+pub record IsBegun (ws : List Saying) (more feeds : ℕ) (lanes : List (List Statement)) (lane : List Statement)
+    : Type 0 where
   pub ended : List Saying
   pub own : List Saying
   pub lines : ws ≡ ended ++ said.Lane ∷ own
@@ -61,7 +62,8 @@ UnlessMemory P e = P e
 
 -- the statement came behind the others
 abbrev pub Pushes : Place → Statement → Draft → Draft → Type 0
-Pushes Outside s old new = new ≡ record old { blocks = old.blocks ++ record { several = false; lanes = (s ∷ []) ∷ [] } ∷ [] }
+Pushes Outside s old new =
+    new ≡ record old { blocks = old.blocks ++ record { several = false; lanes = (s ∷ []) ∷ [] } ∷ [] }
 Pushes (Inside lanes feeds) s old new =
     new ≡ record old { lane = old.lane ++ s ∷ []; place = Inside lanes (if is_feed s then feeds + 1 else feeds) }
 

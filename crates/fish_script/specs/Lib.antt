@@ -1,4 +1,5 @@
 pub mod Drafts
+pub mod Laws
 pub mod Limits
 pub mod Lines
 pub mod Places

@@ -1,5 +1,6 @@
 -- What a text is: a script, or refused at its first line with a fault.
-use Rattle.std.specs.Prelude.{◌≡◌, ℕ, suc, ◌<◌, ◌≤◌, ◌⊎◌, List, [], ◌∷◌, ◌++◌, true, false, Some, None, Err, IsUtf8, length}
+use Rattle.std.specs.Prelude.{◌≡◌, ℕ, suc, ◌<◌, ◌≤◌, ◌⊎◌, List, [], ◌∷◌, ◌++◌, true, false, Some, None, Err, IsUtf8}
+use Rattle.std.specs.Prelude.{length}
 use Rattle.fish_lang.specs.Language.{IsOutcome}
 use Rattle.fish_lang.specs.declared.parse.LangRefusal.{LangRefusal}
 use Rattle.fish_script.specs.Limits.{longest_script, most_feeds, most_lanes}
@@ -56,7 +57,8 @@ IsLaneTooMany p l = ⊥
 -- the line n, which says this at this place, is refused for this
 abbrev pub IsFault : Place → Saying → ℕ → ScriptRefusal → Type 0
 IsFault p l n (refusal.Unexpected line) = (line ≡ n) × IsMisplaced p l
-IsFault p (said.States w) n (refusal.Definition line why) = (line ≡ n) × (¬ IsMisplaced p (said.States w)) × HasFault w why
+IsFault p (said.States w) n (refusal.Definition line why) =
+    (line ≡ n) × (¬ IsMisplaced p (said.States w)) × HasFault w why
 IsFault p (said.States w) n (refusal.ControlInLane line) =
     (line ≡ n) × (¬ IsMisplaced p (said.States w)) × (s : Statement) × Reads w s × IsLate p s
 IsFault p (said.States w) n (refusal.TooManyFeeds line) =

@@ -76,7 +76,8 @@ feeds_of (ss ∷ lanes) = count_by is_feed ss + feeds_of lanes
 abbrev pub AreLanes : List Saying → List (List Statement) → Type 0
 AreLanes ws [] = ws ≡ []
 AreLanes ws (ss ∷ lanes) =
-    (own : List Saying) × (others : List Saying) × (ws ≡ said.Lane ∷ (own ++ others)) × AreRead own ss × AreLanes others lanes
+    (own : List Saying) × (others : List Saying) × (ws ≡ said.Lane ∷ (own ++ others))
+    × AreRead own ss × AreLanes others lanes
 
 -- the lines are `lanes`, those of the lanes, and `end`
 pub record IsSeveral (ws : List Saying) (lanes : List (List Statement)) : Type 0 where
@@ -107,4 +108,5 @@ IsBlock ws false lanes = IsAlone ws lanes
 abbrev pub AreBlocks : List Saying → List Block → Type 0
 AreBlocks ws [] = ws ≡ []
 AreBlocks ws (b ∷ bs) =
-    (own : List Saying) × (others : List Saying) × (ws ≡ own ++ others) × IsBlock own b.several b.lanes × AreBlocks others bs
+    (own : List Saying) × (others : List Saying) × (ws ≡ own ++ others)
+    × IsBlock own b.several b.lanes × AreBlocks others bs

@@ -1,5 +1,6 @@
 -- What one line says, as far as it needs no other line: one equation a rule.
-use Rattle.std.specs.Prelude.{ℕ, ℤ, pos, negsuc, ◌&&◌, ◌||◌, ◌==◌, List, Bool, true, false, not, nat_le, nat_lt, Option, Some, None}
+use Rattle.std.specs.Prelude.{ℕ, ℤ, pos, negsuc, ◌&&◌, ◌||◌, ◌==◌, List, Bool, true, false, not, nat_le, nat_lt, Option}
+use Rattle.std.specs.Prelude.{Some, None}
 use Rattle.std.specs.Prelude.{option_map, option_and_then, length, slice_index, codes, if◌then◌else◌}
 use Rattle.std.specs.Char.{is_ascii_alphanumeric, is_ascii_digit}
 use Rattle.std.specs.List.{list_all}
@@ -30,7 +31,9 @@ is_name_byte c = is_ascii_alphanumeric c || (c == 95)
 
 -- a word can be a name: 1 to 32 such bytes, the first of them no digit
 unfoldable pub is_name : List ℕ → Bool
-is_name w = nat_lt 0 (length w) && nat_le (length w) longest_name && list_all is_name_byte w && not (is_ascii_digit (slice_index w 0))
+is_name w =
+    nat_lt 0 (length w) && nat_le (length w) longest_name && list_all is_name_byte w
+    && not (is_ascii_digit (slice_index w 0))
 
 -- a byte that can stand in a bare word: graphic ASCII but the quotation mark and the number sign
 abbrev pub is_bare_byte : ℕ → Bool
@@ -109,7 +112,8 @@ register_of b =
 
 -- `NAME`
 unfoldable pub deregister_of : List ℕ → Option Wording
-deregister_of b = if is_name (word_of b) && list_all is_blank (words_behind b) then Some (does.Deregister (word_of b)) else None
+deregister_of b =
+    if is_name (word_of b) && list_all is_blank (words_behind b) then Some (does.Deregister (word_of b)) else None
 
 -- `FILE`
 unfoldable pub json_of : List ℕ → Option Wording

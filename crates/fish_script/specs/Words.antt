@@ -21,7 +21,8 @@ abbrev pub run_length : List ℕ → ℕ
 run_length [] = 0
 run_length (c ∷ b) = if is_blank c then 0 else suc (run_length b)
 
--- how many bytes the word at the front has: up to the next blank, or to the next one behind the string that begins there
+-- how many bytes the word at the front has: up to the next blank, or to the next one behind the string that begins
+-- there
 unfoldable pub word_size : List ℕ → ℕ
 word_size [] = 0
 word_size (c ∷ b) =

@@ -4,6 +4,7 @@
 #![tactic(auto)]
 
 mod draft;
+mod law;
 mod line;
 mod parse;
 mod refusal;
@@ -11,6 +12,7 @@ mod script;
 mod word;
 mod wording;
 
+pub use law::law_one_outcome;
 pub use parse::parse_script;
 pub use refusal::ScriptRefusal;
 pub use script::{

@@ -4,7 +4,8 @@
 ghost use Rattle.std.specs.Prelude.{◌≡◌, ◌≤◌, false, length, drop};
 ghost use Rattle.std.specs.List.{list_all};
 ghost use Rattle.fish_lang.specs.Token.{is_blank, string_length};
-ghost use Rattle.fish_script.specs.Words.{is_comment, is_skipped, run_length, unblank, word_of, word_size, words_behind};
+ghost use Rattle.fish_script.specs.Words.{is_comment, is_skipped, run_length, unblank, word_of, word_size};
+ghost use Rattle.fish_script.specs.Words.{words_behind};
 
 /// The first word of a line, and what stands behind it. The word is empty where there is none.
 #[tactic(auto, unfolding(crate::specs::Words::word_of, crate::specs::Words::words_behind))]

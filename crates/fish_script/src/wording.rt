@@ -3,8 +3,10 @@
 ghost use Rattle.std.specs.Prelude.{◌≡◌, true, IfOk, option_map};
 ghost use Rattle.std.specs.List.{list_all};
 ghost use Rattle.fish_value.specs.ValueText.{is_quoted};
-ghost use Rattle.fish_script.specs.Wording.{by_of, csv_of, deregister_of, file_of, ingest_of, is_bare_byte, is_bare_word, is_name};
-ghost use Rattle.fish_script.specs.Wording.{is_name_byte, json_of, limit_of, look_of, mark, number_of, range_of, register_of, saying_of, way_of, wording_of};
+ghost use Rattle.fish_script.specs.Wording.{by_of, csv_of, deregister_of, file_of, ingest_of, is_bare_byte};
+ghost use Rattle.fish_script.specs.Wording.{is_bare_word, is_name};
+ghost use Rattle.fish_script.specs.Wording.{is_name_byte, json_of, limit_of, look_of, mark, number_of, range_of};
+ghost use Rattle.fish_script.specs.Wording.{register_of, saying_of, way_of, wording_of};
 
 use crate::script::{By, MAX_NUMBER};
 use crate::word::{first_word, is_end, unblank};

@@ -1,6 +1,5 @@
 -- One piece more.
-use Rattle.std.proofs.Common.{sym, subst, arith, ◌∙◌}
-use Rattle.fish_plan.proofs.Building.{IsBuilt, built_next}
+use Rattle.fish_plan.proofs.Building.{built_next}
 use Rattle.fish_plan.proofs.cover.plan.Goals as goal
 
 pub loop-end-preserved : goal.loop-end-preserved

@@ -1,8 +1,7 @@
 -- The end of the interval is taken where it lies between the old one and `end`, and else the old one stays.
-use Rattle.std.proofs.Common.{◌≡◌, ℕ, ◌-◌, ◌<◌, ◌≤◌, Some, None, inr, sym, ◌∙◌, arith}
+use Rattle.std.proofs.Common.{◌≡◌, ◌-◌, Some, None, inr, sym, ◌∙◌, arith}
 use Rattle.std.proofs.lemmas.Option.{same_Some}
 use Rattle.fish_plan.proofs.Walks.{below_some, low_kept, low_more, some_above}
-use Rattle.fish_plan.specs.Intervals.{Holds}
 use Rattle.fish_plan.proofs.lookup.raised.Goals as goal
 
 pub returns-in-Some : goal.returns-in-Some

@@ -1,6 +1,6 @@
 -- The block ends.
-use Rattle.std.proofs.Common.{◌≡◌, subst, arith}
-use Rattle.fish_script.proofs.Writing.{takes_end}
+use Rattle.std.proofs.Common.{arith}
+use Rattle.fish_script.proofs.Steps.{takes_end}
 use Rattle.fish_script.proofs.draft.Draft.end_block.Goals as goal
 
 pub returns-in_ok-close_block-in-Inside-clause-taken : goal.returns-in_ok-close_block-in-Inside-clause-taken

@@ -1,6 +1,6 @@
 -- The first lane of a block, or a later one.
 use Rattle.std.proofs.Common.{◌≡◌, ◌+◌, ℕ, refl, subst, arith}
-use Rattle.fish_script.proofs.Writing.{takes_first, takes_next}
+use Rattle.fish_script.proofs.Steps.{takes_first, takes_next}
 use Rattle.fish_script.specs.declared.draft.Place.TheVariants.{Inside}
 use Rattle.fish_script.proofs.draft.Draft.next_lane.Goals as goal
 

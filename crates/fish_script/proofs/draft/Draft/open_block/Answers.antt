@@ -1,5 +1,5 @@
 -- A block begins.
-use Rattle.fish_script.proofs.Writing.{takes_lanes}
+use Rattle.fish_script.proofs.Steps.{takes_lanes}
 use Rattle.fish_script.proofs.draft.Draft.open_block.Goals as goal
 
 pub returns-in-Outside-clause-taken : goal.returns-in-Outside-clause-taken

@@ -1,7 +1,7 @@
 -- One statement more.
 use Rattle.std.proofs.Common.{◌≡◌}
 use Rattle.std.specs.Prelude.{true}
-use Rattle.fish_script.proofs.Writing.{takes_statement}
+use Rattle.fish_script.proofs.Steps.{takes_statement}
 use Rattle.fish_script.proofs.draft.Draft.take_statement.Goals as goal
 
 pub returns-clause-taken : goal.returns-clause-taken
