@@ -33,9 +33,13 @@ mod outside;
 #[cfg(test)]
 mod payloads;
 #[cfg(test)]
+mod plans;
+#[cfg(test)]
 mod queries;
 #[cfg(test)]
 mod reports;
+#[cfg(test)]
+mod scripts;
 #[cfg(test)]
 mod selection;
 #[cfg(test)]
