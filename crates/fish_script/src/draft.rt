@@ -216,10 +216,8 @@ impl Draft {
     fn push_alone(&mut self, statement: Statement) -> Result<(), AllocError>
         ensures { OnOk result (Pushes Outside statement self.old self.new) }
     {
-        let mut lane = Statements::new(self.alloc);
-        lane.push(statement)?;
-        let mut lanes = LaneTexts::new(self.alloc);
-        lanes.push(lane)?;
+        let lane = Statements::one(self.alloc, statement)?;
+        let lanes = LaneTexts::one(self.alloc, lane)?;
         self.blocks.push(Block {
             several: false,
             lanes,

@@ -4,6 +4,7 @@
 #![tactic(auto)]
 
 mod draft;
+mod few;
 mod law;
 mod line;
 mod parse;
@@ -12,6 +13,7 @@ mod script;
 mod word;
 mod wording;
 
+pub use few::Few;
 pub use law::law_one_outcome;
 pub use parse::parse_script;
 pub use refusal::ScriptRefusal;

@@ -1,5 +1,6 @@
 //! What a script says.
 
+use crate::few::Few;
 use fish_lang::Def;
 use fish_value::{Form, Sequence, Text, Value};
 
@@ -66,10 +67,10 @@ pub enum Statement {
 }
 
 /// The statements of a lane, in order.
-pub type Statements = Sequence<Statement>;
+pub type Statements = Few<Statement>;
 
 /// The lanes of a block, in order.
-pub type LaneTexts = Sequence<Statements>;
+pub type LaneTexts = Few<Statements>;
 
 /// Statements that are run together.
 #[derive(Drop)]
