@@ -97,9 +97,9 @@ range_of b =
 unfoldable pub look_of : List ℕ → Option Look
 look_of b =
     if is_name (word_of b) && bytes_eq (word_of (words_behind b)) (codes "=")
-    then option_and_then (λ (v : Value).
-    option_map (λ (r : Range). record { name = word_of b; value = v; range = r })
-    (range_of (words_behind (words_behind (words_behind b))))) (value_text (word_of (words_behind (words_behind b))))
+    then option_and_then (λ (r : Range).
+    option_map (λ (v : Value). record { name = word_of b; value = v; range = r })
+    (value_text (word_of (words_behind (words_behind b))))) (range_of (words_behind (words_behind (words_behind b))))
     else None
 
 -- ---- statements, by what stands behind the first word
@@ -135,15 +135,19 @@ ingest_of b =
     if bytes_eq (word_of b) (codes "json") then json_of (words_behind b) else (
     if bytes_eq (word_of b) (codes "csv") then csv_of (words_behind b) else None)
 
+-- `checkpoint`, or what asks for records
+unfoldable pub question_of : List ℕ → List ℕ → Option Wording
+question_of w behind =
+    if bytes_eq w (codes "checkpoint") && list_all is_blank behind then Some does.Checkpoint else (
+    if bytes_eq w (codes "scan") then option_map (λ (l : Look). does.Scan l) (look_of behind) else (
+    if bytes_eq w (codes "explain") then option_map (λ (l : Look). does.Explain l) (look_of behind) else None))
+
 -- the statement of a line, by its first word and what stands behind it, or none where it is none
 unfoldable pub wording_of : List ℕ → List ℕ → Option Wording
 wording_of w behind =
     if bytes_eq w (codes "register") then register_of behind else (
     if bytes_eq w (codes "deregister") then deregister_of behind else (
-    if bytes_eq w (codes "ingest") then ingest_of behind else (
-    if bytes_eq w (codes "scan") then option_map (λ (l : Look). does.Scan l) (look_of behind) else (
-    if bytes_eq w (codes "explain") then option_map (λ (l : Look). does.Explain l) (look_of behind) else (
-    if bytes_eq w (codes "checkpoint") && list_all is_blank behind then Some does.Checkpoint else None)))))
+    if bytes_eq w (codes "ingest") then ingest_of behind else question_of w behind))
 
 -- `lanes`, `lane` or `end`
 unfoldable pub mark : List ℕ → Option Saying

@@ -7,6 +7,7 @@ mod draft;
 mod few;
 mod law;
 mod line;
+mod name;
 mod parse;
 mod refusal;
 mod script;

@@ -17,7 +17,7 @@ pub const MAX_FEEDS: usize = 256;
 pub const MAX_NUMBER: u32 = 268_435_456;
 
 /// Whether the index is used.
-#[derive(Clone, Copy, Debug, PartialEq, Eq)]
+#[derive(Clone, Copy)]
 pub enum By {
     /// Where it holds, and else every record is looked at.
     Auto,

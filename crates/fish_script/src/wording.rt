@@ -1,20 +1,14 @@
 //! What one line of a script says, as far as it needs no other line. A definition is not read yet.
 
-ghost use Rattle.std.specs.Prelude.{◌≡◌, true, IfOk, option_map};
-ghost use Rattle.std.specs.List.{list_all};
-ghost use Rattle.fish_value.specs.ValueText.{is_quoted};
-ghost use Rattle.fish_script.specs.Wording.{by_of, csv_of, deregister_of, file_of, ingest_of, is_bare_byte};
-ghost use Rattle.fish_script.specs.Wording.{is_bare_word, is_name};
-ghost use Rattle.fish_script.specs.Wording.{is_name_byte, json_of, limit_of, look_of, mark, number_of, range_of};
-ghost use Rattle.fish_script.specs.Wording.{register_of, saying_of, way_of, wording_of};
+ghost use Rattle.std.specs.Prelude.{◌≡◌, IfOk, option_map};
+ghost use Rattle.fish_script.specs.Wording.{by_of, csv_of, deregister_of, ingest_of, json_of, limit_of, look_of, mark};
+ghost use Rattle.fish_script.specs.Wording.{number_of, question_of, range_of, register_of, saying_of, way_of, wording_of};
 
+use crate::name::{is_name, name_text, read_file};
 use crate::script::{By, MAX_NUMBER};
 use crate::word::{first_word, is_end, unblank};
-use fish_value::{Bytes, Form, Text, Value, read_int, read_json, read_value};
+use fish_value::{Bytes, Form, Text, Value, read_int, read_value};
 use std::alloc::{AllocError, Global};
-
-/// The most bytes of a name.
-const MAX_NAME: usize = 32;
 
 /// What a line says.
 #[derive(Drop)]
@@ -116,18 +110,29 @@ fn read_wording(alloc: Global, word: &[u8], behind: &[u8]) -> Result<Option<Word
     if word == b"ingest".as_slice() {
         return read_ingest(alloc, behind);
     }
-    if word == b"scan".as_slice() {
-        let look = read_look(alloc, behind)?;
-        return Ok(look.map(|look| Wording::Scan { look }));
-    }
-    if word == b"explain".as_slice() {
-        let look = read_look(alloc, behind)?;
-        return Ok(look.map(|look| Wording::Explain { look }));
-    }
+    read_question(alloc, word, behind)
+}
+
+/// A statement that changes no definition and stores no record.
+#[tactic(auto, unfolding(crate::specs::Wording::question_of))]
+fn read_question(alloc: Global, word: &[u8], behind: &[u8]) -> Result<Option<Wording>, AllocError>
+    ensures { IfOk result (λ said. said ≡ question_of word.now behind.now) }
+{
     if word == b"checkpoint".as_slice() && is_end(behind) {
         return Ok(Some(Wording::Checkpoint));
     }
-    Ok(None)
+    let scans = word == b"scan".as_slice();
+    if !scans && word != b"explain".as_slice() {
+        return Ok(None);
+    }
+    let look = read_look(alloc, behind)?;
+    Ok(look.map(|look| {
+        if scans {
+            Wording::Scan { look }
+        } else {
+            Wording::Explain { look }
+        }
+    }))
 }
 
 /// `NAME as DEF`
@@ -222,17 +227,17 @@ fn read_look(alloc: Global, b: &[u8]) -> Result<Option<Look>, AllocError>
         return Ok(None);
     }
     let (word, rest) = first_word(right);
-    let Some(value) = read_value(alloc, word)? else {
-        return Ok(None);
-    };
     let Some(range) = read_range(rest) else {
         return Ok(None);
     };
-    Ok(Some(Look {
-        name: name_text(alloc, name)?,
-        value,
-        range,
-    }))
+    let name = name_text(alloc, name)?;
+    match read_value(alloc, word) {
+        Ok(value) => Ok(value.map(|value| Look { name, value, range })),
+        Err(error) => {
+            drop(name);
+            Err(error)
+        }
+    }
 }
 
 /// `[from N] [to N] [by HOW]`
@@ -303,97 +308,4 @@ fn read_way(word: &[u8]) -> Option<By>
         return Some(By::Auto);
     }
     None
-}
-
-/// The file that a word names: a bare word, or a JSON string that isn't empty.
-#[tactic(auto, unfolding(crate::specs::Wording::file_of))]
-fn read_file(alloc: Global, word: &[u8]) -> Result<Option<Text>, AllocError>
-    ensures { IfOk result (λ file. file ≡ file_of word.now) }
-{
-    if is_bare_word(word) {
-        return Ok(Some(bare_text(alloc, word)?));
-    }
-    if !is_quoted(word) {
-        return Ok(None);
-    }
-    match read_json(alloc, word)? {
-        Some(serde_json::Value::String(s)) => {
-            if s.is_empty() {
-                Ok(None)
-            } else {
-                Ok(Some(Text::from_string(s)))
-            }
-        }
-        _ => Ok(None),
-    }
-}
-
-/// Whether a word begins and ends with a quotation mark.
-fn is_quoted(w: &[u8]) -> bool
-    ensures { result ≡ is_quoted w.now }
-{
-    w.len() > 1 && w[0] == b'"' && w[w.len() - 1] == b'"'
-}
-
-/// Whether a word can be a name.
-#[tactic(auto, unfolding(crate::specs::Wording::is_name))]
-fn is_name(w: &[u8]) -> bool
-    ensures { result ≡ is_name w.now }
-{
-    !w.is_empty() && w.len() <= MAX_NAME && has_name_bytes(w) && !w[0].is_ascii_digit()
-}
-
-fn has_name_bytes(w: &[u8]) -> bool
-    ensures { result ≡ list_all is_name_byte w.now }
-{
-    w.iter().all(|c| is_name_byte(*c))
-}
-
-fn is_name_byte(c: u8) -> bool
-    ensures { result ≡ is_name_byte c }
-{
-    c.is_ascii_alphanumeric() || c == b'_'
-}
-
-/// Whether a word can name a file as it stands: graphic ASCII but `"` and `#`.
-fn is_bare_word(w: &[u8]) -> bool
-    ensures { result ≡ is_bare_word w.now }
-{
-    !w.is_empty() && has_bare_bytes(w)
-}
-
-fn has_bare_bytes(w: &[u8]) -> bool
-    ensures { result ≡ list_all is_bare_byte w.now }
-{
-    w.iter().all(|c| is_bare_byte(*c))
-}
-
-fn is_bare_byte(c: u8) -> bool
-    ensures { result ≡ is_bare_byte c }
-{
-    0x21 <= c && c <= 0x7e && c != b'"' && c != b'#'
-}
-
-/// The text of a name.
-fn name_text(alloc: Global, w: &[u8]) -> Result<Text, AllocError>
-    requires { is_name w.now ≡ true }
-    ensures { IfOk result (λ text. text ≡ w.now) }
-{
-    match Text::from_bytes(alloc, w)? {
-        Some(text) => Ok(text),
-        // Its bytes are ASCII.
-        None => unreachable!(),
-    }
-}
-
-/// The text of a bare word.
-fn bare_text(alloc: Global, w: &[u8]) -> Result<Text, AllocError>
-    requires { is_bare_word w.now ≡ true }
-    ensures { IfOk result (λ text. text ≡ w.now) }
-{
-    match Text::from_bytes(alloc, w)? {
-        Some(text) => Ok(text),
-        // Its bytes are ASCII.
-        None => unreachable!(),
-    }
 }

@@ -2,7 +2,7 @@
 use Rattle.std.proofs.Common.{◌≡◌}
 use Rattle.std.specs.Prelude.{true, false, IsSome, ◌↔◌, IsUtf8}
 use Rattle.fish_script.proofs.Ascii.{IsUtf8-bare}
-use Rattle.fish_script.proofs.wording.bare_text.Goals as goal
+use Rattle.fish_script.proofs.name.bare_text.Goals as goal
 
 pub unreachable-requires : goal.unreachable-requires
 unreachable-requires c =
