@@ -1,18 +1,19 @@
 -- Index pieces lie in their intervals, and hold what intervals hold.
-use Rattle.std.proofs.Common.{◌≡◌, ℕ, zero, suc, ◌-◌, ◌<◌, ◌≤◌, List, [], ◌∷◌, Option, Some, None, slice_get, sym, ap}
+use Rattle.std.proofs.Common.{rules, ◌≡◌, ℕ, zero, suc, ◌-◌, ◌<◌, ◌≤◌, List, [], ◌∷◌, Option, Some, None, slice_get, sym, ap}
 use Rattle.std.proofs.Common.{subst, ◌∙◌, arith}
 use Rattle.std.proofs.Math.Decide.{dec_lt}
 use Rattle.std.proofs.lemmas.Option.{same_Some}
 use Rattle.fish_catalog.specs.declared.interval.Interval.{Interval}
 use Rattle.fish_plan.proofs.Unique.{fill_order}
 use Rattle.fish_plan.specs.Cover.{IsCover, IsIndexed, cut}
+use Rattle.fish_plan.specs.Laws.{FullIsPlan}
 use Rattle.fish_plan.specs.Intervals.{Holds, IsBelowEnd, IsHeld}
 use Rattle.fish_plan.specs.Pieces.{Fill, IsIn, piece_from, piece_to}
 use Rattle.fish_plan.specs.declared.pieces.Piece.{Piece}
 use Rattle.fish_plan.specs.declared.pieces.Piece.TheVariants.{Index, Full}
 
 -- a piece lies in the range that all fill, and isn't empty
-piece_within : (ps : List Piece) (from to k : ℕ) (x : Piece) → Fill ps from to → slice_get ps k ≡ Some x
+pub piece_within : (ps : List Piece) (from to k : ℕ) (x : Piece) → Fill ps from to → slice_get ps k ≡ Some x
     → (from ≤ piece_from x) × (piece_from x < piece_to x) × (piece_to x ≤ to)
 piece_within [] from to k x h there = absurd cc
 piece_within (y ∷ ps) from to zero x h there =
@@ -20,6 +21,17 @@ piece_within (y ∷ ps) from to zero x h there =
     (fill_order ps from (piece_from y) h.2, omega (arith, h.0, h.1), omega (arith, h.0))
 piece_within (y ∷ ps) from to (suc k) x h there =
     let i = piece_within ps from (piece_from y) k x h.2 there in (i.0, i.1, omega (arith, i.2, h.1))
+
+-- a later piece lies below an earlier one
+pub pieces_fall : (ps : List Piece) (from to j k : ℕ) (x y : Piece) → Fill ps from to → slice_get ps j ≡ Some x
+    → slice_get ps k ≡ Some y → j < k → piece_to y ≤ piece_from x
+pieces_fall [] from to j k x y h at_j at_k less = absurd cc
+pieces_fall (z ∷ ps) from to j zero x y h at_j at_k less = absurd (omega arith)
+pieces_fall (z ∷ ps) from to zero (suc k) x y h at_j at_k less =
+    let e : piece_from z ≡ piece_from x = ap piece_from (same_Some z x at_j) in
+    omega (arith, (piece_within ps from (piece_from z) k y h.2 at_k).2)
+pieces_fall (z ∷ ps) from to (suc j) (suc k) x y h at_j at_k less =
+    pieces_fall ps from (piece_from z) j k x y h.2 at_j at_k (omega arith)
 
 -- below the last number of an interval it isn't at its end
 below_before : (n m : ℕ) (end : Option ℕ) → m ≤ n → IsBelowEnd n end → IsBelowEnd m end
@@ -75,3 +87,7 @@ held_is_indexed ps from settled to xs h n k below held is = kind is.piece is.the
           beyond ps from settled to n k p q h.fill
           (subst (λ (s : ℕ). slice_get ps 0 ≡ Some (Full s to)) at (h.unsettled (omega (arith, at)))) there begins below above)
     ])
+
+-- where nothing is settled, the plan is one full piece
+pub full_is_plan : FullIsPlan
+full_is_plan from to xs h = search rules
