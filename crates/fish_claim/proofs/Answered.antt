@@ -41,6 +41,7 @@ learns_count v u count about learned more =
       gaps = λ x m. m;
       labels = λ x m. m;
       unended = λ x m. m;
+      opens = λ x m. m;
     })
 
 -- what a view knew is known where the table and what was learned are the same
@@ -81,6 +82,7 @@ publish_learns v f = record {
   gaps = λ x m. m;
   labels = λ x m. m;
   unended = λ x m. m;
+  opens = λ x m. m;
 }
 
 -- the claim placed no record: the pass has nothing in flight, is shut by this or not, and else is as it was, but for

@@ -64,6 +64,7 @@ reads_word v u p x e = subst (OnlyReads v) (sym e) (record {
       gaps = λ y m. m;
       labels = λ y m. m;
       unended = λ y m. m;
+      opens = λ y m. m;
     };
     clock = later_ticked v.clock;
     frame = refl;

@@ -58,6 +58,7 @@ learns_version v u version about learned later =
       gaps = λ y m. m;
       labels = λ y m. m;
       unended = λ y m. m;
+      opens = λ y m. m;
     })
 
 -- a load of the version keeps to the view, where the version has risen

@@ -42,8 +42,8 @@ bound_at v u z w x from h is same more stored =
     let last : View = after_from (after_bound v h.round x) o from in
     let clock : z.clock ≡ last.clock = ap (λ (y : View). y.clock) whole in
     record {
-      changes = changes_from v z v.rows last.draft None last.tail (high x) v.learned.version last.clock whole
-          (omega arith) (omega arith)
+      changes = changes_from v z v.rows last.draft None last.tail (high x) v.learned.version v.learned.opens last.clock
+          whole (omega arith) (omega arith) (λ o m. m)
           (later_both v.clock _ last.clock (later_noted v.clock Tail x)
           (later_ticked (Rattle.fish_rule.specs.Steps.noted v.clock Tail x))) refl;
       counted = record {

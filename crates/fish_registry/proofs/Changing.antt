@@ -1,5 +1,5 @@
 -- Views that go on as the control pass changes the registry.
-use Rattle.std.proofs.Common.{◌≡◌, ℕ, ◌≤◌, List, Option, Some, refl, sym, ap, ◌∙◌, subst, arith}
+use Rattle.std.proofs.Common.{◌≡◌, ℕ, ◌≤◌, List, [], ◌∷◌, inr, Option, Some, refl, sym, ap, ◌∙◌, subst, arith}
 use Rattle.fish_catalog.specs.declared.listed.Listed.{Listed}
 use Rattle.fish_registry.specs.Changing.{Changes, HasCounted, Stays}
 use Rattle.fish_registry.specs.Looking.{Looks}
@@ -9,11 +9,14 @@ use Rattle.fish_rule.specs.Entering.{after_version}
 use Rattle.fish_rule.specs.Epochs.{confirmed}
 use Rattle.fish_rule.specs.Logs.{Learns}
 use Rattle.fish_rule.specs.Reading.{after_end}
+use Rattle.fish_rule.specs.Steps.{noted}
+use Rattle.fish_rule.specs.Views.{Among}
 use Rattle.fish_rule.specs.World.{high, low}
 use Rattle.fish_rule.specs.declared.view.Clock.{Clock}
 use Rattle.fish_rule.specs.declared.view.Epoch.{Epoch}
 use Rattle.fish_rule.specs.declared.view.Epoch.TheVariants.{Out}
 use Rattle.fish_rule.specs.declared.view.Noted.TheVariants.{Tail, Version}
+use Rattle.fish_rule.specs.declared.view.Opens.{Opens}
 use Rattle.fish_rule.specs.declared.view.Position.{Position}
 use Rattle.fish_rule.specs.declared.view.RegistryWord.{RegistryWord}
 use Rattle.fish_rule.specs.declared.view.Round.{Round}
@@ -21,16 +24,16 @@ use Rattle.fish_rule.specs.declared.view.View.{View}
 
 -- a view that is another one but for these changes it
 pub changes_from : (v u : View) (rows : List Listed) (draft : List RegistryWord) (round : Option Round)
-    (tail : Option Position) (count version : ℕ) (clock : Clock) → u ≡ record v {
+    (tail : Option Position) (count version : ℕ) (opens : List Opens) (clock : Clock) → u ≡ record v {
       rows = rows;
       draft = draft;
       round = round;
       tail = tail;
-      learned = record v.learned { count = count; version = version };
+      learned = record v.learned { count = count; version = version; opens = opens };
       clock = clock;
-    } → v.learned.count ≤ count → v.learned.version ≤ version → IsLater v.clock clock → clock.loads ≡ v.clock.loads
-    → Changes v u
-changes_from v u rows draft round tail count version clock is counted reached later loads =
+    } → v.learned.count ≤ count → v.learned.version ≤ version → ((o : Opens) → Among o v.learned.opens → Among o opens)
+    → IsLater v.clock clock → clock.loads ≡ v.clock.loads → Changes v u
+changes_from v u rows draft round tail count version opens clock is counted reached more later loads =
     let many : u.learned.count ≡ count = ap (λ (z : View). z.learned.count) is in
     let made : u.learned.version ≡ version = ap (λ (z : View). z.learned.version) is in
     let clock_is : u.clock ≡ clock = ap (λ (z : View). z.clock) is in
@@ -43,30 +46,32 @@ changes_from v u rows draft round tail count version clock is counted reached la
         learned = record v.learned {
           count = ap (λ (z : View). z.learned.count) (sym is) i;
           version = ap (λ (z : View). z.learned.version) (sym is) i;
+          opens = ap (λ (z : View). z.learned.opens) (sym is) i;
         };
         clock = ap (λ (z : View). z.clock) (sym is) i;
       });
       count = omega arith;
       version = omega arith;
+      opens = λ o m. subst (λ (z : List Opens). Among o z) (sym (ap (λ (z : View). z.learned.opens) is)) (more o m);
       clock = subst (IsLater v.clock) (sym clock_is) later;
       loads = ap (λ (z : Clock). z.loads) clock_is ∙ loads;
     }
 
 -- and so does one that is another one but for its clock
 pub changes_stays : (v u : View) → Stays v u → Changes v u
-changes_stays v u h = changes_from v u v.rows v.draft v.round v.tail v.learned.count v.learned.version u.clock h.frame
-    (omega arith) (omega arith) h.clock h.loads
+changes_stays v u h = changes_from v u v.rows v.draft v.round v.tail v.learned.count v.learned.version v.learned.opens
+    u.clock h.frame (omega arith) (omega arith) (λ o m. m) h.clock h.loads
 
 -- or for the lanes that were looked at
 pub changes_looks : (v u : View) → Looks v u → Changes v u
-changes_looks v u h = changes_from v u v.rows v.draft u.round v.tail v.learned.count v.learned.version u.clock h.frame
-    (omega arith) (omega arith) h.clock h.loads
+changes_looks v u h = changes_from v u v.rows v.draft u.round v.tail v.learned.count v.learned.version v.learned.opens
+    u.clock h.frame (omega arith) (omega arith) (λ o m. m) h.clock h.loads
 
 -- a load of the tail changes a view
 pub changes_end : (v u : View) (x : ℕ) → u ≡ after_end v x → v.learned.count ≤ high x → Changes v u
 changes_end v u x is more = changes_from v u v.rows v.draft v.round (Some (record { number = high x; line = low x }))
-    (high x) v.learned.version (Rattle.fish_rule.specs.Steps.noted v.clock Tail x) is more (omega arith)
-    (later_noted v.clock Tail x) refl
+    (high x) v.learned.version (record { count = high x; numbers = [] } ∷ v.learned.opens) (noted v.clock Tail x) is more
+    (omega arith) (λ o m. inr m) (later_noted v.clock Tail x) refl
 
 -- one change behind another
 pub changes_both : (a b c : View) → Changes a b → Changes b c → Changes a c
@@ -81,11 +86,12 @@ changes_both a b c e f =
         draft = c.draft;
         round = c.round;
         tail = c.tail;
-        learned = record z.learned { count = c.learned.count; version = c.learned.version };
+        learned = record z.learned { count = c.learned.count; version = c.learned.version; opens = c.learned.opens };
         clock = c.clock;
       }) e.frame;
       count = omega arith;
       version = omega arith;
+      opens = λ o m. f.opens o (e.opens o m);
       clock = later_both a.clock b.clock c.clock e.clock f.clock;
       loads = f.loads ∙ e.loads;
     }
@@ -111,6 +117,7 @@ learns_changes v u h =
       gaps = λ x m. m;
       labels = λ x m. m;
       unended = λ x m. m;
+      opens = h.opens;
     })
 
 -- a view stays itself

@@ -151,14 +151,15 @@ module _ (v : View) (row : CatRow) (version id : ℕ) (u : View) (is : IsDrafted
       let u' : View = after_bump behind in
       let h = is.drafted in
       record {
-        changes = changes_from v u' u'.rows u'.draft u'.round v.tail v.learned.count (suc v.learned.version) u'.clock
+        changes = changes_from v u' u'.rows u'.draft u'.round v.tail v.learned.count (suc v.learned.version)
+            v.learned.opens u'.clock
             (ap (λ (z : View). record z {
               rows = u'.rows;
               draft = u'.draft;
               round = u'.round;
               learned = record z.learned { version = suc z.learned.version };
               clock = u'.clock;
-            }) only) (omega arith) (omega arith)
+            }) only) (omega arith) (omega arith) (λ o m. m)
             (later_both v.clock u.clock u'.clock h.clock
             (later_both u.clock behind.clock u'.clock (later_ticked u.clock) (later_ticked behind.clock))) h.loads;
         rows = ap (made (drafted behind.draft) (next_operation behind)) same_rows ∙ made_rows;

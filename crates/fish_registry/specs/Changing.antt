@@ -1,8 +1,10 @@
 -- How the control pass goes on in a call that changes the registry.
 use Rattle.std.specs.Prelude.{ℕ, ◌≡◌, ◌≤◌}
 use Rattle.fish_rule.specs.Clocks.{HasLoaded, IsLater}
+use Rattle.fish_rule.specs.Views.{Among}
 use Rattle.fish_rule.specs.World.{high}
 use Rattle.fish_rule.specs.declared.view.Noted.TheVariants.{Tail}
+use Rattle.fish_rule.specs.declared.view.Opens.{Opens}
 use Rattle.fish_rule.specs.declared.view.View.{View}
 
 -- the second view is the first but for what the control pass knows of the registry and of the tail; no word of the log
@@ -13,11 +15,12 @@ pub record Changes (v u : View) : Type 0 where
     draft = u.draft;
     round = u.round;
     tail = u.tail;
-    learned = record v.learned { count = u.learned.count; version = u.learned.version };
+    learned = record v.learned { count = u.learned.count; version = u.learned.version; opens = u.learned.opens };
     clock = u.clock;
   }
   pub count : v.learned.count ≤ u.learned.count
   pub version : v.learned.version ≤ u.learned.version
+  pub opens : (o : Opens) → Among o v.learned.opens → Among o u.learned.opens
   pub clock : IsLater v.clock u.clock
   pub loads : u.clock.loads ≡ v.clock.loads
 

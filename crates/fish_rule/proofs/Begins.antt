@@ -15,11 +15,11 @@ use Rattle.std.proofs.lemmas.List.{get_or_past}
 use Rattle.fish_rule.specs.Chains.{Chained, IsLinking, IsStoredAt, Linked, LinksAt}
 use Rattle.fish_rule.specs.declared.view.Kind.TheVariants.{Stored}
 use Rattle.fish_rule.specs.Parts.{Fits, Flies, Limit, Regions, Rests, Space, first_head, quotas}
-use Rattle.fish_rule.specs.Facts.{Facts, Owns, ShutOk}
+use Rattle.fish_rule.specs.Facts.{AreOpens, Facts, Owns, ShutOk}
 use Rattle.fish_rule.specs.Rule.{Rule}
 use Rattle.fish_rule.specs.Start.{IsEmpty, IsOpening, empty_world}
 use Rattle.fish_rule.specs.Table.{Ruled, Stands, first_view}
-use Rattle.fish_rule.specs.Views.{Each}
+use Rattle.fish_rule.specs.Views.{AllOf, Each}
 use Rattle.fish_rule.specs.World.{World, area, dir_at, heads_at, high, log_at, log_size, low, registry_size, slots, world}
 use Rattle.fish_rule.specs.declared.view.Key.{Key}
 use Rattle.fish_rule.specs.declared.view.View.{View}
@@ -247,6 +247,7 @@ module _ (k : Key) (g : ℕ → ℕ) (fits : Fits k) (opening_ : IsOpening k.ver
     registry = registry;
     keyed = record { each = λ n above below stored. absurd (none n above below) };
     shuts = each_one (λ v. ShutOk k w.count w.dir start v.shut) (first_view k) tt;
+    opens = each_one (λ v. AllOf (AreOpens k w.count w.dir lane_of) v.learned.opens) (first_view k) tt;
   }
 
 -- the table of an empty log meets the rule

@@ -4,6 +4,7 @@ use mathlib.Core.Option.{none}
 use Rattle.atomic_table.specs.Table.{Allows, step}
 use Rattle.std.proofs.lemmas.Option.{same_Some}
 use Rattle.fish_rule.proofs.Allowed.{allowed, loaded_words, stands, there}
+use Rattle.fish_rule.proofs.Common.{all_among}
 use Rattle.fish_rule.proofs.Checks.{boundaries_last, bounds_last, checks_last}
 use Rattle.fish_rule.proofs.Learns.{end_counted}
 use Rattle.fish_rule.proofs.Registering.{word_at}
@@ -13,7 +14,7 @@ use Rattle.fish_rule.proofs.Worlds.{world-registry}
 use Rattle.fish_rule.specs.Bounding.{CanBound, CanLoadBoundary, CanSetFrom, CanSetTo, IsLane, after_bound, after_boundary}
 use Rattle.fish_rule.specs.Bounding.{after_check, after_from, after_to}
 use Rattle.fish_rule.specs.Epochs.{IsAtMost, epoch_word}
-use Rattle.fish_rule.specs.Registry.{epoch_at, row_at, version_in}
+use Rattle.fish_rule.specs.Registry.{IsRegistered, epoch_at, row_at, version_in}
 use Rattle.fish_rule.specs.Rounds.{Waits}
 use Rattle.fish_rule.specs.Rule.{Rule}
 use Rattle.fish_rule.specs.Table.{Ruled, Sat, Stands, Told}
@@ -145,6 +146,9 @@ boundary_allowed given k same size id me n i p about can is =
         few = small_word x (w.registry (row_at n i)) word (λ y e.
             let most = r.registry.boundaries.claimed n i y can.few can.bound e in
             let numbers = few_numbers k w r in omega arith);
+        known = λ y among same.
+            let read = all_among (IsRegistered k w.registry) y me.0.learned.words (r.registry.each id me.0 at).read among in
+            word ∙ ap w.registry (sym is ∙ sym same) ∙ read.word;
       },
     ))
   where

@@ -101,7 +101,7 @@ module _ (k : Key) (w : World) (r : Rule k w) (id : ℕ) (v : View) (at : get_el
     checks_last =
         let stays = r.registry.each id v at in (
           learns k w r id v at v.learned v.tail checker.round checker.clock (r.tails id v at) (r.facts id v at)
-              (r.floors id v at) (still_chained k w r id v at v.learned v.tail checker.round checker.clock)
+              (r.opens id v at) (r.floors id v at) (still_chained k w r id v at v.learned v.tail checker.round checker.clock)
               (record {
                 tied = stays.tied;
                 from = stays.from;
@@ -156,7 +156,7 @@ module _ (k : Key) (w : World) (r : Rule k w) (id : ℕ) (v : View) (at : get_el
                 records = h.records;
                 gaps = h.gaps;
                 labels = h.labels;
-              }) (r.floors id v at) (record { nodes = still.nodes; lows = still.lows; tops = still.tops })
+              }) (r.opens id v at) (r.floors id v at) (record { nodes = still.nodes; lows = still.lows; tops = still.tops })
               (record {
                 tied = stays.tied;
                 from = stays.from;
@@ -226,7 +226,7 @@ module _ (k : Key) (w : World) (r : Rule k w) (id : ℕ) (v : View) (at : get_el
         let stays = r.registry.each id v at in
         let still = still_chained k w r id v at seer.learned v.tail v.round seer.clock in (
           learns k w r id v at seer.learned v.tail v.round seer.clock (r.tails id v at)
-              (same_facts seer.learned refl) (r.floors id v at)
+              (same_facts seer.learned refl) (r.opens id v at) (r.floors id v at)
               (record { nodes = still.nodes; lows = still.lows; tops = still.tops })
               (record {
                 tied = stays.tied;

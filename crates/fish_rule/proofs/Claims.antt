@@ -15,6 +15,7 @@ use Rattle.fish_rule.proofs.Quotas.{quotas_lower}
 use Rattle.fish_rule.proofs.Worlds.{put-else, put-here}
 use Rattle.fish_rule.specs.Chains.{Chained, LinksAt}
 use Rattle.fish_rule.specs.Parts.{Flies, InFlight, Limit, MayOverflow, Regions, Space, quotas}
+use Rattle.fish_rule.proofs.Unpublished.{opens_later}
 use Rattle.fish_rule.specs.Facts.{Facts, IsStoredBy}
 use Rattle.fish_rule.specs.Rule.{Final, Rule}
 use Rattle.fish_rule.specs.Steps.{CanClaim, after_claim, flight_at}
@@ -468,6 +469,9 @@ module _ (k : Key) (w : World) (r : Rule k w) (id : ℕ) (v : View) (at : get_el
             (λ j u ne at_u. shut_later k w claimed r.start start' r.lane_of lane_of' claim_final u.shut
             (r.shuts j u at_u))
             (shut_later k w claimed r.start start' r.lane_of lane_of' claim_final v.shut (r.shuts id v at));
+        opens = each_set _ w.views id claimer (λ j u ne at_u. opens_later k w claimed r.start start' r.lane_of lane_of'
+            claim_final u.learned.opens (r.opens j u at_u)) (opens_later k w claimed r.start start' r.lane_of lane_of'
+            claim_final v.learned.opens (r.opens id v at));
       }
 
   -- and all that lasts

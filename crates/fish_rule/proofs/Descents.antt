@@ -59,6 +59,7 @@ head_learns v b x clock = record {
   gaps = λ x m. inr m;
   labels = λ x m. m;
   unended = λ x m. m;
+  opens = λ x m. m;
 }
 
 -- so is a first word
@@ -78,6 +79,7 @@ previous_learns v b p x clock = record {
   gaps = λ x m. inr m;
   labels = λ x m. m;
   unended = λ x m. m;
+  opens = λ x m. m;
 }
 
 -- a load of a head extends a view
@@ -108,6 +110,7 @@ extends_node v p x = record {
     gaps = λ x m. m;
     labels = λ x m. inr m;
     unended = λ x m. m;
+    opens = λ x m. m;
   };
   clock = later_loaded v.clock;
   frame = refl;

@@ -319,6 +319,7 @@ extends_raise v m x more = record {
     gaps = λ y a. a;
     labels = λ y a. a;
     unended = λ y a. a;
+    opens = λ y a. a;
   };
   clock = later_ticked v.clock;
   frame = refl;
@@ -362,6 +363,7 @@ learns_version v y more = record {
   gaps = λ x m. m;
   labels = λ x m. m;
   unended = λ x m. m;
+  opens = λ x m. m;
 }
 
 pub to_version : (v u : View) (y : ℕ) → u ≡ after_version v y → v.learned.version ≤ y → Learns v u

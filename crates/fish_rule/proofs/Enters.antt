@@ -420,7 +420,7 @@ module _ (k : Key) (w : World) (r : Rule k w) (id : ℕ) (v : View) (at : get_el
           records = h.records;
           gaps = h.gaps;
           labels = h.labels;
-        }) (r.floors id v at) (record { nodes = still.nodes; lows = still.lows; tops = still.tops })
+        }) (r.opens id v at) (r.floors id v at) (record { nodes = still.nodes; lows = still.lows; tops = still.tops })
         (record {
           tied = stays.tied;
           from = stays.from;

@@ -1,14 +1,17 @@
 -- Views that only learn.
-use Rattle.std.proofs.Common.{◌≡◌, ◌≢◌, ℕ, ◌≤◌, max, zero, suc, List, refl, sym, ap, ◌∙◌, subst, inl, inr, arith}
+use Rattle.std.proofs.Common.{◌≡◌, ◌≢◌, ℕ, ◌<◌, ◌≤◌, max, zero, suc, List, [], ◌∷◌, refl, sym, ap, ◌∙◌, subst, inl, inr, arith}
+use Rattle.std.proofs.Math.Decide.{dec_lt}
+use Rattle.fish_layout.specs.Cleared.{choose}
 use Rattle.fish_rule.proofs.Common.{among_left, among_right}
 use Rattle.fish_rule.proofs.Clocks.{later_both, later_loaded, later_noted, later_self}
 use Rattle.fish_rule.specs.Logs.{Extends, Learns}
 use Rattle.fish_rule.specs.Seating.{join_both}
-use Rattle.fish_rule.specs.Reading.{after_end, after_look, after_read, found_after, kind_told}
+use Rattle.fish_rule.specs.Reading.{after_end, after_look, after_read, found_after, kind_told, opens_after}
 use Rattle.fish_rule.specs.Views.{Among}
 use Rattle.fish_rule.specs.World.{high, low}
 use Rattle.fish_rule.specs.declared.view.Found.{Found}
 use Rattle.fish_rule.specs.declared.view.Noted.TheVariants.{Directory}
+use Rattle.fish_rule.specs.declared.view.Opens.{Opens}
 use Rattle.fish_rule.specs.declared.view.View.{View}
 
 -- ---- in general
@@ -30,6 +33,7 @@ learns_self v = record {
   gaps = λ x m. m;
   labels = λ x m. m;
   unended = λ x m. m;
+  opens = λ x m. m;
 }
 
 -- and what is learned on top of what was learned is all learned
@@ -56,6 +60,7 @@ learns_both a b c e f =
       gaps = λ x m. f.gaps x (e.gaps x m);
       labels = λ x m. f.labels x (e.labels x m);
       unended = λ x m. f.unended x (e.unended x m);
+      opens = λ x m. f.opens x (e.opens x m);
     }
 
 -- ---- views that extend others
@@ -92,6 +97,7 @@ extends_read v place x = record {
     gaps = λ x m. m;
     labels = λ x m. m;
     unended = λ x m. m;
+    opens = λ x m. m;
   };
   clock = later_loaded v.clock;
   frame = refl;
@@ -115,6 +121,19 @@ found_more : (n lines x : ℕ) (found : List Found) (f : Found) → Among f foun
 found_more n lines zero found f m = m
 found_more n lines (suc x) found f m = inr m
 
+-- what was found unpublished before stays known
+opens_more : (n x : ℕ) (opens : List Opens) (o : Opens) → Among o opens → Among o (opens_after n x opens)
+opens_more n (suc x) opens o m = m
+opens_more n zero [] o m = m
+opens_more n zero (p ∷ opens) o m = pick (dec_lt n p.count)
+  where
+    longer : List Opens
+    longer = record { count = p.count; numbers = n ∷ p.numbers } ∷ p ∷ opens
+
+    pick : (d : Dec (n < p.count)) → Among o (choose d longer (p ∷ opens))
+    pick (yes below) = inr m
+    pick (no past) = m
+
 -- a directory word that is seen extends a view
 pub extends_look : (v : View) (n lines x : ℕ) → Extends v (after_look v n lines x)
 extends_look v n lines x = record {
@@ -133,6 +152,7 @@ extends_look v n lines x = record {
     gaps = λ x m. m;
     labels = λ x m. m;
     unended = λ x m. m;
+    opens = opens_more n x v.learned.opens;
   };
   clock = later_noted v.clock (Directory n) x;
   frame = refl;
@@ -164,6 +184,7 @@ learns_end v x more = record {
   gaps = λ x m. m;
   labels = λ x m. m;
   unended = λ x m. m;
+  opens = λ x m. inr m;
 }
 
 -- ---- a join
@@ -186,6 +207,7 @@ learns_join v u x more = record {
   gaps = λ y m. among_left y v.learned.gaps u.learned.gaps m;
   labels = λ y m. among_left y v.learned.labels u.learned.labels m;
   unended = λ y m. among_left y v.learned.unended u.learned.unended m;
+  opens = λ y m. inr (among_left y v.learned.opens u.learned.opens m);
 }
 
 -- and what the other pass knew
@@ -206,6 +228,7 @@ learned_join v u x about more = record {
   gaps = λ y m. among_right y v.learned.gaps u.learned.gaps m;
   labels = λ y m. among_right y v.learned.labels u.learned.labels m;
   unended = λ y m. among_right y v.learned.unended u.learned.unended m;
+  opens = λ y m. inr (among_right y v.learned.opens u.learned.opens m);
 }
 
 -- both, where the views are known by equations

@@ -118,7 +118,7 @@ module _ (k : Key) (w : World) (r : Rule k w) (id : ℕ) (v : View) (at : get_el
           gaps = (top_gap, h.gaps);
           labels = h.labels;
         })
-        (r.floors id v at) (record {
+        (r.opens id v at) (r.floors id v at) (record {
           nodes = node_joins _ v.about b (w.head b) v.learned.nodes still.nodes
               (λ more. final.links b (w.head b) (linked_else k w r b (w.head b) (r.chains b).some
               (subst (λ (z : Key). z.line * 4 < w.head b) about more)));
@@ -176,7 +176,7 @@ module _ (k : Key) (w : World) (r : Rule k w) (id : ℕ) (v : View) (at : get_el
           gaps = (low_gap, h.gaps);
           labels = h.labels;
         })
-        (r.floors id v at) (record {
+        (r.opens id v at) (r.floors id v at) (record {
           nodes = node_joins _ v.about b (w.log p) v.learned.nodes still.nodes
               (λ more. final.links b (w.log p) (linked_else k w r b (w.log p) next.is
               (subst (λ (z : Key). z.line * 4 < w.log p) about more)));

@@ -1,5 +1,5 @@
 -- What a pass knows of an interval says that its records are indexed.
-use Rattle.std.proofs.Common.{◌≡◌, ℕ, ◌%◌, ◌<◌, ◌≤◌, zero, suc, List, [], ◌∷◌, ◌++◌, filter, length, map, sym, refl, ap}
+use Rattle.std.proofs.Common.{◌≡◌, ◌+◌, ℕ, ◌%◌, ◌<◌, ◌≤◌, zero, suc, List, [], ◌∷◌, ◌++◌, filter, length, map, sym, refl, ap}
 use Rattle.std.proofs.Common.{◌-◌, ◌∙◌, subst, inl, inr, arith, Bool, true, false, cond, Some, option_map, slice_get}
 use Rattle.std.proofs.Math.Decide.{ℕ_discrete, dec_lt}
 use Rattle.std.proofs.lemmas.Option.{same_Some, slice_get-map}
@@ -9,13 +9,20 @@ use Rattle.fish_layout.specs.Cleared.{choose}
 use Rattle.fish_rule.proofs.Common.{all_among, there_is}
 use Rattle.fish_rule.proofs.Kept.{published}
 use Rattle.fish_rule.specs.Boundaries.{IsUnended}
-use Rattle.fish_rule.specs.Intervals.{IntervalsAreIndexed, IntervalsStay}
+use Rattle.fish_rule.proofs.Registers.{has_read}
+use Rattle.fish_rule.proofs.Stored.{stored_above}
+use Rattle.std.proofs.Math.ListN.{get_elem?}
+use mathlib.Core.Option.{some}
+use Rattle.fish_rule.specs.Intervals.{HasInterval, IntervalsAreIndexed, IntervalsStay, IsIndexed}
 use Rattle.fish_rule.specs.Keys.{IsKeyedOf, text_of}
-use Rattle.fish_rule.specs.Registry.{AreActiveAt, IsRegistered, definitions_at, made, op_at, row_in, version_in}
+use Rattle.fish_rule.specs.Registry.{AreActiveAt, IsRegistered, KnowsDefinitions, definitions_at, made, op_at, row_in, version_in}
 use Rattle.fish_rule.specs.Views.{Among}
-use Rattle.fish_rule.specs.World.{body, low}
+use Rattle.fish_rule.specs.Regions.{code}
+use Rattle.fish_rule.specs.Rule.{Rule}
+use Rattle.fish_rule.specs.World.{World, body, high, low}
 use Rattle.fish_rule.specs.declared.view.Key.{Key}
 use Rattle.fish_rule.specs.declared.view.Kind.TheVariants.{Stored}
+use Rattle.fish_rule.specs.declared.view.View.{View}
 
 -- a definition with its text among the active ones, where it is active
 front : (x : Listed) (ls : List Listed) (b : Bool) → b ≡ true
@@ -92,6 +99,35 @@ text_later k g u (suc v) i l less there = by (dec_lt v u) (λ h. text_later k g 
         let new = once old.0 old.1 (dec_lt v k.version) in
         (new.0, new.1, new.2 ∙ old.2)
 
+-- the text of an active definition is that under its id
+active_text : (ls us : List Listed) (n : ℕ) (id : ℕ) (text t : List ℕ)
+    → ((i : ℕ) (l : Listed) → slice_get us i ≡ Some l → (slice_get ls (n + i) ≡ Some l) × (l.id ≡ n + i))
+    → ((l : Listed) → slice_get ls id ≡ Some l → l.def ≡ text)
+    → Among {A = ℕ × List ℕ} (id, t) (active_texts us) → t ≡ text
+active_text ls [] n id text t there is m = elim m [ ]
+active_text ls (x ∷ us) n id text t there is m =
+    by (λ behind_. active_text ls us (suc n) id text t rest is behind_) x.active m
+  where
+    first : (slice_get ls n ≡ Some x) × (x.id ≡ n)
+    first = (let h = there 0 x refl in let e : n + 0 ≡ n = omega arith in
+        (subst (λ (z : ℕ). slice_get ls z ≡ Some x) e h.0, h.1 ∙ e))
+
+    rest : (i : ℕ) (l : Listed) → slice_get us i ≡ Some l → (slice_get ls (suc n + i) ≡ Some l) × (l.id ≡ suc n + i)
+    rest i l at = (let h = there (suc i) l at in let e : n + suc i ≡ suc n + i = omega arith in
+        (subst (λ (z : ℕ). slice_get ls z ≡ Some l) e h.0, h.1 ∙ e))
+
+    here : ◌≡◌ {A = ℕ × List ℕ} (x.id, x.def) (id, t) → t ≡ text
+    here e = let same : x.id ≡ id = ap (λ (z : ℕ × List ℕ). z.0) e in
+        sym (ap (λ (z : ℕ × List ℕ). z.1) e)
+        ∙ is x (subst (λ (z : ℕ). slice_get ls z ≡ Some x) (sym first.1 ∙ same) first.0)
+
+    by : (Among {A = ℕ × List ℕ} (id, t) (active_texts us) → t ≡ text) → (b : Bool)
+        → Among {A = ℕ × List ℕ} (id, t) (map (λ (l : Listed). (l.id, l.def)) (cond b (x ∷ filter is_on us) (filter is_on us)))
+        → t ≡ text
+    by others true (inl e) = here e
+    by others true (inr m) = others m
+    by others false m = others m
+
 pub intervals_indexed : IntervalsAreIndexed
 intervals_indexed v w seat id from below n r at h above after before stored =
     let k : Key = v.about in
@@ -129,6 +165,13 @@ intervals_indexed v w seat id from below n r at h above after before stored =
         active = subst (Among {A = ℕ × List ℕ} (id, now.0.def)) texts
             (subst (λ (z : ℕ × List ℕ). Among z (active_texts (definitions_at k g u)))
             (λ i. (is_id i, sym now.2 i)) (among_active (definitions_at k g u) id listed.0 listed.1 on));
+        only = λ t m. active_text (definitions_at k g u) (definitions_at k g u) 0 id now.0.def t
+            (λ i l at_. (
+              subst (λ (z : ℕ). slice_get (definitions_at k g u) z ≡ Some l) (omega arith) at_,
+              (r.registry.versions.listings u reached).ids i l at_ ∙ (omega arith),
+            ))
+            (λ l at_. ap (λ (z : Listed). z.def) (same_Some l listed.0 (sym at_ ∙ listed.1)) ∙ sym now.2)
+            (subst (Among {A = ℕ × List ℕ} (id, t)) (sym texts) m);
       },
     )
 
@@ -141,3 +184,20 @@ intervals_stay v u id from below learns h = record {
   of = h.of;
   upto = h.upto;
 }
+
+-- so by a row that a pass knows, each record of an interval has the keys of a version at which the row's text is active
+pub known_indexed : (v : View) (w : World) (seat id from below n version : ℕ) (rows : List Listed) (l : Listed)
+    → Rule v.about w → get_elem? w.views seat ≡ some v → HasInterval v id from below
+    → KnowsDefinitions v.about v.learned version rows → slice_get rows id ≡ Some l → from ≤ n → n < below
+    → high (w.dir n) ≡ code Stored → IsIndexed v.about w id l.def n
+known_indexed v w seat id from below n version rows l r at h knows there after before stored =
+    let k : Key = v.about in
+    let g : ℕ → ℕ = w.registry in
+    let reg = r.registry.each seat v at in
+    let are : definitions_at k g version ≡ rows = knows.are g (has_read k g v.learned.words reg.read) in
+    let reached : version ≤ version_in g = (let a = knows.reached in let b = reg.reached in omega arith) in
+    let now = text_later k g version (version_in g) id l reached
+    (subst (λ (z : List Listed). slice_get z id ≡ Some l) (sym are) there) in
+    let i = intervals_indexed v w seat id from below n r at h (stored_above k w r n stored) after before stored in
+    let same : i.0.def ≡ l.def = ap (λ (z : Listed). z.def) (same_Some i.0 now.0 (sym i.1 ∙ now.1)) ∙ now.2 in
+    subst (λ (z : List ℕ). IsIndexed k w id z n) same i.2

@@ -14,7 +14,7 @@ use Rattle.fish_rule.proofs.Kept.{chained_later}
 use Rattle.fish_rule.specs.Chains.{Chained, IsLinking, LinksAt}
 use Rattle.fish_rule.specs.declared.view.Learned.{Learned}
 use Rattle.fish_rule.specs.Parts.{MayOverflow}
-use Rattle.fish_rule.specs.Facts.{Facts, IsFound, IsKnown, IsRecorded, Owns}
+use Rattle.fish_rule.specs.Facts.{AreOpens, Facts, IsFound, IsKnown, IsRecorded, Owns}
 use Rattle.fish_rule.specs.Rule.{Final, Rule}
 use Rattle.fish_rule.specs.Seating.{CanJoin, join_both, spent, without}
 use Rattle.fish_rule.specs.Views.{Among, Each, Has}
@@ -266,6 +266,8 @@ module _ (k : Key) (w : World) (r : Rule k w) (id other : ℕ) (v u : View) (at 
     keyed = r.keyed;
     shuts = each_join _ r.shuts (shut_either k w.count w.dir r.start v.shut u.shut (r.shuts id v at)
         (r.shuts other u at_u)) tt;
+    opens = each_join _ r.opens (all_append (AreOpens k w.count w.dir r.lane_of) v.learned.opens u.learned.opens
+        (r.opens id v at) (r.opens other u at_u)) tt;
   }
 
   -- and all that lasts

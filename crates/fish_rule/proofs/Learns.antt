@@ -11,11 +11,12 @@ use Rattle.fish_rule.proofs.Kept.{chained_later, published}
 use Rattle.fish_rule.proofs.Links.{chains_set, links_set}
 use Rattle.fish_rule.specs.Chains.{Chained}
 use Rattle.fish_rule.specs.Parts.{Flies, Rests}
-use Rattle.fish_rule.specs.Facts.{Facts, IsFound}
+use Rattle.fish_rule.proofs.Unpublished.{opens_begin, opens_looked}
+use Rattle.fish_rule.specs.Facts.{AreOpens, Facts, IsFound}
 use Rattle.fish_rule.specs.Regions.{code, dir_word, kind_of}
 use Rattle.fish_rule.specs.Rule.{Final, Rule}
 use Rattle.fish_rule.specs.Reading.{CanLook, IsAlone, after_end, after_look, after_settled, found_after, kind_told}
-use Rattle.fish_rule.specs.Views.{Among, Each, Has, HasFlight, IsFlightOf}
+use Rattle.fish_rule.specs.Views.{AllOf, Among, Each, Has, HasFlight, IsFlightOf}
 use Rattle.fish_rule.specs.World.{World, high, low}
 use Rattle.fish_rule.specs.declared.view.Clock.{Clock}
 use Rattle.fish_rule.specs.declared.view.Flight.{Flight}
@@ -63,10 +64,11 @@ module _ (k : Key) (w : World) (r : Rule k w) (id : ℕ) (v : View) (at : get_el
   -- a load keeps the rule where the new facts hold
   unfoldable pub learns : (l : Learned) (t : Option Position) (o : Option Round) (c : Clock)
       → (v.lane ≡ 1 → v.out ≡ [] → Rests w.count w.line t) → Facts k w.count w.dir w.log r.start l
-      → l.settled ≤ w.settled → Chained k w.dir w.log (set w.views id (learner l t o c)) w.head l
+      → AllOf (AreOpens k w.count w.dir r.lane_of) l.opens → l.settled ≤ w.settled
+      → Chained k w.dir w.log (set w.views id (learner l t o c)) w.head l
       → Stays k w.count w.registry r.state r.version_of (learner l t o c)
       → Rule k (record w { views = set w.views id (learner l t o c) })
-  learns l t o c rests facts floor chained stays =
+  learns l t o c rests facts opens floor chained stays =
       let v' : View = learner l t o c in
       record {
         start = r.start;
@@ -110,6 +112,7 @@ module _ (k : Key) (w : World) (r : Rule k w) (id : ℕ) (v : View) (at : get_el
             (r.registry.flights id v at);
         keyed = r.keyed;
         shuts = each_set _ w.views id v' (λ j u ne at_u. r.shuts j u at_u) (r.shuts id v at);
+        opens = each_set _ w.views id v' (λ j u ne at_u. r.opens j u at_u) opens;
       }
 
   -- ---- end
@@ -119,8 +122,8 @@ module _ (k : Key) (w : World) (r : Rule k w) (id : ℕ) (v : View) (at : get_el
       → Rule k (record w { views = set w.views id (after_end v x) })
   end_kept x count line =
       let h = r.facts id v at in
-      let still = still_chained (record v.learned { count = high x }) (after_end v x).tail v.round (after_end v x).clock in
-      learns (record v.learned { count = high x }) (after_end v x).tail v.round (after_end v x).clock
+      let still = still_chained (after_end v x).learned (after_end v x).tail v.round (after_end v x).clock in
+      learns (after_end v x).learned (after_end v x).tail v.round (after_end v x).clock
       (λ main all. (count, line)) (record {
         counted = subst (λ (z : ℕ). z ≤ w.count) (sym count) (omega arith);
         found = h.found;
@@ -128,8 +131,8 @@ module _ (k : Key) (w : World) (r : Rule k w) (id : ℕ) (v : View) (at : get_el
         records = h.records;
         gaps = h.gaps;
         labels = h.labels;
-      }) (r.floors id v at) (record { nodes = still.nodes; lows = still.lows; tops = still.tops })
-      (r.registry.each id v at)
+      }) (opens_begin k w r (high x) (omega arith), r.opens id v at) (r.floors id v at)
+      (record { nodes = still.nodes; lows = still.lows; tops = still.tops }) (r.registry.each id v at)
 
   -- and all that lasts
   pub end_lasts : (x : ℕ) (count : high x ≡ w.count) (line : low x ≡ w.line)
@@ -179,7 +182,7 @@ module _ (k : Key) (w : World) (r : Rule k w) (id : ℕ) (v : View) (at : get_el
         records = h.records;
         gaps = h.gaps;
         labels = h.labels;
-      }) (omega arith)
+      }) (r.opens id v at) (omega arith)
       (record { nodes = still.nodes; lows = still.lows; tops = still.tops }) (r.registry.each id v at)
 
   -- and all that lasts
@@ -218,11 +221,8 @@ module _ (k : Key) (w : World) (r : Rule k w) (id : ℕ) (v : View) (at : get_el
       → Rule k (record w { views = set w.views id (after_look v n (lines_at n) x) })
   look_kept n x can about is =
       let h = r.facts id v at in
-      let still = still_chained (record v.learned {
-        found =
-            found_after n (lines_at n) x v.learned.found;
-      }) v.tail v.round (after_look v n (lines_at n) x).clock in
-      learns (record v.learned { found = found_after n (lines_at n) x v.learned.found }) v.tail v.round
+      let still = still_chained (after_look v n (lines_at n) x).learned v.tail v.round (after_look v n (lines_at n) x).clock in
+      learns (after_look v n (lines_at n) x).learned v.tail v.round
       (after_look v n (lines_at n) x).clock (r.tails id v at) (record {
         counted = h.counted;
         found = each x is;
@@ -230,10 +230,10 @@ module _ (k : Key) (w : World) (r : Rule k w) (id : ℕ) (v : View) (at : get_el
         records = h.records;
         gaps = h.gaps;
         labels = h.labels;
-      }) (r.floors id v at) (record { nodes = still.nodes; lows = still.lows; tops = still.tops })
-      (r.registry.each id v at)
+      }) (opens_looked k w r id v at n x (subst (λ (z : Key). z.number ≤ n) about can.above) is) (r.floors id v at)
+      (record { nodes = still.nodes; lows = still.lows; tops = still.tops }) (r.registry.each id v at)
     where
-      each : (x : ℕ) → x ≡ w.dir n → Rattle.fish_rule.specs.Views.AllOf (IsFound k w.count w.dir r.start)
+      each : (x : ℕ) → x ≡ w.dir n → AllOf (IsFound k w.count w.dir r.start)
           (found_after n (lines_at n) x v.learned.found)
       each zero is = (r.facts id v at).found
       each (suc x) is =

@@ -59,8 +59,10 @@ pub mod Splices
 pub mod Splits
 pub mod Spots
 pub mod Standing
+pub mod Stored
 pub mod Swings
 pub mod ToPublish
+pub mod Unpublished
 pub mod Walking
 pub mod Words
 pub mod Worlds

@@ -19,10 +19,10 @@ use Rattle.fish_rule.proofs.OwnWords.{carried_is, flight_is, known_keyed}
 use Rattle.fish_rule.specs.Chains.{Chain, Chained, IsKeyEntry, IsLinking, IsStoredAt, Linked, LinksAt, Shows}
 use Rattle.fish_rule.specs.Linking.{CanAim, linked_once, own_place}
 use Rattle.fish_rule.specs.Parts.{Flies, InFlight, first_head}
-use Rattle.fish_rule.specs.Facts.{Facts}
+use Rattle.fish_rule.specs.Facts.{AreOpens, Facts}
 use Rattle.fish_rule.specs.Regions.{IsRecord, kind_of}
 use Rattle.fish_rule.specs.Rule.{Final, Rule}
-use Rattle.fish_rule.specs.Views.{IsFlightOf, IsOver}
+use Rattle.fish_rule.specs.Views.{AllOf, IsFlightOf, IsOver}
 use Rattle.fish_rule.specs.World.{World, body}
 use Rattle.fish_rule.specs.declared.view.Clock.{Clock}
 use Rattle.fish_rule.specs.declared.view.Flight.{Flight}
@@ -207,7 +207,8 @@ module _ (k : Key) (w : World) (r : Rule k w) (id : ℕ) (v : View) (at : get_el
     }
 
     module _ (chains : (c : ℕ) → Chain (After c) (first_head k c) (head' c) log')
-        (facts : Facts k w.count w.dir log' r.start learned) (floor : learned.settled ≤ w.settled)
+        (facts : Facts k w.count w.dir log' r.start learned)
+        (opens : AllOf (AreOpens k w.count w.dir r.lane_of) learned.opens) (floor : learned.settled ≤ w.settled)
         (chained : Chained k w.dir log' linked_world.views head' learned)
         (stays : Stays k w.count w.registry r.state r.version_of linker) where
       -- the rule is kept
@@ -259,6 +260,7 @@ module _ (k : Key) (w : World) (r : Rule k w) (id : ℕ) (v : View) (at : get_el
         keyed = keyed_kept k w linked_world r.start r.start r.lane_of r.lane_of link_final r.version_of r.version_of
             (λ n below. refl) r.keyed (λ n below stored. (below, published (w.dir n) Stored stored));
         shuts = each_set _ w.views id linker (λ j u ne at_u. r.shuts j u at_u) (r.shuts id v at);
+        opens = each_set _ w.views id linker (λ j u ne at_u. r.opens j u at_u) opens;
       }
 
       -- and all that lasts

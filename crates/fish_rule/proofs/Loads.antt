@@ -153,7 +153,8 @@ module _ (k : Key) (w : World) (r : Rule k w) (id : ℕ) (v : View) (at : get_el
 
   -- a read keeps the rule
   pub read_kept : Rule k (record w { views = set w.views id reader })
-  read_kept = learns k w r id v at reader.learned v.tail v.round reader.clock (r.tails id v at) read_facts (r.floors id v at)
+  read_kept = learns k w r id v at reader.learned v.tail v.round reader.clock (r.tails id v at) read_facts
+      (r.opens id v at) (r.floors id v at)
       (let still = still_chained k w r id v at reader.learned v.tail v.round reader.clock in
       record { nodes = still.nodes; lows = still.lows; tops = still.tops }) (r.registry.each id v at)
 

@@ -46,8 +46,8 @@ module _ (k : Key) (w : World) (r : Rule k w) (id : ℕ) (v : View) (at : get_el
           h.labels,
         );
       })
-      (r.floors id v at) (record { nodes = still.nodes; lows = still.lows; tops = still.tops })
-      (r.registry.each id v at)
+      (r.opens id v at) (r.floors id v at)
+      (record { nodes = still.nodes; lows = still.lows; tops = still.tops }) (r.registry.each id v at)
 
   -- and all that lasts
   pub node_lasts : Final k r.start node_kept.start r.lane_of node_kept.lane_of w

@@ -23,6 +23,7 @@ use Rattle.fish_rule.proofs.ToPublish.{may_before, no_lines, small_line}
 use Rattle.fish_rule.proofs.Worlds.{put-else, put-here}
 use Rattle.fish_rule.specs.Chains.{Linked, LinksAt, Shows}
 use Rattle.fish_rule.specs.Parts.{Flies, InFlight, IsEntryWord, IsFinished}
+use Rattle.fish_rule.proofs.Unpublished.{opens_later}
 use Rattle.fish_rule.specs.Facts.{Facts, IsFound, IsRecorded, IsStoredBy, Owns, ShutOk}
 use Rattle.fish_rule.specs.Regions.{Holds, IsRecord, code, dir_word, kind_of, void_body}
 use Rattle.fish_rule.specs.Rule.{Final, Rule}
@@ -472,6 +473,9 @@ module _ (k : Key) (w : World) (r : Rule k w) (id : ℕ) (v : View) (at : get_el
     shuts = each_set _ w.views id publisher
         (λ j u ne at_u. shut_later k w publication r.start r.start r.lane_of r.lane_of publish_final u.shut
         (r.shuts j u at_u)) (own_shut kind refl);
+    opens = each_set _ w.views id publisher (λ j u ne at_u. opens_later k w publication r.start r.start r.lane_of
+        r.lane_of publish_final u.learned.opens (r.opens j u at_u)) (opens_later k w publication r.start r.start
+        r.lane_of r.lane_of publish_final v.learned.opens (r.opens id v at));
   }
     where
       finish : (n : ℕ) → k.number ≤ n → n < w.count → dir' n ≢ 0 → Dec (n ≡ f.number)

@@ -252,6 +252,7 @@ module _ (k : Key) (w : World) (r : Rule k w) (id : ℕ) (v : View) (at : get_el
         keyed = keyed_kept k w registered_world r.start r.start r.lane_of r.lane_of register_final r.version_of
             r.version_of (λ n below. refl) r.keyed (λ n below stored. (below, published (w.dir n) Stored stored));
         shuts = each_set _ w.views id registrant (λ j u ne at_u. r.shuts j u at_u) (r.shuts id v at);
+        opens = each_set _ w.views id registrant (λ j u ne at_u. r.opens j u at_u) (r.opens id v at);
       }
 
       -- and all that lasts

@@ -134,6 +134,7 @@ module _ (k : Key) (w : World) (r : Rule k w) (id : ℕ) (v : View) (at : get_el
         (r.registry.each id v at) (r.registry.flights id v at);
     keyed = r.keyed;
     shuts = each_set _ w.views id raiser (λ j u ne at_u. r.shuts j u at_u) (r.shuts id v at);
+    opens = each_set _ w.views id raiser (λ j u ne at_u. r.opens j u at_u) (r.opens id v at);
   }
 
   -- and all that lasts

@@ -298,14 +298,14 @@ module _ (k : Key) (w : World) (r : Rule k w) (id : ℕ) (v : View) (at : get_el
   pub splice_kept : Rule k splice_world
   splice_kept =
       link_kept k w r id v at f can.aim b bucket w.head log' splicer.learned splicer.clock leaves chains facts
-      (r.floors id v at) chained (r.registry.each id v at)
+      (r.opens id v at) (r.floors id v at) chained (r.registry.each id v at)
 
   -- and all that lasts
   pub splice_lasts : Final k r.start splice_kept.start r.lane_of splice_kept.lane_of w splice_world
   unfolding splice_kept
   splice_lasts =
       link_lasts k w r id v at f can.aim b bucket w.head log' splicer.learned splicer.clock leaves chains facts
-      (r.floors id v at) chained (r.registry.each id v at)
+      (r.opens id v at) (r.floors id v at) chained (r.registry.each id v at)
 
 -- a splice leaves the key
 about_splice : (v : View) {k : Key} (f : Flight) (b q x y : ℕ) → v.about ≡ k → (after_splice v f b q x y).about ≡ k

@@ -228,6 +228,7 @@ module _ (k : Key) (w : World) (r : Rule k w) (id : ℕ) (v : View) (at : get_el
     registry = split_registry;
     keyed = r.keyed;
     shuts = each_cut _ r.shuts (r.shuts id v at) (r.shuts id v at);
+    opens = each_cut _ r.opens (r.opens id v at) (r.opens id v at);
   }
 
   -- ---- join

@@ -135,14 +135,14 @@ module _ (k : Key) (w : World) (r : Rule k w) (id : ℕ) (v : View) (at : get_el
   -- a swing keeps the rule
   pub swing_kept : Rule k swing_world
   swing_kept = link_kept k w r id v at f can.aim b bucket head' w.log swinger.learned swinger.clock leaves chains facts
-      (r.floors id v at) chained (r.registry.each id v at)
+      (r.opens id v at) (r.floors id v at) chained (r.registry.each id v at)
 
   -- and all that lasts
   pub swing_lasts : Final k r.start swing_kept.start r.lane_of swing_kept.lane_of w swing_world
   unfolding swing_kept
   swing_lasts =
       link_lasts k w r id v at f can.aim b bucket head' w.log swinger.learned swinger.clock leaves chains facts
-      (r.floors id v at) chained (r.registry.each id v at)
+      (r.opens id v at) (r.floors id v at) chained (r.registry.each id v at)
 
 -- the own entry is not linked yet
 pub own_unlinked : (k : Key) (w : World) (r : Rule k w) (id : ℕ) (v : View)

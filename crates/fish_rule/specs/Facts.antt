@@ -11,6 +11,7 @@ use Rattle.fish_rule.specs.declared.view.Key.{Key}
 use Rattle.fish_rule.specs.declared.view.Kind.TheVariants.{Mark, Stored}
 use Rattle.fish_rule.specs.declared.view.Known.{Known}
 use Rattle.fish_rule.specs.declared.view.Learned.{Learned}
+use Rattle.fish_rule.specs.declared.view.Opens.{Opens}
 use Rattle.fish_rule.specs.declared.view.Own.{Own}
 use Rattle.fish_rule.specs.declared.view.Recorded.{Recorded}
 use Rattle.fish_rule.specs.declared.view.Shut.{Shut}
@@ -65,6 +66,14 @@ pub record Facts (k : Key) (count : ℕ) (dir log start : ℕ → ℕ) (l : Lear
   pub records : AllOf (IsRecorded k count dir log start) l.records
   pub gaps : AllOf (IsGap k count dir log start) l.gaps
   pub labels : AllOf (IsLabel k count dir log start) l.labels
+
+-- these numbers were found unpublished since the tail was at a count: no two were claimed by one lane, and a record in
+-- flight below the count, of a lane that claimed one of them, is that one
+pub record AreOpens (k : Key) (count : ℕ) (dir lane_of : ℕ → ℕ) (o : Opens) : Type 0 where
+  pub within : o.count ≤ count
+  pub below : (n : ℕ) → Among n o.numbers → n < o.count
+  pub apart : (m n : ℕ) → Among m o.numbers → Among n o.numbers → lane_of m ≡ lane_of n → m ≡ n
+  pub flying : (m n : ℕ) → Among n o.numbers → k.number ≤ m → m < o.count → dir m ≡ 0 → lane_of m ≡ lane_of n → m ≡ n
 
 -- the claim that shut a pass is a published mark
 pub record IsShut (k : Key) (count : ℕ) (dir start : ℕ → ℕ) (s : Shut) : Type 0 where

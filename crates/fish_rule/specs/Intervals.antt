@@ -25,7 +25,7 @@ pub record HasInterval (v : View) (id from below : ℕ) : Type 0 where
   pub of : unended.id ≡ id
   pub upto : below ≤ unended.below
 
--- the record with number n has the keys of a version at which this text is active under the id
+-- the record with number n has the keys of a version at which this text, and no other, is active under the id
 pub record IsIndexed (k : Key) (w : World) (id : ℕ) (text : List ℕ) (n : ℕ) : Type 0 where
   pub version : ℕ
   pub lane : ℕ
@@ -33,6 +33,7 @@ pub record IsIndexed (k : Key) (w : World) (id : ℕ) (text : List ℕ) (n : ℕ
   pub parts : BodyParts
   pub keyed : IsKeyedOf (AreActiveAt k w.registry) version lane n lines (body w.log (low (w.dir n))) parts
   pub active : Among {A = ℕ × List ℕ} (id, text) (map text_of keyed.keys.defs)
+  pub only : (t : List ℕ) → Among {A = ℕ × List ℕ} (id, t) (map text_of keyed.keys.defs) → t ≡ text
 
 -- in every moment of a pass that knows an interval, each of its records has the keys of a version at which the row's
 -- text is active

@@ -26,6 +26,7 @@ pub mod Start
 pub mod Steps
 pub mod Table
 pub mod Told
+pub mod Unpublished
 pub mod Views
 pub mod Walking
 pub mod Walks

@@ -19,6 +19,7 @@ use Rattle.fish_rule.specs.declared.view.Key.{Key}
 use Rattle.fish_rule.specs.declared.view.Known.{Known}
 use Rattle.fish_rule.specs.declared.view.Label.{Label}
 use Rattle.fish_rule.specs.declared.view.Node.{Node}
+use Rattle.fish_rule.specs.declared.view.Opens.{Opens}
 use Rattle.fish_rule.specs.declared.view.Recorded.{Recorded}
 use Rattle.fish_rule.specs.declared.view.RegistryWord.{RegistryWord}
 use Rattle.fish_rule.specs.declared.view.Kind.TheVariants.{Mark, Stored, Void}
@@ -66,6 +67,7 @@ pub record Learns (v u : View) : Type 0 where
   pub gaps : (x : Gap) → Among x v.learned.gaps → Among x u.learned.gaps
   pub labels : (x : Label) → Among x v.learned.labels → Among x u.learned.labels
   pub unended : (x : Unended) → Among x v.learned.unended → Among x u.learned.unended
+  pub opens : (x : Opens) → Among x v.learned.opens → Among x u.learned.opens
 
 -- in every moment of a view that knows as much, this stands at number n
 abbrev pub Tells : View → ℕ → Entry → Type 0

@@ -2,7 +2,8 @@
 use Rattle.std.specs.Prelude.{ℕ, ◌≡◌, ◌≢◌, ◌*◌, ◌<◌, ◌≤◌, zero, suc, List, [], ◌∷◌, max}
 use Rattle.std.specs.Prelude.{Some, None}
 use Rattle.std.proofs.Common.{◌⊎◌}
-use Rattle.fish_layout.specs.Cleared.{IsKeyWord}
+use Rattle.std.proofs.Math.Decide.{dec_lt}
+use Rattle.fish_layout.specs.Cleared.{IsKeyWord, choose}
 use Rattle.fish_layout.specs.Header.{keys_of}
 use Rattle.fish_rule.specs.Views.{Among}
 use Rattle.fish_rule.specs.World.{high, low}
@@ -10,6 +11,7 @@ use Rattle.fish_rule.specs.declared.view.Found.{Found}
 use Rattle.fish_rule.specs.declared.view.Kind.{Kind}
 use Rattle.fish_rule.specs.declared.view.Kind.TheVariants.{Mark, Stored, Void}
 use Rattle.fish_rule.specs.declared.view.Noted.TheVariants.{Directory, Tail}
+use Rattle.fish_rule.specs.declared.view.Opens.{Opens}
 use Rattle.fish_rule.specs.declared.view.View.{View}
 use Rattle.fish_rule.specs.Steps.{loaded, noted, ticked}
 
@@ -36,11 +38,24 @@ found_after n lines (suc x) found = record {
   lines = lines;
 } ∷ found
 
+-- a number joins the last list of unpublished ones, where it is below the count of that list's load
+abbrev pub with_open : ℕ → List Opens → List Opens
+with_open n [] = []
+with_open n (o ∷ opens) =
+    choose (dec_lt n o.count) (record { count = o.count; numbers = n ∷ o.numbers } ∷ o ∷ opens) (o ∷ opens)
+
+-- a directory word that is 0 tells that its number isn't published
+abbrev pub opens_after : ℕ → ℕ → List Opens → List Opens
+opens_after n zero opens = with_open n opens
+opens_after n (suc x) opens = opens
+
 -- the directory word is seen
 abbrev pub after_look : View → ℕ → ℕ → ℕ → View
 after_look v n lines x = record v {
-  learned =
-      record v.learned { found = found_after n lines x v.learned.found };
+  learned = record v.learned {
+    found = found_after n lines x v.learned.found;
+    opens = opens_after n x v.learned.opens;
+  };
   clock = noted v.clock (Directory n) x;
 }
 
@@ -71,10 +86,10 @@ after_read v place x = record v {
 
 -- ---- end: a load of the tail
 
--- the count and the line are known
+-- the count and the line are known, and a list of unpublished numbers begins
 abbrev pub after_end : View → ℕ → View
 after_end v x = record v {
-  learned = record v.learned { count = high x };
+  learned = record v.learned { count = high x; opens = record { count = high x; numbers = [] } ∷ v.learned.opens };
   tail = Some (record { number = high x; line = low x });
   clock = noted v.clock Tail x;
 }

@@ -3,9 +3,9 @@ use Rattle.std.specs.Prelude.{ℕ, ◌≡◌, ◌≢◌, ◌*◌, ◌<◌, ◌�
 use Rattle.fish_rule.specs.Chains.{Chain, Chained, Linked}
 use Rattle.fish_rule.specs.Epochs.{Keyed, Registry}
 use Rattle.fish_rule.specs.Parts.{Fits, first_head, Limit, Rests, Seats, Settled, Space}
-use Rattle.fish_rule.specs.Facts.{Facts, Owns, ShutOk}
+use Rattle.fish_rule.specs.Facts.{AreOpens, Facts, Owns, ShutOk}
 use Rattle.fish_rule.specs.Registry.{Endures}
-use Rattle.fish_rule.specs.Views.{Each}
+use Rattle.fish_rule.specs.Views.{AllOf, Each}
 use Rattle.fish_rule.specs.World.{World, body}
 use Rattle.fish_rule.specs.declared.view.Epoch.{Epoch}
 use Rattle.fish_rule.specs.declared.view.Key.{Key}
@@ -33,6 +33,7 @@ pub record Rule (k : Key) (w : World) : Type 0 where
   pub registry : Registry k w.count w.registry state version_of w.views
   pub keyed : Keyed k w.count w.registry w.dir w.log start lane_of version_of
   pub shuts : Each (λ v. ShutOk k w.count w.dir start v.shut) w.views
+  pub opens : Each (λ v. AllOf (AreOpens k w.count w.dir lane_of) v.learned.opens) w.views
 
 -- what every step keeps for good: the tail, the settled number, the version, heads and the first words of linked key entries
 -- only rise; linked entries stay linked; claimed regions stay where they are; directory words that are set, and

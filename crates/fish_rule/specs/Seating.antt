@@ -88,6 +88,7 @@ learned_both a b = record {
   gaps = a.gaps ++ b.gaps;
   labels = a.labels ++ b.labels;
   unended = a.unended ++ b.unended;
+  opens = a.opens ++ b.opens;
 }
 
 -- the own claim that shut the pass, where there is one, else the other's
@@ -122,6 +123,7 @@ unlearned = record {
   gaps = [];
   labels = [];
   unended = [];
+  opens = [];
 }
 
 -- the view of a pass that was joined

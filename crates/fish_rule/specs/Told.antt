@@ -15,6 +15,7 @@ use Rattle.fish_rule.specs.Registry.{row_at}
 use Rattle.fish_rule.specs.declared.view.Flight.{Flight}
 use Rattle.fish_rule.specs.declared.view.Found.{Found}
 use Rattle.fish_rule.specs.declared.view.Key.{Key}
+use Rattle.fish_rule.specs.declared.view.RegistryWord.{RegistryWord}
 use Rattle.fish_rule.specs.declared.view.Round.{Round}
 use Rattle.fish_rule.specs.Table.{Sat, Sees, Told}
 use Rattle.fish_rule.specs.Linking.{HasNode, LowRises, TopRises, after_aim, after_head, after_node}
@@ -176,7 +177,8 @@ told_from st m found m' = Told m (after_store_boundary m.0 st.word (st.first - 1
 abbrev pub told_to : Step Bool → Sat → ℕ → Sat → Type 0
 told_to st m found m' = Told m (after_store_boundary m.0 st.word (st.first - 1) m.0.round) m'
 
--- a load of a boundary, which is at most one more than a number
+-- a load of a boundary, which is at most one more than a number, and the word that the pass knew where it knew one
 pub record ToldBoundary (st : Step Bool) (m : Sat) (found : ℕ) (m' : Sat) : Type 0 where
   pub told : (id i : ℕ) → id < 256 → i < 2 → st.word ≡ row_at id i → Told m (after_boundary m.0 id i found) m'
   pub few : found ≤ 268435456
+  pub known : (x : RegistryWord) → Among x m.0.learned.words → x.index ≡ st.word → found ≡ x.value

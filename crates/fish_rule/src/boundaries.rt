@@ -6,6 +6,9 @@ ghost use Rattle.fish_rule.specs.Bounding.{CanBound, CanLoadBoundary, CanSetFrom
 ghost use Rattle.fish_rule.specs.Bounding.{after_boundary, after_check, after_from, after_to};
 ghost use Rattle.fish_rule.specs.Passes.{IsPassOf, view};
 ghost use Rattle.fish_rule.specs.World.{high, low};
+ghost use Rattle.fish_rule.specs.Registry.{row_at};
+ghost use Rattle.fish_rule.specs.Views.{Among};
+ghost use Rattle.fish_rule.specs.declared.view.RegistryWord.{RegistryWord};
 ghost use Rattle.fish_rule.specs.declared.view.Round.{Round};
 
 use crate::area::{ROWS, epoch_index};
@@ -72,6 +75,7 @@ pub fn load_boundary(log: &Log, pass: &mut Pass, id: u64, place: u64) -> u64
     ensures pass { IsPassOf log.now pass.new }
     ensures view { view pass.new ≡ after_boundary (view pass.old) id place result }
     ensures few { result ≤ 268435456 }
+    ensures known { (x : RegistryWord) → Among x (view pass.old).learned.words → x.index ≡ row_at id place → result ≡ x.value }
 {
     let index = ROWS + id * 39 + place;
     log.table

@@ -5,6 +5,7 @@ ghost use Rattle.fish_rule.specs.Closed.{EndsWhereNextBegins, OwnIsClosed, ToldI
 ghost use Rattle.fish_rule.specs.Comparing.{OneLineIsOneClaim, OneNumberIsOneClaim, RegionsFollow};
 ghost use Rattle.fish_rule.specs.Intervals.{IntervalsAreIndexed, IntervalsStay};
 ghost use Rattle.fish_rule.specs.Machine.{EverySchedule, EveryStepIsFinal};
+ghost use Rattle.fish_rule.specs.Unpublished.{OpensAreApart};
 
 /// From an empty log on, the rule holds after every list of steps of any passes, in any order; and
 /// each step keeps for good what lasts.
@@ -44,4 +45,12 @@ pub fn law_found_regions()
     ensures line { OneLineIsOneClaim }
     ensures number { OneNumberIsOneClaim }
     ensures follow { RegionsFollow }
+{}
+
+/// Of the numbers that a pass found unpublished since one load of the tail, no two are ever stored by one
+/// lane: while it looked, each lane had one record in flight at most.
+///
+/// Its contract is that law.
+pub fn law_opens()
+    ensures { OpensAreApart }
 {}

@@ -156,6 +156,13 @@ pub struct Unended {
     pub below: u64,
 }
 
+/// Numbers that were found unpublished, one after the other, since a load of the tail.
+pub struct Opens {
+    /// How many numbers were claimed at that load. All of them lie below.
+    pub count: u64,
+    pub numbers: [u64; 0],
+}
+
 /// What a step loaded.
 pub enum Noted {
     /// The directory word of a number.
@@ -208,6 +215,8 @@ pub struct Learned {
     pub gaps: [Gap; 0],
     pub labels: [Label; 0],
     pub unended: [Unended; 0],
+    /// Numbers that were found unpublished, the newest list first. A look that finds one puts a longer list in front.
+    pub opens: [Opens; 0],
 }
 
 /// What a pass knows.

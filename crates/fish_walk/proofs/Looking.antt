@@ -1,21 +1,24 @@
 -- What loads and looks tell, one after the other.
-use Rattle.std.proofs.Common.{◌≡◌, ◌≢◌, ℕ, ◌+◌, ◌<◌, ◌≤◌, zero, suc, List, ◌∙◌, ◌⊎◌}
-use Rattle.std.proofs.Common.{refl, sym, ap, subst, inl, inr, arith}
+use Rattle.std.proofs.Common.{◌≡◌, ◌≢◌, ℕ, ◌+◌, ◌<◌, ◌≤◌, zero, suc, List, [], ◌∷◌, ◌++◌, ◌∙◌, ◌⊎◌}
+use Rattle.fish_rule.proofs.Common.{among_either}
+use Rattle.fish_layout.specs.Cleared.{choose}
+use Rattle.std.proofs.Common.{refl, sym, ap, subst, ⊎_elim, inl, inr, arith}
 use Rattle.std.proofs.Math.Decide.{dec_lt}
 use Rattle.fish_rule.proofs.Closing.{seen, seen_here, tells_mark}
 use Rattle.fish_rule.proofs.Clocks.{later_self, loaded_within, noted_load}
 use Rattle.fish_rule.proofs.Extending.{extends_both, extends_look, extends_self, learns_both}
 use Rattle.fish_rule.specs.Clocks.{HasLoaded, IsLater}
 use Rattle.fish_rule.specs.Logs.{Extends, Learns, TellsMark}
-use Rattle.fish_rule.specs.Reading.{after_look, found_after, kind_told}
+use Rattle.fish_rule.specs.Reading.{after_look, found_after, kind_told, opens_after}
 use Rattle.fish_rule.specs.Views.{Among}
 use Rattle.fish_rule.specs.World.{high, low}
 use Rattle.fish_rule.specs.declared.view.Found.{Found}
 use Rattle.fish_rule.specs.declared.view.Kind.{Kind}
 use Rattle.fish_rule.specs.declared.view.Kind.TheVariants.{Mark, Stored, Void}
 use Rattle.fish_rule.specs.declared.view.Noted.TheVariants.{Directory}
+use Rattle.fish_rule.specs.declared.view.Opens.{Opens}
 use Rattle.fish_rule.specs.declared.view.View.{View}
-use Rattle.fish_walk.specs.Looks.{look_of, look_of_kind}
+use Rattle.fish_walk.specs.Looks.{HasFound, HasOpens, IsLookAt, KeepsOpens, look_of, look_of_kind, with_look}
 use Rattle.fish_walk.specs.Settling.{AreSettled, EndsAt, IsEnd, IsMark, OnlyLooks, StopsAt}
 use Rattle.fish_walk.specs.declared.outcome.Look.{Look}
 use Rattle.fish_walk.specs.declared.outcome.Look.TheVariants as look
@@ -41,6 +44,103 @@ pub look_loads : (v u : View) (n lines x : ℕ) → u ≡ after_look v n lines x
 look_loads v u n lines x e =
     subst (λ (z : View). HasLoaded v.clock z.clock (Directory n) x) (sym e) (noted_load v.clock (Directory n) x)
 
+-- what was found unpublished before, with one list more in front or not
+module _ (n : ℕ) (last : Opens) (before : List Opens) where
+  -- the list with the number in front of the others, or the others alone
+  abbrev longer : Dec (n < last.count) → List Opens
+  longer d = choose d (record { count = last.count; numbers = n ∷ last.numbers } ∷ last ∷ before) (last ∷ before)
+
+  -- a list of the same count is in front, with all numbers of before
+  longer_keeps : (lists : List Opens) (d : Dec (n < last.count)) → lists ≡ longer d → (o : Opens) × (rest : List Opens)
+      × (lists ≡ o ∷ rest) × (o.count ≡ last.count) × ((m : ℕ) → Among m last.numbers → Among m o.numbers)
+  longer_keeps lists (yes h) e =
+      (record { count = last.count; numbers = n ∷ last.numbers }, last ∷ before, e, refl, λ m a. inr a)
+  longer_keeps lists (no h) e = (last, before, e, refl, λ m a. a)
+
+  -- and the number is in it where it is below the count
+  longer_has : (lists : List Opens) (d : Dec (n < last.count)) → n < last.count → lists ≡ longer d
+      → (o : Opens) × (rest : List Opens) × (lists ≡ o ∷ rest) × (o.count ≡ last.count)
+      × ((m : ℕ) → Among m last.numbers → Among m o.numbers) × Among n o.numbers
+  longer_has lists (yes h) below e =
+      (record { count = last.count; numbers = n ∷ last.numbers }, last ∷ before, e, refl, (λ m a. inr a), inl refl)
+  longer_has lists (no h) below e = absurd (h below)
+
+-- a look leaves in front what was found unpublished since the same load
+opens_still : (v u : View) (n lines x count : ℕ) (numbers : List ℕ) → u ≡ after_look v n lines x → HasOpens v count numbers
+    → HasOpens u count numbers
+opens_still v u n lines x count numbers e h = by x (ap (λ (z : View). z.learned.opens) e)
+  where
+    lists : (y : ℕ) → opens_after n y v.learned.opens ≡ opens_after n y (h.last ∷ h.before)
+    lists y = ap (opens_after n y) h.opens
+
+    by : (y : ℕ) → u.learned.opens ≡ opens_after n y v.learned.opens → HasOpens u count numbers
+    by (suc y) is = record { last = h.last; before = h.before; opens = is ∙ h.opens; count_is = h.count_is; listed = h.listed }
+    by zero is =
+        let t = longer_keeps n h.last h.before u.learned.opens (dec_lt n h.last.count) (is ∙ lists zero) in
+        record {
+          last = t.0;
+          before = t.1;
+          opens = t.2;
+          count_is = t.3 ∙ h.count_is;
+          listed = λ m among. t.4 m (h.listed m among);
+        }
+
+-- and so the list of a load
+begun_still : (v : View) (n lines x count : ℕ) → HasOpens v count [] → HasOpens (after_look v n lines x) count []
+begun_still v n lines x count h = opens_still v (after_look v n lines x) n lines x count [] refl h
+
+-- a number that was found unpublished joins the others
+pub opens_looked : (v u : View) (n lines x : ℕ) (r : Look) → u ≡ after_look v n lines x → r ≡ look_of x
+    → KeepsOpens v u n r
+opens_looked v u n lines x r e is count numbers h below =
+    subst (λ (z : Look). HasOpens u count (with_look n z numbers)) (sym is) (by x e)
+  where
+    by : (y : ℕ) → u ≡ after_look v n lines y → HasOpens u count (with_look n (look_of y) numbers)
+    by (suc y) e = told (kind_told (high (suc y)))
+      where
+        still : HasOpens u count numbers
+        still = opens_still v u n lines (suc y) count numbers e h
+
+        told : (kind : Kind) → HasOpens u count (with_look n (look_of_kind kind) numbers)
+        told Stored = still
+        told Void = still
+        told Mark = still
+    by zero e =
+        let t = longer_has n h.last h.before u.learned.opens (dec_lt n h.last.count)
+        (subst (λ (z : ℕ). n < z) (sym h.count_is) below)
+        (ap (λ (z : View). z.learned.opens) e ∙ ap (opens_after n zero) h.opens) in
+        record {
+          last = t.0;
+          before = t.1;
+          opens = t.2;
+          count_is = t.3 ∙ h.count_is;
+          listed = λ m among. ⊎_elim (λ (old : Among m numbers). t.4 m (h.listed m old))
+              (λ (new : Among m (n ∷ [])). ⊎_elim (λ (is : n ≡ m). subst (λ (z : ℕ). Among z t.0.numbers) is t.5)
+              (λ (none : ⊥). absurd none) new) (among_either m numbers (n ∷ []) among);
+        }
+
+-- what a look told of a number is found
+pub look_found : (v u : View) (n lines x : ℕ) (r : Look) → u ≡ after_look v n lines x → r ≡ look_of x → IsLookAt u n r
+look_found v u n lines x r e is = subst (IsLookAt u n) (sym is) (by x e)
+  where
+    by : (y : ℕ) → u ≡ after_look v n lines y → IsLookAt u n (look_of y)
+    by zero e = tt
+    by (suc y) e = told (kind_told (high (suc y))) refl
+      where
+        told : (kind : Kind) → kind_told (high (suc y)) ≡ kind → IsLookAt u n (look_of_kind kind)
+        told kind same = by_kind kind (
+          record { number = n; kind = kind_told (high (suc y)); line = low (suc y); lines = lines },
+          subst (λ (z : View). Among (record { number = n; kind = kind_told (high (suc y)); line = low (suc y); lines = lines })
+              z.learned.found) (sym e) (inl refl),
+          refl,
+          same,
+        )
+          where
+            by_kind : (kind : Kind) → HasFound u n kind → IsLookAt u n (look_of_kind kind)
+            by_kind Stored h = h
+            by_kind Void h = h
+            by_kind Mark h = h
+
 -- and nothing else is learned by it
 pub look_looks : (v u : View) (n lines x : ℕ) → u ≡ after_look v n lines x → OnlyLooks v u
 look_looks v u n lines x e = record {
@@ -48,11 +148,12 @@ look_looks v u n lines x e = record {
   count = ap (λ (z : View). z.learned.count) e;
   settled = ap (λ (z : View). z.learned.settled) e;
   loads = ap (λ (z : View). z.clock.loads) e;
+  opens = λ count h. subst (λ (z : View). HasOpens z count []) (sym e) (begun_still v n lines x count h);
 }
 
 -- a view to which no look was added
 pub looked_self : (v : View) → OnlyLooks v v
-looked_self v = record { extends = extends_self v; count = refl; settled = refl; loads = refl }
+looked_self v = record { extends = extends_self v; count = refl; settled = refl; loads = refl; opens = λ count h. h }
 
 -- and one to which looks were added twice
 pub looked_both : (a b c : View) → OnlyLooks a b → OnlyLooks b c → OnlyLooks a c
@@ -61,6 +162,7 @@ looked_both a b c p q = record {
   count = q.count ∙ p.count;
   settled = q.settled ∙ p.settled;
   loads = q.loads ∙ p.loads;
+  opens = λ count h. q.opens count (p.opens count h);
 }
 
 -- a look that tells of an end has found an end's word

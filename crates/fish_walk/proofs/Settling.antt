@@ -81,6 +81,7 @@ module _ (a b c d e : View) (known x settled : ℕ) (to_b : b ≡ after_settled 
               gaps = l.learns.gaps;
               labels = l.learns.labels;
               unended = l.learns.unended;
+              opens = λ y m. l.learns.opens y (inr m);
             };
             clock = later_both a.clock b.clock e.clock on_b (later_both b.clock c.clock e.clock counts.on
                 (later_both c.clock d.clock e.clock looked.extends.clock raised.extends.clock));

@@ -1,5 +1,5 @@
 -- What a call that settles numbers tells: how far it came, and why no further.
-use Rattle.std.specs.Prelude.{ℕ, ◌≡◌, ◌≢◌, ◌<◌, ◌≤◌, Some}
+use Rattle.std.specs.Prelude.{ℕ, ◌≡◌, ◌≢◌, ◌<◌, ◌≤◌, [], Some}
 use Rattle.std.proofs.Common.{◌⊎◌}
 use Rattle.fish_rule.specs.Clocks.{HasLoaded, IsLater}
 use Rattle.fish_rule.specs.Logs.{Extends, Learns, TellsMark}
@@ -9,7 +9,7 @@ use Rattle.fish_rule.specs.declared.view.Found.{Found}
 use Rattle.fish_rule.specs.declared.view.Kind.TheVariants.{Mark}
 use Rattle.fish_rule.specs.declared.view.Noted.TheVariants.{Directory, Tail}
 use Rattle.fish_rule.specs.declared.view.View.{View}
-use Rattle.fish_walk.specs.Looks.{look_of}
+use Rattle.fish_walk.specs.Looks.{HasOpens, look_of}
 use Rattle.fish_walk.specs.declared.outcome.Look.TheVariants.{Overflow, Unfinished}
 
 -- ---- loads
@@ -68,12 +68,14 @@ pub record OnlyLooks (v u : View) : Type 0 where
   pub count : u.learned.count ≡ v.learned.count
   pub settled : u.learned.settled ≡ v.learned.settled
   pub loads : u.clock.loads ≡ v.clock.loads
+  pub opens : (count : ℕ) → HasOpens v count [] → HasOpens u count []
 
 -- the second view is the first but for the settled number, which is at least this one
 pub record OnlyRaises (v u : View) (number : ℕ) : Type 0 where
   pub extends : Extends v u
   pub reaches : number ≤ u.learned.settled
   pub count : u.learned.count ≡ v.learned.count
+  pub opens : u.learned.opens ≡ v.learned.opens
   pub loads : u.clock.loads ≡ v.clock.loads
 
 -- the second view is the first but for the tail and what was learned since; no word of the log was loaded

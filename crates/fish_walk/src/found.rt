@@ -5,7 +5,7 @@ ghost use Rattle.fish_rule.specs.Passes.{IsPassOf, view};
 ghost use Rattle.fish_rule.specs.Reading.{CanLook, IsAlone, after_end, after_look};
 ghost use Rattle.fish_rule.specs.Table.{Sees};
 ghost use Rattle.fish_rule.specs.World.{high};
-ghost use Rattle.fish_walk.specs.Looks.{IsTailCount, IsEntryLook, look_of};
+ghost use Rattle.fish_walk.specs.Looks.{HasOpens, IsEntryLook, IsLookAt, IsTailCount, KeepsOpens, look_of};
 ghost use Rattle.fish_walk.specs.declared.outcome.Look.TheVariants.{Unfinished};
 
 use crate::outcome::{Look, told_by};
@@ -21,6 +21,8 @@ pub fn look(log: &Log, pass: &mut Pass, number: u32) -> Look
     ensures alone { IsAlone (view pass.old) → result ≢ Unfinished }
     ensures sees { (word : ℕ) × Sees (view pass.old) number word × (result ≡ look_of word) }
     ensures settled { number < (view pass.old).learned.settled → IsEntryLook result }
+    ensures found { IsLookAt (view pass.new) number result }
+    ensures opens { KeepsOpens (view pass.old) (view pass.new) number result }
 {
     told_by(look_at(log, pass, u64::from(number)))
 }
@@ -32,6 +34,7 @@ pub fn count_now(log: &Log, pass: &mut Pass) -> u32
     ensures view { (x : ℕ) × (view pass.new ≡ after_end (view pass.old) x) × (result ≡ high x) }
     ensures counted { (view pass.old).learned.count ≤ result }
     ensures settled { (view pass.old).learned.settled ≤ result }
+    ensures opens { HasOpens (view pass.new) result [] }
     ensures rests { (view pass.old).lane ≡ 1 → (view pass.old).out ≡ [] → IsTailCount result (view pass.old).tail }
 {
     load_tail(log, pass).number as u32

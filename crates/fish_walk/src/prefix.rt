@@ -1,8 +1,9 @@
 //! The stable prefix of the log: the numbers below the settled one, all published and no marks.
 
-ghost use Rattle.std.specs.Prelude.{◌≡◌, ◌≤◌, min};
+ghost use Rattle.std.specs.Prelude.{◌≡◌, ◌≤◌, [], min};
 ghost use Rattle.fish_rule.specs.Passes.{IsPassOf, view};
 ghost use Rattle.fish_rule.specs.Reading.{CanRaise, IsAlone};
+ghost use Rattle.fish_walk.specs.Looks.{HasOpens};
 ghost use Rattle.fish_walk.specs.Settling.{AreSettled, CanSettle, EndsAt, HasLoadedCount, HasTail, IsEnd, IsMark, OnlyLooks, OnlyRaises};
 ghost use Rattle.fish_walk.specs.Settling.{OnlySettles, StopsAt};
 
@@ -33,6 +34,7 @@ pub fn settle(log: &Log, pass: &mut Pass) -> Settled
     ensures alone { IsAlone (view pass.old)
         → StopsAt IsMark (view pass.old) (view pass.new) result.settled result.count }
     ensures tail { HasTail (view pass.new) result.count }
+    ensures opens { HasOpens (view pass.new) result.count [] }
     ensures ends { IsAlone (view pass.old) → EndsAt (view pass.new) result.settled result.count }
 {
     let known = load_settled(log, pass);

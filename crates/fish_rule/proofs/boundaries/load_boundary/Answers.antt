@@ -44,3 +44,6 @@ pub returns-clause-view : goal.returns-clause-view
 returns-clause-view c =
     let can = c.requires.boundary in
     (c.load.ensures.2.told c.args.id c.args.place can.few can.bound (omega arith)).view
+
+pub returns-clause-known : goal.returns-clause-known
+returns-clause-known c x among same = c.load.ensures.2.known x among (same ∙ (omega arith))

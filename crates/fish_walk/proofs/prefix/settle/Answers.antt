@@ -98,3 +98,15 @@ returns-clause-rises c =
     let known = ap (λ (z : View). z.learned.settled) c.load_settled-known.ensures.view in
     let upto = c.settled_up_to-settled.ensures.from in
     omega arith
+
+-- the looks keep the list that began at the second load, and the raise leaves it
+pub returns-clause-opens : goal.returns-clause-opens
+returns-clause-opens c =
+    let h = c.settled_up_to-settled.ensures.looked.opens _ c.count_now-count.ensures.opens in
+    record {
+      last = h.last;
+      before = h.before;
+      opens = c.raise_to.ensures.raised.opens ∙ h.opens;
+      count_is = h.count_is;
+      listed = h.listed;
+    }
