@@ -48,6 +48,7 @@ swing_learns u f b = record {
   gaps = λ x m. m;
   labels = λ x m. m;
   unended = λ x m. m;
+  opens = λ x m. m;
 }
 
 -- by a splice that was made
@@ -67,6 +68,7 @@ splice_learns u f b q = record {
   gaps = λ x m. m;
   labels = λ x m. m;
   unended = λ x m. m;
+  opens = λ x m. m;
 }
 
 -- ---- one step after others

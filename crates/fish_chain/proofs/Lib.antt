@@ -1,8 +1,10 @@
 pub mod Changes
 pub mod Climbing
+pub mod Comparing
 pub mod Descents
 pub mod Laws
 pub mod Partly
 pub mod Passing
 pub mod Splicing
 pub mod Swinging
+pub mod Values

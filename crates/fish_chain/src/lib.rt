@@ -5,7 +5,9 @@
 #![tactic(auto)]
 
 mod chain;
+mod value;
 mod walk;
 
 pub use chain::link;
+pub use value::node_has;
 pub use walk::{Node, walk_next, walk_rest, walk_start};

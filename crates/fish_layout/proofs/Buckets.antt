@@ -28,7 +28,7 @@ use Rattle.fish_layout.proofs.Spelled.{spelled_body, spelled_keys}
 -- ---- bytes
 
 -- a byte of a word, by division
-byte_of : (w j : ℕ) → j < 8 → get_or (to_le_bytes w64 w) j 0 ≡ w / 256 ^ j % 256
+pub byte_of : (w j : ℕ) → j < 8 → get_or (to_le_bytes w64 w) j 0 ≡ w / 256 ^ j % 256
 byte_of w zero h = omega arith
 byte_of w (suc zero) h = refl
 byte_of w (suc (suc zero)) h = refl

@@ -47,7 +47,7 @@ complement_fits (pos a) h = grind (arith, nat_tests)
 complement_fits (negsuc a) h = omega arith
 
 -- a value by its kind and its bytes
-same_value : (v w : Value) → IsProperValue v → IsProperValue w → kind_code v ≡ kind_code w →
+pub same_value : (v w : Value) → IsProperValue v → IsProperValue w → kind_code v ≡ kind_code w →
     value_bytes v ≡ value_bytes w → v ≡ w
 same_value (kind.Bool a) (kind.Bool b) pv pw k h = ap kind.Bool (same_truth a b h)
 same_value (kind.Int a) (kind.Int b) pv pw k h =

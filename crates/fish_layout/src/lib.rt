@@ -23,5 +23,5 @@ pub use parts::{
     BodyHead, BodyParts, KeyPart, KeyParts, MAX_KEYS, MAX_LANE, MAX_PAYLOAD, MAX_VERSION,
 };
 pub use read::{Payload, read_body, read_payload};
-pub use word::{id_in, keys_in, lines_in, number_in, place_in};
+pub use word::{id_in, keys_in, kind_in, lines_in, number_in, offset_in, place_in, size_in};
 pub use write::{body_from, body_of};

@@ -149,7 +149,7 @@ pub fn place_in(entry: u64) -> u16
 
 /// The code of the value's kind, by the third word of a key entry.
 #[tactic(auto, unfolding(crate::specs::Entry::value_kind, crate::specs::Header::field))]
-pub(crate) fn kind_in(value: u64) -> u64
+pub fn kind_in(value: u64) -> u64
     ensures { result ≡ value_kind value }
 {
     value % 4
@@ -157,7 +157,7 @@ pub(crate) fn kind_in(value: u64) -> u64
 
 /// The length of the value's bytes, by the third word of a key entry.
 #[tactic(auto, unfolding(crate::specs::Entry::value_size, crate::specs::Header::field))]
-pub(crate) fn size_in(value: u64) -> usize
+pub fn size_in(value: u64) -> usize
     ensures value { result ≡ value_size value }
     ensures fits { result < 2 ^ 9 }
 {
@@ -166,7 +166,7 @@ pub(crate) fn size_in(value: u64) -> usize
 
 /// The offset of the value's bytes, by the third word of a key entry.
 #[tactic(auto, unfolding(crate::specs::Entry::value_offset, crate::specs::Header::field))]
-pub(crate) fn offset_in(value: u64) -> usize
+pub fn offset_in(value: u64) -> usize
     ensures value { result ≡ value_offset value }
     ensures fits { result < 2 ^ 18 }
 {
