@@ -1,0 +1,323 @@
+-- What a scan knew at each of its steps holds at its end.
+use Rattle.std.proofs.Common.{◌≡◌, ℕ, ◌-◌, ◌<◌, ◌≤◌, zero, suc, List, [], ◌∷◌, ◌++◌, refl, sym, ap, ◌∙◌, subst, ⊎_elim, inl}
+use Rattle.std.proofs.Common.{inr, arith, Some, None, Option, slice_get, Bool, true, false, cond, nat_lt, Result, Ok, Err}
+use Rattle.std.specs.Prelude.{IfErr}
+use Rattle.std.specs.Result.{IsErrAnd}
+use Rattle.std.proofs.Math.ListN.{get_or}
+use Rattle.std.proofs.lemmas.Option.{get_or_from_slice_get, same_Some}
+use Rattle.fish_catalog.specs.declared.interval.Interval.{Interval}
+use Rattle.fish_catalog.specs.declared.listed.Listed.{Listed}
+use Rattle.fish_epoch.proofs.Reading.{defs_later}
+use Rattle.fish_epoch.specs.Definitions.{AreRead, rows_of, version_of}
+use Rattle.fish_epoch.specs.declared.definitions.Known.{Known}
+use Rattle.fish_lang.specs.Definition.{Definition}
+use Rattle.fish_lang.specs.Language.{IsAccepted}
+use Rattle.fish_plan.proofs.Inside.{index_inside, piece_within}
+use Rattle.fish_plan.specs.Intervals.{IsBelowEnd}
+use Rattle.fish_plan.specs.Pieces.{one_full}
+use Rattle.fish_plan.specs.declared.pieces.Piece.{Piece}
+use Rattle.fish_plan.specs.declared.pieces.Piece.TheVariants.{Full, Index}
+use Rattle.fish_rule.proofs.Clocks.{later_both, later_self, loaded_within, noted_load}
+use Rattle.fish_rule.proofs.Extending.{learns_both, learns_self}
+use Rattle.fish_rule.proofs.Walking.{always_later}
+use Rattle.fish_rule.specs.Clocks.{HasLoaded, IsLater}
+use Rattle.fish_rule.specs.Entering.{after_version}
+use Rattle.fish_rule.specs.Intervals.{HasInterval}
+use Rattle.fish_rule.specs.Logs.{Extends, Learns, TellsMark}
+use Rattle.fish_rule.specs.declared.view.Key.{Key}
+use Rattle.fish_rule.specs.declared.view.Noted.TheVariants.{Version}
+use Rattle.fish_rule.specs.declared.view.View.{View}
+use Rattle.fish_scan.proofs.Beginnings.{interval_later}
+use Rattle.fish_scan.proofs.Lists.{at_among}
+use Rattle.fish_scan.proofs.Looking.{open_later, open_sooner}
+use Rattle.fish_scan.specs.Indices.{IsIndex}
+use Rattle.fish_scan.specs.Intervals.{IsIntervalOf, end_within}
+use Rattle.fish_scan.specs.Matching.{Finds}
+use Rattle.fish_scan.specs.Pieces.{AreReadable, IsReadable}
+use Rattle.fish_scan.specs.Reach.{IsRange, end_of}
+use Rattle.fish_scan.specs.Reading.{Adds}
+use Rattle.fish_scan.specs.Scans.{IsAsked, IsCovered, IsExplained, IsPlan, IsPrepared, IsPlanRefused, IsRefused, OnlyScans, first_asked}
+use Rattle.fish_scan.specs.declared.ask.Ask.{Ask}
+use Rattle.fish_scan.specs.declared.ask.How.{How}
+use Rattle.fish_scan.specs.declared.ask.How.TheVariants as how
+use Rattle.fish_scan.specs.declared.reach.Reach.{Reach}
+use Rattle.fish_scan.specs.declared.refusal.ScanRefusal.{ScanRefusal}
+use Rattle.fish_scan.specs.declared.refusal.ScanRefusal.TheVariants as refusal
+use Rattle.fish_scan.specs.declared.scanning.Prepared.{Prepared}
+use Rattle.fish_value.specs.declared.row.Row.{Row}
+use Rattle.fish_value.specs.declared.value.Value.{Value}
+use Rattle.fish_walk.specs.Settling.{OnlySettles}
+
+-- ---- views
+
+-- two parts of a scan
+pub scans_both : (a b c : View) → OnlyScans a b → OnlyScans b c → OnlyScans a c
+scans_both a b c h g = record {
+  learns = learns_both a b c h.learns g.learns;
+  clock = later_both a.clock b.clock c.clock h.clock g.clock;
+  frame = g.frame ∙ ap (λ (z : View). record z { epoch = c.epoch; tail = c.tail; learned = c.learned; clock = c.clock }) h.frame;
+}
+
+-- a view that extends another
+pub scans_extends : (v u : View) → Extends v u → OnlyScans v u
+scans_extends v u h = record {
+  learns = h.learns;
+  clock = h.clock;
+  frame = h.frame ∙ λ i. record v {
+    epoch = sym (ap (λ (z : View). z.epoch) h.frame) i;
+    tail = sym (ap (λ (z : View). z.tail) h.frame) i;
+    learned = u.learned;
+    clock = u.clock;
+  };
+}
+
+-- a call that settles
+pub scans_settles : (v u : View) → OnlySettles v u → OnlyScans v u
+scans_settles v u h = record {
+  learns = h.learns;
+  clock = h.clock;
+  frame = h.frame ∙ λ i. record v {
+    epoch = sym (ap (λ (z : View). z.epoch) h.frame) i;
+    tail = u.tail;
+    learned = u.learned;
+    clock = u.clock;
+  };
+}
+
+-- the version is loaded
+pub scans_version : (v u : View) (x : ℕ) → u ≡ after_version v x → v.learned.version ≤ x → OnlyScans v u
+scans_version v u x is more = subst (OnlyScans v) (sym is) (record {
+  learns = record {
+    about = refl;
+    count = omega arith;
+    settled = omega arith;
+    version = more;
+    words = λ y m. m;
+    found = λ y m. m;
+    known = λ y m. m;
+    records = λ y m. m;
+    nodes = λ y m. m;
+    lows = λ y m. m;
+    tops = λ y m. m;
+    gaps = λ y m. m;
+    labels = λ y m. m;
+    unended = λ y m. m;
+    opens = λ y m. m;
+  };
+  clock = (noted_load v.clock Version x).on;
+  frame = refl;
+})
+
+-- the version that was loaded is that of the definitions
+pub version_loaded : (v m u : View) (x : ℕ) (known : Known) → m ≡ after_version v x → IsLater m.clock u.clock
+    → version_of known ≡ x → HasLoaded v.clock u.clock Version (version_of known)
+version_loaded v m u x known is later same =
+    subst (HasLoaded v.clock u.clock Version) (sym same)
+    (loaded_within v.clock v.clock m.clock u.clock Version x (later_self v.clock)
+    (subst (λ (z : View). HasLoaded v.clock z.clock Version x) (sym is) (noted_load v.clock Version x)) later)
+
+-- ---- what was asked
+
+-- what was read is so later
+pub read_later : (v u : View) (known : Known) → Learns v u → AreRead v known → AreRead u known
+read_later v u known learns h = defs_later v u known learns (λ _. h) h.read
+
+-- what is asked is so later
+unfoldable pub asked_later : (v u t : View) (known : Known) (ask : Ask) (place : ℕ) → OnlyScans u t → IsAsked v u known ask place
+    → IsAsked v t known ask place
+asked_later v u t known ask place more h = record {
+  loaded = loaded_within _ _ _ _ _ _ (later_self v.clock) h.loaded more.clock;
+  read = read_later u t known more.learns h.read;
+  newest = h.newest;
+  some = h.some;
+}
+
+-- ---- ranges and plans
+
+-- a range that was found between two views was so between an earlier and a later one
+pub range_within : (v m u t : View) (from : ℕ) (to : Option ℕ) (first last : ℕ) (opens : List ℕ) → OnlyScans v m
+    → OnlyScans u t → IsRange m u from to first last opens → IsRange v t from to first last opens
+range_within v m u t from to first last opens before after h = record {
+  first_is = h.first_is;
+  count = h.count;
+  counted = record {
+    tail = h.counted.tail;
+    loaded = loaded_within _ _ _ _ _ _ before.clock
+        (loaded_within _ _ _ _ _ _ (later_self m.clock) h.counted.loaded after.clock) (later_self t.clock);
+    is = h.counted.is;
+  };
+  known = (let a = h.known in let b = before.learns.count in omega arith);
+  within = h.within;
+  stops = ⊎_elim (λ (e : last ≡ end_of to h.count). inl e)
+      (λ (mark : TellsMark u last). inr (λ x more. mark x (learns_both u t x after.learns more))) h.stops;
+  rise = h.rise;
+  were = λ n among. open_sooner v m t n before.learns (open_later m u t n after.learns (h.were n among));
+  apart = λ a b lane f g p q one other. always_later u t _ after.learns (h.apart a b lane f g p q one other);
+}
+
+-- so was a cover
+pub covered_within : (v m u t : View) (rows : List Listed) (text : List ℕ) (from settled to : ℕ) (plan : List Piece)
+    → Learns v m → Learns u t → IsCovered m u rows text from settled to plan → IsCovered v t rows text from settled to plan
+covered_within v m u t rows text from settled to plan before after h = record {
+  moment = h.moment;
+  after = learns_both v m h.moment before h.after;
+  known = h.known;
+  intervals = h.intervals;
+  are = record {
+    each = λ x among. interval_later u t h.moment.learned.settled rows text x after (h.are.each x among);
+    known = h.are.known;
+  };
+  cover = h.cover;
+}
+
+-- and a plan
+pub plan_within : (v m u t : View) (rows : List Listed) (text : List ℕ) (way : How) (from settled to : ℕ)
+    (plan : List Piece) → Learns v m → Learns u t → IsPlan m u rows text way from settled to plan
+    → IsPlan v t rows text way from settled to plan
+plan_within v m u t rows text how.Full from settled to plan before after h = h
+plan_within v m u t rows text how.Auto from settled to plan before after h =
+    covered_within v m u t rows text from settled to plan before after h
+plan_within v m u t rows text how.Index from settled to plan before after h =
+    (covered_within v m u t rows text from settled to plan before after h.0, h.1)
+
+-- ---- what can be read
+
+-- a full plan has one piece at most
+one_piece : (from to place : ℕ) (x : Piece) (b : Bool) → slice_get (cond b (Full from to ∷ []) []) place ≡ Some x
+    → x ≡ Full from to
+one_piece from to zero x true at = sym (same_Some _ _ at)
+one_piece from to (suc n) x true at = absurd cc
+one_piece from to place x false at = absurd cc
+
+module _ (v u : View) (known : Known) (def : Definition) (text : List ℕ) (reach : Reach) (read : AreRead u known)
+    (means : IsAccepted text def) (ordered : reach.from ≤ reach.to) where
+  -- the index of a row with the text is complete in its interval
+  index_found : (id p q settled : ℕ) (x : Interval) → x.id ≡ id → p < q
+      → ((n : ℕ) → p ≤ n → n < q → (x.from ≤ n) × IsBelowEnd n x.to)
+      → q ≤ settled → IsIntervalOf u settled (rows_of known) text x → IsIndex u def id p q
+  index_found id p q settled x id_is some holds below h = record {
+    version = version_of known;
+    rows = rows_of known;
+    knows = read.rows;
+    listed = h.row;
+    there = ap (slice_get (rows_of known)) (sym id_is) ∙ h.there;
+    means = subst (λ (z : List ℕ). IsAccepted z def) (sym h.text_is) means;
+    begin = x.from;
+    end = end_within settled x.to;
+    interval = subst (λ (z : ℕ). HasInterval u z x.from (end_within settled x.to)) id_is h.begun.interval;
+    after = (holds p (omega arith) some).0;
+    before = ends x.to (holds (q - 1) (omega arith) (omega arith)).1;
+  }
+    where
+      ends : (to : Option ℕ) → IsBelowEnd (q - 1) to → q ≤ end_within settled to
+      ends None less = below
+      ends (Some to) less = omega arith
+
+  -- the pieces of a cover
+  cover_readable : (plan : List Piece) → IsCovered v u (rows_of known) text reach.from reach.settled reach.to plan
+      → AreReadable u def reach plan
+  cover_readable plan h place (Full p q) there =
+      let w = piece_within plan reach.from reach.to place (Full p q) h.cover.fill there in
+      record { from = w.0; some = (let s = w.1 in omega arith); to = w.2 }
+  cover_readable plan h place (Index id p q) there =
+      let w = piece_within plan reach.from reach.to place (Index id p q) h.cover.fill there in
+      let i = index_inside plan reach.from reach.settled reach.to h.intervals h.cover place id p q there in
+      let x = i.4 in (
+        record { from = w.0; some = (let s = w.1 in omega arith); to = w.2 },
+        i.1,
+        index_found id p q h.moment.learned.settled x i.6 w.1
+            (λ n least most. let held = i.7 n least most in (held.begun, held.open_still))
+            (let a = i.1 in let b = h.known in omega arith) (h.are.each x (at_among h.intervals i.3 x i.5)),
+      )
+
+  -- that of a full plan
+  full_readable : (plan : List Piece) → plan ≡ one_full reach.from reach.to → AreReadable u def reach plan
+  full_readable plan is place piece there =
+      subst (IsReadable u def reach) (sym (one_piece reach.from reach.to place piece (nat_lt reach.from reach.to)
+      (subst (λ (z : List Piece). slice_get z place ≡ Some piece) is there)))
+      (record { from = omega arith; some = ordered; to = omega arith })
+
+  -- and those of every plan
+  pub plan_readable : (way : How) (plan : List Piece)
+      → IsPlan v u (rows_of known) text way reach.from reach.settled reach.to plan → AreReadable u def reach plan
+  plan_readable how.Full plan h = full_readable plan h
+  plan_readable how.Auto plan h = cover_readable plan h
+  plan_readable how.Index plan h = cover_readable plan h.0
+
+-- ---- refusals
+
+-- why there is no plan is why there is no answer
+pub plan_refused : (v m u t : View) (known : Known) (ask : Ask) (place from settled to : ℕ) (opens : List ℕ)
+    (r : ScanRefusal) (asked : IsAsked v t known ask place) → OnlyScans v m → Learns u t
+    → IsRange v t (first_asked ask) ask.to from to opens → v.learned.settled ≤ settled
+    → IsPlanRefused m u (rows_of known) asked.newest.listed.def ask.how from settled to r → IsRefused v t known ask r
+plan_refused v m u t known ask place from settled to opens (refusal.NotCovered first last) asked before after range least h = (
+  h.0,
+  (
+    place,
+    (
+      asked,
+      (
+        from,
+        (
+          to,
+          (
+            opens,
+            range,
+            (
+              settled,
+              least,
+              (
+                h.1.0,
+                covered_within v m u t _ _ _ _ _ _ before.learns
+                    after h.1.1,
+                h.1.2,
+              ),
+            ),
+          ),
+        ),
+      ),
+    ),
+  ),
+)
+plan_refused v m u t known ask place from settled to opens refusal.OutOfMemory asked before after range least h = tt
+plan_refused v m u t known ask place from settled to opens (refusal.UnknownName version) asked before after range least h =
+    absurd h
+plan_refused v m u t known ask place from settled to opens (refusal.EmptyRange a b) asked before after range least h = absurd h
+plan_refused v m u t known ask place from settled to opens (refusal.ColdRange base) asked before after range least h = absurd h
+
+-- a refusal that comes of another
+pub errs : {A E : Type 0} (P Q : E → Type 0) (r : Result A E) → IsErrAnd r P → ((e : E) → P e → Q e) → IfErr r Q
+errs P Q (Ok x) h f = tt
+errs P Q (Err e) h f = f e h
+
+-- ---- what was prepared
+
+-- what stands at the place of a row
+pub row_found : (rows got : List Listed) (place : ℕ) (listed other : Listed) → got ≡ rows
+    → slice_get rows place ≡ Some listed → get_or got place other ≡ listed
+row_found rows got place listed other same there =
+    get_or_from_slice_get got place listed other (ap (λ (z : List Listed). slice_get z place) same ∙ there)
+
+-- how the range is read is so later
+unfoldable pub explained_later : (v u t : View) (known : Known) (ask : Ask) (p : Prepared) → OnlyScans u t → IsPrepared v u known ask p
+    → IsExplained v t known ask p.reach.from p.reach.to p.reach.opens p.plan
+unfolding asked_later
+explained_later v u t known ask p after h = record {
+  place = h.place;
+  asked = asked_later v u t known ask h.place after h.asked;
+  range = range_within v v u t _ _ _ _ _ (record { learns = learns_self v; clock = later_self v.clock; frame = refl }) after
+      h.reach.range;
+  base = subst (λ (z : Key). z.number ≤ p.reach.from) (sym after.learns.about) h.base;
+  settled = p.reach.settled;
+  least = h.reach.settled;
+  most = (let a = h.reach.reaches in let b = after.learns.settled in omega arith);
+  plan_is = plan_within v v u t _ _ ask.how _ _ _ _ (learns_self v) after.learns h.plan;
+}
+
+-- rows behind none
+pub adds_first : (v : View) (def : Definition) (value other : Value) (from to : ℕ) (opens : List ℕ) (before after : List Row)
+    → before ≡ [] → value ≡ other → Adds v def value from to opens before after → Finds v def other from to opens after
+adds_first v def value other from to opens before after none same h =
+    subst (λ (z : Value × List Row). Finds v def z.0 from to opens z.1)
+    (λ i. (same i, sym (h.1 ∙ ap (λ (z : List Row). z ++ h.0) none) i)) h.2

@@ -1,0 +1,88 @@
+-- A range is read piece by piece.
+use Rattle.std.proofs.Common.{◌≡◌, ℕ, ◌≤◌, zero, suc, List, [], ◌∷◌, drop, length, sym, subst, arith, Some, slice_get}
+use Rattle.std.proofs.lemmas.Option.{same_Some}
+use Rattle.fish_lang.specs.Definition.{Definition}
+use Rattle.fish_plan.specs.Pieces.{Fill, piece_from, piece_to}
+use Rattle.fish_plan.specs.declared.pieces.Piece.{Piece}
+use Rattle.fish_plan.specs.declared.pieces.Piece.TheVariants.{Full, Index}
+use Rattle.fish_rule.specs.Logs.{Learns}
+use Rattle.fish_rule.specs.declared.view.View.{View}
+use Rattle.fish_scan.proofs.Telling.{adds_both, adds_later, adds_none}
+use Rattle.fish_scan.proofs.Walks.{index_later}
+use Rattle.fish_scan.specs.Pieces.{IsReadable}
+use Rattle.fish_scan.specs.Reading.{Adds}
+use Rattle.fish_scan.specs.declared.reach.Reach.{Reach}
+use Rattle.fish_value.specs.declared.row.Row.{Row}
+use Rattle.fish_value.specs.declared.value.Value.{Value}
+
+-- a piece that can be read can be read later
+pub readable_later : (v u : View) (def : Definition) (reach : Reach) (piece : Piece) → Learns v u
+    → IsReadable v def reach piece → IsReadable u def reach piece
+readable_later v u def reach (Index id from to) learns h = (h.0, h.1, index_later v u def id from to learns h.2)
+readable_later v u def reach (Full from to) learns h = h
+
+-- pieces that fill a range fill none that begins behind its end
+fill_order : (pieces : List Piece) (from to : ℕ) → Fill pieces from to → from ≤ to
+fill_order [] from to fill = omega arith
+fill_order (x ∷ pieces) from to fill =
+    let below = fill_order pieces from (piece_from x) fill.2 in let less = fill.1 in omega arith
+
+-- the piece at a place, and those behind it
+fill_at : (pieces : List Piece) (n from to : ℕ) (x : Piece) → slice_get pieces n ≡ Some x → Fill (drop n pieces) from to
+    → Fill (x ∷ drop (suc n) pieces) from to
+fill_at [] n from to x there fill = absurd cc
+fill_at (y ∷ pieces) zero from to x there fill =
+    subst (λ (z : Piece). Fill (z ∷ pieces) from to) (same_Some y x there) fill
+fill_at (y ∷ pieces) (suc n) from to x there fill = fill_at pieces n from to x there fill
+
+-- behind the last place there is none
+fill_end : (pieces : List Piece) (n from to : ℕ) → length pieces ≤ n → Fill (drop n pieces) from to → from ≡ to
+fill_end [] zero from to past fill = fill
+fill_end [] (suc n) from to past fill = fill
+fill_end (x ∷ pieces) zero from to past fill = absurd (omega arith)
+fill_end (x ∷ pieces) (suc n) from to past fill = fill_end pieces n from to (omega arith) fill
+
+-- the numbers from a bound on were read, and the pieces from a place on fill what is below
+pub record HasRead (v : View) (def : Definition) (value : Value) (reach : Reach) (pieces : List Piece) (n : ℕ)
+    (before after : List Row) : Type 0 where
+  pub bound : ℕ
+  pub fill : Fill (drop n pieces) reach.from bound
+  pub below : bound ≤ reach.to
+  pub rows : Adds v def value bound reach.to reach.opens before after
+
+-- none yet
+pub read_none : (v : View) (def : Definition) (value : Value) (reach : Reach) (pieces : List Piece) (rows : List Row)
+    → Fill pieces reach.from reach.to → HasRead v def value reach pieces 0 rows rows
+read_none v def value reach pieces rows fill = record {
+  bound = reach.to;
+  fill = fill;
+  below = omega arith;
+  rows = adds_none v def value reach.to reach.opens rows;
+}
+
+-- one piece more
+pub read_more : (v u : View) (def : Definition) (value : Value) (reach : Reach) (pieces : List Piece) (n : ℕ) (x : Piece)
+    (before rows after : List Row) → Learns v u → slice_get pieces n ≡ Some x
+    → HasRead v def value reach pieces n before rows
+    → Adds u def value (piece_from x) (piece_to x) reach.opens rows after
+    → HasRead u def value reach pieces (suc n) before after
+read_more v u def value reach pieces n x before rows after learns there h adds =
+    let f = fill_at pieces n reach.from h.bound x there h.fill in
+    let less = f.1 in
+    let below = h.below in
+    record {
+      bound = piece_from x;
+      fill = f.2;
+      below = omega arith;
+      rows = adds_both u def value (piece_from x) h.bound reach.to reach.opens before rows after (omega arith) below
+          (adds_later v u _ _ _ _ _ _ _ learns h.rows)
+          (subst (λ (z : ℕ). Adds u def value (piece_from x) z reach.opens rows after) f.0 adds);
+    }
+
+-- all of them
+pub read_all : (v : View) (def : Definition) (value : Value) (reach : Reach) (pieces : List Piece) (n : ℕ)
+    (before after : List Row) → length pieces ≤ n → HasRead v def value reach pieces n before after
+    → Adds v def value reach.from reach.to reach.opens before after
+read_all v def value reach pieces n before after past h =
+    subst (λ (z : ℕ). Adds v def value z reach.to reach.opens before after)
+    (sym (fill_end pieces n reach.from h.bound past h.fill)) h.rows

@@ -1,0 +1,12 @@
+pub mod Answering
+pub mod Beginnings
+pub mod Filling
+pub mod Finding
+pub mod Gathering
+pub mod Indexing
+pub mod Lists
+pub mod Looking
+pub mod Nodes
+pub mod Reaching
+pub mod Telling
+pub mod Walks

@@ -1,0 +1,266 @@
+-- Numbers that a scan looks at, one after the other.
+use Rattle.std.proofs.Common.{◌≡◌, ◌≢◌, ℕ, ◌+◌, ◌<◌, ◌≤◌, suc, List, [], ◌∷◌, ◌++◌, length, refl, sym, ap, ◌∙◌, subst}
+use Rattle.std.proofs.Common.{⊎_elim, inl, inr, ◌⊎◌, arith, Some, None, Option, slice_get, min, max}
+use Rattle.fish_rule.proofs.Clocks.{later_both, later_self, loaded_within}
+use Rattle.fish_rule.proofs.Closing.{tells_mark}
+use Rattle.fish_rule.proofs.Common.{among_left, among_right}
+use Rattle.fish_rule.proofs.Extending.{learns_both}
+use Rattle.fish_rule.proofs.Unpublished.{opens_apart}
+use Rattle.fish_rule.specs.Logs.{Learns, TellsMark}
+use Rattle.fish_rule.specs.Table.{Sees}
+use Rattle.fish_rule.specs.Unpublished.{AreApart}
+use Rattle.fish_rule.specs.Views.{Among}
+use Rattle.fish_rule.specs.declared.view.Key.{Key}
+use Rattle.fish_rule.specs.declared.view.Position.{Position}
+use Rattle.fish_rule.specs.declared.view.View.{View}
+use Rattle.fish_scan.proofs.Lists.{among_last, get_before, get_here, get_last, length_more}
+use Rattle.fish_scan.proofs.Reaching.{seen_still}
+use Rattle.fish_scan.specs.Reach.{AreLooks, AreSeen, IsReach, IsReached, Rise, WasOpen, end_of}
+use Rattle.fish_scan.specs.declared.reach.Reach.{Reach}
+use Rattle.fish_walk.specs.Looks.{HasOpens, IsLookAt, KeepsOpens, look_of, with_look}
+use Rattle.fish_walk.specs.Settling.{HasLoadedCount, HasTail, OnlyLooks, OnlySettles}
+use Rattle.fish_walk.specs.declared.outcome.Look.{Look}
+use Rattle.fish_walk.specs.declared.outcome.Look.TheVariants as look
+
+-- ---- numbers that rise
+
+-- one more behind
+pub rise_more : (low high n : ℕ) (ns : List ℕ) → Rise low high ns → high ≤ n → Rise low (suc n) (ns ++ n ∷ [])
+rise_more low high n [] rise more = (omega arith, omega arith)
+rise_more low high n (m ∷ ns) rise more = (rise.0, rise_more (suc m) high n ns rise.1 more)
+
+-- they stay below a greater number
+pub rise_later : (low high more : ℕ) (ns : List ℕ) → Rise low high ns → high ≤ more → Rise low more ns
+rise_later low high more [] rise less = omega arith
+rise_later low high more (m ∷ ns) rise less = (rise.0, rise_later (suc m) high more ns rise.1 less)
+
+-- they rise from a lower number too
+pub rise_sooner : (less low high : ℕ) (ns : List ℕ) → less ≤ low → Rise low high ns → Rise less high ns
+rise_sooner less low high [] lower rise = omega arith
+rise_sooner less low high (m ∷ ns) lower rise = ((let a = rise.0 in omega arith), rise.1)
+
+-- a number that was looked at behind others
+rise_look : (low n : ℕ) (r : Look) (ns : List ℕ) → Rise low n ns → Rise low (suc n) (with_look n r ns)
+rise_look low n look.Unfinished ns rise = rise_more low n n ns rise (omega arith)
+rise_look low n look.Void ns rise = rise_later low n (suc n) ns rise (omega arith)
+rise_look low n look.Stored ns rise = rise_later low n (suc n) ns rise (omega arith)
+rise_look low n look.Overflow ns rise = rise_later low n (suc n) ns rise (omega arith)
+
+-- ---- open numbers
+
+-- with a look more, the open ones are those of before, and the number where it told of no end
+open_more : (m n : ℕ) (r : Look) (ns : List ℕ) → Among m (with_look n r ns) → Among m ns ⊎ ((r ≡ look.Unfinished) × (n ≡ m))
+open_more m n look.Unfinished ns among =
+    elim (among_last m n ns among) [ inl a ↦ inl a | inr e ↦ inr (refl, e) ]
+open_more m n look.Void ns among = inl among
+open_more m n look.Stored ns among = inl among
+open_more m n look.Overflow ns among = inl among
+
+-- those of before stay
+open_still : (m n : ℕ) (r : Look) (ns : List ℕ) → Among m ns → Among m (with_look n r ns)
+open_still m n look.Unfinished ns among = among_left m ns (n ∷ []) among
+open_still m n look.Void ns among = among
+open_still m n look.Stored ns among = among
+open_still m n look.Overflow ns among = among
+
+-- and the number is one where it told of none
+open_here : (n : ℕ) (r : Look) (ns : List ℕ) → r ≡ look.Unfinished → Among n (with_look n r ns)
+open_here n r ns is = subst (λ (z : Look). Among n (with_look n z ns)) (sym is) (among_right n ns (n ∷ []) (inl refl))
+
+-- what was open before a later view
+pub open_later : (v m u : View) (n : ℕ) → Learns m u → WasOpen v m n → WasOpen v u n
+open_later v m u n learns h = record {
+  between = h.between;
+  after = h.after;
+  before = learns_both h.between m u h.before learns;
+  word = h.word;
+  seen = h.seen;
+  unfinished = h.unfinished;
+}
+
+-- what was open after an earlier one
+pub open_sooner : (t v u : View) (n : ℕ) → Learns t v → WasOpen v u n → WasOpen t u n
+open_sooner t v u n learns h = record {
+  between = h.between;
+  after = learns_both t v h.between learns h.after;
+  before = h.before;
+  word = h.word;
+  seen = h.seen;
+  unfinished = h.unfinished;
+}
+
+-- ---- looks
+
+-- one that tells of another thing tells of no mark
+pub unmarked : (r : Look) → (r ≡ look.Unfinished) ⊎ ((r ≡ look.Void) ⊎ (r ≡ look.Stored)) → r ≢ look.Overflow
+unmarked r (inl e) bad = (let f : look.Unfinished ≡ look.Overflow = sym e ∙ bad in cc)
+unmarked r (inr (inl e)) bad = (let f : look.Void ≡ look.Overflow = sym e ∙ bad in cc)
+unmarked r (inr (inr e)) bad = (let f : look.Stored ≡ look.Overflow = sym e ∙ bad in cc)
+
+-- none yet
+pub looks_none : (v : View) (first count : ℕ) (looks : List Look) (opens : List ℕ) → looks ≡ [] → opens ≡ []
+    → HasOpens v count [] → AreLooks v v first first count looks opens
+looks_none v first count looks opens none closed fresh =
+    subst (λ (z : List Look × List ℕ). AreLooks v v first first count z.0 z.1) (λ i. (sym none i, sym closed i)) (record {
+      seen = record {
+        each = λ i r at. absurd (let bad : None ≡ Some r = at in cc);
+        unfinished = λ i at. absurd (let bad : None ≡ Some look.Unfinished = at in cc);
+        open_ones = λ n among. elim among [ ];
+      };
+      few = omega arith;
+      stops = inl (omega arith);
+      listed = fresh;
+      were = λ n among. elim among [ ];
+      rise = omega arith;
+    })
+
+-- what was seen, with one look more
+seen_more : (v : View) (first n : ℕ) (looks : List Look) (opens : List ℕ) (r : Look) → first + length looks ≡ n
+    → IsLookAt v n r → r ≢ look.Overflow → AreSeen v first looks opens
+    → AreSeen v first (looks ++ r ∷ []) (with_look n r opens)
+seen_more v first n looks opens r many at unmarked h = record {
+  each = λ i s there. ⊎_elim (λ (e : slice_get looks i ≡ Some s). h.each i s e)
+      (λ (e : (i ≡ length looks) × (r ≡ s)). last i s e.0 e.1) (get_last looks r s i there);
+  unfinished = λ i there. ⊎_elim (λ (e : slice_get looks i ≡ Some look.Unfinished).
+      open_still (first + i) n r opens (h.unfinished i e))
+      (λ (e : (i ≡ length looks) × (r ≡ look.Unfinished)). subst (λ (z : ℕ). Among z (with_look n r opens)) (place i e.0)
+      (open_here n r opens e.1)) (get_last looks r look.Unfinished i there);
+  open_ones = λ m among. ⊎_elim (λ (a : Among m opens). before m (h.open_ones m a))
+      (λ (e : (r ≡ look.Unfinished) × (n ≡ m)). here m e.0 e.1) (open_more m n r opens among);
+}
+  where
+    place : (i : ℕ) → i ≡ length looks → n ≡ first + i
+    place i is = omega arith
+
+    last : (i : ℕ) (s : Look) → i ≡ length looks → r ≡ s → IsLookAt v (first + i) s × (s ≢ look.Overflow)
+    last i s is same = (
+      subst (λ (z : ℕ × Look). IsLookAt v z.0 z.1) (λ j. (place i is j, same j)) at,
+      λ bad. unmarked (same ∙ bad),
+    )
+
+    before : (m : ℕ) → ((i : ℕ) × (m ≡ first + i) × (slice_get looks i ≡ Some look.Unfinished))
+        → (i : ℕ) × (m ≡ first + i) × (slice_get (looks ++ r ∷ []) i ≡ Some look.Unfinished)
+    before m t = (t.0, t.1, get_before looks (r ∷ []) look.Unfinished t.0 t.2)
+
+    here : (m : ℕ) → r ≡ look.Unfinished → n ≡ m
+        → (i : ℕ) × (m ≡ first + i) × (slice_get (looks ++ r ∷ []) i ≡ Some look.Unfinished)
+    here m is same = (length looks, sym same ∙ place (length looks) refl, get_here looks r ∙ ap Some is)
+
+module _ (v m u : View) (first n count : ℕ) (looks : List Look) (opens : List ℕ) (r : Look) (learns : Learns v m)
+    (more : Learns m u) (h : AreLooks v m first n count looks opens) (many : first + length looks ≡ n)
+    (below : n < count) (keeps : KeepsOpens m u n r) where
+  -- with one look more
+  pub looks_more : (word : ℕ) → IsLookAt u n r → r ≢ look.Overflow → Sees m n word → r ≡ look_of word
+      → (after : List Look) (still : List ℕ) → after ≡ looks ++ r ∷ [] → still ≡ with_look n r opens
+      → AreLooks v u first (suc n) count after still
+  looks_more word at unmarked sees told after still is open_is =
+      subst (λ (z : List Look × List ℕ). AreLooks v u first (suc n) count z.0 z.1) (λ i. (sym is i, sym open_is i)) (record {
+        seen = seen_more u first n looks opens r many at unmarked (seen_still m u first looks opens more h.seen);
+        few = (let e = longer in omega arith);
+        stops = inl longer;
+        listed = keeps count opens h.listed below;
+        were = λ k among. ⊎_elim (λ (a : Among k opens). open_later v m u k more (h.were k a))
+            (λ (e : (r ≡ look.Unfinished) × (n ≡ k)). subst (WasOpen v u) e.1 (record {
+              between = m;
+              after = learns;
+              before = more;
+              word = word;
+              seen = sees;
+              unfinished = sym told ∙ e.0;
+            })) (open_more k n r opens among);
+        rise = subst (λ (z : ℕ). Rise first z (with_look n r opens)) (sym longer)
+            (rise_look first n r opens (subst (λ (z : ℕ). Rise first z opens) many h.rise));
+      })
+    where
+      longer : first + length (looks ++ r ∷ []) ≡ suc n
+      longer = (let e = length_more looks r in omega arith)
+
+  -- or up to a mark
+  pub looks_stop : (end : ℕ) → n ≤ end → r ≡ look.Overflow → IsLookAt u n r → AreLooks v u first end count looks opens
+  looks_stop end less is at = record {
+    seen = seen_still m u first looks opens more h.seen;
+    few = omega arith;
+    stops = inr (subst (TellsMark u) (sym many) (marked (subst (IsLookAt u n) is at)));
+    listed = subst (λ (z : Look). HasOpens u count (with_look n z opens)) is (keeps count opens h.listed below);
+    were = λ k among. open_later v m u k more (h.were k among);
+    rise = h.rise;
+  }
+    where
+      marked : IsLookAt u n look.Overflow → TellsMark u n
+      marked f = subst (TellsMark u) f.2 (tells_mark u f.0 f.1 f.3)
+
+-- ---- the range
+
+-- looks behind a call that settled
+pub settles_looks : (a b d : View) → OnlySettles a b → OnlyLooks b d → OnlySettles a d
+settles_looks a b d h g = record {
+  learns = learns_both a b d h.learns g.extends.learns;
+  clock = later_both a.clock b.clock d.clock h.clock g.extends.clock;
+  loads = g.loads ∙ h.loads;
+  frame = g.extends.frame ∙ ap (λ (z : View). record z { learned = d.learned; clock = d.clock }) h.frame
+      ∙ ap (λ (z : Option Position). record a { tail = z; learned = d.learned; clock = d.clock })
+      (sym (ap (λ (z : View). z.tail) g.extends.frame));
+}
+
+-- of the numbers that were found open since one load of the tail, no two are of one lane
+pub listed_apart : (v : View) (count : ℕ) (opens : List ℕ) → HasOpens v count opens → AreApart v opens
+listed_apart v count opens h m n lane f g p q one other =
+    opens_apart v h.last (subst (Among h.last) (sym h.opens) (inl refl)) m n lane f g p q (h.listed m one) (h.listed n other)
+
+module _ (a b d : View) (from : ℕ) (to : Option ℕ) (settled count end base first : ℕ) (reach : Reach)
+    (settles : OnlySettles a b) (rises : a.learned.settled ≤ settled) (known : settled ≤ b.learned.settled)
+    (counted : HasLoadedCount a b count) (tail : HasTail b count)
+    (end_is : end ≡ end_of to count) (base_is : base ≡ a.about.number)
+    (first_is : first ≡ min (max (max base settled) from) end) (looked : OnlyLooks b d)
+    (looks : AreLooks b d first end count reach.looks.items reach.opens) (settled_is : reach.settled ≡ settled)
+    (begins : reach.first ≡ first) (ends : reach.to ≡ first + length reach.looks.items)
+    (from_is : reach.from ≡ min from reach.to) where
+  -- what was looked at can be read where it doesn't begin below the base
+  reach_reached : end ≤ count → d.about.number ≤ reach.from → IsReached d reach
+  reach_reached less above =
+      let many = looks.few in
+      let more = looked.settled in
+      let all = looked.count in
+      let tail_is = tail.3 in
+      record {
+        base = above;
+        settled = omega arith;
+        counted = omega arith;
+        many = omega arith;
+        ordered = omega arith;
+        below = λ n after before. below n after before;
+        above = omega arith;
+        seen = subst (λ (z : ℕ). AreSeen d z reach.looks.items reach.opens) (sym begins) looks.seen;
+      }
+    where
+      below : (n : ℕ) → reach.from ≤ n → n < reach.first → n < reach.settled
+      below n after before =
+          let about = ap (λ (z : Key). z.number) (looked.extends.learns.about ∙ settles.learns.about) in
+          omega arith
+
+  pub reach_found : IsReach a d from to reach
+  reach_found = record {
+    range = record {
+      first_is = from_is;
+      count = count;
+      counted = record {
+        tail = counted.tail;
+        loaded = loaded_within _ _ _ _ _ _ (later_self a.clock) counted.loaded looked.extends.clock;
+        is = counted.is;
+      };
+      known = (let e = tail.3 in let m = settles.learns.count in omega arith);
+      within = (let f = looks.few in omega arith);
+      stops = ⊎_elim (λ (e : first + length reach.looks.items ≡ end). inl (omega arith))
+          (λ (m : TellsMark d (first + length reach.looks.items)). inr (subst (TellsMark d) (sym ends) m)) looks.stops;
+      rise = rise_sooner reach.from first reach.to reach.opens (let f = looks.few in omega arith)
+          (subst (λ (z : ℕ). Rise first z reach.opens) (sym ends) looks.rise);
+      were = λ n among. open_sooner a b d n settles.learns (looks.were n among);
+      apart = listed_apart d count reach.opens looks.listed;
+    };
+    reached = reach_reached less;
+    settled = omega arith;
+    reaches = (let e = looked.settled in omega arith);
+  }
+    where
+      less : end ≤ count
+      less = omega arith

@@ -1,0 +1,109 @@
+-- Entries of a chain in one moment: which record each is of, and their order.
+use Rattle.std.proofs.Common.{◌≡◌, ℕ, ◌+◌, ◌*◌, ◌<◌, ◌≤◌, zero, suc, List, [], ◌∷◌, length, refl, sym, ap, ◌∙◌}
+use Rattle.std.proofs.Common.{subst, arith, Some, slice_get}
+use Rattle.std.proofs.Math.Decide.{ℕ_discrete, dec_lt}
+use Rattle.std.proofs.lemmas.Option.{same_Some, slice_get_read}
+use Rattle.fish_layout.proofs.Buckets.{entry_id-key}
+use Rattle.fish_layout.proofs.Entries.{some_element}
+use Rattle.fish_layout.proofs.Spelled.{spelled_keys}
+use Rattle.fish_layout.specs.Body.{AreProperKeys}
+use Rattle.fish_layout.specs.Cleared.{entry_at}
+use Rattle.fish_layout.specs.Entry.{entry_id}
+use Rattle.fish_layout.specs.declared.parts.KeyPart.{KeyPart}
+use Rattle.fish_rule.proofs.Bounds.{one_region, starts_rise}
+use Rattle.fish_rule.proofs.Stored.{stored_above, stored_claimed, stored_parts}
+use Rattle.fish_rule.proofs.Walking.{within_region}
+use Rattle.fish_rule.specs.Rule.{Rule}
+use Rattle.fish_rule.specs.Walking.{IsNodeIn}
+use Rattle.fish_rule.specs.World.{World, body, low}
+use Rattle.fish_rule.specs.declared.view.Key.{Key}
+
+-- ---- ids
+
+-- the ids of keys are at least the least one
+ids_from : (least : ℕ) (ks : List KeyPart) (j : ℕ) (b : KeyPart) → AreProperKeys least ks → slice_get ks j ≡ Some b
+    → least ≤ b.id
+ids_from least [] j b proper at = absurd cc
+ids_from least (k ∷ ks) zero b proper at = (let e = ap (λ (z : KeyPart). z.id) (same_Some k b at) in let h = proper.0 in omega arith)
+ids_from least (k ∷ ks) (suc j) b proper at = (let h = ids_from (k.id + 1) ks j b proper.3 at in let m = proper.0 in omega arith)
+
+-- a record has one key with an id
+ids_once : (least : ℕ) (ks : List KeyPart) (i j : ℕ) (a b : KeyPart) → AreProperKeys least ks → slice_get ks i ≡ Some a
+    → slice_get ks j ≡ Some b → a.id ≡ b.id → i ≡ j
+ids_once least [] i j a b proper at_a at_b same = absurd cc
+ids_once least (k ∷ ks) zero zero a b proper at_a at_b same = refl
+ids_once least (k ∷ ks) zero (suc j) a b proper at_a at_b same =
+    (let e = ap (λ (z : KeyPart). z.id) (same_Some k a at_a) in let h = ids_from (k.id + 1) ks j b proper.3 at_b in
+    absurd (omega arith))
+ids_once least (k ∷ ks) (suc i) zero a b proper at_a at_b same =
+    (let e = ap (λ (z : KeyPart). z.id) (same_Some k b at_b) in let h = ids_from (k.id + 1) ks i a proper.3 at_a in
+    absurd (omega arith))
+ids_once least (k ∷ ks) (suc i) (suc j) a b proper at_a at_b same =
+    ap suc (ids_once (k.id + 1) ks i j a b proper.3 at_a at_b same)
+
+-- ---- places
+
+module _ (k : Key) (w : World) (r : Rule k w) where
+  -- an entry lies within its record's region
+  node_within : (b n c p id : ℕ) → IsNodeIn b n c p id k w → (r.start n * 4 ≤ p) × (p < r.start (suc n) * 4)
+  node_within b n c p id h = within_region k w r b n c p (stored_claimed k w r n h.entry.stored) h.entry
+
+  -- at one place is one entry
+  pub node_once : (b n c b' n' c' p id id' : ℕ) → IsNodeIn b n c p id k w → IsNodeIn b' n' c' p id' k w
+      → (n ≡ n') × (c ≡ c') × (id ≡ id')
+  node_once b n c b' n' c' p id id' h h' =
+      let here = node_within b n c p id h in
+      let there = node_within b' n' c' p id' h' in
+      let same : n ≡ n' = one_region k w.count w.line r.start r.space.regions n n' p
+      (stored_above k w r n h.entry.stored) (stored_claimed k w r n h.entry.stored)
+      (stored_above k w r n' h'.entry.stored) (stored_claimed k w r n' h'.entry.stored) here.0 here.1 there.0 there.1 in
+      let place = h.entry.is.is in
+      let place' = h'.entry.is.is in
+      let line = ap (λ (z : ℕ). low (w.dir z)) same in
+      let entry : c ≡ c' = omega arith in (
+        same,
+        entry,
+        sym h.definition ∙ ap (λ (z : ℕ × ℕ). entry_id
+            (body w.log (low (w.dir z.0)) (entry_at z.1 + 1)))
+            (λ i. (same i, entry i)) ∙ h'.definition,
+      )
+
+  -- a record has one entry of a definition
+  node_alone : (b n c p b' c' p' id : ℕ) → IsNodeIn b n c p id k w → IsNodeIn b' n c' p' id k w → c ≡ c'
+  node_alone b n c p b' c' p' id h h' =
+      let t = stored_parts k w r n h.entry.stored in
+      let keys = spelled_keys t.1.spells in
+      let counts = h.entry.is.counts in
+      let counts' = h'.entry.is.counts in
+      let a = some_element t.0.keys c (omega arith) in
+      let b = some_element t.0.keys c' (omega arith) in
+      let at_a = slice_get_read t.0.keys (length t.0.keys) c a.0 refl (omega arith) a.1 in
+      let at_b = slice_get_read t.0.keys (length t.0.keys) c' b.0 refl (omega arith) b.1 in
+      ids_once 0 t.0.keys c c' a.0 b.0 t.1.spells.proper.keys at_a at_b
+      (sym (entry_id-key c a.0 t.1.spells at_a) ∙ h.definition ∙ sym h'.definition ∙ entry_id-key c' b.0 t.1.spells at_b)
+
+  -- of two entries of one definition the lower one is that of an older record
+  pub node_older : (b n c p b' n' c' p' id : ℕ) → IsNodeIn b n c p id k w → IsNodeIn b' n' c' p' id k w → p < p' → n < n'
+  node_older b n c p b' n' c' p' id h h' below = pick (dec_lt n n') (ℕ_discrete n n')
+    where
+      here : (r.start n * 4 ≤ p) × (p < r.start (suc n) * 4)
+      here = node_within b n c p id h
+
+      there : (r.start n' * 4 ≤ p') × (p' < r.start (suc n') * 4)
+      there = node_within b' n' c' p' id h'
+
+      pick : Dec (n < n') → Dec (n ≡ n') → n < n'
+      pick (yes less) d = less
+      pick (no more) (yes same) =
+          let entry : c ≡ c' = node_alone b n c p b' c' p' id h (subst (λ (z : ℕ). IsNodeIn b' z c' p' id k w) (sym same) h') in
+          let place = h.entry.is.is in
+          let place' = h'.entry.is.is in
+          let line = ap (λ (z : ℕ). low (w.dir z)) same in
+          absurd (omega arith)
+      pick (no more) (no other) =
+          let above = stored_above k w r n' h'.entry.stored in
+          let claimed = stored_claimed k w r n h.entry.stored in
+          let rises = starts_rise k w.count w.line r.start r.space.regions (suc n') n (omega arith) (omega arith) (omega arith) in
+          let a = here.0 in
+          let b = there.1 in
+          absurd (omega arith)

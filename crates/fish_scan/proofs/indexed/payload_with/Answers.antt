@@ -1,0 +1,71 @@
+-- An entry that has the value is of a settled record, which is read.
+use Rattle.std.proofs.Common.{subst, arith}
+use Rattle.fish_chain.proofs.Comparing.{given_later, given_look, looked}
+use Rattle.fish_rule.proofs.Extending.{extends_both, learns_both}
+use Rattle.fish_rule.proofs.Walking.{always_later}
+use Rattle.fish_rule.specs.Logs.{Tells}
+use Rattle.fish_rule.specs.Passes.{view}
+use Rattle.fish_scan.proofs.Telling.{given_stored, settled_stored, stored_told}
+use Rattle.fish_scan.proofs.indexed.payload_with.Goals as goal
+
+pub returns-then-not-node_has-clause-payload : goal.returns-then-not-node_has-clause-payload
+returns-then-not-node_has-clause-payload g c =
+    c.node_has.ensures.lacks (λ has. cc (has, c.if-not-node_has.true))
+
+pub look-requires-clause-view : goal.look-requires-clause-view
+look-requires-clause-view g c =
+    let learns = c.node_has.ensures.extends.learns in
+    let more = learns.count in
+    let counted = c.requires.counted in
+    given_look (view c.node_has.new.pass) c.args.node.now c.node_has.ensures.pass.stands
+    (given_later (view c.args.pass.now) (view c.node_has.new.pass) c.args.node.now learns c.requires.given) (omega arith)
+
+pub read_entry-requires-clause-stored : goal.read_entry-requires-clause-stored
+read_entry-requires-clause-stored g c =
+    let v = view c.args.pass.now in
+    let u = view c.look.new.pass in
+    let t = c.look.ensures.view in
+    let on = looked (view c.node_has.new.pass) u c.args.node.now.number t.0 t.1 t.2 in
+    let learns = c.node_has.ensures.extends.learns in
+    let up = learns.settled in
+    let settled = c.requires.settled in
+    let all = learns_both _ _ _ learns on.learns in
+    settled_stored u c.args.node.now.number c.look.result c.look.ensures.pass.stands c.look.ensures.found
+    (c.look.ensures.settled (omega arith))
+    (given_stored u c.args.node.now (given_later v u c.args.node.now all c.requires.given))
+
+pub returns-in_err-payload-clause-extends : goal.returns-in_err-payload-clause-extends
+returns-in_err-payload-clause-extends g c =
+    let t = c.look.ensures.view in
+    extends_both _ _ _ c.node_has.ensures.extends
+    (extends_both _ _ _ (looked _ _ _ t.0 t.1 t.2) c.read_entry.ensures.extends)
+
+pub unreachable-requires : goal.unreachable-requires
+unreachable-requires g c =
+    let v = view c.args.pass.now in
+    let u = view c.read_entry.new.pass in
+    let t = c.look.ensures.view in
+    let on = looked (view c.node_has.new.pass) (view c.look.new.pass) c.args.node.now.number t.0 t.1 t.2 in
+    let all = learns_both _ _ _ c.node_has.ensures.extends.learns (learns_both _ _ _ on.learns c.read_entry.ensures.extends.learns) in
+    absurd (stored_told u c.args.node.now.number c.read_entry.ensures.pass.stands
+    (subst (Tells u c.args.node.now.number) c.in-Void.is c.in_ok-payload.ensures.entry)
+    (given_stored u c.args.node.now (given_later v u c.args.node.now all c.requires.given)))
+
+pub returns-clause-extends : goal.returns-clause-extends
+returns-clause-extends g c =
+    let t = c.look.ensures.view in
+    extends_both _ _ _ c.node_has.ensures.extends
+    (extends_both _ _ _ (looked _ _ _ t.0 t.1 t.2) c.read_entry.ensures.extends)
+
+pub returns-clause-payload : goal.returns-clause-payload
+returns-clause-payload g c =
+    let t = c.look.ensures.view in
+    let on = looked (view c.node_has.new.pass) (view c.look.new.pass) c.args.node.now.number t.0 t.1 t.2 in (
+      always_later (view c.node_has.new.pass) (view c.read_entry.new.pass) _
+          (learns_both _ _ _ on.learns c.read_entry.ensures.extends.learns) (c.node_has.ensures.has c.if-not-node_has.false),
+      (
+        c.in-Stored.lane,
+        c.in-Stored.form,
+        subst (Tells (view c.read_entry.new.pass) c.args.node.now.number) c.in-Stored.is c.in_ok-payload.ensures.entry,
+      ),
+    )

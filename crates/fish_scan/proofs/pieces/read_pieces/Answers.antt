@@ -1,0 +1,52 @@
+-- One piece more.
+use Rattle.std.proofs.Common.{◌≡◌, ℕ, ◌+◌, suc, arith, subst}
+use Rattle.std.proofs.lemmas.Option.{slice_get-get_or}
+use Rattle.fish_lang.specs.Definition.{definition_of}
+use Rattle.fish_plan.specs.declared.pieces.Piece.TheVariants.{Index}
+use Rattle.fish_rule.proofs.Extending.{extends_both, extends_self}
+use Rattle.fish_rule.specs.Passes.{view}
+use Rattle.fish_scan.proofs.Filling.{HasRead, read_all, read_more, read_none, readable_later}
+use Rattle.fish_scan.proofs.Reaching.{reached_still}
+use Rattle.fish_scan.proofs.pieces.read_pieces.Goals as goal
+
+pub loop-piece-init : goal.loop-piece-init
+loop-piece-init g c = record {
+  of = c.requires.pass;
+  extends = extends_self (view c.args.pass.now);
+  read = read_none (view c.args.pass.now) (definition_of c.args.query.now.def) c.args.query.now.value c.args.query.now.reach
+      c.args.pieces.now c.args.rows.now c.requires.fill;
+}
+
+pub read_piece-requires-clause-reached : goal.read_piece-requires-clause-reached
+read_piece-requires-clause-reached g c = reached_still (view c.args.pass.now) (view c.loop-piece.pass) c.args.query.now.reach
+    c.loop-piece.invariant.extends.learns c.requires.reached
+
+pub read_piece-requires-clause-readable : goal.read_piece-requires-clause-readable
+read_piece-requires-clause-readable g c = readable_later (view c.args.pass.now) (view c.loop-piece.pass)
+    (definition_of c.args.query.now.def) c.args.query.now.reach _ c.loop-piece.invariant.extends.learns
+    (c.requires.readable c.loop-piece.piece-index _
+    (slice_get-get_or c.args.pieces.now c.loop-piece.piece-index (Index 0 0 0) c.loop-piece-test.true))
+
+pub returns-in_err-read_piece-clause-extends : goal.returns-in_err-read_piece-clause-extends
+returns-in_err-read_piece-clause-extends g c = extends_both _ _ _ c.loop-piece.invariant.extends c.read_piece.ensures.extends
+
+pub loop-piece-preserved : goal.loop-piece-preserved
+loop-piece-preserved g c =
+    let inv = c.loop-piece.invariant in
+    let next : suc c.loop-piece.piece-index ≡ c.loop-piece.piece-index + 1 = omega arith in
+    record {
+      of = c.read_piece.ensures.pass;
+      extends = extends_both _ _ _ inv.extends c.read_piece.ensures.extends;
+      read = subst (λ (z : ℕ). HasRead (view c.read_piece.new.pass) (definition_of c.args.query.now.def)
+          c.args.query.now.value c.args.query.now.reach c.args.pieces.now z c.args.rows.now c.read_piece.new.rows) next
+          (read_more (view c.loop-piece.pass) (view c.read_piece.new.pass) _ _ c.args.query.now.reach c.args.pieces.now
+          c.loop-piece.piece-index _ c.args.rows.now c.loop-piece.rows c.read_piece.new.rows
+          c.read_piece.ensures.extends.learns
+          (slice_get-get_or c.args.pieces.now c.loop-piece.piece-index (Index 0 0 0) c.loop-piece-test.true)
+          inv.read c.in_ok-read_piece.ensures.rows);
+    }
+
+pub returns-clause-rows : goal.returns-clause-rows
+returns-clause-rows g c = read_all (view c.loop-piece.pass) (definition_of c.args.query.now.def) c.args.query.now.value
+    c.args.query.now.reach c.args.pieces.now c.loop-piece.piece-index c.args.rows.now c.loop-piece.rows
+    (let all = c.loop-piece-test.false in omega arith) c.loop-piece.invariant.read

@@ -1,0 +1,47 @@
+-- One number more is read at each turn.
+use Rattle.std.proofs.Common.{◌≡◌, ℕ, ◌+◌, ◌-◌, subst, arith}
+use Rattle.fish_lang.specs.Definition.{definition_of}
+use Rattle.fish_rule.proofs.Extending.{extends_both, extends_self}
+use Rattle.fish_rule.specs.Passes.{view}
+use Rattle.fish_scan.proofs.Reaching.{reached_still}
+use Rattle.fish_scan.proofs.Telling.{adds_both, adds_later, adds_none}
+use Rattle.fish_scan.specs.Reading.{Adds}
+use Rattle.fish_scan.proofs.reading.read_stretch.Goals as goal
+
+pub loop-number-init : goal.loop-number-init
+loop-number-init g c = record {
+  of = c.requires.pass;
+  extends = extends_self (view c.args.pass.now);
+  above = c.requires.some;
+  below = omega arith;
+  rows = adds_none (view c.args.pass.now) (definition_of c.args.query.now.def) c.args.query.now.value c.args.stretch.now.to
+      c.args.query.now.reach.opens c.args.rows.now;
+}
+
+pub read_at-requires-clause-reached : goal.read_at-requires-clause-reached
+read_at-requires-clause-reached g c = reached_still (view c.args.pass.now) (view c.loop-number.pass) c.args.query.now.reach
+    c.loop-number.invariant.extends.learns c.requires.reached
+
+pub loop-number-preserved : goal.loop-number-preserved
+loop-number-preserved g c =
+    let inv = c.loop-number.invariant in
+    let above = inv.above in
+    let below = inv.below in
+    let some = c.loop-number-test.true in
+    let next : c.loop-number.number - 1 + 1 ≡ c.loop-number.number = omega arith in
+    record {
+      of = c.read_at.ensures.pass;
+      extends = extends_both _ _ _ inv.extends c.read_at.ensures.extends;
+      above = omega arith;
+      below = omega arith;
+      rows = adds_both (view c.read_at.new.pass) (definition_of c.args.query.now.def) c.args.query.now.value
+          (c.loop-number.number - 1) c.loop-number.number c.args.stretch.now.to c.args.query.now.reach.opens c.args.rows.now
+          c.loop-number.rows c.read_at.new.rows (omega arith) below
+          (adds_later (view c.loop-number.pass) (view c.read_at.new.pass) _ _ _ _ _ _ _ c.read_at.ensures.extends.learns inv.rows)
+          (subst (λ (z : ℕ). Adds (view c.read_at.new.pass) (definition_of c.args.query.now.def) c.args.query.now.value
+          (c.loop-number.number - 1) z c.args.query.now.reach.opens c.loop-number.rows c.read_at.new.rows) next
+          c.in_ok-read_at.ensures.row);
+    }
+
+pub returns-in_err-read_at-clause-extends : goal.returns-in_err-read_at-clause-extends
+returns-in_err-read_at-clause-extends g c = extends_both _ _ _ c.loop-number.invariant.extends c.read_at.ensures.extends

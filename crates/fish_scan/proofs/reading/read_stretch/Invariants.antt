@@ -1,0 +1,19 @@
+-- The numbers from this one on were read.
+use Rattle.std.proofs.Common.{◌≤◌}
+use Rattle.fish_lang.specs.Definition.{definition_of}
+use Rattle.fish_rule.specs.Logs.{Extends}
+use Rattle.fish_rule.specs.Passes.{IsPassOf, view}
+use Rattle.fish_scan.specs.Reading.{Adds}
+use Rattle.fish_scan.proofs.reading.read_stretch.Given as goal
+
+abbrev pub invariant-loop-number : goal.invariant-loop-number
+invariant-loop-number g l = record {
+  of : IsPassOf l.log l.pass;
+  extends : Extends (view l.fn.pass) (view l.pass);
+  above : l.stretch.from ≤ l.number;
+  below : l.number ≤ l.stretch.to;
+  rows : Adds (view l.pass) (definition_of l.query.def) l.query.value l.number l.stretch.to l.query.reach.opens l.fn.rows l.rows;
+}
+
+abbrev pub decreases-loop-number : goal.decreases-loop-number
+decreases-loop-number g l = l.number

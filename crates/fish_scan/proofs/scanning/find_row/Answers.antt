@@ -1,0 +1,62 @@
+-- The version was loaded, its definitions were read, and of those that have the name this one is the newest.
+use Rattle.std.proofs.Common.{List, sym, subst}
+use Rattle.fish_catalog.specs.declared.listed.Listed.{Listed}
+use Rattle.fish_epoch.proofs.Reading.{defs_later}
+use Rattle.fish_epoch.specs.Definitions.{IsKnownOf}
+use Rattle.fish_rule.specs.Clocks.{HasLoaded}
+use Rattle.fish_rule.specs.Passes.{view}
+use Rattle.fish_rule.specs.declared.view.Noted.TheVariants.{Version}
+use Rattle.fish_scan.proofs.Answering.{scans_both, scans_extends, scans_version}
+use Rattle.fish_scan.proofs.Answering.{version_loaded}
+use Rattle.fish_scan.specs.Naming.{HasNone, IsNewest}
+use Rattle.fish_scan.proofs.scanning.find_row.Goals as goal
+
+pub returns-in_err-refresh-clause-only : goal.returns-in_err-refresh-clause-only
+returns-in_err-refresh-clause-only c = scans_both _ _ _
+    (scans_version _ _ c.load_version-version.result c.load_version-version.ensures.view c.load_version-version.ensures.rises)
+    (scans_extends _ _ c.refresh.ensures.reads.extends)
+
+pub returns-in_err-refresh-clause-known : goal.returns-in_err-refresh-clause-known
+returns-in_err-refresh-clause-known c =
+    let only = scans_both _ _ _ (scans_version (view c.args.pass.now) (view c.load_version-version.new.pass)
+    c.load_version-version.result c.load_version-version.ensures.view c.load_version-version.ensures.rises)
+    (scans_extends _ (view c.refresh.new.pass) c.refresh.ensures.reads.extends) in
+    subst (IsKnownOf (view c.refresh.new.pass)) (sym c.in_err-refresh.ensures.refused)
+    (defs_later (view c.args.pass.now) (view c.refresh.new.pass) c.args.known.now only.learns c.requires.known)
+
+pub returns-in_default-clause-only : goal.returns-in_default-clause-only
+returns-in_default-clause-only c = scans_both _ _ _
+    (scans_version _ _ c.load_version-version.result c.load_version-version.ensures.view c.load_version-version.ensures.rises)
+    (scans_extends _ _ c.refresh.ensures.reads.extends)
+
+pub returns-in_default-clause-refused : goal.returns-in_default-clause-refused
+returns-in_default-clause-refused c =
+    let version = c.in_ok-refresh.ensures.version in (
+      sym version,
+      subst (HasLoaded (view c.args.pass.now).clock (view c.refresh.new.pass).clock Version) version
+          (version_loaded (view c.args.pass.now) (view c.load_version-version.new.pass) (view c.refresh.new.pass)
+          c.load_version-version.result c.refresh.new.self c.load_version-version.ensures.view
+          c.refresh.ensures.reads.extends.clock version),
+      c.in_ok-refresh.ensures.read,
+      subst (λ (z : List Listed). HasNone z c.args.ask.now.name) c.rows.ensures c.in_default.ensures,
+    )
+
+pub returns-in-Some-empty_range-clause-only : goal.returns-in-Some-empty_range-clause-only
+returns-in-Some-empty_range-clause-only c = scans_both _ _ _
+    (scans_version _ _ c.load_version-version.result c.load_version-version.ensures.view c.load_version-version.ensures.rises)
+    (scans_extends _ _ c.refresh.ensures.reads.extends)
+
+pub returns-clause-only : goal.returns-clause-only
+returns-clause-only c = scans_both _ _ _
+    (scans_version _ _ c.load_version-version.result c.load_version-version.ensures.view c.load_version-version.ensures.rises)
+    (scans_extends _ _ c.refresh.ensures.reads.extends)
+
+pub returns-clause-asked : goal.returns-clause-asked
+returns-clause-asked c = record {
+  loaded = version_loaded (view c.args.pass.now) (view c.load_version-version.new.pass) (view c.refresh.new.pass)
+      c.load_version-version.result c.refresh.new.self c.load_version-version.ensures.view
+      c.refresh.ensures.reads.extends.clock c.in_ok-refresh.ensures.version;
+  read = c.in_ok-refresh.ensures.read;
+  newest = subst (λ (z : List Listed). IsNewest z c.args.ask.now.name c.in-Some.place) c.rows.ensures c.in-Some.ensures;
+  some = c.in_default-empty_range.ensures;
+}

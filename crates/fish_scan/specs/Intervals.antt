@@ -1,0 +1,61 @@
+-- What a pass knows of the intervals of a definition once it has loaded the boundary words of its rows.
+use Rattle.std.specs.Prelude.{ℕ, ◌≡◌, ◌⊎◌, suc, List, [], ◌∷◌, ◌++◌, Option, Some, None, slice_get}
+use Rattle.fish_catalog.specs.declared.interval.Interval.{Interval}
+use Rattle.fish_catalog.specs.declared.listed.Listed.{Listed}
+use Rattle.fish_rule.specs.Intervals.{HasInterval}
+use Rattle.fish_rule.specs.Logs.{Extends}
+use Rattle.fish_rule.specs.Registry.{row_at}
+use Rattle.fish_rule.specs.Views.{Among}
+use Rattle.fish_rule.specs.declared.view.View.{View}
+
+-- the second view is the first but for boundary words that were loaded
+pub record OnlyBoundaries (v u : View) : Type 0 where
+  pub extends : Extends v u
+  pub settled : u.learned.settled ≡ v.learned.settled
+  pub count : u.learned.count ≡ v.learned.count
+  pub loads : u.clock.loads ≡ v.clock.loads
+
+-- the end of an interval, or what is settled where it has none
+abbrev pub end_within : ℕ → Option ℕ → ℕ
+end_within settled None = settled
+end_within settled (Some to) = to
+
+-- the index of the row with an id begins where the interval does, and was complete up to the interval's end
+pub record IsBegun (v : View) (settled id : ℕ) (x : Interval) : Type 0 where
+  pub id_is : x.id ≡ id
+  pub interval : HasInterval v id x.from (end_within settled x.to)
+
+-- the pass knew of no beginning
+abbrev pub IsUnbegun : View → ℕ → Type 0
+IsUnbegun v id = (from : ℕ) → ¬ Among (record { index = row_at id 0; value = suc from }) v.learned.words
+
+-- the interval of a row, if its index has begun
+abbrev pub IsTaken : View → View → ℕ → Option Interval → Type 0
+IsTaken v u id None = IsUnbegun v id
+IsTaken v u id (Some x) = IsBegun u v.learned.settled id x
+
+-- the interval of a row with the text came behind others
+pub record IsAdded (v u : View) (row : Listed) (text : List ℕ) (before after : List Interval) : Type 0 where
+  pub interval : Interval
+  pub text_is : row.def ≡ text
+  pub begun : IsBegun u v.learned.settled row.id interval
+  pub added : after ≡ before ++ interval ∷ []
+
+-- or none did where the row has another text or its index hasn't begun
+abbrev pub AddsInterval : View → View → Listed → List ℕ → List Interval → List Interval → Type 0
+AddsInterval v u row text before after = IsAdded v u row text before after
+    ⊎ ((after ≡ before) × (row.def ≡ text → IsUnbegun v row.id))
+
+-- the interval is that of a row with the text
+pub record IsIntervalOf (v : View) (settled : ℕ) (rows : List Listed) (text : List ℕ) (x : Interval) : Type 0 where
+  pub row : Listed
+  pub there : slice_get rows x.id ≡ Some row
+  pub text_is : row.def ≡ text
+  pub begun : IsBegun v settled x.id x
+
+-- the intervals are those of rows with the text, of each one of whose index the pass knew that it has begun
+pub record AreIntervals (v u : View) (rows : List Listed) (text : List ℕ) (intervals : List Interval) : Type 0 where
+  pub each : (x : Interval) → Among x intervals → IsIntervalOf u v.learned.settled rows text x
+  pub known : (id : ℕ) (row : Listed) → slice_get rows id ≡ Some row → row.def ≡ text
+      → (from : ℕ) → Among (record { index = row_at id 0; value = suc from }) v.learned.words
+      → (x : Interval) × Among x intervals × (x.id ≡ id)

@@ -1,0 +1,129 @@
+-- What a scan answers, and why it refuses.
+use Rattle.std.specs.Prelude.{ℕ, ◌≡◌, ◌<◌, ◌≤◌, List, Some, ⊤}
+use Rattle.std.specs.Option.{unwrap_or}
+use Rattle.fish_catalog.specs.declared.interval.Interval.{Interval}
+use Rattle.fish_catalog.specs.declared.listed.Listed.{Listed}
+use Rattle.fish_epoch.specs.Definitions.{AreRead, rows_of, version_of}
+use Rattle.fish_epoch.specs.declared.definitions.Known.{Known}
+use Rattle.fish_lang.specs.Definition.{Definition, definition_of}
+use Rattle.fish_lang.specs.Language.{IsAccepted}
+use Rattle.fish_plan.specs.Cover.{IsCover}
+use Rattle.fish_plan.specs.Gaps.{HasGap, IsFirstGap}
+use Rattle.fish_plan.specs.Pieces.{one_full}
+use Rattle.fish_plan.specs.declared.pieces.Piece.{Piece}
+use Rattle.fish_rule.specs.Clocks.{HasLoaded, IsLater}
+use Rattle.fish_rule.specs.Logs.{Learns}
+use Rattle.fish_rule.specs.declared.view.Noted.TheVariants.{Version}
+use Rattle.fish_rule.specs.declared.view.View.{View}
+use Rattle.fish_scan.specs.Intervals.{AreIntervals}
+use Rattle.fish_scan.specs.Matching.{Finds}
+use Rattle.fish_scan.specs.Naming.{HasNone, IsNewest}
+use Rattle.fish_scan.specs.Reach.{IsRange, IsReach}
+use Rattle.fish_scan.specs.declared.ask.Answer.{Answer}
+use Rattle.fish_scan.specs.declared.ask.Ask.{Ask}
+use Rattle.fish_scan.specs.declared.ask.How.{How}
+use Rattle.fish_scan.specs.declared.ask.How.TheVariants as how
+use Rattle.fish_scan.specs.declared.refusal.ScanRefusal.{ScanRefusal}
+use Rattle.fish_scan.specs.declared.refusal.ScanRefusal.TheVariants as refusal
+use Rattle.fish_scan.specs.declared.scanning.Prepared.{Prepared}
+
+-- the second view is the first but for what was learned since, and the tail and the epoch that were seen
+pub record OnlyScans (v u : View) : Type 0 where
+  pub learns : Learns v u
+  pub clock : IsLater v.clock u.clock
+  pub frame : u ≡ record v { epoch = u.epoch; tail = u.tail; learned = u.learned; clock = u.clock }
+
+-- ---- what is asked
+
+-- the first number that is asked for
+abbrev pub first_asked : Ask → ℕ
+first_asked ask = unwrap_or ask.from 0
+
+-- these ends are asked for, and no number lies between
+abbrev pub AreEmptyEnds : Ask → ℕ → ℕ → Type 0
+AreEmptyEnds ask from to = (ask.from ≡ Some from) × (ask.to ≡ Some to) × (to ≤ from)
+
+-- both ends are asked for, and no number lies between
+abbrev pub IsEmptyAsk : Ask → Type 0
+IsEmptyAsk ask = (from : ℕ) × (to : ℕ) × AreEmptyEnds ask from to
+
+-- the newest definition that has the name asked for, in the version that the pass loaded between the two views, stands at
+-- this place, and the range isn't empty
+pub record IsAsked (v u : View) (known : Known) (ask : Ask) (place : ℕ) : Type 0 where
+  pub loaded : HasLoaded v.clock u.clock Version (version_of known)
+  pub read : AreRead u known
+  pub newest : IsNewest (rows_of known) ask.name place
+  pub some : ¬ IsEmptyAsk ask
+
+-- ---- plans
+
+-- the plan covers the range by the intervals of the rows with a text, whose boundaries were loaded after the settled number
+pub record IsCovered (v u : View) (rows : List Listed) (text : List ℕ) (from settled to : ℕ) (plan : List Piece)
+    : Type 0 where
+  pub moment : View
+  pub after : Learns v moment
+  pub known : settled ≤ moment.learned.settled
+  pub intervals : List Interval
+  pub are : AreIntervals moment u rows text intervals
+  pub cover : IsCover plan from settled to intervals
+
+-- the range is read in the way that is asked for
+abbrev pub IsPlan : View → View → List Listed → List ℕ → How → ℕ → ℕ → ℕ → List Piece → Type 0
+IsPlan v u rows text how.Full from settled to plan = plan ≡ one_full from to
+IsPlan v u rows text how.Auto from settled to plan = IsCovered v u rows text from settled to plan
+IsPlan v u rows text how.Index from settled to plan = IsCovered v u rows text from settled to plan × ¬ HasGap plan settled
+
+-- why there is none
+abbrev pub IsPlanRefused : View → View → List Listed → List ℕ → How → ℕ → ℕ → ℕ → ScanRefusal → Type 0
+IsPlanRefused v u rows text way from settled to (refusal.NotCovered first last) = (way ≡ how.Index)
+    × ((plan : List Piece) × IsCovered v u rows text from settled to plan × IsFirstGap plan settled first last)
+IsPlanRefused v u rows text way from settled to refusal.OutOfMemory = ⊤
+IsPlanRefused v u rows text way from settled to (refusal.UnknownName version) = ⊥
+IsPlanRefused v u rows text way from settled to (refusal.EmptyRange first last) = ⊥
+IsPlanRefused v u rows text way from settled to (refusal.ColdRange base) = ⊥
+
+-- ---- answers
+
+-- what the pass knows before it reads a record
+pub record IsPrepared (v u : View) (known : Known) (ask : Ask) (p : Prepared) : Type 0 where
+  pub place : ℕ
+  pub asked : IsAsked v u known ask place
+  pub means : IsAccepted asked.newest.listed.def (definition_of p.def)
+  pub reach : IsReach v u (first_asked ask) ask.to p.reach
+  pub base : u.about.number ≤ p.reach.from
+  pub plan : IsPlan v u (rows_of known) asked.newest.listed.def ask.how p.reach.from p.reach.settled p.reach.to p.plan
+
+-- how the range that was asked for is read
+pub record IsExplained (v u : View) (known : Known) (ask : Ask) (from to : ℕ) (opens : List ℕ) (plan : List Piece)
+    : Type 0 where
+  pub place : ℕ
+  pub asked : IsAsked v u known ask place
+  pub range : IsRange v u (first_asked ask) ask.to from to opens
+  pub base : u.about.number ≤ from
+  pub settled : ℕ
+  pub least : v.learned.settled ≤ settled
+  pub most : settled ≤ u.learned.settled
+  pub plan_is : IsPlan v u (rows_of known) asked.newest.listed.def ask.how from settled to plan
+
+-- the rows are exactly the records of the range, less the open ones, on which the definition that the name means has the
+-- value, newest first
+pub record IsAnswer (v u : View) (known : Known) (ask : Ask) (answer : Answer) : Type 0 where
+  pub explained : IsExplained v u known ask answer.from answer.to answer.opens answer.plan
+  pub def : Definition
+  pub means : IsAccepted explained.asked.newest.listed.def def
+  pub found : Finds u def ask.value answer.from answer.to answer.opens answer.rows
+
+-- why there is no answer
+abbrev pub IsRefused : View → View → Known → Ask → ScanRefusal → Type 0
+IsRefused v u known ask (refusal.UnknownName version) = (version ≡ version_of known)
+    × HasLoaded v.clock u.clock Version version × AreRead u known × HasNone (rows_of known) ask.name
+IsRefused v u known ask (refusal.EmptyRange from to) = AreEmptyEnds ask from to
+IsRefused v u known ask (refusal.NotCovered from to) = (ask.how ≡ how.Index)
+    × ((place : ℕ) × ((asked : IsAsked v u known ask place) × ((first : ℕ) × ((last : ℕ) × ((opens : List ℕ)
+    × IsRange v u (first_asked ask) ask.to first last opens × ((settled : ℕ) × (v.learned.settled ≤ settled)
+    × ((plan : List Piece) × IsCovered v u (rows_of known) asked.newest.listed.def first settled last plan
+    × IsFirstGap plan settled from to)))))))
+IsRefused v u known ask (refusal.ColdRange base) = (base ≡ u.about.number)
+    × ((first : ℕ) × ((last : ℕ) × ((opens : List ℕ) × IsRange v u (first_asked ask) ask.to first last opens
+    × (first < base))))
+IsRefused v u known ask refusal.OutOfMemory = ⊤

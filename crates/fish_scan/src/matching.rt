@@ -1,0 +1,88 @@
+//! Whether a record that was read has the value that is asked for.
+
+ghost use Rattle.std.specs.Prelude.{◌≡◌, ◌+◌, ◌≤◌, IfOk, IsTrue, ◌↔◌, Some};
+ghost use Rattle.fish_lang.specs.Definition.{definition_of};
+ghost use Rattle.fish_psf.specs.Eval.{eval as eval_of};
+ghost use Rattle.fish_psf.specs.Records.{evaluation, is_record};
+ghost use Rattle.fish_scan.specs.Reading.{IsMatching, IsParsable};
+
+use crate::reach::Reach;
+use fish_catalog::Entry;
+use fish_lang::Def;
+use fish_psf::{Parsed, PsfRefusal, Steps, eval};
+use fish_read::RecordReader;
+use fish_value::{Form, Text, Value};
+use std::alloc::{AllocError, Global};
+use std::sync::ledger::Ledger;
+
+/// What a scan looks for, and where.
+#[derive(Drop)]
+pub(crate) struct Query {
+    /// The definition.
+    pub def: Def,
+    /// The value that it is to give.
+    pub value: Value,
+    pub reach: Reach,
+}
+
+/// The payload of an entry that is a record with the value, and none of any other. A record is read once.
+pub(crate) fn matching<P: Ledger>(
+    alloc: Global,
+    reader: &mut RecordReader,
+    query: &Query,
+    entry: Entry,
+    parses: &mut Steps<P>,
+) -> Result<Option<Text>, AllocError>
+    requires { IsParsable entry }
+    ensures matching { IfOk result (IsMatching (definition_of query.now.def) query.now.value entry) }
+    ensures parses { parses.new ≤ parses.old + 1 }
+{
+    match entry {
+        Entry::Void => Ok(None),
+        Entry::Stored { form, payload, .. } => {
+            if has_value(alloc, reader, query, form, payload.as_bytes(), parses)? {
+                Ok(Some(payload))
+            } else {
+                Ok(None)
+            }
+        }
+    }
+}
+
+/// Whether a payload that is a record has the value.
+fn has_value<P: Ledger>(
+    alloc: Global,
+    reader: &mut RecordReader,
+    query: &Query,
+    form: Form,
+    b: &[u8],
+    parses: &mut Steps<P>,
+) -> Result<bool, AllocError>
+    requires { IsTrue (is_record form b.now) }
+    ensures value { IfOk result (λ has. IsTrue has
+        ↔ (evaluation (definition_of query.now.def) form b.now ≡ Some query.now.value)) }
+    ensures parses { parses.new ≡ parses.old + 1 }
+{
+    match reader.read(alloc, form, b, parses) {
+        Ok(row) => {
+            let has = gives(alloc, query, &row);
+            drop(row);
+            has
+        }
+        Err(PsfRefusal::OutOfMemory) => Err(AllocError),
+        Err(_) => unreachable!(),
+    }
+}
+
+/// Whether the definition gives the value for a record.
+fn gives<R: Parsed>(alloc: Global, query: &Query, rec: &R) -> Result<bool, AllocError>
+    ensures { IfOk result (λ has. IsTrue has
+        ↔ (eval_of (definition_of query.now.def) (R.fields rec.now) ≡ Some query.now.value)) }
+{
+    let Some(value) = eval(alloc, &query.def, rec)? else {
+        return Ok(false);
+    };
+    let same = value.is(&query.value);
+    drop(value);
+    Ok(same)
+}

@@ -1,0 +1,84 @@
+//! A range is read piece by piece, newest first.
+
+ghost use Rattle.std.specs.Prelude.{◌≡◌, OnOk};
+ghost use Rattle.fish_lang.specs.Definition.{definition_of};
+ghost use Rattle.fish_plan.specs.Pieces.{Fill, piece_from, piece_to};
+ghost use Rattle.fish_rule.specs.Logs.{Extends};
+ghost use Rattle.fish_rule.specs.Passes.{IsPassOf, view};
+ghost use Rattle.fish_scan.specs.Pieces.{AreReadable, IsReadable};
+ghost use Rattle.fish_scan.specs.Reach.{IsReached};
+ghost use Rattle.fish_scan.specs.Reading.{Adds};
+
+use crate::indexed::read_indexed;
+use crate::matching::Query;
+use crate::reading::read_stretch;
+use fish_plan::{Piece, Stretch};
+use fish_psf::Steps;
+use fish_read::RecordReader;
+use fish_rule::{Log, Pass};
+use fish_value::Rows;
+use std::alloc::{AllocError, Global};
+use std::sync::ledger::Ledger;
+
+/// Puts the records of the pieces, which fill the range, that have the value behind the rows, newest first.
+pub(crate) fn read_pieces<P: Ledger, L: Ledger>(
+    alloc: Global,
+    log: &Log,
+    pass: &mut Pass,
+    reader: &mut RecordReader,
+    query: &Query,
+    pieces: &[Piece],
+    rows: &mut Rows,
+    parses: &mut Steps<P>,
+    loads: &mut Steps<L>,
+) -> Result<(), AllocError>
+    requires pass { IsPassOf log.now pass.old }
+    requires reached { IsReached (view pass.old) query.now.reach }
+    requires fill { Fill pieces.now query.now.reach.from query.now.reach.to }
+    requires readable { AreReadable (view pass.old) (definition_of query.now.def) query.now.reach pieces.now }
+    ensures pass { IsPassOf log.now pass.new }
+    ensures extends { Extends (view pass.old) (view pass.new) }
+    ensures rows { OnOk result (Adds (view pass.new) (definition_of query.now.def) query.now.value query.now.reach.from
+        query.now.reach.to query.now.reach.opens rows.old rows.new) }
+{
+    for piece in pieces {
+        read_piece(alloc, log, pass, reader, query, piece, rows, parses, loads)?;
+    }
+    Ok(())
+}
+
+/// Puts the records of a piece that have the value behind the rows, newest first.
+fn read_piece<P: Ledger, L: Ledger>(
+    alloc: Global,
+    log: &Log,
+    pass: &mut Pass,
+    reader: &mut RecordReader,
+    query: &Query,
+    piece: &Piece,
+    rows: &mut Rows,
+    parses: &mut Steps<P>,
+    loads: &mut Steps<L>,
+) -> Result<(), AllocError>
+    requires pass { IsPassOf log.now pass.old }
+    requires reached { IsReached (view pass.old) query.now.reach }
+    requires readable { IsReadable (view pass.old) (definition_of query.now.def) query.now.reach piece.now }
+    ensures pass { IsPassOf log.now pass.new }
+    ensures extends { Extends (view pass.old) (view pass.new) }
+    ensures rows { OnOk result (Adds (view pass.new) (definition_of query.now.def) query.now.value (piece_from piece.now)
+        (piece_to piece.now) query.now.reach.opens rows.old rows.new) }
+{
+    let stretch = Stretch {
+        from: piece.from(),
+        to: piece.to(),
+    };
+    match piece {
+        Piece::Index { id, .. } => {
+            read_indexed(alloc, log, pass, query, *id, &stretch, rows, loads)
+        }
+        Piece::Full { .. } => {
+            read_stretch(
+                alloc, log, pass, reader, query, &stretch, rows, parses, loads,
+            )
+        }
+    }
+}

@@ -1,0 +1,181 @@
+//! Scans, and how they would be answered.
+
+ghost use Rattle.std.specs.Prelude.{◌≡◌, List, ℕ, IfErr, IfOk, MatchOption};
+ghost use Rattle.fish_epoch.specs.Definitions.{IsDefsOf, IsKnownOf};
+ghost use Rattle.fish_rule.specs.Passes.{IsPassOf, view};
+ghost use Rattle.fish_scan.specs.Scans.{AreEmptyEnds, IsAnswer, IsAsked, IsEmptyAsk, IsExplained, IsPrepared, IsRefused, OnlyScans};
+
+use crate::ask::{Answer, Ask, Explained};
+use crate::matching::Query;
+use crate::naming::{newest, parse_text};
+use crate::pieces::read_pieces;
+use crate::planning::find_plan;
+use crate::reach::{Reach, find_reach};
+use crate::refusal::ScanRefusal;
+use fish_epoch::{Defs, Known};
+use fish_lang::Def;
+use fish_plan::{Plan, Stretch};
+use fish_psf::Steps;
+use fish_rule::{Log, Pass, base, load_version};
+use fish_value::{Rows, Value};
+use std::alloc::{AllocError, Global};
+use std::sync::ledger::Ledger;
+
+/// What is known before a record is read.
+#[derive(Drop)]
+struct Prepared {
+    def: Def,
+    reach: Reach,
+    plan: Plan,
+}
+
+/// The records of a range on which a definition has a value, newest first: exactly those of the answer's range, less
+/// the numbers that it names as open. The name means its newest definition in the version that is loaded first,
+/// active or not; `defs` then has that version. Where the plan has a full piece each stored record of it is parsed
+/// once; an index piece parses nothing.
+///
+/// Refused, in this order, where no definition of that version has the name, where both ends are asked for and no
+/// number lies between, where the index is asked for and misses a settled number, and where the range begins below
+/// the log's first number. Want of memory may come in place of each of these but the first two.
+pub fn scan<P: Ledger, L: Ledger>(
+    alloc: Global,
+    log: &Log,
+    pass: &mut Pass,
+    defs: &mut Defs,
+    ask: &Ask,
+    parses: &mut Steps<P>,
+    loads: &mut Steps<L>,
+) -> Result<Answer, ScanRefusal>
+    requires pass { IsPassOf log.now pass.old }
+    requires defs { IsDefsOf (view pass.old) defs.old }
+    ensures pass { IsPassOf log.now pass.new }
+    ensures only { OnlyScans (view pass.old) (view pass.new) }
+    ensures defs { IsDefsOf (view pass.new) defs.new }
+    ensures answer { IfOk result (IsAnswer (view pass.old) (view pass.new) defs.new.known ask.now) }
+    ensures refused { IfErr result (IsRefused (view pass.old) (view pass.new) defs.new.known ask.now) }
+{
+    let Prepared { def, reach, plan } = prepare(alloc, log, pass, &mut defs.known, ask)?;
+    let value = copy_value(alloc, &ask.value)?;
+    let query = Query { def, value, reach };
+    let mut rows = Rows::new(alloc);
+    read_pieces(
+        alloc,
+        log,
+        pass,
+        &mut defs.reader,
+        &query,
+        plan.pieces(),
+        &mut rows,
+        parses,
+        loads,
+    )?;
+    let Query { reach, .. } = query;
+    Ok(Answer {
+        from: reach.from,
+        to: reach.to,
+        opens: reach.opens,
+        rows,
+        plan,
+    })
+}
+
+/// How a scan would read its range, with the same refusals. No record is read.
+pub fn explain(
+    alloc: Global,
+    log: &Log,
+    pass: &mut Pass,
+    defs: &mut Defs,
+    ask: &Ask,
+) -> Result<Explained, ScanRefusal>
+    requires pass { IsPassOf log.now pass.old }
+    requires defs { IsDefsOf (view pass.old) defs.old }
+    ensures pass { IsPassOf log.now pass.new }
+    ensures only { OnlyScans (view pass.old) (view pass.new) }
+    ensures defs { IsDefsOf (view pass.new) defs.new }
+    ensures explained { IfOk result (λ e. (opens : List ℕ) × IsExplained (view pass.old) (view pass.new) defs.new.known ask.now
+        e.from e.to opens e.plan) }
+    ensures refused { IfErr result (IsRefused (view pass.old) (view pass.new) defs.new.known ask.now) }
+{
+    let Prepared { reach, plan, .. } = prepare(alloc, log, pass, &mut defs.known, ask)?;
+    Ok(Explained {
+        from: reach.from,
+        to: reach.to,
+        plan,
+    })
+}
+
+/// Finds what the name means, how far the scan looks, and how it reads what it reaches, in this order.
+fn prepare(
+    alloc: Global,
+    log: &Log,
+    pass: &mut Pass,
+    known: &mut Known,
+    ask: &Ask,
+) -> Result<Prepared, ScanRefusal>
+    requires pass { IsPassOf log.now pass.old }
+    requires known { IsKnownOf (view pass.old) known.old }
+    ensures pass { IsPassOf log.now pass.new }
+    ensures only { OnlyScans (view pass.old) (view pass.new) }
+    ensures known { IsKnownOf (view pass.new) known.new }
+    ensures prepared { IfOk result (IsPrepared (view pass.old) (view pass.new) known.new ask.now) }
+    ensures refused { IfErr result (IsRefused (view pass.old) (view pass.new) known.new ask.now) }
+{
+    let place = find_row(log, pass, known, ask)?;
+    let reach = find_reach(alloc, log, pass, ask.from.unwrap_or(0), ask.to)?;
+    let text = known.rows()[place].def.as_bytes();
+    let plan = find_plan(alloc, log, pass, known.rows(), text, ask.how, &reach)?;
+    let base = base(log).number;
+    if reach.from < base {
+        return Err(ScanRefusal::ColdRange { base });
+    }
+    let def = parse_text(alloc, text)?;
+    Ok(Prepared { def, reach, plan })
+}
+
+/// The place of the newest definition that has the name asked for, in the version that is loaded here.
+fn find_row(log: &Log, pass: &mut Pass, known: &mut Known, ask: &Ask) -> Result<usize, ScanRefusal>
+    requires pass { IsPassOf log.now pass.old }
+    requires known { IsKnownOf (view pass.old) known.old }
+    ensures pass { IsPassOf log.now pass.new }
+    ensures only { OnlyScans (view pass.old) (view pass.new) }
+    ensures known { IsKnownOf (view pass.new) known.new }
+    ensures asked { IfOk result (IsAsked (view pass.old) (view pass.new) known.new ask.now) }
+    ensures refused { IfErr result (IsRefused (view pass.old) (view pass.new) known.new ask.now) }
+{
+    let version = load_version(log, pass) as u16;
+    known.refresh(log, pass, version)?;
+    let Some(place) = newest(known.rows(), &ask.name) else {
+        return Err(ScanRefusal::UnknownName { version });
+    };
+    if let Some(Stretch { from, to }) = empty_range(ask) {
+        return Err(ScanRefusal::EmptyRange { from, to });
+    }
+    Ok(place)
+}
+
+/// The ends of a range that is asked for, where no number lies between them.
+fn empty_range(ask: &Ask) -> Option<Stretch>
+    ensures { MatchOption result (¬ IsEmptyAsk ask.now) (λ ends. AreEmptyEnds ask.now ends.from ends.to) }
+{
+    let Some(from) = ask.from else {
+        return None;
+    };
+    let Some(to) = ask.to else {
+        return None;
+    };
+    if from < to {
+        return None;
+    }
+    Some(Stretch { from, to })
+}
+
+/// A copy of a value.
+fn copy_value(alloc: Global, value: &Value) -> Result<Value, AllocError>
+    ensures { IfOk result (λ copy. copy ≡ value.now) }
+{
+    Ok(match value {
+        Value::Bool(bool) => Value::Bool(*bool),
+        Value::Int(int) => Value::Int(*int),
+        Value::Text(text) => Value::Text(text.again(alloc)?),
+    })
+}
