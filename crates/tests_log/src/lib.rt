@@ -39,6 +39,8 @@ mod registrations;
 #[cfg(test)]
 mod rounds;
 #[cfg(test)]
+mod scans;
+#[cfg(test)]
 mod settling;
 #[cfg(test)]
 mod threads;

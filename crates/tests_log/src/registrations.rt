@@ -290,22 +290,23 @@ const NODES: &[Node] = &[Node {
     key: 0,
 }];
 
-/// Stores an empty record. Its number, or why it was not stored.
-fn store_empty(
+/// Stores a payload beside a registrar. Its number, or why it was not stored.
+pub(crate) fn store_kept(
     alloc: Global,
     log: &Log,
     main: &mut Pass,
     registrar: &Registrar,
     defs: &mut Defs,
+    payload: &[u8],
 ) -> Result<u32, IngestRefusal>
     requires { IsWorking log.now main.old registrar.now defs.old }
     ensures { IsWorking log.now main.new registrar.now defs.new }
 {
-    store(alloc, log, main, defs, b"{}")
+    store(alloc, log, main, defs, payload)
 }
 
 /// Registers a definition under its text as its name. Its id, or why it was refused.
-fn begin_between(
+pub(crate) fn begin_between(
     alloc: Global,
     log: &Log,
     main: &mut Pass,
@@ -320,7 +321,12 @@ fn begin_between(
 }
 
 /// Looks at the lanes.
-fn poll_between(log: &Log, main: &mut Pass, registrar: &mut Registrar, defs: &Defs) -> Poll
+pub(crate) fn poll_between(
+    log: &Log,
+    main: &mut Pass,
+    registrar: &mut Registrar,
+    defs: &Defs,
+) -> Poll
     requires { IsWorking log.now main.old registrar.old defs.now }
     ensures { IsWorking log.now main.new registrar.new defs.now }
 {
@@ -338,14 +344,14 @@ fn expect_keys<R: Abort>(
 ) -> Result<(), Fail>
     requires { IsWorking log.now main.old registrar.old defs.old }
 {
-    let first = store_empty(alloc, log, main, registrar, defs);
+    let first = store_kept(alloc, log, main, registrar, defs, b"{}");
     expect(rt, "without a key", &first, &Ok(0));
     expect_active(rt, alloc, defs, 0, &[]);
     let begun = begin_between(alloc, log, main, registrar, defs, SOURCE)?;
     expect(rt, "the registration", &begun, &Ok(0));
     let found = poll_between(log, main, registrar, defs);
     expect(rt, "its index", &found, &Poll::Bound { id: 0, from: 1 });
-    let second = store_empty(alloc, log, main, registrar, defs);
+    let second = store_kept(alloc, log, main, registrar, defs, b"{}");
     expect(rt, "with a key", &second, &Ok(1));
     expect_active(rt, alloc, defs, 1, &[SOURCE]);
     expect_nodes(rt, alloc, log, main, (0, 2), NODES)

@@ -1,6 +1,6 @@
 -- The registrar keeps what it keeps.
 use Rattle.tests_log.proofs.Kept.{working_stored}
-use Rattle.tests_log.proofs.registrations.store_empty.Goals as goal
+use Rattle.tests_log.proofs.registrations.store_kept.Goals as goal
 
 pub returns : goal.returns
 returns c =
