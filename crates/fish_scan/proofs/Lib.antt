@@ -8,5 +8,6 @@ pub mod Lists
 pub mod Looking
 pub mod Nodes
 pub mod Reaching
+pub mod Selecting
 pub mod Telling
 pub mod Walks

@@ -1,5 +1,6 @@
 pub mod Indices
 pub mod Intervals
+pub mod Laws
 pub mod Matching
 pub mod Naming
 pub mod Pieces

@@ -8,6 +8,7 @@
 mod ask;
 mod indexed;
 mod intervals;
+mod law;
 mod matching;
 mod naming;
 mod pieces;
@@ -18,5 +19,6 @@ mod refusal;
 mod scanning;
 
 pub use ask::{Answer, Ask, Explained, How};
+pub use law::law_selection;
 pub use refusal::ScanRefusal;
 pub use scanning::{explain, scan};

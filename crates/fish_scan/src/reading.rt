@@ -44,6 +44,7 @@ pub(crate) fn read_stretch<P: Ledger, L: Ledger>(
     ensures extends { Extends (view pass.old) (view pass.new) }
     ensures rows { OnOk result (Adds (view pass.new) (definition_of query.now.def) query.now.value stretch.now.from stretch.now.to
         query.now.reach.opens rows.old rows.new) }
+    ensures parses { parses.new + stretch.now.from ≤ parses.old + stretch.now.to }
 {
     let mut number = stretch.to;
     while number > stretch.from {

@@ -1,8 +1,9 @@
 //! Scans, and how they would be answered.
 
-ghost use Rattle.std.specs.Prelude.{◌≡◌, List, ℕ, IfErr, IfOk, MatchOption};
+ghost use Rattle.std.specs.Prelude.{◌≡◌, ◌+◌, ◌≤◌, List, ℕ, IfErr, IfOk, MatchOption};
 ghost use Rattle.fish_epoch.specs.Definitions.{IsDefsOf, IsKnownOf};
 ghost use Rattle.fish_rule.specs.Passes.{IsPassOf, view};
+ghost use Rattle.fish_scan.specs.Pieces.{full_numbers};
 ghost use Rattle.fish_scan.specs.Scans.{AreEmptyEnds, IsAnswer, IsAsked, IsEmptyAsk, IsExplained, IsPrepared, IsRefused, OnlyScans};
 
 use crate::ask::{Answer, Ask, Explained};
@@ -53,6 +54,7 @@ pub fn scan<P: Ledger, L: Ledger>(
     ensures defs { IsDefsOf (view pass.new) defs.new }
     ensures answer { IfOk result (IsAnswer (view pass.old) (view pass.new) defs.new.known ask.now) }
     ensures refused { IfErr result (IsRefused (view pass.old) (view pass.new) defs.new.known ask.now) }
+    ensures parses { IfOk result (λ answer. parses.new ≤ parses.old + full_numbers answer.plan) }
 {
     let Prepared { def, reach, plan } = prepare(alloc, log, pass, &mut defs.known, ask)?;
     let value = copy_value(alloc, &ask.value)?;

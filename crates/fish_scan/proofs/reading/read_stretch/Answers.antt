@@ -14,6 +14,7 @@ loop-number-init g c = record {
   extends = extends_self (view c.args.pass.now);
   above = c.requires.some;
   below = omega arith;
+  parses = omega arith;
   rows = adds_none (view c.args.pass.now) (definition_of c.args.query.now.def) c.args.query.now.value c.args.stretch.now.to
       c.args.query.now.reach.opens c.args.rows.now;
 }
@@ -34,6 +35,7 @@ loop-number-preserved g c =
       extends = extends_both _ _ _ inv.extends c.read_at.ensures.extends;
       above = omega arith;
       below = omega arith;
+      parses = (let so_far = inv.parses in let one = c.read_at.ensures.parses in omega arith);
       rows = adds_both (view c.read_at.new.pass) (definition_of c.args.query.now.def) c.args.query.now.value
           (c.loop-number.number - 1) c.loop-number.number c.args.stretch.now.to c.args.query.now.reach.opens c.args.rows.now
           c.loop-number.rows c.read_at.new.rows (omega arith) below
@@ -45,3 +47,16 @@ loop-number-preserved g c =
 
 pub returns-in_err-read_at-clause-extends : goal.returns-in_err-read_at-clause-extends
 returns-in_err-read_at-clause-extends g c = extends_both _ _ _ c.loop-number.invariant.extends c.read_at.ensures.extends
+
+pub returns-in_err-read_at-clause-parses : goal.returns-in_err-read_at-clause-parses
+returns-in_err-read_at-clause-parses g c =
+    let so_far = c.loop-number.invariant.parses in
+    let one = c.read_at.ensures.parses in
+    let some = c.loop-number-test.true in
+    omega arith
+
+pub returns-clause-parses : goal.returns-clause-parses
+returns-clause-parses g c =
+    let so_far = c.loop-number.invariant.parses in
+    let above = c.loop-number.invariant.above in
+    omega arith

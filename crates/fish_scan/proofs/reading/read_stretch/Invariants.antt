@@ -1,5 +1,5 @@
 -- The numbers from this one on were read.
-use Rattle.std.proofs.Common.{◌≤◌}
+use Rattle.std.proofs.Common.{◌≤◌, ◌+◌}
 use Rattle.fish_lang.specs.Definition.{definition_of}
 use Rattle.fish_rule.specs.Logs.{Extends}
 use Rattle.fish_rule.specs.Passes.{IsPassOf, view}
@@ -12,6 +12,7 @@ invariant-loop-number g l = record {
   extends : Extends (view l.fn.pass) (view l.pass);
   above : l.stretch.from ≤ l.number;
   below : l.number ≤ l.stretch.to;
+  parses : l.parses + l.number ≤ l.fn.parses + l.stretch.to;
   rows : Adds (view l.pass) (definition_of l.query.def) l.query.value l.number l.stretch.to l.query.reach.opens l.fn.rows l.rows;
 }
 
