@@ -31,7 +31,8 @@ impl Failure {
     /// The line for standard error.
     pub fn message(self) -> &'static str {
         match self {
-            Failure::Words => "usage: bench log | bench image | bench ingest FILE | bench registrations FILE",
+            Failure::Words =>
+                "usage: bench log | bench image | bench ingest FILE | bench registrations FILE",
             Failure::Events => "bench: the file can't be read as events",
             Failure::OutOfMemory => "bench: out of memory",
         }
