@@ -1,4 +1,5 @@
 pub mod Contents
+pub mod Left
 pub mod Machine
 pub mod Reading
 pub mod Row

@@ -1,10 +1,11 @@
 //! The rows of a whole file, each as the text that is stored for it.
 
 ghost use Rattle.std.specs.Prelude.{◌≡◌, ◌≢◌, ◌↔◌, ◌+◌, ◌<◌, ◌≤◌, ◌++◌, ◌∷◌, [], false, true, length, take, drop, IfOk};
-ghost use Rattle.std.specs.Prelude.{OnOk, IsErrOf, MatchOption};
+ghost use Rattle.std.specs.Prelude.{OnOk, IfSome, IsErrOf, MatchOption};
 ghost use Rattle.std.specs.List.{list_any};
 ghost use Rattle.csv.specs.Records.{fields_of};
 ghost use Rattle.fish_value.specs.Limits.{longest_file};
+ghost use Rattle.fish_csv.specs.Left.{left};
 ghost use Rattle.fish_csv.specs.Reading.{rows_in};
 ghost use Rattle.fish_csv.specs.Rows.{accepted, kept, outcomes, outcomes_of, refused as refused_of, without_header};
 ghost use Rattle.fish_csv.specs.Turns.{IsStored, TakesRow, ends_line, is_mark};
@@ -60,26 +61,62 @@ pub fn rows(alloc: Global, b: &[u8], header: bool) -> Result<CsvRows, CsvRefusal
     ensures length { OnOk result (length b.now ≤ longest_file) }
     ensures too_long { IsErrOf result CsvRefusal.FileTooLong ↔ (longest_file < length b.now) }
 {
-    if b.len() > MAX_FILE {
-        return Err(CsvRefusal::FileTooLong);
-    }
-    Ok(all_rows(alloc, without_mark(b), header)?)
+    let mut texts = RowTexts::new(alloc, b, header)?;
+    Ok(all_rows(alloc, &mut texts)?)
 }
 
-/// The same of a text without a byte order mark at its front.
-fn all_rows(alloc: Global, b: &[u8], header: bool) -> Result<CsvRows, AllocError>
-    requires { length b.now ≤ longest_file }
-    ensures texts { IfOk result (λ found. found.texts ≡ accepted (outcomes_of header (rows_in b.now))) }
-    ensures refused { IfOk result (λ found. found.refused ≡ refused_of (outcomes_of header (rows_in b.now))) }
+/// All rows that are left of a file.
+fn all_rows(alloc: Global, texts: &mut RowTexts<'_>) -> Result<CsvRows, AllocError>
+    requires { length texts.old.rest.now ≤ longest_file }
+    ensures texts { IfOk result (λ found. found.texts ≡ accepted (left texts.old)) }
+    ensures refused { IfOk result (λ found. found.refused ≡ refused_of (left texts.old)) }
 {
-    let mut store = Store::new(alloc);
     let mut found = CsvRows::new(alloc);
-    let mut rest = store.behind_header(b, header)?;
-    while let Some((outcome, more)) = store.next_row(alloc, rest)? {
+    while let Some(outcome) = texts.next_row(alloc)? {
         found.count(outcome)?;
-        rest = more;
     }
     Ok(found)
+}
+
+/// Goes over the rows of a file, each as the text that is stored for it.
+#[derive(Drop)]
+pub struct RowTexts<'b> {
+    store: Store,
+    rest: &'b [u8],
+}
+
+impl<'b> RowTexts<'b> {
+    /// Stands in front of the first row, with `header` behind it. A byte order mark at the file's start is dropped.
+    #[tactic(auto, unfolding(crate::specs::Left::left))]
+    pub fn new(alloc: Global, b: &'b [u8], header: bool) -> Result<RowTexts<'b>, CsvRefusal>
+        ensures rows { IfOk result (λ texts. left texts ≡ outcomes header b.now) }
+        ensures within { IfOk result (λ texts. length texts.rest.now ≤ length b.now) }
+
+        ensures length { OnOk result (length b.now ≤ longest_file) }
+        ensures too_long { IsErrOf result CsvRefusal.FileTooLong ↔ (longest_file < length b.now) }
+    {
+        if b.len() > MAX_FILE {
+            return Err(CsvRefusal::FileTooLong);
+        }
+        let mut store = Store::new(alloc);
+        let rest = store.behind_header(without_mark(b), header)?;
+        Ok(RowTexts { store, rest })
+    }
+
+    /// The payload of the next row, or none where the row is refused.
+    #[tactic(auto, unfolding(crate::specs::Left::left))]
+    pub fn next_row(&mut self, alloc: Global) -> Result<Option<Option<Text>>, AllocError>
+        ensures rows { IfOk result (λ row. MatchOption row (left self.old ≡ []) (λ outcome.
+            left self.old ≡ outcome ∷ left self.new)) }
+        ensures shorter { IfOk result (λ row. IfSome row (λ _. length self.new.rest.now < length self.old.rest.now)) }
+        ensures stays { length self.new.rest.now ≤ length self.old.rest.now }
+    {
+        let Some((outcome, rest)) = self.store.next_row(alloc, self.rest)? else {
+            return Ok(None);
+        };
+        self.rest = rest;
+        Ok(Some(outcome))
+    }
 }
 
 impl CsvRows {

@@ -14,6 +14,6 @@ mod record;
 mod text;
 mod write;
 
-pub use file::{CsvRefusal, CsvRows, MAX_FILE, rows};
+pub use file::{CsvRefusal, CsvRows, MAX_FILE, RowTexts, rows};
 pub use reader::{CsvReader, CsvRow};
 pub use record::{CsvRecord, CsvRecordRefusal, MAX_PAYLOAD};

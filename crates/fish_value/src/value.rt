@@ -1,9 +1,10 @@
 //! Values: what a definition gives for a record, and what a scan asks for.
 
-ghost use Rattle.std.specs.Prelude.{◌≡◌, ◌↔◌, IsTrue};
+ghost use Rattle.std.specs.Prelude.{◌≡◌, ◌↔◌, IfOk, IsTrue};
 ghost use Rattle.fish_value.specs.Same.{same_value};
 
 use crate::text::Text;
+use std::alloc::{AllocError, Global};
 
 /// What a definition gives for a record.
 #[derive(Debug, Drop)]
@@ -28,5 +29,16 @@ impl Value {
             (Value::Text(a), Value::Text(b)) => a.is(b),
             _ => false,
         }
+    }
+
+    /// A copy.
+    pub fn again(&self, alloc: Global) -> Result<Value, AllocError>
+        ensures { IfOk result (λ copy. copy ≡ self.now) }
+    {
+        Ok(match self {
+            Value::Bool(bool) => Value::Bool(*bool),
+            Value::Int(int) => Value::Int(*int),
+            Value::Text(text) => Value::Text(text.again(alloc)?),
+        })
     }
 }

@@ -1,18 +1,16 @@
 -- What was found, and what the rows that are left give, is what all rows give; each row took a byte at least.
-use Rattle.std.proofs.Common.{◌≡◌, ◌≤◌, ◌+◌, ◌++◌, length, map}
-use Rattle.fish_csv.specs.Reading.{rows_in}
-use Rattle.fish_csv.specs.Rows.{accepted, payload_of, refused, without_header}
+use Rattle.std.proofs.Common.{◌≡◌, ◌≤◌, ◌+◌, ◌++◌, length}
+use Rattle.fish_csv.specs.Left.{left}
+use Rattle.fish_csv.specs.Rows.{accepted, refused}
 use Rattle.fish_value.specs.Limits.{longest_file}
 use Rattle.fish_csv.proofs.file.all_rows.Given as goal
 
 abbrev pub invariant-loop-found : goal.invariant-loop-found
 invariant-loop-found l = record {
-  texts : accepted (map payload_of (without_header l.fn.header (rows_in l.fn.b))) ≡ l.found.texts ++ accepted
-      (map payload_of (rows_in l.rest));
-  refused : refused (map payload_of (without_header l.fn.header (rows_in l.fn.b))) ≡ l.found.refused + refused
-      (map payload_of (rows_in l.rest));
-  small : l.found.refused + length l.rest ≤ longest_file;
+  texts : accepted (left l.fn.texts) ≡ l.found.texts ++ accepted (left l.texts);
+  refused : refused (left l.fn.texts) ≡ l.found.refused + refused (left l.texts);
+  small : l.found.refused + length l.texts.rest.now ≤ longest_file;
 }
 
 abbrev pub decreases-loop-found : goal.decreases-loop-found
-decreases-loop-found l = length l.rest
+decreases-loop-found l = length l.texts.rest.now
