@@ -1,1 +1,4 @@
+pub mod Parts
+pub mod RefusalText
 pub mod ReportText
+pub mod StatementText

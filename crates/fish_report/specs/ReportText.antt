@@ -1,43 +1,42 @@
 -- The text of a report, by cases: one word an item.
-use Rattle.std.specs.Prelude.{ℕ, ◌==◌, ◌&&◌, List, [], ◌∷◌, ◌++◌, length, decimal, codes, Bool, true, false, not}
-use Rattle.std.specs.Prelude.{nat_le, nat_lt, if◌then◌else◌}
-use Rattle.std.specs.List.{flat_map, list_all}
-use Rattle.fish_value.specs.Json.{quoted}
-use Rattle.fish_value.specs.declared.row.Row.{Row}
+use Rattle.std.specs.Prelude.{ℕ, List, [], ◌++◌, codes, Bool, true, false}
+use Rattle.std.specs.List.{flat_map}
+use Rattle.fish_report.specs.Parts.{counts_text}
+use Rattle.fish_report.specs.StatementText.{bound_text, count_text, deregistered_text, found_text, ingested_text}
+use Rattle.fish_report.specs.StatementText.{lanes_text, plan_text, question_text, registered_text, rolling_text}
+use Rattle.fish_report.specs.StatementText.{select_text}
+use Rattle.fish_report.specs.RefusalText.{cut_text, deregister_cause, full_text, refused_text, register_cause}
+use Rattle.fish_report.specs.RefusalText.{scan_cause, too_long_text}
 use Rattle.fish_report.specs.declared.item.Item.{Item}
-use Rattle.fish_report.specs.declared.item.Item.TheVariants.{Select, SelectTooLong}
-
--- a byte that can stand in a bare word: graphic ASCII but the quotation mark and the number sign
-abbrev pub is_bare_byte : ℕ → Bool
-is_bare_byte b = nat_le 0x21 b && nat_le b 0x7e && not (b == 34) && not (b == 35)
-
--- a name that can stand without quotation marks
-abbrev pub is_bare_word : List ℕ → Bool
-is_bare_word s = nat_lt 0 (length s) && list_all is_bare_byte s
-
--- a file's name stands bare where it can, else as a JSON string
-unfoldable pub file_text : List ℕ → List ℕ
-file_text s = if is_bare_word s then s else quoted s
-
--- a row: its number, the length of its payload in bytes, and its payload
-unfoldable pub row_text : Row → List ℕ
-row_text row = decimal row.number ++ (32 ∷ (decimal (length row.payload) ++ (32 ∷ (row.payload ++ (10 ∷ [])))))
-
--- `select found K of N refused R`, then a line for each row
-unfoldable pub select_text : List Row → ℕ → ℕ → List ℕ
-select_text rows count refused =
-    codes "select found " ++
-    (decimal (length rows) ++
-    (codes " of " ++ (decimal count ++ (codes " refused " ++ (decimal refused ++ (10 ∷ flat_map row_text rows))))))
-
--- `refused select FILE too long`
-unfoldable pub too_long_text : List ℕ → List ℕ
-too_long_text file = codes "refused select " ++ (file_text file ++ codes " too long\n")
+use Rattle.fish_report.specs.declared.item.Item.TheVariants as item
 
 -- the text of an item
 abbrev pub item_text : Item → List ℕ
-item_text (Select rows count refused) = select_text rows count refused
-item_text (SelectTooLong file) = too_long_text file
+item_text (item.Select rows count refused) = select_text rows count refused
+item_text (item.SelectTooLong file) = too_long_text file
+item_text item.Created = codes "created\n"
+item_text (item.Opened count) = count_text (codes "opened") count
+item_text (item.Statement from to) = []
+item_text (item.Lanes from to) = lanes_text from to
+item_text (item.Lane number) = count_text (codes "lane") number
+item_text item.End = codes "end\n"
+item_text (item.Registered name id from def) = registered_text name id from
+item_text (item.Rolling name id def seat version) = rolling_text name id
+item_text (item.Bound id from) = bound_text id from
+item_text (item.Deregistered name id to) = deregistered_text name id to
+item_text (item.Ingested file stored refused) = ingested_text file ++ counts_text stored refused
+item_text (item.Scanned name value from to opens rows version) =
+    codes "scan " ++ (question_text name value from to ++ found_text opens rows)
+item_text (item.Explained name value from to plan version) =
+    codes "explain " ++ (question_text name value from to ++ plan_text plan)
+item_text (item.Checkpointed count) = count_text (codes "checkpoint") count
+item_text (item.Closed count) = count_text (codes "closed") count
+item_text (item.RegisterRefused name cause) = refused_text (codes "register") name (register_cause cause)
+item_text (item.DeregisterRefused name cause) = refused_text (codes "deregister") name (deregister_cause cause)
+item_text (item.IngestFull file line lines end stored refused) = full_text file line lines end ++ counts_text stored refused
+item_text (item.IngestTooLong file stored refused) = cut_text file ++ counts_text stored refused
+item_text (item.ScanRefused name version cause) = refused_text (codes "scan") name (scan_cause version cause)
+item_text (item.ExplainRefused name version cause) = refused_text (codes "explain") name (scan_cause version cause)
 
 -- the text of a report is that of its items, one behind the other
 abbrev pub report_text : List Item → List ℕ
@@ -45,5 +44,11 @@ report_text items = flat_map item_text items
 
 -- the item tells that something was refused
 abbrev pub is_refusal : Item → Bool
-is_refusal (Select rows count refused) = false
-is_refusal (SelectTooLong file) = true
+is_refusal (item.SelectTooLong file) = true
+is_refusal (item.RegisterRefused name cause) = true
+is_refusal (item.DeregisterRefused name cause) = true
+is_refusal (item.IngestFull file line lines end stored refused) = true
+is_refusal (item.IngestTooLong file stored refused) = true
+is_refusal (item.ScanRefused name version cause) = true
+is_refusal (item.ExplainRefused name version cause) = true
+is_refusal _ = false

@@ -2,7 +2,10 @@
 #![tactic(auto)]
 
 mod item;
+mod parts;
+mod refusals;
+mod statements;
 mod text;
 
-pub use item::{Item, Items, Report};
-pub use text::report_text;
+pub use item::{DeregisterCause, Item, Items, RegisterCause, Report, ScanCause};
+pub use text::{push_item, report_text};

@@ -1,7 +1,7 @@
 -- The rows follow the line in front of them.
 use Rattle.std.proofs.Common.{append_assoc, ◌∙◌}
-use Rattle.fish_report.specs.ReportText.{select_text}
-use Rattle.fish_report.proofs.text.push_select.Goals as goal
+use Rattle.fish_report.specs.StatementText.{select_text}
+use Rattle.fish_report.proofs.statements.push_select.Goals as goal
 
 pub returns : goal.returns
 unfolding select_text

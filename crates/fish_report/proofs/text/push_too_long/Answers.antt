@@ -1,8 +1,0 @@
--- One piece was put behind the other, in the order of the text.
-use Rattle.std.proofs.Common.{append_assoc, ◌∙◌}
-use Rattle.fish_report.specs.ReportText.{too_long_text}
-use Rattle.fish_report.proofs.text.push_too_long.Goals as goal
-
-pub returns : goal.returns
-unfolding too_long_text
-returns c = c.in_ok-push_str-2.ensures.bytes ∙ rw (c.in_ok-push_file.ensures, c.in_ok-push_str.ensures.bytes) (simp append_assoc)

@@ -1,0 +1,141 @@
+//! The texts of what was done, by statement.
+
+ghost use Rattle.std.specs.Prelude.{◌≡◌, ◌++◌, OnOk, string_bytes};
+ghost use Rattle.fish_report.specs.StatementText.{bound_text, count_text, deregistered_text, found_text, ingested_text};
+ghost use Rattle.fish_report.specs.StatementText.{lanes_text, plan_text, question_text, registered_text, rolling_text};
+ghost use Rattle.fish_report.specs.StatementText.{select_text};
+
+use crate::parts::{file_name, push_numbers, push_pieces, push_rows};
+use fish_plan::Piece;
+use fish_value::{Row, Text, Value, print_value};
+use std::alloc::{AllocError, Global};
+
+/// Puts the head of a selection and its rows behind the others.
+pub(crate) fn push_select(
+    text: &mut String,
+    rows: &[Row],
+    count: u64,
+    refused: u64,
+) -> Result<(), AllocError>
+    ensures { OnOk result
+        (string_bytes text.new ≡ string_bytes text.old ++ select_text rows.now count refused) }
+{
+    let found = rows.len();
+    write!(text, "select found {found} of {count} refused {refused}\n")?;
+    push_rows(text, rows)
+}
+
+/// Puts a line of a word and a number behind the others.
+#[tactic(auto, unfolding(crate::specs::StatementText::count_text))]
+pub(crate) fn push_count(text: &mut String, word: &str, count: u32) -> Result<(), AllocError>
+    ensures { OnOk result
+        (string_bytes text.new ≡ string_bytes text.old ++ count_text word.now count) }
+{
+    write!(text, "{word} {count}\n")
+}
+
+/// Puts the head of a block by `lanes` behind the others.
+#[tactic(auto, unfolding(crate::specs::StatementText::lanes_text, crate::specs::Parts::range_text))]
+pub(crate) fn push_lanes(text: &mut String, from: u32, to: u32) -> Result<(), AllocError>
+    ensures { OnOk result (string_bytes text.new ≡ string_bytes text.old ++ lanes_text from to) }
+{
+    write!(text, "lanes {from}..{to}\n")
+}
+
+/// Puts the line of a registration with its boundary behind the others.
+#[tactic(auto, unfolding(crate::specs::StatementText::registered_text))]
+pub(crate) fn push_registered(
+    text: &mut String,
+    name: &Text,
+    id: u16,
+    from: u32,
+) -> Result<(), AllocError>
+    ensures { OnOk result
+        (string_bytes text.new ≡ string_bytes text.old ++ registered_text name.now id from) }
+{
+    write!(text, "registered {} id {id} from {from}\n", name.as_str())
+}
+
+/// Puts the line of a registration without its boundary behind the others.
+#[tactic(auto, unfolding(crate::specs::StatementText::rolling_text))]
+pub(crate) fn push_rolling(text: &mut String, name: &Text, id: u16) -> Result<(), AllocError>
+    ensures { OnOk result
+        (string_bytes text.new ≡ string_bytes text.old ++ rolling_text name.now id) }
+{
+    write!(text, "registered {} id {id} rolling\n", name.as_str())
+}
+
+/// Puts the line of a boundary that was found behind the others.
+#[tactic(auto, unfolding(crate::specs::StatementText::bound_text))]
+pub(crate) fn push_bound(text: &mut String, id: u16, from: u32) -> Result<(), AllocError>
+    ensures { OnOk result (string_bytes text.new ≡ string_bytes text.old ++ bound_text id from) }
+{
+    write!(text, "bound id {id} from {from}\n")
+}
+
+/// Puts the line of a deregistration behind the others.
+#[tactic(auto, unfolding(crate::specs::StatementText::deregistered_text))]
+pub(crate) fn push_deregistered(
+    text: &mut String,
+    name: &Text,
+    id: u16,
+    to: u32,
+) -> Result<(), AllocError>
+    ensures { OnOk result
+        (string_bytes text.new ≡ string_bytes text.old ++ deregistered_text name.now id to) }
+{
+    write!(text, "deregistered {} id {id} to {to}\n", name.as_str())
+}
+
+/// Puts the first part of the line of a file that was stored behind the others.
+#[tactic(auto, unfolding(crate::specs::StatementText::ingested_text))]
+pub(crate) fn push_ingested(alloc: Global, text: &mut String, file: &Text) -> Result<(), AllocError>
+    ensures { OnOk result (string_bytes text.new ≡ string_bytes text.old ++ ingested_text file.now) }
+{
+    let file = file_name(alloc, file)?;
+    write!(text, "ingested {}", file.as_str())
+}
+
+/// Puts what a `scan` or `explain` was asked behind the others.
+#[tactic(auto, unfolding(crate::specs::StatementText::question_text, crate::specs::Parts::range_text))]
+pub(crate) fn push_question(
+    alloc: Global,
+    text: &mut String,
+    name: &Text,
+    value: &Value,
+    from: u32,
+    to: u32,
+) -> Result<(), AllocError>
+    ensures { OnOk result
+        (string_bytes text.new ≡ string_bytes text.old ++ question_text name.now value.now from to) }
+{
+    let value = print_value(alloc, value)?;
+    write!(
+        text,
+        "{} = {} in {from}..{to}",
+        name.as_str(),
+        value.as_str()
+    )
+}
+
+/// Puts what a scan found behind the others: the rest of its line, and its rows.
+pub(crate) fn push_found(text: &mut String, opens: &[u32], rows: &[Row]) -> Result<(), AllocError>
+    ensures { OnOk result
+        (string_bytes text.new ≡ string_bytes text.old ++ found_text opens.now rows.now) }
+{
+    let found = rows.len();
+    write!(text, " found {found} open ")?;
+    push_numbers(text, opens)?;
+    text.push_str("\n")?;
+    push_rows(text, rows)
+}
+
+/// Puts the pieces of a plan behind the others: the rest of the line of an `explain`.
+pub(crate) fn push_plan(text: &mut String, pieces: &[Piece]) -> Result<(), AllocError>
+    ensures { OnOk result
+        (string_bytes text.new ≡ string_bytes text.old ++ plan_text pieces.now) }
+{
+    text.push_str(": ")?;
+    push_pieces(text, pieces)?;
+    text.push_str("\n")
+}
