@@ -1,5 +1,5 @@
 -- The texts of what was done, by statement. Each line ends by LF.
-use Rattle.std.specs.Prelude.{ℕ, List, [], ◌∷◌, ◌++◌, length, decimal, codes}
+use Rattle.std.specs.Prelude.{ℕ, List, ◌∷◌, ◌++◌, length, decimal, codes}
 use Rattle.std.specs.List.{flat_map}
 use Rattle.fish_value.specs.ValueText.{value_print}
 use Rattle.fish_value.specs.declared.row.Row.{Row}

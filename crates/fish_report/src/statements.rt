@@ -137,5 +137,6 @@ pub(crate) fn push_plan(text: &mut String, pieces: &[Piece]) -> Result<(), Alloc
 {
     text.push_str(": ")?;
     push_pieces(text, pieces)?;
-    text.push_str("\n")
+    text.push_str("\n")?;
+    Ok(())
 }

@@ -1,8 +1,9 @@
 -- The rows follow the line in front of them.
 use Rattle.std.proofs.Common.{append_assoc, ◌∙◌}
+use Rattle.std.proofs.lemmas.Result.{on_ok_weaker}
 use Rattle.fish_report.specs.StatementText.{select_text}
 use Rattle.fish_report.proofs.statements.push_select.Goals as goal
 
 pub returns : goal.returns
 unfolding select_text
-returns c = c.in_ok-push_rows.ensures ∙ rw c.in_ok-write.ensures.bytes (simp append_assoc)
+returns c = on_ok_weaker c.push_rows.result (λ e. e ∙ rw c.in_ok-write.ensures.bytes (simp append_assoc)) c.push_rows.ensures
