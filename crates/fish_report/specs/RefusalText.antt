@@ -1,7 +1,7 @@
 -- The texts of what was refused, by statement, and of the causes. Each line begins with `refused` and ends by LF.
 use Rattle.std.specs.Prelude.{ℕ, List, ◌++◌, decimal, codes}
 use Rattle.fish_catalog.specs.Limits.{most_active, most_rows}
-use Rattle.fish_report.specs.Parts.{file_text, range_text}
+use Rattle.fish_report.specs.Parts.{counts_text, file_text, range_text}
 use Rattle.fish_report.specs.declared.item.RegisterCause.{RegisterCause}
 use Rattle.fish_report.specs.declared.item.RegisterCause.TheVariants as register
 use Rattle.fish_report.specs.declared.item.DeregisterCause.{DeregisterCause}
@@ -45,6 +45,7 @@ full_text file line lines end =
     (file_text file ++
     (codes " full line " ++ (decimal line ++ (codes " lines " ++ (decimal lines ++ (codes " end " ++ decimal end))))))
 
--- `refused ingest FILE too long`, the first part of a line
-unfoldable pub cut_text : List ℕ → List ℕ
-cut_text file = codes "refused ingest " ++ (file_text file ++ codes " too long")
+-- `refused ingest FILE too long stored S refused R`
+unfoldable pub cut_text : List ℕ → ℕ → ℕ → List ℕ
+cut_text file stored refused =
+    codes "refused ingest " ++ (file_text file ++ (codes " too long" ++ counts_text stored refused))

@@ -2,9 +2,9 @@
 use Rattle.std.specs.Prelude.{ℕ, List, [], ◌++◌, codes, Bool, true, false}
 use Rattle.std.specs.List.{flat_map}
 use Rattle.fish_report.specs.Parts.{counts_text}
-use Rattle.fish_report.specs.StatementText.{bound_text, count_text, deregistered_text, found_text, ingested_text}
-use Rattle.fish_report.specs.StatementText.{lanes_text, plan_text, question_text, registered_text, rolling_text}
-use Rattle.fish_report.specs.StatementText.{select_text}
+use Rattle.fish_report.specs.StatementText.{bound_text, count_text, deregistered_text, explain_text, found_text}
+use Rattle.fish_report.specs.StatementText.{ingested_text, lanes_text, plan_text, registered_text, rolling_text}
+use Rattle.fish_report.specs.StatementText.{scan_text, select_text}
 use Rattle.fish_report.specs.RefusalText.{cut_text, deregister_cause, full_text, refused_text, register_cause}
 use Rattle.fish_report.specs.RefusalText.{scan_cause, too_long_text}
 use Rattle.fish_report.specs.declared.item.Item.{Item}
@@ -24,17 +24,17 @@ item_text (item.Registered name id from def) = registered_text name id from
 item_text (item.Rolling name id def seat version) = rolling_text name id
 item_text (item.Bound id from) = bound_text id from
 item_text (item.Deregistered name id to) = deregistered_text name id to
-item_text (item.Ingested file stored refused) = ingested_text file ++ counts_text stored refused
+item_text (item.Ingested file stored refused) = ingested_text file stored refused
 item_text (item.Scanned name value from to opens rows version) =
-    codes "scan " ++ (question_text name value from to ++ found_text opens rows)
+    scan_text name value from to ++ found_text opens rows
 item_text (item.Explained name value from to plan version) =
-    codes "explain " ++ (question_text name value from to ++ plan_text plan)
+    explain_text name value from to ++ plan_text plan
 item_text (item.Checkpointed count) = count_text (codes "checkpoint") count
 item_text (item.Closed count) = count_text (codes "closed") count
 item_text (item.RegisterRefused name cause) = refused_text (codes "register") name (register_cause cause)
 item_text (item.DeregisterRefused name cause) = refused_text (codes "deregister") name (deregister_cause cause)
 item_text (item.IngestFull file line lines end stored refused) = full_text file line lines end ++ counts_text stored refused
-item_text (item.IngestTooLong file stored refused) = cut_text file ++ counts_text stored refused
+item_text (item.IngestTooLong file stored refused) = cut_text file stored refused
 item_text (item.ScanRefused name version cause) = refused_text (codes "scan") name (scan_cause version cause)
 item_text (item.ExplainRefused name version cause) = refused_text (codes "explain") name (scan_cause version cause)
 

@@ -5,7 +5,7 @@ use Rattle.fish_value.specs.ValueText.{value_print}
 use Rattle.fish_value.specs.declared.row.Row.{Row}
 use Rattle.fish_value.specs.declared.value.Value.{Value}
 use Rattle.fish_plan.specs.declared.pieces.Piece.{Piece}
-use Rattle.fish_report.specs.Parts.{file_text, numbers_text, pieces_text, range_text, row_text}
+use Rattle.fish_report.specs.Parts.{counts_text, file_text, numbers_text, pieces_text, range_text, row_text}
 
 -- `select found K of N refused R`, then a line for each row
 unfoldable pub select_text : List Row → ℕ → ℕ → List ℕ
@@ -40,13 +40,21 @@ unfoldable pub deregistered_text : List ℕ → ℕ → ℕ → List ℕ
 deregistered_text name id to =
     codes "deregistered " ++ (name ++ (codes " id " ++ (decimal id ++ (codes " to " ++ (decimal to ++ codes "\n")))))
 
--- `ingested FILE`, the first part of a line
-unfoldable pub ingested_text : List ℕ → List ℕ
-ingested_text file = codes "ingested " ++ file_text file
+-- `ingested FILE stored S refused R`
+unfoldable pub ingested_text : List ℕ → ℕ → ℕ → List ℕ
+ingested_text file stored refused = codes "ingested " ++ (file_text file ++ counts_text stored refused)
 
--- what a `scan` or `explain` was asked: `NAME = VALUE in F..T`
+-- what was asked: `NAME = VALUE in F..T`
 unfoldable pub question_text : List ℕ → Value → ℕ → ℕ → List ℕ
 question_text name value from to = name ++ (codes " = " ++ (value_print value ++ (codes " in " ++ range_text from to)))
+
+-- `scan NAME = VALUE in F..T`, the first part of a line
+unfoldable pub scan_text : List ℕ → Value → ℕ → ℕ → List ℕ
+scan_text name value from to = codes "scan " ++ question_text name value from to
+
+-- `explain NAME = VALUE in F..T`, the first part of a line
+unfoldable pub explain_text : List ℕ → Value → ℕ → ℕ → List ℕ
+explain_text name value from to = codes "explain " ++ question_text name value from to
 
 -- what a scan found: ` found K open OPENS`, then a line for each row
 unfoldable pub found_text : List ℕ → List Row → List ℕ

@@ -136,11 +136,22 @@ pub(crate) fn push_full(
     )
 }
 
-/// Puts the first part of the line of a file that was not stored to its end behind the others.
-#[tactic(auto, unfolding(crate::specs::RefusalText::cut_text))]
-pub(crate) fn push_cut(alloc: Global, text: &mut String, file: &Text) -> Result<(), AllocError>
-    ensures { OnOk result (string_bytes text.new ≡ string_bytes text.old ++ cut_text file.now) }
+/// Puts the line of a file that was not stored to its end, being too long, behind the others.
+#[tactic(auto, unfolding(crate::specs::RefusalText::cut_text, crate::specs::Parts::counts_text))]
+pub(crate) fn push_cut(
+    alloc: Global,
+    text: &mut String,
+    file: &Text,
+    stored: u32,
+    refused: u32,
+) -> Result<(), AllocError>
+    ensures { OnOk result
+        (string_bytes text.new ≡ string_bytes text.old ++ cut_text file.now stored refused) }
 {
     let file = file_name(alloc, file)?;
-    write!(text, "refused ingest {} too long", file.as_str())
+    let file = file.as_str();
+    write!(
+        text,
+        "refused ingest {file} too long stored {stored} refused {refused}\n"
+    )
 }

@@ -1,19 +1,19 @@
 //! The texts of what was done, by statement.
 
-ghost use Rattle.std.specs.Prelude.{◌≡◌, ◌++◌, OnOk, string_bytes};
-ghost use Rattle.fish_report.specs.StatementText.{bound_text, count_text, deregistered_text, found_text, ingested_text};
-ghost use Rattle.fish_report.specs.StatementText.{lanes_text, plan_text, question_text, registered_text, rolling_text};
-ghost use Rattle.fish_report.specs.StatementText.{select_text};
+ghost use Rattle.std.specs.Prelude.{◌≡◌, ◌++◌, codes, OnOk, string_bytes};
+ghost use Rattle.fish_report.specs.StatementText.{bound_text, count_text, deregistered_text, explain_text, found_text};
+ghost use Rattle.fish_report.specs.StatementText.{ingested_text, lanes_text, plan_text, question_text, registered_text};
+ghost use Rattle.fish_report.specs.StatementText.{rolling_text, scan_text, select_text};
 
 use crate::parts::{file_name, push_numbers, push_pieces, push_rows};
-use fish_plan::Piece;
-use fish_value::{Row, Text, Value, print_value};
+use fish_plan::Plan;
+use fish_value::{Numbers, Rows, Text, Value, print_value};
 use std::alloc::{AllocError, Global};
 
 /// Puts the head of a selection and its rows behind the others.
 pub(crate) fn push_select(
     text: &mut String,
-    rows: &[Row],
+    rows: &Rows,
     count: u64,
     refused: u64,
 ) -> Result<(), AllocError>
@@ -22,7 +22,7 @@ pub(crate) fn push_select(
 {
     let found = rows.len();
     write!(text, "select found {found} of {count} refused {refused}\n")?;
-    push_rows(text, rows)
+    push_rows(text, rows.as_slice())
 }
 
 /// Puts a line of a word and a number behind the others.
@@ -32,6 +32,15 @@ pub(crate) fn push_count(text: &mut String, word: &str, count: u32) -> Result<()
         (string_bytes text.new ≡ string_bytes text.old ++ count_text word.now count) }
 {
     write!(text, "{word} {count}\n")
+}
+
+/// Puts the head of a lane behind the others.
+#[tactic(auto, unfolding(crate::specs::StatementText::count_text))]
+pub(crate) fn push_lane(text: &mut String, number: u8) -> Result<(), AllocError>
+    ensures { OnOk result
+        (string_bytes text.new ≡ string_bytes text.old ++ count_text (codes "lane") number) }
+{
+    write!(text, "lane {number}\n")
 }
 
 /// Puts the head of a block by `lanes` behind the others.
@@ -87,18 +96,63 @@ pub(crate) fn push_deregistered(
     write!(text, "deregistered {} id {id} to {to}\n", name.as_str())
 }
 
-/// Puts the first part of the line of a file that was stored behind the others.
-#[tactic(auto, unfolding(crate::specs::StatementText::ingested_text))]
-pub(crate) fn push_ingested(alloc: Global, text: &mut String, file: &Text) -> Result<(), AllocError>
-    ensures { OnOk result (string_bytes text.new ≡ string_bytes text.old ++ ingested_text file.now) }
+/// Puts the line of a file that was stored behind the others.
+#[tactic(auto, unfolding(crate::specs::StatementText::ingested_text, crate::specs::Parts::counts_text))]
+pub(crate) fn push_ingested(
+    alloc: Global,
+    text: &mut String,
+    file: &Text,
+    stored: u32,
+    refused: u32,
+) -> Result<(), AllocError>
+    ensures { OnOk result
+        (string_bytes text.new ≡ string_bytes text.old ++ ingested_text file.now stored refused) }
 {
     let file = file_name(alloc, file)?;
-    write!(text, "ingested {}", file.as_str())
+    write!(
+        text,
+        "ingested {} stored {stored} refused {refused}\n",
+        file.as_str()
+    )
 }
 
-/// Puts what a `scan` or `explain` was asked behind the others.
+/// Puts what a scan was asked behind the others.
+#[tactic(auto, unfolding(crate::specs::StatementText::scan_text))]
+pub(crate) fn push_scan(
+    alloc: Global,
+    text: &mut String,
+    name: &Text,
+    value: &Value,
+    from: u32,
+    to: u32,
+) -> Result<(), AllocError>
+    ensures { OnOk result
+        (string_bytes text.new ≡ string_bytes text.old ++ scan_text name.now value.now from to) }
+{
+    text.push_str("scan ")?;
+    push_question(alloc, text, name, value, from, to)
+}
+
+/// Puts what an `explain` was asked behind the others.
+#[tactic(auto, unfolding(crate::specs::StatementText::explain_text))]
+pub(crate) fn push_explain(
+    alloc: Global,
+    text: &mut String,
+    name: &Text,
+    value: &Value,
+    from: u32,
+    to: u32,
+) -> Result<(), AllocError>
+    ensures { OnOk result
+        (string_bytes text.new ≡ string_bytes text.old ++ explain_text name.now value.now from to) }
+{
+    text.push_str("explain ")?;
+    push_question(alloc, text, name, value, from, to)
+}
+
+/// Puts a name, a value and a range behind the others.
 #[tactic(auto, unfolding(crate::specs::StatementText::question_text, crate::specs::Parts::range_text))]
-pub(crate) fn push_question(
+fn push_question(
     alloc: Global,
     text: &mut String,
     name: &Text,
@@ -119,24 +173,23 @@ pub(crate) fn push_question(
 }
 
 /// Puts what a scan found behind the others: the rest of its line, and its rows.
-pub(crate) fn push_found(text: &mut String, opens: &[u32], rows: &[Row]) -> Result<(), AllocError>
+pub(crate) fn push_found(text: &mut String, opens: &Numbers, rows: &Rows) -> Result<(), AllocError>
     ensures { OnOk result
         (string_bytes text.new ≡ string_bytes text.old ++ found_text opens.now rows.now) }
 {
     let found = rows.len();
     write!(text, " found {found} open ")?;
-    push_numbers(text, opens)?;
+    push_numbers(text, opens.as_slice())?;
     text.push_str("\n")?;
-    push_rows(text, rows)
+    push_rows(text, rows.as_slice())
 }
 
 /// Puts the pieces of a plan behind the others: the rest of the line of an `explain`.
-pub(crate) fn push_plan(text: &mut String, pieces: &[Piece]) -> Result<(), AllocError>
-    ensures { OnOk result
-        (string_bytes text.new ≡ string_bytes text.old ++ plan_text pieces.now) }
+pub(crate) fn push_plan(text: &mut String, plan: &Plan) -> Result<(), AllocError>
+    ensures { OnOk result (string_bytes text.new ≡ string_bytes text.old ++ plan_text plan.now) }
 {
     text.push_str(": ")?;
-    push_pieces(text, pieces)?;
+    push_pieces(text, plan.pieces())?;
     text.push_str("\n")?;
     Ok(())
 }

@@ -10,8 +10,8 @@ use crate::refusals::{
     push_too_long,
 };
 use crate::statements::{
-    push_bound, push_count, push_deregistered, push_found, push_ingested, push_lanes, push_plan,
-    push_question, push_registered, push_rolling, push_select,
+    push_bound, push_count, push_deregistered, push_explain, push_found, push_ingested, push_lane,
+    push_lanes, push_plan, push_registered, push_rolling, push_scan, push_select,
 };
 use fish_value::Text;
 use std::alloc::{AllocError, Global};
@@ -36,13 +36,13 @@ pub fn push_item(alloc: Global, text: &mut String, item: &Item) -> Result<(), Al
             rows,
             count,
             refused,
-        } => push_select(text, rows.as_slice(), *count, *refused),
+        } => push_select(text, rows, *count, *refused),
         Item::SelectTooLong { file } => push_too_long(alloc, text, file),
         Item::Created => text.push_str("created\n"),
         Item::Opened { count } => push_count(text, "opened", *count),
         Item::Statement { .. } => Ok(()),
         Item::Lanes { from, to } => push_lanes(text, *from, *to),
-        Item::Lane { number } => push_count(text, "lane", u32::from(*number)),
+        Item::Lane { number } => push_lane(text, *number),
         Item::End => text.push_str("end\n"),
         Item::Registered { name, id, from, .. } => push_registered(text, name, *id, *from),
         Item::Rolling { name, id, .. } => push_rolling(text, name, *id),
@@ -52,10 +52,7 @@ pub fn push_item(alloc: Global, text: &mut String, item: &Item) -> Result<(), Al
             file,
             stored,
             refused,
-        } => {
-            push_ingested(alloc, text, file)?;
-            push_counts(text, *stored, *refused)
-        }
+        } => push_ingested(alloc, text, file, *stored, *refused),
         Item::Scanned {
             name,
             value,
@@ -65,9 +62,8 @@ pub fn push_item(alloc: Global, text: &mut String, item: &Item) -> Result<(), Al
             rows,
             ..
         } => {
-            text.push_str("scan ")?;
-            push_question(alloc, text, name, value, *from, *to)?;
-            push_found(text, opens.as_slice(), rows.as_slice())
+            push_scan(alloc, text, name, value, *from, *to)?;
+            push_found(text, opens, rows)
         }
         Item::Explained {
             name,
@@ -77,9 +73,8 @@ pub fn push_item(alloc: Global, text: &mut String, item: &Item) -> Result<(), Al
             plan,
             ..
         } => {
-            text.push_str("explain ")?;
-            push_question(alloc, text, name, value, *from, *to)?;
-            push_plan(text, plan.pieces())
+            push_explain(alloc, text, name, value, *from, *to)?;
+            push_plan(text, plan)
         }
         Item::Checkpointed { count } => push_count(text, "checkpoint", *count),
         Item::Closed { count } => push_count(text, "closed", *count),
@@ -100,10 +95,7 @@ pub fn push_item(alloc: Global, text: &mut String, item: &Item) -> Result<(), Al
             file,
             stored,
             refused,
-        } => {
-            push_cut(alloc, text, file)?;
-            push_counts(text, *stored, *refused)
-        }
+        } => push_cut(alloc, text, file, *stored, *refused),
         Item::ScanRefused {
             name,
             version,

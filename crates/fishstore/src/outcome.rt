@@ -137,7 +137,7 @@ impl From<AllocError> for Fault {
 }
 
 /// The end of a run.
-#[derive(Debug, Drop)]
+#[derive(Drop)]
 pub struct Outcome {
     /// The exit status.
     pub status: u8,

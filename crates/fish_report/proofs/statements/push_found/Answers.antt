@@ -8,6 +8,12 @@ pub returns : goal.returns
 unfolding found_text
 returns c =
     on_ok_weaker c.push_rows.result
-    (λ e. e ∙ rw (c.in_ok-push_str.ensures.bytes, c.in_ok-push_numbers.ensures, c.in_ok-write.ensures.bytes)
-    (simp append_assoc))
+    (λ e. e ∙ rw (
+      c.as_slice-2.ensures,
+      c.in_ok-push_str.ensures.bytes,
+      c.in_ok-push_numbers.ensures,
+      c.as_slice.ensures,
+      c.in_ok-write.ensures.bytes,
+      c.len-found.ensures,
+    ) (simp append_assoc))
     c.push_rows.ensures

@@ -7,4 +7,4 @@ pub returns : goal.returns
 unfolding plan_text
 returns c =
     c.in_ok-push_str-2.ensures.bytes
-    ∙ rw (c.in_ok-push_pieces.ensures, c.in_ok-push_str.ensures.bytes) (simp append_assoc)
+    ∙ rw (c.in_ok-push_pieces.ensures, c.pieces.ensures, c.in_ok-push_str.ensures.bytes) (simp append_assoc)

@@ -6,4 +6,7 @@ use Rattle.fish_report.proofs.statements.push_select.Goals as goal
 
 pub returns : goal.returns
 unfolding select_text
-returns c = on_ok_weaker c.push_rows.result (λ e. e ∙ rw c.in_ok-write.ensures.bytes (simp append_assoc)) c.push_rows.ensures
+returns c =
+    on_ok_weaker c.push_rows.result
+    (λ e. e ∙ rw (c.as_slice.ensures, c.in_ok-write.ensures.bytes, c.len-found.ensures) (simp append_assoc))
+    c.push_rows.ensures
