@@ -163,11 +163,11 @@ pub enum Item {
         /// The file's name.
         file: Text,
         /// The first line of the region that passed the log's end.
-        line: u32,
+        line: u64,
         /// How many lines the region has.
-        lines: u32,
+        lines: u64,
         /// How many lines the log has.
-        end: u32,
+        end: u64,
         /// How many records were stored before.
         stored: u32,
         /// How many lines before are no record.

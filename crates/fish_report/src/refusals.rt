@@ -121,9 +121,9 @@ pub(crate) fn push_full(
     alloc: Global,
     text: &mut String,
     file: &Text,
-    line: u32,
-    lines: u32,
-    end: u32,
+    line: u64,
+    lines: u64,
+    end: u64,
 ) -> Result<(), AllocError>
     ensures { OnOk result
         (string_bytes text.new ≡ string_bytes text.old ++ full_text file.now line lines end) }

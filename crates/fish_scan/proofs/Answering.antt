@@ -24,6 +24,7 @@ use Rattle.fish_rule.specs.Clocks.{HasLoaded, IsLater}
 use Rattle.fish_rule.specs.Entering.{after_version}
 use Rattle.fish_rule.specs.Intervals.{HasInterval}
 use Rattle.fish_rule.specs.Logs.{Extends, Learns, TellsMark}
+use Rattle.fish_rule.specs.declared.view.Epoch.{Epoch}
 use Rattle.fish_rule.specs.declared.view.Key.{Key}
 use Rattle.fish_rule.specs.declared.view.Noted.TheVariants.{Version}
 use Rattle.fish_rule.specs.declared.view.View.{View}
@@ -56,6 +57,7 @@ scans_both a b c h g = record {
   learns = learns_both a b c h.learns g.learns;
   clock = later_both a.clock b.clock c.clock h.clock g.clock;
   frame = g.frame ∙ ap (λ (z : View). record z { epoch = c.epoch; tail = c.tail; learned = c.learned; clock = c.clock }) h.frame;
+  outside = λ e. g.outside (h.outside e);
 }
 
 -- a view that extends another
@@ -69,6 +71,7 @@ scans_extends v u h = record {
     learned = u.learned;
     clock = u.clock;
   };
+  outside = λ e. ap (λ (z : View). z.epoch) h.frame ∙ e;
 }
 
 -- a call that settles
@@ -82,6 +85,7 @@ scans_settles v u h = record {
     learned = u.learned;
     clock = u.clock;
   };
+  outside = λ e. ap (λ (z : View). z.epoch) h.frame ∙ e;
 }
 
 -- the version is loaded
@@ -106,6 +110,7 @@ scans_version v u x is more = subst (OnlyScans v) (sym is) (record {
   };
   clock = (noted_load v.clock Version x).on;
   frame = refl;
+  outside = λ e. ap (λ (z : Epoch). (after_version (record v { epoch = z }) x).epoch) e;
 })
 
 -- the version that was loaded is that of the definitions
@@ -147,12 +152,15 @@ range_within v m u t from to first last opens before after h = record {
     is = h.counted.is;
   };
   known = (let a = h.known in let b = before.learns.count in omega arith);
+  claimed = (let a = h.claimed in let b = after.learns.count in omega arith);
   within = h.within;
   stops = ⊎_elim (λ (e : last ≡ end_of to h.count). inl e)
       (λ (mark : TellsMark u last). inr (λ x more. mark x (learns_both u t x after.learns more))) h.stops;
   rise = h.rise;
   were = λ n among. open_sooner v m t n before.learns (open_later m u t n after.learns (h.were n among));
   apart = λ a b lane f g p q one other. always_later u t _ after.learns (h.apart a b lane f g p q one other);
+  others = λ base n above below closed. always_later u t _ after.learns
+      (h.others (subst (λ (z : Key). z.number ≤ first) (sym before.learns.about) base) n above below closed);
 }
 
 -- so was a cover
@@ -306,7 +314,7 @@ unfolding asked_later
 explained_later v u t known ask p after h = record {
   place = h.place;
   asked = asked_later v u t known ask h.place after h.asked;
-  range = range_within v v u t _ _ _ _ _ (record { learns = learns_self v; clock = later_self v.clock; frame = refl }) after
+  range = range_within v v u t _ _ _ _ _ (record { learns = learns_self v; clock = later_self v.clock; frame = refl; outside = λ e. e }) after
       h.reach.range;
   base = subst (λ (z : Key). z.number ≤ p.reach.from) (sym after.learns.about) h.base;
   settled = p.reach.settled;

@@ -14,7 +14,7 @@ use Rattle.fish_rule.specs.declared.view.Key.{Key}
 use Rattle.fish_rule.specs.declared.view.Position.{Position}
 use Rattle.fish_rule.specs.declared.view.View.{View}
 use Rattle.fish_scan.proofs.Lists.{among_last, get_before, get_here, get_last, length_more}
-use Rattle.fish_scan.proofs.Reaching.{seen_still}
+use Rattle.fish_scan.proofs.Reaching.{reached_word, seen_still}
 use Rattle.fish_scan.specs.Reach.{AreLooks, AreSeen, IsReach, IsReached, Rise, WasOpen, end_of}
 use Rattle.fish_scan.specs.declared.reach.Reach.{Reach}
 use Rattle.fish_walk.specs.Looks.{HasOpens, IsLookAt, KeepsOpens, look_of, with_look}
@@ -249,6 +249,7 @@ module _ (a b d : View) (from : ℕ) (to : Option ℕ) (settled count end base f
         is = counted.is;
       };
       known = (let e = tail.3 in let m = settles.learns.count in omega arith);
+      claimed = (let e = tail.3 in let m = looked.count in omega arith);
       within = (let f = looks.few in omega arith);
       stops = ⊎_elim (λ (e : first + length reach.looks.items ≡ end). inl (omega arith))
           (λ (m : TellsMark d (first + length reach.looks.items)). inr (subst (TellsMark d) (sym ends) m)) looks.stops;
@@ -256,6 +257,9 @@ module _ (a b d : View) (from : ℕ) (to : Option ℕ) (settled count end base f
           (subst (λ (z : ℕ). Rise first z reach.opens) (sym ends) looks.rise);
       were = λ n among. open_sooner a b d n settles.learns (looks.were n among);
       apart = listed_apart d count reach.opens looks.listed;
+      others = λ above n least most closed. reached_word d reach (reach_reached less
+          (subst (λ (z : Key). z.number ≤ reach.from) (sym (looked.extends.learns.about ∙ settles.learns.about)) above))
+          n least most closed;
     };
     reached = reach_reached less;
     settled = omega arith;

@@ -1,8 +1,21 @@
 -- What a scan knows of the numbers in its range stays known.
-use Rattle.std.proofs.Common.{◌≡◌, ◌≢◌, ℕ, ◌+◌, ◌-◌, ◌≤◌, List, sym, ◌∙◌, subst, inl, inr, arith}
+use Rattle.std.proofs.Common.{◌≡◌, ◌≢◌, ℕ, ◌+◌, ◌-◌, ◌<◌, ◌≤◌, List, refl, sym, ap, ◌∙◌, subst, inl, inr, arith, Some, slice_get}
+use Rattle.std.proofs.Math.Decide.{dec_lt}
+use Rattle.std.proofs.Math.ListN.{get_or}
+use Rattle.std.proofs.lemmas.Option.{slice_get-get_or}
+use Rattle.fish_rule.proofs.Bodies.{code_once}
+use Rattle.fish_rule.proofs.Common.{all_among}
+use Rattle.fish_rule.proofs.Kept.{published}
+use Rattle.fish_rule.specs.Facts.{IsFound}
 use Rattle.fish_rule.specs.Logs.{Learns}
+use Rattle.fish_rule.specs.Parts.{IsEntryWord}
+use Rattle.fish_rule.specs.Regions.{code}
+use Rattle.fish_rule.specs.Views.{Among}
+use Rattle.fish_rule.specs.Walking.{Always}
+use Rattle.fish_rule.specs.World.{high}
 use Rattle.fish_rule.specs.declared.view.Key.{Key}
 use Rattle.fish_rule.specs.declared.view.Kind.{Kind}
+use Rattle.fish_rule.specs.declared.view.Kind.TheVariants.{Mark, Stored, Void}
 use Rattle.fish_rule.specs.declared.view.View.{View}
 use Rattle.fish_scan.specs.Reach.{AreSeen, IsReached}
 use Rattle.fish_scan.specs.declared.reach.Reach.{Reach}
@@ -62,3 +75,52 @@ entry_unmarked r (inr e) = (
   λ f. let bad : look.Void ≡ look.Overflow = sym e ∙ f in cc,
   λ f. let bad : look.Void ≡ look.Unfinished = sym e ∙ f in cc,
 )
+
+-- ---- what isn't open is published
+
+-- a number that was found to be of a kind other than a mark has the directory word of an entry
+found_word : (v : View) (n : ℕ) (kind : Kind) → kind ≢ Mark → HasFound v n kind → Always v (λ k w. IsEntryWord (w.dir n))
+found_word v n kind other h u learns w rule seat at =
+    let f = all_among (IsFound u.about w.count w.dir rule.start) h.0 u.learned.found (rule.facts seat u at).found
+    (learns.found h.0 h.1) in
+    let is : high (w.dir n) ≡ code kind = subst (λ (z : ℕ). high (w.dir z) ≡ code h.0.kind) h.2 f.kind ∙ ap code h.3 in
+    record {
+      published = published (w.dir n) kind is;
+      unmarked = λ m. other (code_once kind Mark (sym is ∙ m));
+    }
+
+module _ (v : View) (reach : Reach) (h : IsReached v reach) (n : ℕ) (above : reach.from ≤ n) (below : n < reach.to)
+    (closed : ¬ Among n reach.opens) where
+  -- what is settled is
+  settled_word : n < reach.first → Always v (λ k w. IsEntryWord (w.dir n))
+  settled_word less u learns w rule seat at =
+      let floor = rule.floors seat u at in
+      let more = learns.settled in
+      let known = h.settled in
+      let here = h.below n above less in
+      let base : u.about.number ≤ reach.from = subst (λ (z : Key). z.number ≤ reach.from) (sym learns.about) h.base in
+      rule.settling.below n (omega arith) (omega arith)
+
+  -- and so is what a look told of
+  look_word : (r : Look) → reach.first ≤ n → slice_get reach.looks.items (n - reach.first) ≡ Some r
+      → Always v (λ k w. IsEntryWord (w.dir n))
+  look_word r less at = pick r at (h.seen.each (n - reach.first) r at)
+    where
+      place : reach.first + (n - reach.first) ≡ n
+      place = place_seen reach.first n less
+
+      pick : (r : Look) → slice_get reach.looks.items (n - reach.first) ≡ Some r
+          → IsLookAt v (reach.first + (n - reach.first)) r × (r ≢ look.Overflow) → Always v (λ k w. IsEntryWord (w.dir n))
+      pick look.Unfinished at f =
+          absurd (closed (subst (λ (z : ℕ). Among z reach.opens) place (h.seen.unfinished (n - reach.first) at)))
+      pick look.Void at f = found_word v n Void (λ e. cc) (subst (λ (z : ℕ). HasFound v z Void) place f.0)
+      pick look.Stored at f = found_word v n Stored (λ e. cc) (subst (λ (z : ℕ). HasFound v z Stored) place f.0)
+      pick look.Overflow at f = absurd (f.1 refl)
+
+  pub reached_word : Always v (λ k w. IsEntryWord (w.dir n))
+  reached_word = pick (dec_lt n reach.first)
+    where
+      pick : Dec (n < reach.first) → Always v (λ k w. IsEntryWord (w.dir n))
+      pick (yes less) = settled_word less
+      pick (no more) = look_word (get_or reach.looks.items (n - reach.first) look.Stored) (omega arith)
+          (slice_get-get_or reach.looks.items (n - reach.first) look.Stored (let many = h.many in omega arith))

@@ -2,9 +2,11 @@
 use Rattle.std.specs.Prelude.{ℕ, ◌≡◌, ◌≢◌, ◌+◌, ◌<◌, ◌≤◌, ◌⊎◌, List, [], ◌∷◌, Option, Some, length, min, suc, slice_get}
 use Rattle.std.specs.Option.{unwrap_or}
 use Rattle.fish_rule.specs.Logs.{Learns, TellsMark}
+use Rattle.fish_rule.specs.Parts.{IsEntryWord}
 use Rattle.fish_rule.specs.Table.{Sees}
 use Rattle.fish_rule.specs.Unpublished.{AreApart}
 use Rattle.fish_rule.specs.Views.{Among}
+use Rattle.fish_rule.specs.Walking.{Always}
 use Rattle.fish_rule.specs.declared.view.View.{View}
 use Rattle.fish_scan.specs.declared.reach.Reach.{Reach}
 use Rattle.fish_walk.specs.Looks.{HasOpens, IsLookAt, look_of}
@@ -69,12 +71,16 @@ pub record IsRange (v u : View) (from : ℕ) (to : Option ℕ) (first last : ℕ
   pub count : ℕ
   pub counted : HasLoadedCount v u count
   pub known : v.learned.count ≤ count
+  pub claimed : count ≤ u.learned.count
   pub within : last ≤ end_of to count
   pub stops : (last ≡ end_of to count) ⊎ TellsMark u last
   -- the open numbers rise, none was published when the pass looked, and no two are of one lane
   pub rise : Rise first last opens
   pub were : (n : ℕ) → Among n opens → WasOpen v u n
   pub apart : AreApart u opens
+  -- and every other number of the range is published, and no mark
+  pub others : v.about.number ≤ first → (n : ℕ) → first ≤ n → n < last → ¬ Among n opens
+      → Always u (λ k w. IsEntryWord (w.dir n))
 
 -- how far a scan looks
 pub record IsReach (v u : View) (from : ℕ) (to : Option ℕ) (reach : Reach) : Type 0 where

@@ -13,6 +13,7 @@ use Rattle.fish_plan.specs.Pieces.{one_full}
 use Rattle.fish_plan.specs.declared.pieces.Piece.{Piece}
 use Rattle.fish_rule.specs.Clocks.{HasLoaded, IsLater}
 use Rattle.fish_rule.specs.Logs.{Learns}
+use Rattle.fish_rule.specs.declared.view.Epoch.TheVariants.{Out}
 use Rattle.fish_rule.specs.declared.view.Noted.TheVariants.{Version}
 use Rattle.fish_rule.specs.declared.view.View.{View}
 use Rattle.fish_scan.specs.Intervals.{AreIntervals}
@@ -32,6 +33,7 @@ pub record OnlyScans (v u : View) : Type 0 where
   pub learns : Learns v u
   pub clock : IsLater v.clock u.clock
   pub frame : u ≡ record v { epoch = u.epoch; tail = u.tail; learned = u.learned; clock = u.clock }
+  pub outside : v.epoch ≡ Out → u.epoch ≡ Out
 
 -- ---- what is asked
 
