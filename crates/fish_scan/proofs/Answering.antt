@@ -31,13 +31,15 @@ use Rattle.fish_rule.specs.declared.view.View.{View}
 use Rattle.fish_scan.proofs.Beginnings.{interval_later}
 use Rattle.fish_scan.proofs.Lists.{at_among}
 use Rattle.fish_scan.proofs.Looking.{open_later, open_sooner}
+use Rattle.fish_scan.proofs.Reaching.{reached_still}
 use Rattle.fish_scan.specs.Indices.{IsIndex}
 use Rattle.fish_scan.specs.Intervals.{IsIntervalOf, end_within}
 use Rattle.fish_scan.specs.Matching.{Finds}
 use Rattle.fish_scan.specs.Pieces.{AreReadable, IsReadable}
-use Rattle.fish_scan.specs.Reach.{IsRange, end_of}
+use Rattle.fish_scan.specs.Reach.{IsRange, IsReach, end_of}
 use Rattle.fish_scan.specs.Reading.{Adds}
-use Rattle.fish_scan.specs.Scans.{IsAsked, IsCovered, IsExplained, IsPlan, IsPrepared, IsPlanRefused, IsRefused, OnlyScans, first_asked}
+use Rattle.fish_scan.specs.Scans.{IsAsked, IsCovered, IsExplained, IsPlan, IsPlanRefused, IsPlanned, IsPrepared, IsRefused}
+use Rattle.fish_scan.specs.Scans.{OnlyScans, first_asked}
 use Rattle.fish_scan.specs.declared.ask.Ask.{Ask}
 use Rattle.fish_scan.specs.declared.ask.How.{How}
 use Rattle.fish_scan.specs.declared.ask.How.TheVariants as how
@@ -131,9 +133,11 @@ read_later v u known learns h = defs_later v u known learns (λ _. h) h.read
 unfoldable pub asked_later : (v u t : View) (known : Known) (ask : Ask) (place : ℕ) → OnlyScans u t → IsAsked v u known ask place
     → IsAsked v t known ask place
 asked_later v u t known ask place more h = record {
-  loaded = loaded_within _ _ _ _ _ _ (later_self v.clock) h.loaded more.clock;
-  read = read_later u t known more.learns h.read;
-  newest = h.newest;
+  named = record {
+    loaded = loaded_within _ _ _ _ _ _ (later_self v.clock) h.named.loaded more.clock;
+    read = read_later u t known more.learns h.named.read;
+    newest = h.named.newest;
+  };
   some = h.some;
 }
 
@@ -163,6 +167,18 @@ range_within v m u t from to first last opens before after h = record {
       (h.others (subst (λ (z : Key). z.number ≤ first) (sym before.learns.about) base) n above below closed);
 }
 
+-- so was what a scan reaches, for the first number that is asked for
+pub reach_within : (v m u t : View) (ask : Ask) (first : ℕ) (reach : Reach) → OnlyScans v m → OnlyScans u t
+    → first ≡ first_asked ask → IsReach m u first ask.to reach → IsReach v t (first_asked ask) ask.to reach
+reach_within v m u t ask first reach before after is h =
+    let about = ap (λ (z : Key). z.number) after.learns.about in record {
+      range = subst (λ (z : ℕ). IsRange v t z ask.to reach.from reach.to reach.opens) is
+          (range_within v m u t first ask.to reach.from reach.to reach.opens before after h.range);
+      reached = λ base. reached_still u t reach after.learns (h.reached (omega arith));
+      settled = (let a = h.settled in let b = before.learns.settled in omega arith);
+      reaches = (let a = h.reaches in let b = after.learns.settled in omega arith);
+    }
+
 -- so was a cover
 pub covered_within : (v m u t : View) (rows : List Listed) (text : List ℕ) (from settled to : ℕ) (plan : List Piece)
     → Learns v m → Learns u t → IsCovered m u rows text from settled to plan → IsCovered v t rows text from settled to plan
@@ -187,6 +203,14 @@ plan_within v m u t rows text how.Auto from settled to plan before after h =
     covered_within v m u t rows text from settled to plan before after h
 plan_within v m u t rows text how.Index from settled to plan before after h =
     (covered_within v m u t rows text from settled to plan before after h.0, h.1)
+
+-- a plan by the rows that were given, and by the text that was
+pub plan_by_rows : (v m u t : View) (rows got : List Listed) (text seen : List ℕ) (way : How) (from settled to : ℕ)
+    (plan : List Piece) → got ≡ rows → seen ≡ text → Learns v m → Learns u t
+    → IsPlan m u got seen way from settled to plan → IsPlan v t rows text way from settled to plan
+plan_by_rows v m u t rows got text seen way from settled to plan same is before after h =
+    subst (λ (z : List Listed × List ℕ). IsPlan v t z.0 z.1 way from settled to plan) (λ i. (same i, is i))
+    (plan_within v m u t got seen way from settled to plan before after h)
 
 -- ---- what can be read
 
@@ -255,44 +279,31 @@ module _ (v u : View) (known : Known) (def : Definition) (text : List ℕ) (reac
 -- ---- refusals
 
 -- why there is no plan is why there is no answer
-pub plan_refused : (v m u t : View) (known : Known) (ask : Ask) (place from settled to : ℕ) (opens : List ℕ)
-    (r : ScanRefusal) (asked : IsAsked v t known ask place) → OnlyScans v m → Learns u t
-    → IsRange v t (first_asked ask) ask.to from to opens → v.learned.settled ≤ settled
-    → IsPlanRefused m u (rows_of known) asked.newest.listed.def ask.how from settled to r → IsRefused v t known ask r
-plan_refused v m u t known ask place from settled to opens (refusal.NotCovered first last) asked before after range least h = (
+pub plan_refused : (v m u t : View) (known : Known) (ask : Ask) (place : ℕ) (reach : Reach) (r : ScanRefusal)
+    (asked : IsAsked v t known ask place) → Learns v m → Learns u t → IsReach v t (first_asked ask) ask.to reach
+    → IsPlanRefused m u (rows_of known) asked.named.newest.listed.def ask.how reach.from reach.settled reach.to r
+    → IsRefused v t known ask r
+plan_refused v m u t known ask place reach (refusal.NotCovered first last) asked before after reached h = (
   h.0,
-  (
-    place,
-    (
-      asked,
-      (
-        from,
-        (
-          to,
-          (
-            opens,
-            range,
-            (
-              settled,
-              least,
-              (
-                h.1.0,
-                covered_within v m u t _ _ _ _ _ _ before.learns
-                    after h.1.1,
-                h.1.2,
-              ),
-            ),
-          ),
-        ),
-      ),
-    ),
-  ),
+  record {
+    place = place;
+    asked = asked;
+    first = reach.from;
+    last = reach.to;
+    opens = reach.opens;
+    range = reached.range;
+    settled = reach.settled;
+    least = reached.settled;
+    most = reached.reaches;
+    plan = h.1.0;
+    covered = covered_within v m u t _ _ _ _ _ _ before after h.1.1;
+    gap = h.1.2;
+  },
 )
-plan_refused v m u t known ask place from settled to opens refusal.OutOfMemory asked before after range least h = tt
-plan_refused v m u t known ask place from settled to opens (refusal.UnknownName version) asked before after range least h =
-    absurd h
-plan_refused v m u t known ask place from settled to opens (refusal.EmptyRange a b) asked before after range least h = absurd h
-plan_refused v m u t known ask place from settled to opens (refusal.ColdRange base) asked before after range least h = absurd h
+plan_refused v m u t known ask place reach refusal.OutOfMemory asked before after reached h = tt
+plan_refused v m u t known ask place reach (refusal.UnknownName version) asked before after reached h = absurd h
+plan_refused v m u t known ask place reach (refusal.EmptyRange a b) asked before after reached h = absurd h
+plan_refused v m u t known ask place reach (refusal.ColdRange base) asked before after reached h = absurd h
 
 -- a refusal that comes of another
 pub errs : {A E : Type 0} (P Q : E → Type 0) (r : Result A E) → IsErrAnd r P → ((e : E) → P e → Q e) → IfErr r Q
@@ -307,20 +318,38 @@ pub row_found : (rows got : List Listed) (place : ℕ) (listed other : Listed) �
 row_found rows got place listed other same there =
     get_or_from_slice_get got place listed other (ap (λ (z : List Listed). slice_get z place) same ∙ there)
 
+-- a scan has planned what it reaches
+pub planned_at : (v u t : View) (known : Known) (ask : Ask) (place : ℕ) (reach : Reach) (plan : List Piece)
+    (asked : IsAsked v u known ask place) → OnlyScans u t → IsReach v t (first_asked ask) ask.to reach
+    → IsPlan v t (rows_of known) asked.named.newest.listed.def ask.how reach.from reach.settled reach.to plan
+    → IsPlanned v t known ask reach.from reach.to reach.opens plan
+unfolding asked_later
+planned_at v u t known ask place reach plan asked more reached is = record {
+  place = place;
+  asked = asked_later v u t known ask place more asked;
+  range = reached.range;
+  settled = reach.settled;
+  least = reached.settled;
+  most = reached.reaches;
+  plan_is = is;
+}
+
 -- how the range is read is so later
 unfoldable pub explained_later : (v u t : View) (known : Known) (ask : Ask) (p : Prepared) → OnlyScans u t → IsPrepared v u known ask p
     → IsExplained v t known ask p.reach.from p.reach.to p.reach.opens p.plan
 unfolding asked_later
 explained_later v u t known ask p after h = record {
-  place = h.place;
-  asked = asked_later v u t known ask h.place after h.asked;
-  range = range_within v v u t _ _ _ _ _ (record { learns = learns_self v; clock = later_self v.clock; frame = refl; outside = λ e. e }) after
-      h.reach.range;
+  planned = record {
+    place = h.place;
+    asked = asked_later v u t known ask h.place after h.asked;
+    range = range_within v v u t _ _ _ _ _ (record { learns = learns_self v; clock = later_self v.clock; frame = refl; outside = λ e. e }) after
+        h.reach.range;
+    settled = p.reach.settled;
+    least = h.reach.settled;
+    most = (let a = h.reach.reaches in let b = after.learns.settled in omega arith);
+    plan_is = plan_within v v u t _ _ ask.how _ _ _ _ (learns_self v) after.learns h.plan;
+  };
   base = subst (λ (z : Key). z.number ≤ p.reach.from) (sym after.learns.about) h.base;
-  settled = p.reach.settled;
-  least = h.reach.settled;
-  most = (let a = h.reach.reaches in let b = after.learns.settled in omega arith);
-  plan_is = plan_within v v u t _ _ ask.how _ _ _ _ (learns_self v) after.learns h.plan;
 }
 
 -- rows behind none

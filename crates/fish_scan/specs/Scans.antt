@@ -50,11 +50,15 @@ abbrev pub IsEmptyAsk : Ask → Type 0
 IsEmptyAsk ask = (from : ℕ) × (to : ℕ) × AreEmptyEnds ask from to
 
 -- the newest definition that has the name asked for, in the version that the pass loaded between the two views, stands at
--- this place, and the range isn't empty
-pub record IsAsked (v u : View) (known : Known) (ask : Ask) (place : ℕ) : Type 0 where
+-- this place
+pub record IsNamed (v u : View) (known : Known) (ask : Ask) (place : ℕ) : Type 0 where
   pub loaded : HasLoaded v.clock u.clock Version (version_of known)
   pub read : AreRead u known
   pub newest : IsNewest (rows_of known) ask.name place
+
+-- and the range that is asked for isn't empty
+pub record IsAsked (v u : View) (known : Known) (ask : Ask) (place : ℕ) : Type 0 where
+  pub named : IsNamed v u known ask place
   pub some : ¬ IsEmptyAsk ask
 
 -- ---- plans
@@ -90,42 +94,61 @@ IsPlanRefused v u rows text way from settled to (refusal.ColdRange base) = ⊥
 pub record IsPrepared (v u : View) (known : Known) (ask : Ask) (p : Prepared) : Type 0 where
   pub place : ℕ
   pub asked : IsAsked v u known ask place
-  pub means : IsAccepted asked.newest.listed.def (definition_of p.def)
+  pub means : IsAccepted asked.named.newest.listed.def (definition_of p.def)
   pub reach : IsReach v u (first_asked ask) ask.to p.reach
   pub base : u.about.number ≤ p.reach.from
-  pub plan : IsPlan v u (rows_of known) asked.newest.listed.def ask.how p.reach.from p.reach.settled p.reach.to p.plan
+  pub plan : IsPlan v u (rows_of known) asked.named.newest.listed.def ask.how p.reach.from p.reach.settled p.reach.to p.plan
 
--- how the range that was asked for is read
-pub record IsExplained (v u : View) (known : Known) (ask : Ask) (from to : ℕ) (opens : List ℕ) (plan : List Piece)
+-- the range of what is asked for, and the plan by which it is to be read
+pub record IsPlanned (v u : View) (known : Known) (ask : Ask) (from to : ℕ) (opens : List ℕ) (plan : List Piece)
     : Type 0 where
   pub place : ℕ
   pub asked : IsAsked v u known ask place
   pub range : IsRange v u (first_asked ask) ask.to from to opens
-  pub base : u.about.number ≤ from
   pub settled : ℕ
   pub least : v.learned.settled ≤ settled
   pub most : settled ≤ u.learned.settled
-  pub plan_is : IsPlan v u (rows_of known) asked.newest.listed.def ask.how from settled to plan
+  pub plan_is : IsPlan v u (rows_of known) asked.named.newest.listed.def ask.how from settled to plan
+
+-- and the range doesn't begin below the log's first number
+pub record IsExplained (v u : View) (known : Known) (ask : Ask) (from to : ℕ) (opens : List ℕ) (plan : List Piece)
+    : Type 0 where
+  pub planned : IsPlanned v u known ask from to opens plan
+  pub base : u.about.number ≤ from
 
 -- the rows are exactly the records of the range, less the open ones, on which the definition that the name means has the
 -- value, newest first
 pub record IsAnswer (v u : View) (known : Known) (ask : Ask) (answer : Answer) : Type 0 where
   pub explained : IsExplained v u known ask answer.from answer.to answer.opens answer.plan
   pub def : Definition
-  pub means : IsAccepted explained.asked.newest.listed.def def
+  pub means : IsAccepted explained.planned.asked.named.newest.listed.def def
   pub found : Finds u def ask.value answer.from answer.to answer.opens answer.rows
 
--- why there is no answer
+-- ---- refusals
+
+-- the plan by the index has full pieces below what was settled, and the first of them is this one
+pub record IsUncovered (v u : View) (known : Known) (ask : Ask) (from to : ℕ) : Type 0 where
+  pub place : ℕ
+  pub asked : IsAsked v u known ask place
+  pub first : ℕ
+  pub last : ℕ
+  pub opens : List ℕ
+  pub range : IsRange v u (first_asked ask) ask.to first last opens
+  pub settled : ℕ
+  pub least : v.learned.settled ≤ settled
+  pub most : settled ≤ u.learned.settled
+  pub plan : List Piece
+  pub covered : IsCovered v u (rows_of known) asked.named.newest.listed.def first settled last plan
+  pub gap : IsFirstGap plan settled from to
+
+-- why there is no answer; a refusal comes only where none of those before it does
 abbrev pub IsRefused : View → View → Known → Ask → ScanRefusal → Type 0
 IsRefused v u known ask (refusal.UnknownName version) = (version ≡ version_of known)
     × HasLoaded v.clock u.clock Version version × AreRead u known × HasNone (rows_of known) ask.name
 IsRefused v u known ask (refusal.EmptyRange from to) = AreEmptyEnds ask from to
-IsRefused v u known ask (refusal.NotCovered from to) = (ask.how ≡ how.Index)
-    × ((place : ℕ) × ((asked : IsAsked v u known ask place) × ((first : ℕ) × ((last : ℕ) × ((opens : List ℕ)
-    × IsRange v u (first_asked ask) ask.to first last opens × ((settled : ℕ) × (v.learned.settled ≤ settled)
-    × ((plan : List Piece) × IsCovered v u (rows_of known) asked.newest.listed.def first settled last plan
-    × IsFirstGap plan settled from to)))))))
+    × ((place : ℕ) × IsNamed v u known ask place)
+IsRefused v u known ask (refusal.NotCovered from to) = (ask.how ≡ how.Index) × IsUncovered v u known ask from to
 IsRefused v u known ask (refusal.ColdRange base) = (base ≡ u.about.number)
-    × ((first : ℕ) × ((last : ℕ) × ((opens : List ℕ) × IsRange v u (first_asked ask) ask.to first last opens
-    × (first < base))))
+    × ((first : ℕ) × (last : ℕ) × (opens : List ℕ) × (plan : List Piece) × (first < base)
+    × IsPlanned v u known ask first last opens plan)
 IsRefused v u known ask refusal.OutOfMemory = ⊤

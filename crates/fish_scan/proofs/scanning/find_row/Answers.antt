@@ -51,12 +51,30 @@ returns-clause-only c = scans_both _ _ _
     (scans_version _ _ c.load_version-version.result c.load_version-version.ensures.view c.load_version-version.ensures.rises)
     (scans_extends _ _ c.refresh.ensures.reads.extends)
 
+-- the name's newest definition in the version that was loaded
+pub returns-in-Some-empty_range-clause-refused : goal.returns-in-Some-empty_range-clause-refused
+returns-in-Some-empty_range-clause-refused c = (
+  c.in-Some-empty_range.ensures,
+  (
+    c.in-Some.place,
+    record {
+      loaded = version_loaded (view c.args.pass.now) (view c.load_version-version.new.pass) (view c.refresh.new.pass)
+          c.load_version-version.result c.refresh.new.self c.load_version-version.ensures.view
+          c.refresh.ensures.reads.extends.clock c.in_ok-refresh.ensures.version;
+      read = c.in_ok-refresh.ensures.read;
+      newest = subst (λ (z : List Listed). IsNewest z c.args.ask.now.name c.in-Some.place) c.rows.ensures c.in-Some.ensures;
+    },
+  ),
+)
+
 pub returns-clause-asked : goal.returns-clause-asked
 returns-clause-asked c = record {
-  loaded = version_loaded (view c.args.pass.now) (view c.load_version-version.new.pass) (view c.refresh.new.pass)
-      c.load_version-version.result c.refresh.new.self c.load_version-version.ensures.view
-      c.refresh.ensures.reads.extends.clock c.in_ok-refresh.ensures.version;
-  read = c.in_ok-refresh.ensures.read;
-  newest = subst (λ (z : List Listed). IsNewest z c.args.ask.now.name c.in-Some.place) c.rows.ensures c.in-Some.ensures;
+  named = record {
+    loaded = version_loaded (view c.args.pass.now) (view c.load_version-version.new.pass) (view c.refresh.new.pass)
+        c.load_version-version.result c.refresh.new.self c.load_version-version.ensures.view
+        c.refresh.ensures.reads.extends.clock c.in_ok-refresh.ensures.version;
+    read = c.in_ok-refresh.ensures.read;
+    newest = subst (λ (z : List Listed). IsNewest z c.args.ask.now.name c.in-Some.place) c.rows.ensures c.in-Some.ensures;
+  };
   some = c.in_default-empty_range.ensures;
 }

@@ -14,7 +14,7 @@ read_pieces-requires-clause-readable g c =
     let first = p.reach.range.first_is in
     subst (AreReadable (view c.prepare.new.pass) (definition_of c.in_ok-def.field-0.def) c.in_ok-def.field-0.reach)
     (sym c.pieces.ensures) (plan_readable (view c.args.pass.now) (view c.prepare.new.pass) c.prepare.new.known
-    (definition_of c.in_ok-def.field-0.def) p.asked.newest.listed.def c.in_ok-def.field-0.reach p.asked.read p.means
+    (definition_of c.in_ok-def.field-0.def) p.asked.named.newest.listed.def c.in_ok-def.field-0.reach p.asked.named.read p.means
     (omega arith) c.args.ask.now.how c.in_ok-def.field-0.plan p.plan)
 
 pub returns-in_err-read_pieces-clause-only : goal.returns-in_err-read_pieces-clause-only
