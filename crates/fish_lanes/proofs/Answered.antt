@@ -1,0 +1,341 @@
+-- What a scan or a plan of one answers is told of the one log.
+use Rattle.std.proofs.Common.{◌≡◌, ◌≢◌, ℕ, ◌<◌, ◌≤◌, zero, suc, List, [], ◌∷◌, length, map, refl, sym, ap, ◌∙◌, subst, inl, inr}
+use Rattle.std.proofs.Common.{◌⊎◌, ⊎_elim, arith, Option, Some, None, Result, Ok, Err, slice_get, min}
+use Rattle.std.specs.Prelude.{IfOk}
+use Rattle.std.proofs.Math.Decide.{dec_lt, ℕ_discrete}
+use Rattle.std.proofs.lemmas.Option.{same_Some}
+use Rattle.fish_catalog.specs.declared.entry.Entry.{Entry}
+use Rattle.fish_catalog.specs.declared.entry.Entry.TheVariants as entry
+use Rattle.fish_catalog.specs.declared.listed.Listed.{Listed}
+use Rattle.fish_epoch.proofs.Reading.{knows_later}
+use Rattle.fish_epoch.specs.Definitions.{rows_of, version_of}
+use Rattle.fish_epoch.specs.declared.definitions.Known.{Known}
+use Rattle.fish_lanes.proofs.Logs.{entry_at, entry_in, settled_within, within_log}
+use Rattle.fish_lanes.proofs.Publishing.{entry_finished, published_later, published_seen}
+use Rattle.fish_lanes.specs.Closing.{Claim, Sure}
+use Rattle.fish_lanes.specs.Doing.{FitsExplained, FitsRefused, FitsScanned, IsPlannedAt, IsRefusedAt, IsScanned}
+use Rattle.fish_lanes.specs.Doing.{cause_of, explained_item, refusal_of, scanned_item}
+use Rattle.fish_lanes.specs.Published.{IsPublished}
+use Rattle.fish_lanes.specs.Scanning.{AreOpen, HasRows, HoldsSeen, IsAskedFor, IsAskedRange, IsRefusedFor, Means, TellsPlan}
+use Rattle.fish_lanes.specs.Scanning.{TellsScan, selected}
+use Rattle.fish_plan.proofs.Inside.{full_is_plan, piece_within}
+use Rattle.fish_plan.specs.Pieces.{Fill, one_full}
+use Rattle.fish_plan.specs.declared.pieces.Piece.{Piece}
+use Rattle.fish_plan.specs.declared.pieces.Piece.TheVariants.{Full}
+use Rattle.fish_psf.specs.Records.{evaluation}
+use Rattle.fish_psf.specs.Select.{select}
+use Rattle.fish_psf.specs.Select as log
+use Rattle.fish_report.specs.declared.item.Item.{Item}
+use Rattle.fish_report.specs.declared.item.Item.TheVariants as item
+use Rattle.fish_report.specs.declared.item.ScanCause.{ScanCause}
+use Rattle.fish_report.specs.declared.item.ScanCause.TheVariants as cause
+use Rattle.fish_rule.proofs.ClosedLogs.{always_closed, before_mark}
+use Rattle.fish_rule.proofs.Extending.{learns_both}
+use Rattle.fish_rule.specs.Closing.{IsClosed}
+use Rattle.fish_rule.specs.Logs.{IsEntry, Learns, TellsMark}
+use Rattle.fish_rule.specs.Parts.{IsEntryWord}
+use Rattle.fish_rule.specs.Regions.{code}
+use Rattle.fish_rule.specs.Registry.{KnowsDefinitions}
+use Rattle.fish_rule.specs.Views.{Among}
+use Rattle.fish_rule.specs.World.{World, high}
+use Rattle.fish_rule.specs.declared.close.Remains.{Remains}
+use Rattle.fish_rule.specs.declared.view.Key.{Key}
+use Rattle.fish_rule.specs.declared.view.Kind.TheVariants.{Mark}
+use Rattle.fish_rule.specs.declared.view.View.{View}
+use Rattle.fish_scan.proofs.Selecting.{finds_selection}
+use Rattle.fish_scan.specs.Laws.{IsSpelled}
+use Rattle.fish_scan.specs.Matching.{Finds}
+use Rattle.fish_scan.specs.Reach.{IsRange, WasOpen, end_of}
+use Rattle.fish_scan.specs.Scans.{IsAnswer, IsExplained, IsNamed, IsPlan, IsRefused, IsUncovered, first_asked}
+use Rattle.fish_scan.specs.declared.ask.Answer.{Answer}
+use Rattle.fish_scan.specs.declared.ask.Ask.{Ask}
+use Rattle.fish_scan.specs.declared.ask.Explained.{Explained}
+use Rattle.fish_scan.specs.declared.refusal.ScanRefusal.{ScanRefusal}
+use Rattle.fish_scan.specs.declared.refusal.ScanRefusal.TheVariants as refusal
+use Rattle.fish_scan.specs.declared.ask.How.{How}
+use Rattle.fish_scan.specs.declared.ask.How.TheVariants as how
+use Rattle.fish_value.specs.declared.field.Form.{Form}
+use Rattle.fish_value.specs.declared.row.Row.{Row}
+
+-- ---- lists
+
+-- the entries as a selection reads them
+get_selected : (entries : List Entry) (n lane : ℕ) (form : Form) (payload : List ℕ)
+    → slice_get (map selected entries) n ≡ Some (log.stored lane form payload)
+    → slice_get entries n ≡ Some (entry.Stored lane form payload)
+get_selected [] n lane form payload at = absurd cc
+get_selected (x ∷ entries) zero lane form payload at = ap Some (stored x (same_Some _ _ at))
+  where
+    stored : (x : Entry) → selected x ≡ log.stored lane form payload → x ≡ entry.Stored lane form payload
+    stored (entry.Stored l f p) e = cc
+    stored entry.Void e = absurd cc
+get_selected (x ∷ entries) (suc n) lane form payload at = get_selected entries n lane form payload at
+
+selected_get : (entries : List Entry) (n : ℕ) (e : Entry) → slice_get entries n ≡ Some e
+    → slice_get (map selected entries) n ≡ Some (selected e)
+selected_get [] n e at = absurd cc
+selected_get (x ∷ entries) zero e at = ap (λ (z : Entry). Some (selected z)) (same_Some _ _ at)
+selected_get (x ∷ entries) (suc n) e at = selected_get entries n e at
+
+-- whether a number is among others
+pub among_or : (n : ℕ) (ns : List ℕ) → Dec (Among n ns)
+among_or n [] = no (λ m. elim m [ ])
+among_or n (m ∷ ns) = pick (ℕ_discrete m n) (among_or n ns)
+  where
+    pick : Dec (m ≡ n) → Dec (Among n ns) → Dec (Among n (m ∷ ns))
+    pick (yes e) d = yes (inl e)
+    pick (no ne) (yes a) = yes (inr a)
+    pick (no ne) (no none) = no (λ a. ⊎_elim (λ (e : m ≡ n). ne e) (λ (b : Among n ns). none b) a)
+
+-- ---- ranges
+
+-- the end that was asked for is not before the range's end
+asked_end : (to : Option ℕ) (count last end : ℕ) → to ≡ Some end → last ≤ end_of to count → last ≤ end
+asked_end None count last end e less = absurd cc
+asked_end (Some to) count last end e less = (let same : to ≡ end = same_Some _ _ e in omega arith)
+
+-- a number that was counted and asked for lies before the range's end, but for marks
+before_end : (to : Option ℕ) (count n : ℕ) → n < count → ((end : ℕ) → to ≡ Some end → n < end) → n < end_of to count
+before_end None count n less asked = omega arith
+before_end (Some to) count n less asked = (let below = asked to refl in omega arith)
+
+pub asked_range : (v u : View) (ask : Ask) (from to : ℕ) (opens : List ℕ)
+    → IsRange v u (first_asked ask) ask.to from to opens → IsAskedRange ask from to
+asked_range v u ask from to opens range = record {
+  begins = range.first_is;
+  ends = λ end e. asked_end ask.to range.count to end e range.within;
+}
+
+module _ (v u x : View) (ask : Ask) (from to : ℕ) (opens : List ℕ) (range : IsRange v u (first_asked ask) ask.to from to opens)
+    (zero_is : v.about.number ≡ 0) (remains : Remains) (base : x.about.number ≡ 0) (learns : Learns u x)
+    (c : IsClosed x remains) where
+  -- a published number that was asked for lies before the end
+  before : (n : ℕ) → IsPublished v n → Learns v u → IsAskedFor ask n → n < to
+  before n p on asked = ⊎_elim
+      (λ (e : to ≡ end_of ask.to range.count). let counted = p.counted in let known = range.known in
+      let less : n < end_of ask.to range.count = before_end ask.to range.count n (omega arith) asked.below in omega arith)
+      (λ (mark : TellsMark u to). before_mark x.about c.moment c.rule to n (omega arith)
+      (always_closed u x (λ k w. high (w.dir to) ≡ code Mark) remains learns c mark)
+      (always_closed v x (λ k w. IsEntryWord (w.dir n)) remains (learns_both v u x on learns) c p.entry)) range.stops
+
+  -- and isn't open
+  closed : (n : ℕ) → IsPublished v n → ¬ Among n opens
+  closed n p m =
+      let w = range.were n m in
+      entry_finished w.word (published_seen w.between n w.word (published_later v w.between n w.after p) w.seen) w.unfinished
+
+  -- so the range holds what is known to be published
+  pub holds_seen : (seen : ℕ → Type 0) → ((n : ℕ) → seen n → IsPublished v n) → Learns v u
+      → HoldsSeen remains.log seen ask from to opens
+  holds_seen seen published on = record {
+    each = λ n s within asked.
+        let p = published n s in
+        let least = asked.above in
+        let first = range.first_is in
+        let less = before n p on asked in
+        (omega arith, less, closed n p);
+  }
+
+  -- the open numbers
+  pub open_numbers : AreOpen remains.log from to opens
+  open_numbers = record {
+    rise = range.rise;
+    apart = λ m n lane f g p q one other at_m at_n.
+        always_closed u x (λ k w. IsEntry w m (entry.Stored lane f p) → IsEntry w n (entry.Stored lane g q) → m ≡ n) remains
+        learns c (range.apart m n lane f g p q one other)
+        (entry_at x.about c.moment c.rule remains.log base c.log m (entry.Stored lane f p) at_m)
+        (entry_at x.about c.moment c.rule remains.log base c.log n (entry.Stored lane g q) at_n);
+    behind = λ n above below past. pick n above below past (among_or n opens);
+  }
+    where
+      pick : (n : ℕ) → from ≤ n → n < to → length remains.log ≤ n → Dec (Among n opens) → Among n opens
+      pick n above below past (yes m) = m
+      pick n above below past (no none) =
+          let word = always_closed u x (λ k w. IsEntryWord (w.dir n)) remains learns c
+              (range.others (omega arith) n above below none) in
+          let less = within_log x.about c.moment c.rule remains.log base c.log n word in absurd (omega arith)
+
+  -- in the moment of the close the entries are what the words spell
+  spelled : IsSpelled c.moment from to opens (map selected remains.log)
+  spelled n lane form payload above below closed = (
+    λ at. entry_at x.about c.moment c.rule remains.log base c.log n (entry.Stored lane form payload)
+        (get_selected remains.log n lane form payload at),
+    λ is. selected_get remains.log n (entry.Stored lane form payload)
+        (entry_in x.about c.moment c.rule remains.log base c.log n (entry.Stored lane form payload) is),
+  )
+
+  -- and the rows are the selection of them
+  pub rows_selected : (a : Rattle.fish_lang.specs.Definition.Definition) (rows : List Row)
+      → Finds u a ask.value from to opens rows
+      → rows ≡ select (map selected remains.log) (evaluation a) ask.value from to opens
+  rows_selected a rows finds =
+      always_closed u x (λ k w. (l : List log.Entry) → IsSpelled w from to opens l
+      → rows ≡ select l (evaluation a) ask.value from to opens) remains learns c
+      (finds_selection u a ask.value from to opens rows finds) (map selected remains.log) spelled
+
+-- what a scan showed is published
+pub range_published : (v u : View) (ask : Ask) (from to : ℕ) (opens : List ℕ) (n : ℕ)
+    → IsRange v u (first_asked ask) ask.to from to opens → v.about.number ≡ 0 → from ≤ n → n < to → ¬ Among n opens
+    → IsPublished u n
+range_published v u ask from to opens n range zero_is above below closed = record {
+  counted = (let a = range.within in let b = range.claimed in omega arith);
+  entry = range.others (omega arith) n above below closed;
+}
+
+-- ---- names
+
+-- the rows of a version stay known
+pub has_rows : (v u x : View) (known : Known) (ask : Ask) (place version : ℕ) → version ≡ version_of known
+    → IsNamed v u known ask place → Learns u x → HasRows x version (rows_of known)
+has_rows v u x known ask place version is named learns = record {
+  knows = subst (λ (z : ℕ). KnowsDefinitions x.about x.learned z (rows_of known)) (sym is)
+      (knows_later u x (version_of known) (rows_of known) learns named.read.rows);
+}
+
+-- ---- plans
+
+-- the pieces of a plan fill its range
+plan_fills : (v u : View) (rows : List Listed) (text : List ℕ) (way : How) (from settled to : ℕ) (plan : List Piece) → from ≤ to
+    → IsPlan v u rows text way from settled to plan → Fill plan from to
+plan_fills v u rows text how.Full from settled to plan le h = subst (λ (z : List Piece). Fill z from to) (sym h) (full_is_plan from to [] le).fill
+plan_fills v u rows text how.Auto from settled to plan le h = h.cover.fill
+plan_fills v u rows text how.Index from settled to plan le h = h.0.cover.fill
+
+plan_full : (v u : View) (rows : List Listed) (text : List ℕ) (way : How) (from settled to : ℕ) (plan : List Piece)
+    → IsPlan v u rows text way from settled to plan → way ≡ how.Full → plan ≡ one_full from to
+plan_full v u rows text way from settled to plan h is =
+    subst (λ (z : How). IsPlan v u rows text z from settled to plan) is h
+
+-- ---- what is told
+
+module _ (v u : View) (ask : Ask) (zero_is : v.about.number ≡ 0) (on : Learns v u) (seen : ℕ → Type 0)
+    (published : (n : ℕ) → seen n → IsPublished v n) where
+  -- a scan
+  pub scan_told : (from to : ℕ) (opens : List ℕ) (rows : List Row) (version : ℕ) → IsScanned v u ask from to opens rows version
+      → Sure u (λ x l. TellsScan x l seen ask from to opens rows version)
+  scan_told from to opens rows version s x remains base learns c =
+      let a = s.answer in
+      let e = a.explained.planned in
+      record {
+        range = asked_range v u ask from to opens e.range;
+        def = a.def;
+        means = record {
+          rows = rows_of s.known;
+          has = has_rows v u x s.known ask e.place version s.version_is e.asked.named learns;
+          place = e.place;
+          newest = e.asked.named.newest;
+          accepted = a.means;
+        };
+        rows_are = rows_selected v u x ask from to opens e.range zero_is remains base learns c a.def rows a.found;
+        holds = holds_seen v u x ask from to opens e.range zero_is remains base learns c seen published on;
+        are_open = open_numbers v u x ask from to opens e.range zero_is remains base learns c;
+      }
+
+  -- a plan
+  pub plan_told : (from to : ℕ) (plan : List Piece) (version : ℕ) → IsPlannedAt v u ask from to plan version
+      → Sure u (λ x l. TellsPlan x l seen ask from to plan version)
+  plan_told from to plan version s x remains base learns c =
+      let e = s.explained.planned in
+      record {
+        range = asked_range v u ask from to s.opens e.range;
+        rows = rows_of s.known;
+        has = has_rows v u x s.known ask e.place version s.version_is e.asked.named learns;
+        place = e.place;
+        newest = e.asked.named.newest;
+        opens = s.opens;
+        holds = holds_seen v u x ask from to s.opens e.range zero_is remains base learns c seen published on;
+        fill = plan_fills v u _ _ ask.how from e.settled to plan (let f = e.range.first_is in omega arith) e.plan_is;
+        full = plan_full v u _ _ ask.how from e.settled to plan e.plan_is;
+      }
+
+  -- a gap below what was settled
+  gap_told : (from to : ℕ) (known : Known) → IsUncovered v u known ask from to → (x : View) (remains : Remains)
+      → x.about.number ≡ 0 → Learns u x → IsClosed x remains
+      → (from < to) × (to ≤ length remains.log) × (first_asked ask ≤ from) × ((end : ℕ) → ask.to ≡ Some end → to ≤ end)
+  gap_told from to known h x remains base learns c =
+      let w = piece_within h.plan h.first h.last h.gap.place (Full from to) h.covered.cover.fill h.gap.gap.there in
+      let some_ = w.1 in
+      let above = w.0 in
+      let below = w.2 in
+      let first = h.range.first_is in
+      let asked = asked_range v u ask h.first h.last h.opens h.range in
+      let under = h.gap.gap.below in
+      let most = h.most in
+      let more = learns.settled in
+      let later = c.later.settled in
+      let floor = c.rule.floors c.seat c.last c.at in
+      let inside = settled_within x.about c.moment c.rule remains.log base c.log in
+      (omega arith, omega arith, omega arith, λ end e. let a = asked.ends end e in omega arith)
+
+  -- a refusal
+  pub refused_told : (version : ℕ) (why : ScanCause) → IsRefusedAt v u ask version why
+      → Sure u (λ x l. IsRefusedFor x l ask version why)
+  refused_told version cause.UnknownName s x remains base learns c =
+      let r = s.refused in (
+        rows_of s.known,
+        record {
+          knows = subst (λ (z : ℕ). KnowsDefinitions x.about x.learned z (rows_of s.known)) (sym s.version_is)
+              (knows_later u x (version_of s.known) (rows_of s.known) learns r.2.rows);
+        },
+        r.3,
+      )
+  refused_told version (cause.EmptyRange from to) s x remains base learns c = s.refused.0
+  refused_told version (cause.NotCovered from to) s x remains base learns c =
+      let g = gap_told from to s.known s.refused.1 x remains base learns c in
+      (s.refused.0, g.0, g.1, g.2, g.3)
+
+-- ---- refusals
+
+-- what an item tells of a refusal is why it was refused
+pub refused_fits : (v u : View) (known : Known) (ask : Ask) (r : ScanRefusal) (version : ℕ) (why : ScanCause)
+    → IsRefused v u known ask r → cause_of r ≡ Some why → version ≡ version_of known → IsRefusedAt v u ask version why
+refused_fits v u known ask (refusal.UnknownName n) version why h is at = record {
+  known = known;
+  version_is = at;
+  refused = subst (λ (z : ScanRefusal). IsRefused v u known ask z)
+      (ap refusal.UnknownName (h.0 ∙ sym at) ∙ ap (refusal_of version) (same_Some _ _ is)) h;
+}
+refused_fits v u known ask (refusal.EmptyRange from to) version why h is at = record {
+  known = known;
+  version_is = at;
+  refused = subst (λ (z : ScanRefusal). IsRefused v u known ask z) (ap (refusal_of version) (same_Some _ _ is)) h;
+}
+refused_fits v u known ask (refusal.NotCovered from to) version why h is at = record {
+  known = known;
+  version_is = at;
+  refused = subst (λ (z : ScanRefusal). IsRefused v u known ask z) (ap (refusal_of version) (same_Some _ _ is)) h;
+}
+refused_fits v u known ask (refusal.ColdRange base) version why h is at = absurd cc
+refused_fits v u known ask refusal.OutOfMemory version why h is at = absurd cc
+
+-- ---- items
+
+-- what was answered as an item
+pub scanned_fits : (v u : View) (known : Known) (ask : Ask) (answer : Answer) (version : ℕ) {E : Type 0} (r : Result Item E)
+    → IsAnswer v u known ask answer → version ≡ version_of known → IfOk r (λ x. x ≡ scanned_item ask answer version)
+    → IfOk r (λ x. FitsScanned v u ask x ⊎ FitsRefused v u ask item.ScanRefused x)
+scanned_fits v u known ask answer version (Err e) h at made = tt
+scanned_fits v u known ask answer version (Ok x) h at made = inl (record {
+  from = answer.from;
+  to = answer.to;
+  opens = answer.opens;
+  rows = answer.rows;
+  version = version;
+  is = made;
+  fits = record { known = known; version_is = at; plan = answer.plan; answer = h };
+})
+
+-- and a plan
+pub planned_fits : (v u : View) (known : Known) (ask : Ask) (explained : Explained) (version : ℕ) {E : Type 0} (r : Result Item E)
+    → ((opens : List ℕ) × IsExplained v u known ask explained.from explained.to opens explained.plan)
+    → version ≡ version_of known → IfOk r (λ x. x ≡ explained_item ask explained version)
+    → IfOk r (λ x. FitsExplained v u ask x ⊎ FitsRefused v u ask item.ExplainRefused x)
+planned_fits v u known ask explained version (Err e) h at made = tt
+planned_fits v u known ask explained version (Ok x) h at made = inl (record {
+  from = explained.from;
+  to = explained.to;
+  plan = explained.plan;
+  version = version;
+  is = made;
+  fits = record { known = known; version_is = at; opens = h.0; explained = h.1 };
+})

@@ -1,0 +1,443 @@
+-- A block from its start to its end, put together.
+use Rattle.std.proofs.Common.{◌≡◌, ◌≢◌, ℕ, ◌+◌, ◌<◌, ◌≤◌, zero, suc, List, [], ◌∷◌, ◌++◌, length, get_or, refl, sym, ap, ◌∙◌, subst, inl, inr, ◌⊎◌, ⊎_elim, arith, Some, None, slice_get}
+use Rattle.std.specs.Prelude.{slice_index_or}
+use Rattle.std.proofs.Math.Decide.{ℕ_discrete, dec_lt}
+use Rattle.std.proofs.lemmas.Option.{get_or_from_slice_get, slice_get_within}
+use Rattle.fish_catalog.specs.declared.entry.Entry.{Entry}
+use Rattle.fish_lanes.proofs.Lanes.{done_back, none_out}
+use Rattle.fish_lanes.proofs.Gaining.{marks_same}
+use Rattle.fish_lanes.proofs.Lists.{some_once}
+use Rattle.fish_lanes.proofs.RowLists.{has_above, owned_number, told_later}
+use Rattle.fish_lanes.proofs.Surely.{later_both, own_before, sure_later, sure_will, will_rows}
+use Rattle.fish_lanes.specs.Blocks.{AreDone, AreEnded, AreJoined, AreKept, AreSeated, HasGiven, HasRunFirst, HasTakenAll, IsBack, IsMarkItem, IsOfLane, IsSeated, IsShutOfLane, NameMarks, TellsFirst, TellsOthers, WasTaken, WereTaken}
+use Rattle.fish_lanes.specs.Closing.{Later, Sure, Will}
+use Rattle.fish_lanes.specs.Ending.{HasEnd}
+use Rattle.fish_lanes.specs.Gains.{AreTold, Gains, IsMarkAt, IsShutTold}
+use Rattle.fish_lanes.specs.Records.{Ascends, HasNumber, LaneRow, owned, rows_of_lane}
+use Rattle.fish_lanes.specs.Running.{HasDone, HasRun, IsEnded, IsFullItem}
+use Rattle.fish_lanes.specs.Telling.{TellsLane}
+use Rattle.fish_lanes.specs.declared.lane.Lane.{Lane}
+use Rattle.fish_lanes.specs.declared.lane.Seated.{Seated}
+use Rattle.fish_report.specs.declared.item.Item.{Item}
+use Rattle.fish_report.specs.declared.item.Item.TheVariants as item
+use Rattle.fish_lanes.specs.declared.work.LaneFault.{LaneFault}
+use Rattle.fish_lanes.specs.declared.work.Work.{Work}
+use Rattle.fish_rule.proofs.Bodies.{code_once, mark-past}
+use Rattle.fish_rule.proofs.Bounds.{starts_rise}
+use Rattle.fish_rule.proofs.Kept.{published}
+use Rattle.fish_rule.specs.Regions.{code, kind_of}
+use Rattle.fish_rule.specs.declared.view.Kind.TheVariants.{Mark}
+use Rattle.fish_rule.proofs.Closing.{alone_later}
+use Rattle.fish_rule.proofs.Common.{among_either}
+use Rattle.fish_rule.proofs.Extending.{learns_both, learns_self}
+use Rattle.fish_rule.specs.Logs.{Learns, TellsMark}
+use Rattle.fish_rule.specs.Parts.{Rests}
+use Rattle.fish_rule.specs.Passes.{view}
+use Rattle.fish_rule.specs.Reading.{IsAlone}
+use Rattle.fish_rule.specs.Table.{Stands}
+use Rattle.fish_rule.proofs.Walking.{always_later}
+use Rattle.fish_rule.specs.Views.{AllOf, Among}
+use Rattle.fish_rule.specs.Walking.{Always}
+use Rattle.fish_rule.specs.declared.view.Shut.{Shut}
+use Rattle.fish_rule.specs.World.{World, high, low}
+use Rattle.fish_rule.specs.declared.table.Log.{Log}
+use Rattle.fish_rule.specs.declared.view.Key.{Key}
+use Rattle.fish_rule.specs.declared.view.Learned.{Learned}
+use Rattle.fish_rule.specs.declared.view.Own.{Own}
+use Rattle.fish_rule.specs.declared.view.View.{View}
+use Rattle.fish_walk.specs.Settling.{EndsAt, HasTail, OnlySettles}
+
+-- ---- places
+
+pub get_there : {A : Type 0} (xs : List A) (i : ℕ) → i < length xs → (x : A) × (slice_get xs i ≡ Some x)
+get_there [] i h = absurd (omega arith)
+get_there (x ∷ xs) zero h = (x, refl)
+get_there (x ∷ xs) (suc i) h = get_there xs i (omega arith)
+
+-- a view that knows the same knows as much
+pub learns_same : (v m : View) → m.about ≡ v.about → m.learned ≡ v.learned → Learns v m
+learns_same v m about learned =
+    let s = learns_self v in
+    let count : m.learned.count ≡ v.learned.count = ap (λ (z : Learned). z.count) learned in
+    let settled : m.learned.settled ≡ v.learned.settled = ap (λ (z : Learned). z.settled) learned in
+    let version : m.learned.version ≡ v.learned.version = ap (λ (z : Learned). z.version) learned in
+    record {
+      about = about;
+      count = omega arith;
+      settled = omega arith;
+      version = omega arith;
+      words = λ x n. subst (λ (z : Learned). Among x z.words) (sym learned) n;
+      found = λ x n. subst (λ (z : Learned). Among x z.found) (sym learned) n;
+      known = λ x n. subst (λ (z : Learned). Among x z.known) (sym learned) n;
+      records = λ x n. subst (λ (z : Learned). Among x z.records) (sym learned) n;
+      nodes = λ x n. subst (λ (z : Learned). Among x z.nodes) (sym learned) n;
+      lows = λ x n. subst (λ (z : Learned). Among x z.lows) (sym learned) n;
+      tops = λ x n. subst (λ (z : Learned). Among x z.tops) (sym learned) n;
+      gaps = λ x n. subst (λ (z : Learned). Among x z.gaps) (sym learned) n;
+      labels = λ x n. subst (λ (z : Learned). Among x z.labels) (sym learned) n;
+      unended = λ x n. subst (λ (z : Learned). Among x z.unended) (sym learned) n;
+      opens = λ x n. subst (λ (z : Learned). Among x z.opens) (sym learned) n;
+    }
+
+-- the log doesn't end before a settled number
+pub ends_behind : (t : View) (to from : ℕ) → Stands t → HasEnd t to → from ≤ t.learned.settled → from ≤ to
+ends_behind t to from s h less =
+    let w : World = s.moment in
+    let r = s.rule in
+    let floor = r.floors s.seat t s.at in
+    let within = r.settling.within in
+    let tail = h.tail in
+    let rests : Rests w.count w.line (Some (record { number = high tail.0; line = low tail.0 })) =
+    subst (Rests w.count w.line) tail.1 (r.tails s.seat t s.at h.alone.main h.alone.all) in
+    let count : high tail.0 ≡ w.count = rests.0 in
+    let same : high tail.0 ≡ h.count = tail.2 in
+    let base = h.base in
+    ⊎_elim (λ (e : to ≡ h.count). omega arith)
+    (λ (m : (to < h.count) × TellsMark t to). pick m.1 (dec_lt to w.settled)) h.ends
+  where
+    pick : TellsMark t to → Dec (to < s.moment.settled) → from ≤ to
+    pick mark (no not_less) = (let floor = s.rule.floors s.seat t s.at in omega arith)
+    pick mark (yes inside) =
+        let base = h.base in
+        absurd ((s.rule.settling.below to (omega arith) inside).unmarked
+        (mark t (learns_self t) s.moment s.rule s.seat s.at))
+
+-- at most 16 numbers are claimed behind the end
+pub few_behind : (t : View) (to : ℕ) → Stands t → HasEnd t to → t.learned.count ≤ to + 16
+few_behind t to s h =
+    let w : World = s.moment in
+    let r = s.rule in
+    let counted = (r.facts s.seat t s.at).counted in
+    let tail = h.tail in
+    let rests : Rests w.count w.line (Some (record { number = high tail.0; line = low tail.0 })) =
+    subst (Rests w.count w.line) tail.1 (r.tails s.seat t s.at h.alone.main h.alone.all) in
+    let count : high tail.0 ≡ w.count = rests.0 in
+    let same : high tail.0 ≡ h.count = tail.2 in
+    ⊎_elim (λ (e : to ≡ h.count). omega arith)
+    (λ (m : (to < h.count) × TellsMark t to). pick (m.1 t (learns_self t) w r s.seat s.at) (dec_lt to r.limit.first)) h.ends
+  where
+    pick : high (s.moment.dir to) ≡ code Mark → Dec (to < s.rule.limit.first) → t.learned.count ≤ to + 16
+    pick mark (no not_less) =
+        let counted = (s.rule.facts s.seat t s.at).counted in
+        let few = s.rule.limit.few in
+        omega arith
+    pick mark (yes less) =
+        let base = h.base in
+        let r = s.rule in
+        let there : s.moment.dir to ≢ 0 = published (s.moment.dir to) Mark mark in
+        let within = r.limit.within in
+        let f = r.space.finished to (omega arith) (omega arith) there in
+        let is : kind_of t.about.end (r.start to) (r.start (suc to)) ≡ Mark = code_once _ Mark (sym f.kind ∙ mark) in
+        let past = mark-past t.about.end (r.start to) (r.start (suc to)) is in
+        let up = starts_rise t.about s.moment.count s.moment.line r.start r.space.regions (suc to) r.limit.first (omega arith)
+            (omega arith) (omega arith) in
+        let fits = r.limit.fits in
+        absurd (omega arith)
+
+module _ (log : Log) (v m w : View) (first first' : Lane) (before given done after : List Lane)
+    (has_given : HasGiven v m (length before)) (seated : AreSeated log v before given) (run : HasRunFirst m w first first')
+    (are_done : AreDone log given done) (size : length given ≡ length before) (size' : length done ≡ length given) where
+  -- the statements of the lane at a place
+  pub done_at : (i : ℕ) (y z : Lane) → slice_get given i ≡ Some y → slice_get done i ≡ Some z → HasDone log y z
+  done_at i y z at_y at_z =
+      subst (λ (p : Lane × Lane). HasDone log p.0 p.1)
+      (λ j. (get_or_from_slice_get given i y y at_y j, get_or_from_slice_get done i z y at_z j))
+      (are_done.each i y (slice_get_within given i y at_y))
+
+  -- the lane at a place, at each of the times
+  record Way (i : ℕ) (z : Lane) : Type 0 where
+    pub old : Lane
+    pub old_at : slice_get before i ≡ Some old
+    pub mid : Lane
+    pub mid_at : slice_get given i ≡ Some mid
+    pub seat : IsSeated log v i old mid
+    pub run_of : HasDone log mid z
+    pub same : seat.seat ≡ run_of.before
+
+  way : (i : ℕ) (z : Lane) → slice_get done i ≡ Some z → Way i z
+  way i z at =
+      let less = slice_get_within done i z at in
+      let o = get_there before i (omega arith) in
+      let y = get_there given i (omega arith) in
+      let s = seated i o.0 y.0 o.1 y.1 in
+      let d = done_at i y.0 z y.1 at in
+      record {
+        old = o.0;
+        old_at = o.1;
+        mid = y.0;
+        mid_at = y.1;
+        seat = s;
+        run_of = d;
+        same = some_once s.seat d.before (sym (ap (λ (x : Lane). x.seat) s.is) ∙ d.before_is);
+      }
+
+  -- what the lane's pass knew and had at its start
+  way_learned : (i : ℕ) (z : Lane) (p : Way i z) → (view p.run_of.before.pass).learned ≡ v.learned
+  way_learned i z p = ap (λ (s : Seated). (view s.pass).learned) (sym p.same) ∙ p.seat.learned
+
+  way_lane : (i : ℕ) (z : Lane) (p : Way i z) → (view p.run_of.before.pass).lane ≡ i + 2
+  way_lane i z p = ap (λ (s : Seated). (view s.pass).lane) (sym p.same) ∙ p.seat.lane
+
+  way_own : (i : ℕ) (z : Lane) (p : Way i z) (o : Own) → Among o (view p.run_of.before.pass).own
+      → Among o v.own × (o.lane ≡ i + 2)
+  way_own i z p o n = p.seat.own o (subst (λ (s : Seated). Among o (view s.pass).own) (sym p.same) n)
+
+  way_shut : (i : ℕ) (z : Lane) (p : Way i z) → (view p.run_of.before.pass).shut ≡ v.shut
+  way_shut i z p = ap (λ (s : Seated). (view s.pass).shut) (sym p.same) ∙ p.seat.shut
+
+  way_about : (i : ℕ) (z : Lane) (p : Way i z) → (view p.run_of.before.pass).about ≡ v.about
+  way_about i z p = ap (λ (s : Seated). (view s.pass).about) (sym p.same) ∙ p.seat.about
+
+  -- what shut a lane is known for good, where it was at the start
+  way_marks : (i : ℕ) (z : Lane) (p : Way i z) → IsShutTold v → IsShutTold (view p.run_of.after.pass)
+  way_marks i z p t = p.run_of.run.gains.marks (marks_same v (view p.run_of.before.pass)
+      (learns_same v (view p.run_of.before.pass) (way_about i z p) (way_learned i z p)) (way_shut i z p) t)
+
+  main_marks : IsShutTold v → IsShutTold w
+  main_marks t = run.run.gains.marks
+      (marks_same v m (learns_same v m has_given.about has_given.learned) has_given.shut t)
+
+  -- the passes may come back
+  pub may_join : AreJoined log w done
+  may_join =
+      let g = run.run.gains in
+      record {
+        main = g.on.lane ∙ has_given.main;
+        idle = g.idle;
+        outside = g.outside;
+        out_of = λ l n. let b = has_given.out_of l (subst (Among l) g.on.out n) in let q = b.1 in (b.0, omega arith);
+        all_out = λ l above below. subst (Among l) (sym g.on.out) (has_given.all_out l above (omega arith));
+        back = λ i z at. let p = way i z at in done_back log v i p.old p.mid z p.seat p.run_of;
+      }
+
+  -- the lanes keep their numbers and statements
+  pub kept_at : WereTaken done after → length after ≡ length done → AreKept before after
+  kept_at were size'' i x y at_x at_y =
+      let less = slice_get_within after i y at_y in
+      let z = get_there done i (omega arith) in
+      let p = way i z.0 z.1 in
+      let w' = were i z.0 y z.1 at_y in
+      let old : p.old ≡ x = some_once p.old x (sym p.old_at ∙ at_x) in
+      let mid_number : p.mid.number ≡ p.old.number = ap (λ (q : Lane). q.number) p.seat.is in
+      let mid_works : p.mid.works ≡ p.old.works = ap (λ (q : Lane). q.works) p.seat.is in (
+        w'.number ∙ p.run_of.number ∙ mid_number ∙ ap (λ (q : Lane). q.number) old,
+        w'.works ∙ p.run_of.works ∙ mid_works ∙ ap (λ (q : Lane). q.works) old,
+      )
+
+  -- the statements have items, but for those behind a fault
+  pub first_ended : IsEnded first'.works first'.items first'.fault
+  first_ended = subst (λ (z : List Work). IsEnded z first'.items first'.fault) (sym run.works) run.run.ended
+
+  pub others_ended : WereTaken done after → length after ≡ length done → AreEnded after
+  others_ended were size'' i y at_y =
+      let less = slice_get_within after i y at_y in
+      let z = get_there done i (omega arith) in
+      let p = way i z.0 z.1 in
+      let w' = were i z.0 y z.1 at_y in
+      subst (λ (q : List Work × List Item × LaneFault). IsEnded q.0 q.1 q.2)
+      (λ j. ((sym p.run_of.works ∙ sym w'.works) j, sym w'.items j, sym w'.fault j)) p.run_of.run.ended
+
+  module _ (u t : View) (to : ℕ) (taken : HasTakenAll w u done (length done)) (settles : OnlySettles u t) (settled : to ≤ t.learned.settled)
+      (count : ℕ) (tail : HasTail t count) (ends : IsAlone u → EndsAt t to count) (were : WereTaken done after)
+      (size'' : length after ≡ length done) (zero_is : v.about.number ≡ 0) (stands : Stands t) (known : IsShutTold v) where
+    alone : IsAlone u
+    alone = record { main = taken.main; all = none_out w u done taken; idle = taken.idle }
+
+    start_learns : Learns v w
+    start_learns = learns_both v m w (learns_same v m has_given.about has_given.learned) run.run.gains.on.learns
+
+    end_learns : Learns w t
+    end_learns = learns_both w u t taken.learns settles.learns
+
+    pub all_learns : Learns v t
+    all_learns = learns_both v w t start_learns end_learns
+
+    -- the control pass knows the end
+    pub has_end : HasEnd t to
+    has_end = record {
+      alone = record {
+        main = (ap (λ (z : View). z.lane) settles.frame) ∙ alone.main;
+        all = (ap (λ (z : View). z.out) settles.frame) ∙ alone.all;
+        idle = (ap (λ (z : View). z.flight) settles.frame) ∙ alone.idle;
+      };
+      outside = (ap (λ (z : View). z.epoch) settles.frame) ∙ taken.outside;
+      base = ap (λ (z : Key). z.number) all_learns.about ∙ zero_is;
+      settled = settled;
+      count = count;
+      counted = (let e = tail.3 in omega arith);
+      tail = tail;
+      ends = ends alone;
+      marks = λ s e. shut_told s (taken.shut s (sym (ap (λ (z : View). z.shut) settles.frame) ∙ e));
+    }
+      where
+        shut_told : (s : Shut) → (w.shut ≡ Some s) ⊎ IsShutOfLane done (length done) s → Always t (IsMarkAt s.line s.lines)
+        shut_told s (inl same) = always_later w t (IsMarkAt s.line s.lines) end_learns (main_marks known s same)
+        shut_told s (inr q) =
+            let p = way q.place q.lane q.lane_is in
+            let same : q.seat ≡ p.run_of.after = some_once q.seat p.run_of.after (sym q.seat_is ∙ p.run_of.after_is) in
+            let learns : Learns (view q.seat.pass) t = learns_both (view q.seat.pass) u t
+                (taken.learned q.place q.lane q.seat q.below q.lane_is q.seat_is) settles.learns in
+            always_later (view q.seat.pass) t (IsMarkAt s.line s.lines) learns
+            (subst (λ (z : Seated). IsShutTold (view z.pass)) (sym same) (way_marks q.place q.lane p known) s q.shut_is)
+
+    -- the refused items name marks
+    marks_items : (s : View) (items : List Item) → Learns s t → IsShutTold s → AllOf (IsFullItem s) items
+        → AllOf (IsMarkItem t) items
+    marks_items s [] learns told h = tt
+    marks_items s (x ∷ items) learns told h = (
+      λ file line lines end stored refused is.
+          let by = h.0 file line lines end stored refused is in (
+            always_later s t (IsMarkAt line lines) learns (told (record { line = line; lines = lines; end = end }) by.shut),
+            by.end_is ∙ ap (λ (k : Key). k.end) (sym learns.about),
+          ),
+      marks_items s items learns told h.1,
+    )
+
+    pub first_marks : AllOf (IsMarkItem t) first'.items
+    first_marks = marks_items w first'.items end_learns (main_marks known) run.run.full
+
+    pub others_marks : NameMarks t after
+    others_marks i y at =
+        let less = slice_get_within after i y at in
+        let z = get_there done i (omega arith) in
+        let p = way i z.0 z.1 in
+        let w' = were i z.0 y z.1 at in
+        let s = p.run_of.after in
+        let back : Learns (view s.pass) t = learns_both (view s.pass) u t
+            (taken.learned i z.0 s (omega arith) z.1 p.run_of.after_is) settles.learns in
+        subst (AllOf (IsMarkItem t)) (sym w'.items)
+        (marks_items (view s.pass) z.0.items back (way_marks i z.0 p known) p.run_of.run.full)
+
+    -- a record of its own is one of before, one of the first lane's rows, or one of another lane's
+    own_cases : (o : Own) → Among o t.own
+        → (Among o v.own) ⊎ ((HasNumber o.number run.run.rows × (o.lane ≡ 1)) ⊎ IsOfLane done (length done) o)
+    own_cases o n =
+        let g = run.run.gains in
+        ⊎_elim (λ (k : Among o w.own).
+        ⊎_elim (λ (k : Among o m.own). inl (has_given.own o k))
+        (λ (k : Among o (owned m.lane run.run.rows)).
+        let q = owned_number m.lane o run.run.rows k in inr (inl (q.0, q.1 ∙ has_given.main)))
+        (among_either o m.own (owned m.lane run.run.rows) (subst (Among o) g.own k)))
+        (λ (k : IsOfLane done (length done) o). inr (inr k)) (taken.own o (subst (Among o) (ap (λ (z : View). z.own) settles.frame) n))
+
+    -- of another lane it is one of before, or one of the lane's rows
+    lane_cases : (i : ℕ) (z : Lane) (p : Way i z) (seat : Seated) (o : Own) → z.seat ≡ Some seat
+        → Among o (view seat.pass).own → (Among o v.own × (o.lane ≡ i + 2)) ⊎ (HasNumber o.number p.run_of.run.rows × (o.lane ≡ i + 2))
+    lane_cases i z p seat o is n =
+        let same : seat ≡ p.run_of.after = some_once seat p.run_of.after (sym is ∙ p.run_of.after_is) in
+        let g = p.run_of.run.gains in
+        let lane = way_lane i z p in
+        ⊎_elim (λ (k : Among o (view p.run_of.before.pass).own). inl (way_own i z p o k))
+        (λ (k : Among o (owned (view p.run_of.before.pass).lane p.run_of.run.rows)).
+        let q = owned_number (view p.run_of.before.pass).lane o p.run_of.run.rows k in inr (q.0, q.1 ∙ lane))
+        (among_either o (view p.run_of.before.pass).own (owned (view p.run_of.before.pass).lane p.run_of.run.rows)
+        (subst (Among o) g.own (subst (λ (s : Seated). Among o (view s.pass).own) same n)))
+
+    -- what came to its own records since is new
+    pub is_later : Later v t
+    is_later = record {
+      learns = all_learns;
+      gained = λ o n. ⊎_elim (λ (k : Among o v.own). inl k)
+          (λ (k : (HasNumber o.number run.run.rows × (o.lane ≡ 1)) ⊎ IsOfLane done (length done) o).
+          ⊎_elim (λ (q : HasNumber o.number run.run.rows × (o.lane ≡ 1)).
+          let up = has_above o.number m.learned.count w.learned.count run.run.rows run.run.gains.ascends q.0 in
+          let same : m.learned.count ≡ v.learned.count = ap (λ (z : Learned). z.count) has_given.learned in
+          inr (omega arith)) (λ (q : IsOfLane done (length done) o). of_lane o q) k) (own_cases o n);
+    }
+      where
+        of_lane : (o : Own) → IsOfLane done (length done) o → Among o v.own ⊎ (v.learned.count ≤ o.number)
+        of_lane o q =
+            let p = way q.place q.lane q.lane_is in
+            ⊎_elim (λ (k : Among o v.own × (o.lane ≡ q.place + 2)). inl k.0)
+            (λ (k : HasNumber o.number p.run_of.run.rows × (o.lane ≡ q.place + 2)).
+            let up = has_above o.number _ _ p.run_of.run.rows p.run_of.run.gains.ascends k.0 in
+            let same : (view p.run_of.before.pass).learned.count ≡ v.learned.count =
+                ap (λ (z : Learned). z.count) (way_learned q.place q.lane p) in
+            inr (omega arith)) (lane_cases q.place q.lane p q.seat o q.seat_is q.among)
+
+    -- what a lane's items tell of its rows they tell of the rows that the log has of it
+    tells_rows : (x s : View) (number from : ℕ) (rows : List LaneRow) (works : List Work) (items : List Item)
+        → Learns s t → 1 ≤ number → number ≤ 16 → from ≤ to → from ≤ v.learned.count → Ascends v.learned.count rows s.learned.count
+        → AreTold s number rows
+        → ((o : Own) → Among o t.own → o.lane ≡ number → (o.number < from) ⊎ HasNumber o.number rows)
+        → Sure s (λ y l. TellsLane y from l rows works items)
+        → Will t (λ y l. TellsLane y from l (rows_of_lane l from to number) works items)
+    tells_rows x s number from rows works items learns some_ few within counted up told all sure y remains base main none later c =
+        let exact : rows_of_lane remains.log from to number ≡ rows =
+            will_rows t number from to v.learned.count s.learned.count rows stands has_end some_ few within counted
+            (told_later s t number rows learns told) up all y remains base main none later c in
+        subst (λ (z : List LaneRow). TellsLane y from remains.log z works items) (sym exact)
+        (sure_later s t (λ y l. TellsLane y from l rows works items) learns sure y remains base later.learns c)
+
+    module _ (from : ℕ) (start : HasEnd v from) (stood : Stands v) where
+      pub within : from ≤ to
+      within = (let a = start.settled in let b = all_learns.settled in ends_behind t to from stands has_end (omega arith))
+
+      counted : from ≤ v.learned.count
+      counted = (let a = start.counted in
+          ⊎_elim (λ (e : from ≡ start.count). omega arith)
+          (λ (k : (from < start.count) × TellsMark v from). let b = k.0 in omega arith) start.ends)
+
+      pub tells_first : Will t (TellsFirst from to first')
+      tells_first =
+          let g = run.run.gains in
+          let same : m.learned.count ≡ v.learned.count = ap (λ (z : Learned). z.count) has_given.learned in
+          let settled_same : m.learned.settled ≡ v.learned.settled = ap (λ (z : Learned). z.settled) has_given.learned in
+          let a = start.settled in
+          subst (λ (z : List Work). Will t (λ y l. TellsLane y from l (rows_of_lane l from to 1) z first'.items)) (sym run.works)
+          (tells_rows m w 1 from run.run.rows first.works first'.items end_learns (omega arith) (omega arith) within counted
+          (subst (λ (z : ℕ). Ascends z run.run.rows w.learned.count) same g.ascends)
+          (subst (λ (z : ℕ). AreTold w z run.run.rows) has_given.main g.told)
+          (λ o n lane. ⊎_elim (λ (k : Among o v.own). inl (own_before v from o stood start k))
+          (λ (k : (HasNumber o.number run.run.rows × (o.lane ≡ 1)) ⊎ IsOfLane done (length done) o).
+          ⊎_elim (λ (q : HasNumber o.number run.run.rows × (o.lane ≡ 1)). inr q.0)
+          (λ (q : IsOfLane done (length done) o). absurd (
+          let p = way q.place q.lane q.lane_is in
+          ⊎_elim (λ (k : Among o v.own × (o.lane ≡ q.place + 2)). let e = k.1 in omega arith)
+          (λ (k : HasNumber o.number p.run_of.run.rows × (o.lane ≡ q.place + 2)). let e = k.1 in omega arith)
+          (lane_cases q.place q.lane p q.seat o q.seat_is q.among))) k) (own_cases o n))
+          (run.run.tells from (omega arith) (let c = counted in omega arith)))
+
+      -- what another lane has among the records of its number
+      others_all : (few : length before < 16) (i : ℕ) (z : Lane) (at : slice_get done i ≡ Some z) (p : Way i z) (o : Own)
+          → Among o t.own → o.lane ≡ i + 2 → (o.number < from) ⊎ HasNumber o.number p.run_of.run.rows
+      others_all few i z at p o n lane =
+          ⊎_elim (λ (k : Among o v.own). inl (own_before v from o stood start k))
+          (λ (k : (HasNumber o.number run.run.rows × (o.lane ≡ 1)) ⊎ IsOfLane done (length done) o).
+          ⊎_elim (λ (q : HasNumber o.number run.run.rows × (o.lane ≡ 1)). let e = q.1 in absurd (omega arith))
+          (λ (q : IsOfLane done (length done) o). here q (ℕ_discrete q.place i)) k) (own_cases o n)
+        where
+          here : (q : IsOfLane done (length done) o) → Dec (q.place ≡ i) → (o.number < from) ⊎ HasNumber o.number p.run_of.run.rows
+          here q (yes same) =
+              let lane_same : q.lane ≡ z = some_once q.lane z (sym q.lane_is ∙ ap (slice_get done) same ∙ at) in
+              ⊎_elim (λ (k : Among o v.own × (o.lane ≡ i + 2)). inl (own_before v from o stood start k.0))
+              (λ (k : HasNumber o.number p.run_of.run.rows × (o.lane ≡ i + 2)). inr k.0)
+              (lane_cases i z p q.seat o (ap (λ (x : Lane). x.seat) (sym lane_same) ∙ q.seat_is) q.among)
+          here q (no ne) =
+              let r = way q.place q.lane q.lane_is in
+              absurd (⊎_elim (λ (k : Among o v.own × (o.lane ≡ q.place + 2)). let e = k.1 in ne (omega arith))
+              (λ (k : HasNumber o.number r.run_of.run.rows × (o.lane ≡ q.place + 2)). let e = k.1 in ne (omega arith))
+              (lane_cases q.place q.lane r q.seat o q.seat_is q.among))
+
+      pub tells_others : length before < 16 → Will t (TellsOthers from to after)
+      tells_others few x remains base main none later c i y at =
+          let less = slice_get_within after i y at in
+          let z = get_there done i (omega arith) in
+          let p = way i z.0 z.1 in
+          let s = p.run_of.after in
+          let g = p.run_of.run.gains in
+          let w' = were i z.0 y z.1 at in
+          let lane = way_lane i z.0 p in
+          let same : (view p.run_of.before.pass).learned.count ≡ v.learned.count =
+              ap (λ (x : Learned). x.count) (way_learned i z.0 p) in
+          let settled_same : (view p.run_of.before.pass).learned.settled ≡ v.learned.settled =
+              ap (λ (x : Learned). x.settled) (way_learned i z.0 p) in
+          let a = start.settled in
+          let back : Learns (view s.pass) t = learns_both (view s.pass) u t
+              (taken.learned i z.0 s (omega arith) z.1 p.run_of.after_is) settles.learns in
+          subst (λ (q : List Work × List Item). TellsLane x from remains.log (rows_of_lane remains.log from to (i + 2)) q.0 q.1)
+          (λ j. ((sym p.run_of.works ∙ sym w'.works) j, sym w'.items j))
+          (tells_rows v (view s.pass) (i + 2) from p.run_of.run.rows p.mid.works z.0.items back (omega arith) (omega arith)
+          within counted (subst (λ (x : ℕ). Ascends x p.run_of.run.rows (view s.pass).learned.count) same g.ascends)
+          (subst (λ (x : ℕ). AreTold (view s.pass) x p.run_of.run.rows) lane g.told)
+          (others_all few i z.0 z.1 p) (p.run_of.run.tells from (omega arith) (let d = counted in omega arith)) x remains base main none later c)

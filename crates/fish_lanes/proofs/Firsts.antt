@@ -1,0 +1,61 @@
+-- The first lane of a block, and the others.
+use Rattle.std.proofs.Common.{◌≡◌, ℕ, ◌+◌, ◌<◌, ◌≤◌, zero, suc, List, [], ◌∷◌, ◌++◌, length, get_or, set, take, drop, refl, sym, ap, ◌∙◌, subst, arith, Some, slice_get}
+use Rattle.fish_catalog.specs.declared.entry.Entry.{Entry}
+use Rattle.fish_lanes.proofs.Exact.{get_drop}
+use Rattle.fish_lanes.proofs.Lists.{some_once}
+use Rattle.fish_lanes.specs.Blocks.{AreEnded, AreLanes, CanGive, IsMarkItem, IsNewLane, NameMarks, TellsBlock, TellsFirst, TellsOthers}
+use Rattle.fish_lanes.specs.Ending.{HasEnd}
+use Rattle.fish_lanes.specs.Records.{rows_of_lane}
+use Rattle.fish_lanes.specs.Running.{IsEnded}
+use Rattle.fish_lanes.specs.Telling.{TellsLane}
+use Rattle.fish_lanes.specs.declared.lane.Lane.{Lane}
+use Rattle.fish_rule.specs.Views.{AllOf}
+use Rattle.fish_rule.specs.declared.view.View.{View}
+
+-- the first lane is new
+pub first_new : (lanes : List Lane) (d : Lane) → AreLanes lanes → IsNewLane 1 (get_or (take 1 lanes) 0 d)
+first_new [] d h = (let some_ = h.some in absurd (omega arith))
+first_new (x ∷ lanes) d h = h.new 0 x refl
+
+-- and the others
+pub others_new : (v : View) (from : ℕ) (lanes : List Lane) → HasEnd v from → AreLanes lanes → CanGive v (drop 1 lanes)
+others_new v from [] e h = (let some_ = h.some in absurd (omega arith))
+others_new v from (x ∷ lanes) e h = record {
+  main = e.alone.main;
+  all = e.alone.all;
+  idle = e.alone.idle;
+  outside = e.outside;
+  base = e.base;
+  few = (let few = h.few in omega arith);
+  new = λ i y at. subst (λ (n : ℕ). IsNewLane n y) (let same : suc i + 1 ≡ i + 2 = omega arith in same) (h.new (suc i) y at);
+}
+
+-- what both tell is told of all
+pub tells_both : (from to : ℕ) (x : Lane) (lanes others : List Lane) (v : View) (log : List Entry) → AreLanes lanes
+    → TellsFirst from to x v log → TellsOthers from to others v log
+    → (i : ℕ) (z : Lane) → slice_get (set (take 1 lanes) 0 x ++ others) i ≡ Some z
+    → TellsLane v from log (rows_of_lane log from to (i + 1)) z.works z.items
+tells_both from to x [] others v log h first rest i z at = (let some_ = h.some in absurd (omega arith))
+tells_both from to x (y ∷ lanes) others v log h first rest zero z at =
+    subst (λ (w : Lane). TellsFirst from to w v log) (some_once x z at) first
+tells_both from to x (y ∷ lanes) others v log h first rest (suc i) z at =
+    subst (λ (n : ℕ). TellsLane v from log (rows_of_lane log from to n) z.works z.items)
+    (let same : i + 2 ≡ suc i + 1 = omega arith in same) (rest i z at)
+
+-- and the same of marks
+pub marks_both : (t : View) (x : Lane) (lanes others : List Lane) → AreLanes lanes → AllOf (IsMarkItem t) x.items
+    → NameMarks t others
+    → (i : ℕ) (z : Lane) → slice_get (set (take 1 lanes) 0 x ++ others) i ≡ Some z → AllOf (IsMarkItem t) z.items
+marks_both t x [] others h first rest i z at = (let some_ = h.some in absurd (omega arith))
+marks_both t x (y ∷ lanes) others h first rest zero z at =
+    subst (λ (w : Lane). AllOf (IsMarkItem t) w.items) (some_once x z at) first
+marks_both t x (y ∷ lanes) others h first rest (suc i) z at = rest i z at
+
+-- and that they ended
+pub ended_both : (x : Lane) (lanes others : List Lane) → AreLanes lanes → IsEnded x.works x.items x.fault
+    → AreEnded others
+    → (i : ℕ) (z : Lane) → slice_get (set (take 1 lanes) 0 x ++ others) i ≡ Some z → IsEnded z.works z.items z.fault
+ended_both x [] others h first rest i z at = (let some_ = h.some in absurd (omega arith))
+ended_both x (y ∷ lanes) others h first rest zero z at =
+    subst (λ (w : Lane). IsEnded w.works w.items w.fault) (some_once x z at) first
+ended_both x (y ∷ lanes) others h first rest (suc i) z at = rest i z at

@@ -1,0 +1,88 @@
+-- One statement more.
+use Rattle.std.proofs.Common.{◌≡◌, ℕ, ◌<◌, ◌≤◌, suc, List, [], ◌∷◌, ◌++◌, refl, sym, ap, ◌∙◌, subst, inl, inr, ◌⊎◌, ⊎_elim, arith}
+use Rattle.std.proofs.Common.{append_assoc, append-nil, length, take}
+use Rattle.fish_catalog.specs.declared.entry.Entry.{Entry}
+use Rattle.fish_lanes.proofs.RowLists.{contents_append}
+use Rattle.fish_lanes.specs.Records.{Content, LaneRow, contents}
+use Rattle.fish_lanes.specs.Seen.{Shown, shown_by}
+use Rattle.fish_lanes.specs.Telling.{TellsItem, TellsItems, content_of, count_of}
+use Rattle.fish_lanes.specs.declared.work.Work.{Work}
+use Rattle.fish_report.specs.declared.item.Item.{Item}
+use Rattle.fish_rule.specs.declared.view.View.{View}
+
+-- all numbers that items show
+abbrev pub shown_in : List Item → List Shown
+shown_in [] = []
+shown_in (x ∷ items) = shown_by x ++ shown_in items
+
+-- what items tell that are as many as the statements
+abbrev pub TellsAll : View → ℕ → List Entry → List LaneRow → List Shown → List LaneRow → List Work → List Item → Type 0
+TellsAll v from log before shown rows [] [] = rows ≡ []
+TellsAll v from log before shown rows [] (x ∷ items) = ⊥
+TellsAll v from log before shown rows (w ∷ works) [] = ⊥
+TellsAll v from log before shown rows (w ∷ works) (x ∷ items) = (mine : List LaneRow) × (rest : List LaneRow)
+    × (rows ≡ mine ++ rest)
+    × (contents mine ≡ take (count_of x) (content_of w))
+    × TellsItem v from log before shown w x
+    × TellsAll v from log (before ++ mine) (shown ++ shown_by x) rest works items
+
+-- one more behind them
+pub tells_more : (v : View) (from : ℕ) (log : List Entry) (before : List LaneRow) (shown : List Shown) (rows more : List LaneRow)
+    (works : List Work) (items : List Item) (w : Work) (x : Item)
+    → TellsAll v from log before shown rows works items
+    → contents more ≡ take (count_of x) (content_of w)
+    → TellsItem v from log (before ++ rows) (shown ++ shown_in items) w x
+    → TellsAll v from log before shown (rows ++ more) (works ++ w ∷ []) (items ++ x ∷ [])
+tells_more v from log before shown rows more [] [] w x none first tells = (
+  more,
+  [],
+  ap (λ (z : List LaneRow). z ++ more) none ∙ sym (append-nil more),
+  first,
+  subst (λ (z : List LaneRow × List Shown). TellsItem v from log z.0 z.1 w x)
+      (λ i. ((ap (λ (z : List LaneRow). before ++ z) none ∙ append-nil before) i, append-nil shown i)) tells,
+  refl,
+)
+tells_more v from log before shown rows more [] (y ∷ items) w x none first tells = elim none [ ]
+tells_more v from log before shown rows more (w2 ∷ works) [] w x none first tells = elim none [ ]
+tells_more v from log before shown rows more (w2 ∷ works) (y ∷ items) w x (mine, rest, parts, mine_is, here, there) first tells = (
+  mine,
+  rest ++ more,
+  ap (λ (z : List LaneRow). z ++ more) parts ∙ append_assoc mine rest more,
+  mine_is,
+  here,
+  tells_more v from log (before ++ mine) (shown ++ shown_by y) rest more works items w x there first
+      (subst (λ (z : List LaneRow × List Shown). TellsItem v from log z.0 z.1 w x)
+      (λ i. (
+        (ap (λ (z : List LaneRow). before ++ z) parts ∙ sym (append_assoc before mine rest)) i,
+        sym (append_assoc shown (shown_by y) (shown_in items)) i,
+      )) tells),
+)
+
+-- with nothing behind them the lane ended
+pub tells_ended : (v : View) (from : ℕ) (log : List Entry) (before : List LaneRow) (shown : List Shown) (rows : List LaneRow)
+    (works : List Work) (items : List Item) → TellsAll v from log before shown rows works items
+    → TellsItems v from log before shown rows works items
+tells_ended v from log before shown rows [] [] h = h
+tells_ended v from log before shown rows [] (x ∷ items) h = elim h [ ]
+tells_ended v from log before shown rows (w ∷ works) [] h = elim h [ ]
+tells_ended v from log before shown rows (w ∷ works) (x ∷ items) (mine, rest, parts, mine_is, here, there) =
+    (mine, rest, parts, mine_is, here,
+    tells_ended v from log (before ++ mine) (shown ++ shown_by x) rest works items there)
+
+-- with a part of the next statement it was cut
+pub tells_cut : (v : View) (from : ℕ) (log : List Entry) (before : List LaneRow) (shown : List Shown) (rows more : List LaneRow)
+    (works : List Work) (items : List Item) (w : Work) (later : List Work) (j : ℕ)
+    → TellsAll v from log before shown rows works items → contents more ≡ take j (content_of w)
+    → TellsItems v from log before shown (rows ++ more) (works ++ w ∷ later) items
+tells_cut v from log before shown rows more [] [] w later j none part =
+    (j, ap (λ (z : List LaneRow). contents (z ++ more)) none ∙ part)
+tells_cut v from log before shown rows more [] (y ∷ items) w later j none part = elim none [ ]
+tells_cut v from log before shown rows more (w2 ∷ works) [] w later j none part = elim none [ ]
+tells_cut v from log before shown rows more (w2 ∷ works) (y ∷ items) w later j (mine, rest, parts, mine_is, here, there) part = (
+  mine,
+  rest ++ more,
+  ap (λ (z : List LaneRow). z ++ more) parts ∙ append_assoc mine rest more,
+  mine_is,
+  here,
+  tells_cut v from log (before ++ mine) (shown ++ shown_by y) rest more works items w later j there part,
+)

@@ -1,0 +1,233 @@
+-- The lanes of a block, one after the other.
+use Rattle.std.proofs.Common.{◌≡◌, ◌≢◌, ℕ, ◌+◌, ◌<◌, ◌≤◌, zero, suc, List, [], ◌∷◌, ◌++◌, length, refl, sym, ap, ◌∙◌, subst, inl, inr, ◌⊎◌, ⊎_elim, arith, Option, Some, None, slice_get}
+use Rattle.std.proofs.Math.Decide.{ℕ_discrete, dec_lt}
+use Rattle.fish_ingest.proofs.IngestionStart.{idle_law}
+use Rattle.fish_ingest.specs.Ingestion.{CanStart}
+use Rattle.fish_lanes.proofs.Gaining.{gains_start}
+use Rattle.fish_lanes.proofs.Lists.{empty_list, some_once}
+use Rattle.fish_lanes.specs.Blocks.{AreJoined, CanGive, CanTake, HasGiven, HasSeat, HasTakenAll, HasTakenSeat, IsBack, IsNewLane, IsOfLane, IsSeated, IsShutOfLane}
+use Rattle.fish_lanes.specs.Running.{CanBegin, HasDone, HasRun, IsReady}
+use Rattle.fish_lanes.specs.declared.lane.Lane.{Lane}
+use Rattle.fish_lanes.specs.declared.lane.Seated.{Seated}
+use Rattle.fish_rule.proofs.Common.{among_either}
+use Rattle.fish_rule.proofs.Extending.{learns_both, learns_self}
+use Rattle.fish_rule.proofs.Lanes.{of_lane_sound, off_lane_sound, without_complete, without_sound}
+use Rattle.fish_rule.specs.Logs.{Learns}
+use Rattle.fish_rule.specs.Passes.{view}
+use Rattle.fish_rule.specs.Seating.{CanJoin, CanSplit, first_shut, of_lane, off_lane, split_left, split_right, without}
+use Rattle.fish_rule.specs.Views.{Among}
+use Rattle.fish_rule.specs.declared.table.Log.{Log}
+use Rattle.fish_rule.specs.declared.view.Key.{Key}
+use Rattle.fish_rule.specs.declared.view.Own.{Own}
+use Rattle.fish_rule.specs.declared.view.Shut.{Shut}
+use Rattle.fish_rule.specs.declared.view.View.{View}
+
+-- ---- passes are given
+
+pub given_none : (v : View) (lanes : List Lane) → CanGive v lanes → HasGiven v v 0
+given_none v lanes h = record {
+  main = h.main;
+  idle = h.idle;
+  outside = h.outside;
+  about = refl;
+  learned = refl;
+  shut = refl;
+  own = λ o m. m;
+  out_of = λ l m. elim (subst (Among l) h.all m) [ ];
+  all_out = λ l above below. absurd (omega arith);
+}
+
+pub can_split : (v m : View) (i : ℕ) → HasGiven v m i → i + 2 ≤ 16 → CanSplit m (i + 2)
+can_split v m i h few = record {
+  main = h.main;
+  above = omega arith;
+  below = few;
+  here = λ bad. let b = (h.out_of (i + 2) bad).1 in omega arith;
+  idle = h.idle;
+}
+
+pub given_more : (v m u : View) (i l : ℕ) → l ≡ i + 2 → HasGiven v m i → u ≡ split_left l m → HasGiven v u (i + 1)
+given_more v m u i l at h e = subst (λ (z : View). HasGiven v z (i + 1)) (sym e) (record {
+  main = h.main;
+  idle = h.idle;
+  outside = h.outside;
+  about = h.about;
+  learned = h.learned;
+  shut = h.shut;
+  own = λ o n. h.own o (off_lane_sound l o m.own n).0;
+  out_of = λ x n. ⊎_elim (λ (s : l ≡ x). (omega arith, omega arith))
+      (λ (s : Among x m.out). let b = h.out_of x s in let p = b.0 in let q = b.1 in (p, omega arith)) n;
+  all_out = λ x above below. pick x above below (ℕ_discrete l x);
+})
+  where
+    pick : (x : ℕ) → 2 ≤ x → x < i + 1 + 2 → Dec (l ≡ x) → Among x (l ∷ m.out)
+    pick x above below (yes s) = inl s
+    pick x above below (no ne) = inr (h.all_out x above (omega arith))
+
+pub seated_by : (log : Log) (v m : View) (i l : ℕ) (x y : Lane) → l ≡ i + 2 → HasGiven v m i → HasSeat log (split_right l m) x y
+    → IsSeated log v i x y
+seated_by log v m i l x y at h s = record {
+  seat = s.seat;
+  is = s.is;
+  can = record {
+    of = s.of;
+    start = subst CanStart (sym s.view_is) (record { live = omega arith; outside = refl });
+  };
+  lane = ap (λ (z : View). z.lane) s.view_is ∙ at;
+  about = ap (λ (z : View). z.about) s.view_is ∙ h.about;
+  learned = ap (λ (z : View). z.learned) s.view_is ∙ h.learned;
+  shut = ap (λ (z : View). z.shut) s.view_is ∙ h.shut;
+  own = λ o n.
+      let mine = of_lane_sound l o m.own (subst (λ (z : View). Among o z.own) s.view_is n) in
+      (h.own o mine.0, mine.1 ∙ at);
+}
+
+-- ---- the statements
+
+-- a lane that got a pass may begin
+pub seated_ready : (log : Log) (v : View) (i : ℕ) (x y : Lane) → v.about.number ≡ 0 → IsNewLane (i + 2) x
+    → IsSeated log v i x y → IsReady log y
+seated_ready log v i x y base new s = record {
+  seat = s.seat;
+  seat_is = ap (λ (z : Lane). z.seat) s.is;
+  can = s.can;
+  base = ap (λ (z : Key). z.number) s.about ∙ base;
+  empty = ap (λ (z : Lane). z.items) s.is ∙ new.empty;
+}
+
+-- the pass of a lane that is ready
+pub ready_seat : (log : Log) (x : Lane) (seat : Seated) → IsReady log x → x.seat ≡ Some seat → CanBegin log seat.pass
+ready_seat log x seat h is =
+    subst (λ (z : Seated). CanBegin log z.pass) (some_once h.seat seat (sym h.seat_is ∙ is)) h.can
+
+-- after its statements it may come back
+pub done_back : (log : Log) (v : View) (i : ℕ) (x y z : Lane) → IsSeated log v i x y → HasDone log y z → IsBack log i z
+done_back log v i x y z s d =
+    let same : s.seat ≡ d.before = some_once s.seat d.before (sym (ap (λ (w : Lane). w.seat) s.is) ∙ d.before_is) in
+    record {
+      seat = d.after;
+      seat_is = d.after_is;
+      of = d.can.of;
+      lane = d.run.gains.on.lane ∙ ap (λ (w : Seated). (view w.pass).lane) (sym same) ∙ s.lane;
+      idle = d.run.gains.idle;
+      outside = d.run.gains.outside;
+    }
+
+-- ---- passes come back
+
+pub taken_none : (log : Log) (m : View) (lanes : List Lane) → AreJoined log m lanes → HasTakenAll m m lanes 0
+taken_none log m lanes h = record {
+  main = h.main;
+  idle = h.idle;
+  outside = h.outside;
+  learns = learns_self m;
+  learned = λ i x s below. absurd (omega arith);
+  own = λ o n. inl n;
+  shut = λ s n. inl n;
+  out_of = λ l n. let b = h.out_of l n in let p = b.0 in (omega arith, b.1);
+  all_out = λ l above below. h.all_out l (omega arith) below;
+}
+
+pub can_take : (log : Log) (m u : View) (lanes : List Lane) (i : ℕ) (x : Lane) → AreJoined log m lanes → HasTakenAll m u lanes i
+    → i < length lanes → slice_get lanes i ≡ Some x → CanTake log u x
+can_take log m u lanes i x h t less at =
+    let b = h.back i x at in
+    let lane = b.lane in
+    record {
+      seat = b.seat;
+      seat_is = b.seat_is;
+      of = b.of;
+      can = record {
+        main = t.main;
+        above = omega arith;
+        out = subst (λ (z : ℕ). Among z u.out) (sym b.lane) (t.all_out (i + 2) (omega arith) (omega arith));
+        idle = b.idle;
+        outside = b.outside;
+      };
+    }
+
+pub taken_more : (log : Log) (m u t : View) (lanes : List Lane) (i : ℕ) (x : Lane) → AreJoined log m lanes
+    → (h : HasTakenAll m u lanes i) → (at : slice_get lanes i ≡ Some x) → ((seat : Seated) → x.seat ≡ Some seat → HasTakenSeat u t seat)
+    → HasTakenAll m t lanes (i + 1)
+taken_more log m u t lanes i x joined h at by =
+    let b = joined.back i x at in
+    let s = by b.seat b.seat_is in
+    let lane = b.lane in
+    let e = s.view_is in
+    let out : t.out ≡ without (view b.seat.pass).lane u.out = ap (λ (z : View). z.out) e in
+    let own : t.own ≡ u.own ++ (view b.seat.pass).own = ap (λ (z : View). z.own) e in
+    record {
+      main = ap (λ (z : View). z.lane) e ∙ h.main;
+      idle = ap (λ (z : View). z.flight) e ∙ h.idle;
+      outside = ap (λ (z : View). z.epoch) e ∙ h.outside;
+      learns = learns_both m u t h.learns s.learns;
+      learned = λ j y seat below at_y seat_y. pick j y seat below at_y seat_y (dec_lt j i);
+      own = λ o n. ⊎_elim
+          (λ (n : Among o u.own). ⊎_elim (λ (k : Among o m.own). inl k)
+          (λ (k : IsOfLane lanes i o). let less = k.below in inr (record {
+            place = k.place;
+            lane = k.lane;
+            seat = k.seat;
+            below = omega arith;
+            lane_is = k.lane_is;
+            seat_is = k.seat_is;
+            among = k.among;
+          })) (h.own o n))
+          (λ (n : Among o (view b.seat.pass).own). inr (record {
+            place = i;
+            lane = x;
+            seat = b.seat;
+            below = omega arith;
+            lane_is = at;
+            seat_is = b.seat_is;
+            among = n;
+          })) (among_either o u.own (view b.seat.pass).own (subst (Among o) own n));
+      shut = λ z n. shut_cases z u.shut (view b.seat.pass).shut (λ same. h.shut z same)
+          (λ same. record {
+            place = i;
+            lane = x;
+            seat = b.seat;
+            below = omega arith;
+            lane_is = at;
+            seat_is = b.seat_is;
+            shut_is = same;
+          }) (sym (ap (λ (y : View). y.shut) e) ∙ n);
+      out_of = λ l n.
+          let w = without_sound (view b.seat.pass).lane l u.out (subst (Among l) out n) in
+          let k = h.out_of l w.0 in
+          let p = k.0 in
+          let ne = w.1 in
+          (omega arith, k.1);
+      all_out = λ l above below. subst (Among l) (sym out)
+          (without_complete (view b.seat.pass).lane l u.out (h.all_out l (omega arith) below) (λ same. omega arith));
+    }
+  where
+    shut_cases : (z : Shut) (a c : Option Shut) → (a ≡ Some z → (m.shut ≡ Some z) ⊎ IsShutOfLane lanes i z)
+        → (c ≡ Some z → IsShutOfLane lanes (i + 1) z) → first_shut a c ≡ Some z
+        → (m.shut ≡ Some z) ⊎ IsShutOfLane lanes (i + 1) z
+    shut_cases z None c mine other e = inr (other e)
+    shut_cases z (Some y) c mine other e = ⊎_elim (λ (k : m.shut ≡ Some z). inl k)
+        (λ (k : IsShutOfLane lanes i z). let less = k.below in inr (record {
+          place = k.place;
+          lane = k.lane;
+          seat = k.seat;
+          below = omega arith;
+          lane_is = k.lane_is;
+          seat_is = k.seat_is;
+          shut_is = k.shut_is;
+        })) (mine e)
+
+    pick : (j : ℕ) (y : Lane) (seat : Seated) → j < i + 1 → slice_get lanes j ≡ Some y → y.seat ≡ Some seat → Dec (j < i)
+        → Learns (view seat.pass) t
+    pick j y seat below at_y seat_y (yes less) =
+        let b = joined.back i x at in
+        let s = by b.seat b.seat_is in
+        learns_both (view seat.pass) u t (h.learned j y seat less at_y seat_y) s.learns
+    pick j y seat below at_y seat_y (no not_less) =
+        let same : j ≡ i = omega arith in
+        let here : y ≡ x = some_once y x (sym at_y ∙ ap (slice_get lanes) same ∙ at) in
+        (by seat (ap (λ (z : Lane). z.seat) (sym here) ∙ seat_y)).learned
+
+-- all came back, so no lane is out
+pub none_out : (m u : View) (lanes : List Lane) → HasTakenAll m u lanes (length lanes) → u.out ≡ []
+none_out m u lanes h = empty_list u.out (λ l n. let b = h.out_of l n in let p = b.0 in let q = b.1 in omega arith)

@@ -1,0 +1,15 @@
+pub mod Answered
+pub mod Course
+pub mod Crossing
+pub mod Done
+pub mod Exact
+pub mod Firsts
+pub mod Gaining
+pub mod Items
+pub mod Lanes
+pub mod Lists
+pub mod Logs
+pub mod Publishing
+pub mod RowLists
+pub mod Storing
+pub mod Surely

@@ -1,0 +1,29 @@
+-- Lanes at their places.
+use Rattle.std.proofs.Common.{◌≡◌, ◌≢◌, ℕ, ◌+◌, ◌<◌, ◌≤◌, zero, suc, List, [], ◌∷◌, length, set, get_or, refl, sym, ap, ◌∙◌, subst, inl, inr, ◌⊎◌, ⊎_elim, arith, Some, None, slice_get}
+use Rattle.std.proofs.lemmas.Option.{slice_get_read}
+use Rattle.fish_rule.specs.Views.{Among}
+
+module _ {A : Type 0} where
+  pub some_once : (a b : A) → Some a ≡ Some b → a ≡ b
+  some_once a b h = cc
+
+  pub get_set_here : (xs : List A) (i : ℕ) (x : A) → i < length xs → slice_get (set xs i x) i ≡ Some x
+  get_set_here [] i x h = absurd (omega arith)
+  get_set_here (y ∷ xs) zero x h = refl
+  get_set_here (y ∷ xs) (suc i) x h = get_set_here xs i x (omega arith)
+
+  pub get_set_else : (xs : List A) (i j : ℕ) (x : A) → j ≢ i → slice_get (set xs i x) j ≡ slice_get xs j
+  get_set_else [] i j x ne = refl
+  get_set_else (y ∷ xs) zero zero x ne = absurd (ne refl)
+  get_set_else (y ∷ xs) zero (suc j) x ne = refl
+  get_set_else (y ∷ xs) (suc i) zero x ne = refl
+  get_set_else (y ∷ xs) (suc i) (suc j) x ne = get_set_else xs i j x (λ e. ne (ap suc e))
+
+-- a list that has nothing is empty
+pub empty_list : (xs : List ℕ) → ((x : ℕ) → ¬ Among x xs) → xs ≡ []
+empty_list [] none = refl
+empty_list (x ∷ xs) none = absurd (none x (inl refl))
+
+-- an element that was read is at its place
+pub read_at : {A : Type 0} (xs : List A) (i : ℕ) (x : A) → i < length xs → x ≡ get_or xs i x → slice_get xs i ≡ Some x
+read_at xs i x less is = slice_get_read xs (length xs) i x refl less is

@@ -1,0 +1,11 @@
+-- A pass that was split off, with definitions of which nothing was read.
+use Rattle.std.proofs.Common.{◌≡◌, refl, sym, ◌∙◌, true, false}
+use Rattle.fish_lanes.proofs.block.give.Goals as goal
+
+pub returns-clause-seat : goal.returns-clause-seat
+returns-clause-seat c = record {
+  seat = record { pass = c.split_pass-pass.result };
+  is = refl;
+  of = c.split_pass-pass.ensures.pass;
+  view_is = c.split_pass-pass.ensures.right;
+}

@@ -1,0 +1,15 @@
+-- The lanes so far have their passes, and the others are as they were.
+use Rattle.std.proofs.Common.{◌≡◌, ℕ, ◌<◌, ◌≤◌, Some, slice_get}
+use Rattle.fish_lanes.specs.Blocks.{HasGiven, IsSeated}
+use Rattle.fish_lanes.specs.declared.lane.Lane.{Lane}
+use Rattle.fish_rule.specs.Passes.{IsPassOf, view}
+use Rattle.fish_lanes.proofs.block.give_all.Given as goal
+
+abbrev pub invariant-loop-i : goal.invariant-loop-i
+invariant-loop-i l = record {
+  of : IsPassOf l.log l.main;
+  given : HasGiven (view l.fn.main) (view l.main) l.i;
+  seated : (j : ℕ) (x y : Lane) → j < l.i → slice_get l.fn.lanes j ≡ Some x → slice_get l.lanes j ≡ Some y
+      → IsSeated l.log (view l.fn.main) j x y;
+  rest : (j : ℕ) → l.i ≤ j → slice_get l.lanes j ≡ slice_get l.fn.lanes j;
+}

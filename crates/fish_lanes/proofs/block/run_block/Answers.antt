@@ -1,0 +1,42 @@
+-- The first lane and the others.
+use Rattle.std.proofs.Common.{◌≡◌, ℕ, ◌+◌, ◌++◌, List, get_or, set, sym, ap, subst}
+use Rattle.fish_lanes.proofs.Firsts.{ended_both, first_new, marks_both, others_new, tells_both}
+use Rattle.fish_lanes.specs.Blocks.{AreEnded, CanGive, IsNewLane, NameMarks, TellsBlock}
+use Rattle.fish_lanes.specs.declared.lane.Lane.{Lane}
+use Rattle.fish_rule.specs.Passes.{view}
+use Rattle.fish_lanes.proofs.block.run_block.Goals as goal
+
+pub run_lanes-requires-clause-first : goal.run_lanes-requires-clause-first
+run_lanes-requires-clause-first g c κs bounds =
+    subst (λ (z : List Lane). IsNewLane 1 (get_or z 0 c.index-first-0.result)) (sym c.split_at_mut-first.ensures.front)
+    (first_new c.args.lanes.now c.index-first-0.result c.requires.lanes)
+
+pub run_lanes-requires-clause-others : goal.run_lanes-requires-clause-others
+run_lanes-requires-clause-others g c κs bounds =
+    subst (CanGive (view c.args.main.now)) (sym c.split_at_mut-first.ensures.back)
+    (others_new (view c.args.main.now) c.requires.end.0 c.args.lanes.now c.requires.end.1 c.requires.lanes)
+
+pub returns-clause-told : goal.returns-clause-told
+returns-clause-told g c from start =
+    let t = c.run_lanes.ensures.told from start in (
+      t.0,
+      λ u remains base main none later closed.
+          subst (λ (z : List Lane). TellsBlock u remains.log from c.run_lanes.result (set z 0 c.run_lanes.new.first ++ c.run_lanes.new.others))
+          (sym c.split_at_mut-first.ensures.front)
+          (tells_both from c.run_lanes.result c.run_lanes.new.first c.args.lanes.now c.run_lanes.new.others u remains.log c.requires.lanes
+          (t.1 u remains base main none later closed) (t.2 u remains base main none later closed)),
+    )
+
+pub returns-clause-marks : goal.returns-clause-marks
+returns-clause-marks g c =
+    subst (λ (z : List Lane). NameMarks (view c.run_lanes.new.main) (set z 0 c.run_lanes.new.first ++ c.run_lanes.new.others))
+    (sym c.split_at_mut-first.ensures.front)
+    (marks_both (view c.run_lanes.new.main) c.run_lanes.new.first c.args.lanes.now c.run_lanes.new.others c.requires.lanes
+    c.run_lanes.ensures.first_marks c.run_lanes.ensures.others_marks)
+
+pub returns-clause-ended : goal.returns-clause-ended
+returns-clause-ended g c =
+    subst (λ (z : List Lane). AreEnded (set z 0 c.run_lanes.new.first ++ c.run_lanes.new.others))
+    (sym c.split_at_mut-first.ensures.front)
+    (ended_both c.run_lanes.new.first c.args.lanes.now c.run_lanes.new.others c.requires.lanes
+    c.run_lanes.ensures.first_ended c.run_lanes.ensures.others_ended)

@@ -1,0 +1,24 @@
+-- What the pass of the lane left.
+use Rattle.std.proofs.Common.{◌≡◌, ◌∙◌, ap, refl, sym, subst, List, Some}
+use Rattle.fish_lanes.specs.Running.{HasRun}
+use Rattle.fish_lanes.specs.declared.work.Work.{Work}
+use Rattle.fish_rule.specs.Passes.{view}
+use Rattle.fish_rule.specs.declared.table.Pass.{Pass}
+use Rattle.fish_lanes.proofs.block.run_seated.Goals as goal
+
+pub returns : goal.returns
+returns c =
+    let run = c.run_pass-lane.ensures.run in
+    record {
+      done = record {
+        before = c.in-Some.field-0;
+        before_is = sym c.take.ensures.value ∙ c.in-Some.is;
+        after = record { pass = c.run_pass-lane.new.pass };
+        after_is = refl;
+        can = c.run_pass-lane.ensures.pass;
+        run = subst (λ (z : List Work). HasRun (view c.in-Some.field-0.pass) (view c.run_pass-lane.new.pass) z
+            c.run_pass-lane.new.items c.run_pass-lane.result) c.as_slice.ensures run;
+        works = refl;
+        number = refl;
+      };
+    }

@@ -1,0 +1,33 @@
+-- All below the settled number is stored.
+use Rattle.std.proofs.Common.{◌≡◌, [], refl, ⊎_elim, arith}
+use Rattle.fish_ingest.proofs.IngestionStart.{idle_law}
+use Rattle.fish_lanes.proofs.Gaining.{gains_settles}
+use Rattle.fish_rule.specs.Passes.{view}
+use Rattle.fish_walk.specs.Settling.{HasEnd, IsEnd}
+use Rattle.fish_lanes.proofs.statements.checkpoint.Goals as goal
+
+pub returns-clause-learns : goal.returns-clause-learns
+returns-clause-learns c = c.settle.ensures.settles.learns
+
+pub returns-clause-item : goal.returns-clause-item
+returns-clause-item c =
+    let v = view c.args.pass.now in
+    let u = view c.settle.new.pass in
+    record {
+      gained = record {
+        rows = [];
+        gains = gains_settles v u c.requires.start.outside (idle_law v c.requires.pass.stands c.requires.start)
+            c.settle.ensures.settles;
+        first = refl;
+      };
+      fit = record {
+        count = c.settle.result.settled;
+        is = refl;
+        above = c.settle.ensures.rises;
+        settled = c.settle.ensures.settled;
+        counted = (let t = c.settle.ensures.tail.3 in
+            ⊎_elim (λ (e : c.settle.result.settled ≡ c.settle.result.count). omega arith)
+            (λ (h : HasEnd IsEnd v u c.settle.result.settled c.settle.result.count). let less = h.below in omega arith)
+            c.settle.ensures.stops);
+      };
+    }

@@ -1,0 +1,76 @@
+-- A statement more, or the end.
+use Rattle.std.proofs.Common.{◌≡◌, ℕ, ◌+◌, ◌≤◌, List, [], ◌∷◌, ◌++◌, take, drop, length, refl, sym, ap, ◌∙◌, subst, arith}
+use Rattle.std.proofs.lemmas.List.{take_all, take_more}
+use Rattle.fish_ingest.proofs.IngestionStart.{idle_law}
+use Rattle.fish_lanes.proofs.Done.{HasTold, around, run_cut, run_ended, told_more, told_self}
+use Rattle.fish_lanes.proofs.Gaining.{gains_start}
+use Rattle.fish_lanes.specs.Running.{HasRun}
+use Rattle.fish_lanes.specs.Telling.{count_of}
+use Rattle.fish_report.specs.declared.item.Item.{Item}
+use Rattle.fish_lanes.specs.declared.work.LaneFault.TheVariants as cause
+use Rattle.fish_lanes.specs.declared.work.Work.{Work}
+use Rattle.fish_rule.specs.Passes.{view}
+use Rattle.fish_rule.specs.declared.view.Key.{Key}
+use Rattle.fish_lanes.proofs.statements.run_works.Goals as goal
+
+pub loop-work-init : goal.loop-work-init
+loop-work-init c =
+    let v = view c.args.pass.now in
+    record {
+      of = c.requires.pass;
+      start = c.requires.start;
+      read = c.requires.defs;
+      base = c.requires.base;
+      told = subst (HasTold v v []) (sym c.requires.empty)
+          (told_self v c.requires.start.outside (idle_law v c.requires.pass.stands c.requires.start));
+    }
+
+pub returns-in_default-clause-run : goal.returns-in_default-clause-run
+returns-in_default-clause-run c =
+    let i = c.loop-work.work-index in
+    let works = c.args.works.now in
+    let w = c.work-item.result in
+    subst (λ (z : List Work). HasRun (view c.args.pass.now) (view c.run_work.new.pass) z c.loop-work.items cause.Memory)
+    (around works i w c.loop-work-test.true c.work-item.is)
+    (run_cut (view c.args.pass.now) (view c.loop-work.pass) (view c.run_work.new.pass) (take i works) c.loop-work.items w
+    (drop (i + 1) works) c.loop-work.invariant.told c.in_default.ensures.part)
+
+pub returns-in-Err-clause-run : goal.returns-in-Err-clause-run
+returns-in-Err-clause-run c =
+    let i = c.loop-work.work-index in
+    let works = c.args.works.now in
+    let w = c.work-item.result in
+    subst (λ (z : List Work × List Item). HasRun (view c.args.pass.now) (view c.run_work.new.pass) z.0 z.1 cause.Memory)
+    (λ j. (around works i w c.loop-work-test.true c.work-item.is j, sym c.in-Err.ensures.err j))
+    (run_cut (view c.args.pass.now) (view c.loop-work.pass) (view c.run_work.new.pass) (take i works) c.loop-work.items w
+    (drop (i + 1) works) c.loop-work.invariant.told (count_of c.in-Ok.item, c.in-Ok.ensures.item.gained))
+
+pub loop-work-preserved : goal.loop-work-preserved
+loop-work-preserved c =
+    let inv = c.loop-work.invariant in
+    let i = c.loop-work.work-index in
+    let works = c.args.works.now in
+    let w = c.work-item.result in
+    let v = view c.args.pass.now in
+    let u = view c.loop-work.pass in
+    let t = view c.run_work.new.pass in
+    let is = c.in-Ok.ensures.item in
+    let next : take (i + 1) works ≡ take i works ++ w ∷ [] = take_more works i w c.loop-work-test.true
+        ∙ ap (λ (z : Work). take i works ++ z ∷ []) (sym c.work-item.is) in
+    record {
+      of = c.run_work.ensures.pass;
+      start = gains_start u t is.gained.rows inv.start is.gained.gains;
+      read = c.run_work.ensures.defs;
+      base = ap (λ (z : Key). z.number) is.gained.gains.on.learns.about ∙ inv.base;
+      told = subst (λ (z : List Work × List Item). HasTold v t z.0 z.1)
+          (λ j. (sym next j, sym c.in-Ok-push.ensures.ok j))
+          (told_more v u t (take i works) c.loop-work.items w c.in-Ok.item c.requires.base inv.told is);
+    }
+
+pub returns-clause-run : goal.returns-clause-run
+returns-clause-run c =
+    let all : take c.loop-work.work-index c.args.works.now ≡ c.args.works.now =
+        take_all c.loop-work.work-index c.args.works.now (let e = c.loop-work-test.false in omega arith) in
+    subst (λ (z : List Work). HasRun (view c.args.pass.now) (view c.loop-work.pass) z c.loop-work.items cause.None) all
+    (run_ended (view c.args.pass.now) (view c.loop-work.pass) (take c.loop-work.work-index c.args.works.now) c.loop-work.items
+    c.loop-work.invariant.told)

@@ -1,0 +1,223 @@
+-- The lanes of a block: how the control pass gives each its pass, what they do, and how it takes the passes back.
+use Rattle.std.specs.Prelude.{ℕ, ◌≡◌, ◌⊎◌, ◌+◌, ◌<◌, ◌≤◌, suc, List, [], All, length, slice_get, slice_index_or, Some, None}
+use Rattle.fish_catalog.specs.declared.entry.Entry.{Entry}
+use Rattle.fish_ingest.specs.Ingestion.{CanStart}
+use Rattle.fish_lanes.specs.Records.{rows_of_lane}
+use Rattle.fish_lanes.specs.Running.{CanBegin, HasDone, HasRun, IsEnded, IsReady}
+use Rattle.fish_lanes.specs.Telling.{TellsLane}
+use Rattle.fish_lanes.specs.declared.lane.Lane.{Lane}
+use Rattle.fish_lanes.specs.declared.lane.Seated.{Seated}
+use Rattle.fish_rule.specs.Logs.{Learns}
+use Rattle.fish_rule.specs.Passes.{IsPassOf, view}
+use Rattle.fish_rule.specs.Reading.{after_end}
+use Rattle.fish_rule.specs.Seating.{CanJoin, join_both}
+use Rattle.fish_lanes.specs.Gains.{IsMarkAt}
+use Rattle.fish_report.specs.declared.item.Item.{Item}
+use Rattle.fish_report.specs.declared.item.Item.TheVariants as item
+use Rattle.fish_rule.specs.Views.{AllOf, Among}
+use Rattle.fish_rule.specs.Walking.{Always}
+use Rattle.fish_rule.specs.declared.view.Shut.{Shut}
+use Rattle.fish_rule.specs.declared.table.Log.{Log}
+use Rattle.fish_rule.specs.declared.view.Epoch.TheVariants.{Out}
+use Rattle.fish_rule.specs.declared.view.Learned.{Learned}
+use Rattle.fish_rule.specs.declared.view.Own.{Own}
+use Rattle.fish_rule.specs.declared.view.View.{View}
+
+-- ---- lists of lanes
+
+-- each lane meets P at its place
+abbrev pub At : (ℕ → Lane → Type 0) → List Lane → Type 0
+At P lanes = (i : ℕ) (x : Lane) → slice_get lanes i ≡ Some x → P i x
+
+-- the lanes at each place meet P, before and after
+abbrev pub Both : (ℕ → Lane → Lane → Type 0) → List Lane → List Lane → Type 0
+Both P old new = (i : ℕ) (x y : Lane) → slice_get old i ≡ Some x → slice_get new i ≡ Some y → P i x y
+
+-- ---- before a block
+
+-- the lane has this number, and no item yet
+pub record IsNewLane (number : ℕ) (x : Lane) : Type 0 where
+  pub number_is : x.number ≡ number
+  pub empty : x.items ≡ []
+
+-- there are 1 to 16 lanes, with the numbers from 1 on
+pub record AreLanes (lanes : List Lane) : Type 0 where
+  pub some : 1 ≤ length lanes
+  pub few : length lanes ≤ 16
+  pub new : At (λ i x. IsNewLane (i + 1) x) lanes
+
+-- ---- passes for the lanes from 2 on
+
+-- the lane got a pass with this view
+pub record HasSeat (log : Log) (u : View) (x y : Lane) : Type 0 where
+  pub seat : Seated
+  pub is : y ≡ record x { seat = Some seat }
+  pub of : IsPassOf log seat.pass
+  pub view_is : view seat.pass ≡ u
+
+-- the control pass has all lanes, and is out with nothing in flight
+pub record CanGive (v : View) (lanes : List Lane) : Type 0 where
+  pub main : v.lane ≡ 1
+  pub all : v.out ≡ []
+  pub idle : v.flight ≡ None
+  pub outside : v.epoch ≡ Out
+  pub base : v.about.number ≡ 0
+  pub few : length lanes < 16
+  pub new : At (λ i x. IsNewLane (i + 2) x) lanes
+
+-- it gave out the lanes from 2 on, so many, and is else as it was
+pub record HasGiven (v m : View) (many : ℕ) : Type 0 where
+  pub main : m.lane ≡ 1
+  pub idle : m.flight ≡ None
+  pub outside : m.epoch ≡ Out
+  pub about : m.about ≡ v.about
+  pub learned : m.learned ≡ v.learned
+  pub shut : m.shut ≡ v.shut
+  pub own : (o : Own) → Among o m.own → Among o v.own
+  pub out_of : (l : ℕ) → Among l m.out → (2 ≤ l) × (l < many + 2)
+  pub all_out : (l : ℕ) → 2 ≤ l → l < many + 2 → Among l m.out
+
+-- a lane has a pass that knows what the control pass knew, and the records of this lane among its own
+pub record IsSeated (log : Log) (v : View) (i : ℕ) (x y : Lane) : Type 0 where
+  pub seat : Seated
+  pub is : y ≡ record x { seat = Some seat }
+  pub can : CanBegin log seat.pass
+  pub lane : (view seat.pass).lane ≡ i + 2
+  pub about : (view seat.pass).about ≡ v.about
+  pub learned : (view seat.pass).learned ≡ v.learned
+  pub shut : (view seat.pass).shut ≡ v.shut
+  pub own : (o : Own) → Among o (view seat.pass).own → Among o v.own × (o.lane ≡ i + 2)
+
+abbrev pub AreSeated : Log → View → List Lane → List Lane → Type 0
+AreSeated log v old new = Both (IsSeated log v) old new
+
+-- ---- the statements
+
+abbrev pub AreReady : Log → List Lane → Type 0
+AreReady log lanes = All (IsReady log) lanes
+
+pub record AreDone (log : Log) (old new : List Lane) : Type 0 where
+  pub each : (i : ℕ) (d : Lane) → i < length old → HasDone log (slice_index_or old i d) (slice_index_or new i d)
+
+-- the control pass may do the statements of the first lane
+pub record IsFirst (v : View) (x : Lane) : Type 0 where
+  pub start : CanStart v
+  pub base : v.about.number ≡ 0
+  pub empty : x.items ≡ []
+
+-- it did them
+pub record HasRunFirst (v u : View) (x y : Lane) : Type 0 where
+  pub run : HasRun v u x.works y.items y.fault
+  pub works : y.works ≡ x.works
+  pub number : y.number ≡ x.number
+
+-- ---- the passes come back
+
+-- the lane has a pass that may come back
+pub record CanTake (log : Log) (m : View) (x : Lane) : Type 0 where
+  pub seat : Seated
+  pub seat_is : x.seat ≡ Some seat
+  pub of : IsPassOf log seat.pass
+  pub can : CanJoin m (view seat.pass)
+
+-- it came back
+pub record HasTakenSeat (m u : View) (seat : Seated) : Type 0 where
+  pub found : ℕ
+  pub view_is : u ≡ after_end (join_both m (view seat.pass)) found
+  pub learns : Learns m u
+  pub learned : Learns (view seat.pass) u
+
+abbrev pub HasTaken : View → View → Lane → Type 0
+HasTaken m u x = (seat : Seated) → x.seat ≡ Some seat → HasTakenSeat m u seat
+
+-- a lane keeps all but its pass
+pub record WasTaken (x y : Lane) : Type 0 where
+  pub number : y.number ≡ x.number
+  pub works : y.works ≡ x.works
+  pub items : y.items ≡ x.items
+  pub fault : y.fault ≡ x.fault
+
+abbrev pub WereTaken : List Lane → List Lane → Type 0
+WereTaken old new = Both (λ i x y. WasTaken x y) old new
+
+-- the lane at a place has a pass of its number that is out with nothing in flight
+pub record IsBack (log : Log) (i : ℕ) (x : Lane) : Type 0 where
+  pub seat : Seated
+  pub seat_is : x.seat ≡ Some seat
+  pub of : IsPassOf log seat.pass
+  pub lane : (view seat.pass).lane ≡ i + 2
+  pub idle : (view seat.pass).flight ≡ None
+  pub outside : (view seat.pass).epoch ≡ Out
+
+-- exactly these lanes are out, and may come back
+pub record AreJoined (log : Log) (m : View) (lanes : List Lane) : Type 0 where
+  pub main : m.lane ≡ 1
+  pub idle : m.flight ≡ None
+  pub outside : m.epoch ≡ Out
+  pub out_of : (l : ℕ) → Among l m.out → (2 ≤ l) × (l < length lanes + 2)
+  pub all_out : (l : ℕ) → 2 ≤ l → l < length lanes + 2 → Among l m.out
+  pub back : At (IsBack log) lanes
+
+-- one of the first so many lanes has this among its own records
+pub record IsOfLane (lanes : List Lane) (many : ℕ) (o : Own) : Type 0 where
+  pub place : ℕ
+  pub lane : Lane
+  pub seat : Seated
+  pub below : place < many
+  pub lane_is : slice_get lanes place ≡ Some lane
+  pub seat_is : lane.seat ≡ Some seat
+  pub among : Among o (view seat.pass).own
+
+-- this shut the pass of one of the first so many lanes
+pub record IsShutOfLane (lanes : List Lane) (many : ℕ) (s : Shut) : Type 0 where
+  pub place : ℕ
+  pub lane : Lane
+  pub seat : Seated
+  pub below : place < many
+  pub lane_is : slice_get lanes place ≡ Some lane
+  pub seat_is : lane.seat ≡ Some seat
+  pub shut_is : (view seat.pass).shut ≡ Some s
+
+-- so many of them came back
+pub record HasTakenAll (m u : View) (lanes : List Lane) (many : ℕ) : Type 0 where
+  pub main : u.lane ≡ 1
+  pub idle : u.flight ≡ None
+  pub outside : u.epoch ≡ Out
+  pub learns : Learns m u
+  pub learned : (i : ℕ) (x : Lane) (seat : Seated) → i < many → slice_get lanes i ≡ Some x → x.seat ≡ Some seat
+      → Learns (view seat.pass) u
+  pub own : (o : Own) → Among o u.own → Among o m.own ⊎ IsOfLane lanes many o
+  pub shut : (s : Shut) → u.shut ≡ Some s → (m.shut ≡ Some s) ⊎ IsShutOfLane lanes many s
+  pub out_of : (l : ℕ) → Among l u.out → (many + 2 ≤ l) × (l < length lanes + 2)
+  pub all_out : (l : ℕ) → many + 2 ≤ l → l < length lanes + 2 → Among l u.out
+
+-- ---- afterwards
+
+-- what a block tells of the one log: each lane's items, of its records from one number up to another
+abbrev pub TellsBlock : View → List Entry → ℕ → ℕ → List Lane → Type 0
+TellsBlock v log from to lanes =
+    At (λ i x. TellsLane v from log (rows_of_lane log from to (i + 1)) x.works x.items) lanes
+
+-- the same of the first lane, and of the others
+abbrev pub TellsFirst : ℕ → ℕ → Lane → View → List Entry → Type 0
+TellsFirst from to x v log = TellsLane v from log (rows_of_lane log from to 1) x.works x.items
+
+abbrev pub TellsOthers : ℕ → ℕ → List Lane → View → List Entry → Type 0
+TellsOthers from to lanes v log =
+    At (λ i x. TellsLane v from log (rows_of_lane log from to (i + 2)) x.works x.items) lanes
+
+-- an item that was refused since the log is full names a mark, and the log's end
+abbrev pub IsMarkItem : View → Item → Type 0
+IsMarkItem u x = (file : List ℕ) (line lines end stored refused : ℕ) → x ≡ item.IngestFull file line lines end stored refused
+    → Always u (IsMarkAt line lines) × (end ≡ u.about.end)
+
+-- the statements of each lane have items, but for those behind a fault
+abbrev pub AreEnded : List Lane → Type 0
+AreEnded lanes = At (λ i x. IsEnded x.works x.items x.fault) lanes
+
+abbrev pub NameMarks : View → List Lane → Type 0
+NameMarks u lanes = At (λ i x. AllOf (IsMarkItem u) x.items) lanes
+
+-- the lanes keep their numbers and statements
+abbrev pub AreKept : List Lane → List Lane → Type 0
+AreKept old new = Both (λ i x y. (y.number ≡ x.number) × (y.works ≡ x.works)) old new

@@ -1,0 +1,141 @@
+-- What one statement leaves of its pass.
+use Rattle.std.specs.Prelude.{ℕ, ◌≡◌, ◌⊎◌, ◌≤◌, List, Option, Some, None, length, take}
+use Rattle.fish_epoch.specs.Definitions.{version_of}
+use Rattle.fish_epoch.specs.declared.definitions.Known.{Known}
+use Rattle.fish_lanes.specs.Gains.{Gains, IsFullBy}
+use Rattle.fish_lanes.specs.Records.{Content, LaneRow, contents}
+use Rattle.fish_lanes.specs.Telling.{AreCountedUpTo, TellsStored, TellsTooLong, content_of, count_of}
+use Rattle.fish_lanes.specs.declared.work.Work.{Work}
+use Rattle.fish_lanes.specs.declared.work.Work.TheVariants as work
+use Rattle.fish_lines.specs.File.{outcomes}
+use Rattle.fish_plan.specs.declared.pieces.Piece.{Piece}
+use Rattle.fish_report.specs.declared.item.Item.{Item}
+use Rattle.fish_report.specs.declared.item.Item.TheVariants as item
+use Rattle.fish_report.specs.declared.item.ScanCause.{ScanCause}
+use Rattle.fish_report.specs.declared.item.ScanCause.TheVariants as cause
+use Rattle.fish_rule.specs.declared.view.View.{View}
+use Rattle.fish_scan.specs.Scans.{IsAnswer, IsExplained, IsRefused}
+use Rattle.fish_scan.specs.declared.ask.Answer.{Answer}
+use Rattle.fish_scan.specs.declared.ask.Ask.{Ask}
+use Rattle.fish_scan.specs.declared.ask.Explained.{Explained}
+use Rattle.fish_scan.specs.declared.refusal.ScanRefusal.{ScanRefusal}
+use Rattle.fish_scan.specs.declared.refusal.ScanRefusal.TheVariants as refusal
+use Rattle.fish_value.specs.Limits.{longest_file}
+use Rattle.fish_value.specs.declared.row.Row.{Row}
+
+-- the pass gained the first so many of these
+pub record GainsFirst (v u : View) (all : List Content) (count : ℕ) : Type 0 where
+  pub rows : List LaneRow
+  pub gains : Gains v u rows
+  pub first : contents rows ≡ take count all
+
+-- ---- scans
+
+-- why a scan was refused, as an item tells it
+abbrev pub refusal_of : ℕ → ScanCause → ScanRefusal
+refusal_of version cause.UnknownName = refusal.UnknownName version
+refusal_of version (cause.EmptyRange from to) = refusal.EmptyRange from to
+refusal_of version (cause.NotCovered from to) = refusal.NotCovered from to
+
+-- and what an item tells of a refusal, which isn't one for want of memory or of a range below the log's first number
+abbrev pub cause_of : ScanRefusal → Option ScanCause
+cause_of (refusal.UnknownName version) = Some cause.UnknownName
+cause_of (refusal.EmptyRange from to) = Some (cause.EmptyRange from to)
+cause_of (refusal.NotCovered from to) = Some (cause.NotCovered from to)
+cause_of (refusal.ColdRange base) = None
+cause_of refusal.OutOfMemory = None
+
+-- the items of answers
+abbrev pub scanned_item : Ask → Answer → ℕ → Item
+scanned_item ask answer version =
+    item.Scanned ask.name ask.value answer.from answer.to answer.opens answer.rows version
+
+abbrev pub explained_item : Ask → Explained → ℕ → Item
+explained_item ask explained version =
+    item.Explained ask.name ask.value explained.from explained.to explained.plan version
+
+-- an answer at a version
+pub record IsScanned (v u : View) (ask : Ask) (from to : ℕ) (opens : List ℕ) (rows : List Row) (version : ℕ) : Type 0 where
+  pub known : Known
+  pub version_is : version ≡ version_of known
+  pub plan : List Piece
+  pub answer : IsAnswer v u known ask
+      (record { from = from; to = to; opens = opens; rows = rows; plan = plan })
+
+-- a plan at a version
+pub record IsPlannedAt (v u : View) (ask : Ask) (from to : ℕ) (plan : List Piece) (version : ℕ) : Type 0 where
+  pub known : Known
+  pub version_is : version ≡ version_of known
+  pub opens : List ℕ
+  pub explained : IsExplained v u known ask from to opens plan
+
+-- a refusal at a version
+pub record IsRefusedAt (v u : View) (ask : Ask) (version : ℕ) (why : ScanCause) : Type 0 where
+  pub known : Known
+  pub version_is : version ≡ version_of known
+  pub refused : IsRefused v u known ask (refusal_of version why)
+
+-- ---- statements
+
+-- the records in front of one that found the log full are stored
+pub record FitsFull (u : View) (outs : List (Option (List ℕ))) (name file : List ℕ) (x : Item) : Type 0 where
+  pub line : ℕ
+  pub lines : ℕ
+  pub end : ℕ
+  pub stored : ℕ
+  pub many : ℕ
+  pub is : x ≡ item.IngestFull name line lines end stored many
+  pub within : length file ≤ longest_file
+  pub counted : AreCountedUpTo outs stored many
+  pub full : IsFullBy u line lines end
+
+-- a scan was answered
+pub record FitsScanned (v u : View) (ask : Ask) (x : Item) : Type 0 where
+  pub from : ℕ
+  pub to : ℕ
+  pub opens : List ℕ
+  pub rows : List Row
+  pub version : ℕ
+  pub is : x ≡ item.Scanned ask.name ask.value from to opens rows version
+  pub fits : IsScanned v u ask from to opens rows version
+
+-- a plan was made
+pub record FitsExplained (v u : View) (ask : Ask) (x : Item) : Type 0 where
+  pub from : ℕ
+  pub to : ℕ
+  pub plan : List Piece
+  pub version : ℕ
+  pub is : x ≡ item.Explained ask.name ask.value from to plan version
+  pub fits : IsPlannedAt v u ask from to plan version
+
+-- neither
+pub record FitsRefused (v u : View) (ask : Ask) (refused : List ℕ → ℕ → ScanCause → Item) (x : Item) : Type 0 where
+  pub version : ℕ
+  pub why : ScanCause
+  pub is : x ≡ refused ask.name version why
+  pub fits : IsRefusedAt v u ask version why
+
+-- all below a number is stored
+pub record FitsCheckpoint (v u : View) (x : Item) : Type 0 where
+  pub count : ℕ
+  pub is : x ≡ item.Checkpointed count
+  pub above : v.learned.settled ≤ count
+  pub settled : count ≤ u.learned.settled
+  pub counted : count ≤ u.learned.count
+
+-- the item fits the statement, and what it tells of its pass is so
+abbrev pub IsFit : View → View → Work → Item → Type 0
+IsFit v u (work.Ingest form header name file) x = TellsStored (outcomes form header file) name file x
+    ⊎ (FitsFull u (outcomes form header file) name file x ⊎ TellsTooLong name file x)
+IsFit v u (work.Scan ask) x = FitsScanned v u ask x ⊎ FitsRefused v u ask item.ScanRefused x
+IsFit v u (work.Explain ask) x = FitsExplained v u ask x ⊎ FitsRefused v u ask item.ExplainRefused x
+IsFit v u work.Checkpoint x = FitsCheckpoint v u x
+
+-- the item tells what the statement did
+pub record IsItem (v u : View) (w : Work) (x : Item) : Type 0 where
+  pub gained : GainsFirst v u (content_of w) (count_of x)
+  pub fit : IsFit v u w x
+
+-- a part of it was done
+abbrev pub IsPart : View → View → Work → Type 0
+IsPart v u w = (count : ℕ) × GainsFirst v u (content_of w) count

@@ -1,0 +1,12 @@
+pub mod Blocks
+pub mod Closing
+pub mod Doing
+pub mod Ending
+pub mod Gains
+pub mod Published
+pub mod Records
+pub mod Running
+pub mod Scanning
+pub mod Seen
+pub mod Storing
+pub mod Telling

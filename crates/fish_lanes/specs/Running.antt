@@ -1,0 +1,62 @@
+-- What a lane asks of its pass, and what it leaves.
+use Rattle.std.specs.Prelude.{ℕ, ◌≡◌, ◌≢◌, ◌<◌, ◌≤◌, List, [], length, Some}
+use Rattle.fish_ingest.specs.Ingestion.{CanStart}
+use Rattle.fish_lanes.specs.Closing.{Sure}
+use Rattle.fish_lanes.specs.Gains.{Gains, IsFullBy}
+use Rattle.fish_lanes.specs.Records.{LaneRow}
+use Rattle.fish_lanes.specs.Telling.{TellsLane}
+use Rattle.fish_lanes.specs.declared.lane.Lane.{Lane}
+use Rattle.fish_lanes.specs.declared.lane.Seated.{Seated}
+use Rattle.fish_lanes.specs.declared.work.LaneFault.{LaneFault}
+use Rattle.fish_lanes.specs.declared.work.LaneFault.TheVariants as cause
+use Rattle.fish_lanes.specs.declared.work.Work.{Work}
+use Rattle.fish_report.specs.declared.item.Item.{Item}
+use Rattle.fish_report.specs.declared.item.Item.TheVariants as item
+use Rattle.fish_rule.specs.Passes.{IsPassOf, view}
+use Rattle.fish_rule.specs.Views.{AllOf}
+use Rattle.fish_rule.specs.declared.table.Log.{Log}
+use Rattle.fish_rule.specs.declared.table.Pass.{Pass}
+use Rattle.fish_rule.specs.declared.view.View.{View}
+
+-- an item that was refused since the log is full names the claim that shut the pass
+abbrev pub IsFullItem : View → Item → Type 0
+IsFullItem u x = (file : List ℕ) (line lines end stored refused : ℕ) → x ≡ item.IngestFull file line lines end stored refused
+    → IsFullBy u line lines end
+
+-- a statement has no item exactly where there is a fault
+pub record IsEnded (works : List Work) (items : List Item) (fault : LaneFault) : Type 0 where
+  pub whole : fault ≡ cause.None → length items ≡ length works
+  pub cut : fault ≢ cause.None → length items < length works
+
+-- what a pass left that did these statements
+pub record HasRun (v u : View) (works : List Work) (items : List Item) (fault : LaneFault) : Type 0 where
+  pub rows : List LaneRow
+  pub gains : Gains v u rows
+  pub tells : (from : ℕ) → from ≤ v.learned.settled → from ≤ v.learned.count
+      → Sure u (λ x log. TellsLane x from log rows works items)
+  pub full : AllOf (IsFullItem u) items
+  pub ended : IsEnded works items fault
+
+-- the pass is one of the log, live and out
+pub record CanBegin (log : Log) (pass : Pass) : Type 0 where
+  pub of : IsPassOf log pass
+  pub start : CanStart (view pass)
+
+-- the lane has a pass of the log, and may begin
+pub record IsReady (log : Log) (lane : Lane) : Type 0 where
+  pub seat : Seated
+  pub seat_is : lane.seat ≡ Some seat
+  pub can : CanBegin log seat.pass
+  pub base : (view seat.pass).about.number ≡ 0
+  pub empty : lane.items ≡ []
+
+-- the lane did its statements
+pub record HasDone (log : Log) (old new : Lane) : Type 0 where
+  pub before : Seated
+  pub before_is : old.seat ≡ Some before
+  pub after : Seated
+  pub after_is : new.seat ≡ Some after
+  pub can : CanBegin log after.pass
+  pub run : HasRun (view before.pass) (view after.pass) old.works new.items new.fault
+  pub works : new.works ≡ old.works
+  pub number : new.number ≡ old.number

@@ -1,0 +1,124 @@
+-- What scans, and plans of scans, tell of the one log.
+use Rattle.std.specs.Prelude.{ℕ, ◌≡◌, ◌<◌, ◌≤◌, List, Some, length, map, min, slice_get}
+use Rattle.fish_catalog.specs.declared.entry.Entry.{Entry}
+use Rattle.fish_catalog.specs.declared.entry.Entry.TheVariants as entry
+use Rattle.fish_catalog.specs.declared.listed.Listed.{Listed}
+use Rattle.fish_lang.specs.Definition.{Definition}
+use Rattle.fish_lang.specs.Language.{IsAccepted}
+use Rattle.fish_plan.specs.Pieces.{Fill, one_full}
+use Rattle.fish_plan.specs.declared.pieces.Piece.{Piece}
+use Rattle.fish_psf.specs.Records.{evaluation}
+use Rattle.fish_psf.specs.Select.{select}
+use Rattle.fish_psf.specs.Select as log
+use Rattle.fish_report.specs.declared.item.Item.{Item}
+use Rattle.fish_report.specs.declared.item.Item.TheVariants as item
+use Rattle.fish_report.specs.declared.item.ScanCause.{ScanCause}
+use Rattle.fish_report.specs.declared.item.ScanCause.TheVariants as cause
+use Rattle.fish_rule.specs.Registry.{KnowsDefinitions}
+use Rattle.fish_rule.specs.Views.{Among}
+use Rattle.fish_rule.specs.declared.view.View.{View}
+use Rattle.fish_scan.specs.Naming.{HasNone, IsNewest}
+use Rattle.fish_scan.specs.Reach.{Rise}
+use Rattle.fish_scan.specs.Scans.{AreEmptyEnds, first_asked}
+use Rattle.fish_scan.specs.declared.ask.Ask.{Ask}
+use Rattle.fish_scan.specs.declared.ask.How.TheVariants as how
+use Rattle.fish_value.specs.declared.field.Form.{Form}
+use Rattle.fish_value.specs.declared.row.Row.{Row}
+
+-- an entry as a selection reads it
+abbrev pub selected : Entry → log.Entry
+selected (entry.Stored lane form payload) = log.stored lane form payload
+selected entry.Void = log.void
+
+-- at a version the definitions are these, by the words that the pass knows
+pub record HasRows (v : View) (version : ℕ) (rows : List Listed) : Type 0 where
+  pub knows : KnowsDefinitions v.about v.learned version rows
+
+-- at a version the name means the definition: it is that of the newest row with the name
+pub record Means (v : View) (version : ℕ) (name : List ℕ) (def : Definition) : Type 0 where
+  pub rows : List Listed
+  pub has : HasRows v version rows
+  pub place : ℕ
+  pub newest : IsNewest rows name place
+  pub accepted : IsAccepted newest.listed.def def
+
+-- the number is one that was asked for
+pub record IsAskedFor (ask : Ask) (n : ℕ) : Type 0 where
+  pub above : first_asked ask ≤ n
+  pub below : (to : ℕ) → ask.to ≡ Some to → n < to
+
+-- the range begins where it was asked to, or where it ends, and ends where it was asked to, or before
+pub record IsAskedRange (ask : Ask) (from to : ℕ) : Type 0 where
+  pub begins : from ≡ min (first_asked ask) to
+  pub ends : (end : ℕ) → ask.to ≡ Some end → to ≤ end
+
+-- the range holds all that the lane had seen, of the log and of what was asked for, and none of it is open
+pub record HoldsSeen (entries : List Entry) (seen : ℕ → Type 0) (ask : Ask) (from to : ℕ) (opens : List ℕ) : Type 0 where
+  pub each : (n : ℕ) → seen n → n < length entries → IsAskedFor ask n → (from ≤ n) × (n < to) × ¬ Among n opens
+
+-- the open numbers rise within the range, no two are stored by one lane, and every number behind the log is open
+pub record AreOpen (entries : List Entry) (from to : ℕ) (opens : List ℕ) : Type 0 where
+  pub rise : Rise from to opens
+  pub apart : (m n lane : ℕ) (f g : Form) (p q : List ℕ) → Among m opens → Among n opens
+      → slice_get entries m ≡ Some (entry.Stored lane f p) → slice_get entries n ≡ Some (entry.Stored lane g q) → m ≡ n
+  pub behind : (n : ℕ) → from ≤ n → n < to → length entries ≤ n → Among n opens
+
+-- a scan: its rows are exactly the records of the log in its range, less the open ones, on which the definition that the
+-- name means has the value, newest first
+pub record TellsScan (v : View) (entries : List Entry) (seen : ℕ → Type 0) (ask : Ask) (from to : ℕ) (opens : List ℕ)
+    (rows : List Row) (version : ℕ) : Type 0 where
+  pub range : IsAskedRange ask from to
+  pub def : Definition
+  pub means : Means v version ask.name def
+  pub rows_are : rows ≡ select (map selected entries) (evaluation def) ask.value from to opens
+  pub holds : HoldsSeen entries seen ask from to opens
+  pub are_open : AreOpen entries from to opens
+
+-- a plan: its pieces fill the range, and it is one piece where the numbers are to be read one by one
+pub record TellsPlan (v : View) (entries : List Entry) (seen : ℕ → Type 0) (ask : Ask) (from to : ℕ) (plan : List Piece)
+    (version : ℕ) : Type 0 where
+  pub range : IsAskedRange ask from to
+  pub rows : List Listed
+  pub has : HasRows v version rows
+  pub place : ℕ
+  pub newest : IsNewest rows ask.name place
+  pub opens : List ℕ
+  pub holds : HoldsSeen entries seen ask from to opens
+  pub fill : Fill plan from to
+  pub full : ask.how ≡ how.Full → plan ≡ one_full from to
+
+-- why neither was answered
+abbrev pub IsRefusedFor : View → List Entry → Ask → ℕ → ScanCause → Type 0
+IsRefusedFor v entries ask version cause.UnknownName = (rows : List Listed) × HasRows v version rows × HasNone rows ask.name
+IsRefusedFor v entries ask version (cause.EmptyRange from to) = AreEmptyEnds ask from to
+IsRefusedFor v entries ask version (cause.NotCovered from to) = (ask.how ≡ how.Index) × (from < to) × (to ≤ length entries)
+    × (first_asked ask ≤ from) × ((end : ℕ) → ask.to ≡ Some end → to ≤ end)
+
+-- ---- items
+
+-- the item of a scan
+pub record TellsScanned (v : View) (entries : List Entry) (seen : ℕ → Type 0) (ask : Ask) (x : Item) : Type 0 where
+  pub from : ℕ
+  pub to : ℕ
+  pub opens : List ℕ
+  pub rows : List Row
+  pub version : ℕ
+  pub is : x ≡ item.Scanned ask.name ask.value from to opens rows version
+  pub tells : TellsScan v entries seen ask from to opens rows version
+
+-- of a plan
+pub record TellsExplained (v : View) (entries : List Entry) (seen : ℕ → Type 0) (ask : Ask) (x : Item) : Type 0 where
+  pub from : ℕ
+  pub to : ℕ
+  pub plan : List Piece
+  pub version : ℕ
+  pub is : x ≡ item.Explained ask.name ask.value from to plan version
+  pub tells : TellsPlan v entries seen ask from to plan version
+
+-- and of a refusal
+pub record TellsRefused (v : View) (entries : List Entry) (ask : Ask) (refused : List ℕ → ℕ → ScanCause → Item) (x : Item)
+    : Type 0 where
+  pub version : ℕ
+  pub why : ScanCause
+  pub is : x ≡ refused ask.name version why
+  pub tells : IsRefusedFor v entries ask version why

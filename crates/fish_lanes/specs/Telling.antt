@@ -1,0 +1,107 @@
+-- What the items of a lane tell of the one log.
+use Rattle.std.specs.Prelude.{ℕ, ◌≡◌, ◌<◌, ◌≤◌, ◌+◌, ◌⊎◌, ◌++◌, List, [], ◌∷◌, Option, Some, length, take}
+use Rattle.fish_catalog.specs.declared.entry.Entry.{Entry}
+use Rattle.fish_lanes.specs.Records.{Content, LaneRow, contents}
+use Rattle.fish_lanes.specs.Scanning.{TellsExplained, TellsRefused, TellsScanned}
+use Rattle.fish_lanes.specs.Seen.{IsSeen, Shown, settled, shown_by}
+use Rattle.fish_lanes.specs.declared.work.Work.{Work}
+use Rattle.fish_lanes.specs.declared.work.Work.TheVariants as work
+use Rattle.fish_lines.specs.File.{accepted, outcomes, refused}
+use Rattle.fish_report.specs.declared.item.Item.{Item}
+use Rattle.fish_report.specs.declared.item.Item.TheVariants as item
+use Rattle.fish_rule.specs.Views.{Among}
+use Rattle.fish_rule.specs.declared.view.View.{View}
+use Rattle.fish_value.specs.Limits.{longest_file}
+use Rattle.fish_value.specs.declared.field.Form.{Form}
+
+-- payloads with their form
+abbrev pub all_of : Form → List (List ℕ) → List Content
+all_of form [] = []
+all_of form (p ∷ payloads) = (form, p) ∷ all_of form payloads
+
+-- what a statement is to store
+abbrev pub content_of : Work → List Content
+content_of (work.Ingest form header name file) = all_of form (accepted (outcomes form header file))
+content_of w = []
+
+-- how much of it an item says is stored
+abbrev pub count_of : Item → ℕ
+count_of (item.Ingested file stored refused) = stored
+count_of (item.IngestFull file line lines end stored refused) = stored
+count_of x = 0
+
+-- all lines or rows were read, and so many are records, and so many are none
+pub record AreCounted (outs : List (Option (List ℕ))) (stored many : ℕ) : Type 0 where
+  pub stored_is : stored ≡ length (accepted outs)
+  pub refused_is : many ≡ refused outs
+
+-- the same of those in front of a record
+pub record AreCountedUpTo (outs : List (Option (List ℕ))) (stored many : ℕ) : Type 0 where
+  pub front : List (Option (List ℕ))
+  pub payload : List ℕ
+  pub behind : List (Option (List ℕ))
+  pub parts : outs ≡ front ++ Some payload ∷ behind
+  pub counted : AreCounted front stored many
+
+-- ---- one item
+
+-- the file is no longer than a file may be, and so many of its lines or rows are stored, and so many are no record
+pub record TellsStored (outs : List (Option (List ℕ))) (name file : List ℕ) (x : Item) : Type 0 where
+  pub stored : ℕ
+  pub many : ℕ
+  pub is : x ≡ item.Ingested name stored many
+  pub within : length file ≤ longest_file
+  pub counted : AreCounted outs stored many
+
+-- or only those in front of a record whose region of so many lines ends past the log's end
+pub record TellsFull (outs : List (Option (List ℕ))) (name file : List ℕ) (x : Item) : Type 0 where
+  pub line : ℕ
+  pub lines : ℕ
+  pub end : ℕ
+  pub stored : ℕ
+  pub many : ℕ
+  pub is : x ≡ item.IngestFull name line lines end stored many
+  pub within : length file ≤ longest_file
+  pub counted : AreCountedUpTo outs stored many
+  pub past : end < line + lines
+
+-- or the file is too long, and nothing of it is stored
+pub record TellsTooLong (name file : List ℕ) (x : Item) : Type 0 where
+  pub is : x ≡ item.IngestTooLong name 0 0
+  pub past : longest_file < length file
+
+-- all below a number of the log is stored, no less than below the block or than an earlier item told
+pub record TellsCheckpoint (from : ℕ) (log : List Entry) (shown : List Shown) (x : Item) : Type 0 where
+  pub count : ℕ
+  pub is : x ≡ item.Checkpointed count
+  pub above : from ≤ count
+  pub within : count ≤ length log
+  pub rises : (earlier : ℕ) → Among (settled earlier) shown → earlier ≤ count
+
+-- what one item tells, behind these rows of its lane and what was shown
+abbrev pub TellsItem : View → ℕ → List Entry → List LaneRow → List Shown → Work → Item → Type 0
+TellsItem v from log before shown (work.Ingest form header name file) x = TellsStored (outcomes form header file) name file x
+    ⊎ (TellsFull (outcomes form header file) name file x ⊎ TellsTooLong name file x)
+TellsItem v from log before shown (work.Scan ask) x = TellsScanned v log (IsSeen from before shown) ask x
+    ⊎ TellsRefused v log ask item.ScanRefused x
+TellsItem v from log before shown (work.Explain ask) x = TellsExplained v log (IsSeen from before shown) ask x
+    ⊎ TellsRefused v log ask item.ExplainRefused x
+TellsItem v from log before shown work.Checkpoint x = TellsCheckpoint from log shown x
+
+-- ---- the items of a lane
+
+-- what the items of a lane tell: the rows are what they say is stored, one after the other; where statements are
+-- left without an item, the rest of the rows are the first payloads of the next statement
+abbrev pub TellsItems : View → ℕ → List Entry → List LaneRow → List Shown → List LaneRow → List Work → List Item → Type 0
+TellsItems v from log before shown rows [] [] = rows ≡ []
+TellsItems v from log before shown rows [] (x ∷ items) = ⊥
+TellsItems v from log before shown rows (w ∷ works) [] = (j : ℕ) × (contents rows ≡ take j (content_of w))
+TellsItems v from log before shown rows (w ∷ works) (x ∷ items) = (mine : List LaneRow) × (rest : List LaneRow)
+    × (rows ≡ mine ++ rest)
+    × (contents mine ≡ take (count_of x) (content_of w))
+    × TellsItem v from log before shown w x
+    × TellsItems v from log (before ++ mine) (shown ++ shown_by x) rest works items
+
+-- the same from the lane's first statement on
+abbrev pub TellsLane : View → ℕ → List Entry → List LaneRow → List Work → List Item → Type 0
+TellsLane v from log rows works items = TellsItems v from log [] [] rows works items

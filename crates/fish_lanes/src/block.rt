@@ -1,0 +1,218 @@
+//! A block: its lanes run at once, each by a pass of its own.
+
+ghost use Rattle.std.specs.Prelude.{◌≡◌, ◌≤◌, ◌<◌, ◌+◌, ℕ, length, Some, None, [], All};
+ghost use Rattle.std.specs.Thread.{IsSync};
+ghost use Rattle.fish_lanes.specs.Blocks.{AreDone, AreEnded, AreJoined, AreKept, AreLanes, AreReady, AreSeated, CanGive, CanTake};
+ghost use Rattle.fish_lanes.specs.Blocks.{HasGiven, HasRunFirst, HasSeat, HasTaken, HasTakenAll, IsFirst, IsMarkItem, IsNewLane, NameMarks, TellsBlock, TellsFirst, TellsOthers, WasTaken, WereTaken};
+ghost use Rattle.fish_lanes.specs.Closing.{Later, Will};
+ghost use Rattle.fish_lanes.specs.Ending.{HasEnd};
+ghost use Rattle.fish_lanes.specs.Running.{CanBegin, HasDone, HasRun, IsEnded, IsReady};
+ghost use Rattle.fish_rule.specs.Passes.{IsPassOf, view};
+ghost use Rattle.fish_rule.specs.Views.{AllOf};
+ghost use Rattle.fish_rule.specs.Seating.{CanSplit, split_left, split_right};
+
+use crate::lane::{Lane, Seated};
+use crate::statements::run_works;
+use crate::work::{LaneFault, Work};
+use fish_epoch::Defs;
+use fish_report::Items;
+use fish_rule::{Log, Pass, join_pass, split_pass};
+use fish_walk::settle;
+use std::alloc::Global;
+use std::thread::{Threads, for_each_mut, join_mut};
+
+/// Does statements by a pass that has read no definition yet.
+fn run_pass(
+    alloc: Global,
+    log: &Log,
+    pass: &mut Pass,
+    works: &[Work],
+    items: &mut Items,
+) -> LaneFault
+    requires pass { CanBegin log.now pass.old }
+    requires base { (view pass.old).about.number ≡ 0 }
+    requires empty { items.old ≡ [] }
+    ensures pass { CanBegin log.now pass.new }
+    ensures run { HasRun (view pass.old) (view pass.new) works.now items.new result }
+{
+    let mut defs = Defs::new(alloc);
+    run_works(alloc, log, pass, &mut defs, works, items)
+}
+
+/// Does the statements of a lane by its own pass.
+fn run_seated(alloc: Global, log: &Log, lane: &mut Lane)
+    requires ready { IsReady log.now lane.old }
+    ensures done { HasDone log.now lane.old lane.new }
+{
+    let Some(Seated { mut pass }) = lane.seat.take() else {
+        unreachable!()
+    };
+    lane.fault = run_pass(
+        alloc,
+        log,
+        &mut pass,
+        lane.works.as_slice(),
+        &mut lane.items,
+    );
+    lane.seat = Some(Seated { pass });
+}
+
+/// Does the statements of lanes at once, by their own passes.
+fn run_others<R: Threads + Sync>(rt: &R, alloc: Global, log: &Log, lanes: &mut [Lane])
+    requires ready { AreReady log.now lanes.old }
+    requires some { 0 < length lanes.old }
+    ensures done { AreDone log.now lanes.old lanes.new }
+{
+    let threads = lanes.len();
+    for_each_mut(rt, lanes, threads, &|_, lane| run_seated(alloc, log, lane));
+}
+
+/// Does the statements of the first lane by the control pass.
+fn run_first(alloc: Global, log: &Log, main: &mut Pass, lane: &mut Lane)
+    requires pass { IsPassOf log.now main.old }
+    requires first { IsFirst (view main.old) lane.old }
+    ensures pass { IsPassOf log.now main.new }
+    ensures run { HasRunFirst (view main.old) (view main.new) lane.old lane.new }
+{
+    lane.fault = run_pass(alloc, log, main, lane.works.as_slice(), &mut lane.items);
+}
+
+/// Gives a lane its pass.
+fn give(log: &Log, main: &mut Pass, lane: &mut Lane)
+    requires pass { IsPassOf log.now main.old }
+    requires can { CanSplit (view main.old) lane.old.number }
+    ensures pass { IsPassOf log.now main.new }
+    ensures left { view main.new ≡ split_left lane.old.number (view main.old) }
+    ensures seat { HasSeat log.now (split_right lane.old.number (view main.old)) lane.old lane.new }
+{
+    let pass = split_pass(log, main, lane.number);
+    lane.seat = Some(Seated { pass });
+}
+
+/// Gives each lane its pass.
+fn give_all(log: &Log, main: &mut Pass, lanes: &mut [Lane])
+    requires pass { IsPassOf log.now main.old }
+    requires can { CanGive (view main.old) lanes.old }
+    ensures pass { IsPassOf log.now main.new }
+    ensures given { HasGiven (view main.old) (view main.new) (length lanes.old) }
+    ensures seated { AreSeated log.now (view main.old) lanes.old lanes.new }
+{
+    for i in 0..lanes.len() {
+        give(log, main, &mut lanes[i]);
+    }
+}
+
+/// Takes back the pass of a lane.
+fn take_back(log: &Log, main: &mut Pass, lane: &mut Lane)
+    requires pass { IsPassOf log.now main.old }
+    requires can { CanTake log.now (view main.old) lane.old }
+    ensures pass { IsPassOf log.now main.new }
+    ensures taken { HasTaken (view main.old) (view main.new) lane.old }
+    ensures lane { WasTaken lane.old lane.new }
+{
+    let Some(Seated { pass }) = lane.seat.take() else {
+        unreachable!()
+    };
+    join_pass(log, main, pass);
+}
+
+/// Takes back the pass of each lane.
+fn take_all(log: &Log, main: &mut Pass, lanes: &mut [Lane])
+    requires pass { IsPassOf log.now main.old }
+    requires can { AreJoined log.now (view main.old) lanes.old }
+    ensures pass { IsPassOf log.now main.new }
+    ensures taken { HasTakenAll (view main.old) (view main.new) lanes.old (length lanes.old) }
+    ensures lanes { WereTaken lanes.old lanes.new }
+{
+    for i in 0..lanes.len() {
+        take_back(log, main, &mut lanes[i]);
+    }
+}
+
+/// Does the statements of all lanes at once: those of the first by the control pass.
+fn run_all<R: Threads + Sync>(
+    rt: &R,
+    alloc: Global,
+    log: &Log,
+    main: &mut Pass,
+    first: &mut Lane,
+    others: &mut [Lane],
+)
+    requires pass { IsPassOf log.now main.old }
+    requires first { IsFirst (view main.old) first.old }
+    requires ready { AreReady log.now others.old }
+    ensures pass { IsPassOf log.now main.new }
+    ensures run { HasRunFirst (view main.old) (view main.new) first.old first.new }
+    ensures done { AreDone log.now others.old others.new }
+{
+    if others.is_empty() {
+        run_first(alloc, log, main, first);
+        return;
+    }
+    join_mut(
+        rt,
+        &mut || run_first(alloc, log, main, first),
+        &mut ||
+            requires sync { IsSync R.row }
+            requires ready { AreReady log.now others.now }
+            requires some { 0 < length others.now }
+            ensures { AreDone log.entry.now others.entry.now others.exit.now }
+        { run_others(rt, alloc, log, others) },
+    );
+}
+
+/// The same, from the split of the passes to their join, and how far the log then reaches.
+fn run_lanes<R: Threads + Sync>(
+    rt: &R,
+    alloc: Global,
+    log: &Log,
+    main: &mut Pass,
+    first: &mut Lane,
+    others: &mut [Lane],
+) -> u32
+    requires pass { IsPassOf log.now main.old }
+    requires end { (from : ℕ) × HasEnd (view main.old) from }
+    requires first { IsNewLane 1 first.old }
+    requires others { CanGive (view main.old) others.old }
+    ensures pass { IsPassOf log.now main.new }
+    ensures end { HasEnd (view main.new) result }
+    ensures later { Later (view main.old) (view main.new) }
+    ensures first { (first.new.number ≡ first.old.number) × (first.new.works ≡ first.old.works) }
+    ensures kept { AreKept others.old others.new }
+    ensures told { (from : ℕ) → HasEnd (view main.old) from → (from ≤ result)
+        × Will (view main.new) (TellsFirst from result first.new)
+        × Will (view main.new) (TellsOthers from result others.new) }
+    ensures first_ended { IsEnded first.new.works first.new.items first.new.fault }
+    ensures others_ended { AreEnded others.new }
+    ensures first_marks { AllOf (IsMarkItem (view main.new)) first.new.items }
+    ensures others_marks { NameMarks (view main.new) others.new }
+{
+    give_all(log, main, others);
+    run_all(rt, alloc, log, main, first, others);
+    take_all(log, main, others);
+    settle(log, main).settled
+}
+
+/// Runs a block: the lanes at once, each by a pass of its own. How far the log then reaches.
+pub fn run_block<R: Threads + Sync>(
+    rt: &R,
+    alloc: Global,
+    log: &Log,
+    main: &mut Pass,
+    lanes: &mut [Lane],
+) -> u32
+    requires pass { IsPassOf log.now main.old }
+    requires end { (from : ℕ) × HasEnd (view main.old) from }
+    requires lanes { AreLanes lanes.old }
+    ensures pass { IsPassOf log.now main.new }
+    ensures end { HasEnd (view main.new) result }
+    ensures later { Later (view main.old) (view main.new) }
+    ensures kept { AreKept lanes.old lanes.new }
+    ensures told { (from : ℕ) → HasEnd (view main.old) from → (from ≤ result)
+        × Will (view main.new) (λ v log. TellsBlock v log from result lanes.new) }
+    ensures ended { AreEnded lanes.new }
+    ensures marks { NameMarks (view main.new) lanes.new }
+{
+    let (first, others) = lanes.split_at_mut(1);
+    run_lanes(rt, alloc, log, main, &mut first[0], others)
+}

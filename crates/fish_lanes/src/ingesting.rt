@@ -1,0 +1,264 @@
+//! The records of a file, stored by a lane's pass one after the other. Each line or row is read once.
+
+ghost use Rattle.std.specs.Prelude.{◌≡◌, ◌≤◌, ◌+◌, length, IfOk, IfErr, MatchOption, OnErr};
+ghost use Rattle.fish_csv.specs.Left.{left};
+ghost use Rattle.fish_csv.specs.Rows as csv;
+ghost use Rattle.fish_epoch.specs.Definitions.{IsDefsOf};
+ghost use Rattle.fish_ingest.specs.Ingestion.{CanIngest, CanStart};
+ghost use Rattle.fish_ingest.specs.Refusal.{HasNotClaimed};
+ghost use Rattle.fish_json.specs.Lines as json;
+ghost use Rattle.fish_lanes.specs.Doing.{IsItem, IsPart};
+ghost use Rattle.fish_lanes.specs.Storing.{EndsWith, FindsFull, IsPartStored, TakesLine, item_of, nothing};
+ghost use Rattle.fish_lanes.specs.declared.work.Work.TheVariants as work;
+ghost use Rattle.fish_lines.specs.File.{outcomes};
+ghost use Rattle.fish_rule.specs.Passes.{IsPassOf, view};
+ghost use Rattle.fish_value.specs.Limits.{longest_file};
+ghost use Rattle.fish_value.specs.declared.field.Form.TheVariants.{Csv, Json};
+
+use fish_csv::{CsvRefusal, MAX_FILE, RowTexts};
+use fish_epoch::Defs;
+use fish_ingest::{IngestRefusal, ingest};
+use fish_lines::Lines;
+use fish_report::Item;
+use fish_rule::{Log, Pass, Shut};
+use fish_value::{Form, Text};
+use std::alloc::{AllocError, Global};
+
+/// How many lines or rows of a file are stored, and how many are no record.
+#[derive(Clone, Copy)]
+pub(crate) struct Tally {
+    pub stored: u32,
+    pub refused: u32,
+}
+
+/// Stores the records of a file, up to the first one that finds the log full.
+pub(crate) fn ingest_file(
+    alloc: Global,
+    log: &Log,
+    pass: &mut Pass,
+    defs: &mut Defs,
+    form: Form,
+    header: bool,
+    name: &Text,
+    file: &[u8],
+) -> Result<Item, AllocError>
+    requires pass { IsPassOf log.now pass.old }
+    requires start { CanStart (view pass.old) }
+    requires defs { IsDefsOf (view pass.old) defs.old }
+    ensures pass { IsPassOf log.now pass.new }
+    ensures defs { IsDefsOf (view pass.new) defs.new }
+    ensures item { IfOk result (IsItem (view pass.old) (view pass.new) (work.Ingest form header name.now file.now)) }
+    ensures part { IfErr result (λ _. IsPart (view pass.old) (view pass.new) (work.Ingest form header name.now file.now)) }
+{
+    let name = name.again(alloc)?;
+    if file.len() > MAX_FILE {
+        return Ok(Item::IngestTooLong {
+            file: name,
+            stored: 0,
+            refused: 0,
+        });
+    }
+    let mut tally = Tally {
+        stored: 0,
+        refused: 0,
+    };
+    match ingest_form(alloc, log, pass, defs, form, header, file, &mut tally) {
+        Ok(end) => Ok(item_of(name, tally, end)),
+        Err(error) => {
+            drop(name);
+            Err(error)
+        }
+    }
+}
+
+/// Stores the lines or rows of a file that are records.
+#[tactic(auto, unfolding(fish_lines::specs::File::outcomes))]
+fn ingest_form(
+    alloc: Global,
+    log: &Log,
+    pass: &mut Pass,
+    defs: &mut Defs,
+    form: Form,
+    header: bool,
+    file: &[u8],
+    tally: &mut Tally,
+) -> Result<Option<Shut>, AllocError>
+    requires pass { IsPassOf log.now pass.old }
+    requires start { CanStart (view pass.old) }
+    requires defs { IsDefsOf (view pass.old) defs.old }
+    requires short { length file.now ≤ longest_file }
+    requires none { tally.old ≡ nothing }
+    ensures pass { IsPassOf log.now pass.new }
+    ensures defs { IsDefsOf (view pass.new) defs.new }
+    ensures ends { IfOk result (EndsWith (view pass.old) (view pass.new) form (outcomes form header file.now) tally.new) }
+    ensures part { IfErr result (λ _. IsPartStored (view pass.old) (view pass.new) form (outcomes form header file.now)) }
+{
+    match form {
+        Form::Json => ingest_lines(alloc, log, pass, defs, file, tally),
+        Form::Csv => ingest_csv(alloc, log, pass, defs, header, file, tally),
+    }
+}
+
+/// Stores the rows of a file in CSV that are records, with `header` those behind the first.
+fn ingest_csv(
+    alloc: Global,
+    log: &Log,
+    pass: &mut Pass,
+    defs: &mut Defs,
+    header: bool,
+    file: &[u8],
+    tally: &mut Tally,
+) -> Result<Option<Shut>, AllocError>
+    requires pass { IsPassOf log.now pass.old }
+    requires start { CanStart (view pass.old) }
+    requires defs { IsDefsOf (view pass.old) defs.old }
+    requires short { length file.now ≤ longest_file }
+    requires none { tally.old ≡ nothing }
+    ensures pass { IsPassOf log.now pass.new }
+    ensures defs { IsDefsOf (view pass.new) defs.new }
+    ensures ends { IfOk result (EndsWith (view pass.old) (view pass.new) Csv (csv.outcomes header file.now) tally.new) }
+    ensures part { IfErr result (λ _. IsPartStored (view pass.old) (view pass.new) Csv (csv.outcomes header file.now)) }
+{
+    let mut rows = match RowTexts::new(alloc, file, header) {
+        Ok(rows) => rows,
+        Err(CsvRefusal::FileTooLong | CsvRefusal::OutOfMemory) => return Err(AllocError),
+    };
+    let ended = ingest_rows(alloc, log, pass, defs, &mut rows, tally);
+    drop(rows);
+    ended
+}
+
+/// What is told of a file of which so much was stored, up to its end or to a record that found the log full.
+fn item_of(name: Text, tally: Tally, end: Option<Shut>) -> Item
+    ensures { result ≡ item_of name tally end }
+{
+    match end {
+        None => Item::Ingested {
+            file: name,
+            stored: tally.stored,
+            refused: tally.refused,
+        },
+        Some(Shut { line, lines, end }) => Item::IngestFull {
+            file: name,
+            line,
+            lines,
+            end,
+            stored: tally.stored,
+            refused: tally.refused,
+        },
+    }
+}
+
+/// Stores the lines of a file in JSON Lines that are records.
+fn ingest_lines(
+    alloc: Global,
+    log: &Log,
+    pass: &mut Pass,
+    defs: &mut Defs,
+    file: &[u8],
+    tally: &mut Tally,
+) -> Result<Option<Shut>, AllocError>
+    requires pass { IsPassOf log.now pass.old }
+    requires start { CanStart (view pass.old) }
+    requires defs { IsDefsOf (view pass.old) defs.old }
+    requires short { length file.now ≤ longest_file }
+    requires none { tally.old ≡ nothing }
+    ensures pass { IsPassOf log.now pass.new }
+    ensures defs { IsDefsOf (view pass.new) defs.new }
+    ensures ends { IfOk result (EndsWith (view pass.old) (view pass.new) Json (json.outcomes file.now) tally.new) }
+    ensures part { IfErr result (λ _. IsPartStored (view pass.old) (view pass.new) Json (json.outcomes file.now)) }
+{
+    let mut lines = Lines::new(file);
+    while let Some(line) = lines.next_line() {
+        match ingest_line(alloc, log, pass, defs, Form::Json, line, tally)? {
+            Some(shut) => return Ok(Some(shut)),
+            None => {}
+        }
+    }
+    Ok(None)
+}
+
+/// Stores the rows of a file in CSV that are records.
+fn ingest_rows(
+    alloc: Global,
+    log: &Log,
+    pass: &mut Pass,
+    defs: &mut Defs,
+    rows: &mut RowTexts<'_>,
+    tally: &mut Tally,
+) -> Result<Option<Shut>, AllocError>
+    requires pass { IsPassOf log.now pass.old }
+    requires start { CanStart (view pass.old) }
+    requires defs { IsDefsOf (view pass.old) defs.old }
+    requires short { length rows.old.rest.now ≤ longest_file }
+    requires none { tally.old ≡ nothing }
+    ensures pass { IsPassOf log.now pass.new }
+    ensures defs { IsDefsOf (view pass.new) defs.new }
+    ensures ends { IfOk result (EndsWith (view pass.old) (view pass.new) Csv (left rows.old) tally.new) }
+    ensures part { IfErr result (λ _. IsPartStored (view pass.old) (view pass.new) Csv (left rows.old)) }
+{
+    while let Some(row) = rows.next_row(alloc)? {
+        match row {
+            Some(text) => match ingest_text(alloc, log, pass, defs, text, tally)? {
+                Some(shut) => return Ok(Some(shut)),
+                None => {}
+            },
+            None => tally.refused += 1,
+        }
+    }
+    Ok(None)
+}
+
+/// Stores the text of a row in CSV.
+fn ingest_text(
+    alloc: Global,
+    log: &Log,
+    pass: &mut Pass,
+    defs: &mut Defs,
+    text: Text,
+    tally: &mut Tally,
+) -> Result<Option<Shut>, AllocError>
+    requires can { CanIngest log.now pass.old defs.old }
+    requires room { tally.old.stored + tally.old.refused ≤ longest_file }
+    ensures pass { IsPassOf log.now pass.new }
+    ensures defs { IsDefsOf (view pass.new) defs.new }
+    ensures takes { IfOk result (λ end. MatchOption end
+        (TakesLine (view pass.old) (view pass.new) Csv text tally.old tally.new)
+        (FindsFull (view pass.old) (view pass.new) Csv text tally.old tally.new)) }
+
+    ensures left { OnErr result (HasNotClaimed (view pass.old) (view pass.new) × (tally.new ≡ tally.old)) }
+{
+    let ended = ingest_line(alloc, log, pass, defs, Form::Csv, text.as_bytes(), tally);
+    drop(text);
+    ended
+}
+
+/// Stores a line or row as a record of its form, or counts it as none.
+fn ingest_line(
+    alloc: Global,
+    log: &Log,
+    pass: &mut Pass,
+    defs: &mut Defs,
+    form: Form,
+    payload: &[u8],
+    tally: &mut Tally,
+) -> Result<Option<Shut>, AllocError>
+    requires can { CanIngest log.now pass.old defs.old }
+    requires room { tally.old.stored + tally.old.refused ≤ longest_file }
+    ensures pass { IsPassOf log.now pass.new }
+    ensures defs { IsDefsOf (view pass.new) defs.new }
+    ensures takes { IfOk result (λ end. MatchOption end
+        (TakesLine (view pass.old) (view pass.new) form payload.now tally.old tally.new)
+        (FindsFull (view pass.old) (view pass.new) form payload.now tally.old tally.new)) }
+
+    ensures left { OnErr result (HasNotClaimed (view pass.old) (view pass.new) × (tally.new ≡ tally.old)) }
+{
+    match ingest(alloc, log, pass, defs, form, payload) {
+        Ok(_) => tally.stored += 1,
+        Err(IngestRefusal::TooLong) => tally.refused += 1,
+        Err(IngestRefusal::NotRecord) => tally.refused += 1,
+        Err(IngestRefusal::OutOfMemory) => return Err(AllocError),
+        Err(IngestRefusal::Full { line, lines, end }) => return Ok(Some(Shut { line, lines, end })),
+    }
+    Ok(None)
+}

@@ -1,0 +1,13 @@
+//! Lanes: each does its statements by a pass of its own, on threads that run at once, all on one log.
+#![tactic(auto)]
+
+mod block;
+mod ingesting;
+mod lane;
+mod scanning;
+mod statements;
+mod work;
+
+pub use block::run_block;
+pub use lane::{Lane, Seated};
+pub use work::{LaneFault, Work, Works};

@@ -1,0 +1,92 @@
+//! The statements of a lane, done by its pass.
+
+ghost use Rattle.std.specs.Prelude.{◌≡◌, [], IfOk, IfErr};
+ghost use Rattle.fish_epoch.specs.Definitions.{IsDefsOf};
+ghost use Rattle.fish_ingest.specs.Ingestion.{CanStart};
+ghost use Rattle.fish_lanes.specs.Doing.{IsItem, IsPart};
+ghost use Rattle.fish_lanes.specs.Running.{HasRun};
+ghost use Rattle.fish_lanes.specs.declared.work.Work.TheVariants as work;
+ghost use Rattle.fish_rule.specs.Logs.{Learns};
+ghost use Rattle.fish_rule.specs.Passes.{IsPassOf, view};
+
+use crate::ingesting::ingest_file;
+use crate::scanning::{explain_range, scan_range};
+use crate::work::{LaneFault, Work};
+use fish_epoch::Defs;
+use fish_report::{Item, Items};
+use fish_rule::{Log, Pass};
+use fish_walk::settle;
+use std::alloc::{AllocError, Global};
+
+/// Does statements in order, up to the first fault.
+pub(crate) fn run_works(
+    alloc: Global,
+    log: &Log,
+    pass: &mut Pass,
+    defs: &mut Defs,
+    works: &[Work],
+    items: &mut Items,
+) -> LaneFault
+    requires pass { IsPassOf log.now pass.old }
+    requires start { CanStart (view pass.old) }
+    requires defs { IsDefsOf (view pass.old) defs.old }
+    requires base { (view pass.old).about.number ≡ 0 }
+    requires empty { items.old ≡ [] }
+    ensures pass { IsPassOf log.now pass.new }
+    ensures defs { IsDefsOf (view pass.new) defs.new }
+    ensures run { HasRun (view pass.old) (view pass.new) works.now items.new result }
+{
+    for work in works {
+        let Ok(item) = run_work(alloc, log, pass, defs, work) else {
+            return LaneFault::Memory;
+        };
+        match items.push(item) {
+            Ok(()) => {}
+            Err(_) => return LaneFault::Memory,
+        }
+    }
+    LaneFault::None
+}
+
+/// Does one statement.
+fn run_work(
+    alloc: Global,
+    log: &Log,
+    pass: &mut Pass,
+    defs: &mut Defs,
+    work: &Work,
+) -> Result<Item, AllocError>
+    requires pass { IsPassOf log.now pass.old }
+    requires start { CanStart (view pass.old) }
+    requires defs { IsDefsOf (view pass.old) defs.old }
+    requires base { (view pass.old).about.number ≡ 0 }
+    ensures pass { IsPassOf log.now pass.new }
+    ensures defs { IsDefsOf (view pass.new) defs.new }
+    ensures item { IfOk result (IsItem (view pass.old) (view pass.new) work.now) }
+    ensures part { IfErr result (λ _. IsPart (view pass.old) (view pass.new) work.now) }
+{
+    match work {
+        Work::Ingest {
+            form,
+            header,
+            name,
+            file,
+        } => ingest_file(alloc, log, pass, defs, *form, *header, name, file.as_bytes()),
+        Work::Scan { ask } => scan_range(alloc, log, pass, defs, ask),
+        Work::Explain { ask } => explain_range(alloc, log, pass, defs, ask),
+        Work::Checkpoint => Ok(checkpoint(log, pass)),
+    }
+}
+
+/// Tells up to which number all is stored.
+fn checkpoint(log: &Log, pass: &mut Pass) -> Item
+    requires pass { IsPassOf log.now pass.old }
+    requires start { CanStart (view pass.old) }
+    ensures pass { IsPassOf log.now pass.new }
+    ensures learns { Learns (view pass.old) (view pass.new) }
+    ensures item { IsItem (view pass.old) (view pass.new) work.Checkpoint result }
+{
+    Item::Checkpointed {
+        count: settle(log, pass).settled,
+    }
+}
