@@ -10,8 +10,8 @@ use Rattle.fish_report.specs.declared.item.ScanCause.{ScanCause}
 use Rattle.fish_report.specs.declared.item.ScanCause.TheVariants as scan
 
 -- `refused select FILE too long`
-unfoldable pub too_long_text : List ℕ → List ℕ
-too_long_text file = codes "refused select " ++ (file_text file ++ codes " too long\n")
+unfoldable pub select_too_long_text : List ℕ → List ℕ
+select_too_long_text file = codes "refused select " ++ (file_text file ++ codes " too long\n")
 
 -- why a definition was not registered: `rolling id I` or the limit that was met
 abbrev pub register_cause : RegisterCause → List ℕ
@@ -39,13 +39,13 @@ refused_text statement name cause =
     codes "refused " ++ (statement ++ (codes " " ++ (name ++ (codes " " ++ (cause ++ codes "\n")))))
 
 -- `refused ingest FILE full line A lines L end E`, the first part of a line
-unfoldable pub full_text : List ℕ → ℕ → ℕ → ℕ → List ℕ
-full_text file line lines end =
+unfoldable pub ingest_full_text : List ℕ → ℕ → ℕ → ℕ → List ℕ
+ingest_full_text file line lines end =
     codes "refused ingest " ++
     (file_text file ++
     (codes " full line " ++ (decimal line ++ (codes " lines " ++ (decimal lines ++ (codes " end " ++ decimal end))))))
 
 -- `refused ingest FILE too long stored S refused R`
-unfoldable pub cut_text : List ℕ → ℕ → ℕ → List ℕ
-cut_text file stored refused =
+unfoldable pub ingest_too_long_text : List ℕ → ℕ → ℕ → List ℕ
+ingest_too_long_text file stored refused =
     codes "refused ingest " ++ (file_text file ++ (codes " too long" ++ counts_text stored refused))

@@ -5,15 +5,15 @@ use Rattle.fish_report.specs.Parts.{counts_text}
 use Rattle.fish_report.specs.StatementText.{bound_text, count_text, deregistered_text, explain_text, found_text}
 use Rattle.fish_report.specs.StatementText.{ingested_text, lanes_text, plan_text, registered_text, rolling_text}
 use Rattle.fish_report.specs.StatementText.{scan_text, select_text}
-use Rattle.fish_report.specs.RefusalText.{cut_text, deregister_cause, full_text, refused_text, register_cause}
-use Rattle.fish_report.specs.RefusalText.{scan_cause, too_long_text}
+use Rattle.fish_report.specs.RefusalText.{deregister_cause, ingest_full_text, ingest_too_long_text, refused_text}
+use Rattle.fish_report.specs.RefusalText.{register_cause, scan_cause, select_too_long_text}
 use Rattle.fish_report.specs.declared.item.Item.{Item}
 use Rattle.fish_report.specs.declared.item.Item.TheVariants as item
 
 -- the text of an item
 abbrev pub item_text : Item → List ℕ
 item_text (item.Select rows count refused) = select_text rows count refused
-item_text (item.SelectTooLong file) = too_long_text file
+item_text (item.SelectTooLong file) = select_too_long_text file
 item_text item.Created = codes "created\n"
 item_text (item.Opened count) = count_text (codes "opened") count
 item_text (item.Statement from to) = []
@@ -33,8 +33,9 @@ item_text (item.Checkpointed count) = count_text (codes "checkpoint") count
 item_text (item.Closed count) = count_text (codes "closed") count
 item_text (item.RegisterRefused name cause) = refused_text (codes "register") name (register_cause cause)
 item_text (item.DeregisterRefused name cause) = refused_text (codes "deregister") name (deregister_cause cause)
-item_text (item.IngestFull file line lines end stored refused) = full_text file line lines end ++ counts_text stored refused
-item_text (item.IngestTooLong file stored refused) = cut_text file stored refused
+item_text (item.IngestFull file line lines end stored refused) =
+    ingest_full_text file line lines end ++ counts_text stored refused
+item_text (item.IngestTooLong file stored refused) = ingest_too_long_text file stored refused
 item_text (item.ScanRefused name version cause) = refused_text (codes "scan") name (scan_cause version cause)
 item_text (item.ExplainRefused name version cause) = refused_text (codes "explain") name (scan_cause version cause)
 

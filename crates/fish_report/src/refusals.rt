@@ -1,8 +1,8 @@
 //! The texts of what was refused, by statement, and of the causes.
 
 ghost use Rattle.std.specs.Prelude.{◌≡◌, ◌++◌, codes, OnOk, string_bytes};
-ghost use Rattle.fish_report.specs.RefusalText.{cut_text, deregister_cause, full_text, refused_text, register_cause};
-ghost use Rattle.fish_report.specs.RefusalText.{scan_cause, too_long_text};
+ghost use Rattle.fish_report.specs.RefusalText.{deregister_cause, ingest_full_text, ingest_too_long_text, refused_text};
+ghost use Rattle.fish_report.specs.RefusalText.{register_cause, scan_cause, select_too_long_text};
 
 use crate::item::{DeregisterCause, RegisterCause, ScanCause};
 use crate::parts::file_name;
@@ -46,9 +46,13 @@ impl fmt::Display for DeregisterCause {
 }
 
 /// Puts the line of a file that is too long behind the others.
-#[tactic(auto, unfolding(crate::specs::RefusalText::too_long_text))]
-pub(crate) fn push_too_long(alloc: Global, text: &mut String, file: &Text) -> Result<(), AllocError>
-    ensures { OnOk result (string_bytes text.new ≡ string_bytes text.old ++ too_long_text file.now) }
+#[tactic(auto, unfolding(crate::specs::RefusalText::select_too_long_text))]
+pub(crate) fn push_select_too_long(
+    alloc: Global,
+    text: &mut String,
+    file: &Text,
+) -> Result<(), AllocError>
+    ensures { OnOk result (string_bytes text.new ≡ string_bytes text.old ++ select_too_long_text file.now) }
 {
     let file = file_name(alloc, file)?;
     write!(text, "refused select {} too long\n", file.as_str())
@@ -116,8 +120,8 @@ pub(crate) fn push_scan_refused(
 }
 
 /// Puts the first part of the line of a file for which the log is too full behind the others.
-#[tactic(auto, unfolding(crate::specs::RefusalText::full_text))]
-pub(crate) fn push_full(
+#[tactic(auto, unfolding(crate::specs::RefusalText::ingest_full_text))]
+pub(crate) fn push_ingest_full(
     alloc: Global,
     text: &mut String,
     file: &Text,
@@ -126,7 +130,7 @@ pub(crate) fn push_full(
     end: u64,
 ) -> Result<(), AllocError>
     ensures { OnOk result
-        (string_bytes text.new ≡ string_bytes text.old ++ full_text file.now line lines end) }
+        (string_bytes text.new ≡ string_bytes text.old ++ ingest_full_text file.now line lines end) }
 {
     let file = file_name(alloc, file)?;
     write!(
@@ -137,8 +141,8 @@ pub(crate) fn push_full(
 }
 
 /// Puts the line of a file that was not stored to its end, being too long, behind the others.
-#[tactic(auto, unfolding(crate::specs::RefusalText::cut_text, crate::specs::Parts::counts_text))]
-pub(crate) fn push_cut(
+#[tactic(auto, unfolding(crate::specs::RefusalText::ingest_too_long_text, crate::specs::Parts::counts_text))]
+pub(crate) fn push_ingest_too_long(
     alloc: Global,
     text: &mut String,
     file: &Text,
@@ -146,7 +150,7 @@ pub(crate) fn push_cut(
     refused: u32,
 ) -> Result<(), AllocError>
     ensures { OnOk result
-        (string_bytes text.new ≡ string_bytes text.old ++ cut_text file.now stored refused) }
+        (string_bytes text.new ≡ string_bytes text.old ++ ingest_too_long_text file.now stored refused) }
 {
     let file = file_name(alloc, file)?;
     let file = file.as_str();

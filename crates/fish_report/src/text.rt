@@ -6,8 +6,8 @@ ghost use Rattle.fish_report.specs.ReportText.{item_text, report_text};
 use crate::item::{Item, Report};
 use crate::parts::push_counts;
 use crate::refusals::{
-    push_cut, push_deregister_refused, push_full, push_register_refused, push_scan_refused,
-    push_too_long,
+    push_deregister_refused, push_ingest_full, push_ingest_too_long, push_register_refused,
+    push_scan_refused, push_select_too_long,
 };
 use crate::statements::{
     push_bound, push_count, push_deregistered, push_explain, push_found, push_ingested, push_lane,
@@ -37,7 +37,7 @@ pub fn push_item(alloc: Global, text: &mut String, item: &Item) -> Result<(), Al
             count,
             refused,
         } => push_select(text, rows, *count, *refused),
-        Item::SelectTooLong { file } => push_too_long(alloc, text, file),
+        Item::SelectTooLong { file } => push_select_too_long(alloc, text, file),
         Item::Created => text.push_str("created\n"),
         Item::Opened { count } => push_count(text, "opened", *count),
         Item::Statement { .. } => Ok(()),
@@ -88,14 +88,14 @@ pub fn push_item(alloc: Global, text: &mut String, item: &Item) -> Result<(), Al
             stored,
             refused,
         } => {
-            push_full(alloc, text, file, *line, *lines, *end)?;
+            push_ingest_full(alloc, text, file, *line, *lines, *end)?;
             push_counts(text, *stored, *refused)
         }
         Item::IngestTooLong {
             file,
             stored,
             refused,
-        } => push_cut(alloc, text, file, *stored, *refused),
+        } => push_ingest_too_long(alloc, text, file, *stored, *refused),
         Item::ScanRefused {
             name,
             version,
