@@ -17,6 +17,8 @@ mod hashes;
 #[cfg(test)]
 mod headers;
 #[cfg(test)]
+mod items;
+#[cfg(test)]
 mod json_lines;
 #[cfg(test)]
 mod json_payloads;
