@@ -16,7 +16,7 @@ select_too_long_text file = codes "refused select " ++ (file_text file ++ codes 
 -- why a definition was not registered: `rolling id I` or the limit that was met
 abbrev pub register_cause : RegisterCause → List ℕ
 register_cause (register.Rolling id) = codes "rolling id " ++ decimal id
-register_cause register.TooManyVersions = codes "too many versions 512"
+register_cause register.TooManyVersions = codes "too many versions " ++ decimal 512
 register_cause register.NameActive = codes "name active"
 register_cause register.TooManyActive = codes "too many active " ++ decimal most_active
 register_cause register.TooManyDefinitions = codes "too many definitions " ++ decimal most_rows
@@ -24,7 +24,7 @@ register_cause register.TooManyDefinitions = codes "too many definitions " ++ de
 -- why a definition was not deregistered
 abbrev pub deregister_cause : DeregisterCause → List ℕ
 deregister_cause (deregister.Rolling id) = codes "rolling id " ++ decimal id
-deregister_cause deregister.TooManyVersions = codes "too many versions 512"
+deregister_cause deregister.TooManyVersions = codes "too many versions " ++ decimal 512
 deregister_cause deregister.UnknownName = codes "unknown name"
 
 -- why a range was not scanned, or its plan not told: no definition has the name at this version, or the range

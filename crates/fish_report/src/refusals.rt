@@ -7,6 +7,7 @@ ghost use Rattle.fish_report.specs.RefusalText.{register_cause, scan_cause, sele
 use crate::item::{DeregisterCause, RegisterCause, ScanCause};
 use crate::parts::file_name;
 use fish_catalog::{MAX_ACTIVE, MAX_ROWS};
+use fish_layout::MAX_VERSION;
 use fish_value::Text;
 use std::alloc::{AllocError, Global};
 use std::fmt;
@@ -21,7 +22,7 @@ impl fmt::Display for RegisterCause {
     fn fmt<W: fmt::Write>(&self, f: &mut fmt::Formatter<W>) -> fmt::Result {
         match self {
             RegisterCause::Rolling { id } => write!(f, "rolling id {id}"),
-            RegisterCause::TooManyVersions => write!(f, "too many versions 512"),
+            RegisterCause::TooManyVersions => write!(f, "too many versions {MAX_VERSION}"),
             RegisterCause::NameActive => write!(f, "name active"),
             RegisterCause::TooManyActive => write!(f, "too many active {MAX_ACTIVE}"),
             RegisterCause::TooManyDefinitions => write!(f, "too many definitions {MAX_ROWS}"),
@@ -39,7 +40,7 @@ impl fmt::Display for DeregisterCause {
     fn fmt<W: fmt::Write>(&self, f: &mut fmt::Formatter<W>) -> fmt::Result {
         match self {
             DeregisterCause::Rolling { id } => write!(f, "rolling id {id}"),
-            DeregisterCause::TooManyVersions => write!(f, "too many versions 512"),
+            DeregisterCause::TooManyVersions => write!(f, "too many versions {MAX_VERSION}"),
             DeregisterCause::UnknownName => write!(f, "unknown name"),
         }
     }
