@@ -1,4 +1,5 @@
-//! The items of a report, flat in one list: a block by `lanes` is `Lanes`, for each lane `Lane` and its items, and `End`.
+//! The items of a report, flat in one list: a block by `lanes` is `Lanes`, for each lane `Lane` and its items,
+//! and `End`.
 //!
 //! A field that says so is kept beside what is printed, for what is claimed of a whole report. Numbers are those of
 //! records, and `to` is the first behind a range.
