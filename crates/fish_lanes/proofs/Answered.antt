@@ -1,8 +1,8 @@
 -- What a scan or a plan of one answers is told of the one log.
-use Rattle.std.proofs.Common.{◌≡◌, ◌≢◌, ℕ, ◌<◌, ◌≤◌, zero, suc, List, [], ◌∷◌, length, map, refl, sym, ap, ◌∙◌, subst, inl, inr}
-use Rattle.std.proofs.Common.{◌⊎◌, ⊎_elim, arith, Option, Some, None, Result, Ok, Err, slice_get, min}
+use Rattle.std.proofs.Common.{◌≡◌, ℕ, ◌<◌, ◌≤◌, zero, suc, List, [], ◌∷◌, length, map, refl, sym, ap, ◌∙◌, subst, inl, inr}
+use Rattle.std.proofs.Common.{◌⊎◌, ⊎_elim, arith, Option, Some, None, Result, Ok, Err, slice_get}
 use Rattle.std.specs.Prelude.{IfOk}
-use Rattle.std.proofs.Math.Decide.{dec_lt, ℕ_discrete}
+use Rattle.std.proofs.Math.Decide.{ℕ_discrete}
 use Rattle.std.proofs.lemmas.Option.{same_Some}
 use Rattle.fish_catalog.specs.declared.entry.Entry.{Entry}
 use Rattle.fish_catalog.specs.declared.entry.Entry.TheVariants as entry
@@ -12,11 +12,11 @@ use Rattle.fish_epoch.specs.Definitions.{rows_of, version_of}
 use Rattle.fish_epoch.specs.declared.definitions.Known.{Known}
 use Rattle.fish_lanes.proofs.Logs.{entry_at, entry_in, settled_within, within_log}
 use Rattle.fish_lanes.proofs.Publishing.{entry_finished, published_later, published_seen}
-use Rattle.fish_lanes.specs.Closing.{Claim, Sure}
+use Rattle.fish_lanes.specs.Closing.{Sure}
 use Rattle.fish_lanes.specs.Doing.{FitsExplained, FitsRefused, FitsScanned, IsPlannedAt, IsRefusedAt, IsScanned}
 use Rattle.fish_lanes.specs.Doing.{cause_of, explained_item, refusal_of, scanned_item}
 use Rattle.fish_lanes.specs.Published.{IsPublished}
-use Rattle.fish_lanes.specs.Scanning.{AreOpen, HasRows, HoldsSeen, IsAskedFor, IsAskedRange, IsRefusedFor, Means, TellsPlan}
+use Rattle.fish_lanes.specs.Scanning.{AreOpen, HasRows, HoldsSeen, IsAskedFor, IsAskedRange, IsRefusedFor, TellsPlan}
 use Rattle.fish_lanes.specs.Scanning.{TellsScan, selected}
 use Rattle.fish_plan.proofs.Inside.{full_is_plan, piece_within}
 use Rattle.fish_plan.specs.Pieces.{Fill, one_full}
@@ -37,15 +37,14 @@ use Rattle.fish_rule.specs.Parts.{IsEntryWord}
 use Rattle.fish_rule.specs.Regions.{code}
 use Rattle.fish_rule.specs.Registry.{KnowsDefinitions}
 use Rattle.fish_rule.specs.Views.{Among}
-use Rattle.fish_rule.specs.World.{World, high}
+use Rattle.fish_rule.specs.World.{high}
 use Rattle.fish_rule.specs.declared.close.Remains.{Remains}
-use Rattle.fish_rule.specs.declared.view.Key.{Key}
 use Rattle.fish_rule.specs.declared.view.Kind.TheVariants.{Mark}
 use Rattle.fish_rule.specs.declared.view.View.{View}
 use Rattle.fish_scan.proofs.Selecting.{finds_selection}
 use Rattle.fish_scan.specs.Laws.{IsSpelled}
 use Rattle.fish_scan.specs.Matching.{Finds}
-use Rattle.fish_scan.specs.Reach.{IsRange, WasOpen, end_of}
+use Rattle.fish_scan.specs.Reach.{IsRange, end_of}
 use Rattle.fish_scan.specs.Scans.{IsAnswer, IsExplained, IsNamed, IsPlan, IsRefused, IsUncovered, first_asked}
 use Rattle.fish_scan.specs.declared.ask.Answer.{Answer}
 use Rattle.fish_scan.specs.declared.ask.Ask.{Ask}
@@ -152,7 +151,7 @@ module _ (v u x : View) (ask : Ask) (from to : ℕ) (opens : List ℕ) (range : 
       pick n above below past (yes m) = m
       pick n above below past (no none) =
           let word = always_closed u x (λ k w. IsEntryWord (w.dir n)) remains learns c
-              (range.others (omega arith) n above below none) in
+          (range.others (omega arith) n above below none) in
           let less = within_log x.about c.moment c.rule remains.log base c.log n word in absurd (omega arith)
 
   -- in the moment of the close the entries are what the words spell

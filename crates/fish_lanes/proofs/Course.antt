@@ -1,25 +1,22 @@
 -- A block from its start to its end, put together.
-use Rattle.std.proofs.Common.{◌≡◌, ◌≢◌, ℕ, ◌+◌, ◌<◌, ◌≤◌, zero, suc, List, [], ◌∷◌, ◌++◌, length, get_or, refl, sym, ap, ◌∙◌, subst, inl, inr, ◌⊎◌, ⊎_elim, arith, Some, None, slice_get}
-use Rattle.std.specs.Prelude.{slice_index_or}
+use Rattle.std.proofs.Common.{◌≡◌, ◌≢◌, ℕ, ◌+◌, ◌<◌, ◌≤◌, zero, suc, List, [], ◌∷◌, length, refl, sym, ap, ◌∙◌, subst, inl, inr, ◌⊎◌, ⊎_elim, arith, Some, slice_get}
 use Rattle.std.proofs.Math.Decide.{ℕ_discrete, dec_lt}
 use Rattle.std.proofs.lemmas.Option.{get_or_from_slice_get, slice_get_within}
-use Rattle.fish_catalog.specs.declared.entry.Entry.{Entry}
 use Rattle.fish_lanes.proofs.Lanes.{done_back, none_out}
 use Rattle.fish_lanes.proofs.Gaining.{marks_same}
 use Rattle.fish_lanes.proofs.Lists.{some_once}
 use Rattle.fish_lanes.proofs.RowLists.{has_above, owned_number, told_later}
-use Rattle.fish_lanes.proofs.Surely.{later_both, own_before, sure_later, sure_will, will_rows}
-use Rattle.fish_lanes.specs.Blocks.{AreDone, AreEnded, AreJoined, AreKept, AreSeated, HasGiven, HasRunFirst, HasTakenAll, IsBack, IsMarkItem, IsOfLane, IsSeated, IsShutOfLane, NameMarks, TellsFirst, TellsOthers, WasTaken, WereTaken}
+use Rattle.fish_lanes.proofs.Surely.{own_before, sure_later, will_rows}
+use Rattle.fish_lanes.specs.Blocks.{AreDone, AreEnded, AreJoined, AreKept, AreSeated, HasGiven, HasRunFirst, HasTakenAll, IsMarkItem, IsOfLane, IsSeated, IsShutOfLane, NameMarks, TellsFirst, TellsOthers, WereTaken}
 use Rattle.fish_lanes.specs.Closing.{Later, Sure, Will}
 use Rattle.fish_lanes.specs.Ending.{HasEnd}
-use Rattle.fish_lanes.specs.Gains.{AreTold, Gains, IsMarkAt, IsShutTold}
+use Rattle.fish_lanes.specs.Gains.{AreTold, IsMarkAt, IsShutTold}
 use Rattle.fish_lanes.specs.Records.{Ascends, HasNumber, LaneRow, owned, rows_of_lane}
-use Rattle.fish_lanes.specs.Running.{HasDone, HasRun, IsEnded, IsFullItem}
+use Rattle.fish_lanes.specs.Running.{HasDone, IsEnded, IsFullItem}
 use Rattle.fish_lanes.specs.Telling.{TellsLane}
 use Rattle.fish_lanes.specs.declared.lane.Lane.{Lane}
 use Rattle.fish_lanes.specs.declared.lane.Seated.{Seated}
 use Rattle.fish_report.specs.declared.item.Item.{Item}
-use Rattle.fish_report.specs.declared.item.Item.TheVariants as item
 use Rattle.fish_lanes.specs.declared.work.LaneFault.{LaneFault}
 use Rattle.fish_lanes.specs.declared.work.Work.{Work}
 use Rattle.fish_rule.proofs.Bodies.{code_once, mark-past}
@@ -27,7 +24,6 @@ use Rattle.fish_rule.proofs.Bounds.{starts_rise}
 use Rattle.fish_rule.proofs.Kept.{published}
 use Rattle.fish_rule.specs.Regions.{code, kind_of}
 use Rattle.fish_rule.specs.declared.view.Kind.TheVariants.{Mark}
-use Rattle.fish_rule.proofs.Closing.{alone_later}
 use Rattle.fish_rule.proofs.Common.{among_either}
 use Rattle.fish_rule.proofs.Extending.{learns_both, learns_self}
 use Rattle.fish_rule.specs.Logs.{Learns, TellsMark}
@@ -130,7 +126,7 @@ few_behind t to s h =
         let is : kind_of t.about.end (r.start to) (r.start (suc to)) ≡ Mark = code_once _ Mark (sym f.kind ∙ mark) in
         let past = mark-past t.about.end (r.start to) (r.start (suc to)) is in
         let up = starts_rise t.about s.moment.count s.moment.line r.start r.space.regions (suc to) r.limit.first (omega arith)
-            (omega arith) (omega arith) in
+        (omega arith) (omega arith) in
         let fits = r.limit.fits in
         absurd (omega arith)
 
@@ -276,7 +272,7 @@ module _ (log : Log) (v m w : View) (first first' : Lane) (before given done aft
             let p = way q.place q.lane q.lane_is in
             let same : q.seat ≡ p.run_of.after = some_once q.seat p.run_of.after (sym q.seat_is ∙ p.run_of.after_is) in
             let learns : Learns (view q.seat.pass) t = learns_both (view q.seat.pass) u t
-                (taken.learned q.place q.lane q.seat q.below q.lane_is q.seat_is) settles.learns in
+            (taken.learned q.place q.lane q.seat q.below q.lane_is q.seat_is) settles.learns in
             always_later (view q.seat.pass) t (IsMarkAt s.line s.lines) learns
             (subst (λ (z : Seated). IsShutTold (view z.pass)) (sym same) (way_marks q.place q.lane p known) s q.shut_is)
 
@@ -304,7 +300,7 @@ module _ (log : Log) (v m w : View) (first first' : Lane) (before given done aft
         let w' = were i z.0 y z.1 at in
         let s = p.run_of.after in
         let back : Learns (view s.pass) t = learns_both (view s.pass) u t
-            (taken.learned i z.0 s (omega arith) z.1 p.run_of.after_is) settles.learns in
+        (taken.learned i z.0 s (omega arith) z.1 p.run_of.after_is) settles.learns in
         subst (AllOf (IsMarkItem t)) (sym w'.items)
         (marks_items (view s.pass) z.0.items back (way_marks i z.0 p known) p.run_of.run.full)
 
@@ -352,7 +348,7 @@ module _ (log : Log) (v m w : View) (first first' : Lane) (before given done aft
             (λ (k : HasNumber o.number p.run_of.run.rows × (o.lane ≡ q.place + 2)).
             let up = has_above o.number _ _ p.run_of.run.rows p.run_of.run.gains.ascends k.0 in
             let same : (view p.run_of.before.pass).learned.count ≡ v.learned.count =
-                ap (λ (z : Learned). z.count) (way_learned q.place q.lane p) in
+            ap (λ (z : Learned). z.count) (way_learned q.place q.lane p) in
             inr (omega arith)) (lane_cases q.place q.lane p q.seat o q.seat_is q.among)
 
     -- what a lane's items tell of its rows they tell of the rows that the log has of it
@@ -364,8 +360,8 @@ module _ (log : Log) (v m w : View) (first first' : Lane) (before given done aft
         → Will t (λ y l. TellsLane y from l (rows_of_lane l from to number) works items)
     tells_rows x s number from rows works items learns some_ few within counted up told all sure y remains base main none later c =
         let exact : rows_of_lane remains.log from to number ≡ rows =
-            will_rows t number from to v.learned.count s.learned.count rows stands has_end some_ few within counted
-            (told_later s t number rows learns told) up all y remains base main none later c in
+        will_rows t number from to v.learned.count s.learned.count rows stands has_end some_ few within counted
+        (told_later s t number rows learns told) up all y remains base main none later c in
         subst (λ (z : List LaneRow). TellsLane y from remains.log z works items) (sym exact)
         (sure_later s t (λ y l. TellsLane y from l rows works items) learns sure y remains base later.learns c)
 
@@ -429,12 +425,12 @@ module _ (log : Log) (v m w : View) (first first' : Lane) (before given done aft
           let w' = were i z.0 y z.1 at in
           let lane = way_lane i z.0 p in
           let same : (view p.run_of.before.pass).learned.count ≡ v.learned.count =
-              ap (λ (x : Learned). x.count) (way_learned i z.0 p) in
+          ap (λ (x : Learned). x.count) (way_learned i z.0 p) in
           let settled_same : (view p.run_of.before.pass).learned.settled ≡ v.learned.settled =
-              ap (λ (x : Learned). x.settled) (way_learned i z.0 p) in
+          ap (λ (x : Learned). x.settled) (way_learned i z.0 p) in
           let a = start.settled in
           let back : Learns (view s.pass) t = learns_both (view s.pass) u t
-              (taken.learned i z.0 s (omega arith) z.1 p.run_of.after_is) settles.learns in
+          (taken.learned i z.0 s (omega arith) z.1 p.run_of.after_is) settles.learns in
           subst (λ (q : List Work × List Item). TellsLane x from remains.log (rows_of_lane remains.log from to (i + 2)) q.0 q.1)
           (λ j. ((sym p.run_of.works ∙ sym w'.works) j, sym w'.items j))
           (tells_rows v (view s.pass) (i + 2) from p.run_of.run.rows p.mid.works z.0.items back (omega arith) (omega arith)

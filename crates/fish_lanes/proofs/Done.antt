@@ -1,6 +1,6 @@
 -- The statements so far, and one more.
-use Rattle.std.proofs.Common.{◌≡◌, ◌≢◌, ℕ, ◌+◌, ◌<◌, ◌≤◌, zero, suc, List, [], ◌∷◌, ◌++◌, length, take, drop, get_or, refl, sym, ap, ◌∙◌, subst, inl, inr, ◌⊎◌, ⊎_elim, arith}
-use Rattle.std.proofs.Common.{Result, Ok, Err, Some, None, append-nil, length-append}
+use Rattle.std.proofs.Common.{◌≡◌, ℕ, ◌+◌, ◌<◌, ◌≤◌, zero, suc, List, [], ◌∷◌, ◌++◌, length, take, drop, get_or, refl, sym, ap, ◌∙◌, subst, inl, inr, ◌⊎◌, ⊎_elim, arith}
+use Rattle.std.proofs.Common.{Result, Ok, Err, None, length-append}
 use Rattle.std.specs.Prelude.{IfErr, IfOk}
 use Rattle.fish_lanes.proofs.Answered.{plan_told, range_published, refused_told, scan_told}
 use Rattle.fish_lanes.proofs.Gaining.{full_later, gains_both, gains_scans, gains_self}
@@ -9,17 +9,16 @@ use Rattle.fish_lanes.proofs.Publishing.{published_later, settled_published, tol
 use Rattle.fish_lanes.proofs.RowLists.{ascends_le}
 use Rattle.fish_lanes.proofs.Surely.{sure_later, sure_settled}
 use Rattle.fish_lanes.specs.Closing.{Sure}
-use Rattle.fish_lanes.specs.Doing.{FitsCheckpoint, FitsExplained, FitsFull, FitsRefused, FitsScanned, GainsFirst, IsFit, IsItem, IsPart}
+use Rattle.fish_lanes.specs.Doing.{FitsCheckpoint, FitsScanned, GainsFirst, IsFit, IsItem, IsPart}
 use Rattle.fish_lanes.specs.Gains.{AreTold, Gains, KeepsShut}
 use Rattle.fish_lanes.specs.Published.{IsPublished}
 use Rattle.fish_lanes.specs.Records.{Ascends, HasNumber, LaneRow, contents, entry_of}
 use Rattle.fish_lanes.specs.Running.{HasRun, IsFullItem}
 use Rattle.fish_lanes.specs.Seen.{IsSeen, IsShown, Shown, range, settled, shown_by}
-use Rattle.fish_lanes.specs.Telling.{TellsItem, TellsStored, TellsTooLong, content_of, count_of}
+use Rattle.fish_lanes.specs.Telling.{TellsItem, content_of, count_of}
 use Rattle.fish_lanes.specs.declared.work.LaneFault.TheVariants as fault
 use Rattle.fish_lanes.specs.declared.work.Work.{Work}
 use Rattle.fish_lanes.specs.declared.work.Work.TheVariants as work
-use Rattle.fish_lines.specs.File.{outcomes}
 use Rattle.fish_report.specs.declared.item.Item.{Item}
 use Rattle.fish_report.specs.declared.item.Item.TheVariants as item
 use Rattle.fish_rule.proofs.Common.{among_either, among_left, among_right}

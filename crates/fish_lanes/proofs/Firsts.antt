@@ -1,9 +1,8 @@
 -- The first lane of a block, and the others.
-use Rattle.std.proofs.Common.{◌≡◌, ℕ, ◌+◌, ◌<◌, ◌≤◌, zero, suc, List, [], ◌∷◌, ◌++◌, length, get_or, set, take, drop, refl, sym, ap, ◌∙◌, subst, arith, Some, slice_get}
+use Rattle.std.proofs.Common.{◌≡◌, ℕ, ◌+◌, zero, suc, List, [], ◌∷◌, ◌++◌, get_or, set, take, drop, refl, subst, arith, Some, slice_get}
 use Rattle.fish_catalog.specs.declared.entry.Entry.{Entry}
-use Rattle.fish_lanes.proofs.Exact.{get_drop}
 use Rattle.fish_lanes.proofs.Lists.{some_once}
-use Rattle.fish_lanes.specs.Blocks.{AreEnded, AreLanes, CanGive, IsMarkItem, IsNewLane, NameMarks, TellsBlock, TellsFirst, TellsOthers}
+use Rattle.fish_lanes.specs.Blocks.{AreEnded, AreLanes, CanGive, IsMarkItem, IsNewLane, NameMarks, TellsFirst, TellsOthers}
 use Rattle.fish_lanes.specs.Ending.{HasEnd}
 use Rattle.fish_lanes.specs.Records.{rows_of_lane}
 use Rattle.fish_lanes.specs.Running.{IsEnded}

@@ -1,6 +1,6 @@
 -- What a pass gains by one statement after the other.
 use Rattle.std.proofs.Common.{◌≡◌, ℕ, ◌<◌, ◌≤◌, suc, List, [], ◌∷◌, ◌++◌, refl, sym, ap, ◌∙◌, subst, inl, inr, Some, None, arith}
-use Rattle.std.proofs.Common.{append_assoc, append-nil, length, map}
+use Rattle.std.proofs.Common.{append_assoc, append-nil}
 use Rattle.fish_ingest.specs.Passing.{HasMark, OnlyIngests}
 use Rattle.fish_ingest.specs.Refusal.{HasLeft, HasRefused, IsShutFor}
 use Rattle.fish_ingest.specs.declared.refusal.IngestRefusal.{IngestRefusal}
@@ -8,7 +8,7 @@ use Rattle.fish_ingest.specs.declared.refusal.IngestRefusal.TheVariants as refus
 use Rattle.fish_ingest.specs.Ingestion.{CanStart, HasIngested}
 use Rattle.fish_lanes.proofs.RowLists.{ascends_append, owned_append, told_append, told_later}
 use Rattle.fish_lanes.specs.Gains.{AreTold, Gains, IsFullBy, IsMarkAt, IsShutTold, KeepsLane, KeepsShut}
-use Rattle.fish_lanes.specs.Records.{Ascends, LaneRow, owned}
+use Rattle.fish_lanes.specs.Records.{LaneRow, owned}
 use Rattle.fish_rule.specs.declared.view.Epoch.TheVariants.{Out}
 use Rattle.fish_rule.specs.declared.view.Own.{Own}
 use Rattle.std.proofs.Math.Decide.{dec_lt}
@@ -184,13 +184,13 @@ same_lines t line a b s one two =
         → Dec (n < m) → Dec (m < n) → a ≡ b
     by n m f g (yes less) d =
         let up = starts_rise t.about s.moment.count s.moment.line s.rule.start s.rule.space.regions n m f.above (omega arith)
-            (let x = g.below in omega arith) in
+        (let x = g.below in omega arith) in
         let x = f.line in
         let y = g.line in
         absurd (omega arith)
     by n m f g (no not_less) (yes less) =
         let up = starts_rise t.about s.moment.count s.moment.line s.rule.start s.rule.space.regions m n g.above (omega arith)
-            (let x = f.below in omega arith) in
+        (let x = f.below in omega arith) in
         let x = f.line in
         let y = g.line in
         absurd (omega arith)
@@ -207,7 +207,7 @@ pub full_by : (u : View) (line lines end : ℕ) → Stands u → u.shut ≡ Some
 full_by u line lines end s is =
     let r = s.rule in
     let ok : IsShut u.about s.moment.count s.moment.dir r.start (record { line = line; lines = lines; end = end }) =
-        subst (ShutOk u.about s.moment.count s.moment.dir r.start) is (r.shuts s.seat u s.at) in
+    subst (ShutOk u.about s.moment.count s.moment.dir r.start) is (r.shuts s.seat u s.at) in
     let past = ok.past in
     let same = ok.end in
     record { shut = is; end_is = ok.end; past = omega arith }

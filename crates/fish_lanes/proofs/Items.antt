@@ -1,9 +1,8 @@
 -- One statement more.
-use Rattle.std.proofs.Common.{◌≡◌, ℕ, ◌<◌, ◌≤◌, suc, List, [], ◌∷◌, ◌++◌, refl, sym, ap, ◌∙◌, subst, inl, inr, ◌⊎◌, ⊎_elim, arith}
-use Rattle.std.proofs.Common.{append_assoc, append-nil, length, take}
+use Rattle.std.proofs.Common.{◌≡◌, ℕ, List, [], ◌∷◌, ◌++◌, refl, sym, ap, ◌∙◌, subst}
+use Rattle.std.proofs.Common.{append_assoc, append-nil, take}
 use Rattle.fish_catalog.specs.declared.entry.Entry.{Entry}
-use Rattle.fish_lanes.proofs.RowLists.{contents_append}
-use Rattle.fish_lanes.specs.Records.{Content, LaneRow, contents}
+use Rattle.fish_lanes.specs.Records.{LaneRow, contents}
 use Rattle.fish_lanes.specs.Seen.{Shown, shown_by}
 use Rattle.fish_lanes.specs.Telling.{TellsItem, TellsItems, content_of, count_of}
 use Rattle.fish_lanes.specs.declared.work.Work.{Work}
@@ -65,9 +64,14 @@ pub tells_ended : (v : View) (from : ℕ) (log : List Entry) (before : List Lane
 tells_ended v from log before shown rows [] [] h = h
 tells_ended v from log before shown rows [] (x ∷ items) h = elim h [ ]
 tells_ended v from log before shown rows (w ∷ works) [] h = elim h [ ]
-tells_ended v from log before shown rows (w ∷ works) (x ∷ items) (mine, rest, parts, mine_is, here, there) =
-    (mine, rest, parts, mine_is, here,
-    tells_ended v from log (before ++ mine) (shown ++ shown_by x) rest works items there)
+tells_ended v from log before shown rows (w ∷ works) (x ∷ items) (mine, rest, parts, mine_is, here, there) = (
+  mine,
+  rest,
+  parts,
+  mine_is,
+  here,
+  tells_ended v from log (before ++ mine) (shown ++ shown_by x) rest works items there,
+)
 
 -- with a part of the next statement it was cut
 pub tells_cut : (v : View) (from : ℕ) (log : List Entry) (before : List LaneRow) (shown : List Shown) (rows more : List LaneRow)

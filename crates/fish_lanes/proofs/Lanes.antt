@@ -1,12 +1,10 @@
 -- The lanes of a block, one after the other.
-use Rattle.std.proofs.Common.{◌≡◌, ◌≢◌, ℕ, ◌+◌, ◌<◌, ◌≤◌, zero, suc, List, [], ◌∷◌, ◌++◌, length, refl, sym, ap, ◌∙◌, subst, inl, inr, ◌⊎◌, ⊎_elim, arith, Option, Some, None, slice_get}
+use Rattle.std.proofs.Common.{◌≡◌, ℕ, ◌+◌, ◌<◌, ◌≤◌, List, [], ◌∷◌, ◌++◌, length, refl, sym, ap, ◌∙◌, subst, inl, inr, ◌⊎◌, ⊎_elim, arith, Option, Some, None, slice_get}
 use Rattle.std.proofs.Math.Decide.{ℕ_discrete, dec_lt}
-use Rattle.fish_ingest.proofs.IngestionStart.{idle_law}
 use Rattle.fish_ingest.specs.Ingestion.{CanStart}
-use Rattle.fish_lanes.proofs.Gaining.{gains_start}
 use Rattle.fish_lanes.proofs.Lists.{empty_list, some_once}
 use Rattle.fish_lanes.specs.Blocks.{AreJoined, CanGive, CanTake, HasGiven, HasSeat, HasTakenAll, HasTakenSeat, IsBack, IsNewLane, IsOfLane, IsSeated, IsShutOfLane}
-use Rattle.fish_lanes.specs.Running.{CanBegin, HasDone, HasRun, IsReady}
+use Rattle.fish_lanes.specs.Running.{CanBegin, HasDone, IsReady}
 use Rattle.fish_lanes.specs.declared.lane.Lane.{Lane}
 use Rattle.fish_lanes.specs.declared.lane.Seated.{Seated}
 use Rattle.fish_rule.proofs.Common.{among_either}
@@ -14,11 +12,10 @@ use Rattle.fish_rule.proofs.Extending.{learns_both, learns_self}
 use Rattle.fish_rule.proofs.Lanes.{of_lane_sound, off_lane_sound, without_complete, without_sound}
 use Rattle.fish_rule.specs.Logs.{Learns}
 use Rattle.fish_rule.specs.Passes.{view}
-use Rattle.fish_rule.specs.Seating.{CanJoin, CanSplit, first_shut, of_lane, off_lane, split_left, split_right, without}
+use Rattle.fish_rule.specs.Seating.{CanSplit, first_shut, split_left, split_right, without}
 use Rattle.fish_rule.specs.Views.{Among}
 use Rattle.fish_rule.specs.declared.table.Log.{Log}
 use Rattle.fish_rule.specs.declared.view.Key.{Key}
-use Rattle.fish_rule.specs.declared.view.Own.{Own}
 use Rattle.fish_rule.specs.declared.view.Shut.{Shut}
 use Rattle.fish_rule.specs.declared.view.View.{View}
 

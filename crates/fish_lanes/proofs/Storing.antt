@@ -1,5 +1,5 @@
 -- The lines of a file, stored one after the other.
-use Rattle.std.proofs.Common.{◌≡◌, ℕ, ◌+◌, ◌<◌, ◌≤◌, suc, List, [], ◌∷◌, ◌++◌, length, map, take, refl, sym, ap, ◌∙◌, subst, inl, inr, ◌⊎◌, ⊎_elim, arith}
+use Rattle.std.proofs.Common.{◌≡◌, ℕ, ◌+◌, ◌<◌, ◌≤◌, List, [], ◌∷◌, ◌++◌, length, map, take, refl, sym, ap, ◌∙◌, subst, inl, inr, arith}
 use Rattle.std.proofs.Common.{append_assoc, append-nil, length-append, Option, Some, None, true, false, Bool}
 use Rattle.std.specs.Prelude.{is_some, option_map, if◌then◌else◌}
 use Rattle.std.proofs.lemmas.List.Sums.{sum_by-append}
@@ -8,9 +8,8 @@ use Rattle.fish_csv.specs.Left.{left as rows_left}
 use Rattle.fish_csv.specs.Reading.{row_of, rows_in}
 use Rattle.fish_csv.specs.Rows as csv
 use Rattle.fish_csv.specs.declared.file.RowTexts.{RowTexts}
-use Rattle.fish_ingest.proofs.IngestionAfter.{starts_again, starts_refused}
 use Rattle.fish_ingest.specs.Ingestion.{CanStart, HasIngested}
-use Rattle.fish_ingest.specs.Refusal.{HasNotClaimed, IsFull}
+use Rattle.fish_ingest.specs.Refusal.{HasNotClaimed}
 use Rattle.fish_ingest.specs.declared.refusal.IngestRefusal.TheVariants as refusal
 use Rattle.fish_json.specs.Lines as json
 use Rattle.fish_json.specs.Reading.{record_of}
@@ -18,7 +17,7 @@ use Rattle.fish_lanes.proofs.Gaining.{full_by, gains_both, gains_left, gains_one
 use Rattle.fish_lanes.proofs.RowLists.{contents_append}
 use Rattle.fish_lanes.specs.Doing.{GainsFirst, IsItem, IsPart}
 use Rattle.fish_lanes.specs.Gains.{Gains}
-use Rattle.fish_lanes.specs.Records.{Content, LaneRow, contents}
+use Rattle.fish_lanes.specs.Records.{Content, contents}
 use Rattle.fish_lanes.specs.Storing.{EndsWith, FindsFull, IsFullAt, IsPartStored, IsStoredUpTo, TakesLine}
 use Rattle.fish_lanes.specs.Storing.{item_of, nothing, one_refused, one_stored}
 use Rattle.fish_lanes.specs.Telling.{AreCounted, all_of}

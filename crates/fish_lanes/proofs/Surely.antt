@@ -1,7 +1,6 @@
 -- From what a pass knows to what the closed log shows.
-use Rattle.std.proofs.Common.{◌≡◌, ◌≢◌, ℕ, ◌+◌, ◌-◌, ◌<◌, ◌≤◌, zero, suc, List, [], ◌∷◌, length, refl, sym, ap, ◌∙◌, subst, inl, inr, ◌⊎◌, ⊎_elim, arith}
-use Rattle.std.proofs.Common.{Some, None, slice_get}
-use Rattle.std.proofs.Math.Decide.{dec_lt}
+use Rattle.std.proofs.Common.{◌≡◌, ℕ, ◌<◌, ◌≤◌, suc, List, [], ◌∷◌, length, refl, subst, inl, inr, ◌⊎◌, ⊎_elim, arith}
+use Rattle.std.proofs.Common.{Some, slice_get}
 use Rattle.fish_catalog.specs.declared.entry.Entry.{Entry}
 use Rattle.fish_catalog.specs.declared.entry.Entry.TheVariants as entry
 use Rattle.fish_lanes.proofs.Exact.{StandAt, rows_exact}
@@ -13,23 +12,17 @@ use Rattle.fish_lanes.specs.Records.{Ascends, HasNumber, LaneRow, entry_of, rows
 use Rattle.fish_rule.proofs.ClosedLogs.{always_closed, before_mark, claimed, entry_word, stored_by}
 use Rattle.fish_rule.proofs.Extending.{learns_both, learns_self}
 use Rattle.fish_rule.proofs.Kept.{published}
-use Rattle.fish_rule.specs.Facts.{IsStoredBy}
 use Rattle.fish_rule.specs.Logs.{IsEntry, Learns, Tells, TellsMark}
 use Rattle.fish_rule.specs.Closing.{IsClosed}
 use Rattle.fish_rule.specs.declared.close.Remains.{Remains}
-use Rattle.fish_rule.specs.Parts.{IsEntryWord, Rests}
+use Rattle.fish_rule.specs.Parts.{Rests}
 use Rattle.fish_rule.specs.Regions.{code}
-use Rattle.fish_rule.specs.Rule.{Rule}
 use Rattle.fish_rule.specs.Table.{Stands}
 use Rattle.fish_rule.specs.Views.{Among, Has}
-use Rattle.fish_rule.specs.Walking.{Always}
 use Rattle.fish_rule.specs.World.{World, high, low}
-use Rattle.fish_rule.specs.declared.view.Key.{Key}
 use Rattle.fish_rule.specs.declared.view.Kind.TheVariants.{Mark, Stored}
 use Rattle.fish_rule.specs.declared.view.Own.{Own}
 use Rattle.fish_rule.specs.declared.view.View.{View}
-use Rattle.fish_value.specs.declared.field.Form.{Form}
-use Rattle.fish_walk.specs.Settling.{EndsAt, HasTail}
 
 -- ---- what is sure stays sure
 
@@ -70,9 +63,10 @@ pub sure_rows : (v : View) (lane : ℕ) (from to : ℕ) (rows : List LaneRow) �
     → u.about.number ≡ 0 → Learns v u → IsClosed u remains → (within : from ≤ to) (inside : to ≤ length remains.log)
     → StandAt remains.log from to lane within inside rows
 sure_rows v lane from to [] told u remains base learns c within inside = tt
-sure_rows v lane from to (r ∷ rows) told u remains base learns c within inside =
-    (sure_entry v r.number (entry_of lane r) told.0 u remains base learns c,
-    sure_rows v lane from to rows told.1 u remains base learns c within inside)
+sure_rows v lane from to (r ∷ rows) told u remains base learns c within inside = (
+  sure_entry v r.number (entry_of lane r) told.0 u remains base learns c,
+  sure_rows v lane from to rows told.1 u remains base learns c within inside,
+)
 
 -- ---- the length
 
@@ -120,8 +114,10 @@ own_before v to o s h m =
     ⊎_elim (λ (e : to ≡ h.count). omega arith)
     (λ (m : (to < h.count) × TellsMark v to).
     before_mark v.about w r to o.number (omega arith) (m.1 v (learns_self v) w r s.seat s.at)
-    (record { published = published (w.dir o.number) Stored by.stored;
-      unmarked = λ bad. let st = by.stored in omega arith })) h.ends
+    (record {
+      published = published (w.dir o.number) Stored by.stored;
+      unmarked = λ bad. let st = by.stored in omega arith;
+    })) h.ends
 
 -- an entry that is told and counted lies before it
 pub told_before : (v : View) (to n : ℕ) (e : Entry) → Stands v → HasEnd v to → Tells v n e → n < to

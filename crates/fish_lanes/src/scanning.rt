@@ -104,12 +104,7 @@ fn scanned(alloc: Global, ask: &Ask, answer: Answer, version: u16) -> Result<Ite
 }
 
 /// The item of a plan.
-fn planned(
-    alloc: Global,
-    ask: &Ask,
-    explained: Explained,
-    version: u16,
-) -> Result<Item, AllocError>
+fn planned(alloc: Global, ask: &Ask, explained: Explained, version: u16) -> Result<Item, AllocError>
     ensures { IfOk result (λ x. x ≡ explained_item ask.now explained version) }
 {
     let (name, value) = match asked(alloc, ask) {
@@ -140,11 +135,7 @@ fn asked(alloc: Global, ask: &Ask) -> Result<(Text, Value), AllocError>
 }
 
 /// A copy of the name that is asked for, and why the scan was refused, but for want of memory.
-fn refused(
-    alloc: Global,
-    ask: &Ask,
-    refusal: ScanRefusal,
-) -> Result<(Text, ScanCause), AllocError>
+fn refused(alloc: Global, ask: &Ask, refusal: ScanRefusal) -> Result<(Text, ScanCause), AllocError>
     ensures { IfOk result (λ refused. (refused.0 ≡ ask.now.name) × (cause_of refusal ≡ Some refused.1)) }
 {
     let Some(cause) = cause_of(refusal) else {
@@ -182,15 +173,7 @@ fn scan_counted(
     ensures answer { IfOk result (IsAnswer (view pass.old) (view pass.new) defs.new.known ask.now) }
     ensures refused { IfErr result (IsRefused (view pass.old) (view pass.new) defs.new.known ask.now) }
 {
-    scan_with::<Brand, Brand>(
-        alloc,
-        Blank::new(1),
-        Blank::new(1),
-        log,
-        pass,
-        defs,
-        ask,
-    )
+    scan_with::<Brand, Brand>(alloc, Blank::new(1), Blank::new(1), log, pass, defs, ask)
 }
 
 /// The same with counters of two blanks.

@@ -1,5 +1,5 @@
 -- A pass that was split off, with definitions of which nothing was read.
-use Rattle.std.proofs.Common.{◌≡◌, refl, sym, ◌∙◌, true, false}
+use Rattle.std.proofs.Common.{refl}
 use Rattle.fish_lanes.proofs.block.give.Goals as goal
 
 pub returns-clause-seat : goal.returns-clause-seat

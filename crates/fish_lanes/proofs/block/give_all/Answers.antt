@@ -1,10 +1,10 @@
 -- One lane more has its pass.
-use Rattle.std.proofs.Common.{◌≡◌, ◌≢◌, ℕ, ◌+◌, ◌<◌, ◌≤◌, List, Some, slice_get, get_or, set, length, refl, sym, ap, ◌∙◌, subst, arith}
+use Rattle.std.proofs.Common.{◌≡◌, ℕ, ◌+◌, ◌<◌, List, Some, slice_get, set, length, refl, sym, ap, ◌∙◌, subst, arith}
 use Rattle.std.proofs.Math.Decide.{ℕ_discrete}
 use Rattle.std.proofs.lemmas.Option.{slice_get_within}
 use Rattle.fish_lanes.proofs.Lanes.{can_split, given_more, given_none, seated_by}
 use Rattle.fish_lanes.proofs.Lists.{get_set_else, get_set_here, read_at, some_once}
-use Rattle.fish_lanes.specs.Blocks.{CanGive, HasGiven, HasSeat, IsSeated}
+use Rattle.fish_lanes.specs.Blocks.{HasGiven, HasSeat, IsSeated}
 use Rattle.fish_lanes.specs.declared.lane.Lane.{Lane}
 use Rattle.fish_rule.specs.Passes.{view}
 use Rattle.fish_rule.specs.Seating.{CanSplit, split_left, split_right}
@@ -61,10 +61,10 @@ loop-i-preserved c =
     let at_fn : slice_get c.args.lanes.now i ≡ Some r = sym (inv.rest i (omega arith)) ∙ at in
     let new = c.requires.can.new i r at_fn in
     let seat : HasSeat c.args.log.now (split_right r.number m) r c.give.new.lane =
-        subst (λ (z : Lane). HasSeat c.args.log.now (split_right z.number m) z c.give.new.lane) (sym c.index-lanes-i.is)
-        c.give.ensures.seat in
+    subst (λ (z : Lane). HasSeat c.args.log.now (split_right z.number m) z c.give.new.lane) (sym c.index-lanes-i.is)
+    c.give.ensures.seat in
     let left : view c.give.new.main ≡ split_left r.number m =
-        subst (λ (z : Lane). view c.give.new.main ≡ split_left z.number m) (sym c.index-lanes-i.is) c.give.ensures.left in
+    subst (λ (z : Lane). view c.give.new.main ≡ split_left z.number m) (sym c.index-lanes-i.is) c.give.ensures.left in
     record {
       of = c.give.ensures.pass;
       given = given_more v m (view c.give.new.main) i r.number new.number_is inv.given left;

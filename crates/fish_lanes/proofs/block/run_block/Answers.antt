@@ -1,5 +1,5 @@
 -- The first lane and the others.
-use Rattle.std.proofs.Common.{◌≡◌, ℕ, ◌+◌, ◌++◌, List, get_or, set, sym, ap, subst}
+use Rattle.std.proofs.Common.{◌++◌, List, get_or, set, sym, subst}
 use Rattle.fish_lanes.proofs.Firsts.{ended_both, first_new, marks_both, others_new, tells_both}
 use Rattle.fish_lanes.specs.Blocks.{AreEnded, CanGive, IsNewLane, NameMarks, TellsBlock}
 use Rattle.fish_lanes.specs.declared.lane.Lane.{Lane}

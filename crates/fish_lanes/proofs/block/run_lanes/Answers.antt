@@ -1,5 +1,5 @@
 -- The block from its start to its end.
-use Rattle.std.proofs.Common.{◌≡◌, ℕ, ◌+◌, ◌<◌, ◌≤◌, List, length, get_or, refl, sym, ap, ◌∙◌, subst, arith, Some, slice_get}
+use Rattle.std.proofs.Common.{◌≡◌, get_or, arith, Some, slice_get}
 use Rattle.std.proofs.lemmas.Option.{slice_get-get_or}
 use Rattle.fish_lanes.proofs.Course.{first_ended, first_marks, get_there, has_end, is_later, kept_at, may_join, others_ended, others_marks, tells_first, tells_others, within}
 use Rattle.fish_lanes.proofs.Lanes.{seated_ready}
@@ -53,29 +53,29 @@ returns-clause-kept g c =
 pub returns-clause-told : goal.returns-clause-told
 returns-clause-told g c from start = (
   within c.args.log.now (view c.args.main.now) (view c.give_all.new.main) (view c.run_all.new.main) c.args.first.now
-    c.run_all.new.first c.args.others.now c.give_all.new.lanes c.run_all.new.others c.take_all.new.lanes
-    c.give_all.ensures.given c.give_all.ensures.seated c.run_all.ensures.run c.run_all.ensures.done
-    c.give_all.auto.lanes c.run_all.auto.others
-    (view c.take_all.new.main) (view c.settle.new.pass) c.settle.result.settled c.take_all.ensures.taken
-    c.settle.ensures.settles c.settle.ensures.settled c.settle.result.count c.settle.ensures.tail c.settle.ensures.ends
-    c.take_all.ensures.lanes c.take_all.auto.lanes c.requires.others.base c.settle.ensures.pass.stands c.requires.end.1.marks
-    from start c.requires.pass.stands,
+      c.run_all.new.first c.args.others.now c.give_all.new.lanes c.run_all.new.others c.take_all.new.lanes
+      c.give_all.ensures.given c.give_all.ensures.seated c.run_all.ensures.run c.run_all.ensures.done
+      c.give_all.auto.lanes c.run_all.auto.others
+      (view c.take_all.new.main) (view c.settle.new.pass) c.settle.result.settled c.take_all.ensures.taken
+      c.settle.ensures.settles c.settle.ensures.settled c.settle.result.count c.settle.ensures.tail c.settle.ensures.ends
+      c.take_all.ensures.lanes c.take_all.auto.lanes c.requires.others.base c.settle.ensures.pass.stands c.requires.end.1.marks
+      from start c.requires.pass.stands,
   tells_first c.args.log.now (view c.args.main.now) (view c.give_all.new.main) (view c.run_all.new.main) c.args.first.now
-    c.run_all.new.first c.args.others.now c.give_all.new.lanes c.run_all.new.others c.take_all.new.lanes
-    c.give_all.ensures.given c.give_all.ensures.seated c.run_all.ensures.run c.run_all.ensures.done
-    c.give_all.auto.lanes c.run_all.auto.others
-    (view c.take_all.new.main) (view c.settle.new.pass) c.settle.result.settled c.take_all.ensures.taken
-    c.settle.ensures.settles c.settle.ensures.settled c.settle.result.count c.settle.ensures.tail c.settle.ensures.ends
-    c.take_all.ensures.lanes c.take_all.auto.lanes c.requires.others.base c.settle.ensures.pass.stands c.requires.end.1.marks
-    from start c.requires.pass.stands,
+      c.run_all.new.first c.args.others.now c.give_all.new.lanes c.run_all.new.others c.take_all.new.lanes
+      c.give_all.ensures.given c.give_all.ensures.seated c.run_all.ensures.run c.run_all.ensures.done
+      c.give_all.auto.lanes c.run_all.auto.others
+      (view c.take_all.new.main) (view c.settle.new.pass) c.settle.result.settled c.take_all.ensures.taken
+      c.settle.ensures.settles c.settle.ensures.settled c.settle.result.count c.settle.ensures.tail c.settle.ensures.ends
+      c.take_all.ensures.lanes c.take_all.auto.lanes c.requires.others.base c.settle.ensures.pass.stands c.requires.end.1.marks
+      from start c.requires.pass.stands,
   tells_others c.args.log.now (view c.args.main.now) (view c.give_all.new.main) (view c.run_all.new.main) c.args.first.now
-    c.run_all.new.first c.args.others.now c.give_all.new.lanes c.run_all.new.others c.take_all.new.lanes
-    c.give_all.ensures.given c.give_all.ensures.seated c.run_all.ensures.run c.run_all.ensures.done
-    c.give_all.auto.lanes c.run_all.auto.others
-    (view c.take_all.new.main) (view c.settle.new.pass) c.settle.result.settled c.take_all.ensures.taken
-    c.settle.ensures.settles c.settle.ensures.settled c.settle.result.count c.settle.ensures.tail c.settle.ensures.ends
-    c.take_all.ensures.lanes c.take_all.auto.lanes c.requires.others.base c.settle.ensures.pass.stands c.requires.end.1.marks
-    from start c.requires.pass.stands c.requires.others.few,
+      c.run_all.new.first c.args.others.now c.give_all.new.lanes c.run_all.new.others c.take_all.new.lanes
+      c.give_all.ensures.given c.give_all.ensures.seated c.run_all.ensures.run c.run_all.ensures.done
+      c.give_all.auto.lanes c.run_all.auto.others
+      (view c.take_all.new.main) (view c.settle.new.pass) c.settle.result.settled c.take_all.ensures.taken
+      c.settle.ensures.settles c.settle.ensures.settled c.settle.result.count c.settle.ensures.tail c.settle.ensures.ends
+      c.take_all.ensures.lanes c.take_all.auto.lanes c.requires.others.base c.settle.ensures.pass.stands c.requires.end.1.marks
+      from start c.requires.pass.stands c.requires.others.few,
 )
 
 pub returns-clause-first_marks : goal.returns-clause-first_marks

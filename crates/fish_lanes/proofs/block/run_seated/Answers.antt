@@ -1,9 +1,8 @@
 -- What the pass of the lane left.
-use Rattle.std.proofs.Common.{◌≡◌, ◌∙◌, ap, refl, sym, subst, List, Some}
+use Rattle.std.proofs.Common.{◌∙◌, refl, sym, subst, List}
 use Rattle.fish_lanes.specs.Running.{HasRun}
 use Rattle.fish_lanes.specs.declared.work.Work.{Work}
 use Rattle.fish_rule.specs.Passes.{view}
-use Rattle.fish_rule.specs.declared.table.Pass.{Pass}
 use Rattle.fish_lanes.proofs.block.run_seated.Goals as goal
 
 pub returns : goal.returns

@@ -1,5 +1,5 @@
 -- One pass more came back.
-use Rattle.std.proofs.Common.{◌≡◌, ◌≢◌, ℕ, ◌+◌, ◌<◌, ◌≤◌, List, Some, slice_get, get_or, set, length, refl, sym, ap, ◌∙◌, subst, arith}
+use Rattle.std.proofs.Common.{◌≡◌, ℕ, ◌+◌, ◌<◌, List, Some, slice_get, set, length, refl, sym, ap, ◌∙◌, subst, arith}
 use Rattle.std.proofs.Math.Decide.{ℕ_discrete}
 use Rattle.std.proofs.lemmas.Option.{slice_get_within}
 use Rattle.fish_lanes.proofs.Lanes.{can_take, taken_more, taken_none}
@@ -7,7 +7,6 @@ use Rattle.fish_lanes.proofs.Lists.{get_set_else, get_set_here, read_at, some_on
 use Rattle.fish_lanes.specs.Blocks.{CanTake, HasTaken, HasTakenAll, WasTaken}
 use Rattle.fish_lanes.specs.declared.lane.Lane.{Lane}
 use Rattle.fish_rule.specs.Passes.{view}
-use Rattle.fish_rule.specs.declared.table.Log.{Log}
 use Rattle.fish_lanes.proofs.block.take_all.Goals as goal
 
 pub loop-i-init : goal.loop-i-init
@@ -59,7 +58,7 @@ loop-i-preserved c =
     let at_fn : slice_get c.args.lanes.now i ≡ Some r = sym (inv.rest i (omega arith)) ∙ at in
     let taken : HasTaken u t r = subst (λ (z : Lane). HasTaken u t z) (sym c.index-lanes-i.is) c.take_back.ensures.taken in
     let was : WasTaken r c.take_back.new.lane =
-        subst (λ (z : Lane). WasTaken z c.take_back.new.lane) (sym c.index-lanes-i.is) c.take_back.ensures.lane in
+    subst (λ (z : Lane). WasTaken z c.take_back.new.lane) (sym c.index-lanes-i.is) c.take_back.ensures.lane in
     record {
       of = c.take_back.ensures.pass;
       taken = taken_more c.args.log.now w u t c.args.lanes.now i r c.requires.can inv.taken at_fn taken;

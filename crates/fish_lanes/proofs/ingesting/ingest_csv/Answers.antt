@@ -1,5 +1,4 @@
 -- Where the file isn't read, nothing of it is stored.
-use Rattle.std.proofs.Common.{◌≤◌, sym, subst, length, ℕ, List}
 use Rattle.fish_csv.specs.Rows as csv
 use Rattle.fish_ingest.proofs.IngestionStart.{idle_law}
 use Rattle.fish_lanes.proofs.Storing.{stored_none}
@@ -10,6 +9,9 @@ use Rattle.fish_lanes.proofs.ingesting.ingest_csv.Goals as goal
 pub returns-in-Err-FileTooLong-clause-part : goal.returns-in-Err-FileTooLong-clause-part
 returns-in-Err-FileTooLong-clause-part c =
     let v = view c.args.pass.now in
-    let outs = csv.outcomes c.args.header c.args.file.now in
-    (outs, c.args.tally.now, stored_none v Csv outs c.args.tally.now c.requires.start.outside
-    (idle_law v c.requires.pass.stands c.requires.start) c.requires.none)
+    let outs = csv.outcomes c.args.header c.args.file.now in (
+      outs,
+      c.args.tally.now,
+      stored_none v Csv outs c.args.tally.now c.requires.start.outside
+          (idle_law v c.requires.pass.stands c.requires.start) c.requires.none,
+    )

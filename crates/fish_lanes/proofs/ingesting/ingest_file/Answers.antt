@@ -1,5 +1,5 @@
 -- What was stored is what the item tells.
-use Rattle.std.proofs.Common.{◌≡◌, ◌<◌, ◌∙◌, ℕ, List, [], length, ap, inr, refl, sym, subst, arith}
+use Rattle.std.proofs.Common.{◌∙◌, ℕ, List, [], ap, inr, refl, sym, subst, arith}
 use Rattle.fish_ingest.proofs.IngestionStart.{idle_law}
 use Rattle.fish_lanes.proofs.Done.{err_any}
 use Rattle.fish_lanes.proofs.Gaining.{gains_self}
@@ -7,10 +7,8 @@ use Rattle.fish_lanes.proofs.Storing.{file_item, file_part, nothing_part}
 use Rattle.fish_lanes.specs.Doing.{IsItem, IsPart}
 use Rattle.fish_lanes.specs.Storing.{item_of}
 use Rattle.fish_lanes.specs.declared.work.Work.TheVariants as work
-use Rattle.fish_report.specs.declared.item.Item.{Item}
 use Rattle.fish_report.specs.declared.item.Item.TheVariants as item
 use Rattle.fish_rule.specs.Passes.{view}
-use Rattle.fish_value.specs.Limits.{longest_file}
 use Rattle.fish_lanes.proofs.ingesting.ingest_file.Goals as goal
 
 pub returns-in_err-name-clause-part : goal.returns-in_err-name-clause-part

@@ -1,5 +1,5 @@
 -- One line more.
-use Rattle.std.proofs.Common.{◌≡◌, ℕ, ◌∷◌, List, Option, length, map, sym, ap, subst, arith, []}
+use Rattle.std.proofs.Common.{ℕ, List, Option, map, ap, subst, arith}
 use Rattle.std.specs.Prelude.{MatchOption}
 use Rattle.fish_ingest.proofs.IngestionStart.{idle_law}
 use Rattle.fish_json.specs.Lines as json
@@ -72,13 +72,13 @@ loop-line-preserved c =
     let line = c.in-Some.line.now in
     let behind = map json.payload_of (left c.next_line.new.self) in
     let takes : TakesLine u t Json line c.loop-line.tally c.ingest_line.new.tally =
-        subst (λ (o : Option Shut). MatchOption o (TakesLine u t Json line c.loop-line.tally c.ingest_line.new.tally)
-        (FindsFull u t Json line c.loop-line.tally c.ingest_line.new.tally)) c.in-None.is c.in_ok-shut.ensures.takes in
+    subst (λ (o : Option Shut). MatchOption o (TakesLine u t Json line c.loop-line.tally c.ingest_line.new.tally)
+    (FindsFull u t Json line c.loop-line.tally c.ingest_line.new.tally)) c.in-None.is c.in_ok-shut.ensures.takes in
     let stored : IsStoredUpTo v t Json outs behind c.ingest_line.new.tally =
-        stored_line v u t Json outs behind line (json.payload_of line) c.loop-line.tally c.ingest_line.new.tally
-        (json_record line) (json_refused line)
-        (subst (λ (z : List (Option (List ℕ))). IsStoredUpTo v u Json outs z c.loop-line.tally)
-        (ap (map json.payload_of) c.in-Some.ensures.lines) c.loop-line.invariant.stored) takes in
+    stored_line v u t Json outs behind line (json.payload_of line) c.loop-line.tally c.ingest_line.new.tally
+    (json_record line) (json_refused line)
+    (subst (λ (z : List (Option (List ℕ))). IsStoredUpTo v u Json outs z c.loop-line.tally)
+    (ap (map json.payload_of) c.in-Some.ensures.lines) c.loop-line.invariant.stored) takes in
     record {
       of = c.ingest_line.ensures.pass;
       start = stored_starts v t Json outs behind c.ingest_line.new.tally c.requires.start stored;

@@ -9,7 +9,6 @@ use Rattle.fish_lanes.proofs.Storing.{full_line, gains_unclaimed, head_record, s
 use Rattle.fish_lanes.proofs.Storing.{stored_none_more, stored_starts, takes_one}
 use Rattle.fish_lanes.specs.Storing.{FindsFull, IsPartStored, IsStoredUpTo, TakesLine}
 use Rattle.fish_lanes.specs.declared.ingesting.Tally.{Tally}
-use Rattle.fish_psf.specs.Records.{is_record}
 use Rattle.fish_rule.specs.Passes.{view}
 use Rattle.fish_rule.specs.declared.view.Shut.{Shut}
 use Rattle.fish_value.specs.declared.field.Form.TheVariants.{Csv}
@@ -54,8 +53,8 @@ returns-in-Some-2-clause-ends c =
     let text = c.in-Some-row.text in
     let behind = left c.next_row.new.self in
     let next : left c.loop-row.rows ≡ c.in-Some.row ∷ behind =
-        subst (λ (o : Option (Option (List ℕ))). MatchOption o (left c.loop-row.rows ≡ []) (λ r. left c.loop-row.rows ≡ r ∷ behind))
-        c.in-Some.is c.in_ok-row.ensures.rows in
+    subst (λ (o : Option (Option (List ℕ))). MatchOption o (left c.loop-row.rows ≡ []) (λ r. left c.loop-row.rows ≡ r ∷ behind))
+    c.in-Some.is c.in_ok-row.ensures.rows in
     let here : left c.loop-row.rows ≡ Some text ∷ behind = next ∙ ap (λ (z : Option (List ℕ)). z ∷ behind) c.in-Some-row.is in
     full_line v u t Csv outs behind text (Some text) c.loop-row.tally c.ingest_text.new.tally c.in-Some-2.shut
     c.ingest_text.ensures.pass.stands (λ _. refl)
@@ -72,17 +71,17 @@ loop-row-preserved-in-None-2 c =
     let text = c.in-Some-row.text in
     let behind = left c.next_row.new.self in
     let next : left c.loop-row.rows ≡ c.in-Some.row ∷ behind =
-        subst (λ (o : Option (Option (List ℕ))). MatchOption o (left c.loop-row.rows ≡ []) (λ r. left c.loop-row.rows ≡ r ∷ behind))
-        c.in-Some.is c.in_ok-row.ensures.rows in
+    subst (λ (o : Option (Option (List ℕ))). MatchOption o (left c.loop-row.rows ≡ []) (λ r. left c.loop-row.rows ≡ r ∷ behind))
+    c.in-Some.is c.in_ok-row.ensures.rows in
     let here : left c.loop-row.rows ≡ Some text ∷ behind = next ∙ ap (λ (z : Option (List ℕ)). z ∷ behind) c.in-Some-row.is in
     let takes : TakesLine u t Csv text c.loop-row.tally c.ingest_text.new.tally =
-        subst (λ (o : Option Shut). MatchOption o (TakesLine u t Csv text c.loop-row.tally c.ingest_text.new.tally)
-        (FindsFull u t Csv text c.loop-row.tally c.ingest_text.new.tally)) c.in-None-2.is c.in_ok-shut-in-Some-row.ensures.takes in
+    subst (λ (o : Option Shut). MatchOption o (TakesLine u t Csv text c.loop-row.tally c.ingest_text.new.tally)
+    (FindsFull u t Csv text c.loop-row.tally c.ingest_text.new.tally)) c.in-None-2.is c.in_ok-shut-in-Some-row.ensures.takes in
     let stored : IsStoredUpTo v t Csv outs behind c.ingest_text.new.tally =
-        stored_line v u t Csv outs behind text (Some text) c.loop-row.tally c.ingest_text.new.tally (λ _. refl)
-        (λ none. absurd (let bad : true ≡ false = sym (head_record c.loop-row.rows text behind here) ∙ none in cc))
-        (subst (λ (z : List (Option (List ℕ))). IsStoredUpTo v u Csv outs z c.loop-row.tally) here c.loop-row.invariant.stored)
-        takes in
+    stored_line v u t Csv outs behind text (Some text) c.loop-row.tally c.ingest_text.new.tally (λ _. refl)
+    (λ none. absurd (let bad : true ≡ false = sym (head_record c.loop-row.rows text behind here) ∙ none in cc))
+    (subst (λ (z : List (Option (List ℕ))). IsStoredUpTo v u Csv outs z c.loop-row.tally) here c.loop-row.invariant.stored)
+    takes in
     record {
       of = c.ingest_text.ensures.pass;
       start = stored_starts v t Csv outs behind c.ingest_text.new.tally c.requires.start stored;
@@ -91,7 +90,7 @@ loop-row-preserved-in-None-2 c =
       room =
           let a = takes_one u t Csv text c.loop-row.tally c.ingest_text.new.tally takes in
           let b = subst (λ (o : Option (Option (List ℕ))). IfSome o (λ _.
-              length c.next_row.new.self.rest.now < length c.loop-row.rows.rest.now)) c.in-Some.is c.in_ok-row.ensures.shorter in
+          length c.next_row.new.self.rest.now < length c.loop-row.rows.rest.now)) c.in-Some.is c.in_ok-row.ensures.shorter in
           let d = c.loop-row.invariant.room in
           omega arith;
     }
@@ -103,8 +102,8 @@ loop-row-preserved c =
     let outs = left c.args.rows.now in
     let behind = left c.next_row.new.self in
     let next : left c.loop-row.rows ≡ c.in-Some.row ∷ behind =
-        subst (λ (o : Option (Option (List ℕ))). MatchOption o (left c.loop-row.rows ≡ []) (λ r. left c.loop-row.rows ≡ r ∷ behind))
-        c.in-Some.is c.in_ok-row.ensures.rows in
+    subst (λ (o : Option (Option (List ℕ))). MatchOption o (left c.loop-row.rows ≡ []) (λ r. left c.loop-row.rows ≡ r ∷ behind))
+    c.in-Some.is c.in_ok-row.ensures.rows in
     let here : left c.loop-row.rows ≡ None ∷ behind = next ∙ ap (λ (z : Option (List ℕ)). z ∷ behind) c.in-None.is in
     record {
       of = c.loop-row.invariant.of;
@@ -116,7 +115,7 @@ loop-row-preserved c =
           (idle_law u c.loop-row.invariant.of.stands c.loop-row.invariant.start)) refl;
       room =
           let b = subst (λ (o : Option (Option (List ℕ))). IfSome o (λ _.
-              length c.next_row.new.self.rest.now < length c.loop-row.rows.rest.now)) c.in-Some.is c.in_ok-row.ensures.shorter in
+          length c.next_row.new.self.rest.now < length c.loop-row.rows.rest.now)) c.in-Some.is c.in_ok-row.ensures.shorter in
           let d = c.loop-row.invariant.room in
           omega arith;
     }

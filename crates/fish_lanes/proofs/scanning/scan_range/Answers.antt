@@ -1,5 +1,5 @@
 -- An answer, or why there is none, as an item.
-use Rattle.std.proofs.Common.{◌≡◌, ◌∙◌, ap, inr, refl, sym, Some}
+use Rattle.std.proofs.Common.{ap, inr}
 use Rattle.fish_lanes.proofs.Answered.{refused_fits, scanned_fits}
 use Rattle.fish_report.specs.declared.item.Item.TheVariants as item
 use Rattle.fish_rule.specs.Passes.{view}

@@ -1,5 +1,5 @@
 -- Each statement's item is one of the statement.
-use Rattle.std.proofs.Common.{◌≡◌, ◌∙◌, List, ℕ, Result, ap, sym, subst}
+use Rattle.std.proofs.Common.{◌∙◌, List, ℕ, ap, sym, subst}
 use Rattle.std.specs.Prelude.{IfErr, IfOk}
 use Rattle.fish_epoch.proofs.Reading.{defs_later}
 use Rattle.fish_ingest.proofs.IngestionStart.{idle_law}

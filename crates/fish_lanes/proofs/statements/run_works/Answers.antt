@@ -1,5 +1,5 @@
 -- A statement more, or the end.
-use Rattle.std.proofs.Common.{◌≡◌, ℕ, ◌+◌, ◌≤◌, List, [], ◌∷◌, ◌++◌, take, drop, length, refl, sym, ap, ◌∙◌, subst, arith}
+use Rattle.std.proofs.Common.{◌≡◌, ◌+◌, List, [], ◌∷◌, ◌++◌, take, drop, sym, ap, ◌∙◌, subst, arith}
 use Rattle.std.proofs.lemmas.List.{take_all, take_more}
 use Rattle.fish_ingest.proofs.IngestionStart.{idle_law}
 use Rattle.fish_lanes.proofs.Done.{HasTold, around, run_cut, run_ended, told_more, told_self}
@@ -56,7 +56,7 @@ loop-work-preserved c =
     let t = view c.run_work.new.pass in
     let is = c.in-Ok.ensures.item in
     let next : take (i + 1) works ≡ take i works ++ w ∷ [] = take_more works i w c.loop-work-test.true
-        ∙ ap (λ (z : Work). take i works ++ z ∷ []) (sym c.work-item.is) in
+    ∙ ap (λ (z : Work). take i works ++ z ∷ []) (sym c.work-item.is) in
     record {
       of = c.run_work.ensures.pass;
       start = gains_start u t is.gained.rows inv.start is.gained.gains;
@@ -70,7 +70,7 @@ loop-work-preserved c =
 pub returns-clause-run : goal.returns-clause-run
 returns-clause-run c =
     let all : take c.loop-work.work-index c.args.works.now ≡ c.args.works.now =
-        take_all c.loop-work.work-index c.args.works.now (let e = c.loop-work-test.false in omega arith) in
+    take_all c.loop-work.work-index c.args.works.now (let e = c.loop-work-test.false in omega arith) in
     subst (λ (z : List Work). HasRun (view c.args.pass.now) (view c.loop-work.pass) z c.loop-work.items cause.None) all
     (run_ended (view c.args.pass.now) (view c.loop-work.pass) (take c.loop-work.work-index c.args.works.now) c.loop-work.items
     c.loop-work.invariant.told)
