@@ -11,5 +11,6 @@ pub mod Lists
 pub mod Logs
 pub mod Publishing
 pub mod RowLists
+pub mod Runs
 pub mod Storing
 pub mod Surely

@@ -6,6 +6,7 @@ pub mod Gains
 pub mod Published
 pub mod Records
 pub mod Running
+pub mod Runs
 pub mod Scanning
 pub mod Seen
 pub mod Storing

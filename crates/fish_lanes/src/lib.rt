@@ -4,10 +4,12 @@
 mod block;
 mod ingesting;
 mod lane;
+mod running;
 mod scanning;
 mod statements;
 mod work;
 
 pub use block::run_block;
 pub use lane::{Lane, Seated};
+pub use running::{Block, run_blocks, run_log};
 pub use work::{LaneFault, Work, Works};
