@@ -1,6 +1,6 @@
 -- The steps of a walk, over plain views.
 use Rattle.std.proofs.Common.{◌≡◌, ℕ, ◌+◌, ◌*◌, ◌<◌, ◌≤◌, sym, refl, subst, ◌⊎◌, ⊎_elim, inl, inr, arith}
-use Rattle.fish_chain.specs.Walks.{LeadsTo, HasBegun, HasRange, IsNextNode, IsNumbered, IsPast, IsRest, IsWalking}
+use Rattle.fish_chain.specs.Walks.{HasBegun, HasRange, IsEntryFrom, IsNextNode, IsNumbered, IsPast, IsRest, IsWalking, LeadsTo}
 use Rattle.fish_chain.specs.declared.walk.Node.{Node}
 use Rattle.fish_layout.specs.Entry.{entry_id, entry_number, entry_place}
 use Rattle.fish_rule.proofs.Descents.{entries_behind, entries_within, extends_node}
@@ -9,7 +9,7 @@ use Rattle.fish_rule.proofs.Extending.{extends_both}
 use Rattle.fish_rule.proofs.Laws.{label_above, node_behind}
 use Rattle.fish_rule.proofs.Walking.{always_later, clear_both, label_entry, label_last, label_outside}
 use Rattle.fish_rule.specs.Linking.{HasNode, after_head, after_node, after_previous}
-use Rattle.fish_rule.specs.Logs.{Extends}
+use Rattle.fish_rule.specs.Logs.{Extends, Learns}
 use Rattle.fish_rule.specs.Parts.{first_head}
 use Rattle.fish_rule.specs.Table.{Stands}
 use Rattle.fish_rule.specs.Views.{Among}
@@ -120,6 +120,25 @@ numbered v u p word number seen is = record {
 -- a view after the load of a second word extends the one before
 pub looked_node : (v u : View) (p word : ℕ) → u ≡ after_node v p word → Extends v u
 looked_node v u p word seen = subst (Extends v) (sym seen) (extends_node v p word)
+
+-- the entry whose second word was read is one of the walk's bucket, and of a number from the walk's first one on
+pub passed_at : (v u t : View) (walk : Walk) (word number bucket first : ℕ) → IsWalking v walk
+    → v.about.line * 4 < walk.place → u ≡ after_node v walk.place word → Learns u t → number ≡ entry_number word
+    → walk.bucket ≡ bucket → walk.from ≡ first → walk.from ≤ number → IsEntryFrom t bucket first walk.place
+passed_at v u t walk word number bucket first walking behind seen learns is bucket_is first_is from =
+    let node = (stands_at v walk walking behind).0 in
+    let read = looked_node v u walk.place word seen in
+    record {
+      node = subst (λ (z : ℕ). HasNode t z walk.place) bucket_is (learns.nodes _ (read.learns.nodes _ node));
+      number = number;
+      numbered = record {
+        label = label_at v walk.place word;
+        read = learns.labels _ (label_read v u walk.place word seen);
+        place_is = refl;
+        number_is = sym is;
+      };
+      from = omega arith;
+    }
 
 module _ (v u t : View) (walk : Walk) (word below : ℕ) (walking : IsWalking v walk)
     (some_ : v.about.line * 4 < walk.place)

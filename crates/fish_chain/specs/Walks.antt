@@ -63,18 +63,33 @@ pub record IsNextNode (v : View) (walk : Walk) (node : Node) : Type 0 where
   pub below : node.place < walk.given
   pub next : Always v (IsClear walk.bucket walk.from walk.to walk.given node.place)
 
--- places of entries of a bucket that are known to be linked, each below the one before: they lead from one place
--- down to another
-abbrev pub LeadDown : View → ℕ → ℕ → ℕ → List ℕ → Type 0
-LeadDown v bucket from to [] = from ≡ to
-LeadDown v bucket from to (place ∷ places) = (from ≡ place) × HasNode v bucket place
-    × ((next : ℕ) × (next < place) × LeadDown v bucket next to places)
+-- an entry of a bucket is known to be linked at the place, and its second word to name a number from this one on
+pub record IsEntryFrom (v : View) (bucket first place : ℕ) : Type 0 where
+  pub node : HasNode v bucket place
+  pub number : ℕ
+  pub numbered : IsNumbered v place number
+  pub from : first ≤ number
 
--- going down from one place to another the pass loaded at most two words of each entry that it passed
-pub record IsBounded (v u : View) (bucket from to : ℕ) : Type 0 where
+-- places of such entries, each below the one before: they lead from one place down to another
+abbrev pub LeadDown : View → ℕ → ℕ → ℕ → ℕ → List ℕ → Type 0
+LeadDown v bucket first from to [] = from ≡ to
+LeadDown v bucket first from to (place ∷ places) = (from ≡ place) × IsEntryFrom v bucket first place
+    × ((next : ℕ) × (next < place) × LeadDown v bucket first next to places)
+
+-- of so many entries that a walk passed two words were loaded at most; the entry that it gave is one of them, and where it
+-- gave none one more word was loaded at most
+abbrev pub AreFew : Option Node → ℕ → ℕ → ℕ → Type 0
+AreFew None entries old new = new ≤ old + 2 * entries + 1
+AreFew (Some node) entries old new = (1 ≤ entries) × (new ≤ old + 2 * entries)
+
+-- going down from where a walk stood to another place the pass loaded few words of the entries that it passed, which are of
+-- the walk's bucket and of numbers from the start of its range on
+pub record IsBounded (v u : View) (walk : Walk) (to : ℕ) (given : Option Node) : Type 0 where
   pub passed : List ℕ
-  pub down : LeadDown u bucket from to passed
-  pub few : u.clock.loads ≤ v.clock.loads + 2 * length passed
+  pub end : ℕ
+  pub down : LeadDown u walk.bucket walk.from walk.place end passed
+  pub within : to ≤ end
+  pub few : AreFew given (length passed) v.clock.loads u.clock.loads
 
 -- what a walk gave: its next entry, which it then has given, or none where no entry of its range is left, and the
 -- walk is past the table

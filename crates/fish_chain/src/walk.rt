@@ -60,7 +60,7 @@ pub fn walk_start<L: Ledger>(
 }
 
 /// The next entry down, or none exactly where no entry of the walk's range is left. At most two loads
-/// for each entry that it passes.
+/// for each entry that it passes, none of which is below the range, and where none is left one more.
 pub fn walk_next<L: Ledger>(log: &Log, pass: &mut Pass, loads: &mut Steps<L>) -> Option<Node>
     requires pass { IsPassOf log.now pass.old }
     requires walking { IsWalking (view pass.old) (walk_of pass.old) }
@@ -70,8 +70,7 @@ pub fn walk_next<L: Ledger>(log: &Log, pass: &mut Pass, loads: &mut Steps<L>) ->
     ensures range { let walk = walk_of pass.old in HasRange (walk_of pass.new) walk.bucket walk.from walk.to }
     ensures gave { Gave (view pass.new) (walk_of pass.old) (walk_of pass.new) result }
     ensures counted { loads.new + (view pass.old).clock.loads ≡ loads.old + (view pass.new).clock.loads }
-    ensures few { let walk = walk_of pass.old in
-        IsBounded (view pass.old) (view pass.new) walk.bucket walk.place (walk_of pass.new).place }
+    ensures few { IsBounded (view pass.old) (view pass.new) (walk_of pass.old) (walk_of pass.new).place result }
 {
     let past = base(log).line * 4;
     let mut walk = kept_walk(pass);
@@ -129,6 +128,7 @@ fn place_below<L: Ledger>(
     ensures below { LeadsTo (view pass.new) walk.now result }
     ensures counted { loads.new + (view pass.old).clock.loads ≡ loads.old + (view pass.new).clock.loads }
     ensures few { (view pass.new).clock.loads ≤ (view pass.old).clock.loads + 1 }
+    ensures stops { number < walk.now.from → (result ≡ 0) × ((view pass.new).clock.loads ≡ (view pass.old).clock.loads) }
 {
     if u64::from(number) < walk.from {
         return 0;

@@ -40,3 +40,6 @@ returns-clause-few g c =
     let walk = c.args.walk.now in
     let seen = ap (λ (z : View). z.clock.loads) (c.load_previous.ensures.view walk.bucket c.requires.node) in
     omega arith
+
+pub returns-clause-stops : goal.returns-clause-stops
+returns-clause-stops g c less = (let e = c.from.ensures in let within = c.if-from-walk.false in absurd (omega arith))

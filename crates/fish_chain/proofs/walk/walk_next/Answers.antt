@@ -1,10 +1,10 @@
 -- Each turn passes an entry outside the range, or gives the next one of it.
-use Rattle.std.proofs.Common.{ℕ, ◌<◌, ◌≤◌, ◌⊎◌, inl, inr, sym, refl, ap, subst, arith}
+use Rattle.std.proofs.Common.{◌<◌, ◌≤◌, ◌⊎◌, inl, inr, sym, refl, ap, subst, arith}
+use Rattle.std.proofs.Math.Decide.{dec_lt}
 use Rattle.fish_chain.proofs.Descents.{behind_known, clear_past, clear_same, given_next, gone_on, looked_node, next_same, numbered}
-use Rattle.fish_chain.proofs.Descents.{passed_by, past_known, stands_at}
-use Rattle.fish_chain.proofs.Passing.{bounded_more, bounded_same}
+use Rattle.fish_chain.proofs.Descents.{passed_at, passed_by, past_known, stands_at}
+use Rattle.fish_chain.proofs.Passing.{below_or_on, bounded_ended, bounded_given, passed_last, passed_more}
 use Rattle.fish_rule.proofs.Extending.{extends_both}
-use Rattle.fish_rule.specs.Linking.{HasNode}
 use Rattle.fish_chain.specs.Walks.{IsNextNode, IsPast, IsWalking}
 use Rattle.fish_chain.specs.declared.walk.Node.{Node}
 use Rattle.fish_layout.specs.Entry.{entry_number}
@@ -111,10 +111,15 @@ loop-walk-preserved g c =
           behind seen c.place_below.ensures.extends c.place_below.ensures.below out;
       range = record { bucket_is = inv.range.bucket_is; from_is = inv.range.from_is; to_is = inv.range.to_is };
       given = inv.given;
-      few = bounded_more _ v t _ _ c.loop-walk.walk.place c.place_below.result inv.few
-          (subst (λ (z : ℕ). HasNode v z c.loop-walk.walk.place) inv.range.bucket_is
-          (stands_at v c.loop-walk.walk inv.walking behind).0) turn.learns c.place_below.ensures.below.lower
-          (let more = c.place_below.ensures.few in omega arith);
+      few = below_or_on (dec_lt c.number_in-number.result c.loop-walk.walk.from)
+          (λ less. let stop = c.place_below.ensures.stops less in let one = stop.1 in
+          passed_last _ v t _ _ _ c.loop-walk.walk.place inv.few (omega arith) turn.learns c.place_below.result stop.0
+          (omega arith))
+          (λ on. let more = c.place_below.ensures.few in
+          passed_more _ v t _ _ _ c.loop-walk.walk.place inv.few (omega arith) turn.learns c.place_below.result
+          (passed_at v u t c.loop-walk.walk c.load_node-entry.result c.number_in-number.result _ _ inv.walking behind seen
+          c.place_below.ensures.extends.learns number inv.range.bucket_is inv.range.from_is (omega arith))
+          c.place_below.ensures.below.lower (omega arith));
       counted = omega arith;
     }
 
@@ -133,15 +138,20 @@ returns-then-from-walk-clause-few g c =
     c.place_below.ensures.extends in
     let loads = ap (λ (z : View). z.clock.loads) seen in
     let more = c.place_below.ensures.few in
-    bounded_same _ t _ _ _ _ _ _ _ (bounded_more _ v t _ _ c.loop-walk.walk.place c.place_below.result inv.few
-    (subst (λ (z : ℕ). HasNode v z c.loop-walk.walk.place) inv.range.bucket_is
-    (stands_at v c.loop-walk.walk inv.walking behind).0) turn.learns c.place_below.ensures.below.lower (omega arith))
-    c.keep_walk.ensures.view refl refl (sym (ap (λ (z : Walk). z.place) c.keep_walk.ensures.walk))
+    let from = c.from.ensures in
+    let within = c.if-walk-from.true in
+    bounded_given _ v t (view c.keep_walk.new.pass) (walk_of c.args.pass.now) _ _ _ c.loop-walk.walk.place c.place_below.result
+    _ _ inv.few (omega arith) turn.learns
+    (passed_at v u t c.loop-walk.walk c.load_node-entry.result c.number_in-number.result _ _ inv.walking behind seen
+    c.place_below.ensures.extends.learns c.number_in-number.ensures.value inv.range.bucket_is inv.range.from_is (omega arith))
+    c.place_below.ensures.below.lower (omega arith) c.keep_walk.ensures.view refl refl refl
+    (sym (ap (λ (z : Walk). z.place) c.keep_walk.ensures.walk))
 
 -- and none was left
 pub returns-clause-few : goal.returns-clause-few
-returns-clause-few g c = bounded_same _ (view c.loop-walk.pass) _ _ _ _ _ _ _ c.loop-walk.invariant.few
-    c.keep_walk-2.ensures.view refl refl (sym (ap (λ (z : Walk). z.place) c.keep_walk-2.ensures.walk))
+returns-clause-few g c = bounded_ended _ (view c.loop-walk.pass) (view c.keep_walk-2.new.pass) (walk_of c.args.pass.now) _ _ _ _ _
+    c.loop-walk.invariant.few c.keep_walk-2.ensures.view refl refl refl
+    (sym (ap (λ (z : Walk). z.place) c.keep_walk-2.ensures.walk))
 
 pub returns-clause-pass : goal.returns-clause-pass
 returns-clause-pass g c = c.keep_walk-2.ensures.pass c.args.log.now c.loop-walk.invariant.of

@@ -1,6 +1,7 @@
 -- The walk is where it was, or further down with nothing of its range passed.
 use Rattle.std.proofs.Common.{◌≡◌, ◌+◌}
-use Rattle.fish_chain.specs.Walks.{HasRange, IsBounded, IsWalking}
+use Rattle.fish_chain.proofs.Passing.{HasPassed}
+use Rattle.fish_chain.specs.Walks.{HasRange, IsWalking}
 use Rattle.fish_rule.specs.Logs.{Extends}
 use Rattle.fish_rule.specs.Passes.{IsPassOf, view, walk_of}
 use Rattle.fish_chain.proofs.walk.walk_next.Given as goal
@@ -12,7 +13,8 @@ invariant-loop-walk g l = record {
   walking : IsWalking (view l.pass) l.walk;
   range : HasRange l.walk (walk_of l.fn.pass).bucket (walk_of l.fn.pass).from (walk_of l.fn.pass).to;
   given : l.walk.given ≡ (walk_of l.fn.pass).given;
-  few : IsBounded (view l.fn.pass) (view l.pass) (walk_of l.fn.pass).bucket (walk_of l.fn.pass).place l.walk.place;
+  few : HasPassed (view l.fn.pass) (view l.pass) (walk_of l.fn.pass).bucket (walk_of l.fn.pass).from (walk_of l.fn.pass).place
+      l.walk.place;
   counted : l.loads + (view l.fn.pass).clock.loads ≡ l.fn.loads + (view l.pass).clock.loads;
 }
 
