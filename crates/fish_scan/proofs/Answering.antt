@@ -1,7 +1,7 @@
 -- What a scan knew at each of its steps holds at its end.
 use Rattle.std.proofs.Common.{◌≡◌, ℕ, ◌-◌, ◌<◌, ◌≤◌, zero, suc, List, [], ◌∷◌, ◌++◌, refl, sym, ap, ◌∙◌, subst, ⊎_elim, inl}
 use Rattle.std.proofs.Common.{inr, arith, Some, None, Option, slice_get, Bool, true, false, cond, nat_lt, Result, Ok, Err}
-use Rattle.std.specs.Prelude.{IfErr}
+use Rattle.std.specs.Prelude.{IfErr, IfOk}
 use Rattle.std.specs.Result.{IsErrAnd}
 use Rattle.std.proofs.Math.ListN.{get_or}
 use Rattle.std.proofs.lemmas.Option.{get_or_from_slice_get, same_Some}
@@ -10,7 +10,7 @@ use Rattle.fish_catalog.specs.declared.listed.Listed.{Listed}
 use Rattle.fish_epoch.proofs.Reading.{defs_later}
 use Rattle.fish_epoch.specs.Definitions.{AreRead, rows_of, version_of}
 use Rattle.fish_epoch.specs.declared.definitions.Known.{Known}
-use Rattle.fish_lang.specs.Definition.{Definition}
+use Rattle.fish_lang.specs.Definition.{Definition, definition_of}
 use Rattle.fish_lang.specs.Language.{IsAccepted}
 use Rattle.fish_plan.proofs.Inside.{index_inside, piece_within}
 use Rattle.fish_plan.specs.Intervals.{IsBelowEnd}
@@ -38,8 +38,8 @@ use Rattle.fish_scan.specs.Matching.{Finds}
 use Rattle.fish_scan.specs.Pieces.{AreReadable, IsReadable}
 use Rattle.fish_scan.specs.Reach.{IsRange, IsReach, end_of}
 use Rattle.fish_scan.specs.Reading.{Adds}
-use Rattle.fish_scan.specs.Scans.{IsAsked, IsCovered, IsExplained, IsPlan, IsPlanRefused, IsPlanned, IsPrepared, IsRefused}
-use Rattle.fish_scan.specs.Scans.{OnlyScans, first_asked}
+use Rattle.fish_scan.specs.Scans.{IsAnswer, IsAsked, IsCold, IsCovered, IsExplained, IsPlan, IsPlanRefused, IsPlanned, IsPrepared, IsQuery}
+use Rattle.fish_scan.specs.Scans.{IsRefused, OnlyScans, first_asked}
 use Rattle.fish_scan.specs.declared.ask.Ask.{Ask}
 use Rattle.fish_scan.specs.declared.ask.How.{How}
 use Rattle.fish_scan.specs.declared.ask.How.TheVariants as how
@@ -305,6 +305,11 @@ plan_refused v m u t known ask place reach (refusal.UnknownName version) asked b
 plan_refused v m u t known ask place reach (refusal.EmptyRange a b) asked before after reached h = absurd h
 plan_refused v m u t known ask place reach (refusal.ColdRange base) asked before after reached h = absurd h
 
+-- what comes of a refusal
+pub err_gives : {A E : Type 0} (P Q : E → Type 0) (r : Result A E) → IfErr r P → ((e : E) → P e → Q e) → IfErr r Q
+err_gives P Q (Ok x) h f = tt
+err_gives P Q (Err e) h f = f e h
+
 -- a refusal that comes of another
 pub errs : {A E : Type 0} (P Q : E → Type 0) (r : Result A E) → IsErrAnd r P → ((e : E) → P e → Q e) → IfErr r Q
 errs P Q (Ok x) h f = tt
@@ -334,9 +339,48 @@ planned_at v u t known ask place reach plan asked more reached is = record {
   plan_is = is;
 }
 
+-- and where the range doesn't begin below the log's first number, prepared what reads it
+pub prepared_at : (v u t : View) (known : Known) (ask : Ask) (place : ℕ) (reach : Reach) (plan : List Piece) (p : Prepared)
+    (asked : IsAsked v u known ask place) → OnlyScans u t → IsReach v t (first_asked ask) ask.to reach
+    → IsPlan v t (rows_of known) asked.named.newest.listed.def ask.how reach.from reach.settled reach.to plan
+    → t.about.number ≤ reach.from → IsQuery asked.named.newest.listed.def ask reach p.query → p.plan ≡ plan
+    → IsPrepared v t known ask p
+unfolding asked_later
+prepared_at v u t known ask place reach plan p asked more reached is above query same = record {
+  place = place;
+  asked = asked_later v u t known ask place more asked;
+  means = query.means;
+  value = query.value;
+  reach = subst (IsReach v t (first_asked ask) ask.to) (sym query.reach_is) reached;
+  base = subst (λ (z : Reach). t.about.number ≤ z.from) (sym query.reach_is) above;
+  plan = subst (λ (z : Reach × List Piece). IsPlan v t (rows_of known) asked.named.newest.listed.def ask.how z.0.from
+      z.0.settled z.0.to z.1) (λ i. (sym query.reach_is i, sym same i)) is;
+}
+
+-- whatever the call answers
+pub prepared_all : (v t : View) (known : Known) (ask : Ask) (base : ℕ) (reach : Reach) (plan : List Piece) {text : List ℕ}
+    (r : Result Prepared ScanRefusal) → IfOk r (λ p. IsQuery text ask reach p.query) → IfOk r (λ p. p.plan ≡ plan)
+    → IfOk r (λ p. base ≤ reach.from)
+    → ((p : Prepared) → IsQuery text ask reach p.query → p.plan ≡ plan → base ≤ reach.from → IsPrepared v t known ask p)
+    → IfOk r (IsPrepared v t known ask)
+prepared_all v t known ask base reach plan (Ok p) query same above f = f p query same above
+prepared_all v t known ask base reach plan (Err e) query same above f = tt
+
+-- else it is refused for that
+pub cold_refused : (v t : View) (known : Known) (ask : Ask) (base from to : ℕ) (opens : List ℕ) (plan : List Piece)
+    (r : ScanRefusal) → base ≡ t.about.number → IsPlanned v t known ask from to opens plan → IsCold base from r
+    → IsRefused v t known ask r
+cold_refused v t known ask base from to opens plan (refusal.ColdRange found) is planned cold =
+    (cold.0 ∙ is, (from, to, opens, plan, (let same = cold.0 in let less = cold.1 in omega arith), planned))
+cold_refused v t known ask base from to opens plan refusal.OutOfMemory is planned cold = tt
+cold_refused v t known ask base from to opens plan (refusal.UnknownName version) is planned cold = absurd cold
+cold_refused v t known ask base from to opens plan (refusal.EmptyRange a b) is planned cold = absurd cold
+cold_refused v t known ask base from to opens plan (refusal.NotCovered a b) is planned cold = absurd cold
+
 -- how the range is read is so later
-unfoldable pub explained_later : (v u t : View) (known : Known) (ask : Ask) (p : Prepared) → OnlyScans u t → IsPrepared v u known ask p
-    → IsExplained v t known ask p.reach.from p.reach.to p.reach.opens p.plan
+unfoldable pub explained_later : (v u t : View) (known : Known) (ask : Ask) (p : Prepared) → OnlyScans u t
+    → IsPrepared v u known ask p
+    → IsExplained v t known ask p.query.reach.from p.query.reach.to p.query.reach.opens p.plan
 unfolding asked_later
 explained_later v u t known ask p after h = record {
   planned = record {
@@ -344,12 +388,12 @@ explained_later v u t known ask p after h = record {
     asked = asked_later v u t known ask h.place after h.asked;
     range = range_within v v u t _ _ _ _ _ (record { learns = learns_self v; clock = later_self v.clock; frame = refl; outside = λ e. e }) after
         h.reach.range;
-    settled = p.reach.settled;
+    settled = p.query.reach.settled;
     least = h.reach.settled;
     most = (let a = h.reach.reaches in let b = after.learns.settled in omega arith);
     plan_is = plan_within v v u t _ _ ask.how _ _ _ _ (learns_self v) after.learns h.plan;
   };
-  base = subst (λ (z : Key). z.number ≤ p.reach.from) (sym after.learns.about) h.base;
+  base = subst (λ (z : Key). z.number ≤ p.query.reach.from) (sym after.learns.about) h.base;
 }
 
 -- rows behind none
@@ -358,3 +402,32 @@ pub adds_first : (v : View) (def : Definition) (value other : Value) (from to : 
 adds_first v def value other from to opens before after none same h =
     subst (λ (z : Value × List Row). Finds v def z.0 from to opens z.1)
     (λ i. (same i, sym (h.1 ∙ ap (λ (z : List Row). z ++ h.0) none) i)) h.2
+
+-- ---- what is answered
+
+-- the pieces of what was prepared can be read
+pub prepared_readable : (v u : View) (known : Known) (ask : Ask) (p : Prepared) → IsPrepared v u known ask p
+    → AreReadable u (definition_of p.query.def) p.query.reach p.plan
+prepared_readable v u known ask p h =
+    let first = h.reach.range.first_is in
+    plan_readable v u known (definition_of p.query.def) h.asked.named.newest.listed.def p.query.reach h.asked.named.read
+    h.means (omega arith) ask.how p.plan h.plan
+
+-- and the rows that were found in them are those of an answer
+pub answer_found : (v u t : View) (known : Known) (ask : Ask) (p : Prepared) (rows : List Row) → OnlyScans u t
+    → IsPrepared v u known ask p
+    → Finds t (definition_of p.query.def) ask.value p.query.reach.from p.query.reach.to p.query.reach.opens rows
+    → IsAnswer v t known ask (record {
+      from = p.query.reach.from;
+      to = p.query.reach.to;
+      opens = p.query.reach.opens;
+      rows = rows;
+      plan = p.plan;
+    })
+unfolding asked_later explained_later
+answer_found v u t known ask p rows after h found = record {
+  explained = explained_later v u t known ask p after h;
+  def = definition_of p.query.def;
+  means = h.means;
+  found = found;
+}

@@ -24,6 +24,8 @@ use Rattle.fish_scan.specs.declared.ask.Answer.{Answer}
 use Rattle.fish_scan.specs.declared.ask.Ask.{Ask}
 use Rattle.fish_scan.specs.declared.ask.How.{How}
 use Rattle.fish_scan.specs.declared.ask.How.TheVariants as how
+use Rattle.fish_scan.specs.declared.matching.Query.{Query}
+use Rattle.fish_scan.specs.declared.reach.Reach.{Reach}
 use Rattle.fish_scan.specs.declared.refusal.ScanRefusal.{ScanRefusal}
 use Rattle.fish_scan.specs.declared.refusal.ScanRefusal.TheVariants as refusal
 use Rattle.fish_scan.specs.declared.scanning.Prepared.{Prepared}
@@ -90,14 +92,22 @@ IsPlanRefused v u rows text way from settled to (refusal.ColdRange base) = ⊥
 
 -- ---- answers
 
+-- the definition that a text is, the value that is asked for, and the range
+pub record IsQuery (text : List ℕ) (ask : Ask) (reach : Reach) (query : Query) : Type 0 where
+  pub means : IsAccepted text (definition_of query.def)
+  pub value : query.value ≡ ask.value
+  pub reach_is : query.reach ≡ reach
+
 -- what the pass knows before it reads a record
 pub record IsPrepared (v u : View) (known : Known) (ask : Ask) (p : Prepared) : Type 0 where
   pub place : ℕ
   pub asked : IsAsked v u known ask place
-  pub means : IsAccepted asked.named.newest.listed.def (definition_of p.def)
-  pub reach : IsReach v u (first_asked ask) ask.to p.reach
-  pub base : u.about.number ≤ p.reach.from
-  pub plan : IsPlan v u (rows_of known) asked.named.newest.listed.def ask.how p.reach.from p.reach.settled p.reach.to p.plan
+  pub means : IsAccepted asked.named.newest.listed.def (definition_of p.query.def)
+  pub value : p.query.value ≡ ask.value
+  pub reach : IsReach v u (first_asked ask) ask.to p.query.reach
+  pub base : u.about.number ≤ p.query.reach.from
+  pub plan : IsPlan v u (rows_of known) asked.named.newest.listed.def ask.how p.query.reach.from p.query.reach.settled
+      p.query.reach.to p.plan
 
 -- the range of what is asked for, and the plan by which it is to be read
 pub record IsPlanned (v u : View) (known : Known) (ask : Ask) (from to : ℕ) (opens : List ℕ) (plan : List Piece)
@@ -140,6 +150,14 @@ pub record IsUncovered (v u : View) (known : Known) (ask : Ask) (from to : ℕ) 
   pub plan : List Piece
   pub covered : IsCovered v u (rows_of known) asked.named.newest.listed.def first settled last plan
   pub gap : IsFirstGap plan settled from to
+
+-- a range is refused where it begins below the log's first number
+abbrev pub IsCold : ℕ → ℕ → ScanRefusal → Type 0
+IsCold base from (refusal.ColdRange found) = (found ≡ base) × (from < base)
+IsCold base from refusal.OutOfMemory = ⊤
+IsCold base from (refusal.UnknownName version) = ⊥
+IsCold base from (refusal.EmptyRange first last) = ⊥
+IsCold base from (refusal.NotCovered first last) = ⊥
 
 -- why there is no answer; a refusal comes only where none of those before it does
 abbrev pub IsRefused : View → View → Known → Ask → ScanRefusal → Type 0

@@ -1,10 +1,12 @@
 //! Scans, and how they would be answered.
 
 ghost use Rattle.std.specs.Prelude.{◌≡◌, ◌+◌, ◌≤◌, List, ℕ, IfErr, IfOk, MatchOption};
+ghost use Rattle.fish_catalog.specs.Canonical.{IsCanonical};
 ghost use Rattle.fish_epoch.specs.Definitions.{IsDefsOf, IsKnownOf};
 ghost use Rattle.fish_rule.specs.Passes.{IsPassOf, view};
 ghost use Rattle.fish_scan.specs.Pieces.{full_numbers};
-ghost use Rattle.fish_scan.specs.Scans.{AreEmptyEnds, IsAnswer, IsAsked, IsEmptyAsk, IsExplained, IsPrepared, IsRefused, OnlyScans};
+ghost use Rattle.fish_scan.specs.Scans.{AreEmptyEnds, IsAnswer, IsAsked, IsCold, IsEmptyAsk, IsExplained, IsPrepared, IsQuery};
+ghost use Rattle.fish_scan.specs.Scans.{IsRefused, OnlyScans};
 
 use crate::ask::{Answer, Ask, Explained};
 use crate::matching::Query;
@@ -14,7 +16,6 @@ use crate::planning::find_plan;
 use crate::reach::{Reach, find_reach};
 use crate::refusal::ScanRefusal;
 use fish_epoch::{Defs, Known};
-use fish_lang::Def;
 use fish_plan::{Plan, Stretch};
 use fish_psf::Steps;
 use fish_rule::{Log, Pass, base, load_version};
@@ -25,8 +26,7 @@ use std::sync::ledger::Ledger;
 /// What is known before a record is read.
 #[derive(Drop)]
 struct Prepared {
-    def: Def,
-    reach: Reach,
+    query: Query,
     plan: Plan,
 }
 
@@ -56,29 +56,53 @@ pub fn scan<P: Ledger, L: Ledger>(
     ensures refused { IfErr result (IsRefused (view pass.old) (view pass.new) defs.new.known ask.now) }
     ensures parses { IfOk result (λ answer. parses.new ≤ parses.old + full_numbers answer.plan) }
 {
-    let Prepared { def, reach, plan } = prepare(alloc, log, pass, &mut defs.known, ask)?;
-    let value = copy_value(alloc, &ask.value)?;
-    let query = Query { def, value, reach };
+    let prepared = prepare(alloc, log, pass, &mut defs.known, ask)?;
     let mut rows = Rows::new(alloc);
-    read_pieces(
+    let read = read_pieces(
         alloc,
         log,
         pass,
         &mut defs.reader,
-        &query,
-        plan.pieces(),
+        &prepared.query,
+        prepared.plan.pieces(),
         &mut rows,
         parses,
         loads,
-    )?;
-    let Query { reach, .. } = query;
-    Ok(Answer {
-        from: reach.from,
-        to: reach.to,
-        opens: reach.opens,
+    );
+    match read {
+        Ok(()) => Ok(answer_of(prepared, rows)),
+        Err(refusal) => {
+            drop(prepared);
+            drop(rows);
+            Err(ScanRefusal::from(refusal))
+        }
+    }
+}
+
+/// The answer to what was prepared, with the rows that were read.
+fn answer_of(prepared: Prepared, rows: Rows) -> Answer
+    ensures { let reach = prepared.query.reach in
+        result ≡ record { from = reach.from; to = reach.to; opens = reach.opens; rows = rows; plan = prepared.plan } }
+{
+    let Prepared { query, plan } = prepared;
+    let Query { def, value, reach } = query;
+    drop(def);
+    drop(value);
+    let Reach {
+        from,
+        to,
+        looks,
+        opens,
+        ..
+    } = reach;
+    drop(looks);
+    Answer {
+        from,
+        to,
+        opens,
         rows,
         plan,
-    })
+    }
 }
 
 /// How a scan would read its range, with the same refusals. No record is read.
@@ -98,12 +122,21 @@ pub fn explain(
         e.from e.to opens e.plan) }
     ensures refused { IfErr result (IsRefused (view pass.old) (view pass.new) defs.new.known ask.now) }
 {
-    let Prepared { reach, plan, .. } = prepare(alloc, log, pass, &mut defs.known, ask)?;
-    Ok(Explained {
-        from: reach.from,
-        to: reach.to,
-        plan,
-    })
+    let prepared = prepare(alloc, log, pass, &mut defs.known, ask)?;
+    Ok(explained_of(prepared))
+}
+
+/// How what was prepared would be read.
+fn explained_of(prepared: Prepared) -> Explained
+    ensures { let reach = prepared.query.reach in result ≡ record { from = reach.from; to = reach.to; plan = prepared.plan } }
+{
+    let Prepared { query, plan } = prepared;
+    let Query { def, value, reach } = query;
+    drop(def);
+    drop(value);
+    let (from, to) = (reach.from, reach.to);
+    drop(reach);
+    Explained { from, to, plan }
 }
 
 /// Finds what the name means, how far the scan looks, and how it reads what it reaches, in this order.
@@ -125,13 +158,63 @@ fn prepare(
     let place = find_row(log, pass, known, ask)?;
     let reach = find_reach(alloc, log, pass, ask.from.unwrap_or(0), ask.to)?;
     let text = known.rows()[place].def.as_bytes();
-    let plan = find_plan(alloc, log, pass, known.rows(), text, ask.how, &reach)?;
-    let base = base(log).number;
+    match find_plan(alloc, log, pass, known.rows(), text, ask.how, &reach) {
+        Ok(plan) => with_query(alloc, text, ask, base(log).number, reach, plan),
+        Err(refusal) => {
+            drop(reach);
+            Err(refusal)
+        }
+    }
+}
+
+/// What is known where a plan was made: refused where the range begins below the log's first number.
+fn with_query(
+    alloc: Global,
+    text: &[u8],
+    ask: &Ask,
+    base: u32,
+    reach: Reach,
+    plan: Plan,
+) -> Result<Prepared, ScanRefusal>
+    requires { IsCanonical text.now }
+    ensures query { IfOk result (λ p. IsQuery text.now ask.now reach p.query) }
+    ensures plan { IfOk result (λ p. p.plan ≡ plan) }
+    ensures above { IfOk result (λ p. base ≤ reach.from) }
+    ensures refused { IfErr result (IsCold base reach.from) }
+{
     if reach.from < base {
+        drop(reach);
+        drop(plan);
         return Err(ScanRefusal::ColdRange { base });
     }
-    let def = parse_text(alloc, text)?;
-    Ok(Prepared { def, reach, plan })
+    match query_of(alloc, text, ask, reach) {
+        Ok(query) => Ok(Prepared { query, plan }),
+        Err(refusal) => {
+            drop(plan);
+            Err(ScanRefusal::from(refusal))
+        }
+    }
+}
+
+/// The definition that a text is, the value that is asked for, and a range.
+fn query_of(alloc: Global, text: &[u8], ask: &Ask, reach: Reach) -> Result<Query, AllocError>
+    requires { IsCanonical text.now }
+    ensures { IfOk result (IsQuery text.now ask.now reach) }
+{
+    match parse_text(alloc, text) {
+        Ok(def) => match copy_value(alloc, &ask.value) {
+            Ok(value) => Ok(Query { def, value, reach }),
+            Err(refusal) => {
+                drop(def);
+                drop(reach);
+                Err(refusal)
+            }
+        },
+        Err(refusal) => {
+            drop(reach);
+            Err(refusal)
+        }
+    }
 }
 
 /// The place of the newest definition that has the name asked for, in the version that is loaded here.

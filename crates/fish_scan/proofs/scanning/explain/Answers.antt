@@ -1,13 +1,20 @@
 -- What was prepared is what is told.
+use Rattle.std.proofs.Common.{sym, subst}
 use Rattle.fish_rule.proofs.Extending.{extends_self}
 use Rattle.fish_rule.specs.Passes.{view}
 use Rattle.fish_scan.proofs.Answering.{explained_later, scans_extends}
+use Rattle.fish_scan.specs.Scans.{IsExplained}
+use Rattle.fish_scan.specs.declared.ask.Explained.{Explained}
 use Rattle.fish_scan.proofs.scanning.explain.Goals as goal
 
 pub returns-clause-explained : goal.returns-clause-explained
-returns-clause-explained c = (
-  c.in_ok-reach.field-0.reach.opens,
-  explained_later (view c.args.pass.now) (view c.prepare.new.pass) (view c.prepare.new.pass) c.prepare.new.known
-      c.args.ask.now c.in_ok-reach.field-0 (scans_extends _ _ (extends_self (view c.prepare.new.pass)))
-      c.in_ok-reach.ensures.prepared,
-)
+returns-clause-explained c =
+    let v = view c.args.pass.now in
+    let u = view c.prepare.new.pass in
+    let reach = c.in_ok-prepared.prepared.query.reach in (
+      reach.opens,
+      subst (λ (z : Explained). IsExplained v u c.prepare.new.known c.args.ask.now z.from z.to reach.opens z.plan)
+          (sym c.explained_of.ensures)
+          (explained_later v u u c.prepare.new.known c.args.ask.now c.in_ok-prepared.prepared
+          (scans_extends _ _ (extends_self u)) c.in_ok-prepared.ensures.prepared),
+    )
