@@ -39,7 +39,7 @@ use Rattle.fish_scan.specs.Pieces.{AreReadable, IsReadable}
 use Rattle.fish_scan.specs.Reach.{IsRange, IsReach, end_of}
 use Rattle.fish_scan.specs.Reading.{Adds}
 use Rattle.fish_scan.specs.Scans.{IsAnswer, IsAsked, IsCold, IsCovered, IsExplained, IsPlan, IsPlanRefused, IsPlanned, IsPrepared, IsQuery}
-use Rattle.fish_scan.specs.Scans.{IsRefused, OnlyScans, first_asked}
+use Rattle.fish_scan.specs.Scans.{IsRefused, OnlyPlans, OnlyScans, first_asked}
 use Rattle.fish_scan.specs.declared.ask.Ask.{Ask}
 use Rattle.fish_scan.specs.declared.ask.How.{How}
 use Rattle.fish_scan.specs.declared.ask.How.TheVariants as how
@@ -114,6 +114,27 @@ scans_version v u x is more = subst (OnlyScans v) (sym is) (record {
   frame = refl;
   outside = λ e. ap (λ (z : Epoch). (after_version (record v { epoch = z }) x).epoch) e;
 })
+
+-- ---- views of what loads no word of the log
+
+-- two parts of it
+pub plans_both : (a b c : View) → OnlyPlans a b → OnlyPlans b c → OnlyPlans a c
+plans_both a b c h g = record { scans = scans_both a b c h.scans g.scans; loads = g.loads ∙ h.loads }
+
+-- a view that extends another
+pub plans_extends : (v u : View) → Extends v u → u.clock.loads ≡ v.clock.loads → OnlyPlans v u
+plans_extends v u h same = record { scans = scans_extends v u h; loads = same }
+
+-- a call that settles
+pub plans_settles : (v u : View) → OnlySettles v u → OnlyPlans v u
+plans_settles v u h = record { scans = scans_settles v u h; loads = h.loads }
+
+-- the version is loaded
+pub plans_version : (v u : View) (x : ℕ) → u ≡ after_version v x → v.learned.version ≤ x → OnlyPlans v u
+plans_version v u x is more = record {
+  scans = scans_version v u x is more;
+  loads = ap (λ (z : View). z.clock.loads) is;
+}
 
 -- the version that was loaded is that of the definitions
 pub version_loaded : (v m u : View) (x : ℕ) (known : Known) → m ≡ after_version v x → IsLater m.clock u.clock

@@ -1,13 +1,16 @@
 pub mod Answering
 pub mod Beginnings
+pub mod Descending
 pub mod Filling
 pub mod Finding
 pub mod Gathering
 pub mod Indexing
 pub mod Lists
+pub mod Loading
 pub mod Looking
 pub mod Nodes
 pub mod Reaching
 pub mod Selecting
 pub mod Telling
 pub mod Walks
+pub mod Working

@@ -1,5 +1,5 @@
 -- What an entry that was told says of a record, and of its match.
-use Rattle.std.proofs.Common.{◌≡◌, ◌≢◌, ℕ, ◌+◌, ◌≤◌, suc, List, [], ◌∷◌, ◌++◌, refl, sym, ap, ◌∙◌, subst, inl, inr, arith}
+use Rattle.std.proofs.Common.{◌≡◌, ◌≢◌, ℕ, ◌+◌, ◌<◌, ◌≤◌, suc, List, [], ◌∷◌, ◌++◌, refl, sym, ap, ◌∙◌, subst, inl, inr, arith}
 use Rattle.std.proofs.Common.{Some, None, append-nil, append_assoc}
 use Rattle.std.specs.Prelude.{IsTrue}
 use Rattle.fish_catalog.specs.declared.entry.Entry.{Entry}
@@ -8,11 +8,12 @@ use Rattle.fish_lang.specs.Definition.{Definition}
 use Rattle.fish_layout.proofs.Once.{spelled_once}
 use Rattle.fish_layout.specs.declared.parts.BodyParts.{BodyParts}
 use Rattle.fish_psf.specs.Records.{evaluation, is_record}
-use Rattle.fish_rule.proofs.Extending.{learns_self}
+use Rattle.fish_rule.proofs.Extending.{learns_both, learns_self}
 use Rattle.fish_rule.proofs.Stored.{stored_parts}
 use Rattle.fish_rule.proofs.Common.{all_among}
 use Rattle.fish_rule.specs.Facts.{IsFound}
 use Rattle.fish_rule.specs.Logs.{IsEntry, Learns, Tells}
+use Rattle.fish_rule.specs.Reading.{after_look}
 use Rattle.fish_rule.specs.Regions.{code}
 use Rattle.fish_rule.specs.Table.{Stands}
 use Rattle.fish_rule.specs.Views.{Among}
@@ -22,6 +23,7 @@ use Rattle.fish_rule.specs.declared.view.View.{View}
 use Rattle.fish_scan.proofs.Finding.{finds_both, finds_later, finds_none, finds_one, finds_open, finds_other, told_other, told_void}
 use Rattle.fish_scan.specs.Matching.{Finds}
 use Rattle.fish_scan.specs.Reading.{Adds, IsMatching, IsParsable}
+use Rattle.fish_chain.proofs.Comparing.{given_later, looked}
 use Rattle.fish_chain.specs.Values.{IsGiven}
 use Rattle.fish_chain.specs.declared.walk.Node.{Node}
 use Rattle.fish_rule.specs.Walking.{Always}
@@ -160,3 +162,13 @@ stored_told u n s tells stored =
 -- so it is of the record of an entry that a walk gave
 pub given_stored : (v : View) (node : Node) → IsGiven v node → Always v (λ k w. high (w.dir node.number) ≡ code Stored)
 given_stored v node given x learns w r seat at = (given.1 x learns w r seat at).entry.stored
+
+-- so a look finds the record of an entry that a walk gave
+pub entry_found : (v m u : View) (node : Node) (r : Look) (lines word : ℕ) → u ≡ after_look m node.number lines word
+    → Learns v m → node.number < v.learned.settled → IsGiven v node → Stands u → IsLookAt u node.number r
+    → (node.number < m.learned.settled → IsEntryLook r) → HasFound u node.number Stored
+entry_found v m u node r lines word seen learns settled given stands found entry_look =
+    let on = looked m u node.number lines word seen in
+    let up = learns.settled in
+    settled_stored u node.number r stands found (entry_look (omega arith))
+    (given_stored u node (given_later v u node (learns_both v m u learns on.learns) given))

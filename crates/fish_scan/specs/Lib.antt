@@ -7,3 +7,4 @@ pub mod Pieces
 pub mod Reach
 pub mod Reading
 pub mod Scans
+pub mod Work

@@ -37,6 +37,11 @@ pub record OnlyScans (v u : View) : Type 0 where
   pub frame : u ≡ record v { epoch = u.epoch; tail = u.tail; learned = u.learned; clock = u.clock }
   pub outside : v.epoch ≡ Out → u.epoch ≡ Out
 
+-- and no word of the log was loaded
+pub record OnlyPlans (v u : View) : Type 0 where
+  pub scans : OnlyScans v u
+  pub loads : u.clock.loads ≡ v.clock.loads
+
 -- ---- what is asked
 
 -- the first number that is asked for

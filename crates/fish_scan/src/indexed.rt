@@ -8,6 +8,7 @@ ghost use Rattle.fish_chain.specs.Values.{IsGiven};
 ghost use Rattle.fish_scan.specs.Indices.{AddsNode, IsIndex, IsValued};
 ghost use Rattle.fish_scan.specs.Reach.{IsReached};
 ghost use Rattle.fish_scan.specs.Reading.{Adds};
+ghost use Rattle.fish_scan.specs.Work.{HasLoadedRows, IsComparison, IsIndexWork};
 
 use crate::matching::Query;
 use fish_catalog::Entry;
@@ -40,10 +41,13 @@ pub(crate) fn read_indexed<L: Ledger>(
     requires from { query.now.reach.from ≤ stretch.now.from }
     requires to { stretch.now.to ≤ query.now.reach.first }
     requires settled { stretch.now.to ≤ (view pass.old).learned.settled }
+    requires some { stretch.now.from ≤ stretch.now.to }
     ensures pass { IsPassOf log.now pass.new }
     ensures extends { Extends (view pass.old) (view pass.new) }
     ensures rows { OnOk result (Adds (view pass.new) (definition_of query.now.def) query.now.value stretch.now.from stretch.now.to
         query.now.reach.opens rows.old rows.new) }
+    ensures loads { OnOk result (IsIndexWork (view pass.old) (view pass.new) query.now.value rows.new id stretch.now.from
+        stretch.now.to loads.old loads.new) }
 {
     let bucket = bucket_of(key_hash(id, &query.value), buckets(log)) as u32;
     walk_start(log, pass, bucket, stretch.from, stretch.to, loads);
@@ -74,6 +78,7 @@ fn read_node<L: Ledger>(
     ensures walk { walk_of pass.new ≡ walk_of pass.old }
     ensures row { OnOk result (node.now.id ≡ id → AddsNode (view pass.new) query.now.value node.now rows.old rows.new) }
     ensures other { OnOk result (node.now.id ≢ id → rows.new ≡ rows.old) }
+    ensures loads { OnOk result (HasLoadedRows (view pass.old) (view pass.new) rows.old rows.new loads.old loads.new 36) }
 {
     if node.id != id {
         return Ok(());
@@ -106,6 +111,7 @@ fn payload_with<L: Ledger>(
     ensures pass { IsPassOf log.now pass.new }
     ensures extends { Extends (view pass.old) (view pass.new) }
     ensures payload { IfOk result (IsValued (view pass.new) query.now.value node.now) }
+    ensures loads { IfOk result (λ payload. IsComparison (view pass.old) (view pass.new) node.now payload loads.old loads.new) }
 {
     if !node_has(log, pass, node, &query.value, loads) {
         return Ok(None);

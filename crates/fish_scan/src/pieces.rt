@@ -8,6 +8,7 @@ ghost use Rattle.fish_rule.specs.Passes.{IsPassOf, view};
 ghost use Rattle.fish_scan.specs.Pieces.{AreReadable, IsReadable, full_numbers, full_of};
 ghost use Rattle.fish_scan.specs.Reach.{IsReached};
 ghost use Rattle.fish_scan.specs.Reading.{Adds};
+ghost use Rattle.fish_scan.specs.Work.{ArePiecesWork, IsPieceWork};
 
 use crate::indexed::read_indexed;
 use crate::matching::Query;
@@ -41,6 +42,8 @@ pub(crate) fn read_pieces<P: Ledger, L: Ledger>(
     ensures rows { OnOk result (Adds (view pass.new) (definition_of query.now.def) query.now.value query.now.reach.from
         query.now.reach.to query.now.reach.opens rows.old rows.new) }
     ensures parses { parses.new ≤ parses.old + full_numbers pieces.now }
+    ensures loads { OnOk result (ArePiecesWork (view pass.old) (view pass.new) query.now.value query.now.reach.opens rows.new
+        pieces.now loads.old loads.new) }
 {
     for piece in pieces {
         read_piece(alloc, log, pass, reader, query, piece, rows, parses, loads)?;
@@ -68,6 +71,8 @@ fn read_piece<P: Ledger, L: Ledger>(
     ensures rows { OnOk result (Adds (view pass.new) (definition_of query.now.def) query.now.value (piece_from piece.now)
         (piece_to piece.now) query.now.reach.opens rows.old rows.new) }
     ensures parses { parses.new ≤ parses.old + full_of piece.now }
+    ensures loads { OnOk result (IsPieceWork (view pass.old) (view pass.new) query.now.value query.now.reach.opens rows.new
+        piece.now loads.old loads.new) }
 {
     let stretch = Stretch {
         from: piece.from(),

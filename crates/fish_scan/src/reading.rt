@@ -9,6 +9,7 @@ ghost use Rattle.fish_rule.specs.Views.{Among};
 ghost use Rattle.fish_rule.specs.declared.view.Kind.TheVariants.{Stored};
 ghost use Rattle.fish_scan.specs.Reach.{IsReached};
 ghost use Rattle.fish_scan.specs.Reading.{Adds};
+ghost use Rattle.fish_scan.specs.Work.{IsFullWork};
 ghost use Rattle.fish_walk.specs.Looks.{HasFound};
 
 use crate::matching::{Query, matching};
@@ -45,6 +46,8 @@ pub(crate) fn read_stretch<P: Ledger, L: Ledger>(
     ensures rows { OnOk result (Adds (view pass.new) (definition_of query.now.def) query.now.value stretch.now.from stretch.now.to
         query.now.reach.opens rows.old rows.new) }
     ensures parses { parses.new + stretch.now.from ≤ parses.old + stretch.now.to }
+    ensures loads { OnOk result (IsFullWork (view pass.old) (view pass.new) query.now.reach.opens stretch.now.from stretch.now.to
+        loads.old loads.new) }
 {
     let mut number = stretch.to;
     while number > stretch.from {
@@ -75,6 +78,8 @@ fn read_at<P: Ledger, L: Ledger>(
     ensures row { OnOk result (Adds (view pass.new) (definition_of query.now.def) query.now.value number (number + 1)
         query.now.reach.opens rows.old rows.new) }
     ensures parses { parses.new ≤ parses.old + 1 }
+    ensures loads { OnOk result (IsFullWork (view pass.old) (view pass.new) query.now.reach.opens number (number + 1) loads.old
+        loads.new) }
 {
     match seen_at(log, pass, &query.reach, number) {
         Look::Stored => read_number(alloc, log, pass, reader, query, number, rows, parses, loads),
@@ -103,6 +108,8 @@ fn read_number<P: Ledger, L: Ledger>(
     ensures row { OnOk result (Adds (view pass.new) (definition_of query.now.def) query.now.value number (number + 1)
         query.now.reach.opens rows.old rows.new) }
     ensures parses { parses.new ≤ parses.old + 1 }
+    ensures loads { OnOk result (IsFullWork (view pass.old) (view pass.new) query.now.reach.opens number (number + 1) loads.old
+        loads.new) }
 {
     let entry = read_entry(alloc, log, pass, number, loads)?;
     if let Some(payload) = matching(alloc, reader, query, entry, parses)? {

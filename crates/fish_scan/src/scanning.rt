@@ -6,7 +6,8 @@ ghost use Rattle.fish_epoch.specs.Definitions.{IsDefsOf, IsKnownOf};
 ghost use Rattle.fish_rule.specs.Passes.{IsPassOf, view};
 ghost use Rattle.fish_scan.specs.Pieces.{full_numbers};
 ghost use Rattle.fish_scan.specs.Scans.{AreEmptyEnds, IsAnswer, IsAsked, IsCold, IsEmptyAsk, IsExplained, IsPrepared, IsQuery};
-ghost use Rattle.fish_scan.specs.Scans.{IsRefused, OnlyScans};
+ghost use Rattle.fish_scan.specs.Scans.{IsRefused, OnlyPlans, OnlyScans};
+ghost use Rattle.fish_scan.specs.Work.{IsWork};
 
 use crate::ask::{Answer, Ask, Explained};
 use crate::matching::Query;
@@ -32,12 +33,15 @@ struct Prepared {
 
 /// The records of a range on which a definition has a value, newest first: exactly those of the answer's range, less
 /// the numbers that it names as open. The name means its newest definition in the version that is loaded first,
-/// active or not; `defs` then has that version. Where the plan has a full piece each stored record of it is parsed
-/// once; an index piece parses nothing.
+/// active or not; `defs` then has that version.
+///
+/// Where the plan has a full piece each stored record of it is parsed once, and takes one load and one for each of its
+/// words. An index piece parses nothing, and takes at most 38 loads for each entry of the value's bucket at or above its
+/// first number, one for each word of the records that it gives, and two more.
 ///
 /// Refused, in this order, where no definition of that version has the name, where both ends are asked for and no
 /// number lies between, where the index is asked for and misses a settled number, and where the range begins below
-/// the log's first number. Want of memory may come in place of each of these but the first two.
+/// the log's first number. Want of memory may come in place of each of these.
 pub fn scan<P: Ledger, L: Ledger>(
     alloc: Global,
     log: &Log,
@@ -55,6 +59,7 @@ pub fn scan<P: Ledger, L: Ledger>(
     ensures answer { IfOk result (IsAnswer (view pass.old) (view pass.new) defs.new.known ask.now) }
     ensures refused { IfErr result (IsRefused (view pass.old) (view pass.new) defs.new.known ask.now) }
     ensures parses { IfOk result (λ answer. parses.new ≤ parses.old + full_numbers answer.plan) }
+    ensures loads { IfOk result (λ answer. IsWork (view pass.old) (view pass.new) ask.now.value answer loads.old loads.new) }
 {
     let prepared = prepare(alloc, log, pass, &mut defs.known, ask)?;
     let mut rows = Rows::new(alloc);
@@ -105,7 +110,7 @@ fn answer_of(prepared: Prepared, rows: Rows) -> Answer
     }
 }
 
-/// How a scan would read its range, with the same refusals. No record is read.
+/// How a scan would read its range, with the same refusals. No record is read, and no word of the log is loaded.
 pub fn explain(
     alloc: Global,
     log: &Log,
@@ -116,7 +121,7 @@ pub fn explain(
     requires pass { IsPassOf log.now pass.old }
     requires defs { IsDefsOf (view pass.old) defs.old }
     ensures pass { IsPassOf log.now pass.new }
-    ensures only { OnlyScans (view pass.old) (view pass.new) }
+    ensures only { OnlyPlans (view pass.old) (view pass.new) }
     ensures defs { IsDefsOf (view pass.new) defs.new }
     ensures explained { IfOk result (λ e. (opens : List ℕ) × IsExplained (view pass.old) (view pass.new) defs.new.known ask.now
         e.from e.to opens e.plan) }
@@ -150,7 +155,7 @@ fn prepare(
     requires pass { IsPassOf log.now pass.old }
     requires known { IsKnownOf (view pass.old) known.old }
     ensures pass { IsPassOf log.now pass.new }
-    ensures only { OnlyScans (view pass.old) (view pass.new) }
+    ensures only { OnlyPlans (view pass.old) (view pass.new) }
     ensures known { IsKnownOf (view pass.new) known.new }
     ensures prepared { IfOk result (IsPrepared (view pass.old) (view pass.new) known.new ask.now) }
     ensures refused { IfErr result (IsRefused (view pass.old) (view pass.new) known.new ask.now) }
@@ -222,7 +227,7 @@ fn find_row(log: &Log, pass: &mut Pass, known: &mut Known, ask: &Ask) -> Result<
     requires pass { IsPassOf log.now pass.old }
     requires known { IsKnownOf (view pass.old) known.old }
     ensures pass { IsPassOf log.now pass.new }
-    ensures only { OnlyScans (view pass.old) (view pass.new) }
+    ensures only { OnlyPlans (view pass.old) (view pass.new) }
     ensures known { IsKnownOf (view pass.new) known.new }
     ensures asked { IfOk result (IsAsked (view pass.old) (view pass.new) known.new ask.now) }
     ensures refused { IfErr result (IsRefused (view pass.old) (view pass.new) known.new ask.now) }

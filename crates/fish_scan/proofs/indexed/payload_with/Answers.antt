@@ -1,16 +1,22 @@
 -- An entry that has the value is of a settled record, which is read.
-use Rattle.std.proofs.Common.{subst, arith}
+use Rattle.std.proofs.Common.{ap, subst, arith}
 use Rattle.fish_chain.proofs.Comparing.{given_later, given_look, looked}
 use Rattle.fish_rule.proofs.Extending.{extends_both, learns_both}
 use Rattle.fish_rule.proofs.Walking.{always_later}
 use Rattle.fish_rule.specs.Logs.{Tells}
 use Rattle.fish_rule.specs.Passes.{view}
-use Rattle.fish_scan.proofs.Telling.{given_stored, settled_stored, stored_told}
+use Rattle.fish_rule.specs.declared.view.View.{View}
+use Rattle.fish_scan.proofs.Loading.{compared, compared_read}
+use Rattle.fish_scan.proofs.Telling.{entry_found, given_stored, stored_told}
 use Rattle.fish_scan.proofs.indexed.payload_with.Goals as goal
 
 pub returns-then-not-node_has-clause-payload : goal.returns-then-not-node_has-clause-payload
 returns-then-not-node_has-clause-payload g c =
     c.node_has.ensures.lacks (λ has. cc (has, c.if-not-node_has.true))
+
+pub returns-then-not-node_has-clause-loads : goal.returns-then-not-node_has-clause-loads
+returns-then-not-node_has-clause-loads g c =
+    compared (view c.args.pass.now) (view c.node_has.new.pass) _ _ c.node_has.ensures.counted c.node_has.ensures.few
 
 pub look-requires-clause-view : goal.look-requires-clause-view
 look-requires-clause-view g c =
@@ -22,17 +28,10 @@ look-requires-clause-view g c =
 
 pub read_entry-requires-clause-stored : goal.read_entry-requires-clause-stored
 read_entry-requires-clause-stored g c =
-    let v = view c.args.pass.now in
-    let u = view c.look.new.pass in
     let t = c.look.ensures.view in
-    let on = looked (view c.node_has.new.pass) u c.args.node.now.number t.0 t.1 t.2 in
-    let learns = c.node_has.ensures.extends.learns in
-    let up = learns.settled in
-    let settled = c.requires.settled in
-    let all = learns_both _ _ _ learns on.learns in
-    settled_stored u c.args.node.now.number c.look.result c.look.ensures.pass.stands c.look.ensures.found
-    (c.look.ensures.settled (omega arith))
-    (given_stored u c.args.node.now (given_later v u c.args.node.now all c.requires.given))
+    entry_found (view c.args.pass.now) (view c.node_has.new.pass) (view c.look.new.pass) c.args.node.now c.look.result t.0 t.1
+    t.2 c.node_has.ensures.extends.learns c.requires.settled c.requires.given c.look.ensures.pass.stands
+    c.look.ensures.found c.look.ensures.settled
 
 pub returns-in_err-payload-clause-extends : goal.returns-in_err-payload-clause-extends
 returns-in_err-payload-clause-extends g c =
@@ -69,3 +68,16 @@ returns-clause-payload g c =
         subst (Tells (view c.read_entry.new.pass) c.args.node.now.number) c.in-Stored.is c.in_ok-payload.ensures.entry,
       ),
     )
+
+-- the look is no load of a word of the log
+pub returns-clause-loads : goal.returns-clause-loads
+returns-clause-loads g c =
+    let v = view c.args.pass.now in
+    let m = view c.node_has.new.pass in
+    let u = view c.look.new.pass in
+    let t = c.look.ensures.view in
+    compared_read v m u (view c.read_entry.new.pass) c.args.node.now.number _ _ _ c.node_has.ensures.counted
+    c.node_has.ensures.few (ap (λ (z : View). z.clock.loads) t.2)
+    (entry_found v m u c.args.node.now c.look.result t.0 t.1 t.2 c.node_has.ensures.extends.learns c.requires.settled
+    c.requires.given c.look.ensures.pass.stands c.look.ensures.found c.look.ensures.settled)
+    c.read_entry.ensures.extends.learns c.in_ok-payload.ensures.counted

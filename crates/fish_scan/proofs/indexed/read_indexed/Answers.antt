@@ -7,6 +7,7 @@ use Rattle.fish_rule.proofs.Extending.{extends_both, learns_both}
 use Rattle.fish_rule.specs.Passes.{view, walk_of}
 use Rattle.fish_rule.specs.declared.table.Walk.{Walk}
 use Rattle.fish_rule.specs.declared.view.Key.{Key}
+use Rattle.fish_scan.proofs.Descending.{IsDescent, descent_end, descent_next, descent_start}
 use Rattle.fish_scan.proofs.Walks.{Gathered, bucket_still, gathered_all, gathered_later, gathered_next, gathered_none}
 use Rattle.fish_scan.proofs.Walks.{index_later, next_later, walking_later}
 use Rattle.fish_scan.specs.Indices.{bucket_of_value}
@@ -30,6 +31,8 @@ loop-node-init g c =
           (gathered_none (view c.walk_start.new.pass) (definition_of c.args.query.now.def) c.args.query.now.value c.args.id
           c.bucket_of-bucket.result c.args.stretch.now.from c.args.stretch.now.to (walk_of c.walk_start.new.pass)
           c.args.rows.now begun);
+      descent = descent_start v (view c.walk_start.new.pass) _ c.args.stretch.now.from (walk_of c.walk_start.new.pass).place
+          c.args.rows.now c.args.loads.now c.walk_start.new.loads c.walk_start.ensures.loads c.walk_start.ensures.counted;
     }
 
 pub loop-node-preserved : goal.loop-node-preserved
@@ -64,6 +67,12 @@ loop-node-preserved g c =
       gathered = subst (λ (z : ℕ). Gathered t (definition_of c.args.query.now.def) c.args.query.now.value c.args.id bucket
           c.args.stretch.now.from c.args.stretch.now.to z c.args.rows.now c.read_node.new.rows)
           (sym (ap (λ (z : Walk). z.given) same ∙ gave.1)) gathered;
+      descent = subst (λ (z : Walk). IsDescent (view c.args.pass.now) t bucket c.args.stretch.now.from z.place c.args.rows.now
+          c.read_node.new.rows c.args.loads.now c.read_node.new.loads) (sym same)
+          (descent_next (view c.args.pass.now) v u t walk bucket c.args.stretch.now.from (walk_of c.walk_next.new.pass).place
+          c.in-Some.node c.args.rows.now c.loop-node.rows c.read_node.new.rows c.args.loads.now c.loop-node.loads
+          c.walk_next.new.loads c.read_node.new.loads on last inv.range.bucket_is inv.range.from_is inv.descent
+          c.in-Some.ensures.few c.walk_next.ensures.counted c.in_ok-read_node.ensures.loads);
     }
 
 pub returns-in_err-read_node-clause-extends : goal.returns-in_err-read_node-clause-extends
@@ -89,3 +98,19 @@ returns-clause-rows g c =
     (bucket_still (view c.args.pass.now) u c.args.id c.args.query.now.value all)
     (λ n after before among. let t = c.requires.reached.seen.open_ones n among in let place = t.1 in absurd (omega arith))
     (gathered_later v u _ _ _ _ _ _ _ _ _ on inv.gathered) gave.0
+
+-- the walk is past the table
+pub returns-clause-loads : goal.returns-clause-loads
+returns-clause-loads g c =
+    let inv = c.loop-node.invariant in
+    let v = view c.args.pass.now in
+    let u = view c.walk_next.new.pass in
+    let on = c.walk_next.ensures.extends.learns in
+    let still = bucket_still v u c.args.id c.args.query.now.value (learns_both _ _ _ inv.extends.learns on) in
+    descent_end v (view c.loop-node.pass) u (walk_of c.loop-node.pass) (definition_of c.args.query.now.def)
+    c.args.query.now.value c.args.id c.args.stretch.now.from c.args.stretch.now.to (walk_of c.walk_next.new.pass).place
+    c.args.query.now.reach.opens c.args.rows.now c.loop-node.rows c.args.loads.now c.loop-node.loads c.walk_next.new.loads on
+    c.requires.some (inv.range.bucket_is ∙ still) inv.range.from_is
+    (subst (λ (z : ℕ). IsDescent v (view c.loop-node.pass) z c.args.stretch.now.from (walk_of c.loop-node.pass).place
+    c.args.rows.now c.loop-node.rows c.args.loads.now c.loop-node.loads) still inv.descent)
+    c.in_default.ensures.few c.walk_next.ensures.counted (returns-clause-rows g c)

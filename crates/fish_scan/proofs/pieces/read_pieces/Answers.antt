@@ -1,13 +1,17 @@
 -- One piece more.
-use Rattle.std.proofs.Common.{◌≡◌, ℕ, ◌+◌, ◌≤◌, suc, arith, drop, subst}
+use Rattle.std.proofs.Common.{◌≡◌, ℕ, ◌+◌, ◌≤◌, suc, List, arith, drop, refl, subst, take}
 use Rattle.std.proofs.lemmas.Option.{slice_get-get_or}
 use Rattle.fish_lang.specs.Definition.{definition_of}
+use Rattle.fish_plan.specs.declared.pieces.Piece.{Piece}
 use Rattle.fish_plan.specs.declared.pieces.Piece.TheVariants.{Index}
 use Rattle.fish_rule.proofs.Extending.{extends_both, extends_self}
 use Rattle.fish_rule.specs.Passes.{view}
 use Rattle.fish_scan.proofs.Filling.{HasRead, full_at, read_all, read_more, read_none, readable_later}
 use Rattle.fish_scan.proofs.Reaching.{reached_still}
+use Rattle.fish_scan.proofs.Loading.{rises_none}
+use Rattle.fish_scan.proofs.Working.{pieces_more, take_all}
 use Rattle.fish_scan.specs.Pieces.{full_numbers}
+use Rattle.fish_scan.specs.Work.{ArePiecesWork}
 use Rattle.fish_scan.proofs.pieces.read_pieces.Goals as goal
 
 pub loop-piece-init : goal.loop-piece-init
@@ -17,6 +21,7 @@ loop-piece-init g c = record {
   extends = extends_self (view c.args.pass.now);
   read = read_none (view c.args.pass.now) (definition_of c.args.query.now.def) c.args.query.now.value c.args.query.now.reach
       c.args.pieces.now c.args.rows.now c.requires.fill;
+  work = (0, refl, rises_none (view c.args.pass.now) c.args.loads.now);
 }
 
 pub read_piece-requires-clause-reached : goal.read_piece-requires-clause-reached
@@ -51,6 +56,14 @@ loop-piece-preserved g c =
           c.read_piece.ensures.extends.learns
           (slice_get-get_or c.args.pieces.now c.loop-piece.piece-index (Index 0 0 0) c.loop-piece-test.true)
           inv.read c.in_ok-read_piece.ensures.rows);
+      work = subst (λ (z : ℕ). ArePiecesWork (view c.args.pass.now) (view c.read_piece.new.pass) c.args.query.now.value
+          c.args.query.now.reach.opens c.read_piece.new.rows (take z c.args.pieces.now) c.args.loads.now
+          c.read_piece.new.loads) next
+          (pieces_more (view c.args.pass.now) (view c.loop-piece.pass) (view c.read_piece.new.pass) c.args.query.now.value
+          c.args.query.now.reach.opens c.loop-piece.rows c.read_piece.new.rows _ c.args.pieces.now c.loop-piece.piece-index _
+          c.args.loads.now c.loop-piece.loads c.read_piece.new.loads c.read_piece.ensures.extends.learns
+          (slice_get-get_or c.args.pieces.now c.loop-piece.piece-index (Index 0 0 0) c.loop-piece-test.true)
+          c.in_ok-read_piece.ensures.rows.1 inv.work c.in_ok-read_piece.ensures.loads);
     }
 
 pub returns-clause-rows : goal.returns-clause-rows
@@ -68,3 +81,9 @@ returns-in_err-read_piece-clause-parses g c =
 
 pub returns-clause-parses : goal.returns-clause-parses
 returns-clause-parses g c = (let so_far = c.loop-piece.invariant.parses in omega arith)
+
+pub returns-clause-loads : goal.returns-clause-loads
+returns-clause-loads g c = subst (λ (z : List Piece). ArePiecesWork (view c.args.pass.now) (view c.loop-piece.pass)
+    c.args.query.now.value c.args.query.now.reach.opens c.loop-piece.rows z c.args.loads.now c.loop-piece.loads)
+    (take_all c.args.pieces.now c.loop-piece.piece-index (let all = c.loop-piece-test.false in omega arith))
+    c.loop-piece.invariant.work

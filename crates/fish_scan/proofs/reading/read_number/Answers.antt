@@ -2,6 +2,7 @@
 use Rattle.std.proofs.Common.{ℕ, List, Option, subst}
 use Rattle.fish_lang.specs.Definition.{definition_of}
 use Rattle.fish_rule.specs.Passes.{view}
+use Rattle.fish_scan.proofs.Working.{full_read}
 use Rattle.fish_scan.proofs.Telling.{told_found, told_parsable, told_unfound}
 use Rattle.fish_scan.specs.Reading.{IsMatching}
 use Rattle.fish_scan.proofs.reading.read_number.Goals as goal
@@ -23,3 +24,13 @@ returns-in_default-clause-row g c =
     c.in_ok-entry.entry c.args.query.now.reach.opens c.args.rows.now c.in_ok-entry.ensures.entry
     (subst (λ (z : Option (List ℕ)). IsMatching (definition_of c.args.query.now.def) c.args.query.now.value
     c.in_ok-entry.entry z) c.in_default.is c.in_ok-payload.ensures.matching)
+
+pub returns-in_ok-push-clause-loads : goal.returns-in_ok-push-clause-loads
+returns-in_ok-push-clause-loads g c = full_read (view c.args.pass.now) (view c.read_entry.new.pass) c.args.query.now.reach.opens
+    c.args.number c.args.loads.now c.read_entry.new.loads c.requires.stored c.read_entry.ensures.extends.learns
+    c.requires.finished c.in_ok-entry.ensures.counted
+
+pub returns-in_default-clause-loads : goal.returns-in_default-clause-loads
+returns-in_default-clause-loads g c = full_read (view c.args.pass.now) (view c.read_entry.new.pass) c.args.query.now.reach.opens
+    c.args.number c.args.loads.now c.read_entry.new.loads c.requires.stored c.read_entry.ensures.extends.learns
+    c.requires.finished c.in_ok-entry.ensures.counted

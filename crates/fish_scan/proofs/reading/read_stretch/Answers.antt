@@ -5,7 +5,9 @@ use Rattle.fish_rule.proofs.Extending.{extends_both, extends_self}
 use Rattle.fish_rule.specs.Passes.{view}
 use Rattle.fish_scan.proofs.Reaching.{reached_still}
 use Rattle.fish_scan.proofs.Telling.{adds_both, adds_later, adds_none}
+use Rattle.fish_scan.proofs.Working.{full_both, full_none}
 use Rattle.fish_scan.specs.Reading.{Adds}
+use Rattle.fish_scan.specs.Work.{IsFullWork}
 use Rattle.fish_scan.proofs.reading.read_stretch.Goals as goal
 
 pub loop-number-init : goal.loop-number-init
@@ -17,6 +19,7 @@ loop-number-init g c = record {
   parses = omega arith;
   rows = adds_none (view c.args.pass.now) (definition_of c.args.query.now.def) c.args.query.now.value c.args.stretch.now.to
       c.args.query.now.reach.opens c.args.rows.now;
+  work = full_none (view c.args.pass.now) c.args.query.now.reach.opens c.args.stretch.now.to c.args.loads.now;
 }
 
 pub read_at-requires-clause-reached : goal.read_at-requires-clause-reached
@@ -43,6 +46,11 @@ loop-number-preserved g c =
           (subst (λ (z : ℕ). Adds (view c.read_at.new.pass) (definition_of c.args.query.now.def) c.args.query.now.value
           (c.loop-number.number - 1) z c.args.query.now.reach.opens c.loop-number.rows c.read_at.new.rows) next
           c.in_ok-read_at.ensures.row);
+      work = full_both (view c.args.pass.now) (view c.loop-number.pass) (view c.read_at.new.pass) c.args.query.now.reach.opens
+          (c.loop-number.number - 1) c.loop-number.number c.args.stretch.now.to c.args.loads.now c.loop-number.loads
+          c.read_at.new.loads c.read_at.ensures.extends.learns inv.work
+          (subst (λ (z : ℕ). IsFullWork (view c.loop-number.pass) (view c.read_at.new.pass) c.args.query.now.reach.opens
+          (c.loop-number.number - 1) z c.loop-number.loads c.read_at.new.loads) next c.in_ok-read_at.ensures.loads);
     }
 
 pub returns-in_err-read_at-clause-extends : goal.returns-in_err-read_at-clause-extends

@@ -4,6 +4,7 @@ use Rattle.fish_lang.specs.Definition.{definition_of}
 use Rattle.fish_rule.specs.Logs.{Extends}
 use Rattle.fish_rule.specs.Passes.{IsPassOf, view}
 use Rattle.fish_scan.specs.Reading.{Adds}
+use Rattle.fish_scan.specs.Work.{IsFullWork}
 use Rattle.fish_scan.proofs.reading.read_stretch.Given as goal
 
 abbrev pub invariant-loop-number : goal.invariant-loop-number
@@ -14,6 +15,7 @@ invariant-loop-number g l = record {
   below : l.number ≤ l.stretch.to;
   parses : l.parses + l.number ≤ l.fn.parses + l.stretch.to;
   rows : Adds (view l.pass) (definition_of l.query.def) l.query.value l.number l.stretch.to l.query.reach.opens l.fn.rows l.rows;
+  work : IsFullWork (view l.fn.pass) (view l.pass) l.query.reach.opens l.number l.stretch.to l.fn.loads l.loads;
 }
 
 abbrev pub decreases-loop-number : goal.decreases-loop-number

@@ -6,15 +6,15 @@ use Rattle.fish_epoch.specs.Definitions.{IsKnownOf}
 use Rattle.fish_rule.specs.Clocks.{HasLoaded}
 use Rattle.fish_rule.specs.Passes.{view}
 use Rattle.fish_rule.specs.declared.view.Noted.TheVariants.{Version}
-use Rattle.fish_scan.proofs.Answering.{scans_both, scans_extends, scans_version}
+use Rattle.fish_scan.proofs.Answering.{plans_both, plans_extends, plans_version, scans_both, scans_extends, scans_version}
 use Rattle.fish_scan.proofs.Answering.{version_loaded}
 use Rattle.fish_scan.specs.Naming.{HasNone, IsNewest}
 use Rattle.fish_scan.proofs.scanning.find_row.Goals as goal
 
 pub returns-in_err-refresh-clause-only : goal.returns-in_err-refresh-clause-only
-returns-in_err-refresh-clause-only c = scans_both _ _ _
-    (scans_version _ _ c.load_version-version.result c.load_version-version.ensures.view c.load_version-version.ensures.rises)
-    (scans_extends _ _ c.refresh.ensures.reads.extends)
+returns-in_err-refresh-clause-only c = plans_both _ _ _
+    (plans_version _ _ c.load_version-version.result c.load_version-version.ensures.view c.load_version-version.ensures.rises)
+    (plans_extends _ _ c.refresh.ensures.reads.extends c.refresh.ensures.reads.loads)
 
 pub returns-in_err-refresh-clause-known : goal.returns-in_err-refresh-clause-known
 returns-in_err-refresh-clause-known c =
@@ -25,9 +25,9 @@ returns-in_err-refresh-clause-known c =
     (defs_later (view c.args.pass.now) (view c.refresh.new.pass) c.args.known.now only.learns c.requires.known)
 
 pub returns-in_default-clause-only : goal.returns-in_default-clause-only
-returns-in_default-clause-only c = scans_both _ _ _
-    (scans_version _ _ c.load_version-version.result c.load_version-version.ensures.view c.load_version-version.ensures.rises)
-    (scans_extends _ _ c.refresh.ensures.reads.extends)
+returns-in_default-clause-only c = plans_both _ _ _
+    (plans_version _ _ c.load_version-version.result c.load_version-version.ensures.view c.load_version-version.ensures.rises)
+    (plans_extends _ _ c.refresh.ensures.reads.extends c.refresh.ensures.reads.loads)
 
 pub returns-in_default-clause-refused : goal.returns-in_default-clause-refused
 returns-in_default-clause-refused c =
@@ -42,14 +42,14 @@ returns-in_default-clause-refused c =
     )
 
 pub returns-in-Some-empty_range-clause-only : goal.returns-in-Some-empty_range-clause-only
-returns-in-Some-empty_range-clause-only c = scans_both _ _ _
-    (scans_version _ _ c.load_version-version.result c.load_version-version.ensures.view c.load_version-version.ensures.rises)
-    (scans_extends _ _ c.refresh.ensures.reads.extends)
+returns-in-Some-empty_range-clause-only c = plans_both _ _ _
+    (plans_version _ _ c.load_version-version.result c.load_version-version.ensures.view c.load_version-version.ensures.rises)
+    (plans_extends _ _ c.refresh.ensures.reads.extends c.refresh.ensures.reads.loads)
 
 pub returns-clause-only : goal.returns-clause-only
-returns-clause-only c = scans_both _ _ _
-    (scans_version _ _ c.load_version-version.result c.load_version-version.ensures.view c.load_version-version.ensures.rises)
-    (scans_extends _ _ c.refresh.ensures.reads.extends)
+returns-clause-only c = plans_both _ _ _
+    (plans_version _ _ c.load_version-version.result c.load_version-version.ensures.view c.load_version-version.ensures.rises)
+    (plans_extends _ _ c.refresh.ensures.reads.extends c.refresh.ensures.reads.loads)
 
 -- the name's newest definition in the version that was loaded
 pub returns-in-Some-empty_range-clause-refused : goal.returns-in-Some-empty_range-clause-refused

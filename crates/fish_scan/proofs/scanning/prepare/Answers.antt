@@ -9,14 +9,15 @@ use Rattle.fish_epoch.specs.Definitions.{rows_of}
 use Rattle.fish_rule.proofs.Extending.{learns_self}
 use Rattle.fish_rule.specs.Passes.{view}
 use Rattle.fish_rule.specs.declared.view.Key.{Key}
-use Rattle.fish_scan.proofs.Answering.{asked_later, cold_refused, err_gives, plan_by_rows, plan_refused, planned_at, prepared_all}
-use Rattle.fish_scan.proofs.Answering.{prepared_at, reach_within, read_later, row_found, scans_both, scans_extends, scans_settles}
+use Rattle.fish_scan.proofs.Answering.{asked_later, cold_refused, err_gives, plan_by_rows, plan_refused, planned_at, plans_both}
+use Rattle.fish_scan.proofs.Answering.{plans_extends, plans_settles, prepared_all, prepared_at, reach_within, read_later}
+use Rattle.fish_scan.proofs.Answering.{row_found, scans_both, scans_extends, scans_settles}
 use Rattle.fish_scan.proofs.Lists.{all_at}
 use Rattle.fish_scan.specs.Scans.{IsCold, IsPlanRefused, IsQuery, IsRefused}
 use Rattle.fish_scan.proofs.scanning.prepare.Goals as goal
 
 pub returns-in_err-reach-clause-only : goal.returns-in_err-reach-clause-only
-returns-in_err-reach-clause-only c = scans_both _ _ _ c.find_row.ensures.only (scans_settles _ _ c.find_reach.ensures.settles)
+returns-in_err-reach-clause-only c = plans_both _ _ _ c.find_row.ensures.only (plans_settles _ _ c.find_reach.ensures.settles)
 
 pub returns-in_err-reach-clause-known : goal.returns-in_err-reach-clause-known
 returns-in_err-reach-clause-known c = defs_later _ _ c.find_row.new.known c.find_reach.ensures.settles.learns
@@ -50,8 +51,9 @@ with_query-requires c =
     listing.texts asked.named.newest.there)
 
 pub returns-in-Ok-clause-only : goal.returns-in-Ok-clause-only
-returns-in-Ok-clause-only c = scans_both _ _ _ c.find_row.ensures.only
-    (scans_both _ _ _ (scans_settles _ _ c.find_reach.ensures.settles) (scans_extends _ _ c.find_plan.ensures.only.extends))
+returns-in-Ok-clause-only c = plans_both _ _ _ c.find_row.ensures.only (plans_both _ _ _
+    (plans_settles _ _ c.find_reach.ensures.settles)
+    (plans_extends _ _ c.find_plan.ensures.only.extends c.find_plan.ensures.only.loads))
 
 pub returns-in-Ok-clause-known : goal.returns-in-Ok-clause-known
 returns-in-Ok-clause-known c =
@@ -68,7 +70,7 @@ returns-in-Ok-clause-prepared c =
     let t = view c.find_plan.new.pass in
     let known = c.find_row.new.known in
     let asked = c.in_ok-place.ensures.asked in
-    let before = c.find_row.ensures.only in
+    let before = c.find_row.ensures.only.scans in
     let settles = scans_settles m n c.find_reach.ensures.settles in
     let rest = scans_extends n t c.find_plan.ensures.only.extends in
     let row = row_found (rows_of known) c.rows.result.now c.in_ok-place.place asked.named.newest.listed
@@ -94,7 +96,7 @@ returns-in-Ok-clause-refused c =
     let t = view c.find_plan.new.pass in
     let known = c.find_row.new.known in
     let asked = c.in_ok-place.ensures.asked in
-    let before = c.find_row.ensures.only in
+    let before = c.find_row.ensures.only.scans in
     let settles = scans_settles m n c.find_reach.ensures.settles in
     let rest = scans_extends n t c.find_plan.ensures.only.extends in
     let row = row_found (rows_of known) c.rows.result.now c.in_ok-place.place asked.named.newest.listed
@@ -110,8 +112,9 @@ returns-in-Ok-clause-refused c =
     (scans_both v m n before settles).learns (learns_self t) c.in-Ok.ensures.plan)) cold)
 
 pub returns-in-Err-clause-only : goal.returns-in-Err-clause-only
-returns-in-Err-clause-only c = scans_both _ _ _ c.find_row.ensures.only
-    (scans_both _ _ _ (scans_settles _ _ c.find_reach.ensures.settles) (scans_extends _ _ c.find_plan.ensures.only.extends))
+returns-in-Err-clause-only c = plans_both _ _ _ c.find_row.ensures.only (plans_both _ _ _
+    (plans_settles _ _ c.find_reach.ensures.settles)
+    (plans_extends _ _ c.find_plan.ensures.only.extends c.find_plan.ensures.only.loads))
 
 pub returns-in-Err-clause-known : goal.returns-in-Err-clause-known
 returns-in-Err-clause-known c =
@@ -129,7 +132,7 @@ returns-in-Err-clause-refused c =
     let t = view c.find_plan.new.pass in
     let known = c.find_row.new.known in
     let asked = c.in_ok-place.ensures.asked in
-    let before = c.find_row.ensures.only in
+    let before = c.find_row.ensures.only.scans in
     let settles = scans_settles m n c.find_reach.ensures.settles in
     let rest = scans_extends n t c.find_plan.ensures.only.extends in
     let row = row_found (rows_of known) c.rows.result.now c.in_ok-place.place asked.named.newest.listed

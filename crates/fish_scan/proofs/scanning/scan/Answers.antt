@@ -5,8 +5,11 @@ use Rattle.fish_lang.specs.Definition.{definition_of}
 use Rattle.fish_rule.specs.Passes.{view}
 use Rattle.fish_scan.proofs.Answering.{adds_first, answer_found, prepared_readable, scans_both}
 use Rattle.fish_scan.proofs.Answering.{scans_extends}
+use Rattle.fish_scan.proofs.Working.{work_done}
 use Rattle.fish_scan.specs.Pieces.{AreReadable}
 use Rattle.fish_scan.specs.Scans.{IsAnswer}
+use Rattle.fish_scan.specs.Work.{IsWork}
+use Rattle.fish_scan.specs.declared.ask.Answer.{Answer}
 use Rattle.fish_scan.proofs.scanning.scan.Goals as goal
 
 pub read_pieces-read-requires-clause-readable : goal.read_pieces-read-requires-clause-readable
@@ -17,7 +20,7 @@ read_pieces-read-requires-clause-readable g c =
     c.in_ok-prepared.ensures.prepared)
 
 pub returns-in-Ok-clause-only : goal.returns-in-Ok-clause-only
-returns-in-Ok-clause-only g c = scans_both _ _ _ c.prepare.ensures.only (scans_extends _ _ c.read_pieces-read.ensures.extends)
+returns-in-Ok-clause-only g c = scans_both _ _ _ c.prepare.ensures.only.scans (scans_extends _ _ c.read_pieces-read.ensures.extends)
 
 pub returns-in-Ok-clause-defs : goal.returns-in-Ok-clause-defs
 returns-in-Ok-clause-defs g c = defs_later _ _ c.prepare.new.known c.read_pieces-read.ensures.extends.learns
@@ -35,8 +38,20 @@ returns-in-Ok-clause-answer g c =
     c.in_ok-prepared.ensures.prepared.value c.in-Ok.ensures.rows))
 
 pub returns-in-Err-clause-only : goal.returns-in-Err-clause-only
-returns-in-Err-clause-only g c = scans_both _ _ _ c.prepare.ensures.only (scans_extends _ _ c.read_pieces-read.ensures.extends)
+returns-in-Err-clause-only g c = scans_both _ _ _ c.prepare.ensures.only.scans (scans_extends _ _ c.read_pieces-read.ensures.extends)
 
 pub returns-in-Err-clause-defs : goal.returns-in-Err-clause-defs
 returns-in-Err-clause-defs g c = defs_later _ _ c.prepare.new.known c.read_pieces-read.ensures.extends.learns
     c.prepare.ensures.known
+
+-- nothing of the log was loaded before the pieces were read
+pub returns-in-Ok-clause-loads : goal.returns-in-Ok-clause-loads
+returns-in-Ok-clause-loads g c =
+    let p = c.in_ok-prepared.prepared in
+    let u = view c.read_pieces-read.new.pass in
+    subst (λ (z : Answer). IsWork (view c.args.pass.now) u c.args.ask.now.value z c.args.loads.now
+    c.read_pieces-read.new.loads) (sym c.answer_of.ensures)
+    (work_done (view c.args.pass.now) (view c.prepare.new.pass) u p.query.value c.args.ask.now.value p.query.reach.from
+    p.query.reach.to p.query.reach.opens c.read_pieces-read.new.rows c.pieces.result.now p.plan c.args.loads.now
+    c.read_pieces-read.new.loads c.prepare.ensures.only.loads c.in_ok-prepared.ensures.prepared.value c.pieces.ensures
+    c.in-Ok.ensures.loads)
