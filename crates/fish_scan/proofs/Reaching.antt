@@ -2,7 +2,7 @@
 use Rattle.std.proofs.Common.{◌≡◌, ◌≢◌, ℕ, ◌+◌, ◌-◌, ◌<◌, ◌≤◌, List, refl, sym, ap, ◌∙◌, subst, inl, inr, arith, Some, slice_get}
 use Rattle.std.proofs.Math.Decide.{dec_lt}
 use Rattle.std.proofs.Math.ListN.{get_or}
-use Rattle.std.proofs.lemmas.Option.{slice_get-get_or}
+use Rattle.std.proofs.lemmas.Option.{same_Some, slice_get-get_or}
 use Rattle.fish_rule.proofs.Bodies.{code_once}
 use Rattle.fish_rule.proofs.Common.{all_among}
 use Rattle.fish_rule.proofs.Kept.{published}
@@ -75,6 +75,22 @@ entry_unmarked r (inr e) = (
   λ f. let bad : look.Void ≡ look.Overflow = sym e ∙ f in cc,
   λ f. let bad : look.Void ≡ look.Unfinished = sym e ∙ f in cc,
 )
+
+-- a number that was looked at is what its look among the looks tells
+pub looked_there : (v : View) (reach : Reach) (number : ℕ) (r : Look) → IsReached v reach → reach.first ≤ number
+    → slice_get reach.looks.items (number - reach.first) ≡ Some r
+    → IsLookAt v number r × (r ≢ look.Overflow) × (r ≡ look.Unfinished → Among number reach.opens)
+    × (r ≢ look.Unfinished → ¬ Among number reach.opens)
+looked_there v reach number r h first there =
+    let place = place_seen reach.first number first in
+    let told = h.seen.each _ _ there in (
+      subst (λ (z : ℕ). IsLookAt v z r) place told.0,
+      told.1,
+      λ is. subst (λ (z : ℕ). Among z reach.opens) place (h.seen.unfinished _ (there ∙ ap Some is)),
+      λ some among. let t = h.seen.open_ones number among in
+          let same : number - reach.first ≡ t.0 = (let at = t.1 in omega arith) in
+          some (same_Some _ _ (sym there ∙ ap (slice_get reach.looks.items) same ∙ t.2)),
+    )
 
 -- ---- what isn't open is published
 

@@ -1,11 +1,9 @@
 -- A number below the first that was looked at is settled.
-use Rattle.std.proofs.Common.{◌≡◌, ℕ, ◌-◌, Some, slice_get, refl, sym, ap, ◌∙◌, subst, arith, length}
-use Rattle.std.proofs.lemmas.Option.{same_Some, slice_get_read}
+use Rattle.std.proofs.Common.{refl, arith, length}
+use Rattle.std.proofs.lemmas.Option.{slice_get_read}
 use Rattle.fish_rule.specs.Passes.{view}
-use Rattle.fish_rule.specs.Views.{Among}
-use Rattle.fish_scan.proofs.Reaching.{entry_unmarked, place_seen}
-use Rattle.fish_walk.proofs.Looking.{look_looks}
-use Rattle.fish_walk.specs.Looks.{IsLookAt}
+use Rattle.fish_scan.proofs.Reaching.{entry_unmarked, looked_there}
+use Rattle.fish_walk.proofs.Looking.{look_looks, looked_self}
 use Rattle.fish_scan.proofs.reach.seen_at.Goals as goal
 
 pub look-requires-clause-view : goal.look-requires-clause-view
@@ -44,46 +42,19 @@ returns-then-number-reach-clause-finished c some among =
     absurd (omega arith)
 
 -- what was found at the number's place among the looks
-pub returns-clause-seen : goal.returns-clause-seen
-returns-clause-seen c =
+pub returns : goal.returns
+returns c =
     let h = c.requires.reached in
     let first = c.if-number-reach.false in
     let many = h.many in
     let to = c.requires.to in
-    let there = slice_get_read c.args.reach.now.looks.items (length c.args.reach.now.looks.items) _ _ refl (omega arith)
-    c.index.ensures in
-    let place = place_seen c.args.reach.now.first c.args.number (omega arith) in
-    subst (λ (z : ℕ). IsLookAt (view c.args.pass.now) z c.index.result.now) place (h.seen.each _ _ there).0
-
-pub returns-clause-unmarked : goal.returns-clause-unmarked
-returns-clause-unmarked c =
-    let h = c.requires.reached in
-    let first = c.if-number-reach.false in
-    let many = h.many in
-    let to = c.requires.to in
-    let there = slice_get_read c.args.reach.now.looks.items (length c.args.reach.now.looks.items) _ _ refl (omega arith)
-    c.index.ensures in
-    (h.seen.each _ _ there).1
-
-pub returns-clause-unfinished : goal.returns-clause-unfinished
-returns-clause-unfinished c is =
-    let h = c.requires.reached in
-    let first = c.if-number-reach.false in
-    let many = h.many in
-    let to = c.requires.to in
-    let there = slice_get_read c.args.reach.now.looks.items (length c.args.reach.now.looks.items) _ _ refl (omega arith)
-    c.index.ensures in
-    let place = place_seen c.args.reach.now.first c.args.number (omega arith) in
-    subst (λ (z : ℕ). Among z c.args.reach.now.opens) place (h.seen.unfinished _ (there ∙ ap Some is))
-
-pub returns-clause-finished : goal.returns-clause-finished
-returns-clause-finished c some among =
-    let h = c.requires.reached in
-    let first = c.if-number-reach.false in
-    let many = h.many in
-    let to = c.requires.to in
-    let there = slice_get_read c.args.reach.now.looks.items (length c.args.reach.now.looks.items) _ _ refl (omega arith)
-    c.index.ensures in
-    let t = h.seen.open_ones c.args.number among in
-    let same : c.args.number - c.args.reach.now.first ≡ t.0 = (let at = t.1 in omega arith) in
-    some (same_Some _ _ (sym there ∙ ap (slice_get c.args.reach.now.looks.items) same ∙ t.2))
+    let told = looked_there (view c.args.pass.now) c.args.reach.now c.args.number c.index.result.now h (omega arith)
+    (slice_get_read c.args.reach.now.looks.items (length c.args.reach.now.looks.items) _ _ refl (omega arith) c.index.ensures) in
+    record {
+      pass = c.requires.pass;
+      only = looked_self (view c.args.pass.now);
+      seen = told.0;
+      unmarked = told.1;
+      unfinished = told.2;
+      finished = told.3;
+    }
