@@ -20,7 +20,7 @@ use fish_epoch::{Defs, Known};
 use fish_plan::{Plan, Stretch};
 use fish_psf::Steps;
 use fish_rule::{Log, Pass, base, load_version};
-use fish_value::{Rows, Value};
+use fish_value::Rows;
 use std::alloc::{AllocError, Global};
 use std::sync::ledger::Ledger;
 
@@ -207,7 +207,7 @@ fn query_of(alloc: Global, text: &[u8], ask: &Ask, reach: Reach) -> Result<Query
     ensures { IfOk result (IsQuery text.now ask.now reach) }
 {
     match parse_text(alloc, text) {
-        Ok(def) => match copy_value(alloc, &ask.value) {
+        Ok(def) => match ask.value.again(alloc) {
             Ok(value) => Ok(Query { def, value, reach }),
             Err(refusal) => {
                 drop(def);
@@ -257,15 +257,4 @@ fn empty_range(ask: &Ask) -> Option<Stretch>
         return None;
     }
     Some(Stretch { from, to })
-}
-
-/// A copy of a value.
-fn copy_value(alloc: Global, value: &Value) -> Result<Value, AllocError>
-    ensures { IfOk result (λ copy. copy ≡ value.now) }
-{
-    Ok(match value {
-        Value::Bool(bool) => Value::Bool(*bool),
-        Value::Int(int) => Value::Int(*int),
-        Value::Text(text) => Value::Text(text.again(alloc)?),
-    })
 }
