@@ -196,7 +196,8 @@ has_rows v u x known ask place version is named learns = record {
 -- the pieces of a plan fill its range
 plan_fills : (v u : View) (rows : List Listed) (text : List ℕ) (way : How) (from settled to : ℕ) (plan : List Piece) → from ≤ to
     → IsPlan v u rows text way from settled to plan → Fill plan from to
-plan_fills v u rows text how.Full from settled to plan le h = subst (λ (z : List Piece). Fill z from to) (sym h) (full_is_plan from to [] le).fill
+plan_fills v u rows text how.Full from settled to plan le h =
+    subst (λ (z : List Piece). Fill z from to) (sym h) (full_is_plan from to [] le).fill
 plan_fills v u rows text how.Auto from settled to plan le h = h.cover.fill
 plan_fills v u rows text how.Index from settled to plan le h = h.0.cover.fill
 

@@ -1,5 +1,6 @@
 -- A block from its start to its end, put together.
-use Rattle.std.proofs.Common.{◌≡◌, ◌≢◌, ℕ, ◌+◌, ◌<◌, ◌≤◌, zero, suc, List, [], ◌∷◌, length, refl, sym, ap, ◌∙◌, subst, inl, inr, ◌⊎◌, ⊎_elim, arith, Some, slice_get}
+use Rattle.std.proofs.Common.{◌≡◌, ◌≢◌, ℕ, ◌+◌, ◌<◌, ◌≤◌, zero, suc, List, [], ◌∷◌, length, refl, sym, ap, ◌∙◌, subst}
+use Rattle.std.proofs.Common.{inl, inr, ◌⊎◌, ⊎_elim, arith, Some, slice_get}
 use Rattle.std.proofs.Math.Decide.{ℕ_discrete, dec_lt}
 use Rattle.std.proofs.lemmas.Option.{get_or_from_slice_get, slice_get_within}
 use Rattle.fish_lanes.proofs.Lanes.{done_back, none_out}
@@ -7,7 +8,9 @@ use Rattle.fish_lanes.proofs.Gaining.{marks_same}
 use Rattle.fish_lanes.proofs.Lists.{some_once}
 use Rattle.fish_lanes.proofs.RowLists.{has_above, owned_number, told_later}
 use Rattle.fish_lanes.proofs.Surely.{own_before, sure_later, will_rows}
-use Rattle.fish_lanes.specs.Blocks.{AreDone, AreEnded, AreJoined, AreKept, AreSeated, HasGiven, HasRunFirst, HasTakenAll, IsMarkItem, IsOfLane, IsSeated, IsShutOfLane, NameMarks, TellsFirst, TellsOthers, WereTaken}
+use Rattle.fish_lanes.specs.Blocks.{AreDone, AreEnded, AreJoined, AreKept, AreSeated, HasGiven, HasRunFirst}
+use Rattle.fish_lanes.specs.Blocks.{HasTakenAll, IsMarkItem, IsOfLane, IsSeated, IsShutOfLane, NameMarks, TellsFirst}
+use Rattle.fish_lanes.specs.Blocks.{TellsOthers, WereTaken}
 use Rattle.fish_lanes.specs.Closing.{Later, Sure, Will}
 use Rattle.fish_lanes.specs.Ending.{HasEnd}
 use Rattle.fish_lanes.specs.Gains.{AreTold, IsMarkAt, IsShutTold}
@@ -436,4 +439,5 @@ module _ (log : Log) (v m w : View) (first first' : Lane) (before given done aft
           (tells_rows v (view s.pass) (i + 2) from p.run_of.run.rows p.mid.works z.0.items back (omega arith) (omega arith)
           within counted (subst (λ (x : ℕ). Ascends x p.run_of.run.rows (view s.pass).learned.count) same g.ascends)
           (subst (λ (x : ℕ). AreTold (view s.pass) x p.run_of.run.rows) lane g.told)
-          (others_all few i z.0 z.1 p) (p.run_of.run.tells from (omega arith) (let d = counted in omega arith)) x remains base main none later c)
+          (others_all few i z.0 z.1 p) (p.run_of.run.tells from (omega arith) (let d = counted in omega arith)) x remains
+          base main none later c)

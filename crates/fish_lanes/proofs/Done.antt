@@ -1,5 +1,6 @@
 -- The statements so far, and one more.
-use Rattle.std.proofs.Common.{◌≡◌, ℕ, ◌+◌, ◌<◌, ◌≤◌, zero, suc, List, [], ◌∷◌, ◌++◌, length, take, drop, get_or, refl, sym, ap, ◌∙◌, subst, inl, inr, ◌⊎◌, ⊎_elim, arith}
+use Rattle.std.proofs.Common.{◌≡◌, ℕ, ◌+◌, ◌<◌, ◌≤◌, zero, suc, List, [], ◌∷◌, ◌++◌, length, take, drop, get_or, refl}
+use Rattle.std.proofs.Common.{sym, ap, ◌∙◌, subst, inl, inr, ◌⊎◌, ⊎_elim, arith}
 use Rattle.std.proofs.Common.{Result, Ok, Err, None, length-append}
 use Rattle.std.specs.Prelude.{IfErr, IfOk}
 use Rattle.fish_lanes.proofs.Answered.{plan_told, range_published, refused_told, scan_told}

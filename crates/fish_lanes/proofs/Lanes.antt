@@ -1,9 +1,11 @@
 -- The lanes of a block, one after the other.
-use Rattle.std.proofs.Common.{◌≡◌, ℕ, ◌+◌, ◌<◌, ◌≤◌, List, [], ◌∷◌, ◌++◌, length, refl, sym, ap, ◌∙◌, subst, inl, inr, ◌⊎◌, ⊎_elim, arith, Option, Some, None, slice_get}
+use Rattle.std.proofs.Common.{◌≡◌, ℕ, ◌+◌, ◌<◌, ◌≤◌, List, [], ◌∷◌, ◌++◌, length, refl, sym, ap, ◌∙◌, subst, inl, inr}
+use Rattle.std.proofs.Common.{◌⊎◌, ⊎_elim, arith, Option, Some, None, slice_get}
 use Rattle.std.proofs.Math.Decide.{ℕ_discrete, dec_lt}
 use Rattle.fish_ingest.specs.Ingestion.{CanStart}
 use Rattle.fish_lanes.proofs.Lists.{empty_list, some_once}
-use Rattle.fish_lanes.specs.Blocks.{AreJoined, CanGive, CanTake, HasGiven, HasSeat, HasTakenAll, HasTakenSeat, IsBack, IsNewLane, IsOfLane, IsSeated, IsShutOfLane}
+use Rattle.fish_lanes.specs.Blocks.{AreJoined, CanGive, CanTake, HasGiven, HasSeat, HasTakenAll, HasTakenSeat, IsBack}
+use Rattle.fish_lanes.specs.Blocks.{IsNewLane, IsOfLane, IsSeated, IsShutOfLane}
 use Rattle.fish_lanes.specs.Running.{CanBegin, HasDone, IsReady}
 use Rattle.fish_lanes.specs.declared.lane.Lane.{Lane}
 use Rattle.fish_lanes.specs.declared.lane.Seated.{Seated}

@@ -1,16 +1,15 @@
 -- Blocks, one after the other, and the log in the end.
-use Rattle.std.proofs.Common.{◌≡◌, ◌≢◌, ℕ, ◌+◌, ◌<◌, ◌≤◌, zero, suc, List, [], ◌∷◌, ◌++◌, length, set, refl, sym, ap, ◌∙◌, subst, inl, inr, arith, Some, slice_get}
+use Rattle.std.proofs.Common.{◌≡◌, ◌≢◌, ℕ, ◌+◌, ◌<◌, ◌≤◌, List, [], ◌∷◌, length, set, refl, sym, ap}
+use Rattle.std.proofs.Common.{◌∙◌, subst, inl, arith, Some, slice_get}
 use Rattle.std.proofs.Math.Decide.{ℕ_discrete}
 use Rattle.fish_catalog.specs.declared.entry.Entry.{Entry}
 use Rattle.fish_lanes.proofs.Lists.{get_set_else, get_set_here, some_once}
 use Rattle.fish_lanes.proofs.Surely.{closed_length, later_self, will_later}
 use Rattle.fish_lanes.specs.Blocks.{AreEnded, IsMarkItem, NameMarks, TellsBlock}
-use Rattle.fish_lanes.specs.Closing.{Later, Will}
 use Rattle.fish_lanes.specs.Ending.{HasEnd}
 use Rattle.fish_lanes.specs.Runs.{FullsAgree, HasRunBlocks, IsBlockRun, IsFullIn, IsToldBy, TellsBlocks}
 use Rattle.fish_lanes.proofs.Gaining.{same_lines}
 use Rattle.fish_lanes.specs.Gains.{IsMarkAt}
-use Rattle.fish_lanes.specs.declared.lane.Lane.{Lane}
 use Rattle.fish_lanes.specs.declared.running.Block.{Block}
 use Rattle.fish_report.specs.declared.item.Item.{Item}
 use Rattle.fish_report.specs.declared.item.Item.TheVariants as item
@@ -23,7 +22,6 @@ use Rattle.std.proofs.lemmas.Option.{slice_get_within}
 use Rattle.fish_rule.specs.Closing.{IsClosed}
 use Rattle.fish_rule.specs.Logs.{Learns}
 use Rattle.fish_rule.specs.declared.close.Remains.{Remains}
-use Rattle.fish_rule.specs.Start.{IsFirstKey}
 use Rattle.fish_rule.specs.Table.{first_view}
 use Rattle.fish_rule.specs.World.{high, low}
 use Rattle.fish_rule.specs.declared.view.Key.{Key}
@@ -106,7 +104,8 @@ blocks_more v u blocks i from b less h r = record {
 
     marks_is : (j : ℕ) (a : Block) → j < i + 1 → slice_get (set blocks i b) j ≡ Some a → Dec (j ≡ i)
         → NameMarks u a.lanes.items
-    marks_is j a below at (yes e) x lane at_lane = subst (λ (z : Block). NameMarks u z.lanes.items) (sym (here j a at e)) r.marks x lane at_lane
+    marks_is j a below at (yes e) x lane at_lane =
+        subst (λ (z : Block). NameMarks u z.lanes.items) (sym (here j a at e)) r.marks x lane at_lane
     marks_is j a below at (no ne) x lane at_lane =
         names_later v u lane.items r.later.learns (h.marks j a (omega arith) (else_ j a at ne) x lane at_lane)
 
@@ -133,7 +132,8 @@ blocks_more v u blocks i from b less h r = record {
         subst (λ (z : Block). z.from ≤ z.to) (sym same) (omega arith)
     rises_is x log t j a below at (no ne) = t.rises j a (omega arith) (else_ j a at ne)
 
-    each_is : (x : View) (log : List Entry) → TellsBlocks x log blocks i from → TellsBlock x log b.from b.to b.lanes.items → (j : ℕ) (a : Block)
+    each_is : (x : View) (log : List Entry) → TellsBlocks x log blocks i from → TellsBlock x log b.from b.to b.lanes.items
+        → (j : ℕ) (a : Block)
         → j < i + 1 → slice_get (set blocks i b) j ≡ Some a → Dec (j ≡ i) → TellsBlock x log a.from a.to a.lanes.items
     each_is x log t own j a below at (yes e) =
         subst (λ (z : Block). TellsBlock x log z.from z.to z.lanes.items) (sym (here j a at e)) own

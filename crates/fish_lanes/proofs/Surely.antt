@@ -156,7 +156,8 @@ will_rows u lane from to low_ high_ rows s end some_ few within from_ told up al
     let inside : to ≤ length remains.log = sure_settled u to end.settled x remains base later.learns c in
     let up' : Ascends from rows to = ascends_before u lane from high_ to rows s end within told
     (Rattle.fish_lanes.proofs.RowLists.ascends_lower from low_ high_ rows from_ up) in
-    rows_exact remains.log from to lane within inside rows up' (sure_rows u lane from to rows told x remains base later.learns c within inside)
+    rows_exact remains.log from to lane within inside rows up'
+    (sure_rows u lane from to rows told x remains base later.learns c within inside)
     (λ n form payload above below is.
     let by = stored_by x.about c.moment c.rule n lane form payload (omega arith)
     (entry_at x.about c.moment c.rule remains.log base c.log n (entry.Stored lane form payload) is) in

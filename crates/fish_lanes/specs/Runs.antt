@@ -1,5 +1,5 @@
 -- What the blocks of a run tell of the one log that is left.
-use Rattle.std.specs.Prelude.{ℕ, ◌≡◌, ◌+◌, ◌<◌, ◌≤◌, zero, suc, List, length, slice_get, Some}
+use Rattle.std.specs.Prelude.{ℕ, ◌≡◌, ◌+◌, ◌<◌, ◌≤◌, List, length, slice_get, Some}
 use Rattle.fish_catalog.specs.declared.entry.Entry.{Entry}
 use Rattle.fish_lanes.specs.Blocks.{AreEnded, AreLanes, NameMarks, TellsBlock}
 use Rattle.fish_lanes.specs.Closing.{Later, Will}

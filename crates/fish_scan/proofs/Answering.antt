@@ -407,7 +407,8 @@ explained_later v u t known ask p after h = record {
   planned = record {
     place = h.place;
     asked = asked_later v u t known ask h.place after h.asked;
-    range = range_within v v u t _ _ _ _ _ (record { learns = learns_self v; clock = later_self v.clock; frame = refl; outside = λ e. e }) after
+    range = range_within v v u t _ _ _ _ _
+        (record { learns = learns_self v; clock = later_self v.clock; frame = refl; outside = λ e. e }) after
         h.reach.range;
     settled = p.query.reach.settled;
     least = h.reach.settled;

@@ -21,7 +21,8 @@ returns-clause-told g c from start =
     let t = c.run_lanes.ensures.told from start in (
       t.0,
       λ u remains base main none later closed.
-          subst (λ (z : List Lane). TellsBlock u remains.log from c.run_lanes.result (set z 0 c.run_lanes.new.first ++ c.run_lanes.new.others))
+          subst (λ (z : List Lane). TellsBlock u remains.log from c.run_lanes.result
+          (set z 0 c.run_lanes.new.first ++ c.run_lanes.new.others))
           (sym c.split_at_mut-first.ensures.front)
           (tells_both from c.run_lanes.result c.run_lanes.new.first c.args.lanes.now c.run_lanes.new.others u remains.log c.requires.lanes
           (t.1 u remains base main none later closed) (t.2 u remains base main none later closed)),

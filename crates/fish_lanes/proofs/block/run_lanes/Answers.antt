@@ -1,7 +1,8 @@
 -- The block from its start to its end.
 use Rattle.std.proofs.Common.{◌≡◌, get_or, arith, Some, slice_get}
 use Rattle.std.proofs.lemmas.Option.{slice_get-get_or}
-use Rattle.fish_lanes.proofs.Course.{first_ended, first_marks, get_there, has_end, is_later, kept_at, may_join, others_ended, others_marks, tells_first, tells_others, within}
+use Rattle.fish_lanes.proofs.Course.{first_ended, first_marks, get_there, has_end, is_later, kept_at, may_join}
+use Rattle.fish_lanes.proofs.Course.{others_ended, others_marks, tells_first, tells_others, within}
 use Rattle.fish_lanes.proofs.Lanes.{seated_ready}
 use Rattle.fish_rule.specs.Passes.{view}
 use Rattle.fish_lanes.proofs.block.run_lanes.Goals as goal

@@ -1,5 +1,5 @@
 -- One block more.
-use Rattle.std.proofs.Common.{◌≡◌, ℕ, ◌+◌, ◌≤◌, List, get_or, set, length, refl, sym, ap, ◌∙◌, subst, arith}
+use Rattle.std.proofs.Common.{◌≡◌, ℕ, ◌+◌, get_or, set, length, refl, sym, ap, ◌∙◌, subst, arith}
 use Rattle.std.proofs.lemmas.Option.{get_or_from_slice_get}
 use Rattle.fish_lanes.proofs.Runs.{blocks_more, blocks_none}
 use Rattle.fish_lanes.proofs.Lists.{get_set_else, get_set_here}

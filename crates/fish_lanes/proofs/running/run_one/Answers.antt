@@ -26,7 +26,8 @@ returns-clause-run g c =
       begins = refl;
       rises = t.0;
       tells = subst (λ (z : List Lane). Will (view c.run_block-to.new.main) (λ x log. TellsBlock x log c.args.from c.run_block-to.result z))
-          (sym (items_back c.args.block.now.lanes.len c.run_block-to.new.lanes c.args.block.now.lanes.items (omega arith) (omega arith))) t.1;
+          (sym (items_back c.args.block.now.lanes.len c.run_block-to.new.lanes c.args.block.now.lanes.items (omega arith)
+          (omega arith))) t.1;
       marks = subst (λ (z : List Lane). NameMarks (view c.run_block-to.new.main) z)
           (sym (items_back c.args.block.now.lanes.len c.run_block-to.new.lanes c.args.block.now.lanes.items (omega arith) (omega arith)))
           c.run_block-to.ensures.marks;
