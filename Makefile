@@ -4,7 +4,7 @@ PROGRAM = crates/fishstore/out/fishstore
 EXAMPLE = select 'take type' '"PushEvent"' events.jsonl
 CRATES = $(shell sed -n 's/^\(fish[a-z_]*\).*:.*/\1/p' crates.txt)
 
-.PHONY: demo build test edits gate install bench bench_log bench_ingest bench_registrations bench_peers bench_program clean
+.PHONY: demo build test edits gate install bench bench_log bench_ingest bench_registrations bench_scans bench_peers bench_program clean
 
 # Runs the program on the example, at once and with no proof.
 demo:
@@ -41,7 +41,7 @@ install: build
 bench: build
 	bench/select.sh
 
-# Proves and builds the program of the four benchmarks below.
+# Proves and builds the program of the five benchmarks below.
 bench_program:
 	cd crates/bench && rt run -- ingest data/events.jsonl > /dev/null
 
@@ -56,6 +56,10 @@ bench_ingest: bench_program
 # Times ingest of events while definitions are registered and ended, beside the same without.
 bench_registrations: bench_program
 	bench/registrations.sh
+
+# Times scans by an index, and full ones beside the selection of the same records in memory.
+bench_scans: bench_program
+	bench/scans.sh
 
 # Times ingest of events beside simdjson by hand and LMDB, where they are installed.
 bench_peers: bench_program

@@ -127,8 +127,15 @@ fn lane_of<'a>(alloc: Global, pass: Pass, payloads: &'a [Text]) -> IngestLane<'a
 }
 
 /// Ingests payloads in order, up to one that isn't stored. How many bytes were.
-fn ingest_all(alloc: Global, log: &Log, pass: &mut Pass, defs: &mut Defs, payloads: &[Text]) -> u64
+pub fn ingest_all(
+    alloc: Global,
+    log: &Log,
+    pass: &mut Pass,
+    defs: &mut Defs,
+    payloads: &[Text],
+) -> u64
     requires { CanIngest log.now pass.old defs.old }
+    ensures { CanIngest log.now pass.new defs.new }
 {
     let mut bytes = 0u64;
     for payload in payloads {

@@ -11,6 +11,7 @@ mod opening;
 mod parses;
 mod records;
 mod registrations;
+mod scans;
 mod stores;
 mod walks;
 mod words;
@@ -23,6 +24,7 @@ use ingests::measure_ingest;
 use lanes::LaneCount;
 use parses::{Reading, measure_parses};
 use registrations::{Changes, Work, measure_registrations};
+use scans::measure_scans;
 use std::alloc::AllocError;
 use std::io::Eprint;
 use std::process::ExitCode;
@@ -86,8 +88,21 @@ fn measure<R: Threads + Sync + Clock + AllocGlobal + Eprint + Files>(
             clock,
             name.as_str(),
         ),
+        [scans, name] if scans.as_str() == "scans" => measure_found(rt, name.as_str()),
         _ => Err(Failure::Words),
     }
+}
+
+/// Scans by an index, and of the events in the file of this name.
+fn measure_found<R: Clock + AllocGlobal + Eprint + Files>(
+    rt: &R,
+    name: &str,
+) -> Result<(), Failure> {
+    let payloads = read_events(rt, name)?;
+    for _ in 0..ROUNDS {
+        measure_scans(rt, payloads.as_slice())?;
+    }
+    Ok(())
 }
 
 /// Ingest of the events in the file of this name.

@@ -23,11 +23,11 @@ use std::time::{Clock, Instant};
 
 /// A walk down a whole chain.
 #[derive(Clone, Copy)]
-struct Walked {
+pub struct Walked {
     /// How many entries it gave.
-    nodes: u64,
+    pub nodes: u64,
     /// How long it took.
-    nanoseconds: u128,
+    pub nanoseconds: u128,
 }
 
 /// One lane stores all records of a workload, and then walks down the longest chain.
@@ -93,7 +93,7 @@ fn walk_longest<R: Clock, L: Ledger>(rt: &R, log: &Log, pass: &mut Pass, blank: 
 }
 
 /// A walk down the chain of a bucket, over all settled records.
-fn walk_chain<R: Clock, L: Ledger>(
+pub fn walk_chain<R: Clock, L: Ledger>(
     rt: &R,
     log: &Log,
     pass: &mut Pass,

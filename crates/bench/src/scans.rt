@@ -1,0 +1,495 @@
+//! Scans: rows that an index gives, entries of other values that it passes, and a scan number by number beside the
+//! selection of the same records in memory.
+
+ghost use Rattle.std.specs.Prelude.{◌≡◌, ◌<◌, IfOk};
+ghost use Rattle.bench.specs.Opening.{IsControl};
+ghost use Rattle.fish_epoch.specs.Definitions.{IsDefsOf};
+ghost use Rattle.fish_rule.specs.Passes.{IsPassOf, view};
+ghost use Rattle.fish_rule.specs.Start.{IsShape};
+
+use crate::definitions::{Sources, definitions_of};
+use crate::ingests::{SHAPE, ingest_all};
+use crate::lanes::report;
+use crate::opening::{Opened, open};
+use crate::walks::{Walked, walk_chain};
+use fish_epoch::Defs;
+use fish_lang::{Def, parse_def};
+use fish_layout::{bucket_of, key_hash};
+use fish_psf::{Parsed, Steps, eval};
+use fish_read::RecordReader;
+use fish_rule::{Log, Pass, Shape, buckets};
+use fish_scan::{Answer, Ask, How, ScanRefusal, scan};
+use fish_value::{Form, Row, Rows, Text, Texts, Value};
+use fish_walk::settle;
+use std::alloc::{AllocError, Global};
+use std::io::Eprint;
+use std::marker::Brand;
+use std::sync::ledger::{Blank, Ledger};
+use std::time::{Clock, Instant};
+
+/// How many records a log of short payloads has.
+const RECORDS: u64 = 400_000;
+
+/// The value of the first of them, or of all.
+const FIRST: u64 = 100_000;
+
+/// A log of few buckets, in which they have room.
+const FEW: Shape = Shape {
+    pages: 64,
+    bucket_bits: 4,
+};
+
+/// The one definition over short payloads, and the one over events.
+const SHORT: Sources = &[("a", "take a")];
+
+const EVENTS: Sources = &[("type", "take type")];
+
+/// Types of events, about one in a hundred and one in two, and the words of the lines for each.
+const TYPES: &[(&str, &str, &str)] = &[
+    ("ReleaseEvent", "full", "select"),
+    ("PushEvent", "full_half", "select_half"),
+];
+
+/// Which values short payloads have.
+#[derive(Clone, Copy)]
+enum Values {
+    /// One.
+    Same,
+    /// Each its own.
+    Own,
+}
+
+impl Values {
+    /// What the lines of a walk and of a scan begin with.
+    fn words(self) -> (&'static str, &'static str) {
+        match self {
+            Values::Same => ("walked", "passed"),
+            Values::Own => ("walked_spread", "passed_spread"),
+        }
+    }
+}
+
+/// A log of one lane in which payloads are stored, and its pass.
+#[derive(Drop)]
+struct Filled {
+    log: Log,
+    main: Pass,
+}
+
+/// What a scan or a selection gave.
+#[derive(Clone, Copy)]
+struct Timed {
+    /// How many rows.
+    rows: u64,
+    /// How long it took.
+    nanoseconds: u128,
+}
+
+/// All measurements, once each; those of full scans are of the payloads.
+pub fn measure_scans<R: Clock + AllocGlobal + Eprint>(
+    rt: &R,
+    payloads: &[Text],
+) -> Result<(), AllocError> {
+    measure_index(rt, Values::Same)?;
+    measure_index(rt, Values::Own)?;
+    measure_full(rt, payloads)
+}
+
+/// A log of short payloads: rows of the value of the first one, and entries passed by a value that none has. With one
+/// value the entries that are passed lie side by side, and else about sixteen records apart.
+fn measure_index<R: Clock + AllocGlobal + Eprint>(
+    rt: &R,
+    values: Values,
+) -> Result<(), AllocError> {
+    let alloc = rt.alloc();
+    let payloads = short_payloads(alloc, values)?;
+    let Filled { log, mut main } = fill_log(alloc, FEW, SHORT, payloads.as_slice())?;
+    drop(payloads);
+    let measured = time_index(rt, &log, &mut main, values);
+    drop((log, main));
+    measured
+}
+
+/// Short payloads.
+fn short_payloads(alloc: Global, values: Values) -> Result<Texts, AllocError> {
+    let mut texts = Texts::new(alloc);
+    for place in 0..RECORDS {
+        let value = match values {
+            Values::Same => FIRST,
+            Values::Own => FIRST + place,
+        };
+        let payload = format!(in alloc; "{{\"a\":{value}}}")?;
+        texts.push(Text::from_string(payload))?;
+    }
+    Ok(texts)
+}
+
+/// A log of a shape with definitions, in which all payloads are stored.
+fn fill_log(
+    alloc: Global,
+    shape: Shape,
+    sources: Sources,
+    payloads: &[Text],
+) -> Result<Filled, AllocError>
+    requires { IsShape shape }
+    ensures { IfOk result (λ f. IsPassOf f.log f.main) }
+{
+    let definitions = definitions_of(alloc, sources)?;
+    let Opened { log, main, defs } = open(alloc, shape, definitions)?;
+    drop(defs);
+    let mut main = main;
+    ingest_anew(alloc, &log, &mut main, payloads);
+    Ok(Filled { log, main })
+}
+
+/// Ingests payloads by the control pass of a new log.
+fn ingest_anew(alloc: Global, log: &Log, main: &mut Pass, payloads: &[Text])
+    requires pass { IsPassOf log.now main.old }
+    requires control { IsControl 1 (view main.old) }
+    ensures { IsPassOf log.now main.new }
+{
+    let mut defs = Defs::new(alloc);
+    ingest_all(alloc, log, main, &mut defs, payloads);
+    drop(defs);
+}
+
+/// Times a scan by the index for a value that no record has, and one for the value of the first record, where all have
+/// it. The chain of their bucket is walked before, and then all records are settled.
+fn time_index<R: Clock + AllocGlobal + Eprint>(
+    rt: &R,
+    log: &Log,
+    main: &mut Pass,
+    values: Values,
+) -> Result<(), AllocError>
+    requires { IsPassOf log.now main.old }
+{
+    let first = Value::Int(FIRST as i64);
+    let Some(walked) = walk_bucket(rt, log, main, &first) else {
+        return Err(AllocError);
+    };
+    let (walk, pass) = values.words();
+    report(rt, walk, 1, walked.nanoseconds, walked.nodes, "nodes");
+    let other = Value::Int(neighbour(&first, buckets(log)));
+    let passed = time_scan(rt, log, main, "a", other, How::Index)?;
+    report(rt, pass, 1, passed.nanoseconds, walked.nodes, "entries");
+    if let Values::Same = values {
+        let given = time_scan(rt, log, main, "a", first, How::Index)?;
+        report(rt, "given", 1, given.nanoseconds, given.rows, "rows");
+    }
+    Ok(())
+}
+
+/// Walks down the chain of the bucket in which the entries of a value are, of the definition with id 0.
+fn walk_bucket<R: Clock>(rt: &R, log: &Log, main: &mut Pass, value: &Value) -> Option<Walked>
+    requires { IsPassOf log.now main.old }
+    ensures { IsPassOf log.now main.new }
+{
+    let bucket = bucket_of(key_hash(0, value), buckets(log)) as u32;
+    walk_counted::<R, Brand>(rt, log, main, bucket, Blank::new(1))
+}
+
+/// The same with a counter of a blank.
+fn walk_counted<R: Clock, L: Ledger>(
+    rt: &R,
+    log: &Log,
+    main: &mut Pass,
+    bucket: u32,
+    blank: Blank,
+) -> Option<Walked>
+    requires name { blank.name ≡ L.name }
+    requires parts { blank.parts ≡ L.parts }
+    requires some { 0 < blank.parts }
+    requires pass { IsPassOf log.now main.old }
+    ensures { IsPassOf log.now main.new }
+{
+    let mut steps = Steps::<L>::new(blank);
+    walk_chain(rt, log, main, bucket, &mut steps)
+}
+
+/// The least number below that of the first record whose entries are in the same bucket as a value's.
+fn neighbour(value: &Value, count: u64) -> i64
+    requires { 0 < count }
+{
+    let bucket = bucket_of(key_hash(0, value), count);
+    for number in 0..FIRST as i64 {
+        if bucket_of(key_hash(0, &Value::Int(number)), count) == bucket {
+            return number;
+        }
+    }
+    -1
+}
+
+/// Times a scan of the whole log.
+fn time_scan<R: Clock + AllocGlobal>(
+    rt: &R,
+    log: &Log,
+    main: &mut Pass,
+    name: &str,
+    value: Value,
+    how: How,
+) -> Result<Timed, AllocError>
+    requires { IsPassOf log.now main.old }
+    ensures { IsPassOf log.now main.new }
+{
+    let alloc = rt.alloc();
+    let ask = Ask {
+        name: Text::copy_of(alloc, name)?,
+        value,
+        from: None,
+        to: None,
+        how,
+    };
+    let timed = time_asked(rt, log, main, &ask);
+    drop(ask);
+    match timed {
+        Some(timed) => Ok(timed),
+        None => Err(AllocError),
+    }
+}
+
+/// The same of what is asked.
+fn time_asked<R: Clock + AllocGlobal>(
+    rt: &R,
+    log: &Log,
+    main: &mut Pass,
+    ask: &Ask,
+) -> Option<Timed>
+    requires { IsPassOf log.now main.old }
+    ensures { IsPassOf log.now main.new }
+{
+    let mut defs = Defs::new(rt.alloc());
+    let Ok(start) = Instant::now(rt) else {
+        drop(defs);
+        return None;
+    };
+    let answer = scanned::<Brand, Brand>(
+        rt.alloc(),
+        Blank::new(1),
+        Blank::new(1),
+        log,
+        main,
+        &mut defs,
+        ask,
+    );
+    let took = start.elapsed(rt);
+    drop(defs);
+    let rows = rows_in(answer)?;
+    match took {
+        Ok(took) => Some(Timed {
+            rows,
+            nanoseconds: took.as_nanos(),
+        }),
+        Err(_) => None,
+    }
+}
+
+/// What a scan answers, with counters of two blanks.
+fn scanned<P: Ledger, L: Ledger>(
+    alloc: Global,
+    parses: Blank,
+    loads: Blank,
+    log: &Log,
+    main: &mut Pass,
+    defs: &mut Defs,
+    ask: &Ask,
+) -> Result<Answer, ScanRefusal>
+    requires name { parses.name ≡ P.name }
+    requires parts { parses.parts ≡ P.parts }
+    requires some { 0 < parses.parts }
+    requires loads_name { loads.name ≡ L.name }
+    requires loads_parts { loads.parts ≡ L.parts }
+    requires loads_some { 0 < loads.parts }
+    requires pass { IsPassOf log.now main.old }
+    requires defs { IsDefsOf (view main.old) defs.old }
+    ensures { IsPassOf log.now main.new }
+{
+    let mut parses = Steps::<P>::new(parses);
+    let mut loads = Steps::<L>::new(loads);
+    scan(alloc, log, main, defs, ask, &mut parses, &mut loads)
+}
+
+/// How many rows an answer has, if there is one.
+fn rows_in(answer: Result<Answer, ScanRefusal>) -> Option<u64> {
+    match answer {
+        Ok(answer) => {
+            let rows = answer.rows.len() as u64;
+            drop(answer);
+            Some(rows)
+        }
+        Err(_) => None,
+    }
+}
+
+/// A log of the payloads: scans that read all of them, and selections from the payloads in memory.
+fn measure_full<R: Clock + AllocGlobal + Eprint>(
+    rt: &R,
+    payloads: &[Text],
+) -> Result<(), AllocError> {
+    let Filled { log, mut main } = fill_log(rt.alloc(), SHAPE, EVENTS, payloads)?;
+    let measured = time_full(rt, &log, &mut main, payloads);
+    drop((log, main));
+    measured
+}
+
+/// Times both for each type. They give as many rows, or something is wrong.
+fn time_full<R: Clock + AllocGlobal + Eprint>(
+    rt: &R,
+    log: &Log,
+    main: &mut Pass,
+    payloads: &[Text],
+) -> Result<(), AllocError>
+    requires { IsPassOf log.now main.old }
+{
+    let bytes = bytes_of(payloads);
+    settle(log, main);
+    for &(kind, full, select) in TYPES {
+        let value = Value::Text(Text::copy_of(rt.alloc(), kind)?);
+        let scanned = time_scan(rt, log, main, "type", value, How::Full)?;
+        let selected = time_select(rt, kind, payloads)?;
+        if scanned.rows != selected.rows {
+            return Err(AllocError);
+        }
+        report(rt, full, 1, scanned.nanoseconds, bytes, "bytes");
+        report(rt, select, 1, selected.nanoseconds, bytes, "bytes");
+    }
+    Ok(())
+}
+
+/// How many bytes payloads have.
+fn bytes_of(payloads: &[Text]) -> u64 {
+    let mut bytes = 0u64;
+    for payload in payloads {
+        bytes = bytes.saturating_add(payload.as_bytes().len() as u64);
+    }
+    bytes
+}
+
+/// Times the selection of a type of events.
+fn time_select<R: Clock + AllocGlobal>(
+    rt: &R,
+    kind: &str,
+    payloads: &[Text],
+) -> Result<Timed, AllocError> {
+    let value = Value::Text(Text::copy_of(rt.alloc(), kind)?);
+    let def = taken_type(rt.alloc())?;
+    let Ok(start) = Instant::now(rt) else {
+        drop(def);
+        return Err(AllocError);
+    };
+    let rows = select_all::<Brand>(rt.alloc(), Blank::new(1), &def, &value, payloads);
+    let took = start.elapsed(rt);
+    drop(def);
+    let rows = rows?;
+    let count = rows.len() as u64;
+    drop(rows);
+    match took {
+        Ok(took) => Ok(Timed {
+            rows: count,
+            nanoseconds: took.as_nanos(),
+        }),
+        Err(_) => Err(AllocError),
+    }
+}
+
+/// The definition over events.
+fn taken_type(alloc: Global) -> Result<Def, AllocError> {
+    match parse_def(alloc, b"take type") {
+        Ok(def) => Ok(def),
+        Err(_) => Err(AllocError),
+    }
+}
+
+/// The payloads for which a definition gives a value, as `select` finds them: each is read once, by one reader. The
+/// counter is of a blank.
+fn select_all<P: Ledger>(
+    alloc: Global,
+    blank: Blank,
+    def: &Def,
+    value: &Value,
+    payloads: &[Text],
+) -> Result<Rows, AllocError>
+    requires name { blank.name ≡ P.name }
+    requires parts { blank.parts ≡ P.parts }
+    requires some { 0 < blank.parts }
+{
+    let mut steps = Steps::<P>::new(blank);
+    let mut reader = RecordReader::new(alloc);
+    let mut rows = Rows::new(alloc);
+    let done = add_selected(
+        alloc,
+        &mut reader,
+        def,
+        value,
+        payloads,
+        &mut rows,
+        &mut steps,
+    );
+    drop(reader);
+    match done {
+        Ok(()) => Ok(rows),
+        Err(error) => {
+            drop(rows);
+            Err(error)
+        }
+    }
+}
+
+/// Puts them behind the rows.
+fn add_selected<P: Ledger>(
+    alloc: Global,
+    reader: &mut RecordReader,
+    def: &Def,
+    value: &Value,
+    payloads: &[Text],
+    rows: &mut Rows,
+    steps: &mut Steps<P>,
+) -> Result<(), AllocError> {
+    let mut number = 0u32;
+    for payload in payloads {
+        if has_value(alloc, reader, def, value, payload, steps)? {
+            push_row(alloc, rows, number, payload)?;
+        }
+        number = number.saturating_add(1);
+    }
+    Ok(())
+}
+
+/// Whether a definition gives a value for a payload.
+fn has_value<P: Ledger>(
+    alloc: Global,
+    reader: &mut RecordReader,
+    def: &Def,
+    value: &Value,
+    payload: &Text,
+    steps: &mut Steps<P>,
+) -> Result<bool, AllocError> {
+    match reader.read(alloc, Form::Json, payload.as_bytes(), steps) {
+        Ok(row) => {
+            let has = gives(alloc, def, value, &row);
+            drop(row);
+            has
+        }
+        Err(_) => Ok(false),
+    }
+}
+
+/// The same of a payload that was read.
+fn gives<R: Parsed>(
+    alloc: Global,
+    def: &Def,
+    value: &Value,
+    found: &R,
+) -> Result<bool, AllocError> {
+    let Some(found) = eval(alloc, def, found)? else {
+        return Ok(false);
+    };
+    let same = found.is(value);
+    drop(found);
+    Ok(same)
+}
+
+/// Puts a payload behind the rows.
+fn push_row(alloc: Global, rows: &mut Rows, number: u32, payload: &Text) -> Result<(), AllocError> {
+    let payload = payload.again(alloc)?;
+    rows.push(Row { number, payload })
+}
