@@ -1,5 +1,5 @@
 -- The control pass and its registrar behind a call of the registrar.
-use Rattle.std.proofs.Common.{◌≡◌, ◌∙◌, ◌≤◌, ap, arith}
+use Rattle.std.proofs.Common.{◌≡◌, ◌∙◌, ap, arith}
 use Rattle.fish_epoch.proofs.Reading.{defs_later}
 use Rattle.fish_epoch.specs.declared.definitions.Defs.{Defs}
 use Rattle.fish_ingest.specs.Ingestion.{CanIngest}
@@ -13,6 +13,7 @@ use Rattle.fish_rule.specs.Passes.{IsPassOf, view}
 use Rattle.fish_rule.specs.declared.table.Log.{Log}
 use Rattle.fish_rule.specs.declared.table.Pass.{Pass}
 use Rattle.fish_rule.specs.declared.view.View.{View}
+use Rattle.fish_scan.specs.Scans.{OnlyScans}
 use Rattle.tests_log.specs.Registering.{IsBeside, IsKept, IsWorking}
 
 -- the pass isn't entered, as before
@@ -56,4 +57,32 @@ beside_on log p q r s h kept changes = record {
   control = ap (λ (z : View). z.lane) changes.frame ∙ h.control;
   idle = ap (λ (z : View). z.flight) changes.frame ∙ h.idle;
   out = ap (λ (z : View). z.out) changes.frame ∙ h.out;
+}
+
+-- ---- behind a scan, once the pass has left
+
+-- the registrar keeps what it keeps
+pub kept_scanned : (log : Log) (p q : Pass) (r : Registrar) (defs : Defs) → IsKept log p r → CanIngest log q defs
+    → OnlyScans (view p) (view q) → IsKept log q r
+kept_scanned log p q r defs h ready only = record {
+  of = ready.of;
+  knows = knows_on (view p) (view q) r (ap (λ (z : View). z.lane) only.frame) (ap (λ (z : View). z.rows) only.frame)
+      (ap (λ (z : View). z.draft) only.frame) (ap (λ (z : View). z.round) only.frame) only.learns.count h.knows;
+  outside = ready.start.outside;
+}
+
+-- and the pass may ingest
+pub working_scanned : (log : Log) (p q : Pass) (r : Registrar) (defs : Defs) → IsKept log p r → CanIngest log q defs
+    → OnlyScans (view p) (view q) → IsWorking log q r defs
+working_scanned log p q r defs h ready only =
+    record { kept = kept_scanned log p q r defs h ready only; ready = ready }
+
+-- the lanes and the record in flight are as before
+pub beside_scanned : (log : Log) (p q : Pass) (r : Registrar) (defs : Defs) → IsBeside log p r → CanIngest log q defs
+    → OnlyScans (view p) (view q) → IsBeside log q r
+beside_scanned log p q r defs h ready only = record {
+  kept = kept_scanned log p q r defs h.kept ready only;
+  control = ap (λ (z : View). z.lane) only.frame ∙ h.control;
+  idle = ap (λ (z : View). z.flight) only.frame ∙ h.idle;
+  out = ap (λ (z : View). z.out) only.frame ∙ h.out;
 }

@@ -1,3 +1,4 @@
 pub mod Heads
 pub mod Kept
+pub mod Leaving
 pub mod Seats

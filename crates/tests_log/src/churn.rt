@@ -90,7 +90,7 @@ fn look(log: &Log, main: &mut Pass, registrar: &mut Registrar) -> Poll
 }
 
 /// Looks at the lanes until the index of the registration that waits begins.
-fn wait(log: &Log, main: &mut Pass, registrar: &mut Registrar) -> Result<(), Fail>
+pub(crate) fn wait(log: &Log, main: &mut Pass, registrar: &mut Registrar) -> Result<(), Fail>
     requires { IsBeside log.now main.old registrar.old }
     ensures { IsBeside log.now main.new registrar.new }
 {
@@ -190,7 +190,7 @@ fn churn_beside<R: Threads + Sync>(
 }
 
 /// The control pass takes back lanes 2 to 4. How many records each stored.
-fn take_three(log: &Log, main: &mut Pass, seats: [Seat; 3]) -> Result<[usize; 3], Fail>
+pub(crate) fn take_three(log: &Log, main: &mut Pass, seats: [Seat; 3]) -> Result<[usize; 3], Fail>
     requires main { IsPassOf log.now main.old }
     requires seats { AreOut log.now seats (λ seat. seat.pass) }
     requires control { (view main.old).lane ≡ 1 }
@@ -240,7 +240,7 @@ fn seat_of(log: &Log, main: &mut Pass, registrar: &Registrar, lane: u8) -> Seat
 }
 
 /// The seats of lanes 2 to 4.
-fn split_three(log: &Log, main: &mut Pass, registrar: &Registrar) -> [Seat; 3]
+pub(crate) fn split_three(log: &Log, main: &mut Pass, registrar: &Registrar) -> [Seat; 3]
     requires kept { IsKept log.now main.old registrar.now }
     requires first { view main.old ≡ first_view log.now.key }
     ensures beside { IsBeside log.now main.new registrar.now }

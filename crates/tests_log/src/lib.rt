@@ -33,6 +33,8 @@ mod openings;
 #[cfg(test)]
 mod payloads;
 #[cfg(test)]
+mod races;
+#[cfg(test)]
 mod refusals;
 #[cfg(test)]
 mod registrations;
@@ -42,5 +44,7 @@ mod rounds;
 mod scans;
 #[cfg(test)]
 mod settling;
+#[cfg(test)]
+mod statements;
 #[cfg(test)]
 mod threads;

@@ -204,7 +204,44 @@ fn expect_begun<R: Abort>(
     Ok(())
 }
 
-/// Asserts each limit, with 16 definitions active and at version 16, and later at versions 496 to 512.
+/// Asserts that 16 definitions are active at most, at version 16 and at version 496.
+fn expect_few_active<R: Abort>(
+    rt: &R,
+    alloc: Global,
+    log: &Log,
+    main: &mut Pass,
+    registrar: &mut Registrar,
+) -> Result<(), Fail>
+    requires { IsKept log.now main.old registrar.old }
+    ensures { IsKept log.now main.new registrar.new }
+{
+    let active = Err(RegRefusal::TooManyActive);
+    begin_sixteen(alloc, log, main, registrar)?;
+    expect_begun(rt, alloc, log, main, registrar, &active)?;
+    change_all(alloc, log, main, registrar)?;
+    expect_begun(rt, alloc, log, main, registrar, &active)
+}
+
+/// Asserts that there are 256 definitions and 512 versions at most.
+fn expect_few<R: Abort>(
+    rt: &R,
+    alloc: Global,
+    log: &Log,
+    main: &mut Pass,
+    registrar: &mut Registrar,
+) -> Result<(), Fail>
+    requires { IsKept log.now main.old registrar.old }
+    ensures { IsKept log.now main.new registrar.new }
+{
+    let rows = Err(RegRefusal::TooManyDefinitions);
+    let versions = Err(RegRefusal::TooManyVersions);
+    end_all(alloc, log, main, registrar, (240, 241))?;
+    expect_begun(rt, alloc, log, main, registrar, &rows)?;
+    end_all(alloc, log, main, registrar, (241, 256))?;
+    expect_begun(rt, alloc, log, main, registrar, &versions)
+}
+
+/// Asserts each limit.
 fn expect_limits<R: Abort>(
     rt: &R,
     alloc: Global,
@@ -214,17 +251,8 @@ fn expect_limits<R: Abort>(
 ) -> Result<(), Fail>
     requires { IsKept log.now main.old registrar.old }
 {
-    let active = Err(RegRefusal::TooManyActive);
-    let rows = Err(RegRefusal::TooManyDefinitions);
-    let versions = Err(RegRefusal::TooManyVersions);
-    begin_sixteen(alloc, log, main, registrar)?;
-    expect_begun(rt, alloc, log, main, registrar, &active)?;
-    change_all(alloc, log, main, registrar)?;
-    expect_begun(rt, alloc, log, main, registrar, &active)?;
-    end_all(alloc, log, main, registrar, (240, 241))?;
-    expect_begun(rt, alloc, log, main, registrar, &rows)?;
-    end_all(alloc, log, main, registrar, (241, 256))?;
-    expect_begun(rt, alloc, log, main, registrar, &versions)?;
+    expect_few_active(rt, alloc, log, main, registrar)?;
+    expect_few(rt, alloc, log, main, registrar)?;
     let ended = end_numbered(alloc, log, main, registrar, 255)?;
     expect(rt, "an end more", &ended, &Err(RegRefusal::TooManyVersions));
     Ok(())
@@ -236,44 +264,6 @@ fn versions_end(rt: HostRuntime) -> Result<(), Fail> {
     let (log, mut main) = empty_log(alloc, ONE_PAGE, FIRST)?;
     let mut registrar = Registrar::new(Catalog::new(alloc));
     let done = expect_limits(&rt, alloc, &log, &mut main, &mut registrar);
-    drop((log, main, registrar));
-    done
-}
-
-/// Asserts that one registration waits at a time, and the refusals of names.
-fn expect_names<R: Abort>(
-    rt: &R,
-    alloc: Global,
-    log: &Log,
-    main: &mut Pass,
-    registrar: &mut Registrar,
-) -> Result<(), Fail>
-    requires { IsKept log.now main.old registrar.old }
-{
-    let rolling = RegRefusal::Rolling { id: 0 };
-    let ended = end_numbered(alloc, log, main, registrar, 0)?;
-    expect(rt, "no row", &ended, &Err(RegRefusal::UnknownName));
-    let begun = begin_numbered(alloc, log, main, registrar, 0)?;
-    expect(rt, "the first", &begun, &Ok(0));
-    let begun = begin_numbered(alloc, log, main, registrar, 1)?;
-    expect(rt, "one more while it waits", &begun, &Err(rolling));
-    let ended = end_numbered(alloc, log, main, registrar, 0)?;
-    expect(rt, "its end while it waits", &ended, &Err(rolling));
-    let found = poll(log, main, registrar);
-    expect(rt, "its index", &found, &Poll::Bound { id: 0, from: 0 });
-    let begun = begin_numbered(alloc, log, main, registrar, 0)?;
-    expect(rt, "its name", &begun, &Err(RegRefusal::NameActive));
-    let found = poll(log, main, registrar);
-    expect(rt, "none waits", &found, &Poll::Idle);
-    Ok(())
-}
-
-#[test]
-fn one_registration_waits_at_a_time(rt: HostRuntime) -> Result<(), Fail> {
-    let alloc = rt.alloc();
-    let (log, mut main) = empty_log(alloc, ONE_PAGE, FIRST)?;
-    let mut registrar = Registrar::new(Catalog::new(alloc));
-    let done = expect_names(&rt, alloc, &log, &mut main, &mut registrar);
     drop((log, main, registrar));
     done
 }
@@ -305,19 +295,34 @@ pub(crate) fn store_kept(
     store(alloc, log, main, defs, payload)
 }
 
-/// Registers a definition under its text as its name. Its id, or why it was refused.
+/// Registers a definition, of a name and a text. Its id, or why it was refused.
 pub(crate) fn begin_between(
     alloc: Global,
     log: &Log,
     main: &mut Pass,
     registrar: &mut Registrar,
     defs: &Defs,
-    source: &str,
+    definition: (&str, &str),
 ) -> Result<Result<u16, RegRefusal>, Fail>
     requires { IsWorking log.now main.old registrar.old defs.now }
     ensures { IsWorking log.now main.new registrar.new defs.now }
 {
-    begin(alloc, log, main, registrar, source, source)
+    begin(alloc, log, main, registrar, definition.0, definition.1)
+}
+
+/// Ends a definition. Its id and where its index ends, or why it was refused.
+pub(crate) fn end_between(
+    alloc: Global,
+    log: &Log,
+    main: &mut Pass,
+    registrar: &mut Registrar,
+    defs: &Defs,
+    name: &str,
+) -> Result<Result<(u16, u32), RegRefusal>, Fail>
+    requires { IsWorking log.now main.old registrar.old defs.now }
+    ensures { IsWorking log.now main.new registrar.new defs.now }
+{
+    end(alloc, log, main, registrar, name)
 }
 
 /// Looks at the lanes.
@@ -347,7 +352,7 @@ fn expect_keys<R: Abort>(
     let first = store_kept(alloc, log, main, registrar, defs, b"{}");
     expect(rt, "without a key", &first, &Ok(0));
     expect_active(rt, alloc, defs, 0, &[]);
-    let begun = begin_between(alloc, log, main, registrar, defs, SOURCE)?;
+    let begun = begin_between(alloc, log, main, registrar, defs, (SOURCE, SOURCE))?;
     expect(rt, "the registration", &begun, &Ok(0));
     let found = poll_between(log, main, registrar, defs);
     expect(rt, "its index", &found, &Poll::Bound { id: 0, from: 1 });

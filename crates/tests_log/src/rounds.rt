@@ -8,10 +8,11 @@ ghost use Rattle.fish_rule.specs.Seating.{CanSplit, split_left};
 ghost use Rattle.fish_rule.specs.Table.{first_view};
 ghost use Rattle.tests_log.specs.Registering.{IsKept};
 
-use crate::expecting::expect;
+use crate::expecting::{expect, expect_text};
 use crate::lanes::store;
 use crate::openings::{ONE_PAGE, empty_log};
 use crate::registrations::{begin, end, poll, split_kept};
+use crate::statements::{PUSHES, told_scanned};
 use fish_catalog::Catalog;
 use fish_epoch::Defs;
 use fish_ingest::{finish, start};
@@ -48,6 +49,7 @@ fn seen_in_flight(
 ) -> Result<Seen, Fail>
     requires kept { IsKept log.now main.old registrar.old }
     requires other { CanIngest log.now other.old defs.old }
+    ensures { IsKept log.now main.new registrar.new }
 {
     let Ok(pending) = start(alloc, log, other, defs, Form::Json, PUSH) else {
         return Err(Fail::new("not started"));
@@ -75,6 +77,7 @@ fn seen_with_lane(
 ) -> Result<Seen, Fail>
     requires kept { IsKept log.now main.old registrar.old }
     requires can { CanSplit (view main.old) 2 }
+    ensures { IsKept log.now main.new registrar.new }
 {
     let mut other = split_kept(log, main, registrar, 2);
     let mut defs = Defs::new(alloc);
@@ -83,13 +86,43 @@ fn seen_with_lane(
     seen
 }
 
+/// What a scan for pushes answers.
+fn told_pushes(
+    alloc: Global,
+    log: &Log,
+    main: &mut Pass,
+    registrar: &Registrar,
+) -> Result<String, Fail>
+    requires { IsKept log.now main.old registrar.now }
+{
+    let mut defs = Defs::new(alloc);
+    let text = told_scanned(alloc, log, main, registrar, &mut defs, PUSHES);
+    drop(defs);
+    text
+}
+
+/// What is seen with lane 2, and then by a scan.
+fn seen_and_found(
+    alloc: Global,
+    log: &Log,
+    main: &mut Pass,
+    registrar: &mut Registrar,
+) -> Result<(Seen, String), Fail>
+    requires kept { IsKept log.now main.old registrar.old }
+    requires can { CanSplit (view main.old) 2 }
+{
+    let seen = seen_with_lane(alloc, log, main, registrar)?;
+    Ok((seen, told_pushes(alloc, log, main, registrar)?))
+}
+
 #[test]
 fn a_lane_in_flight_is_waited_for(rt: HostRuntime) -> Result<(), Fail> {
     let alloc = rt.alloc();
     let (log, mut main) = empty_log(alloc, ONE_PAGE, FIRST)?;
     let mut registrar = Registrar::new(Catalog::new(alloc));
-    let seen = seen_with_lane(alloc, &log, &mut main, &mut registrar);
+    let seen = seen_and_found(alloc, &log, &mut main, &mut registrar);
     drop((log, main, registrar));
+    let (seen, found) = seen?;
     let want = Seen {
         begun: Ok(0),
         flying: Poll::NotYet {
@@ -100,7 +133,13 @@ fn a_lane_in_flight_is_waited_for(rt: HostRuntime) -> Result<(), Fail> {
         landed: Poll::Bound { id: 0, from: 1 },
         later: Poll::Idle,
     };
-    expect(&rt, "what was seen", &seen?, &want);
+    expect(&rt, "what was seen", &seen, &want);
+    expect_text(
+        &rt,
+        "a scan behind it",
+        found.as_str(),
+        "0..1 full 0..1; 0 {\"type\":\"Push\",\"n\":1}",
+    );
     Ok(())
 }
 

@@ -1,135 +1,31 @@
-//! What scans answer over a log with a definition whose index begins behind the first record.
+//! Scans of a pass between two records, and what they answer as texts.
 
 ghost use Rattle.std.specs.Prelude.{◌≡◌, ◌<◌};
-ghost use Rattle.fish_rule.specs.Passes.{IsPassOf};
-ghost use Rattle.tests_log.specs.Registering.{IsWorking};
+ghost use Rattle.fish_epoch.specs.Definitions.{IsDefsOf};
+ghost use Rattle.fish_ingest.specs.Ingestion.{CanIngest};
+ghost use Rattle.fish_rule.specs.Passes.{IsPassOf, view};
+ghost use Rattle.fish_scan.specs.Scans.{OnlyScans};
 
-use crate::expecting::expect_text;
-use crate::openings::{ONE_PAGE, empty_log};
-use crate::registrations::{begin_between, poll_between, store_kept};
-use fish_catalog::Catalog;
-use fish_epoch::Defs;
-use fish_ingest::IngestRefusal;
+use fish_epoch::{Defs, leave};
 use fish_plan::{Piece, Plan};
 use fish_psf::Steps;
-use fish_registry::{Poll, Registrar};
-use fish_rule::{Base, Log, Pass};
+use fish_rule::{Log, Pass};
 use fish_scan::{Answer, Ask, Explained, How, ScanRefusal, explain, scan};
 use fish_value::{Text, Value};
-use std::alloc::Global;
+use std::alloc::{AllocError, Global};
 use std::fmt::Write;
 use std::marker::Brand;
-use std::process::Abort;
 use std::sync::ledger::{Blank, Ledger};
 use std::test::Fail;
 
-/// Where an empty store begins.
-const FIRST: Base = Base { number: 0, line: 0 };
-
-/// What the definition takes, and its name.
-const SOURCE: &str = "take type";
-
-/// The payloads behind the one that is stored before the definition is registered, `{"type":"a"}`.
-const PAYLOADS: &[&[u8]] = &[
-    b"{\"type\":\"a\"}",
-    b"{\"type\":\"b\"}",
-    b"{\"type\":\"a\",\"n\":1}",
-    b"{\"n\":2}",
-];
-
-/// A name, a value, a range and a way, and what a scan answers. The index begins at 1, and numbers up to 5 are stored.
-const SCANS: &[(&str, &str, Option<u32>, Option<u32>, How, &str)] = &[
-    (
-        SOURCE,
-        "a",
-        None,
-        None,
-        How::Auto,
-        "0..5 index 1..5 by 0 full 0..1; 3 {\"type\":\"a\",\"n\":1}; 1 {\"type\":\"a\"}; 0 {\"type\":\"a\"}",
-    ),
-    (
-        SOURCE,
-        "a",
-        None,
-        None,
-        How::Full,
-        "0..5 full 0..5; 3 {\"type\":\"a\",\"n\":1}; 1 {\"type\":\"a\"}; 0 {\"type\":\"a\"}",
-    ),
-    (
-        SOURCE,
-        "a",
-        Some(1),
-        None,
-        How::Index,
-        "1..5 index 1..5 by 0; 3 {\"type\":\"a\",\"n\":1}; 1 {\"type\":\"a\"}",
-    ),
-    (
-        SOURCE,
-        "b",
-        None,
-        Some(3),
-        How::Auto,
-        "0..3 index 1..3 by 0 full 0..1; 2 {\"type\":\"b\"}",
-    ),
-    (
-        SOURCE,
-        "c",
-        None,
-        None,
-        How::Auto,
-        "0..5 index 1..5 by 0 full 0..1",
-    ),
-    (SOURCE, "a", Some(7), None, How::Auto, "5..5"),
-    (
-        SOURCE,
-        "a",
-        None,
-        None,
-        How::Index,
-        "no index holds the numbers 0..1",
-    ),
-    (
-        SOURCE,
-        "a",
-        Some(3),
-        Some(3),
-        How::Auto,
-        "the range 3..3 is empty",
-    ),
-    (
-        "kind",
-        "a",
-        None,
-        None,
-        How::Auto,
-        "no definition up to version 1 has the name",
-    ),
-];
-
-/// Stores the payloads. Why one was not stored.
-fn store_payloads(
-    alloc: Global,
-    log: &Log,
-    main: &mut Pass,
-    registrar: &Registrar,
-    defs: &mut Defs,
-) -> Result<(), IngestRefusal>
-    requires { IsWorking log.now main.old registrar.now defs.old }
-    ensures { IsWorking log.now main.new registrar.now defs.new }
-{
-    for payload in PAYLOADS {
-        store_kept(alloc, log, main, registrar, defs, payload)?;
-    }
-    Ok(())
-}
-
-/// The records of a scan, with counters of two blanks.
+/// What a scan answers, with counters of two blanks.
 fn scanned<P: Ledger, L: Ledger>(
     alloc: Global,
     parses: Blank,
     loads: Blank,
     log: &Log,
     pass: &mut Pass,
+    defs: &mut Defs,
     ask: &Ask,
 ) -> Result<Answer, ScanRefusal>
     requires name { parses.name ≡ P.name }
@@ -139,24 +35,47 @@ fn scanned<P: Ledger, L: Ledger>(
     requires loads_parts { loads.parts ≡ L.parts }
     requires loads_some { 0 < loads.parts }
     requires pass { IsPassOf log.now pass.old }
-    ensures { IsPassOf log.now pass.new }
+    requires defs { IsDefsOf (view pass.old) defs.old }
+    ensures pass { IsPassOf log.now pass.new }
+    ensures only { OnlyScans (view pass.old) (view pass.new) }
+    ensures defs { IsDefsOf (view pass.new) defs.new }
 {
     let mut parses = Steps::<P>::new(parses);
     let mut loads = Steps::<L>::new(loads);
-    let mut defs = Defs::new(alloc);
-    let answer = scan(alloc, log, pass, &mut defs, ask, &mut parses, &mut loads);
-    drop(defs);
+    scan(alloc, log, pass, defs, ask, &mut parses, &mut loads)
+}
+
+/// What a scan answers a pass between two records. No clause of a scan says that the pass is still out, so it leaves.
+pub(crate) fn scan_between(
+    alloc: Global,
+    log: &Log,
+    pass: &mut Pass,
+    defs: &mut Defs,
+    ask: &Ask,
+) -> Result<Answer, ScanRefusal>
+    requires { CanIngest log.now pass.old defs.old }
+    ensures ready { CanIngest log.now pass.new defs.new }
+    ensures only { OnlyScans (view pass.old) (view pass.new) }
+{
+    let answer = scanned::<Brand, Brand>(alloc, Blank::new(1), Blank::new(1), log, pass, defs, ask);
+    leave(log, pass);
     answer
 }
 
-/// How a scan would read its range.
-fn explained(alloc: Global, log: &Log, pass: &mut Pass, ask: &Ask) -> Result<Explained, ScanRefusal>
-    requires { IsPassOf log.now pass.old }
-    ensures { IsPassOf log.now pass.new }
+/// How a scan between two records would read its range. The pass leaves, too.
+fn explain_between(
+    alloc: Global,
+    log: &Log,
+    pass: &mut Pass,
+    defs: &mut Defs,
+    ask: &Ask,
+) -> Result<Explained, ScanRefusal>
+    requires { CanIngest log.now pass.old defs.old }
+    ensures ready { CanIngest log.now pass.new defs.new }
+    ensures only { OnlyScans (view pass.old) (view pass.new) }
 {
-    let mut defs = Defs::new(alloc);
-    let explained = explain(alloc, log, pass, &mut defs, ask);
-    drop(defs);
+    let explained = explain(alloc, log, pass, defs, ask);
+    leave(log, pass);
     explained
 }
 
@@ -187,11 +106,18 @@ fn told_answer(alloc: Global, answer: &Answer) -> Result<String, Fail> {
 }
 
 /// What a scan answers, as a text.
-fn told_scan(alloc: Global, log: &Log, pass: &mut Pass, ask: &Ask) -> Result<String, Fail>
-    requires { IsPassOf log.now pass.old }
-    ensures { IsPassOf log.now pass.new }
+pub(crate) fn told_scan(
+    alloc: Global,
+    log: &Log,
+    pass: &mut Pass,
+    defs: &mut Defs,
+    ask: &Ask,
+) -> Result<String, Fail>
+    requires { CanIngest log.now pass.old defs.old }
+    ensures ready { CanIngest log.now pass.new defs.new }
+    ensures only { OnlyScans (view pass.old) (view pass.new) }
 {
-    match scanned::<Brand, Brand>(alloc, Blank::new(1), Blank::new(1), log, pass, ask) {
+    match scan_between(alloc, log, pass, defs, ask) {
         Ok(answer) => {
             let text = told_answer(alloc, &answer);
             drop(answer);
@@ -202,11 +128,18 @@ fn told_scan(alloc: Global, log: &Log, pass: &mut Pass, ask: &Ask) -> Result<Str
 }
 
 /// How a scan would read its range, as a text.
-fn told_explain(alloc: Global, log: &Log, pass: &mut Pass, ask: &Ask) -> Result<String, Fail>
-    requires { IsPassOf log.now pass.old }
-    ensures { IsPassOf log.now pass.new }
+pub(crate) fn told_explain(
+    alloc: Global,
+    log: &Log,
+    pass: &mut Pass,
+    defs: &mut Defs,
+    ask: &Ask,
+) -> Result<String, Fail>
+    requires { CanIngest log.now pass.old defs.old }
+    ensures ready { CanIngest log.now pass.new defs.new }
+    ensures only { OnlyScans (view pass.old) (view pass.new) }
 {
-    match explained(alloc, log, pass, ask) {
+    match explain_between(alloc, log, pass, defs, ask) {
         Ok(explained) => {
             let text = told_plan(alloc, explained.from, explained.to, &explained.plan);
             drop(explained);
@@ -216,90 +149,42 @@ fn told_explain(alloc: Global, log: &Log, pass: &mut Pass, ask: &Ask) -> Result<
     }
 }
 
-/// What is asked in a row of the table.
-fn asked(
-    alloc: Global,
-    name: &str,
-    value: &str,
-    from: Option<u32>,
-    to: Option<u32>,
-    how: How,
-) -> Result<Ask, Fail> {
-    let name = Text::copy_of(alloc, name)?;
-    let value = Value::Text(Text::copy_of(alloc, value)?);
+/// The value that is asked for.
+#[derive(Clone, Copy)]
+pub(crate) enum Wanted {
+    Text(&'static str),
+    Int(i64),
+    Bool(bool),
+}
+
+/// What a scan is asked.
+#[derive(Clone, Copy)]
+pub(crate) struct Question {
+    pub(crate) name: &'static str,
+    pub(crate) value: Wanted,
+    pub(crate) from: Option<u32>,
+    pub(crate) to: Option<u32>,
+    pub(crate) how: How,
+}
+
+/// The value that is asked for.
+fn value_of(alloc: Global, wanted: Wanted) -> Result<Value, AllocError> {
+    match wanted {
+        Wanted::Text(text) => Ok(Value::Text(Text::copy_of(alloc, text)?)),
+        Wanted::Int(int) => Ok(Value::Int(int)),
+        Wanted::Bool(bool) => Ok(Value::Bool(bool)),
+    }
+}
+
+/// The question as a scan takes it.
+pub(crate) fn ask_of(alloc: Global, question: Question) -> Result<Ask, AllocError> {
+    let name = Text::copy_of(alloc, question.name)?;
+    let value = value_of(alloc, question.value)?;
     Ok(Ask {
         name,
         value,
-        from,
-        to,
-        how,
+        from: question.from,
+        to: question.to,
+        how: question.how,
     })
-}
-
-/// Asserts what is answered in each row of the table.
-fn expect_scans<R: Abort>(rt: &R, alloc: Global, log: &Log, main: &mut Pass) -> Result<(), Fail>
-    requires { IsPassOf log.now main.old }
-    ensures { IsPassOf log.now main.new }
-{
-    for &(name, value, from, to, how, want) in SCANS {
-        let ask = asked(alloc, name, value, from, to, how)?;
-        let found = told_scan(alloc, log, main, &ask);
-        drop(ask);
-        expect_text(rt, "a scan", found?.as_str(), want);
-    }
-    Ok(())
-}
-
-/// Asserts how a scan of all records would read them.
-fn expect_explained<R: Abort>(rt: &R, alloc: Global, log: &Log, main: &mut Pass) -> Result<(), Fail>
-    requires { IsPassOf log.now main.old }
-    ensures { IsPassOf log.now main.new }
-{
-    let ask = asked(alloc, SOURCE, "a", None, None, How::Auto)?;
-    let found = told_explain(alloc, log, main, &ask);
-    drop(ask);
-    expect_text(
-        rt,
-        "a plan",
-        found?.as_str(),
-        "0..5 index 1..5 by 0 full 0..1",
-    );
-    Ok(())
-}
-
-/// Registers the definition behind a first record, and stores others.
-fn fill(
-    alloc: Global,
-    log: &Log,
-    main: &mut Pass,
-    registrar: &mut Registrar,
-    defs: &mut Defs,
-) -> Result<(), Fail>
-    requires { IsWorking log.now main.old registrar.old defs.old }
-    ensures { IsPassOf log.now main.new }
-{
-    if store_kept(alloc, log, main, registrar, defs, b"{\"type\":\"a\"}") != Ok(0) {
-        return Err(Fail::new("not stored"));
-    }
-    if begin_between(alloc, log, main, registrar, defs, SOURCE)? != Ok(0) {
-        return Err(Fail::new("not registered"));
-    }
-    if poll_between(log, main, registrar, defs) != (Poll::Bound { id: 0, from: 1 }) {
-        return Err(Fail::new("not bound"));
-    }
-    store_payloads(alloc, log, main, registrar, defs)?;
-    Ok(())
-}
-
-#[test]
-fn scans(rt: HostRuntime) -> Result<(), Fail> {
-    let alloc = rt.alloc();
-    let (log, mut main) = empty_log(alloc, ONE_PAGE, FIRST)?;
-    let mut registrar = Registrar::new(Catalog::new(alloc));
-    let mut defs = Defs::new(alloc);
-    fill(alloc, &log, &mut main, &mut registrar, &mut defs)?;
-    expect_scans(&rt, alloc, &log, &mut main)?;
-    expect_explained(&rt, alloc, &log, &mut main)?;
-    drop((log, main, registrar, defs));
-    Ok(())
 }

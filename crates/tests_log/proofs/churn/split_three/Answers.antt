@@ -1,5 +1,5 @@
 -- The control pass is the first one, but for the lanes that it gave out.
-use Rattle.std.proofs.Common.{◌≡◌, ◌∙◌, ◌<◌, ◌∷◌, ap, arith}
+use Rattle.std.proofs.Common.{◌∙◌, ◌∷◌, ap, arith}
 use Rattle.fish_rule.specs.declared.view.View.{View}
 use Rattle.tests_log.proofs.Seats.{all_three}
 use Rattle.tests_log.specs.Lanes.{IsOutOf}

@@ -1,0 +1,8 @@
+-- The pass may ingest as before.
+use Rattle.tests_log.proofs.Kept.{working_on}
+use Rattle.tests_log.proofs.registrations.end_between.Goals as goal
+
+pub returns : goal.returns
+returns c =
+    working_on c.args.log.now c.args.main.now _ c.args.registrar.now _ c.args.defs.now c.requires c.end.ensures.kept
+    c.end.ensures.changes

@@ -1,0 +1,650 @@
+//! Scans while three lanes store records and the control pass registers and ends definitions, each of which scans now
+//! and then: what each scan answered is what a plain filter finds in the closed log.
+//!
+//! A record of a lane is told by its place: each fifth has no value for any definition, and the others have one of three
+//! kinds, and a size from 10 to 39.
+
+ghost use Rattle.std.specs.Prelude.{◌≡◌, ◌<◌, ◌∷◌, [], None, OnOk};
+ghost use Rattle.std.specs.Thread.{IsSync};
+ghost use Rattle.fish_ingest.specs.Ingestion.{CanIngest};
+ghost use Rattle.fish_rule.specs.Passes.{IsPassOf, view};
+ghost use Rattle.fish_rule.specs.Reading.{IsAlone};
+ghost use Rattle.fish_rule.specs.Table.{first_view};
+ghost use Rattle.tests_log.specs.Lanes.{IsOutOf};
+ghost use Rattle.tests_log.specs.Registering.{AreOut, IsBeside, IsKept};
+
+use crate::churn::{split_three, take_three, wait};
+use crate::expecting::expect;
+use crate::lanes::store;
+use crate::openings::{ONE_PAGE, closed, empty_log};
+use crate::registrations::{begin, end};
+use crate::scans::{Question, Wanted, ask_of, scan_between};
+use crate::threads::Seat;
+use fish_catalog::{Catalog, Entries, Entry};
+use fish_epoch::Defs;
+use fish_registry::Registrar;
+use fish_rule::{Base, Log, Pass, lane as lane_of};
+use fish_scan::{Answer, Ask, How, ScanRefusal};
+use fish_value::{Row, Text};
+use std::alloc::{AllocError, Global};
+use std::fmt::Write;
+use std::process::Abort;
+use std::test::Fail;
+use std::thread::{Threads, for_each_mut, join_mut};
+
+/// Where an empty store begins.
+const FIRST: Base = Base { number: 0, line: 0 };
+
+/// How many records each lane stores, and how many of them between two of its scans.
+const RECORDS: usize = 240;
+
+const BETWEEN: usize = 8;
+
+/// How often the control pass ends a definition and registers it anew.
+const CHANGES: usize = 18;
+
+/// The kinds of records.
+const KINDS: &[&str] = &["a", "b", "c"];
+
+/// The definition that stays, from before the first record on, and those that come and go.
+const KIND: (&str, &str) = ("kind", "take kind");
+
+const CHANGING: &[(&str, &str)] = &[
+    ("size", "bucket size by 10"),
+    ("small", "flag when kind = \"a\" and size < 20"),
+];
+
+/// What is asked, in turn, and a text that stands in the payloads of the records that have the value, and in no others.
+const ASKED: &[(&str, Wanted, How, &[u8])] = &[
+    ("kind", Wanted::Text("a"), How::Index, b"\"kind\":\"a\""),
+    ("size", Wanted::Int(20), How::Auto, b"\"size\":2"),
+    ("kind", Wanted::Text("b"), How::Auto, b"\"kind\":\"b\""),
+    (
+        "small",
+        Wanted::Bool(true),
+        How::Index,
+        b"\"kind\":\"a\",\"size\":1",
+    ),
+    ("kind", Wanted::Text("c"), How::Full, b"\"kind\":\"c\""),
+    ("size", Wanted::Int(10), How::Full, b"\"size\":1"),
+    (
+        "small",
+        Wanted::Bool(true),
+        How::Auto,
+        b"\"kind\":\"a\",\"size\":1",
+    ),
+    ("size", Wanted::Int(30), How::Index, b"\"size\":3"),
+    ("kind", Wanted::Text("d"), How::Auto, b"\"kind\":\"d\""),
+];
+
+/// The question at a place, about the whole log.
+fn ask_at(alloc: Global, place: usize) -> Result<Ask, AllocError>
+    requires { place < 9 }
+{
+    let (name, value, how, _) = ASKED[place];
+    let question = Question {
+        name,
+        value,
+        from: None,
+        to: None,
+        how,
+    };
+    ask_of(alloc, question)
+}
+
+/// What a scan answered.
+#[derive(Drop)]
+struct Kept {
+    lane: u8,
+    /// How many records its lane had stored before.
+    stored: usize,
+    /// The place of what was asked.
+    asked: usize,
+    answer: Answer,
+}
+
+/// A seat, and what the scans of its lane answered.
+#[derive(Drop)]
+struct Racer {
+    seat: Seat,
+    kept: Vec<Kept>,
+}
+
+/// Writes the payload of a lane's record, by its place in what the lane stores.
+fn write_payload(text: &mut String, lane: u8, place: usize) -> Result<(), AllocError> {
+    if place % 5 == 4 {
+        return write!(text, "{{\"by\":{lane},\"n\":{place}}}");
+    }
+    let kind = KINDS[place % 3];
+    let size = 10 + place % 30;
+    write!(
+        text,
+        "{{\"kind\":\"{kind}\",\"size\":{size},\"by\":{lane},\"n\":{place}}}"
+    )
+}
+
+/// That payload.
+fn payload_of(alloc: Global, lane: u8, place: usize) -> Result<Text, AllocError> {
+    let mut text = String::new(alloc);
+    match write_payload(&mut text, lane, place) {
+        Ok(()) => Ok(Text::from_string(text)),
+        Err(error) => {
+            drop(text);
+            Err(error)
+        }
+    }
+}
+
+/// Stores the record of a place. Whether it did.
+fn store_place(
+    alloc: Global,
+    log: &Log,
+    pass: &mut Pass,
+    defs: &mut Defs,
+    place: usize,
+) -> Result<bool, AllocError>
+    requires { CanIngest log.now pass.old defs.old }
+    ensures { CanIngest log.now pass.new defs.new }
+{
+    let payload = payload_of(alloc, lane_of(pass), place)?;
+    let stored = store(alloc, log, pass, defs, payload.as_bytes()).is_ok();
+    drop(payload);
+    Ok(stored)
+}
+
+/// Keeps what a scan answered behind so many records of its lane. A definition may not be there yet, and an index may
+/// miss a number.
+fn keep(
+    kept: &mut Vec<Kept>,
+    lane: u8,
+    stored: usize,
+    asked: usize,
+    answer: Result<Answer, ScanRefusal>,
+) -> Result<(), AllocError> {
+    match answer {
+        Ok(answer) => Ok(kept.push(Kept {
+            lane,
+            stored,
+            asked,
+            answer,
+        })?),
+        Err(ScanRefusal::UnknownName { .. } | ScanRefusal::NotCovered { .. }) => Ok(()),
+        Err(_) => Err(AllocError),
+    }
+}
+
+/// A lane scans behind so many of its records.
+fn scan_at(
+    alloc: Global,
+    log: &Log,
+    pass: &mut Pass,
+    defs: &mut Defs,
+    stored: usize,
+    kept: &mut Vec<Kept>,
+) -> Result<(), AllocError>
+    requires { CanIngest log.now pass.old defs.old }
+    ensures { CanIngest log.now pass.new defs.new }
+{
+    let asked = stored / BETWEEN % ASKED.len();
+    let ask = ask_at(alloc, asked)?;
+    let answer = scan_between(alloc, log, pass, defs, &ask);
+    drop(ask);
+    keep(kept, lane_of(pass), stored, asked, answer)
+}
+
+/// Stores the record of a place, and scans behind each eighth.
+fn step(
+    alloc: Global,
+    log: &Log,
+    pass: &mut Pass,
+    defs: &mut Defs,
+    place: usize,
+    kept: &mut Vec<Kept>,
+) -> Result<(), AllocError>
+    requires { CanIngest log.now pass.old defs.old }
+    ensures { CanIngest log.now pass.new defs.new }
+{
+    if !store_place(alloc, log, pass, defs, place)? {
+        return Err(AllocError);
+    }
+    let stored = usize::saturating_add(place, 1);
+    if stored % BETWEEN != 0 {
+        return Ok(());
+    }
+    scan_at(alloc, log, pass, defs, stored, kept)
+}
+
+/// A lane stores its records, and scans now and then. How many it stored before something failed.
+fn run_lane(
+    alloc: Global,
+    log: &Log,
+    pass: &mut Pass,
+    defs: &mut Defs,
+    kept: &mut Vec<Kept>,
+) -> usize
+    requires { CanIngest log.now pass.old defs.old }
+    ensures { CanIngest log.now pass.new defs.new }
+{
+    for place in 0..RECORDS {
+        if step(alloc, log, pass, defs, place, kept).is_err() {
+            return place;
+        }
+    }
+    RECORDS
+}
+
+/// A seat's pass does so, with definitions of its own, which are made on the thread.
+fn run_racer(alloc: Global, log: &Log, racer: &mut Racer)
+    requires { IsOutOf log.now racer.old.seat.pass }
+    ensures { IsOutOf log.now racer.new.seat.pass }
+{
+    let mut defs = Defs::new(alloc);
+    racer.seat.stored = run_lane(alloc, log, &mut racer.seat.pass, &mut defs, &mut racer.kept);
+    drop(defs);
+}
+
+/// All racers do so at once, each on a thread.
+fn run_all<R: Threads + Sync>(rt: &R, alloc: Global, log: &Log, racers: &mut [Racer])
+    requires { AreOut log.now racers.old (λ racer. racer.seat.pass) }
+    ensures { AreOut log.now racers.new (λ racer. racer.seat.pass) }
+{
+    let threads = racers.len();
+    for_each_mut(
+        rt,
+        racers,
+        threads,
+        &|_, racer| run_racer(alloc, log, racer),
+    );
+}
+
+/// Registers a definition, of a name and a text, and waits until its index begins.
+fn add(
+    alloc: Global,
+    log: &Log,
+    main: &mut Pass,
+    registrar: &mut Registrar,
+    definition: (&str, &str),
+) -> Result<(), Fail>
+    requires { IsBeside log.now main.old registrar.old }
+    ensures { IsBeside log.now main.new registrar.new }
+{
+    if begin(alloc, log, main, registrar, definition.0, definition.1)?.is_err() {
+        return Err(Fail::new("not registered"));
+    }
+    wait(log, main, registrar)
+}
+
+/// Ends the definition of a name. Whether it did.
+fn remove(
+    alloc: Global,
+    log: &Log,
+    main: &mut Pass,
+    registrar: &mut Registrar,
+    name: &str,
+) -> Result<bool, Fail>
+    requires { IsBeside log.now main.old registrar.old }
+    ensures { IsBeside log.now main.new registrar.new }
+{
+    Ok(end(alloc, log, main, registrar, name)?.is_ok())
+}
+
+/// Scans beside the lanes, with definitions that are read anew.
+fn scan_beside(
+    alloc: Global,
+    log: &Log,
+    main: &mut Pass,
+    registrar: &Registrar,
+    ask: &Ask,
+) -> Result<Answer, ScanRefusal>
+    requires { IsBeside log.now main.old registrar.now }
+    ensures { IsBeside log.now main.new registrar.now }
+{
+    let mut defs = Defs::new(alloc);
+    let answer = scan_between(alloc, log, main, &mut defs, ask);
+    drop(defs);
+    answer
+}
+
+/// The control pass scans at a turn of its own.
+fn scan_in_turn(
+    alloc: Global,
+    log: &Log,
+    main: &mut Pass,
+    registrar: &Registrar,
+    turn: usize,
+    kept: &mut Vec<Kept>,
+) -> Result<(), Fail>
+    requires { IsBeside log.now main.old registrar.now }
+    ensures { IsBeside log.now main.new registrar.now }
+{
+    let asked = turn % ASKED.len();
+    let ask = ask_at(alloc, asked)?;
+    let answer = scan_beside(alloc, log, main, registrar, &ask);
+    drop(ask);
+    Ok(keep(kept, 1, 0, asked, answer)?)
+}
+
+/// Registers one of the changing definitions, which is ended before from the third turn on.
+fn change(
+    alloc: Global,
+    log: &Log,
+    main: &mut Pass,
+    registrar: &mut Registrar,
+    turn: usize,
+) -> Result<(), Fail>
+    requires { IsBeside log.now main.old registrar.old }
+    ensures { IsBeside log.now main.new registrar.new }
+{
+    let definition = CHANGING[turn % 2];
+    if turn < 2 || remove(alloc, log, main, registrar, definition.0)? {
+        return add(alloc, log, main, registrar, definition);
+    }
+    Err(Fail::new("not ended"))
+}
+
+/// Definitions come and go, and a scan is made behind each change.
+fn change_all(
+    alloc: Global,
+    log: &Log,
+    main: &mut Pass,
+    registrar: &mut Registrar,
+    kept: &mut Vec<Kept>,
+) -> Result<(), Fail>
+    requires { IsBeside log.now main.old registrar.old }
+    ensures { IsBeside log.now main.new registrar.new }
+{
+    for turn in 0..CHANGES {
+        change(alloc, log, main, registrar, turn)?;
+        scan_in_turn(alloc, log, main, registrar, turn, kept)?;
+    }
+    Ok(())
+}
+
+/// They do so while the lanes store and scan, by an index that begins before the first record.
+fn change_beside<R: Threads + Sync>(
+    rt: &R,
+    alloc: Global,
+    log: &Log,
+    main: &mut Pass,
+    registrar: &mut Registrar,
+    racers: &mut [Racer],
+    kept: &mut Vec<Kept>,
+) -> Result<(), Fail>
+    requires beside { IsBeside log.now main.old registrar.old }
+    requires racers { AreOut log.now racers.old (λ racer. racer.seat.pass) }
+    ensures beside { IsBeside log.now main.new registrar.new }
+    ensures racers { AreOut log.now racers.new (λ racer. racer.seat.pass) }
+{
+    add(alloc, log, main, registrar, KIND)?;
+    let (done, ()) = join_mut(
+        rt,
+        &mut || change_all(alloc, log, main, registrar, kept),
+        &mut || -> ()
+            requires { IsSync R.row × AreOut log.now racers.now (λ racer. racer.seat.pass) }
+            ensures { AreOut log.entry.now racers.exit.now (λ racer. racer.seat.pass) }
+        { run_all(rt, alloc, log, racers) },
+    );
+    done
+}
+
+/// A racer of each seat.
+fn racers_of(alloc: Global, log: &Log, seats: [Seat; 3]) -> [Racer; 3]
+    requires { AreOut log.now seats (λ seat. seat.pass) }
+    ensures { AreOut log.now result (λ racer. racer.seat.pass) }
+{
+    let [second, third, fourth] = seats;
+    [
+        racer_of(alloc, log, second),
+        racer_of(alloc, log, third),
+        racer_of(alloc, log, fourth),
+    ]
+}
+
+/// The racer of a seat.
+fn racer_of(alloc: Global, log: &Log, seat: Seat) -> Racer
+    requires { IsOutOf log.now seat.pass }
+    ensures { IsOutOf log.now result.seat.pass }
+{
+    Racer {
+        seat,
+        kept: Vec::new(alloc),
+    }
+}
+
+/// What scans answered: those of the control pass, and of lanes 2 to 4.
+#[derive(Drop)]
+struct Answers {
+    main: Vec<Kept>,
+    second: Vec<Kept>,
+    third: Vec<Kept>,
+    fourth: Vec<Kept>,
+}
+
+/// What a race left: how many records each lane stored, and what was answered.
+#[derive(Drop)]
+struct Raced {
+    stored: [usize; 3],
+    answers: Answers,
+}
+
+/// The control pass takes back the seats.
+fn take_racers(
+    log: &Log,
+    main: &mut Pass,
+    racers: [Racer; 3],
+    kept: Vec<Kept>,
+) -> Result<Raced, Fail>
+    requires main { IsPassOf log.now main.old }
+    requires racers { AreOut log.now racers (λ racer. racer.seat.pass) }
+    requires control { (view main.old).lane ≡ 1 }
+    requires idle { (view main.old).flight ≡ None }
+    requires out { (view main.old).out ≡ 4 ∷ 3 ∷ 2 ∷ [] }
+    ensures pass { IsPassOf log.now main.new }
+    ensures alone { OnOk result (IsAlone (view main.new)) }
+{
+    let [second, third, fourth] = racers;
+    let seats = [second.seat, third.seat, fourth.seat];
+    let answers = Answers {
+        main: kept,
+        second: second.kept,
+        third: third.kept,
+        fourth: fourth.kept,
+    };
+    match take_three(log, main, seats) {
+        Ok(stored) => Ok(Raced { stored, answers }),
+        Err(fail) => {
+            drop(answers);
+            Err(fail)
+        }
+    }
+}
+
+/// Lanes 2 to 4 store and scan while definitions come and go.
+fn race<R: Threads + Sync>(
+    rt: &R,
+    alloc: Global,
+    log: &Log,
+    main: &mut Pass,
+    registrar: &mut Registrar,
+) -> Result<Raced, Fail>
+    requires kept { IsKept log.now main.old registrar.old }
+    requires first { view main.old ≡ first_view log.now.key }
+    ensures pass { IsPassOf log.now main.new }
+    ensures alone { OnOk result (IsAlone (view main.new)) }
+{
+    let seats = split_three(log, main, registrar);
+    let mut racers = racers_of(alloc, log, seats);
+    let mut kept = Vec::new(alloc);
+    match change_beside(rt, alloc, log, main, registrar, &mut racers, &mut kept) {
+        Ok(()) => take_racers(log, main, racers, kept),
+        Err(fail) => {
+            drop((racers, kept));
+            Err(fail)
+        }
+    }
+}
+
+/// The same, and the closed log.
+#[derive(Drop)]
+struct Left {
+    raced: Raced,
+    entries: Entries,
+}
+
+/// Closes a log behind a race.
+fn close_raced(alloc: Global, log: Log, main: Pass, raced: Raced) -> Result<Left, Fail>
+    requires pass { IsPassOf log main }
+    requires alone { IsAlone (view main) }
+{
+    match closed(alloc, log, main) {
+        Ok(entries) => Ok(Left { raced, entries }),
+        Err(fail) => {
+            drop(raced);
+            Err(fail)
+        }
+    }
+}
+
+/// A race on a log of its own.
+fn raced_log<R: Threads + Sync>(rt: &R, alloc: Global) -> Result<Left, Fail> {
+    let (log, mut main) = empty_log(alloc, ONE_PAGE, FIRST)?;
+    let mut registrar = Registrar::new(Catalog::new(alloc));
+    let raced = race(rt, alloc, &log, &mut main, &mut registrar);
+    drop(registrar);
+    match raced {
+        Ok(raced) => close_raced(alloc, log, main, raced),
+        Err(fail) => {
+            drop((log, main));
+            Err(fail)
+        }
+    }
+}
+
+/// Whether a text stands anywhere in some bytes.
+fn has(bytes: &[u8], text: &[u8]) -> bool {
+    for start in 0..bytes.len() {
+        if bytes[start..].starts_with(text) {
+            return true;
+        }
+    }
+    false
+}
+
+/// Whether a scan found a number open.
+fn is_open(kept: &Kept, number: u32) -> bool {
+    kept.answer.opens.as_slice().contains(&number)
+}
+
+/// The payload of the record at a number, if the scan has to find it: it isn't open, and has the text.
+fn wanted_at<'a>(entries: &'a [Entry], kept: &Kept, number: u32) -> Option<&'a Text> {
+    let (_, _, _, text) = ASKED.get(kept.asked)?;
+    match entries.get(number as usize)? {
+        Entry::Stored { payload, .. } if !is_open(kept, number) && has(payload.as_bytes(), text) =>
+            { Some(payload) }
+        Entry::Stored { .. } | Entry::Void => None,
+    }
+}
+
+/// Whether a row is the record with this number and payload.
+fn is_row(row: Option<&Row>, number: u32, payload: &Text) -> bool {
+    match row {
+        Some(row) => row.number == number && row.payload.is(payload),
+        None => false,
+    }
+}
+
+/// Whether the rows are the records of the range that the scan has to find, newest first.
+fn has_found(entries: &[Entry], kept: &Kept) -> bool {
+    let rows = kept.answer.rows.as_slice();
+    let mut place = 0;
+    for number in (kept.answer.from..kept.answer.to).rev() {
+        if let Some(payload) = wanted_at(entries, kept, number) {
+            if !is_row(rows.get(place), number, payload) {
+                return false;
+            }
+            place = usize::saturating_add(place, 1);
+        }
+    }
+    place == rows.len()
+}
+
+/// Whether a number is that of a record of the scan's lane, and isn't open.
+fn is_own(entries: &[Entry], kept: &Kept, number: u32) -> bool {
+    match entries.get(number as usize) {
+        Some(Entry::Stored { lane, .. }) => *lane == kept.lane && !is_open(kept, number),
+        Some(Entry::Void) | None => false,
+    }
+}
+
+/// Whether the records of its lane in the range are exactly those that were stored before the scan.
+fn has_own(entries: &[Entry], kept: &Kept) -> bool {
+    let mut own = 0;
+    for number in kept.answer.from..kept.answer.to {
+        if is_own(entries, kept, number) {
+            own = usize::saturating_add(own, 1);
+        }
+    }
+    own == kept.stored
+}
+
+/// How many answers differ from the closed log.
+fn differing(entries: &[Entry], kept: &[Kept]) -> usize {
+    let mut wrong = 0;
+    for one in kept {
+        if !has_found(entries, one) || !has_own(entries, one) {
+            wrong = usize::saturating_add(wrong, 1);
+        }
+    }
+    wrong
+}
+
+/// How many questions about the definition that stays were answered in a way.
+fn answered(kept: &[Kept], how: How) -> usize {
+    let mut count = 0;
+    for one in kept {
+        if let Some((name, _, asked, _)) = ASKED.get(one.asked) {
+            if *name == KIND.0 && *asked == how {
+                count = usize::saturating_add(count, 1);
+            }
+        }
+    }
+    count
+}
+
+/// Asserts that the answers of a pass are those of the closed log, and how many there are by the index, in full, and
+/// in either way, of the definition that stays.
+fn expect_answers<R: Abort>(rt: &R, entries: &[Entry], kept: &[Kept], want: &[usize; 3]) {
+    expect(rt, "differing answers", &differing(entries, kept), &0);
+    let found = [
+        answered(kept, How::Index),
+        answered(kept, How::Full),
+        answered(kept, How::Auto),
+    ];
+    expect(rt, "answers", &found, want);
+}
+
+/// Asserts what a race left. A lane asks thirty times and the control pass eighteen times, each beginning where it
+/// stands: at the second question, and at the first.
+fn expect_left<R: Abort>(rt: &R, left: &Left) {
+    let entries = left.entries.as_slice();
+    let answers = &left.raced.answers;
+    expect(
+        rt,
+        "records",
+        &left.raced.stored,
+        &[RECORDS, RECORDS, RECORDS],
+    );
+    expect(rt, "entries", &entries.len(), &720);
+    expect_answers(rt, entries, answers.main.as_slice(), &[2, 2, 4]);
+    expect_answers(rt, entries, answers.second.as_slice(), &[3, 3, 7]);
+    expect_answers(rt, entries, answers.third.as_slice(), &[3, 3, 7]);
+    expect_answers(rt, entries, answers.fourth.as_slice(), &[3, 3, 7]);
+}
+
+#[test]
+fn scans_beside_lanes_answer_what_the_closed_log_has(rt: HostRuntime) -> Result<(), Fail> {
+    let left = raced_log(&rt, rt.alloc())?;
+    expect_left(&rt, &left);
+    drop(left);
+    Ok(())
+}
