@@ -12,6 +12,7 @@ mod parses;
 mod records;
 mod registrations;
 mod scans;
+mod selections;
 mod stores;
 mod walks;
 mod words;
@@ -25,6 +26,7 @@ use lanes::LaneCount;
 use parses::{Reading, measure_parses};
 use registrations::{Changes, Work, measure_registrations};
 use scans::measure_scans;
+use selections::measure_full;
 use std::alloc::AllocError;
 use std::io::Eprint;
 use std::process::ExitCode;
@@ -80,17 +82,43 @@ fn measure<R: Threads + Sync + Clock + AllocGlobal + Eprint + Files>(
     words: &[String],
 ) -> Result<(), Failure> {
     match words {
-        [log] if log.as_str() == "log" => Ok(measure_log(rt)?),
-        [image] if image.as_str() == "image" => Ok(measure_images(rt)?),
-        [ingest, name] if ingest.as_str() == "ingest" => measure_file(rt, name.as_str()),
-        [changes, name] if changes.as_str() == "registrations" => measure_changes(
-            rt,
-            clock,
-            name.as_str(),
-        ),
-        [scans, name] if scans.as_str() == "scans" => measure_found(rt, name.as_str()),
+        [work] => measure_alone(rt, work.as_str()),
+        [work, name] => measure_named(rt, clock, work.as_str(), name.as_str()),
         _ => Err(Failure::Words),
     }
+}
+
+/// A measurement without a file.
+fn measure_alone<R: Threads + Sync + Clock + AllocGlobal + Eprint>(
+    rt: &R,
+    work: &str,
+) -> Result<(), Failure> {
+    if work == "log" {
+        return Ok(measure_log(rt)?);
+    }
+    if work == "image" {
+        return Ok(measure_images(rt)?);
+    }
+    Err(Failure::Words)
+}
+
+/// A measurement of the events in the file of this name.
+fn measure_named<R: Threads + Sync + Clock + AllocGlobal + Eprint + Files>(
+    rt: &R,
+    clock: &HostRuntime,
+    work: &str,
+    name: &str,
+) -> Result<(), Failure> {
+    if work == "ingest" {
+        return measure_file(rt, name);
+    }
+    if work == "registrations" {
+        return measure_changes(rt, clock, name);
+    }
+    if work == "scans" {
+        return measure_found(rt, name);
+    }
+    Err(Failure::Words)
 }
 
 /// Scans by an index, and of the events in the file of this name.
@@ -100,7 +128,8 @@ fn measure_found<R: Clock + AllocGlobal + Eprint + Files>(
 ) -> Result<(), Failure> {
     let payloads = read_events(rt, name)?;
     for _ in 0..ROUNDS {
-        measure_scans(rt, payloads.as_slice())?;
+        measure_scans(rt)?;
+        measure_full(rt, payloads.as_slice())?;
     }
     Ok(())
 }

@@ -1,5 +1,4 @@
-//! Scans: rows that an index gives, entries of other values that it passes, and a scan number by number beside the
-//! selection of the same records in memory.
+//! Scans by an index: rows that it gives, and entries of other values that it passes.
 
 ghost use Rattle.std.specs.Prelude.{◌≡◌, ◌<◌, IfOk};
 ghost use Rattle.bench.specs.Opening.{IsControl};
@@ -8,19 +7,16 @@ ghost use Rattle.fish_rule.specs.Passes.{IsPassOf, view};
 ghost use Rattle.fish_rule.specs.Start.{IsShape};
 
 use crate::definitions::{Sources, definitions_of};
-use crate::ingests::{SHAPE, ingest_all};
+use crate::ingests::ingest_all;
 use crate::lanes::report;
 use crate::opening::{Opened, open};
 use crate::walks::{Walked, walk_chain};
 use fish_epoch::Defs;
-use fish_lang::{Def, parse_def};
 use fish_layout::{bucket_of, key_hash};
-use fish_psf::{Parsed, Steps, eval};
-use fish_read::RecordReader;
+use fish_psf::Steps;
 use fish_rule::{Log, Pass, Shape, buckets};
 use fish_scan::{Answer, Ask, How, ScanRefusal, scan};
-use fish_value::{Form, Row, Rows, Text, Texts, Value};
-use fish_walk::settle;
+use fish_value::{Text, Texts, Value};
 use std::alloc::{AllocError, Global};
 use std::io::Eprint;
 use std::marker::Brand;
@@ -39,16 +35,8 @@ const FEW: Shape = Shape {
     bucket_bits: 4,
 };
 
-/// The one definition over short payloads, and the one over events.
+/// The one definition over them.
 const SHORT: Sources = &[("a", "take a")];
-
-const EVENTS: Sources = &[("type", "take type")];
-
-/// Types of events, about one in a hundred and one in two, and the words of the lines for each.
-const TYPES: &[(&str, &str, &str)] = &[
-    ("ReleaseEvent", "full", "select"),
-    ("PushEvent", "full_half", "select_half"),
-];
 
 /// Which values short payloads have.
 #[derive(Clone, Copy)]
@@ -71,28 +59,24 @@ impl Values {
 
 /// A log of one lane in which payloads are stored, and its pass.
 #[derive(Drop)]
-struct Filled {
-    log: Log,
-    main: Pass,
+pub struct Filled {
+    pub log: Log,
+    pub main: Pass,
 }
 
 /// What a scan or a selection gave.
 #[derive(Clone, Copy)]
-struct Timed {
+pub struct Timed {
     /// How many rows.
-    rows: u64,
+    pub rows: u64,
     /// How long it took.
-    nanoseconds: u128,
+    pub nanoseconds: u128,
 }
 
-/// All measurements, once each; those of full scans are of the payloads.
-pub fn measure_scans<R: Clock + AllocGlobal + Eprint>(
-    rt: &R,
-    payloads: &[Text],
-) -> Result<(), AllocError> {
+/// All measurements, once each.
+pub fn measure_scans<R: Clock + AllocGlobal + Eprint>(rt: &R) -> Result<(), AllocError> {
     measure_index(rt, Values::Same)?;
-    measure_index(rt, Values::Own)?;
-    measure_full(rt, payloads)
+    measure_index(rt, Values::Own)
 }
 
 /// A log of short payloads: rows of the value of the first one, and entries passed by a value that none has. With one
@@ -125,7 +109,7 @@ fn short_payloads(alloc: Global, values: Values) -> Result<Texts, AllocError> {
 }
 
 /// A log of a shape with definitions, in which all payloads are stored.
-fn fill_log(
+pub fn fill_log(
     alloc: Global,
     shape: Shape,
     sources: Sources,
@@ -163,20 +147,44 @@ fn time_index<R: Clock + AllocGlobal + Eprint>(
 ) -> Result<(), AllocError>
     requires { IsPassOf log.now main.old }
 {
-    let first = Value::Int(FIRST as i64);
-    let Some(walked) = walk_bucket(rt, log, main, &first) else {
-        return Err(AllocError);
-    };
     let (walk, pass) = values.words();
+    let walked = walk_first(rt, log, main)?;
     report(rt, walk, 1, walked.nanoseconds, walked.nodes, "nodes");
-    let other = Value::Int(neighbour(&first, buckets(log)));
+    let other = Value::Int(other_number(buckets(log)));
     let passed = time_scan(rt, log, main, "a", other, How::Index)?;
     report(rt, pass, 1, passed.nanoseconds, walked.nodes, "entries");
-    if let Values::Same = values {
-        let given = time_scan(rt, log, main, "a", first, How::Index)?;
-        report(rt, "given", 1, given.nanoseconds, given.rows, "rows");
+    match values {
+        Values::Same => time_given(rt, log, main),
+        Values::Own => Ok(()),
     }
+}
+
+/// Times a scan by the index for the value that all records have.
+fn time_given<R: Clock + AllocGlobal + Eprint>(
+    rt: &R,
+    log: &Log,
+    main: &mut Pass,
+) -> Result<(), AllocError>
+    requires { IsPassOf log.now main.old }
+{
+    let first = Value::Int(FIRST as i64);
+    let given = time_scan(rt, log, main, "a", first, How::Index)?;
+    report(rt, "given", 1, given.nanoseconds, given.rows, "rows");
     Ok(())
+}
+
+/// Walks down the chain of the bucket of the first record's value.
+fn walk_first<R: Clock>(rt: &R, log: &Log, main: &mut Pass) -> Result<Walked, AllocError>
+    requires { IsPassOf log.now main.old }
+    ensures { IsPassOf log.now main.new }
+{
+    let first = Value::Int(FIRST as i64);
+    let walked = walk_bucket(rt, log, main, &first);
+    drop(first);
+    match walked {
+        Some(walked) => Ok(walked),
+        None => Err(AllocError),
+    }
 }
 
 /// Walks down the chain of the bucket in which the entries of a value are, of the definition with id 0.
@@ -206,21 +214,31 @@ fn walk_counted<R: Clock, L: Ledger>(
     walk_chain(rt, log, main, bucket, &mut steps)
 }
 
-/// The least number below that of the first record whose entries are in the same bucket as a value's.
-fn neighbour(value: &Value, count: u64) -> i64
+/// The least number that no record has, whose entries would be in the bucket of the first record's value.
+fn other_number(count: u64) -> i64
     requires { 0 < count }
 {
-    let bucket = bucket_of(key_hash(0, value), count);
+    let bucket = bucket_of_number(FIRST as i64, count);
     for number in 0..FIRST as i64 {
-        if bucket_of(key_hash(0, &Value::Int(number)), count) == bucket {
+        if bucket_of_number(number, count) == bucket {
             return number;
         }
     }
     -1
 }
 
+/// The bucket of a number, by the definition with id 0.
+fn bucket_of_number(number: i64, count: u64) -> u64
+    requires { 0 < count }
+{
+    let value = Value::Int(number);
+    let bucket = bucket_of(key_hash(0, &value), count);
+    drop(value);
+    bucket
+}
+
 /// Times a scan of the whole log.
-fn time_scan<R: Clock + AllocGlobal>(
+pub fn time_scan<R: Clock + AllocGlobal>(
     rt: &R,
     log: &Log,
     main: &mut Pass,
@@ -318,178 +336,4 @@ fn rows_in(answer: Result<Answer, ScanRefusal>) -> Option<u64> {
         }
         Err(_) => None,
     }
-}
-
-/// A log of the payloads: scans that read all of them, and selections from the payloads in memory.
-fn measure_full<R: Clock + AllocGlobal + Eprint>(
-    rt: &R,
-    payloads: &[Text],
-) -> Result<(), AllocError> {
-    let Filled { log, mut main } = fill_log(rt.alloc(), SHAPE, EVENTS, payloads)?;
-    let measured = time_full(rt, &log, &mut main, payloads);
-    drop((log, main));
-    measured
-}
-
-/// Times both for each type. They give as many rows, or something is wrong.
-fn time_full<R: Clock + AllocGlobal + Eprint>(
-    rt: &R,
-    log: &Log,
-    main: &mut Pass,
-    payloads: &[Text],
-) -> Result<(), AllocError>
-    requires { IsPassOf log.now main.old }
-{
-    let bytes = bytes_of(payloads);
-    settle(log, main);
-    for &(kind, full, select) in TYPES {
-        let value = Value::Text(Text::copy_of(rt.alloc(), kind)?);
-        let scanned = time_scan(rt, log, main, "type", value, How::Full)?;
-        let selected = time_select(rt, kind, payloads)?;
-        if scanned.rows != selected.rows {
-            return Err(AllocError);
-        }
-        report(rt, full, 1, scanned.nanoseconds, bytes, "bytes");
-        report(rt, select, 1, selected.nanoseconds, bytes, "bytes");
-    }
-    Ok(())
-}
-
-/// How many bytes payloads have.
-fn bytes_of(payloads: &[Text]) -> u64 {
-    let mut bytes = 0u64;
-    for payload in payloads {
-        bytes = bytes.saturating_add(payload.as_bytes().len() as u64);
-    }
-    bytes
-}
-
-/// Times the selection of a type of events.
-fn time_select<R: Clock + AllocGlobal>(
-    rt: &R,
-    kind: &str,
-    payloads: &[Text],
-) -> Result<Timed, AllocError> {
-    let value = Value::Text(Text::copy_of(rt.alloc(), kind)?);
-    let def = taken_type(rt.alloc())?;
-    let Ok(start) = Instant::now(rt) else {
-        drop(def);
-        return Err(AllocError);
-    };
-    let rows = select_all::<Brand>(rt.alloc(), Blank::new(1), &def, &value, payloads);
-    let took = start.elapsed(rt);
-    drop(def);
-    let rows = rows?;
-    let count = rows.len() as u64;
-    drop(rows);
-    match took {
-        Ok(took) => Ok(Timed {
-            rows: count,
-            nanoseconds: took.as_nanos(),
-        }),
-        Err(_) => Err(AllocError),
-    }
-}
-
-/// The definition over events.
-fn taken_type(alloc: Global) -> Result<Def, AllocError> {
-    match parse_def(alloc, b"take type") {
-        Ok(def) => Ok(def),
-        Err(_) => Err(AllocError),
-    }
-}
-
-/// The payloads for which a definition gives a value, as `select` finds them: each is read once, by one reader. The
-/// counter is of a blank.
-fn select_all<P: Ledger>(
-    alloc: Global,
-    blank: Blank,
-    def: &Def,
-    value: &Value,
-    payloads: &[Text],
-) -> Result<Rows, AllocError>
-    requires name { blank.name ≡ P.name }
-    requires parts { blank.parts ≡ P.parts }
-    requires some { 0 < blank.parts }
-{
-    let mut steps = Steps::<P>::new(blank);
-    let mut reader = RecordReader::new(alloc);
-    let mut rows = Rows::new(alloc);
-    let done = add_selected(
-        alloc,
-        &mut reader,
-        def,
-        value,
-        payloads,
-        &mut rows,
-        &mut steps,
-    );
-    drop(reader);
-    match done {
-        Ok(()) => Ok(rows),
-        Err(error) => {
-            drop(rows);
-            Err(error)
-        }
-    }
-}
-
-/// Puts them behind the rows.
-fn add_selected<P: Ledger>(
-    alloc: Global,
-    reader: &mut RecordReader,
-    def: &Def,
-    value: &Value,
-    payloads: &[Text],
-    rows: &mut Rows,
-    steps: &mut Steps<P>,
-) -> Result<(), AllocError> {
-    let mut number = 0u32;
-    for payload in payloads {
-        if has_value(alloc, reader, def, value, payload, steps)? {
-            push_row(alloc, rows, number, payload)?;
-        }
-        number = number.saturating_add(1);
-    }
-    Ok(())
-}
-
-/// Whether a definition gives a value for a payload.
-fn has_value<P: Ledger>(
-    alloc: Global,
-    reader: &mut RecordReader,
-    def: &Def,
-    value: &Value,
-    payload: &Text,
-    steps: &mut Steps<P>,
-) -> Result<bool, AllocError> {
-    match reader.read(alloc, Form::Json, payload.as_bytes(), steps) {
-        Ok(row) => {
-            let has = gives(alloc, def, value, &row);
-            drop(row);
-            has
-        }
-        Err(_) => Ok(false),
-    }
-}
-
-/// The same of a payload that was read.
-fn gives<R: Parsed>(
-    alloc: Global,
-    def: &Def,
-    value: &Value,
-    found: &R,
-) -> Result<bool, AllocError> {
-    let Some(found) = eval(alloc, def, found)? else {
-        return Ok(false);
-    };
-    let same = found.is(value);
-    drop(found);
-    Ok(same)
-}
-
-/// Puts a payload behind the rows.
-fn push_row(alloc: Global, rows: &mut Rows, number: u32, payload: &Text) -> Result<(), AllocError> {
-    let payload = payload.again(alloc)?;
-    rows.push(Row { number, payload })
 }

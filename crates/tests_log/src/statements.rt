@@ -264,11 +264,16 @@ fn told_begin(
     }
 }
 
-/// What is found of a registration as the lanes are looked at.
+/// An id, and where an index begins or ends.
+fn told_boundary(alloc: Global, id: u16, word: &str, number: u32) -> Result<String, Fail> {
+    Ok(format!(in alloc; "id {id} {word} {number}")?)
+}
+
+/// What is found of a registration as the lanes are looked at. No lane is waited for here.
 fn told_poll(alloc: Global, found: Poll) -> Result<String, Fail> {
     match found {
-        Poll::Bound { id, from } => Ok(format!(in alloc; "id {id} from {from}")?),
-        Poll::NotYet { seat, .. } => Ok(format!(in alloc; "lane {seat} is waited for")?),
+        Poll::Bound { id, from } => told_boundary(alloc, id, "from", from),
+        Poll::NotYet { .. } => Err(Fail::new("a lane is waited for")),
         Poll::Idle => Ok(format!(in alloc; "none waits")?),
     }
 }
@@ -286,7 +291,7 @@ fn told_end(
     ensures { IsWorking log.now main.new registrar.new defs.now }
 {
     match end_between(alloc, log, main, registrar, defs, name)? {
-        Ok((id, to)) => Ok(format!(in alloc; "id {id} to {to}")?),
+        Ok((id, to)) => told_boundary(alloc, id, "to", to),
         Err(refusal) => Ok(format!(in alloc; "{refusal}")?),
     }
 }
