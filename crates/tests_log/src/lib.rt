@@ -3,6 +3,8 @@
 #![tactic(auto)]
 
 #[cfg(test)]
+mod answers;
+#[cfg(test)]
 mod bases;
 #[cfg(test)]
 mod bodies;
@@ -33,6 +35,8 @@ mod openings;
 #[cfg(test)]
 mod payloads;
 #[cfg(test)]
+mod questions;
+#[cfg(test)]
 mod races;
 #[cfg(test)]
 mod refusals;
@@ -46,5 +50,7 @@ mod scans;
 mod settling;
 #[cfg(test)]
 mod statements;
+#[cfg(test)]
+mod stories;
 #[cfg(test)]
 mod threads;

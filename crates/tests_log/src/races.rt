@@ -1,10 +1,10 @@
 //! Scans while three lanes store records and the control pass registers and ends definitions, each of which scans now
-//! and then: what each scan answered is what a plain filter finds in the closed log.
+//! and then. What each of them answered is kept, with the closed log.
 //!
 //! A record of a lane is told by its place: each fifth has no value for any definition, and the others have one of three
 //! kinds, and a size from 10 to 39.
 
-ghost use Rattle.std.specs.Prelude.{◌≡◌, ◌<◌, ◌∷◌, [], None, OnOk};
+ghost use Rattle.std.specs.Prelude.{◌≡◌, ◌∷◌, [], None, OnOk};
 ghost use Rattle.std.specs.Thread.{IsSync};
 ghost use Rattle.fish_ingest.specs.Ingestion.{CanIngest};
 ghost use Rattle.fish_rule.specs.Passes.{IsPassOf, view};
@@ -14,21 +14,20 @@ ghost use Rattle.tests_log.specs.Lanes.{IsOutOf};
 ghost use Rattle.tests_log.specs.Registering.{AreOut, IsBeside, IsKept};
 
 use crate::churn::{split_three, take_three, wait};
-use crate::expecting::expect;
 use crate::lanes::store;
 use crate::openings::{ONE_PAGE, closed, empty_log};
+use crate::questions::{ASKED, CHANGING, KIND, Kept, ask_at, keep};
 use crate::registrations::{begin, end};
-use crate::scans::{Question, Wanted, ask_of, scan_between};
+use crate::scans::scan_between;
 use crate::threads::Seat;
-use fish_catalog::{Catalog, Entries, Entry};
+use fish_catalog::{Catalog, Entries};
 use fish_epoch::Defs;
 use fish_registry::Registrar;
 use fish_rule::{Base, Log, Pass, lane as lane_of};
-use fish_scan::{Answer, Ask, How, ScanRefusal};
-use fish_value::{Row, Text};
+use fish_scan::{Answer, Ask, ScanRefusal};
+use fish_value::Text;
 use std::alloc::{AllocError, Global};
 use std::fmt::Write;
-use std::process::Abort;
 use std::test::Fail;
 use std::thread::{Threads, for_each_mut, join_mut};
 
@@ -36,7 +35,7 @@ use std::thread::{Threads, for_each_mut, join_mut};
 const FIRST: Base = Base { number: 0, line: 0 };
 
 /// How many records each lane stores, and how many of them between two of its scans.
-const RECORDS: usize = 240;
+pub(crate) const RECORDS: usize = 240;
 
 const BETWEEN: usize = 8;
 
@@ -45,63 +44,6 @@ const CHANGES: usize = 18;
 
 /// The kinds of records.
 const KINDS: &[&str] = &["a", "b", "c"];
-
-/// The definition that stays, from before the first record on, and those that come and go.
-const KIND: (&str, &str) = ("kind", "take kind");
-
-const CHANGING: &[(&str, &str)] = &[
-    ("size", "bucket size by 10"),
-    ("small", "flag when kind = \"a\" and size < 20"),
-];
-
-/// What is asked, in turn, and a text that stands in the payloads of the records that have the value, and in no others.
-const ASKED: &[(&str, Wanted, How, &[u8])] = &[
-    ("kind", Wanted::Text("a"), How::Index, b"\"kind\":\"a\""),
-    ("size", Wanted::Int(20), How::Auto, b"\"size\":2"),
-    ("kind", Wanted::Text("b"), How::Auto, b"\"kind\":\"b\""),
-    (
-        "small",
-        Wanted::Bool(true),
-        How::Index,
-        b"\"kind\":\"a\",\"size\":1",
-    ),
-    ("kind", Wanted::Text("c"), How::Full, b"\"kind\":\"c\""),
-    ("size", Wanted::Int(10), How::Full, b"\"size\":1"),
-    (
-        "small",
-        Wanted::Bool(true),
-        How::Auto,
-        b"\"kind\":\"a\",\"size\":1",
-    ),
-    ("size", Wanted::Int(30), How::Index, b"\"size\":3"),
-    ("kind", Wanted::Text("d"), How::Auto, b"\"kind\":\"d\""),
-];
-
-/// The question at a place, about the whole log.
-fn ask_at(alloc: Global, place: usize) -> Result<Ask, AllocError>
-    requires { place < 9 }
-{
-    let (name, value, how, _) = ASKED[place];
-    let question = Question {
-        name,
-        value,
-        from: None,
-        to: None,
-        how,
-    };
-    ask_of(alloc, question)
-}
-
-/// What a scan answered.
-#[derive(Drop)]
-struct Kept {
-    lane: u8,
-    /// How many records its lane had stored before.
-    stored: usize,
-    /// The place of what was asked.
-    asked: usize,
-    answer: Answer,
-}
 
 /// A seat, and what the scans of its lane answered.
 #[derive(Drop)]
@@ -150,27 +92,6 @@ fn store_place(
     let stored = store(alloc, log, pass, defs, payload.as_bytes()).is_ok();
     drop(payload);
     Ok(stored)
-}
-
-/// Keeps what a scan answered behind so many records of its lane. A definition may not be there yet, and an index may
-/// miss a number.
-fn keep(
-    kept: &mut Vec<Kept>,
-    lane: u8,
-    stored: usize,
-    asked: usize,
-    answer: Result<Answer, ScanRefusal>,
-) -> Result<(), AllocError> {
-    match answer {
-        Ok(answer) => Ok(kept.push(Kept {
-            lane,
-            stored,
-            asked,
-            answer,
-        })?),
-        Err(ScanRefusal::UnknownName { .. } | ScanRefusal::NotCovered { .. }) => Ok(()),
-        Err(_) => Err(AllocError),
-    }
 }
 
 /// A lane scans behind so many of its records.
@@ -413,18 +334,18 @@ fn racer_of(alloc: Global, log: &Log, seat: Seat) -> Racer
 
 /// What scans answered: those of the control pass, and of lanes 2 to 4.
 #[derive(Drop)]
-struct Answers {
-    main: Vec<Kept>,
-    second: Vec<Kept>,
-    third: Vec<Kept>,
-    fourth: Vec<Kept>,
+pub(crate) struct Answers {
+    pub(crate) main: Vec<Kept>,
+    pub(crate) second: Vec<Kept>,
+    pub(crate) third: Vec<Kept>,
+    pub(crate) fourth: Vec<Kept>,
 }
 
 /// What a race left: how many records each lane stored, and what was answered.
 #[derive(Drop)]
-struct Raced {
-    stored: [usize; 3],
-    answers: Answers,
+pub(crate) struct Raced {
+    pub(crate) stored: [usize; 3],
+    pub(crate) answers: Answers,
 }
 
 /// The control pass takes back the seats.
@@ -486,9 +407,9 @@ fn race<R: Threads + Sync>(
 
 /// The same, and the closed log.
 #[derive(Drop)]
-struct Left {
-    raced: Raced,
-    entries: Entries,
+pub(crate) struct Left {
+    pub(crate) raced: Raced,
+    pub(crate) entries: Entries,
 }
 
 /// Closes a log behind a race.
@@ -506,7 +427,7 @@ fn close_raced(alloc: Global, log: Log, main: Pass, raced: Raced) -> Result<Left
 }
 
 /// A race on a log of its own.
-fn raced_log<R: Threads + Sync>(rt: &R, alloc: Global) -> Result<Left, Fail> {
+pub(crate) fn raced_log<R: Threads + Sync>(rt: &R, alloc: Global) -> Result<Left, Fail> {
     let (log, mut main) = empty_log(alloc, ONE_PAGE, FIRST)?;
     let mut registrar = Registrar::new(Catalog::new(alloc));
     let raced = race(rt, alloc, &log, &mut main, &mut registrar);
@@ -518,133 +439,4 @@ fn raced_log<R: Threads + Sync>(rt: &R, alloc: Global) -> Result<Left, Fail> {
             Err(fail)
         }
     }
-}
-
-/// Whether a text stands anywhere in some bytes.
-fn has(bytes: &[u8], text: &[u8]) -> bool {
-    for start in 0..bytes.len() {
-        if bytes[start..].starts_with(text) {
-            return true;
-        }
-    }
-    false
-}
-
-/// Whether a scan found a number open.
-fn is_open(kept: &Kept, number: u32) -> bool {
-    kept.answer.opens.as_slice().contains(&number)
-}
-
-/// The payload of the record at a number, if the scan has to find it: it isn't open, and has the text.
-fn wanted_at<'a>(entries: &'a [Entry], kept: &Kept, number: u32) -> Option<&'a Text> {
-    let (_, _, _, text) = ASKED.get(kept.asked)?;
-    match entries.get(number as usize)? {
-        Entry::Stored { payload, .. } if !is_open(kept, number) && has(payload.as_bytes(), text) =>
-            { Some(payload) }
-        Entry::Stored { .. } | Entry::Void => None,
-    }
-}
-
-/// Whether a row is the record with this number and payload.
-fn is_row(row: Option<&Row>, number: u32, payload: &Text) -> bool {
-    match row {
-        Some(row) => row.number == number && row.payload.is(payload),
-        None => false,
-    }
-}
-
-/// Whether the rows are the records of the range that the scan has to find, newest first.
-fn has_found(entries: &[Entry], kept: &Kept) -> bool {
-    let rows = kept.answer.rows.as_slice();
-    let mut place = 0;
-    for number in (kept.answer.from..kept.answer.to).rev() {
-        if let Some(payload) = wanted_at(entries, kept, number) {
-            if !is_row(rows.get(place), number, payload) {
-                return false;
-            }
-            place = usize::saturating_add(place, 1);
-        }
-    }
-    place == rows.len()
-}
-
-/// Whether a number is that of a record of the scan's lane, and isn't open.
-fn is_own(entries: &[Entry], kept: &Kept, number: u32) -> bool {
-    match entries.get(number as usize) {
-        Some(Entry::Stored { lane, .. }) => *lane == kept.lane && !is_open(kept, number),
-        Some(Entry::Void) | None => false,
-    }
-}
-
-/// Whether the records of its lane in the range are exactly those that were stored before the scan.
-fn has_own(entries: &[Entry], kept: &Kept) -> bool {
-    let mut own = 0;
-    for number in kept.answer.from..kept.answer.to {
-        if is_own(entries, kept, number) {
-            own = usize::saturating_add(own, 1);
-        }
-    }
-    own == kept.stored
-}
-
-/// How many answers differ from the closed log.
-fn differing(entries: &[Entry], kept: &[Kept]) -> usize {
-    let mut wrong = 0;
-    for one in kept {
-        if !has_found(entries, one) || !has_own(entries, one) {
-            wrong = usize::saturating_add(wrong, 1);
-        }
-    }
-    wrong
-}
-
-/// How many questions about the definition that stays were answered in a way.
-fn answered(kept: &[Kept], how: How) -> usize {
-    let mut count = 0;
-    for one in kept {
-        if let Some((name, _, asked, _)) = ASKED.get(one.asked) {
-            if *name == KIND.0 && *asked == how {
-                count = usize::saturating_add(count, 1);
-            }
-        }
-    }
-    count
-}
-
-/// Asserts that the answers of a pass are those of the closed log, and how many there are by the index, in full, and
-/// in either way, of the definition that stays.
-fn expect_answers<R: Abort>(rt: &R, entries: &[Entry], kept: &[Kept], want: &[usize; 3]) {
-    expect(rt, "differing answers", &differing(entries, kept), &0);
-    let found = [
-        answered(kept, How::Index),
-        answered(kept, How::Full),
-        answered(kept, How::Auto),
-    ];
-    expect(rt, "answers", &found, want);
-}
-
-/// Asserts what a race left. A lane asks thirty times and the control pass eighteen times, each beginning where it
-/// stands: at the second question, and at the first.
-fn expect_left<R: Abort>(rt: &R, left: &Left) {
-    let entries = left.entries.as_slice();
-    let answers = &left.raced.answers;
-    expect(
-        rt,
-        "records",
-        &left.raced.stored,
-        &[RECORDS, RECORDS, RECORDS],
-    );
-    expect(rt, "entries", &entries.len(), &720);
-    expect_answers(rt, entries, answers.main.as_slice(), &[2, 2, 4]);
-    expect_answers(rt, entries, answers.second.as_slice(), &[3, 3, 7]);
-    expect_answers(rt, entries, answers.third.as_slice(), &[3, 3, 7]);
-    expect_answers(rt, entries, answers.fourth.as_slice(), &[3, 3, 7]);
-}
-
-#[test]
-fn scans_beside_lanes_answer_what_the_closed_log_has(rt: HostRuntime) -> Result<(), Fail> {
-    let left = raced_log(&rt, rt.alloc())?;
-    expect_left(&rt, &left);
-    drop(left);
-    Ok(())
 }

@@ -4,7 +4,7 @@ use denote.Param.Send.{sendable}
 use Rattle.fish_registry.proofs.registrar.Registrar.TheSendSync.{the_send as registrar_send}
 use Rattle.fish_rule.proofs.Crossing.{log_sync}
 use Rattle.fish_rule.proofs.table.Pass.TheSendSync.{the_send as pass_send}
-use Rattle.tests_log.proofs.races.Kept.TheSendSync.{the_send as kept_send}
+use Rattle.tests_log.proofs.questions.Kept.TheSendSync.{the_send as kept_send}
 use Rattle.tests_log.proofs.races.change_beside.Goals as goal
 
 pub join_mut-done-requires-send-F : goal.join_mut-done-requires-send-F
