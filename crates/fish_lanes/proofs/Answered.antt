@@ -1,5 +1,5 @@
 -- What a scan or a plan of one answers is told of the one log.
-use Rattle.std.proofs.Common.{◌≡◌, ℕ, ◌<◌, ◌≤◌, zero, suc, List, [], ◌∷◌, length, map, refl, sym, ap, ◌∙◌, subst, inl, inr}
+use Rattle.std.proofs.Common.{◌≡◌, ℕ, ◌+◌, ◌<◌, ◌≤◌, zero, suc, List, [], ◌∷◌, length, map, refl, sym, ap, ◌∙◌, subst, inl, inr}
 use Rattle.std.proofs.Common.{◌⊎◌, ⊎_elim, arith, Option, Some, None, Result, Ok, Err, slice_get}
 use Rattle.std.specs.Prelude.{IfOk}
 use Rattle.std.proofs.Math.Decide.{ℕ_discrete}
@@ -98,11 +98,12 @@ before_end : (to : Option ℕ) (count n : ℕ) → n < count → ((end : ℕ) �
 before_end None count n less asked = omega arith
 before_end (Some to) count n less asked = (let below = asked to refl in omega arith)
 
-pub asked_range : (v u : View) (ask : Ask) (from to : ℕ) (opens : List ℕ)
-    → IsRange v u (first_asked ask) ask.to from to opens → IsAskedRange ask from to
-asked_range v u ask from to opens range = record {
+pub asked_range : (v u : View) (block_end : ℕ) (ask : Ask) (from to : ℕ) (opens : List ℕ) → u.learned.count ≤ block_end + 16
+    → IsRange v u (first_asked ask) ask.to from to opens → IsAskedRange block_end ask from to
+asked_range v u block_end ask from to opens few range = record {
   begins = range.first_is;
   ends = λ end e. asked_end ask.to range.count to end e range.within;
+  near = (let a = range.within in let b = range.claimed in omega arith);
 }
 
 module _ (v u x : View) (ask : Ask) (from to : ℕ) (opens : List ℕ) (range : IsRange v u (first_asked ask) ask.to from to opens)
@@ -209,15 +210,15 @@ plan_full v u rows text way from settled to plan h is =
 -- ---- what is told
 
 module _ (v u : View) (ask : Ask) (zero_is : v.about.number ≡ 0) (on : Learns v u) (seen : ℕ → Type 0)
-    (published : (n : ℕ) → seen n → IsPublished v n) where
+    (published : (n : ℕ) → seen n → IsPublished v n) (block_end : ℕ) (few : u.learned.count ≤ block_end + 16) where
   -- a scan
   pub scan_told : (from to : ℕ) (opens : List ℕ) (rows : List Row) (version : ℕ) → IsScanned v u ask from to opens rows version
-      → Sure u (λ x l. TellsScan x l seen ask from to opens rows version)
+      → Sure u (λ x l. TellsScan x block_end l seen ask from to opens rows version)
   scan_told from to opens rows version s x remains base learns c =
       let a = s.answer in
       let e = a.explained.planned in
       record {
-        range = asked_range v u ask from to opens e.range;
+        range = asked_range v u block_end ask from to opens few e.range;
         def = a.def;
         means = record {
           rows = rows_of s.known;
@@ -233,11 +234,11 @@ module _ (v u : View) (ask : Ask) (zero_is : v.about.number ≡ 0) (on : Learns 
 
   -- a plan
   pub plan_told : (from to : ℕ) (plan : List Piece) (version : ℕ) → IsPlannedAt v u ask from to plan version
-      → Sure u (λ x l. TellsPlan x l seen ask from to plan version)
+      → Sure u (λ x l. TellsPlan x block_end l seen ask from to plan version)
   plan_told from to plan version s x remains base learns c =
       let e = s.explained.planned in
       record {
-        range = asked_range v u ask from to s.opens e.range;
+        range = asked_range v u block_end ask from to s.opens few e.range;
         rows = rows_of s.known;
         has = has_rows v u x s.known ask e.place version s.version_is e.asked.named learns;
         place = e.place;
@@ -258,14 +259,14 @@ module _ (v u : View) (ask : Ask) (zero_is : v.about.number ≡ 0) (on : Learns 
       let above = w.0 in
       let below = w.2 in
       let first = h.range.first_is in
-      let asked = asked_range v u ask h.first h.last h.opens h.range in
+      let begins = h.range.first_is in
       let under = h.gap.gap.below in
       let most = h.most in
       let more = learns.settled in
       let later = c.later.settled in
       let floor = c.rule.floors c.seat c.last c.at in
       let inside = settled_within x.about c.moment c.rule remains.log base c.log in
-      (omega arith, omega arith, omega arith, λ end e. let a = asked.ends end e in omega arith)
+      (omega arith, omega arith, omega arith, λ end e. let a = asked_end ask.to h.range.count h.last end e h.range.within in omega arith)
 
   -- a refusal
   pub refused_told : (version : ℕ) (why : ScanCause) → IsRefusedAt v u ask version why

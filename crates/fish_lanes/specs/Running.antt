@@ -1,5 +1,5 @@
 -- What a lane asks of its pass, and what it leaves.
-use Rattle.std.specs.Prelude.{ℕ, ◌≡◌, ◌≢◌, ◌<◌, ◌≤◌, List, [], length, Some}
+use Rattle.std.specs.Prelude.{ℕ, ◌≡◌, ◌≢◌, ◌+◌, ◌<◌, ◌≤◌, List, [], length, Some}
 use Rattle.fish_ingest.specs.Ingestion.{CanStart}
 use Rattle.fish_lanes.specs.Closing.{Sure}
 use Rattle.fish_lanes.specs.Gains.{Gains, IsFullBy}
@@ -32,8 +32,8 @@ pub record IsEnded (works : List Work) (items : List Item) (fault : LaneFault) :
 pub record HasRun (v u : View) (works : List Work) (items : List Item) (fault : LaneFault) : Type 0 where
   pub rows : List LaneRow
   pub gains : Gains v u rows
-  pub tells : (from : ℕ) → from ≤ v.learned.settled → from ≤ v.learned.count
-      → Sure u (λ x log. TellsLane x from log rows works items)
+  pub tells : (from to : ℕ) → from ≤ v.learned.settled → from ≤ v.learned.count → u.learned.count ≤ to + 16
+      → Sure u (λ x log. TellsLane x from to log rows works items)
   pub full : AllOf (IsFullItem u) items
   pub ended : IsEnded works items fault
 

@@ -1,5 +1,5 @@
 -- What scans, and plans of scans, tell of the one log.
-use Rattle.std.specs.Prelude.{ℕ, ◌≡◌, ◌<◌, ◌≤◌, List, Some, length, map, min, slice_get}
+use Rattle.std.specs.Prelude.{ℕ, ◌≡◌, ◌+◌, ◌<◌, ◌≤◌, List, Some, length, map, min, slice_get}
 use Rattle.fish_catalog.specs.declared.entry.Entry.{Entry}
 use Rattle.fish_catalog.specs.declared.entry.Entry.TheVariants as entry
 use Rattle.fish_catalog.specs.declared.listed.Listed.{Listed}
@@ -47,10 +47,12 @@ pub record IsAskedFor (ask : Ask) (n : ℕ) : Type 0 where
   pub above : first_asked ask ≤ n
   pub below : (to : ℕ) → ask.to ≡ Some to → n < to
 
--- the range begins where it was asked to, or where it ends, and ends where it was asked to, or before
-pub record IsAskedRange (ask : Ask) (from to : ℕ) : Type 0 where
+-- the range begins where it was asked to, or where it ends; it ends where it was asked to, or before, and at most 16 numbers
+-- behind the block
+pub record IsAskedRange (block_end : ℕ) (ask : Ask) (from to : ℕ) : Type 0 where
   pub begins : from ≡ min (first_asked ask) to
   pub ends : (end : ℕ) → ask.to ≡ Some end → to ≤ end
+  pub near : to ≤ block_end + 16
 
 -- the range holds all that the lane had seen, of the log and of what was asked for, and none of it is open
 pub record HoldsSeen (entries : List Entry) (seen : ℕ → Type 0) (ask : Ask) (from to : ℕ) (opens : List ℕ) : Type 0 where
@@ -65,9 +67,9 @@ pub record AreOpen (entries : List Entry) (from to : ℕ) (opens : List ℕ) : T
 
 -- a scan: its rows are exactly the records of the log in its range, less the open ones, on which the definition that the
 -- name means has the value, newest first
-pub record TellsScan (v : View) (entries : List Entry) (seen : ℕ → Type 0) (ask : Ask) (from to : ℕ) (opens : List ℕ)
+pub record TellsScan (v : View) (block_end : ℕ) (entries : List Entry) (seen : ℕ → Type 0) (ask : Ask) (from to : ℕ) (opens : List ℕ)
     (rows : List Row) (version : ℕ) : Type 0 where
-  pub range : IsAskedRange ask from to
+  pub range : IsAskedRange block_end ask from to
   pub def : Definition
   pub means : Means v version ask.name def
   pub rows_are : rows ≡ select (map selected entries) (evaluation def) ask.value from to opens
@@ -75,9 +77,9 @@ pub record TellsScan (v : View) (entries : List Entry) (seen : ℕ → Type 0) (
   pub are_open : AreOpen entries from to opens
 
 -- a plan: its pieces fill the range, and it is one piece where the numbers are to be read one by one
-pub record TellsPlan (v : View) (entries : List Entry) (seen : ℕ → Type 0) (ask : Ask) (from to : ℕ) (plan : List Piece)
+pub record TellsPlan (v : View) (block_end : ℕ) (entries : List Entry) (seen : ℕ → Type 0) (ask : Ask) (from to : ℕ) (plan : List Piece)
     (version : ℕ) : Type 0 where
-  pub range : IsAskedRange ask from to
+  pub range : IsAskedRange block_end ask from to
   pub rows : List Listed
   pub has : HasRows v version rows
   pub place : ℕ
@@ -97,23 +99,23 @@ IsRefusedFor v entries ask version (cause.NotCovered from to) = (ask.how ≡ how
 -- ---- items
 
 -- the item of a scan
-pub record TellsScanned (v : View) (entries : List Entry) (seen : ℕ → Type 0) (ask : Ask) (x : Item) : Type 0 where
+pub record TellsScanned (v : View) (block_end : ℕ) (entries : List Entry) (seen : ℕ → Type 0) (ask : Ask) (x : Item) : Type 0 where
   pub from : ℕ
   pub to : ℕ
   pub opens : List ℕ
   pub rows : List Row
   pub version : ℕ
   pub is : x ≡ item.Scanned ask.name ask.value from to opens rows version
-  pub tells : TellsScan v entries seen ask from to opens rows version
+  pub tells : TellsScan v block_end entries seen ask from to opens rows version
 
 -- of a plan
-pub record TellsExplained (v : View) (entries : List Entry) (seen : ℕ → Type 0) (ask : Ask) (x : Item) : Type 0 where
+pub record TellsExplained (v : View) (block_end : ℕ) (entries : List Entry) (seen : ℕ → Type 0) (ask : Ask) (x : Item) : Type 0 where
   pub from : ℕ
   pub to : ℕ
   pub plan : List Piece
   pub version : ℕ
   pub is : x ≡ item.Explained ask.name ask.value from to plan version
-  pub tells : TellsPlan v entries seen ask from to plan version
+  pub tells : TellsPlan v block_end entries seen ask from to plan version
 
 -- and of a refusal
 pub record TellsRefused (v : View) (entries : List Entry) (ask : Ask) (refused : List ℕ → ℕ → ScanCause → Item) (x : Item)
