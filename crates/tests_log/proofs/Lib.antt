@@ -1,4 +1,4 @@
 pub mod Heads
 pub mod Kept
-pub mod Leaving
+pub mod Scanning
 pub mod Seats

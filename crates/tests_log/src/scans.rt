@@ -6,7 +6,7 @@ ghost use Rattle.fish_ingest.specs.Ingestion.{CanIngest};
 ghost use Rattle.fish_rule.specs.Passes.{IsPassOf, view};
 ghost use Rattle.fish_scan.specs.Scans.{OnlyScans};
 
-use fish_epoch::{Defs, leave};
+use fish_epoch::Defs;
 use fish_plan::{Piece, Plan};
 use fish_psf::Steps;
 use fish_rule::{Log, Pass};
@@ -45,7 +45,7 @@ fn scanned<P: Ledger, L: Ledger>(
     scan(alloc, log, pass, defs, ask, &mut parses, &mut loads)
 }
 
-/// What a scan answers a pass between two records. No clause of a scan says that the pass is still out, so it leaves.
+/// What a scan answers a pass between two records.
 pub(crate) fn scan_between(
     alloc: Global,
     log: &Log,
@@ -57,12 +57,10 @@ pub(crate) fn scan_between(
     ensures ready { CanIngest log.now pass.new defs.new }
     ensures only { OnlyScans (view pass.old) (view pass.new) }
 {
-    let answer = scanned::<Brand, Brand>(alloc, Blank::new(1), Blank::new(1), log, pass, defs, ask);
-    leave(log, pass);
-    answer
+    scanned::<Brand, Brand>(alloc, Blank::new(1), Blank::new(1), log, pass, defs, ask)
 }
 
-/// How a scan between two records would read its range. The pass leaves, too.
+/// How a scan between two records would read its range.
 fn explain_between(
     alloc: Global,
     log: &Log,
@@ -74,9 +72,7 @@ fn explain_between(
     ensures ready { CanIngest log.now pass.new defs.new }
     ensures only { OnlyScans (view pass.old) (view pass.new) }
 {
-    let explained = explain(alloc, log, pass, defs, ask);
-    leave(log, pass);
-    explained
+    explain(alloc, log, pass, defs, ask)
 }
 
 /// A piece of a plan as a text behind others.

@@ -1,18 +1,12 @@
--- The pass has nothing in flight, and has left.
-use Rattle.fish_rule.specs.Passes.{view}
-use Rattle.tests_log.proofs.Leaving.{left_ready, left_scans, may_leave}
+-- The pass is still out.
+use Rattle.tests_log.proofs.Scanning.{ready_again}
 use Rattle.tests_log.proofs.scans.explain_between.Goals as goal
-
-pub leave-requires-clause-idle : goal.leave-requires-clause-idle
-leave-requires-clause-idle c =
-    let e = c.explain-explained.ensures in
-    may_leave c.args.log.now c.args.pass.now _ c.args.defs.now c.requires e.pass e.only
 
 pub returns-clause-ready : goal.returns-clause-ready
 returns-clause-ready c =
-    let u = c.explain-explained.new in
-    left_ready c.args.log.now u.pass c.leave.new.pass u.defs c.explain-explained.ensures.defs c.leave.ensures.pass
-    c.leave.ensures.view
+    let u = c.explain.new in
+    ready_again c.args.log.now c.args.pass.now u.pass c.args.defs.now u.defs c.requires c.explain.ensures.pass
+    c.explain.ensures.only.scans c.explain.ensures.defs
 
 pub returns-clause-only : goal.returns-clause-only
-returns-clause-only c = left_scans (view c.args.pass.now) _ _ c.explain-explained.ensures.only c.leave.ensures.view
+returns-clause-only c = c.explain.ensures.only.scans
