@@ -21,7 +21,7 @@ use fish_walk::settle;
 use std::alloc::Global;
 use std::thread::{Threads, for_each_mut, join_mut};
 
-/// Does statements by a pass that has read no definition yet.
+/// Does the statements of a lane by a pass, which reads the definitions anew.
 fn run_pass(
     alloc: Global,
     log: &Log,
@@ -161,7 +161,8 @@ fn run_all<R: Threads + Sync>(
     );
 }
 
-/// The same, from the split of the passes to their join, and how far the log then reaches.
+/// Gives the other lanes their passes, does the statements of all, and takes the passes back. How far the log then
+/// reaches.
 fn run_lanes<R: Threads + Sync>(
     rt: &R,
     alloc: Global,
@@ -193,7 +194,15 @@ fn run_lanes<R: Threads + Sync>(
     settle(log, main).settled
 }
 
-/// Runs a block: the lanes at once, each by a pass of its own. How far the log then reaches.
+/// Runs a block: does the statements of its lanes at once, those of the first by the control pass and those of every
+/// other one by a pass of its own, on a thread of its own. How far the log then reaches.
+///
+/// The control pass has to know where the log ends, as it does behind a block. There are 1 to 16 lanes, numbered from 1
+/// on and without items.
+///
+/// Afterwards each lane has an item for each statement, or a fault and fewer of them. Of every log that the control pass
+/// closes later, these items are true: the lane's records between the old end and the new one are those that the items
+/// say are stored, in order, and scans, plans, checkpoints and refusals are so. Numbers and statements stay.
 pub fn run_block<R: Threads + Sync>(
     rt: &R,
     alloc: Global,

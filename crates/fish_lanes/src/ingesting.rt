@@ -225,7 +225,6 @@ fn ingest_text(
     ensures takes { IfOk result (λ end. MatchOption end
         (TakesLine (view pass.old) (view pass.new) Csv text tally.old tally.new)
         (FindsFull (view pass.old) (view pass.new) Csv text tally.old tally.new)) }
-
     ensures left { OnErr result (HasNotClaimed (view pass.old) (view pass.new) × (tally.new ≡ tally.old)) }
 {
     let ended = ingest_line(alloc, log, pass, defs, Form::Csv, text.as_bytes(), tally);
@@ -250,7 +249,6 @@ fn ingest_line(
     ensures takes { IfOk result (λ end. MatchOption end
         (TakesLine (view pass.old) (view pass.new) form payload.now tally.old tally.new)
         (FindsFull (view pass.old) (view pass.new) form payload.now tally.old tally.new)) }
-
     ensures left { OnErr result (HasNotClaimed (view pass.old) (view pass.new) × (tally.new ≡ tally.old)) }
 {
     match ingest(alloc, log, pass, defs, form, payload) {

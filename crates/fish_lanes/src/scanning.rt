@@ -134,7 +134,7 @@ fn asked(alloc: Global, ask: &Ask) -> Result<(Text, Value), AllocError>
     Ok((name, value))
 }
 
-/// A copy of the name that is asked for, and why the scan was refused, but for want of memory.
+/// A copy of the name that is asked for, and why the scan was refused. Want of memory stays an error.
 fn refused(alloc: Global, ask: &Ask, refusal: ScanRefusal) -> Result<(Text, ScanCause), AllocError>
     ensures { IfOk result (λ refused. (refused.0 ≡ ask.now.name) × (cause_of refusal ≡ Some refused.1)) }
 {
@@ -157,7 +157,7 @@ fn cause_of(refusal: ScanRefusal) -> Option<ScanCause>
     }
 }
 
-/// Scans, with counters of its own.
+/// Scans, with counters of parses and loads that nobody reads.
 fn scan_counted(
     alloc: Global,
     log: &Log,
