@@ -1,4 +1,5 @@
 pub mod Heads
 pub mod Kept
+pub mod NewLanes
 pub mod Scanning
 pub mod Seats

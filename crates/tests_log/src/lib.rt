@@ -7,6 +7,8 @@ mod answers;
 #[cfg(test)]
 mod bases;
 #[cfg(test)]
+mod blocks;
+#[cfg(test)]
 mod bodies;
 #[cfg(test)]
 mod chains;
@@ -46,6 +48,8 @@ mod registrations;
 mod rounds;
 #[cfg(test)]
 mod scans;
+#[cfg(test)]
+mod scripts;
 #[cfg(test)]
 mod settling;
 #[cfg(test)]
