@@ -167,7 +167,7 @@ module _ (log : Log) (v m w : View) (first first' : Lane) (before given done aft
         mid_at = y.1;
         seat = s;
         run_of = d;
-        same = some_once s.seat d.before (sym (ap (λ (x : Lane). x.seat) s.is) ∙ d.before_is);
+        same = some_once s.seat d.before (sym (ap (λ (x : Lane). x.seat) {y = record o.0 { seat = Some s.seat }} s.is) ∙ d.before_is);
       }
 
   -- what the lane's pass knew and had at its start
@@ -209,6 +209,13 @@ module _ (log : Log) (v m w : View) (first first' : Lane) (before given done aft
         back = λ i z at. let p = way i z at in done_back log v i p.old p.mid z p.seat p.run_of;
       }
 
+  -- a lane that gets its pass keeps its number and statements
+  same_number : (i : ℕ) (z : Lane) (p : Way i z) → p.mid.number ≡ p.old.number
+  same_number i z p = ap (λ (q : Lane). q.number) p.seat.is
+
+  same_works : (i : ℕ) (z : Lane) (p : Way i z) → p.mid.works ≡ p.old.works
+  same_works i z p = ap (λ (q : Lane). q.works) p.seat.is
+
   -- the lanes keep their numbers and statements
   pub kept_at : WereTaken done after → length after ≡ length done → AreKept before after
   kept_at were size'' i x y at_x at_y =
@@ -216,11 +223,9 @@ module _ (log : Log) (v m w : View) (first first' : Lane) (before given done aft
       let z = get_there done i (omega arith) in
       let p = way i z.0 z.1 in
       let w' = were i z.0 y z.1 at_y in
-      let old : p.old ≡ x = some_once p.old x (sym p.old_at ∙ at_x) in
-      let mid_number : p.mid.number ≡ p.old.number = ap (λ (q : Lane). q.number) p.seat.is in
-      let mid_works : p.mid.works ≡ p.old.works = ap (λ (q : Lane). q.works) p.seat.is in (
-        w'.number ∙ p.run_of.number ∙ mid_number ∙ ap (λ (q : Lane). q.number) old,
-        w'.works ∙ p.run_of.works ∙ mid_works ∙ ap (λ (q : Lane). q.works) old,
+      let old : p.old ≡ x = some_once p.old x (sym p.old_at ∙ at_x) in (
+        w'.number ∙ p.run_of.number ∙ same_number i z.0 p ∙ ap (λ (q : Lane). q.number) old,
+        w'.works ∙ p.run_of.works ∙ same_works i z.0 p ∙ ap (λ (q : Lane). q.works) old,
       )
 
   -- the statements have items, but for those behind a fault
