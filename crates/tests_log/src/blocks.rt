@@ -6,7 +6,6 @@ ghost use Rattle.fish_rule.specs.Reading.{IsAlone};
 ghost use Rattle.fish_rule.specs.Table.{first_view};
 ghost use Rattle.fish_rule.specs.declared.view.Epoch.TheVariants.{Out};
 ghost use Rattle.tests_log.specs.Blocks.{IsBetween, IsBeginning};
-ghost use Rattle.tests_log.specs.Registering.{IsKept};
 
 use crate::expecting::{expect, expect_text};
 use crate::openings::{ONE_PAGE, closed, empty_log};
