@@ -1,6 +1,6 @@
 -- What a scan or a plan of one answers is told of the one log.
 use Rattle.std.proofs.Common.{◌≡◌, ℕ, ◌+◌, ◌<◌, ◌≤◌, zero, suc, List, [], ◌∷◌, length, map, refl, sym, ap, ◌∙◌, subst, inl, inr}
-use Rattle.std.proofs.Common.{◌⊎◌, ⊎_elim, arith, Option, Some, None, Result, Ok, Err, slice_get}
+use Rattle.std.proofs.Common.{◌⊎◌, ⊎_elim, arith, Option, Some, None, Result, Ok, Err, slice_get, cond, nat_lt, true, false, Bool}
 use Rattle.std.specs.Prelude.{IfOk}
 use Rattle.std.proofs.Math.Decide.{ℕ_discrete}
 use Rattle.std.proofs.lemmas.Option.{same_Some}
@@ -18,10 +18,10 @@ use Rattle.fish_lanes.specs.Doing.{cause_of, explained_item, refusal_of, scanned
 use Rattle.fish_lanes.specs.Published.{IsPublished}
 use Rattle.fish_lanes.specs.Scanning.{AreOpen, HasRows, HoldsSeen, IsAskedFor, IsAskedRange, IsRefusedFor, TellsPlan}
 use Rattle.fish_lanes.specs.Scanning.{TellsScan, selected}
-use Rattle.fish_plan.proofs.Inside.{full_is_plan, piece_within}
+use Rattle.fish_plan.proofs.Inside.{full_is_plan, index_inside, piece_within}
 use Rattle.fish_plan.specs.Pieces.{Fill, one_full}
 use Rattle.fish_plan.specs.declared.pieces.Piece.{Piece}
-use Rattle.fish_plan.specs.declared.pieces.Piece.TheVariants.{Full}
+use Rattle.fish_plan.specs.declared.pieces.Piece.TheVariants.{Full, Index}
 use Rattle.fish_psf.specs.Records.{evaluation}
 use Rattle.fish_psf.specs.Select.{select}
 use Rattle.fish_psf.specs.Select as log
@@ -41,11 +41,12 @@ use Rattle.fish_rule.specs.World.{high}
 use Rattle.fish_rule.specs.declared.close.Remains.{Remains}
 use Rattle.fish_rule.specs.declared.view.Kind.TheVariants.{Mark}
 use Rattle.fish_rule.specs.declared.view.View.{View}
+use Rattle.fish_scan.proofs.Lists.{at_among}
 use Rattle.fish_scan.proofs.Selecting.{finds_selection}
 use Rattle.fish_scan.specs.Laws.{IsSpelled}
 use Rattle.fish_scan.specs.Matching.{Finds}
 use Rattle.fish_scan.specs.Reach.{IsRange, end_of}
-use Rattle.fish_scan.specs.Scans.{IsAnswer, IsExplained, IsNamed, IsPlan, IsRefused, IsUncovered, first_asked}
+use Rattle.fish_scan.specs.Scans.{IsAnswer, IsCovered, IsExplained, IsNamed, IsPlan, IsRefused, IsUncovered, first_asked}
 use Rattle.fish_scan.specs.declared.ask.Answer.{Answer}
 use Rattle.fish_scan.specs.declared.ask.Ask.{Ask}
 use Rattle.fish_scan.specs.declared.ask.Explained.{Explained}
@@ -185,9 +186,10 @@ range_published v u ask from to opens n range zero_is above below closed = recor
 -- ---- names
 
 -- the rows of a version stay known
-pub has_rows : (v u x : View) (known : Known) (ask : Ask) (place version : ℕ) → version ≡ version_of known
-    → IsNamed v u known ask place → Learns u x → HasRows x version (rows_of known)
-has_rows v u x known ask place version is named learns = record {
+pub has_rows : (v u x : View) (known : Known) (ask : Ask) (place first version : ℕ) → first ≤ v.learned.version
+    → version ≡ version_of known → IsNamed v u known ask place → Learns u x → HasRows x first version (rows_of known)
+has_rows v u x known ask place first version reached is named learns = record {
+  least = (let least = named.least in omega arith);
   knows = subst (λ (z : ℕ). KnowsDefinitions x.about x.learned z (rows_of known)) (sym is)
       (knows_later u x (version_of known) (rows_of known) learns named.read.rows);
 }
@@ -207,13 +209,41 @@ plan_full : (v u : View) (rows : List Listed) (text : List ℕ) (way : How) (fro
 plan_full v u rows text way from settled to plan h is =
     subst (λ (z : How). IsPlan v u rows text z from settled to plan) is h
 
+-- a plan of one full piece has none by an index
+no_index : (from to place id begin end : ℕ) (b : Bool)
+    → ¬ (slice_get (cond b (Full from to ∷ []) []) place ≡ Some (Index id begin end))
+no_index from to zero id begin end true at = cc
+no_index from to (suc n) id begin end true at = cc
+no_index from to place id begin end false at = cc
+
+-- a piece by an index is below what is settled, and by one of a row with the text
+cover_indexed : (v u : View) (rows : List Listed) (text : List ℕ) (from settled to : ℕ) (plan : List Piece)
+    → IsCovered v u rows text from settled to plan → (place id begin end : ℕ) → slice_get plan place ≡ Some (Index id begin end)
+    → (end ≤ settled) × ((row : Listed) × (slice_get rows id ≡ Some row) × (row.def ≡ text))
+cover_indexed v u rows text from settled to plan h place id begin end there =
+    let i = index_inside plan from settled to h.intervals h.cover place id begin end there in
+    let x = h.are.each i.4 (at_among h.intervals i.3 i.4 i.5) in
+    (i.1, (x.row, ap (slice_get rows) (sym i.6) ∙ x.there, x.text_is))
+
+plan_indexed : (v u : View) (rows : List Listed) (text : List ℕ) (way : How) (from settled to : ℕ) (plan : List Piece)
+    → IsPlan v u rows text way from settled to plan → (place id begin end : ℕ) → slice_get plan place ≡ Some (Index id begin end)
+    → (end ≤ settled) × ((row : Listed) × (slice_get rows id ≡ Some row) × (row.def ≡ text))
+plan_indexed v u rows text how.Full from settled to plan h place id begin end there =
+    absurd (no_index from to place id begin end (nat_lt from to) (subst (λ (z : List Piece). slice_get z place
+    ≡ Some (Index id begin end)) h there))
+plan_indexed v u rows text how.Auto from settled to plan h place id begin end there =
+    cover_indexed v u rows text from settled to plan h place id begin end there
+plan_indexed v u rows text how.Index from settled to plan h place id begin end there =
+    cover_indexed v u rows text from settled to plan h.0 place id begin end there
+
 -- ---- what is told
 
 module _ (v u : View) (ask : Ask) (zero_is : v.about.number ≡ 0) (on : Learns v u) (seen : ℕ → Type 0)
-    (published : (n : ℕ) → seen n → IsPublished v n) (block_end : ℕ) (few : u.learned.count ≤ block_end + 16) where
+    (published : (n : ℕ) → seen n → IsPublished v n) (first block_end : ℕ)
+    (reached : first ≤ v.learned.version) (few : u.learned.count ≤ block_end + 16) where
   -- a scan
   pub scan_told : (from to : ℕ) (opens : List ℕ) (rows : List Row) (version : ℕ) → IsScanned v u ask from to opens rows version
-      → Sure u (λ x l. TellsScan x block_end l seen ask from to opens rows version)
+      → Sure u (λ x l. TellsScan x first block_end l seen ask from to opens rows version)
   scan_told from to opens rows version s x remains base learns c =
       let a = s.answer in
       let e = a.explained.planned in
@@ -222,7 +252,7 @@ module _ (v u : View) (ask : Ask) (zero_is : v.about.number ≡ 0) (on : Learns 
         def = a.def;
         means = record {
           rows = rows_of s.known;
-          has = has_rows v u x s.known ask e.place version s.version_is e.asked.named learns;
+          has = has_rows v u x s.known ask e.place first version reached s.version_is e.asked.named learns;
           place = e.place;
           newest = e.asked.named.newest;
           accepted = a.means;
@@ -234,19 +264,27 @@ module _ (v u : View) (ask : Ask) (zero_is : v.about.number ≡ 0) (on : Learns 
 
   -- a plan
   pub plan_told : (from to : ℕ) (plan : List Piece) (version : ℕ) → IsPlannedAt v u ask from to plan version
-      → Sure u (λ x l. TellsPlan x block_end l seen ask from to plan version)
+      → Sure u (λ x l. TellsPlan x first block_end l seen ask from to plan version)
   plan_told from to plan version s x remains base learns c =
       let e = s.explained.planned in
       record {
         range = asked_range v u block_end ask from to s.opens few e.range;
         rows = rows_of s.known;
-        has = has_rows v u x s.known ask e.place version s.version_is e.asked.named learns;
+        has = has_rows v u x s.known ask e.place first version reached s.version_is e.asked.named learns;
         place = e.place;
         newest = e.asked.named.newest;
         opens = s.opens;
         holds = holds_seen v u x ask from to s.opens e.range zero_is remains base learns c seen published on;
         fill = plan_fills v u _ _ ask.how from e.settled to plan (let f = e.range.first_is in omega arith) e.plan_is;
         full = plan_full v u _ _ ask.how from e.settled to plan e.plan_is;
+        indexed = λ at id begin end there.
+            let i = plan_indexed v u (rows_of s.known) _ ask.how from e.settled to plan e.plan_is at id begin end there in
+            let most = e.most in
+            let more = learns.settled in
+            let later = c.later.settled in
+            let floor = c.rule.floors c.seat c.last c.at in
+            let inside = settled_within x.about c.moment c.rule remains.log base c.log in
+            (let below = i.0 in omega arith, i.1);
       }
 
   -- a gap below what was settled
@@ -270,11 +308,12 @@ module _ (v u : View) (ask : Ask) (zero_is : v.about.number ≡ 0) (on : Learns 
 
   -- a refusal
   pub refused_told : (version : ℕ) (why : ScanCause) → IsRefusedAt v u ask version why
-      → Sure u (λ x l. IsRefusedFor x l ask version why)
+      → Sure u (λ x l. IsRefusedFor x first l ask version why)
   refused_told version cause.UnknownName s x remains base learns c =
       let r = s.refused in (
         rows_of s.known,
         record {
+          least = (let least = r.4 in omega arith);
           knows = subst (λ (z : ℕ). KnowsDefinitions x.about x.learned z (rows_of s.known)) (sym s.version_is)
               (knows_later u x (version_of s.known) (rows_of s.known) learns r.2.rows);
         },

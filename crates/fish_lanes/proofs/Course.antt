@@ -360,20 +360,24 @@ module _ (log : Log) (v m w : View) (first first' : Lane) (before given done aft
             inr (omega arith)) (lane_cases q.place q.lane p q.seat o q.seat_is q.among)
 
     -- what a lane's items tell of its rows they tell of the rows that the log has of it
-    tells_rows : (x s : View) (number from : ℕ) (rows : List LaneRow) (works : List Work) (items : List Item)
+    tells_rows : (first_version : ℕ) (x s : View) (number from : ℕ) (rows : List LaneRow) (works : List Work) (items : List Item)
         → Learns s t → 1 ≤ number → number ≤ 16 → from ≤ to → from ≤ v.learned.count → Ascends v.learned.count rows s.learned.count
         → AreTold s number rows
         → ((o : Own) → Among o t.own → o.lane ≡ number → (o.number < from) ⊎ HasNumber o.number rows)
-        → Sure s (λ y l. TellsLane y from to l rows works items)
-        → Will t (λ y l. TellsLane y from to l (rows_of_lane l from to number) works items)
-    tells_rows x s number from rows works items learns some_ few within counted up told all sure y remains base main none later c =
+        → Sure s (λ y l. TellsLane y first_version from to l rows works items)
+        → Will t (λ y l. TellsLane y first_version from to l (rows_of_lane l from to number) works items)
+    tells_rows first_version x s number from rows works items learns some_ few within counted up told all sure y remains base main
+        none later c =
         let exact : rows_of_lane remains.log from to number ≡ rows =
         will_rows t number from to v.learned.count s.learned.count rows stands has_end some_ few within counted
         (told_later s t number rows learns told) up all y remains base main none later c in
-        subst (λ (z : List LaneRow). TellsLane y from to remains.log z works items) (sym exact)
-        (sure_later s t (λ y l. TellsLane y from to l rows works items) learns sure y remains base later.learns c)
+        subst (λ (z : List LaneRow). TellsLane y first_version from to remains.log z works items) (sym exact)
+        (sure_later s t (λ y l. TellsLane y first_version from to l rows works items) learns sure y remains base later.learns c)
 
-    module _ (from : ℕ) (start : HasEnd v from) (stood : Stands v) where
+    module _ (first_version from : ℕ) (reached : first_version ≤ v.learned.version) (start : HasEnd v from) (stood : Stands v) where
+      version_given : m.learned.version ≡ v.learned.version
+      version_given = ap (λ (z : Learned). z.version) has_given.learned
+
       pub within : from ≤ to
       within = (let a = start.settled in let b = all_learns.settled in ends_behind t to from stands has_end (omega arith))
 
@@ -382,14 +386,15 @@ module _ (log : Log) (v m w : View) (first first' : Lane) (before given done aft
           ⊎_elim (λ (e : from ≡ start.count). omega arith)
           (λ (k : (from < start.count) × TellsMark v from). let b = k.0 in omega arith) start.ends)
 
-      pub tells_first : Will t (TellsFirst from to first')
+      pub tells_first : Will t (TellsFirst first_version from to first')
       tells_first =
           let g = run.run.gains in
           let same : m.learned.count ≡ v.learned.count = ap (λ (z : Learned). z.count) has_given.learned in
           let settled_same : m.learned.settled ≡ v.learned.settled = ap (λ (z : Learned). z.settled) has_given.learned in
           let a = start.settled in
-          subst (λ (z : List Work). Will t (λ y l. TellsLane y from to l (rows_of_lane l from to 1) z first'.items)) (sym run.works)
-          (tells_rows m w 1 from run.run.rows first.works first'.items end_learns (omega arith) (omega arith) within counted
+          subst (λ (z : List Work). Will t (λ y l. TellsLane y first_version from to l (rows_of_lane l from to 1) z first'.items))
+          (sym run.works)
+          (tells_rows first_version m w 1 from run.run.rows first.works first'.items end_learns (omega arith) (omega arith) within counted
           (subst (λ (z : ℕ). Ascends z run.run.rows w.learned.count) same g.ascends)
           (subst (λ (z : ℕ). AreTold w z run.run.rows) has_given.main g.told)
           (λ o n lane. ⊎_elim (λ (k : Among o v.own). inl (own_before v from o stood start k))
@@ -400,7 +405,7 @@ module _ (log : Log) (v m w : View) (first first' : Lane) (before given done aft
           ⊎_elim (λ (k : Among o v.own × (o.lane ≡ q.place + 2)). let e = k.1 in omega arith)
           (λ (k : HasNumber o.number p.run_of.run.rows × (o.lane ≡ q.place + 2)). let e = k.1 in omega arith)
           (lane_cases q.place q.lane p q.seat o q.seat_is q.among))) k) (own_cases o n))
-          (run.run.tells from to (omega arith) (let c = counted in omega arith)
+          (run.run.tells first_version from to (let e = version_given in omega arith) (omega arith) (let c = counted in omega arith)
           (let few = few_behind t to stands has_end in let e = end_learns.count in omega arith)))
 
       -- what another lane has among the records of its number
@@ -424,7 +429,7 @@ module _ (log : Log) (v m w : View) (first first' : Lane) (before given done aft
               (λ (k : HasNumber o.number r.run_of.run.rows × (o.lane ≡ q.place + 2)). let e = k.1 in ne (omega arith))
               (lane_cases q.place q.lane r q.seat o q.seat_is q.among))
 
-      pub tells_others : length before < 16 → Will t (TellsOthers from to after)
+      pub tells_others : length before < 16 → Will t (TellsOthers first_version from to after)
       tells_others few x remains base main none later c i y at =
           let less = slice_get_within after i y at in
           let z = get_there done i (omega arith) in
@@ -440,11 +445,13 @@ module _ (log : Log) (v m w : View) (first first' : Lane) (before given done aft
           let a = start.settled in
           let back : Learns (view s.pass) t = learns_both (view s.pass) u t
           (taken.learned i z.0 s (omega arith) z.1 p.run_of.after_is) settles.learns in
-          subst (λ (q : List Work × List Item). TellsLane x from to remains.log (rows_of_lane remains.log from to (i + 2)) q.0 q.1)
+          subst (λ (q : List Work × List Item). TellsLane x first_version from to remains.log (rows_of_lane remains.log from to
+          (i + 2)) q.0 q.1)
           (λ j. ((sym p.run_of.works ∙ sym w'.works) j, sym w'.items j))
-          (tells_rows v (view s.pass) (i + 2) from p.run_of.run.rows p.mid.works z.0.items back (omega arith) (omega arith)
+          (tells_rows first_version v (view s.pass) (i + 2) from p.run_of.run.rows p.mid.works z.0.items back (omega arith) (omega arith)
           within counted (subst (λ (x : ℕ). Ascends x p.run_of.run.rows (view s.pass).learned.count) same g.ascends)
           (subst (λ (x : ℕ). AreTold (view s.pass) x p.run_of.run.rows) lane g.told)
-          (others_all few i z.0 z.1 p) (p.run_of.run.tells from to (omega arith) (let d = counted in omega arith)
+          (others_all few i z.0 z.1 p) (p.run_of.run.tells first_version from to
+          (let e = ap (λ (x : Learned). x.version) (way_learned i z.0 p) in omega arith) (omega arith) (let d = counted in omega arith)
           (let few = few_behind t to stands has_end in let e = back.count in omega arith)) x remains
           base main none later c)

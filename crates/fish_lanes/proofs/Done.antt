@@ -35,8 +35,8 @@ use Rattle.fish_scan.specs.declared.ask.Ask.{Ask}
 pub record HasTold (v u : View) (works : List Work) (items : List Item) : Type 0 where
   pub rows : List LaneRow
   pub gains : Gains v u rows
-  pub tells : (from to : ℕ) → from ≤ v.learned.settled → from ≤ v.learned.count → u.learned.count ≤ to + 16
-      → Sure u (λ x log. TellsAll x from to log [] [] rows works items)
+  pub tells : (first from to : ℕ) → first ≤ v.learned.version → from ≤ v.learned.settled → from ≤ v.learned.count
+      → u.learned.count ≤ to + 16 → Sure u (λ x log. TellsAll x first from to log [] [] rows works items)
   pub shown : (n : ℕ) (s : Shown) → Among s (shown_in items) → IsShown n s → IsPublished u n
   pub settles : (m : ℕ) → Among (settled m) (shown_in items) → m ≤ u.learned.settled
   pub size : length items ≡ length works
@@ -47,7 +47,7 @@ pub told_self : (v : View) → v.epoch ≡ Out → v.flight ≡ None → HasTold
 told_self v outside idle = record {
   rows = [];
   gains = gains_self v outside idle;
-  tells = λ from to less counted few u remains base learns c. refl;
+  tells = λ first from to reached less counted few u remains base learns c. refl;
   shown = λ n s m. elim m [ ];
   settles = λ n m. elim m [ ];
   size = refl;
@@ -88,17 +88,20 @@ is_count (range from to opens) = 0
 -- ---- what one item tells
 
 module _ (v u t : View) (works : List Work) (items : List Item) (from : ℕ) (base : v.about.number ≡ 0)
-    (h : HasTold v u works items) (less : from ≤ v.learned.settled) (counted : from ≤ v.learned.count) (on : Learns u t) (to : ℕ)
-    (few : t.learned.count ≤ to + 16) where
+    (h : HasTold v u works items) (less : from ≤ v.learned.settled) (counted : from ≤ v.learned.count) (on : Learns u t)
+    (first to : ℕ) (reached : first ≤ v.learned.version) (few : t.learned.count ≤ to + 16) where
   zero_then : t.about.number ≡ 0
   zero_then = ap (λ (z : Key). z.number) (on.about ∙ h.gains.on.learns.about) ∙ base
 
   zero_now : u.about.number ≡ 0
   zero_now = ap (λ (z : Key). z.number) h.gains.on.learns.about ∙ base
 
+  reached_now : first ≤ u.learned.version
+  reached_now = (let a = h.gains.on.learns.version in omega arith)
+
   -- what fits is told
   pub item_told : (w : Work) (x : Item) → IsFit u t w x
-      → Sure t (λ y log. TellsItem y from to log h.rows (shown_in items) w x)
+      → Sure t (λ y log. TellsItem y first from to log h.rows (shown_in items) w x)
   item_told (work.Ingest form header name file) x (inl s) y remains b l c = inl s
   item_told (work.Ingest form header name file) x (inr (inl f)) y remains b l c = inr (inl (record {
     line = f.line;
@@ -120,14 +123,15 @@ module _ (v u t : View) (works : List Work) (items : List Item) (from : ℕ) (ba
     version = f.version;
     is = f.is;
     tells = scan_told u t ask zero_now on (IsSeen from h.rows (shown_in items))
-        (seen_published v u works items from base h less counted) to few f.from f.to f.opens f.rows f.version f.fits y remains b l c;
+        (seen_published v u works items from base h less counted) first to reached_now few f.from f.to f.opens f.rows f.version
+        f.fits y remains b l c;
   })
   item_told (work.Scan ask) x (inr f) y remains b l c = inr (record {
     version = f.version;
     why = f.why;
     is = f.is;
     tells = refused_told u t ask zero_now on (IsSeen from h.rows (shown_in items))
-        (seen_published v u works items from base h less counted) to few f.version f.why f.fits y remains b l c;
+        (seen_published v u works items from base h less counted) first to reached_now few f.version f.why f.fits y remains b l c;
   })
   item_told (work.Explain ask) x (inl f) y remains b l c = inl (record {
     from = f.from;
@@ -136,14 +140,15 @@ module _ (v u t : View) (works : List Work) (items : List Item) (from : ℕ) (ba
     version = f.version;
     is = f.is;
     tells = plan_told u t ask zero_now on (IsSeen from h.rows (shown_in items))
-        (seen_published v u works items from base h less counted) to few f.from f.to f.plan f.version f.fits y remains b l c;
+        (seen_published v u works items from base h less counted) first to reached_now few f.from f.to f.plan f.version f.fits y
+        remains b l c;
   })
   item_told (work.Explain ask) x (inr f) y remains b l c = inr (record {
     version = f.version;
     why = f.why;
     is = f.is;
     tells = refused_told u t ask zero_now on (IsSeen from h.rows (shown_in items))
-        (seen_published v u works items from base h less counted) to few f.version f.why f.fits y remains b l c;
+        (seen_published v u works items from base h less counted) first to reached_now few f.version f.why f.fits y remains b l c;
   })
   item_told work.Checkpoint x f y remains b l c = record {
     count = f.count;
@@ -273,18 +278,20 @@ told_more v u t works items w x base h is =
     record {
       rows = h.rows ++ more.rows;
       gains = gains_both v u t h.rows more.rows h.gains more.gains;
-      tells = λ from to less counted few z remains b l c.
-          tells_more z from to remains.log [] [] h.rows more.rows works items w x
+      tells = λ first from to reached less counted few z remains b l c.
+          tells_more z first from to remains.log [] [] h.rows more.rows works items w x
           (sure_later u t _ learns
-          (h.tells from to less counted (let m = learns.count in omega arith)) z remains b l c) more.first
-          (item_told v u t works items from base h less counted learns to few w x is.fit z remains b l c);
+          (h.tells first from to reached less counted (let m = learns.count in omega arith)) z remains b l c) more.first
+          (item_told v u t works items from base h less counted learns first to reached few w x is.fit z remains b l c);
       shown = λ n s m i. ⊎_elim (λ (g : Among s (shown_in items)). published_later u t n learns (h.shown n s g i))
           (λ (g : Among s (shown_by x)).
-          item_shown v u t works items 0 base h (omega arith) (omega arith) learns t.learned.count (omega arith) w x n s is.fit g i)
+          item_shown v u t works items 0 base h (omega arith) (omega arith) learns 0 t.learned.count (omega arith)
+          (omega arith) w x n s is.fit g i)
           (shown_either s items x m);
       settles = λ k m. ⊎_elim (λ (g : Among (settled k) (shown_in items)). (let a = h.settles k g in omega arith))
           (λ (g : Among (settled k) (shown_by x)).
-          item_settles v u t works items 0 base h (omega arith) (omega arith) learns t.learned.count (omega arith) w x k is.fit g)
+          item_settles v u t works items 0 base h (omega arith) (omega arith) learns 0 t.learned.count (omega arith)
+          (omega arith) w x k is.fit g)
           (shown_either (settled k) items x m);
       size = (let a = length-append items (x ∷ []) in let b = length-append works (w ∷ []) in let e = h.size in
           omega arith);
@@ -297,8 +304,9 @@ pub run_ended : (v u : View) (works : List Work) (items : List Item) → HasTold
 run_ended v u works items h = record {
   rows = h.rows;
   gains = h.gains;
-  tells = λ from to less counted few z remains b l c.
-      tells_ended z from to remains.log [] [] h.rows works items (h.tells from to less counted few z remains b l c);
+  tells = λ first from to reached less counted few z remains b l c.
+      tells_ended z first from to remains.log [] [] h.rows works items
+      (h.tells first from to reached less counted few z remains b l c);
   full = h.full;
   ended = record { whole = λ _. h.size; cut = λ bad. absurd (bad refl) };
 }
@@ -312,9 +320,9 @@ run_cut v u t works items w later h part =
     record {
       rows = h.rows ++ more.rows;
       gains = gains_both v u t h.rows more.rows h.gains more.gains;
-      tells = λ from to less counted few z remains b l c.
-          tells_cut z from to remains.log [] [] h.rows more.rows works items w later part.0
-          (sure_later u t _ learns (h.tells from to less counted (let m = learns.count in omega arith)) z remains b l c)
+      tells = λ first from to reached less counted few z remains b l c.
+          tells_cut z first from to remains.log [] [] h.rows more.rows works items w later part.0
+          (sure_later u t _ learns (h.tells first from to reached less counted (let m = learns.count in omega arith)) z remains b l c)
           more.first;
       full = fulls_later u t items learns.about more.gains.shut h.full;
       ended = record {

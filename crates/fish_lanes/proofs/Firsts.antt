@@ -30,15 +30,15 @@ others_new v from (x ∷ lanes) e h = record {
 }
 
 -- what both tell is told of all
-pub tells_both : (from to : ℕ) (x : Lane) (lanes others : List Lane) (v : View) (log : List Entry) → AreLanes lanes
-    → TellsFirst from to x v log → TellsOthers from to others v log
+pub tells_both : (first from to : ℕ) (x : Lane) (lanes others : List Lane) (v : View) (log : List Entry) → AreLanes lanes
+    → TellsFirst first from to x v log → TellsOthers first from to others v log
     → (i : ℕ) (z : Lane) → slice_get (set (take 1 lanes) 0 x ++ others) i ≡ Some z
-    → TellsLane v from to log (rows_of_lane log from to (i + 1)) z.works z.items
-tells_both from to x [] others v log h first rest i z at = (let some_ = h.some in absurd (omega arith))
-tells_both from to x (y ∷ lanes) others v log h first rest zero z at =
-    subst (λ (w : Lane). TellsFirst from to w v log) (some_once x z at) first
-tells_both from to x (y ∷ lanes) others v log h first rest (suc i) z at =
-    subst (λ (n : ℕ). TellsLane v from to log (rows_of_lane log from to n) z.works z.items)
+    → TellsLane v first from to log (rows_of_lane log from to (i + 1)) z.works z.items
+tells_both first from to x [] others v log h here rest i z at = (let some_ = h.some in absurd (omega arith))
+tells_both first from to x (y ∷ lanes) others v log h here rest zero z at =
+    subst (λ (w : Lane). TellsFirst first from to w v log) (some_once x z at) here
+tells_both first from to x (y ∷ lanes) others v log h here rest (suc i) z at =
+    subst (λ (n : ℕ). TellsLane v first from to log (rows_of_lane log from to n) z.works z.items)
     (let same : i + 2 ≡ suc i + 1 = omega arith in same) (rest i z at)
 
 -- and the same of marks

@@ -15,42 +15,42 @@ shown_in [] = []
 shown_in (x ∷ items) = shown_by x ++ shown_in items
 
 -- what items tell that are as many as the statements
-abbrev pub TellsAll : View → ℕ → ℕ → List Entry → List LaneRow → List Shown → List LaneRow → List Work → List Item → Type 0
-TellsAll v from to log before shown rows [] [] = rows ≡ []
-TellsAll v from to log before shown rows [] (x ∷ items) = ⊥
-TellsAll v from to log before shown rows (w ∷ works) [] = ⊥
-TellsAll v from to log before shown rows (w ∷ works) (x ∷ items) = (mine : List LaneRow) × (rest : List LaneRow)
+abbrev pub TellsAll : View → ℕ → ℕ → ℕ → List Entry → List LaneRow → List Shown → List LaneRow → List Work → List Item → Type 0
+TellsAll v first from to log before shown rows [] [] = rows ≡ []
+TellsAll v first from to log before shown rows [] (x ∷ items) = ⊥
+TellsAll v first from to log before shown rows (w ∷ works) [] = ⊥
+TellsAll v first from to log before shown rows (w ∷ works) (x ∷ items) = (mine : List LaneRow) × (rest : List LaneRow)
     × (rows ≡ mine ++ rest)
     × (contents mine ≡ take (count_of x) (content_of w))
-    × TellsItem v from to log before shown w x
-    × TellsAll v from to log (before ++ mine) (shown ++ shown_by x) rest works items
+    × TellsItem v first from to log before shown w x
+    × TellsAll v first from to log (before ++ mine) (shown ++ shown_by x) rest works items
 
 -- one more behind them
-pub tells_more : (v : View) (from to : ℕ) (log : List Entry) (before : List LaneRow) (shown : List Shown) (rows more : List LaneRow)
+pub tells_more : (v : View) (first from to : ℕ) (log : List Entry) (before : List LaneRow) (shown : List Shown) (rows more : List LaneRow)
     (works : List Work) (items : List Item) (w : Work) (x : Item)
-    → TellsAll v from to log before shown rows works items
+    → TellsAll v first from to log before shown rows works items
     → contents more ≡ take (count_of x) (content_of w)
-    → TellsItem v from to log (before ++ rows) (shown ++ shown_in items) w x
-    → TellsAll v from to log before shown (rows ++ more) (works ++ w ∷ []) (items ++ x ∷ [])
-tells_more v from to log before shown rows more [] [] w x none first tells = (
+    → TellsItem v first from to log (before ++ rows) (shown ++ shown_in items) w x
+    → TellsAll v first from to log before shown (rows ++ more) (works ++ w ∷ []) (items ++ x ∷ [])
+tells_more v first from to log before shown rows more [] [] w x none same tells = (
   more,
   [],
   ap (λ (z : List LaneRow). z ++ more) none ∙ sym (append-nil more),
-  first,
-  subst (λ (z : List LaneRow × List Shown). TellsItem v from to log z.0 z.1 w x)
+  same,
+  subst (λ (z : List LaneRow × List Shown). TellsItem v first from to log z.0 z.1 w x)
       (λ i. ((ap (λ (z : List LaneRow). before ++ z) none ∙ append-nil before) i, append-nil shown i)) tells,
   refl,
 )
-tells_more v from to log before shown rows more [] (y ∷ items) w x none first tells = elim none [ ]
-tells_more v from to log before shown rows more (w2 ∷ works) [] w x none first tells = elim none [ ]
-tells_more v from to log before shown rows more (w2 ∷ works) (y ∷ items) w x (mine, rest, parts, mine_is, here, there) first tells = (
+tells_more v first from to log before shown rows more [] (y ∷ items) w x none same tells = elim none [ ]
+tells_more v first from to log before shown rows more (w2 ∷ works) [] w x none same tells = elim none [ ]
+tells_more v first from to log before shown rows more (w2 ∷ works) (y ∷ items) w x (mine, rest, parts, mine_is, here, there) same tells = (
   mine,
   rest ++ more,
   ap (λ (z : List LaneRow). z ++ more) parts ∙ append_assoc mine rest more,
   mine_is,
   here,
-  tells_more v from to log (before ++ mine) (shown ++ shown_by y) rest more works items w x there first
-      (subst (λ (z : List LaneRow × List Shown). TellsItem v from to log z.0 z.1 w x)
+  tells_more v first from to log (before ++ mine) (shown ++ shown_by y) rest more works items w x there same
+      (subst (λ (z : List LaneRow × List Shown). TellsItem v first from to log z.0 z.1 w x)
       (λ i. (
         (ap (λ (z : List LaneRow). before ++ z) parts ∙ sym (append_assoc before mine rest)) i,
         sym (append_assoc shown (shown_by y) (shown_in items)) i,
@@ -58,35 +58,35 @@ tells_more v from to log before shown rows more (w2 ∷ works) (y ∷ items) w x
 )
 
 -- with nothing behind them the lane ended
-pub tells_ended : (v : View) (from to : ℕ) (log : List Entry) (before : List LaneRow) (shown : List Shown) (rows : List LaneRow)
-    (works : List Work) (items : List Item) → TellsAll v from to log before shown rows works items
-    → TellsItems v from to log before shown rows works items
-tells_ended v from to log before shown rows [] [] h = h
-tells_ended v from to log before shown rows [] (x ∷ items) h = elim h [ ]
-tells_ended v from to log before shown rows (w ∷ works) [] h = elim h [ ]
-tells_ended v from to log before shown rows (w ∷ works) (x ∷ items) (mine, rest, parts, mine_is, here, there) = (
+pub tells_ended : (v : View) (first from to : ℕ) (log : List Entry) (before : List LaneRow) (shown : List Shown) (rows : List LaneRow)
+    (works : List Work) (items : List Item) → TellsAll v first from to log before shown rows works items
+    → TellsItems v first from to log before shown rows works items
+tells_ended v first from to log before shown rows [] [] h = h
+tells_ended v first from to log before shown rows [] (x ∷ items) h = elim h [ ]
+tells_ended v first from to log before shown rows (w ∷ works) [] h = elim h [ ]
+tells_ended v first from to log before shown rows (w ∷ works) (x ∷ items) (mine, rest, parts, mine_is, here, there) = (
   mine,
   rest,
   parts,
   mine_is,
   here,
-  tells_ended v from to log (before ++ mine) (shown ++ shown_by x) rest works items there,
+  tells_ended v first from to log (before ++ mine) (shown ++ shown_by x) rest works items there,
 )
 
 -- with a part of the next statement it was cut
-pub tells_cut : (v : View) (from to : ℕ) (log : List Entry) (before : List LaneRow) (shown : List Shown) (rows more : List LaneRow)
+pub tells_cut : (v : View) (first from to : ℕ) (log : List Entry) (before : List LaneRow) (shown : List Shown) (rows more : List LaneRow)
     (works : List Work) (items : List Item) (w : Work) (later : List Work) (j : ℕ)
-    → TellsAll v from to log before shown rows works items → contents more ≡ take j (content_of w)
-    → TellsItems v from to log before shown (rows ++ more) (works ++ w ∷ later) items
-tells_cut v from to log before shown rows more [] [] w later j none part =
+    → TellsAll v first from to log before shown rows works items → contents more ≡ take j (content_of w)
+    → TellsItems v first from to log before shown (rows ++ more) (works ++ w ∷ later) items
+tells_cut v first from to log before shown rows more [] [] w later j none part =
     (j, ap (λ (z : List LaneRow). contents (z ++ more)) none ∙ part)
-tells_cut v from to log before shown rows more [] (y ∷ items) w later j none part = elim none [ ]
-tells_cut v from to log before shown rows more (w2 ∷ works) [] w later j none part = elim none [ ]
-tells_cut v from to log before shown rows more (w2 ∷ works) (y ∷ items) w later j (mine, rest, parts, mine_is, here, there) part = (
+tells_cut v first from to log before shown rows more [] (y ∷ items) w later j none part = elim none [ ]
+tells_cut v first from to log before shown rows more (w2 ∷ works) [] w later j none part = elim none [ ]
+tells_cut v first from to log before shown rows more (w2 ∷ works) (y ∷ items) w later j (mine, rest, parts, mine_is, here, there) part = (
   mine,
   rest ++ more,
   ap (λ (z : List LaneRow). z ++ more) parts ∙ append_assoc mine rest more,
   mine_is,
   here,
-  tells_cut v from to log (before ++ mine) (shown ++ shown_by y) rest more works items w later j there part,
+  tells_cut v first from to log (before ++ mine) (shown ++ shown_by y) rest more works items w later j there part,
 )

@@ -28,9 +28,10 @@ use Rattle.fish_rule.specs.declared.view.Key.{Key}
 use Rattle.fish_rule.specs.declared.view.View.{View}
 
 -- none yet
-pub blocks_none : (v : View) (blocks : List Block) → HasEnd v 0 → HasRunBlocks v blocks 0 0
+pub blocks_none : (v : View) (blocks : List Block) → HasEnd v 0 → HasRunBlocks v.learned.version v blocks 0 0
 blocks_none v blocks h = record {
   ends = h;
+  reached = omega arith;
   tells = λ u remains base main none later c. record {
     first = λ b some_. absurd (omega arith);
     next = λ i a b less. absurd (omega arith);
@@ -56,9 +57,10 @@ names_later v u (x ∷ items) learns h = (
 )
 
 -- so all such items agree
-pub fulls_agree : (v : View) (blocks : List Block) (end last : ℕ) → Stands v → HasRunBlocks v blocks (length blocks) last
+pub fulls_agree : (version : ℕ) (v : View) (blocks : List Block) (end last : ℕ) → Stands v
+    → HasRunBlocks version v blocks (length blocks) last
     → v.about.end ≡ end → FullsAgree blocks end
-fulls_agree v blocks end last s h is = record {
+fulls_agree version v blocks end last s h is = record {
   ends = λ line lines e f. (named line lines e f).1 ∙ is;
   same = λ line a b e f p q. same_lines v line a b s (named line a e p).0 (named line b f q).0;
 }
@@ -69,14 +71,16 @@ fulls_agree v blocks end last s h is = record {
         f.file line lines e f.stored f.refused refl
 
 -- one more
-pub blocks_more : (v u : View) (blocks : List Block) (i from : ℕ) (b : Block) → i < length blocks → HasRunBlocks v blocks i from
-    → IsBlockRun v u from b → HasRunBlocks u (set blocks i b) (i + 1) b.to
-blocks_more v u blocks i from b less h r = record {
+pub blocks_more : (version : ℕ) (v u : View) (blocks : List Block) (i from : ℕ) (b : Block) → i < length blocks
+    → HasRunBlocks version v blocks i from
+    → IsBlockRun v u from b → HasRunBlocks version u (set blocks i b) (i + 1) b.to
+blocks_more version v u blocks i from b less h r = record {
   ends = r.end;
+  reached = (let a = h.reached in let m = r.later.learns.version in omega arith);
   tells = λ x remains base main none later c.
       let log = remains.log in
-      let t = will_later v u (λ y l. TellsBlocks y l blocks i from) r.later h.tells x remains base main none later c in
-      let own = r.tells x remains base main none later c in
+      let t = will_later v u (λ y l. TellsBlocks y version l blocks i from) r.later h.tells x remains base main none later c in
+      let own = r.tells version h.reached x remains base main none later c in
       record {
         first = λ a some_ at. first_is x log t a at (ℕ_discrete i 0);
         next = λ j a d below at_a at_d. next_is x log t j a d below at_a at_d (ℕ_discrete (j + 1) i);
@@ -109,12 +113,12 @@ blocks_more v u blocks i from b less h r = record {
     marks_is j a below at (no ne) x lane at_lane =
         names_later v u lane.items r.later.learns (h.marks j a (omega arith) (else_ j a at ne) x lane at_lane)
 
-    first_is : (x : View) (log : List Entry) → TellsBlocks x log blocks i from → (a : Block) → slice_get (set blocks i b) 0 ≡ Some a
+    first_is : (x : View) (log : List Entry) → TellsBlocks x version log blocks i from → (a : Block) → slice_get (set blocks i b) 0 ≡ Some a
         → Dec (i ≡ 0) → a.from ≡ 0
     first_is x log t a at (yes e) = ap (λ (z : Block). z.from) (here 0 a at (sym e)) ∙ r.begins ∙ t.none e
     first_is x log t a at (no ne) = t.first a (omega arith) (else_ 0 a at (λ e. ne (sym e)))
 
-    next_is : (x : View) (log : List Entry) → TellsBlocks x log blocks i from → (j : ℕ) (a d : Block) → j + 1 < i + 1
+    next_is : (x : View) (log : List Entry) → TellsBlocks x version log blocks i from → (j : ℕ) (a d : Block) → j + 1 < i + 1
         → slice_get (set blocks i b) j ≡ Some a
         → slice_get (set blocks i b) (j + 1) ≡ Some d → Dec (j + 1 ≡ i) → d.from ≡ a.to
     next_is x log t j a d below at_a at_d (yes e) =
@@ -123,7 +127,7 @@ blocks_more v u blocks i from b less h r = record {
     next_is x log t j a d below at_a at_d (no ne) =
         t.next j a d (omega arith) (else_ j a at_a (λ s. omega arith)) (else_ (j + 1) d at_d ne)
 
-    rises_is : (x : View) (log : List Entry) → TellsBlocks x log blocks i from → (j : ℕ) (a : Block) → j < i + 1
+    rises_is : (x : View) (log : List Entry) → TellsBlocks x version log blocks i from → (j : ℕ) (a : Block) → j < i + 1
         → slice_get (set blocks i b) j ≡ Some a → Dec (j ≡ i) → a.from ≤ a.to
     rises_is x log t j a below at (yes e) =
         let same = here j a at e in
@@ -132,11 +136,11 @@ blocks_more v u blocks i from b less h r = record {
         subst (λ (z : Block). z.from ≤ z.to) (sym same) (omega arith)
     rises_is x log t j a below at (no ne) = t.rises j a (omega arith) (else_ j a at ne)
 
-    each_is : (x : View) (log : List Entry) → TellsBlocks x log blocks i from → TellsBlock x log b.from b.to b.lanes.items
+    each_is : (x : View) (log : List Entry) → TellsBlocks x version log blocks i from → TellsBlock x version log b.from b.to b.lanes.items
         → (j : ℕ) (a : Block)
-        → j < i + 1 → slice_get (set blocks i b) j ≡ Some a → Dec (j ≡ i) → TellsBlock x log a.from a.to a.lanes.items
+        → j < i + 1 → slice_get (set blocks i b) j ≡ Some a → Dec (j ≡ i) → TellsBlock x version log a.from a.to a.lanes.items
     each_is x log t own j a below at (yes e) =
-        subst (λ (z : Block). TellsBlock x log z.from z.to z.lanes.items) (sym (here j a at e)) own
+        subst (λ (z : Block). TellsBlock x version log z.from z.to z.lanes.items) (sym (here j a at e)) own
     each_is x log t own j a below at (no ne) = t.each j a (omega arith) (else_ j a at ne)
 
 -- the control pass of a log that was just opened
@@ -155,13 +159,13 @@ first_end v k is number line = subst (λ (z : View). HasEnd z 0) (sym is) (recor
 })
 
 -- the log that is closed in the end
-pub run_told : (v : View) (blocks : List Block) (end : ℕ) (remains : Remains) → HasRunBlocks v blocks (length blocks) end
-    → IsClosed v remains → IsToldBy remains blocks
-run_told v blocks end remains h c =
+pub run_told : (version : ℕ) (v : View) (blocks : List Block) (end : ℕ) (remains : Remains)
+    → HasRunBlocks version v blocks (length blocks) end → IsClosed v remains → IsToldBy version remains blocks
+run_told version v blocks end remains h c =
     let e = h.ends in
     record {
       pass = v;
       closed = c;
-      tells = subst (TellsBlocks v remains.log blocks (length blocks)) (sym (closed_length v end remains e c))
+      tells = subst (TellsBlocks v version remains.log blocks (length blocks)) (sym (closed_length v end remains e c))
           (h.tells v remains e.base e.alone.main e.alone.all (later_self v) c);
     }

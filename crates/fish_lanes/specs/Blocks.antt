@@ -192,18 +192,18 @@ pub record HasTakenAll (m u : View) (lanes : List Lane) (many : ℕ) : Type 0 wh
 
 -- ---- afterwards
 
--- what a block tells of the one log: each lane's items, of its records from one number up to another
-abbrev pub TellsBlock : View → List Entry → ℕ → ℕ → List Lane → Type 0
-TellsBlock v log from to lanes =
-    At (λ i x. TellsLane v from to log (rows_of_lane log from to (i + 1)) x.works x.items) lanes
+-- what a block that began at a version tells of the one log: each lane's items, of its records from one number up to another
+abbrev pub TellsBlock : View → ℕ → List Entry → ℕ → ℕ → List Lane → Type 0
+TellsBlock v first log from to lanes =
+    At (λ i x. TellsLane v first from to log (rows_of_lane log from to (i + 1)) x.works x.items) lanes
 
 -- the same of the first lane, and of the others
-abbrev pub TellsFirst : ℕ → ℕ → Lane → View → List Entry → Type 0
-TellsFirst from to x v log = TellsLane v from to log (rows_of_lane log from to 1) x.works x.items
+abbrev pub TellsFirst : ℕ → ℕ → ℕ → Lane → View → List Entry → Type 0
+TellsFirst first from to x v log = TellsLane v first from to log (rows_of_lane log from to 1) x.works x.items
 
-abbrev pub TellsOthers : ℕ → ℕ → List Lane → View → List Entry → Type 0
-TellsOthers from to lanes v log =
-    At (λ i x. TellsLane v from to log (rows_of_lane log from to (i + 2)) x.works x.items) lanes
+abbrev pub TellsOthers : ℕ → ℕ → ℕ → List Lane → View → List Entry → Type 0
+TellsOthers first from to lanes v log =
+    At (λ i x. TellsLane v first from to log (rows_of_lane log from to (i + 2)) x.works x.items) lanes
 
 -- an item that was refused since the log is full names a mark, and the log's end
 abbrev pub IsMarkItem : View → Item → Type 0

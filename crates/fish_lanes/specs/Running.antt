@@ -32,8 +32,8 @@ pub record IsEnded (works : List Work) (items : List Item) (fault : LaneFault) :
 pub record HasRun (v u : View) (works : List Work) (items : List Item) (fault : LaneFault) : Type 0 where
   pub rows : List LaneRow
   pub gains : Gains v u rows
-  pub tells : (from to : ℕ) → from ≤ v.learned.settled → from ≤ v.learned.count → u.learned.count ≤ to + 16
-      → Sure u (λ x log. TellsLane x from to log rows works items)
+  pub tells : (first from to : ℕ) → first ≤ v.learned.version → from ≤ v.learned.settled → from ≤ v.learned.count
+      → u.learned.count ≤ to + 16 → Sure u (λ x log. TellsLane x first from to log rows works items)
   pub full : AllOf (IsFullItem u) items
   pub ended : IsEnded works items fault
 

@@ -22,37 +22,39 @@ pub record IsBlockRun (v u : View) (from : ℕ) (b : Block) : Type 0 where
   pub later : Later v u
   pub begins : b.from ≡ from
   pub rises : from ≤ b.to
-  pub tells : Will u (λ x log. TellsBlock x log b.from b.to b.lanes.items)
+  pub tells : (version : ℕ) → version ≤ v.learned.version
+      → Will u (λ x log. TellsBlock x version log b.from b.to b.lanes.items)
   pub marks : NameMarks u b.lanes.items
   pub ended : AreEnded b.lanes.items
 
--- the first so many blocks are told by the log: each begins where the one in front of it ended, the first at 0, and
+-- the first so many blocks, of which the first began at a version, are told by the log: each begins where the one in front of it ended, the first at 0, and
 -- they end here
-pub record TellsBlocks (v : View) (log : List Entry) (blocks : List Block) (many end : ℕ) : Type 0 where
+pub record TellsBlocks (v : View) (version : ℕ) (log : List Entry) (blocks : List Block) (many end : ℕ) : Type 0 where
   pub first : (b : Block) → 0 < many → slice_get blocks 0 ≡ Some b → b.from ≡ 0
   pub next : (i : ℕ) (a b : Block) → i + 1 < many → slice_get blocks i ≡ Some a → slice_get blocks (i + 1) ≡ Some b
       → b.from ≡ a.to
   pub last : (i : ℕ) (b : Block) → i + 1 ≡ many → slice_get blocks i ≡ Some b → b.to ≡ end
   pub none : many ≡ 0 → end ≡ 0
   pub rises : (i : ℕ) (b : Block) → i < many → slice_get blocks i ≡ Some b → b.from ≤ b.to
-  pub each : (i : ℕ) (b : Block) → i < many → slice_get blocks i ≡ Some b → TellsBlock v log b.from b.to b.lanes.items
+  pub each : (i : ℕ) (b : Block) → i < many → slice_get blocks i ≡ Some b → TellsBlock v version log b.from b.to b.lanes.items
 
 -- the pass knows it of every log in which the run may end
-pub record HasRunBlocks (u : View) (blocks : List Block) (many end : ℕ) : Type 0 where
+pub record HasRunBlocks (version : ℕ) (u : View) (blocks : List Block) (many end : ℕ) : Type 0 where
   pub ends : HasEnd u end
-  pub tells : Will u (λ x log. TellsBlocks x log blocks many end)
+  pub reached : version ≤ u.learned.version
+  pub tells : Will u (λ x log. TellsBlocks x version log blocks many end)
   pub marks : (i : ℕ) (b : Block) → i < many → slice_get blocks i ≡ Some b → NameMarks u b.lanes.items
   pub ended : (i : ℕ) (b : Block) → i < many → slice_get blocks i ≡ Some b → AreEnded b.lanes.items
 
 -- all blocks are told by the log, and the last one ends where it does
-abbrev pub TellsRun : View → List Entry → List Block → Type 0
-TellsRun v log blocks = TellsBlocks v log blocks (length blocks) (length log)
+abbrev pub TellsRun : View → ℕ → List Entry → List Block → Type 0
+TellsRun v version log blocks = TellsBlocks v version log blocks (length blocks) (length log)
 
 -- so they are by the log that is left, which was closed for some pass
-pub record IsToldBy (remains : Remains) (blocks : List Block) : Type 0 where
+pub record IsToldBy (version : ℕ) (remains : Remains) (blocks : List Block) : Type 0 where
   pub pass : View
   pub closed : IsClosed pass remains
-  pub tells : TellsRun pass remains.log blocks
+  pub tells : TellsRun pass version remains.log blocks
 
 -- ---- a full log
 

@@ -180,9 +180,9 @@ fn run_lanes<R: Threads + Sync>(
     ensures later { Later (view main.old) (view main.new) }
     ensures first { (first.new.number ≡ first.old.number) × (first.new.works ≡ first.old.works) }
     ensures kept { AreKept others.old others.new }
-    ensures told { (from : ℕ) → HasEnd (view main.old) from → (from ≤ result)
-        × Will (view main.new) (TellsFirst from result first.new)
-        × Will (view main.new) (TellsOthers from result others.new) }
+    ensures told { (version from : ℕ) → version ≤ (view main.old).learned.version → HasEnd (view main.old) from
+        → (from ≤ result) × Will (view main.new) (TellsFirst version from result first.new)
+        × Will (view main.new) (TellsOthers version from result others.new) }
     ensures first_ended { IsEnded first.new.works first.new.items first.new.fault }
     ensures others_ended { AreEnded others.new }
     ensures first_marks { AllOf (IsMarkItem (view main.new)) first.new.items }
@@ -217,8 +217,8 @@ pub fn run_block<R: Threads + Sync>(
     ensures end { HasEnd (view main.new) result }
     ensures later { Later (view main.old) (view main.new) }
     ensures kept { AreKept lanes.old lanes.new }
-    ensures told { (from : ℕ) → HasEnd (view main.old) from → (from ≤ result)
-        × Will (view main.new) (λ v log. TellsBlock v log from result lanes.new) }
+    ensures told { (version from : ℕ) → version ≤ (view main.old).learned.version → HasEnd (view main.old) from
+        → (from ≤ result) × Will (view main.new) (λ v log. TellsBlock v version log from result lanes.new) }
     ensures ended { AreEnded lanes.new }
     ensures marks { NameMarks (view main.new) lanes.new }
 {

@@ -42,7 +42,7 @@ pub fn run_log<R: Threads + Sync>(
     requires number { start.now.base.number ≡ 0 }
     requires line { start.now.base.line ≡ 0 }
     requires blocks { AreBlocks blocks.old }
-    ensures told { IfOk result (λ remains. IsToldBy remains blocks.new) }
+    ensures told { IfOk result (λ remains. IsToldBy start.now.version remains blocks.new) }
     ensures ended { IfOk result (λ _. HaveEnded blocks.new) }
     ensures full { IfOk result (λ _. FullsAgree blocks.new (shape.pages * 32768)) }
 {
@@ -69,7 +69,7 @@ pub fn run_blocks<R: Threads + Sync>(
     requires end { HasEnd (view main.old) 0 }
     requires blocks { AreBlocks blocks.old }
     ensures pass { IsPassOf log.now main.new }
-    ensures run { HasRunBlocks (view main.new) blocks.new (length blocks.new) result }
+    ensures run { HasRunBlocks (view main.old).learned.version (view main.new) blocks.new (length blocks.new) result }
 {
     let mut from = 0;
     for i in 0..blocks.len() {

@@ -156,6 +156,7 @@ unfoldable pub asked_later : (v u t : View) (known : Known) (ask : Ask) (place :
 asked_later v u t known ask place more h = record {
   named = record {
     loaded = loaded_within _ _ _ _ _ _ (later_self v.clock) h.named.loaded more.clock;
+    least = h.named.least;
     read = read_later u t known more.learns h.named.read;
     newest = h.named.newest;
   };

@@ -56,10 +56,11 @@ AreEmptyEnds ask from to = (ask.from ≡ Some from) × (ask.to ≡ Some to) × (
 abbrev pub IsEmptyAsk : Ask → Type 0
 IsEmptyAsk ask = (from : ℕ) × (to : ℕ) × AreEmptyEnds ask from to
 
--- the newest definition that has the name asked for, in the version that the pass loaded between the two views, stands at
--- this place
+-- the newest definition that has the name asked for, in the version that the pass loaded between the two views, which is no
+-- older than the one that it knew, stands at this place
 pub record IsNamed (v u : View) (known : Known) (ask : Ask) (place : ℕ) : Type 0 where
   pub loaded : HasLoaded v.clock u.clock Version (version_of known)
+  pub least : v.learned.version ≤ version_of known
   pub read : AreRead u known
   pub newest : IsNewest (rows_of known) ask.name place
 
@@ -168,6 +169,7 @@ IsCold base from (refusal.NotCovered first last) = ⊥
 abbrev pub IsRefused : View → View → Known → Ask → ScanRefusal → Type 0
 IsRefused v u known ask (refusal.UnknownName version) = (version ≡ version_of known)
     × HasLoaded v.clock u.clock Version version × AreRead u known × HasNone (rows_of known) ask.name
+    × (v.learned.version ≤ version)
 IsRefused v u known ask (refusal.EmptyRange from to) = AreEmptyEnds ask from to
     × ((place : ℕ) × IsNamed v u known ask place)
 IsRefused v u known ask (refusal.NotCovered from to) = (ask.how ≡ how.Index) × IsUncovered v u known ask from to

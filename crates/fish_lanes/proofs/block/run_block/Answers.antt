@@ -17,14 +17,15 @@ run_lanes-requires-clause-others g c κs bounds =
     (others_new (view c.args.main.now) c.requires.end.0 c.args.lanes.now c.requires.end.1 c.requires.lanes)
 
 pub returns-clause-told : goal.returns-clause-told
-returns-clause-told g c from start =
-    let t = c.run_lanes.ensures.told from start in (
+returns-clause-told g c version from reached start =
+    let t = c.run_lanes.ensures.told version from reached start in (
       t.0,
       λ u remains base main none later closed.
-          subst (λ (z : List Lane). TellsBlock u remains.log from c.run_lanes.result
+          subst (λ (z : List Lane). TellsBlock u version remains.log from c.run_lanes.result
           (set z 0 c.run_lanes.new.first ++ c.run_lanes.new.others))
           (sym c.split_at_mut-first.ensures.front)
-          (tells_both from c.run_lanes.result c.run_lanes.new.first c.args.lanes.now c.run_lanes.new.others u remains.log c.requires.lanes
+          (tells_both version from c.run_lanes.result c.run_lanes.new.first c.args.lanes.now c.run_lanes.new.others u remains.log
+          c.requires.lanes
           (t.1 u remains base main none later closed) (t.2 u remains base main none later closed)),
     )
 

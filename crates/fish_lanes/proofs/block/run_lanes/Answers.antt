@@ -52,7 +52,7 @@ returns-clause-kept g c =
     c.take_all.ensures.lanes c.take_all.auto.lanes
 
 pub returns-clause-told : goal.returns-clause-told
-returns-clause-told g c from start = (
+returns-clause-told g c version from reached start = (
   within c.args.log.now (view c.args.main.now) (view c.give_all.new.main) (view c.run_all.new.main) c.args.first.now
       c.run_all.new.first c.args.others.now c.give_all.new.lanes c.run_all.new.others c.take_all.new.lanes
       c.give_all.ensures.given c.give_all.ensures.seated c.run_all.ensures.run c.run_all.ensures.done
@@ -60,7 +60,7 @@ returns-clause-told g c from start = (
       (view c.take_all.new.main) (view c.settle.new.pass) c.settle.result.settled c.take_all.ensures.taken
       c.settle.ensures.settles c.settle.ensures.settled c.settle.result.count c.settle.ensures.tail c.settle.ensures.ends
       c.take_all.ensures.lanes c.take_all.auto.lanes c.requires.others.base c.settle.ensures.pass.stands c.requires.end.1.marks
-      from start c.requires.pass.stands,
+      version from reached start c.requires.pass.stands,
   tells_first c.args.log.now (view c.args.main.now) (view c.give_all.new.main) (view c.run_all.new.main) c.args.first.now
       c.run_all.new.first c.args.others.now c.give_all.new.lanes c.run_all.new.others c.take_all.new.lanes
       c.give_all.ensures.given c.give_all.ensures.seated c.run_all.ensures.run c.run_all.ensures.done
@@ -68,7 +68,7 @@ returns-clause-told g c from start = (
       (view c.take_all.new.main) (view c.settle.new.pass) c.settle.result.settled c.take_all.ensures.taken
       c.settle.ensures.settles c.settle.ensures.settled c.settle.result.count c.settle.ensures.tail c.settle.ensures.ends
       c.take_all.ensures.lanes c.take_all.auto.lanes c.requires.others.base c.settle.ensures.pass.stands c.requires.end.1.marks
-      from start c.requires.pass.stands,
+      version from reached start c.requires.pass.stands,
   tells_others c.args.log.now (view c.args.main.now) (view c.give_all.new.main) (view c.run_all.new.main) c.args.first.now
       c.run_all.new.first c.args.others.now c.give_all.new.lanes c.run_all.new.others c.take_all.new.lanes
       c.give_all.ensures.given c.give_all.ensures.seated c.run_all.ensures.run c.run_all.ensures.done
@@ -76,7 +76,7 @@ returns-clause-told g c from start = (
       (view c.take_all.new.main) (view c.settle.new.pass) c.settle.result.settled c.take_all.ensures.taken
       c.settle.ensures.settles c.settle.ensures.settled c.settle.result.count c.settle.ensures.tail c.settle.ensures.ends
       c.take_all.ensures.lanes c.take_all.auto.lanes c.requires.others.base c.settle.ensures.pass.stands c.requires.end.1.marks
-      from start c.requires.pass.stands c.requires.others.few,
+      version from reached start c.requires.pass.stands c.requires.others.few,
 )
 
 pub returns-clause-first_marks : goal.returns-clause-first_marks

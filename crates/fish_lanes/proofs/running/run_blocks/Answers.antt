@@ -27,9 +27,10 @@ loop-i-preserved g c =
     (get_set_here c.loop-i.blocks i b (omega arith)) in
     record {
       of = c.run_one.ensures.pass;
-      run = subst (HasRunBlocks (view c.run_one.new.main) (set c.loop-i.blocks i b) (i + 1))
+      run = subst (HasRunBlocks (view c.args.main.now).learned.version (view c.run_one.new.main) (set c.loop-i.blocks i b) (i + 1))
           (sym (ap (λ (z : Block). z.to) read))
-          (blocks_more (view c.loop-i.main) (view c.run_one.new.main) c.loop-i.blocks i c.loop-i.from b (omega arith) inv.run
+          (blocks_more (view c.args.main.now).learned.version (view c.loop-i.main)
+          (view c.run_one.new.main) c.loop-i.blocks i c.loop-i.from b (omega arith) inv.run
           c.run_one.ensures.run);
       rest = λ j above. get_set_else c.loop-i.blocks i j b (λ e. omega arith) ∙ inv.rest j (omega arith);
     }
@@ -40,4 +41,5 @@ returns-clause-run g c =
     let size = c.loop-i.auto.blocks in
     let end = c.loop-i.auto.i-end in
     let same : c.loop-i.i ≡ length c.loop-i.blocks = omega arith in
-    subst (λ (n : ℕ). HasRunBlocks (view c.loop-i.main) c.loop-i.blocks n c.loop-i.from) same c.loop-i.invariant.run
+    subst (λ (n : ℕ). HasRunBlocks (view c.args.main.now).learned.version
+    (view c.loop-i.main) c.loop-i.blocks n c.loop-i.from) same c.loop-i.invariant.run

@@ -16,7 +16,7 @@ items_back len new items size less =
 
 pub returns-clause-run : goal.returns-clause-run
 returns-clause-run g c =
-    let t = c.run_block-to.ensures.told c.args.from c.requires.end in
+    let told = c.run_block-to.ensures.told in
     let size = c.run_block-to.auto.lanes in
     let whole = ap length c.as_mut_slice.ensures.value in
     let len = c.as_mut_slice.ensures.len in
@@ -24,10 +24,12 @@ returns-clause-run g c =
       end = c.run_block-to.ensures.end;
       later = c.run_block-to.ensures.later;
       begins = refl;
-      rises = t.0;
-      tells = subst (λ (z : List Lane). Will (view c.run_block-to.new.main) (λ x log. TellsBlock x log c.args.from c.run_block-to.result z))
+      rises = (told 0 c.args.from (omega arith) c.requires.end).0;
+      tells = λ version reached.
+          subst (λ (z : List Lane). Will (view c.run_block-to.new.main)
+          (λ x log. TellsBlock x version log c.args.from c.run_block-to.result z))
           (sym (items_back c.args.block.now.lanes.len c.run_block-to.new.lanes c.args.block.now.lanes.items (omega arith)
-          (omega arith))) t.1;
+          (omega arith))) (told version c.args.from reached c.requires.end).1;
       marks = subst (λ (z : List Lane). NameMarks (view c.run_block-to.new.main) z)
           (sym (items_back c.args.block.now.lanes.len c.run_block-to.new.lanes c.args.block.now.lanes.items (omega arith) (omega arith)))
           c.run_block-to.ensures.marks;

@@ -1,5 +1,5 @@
 -- The version was loaded, its definitions were read, and of those that have the name this one is the newest.
-use Rattle.std.proofs.Common.{List, sym, subst}
+use Rattle.std.proofs.Common.{◌≤◌, List, sym, subst, arith}
 use Rattle.fish_catalog.specs.declared.listed.Listed.{Listed}
 use Rattle.fish_epoch.proofs.Reading.{defs_later}
 use Rattle.fish_epoch.specs.Definitions.{IsKnownOf}
@@ -39,6 +39,7 @@ returns-in_default-clause-refused c =
           c.refresh.ensures.reads.extends.clock version),
       c.in_ok-refresh.ensures.read,
       subst (λ (z : List Listed). HasNone z c.args.ask.now.name) c.rows.ensures c.in_default.ensures,
+      c.load_version-version.ensures.rises,
     )
 
 pub returns-in-Some-empty_range-clause-only : goal.returns-in-Some-empty_range-clause-only
@@ -61,6 +62,7 @@ returns-in-Some-empty_range-clause-refused c = (
       loaded = version_loaded (view c.args.pass.now) (view c.load_version-version.new.pass) (view c.refresh.new.pass)
           c.load_version-version.result c.refresh.new.self c.load_version-version.ensures.view
           c.refresh.ensures.reads.extends.clock c.in_ok-refresh.ensures.version;
+      least = (let is = c.in_ok-refresh.ensures.version in let rises = c.load_version-version.ensures.rises in omega arith);
       read = c.in_ok-refresh.ensures.read;
       newest = subst (λ (z : List Listed). IsNewest z c.args.ask.now.name c.in-Some.place) c.rows.ensures c.in-Some.ensures;
     },
@@ -73,6 +75,7 @@ returns-clause-asked c = record {
     loaded = version_loaded (view c.args.pass.now) (view c.load_version-version.new.pass) (view c.refresh.new.pass)
         c.load_version-version.result c.refresh.new.self c.load_version-version.ensures.view
         c.refresh.ensures.reads.extends.clock c.in_ok-refresh.ensures.version;
+    least = (let is = c.in_ok-refresh.ensures.version in let rises = c.load_version-version.ensures.rises in omega arith);
     read = c.in_ok-refresh.ensures.read;
     newest = subst (λ (z : List Listed). IsNewest z c.args.ask.now.name c.in-Some.place) c.rows.ensures c.in-Some.ensures;
   };
