@@ -37,7 +37,7 @@ pub enum Plain {
     Closed(u32),
     RegisterRefused(&'static str, RegisterCause),
     DeregisterRefused(&'static str, DeregisterCause),
-    IngestFull(&'static str, (u32, u32, u32), u32, u32),
+    IngestFull(&'static str, (u64, u64, u64), u32, u32),
     IngestTooLong(&'static str, u32, u32),
     ScanRefused(&'static str, u16, ScanCause),
     ExplainRefused(&'static str, u16, ScanCause),
@@ -253,7 +253,7 @@ fn deregister_refused(
 fn ingest_full(
     alloc: Global,
     file: &str,
-    shut: (u32, u32, u32),
+    shut: (u64, u64, u64),
     stored: u32,
     refused: u32,
 ) -> Result<Item, AllocError> {
