@@ -44,21 +44,34 @@ pub record HasBegun (v : View) (r : Registrar) (name : List ℕ) (def : Def) (u 
   pub waits : s.waiting ≡ Some (record { id = id; version = suc v.learned.version; lane = 2 })
   pub version : u.learned.version ≡ suc v.learned.version
 
--- what a look at the lanes tells, and what it leaves: an index that begins now begins at the count of the tail; else
--- the rows stay, and so does the registration that waits
+-- what a look at the lanes tells, and what it leaves: an index that begins now begins at the count of the tail, which is
+-- all that the pass has counted; else the rows stay, and so does the registration that waits
 abbrev pub PollTells : View → Registrar → View → Registrar → Poll → Type 0
 PollTells v r u s poll.Idle = (r.waiting ≡ None) × (s ≡ r) × (u ≡ v)
 PollTells v r u s (poll.NotYet seat version) = (w : Waiting) × (r.waiting ≡ Some w)
     × (s.waiting ≡ Some (at_lane w seat)) × (s.catalog ≡ r.catalog)
     × HasLoaded v.clock u.clock (Epoch seat) (suc version) × (version < w.version)
 PollTells v r u s (poll.Bound id from) = IsWaiting r id × (s.waiting ≡ None) × (s.catalog ≡ with_from r.catalog id from)
-    × HasCounted v u from
+    × HasCounted v u from × (u.learned.count ≡ from)
+
+-- no lane was found at an older version
+abbrev pub IsClear : Poll → Type 0
+IsClear poll.Idle = ⊤
+IsClear (poll.NotYet seat version) = ⊥
+IsClear (poll.Bound id from) = ⊤
 
 -- a refusal that comes before the rows are looked at
 abbrev pub IsOfVersions : RegRefusal → Type 0
 IsOfVersions (refusal.Rolling id) = ⊤
 IsOfVersions refusal.TooManyVersions = ⊤
 IsOfVersions e = ⊥
+
+-- a refusal of an end
+abbrev pub IsOfEnds : RegRefusal → Type 0
+IsOfEnds (refusal.Rolling id) = ⊤
+IsOfEnds refusal.TooManyVersions = ⊤
+IsOfEnds refusal.UnknownName = ⊤
+IsOfEnds e = ⊥
 
 -- a refusal of a row that is to be added
 abbrev pub IsOfRows : RegRefusal → Type 0

@@ -4,6 +4,8 @@ ghost use Rattle.std.specs.Prelude.{◌≡◌, IfSome, IsNone};
 ghost use Rattle.fish_registry.specs.Knowing.{IsAwaited};
 ghost use Rattle.fish_registry.specs.Looking.{HasBound, IsOlder, Looks, at_lane};
 ghost use Rattle.fish_rule.specs.Passes.{IsPassOf, view};
+ghost use Rattle.fish_rule.specs.Reading.{IsAlone};
+ghost use Rattle.fish_rule.specs.declared.view.Epoch.TheVariants.{Out};
 
 use crate::registrar::Waiting;
 use fish_rule::{Log, Pass, check_lane, load_bound, store_from};
@@ -26,6 +28,7 @@ pub(crate) fn first_older(log: &Log, pass: &mut Pass, waiting: Waiting) -> Optio
     ensures looks { Looks (view pass.old) (view pass.new) }
     ensures older { IfSome result (IsOlder (view pass.old) waiting (view pass.new)) }
     ensures clear { IsNone result → IsAwaited (view pass.new) (at_lane waiting 17) }
+    ensures alone { IsAlone (view pass.old) → (view pass.old).epoch ≡ Out → IsNone result }
 {
     for lane in waiting.lane..=LAST_LANE {
         let word = check_lane(log, pass, lane);

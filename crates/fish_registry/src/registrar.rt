@@ -8,8 +8,9 @@ ghost use Rattle.fish_lang.specs.Canonical.{definition_text};
 ghost use Rattle.fish_lang.specs.Definition.{definition_of};
 ghost use Rattle.fish_registry.specs.Changing.{Changes, HasCounted, Stays};
 ghost use Rattle.fish_registry.specs.Knowing.{IsWaiting, Knows, KnowsFirst};
-ghost use Rattle.fish_registry.specs.Refusing.{HasBegun, IsOfRows, IsOfVersions, IsSaid, MayChange, PollTells};
+ghost use Rattle.fish_registry.specs.Refusing.{HasBegun, IsClear, IsOfEnds, IsOfRows, IsOfVersions, IsSaid, MayChange, PollTells};
 ghost use Rattle.fish_rule.specs.Passes.{IsPassOf, view};
+ghost use Rattle.fish_rule.specs.Reading.{IsAlone};
 ghost use Rattle.fish_rule.specs.declared.view.Epoch.TheVariants.{Out};
 
 use crate::looking::{bind, first_older};
@@ -111,7 +112,8 @@ impl Registrar {
     }
 
     /// Looks at the lanes that were not yet found to be out or at the version of the registration that waits. Where all
-    /// were, its index begins at the count of the log. Waits for nobody, and takes no memory.
+    /// were, its index begins at the count of the log; so it does while no other lane is out. Waits for nobody, and takes
+    /// no memory.
     pub fn poll(&mut self, log: &Log, pass: &mut Pass) -> Poll
         requires pass { IsPassOf log.now pass.old }
         requires knows { Knows (view pass.old) self.old }
@@ -119,6 +121,7 @@ impl Registrar {
         ensures knows { Knows (view pass.new) self.new }
         ensures changes { Changes (view pass.old) (view pass.new) }
         ensures tells { PollTells (view pass.old) self.old (view pass.new) self.new result }
+        ensures alone { IsAlone (view pass.old) → (view pass.old).epoch ≡ Out → IsClear result }
     {
         let Some(waiting) = self.waiting else {
             return Poll::Idle;
@@ -162,6 +165,7 @@ impl Registrar {
         ensures named { IfOk result (λ e. IsActiveNamed self.old.catalog name.now e.0) }
         ensures rows { IfOk result (λ e. self.new.catalog ≡ with_to self.old.catalog e.0 e.1) }
         ensures counted { IfOk result (λ e. HasCounted (view pass.old) (view pass.new) e.1) }
+        ensures reached { IfOk result (λ e. ((view pass.old).learned.count ≤ e.1) × ((view pass.new).learned.count ≡ e.1)) }
         ensures version { OnOk result ((view pass.new).learned.version ≡ (view pass.old).learned.version + 1) }
         ensures settled { self.new.waiting ≡ self.old.waiting }
         ensures refused { OnErr result ((self.new ≡ self.old) × Stays (view pass.old) (view pass.new)) }
@@ -170,6 +174,7 @@ impl Registrar {
             ((self.old.waiting ≡ None) × (512 ≤ (view pass.old).learned.version)) }
         ensures unknown { IsErrOf result RegRefusal.UnknownName ↔
             (MayChange self.old (view pass.old) × (¬ HasActive self.old.catalog name.now)) }
+        ensures only { IfErr result IsOfEnds }
         ensures memory { ¬ IsErrOf result RegRefusal.OutOfMemory }
     {
         let version = self.last_version(log, pass)?;

@@ -1,5 +1,6 @@
 -- The steps on the boundaries of indices as the table allows them.
-use Rattle.std.proofs.Common.{◌≡◌, ℕ, ◌-◌, ◌<◌, ◌≤◌, suc, get_or, set, sym, refl, ap, ◌∙◌, subst, arith, Some, None}
+use Rattle.std.proofs.Common.{◌≡◌, ◌≢◌, ℕ, ◌-◌, ◌<◌, ◌≤◌, suc, get_or, set, sym, refl, ap, ◌∙◌, subst, arith, Some, None, inr}
+use Rattle.std.proofs.Math.Decide.{ℕ_discrete}
 use mathlib.Core.Option.{none}
 use Rattle.atomic_table.specs.Table.{Allows, step}
 use Rattle.std.proofs.lemmas.Option.{same_Some}
@@ -13,12 +14,14 @@ use Rattle.fish_rule.proofs.SetBoundaries.{from_lasts, to_lasts}
 use Rattle.fish_rule.proofs.Worlds.{world-registry}
 use Rattle.fish_rule.specs.Bounding.{CanBound, CanLoadBoundary, CanSetFrom, CanSetTo, IsLane, after_bound, after_boundary}
 use Rattle.fish_rule.specs.Bounding.{after_check, after_from, after_to}
-use Rattle.fish_rule.specs.Epochs.{IsAtMost, epoch_word}
+use Rattle.fish_rule.specs.Epochs.{IsAtMost, Stays, epoch_word}
+use Rattle.fish_rule.specs.Reading.{IsAlone}
 use Rattle.fish_rule.specs.Registry.{IsRegistered, epoch_at, row_at, version_in}
 use Rattle.fish_rule.specs.Rounds.{Waits}
 use Rattle.fish_rule.specs.Rule.{Rule}
 use Rattle.fish_rule.specs.Table.{Ruled, Sat, Stands, Told}
 use Rattle.fish_rule.specs.Told.{ToldBound, ToldBoundary, ToldCheck, told_from, told_to}
+use Rattle.fish_rule.specs.Views.{Among}
 use Rattle.fish_rule.specs.World.{World, put, world}
 use Rattle.fish_rule.specs.declared.view.Epoch.{Epoch}
 use Rattle.fish_rule.specs.declared.view.Epoch.TheVariants.{Announced, Confirmed, Out}
@@ -31,6 +34,18 @@ few_word : (e : Epoch) (v : ℕ) → IsAtMost v e → epoch_word e ≤ suc v
 few_word Out v h = omega arith
 few_word (Announced u) v h = omega arith
 few_word (Confirmed u) v h = omega arith
+
+-- a control pass that is alone and out has every lane, and so every lane is out
+state_out : (k : Key) (count : ℕ) (g : ℕ → ℕ) (state : ℕ → Epoch) (version_of : ℕ → ℕ) (v : View) (l : ℕ) → IsLane l
+    → IsAlone v → v.epoch ≡ Out → Stays k count g state version_of v → state l ≡ Out
+state_out k count g state version_of v l lane alone outside stays =
+    let tied = stays.tied l (lane.some, lane.few,
+    inr (alone.main, λ m. elim (subst (Among l) alone.all m) [ ])) in
+    pick tied (ℕ_discrete l v.lane)
+  where
+    pick : (l ≡ v.lane → state l ≡ v.epoch) × (l ≢ v.lane → state l ≡ Out) → Dec (l ≡ v.lane) → state l ≡ Out
+    pick tied (yes same) = tied.0 same ∙ outside
+    pick tied (no ne) = tied.1 ne
 
 -- a load of a lane's epoch word
 pub check_allowed : (given k : Key) → given ≡ k → (size id : ℕ) (me : Sat) (l i : ℕ) → me.0.about ≡ k → IsLane l
@@ -56,6 +71,8 @@ check_allowed given k same size id me l i about lane is =
         told = subst (λ (z : ℕ). Told me (after_check me.0 z x) (v', me.1)) (sym back)
             (record { view = refl; held = refl; stands = stands k _ id v' kept about (there vs id me.0 v' at) });
         few = omega arith;
+        alone = λ alone outside. word ∙ epoch
+            ∙ ap epoch_word (state_out k w.count w.registry r.state r.version_of me.0 l lane alone outside (r.registry.each id me.0 at));
       },
     ))
 

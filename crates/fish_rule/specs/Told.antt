@@ -12,6 +12,7 @@ use Rattle.fish_catalog.specs.declared.row.CatRow.{CatRow}
 use Rattle.fish_rule.specs.Entering.{after_announce, after_bump, after_define, after_registry, after_retire, after_version}
 use Rattle.fish_rule.specs.Bounding.{after_bound, after_boundary, after_check, after_store_boundary}
 use Rattle.fish_rule.specs.Registry.{row_at}
+use Rattle.fish_rule.specs.declared.view.Epoch.TheVariants.{Out}
 use Rattle.fish_rule.specs.declared.view.Flight.{Flight}
 use Rattle.fish_rule.specs.declared.view.Found.{Found}
 use Rattle.fish_rule.specs.declared.view.Key.{Key}
@@ -159,10 +160,11 @@ told_bump st m found m' = Told m (after_bump m.0) m'
 
 -- ---- boundaries
 
--- a load of a lane's epoch word, which is at most one more than a version
+-- a load of a lane's epoch word, which is at most one more than a version; a control pass that is alone and out finds 0
 pub record ToldCheck (st : Step Bool) (m : Sat) (found : ℕ) (m' : Sat) : Type 0 where
   pub told : Told m (after_check m.0 (st.word - 3) found) m'
   pub few : found ≤ 513
+  pub alone : IsAlone m.0 → m.0.epoch ≡ Out → found ≡ 0
 
 -- a load of the tail behind the last lane
 pub record ToldBound (st : Step Bool) (m : Sat) (found : ℕ) (m' : Sat) : Type 0 where

@@ -5,9 +5,11 @@ ghost use Rattle.std.specs.Prelude.{◌≡◌, ◌≤◌, ℕ, Some};
 ghost use Rattle.fish_rule.specs.Bounding.{CanBound, CanLoadBoundary, CanSetFrom, CanSetTo, IsLane, after_bound};
 ghost use Rattle.fish_rule.specs.Bounding.{after_boundary, after_check, after_from, after_to};
 ghost use Rattle.fish_rule.specs.Passes.{IsPassOf, view};
+ghost use Rattle.fish_rule.specs.Reading.{IsAlone};
 ghost use Rattle.fish_rule.specs.World.{high, low};
 ghost use Rattle.fish_rule.specs.Registry.{row_at};
 ghost use Rattle.fish_rule.specs.Views.{Among};
+ghost use Rattle.fish_rule.specs.declared.view.Epoch.TheVariants.{Out};
 ghost use Rattle.fish_rule.specs.declared.view.RegistryWord.{RegistryWord};
 ghost use Rattle.fish_rule.specs.declared.view.Round.{Round};
 
@@ -17,13 +19,15 @@ use crate::table::{Log, Pass};
 use crate::view::Position;
 use crate::word::position_in;
 
-/// Loads the epoch word of a lane: 0, or one more than the version at which its pass is entered.
+/// Loads the epoch word of a lane: 0, or one more than the version at which its pass is entered. A control pass that is
+/// out, while no lane is, finds 0.
 pub fn check_lane(log: &Log, pass: &mut Pass, lane: u8) -> u64
     requires pass { IsPassOf log.now pass.old }
     requires lane { IsLane lane }
     ensures pass { IsPassOf log.now pass.new }
     ensures view { view pass.new ≡ after_check (view pass.old) lane result }
     ensures few { result ≤ 513 }
+    ensures alone { IsAlone (view pass.old) → (view pass.old).epoch ≡ Out → result ≡ 0 }
 {
     let index = epoch_index(lane);
     log.table.shared.load::<Check>(&mut pass.seat, index)

@@ -1,7 +1,8 @@
 -- Each lane is at an older version, or it is clear.
-use Rattle.std.proofs.Common.{inl, inr, arith}
+use Rattle.std.proofs.Common.{inl, inr, ap, ◌∙◌, ◌≡◌, arith}
 use Rattle.fish_registry.proofs.Lanes.{clear_here, looks_once, older_here}
 use Rattle.fish_rule.specs.Passes.{view}
+use Rattle.fish_rule.specs.declared.view.View.{View}
 use Rattle.fish_registry.proofs.looking.first_older.Goals.{else-word-ne0-via-then-word-ne0+else-word-waiting}
 use Rattle.fish_registry.proofs.looking.first_older.Goals.{else-word-ne0-via-else-word-ne0}
 use Rattle.fish_registry.proofs.looking.first_older.Goals as goal
@@ -29,3 +30,15 @@ loop-lane-preserved c =
             | else-word-ne0-via-else-word-ne0 w ↦ inl (omega (arith, w.if-word-ne0))
           ]) (omega arith),
     )
+
+-- a pass that is alone and out is still so after it looked at lanes, and so it finds no lane entered
+pub returns-then-word-waiting-clause-alone : goal.returns-then-word-waiting-clause-alone
+returns-then-word-waiting-clause-alone c alone outside =
+    let frame = c.loop-lane.invariant.1.frame in
+    let none : c.check_lane-word.result ≡ 0 = c.check_lane-word.ensures.alone
+    (record {
+      main = ap (λ (y : View). y.lane) frame ∙ alone.main;
+      all = ap (λ (y : View). y.out) frame ∙ alone.all;
+      idle = ap (λ (y : View). y.flight) frame ∙ alone.idle;
+    }) (ap (λ (y : View). y.epoch) frame ∙ outside) in
+    absurd (c.if-word-ne0.true none)

@@ -75,3 +75,13 @@ returns-clause-counted c =
     let tailed = c.count_tail-to.ensures.view in
     counted_within (view c.args.pass.now) u z _ _ c.last_version.ensures.stays.clock
     (counted_end u z tailed.tail c.count_tail-to.result tailed.view tailed.is) c.end_row.ensures.ended.changes.clock
+
+pub returns-clause-reached : goal.returns-clause-reached
+returns-clause-reached c =
+    let tailed = c.count_tail-to.ensures.view in
+    let is = tailed.is in
+    let count = ap (λ (y : View). y.learned.count) tailed.view in
+    let after = c.end_row.ensures.ended.count in
+    let before = ap (λ (y : View). y.learned.count) c.last_version.ensures.stays.frame in
+    let more = tailed.more in
+    (omega arith, omega arith)

@@ -37,4 +37,5 @@ returns-in-None-clause-tells c = (
   c.set_from.ensures,
   counted_within (view c.args.pass.now) _ _ (view c.bind-from.new.pass) _ c.first_older.ensures.looks.clock
       c.bind-from.ensures.bound.counted (later_self (view c.bind-from.new.pass).clock),
+  c.bind-from.ensures.bound.count,
 )
