@@ -2,3 +2,4 @@ pub mod Parts
 pub mod RefusalText
 pub mod ReportText
 pub mod StatementText
+pub mod Writing

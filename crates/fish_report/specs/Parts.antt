@@ -36,6 +36,10 @@ numbers_text (first ∷ rest) = decimal first ++ flat_map (λ n. codes "," ++ de
 unfoldable pub row_text : Row → List ℕ
 row_text row = decimal row.number ++ (32 ∷ (decimal (length row.payload) ++ (32 ∷ (row.payload ++ (10 ∷ [])))))
 
+-- a line for each row
+abbrev pub rows_text : List Row → List ℕ
+rows_text rows = flat_map row_text rows
+
 -- `index F..T by I`, or `full F..T`
 abbrev pub piece_text : Piece → List ℕ
 piece_text (Index id from to) = codes "index " ++ (range_text from to ++ (codes " by " ++ decimal id))

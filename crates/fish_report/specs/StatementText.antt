@@ -1,18 +1,15 @@
 -- The texts of what was done, by statement. Each line ends by LF.
-use Rattle.std.specs.Prelude.{ℕ, List, ◌∷◌, ◌++◌, length, decimal, codes}
-use Rattle.std.specs.List.{flat_map}
+use Rattle.std.specs.Prelude.{ℕ, List, ◌++◌, decimal, codes}
 use Rattle.fish_value.specs.ValueText.{value_print}
-use Rattle.fish_value.specs.declared.row.Row.{Row}
 use Rattle.fish_value.specs.declared.value.Value.{Value}
 use Rattle.fish_plan.specs.declared.pieces.Piece.{Piece}
-use Rattle.fish_report.specs.Parts.{counts_text, file_text, numbers_text, pieces_text, range_text, row_text}
+use Rattle.fish_report.specs.Parts.{counts_text, file_text, numbers_text, pieces_text, range_text}
 
--- `select found K of N refused R`, then a line for each row
-unfoldable pub select_text : List Row → ℕ → ℕ → List ℕ
-select_text rows count refused =
+-- `select found K of N refused R`
+unfoldable pub select_line : ℕ → ℕ → ℕ → List ℕ
+select_line found count refused =
     codes "select found " ++
-    (decimal (length rows) ++
-    (codes " of " ++ (decimal count ++ (codes " refused " ++ (decimal refused ++ (10 ∷ flat_map row_text rows))))))
+    (decimal found ++ (codes " of " ++ (decimal count ++ (codes " refused " ++ (decimal refused ++ codes "\n")))))
 
 -- a word and a number: `opened N`, `lane K`, `checkpoint N`, `closed N`
 unfoldable pub count_text : List ℕ → ℕ → List ℕ
@@ -56,11 +53,9 @@ scan_text name value from to = codes "scan " ++ question_text name value from to
 unfoldable pub explain_text : List ℕ → Value → ℕ → ℕ → List ℕ
 explain_text name value from to = codes "explain " ++ question_text name value from to
 
--- what a scan found: ` found K open OPENS`, then a line for each row
-unfoldable pub found_text : List ℕ → List Row → List ℕ
-found_text opens rows =
-    codes " found " ++
-    (decimal (length rows) ++ (codes " open " ++ (numbers_text opens ++ (codes "\n" ++ flat_map row_text rows))))
+-- what a scan found: ` found K open OPENS`, the rest of a line
+unfoldable pub found_text : ℕ → List ℕ → List ℕ
+found_text found opens = codes " found " ++ (decimal found ++ (codes " open " ++ (numbers_text opens ++ codes "\n")))
 
 -- what an `explain` tells: `: PIECES`
 unfoldable pub plan_text : List Piece → List ℕ

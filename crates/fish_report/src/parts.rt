@@ -3,7 +3,7 @@
 ghost use Rattle.std.specs.Prelude.{◌≡◌, ◌++◌, codes, decimal, IfOk, OnOk, string_bytes};
 ghost use Rattle.std.specs.List.{flat_map, list_all};
 ghost use Rattle.fish_report.specs.Parts.{counts_text, file_text, is_bare_byte, is_bare_word, numbers_text, piece_text};
-ghost use Rattle.fish_report.specs.Parts.{pieces_text, row_text};
+ghost use Rattle.fish_report.specs.Parts.{pieces_text, row_text, rows_text};
 
 use fish_plan::Piece;
 use fish_value::{Row, Text, json_text};
@@ -80,7 +80,7 @@ fn push_more_numbers(text: &mut String, numbers: &[u32]) -> Result<(), AllocErro
 /// Puts a line for each row behind the others.
 pub(crate) fn push_rows(text: &mut String, rows: &[Row]) -> Result<(), AllocError>
     ensures { OnOk result
-        (string_bytes text.new ≡ string_bytes text.old ++ flat_map row_text rows.now) }
+        (string_bytes text.new ≡ string_bytes text.old ++ rows_text rows.now) }
 {
     for row in rows {
         push_row(text, row)?;
@@ -90,7 +90,7 @@ pub(crate) fn push_rows(text: &mut String, rows: &[Row]) -> Result<(), AllocErro
 
 /// Puts the line of a row behind the others.
 #[tactic(auto, unfolding(crate::specs::Parts::row_text))]
-fn push_row(text: &mut String, row: &Row) -> Result<(), AllocError>
+pub(crate) fn push_row(text: &mut String, row: &Row) -> Result<(), AllocError>
     ensures { OnOk result (string_bytes text.new ≡ string_bytes text.old ++ row_text row.now) }
 {
     push_decimal(text, u64::from(row.number))?;

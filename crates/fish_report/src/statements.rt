@@ -3,26 +3,25 @@
 ghost use Rattle.std.specs.Prelude.{◌≡◌, ◌++◌, codes, OnOk, string_bytes};
 ghost use Rattle.fish_report.specs.StatementText.{bound_text, count_text, deregistered_text, explain_text, found_text};
 ghost use Rattle.fish_report.specs.StatementText.{ingested_text, lanes_text, plan_text, question_text, registered_text};
-ghost use Rattle.fish_report.specs.StatementText.{rolling_text, scan_text, select_text};
+ghost use Rattle.fish_report.specs.StatementText.{rolling_text, scan_text, select_line};
 
-use crate::parts::{file_name, push_numbers, push_pieces, push_rows};
+use crate::parts::{file_name, push_numbers, push_pieces};
 use fish_plan::Plan;
-use fish_value::{Numbers, Rows, Text, Value, print_value};
+use fish_value::{Numbers, Text, Value, print_value};
 use std::alloc::{AllocError, Global};
 
-/// Puts the head of a selection and its rows behind the others.
+/// Puts the line of a selection behind the others.
+#[tactic(auto, unfolding(crate::specs::StatementText::select_line))]
 pub(crate) fn push_select(
     text: &mut String,
-    rows: &Rows,
+    found: usize,
     count: u64,
     refused: u64,
 ) -> Result<(), AllocError>
     ensures { OnOk result
-        (string_bytes text.new ≡ string_bytes text.old ++ select_text rows.now count refused) }
+        (string_bytes text.new ≡ string_bytes text.old ++ select_line found count refused) }
 {
-    let found = rows.len();
-    write!(text, "select found {found} of {count} refused {refused}\n")?;
-    push_rows(text, rows.as_slice())
+    write!(text, "select found {found} of {count} refused {refused}\n")
 }
 
 /// Puts a line of a word and a number behind the others.
@@ -172,16 +171,15 @@ fn push_question(
     )
 }
 
-/// Puts what a scan found behind the others: the rest of its line, and its rows.
-pub(crate) fn push_found(text: &mut String, opens: &Numbers, rows: &Rows) -> Result<(), AllocError>
+/// Puts what a scan found behind the others: the rest of its line.
+pub(crate) fn push_found(text: &mut String, found: usize, opens: &Numbers) -> Result<(), AllocError>
     ensures { OnOk result
-        (string_bytes text.new ≡ string_bytes text.old ++ found_text opens.now rows.now) }
+        (string_bytes text.new ≡ string_bytes text.old ++ found_text found opens.now) }
 {
-    let found = rows.len();
     write!(text, " found {found} open ")?;
     push_numbers(text, opens.as_slice())?;
     text.push_str("\n")?;
-    push_rows(text, rows.as_slice())
+    Ok(())
 }
 
 /// Puts the pieces of a plan behind the others: the rest of the line of an `explain`.

@@ -1,0 +1,31 @@
+-- What `select` answers for a file, from the whole list of its bytes.
+use Rattle.std.specs.Prelude.{ℕ, List, [], length, map, Bool, Option}
+use Rattle.fish_lang.specs.Definition.{Definition}
+use Rattle.fish_lines.specs.File.{accepted, outcomes, refused}
+use Rattle.fish_psf.specs.Records.{evaluation}
+use Rattle.fish_psf.specs.Select.{Entry, has_value, select, stored}
+use Rattle.fish_report.specs.declared.item.Item.{Item}
+use Rattle.fish_report.specs.declared.item.Item.TheVariants as item
+use Rattle.fish_value.specs.declared.field.Form.{Form}
+use Rattle.fish_value.specs.declared.row.Row.{Row}
+use Rattle.fish_value.specs.declared.value.Value.{Value}
+
+-- the definition has the value on a payload of a form
+abbrev pub is_selected : Definition → Value → Form → List ℕ → Bool
+is_selected def v form payload = has_value (evaluation def form payload) v
+
+-- payloads of a form as a log: each is stored, at its place
+abbrev pub log_of : Form → List (List ℕ) → List Entry
+log_of form payloads = map (stored 1 form) payloads
+
+-- the payloads on which the definition has the value, newest first
+unfoldable pub rows_of : Definition → Value → Form → List (List ℕ) → List Row
+rows_of def v form payloads = select (log_of form payloads) (evaluation def) v 0 (length payloads) []
+
+-- of the lines or rows of a file: its records with the value, how many records it has, and how many of them are none
+unfoldable pub selection_of : Definition → Value → Form → List (Option (List ℕ)) → Item
+selection_of def v form os = item.Select (rows_of def v form (accepted os)) (length (accepted os)) (refused os)
+
+-- the same of a whole file, behind the header of its rows, where there is to be one
+abbrev pub selection : Definition → Value → Form → Bool → List ℕ → Item
+selection def v form header b = selection_of def v form (outcomes form header b)

@@ -1,0 +1,17 @@
+//! Command lines: which words are a command of the program, and what they ask for.
+//!
+//! Words are read in one pass, and nothing is copied but what a command keeps.
+#![tactic(auto)]
+
+mod command;
+mod law;
+mod line;
+mod options;
+mod refusal;
+mod request;
+mod words;
+
+pub use command::{Command, Run, Select};
+pub use law::law_one_outcome;
+pub use refusal::{UsageCause, WordsRefusal};
+pub use words::read_words;

@@ -1,0 +1,106 @@
+//! The words of a command line.
+
+ghost use Rattle.std.specs.Prelude.{◌≡◌, Ok, Err, IfOk, IfErr};
+ghost use Rattle.fish_words.specs.Words.{IsCommand, IsRefused, IsRefusedWords, IsSelected, asked_of, run};
+ghost use Rattle.fish_words.specs.Sizes.{AreBits, ArePages};
+
+use crate::command::{Command, Run, Select};
+use crate::options::Layout;
+use crate::refusal::{UsageCause, WordsRefusal};
+use crate::request::{Lent, request_of};
+use fish_lang::parse_def;
+use fish_value::{Text, read_value};
+use std::alloc::{AllocError, Global};
+
+/// Reads a command: `select` or `run`, with its words and its options. The words are those behind the program's name.
+pub fn read_words(alloc: Global, words: &[Text]) -> Result<Command, WordsRefusal>
+    ensures ok { IfOk result (λ command. IsCommand words.now (Ok (asked_of command))) }
+    ensures refused { IfErr result (IsRefusedWords words.now) }
+{
+    match request_of(words) {
+        Some(
+            Lent::Select {
+                def,
+                value,
+                file,
+                layout,
+            },
+        ) => read_select(alloc, def, value, file, layout),
+        Some(
+            Lent::Run {
+                store,
+                script,
+                pages,
+                bits,
+            },
+        ) => read_run(alloc, store, script, pages, bits),
+        None => Err(WordsRefusal::Usage(UsageCause::Words)),
+    }
+}
+
+/// Reads the definition and the value of a `select`, in this order.
+fn read_select(
+    alloc: Global,
+    def: &Text,
+    value: &Text,
+    file: &Text,
+    layout: Layout,
+) -> Result<Command, WordsRefusal>
+    ensures ok { IfOk result (λ command. IsSelected def.now value.now file.now layout (Ok (asked_of command))) }
+    ensures refused { IfErr result (IsRefused (IsSelected def.now value.now file.now layout)) }
+{
+    let def = parse_def(alloc, def.as_bytes())?;
+    let value = match read_value(alloc, value.as_bytes()) {
+        Ok(Some(value)) => value,
+        Ok(None) => {
+            drop(def);
+            return Err(WordsRefusal::Usage(UsageCause::Value));
+        }
+        Err(error) => {
+            drop(def);
+            return Err(WordsRefusal::from(error));
+        }
+    };
+    let Layout { form, header } = layout;
+    match file.again(alloc) {
+        Ok(file) => Ok(Command::Select(Select {
+            def,
+            value,
+            form,
+            header,
+            file,
+        })),
+        Err(error) => {
+            drop((def, value));
+            Err(WordsRefusal::from(error))
+        }
+    }
+}
+
+/// Copies the names of a `run`.
+fn read_run(
+    alloc: Global,
+    store: &Text,
+    script: &Text,
+    pages: Option<u16>,
+    bits: Option<u8>,
+) -> Result<Command, WordsRefusal>
+    requires pages_within { ArePages pages }
+    requires bits_within { AreBits bits }
+    ensures ok { IfOk result (λ command. asked_of command ≡ run store.now script.now pages bits) }
+    ensures refused { IfErr result (λ refusal. refusal ≡ WordsRefusal.OutOfMemory) }
+{
+    let store = store.again(alloc)?;
+    match script.again(alloc) {
+        Ok(script) => Ok(Command::Run(Run {
+            store,
+            script,
+            pages,
+            bits,
+        })),
+        Err(error) => {
+            drop(store);
+            Err(WordsRefusal::from(error))
+        }
+    }
+}
