@@ -18,6 +18,7 @@ use Rattle.fish_lanes.specs.Doing.{cause_of, explained_item, refusal_of, scanned
 use Rattle.fish_lanes.specs.Published.{IsPublished}
 use Rattle.fish_lanes.specs.Scanning.{AreOpen, HasRows, HoldsSeen, IsAskedFor, IsAskedRange, IsRefusedFor, TellsPlan}
 use Rattle.fish_lanes.specs.Scanning.{TellsScan, selected}
+use Rattle.fish_lanes.specs.Spans.{IsWithinSpan, Span}
 use Rattle.fish_plan.proofs.Inside.{full_is_plan, index_inside, piece_within}
 use Rattle.fish_plan.specs.Pieces.{Fill, one_full}
 use Rattle.fish_plan.specs.declared.pieces.Piece.{Piece}
@@ -99,12 +100,12 @@ before_end : (to : Option ℕ) (count n : ℕ) → n < count → ((end : ℕ) �
 before_end None count n less asked = omega arith
 before_end (Some to) count n less asked = (let below = asked to refl in omega arith)
 
-pub asked_range : (v u : View) (block_end : ℕ) (ask : Ask) (from to : ℕ) (opens : List ℕ) → u.learned.count ≤ block_end + 16
-    → IsRange v u (first_asked ask) ask.to from to opens → IsAskedRange block_end ask from to
-asked_range v u block_end ask from to opens few range = record {
+pub asked_range : (v u : View) (k : Span) (ask : Ask) (from to : ℕ) (opens : List ℕ) → IsWithinSpan v u k
+    → IsRange v u (first_asked ask) ask.to from to opens → IsAskedRange k ask from to
+asked_range v u k ask from to opens inside range = record {
   begins = range.first_is;
   ends = λ end e. asked_end ask.to range.count to end e range.within;
-  near = (let a = range.within in let b = range.claimed in omega arith);
+  near = (let a = range.within in let b = range.claimed in let few = inside.near in omega arith);
 }
 
 module _ (v u x : View) (ask : Ask) (from to : ℕ) (opens : List ℕ) (range : IsRange v u (first_asked ask) ask.to from to opens)
@@ -186,10 +187,11 @@ range_published v u ask from to opens n range zero_is above below closed = recor
 -- ---- names
 
 -- the rows of a version stay known
-pub has_rows : (v u x : View) (known : Known) (ask : Ask) (place first version : ℕ) → first ≤ v.learned.version
-    → version ≡ version_of known → IsNamed v u known ask place → Learns u x → HasRows x first version (rows_of known)
-has_rows v u x known ask place first version reached is named learns = record {
-  least = (let least = named.least in omega arith);
+pub has_rows : (v u x : View) (known : Known) (ask : Ask) (place version : ℕ) (k : Span) → IsWithinSpan v u k
+    → version ≡ version_of known → IsNamed v u known ask place → Learns u x → HasRows x k version (rows_of known)
+has_rows v u x known ask place version k inside is named learns = record {
+  least = (let least = named.least in let first = inside.first in omega arith);
+  most = (let most = named.read.rows.reached in let last = inside.last in omega arith);
   knows = subst (λ (z : ℕ). KnowsDefinitions x.about x.learned z (rows_of known)) (sym is)
       (knows_later u x (version_of known) (rows_of known) learns named.read.rows);
 }
@@ -239,20 +241,19 @@ plan_indexed v u rows text how.Index from settled to plan h place id begin end t
 -- ---- what is told
 
 module _ (v u : View) (ask : Ask) (zero_is : v.about.number ≡ 0) (on : Learns v u) (seen : ℕ → Type 0)
-    (published : (n : ℕ) → seen n → IsPublished v n) (first block_end : ℕ)
-    (reached : first ≤ v.learned.version) (few : u.learned.count ≤ block_end + 16) where
+    (published : (n : ℕ) → seen n → IsPublished v n) (k : Span) (inside : IsWithinSpan v u k) where
   -- a scan
   pub scan_told : (from to : ℕ) (opens : List ℕ) (rows : List Row) (version : ℕ) → IsScanned v u ask from to opens rows version
-      → Sure u (λ x l. TellsScan x first block_end l seen ask from to opens rows version)
+      → Sure u (λ x l. TellsScan x k l seen ask from to opens rows version)
   scan_told from to opens rows version s x remains base learns c =
       let a = s.answer in
       let e = a.explained.planned in
       record {
-        range = asked_range v u block_end ask from to opens few e.range;
+        range = asked_range v u k ask from to opens inside e.range;
         def = a.def;
         means = record {
           rows = rows_of s.known;
-          has = has_rows v u x s.known ask e.place first version reached s.version_is e.asked.named learns;
+          has = has_rows v u x s.known ask e.place version k inside s.version_is e.asked.named learns;
           place = e.place;
           newest = e.asked.named.newest;
           accepted = a.means;
@@ -264,13 +265,13 @@ module _ (v u : View) (ask : Ask) (zero_is : v.about.number ≡ 0) (on : Learns 
 
   -- a plan
   pub plan_told : (from to : ℕ) (plan : List Piece) (version : ℕ) → IsPlannedAt v u ask from to plan version
-      → Sure u (λ x l. TellsPlan x first block_end l seen ask from to plan version)
+      → Sure u (λ x l. TellsPlan x k l seen ask from to plan version)
   plan_told from to plan version s x remains base learns c =
       let e = s.explained.planned in
       record {
-        range = asked_range v u block_end ask from to s.opens few e.range;
+        range = asked_range v u k ask from to s.opens inside e.range;
         rows = rows_of s.known;
-        has = has_rows v u x s.known ask e.place first version reached s.version_is e.asked.named learns;
+        has = has_rows v u x s.known ask e.place version k inside s.version_is e.asked.named learns;
         place = e.place;
         newest = e.asked.named.newest;
         opens = s.opens;
@@ -283,7 +284,7 @@ module _ (v u : View) (ask : Ask) (zero_is : v.about.number ≡ 0) (on : Learns 
             let more = learns.settled in
             let later = c.later.settled in
             let floor = c.rule.floors c.seat c.last c.at in
-            let inside = settled_within x.about c.moment c.rule remains.log base c.log in
+            let whole = settled_within x.about c.moment c.rule remains.log base c.log in
             (let below = i.0 in omega arith, i.1);
       }
 
@@ -303,17 +304,18 @@ module _ (v u : View) (ask : Ask) (zero_is : v.about.number ≡ 0) (on : Learns 
       let more = learns.settled in
       let later = c.later.settled in
       let floor = c.rule.floors c.seat c.last c.at in
-      let inside = settled_within x.about c.moment c.rule remains.log base c.log in
+      let whole = settled_within x.about c.moment c.rule remains.log base c.log in
       (omega arith, omega arith, omega arith, λ end e. let a = asked_end ask.to h.range.count h.last end e h.range.within in omega arith)
 
   -- a refusal
   pub refused_told : (version : ℕ) (why : ScanCause) → IsRefusedAt v u ask version why
-      → Sure u (λ x l. IsRefusedFor x first l ask version why)
+      → Sure u (λ x l. IsRefusedFor x k l ask version why)
   refused_told version cause.UnknownName s x remains base learns c =
       let r = s.refused in (
         rows_of s.known,
         record {
-          least = (let least = r.4 in omega arith);
+          least = (let least = r.4 in let first = inside.first in omega arith);
+          most = (let most = r.2.rows.reached in let last = inside.last in omega arith);
           knows = subst (λ (z : ℕ). KnowsDefinitions x.about x.learned z (rows_of s.known)) (sym s.version_is)
               (knows_later u x (version_of s.known) (rows_of s.known) learns r.2.rows);
         },

@@ -9,13 +9,14 @@ use Rattle.fish_lanes.proofs.Lists.{some_once}
 use Rattle.fish_lanes.proofs.RowLists.{has_above, owned_number, told_later}
 use Rattle.fish_lanes.proofs.Surely.{own_before, sure_later, will_rows}
 use Rattle.fish_lanes.specs.Blocks.{AreDone, AreEnded, AreJoined, AreKept, AreSeated, HasGiven, HasRunFirst}
-use Rattle.fish_lanes.specs.Blocks.{HasTakenAll, IsMarkItem, IsOfLane, IsSeated, IsShutOfLane, NameMarks, TellsFirst}
+use Rattle.fish_lanes.specs.Blocks.{HasTakenAll, IsBlockSpan, IsMarkItem, IsOfLane, IsSeated, IsShutOfLane, NameMarks, TellsFirst}
 use Rattle.fish_lanes.specs.Blocks.{TellsOthers, WereTaken}
 use Rattle.fish_lanes.specs.Closing.{Later, Sure, Will}
 use Rattle.fish_lanes.specs.Ending.{HasEnd}
 use Rattle.fish_lanes.specs.Gains.{AreTold, IsMarkAt, IsShutTold}
 use Rattle.fish_lanes.specs.Records.{Ascends, HasNumber, LaneRow, owned, rows_of_lane}
 use Rattle.fish_lanes.specs.Running.{HasDone, IsEnded, IsFullItem}
+use Rattle.fish_lanes.specs.Spans.{IsWithinSpan, Span}
 use Rattle.fish_lanes.specs.Telling.{TellsLane}
 use Rattle.fish_lanes.specs.declared.lane.Lane.{Lane}
 use Rattle.fish_lanes.specs.declared.lane.Seated.{Seated}
@@ -39,12 +40,25 @@ use Rattle.fish_rule.specs.Views.{AllOf, Among}
 use Rattle.fish_rule.specs.Walking.{Always}
 use Rattle.fish_rule.specs.declared.view.Shut.{Shut}
 use Rattle.fish_rule.specs.World.{World, high, low}
+use Rattle.fish_registry.specs.declared.registrar.Registrar.{Registrar}
 use Rattle.fish_rule.specs.declared.table.Log.{Log}
 use Rattle.fish_rule.specs.declared.view.Key.{Key}
 use Rattle.fish_rule.specs.declared.view.Learned.{Learned}
 use Rattle.fish_rule.specs.declared.view.Own.{Own}
 use Rattle.fish_rule.specs.declared.view.View.{View}
-use Rattle.fish_walk.specs.Settling.{EndsAt, HasTail, OnlySettles}
+use Rattle.fish_walk.specs.Settling.{EndsAt, HasTail}
+
+-- ---- the end
+
+-- the second view is of the control pass a little later: it stored nothing
+pub record Closes (u t : View) : Type 0 where
+  pub learns : Learns u t
+  pub lane : t.lane ≡ u.lane
+  pub out : t.out ≡ u.out
+  pub idle : t.flight ≡ u.flight
+  pub epoch : t.epoch ≡ u.epoch
+  pub shut : t.shut ≡ u.shut
+  pub own : t.own ≡ u.own
 
 -- ---- places
 
@@ -101,6 +115,13 @@ ends_behind t to from s h less =
         absurd ((s.rule.settling.below to (omega arith) inside).unmarked
         (mark t (learns_self t) s.moment s.rule s.seat s.at))
 
+-- the control pass has counted up to the end
+pub counted_from : (v : View) (from : ℕ) → HasEnd v from → from ≤ v.learned.count
+counted_from v from h =
+    let a = h.counted in
+    ⊎_elim (λ (e : from ≡ h.count). omega arith)
+    (λ (n : (from < h.count) × TellsMark v from). let b = n.0 in omega arith) h.ends
+
 -- at most 16 numbers are claimed behind the end
 pub few_behind : (t : View) (to : ℕ) → Stands t → HasEnd t to → t.learned.count ≤ to + 16
 few_behind t to s h =
@@ -133,8 +154,8 @@ few_behind t to s h =
         let fits = r.limit.fits in
         absurd (omega arith)
 
-module _ (log : Log) (v m w : View) (first first' : Lane) (before given done after : List Lane)
-    (has_given : HasGiven v m (length before)) (seated : AreSeated log v before given) (run : HasRunFirst m w first first')
+module _ (log : Log) (v m w : View) (r q : Registrar) (first first' : Lane) (before given done after : List Lane)
+    (has_given : HasGiven v m (length before)) (seated : AreSeated log v before given) (run : HasRunFirst m w r q first first')
     (are_done : AreDone log given done) (size : length given ≡ length before) (size' : length done ≡ length given) where
   -- the statements of the lane at a place
   pub done_at : (i : ℕ) (y z : Lane) → slice_get given i ≡ Some y → slice_get done i ≡ Some z → HasDone log y z
@@ -193,13 +214,13 @@ module _ (log : Log) (v m w : View) (first first' : Lane) (before given done aft
       (learns_same v (view p.run_of.before.pass) (way_about i z p) (way_learned i z p)) (way_shut i z p) t)
 
   main_marks : IsShutTold v → IsShutTold w
-  main_marks t = run.run.gains.marks
+  main_marks t = run.controlled.run.gains.marks
       (marks_same v m (learns_same v m has_given.about has_given.learned) has_given.shut t)
 
   -- the passes may come back
   pub may_join : AreJoined log w done
   may_join =
-      let g = run.run.gains in
+      let g = run.controlled.run.gains in
       record {
         main = g.on.lane ∙ has_given.main;
         idle = g.idle;
@@ -230,7 +251,7 @@ module _ (log : Log) (v m w : View) (first first' : Lane) (before given done aft
 
   -- the statements have items, but for those behind a fault
   pub first_ended : IsEnded first'.works first'.items first'.fault
-  first_ended = subst (λ (z : List Work). IsEnded z first'.items first'.fault) (sym run.works) run.run.ended
+  first_ended = subst (λ (z : List Work). IsEnded z first'.items first'.fault) (sym run.works) run.controlled.run.ended
 
   pub others_ended : WereTaken done after → length after ≡ length done → AreEnded after
   others_ended were size'' i y at_y =
@@ -241,14 +262,14 @@ module _ (log : Log) (v m w : View) (first first' : Lane) (before given done aft
       subst (λ (q : List Work × List Item × LaneFault). IsEnded q.0 q.1 q.2)
       (λ j. ((sym p.run_of.works ∙ sym w'.works) j, sym w'.items j, sym w'.fault j)) p.run_of.run.ended
 
-  module _ (u t : View) (to : ℕ) (taken : HasTakenAll w u done (length done)) (settles : OnlySettles u t) (settled : to ≤ t.learned.settled)
-      (count : ℕ) (tail : HasTail t count) (ends : IsAlone u → EndsAt t to count) (were : WereTaken done after)
+  module _ (u t : View) (to : ℕ) (taken : HasTakenAll w u done (length done)) (settles : Closes u t) (settled : to ≤ t.learned.settled)
+      (count : ℕ) (tail : HasTail t count) (ends : EndsAt t to count) (were : WereTaken done after)
       (size'' : length after ≡ length done) (zero_is : v.about.number ≡ 0) (stands : Stands t) (known : IsShutTold v) where
     alone : IsAlone u
     alone = record { main = taken.main; all = none_out w u done taken; idle = taken.idle }
 
     start_learns : Learns v w
-    start_learns = learns_both v m w (learns_same v m has_given.about has_given.learned) run.run.gains.on.learns
+    start_learns = learns_both v m w (learns_same v m has_given.about has_given.learned) run.controlled.run.gains.on.learns
 
     end_learns : Learns w t
     end_learns = learns_both w u t taken.learns settles.learns
@@ -260,18 +281,18 @@ module _ (log : Log) (v m w : View) (first first' : Lane) (before given done aft
     pub has_end : HasEnd t to
     has_end = record {
       alone = record {
-        main = (ap (λ (z : View). z.lane) settles.frame) ∙ alone.main;
-        all = (ap (λ (z : View). z.out) settles.frame) ∙ alone.all;
-        idle = (ap (λ (z : View). z.flight) settles.frame) ∙ alone.idle;
+        main = settles.lane ∙ alone.main;
+        all = settles.out ∙ alone.all;
+        idle = settles.idle ∙ alone.idle;
       };
-      outside = (ap (λ (z : View). z.epoch) settles.frame) ∙ taken.outside;
+      outside = settles.epoch ∙ taken.outside;
       base = ap (λ (z : Key). z.number) all_learns.about ∙ zero_is;
       settled = settled;
       count = count;
       counted = (let e = tail.3 in omega arith);
       tail = tail;
-      ends = ends alone;
-      marks = λ s e. shut_told s (taken.shut s (sym (ap (λ (z : View). z.shut) settles.frame) ∙ e));
+      ends = ends;
+      marks = λ s e. shut_told s (taken.shut s (sym settles.shut ∙ e));
     }
       where
         shut_told : (s : Shut) → (w.shut ≡ Some s) ⊎ IsShutOfLane done (length done) s → Always t (IsMarkAt s.line s.lines)
@@ -298,7 +319,7 @@ module _ (log : Log) (v m w : View) (first first' : Lane) (before given done aft
     )
 
     pub first_marks : AllOf (IsMarkItem t) first'.items
-    first_marks = marks_items w first'.items end_learns (main_marks known) run.run.full
+    first_marks = marks_items w first'.items end_learns (main_marks known) run.controlled.run.full
 
     pub others_marks : NameMarks t after
     others_marks i y at =
@@ -314,15 +335,15 @@ module _ (log : Log) (v m w : View) (first first' : Lane) (before given done aft
 
     -- a record of its own is one of before, one of the first lane's rows, or one of another lane's
     own_cases : (o : Own) → Among o t.own
-        → (Among o v.own) ⊎ ((HasNumber o.number run.run.rows × (o.lane ≡ 1)) ⊎ IsOfLane done (length done) o)
+        → (Among o v.own) ⊎ ((HasNumber o.number run.controlled.run.rows × (o.lane ≡ 1)) ⊎ IsOfLane done (length done) o)
     own_cases o n =
-        let g = run.run.gains in
+        let g = run.controlled.run.gains in
         ⊎_elim (λ (k : Among o w.own).
         ⊎_elim (λ (k : Among o m.own). inl (has_given.own o k))
-        (λ (k : Among o (owned m.lane run.run.rows)).
-        let q = owned_number m.lane o run.run.rows k in inr (inl (q.0, q.1 ∙ has_given.main)))
-        (among_either o m.own (owned m.lane run.run.rows) (subst (Among o) g.own k)))
-        (λ (k : IsOfLane done (length done) o). inr (inr k)) (taken.own o (subst (Among o) (ap (λ (z : View). z.own) settles.frame) n))
+        (λ (k : Among o (owned m.lane run.controlled.run.rows)).
+        let q = owned_number m.lane o run.controlled.run.rows k in inr (inl (q.0, q.1 ∙ has_given.main)))
+        (among_either o m.own (owned m.lane run.controlled.run.rows) (subst (Among o) g.own k)))
+        (λ (k : IsOfLane done (length done) o). inr (inr k)) (taken.own o (subst (Among o) settles.own n))
 
     -- of another lane it is one of before, or one of the lane's rows
     lane_cases : (i : ℕ) (z : Lane) (p : Way i z) (seat : Seated) (o : Own) → z.seat ≡ Some seat
@@ -342,9 +363,9 @@ module _ (log : Log) (v m w : View) (first first' : Lane) (before given done aft
     is_later = record {
       learns = all_learns;
       gained = λ o n. ⊎_elim (λ (k : Among o v.own). inl k)
-          (λ (k : (HasNumber o.number run.run.rows × (o.lane ≡ 1)) ⊎ IsOfLane done (length done) o).
-          ⊎_elim (λ (q : HasNumber o.number run.run.rows × (o.lane ≡ 1)).
-          let up = has_above o.number m.learned.count w.learned.count run.run.rows run.run.gains.ascends q.0 in
+          (λ (k : (HasNumber o.number run.controlled.run.rows × (o.lane ≡ 1)) ⊎ IsOfLane done (length done) o).
+          ⊎_elim (λ (q : HasNumber o.number run.controlled.run.rows × (o.lane ≡ 1)).
+          let up = has_above o.number m.learned.count w.learned.count run.controlled.run.rows run.controlled.run.gains.ascends q.0 in
           let same : m.learned.count ≡ v.learned.count = ap (λ (z : Learned). z.count) has_given.learned in
           inr (omega arith)) (λ (q : IsOfLane done (length done) o). of_lane o q) k) (own_cases o n);
     }
@@ -360,76 +381,99 @@ module _ (log : Log) (v m w : View) (first first' : Lane) (before given done aft
             inr (omega arith)) (lane_cases q.place q.lane p q.seat o q.seat_is q.among)
 
     -- what a lane's items tell of its rows they tell of the rows that the log has of it
-    tells_rows : (first_version : ℕ) (x s : View) (number from : ℕ) (rows : List LaneRow) (works : List Work) (items : List Item)
-        → Learns s t → 1 ≤ number → number ≤ 16 → from ≤ to → from ≤ v.learned.count → Ascends v.learned.count rows s.learned.count
-        → AreTold s number rows
-        → ((o : Own) → Among o t.own → o.lane ≡ number → (o.number < from) ⊎ HasNumber o.number rows)
-        → Sure s (λ y l. TellsLane y first_version from to l rows works items)
-        → Will t (λ y l. TellsLane y first_version from to l (rows_of_lane l from to number) works items)
-    tells_rows first_version x s number from rows works items learns some_ few within counted up told all sure y remains base main
-        none later c =
-        let exact : rows_of_lane remains.log from to number ≡ rows =
-        will_rows t number from to v.learned.count s.learned.count rows stands has_end some_ few within counted
-        (told_later s t number rows learns told) up all y remains base main none later c in
-        subst (λ (z : List LaneRow). TellsLane y first_version from to remains.log z works items) (sym exact)
-        (sure_later s t (λ y l. TellsLane y first_version from to l rows works items) learns sure y remains base later.learns c)
+    tells_rows : (k : Span) (s : View) (number : ℕ) (rows : List LaneRow) (works : List Work) (items : List Item)
+        → Learns s t → 1 ≤ number → number ≤ 16 → k.to ≡ to → k.from ≤ k.to → k.from ≤ v.learned.count
+        → Ascends v.learned.count rows s.learned.count → AreTold s number rows
+        → ((o : Own) → Among o t.own → o.lane ≡ number → (o.number < k.from) ⊎ HasNumber o.number rows)
+        → Sure s (λ y l. TellsLane y k l rows works items)
+        → Will t (λ y l. TellsLane y k l (rows_of_lane l k.from k.to number) works items)
+    tells_rows k s number rows works items learns some_ few is within counted up told all sure y remains base main none later c =
+        let exact : rows_of_lane remains.log k.from k.to number ≡ rows =
+        will_rows t number k.from k.to v.learned.count s.learned.count rows stands (subst (HasEnd t) (sym is) has_end) some_ few
+        within counted (told_later s t number rows learns told) up all y remains base main none later c in
+        subst (λ (z : List LaneRow). TellsLane y k remains.log z works items) (sym exact)
+        (sure_later s t (λ y l. TellsLane y k l rows works items) learns sure y remains base later.learns c)
 
-    module _ (first_version from : ℕ) (reached : first_version ≤ v.learned.version) (start : HasEnd v from) (stood : Stands v) where
+    module _ (k : Span) (span : IsBlockSpan v t to k) (stood : Stands v) where
       version_given : m.learned.version ≡ v.learned.version
       version_given = ap (λ (z : Learned). z.version) has_given.learned
 
-      pub within : from ≤ to
-      within = (let a = start.settled in let b = all_learns.settled in ends_behind t to from stands has_end (omega arith))
+      pub within : k.from ≤ k.to
+      within =
+          let a = span.begins.settled in
+          let b = all_learns.settled in
+          let e = span.ends in
+          let less : k.from ≤ to = ends_behind t to k.from stands has_end (omega arith) in
+          omega arith
 
-      counted : from ≤ v.learned.count
-      counted = (let a = start.counted in
-          ⊎_elim (λ (e : from ≡ start.count). omega arith)
-          (λ (k : (from < start.count) × TellsMark v from). let b = k.0 in omega arith) start.ends)
+      counted : k.from ≤ v.learned.count
+      counted = counted_from v k.from span.begins
 
-      pub tells_first : Will t (TellsFirst first_version from to first')
+      -- a lane whose pass began with what the control pass knew, and came back, did its statements within the block
+      lane_within : (s e : View) → s.learned ≡ v.learned → Learns e t → IsWithinSpan s e k
+      lane_within s e same back =
+          let count : s.learned.count ≡ v.learned.count = ap (λ (z : Learned). z.count) same in
+          let settled_is : s.learned.settled ≡ v.learned.settled = ap (λ (z : Learned). z.settled) same in
+          let version : s.learned.version ≡ v.learned.version = ap (λ (z : Learned). z.version) same in
+          let few = few_behind t to stands has_end in
+          let first = span.first in
+          let last = span.last in
+          let ends_at = span.ends in
+          let known = counted in
+          let settled_v = span.begins.settled in
+          let version_e = back.version in
+          let count_e = back.count in
+          record {
+            first = omega arith;
+            last = omega arith;
+            settled = omega arith;
+            counted = omega arith;
+            near = omega arith;
+          }
+
+      pub tells_first : Will t (TellsFirst k first')
       tells_first =
-          let g = run.run.gains in
+          let run_first = run.controlled.run in
+          let g = run_first.gains in
           let same : m.learned.count ≡ v.learned.count = ap (λ (z : Learned). z.count) has_given.learned in
-          let settled_same : m.learned.settled ≡ v.learned.settled = ap (λ (z : Learned). z.settled) has_given.learned in
-          let a = start.settled in
-          subst (λ (z : List Work). Will t (λ y l. TellsLane y first_version from to l (rows_of_lane l from to 1) z first'.items))
+          subst (λ (z : List Work). Will t (λ y l. TellsLane y k l (rows_of_lane l k.from k.to 1) z first'.items))
           (sym run.works)
-          (tells_rows first_version m w 1 from run.run.rows first.works first'.items end_learns (omega arith) (omega arith) within counted
-          (subst (λ (z : ℕ). Ascends z run.run.rows w.learned.count) same g.ascends)
-          (subst (λ (z : ℕ). AreTold w z run.run.rows) has_given.main g.told)
-          (λ o n lane. ⊎_elim (λ (k : Among o v.own). inl (own_before v from o stood start k))
-          (λ (k : (HasNumber o.number run.run.rows × (o.lane ≡ 1)) ⊎ IsOfLane done (length done) o).
-          ⊎_elim (λ (q : HasNumber o.number run.run.rows × (o.lane ≡ 1)). inr q.0)
-          (λ (q : IsOfLane done (length done) o). absurd (
-          let p = way q.place q.lane q.lane_is in
-          ⊎_elim (λ (k : Among o v.own × (o.lane ≡ q.place + 2)). let e = k.1 in omega arith)
-          (λ (k : HasNumber o.number p.run_of.run.rows × (o.lane ≡ q.place + 2)). let e = k.1 in omega arith)
-          (lane_cases q.place q.lane p q.seat o q.seat_is q.among))) k) (own_cases o n))
-          (run.run.tells first_version from to (let e = version_given in omega arith) (omega arith) (let c = counted in omega arith)
-          (let few = few_behind t to stands has_end in let e = end_learns.count in omega arith)))
+          (tells_rows k w 1 run_first.rows first.works first'.items end_learns (omega arith) (omega arith) span.ends within counted
+          (subst (λ (z : ℕ). Ascends z run_first.rows w.learned.count) same g.ascends)
+          (subst (λ (z : ℕ). AreTold w z run_first.rows) has_given.main g.told)
+          (λ o n lane. ⊎_elim (λ (h : Among o v.own). inl (own_before v k.from o stood span.begins h))
+          (λ (h : (HasNumber o.number run_first.rows × (o.lane ≡ 1)) ⊎ IsOfLane done (length done) o).
+          ⊎_elim (λ (i : HasNumber o.number run_first.rows × (o.lane ≡ 1)). inr i.0)
+          (λ (i : IsOfLane done (length done) o). absurd (
+          let p = way i.place i.lane i.lane_is in
+          ⊎_elim (λ (j : Among o v.own × (o.lane ≡ i.place + 2)). let e = j.1 in omega arith)
+          (λ (j : HasNumber o.number p.run_of.run.rows × (o.lane ≡ i.place + 2)). let e = j.1 in omega arith)
+          (lane_cases i.place i.lane p i.seat o i.seat_is i.among))) h) (own_cases o n))
+          (run_first.tells k (lane_within m w has_given.learned end_learns)))
 
       -- what another lane has among the records of its number
-      others_all : (few : length before < 16) (i : ℕ) (z : Lane) (at : slice_get done i ≡ Some z) (p : Way i z) (o : Own)
-          → Among o t.own → o.lane ≡ i + 2 → (o.number < from) ⊎ HasNumber o.number p.run_of.run.rows
-      others_all few i z at p o n lane =
-          ⊎_elim (λ (k : Among o v.own). inl (own_before v from o stood start k))
-          (λ (k : (HasNumber o.number run.run.rows × (o.lane ≡ 1)) ⊎ IsOfLane done (length done) o).
-          ⊎_elim (λ (q : HasNumber o.number run.run.rows × (o.lane ≡ 1)). let e = q.1 in absurd (omega arith))
-          (λ (q : IsOfLane done (length done) o). here q (ℕ_discrete q.place i)) k) (own_cases o n)
+      others_all : (i : ℕ) (z : Lane) (at : slice_get done i ≡ Some z) (p : Way i z) (o : Own)
+          → Among o t.own → o.lane ≡ i + 2 → (o.number < k.from) ⊎ HasNumber o.number p.run_of.run.rows
+      others_all i z at p o n lane =
+          ⊎_elim (λ (h : Among o v.own). inl (own_before v k.from o stood span.begins h))
+          (λ (h : (HasNumber o.number run.controlled.run.rows × (o.lane ≡ 1)) ⊎ IsOfLane done (length done) o).
+          ⊎_elim (λ (q : HasNumber o.number run.controlled.run.rows × (o.lane ≡ 1)). let e = q.1 in absurd (omega arith))
+          (λ (q : IsOfLane done (length done) o). here q (ℕ_discrete q.place i)) h) (own_cases o n)
         where
-          here : (q : IsOfLane done (length done) o) → Dec (q.place ≡ i) → (o.number < from) ⊎ HasNumber o.number p.run_of.run.rows
+          here : (q : IsOfLane done (length done) o) → Dec (q.place ≡ i)
+              → (o.number < k.from) ⊎ HasNumber o.number p.run_of.run.rows
           here q (yes same) =
               let lane_same : q.lane ≡ z = some_once q.lane z (sym q.lane_is ∙ ap (slice_get done) same ∙ at) in
-              ⊎_elim (λ (k : Among o v.own × (o.lane ≡ i + 2)). inl (own_before v from o stood start k.0))
-              (λ (k : HasNumber o.number p.run_of.run.rows × (o.lane ≡ i + 2)). inr k.0)
+              ⊎_elim (λ (h : Among o v.own × (o.lane ≡ i + 2)). inl (own_before v k.from o stood span.begins h.0))
+              (λ (h : HasNumber o.number p.run_of.run.rows × (o.lane ≡ i + 2)). inr h.0)
               (lane_cases i z p q.seat o (ap (λ (x : Lane). x.seat) (sym lane_same) ∙ q.seat_is) q.among)
           here q (no ne) =
               let r = way q.place q.lane q.lane_is in
-              absurd (⊎_elim (λ (k : Among o v.own × (o.lane ≡ q.place + 2)). let e = k.1 in ne (omega arith))
-              (λ (k : HasNumber o.number r.run_of.run.rows × (o.lane ≡ q.place + 2)). let e = k.1 in ne (omega arith))
+              absurd (⊎_elim (λ (h : Among o v.own × (o.lane ≡ q.place + 2)). let e = h.1 in ne (omega arith))
+              (λ (h : HasNumber o.number r.run_of.run.rows × (o.lane ≡ q.place + 2)). let e = h.1 in ne (omega arith))
               (lane_cases q.place q.lane r q.seat o q.seat_is q.among))
 
-      pub tells_others : length before < 16 → Will t (TellsOthers first_version from to after)
+      pub tells_others : length before < 16 → Will t (TellsOthers k after)
       tells_others few x remains base main none later c i y at =
           let less = slice_get_within after i y at in
           let z = get_there done i (omega arith) in
@@ -440,18 +484,13 @@ module _ (log : Log) (v m w : View) (first first' : Lane) (before given done aft
           let lane = way_lane i z.0 p in
           let same : (view p.run_of.before.pass).learned.count ≡ v.learned.count =
           ap (λ (x : Learned). x.count) (way_learned i z.0 p) in
-          let settled_same : (view p.run_of.before.pass).learned.settled ≡ v.learned.settled =
-          ap (λ (x : Learned). x.settled) (way_learned i z.0 p) in
-          let a = start.settled in
           let back : Learns (view s.pass) t = learns_both (view s.pass) u t
           (taken.learned i z.0 s (omega arith) z.1 p.run_of.after_is) settles.learns in
-          subst (λ (q : List Work × List Item). TellsLane x first_version from to remains.log (rows_of_lane remains.log from to
-          (i + 2)) q.0 q.1)
+          subst (λ (q : List Work × List Item). TellsLane x k remains.log (rows_of_lane remains.log k.from k.to (i + 2)) q.0 q.1)
           (λ j. ((sym p.run_of.works ∙ sym w'.works) j, sym w'.items j))
-          (tells_rows first_version v (view s.pass) (i + 2) from p.run_of.run.rows p.mid.works z.0.items back (omega arith) (omega arith)
+          (tells_rows k (view s.pass) (i + 2) p.run_of.run.rows p.mid.works z.0.items back (omega arith) (omega arith) span.ends
           within counted (subst (λ (x : ℕ). Ascends x p.run_of.run.rows (view s.pass).learned.count) same g.ascends)
           (subst (λ (x : ℕ). AreTold (view s.pass) x p.run_of.run.rows) lane g.told)
-          (others_all few i z.0 z.1 p) (p.run_of.run.tells first_version from to
-          (let e = ap (λ (x : Learned). x.version) (way_learned i z.0 p) in omega arith) (omega arith) (let d = counted in omega arith)
-          (let few = few_behind t to stands has_end in let e = back.count in omega arith)) x remains
-          base main none later c)
+          (others_all i z.0 z.1 p)
+          (p.run_of.run.tells k (lane_within (view p.run_of.before.pass) (view s.pass) (way_learned i z.0 p) back))
+          x remains base main none later c)

@@ -1,11 +1,14 @@
 -- The first lane of a block, and the others.
 use Rattle.std.proofs.Common.{◌≡◌, ℕ, ◌+◌, zero, suc, List, [], ◌∷◌, ◌++◌, get_or, set, take, drop, refl, subst, arith, Some, slice_get}
+use Rattle.std.specs.Prelude.{All}
 use Rattle.fish_catalog.specs.declared.entry.Entry.{Entry}
 use Rattle.fish_lanes.proofs.Lists.{some_once}
 use Rattle.fish_lanes.specs.Blocks.{AreEnded, AreLanes, CanGive, IsMarkItem, IsNewLane, NameMarks, TellsFirst, TellsOthers}
 use Rattle.fish_lanes.specs.Ending.{HasEnd}
 use Rattle.fish_lanes.specs.Records.{rows_of_lane}
+use Rattle.fish_lanes.specs.Registering.{IsAcceptable}
 use Rattle.fish_lanes.specs.Running.{IsEnded}
+use Rattle.fish_lanes.specs.Spans.{Span}
 use Rattle.fish_lanes.specs.Telling.{TellsLane}
 use Rattle.fish_lanes.specs.declared.lane.Lane.{Lane}
 use Rattle.fish_rule.specs.Views.{AllOf}
@@ -15,6 +18,17 @@ use Rattle.fish_rule.specs.declared.view.View.{View}
 pub first_new : (lanes : List Lane) (d : Lane) → AreLanes lanes → IsNewLane 1 (get_or (take 1 lanes) 0 d)
 first_new [] d h = (let some_ = h.some in absurd (omega arith))
 first_new (x ∷ lanes) d h = h.new 0 x refl
+
+-- its statements are acceptable
+pub first_acceptable : (lanes : List Lane) (d : Lane) → AreLanes lanes → All IsAcceptable (get_or (take 1 lanes) 0 d).works
+first_acceptable [] d h = (let some_ = h.some in absurd (omega arith))
+first_acceptable (x ∷ lanes) d h = h.acceptable x refl
+
+-- what is so of it is so of whoever stands first
+pub first_there : (P : Lane → Type 0) (x : Lane) (lanes others : List Lane) → AreLanes lanes → P x → (z : Lane)
+    → slice_get (set (take 1 lanes) 0 x ++ others) 0 ≡ Some z → P z
+first_there P x [] others h p z at = (let some_ = h.some in absurd (omega arith))
+first_there P x (y ∷ lanes) others h p z at = subst P (some_once x z at) p
 
 -- and the others
 pub others_new : (v : View) (from : ℕ) (lanes : List Lane) → HasEnd v from → AreLanes lanes → CanGive v (drop 1 lanes)
@@ -27,18 +41,19 @@ others_new v from (x ∷ lanes) e h = record {
   base = e.base;
   few = (let few = h.few in omega arith);
   new = λ i y at. subst (λ (n : ℕ). IsNewLane n y) (let same : suc i + 1 ≡ i + 2 = omega arith in same) (h.new (suc i) y at);
+  free = λ i y at. h.free (suc i) y (omega arith) at;
 }
 
 -- what both tell is told of all
-pub tells_both : (first from to : ℕ) (x : Lane) (lanes others : List Lane) (v : View) (log : List Entry) → AreLanes lanes
-    → TellsFirst first from to x v log → TellsOthers first from to others v log
+pub tells_both : (s : Span) (x : Lane) (lanes others : List Lane) (v : View) (log : List Entry) → AreLanes lanes
+    → TellsFirst s x v log → TellsOthers s others v log
     → (i : ℕ) (z : Lane) → slice_get (set (take 1 lanes) 0 x ++ others) i ≡ Some z
-    → TellsLane v first from to log (rows_of_lane log from to (i + 1)) z.works z.items
-tells_both first from to x [] others v log h here rest i z at = (let some_ = h.some in absurd (omega arith))
-tells_both first from to x (y ∷ lanes) others v log h here rest zero z at =
-    subst (λ (w : Lane). TellsFirst first from to w v log) (some_once x z at) here
-tells_both first from to x (y ∷ lanes) others v log h here rest (suc i) z at =
-    subst (λ (n : ℕ). TellsLane v first from to log (rows_of_lane log from to n) z.works z.items)
+    → TellsLane v s log (rows_of_lane log s.from s.to (i + 1)) z.works z.items
+tells_both s x [] others v log h here rest i z at = (let some_ = h.some in absurd (omega arith))
+tells_both s x (y ∷ lanes) others v log h here rest zero z at =
+    subst (λ (w : Lane). TellsFirst s w v log) (some_once x z at) here
+tells_both s x (y ∷ lanes) others v log h here rest (suc i) z at =
+    subst (λ (n : ℕ). TellsLane v s log (rows_of_lane log s.from s.to n) z.works z.items)
     (let same : i + 2 ≡ suc i + 1 = omega arith in same) (rest i z at)
 
 -- and the same of marks

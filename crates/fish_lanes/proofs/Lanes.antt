@@ -1,12 +1,13 @@
 -- The lanes of a block, one after the other.
 use Rattle.std.proofs.Common.{◌≡◌, ℕ, ◌+◌, ◌<◌, ◌≤◌, List, [], ◌∷◌, ◌++◌, length, refl, sym, ap, ◌∙◌, subst, inl, inr}
-use Rattle.std.proofs.Common.{◌⊎◌, ⊎_elim, arith, Option, Some, None, slice_get}
+use Rattle.std.proofs.Common.{◌⊎◌, ⊎_elim, arith, All, Option, Some, None, slice_get}
 use Rattle.std.proofs.Math.Decide.{ℕ_discrete, dec_lt}
 use Rattle.fish_ingest.specs.Ingestion.{CanStart}
+use Rattle.fish_lanes.proofs.Keeping.{keeps_self}
 use Rattle.fish_lanes.proofs.Lists.{empty_list, some_once}
 use Rattle.fish_lanes.specs.Blocks.{AreJoined, CanGive, CanTake, HasGiven, HasSeat, HasTakenAll, HasTakenSeat, IsBack}
 use Rattle.fish_lanes.specs.Blocks.{IsNewLane, IsOfLane, IsSeated, IsShutOfLane}
-use Rattle.fish_lanes.specs.Running.{CanBegin, HasDone, IsReady}
+use Rattle.fish_lanes.specs.Running.{CanBegin, HasDone, IsFree, IsReady}
 use Rattle.fish_lanes.specs.declared.lane.Lane.{Lane}
 use Rattle.fish_lanes.specs.declared.lane.Seated.{Seated}
 use Rattle.fish_rule.proofs.Common.{among_either}
@@ -31,6 +32,7 @@ given_none v lanes h = record {
   about = refl;
   learned = refl;
   shut = refl;
+  registry = keeps_self v;
   own = λ o m. m;
   out_of = λ l m. elim (subst (Among l) h.all m) [ ];
   all_out = λ l above below. absurd (omega arith);
@@ -53,6 +55,7 @@ given_more v m u i l at h e = subst (λ (z : View). HasGiven v z (i + 1)) (sym e
   about = h.about;
   learned = h.learned;
   shut = h.shut;
+  registry = record { rows = h.registry.rows; draft = h.registry.draft; round = h.registry.round };
   own = λ o n. h.own o (off_lane_sound l o m.own n).0;
   out_of = λ x n. ⊎_elim (λ (s : l ≡ x). (omega arith, omega arith))
       (λ (s : Among x m.out). let b = h.out_of x s in let p = b.0 in let q = b.1 in (p, omega arith)) n;
@@ -85,13 +88,14 @@ seated_by log v m i l x y at h s = record {
 
 -- a lane that got a pass may begin
 pub seated_ready : (log : Log) (v : View) (i : ℕ) (x y : Lane) → v.about.number ≡ 0 → IsNewLane (i + 2) x
-    → IsSeated log v i x y → IsReady log y
-seated_ready log v i x y base new s = record {
+    → All IsFree x.works → IsSeated log v i x y → IsReady log y
+seated_ready log v i x y base new free s = record {
   seat = s.seat;
   seat_is = ap (λ (z : Lane). z.seat) s.is;
   can = s.can;
   base = ap (λ (z : Key). z.number) s.about ∙ base;
   empty = ap (λ (z : Lane). z.items) s.is ∙ new.empty;
+  free = subst (λ (z : Lane). All IsFree z.works) (sym s.is) free;
 }
 
 -- the pass of a lane that is ready
@@ -120,6 +124,7 @@ taken_none log m lanes h = record {
   idle = h.idle;
   outside = h.outside;
   learns = learns_self m;
+  registry = keeps_self m;
   learned = λ i x s below. absurd (omega arith);
   own = λ o n. inl n;
   shut = λ s n. inl n;
@@ -160,6 +165,11 @@ taken_more log m u t lanes i x joined h at by =
       idle = ap (λ (z : View). z.flight) e ∙ h.idle;
       outside = ap (λ (z : View). z.epoch) e ∙ h.outside;
       learns = learns_both m u t h.learns s.learns;
+      registry = record {
+        rows = ap (λ (z : View). z.rows) e ∙ h.registry.rows;
+        draft = ap (λ (z : View). z.draft) e ∙ h.registry.draft;
+        round = ap (λ (z : View). z.round) e ∙ h.registry.round;
+      };
       learned = λ j y seat below at_y seat_y. pick j y seat below at_y seat_y (dec_lt j i);
       own = λ o n. ⊎_elim
           (λ (n : Among o u.own). ⊎_elim (λ (k : Among o m.own). inl k)

@@ -1,5 +1,7 @@
 -- Lanes at their places.
-use Rattle.std.proofs.Common.{◌≡◌, ◌≢◌, ℕ, ◌<◌, zero, suc, List, [], ◌∷◌, length, set, get_or, refl, ap, inl, arith, Some, slice_get}
+use Rattle.std.proofs.Common.{◌≡◌, ◌≢◌, ℕ, ◌<◌, zero, suc, List, [], ◌∷◌, ◌++◌, length, set, get_or, refl, ap, inl, arith, Some}
+use Rattle.std.proofs.Common.{slice_get, sym, ◌∙◌, Bool, true, false}
+use Rattle.std.specs.Prelude.{filter}
 use Rattle.std.proofs.lemmas.Option.{slice_get_read}
 use Rattle.fish_rule.specs.Views.{Among}
 
@@ -27,3 +29,31 @@ empty_list (x ∷ xs) none = absurd (none x (inl refl))
 -- an element that was read is at its place
 pub read_at : {A : Type 0} (xs : List A) (i : ℕ) (x : A) → i < length xs → x ≡ get_or xs i x → slice_get xs i ≡ Some x
 read_at xs i x less is = slice_get_read xs (length xs) i x refl less is
+
+-- ---- filtered lists
+
+module _ {A : Type 0} (p : A → Bool) where
+  pub filter_first : (x : A) (xs : List A) → p x ≡ true → filter p (x ∷ xs) ≡ x ∷ filter p xs
+  filter_first x xs is = rw is
+
+  pub filter_skip : (x : A) (xs : List A) → p x ≡ false → filter p (x ∷ xs) ≡ filter p xs
+  filter_skip x xs is = rw is
+
+  pub filter_last : (xs : List A) (x : A) → p x ≡ true → filter p (xs ++ x ∷ []) ≡ filter p xs ++ x ∷ []
+  filter_last [] x is = rw is
+  filter_last (y ∷ xs) x is = by (p y) refl (filter_last xs x is)
+    where
+      by : (b : Bool) → p y ≡ b → filter p (xs ++ x ∷ []) ≡ filter p xs ++ x ∷ []
+          → filter p (y ∷ (xs ++ x ∷ [])) ≡ filter p (y ∷ xs) ++ x ∷ []
+      by true e rest = filter_first y (xs ++ x ∷ []) e ∙ ap (λ (z : List A). y ∷ z) rest
+          ∙ ap (λ (z : List A). z ++ x ∷ []) (sym (filter_first y xs e))
+      by false e rest = filter_skip y (xs ++ x ∷ []) e ∙ rest
+          ∙ ap (λ (z : List A). z ++ x ∷ []) (sym (filter_skip y xs e))
+
+  pub filter_other : (xs : List A) (x : A) → p x ≡ false → filter p (xs ++ x ∷ []) ≡ filter p xs
+  filter_other [] x is = rw is
+  filter_other (y ∷ xs) x is = by (p y) refl (filter_other xs x is)
+    where
+      by : (b : Bool) → p y ≡ b → filter p (xs ++ x ∷ []) ≡ filter p xs → filter p (y ∷ (xs ++ x ∷ [])) ≡ filter p (y ∷ xs)
+      by true e rest = filter_first y (xs ++ x ∷ []) e ∙ ap (λ (z : List A). y ∷ z) rest ∙ sym (filter_first y xs e)
+      by false e rest = filter_skip y (xs ++ x ∷ []) e ∙ rest ∙ sym (filter_skip y xs e)

@@ -14,10 +14,12 @@ use Rattle.fish_ingest.specs.declared.refusal.IngestRefusal.TheVariants as refus
 use Rattle.fish_json.specs.Lines as json
 use Rattle.fish_json.specs.Reading.{record_of}
 use Rattle.fish_lanes.proofs.Gaining.{full_by, gains_both, gains_left, gains_one, gains_self, keeps_refused, marks_refused, marks_same}
+use Rattle.fish_lanes.proofs.Keeping.{keeps_both, keeps_ingests, keeps_self}
 use Rattle.fish_lanes.proofs.RowLists.{contents_append}
 use Rattle.fish_lanes.specs.Doing.{GainsFirst, IsItem, IsPart}
 use Rattle.fish_lanes.specs.Gains.{Gains}
 use Rattle.fish_lanes.specs.Records.{Content, contents}
+use Rattle.fish_lanes.specs.Registering.{KeepsRegistry}
 use Rattle.fish_lanes.specs.Storing.{EndsWith, FindsFull, IsFullAt, IsPartStored, IsStoredUpTo, TakesLine}
 use Rattle.fish_lanes.specs.Storing.{item_of, nothing, one_refused, one_stored}
 use Rattle.fish_lanes.specs.Telling.{AreCounted, all_of}
@@ -84,6 +86,7 @@ stored_none v form outs tally outside idle none = record {
   parts = refl;
   rows = [];
   gains = gains_self v outside idle;
+  registry = keeps_self v;
   content = refl;
   counted = record {
     stored_is = ap (λ (z : Tally). z.stored) none;
@@ -108,6 +111,7 @@ module _ (v u t : View) (form : Form) (outs behind : List (Option (List ℕ))) (
     parts = h.parts ∙ sym (append_assoc h.front (Some payload ∷ []) behind);
     rows = h.rows ++ record { number = number; form = form; payload = payload } ∷ [];
     gains = gains_both v u t h.rows _ h.gains (gains_one u t form payload number done);
+    registry = keeps_both v u t h.registry (keeps_ingests u t done.on);
     content = contents_append h.rows _ ∙ ap (λ (z : List Content). z ++ (form, payload) ∷ []) h.content
         ∙ sym (ap (all_of form) (accepted_append h.front (Some payload ∷ []))
         ∙ all_append form (accepted h.front) (payload ∷ []));
@@ -122,13 +126,14 @@ module _ (v u t : View) (form : Form) (outs behind : List (Option (List ℕ))) (
   }
 
   -- or none
-  pub stored_none_more : IsStoredUpTo v u form outs (None ∷ behind) tally → Gains u t [] → after ≡ one_refused tally
-      → IsStoredUpTo v t form outs behind after
-  stored_none_more h gains is = record {
+  pub stored_none_more : IsStoredUpTo v u form outs (None ∷ behind) tally → Gains u t [] → KeepsRegistry u t
+      → after ≡ one_refused tally → IsStoredUpTo v t form outs behind after
+  stored_none_more h gains keeps is = record {
     front = h.front ++ None ∷ [];
     parts = h.parts ∙ sym (append_assoc h.front (None ∷ []) behind);
     rows = h.rows ++ [];
     gains = gains_both v u t h.rows [] h.gains gains;
+    registry = keeps_both v u t h.registry keeps;
     content = ap contents (append-nil h.rows) ∙ h.content
         ∙ sym (ap (all_of form) (accepted_append h.front (None ∷ []) ∙ append-nil (accepted h.front)));
     counted = record {
@@ -146,12 +151,13 @@ gains_unclaimed v u h = gains_left v u h.left (λ s e. h.shut ∙ e) (marks_same
 
 -- what stands after a pass that gained nothing
 pub stored_later : (v u t : View) (form : Form) (outs behind : List (Option (List ℕ))) (tally : Tally) → Gains u t []
-    → IsStoredUpTo v u form outs behind tally → IsStoredUpTo v t form outs behind tally
-stored_later v u t form outs behind tally gains h = record {
+    → KeepsRegistry u t → IsStoredUpTo v u form outs behind tally → IsStoredUpTo v t form outs behind tally
+stored_later v u t form outs behind tally gains keeps h = record {
   front = h.front;
   parts = h.parts;
   rows = h.rows ++ [];
   gains = gains_both v u t h.rows [] h.gains gains;
+  registry = keeps_both v u t h.registry keeps;
   content = ap contents (append-nil h.rows) ∙ h.content;
   counted = h.counted;
 }
@@ -167,7 +173,7 @@ stored_line v u t form outs behind payload outcome tally after some none h (inl 
 stored_line v u t form outs behind payload outcome tally after some none h (inr left) =
     stored_none_more v u t form outs behind tally after
     (subst (λ (z : Option (List ℕ)). IsStoredUpTo v u form outs (z ∷ behind) tally) (none left.0) h)
-    (gains_unclaimed u t left.1) left.2
+    (gains_unclaimed u t left.1) (keeps_ingests u t left.1.left.on) left.2
 
 -- a line that found the log full
 pub full_line : (v u t : View) (form : Form) (outs behind : List (Option (List ℕ))) (payload : List ℕ) (outcome : Option (List ℕ))
@@ -182,7 +188,7 @@ full_line v u t form outs behind payload outcome tally after shut stands some h 
       payload = payload;
       rest = behind;
       stored = subst (λ (z : Tally). IsStoredUpTo v t form outs (Some payload ∷ behind) z) (sym f.2)
-          (stored_later v u t form outs (Some payload ∷ behind) tally gains
+          (stored_later v u t form outs (Some payload ∷ behind) tally gains (keeps_ingests u t is.left.on)
           (subst (λ (z : Option (List ℕ)). IsStoredUpTo v u form outs (z ∷ behind) tally) (some f.0) h));
       full = full_by t shut.line shut.lines shut.end stands is.shut_is;
     }
@@ -191,6 +197,7 @@ full_line v u t form outs behind payload outcome tally after shut stands some h 
 pub stored_first : (v u : View) (form : Form) (outs behind : List (Option (List ℕ))) (tally : Tally)
     → IsStoredUpTo v u form outs behind tally → GainsFirst v u (all_of form (accepted outs)) tally.stored
 stored_first v u form outs behind tally h = record {
+  registry = h.registry;
   rows = h.rows;
   gains = h.gains;
   first = h.content ∙ sym (take_front form (accepted h.front) (accepted behind))
@@ -284,4 +291,4 @@ file_part v u form header name file h = (h.1.stored, stored_first v u form (outc
 
 -- nothing of it is one too
 pub nothing_part : (v : View) (w : Work) → v.epoch ≡ Out → v.flight ≡ None → IsPart v v w
-nothing_part v w outside idle = (0, record { rows = []; gains = gains_self v outside idle; first = refl })
+nothing_part v w outside idle = (0, record { registry = keeps_self v; rows = []; gains = gains_self v outside idle; first = refl })

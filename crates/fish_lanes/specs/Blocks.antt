@@ -1,9 +1,15 @@
 -- The lanes of a block: how the control pass gives each its pass, what they do, and how it takes the passes back.
-use Rattle.std.specs.Prelude.{ℕ, ◌≡◌, ◌⊎◌, ◌+◌, ◌<◌, ◌≤◌, List, [], All, length, slice_get, slice_index_or, Some, None}
+use Rattle.std.specs.Prelude.{ℕ, ◌≡◌, ◌⊎◌, ◌+◌, ◌++◌, ◌<◌, ◌≤◌, List, [], All, length, slice_get, slice_index_or, Some, None}
 use Rattle.fish_catalog.specs.declared.entry.Entry.{Entry}
-use Rattle.fish_ingest.specs.Ingestion.{CanStart}
+use Rattle.fish_lanes.specs.Controlling.{HasControlled, bound_items}
+use Rattle.fish_lanes.specs.Ending.{HasEnd}
+use Rattle.fish_lanes.specs.declared.block.BlockEnd.{BlockEnd}
+use Rattle.fish_lanes.specs.declared.work.LaneFault.TheVariants as cause
+use Rattle.fish_registry.specs.declared.registrar.Registrar.{Registrar}
 use Rattle.fish_lanes.specs.Records.{rows_of_lane}
-use Rattle.fish_lanes.specs.Running.{CanBegin, HasDone, HasRun, IsEnded, IsReady}
+use Rattle.fish_lanes.specs.Registering.{AreSo, IsAcceptable, KeepsRegistry, KnowsEach, KnowsRegistry, after_all, registry_of}
+use Rattle.fish_lanes.specs.Running.{CanBegin, HasDone, IsEnded, IsFree, IsReady}
+use Rattle.fish_lanes.specs.Spans.{Span}
 use Rattle.fish_lanes.specs.Telling.{TellsLane}
 use Rattle.fish_lanes.specs.declared.lane.Lane.{Lane}
 use Rattle.fish_lanes.specs.declared.lane.Seated.{Seated}
@@ -39,11 +45,13 @@ pub record IsNewLane (number : ℕ) (x : Lane) : Type 0 where
   pub number_is : x.number ≡ number
   pub empty : x.items ≡ []
 
--- there are 1 to 16 lanes, with the numbers from 1 on
+-- there are 1 to 16 lanes, with the numbers from 1 on; the first alone may change definitions, as a registrar asks
 pub record AreLanes (lanes : List Lane) : Type 0 where
   pub some : 1 ≤ length lanes
   pub few : length lanes ≤ 16
   pub new : At (λ i x. IsNewLane (i + 1) x) lanes
+  pub acceptable : (x : Lane) → slice_get lanes 0 ≡ Some x → All IsAcceptable x.works
+  pub free : (i : ℕ) (x : Lane) → 0 < i → slice_get lanes i ≡ Some x → All IsFree x.works
 
 -- ---- passes for the lanes from 2 on
 
@@ -63,6 +71,7 @@ pub record CanGive (v : View) (lanes : List Lane) : Type 0 where
   pub base : v.about.number ≡ 0
   pub few : length lanes < 16
   pub new : At (λ i x. IsNewLane (i + 2) x) lanes
+  pub free : At (λ i x. All IsFree x.works) lanes
 
 -- it gave out the lanes from 2 on, so many, and is else as it was
 pub record HasGiven (v m : View) (many : ℕ) : Type 0 where
@@ -72,6 +81,7 @@ pub record HasGiven (v m : View) (many : ℕ) : Type 0 where
   pub about : m.about ≡ v.about
   pub learned : m.learned ≡ v.learned
   pub shut : m.shut ≡ v.shut
+  pub registry : KeepsRegistry v m
   pub own : (o : Own) → Among o m.own → Among o v.own
   pub out_of : (l : ℕ) → Among l m.out → (2 ≤ l) × (l < many + 2)
   pub all_out : (l : ℕ) → 2 ≤ l → l < many + 2 → Among l m.out
@@ -99,14 +109,15 @@ pub record AreDone (log : Log) (old new : List Lane) : Type 0 where
   pub each : (i : ℕ) (d : Lane) → i < length old → HasDone log (slice_index_or old i d) (slice_index_or new i d)
 
 -- the control pass may do the statements of the first lane
-pub record IsFirst (v : View) (x : Lane) : Type 0 where
-  pub start : CanStart v
+pub record IsFirst (v : View) (r : Registrar) (x : Lane) : Type 0 where
   pub base : v.about.number ≡ 0
+  pub known : KnowsRegistry v (registry_of v r)
+  pub acceptable : All IsAcceptable x.works
   pub empty : x.items ≡ []
 
 -- it did them
-pub record HasRunFirst (v u : View) (x y : Lane) : Type 0 where
-  pub run : HasRun v u x.works y.items y.fault
+pub record HasRunFirst (v u : View) (r s : Registrar) (x y : Lane) : Type 0 where
+  pub controlled : HasControlled v u r s x.works y.items y.fault
   pub works : y.works ≡ x.works
   pub number : y.number ≡ x.number
 
@@ -183,6 +194,7 @@ pub record HasTakenAll (m u : View) (lanes : List Lane) (many : ℕ) : Type 0 wh
   pub idle : u.flight ≡ None
   pub outside : u.epoch ≡ Out
   pub learns : Learns m u
+  pub registry : KeepsRegistry m u
   pub learned : (i : ℕ) (x : Lane) (seat : Seated) → i < many → slice_get lanes i ≡ Some x → x.seat ≡ Some seat
       → Learns (view seat.pass) u
   pub own : (o : Own) → Among o u.own → Among o m.own ⊎ IsOfLane lanes many o
@@ -192,18 +204,37 @@ pub record HasTakenAll (m u : View) (lanes : List Lane) (many : ℕ) : Type 0 wh
 
 -- ---- afterwards
 
--- what a block that began at a version tells of the one log: each lane's items, of its records from one number up to another
-abbrev pub TellsBlock : View → ℕ → List Entry → ℕ → ℕ → List Lane → Type 0
-TellsBlock v first log from to lanes =
-    At (λ i x. TellsLane v first from to log (rows_of_lane log from to (i + 1)) x.works x.items) lanes
+-- the block lies between the log's end before it and behind it, and between the versions there
+pub record IsBlockSpan (v t : View) (to : ℕ) (s : Span) : Type 0 where
+  pub begins : HasEnd v s.from
+  pub ends : s.to ≡ to
+  pub first : s.first ≤ v.learned.version
+  pub last : t.learned.version ≤ s.last
+
+-- what a block tells of the one log: each lane's items, of its records between the two ends
+abbrev pub TellsBlock : View → Span → List Entry → List Lane → Type 0
+TellsBlock v s log lanes = At (λ i x. TellsLane v s log (rows_of_lane log s.from s.to (i + 1)) x.works x.items) lanes
 
 -- the same of the first lane, and of the others
-abbrev pub TellsFirst : ℕ → ℕ → ℕ → Lane → View → List Entry → Type 0
-TellsFirst first from to x v log = TellsLane v first from to log (rows_of_lane log from to 1) x.works x.items
+abbrev pub TellsFirst : Span → Lane → View → List Entry → Type 0
+TellsFirst s x v log = TellsLane v s log (rows_of_lane log s.from s.to 1) x.works x.items
 
-abbrev pub TellsOthers : ℕ → ℕ → ℕ → List Lane → View → List Entry → Type 0
-TellsOthers first from to lanes v log =
-    At (λ i x. TellsLane v first from to log (rows_of_lane log from to (i + 2)) x.works x.items) lanes
+abbrev pub TellsOthers : Span → List Lane → View → List Entry → Type 0
+TellsOthers s lanes v log = At (λ i x. TellsLane v s log (rows_of_lane log s.from s.to (i + 2)) x.works x.items) lanes
+
+-- the items that tell of the definitions: those of the first lane, and the boundary that was found once the lanes had ended
+abbrev pub control_items : Lane → BlockEnd → List Item
+control_items x end = x.items ++ bound_items end.bound
+
+-- its items are so where they stand; unless the first lane stopped at a fault, the definitions are those that these items
+-- tell; and none waits for its boundary
+pub record HasRegistered (v t : View) (r s : Registrar) (x : Lane) (end : BlockEnd) : Type 0 where
+  pub so : (k : Span) → IsBlockSpan v t end.to k → AreSo k.from (k.to + 16) (registry_of v r) x.items
+  pub whole : x.fault ≡ cause.None → (k : Span) → IsBlockSpan v t end.to k
+      → AreSo k.from (k.to + 16) (registry_of v r) (control_items x end)
+  pub is : x.fault ≡ cause.None → registry_of t s ≡ after_all (registry_of v r) (control_items x end)
+  pub each : x.fault ≡ cause.None → KnowsEach t (registry_of v r) (control_items x end)
+  pub settled : s.waiting ≡ None
 
 -- an item that was refused since the log is full names a mark, and the log's end
 abbrev pub IsMarkItem : View → Item → Type 0

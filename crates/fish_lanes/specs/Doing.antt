@@ -2,8 +2,11 @@
 use Rattle.std.specs.Prelude.{ℕ, ◌≡◌, ◌⊎◌, ◌≤◌, List, Option, Some, None, length, take}
 use Rattle.fish_epoch.specs.Definitions.{version_of}
 use Rattle.fish_epoch.specs.declared.definitions.Known.{Known}
+use Rattle.fish_lang.specs.Canonical.{definition_text}
+use Rattle.fish_lang.specs.Definition.{definition_of}
 use Rattle.fish_lanes.specs.Gains.{Gains, IsFullBy}
 use Rattle.fish_lanes.specs.Records.{Content, LaneRow, contents}
+use Rattle.fish_lanes.specs.Registering.{IsDeregisterItem, IsRegisterItem, KeepsRegistry}
 use Rattle.fish_lanes.specs.Telling.{AreCountedUpTo, TellsStored, TellsTooLong, content_of, count_of}
 use Rattle.fish_lanes.specs.declared.work.Work.{Work}
 use Rattle.fish_lanes.specs.declared.work.Work.TheVariants as work
@@ -23,8 +26,9 @@ use Rattle.fish_scan.specs.declared.refusal.ScanRefusal.TheVariants as refusal
 use Rattle.fish_value.specs.Limits.{longest_file}
 use Rattle.fish_value.specs.declared.row.Row.{Row}
 
--- the pass gained the first so many of these
+-- the pass gained the first so many of these, and the definitions are the same
 pub record GainsFirst (v u : View) (all : List Content) (count : ℕ) : Type 0 where
+  pub registry : KeepsRegistry v u
   pub rows : List LaneRow
   pub gains : Gains v u rows
   pub first : contents rows ≡ take count all
@@ -125,6 +129,8 @@ pub record FitsCheckpoint (v u : View) (x : Item) : Type 0 where
 
 -- the item fits the statement, and what it tells of its pass is so
 abbrev pub IsFit : View → View → Work → Item → Type 0
+IsFit v u (work.Register name def) x = IsRegisterItem name (definition_text (definition_of def)) x
+IsFit v u (work.Deregister name) x = IsDeregisterItem name x
 IsFit v u (work.Ingest form header name file) x = TellsStored (outcomes form header file) name file x
     ⊎ (FitsFull u (outcomes form header file) name file x ⊎ TellsTooLong name file x)
 IsFit v u (work.Scan ask) x = FitsScanned v u ask x ⊎ FitsRefused v u ask item.ScanRefused x

@@ -1,13 +1,16 @@
 pub mod Blocks
 pub mod Closing
+pub mod Controlling
 pub mod Doing
 pub mod Ending
 pub mod Gains
 pub mod Published
 pub mod Records
+pub mod Registering
 pub mod Running
 pub mod Runs
 pub mod Scanning
 pub mod Seen
+pub mod Spans
 pub mod Storing
 pub mod Telling

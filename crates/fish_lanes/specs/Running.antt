@@ -1,15 +1,17 @@
 -- What a lane asks of its pass, and what it leaves.
-use Rattle.std.specs.Prelude.{ℕ, ◌≡◌, ◌≢◌, ◌+◌, ◌<◌, ◌≤◌, List, [], length, Some}
+use Rattle.std.specs.Prelude.{ℕ, ◌≡◌, ◌≢◌, ◌<◌, All, List, [], length, Some, ⊤}
 use Rattle.fish_ingest.specs.Ingestion.{CanStart}
 use Rattle.fish_lanes.specs.Closing.{Sure}
 use Rattle.fish_lanes.specs.Gains.{Gains, IsFullBy}
 use Rattle.fish_lanes.specs.Records.{LaneRow}
+use Rattle.fish_lanes.specs.Spans.{IsWithinSpan, Span, answers}
 use Rattle.fish_lanes.specs.Telling.{TellsLane}
 use Rattle.fish_lanes.specs.declared.lane.Lane.{Lane}
 use Rattle.fish_lanes.specs.declared.lane.Seated.{Seated}
 use Rattle.fish_lanes.specs.declared.work.LaneFault.{LaneFault}
 use Rattle.fish_lanes.specs.declared.work.LaneFault.TheVariants as cause
 use Rattle.fish_lanes.specs.declared.work.Work.{Work}
+use Rattle.fish_lanes.specs.declared.work.Work.TheVariants as work
 use Rattle.fish_report.specs.declared.item.Item.{Item}
 use Rattle.fish_report.specs.declared.item.Item.TheVariants as item
 use Rattle.fish_rule.specs.Passes.{IsPassOf, view}
@@ -23,17 +25,22 @@ abbrev pub IsFullItem : View → Item → Type 0
 IsFullItem u x = (file : List ℕ) (line lines end stored refused : ℕ) → x ≡ item.IngestFull file line lines end stored refused
     → IsFullBy u line lines end
 
--- a statement has no item exactly where there is a fault
+-- a statement has no item that answers it exactly where there is a fault
 pub record IsEnded (works : List Work) (items : List Item) (fault : LaneFault) : Type 0 where
-  pub whole : fault ≡ cause.None → length items ≡ length works
-  pub cut : fault ≢ cause.None → length items < length works
+  pub whole : fault ≡ cause.None → length (answers items) ≡ length works
+  pub cut : fault ≢ cause.None → length (answers items) < length works
+
+-- it changes no definition
+abbrev pub IsFree : Work → Type 0
+IsFree (work.Register name def) = ⊥
+IsFree (work.Deregister name) = ⊥
+IsFree w = ⊤
 
 -- what a pass left that did these statements
 pub record HasRun (v u : View) (works : List Work) (items : List Item) (fault : LaneFault) : Type 0 where
   pub rows : List LaneRow
   pub gains : Gains v u rows
-  pub tells : (first from to : ℕ) → first ≤ v.learned.version → from ≤ v.learned.settled → from ≤ v.learned.count
-      → u.learned.count ≤ to + 16 → Sure u (λ x log. TellsLane x first from to log rows works items)
+  pub tells : (s : Span) → IsWithinSpan v u s → Sure u (λ x log. TellsLane x s log rows works items)
   pub full : AllOf (IsFullItem u) items
   pub ended : IsEnded works items fault
 
@@ -49,6 +56,7 @@ pub record IsReady (log : Log) (lane : Lane) : Type 0 where
   pub can : CanBegin log seat.pass
   pub base : (view seat.pass).about.number ≡ 0
   pub empty : lane.items ≡ []
+  pub free : All IsFree lane.works
 
 -- the lane did its statements
 pub record HasDone (log : Log) (old new : Lane) : Type 0 where

@@ -5,6 +5,7 @@ use Rattle.fish_catalog.specs.declared.entry.Entry.TheVariants as entry
 use Rattle.fish_catalog.specs.declared.listed.Listed.{Listed}
 use Rattle.fish_lang.specs.Definition.{Definition}
 use Rattle.fish_lang.specs.Language.{IsAccepted}
+use Rattle.fish_lanes.specs.Spans.{Span}
 use Rattle.fish_plan.specs.Pieces.{Fill, one_full}
 use Rattle.fish_plan.specs.declared.pieces.Piece.{Piece}
 use Rattle.fish_plan.specs.declared.pieces.Piece.TheVariants.{Index}
@@ -31,15 +32,16 @@ abbrev pub selected : Entry → log.Entry
 selected (entry.Stored lane form payload) = log.stored lane form payload
 selected entry.Void = log.void
 
--- at a version, one from the block's first on, the definitions are these, by the words that the pass knows
-pub record HasRows (v : View) (first version : ℕ) (rows : List Listed) : Type 0 where
-  pub least : first ≤ version
+-- at a version of the block the definitions are these, by the words that the pass knows
+pub record HasRows (v : View) (s : Span) (version : ℕ) (rows : List Listed) : Type 0 where
+  pub least : s.first ≤ version
+  pub most : version ≤ s.last
   pub knows : KnowsDefinitions v.about v.learned version rows
 
 -- at such a version the name means the definition: it is that of the newest row with the name
-pub record Means (v : View) (first version : ℕ) (name : List ℕ) (def : Definition) : Type 0 where
+pub record Means (v : View) (s : Span) (version : ℕ) (name : List ℕ) (def : Definition) : Type 0 where
   pub rows : List Listed
-  pub has : HasRows v first version rows
+  pub has : HasRows v s version rows
   pub place : ℕ
   pub newest : IsNewest rows name place
   pub accepted : IsAccepted newest.listed.def def
@@ -51,10 +53,10 @@ pub record IsAskedFor (ask : Ask) (n : ℕ) : Type 0 where
 
 -- the range begins where it was asked to, or where it ends; it ends where it was asked to, or before, and at most 16 numbers
 -- behind the block
-pub record IsAskedRange (block_end : ℕ) (ask : Ask) (from to : ℕ) : Type 0 where
+pub record IsAskedRange (s : Span) (ask : Ask) (from to : ℕ) : Type 0 where
   pub begins : from ≡ min (first_asked ask) to
   pub ends : (end : ℕ) → ask.to ≡ Some end → to ≤ end
-  pub near : to ≤ block_end + 16
+  pub near : to ≤ s.to + 16
 
 -- the range holds all that the lane had seen, of the log and of what was asked for, and none of it is open
 pub record HoldsSeen (entries : List Entry) (seen : ℕ → Type 0) (ask : Ask) (from to : ℕ) (opens : List ℕ) : Type 0 where
@@ -69,22 +71,22 @@ pub record AreOpen (entries : List Entry) (from to : ℕ) (opens : List ℕ) : T
 
 -- a scan: its rows are exactly the records of the log in its range, less the open ones, on which the definition that the
 -- name means has the value, newest first
-pub record TellsScan (v : View) (first block_end : ℕ) (entries : List Entry) (seen : ℕ → Type 0) (ask : Ask) (from to : ℕ) (opens : List ℕ)
+pub record TellsScan (v : View) (s : Span) (entries : List Entry) (seen : ℕ → Type 0) (ask : Ask) (from to : ℕ) (opens : List ℕ)
     (rows : List Row) (version : ℕ) : Type 0 where
-  pub range : IsAskedRange block_end ask from to
+  pub range : IsAskedRange s ask from to
   pub def : Definition
-  pub means : Means v first version ask.name def
+  pub means : Means v s version ask.name def
   pub rows_are : rows ≡ select (map selected entries) (evaluation def) ask.value from to opens
   pub holds : HoldsSeen entries seen ask from to opens
   pub are_open : AreOpen entries from to opens
 
 -- a plan: its pieces fill the range, each by an index is by one of a row with the text that the name means, and of numbers of
 -- the log, and it is one piece where the numbers are to be read one by one
-pub record TellsPlan (v : View) (first block_end : ℕ) (entries : List Entry) (seen : ℕ → Type 0) (ask : Ask) (from to : ℕ) (plan : List Piece)
+pub record TellsPlan (v : View) (s : Span) (entries : List Entry) (seen : ℕ → Type 0) (ask : Ask) (from to : ℕ) (plan : List Piece)
     (version : ℕ) : Type 0 where
-  pub range : IsAskedRange block_end ask from to
+  pub range : IsAskedRange s ask from to
   pub rows : List Listed
-  pub has : HasRows v first version rows
+  pub has : HasRows v s version rows
   pub place : ℕ
   pub newest : IsNewest rows ask.name place
   pub opens : List ℕ
@@ -95,38 +97,38 @@ pub record TellsPlan (v : View) (first block_end : ℕ) (entries : List Entry) (
   pub full : ask.how ≡ how.Full → plan ≡ one_full from to
 
 -- why neither was answered
-abbrev pub IsRefusedFor : View → ℕ → List Entry → Ask → ℕ → ScanCause → Type 0
-IsRefusedFor v first entries ask version cause.UnknownName =
-    (rows : List Listed) × HasRows v first version rows × HasNone rows ask.name
-IsRefusedFor v first entries ask version (cause.EmptyRange from to) = AreEmptyEnds ask from to
-IsRefusedFor v first entries ask version (cause.NotCovered from to) = (ask.how ≡ how.Index) × (from < to) × (to ≤ length entries)
+abbrev pub IsRefusedFor : View → Span → List Entry → Ask → ℕ → ScanCause → Type 0
+IsRefusedFor v s entries ask version cause.UnknownName =
+    (rows : List Listed) × HasRows v s version rows × HasNone rows ask.name
+IsRefusedFor v s entries ask version (cause.EmptyRange from to) = AreEmptyEnds ask from to
+IsRefusedFor v s entries ask version (cause.NotCovered from to) = (ask.how ≡ how.Index) × (from < to) × (to ≤ length entries)
     × (first_asked ask ≤ from) × ((end : ℕ) → ask.to ≡ Some end → to ≤ end)
 
 -- ---- items
 
 -- the item of a scan
-pub record TellsScanned (v : View) (first block_end : ℕ) (entries : List Entry) (seen : ℕ → Type 0) (ask : Ask) (x : Item) : Type 0 where
+pub record TellsScanned (v : View) (s : Span) (entries : List Entry) (seen : ℕ → Type 0) (ask : Ask) (x : Item) : Type 0 where
   pub from : ℕ
   pub to : ℕ
   pub opens : List ℕ
   pub rows : List Row
   pub version : ℕ
   pub is : x ≡ item.Scanned ask.name ask.value from to opens rows version
-  pub tells : TellsScan v first block_end entries seen ask from to opens rows version
+  pub tells : TellsScan v s entries seen ask from to opens rows version
 
 -- of a plan
-pub record TellsExplained (v : View) (first block_end : ℕ) (entries : List Entry) (seen : ℕ → Type 0) (ask : Ask) (x : Item) : Type 0 where
+pub record TellsExplained (v : View) (s : Span) (entries : List Entry) (seen : ℕ → Type 0) (ask : Ask) (x : Item) : Type 0 where
   pub from : ℕ
   pub to : ℕ
   pub plan : List Piece
   pub version : ℕ
   pub is : x ≡ item.Explained ask.name ask.value from to plan version
-  pub tells : TellsPlan v first block_end entries seen ask from to plan version
+  pub tells : TellsPlan v s entries seen ask from to plan version
 
 -- and of a refusal
-pub record TellsRefused (v : View) (first : ℕ) (entries : List Entry) (ask : Ask) (refused : List ℕ → ℕ → ScanCause → Item) (x : Item)
+pub record TellsRefused (v : View) (s : Span) (entries : List Entry) (ask : Ask) (refused : List ℕ → ℕ → ScanCause → Item) (x : Item)
     : Type 0 where
   pub version : ℕ
   pub why : ScanCause
   pub is : x ≡ refused ask.name version why
-  pub tells : IsRefusedFor v first entries ask version why
+  pub tells : IsRefusedFor v s entries ask version why

@@ -4,6 +4,7 @@ use Rattle.fish_ingest.specs.Ingestion.{HasIngested}
 use Rattle.fish_ingest.specs.Refusal.{HasNotClaimed, IsFull}
 use Rattle.fish_lanes.specs.Gains.{Gains, IsFullBy}
 use Rattle.fish_lanes.specs.Records.{LaneRow, contents}
+use Rattle.fish_lanes.specs.Registering.{KeepsRegistry}
 use Rattle.fish_lanes.specs.Telling.{AreCounted, all_of}
 use Rattle.fish_lanes.specs.declared.ingesting.Tally.{Tally}
 use Rattle.fish_lines.specs.File.{accepted}
@@ -50,6 +51,7 @@ pub record IsStoredUpTo (v u : View) (form : Form) (outs behind : List (Option (
   pub parts : outs ≡ front ++ behind
   pub rows : List LaneRow
   pub gains : Gains v u rows
+  pub registry : KeepsRegistry v u
   pub content : contents rows ≡ all_of form (accepted front)
   pub counted : AreCounted front tally.stored tally.refused
 

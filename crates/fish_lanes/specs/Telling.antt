@@ -1,9 +1,13 @@
 -- What the items of a lane tell of the one log.
 use Rattle.std.specs.Prelude.{ℕ, ◌≡◌, ◌<◌, ◌≤◌, ◌+◌, ◌⊎◌, ◌++◌, List, [], ◌∷◌, Option, Some, length, take}
 use Rattle.fish_catalog.specs.declared.entry.Entry.{Entry}
+use Rattle.fish_lang.specs.Canonical.{definition_text}
+use Rattle.fish_lang.specs.Definition.{definition_of}
 use Rattle.fish_lanes.specs.Records.{Content, LaneRow, contents}
+use Rattle.fish_lanes.specs.Registering.{IsDeregisterItem, IsRegisterItem}
 use Rattle.fish_lanes.specs.Scanning.{TellsExplained, TellsRefused, TellsScanned}
 use Rattle.fish_lanes.specs.Seen.{IsSeen, Shown, settled, shown_by}
+use Rattle.fish_lanes.specs.Spans.{Span, answers, behind}
 use Rattle.fish_lanes.specs.declared.work.Work.{Work}
 use Rattle.fish_lanes.specs.declared.work.Work.TheVariants as work
 use Rattle.fish_lines.specs.File.{accepted, outcomes, refused}
@@ -78,31 +82,32 @@ pub record TellsCheckpoint (from : ℕ) (log : List Entry) (shown : List Shown) 
   pub within : count ≤ length log
   pub rises : (earlier : ℕ) → Among (settled earlier) shown → earlier ≤ count
 
--- what one item tells of a block that began at a version and lies between two numbers, behind these rows of its lane and what
--- was shown
-abbrev pub TellsItem : View → ℕ → ℕ → ℕ → List Entry → List LaneRow → List Shown → Work → Item → Type 0
-TellsItem v first from to log before shown (work.Ingest form header name file) x = TellsStored (outcomes form header file) name file x
+-- what one item tells of its block, behind these rows of its lane and what was shown
+abbrev pub TellsItem : View → Span → List Entry → List LaneRow → List Shown → Work → Item → Type 0
+TellsItem v s log before shown (work.Register name def) x = IsRegisterItem name (definition_text (definition_of def)) x
+TellsItem v s log before shown (work.Deregister name) x = IsDeregisterItem name x
+TellsItem v s log before shown (work.Ingest form header name file) x = TellsStored (outcomes form header file) name file x
     ⊎ (TellsFull (outcomes form header file) name file x ⊎ TellsTooLong name file x)
-TellsItem v first from to log before shown (work.Scan ask) x = TellsScanned v first to log (IsSeen from before shown) ask x
-    ⊎ TellsRefused v first log ask item.ScanRefused x
-TellsItem v first from to log before shown (work.Explain ask) x = TellsExplained v first to log (IsSeen from before shown) ask x
-    ⊎ TellsRefused v first log ask item.ExplainRefused x
-TellsItem v first from to log before shown work.Checkpoint x = TellsCheckpoint from log shown x
+TellsItem v s log before shown (work.Scan ask) x = TellsScanned v s log (IsSeen s.from before shown) ask x
+    ⊎ TellsRefused v s log ask item.ScanRefused x
+TellsItem v s log before shown (work.Explain ask) x = TellsExplained v s log (IsSeen s.from before shown) ask x
+    ⊎ TellsRefused v s log ask item.ExplainRefused x
+TellsItem v s log before shown work.Checkpoint x = TellsCheckpoint s.from log shown x
 
 -- ---- the items of a lane
 
 -- what the items of a lane tell: the rows are what they say is stored, one after the other; where statements are
 -- left without an item, the rest of the rows are the first payloads of the next statement
-abbrev pub TellsItems : View → ℕ → ℕ → ℕ → List Entry → List LaneRow → List Shown → List LaneRow → List Work → List Item → Type 0
-TellsItems v first from to log before shown rows [] [] = rows ≡ []
-TellsItems v first from to log before shown rows [] (x ∷ items) = ⊥
-TellsItems v first from to log before shown rows (w ∷ works) [] = (j : ℕ) × (contents rows ≡ take j (content_of w))
-TellsItems v first from to log before shown rows (w ∷ works) (x ∷ items) = (mine : List LaneRow) × (rest : List LaneRow)
+abbrev pub TellsItems : View → Span → List Entry → List LaneRow → List Shown → List LaneRow → List Work → List Item → Type 0
+TellsItems v s log before shown rows [] [] = rows ≡ []
+TellsItems v s log before shown rows [] (x ∷ items) = ⊥
+TellsItems v s log before shown rows (w ∷ works) [] = (j : ℕ) × (contents rows ≡ take j (content_of w))
+TellsItems v s log before shown rows (w ∷ works) (x ∷ items) = (mine : List LaneRow) × (rest : List LaneRow)
     × (rows ≡ mine ++ rest)
     × (contents mine ≡ take (count_of x) (content_of w))
-    × TellsItem v first from to log before shown w x
-    × TellsItems v first from to log (before ++ mine) (shown ++ shown_by x) rest works items
+    × TellsItem v s log before shown w x
+    × TellsItems v (behind x s) log (before ++ mine) (shown ++ shown_by x) rest works items
 
--- the same from the lane's first statement on
-abbrev pub TellsLane : View → ℕ → ℕ → ℕ → List Entry → List LaneRow → List Work → List Item → Type 0
-TellsLane v first from to log rows works items = TellsItems v first from to log [] [] rows works items
+-- the same from the lane's first statement on, by the items that answer statements
+abbrev pub TellsLane : View → Span → List Entry → List LaneRow → List Work → List Item → Type 0
+TellsLane v s log rows works items = TellsItems v s log [] [] rows works (answers items)

@@ -1,25 +1,50 @@
 //! A block: its lanes run at once, each by a pass of its own.
 
-ghost use Rattle.std.specs.Prelude.{◌≡◌, ◌≤◌, ◌<◌, ◌+◌, ℕ, length, Some, None, [], All};
+ghost use Rattle.std.specs.Prelude.{◌≡◌, ◌≤◌, ◌<◌, ◌+◌, ℕ, length, slice_get, Some, None, [], All};
 ghost use Rattle.std.specs.Thread.{IsSync};
 ghost use Rattle.fish_lanes.specs.Blocks.{AreDone, AreEnded, AreJoined, AreKept, AreLanes, AreReady, AreSeated, CanGive, CanTake};
-ghost use Rattle.fish_lanes.specs.Blocks.{HasGiven, HasRunFirst, HasSeat, HasTaken, HasTakenAll, IsFirst, IsMarkItem, IsNewLane, NameMarks, TellsBlock, TellsFirst, TellsOthers, WasTaken, WereTaken};
+ghost use Rattle.fish_lanes.specs.Blocks.{HasGiven, HasRegistered, HasRunFirst, HasSeat, HasTaken, HasTakenAll, IsBlockSpan, IsFirst};
+ghost use Rattle.fish_lanes.specs.Blocks.{IsMarkItem, IsNewLane, NameMarks, TellsBlock, TellsFirst, TellsOthers, WasTaken, WereTaken};
 ghost use Rattle.fish_lanes.specs.Closing.{Later, Will};
+ghost use Rattle.fish_lanes.specs.Controlling.{CanControl};
 ghost use Rattle.fish_lanes.specs.Ending.{HasEnd};
-ghost use Rattle.fish_lanes.specs.Running.{CanBegin, HasDone, HasRun, IsEnded, IsReady};
+ghost use Rattle.fish_lanes.specs.Registering.{IsAcceptable, KnowsRegistry, registry_of};
+ghost use Rattle.fish_lanes.specs.Running.{CanBegin, HasDone, HasRun, IsEnded, IsFree, IsReady};
+ghost use Rattle.fish_lanes.specs.Spans.{Span};
 ghost use Rattle.fish_rule.specs.Passes.{IsPassOf, view};
 ghost use Rattle.fish_rule.specs.Views.{AllOf};
 ghost use Rattle.fish_rule.specs.Seating.{CanSplit, split_left, split_right};
 
+use crate::control::run_control;
 use crate::lane::{Lane, Seated};
+use crate::registering::find_last;
 use crate::statements::run_works;
 use crate::work::{LaneFault, Work};
 use fish_epoch::Defs;
+use fish_registry::Registrar;
 use fish_report::Items;
 use fish_rule::{Log, Pass, join_pass, split_pass};
 use fish_walk::settle;
 use std::alloc::Global;
 use std::thread::{Threads, for_each_mut, join_mut};
+
+/// Where the index of a definition begins.
+#[derive(Clone, Copy, Debug, PartialEq, Eq)]
+pub struct Boundary {
+    /// The definition.
+    pub id: u16,
+    /// The first number that the index holds.
+    pub from: u32,
+}
+
+/// What stands behind a block.
+#[derive(Clone, Copy, Debug, PartialEq, Eq)]
+pub struct BlockEnd {
+    /// How many numbers the log has.
+    pub to: u32,
+    /// The boundary that was found once the lanes had ended.
+    pub bound: Option<Boundary>,
+}
 
 /// Does the statements of a lane by a pass, which reads the definitions anew.
 fn run_pass(
@@ -31,6 +56,7 @@ fn run_pass(
 ) -> LaneFault
     requires pass { CanBegin log.now pass.old }
     requires base { (view pass.old).about.number ≡ 0 }
+    requires free { All IsFree works.now }
     requires empty { items.old ≡ [] }
     ensures pass { CanBegin log.now pass.new }
     ensures run { HasRun (view pass.old) (view pass.new) works.now items.new result }
@@ -68,13 +94,26 @@ fn run_others<R: Threads + Sync>(rt: &R, alloc: Global, log: &Log, lanes: &mut [
 }
 
 /// Does the statements of the first lane by the control pass.
-fn run_first(alloc: Global, log: &Log, main: &mut Pass, lane: &mut Lane)
-    requires pass { IsPassOf log.now main.old }
-    requires first { IsFirst (view main.old) lane.old }
-    ensures pass { IsPassOf log.now main.new }
-    ensures run { HasRunFirst (view main.old) (view main.new) lane.old lane.new }
+fn run_first(
+    alloc: Global,
+    log: &Log,
+    main: &mut Pass,
+    registrar: &mut Registrar,
+    lane: &mut Lane,
+)
+    requires can { CanControl log.now main.old registrar.old }
+    requires first { IsFirst (view main.old) registrar.old lane.old }
+    ensures can { CanControl log.now main.new registrar.new }
+    ensures run { HasRunFirst (view main.old) (view main.new) registrar.old registrar.new lane.old lane.new }
 {
-    lane.fault = run_pass(alloc, log, main, lane.works.as_slice(), &mut lane.items);
+    lane.fault = run_control(
+        alloc,
+        log,
+        main,
+        registrar,
+        lane.works.as_slice(),
+        &mut lane.items,
+    );
 }
 
 /// Gives a lane its pass.
@@ -135,23 +174,24 @@ fn run_all<R: Threads + Sync>(
     alloc: Global,
     log: &Log,
     main: &mut Pass,
+    registrar: &mut Registrar,
     first: &mut Lane,
     others: &mut [Lane],
 )
-    requires pass { IsPassOf log.now main.old }
-    requires first { IsFirst (view main.old) first.old }
+    requires can { CanControl log.now main.old registrar.old }
+    requires first { IsFirst (view main.old) registrar.old first.old }
     requires ready { AreReady log.now others.old }
-    ensures pass { IsPassOf log.now main.new }
-    ensures run { HasRunFirst (view main.old) (view main.new) first.old first.new }
+    ensures can { CanControl log.now main.new registrar.new }
+    ensures run { HasRunFirst (view main.old) (view main.new) registrar.old registrar.new first.old first.new }
     ensures done { AreDone log.now others.old others.new }
 {
     if others.is_empty() {
-        run_first(alloc, log, main, first);
+        run_first(alloc, log, main, registrar, first);
         return;
     }
     join_mut(
         rt,
-        &mut || run_first(alloc, log, main, first),
+        &mut || run_first(alloc, log, main, registrar, first),
         &mut ||
             requires sync { IsSync R.row }
             requires ready { AreReady log.now others.now }
@@ -161,67 +201,77 @@ fn run_all<R: Threads + Sync>(
     );
 }
 
-/// Gives the other lanes their passes, does the statements of all, and takes the passes back. How far the log then
-/// reaches.
+/// Gives the other lanes their passes, does the statements of all, and takes the passes back.
 fn run_lanes<R: Threads + Sync>(
     rt: &R,
     alloc: Global,
     log: &Log,
     main: &mut Pass,
+    registrar: &mut Registrar,
     first: &mut Lane,
     others: &mut [Lane],
-) -> u32
-    requires pass { IsPassOf log.now main.old }
+) -> BlockEnd
+    requires can { CanControl log.now main.old registrar.old }
     requires end { (from : ℕ) × HasEnd (view main.old) from }
+    requires known { KnowsRegistry (view main.old) (registry_of (view main.old) registrar.old) }
     requires first { IsNewLane 1 first.old }
+    requires acceptable { All IsAcceptable first.old.works }
     requires others { CanGive (view main.old) others.old }
-    ensures pass { IsPassOf log.now main.new }
-    ensures end { HasEnd (view main.new) result }
+    ensures can { CanControl log.now main.new registrar.new }
+    ensures end { HasEnd (view main.new) result.to }
     ensures later { Later (view main.old) (view main.new) }
     ensures first { (first.new.number ≡ first.old.number) × (first.new.works ≡ first.old.works) }
     ensures kept { AreKept others.old others.new }
-    ensures told { (version from : ℕ) → version ≤ (view main.old).learned.version → HasEnd (view main.old) from
-        → (from ≤ result) × Will (view main.new) (TellsFirst version from result first.new)
-        × Will (view main.new) (TellsOthers version from result others.new) }
+    ensures told { (s : Span) → IsBlockSpan (view main.old) (view main.new) result.to s → (s.from ≤ s.to)
+        × Will (view main.new) (TellsFirst s first.new) × Will (view main.new) (TellsOthers s others.new) }
+    ensures registered { HasRegistered (view main.old) (view main.new) registrar.old registrar.new first.new result }
     ensures first_ended { IsEnded first.new.works first.new.items first.new.fault }
     ensures others_ended { AreEnded others.new }
     ensures first_marks { AllOf (IsMarkItem (view main.new)) first.new.items }
     ensures others_marks { NameMarks (view main.new) others.new }
 {
     give_all(log, main, others);
-    run_all(rt, alloc, log, main, first, others);
+    run_all(rt, alloc, log, main, registrar, first, others);
     take_all(log, main, others);
-    settle(log, main).settled
+    let bound = find_last(log, main, registrar);
+    let to = settle(log, main).settled;
+    BlockEnd { to, bound }
 }
 
 /// Runs a block: does the statements of its lanes at once, those of the first by the control pass and those of every
-/// other one by a pass of its own, on a thread of its own. How far the log then reaches.
+/// other one by a pass of its own, on a thread of its own. How far the log then reaches, and where the index of the
+/// registration begins that waited until the lanes had ended.
 ///
-/// The control pass has to know where the log ends, as it does behind a block. There are 1 to 16 lanes, numbered from 1
-/// on and without items.
+/// The control pass has to know where the log ends, as it does behind a block, and what the registrar keeps. There are 1
+/// to 16 lanes, numbered from 1 on and without items, and the first alone may register definitions or end them.
 ///
 /// Afterwards each lane has an item for each statement, or a fault and fewer of them. Of every log that the control pass
 /// closes later, these items are true: the lane's records between the old end and the new one are those that the items
-/// say are stored, in order, and scans, plans, checkpoints and refusals are so. Numbers and statements stay.
+/// say are stored, in order, and scans, plans, checkpoints and refusals are so. The definitions are those that the items
+/// of the first lane tell. Numbers and statements stay.
 pub fn run_block<R: Threads + Sync>(
     rt: &R,
     alloc: Global,
     log: &Log,
     main: &mut Pass,
+    registrar: &mut Registrar,
     lanes: &mut [Lane],
-) -> u32
-    requires pass { IsPassOf log.now main.old }
+) -> BlockEnd
+    requires can { CanControl log.now main.old registrar.old }
     requires end { (from : ℕ) × HasEnd (view main.old) from }
+    requires known { KnowsRegistry (view main.old) (registry_of (view main.old) registrar.old) }
     requires lanes { AreLanes lanes.old }
-    ensures pass { IsPassOf log.now main.new }
-    ensures end { HasEnd (view main.new) result }
+    ensures can { CanControl log.now main.new registrar.new }
+    ensures end { HasEnd (view main.new) result.to }
     ensures later { Later (view main.old) (view main.new) }
     ensures kept { AreKept lanes.old lanes.new }
-    ensures told { (version from : ℕ) → version ≤ (view main.old).learned.version → HasEnd (view main.old) from
-        → (from ≤ result) × Will (view main.new) (λ v log. TellsBlock v version log from result lanes.new) }
+    ensures told { (s : Span) → IsBlockSpan (view main.old) (view main.new) result.to s → (s.from ≤ s.to)
+        × Will (view main.new) (λ v log. TellsBlock v s log lanes.new) }
+    ensures registered { (x : Lane) → slice_get lanes.new 0 ≡ Some x
+        → HasRegistered (view main.old) (view main.new) registrar.old registrar.new x result }
     ensures ended { AreEnded lanes.new }
     ensures marks { NameMarks (view main.new) lanes.new }
 {
     let (first, others) = lanes.split_at_mut(1);
-    run_lanes(rt, alloc, log, main, &mut first[0], others)
+    run_lanes(rt, alloc, log, main, registrar, &mut first[0], others)
 }

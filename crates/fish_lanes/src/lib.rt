@@ -2,14 +2,14 @@
 #![tactic(auto)]
 
 mod block;
+mod control;
 mod ingesting;
 mod lane;
-mod running;
+mod registering;
 mod scanning;
 mod statements;
 mod work;
 
-pub use block::run_block;
+pub use block::{BlockEnd, Boundary, run_block};
 pub use lane::{Lane, Seated};
-pub use running::{Block, run_blocks, run_log};
 pub use work::{LaneFault, Work, Works};

@@ -1,10 +1,10 @@
 //! The statements of a lane, done by its pass.
 
-ghost use Rattle.std.specs.Prelude.{◌≡◌, [], IfOk, IfErr};
+ghost use Rattle.std.specs.Prelude.{◌≡◌, [], All, IfOk, IfErr};
 ghost use Rattle.fish_epoch.specs.Definitions.{IsDefsOf};
 ghost use Rattle.fish_ingest.specs.Ingestion.{CanStart};
 ghost use Rattle.fish_lanes.specs.Doing.{IsItem, IsPart};
-ghost use Rattle.fish_lanes.specs.Running.{HasRun};
+ghost use Rattle.fish_lanes.specs.Running.{HasRun, IsFree};
 ghost use Rattle.fish_lanes.specs.declared.work.Work.TheVariants as work;
 ghost use Rattle.fish_rule.specs.Logs.{Learns};
 ghost use Rattle.fish_rule.specs.Passes.{IsPassOf, view};
@@ -18,7 +18,7 @@ use fish_rule::{Log, Pass};
 use fish_walk::settle;
 use std::alloc::{AllocError, Global};
 
-/// Does statements in order, up to the first fault.
+/// Does statements that change no definition, in order, up to the first fault.
 pub(crate) fn run_works(
     alloc: Global,
     log: &Log,
@@ -31,6 +31,7 @@ pub(crate) fn run_works(
     requires start { CanStart (view pass.old) }
     requires defs { IsDefsOf (view pass.old) defs.old }
     requires base { (view pass.old).about.number ≡ 0 }
+    requires free { All IsFree works.now }
     requires empty { items.old ≡ [] }
     ensures pass { IsPassOf log.now pass.new }
     ensures defs { IsDefsOf (view pass.new) defs.new }
@@ -48,8 +49,8 @@ pub(crate) fn run_works(
     LaneFault::None
 }
 
-/// Does one statement.
-fn run_work(
+/// Does one statement that changes no definition.
+pub(crate) fn run_work(
     alloc: Global,
     log: &Log,
     pass: &mut Pass,
@@ -60,12 +61,14 @@ fn run_work(
     requires start { CanStart (view pass.old) }
     requires defs { IsDefsOf (view pass.old) defs.old }
     requires base { (view pass.old).about.number ≡ 0 }
+    requires free { IsFree work.now }
     ensures pass { IsPassOf log.now pass.new }
     ensures defs { IsDefsOf (view pass.new) defs.new }
     ensures item { IfOk result (IsItem (view pass.old) (view pass.new) work.now) }
     ensures part { IfErr result (λ _. IsPart (view pass.old) (view pass.new) work.now) }
 {
     match work {
+        Work::Register { .. } | Work::Deregister { .. } => unreachable!(),
         Work::Ingest {
             form,
             header,

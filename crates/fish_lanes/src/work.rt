@@ -1,11 +1,24 @@
 //! What a lane is to do.
 
+use fish_lang::Def;
 use fish_scan::Ask;
 use fish_value::{Bytes, Form, Sequence, Text};
 
 /// A statement.
 #[derive(Drop)]
 pub enum Work {
+    /// Register a definition. The first lane of a block alone may.
+    Register {
+        /// Its name, of 1 to 32 bytes.
+        name: Text,
+        /// The definition, which some source says.
+        def: Def,
+    },
+    /// End the definition with a name. The first lane of a block alone may.
+    Deregister {
+        /// Its name.
+        name: Text,
+    },
     /// Store the records of a file.
     Ingest {
         /// The form of its records.

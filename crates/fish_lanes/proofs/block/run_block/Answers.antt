@@ -1,7 +1,8 @@
 -- The first lane and the others.
-use Rattle.std.proofs.Common.{◌++◌, List, get_or, set, sym, subst}
-use Rattle.fish_lanes.proofs.Firsts.{ended_both, first_new, marks_both, others_new, tells_both}
-use Rattle.fish_lanes.specs.Blocks.{AreEnded, CanGive, IsNewLane, NameMarks, TellsBlock}
+use Rattle.std.proofs.Common.{◌≡◌, ◌++◌, All, List, Some, get_or, set, slice_get, sym, subst}
+use Rattle.fish_lanes.proofs.Firsts.{ended_both, first_acceptable, first_new, first_there, marks_both, others_new, tells_both}
+use Rattle.fish_lanes.specs.Blocks.{AreEnded, CanGive, HasRegistered, IsNewLane, NameMarks, TellsBlock}
+use Rattle.fish_lanes.specs.Registering.{IsAcceptable}
 use Rattle.fish_lanes.specs.declared.lane.Lane.{Lane}
 use Rattle.fish_rule.specs.Passes.{view}
 use Rattle.fish_lanes.proofs.block.run_block.Goals as goal
@@ -17,14 +18,14 @@ run_lanes-requires-clause-others g c κs bounds =
     (others_new (view c.args.main.now) c.requires.end.0 c.args.lanes.now c.requires.end.1 c.requires.lanes)
 
 pub returns-clause-told : goal.returns-clause-told
-returns-clause-told g c version from reached start =
-    let t = c.run_lanes.ensures.told version from reached start in (
+returns-clause-told g c k span =
+    let t = c.run_lanes.ensures.told k span in (
       t.0,
       λ u remains base main none later closed.
-          subst (λ (z : List Lane). TellsBlock u version remains.log from c.run_lanes.result
+          subst (λ (z : List Lane). TellsBlock u k remains.log
           (set z 0 c.run_lanes.new.first ++ c.run_lanes.new.others))
           (sym c.split_at_mut-first.ensures.front)
-          (tells_both version from c.run_lanes.result c.run_lanes.new.first c.args.lanes.now c.run_lanes.new.others u remains.log
+          (tells_both k c.run_lanes.new.first c.args.lanes.now c.run_lanes.new.others u remains.log
           c.requires.lanes
           (t.1 u remains base main none later closed) (t.2 u remains base main none later closed)),
     )
@@ -42,3 +43,16 @@ returns-clause-ended g c =
     (sym c.split_at_mut-first.ensures.front)
     (ended_both c.run_lanes.new.first c.args.lanes.now c.run_lanes.new.others c.requires.lanes
     c.run_lanes.ensures.first_ended c.run_lanes.ensures.others_ended)
+
+pub run_lanes-requires-clause-acceptable : goal.run_lanes-requires-clause-acceptable
+run_lanes-requires-clause-acceptable g c κs bounds =
+    subst (λ (z : List Lane). All IsAcceptable (get_or z 0 c.index-first-0.result).works) (sym c.split_at_mut-first.ensures.front)
+    (first_acceptable c.args.lanes.now c.index-first-0.result c.requires.lanes)
+
+pub returns-clause-registered : goal.returns-clause-registered
+returns-clause-registered g c x at =
+    first_there (λ (z : Lane). HasRegistered (view c.args.main.now) (view c.run_lanes.new.main) c.args.registrar.now
+    c.run_lanes.new.registrar z c.run_lanes.result) c.run_lanes.new.first c.args.lanes.now c.run_lanes.new.others c.requires.lanes
+    c.run_lanes.ensures.registered x
+    (subst (λ (z : List Lane). slice_get (set z 0 c.run_lanes.new.first ++ c.run_lanes.new.others) 0 ≡ Some x)
+    c.split_at_mut-first.ensures.front at)

@@ -1,8 +1,9 @@
 -- What was stored is what the item tells.
 use Rattle.std.proofs.Common.{◌∙◌, ℕ, List, [], ap, inr, refl, sym, subst, arith}
 use Rattle.fish_ingest.proofs.IngestionStart.{idle_law}
-use Rattle.fish_lanes.proofs.Done.{err_any}
+use Rattle.fish_lanes.proofs.Parts.{err_any}
 use Rattle.fish_lanes.proofs.Gaining.{gains_self}
+use Rattle.fish_lanes.proofs.Keeping.{keeps_self}
 use Rattle.fish_lanes.proofs.Storing.{file_item, file_part, nothing_part}
 use Rattle.fish_lanes.specs.Doing.{IsItem, IsPart}
 use Rattle.fish_lanes.specs.Storing.{item_of}
@@ -23,6 +24,7 @@ returns-then-file-gt-MAX_FILE-clause-item c =
     let v = view c.args.pass.now in
     record {
       gained = record {
+        registry = keeps_self v;
         rows = [];
         gains = gains_self v c.requires.start.outside (idle_law v c.requires.pass.stands c.requires.start);
         first = refl;

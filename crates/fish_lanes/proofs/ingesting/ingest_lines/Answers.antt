@@ -3,7 +3,8 @@ use Rattle.std.proofs.Common.{ℕ, List, Option, map, ap, subst, arith}
 use Rattle.std.specs.Prelude.{MatchOption}
 use Rattle.fish_ingest.proofs.IngestionStart.{idle_law}
 use Rattle.fish_json.specs.Lines as json
-use Rattle.fish_lanes.proofs.Done.{err_any}
+use Rattle.fish_lanes.proofs.Parts.{err_any}
+use Rattle.fish_lanes.proofs.Keeping.{keeps_ingests}
 use Rattle.fish_lanes.proofs.Storing.{full_line, gains_unclaimed, json_outcomes, json_record, json_refused, stored_later}
 use Rattle.fish_lanes.proofs.Storing.{stored_line, stored_none, stored_starts, takes_one}
 use Rattle.fish_lanes.specs.Storing.{FindsFull, IsPartStored, IsStoredUpTo, TakesLine}
@@ -45,6 +46,7 @@ returns-in_err-shut-clause-part c =
       behind,
       c.loop-line.tally,
       stored_later v u t Json outs behind c.loop-line.tally (gains_unclaimed u t c.in_err-shut.ensures.left.0)
+          (keeps_ingests u t c.in_err-shut.ensures.left.0.left.on)
           c.loop-line.invariant.stored,
     )
 

@@ -3,8 +3,9 @@ use Rattle.std.proofs.Common.{◌≡◌, ◌<◌, ℕ, ◌∷◌, List, Option, 
 use Rattle.std.specs.Prelude.{IfSome, MatchOption}
 use Rattle.fish_csv.specs.Left.{left}
 use Rattle.fish_ingest.proofs.IngestionStart.{idle_law}
-use Rattle.fish_lanes.proofs.Done.{err_any}
+use Rattle.fish_lanes.proofs.Parts.{err_any}
 use Rattle.fish_lanes.proofs.Gaining.{gains_self}
+use Rattle.fish_lanes.proofs.Keeping.{keeps_ingests, keeps_self}
 use Rattle.fish_lanes.proofs.Storing.{full_line, gains_unclaimed, head_record, stored_later, stored_line, stored_none}
 use Rattle.fish_lanes.proofs.Storing.{stored_none_more, stored_starts, takes_one}
 use Rattle.fish_lanes.specs.Storing.{FindsFull, IsPartStored, IsStoredUpTo, TakesLine}
@@ -41,6 +42,7 @@ returns-in_err-shut-in-Some-row-clause-part c =
       behind,
       c.loop-row.tally,
       stored_later v u t Csv outs behind c.loop-row.tally (gains_unclaimed u t c.in_err-shut-in-Some-row.ensures.left.0)
+          (keeps_ingests u t c.in_err-shut-in-Some-row.ensures.left.0.left.on)
           c.loop-row.invariant.stored,
     )
 
@@ -112,7 +114,7 @@ loop-row-preserved c =
       stored = stored_none_more v u u Csv outs behind c.loop-row.tally _
           (subst (λ (z : List (Option (List ℕ))). IsStoredUpTo v u Csv outs z c.loop-row.tally) here c.loop-row.invariant.stored)
           (gains_self u c.loop-row.invariant.start.outside
-          (idle_law u c.loop-row.invariant.of.stands c.loop-row.invariant.start)) refl;
+          (idle_law u c.loop-row.invariant.of.stands c.loop-row.invariant.start)) (keeps_self u) refl;
       room =
           let b = subst (λ (o : Option (Option (List ℕ))). IfSome o (λ _.
           length c.next_row.new.self.rest.now < length c.loop-row.rows.rest.now)) c.in-Some.is c.in_ok-row.ensures.shorter in

@@ -2,6 +2,7 @@
 use Rattle.std.proofs.Common.{◌≡◌, [], refl, ⊎_elim, arith}
 use Rattle.fish_ingest.proofs.IngestionStart.{idle_law}
 use Rattle.fish_lanes.proofs.Gaining.{gains_settles}
+use Rattle.fish_lanes.proofs.Keeping.{keeps_settles}
 use Rattle.fish_rule.specs.Passes.{view}
 use Rattle.fish_walk.specs.Settling.{HasEnd, IsEnd}
 use Rattle.fish_lanes.proofs.statements.checkpoint.Goals as goal
@@ -15,6 +16,7 @@ returns-clause-item c =
     let u = view c.settle.new.pass in
     record {
       gained = record {
+        registry = keeps_settles v u c.settle.ensures.settles;
         rows = [];
         gains = gains_settles v u c.requires.start.outside (idle_law v c.requires.pass.stands c.requires.start)
             c.settle.ensures.settles;

@@ -3,7 +3,7 @@ use Rattle.std.proofs.Common.{◌∙◌, List, ℕ, ap, sym, subst}
 use Rattle.std.specs.Prelude.{IfErr, IfOk}
 use Rattle.fish_epoch.proofs.Reading.{defs_later}
 use Rattle.fish_ingest.proofs.IngestionStart.{idle_law}
-use Rattle.fish_lanes.proofs.Done.{explain_items, explain_part, scan_items, scan_part}
+use Rattle.fish_lanes.proofs.Parts.{explain_items, explain_part, scan_items, scan_part}
 use Rattle.fish_lanes.specs.Doing.{IsItem, IsPart}
 use Rattle.fish_lanes.specs.declared.work.Work.{Work}
 use Rattle.fish_lanes.specs.declared.work.Work.TheVariants as work

@@ -2,9 +2,13 @@
 use Rattle.std.proofs.Common.{◌≡◌, ◌+◌, List, [], ◌∷◌, ◌++◌, take, drop, sym, ap, ◌∙◌, subst, arith}
 use Rattle.std.proofs.lemmas.List.{take_all, take_more}
 use Rattle.fish_ingest.proofs.IngestionStart.{idle_law}
-use Rattle.fish_lanes.proofs.Done.{HasTold, around, run_cut, run_ended, told_more, told_self}
+use Rattle.fish_lanes.proofs.Advancing.{answers_more, run_cut, run_ended, told_more}
+use Rattle.fish_lanes.proofs.Done.{HasTold, told_self}
+use Rattle.fish_lanes.proofs.Parts.{around}
+use Rattle.fish_lanes.proofs.Showing.{fit_answer, free_made}
 use Rattle.fish_lanes.proofs.Gaining.{gains_start}
-use Rattle.fish_lanes.specs.Running.{HasRun}
+use Rattle.fish_lanes.specs.Running.{HasRun, IsFree}
+use Rattle.fish_lanes.specs.Spans.{answers}
 use Rattle.fish_lanes.specs.Telling.{count_of}
 use Rattle.fish_report.specs.declared.item.Item.{Item}
 use Rattle.fish_lanes.specs.declared.work.LaneFault.TheVariants as cause
@@ -21,7 +25,7 @@ loop-work-init c =
       start = c.requires.start;
       read = c.requires.defs;
       base = c.requires.base;
-      told = subst (HasTold v v []) (sym c.requires.empty)
+      told = subst (λ (z : List Item). HasTold v v [] (answers z)) (sym c.requires.empty)
           (told_self v c.requires.start.outside (idle_law v c.requires.pass.stands c.requires.start));
     }
 
@@ -33,7 +37,8 @@ returns-in_default-clause-run c =
     subst (λ (z : List Work). HasRun (view c.args.pass.now) (view c.run_work.new.pass) z c.loop-work.items cause.Memory)
     (around works i w c.loop-work-test.true c.work-item.is)
     (run_cut (view c.args.pass.now) (view c.loop-work.pass) (view c.run_work.new.pass) (take i works) c.loop-work.items w
-    (drop (i + 1) works) c.loop-work.invariant.told c.in_default.ensures.part)
+    (drop (i + 1) works) c.in_default.ensures.part.1.rows c.in_default.ensures.part.0 c.loop-work.invariant.told
+    c.in_default.ensures.part.1.gains c.in_default.ensures.part.1.first)
 
 pub returns-in-Err-clause-run : goal.returns-in-Err-clause-run
 returns-in-Err-clause-run c =
@@ -43,7 +48,8 @@ returns-in-Err-clause-run c =
     subst (λ (z : List Work × List Item). HasRun (view c.args.pass.now) (view c.run_work.new.pass) z.0 z.1 cause.Memory)
     (λ j. (around works i w c.loop-work-test.true c.work-item.is j, sym c.in-Err.ensures.err j))
     (run_cut (view c.args.pass.now) (view c.loop-work.pass) (view c.run_work.new.pass) (take i works) c.loop-work.items w
-    (drop (i + 1) works) c.loop-work.invariant.told (count_of c.in-Ok.item, c.in-Ok.ensures.item.gained))
+    (drop (i + 1) works) c.in-Ok.ensures.item.gained.rows (count_of c.in-Ok.item) c.loop-work.invariant.told
+    c.in-Ok.ensures.item.gained.gains c.in-Ok.ensures.item.gained.first)
 
 pub loop-work-preserved : goal.loop-work-preserved
 loop-work-preserved c =
@@ -55,6 +61,10 @@ loop-work-preserved c =
     let u = view c.loop-work.pass in
     let t = view c.run_work.new.pass in
     let is = c.in-Ok.ensures.item in
+    let free : IsFree w = subst IsFree (sym c.work-item.is) (c.requires.free i w c.loop-work-test.true) in
+    let none = free_made u t w c.in-Ok.item free is.fit in
+    let pushed : answers c.push.new.self ≡ answers c.loop-work.items ++ c.in-Ok.item ∷ [] =
+    ap answers c.in-Ok-push.ensures.ok ∙ answers_more c.loop-work.items c.in-Ok.item (fit_answer u t w c.in-Ok.item is.fit) in
     let next : take (i + 1) works ≡ take i works ++ w ∷ [] = take_more works i w c.loop-work-test.true
     ∙ ap (λ (z : Work). take i works ++ z ∷ []) (sym c.work-item.is) in
     record {
@@ -63,8 +73,9 @@ loop-work-preserved c =
       read = c.run_work.ensures.defs;
       base = ap (λ (z : Key). z.number) is.gained.gains.on.learns.about ∙ inv.base;
       told = subst (λ (z : List Work × List Item). HasTold v t z.0 z.1)
-          (λ j. (sym next j, sym c.in-Ok-push.ensures.ok j))
-          (told_more v u t (take i works) c.loop-work.items w c.in-Ok.item c.requires.base inv.told is);
+          (λ j. (sym next j, sym pushed j))
+          (told_more v u t (take i works) (answers c.loop-work.items) w c.in-Ok.item is.gained.rows c.requires.base inv.told
+          is.gained.gains is.gained.first is.fit (let m = is.gained.gains.on.learns.version in omega arith));
     }
 
 pub returns-clause-run : goal.returns-clause-run

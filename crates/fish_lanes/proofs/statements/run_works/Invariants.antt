@@ -3,6 +3,7 @@ use Rattle.std.proofs.Common.{◌≡◌, take}
 use Rattle.fish_epoch.specs.Definitions.{IsDefsOf}
 use Rattle.fish_ingest.specs.Ingestion.{CanStart}
 use Rattle.fish_lanes.proofs.Done.{HasTold}
+use Rattle.fish_lanes.specs.Spans.{answers}
 use Rattle.fish_rule.specs.Passes.{IsPassOf, view}
 use Rattle.fish_lanes.proofs.statements.run_works.Given as goal
 
@@ -12,5 +13,5 @@ invariant-loop-work l = record {
   start : CanStart (view l.pass);
   read : IsDefsOf (view l.pass) l.defs;
   base : (view l.pass).about.number ≡ 0;
-  told : HasTold (view l.fn.pass) (view l.pass) (take l.work-index l.works) l.items;
+  told : HasTold (view l.fn.pass) (view l.pass) (take l.work-index l.works) (answers l.items);
 }

@@ -1,0 +1,177 @@
+-- One statement more, a step between two statements, and the end of a lane's statements.
+use Rattle.std.proofs.Common.{◌≡◌, ℕ, ◌+◌, ◌<◌, ◌≤◌, List, [], ◌∷◌, ◌++◌, length, take, refl, sym, ap, ◌∙◌, subst, inl, inr, ◌⊎◌}
+use Rattle.std.proofs.Common.{⊎_elim, arith, length-append, append-nil, true, false, Bool}
+use Rattle.std.specs.Prelude.{filter}
+use Rattle.fish_lanes.proofs.Done.{HasTold, item_told}
+use Rattle.fish_lanes.proofs.Gaining.{full_later, gains_both}
+use Rattle.fish_lanes.proofs.Lists.{filter_first, filter_last, filter_other, filter_skip}
+use Rattle.fish_lanes.proofs.Items.{TellsAll, behind_all, behind_is, made, made_append, shown_in, tells_cut, tells_ended, tells_more}
+use Rattle.fish_lanes.proofs.Publishing.{published_later}
+use Rattle.fish_lanes.proofs.Showing.{fit_answer, full_fit, item_settles, item_shown}
+use Rattle.fish_lanes.proofs.Surely.{sure_later}
+use Rattle.fish_lanes.specs.Doing.{IsFit}
+use Rattle.fish_lanes.specs.Gains.{Gains, KeepsShut}
+use Rattle.fish_lanes.specs.Records.{LaneRow, contents}
+use Rattle.fish_lanes.specs.Running.{HasRun, IsFullItem}
+use Rattle.fish_lanes.specs.Seen.{Shown, settled, shown_by}
+use Rattle.fish_lanes.specs.Spans.{IsWithinSpan, Span, answers, is_answer, made_by}
+use Rattle.fish_lanes.specs.Telling.{TellsItem, content_of, count_of}
+use Rattle.fish_lanes.specs.declared.work.LaneFault.TheVariants as fault
+use Rattle.fish_lanes.specs.declared.work.Work.{Work}
+use Rattle.fish_report.specs.declared.item.Item.{Item}
+use Rattle.fish_report.specs.declared.item.Item.TheVariants as item
+use Rattle.fish_rule.proofs.Common.{among_either, among_left, among_right}
+use Rattle.fish_rule.specs.Logs.{Learns}
+use Rattle.fish_rule.specs.Views.{AllOf, Among}
+use Rattle.fish_rule.specs.declared.view.Key.{Key}
+use Rattle.fish_rule.specs.declared.view.View.{View}
+
+shown_either : (n : Shown) (items : List Item) (x : Item) → Among n (shown_in (items ++ x ∷ []))
+    → Among n (shown_in items) ⊎ Among n (shown_by x)
+shown_either n [] x m = ⊎_elim (λ (h : Among n (shown_by x)). inr h) (λ (h : Among n []). elim h [ ])
+    (among_either n (shown_by x) [] m)
+shown_either n (y ∷ items) x m =
+    ⊎_elim (λ (h : Among n (shown_by y)). inl (among_left n (shown_by y) (shown_in items) h))
+    (λ (h : Among n (shown_in (items ++ x ∷ []))).
+    ⊎_elim (λ (g : Among n (shown_in items)). inl (among_right n (shown_by y) (shown_in items) g))
+    (λ (g : Among n (shown_by x)). inr g) (shown_either n items x h))
+    (among_either n (shown_by y) (shown_in (items ++ x ∷ [])) m)
+
+-- what was refused before is still named by the claim that shut the pass, and so is the last one
+fulls_later : (u t : View) (items : List Item) → t.about ≡ u.about → KeepsShut u t → AllOf (IsFullItem u) items
+    → AllOf (IsFullItem t) items
+fulls_later u t [] about keeps h = tt
+fulls_later u t (x ∷ items) about keeps h = (
+  λ file line lines end stored refused is.
+      full_later u t line lines end about keeps (h.0 file line lines end stored refused is),
+  fulls_later u t items about keeps h.1,
+)
+
+fulls_more : (t : View) (items : List Item) (x : Item) → AllOf (IsFullItem t) items → IsFullItem t x
+    → AllOf (IsFullItem t) (items ++ x ∷ [])
+fulls_more t [] x h one = (one, tt)
+fulls_more t (y ∷ items) x h one = (h.0, fulls_more t items x h.1 one)
+
+-- what the pass knows at its end lies within the block where it does later
+within_before : (v u t : View) (s : Span) → Learns u t → IsWithinSpan v t s → IsWithinSpan v u s
+within_before v u t s learns within =
+    let version = learns.version in
+    let last = within.last in
+    let count = learns.count in
+    let near = within.near in
+    record {
+      first = within.first;
+      last = omega arith;
+      settled = within.settled;
+      counted = within.counted;
+      near = omega arith;
+    }
+
+-- a step that gains nothing and answers nothing
+pub told_on : (v u t : View) (works : List Work) (items : List Item) → HasTold v u works items → Gains u t []
+    → HasTold v t works items
+told_on v u t works items h g =
+    let learns = g.on.learns in
+    let version = learns.version in
+    let known = h.versions in
+    record {
+      rows = h.rows ++ [];
+      gains = gains_both v u t h.rows [] h.gains g;
+      tells = λ s within z remains b l c.
+          subst (λ (r : List LaneRow). TellsAll z s remains.log [] [] r works items) (sym (append-nil h.rows))
+          (sure_later u t _ learns (h.tells s (within_before v u t s learns within)) z remains b l c);
+      shown = λ n x m i. published_later u t n learns (h.shown n x m i);
+      settles = λ k m. let a = h.settles k m in let e = learns.settled in omega arith;
+      size = h.size;
+      full = fulls_later u t items learns.about g.shut h.full;
+      versions = omega arith;
+    }
+
+-- one statement more
+pub told_more : (v u t : View) (works : List Work) (items : List Item) (w : Work) (x : Item) (rows : List LaneRow)
+    → v.about.number ≡ 0 → HasTold v u works items → Gains u t rows → contents rows ≡ take (count_of x) (content_of w)
+    → IsFit u t w x → u.learned.version + made_by x ≤ t.learned.version → HasTold v t (works ++ w ∷ []) (items ++ x ∷ [])
+told_more v u t works items w x rows base h g first fit version =
+    let learns = g.on.learns in
+    let settled_more = learns.settled in
+    let known = h.versions in
+    let many = made_append items (x ∷ []) in
+    let zero_now : u.about.number ≡ 0 = ap (λ (z : Key). z.number) h.gains.on.learns.about ∙ base in
+    let zero_then : t.about.number ≡ 0 = ap (λ (z : Key). z.number) learns.about ∙ zero_now in
+    record {
+      rows = h.rows ++ rows;
+      gains = gains_both v u t h.rows rows h.gains g;
+      tells = λ s within z remains b l c.
+          tells_more z s remains.log [] [] h.rows rows works items w x
+          (sure_later u t _ learns (h.tells s (within_before v u t s learns within)) z remains b l c) first
+          (subst (λ (k : Span). TellsItem z k remains.log h.rows (shown_in items) w x) (sym (behind_is items s))
+          (item_told v u t works items s base h learns within w x fit z remains b l c));
+      shown = λ n s m i. ⊎_elim (λ (k : Among s (shown_in items)). published_later u t n learns (h.shown n s k i))
+          (λ (k : Among s (shown_by x)). item_shown u t zero_now zero_then w x n s fit k i) (shown_either s items x m);
+      settles = λ k m. ⊎_elim (λ (n : Among (settled k) (shown_in items)). (let a = h.settles k n in omega arith))
+          (λ (n : Among (settled k) (shown_by x)). item_settles u t zero_now zero_then w x k fit n)
+          (shown_either (settled k) items x m);
+      size = (let a = length-append items (x ∷ []) in let b = length-append works (w ∷ []) in let e = h.size in
+          omega arith);
+      full = fulls_more t items x (fulls_later u t items learns.about g.shut h.full) (full_fit u t w x fit);
+      versions = omega arith;
+    }
+
+-- ---- answers among items
+
+-- one more item that answers
+pub answers_more : (items : List Item) (x : Item) → is_answer x ≡ true → answers (items ++ x ∷ []) ≡ answers items ++ x ∷ []
+answers_more items x is = filter_last is_answer items x is
+
+-- and one that doesn't
+pub answers_same : (items : List Item) (x : Item) → is_answer x ≡ false → answers (items ++ x ∷ []) ≡ answers items
+answers_same items x is = filter_other is_answer items x is
+
+-- of a full log only answers tell
+fulls_all : (u : View) (items : List Item) → AllOf (IsFullItem u) (answers items) → AllOf (IsFullItem u) items
+fulls_all u [] h = tt
+fulls_all u (x ∷ items) h = by (is_answer x) refl h (fulls_all u items)
+  where
+    by : (b : Bool) → is_answer x ≡ b → AllOf (IsFullItem u) (answers (x ∷ items))
+        → (AllOf (IsFullItem u) (answers items) → AllOf (IsFullItem u) items) → AllOf (IsFullItem u) (x ∷ items)
+    by true e h rest =
+        let parts : AllOf (IsFullItem u) (x ∷ answers items) =
+        subst (AllOf (IsFullItem u)) (filter_first is_answer x items e) h in
+        (parts.0, rest parts.1)
+    by false e h rest = (
+      λ file line lines end stored refused is. (let bad : false ≡ true = sym e ∙ ap is_answer is in absurd cc),
+      rest (subst (AllOf (IsFullItem u)) (filter_skip is_answer x items e) h),
+    )
+
+-- ---- the end
+
+-- all statements are done
+pub run_ended : (v u : View) (works : List Work) (items : List Item) → HasTold v u works (answers items)
+    → HasRun v u works items fault.None
+run_ended v u works items h = record {
+  rows = h.rows;
+  gains = h.gains;
+  tells = λ s within z remains b l c.
+      tells_ended z s remains.log [] [] h.rows works (answers items) (h.tells s within z remains b l c);
+  full = fulls_all u items h.full;
+  ended = record { whole = λ _. h.size; cut = λ bad. absurd (bad refl) };
+}
+
+-- or those up to one of which a part was done
+pub run_cut : (v u t : View) (works : List Work) (items : List Item) (w : Work) (later : List Work) (rows : List LaneRow)
+    (count : ℕ) → HasTold v u works (answers items) → Gains u t rows → contents rows ≡ take count (content_of w)
+    → HasRun v t (works ++ w ∷ later) items fault.Memory
+run_cut v u t works items w later rows count h g first =
+    let learns = g.on.learns in
+    record {
+      rows = h.rows ++ rows;
+      gains = gains_both v u t h.rows rows h.gains g;
+      tells = λ s within z remains b l c.
+          tells_cut z s remains.log [] [] h.rows rows works (answers items) w later count
+          (sure_later u t _ learns (h.tells s (within_before v u t s learns within)) z remains b l c) first;
+      full = fulls_later u t items learns.about g.shut (fulls_all u items h.full);
+      ended = record {
+        whole = λ e. absurd cc;
+        cut = λ _. let a = length-append works (w ∷ later) in let e = h.size in omega arith;
+      };
+    }

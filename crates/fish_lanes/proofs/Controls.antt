@@ -1,0 +1,265 @@
+-- The statements of the first lane so far, with the definitions that their items tell.
+use Rattle.std.proofs.Common.{◌≡◌, ℕ, ◌+◌, ◌<◌, ◌≤◌, List, [], ◌∷◌, ◌++◌, take, refl, sym, ap, ◌∙◌, subst, inl, inr, arith}
+use Rattle.std.proofs.Common.{zero, suc, None, Result, Ok, Err}
+use Rattle.std.specs.Prelude.{IfErr, IfOk}
+use Rattle.fish_lanes.proofs.Advancing.{answers_more, answers_same, run_cut, run_ended, told_more, told_on}
+use Rattle.fish_lanes.proofs.Done.{HasTold, told_self}
+use Rattle.fish_lanes.proofs.Registrations.{registry_later}
+use Rattle.fish_lanes.proofs.Showing.{fit_answer}
+use Rattle.fish_lanes.specs.Controlling.{Does, HasControlled, HasPolled, IsControlled, IsPartControlled}
+use Rattle.fish_lanes.specs.Doing.{GainsFirst, IsFit, IsItem, IsPart}
+use Rattle.fish_lanes.specs.Gains.{Gains}
+use Rattle.fish_lanes.specs.Records.{LaneRow, contents}
+use Rattle.fish_lanes.specs.Registering.{AreSo, IsSo, KnowsEach, KnowsRegistry, Registry, after, after_all, registry_of}
+use Rattle.fish_lanes.specs.Running.{IsFree}
+use Rattle.fish_lanes.specs.Spans.{answers, made_by}
+use Rattle.fish_lanes.specs.Telling.{content_of, count_of}
+use Rattle.fish_lanes.specs.declared.work.LaneFault.TheVariants as fault
+use Rattle.fish_lanes.specs.declared.work.Work.{Work}
+use Rattle.fish_lanes.specs.declared.work.Work.TheVariants as work
+use Rattle.fish_lang.specs.declared.definition.Def.{Def}
+use Rattle.fish_registry.specs.declared.registrar.Registrar.{Registrar}
+use Rattle.fish_report.specs.declared.item.Item.{Item}
+use Rattle.fish_report.specs.declared.item.Item.TheVariants as item
+use Rattle.fish_rule.specs.Logs.{Learns}
+use Rattle.fish_rule.specs.declared.view.Epoch.TheVariants.{Out}
+use Rattle.fish_rule.specs.declared.view.View.{View}
+
+-- ---- items that are so
+
+pub so_wide : (low high low' high' : ℕ) (r : Registry) (x : Item) → low' ≤ low → high ≤ high' → IsSo low high r x
+    → IsSo low' high' r x
+so_wide low high low' high' r (item.Registered name id from def) a b h =
+    (let l = h.2.0 in let u = h.2.1 in (h.0, h.1, (omega arith, omega arith)))
+so_wide low high low' high' r (item.Rolling name id def seat version) a b h = h
+so_wide low high low' high' r (item.Bound id from) a b h = (let l = h.1.0 in let u = h.1.1 in (h.0, (omega arith, omega arith)))
+so_wide low high low' high' r (item.Deregistered name id to) a b h =
+    (let l = h.2.0 in let u = h.2.1 in (h.0, h.1, (omega arith, omega arith)))
+so_wide low high low' high' r x a b h = h
+
+-- so they are between numbers that lie further apart
+pub are_so_wide : (low high low' high' : ℕ) (r : Registry) (items : List Item) → low' ≤ low → high ≤ high'
+    → AreSo low high r items → AreSo low' high' r items
+are_so_wide low high low' high' r [] a b h = tt
+are_so_wide low high low' high' r (x ∷ items) a b h =
+    (so_wide low high low' high' r x a b h.0, are_so_wide low high low' high' (after r x) items a b h.1)
+
+pub so_more : (low high : ℕ) (r : Registry) (items : List Item) (x : Item) → AreSo low high r items
+    → IsSo low high (after_all r items) x → AreSo low high r (items ++ x ∷ [])
+so_more low high r [] x h one = (one, tt)
+so_more low high r (y ∷ items) x h one = (h.0, so_more low high (after r y) items x h.1 one)
+
+pub after_more : (r : Registry) (items : List Item) (x : Item) → after_all r (items ++ x ∷ []) ≡ after (after_all r items) x
+after_more r [] x = refl
+after_more r (y ∷ items) x = after_more (after r y) items x
+
+-- each item counts the version that it made
+after_version : (r : Registry) (x : Item) → (after r x).version ≡ r.version + made_by x
+after_version r (item.Registered name id from def) = omega arith
+after_version r (item.Rolling name id def seat version) = omega arith
+after_version r (item.Deregistered name id to) = omega arith
+after_version r x = omega arith
+
+-- ---- definitions that are known
+
+pub each_later : (u t : View) (r : Registry) (items : List Item) → Learns u t → KnowsEach u r items → KnowsEach t r items
+each_later u t r [] learns h = registry_later u t r learns h
+each_later u t r (x ∷ items) learns h = (registry_later u t r learns h.0, each_later u t (after r x) items learns h.1)
+
+pub each_last : (u : View) (r : Registry) (items : List Item) → KnowsEach u r items → KnowsRegistry u (after_all r items)
+each_last u r [] h = h
+each_last u r (x ∷ items) h = each_last u (after r x) items h.1
+
+pub each_more : (u : View) (r : Registry) (items : List Item) (x : Item) → KnowsEach u r items
+    → KnowsRegistry u (after (after_all r items) x) → KnowsEach u r (items ++ x ∷ [])
+each_more u r [] x h one = (h, one)
+each_more u r (y ∷ items) x h one = (h.0, each_more u (after r y) items x h.1 one)
+
+-- ---- statements so far
+
+-- their items answer them, and tell of the definitions that the registrar keeps
+pub record Held (v : View) (r : Registrar) (u : View) (s : Registrar) (works : List Work) (items : List Item) : Type 0 where
+  pub told : HasTold v u works (answers items)
+  pub so : AreSo v.learned.count u.learned.count (registry_of v r) items
+  pub is : registry_of u s ≡ after_all (registry_of v r) items
+  pub each : KnowsEach u (registry_of v r) items
+
+-- none yet
+pub held_self : (v : View) (r : Registrar) → v.epoch ≡ Out → v.flight ≡ None → KnowsRegistry v (registry_of v r) → Held v r v r [] []
+held_self v r outside idle known = record { told = told_self v outside idle; so = tt; is = refl; each = known }
+
+-- an item more that is so
+held_item : (v : View) (r : Registrar) (u : View) (s : Registrar) (t : View) (q : Registrar) (works works' : List Work)
+    (items : List Item) (x : Item) → Held v r u s works items → Learns v u → Learns u t → Does u s t q x
+    → HasTold v t works' (answers (items ++ x ∷ [])) → Held v r t q works' (items ++ x ∷ [])
+held_item v r u s t q works works' items x h before learns does told =
+    let start = registry_of v r in
+    let more = before.count in
+    let then = learns.count in
+    record {
+      told = told;
+      so = so_more v.learned.count t.learned.count start items x
+          (are_so_wide v.learned.count u.learned.count v.learned.count t.learned.count start items (omega arith) (omega arith) h.so)
+          (so_wide u.learned.count t.learned.count v.learned.count t.learned.count (after_all start items) x (omega arith)
+          (omega arith) (subst (λ (z : Registry). IsSo u.learned.count t.learned.count z x) h.is does.so));
+      is = does.is ∙ ap (λ (z : Registry). after z x) h.is ∙ sym (after_more start items x);
+      each = each_more t start items x (each_later u t start items learns h.each)
+          (subst (λ (z : Registry). KnowsRegistry t (after z x)) h.is
+          (does.knows (subst (KnowsRegistry u) (sym h.is) (each_last u start items h.each))));
+    }
+
+-- a look for a boundary
+pub held_polled : (v : View) (r : Registrar) (u : View) (s : Registrar) (t : View) (q : Registrar) (works : List Work)
+    (items items' : List Item) → Held v r u s works items → Gains u t [] → HasPolled u s t q items items'
+    → Held v r t q works items'
+held_polled v r u s t q works items items' h g (inl p) =
+    let learns = g.on.learns in
+    let more = learns.count in
+    let start = registry_of v r in
+    subst (Held v r t q works) (sym p.0) (record {
+      told = told_on v u t works (answers items) h.told g;
+      so = are_so_wide v.learned.count u.learned.count v.learned.count t.learned.count start items (omega arith) (omega arith) h.so;
+      is = p.1 ∙ h.is;
+      each = each_later u t start items learns h.each;
+    })
+held_polled v r u s t q works items items' h g (inr p) =
+    let x = item.Bound p.0 p.1 in
+    subst (Held v r t q works) (sym p.2)
+    (held_item v r u s t q works works items x h h.told.gains.on.learns g.on.learns p.3
+    (subst (HasTold v t works) (sym (answers_same items x refl)) (told_on v u t works (answers items) h.told g)))
+
+-- a statement
+pub held_done : (v : View) (r : Registrar) (u : View) (s : Registrar) (t : View) (q : Registrar) (works : List Work)
+    (items : List Item) (w : Work) (x : Item) → v.about.number ≡ 0 → Held v r u s works items → IsControlled u s t q w x
+    → Held v r t q (works ++ w ∷ []) (items ++ x ∷ [])
+held_done v r u s t q works items w x base h c =
+    let made : t.learned.version ≡ u.learned.version + made_by x =
+    ap (λ (z : Registry). z.version) c.does.is ∙ after_version (registry_of u s) x in
+    held_item v r u s t q works (works ++ w ∷ []) items x h h.told.gains.on.learns c.gains.on.learns c.does
+    (subst (HasTold v t (works ++ w ∷ [])) (sym (answers_more items x (fit_answer u t w x c.fit)))
+    (told_more v u t works (answers items) w x c.rows base h.told c.gains c.first c.fit (omega arith)))
+
+-- ---- the end
+
+-- all are done
+pub held_ended : (v : View) (r : Registrar) (u : View) (s : Registrar) (works : List Work) (items : List Item)
+    → Held v r u s works items → HasControlled v u r s works items fault.None
+held_ended v r u s works items h = record {
+  run = run_ended v u works items h.told;
+  so = h.so;
+  is = λ e. h.is;
+  each = λ e. h.each;
+}
+
+-- or those up to one of which a part was done
+pub held_cut : (v : View) (r : Registrar) (u : View) (s : Registrar) (t : View) (q : Registrar) (works : List Work)
+    (items : List Item) (w : Work) (later : List Work) (rows : List LaneRow) (count : ℕ) → Held v r u s works items
+    → Gains u t rows → contents rows ≡ take count (content_of w)
+    → HasControlled v t r q (works ++ w ∷ later) items fault.Memory
+held_cut v r u s t q works items w later rows count h g first =
+    let more = g.on.learns.count in
+    record {
+      run = run_cut v u t works items w later rows count h.told g first;
+      so = are_so_wide v.learned.count u.learned.count v.learned.count t.learned.count (registry_of v r) items (omega arith)
+          (omega arith) h.so;
+      is = λ e. absurd cc;
+      each = λ e. absurd cc;
+    }
+
+-- ---- statements that change no definition
+
+-- what was gained of them
+pub gained_any : {E : Type 0} (v t : View) (w : Work) (r : Result Item E) → IfOk r (IsItem v t w) → IfErr r (λ _. IsPart v t w)
+    → (count : ℕ) × GainsFirst v t (content_of w) count
+gained_any v t w (Ok x) ok err = (count_of x, ok.gained)
+gained_any v t w (Err e) ok err = err
+
+-- it is one where it neither registers nor ends one
+pub free_of : (w : Work)
+    → ((name : List ℕ) (def : Def) → w ≡ work.Register name def → ⊥)
+    → ((name : List ℕ) → w ≡ work.Deregister name → ⊥) → IsFree w
+free_of (work.Register name def) no_register no_end = absurd (no_register name def refl)
+free_of (work.Deregister name) no_register no_end = absurd (no_end name refl)
+free_of (work.Ingest form header name file) no_register no_end = tt
+free_of (work.Scan ask) no_register no_end = tt
+free_of (work.Explain ask) no_register no_end = tt
+free_of work.Checkpoint no_register no_end = tt
+
+free_after : (u t : View) (w : Work) (x : Item) (r : Registry) → IsFree w → IsFit u t w x → after r x ≡ r
+free_after u t (work.Register name def) x r free f = elim free [ ]
+free_after u t (work.Deregister name) x r free f = elim free [ ]
+free_after u t (work.Ingest form header name file) x r free (inl f) = ap (after r) f.is
+free_after u t (work.Ingest form header name file) x r free (inr (inl f)) = ap (after r) f.is
+free_after u t (work.Ingest form header name file) x r free (inr (inr f)) = ap (after r) f.is
+free_after u t (work.Scan ask) x r free (inl f) = ap (after r) f.is
+free_after u t (work.Scan ask) x r free (inr f) = ap (after r) f.is
+free_after u t (work.Explain ask) x r free (inl f) = ap (after r) f.is
+free_after u t (work.Explain ask) x r free (inr f) = ap (after r) f.is
+free_after u t work.Checkpoint x r free f = ap (after r) f.is
+
+free_so : (u t : View) (w : Work) (x : Item) (low high : ℕ) (r : Registry) → IsFree w → IsFit u t w x → IsSo low high r x
+free_so u t (work.Register name def) x low high r free f = elim free [ ]
+free_so u t (work.Deregister name) x low high r free f = elim free [ ]
+free_so u t (work.Ingest form header name file) x low high r free (inl f) = subst (IsSo low high r) (sym f.is) tt
+free_so u t (work.Ingest form header name file) x low high r free (inr (inl f)) = subst (IsSo low high r) (sym f.is) tt
+free_so u t (work.Ingest form header name file) x low high r free (inr (inr f)) = subst (IsSo low high r) (sym f.is) tt
+free_so u t (work.Scan ask) x low high r free (inl f) = subst (IsSo low high r) (sym f.is) tt
+free_so u t (work.Scan ask) x low high r free (inr f) = subst (IsSo low high r) (sym f.is) tt
+free_so u t (work.Explain ask) x low high r free (inl f) = subst (IsSo low high r) (sym f.is) tt
+free_so u t (work.Explain ask) x low high r free (inr f) = subst (IsSo low high r) (sym f.is) tt
+free_so u t work.Checkpoint x low high r free f = subst (IsSo low high r) (sym f.is) tt
+
+-- so their items do nothing
+pub free_does : (u t : View) (r : Registrar) (w : Work) (x : Item) → IsFree w → IsFit u t w x → Learns u t
+    → registry_of t r ≡ registry_of u r → Does u r t r x
+free_does u t r w x free f learns same =
+    let after_is = free_after u t w x (registry_of u r) free f in
+    record {
+      so = free_so u t w x u.learned.count t.learned.count (registry_of u r) free f;
+      is = same ∙ sym after_is;
+      knows = λ h. subst (KnowsRegistry t) (sym after_is) (registry_later u t (registry_of u r) learns h);
+    }
+
+-- nothing is the first of nothing
+pub take_nothing : (count : ℕ) (w : Work) → content_of w ≡ [] → contents [] ≡ take count (content_of w)
+take_nothing count w none = by count ∙ ap (take count) (sym none)
+  where
+    by : (n : ℕ) → contents [] ≡ take n []
+    by zero = refl
+    by (suc n) = refl
+
+-- so is it of a statement of which nothing was done
+pub take_nothing_first : (w : Work) → contents [] ≡ take 0 (content_of w)
+take_nothing_first w = refl
+
+-- ---- one statement of the first lane
+
+-- one on definitions
+pub control_done : {E : Type 0} (v : View) (s : Registrar) (t : View) (q : Registrar) (w : Work) (r : Result Item E)
+    → content_of w ≡ [] → Gains v t [] → IfOk r (IsFit v t w) → IfOk r (Does v s t q) → IfOk r (IsControlled v s t q w)
+control_done v s t q w (Ok x) none g fit does =
+    record { rows = []; gains = g; first = take_nothing (count_of x) w none; fit = fit; does = does }
+control_done v s t q w (Err e) none g fit does = tt
+
+pub control_part : {E : Type 0} (v t : View) (w : Work) (r : Result Item E) → content_of w ≡ [] → Gains v t []
+    → IfErr r (λ _. IsPartControlled v t w)
+control_part v t w (Ok x) none g = tt
+control_part v t w (Err e) none g = record { rows = []; count = 0; gains = g; first = take_nothing 0 w none }
+
+-- or any other one
+pub free_done : {E : Type 0} (v : View) (s : Registrar) (t : View) (w : Work) (r : Result Item E) → IsFree w → Learns v t
+    → registry_of t s ≡ registry_of v s → IfOk r (IsItem v t w) → IfOk r (IsControlled v s t s w)
+free_done v s t w (Ok x) free learns same item = record {
+  rows = item.gained.rows;
+  gains = item.gained.gains;
+  first = item.gained.first;
+  fit = item.fit;
+  does = free_does v t s w x free item.fit learns same;
+}
+free_done v s t w (Err e) free learns same item = tt
+
+pub free_part : {E : Type 0} (v t : View) (w : Work) (r : Result Item E) → IfErr r (λ _. IsPart v t w)
+    → IfErr r (λ _. IsPartControlled v t w)
+free_part v t w (Ok x) part = tt
+free_part v t w (Err e) part =
+    record { rows = part.1.rows; count = part.0; gains = part.1.gains; first = part.1.first }

@@ -1,0 +1,159 @@
+-- What an item shows, and what else it says by its kind alone.
+use Rattle.std.proofs.Common.{◌≡◌, ◌<◌, ◌≤◌, ℕ, List, [], ◌∷◌, refl, sym, ap, ◌∙◌, subst, inl, inr, arith, true}
+use Rattle.fish_lanes.proofs.Answered.{range_published}
+use Rattle.fish_lanes.proofs.Publishing.{settled_published}
+use Rattle.fish_lanes.specs.Doing.{FitsCheckpoint, FitsScanned, IsFit}
+use Rattle.fish_lanes.specs.Gains.{IsFullBy}
+use Rattle.fish_lanes.specs.Published.{IsPublished}
+use Rattle.fish_lanes.specs.Running.{IsFree, IsFullItem}
+use Rattle.fish_lanes.specs.Seen.{IsShown, Shown, range, settled, shown_by}
+use Rattle.fish_lanes.specs.Spans.{is_answer, made_by}
+use Rattle.fish_lanes.specs.declared.work.Work.{Work}
+use Rattle.fish_lanes.specs.declared.work.Work.TheVariants as work
+use Rattle.fish_report.specs.declared.item.Item.{Item}
+use Rattle.fish_report.specs.declared.item.Item.TheVariants as item
+use Rattle.fish_rule.specs.Views.{Among}
+use Rattle.fish_rule.specs.declared.view.View.{View}
+
+-- the number up to which all is settled, and whether one is told
+abbrev count_shown : Shown → ℕ
+count_shown (settled m) = m
+count_shown (range from to opens) = 0
+
+abbrev is_count : Shown → ℕ
+is_count (settled m) = 1
+is_count (range from to opens) = 0
+
+-- nothing that shows nothing shows something
+shows_none : (x y : Item) (s : Shown) (P : Type 0) → x ≡ y → shown_by y ≡ [] → Among s (shown_by x) → P
+shows_none x y s P is none m =
+    elim (subst (λ (z : List Shown). Among s z) none (subst (λ (z : Item). Among s (shown_by z)) is m)) [ ]
+
+module _ (u t : View) (zero_now : u.about.number ≡ 0) (zero_then : t.about.number ≡ 0) where
+  -- what it shows is published
+  pub item_shown : (w : Work) (x : Item) (n : ℕ) (s : Shown) → IsFit u t w x → Among s (shown_by x) → IsShown n s
+      → IsPublished t n
+  item_shown (work.Register name def) x n s (inl f) m sh = shows_none x _ s (IsPublished t n) f.2 refl m
+  item_shown (work.Register name def) x n s (inr (inl f)) m sh = shows_none x _ s (IsPublished t n) f.3 refl m
+  item_shown (work.Register name def) x n s (inr (inr f)) m sh = shows_none x _ s (IsPublished t n) f.1 refl m
+  item_shown (work.Deregister name) x n s (inl f) m sh = shows_none x _ s (IsPublished t n) f.2 refl m
+  item_shown (work.Deregister name) x n s (inr f) m sh = shows_none x _ s (IsPublished t n) f.1 refl m
+  item_shown (work.Ingest form header name file) x n s (inl f) m sh = elim (subst (λ (z : Item). Among s (shown_by z)) f.is m) [ ]
+  item_shown (work.Ingest form header name file) x n s (inr (inl f)) m sh =
+      elim (subst (λ (z : Item). Among s (shown_by z)) f.is m) [ ]
+  item_shown (work.Ingest form header name file) x n s (inr (inr f)) m sh =
+      elim (subst (λ (z : Item). Among s (shown_by z)) f.is m) [ ]
+  item_shown (work.Scan ask) x n s (inl f) m sh =
+      scanned f (subst (λ (z : Item). Among s (shown_by z)) f.is m)
+    where
+      scanned : (f : FitsScanned u t ask x) → Among s (range f.from f.to f.opens ∷ []) → IsPublished t n
+      scanned f (inr none) = elim none [ ]
+      scanned f (inl e) =
+          let r = f.fits.answer.explained.planned.range in
+          let i = subst (IsShown n) (sym e) sh in
+          range_published u t ask f.from f.to f.opens n r
+          zero_now i.0 i.1 i.2
+  item_shown (work.Scan ask) x n s (inr f) m sh = elim (subst (λ (z : Item). Among s (shown_by z)) f.is m) [ ]
+  item_shown (work.Explain ask) x n s (inl f) m sh = elim (subst (λ (z : Item). Among s (shown_by z)) f.is m) [ ]
+  item_shown (work.Explain ask) x n s (inr f) m sh = elim (subst (λ (z : Item). Among s (shown_by z)) f.is m) [ ]
+  item_shown work.Checkpoint x n s f m sh = checked f (subst (λ (z : Item). Among s (shown_by z)) f.is m)
+    where
+      checked : (f : FitsCheckpoint u t x) → Among s (settled f.count ∷ []) → IsPublished t n
+      checked f (inr none) = elim none [ ]
+      checked f (inl e) =
+          let below : n < f.count = subst (IsShown n) (sym e) sh in
+          let a = f.settled in
+          let b = f.counted in
+          settled_published t n zero_then (omega arith) (omega arith)
+
+  -- and what it says is settled is
+  pub item_settles : (w : Work) (x : Item) (k : ℕ) → IsFit u t w x → Among (settled k) (shown_by x) → k ≤ t.learned.settled
+  item_settles (work.Register name def) x k (inl f) m = shows_none x _ (settled k) (k ≤ t.learned.settled) f.2 refl m
+  item_settles (work.Register name def) x k (inr (inl f)) m = shows_none x _ (settled k) (k ≤ t.learned.settled) f.3 refl m
+  item_settles (work.Register name def) x k (inr (inr f)) m = shows_none x _ (settled k) (k ≤ t.learned.settled) f.1 refl m
+  item_settles (work.Deregister name) x k (inl f) m = shows_none x _ (settled k) (k ≤ t.learned.settled) f.2 refl m
+  item_settles (work.Deregister name) x k (inr f) m = shows_none x _ (settled k) (k ≤ t.learned.settled) f.1 refl m
+  item_settles (work.Ingest form header name file) x k (inl f) m =
+      elim (subst (λ (z : Item). Among (settled k) (shown_by z)) f.is m) [ ]
+  item_settles (work.Ingest form header name file) x k (inr (inl f)) m =
+      elim (subst (λ (z : Item). Among (settled k) (shown_by z)) f.is m) [ ]
+  item_settles (work.Ingest form header name file) x k (inr (inr f)) m =
+      elim (subst (λ (z : Item). Among (settled k) (shown_by z)) f.is m) [ ]
+  item_settles (work.Scan ask) x k (inl f) m = scanned f (subst (λ (z : Item). Among (settled k) (shown_by z)) f.is m)
+    where
+      scanned : (f : FitsScanned u t ask x) → Among (settled k) (range f.from f.to f.opens ∷ []) → k ≤ t.learned.settled
+      scanned f (inr none) = elim none [ ]
+      scanned f (inl e) = absurd (let bad : 0 ≡ 1 = ap is_count e in cc)
+  item_settles (work.Scan ask) x k (inr f) m = elim (subst (λ (z : Item). Among (settled k) (shown_by z)) f.is m) [ ]
+  item_settles (work.Explain ask) x k (inl f) m = elim (subst (λ (z : Item). Among (settled k) (shown_by z)) f.is m) [ ]
+  item_settles (work.Explain ask) x k (inr f) m = elim (subst (λ (z : Item). Among (settled k) (shown_by z)) f.is m) [ ]
+  item_settles work.Checkpoint x k f m = checked f (subst (λ (z : Item). Among (settled k) (shown_by z)) f.is m)
+    where
+      checked : (f : FitsCheckpoint u t x) → Among (settled k) (settled f.count ∷ []) → k ≤ t.learned.settled
+      checked f (inr none) = elim none [ ]
+      checked f (inl e) = (let same : f.count ≡ k = ap count_shown e in let a = f.settled in omega arith)
+
+-- ---- kinds
+
+-- what fits a statement answers it
+pub fit_answer : (u t : View) (w : Work) (x : Item) → IsFit u t w x → is_answer x ≡ true
+fit_answer u t (work.Register name def) x (inl f) = ap is_answer f.2
+fit_answer u t (work.Register name def) x (inr (inl f)) = ap is_answer f.3
+fit_answer u t (work.Register name def) x (inr (inr f)) = ap is_answer f.1
+fit_answer u t (work.Deregister name) x (inl f) = ap is_answer f.2
+fit_answer u t (work.Deregister name) x (inr f) = ap is_answer f.1
+fit_answer u t (work.Ingest form header name file) x (inl f) = ap is_answer f.is
+fit_answer u t (work.Ingest form header name file) x (inr (inl f)) = ap is_answer f.is
+fit_answer u t (work.Ingest form header name file) x (inr (inr f)) = ap is_answer f.is
+fit_answer u t (work.Scan ask) x (inl f) = ap is_answer f.is
+fit_answer u t (work.Scan ask) x (inr f) = ap is_answer f.is
+fit_answer u t (work.Explain ask) x (inl f) = ap is_answer f.is
+fit_answer u t (work.Explain ask) x (inr f) = ap is_answer f.is
+fit_answer u t work.Checkpoint x f = ap is_answer f.is
+
+-- and makes no version, but for registrations and their ends
+pub free_made : (u t : View) (w : Work) (x : Item) → IsFree w → IsFit u t w x → made_by x ≡ 0
+free_made u t (work.Register name def) x free f = elim free [ ]
+free_made u t (work.Deregister name) x free f = elim free [ ]
+free_made u t (work.Ingest form header name file) x free (inl f) = ap made_by f.is
+free_made u t (work.Ingest form header name file) x free (inr (inl f)) = ap made_by f.is
+free_made u t (work.Ingest form header name file) x free (inr (inr f)) = ap made_by f.is
+free_made u t (work.Scan ask) x free (inl f) = ap made_by f.is
+free_made u t (work.Scan ask) x free (inr f) = ap made_by f.is
+free_made u t (work.Explain ask) x free (inl f) = ap made_by f.is
+free_made u t (work.Explain ask) x free (inr f) = ap made_by f.is
+free_made u t work.Checkpoint x free f = ap made_by f.is
+
+-- an item of a full log names the claim that shut the pass
+pub full_fit : (u t : View) (w : Work) (x : Item) → IsFit u t w x → IsFullItem t x
+full_fit u t w x fit file line lines end stored refused is = by w (subst (IsFit u t w) is fit)
+  where
+    line_in : Item → ℕ
+    line_in (item.IngestFull called a b c d e) = a
+    line_in x = 0
+
+    lines_in : Item → ℕ
+    lines_in (item.IngestFull called a b c d e) = b
+    lines_in x = 0
+
+    end_in : Item → ℕ
+    end_in (item.IngestFull called a b c d e) = c
+    end_in x = 0
+
+    by : (w : Work) → IsFit u t w (item.IngestFull file line lines end stored refused)
+        → IsFullBy t line lines end
+    by (work.Register name def) (inl f) = (let bad = f.2 in absurd cc)
+    by (work.Register name def) (inr (inl f)) = (let bad = f.3 in absurd cc)
+    by (work.Register name def) (inr (inr f)) = (let bad = f.1 in absurd cc)
+    by (work.Deregister name) (inl f) = (let bad = f.2 in absurd cc)
+    by (work.Deregister name) (inr f) = (let bad = f.1 in absurd cc)
+    by (work.Ingest form header name content) (inl f) = (let bad = f.is in absurd cc)
+    by (work.Ingest form header name content) (inr (inl f)) =
+        subst (λ (z : ℕ × ℕ × ℕ). IsFullBy t z.0 z.1 z.2)
+        (λ i. (line_in (sym f.is i), lines_in (sym f.is i), end_in (sym f.is i))) f.full
+    by (work.Ingest form header name content) (inr (inr f)) = (let bad = f.is in absurd cc)
+    by (work.Scan ask) (inl f) = (let bad = f.is in absurd cc)
+    by (work.Scan ask) (inr f) = (let bad = f.is in absurd cc)
+    by (work.Explain ask) (inl f) = (let bad = f.is in absurd cc)
+    by (work.Explain ask) (inr f) = (let bad = f.is in absurd cc)
+    by work.Checkpoint f = (let bad = f.is in absurd cc)

@@ -1,0 +1,49 @@
+-- The registry stays, or what waits begins.
+use Rattle.std.proofs.Common.{inl, inr, refl, ap, sym, ◌∙◌}
+use Rattle.fish_ingest.proofs.IngestionStart.{idle_law}
+use Rattle.fish_lanes.proofs.Parts.{on_ok}
+use Rattle.fish_lanes.proofs.Registrations.{does_bound, gains_changes, registry_same}
+use Rattle.fish_lanes.specs.Registering.{waiting_id}
+use Rattle.fish_registry.proofs.Changing.{learns_changes}
+use Rattle.fish_rule.specs.Passes.{view}
+use Rattle.fish_lanes.proofs.registering.find_boundary.Goals as goal
+
+pub returns-in-Idle-clause-gains : goal.returns-in-Idle-clause-gains
+returns-in-Idle-clause-gains c =
+    let v = view c.args.pass.now in
+    gains_changes v (view c.poll.new.pass) c.requires.can.start.outside (idle_law v c.requires.can.of.stands c.requires.can.start)
+    c.poll.ensures.changes
+
+pub returns-in-NotYet-clause-gains : goal.returns-in-NotYet-clause-gains
+returns-in-NotYet-clause-gains c =
+    let v = view c.args.pass.now in
+    gains_changes v (view c.poll.new.pass) c.requires.can.start.outside (idle_law v c.requires.can.of.stands c.requires.can.start)
+    c.poll.ensures.changes
+
+pub returns-in-Bound-clause-gains : goal.returns-in-Bound-clause-gains
+returns-in-Bound-clause-gains c =
+    let v = view c.args.pass.now in
+    gains_changes v (view c.poll.new.pass) c.requires.can.start.outside (idle_law v c.requires.can.of.stands c.requires.can.start)
+    c.poll.ensures.changes
+
+pub returns-in-NotYet-clause-polled : goal.returns-in-NotYet-clause-polled
+returns-in-NotYet-clause-polled c =
+    let v = view c.args.pass.now in
+    let u = view c.poll.new.pass in
+    let r = c.args.registrar.now in
+    let s = c.poll.new.self in
+    let tells = c.in-NotYet.ensures.tells in
+    inl (refl, registry_same v u r s c.requires.can.of.stands c.poll.ensures.pass.stands (learns_changes v u c.poll.ensures.changes)
+    c.requires.can.knows c.poll.ensures.knows r.catalog tells.3 refl (ap waiting_id tells.2 ∙ sym (ap waiting_id tells.1)))
+
+pub returns-in-Bound-clause-polled : goal.returns-in-Bound-clause-polled
+returns-in-Bound-clause-polled c =
+    let v = view c.args.pass.now in
+    let u = view c.poll.new.pass in
+    let r = c.args.registrar.now in
+    let s = c.poll.new.self in
+    let tells = c.in-Bound.ensures.tells in
+    let does = does_bound v u r s c.requires.can.of.stands c.poll.ensures.pass.stands (learns_changes v u c.poll.ensures.changes)
+    c.requires.can.knows c.poll.ensures.knows c.in-Bound.id c.in-Bound.from tells.0 tells.1 tells.2 c.poll.ensures.changes.count
+    tells.4 in
+    on_ok c.push.result _ _ (λ pushed. inr (c.in-Bound.id, c.in-Bound.from, pushed, does)) c.push.ensures.ok

@@ -1,0 +1,40 @@
+-- Between which numbers of the log, and between which versions, a block lies.
+use Rattle.std.specs.Prelude.{ℕ, ◌+◌, ◌≤◌, Bool, List, false, filter, true}
+use Rattle.fish_report.specs.declared.item.Item.{Item}
+use Rattle.fish_report.specs.declared.item.Item.TheVariants as item
+use Rattle.fish_rule.specs.declared.view.View.{View}
+
+-- the log's end before the block and behind it, and the versions there
+pub record Span : Type 0 where
+  pub from : ℕ
+  pub to : ℕ
+  pub first : ℕ
+  pub last : ℕ
+
+-- what a lane's pass knew at its start and knows at its end lies within the block
+pub record IsWithinSpan (v u : View) (s : Span) : Type 0 where
+  pub first : s.first ≤ v.learned.version
+  pub last : u.learned.version ≤ s.last
+  pub settled : s.from ≤ v.learned.settled
+  pub counted : s.from ≤ v.learned.count
+  pub near : u.learned.count ≤ s.to + 16
+
+-- how many versions the item says were made
+abbrev pub made_by : Item → ℕ
+made_by (item.Registered name id from def) = 1
+made_by (item.Rolling name id def seat version) = 1
+made_by (item.Deregistered name id to) = 1
+made_by x = 0
+
+-- the block behind an item of the first lane: the versions that it made are there
+abbrev pub behind : Item → Span → Span
+behind x s = record s { first = s.first + made_by x }
+
+-- whether the item answers a statement: a boundary that was found later answers none
+abbrev pub is_answer : Item → Bool
+is_answer (item.Bound id from) = false
+is_answer x = true
+
+-- the items that answer a statement each
+abbrev pub answers : List Item → List Item
+answers items = filter is_answer items
