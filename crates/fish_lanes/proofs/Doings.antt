@@ -63,51 +63,51 @@ module _ {A : Type 0} (v : View) (r : Registrar) (result : Result A RegRefusal)
       ↔ (registry.MayChange r v × (¬ HasActive r.catalog name) × (16 ≤ count_by is_active r.catalog)))
       (many : (result ≡ Err refusal.TooManyDefinitions)
       ↔ (registry.MayChange r v × (¬ HasActive r.catalog name) × (count_by is_active r.catalog < 16) × (256 ≤ length r.catalog)))
-      where
-    -- a definition was registered
-    pub registered_here : (a : A) → result ≡ Ok a → MayRegister (registry_of v r) name
-    registered_here a is =
-        let may = change_here a is in
-        let free : ¬ HasActive r.catalog name = λ h. ok_or_err result a refusal.NameActive is (active.1 (may, h)) in
-        let few_active : count_by is_active r.catalog < 16 = active_few may free (dec_lt (count_by is_active r.catalog) 16) in
-        record {
-          change = may_change may;
-          free = free;
-          few_active = few_active;
-          few = all_few may free few_active (dec_lt (length r.catalog) 256);
-        }
-      where
-        active_few : registry.MayChange r v → ¬ HasActive r.catalog name → Dec (count_by is_active r.catalog < 16)
-            → count_by is_active r.catalog < 16
-        active_few may free (yes less) = less
-        active_few may free (no not_less) =
-            absurd (ok_or_err result a refusal.TooManyActive is (many_active.1 (may, free, omega arith)))
+    where
+      -- a definition was registered
+      pub registered_here : (a : A) → result ≡ Ok a → MayRegister (registry_of v r) name
+      registered_here a is =
+          let may = change_here a is in
+          let free : ¬ HasActive r.catalog name = λ h. ok_or_err result a refusal.NameActive is (active.1 (may, h)) in
+          let few_active : count_by is_active r.catalog < 16 = active_few may free (dec_lt (count_by is_active r.catalog) 16) in
+          record {
+            change = may_change may;
+            free = free;
+            few_active = few_active;
+            few = all_few may free few_active (dec_lt (length r.catalog) 256);
+          }
+        where
+          active_few : registry.MayChange r v → ¬ HasActive r.catalog name → Dec (count_by is_active r.catalog < 16)
+              → count_by is_active r.catalog < 16
+          active_few may free (yes less) = less
+          active_few may free (no not_less) =
+              absurd (ok_or_err result a refusal.TooManyActive is (many_active.1 (may, free, omega arith)))
 
-        all_few : registry.MayChange r v → ¬ HasActive r.catalog name → count_by is_active r.catalog < 16
-            → Dec (length r.catalog < 256) → length r.catalog < 256
-        all_few may free few (yes less) = less
-        all_few may free few (no not_less) =
-            absurd (ok_or_err result a refusal.TooManyDefinitions is (many.1 (may, free, few, omega arith)))
+          all_few : registry.MayChange r v → ¬ HasActive r.catalog name → count_by is_active r.catalog < 16
+              → Dec (length r.catalog < 256) → length r.catalog < 256
+          all_few may free few (yes less) = less
+          all_few may free few (no not_less) =
+              absurd (ok_or_err result a refusal.TooManyDefinitions is (many.1 (may, free, few, omega arith)))
 
-    -- or none was, and this is why
-    pub register_so : (e : RegRefusal) (cause : RegisterCause) → result ≡ Err e → register_cause e ≡ Some cause
-        → IsRegisterCause (registry_of v r) name cause
-    register_so (refusal.Rolling id) cause is because =
-        subst (IsRegisterCause (registry_of v r) name) (same_Some _ _ because) (waits_id r.waiting id ((rolling id).0 is))
-    register_so refusal.TooManyVersions cause is because =
-        let h = versions.0 is in
-        subst (IsRegisterCause (registry_of v r) name) (same_Some _ _ because) (none_id r.waiting h.0, h.1)
-    register_so refusal.NameActive cause is because =
-        let h = active.0 is in
-        subst (IsRegisterCause (registry_of v r) name) (same_Some _ _ because) (may_change h.0, h.1)
-    register_so refusal.TooManyActive cause is because =
-        let h = many_active.0 is in
-        subst (IsRegisterCause (registry_of v r) name) (same_Some _ _ because) (may_change h.0, h.1, h.2)
-    register_so refusal.TooManyDefinitions cause is because =
-        let h = many.0 is in
-        subst (IsRegisterCause (registry_of v r) name) (same_Some _ _ because) (may_change h.0, h.1, h.2, h.3)
-    register_so refusal.OutOfMemory cause is because = absurd cc
-    register_so refusal.UnknownName cause is because = absurd cc
+      -- or none was, and this is why
+      pub register_so : (e : RegRefusal) (cause : RegisterCause) → result ≡ Err e → register_cause e ≡ Some cause
+          → IsRegisterCause (registry_of v r) name cause
+      register_so (refusal.Rolling id) cause is because =
+          subst (IsRegisterCause (registry_of v r) name) (same_Some _ _ because) (waits_id r.waiting id ((rolling id).0 is))
+      register_so refusal.TooManyVersions cause is because =
+          let h = versions.0 is in
+          subst (IsRegisterCause (registry_of v r) name) (same_Some _ _ because) (none_id r.waiting h.0, h.1)
+      register_so refusal.NameActive cause is because =
+          let h = active.0 is in
+          subst (IsRegisterCause (registry_of v r) name) (same_Some _ _ because) (may_change h.0, h.1)
+      register_so refusal.TooManyActive cause is because =
+          let h = many_active.0 is in
+          subst (IsRegisterCause (registry_of v r) name) (same_Some _ _ because) (may_change h.0, h.1, h.2)
+      register_so refusal.TooManyDefinitions cause is because =
+          let h = many.0 is in
+          subst (IsRegisterCause (registry_of v r) name) (same_Some _ _ because) (may_change h.0, h.1, h.2, h.3)
+      register_so refusal.OutOfMemory cause is because = absurd cc
+      register_so refusal.UnknownName cause is because = absurd cc
 
   -- and why none was ended
   pub deregister_so : (name : List ℕ)
@@ -130,7 +130,11 @@ module _ {A : Type 0} (v : View) (r : Registrar) (result : Result A RegRefusal)
 -- a refusal changes nothing
 pub registry_stays : (v t : View) (r s : Registrar) → s ≡ r → Stays v t → registry_of t s ≡ registry_of v r
 registry_stays v t r s same stays i =
-    record { rows = (same i).catalog; waiting = waiting_id (same i).waiting; version = (ap (λ (z : View). z.learned.version) stays.frame) i }
+    record {
+      rows = (same i).catalog;
+      waiting = waiting_id (same i).waiting;
+      version = (ap (λ (z : View). z.learned.version) stays.frame) i;
+    }
 
 -- ---- what was begun
 

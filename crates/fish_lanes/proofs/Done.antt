@@ -123,14 +123,16 @@ module _ (v u t : View) (works : List Work) (items : List Item) (s : Span) (base
     rows = f.rows;
     version = f.version;
     is = f.is;
-    tells = scan_told u t ask zero_now on (IsSeen s.from h.rows (shown_in items)) seen_is now within_now f.from f.to f.opens f.rows f.version
+    tells = scan_told u t ask zero_now on (IsSeen s.from h.rows (shown_in items)) seen_is
+        now within_now f.from f.to f.opens f.rows f.version
         f.fits y remains b l c;
   })
   item_told (work.Scan ask) x (inr f) y remains b l c = inr (record {
     version = f.version;
     why = f.why;
     is = f.is;
-    tells = refused_told u t ask zero_now on (IsSeen s.from h.rows (shown_in items)) seen_is now within_now f.version f.why f.fits y remains b l c;
+    tells = refused_told u t ask zero_now on (IsSeen s.from h.rows (shown_in items)) seen_is
+        now within_now f.version f.why f.fits y remains b l c;
   })
   item_told (work.Explain ask) x (inl f) y remains b l c = inl (record {
     from = f.from;
@@ -138,14 +140,16 @@ module _ (v u t : View) (works : List Work) (items : List Item) (s : Span) (base
     plan = f.plan;
     version = f.version;
     is = f.is;
-    tells = plan_told u t ask zero_now on (IsSeen s.from h.rows (shown_in items)) seen_is now within_now f.from f.to f.plan f.version f.fits y
+    tells = plan_told u t ask zero_now on (IsSeen s.from h.rows (shown_in items)) seen_is
+        now within_now f.from f.to f.plan f.version f.fits y
         remains b l c;
   })
   item_told (work.Explain ask) x (inr f) y remains b l c = inr (record {
     version = f.version;
     why = f.why;
     is = f.is;
-    tells = refused_told u t ask zero_now on (IsSeen s.from h.rows (shown_in items)) seen_is now within_now f.version f.why f.fits y remains b l c;
+    tells = refused_told u t ask zero_now on (IsSeen s.from h.rows (shown_in items)) seen_is
+        now within_now f.version f.why f.fits y remains b l c;
   })
   item_told work.Checkpoint x f y remains b l c = record {
     count = f.count;

@@ -1,5 +1,6 @@
 -- From the last statements of a block to its end: passes come back, a boundary is found, and the end of the log is.
-use Rattle.std.proofs.Common.{◌≡◌, ℕ, ◌+◌, ◌≤◌, List, [], ◌∷◌, ◌++◌, length, refl, sym, ap, ◌∙◌, subst, arith, append-nil, Option, Some, None, map}
+use Rattle.std.proofs.Common.{◌≡◌, ℕ, ◌+◌, ◌≤◌, List, [], ◌∷◌, ◌++◌, length, refl, sym, ap, ◌∙◌, subst, arith}
+use Rattle.std.proofs.Common.{append-nil, Option, Some, None, map}
 use Rattle.fish_catalog.specs.Listing.{listed_of}
 use Rattle.fish_ingest.specs.Ingestion.{CanStart}
 use Rattle.fish_lanes.proofs.Controls.{after_more, are_so_wide, each_last, each_later, each_more, so_more, so_wide}

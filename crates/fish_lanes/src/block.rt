@@ -94,13 +94,7 @@ fn run_others<R: Threads + Sync>(rt: &R, alloc: Global, log: &Log, lanes: &mut [
 }
 
 /// Does the statements of the first lane by the control pass.
-fn run_first(
-    alloc: Global,
-    log: &Log,
-    main: &mut Pass,
-    registrar: &mut Registrar,
-    lane: &mut Lane,
-)
+fn run_first(alloc: Global, log: &Log, main: &mut Pass, registrar: &mut Registrar, lane: &mut Lane)
     requires can { CanControl log.now main.old registrar.old }
     requires first { IsFirst (view main.old) registrar.old lane.old }
     ensures can { CanControl log.now main.new registrar.new }

@@ -39,8 +39,11 @@ few_word (Confirmed u) v h = omega arith
 state_out : (k : Key) (count : ℕ) (g : ℕ → ℕ) (state : ℕ → Epoch) (version_of : ℕ → ℕ) (v : View) (l : ℕ) → IsLane l
     → IsAlone v → v.epoch ≡ Out → Stays k count g state version_of v → state l ≡ Out
 state_out k count g state version_of v l lane alone outside stays =
-    let tied = stays.tied l (lane.some, lane.few,
-    inr (alone.main, λ m. elim (subst (Among l) alone.all m) [ ])) in
+    let tied = stays.tied l (
+      lane.some,
+      lane.few,
+      inr (alone.main, λ m. elim (subst (Among l) alone.all m) [ ]),
+    ) in
     pick tied (ℕ_discrete l v.lane)
   where
     pick : (l ≡ v.lane → state l ≡ v.epoch) × (l ≢ v.lane → state l ≡ Out) → Dec (l ≡ v.lane) → state l ≡ Out

@@ -5,6 +5,7 @@ pub mod Once
 pub mod OneScript
 pub mod Parts
 pub mod Reading
+pub mod Runnable
 pub mod Standing
 pub mod Steps
 pub mod Writing

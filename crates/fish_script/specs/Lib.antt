@@ -4,6 +4,7 @@ pub mod Limits
 pub mod Lines
 pub mod Places
 pub mod Refusals
+pub mod Runnable
 pub mod Script
 pub mod Wording
 pub mod Words

@@ -1,6 +1,7 @@
 //! What follows for every text. No call of the program needs it.
 
 ghost use Rattle.fish_script.specs.Laws.{NoScriptIsRefused, OneRefusal, OneScript};
+ghost use Rattle.fish_script.specs.Runnable.{ScriptsCanRun};
 
 /// A text is one script, or is refused for one cause, but for want of memory; and none is both.
 ///
@@ -9,4 +10,11 @@ pub fn law_one_outcome()
     ensures apart { NoScriptIsRefused }
     ensures once { OneRefusal }
     ensures one { OneScript }
+{}
+
+/// The statements of a script can be run: names and definitions are in order, and blocks keep the limits of lanes.
+///
+/// Its contract is that law.
+pub fn law_scripts_can_run()
+    ensures { ScriptsCanRun }
 {}

@@ -15,7 +15,7 @@ mod word;
 mod wording;
 
 pub use few::Few;
-pub use law::law_one_outcome;
+pub use law::{law_one_outcome, law_scripts_can_run};
 pub use parse::parse_script;
 pub use refusal::ScriptRefusal;
 pub use script::{

@@ -5,11 +5,15 @@
 #[cfg(test)]
 mod catalog;
 #[cfg(test)]
+mod commands;
+#[cfg(test)]
 mod csv_files;
 #[cfg(test)]
 mod csv_rows;
 #[cfg(test)]
 mod definitions;
+#[cfg(test)]
+mod file_selections;
 #[cfg(test)]
 mod files;
 #[cfg(test)]
@@ -52,3 +56,5 @@ mod texts;
 mod told;
 #[cfg(test)]
 mod values;
+#[cfg(test)]
+mod writing;

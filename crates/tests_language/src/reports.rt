@@ -222,7 +222,7 @@ const REFUSALS: &[(Plain, &str)] = &[
 ];
 
 /// Whole reports: none, one with two lanes, one with a refused statement in a lane and a boundary that was found later.
-const REPORTS: &[(&[Plain], &str)] = &[
+pub const REPORTS: &[(&[Plain], &str)] = &[
     (&[], ""),
     (
         &[

@@ -23,14 +23,16 @@ run_all-requires-clause-ready g c κs bounds k d less =
 
 pub take_all-requires-clause-can : goal.take_all-requires-clause-can
 take_all-requires-clause-can g c =
-    may_join c.args.log.now (view c.args.main.now) (view c.give_all.new.main) (view c.run_all.new.main) c.args.registrar.now c.run_all.new.registrar c.args.first.now
+    may_join c.args.log.now (view c.args.main.now) (view c.give_all.new.main) (view c.run_all.new.main)
+    c.args.registrar.now c.run_all.new.registrar c.args.first.now
     c.run_all.new.first c.args.others.now c.give_all.new.lanes c.run_all.new.others c.run_all.new.others
     c.give_all.ensures.given c.give_all.ensures.seated c.run_all.ensures.run c.run_all.ensures.done
     c.give_all.auto.lanes c.run_all.auto.others
 
 pub returns-clause-end : goal.returns-clause-end
 returns-clause-end g c =
-    has_end c.args.log.now (view c.args.main.now) (view c.give_all.new.main) (view c.run_all.new.main) c.args.registrar.now c.run_all.new.registrar c.args.first.now
+    has_end c.args.log.now (view c.args.main.now) (view c.give_all.new.main) (view c.run_all.new.main)
+    c.args.registrar.now c.run_all.new.registrar c.args.first.now
     c.run_all.new.first c.args.others.now c.give_all.new.lanes c.run_all.new.others c.take_all.new.lanes
     c.give_all.ensures.given c.give_all.ensures.seated c.run_all.ensures.run c.run_all.ensures.done
     c.give_all.auto.lanes c.run_all.auto.others
@@ -44,7 +46,8 @@ returns-clause-end g c =
 
 pub returns-clause-later : goal.returns-clause-later
 returns-clause-later g c =
-    is_later c.args.log.now (view c.args.main.now) (view c.give_all.new.main) (view c.run_all.new.main) c.args.registrar.now c.run_all.new.registrar c.args.first.now
+    is_later c.args.log.now (view c.args.main.now) (view c.give_all.new.main) (view c.run_all.new.main)
+    c.args.registrar.now c.run_all.new.registrar c.args.first.now
     c.run_all.new.first c.args.others.now c.give_all.new.lanes c.run_all.new.others c.take_all.new.lanes
     c.give_all.ensures.given c.give_all.ensures.seated c.run_all.ensures.run c.run_all.ensures.done
     c.give_all.auto.lanes c.run_all.auto.others
@@ -58,7 +61,8 @@ returns-clause-later g c =
 
 pub returns-clause-kept : goal.returns-clause-kept
 returns-clause-kept g c =
-    kept_at c.args.log.now (view c.args.main.now) (view c.give_all.new.main) (view c.run_all.new.main) c.args.registrar.now c.run_all.new.registrar c.args.first.now
+    kept_at c.args.log.now (view c.args.main.now) (view c.give_all.new.main) (view c.run_all.new.main)
+    c.args.registrar.now c.run_all.new.registrar c.args.first.now
     c.run_all.new.first c.args.others.now c.give_all.new.lanes c.run_all.new.others c.take_all.new.lanes
     c.give_all.ensures.given c.give_all.ensures.seated c.run_all.ensures.run c.run_all.ensures.done
     c.give_all.auto.lanes c.run_all.auto.others
@@ -66,47 +70,51 @@ returns-clause-kept g c =
 
 pub returns-clause-told : goal.returns-clause-told
 returns-clause-told g c k span = (
-  within c.args.log.now (view c.args.main.now) (view c.give_all.new.main) (view c.run_all.new.main) c.args.registrar.now c.run_all.new.registrar c.args.first.now
+  within c.args.log.now (view c.args.main.now) (view c.give_all.new.main) (view c.run_all.new.main)
+      c.args.registrar.now c.run_all.new.registrar c.args.first.now
       c.run_all.new.first c.args.others.now c.give_all.new.lanes c.run_all.new.others c.take_all.new.lanes
       c.give_all.ensures.given c.give_all.ensures.seated c.run_all.ensures.run c.run_all.ensures.done
       c.give_all.auto.lanes c.run_all.auto.others
       (view c.take_all.new.main) (view c.settle-to.new.pass) c.settle-to.result.settled c.take_all.ensures.taken
-    (closes_end (view c.take_all.new.main) (view c.find_last-bound.new.pass) (view c.settle-to.new.pass)
-    c.find_last-bound.ensures.changes c.settle-to.ensures.settles) c.settle-to.ensures.settled c.settle-to.result.count
-    c.settle-to.ensures.tail (c.settle-to.ensures.ends (alone_changes (view c.take_all.new.main) (view c.find_last-bound.new.pass)
-    c.find_last-bound.ensures.changes (taken_alone (view c.run_all.new.main) (view c.take_all.new.main)
-    c.run_all.new.others c.take_all.ensures.taken)))
+      (closes_end (view c.take_all.new.main) (view c.find_last-bound.new.pass) (view c.settle-to.new.pass)
+      c.find_last-bound.ensures.changes c.settle-to.ensures.settles) c.settle-to.ensures.settled c.settle-to.result.count
+      c.settle-to.ensures.tail (c.settle-to.ensures.ends (alone_changes (view c.take_all.new.main) (view c.find_last-bound.new.pass)
+      c.find_last-bound.ensures.changes (taken_alone (view c.run_all.new.main) (view c.take_all.new.main)
+      c.run_all.new.others c.take_all.ensures.taken)))
       c.take_all.ensures.lanes c.take_all.auto.lanes c.requires.others.base c.settle-to.ensures.pass.stands c.requires.end.1.marks
       k span c.requires.can.of.stands,
-  tells_first c.args.log.now (view c.args.main.now) (view c.give_all.new.main) (view c.run_all.new.main) c.args.registrar.now c.run_all.new.registrar c.args.first.now
+  tells_first c.args.log.now (view c.args.main.now) (view c.give_all.new.main) (view c.run_all.new.main)
+      c.args.registrar.now c.run_all.new.registrar c.args.first.now
       c.run_all.new.first c.args.others.now c.give_all.new.lanes c.run_all.new.others c.take_all.new.lanes
       c.give_all.ensures.given c.give_all.ensures.seated c.run_all.ensures.run c.run_all.ensures.done
       c.give_all.auto.lanes c.run_all.auto.others
       (view c.take_all.new.main) (view c.settle-to.new.pass) c.settle-to.result.settled c.take_all.ensures.taken
-    (closes_end (view c.take_all.new.main) (view c.find_last-bound.new.pass) (view c.settle-to.new.pass)
-    c.find_last-bound.ensures.changes c.settle-to.ensures.settles) c.settle-to.ensures.settled c.settle-to.result.count
-    c.settle-to.ensures.tail (c.settle-to.ensures.ends (alone_changes (view c.take_all.new.main) (view c.find_last-bound.new.pass)
-    c.find_last-bound.ensures.changes (taken_alone (view c.run_all.new.main) (view c.take_all.new.main)
-    c.run_all.new.others c.take_all.ensures.taken)))
+      (closes_end (view c.take_all.new.main) (view c.find_last-bound.new.pass) (view c.settle-to.new.pass)
+      c.find_last-bound.ensures.changes c.settle-to.ensures.settles) c.settle-to.ensures.settled c.settle-to.result.count
+      c.settle-to.ensures.tail (c.settle-to.ensures.ends (alone_changes (view c.take_all.new.main) (view c.find_last-bound.new.pass)
+      c.find_last-bound.ensures.changes (taken_alone (view c.run_all.new.main) (view c.take_all.new.main)
+      c.run_all.new.others c.take_all.ensures.taken)))
       c.take_all.ensures.lanes c.take_all.auto.lanes c.requires.others.base c.settle-to.ensures.pass.stands c.requires.end.1.marks
       k span c.requires.can.of.stands,
-  tells_others c.args.log.now (view c.args.main.now) (view c.give_all.new.main) (view c.run_all.new.main) c.args.registrar.now c.run_all.new.registrar c.args.first.now
+  tells_others c.args.log.now (view c.args.main.now) (view c.give_all.new.main) (view c.run_all.new.main)
+      c.args.registrar.now c.run_all.new.registrar c.args.first.now
       c.run_all.new.first c.args.others.now c.give_all.new.lanes c.run_all.new.others c.take_all.new.lanes
       c.give_all.ensures.given c.give_all.ensures.seated c.run_all.ensures.run c.run_all.ensures.done
       c.give_all.auto.lanes c.run_all.auto.others
       (view c.take_all.new.main) (view c.settle-to.new.pass) c.settle-to.result.settled c.take_all.ensures.taken
-    (closes_end (view c.take_all.new.main) (view c.find_last-bound.new.pass) (view c.settle-to.new.pass)
-    c.find_last-bound.ensures.changes c.settle-to.ensures.settles) c.settle-to.ensures.settled c.settle-to.result.count
-    c.settle-to.ensures.tail (c.settle-to.ensures.ends (alone_changes (view c.take_all.new.main) (view c.find_last-bound.new.pass)
-    c.find_last-bound.ensures.changes (taken_alone (view c.run_all.new.main) (view c.take_all.new.main)
-    c.run_all.new.others c.take_all.ensures.taken)))
+      (closes_end (view c.take_all.new.main) (view c.find_last-bound.new.pass) (view c.settle-to.new.pass)
+      c.find_last-bound.ensures.changes c.settle-to.ensures.settles) c.settle-to.ensures.settled c.settle-to.result.count
+      c.settle-to.ensures.tail (c.settle-to.ensures.ends (alone_changes (view c.take_all.new.main) (view c.find_last-bound.new.pass)
+      c.find_last-bound.ensures.changes (taken_alone (view c.run_all.new.main) (view c.take_all.new.main)
+      c.run_all.new.others c.take_all.ensures.taken)))
       c.take_all.ensures.lanes c.take_all.auto.lanes c.requires.others.base c.settle-to.ensures.pass.stands c.requires.end.1.marks
       k span c.requires.can.of.stands c.requires.others.few,
 )
 
 pub returns-clause-first_marks : goal.returns-clause-first_marks
 returns-clause-first_marks g c =
-    first_marks c.args.log.now (view c.args.main.now) (view c.give_all.new.main) (view c.run_all.new.main) c.args.registrar.now c.run_all.new.registrar c.args.first.now
+    first_marks c.args.log.now (view c.args.main.now) (view c.give_all.new.main) (view c.run_all.new.main)
+    c.args.registrar.now c.run_all.new.registrar c.args.first.now
     c.run_all.new.first c.args.others.now c.give_all.new.lanes c.run_all.new.others c.take_all.new.lanes
     c.give_all.ensures.given c.give_all.ensures.seated c.run_all.ensures.run c.run_all.ensures.done
     c.give_all.auto.lanes c.run_all.auto.others
@@ -120,7 +128,8 @@ returns-clause-first_marks g c =
 
 pub returns-clause-others_marks : goal.returns-clause-others_marks
 returns-clause-others_marks g c =
-    others_marks c.args.log.now (view c.args.main.now) (view c.give_all.new.main) (view c.run_all.new.main) c.args.registrar.now c.run_all.new.registrar c.args.first.now
+    others_marks c.args.log.now (view c.args.main.now) (view c.give_all.new.main) (view c.run_all.new.main)
+    c.args.registrar.now c.run_all.new.registrar c.args.first.now
     c.run_all.new.first c.args.others.now c.give_all.new.lanes c.run_all.new.others c.take_all.new.lanes
     c.give_all.ensures.given c.give_all.ensures.seated c.run_all.ensures.run c.run_all.ensures.done
     c.give_all.auto.lanes c.run_all.auto.others
@@ -134,14 +143,16 @@ returns-clause-others_marks g c =
 
 pub returns-clause-first_ended : goal.returns-clause-first_ended
 returns-clause-first_ended g c =
-    first_ended c.args.log.now (view c.args.main.now) (view c.give_all.new.main) (view c.run_all.new.main) c.args.registrar.now c.run_all.new.registrar c.args.first.now
+    first_ended c.args.log.now (view c.args.main.now) (view c.give_all.new.main) (view c.run_all.new.main)
+    c.args.registrar.now c.run_all.new.registrar c.args.first.now
     c.run_all.new.first c.args.others.now c.give_all.new.lanes c.run_all.new.others c.take_all.new.lanes
     c.give_all.ensures.given c.give_all.ensures.seated c.run_all.ensures.run c.run_all.ensures.done
     c.give_all.auto.lanes c.run_all.auto.others
 
 pub returns-clause-others_ended : goal.returns-clause-others_ended
 returns-clause-others_ended g c =
-    others_ended c.args.log.now (view c.args.main.now) (view c.give_all.new.main) (view c.run_all.new.main) c.args.registrar.now c.run_all.new.registrar c.args.first.now
+    others_ended c.args.log.now (view c.args.main.now) (view c.give_all.new.main) (view c.run_all.new.main)
+    c.args.registrar.now c.run_all.new.registrar c.args.first.now
     c.run_all.new.first c.args.others.now c.give_all.new.lanes c.run_all.new.others c.take_all.new.lanes
     c.give_all.ensures.given c.give_all.ensures.seated c.run_all.ensures.run c.run_all.ensures.done
     c.give_all.auto.lanes c.run_all.auto.others

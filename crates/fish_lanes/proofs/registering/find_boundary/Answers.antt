@@ -33,8 +33,11 @@ returns-in-NotYet-clause-polled c =
     let r = c.args.registrar.now in
     let s = c.poll.new.self in
     let tells = c.in-NotYet.ensures.tells in
-    inl (refl, registry_same v u r s c.requires.can.of.stands c.poll.ensures.pass.stands (learns_changes v u c.poll.ensures.changes)
-    c.requires.can.knows c.poll.ensures.knows r.catalog tells.3 refl (ap waiting_id tells.2 ∙ sym (ap waiting_id tells.1)))
+    inl (
+      refl,
+      registry_same v u r s c.requires.can.of.stands c.poll.ensures.pass.stands (learns_changes v u c.poll.ensures.changes)
+          c.requires.can.knows c.poll.ensures.knows r.catalog tells.3 refl (ap waiting_id tells.2 ∙ sym (ap waiting_id tells.1)),
+    )
 
 pub returns-in-Bound-clause-polled : goal.returns-in-Bound-clause-polled
 returns-in-Bound-clause-polled c =
