@@ -1,192 +1,21 @@
 //! Blocks of lanes on threads: what their items tell, and the log that is closed behind them.
 
-ghost use Rattle.std.specs.Prelude.{◌≡◌, ◌≤◌, [], IfOk, OnOk, length};
-ghost use Rattle.fish_rule.specs.Passes.{IsPassOf, view};
-ghost use Rattle.fish_rule.specs.Reading.{IsAlone};
-ghost use Rattle.fish_rule.specs.Table.{first_view};
-ghost use Rattle.fish_rule.specs.declared.view.Epoch.TheVariants.{Out};
-ghost use Rattle.tests_log.specs.Blocks.{IsBetween, IsBeginning};
+ghost use Rattle.std.specs.Prelude.{◌≤◌, OnOk, length};
+ghost use Rattle.tests_log.specs.Blocks.{IsBetween};
 
 use crate::expecting::{expect, expect_text};
-use crate::openings::{ONE_PAGE, closed, empty_log};
-use crate::registrations::{begin, poll};
-use crate::scripts::{Plain, Script, push_lanes, record_of};
-use fish_catalog::{Catalog, Entries, Entry};
-use fish_lanes::{Lane, run_block};
-use fish_registry::{Poll, Registrar};
-use fish_report::{Item, push_item};
-use fish_rule::{Base, Log, Pass, base, is_shut};
+use crate::running::{Block, Left, close_behind, defined, ran, run_table, told};
+use crate::scripts::{Plain, Script, record_of};
+use fish_catalog::{Entries, Entry};
+use fish_lanes::Lane;
+use fish_registry::Registrar;
+use fish_report::Item;
+use fish_rule::{Log, Pass};
 use fish_value::{Form, Row, Rows, Text};
-use fish_walk::settle;
 use std::alloc::Global;
-use std::fmt::Write;
 use std::process::Abort;
 use std::test::Fail;
 use std::thread::Threads;
-
-/// Where an empty store begins.
-const FIRST: Base = Base { number: 0, line: 0 };
-
-/// Registers the definition of the name `kind` on an empty log.
-fn register(
-    alloc: Global,
-    log: &Log,
-    main: &mut Pass,
-    registrar: &mut Registrar,
-) -> Result<(), Fail>
-    requires { IsBeginning log.now main.old registrar.old }
-    ensures { IsBeginning log.now main.new registrar.new }
-{
-    let begun = begin(alloc, log, main, registrar, "kind", "take kind")?;
-    if begun != Ok(0) || poll(log, main, registrar) != (Poll::Bound { id: 0, from: 0 }) {
-        return Err(Fail::new("not registered, or not bound"));
-    }
-    Ok(())
-}
-
-/// Finds how far a log reaches in which nothing is stored yet.
-fn find_end(log: &Log, main: &mut Pass) -> Result<(), Fail>
-    requires pass { IsPassOf log.now main.old }
-    requires alone { IsAlone (view main.old) }
-    requires outside { (view main.old).epoch ≡ Out }
-    ensures { OnOk result (IsBetween log.now main.new) }
-{
-    if base(log) != FIRST || is_shut(main).is_some() {
-        return Err(Fail::new("a base, or a full log"));
-    }
-    let end = settle(log, main).settled;
-    if end != 0 {
-        return Err(Fail::new("not empty"));
-    }
-    Ok(())
-}
-
-/// Both.
-fn begin_blocks(alloc: Global, log: &Log, main: &mut Pass) -> Result<(), Fail>
-    requires pass { IsPassOf log.now main.old }
-    requires first { view main.old ≡ first_view log.now.key }
-    requires rows { log.now.key.rows.value ≡ [] }
-    ensures { OnOk result (IsBetween log.now main.new) }
-{
-    let mut registrar = Registrar::new(Catalog::new(alloc));
-    let done = register(alloc, log, main, &mut registrar);
-    drop(registrar);
-    done?;
-    find_end(log, main)
-}
-
-/// A log of one page with a definition, between two blocks.
-fn opened(alloc: Global) -> Result<(Log, Pass), Fail>
-    ensures { IfOk result (λ r. IsBetween r.0 r.1) }
-{
-    let (log, mut main) = empty_log(alloc, ONE_PAGE, FIRST)?;
-    match begin_blocks(alloc, &log, &mut main) {
-        Ok(()) => Ok((log, main)),
-        Err(fail) => {
-            drop((log, main));
-            Err(fail)
-        }
-    }
-}
-
-/// How far the log reached behind a block, and its lanes.
-#[derive(Drop)]
-struct Block {
-    end: u32,
-    lanes: Vec<Lane>,
-}
-
-/// Runs a block of a table.
-fn run_table<R: Threads + Sync>(
-    rt: &R,
-    alloc: Global,
-    log: &Log,
-    main: &mut Pass,
-    scripts: &[Script],
-) -> Result<Block, Fail>
-    requires between { IsBetween log.now main.old }
-    requires some { 1 ≤ length scripts.now }
-    requires few { length scripts.now ≤ 16 }
-    ensures { IsBetween log.now main.new }
-{
-    let mut lanes = Vec::new(alloc);
-    match push_lanes(alloc, scripts, &mut lanes) {
-        Ok(()) => {
-            let end = run_block(rt, alloc, log, main, lanes.as_mut_slice());
-            Ok(Block { end, lanes })
-        }
-        Err(fail) => {
-            drop(lanes);
-            Err(fail)
-        }
-    }
-}
-
-/// A block, and the log that was closed behind it.
-#[derive(Drop)]
-struct Left {
-    block: Block,
-    entries: Entries,
-}
-
-/// Closes a log behind a block.
-fn close_behind(alloc: Global, log: Log, main: Pass, block: Block) -> Result<Left, Fail>
-    requires { IsBetween log main }
-{
-    match closed(alloc, log, main) {
-        Ok(entries) => Ok(Left { block, entries }),
-        Err(fail) => {
-            drop(block);
-            Err(fail)
-        }
-    }
-}
-
-/// Runs a block over a new log, and closes it.
-fn ran<R: Threads + Sync>(rt: &R, alloc: Global, scripts: &[Script]) -> Result<Left, Fail>
-    requires some { 1 ≤ length scripts.now }
-    requires few { length scripts.now ≤ 16 }
-{
-    let (log, mut main) = opened(alloc)?;
-    match run_table(rt, alloc, &log, &mut main, scripts) {
-        Ok(block) => close_behind(alloc, log, main, block),
-        Err(fail) => {
-            drop((log, main));
-            Err(fail)
-        }
-    }
-}
-
-/// Puts the items of a lane behind a text.
-fn push_lane(alloc: Global, text: &mut String, lane: &Lane) -> Result<(), Fail> {
-    write!(text, "lane {}\n", lane.number)?;
-    for item in lane.items.as_slice() {
-        push_item(alloc, text, item)?;
-    }
-    Ok(())
-}
-
-/// Puts an entry behind a text: its lane and its payload.
-fn push_entry(text: &mut String, entry: &Entry) -> Result<(), Fail> {
-    match entry {
-        Entry::Stored { lane, payload, .. } => {
-            Ok(write!(text, "{} {}\n", *lane, payload.as_str())?)
-        }
-        Entry::Void => Ok(text.push_str("void\n")?),
-    }
-}
-
-/// The items of all lanes and the entries of the log.
-fn told(alloc: Global, left: &Left) -> Result<String, Fail> {
-    let mut text = String::new(alloc);
-    for lane in left.block.lanes.as_slice() {
-        push_lane(alloc, &mut text, lane)?;
-    }
-    for entry in left.entries.as_slice() {
-        push_entry(&mut text, entry)?;
-    }
-    Ok(text)
-}
 
 /// One lane: of its lines one is no record, one is cut off and one is blank. The index of the definition begins at 0.
 const ALONE: &[Script] = &[&[
@@ -334,7 +163,7 @@ const FOUR: Script = &[
 /// Asserts that each lane's records are in order, and that each of its scans is a plain filter of the log.
 fn expect_scans<R: Abort>(rt: &R, alloc: Global, left: &Left) -> Result<(), Fail> {
     expect(rt, "entries", &left.entries.len(), &1_200);
-    expect(rt, "the end", &left.block.end, &1_200);
+    expect(rt, "the end", &left.block.end.to, &1_200);
     for lane in left.block.lanes.as_slice() {
         let stored = stored_in_order(alloc, &left.entries, lane.number, 2)?;
         expect(rt, "records of a lane", &stored, &300);
@@ -382,7 +211,7 @@ fn stored_by(lane: &Lane) -> Result<usize, Fail> {
 /// Asserts that the items of each lane count its records in a log that got full.
 fn expect_full<R: Abort>(rt: &R, alloc: Global, left: &Left) -> Result<(), Fail> {
     expect(rt, "entries", &left.entries.len(), &448);
-    expect(rt, "the end", &left.block.end, &448);
+    expect(rt, "the end", &left.block.end.to, &448);
     for lane in left.block.lanes.as_slice() {
         let stored = stored_in_order(alloc, &left.entries, lane.number, 450)?;
         expect(rt, "records of a lane", &stored, &stored_by(lane)?);
@@ -416,12 +245,13 @@ fn first_end<R: Threads + Sync>(
     alloc: Global,
     log: &Log,
     main: &mut Pass,
+    registrar: &mut Registrar,
 ) -> Result<u32, Fail>
-    requires { IsBetween log.now main.old }
-    ensures { IsBetween log.now main.new }
+    requires { IsBetween log.now main.old registrar.old }
+    ensures { OnOk result (IsBetween log.now main.new registrar.new) }
 {
-    let block = run_table(rt, alloc, log, main, FIRST_BLOCK)?;
-    let end = block.end;
+    let block = run_table(rt, alloc, log, main, registrar, FIRST_BLOCK)?;
+    let end = block.end.to;
     drop(block);
     Ok(end)
 }
@@ -432,22 +262,23 @@ fn run_both<R: Threads + Sync>(
     alloc: Global,
     log: &Log,
     main: &mut Pass,
+    registrar: &mut Registrar,
 ) -> Result<(u32, Block), Fail>
-    requires { IsBetween log.now main.old }
-    ensures { IsBetween log.now main.new }
+    requires { IsBetween log.now main.old registrar.old }
+    ensures { OnOk result (IsBetween log.now main.new registrar.new) }
 {
-    let end = first_end(rt, alloc, log, main)?;
-    let block = run_table(rt, alloc, log, main, SECOND_BLOCK)?;
+    let end = first_end(rt, alloc, log, main, registrar)?;
+    let block = run_table(rt, alloc, log, main, registrar, SECOND_BLOCK)?;
     Ok((end, block))
 }
 
 /// Runs both over a new log, and closes it.
 fn ran_both<R: Threads + Sync>(rt: &R, alloc: Global) -> Result<(u32, Left), Fail> {
-    let (log, mut main) = opened(alloc)?;
-    match run_both(rt, alloc, &log, &mut main) {
-        Ok((end, block)) => Ok((end, close_behind(alloc, log, main, block)?)),
+    let mut held = defined(rt, alloc)?;
+    match run_both(rt, alloc, &held.log, &mut held.main, &mut held.registrar) {
+        Ok((end, block)) => Ok((end, close_behind(alloc, held, block)?)),
         Err(fail) => {
-            drop((log, main));
+            drop(held);
             Err(fail)
         }
     }
@@ -465,7 +296,7 @@ fn stored_by_each(alloc: Global, entries: &Entries) -> Result<[usize; 3], Fail> 
 /// How far the log reaches behind each block, and how many records each lane has in it.
 fn ends_of(alloc: Global, end: u32, left: &Left) -> Result<Ends, Fail> {
     let stored = stored_by_each(alloc, &left.entries)?;
-    Ok(([end, left.block.end], stored))
+    Ok(([end, left.block.end.to], stored))
 }
 
 #[test]

@@ -13,6 +13,8 @@ mod bodies;
 #[cfg(test)]
 mod chains;
 #[cfg(test)]
+mod changes;
+#[cfg(test)]
 mod churn;
 #[cfg(test)]
 mod claims;
@@ -46,6 +48,10 @@ mod refusals;
 mod registrations;
 #[cfg(test)]
 mod rounds;
+#[cfg(test)]
+mod running;
+#[cfg(test)]
+mod runs;
 #[cfg(test)]
 mod scans;
 #[cfg(test)]

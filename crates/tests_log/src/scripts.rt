@@ -1,8 +1,11 @@
 //! Lanes as tables tell them: what each is to do, and the records that a lane makes for itself.
 
-ghost use Rattle.std.specs.Prelude.{◌≡◌, ◌≤◌, [], IfOk, OnOk, length};
-ghost use Rattle.fish_lanes.specs.Blocks.{AreLanes, IsNewLane};
+ghost use Rattle.std.specs.Prelude.{◌≡◌, ◌≤◌, [], All, IfOk, OnOk, length};
+ghost use Rattle.fish_lanes.specs.Blocks.{AreLanes};
+ghost use Rattle.fish_lanes.specs.Running.{IsFree};
+ghost use Rattle.tests_log.specs.Blocks.{IsAllowed, IsMade};
 
+use crate::openings::{name_of, parsed};
 use crate::scans::{Question, Wanted, ask_of};
 use fish_lanes::{Lane, Work, Works};
 use fish_scan::How;
@@ -14,6 +17,10 @@ use std::test::Fail;
 /// A statement of a table.
 #[derive(Clone, Copy)]
 pub(crate) enum Plain {
+    /// Register a definition of a name and a source. The first lane alone may.
+    Register(&'static str, &'static str),
+    /// End the definition with a name. The first lane alone may.
+    Deregister(&'static str),
     /// Store the lines of a file, whose name is `lines`.
     Lines(&'static str),
     /// Store the rows of a file behind its header, whose name is `rows`.
@@ -81,7 +88,9 @@ fn push_records(
 }
 
 /// The statement that stores a file.
-fn ingest_of(alloc: Global, form: Form, name: &str, file: Bytes) -> Result<Work, AllocError> {
+fn ingest_of(alloc: Global, form: Form, name: &str, file: Bytes) -> Result<Work, AllocError>
+    ensures { IfOk result IsFree }
+{
     match Text::copy_of(alloc, name) {
         Ok(name) => Ok(Work::Ingest {
             form,
@@ -103,7 +112,9 @@ fn records_of(
     first: usize,
     count: usize,
     words: usize,
-) -> Result<Work, AllocError> {
+) -> Result<Work, AllocError>
+    ensures { IfOk result IsFree }
+{
     let mut file = Bytes::new(alloc);
     match push_records(&mut file, alloc, lane, first, count, words) {
         Ok(()) => ingest_of(alloc, Form::Json, "records", file),
@@ -114,9 +125,37 @@ fn records_of(
     }
 }
 
-/// A statement of a table as one of a lane.
-fn work_of(alloc: Global, lane: u8, plain: Plain) -> Result<Work, Fail> {
+/// The statement that registers a definition.
+fn register_of(alloc: Global, lane: u8, name: &str, source: &str) -> Result<Work, Fail>
+    ensures { IfOk result (IsAllowed lane) }
+{
+    if lane > 1 {
+        return Err(Fail::new("another lane registers"));
+    }
+    let name = name_of(alloc, name)?;
+    let (def, text) = parsed(alloc, source)?;
+    drop(text);
+    Ok(Work::Register { name, def })
+}
+
+/// The statement that ends the definition with a name.
+fn deregister_of(alloc: Global, lane: u8, name: &str) -> Result<Work, Fail>
+    ensures { IfOk result (IsAllowed lane) }
+{
+    if lane > 1 {
+        return Err(Fail::new("another lane ends one"));
+    }
+    Ok(Work::Deregister {
+        name: Text::copy_of(alloc, name)?,
+    })
+}
+
+/// A statement of a table that changes no definition.
+fn free_of(alloc: Global, lane: u8, plain: Plain) -> Result<Work, Fail>
+    ensures { IfOk result IsFree }
+{
     match plain {
+        Plain::Register(..) | Plain::Deregister(..) => Err(Fail::new("changes a definition")),
         Plain::Lines(file) => {
             let file = Bytes::copy_of(alloc, file.as_bytes())?;
             Ok(ingest_of(alloc, Form::Json, "lines", file)?)
@@ -154,8 +193,22 @@ fn work_of(alloc: Global, lane: u8, plain: Plain) -> Result<Work, Fail> {
     }
 }
 
+/// A statement of a table as one of a lane.
+fn work_of(alloc: Global, lane: u8, plain: Plain) -> Result<Work, Fail>
+    ensures { IfOk result (IsAllowed lane) }
+{
+    match plain {
+        Plain::Register(name, source) => register_of(alloc, lane, name, source),
+        Plain::Deregister(name) => deregister_of(alloc, lane, name),
+        _ => free_of(alloc, lane, plain),
+    }
+}
+
 /// Puts the statements of a table behind others.
-fn push_works(alloc: Global, lane: u8, plains: &[Plain], works: &mut Works) -> Result<(), Fail> {
+fn push_works(alloc: Global, lane: u8, plains: &[Plain], works: &mut Works) -> Result<(), Fail>
+    requires { All (IsAllowed lane) works.old }
+    ensures { OnOk result (All (IsAllowed lane) works.new) }
+{
     for plain in plains {
         let work = work_of(alloc, lane, *plain)?;
         works.push(work)?;
@@ -165,7 +218,7 @@ fn push_works(alloc: Global, lane: u8, plains: &[Plain], works: &mut Works) -> R
 
 /// The lane with a number and with the statements of a table.
 fn lane_of(alloc: Global, number: u8, plains: &[Plain]) -> Result<Lane, Fail>
-    ensures { IfOk result (IsNewLane number) }
+    ensures { IfOk result (IsMade number) }
 {
     let mut lane = Lane::new(alloc, number);
     match push_works(alloc, number, plains, &mut lane.works) {

@@ -1,0 +1,91 @@
+-- The control pass from block to block.
+use Rattle.std.proofs.Common.{◌≡◌, ℕ, ◌<◌, List, [], ◌∷◌, ◌++◌, length, map, refl, sym, ap, ◌∙◌, subst, inl, arith, All}
+use Rattle.std.proofs.Common.{Some, Result, Ok, Err, slice_get, append-nil, drop, take}
+use Rattle.std.proofs.lemmas.List.{drop_all, take_all}
+use Rattle.std.specs.Prelude.{OnOk}
+use Rattle.fish_catalog.specs.Listing.{listed_of}
+use Rattle.fish_ingest.specs.Ingestion.{CanStart}
+use Rattle.fish_lanes.proofs.Controls.{each_last}
+use Rattle.fish_lanes.specs.Blocks.{HasRegistered, control_items}
+use Rattle.fish_lanes.specs.Controlling.{CanControl}
+use Rattle.fish_lanes.specs.Ending.{HasEnd}
+use Rattle.fish_lanes.specs.Registering.{KnowsRegistry, registry_of}
+use Rattle.fish_lanes.specs.declared.block.BlockEnd.{BlockEnd}
+use Rattle.fish_lanes.specs.declared.lane.Lane.{Lane}
+use Rattle.fish_lanes.specs.declared.work.LaneFault.TheVariants as fault
+use Rattle.fish_registry.specs.Knowing.{HasBegunBy, Knows, KnowsFirst}
+use Rattle.fish_registry.specs.declared.registrar.Registrar.{Registrar}
+use Rattle.fish_rule.proofs.Registers.{definitions_first}
+use Rattle.fish_rule.specs.Passes.{view}
+use Rattle.fish_rule.specs.Table.{first_view}
+use Rattle.fish_rule.specs.World.{high, low}
+use Rattle.fish_rule.specs.declared.table.Log.{Log}
+use Rattle.fish_rule.specs.declared.table.Pass.{Pass}
+use Rattle.fish_rule.specs.declared.view.Key.{Key}
+use Rattle.fish_rule.specs.declared.view.View.{View}
+use Rattle.fish_run.specs.Runs.{CanGoOn, IsNewLog}
+
+-- ---- in front of the first block
+
+-- a log that was just opened ends at number 0
+first_end : (v : View) (k : Key) → v ≡ first_view k → k.number ≡ 0 → k.line ≡ 0 → HasEnd v 0
+unfolding high low
+first_end v k is number line = subst (λ (z : View). HasEnd z 0) (sym is) (record {
+  alone = record { main = refl; all = refl; idle = refl };
+  outside = refl;
+  base = number;
+  settled = omega arith;
+  count = k.number;
+  counted = omega arith;
+  tail = (0, (λ i. Some (record { number = number i; line = line i })), sym number, refl);
+  ends = inl (sym number);
+  marks = λ s e. absurd cc;
+})
+
+-- so its control pass may run a block, with a registrar that has no row
+pub go_first : (log : Log) (main : Pass) (r : Registrar) → IsNewLog log main → r.catalog ≡ [] → KnowsFirst r
+    → CanGoOn log main r 0
+go_first log main r new none knows =
+    let k = log.key in
+    let rows : k.rows.value ≡ r.catalog = new.rows ∙ sym none in
+    record {
+      can = record {
+        of = new.of;
+        start = subst CanStart (sym new.first) (record { live = omega arith; outside = refl });
+        knows = subst (λ (z : View). Knows z r) (sym new.first)
+            (knows k rows (subst (All (HasBegunBy k.number)) (sym none) (λ i d less. absurd (omega arith))));
+      };
+      end = first_end (view main) k new.first new.number new.line;
+      known = subst (λ (z : View). KnowsRegistry z (registry_of z r)) (sym new.first) (record {
+        reached = omega arith;
+        are = λ g read. definitions_first k g k.version (omega arith) ∙ ap (map listed_of) rows;
+      });
+    }
+
+-- ---- behind a block
+
+-- items that were all given back are those that were written
+pub items_back : {A : Type 0} (n : ℕ) (new items : List A) → length items ≡ n → length new ≡ n
+    → take n (new ++ drop (length new) items) ≡ new
+items_back n new items many same =
+    ap (λ (z : List _). take n (new ++ z)) (drop_all (length new) items (omega arith))
+    ∙ ap (take n) (append-nil new) ∙ take_all n new (omega arith)
+
+-- a list that is not empty has a first element
+pub first_there : {A : Type 0} (xs : List A) → 0 < length xs → (x : A) × (slice_get xs 0 ≡ Some x)
+first_there [] less = absurd (omega arith)
+first_there (x ∷ xs) less = (x, refl)
+
+pub on_ok : {A E P Q : Type 0} (r : Result A E) → (P → Q) → OnOk r P → OnOk r Q
+on_ok (Ok x) f h = f h
+on_ok (Err e) f h = h
+
+-- the first lane had no fault, so the definitions that its items tell are known
+pub go_next : (log : Log) (v : View) (main : Pass) (r s : Registrar) (x : Lane) (end : BlockEnd) → CanControl log main s
+    → HasEnd (view main) end.to → HasRegistered v (view main) r s x end → x.fault ≡ fault.None → CanGoOn log main s end.to
+go_next log v main r s x end can ends has whole = record {
+  can = can;
+  end = ends;
+  known = subst (KnowsRegistry (view main)) (sym (has.is whole))
+      (each_last (view main) (registry_of v r) (control_items x end) (has.each whole));
+}

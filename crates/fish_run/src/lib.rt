@@ -1,0 +1,10 @@
+//! Runs of scripts: a script's blocks on one log, and what they write.
+#![tactic(auto)]
+
+mod building;
+mod file;
+mod running;
+mod telling;
+
+pub use file::read_file;
+pub use running::{Ran, RunFault, run_script};
