@@ -1,15 +1,18 @@
 # FishStore, with the Rattle kit's `rt` on the path.
 PREFIX ?= /usr/local
 PROGRAM = crates/fishstore/out/fishstore
-EXAMPLE = select 'take type' '"PushEvent"' events.jsonl
+EXAMPLE = examples/events
 CRATES = $(shell sed -n 's/^\(fish[a-z_]*\).*:.*/\1/p' crates.txt)
 
 .PHONY: demo build test edits gate install bench bench_log bench_ingest bench_registrations bench_scans bench_peers bench_program clean
 
-# Runs the program on the example, at once and with no proof.
+# Runs both commands of the program on the examples, built once and with no proof: their words stand a line each.
 demo:
-	cd crates/fishstore && rt try --data events.jsonl=../../examples/events.jsonl -- $(EXAMPLE)
-	@echo 'This run was not proved. `make build` proves the program and builds $(PROGRAM).'
+	@folder=$$(mktemp -d) && trap "rm -r $$folder" EXIT && touch $$folder/select $$folder/run && \
+	printf '%s\n' select 'take type' '"PushEvent"' $(EXAMPLE).jsonl > $$folder/select.args && \
+	printf '%s\n' run store $(EXAMPLE).fish > $$folder/run.args && cd crates/fishstore && \
+	rt try --cases $$folder --data $(EXAMPLE).jsonl=../../$(EXAMPLE).jsonl --data $(EXAMPLE).fish=../../$(EXAMPLE).fish
+	@echo 'These runs were not proved. `make build` proves the program and builds $(PROGRAM).'
 
 # Proves and builds the program. What is proved already is not proved again.
 build:

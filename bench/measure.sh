@@ -46,3 +46,20 @@ events() {
   [ -f "data/events-$1.jsonl" ] || python3 events.py "$1" > "data/events-$1.jsonl"
   echo "data/events-$1.jsonl"
 }
+
+# a program of rust/ over Debian's serde_json, or nothing where that or cargo is missing
+rust_program() {
+  if ! ls -d /usr/share/cargo/registry/serde_json-* > /dev/null 2>&1 || ! command -v cargo > /dev/null; then
+    echo "bench: librust-serde-json-dev or cargo is missing, so the Rust program is left out" >&2
+    return 0
+  fi
+  mkdir -p data/cargo
+  printf '[source.crates-io]\nreplace-with = "debian"\n[source.debian]\ndirectory = "/usr/share/cargo/registry"\n' \
+    > data/cargo/config.toml
+  if CARGO_HOME=$PWD/data/cargo cargo build --quiet --offline --release --manifest-path rust/Cargo.toml \
+    --target-dir data/target 2> data/cargo.log; then
+    echo "data/target/release/$1"
+  else
+    echo "bench: the Rust program doesn't build, see bench/data/cargo.log" >&2
+  fi
+}

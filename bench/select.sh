@@ -22,18 +22,7 @@ mkdir -p data
 file=data/events-$size.jsonl
 [ -f "$file" ] || python3 events.py "$size" > "$file"
 
-baseline=
-if [ -d /usr/share/cargo/registry/serde_json-1.0.87 ] || ls -d /usr/share/cargo/registry/serde_json-* >/dev/null 2>&1 && command -v cargo >/dev/null; then
-  mkdir -p data/cargo
-  printf '[source.crates-io]\nreplace-with = "debian"\n[source.debian]\ndirectory = "/usr/share/cargo/registry"\n' > data/cargo/config.toml
-  if CARGO_HOME=$PWD/data/cargo cargo build --quiet --offline --release --manifest-path rust/Cargo.toml --target-dir data/target 2>data/cargo.log; then
-    baseline=data/target/release/select-baseline
-  else
-    echo "bench: the Rust program doesn't build, see bench/data/cargo.log" >&2
-  fi
-else
-  echo "bench: librust-serde-json-dev or cargo is missing, so the Rust program is left out" >&2
-fi
+baseline=$(rust_program select)
 
 model=$(awk -F: '/model name/ { print $2; exit }' /proc/cpuinfo | sed 's/^ *//')
 echo "$(nproc) cores, $model, $(stat -c %s "$file") bytes, best of $runs runs on one core"

@@ -8,7 +8,6 @@ pub mod Published
 pub mod Records
 pub mod Registering
 pub mod Running
-pub mod Runs
 pub mod Scanning
 pub mod Seen
 pub mod Spans

@@ -1,3 +1,7 @@
+pub mod Blocks
+pub mod Ends
 pub mod Going
 pub mod Lists
+pub mod Versions
 pub mod Works
+pub mod Written

@@ -1,3 +1,8 @@
+pub mod Blocks
+pub mod Laws
+pub mod Ran
 pub mod Reading
+pub mod Reports
 pub mod Runs
+pub mod Steps
 pub mod Works

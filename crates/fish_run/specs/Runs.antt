@@ -1,5 +1,5 @@
 -- What a run of a script asks for and leaves between two blocks, and why it stops.
-use Rattle.std.specs.Prelude.{ℕ, ◌≡◌, ◌≤◌, List, [], Some, Result, IsErrOf, slice_get}
+use Rattle.std.specs.Prelude.{ℕ, ◌≡◌, ◌*◌, ◌≤◌, List, [], Some, Result, IsErrOf, slice_get}
 use Rattle.fish_lanes.specs.Controlling.{CanControl}
 use Rattle.fish_lanes.specs.Ending.{HasEnd}
 use Rattle.fish_lanes.specs.Registering.{KnowsRegistry, registry_of}
@@ -33,6 +33,7 @@ pub record IsNewLog (log : Log) (main : Pass) : Type 0 where
   pub line : log.key.line ≡ 0
   pub version : log.key.version ≡ 0
   pub rows : log.key.rows.value ≡ []
+  pub end : log.key.end ≡ log.shape.pages * 32768
 
 -- the control pass may close the log
 pub record CanClose (log : Log) (main : Pass) : Type 0 where

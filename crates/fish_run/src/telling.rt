@@ -1,9 +1,13 @@
 //! What is written of a block: the items of its lanes, in order.
 
-ghost use Rattle.std.specs.Prelude.{◌≡◌, ℕ, Some, false, slice_get};
+ghost use Rattle.std.specs.Prelude.{◌≡◌, ℕ, OnErr, OnOk, Some, false, slice_get};
+ghost use Rattle.std.specs.List.{flat_map, list_any};
 ghost use Rattle.fish_lanes.specs.declared.lane.Lane.{Lane};
 ghost use Rattle.fish_lanes.specs.declared.work.LaneFault.TheVariants as fault;
+ghost use Rattle.fish_outside.specs.Told.{Gained, GainedPart};
+ghost use Rattle.fish_report.specs.ReportText.{is_refusal, report_text};
 ghost use Rattle.fish_report.specs.Writing.{HasWriteCause};
+ghost use Rattle.fish_run.specs.Reports.{block_foot, block_head, lane_foot, lane_head, lane_items, lanes_items, lanes_refused};
 
 use fish_lanes::{BlockEnd, Lane, LaneFault};
 use fish_outside::Sink;
@@ -23,8 +27,17 @@ pub(crate) fn has_fault(lanes: &[Lane]) -> bool
 }
 
 /// Whether a statement of a lane was refused.
-pub(crate) fn has_refusal(lanes: &[Lane]) -> bool {
-    lanes.iter().any(|lane| lane.items.as_slice().iter().any(|item| item.is_refusal()))
+pub(crate) fn has_refusal(lanes: &[Lane]) -> bool
+    ensures { result ≡ lanes_refused lanes.now }
+{
+    lanes.iter().any(|lane| is_refused(lane))
+}
+
+/// Whether one of this lane was.
+fn is_refused(lane: &Lane) -> bool
+    ensures { result ≡ list_any is_refusal lane.now.items }
+{
+    lane.items.as_slice().iter().any(|item| item.is_refusal())
 }
 
 /// Writes what a block tells: a statement by itself its items, and several lanes each its own under its number.
@@ -36,36 +49,121 @@ pub(crate) fn write_block<W: Sink>(
     end: BlockEnd,
     lanes: &[Lane],
 ) -> Result<(), WriteRefusal>
+    ensures written { OnOk result (Gained (W.written out.old) (W.written out.new)
+        (report_text (lanes_items several from end lanes.now))) }
+    ensures part { OnErr result (GainedPart (W.written out.old) (W.written out.new)
+        (report_text (lanes_items several from end lanes.now))) }
+    ensures cause { HasWriteCause (W.faults out.old) (W.faults out.new) result }
+{
+    write_head(alloc, out, several, from, end)?;
+    write_lanes(alloc, out, several, end, lanes)?;
+    write_foot(alloc, out, several)
+}
+
+/// Writes the range of several lanes.
+fn write_head<W: Sink>(
+    alloc: Global,
+    out: &mut W,
+    several: bool,
+    from: u32,
+    end: BlockEnd,
+) -> Result<(), WriteRefusal>
+    ensures written { OnOk result (Gained (W.written out.old) (W.written out.new) (report_text (block_head several from end.to))) }
+    ensures part { OnErr result (GainedPart (W.written out.old) (W.written out.new)
+        (report_text (block_head several from end.to))) }
     ensures cause { HasWriteCause (W.faults out.old) (W.faults out.new) result }
 {
     if several {
-        write_items(alloc, out, &[Item::Lanes { from, to: end.to }])?;
+        write_items(alloc, out, &[Item::Lanes { from, to: end.to }])
+    } else {
+        Ok(())
     }
-    for lane in lanes {
-        if several {
-            write_items(
-                alloc,
-                out,
-                &[Item::Lane {
-                    number: lane.number,
-                }],
-            )?;
-        }
-        write_items(alloc, out, lane.items.as_slice())?;
-        if lane.number == 1 {
-            write_bound(alloc, out, end)?;
-        }
-    }
+}
+
+/// Writes where several lanes end.
+fn write_foot<W: Sink>(alloc: Global, out: &mut W, several: bool) -> Result<(), WriteRefusal>
+    ensures written { OnOk result (Gained (W.written out.old) (W.written out.new) (report_text (block_foot several))) }
+    ensures part { OnErr result (GainedPart (W.written out.old) (W.written out.new) (report_text (block_foot several))) }
+    ensures cause { HasWriteCause (W.faults out.old) (W.faults out.new) result }
+{
     if several {
-        write_items(alloc, out, &[Item::End])?;
+        write_items(alloc, out, &[Item::End])
+    } else {
+        Ok(())
+    }
+}
+
+/// Writes the items of lanes, one lane after the other.
+fn write_lanes<W: Sink>(
+    alloc: Global,
+    out: &mut W,
+    several: bool,
+    end: BlockEnd,
+    lanes: &[Lane],
+) -> Result<(), WriteRefusal>
+    ensures written { OnOk result (Gained (W.written out.old) (W.written out.new)
+        (report_text (flat_map (lane_items several end) lanes.now))) }
+    ensures part { OnErr result (GainedPart (W.written out.old) (W.written out.new)
+        (report_text (flat_map (lane_items several end) lanes.now))) }
+    ensures cause { HasWriteCause (W.faults out.old) (W.faults out.new) result }
+{
+    for lane in lanes {
+        write_lane(alloc, out, several, end, lane)?;
     }
     Ok(())
 }
 
-/// Writes where the index of a registration begins, if that was found once the lanes had ended.
-fn write_bound<W: Sink>(alloc: Global, out: &mut W, end: BlockEnd) -> Result<(), WriteRefusal>
+/// Writes the items of a lane, and behind those of the first the boundary that was found once the lanes had ended.
+fn write_lane<W: Sink>(
+    alloc: Global,
+    out: &mut W,
+    several: bool,
+    end: BlockEnd,
+    lane: &Lane,
+) -> Result<(), WriteRefusal>
+    ensures written { OnOk result (Gained (W.written out.old) (W.written out.new)
+        (report_text (lane_items several end lane.now))) }
+    ensures part { OnErr result (GainedPart (W.written out.old) (W.written out.new)
+        (report_text (lane_items several end lane.now))) }
     ensures cause { HasWriteCause (W.faults out.old) (W.faults out.new) result }
 {
+    write_number(alloc, out, several, lane.number)?;
+    write_items(alloc, out, lane.items.as_slice())?;
+    write_bound(alloc, out, lane.number, end)
+}
+
+/// Writes the number of a lane, where there are several.
+fn write_number<W: Sink>(
+    alloc: Global,
+    out: &mut W,
+    several: bool,
+    number: u8,
+) -> Result<(), WriteRefusal>
+    ensures written { OnOk result (Gained (W.written out.old) (W.written out.new) (report_text (lane_head several number))) }
+    ensures part { OnErr result (GainedPart (W.written out.old) (W.written out.new) (report_text (lane_head several number))) }
+    ensures cause { HasWriteCause (W.faults out.old) (W.faults out.new) result }
+{
+    if several {
+        write_items(alloc, out, &[Item::Lane { number }])
+    } else {
+        Ok(())
+    }
+}
+
+/// Writes behind the first lane where the index of a registration begins, if that was found once the lanes had ended.
+fn write_bound<W: Sink>(
+    alloc: Global,
+    out: &mut W,
+    number: u8,
+    end: BlockEnd,
+) -> Result<(), WriteRefusal>
+    ensures written { OnOk result (Gained (W.written out.old) (W.written out.new) (report_text (lane_foot number end))) }
+    ensures part { OnErr result (GainedPart (W.written out.old) (W.written out.new) (report_text (lane_foot number end))) }
+    ensures cause { HasWriteCause (W.faults out.old) (W.faults out.new) result }
+{
+    if number != 1 {
+        return Ok(());
+    }
     match end.bound {
         Some(bound) => write_items(
             alloc,

@@ -1,2 +1,2 @@
-pub mod SelectionLemmas
-pub mod TallyLemmas
+pub mod FirstBytes
+pub mod Fates

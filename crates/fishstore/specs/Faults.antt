@@ -1,17 +1,24 @@
--- Which fault each refusal of a step is, and where a step may end by it.
-use Rattle.std.specs.Prelude.{ℕ, List, [], ◌++◌, codes, decimal, Option, Some, None, Err, ⊤}
+-- Which fault each refusal of a step is, the line that tells of it, and where a step may end by it.
+use Rattle.std.specs.Prelude.{ℕ, List, [], ◌++◌, codes, decimal, Option, Some, None, ⊤}
+use Rattle.fish_lang.specs.declared.parse.LangRefusal.{LangRefusal}
+use Rattle.fish_lang.specs.declared.parse.LangRefusal.TheVariants as lang
 use Rattle.fish_outside.specs.Causes.{Rose}
 use Rattle.fish_outside.specs.declared.fault.FeedRefusal.{FeedRefusal}
 use Rattle.fish_outside.specs.declared.fault.FeedRefusal.TheVariants as feed
-use Rattle.fish_lang.specs.declared.parse.LangRefusal.{LangRefusal}
-use Rattle.fish_lang.specs.declared.parse.LangRefusal.TheVariants as lang
-use Rattle.fishstore.specs.Words.{IsCommand, IsSomeCommand}
-use Rattle.fishstore.specs.declared.outcome.Fault.{Fault}
-use Rattle.fishstore.specs.declared.outcome.Fault.TheVariants as fault
-use Rattle.fishstore.specs.declared.words.UsageCause.{UsageCause}
-use Rattle.fishstore.specs.declared.words.UsageCause.TheVariants as cause
-use Rattle.fishstore.specs.declared.words.WordsRefusal.{WordsRefusal}
-use Rattle.fishstore.specs.declared.words.WordsRefusal.TheVariants as refusal
+use Rattle.fish_run.specs.declared.running.RunFault.{RunFault}
+use Rattle.fish_run.specs.declared.running.RunFault.TheVariants as ran
+use Rattle.fish_script.specs.declared.refusal.ScriptRefusal.{ScriptRefusal}
+use Rattle.fish_script.specs.declared.refusal.ScriptRefusal.TheVariants as script
+use Rattle.fish_words.specs.declared.refusal.UsageCause.{UsageCause}
+use Rattle.fish_words.specs.declared.refusal.UsageCause.TheVariants as cause
+use Rattle.fish_words.specs.declared.refusal.WordsRefusal.{WordsRefusal}
+use Rattle.fish_words.specs.declared.refusal.WordsRefusal.TheVariants as words
+use Rattle.fishstore.specs.declared.fault.Fault.{Fault}
+use Rattle.fishstore.specs.declared.fault.Fault.TheVariants as fault
+use Rattle.fishstore.specs.declared.fault.Place.{Place}
+use Rattle.fishstore.specs.declared.fault.Place.TheVariants as place
+
+-- ---- the line on standard error
 
 -- why a definition was refused, and where
 abbrev pub definition_kind : LangRefusal → List ℕ
@@ -27,16 +34,35 @@ abbrev pub number_text : Option ℕ → List ℕ
 number_text None = []
 number_text (Some n) = decimal n
 
+-- a place behind words
+abbrev pub place_text : Place → List ℕ
+place_text place.Nowhere = []
+place_text (place.At n) = decimal n
+place_text (place.Definition line refusal) = decimal line ++ (codes " " ++ definition_kind refusal)
+
 -- why words are no command
-abbrev pub cause_text : UsageCause → List ℕ
-cause_text cause.Words = codes "words"
-cause_text (cause.Definition refusal) = codes "definition " ++ definition_kind refusal
-cause_text cause.Value = codes "value"
+abbrev pub usage_kind : UsageCause → List ℕ
+usage_kind cause.Words = codes "words"
+usage_kind (cause.Definition refusal) = codes "definition " ++ definition_kind refusal
+usage_kind cause.Value = codes "value"
+
+-- why a text is no script, and on which line
+abbrev pub script_kind : ScriptRefusal → List ℕ
+script_kind (script.TooLong n) = codes "too long " ++ decimal n
+script_kind (script.NotText line) = codes "not text line " ++ decimal line
+script_kind (script.Unexpected line) = codes "unexpected line " ++ decimal line
+script_kind (script.Definition line refusal) =
+    codes "definition line " ++ (decimal line ++ (codes " " ++ definition_kind refusal))
+script_kind (script.ControlInLane line) = codes "control in lane line " ++ decimal line
+script_kind (script.TooManyLanes line) = codes "too many lanes line " ++ decimal line
+script_kind (script.TooManyFeeds line) = codes "too many feeds line " ++ decimal line
+script_kind script.OutOfMemory = codes "out of memory"
 
 -- the line on standard error that tells of a fault, where there is one
 abbrev pub fault_line : Fault → List ℕ
 fault_line fault.None = codes "fault none"
-fault_line (fault.Usage cause) = codes "fault usage " ++ cause_text cause
+fault_line (fault.Usage cause) = codes "fault usage " ++ usage_kind cause
+fault_line (fault.Script refusal) = codes "fault script " ++ script_kind refusal
 fault_line fault.Input = codes "fault input"
 fault_line fault.Output = codes "fault output"
 fault_line fault.Memory = codes "fault memory"
@@ -45,19 +71,42 @@ fault_line fault.Memory = codes "fault memory"
 abbrev pub told_fault : Fault → Option Fault
 told_fault fault.None = None
 told_fault (fault.Usage cause) = Some (fault.Usage cause)
+told_fault (fault.Script refusal) = Some (fault.Script refusal)
 told_fault fault.Input = Some fault.Input
 told_fault fault.Output = Some fault.Output
 told_fault fault.Memory = Some fault.Memory
 
+-- ---- the faults of refusals
+
 -- what a refusal of the words ends a run by
 abbrev pub words_fault : WordsRefusal → Fault
-words_fault (refusal.Usage cause) = fault.Usage cause
-words_fault refusal.OutOfMemory = fault.Memory
+words_fault (words.Usage cause) = fault.Usage cause
+words_fault words.OutOfMemory = fault.Memory
+
+-- what a refusal of the script's text ends a run by
+abbrev pub script_fault : ScriptRefusal → Fault
+script_fault (script.TooLong n) = fault.Script (script.TooLong n)
+script_fault (script.NotText line) = fault.Script (script.NotText line)
+script_fault (script.Unexpected line) = fault.Script (script.Unexpected line)
+script_fault (script.Definition line refusal) = fault.Script (script.Definition line refusal)
+script_fault (script.ControlInLane line) = fault.Script (script.ControlInLane line)
+script_fault (script.TooManyLanes line) = fault.Script (script.TooManyLanes line)
+script_fault (script.TooManyFeeds line) = fault.Script (script.TooManyFeeds line)
+script_fault script.OutOfMemory = fault.Memory
 
 -- what a refusal of a file ends a run by
 abbrev pub feed_fault : FeedRefusal → Fault
 feed_fault feed.Failed = fault.Input
 feed_fault feed.OutOfMemory = fault.Memory
+
+-- what a fault of a script's run ends the whole by
+abbrev pub run_fault : RunFault → Fault
+run_fault ran.None = fault.None
+run_fault ran.Input = fault.Input
+run_fault ran.Output = fault.Output
+run_fault ran.Memory = fault.Memory
+
+-- ---- where a step may end so
 
 -- a step over the input may end by the input only where its faults rose, or by want of memory
 abbrev pub IsStepFault : ℕ → ℕ → Fault → Type 0
@@ -66,12 +115,4 @@ IsStepFault before now fault.Memory = ⊤
 IsStepFault before now fault.None = ⊥
 IsStepFault before now fault.Output = ⊥
 IsStepFault before now (fault.Usage cause) = ⊥
-
--- where a run may end before its first byte is written: by usage exactly with the words' cause, by the input
--- only where its faults rose
-abbrev pub IsEarlyEnd : List (List ℕ) → ℕ → ℕ → Fault → Type 0
-IsEarlyEnd words before now (fault.Usage cause) = IsCommand words (Err cause)
-IsEarlyEnd words before now fault.Input = IsSomeCommand words × Rose before now
-IsEarlyEnd words before now fault.Memory = ⊤
-IsEarlyEnd words before now fault.None = ⊥
-IsEarlyEnd words before now fault.Output = ⊥
+IsStepFault before now (fault.Script refusal) = ⊥

@@ -1,6 +1,5 @@
 pub mod Answer
-pub mod Contents
 pub mod Faults
+pub mod Limits
 pub mod Outcome
-pub mod Tally
-pub mod Words
+pub mod Runs

@@ -4,9 +4,9 @@ ghost use Rattle.std.specs.IoError.{error_kind};
 ghost use Rattle.std.specs.Prelude.{◌≡◌, ◌≢◌, IfOk, drop, map, string_bytes};
 ghost use Rattle.std.specs.Vec.Iter.{into_iter_items};
 
-use crate::outcome::Fault;
-use crate::words::UsageCause;
+use crate::fault::Fault;
 use fish_value::{Text, Texts};
+use fish_words::UsageCause;
 use std::alloc::{AllocError, Global};
 use std::env;
 use std::env::Args;

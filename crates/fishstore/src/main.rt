@@ -5,15 +5,14 @@
 #![tactic(auto)]
 
 mod args;
-mod file;
+mod fault;
 mod outcome;
 mod run;
-mod select;
-mod words;
+mod script;
+mod selection;
 
 use args::words_of;
 use fish_outside::{FileHost, OutSink};
-use fish_report::{Items, Report};
 use outcome::Outcome;
 use run::run;
 use std::process::ExitCode;
@@ -27,16 +26,13 @@ fn main(rt: HostRuntime) -> ExitCode {
             &mut FileHost::new(rt),
             &mut OutSink::new(rt),
         ),
-        Err(fault) => Outcome::new(
-            fault,
-            Report {
-                items: Items::new(rt.alloc()),
-            },
-        ),
+        Err(fault) => Outcome::failed(rt.alloc(), fault),
     };
     if let Some(fault) = outcome.told() {
         // Where standard error is closed, the status still tells.
         let _ = rt.eprintln(fault);
     }
-    outcome.exit_code()
+    let code = outcome.exit_code();
+    drop(outcome);
+    code
 }

@@ -1,0 +1,265 @@
+-- Blocks, one after the other, and the log in the end.
+use Rattle.std.proofs.Common.{◌≡◌, ℕ, suc, ◌+◌, ◌<◌, ◌≤◌, List, [], ◌∷◌, ◌++◌, length, refl, sym, ap, ◌∙◌, subst, inl, inr, ⊎_elim, arith}
+use Rattle.std.proofs.Common.{Bool, Option, Some, slice_get}
+use Rattle.std.specs.Prelude.{◌||◌}
+use Rattle.fish_catalog.specs.declared.entry.Entry.{Entry}
+use Rattle.fish_lanes.proofs.Controls.{each_later}
+use Rattle.fish_lanes.proofs.Gaining.{same_lines}
+use Rattle.fish_lanes.proofs.Surely.{will_later}
+use Rattle.fish_lanes.specs.Blocks.{AreEnded, AreKept, AreLanes, HasRegistered, IsBlockSpan, IsMarkItem, NameMarks, TellsBlock}
+use Rattle.fish_lanes.specs.Closing.{Later, Will}
+use Rattle.fish_lanes.specs.Ending.{HasEnd}
+use Rattle.fish_lanes.specs.Gains.{IsMarkAt}
+use Rattle.fish_lanes.specs.Registering.{AreSo, KnowsEach, Registry, registry_of}
+use Rattle.fish_lanes.specs.Spans.{Span}
+use Rattle.fish_lanes.specs.declared.block.BlockEnd.{BlockEnd}
+use Rattle.fish_lanes.specs.declared.lane.Lane.{Lane}
+use Rattle.fish_lanes.specs.declared.work.Work.{Work}
+use Rattle.fish_outside.specs.Told.{Files, Gained, GainedPart, StillTold}
+use Rattle.fish_registry.specs.declared.registrar.Registrar.{Registrar}
+use Rattle.fish_report.specs.ReportText.{report_text}
+use Rattle.fish_report.specs.declared.item.Item.{Item}
+use Rattle.fish_report.specs.declared.item.Item.TheVariants as item
+use Rattle.fish_rule.proofs.Common.{all_among, among_either}
+use Rattle.fish_rule.proofs.Walking.{always_later}
+use Rattle.fish_rule.specs.Logs.{Learns}
+use Rattle.fish_rule.specs.Table.{Stands}
+use Rattle.fish_rule.specs.Views.{AllOf, Among}
+use Rattle.fish_rule.specs.Walking.{Always}
+use Rattle.fish_rule.specs.declared.view.Key.{Key}
+use Rattle.fish_rule.specs.declared.view.View.{View}
+use Rattle.fish_run.proofs.Lists.{pairs_map, pairs_push}
+use Rattle.fish_run.proofs.Works.{lanes_later}
+use Rattle.fish_run.specs.Blocks.{AreMarked, Block, FullsAgree, IsFullOf, TellsBlocks, TellsOne, TellsPart}
+use Rattle.fish_run.specs.Blocks.{behind_block, behind_blocks, first_items, lanes_controls, no_registry}
+use Rattle.fish_run.specs.Ran.{IsBlockOf}
+use Rattle.fish_run.specs.Reports.{lanes_items, lanes_refused}
+use Rattle.fish_run.specs.Steps.{AreWhole, HasCutOne, HasRunBlocks, HasRunOne, Leaves, StopsOne, StopsTelling, WritesOne}
+use Rattle.fish_run.specs.Works.{IsLaneOf, IsWorkOf, Pairs}
+use Rattle.fish_run.specs.declared.running.RunFault.{RunFault}
+use Rattle.fish_script.specs.declared.script.Block as script
+use Rattle.fish_script.specs.declared.script.Statement.{Statement}
+
+-- ---- one more block
+
+-- the registry behind one more
+pub behind_more : (r : Registry) (blocks : List Block) (b : Block)
+    → behind_blocks r (blocks ++ b ∷ []) ≡ behind_block (behind_blocks r blocks) b
+behind_more r [] b = refl
+behind_more r (x ∷ blocks) b = behind_more (behind_block r x) blocks b
+
+-- blocks, and one that begins where they end
+pub tells_more : (v : View) (log : List Entry) (from mid : ℕ) (r : Registry) (blocks : List Block) (b : Block)
+    → TellsBlocks v log from r blocks mid → TellsOne v log mid (behind_blocks r blocks) b
+    → TellsBlocks v log from r (blocks ++ b ∷ []) b.span.to
+tells_more v log from mid r [] b h one = (subst (λ (z : ℕ). TellsOne v log z r b) (sym h) one, refl)
+tells_more v log from mid r (x ∷ blocks) b h one =
+    (h.0, tells_more v log x.span.to mid (behind_block r x) blocks b h.1 one)
+
+-- an item that names a mark does so for who knows more
+names_later : (v u : View) (items : List Item) → Learns v u → AllOf (IsMarkItem v) items → AllOf (IsMarkItem u) items
+names_later v u [] learns h = tt
+names_later v u (x ∷ items) learns h = (
+  λ file line lines end stored refused is.
+      let m = h.0 file line lines end stored refused is in (
+        always_later v u (IsMarkAt line lines) learns m.0,
+        m.1 ∙ ap (λ (k : Key). k.end) (sym learns.about),
+      ),
+  names_later v u items learns h.1,
+)
+
+pub marked_later : (v u : View) (blocks : List Block) → Learns v u → AreMarked v blocks → AreMarked u blocks
+marked_later v u blocks learns h b among i x at = names_later v u x.items learns (h b among i x at)
+
+-- a block over files that are still told
+pub block_later : (old new : Option Files) → StillTold old new → (s : script.Block) (b : Block) → IsBlockOf old s b
+    → IsBlockOf new s b
+block_later old new still s b h =
+    record { several = h.several; lanes = lanes_later old new still s.lanes b.lanes h.lanes }
+
+pub blocks_later : (old new : Option Files) → StillTold old new → (text : List script.Block) (blocks : List Block)
+    → Pairs (IsBlockOf old) text blocks → Pairs (IsBlockOf new) text blocks
+blocks_later old new still text blocks h =
+    pairs_map (IsBlockOf old) (IsBlockOf new) (block_later old new still) text blocks h
+
+-- blocks that ran are so for who knows more
+pub ran_later : (old new : Option Files) (text : List script.Block) (v u : View) (r : Registry) (to : ℕ) (blocks : List Block)
+    → StillTold old new → Later v u → HasRunBlocks old text v r to blocks → HasRunBlocks new text u r to blocks
+ran_later old new text v u r to blocks still later h = record {
+  are = blocks_later old new still text blocks h.are;
+  tells = will_later v u (λ x log. TellsBlocks x log 0 no_registry blocks to) later h.tells;
+  marks = marked_later v u blocks later.learns h.marks;
+  behind = h.behind;
+}
+
+-- one more ran
+pub ran_more : (old new : Option Files) (text : List script.Block) (s : script.Block) (v u : View) (r t : Registry) (mid to : ℕ)
+    (blocks : List Block) (b : Block) → StillTold old new → Later v u → HasRunBlocks old text v r mid blocks
+    → HasRunOne new s u r t mid to b → HasRunBlocks new (text ++ s ∷ []) u t to (blocks ++ b ∷ [])
+ran_more old new text s v u r t mid to blocks b still later h one =
+    let before = ran_later old new text v u r mid blocks still later h in
+    record {
+      are = pairs_push (IsBlockOf new) text blocks s b before.are one.is;
+      tells = λ x remains base main none more c.
+          subst (TellsBlocks x remains.log 0 no_registry (blocks ++ b ∷ [])) one.ends
+          (tells_more x remains.log 0 mid no_registry blocks b (before.tells x remains base main none more c)
+          (subst (λ (z : Registry). TellsOne x remains.log mid z b) h.behind (one.tells x remains base main none more c)));
+      marks = λ a among. ⊎_elim (λ (m : Among a blocks). before.marks a m)
+          (λ (m : Among a (b ∷ [])). ⊎_elim (λ (e : b ≡ a). subst (λ (z : Block). NameMarks u z.lanes) e one.marks)
+          (λ (bad : Among a []). elim bad [ ]) m) (among_either a blocks (b ∷ []) among);
+      behind = one.behind ∙ ap (λ (z : Registry). behind_block z b) h.behind ∙ sym (behind_more no_registry blocks b);
+    }
+
+-- ---- refusals of a full log
+
+-- all of them agree
+pub fulls_agree : (v : View) (blocks : List Block) (end : ℕ) → Stands v → AreMarked v blocks → v.about.end ≡ end
+    → FullsAgree blocks end
+fulls_agree v blocks end s h is = record {
+  ends = λ line lines e f. (named line lines e f).1 ∙ is;
+  same = λ line a b e f p q. same_lines v line a b s (named line a e p).0 (named line b f q).0;
+}
+  where
+    named : (line lines e : ℕ) → IsFullOf blocks line lines e → Always v (IsMarkAt line lines) × (e ≡ v.about.end)
+    named line lines e f =
+        let full = f.2 in
+        all_among (IsMarkItem v) (item.IngestFull full.file line lines e full.stored full.refused) full.lane.items
+        (h f.0 f.1 full.at full.lane full.lane_is) full.among full.file line lines e full.stored full.refused refl
+
+-- ---- what a block left
+
+-- lanes that keep their statements are still those of the script
+pub lanes_kept : (told : Option Files) (texts : List (List Statement)) (old new : List Lane) → length new ≡ length old
+    → ((i : ℕ) (x y : Lane) → slice_get old i ≡ Some x → slice_get new i ≡ Some y → y.works ≡ x.works)
+    → Pairs (IsLaneOf told) texts old → Pairs (IsLaneOf told) texts new
+lanes_kept told [] [] [] many same h = tt
+lanes_kept told [] [] (y ∷ new) many same h = absurd (omega arith)
+lanes_kept told [] (x ∷ old) new many same h = elim h [ ]
+lanes_kept told (ss ∷ texts) [] new many same h = elim h [ ]
+lanes_kept told (ss ∷ texts) (x ∷ old) [] many same h = absurd (omega arith)
+lanes_kept told (ss ∷ texts) (x ∷ old) (y ∷ new) many same h = (
+  subst (λ (z : List Work). Pairs (IsWorkOf told) ss z) (sym (same 0 x y refl refl)) h.0,
+  lanes_kept told texts old new (omega arith) (λ i a b at bt. same (suc i) a b at bt) h.1,
+)
+
+-- what lies between two moments of the control pass
+abbrev pub span_of : ℕ → ℕ → View → View → Span
+span_of from to v u = record { from = from; to = to; first = v.learned.version; last = u.learned.version }
+
+-- the block between them
+abbrev pub block_of : Bool → ℕ → View → View → List Lane → BlockEnd → Block
+block_of several from v u lanes end =
+    record { several = several; span = span_of from end.to v u; lanes = lanes; end = end }
+
+-- the items of its first lane are so
+first_so : (v u : View) (r s : Registrar) (lanes : List Lane) (end : BlockEnd) (k : Span) → IsBlockSpan v u end.to k
+    → ((x : Lane) → slice_get lanes 0 ≡ Some x → HasRegistered v u r s x end)
+    → AreSo k.from (k.to + 16) (registry_of v r) (first_items lanes)
+first_so v u r s [] end k is has = tt
+first_so v u r s (x ∷ lanes) end k is has = (has x refl).so k is
+
+-- where no lane stopped at a fault, so is the boundary behind them
+controls_so : (v u : View) (r s : Registrar) (lanes : List Lane) (end : BlockEnd) (k : Span) → IsBlockSpan v u end.to k
+    → AreWhole lanes → ((x : Lane) → slice_get lanes 0 ≡ Some x → HasRegistered v u r s x end)
+    → AreSo k.from (k.to + 16) (registry_of v r) (lanes_controls lanes end)
+controls_so v u r s [] end k is whole has = tt
+controls_so v u r s (x ∷ lanes) end k is whole has = (has x refl).whole (whole 0 x refl) k is
+
+-- and they tell the definitions
+controls_known : (v u : View) (r s : Registrar) (lanes : List Lane) (end : BlockEnd) → 0 < length lanes → AreWhole lanes
+    → ((x : Lane) → slice_get lanes 0 ≡ Some x → HasRegistered v u r s x end)
+    → KnowsEach u (registry_of v r) (lanes_controls lanes end)
+controls_known v u r s [] end some whole has = absurd (omega arith)
+controls_known v u r s (x ∷ lanes) end some whole has = (has x refl).each (whole 0 x refl)
+
+controls_after : (v u : View) (r s : Registrar) (lanes : List Lane) (end : BlockEnd) (several : Bool) (from : ℕ) → 0 < length lanes
+    → AreWhole lanes → ((x : Lane) → slice_get lanes 0 ≡ Some x → HasRegistered v u r s x end)
+    → registry_of u s ≡ behind_block (registry_of v r) (block_of several from v u lanes end)
+controls_after v u r s [] end several from some whole has = absurd (omega arith)
+controls_after v u r s (x ∷ lanes) end several from some whole has = (has x refl).is (whole 0 x refl)
+
+-- what a run of these lanes says
+pub leaves_of : (told : Option Files) (text : script.Block) (v u : View) (r s : Registrar) (from : ℕ) (items lanes : List Lane)
+    (end : BlockEnd) → AreLanes items → Pairs (IsLaneOf told) text.lanes items → length lanes ≡ length items → AreKept items lanes
+    → HasEnd v from
+    → ((k : Span) → IsBlockSpan v u end.to k → (k.from ≤ k.to) × Will u (λ x log. TellsBlock x k log lanes))
+    → ((x : Lane) → slice_get lanes 0 ≡ Some x → HasRegistered v u r s x end) → AreEnded lanes → NameMarks u lanes
+    → Leaves told text v u r s from lanes end
+leaves_of told text v u r s from items lanes end are works many kept begins tells has ended marks = record {
+  works = lanes_kept told text.lanes items lanes many (λ i x y at bt. (kept i x y at bt).1) works;
+  some = (let some_ = are.some in omega arith);
+  begins = begins;
+  tells = tells;
+  has = has;
+  ended = ended;
+  marks = marks;
+}
+
+module _ (told : Option Files) (text : script.Block) (v u : View) (r s : Registrar) (from : ℕ) (lanes : List Lane) (end : BlockEnd)
+    (h : Leaves told text v u r s from lanes end) where
+  abbrev pub left : Block
+  left = block_of text.several from v u lanes end
+
+  is_left : IsBlockOf told text left
+  is_left = record { several = refl; lanes = h.works }
+
+  spans : IsBlockSpan v u end.to left.span
+  spans = record { begins = h.begins; ends = refl; first = omega arith; last = omega arith }
+
+  part_of : (x : View) (log : List Entry) → TellsBlock x left.span log lanes → TellsPart x log from (registry_of v r) left
+  part_of x log t = record {
+    begins = refl;
+    rises = (h.tells left.span spans).0;
+    first = refl;
+    lanes = t;
+    registers = first_so v u r s lanes end left.span spans h.has;
+    ended = h.ended;
+  }
+
+  -- a lane may have stopped at a fault
+  pub left_cut : HasCutOne told text u (registry_of v r) from end.to left
+  left_cut = record {
+    is = is_left;
+    ends = refl;
+    tells = λ x remains base main none later c.
+        part_of x remains.log ((h.tells left.span spans).1 x remains base main none later c);
+  }
+
+  -- none did
+  pub left_whole : AreWhole lanes → HasRunOne told text u (registry_of v r) (registry_of u s) from end.to left
+  left_whole whole =
+      let after = controls_after v u r s lanes end text.several from h.some whole h.has in
+      record {
+        is = is_left;
+        ends = refl;
+        tells = λ x remains base main none later c. record {
+          part = part_of x remains.log ((h.tells left.span spans).1 x remains base main none later c);
+          registers = controls_so v u r s lanes end left.span spans whole h.has;
+          knows = each_later u x (registry_of v r) (lanes_controls lanes end) later.learns
+              (controls_known v u r s lanes end h.some whole h.has);
+          last = ap (λ (z : Registry). z.version) after;
+        };
+        marks = h.marks;
+        behind = after;
+      }
+
+  -- it was written
+  pub one_written : (old new : Option (List ℕ)) (before now : Bool) → AreWhole lanes
+      → Gained old new (report_text (lanes_items text.several from end lanes)) → now ≡ before || lanes_refused lanes
+      → WritesOne told text u (registry_of v r) (registry_of u s) from end.to old new before now
+  one_written old new before now whole written refused =
+      record { block = left; ran = left_whole whole; written = written; refused = refused }
+
+  -- or a fault came in it, or behind it
+  pub one_stopped : (old new : Option (List ℕ)) (why : RunFault)
+      → StopsTelling lanes (lanes_items text.several from end lanes) old new why
+      → StopsOne told text u (registry_of v r) (registry_of u s) from end.to old new why
+  one_stopped old new why stop = (
+    stop.0,
+    inr (
+      stop.1,
+      ⊎_elim (λ (none : Gained old new []). inl (left, left_cut, none))
+          (λ (part : AreWhole lanes × GainedPart old new (report_text (lanes_items text.several from end lanes))).
+          inr (left, left_whole part.0, part.1)) stop.2,
+    ),
+  )

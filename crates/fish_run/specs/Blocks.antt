@@ -1,0 +1,106 @@
+-- What the blocks of a run tell of the one log that is left.
+use Rattle.std.specs.Prelude.{ℕ, ◌≡◌, ◌≤◌, ◌+◌, List, [], ◌∷◌, Bool, Option, Some, None, slice_get}
+use Rattle.fish_catalog.specs.declared.entry.Entry.{Entry}
+use Rattle.fish_lanes.specs.Blocks.{AreEnded, NameMarks, TellsBlock, control_items}
+use Rattle.fish_lanes.specs.Registering.{AreSo, KnowsEach, Registry, after_all}
+use Rattle.fish_lanes.specs.Spans.{Span}
+use Rattle.fish_lanes.specs.declared.block.BlockEnd.{BlockEnd}
+use Rattle.fish_lanes.specs.declared.lane.Lane.{Lane}
+use Rattle.fish_report.specs.declared.item.Item.{Item}
+use Rattle.fish_report.specs.declared.item.Item.TheVariants as item
+use Rattle.fish_rule.specs.Views.{Among}
+use Rattle.fish_rule.specs.declared.view.View.{View}
+
+-- a block that has run: whether it stood between `lanes` and `end`, where it lies, its lanes with their items, and what was
+-- found once they had ended
+pub record Block : Type 0 where
+  pub several : Bool
+  pub span : Span
+  pub lanes : List Lane
+  pub end : BlockEnd
+
+-- ---- definitions
+
+-- in front of the first block
+abbrev pub no_registry : Registry
+no_registry = record { rows = []; waiting = None; version = 0 }
+
+-- the items of a block's first lane, and with the boundary that was found behind them
+abbrev pub first_items : List Lane → List Item
+first_items [] = []
+first_items (x ∷ lanes) = x.items
+
+abbrev pub lanes_controls : List Lane → BlockEnd → List Item
+lanes_controls [] end = []
+lanes_controls (x ∷ lanes) end = control_items x end
+
+abbrev pub block_controls : Block → List Item
+block_controls b = lanes_controls b.lanes b.end
+
+-- the registry behind a block, and behind blocks
+abbrev pub behind_block : Registry → Block → Registry
+behind_block r b = after_all r (block_controls b)
+
+abbrev pub behind_blocks : Registry → List Block → Registry
+behind_blocks r [] = r
+behind_blocks r (b ∷ blocks) = behind_blocks (behind_block r b) blocks
+
+-- ---- what blocks tell
+
+-- what a block tells that begins where the log has so many numbers and the registry is this, even one in which a lane
+-- stopped at a fault: its lanes' items are so of the log, and where a statement has no item, neither have those behind it
+pub record TellsPart (v : View) (log : List Entry) (from : ℕ) (r : Registry) (b : Block) : Type 0 where
+  pub begins : b.span.from ≡ from
+  pub rises : b.span.from ≤ b.span.to
+  pub first : b.span.first ≡ r.version
+  pub lanes : TellsBlock v b.span log b.lanes
+  pub registers : AreSo b.span.from (b.span.to + 16) r (first_items b.lanes)
+  pub ended : AreEnded b.lanes
+
+-- what one tells in which none did: besides, the definitions at each version are those that its first lane's items tell
+pub record TellsOne (v : View) (log : List Entry) (from : ℕ) (r : Registry) (b : Block) : Type 0 where
+  pub part : TellsPart v log from r b
+  pub registers : AreSo b.span.from (b.span.to + 16) r (block_controls b)
+  pub knows : KnowsEach v r (block_controls b)
+  pub last : b.span.last ≡ (behind_block r b).version
+
+-- what blocks tell: each begins where the one in front of it ended, with the definitions that it left; the last one ends here
+abbrev pub TellsBlocks : View → List Entry → ℕ → Registry → List Block → ℕ → Type 0
+TellsBlocks v log from r [] end = from ≡ end
+TellsBlocks v log from r (b ∷ blocks) end = TellsOne v log from r b × TellsBlocks v log b.span.to (behind_block r b) blocks end
+
+-- what a block tells that a lane's fault cut, and with which the log ends
+abbrev pub TellsRest : View → List Entry → ℕ → Registry → Option Block → ℕ → Type 0
+TellsRest v log from r None end = from ≡ end
+TellsRest v log from r (Some b) end = TellsPart v log from r b × (b.span.to ≡ end)
+
+-- what all blocks of a run tell, from the empty log on
+pub record TellsRun (v : View) (log : List Entry) (blocks : List Block) (cut : Option Block) (end : ℕ) : Type 0 where
+  pub to : ℕ
+  pub whole : TellsBlocks v log 0 no_registry blocks to
+  pub rest : TellsRest v log to (behind_blocks no_registry blocks) cut end
+
+-- ---- a full log
+
+-- an item of some lane was refused by this claim
+pub record IsFullIn (lanes : List Lane) (line lines end : ℕ) : Type 0 where
+  pub at : ℕ
+  pub lane : Lane
+  pub lane_is : slice_get lanes at ≡ Some lane
+  pub file : List ℕ
+  pub stored : ℕ
+  pub refused : ℕ
+  pub among : Among (item.IngestFull file line lines end stored refused) lane.items
+
+-- one of some block was
+abbrev pub IsFullOf : List Block → ℕ → ℕ → ℕ → Type 0
+IsFullOf blocks line lines end = (b : Block) × Among b blocks × IsFullIn b.lanes line lines end
+
+-- all such items name the log's end, and those with the same line have the same lines
+pub record FullsAgree (blocks : List Block) (end : ℕ) : Type 0 where
+  pub ends : (line lines e : ℕ) → IsFullOf blocks line lines e → e ≡ end
+  pub same : (line a b e f : ℕ) → IsFullOf blocks line a e → IsFullOf blocks line b f → a ≡ b
+
+-- all refusals by a full log name marks
+abbrev pub AreMarked : View → List Block → Type 0
+AreMarked u blocks = (b : Block) → Among b blocks → NameMarks u b.lanes

@@ -1,0 +1,61 @@
+-- What a run of a script did, what it wrote of it, and the log that it left.
+use Rattle.std.specs.Prelude.{ℕ, ◌≡◌, ◌*◌, List, Bool, Option, Some, None, IfSome, length, slice_get, take}
+use Rattle.fish_outside.specs.Told.{Files, Gained, GainedPart}
+use Rattle.fish_report.specs.ReportText.{report_text}
+use Rattle.fish_rule.specs.Closing.{IsClosed}
+use Rattle.fish_rule.specs.declared.close.Remains.{Remains}
+use Rattle.fish_rule.specs.declared.view.View.{View}
+use Rattle.fish_run.specs.Blocks.{Block, FullsAgree, TellsRun}
+use Rattle.fish_run.specs.Reports.{are_refused, report_of, whole_report}
+use Rattle.fish_run.specs.Works.{IsLaneOf, Pairs}
+use Rattle.fish_run.specs.declared.running.RunFault.{RunFault}
+use Rattle.fish_run.specs.declared.running.RunFault.TheVariants as fault
+use Rattle.fish_script.specs.declared.script.Block as script
+
+-- a block that ran has the lanes of one of the script, with the files that they name
+pub record IsBlockOf (told : Option Files) (s : script.Block) (b : Block) : Type 0 where
+  pub several : b.several ≡ s.several
+  pub lanes : Pairs (IsLaneOf told) s.lanes b.lanes
+
+-- these are the first blocks of the script
+abbrev pub AreFirst : Option Files → List script.Block → List Block → Type 0
+AreFirst told text blocks = Pairs (IsBlockOf told) (take (length blocks) text) blocks
+
+-- this is the one behind so many
+abbrev pub IsNextOf : Option Files → List script.Block → ℕ → Block → Type 0
+IsNextOf told text many b = (s : script.Block) × (slice_get text many ≡ Some s) × IsBlockOf told s b
+
+-- a run that came to its end: each block of the script ran; of the log that is left their items are true; the text of their
+-- items, and that the log was closed, was written; and refusals of a full log of so many pages agree
+pub record IsWhole (told : Option Files) (text : List script.Block) (pages : ℕ) (remains : Remains) (old new : Option (List ℕ))
+    (refused : Bool) : Type 0 where
+  pub blocks : List Block
+  pub are : Pairs (IsBlockOf told) text blocks
+  pub view : View
+  pub closed : IsClosed view remains
+  pub tells : TellsRun view remains.log blocks None (length remains.log)
+  pub fulls : FullsAgree blocks (pages * 32768)
+  pub written : Gained old new (report_text (whole_report blocks (length remains.log)))
+  pub refused_is : refused ≡ are_refused blocks
+
+-- a run that a fault stopped: the first blocks ran, and perhaps one more, in which a lane stopped at the fault; of the log that
+-- is left their items are true; a first part of the report was written, without the cut block, and all of it where a file
+-- couldn't be read
+pub record IsStopped (told : Option Files) (text : List script.Block) (pages : ℕ) (remains : Remains) (old new : Option (List ℕ))
+    (why : RunFault) : Type 0 where
+  pub blocks : List Block
+  pub cut : Option Block
+  pub are : AreFirst told text blocks
+  pub cut_is : IfSome cut (IsNextOf told text (length blocks))
+  pub view : View
+  pub closed : IsClosed view remains
+  pub tells : TellsRun view remains.log blocks cut (length remains.log)
+  pub fulls : FullsAgree blocks (pages * 32768)
+  pub written : GainedPart old new (report_text (whole_report blocks (length remains.log)))
+  pub input : why ≡ fault.Input → (cut ≡ None) × Gained old new (report_text (report_of blocks))
+
+-- a run whose log couldn't be shown for want of memory: a first part of the report of some first blocks was written
+pub record IsLost (told : Option Files) (text : List script.Block) (old new : Option (List ℕ)) : Type 0 where
+  pub blocks : List Block
+  pub are : AreFirst told text blocks
+  pub written : GainedPart old new (report_text (report_of blocks))

@@ -1,0 +1,58 @@
+-- The report of a run: the items of its blocks, in the order in which they are written.
+use Rattle.std.specs.Prelude.{ℕ, List, [], ◌∷◌, ◌++◌, Bool, true, false, if◌then◌else◌, nat_eq}
+use Rattle.std.specs.List.{flat_map, list_any}
+use Rattle.fish_lanes.specs.Controlling.{bound_items}
+use Rattle.fish_lanes.specs.declared.block.BlockEnd.{BlockEnd}
+use Rattle.fish_lanes.specs.declared.lane.Lane.{Lane}
+use Rattle.fish_report.specs.ReportText.{is_refusal}
+use Rattle.fish_report.specs.declared.item.Item.{Item}
+use Rattle.fish_report.specs.declared.item.Item.TheVariants as item
+use Rattle.fish_run.specs.Blocks.{Block}
+
+-- the number of a lane stands above its items, where there are several
+abbrev pub lane_head : Bool → ℕ → List Item
+lane_head false number = []
+lane_head true number = item.Lane number ∷ []
+
+-- behind those of the first stands the boundary that was found once the lanes had ended
+abbrev pub lane_foot : ℕ → BlockEnd → List Item
+lane_foot number end = if nat_eq number 1 then bound_items end.bound else []
+
+-- the items of a lane
+abbrev pub lane_items : Bool → BlockEnd → Lane → List Item
+lane_items several end x = lane_head several x.number ++ (x.items ++ lane_foot x.number end)
+
+-- the range of several lanes stands above them, and their end below
+abbrev pub block_head : Bool → ℕ → ℕ → List Item
+block_head false from to = []
+block_head true from to = item.Lanes from to ∷ []
+
+abbrev pub block_foot : Bool → List Item
+block_foot false = []
+block_foot true = item.End ∷ []
+
+-- the items of a block
+abbrev pub lanes_items : Bool → ℕ → BlockEnd → List Lane → List Item
+lanes_items several from end lanes =
+    block_head several from end.to ++ (flat_map (lane_items several end) lanes ++ block_foot several)
+
+abbrev pub block_items : Block → List Item
+block_items b = lanes_items b.several b.span.from b.end b.lanes
+
+-- the items of blocks, behind the one that the log was made
+abbrev pub report_of : List Block → List Item
+report_of blocks = item.Created ∷ flat_map block_items blocks
+
+-- the report of a run that came to its end, with so many numbers
+abbrev pub whole_report : List Block → ℕ → List Item
+whole_report blocks count = report_of blocks ++ item.Closed count ∷ []
+
+-- ---- refusals
+
+-- a statement of some lane was refused
+abbrev pub lanes_refused : List Lane → Bool
+lanes_refused lanes = list_any (λ x. list_any is_refusal x.items) lanes
+
+-- one of some block was
+abbrev pub are_refused : List Block → Bool
+are_refused blocks = list_any (λ b. lanes_refused b.lanes) blocks

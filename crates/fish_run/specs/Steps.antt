@@ -1,0 +1,132 @@
+-- What the steps of a run leave. Private clauses speak of it.
+use Rattle.std.specs.Prelude.{ℕ, ◌≡◌, ◌≢◌, ◌⊎◌, ◌||◌, ◌<◌, ◌≤◌, List, [], ◌∷◌, Bool, Option, Some, None, Result, Ok, Err, IfSome, length, slice_get}
+use Rattle.fish_lanes.specs.Blocks.{AreEnded, HasRegistered, IsBlockSpan, NameMarks, TellsBlock}
+use Rattle.fish_lanes.specs.Closing.{Will}
+use Rattle.fish_lanes.specs.Ending.{HasEnd}
+use Rattle.fish_lanes.specs.Registering.{Registry}
+use Rattle.fish_lanes.specs.Spans.{Span}
+use Rattle.fish_lanes.specs.declared.block.BlockEnd.{BlockEnd}
+use Rattle.fish_lanes.specs.declared.lane.Lane.{Lane}
+use Rattle.fish_lanes.specs.declared.work.LaneFault.TheVariants as cause
+use Rattle.fish_outside.specs.Told.{Files, Gained, GainedPart}
+use Rattle.fish_registry.specs.declared.registrar.Registrar.{Registrar}
+use Rattle.fish_report.specs.ReportText.{report_text}
+use Rattle.fish_report.specs.declared.item.Item.{Item}
+use Rattle.fish_report.specs.declared.item.Item.TheVariants as item
+use Rattle.fish_rule.specs.declared.view.View.{View}
+use Rattle.fish_run.specs.Blocks.{AreMarked, Block, TellsBlocks, TellsOne, TellsPart, TellsRun, behind_block, behind_blocks, no_registry}
+use Rattle.fish_run.specs.Ran.{AreFirst, IsBlockOf, IsNextOf}
+use Rattle.fish_run.specs.Reports.{are_refused, block_items, lanes_refused, report_of}
+use Rattle.fish_run.specs.Works.{IsLaneOf, Pairs}
+use Rattle.fish_run.specs.declared.running.RunFault.{RunFault}
+use Rattle.fish_run.specs.declared.running.RunFault.TheVariants as fault
+use Rattle.fish_script.specs.declared.script.Block as script
+
+-- ---- one block
+
+-- a block ran, and no lane stopped at a fault: behind it the log has so many numbers, and the registry is this
+pub record HasRunOne (told : Option Files) (s : script.Block) (u : View) (r t : Registry) (from to : ℕ) (b : Block) : Type 0 where
+  pub is : IsBlockOf told s b
+  pub ends : b.span.to ≡ to
+  pub tells : Will u (λ x log. TellsOne x log from r b)
+  pub marks : NameMarks u b.lanes
+  pub behind : t ≡ behind_block r b
+
+-- a block ran, and a lane stopped at a fault
+pub record HasCutOne (told : Option Files) (s : script.Block) (u : View) (r : Registry) (from to : ℕ) (b : Block) : Type 0 where
+  pub is : IsBlockOf told s b
+  pub ends : b.span.to ≡ to
+  pub tells : Will u (λ x log. TellsPart x log from r b)
+
+-- a block ran and its items were written
+pub record WritesOne (told : Option Files) (s : script.Block) (u : View) (r t : Registry) (from to : ℕ) (old new : Option (List ℕ))
+    (before now : Bool) : Type 0 where
+  pub block : Block
+  pub ran : HasRunOne told s u r t from to block
+  pub written : Gained old new (report_text (block_items block))
+  pub refused : now ≡ before || lanes_refused block.lanes
+
+-- what a block left behind a number of the log: its lanes have the script's statements, and what they tell is so of every log
+-- that is closed later
+pub record Leaves (told : Option Files) (text : script.Block) (v u : View) (r s : Registrar) (from : ℕ) (lanes : List Lane)
+    (end : BlockEnd) : Type 0 where
+  pub works : Pairs (IsLaneOf told) text.lanes lanes
+  pub some : 0 < length lanes
+  pub begins : HasEnd v from
+  pub tells : (k : Span) → IsBlockSpan v u end.to k
+      → (k.from ≤ k.to) × Will u (λ x log. TellsBlock x k log lanes)
+  pub has : (x : Lane) → slice_get lanes 0 ≡ Some x → HasRegistered v u r s x end
+  pub ended : AreEnded lanes
+  pub marks : NameMarks u lanes
+
+-- no lane stopped at a fault
+abbrev pub AreWhole : List Lane → Type 0
+AreWhole lanes = (i : ℕ) (x : Lane) → slice_get lanes i ≡ Some x → x.fault ≡ cause.None
+
+-- a fault that is no file's: a lane had stopped at it, and nothing was written, or a first part of the items was
+abbrev pub StopsTelling : List Lane → List Item → Option (List ℕ) → Option (List ℕ) → RunFault → Type 0
+StopsTelling lanes items old new why = (why ≢ fault.None) × (why ≢ fault.Input)
+    × (Gained old new [] ⊎ (AreWhole lanes × GainedPart old new (report_text items)))
+
+-- a fault came before a block ran, in it, or as its items were written
+abbrev pub StopsOne : Option Files → script.Block → View → Registry → Registry → ℕ → ℕ → Option (List ℕ) → Option (List ℕ)
+    → RunFault → Type 0
+StopsOne told s u r t from to old new why = (why ≢ fault.None)
+    × (((from ≡ to) × Gained old new [])
+    ⊎ ((why ≢ fault.Input) × (((b : Block) × HasCutOne told s u r from to b × Gained old new [])
+    ⊎ ((b : Block) × HasRunOne told s u r t from to b × GainedPart old new (report_text (block_items b))))))
+
+-- ---- blocks
+
+-- these blocks ran, each of them without a fault
+pub record HasRunBlocks (told : Option Files) (text : List script.Block) (u : View) (r : Registry) (to : ℕ) (blocks : List Block)
+    : Type 0 where
+  pub are : Pairs (IsBlockOf told) text blocks
+  pub tells : Will u (λ x log. TellsBlocks x log 0 no_registry blocks to)
+  pub marks : AreMarked u blocks
+  pub behind : r ≡ behind_blocks no_registry blocks
+
+-- they were written
+pub record WritesBlocks (told : Option Files) (text : List script.Block) (u : View) (r : Registry) (to : ℕ)
+    (old new : Option (List ℕ)) (refused : Bool) : Type 0 where
+  pub blocks : List Block
+  pub ran : HasRunBlocks told text u r to blocks
+  pub written : Gained old new (report_text (report_of blocks))
+  pub refused_is : refused ≡ are_refused blocks
+
+-- the first blocks of a script ran, and perhaps one more, which was cut; behind them the log has so many numbers
+pub record HasRunFirst (told : Option Files) (text : List script.Block) (u : View) (blocks : List Block) (cut : Option Block)
+    (end : ℕ) : Type 0 where
+  pub are : AreFirst told text blocks
+  pub cut_is : IfSome cut (IsNextOf told text (length blocks))
+  pub ends : HasEnd u end
+  pub tells : Will u (λ x log. TellsRun x log blocks cut end)
+  pub marks : AreMarked u blocks
+
+-- all blocks ran, and their items were written
+pub record RunsAll (told : Option Files) (text : List script.Block) (u : View) (old new : Option (List ℕ)) (refused : Bool)
+    (count : ℕ) : Type 0 where
+  pub blocks : List Block
+  pub all : Pairs (IsBlockOf told) text blocks
+  pub ran : HasRunFirst told text u blocks None count
+  pub written : Gained old new (report_text (report_of blocks))
+  pub refused_is : refused ≡ are_refused blocks
+
+-- a fault stopped them
+pub record RunsSome (told : Option Files) (text : List script.Block) (u : View) (old new : Option (List ℕ)) (why : RunFault)
+    : Type 0 where
+  pub named : why ≢ fault.None
+  pub blocks : List Block
+  pub cut : Option Block
+  pub end : ℕ
+  pub ran : HasRunFirst told text u blocks cut end
+  pub written : GainedPart old new (report_text (report_of blocks))
+  pub input : why ≡ fault.Input → (cut ≡ None) × Gained old new (report_text (report_of blocks))
+
+-- ---- the end
+
+-- the last item was written where all blocks had run
+abbrev pub Finishes : Result ℕ RunFault → RunFault → Option (List ℕ) → Option (List ℕ) → Type 0
+Finishes (Ok count) fault.None old new = Gained old new (report_text (item.Closed count ∷ []))
+Finishes (Ok count) why old new = (why ≢ fault.Input) × GainedPart old new (report_text (item.Closed count ∷ []))
+Finishes (Err before) why old new = (why ≡ before) × Gained old new []

@@ -1,0 +1,126 @@
+//! The command `select`: the records of a file on which a definition has a value.
+
+ghost use Rattle.std.specs.Prelude.{◌≡◌, ◌∷◌, [], IfErr, IfOk, IfSome, None};
+ghost use Rattle.std.specs.List.{list_any};
+ghost use Rattle.fish_outside.specs.Causes.{Rose};
+ghost use Rattle.fish_outside.specs.Told.{StillTold};
+ghost use Rattle.fish_report.specs.ReportText.{is_refusal, report_text};
+ghost use Rattle.fishstore.specs.Answer.{IsAnswer, answer_to};
+ghost use Rattle.fishstore.specs.Faults.{IsStepFault};
+ghost use Rattle.fishstore.specs.Outcome.{EndsSelect, status_of};
+
+use crate::fault::Fault;
+use crate::outcome::Outcome;
+use fish_outside::{Host, Sink, write_whole};
+use fish_report::{Item, Items, Report, report_text};
+use fish_run::read_file;
+use fish_select::select;
+use fish_value::{Bytes, Text};
+use fish_words::Select;
+use std::alloc::{AllocError, Global};
+
+/// The most bytes of a file that is selected from.
+const MAX_FILE: usize = 67_108_864;
+
+/// Runs a `select`: its report is made, and then written.
+pub(crate) fn answer_select<H: Host, W: Sink>(
+    alloc: Global,
+    command: &Select,
+    host: &mut H,
+    out: &mut W,
+) -> Outcome
+    ensures status { result.status ≡ status_of result.fault result.refused }
+    ensures ended { EndsSelect (answer_to command.now) command.now.file (H.files host.new) (W.written out.old)
+        (W.written out.new) result result.fault }
+    ensures told { StillTold (H.files host.old) (H.files host.new) }
+    ensures input { result.fault ≡ Fault.Input → Rose (H.faults host.old) (H.faults host.new) }
+    ensures output { result.fault ≡ Fault.Output → Rose (W.faults out.old) (W.faults out.new) }
+{
+    match prepare(alloc, command, host) {
+        Ok(Prepared { report, text }) => match write_whole(out, text.as_bytes()) {
+            Ok(()) => told(Fault::None, report),
+            Err(_) => told(Fault::Output, report),
+        },
+        Err(fault) => Outcome::failed(alloc, fault),
+    }
+}
+
+/// The end of a run with this fault, whose report was made.
+fn told(fault: Fault, report: Report) -> Outcome
+    ensures status { result.status ≡ status_of fault result.refused }
+    ensures fault { result.fault ≡ fault }
+    ensures refused { result.refused ≡ list_any is_refusal report.items }
+    ensures report { result.report ≡ report }
+    ensures remains { result.remains ≡ None }
+{
+    let refused = has_refusal(report.items.as_slice());
+    Outcome::new(fault, refused, report, None)
+}
+
+/// Whether an item tells of a refusal.
+fn has_refusal(items: &[Item]) -> bool
+    ensures { result ≡ list_any is_refusal items.now }
+{
+    items.iter().any(|item| item.is_refusal())
+}
+
+/// The report of a command, and its text.
+#[derive(Drop)]
+struct Prepared {
+    report: Report,
+    text: Text,
+}
+
+/// Reads the file of a command, and makes the report and its text.
+fn prepare<H: Host>(alloc: Global, command: &Select, host: &mut H) -> Result<Prepared, Fault>
+    ensures answer { IfOk result (λ prepared. IfSome (H.files host.new)
+        (λ files. IsAnswer (answer_to command.now) command.now.file files prepared.report.items)) }
+    ensures text { IfOk result (λ prepared. prepared.text ≡ report_text prepared.report.items) }
+    ensures told { StillTold (H.files host.old) (H.files host.new) }
+
+    ensures refused { IfErr result (IsStepFault (H.faults host.old) (H.faults host.new)) }
+{
+    let bytes = read_file(alloc, host, &command.file, MAX_FILE + 1)?;
+    let report = report_of(alloc, command, bytes)?;
+    match report_text(alloc, &report) {
+        Ok(text) => Ok(Prepared { report, text }),
+        Err(want) => {
+            drop(report);
+            Err(Fault::from(want))
+        }
+    }
+}
+
+/// The report of a command for the first bytes of its file: all of them, or one more than it may have.
+fn report_of(alloc: Global, command: &Select, bytes: Bytes) -> Result<Report, AllocError>
+    ensures { IfOk result (λ report. report.items ≡ answer_to command.now bytes ∷ []) }
+{
+    let item = item_of(alloc, command, bytes.as_bytes())?;
+    let mut items = Items::new(alloc);
+    match items.push(item) {
+        Ok(()) => Ok(Report { items }),
+        Err(want) => {
+            drop(items);
+            Err(want)
+        }
+    }
+}
+
+/// What is told of them.
+fn item_of(alloc: Global, command: &Select, b: &[u8]) -> Result<Item, AllocError>
+    ensures { IfOk result (λ item. item ≡ answer_to command.now b.now) }
+{
+    if b.len() > MAX_FILE {
+        return Ok(Item::SelectTooLong {
+            file: command.file.again(alloc)?,
+        });
+    }
+    select(
+        alloc,
+        &command.def,
+        &command.value,
+        command.form,
+        command.header,
+        b,
+    )
+}
