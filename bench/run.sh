@@ -3,7 +3,7 @@
 # a plain Rust program over `serde_json` that keeps a map of positions, all in one run on one core, by processor time:
 # ingest in MB a second, one scan in milliseconds, peak memory. Then it times a block of four lanes beside one lane.
 #
-# usage: bench/run.sh [BYTES]        (67108864 bytes where none are given, and no more)
+# usage: [PAGES=128] [RUNS=3] bench/run.sh [BYTES]        (67108864 bytes where none are given, and no more)
 #
 # It needs Debian's packages python3, time and util-linux; sqlite3, and librust-serde-json-dev with cargo for the Rust program,
 # which are left out with a note where they are missing. `make build` makes the program first.
@@ -16,7 +16,7 @@ scans=20
 [ -x "$program" ] || { echo "bench: $program is missing: run 'make build' first" >&2; exit 1; }
 file=$(events "${1:-67108864}")
 size=$(stat -c %s "$file")
-store="store --pages 512 --bits 16"
+store="store --pages ${PAGES:-128} --bits 16"
 
 definitions() {
   printf 'register type as take type\nregister login as take actor.login\n'
@@ -30,7 +30,7 @@ definitions() {
   echo "PRAGMA journal_mode = OFF;"
   echo "CREATE TABLE lines (payload TEXT);"
   echo ".mode ascii"
-  printf '.separator "\\x1f" "\\n"\n.import %s lines\n' "$file"
+  printf '.separator "\\037" "\\n"\n.import %s lines\n' "$file"
   cat <<'SQL'
 CREATE TABLE events AS SELECT rowid - 1 AS number, payload,
   payload ->> '$.type' AS type,
