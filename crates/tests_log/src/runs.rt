@@ -6,7 +6,7 @@ ghost use Rattle.fish_script.specs.Runnable.{CanRun};
 use crate::expecting::{expect, expect_text};
 use crate::openings::ONE_PAGE;
 use fish_outside::{HostFile, HostFiles, MemoryHost, MemorySink};
-use fish_run::{Ran, RunFault, read_file, run_script};
+use fish_run::{Ran, RunFault, law_versions, read_file, run_script};
 use fish_script::{Script, parse_script};
 use fish_value::{Bytes, Numbers64, Text};
 use std::alloc::{AllocError, Global};
@@ -124,12 +124,13 @@ fn ran<R: Threads + Sync>(
 fn expect_ran<R: Threads + Sync + Abort>(
     rt: &R,
     alloc: Global,
+    text: &str,
     feeds: &[u64],
     writes: &[u64],
     head: &str,
     want: &str,
 ) -> Result<(), Fail> {
-    let found = ran(rt, alloc, WHOLE, feeds, writes)?;
+    let found = ran(rt, alloc, text, feeds, writes)?;
     let want = format!(in alloc; "{head}\n{want}")?;
     expect_text(rt, "a run", found.as_str(), want.as_str());
     Ok(())
@@ -137,7 +138,25 @@ fn expect_ran<R: Threads + Sync + Abort>(
 
 #[test]
 fn a_script_writes_what_each_block_tells(rt: HostRuntime) -> Result<(), Fail> {
-    expect_ran(&rt, rt.alloc(), &[], &[], "None true 5", WHOLE_WRITTEN)
+    expect_ran(
+        &rt,
+        rt.alloc(),
+        WHOLE,
+        &[],
+        &[],
+        "None true 5",
+        WHOLE_WRITTEN,
+    )
+}
+
+/// Nothing is refused, and nothing is stored.
+#[test]
+fn a_run_of_an_empty_log_tells_its_definitions(rt: HostRuntime) -> Result<(), Fail> {
+    law_versions();
+    let text = "register t as take type\nexplain t = 1\ncheckpoint\nderegister t\n";
+    let written = "created\nregistered t id 0 from 0\nexplain t = 1 in 0..0: none\ncheckpoint 0\n\
+deregistered t id 0 to 0\nclosed 0\n";
+    expect_ran(&rt, rt.alloc(), text, &[], &[], "None false 0", written)
 }
 
 /// The second file can't be had: what was done before it is written, and the log stays.
@@ -145,14 +164,14 @@ fn a_script_writes_what_each_block_tells(rt: HostRuntime) -> Result<(), Fail> {
 fn a_run_stops_at_a_file_that_fails(rt: HostRuntime) -> Result<(), Fail> {
     let written = "created\nregistered t id 0 from 0\ningested events stored 3 refused 1\n\
 scan t = \"a\" in 0..3 found 2 open none\n2 12 {\"type\":\"a\"}\n0 12 {\"type\":\"a\"}\n";
-    expect_ran(&rt, rt.alloc(), &[1], &[], "Input false 3", written)
+    expect_ran(&rt, rt.alloc(), WHOLE, &[1], &[], "Input false 3", written)
 }
 
 /// The third piece can't be written.
 #[test]
 fn a_run_stops_at_an_output_that_fails(rt: HostRuntime) -> Result<(), Fail> {
     let written = "created\nregistered t id 0 from 0\n";
-    expect_ran(&rt, rt.alloc(), &[], &[2], "Output false 3", written)
+    expect_ran(&rt, rt.alloc(), WHOLE, &[], &[2], "Output false 3", written)
 }
 
 #[test]
