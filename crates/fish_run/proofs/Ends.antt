@@ -1,6 +1,6 @@
 -- Where a run ends: what is said of every log that is closed later is so of the one that is left.
 use Rattle.std.proofs.Common.{◌≡◌, ◌≢◌, ℕ, ◌+◌, ◌*◌, ◌<◌, ◌≤◌, List, [], ◌∷◌, ◌++◌, length, take, get_or, append-nil}
-use Rattle.std.proofs.Common.{refl, sym, ap, ◌∙◌, subst, ◌⊎◌, ⊎_elim, arith, Bool, true, false}
+use Rattle.std.proofs.Common.{refl, sym, ap, ◌∙◌, subst, ◌⊎◌, ⊎_elim, inl, inr, arith, Bool, true, false}
 use Rattle.std.proofs.Common.{Option, Some, None, Result, Ok, Err, slice_get}
 use Rattle.std.specs.List.{flat_map}
 use Rattle.std.specs.Prelude.{◌||◌, IfErr, IfOk}
@@ -22,7 +22,7 @@ use Rattle.fish_rule.specs.declared.close.Remains.{Remains}
 use Rattle.fish_rule.specs.declared.view.View.{View}
 use Rattle.fish_run.proofs.Blocks.{fulls_agree, ran_later, ran_more}
 use Rattle.fish_run.proofs.Lists.{get_at, pairs_length, take_length}
-use Rattle.fish_run.proofs.Written.{gained_none, part_first, part_still, part_then, part_whole, written_both}
+use Rattle.fish_run.proofs.Written.{gained_none, part_still, part_then, part_whole, written_both}
 use Rattle.fish_run.specs.Blocks.{Block, TellsPart, TellsRun, no_registry}
 use Rattle.fish_run.specs.Ran.{AreFirst, IsBlockOf, IsLost, IsStopped, IsWhole}
 use Rattle.fish_run.specs.Reports.{are_refused, block_items, lanes_refused, report_of, whole_report}
@@ -247,8 +247,11 @@ module _ (told : Option Files) (text : List script.Block) (pages : ℕ) (v : Vie
         closed = closed;
         tells = shown told text v h.blocks None count remains h.ran closed;
         fulls = fulls_agree v h.blocks (pages * 32768) stands h.ran.marks end_is;
-        written = subst (λ (z : ℕ). GainedPart old new (report_text (whole_report h.blocks z))) (sym many)
-            (part_then old mid new (report_of h.blocks) (item.Closed count ∷ []) h.written last);
+        written = inr (
+          h.all,
+          subst (λ (z : ℕ). GainedPart old new (report_text (whole_report h.blocks z))) (sym many)
+              (part_then old mid new (report_of h.blocks) (item.Closed count ∷ []) h.written last),
+        );
         input = λ e. absurd (other e);
       }
 
@@ -262,8 +265,7 @@ module _ (told : Option Files) (text : List script.Block) (pages : ℕ) (v : Vie
     closed = closed;
     tells = shown told text v h.blocks h.cut h.end remains h.ran closed;
     fulls = fulls_agree v h.blocks (pages * 32768) stands h.ran.marks end_is;
-    written = part_first old new (report_of h.blocks) (item.Closed (length remains.log) ∷ [])
-        (part_still old mid new (report_text (report_of h.blocks)) h.written none);
+    written = inl (part_still old mid new (report_text (report_of h.blocks)) h.written none);
     input = λ e. ((h.input e).0, gained_none old mid new (report_text (report_of h.blocks)) (h.input e).1 none);
   }
 

@@ -1,5 +1,5 @@
 -- What a run of a script did, what it wrote of it, and the log that it left.
-use Rattle.std.specs.Prelude.{ℕ, ◌≡◌, ◌*◌, List, Bool, Option, Some, None, IfSome, length, slice_get, take}
+use Rattle.std.specs.Prelude.{ℕ, ◌≡◌, ◌⊎◌, ◌*◌, List, Bool, Option, Some, None, IfSome, length, slice_get, take}
 use Rattle.fish_outside.specs.Told.{Files, Gained, GainedPart}
 use Rattle.fish_report.specs.ReportText.{report_text}
 use Rattle.fish_rule.specs.Closing.{IsClosed}
@@ -38,6 +38,11 @@ pub record IsWhole (told : Option Files) (text : List script.Block) (pages : ℕ
   pub written : Gained old new (report_text (whole_report blocks (length remains.log)))
   pub refused_is : refused ≡ are_refused blocks
 
+-- a first part was written of the report of blocks, or of one that goes on with the end, where they are the whole script
+abbrev pub WritesPart : Option Files → List script.Block → ℕ → Option (List ℕ) → Option (List ℕ) → List Block → Type 0
+WritesPart told text count old new blocks = GainedPart old new (report_text (report_of blocks))
+    ⊎ (Pairs (IsBlockOf told) text blocks × GainedPart old new (report_text (whole_report blocks count)))
+
 -- a run that a fault stopped: the first blocks ran, and perhaps one more, in which a lane stopped at the fault; of the log that
 -- is left their items are true; a first part of the report was written, without the cut block, and all of it where a file
 -- couldn't be read
@@ -51,7 +56,7 @@ pub record IsStopped (told : Option Files) (text : List script.Block) (pages : �
   pub closed : IsClosed view remains
   pub tells : TellsRun view remains.log blocks cut (length remains.log)
   pub fulls : FullsAgree blocks (pages * 32768)
-  pub written : GainedPart old new (report_text (whole_report blocks (length remains.log)))
+  pub written : WritesPart told text (length remains.log) old new blocks
   pub input : why ≡ fault.Input → (cut ≡ None) × Gained old new (report_text (report_of blocks))
 
 -- a run whose log couldn't be shown for want of memory: a first part of the report of some first blocks was written
