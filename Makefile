@@ -4,7 +4,7 @@ PROGRAM = crates/fishstore/out/fishstore
 EXAMPLE = examples/events
 CRATES = $(shell sed -n 's/^\(fish[a-z_]*\).*:.*/\1/p' crates.txt)
 
-.PHONY: demo build test edits gate install bench bench_log bench_ingest bench_registrations bench_scans bench_peers bench_program clean
+.PHONY: demo build test edits gate install bench bench_run bench_log bench_ingest bench_registrations bench_scans bench_peers bench_program clean
 
 # Runs both commands of the program on the examples, built once and with no proof: their words stand a line each.
 demo:
@@ -43,6 +43,10 @@ install: build
 # Times the program beside jq and a plain Rust program.
 bench: build
 	bench/select.sh
+
+# Times `run` on a large file of events beside sqlite3 and a plain Rust program, and four lanes beside one.
+bench_run: build
+	bench/run.sh
 
 # Proves and builds the program of the five benchmarks below.
 bench_program:
