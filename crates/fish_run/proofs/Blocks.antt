@@ -1,7 +1,8 @@
 -- Blocks, one after the other, and the log in the end.
 use Rattle.std.proofs.Common.{◌≡◌, ℕ, suc, ◌+◌, ◌<◌, ◌≤◌, List, [], ◌∷◌, ◌++◌, length, refl, sym, ap, ◌∙◌, subst, inl, inr, ⊎_elim, arith}
-use Rattle.std.proofs.Common.{Bool, Option, Some, slice_get}
+use Rattle.std.proofs.Common.{Bool, Option, Some, get_or, slice_get}
 use Rattle.std.specs.Prelude.{◌||◌}
+use Rattle.std.proofs.lemmas.Option.{slice_get-get_or, slice_get_within}
 use Rattle.fish_catalog.specs.declared.entry.Entry.{Entry}
 use Rattle.fish_lanes.proofs.Controls.{each_later}
 use Rattle.fish_lanes.proofs.Gaining.{same_lines}
@@ -75,7 +76,7 @@ marked_later v u blocks learns h b among i x at = names_later v u x.items learns
 pub block_later : (old new : Option Files) → StillTold old new → (s : script.Block) (b : Block) → IsBlockOf old s b
     → IsBlockOf new s b
 block_later old new still s b h =
-    record { several = h.several; lanes = lanes_later old new still s.lanes b.lanes h.lanes }
+    record { several = h.several; lanes = lanes_later old new still s.lanes b.lanes h.lanes; numbers = h.numbers }
 
 pub blocks_later : (old new : Option Files) → StillTold old new → (text : List script.Block) (blocks : List Block)
     → Pairs (IsBlockOf old) text blocks → Pairs (IsBlockOf new) text blocks
@@ -187,6 +188,10 @@ pub leaves_of : (told : Option Files) (text : script.Block) (v u : View) (r s : 
     → Leaves told text v u r s from lanes end
 leaves_of told text v u r s from items lanes end are works many kept begins tells has ended marks = record {
   works = lanes_kept told text.lanes items lanes many (λ i x y at bt. (kept i x y at bt).1) works;
+  numbers = λ i x at.
+      let below = slice_get_within lanes i x at in
+      let before = slice_get-get_or items i x (omega (below, many, arith)) in
+      (kept i (get_or items i x) x before at).0 ∙ (are.new i (get_or items i x) before).number_is;
   some = (let some_ = are.some in omega arith);
   begins = begins;
   tells = tells;
@@ -201,7 +206,7 @@ module _ (told : Option Files) (text : script.Block) (v u : View) (r s : Registr
   left = block_of text.several from v u lanes end
 
   is_left : IsBlockOf told text left
-  is_left = record { several = refl; lanes = h.works }
+  is_left = record { several = refl; lanes = h.works; numbers = h.numbers }
 
   spans : IsBlockSpan v u end.to left.span
   spans = record { begins = h.begins; ends = refl; first = omega arith; last = omega arith }
@@ -209,6 +214,7 @@ module _ (told : Option Files) (text : script.Block) (v u : View) (r s : Registr
   part_of : (x : View) (log : List Entry) → TellsBlock x left.span log lanes → TellsPart x log from (registry_of v r) left
   part_of x log t = record {
     begins = refl;
+    ends = refl;
     rises = (h.tells left.span spans).0;
     first = refl;
     lanes = t;

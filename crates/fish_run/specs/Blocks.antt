@@ -51,6 +51,7 @@ behind_blocks r (b ∷ blocks) = behind_blocks (behind_block r b) blocks
 -- stopped at a fault: its lanes' items are so of the log, and where a statement has no item, neither have those behind it
 pub record TellsPart (v : View) (log : List Entry) (from : ℕ) (r : Registry) (b : Block) : Type 0 where
   pub begins : b.span.from ≡ from
+  pub ends : b.end.to ≡ b.span.to
   pub rises : b.span.from ≤ b.span.to
   pub first : b.span.first ≡ r.version
   pub lanes : TellsBlock v b.span log b.lanes

@@ -7,15 +7,16 @@ use Rattle.fish_rule.specs.declared.close.Remains.{Remains}
 use Rattle.fish_rule.specs.declared.view.View.{View}
 use Rattle.fish_run.specs.Blocks.{Block, FullsAgree, TellsRun}
 use Rattle.fish_run.specs.Reports.{are_refused, report_of, whole_report}
-use Rattle.fish_run.specs.Works.{IsLaneOf, Pairs}
+use Rattle.fish_run.specs.Works.{AreNumbered, IsLaneOf, Pairs}
 use Rattle.fish_run.specs.declared.running.RunFault.{RunFault}
 use Rattle.fish_run.specs.declared.running.RunFault.TheVariants as fault
 use Rattle.fish_script.specs.declared.script.Block as script
 
--- a block that ran has the lanes of one of the script, with the files that they name
+-- a block that ran has the lanes of one of the script, with the files that they name and the numbers from 1 on
 pub record IsBlockOf (told : Option Files) (s : script.Block) (b : Block) : Type 0 where
   pub several : b.several ≡ s.several
   pub lanes : Pairs (IsLaneOf told) s.lanes b.lanes
+  pub numbers : AreNumbered b.lanes
 
 -- these are the first blocks of the script
 abbrev pub AreFirst : Option Files → List script.Block → List Block → Type 0

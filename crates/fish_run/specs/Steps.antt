@@ -17,7 +17,7 @@ use Rattle.fish_rule.specs.declared.view.View.{View}
 use Rattle.fish_run.specs.Blocks.{AreMarked, Block, TellsBlocks, TellsOne, TellsPart, TellsRun, behind_block, behind_blocks, no_registry}
 use Rattle.fish_run.specs.Ran.{AreFirst, IsBlockOf, IsNextOf}
 use Rattle.fish_run.specs.Reports.{are_refused, block_items, lanes_refused, report_of}
-use Rattle.fish_run.specs.Works.{IsLaneOf, Pairs}
+use Rattle.fish_run.specs.Works.{AreNumbered, IsLaneOf, Pairs}
 use Rattle.fish_run.specs.declared.running.RunFault.{RunFault}
 use Rattle.fish_run.specs.declared.running.RunFault.TheVariants as fault
 use Rattle.fish_script.specs.declared.script.Block as script
@@ -51,6 +51,7 @@ pub record WritesOne (told : Option Files) (s : script.Block) (u : View) (r t : 
 pub record Leaves (told : Option Files) (text : script.Block) (v u : View) (r s : Registrar) (from : ℕ) (lanes : List Lane)
     (end : BlockEnd) : Type 0 where
   pub works : Pairs (IsLaneOf told) text.lanes lanes
+  pub numbers : AreNumbered lanes
   pub some : 0 < length lanes
   pub begins : HasEnd v from
   pub tells : (k : Span) → IsBlockSpan v u end.to k

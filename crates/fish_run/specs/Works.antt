@@ -56,6 +56,10 @@ IsWorkOf told does.Checkpoint w = w ≡ work.Checkpoint
 abbrev pub IsLaneOf : Option Files → List Statement → Lane → Type 0
 IsLaneOf told ss x = Pairs (IsWorkOf told) ss x.works
 
+-- lanes have the numbers from 1 on
+abbrev pub AreNumbered : List Lane → Type 0
+AreNumbered lanes = (i : ℕ) (x : Lane) → slice_get lanes i ≡ Some x → x.number ≡ i + 1
+
 -- the lanes are those of a block, with the numbers from 1 on and no item
 pub record AreLanesOf (told : Option Files) (texts : List (List Statement)) (lanes : List Lane) : Type 0 where
   pub works : Pairs (IsLaneOf told) texts lanes
