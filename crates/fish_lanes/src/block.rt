@@ -16,6 +16,7 @@ ghost use Rattle.fish_rule.specs.Views.{AllOf};
 ghost use Rattle.fish_rule.specs.Seating.{CanSplit, split_left, split_right};
 
 use crate::control::run_control;
+use crate::gate::Gate;
 use crate::lane::{Lane, Seated};
 use crate::registering::find_last;
 use crate::statements::run_works;
@@ -53,6 +54,7 @@ fn run_pass(
     pass: &mut Pass,
     works: &[Work],
     items: &mut Items,
+    gate: &Gate,
 ) -> LaneFault
     requires pass { CanBegin log.now pass.old }
     requires base { (view pass.old).about.number ≡ 0 }
@@ -62,11 +64,11 @@ fn run_pass(
     ensures run { HasRun (view pass.old) (view pass.new) works.now items.new result }
 {
     let mut defs = Defs::new(alloc);
-    run_works(alloc, log, pass, &mut defs, works, items)
+    run_works(alloc, log, pass, &mut defs, works, items, gate)
 }
 
 /// Does the statements of a lane by its own pass.
-fn run_seated(alloc: Global, log: &Log, lane: &mut Lane)
+fn run_seated(alloc: Global, log: &Log, lane: &mut Lane, gate: &Gate)
     requires ready { IsReady log.now lane.old }
     ensures done { HasDone log.now lane.old lane.new }
 {
@@ -79,22 +81,35 @@ fn run_seated(alloc: Global, log: &Log, lane: &mut Lane)
         &mut pass,
         lane.works.as_slice(),
         &mut lane.items,
+        gate,
     );
     lane.seat = Some(Seated { pass });
 }
 
 /// Does the statements of lanes at once, by their own passes.
-fn run_others<R: Threads + Sync>(rt: &R, alloc: Global, log: &Log, lanes: &mut [Lane])
+fn run_others<R: Threads + Sync>(rt: &R, alloc: Global, log: &Log, lanes: &mut [Lane], gate: &Gate)
     requires ready { AreReady log.now lanes.old }
     requires some { 0 < length lanes.old }
     ensures done { AreDone log.now lanes.old lanes.new }
 {
     let threads = lanes.len();
-    for_each_mut(rt, lanes, threads, &|_, lane| run_seated(alloc, log, lane));
+    for_each_mut(
+        rt,
+        lanes,
+        threads,
+        &|_, lane| { run_seated(alloc, log, lane, gate) },
+    );
 }
 
 /// Does the statements of the first lane by the control pass.
-fn run_first(alloc: Global, log: &Log, main: &mut Pass, registrar: &mut Registrar, lane: &mut Lane)
+fn run_first(
+    alloc: Global,
+    log: &Log,
+    main: &mut Pass,
+    registrar: &mut Registrar,
+    lane: &mut Lane,
+    gate: &Gate,
+)
     requires can { CanControl log.now main.old registrar.old }
     requires first { IsFirst (view main.old) registrar.old lane.old }
     ensures can { CanControl log.now main.new registrar.new }
@@ -107,6 +122,7 @@ fn run_first(alloc: Global, log: &Log, main: &mut Pass, registrar: &mut Registra
         registrar,
         lane.works.as_slice(),
         &mut lane.items,
+        gate,
     );
 }
 
@@ -171,6 +187,7 @@ fn run_all<R: Threads + Sync>(
     registrar: &mut Registrar,
     first: &mut Lane,
     others: &mut [Lane],
+    gate: &Gate,
 )
     requires can { CanControl log.now main.old registrar.old }
     requires first { IsFirst (view main.old) registrar.old first.old }
@@ -180,18 +197,18 @@ fn run_all<R: Threads + Sync>(
     ensures done { AreDone log.now others.old others.new }
 {
     if others.is_empty() {
-        run_first(alloc, log, main, registrar, first);
+        run_first(alloc, log, main, registrar, first, gate);
         return;
     }
     join_mut(
         rt,
-        &mut || run_first(alloc, log, main, registrar, first),
+        &mut || run_first(alloc, log, main, registrar, first, gate),
         &mut ||
             requires sync { IsSync R.row }
             requires ready { AreReady log.now others.now }
             requires some { 0 < length others.now }
             ensures { AreDone log.entry.now others.entry.now others.exit.now }
-        { run_others(rt, alloc, log, others) },
+        { run_others(rt, alloc, log, others, gate) },
     );
 }
 
@@ -204,6 +221,7 @@ fn run_lanes<R: Threads + Sync>(
     registrar: &mut Registrar,
     first: &mut Lane,
     others: &mut [Lane],
+    gate: &Gate,
 ) -> BlockEnd
     requires can { CanControl log.now main.old registrar.old }
     requires end { (from : ℕ) × HasEnd (view main.old) from }
@@ -225,7 +243,7 @@ fn run_lanes<R: Threads + Sync>(
     ensures others_marks { NameMarks (view main.new) others.new }
 {
     give_all(log, main, others);
-    run_all(rt, alloc, log, main, registrar, first, others);
+    run_all(rt, alloc, log, main, registrar, first, others, gate);
     take_all(log, main, others);
     let bound = find_last(log, main, registrar);
     let to = settle(log, main).settled;
@@ -243,6 +261,9 @@ fn run_lanes<R: Threads + Sync>(
 /// closes later, these items are true: the lane's records between the old end and the new one are those that the items
 /// say are stored, in order, and scans, plans, checkpoints and refusals are so. The definitions are those that the items
 /// of the first lane tell. Numbers and statements stay.
+///
+/// The gate is told where each lane is: in front of each statement and behind it, and behind each claim of a record.
+/// Nothing that is promised depends on how long it holds a lane.
 pub fn run_block<R: Threads + Sync>(
     rt: &R,
     alloc: Global,
@@ -250,6 +271,7 @@ pub fn run_block<R: Threads + Sync>(
     main: &mut Pass,
     registrar: &mut Registrar,
     lanes: &mut [Lane],
+    gate: &Gate,
 ) -> BlockEnd
     requires can { CanControl log.now main.old registrar.old }
     requires end { (from : ℕ) × HasEnd (view main.old) from }
@@ -267,5 +289,5 @@ pub fn run_block<R: Threads + Sync>(
     ensures marks { NameMarks (view main.new) lanes.new }
 {
     let (first, others) = lanes.split_at_mut(1);
-    run_lanes(rt, alloc, log, main, registrar, &mut first[0], others)
+    run_lanes(rt, alloc, log, main, registrar, &mut first[0], others, gate)
 }

@@ -6,13 +6,14 @@ ghost use Rattle.fish_lanes.specs.Controlling.{CanControl, HasControlled, IsCont
 ghost use Rattle.fish_lanes.specs.Registering.{IsAcceptable, KnowsRegistry, registry_of};
 ghost use Rattle.fish_rule.specs.Passes.{view};
 
+use crate::gate::{Gate, Point};
 use crate::registering::{deregister, find_boundary, register};
 use crate::statements::run_work;
 use crate::work::{LaneFault, Work};
 use fish_epoch::Defs;
 use fish_registry::Registrar;
 use fish_report::{Item, Items};
-use fish_rule::{Log, Pass};
+use fish_rule::{Log, Pass, lane};
 use std::alloc::{AllocError, Global};
 
 /// Does statements in order, up to the first fault, with definitions that are read anew.
@@ -23,6 +24,7 @@ pub(crate) fn run_control(
     registrar: &mut Registrar,
     works: &[Work],
     items: &mut Items,
+    gate: &Gate,
 ) -> LaneFault
     requires can { CanControl log.now pass.old registrar.old }
     requires base { (view pass.old).about.number ≡ 0 }
@@ -33,7 +35,7 @@ pub(crate) fn run_control(
     ensures run { HasControlled (view pass.old) (view pass.new) registrar.old registrar.new works.now items.new result }
 {
     let mut defs = Defs::new(alloc);
-    run_statements(alloc, log, pass, registrar, &mut defs, works, items)
+    run_statements(alloc, log, pass, registrar, &mut defs, works, items, gate)
 }
 
 /// Does statements in order, up to the first fault. In front of each it looks whether the index of the registration that
@@ -46,6 +48,7 @@ fn run_statements(
     defs: &mut Defs,
     works: &[Work],
     items: &mut Items,
+    gate: &Gate,
 ) -> LaneFault
     requires can { CanControl log.now pass.old registrar.old }
     requires defs { IsDefsOf (view pass.old) defs.old }
@@ -56,17 +59,21 @@ fn run_statements(
     ensures can { CanControl log.now pass.new registrar.new }
     ensures run { HasControlled (view pass.old) (view pass.new) registrar.old registrar.new works.now items.new result }
 {
+    let mut place: u32 = 0;
     for work in works {
+        gate.reach(lane(pass), Point::Before(place));
         if find_boundary(log, pass, registrar, items).is_err() {
             return LaneFault::Memory;
         }
-        let Ok(item) = run_statement(alloc, log, pass, registrar, defs, work) else {
+        let Ok(item) = run_statement(alloc, log, pass, registrar, defs, work, gate) else {
             return LaneFault::Memory;
         };
         match items.push(item) {
             Ok(()) => {}
             Err(_) => return LaneFault::Memory,
         }
+        gate.reach(lane(pass), Point::After(place));
+        place = place.saturating_add(1);
     }
     LaneFault::None
 }
@@ -79,6 +86,7 @@ fn run_statement(
     registrar: &mut Registrar,
     defs: &mut Defs,
     work: &Work,
+    gate: &Gate,
 ) -> Result<Item, AllocError>
     requires can { CanControl log.now pass.old registrar.old }
     requires defs { IsDefsOf (view pass.old) defs.old }
@@ -93,6 +101,6 @@ fn run_statement(
     match work {
         Work::Register { name, def } => register(alloc, log, pass, registrar, defs, name, def),
         Work::Deregister { name } => deregister(alloc, log, pass, registrar, defs, name),
-        _ => run_work(alloc, log, pass, defs, work),
+        _ => run_work(alloc, log, pass, defs, work, gate),
     }
 }

@@ -4,8 +4,8 @@ ghost use Rattle.std.specs.Prelude.{◌≡◌, ◌≤◌, ◌+◌, length, IfOk,
 ghost use Rattle.fish_csv.specs.Left.{left};
 ghost use Rattle.fish_csv.specs.Rows as csv;
 ghost use Rattle.fish_epoch.specs.Definitions.{IsDefsOf};
-ghost use Rattle.fish_ingest.specs.Ingestion.{CanIngest, CanStart};
-ghost use Rattle.fish_ingest.specs.Refusal.{HasNotClaimed};
+ghost use Rattle.fish_ingest.specs.Ingestion.{CanIngest, CanStart, HasIngested};
+ghost use Rattle.fish_ingest.specs.Refusal.{HasNotClaimed, HasRefused, IsCause};
 ghost use Rattle.fish_json.specs.Lines as json;
 ghost use Rattle.fish_lanes.specs.Doing.{IsItem, IsPart};
 ghost use Rattle.fish_lanes.specs.Storing.{EndsWith, FindsFull, IsPartStored, TakesLine, item_of, nothing};
@@ -15,12 +15,13 @@ ghost use Rattle.fish_rule.specs.Passes.{IsPassOf, view};
 ghost use Rattle.fish_value.specs.Limits.{longest_file};
 ghost use Rattle.fish_value.specs.declared.field.Form.TheVariants.{Csv, Json};
 
+use crate::gate::{Gate, Point};
 use fish_csv::{CsvRefusal, MAX_FILE, RowTexts};
 use fish_epoch::Defs;
-use fish_ingest::{IngestRefusal, ingest};
+use fish_ingest::{IngestRefusal, finish, start};
 use fish_lines::Lines;
 use fish_report::Item;
-use fish_rule::{Log, Pass, Shut};
+use fish_rule::{Log, Pass, Shut, lane};
 use fish_value::{Form, Text};
 use std::alloc::{AllocError, Global};
 
@@ -41,6 +42,7 @@ pub(crate) fn ingest_file(
     header: bool,
     name: &Text,
     file: &[u8],
+    gate: &Gate,
 ) -> Result<Item, AllocError>
     requires pass { IsPassOf log.now pass.old }
     requires start { CanStart (view pass.old) }
@@ -62,7 +64,7 @@ pub(crate) fn ingest_file(
         stored: 0,
         refused: 0,
     };
-    match ingest_form(alloc, log, pass, defs, form, header, file, &mut tally) {
+    match ingest_form(alloc, log, pass, defs, form, header, file, &mut tally, gate) {
         Ok(end) => Ok(item_of(name, tally, end)),
         Err(error) => {
             drop(name);
@@ -82,6 +84,7 @@ fn ingest_form(
     header: bool,
     file: &[u8],
     tally: &mut Tally,
+    gate: &Gate,
 ) -> Result<Option<Shut>, AllocError>
     requires pass { IsPassOf log.now pass.old }
     requires start { CanStart (view pass.old) }
@@ -94,8 +97,8 @@ fn ingest_form(
     ensures part { IfErr result (λ _. IsPartStored (view pass.old) (view pass.new) form (outcomes form header file.now)) }
 {
     match form {
-        Form::Json => ingest_lines(alloc, log, pass, defs, file, tally),
-        Form::Csv => ingest_csv(alloc, log, pass, defs, header, file, tally),
+        Form::Json => ingest_lines(alloc, log, pass, defs, file, tally, gate),
+        Form::Csv => ingest_csv(alloc, log, pass, defs, header, file, tally, gate),
     }
 }
 
@@ -108,6 +111,7 @@ fn ingest_csv(
     header: bool,
     file: &[u8],
     tally: &mut Tally,
+    gate: &Gate,
 ) -> Result<Option<Shut>, AllocError>
     requires pass { IsPassOf log.now pass.old }
     requires start { CanStart (view pass.old) }
@@ -123,7 +127,7 @@ fn ingest_csv(
         Ok(rows) => rows,
         Err(CsvRefusal::FileTooLong | CsvRefusal::OutOfMemory) => return Err(AllocError),
     };
-    let ended = ingest_rows(alloc, log, pass, defs, &mut rows, tally);
+    let ended = ingest_rows(alloc, log, pass, defs, &mut rows, tally, gate);
     drop(rows);
     ended
 }
@@ -157,6 +161,7 @@ fn ingest_lines(
     defs: &mut Defs,
     file: &[u8],
     tally: &mut Tally,
+    gate: &Gate,
 ) -> Result<Option<Shut>, AllocError>
     requires pass { IsPassOf log.now pass.old }
     requires start { CanStart (view pass.old) }
@@ -170,7 +175,7 @@ fn ingest_lines(
 {
     let mut lines = Lines::new(file);
     while let Some(line) = lines.next_line() {
-        match ingest_line(alloc, log, pass, defs, Form::Json, line, tally)? {
+        match ingest_line(alloc, log, pass, defs, Form::Json, line, tally, gate)? {
             Some(shut) => return Ok(Some(shut)),
             None => {}
         }
@@ -186,6 +191,7 @@ fn ingest_rows(
     defs: &mut Defs,
     rows: &mut RowTexts<'_>,
     tally: &mut Tally,
+    gate: &Gate,
 ) -> Result<Option<Shut>, AllocError>
     requires pass { IsPassOf log.now pass.old }
     requires start { CanStart (view pass.old) }
@@ -199,7 +205,7 @@ fn ingest_rows(
 {
     while let Some(row) = rows.next_row(alloc)? {
         match row {
-            Some(text) => match ingest_text(alloc, log, pass, defs, text, tally)? {
+            Some(text) => match ingest_text(alloc, log, pass, defs, text, tally, gate)? {
                 Some(shut) => return Ok(Some(shut)),
                 None => {}
             },
@@ -217,6 +223,7 @@ fn ingest_text(
     defs: &mut Defs,
     text: Text,
     tally: &mut Tally,
+    gate: &Gate,
 ) -> Result<Option<Shut>, AllocError>
     requires can { CanIngest log.now pass.old defs.old }
     requires room { tally.old.stored + tally.old.refused ≤ longest_file }
@@ -227,7 +234,16 @@ fn ingest_text(
         (FindsFull (view pass.old) (view pass.new) Csv text tally.old tally.new)) }
     ensures left { OnErr result (HasNotClaimed (view pass.old) (view pass.new) × (tally.new ≡ tally.old)) }
 {
-    let ended = ingest_line(alloc, log, pass, defs, Form::Csv, text.as_bytes(), tally);
+    let ended = ingest_line(
+        alloc,
+        log,
+        pass,
+        defs,
+        Form::Csv,
+        text.as_bytes(),
+        tally,
+        gate,
+    );
     drop(text);
     ended
 }
@@ -241,6 +257,7 @@ fn ingest_line(
     form: Form,
     payload: &[u8],
     tally: &mut Tally,
+    gate: &Gate,
 ) -> Result<Option<Shut>, AllocError>
     requires can { CanIngest log.now pass.old defs.old }
     requires room { tally.old.stored + tally.old.refused ≤ longest_file }
@@ -251,7 +268,7 @@ fn ingest_line(
         (FindsFull (view pass.old) (view pass.new) form payload.now tally.old tally.new)) }
     ensures left { OnErr result (HasNotClaimed (view pass.old) (view pass.new) × (tally.new ≡ tally.old)) }
 {
-    match ingest(alloc, log, pass, defs, form, payload) {
+    match ingest_at(alloc, log, pass, defs, form, payload, gate) {
         Ok(_) => tally.stored += 1,
         Err(IngestRefusal::TooLong) => tally.refused += 1,
         Err(IngestRefusal::NotRecord) => tally.refused += 1,
@@ -259,4 +276,26 @@ fn ingest_line(
         Err(IngestRefusal::Full { line, lines, end }) => return Ok(Some(Shut { line, lines, end })),
     }
     Ok(None)
+}
+
+/// `ingest`, with a gate behind the claim.
+fn ingest_at(
+    alloc: Global,
+    log: &Log,
+    pass: &mut Pass,
+    defs: &mut Defs,
+    form: Form,
+    payload: &[u8],
+    gate: &Gate,
+) -> Result<u32, IngestRefusal>
+    requires can { CanIngest log.now pass.old defs.old }
+    ensures pass { IsPassOf log.now pass.new }
+    ensures defs { IsDefsOf (view pass.new) defs.new }
+    ensures ingested { IfOk result (λ number. HasIngested (view pass.old) form payload.now number (view pass.new)) }
+    ensures cause { IfErr result (IsCause form payload.now) }
+    ensures refused { IfErr result (λ e. HasRefused (view pass.old) form payload.now e (view pass.new)) }
+{
+    let pending = start(alloc, log, pass, defs, form, payload)?;
+    gate.reach(lane(pass), Point::Claimed);
+    Ok(finish(log, pass, pending))
 }

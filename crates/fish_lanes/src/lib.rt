@@ -3,6 +3,7 @@
 
 mod block;
 mod control;
+mod gate;
 mod ingesting;
 mod lane;
 mod registering;
@@ -11,5 +12,6 @@ mod statements;
 mod work;
 
 pub use block::{BlockEnd, Boundary, run_block};
+pub use gate::{Gate, Hold, Point};
 pub use lane::{Lane, Seated};
 pub use work::{LaneFault, Work, Works};

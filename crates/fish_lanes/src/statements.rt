@@ -9,12 +9,13 @@ ghost use Rattle.fish_lanes.specs.declared.work.Work.TheVariants as work;
 ghost use Rattle.fish_rule.specs.Logs.{Learns};
 ghost use Rattle.fish_rule.specs.Passes.{IsPassOf, view};
 
+use crate::gate::{Gate, Point};
 use crate::ingesting::ingest_file;
 use crate::scanning::{explain_range, scan_range};
 use crate::work::{LaneFault, Work};
 use fish_epoch::Defs;
 use fish_report::{Item, Items};
-use fish_rule::{Log, Pass};
+use fish_rule::{Log, Pass, lane};
 use fish_walk::settle;
 use std::alloc::{AllocError, Global};
 
@@ -26,6 +27,7 @@ pub(crate) fn run_works(
     defs: &mut Defs,
     works: &[Work],
     items: &mut Items,
+    gate: &Gate,
 ) -> LaneFault
     requires pass { IsPassOf log.now pass.old }
     requires start { CanStart (view pass.old) }
@@ -37,14 +39,18 @@ pub(crate) fn run_works(
     ensures defs { IsDefsOf (view pass.new) defs.new }
     ensures run { HasRun (view pass.old) (view pass.new) works.now items.new result }
 {
+    let mut place: u32 = 0;
     for work in works {
-        let Ok(item) = run_work(alloc, log, pass, defs, work) else {
+        gate.reach(lane(pass), Point::Before(place));
+        let Ok(item) = run_work(alloc, log, pass, defs, work, gate) else {
             return LaneFault::Memory;
         };
         match items.push(item) {
             Ok(()) => {}
             Err(_) => return LaneFault::Memory,
         }
+        gate.reach(lane(pass), Point::After(place));
+        place = place.saturating_add(1);
     }
     LaneFault::None
 }
@@ -56,6 +62,7 @@ pub(crate) fn run_work(
     pass: &mut Pass,
     defs: &mut Defs,
     work: &Work,
+    gate: &Gate,
 ) -> Result<Item, AllocError>
     requires pass { IsPassOf log.now pass.old }
     requires start { CanStart (view pass.old) }
@@ -83,6 +90,7 @@ pub(crate) fn run_work(
             *header,
             name,
             file.as_bytes(),
+            gate,
         ),
         Work::Scan { ask } => scan_range(alloc, log, pass, defs, ask),
         Work::Explain { ask } => explain_range(alloc, log, pass, defs, ask),

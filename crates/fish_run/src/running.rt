@@ -21,7 +21,7 @@ ghost use Rattle.fish_script.specs.Runnable.{CanRun, IsRunnableBlock};
 use crate::building::lanes_of;
 use crate::telling::{has_fault, has_refusal, write_block};
 use fish_catalog::Catalog;
-use fish_lanes::{BlockEnd, Lane, run_block};
+use fish_lanes::{BlockEnd, Gate, Lane, run_block};
 use fish_outside::{FeedRefusal, Host, Sink};
 use fish_registry::Registrar;
 use fish_report::{Item, WriteRefusal, write_items};
@@ -91,7 +91,7 @@ impl From<WriteRefusal> for RunFault {
 /// Runs the blocks of a script, one after the other, on a log of its own, and writes what they tell as each ends.
 ///
 /// The script's statements have to be such as can be run, as those of every script that was read are. A fault stops the
-/// run behind its block; the log is closed all the same.
+/// run behind its block; the log is closed all the same. The gate is told where each lane of a block is.
 ///
 /// Of the log that is left all items are true that the blocks told, and what was written is their text: all of it where no
 /// fault came, all of it in front of the block whose file couldn't be read, and else a first part.
@@ -102,6 +102,7 @@ pub fn run_script<R: Threads + Sync, H: Host, W: Sink>(
     script: &[Block],
     host: &mut H,
     out: &mut W,
+    gate: &Gate,
 ) -> Ran
     requires shape { IsShape shape }
     requires script { CanRun script.now }
@@ -116,7 +117,7 @@ pub fn run_script<R: Threads + Sync, H: Host, W: Sink>(
     ensures output { result.fault ≡ RunFault.Output → Rose (W.faults out.old) (W.faults out.new) }
 {
     match open_empty(alloc, shape) {
-        Ok((log, main)) => run_log(rt, alloc, log, main, script, host, out),
+        Ok((log, main)) => run_log(rt, alloc, log, main, script, host, out, gate),
         Err(_) => Ran {
             fault: RunFault::Memory,
             refused: false,
@@ -146,6 +147,7 @@ fn run_log<R: Threads + Sync, H: Host, W: Sink>(
     script: &[Block],
     host: &mut H,
     out: &mut W,
+    gate: &Gate,
 ) -> Ran
     requires new { IsNewLog log main }
     requires script { CanRun script.now }
@@ -161,7 +163,17 @@ fn run_log<R: Threads + Sync, H: Host, W: Sink>(
 {
     let mut main = main;
     let mut refused = false;
-    let ended = run_blocks(rt, alloc, &log, &mut main, script, host, out, &mut refused);
+    let ended = run_blocks(
+        rt,
+        alloc,
+        &log,
+        &mut main,
+        script,
+        host,
+        out,
+        &mut refused,
+        gate,
+    );
     match close_log(alloc, log, main) {
         Ok(remains) => {
             let fault = finish(alloc, out, ended);
@@ -208,6 +220,7 @@ fn run_blocks<R: Threads + Sync, H: Host, W: Sink>(
     host: &mut H,
     out: &mut W,
     refused: &mut bool,
+    gate: &Gate,
 ) -> Result<u32, RunFault>
     requires new { IsNewLog log.now main.old }
     requires script { CanRun script.now }
@@ -235,6 +248,7 @@ fn run_blocks<R: Threads + Sync, H: Host, W: Sink>(
             host,
             out,
             refused,
+            gate,
         ) {
             Ok(()) => {}
             Err(fault) => {
@@ -259,6 +273,7 @@ fn run_one<R: Threads + Sync, H: Host, W: Sink>(
     host: &mut H,
     out: &mut W,
     refused: &mut bool,
+    gate: &Gate,
 ) -> Result<(), RunFault>
     requires go { CanGoOn log.now main.old registrar.old from.old }
     requires block { IsRunnableBlock block.now }
@@ -274,7 +289,7 @@ fn run_one<R: Threads + Sync, H: Host, W: Sink>(
     ensures told { StillTold (H.files host.old) (H.files host.new) }
     ensures cause { HasRunCause (H.faults host.old) (H.faults host.new) (W.faults out.old) (W.faults out.new) result }
 {
-    let done = do_block(rt, alloc, log, main, registrar, block, *from, host)?;
+    let done = do_block(rt, alloc, log, main, registrar, block, *from, host, gate)?;
     let told = tell_lanes(
         alloc,
         out,
@@ -299,6 +314,7 @@ fn do_block<R: Threads + Sync, H: Host>(
     block: &Block,
     from: u32,
     host: &mut H,
+    gate: &Gate,
 ) -> Result<Done, FeedRefusal>
     requires go { CanGoOn log.now main.old registrar.old from }
     requires block { IsRunnableBlock block.now }
@@ -311,7 +327,7 @@ fn do_block<R: Threads + Sync, H: Host>(
     ensures cause { HasReadCause (H.faults host.old) (H.faults host.new) result }
 {
     let mut lanes = lanes_of(alloc, host, block.lanes.as_slice())?;
-    let end = run_block(rt, alloc, log, main, registrar, lanes.as_mut_slice());
+    let end = run_block(rt, alloc, log, main, registrar, lanes.as_mut_slice(), gate);
     Ok(Done { lanes, end })
 }
 

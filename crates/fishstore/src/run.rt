@@ -10,6 +10,7 @@ use crate::fault::Fault;
 use crate::outcome::Outcome;
 use crate::script::answer_run;
 use crate::selection::answer_select;
+use fish_lanes::Gate;
 use fish_outside::{Host, Sink};
 use fish_value::Text;
 use fish_words::{Command, read_words};
@@ -34,9 +35,31 @@ pub fn run<R: Threads + Sync, H: Host, W: Sink>(
     ensures input { result.fault ≡ Fault.Input → Rose (H.faults host.old) (H.faults host.new) }
     ensures output { result.fault ≡ Fault.Output → Rose (W.faults out.old) (W.faults out.new) }
 {
+    let gate = Gate::open(alloc);
+    let outcome = run_gated(rt, alloc, words, host, out, &gate);
+    drop(gate);
+    outcome
+}
+
+/// `run`, where a gate is told where each lane of a script is and may hold it there. What is promised is the same.
+pub fn run_gated<R: Threads + Sync, H: Host, W: Sink>(
+    rt: &R,
+    alloc: Global,
+    words: &[Text],
+    host: &mut H,
+    out: &mut W,
+    gate: &Gate,
+) -> Outcome
+    ensures status { result.status ≡ status_of result.fault result.refused }
+    ensures usage { IsUsage words.now result.fault }
+    ensures ended { IsEnd words.now (H.files host.new) (W.written out.old) (W.written out.new) result }
+    ensures told { StillTold (H.files host.old) (H.files host.new) }
+    ensures input { result.fault ≡ Fault.Input → Rose (H.faults host.old) (H.faults host.new) }
+    ensures output { result.fault ≡ Fault.Output → Rose (W.faults out.old) (W.faults out.new) }
+{
     match read_words(alloc, words) {
         Ok(command) => {
-            let outcome = answer(rt, alloc, &command, host, out);
+            let outcome = answer(rt, alloc, &command, host, out, gate);
             drop(command);
             outcome
         }
@@ -51,6 +74,7 @@ fn answer<R: Threads + Sync, H: Host, W: Sink>(
     command: &Command,
     host: &mut H,
     out: &mut W,
+    gate: &Gate,
 ) -> Outcome
     ensures status { result.status ≡ status_of result.fault result.refused }
     ensures ended { Ends (asked_of command.now) (H.files host.new) (W.written out.old) (W.written out.new) result }
@@ -60,6 +84,6 @@ fn answer<R: Threads + Sync, H: Host, W: Sink>(
 {
     match command {
         Command::Select(select) => answer_select(alloc, select, host, out),
-        Command::Run(run) => answer_run(rt, alloc, run, host, out),
+        Command::Run(run) => answer_run(rt, alloc, run, host, out, gate),
     }
 }

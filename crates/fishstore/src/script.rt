@@ -11,6 +11,7 @@ ghost use Rattle.fishstore.specs.Runs.{HasScript, IsScriptFault};
 
 use crate::fault::Fault;
 use crate::outcome::{Outcome, no_report};
+use fish_lanes::Gate;
 use fish_outside::{Host, Sink};
 use fish_rule::Shape;
 use fish_run::{Ran, read_file, run_script};
@@ -33,6 +34,7 @@ pub(crate) fn answer_run<R: Threads + Sync, H: Host, W: Sink>(
     command: &Run,
     host: &mut H,
     out: &mut W,
+    gate: &Gate,
 ) -> Outcome
     ensures status { result.status ≡ status_of result.fault result.refused }
     ensures ended { EndsRun command.now.script (unwrap_or command.now.pages usual_pages) (H.files host.new)
@@ -44,7 +46,15 @@ pub(crate) fn answer_run<R: Threads + Sync, H: Host, W: Sink>(
     match read_script(alloc, host, &command.script) {
         Ok(script) => {
             law_scripts_can_run();
-            let ran = run_script(rt, alloc, shape_of(command), script.as_slice(), host, out);
+            let ran = run_script(
+                rt,
+                alloc,
+                shape_of(command),
+                script.as_slice(),
+                host,
+                out,
+                gate,
+            );
             drop(script);
             ended(alloc, ran)
         }

@@ -66,7 +66,7 @@ fn a_lane_alone_tells_of_what_it_did(rt: HostRuntime) -> Result<(), Fail> {
 }
 
 /// How many records of a lane are in a log, where they are those that the lane made, in order and with nothing lost.
-fn stored_in_order(
+pub(crate) fn stored_in_order(
     alloc: Global,
     entries: &Entries,
     lane: u8,
@@ -130,7 +130,7 @@ fn are_of_kind(entries: &Entries, range: (u32, u32), opens: &[u32], rows: &Rows)
 }
 
 /// How many scans of a lane gave all records of their kind and no other.
-fn right_scans(entries: &Entries, lane: &Lane) -> usize {
+pub(crate) fn right_scans(entries: &Entries, lane: &Lane) -> usize {
     let mut right = 0;
     for item in lane.items.as_slice() {
         if let Item::Scanned {

@@ -19,6 +19,8 @@ mod churn;
 #[cfg(test)]
 mod claims;
 #[cfg(test)]
+mod contention;
+#[cfg(test)]
 mod definitions;
 #[cfg(test)]
 mod entries;
@@ -28,6 +30,8 @@ mod epochs;
 mod expecting;
 #[cfg(test)]
 mod flights;
+#[cfg(test)]
+mod gates;
 #[cfg(test)]
 mod lanes;
 #[cfg(test)]

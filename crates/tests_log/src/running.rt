@@ -16,7 +16,7 @@ ghost use Rattle.tests_log.specs.Registering.{IsKept};
 use crate::openings::{ONE_PAGE, closed, empty_log};
 use crate::scripts::{Plain, Script, push_lanes};
 use fish_catalog::{Catalog, Entries, Entry};
-use fish_lanes::{BlockEnd, Lane, LaneFault, run_block};
+use fish_lanes::{BlockEnd, Gate, Lane, LaneFault, run_block};
 use fish_registry::Registrar;
 use fish_report::push_item;
 use fish_rule::{Base, Log, Pass, base};
@@ -119,7 +119,9 @@ fn run_whole<R: Threads + Sync>(
     requires lanes { AreLanes lanes.old }
     ensures { OnOk result (IsBetween log.now main.new registrar.new) }
 {
-    let end = run_block(rt, alloc, log, main, registrar, lanes);
+    let gate = Gate::open(alloc);
+    let end = run_block(rt, alloc, log, main, registrar, lanes, &gate);
+    drop(gate);
     if !is_whole(lanes) {
         return Err(Fail::new("the first lane stopped"));
     }

@@ -5,6 +5,7 @@ ghost use Rattle.fish_script.specs.Runnable.{CanRun};
 
 use crate::expecting::{expect, expect_text};
 use crate::openings::ONE_PAGE;
+use fish_lanes::Gate;
 use fish_outside::{HostFile, HostFiles, MemoryHost, MemorySink};
 use fish_run::{Ran, RunFault, law_versions, read_file, run_script};
 use fish_script::{Script, parse_script};
@@ -59,10 +60,14 @@ refused deregister t unknown name\n\
 checkpoint 5\n\
 closed 5\n";
 
-/// The host of the files, of whose calls some fail.
-fn host_of(alloc: Global, fails: &[u64]) -> Result<MemoryHost, AllocError> {
+/// The host of files, of whose calls some fail.
+pub(crate) fn host_of(
+    alloc: Global,
+    texts: &[(&str, &str)],
+    fails: &[u64],
+) -> Result<MemoryHost, AllocError> {
     let mut files = HostFiles::new(alloc);
-    for (name, text) in FILES {
+    for (name, text) in texts {
         files.push(HostFile {
             name: Text::copy_of(alloc, name)?,
             bytes: Bytes::copy_of(alloc, text.as_bytes())?,
@@ -73,7 +78,7 @@ fn host_of(alloc: Global, fails: &[u64]) -> Result<MemoryHost, AllocError> {
 }
 
 /// Numbers as a list.
-fn numbers_of(alloc: Global, all: &[u64]) -> Result<Numbers64, AllocError> {
+pub(crate) fn numbers_of(alloc: Global, all: &[u64]) -> Result<Numbers64, AllocError> {
     let mut numbers = Numbers64::new(alloc);
     for number in all {
         numbers.push(*number)?;
@@ -82,7 +87,7 @@ fn numbers_of(alloc: Global, all: &[u64]) -> Result<Numbers64, AllocError> {
 }
 
 /// The script that a text is.
-fn script_of(alloc: Global, text: &str) -> Result<Script, Fail>
+pub(crate) fn script_of(alloc: Global, text: &str) -> Result<Script, Fail>
     ensures { IfOk result CanRun }
 {
     match parse_script(alloc, text.as_bytes()) {
@@ -92,7 +97,7 @@ fn script_of(alloc: Global, text: &str) -> Result<Script, Fail>
 }
 
 /// Why a run stopped, whether a statement was refused, how many entries the log has, and what was written.
-fn told_of(alloc: Global, ran: &Ran, out: &MemorySink) -> Result<String, AllocError> {
+pub(crate) fn told_of(alloc: Global, ran: &Ran, out: &MemorySink) -> Result<String, AllocError> {
     let entries = match &ran.remains {
         Some(remains) => remains.log.len(),
         None => 0,
@@ -105,6 +110,20 @@ fn told_of(alloc: Global, ran: &Ran, out: &MemorySink) -> Result<String, AllocEr
     format!(in alloc; "{:?} {} {}\n{}", ran.fault, ran.refused, entries, text)
 }
 
+/// Runs a script over files, held by a gate. What it tells, behind why it stopped.
+pub(crate) fn ran_through<R: Threads + Sync>(
+    rt: &R,
+    alloc: Global,
+    text: &str,
+    host: &mut MemoryHost,
+    out: &mut MemorySink,
+    gate: &Gate,
+) -> Result<String, Fail> {
+    let script = script_of(alloc, text)?;
+    let ran = run_script(rt, alloc, ONE_PAGE, script.as_slice(), host, out, gate);
+    Ok(told_of(alloc, &ran, out)?)
+}
+
 /// Runs a script over the files, where some calls of the host and some writes fail.
 fn ran<R: Threads + Sync>(
     rt: &R,
@@ -113,11 +132,9 @@ fn ran<R: Threads + Sync>(
     feeds: &[u64],
     writes: &[u64],
 ) -> Result<String, Fail> {
-    let script = script_of(alloc, text)?;
-    let mut host = host_of(alloc, feeds)?;
+    let mut host = host_of(alloc, FILES, feeds)?;
     let mut out = MemorySink::new(alloc, numbers_of(alloc, writes)?);
-    let ran = run_script(rt, alloc, ONE_PAGE, script.as_slice(), &mut host, &mut out);
-    Ok(told_of(alloc, &ran, &out)?)
+    ran_through(rt, alloc, text, &mut host, &mut out, &Gate::open(alloc))
 }
 
 /// Asserts what a run tells, behind why it stopped.
@@ -176,7 +193,7 @@ fn a_run_stops_at_an_output_that_fails(rt: HostRuntime) -> Result<(), Fail> {
 
 #[test]
 fn a_file_is_read_up_to_so_many_bytes(rt: HostRuntime) -> Result<(), Fail> {
-    let mut host = host_of(rt.alloc(), &[])?;
+    let mut host = host_of(rt.alloc(), FILES, &[])?;
     let name = Text::copy_of(rt.alloc(), "rows")?;
     for (most, want) in [(0, 0), (14, 14), (15, 15), (16, 15), (1_000, 15)] {
         match read_file(rt.alloc(), &mut host, &name, most) {

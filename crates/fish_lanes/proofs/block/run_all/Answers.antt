@@ -1,11 +1,12 @@
--- The control pass and the lanes may go to threads, and the log may be shared.
+-- The control pass and the lanes may go to threads, and the log and the gate may be shared.
 use Rattle.std.proofs.Crossing.{crosses}
 use denote.Param.Send.{sendable}
-use Rattle.fish_lanes.proofs.Crossing.{lane_send}
+use Rattle.fish_lanes.proofs.Crossing.{gate_sync, lane_send}
 use Rattle.fish_registry.proofs.registrar.Registrar.TheSendSync.{the_send as registrar_send}
 use Rattle.fish_rule.proofs.Crossing.{log_sync}
 use Rattle.fish_rule.proofs.table.Pass.TheSendSync.{the_send as pass_send}
 use Rattle.fish_lanes.proofs.block.run_all.Goals as goal
 
 pub join_mut-requires-send-F : goal.join_mut-requires-send-F
-join_mut-requires-send-F g c κs within = search (sendable, crosses, log_sync, pass_send, lane_send, registrar_send) depth 20
+join_mut-requires-send-F g c κs within =
+    search (sendable, crosses, log_sync, gate_sync, pass_send, lane_send, registrar_send) depth 20

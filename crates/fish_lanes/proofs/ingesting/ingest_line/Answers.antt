@@ -10,7 +10,7 @@ pub returns-in-Err-TooLong-clause-takes : goal.returns-in-Err-TooLong-clause-tak
 returns-in-Err-TooLong-clause-takes c = inr (
   long_none c.args.form c.args.payload.now
       (subst (IsCause c.args.form c.args.payload.now) c.in-Err-TooLong.field-0-is c.in-Err-TooLong.ensures.cause),
-  subst (λ (e : IngestRefusal). HasRefused (view c.args.pass.now) c.args.form c.args.payload.now e (view c.ingest.new.pass))
+  subst (λ (e : IngestRefusal). HasRefused (view c.args.pass.now) c.args.form c.args.payload.now e (view c.ingest_at.new.pass))
       c.in-Err-TooLong.field-0-is c.in-Err-TooLong.ensures.refused,
   refl,
 )
