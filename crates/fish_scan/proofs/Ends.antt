@@ -6,7 +6,7 @@ use Rattle.std.proofs.Math.ListN.{get_or}
 use Rattle.std.proofs.lemmas.Option.{slice_get-get_or}
 use Rattle.fish_rule.proofs.Closing.{alone_later}
 use Rattle.fish_rule.proofs.Extending.{learns_self}
-use Rattle.fish_rule.specs.Logs.{TellsMark}
+use Rattle.fish_rule.specs.Logs.{Learns, TellsMark}
 use Rattle.fish_rule.specs.Parts.{IsEntryWord, Rests}
 use Rattle.fish_rule.specs.Reading.{IsAlone}
 use Rattle.fish_rule.specs.Regions.{code}
@@ -14,6 +14,7 @@ use Rattle.fish_rule.specs.Table.{Stands}
 use Rattle.fish_rule.specs.Views.{Among}
 use Rattle.fish_rule.specs.Walking.{Always}
 use Rattle.fish_rule.specs.World.{high, low}
+use Rattle.fish_rule.specs.declared.view.Key.{Key}
 use Rattle.fish_rule.specs.declared.view.Kind.TheVariants.{Mark, Stored, Void}
 use Rattle.fish_rule.specs.declared.view.View.{View}
 use Rattle.fish_scan.proofs.Reaching.{found_word}
@@ -176,3 +177,27 @@ module _ (a b c d : View) (from : ℕ) (to : Option ℕ) (settled count base sto
           pick (yes behind) = ⊎_elim (λ (e : settled ≡ count). absurd (let i = inside in omega arith))
               (λ (m : (settled < count) × TellsMark c settled).
               let most = alone_cut alone_b behind (subst (TellsMark c) (sym above) m.1) in let same = above in absurd (omega arith)) at_c
+
+-- ---- for callers
+
+-- the log ends at one number, while as many are claimed
+pub end_once : (v u : View) (n m count : ℕ) → Stands u → Learns v u → u.about.number ≤ n → n ≤ v.learned.settled
+    → v.learned.settled ≤ m → m ≤ u.learned.settled → EndsAt v n count → EndsAt u m count → m ≡ n
+end_once v u n m count s learns above known least most one other = pick (dec_lt n m)
+  where
+    pick : Dec (n < m) → m ≡ n
+    pick (no not_less) = omega arith
+    pick (yes less) = ⊎_elim (λ (e : n ≡ count). (let within = ends_within u m count other in absurd (omega arith)))
+        (λ (mark : (n < count) × TellsMark v n). absurd (let floor = s.rule.floors s.seat u s.at in
+        (s.rule.settling.below n above (omega arith)).unmarked (mark.1 u learns s.moment s.rule s.seat s.at))) one
+
+-- so a pass that was alone, and knew where the log ends, has reached all up to there that it was asked for
+pub exact_end : (v u : View) (to : Option ℕ) (n known count settled last : ℕ) (opens : List ℕ) → Stands u → Learns v u
+    → v.about.number ≤ n → n ≤ v.learned.settled → v.learned.settled ≤ settled → settled ≤ u.learned.settled
+    → HasTail v known → EndsAt v n known → IsExact v u to count settled last opens → last ≡ end_of to n
+exact_end v u to n known count settled last opens s learns above before least most tail ends exact =
+    let at_tail : high tail.0 ≡ count = subst (IsTailCount count) tail.1 exact.counted in
+    let same : known ≡ count = sym tail.2 ∙ at_tail in
+    let about = ap (λ (z : Key). z.number) learns.about in
+    exact.last_is ∙ ap (end_of to) (end_once v u n settled count s learns (omega arith) before least most
+    (subst (EndsAt v n) same ends) exact.ends)
