@@ -14,6 +14,7 @@ use crate::parts::BodyParts;
 use crate::proper::is_proper;
 use crate::word::number_in;
 use crate::write::{body_of, words_for};
+use byteorder::{ByteOrder, LittleEndian};
 use fish_value::{Form, Text};
 use std::alloc::{AllocError, Global};
 
@@ -38,14 +39,20 @@ pub fn read_payload(alloc: Global, words: &[u64]) -> Result<Payload, AllocError>
     let Some(outline) = outline_of(words) else {
         unreachable!()
     };
-    let Some(payload) = read_text(alloc, &words[outline.payload_at()..], outline.payload)? else {
-        unreachable!()
-    };
+    let payload = read_bytes(alloc, &words[outline.payload_at()..], outline.payload)?;
     Ok(Payload {
         lane: outline.lane,
         form: outline.form,
-        payload,
+        payload: text_of(payload),
     })
+}
+
+/// The text that bytes are. They aren't looked at.
+fn text_of(bytes: Vec<u8>) -> Text
+    requires { IsUtf8 bytes.items }
+    ensures { result ≡ bytes.items }
+{
+    Text::from_string(unsafe { String::from_utf8_unchecked(bytes) })
 }
 
 /// The parts of the record that words are, or none where they are no record. The number of a
@@ -136,10 +143,8 @@ fn read_bytes(alloc: Global, words: &[u64], len: usize) -> Result<Vec<u8>, Alloc
     ensures { IfOk result (λ b. b.items ≡ bytes_in words.now len) }
 {
     let used = &words[..words_for(len)];
-    let mut bytes = Vec::with_capacity(alloc, used.len() * 8)?;
-    for word in used {
-        bytes.extend_from_slice(&word.to_le_bytes())?;
-    }
+    let mut bytes = vec![in alloc; 0; used.len() * 8]?;
+    LittleEndian::write_u64_into(used, &mut bytes);
     bytes.truncate(len);
     Ok(bytes)
 }

@@ -1,9 +1,11 @@
 //! What stands at a number that is published, read word by word.
 
-ghost use Rattle.std.specs.Prelude.{◌≡◌, ◌≢◌, ◌+◌, ◌*◌, ◌^◌, ◌<◌, ◌≤◌, ℕ, IfOk, length};
+ghost use Rattle.std.specs.Prelude.{◌≡◌, ◌≢◌, ◌+◌, ◌-◌, ◌*◌, ◌^◌, ◌<◌, ◌≤◌, ◌++◌, ℕ, List, IfOk, length, slice_index};
+ghost use Rattle.std.specs.Vec.{vec_capacity, vec_len};
 ghost use Rattle.fish_layout.specs.Header.{keys_of};
 ghost use Rattle.fish_rule.specs.Logs.{Extends, HasWords, IsWordRead, Tells};
 ghost use Rattle.fish_rule.specs.Passes.{IsPassOf, view};
+ghost use Rattle.fish_rule.specs.Reading.{CanRead};
 ghost use Rattle.fish_rule.specs.Views.{Among};
 ghost use Rattle.fish_rule.specs.declared.view.Found.{Found};
 ghost use Rattle.fish_rule.specs.declared.view.Kind.TheVariants.{Mark, Stored};
@@ -34,15 +36,37 @@ pub fn read_region(
     let header = read_word(log, pass, line, 0);
     let keys = u64::from(keys_in(header));
     let size = lines_in(header) * 4;
+    let behind = (3 * keys + 1).min(size);
     let mut words = Vec::with_capacity(alloc, size as usize)?;
     words.push_reserved(header);
     let mut loads = 1;
-    for offset in 1..size {
+    for offset in 1..behind {
         let word = read_body_word(log, pass, line, keys, offset);
         loads += u64::from(word.is_some());
         words.push_reserved(word.unwrap_or(0));
     }
-    Ok((words, loads))
+    read_rest(log, pass, line, behind, size, &mut words);
+    Ok((words, loads + (size - behind)))
+}
+
+/// Puts the words of a region from one on up to another behind those that were read. Most words of a record are read
+/// here, so nothing is asked of each.
+fn read_rest(log: &Log, pass: &mut Pass, line: u64, from: u64, to: u64, words: &mut Vec<u64>)
+    requires pass { IsPassOf log.now pass.old }
+    requires read { (f : Found) × (f.line ≡ line)
+        × ((i : ℕ) → from ≤ i → i < to → CanRead (view pass.old) f i) }
+    requires ordered { from ≤ to }
+    requires room { vec_len words.old + (to - from) ≤ vec_capacity words.old }
+    ensures pass { IsPassOf log.now pass.new }
+    ensures extends { Extends (view pass.old) (view pass.new) }
+    ensures words { (more : List ℕ) × (words.new.items ≡ words.old.items ++ more) × (length more ≡ to - from)
+        × ((i : ℕ) → i < length more
+        → Among (record { place = line * 4 + (from + i); value = slice_index more i }) (view pass.new).learned.known) }
+    ensures loads { (view pass.new).clock.loads ≡ (view pass.old).clock.loads + (to - from) }
+{
+    for offset in from..to {
+        words.push_reserved(read_word(log, pass, line, offset));
+    }
 }
 
 /// The record that stands in the published region at a line.

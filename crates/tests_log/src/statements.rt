@@ -7,8 +7,8 @@ use crate::expecting::expect_text;
 use crate::openings::{ONE_PAGE, empty_log};
 use crate::registrations::{begin_between, end_between, poll_between, store_kept};
 use crate::scans::{Question, Wanted, ask_of, told_explain, told_scan};
-use crate::stories::Statement::{self, Begin, End, Explain, Look, Scan, Store};
-use crate::stories::{AGAIN, BEHIND_RECORDS, RANGES, REFUSALS, Story, WAITING};
+use crate::stories::Statement::{self, Begin, End, Explain, Look, Scan, Store, StoreLong};
+use crate::stories::{AGAIN, BEHIND_RECORDS, PAST_THE_END, RANGES, REFUSALS, Story, WAITING};
 use fish_catalog::Catalog;
 use fish_epoch::Defs;
 use fish_registry::{Poll, Registrar};
@@ -38,6 +38,34 @@ fn told_store(
         Ok(number) => Ok(format!(in alloc; "{number}")?),
         Err(refusal) => Ok(format!(in alloc; "{refusal}")?),
     }
+}
+
+/// Stores a payload of so many bytes. Its number, or why it was not stored.
+fn told_long_store(
+    alloc: Global,
+    log: &Log,
+    main: &mut Pass,
+    registrar: &Registrar,
+    defs: &mut Defs,
+    size: usize,
+) -> Result<String, Fail>
+    requires { IsWorking log.now main.old registrar.now defs.old }
+    ensures { IsWorking log.now main.new registrar.now defs.new }
+{
+    let payload = long_payload(alloc, size)?;
+    let text = told_store(alloc, log, main, registrar, defs, payload.as_bytes());
+    drop(payload);
+    text
+}
+
+/// A payload of so many bytes, eight or more.
+fn long_payload(alloc: Global, size: usize) -> Result<String, Fail> {
+    let mut payload = String::from_str(alloc, "{\"p\":\"")?;
+    for _ in 8..size {
+        payload.push('x')?;
+    }
+    payload.push_str("\"}")?;
+    Ok(payload)
 }
 
 /// Registers a definition. Its id, or why it was refused.
@@ -140,6 +168,7 @@ fn told(
 {
     match statement {
         Store(payload) => told_store(alloc, log, main, registrar, defs, payload),
+        StoreLong(size) => told_long_store(alloc, log, main, registrar, defs, size),
         Begin(name, source) => told_begin(alloc, log, main, registrar, defs, (name, source)),
         Look => told_poll(alloc, poll_between(log, main, registrar, defs)),
         End(name) => told_end(alloc, log, main, registrar, defs, name),
@@ -180,7 +209,14 @@ fn expect_alone<R: Abort>(rt: &R, alloc: Global, story: Story) -> Result<(), Fai
 
 #[test]
 fn statements(rt: HostRuntime) -> Result<(), Fail> {
-    for story in [BEHIND_RECORDS, AGAIN, REFUSALS, WAITING, RANGES] {
+    for story in [
+        BEHIND_RECORDS,
+        AGAIN,
+        REFUSALS,
+        WAITING,
+        RANGES,
+        PAST_THE_END,
+    ] {
         expect_alone(&rt, rt.alloc(), story)?;
     }
     Ok(())

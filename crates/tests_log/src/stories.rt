@@ -1,7 +1,7 @@
 //! Lists of statements, and what each of them answers on an empty log of sixteen buckets.
 
 use crate::scans::{Question, Wanted};
-use Statement::{Begin, End, Explain, Look, Scan, Store};
+use Statement::{Begin, End, Explain, Look, Scan, Store, StoreLong};
 use fish_scan::How;
 
 /// One statement.
@@ -9,6 +9,8 @@ use fish_scan::How;
 pub(crate) enum Statement {
     /// Stores a payload.
     Store(&'static [u8]),
+    /// Stores a payload of so many bytes.
+    StoreLong(usize),
     /// Registers a definition under a name.
     Begin(&'static str, &'static str),
     /// Looks at the lanes.
@@ -209,3 +211,51 @@ const LETTER: Question = Question {
     to: None,
     how: How::Auto,
 };
+
+/// Ranges that begin at the end of a log, or past it, which is full behind two records: a mark stands there.
+pub(crate) const PAST_THE_END: Story = &[
+    (Begin("t", "take type"), "id 0"),
+    (Look, "id 0 from 0"),
+    (StoreLong(524_000), "0"),
+    (StoreLong(524_000), "1"),
+    (StoreLong(600), "full at line 32752, 19 lines of 32768"),
+    (Explain(LETTER), "0..2 index 0..2 by 0"),
+    (
+        Scan(Question {
+            from: Some(2),
+            ..LETTER
+        }),
+        "2..2",
+    ),
+    (
+        Explain(Question {
+            from: Some(3),
+            ..LETTER
+        }),
+        "2..2",
+    ),
+    (
+        Scan(Question {
+            from: Some(3),
+            ..LETTER
+        }),
+        "2..2",
+    ),
+    (
+        Scan(Question {
+            from: Some(3),
+            how: How::Index,
+            ..LETTER
+        }),
+        "2..2",
+    ),
+    (
+        Scan(Question {
+            from: Some(4),
+            to: Some(9),
+            how: How::Full,
+            ..LETTER
+        }),
+        "2..2",
+    ),
+];

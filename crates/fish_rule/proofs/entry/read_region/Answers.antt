@@ -1,13 +1,14 @@
 -- All words of the region are read.
 use Rattle.std.proofs.Common.{◌≡◌, ◌∙◌, sym, refl, ap, arith, subst, ℕ, ◌<◌, ◌≤◌, ◌+◌, ◌*◌, List, [], ◌∷◌}
-use Rattle.std.proofs.Common.{◌++◌, length, get_or, inl, length-append, Option, Some, None, is_some}
+use Rattle.std.proofs.lemmas.List.{get_or_append_left}
+use Rattle.std.proofs.Common.{◌++◌, length, get_or, inl, inr, length-append, Option, Some, None, is_some}
 use Rattle.std.proofs.Common.{unwrap_or}
 use Rattle.std.specs.Int.{from_bool}
 use Rattle.fish_layout.specs.Cleared.{IsKeyWord}
 use Rattle.fish_layout.specs.Header.{keys_of}
 use Rattle.fish_rule.proofs.Extending.{extends_both, extends_to_read, read_here}
 use Rattle.fish_rule.proofs.Laws.{found_law, header_law}
-use Rattle.fish_rule.proofs.Words.{AreRead, head_read, head_stays, read_more}
+use Rattle.fish_rule.proofs.Words.{AreRead, head_read, head_stays, read_behind, read_more}
 use Rattle.fish_rule.specs.Passes.{view}
 use Rattle.fish_rule.specs.Logs.{IsWordTold}
 use Rattle.fish_rule.specs.Views.{Among}
@@ -79,6 +80,7 @@ read_body_word-word-requires-clause-found c =
     (view c.loop-offset.pass).learned.known) (sym f.2) head) in
     let told = c.lines_in-size.ensures.value in
     let test = c.loop-offset-test.true in
+    let least = c.min-behind.ensures in
     (f.0, among, f.2, f.3, omega arith)
 
 pub loop-offset-preserved : goal.loop-offset-preserved
@@ -115,26 +117,67 @@ loop-offset-preserved c =
           (keys_of c.read_word-header.result) x c.loop-offset.words.items told.extends inv.read here);
     }
 
-pub returns-clause-words : goal.returns-clause-words
-returns-clause-words c f among line words =
+-- behind the key entries, all words of the region may be read
+pub read_rest-requires-clause-read : goal.read_rest-requires-clause-read
+read_rest-requires-clause-read c =
     let inv = c.loop-offset.invariant in
     let many = inv.many in
     let from = c.loop-offset.auto.offset in
+    let f = c.requires.found in
+    let among = inv.extends.learns.found f.0 f.1 in
     let head = head_read (view c.loop-offset.pass) c.args.line
     (keys_of c.read_word-header.result) c.read_word-header.result c.loop-offset.words.items
     (omega arith) inv.head inv.read in
-    let lines = header_law (view c.loop-offset.pass) f c.read_word-header.result inv.of.stands
-    (inv.extends.learns.found f among) words
-    (subst (λ (z : ℕ). Among (record { place = z * 4; value = c.read_word-header.result })
-    (view c.loop-offset.pass).learned.known) (sym line) head) in
-    let some_ = found_law (view c.args.pass.now) f c.requires.pass.stands among in
+    let known = subst (λ (z : ℕ). Among (record { place = z * 4; value = c.read_word-header.result })
+    (view c.loop-offset.pass).learned.known) (sym f.2) head in
+    let lines = header_law (view c.loop-offset.pass) f.0 c.read_word-header.result inv.of.stands among f.3 known in
     let told = c.lines_in-size.ensures.value in
+    let keys : c.from-keys.result ≡ keys_of c.read_word-header.result = c.from-keys.ensures ∙ c.keys_in.ensures.value in
+    let least = c.min-behind.ensures in (
+      f.0,
+      f.2,
+      λ i above below. record {
+        found = among;
+        words = f.3;
+        inside = omega arith;
+        plain = inr (c.read_word-header.result, known, λ key. let within = key.0 in absurd (omega arith));
+      },
+    )
+
+pub returns-clause-extends : goal.returns-clause-extends
+returns-clause-extends c = extends_both _ _ _ c.loop-offset.invariant.extends c.read_rest.ensures.extends
+
+-- the words of the key entries, and those behind them
+pub returns-clause-words : goal.returns-clause-words
+returns-clause-words c f among line words =
+    let inv = c.loop-offset.invariant in
+    let v = view c.loop-offset.pass in
+    let u = view c.read_rest.new.pass in
+    let many : length c.loop-offset.words.items ≡ c.loop-offset.offset = inv.many in
+    let from = c.loop-offset.auto.offset in
     let test = c.loop-offset-test.false in
-    let upto : c.loop-offset.offset ≤ c.lines_in-size.result * 4 = c.loop-offset.auto.offset-end (omega arith) in
+    let header : ℕ = c.read_word-header.result in
+    let head = head_read v c.args.line (keys_of header) header c.loop-offset.words.items (omega arith) inv.head inv.read in
+    let lines = header_law v f header inv.of.stands (inv.extends.learns.found f among) words
+    (subst (λ (z : ℕ). Among (record { place = z * 4; value = header }) v.learned.known) (sym line) head) in
+    let told = c.lines_in-size.ensures.value in
+    let some_ = found_law (view c.args.pass.now) f c.requires.pass.stands among in
+    let least = c.min-behind.ensures in
+    let upto : c.loop-offset.offset ≤ c.min-behind.result = c.loop-offset.auto.offset-end (omega arith) in
+    let rest = c.read_rest.ensures.words in
+    let long : length c.loop-offset.words.items ≡ c.min-behind.result = omega arith in
+    let all : AreRead u c.args.line (keys_of header) (c.loop-offset.words.items ++ rest.0) =
+    read_behind v u c.args.line (keys_of header) c.min-behind.result c.loop-offset.words.items rest.0
+    c.read_rest.ensures.extends long inv.read rest.3 in
+    let first : get_or (c.loop-offset.words.items ++ rest.0) 0 0 ≡ header =
+    get_or_append_left c.loop-offset.words.items rest.0 0 0 (omega arith) ∙ inv.head in
+    let size = ap length rest.1 ∙ length-append c.loop-offset.words.items rest.0 in
+    let behind = rest.2 in
     record {
       full = omega arith;
-      read = subst (λ (z : ℕ × ℕ). (i : ℕ) → i < length c.loop-offset.words.items → ¬ IsKeyWord (keys_of z.0) i
-          → Among (record { place = z.1 * 4 + i; value = get_or c.loop-offset.words.items i 0 })
-          (view c.loop-offset.pass).learned.known)
-          (λ j. (sym inv.head j, sym line j)) inv.read;
+      read = subst (λ (z : List ℕ). (i : ℕ) → i < length z → ¬ IsKeyWord (keys_of (get_or z 0 0)) i
+          → Among (record { place = f.line * 4 + i; value = get_or z i 0 }) u.learned.known) (sym rest.1)
+          (subst (λ (z : ℕ × ℕ). (i : ℕ) → i < length (c.loop-offset.words.items ++ rest.0) → ¬ IsKeyWord (keys_of z.0) i
+          → Among (record { place = z.1 * 4 + i; value = get_or (c.loop-offset.words.items ++ rest.0) i 0 }) u.learned.known)
+          (λ j. (sym first j, sym line j)) all);
     }
