@@ -15,6 +15,7 @@ use Rattle.fish_lanes.proofs.Publishing.{entry_finished, published_later, publis
 use Rattle.fish_lanes.specs.Closing.{Sure}
 use Rattle.fish_lanes.specs.Doing.{FitsExplained, FitsRefused, FitsScanned, IsPlannedAt, IsRefusedAt, IsScanned}
 use Rattle.fish_lanes.specs.Doing.{cause_of, explained_item, refusal_of, scanned_item}
+use Rattle.fish_lanes.specs.Loading.{LoadsWithin}
 use Rattle.fish_lanes.specs.Published.{IsPublished}
 use Rattle.fish_lanes.specs.Scanning.{AreOpen, HasRows, HoldsSeen, IsAskedFor, IsAskedRange, IsRefusedFor, TellsPlan}
 use Rattle.fish_lanes.specs.Scanning.{TellsScan, selected}
@@ -354,17 +355,18 @@ refused_fits v u known ask refusal.OutOfMemory version why h is at = absurd cc
 
 -- what was answered as an item
 pub scanned_fits : (v u : View) (known : Known) (ask : Ask) (answer : Answer) (version : ℕ) {E : Type 0} (r : Result Item E)
-    → IsAnswer v u known ask answer → version ≡ version_of known → IfOk r (λ x. x ≡ scanned_item ask answer version)
+    → IsAnswer v u known ask answer → LoadsWithin v u ask.value answer → version ≡ version_of known
+    → IfOk r (λ x. x ≡ scanned_item ask answer version)
     → IfOk r (λ x. FitsScanned v u ask x ⊎ FitsRefused v u ask item.ScanRefused x)
-scanned_fits v u known ask answer version (Err e) h at made = tt
-scanned_fits v u known ask answer version (Ok x) h at made = inl (record {
+scanned_fits v u known ask answer version (Err e) h loads at made = tt
+scanned_fits v u known ask answer version (Ok x) h loads at made = inl (record {
   from = answer.from;
   to = answer.to;
   opens = answer.opens;
   rows = answer.rows;
   version = version;
   is = made;
-  fits = record { known = known; version_is = at; plan = answer.plan; answer = h };
+  fits = record { known = known; version_is = at; plan = answer.plan; answer = h; loads = loads };
 })
 
 -- and a plan

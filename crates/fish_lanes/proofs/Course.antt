@@ -8,7 +8,7 @@ use Rattle.fish_lanes.proofs.Gaining.{marks_same}
 use Rattle.fish_lanes.proofs.Lists.{some_once}
 use Rattle.fish_lanes.proofs.RowLists.{has_above, owned_number, told_later}
 use Rattle.fish_lanes.proofs.Surely.{own_before, sure_later, will_rows}
-use Rattle.fish_lanes.specs.Blocks.{AreDone, AreEnded, AreJoined, AreKept, AreSeated, HasGiven, HasRunFirst}
+use Rattle.fish_lanes.specs.Blocks.{AreDone, AreEnded, AreJoined, AreKept, AreSeated, AreVacant, HasGiven, HasRunFirst}
 use Rattle.fish_lanes.specs.Blocks.{HasTakenAll, IsBlockSpan, IsMarkItem, IsOfLane, IsSeated, IsShutOfLane, NameMarks, TellsFirst}
 use Rattle.fish_lanes.specs.Blocks.{TellsOthers, WereTaken}
 use Rattle.fish_lanes.specs.Closing.{Later, Sure, Will}
@@ -248,6 +248,13 @@ module _ (log : Log) (v m w : View) (r q : Registrar) (first first' : Lane) (bef
         w'.number ∙ p.run_of.number ∙ same_number i z.0 p ∙ ap (λ (q : Lane). q.number) old,
         w'.works ∙ p.run_of.works ∙ same_works i z.0 p ∙ ap (λ (q : Lane). q.works) old,
       )
+
+  -- the lanes have no passes any more
+  pub vacant_at : WereTaken done after → length after ≡ length done → AreVacant after
+  vacant_at were size'' i y at_y =
+      let less = slice_get_within after i y at_y in
+      let z = get_there done i (omega arith) in
+      (were i z.0 y z.1 at_y).seat
 
   -- the statements have items, but for those behind a fault
   pub first_ended : IsEnded first'.works first'.items first'.fault

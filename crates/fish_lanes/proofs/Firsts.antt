@@ -1,9 +1,11 @@
 -- The first lane of a block, and the others.
 use Rattle.std.proofs.Common.{◌≡◌, ℕ, ◌+◌, zero, suc, List, [], ◌∷◌, ◌++◌, get_or, set, take, drop, refl, subst, arith, Some, slice_get}
+use Rattle.std.proofs.Common.{◌∙◌, None, ap, length}
 use Rattle.std.specs.Prelude.{All}
 use Rattle.fish_catalog.specs.declared.entry.Entry.{Entry}
 use Rattle.fish_lanes.proofs.Lists.{some_once}
-use Rattle.fish_lanes.specs.Blocks.{AreEnded, AreLanes, CanGive, IsMarkItem, IsNewLane, NameMarks, TellsFirst, TellsOthers}
+use Rattle.fish_lanes.specs.Blocks.{AreEnded, AreLanes, AreVacant, CanGive, IsMarkItem, IsNewLane, NameMarks, TellsFirst}
+use Rattle.fish_lanes.specs.Blocks.{TellsOthers}
 use Rattle.fish_lanes.specs.Ending.{HasEnd}
 use Rattle.fish_lanes.specs.Records.{rows_of_lane}
 use Rattle.fish_lanes.specs.Registering.{IsAcceptable}
@@ -73,3 +75,27 @@ ended_both x [] others h first rest i z at = (let some_ = h.some in absurd (omeg
 ended_both x (y ∷ lanes) others h first rest zero z at =
     subst (λ (w : Lane). IsEnded w.works w.items w.fault) (some_once x z at) first
 ended_both x (y ∷ lanes) others h first rest (suc i) z at = rest i z at
+
+-- none of them has a pass
+pub vacant_both : (x d : Lane) (lanes others : List Lane) → AreLanes lanes → x.seat ≡ (get_or (take 1 lanes) 0 d).seat
+    → AreVacant lanes → AreVacant others → AreVacant (set (take 1 lanes) 0 x ++ others)
+vacant_both x d [] others h first before rest i z at = (let some_ = h.some in absurd (omega arith))
+vacant_both x d (y ∷ lanes) others h first before rest zero z at =
+    subst (λ (w : Lane). w.seat ≡ None) (some_once x z at) (first ∙ before 0 y refl)
+vacant_both x d (y ∷ lanes) others h first before rest (suc i) z at = rest i z at
+
+-- where the first is all there is, there are no others
+pub alone_first : (P : Lane → Type 0) (x : Lane) (lanes others after : List Lane) → AreLanes lanes → length after ≡ length others
+    → (others ≡ [] → P x) → (z : Lane) → set (take 1 lanes) 0 x ++ after ≡ z ∷ [] → P z
+alone_first P x [] others after h size p z e = (let some_ = h.some in absurd (omega arith))
+alone_first P x (y ∷ lanes) others after h size p z e = subst P (first e) (p (none others size (behind e)))
+  where
+    first : x ∷ after ≡ z ∷ [] → x ≡ z
+    first e = cc
+
+    behind : x ∷ after ≡ z ∷ [] → after ≡ []
+    behind e = cc
+
+    none : (others : List Lane) → length after ≡ length others → after ≡ [] → others ≡ []
+    none [] size e = refl
+    none (o ∷ others) size e = (let same : length after ≡ 0 = ap length e in absurd (omega arith))

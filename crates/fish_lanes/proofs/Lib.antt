@@ -19,6 +19,7 @@ pub mod Parts
 pub mod Registrations
 pub mod RowLists
 pub mod Showing
+pub mod Single
 pub mod Storing
 pub mod Surely
 pub mod Versions

@@ -1,5 +1,5 @@
 -- The lanes of a block: how the control pass gives each its pass, what they do, and how it takes the passes back.
-use Rattle.std.specs.Prelude.{ℕ, ◌≡◌, ◌⊎◌, ◌+◌, ◌++◌, ◌<◌, ◌≤◌, List, [], All, length, slice_get, slice_index_or, Some, None}
+use Rattle.std.specs.Prelude.{ℕ, ◌≡◌, ◌⊎◌, ◌+◌, ◌++◌, ◌<◌, ◌≤◌, List, [], ◌∷◌, All, length, slice_get, slice_index_or, Some, None}
 use Rattle.fish_catalog.specs.declared.entry.Entry.{Entry}
 use Rattle.fish_lanes.specs.Controlling.{HasControlled, bound_items}
 use Rattle.fish_lanes.specs.Ending.{HasEnd}
@@ -9,6 +9,7 @@ use Rattle.fish_registry.specs.declared.registrar.Registrar.{Registrar}
 use Rattle.fish_lanes.specs.Records.{rows_of_lane}
 use Rattle.fish_lanes.specs.Registering.{AreSo, IsAcceptable, KeepsRegistry, KnowsEach, KnowsRegistry, after_all, registry_of}
 use Rattle.fish_lanes.specs.Running.{CanBegin, HasDone, IsEnded, IsFree, IsReady}
+use Rattle.fish_lanes.specs.Single.{TellsOnly}
 use Rattle.fish_lanes.specs.Spans.{Span}
 use Rattle.fish_lanes.specs.Telling.{TellsLane}
 use Rattle.fish_lanes.specs.declared.lane.Lane.{Lane}
@@ -85,6 +86,7 @@ pub record HasGiven (v m : View) (many : ℕ) : Type 0 where
   pub own : (o : Own) → Among o m.own → Among o v.own
   pub out_of : (l : ℕ) → Among l m.out → (2 ≤ l) × (l < many + 2)
   pub all_out : (l : ℕ) → 2 ≤ l → l < many + 2 → Among l m.out
+  pub none : many ≡ 0 → m ≡ v
 
 -- a lane has a pass that knows what the control pass knew, and the records of this lane among its own
 pub record IsSeated (log : Log) (v : View) (i : ℕ) (x y : Lane) : Type 0 where
@@ -120,6 +122,7 @@ pub record HasRunFirst (v u : View) (r s : Registrar) (x y : Lane) : Type 0 wher
   pub controlled : HasControlled v u r s x.works y.items y.fault
   pub works : y.works ≡ x.works
   pub number : y.number ≡ x.number
+  pub seat : y.seat ≡ x.seat
 
 -- ---- the passes come back
 
@@ -142,6 +145,7 @@ HasTaken m u x = (seat : Seated) → x.seat ≡ Some seat → HasTakenSeat m u s
 
 -- a lane keeps all but its pass
 pub record WasTaken (x y : Lane) : Type 0 where
+  pub seat : y.seat ≡ None
   pub number : y.number ≡ x.number
   pub works : y.works ≡ x.works
   pub items : y.items ≡ x.items
@@ -201,6 +205,7 @@ pub record HasTakenAll (m u : View) (lanes : List Lane) (many : ℕ) : Type 0 wh
   pub shut : (s : Shut) → u.shut ≡ Some s → (m.shut ≡ Some s) ⊎ IsShutOfLane lanes many s
   pub out_of : (l : ℕ) → Among l u.out → (many + 2 ≤ l) × (l < length lanes + 2)
   pub all_out : (l : ℕ) → many + 2 ≤ l → l < length lanes + 2 → Among l u.out
+  pub none : many ≡ 0 → u ≡ m
 
 -- ---- afterwards
 
@@ -247,6 +252,14 @@ AreEnded lanes = At (λ i x. IsEnded x.works x.items x.fault) lanes
 
 abbrev pub NameMarks : View → List Lane → Type 0
 NameMarks u lanes = At (λ i x. AllOf (IsMarkItem u) x.items) lanes
+
+-- the items of a block of one lane tell also what one statement that is all of it tells besides
+abbrev pub TellsAlone : View → View → List Lane → Type 0
+TellsAlone v u lanes = (x : Lane) → lanes ≡ x ∷ [] → TellsOnly v u x.works x.items
+
+-- no lane has a pass
+abbrev pub AreVacant : List Lane → Type 0
+AreVacant lanes = At (λ i x. x.seat ≡ None) lanes
 
 -- the lanes keep their numbers and statements
 abbrev pub AreKept : List Lane → List Lane → Type 0

@@ -6,6 +6,7 @@ use Rattle.fish_lanes.specs.Gains.{Gains}
 use Rattle.fish_lanes.specs.Records.{LaneRow, contents}
 use Rattle.fish_lanes.specs.Registering.{AreSo, IsBetween, IsSo, KnowsEach, KnowsRegistry, Registry, after, after_all, bound, registry_of}
 use Rattle.fish_lanes.specs.Running.{HasRun}
+use Rattle.fish_lanes.specs.Single.{TellsOnly}
 use Rattle.fish_lanes.specs.Telling.{content_of, count_of}
 use Rattle.fish_lanes.specs.declared.block.Boundary.{Boundary}
 use Rattle.fish_lanes.specs.declared.work.LaneFault.{LaneFault}
@@ -114,10 +115,11 @@ pub record IsPartControlled (u t : View) (w : Work) : Type 0 where
   pub gains : Gains u t rows
   pub first : contents rows ≡ take count (content_of w)
 
--- what the statements of the first lane leave: their items, which are so of the definitions where they stand; and, unless
--- there was a fault, the registry behind them
+-- what the statements of the first lane leave: their items, which are so of the definitions where they stand, and what one that
+-- is alone tells besides; and, unless there was a fault, the registry behind them
 pub record HasControlled (v u : View) (r s : Registrar) (works : List Work) (items : List Item) (fault : LaneFault) : Type 0 where
   pub run : HasRun v u works items fault
   pub so : AreSo v.learned.count u.learned.count (registry_of v r) items
+  pub only : TellsOnly v u works items
   pub is : fault ≡ cause.None → registry_of u s ≡ after_all (registry_of v r) items
   pub each : fault ≡ cause.None → KnowsEach u (registry_of v r) items

@@ -5,6 +5,7 @@ use Rattle.fish_epoch.specs.declared.definitions.Known.{Known}
 use Rattle.fish_lang.specs.Canonical.{definition_text}
 use Rattle.fish_lang.specs.Definition.{definition_of}
 use Rattle.fish_lanes.specs.Gains.{Gains, IsFullBy}
+use Rattle.fish_lanes.specs.Loading.{LoadsWithin}
 use Rattle.fish_lanes.specs.Records.{Content, LaneRow, contents}
 use Rattle.fish_lanes.specs.Registering.{IsDeregisterItem, IsRegisterItem, KeepsRegistry}
 use Rattle.fish_lanes.specs.Telling.{AreCountedUpTo, TellsStored, TellsTooLong, content_of, count_of}
@@ -58,13 +59,14 @@ abbrev pub explained_item : Ask → Explained → ℕ → Item
 explained_item ask explained version =
     item.Explained ask.name ask.value explained.from explained.to explained.plan version
 
--- an answer at a version
+-- an answer at a version, for which no more words were loaded than its plan allows
 pub record IsScanned (v u : View) (ask : Ask) (from to : ℕ) (opens : List ℕ) (rows : List Row) (version : ℕ) : Type 0 where
   pub known : Known
   pub version_is : version ≡ version_of known
   pub plan : List Piece
   pub answer : IsAnswer v u known ask
       (record { from = from; to = to; opens = opens; rows = rows; plan = plan })
+  pub loads : LoadsWithin v u ask.value (record { from = from; to = to; opens = opens; rows = rows; plan = plan })
 
 -- a plan at a version
 pub record IsPlannedAt (v u : View) (ask : Ask) (from to : ℕ) (plan : List Piece) (version : ℕ) : Type 0 where

@@ -4,12 +4,14 @@ ghost use Rattle.std.specs.Prelude.{◌≡◌, ◌≤◌, ◌<◌, ◌+◌, ℕ,
 ghost use Rattle.std.specs.Thread.{IsSync};
 ghost use Rattle.fish_lanes.specs.Blocks.{AreDone, AreEnded, AreJoined, AreKept, AreLanes, AreReady, AreSeated, CanGive, CanTake};
 ghost use Rattle.fish_lanes.specs.Blocks.{HasGiven, HasRegistered, HasRunFirst, HasSeat, HasTaken, HasTakenAll, IsBlockSpan, IsFirst};
-ghost use Rattle.fish_lanes.specs.Blocks.{IsMarkItem, IsNewLane, NameMarks, TellsBlock, TellsFirst, TellsOthers, WasTaken, WereTaken};
+ghost use Rattle.fish_lanes.specs.Blocks.{AreVacant, IsMarkItem, IsNewLane, NameMarks, TellsAlone, TellsBlock, TellsFirst};
+ghost use Rattle.fish_lanes.specs.Blocks.{TellsOthers, WasTaken, WereTaken};
 ghost use Rattle.fish_lanes.specs.Closing.{Later, Will};
 ghost use Rattle.fish_lanes.specs.Controlling.{CanControl};
 ghost use Rattle.fish_lanes.specs.Ending.{HasEnd};
 ghost use Rattle.fish_lanes.specs.Registering.{IsAcceptable, KnowsRegistry, registry_of};
 ghost use Rattle.fish_lanes.specs.Running.{CanBegin, HasDone, HasRun, IsEnded, IsFree, IsReady};
+ghost use Rattle.fish_lanes.specs.Single.{TellsOnly};
 ghost use Rattle.fish_lanes.specs.Spans.{Span};
 ghost use Rattle.fish_rule.specs.Passes.{IsPassOf, view};
 ghost use Rattle.fish_rule.specs.Views.{AllOf};
@@ -215,10 +217,13 @@ fn run_lanes<R: Threads + Sync>(
     ensures end { HasEnd (view main.new) result.to }
     ensures later { Later (view main.old) (view main.new) }
     ensures first { (first.new.number ≡ first.old.number) × (first.new.works ≡ first.old.works) }
+    ensures first_seat { first.new.seat ≡ first.old.seat }
     ensures kept { AreKept others.old others.new }
+    ensures vacant { AreVacant others.new }
     ensures told { (s : Span) → IsBlockSpan (view main.old) (view main.new) result.to s → (s.from ≤ s.to)
         × Will (view main.new) (TellsFirst s first.new) × Will (view main.new) (TellsOthers s others.new) }
     ensures registered { HasRegistered (view main.old) (view main.new) registrar.old registrar.new first.new result }
+    ensures only { others.old ≡ [] → TellsOnly (view main.old) (view main.new) first.new.works first.new.items }
     ensures first_ended { IsEnded first.new.works first.new.items first.new.fault }
     ensures others_ended { AreEnded others.new }
     ensures first_marks { AllOf (IsMarkItem (view main.new)) first.new.items }
@@ -259,10 +264,12 @@ pub fn run_block<R: Threads + Sync>(
     ensures end { HasEnd (view main.new) result.to }
     ensures later { Later (view main.old) (view main.new) }
     ensures kept { AreKept lanes.old lanes.new }
+    ensures vacant { AreVacant lanes.old → AreVacant lanes.new }
     ensures told { (s : Span) → IsBlockSpan (view main.old) (view main.new) result.to s → (s.from ≤ s.to)
         × Will (view main.new) (λ v log. TellsBlock v s log lanes.new) }
     ensures registered { (x : Lane) → slice_get lanes.new 0 ≡ Some x
         → HasRegistered (view main.old) (view main.new) registrar.old registrar.new x result }
+    ensures alone { TellsAlone (view main.old) (view main.new) lanes.new }
     ensures ended { AreEnded lanes.new }
     ensures marks { NameMarks (view main.new) lanes.new }
 {

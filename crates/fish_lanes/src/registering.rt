@@ -35,6 +35,7 @@ pub(crate) fn find_boundary(
     requires can { CanControl log.now pass.old registrar.old }
     ensures can { CanControl log.now pass.new registrar.new }
     ensures gains { Gains (view pass.old) (view pass.new) [] }
+    ensures loads { (view pass.new).clock.loads ≡ (view pass.old).clock.loads }
     ensures polled { OnOk result
         (HasPolled (view pass.old) registrar.old (view pass.new) registrar.new items.old items.new) }
     ensures refused { OnErr result (items.new ≡ items.old) }

@@ -1,8 +1,10 @@
 -- The first lane and the others.
-use Rattle.std.proofs.Common.{◌≡◌, ◌++◌, All, List, Some, get_or, set, slice_get, sym, subst}
-use Rattle.fish_lanes.proofs.Firsts.{ended_both, first_acceptable, first_new, first_there, marks_both, others_new, tells_both}
-use Rattle.fish_lanes.specs.Blocks.{AreEnded, CanGive, HasRegistered, IsNewLane, NameMarks, TellsBlock}
+use Rattle.std.proofs.Common.{◌≡◌, [], ◌∷◌, ◌++◌, All, List, Some, get_or, set, slice_get, sym, subst}
+use Rattle.fish_lanes.proofs.Firsts.{alone_first, ended_both, first_acceptable, first_new, first_there, marks_both, others_new}
+use Rattle.fish_lanes.proofs.Firsts.{tells_both, vacant_both}
+use Rattle.fish_lanes.specs.Blocks.{AreEnded, AreVacant, CanGive, HasRegistered, IsNewLane, NameMarks, TellsBlock}
 use Rattle.fish_lanes.specs.Registering.{IsAcceptable}
+use Rattle.fish_lanes.specs.Single.{TellsOnly}
 use Rattle.fish_lanes.specs.declared.lane.Lane.{Lane}
 use Rattle.fish_rule.specs.Passes.{view}
 use Rattle.fish_lanes.proofs.block.run_block.Goals as goal
@@ -56,3 +58,18 @@ returns-clause-registered g c x at =
     c.run_lanes.ensures.registered x
     (subst (λ (z : List Lane). slice_get (set z 0 c.run_lanes.new.first ++ c.run_lanes.new.others) 0 ≡ Some x)
     c.split_at_mut-first.ensures.front at)
+
+pub returns-clause-alone : goal.returns-clause-alone
+returns-clause-alone g c x is =
+    alone_first (λ (z : Lane). TellsOnly (view c.args.main.now) (view c.run_lanes.new.main) z.works z.items) c.run_lanes.new.first
+    c.args.lanes.now c.split_at_mut-first.result.1.now c.run_lanes.new.others c.requires.lanes c.run_lanes.auto.others
+    c.run_lanes.ensures.only x
+    (subst (λ (z : List Lane). set z 0 c.run_lanes.new.first ++ c.run_lanes.new.others ≡ x ∷ []) c.split_at_mut-first.ensures.front is)
+
+pub returns-clause-vacant : goal.returns-clause-vacant
+returns-clause-vacant g c before =
+    subst (λ (z : List Lane). AreVacant (set z 0 c.run_lanes.new.first ++ c.run_lanes.new.others))
+    (sym c.split_at_mut-first.ensures.front)
+    (vacant_both c.run_lanes.new.first c.index-first-0.result c.args.lanes.now c.run_lanes.new.others c.requires.lanes
+    (subst (λ (z : List Lane). c.run_lanes.new.first.seat ≡ (get_or z 0 c.index-first-0.result).seat)
+    c.split_at_mut-first.ensures.front c.run_lanes.ensures.first_seat) before c.run_lanes.ensures.vacant)
