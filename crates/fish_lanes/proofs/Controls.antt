@@ -132,25 +132,25 @@ only_later v u t works items learns same h w one =
 
 -- a look for a boundary
 pub held_polled : (v : View) (r : Registrar) (u : View) (s : Registrar) (t : View) (q : Registrar) (works : List Work)
-    (items items' : List Item) → Held v r u s works items → Gains u t [] → t.clock.loads ≡ u.clock.loads
+    (items items' : List Item) → Held v r u s works items → Gains u t [] → t.clock.loads ≡ u.clock.loads → t.shut ≡ u.shut
     → HasPolled u s t q items items' → Held v r t q works items'
-held_polled v r u s t q works items items' h g same (inl p) =
+held_polled v r u s t q works items items' h g same shut (inl p) =
     let learns = g.on.learns in
     let more = learns.count in
     let start = registry_of v r in
     subst (Held v r t q works) (sym p.0) (record {
-      told = told_on v u t works (answers items) h.told g;
+      told = told_on v u t works (answers items) h.told g shut;
       so = are_so_wide v.learned.count u.learned.count v.learned.count t.learned.count start items (omega arith) (omega arith) h.so;
       is = p.1 ∙ h.is;
       each = each_later u t start items learns h.each;
       still = λ none. same ∙ h.still none;
       only = only_later v u t works items learns same h.only;
     })
-held_polled v r u s t q works items items' h g same (inr p) =
+held_polled v r u s t q works items items' h g same shut (inr p) =
     let x = item.Bound p.0 p.1 in
     subst (Held v r t q works) (sym p.2)
     (held_item v r u s t q works works items x h h.told.gains.on.learns g.on.learns p.3
-    (subst (HasTold v t works) (sym (answers_same items x refl)) (told_on v u t works (answers items) h.told g))
+    (subst (HasTold v t works) (sym (answers_same items x refl)) (told_on v u t works (answers items) h.told g shut))
     (λ none. same ∙ h.still none)
     (λ w one. subst (AllOf (TellsSingle v t w)) (sym (answers_same items x refl))
     (only_later v u t works items g.on.learns same h.only w one)))
@@ -164,7 +164,7 @@ held_done v r u s t q works items w x base h c =
     ap (λ (z : Registry). z.version) c.does.is ∙ after_version (registry_of u s) x in
     held_item v r u s t q works (works ++ w ∷ []) items x h h.told.gains.on.learns c.gains.on.learns c.does
     (subst (HasTold v t (works ++ w ∷ [])) (sym (answers_more items x (fit_answer u t w x c.fit)))
-    (told_more v u t works (answers items) w x c.rows base h.told c.gains c.first c.fit (omega arith)))
+    (told_more v u t works (answers items) w x c.rows base h.told c.gains c.first c.fit c.shuts (omega arith)))
     (λ none. absurd (some_there works w [] none))
     (λ one is.
     let first = only_last works w [] one is in
@@ -273,10 +273,17 @@ take_nothing_first w = refl
 
 -- one on definitions
 pub control_done : {E : Type 0} (v : View) (s : Registrar) (t : View) (q : Registrar) (w : Work) (r : Result Item E)
-    → content_of w ≡ [] → Gains v t [] → IfOk r (IsFit v t w) → IfOk r (Does v s t q) → IfOk r (IsControlled v s t q w)
-control_done v s t q w (Ok x) none g fit does =
-    record { rows = []; gains = g; first = take_nothing (count_of x) w none; fit = fit; does = does }
-control_done v s t q w (Err e) none g fit does = tt
+    → content_of w ≡ [] → Gains v t [] → t.shut ≡ v.shut → IfOk r (IsFit v t w) → IfOk r (Does v s t q)
+    → IfOk r (IsControlled v s t q w)
+control_done v s t q w (Ok x) none g same fit does = record {
+  rows = [];
+  gains = g;
+  first = take_nothing (count_of x) w none;
+  fit = fit;
+  shuts = λ c e. inl (sym same ∙ e);
+  does = does;
+}
+control_done v s t q w (Err e) none g same fit does = tt
 
 pub control_part : {E : Type 0} (v t : View) (w : Work) (r : Result Item E) → content_of w ≡ [] → Gains v t []
     → IfErr r (λ _. IsPartControlled v t w)
@@ -291,6 +298,7 @@ free_done v s t w (Ok x) free learns same item = record {
   gains = item.gained.gains;
   first = item.gained.first;
   fit = item.fit;
+  shuts = item.shuts;
   does = free_does v t s w x free item.fit learns same;
 }
 free_done v s t w (Err e) free learns same item = tt

@@ -8,7 +8,7 @@ use Rattle.fish_lanes.proofs.Gaining.{marks_same}
 use Rattle.fish_lanes.proofs.Lists.{some_once}
 use Rattle.fish_lanes.proofs.RowLists.{has_above, owned_number, told_later}
 use Rattle.fish_lanes.proofs.Surely.{own_before, sure_later, will_rows}
-use Rattle.fish_lanes.specs.Blocks.{AreDone, AreEnded, AreJoined, AreKept, AreSeated, AreVacant, HasGiven, HasRunFirst}
+use Rattle.fish_lanes.specs.Blocks.{AreDone, AreEnded, AreJoined, AreKept, AreSeated, AreVacant, At, HasGiven, HasRunFirst, IsFullIn}
 use Rattle.fish_lanes.specs.Blocks.{HasTakenAll, IsBlockSpan, IsMarkItem, IsOfLane, IsSeated, IsShutOfLane, NameMarks, TellsFirst}
 use Rattle.fish_lanes.specs.Blocks.{TellsOthers, WereTaken}
 use Rattle.fish_lanes.specs.Closing.{Later, Sure, Will}
@@ -16,12 +16,15 @@ use Rattle.fish_lanes.specs.Ending.{HasEnd}
 use Rattle.fish_lanes.specs.Gains.{AreTold, IsMarkAt, IsShutTold}
 use Rattle.fish_lanes.specs.Records.{Ascends, HasNumber, LaneRow, owned, rows_of_lane}
 use Rattle.fish_lanes.specs.Running.{HasDone, IsEnded, IsFullItem}
+use Rattle.fish_lanes.specs.Sizes.{TellsClaim}
 use Rattle.fish_lanes.specs.Spans.{IsWithinSpan, Span}
 use Rattle.fish_lanes.specs.Telling.{TellsLane}
 use Rattle.fish_lanes.specs.declared.lane.Lane.{Lane}
 use Rattle.fish_lanes.specs.declared.lane.Seated.{Seated}
 use Rattle.fish_report.specs.declared.item.Item.{Item}
+use Rattle.fish_report.specs.declared.item.Item.TheVariants as item
 use Rattle.fish_lanes.specs.declared.work.LaneFault.{LaneFault}
+use Rattle.fish_lanes.specs.declared.work.LaneFault.TheVariants as cause
 use Rattle.fish_lanes.specs.declared.work.Work.{Work}
 use Rattle.fish_rule.proofs.Bodies.{code_once, mark-past}
 use Rattle.fish_rule.proofs.Bounds.{starts_rise}
@@ -340,6 +343,36 @@ module _ (log : Log) (v m w : View) (r q : Registrar) (first first' : Lane) (bef
         subst (AllOf (IsMarkItem t)) (sym w'.items)
         (marks_items (view s.pass) z.0.items back (way_marks i z.0 p known) p.run_of.run.full)
 
+    -- what shuts the pass did so before, or an item tells of it
+    pub shut_by : first'.fault ≡ cause.None → At (λ i x. x.fault ≡ cause.None) after → (c : Shut) → t.shut ≡ Some c
+        → (v.shut ≡ Some c) ⊎ (TellsClaim c first'.items ⊎ IsFullIn after c.line c.lines c.end)
+    shut_by none nones c e =
+        ⊎_elim (λ (k : w.shut ≡ Some c).
+        ⊎_elim (λ (same : m.shut ≡ Some c). inl (sym has_given.shut ∙ same)) (λ (told : TellsClaim c first'.items). inr (inl told))
+        (run.controlled.run.shuts none c k)) (λ (q : IsShutOfLane done (length done) c). lane_shut q)
+        (taken.shut c (sym settles.shut ∙ e))
+      where
+        lane_shut : IsShutOfLane done (length done) c
+            → (v.shut ≡ Some c) ⊎ (TellsClaim c first'.items ⊎ IsFullIn after c.line c.lines c.end)
+        lane_shut q =
+            let p = way q.place q.lane q.lane_is in
+            let same : q.seat ≡ p.run_of.after = some_once q.seat p.run_of.after (sym q.seat_is ∙ p.run_of.after_is) in
+            let less = q.below in
+            let y = get_there after q.place (omega arith) in
+            let w' = were q.place q.lane y.0 q.lane_is y.1 in
+            ⊎_elim (λ (k : (view p.run_of.before.pass).shut ≡ Some c). inl (sym (way_shut q.place q.lane p) ∙ k))
+            (λ (k : TellsClaim c q.lane.items). inr (inr (record {
+              at = q.place;
+              lane = y.0;
+              lane_is = y.1;
+              file = k.0;
+              stored = k.1;
+              refused = k.2;
+              among = subst (Among (item.IngestFull k.0 c.line c.lines c.end k.1 k.2)) (sym w'.items) k.3;
+            })))
+            (p.run_of.run.shuts (sym w'.fault ∙ nones q.place y.0 y.1) c
+            (subst (λ (z : Seated). (view z.pass).shut ≡ Some c) same q.shut_is))
+
     -- a record of its own is one of before, one of the first lane's rows, or one of another lane's
     own_cases : (o : Own) → Among o t.own
         → (Among o v.own) ⊎ ((HasNumber o.number run.controlled.run.rows × (o.lane ≡ 1)) ⊎ IsOfLane done (length done) o)
@@ -456,7 +489,7 @@ module _ (log : Log) (v m w : View) (r q : Registrar) (first first' : Lane) (bef
           ⊎_elim (λ (j : Among o v.own × (o.lane ≡ i.place + 2)). let e = j.1 in omega arith)
           (λ (j : HasNumber o.number p.run_of.run.rows × (o.lane ≡ i.place + 2)). let e = j.1 in omega arith)
           (lane_cases i.place i.lane p i.seat o i.seat_is i.among))) h) (own_cases o n))
-          (run_first.tells k (lane_within m w has_given.learned end_learns)))
+          (run_first.tells k (lane_within m w has_given.learned end_learns) (span.full ∙ sym has_given.shut)))
 
       -- what another lane has among the records of its number
       others_all : (i : ℕ) (z : Lane) (at : slice_get done i ≡ Some z) (p : Way i z) (o : Own)
@@ -499,5 +532,5 @@ module _ (log : Log) (v m w : View) (r q : Registrar) (first first' : Lane) (bef
           within counted (subst (λ (x : ℕ). Ascends x p.run_of.run.rows (view s.pass).learned.count) same g.ascends)
           (subst (λ (x : ℕ). AreTold (view s.pass) x p.run_of.run.rows) lane g.told)
           (others_all i z.0 z.1 p)
-          (p.run_of.run.tells k (lane_within (view p.run_of.before.pass) (view s.pass) (way_learned i z.0 p) back))
-          x remains base main none later c)
+          (p.run_of.run.tells k (lane_within (view p.run_of.before.pass) (view s.pass) (way_learned i z.0 p) back)
+          (span.full ∙ sym (way_shut i z.0 p))) x remains base main none later c)

@@ -1,5 +1,6 @@
 pub mod Advancing
 pub mod Answered
+pub mod Claims
 pub mod Controls
 pub mod Course
 pub mod Crossing

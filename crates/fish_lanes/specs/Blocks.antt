@@ -209,12 +209,13 @@ pub record HasTakenAll (m u : View) (lanes : List Lane) (many : ℕ) : Type 0 wh
 
 -- ---- afterwards
 
--- the block lies between the log's end before it and behind it, and between the versions there
+-- the block lies between the log's end before it and behind it, and between the versions there; and what had shut the pass
 pub record IsBlockSpan (v t : View) (to : ℕ) (s : Span) : Type 0 where
   pub begins : HasEnd v s.from
   pub ends : s.to ≡ to
   pub first : s.first ≤ v.learned.version
   pub last : t.learned.version ≤ s.last
+  pub full : s.full ≡ v.shut
 
 -- what a block tells of the one log: each lane's items, of its records between the two ends
 abbrev pub TellsBlock : View → Span → List Entry → List Lane → Type 0
@@ -240,6 +241,21 @@ pub record HasRegistered (v t : View) (r s : Registrar) (x : Lane) (end : BlockE
   pub is : x.fault ≡ cause.None → registry_of t s ≡ after_all (registry_of v r) (control_items x end)
   pub each : x.fault ≡ cause.None → KnowsEach t (registry_of v r) (control_items x end)
   pub settled : s.waiting ≡ None
+
+-- an item of some lane was refused by this claim
+pub record IsFullIn (lanes : List Lane) (line lines end : ℕ) : Type 0 where
+  pub at : ℕ
+  pub lane : Lane
+  pub lane_is : slice_get lanes at ≡ Some lane
+  pub file : List ℕ
+  pub stored : ℕ
+  pub refused : ℕ
+  pub among : Among (item.IngestFull file line lines end stored refused) lane.items
+
+-- what shuts the control pass behind the block did so before, or an item of a lane tells of it; unless one stopped at a fault
+abbrev pub TellsShutBy : View → View → List Lane → Type 0
+TellsShutBy v u lanes = At (λ i x. x.fault ≡ cause.None) lanes → (c : Shut) → u.shut ≡ Some c
+    → (v.shut ≡ Some c) ⊎ IsFullIn lanes c.line c.lines c.end
 
 -- an item that was refused since the log is full names a mark, and the log's end
 abbrev pub IsMarkItem : View → Item → Type 0

@@ -7,6 +7,7 @@ use Rattle.fish_lanes.specs.Records.{LaneRow, contents}
 use Rattle.fish_lanes.specs.Registering.{AreSo, IsBetween, IsSo, KnowsEach, KnowsRegistry, Registry, after, after_all, bound, registry_of}
 use Rattle.fish_lanes.specs.Running.{HasRun}
 use Rattle.fish_lanes.specs.Single.{TellsOnly}
+use Rattle.fish_lanes.specs.Sizes.{TellsShut}
 use Rattle.fish_lanes.specs.Telling.{content_of, count_of}
 use Rattle.fish_lanes.specs.declared.block.Boundary.{Boundary}
 use Rattle.fish_lanes.specs.declared.work.LaneFault.{LaneFault}
@@ -106,6 +107,7 @@ pub record IsControlled (u : View) (r : Registrar) (t : View) (s : Registrar) (w
   pub gains : Gains u t rows
   pub first : contents rows ≡ take (count_of x) (content_of w)
   pub fit : IsFit u t w x
+  pub shuts : TellsShut u t (x ∷ [])
   pub does : Does u r t s x
 
 -- a part of it was

@@ -12,6 +12,7 @@ pub mod Running
 pub mod Scanning
 pub mod Seen
 pub mod Single
+pub mod Sizes
 pub mod Spans
 pub mod Storing
 pub mod Telling

@@ -1,20 +1,23 @@
 //! A block: its lanes run at once, each by a pass of its own.
 
-ghost use Rattle.std.specs.Prelude.{◌≡◌, ◌≤◌, ◌<◌, ◌+◌, ℕ, length, slice_get, Some, None, [], All};
+ghost use Rattle.std.specs.Prelude.{◌≡◌, ◌⊎◌, ◌≤◌, ◌<◌, ◌+◌, ℕ, length, slice_get, Some, None, [], All};
 ghost use Rattle.std.specs.Thread.{IsSync};
-ghost use Rattle.fish_lanes.specs.Blocks.{AreDone, AreEnded, AreJoined, AreKept, AreLanes, AreReady, AreSeated, CanGive, CanTake};
+ghost use Rattle.fish_lanes.specs.Blocks.{At, AreDone, AreEnded, AreJoined, AreKept, AreLanes, AreReady, AreSeated, CanGive, CanTake};
 ghost use Rattle.fish_lanes.specs.Blocks.{HasGiven, HasRegistered, HasRunFirst, HasSeat, HasTaken, HasTakenAll, IsBlockSpan, IsFirst};
 ghost use Rattle.fish_lanes.specs.Blocks.{AreVacant, IsMarkItem, IsNewLane, NameMarks, TellsAlone, TellsBlock, TellsFirst};
-ghost use Rattle.fish_lanes.specs.Blocks.{TellsOthers, WasTaken, WereTaken};
+ghost use Rattle.fish_lanes.specs.Blocks.{IsFullIn, TellsOthers, TellsShutBy, WasTaken, WereTaken};
 ghost use Rattle.fish_lanes.specs.Closing.{Later, Will};
 ghost use Rattle.fish_lanes.specs.Controlling.{CanControl};
 ghost use Rattle.fish_lanes.specs.Ending.{HasEnd};
 ghost use Rattle.fish_lanes.specs.Registering.{IsAcceptable, KnowsRegistry, registry_of};
 ghost use Rattle.fish_lanes.specs.Running.{CanBegin, HasDone, HasRun, IsEnded, IsFree, IsReady};
 ghost use Rattle.fish_lanes.specs.Single.{TellsOnly};
+ghost use Rattle.fish_lanes.specs.Sizes.{TellsClaim};
 ghost use Rattle.fish_lanes.specs.Spans.{Span};
+ghost use Rattle.fish_lanes.specs.declared.work.LaneFault.TheVariants as cause;
 ghost use Rattle.fish_rule.specs.Passes.{IsPassOf, view};
 ghost use Rattle.fish_rule.specs.Views.{AllOf};
+ghost use Rattle.fish_rule.specs.declared.view.Shut.{Shut};
 ghost use Rattle.fish_rule.specs.Seating.{CanSplit, split_left, split_right};
 
 use crate::control::run_control;
@@ -226,6 +229,9 @@ fn run_lanes<R: Threads + Sync>(
     ensures only { others.old ≡ [] → TellsOnly (view main.old) (view main.new) first.new.works first.new.items }
     ensures first_ended { IsEnded first.new.works first.new.items first.new.fault }
     ensures others_ended { AreEnded others.new }
+    ensures shuts { first.new.fault ≡ cause.None → At (λ i x. x.fault ≡ cause.None) others.new
+        → (c : Shut) → (view main.new).shut ≡ Some c → ((view main.old).shut ≡ Some c)
+        ⊎ (TellsClaim c first.new.items ⊎ IsFullIn others.new c.line c.lines c.end) }
     ensures first_marks { AllOf (IsMarkItem (view main.new)) first.new.items }
     ensures others_marks { NameMarks (view main.new) others.new }
 {
@@ -272,6 +278,7 @@ pub fn run_block<R: Threads + Sync>(
     ensures alone { TellsAlone (view main.old) (view main.new) lanes.new }
     ensures ended { AreEnded lanes.new }
     ensures marks { NameMarks (view main.new) lanes.new }
+    ensures shuts { TellsShutBy (view main.old) (view main.new) lanes.new }
 {
     let (first, others) = lanes.split_at_mut(1);
     run_lanes(rt, alloc, log, main, registrar, &mut first[0], others)

@@ -35,6 +35,7 @@ pub(crate) fn find_boundary(
     requires can { CanControl log.now pass.old registrar.old }
     ensures can { CanControl log.now pass.new registrar.new }
     ensures gains { Gains (view pass.old) (view pass.new) [] }
+    ensures shut { (view pass.new).shut ≡ (view pass.old).shut }
     ensures loads { (view pass.new).clock.loads ≡ (view pass.old).clock.loads }
     ensures polled { OnOk result
         (HasPolled (view pass.old) registrar.old (view pass.new) registrar.new items.old items.new) }
@@ -80,6 +81,7 @@ pub(crate) fn register(
     ensures can { CanControl log.now pass.new registrar.new }
     ensures defs { IsDefsOf (view pass.new) defs.new }
     ensures gains { Gains (view pass.old) (view pass.new) [] }
+    ensures shut { (view pass.new).shut ≡ (view pass.old).shut }
     ensures item { IfOk result (IsRegisterItem name.now (definition_text (definition_of def.now))) }
     ensures does { IfOk result (Does (view pass.old) registrar.old (view pass.new) registrar.new) }
 {
@@ -112,6 +114,7 @@ fn registered(
     ensures can { CanControl log.now pass.new registrar.new }
     ensures defs { IsDefsOf (view pass.new) defs.new }
     ensures gains { Gains (view pass.old) (view pass.new) [] }
+    ensures shut { (view pass.new).shut ≡ (view pass.old).shut }
     ensures tells { IfOk result (TellsBegun (view pass.old) registrar.old (view pass.new) registrar.new name id def) }
 {
     read_definitions(log, pass, defs)?;
@@ -147,6 +150,7 @@ pub(crate) fn deregister(
     ensures can { CanControl log.now pass.new registrar.new }
     ensures defs { IsDefsOf (view pass.new) defs.new }
     ensures gains { Gains (view pass.old) (view pass.new) [] }
+    ensures shut { (view pass.new).shut ≡ (view pass.old).shut }
     ensures item { IfOk result (IsDeregisterItem name.now) }
     ensures does { IfOk result (Does (view pass.old) registrar.old (view pass.new) registrar.new) }
 {

@@ -1,8 +1,8 @@
 -- The first lane and the others.
 use Rattle.std.proofs.Common.{◌≡◌, [], ◌∷◌, ◌++◌, All, List, Some, get_or, set, slice_get, sym, subst}
 use Rattle.fish_lanes.proofs.Firsts.{alone_first, ended_both, first_acceptable, first_new, first_there, marks_both, others_new}
-use Rattle.fish_lanes.proofs.Firsts.{tells_both, vacant_both}
-use Rattle.fish_lanes.specs.Blocks.{AreEnded, AreVacant, CanGive, HasRegistered, IsNewLane, NameMarks, TellsBlock}
+use Rattle.fish_lanes.proofs.Firsts.{shuts_both, tells_both, vacant_both}
+use Rattle.fish_lanes.specs.Blocks.{AreEnded, AreVacant, CanGive, HasRegistered, IsNewLane, NameMarks, TellsBlock, TellsShutBy}
 use Rattle.fish_lanes.specs.Registering.{IsAcceptable}
 use Rattle.fish_lanes.specs.Single.{TellsOnly}
 use Rattle.fish_lanes.specs.declared.lane.Lane.{Lane}
@@ -73,3 +73,10 @@ returns-clause-vacant g c before =
     (vacant_both c.run_lanes.new.first c.index-first-0.result c.args.lanes.now c.run_lanes.new.others c.requires.lanes
     (subst (λ (z : List Lane). c.run_lanes.new.first.seat ≡ (get_or z 0 c.index-first-0.result).seat)
     c.split_at_mut-first.ensures.front c.run_lanes.ensures.first_seat) before c.run_lanes.ensures.vacant)
+
+pub returns-clause-shuts : goal.returns-clause-shuts
+returns-clause-shuts g c =
+    subst (λ (z : List Lane). TellsShutBy (view c.args.main.now) (view c.run_lanes.new.main)
+    (set z 0 c.run_lanes.new.first ++ c.run_lanes.new.others)) (sym c.split_at_mut-first.ensures.front)
+    (shuts_both (view c.args.main.now) (view c.run_lanes.new.main) c.run_lanes.new.first c.args.lanes.now c.run_lanes.new.others
+    c.requires.lanes c.run_lanes.ensures.shuts)

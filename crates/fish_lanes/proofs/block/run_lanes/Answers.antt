@@ -1,7 +1,7 @@
 -- The block from its start to its end.
 use Rattle.std.proofs.Common.{◌≡◌, ◌∙◌, ap, get_or, arith, length, Some, slice_get}
 use Rattle.std.proofs.lemmas.Option.{slice_get-get_or}
-use Rattle.fish_lanes.proofs.Course.{first_ended, first_marks, get_there, has_end, is_later, kept_at, may_join, vacant_at}
+use Rattle.fish_lanes.proofs.Course.{first_ended, first_marks, get_there, has_end, is_later, kept_at, may_join, shut_by, vacant_at}
 use Rattle.fish_lanes.proofs.Course.{counted_from, few_behind, others_ended, others_marks, tells_first, tells_others, within}
 use Rattle.fish_lanes.specs.Blocks.{HasRegistered}
 use Rattle.fish_lanes.specs.Ending.{HasEnd}
@@ -146,6 +146,22 @@ returns-clause-first_marks g c =
     c.find_last-bound.ensures.changes (taken_alone (view c.run_all.new.main) (view c.take_all.new.main)
     c.run_all.new.others c.take_all.ensures.taken)))
     c.take_all.ensures.lanes c.take_all.auto.lanes c.requires.others.base c.settle-to.ensures.pass.stands c.requires.end.1.marks
+
+pub returns-clause-shuts : goal.returns-clause-shuts
+returns-clause-shuts g c none nones claim e =
+    shut_by c.args.log.now (view c.args.main.now) (view c.give_all.new.main) (view c.run_all.new.main)
+    c.args.registrar.now c.run_all.new.registrar c.args.first.now
+    c.run_all.new.first c.args.others.now c.give_all.new.lanes c.run_all.new.others c.take_all.new.lanes
+    c.give_all.ensures.given c.give_all.ensures.seated c.run_all.ensures.run c.run_all.ensures.done
+    c.give_all.auto.lanes c.run_all.auto.others
+    (view c.take_all.new.main) (view c.settle-to.new.pass) c.settle-to.result.settled c.take_all.ensures.taken
+    (closes_end (view c.take_all.new.main) (view c.find_last-bound.new.pass) (view c.settle-to.new.pass)
+    c.find_last-bound.ensures.changes c.settle-to.ensures.settles) c.settle-to.ensures.settled c.settle-to.result.count
+    c.settle-to.ensures.tail (c.settle-to.ensures.ends (alone_changes (view c.take_all.new.main) (view c.find_last-bound.new.pass)
+    c.find_last-bound.ensures.changes (taken_alone (view c.run_all.new.main) (view c.take_all.new.main)
+    c.run_all.new.others c.take_all.ensures.taken)))
+    c.take_all.ensures.lanes c.take_all.auto.lanes c.requires.others.base c.settle-to.ensures.pass.stands c.requires.end.1.marks
+    none nones claim e
 
 pub returns-clause-others_marks : goal.returns-clause-others_marks
 returns-clause-others_marks g c =
