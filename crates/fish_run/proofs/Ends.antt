@@ -51,7 +51,7 @@ refused_more blocks b = list_any-append (λ (x : Block). lanes_refused x.lanes) 
 -- none ran yet, and the first item was written
 pub writes_first : (told : Option Files) (v : View) (r : Registry) (a b : Option (List ℕ)) (refused : Bool) → r ≡ no_registry
     → v.shut ≡ None → Gained a b (report_text (item.Created ∷ [])) → refused ≡ false → WritesBlocks told [] v r 0 a b refused
-writes_first told v r a b refused none open written accepted = record {
+writes_first told v r a b refused none unshut written accepted = record {
   blocks = [];
   ran = record {
     are = tt;
@@ -60,7 +60,7 @@ writes_first told v r a b refused none open written accepted = record {
     behind = none;
     fulls = tt;
   };
-  shut = λ c e. (let bad : None ≡ Some c = sym open ∙ e in absurd cc);
+  shut = λ c e. (let bad : None ≡ Some c = sym unshut ∙ e in absurd cc);
   written = written;
   refused_is = accepted;
 }
