@@ -24,6 +24,7 @@ use Rattle.fish_rule.specs.Clocks.{HasLoaded, IsLater}
 use Rattle.fish_rule.specs.Entering.{after_version}
 use Rattle.fish_rule.specs.Intervals.{HasInterval}
 use Rattle.fish_rule.specs.Logs.{Extends, Learns, TellsMark}
+use Rattle.fish_rule.specs.Reading.{IsAlone}
 use Rattle.fish_rule.specs.declared.view.Epoch.{Epoch}
 use Rattle.fish_rule.specs.declared.view.Key.{Key}
 use Rattle.fish_rule.specs.declared.view.Noted.TheVariants.{Version}
@@ -36,7 +37,7 @@ use Rattle.fish_scan.specs.Indices.{IsIndex}
 use Rattle.fish_scan.specs.Intervals.{IsIntervalOf, end_within}
 use Rattle.fish_scan.specs.Matching.{Finds}
 use Rattle.fish_scan.specs.Pieces.{AreReadable, IsReadable}
-use Rattle.fish_scan.specs.Reach.{IsRange, IsReach, end_of}
+use Rattle.fish_scan.specs.Reach.{IsExact, IsRange, IsReach, end_of}
 use Rattle.fish_scan.specs.Reading.{Adds}
 use Rattle.fish_scan.specs.Scans.{IsAnswer, IsAsked, IsCold, IsCovered, IsExplained, IsPlan, IsPlanRefused, IsPlanned, IsPrepared, IsQuery}
 use Rattle.fish_scan.specs.Scans.{IsRefused, OnlyPlans, OnlyScans, first_asked}
@@ -49,6 +50,8 @@ use Rattle.fish_scan.specs.declared.refusal.ScanRefusal.TheVariants as refusal
 use Rattle.fish_scan.specs.declared.scanning.Prepared.{Prepared}
 use Rattle.fish_value.specs.declared.row.Row.{Row}
 use Rattle.fish_value.specs.declared.value.Value.{Value}
+use Rattle.fish_walk.proofs.Looking.{ends_later}
+use Rattle.fish_walk.specs.Looks.{IsTailCount}
 use Rattle.fish_walk.specs.Settling.{OnlySettles}
 
 -- ---- views
@@ -166,7 +169,7 @@ asked_later v u t known ask place more h = record {
 -- ---- ranges and plans
 
 -- a range that was found between two views was so between an earlier and a later one
-pub range_within : (v m u t : View) (from : ℕ) (to : Option ℕ) (first last : ℕ) (opens : List ℕ) → OnlyScans v m
+unfoldable pub range_within : (v m u t : View) (from : ℕ) (to : Option ℕ) (first last : ℕ) (opens : List ℕ) → OnlyScans v m
     → OnlyScans u t → IsRange m u from to first last opens → IsRange v t from to first last opens
 range_within v m u t from to first last opens before after h = record {
   first_is = h.first_is;
@@ -189,17 +192,37 @@ range_within v m u t from to first last opens before after h = record {
       (h.others (subst (λ (z : Key). z.number ≤ first) (sym before.learns.about) base) n above below closed);
 }
 
+-- a pass that is alone stays alone
+pub scans_alone : (v u : View) → OnlyScans v u → IsAlone v → IsAlone u
+scans_alone v u h alone = record {
+  main = ap (λ (z : View). z.lane) h.frame ∙ alone.main;
+  all = ap (λ (z : View). z.out) h.frame ∙ alone.all;
+  idle = ap (λ (z : View). z.flight) h.frame ∙ alone.idle;
+}
+
+-- what it found of the whole log is so between an earlier view with the same tail and a later one
+pub exact_within : (v m u t : View) (to : Option ℕ) (count settled last : ℕ) (opens : List ℕ) → m.tail ≡ v.tail → Learns u t
+    → IsExact m u to count settled last opens → IsExact v t to count settled last opens
+exact_within v m u t to count settled last opens tail after h = record {
+  counted = subst (IsTailCount count) tail h.counted;
+  ends = ends_later u t settled count after h.ends;
+  last_is = h.last_is;
+  closed = h.closed;
+}
+
 -- so was what a scan reaches, for the first number that is asked for
-pub reach_within : (v m u t : View) (ask : Ask) (first : ℕ) (reach : Reach) → OnlyScans v m → OnlyScans u t
+pub reach_within : (v m u t : View) (ask : Ask) (first : ℕ) (reach : Reach) → OnlyScans v m → m.tail ≡ v.tail → OnlyScans u t
     → first ≡ first_asked ask → IsReach m u first ask.to reach → IsReach v t (first_asked ask) ask.to reach
-reach_within v m u t ask first reach before after is h =
-    let about = ap (λ (z : Key). z.number) after.learns.about in record {
-      range = subst (λ (z : ℕ). IsRange v t z ask.to reach.from reach.to reach.opens) is
-          (range_within v m u t first ask.to reach.from reach.to reach.opens before after h.range);
+unfolding range_within
+reach_within v m u t ask first reach before tail after is h =
+    let about = ap (λ (z : Key). z.number) after.learns.about in subst (λ (z : ℕ). IsReach v t z ask.to reach) is (record {
+      range = range_within v m u t first ask.to reach.from reach.to reach.opens before after h.range;
       reached = λ base. reached_still u t reach after.learns (h.reached (omega arith));
       settled = (let a = h.settled in let b = before.learns.settled in omega arith);
       reaches = (let a = h.reaches in let b = after.learns.settled in omega arith);
-    }
+      exact = λ alone. exact_within v m u t ask.to h.range.count reach.settled reach.to reach.opens tail after.learns
+          (h.exact (scans_alone v m before alone));
+    })
 
 -- so was a cover
 pub covered_within : (v m u t : View) (rows : List Listed) (text : List ℕ) (from settled to : ℕ) (plan : List Piece)
@@ -317,6 +340,7 @@ plan_refused v m u t known ask place reach (refusal.NotCovered first last) asked
     settled = reach.settled;
     least = reached.settled;
     most = reached.reaches;
+    exact = reached.exact;
     plan = h.1.0;
     covered = covered_within v m u t _ _ _ _ _ _ before after h.1.1;
     gap = h.1.2;
@@ -358,6 +382,7 @@ planned_at v u t known ask place reach plan asked more reached is = record {
   settled = reach.settled;
   least = reached.settled;
   most = reached.reaches;
+  exact = reached.exact;
   plan_is = is;
 }
 
@@ -403,7 +428,7 @@ cold_refused v t known ask base from to opens plan (refusal.NotCovered a b) is p
 unfoldable pub explained_later : (v u t : View) (known : Known) (ask : Ask) (p : Prepared) → OnlyScans u t
     → IsPrepared v u known ask p
     → IsExplained v t known ask p.query.reach.from p.query.reach.to p.query.reach.opens p.plan
-unfolding asked_later
+unfolding asked_later range_within
 explained_later v u t known ask p after h = record {
   planned = record {
     place = h.place;
@@ -414,6 +439,8 @@ explained_later v u t known ask p after h = record {
     settled = p.query.reach.settled;
     least = h.reach.settled;
     most = (let a = h.reach.reaches in let b = after.learns.settled in omega arith);
+    exact = λ alone. exact_within v v u t ask.to h.reach.range.count p.query.reach.settled p.query.reach.to p.query.reach.opens
+        refl after.learns (h.reach.exact alone);
     plan_is = plan_within v v u t _ _ ask.how _ _ _ _ (learns_self v) after.learns h.plan;
   };
   base = subst (λ (z : Key). z.number ≤ p.query.reach.from) (sym after.learns.about) h.base;

@@ -1,6 +1,7 @@
 pub mod Answering
 pub mod Beginnings
 pub mod Descending
+pub mod Ends
 pub mod Filling
 pub mod Finding
 pub mod Gathering

@@ -7,6 +7,7 @@ use Rattle.fish_rule.proofs.Common.{among_left, among_right}
 use Rattle.fish_rule.proofs.Extending.{learns_both}
 use Rattle.fish_rule.proofs.Unpublished.{opens_apart}
 use Rattle.fish_rule.specs.Logs.{Learns, TellsMark}
+use Rattle.fish_rule.specs.Reading.{IsAlone}
 use Rattle.fish_rule.specs.Table.{Sees}
 use Rattle.fish_rule.specs.Unpublished.{AreApart}
 use Rattle.fish_rule.specs.Views.{Among}
@@ -15,8 +16,9 @@ use Rattle.fish_rule.specs.declared.view.Position.{Position}
 use Rattle.fish_rule.specs.declared.view.View.{View}
 use Rattle.fish_scan.proofs.Lists.{among_last, get_before, get_here, get_last, length_more}
 use Rattle.fish_scan.proofs.Reaching.{reached_word, seen_still}
-use Rattle.fish_scan.specs.Reach.{AreLooks, AreSeen, IsReach, IsReached, Rise, WasOpen, end_of}
+use Rattle.fish_scan.specs.Reach.{AreLooks, AreSeen, IsCut, IsExact, IsReach, IsReached, Rise, WasOpen, end_of}
 use Rattle.fish_scan.specs.declared.reach.Reach.{Reach}
+use Rattle.fish_walk.proofs.Looking.{looked_both}
 use Rattle.fish_walk.specs.Looks.{HasOpens, IsLookAt, KeepsOpens, look_of, with_look}
 use Rattle.fish_walk.specs.Settling.{HasLoadedCount, HasTail, OnlyLooks, OnlySettles}
 use Rattle.fish_walk.specs.declared.outcome.Look.{Look}
@@ -207,20 +209,30 @@ pub listed_apart : (v : View) (count : ℕ) (opens : List ℕ) → HasOpens v co
 listed_apart v count opens h m n lane f g p q one other =
     opens_apart v h.last (subst (Among h.last) (sym h.opens) (inl refl)) m n lane f g p q (h.listed m one) (h.listed n other)
 
-module _ (a b d : View) (from : ℕ) (to : Option ℕ) (settled count end base first : ℕ) (reach : Reach)
+-- the end of a range isn't past the one that is asked for
+pub cut_within : (v : View) (stop from limit end : ℕ) → IsCut v stop from limit end → end ≤ limit
+cut_within v stop from limit end (inl e) = omega arith
+cut_within v stop from limit end (inr h) = (let less = h.1 in let same = h.2 in omega arith)
+
+module _ (a b c d : View) (from : ℕ) (to : Option ℕ) (settled count end base first : ℕ) (reach : Reach)
     (settles : OnlySettles a b) (rises : a.learned.settled ≤ settled) (known : settled ≤ b.learned.settled)
-    (counted : HasLoadedCount a b count) (tail : HasTail b count)
-    (end_is : end ≡ end_of to count) (base_is : base ≡ a.about.number)
-    (first_is : first ≡ min (max (max base settled) from) end) (looked : OnlyLooks b d)
-    (looks : AreLooks b d first end count reach.looks.items reach.opens) (settled_is : reach.settled ≡ settled)
+    (counted : HasLoadedCount a b count) (tail : HasTail b count) (cuts : OnlyLooks b c)
+    (cut : IsCut c (max base settled) from (end_of to count) end) (base_is : base ≡ a.about.number)
+    (first_is : first ≡ min (max (max base settled) from) end) (looked : OnlyLooks c d)
+    (looks : AreLooks c d first end count reach.looks.items reach.opens) (settled_is : reach.settled ≡ settled)
     (begins : reach.first ≡ first) (ends : reach.to ≡ first + length reach.looks.items)
-    (from_is : reach.from ≡ min from reach.to) where
+    (from_is : reach.from ≡ min from reach.to)
+    (exact : IsAlone a → IsExact a d to count settled reach.to reach.opens) where
+  -- all looks of the call
+  looked_all : OnlyLooks b d
+  looked_all = looked_both b c d cuts looked
+
   -- what was looked at can be read where it doesn't begin below the base
   reach_reached : end ≤ count → d.about.number ≤ reach.from → IsReached d reach
   reach_reached less above =
       let many = looks.few in
-      let more = looked.settled in
-      let all = looked.count in
+      let more = looked_all.settled in
+      let all = looked_all.count in
       let tail_is = tail.3 in
       record {
         base = above;
@@ -235,7 +247,7 @@ module _ (a b d : View) (from : ℕ) (to : Option ℕ) (settled count end base f
     where
       below : (n : ℕ) → reach.from ≤ n → n < reach.first → n < reach.settled
       below n after before =
-          let about = ap (λ (z : Key). z.number) (looked.extends.learns.about ∙ settles.learns.about) in
+          let about = ap (λ (z : Key). z.number) (looked_all.extends.learns.about ∙ settles.learns.about) in
           omega arith
 
   pub reach_found : IsReach a d from to reach
@@ -245,26 +257,37 @@ module _ (a b d : View) (from : ℕ) (to : Option ℕ) (settled count end base f
       count = count;
       counted = record {
         tail = counted.tail;
-        loaded = loaded_within _ _ _ _ _ _ (later_self a.clock) counted.loaded looked.extends.clock;
+        loaded = loaded_within _ _ _ _ _ _ (later_self a.clock) counted.loaded looked_all.extends.clock;
         is = counted.is;
       };
       known = (let e = tail.3 in let m = settles.learns.count in omega arith);
-      claimed = (let e = tail.3 in let m = looked.count in omega arith);
-      within = (let f = looks.few in omega arith);
-      stops = ⊎_elim (λ (e : first + length reach.looks.items ≡ end). inl (omega arith))
+      claimed = (let e = tail.3 in let m = looked_all.count in omega arith);
+      within = (let f = looks.few in let most = within in omega arith);
+      stops = ⊎_elim (λ (e : first + length reach.looks.items ≡ end). at_end e cut)
           (λ (m : TellsMark d (first + length reach.looks.items)). inr (subst (TellsMark d) (sym ends) m)) looks.stops;
       rise = rise_sooner reach.from first reach.to reach.opens (let f = looks.few in omega arith)
           (subst (λ (z : ℕ). Rise first z reach.opens) (sym ends) looks.rise);
-      were = λ n among. open_sooner a b d n settles.learns (looks.were n among);
+      were = λ n among. open_sooner a c d n (learns_both a b c settles.learns cuts.extends.learns) (looks.were n among);
       apart = listed_apart d count reach.opens looks.listed;
       others = λ above n least most closed. reached_word d reach (reach_reached less
-          (subst (λ (z : Key). z.number ≤ reach.from) (sym (looked.extends.learns.about ∙ settles.learns.about)) above))
+          (subst (λ (z : Key). z.number ≤ reach.from) (sym (looked_all.extends.learns.about ∙ settles.learns.about)) above))
           n least most closed;
     };
     reached = reach_reached less;
     settled = omega arith;
-    reaches = (let e = looked.settled in omega arith);
+    exact = λ alone. subst (λ (z : ℕ). IsExact a d to count z reach.to reach.opens) (sym settled_is) (exact alone);
+    reaches = (let e = looked_all.settled in omega arith);
   }
     where
+      within : end ≤ end_of to count
+      within = cut_within c (max base settled) from (end_of to count) end cut
+
       less : end ≤ count
       less = omega arith
+
+      -- where no look told of a mark, the range ends where it is asked to, or was cut at one
+      at_end : first + length reach.looks.items ≡ end → IsCut c (max base settled) from (end_of to count) end
+          → (reach.to ≡ end_of to count) ⊎ TellsMark d reach.to
+      at_end e (inl is) = inl (omega arith)
+      at_end e (inr h) = inr (subst (TellsMark d) (sym (ends ∙ e ∙ h.2))
+          (λ x more. h.3 x (learns_both c d x looked.extends.learns more)))

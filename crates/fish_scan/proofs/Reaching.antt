@@ -95,7 +95,7 @@ looked_there v reach number r h first there =
 -- ---- what isn't open is published
 
 -- a number that was found to be of a kind other than a mark has the directory word of an entry
-found_word : (v : View) (n : ℕ) (kind : Kind) → kind ≢ Mark → HasFound v n kind → Always v (λ k w. IsEntryWord (w.dir n))
+pub found_word : (v : View) (n : ℕ) (kind : Kind) → kind ≢ Mark → HasFound v n kind → Always v (λ k w. IsEntryWord (w.dir n))
 found_word v n kind other h u learns w rule seat at =
     let f = all_among (IsFound u.about w.count w.dir rule.start) h.0 u.learned.found (rule.facts seat u at).found
     (learns.found h.0 h.1) in

@@ -3,14 +3,15 @@ use Rattle.std.specs.Prelude.{ℕ, ◌≡◌, ◌≢◌, ◌+◌, ◌<◌, ◌�
 use Rattle.std.specs.Option.{unwrap_or}
 use Rattle.fish_rule.specs.Logs.{Learns, TellsMark}
 use Rattle.fish_rule.specs.Parts.{IsEntryWord}
+use Rattle.fish_rule.specs.Reading.{IsAlone}
 use Rattle.fish_rule.specs.Table.{Sees}
 use Rattle.fish_rule.specs.Unpublished.{AreApart}
 use Rattle.fish_rule.specs.Views.{Among}
 use Rattle.fish_rule.specs.Walking.{Always}
 use Rattle.fish_rule.specs.declared.view.View.{View}
 use Rattle.fish_scan.specs.declared.reach.Reach.{Reach}
-use Rattle.fish_walk.specs.Looks.{HasOpens, IsLookAt, look_of}
-use Rattle.fish_walk.specs.Settling.{HasLoadedCount}
+use Rattle.fish_walk.specs.Looks.{HasOpens, IsLookAt, IsTailCount, look_of}
+use Rattle.fish_walk.specs.Settling.{EndsAt, HasLoadedCount}
 use Rattle.fish_walk.specs.declared.outcome.Look.{Look}
 use Rattle.fish_walk.specs.declared.outcome.Look.TheVariants.{Overflow, Unfinished}
 
@@ -57,6 +58,10 @@ pub record AreLooks (v u : View) (first end count : ℕ) (looks : List Look) (op
   pub were : (n : ℕ) → Among n opens → WasOpen v u n
   pub rise : Rise first (first + length looks) opens
 
+-- the end of a range, or the number at which the settled ones stop, which is a mark in front of it
+abbrev pub IsCut : View → ℕ → ℕ → ℕ → ℕ → Type 0
+IsCut v stop from end found = (found ≡ end) ⊎ ((stop < from) × (stop < end) × (found ≡ stop) × TellsMark v stop)
+
 -- ---- the range of a scan
 
 -- the end that is asked for, if it isn't past the count
@@ -82,6 +87,14 @@ pub record IsRange (v u : View) (from : ℕ) (to : Option ℕ) (first last : ℕ
   pub others : v.about.number ≤ first → (n : ℕ) → first ≤ n → n < last → ¬ Among n opens
       → Always u (λ k w. IsEntryWord (w.dir n))
 
+-- a pass that was alone knows all of the log. So many numbers are claimed as it knew by the tail, and the log ends at the
+-- settled number; the range goes up to there, or as far as it was asked, so all of it is settled; and no number is open
+pub record IsExact (v u : View) (to : Option ℕ) (count settled last : ℕ) (opens : List ℕ) : Type 0 where
+  pub counted : IsTailCount count v.tail
+  pub ends : EndsAt u settled count
+  pub last_is : last ≡ end_of to settled
+  pub closed : opens ≡ []
+
 -- how far a scan looks
 pub record IsReach (v u : View) (from : ℕ) (to : Option ℕ) (reach : Reach) : Type 0 where
   pub range : IsRange v u from to reach.from reach.to reach.opens
@@ -90,3 +103,4 @@ pub record IsReach (v u : View) (from : ℕ) (to : Option ℕ) (reach : Reach) :
   -- it is settled at least as far as the pass knew
   pub settled : v.learned.settled ≤ reach.settled
   pub reaches : reach.settled ≤ u.learned.settled
+  pub exact : IsAlone v → IsExact v u to range.count reach.settled reach.to reach.opens

@@ -13,13 +13,14 @@ use Rattle.fish_plan.specs.Pieces.{one_full}
 use Rattle.fish_plan.specs.declared.pieces.Piece.{Piece}
 use Rattle.fish_rule.specs.Clocks.{HasLoaded, IsLater}
 use Rattle.fish_rule.specs.Logs.{Learns}
+use Rattle.fish_rule.specs.Reading.{IsAlone}
 use Rattle.fish_rule.specs.declared.view.Epoch.TheVariants.{Out}
 use Rattle.fish_rule.specs.declared.view.Noted.TheVariants.{Version}
 use Rattle.fish_rule.specs.declared.view.View.{View}
 use Rattle.fish_scan.specs.Intervals.{AreIntervals}
 use Rattle.fish_scan.specs.Matching.{Finds}
 use Rattle.fish_scan.specs.Naming.{HasNone, IsNewest}
-use Rattle.fish_scan.specs.Reach.{IsRange, IsReach}
+use Rattle.fish_scan.specs.Reach.{IsExact, IsRange, IsReach}
 use Rattle.fish_scan.specs.declared.ask.Answer.{Answer}
 use Rattle.fish_scan.specs.declared.ask.Ask.{Ask}
 use Rattle.fish_scan.specs.declared.ask.How.{How}
@@ -124,6 +125,8 @@ pub record IsPlanned (v u : View) (known : Known) (ask : Ask) (from to : ℕ) (o
   pub settled : ℕ
   pub least : v.learned.settled ≤ settled
   pub most : settled ≤ u.learned.settled
+  -- a pass that was alone has planned all that was asked for of the log
+  pub exact : IsAlone v → IsExact v u ask.to range.count settled to opens
   pub plan_is : IsPlan v u (rows_of known) asked.named.newest.listed.def ask.how from settled to plan
 
 -- and the range doesn't begin below the log's first number
@@ -153,6 +156,7 @@ pub record IsUncovered (v u : View) (known : Known) (ask : Ask) (from to : ℕ) 
   pub settled : ℕ
   pub least : v.learned.settled ≤ settled
   pub most : settled ≤ u.learned.settled
+  pub exact : IsAlone v → IsExact v u ask.to range.count settled last opens
   pub plan : List Piece
   pub covered : IsCovered v u (rows_of known) asked.named.newest.listed.def first settled last plan
   pub gap : IsFirstGap plan settled from to

@@ -1,9 +1,11 @@
 //! How far a scan looks: the settled number, the count, and what stands at the numbers between.
 
 ghost use Rattle.std.specs.Prelude.{◌≡◌, ◌≢◌, ◌<◌, ◌≤◌, ◌++◌, [], ◌∷◌, OnOk, IfOk};
+ghost use Rattle.fish_rule.specs.Logs.{TellsMark};
 ghost use Rattle.fish_rule.specs.Passes.{IsPassOf, view};
+ghost use Rattle.fish_rule.specs.Reading.{IsAlone};
 ghost use Rattle.fish_rule.specs.Views.{Among};
-ghost use Rattle.fish_scan.specs.Reach.{AreLooks, IsReach, IsReached};
+ghost use Rattle.fish_scan.specs.Reach.{AreLooks, IsCut, IsReach, IsReached};
 ghost use Rattle.fish_walk.specs.Looks.{HasOpens, IsLookAt, with_look};
 ghost use Rattle.fish_walk.specs.Settling.{OnlyLooks, OnlySettles};
 ghost use Rattle.fish_walk.specs.declared.outcome.Look.TheVariants.{Overflow, Unfinished};
@@ -28,7 +30,8 @@ pub(crate) struct Reach {
 }
 
 /// How far a scan that is asked for the numbers from one on, up to another or as far as any are claimed, may look:
-/// up to the first mark. Takes the loads of settling, and one for each number of the range that isn't settled.
+/// up to the first mark. Takes the loads of settling, one for each number of the range that isn't settled, and one where
+/// the range begins behind the number at which the settled ones stop.
 pub(crate) fn find_reach(
     alloc: Global,
     log: &Log,
@@ -42,8 +45,9 @@ pub(crate) fn find_reach(
     ensures reach { IfOk result (IsReach (view pass.old) (view pass.new) from to) }
 {
     let Settled { settled, count } = settle(log, pass);
-    let end = to.unwrap_or(count).min(count);
-    let first = base(log).number.max(settled).max(from).min(end);
+    let stop = base(log).number.max(settled);
+    let end = cut_end(log, pass, stop, from, to.unwrap_or(count).min(count));
+    let first = stop.max(from).min(end);
     let mut looks = Vec::new(alloc);
     let mut opens = Numbers::new(alloc);
     look_on(log, pass, first, end, count, &mut looks, &mut opens)?;
@@ -56,6 +60,26 @@ pub(crate) fn find_reach(
         looks,
         opens,
     })
+}
+
+/// The end of a range, or the number at which the settled ones stop where this is a mark in front of the range: nothing
+/// of the log is behind it.
+fn cut_end(log: &Log, pass: &mut Pass, stop: u32, from: u32, end: u32) -> u32
+    requires pass { IsPassOf log.now pass.old }
+    requires above { (view pass.old).about.number ≤ stop }
+    requires counted { end ≤ (view pass.old).learned.count }
+    ensures pass { IsPassOf log.now pass.new }
+    ensures only { OnlyLooks (view pass.old) (view pass.new) }
+    ensures cut { IsCut (view pass.new) stop from end result }
+    ensures alone { IsAlone (view pass.old) → stop < from → TellsMark (view pass.new) stop → result ≤ stop }
+{
+    if from <= stop || end <= stop {
+        return end;
+    }
+    match look(log, pass, stop) {
+        Look::Overflow => stop,
+        Look::Unfinished | Look::Void | Look::Stored => end,
+    }
 }
 
 /// Looks at the numbers from one on, up to an end or the first mark, and keeps what stood at each.
@@ -79,6 +103,7 @@ fn look_on(
     ensures pass { IsPassOf log.now pass.new }
     ensures only { OnlyLooks (view pass.old) (view pass.new) }
     ensures looks { OnOk result (AreLooks (view pass.old) (view pass.new) first end count looks.new.items opens.new) }
+    ensures closed { OnOk result (IsAlone (view pass.old) → opens.new ≡ []) }
 {
     for number in first..end {
         let seen = look(log, pass, number);

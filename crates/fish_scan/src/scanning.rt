@@ -230,6 +230,7 @@ fn find_row(log: &Log, pass: &mut Pass, known: &mut Known, ask: &Ask) -> Result<
     ensures only { OnlyPlans (view pass.old) (view pass.new) }
     ensures known { IsKnownOf (view pass.new) known.new }
     ensures asked { IfOk result (IsAsked (view pass.old) (view pass.new) known.new ask.now) }
+    ensures tail { (view pass.new).tail ≡ (view pass.old).tail }
     ensures refused { IfErr result (IsRefused (view pass.old) (view pass.new) known.new ask.now) }
 {
     let version = load_version(log, pass) as u16;

@@ -3,7 +3,7 @@
 ghost use Rattle.std.specs.Prelude.{◌≡◌, ◌≤◌, [], min};
 ghost use Rattle.fish_rule.specs.Passes.{IsPassOf, view};
 ghost use Rattle.fish_rule.specs.Reading.{CanRaise, IsAlone};
-ghost use Rattle.fish_walk.specs.Looks.{HasOpens};
+ghost use Rattle.fish_walk.specs.Looks.{HasOpens, IsTailCount};
 ghost use Rattle.fish_walk.specs.Settling.{AreSettled, CanSettle, EndsAt, HasLoadedCount, HasTail, IsEnd, IsMark, OnlyLooks, OnlyRaises};
 ghost use Rattle.fish_walk.specs.Settling.{OnlySettles, StopsAt};
 
@@ -36,6 +36,7 @@ pub fn settle(log: &Log, pass: &mut Pass) -> Settled
     ensures tail { HasTail (view pass.new) result.count }
     ensures opens { HasOpens (view pass.new) result.count [] }
     ensures ends { IsAlone (view pass.old) → EndsAt (view pass.new) result.settled result.count }
+    ensures rests { IsAlone (view pass.old) → IsTailCount result.count (view pass.old).tail }
 {
     let known = load_settled(log, pass);
     let count = count_now(log, pass);

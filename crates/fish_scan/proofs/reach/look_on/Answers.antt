@@ -1,6 +1,8 @@
 -- Each look tells of one number more, or of a mark at which the looks end.
 use Rattle.std.proofs.Common.{◌≡◌, ℕ, ◌+◌, suc, length, ap, ◌∙◌, subst, arith}
+use Rattle.fish_rule.proofs.Closing.{alone_later}
 use Rattle.fish_rule.specs.Passes.{view}
+use Rattle.fish_scan.proofs.Ends.{none_open}
 use Rattle.fish_scan.proofs.Lists.{length_more}
 use Rattle.fish_scan.proofs.Looking.{looks_more, looks_none, looks_stop, unmarked}
 use Rattle.fish_scan.specs.Reach.{AreLooks}
@@ -14,6 +16,7 @@ loop-number-init c = record {
   looks = looks_none (view c.args.pass.now) c.args.first c.args.count c.args.looks.now.items c.args.opens.now
       c.requires.looks c.requires.opens c.requires.fresh;
   many = (let e = ap length c.requires.looks in omega arith);
+  closed = λ alone. c.requires.opens;
 }
 
 pub returns-in-Overflow-clause-only : goal.returns-in-Overflow-clause-only
@@ -58,4 +61,7 @@ loop-number-preserved c =
           c.look-seen.ensures.opens sees.0 c.look-seen.ensures.found (unmarked c.look-seen.result c.in-Unfinished.is) sees.1 sees.2
           c.keep.new.looks.items c.keep.new.opens c.in_ok-keep-in-Unfinished.ensures.looks c.in_ok-keep-in-Unfinished.ensures.opens);
       many = omega arith;
+      closed = λ alone. c.in_ok-keep-in-Unfinished.ensures.opens
+          ∙ none_open c.loop-number.number c.look-seen.result c.loop-number.opens
+          (c.look-seen.ensures.alone (alone_later _ _ inv.only.extends alone)) (inv.closed alone);
     }

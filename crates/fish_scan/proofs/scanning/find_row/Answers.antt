@@ -1,11 +1,12 @@
 -- The version was loaded, its definitions were read, and of those that have the name this one is the newest.
-use Rattle.std.proofs.Common.{◌≤◌, List, sym, subst, arith}
+use Rattle.std.proofs.Common.{List, sym, ap, ◌∙◌, subst, arith}
 use Rattle.fish_catalog.specs.declared.listed.Listed.{Listed}
 use Rattle.fish_epoch.proofs.Reading.{defs_later}
 use Rattle.fish_epoch.specs.Definitions.{IsKnownOf}
 use Rattle.fish_rule.specs.Clocks.{HasLoaded}
 use Rattle.fish_rule.specs.Passes.{view}
 use Rattle.fish_rule.specs.declared.view.Noted.TheVariants.{Version}
+use Rattle.fish_rule.specs.declared.view.View.{View}
 use Rattle.fish_scan.proofs.Answering.{plans_both, plans_extends, plans_version, scans_both, scans_extends, scans_version}
 use Rattle.fish_scan.proofs.Answering.{version_loaded}
 use Rattle.fish_scan.specs.Naming.{HasNone, IsNewest}
@@ -81,3 +82,21 @@ returns-clause-asked c = record {
   };
   some = c.in_default-empty_range.ensures;
 }
+
+-- ---- neither load changes the tail
+
+pub returns-in_err-refresh-clause-tail : goal.returns-in_err-refresh-clause-tail
+returns-in_err-refresh-clause-tail c = ap (λ (z : View). z.tail) c.refresh.ensures.reads.extends.frame
+    ∙ ap (λ (z : View). z.tail) c.load_version-version.ensures.view
+
+pub returns-in_default-clause-tail : goal.returns-in_default-clause-tail
+returns-in_default-clause-tail c = ap (λ (z : View). z.tail) c.refresh.ensures.reads.extends.frame
+    ∙ ap (λ (z : View). z.tail) c.load_version-version.ensures.view
+
+pub returns-in-Some-empty_range-clause-tail : goal.returns-in-Some-empty_range-clause-tail
+returns-in-Some-empty_range-clause-tail c = ap (λ (z : View). z.tail) c.refresh.ensures.reads.extends.frame
+    ∙ ap (λ (z : View). z.tail) c.load_version-version.ensures.view
+
+pub returns-clause-tail : goal.returns-clause-tail
+returns-clause-tail c = ap (λ (z : View). z.tail) c.refresh.ensures.reads.extends.frame
+    ∙ ap (λ (z : View). z.tail) c.load_version-version.ensures.view

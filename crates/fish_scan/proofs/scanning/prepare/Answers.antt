@@ -82,7 +82,7 @@ returns-in-Ok-clause-prepared c =
     prepared_all v t known c.args.ask.now c.base.result.number reach c.in-Ok.plan c.with_query.result
     c.with_query.ensures.query c.with_query.ensures.plan c.with_query.ensures.above (λ p query plan above.
     prepared_at v m t known c.args.ask.now c.in_ok-place.place reach c.in-Ok.plan p asked (scans_both m n t settles rest)
-    (reach_within v m n t c.args.ask.now _ reach before rest c.unwrap_or.ensures c.in_ok-reach.ensures.reach)
+    (reach_within v m n t c.args.ask.now _ reach before c.find_row.ensures.tail rest c.unwrap_or.ensures c.in_ok-reach.ensures.reach)
     (plan_by_rows v n t t (rows_of known) _ asked.named.newest.listed.def _ c.args.ask.now.how _ _ _ _ c.rows-2.ensures text
     (scans_both v m n before settles).learns (learns_self t) c.in-Ok.ensures.plan) (omega arith)
     (subst (λ (z : List ℕ). IsQuery z c.args.ask.now reach p.query) text query) plan)
@@ -106,7 +106,7 @@ returns-in-Ok-clause-refused c =
     c.with_query.ensures.refused (λ e cold. cold_refused v t known c.args.ask.now c.base.result.number reach.from reach.to
     reach.opens c.in-Ok.plan e (c.base.ensures.0 ∙ sym (ap (λ (z : Key). z.number) c.find_plan.ensures.pass.about))
     (planned_at v m t known c.args.ask.now c.in_ok-place.place reach c.in-Ok.plan asked (scans_both m n t settles rest)
-    (reach_within v m n t c.args.ask.now _ reach before rest c.unwrap_or.ensures c.in_ok-reach.ensures.reach)
+    (reach_within v m n t c.args.ask.now _ reach before c.find_row.ensures.tail rest c.unwrap_or.ensures c.in_ok-reach.ensures.reach)
     (plan_by_rows v n t t (rows_of known) _ asked.named.newest.listed.def _ c.args.ask.now.how _ _ _ _
     c.rows-2.ensures (c.as_bytes-text.ensures ∙ ap (λ (z : Listed). z.def) row)
     (scans_both v m n before settles).learns (learns_self t) c.in-Ok.ensures.plan)) cold)
@@ -142,6 +142,6 @@ returns-in-Err-clause-refused c =
     plan_refused v n t t known c.args.ask.now c.in_ok-place.place reach c.in-Err.refusal
     (asked_later v m t known c.args.ask.now c.in_ok-place.place (scans_both m n t settles rest) asked)
     (scans_both v m n before settles).learns (learns_self t)
-    (reach_within v m n t c.args.ask.now _ reach before rest c.unwrap_or.ensures c.in_ok-reach.ensures.reach)
+    (reach_within v m n t c.args.ask.now _ reach before c.find_row.ensures.tail rest c.unwrap_or.ensures c.in_ok-reach.ensures.reach)
     (subst (λ (z : List Listed × List ℕ). IsPlanRefused n t z.0 z.1 c.args.ask.now.how reach.from reach.settled reach.to
     c.in-Err.refusal) (λ i. (c.rows-2.ensures i, text i)) c.in-Err.ensures.refused)

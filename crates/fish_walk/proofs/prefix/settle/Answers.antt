@@ -3,6 +3,7 @@ use Rattle.std.proofs.Common.{◌≡◌, ℕ, max, sym, ap, ◌∙◌, subst, ar
 use Rattle.fish_rule.specs.Passes.{view}
 use Rattle.fish_rule.specs.declared.view.Key.{Key}
 use Rattle.fish_rule.specs.declared.view.View.{View}
+use Rattle.fish_walk.specs.Looks.{IsTailCount}
 use Rattle.fish_walk.specs.Settling.{AreSettled, IsEnd, IsMark}
 use Rattle.fish_walk.proofs.Looking.{ends_later, stops_below}
 use Rattle.fish_walk.proofs.Settling.{alone_still, can_raise, counted_here, settles_all, stops_here}
@@ -110,3 +111,10 @@ returns-clause-opens c =
       count_is = h.count_is;
       listed = h.listed;
     }
+
+-- and where no lane is out the tail is where the pass knows it to be
+pub returns-clause-rests : goal.returns-clause-rests
+returns-clause-rests c alone =
+    let known = c.load_settled-known.ensures.view in
+    subst (IsTailCount c.count_now-count.result) (ap (λ (z : View). z.tail) known)
+    (c.count_now-count.ensures.rests (ap (λ (z : View). z.lane) known ∙ alone.main) (ap (λ (z : View). z.out) known ∙ alone.all))
