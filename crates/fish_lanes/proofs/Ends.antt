@@ -77,13 +77,6 @@ closes_end u p t changes settles = record {
   own = ap (λ (z : View). z.own) settles.frame ∙ ap (λ (z : View). z.own) changes.frame;
 }
 
-pub alone_changes : (u p : View) → Changes u p → IsAlone u → IsAlone p
-alone_changes u p changes alone = record {
-  main = ap (λ (z : View). z.lane) changes.frame ∙ alone.main;
-  all = ap (λ (z : View). z.out) changes.frame ∙ alone.all;
-  idle = ap (λ (z : View). z.flight) changes.frame ∙ alone.idle;
-}
-
 pub end_knows : (p t : View) (s : Registrar) → OnlySettles p t → Knows p s → Knows t s
 end_knows p t s settles k = knows_kept p t s (ap (λ (z : View). z.lane) settles.frame) settles.learns (keeps_settles p t settles) k
 

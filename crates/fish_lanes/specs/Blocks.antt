@@ -9,7 +9,7 @@ use Rattle.fish_registry.specs.declared.registrar.Registrar.{Registrar}
 use Rattle.fish_lanes.specs.Records.{rows_of_lane}
 use Rattle.fish_lanes.specs.Registering.{AreSo, IsAcceptable, KeepsRegistry, KnowsEach, KnowsRegistry, after_all, registry_of}
 use Rattle.fish_lanes.specs.Running.{CanBegin, HasDone, IsEnded, IsFree, IsReady}
-use Rattle.fish_lanes.specs.Single.{TellsOnly}
+use Rattle.fish_lanes.specs.Single.{NamesNone, TellsOnly}
 use Rattle.fish_lanes.specs.Spans.{Span}
 use Rattle.fish_lanes.specs.Telling.{TellsLane}
 use Rattle.fish_lanes.specs.declared.lane.Lane.{Lane}
@@ -269,9 +269,14 @@ AreEnded lanes = At (λ i x. IsEnded x.works x.items x.fault) lanes
 abbrev pub NameMarks : View → List Lane → Type 0
 NameMarks u lanes = At (λ i x. AllOf (IsMarkItem u) x.items) lanes
 
--- the items of a block of one lane tell also what one statement that is all of it tells besides
-abbrev pub TellsAlone : View → View → List Lane → Type 0
-TellsAlone v u lanes = (x : Lane) → lanes ≡ x ∷ [] → TellsOnly v u x.works x.items
+-- the items of a block of one lane name no open number and no other lane; and where no registration waited for its boundary, one statement that
+-- is all of the block tells what can be told where nothing runs beside it
+pub record TellsAloneBy (v u : View) (r : Registrar) (x : Lane) : Type 0 where
+  pub closed : AllOf NamesNone x.items
+  pub only : (end : ℕ) → HasEnd v end → r.waiting ≡ None → TellsOnly v u end x.works x.items
+
+abbrev pub TellsAlone : View → View → Registrar → List Lane → Type 0
+TellsAlone v u r lanes = (x : Lane) → lanes ≡ x ∷ [] → TellsAloneBy v u r x
 
 -- no lane has a pass
 abbrev pub AreVacant : List Lane → Type 0

@@ -4,14 +4,13 @@ ghost use Rattle.std.specs.Prelude.{◌≡◌, ◌⊎◌, ◌≤◌, ◌<◌, �
 ghost use Rattle.std.specs.Thread.{IsSync};
 ghost use Rattle.fish_lanes.specs.Blocks.{At, AreDone, AreEnded, AreJoined, AreKept, AreLanes, AreReady, AreSeated, CanGive, CanTake};
 ghost use Rattle.fish_lanes.specs.Blocks.{HasGiven, HasRegistered, HasRunFirst, HasSeat, HasTaken, HasTakenAll, IsBlockSpan, IsFirst};
-ghost use Rattle.fish_lanes.specs.Blocks.{AreVacant, IsMarkItem, IsNewLane, NameMarks, TellsAlone, TellsBlock, TellsFirst};
+ghost use Rattle.fish_lanes.specs.Blocks.{AreVacant, IsMarkItem, IsNewLane, NameMarks, TellsAlone, TellsAloneBy, TellsBlock, TellsFirst};
 ghost use Rattle.fish_lanes.specs.Blocks.{IsFullIn, TellsOthers, TellsShutBy, WasTaken, WereTaken};
 ghost use Rattle.fish_lanes.specs.Closing.{Later, Will};
 ghost use Rattle.fish_lanes.specs.Controlling.{CanControl};
 ghost use Rattle.fish_lanes.specs.Ending.{HasEnd};
 ghost use Rattle.fish_lanes.specs.Registering.{IsAcceptable, KnowsRegistry, registry_of};
 ghost use Rattle.fish_lanes.specs.Running.{CanBegin, HasDone, HasRun, IsEnded, IsFree, IsReady};
-ghost use Rattle.fish_lanes.specs.Single.{TellsOnly};
 ghost use Rattle.fish_lanes.specs.Sizes.{TellsClaim};
 ghost use Rattle.fish_lanes.specs.Spans.{Span};
 ghost use Rattle.fish_lanes.specs.declared.work.LaneFault.TheVariants as cause;
@@ -226,7 +225,7 @@ fn run_lanes<R: Threads + Sync>(
     ensures told { (s : Span) → IsBlockSpan (view main.old) (view main.new) result.to s → (s.from ≤ s.to)
         × Will (view main.new) (TellsFirst s first.new) × Will (view main.new) (TellsOthers s others.new) }
     ensures registered { HasRegistered (view main.old) (view main.new) registrar.old registrar.new first.new result }
-    ensures only { others.old ≡ [] → TellsOnly (view main.old) (view main.new) first.new.works first.new.items }
+    ensures alone { others.old ≡ [] → TellsAloneBy (view main.old) (view main.new) registrar.old first.new }
     ensures first_ended { IsEnded first.new.works first.new.items first.new.fault }
     ensures others_ended { AreEnded others.new }
     ensures shuts { first.new.fault ≡ cause.None → At (λ i x. x.fault ≡ cause.None) others.new
@@ -275,7 +274,7 @@ pub fn run_block<R: Threads + Sync>(
         × Will (view main.new) (λ v log. TellsBlock v s log lanes.new) }
     ensures registered { (x : Lane) → slice_get lanes.new 0 ≡ Some x
         → HasRegistered (view main.old) (view main.new) registrar.old registrar.new x result }
-    ensures alone { TellsAlone (view main.old) (view main.new) lanes.new }
+    ensures alone { TellsAlone (view main.old) (view main.new) registrar.old lanes.new }
     ensures ended { AreEnded lanes.new }
     ensures marks { NameMarks (view main.new) lanes.new }
     ensures shuts { TellsShutBy (view main.old) (view main.new) lanes.new }

@@ -2,9 +2,9 @@
 use Rattle.std.proofs.Common.{◌≡◌, [], ◌∷◌, ◌++◌, All, List, Some, get_or, set, slice_get, sym, subst}
 use Rattle.fish_lanes.proofs.Firsts.{alone_first, ended_both, first_acceptable, first_new, first_there, marks_both, others_new}
 use Rattle.fish_lanes.proofs.Firsts.{shuts_both, tells_both, vacant_both}
-use Rattle.fish_lanes.specs.Blocks.{AreEnded, AreVacant, CanGive, HasRegistered, IsNewLane, NameMarks, TellsBlock, TellsShutBy}
+use Rattle.fish_lanes.specs.Blocks.{AreEnded, AreVacant, CanGive, HasRegistered, IsNewLane, NameMarks, TellsAloneBy, TellsBlock}
+use Rattle.fish_lanes.specs.Blocks.{TellsShutBy}
 use Rattle.fish_lanes.specs.Registering.{IsAcceptable}
-use Rattle.fish_lanes.specs.Single.{TellsOnly}
 use Rattle.fish_lanes.specs.declared.lane.Lane.{Lane}
 use Rattle.fish_rule.specs.Passes.{view}
 use Rattle.fish_lanes.proofs.block.run_block.Goals as goal
@@ -61,9 +61,9 @@ returns-clause-registered g c x at =
 
 pub returns-clause-alone : goal.returns-clause-alone
 returns-clause-alone g c x is =
-    alone_first (λ (z : Lane). TellsOnly (view c.args.main.now) (view c.run_lanes.new.main) z.works z.items) c.run_lanes.new.first
-    c.args.lanes.now c.split_at_mut-first.result.1.now c.run_lanes.new.others c.requires.lanes c.run_lanes.auto.others
-    c.run_lanes.ensures.only x
+    alone_first (TellsAloneBy (view c.args.main.now) (view c.run_lanes.new.main) c.args.registrar.now) c.run_lanes.new.first c.args.lanes.now
+    c.split_at_mut-first.result.1.now c.run_lanes.new.others c.requires.lanes c.run_lanes.auto.others
+    c.run_lanes.ensures.alone x
     (subst (λ (z : List Lane). set z 0 c.run_lanes.new.first ++ c.run_lanes.new.others ≡ x ∷ []) c.split_at_mut-first.ensures.front is)
 
 pub returns-clause-vacant : goal.returns-clause-vacant

@@ -1,16 +1,18 @@
 -- The block from its start to its end.
-use Rattle.std.proofs.Common.{◌≡◌, ◌∙◌, ap, get_or, arith, length, Some, slice_get}
+use Rattle.std.proofs.Common.{◌≡◌, ◌∙◌, ap, get_or, arith, length, Some, slice_get, subst, sym}
 use Rattle.std.proofs.lemmas.Option.{slice_get-get_or}
 use Rattle.fish_lanes.proofs.Course.{first_ended, first_marks, get_there, has_end, is_later, kept_at, may_join, shut_by, vacant_at}
 use Rattle.fish_lanes.proofs.Course.{counted_from, few_behind, others_ended, others_marks, tells_first, tells_others, within}
 use Rattle.fish_lanes.specs.Blocks.{HasRegistered}
 use Rattle.fish_lanes.specs.Ending.{HasEnd}
 use Rattle.fish_rule.specs.declared.view.Key.{Key}
-use Rattle.fish_lanes.proofs.Ends.{alone_changes, closes_end, end_knows, end_start, given_known, given_knows, registered_end}
+use Rattle.fish_lanes.proofs.Ends.{closes_end, end_knows, end_start, given_known, given_knows, registered_end}
 use Rattle.fish_lanes.proofs.Ends.{taken_alone, taken_knows, taken_start}
 use Rattle.fish_lanes.proofs.Lanes.{seated_ready}
-use Rattle.fish_lanes.proofs.Single.{only_end}
+use Rattle.fish_lanes.proofs.Single.{alone_changes, only_end}
 use Rattle.fish_rule.specs.Passes.{view}
+use Rattle.fish_rule.specs.Reading.{IsAlone}
+use Rattle.fish_rule.specs.declared.view.View.{View}
 use Rattle.fish_lanes.proofs.block.run_lanes.Goals as goal
 
 pub run_all-requires-clause-ready : goal.run_all-requires-clause-ready
@@ -78,16 +80,22 @@ returns-clause-vacant g c =
     c.give_all.auto.lanes c.run_all.auto.others
     c.take_all.ensures.lanes c.take_all.auto.lanes
 
-pub returns-clause-only : goal.returns-clause-only
-returns-clause-only g c none =
+pub returns-clause-alone : goal.returns-clause-alone
+returns-clause-alone g c none =
     let none_here : length c.args.others.now ≡ 0 = ap length none in
-    let given = c.give_all.auto.lanes in
+    let before = c.give_all.auto.lanes in
     let done = c.run_all.auto.others in
-    only_end (view c.args.main.now) (view c.give_all.new.main) (view c.run_all.new.main) (view c.take_all.new.main)
-    (view c.find_last-bound.new.pass) (view c.settle-to.new.pass) c.args.first.now.works c.run_all.new.first.works
-    c.run_all.new.first.items (c.give_all.ensures.given.none none_here)
-    (c.take_all.ensures.taken.none (let e = none_here in omega arith)) c.find_last-bound.ensures.changes c.settle-to.ensures.settles
-    c.run_all.ensures.run.works c.run_all.ensures.run.controlled.only
+    let given = c.give_all.ensures.given.none none_here in
+    let controlled = c.run_all.ensures.run.controlled in
+    record {
+      closed = controlled.closed (subst IsAlone (sym given) c.requires.end.1.alone);
+      only = λ end e wait. only_end (view c.args.main.now) (view c.give_all.new.main) (view c.run_all.new.main)
+          (view c.take_all.new.main) (view c.find_last-bound.new.pass) (view c.settle-to.new.pass) end c.args.first.now.works
+          c.run_all.new.first.works c.run_all.new.first.items given
+          (c.take_all.ensures.taken.none (let e = none_here in omega arith)) c.find_last-bound.ensures.changes
+          c.settle-to.ensures.settles c.run_all.ensures.run.works
+          (controlled.only end (subst (λ (z : View). HasEnd z end) (sym given) e) wait);
+    }
 
 pub returns-clause-told : goal.returns-clause-told
 returns-clause-told g c k span = (
