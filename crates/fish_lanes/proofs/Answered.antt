@@ -213,7 +213,7 @@ plan_full v u rows text way from settled to plan h is =
     subst (λ (z : How). IsPlan v u rows text z from settled to plan) is h
 
 -- a plan of one full piece has none by an index
-no_index : (from to place id begin end : ℕ) (b : Bool)
+pub no_index : (from to place id begin end : ℕ) (b : Bool)
     → ¬ (slice_get (cond b (Full from to ∷ []) []) place ≡ Some (Index id begin end))
 no_index from to zero id begin end true at = cc
 no_index from to (suc n) id begin end true at = cc

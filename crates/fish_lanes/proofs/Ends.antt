@@ -4,7 +4,7 @@ use Rattle.std.proofs.Common.{append-nil, Option, Some, None, map}
 use Rattle.fish_catalog.specs.Listing.{listed_of}
 use Rattle.fish_ingest.specs.Ingestion.{CanStart}
 use Rattle.fish_lanes.proofs.Controls.{after_more, are_so_wide, each_last, each_later, each_more, so_more, so_wide}
-use Rattle.fish_lanes.proofs.Course.{Closes, learns_same}
+use Rattle.fish_lanes.proofs.Moments.{Closes, learns_same}
 use Rattle.fish_lanes.proofs.Keeping.{keeps_settles}
 use Rattle.fish_lanes.proofs.Lanes.{none_out}
 use Rattle.fish_lanes.proofs.Registrations.{knows_kept, registry_later, registry_same}

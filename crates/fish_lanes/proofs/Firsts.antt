@@ -3,10 +3,14 @@ use Rattle.std.proofs.Common.{◌≡◌, ℕ, ◌+◌, zero, suc, List, [], ◌�
 use Rattle.std.proofs.Common.{◌∙◌, ◌⊎◌, ⊎_elim, None, ap, inl, inr, length}
 use Rattle.std.specs.Prelude.{All}
 use Rattle.fish_catalog.specs.declared.entry.Entry.{Entry}
+use Rattle.fish_catalog.specs.declared.row.CatRow.{CatRow}
 use Rattle.fish_lanes.proofs.Lists.{some_once}
-use Rattle.fish_lanes.specs.Blocks.{AreEnded, AreLanes, AreVacant, CanGive, IsMarkItem, IsNewLane, NameMarks, TellsFirst}
-use Rattle.fish_lanes.specs.Blocks.{At, IsFullIn, TellsOthers, TellsShutBy}
+use Rattle.fish_lanes.specs.Blocks.{AreEnded, AreLanes, CanGive, IsMarkItem, IsNewLane, NameMarks, TellsFirst}
+use Rattle.fish_lanes.specs.Outcome.{AreVacant}
+use Rattle.fish_lanes.specs.Blocks.{At, TellsOthers}
+use Rattle.fish_lanes.specs.Outcome.{IsFullIn, PlansAreBegun, TellsShutBy}
 use Rattle.fish_lanes.specs.Ending.{HasEnd}
+use Rattle.fish_lanes.specs.Plans.{IsBegunItem}
 use Rattle.fish_lanes.specs.Records.{rows_of_lane}
 use Rattle.fish_lanes.specs.Registering.{IsAcceptable}
 use Rattle.fish_lanes.specs.Running.{IsEnded}
@@ -129,3 +133,11 @@ shuts_both v t x (y ∷ lanes) others h by none c e =
       refused = q.refused;
       among = q.among;
     })) k) (by (none 0 x refl) (λ i z at. none (suc i) z at) c e)
+
+-- the plans of all of them begin where the rows do
+pub begun_both : (rows : List CatRow) (x : Lane) (lanes others : List Lane) → AreLanes lanes → AllOf (IsBegunItem rows) x.items
+    → PlansAreBegun rows others → PlansAreBegun rows (set (take 1 lanes) 0 x ++ others)
+begun_both rows x [] others h first rest i z at = (let some_ = h.some in absurd (omega arith))
+begun_both rows x (y ∷ lanes) others h first rest zero z at =
+    subst (λ (w : Lane). AllOf (IsBegunItem rows) w.items) (some_once x z at) first
+begun_both rows x (y ∷ lanes) others h first rest (suc i) z at = rest i z at

@@ -15,6 +15,8 @@ pub mod Keeping
 pub mod Lanes
 pub mod Lists
 pub mod Logs
+pub mod Moments
+pub mod Plans
 pub mod Publishing
 pub mod Parts
 pub mod Registrations

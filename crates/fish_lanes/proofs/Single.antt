@@ -14,7 +14,7 @@ use Rattle.fish_lanes.specs.Records.{LaneRow}
 use Rattle.fish_lanes.specs.Registering.{IsDeregisterItem}
 use Rattle.fish_lanes.specs.Running.{IsFree}
 use Rattle.fish_lanes.specs.Single.{IsCauseAt, IsCauseTold, IsNamedAt, IsPlanAt, IsPlanTold, IsScanWork, IsWhole, NamesNone, TellsOnly}
-use Rattle.fish_lanes.specs.Single.{TellsSingle}
+use Rattle.fish_lanes.specs.Single.{TellsSingle, TellsWhole}
 use Rattle.fish_lanes.specs.Spans.{answers}
 use Rattle.fish_lanes.specs.declared.work.Work.{Work}
 use Rattle.fish_lanes.specs.declared.work.Work.TheVariants as work
@@ -308,3 +308,21 @@ only_end v m w u p t end works after items given taken changes settles same h on
     let learns : Learns w t = learns_both w p t (subst (λ (z : View). Learns z p) taken (learns_changes u p changes)) settles.learns in
     singles_later v w t end learns (settles.loads ∙ changes.loads ∙ ap (λ (z : View). z.clock.loads) taken) one (answers items)
     (subst (λ (z : View). AllOf (TellsSingle z w end one) (answers items)) given (h one (sym same ∙ is)))
+
+-- ---- without the pass
+
+-- the range is whole
+single_whole : (v u : View) (end : ℕ) (w : Work) (x : Item) → TellsSingle v u end w x → TellsWhole end w x
+single_whole v u end (work.Scan ask) x (inl h) = subst (TellsWhole end (work.Scan ask)) (sym h.is) h.plan.whole
+single_whole v u end (work.Scan ask) x (inr h) = subst (TellsWhole end (work.Scan ask)) (sym h.is) tt
+single_whole v u end (work.Explain ask) x (inl h) = subst (TellsWhole end (work.Explain ask)) (sym h.is) h.plan.whole
+single_whole v u end (work.Explain ask) x (inr h) = subst (TellsWhole end (work.Explain ask)) (sym h.is) tt
+single_whole v u end (work.Register name def) x h = tt
+single_whole v u end (work.Deregister name) x h = tt
+single_whole v u end (work.Ingest form header name file) x h = tt
+single_whole v u end work.Checkpoint x h = tt
+
+pub singles_whole : (v u : View) (end : ℕ) (w : Work) (items : List Item) → AllOf (TellsSingle v u end w) items
+    → AllOf (TellsWhole end w) items
+singles_whole v u end w [] h = tt
+singles_whole v u end w (x ∷ items) h = (single_whole v u end w x h.0, singles_whole v u end w items h.1)

@@ -1,5 +1,5 @@
 -- The lanes of a block: how the control pass gives each its pass, what they do, and how it takes the passes back.
-use Rattle.std.specs.Prelude.{ℕ, ◌≡◌, ◌⊎◌, ◌+◌, ◌++◌, ◌<◌, ◌≤◌, List, [], ◌∷◌, All, length, slice_get, slice_index_or, Some, None}
+use Rattle.std.specs.Prelude.{ℕ, ◌≡◌, ◌⊎◌, ◌+◌, ◌++◌, ◌<◌, ◌≤◌, List, [], All, length, slice_get, slice_index_or, Some, None}
 use Rattle.fish_catalog.specs.declared.entry.Entry.{Entry}
 use Rattle.fish_lanes.specs.Controlling.{HasControlled, bound_items}
 use Rattle.fish_lanes.specs.Ending.{HasEnd}
@@ -9,7 +9,6 @@ use Rattle.fish_registry.specs.declared.registrar.Registrar.{Registrar}
 use Rattle.fish_lanes.specs.Records.{rows_of_lane}
 use Rattle.fish_lanes.specs.Registering.{AreSo, IsAcceptable, KeepsRegistry, KnowsEach, KnowsRegistry, after_all, registry_of}
 use Rattle.fish_lanes.specs.Running.{CanBegin, HasDone, IsEnded, IsFree, IsReady}
-use Rattle.fish_lanes.specs.Single.{NamesNone, TellsOnly}
 use Rattle.fish_lanes.specs.Spans.{Span}
 use Rattle.fish_lanes.specs.Telling.{TellsLane}
 use Rattle.fish_lanes.specs.declared.lane.Lane.{Lane}
@@ -242,21 +241,6 @@ pub record HasRegistered (v t : View) (r s : Registrar) (x : Lane) (end : BlockE
   pub each : x.fault ≡ cause.None → KnowsEach t (registry_of v r) (control_items x end)
   pub settled : s.waiting ≡ None
 
--- an item of some lane was refused by this claim
-pub record IsFullIn (lanes : List Lane) (line lines end : ℕ) : Type 0 where
-  pub at : ℕ
-  pub lane : Lane
-  pub lane_is : slice_get lanes at ≡ Some lane
-  pub file : List ℕ
-  pub stored : ℕ
-  pub refused : ℕ
-  pub among : Among (item.IngestFull file line lines end stored refused) lane.items
-
--- what shuts the control pass behind the block did so before, or an item of a lane tells of it; unless one stopped at a fault
-abbrev pub TellsShutBy : View → View → List Lane → Type 0
-TellsShutBy v u lanes = At (λ i x. x.fault ≡ cause.None) lanes → (c : Shut) → u.shut ≡ Some c
-    → (v.shut ≡ Some c) ⊎ IsFullIn lanes c.line c.lines c.end
-
 -- an item that was refused since the log is full names a mark, and the log's end
 abbrev pub IsMarkItem : View → Item → Type 0
 IsMarkItem u x = (file : List ℕ) (line lines end stored refused : ℕ) → x ≡ item.IngestFull file line lines end stored refused
@@ -268,19 +252,6 @@ AreEnded lanes = At (λ i x. IsEnded x.works x.items x.fault) lanes
 
 abbrev pub NameMarks : View → List Lane → Type 0
 NameMarks u lanes = At (λ i x. AllOf (IsMarkItem u) x.items) lanes
-
--- the items of a block of one lane name no open number and no other lane; and where no registration waited for its boundary, one statement that
--- is all of the block tells what can be told where nothing runs beside it
-pub record TellsAloneBy (v u : View) (r : Registrar) (x : Lane) : Type 0 where
-  pub closed : AllOf NamesNone x.items
-  pub only : (end : ℕ) → HasEnd v end → r.waiting ≡ None → TellsOnly v u end x.works x.items
-
-abbrev pub TellsAlone : View → View → Registrar → List Lane → Type 0
-TellsAlone v u r lanes = (x : Lane) → lanes ≡ x ∷ [] → TellsAloneBy v u r x
-
--- no lane has a pass
-abbrev pub AreVacant : List Lane → Type 0
-AreVacant lanes = At (λ i x. x.seat ≡ None) lanes
 
 -- the lanes keep their numbers and statements
 abbrev pub AreKept : List Lane → List Lane → Type 0

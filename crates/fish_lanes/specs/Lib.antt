@@ -5,6 +5,8 @@ pub mod Doing
 pub mod Ending
 pub mod Gains
 pub mod Loading
+pub mod Outcome
+pub mod Plans
 pub mod Published
 pub mod Records
 pub mod Registering

@@ -3,6 +3,7 @@ use Rattle.std.specs.Prelude.{ℕ, ◌≡◌, ◌≢◌, ◌<◌, All, List, [],
 use Rattle.fish_ingest.specs.Ingestion.{CanStart}
 use Rattle.fish_lanes.specs.Closing.{Sure}
 use Rattle.fish_lanes.specs.Gains.{Gains, IsFullBy}
+use Rattle.fish_lanes.specs.Plans.{IsKnownBegun}
 use Rattle.fish_lanes.specs.Records.{LaneRow}
 use Rattle.fish_lanes.specs.Sizes.{TellsShut}
 use Rattle.fish_lanes.specs.Spans.{IsWithinSpan, Span, answers}
@@ -43,6 +44,7 @@ pub record HasRun (v u : View) (works : List Work) (items : List Item) (fault : 
   pub gains : Gains v u rows
   pub tells : (s : Span) → IsWithinSpan v u s → s.full ≡ v.shut → Sure u (λ x log. TellsLane x s log rows works items)
   pub full : AllOf (IsFullItem u) items
+  pub begun : AllOf (IsKnownBegun u) items
   pub ended : IsEnded works items fault
   pub shuts : fault ≡ cause.None → TellsShut v u items
 

@@ -99,3 +99,11 @@ TellsSingle v u end w x = ⊤
 -- where one statement is all that was to do, its item
 abbrev pub TellsOnly : View → View → ℕ → List Work → List Item → Type 0
 TellsOnly v u end works items = (w : Work) → works ≡ w ∷ [] → AllOf (TellsSingle v u end w) (answers items)
+
+-- ---- without the pass
+
+-- the range that an item tells of is all that is asked for of a log that ends at this number
+abbrev pub TellsWhole : ℕ → Work → Item → Type 0
+TellsWhole end (work.Scan ask) (item.Scanned name value from to opens rows version) = IsWhole ask end from to
+TellsWhole end (work.Explain ask) (item.Explained name value from to plan version) = IsWhole ask end from to
+TellsWhole end w x = ⊤

@@ -4,11 +4,14 @@ ghost use Rattle.std.specs.Prelude.{◌≡◌, ◌⊎◌, ◌≤◌, ◌<◌, �
 ghost use Rattle.std.specs.Thread.{IsSync};
 ghost use Rattle.fish_lanes.specs.Blocks.{At, AreDone, AreEnded, AreJoined, AreKept, AreLanes, AreReady, AreSeated, CanGive, CanTake};
 ghost use Rattle.fish_lanes.specs.Blocks.{HasGiven, HasRegistered, HasRunFirst, HasSeat, HasTaken, HasTakenAll, IsBlockSpan, IsFirst};
-ghost use Rattle.fish_lanes.specs.Blocks.{AreVacant, IsMarkItem, IsNewLane, NameMarks, TellsAlone, TellsAloneBy, TellsBlock, TellsFirst};
-ghost use Rattle.fish_lanes.specs.Blocks.{IsFullIn, TellsOthers, TellsShutBy, WasTaken, WereTaken};
+ghost use Rattle.fish_lanes.specs.Blocks.{IsMarkItem, IsNewLane, NameMarks, TellsBlock, TellsFirst};
+ghost use Rattle.fish_lanes.specs.Outcome.{AreVacant, TellsAlone, TellsAloneBy};
+ghost use Rattle.fish_lanes.specs.Blocks.{TellsOthers, WasTaken, WereTaken};
+ghost use Rattle.fish_lanes.specs.Outcome.{IsFullIn, PlansAreBegun, TellsShutBy};
 ghost use Rattle.fish_lanes.specs.Closing.{Later, Will};
 ghost use Rattle.fish_lanes.specs.Controlling.{CanControl};
 ghost use Rattle.fish_lanes.specs.Ending.{HasEnd};
+ghost use Rattle.fish_lanes.specs.Plans.{IsBegunItem};
 ghost use Rattle.fish_lanes.specs.Registering.{IsAcceptable, KnowsRegistry, registry_of};
 ghost use Rattle.fish_lanes.specs.Running.{CanBegin, HasDone, HasRun, IsEnded, IsFree, IsReady};
 ghost use Rattle.fish_lanes.specs.Sizes.{TellsClaim};
@@ -231,6 +234,8 @@ fn run_lanes<R: Threads + Sync>(
     ensures shuts { first.new.fault ≡ cause.None → At (λ i x. x.fault ≡ cause.None) others.new
         → (c : Shut) → (view main.new).shut ≡ Some c → ((view main.old).shut ≡ Some c)
         ⊎ (TellsClaim c first.new.items ⊎ IsFullIn others.new c.line c.lines c.end) }
+    ensures first_begun { AllOf (IsBegunItem registrar.new.catalog) first.new.items }
+    ensures others_begun { PlansAreBegun registrar.new.catalog others.new }
     ensures first_marks { AllOf (IsMarkItem (view main.new)) first.new.items }
     ensures others_marks { NameMarks (view main.new) others.new }
 {
@@ -277,6 +282,7 @@ pub fn run_block<R: Threads + Sync>(
     ensures alone { TellsAlone (view main.old) (view main.new) registrar.old lanes.new }
     ensures ended { AreEnded lanes.new }
     ensures marks { NameMarks (view main.new) lanes.new }
+    ensures begun { PlansAreBegun registrar.new.catalog lanes.new }
     ensures shuts { TellsShutBy (view main.old) (view main.new) lanes.new }
 {
     let (first, others) = lanes.split_at_mut(1);
