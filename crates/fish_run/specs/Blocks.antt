@@ -1,13 +1,16 @@
 -- What the blocks of a run tell of the one log that is left.
 use Rattle.std.specs.Prelude.{ℕ, ◌≡◌, ◌≤◌, ◌+◌, List, [], ◌∷◌, ◌++◌, Bool, IfSome, Option, Some, None, ⊤}
 use Rattle.fish_catalog.specs.declared.entry.Entry.{Entry}
-use Rattle.fish_lanes.specs.Blocks.{AreEnded, IsFullIn, NameMarks, TellsBlock, control_items}
+use Rattle.fish_lanes.specs.Blocks.{AreEnded, NameMarks, TellsBlock, control_items}
+use Rattle.fish_lanes.specs.Outcome.{IsFullIn, PlansAreBegun}
 use Rattle.fish_lanes.specs.Registering.{AreSo, KnowsEach, Registry, after_all}
-use Rattle.fish_lanes.specs.Spans.{Span}
+use Rattle.fish_lanes.specs.Single.{NamesNone, TellsWhole}
+use Rattle.fish_lanes.specs.Spans.{Span, answers}
 use Rattle.fish_lanes.specs.declared.block.BlockEnd.{BlockEnd}
 use Rattle.fish_lanes.specs.declared.lane.Lane.{Lane}
+use Rattle.fish_lanes.specs.declared.work.Work.{Work}
 use Rattle.fish_report.specs.declared.item.Item.{Item}
-use Rattle.fish_rule.specs.Views.{Among}
+use Rattle.fish_rule.specs.Views.{AllOf, Among}
 use Rattle.fish_rule.specs.declared.view.Shut.{Shut}
 use Rattle.fish_rule.specs.declared.view.View.{View}
 
@@ -62,6 +65,12 @@ AreFullSince earlier (b ∷ blocks) = IsFullSince earlier b × AreFullSince (ear
 
 -- ---- what blocks tell
 
+-- what a block of one lane tells besides, where the log has so many numbers before it: its items name no open number, and no lane
+-- for which a registration waits; and where one statement is all of the block, its range is all that was asked for of that log
+pub record TellsOneLane (from : ℕ) (x : Lane) : Type 0 where
+  pub none : AllOf NamesNone x.items
+  pub whole : (w : Work) → x.works ≡ w ∷ [] → AllOf (TellsWhole from w) (answers x.items)
+
 -- what a block tells that begins where the log has so many numbers and the registry is this, even one in which a lane
 -- stopped at a fault: its lanes' items are so of the log, and where a statement has no item, neither have those behind it
 pub record TellsPart (v : View) (log : List Entry) (from : ℕ) (r : Registry) (b : Block) : Type 0 where
@@ -72,13 +81,16 @@ pub record TellsPart (v : View) (log : List Entry) (from : ℕ) (r : Registry) (
   pub lanes : TellsBlock v b.span log b.lanes
   pub registers : AreSo b.span.from (b.span.to + 16) r (first_items b.lanes)
   pub ended : AreEnded b.lanes
+  pub alone : (x : Lane) → b.lanes ≡ x ∷ [] → TellsOneLane from x
 
--- what one tells in which none did: besides, the definitions at each version are those that its first lane's items tell
+-- what one tells in which none did: besides, the definitions at each version are those that its first lane's items tell, and the
+-- pieces by an index of each plan begin where the rows behind the block do
 pub record TellsOne (v : View) (log : List Entry) (from : ℕ) (r : Registry) (b : Block) : Type 0 where
   pub part : TellsPart v log from r b
   pub registers : AreSo b.span.from (b.span.to + 16) r (block_controls b)
   pub knows : KnowsEach v r (block_controls b)
   pub last : b.span.last ≡ (behind_block r b).version
+  pub plans : PlansAreBegun (behind_block r b).rows b.lanes
 
 -- what blocks tell: each begins where the one in front of it ended, with the definitions that it left; the last one ends here
 abbrev pub TellsBlocks : View → List Entry → ℕ → Registry → List Block → ℕ → Type 0

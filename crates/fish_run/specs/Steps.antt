@@ -1,6 +1,7 @@
 -- What the steps of a run leave. Private clauses speak of it.
 use Rattle.std.specs.Prelude.{ℕ, ◌≡◌, ◌≢◌, ◌⊎◌, ◌||◌, ◌<◌, ◌≤◌, List, [], ◌∷◌, Bool, Option, Some, None, Result, Ok, Err, IfSome, length, slice_get}
-use Rattle.fish_lanes.specs.Blocks.{AreEnded, HasRegistered, IsBlockSpan, IsFullIn, NameMarks, TellsBlock, TellsShutBy}
+use Rattle.fish_lanes.specs.Blocks.{AreEnded, HasRegistered, IsBlockSpan, NameMarks, TellsBlock}
+use Rattle.fish_lanes.specs.Outcome.{IsFullIn, PlansAreBegun, TellsShutBy}
 use Rattle.fish_lanes.specs.Closing.{Will}
 use Rattle.fish_lanes.specs.Ending.{HasEnd}
 use Rattle.fish_lanes.specs.Registering.{Registry}
@@ -15,7 +16,8 @@ use Rattle.fish_report.specs.declared.item.Item.{Item}
 use Rattle.fish_report.specs.declared.item.Item.TheVariants as item
 use Rattle.fish_rule.specs.declared.view.Shut.{Shut}
 use Rattle.fish_rule.specs.declared.view.View.{View}
-use Rattle.fish_run.specs.Blocks.{AreFullSince, AreMarked, Block, IsFullOf, TellsBlocks, TellsOne, TellsPart, TellsRun, behind_block, behind_blocks, no_registry}
+use Rattle.fish_run.specs.Blocks.{AreFullSince, AreMarked, Block, IsFullOf, TellsBlocks, TellsOne, TellsOneLane, TellsPart}
+use Rattle.fish_run.specs.Blocks.{TellsRun, behind_block, behind_blocks, no_registry}
 use Rattle.fish_run.specs.Ran.{AreFirst, IsBlockOf, IsNextOf}
 use Rattle.fish_run.specs.Reports.{are_refused, block_items, lanes_refused, report_of}
 use Rattle.fish_run.specs.Works.{AreNumbered, IsLaneOf, Pairs}
@@ -66,7 +68,9 @@ pub record Leaves (told : Option Files) (text : script.Block) (v u : View) (r s 
   pub has : (x : Lane) → slice_get lanes 0 ≡ Some x → HasRegistered v u r s x end
   pub ended : AreEnded lanes
   pub marks : NameMarks u lanes
+  pub alone : (x : Lane) → lanes ≡ x ∷ [] → TellsOneLane from x
   pub shuts : TellsShutBy v u lanes
+  pub begun : PlansAreBegun s.catalog lanes
 
 -- no lane stopped at a fault
 abbrev pub AreWhole : List Lane → Type 0

@@ -16,7 +16,7 @@ use Rattle.fish_run.proofs.running.run_blocks.Goals as goal
 pub loop-block-init : goal.loop-block-init
 loop-block-init g c = record {
   go = go_first c.args.log.now c.args.main.now c.new-registrar.result c.requires.new
-      (c.new-registrar.ensures.rows ∙ c.new.ensures) c.new-registrar.ensures.knows;
+      (c.new-registrar.ensures.rows ∙ c.new.ensures) c.new-registrar.ensures.settled c.new-registrar.ensures.knows;
   writes = writes_first (g.H.Host.files c.args.host.now) (view c.args.main.now) (registry_of (view c.args.main.now) c.new-registrar.result)
       (g.W.Sink.written c.args.out.now) (g.W.Sink.written c.write_items.new.out) c.args.refused.now
       (registry_first c.args.log.now c.args.main.now c.new-registrar.result c.requires.new
