@@ -1,15 +1,14 @@
 -- One statement more, a step between two statements, and the end of a lane's statements.
-use Rattle.std.proofs.Common.{◌≡◌, ℕ, ◌+◌, ◌<◌, ◌≤◌, List, [], ◌∷◌, ◌++◌, length, take, refl, sym, ap, ◌∙◌, subst, inl, inr, ◌⊎◌}
+use Rattle.std.proofs.Common.{◌≡◌, ℕ, ◌+◌, ◌≤◌, List, [], ◌∷◌, ◌++◌, take, refl, sym, ap, ◌∙◌, subst, inl, inr, ◌⊎◌}
 use Rattle.std.proofs.Common.{⊎_elim, arith, length-append, append-nil, true, false, Bool}
-use Rattle.std.specs.Prelude.{filter}
 use Rattle.fish_lanes.proofs.Claims.{shuts_answers, shuts_more}
 use Rattle.fish_lanes.proofs.Done.{HasTold, item_told}
 use Rattle.fish_lanes.proofs.Gaining.{full_later, gains_both}
 use Rattle.fish_lanes.proofs.Lists.{filter_first, filter_last, filter_other, filter_skip}
-use Rattle.fish_lanes.proofs.Items.{TellsAll, behind_all, behind_is, made, made_append, shown_in, tells_cut, tells_ended, tells_more}
+use Rattle.fish_lanes.proofs.Items.{TellsAll, behind_is, made_append, shown_in, tells_cut, tells_ended, tells_more}
 use Rattle.fish_lanes.proofs.Plans.{all_begun_later, begun_answers, begun_more, fit_begun}
 use Rattle.fish_lanes.proofs.Publishing.{published_later}
-use Rattle.fish_lanes.proofs.Showing.{fit_answer, full_fit, item_settles, item_shown}
+use Rattle.fish_lanes.proofs.Showing.{full_fit, item_settles, item_shown}
 use Rattle.fish_lanes.proofs.Surely.{sure_later}
 use Rattle.fish_lanes.specs.Doing.{IsFit}
 use Rattle.fish_lanes.specs.Gains.{Gains, KeepsShut}
@@ -22,7 +21,6 @@ use Rattle.fish_lanes.specs.Telling.{TellsItem, content_of, count_of}
 use Rattle.fish_lanes.specs.declared.work.LaneFault.TheVariants as fault
 use Rattle.fish_lanes.specs.declared.work.Work.{Work}
 use Rattle.fish_report.specs.declared.item.Item.{Item}
-use Rattle.fish_report.specs.declared.item.Item.TheVariants as item
 use Rattle.fish_rule.proofs.Common.{among_either, among_left, among_right}
 use Rattle.fish_rule.specs.Logs.{Learns}
 use Rattle.fish_rule.specs.Views.{AllOf, Among}

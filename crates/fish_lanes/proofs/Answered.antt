@@ -1,5 +1,5 @@
 -- What a scan or a plan of one answers is told of the one log.
-use Rattle.std.proofs.Common.{◌≡◌, ℕ, ◌+◌, ◌<◌, ◌≤◌, zero, suc, List, [], ◌∷◌, length, map, refl, sym, ap, ◌∙◌, subst, inl, inr}
+use Rattle.std.proofs.Common.{◌≡◌, ℕ, ◌<◌, ◌≤◌, zero, suc, List, [], ◌∷◌, length, map, refl, sym, ap, ◌∙◌, subst, inl, inr}
 use Rattle.std.proofs.Common.{◌⊎◌, ⊎_elim, arith, Option, Some, None, Result, Ok, Err, slice_get, cond, nat_lt, true, false, Bool}
 use Rattle.std.specs.Prelude.{IfOk}
 use Rattle.std.proofs.Math.Decide.{ℕ_discrete}

@@ -1,12 +1,11 @@
 -- Which items tell of the claim that shuts a pass.
-use Rattle.std.proofs.Common.{◌≡◌, List, [], ◌∷◌, ◌++◌, Some, ap, sym, subst, inl, inr, ◌⊎◌, ⊎_elim, Bool, true, false, refl}
+use Rattle.std.proofs.Common.{◌≡◌, List, [], ◌∷◌, ◌++◌, Some, sym, subst, inl, inr, ⊎_elim, Bool, true, false, refl}
 use Rattle.fish_lanes.proofs.Items.{shown_in}
 use Rattle.fish_lanes.proofs.Lists.{filter_first, filter_skip}
-use Rattle.fish_lanes.specs.Seen.{Shown, claimed, shown_by}
+use Rattle.fish_lanes.specs.Seen.{claimed, shown_by}
 use Rattle.fish_lanes.specs.Sizes.{TellsClaim, TellsShut}
 use Rattle.fish_lanes.specs.Spans.{answers, is_answer}
 use Rattle.fish_report.specs.declared.item.Item.{Item}
-use Rattle.fish_report.specs.declared.item.Item.TheVariants as item
 use Rattle.fish_rule.proofs.Common.{among_left, among_right}
 use Rattle.fish_rule.specs.Views.{Among}
 use Rattle.fish_rule.specs.declared.view.Shut.{Shut}

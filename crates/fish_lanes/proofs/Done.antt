@@ -1,6 +1,6 @@
 -- What the statements so far tell, and what one item more tells behind them.
-use Rattle.std.proofs.Common.{◌≡◌, ℕ, ◌+◌, ◌<◌, ◌≤◌, zero, suc, List, [], ◌∷◌, ◌++◌, length, take, drop, get_or, refl}
-use Rattle.std.proofs.Common.{sym, ap, ◌∙◌, subst, inl, inr, ◌⊎◌, ⊎_elim, arith, None, Some}
+use Rattle.std.proofs.Common.{◌≡◌, ℕ, ◌+◌, ◌≤◌, suc, List, [], ◌∷◌, length, refl}
+use Rattle.std.proofs.Common.{ap, ◌∙◌, subst, inl, inr, ◌⊎◌, ⊎_elim, arith, None, Some}
 use Rattle.fish_epoch.proofs.Reading.{knows_later}
 use Rattle.fish_lanes.proofs.Answered.{plan_told, refused_told, scan_told}
 use Rattle.fish_lanes.proofs.Claims.{claim_shown}
@@ -8,14 +8,14 @@ use Rattle.fish_lanes.proofs.Gaining.{gains_self}
 use Rattle.fish_lanes.proofs.Items.{TellsAll, made, shown_in}
 use Rattle.fish_lanes.proofs.Publishing.{published_later, settled_published, told_published}
 use Rattle.fish_lanes.proofs.RowLists.{ascends_le}
-use Rattle.fish_lanes.proofs.Surely.{sure_later, sure_settled}
+use Rattle.fish_lanes.proofs.Surely.{sure_settled}
 use Rattle.fish_lanes.specs.Closing.{Sure}
 use Rattle.fish_lanes.specs.Doing.{IsFit}
 use Rattle.fish_lanes.specs.Gains.{AreTold, Gains}
 use Rattle.fish_lanes.specs.Plans.{IsKnownBegun}
 use Rattle.fish_lanes.specs.Published.{IsPublished}
-use Rattle.fish_lanes.specs.Records.{Ascends, HasNumber, LaneRow, contents, entry_of}
-use Rattle.fish_lanes.specs.Running.{HasRun, IsFullItem}
+use Rattle.fish_lanes.specs.Records.{Ascends, HasNumber, LaneRow, entry_of}
+use Rattle.fish_lanes.specs.Running.{IsFullItem}
 use Rattle.fish_lanes.specs.Seen.{IsSeen, IsShown, Shown, settled}
 use Rattle.fish_lanes.specs.Sizes.{IsEarlier, IsSizeBetween, IsSizeOf, TellsClaim, TellsShut, claim_of}
 use Rattle.fish_lanes.specs.Spans.{IsWithinSpan, Span}

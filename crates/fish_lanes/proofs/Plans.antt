@@ -9,13 +9,12 @@ use Rattle.fish_catalog.specs.declared.listed.Listed.{Listed}
 use Rattle.fish_catalog.specs.declared.row.CatRow.{CatRow}
 use Rattle.fish_lanes.proofs.Answered.{no_index}
 use Rattle.fish_lanes.proofs.Lists.{filter_first, filter_skip, get_some}
-use Rattle.fish_lanes.specs.Doing.{FitsExplained, IsFit}
+use Rattle.fish_lanes.specs.Doing.{IsFit}
 use Rattle.fish_lanes.specs.Plans.{AreKnownBegun, IsBegunItem, IsKnownBegun, KnowsBegin}
 use Rattle.fish_lanes.specs.Spans.{answers, is_answer}
 use Rattle.fish_lanes.specs.declared.work.Work.{Work}
 use Rattle.fish_lanes.specs.declared.work.Work.TheVariants as work
 use Rattle.fish_plan.proofs.Inside.{index_inside, piece_within}
-use Rattle.fish_plan.specs.Pieces.{one_full}
 use Rattle.fish_plan.specs.declared.pieces.Piece.{Piece}
 use Rattle.fish_plan.specs.declared.pieces.Piece.TheVariants.{Index}
 use Rattle.fish_registry.specs.Knowing.{Knows}
@@ -26,8 +25,7 @@ use Rattle.fish_rule.proofs.Common.{all_among}
 use Rattle.fish_rule.specs.Logs.{Learns}
 use Rattle.fish_rule.specs.Registry.{IsRegistered, definitions_at, drafted, row_at, version_in}
 use Rattle.fish_rule.specs.Table.{Stands}
-use Rattle.fish_rule.specs.Views.{AllOf, Among}
-use Rattle.fish_rule.specs.declared.view.RegistryWord.{RegistryWord}
+use Rattle.fish_rule.specs.Views.{AllOf}
 use Rattle.fish_rule.specs.declared.view.View.{View}
 use Rattle.fish_scan.proofs.Lists.{at_among}
 use Rattle.fish_scan.specs.Scans.{IsCovered, IsPlan}

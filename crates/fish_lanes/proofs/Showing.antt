@@ -1,5 +1,5 @@
 -- What an item shows, and what else it says by its kind alone.
-use Rattle.std.proofs.Common.{◌≡◌, ◌<◌, ◌≤◌, ℕ, List, [], ◌∷◌, refl, sym, ap, ◌∙◌, subst, inl, inr, arith, true}
+use Rattle.std.proofs.Common.{◌≡◌, ◌<◌, ◌≤◌, ℕ, List, [], ◌∷◌, refl, sym, ap, subst, inl, inr, arith, true}
 use Rattle.fish_lanes.proofs.Answered.{range_published}
 use Rattle.fish_lanes.proofs.Publishing.{settled_published}
 use Rattle.fish_lanes.specs.Doing.{FitsCheckpoint, FitsScanned, IsFit}

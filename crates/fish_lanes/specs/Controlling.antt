@@ -1,11 +1,11 @@
 -- What one step of the control pass on the definitions tells and leaves. Private clauses speak of it.
-use Rattle.std.specs.Prelude.{ℕ, ◌≡◌, ◌⊎◌, ◌+◌, ◌<◌, ◌≤◌, List, [], ◌∷◌, ◌++◌, Option, Some, None, take}
+use Rattle.std.specs.Prelude.{ℕ, ◌≡◌, ◌⊎◌, ◌<◌, List, [], ◌∷◌, ◌++◌, Option, Some, None, take}
 use Rattle.fish_ingest.specs.Ingestion.{CanStart}
 use Rattle.fish_lanes.specs.Doing.{IsFit}
 use Rattle.fish_lanes.specs.Ending.{HasEnd}
 use Rattle.fish_lanes.specs.Gains.{Gains}
 use Rattle.fish_lanes.specs.Records.{LaneRow, contents}
-use Rattle.fish_lanes.specs.Registering.{AreSo, IsBetween, IsSo, KnowsEach, KnowsRegistry, Registry, after, after_all, bound, registry_of}
+use Rattle.fish_lanes.specs.Registering.{AreSo, IsBetween, IsSo, KnowsEach, KnowsRegistry, after, after_all, bound, registry_of}
 use Rattle.fish_lanes.specs.Running.{HasRun}
 use Rattle.fish_lanes.specs.Single.{NamesNone, TellsOnly}
 use Rattle.fish_lanes.specs.Sizes.{TellsShut}

@@ -1,5 +1,5 @@
 -- How many lines the record of a payload takes, and which claim a refusal by a full log tells of.
-use Rattle.std.specs.Prelude.{ℕ, ◌≡◌, ◌⊎◌, ◌≤◌, List, [], ◌∷◌, Option, Some}
+use Rattle.std.specs.Prelude.{ℕ, ◌≡◌, ◌⊎◌, ◌≤◌, List, Some}
 use Rattle.fish_catalog.specs.Listing.{active_texts}
 use Rattle.fish_catalog.specs.declared.listed.Listed.{Listed}
 use Rattle.fish_lanes.specs.Scanning.{HasRows}

@@ -103,9 +103,11 @@ ran_later old new text v u r to blocks still later h = record {
 pub since_more : (earlier blocks : List Block) (b : Block) → AreFullSince earlier blocks → IsFullSince (earlier ++ blocks) b
     → AreFullSince earlier (blocks ++ b ∷ [])
 since_more earlier [] b h one = (subst (λ (z : List Block). IsFullSince z b) (append-nil earlier) one, tt)
-since_more earlier (x ∷ blocks) b h one =
-    (h.0, since_more (earlier ++ x ∷ []) blocks b h.1 (subst (λ (z : List Block). IsFullSince z b)
-    (sym (append_assoc earlier (x ∷ []) blocks)) one))
+since_more earlier (x ∷ blocks) b h one = (
+  h.0,
+  since_more (earlier ++ x ∷ []) blocks b h.1 (subst (λ (z : List Block). IsFullSince z b)
+      (sym (append_assoc earlier (x ∷ []) blocks)) one),
+)
 
 -- an item of one of them is an item of all
 full_left : (blocks : List Block) (b : Block) (line lines end : ℕ) → IsFullOf blocks line lines end

@@ -5,7 +5,6 @@ use Rattle.fish_lanes.proofs.Course.{first_begun, first_ended, first_marks, has_
 use Rattle.fish_lanes.proofs.Moments.{get_there}
 use Rattle.fish_lanes.proofs.Course.{others_begun, others_ended, others_marks, tells_first, tells_others, within}
 use Rattle.fish_lanes.proofs.Moments.{counted_from, few_behind}
-use Rattle.fish_lanes.specs.Blocks.{HasRegistered}
 use Rattle.fish_lanes.specs.Ending.{HasEnd}
 use Rattle.fish_rule.specs.declared.view.Key.{Key}
 use Rattle.fish_lanes.proofs.Ends.{closes_end, end_knows, end_start, given_known, given_knows, registered_end}

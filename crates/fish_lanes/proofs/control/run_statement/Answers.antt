@@ -1,14 +1,12 @@
 -- A statement on definitions, or any other one.
-use Rattle.std.proofs.Common.{◌≡◌, ap, refl, sym, subst}
+use Rattle.std.proofs.Common.{refl, sym, subst}
 use Rattle.std.specs.Prelude.{IfErr, IfOk}
-use Rattle.fish_epoch.proofs.Reading.{defs_later}
 use Rattle.fish_lanes.proofs.Controls.{control_done, control_part, free_done, free_of, free_part, gained_any}
 use Rattle.fish_lanes.proofs.Gaining.{gains_start}
 use Rattle.fish_lanes.proofs.Registrations.{knows_kept, registry_same}
 use Rattle.fish_lanes.proofs.Single.{end_closed}
 use Rattle.fish_lanes.specs.Controlling.{IsControlled, IsPartControlled}
 use Rattle.fish_lanes.specs.Registering.{IsAcceptable}
-use Rattle.fish_lanes.specs.Running.{IsFree}
 use Rattle.fish_lanes.specs.declared.work.Work.{Work}
 use Rattle.fish_lanes.specs.declared.work.Work.TheVariants as work
 use Rattle.fish_rule.specs.Passes.{view}

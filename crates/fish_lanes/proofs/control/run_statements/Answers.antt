@@ -1,12 +1,11 @@
 -- A statement more, or the end.
-use Rattle.std.proofs.Common.{◌≡◌, ◌+◌, List, [], ◌∷◌, ◌++◌, take, drop, sym, ap, refl, ◌∙◌, subst, arith}
+use Rattle.std.proofs.Common.{◌≡◌, ◌+◌, List, [], ◌∷◌, ◌++◌, take, drop, sym, ap, ◌∙◌, subst, arith}
 use Rattle.std.proofs.lemmas.List.{take_all, take_more}
 use Rattle.fish_epoch.proofs.Reading.{defs_later}
 use Rattle.fish_ingest.proofs.IngestionStart.{idle_law}
 use Rattle.fish_lanes.proofs.Controls.{Held, held_cut, held_done, held_ended, held_polled, held_self, take_nothing_first}
 use Rattle.fish_lanes.proofs.Parts.{around, err_told, ok_told}
 use Rattle.fish_lanes.specs.Controlling.{HasControlled}
-use Rattle.fish_lanes.specs.Registering.{IsAcceptable}
 use Rattle.fish_lanes.specs.Telling.{count_of}
 use Rattle.fish_lanes.specs.declared.work.LaneFault.TheVariants as cause
 use Rattle.fish_lanes.specs.declared.work.Work.{Work}

@@ -1,5 +1,5 @@
 -- A registration begins, and what follows is told of it.
-use Rattle.std.proofs.Common.{◌≡◌, ◌∙◌, sym, subst, ℕ, List, []}
+use Rattle.std.proofs.Common.{◌∙◌, sym, subst, ℕ, List, []}
 use Rattle.std.specs.Prelude.{IfOk}
 use Rattle.fish_ingest.proofs.IngestionStart.{idle_law}
 use Rattle.fish_lanes.proofs.Doings.{does_begun, ok_then, register_so, registered_here, registry_stays}

@@ -1,5 +1,4 @@
 -- The new definition is read, and its index begins or waits.
-use Rattle.std.proofs.Common.{◌≡◌}
 use Rattle.fish_epoch.proofs.Reading.{defs_later}
 use Rattle.fish_lanes.proofs.Registrations.{polls_gain, reads_gain, reads_know, reads_start, tells_at_once, tells_rolling}
 use Rattle.fish_registry.proofs.Changing.{learns_changes}
