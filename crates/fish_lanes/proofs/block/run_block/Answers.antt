@@ -62,8 +62,8 @@ returns-clause-registered g c x at =
 
 pub returns-clause-alone : goal.returns-clause-alone
 returns-clause-alone g c x is =
-    alone_first (TellsAloneBy (view c.args.main.now) (view c.run_lanes.new.main) c.args.registrar.now) c.run_lanes.new.first c.args.lanes.now
-    c.split_at_mut-first.result.1.now c.run_lanes.new.others c.requires.lanes c.run_lanes.auto.others
+    alone_first (TellsAloneBy (view c.args.main.now) (view c.run_lanes.new.main) c.args.registrar.now) c.run_lanes.new.first
+    c.args.lanes.now c.split_at_mut-first.result.1.now c.run_lanes.new.others c.requires.lanes c.run_lanes.auto.others
     c.run_lanes.ensures.alone x
     (subst (λ (z : List Lane). set z 0 c.run_lanes.new.first ++ c.run_lanes.new.others ≡ x ∷ []) c.split_at_mut-first.ensures.front is)
 

@@ -58,7 +58,8 @@ returns-in_default-clause-run c =
     let s = c.find_boundary.new.registrar in
     let held = held_polled v r (view c.loop-work.pass) c.loop-work.registrar u s (take i works) c.loop-work.items
     c.find_boundary.new.items c.loop-work.invariant.held c.find_boundary.ensures.gains c.find_boundary.ensures.loads
-    c.find_boundary.ensures.shut c.find_boundary.ensures.idle (ok_told c.find_boundary.result c.is_err.result c.is_err.ensures.value c.if-is_err.false c.find_boundary.ensures.polled) in
+    c.find_boundary.ensures.shut c.find_boundary.ensures.idle
+    (ok_told c.find_boundary.result c.is_err.result c.is_err.ensures.value c.if-is_err.false c.find_boundary.ensures.polled) in
     let part = c.in_default.ensures.part in
     subst (λ (z : List Work). HasControlled v (view c.run_statement.new.pass) r c.run_statement.new.registrar z
     c.find_boundary.new.items cause.Memory) (around works i w c.loop-work-test.true c.work-item.is)
@@ -76,7 +77,8 @@ returns-in-Err-clause-run c =
     let s = c.find_boundary.new.registrar in
     let held = held_polled v r (view c.loop-work.pass) c.loop-work.registrar u s (take i works) c.loop-work.items
     c.find_boundary.new.items c.loop-work.invariant.held c.find_boundary.ensures.gains c.find_boundary.ensures.loads
-    c.find_boundary.ensures.shut c.find_boundary.ensures.idle (ok_told c.find_boundary.result c.is_err.result c.is_err.ensures.value c.if-is_err.false c.find_boundary.ensures.polled) in
+    c.find_boundary.ensures.shut c.find_boundary.ensures.idle
+    (ok_told c.find_boundary.result c.is_err.result c.is_err.ensures.value c.if-is_err.false c.find_boundary.ensures.polled) in
     let done = c.in-Ok.ensures.done in
     subst (λ (z : List Work × List Item). HasControlled v (view c.run_statement.new.pass) r c.run_statement.new.registrar z.0 z.1
     cause.Memory) (λ j. (around works i w c.loop-work-test.true c.work-item.is j, sym c.in-Err.ensures.err j))
@@ -97,7 +99,8 @@ loop-work-preserved c =
     let q = c.run_statement.new.registrar in
     let held = held_polled v r (view c.loop-work.pass) c.loop-work.registrar u s (take i works) c.loop-work.items
     c.find_boundary.new.items inv.held c.find_boundary.ensures.gains c.find_boundary.ensures.loads
-    c.find_boundary.ensures.shut c.find_boundary.ensures.idle (ok_told c.find_boundary.result c.is_err.result c.is_err.ensures.value c.if-is_err.false c.find_boundary.ensures.polled) in
+    c.find_boundary.ensures.shut c.find_boundary.ensures.idle
+    (ok_told c.find_boundary.result c.is_err.result c.is_err.ensures.value c.if-is_err.false c.find_boundary.ensures.polled) in
     let done = c.in-Ok.ensures.done in
     let next : take (i + 1) works ≡ take i works ++ w ∷ [] = take_more works i w c.loop-work-test.true
     ∙ ap (λ (z : Work). take i works ++ z ∷ []) (sym c.work-item.is) in
