@@ -1,25 +1,26 @@
 -- One statement more, a step between two statements, and the end of a lane's statements.
-use Rattle.std.proofs.Common.{◌≡◌, ℕ, ◌+◌, ◌<◌, ◌≤◌, List, [], ◌∷◌, ◌++◌, length, take, refl, sym, ap, ◌∙◌, subst, inl, inr, ◌⊎◌}
+use Rattle.std.proofs.Common.{◌≡◌, ℕ, ◌+◌, ◌≤◌, List, [], ◌∷◌, ◌++◌, take, refl, sym, ap, ◌∙◌, subst, inl, inr, ◌⊎◌}
 use Rattle.std.proofs.Common.{⊎_elim, arith, length-append, append-nil, true, false, Bool}
-use Rattle.std.specs.Prelude.{filter}
+use Rattle.fish_lanes.proofs.Claims.{shuts_answers, shuts_more}
 use Rattle.fish_lanes.proofs.Done.{HasTold, item_told}
 use Rattle.fish_lanes.proofs.Gaining.{full_later, gains_both}
 use Rattle.fish_lanes.proofs.Lists.{filter_first, filter_last, filter_other, filter_skip}
-use Rattle.fish_lanes.proofs.Items.{TellsAll, behind_all, behind_is, made, made_append, shown_in, tells_cut, tells_ended, tells_more}
+use Rattle.fish_lanes.proofs.Items.{TellsAll, behind_is, made_append, shown_in, tells_cut, tells_ended, tells_more}
+use Rattle.fish_lanes.proofs.Plans.{all_begun_later, begun_answers, begun_more, fit_begun}
 use Rattle.fish_lanes.proofs.Publishing.{published_later}
-use Rattle.fish_lanes.proofs.Showing.{fit_answer, full_fit, item_settles, item_shown}
+use Rattle.fish_lanes.proofs.Showing.{full_fit, item_settles, item_shown}
 use Rattle.fish_lanes.proofs.Surely.{sure_later}
 use Rattle.fish_lanes.specs.Doing.{IsFit}
 use Rattle.fish_lanes.specs.Gains.{Gains, KeepsShut}
 use Rattle.fish_lanes.specs.Records.{LaneRow, contents}
 use Rattle.fish_lanes.specs.Running.{HasRun, IsFullItem}
 use Rattle.fish_lanes.specs.Seen.{Shown, settled, shown_by}
+use Rattle.fish_lanes.specs.Sizes.{TellsShut}
 use Rattle.fish_lanes.specs.Spans.{IsWithinSpan, Span, answers, is_answer, made_by}
 use Rattle.fish_lanes.specs.Telling.{TellsItem, content_of, count_of}
 use Rattle.fish_lanes.specs.declared.work.LaneFault.TheVariants as fault
 use Rattle.fish_lanes.specs.declared.work.Work.{Work}
 use Rattle.fish_report.specs.declared.item.Item.{Item}
-use Rattle.fish_report.specs.declared.item.Item.TheVariants as item
 use Rattle.fish_rule.proofs.Common.{among_either, among_left, among_right}
 use Rattle.fish_rule.specs.Logs.{Learns}
 use Rattle.fish_rule.specs.Views.{AllOf, Among}
@@ -69,29 +70,32 @@ within_before v u t s learns within =
 
 -- a step that gains nothing and answers nothing
 pub told_on : (v u t : View) (works : List Work) (items : List Item) → HasTold v u works items → Gains u t []
-    → HasTold v t works items
-told_on v u t works items h g =
+    → t.shut ≡ u.shut → HasTold v t works items
+told_on v u t works items h g same =
     let learns = g.on.learns in
     let version = learns.version in
     let known = h.versions in
     record {
       rows = h.rows ++ [];
       gains = gains_both v u t h.rows [] h.gains g;
-      tells = λ s within z remains b l c.
+      tells = λ s within full z remains b l c.
           subst (λ (r : List LaneRow). TellsAll z s remains.log [] [] r works items) (sym (append-nil h.rows))
-          (sure_later u t _ learns (h.tells s (within_before v u t s learns within)) z remains b l c);
+          (sure_later u t _ learns (h.tells s (within_before v u t s learns within) full) z remains b l c);
       shown = λ n x m i. published_later u t n learns (h.shown n x m i);
       settles = λ k m. let a = h.settles k m in let e = learns.settled in omega arith;
       size = h.size;
       full = fulls_later u t items learns.about g.shut h.full;
+      begun = all_begun_later u t items learns h.begun;
       versions = omega arith;
+      shuts = λ c e. h.shuts c (sym same ∙ e);
     }
 
 -- one statement more
 pub told_more : (v u t : View) (works : List Work) (items : List Item) (w : Work) (x : Item) (rows : List LaneRow)
     → v.about.number ≡ 0 → HasTold v u works items → Gains u t rows → contents rows ≡ take (count_of x) (content_of w)
-    → IsFit u t w x → u.learned.version + made_by x ≤ t.learned.version → HasTold v t (works ++ w ∷ []) (items ++ x ∷ [])
-told_more v u t works items w x rows base h g first fit version =
+    → IsFit u t w x → TellsShut u t (x ∷ []) → u.learned.version + made_by x ≤ t.learned.version
+    → HasTold v t (works ++ w ∷ []) (items ++ x ∷ [])
+told_more v u t works items w x rows base h g first fit shuts version =
     let learns = g.on.learns in
     let settled_more = learns.settled in
     let known = h.versions in
@@ -101,11 +105,11 @@ told_more v u t works items w x rows base h g first fit version =
     record {
       rows = h.rows ++ rows;
       gains = gains_both v u t h.rows rows h.gains g;
-      tells = λ s within z remains b l c.
+      tells = λ s within full z remains b l c.
           tells_more z s remains.log [] [] h.rows rows works items w x
-          (sure_later u t _ learns (h.tells s (within_before v u t s learns within)) z remains b l c) first
+          (sure_later u t _ learns (h.tells s (within_before v u t s learns within) full) z remains b l c) first
           (subst (λ (k : Span). TellsItem z k remains.log h.rows (shown_in items) w x) (sym (behind_is items s))
-          (item_told v u t works items s base h learns within w x fit z remains b l c));
+          (item_told v u t works items s base h learns within full w x fit z remains b l c));
       shown = λ n s m i. ⊎_elim (λ (k : Among s (shown_in items)). published_later u t n learns (h.shown n s k i))
           (λ (k : Among s (shown_by x)). item_shown u t zero_now zero_then w x n s fit k i) (shown_either s items x m);
       settles = λ k m. ⊎_elim (λ (n : Among (settled k) (shown_in items)). (let a = h.settles k n in omega arith))
@@ -114,7 +118,9 @@ told_more v u t works items w x rows base h g first fit version =
       size = (let a = length-append items (x ∷ []) in let b = length-append works (w ∷ []) in let e = h.size in
           omega arith);
       full = fulls_more t items x (fulls_later u t items learns.about g.shut h.full) (full_fit u t w x fit);
+      begun = begun_more t items x (all_begun_later u t items learns h.begun) (fit_begun u t w x fit);
       versions = omega arith;
+      shuts = shuts_more v u t items x h.shuts shuts;
     }
 
 -- ---- answers among items
@@ -151,10 +157,12 @@ pub run_ended : (v u : View) (works : List Work) (items : List Item) → HasTold
 run_ended v u works items h = record {
   rows = h.rows;
   gains = h.gains;
-  tells = λ s within z remains b l c.
-      tells_ended z s remains.log [] [] h.rows works (answers items) (h.tells s within z remains b l c);
+  tells = λ s within full z remains b l c.
+      tells_ended z s remains.log [] [] h.rows works (answers items) (h.tells s within full z remains b l c);
   full = fulls_all u items h.full;
+  begun = begun_answers u items h.begun;
   ended = record { whole = λ _. h.size; cut = λ bad. absurd (bad refl) };
+  shuts = λ _. shuts_answers v u items h.shuts;
 }
 
 -- or those up to one of which a part was done
@@ -166,12 +174,14 @@ run_cut v u t works items w later rows count h g first =
     record {
       rows = h.rows ++ rows;
       gains = gains_both v u t h.rows rows h.gains g;
-      tells = λ s within z remains b l c.
+      tells = λ s within full z remains b l c.
           tells_cut z s remains.log [] [] h.rows rows works (answers items) w later count
-          (sure_later u t _ learns (h.tells s (within_before v u t s learns within)) z remains b l c) first;
+          (sure_later u t _ learns (h.tells s (within_before v u t s learns within) full) z remains b l c) first;
       full = fulls_later u t items learns.about g.shut (fulls_all u items h.full);
+      begun = all_begun_later u t items learns (begun_answers u items h.begun);
       ended = record {
         whole = λ e. absurd cc;
         cut = λ _. let a = length-append works (w ∷ later) in let e = h.size in omega arith;
       };
+      shuts = λ e. absurd cc;
     }

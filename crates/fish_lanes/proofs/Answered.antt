@@ -1,5 +1,5 @@
 -- What a scan or a plan of one answers is told of the one log.
-use Rattle.std.proofs.Common.{◌≡◌, ℕ, ◌+◌, ◌<◌, ◌≤◌, zero, suc, List, [], ◌∷◌, length, map, refl, sym, ap, ◌∙◌, subst, inl, inr}
+use Rattle.std.proofs.Common.{◌≡◌, ℕ, ◌<◌, ◌≤◌, zero, suc, List, [], ◌∷◌, length, map, refl, sym, ap, ◌∙◌, subst, inl, inr}
 use Rattle.std.proofs.Common.{◌⊎◌, ⊎_elim, arith, Option, Some, None, Result, Ok, Err, slice_get, cond, nat_lt, true, false, Bool}
 use Rattle.std.specs.Prelude.{IfOk}
 use Rattle.std.proofs.Math.Decide.{ℕ_discrete}
@@ -15,6 +15,7 @@ use Rattle.fish_lanes.proofs.Publishing.{entry_finished, published_later, publis
 use Rattle.fish_lanes.specs.Closing.{Sure}
 use Rattle.fish_lanes.specs.Doing.{FitsExplained, FitsRefused, FitsScanned, IsPlannedAt, IsRefusedAt, IsScanned}
 use Rattle.fish_lanes.specs.Doing.{cause_of, explained_item, refusal_of, scanned_item}
+use Rattle.fish_lanes.specs.Loading.{LoadsWithin}
 use Rattle.fish_lanes.specs.Published.{IsPublished}
 use Rattle.fish_lanes.specs.Scanning.{AreOpen, HasRows, HoldsSeen, IsAskedFor, IsAskedRange, IsRefusedFor, TellsPlan}
 use Rattle.fish_lanes.specs.Scanning.{TellsScan, selected}
@@ -212,7 +213,7 @@ plan_full v u rows text way from settled to plan h is =
     subst (λ (z : How). IsPlan v u rows text z from settled to plan) is h
 
 -- a plan of one full piece has none by an index
-no_index : (from to place id begin end : ℕ) (b : Bool)
+pub no_index : (from to place id begin end : ℕ) (b : Bool)
     → ¬ (slice_get (cond b (Full from to ∷ []) []) place ≡ Some (Index id begin end))
 no_index from to zero id begin end true at = cc
 no_index from to (suc n) id begin end true at = cc
@@ -354,17 +355,18 @@ refused_fits v u known ask refusal.OutOfMemory version why h is at = absurd cc
 
 -- what was answered as an item
 pub scanned_fits : (v u : View) (known : Known) (ask : Ask) (answer : Answer) (version : ℕ) {E : Type 0} (r : Result Item E)
-    → IsAnswer v u known ask answer → version ≡ version_of known → IfOk r (λ x. x ≡ scanned_item ask answer version)
+    → IsAnswer v u known ask answer → LoadsWithin v u ask.value answer → version ≡ version_of known
+    → IfOk r (λ x. x ≡ scanned_item ask answer version)
     → IfOk r (λ x. FitsScanned v u ask x ⊎ FitsRefused v u ask item.ScanRefused x)
-scanned_fits v u known ask answer version (Err e) h at made = tt
-scanned_fits v u known ask answer version (Ok x) h at made = inl (record {
+scanned_fits v u known ask answer version (Err e) h loads at made = tt
+scanned_fits v u known ask answer version (Ok x) h loads at made = inl (record {
   from = answer.from;
   to = answer.to;
   opens = answer.opens;
   rows = answer.rows;
   version = version;
   is = made;
-  fits = record { known = known; version_is = at; plan = answer.plan; answer = h };
+  fits = record { known = known; version_is = at; plan = answer.plan; answer = h; loads = loads };
 })
 
 -- and a plan

@@ -1,17 +1,20 @@
 -- The statements of the first lane so far, with the definitions that their items tell.
-use Rattle.std.proofs.Common.{◌≡◌, ℕ, ◌+◌, ◌<◌, ◌≤◌, List, [], ◌∷◌, ◌++◌, take, refl, sym, ap, ◌∙◌, subst, inl, inr, arith}
+use Rattle.std.proofs.Common.{◌≡◌, ℕ, ◌+◌, ◌≤◌, List, [], ◌∷◌, ◌++◌, take, refl, sym, ap, ◌∙◌, subst, inl, inr, arith}
 use Rattle.std.proofs.Common.{zero, suc, None, Result, Ok, Err}
 use Rattle.std.specs.Prelude.{IfErr, IfOk}
 use Rattle.fish_lanes.proofs.Advancing.{answers_more, answers_same, run_cut, run_ended, told_more, told_on}
 use Rattle.fish_lanes.proofs.Done.{HasTold, told_self}
 use Rattle.fish_lanes.proofs.Registrations.{registry_later}
 use Rattle.fish_lanes.proofs.Showing.{fit_answer}
+use Rattle.fish_lanes.proofs.Single.{alone_gains, closed_more, fit_closed, fit_single, none_there, only_last, only_later, some_there}
 use Rattle.fish_lanes.specs.Controlling.{Does, HasControlled, HasPolled, IsControlled, IsPartControlled}
 use Rattle.fish_lanes.specs.Doing.{GainsFirst, IsFit, IsItem, IsPart}
+use Rattle.fish_lanes.specs.Ending.{HasEnd}
 use Rattle.fish_lanes.specs.Gains.{Gains}
 use Rattle.fish_lanes.specs.Records.{LaneRow, contents}
 use Rattle.fish_lanes.specs.Registering.{AreSo, IsSo, KnowsEach, KnowsRegistry, Registry, after, after_all, registry_of}
 use Rattle.fish_lanes.specs.Running.{IsFree}
+use Rattle.fish_lanes.specs.Single.{NamesNone, TellsOnly, TellsSingle}
 use Rattle.fish_lanes.specs.Spans.{answers, made_by}
 use Rattle.fish_lanes.specs.Telling.{content_of, count_of}
 use Rattle.fish_lanes.specs.declared.work.LaneFault.TheVariants as fault
@@ -21,7 +24,11 @@ use Rattle.fish_lang.specs.declared.definition.Def.{Def}
 use Rattle.fish_registry.specs.declared.registrar.Registrar.{Registrar}
 use Rattle.fish_report.specs.declared.item.Item.{Item}
 use Rattle.fish_report.specs.declared.item.Item.TheVariants as item
+use Rattle.fish_rule.proofs.Extending.{learns_both}
 use Rattle.fish_rule.specs.Logs.{Learns}
+use Rattle.fish_rule.specs.Reading.{IsAlone}
+use Rattle.fish_rule.specs.Table.{Stands}
+use Rattle.fish_rule.specs.Views.{AllOf}
 use Rattle.fish_rule.specs.declared.view.Epoch.TheVariants.{Out}
 use Rattle.fish_rule.specs.declared.view.View.{View}
 
@@ -77,22 +84,36 @@ each_more u r (y ∷ items) x h one = (h.0, each_more u (after r y) items x h.1 
 
 -- ---- statements so far
 
--- their items answer them, and tell of the definitions that the registrar keeps
+-- their items answer them, and tell of the definitions that the registrar keeps; while there is none, nothing has changed unless a
+-- boundary was waited for
 pub record Held (v : View) (r : Registrar) (u : View) (s : Registrar) (works : List Work) (items : List Item) : Type 0 where
   pub told : HasTold v u works (answers items)
   pub so : AreSo v.learned.count u.learned.count (registry_of v r) items
   pub is : registry_of u s ≡ after_all (registry_of v r) items
   pub each : KnowsEach u (registry_of v r) items
+  pub closed : IsAlone v → AllOf NamesNone items
+  pub still : works ≡ [] → r.waiting ≡ None → (u ≡ v) × (s.waiting ≡ None)
+  pub only : (end : ℕ) → HasEnd v end → r.waiting ≡ None → TellsOnly v u end works items
 
 -- none yet
 pub held_self : (v : View) (r : Registrar) → v.epoch ≡ Out → v.flight ≡ None → KnowsRegistry v (registry_of v r) → Held v r v r [] []
-held_self v r outside idle known = record { told = told_self v outside idle; so = tt; is = refl; each = known }
+held_self v r outside idle known = record {
+  told = told_self v outside idle;
+  so = tt;
+  is = refl;
+  each = known;
+  closed = λ alone. tt;
+  still = λ none wait. (refl, wait);
+  only = λ end e wait w one. absurd cc;
+}
 
 -- an item more that is so
 held_item : (v : View) (r : Registrar) (u : View) (s : Registrar) (t : View) (q : Registrar) (works works' : List Work)
     (items : List Item) (x : Item) → Held v r u s works items → Learns v u → Learns u t → Does u s t q x
-    → HasTold v t works' (answers (items ++ x ∷ [])) → Held v r t q works' (items ++ x ∷ [])
-held_item v r u s t q works works' items x h before learns does told =
+    → HasTold v t works' (answers (items ++ x ∷ [])) → (IsAlone v → NamesNone x)
+    → (works' ≡ [] → r.waiting ≡ None → (t ≡ v) × (q.waiting ≡ None))
+    → ((end : ℕ) → HasEnd v end → r.waiting ≡ None → TellsOnly v t end works' (items ++ x ∷ [])) → Held v r t q works' (items ++ x ∷ [])
+held_item v r u s t q works works' items x h before learns does told none still only =
     let start = registry_of v r in
     let more = before.count in
     let then = learns.count in
@@ -106,38 +127,55 @@ held_item v r u s t q works works' items x h before learns does told =
       each = each_more t start items x (each_later u t start items learns h.each)
           (subst (λ (z : Registry). KnowsRegistry t (after z x)) h.is
           (does.knows (subst (KnowsRegistry u) (sym h.is) (each_last u start items h.each))));
+      closed = λ alone. closed_more items x (h.closed alone) (none alone);
+      still = still;
+      only = only;
     }
 
 -- a look for a boundary
 pub held_polled : (v : View) (r : Registrar) (u : View) (s : Registrar) (t : View) (q : Registrar) (works : List Work)
-    (items items' : List Item) → Held v r u s works items → Gains u t [] → HasPolled u s t q items items'
-    → Held v r t q works items'
-held_polled v r u s t q works items items' h g (inl p) =
+    (items items' : List Item) → Held v r u s works items → Gains u t [] → t.clock.loads ≡ u.clock.loads → t.shut ≡ u.shut
+    → (s.waiting ≡ None → (t ≡ u) × (q.waiting ≡ None)) → HasPolled u s t q items items' → Held v r t q works items'
+held_polled v r u s t q works items items' h g same shut idle (inl p) =
     let learns = g.on.learns in
     let more = learns.count in
     let start = registry_of v r in
     subst (Held v r t q works) (sym p.0) (record {
-      told = told_on v u t works (answers items) h.told g;
+      told = told_on v u t works (answers items) h.told g shut;
       so = are_so_wide v.learned.count u.learned.count v.learned.count t.learned.count start items (omega arith) (omega arith) h.so;
       is = p.1 ∙ h.is;
       each = each_later u t start items learns h.each;
+      closed = h.closed;
+      still = λ none wait. let b = h.still none wait in let i = idle b.1 in (i.0 ∙ b.0, i.1);
+      only = λ end e wait. only_later v u t end learns same works items (h.only end e wait);
     })
-held_polled v r u s t q works items items' h g (inr p) =
+held_polled v r u s t q works items items' h g same shut idle (inr p) =
     let x = item.Bound p.0 p.1 in
     subst (Held v r t q works) (sym p.2)
     (held_item v r u s t q works works items x h h.told.gains.on.learns g.on.learns p.3
-    (subst (HasTold v t works) (sym (answers_same items x refl)) (told_on v u t works (answers items) h.told g)))
+    (subst (HasTold v t works) (sym (answers_same items x refl)) (told_on v u t works (answers items) h.told g shut))
+    (λ alone. tt) (λ none wait. let b = h.still none wait in let i = idle b.1 in (i.0 ∙ b.0, i.1))
+    (λ end e wait w one. subst (AllOf (TellsSingle v t end w)) (sym (answers_same items x refl))
+    (only_later v u t end g.on.learns same works items (h.only end e wait) w one)))
 
 -- a statement
 pub held_done : (v : View) (r : Registrar) (u : View) (s : Registrar) (t : View) (q : Registrar) (works : List Work)
-    (items : List Item) (w : Work) (x : Item) → v.about.number ≡ 0 → Held v r u s works items → IsControlled u s t q w x
+    (items : List Item) (w : Work) (x : Item) → Stands t → v.about.number ≡ 0 → Held v r u s works items → IsControlled u s t q w x
     → Held v r t q (works ++ w ∷ []) (items ++ x ∷ [])
-held_done v r u s t q works items w x base h c =
+held_done v r u s t q works items w x stands base h c =
     let made : t.learned.version ≡ u.learned.version + made_by x =
     ap (λ (z : Registry). z.version) c.does.is ∙ after_version (registry_of u s) x in
     held_item v r u s t q works (works ++ w ∷ []) items x h h.told.gains.on.learns c.gains.on.learns c.does
     (subst (HasTold v t (works ++ w ∷ [])) (sym (answers_more items x (fit_answer u t w x c.fit)))
-    (told_more v u t works (answers items) w x c.rows base h.told c.gains c.first c.fit (omega arith)))
+    (told_more v u t works (answers items) w x c.rows base h.told c.gains c.first c.fit c.shuts (omega arith)))
+    (λ alone. c.none (alone_gains v u h.told.rows h.told.gains alone))
+    (λ none wait. absurd (some_there works w [] none))
+    (λ end e wait one is.
+    let first = only_last works w [] one is in
+    let told = fit_single v t end e (learns_both v u t h.told.gains.on.learns c.gains.on.learns) stands one x
+    (subst (λ (z : View × Work). IsFit z.0 t z.1 x) (λ i. ((h.still first.0 wait).0 i, first.1 i)) c.fit) in
+    subst (AllOf (TellsSingle v t end one)) (sym (answers_more items x (fit_answer u t w x c.fit)
+    ∙ ap (λ (z : List Item). z ++ x ∷ []) (none_there (answers items) works h.told.size first.0))) (told, tt))
 
 -- ---- the end
 
@@ -147,6 +185,8 @@ pub held_ended : (v : View) (r : Registrar) (u : View) (s : Registrar) (works : 
 held_ended v r u s works items h = record {
   run = run_ended v u works items h.told;
   so = h.so;
+  closed = h.closed;
+  only = h.only;
   is = λ e. h.is;
   each = λ e. h.each;
 }
@@ -162,6 +202,9 @@ held_cut v r u s t q works items w later rows count h g first =
       run = run_cut v u t works items w later rows count h.told g first;
       so = are_so_wide v.learned.count u.learned.count v.learned.count t.learned.count (registry_of v r) items (omega arith)
           (omega arith) h.so;
+      closed = h.closed;
+      only = λ end e wait one is. subst (AllOf (TellsSingle v t end one))
+          (sym (none_there (answers items) works h.told.size (only_last works w later one is).0)) tt;
       is = λ e. absurd cc;
       each = λ e. absurd cc;
     }
@@ -236,10 +279,18 @@ take_nothing_first w = refl
 
 -- one on definitions
 pub control_done : {E : Type 0} (v : View) (s : Registrar) (t : View) (q : Registrar) (w : Work) (r : Result Item E)
-    → content_of w ≡ [] → Gains v t [] → IfOk r (IsFit v t w) → IfOk r (Does v s t q) → IfOk r (IsControlled v s t q w)
-control_done v s t q w (Ok x) none g fit does =
-    record { rows = []; gains = g; first = take_nothing (count_of x) w none; fit = fit; does = does }
-control_done v s t q w (Err e) none g fit does = tt
+    → content_of w ≡ [] → Gains v t [] → t.shut ≡ v.shut → (IsAlone v → IfOk r NamesNone) → IfOk r (IsFit v t w)
+    → IfOk r (Does v s t q) → IfOk r (IsControlled v s t q w)
+control_done v s t q w (Ok x) none g same names fit does = record {
+  rows = [];
+  gains = g;
+  first = take_nothing (count_of x) w none;
+  fit = fit;
+  shuts = λ c e. inl (sym same ∙ e);
+  none = names;
+  does = does;
+}
+control_done v s t q w (Err e) none g same names fit does = tt
 
 pub control_part : {E : Type 0} (v t : View) (w : Work) (r : Result Item E) → content_of w ≡ [] → Gains v t []
     → IfErr r (λ _. IsPartControlled v t w)
@@ -254,6 +305,8 @@ free_done v s t w (Ok x) free learns same item = record {
   gains = item.gained.gains;
   first = item.gained.first;
   fit = item.fit;
+  shuts = item.shuts;
+  none = λ alone. fit_closed v t w x free alone item.fit;
   does = free_does v t s w x free item.fit learns same;
 }
 free_done v s t w (Err e) free learns same item = tt

@@ -1,37 +1,40 @@
 -- A block from its start to its end, put together.
-use Rattle.std.proofs.Common.{◌≡◌, ◌≢◌, ℕ, ◌+◌, ◌<◌, ◌≤◌, zero, suc, List, [], ◌∷◌, length, refl, sym, ap, ◌∙◌, subst}
+use Rattle.std.proofs.Common.{◌≡◌, ℕ, ◌+◌, ◌<◌, ◌≤◌, List, [], ◌∷◌, length, sym, ap, ◌∙◌, subst}
 use Rattle.std.proofs.Common.{inl, inr, ◌⊎◌, ⊎_elim, arith, Some, slice_get}
-use Rattle.std.proofs.Math.Decide.{ℕ_discrete, dec_lt}
+use Rattle.std.proofs.Math.Decide.{ℕ_discrete}
 use Rattle.std.proofs.lemmas.Option.{get_or_from_slice_get, slice_get_within}
 use Rattle.fish_lanes.proofs.Lanes.{done_back, none_out}
 use Rattle.fish_lanes.proofs.Gaining.{marks_same}
 use Rattle.fish_lanes.proofs.Lists.{some_once}
+use Rattle.fish_lanes.proofs.Moments.{Closes, counted_from, ends_behind, few_behind, get_there, learns_same}
+use Rattle.fish_lanes.proofs.Plans.{all_begun_later, items_begun}
 use Rattle.fish_lanes.proofs.RowLists.{has_above, owned_number, told_later}
 use Rattle.fish_lanes.proofs.Surely.{own_before, sure_later, will_rows}
-use Rattle.fish_lanes.specs.Blocks.{AreDone, AreEnded, AreJoined, AreKept, AreSeated, HasGiven, HasRunFirst}
-use Rattle.fish_lanes.specs.Blocks.{HasTakenAll, IsBlockSpan, IsMarkItem, IsOfLane, IsSeated, IsShutOfLane, NameMarks, TellsFirst}
+use Rattle.fish_lanes.specs.Blocks.{AreDone, AreEnded, AreJoined, AreKept, AreSeated, At, HasGiven, HasRunFirst}
+use Rattle.fish_lanes.specs.Outcome.{AreVacant, IsFullIn}
+use Rattle.fish_lanes.specs.Blocks.{HasTakenAll, IsBlockSpan, IsMarkItem, IsOfLane, IsSeated, IsShutOfLane, NameMarks}
+use Rattle.fish_lanes.specs.Outcome.{PlansAreBegun}
+use Rattle.fish_lanes.specs.Blocks.{TellsFirst}
 use Rattle.fish_lanes.specs.Blocks.{TellsOthers, WereTaken}
 use Rattle.fish_lanes.specs.Closing.{Later, Sure, Will}
 use Rattle.fish_lanes.specs.Ending.{HasEnd}
 use Rattle.fish_lanes.specs.Gains.{AreTold, IsMarkAt, IsShutTold}
+use Rattle.fish_lanes.specs.Plans.{IsBegunItem}
 use Rattle.fish_lanes.specs.Records.{Ascends, HasNumber, LaneRow, owned, rows_of_lane}
 use Rattle.fish_lanes.specs.Running.{HasDone, IsEnded, IsFullItem}
+use Rattle.fish_lanes.specs.Sizes.{TellsClaim}
 use Rattle.fish_lanes.specs.Spans.{IsWithinSpan, Span}
 use Rattle.fish_lanes.specs.Telling.{TellsLane}
 use Rattle.fish_lanes.specs.declared.lane.Lane.{Lane}
 use Rattle.fish_lanes.specs.declared.lane.Seated.{Seated}
 use Rattle.fish_report.specs.declared.item.Item.{Item}
+use Rattle.fish_report.specs.declared.item.Item.TheVariants as item
 use Rattle.fish_lanes.specs.declared.work.LaneFault.{LaneFault}
+use Rattle.fish_lanes.specs.declared.work.LaneFault.TheVariants as cause
 use Rattle.fish_lanes.specs.declared.work.Work.{Work}
-use Rattle.fish_rule.proofs.Bodies.{code_once, mark-past}
-use Rattle.fish_rule.proofs.Bounds.{starts_rise}
-use Rattle.fish_rule.proofs.Kept.{published}
-use Rattle.fish_rule.specs.Regions.{code, kind_of}
-use Rattle.fish_rule.specs.declared.view.Kind.TheVariants.{Mark}
 use Rattle.fish_rule.proofs.Common.{among_either}
-use Rattle.fish_rule.proofs.Extending.{learns_both, learns_self}
-use Rattle.fish_rule.specs.Logs.{Learns, TellsMark}
-use Rattle.fish_rule.specs.Parts.{Rests}
+use Rattle.fish_rule.proofs.Extending.{learns_both}
+use Rattle.fish_rule.specs.Logs.{Learns}
 use Rattle.fish_rule.specs.Passes.{view}
 use Rattle.fish_rule.specs.Reading.{IsAlone}
 use Rattle.fish_rule.specs.Table.{Stands}
@@ -39,7 +42,7 @@ use Rattle.fish_rule.proofs.Walking.{always_later}
 use Rattle.fish_rule.specs.Views.{AllOf, Among}
 use Rattle.fish_rule.specs.Walking.{Always}
 use Rattle.fish_rule.specs.declared.view.Shut.{Shut}
-use Rattle.fish_rule.specs.World.{World, high, low}
+use Rattle.fish_registry.specs.Knowing.{Knows}
 use Rattle.fish_registry.specs.declared.registrar.Registrar.{Registrar}
 use Rattle.fish_rule.specs.declared.table.Log.{Log}
 use Rattle.fish_rule.specs.declared.view.Key.{Key}
@@ -47,112 +50,6 @@ use Rattle.fish_rule.specs.declared.view.Learned.{Learned}
 use Rattle.fish_rule.specs.declared.view.Own.{Own}
 use Rattle.fish_rule.specs.declared.view.View.{View}
 use Rattle.fish_walk.specs.Settling.{EndsAt, HasTail}
-
--- ---- the end
-
--- the second view is of the control pass a little later: it stored nothing
-pub record Closes (u t : View) : Type 0 where
-  pub learns : Learns u t
-  pub lane : t.lane ≡ u.lane
-  pub out : t.out ≡ u.out
-  pub idle : t.flight ≡ u.flight
-  pub epoch : t.epoch ≡ u.epoch
-  pub shut : t.shut ≡ u.shut
-  pub own : t.own ≡ u.own
-
--- ---- places
-
-pub get_there : {A : Type 0} (xs : List A) (i : ℕ) → i < length xs → (x : A) × (slice_get xs i ≡ Some x)
-get_there [] i h = absurd (omega arith)
-get_there (x ∷ xs) zero h = (x, refl)
-get_there (x ∷ xs) (suc i) h = get_there xs i (omega arith)
-
--- a view that knows the same knows as much
-pub learns_same : (v m : View) → m.about ≡ v.about → m.learned ≡ v.learned → Learns v m
-learns_same v m about learned =
-    let s = learns_self v in
-    let count : m.learned.count ≡ v.learned.count = ap (λ (z : Learned). z.count) learned in
-    let settled : m.learned.settled ≡ v.learned.settled = ap (λ (z : Learned). z.settled) learned in
-    let version : m.learned.version ≡ v.learned.version = ap (λ (z : Learned). z.version) learned in
-    record {
-      about = about;
-      count = omega arith;
-      settled = omega arith;
-      version = omega arith;
-      words = λ x n. subst (λ (z : Learned). Among x z.words) (sym learned) n;
-      found = λ x n. subst (λ (z : Learned). Among x z.found) (sym learned) n;
-      known = λ x n. subst (λ (z : Learned). Among x z.known) (sym learned) n;
-      records = λ x n. subst (λ (z : Learned). Among x z.records) (sym learned) n;
-      nodes = λ x n. subst (λ (z : Learned). Among x z.nodes) (sym learned) n;
-      lows = λ x n. subst (λ (z : Learned). Among x z.lows) (sym learned) n;
-      tops = λ x n. subst (λ (z : Learned). Among x z.tops) (sym learned) n;
-      gaps = λ x n. subst (λ (z : Learned). Among x z.gaps) (sym learned) n;
-      labels = λ x n. subst (λ (z : Learned). Among x z.labels) (sym learned) n;
-      unended = λ x n. subst (λ (z : Learned). Among x z.unended) (sym learned) n;
-      opens = λ x n. subst (λ (z : Learned). Among x z.opens) (sym learned) n;
-    }
-
--- the log doesn't end before a settled number
-pub ends_behind : (t : View) (to from : ℕ) → Stands t → HasEnd t to → from ≤ t.learned.settled → from ≤ to
-ends_behind t to from s h less =
-    let w : World = s.moment in
-    let r = s.rule in
-    let floor = r.floors s.seat t s.at in
-    let within = r.settling.within in
-    let tail = h.tail in
-    let rests : Rests w.count w.line (Some (record { number = high tail.0; line = low tail.0 })) =
-    subst (Rests w.count w.line) tail.1 (r.tails s.seat t s.at h.alone.main h.alone.all) in
-    let count : high tail.0 ≡ w.count = rests.0 in
-    let same : high tail.0 ≡ h.count = tail.2 in
-    let base = h.base in
-    ⊎_elim (λ (e : to ≡ h.count). omega arith)
-    (λ (m : (to < h.count) × TellsMark t to). pick m.1 (dec_lt to w.settled)) h.ends
-  where
-    pick : TellsMark t to → Dec (to < s.moment.settled) → from ≤ to
-    pick mark (no not_less) = (let floor = s.rule.floors s.seat t s.at in omega arith)
-    pick mark (yes inside) =
-        let base = h.base in
-        absurd ((s.rule.settling.below to (omega arith) inside).unmarked
-        (mark t (learns_self t) s.moment s.rule s.seat s.at))
-
--- the control pass has counted up to the end
-pub counted_from : (v : View) (from : ℕ) → HasEnd v from → from ≤ v.learned.count
-counted_from v from h =
-    let a = h.counted in
-    ⊎_elim (λ (e : from ≡ h.count). omega arith)
-    (λ (n : (from < h.count) × TellsMark v from). let b = n.0 in omega arith) h.ends
-
--- at most 16 numbers are claimed behind the end
-pub few_behind : (t : View) (to : ℕ) → Stands t → HasEnd t to → t.learned.count ≤ to + 16
-few_behind t to s h =
-    let w : World = s.moment in
-    let r = s.rule in
-    let counted = (r.facts s.seat t s.at).counted in
-    let tail = h.tail in
-    let rests : Rests w.count w.line (Some (record { number = high tail.0; line = low tail.0 })) =
-    subst (Rests w.count w.line) tail.1 (r.tails s.seat t s.at h.alone.main h.alone.all) in
-    let count : high tail.0 ≡ w.count = rests.0 in
-    let same : high tail.0 ≡ h.count = tail.2 in
-    ⊎_elim (λ (e : to ≡ h.count). omega arith)
-    (λ (m : (to < h.count) × TellsMark t to). pick (m.1 t (learns_self t) w r s.seat s.at) (dec_lt to r.limit.first)) h.ends
-  where
-    pick : high (s.moment.dir to) ≡ code Mark → Dec (to < s.rule.limit.first) → t.learned.count ≤ to + 16
-    pick mark (no not_less) =
-        let counted = (s.rule.facts s.seat t s.at).counted in
-        let few = s.rule.limit.few in
-        omega arith
-    pick mark (yes less) =
-        let base = h.base in
-        let r = s.rule in
-        let there : s.moment.dir to ≢ 0 = published (s.moment.dir to) Mark mark in
-        let within = r.limit.within in
-        let f = r.space.finished to (omega arith) (omega arith) there in
-        let is : kind_of t.about.end (r.start to) (r.start (suc to)) ≡ Mark = code_once _ Mark (sym f.kind ∙ mark) in
-        let past = mark-past t.about.end (r.start to) (r.start (suc to)) is in
-        let up = starts_rise t.about s.moment.count s.moment.line r.start r.space.regions (suc to) r.limit.first (omega arith)
-        (omega arith) (omega arith) in
-        let fits = r.limit.fits in
-        absurd (omega arith)
 
 module _ (log : Log) (v m w : View) (r q : Registrar) (first first' : Lane) (before given done after : List Lane)
     (has_given : HasGiven v m (length before)) (seated : AreSeated log v before given) (run : HasRunFirst m w r q first first')
@@ -249,6 +146,13 @@ module _ (log : Log) (v m w : View) (r q : Registrar) (first first' : Lane) (bef
         w'.works ∙ p.run_of.works ∙ same_works i z.0 p ∙ ap (λ (q : Lane). q.works) old,
       )
 
+  -- the lanes have no passes any more
+  pub vacant_at : WereTaken done after → length after ≡ length done → AreVacant after
+  vacant_at were size'' i y at_y =
+      let less = slice_get_within after i y at_y in
+      let z = get_there done i (omega arith) in
+      (were i z.0 y z.1 at_y).seat
+
   -- the statements have items, but for those behind a fault
   pub first_ended : IsEnded first'.works first'.items first'.fault
   first_ended = subst (λ (z : List Work). IsEnded z first'.items first'.fault) (sym run.works) run.controlled.run.ended
@@ -332,6 +236,52 @@ module _ (log : Log) (v m w : View) (r q : Registrar) (first first' : Lane) (bef
         (taken.learned i z.0 s (omega arith) z.1 p.run_of.after_is) settles.learns in
         subst (AllOf (IsMarkItem t)) (sym w'.items)
         (marks_items (view s.pass) z.0.items back (way_marks i z.0 p known) p.run_of.run.full)
+
+    -- the plans that the items tell begin where the rows do
+    pub first_begun : (s : Registrar) → Knows t s → AllOf (IsBegunItem s.catalog) first'.items
+    first_begun s knows = items_begun t s first'.items stands knows (all_begun_later w t first'.items end_learns run.controlled.run.begun)
+
+    pub others_begun : (s : Registrar) → Knows t s → PlansAreBegun s.catalog after
+    others_begun s knows i y at =
+        let less = slice_get_within after i y at in
+        let z = get_there done i (omega arith) in
+        let p = way i z.0 z.1 in
+        let w' = were i z.0 y z.1 at in
+        let e = p.run_of.after in
+        let back : Learns (view e.pass) t = learns_both (view e.pass) u t
+        (taken.learned i z.0 e (omega arith) z.1 p.run_of.after_is) settles.learns in
+        subst (AllOf (IsBegunItem s.catalog)) (sym w'.items)
+        (items_begun t s z.0.items stands knows (all_begun_later (view e.pass) t z.0.items back p.run_of.run.begun))
+
+    -- what shuts the pass did so before, or an item tells of it
+    pub shut_by : first'.fault ≡ cause.None → At (λ i x. x.fault ≡ cause.None) after → (c : Shut) → t.shut ≡ Some c
+        → (v.shut ≡ Some c) ⊎ (TellsClaim c first'.items ⊎ IsFullIn after c.line c.lines c.end)
+    shut_by none nones c e =
+        ⊎_elim (λ (k : w.shut ≡ Some c).
+        ⊎_elim (λ (same : m.shut ≡ Some c). inl (sym has_given.shut ∙ same)) (λ (told : TellsClaim c first'.items). inr (inl told))
+        (run.controlled.run.shuts none c k)) (λ (q : IsShutOfLane done (length done) c). lane_shut q)
+        (taken.shut c (sym settles.shut ∙ e))
+      where
+        lane_shut : IsShutOfLane done (length done) c
+            → (v.shut ≡ Some c) ⊎ (TellsClaim c first'.items ⊎ IsFullIn after c.line c.lines c.end)
+        lane_shut q =
+            let p = way q.place q.lane q.lane_is in
+            let same : q.seat ≡ p.run_of.after = some_once q.seat p.run_of.after (sym q.seat_is ∙ p.run_of.after_is) in
+            let less = q.below in
+            let y = get_there after q.place (omega arith) in
+            let w' = were q.place q.lane y.0 q.lane_is y.1 in
+            ⊎_elim (λ (k : (view p.run_of.before.pass).shut ≡ Some c). inl (sym (way_shut q.place q.lane p) ∙ k))
+            (λ (k : TellsClaim c q.lane.items). inr (inr (record {
+              at = q.place;
+              lane = y.0;
+              lane_is = y.1;
+              file = k.0;
+              stored = k.1;
+              refused = k.2;
+              among = subst (Among (item.IngestFull k.0 c.line c.lines c.end k.1 k.2)) (sym w'.items) k.3;
+            })))
+            (p.run_of.run.shuts (sym w'.fault ∙ nones q.place y.0 y.1) c
+            (subst (λ (z : Seated). (view z.pass).shut ≡ Some c) same q.shut_is))
 
     -- a record of its own is one of before, one of the first lane's rows, or one of another lane's
     own_cases : (o : Own) → Among o t.own
@@ -449,7 +399,7 @@ module _ (log : Log) (v m w : View) (r q : Registrar) (first first' : Lane) (bef
           ⊎_elim (λ (j : Among o v.own × (o.lane ≡ i.place + 2)). let e = j.1 in omega arith)
           (λ (j : HasNumber o.number p.run_of.run.rows × (o.lane ≡ i.place + 2)). let e = j.1 in omega arith)
           (lane_cases i.place i.lane p i.seat o i.seat_is i.among))) h) (own_cases o n))
-          (run_first.tells k (lane_within m w has_given.learned end_learns)))
+          (run_first.tells k (lane_within m w has_given.learned end_learns) (span.full ∙ sym has_given.shut)))
 
       -- what another lane has among the records of its number
       others_all : (i : ℕ) (z : Lane) (at : slice_get done i ≡ Some z) (p : Way i z) (o : Own)
@@ -492,5 +442,5 @@ module _ (log : Log) (v m w : View) (r q : Registrar) (first first' : Lane) (bef
           within counted (subst (λ (x : ℕ). Ascends x p.run_of.run.rows (view s.pass).learned.count) same g.ascends)
           (subst (λ (x : ℕ). AreTold (view s.pass) x p.run_of.run.rows) lane g.told)
           (others_all i z.0 z.1 p)
-          (p.run_of.run.tells k (lane_within (view p.run_of.before.pass) (view s.pass) (way_learned i z.0 p) back))
-          x remains base main none later c)
+          (p.run_of.run.tells k (lane_within (view p.run_of.before.pass) (view s.pass) (way_learned i z.0 p) back)
+          (span.full ∙ sym (way_shut i z.0 p))) x remains base main none later c)

@@ -1,15 +1,14 @@
 -- What a registration, the end of one and a refusal do, as their items tell it.
-use Rattle.std.proofs.Common.{◌≡◌, ◌↔◌, ℕ, ◌+◌, ◌<◌, ◌≤◌, suc, List, length, refl, sym, ap, ◌∙◌, subst, inl, inr, arith, ⊎_elim}
-use Rattle.std.proofs.Common.{Option, Some, None, Result, Ok, Err, count_by}
-use Rattle.std.specs.Prelude.{IfOk, OnErr}
+use Rattle.std.proofs.Common.{◌≡◌, ◌↔◌, ℕ, ◌<◌, ◌≤◌, List, length, sym, ap, ◌∙◌, subst, inl, inr, arith}
+use Rattle.std.proofs.Common.{Some, None, Result, Ok, Err, count_by}
+use Rattle.std.specs.Prelude.{IfOk}
 use Rattle.std.proofs.lemmas.Option.{same_Some}
 use Rattle.std.proofs.Math.Decide.{dec_lt}
-use Rattle.fish_catalog.specs.Closing.{with_to}
-use Rattle.fish_catalog.specs.Rows.{HasActive, IsActiveNamed, is_active}
-use Rattle.fish_lanes.proofs.Registrations.{begun_is, few_versions, none_id, none_waits, registry_later, waits_id}
+use Rattle.fish_catalog.specs.Rows.{HasActive, is_active}
+use Rattle.fish_lanes.proofs.Registrations.{begun_is, few_versions, none_id, none_waits, waits_id}
 use Rattle.fish_lanes.specs.Controlling.{Does, TellsBegun, deregister_cause, register_cause}
-use Rattle.fish_lanes.specs.Registering.{IsBetween, IsDeregisterCause, IsRegisterCause, KnowsRegistry, MayChange, MayRegister}
-use Rattle.fish_lanes.specs.Registering.{Registry, begun, bound, ended, registry_of, waiting_id}
+use Rattle.fish_lanes.specs.Registering.{IsDeregisterCause, IsRegisterCause, KnowsRegistry, MayChange, MayRegister}
+use Rattle.fish_lanes.specs.Registering.{Registry, begun, bound, registry_of, waiting_id}
 use Rattle.fish_lang.specs.Canonical.{definition_text}
 use Rattle.fish_lang.specs.Definition.{definition_of}
 use Rattle.fish_lang.specs.declared.definition.Def.{Def}
@@ -21,12 +20,8 @@ use Rattle.fish_registry.specs.declared.outcome.RegRefusal.{RegRefusal}
 use Rattle.fish_registry.specs.declared.outcome.RegRefusal.TheVariants as refusal
 use Rattle.fish_registry.specs.declared.registrar.Registrar.{Registrar}
 use Rattle.fish_report.specs.declared.item.DeregisterCause.{DeregisterCause}
-use Rattle.fish_report.specs.declared.item.DeregisterCause.TheVariants as deregister
 use Rattle.fish_report.specs.declared.item.Item.{Item}
-use Rattle.fish_report.specs.declared.item.Item.TheVariants as item
 use Rattle.fish_report.specs.declared.item.RegisterCause.{RegisterCause}
-use Rattle.fish_report.specs.declared.item.RegisterCause.TheVariants as register
-use Rattle.fish_rule.specs.Logs.{Learns}
 use Rattle.fish_rule.specs.declared.view.View.{View}
 
 -- what follows of each result

@@ -1,19 +1,23 @@
 -- What the statements so far tell, and what one item more tells behind them.
-use Rattle.std.proofs.Common.{◌≡◌, ℕ, ◌+◌, ◌<◌, ◌≤◌, zero, suc, List, [], ◌∷◌, ◌++◌, length, take, drop, get_or, refl}
-use Rattle.std.proofs.Common.{sym, ap, ◌∙◌, subst, inl, inr, ◌⊎◌, ⊎_elim, arith, None}
+use Rattle.std.proofs.Common.{◌≡◌, ℕ, ◌+◌, ◌≤◌, suc, List, [], ◌∷◌, length, refl}
+use Rattle.std.proofs.Common.{ap, ◌∙◌, subst, inl, inr, ◌⊎◌, ⊎_elim, arith, None, Some}
+use Rattle.fish_epoch.proofs.Reading.{knows_later}
 use Rattle.fish_lanes.proofs.Answered.{plan_told, refused_told, scan_told}
+use Rattle.fish_lanes.proofs.Claims.{claim_shown}
 use Rattle.fish_lanes.proofs.Gaining.{gains_self}
 use Rattle.fish_lanes.proofs.Items.{TellsAll, made, shown_in}
 use Rattle.fish_lanes.proofs.Publishing.{published_later, settled_published, told_published}
 use Rattle.fish_lanes.proofs.RowLists.{ascends_le}
-use Rattle.fish_lanes.proofs.Surely.{sure_later, sure_settled}
+use Rattle.fish_lanes.proofs.Surely.{sure_settled}
 use Rattle.fish_lanes.specs.Closing.{Sure}
 use Rattle.fish_lanes.specs.Doing.{IsFit}
 use Rattle.fish_lanes.specs.Gains.{AreTold, Gains}
+use Rattle.fish_lanes.specs.Plans.{IsKnownBegun}
 use Rattle.fish_lanes.specs.Published.{IsPublished}
-use Rattle.fish_lanes.specs.Records.{Ascends, HasNumber, LaneRow, contents, entry_of}
-use Rattle.fish_lanes.specs.Running.{HasRun, IsFullItem}
+use Rattle.fish_lanes.specs.Records.{Ascends, HasNumber, LaneRow, entry_of}
+use Rattle.fish_lanes.specs.Running.{IsFullItem}
 use Rattle.fish_lanes.specs.Seen.{IsSeen, IsShown, Shown, settled}
+use Rattle.fish_lanes.specs.Sizes.{IsEarlier, IsSizeBetween, IsSizeOf, TellsClaim, TellsShut, claim_of}
 use Rattle.fish_lanes.specs.Spans.{IsWithinSpan, Span}
 use Rattle.fish_lanes.specs.Telling.{TellsItem}
 use Rattle.fish_lanes.specs.declared.work.Work.{Work}
@@ -24,29 +28,34 @@ use Rattle.fish_rule.specs.Views.{AllOf, Among}
 use Rattle.fish_rule.specs.declared.view.Epoch.TheVariants.{Out}
 use Rattle.fish_rule.specs.declared.view.Key.{Key}
 use Rattle.fish_rule.specs.declared.view.View.{View}
+use Rattle.fish_value.specs.declared.field.Form.{Form}
 
 -- the statements so far are told by as many items
 pub record HasTold (v u : View) (works : List Work) (items : List Item) : Type 0 where
   pub rows : List LaneRow
   pub gains : Gains v u rows
-  pub tells : (s : Span) → IsWithinSpan v u s → Sure u (λ x log. TellsAll x s log [] [] rows works items)
+  pub tells : (s : Span) → IsWithinSpan v u s → s.full ≡ v.shut → Sure u (λ x log. TellsAll x s log [] [] rows works items)
   pub shown : (n : ℕ) (s : Shown) → Among s (shown_in items) → IsShown n s → IsPublished u n
   pub settles : (m : ℕ) → Among (settled m) (shown_in items) → m ≤ u.learned.settled
   pub size : length items ≡ length works
   pub full : AllOf (IsFullItem u) items
+  pub begun : AllOf (IsKnownBegun u) items
   pub versions : v.learned.version + made items ≤ u.learned.version
+  pub shuts : TellsShut v u items
 
 -- none
 pub told_self : (v : View) → v.epoch ≡ Out → v.flight ≡ None → HasTold v v [] []
 told_self v outside idle = record {
   rows = [];
   gains = gains_self v outside idle;
-  tells = λ s within u remains base learns c. refl;
+  tells = λ s within full u remains base learns c. refl;
   shown = λ n s m. elim m [ ];
   settles = λ n m. elim m [ ];
   size = refl;
   full = tt;
+  begun = tt;
   versions = omega arith;
+  shuts = λ c e. inl e;
 }
 
 -- ---- what was seen
@@ -74,7 +83,7 @@ seen_published v u works items from base h less counted n (inr (inr s)) = h.show
 -- ---- what one item tells
 
 module _ (v u t : View) (works : List Work) (items : List Item) (s : Span) (base : v.about.number ≡ 0)
-    (h : HasTold v u works items) (on : Learns u t) (within : IsWithinSpan v t s) where
+    (h : HasTold v u works items) (on : Learns u t) (within : IsWithinSpan v t s) (was : s.full ≡ v.shut) where
   zero_then : t.about.number ≡ 0
   zero_then = ap (λ (z : Key). z.number) (on.about ∙ h.gains.on.learns.about) ∙ base
 
@@ -98,6 +107,27 @@ module _ (v u t : View) (works : List Work) (items : List Item) (s : Span) (base
   seen_is : (n : ℕ) → IsSeen s.from h.rows (shown_in items) n → IsPublished u n
   seen_is n seen = seen_published v u works items s.from base h within.settled within.counted n seen
 
+  -- the lines are those of an earlier claim, or of the record
+  size_told : (form : Form) (payload : List ℕ) (line lines end : ℕ)
+      → (u.shut ≡ Some (claim_of line lines end)) ⊎ IsSizeBetween u t form payload lines
+      → (y : View) → Learns t y → IsEarlier now (shown_in items) line lines end ⊎ IsSizeOf y now form payload lines
+  size_told form payload line lines end (inl same) y l = inl
+      (⊎_elim (λ (first : v.shut ≡ Some (claim_of line lines end)). inl (was ∙ first))
+      (λ (told : TellsClaim (claim_of line lines end) items). inr (claim_shown (claim_of line lines end) items told))
+      (h.shuts (claim_of line lines end) same))
+  size_told form payload line lines end (inr b) y l =
+      let inside = within_now in
+      let first = inside.first in
+      let last = inside.last in
+      let least = b.least in
+      let most = b.knows.reached in
+      inr (record {
+        version = b.version;
+        rows = b.rows;
+        has = record { least = omega arith; most = omega arith; knows = knows_later t y b.version b.rows l b.knows };
+        size = b.size;
+      })
+
   -- what fits is told
   pub item_told : (w : Work) (x : Item) → IsFit u t w x
       → Sure t (λ y log. TellsItem y now log h.rows (shown_in items) w x)
@@ -114,6 +144,7 @@ module _ (v u t : View) (works : List Work) (items : List Item) (s : Span) (base
     within = f.within;
     counted = f.counted;
     past = f.full.past;
+    size = size_told form f.counted.payload f.line f.lines f.end f.size y l;
   }))
   item_told (work.Ingest form header name file) x (inr (inr l)) y remains b l' c = inr (inr l)
   item_told (work.Scan ask) x (inl f) y remains b l c = inl (record {

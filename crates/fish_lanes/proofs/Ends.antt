@@ -1,19 +1,18 @@
 -- From the last statements of a block to its end: passes come back, a boundary is found, and the end of the log is.
-use Rattle.std.proofs.Common.{◌≡◌, ℕ, ◌+◌, ◌≤◌, List, [], ◌∷◌, ◌++◌, length, refl, sym, ap, ◌∙◌, subst, arith}
+use Rattle.std.proofs.Common.{◌≡◌, ℕ, ◌+◌, ◌≤◌, List, length, refl, sym, ap, ◌∙◌, subst, arith}
 use Rattle.std.proofs.Common.{append-nil, Option, Some, None, map}
 use Rattle.fish_catalog.specs.Listing.{listed_of}
 use Rattle.fish_ingest.specs.Ingestion.{CanStart}
 use Rattle.fish_lanes.proofs.Controls.{after_more, are_so_wide, each_last, each_later, each_more, so_more, so_wide}
-use Rattle.fish_lanes.proofs.Course.{Closes, learns_same}
+use Rattle.fish_lanes.proofs.Moments.{Closes, learns_same}
 use Rattle.fish_lanes.proofs.Keeping.{keeps_settles}
 use Rattle.fish_lanes.proofs.Lanes.{none_out}
 use Rattle.fish_lanes.proofs.Registrations.{knows_kept, registry_later, registry_same}
-use Rattle.fish_lanes.specs.Blocks.{HasGiven, HasRegistered, HasTakenAll, IsBlockSpan, control_items}
-use Rattle.fish_lanes.specs.Controlling.{Does, HasControlled, IsFound, bound_items}
-use Rattle.fish_lanes.specs.Registering.{AreSo, IsSo, KeepsRegistry, KnowsEach, KnowsRegistry, Registry, after, after_all, registry_of}
+use Rattle.fish_lanes.specs.Blocks.{HasGiven, HasRegistered, HasTakenAll, IsBlockSpan}
+use Rattle.fish_lanes.specs.Controlling.{HasControlled, IsFound}
+use Rattle.fish_lanes.specs.Registering.{AreSo, IsSo, KnowsEach, KnowsRegistry, Registry, after, after_all, registry_of}
 use Rattle.fish_lanes.specs.Registering.{waiting_id}
 use Rattle.fish_lanes.specs.Spans.{Span}
-use Rattle.fish_lanes.specs.declared.block.BlockEnd.{BlockEnd}
 use Rattle.fish_lanes.specs.declared.block.Boundary.{Boundary}
 use Rattle.fish_lanes.specs.declared.lane.Lane.{Lane}
 use Rattle.fish_lanes.specs.declared.work.LaneFault.TheVariants as cause
@@ -21,7 +20,6 @@ use Rattle.fish_registry.proofs.Changing.{learns_changes}
 use Rattle.fish_registry.specs.Changing.{Changes}
 use Rattle.fish_registry.specs.Knowing.{Knows}
 use Rattle.fish_registry.specs.declared.registrar.Registrar.{Registrar}
-use Rattle.fish_report.specs.declared.item.Item.{Item}
 use Rattle.fish_report.specs.declared.item.Item.TheVariants as item
 use Rattle.fish_rule.proofs.Extending.{learns_both}
 use Rattle.fish_rule.specs.Logs.{Learns}
@@ -75,13 +73,6 @@ closes_end u p t changes settles = record {
   epoch = ap (λ (z : View). z.epoch) settles.frame ∙ ap (λ (z : View). z.epoch) changes.frame;
   shut = ap (λ (z : View). z.shut) settles.frame ∙ ap (λ (z : View). z.shut) changes.frame;
   own = ap (λ (z : View). z.own) settles.frame ∙ ap (λ (z : View). z.own) changes.frame;
-}
-
-pub alone_changes : (u p : View) → Changes u p → IsAlone u → IsAlone p
-alone_changes u p changes alone = record {
-  main = ap (λ (z : View). z.lane) changes.frame ∙ alone.main;
-  all = ap (λ (z : View). z.out) changes.frame ∙ alone.all;
-  idle = ap (λ (z : View). z.flight) changes.frame ∙ alone.idle;
 }
 
 pub end_knows : (p t : View) (s : Registrar) → OnlySettles p t → Knows p s → Knows t s

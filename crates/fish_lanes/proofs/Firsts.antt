@@ -1,17 +1,26 @@
 -- The first lane of a block, and the others.
 use Rattle.std.proofs.Common.{◌≡◌, ℕ, ◌+◌, zero, suc, List, [], ◌∷◌, ◌++◌, get_or, set, take, drop, refl, subst, arith, Some, slice_get}
+use Rattle.std.proofs.Common.{◌∙◌, ◌⊎◌, ⊎_elim, None, ap, inl, inr, length}
 use Rattle.std.specs.Prelude.{All}
 use Rattle.fish_catalog.specs.declared.entry.Entry.{Entry}
+use Rattle.fish_catalog.specs.declared.row.CatRow.{CatRow}
 use Rattle.fish_lanes.proofs.Lists.{some_once}
-use Rattle.fish_lanes.specs.Blocks.{AreEnded, AreLanes, CanGive, IsMarkItem, IsNewLane, NameMarks, TellsFirst, TellsOthers}
+use Rattle.fish_lanes.specs.Blocks.{AreEnded, AreLanes, CanGive, IsMarkItem, IsNewLane, NameMarks, TellsFirst}
+use Rattle.fish_lanes.specs.Outcome.{AreVacant}
+use Rattle.fish_lanes.specs.Blocks.{At, TellsOthers}
+use Rattle.fish_lanes.specs.Outcome.{IsFullIn, PlansAreBegun, TellsShutBy}
 use Rattle.fish_lanes.specs.Ending.{HasEnd}
+use Rattle.fish_lanes.specs.Plans.{IsBegunItem}
 use Rattle.fish_lanes.specs.Records.{rows_of_lane}
 use Rattle.fish_lanes.specs.Registering.{IsAcceptable}
 use Rattle.fish_lanes.specs.Running.{IsEnded}
+use Rattle.fish_lanes.specs.Sizes.{TellsClaim}
 use Rattle.fish_lanes.specs.Spans.{Span}
 use Rattle.fish_lanes.specs.Telling.{TellsLane}
 use Rattle.fish_lanes.specs.declared.lane.Lane.{Lane}
+use Rattle.fish_lanes.specs.declared.work.LaneFault.TheVariants as cause
 use Rattle.fish_rule.specs.Views.{AllOf}
+use Rattle.fish_rule.specs.declared.view.Shut.{Shut}
 use Rattle.fish_rule.specs.declared.view.View.{View}
 
 -- the first lane is new
@@ -73,3 +82,62 @@ ended_both x [] others h first rest i z at = (let some_ = h.some in absurd (omeg
 ended_both x (y ∷ lanes) others h first rest zero z at =
     subst (λ (w : Lane). IsEnded w.works w.items w.fault) (some_once x z at) first
 ended_both x (y ∷ lanes) others h first rest (suc i) z at = rest i z at
+
+-- none of them has a pass
+pub vacant_both : (x d : Lane) (lanes others : List Lane) → AreLanes lanes → x.seat ≡ (get_or (take 1 lanes) 0 d).seat
+    → AreVacant lanes → AreVacant others → AreVacant (set (take 1 lanes) 0 x ++ others)
+vacant_both x d [] others h first before rest i z at = (let some_ = h.some in absurd (omega arith))
+vacant_both x d (y ∷ lanes) others h first before rest zero z at =
+    subst (λ (w : Lane). w.seat ≡ None) (some_once x z at) (first ∙ before 0 y refl)
+vacant_both x d (y ∷ lanes) others h first before rest (suc i) z at = rest i z at
+
+-- where the first is all there is, there are no others
+pub alone_first : (P : Lane → Type 0) (x : Lane) (lanes others after : List Lane) → AreLanes lanes → length after ≡ length others
+    → (others ≡ [] → P x) → (z : Lane) → set (take 1 lanes) 0 x ++ after ≡ z ∷ [] → P z
+alone_first P x [] others after h size p z e = (let some_ = h.some in absurd (omega arith))
+alone_first P x (y ∷ lanes) others after h size p z e = subst P (first e) (p (none others size (behind e)))
+  where
+    first : x ∷ after ≡ z ∷ [] → x ≡ z
+    first e = cc
+
+    behind : x ∷ after ≡ z ∷ [] → after ≡ []
+    behind e = cc
+
+    none : (others : List Lane) → length after ≡ length others → after ≡ [] → others ≡ []
+    none [] size e = refl
+    none (o ∷ others) size e = (let same : length after ≡ 0 = ap length e in absurd (omega arith))
+
+-- what shuts the pass did so before, or an item of one of them tells of it
+pub shuts_both : (v t : View) (x : Lane) (lanes others : List Lane) → AreLanes lanes
+    → (x.fault ≡ cause.None → At (λ i y. y.fault ≡ cause.None) others → (c : Shut) → t.shut ≡ Some c
+    → (v.shut ≡ Some c) ⊎ (TellsClaim c x.items ⊎ IsFullIn others c.line c.lines c.end))
+    → TellsShutBy v t (set (take 1 lanes) 0 x ++ others)
+shuts_both v t x [] others h by none c e = (let some_ = h.some in absurd (omega arith))
+shuts_both v t x (y ∷ lanes) others h by none c e =
+    ⊎_elim (λ (k : v.shut ≡ Some c). inl k)
+    (λ (k : TellsClaim c x.items ⊎ IsFullIn others c.line c.lines c.end).
+    ⊎_elim (λ (q : TellsClaim c x.items). inr (record {
+      at = 0;
+      lane = x;
+      lane_is = refl;
+      file = q.0;
+      stored = q.1;
+      refused = q.2;
+      among = q.3;
+    })) (λ (q : IsFullIn others c.line c.lines c.end). inr (record {
+      at = suc q.at;
+      lane = q.lane;
+      lane_is = q.lane_is;
+      file = q.file;
+      stored = q.stored;
+      refused = q.refused;
+      among = q.among;
+    })) k) (by (none 0 x refl) (λ i z at. none (suc i) z at) c e)
+
+-- the plans of all of them begin where the rows do
+pub begun_both : (rows : List CatRow) (x : Lane) (lanes others : List Lane) → AreLanes lanes → AllOf (IsBegunItem rows) x.items
+    → PlansAreBegun rows others → PlansAreBegun rows (set (take 1 lanes) 0 x ++ others)
+begun_both rows x [] others h first rest i z at = (let some_ = h.some in absurd (omega arith))
+begun_both rows x (y ∷ lanes) others h first rest zero z at =
+    subst (λ (w : Lane). AllOf (IsBegunItem rows) w.items) (some_once x z at) first
+begun_both rows x (y ∷ lanes) others h first rest (suc i) z at = rest i z at

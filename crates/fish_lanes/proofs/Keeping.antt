@@ -1,5 +1,5 @@
 -- What leaves the definitions as they are, and what knows them.
-use Rattle.std.proofs.Common.{◌≡◌, refl, ap, ◌∙◌}
+use Rattle.std.proofs.Common.{refl, ap, ◌∙◌}
 use Rattle.fish_ingest.specs.Passing.{OnlyIngests}
 use Rattle.fish_lanes.specs.Registering.{KeepsRegistry}
 use Rattle.fish_rule.specs.declared.view.View.{View}

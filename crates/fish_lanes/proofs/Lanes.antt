@@ -36,6 +36,7 @@ given_none v lanes h = record {
   own = λ o m. m;
   out_of = λ l m. elim (subst (Among l) h.all m) [ ];
   all_out = λ l above below. absurd (omega arith);
+  none = λ zero_is. refl;
 }
 
 pub can_split : (v m : View) (i : ℕ) → HasGiven v m i → i + 2 ≤ 16 → CanSplit m (i + 2)
@@ -60,6 +61,7 @@ given_more v m u i l at h e = subst (λ (z : View). HasGiven v z (i + 1)) (sym e
   out_of = λ x n. ⊎_elim (λ (s : l ≡ x). (omega arith, omega arith))
       (λ (s : Among x m.out). let b = h.out_of x s in let p = b.0 in let q = b.1 in (p, omega arith)) n;
   all_out = λ x above below. pick x above below (ℕ_discrete l x);
+  none = λ zero_is. absurd (omega arith);
 })
   where
     pick : (x : ℕ) → 2 ≤ x → x < i + 1 + 2 → Dec (l ≡ x) → Among x (l ∷ m.out)
@@ -130,6 +132,7 @@ taken_none log m lanes h = record {
   shut = λ s n. inl n;
   out_of = λ l n. let b = h.out_of l n in let p = b.0 in (omega arith, b.1);
   all_out = λ l above below. h.all_out l (omega arith) below;
+  none = λ zero_is. refl;
 }
 
 pub can_take : (log : Log) (m u : View) (lanes : List Lane) (i : ℕ) (x : Lane) → AreJoined log m lanes → HasTakenAll m u lanes i
@@ -209,6 +212,7 @@ taken_more log m u t lanes i x joined h at by =
           (omega arith, k.1);
       all_out = λ l above below. subst (Among l) (sym out)
           (without_complete (view b.seat.pass).lane l u.out (h.all_out l (omega arith) below) (λ same. omega arith));
+      none = λ zero_is. absurd (omega arith);
     }
   where
     shut_cases : (z : Shut) (a c : Option Shut) → (a ≡ Some z → (m.shut ≡ Some z) ⊎ IsShutOfLane lanes i z)

@@ -1,5 +1,6 @@
 pub mod Advancing
 pub mod Answered
+pub mod Claims
 pub mod Controls
 pub mod Course
 pub mod Crossing
@@ -14,11 +15,14 @@ pub mod Keeping
 pub mod Lanes
 pub mod Lists
 pub mod Logs
+pub mod Moments
+pub mod Plans
 pub mod Publishing
 pub mod Parts
 pub mod Registrations
 pub mod RowLists
 pub mod Showing
+pub mod Single
 pub mod Storing
 pub mod Surely
 pub mod Versions

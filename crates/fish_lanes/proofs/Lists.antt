@@ -57,3 +57,9 @@ module _ {A : Type 0} (p : A → Bool) where
       by : (b : Bool) → p y ≡ b → filter p (xs ++ x ∷ []) ≡ filter p xs → filter p (y ∷ (xs ++ x ∷ [])) ≡ filter p (y ∷ xs)
       by true e rest = filter_first y (xs ++ x ∷ []) e ∙ ap (λ (z : List A). y ∷ z) rest ∙ sym (filter_first y xs e)
       by false e rest = filter_skip y (xs ++ x ∷ []) e ∙ rest ∙ sym (filter_skip y xs e)
+
+-- what stands at a place within
+pub get_some : {A : Type 0} (xs : List A) (i : ℕ) → i < length xs → (x : A) × (slice_get xs i ≡ Some x)
+get_some [] i h = absurd (omega arith)
+get_some (x ∷ xs) zero h = (x, refl)
+get_some (x ∷ xs) (suc i) h = get_some xs i (omega arith)

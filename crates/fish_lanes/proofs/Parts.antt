@@ -1,6 +1,6 @@
 -- A statement as a part of itself, and what scans and plans leave.
 use Rattle.std.proofs.Common.{◌≡◌, ℕ, ◌+◌, ◌<◌, zero, suc, List, [], ◌∷◌, ◌++◌, length, take, drop, get_or, refl, ap, ◌∙◌, arith}
-use Rattle.std.proofs.Common.{Result, Ok, Err, None, Bool, true, false, sym}
+use Rattle.std.proofs.Common.{Result, Ok, Err, None, Bool, true, false, sym, inl}
 use Rattle.std.specs.Prelude.{IfErr, IfOk, OnErr, OnOk, is_err}
 use Rattle.fish_lanes.proofs.Gaining.{gains_scans}
 use Rattle.fish_lanes.proofs.Keeping.{keeps_scans}
@@ -63,12 +63,20 @@ scan_gains v u count outside idle only = record {
 -- so what fits it is its item
 pub scan_items : {E : Type 0} (v u : View) (ask : Ask) (r : Result Item E) → v.epoch ≡ Out → v.flight ≡ None → OnlyScans v u
     → IfOk r (IsFit v u (work.Scan ask)) → IfOk r (IsItem v u (work.Scan ask))
-scan_items v u ask (Ok x) outside idle only fit = record { gained = scan_gains v u (count_of x) outside idle only; fit = fit }
+scan_items v u ask (Ok x) outside idle only fit = record {
+  gained = scan_gains v u (count_of x) outside idle only;
+  fit = fit;
+  shuts = λ shut e. inl (sym (ap (λ (z : View). z.shut) only.frame) ∙ e);
+}
 scan_items v u ask (Err e) outside idle only fit = tt
 
 pub explain_items : {E : Type 0} (v u : View) (ask : Ask) (r : Result Item E) → v.epoch ≡ Out → v.flight ≡ None → OnlyScans v u
     → IfOk r (IsFit v u (work.Explain ask)) → IfOk r (IsItem v u (work.Explain ask))
-explain_items v u ask (Ok x) outside idle only fit = record { gained = scan_gains v u (count_of x) outside idle only; fit = fit }
+explain_items v u ask (Ok x) outside idle only fit = record {
+  gained = scan_gains v u (count_of x) outside idle only;
+  fit = fit;
+  shuts = λ shut e. inl (sym (ap (λ (z : View). z.shut) only.frame) ∙ e);
+}
 explain_items v u ask (Err e) outside idle only fit = tt
 
 -- and it is a part of itself

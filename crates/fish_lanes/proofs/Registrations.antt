@@ -1,12 +1,12 @@
 -- What steps of the control pass on the definitions leave of the registry that items tell.
-use Rattle.std.proofs.Common.{◌≡◌, ℕ, ◌+◌, ◌<◌, ◌≤◌, suc, List, [], ◌∷◌, ◌++◌, length, map, refl, sym, ap, ◌∙◌, subst, inl, inr, ◌⊎◌}
+use Rattle.std.proofs.Common.{◌≡◌, ℕ, ◌+◌, ◌<◌, ◌≤◌, List, [], ◌∷◌, ◌++◌, map, refl, sym, ap, ◌∙◌, subst, inl, inr}
 use Rattle.std.proofs.Common.{arith, append-nil, Option, Some, None, Result, Ok, Err}
 use Rattle.std.specs.Prelude.{OnErr, OnOk}
 use Rattle.std.proofs.lemmas.Option.{same_Some}
 use Rattle.std.proofs.Math.Decide.{dec_lt}
 use Rattle.fish_catalog.proofs.Closing.{listed_with_from}
 use Rattle.fish_catalog.specs.Listing.{listed_of}
-use Rattle.fish_catalog.specs.Rows.{HasActive, is_active, new_row, with_from}
+use Rattle.fish_catalog.specs.Rows.{new_row, with_from}
 use Rattle.fish_catalog.specs.declared.listed.Listed.{Listed}
 use Rattle.fish_catalog.specs.declared.row.CatRow.{CatRow}
 use Rattle.fish_epoch.proofs.Reading.{knows_later}
@@ -20,7 +20,7 @@ use Rattle.fish_lanes.proofs.Keeping.{keeps_scans}
 use Rattle.fish_lanes.proofs.Versions.{same_version}
 use Rattle.fish_lanes.specs.Controlling.{Does, KnowsAll, TellsBegun, WaitsFor}
 use Rattle.fish_lanes.specs.Gains.{Gains}
-use Rattle.fish_lanes.specs.Registering.{KeepsRegistry, KnowsRegistry, MayRegister, Registry, begun, bound, registry_of, waiting_id}
+use Rattle.fish_lanes.specs.Registering.{KeepsRegistry, KnowsRegistry, Registry, begun, bound, registry_of, waiting_id}
 use Rattle.fish_lang.specs.Canonical.{definition_text}
 use Rattle.fish_lang.specs.Definition.{definition_of}
 use Rattle.fish_lang.specs.declared.definition.Def.{Def}
@@ -41,8 +41,6 @@ use Rattle.fish_rule.specs.Logs.{Learns}
 use Rattle.fish_rule.specs.Registry.{KnowsDefinitions, definitions_at, version_in}
 use Rattle.fish_rule.specs.Table.{Stands}
 use Rattle.fish_rule.specs.declared.view.Epoch.TheVariants.{Out}
-use Rattle.fish_rule.specs.declared.view.Key.{Key}
-use Rattle.fish_rule.specs.declared.view.Learned.{Learned}
 use Rattle.fish_rule.specs.declared.view.View.{View}
 use Rattle.fish_scan.specs.Scans.{OnlyScans}
 

@@ -1,12 +1,12 @@
 -- What an item shows, and what else it says by its kind alone.
-use Rattle.std.proofs.Common.{◌≡◌, ◌<◌, ◌≤◌, ℕ, List, [], ◌∷◌, refl, sym, ap, ◌∙◌, subst, inl, inr, arith, true}
+use Rattle.std.proofs.Common.{◌≡◌, ◌<◌, ◌≤◌, ℕ, List, [], ◌∷◌, refl, sym, ap, subst, inl, inr, arith, true}
 use Rattle.fish_lanes.proofs.Answered.{range_published}
 use Rattle.fish_lanes.proofs.Publishing.{settled_published}
 use Rattle.fish_lanes.specs.Doing.{FitsCheckpoint, FitsScanned, IsFit}
 use Rattle.fish_lanes.specs.Gains.{IsFullBy}
 use Rattle.fish_lanes.specs.Published.{IsPublished}
 use Rattle.fish_lanes.specs.Running.{IsFree, IsFullItem}
-use Rattle.fish_lanes.specs.Seen.{IsShown, Shown, range, settled, shown_by}
+use Rattle.fish_lanes.specs.Seen.{IsShown, Shown, claimed, range, settled, shown_by}
 use Rattle.fish_lanes.specs.Spans.{is_answer, made_by}
 use Rattle.fish_lanes.specs.declared.work.Work.{Work}
 use Rattle.fish_lanes.specs.declared.work.Work.TheVariants as work
@@ -19,10 +19,12 @@ use Rattle.fish_rule.specs.declared.view.View.{View}
 abbrev count_shown : Shown → ℕ
 count_shown (settled m) = m
 count_shown (range from to opens) = 0
+count_shown (claimed line lines end) = 0
 
 abbrev is_count : Shown → ℕ
 is_count (settled m) = 1
 is_count (range from to opens) = 0
+is_count (claimed line lines end) = 0
 
 -- nothing that shows nothing shows something
 shows_none : (x y : Item) (s : Shown) (P : Type 0) → x ≡ y → shown_by y ≡ [] → Among s (shown_by x) → P
@@ -39,8 +41,11 @@ module _ (u t : View) (zero_now : u.about.number ≡ 0) (zero_then : t.about.num
   item_shown (work.Deregister name) x n s (inl f) m sh = shows_none x _ s (IsPublished t n) f.2 refl m
   item_shown (work.Deregister name) x n s (inr f) m sh = shows_none x _ s (IsPublished t n) f.1 refl m
   item_shown (work.Ingest form header name file) x n s (inl f) m sh = elim (subst (λ (z : Item). Among s (shown_by z)) f.is m) [ ]
-  item_shown (work.Ingest form header name file) x n s (inr (inl f)) m sh =
-      elim (subst (λ (z : Item). Among s (shown_by z)) f.is m) [ ]
+  item_shown (work.Ingest form header name file) x n s (inr (inl f)) m sh = refused (subst (λ (z : Item). Among s (shown_by z)) f.is m)
+    where
+      refused : Among s (claimed f.line f.lines f.end ∷ []) → IsPublished t n
+      refused (inr none) = elim none [ ]
+      refused (inl e) = elim (subst (IsShown n) (sym e) sh) [ ]
   item_shown (work.Ingest form header name file) x n s (inr (inr f)) m sh =
       elim (subst (λ (z : Item). Among s (shown_by z)) f.is m) [ ]
   item_shown (work.Scan ask) x n s (inl f) m sh =
@@ -76,7 +81,11 @@ module _ (u t : View) (zero_now : u.about.number ≡ 0) (zero_then : t.about.num
   item_settles (work.Ingest form header name file) x k (inl f) m =
       elim (subst (λ (z : Item). Among (settled k) (shown_by z)) f.is m) [ ]
   item_settles (work.Ingest form header name file) x k (inr (inl f)) m =
-      elim (subst (λ (z : Item). Among (settled k) (shown_by z)) f.is m) [ ]
+      refused (subst (λ (z : Item). Among (settled k) (shown_by z)) f.is m)
+    where
+      refused : Among (settled k) (claimed f.line f.lines f.end ∷ []) → k ≤ t.learned.settled
+      refused (inr none) = elim none [ ]
+      refused (inl e) = absurd (let bad : 0 ≡ 1 = ap is_count e in cc)
   item_settles (work.Ingest form header name file) x k (inr (inr f)) m =
       elim (subst (λ (z : Item). Among (settled k) (shown_by z)) f.is m) [ ]
   item_settles (work.Scan ask) x k (inl f) m = scanned f (subst (λ (z : Item). Among (settled k) (shown_by z)) f.is m)

@@ -1,6 +1,6 @@
 -- The lines of a file, stored one after the other.
-use Rattle.std.proofs.Common.{◌≡◌, ℕ, ◌+◌, ◌<◌, ◌≤◌, List, [], ◌∷◌, ◌++◌, length, map, take, refl, sym, ap, ◌∙◌, subst, inl, inr, arith}
-use Rattle.std.proofs.Common.{append_assoc, append-nil, length-append, Option, Some, None, true, false, Bool}
+use Rattle.std.proofs.Common.{◌≡◌, ℕ, ◌+◌, ◌<◌, ◌≤◌, List, [], ◌∷◌, ◌++◌, length, map, take, refl, sym, ap, ◌∙◌, subst, inl, inr}
+use Rattle.std.proofs.Common.{⊎_elim, arith, append_assoc, append-nil, length-append, Option, Some, None, true, false, Bool}
 use Rattle.std.specs.Prelude.{is_some, option_map, if◌then◌else◌}
 use Rattle.std.proofs.lemmas.List.Sums.{sum_by-append}
 use Rattle.std.proofs.lemmas.Option.{same_Some}
@@ -9,7 +9,7 @@ use Rattle.fish_csv.specs.Reading.{row_of, rows_in}
 use Rattle.fish_csv.specs.Rows as csv
 use Rattle.fish_csv.specs.declared.file.RowTexts.{RowTexts}
 use Rattle.fish_ingest.specs.Ingestion.{CanStart, HasIngested}
-use Rattle.fish_ingest.specs.Refusal.{HasNotClaimed}
+use Rattle.fish_ingest.specs.Refusal.{HasNotClaimed, IsShutHere}
 use Rattle.fish_ingest.specs.declared.refusal.IngestRefusal.TheVariants as refusal
 use Rattle.fish_json.specs.Lines as json
 use Rattle.fish_json.specs.Reading.{record_of}
@@ -20,6 +20,7 @@ use Rattle.fish_lanes.specs.Doing.{GainsFirst, IsItem, IsPart}
 use Rattle.fish_lanes.specs.Gains.{Gains}
 use Rattle.fish_lanes.specs.Records.{Content, contents}
 use Rattle.fish_lanes.specs.Registering.{KeepsRegistry}
+use Rattle.fish_lanes.specs.Sizes.{IsSizeBetween}
 use Rattle.fish_lanes.specs.Storing.{EndsWith, FindsFull, IsFullAt, IsPartStored, IsStoredUpTo, TakesLine}
 use Rattle.fish_lanes.specs.Storing.{item_of, nothing, one_refused, one_stored}
 use Rattle.fish_lanes.specs.Telling.{AreCounted, all_of}
@@ -29,7 +30,10 @@ use Rattle.fish_lanes.specs.declared.work.Work.TheVariants as work
 use Rattle.fish_lines.specs.File.{accepted, outcomes, refused}
 use Rattle.fish_lines.specs.Lines.{file_lines}
 use Rattle.fish_psf.proofs.RecordLemmas.{csv_long, json_long}
-use Rattle.fish_psf.specs.Records.{is_record}
+use Rattle.fish_psf.specs.Keys.{keys_of}
+use Rattle.fish_psf.specs.Records.{fields_of_payload, is_record}
+use Rattle.fish_report.specs.declared.item.Item.TheVariants as item
+use Rattle.fish_rule.specs.Logs.{Learns}
 use Rattle.fish_rule.specs.Table.{Stands}
 use Rattle.fish_rule.specs.declared.view.Epoch.TheVariants.{Out}
 use Rattle.fish_rule.specs.declared.view.Shut.{Shut}
@@ -175,12 +179,52 @@ stored_line v u t form outs behind payload outcome tally after some none h (inr 
     (subst (λ (z : Option (List ℕ)). IsStoredUpTo v u form outs (z ∷ behind) tally) (none left.0) h)
     (gains_unclaimed u t left.1) (keeps_ingests u t left.1.left.on) left.2
 
+-- a line that was taken leaves what had shut the pass
+pub takes_shut : (v u : View) (form : Form) (payload : List ℕ) (t t' : Tally) → TakesLine v u form payload t t' → u.shut ≡ v.shut
+takes_shut v u form payload t t' (inl h) = h.1.shut
+takes_shut v u form payload t t' (inr h) = h.1.shut
+
+-- the claim that shuts a pass has the lines of the record that it prepared
+claim_size : (v u : View) (form : Form) (payload : List ℕ) (shut : Shut) → Learns v u → IsShutHere v form payload shut u
+    → IsSizeBetween v u form payload shut.lines
+claim_size v u form payload shut learns h =
+    let p = h.are.parts in
+    let later = learns.version in
+    let entered = h.version_is in
+    let same = p.version_is in
+    record {
+      version = h.are.origin.version;
+      least = omega arith;
+      rows = h.are.active.0;
+      knows = h.are.active.1;
+      size = record {
+        parts = h.parts;
+        form_is = p.form_is ∙ h.are.form_is;
+        payload_is = p.payload_is;
+        keys = record {
+          defs = h.are.defs;
+          are = h.are.active.2;
+          written = p.written;
+          keys = p.keys ∙ (λ i. keys_of (fields_of_payload (sym p.form_is i) (sym p.payload_is i)) h.are.defs);
+        };
+        lines_are = h.lines_are;
+      };
+    }
+
+-- whose definitions are those of no earlier version than before
+size_sooner : (v u t : View) (form : Form) (payload : List ℕ) (lines : ℕ) → Learns v u → IsSizeBetween u t form payload lines
+    → IsSizeBetween v t form payload lines
+size_sooner v u t form payload lines learns h =
+    let later = learns.version in
+    let least = h.least in
+    record { version = h.version; least = omega arith; rows = h.rows; knows = h.knows; size = h.size }
+
 -- a line that found the log full
 pub full_line : (v u t : View) (form : Form) (outs behind : List (Option (List ℕ))) (payload : List ℕ) (outcome : Option (List ℕ))
-    (tally after : Tally) (shut : Shut) → Stands t → (is_record form payload ≡ true → outcome ≡ Some payload)
+    (tally after : Tally) (shut : Shut) → Stands t → u.shut ≡ v.shut → (is_record form payload ≡ true → outcome ≡ Some payload)
     → IsStoredUpTo v u form outs (outcome ∷ behind) tally → FindsFull u t form payload tally after shut
     → IsFullAt v t form outs after shut
-full_line v u t form outs behind payload outcome tally after shut stands some h f =
+full_line v u t form outs behind payload outcome tally after shut stands same some h f =
     let is = f.1 in
     let e = refusal.Full shut.line shut.lines shut.end in
     let gains : Gains u t [] = gains_left u t is.left (keeps_refused u t form payload e is) (marks_refused u t form payload e is) in
@@ -191,6 +235,9 @@ full_line v u t form outs behind payload outcome tally after shut stands some h 
           (stored_later v u t form outs (Some payload ∷ behind) tally gains (keeps_ingests u t is.left.on)
           (subst (λ (z : Option (List ℕ)). IsStoredUpTo v u form outs (z ∷ behind) tally) (some f.0) h));
       full = full_by t shut.line shut.lines shut.end stands is.shut_is;
+      size = ⊎_elim (λ (b : (u.shut ≡ Some shut) × HasNotClaimed u t). inl (sym same ∙ b.0))
+          (λ (b : IsShutHere u form payload shut t). inr (size_sooner v u t form payload shut.lines h.gains.on.learns
+          (claim_size u t form payload shut is.left.on.learns b))) is.by_claim;
     }
 
 -- of the payloads of a file the first so many are stored
@@ -253,18 +300,26 @@ pub file_item : (v u : View) (form : Form) (header : Bool) (name file : List ℕ
     → length file ≤ longest_file → EndsWith v u form (outcomes form header file) tally end
     → IsItem v u (work.Ingest form header name file) (item_of name tally end)
 file_item v u form header name file tally None within h = record {
-  gained = stored_first v u form (outcomes form header file) [] tally h;
+  gained = stored_first v u form (outcomes form header file) [] tally h.stored;
+  shuts = λ c e. inl (sym h.shut ∙ e);
   fit = inl (record {
     stored = tally.stored;
     many = tally.refused;
     is = refl;
     within = within;
     counted = subst (λ (z : List (Option (List ℕ))). AreCounted z tally.stored tally.refused)
-        (sym (h.parts ∙ append-nil h.front)) h.counted;
+        (sym (h.stored.parts ∙ append-nil h.stored.front)) h.stored.counted;
   });
 }
 file_item v u form header name file tally (Some shut) within h = record {
   gained = stored_first v u form (outcomes form header file) (Some h.payload ∷ h.rest) tally h.stored;
+  shuts = λ c e. inr (
+    name,
+    tally.stored,
+    tally.refused,
+    inl (ap (λ (z : Shut). item.IngestFull name z.line z.lines z.end tally.stored tally.refused)
+        (same_Some shut c (sym h.full.shut ∙ e))),
+  );
   fit = inr (inl (record {
     line = shut.line;
     lines = shut.lines;
@@ -281,6 +336,7 @@ file_item v u form header name file tally (Some shut) within h = record {
       counted = h.stored.counted;
     };
     full = h.full;
+    size = h.size;
   }));
 }
 

@@ -1,8 +1,8 @@
 -- How many versions were made, by the definitions: each operation adds one or ends one.
-use Rattle.std.proofs.Common.{◌≡◌, ◌≢◌, ℕ, ◌+◌, ◌-◌, ◌%◌, ◌<◌, ◌≤◌, zero, suc, List, [], ◌∷◌, ◌++◌, length, map, refl, sym, ap, ◌∙◌}
-use Rattle.std.proofs.Common.{subst, inl, inr, ◌⊎◌, arith, Some, slice_get, true, false, Bool}
+use Rattle.std.proofs.Common.{◌≡◌, ℕ, ◌+◌, ◌-◌, ◌%◌, ◌<◌, ◌≤◌, zero, suc, List, [], ◌∷◌, ◌++◌, length, map, refl, ap, ◌∙◌}
+use Rattle.std.proofs.Common.{inl, inr, arith, Some, slice_get, true, false, Bool}
 use Rattle.std.proofs.Math.Decide.{ℕ_discrete, dec_lt}
-use Rattle.fish_catalog.specs.Listing.{IsOnAt, ended, ended_at, listed_in, listed_of}
+use Rattle.fish_catalog.specs.Listing.{ended, ended_at, listed_in, listed_of}
 use Rattle.fish_catalog.specs.declared.listed.Listed.{Listed}
 use Rattle.fish_layout.proofs.Clearing.{choose_first, choose_second}
 use Rattle.fish_layout.specs.Cleared.{choose}

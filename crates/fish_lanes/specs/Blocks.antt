@@ -85,6 +85,7 @@ pub record HasGiven (v m : View) (many : ℕ) : Type 0 where
   pub own : (o : Own) → Among o m.own → Among o v.own
   pub out_of : (l : ℕ) → Among l m.out → (2 ≤ l) × (l < many + 2)
   pub all_out : (l : ℕ) → 2 ≤ l → l < many + 2 → Among l m.out
+  pub none : many ≡ 0 → m ≡ v
 
 -- a lane has a pass that knows what the control pass knew, and the records of this lane among its own
 pub record IsSeated (log : Log) (v : View) (i : ℕ) (x y : Lane) : Type 0 where
@@ -120,6 +121,7 @@ pub record HasRunFirst (v u : View) (r s : Registrar) (x y : Lane) : Type 0 wher
   pub controlled : HasControlled v u r s x.works y.items y.fault
   pub works : y.works ≡ x.works
   pub number : y.number ≡ x.number
+  pub seat : y.seat ≡ x.seat
 
 -- ---- the passes come back
 
@@ -142,6 +144,7 @@ HasTaken m u x = (seat : Seated) → x.seat ≡ Some seat → HasTakenSeat m u s
 
 -- a lane keeps all but its pass
 pub record WasTaken (x y : Lane) : Type 0 where
+  pub seat : y.seat ≡ None
   pub number : y.number ≡ x.number
   pub works : y.works ≡ x.works
   pub items : y.items ≡ x.items
@@ -201,15 +204,17 @@ pub record HasTakenAll (m u : View) (lanes : List Lane) (many : ℕ) : Type 0 wh
   pub shut : (s : Shut) → u.shut ≡ Some s → (m.shut ≡ Some s) ⊎ IsShutOfLane lanes many s
   pub out_of : (l : ℕ) → Among l u.out → (many + 2 ≤ l) × (l < length lanes + 2)
   pub all_out : (l : ℕ) → many + 2 ≤ l → l < length lanes + 2 → Among l u.out
+  pub none : many ≡ 0 → u ≡ m
 
 -- ---- afterwards
 
--- the block lies between the log's end before it and behind it, and between the versions there
+-- the block lies between the log's end before it and behind it, and between the versions there; and what had shut the pass
 pub record IsBlockSpan (v t : View) (to : ℕ) (s : Span) : Type 0 where
   pub begins : HasEnd v s.from
   pub ends : s.to ≡ to
   pub first : s.first ≤ v.learned.version
   pub last : t.learned.version ≤ s.last
+  pub full : s.full ≡ v.shut
 
 -- what a block tells of the one log: each lane's items, of its records between the two ends
 abbrev pub TellsBlock : View → Span → List Entry → List Lane → Type 0

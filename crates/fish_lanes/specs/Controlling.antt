@@ -1,11 +1,14 @@
 -- What one step of the control pass on the definitions tells and leaves. Private clauses speak of it.
-use Rattle.std.specs.Prelude.{ℕ, ◌≡◌, ◌⊎◌, ◌+◌, ◌<◌, ◌≤◌, List, [], ◌∷◌, ◌++◌, Option, Some, None, take}
+use Rattle.std.specs.Prelude.{ℕ, ◌≡◌, ◌⊎◌, ◌<◌, List, [], ◌∷◌, ◌++◌, Option, Some, None, take}
 use Rattle.fish_ingest.specs.Ingestion.{CanStart}
 use Rattle.fish_lanes.specs.Doing.{IsFit}
+use Rattle.fish_lanes.specs.Ending.{HasEnd}
 use Rattle.fish_lanes.specs.Gains.{Gains}
 use Rattle.fish_lanes.specs.Records.{LaneRow, contents}
-use Rattle.fish_lanes.specs.Registering.{AreSo, IsBetween, IsSo, KnowsEach, KnowsRegistry, Registry, after, after_all, bound, registry_of}
+use Rattle.fish_lanes.specs.Registering.{AreSo, IsBetween, IsSo, KnowsEach, KnowsRegistry, after, after_all, bound, registry_of}
 use Rattle.fish_lanes.specs.Running.{HasRun}
+use Rattle.fish_lanes.specs.Single.{NamesNone, TellsOnly}
+use Rattle.fish_lanes.specs.Sizes.{TellsShut}
 use Rattle.fish_lanes.specs.Telling.{content_of, count_of}
 use Rattle.fish_lanes.specs.declared.block.Boundary.{Boundary}
 use Rattle.fish_lanes.specs.declared.work.LaneFault.{LaneFault}
@@ -23,6 +26,8 @@ use Rattle.fish_report.specs.declared.item.Item.TheVariants as item
 use Rattle.fish_report.specs.declared.item.RegisterCause.{RegisterCause}
 use Rattle.fish_report.specs.declared.item.RegisterCause.TheVariants as register
 use Rattle.fish_rule.specs.Passes.{IsPassOf, view}
+use Rattle.fish_rule.specs.Reading.{IsAlone}
+use Rattle.fish_rule.specs.Views.{AllOf}
 use Rattle.fish_rule.specs.declared.table.Log.{Log}
 use Rattle.fish_rule.specs.declared.table.Pass.{Pass}
 use Rattle.fish_rule.specs.declared.view.View.{View}
@@ -105,6 +110,8 @@ pub record IsControlled (u : View) (r : Registrar) (t : View) (s : Registrar) (w
   pub gains : Gains u t rows
   pub first : contents rows ≡ take (count_of x) (content_of w)
   pub fit : IsFit u t w x
+  pub shuts : TellsShut u t (x ∷ [])
+  pub none : IsAlone u → NamesNone x
   pub does : Does u r t s x
 
 -- a part of it was
@@ -114,10 +121,12 @@ pub record IsPartControlled (u t : View) (w : Work) : Type 0 where
   pub gains : Gains u t rows
   pub first : contents rows ≡ take count (content_of w)
 
--- what the statements of the first lane leave: their items, which are so of the definitions where they stand; and, unless
--- there was a fault, the registry behind them
+-- what the statements of the first lane leave: their items, which are so of the definitions where they stand, and what one that
+-- is alone tells besides; and, unless there was a fault, the registry behind them
 pub record HasControlled (v u : View) (r s : Registrar) (works : List Work) (items : List Item) (fault : LaneFault) : Type 0 where
   pub run : HasRun v u works items fault
   pub so : AreSo v.learned.count u.learned.count (registry_of v r) items
+  pub closed : IsAlone v → AllOf NamesNone items
+  pub only : (end : ℕ) → HasEnd v end → r.waiting ≡ None → TellsOnly v u end works items
   pub is : fault ≡ cause.None → registry_of u s ≡ after_all (registry_of v r) items
   pub each : fault ≡ cause.None → KnowsEach u (registry_of v r) items

@@ -1,12 +1,14 @@
 -- What one statement leaves of its pass.
-use Rattle.std.specs.Prelude.{ℕ, ◌≡◌, ◌⊎◌, ◌≤◌, List, Option, Some, None, length, take}
+use Rattle.std.specs.Prelude.{ℕ, ◌≡◌, ◌⊎◌, ◌≤◌, List, [], ◌∷◌, Option, Some, None, length, take}
 use Rattle.fish_epoch.specs.Definitions.{version_of}
 use Rattle.fish_epoch.specs.declared.definitions.Known.{Known}
 use Rattle.fish_lang.specs.Canonical.{definition_text}
 use Rattle.fish_lang.specs.Definition.{definition_of}
 use Rattle.fish_lanes.specs.Gains.{Gains, IsFullBy}
+use Rattle.fish_lanes.specs.Loading.{LoadsWithin}
 use Rattle.fish_lanes.specs.Records.{Content, LaneRow, contents}
 use Rattle.fish_lanes.specs.Registering.{IsDeregisterItem, IsRegisterItem, KeepsRegistry}
+use Rattle.fish_lanes.specs.Sizes.{IsSizeBetween, TellsShut, claim_of}
 use Rattle.fish_lanes.specs.Telling.{AreCountedUpTo, TellsStored, TellsTooLong, content_of, count_of}
 use Rattle.fish_lanes.specs.declared.work.Work.{Work}
 use Rattle.fish_lanes.specs.declared.work.Work.TheVariants as work
@@ -24,6 +26,7 @@ use Rattle.fish_scan.specs.declared.ask.Explained.{Explained}
 use Rattle.fish_scan.specs.declared.refusal.ScanRefusal.{ScanRefusal}
 use Rattle.fish_scan.specs.declared.refusal.ScanRefusal.TheVariants as refusal
 use Rattle.fish_value.specs.Limits.{longest_file}
+use Rattle.fish_value.specs.declared.field.Form.{Form}
 use Rattle.fish_value.specs.declared.row.Row.{Row}
 
 -- the pass gained the first so many of these, and the definitions are the same
@@ -58,13 +61,14 @@ abbrev pub explained_item : Ask → Explained → ℕ → Item
 explained_item ask explained version =
     item.Explained ask.name ask.value explained.from explained.to explained.plan version
 
--- an answer at a version
+-- an answer at a version, for which no more words were loaded than its plan allows
 pub record IsScanned (v u : View) (ask : Ask) (from to : ℕ) (opens : List ℕ) (rows : List Row) (version : ℕ) : Type 0 where
   pub known : Known
   pub version_is : version ≡ version_of known
   pub plan : List Piece
   pub answer : IsAnswer v u known ask
       (record { from = from; to = to; opens = opens; rows = rows; plan = plan })
+  pub loads : LoadsWithin v u ask.value (record { from = from; to = to; opens = opens; rows = rows; plan = plan })
 
 -- a plan at a version
 pub record IsPlannedAt (v u : View) (ask : Ask) (from to : ℕ) (plan : List Piece) (version : ℕ) : Type 0 where
@@ -82,7 +86,7 @@ pub record IsRefusedAt (v u : View) (ask : Ask) (version : ℕ) (why : ScanCause
 -- ---- statements
 
 -- the records in front of one that found the log full are stored
-pub record FitsFull (u : View) (outs : List (Option (List ℕ))) (name file : List ℕ) (x : Item) : Type 0 where
+pub record FitsFull (v u : View) (form : Form) (outs : List (Option (List ℕ))) (name file : List ℕ) (x : Item) : Type 0 where
   pub line : ℕ
   pub lines : ℕ
   pub end : ℕ
@@ -92,6 +96,7 @@ pub record FitsFull (u : View) (outs : List (Option (List ℕ))) (name file : Li
   pub within : length file ≤ longest_file
   pub counted : AreCountedUpTo outs stored many
   pub full : IsFullBy u line lines end
+  pub size : (v.shut ≡ Some (claim_of line lines end)) ⊎ IsSizeBetween v u form counted.payload lines
 
 -- a scan was answered
 pub record FitsScanned (v u : View) (ask : Ask) (x : Item) : Type 0 where
@@ -132,7 +137,7 @@ abbrev pub IsFit : View → View → Work → Item → Type 0
 IsFit v u (work.Register name def) x = IsRegisterItem name (definition_text (definition_of def)) x
 IsFit v u (work.Deregister name) x = IsDeregisterItem name x
 IsFit v u (work.Ingest form header name file) x = TellsStored (outcomes form header file) name file x
-    ⊎ (FitsFull u (outcomes form header file) name file x ⊎ TellsTooLong name file x)
+    ⊎ (FitsFull v u form (outcomes form header file) name file x ⊎ TellsTooLong name file x)
 IsFit v u (work.Scan ask) x = FitsScanned v u ask x ⊎ FitsRefused v u ask item.ScanRefused x
 IsFit v u (work.Explain ask) x = FitsExplained v u ask x ⊎ FitsRefused v u ask item.ExplainRefused x
 IsFit v u work.Checkpoint x = FitsCheckpoint v u x
@@ -141,6 +146,7 @@ IsFit v u work.Checkpoint x = FitsCheckpoint v u x
 pub record IsItem (v u : View) (w : Work) (x : Item) : Type 0 where
   pub gained : GainsFirst v u (content_of w) (count_of x)
   pub fit : IsFit v u w x
+  pub shuts : TellsShut v u (x ∷ [])
 
 -- a part of it was done
 abbrev pub IsPart : View → View → Work → Type 0

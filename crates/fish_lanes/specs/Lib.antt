@@ -4,12 +4,17 @@ pub mod Controlling
 pub mod Doing
 pub mod Ending
 pub mod Gains
+pub mod Loading
+pub mod Outcome
+pub mod Plans
 pub mod Published
 pub mod Records
 pub mod Registering
 pub mod Running
 pub mod Scanning
 pub mod Seen
+pub mod Single
+pub mod Sizes
 pub mod Spans
 pub mod Storing
 pub mod Telling

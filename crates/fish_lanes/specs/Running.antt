@@ -3,7 +3,9 @@ use Rattle.std.specs.Prelude.{ℕ, ◌≡◌, ◌≢◌, ◌<◌, All, List, [],
 use Rattle.fish_ingest.specs.Ingestion.{CanStart}
 use Rattle.fish_lanes.specs.Closing.{Sure}
 use Rattle.fish_lanes.specs.Gains.{Gains, IsFullBy}
+use Rattle.fish_lanes.specs.Plans.{IsKnownBegun}
 use Rattle.fish_lanes.specs.Records.{LaneRow}
+use Rattle.fish_lanes.specs.Sizes.{TellsShut}
 use Rattle.fish_lanes.specs.Spans.{IsWithinSpan, Span, answers}
 use Rattle.fish_lanes.specs.Telling.{TellsLane}
 use Rattle.fish_lanes.specs.declared.lane.Lane.{Lane}
@@ -40,9 +42,11 @@ IsFree w = ⊤
 pub record HasRun (v u : View) (works : List Work) (items : List Item) (fault : LaneFault) : Type 0 where
   pub rows : List LaneRow
   pub gains : Gains v u rows
-  pub tells : (s : Span) → IsWithinSpan v u s → Sure u (λ x log. TellsLane x s log rows works items)
+  pub tells : (s : Span) → IsWithinSpan v u s → s.full ≡ v.shut → Sure u (λ x log. TellsLane x s log rows works items)
   pub full : AllOf (IsFullItem u) items
+  pub begun : AllOf (IsKnownBegun u) items
   pub ended : IsEnded works items fault
+  pub shuts : fault ≡ cause.None → TellsShut v u items
 
 -- the pass is one of the log, live and out
 pub record CanBegin (log : Log) (pass : Pass) : Type 0 where

@@ -1,15 +1,17 @@
 -- Between which numbers of the log, and between which versions, a block lies.
-use Rattle.std.specs.Prelude.{ℕ, ◌+◌, ◌≤◌, Bool, List, false, filter, true}
+use Rattle.std.specs.Prelude.{ℕ, ◌+◌, ◌≤◌, Bool, List, Option, false, filter, true}
 use Rattle.fish_report.specs.declared.item.Item.{Item}
 use Rattle.fish_report.specs.declared.item.Item.TheVariants as item
+use Rattle.fish_rule.specs.declared.view.Shut.{Shut}
 use Rattle.fish_rule.specs.declared.view.View.{View}
 
--- the log's end before the block and behind it, and the versions there
+-- the log's end before the block and behind it, the versions there, and the claim that had found the log full before it
 pub record Span : Type 0 where
   pub from : ℕ
   pub to : ℕ
   pub first : ℕ
   pub last : ℕ
+  pub full : Option Shut
 
 -- what a lane's pass knew at its start and knows at its end lies within the block
 pub record IsWithinSpan (v u : View) (s : Span) : Type 0 where

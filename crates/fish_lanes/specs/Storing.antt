@@ -5,6 +5,7 @@ use Rattle.fish_ingest.specs.Refusal.{HasNotClaimed, IsFull}
 use Rattle.fish_lanes.specs.Gains.{Gains, IsFullBy}
 use Rattle.fish_lanes.specs.Records.{LaneRow, contents}
 use Rattle.fish_lanes.specs.Registering.{KeepsRegistry}
+use Rattle.fish_lanes.specs.Sizes.{IsSizeBetween}
 use Rattle.fish_lanes.specs.Telling.{AreCounted, all_of}
 use Rattle.fish_lanes.specs.declared.ingesting.Tally.{Tally}
 use Rattle.fish_lines.specs.File.{accepted}
@@ -61,10 +62,16 @@ pub record IsFullAt (v u : View) (form : Form) (outs : List (Option (List ℕ)))
   pub rest : List (Option (List ℕ))
   pub stored : IsStoredUpTo v u form outs (Some payload ∷ rest) tally
   pub full : IsFullBy u shut.line shut.lines shut.end
+  pub size : (v.shut ≡ Some shut) ⊎ IsSizeBetween v u form payload shut.lines
+
+-- all are, and the log wasn't found full
+pub record AreAllStored (v u : View) (form : Form) (outs : List (Option (List ℕ))) (tally : Tally) : Type 0 where
+  pub stored : IsStoredUpTo v u form outs [] tally
+  pub shut : u.shut ≡ v.shut
 
 -- all are stored, or all up to one that found the log full
 abbrev pub EndsWith : View → View → Form → List (Option (List ℕ)) → Tally → Option Shut → Type 0
-EndsWith v u form outs tally None = IsStoredUpTo v u form outs [] tally
+EndsWith v u form outs tally None = AreAllStored v u form outs tally
 EndsWith v u form outs tally (Some shut) = IsFullAt v u form outs tally shut
 
 -- some are

@@ -7,6 +7,7 @@ use Rattle.fish_lanes.specs.Records.{Content, LaneRow, contents}
 use Rattle.fish_lanes.specs.Registering.{IsDeregisterItem, IsRegisterItem}
 use Rattle.fish_lanes.specs.Scanning.{TellsExplained, TellsRefused, TellsScanned}
 use Rattle.fish_lanes.specs.Seen.{IsSeen, Shown, settled, shown_by}
+use Rattle.fish_lanes.specs.Sizes.{IsEarlier, IsSizeOf}
 use Rattle.fish_lanes.specs.Spans.{Span, answers, behind}
 use Rattle.fish_lanes.specs.declared.work.Work.{Work}
 use Rattle.fish_lanes.specs.declared.work.Work.TheVariants as work
@@ -57,8 +58,10 @@ pub record TellsStored (outs : List (Option (List ℕ))) (name file : List ℕ) 
   pub within : length file ≤ longest_file
   pub counted : AreCounted outs stored many
 
--- or only those in front of a record whose region of so many lines ends past the log's end
-pub record TellsFull (outs : List (Option (List ℕ))) (name file : List ℕ) (x : Item) : Type 0 where
+-- or only those in front of a record whose region ends past the log's end; its lines are those of that record, or those of the
+-- claim that found the log full before
+pub record TellsFull (v : View) (s : Span) (shown : List Shown) (form : Form) (outs : List (Option (List ℕ))) (name file : List ℕ)
+    (x : Item) : Type 0 where
   pub line : ℕ
   pub lines : ℕ
   pub end : ℕ
@@ -68,6 +71,7 @@ pub record TellsFull (outs : List (Option (List ℕ))) (name file : List ℕ) (x
   pub within : length file ≤ longest_file
   pub counted : AreCountedUpTo outs stored many
   pub past : end < line + lines
+  pub size : IsEarlier s shown line lines end ⊎ IsSizeOf v s form counted.payload lines
 
 -- or the file is too long, and nothing of it is stored
 pub record TellsTooLong (name file : List ℕ) (x : Item) : Type 0 where
@@ -87,7 +91,7 @@ abbrev pub TellsItem : View → Span → List Entry → List LaneRow → List Sh
 TellsItem v s log before shown (work.Register name def) x = IsRegisterItem name (definition_text (definition_of def)) x
 TellsItem v s log before shown (work.Deregister name) x = IsDeregisterItem name x
 TellsItem v s log before shown (work.Ingest form header name file) x = TellsStored (outcomes form header file) name file x
-    ⊎ (TellsFull (outcomes form header file) name file x ⊎ TellsTooLong name file x)
+    ⊎ (TellsFull v s shown form (outcomes form header file) name file x ⊎ TellsTooLong name file x)
 TellsItem v s log before shown (work.Scan ask) x = TellsScanned v s log (IsSeen s.from before shown) ask x
     ⊎ TellsRefused v s log ask item.ScanRefused x
 TellsItem v s log before shown (work.Explain ask) x = TellsExplained v s log (IsSeen s.from before shown) ask x

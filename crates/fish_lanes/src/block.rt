@@ -1,18 +1,25 @@
 //! A block: its lanes run at once, each by a pass of its own.
 
-ghost use Rattle.std.specs.Prelude.{◌≡◌, ◌≤◌, ◌<◌, ◌+◌, ℕ, length, slice_get, Some, None, [], All};
+ghost use Rattle.std.specs.Prelude.{◌≡◌, ◌⊎◌, ◌≤◌, ◌<◌, ◌+◌, ℕ, length, slice_get, Some, None, [], All};
 ghost use Rattle.std.specs.Thread.{IsSync};
-ghost use Rattle.fish_lanes.specs.Blocks.{AreDone, AreEnded, AreJoined, AreKept, AreLanes, AreReady, AreSeated, CanGive, CanTake};
+ghost use Rattle.fish_lanes.specs.Blocks.{At, AreDone, AreEnded, AreJoined, AreKept, AreLanes, AreReady, AreSeated, CanGive, CanTake};
 ghost use Rattle.fish_lanes.specs.Blocks.{HasGiven, HasRegistered, HasRunFirst, HasSeat, HasTaken, HasTakenAll, IsBlockSpan, IsFirst};
-ghost use Rattle.fish_lanes.specs.Blocks.{IsMarkItem, IsNewLane, NameMarks, TellsBlock, TellsFirst, TellsOthers, WasTaken, WereTaken};
+ghost use Rattle.fish_lanes.specs.Blocks.{IsMarkItem, IsNewLane, NameMarks, TellsBlock, TellsFirst};
+ghost use Rattle.fish_lanes.specs.Outcome.{AreVacant, TellsAlone, TellsAloneBy};
+ghost use Rattle.fish_lanes.specs.Blocks.{TellsOthers, WasTaken, WereTaken};
+ghost use Rattle.fish_lanes.specs.Outcome.{IsFullIn, PlansAreBegun, TellsShutBy};
 ghost use Rattle.fish_lanes.specs.Closing.{Later, Will};
 ghost use Rattle.fish_lanes.specs.Controlling.{CanControl};
 ghost use Rattle.fish_lanes.specs.Ending.{HasEnd};
+ghost use Rattle.fish_lanes.specs.Plans.{IsBegunItem};
 ghost use Rattle.fish_lanes.specs.Registering.{IsAcceptable, KnowsRegistry, registry_of};
 ghost use Rattle.fish_lanes.specs.Running.{CanBegin, HasDone, HasRun, IsEnded, IsFree, IsReady};
+ghost use Rattle.fish_lanes.specs.Sizes.{TellsClaim};
 ghost use Rattle.fish_lanes.specs.Spans.{Span};
+ghost use Rattle.fish_lanes.specs.declared.work.LaneFault.TheVariants as cause;
 ghost use Rattle.fish_rule.specs.Passes.{IsPassOf, view};
 ghost use Rattle.fish_rule.specs.Views.{AllOf};
+ghost use Rattle.fish_rule.specs.declared.view.Shut.{Shut};
 ghost use Rattle.fish_rule.specs.Seating.{CanSplit, split_left, split_right};
 
 use crate::control::run_control;
@@ -233,12 +240,20 @@ fn run_lanes<R: Threads + Sync>(
     ensures end { HasEnd (view main.new) result.to }
     ensures later { Later (view main.old) (view main.new) }
     ensures first { (first.new.number ≡ first.old.number) × (first.new.works ≡ first.old.works) }
+    ensures first_seat { first.new.seat ≡ first.old.seat }
     ensures kept { AreKept others.old others.new }
+    ensures vacant { AreVacant others.new }
     ensures told { (s : Span) → IsBlockSpan (view main.old) (view main.new) result.to s → (s.from ≤ s.to)
         × Will (view main.new) (TellsFirst s first.new) × Will (view main.new) (TellsOthers s others.new) }
     ensures registered { HasRegistered (view main.old) (view main.new) registrar.old registrar.new first.new result }
+    ensures alone { others.old ≡ [] → TellsAloneBy (view main.old) (view main.new) registrar.old first.new }
     ensures first_ended { IsEnded first.new.works first.new.items first.new.fault }
     ensures others_ended { AreEnded others.new }
+    ensures shuts { first.new.fault ≡ cause.None → At (λ i x. x.fault ≡ cause.None) others.new
+        → (c : Shut) → (view main.new).shut ≡ Some c → ((view main.old).shut ≡ Some c)
+        ⊎ (TellsClaim c first.new.items ⊎ IsFullIn others.new c.line c.lines c.end) }
+    ensures first_begun { AllOf (IsBegunItem registrar.new.catalog) first.new.items }
+    ensures others_begun { PlansAreBegun registrar.new.catalog others.new }
     ensures first_marks { AllOf (IsMarkItem (view main.new)) first.new.items }
     ensures others_marks { NameMarks (view main.new) others.new }
 {
@@ -281,12 +296,16 @@ pub fn run_block<R: Threads + Sync>(
     ensures end { HasEnd (view main.new) result.to }
     ensures later { Later (view main.old) (view main.new) }
     ensures kept { AreKept lanes.old lanes.new }
+    ensures vacant { AreVacant lanes.old → AreVacant lanes.new }
     ensures told { (s : Span) → IsBlockSpan (view main.old) (view main.new) result.to s → (s.from ≤ s.to)
         × Will (view main.new) (λ v log. TellsBlock v s log lanes.new) }
     ensures registered { (x : Lane) → slice_get lanes.new 0 ≡ Some x
         → HasRegistered (view main.old) (view main.new) registrar.old registrar.new x result }
+    ensures alone { TellsAlone (view main.old) (view main.new) registrar.old lanes.new }
     ensures ended { AreEnded lanes.new }
     ensures marks { NameMarks (view main.new) lanes.new }
+    ensures begun { PlansAreBegun registrar.new.catalog lanes.new }
+    ensures shuts { TellsShutBy (view main.old) (view main.new) lanes.new }
 {
     let (first, others) = lanes.split_at_mut(1);
     run_lanes(rt, alloc, log, main, registrar, &mut first[0], others, gate)

@@ -9,6 +9,7 @@ ghost use Rattle.fish_lanes.specs.Controlling.{CanControl, Does, HasPolled, IsFo
 ghost use Rattle.fish_lanes.specs.Controlling.{deregister_cause, register_cause};
 ghost use Rattle.fish_lanes.specs.Gains.{Gains};
 ghost use Rattle.fish_lanes.specs.Registering.{IsDeregisterItem, IsRegisterItem};
+ghost use Rattle.fish_lanes.specs.Single.{NamesNone};
 ghost use Rattle.fish_registry.specs.Changing.{Changes};
 ghost use Rattle.fish_registry.specs.Refusing.{IsSaid};
 ghost use Rattle.fish_rule.specs.Passes.{IsPassOf, view};
@@ -35,6 +36,9 @@ pub(crate) fn find_boundary(
     requires can { CanControl log.now pass.old registrar.old }
     ensures can { CanControl log.now pass.new registrar.new }
     ensures gains { Gains (view pass.old) (view pass.new) [] }
+    ensures shut { (view pass.new).shut ≡ (view pass.old).shut }
+    ensures loads { (view pass.new).clock.loads ≡ (view pass.old).clock.loads }
+    ensures idle { registrar.old.waiting ≡ None → (view pass.new ≡ view pass.old) × (registrar.new.waiting ≡ None) }
     ensures polled { OnOk result
         (HasPolled (view pass.old) registrar.old (view pass.new) registrar.new items.old items.new) }
     ensures refused { OnErr result (items.new ≡ items.old) }
@@ -79,6 +83,8 @@ pub(crate) fn register(
     ensures can { CanControl log.now pass.new registrar.new }
     ensures defs { IsDefsOf (view pass.new) defs.new }
     ensures gains { Gains (view pass.old) (view pass.new) [] }
+    ensures shut { (view pass.new).shut ≡ (view pass.old).shut }
+    ensures alone { IsAlone (view pass.old) → IfOk result NamesNone }
     ensures item { IfOk result (IsRegisterItem name.now (definition_text (definition_of def.now))) }
     ensures does { IfOk result (Does (view pass.old) registrar.old (view pass.new) registrar.new) }
 {
@@ -111,6 +117,8 @@ fn registered(
     ensures can { CanControl log.now pass.new registrar.new }
     ensures defs { IsDefsOf (view pass.new) defs.new }
     ensures gains { Gains (view pass.old) (view pass.new) [] }
+    ensures shut { (view pass.new).shut ≡ (view pass.old).shut }
+    ensures alone { IsAlone (view pass.old) → IfOk result NamesNone }
     ensures tells { IfOk result (TellsBegun (view pass.old) registrar.old (view pass.new) registrar.new name id def) }
 {
     read_definitions(log, pass, defs)?;
@@ -146,6 +154,7 @@ pub(crate) fn deregister(
     ensures can { CanControl log.now pass.new registrar.new }
     ensures defs { IsDefsOf (view pass.new) defs.new }
     ensures gains { Gains (view pass.old) (view pass.new) [] }
+    ensures shut { (view pass.new).shut ≡ (view pass.old).shut }
     ensures item { IfOk result (IsDeregisterItem name.now) }
     ensures does { IfOk result (Does (view pass.old) registrar.old (view pass.new) registrar.new) }
 {

@@ -3,6 +3,7 @@
 ghost use Rattle.std.specs.Prelude.{◌≡◌, ◌<◌, IfErr, IfOk, Some};
 ghost use Rattle.fish_epoch.specs.Definitions.{IsDefsOf};
 ghost use Rattle.fish_lanes.specs.Doing.{IsFit, cause_of, explained_item, scanned_item};
+ghost use Rattle.fish_lanes.specs.Loading.{LoadsWithin};
 ghost use Rattle.fish_lanes.specs.declared.work.Work.TheVariants as work;
 ghost use Rattle.fish_rule.specs.Passes.{IsPassOf, view};
 ghost use Rattle.fish_scan.specs.Scans.{IsAnswer, IsRefused, OnlyScans};
@@ -171,6 +172,7 @@ fn scan_counted(
     ensures only { OnlyScans (view pass.old) (view pass.new) }
     ensures defs { IsDefsOf (view pass.new) defs.new }
     ensures answer { IfOk result (IsAnswer (view pass.old) (view pass.new) defs.new.known ask.now) }
+    ensures loads { IfOk result (LoadsWithin (view pass.old) (view pass.new) ask.now.value) }
     ensures refused { IfErr result (IsRefused (view pass.old) (view pass.new) defs.new.known ask.now) }
 {
     scan_with::<Brand, Brand>(alloc, Blank::new(1), Blank::new(1), log, pass, defs, ask)
@@ -198,6 +200,7 @@ fn scan_with<P: Ledger, L: Ledger>(
     ensures only { OnlyScans (view pass.old) (view pass.new) }
     ensures defs { IsDefsOf (view pass.new) defs.new }
     ensures answer { IfOk result (IsAnswer (view pass.old) (view pass.new) defs.new.known ask.now) }
+    ensures loads { IfOk result (LoadsWithin (view pass.old) (view pass.new) ask.now.value) }
     ensures refused { IfErr result (IsRefused (view pass.old) (view pass.new) defs.new.known ask.now) }
 {
     let mut parses = Steps::<P>::new(parses);

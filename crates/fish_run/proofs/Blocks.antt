@@ -1,18 +1,22 @@
 -- Blocks, one after the other, and the log in the end.
 use Rattle.std.proofs.Common.{◌≡◌, ℕ, suc, ◌+◌, ◌<◌, ◌≤◌, List, [], ◌∷◌, ◌++◌, length, refl, sym, ap, ◌∙◌, subst, inl, inr, ⊎_elim, arith}
-use Rattle.std.proofs.Common.{Bool, Option, Some, get_or, slice_get}
+use Rattle.std.proofs.Common.{Bool, None, Option, Some, ◌⊎◌, append-nil, append_assoc, get_or, slice_get}
 use Rattle.std.specs.Prelude.{◌||◌}
 use Rattle.std.proofs.lemmas.Option.{slice_get-get_or, slice_get_within}
 use Rattle.fish_catalog.specs.declared.entry.Entry.{Entry}
 use Rattle.fish_lanes.proofs.Controls.{each_later}
 use Rattle.fish_lanes.proofs.Gaining.{same_lines}
+use Rattle.fish_lanes.proofs.Single.{singles_whole}
 use Rattle.fish_lanes.proofs.Surely.{will_later}
-use Rattle.fish_lanes.specs.Blocks.{AreEnded, AreKept, AreLanes, HasRegistered, IsBlockSpan, IsMarkItem, NameMarks, TellsBlock}
+use Rattle.fish_lanes.specs.Blocks.{AreEnded, AreKept, AreLanes, HasRegistered, IsBlockSpan, IsMarkItem, NameMarks}
+use Rattle.fish_lanes.specs.Outcome.{IsFullIn}
+use Rattle.fish_lanes.specs.Blocks.{TellsBlock}
+use Rattle.fish_lanes.specs.Outcome.{PlansAreBegun, TellsAlone, TellsShutBy}
 use Rattle.fish_lanes.specs.Closing.{Later, Will}
 use Rattle.fish_lanes.specs.Ending.{HasEnd}
 use Rattle.fish_lanes.specs.Gains.{IsMarkAt}
 use Rattle.fish_lanes.specs.Registering.{AreSo, KnowsEach, Registry, registry_of}
-use Rattle.fish_lanes.specs.Spans.{Span}
+use Rattle.fish_lanes.specs.Spans.{Span, answers}
 use Rattle.fish_lanes.specs.declared.block.BlockEnd.{BlockEnd}
 use Rattle.fish_lanes.specs.declared.lane.Lane.{Lane}
 use Rattle.fish_lanes.specs.declared.work.Work.{Work}
@@ -21,17 +25,18 @@ use Rattle.fish_registry.specs.declared.registrar.Registrar.{Registrar}
 use Rattle.fish_report.specs.ReportText.{report_text}
 use Rattle.fish_report.specs.declared.item.Item.{Item}
 use Rattle.fish_report.specs.declared.item.Item.TheVariants as item
-use Rattle.fish_rule.proofs.Common.{all_among, among_either}
+use Rattle.fish_rule.proofs.Common.{all_among, among_either, among_left, among_right}
 use Rattle.fish_rule.proofs.Walking.{always_later}
 use Rattle.fish_rule.specs.Logs.{Learns}
 use Rattle.fish_rule.specs.Table.{Stands}
 use Rattle.fish_rule.specs.Views.{AllOf, Among}
 use Rattle.fish_rule.specs.Walking.{Always}
 use Rattle.fish_rule.specs.declared.view.Key.{Key}
+use Rattle.fish_rule.specs.declared.view.Shut.{Shut}
 use Rattle.fish_rule.specs.declared.view.View.{View}
 use Rattle.fish_run.proofs.Lists.{pairs_map, pairs_push}
 use Rattle.fish_run.proofs.Works.{lanes_later}
-use Rattle.fish_run.specs.Blocks.{AreMarked, Block, FullsAgree, IsFullOf, TellsBlocks, TellsOne, TellsPart}
+use Rattle.fish_run.specs.Blocks.{AreFullSince, AreMarked, Block, FullsAgree, IsFullOf, IsFullSince, TellsBlocks, TellsOne, TellsPart}
 use Rattle.fish_run.specs.Blocks.{behind_block, behind_blocks, first_items, lanes_controls, no_registry}
 use Rattle.fish_run.specs.Ran.{IsBlockOf}
 use Rattle.fish_run.specs.Reports.{lanes_items, lanes_refused}
@@ -91,13 +96,38 @@ ran_later old new text v u r to blocks still later h = record {
   tells = will_later v u (λ x log. TellsBlocks x log 0 no_registry blocks to) later h.tells;
   marks = marked_later v u blocks later.learns h.marks;
   behind = h.behind;
+  fulls = h.fulls;
 }
+
+-- what had found the log full before one more
+pub since_more : (earlier blocks : List Block) (b : Block) → AreFullSince earlier blocks → IsFullSince (earlier ++ blocks) b
+    → AreFullSince earlier (blocks ++ b ∷ [])
+since_more earlier [] b h one = (subst (λ (z : List Block). IsFullSince z b) (append-nil earlier) one, tt)
+since_more earlier (x ∷ blocks) b h one = (
+  h.0,
+  since_more (earlier ++ x ∷ []) blocks b h.1 (subst (λ (z : List Block). IsFullSince z b)
+      (sym (append_assoc earlier (x ∷ []) blocks)) one),
+)
+
+-- an item of one of them is an item of all
+full_left : (blocks : List Block) (b : Block) (line lines end : ℕ) → IsFullOf blocks line lines end
+    → IsFullOf (blocks ++ b ∷ []) line lines end
+full_left blocks b line lines end h = (h.0, among_left h.0 blocks (b ∷ []) h.1, h.2)
+
+-- what shuts the pass behind one more, an item tells of
+pub shut_more : (blocks : List Block) (b : Block) (v u : View) → ((c : Shut) → v.shut ≡ Some c → IsFullOf blocks c.line c.lines c.end)
+    → ((c : Shut) → u.shut ≡ Some c → (v.shut ≡ Some c) ⊎ IsFullIn b.lanes c.line c.lines c.end) → (c : Shut) → u.shut ≡ Some c
+    → IsFullOf (blocks ++ b ∷ []) c.line c.lines c.end
+shut_more blocks b v u before one c e =
+    ⊎_elim (λ (same : v.shut ≡ Some c). full_left blocks b c.line c.lines c.end (before c same))
+    (λ (k : IsFullIn b.lanes c.line c.lines c.end). (b, among_right b blocks (b ∷ []) (inl refl), k)) (one c e)
 
 -- one more ran
 pub ran_more : (old new : Option Files) (text : List script.Block) (s : script.Block) (v u : View) (r t : Registry) (mid to : ℕ)
     (blocks : List Block) (b : Block) → StillTold old new → Later v u → HasRunBlocks old text v r mid blocks
-    → HasRunOne new s u r t mid to b → HasRunBlocks new (text ++ s ∷ []) u t to (blocks ++ b ∷ [])
-ran_more old new text s v u r t mid to blocks b still later h one =
+    → ((c : Shut) → v.shut ≡ Some c → IsFullOf blocks c.line c.lines c.end) → HasRunOne new s v.shut u r t mid to b
+    → HasRunBlocks new (text ++ s ∷ []) u t to (blocks ++ b ∷ [])
+ran_more old new text s v u r t mid to blocks b still later h full one =
     let before = ran_later old new text v u r mid blocks still later h in
     record {
       are = pairs_push (IsBlockOf new) text blocks s b before.are one.is;
@@ -109,6 +139,7 @@ ran_more old new text s v u r t mid to blocks b still later h one =
           (λ (m : Among a (b ∷ [])). ⊎_elim (λ (e : b ≡ a). subst (λ (z : Block). NameMarks u z.lanes) e one.marks)
           (λ (bad : Among a []). elim bad [ ]) m) (among_either a blocks (b ∷ []) among);
       behind = one.behind ∙ ap (λ (z : Registry). behind_block z b) h.behind ∙ sym (behind_more no_registry blocks b);
+      fulls = since_more [] blocks b h.fulls (λ c e. full c (sym one.full_is ∙ e));
     }
 
 -- ---- refusals of a full log
@@ -145,7 +176,8 @@ lanes_kept told (ss ∷ texts) (x ∷ old) (y ∷ new) many same h = (
 
 -- what lies between two moments of the control pass
 abbrev pub span_of : ℕ → ℕ → View → View → Span
-span_of from to v u = record { from = from; to = to; first = v.learned.version; last = u.learned.version }
+span_of from to v u =
+    record { from = from; to = to; first = v.learned.version; last = u.learned.version; full = v.shut }
 
 -- the block between them
 abbrev pub block_of : Bool → ℕ → View → View → List Lane → BlockEnd → Block
@@ -185,8 +217,9 @@ pub leaves_of : (told : Option Files) (text : script.Block) (v u : View) (r s : 
     → HasEnd v from
     → ((k : Span) → IsBlockSpan v u end.to k → (k.from ≤ k.to) × Will u (λ x log. TellsBlock x k log lanes))
     → ((x : Lane) → slice_get lanes 0 ≡ Some x → HasRegistered v u r s x end) → AreEnded lanes → NameMarks u lanes
+    → TellsShutBy v u lanes → PlansAreBegun s.catalog lanes → r.waiting ≡ None → TellsAlone v u r lanes
     → Leaves told text v u r s from lanes end
-leaves_of told text v u r s from items lanes end are works many kept begins tells has ended marks = record {
+leaves_of told text v u r s from items lanes end are works many kept begins tells has ended marks shuts begun settled alone = record {
   works = lanes_kept told text.lanes items lanes many (λ i x y at bt. (kept i x y at bt).1) works;
   numbers = λ i x at.
       let below = slice_get_within lanes i x at in
@@ -198,6 +231,11 @@ leaves_of told text v u r s from items lanes end are works many kept begins tell
   has = has;
   ended = ended;
   marks = marks;
+  alone = λ x one.
+      let a = alone x one in
+      record { none = a.closed; whole = λ w only. singles_whole v u from w (answers x.items) (a.only from begins settled w only) };
+  shuts = shuts;
+  begun = begun;
 }
 
 module _ (told : Option Files) (text : script.Block) (v u : View) (r s : Registrar) (from : ℕ) (lanes : List Lane) (end : BlockEnd)
@@ -209,7 +247,7 @@ module _ (told : Option Files) (text : script.Block) (v u : View) (r s : Registr
   is_left = record { several = refl; lanes = h.works; numbers = h.numbers }
 
   spans : IsBlockSpan v u end.to left.span
-  spans = record { begins = h.begins; ends = refl; first = omega arith; last = omega arith }
+  spans = record { begins = h.begins; ends = refl; first = omega arith; last = omega arith; full = refl }
 
   part_of : (x : View) (log : List Entry) → TellsBlock x left.span log lanes → TellsPart x log from (registry_of v r) left
   part_of x log t = record {
@@ -220,23 +258,27 @@ module _ (told : Option Files) (text : script.Block) (v u : View) (r s : Registr
     lanes = t;
     registers = first_so v u r s lanes end left.span spans h.has;
     ended = h.ended;
+    alone = h.alone;
   }
 
   -- a lane may have stopped at a fault
-  pub left_cut : HasCutOne told text u (registry_of v r) from end.to left
+  pub left_cut : HasCutOne told text v.shut u (registry_of v r) from end.to left
   left_cut = record {
     is = is_left;
+    full_is = refl;
     ends = refl;
     tells = λ x remains base main none later c.
         part_of x remains.log ((h.tells left.span spans).1 x remains base main none later c);
   }
 
   -- none did
-  pub left_whole : AreWhole lanes → HasRunOne told text u (registry_of v r) (registry_of u s) from end.to left
+  pub left_whole : AreWhole lanes → HasRunOne told text v.shut u (registry_of v r) (registry_of u s) from end.to left
   left_whole whole =
       let after = controls_after v u r s lanes end text.several from h.some whole h.has in
       record {
         is = is_left;
+        full_is = refl;
+        shut = h.shuts whole;
         ends = refl;
         tells = λ x remains base main none later c. record {
           part = part_of x remains.log ((h.tells left.span spans).1 x remains base main none later c);
@@ -244,6 +286,7 @@ module _ (told : Option Files) (text : script.Block) (v u : View) (r s : Registr
           knows = each_later u x (registry_of v r) (lanes_controls lanes end) later.learns
               (controls_known v u r s lanes end h.some whole h.has);
           last = ap (λ (z : Registry). z.version) after;
+          plans = subst (λ (z : Registry). PlansAreBegun z.rows lanes) after h.begun;
         };
         marks = h.marks;
         behind = after;
@@ -252,14 +295,14 @@ module _ (told : Option Files) (text : script.Block) (v u : View) (r s : Registr
   -- it was written
   pub one_written : (old new : Option (List ℕ)) (before now : Bool) → AreWhole lanes
       → Gained old new (report_text (lanes_items text.several from end lanes)) → now ≡ before || lanes_refused lanes
-      → WritesOne told text u (registry_of v r) (registry_of u s) from end.to old new before now
+      → WritesOne told text v.shut u (registry_of v r) (registry_of u s) from end.to old new before now
   one_written old new before now whole written refused =
       record { block = left; ran = left_whole whole; written = written; refused = refused }
 
   -- or a fault came in it, or behind it
   pub one_stopped : (old new : Option (List ℕ)) (why : RunFault)
       → StopsTelling lanes (lanes_items text.several from end lanes) old new why
-      → StopsOne told text u (registry_of v r) (registry_of u s) from end.to old new why
+      → StopsOne told text v.shut u (registry_of v r) (registry_of u s) from end.to old new why
   one_stopped old new why stop = (
     stop.0,
     inr (

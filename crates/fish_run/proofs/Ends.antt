@@ -19,11 +19,12 @@ use Rattle.fish_report.specs.declared.item.Item.TheVariants as item
 use Rattle.fish_rule.specs.Closing.{IsClosed}
 use Rattle.fish_rule.specs.Table.{Stands}
 use Rattle.fish_rule.specs.declared.close.Remains.{Remains}
+use Rattle.fish_rule.specs.declared.view.Shut.{Shut}
 use Rattle.fish_rule.specs.declared.view.View.{View}
-use Rattle.fish_run.proofs.Blocks.{fulls_agree, ran_later, ran_more}
+use Rattle.fish_run.proofs.Blocks.{fulls_agree, ran_later, ran_more, shut_more}
 use Rattle.fish_run.proofs.Lists.{get_at, pairs_length, take_length}
 use Rattle.fish_run.proofs.Written.{gained_none, part_still, part_then, part_whole, written_both}
-use Rattle.fish_run.specs.Blocks.{Block, TellsPart, TellsRun, no_registry}
+use Rattle.fish_run.specs.Blocks.{Block, IsFullOf, TellsPart, TellsRun, no_registry}
 use Rattle.fish_run.specs.Ran.{AreFirst, IsBlockOf, IsLost, IsStopped, IsWhole}
 use Rattle.fish_run.specs.Reports.{are_refused, block_items, lanes_refused, report_of, whole_report}
 use Rattle.fish_run.specs.Steps.{Finishes, HasCutOne, HasRunBlocks, HasRunFirst, HasRunOne, RunsAll, RunsSome, StopsOne}
@@ -49,25 +50,28 @@ refused_more blocks b = list_any-append (λ (x : Block). lanes_refused x.lanes) 
 
 -- none ran yet, and the first item was written
 pub writes_first : (told : Option Files) (v : View) (r : Registry) (a b : Option (List ℕ)) (refused : Bool) → r ≡ no_registry
-    → Gained a b (report_text (item.Created ∷ [])) → refused ≡ false → WritesBlocks told [] v r 0 a b refused
-writes_first told v r a b refused none written accepted = record {
+    → v.shut ≡ None → Gained a b (report_text (item.Created ∷ [])) → refused ≡ false → WritesBlocks told [] v r 0 a b refused
+writes_first told v r a b refused none unshut written accepted = record {
   blocks = [];
   ran = record {
     are = tt;
     tells = λ x remains base main out later c. refl;
     marks = λ x among. elim among [ ];
     behind = none;
+    fulls = tt;
   };
+  shut = λ c e. (let bad : None ≡ Some c = sym unshut ∙ e in absurd cc);
   written = written;
   refused_is = accepted;
 }
 
 pub writes_more : (old new : Option Files) (text : List script.Block) (s : script.Block) (v u : View) (r t : Registry) (mid to : ℕ)
     (a b c : Option (List ℕ)) (before now : Bool) → StillTold old new → Later v u → WritesBlocks old text v r mid a b before
-    → WritesOne new s u r t mid to b c before now → WritesBlocks new (text ++ s ∷ []) u t to a c now
+    → WritesOne new s v.shut u r t mid to b c before now → WritesBlocks new (text ++ s ∷ []) u t to a c now
 writes_more old new text s v u r t mid to a b c before now still later h one = record {
   blocks = h.blocks ++ one.block ∷ [];
-  ran = ran_more old new text s v u r t mid to h.blocks one.block still later h.ran one.ran;
+  ran = ran_more old new text s v u r t mid to h.blocks one.block still later h.ran h.shut one.ran;
+  shut = shut_more h.blocks one.block v u h.shut one.ran.shut;
   written = subst (λ (z : List Item). Gained a c (report_text z)) (sym (report_more h.blocks one.block))
       (written_both a b c (report_of h.blocks) (block_items one.block) h.written one.written);
   refused_is = one.refused ∙ ap (λ z. z || lanes_refused one.block.lanes) h.refused_is
@@ -95,15 +99,18 @@ module _ (told : Option Files) (text : List script.Block) (i : ℕ) (less : i �
       to = mid;
       whole = h.tells x remains base main none later c;
       rest = same;
+      fulls = h.fulls;
+      rest_full = tt;
     };
     marks = h.marks;
   }
 
   -- and one more was cut
   pub first_cut : (r : Registry) (s : script.Block) (mid to : ℕ) (blocks : List Block) (b : Block) → HasEnd u to
-      → slice_get text i ≡ Some s → HasRunBlocks told (take i text) u r mid blocks → HasCutOne told s u r mid to b
+      → slice_get text i ≡ Some s → HasRunBlocks told (take i text) u r mid blocks
+      → (full : Option Shut) → ((c : Shut) → full ≡ Some c → IsFullOf blocks c.line c.lines c.end) → HasCutOne told s full u r mid to b
       → HasRunFirst told text u blocks (Some b) to
-  first_cut r s mid to blocks b ends at h cut = record {
+  first_cut r s mid to blocks b ends at h full before cut = record {
     are = are_first blocks h.are;
     cut_is = (s, ap (slice_get text) (many_are blocks h.are) ∙ at, cut.is);
     ends = ends;
@@ -111,6 +118,8 @@ module _ (told : Option Files) (text : List script.Block) (i : ℕ) (less : i �
       to = mid;
       whole = h.tells x remains base main none later c;
       rest = (subst (λ (z : Registry). TellsPart x remains.log mid z b) h.behind (cut.tells x remains base main none later c), cut.ends);
+      fulls = h.fulls;
+      rest_full = λ c e. before c (sym cut.full_is ∙ e);
     };
     marks = h.marks;
   }
@@ -119,7 +128,7 @@ module _ (told : Option Files) (text : List script.Block) (i : ℕ) (less : i �
 pub stops_some : (old new : Option Files) (text : List script.Block) (i : ℕ) (s : script.Block) (v u : View) (r t : Registry)
     (mid to : ℕ) (a b c : Option (List ℕ)) (refused : Bool) (why : RunFault) → i < length text → s ≡ get_or text i s
     → StillTold old new → Later v u → HasEnd u to → WritesBlocks old (take i text) v r mid a b refused
-    → StopsOne new s u r t mid to b c why → RunsSome new text u a c why
+    → StopsOne new s v.shut u r t mid to b c why → RunsSome new text u a c why
 stops_some old new text i s v u r t mid to a b c refused why less is still later ends h stop =
     ⊎_elim not_run (λ (m : (why ≢ fault.Input) × (Cut ⊎ Whole)). ⊎_elim (was_cut m.0) (was_whole m.0) m.1) stop.1
   where
@@ -130,10 +139,10 @@ stops_some old new text i s v u r t mid to a b c refused why less is still later
     before = ran_later old new (take i text) v u r mid blocks still later h.ran
 
     Cut : Type 0
-    Cut = (x : Block) × HasCutOne new s u r mid to x × Gained b c []
+    Cut = (x : Block) × HasCutOne new s v.shut u r mid to x × Gained b c []
 
     Whole : Type 0
-    Whole = (x : Block) × HasRunOne new s u r t mid to x × GainedPart b c (report_text (block_items x))
+    Whole = (x : Block) × HasRunOne new s v.shut u r t mid to x × GainedPart b c (report_text (block_items x))
 
     not_run : (mid ≡ to) × Gained b c [] → RunsSome new text u a c why
     not_run m = record {
@@ -152,14 +161,14 @@ stops_some old new text i s v u r t mid to a b c refused why less is still later
       blocks = blocks;
       cut = Some m.0;
       end = to;
-      ran = first_cut new text i (omega (less, arith)) u r s mid to blocks m.0 ends (get_at text i s less is) before m.1;
+      ran = first_cut new text i (omega (less, arith)) u r s mid to blocks m.0 ends (get_at text i s less is) before v.shut h.shut m.1;
       written = part_whole a c (report_text (report_of blocks)) (gained_none a b c (report_text (report_of blocks)) h.written m.2);
       input = λ e. absurd (other e);
     }
 
     was_whole : why ≢ fault.Input → Whole → RunsSome new text u a c why
     was_whole other m =
-        let more = ran_more old new (take i text) s v u r t mid to blocks m.0 still later h.ran m.1 in
+        let more = ran_more old new (take i text) s v u r t mid to blocks m.0 still later h.ran h.shut m.1 in
         let next : take (i + 1) text ≡ take i text ++ s ∷ []
         = take_more text i s less ∙ ap (λ (z : script.Block). take i text ++ z ∷ []) (sym is) in
         record {
@@ -198,7 +207,7 @@ stops_first told text u a b why named other ends part = record {
     are = tt;
     cut_is = tt;
     ends = ends;
-    tells = λ x remains base main none later c. record { to = 0; whole = refl; rest = refl };
+    tells = λ x remains base main none later c. record { to = 0; whole = refl; rest = refl; fulls = tt; rest_full = tt };
     marks = λ b among. elim among [ ];
   };
   written = part;

@@ -50,9 +50,9 @@ first_end v k is number line = subst (λ (z : View). HasEnd z 0) (sym is) (recor
 })
 
 -- so its control pass may run a block, with a registrar that has no row
-pub go_first : (log : Log) (main : Pass) (r : Registrar) → IsNewLog log main → r.catalog ≡ [] → KnowsFirst r
+pub go_first : (log : Log) (main : Pass) (r : Registrar) → IsNewLog log main → r.catalog ≡ [] → r.waiting ≡ None → KnowsFirst r
     → CanGoOn log main r 0
-go_first log main r new none knows =
+go_first log main r new none settled knows =
     let k = log.key in
     let rows : k.rows.value ≡ r.catalog = new.rows ∙ sym none in
     record {
@@ -67,6 +67,7 @@ go_first log main r new none knows =
         reached = omega arith;
         are = λ g read. definitions_first k g k.version (omega arith) ∙ ap (map listed_of) rows;
       });
+      settled = settled;
     }
 
 -- and has no definition
@@ -124,4 +125,5 @@ go_next log v main r s x end can ends has whole = record {
   end = ends;
   known = subst (KnowsRegistry (view main)) (sym (has.is whole))
       (each_last (view main) (registry_of v r) (control_items x end) (has.each whole));
+  settled = has.settled;
 }

@@ -1,14 +1,17 @@
 -- What the blocks of a run tell of the one log that is left.
-use Rattle.std.specs.Prelude.{ℕ, ◌≡◌, ◌≤◌, ◌+◌, List, [], ◌∷◌, Bool, Option, Some, None, slice_get}
+use Rattle.std.specs.Prelude.{ℕ, ◌≡◌, ◌≤◌, ◌+◌, List, [], ◌∷◌, ◌++◌, Bool, IfSome, Option, Some, None, ⊤}
 use Rattle.fish_catalog.specs.declared.entry.Entry.{Entry}
 use Rattle.fish_lanes.specs.Blocks.{AreEnded, NameMarks, TellsBlock, control_items}
+use Rattle.fish_lanes.specs.Outcome.{IsFullIn, PlansAreBegun}
 use Rattle.fish_lanes.specs.Registering.{AreSo, KnowsEach, Registry, after_all}
-use Rattle.fish_lanes.specs.Spans.{Span}
+use Rattle.fish_lanes.specs.Single.{NamesNone, TellsWhole}
+use Rattle.fish_lanes.specs.Spans.{Span, answers}
 use Rattle.fish_lanes.specs.declared.block.BlockEnd.{BlockEnd}
 use Rattle.fish_lanes.specs.declared.lane.Lane.{Lane}
+use Rattle.fish_lanes.specs.declared.work.Work.{Work}
 use Rattle.fish_report.specs.declared.item.Item.{Item}
-use Rattle.fish_report.specs.declared.item.Item.TheVariants as item
-use Rattle.fish_rule.specs.Views.{Among}
+use Rattle.fish_rule.specs.Views.{AllOf, Among}
+use Rattle.fish_rule.specs.declared.view.Shut.{Shut}
 use Rattle.fish_rule.specs.declared.view.View.{View}
 
 -- a block that has run: whether it stood between `lanes` and `end`, where it lies, its lanes with their items, and what was
@@ -45,7 +48,28 @@ abbrev pub behind_blocks : Registry → List Block → Registry
 behind_blocks r [] = r
 behind_blocks r (b ∷ blocks) = behind_blocks (behind_block r b) blocks
 
+-- ---- a full log
+
+-- an item of some block was refused by this claim
+abbrev pub IsFullOf : List Block → ℕ → ℕ → ℕ → Type 0
+IsFullOf blocks line lines end = (b : Block) × Among b blocks × IsFullIn b.lanes line lines end
+
+-- what had found the log full before a block is a claim that an item of one of the earlier blocks tells of
+abbrev pub IsFullSince : List Block → Block → Type 0
+IsFullSince earlier b = (c : Shut) → b.span.full ≡ Some c → IsFullOf earlier c.line c.lines c.end
+
+-- so it is of each of these blocks, behind those
+abbrev pub AreFullSince : List Block → List Block → Type 0
+AreFullSince earlier [] = ⊤
+AreFullSince earlier (b ∷ blocks) = IsFullSince earlier b × AreFullSince (earlier ++ b ∷ []) blocks
+
 -- ---- what blocks tell
+
+-- what a block of one lane tells besides, where the log has so many numbers before it: its items name no open number, and no lane
+-- for which a registration waits; and where one statement is all of the block, its range is all that was asked for of that log
+pub record TellsOneLane (from : ℕ) (x : Lane) : Type 0 where
+  pub none : AllOf NamesNone x.items
+  pub whole : (w : Work) → x.works ≡ w ∷ [] → AllOf (TellsWhole from w) (answers x.items)
 
 -- what a block tells that begins where the log has so many numbers and the registry is this, even one in which a lane
 -- stopped at a fault: its lanes' items are so of the log, and where a statement has no item, neither have those behind it
@@ -57,13 +81,16 @@ pub record TellsPart (v : View) (log : List Entry) (from : ℕ) (r : Registry) (
   pub lanes : TellsBlock v b.span log b.lanes
   pub registers : AreSo b.span.from (b.span.to + 16) r (first_items b.lanes)
   pub ended : AreEnded b.lanes
+  pub alone : (x : Lane) → b.lanes ≡ x ∷ [] → TellsOneLane from x
 
--- what one tells in which none did: besides, the definitions at each version are those that its first lane's items tell
+-- what one tells in which none did: besides, the definitions at each version are those that its first lane's items tell, and the
+-- pieces by an index of each plan begin where the rows behind the block do
 pub record TellsOne (v : View) (log : List Entry) (from : ℕ) (r : Registry) (b : Block) : Type 0 where
   pub part : TellsPart v log from r b
   pub registers : AreSo b.span.from (b.span.to + 16) r (block_controls b)
   pub knows : KnowsEach v r (block_controls b)
   pub last : b.span.last ≡ (behind_block r b).version
+  pub plans : PlansAreBegun (behind_block r b).rows b.lanes
 
 -- what blocks tell: each begins where the one in front of it ended, with the definitions that it left; the last one ends here
 abbrev pub TellsBlocks : View → List Entry → ℕ → Registry → List Block → ℕ → Type 0
@@ -75,27 +102,15 @@ abbrev pub TellsRest : View → List Entry → ℕ → Registry → Option Block
 TellsRest v log from r None end = from ≡ end
 TellsRest v log from r (Some b) end = TellsPart v log from r b × (b.span.to ≡ end)
 
--- what all blocks of a run tell, from the empty log on
+-- what all blocks of a run tell, from the empty log on, in which no claim had found the log full
 pub record TellsRun (v : View) (log : List Entry) (blocks : List Block) (cut : Option Block) (end : ℕ) : Type 0 where
   pub to : ℕ
   pub whole : TellsBlocks v log 0 no_registry blocks to
   pub rest : TellsRest v log to (behind_blocks no_registry blocks) cut end
+  pub fulls : AreFullSince [] blocks
+  pub rest_full : IfSome cut (IsFullSince blocks)
 
--- ---- a full log
-
--- an item of some lane was refused by this claim
-pub record IsFullIn (lanes : List Lane) (line lines end : ℕ) : Type 0 where
-  pub at : ℕ
-  pub lane : Lane
-  pub lane_is : slice_get lanes at ≡ Some lane
-  pub file : List ℕ
-  pub stored : ℕ
-  pub refused : ℕ
-  pub among : Among (item.IngestFull file line lines end stored refused) lane.items
-
--- one of some block was
-abbrev pub IsFullOf : List Block → ℕ → ℕ → ℕ → Type 0
-IsFullOf blocks line lines end = (b : Block) × Among b blocks × IsFullIn b.lanes line lines end
+-- ---- refusals of a full log
 
 -- all such items name the log's end, and those with the same line have the same lines
 pub record FullsAgree (blocks : List Block) (end : ℕ) : Type 0 where

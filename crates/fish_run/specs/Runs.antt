@@ -1,5 +1,5 @@
 -- What a run of a script asks for and leaves between two blocks, and why it stops.
-use Rattle.std.specs.Prelude.{ℕ, ◌≡◌, ◌*◌, ◌≤◌, List, [], Some, Result, IsErrOf, slice_get}
+use Rattle.std.specs.Prelude.{ℕ, ◌≡◌, ◌*◌, ◌≤◌, List, [], None, Some, Result, IsErrOf, slice_get}
 use Rattle.fish_lanes.specs.Controlling.{CanControl}
 use Rattle.fish_lanes.specs.Ending.{HasEnd}
 use Rattle.fish_lanes.specs.Registering.{KnowsRegistry, registry_of}
@@ -45,6 +45,7 @@ pub record CanGoOn (log : Log) (main : Pass) (r : Registrar) (from : ℕ) : Type
   pub can : CanControl log main r
   pub end : HasEnd (view main) from
   pub known : KnowsRegistry (view main) (registry_of (view main) r)
+  pub settled : r.waiting ≡ None
 
 -- ---- faults
 

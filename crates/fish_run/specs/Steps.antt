@@ -1,6 +1,7 @@
 -- What the steps of a run leave. Private clauses speak of it.
 use Rattle.std.specs.Prelude.{ℕ, ◌≡◌, ◌≢◌, ◌⊎◌, ◌||◌, ◌<◌, ◌≤◌, List, [], ◌∷◌, Bool, Option, Some, None, Result, Ok, Err, IfSome, length, slice_get}
 use Rattle.fish_lanes.specs.Blocks.{AreEnded, HasRegistered, IsBlockSpan, NameMarks, TellsBlock}
+use Rattle.fish_lanes.specs.Outcome.{IsFullIn, PlansAreBegun, TellsShutBy}
 use Rattle.fish_lanes.specs.Closing.{Will}
 use Rattle.fish_lanes.specs.Ending.{HasEnd}
 use Rattle.fish_lanes.specs.Registering.{Registry}
@@ -13,8 +14,10 @@ use Rattle.fish_registry.specs.declared.registrar.Registrar.{Registrar}
 use Rattle.fish_report.specs.ReportText.{report_text}
 use Rattle.fish_report.specs.declared.item.Item.{Item}
 use Rattle.fish_report.specs.declared.item.Item.TheVariants as item
+use Rattle.fish_rule.specs.declared.view.Shut.{Shut}
 use Rattle.fish_rule.specs.declared.view.View.{View}
-use Rattle.fish_run.specs.Blocks.{AreMarked, Block, TellsBlocks, TellsOne, TellsPart, TellsRun, behind_block, behind_blocks, no_registry}
+use Rattle.fish_run.specs.Blocks.{AreFullSince, AreMarked, Block, IsFullOf, TellsBlocks, TellsOne, TellsOneLane, TellsPart}
+use Rattle.fish_run.specs.Blocks.{TellsRun, behind_block, behind_blocks, no_registry}
 use Rattle.fish_run.specs.Ran.{AreFirst, IsBlockOf, IsNextOf}
 use Rattle.fish_run.specs.Reports.{are_refused, block_items, lanes_refused, report_of}
 use Rattle.fish_run.specs.Works.{AreNumbered, IsLaneOf, Pairs}
@@ -24,25 +27,31 @@ use Rattle.fish_script.specs.declared.script.Block as script
 
 -- ---- one block
 
--- a block ran, and no lane stopped at a fault: behind it the log has so many numbers, and the registry is this
-pub record HasRunOne (told : Option Files) (s : script.Block) (u : View) (r t : Registry) (from to : ℕ) (b : Block) : Type 0 where
+-- a block ran, and no lane stopped at a fault: behind it the log has so many numbers, and the registry is this; what shuts the
+-- pass had shut it before, or an item of the block tells of it
+pub record HasRunOne (told : Option Files) (s : script.Block) (full : Option Shut) (u : View) (r t : Registry) (from to : ℕ) (b : Block)
+    : Type 0 where
   pub is : IsBlockOf told s b
+  pub full_is : b.span.full ≡ full
+  pub shut : (c : Shut) → u.shut ≡ Some c → (full ≡ Some c) ⊎ IsFullIn b.lanes c.line c.lines c.end
   pub ends : b.span.to ≡ to
   pub tells : Will u (λ x log. TellsOne x log from r b)
   pub marks : NameMarks u b.lanes
   pub behind : t ≡ behind_block r b
 
 -- a block ran, and a lane stopped at a fault
-pub record HasCutOne (told : Option Files) (s : script.Block) (u : View) (r : Registry) (from to : ℕ) (b : Block) : Type 0 where
+pub record HasCutOne (told : Option Files) (s : script.Block) (full : Option Shut) (u : View) (r : Registry) (from to : ℕ) (b : Block)
+    : Type 0 where
   pub is : IsBlockOf told s b
+  pub full_is : b.span.full ≡ full
   pub ends : b.span.to ≡ to
   pub tells : Will u (λ x log. TellsPart x log from r b)
 
 -- a block ran and its items were written
-pub record WritesOne (told : Option Files) (s : script.Block) (u : View) (r t : Registry) (from to : ℕ) (old new : Option (List ℕ))
-    (before now : Bool) : Type 0 where
+pub record WritesOne (told : Option Files) (s : script.Block) (full : Option Shut) (u : View) (r t : Registry) (from to : ℕ)
+    (old new : Option (List ℕ)) (before now : Bool) : Type 0 where
   pub block : Block
-  pub ran : HasRunOne told s u r t from to block
+  pub ran : HasRunOne told s full u r t from to block
   pub written : Gained old new (report_text (block_items block))
   pub refused : now ≡ before || lanes_refused block.lanes
 
@@ -59,6 +68,9 @@ pub record Leaves (told : Option Files) (text : script.Block) (v u : View) (r s 
   pub has : (x : Lane) → slice_get lanes 0 ≡ Some x → HasRegistered v u r s x end
   pub ended : AreEnded lanes
   pub marks : NameMarks u lanes
+  pub alone : (x : Lane) → lanes ≡ x ∷ [] → TellsOneLane from x
+  pub shuts : TellsShutBy v u lanes
+  pub begun : PlansAreBegun s.catalog lanes
 
 -- no lane stopped at a fault
 abbrev pub AreWhole : List Lane → Type 0
@@ -70,12 +82,12 @@ StopsTelling lanes items old new why = (why ≢ fault.None) × (why ≢ fault.In
     × (Gained old new [] ⊎ (AreWhole lanes × GainedPart old new (report_text items)))
 
 -- a fault came before a block ran, in it, or as its items were written
-abbrev pub StopsOne : Option Files → script.Block → View → Registry → Registry → ℕ → ℕ → Option (List ℕ) → Option (List ℕ)
-    → RunFault → Type 0
-StopsOne told s u r t from to old new why = (why ≢ fault.None)
+abbrev pub StopsOne : Option Files → script.Block → Option Shut → View → Registry → Registry → ℕ → ℕ → Option (List ℕ)
+    → Option (List ℕ) → RunFault → Type 0
+StopsOne told s full u r t from to old new why = (why ≢ fault.None)
     × (((from ≡ to) × Gained old new [])
-    ⊎ ((why ≢ fault.Input) × (((b : Block) × HasCutOne told s u r from to b × Gained old new [])
-    ⊎ ((b : Block) × HasRunOne told s u r t from to b × GainedPart old new (report_text (block_items b))))))
+    ⊎ ((why ≢ fault.Input) × (((b : Block) × HasCutOne told s full u r from to b × Gained old new [])
+    ⊎ ((b : Block) × HasRunOne told s full u r t from to b × GainedPart old new (report_text (block_items b))))))
 
 -- ---- blocks
 
@@ -86,12 +98,14 @@ pub record HasRunBlocks (told : Option Files) (text : List script.Block) (u : Vi
   pub tells : Will u (λ x log. TellsBlocks x log 0 no_registry blocks to)
   pub marks : AreMarked u blocks
   pub behind : r ≡ behind_blocks no_registry blocks
+  pub fulls : AreFullSince [] blocks
 
--- they were written
+-- they were written; what shuts the pass is a claim that one of their items tells of
 pub record WritesBlocks (told : Option Files) (text : List script.Block) (u : View) (r : Registry) (to : ℕ)
     (old new : Option (List ℕ)) (refused : Bool) : Type 0 where
   pub blocks : List Block
   pub ran : HasRunBlocks told text u r to blocks
+  pub shut : (c : Shut) → u.shut ≡ Some c → IsFullOf blocks c.line c.lines c.end
   pub written : Gained old new (report_text (report_of blocks))
   pub refused_is : refused ≡ are_refused blocks
 

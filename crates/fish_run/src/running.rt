@@ -281,11 +281,11 @@ fn run_one<R: Threads + Sync, H: Host, W: Sink>(
     ensures end { HasEnd (view main.new) from.new }
     ensures later { Later (view main.old) (view main.new) }
     ensures go { OnOk result (CanGoOn log.now main.new registrar.new from.new) }
-    ensures writes { OnOk result (WritesOne (H.files host.new) block.now (view main.new) (registry_of (view main.old) registrar.old)
-        (registry_of (view main.new) registrar.new) from.old from.new (W.written out.old) (W.written out.new) refused.old
+    ensures writes { OnOk result (WritesOne (H.files host.new) block.now (view main.old).shut (view main.new)
+        (registry_of (view main.old) registrar.old) (registry_of (view main.new) registrar.new) from.old from.new (W.written out.old) (W.written out.new) refused.old
         refused.new) }
-    ensures stops { IfErr result (StopsOne (H.files host.new) block.now (view main.new) (registry_of (view main.old) registrar.old)
-        (registry_of (view main.new) registrar.new) from.old from.new (W.written out.old) (W.written out.new)) }
+    ensures stops { IfErr result (StopsOne (H.files host.new) block.now (view main.old).shut (view main.new)
+        (registry_of (view main.old) registrar.old) (registry_of (view main.new) registrar.new) from.old from.new (W.written out.old) (W.written out.new)) }
     ensures told { StillTold (H.files host.old) (H.files host.new) }
     ensures cause { HasRunCause (H.faults host.old) (H.faults host.new) (W.faults out.old) (W.faults out.new) result }
 {

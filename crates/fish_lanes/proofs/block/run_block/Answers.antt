@@ -1,7 +1,10 @@
 -- The first lane and the others.
-use Rattle.std.proofs.Common.{◌≡◌, ◌++◌, All, List, Some, get_or, set, slice_get, sym, subst}
-use Rattle.fish_lanes.proofs.Firsts.{ended_both, first_acceptable, first_new, first_there, marks_both, others_new, tells_both}
+use Rattle.std.proofs.Common.{◌≡◌, [], ◌∷◌, ◌++◌, All, List, Some, get_or, set, slice_get, sym, subst}
+use Rattle.fish_lanes.proofs.Firsts.{alone_first, begun_both, ended_both, first_acceptable, first_new, first_there, marks_both, others_new}
+use Rattle.fish_lanes.proofs.Firsts.{shuts_both, tells_both, vacant_both}
 use Rattle.fish_lanes.specs.Blocks.{AreEnded, CanGive, HasRegistered, IsNewLane, NameMarks, TellsBlock}
+use Rattle.fish_lanes.specs.Outcome.{AreVacant, TellsAloneBy}
+use Rattle.fish_lanes.specs.Outcome.{PlansAreBegun, TellsShutBy}
 use Rattle.fish_lanes.specs.Registering.{IsAcceptable}
 use Rattle.fish_lanes.specs.declared.lane.Lane.{Lane}
 use Rattle.fish_rule.specs.Passes.{view}
@@ -56,3 +59,32 @@ returns-clause-registered g c x at =
     c.run_lanes.ensures.registered x
     (subst (λ (z : List Lane). slice_get (set z 0 c.run_lanes.new.first ++ c.run_lanes.new.others) 0 ≡ Some x)
     c.split_at_mut-first.ensures.front at)
+
+pub returns-clause-alone : goal.returns-clause-alone
+returns-clause-alone g c x is =
+    alone_first (TellsAloneBy (view c.args.main.now) (view c.run_lanes.new.main) c.args.registrar.now) c.run_lanes.new.first
+    c.args.lanes.now c.split_at_mut-first.result.1.now c.run_lanes.new.others c.requires.lanes c.run_lanes.auto.others
+    c.run_lanes.ensures.alone x
+    (subst (λ (z : List Lane). set z 0 c.run_lanes.new.first ++ c.run_lanes.new.others ≡ x ∷ []) c.split_at_mut-first.ensures.front is)
+
+pub returns-clause-vacant : goal.returns-clause-vacant
+returns-clause-vacant g c before =
+    subst (λ (z : List Lane). AreVacant (set z 0 c.run_lanes.new.first ++ c.run_lanes.new.others))
+    (sym c.split_at_mut-first.ensures.front)
+    (vacant_both c.run_lanes.new.first c.index-first-0.result c.args.lanes.now c.run_lanes.new.others c.requires.lanes
+    (subst (λ (z : List Lane). c.run_lanes.new.first.seat ≡ (get_or z 0 c.index-first-0.result).seat)
+    c.split_at_mut-first.ensures.front c.run_lanes.ensures.first_seat) before c.run_lanes.ensures.vacant)
+
+pub returns-clause-shuts : goal.returns-clause-shuts
+returns-clause-shuts g c =
+    subst (λ (z : List Lane). TellsShutBy (view c.args.main.now) (view c.run_lanes.new.main)
+    (set z 0 c.run_lanes.new.first ++ c.run_lanes.new.others)) (sym c.split_at_mut-first.ensures.front)
+    (shuts_both (view c.args.main.now) (view c.run_lanes.new.main) c.run_lanes.new.first c.args.lanes.now c.run_lanes.new.others
+    c.requires.lanes c.run_lanes.ensures.shuts)
+
+pub returns-clause-begun : goal.returns-clause-begun
+returns-clause-begun g c =
+    subst (λ (z : List Lane). PlansAreBegun c.run_lanes.new.registrar.catalog (set z 0 c.run_lanes.new.first ++ c.run_lanes.new.others))
+    (sym c.split_at_mut-first.ensures.front)
+    (begun_both c.run_lanes.new.registrar.catalog c.run_lanes.new.first c.args.lanes.now c.run_lanes.new.others c.requires.lanes
+    c.run_lanes.ensures.first_begun c.run_lanes.ensures.others_begun)

@@ -1,15 +1,19 @@
 -- The block from its start to its end.
-use Rattle.std.proofs.Common.{◌≡◌, ◌∙◌, ap, get_or, arith, Some, slice_get}
+use Rattle.std.proofs.Common.{◌≡◌, ◌∙◌, ap, get_or, arith, length, Some, slice_get, subst, sym}
 use Rattle.std.proofs.lemmas.Option.{slice_get-get_or}
-use Rattle.fish_lanes.proofs.Course.{first_ended, first_marks, get_there, has_end, is_later, kept_at, may_join}
-use Rattle.fish_lanes.proofs.Course.{counted_from, few_behind, others_ended, others_marks, tells_first, tells_others, within}
-use Rattle.fish_lanes.specs.Blocks.{HasRegistered}
+use Rattle.fish_lanes.proofs.Course.{first_begun, first_ended, first_marks, has_end, is_later, kept_at, may_join, shut_by, vacant_at}
+use Rattle.fish_lanes.proofs.Moments.{get_there}
+use Rattle.fish_lanes.proofs.Course.{others_begun, others_ended, others_marks, tells_first, tells_others, within}
+use Rattle.fish_lanes.proofs.Moments.{counted_from, few_behind}
 use Rattle.fish_lanes.specs.Ending.{HasEnd}
 use Rattle.fish_rule.specs.declared.view.Key.{Key}
-use Rattle.fish_lanes.proofs.Ends.{alone_changes, closes_end, end_knows, end_start, given_known, given_knows, registered_end}
+use Rattle.fish_lanes.proofs.Ends.{closes_end, end_knows, end_start, given_known, given_knows, registered_end}
 use Rattle.fish_lanes.proofs.Ends.{taken_alone, taken_knows, taken_start}
 use Rattle.fish_lanes.proofs.Lanes.{seated_ready}
+use Rattle.fish_lanes.proofs.Single.{alone_changes, only_end}
 use Rattle.fish_rule.specs.Passes.{view}
+use Rattle.fish_rule.specs.Reading.{IsAlone}
+use Rattle.fish_rule.specs.declared.view.View.{View}
 use Rattle.fish_lanes.proofs.block.run_lanes.Goals as goal
 
 pub run_all-requires-clause-ready : goal.run_all-requires-clause-ready
@@ -68,6 +72,32 @@ returns-clause-kept g c =
     c.give_all.auto.lanes c.run_all.auto.others
     c.take_all.ensures.lanes c.take_all.auto.lanes
 
+pub returns-clause-vacant : goal.returns-clause-vacant
+returns-clause-vacant g c =
+    vacant_at c.args.log.now (view c.args.main.now) (view c.give_all.new.main) (view c.run_all.new.main)
+    c.args.registrar.now c.run_all.new.registrar c.args.first.now
+    c.run_all.new.first c.args.others.now c.give_all.new.lanes c.run_all.new.others c.take_all.new.lanes
+    c.give_all.ensures.given c.give_all.ensures.seated c.run_all.ensures.run c.run_all.ensures.done
+    c.give_all.auto.lanes c.run_all.auto.others
+    c.take_all.ensures.lanes c.take_all.auto.lanes
+
+pub returns-clause-alone : goal.returns-clause-alone
+returns-clause-alone g c none =
+    let none_here : length c.args.others.now ≡ 0 = ap length none in
+    let before = c.give_all.auto.lanes in
+    let done = c.run_all.auto.others in
+    let given = c.give_all.ensures.given.none none_here in
+    let controlled = c.run_all.ensures.run.controlled in
+    record {
+      closed = controlled.closed (subst IsAlone (sym given) c.requires.end.1.alone);
+      only = λ end e wait. only_end (view c.args.main.now) (view c.give_all.new.main) (view c.run_all.new.main)
+          (view c.take_all.new.main) (view c.find_last-bound.new.pass) (view c.settle-to.new.pass) end c.args.first.now.works
+          c.run_all.new.first.works c.run_all.new.first.items given
+          (c.take_all.ensures.taken.none (let e = none_here in omega arith)) c.find_last-bound.ensures.changes
+          c.settle-to.ensures.settles c.run_all.ensures.run.works
+          (controlled.only end (subst (λ (z : View). HasEnd z end) (sym given) e) wait);
+    }
+
 pub returns-clause-told : goal.returns-clause-told
 returns-clause-told g c k span = (
   within c.args.log.now (view c.args.main.now) (view c.give_all.new.main) (view c.run_all.new.main)
@@ -125,6 +155,56 @@ returns-clause-first_marks g c =
     c.find_last-bound.ensures.changes (taken_alone (view c.run_all.new.main) (view c.take_all.new.main)
     c.run_all.new.others c.take_all.ensures.taken)))
     c.take_all.ensures.lanes c.take_all.auto.lanes c.requires.others.base c.settle-to.ensures.pass.stands c.requires.end.1.marks
+
+pub returns-clause-shuts : goal.returns-clause-shuts
+returns-clause-shuts g c none nones claim e =
+    shut_by c.args.log.now (view c.args.main.now) (view c.give_all.new.main) (view c.run_all.new.main)
+    c.args.registrar.now c.run_all.new.registrar c.args.first.now
+    c.run_all.new.first c.args.others.now c.give_all.new.lanes c.run_all.new.others c.take_all.new.lanes
+    c.give_all.ensures.given c.give_all.ensures.seated c.run_all.ensures.run c.run_all.ensures.done
+    c.give_all.auto.lanes c.run_all.auto.others
+    (view c.take_all.new.main) (view c.settle-to.new.pass) c.settle-to.result.settled c.take_all.ensures.taken
+    (closes_end (view c.take_all.new.main) (view c.find_last-bound.new.pass) (view c.settle-to.new.pass)
+    c.find_last-bound.ensures.changes c.settle-to.ensures.settles) c.settle-to.ensures.settled c.settle-to.result.count
+    c.settle-to.ensures.tail (c.settle-to.ensures.ends (alone_changes (view c.take_all.new.main) (view c.find_last-bound.new.pass)
+    c.find_last-bound.ensures.changes (taken_alone (view c.run_all.new.main) (view c.take_all.new.main)
+    c.run_all.new.others c.take_all.ensures.taken)))
+    c.take_all.ensures.lanes c.take_all.auto.lanes c.requires.others.base c.settle-to.ensures.pass.stands c.requires.end.1.marks
+    none nones claim e
+
+pub returns-clause-first_begun : goal.returns-clause-first_begun
+returns-clause-first_begun g c =
+    first_begun c.args.log.now (view c.args.main.now) (view c.give_all.new.main) (view c.run_all.new.main)
+    c.args.registrar.now c.run_all.new.registrar c.args.first.now
+    c.run_all.new.first c.args.others.now c.give_all.new.lanes c.run_all.new.others c.take_all.new.lanes
+    c.give_all.ensures.given c.give_all.ensures.seated c.run_all.ensures.run c.run_all.ensures.done
+    c.give_all.auto.lanes c.run_all.auto.others
+    (view c.take_all.new.main) (view c.settle-to.new.pass) c.settle-to.result.settled c.take_all.ensures.taken
+    (closes_end (view c.take_all.new.main) (view c.find_last-bound.new.pass) (view c.settle-to.new.pass)
+    c.find_last-bound.ensures.changes c.settle-to.ensures.settles) c.settle-to.ensures.settled c.settle-to.result.count
+    c.settle-to.ensures.tail (c.settle-to.ensures.ends (alone_changes (view c.take_all.new.main) (view c.find_last-bound.new.pass)
+    c.find_last-bound.ensures.changes (taken_alone (view c.run_all.new.main) (view c.take_all.new.main)
+    c.run_all.new.others c.take_all.ensures.taken)))
+    c.take_all.ensures.lanes c.take_all.auto.lanes c.requires.others.base c.settle-to.ensures.pass.stands c.requires.end.1.marks
+    c.find_last-bound.new.registrar (end_knows (view c.find_last-bound.new.pass) (view c.settle-to.new.pass)
+    c.find_last-bound.new.registrar c.settle-to.ensures.settles c.find_last-bound.ensures.can.knows)
+
+pub returns-clause-others_begun : goal.returns-clause-others_begun
+returns-clause-others_begun g c =
+    others_begun c.args.log.now (view c.args.main.now) (view c.give_all.new.main) (view c.run_all.new.main)
+    c.args.registrar.now c.run_all.new.registrar c.args.first.now
+    c.run_all.new.first c.args.others.now c.give_all.new.lanes c.run_all.new.others c.take_all.new.lanes
+    c.give_all.ensures.given c.give_all.ensures.seated c.run_all.ensures.run c.run_all.ensures.done
+    c.give_all.auto.lanes c.run_all.auto.others
+    (view c.take_all.new.main) (view c.settle-to.new.pass) c.settle-to.result.settled c.take_all.ensures.taken
+    (closes_end (view c.take_all.new.main) (view c.find_last-bound.new.pass) (view c.settle-to.new.pass)
+    c.find_last-bound.ensures.changes c.settle-to.ensures.settles) c.settle-to.ensures.settled c.settle-to.result.count
+    c.settle-to.ensures.tail (c.settle-to.ensures.ends (alone_changes (view c.take_all.new.main) (view c.find_last-bound.new.pass)
+    c.find_last-bound.ensures.changes (taken_alone (view c.run_all.new.main) (view c.take_all.new.main)
+    c.run_all.new.others c.take_all.ensures.taken)))
+    c.take_all.ensures.lanes c.take_all.auto.lanes c.requires.others.base c.settle-to.ensures.pass.stands c.requires.end.1.marks
+    c.find_last-bound.new.registrar (end_knows (view c.find_last-bound.new.pass) (view c.settle-to.new.pass)
+    c.find_last-bound.new.registrar c.settle-to.ensures.settles c.find_last-bound.ensures.can.knows)
 
 pub returns-clause-others_marks : goal.returns-clause-others_marks
 returns-clause-others_marks g c =

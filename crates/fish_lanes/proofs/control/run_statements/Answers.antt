@@ -1,12 +1,11 @@
 -- A statement more, or the end.
-use Rattle.std.proofs.Common.{◌≡◌, ◌+◌, List, [], ◌∷◌, ◌++◌, take, drop, sym, ap, refl, ◌∙◌, subst, arith}
+use Rattle.std.proofs.Common.{◌≡◌, ◌+◌, List, [], ◌∷◌, ◌++◌, take, drop, sym, ap, ◌∙◌, subst, arith}
 use Rattle.std.proofs.lemmas.List.{take_all, take_more}
 use Rattle.fish_epoch.proofs.Reading.{defs_later}
 use Rattle.fish_ingest.proofs.IngestionStart.{idle_law}
 use Rattle.fish_lanes.proofs.Controls.{Held, held_cut, held_done, held_ended, held_polled, held_self, take_nothing_first}
 use Rattle.fish_lanes.proofs.Parts.{around, err_told, ok_told}
 use Rattle.fish_lanes.specs.Controlling.{HasControlled}
-use Rattle.fish_lanes.specs.Registering.{IsAcceptable}
 use Rattle.fish_lanes.specs.Telling.{count_of}
 use Rattle.fish_lanes.specs.declared.work.LaneFault.TheVariants as cause
 use Rattle.fish_lanes.specs.declared.work.Work.{Work}
@@ -58,7 +57,8 @@ returns-in_default-clause-run c =
     let u = view c.find_boundary.new.pass in
     let s = c.find_boundary.new.registrar in
     let held = held_polled v r (view c.loop-work.pass) c.loop-work.registrar u s (take i works) c.loop-work.items
-    c.find_boundary.new.items c.loop-work.invariant.held c.find_boundary.ensures.gains
+    c.find_boundary.new.items c.loop-work.invariant.held c.find_boundary.ensures.gains c.find_boundary.ensures.loads
+    c.find_boundary.ensures.shut c.find_boundary.ensures.idle
     (ok_told c.find_boundary.result c.is_err.result c.is_err.ensures.value c.if-is_err.false c.find_boundary.ensures.polled) in
     let part = c.in_default.ensures.part in
     subst (λ (z : List Work). HasControlled v (view c.run_statement.new.pass) r c.run_statement.new.registrar z
@@ -76,7 +76,8 @@ returns-in-Err-clause-run c =
     let u = view c.find_boundary.new.pass in
     let s = c.find_boundary.new.registrar in
     let held = held_polled v r (view c.loop-work.pass) c.loop-work.registrar u s (take i works) c.loop-work.items
-    c.find_boundary.new.items c.loop-work.invariant.held c.find_boundary.ensures.gains
+    c.find_boundary.new.items c.loop-work.invariant.held c.find_boundary.ensures.gains c.find_boundary.ensures.loads
+    c.find_boundary.ensures.shut c.find_boundary.ensures.idle
     (ok_told c.find_boundary.result c.is_err.result c.is_err.ensures.value c.if-is_err.false c.find_boundary.ensures.polled) in
     let done = c.in-Ok.ensures.done in
     subst (λ (z : List Work × List Item). HasControlled v (view c.run_statement.new.pass) r c.run_statement.new.registrar z.0 z.1
@@ -97,7 +98,8 @@ loop-work-preserved c =
     let t = view c.run_statement.new.pass in
     let q = c.run_statement.new.registrar in
     let held = held_polled v r (view c.loop-work.pass) c.loop-work.registrar u s (take i works) c.loop-work.items
-    c.find_boundary.new.items inv.held c.find_boundary.ensures.gains
+    c.find_boundary.new.items inv.held c.find_boundary.ensures.gains c.find_boundary.ensures.loads
+    c.find_boundary.ensures.shut c.find_boundary.ensures.idle
     (ok_told c.find_boundary.result c.is_err.result c.is_err.ensures.value c.if-is_err.false c.find_boundary.ensures.polled) in
     let done = c.in-Ok.ensures.done in
     let next : take (i + 1) works ≡ take i works ++ w ∷ [] = take_more works i w c.loop-work-test.true
@@ -107,7 +109,8 @@ loop-work-preserved c =
       read = c.run_statement.ensures.defs;
       base = ap (λ (z : Key). z.number) (done.gains.on.learns.about ∙ c.find_boundary.ensures.gains.on.learns.about) ∙ inv.base;
       held = subst (λ (z : List Work × List Item). Held v r t q z.0 z.1) (λ j. (sym next j, sym c.in-Ok-push.ensures.ok j))
-          (held_done v r u s t q (take i works) c.find_boundary.new.items w c.in-Ok.item c.requires.base held done);
+          (held_done v r u s t q (take i works) c.find_boundary.new.items w c.in-Ok.item c.run_statement.ensures.can.of.stands
+          c.requires.base held done);
     }
 
 pub returns-clause-run : goal.returns-clause-run

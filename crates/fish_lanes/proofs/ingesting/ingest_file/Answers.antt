@@ -1,5 +1,5 @@
 -- What was stored is what the item tells.
-use Rattle.std.proofs.Common.{◌∙◌, ℕ, List, [], ap, inr, refl, sym, subst, arith}
+use Rattle.std.proofs.Common.{◌∙◌, ℕ, List, [], ap, inl, inr, refl, sym, subst, arith}
 use Rattle.fish_ingest.proofs.IngestionStart.{idle_law}
 use Rattle.fish_lanes.proofs.Parts.{err_any}
 use Rattle.fish_lanes.proofs.Gaining.{gains_self}
@@ -29,6 +29,7 @@ returns-then-file-gt-MAX_FILE-clause-item c =
         gains = gains_self v c.requires.start.outside (idle_law v c.requires.pass.stands c.requires.start);
         first = refl;
       };
+      shuts = λ shut e. inl e;
       fit = inr (inr (record {
         is = ap (λ (z : List ℕ). item.IngestTooLong z 0 0) c.in_ok-name.ensures;
         past = (let long = c.if-file-gt-MAX_FILE.true in omega arith);

@@ -1,12 +1,12 @@
 -- One line more.
-use Rattle.std.proofs.Common.{ℕ, List, Option, map, ap, subst, arith}
+use Rattle.std.proofs.Common.{ℕ, List, Option, map, refl, ap, ◌∙◌, subst, arith}
 use Rattle.std.specs.Prelude.{MatchOption}
 use Rattle.fish_ingest.proofs.IngestionStart.{idle_law}
 use Rattle.fish_json.specs.Lines as json
 use Rattle.fish_lanes.proofs.Parts.{err_any}
 use Rattle.fish_lanes.proofs.Keeping.{keeps_ingests}
 use Rattle.fish_lanes.proofs.Storing.{full_line, gains_unclaimed, json_outcomes, json_record, json_refused, stored_later}
-use Rattle.fish_lanes.proofs.Storing.{stored_line, stored_none, stored_starts, takes_one}
+use Rattle.fish_lanes.proofs.Storing.{stored_line, stored_none, stored_starts, takes_one, takes_shut}
 use Rattle.fish_lanes.specs.Storing.{FindsFull, IsPartStored, IsStoredUpTo, TakesLine}
 use Rattle.fish_lanes.specs.declared.ingesting.Tally.{Tally}
 use Rattle.fish_lines.specs.Left.{left}
@@ -27,6 +27,7 @@ loop-line-init c =
           (json_outcomes c.args.file.now (left c.new-lines.result) c.new-lines.ensures.lines)
           (stored_none v Json outs c.args.tally.now c.requires.start.outside (idle_law v c.requires.pass.stands c.requires.start)
           c.requires.none);
+      shut = refl;
       room =
           let a = ap (λ (z : Tally). z.stored) c.requires.none in
           let b = ap (λ (z : Tally). z.refused) c.requires.none in
@@ -59,7 +60,7 @@ returns-in-Some-2-clause-ends c =
     let line = c.in-Some.line.now in
     let behind = map json.payload_of (left c.next_line.new.self) in
     full_line v u t Json outs behind line (json.payload_of line) c.loop-line.tally c.ingest_line.new.tally c.in-Some-2.shut
-    c.ingest_line.ensures.pass.stands (json_record line)
+    c.ingest_line.ensures.pass.stands c.loop-line.invariant.shut (json_record line)
     (subst (λ (z : List (Option (List ℕ))). IsStoredUpTo v u Json outs z c.loop-line.tally)
     (ap (map json.payload_of) c.in-Some.ensures.lines) c.loop-line.invariant.stored)
     (subst (λ (o : Option Shut). MatchOption o (TakesLine u t Json line c.loop-line.tally c.ingest_line.new.tally)
@@ -86,6 +87,7 @@ loop-line-preserved c =
       start = stored_starts v t Json outs behind c.ingest_line.new.tally c.requires.start stored;
       read = c.ingest_line.ensures.defs;
       stored = stored;
+      shut = takes_shut u t Json line c.loop-line.tally c.ingest_line.new.tally takes ∙ c.loop-line.invariant.shut;
       room =
           let a = takes_one u t Json line c.loop-line.tally c.ingest_line.new.tally takes in
           let b = c.in-Some.ensures.shorter in

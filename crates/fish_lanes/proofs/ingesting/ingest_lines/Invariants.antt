@@ -1,5 +1,5 @@
 -- The lines so far are stored, and each took a byte at least.
-use Rattle.std.proofs.Common.{◌+◌, ◌≤◌, length, map}
+use Rattle.std.proofs.Common.{◌≡◌, ◌+◌, ◌≤◌, length, map}
 use Rattle.fish_epoch.specs.Definitions.{IsDefsOf}
 use Rattle.fish_ingest.specs.Ingestion.{CanStart}
 use Rattle.fish_json.specs.Lines as json
@@ -16,6 +16,7 @@ invariant-loop-line l = record {
   start : CanStart (view l.pass);
   read : IsDefsOf (view l.pass) l.defs;
   stored : IsStoredUpTo (view l.fn.pass) (view l.pass) Json (json.outcomes l.fn.file) (map json.payload_of (left l.lines)) l.tally;
+  shut : (view l.pass).shut ≡ (view l.fn.pass).shut;
   room : l.tally.stored + l.tally.refused + length l.lines.rest.now ≤ longest_file;
 }
 

@@ -7,7 +7,7 @@ use Rattle.fish_lanes.proofs.Parts.{err_any}
 use Rattle.fish_lanes.proofs.Gaining.{gains_self}
 use Rattle.fish_lanes.proofs.Keeping.{keeps_ingests, keeps_self}
 use Rattle.fish_lanes.proofs.Storing.{full_line, gains_unclaimed, head_record, stored_later, stored_line, stored_none}
-use Rattle.fish_lanes.proofs.Storing.{stored_none_more, stored_starts, takes_one}
+use Rattle.fish_lanes.proofs.Storing.{stored_none_more, stored_starts, takes_one, takes_shut}
 use Rattle.fish_lanes.specs.Storing.{FindsFull, IsPartStored, IsStoredUpTo, TakesLine}
 use Rattle.fish_lanes.specs.declared.ingesting.Tally.{Tally}
 use Rattle.fish_rule.specs.Passes.{view}
@@ -24,6 +24,7 @@ loop-row-init c =
       read = c.requires.defs;
       stored = stored_none v Csv (left c.args.rows.now) c.args.tally.now c.requires.start.outside
           (idle_law v c.requires.pass.stands c.requires.start) c.requires.none;
+      shut = refl;
       room =
           let a = ap (λ (z : Tally). z.stored) c.requires.none in
           let b = ap (λ (z : Tally). z.refused) c.requires.none in
@@ -59,7 +60,7 @@ returns-in-Some-2-clause-ends c =
     c.in-Some.is c.in_ok-row.ensures.rows in
     let here : left c.loop-row.rows ≡ Some text ∷ behind = next ∙ ap (λ (z : Option (List ℕ)). z ∷ behind) c.in-Some-row.is in
     full_line v u t Csv outs behind text (Some text) c.loop-row.tally c.ingest_text.new.tally c.in-Some-2.shut
-    c.ingest_text.ensures.pass.stands (λ _. refl)
+    c.ingest_text.ensures.pass.stands c.loop-row.invariant.shut (λ _. refl)
     (subst (λ (z : List (Option (List ℕ))). IsStoredUpTo v u Csv outs z c.loop-row.tally) here c.loop-row.invariant.stored)
     (subst (λ (o : Option Shut). MatchOption o (TakesLine u t Csv text c.loop-row.tally c.ingest_text.new.tally)
     (FindsFull u t Csv text c.loop-row.tally c.ingest_text.new.tally)) c.in-Some-2.is c.in_ok-shut-in-Some-row.ensures.takes)
@@ -89,6 +90,7 @@ loop-row-preserved-in-None-2 c =
       start = stored_starts v t Csv outs behind c.ingest_text.new.tally c.requires.start stored;
       read = c.ingest_text.ensures.defs;
       stored = stored;
+      shut = takes_shut u t Csv text c.loop-row.tally c.ingest_text.new.tally takes ∙ c.loop-row.invariant.shut;
       room =
           let a = takes_one u t Csv text c.loop-row.tally c.ingest_text.new.tally takes in
           let b = subst (λ (o : Option (Option (List ℕ))). IfSome o (λ _.
@@ -115,6 +117,7 @@ loop-row-preserved c =
           (subst (λ (z : List (Option (List ℕ))). IsStoredUpTo v u Csv outs z c.loop-row.tally) here c.loop-row.invariant.stored)
           (gains_self u c.loop-row.invariant.start.outside
           (idle_law u c.loop-row.invariant.of.stands c.loop-row.invariant.start)) (keeps_self u) refl;
+      shut = c.loop-row.invariant.shut;
       room =
           let b = subst (λ (o : Option (Option (List ℕ))). IfSome o (λ _.
           length c.next_row.new.self.rest.now < length c.loop-row.rows.rest.now)) c.in-Some.is c.in_ok-row.ensures.shorter in

@@ -1,5 +1,5 @@
 -- The rows so far are stored, and each took a byte at least.
-use Rattle.std.proofs.Common.{◌+◌, ◌≤◌, length}
+use Rattle.std.proofs.Common.{◌≡◌, ◌+◌, ◌≤◌, length}
 use Rattle.fish_csv.specs.Left.{left}
 use Rattle.fish_epoch.specs.Definitions.{IsDefsOf}
 use Rattle.fish_ingest.specs.Ingestion.{CanStart}
@@ -15,6 +15,7 @@ invariant-loop-row l = record {
   start : CanStart (view l.pass);
   read : IsDefsOf (view l.pass) l.defs;
   stored : IsStoredUpTo (view l.fn.pass) (view l.pass) Csv (left l.fn.rows) (left l.rows) l.tally;
+  shut : (view l.pass).shut ≡ (view l.fn.pass).shut;
   room : l.tally.stored + l.tally.refused + length l.rows.rest.now ≤ longest_file;
 }
 

@@ -1,14 +1,11 @@
 -- A definition ends, and its last version is read.
-use Rattle.std.proofs.Common.{◌≡◌, ◌+◌, ℕ, List, [], ap, ◌∙◌, sym, subst, arith}
-use Rattle.std.specs.Prelude.{IfOk}
+use Rattle.std.proofs.Common.{◌≡◌, ◌+◌, ℕ, List, [], ◌∙◌, sym, subst, arith}
 use Rattle.fish_ingest.proofs.IngestionStart.{idle_law}
 use Rattle.fish_lanes.proofs.Doings.{changed_here, deregister_so, registry_stays}
 use Rattle.fish_lanes.proofs.Gaining.{gains_both, gains_start}
 use Rattle.fish_lanes.proofs.Registrations.{gains_changes, reads_gain, reads_know, reads_start, registry_later}
 use Rattle.fish_lanes.specs.Registering.{IsDeregisterCause, KnowsRegistry, ended, registry_of, waiting_id}
 use Rattle.fish_catalog.specs.Rows.{IsActiveNamed}
-use Rattle.fish_ingest.specs.Ingestion.{CanStart}
-use Rattle.fish_lanes.specs.Gains.{Gains}
 use Rattle.fish_registry.proofs.Changing.{learns_changes}
 use Rattle.fish_rule.specs.Passes.{view}
 use Rattle.fish_lanes.proofs.registering.deregister.Goals as goal

@@ -1,10 +1,13 @@
 -- The registry stays, or what waits begins.
-use Rattle.std.proofs.Common.{inl, inr, refl, ap, sym, ◌∙◌}
+use Rattle.std.proofs.Common.{◌≡◌, inl, inr, refl, ap, sym, subst, ◌∙◌, Option, Some, None}
 use Rattle.fish_ingest.proofs.IngestionStart.{idle_law}
 use Rattle.fish_lanes.proofs.Parts.{on_ok}
 use Rattle.fish_lanes.proofs.Registrations.{does_bound, gains_changes, registry_same}
 use Rattle.fish_lanes.specs.Registering.{waiting_id}
 use Rattle.fish_registry.proofs.Changing.{learns_changes}
+use Rattle.fish_registry.specs.Knowing.{IsWaitingFor}
+use Rattle.fish_registry.specs.declared.registrar.Registrar.{Registrar}
+use Rattle.fish_registry.specs.declared.registrar.Waiting.{Waiting}
 use Rattle.fish_rule.specs.Passes.{view}
 use Rattle.fish_lanes.proofs.registering.find_boundary.Goals as goal
 
@@ -50,3 +53,17 @@ returns-in-Bound-clause-polled c =
     c.requires.can.knows c.poll.ensures.knows c.in-Bound.id c.in-Bound.from tells.0 tells.1 tells.2 c.poll.ensures.changes.count
     tells.4 in
     on_ok c.push.result _ _ (λ pushed. inr (c.in-Bound.id, c.in-Bound.from, pushed, does)) c.push.ensures.ok
+
+-- where none waits nothing is done
+pub returns-in-Idle-clause-idle : goal.returns-in-Idle-clause-idle
+returns-in-Idle-clause-idle c none =
+    let tells = c.in-Idle.ensures.tells in (tells.2, ap (λ (z : Registrar). z.waiting) tells.1 ∙ tells.0)
+
+pub returns-in-NotYet-clause-idle : goal.returns-in-NotYet-clause-idle
+returns-in-NotYet-clause-idle c none =
+    let tells = c.in-NotYet.ensures.tells in
+    absurd (let bad : Some tells.0 ≡ None = sym tells.1 ∙ none in cc)
+
+pub returns-in-Bound-clause-idle : goal.returns-in-Bound-clause-idle
+returns-in-Bound-clause-idle c none =
+    elim (subst (λ (z : Option Waiting). IsWaitingFor z c.in-Bound.id) none c.in-Bound.ensures.tells.0) [ ]

@@ -1,5 +1,5 @@
 -- The version that the control pass knows is found again, and its definitions are read.
-use Rattle.std.proofs.Common.{◌≡◌, ℕ, ap, ◌∙◌, sym, arith}
+use Rattle.std.proofs.Common.{ap, arith}
 use Rattle.fish_epoch.proofs.Reading.{defs_later}
 use Rattle.fish_lanes.proofs.Registrations.{known_all, known_read, scans_reads}
 use Rattle.fish_registry.proofs.Changing.{changes_stays, learns_changes, stays_version}

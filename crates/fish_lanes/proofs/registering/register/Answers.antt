@@ -1,9 +1,10 @@
 -- A registration begins, and what follows is told of it.
-use Rattle.std.proofs.Common.{◌≡◌, ◌∙◌, sym, subst, ℕ, List, []}
+use Rattle.std.proofs.Common.{◌∙◌, sym, subst, ℕ, List, []}
 use Rattle.std.specs.Prelude.{IfOk}
 use Rattle.fish_ingest.proofs.IngestionStart.{idle_law}
 use Rattle.fish_lanes.proofs.Doings.{does_begun, ok_then, register_so, registered_here, registry_stays}
 use Rattle.fish_lanes.proofs.Gaining.{gains_both}
+use Rattle.fish_lanes.proofs.Single.{alone_changes}
 use Rattle.fish_lanes.proofs.Registrations.{gains_changes, registry_later}
 use Rattle.fish_lanes.specs.Controlling.{TellsBegun}
 use Rattle.fish_lanes.specs.Registering.{IsRegisterCause, registry_of}
@@ -60,3 +61,7 @@ returns-in-Some-clause-does c =
       is = registry_stays v t r c.begin.new.self c.in-Err.ensures.refused.0 c.in-Err.ensures.refused.1;
       knows = λ h. registry_later v t (registry_of v r) (learns_changes v t c.begin.ensures.changes) h;
     }
+
+pub returns-in-Ok-clause-alone : goal.returns-in-Ok-clause-alone
+returns-in-Ok-clause-alone c alone =
+    c.registered.ensures.alone (alone_changes (view c.args.pass.now) (view c.begin.new.pass) c.begin.ensures.changes alone)

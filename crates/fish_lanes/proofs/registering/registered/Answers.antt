@@ -1,9 +1,9 @@
 -- The new definition is read, and its index begins or waits.
-use Rattle.std.proofs.Common.{◌≡◌}
 use Rattle.fish_epoch.proofs.Reading.{defs_later}
 use Rattle.fish_lanes.proofs.Registrations.{polls_gain, reads_gain, reads_know, reads_start, tells_at_once, tells_rolling}
 use Rattle.fish_registry.proofs.Changing.{learns_changes}
 use Rattle.fish_rule.specs.Passes.{view}
+use Rattle.fish_scan.proofs.Answering.{scans_alone}
 use Rattle.fish_lanes.proofs.registering.registered.Goals as goal
 
 pub returns-in_err-read_definitions-clause-can : goal.returns-in_err-read_definitions-clause-can
@@ -77,3 +77,11 @@ returns-in-Bound-clause-tells c =
     c.in_ok-read_definitions.ensures.read (view c.poll.new.pass) c.poll.new.self c.poll.ensures.pass.stands c.poll.ensures.knows
     c.poll.ensures.changes c.args.name c.args.id c.args.def c.in-Bound.id c.in-Bound.from c.requires.waits tells.0 tells.1
     tells.2 tells.4
+
+-- no other lane is out, so none is older
+pub returns-in-NotYet-clause-alone : goal.returns-in-NotYet-clause-alone
+returns-in-NotYet-clause-alone c alone =
+    let v = view c.args.pass.now in
+    let m = view c.read_definitions.new.pass in
+    let only = c.read_definitions.ensures.only in
+    elim (c.in-NotYet.ensures.alone (scans_alone v m only alone) (only.outside c.requires.can.start.outside)) [ ]

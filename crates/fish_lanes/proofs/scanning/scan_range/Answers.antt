@@ -7,7 +7,8 @@ use Rattle.fish_lanes.proofs.scanning.scan_range.Goals as goal
 
 pub returns-in-Ok-clause-fits : goal.returns-in-Ok-clause-fits
 returns-in-Ok-clause-fits c = scanned_fits (view c.args.pass.now) (view c.scan_counted.new.pass) c.scan_counted.new.defs.known
-    c.args.ask.now c.in-Ok.answer c.version.result c.scanned.result c.in-Ok.ensures.answer c.version.ensures c.scanned.ensures
+    c.args.ask.now c.in-Ok.answer c.version.result c.scanned.result c.in-Ok.ensures.answer c.in-Ok.ensures.loads c.version.ensures
+    c.scanned.ensures
 
 pub returns-in_ok-name-in-Err-clause-fits : goal.returns-in_ok-name-in-Err-clause-fits
 returns-in_ok-name-in-Err-clause-fits c = inr (record {

@@ -1,9 +1,10 @@
 -- All below the settled number is stored.
-use Rattle.std.proofs.Common.{◌≡◌, [], refl, ⊎_elim, arith}
+use Rattle.std.proofs.Common.{◌≡◌, ◌∙◌, [], ap, inl, refl, sym, ⊎_elim, arith}
 use Rattle.fish_ingest.proofs.IngestionStart.{idle_law}
 use Rattle.fish_lanes.proofs.Gaining.{gains_settles}
 use Rattle.fish_lanes.proofs.Keeping.{keeps_settles}
 use Rattle.fish_rule.specs.Passes.{view}
+use Rattle.fish_rule.specs.declared.view.View.{View}
 use Rattle.fish_walk.specs.Settling.{HasEnd, IsEnd}
 use Rattle.fish_lanes.proofs.statements.checkpoint.Goals as goal
 
@@ -22,6 +23,7 @@ returns-clause-item c =
             c.settle.ensures.settles;
         first = refl;
       };
+      shuts = λ shut e. inl (sym (ap (λ (z : View). z.shut) c.settle.ensures.settles.frame) ∙ e);
       fit = record {
         count = c.settle.result.settled;
         is = refl;

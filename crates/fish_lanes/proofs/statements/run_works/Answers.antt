@@ -75,7 +75,7 @@ loop-work-preserved c =
       told = subst (λ (z : List Work × List Item). HasTold v t z.0 z.1)
           (λ j. (sym next j, sym pushed j))
           (told_more v u t (take i works) (answers c.loop-work.items) w c.in-Ok.item is.gained.rows c.requires.base inv.told
-          is.gained.gains is.gained.first is.fit (let m = is.gained.gains.on.learns.version in omega arith));
+          is.gained.gains is.gained.first is.fit is.shuts (let m = is.gained.gains.on.learns.version in omega arith));
     }
 
 pub returns-clause-run : goal.returns-clause-run

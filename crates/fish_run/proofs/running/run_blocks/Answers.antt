@@ -3,6 +3,7 @@ use Rattle.std.proofs.Common.{◌∙◌, ◌+◌, arith, sym, take, ap, subst, �
 use Rattle.std.proofs.lemmas.List.{take_more}
 use Rattle.fish_lanes.specs.Registering.{registry_of}
 use Rattle.fish_rule.specs.Passes.{view}
+use Rattle.fish_rule.specs.declared.view.View.{View}
 use Rattle.fish_run.proofs.Ends.{runs_all, stops_first, stops_some, writes_first, writes_more}
 use Rattle.fish_run.proofs.Going.{err_known, first_end, go_first, registry_first, write_named, write_other}
 use Rattle.fish_run.proofs.Lists.{get_at}
@@ -15,11 +16,12 @@ use Rattle.fish_run.proofs.running.run_blocks.Goals as goal
 pub loop-block-init : goal.loop-block-init
 loop-block-init g c = record {
   go = go_first c.args.log.now c.args.main.now c.new-registrar.result c.requires.new
-      (c.new-registrar.ensures.rows ∙ c.new.ensures) c.new-registrar.ensures.knows;
+      (c.new-registrar.ensures.rows ∙ c.new.ensures) c.new-registrar.ensures.settled c.new-registrar.ensures.knows;
   writes = writes_first (g.H.Host.files c.args.host.now) (view c.args.main.now) (registry_of (view c.args.main.now) c.new-registrar.result)
       (g.W.Sink.written c.args.out.now) (g.W.Sink.written c.write_items.new.out) c.args.refused.now
       (registry_first c.args.log.now c.args.main.now c.new-registrar.result c.requires.new
-      (c.new-registrar.ensures.rows ∙ c.new.ensures) c.new-registrar.ensures.settled) c.in_ok-write_items.ensures.written
+      (c.new-registrar.ensures.rows ∙ c.new.ensures) c.new-registrar.ensures.settled)
+      (ap (λ (z : View). z.shut) c.requires.new.first) c.in_ok-write_items.ensures.written
       c.requires.accepted;
   told = still_self (g.H.Host.files c.args.host.now);
   input = omega arith;

@@ -55,7 +55,7 @@ returns-clause-stops g c =
     let new = g.W.Sink.written c.tell_lanes-told.new.out in
     let h = subst (λ (z : List Lane). Leaves told text v u r s from z end) (sym c.as_slice.ensures.value) c.in_ok-done.ensures.leaves in
     IfErr-weaker c.tell_lanes-told.result (StopsTelling lanes (lanes_items text.several from end lanes) old new)
-    (StopsOne told text u (registry_of v r) (registry_of u s) from end.to old new)
+    (StopsOne told text v.shut u (registry_of v r) (registry_of u s) from end.to old new)
     (λ why stop. one_stopped told text v u r s from lanes end h old new why stop) c.tell_lanes-told.ensures.stops
 
 -- a file couldn't be read, so nothing ran
@@ -64,7 +64,7 @@ returns-in_err-done-clause-stops g c =
     let written = g.W.Sink.written c.args.out.now in
     let why = c.in_err-done.field-0.0 in
     err_known c.from_residual.result
-    (StopsOne (g.H.Host.files c.do_block.new.host) c.args.block.now (view c.do_block.new.main)
+    (StopsOne (g.H.Host.files c.do_block.new.host) c.args.block.now (view c.args.main.now).shut (view c.do_block.new.main)
     (registry_of (view c.args.main.now) c.args.registrar.now) (registry_of (view c.do_block.new.main) c.do_block.new.registrar)
     c.args.from.now c.args.from.now written written) (feed_fault why) c.from_residual.ensures.1
     (feed_named why, inl (refl, Gained_refl written))

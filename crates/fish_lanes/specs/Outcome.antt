@@ -1,0 +1,54 @@
+-- What a block leaves and tells besides what its items tell of the log.
+use Rattle.std.specs.Prelude.{ℕ, ◌≡◌, ◌⊎◌, List, [], ◌∷◌, slice_get, Some, None}
+use Rattle.fish_catalog.specs.declared.row.CatRow.{CatRow}
+use Rattle.fish_lanes.specs.Blocks.{At}
+use Rattle.fish_lanes.specs.Ending.{HasEnd}
+use Rattle.fish_lanes.specs.declared.work.LaneFault.TheVariants as cause
+use Rattle.fish_registry.specs.declared.registrar.Registrar.{Registrar}
+use Rattle.fish_lanes.specs.Plans.{IsBegunItem}
+use Rattle.fish_lanes.specs.Single.{NamesNone, TellsOnly}
+use Rattle.fish_lanes.specs.declared.lane.Lane.{Lane}
+use Rattle.fish_report.specs.declared.item.Item.TheVariants as item
+use Rattle.fish_rule.specs.Views.{AllOf, Among}
+use Rattle.fish_rule.specs.declared.view.Shut.{Shut}
+use Rattle.fish_rule.specs.declared.view.View.{View}
+
+-- ---- a full log
+
+-- an item of some lane was refused by this claim
+pub record IsFullIn (lanes : List Lane) (line lines end : ℕ) : Type 0 where
+  pub at : ℕ
+  pub lane : Lane
+  pub lane_is : slice_get lanes at ≡ Some lane
+  pub file : List ℕ
+  pub stored : ℕ
+  pub refused : ℕ
+  pub among : Among (item.IngestFull file line lines end stored refused) lane.items
+
+-- what shuts the control pass behind the block did so before, or an item of a lane tells of it; unless one stopped at a fault
+abbrev pub TellsShutBy : View → View → List Lane → Type 0
+TellsShutBy v u lanes = At (λ i x. x.fault ≡ cause.None) lanes → (c : Shut) → u.shut ≡ Some c
+    → (v.shut ≡ Some c) ⊎ IsFullIn lanes c.line c.lines c.end
+
+-- ---- plans
+
+-- the plans that the items of each lane tell have pieces by an index that begin where the index of their row had begun
+abbrev pub PlansAreBegun : List CatRow → List Lane → Type 0
+PlansAreBegun rows lanes = At (λ i x. AllOf (IsBegunItem rows) x.items) lanes
+
+-- ---- one lane
+
+-- the items of a block of one lane name no open number and no other lane; and where no registration waited for its boundary, one
+-- statement that is all of the block tells what can be told where nothing runs beside it
+pub record TellsAloneBy (v u : View) (r : Registrar) (x : Lane) : Type 0 where
+  pub closed : AllOf NamesNone x.items
+  pub only : (end : ℕ) → HasEnd v end → r.waiting ≡ None → TellsOnly v u end x.works x.items
+
+abbrev pub TellsAlone : View → View → Registrar → List Lane → Type 0
+TellsAlone v u r lanes = (x : Lane) → lanes ≡ x ∷ [] → TellsAloneBy v u r x
+
+-- ---- passes
+
+-- no lane has a pass
+abbrev pub AreVacant : List Lane → Type 0
+AreVacant lanes = At (λ i x. x.seat ≡ None) lanes
