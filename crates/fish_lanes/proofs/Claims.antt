@@ -6,7 +6,7 @@ use Rattle.fish_lanes.specs.Seen.{claimed, shown_by}
 use Rattle.fish_lanes.specs.Sizes.{TellsClaim, TellsShut}
 use Rattle.fish_lanes.specs.Spans.{answers, is_answer}
 use Rattle.fish_report.specs.declared.item.Item.{Item}
-use Rattle.fish_rule.proofs.Common.{among_left, among_right}
+use Rattle.fish_rule.proofs.laws.Lists.{among_left, among_right}
 use Rattle.fish_rule.specs.Views.{Among}
 use Rattle.fish_rule.specs.declared.view.Shut.{Shut}
 use Rattle.fish_rule.specs.declared.view.View.{View}

@@ -24,9 +24,9 @@ use Rattle.fish_lang.specs.declared.definition.Def.{Def}
 use Rattle.fish_registry.specs.declared.registrar.Registrar.{Registrar}
 use Rattle.fish_report.specs.declared.item.Item.{Item}
 use Rattle.fish_report.specs.declared.item.Item.TheVariants as item
-use Rattle.fish_rule.proofs.Extending.{learns_both}
+use Rattle.fish_rule.proofs.laws.Learning.{learns_both}
 use Rattle.fish_rule.specs.Logs.{Learns}
-use Rattle.fish_rule.specs.Reading.{IsAlone}
+use Rattle.fish_rule.specs.LoadSteps.{IsAlone}
 use Rattle.fish_rule.specs.Table.{Stands}
 use Rattle.fish_rule.specs.Views.{AllOf}
 use Rattle.fish_rule.specs.declared.view.Epoch.TheVariants.{Out}
@@ -61,11 +61,11 @@ after_more r [] x = refl
 after_more r (y ∷ items) x = after_more (after r y) items x
 
 -- each item counts the version that it made
-after_version : (r : Registry) (x : Item) → (after r x).version ≡ r.version + made_by x
-after_version r (item.Registered name id from def) = omega arith
-after_version r (item.Rolling name id def seat version) = omega arith
-after_version r (item.Deregistered name id to) = omega arith
-after_version r x = omega arith
+after_load_version : (r : Registry) (x : Item) → (after r x).version ≡ r.version + made_by x
+after_load_version r (item.Registered name id from def) = omega arith
+after_load_version r (item.Rolling name id def seat version) = omega arith
+after_load_version r (item.Deregistered name id to) = omega arith
+after_load_version r x = omega arith
 
 -- ---- definitions that are known
 
@@ -164,7 +164,7 @@ pub held_done : (v : View) (r : Registrar) (u : View) (s : Registrar) (t : View)
     → Held v r t q (works ++ w ∷ []) (items ++ x ∷ [])
 held_done v r u s t q works items w x stands base h c =
     let made : t.learned.version ≡ u.learned.version + made_by x =
-    ap (λ (z : Registry). z.version) c.does.is ∙ after_version (registry_of u s) x in
+    ap (λ (z : Registry). z.version) c.does.is ∙ after_load_version (registry_of u s) x in
     held_item v r u s t q works (works ++ w ∷ []) items x h h.told.gains.on.learns c.gains.on.learns c.does
     (subst (HasTold v t (works ++ w ∷ [])) (sym (answers_more items x (fit_answer u t w x c.fit)))
     (told_more v u t works (answers items) w x c.rows base h.told c.gains c.first c.fit c.shuts (omega arith)))

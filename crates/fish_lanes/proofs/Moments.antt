@@ -3,12 +3,12 @@ use Rattle.std.proofs.Common.{◌≡◌, ◌≢◌, ℕ, ◌+◌, ◌<◌, ◌�
 use Rattle.std.proofs.Common.{⊎_elim, arith, Some, slice_get}
 use Rattle.std.proofs.Math.Decide.{dec_lt}
 use Rattle.fish_lanes.specs.Ending.{HasEnd}
-use Rattle.fish_rule.proofs.Bodies.{code_once, mark-past}
-use Rattle.fish_rule.proofs.Bounds.{starts_rise}
-use Rattle.fish_rule.proofs.Kept.{published}
+use Rattle.fish_rule.proofs.laws.Regions.{code_once, mark-past}
+use Rattle.fish_rule.proofs.laws.Regions.{starts_rise}
+use Rattle.fish_rule.proofs.laws.Regions.{published}
 use Rattle.fish_rule.specs.Regions.{code, kind_of}
 use Rattle.fish_rule.specs.declared.view.Kind.TheVariants.{Mark}
-use Rattle.fish_rule.proofs.Extending.{learns_self}
+use Rattle.fish_rule.proofs.laws.Learning.{learns_self}
 use Rattle.fish_rule.specs.Logs.{Learns, TellsMark}
 use Rattle.fish_rule.specs.Parts.{Rests}
 use Rattle.fish_rule.specs.Table.{Stands}
@@ -53,8 +53,8 @@ learns_same v m about learned =
       known = λ x n. subst (λ (z : Learned). Among x z.known) (sym learned) n;
       records = λ x n. subst (λ (z : Learned). Among x z.records) (sym learned) n;
       nodes = λ x n. subst (λ (z : Learned). Among x z.nodes) (sym learned) n;
-      lows = λ x n. subst (λ (z : Learned). Among x z.lows) (sym learned) n;
-      tops = λ x n. subst (λ (z : Learned). Among x z.tops) (sym learned) n;
+      least_previous = λ x n. subst (λ (z : Learned). Among x z.least_previous) (sym learned) n;
+      least_heads = λ x n. subst (λ (z : Learned). Among x z.least_heads) (sym learned) n;
       gaps = λ x n. subst (λ (z : Learned). Among x z.gaps) (sym learned) n;
       labels = λ x n. subst (λ (z : Learned). Among x z.labels) (sym learned) n;
       unended = λ x n. subst (λ (z : Learned). Among x z.unended) (sym learned) n;

@@ -21,9 +21,9 @@ use Rattle.fish_registry.specs.Knowing.{Knows}
 use Rattle.fish_registry.specs.declared.registrar.Registrar.{Registrar}
 use Rattle.fish_report.specs.declared.item.Item.{Item}
 use Rattle.fish_report.specs.declared.item.Item.TheVariants as item
-use Rattle.fish_rule.proofs.Common.{all_among}
+use Rattle.fish_rule.proofs.laws.Lists.{all_among}
 use Rattle.fish_rule.specs.Logs.{Learns}
-use Rattle.fish_rule.specs.Registry.{IsRegistered, definitions_at, drafted, row_at, version_in}
+use Rattle.fish_rule.specs.Registry.{IsRegistered, definitions_at, main_word, row_at, version_in}
 use Rattle.fish_rule.specs.Table.{Stands}
 use Rattle.fish_rule.specs.Views.{AllOf}
 use Rattle.fish_rule.specs.declared.view.View.{View}
@@ -117,7 +117,7 @@ row_begun t s id from stands knows h =
     let few = h.few in
     let word : g (row_at id 0) ≡ suc from =
     (all_among (IsRegistered t.about g) (record { index = row_at id 0; value = suc from }) t.learned.words stays.read h.read).word in
-    let stored : g (row_at id 0) ≡ drafted t.draft (row_at id 0) =
+    let stored : g (row_at id 0) ≡ main_word t.main_words (row_at id 0) =
     main.owned (row_at id 0) (inr (id, 0, h.few, (omega arith), refl)) in
     let rows : length t.rows ≡ length s.catalog = ap length (sym knows.listed) ∙ length-map s.catalog listed_of in
     let made : length (definitions_at t.about g (version_in g)) ≡ length t.rows = ap length main.definitions in

@@ -25,9 +25,9 @@ use Rattle.fish_report.specs.declared.item.ScanCause.{ScanCause}
 use Rattle.fish_report.specs.declared.item.ScanCause.TheVariants as cause
 use Rattle.fish_registry.proofs.Changing.{learns_changes}
 use Rattle.fish_registry.specs.Changing.{Changes}
-use Rattle.fish_rule.proofs.Extending.{learns_both, learns_self}
+use Rattle.fish_rule.proofs.laws.Learning.{learns_both, learns_self}
 use Rattle.fish_rule.specs.Logs.{Learns, TellsMark}
-use Rattle.fish_rule.specs.Reading.{IsAlone}
+use Rattle.fish_rule.specs.LoadSteps.{IsAlone}
 use Rattle.fish_rule.specs.Registry.{KnowsDefinitions}
 use Rattle.fish_rule.specs.Table.{Stands}
 use Rattle.fish_rule.specs.Views.{AllOf}

@@ -26,7 +26,7 @@ use Rattle.fish_report.specs.declared.item.Item.TheVariants as item
 use Rattle.fish_report.specs.declared.item.RegisterCause.{RegisterCause}
 use Rattle.fish_report.specs.declared.item.RegisterCause.TheVariants as register
 use Rattle.fish_rule.specs.Passes.{IsPassOf, view}
-use Rattle.fish_rule.specs.Reading.{IsAlone}
+use Rattle.fish_rule.specs.LoadSteps.{IsAlone}
 use Rattle.fish_rule.specs.Views.{AllOf}
 use Rattle.fish_rule.specs.declared.table.Log.{Log}
 use Rattle.fish_rule.specs.declared.table.Pass.{Pass}

@@ -5,12 +5,12 @@ ghost use Rattle.std.specs.Vec.{vec_capacity, vec_len};
 ghost use Rattle.fish_layout.specs.Header.{keys_of};
 ghost use Rattle.fish_rule.specs.Logs.{Extends, HasWords, IsWordRead, Tells};
 ghost use Rattle.fish_rule.specs.Passes.{IsPassOf, view};
-ghost use Rattle.fish_rule.specs.Reading.{CanRead};
+ghost use Rattle.fish_rule.specs.LoadSteps.{CanReadWord};
 ghost use Rattle.fish_rule.specs.Views.{Among};
 ghost use Rattle.fish_rule.specs.declared.view.Found.{Found};
 ghost use Rattle.fish_rule.specs.declared.view.Kind.TheVariants.{Mark, Stored};
 
-use crate::steps::read_word;
+use crate::space::read_word;
 use crate::table::{Log, Pass};
 use fish_catalog::Entry;
 use fish_layout::{Payload, keys_in, lines_in, read_payload};
@@ -54,7 +54,7 @@ pub fn read_region(
 fn read_rest(log: &Log, pass: &mut Pass, line: u64, from: u64, to: u64, words: &mut Vec<u64>)
     requires pass { IsPassOf log.now pass.old }
     requires read { (f : Found) × (f.line ≡ line)
-        × ((i : ℕ) → from ≤ i → i < to → CanRead (view pass.old) f i) }
+        × ((i : ℕ) → from ≤ i → i < to → CanReadWord (view pass.old) f i) }
     requires ordered { from ≤ to }
     requires room { vec_len words.old + (to - from) ≤ vec_capacity words.old }
     ensures pass { IsPassOf log.now pass.new }

@@ -13,7 +13,7 @@ use Rattle.fish_plan.specs.Pieces.{one_full}
 use Rattle.fish_plan.specs.declared.pieces.Piece.{Piece}
 use Rattle.fish_rule.specs.Clocks.{HasLoaded, IsLater}
 use Rattle.fish_rule.specs.Logs.{Learns}
-use Rattle.fish_rule.specs.Reading.{IsAlone}
+use Rattle.fish_rule.specs.LoadSteps.{IsAlone}
 use Rattle.fish_rule.specs.declared.view.Epoch.TheVariants.{Out}
 use Rattle.fish_rule.specs.declared.view.Noted.TheVariants.{Version}
 use Rattle.fish_rule.specs.declared.view.View.{View}

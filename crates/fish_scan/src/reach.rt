@@ -3,7 +3,7 @@
 ghost use Rattle.std.specs.Prelude.{◌≡◌, ◌≢◌, ◌<◌, ◌≤◌, ◌++◌, [], ◌∷◌, OnOk, IfOk};
 ghost use Rattle.fish_rule.specs.Logs.{TellsMark};
 ghost use Rattle.fish_rule.specs.Passes.{IsPassOf, view};
-ghost use Rattle.fish_rule.specs.Reading.{IsAlone};
+ghost use Rattle.fish_rule.specs.LoadSteps.{IsAlone};
 ghost use Rattle.fish_rule.specs.Views.{Among};
 ghost use Rattle.fish_scan.specs.Reach.{AreLooks, IsCut, IsReach, IsReached};
 ghost use Rattle.fish_walk.specs.Looks.{HasOpens, IsLookAt, with_look};

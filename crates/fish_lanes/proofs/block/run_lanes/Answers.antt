@@ -12,7 +12,7 @@ use Rattle.fish_lanes.proofs.Ends.{taken_alone, taken_knows, taken_start}
 use Rattle.fish_lanes.proofs.Lanes.{seated_ready}
 use Rattle.fish_lanes.proofs.Single.{alone_changes, only_end}
 use Rattle.fish_rule.specs.Passes.{view}
-use Rattle.fish_rule.specs.Reading.{IsAlone}
+use Rattle.fish_rule.specs.LoadSteps.{IsAlone}
 use Rattle.fish_rule.specs.declared.view.View.{View}
 use Rattle.fish_lanes.proofs.block.run_lanes.Goals as goal
 

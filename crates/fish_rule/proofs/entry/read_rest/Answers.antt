@@ -1,7 +1,7 @@
 -- Each turn reads the next word, and puts it behind the others.
 use Rattle.std.proofs.Common.{◌≡◌, ℕ, ◌+◌, ◌-◌, ◌*◌, suc, List, sym, ap, ◌∙◌, subst, arith}
-use Rattle.fish_rule.proofs.Extending.{extends_both, extends_to_read, read_here}
-use Rattle.fish_rule.proofs.Words.{AreMore, can_read_later, more_one}
+use Rattle.fish_rule.proofs.laws.Learning.{extends_both, extends_to_read, read_here}
+use Rattle.fish_rule.proofs.basics.RegionWords.{AreMore, can_read_later, more_one}
 use Rattle.fish_rule.specs.Passes.{view}
 use Rattle.fish_rule.specs.Views.{Among}
 use Rattle.fish_rule.specs.declared.view.View.{View}

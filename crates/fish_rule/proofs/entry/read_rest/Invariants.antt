@@ -1,7 +1,7 @@
 -- The words so far are those from the first on, each of which is known, behind the ones of before.
 use Rattle.std.proofs.Common.{◌≡◌, ◌+◌, ◌-◌}
 use Rattle.std.specs.Vec.{vec_capacity}
-use Rattle.fish_rule.proofs.Words.{AreMore}
+use Rattle.fish_rule.proofs.basics.RegionWords.{AreMore}
 use Rattle.fish_rule.specs.Logs.{Extends}
 use Rattle.fish_rule.specs.Passes.{IsPassOf, view}
 use Rattle.fish_rule.proofs.entry.read_rest.Given as goal

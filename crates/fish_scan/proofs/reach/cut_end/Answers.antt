@@ -2,7 +2,7 @@
 use Rattle.std.proofs.Common.{refl, inl, inr, subst, arith}
 use Rattle.fish_rule.specs.Logs.{TellsMark}
 use Rattle.fish_rule.specs.Passes.{view}
-use Rattle.fish_rule.proofs.Closing.{tells_mark}
+use Rattle.fish_rule.proofs.laws.Alone.{tells_mark}
 use Rattle.fish_scan.proofs.Ends.{look_mark}
 use Rattle.fish_scan.proofs.Looking.{unmarked}
 use Rattle.fish_walk.proofs.Looking.{look_looks}

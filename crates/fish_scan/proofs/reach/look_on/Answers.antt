@@ -1,6 +1,6 @@
 -- Each look tells of one number more, or of a mark at which the looks end.
 use Rattle.std.proofs.Common.{◌≡◌, ℕ, ◌+◌, suc, length, ap, ◌∙◌, subst, arith}
-use Rattle.fish_rule.proofs.Closing.{alone_later}
+use Rattle.fish_rule.proofs.laws.Alone.{alone_later}
 use Rattle.fish_rule.specs.Passes.{view}
 use Rattle.fish_scan.proofs.Ends.{none_open}
 use Rattle.fish_scan.proofs.Lists.{length_more}

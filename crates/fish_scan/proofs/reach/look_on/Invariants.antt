@@ -1,7 +1,7 @@
 -- The numbers before this one were looked at, and none of them was a mark; a pass that is alone found none open.
 use Rattle.std.proofs.Common.{◌≡◌, ◌+◌, [], length}
 use Rattle.fish_rule.specs.Passes.{IsPassOf, view}
-use Rattle.fish_rule.specs.Reading.{IsAlone}
+use Rattle.fish_rule.specs.LoadSteps.{IsAlone}
 use Rattle.fish_scan.specs.Reach.{AreLooks}
 use Rattle.fish_walk.specs.Settling.{OnlyLooks}
 use Rattle.fish_scan.proofs.reach.look_on.Given as goal
