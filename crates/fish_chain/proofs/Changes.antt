@@ -7,13 +7,13 @@ use Rattle.fish_claim.proofs.Filled.{filled_aim, refilled}
 use Rattle.fish_layout.specs.Bucket.{bucket_of}
 use Rattle.fish_layout.specs.Cleared.{body_of, entry_at}
 use Rattle.fish_layout.specs.Header.{keys_of}
-use Rattle.fish_rule.proofs.Descents.{head_learns, previous_learns}
-use Rattle.fish_rule.proofs.Extending.{learns_both}
-use Rattle.fish_rule.proofs.LinkLaws.{body-set}
+use Rattle.fish_rule.proofs.laws.Descents.{head_learns, previous_learns}
+use Rattle.fish_rule.proofs.laws.Learning.{learns_both}
+use Rattle.fish_rule.proofs.laws.Links.{body-set}
 use Rattle.fish_rule.specs.Logs.{Learns}
-use Rattle.fish_rule.specs.Linking.{CanAim, after_aim, gap, head_seen, learned_head}
-use Rattle.fish_rule.specs.Linking.{learned_previous, previous_seen, spliced, swung, with_node}
-use Rattle.fish_rule.specs.Steps.{loaded, ticked}
+use Rattle.fish_rule.specs.ChainSteps.{CanAimEntry, after_aim_entry, gap, head_seen, learned_head}
+use Rattle.fish_rule.specs.ChainSteps.{learned_previous, previous_seen, spliced, swung, with_node}
+use Rattle.fish_rule.specs.SpaceSteps.{loaded, ticked}
 use Rattle.fish_rule.specs.declared.view.Clock.{Clock}
 use Rattle.fish_rule.specs.declared.view.Flight.{Flight}
 use Rattle.fish_rule.specs.declared.view.Key.{Key}
@@ -28,8 +28,8 @@ for_each v f P one here g two = (let same : f ≡ g = (let e : Some f ≡ Some g
 -- ---- what was known stays known
 
 -- by an aim
-aim_learns : (u : View) (f : Flight) (x : ℕ) → Learns u (after_aim u f x)
-aim_learns u f x = learns_same u (after_aim u f x) refl refl
+aim_learns : (u : View) (f : Flight) (x : ℕ) → Learns u (after_aim_entry u f x)
+aim_learns u f x = learns_same u (after_aim_entry u f x) refl refl
 
 -- by a swing that was made
 swing_learns : (u : View) (f : Flight) (b : ℕ) → Learns u (swung u f b)
@@ -43,8 +43,8 @@ swing_learns u f b = record {
   known = λ x m. m;
   records = λ x m. m;
   nodes = λ x m. inr m;
-  lows = λ x m. m;
-  tops = λ x m. inr m;
+  least_previous = λ x m. m;
+  least_heads = λ x m. inr m;
   gaps = λ x m. m;
   labels = λ x m. m;
   unended = λ x m. m;
@@ -63,8 +63,8 @@ splice_learns u f b q = record {
   known = λ x m. m;
   records = λ x m. m;
   nodes = λ x m. inr m;
-  lows = λ x m. inr m;
-  tops = λ x m. m;
+  least_previous = λ x m. inr m;
+  least_heads = λ x m. m;
   gaps = λ x m. m;
   labels = λ x m. m;
   unended = λ x m. m;
@@ -80,12 +80,12 @@ changed_next v u t f words next linked c d =
     let clock = ap (λ (z : View). z.clock) c.known in
     record {
       nodes = d.nodes;
-      lows = d.lows;
-      tops = d.tops;
+      least_previous = d.least_previous;
+      least_heads = d.least_heads;
       gaps = d.gaps;
       clock = d.clock;
       known = d.known ∙ ap (λ (z : View). chained_view z
-          (with_linked f words f.linked) next linked d.nodes d.lows d.tops d.gaps d.clock) c.known;
+          (with_linked f words f.linked) next linked d.nodes d.least_previous d.least_heads d.gaps d.clock) c.known;
       long = d.long ∙ c.long;
       body = d.body ∙ c.body;
       learns = learns_both v u t c.learns d.learns;
@@ -111,7 +111,7 @@ still_links v u f words b c can =
     }
 
 -- an entry that may be linked may be aimed
-pub link_aim : (v : View) (f : Flight) (b : ℕ) → CanLink v f f.linked b → CanAim v f
+pub link_aim : (v : View) (f : Flight) (b : ℕ) → CanLink v f f.linked b → CanAimEntry v f
 link_aim v f b can = filled_aim v f can.filled can.more
 
 -- ---- each step
@@ -136,8 +136,8 @@ module _ (u t : View) (f : Flight) where
       → t ≡ head_seen u b x clock → Changed u f f.words f.linked t
   head_changes b x clock quiet flying is = record {
     nodes = with_node u.about b x u.learned.nodes;
-    lows = u.learned.lows;
-    tops = record { bucket = b; place = x } ∷ u.learned.tops;
+    least_previous = u.learned.least_previous;
+    least_heads = record { bucket = b; place = x } ∷ u.learned.least_heads;
     gaps = gap b (u.about.end * 4) x u.learned ∷ u.learned.gaps;
     clock = clock;
     known = is ∙ (λ i. record u { flight = flying i; learned = learned_head u.about b x u.learned; clock = clock });
@@ -154,8 +154,8 @@ module _ (u t : View) (f : Flight) where
       → t ≡ previous_seen u b q x clock → Changed u f f.words f.linked t
   previous_changes b q x clock quiet flying is = record {
     nodes = with_node u.about b x u.learned.nodes;
-    lows = record { place = q; value = x } ∷ u.learned.lows;
-    tops = u.learned.tops;
+    least_previous = record { place = q; value = x } ∷ u.learned.least_previous;
+    least_heads = u.learned.least_heads;
     gaps = gap b q x u.learned ∷ u.learned.gaps;
     clock = clock;
     known = is ∙ (λ i. record u { flight = flying i; learned = learned_previous u.about b q x u.learned; clock = clock });
@@ -168,12 +168,12 @@ module _ (u t : View) (f : Flight) where
   }
 
   -- an aim
-  pub aim_changes : (x : ℕ) → f.linked < keys_of (body_of f.words 0) → t ≡ after_aim u f x
+  pub aim_changes : (x : ℕ) → f.linked < keys_of (body_of f.words 0) → t ≡ after_aim_entry u f x
       → Changed u f (set f.words (entry_at f.linked) x) f.linked t
   aim_changes x more is = record {
     nodes = u.learned.nodes;
-    lows = u.learned.lows;
-    tops = u.learned.tops;
+    least_previous = u.learned.least_previous;
+    least_heads = u.learned.least_heads;
     gaps = u.learned.gaps;
     clock = record u.clock { steps = suc u.clock.steps };
     known = is;
@@ -189,8 +189,8 @@ module _ (u t : View) (f : Flight) where
   pub swing_changes : (b : ℕ) → t ≡ swung u f b → Changed u f f.words (suc f.linked) t
   swing_changes b is = record {
     nodes = record { bucket = b; place = f.line * 4 + entry_at f.linked } ∷ u.learned.nodes;
-    lows = u.learned.lows;
-    tops = record { bucket = b; place = f.line * 4 + entry_at f.linked } ∷ u.learned.tops;
+    least_previous = u.learned.least_previous;
+    least_heads = record { bucket = b; place = f.line * 4 + entry_at f.linked } ∷ u.learned.least_heads;
     gaps = u.learned.gaps;
     clock = ticked u.clock;
     known = is;
@@ -206,8 +206,8 @@ module _ (u t : View) (f : Flight) where
   pub splice_changes : (b q : ℕ) → t ≡ spliced u f b q → Changed u f f.words (suc f.linked) t
   splice_changes b q is = record {
     nodes = record { bucket = b; place = f.line * 4 + entry_at f.linked } ∷ u.learned.nodes;
-    lows = record { place = q; value = f.line * 4 + entry_at f.linked } ∷ u.learned.lows;
-    tops = u.learned.tops;
+    least_previous = record { place = q; value = f.line * 4 + entry_at f.linked } ∷ u.learned.least_previous;
+    least_heads = u.learned.least_heads;
     gaps = u.learned.gaps;
     clock = ticked u.clock;
     known = is;

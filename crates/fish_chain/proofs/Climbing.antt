@@ -5,7 +5,7 @@ use Rattle.fish_chain.specs.Links.{CanLink, CanLinkBelow, IsBelow, Tried, with_l
 use Rattle.fish_layout.specs.Cleared.{body_of}
 use Rattle.fish_layout.specs.Header.{keys_of}
 use Rattle.fish_rule.specs.Flying.{region_in, region_of}
-use Rattle.fish_rule.specs.Linking.{own_place}
+use Rattle.fish_rule.specs.ChainSteps.{own_place}
 use Rattle.fish_rule.specs.declared.table.Region.{Region}
 use Rattle.fish_rule.specs.declared.view.Flight.{Flight}
 use Rattle.fish_rule.specs.declared.view.View.{View}

@@ -24,19 +24,19 @@ use Rattle.fish_layout.specs.Values.{kind_code, value_bytes}
 use Rattle.fish_value.specs.Number.{fits_i64}
 use Rattle.fish_value.specs.declared.value.Value.TheVariants as kind
 use Rattle.std.specs.Prelude.{IsTrue, ⊤}
-use Rattle.fish_rule.proofs.Extending.{learns_both}
+use Rattle.fish_rule.proofs.laws.Learning.{learns_both}
 use Rattle.fish_layout.specs.declared.parts.BodyParts.{BodyParts}
 use Rattle.fish_layout.specs.declared.parts.KeyPart.{KeyPart}
-use Rattle.fish_rule.proofs.Common.{all_among}
-use Rattle.fish_rule.proofs.Loads.{region_found, word_known}
-use Rattle.fish_rule.proofs.Stored.{stored_line, stored_parts}
+use Rattle.fish_rule.proofs.laws.Lists.{all_among}
+use Rattle.fish_rule.proofs.laws.Regions.{region_found, word_known}
+use Rattle.fish_rule.proofs.laws.Moments.{stored_line, stored_parts}
 use Rattle.fish_rule.specs.Facts.{IsFound, IsKnown}
 use Rattle.fish_rule.specs.Logs.{Learns}
-use Rattle.fish_rule.specs.Reading.{CanRead}
+use Rattle.fish_rule.specs.LoadSteps.{CanReadWord}
 use Rattle.fish_rule.specs.Rule.{Rule}
 use Rattle.fish_rule.specs.Table.{Stands}
 use Rattle.fish_rule.specs.Views.{Among}
-use Rattle.fish_rule.specs.Walking.{Always, IsNodeIn}
+use Rattle.fish_rule.specs.ChainFacts.{Always, IsNodeIn}
 use Rattle.fish_rule.specs.World.{World, body, low}
 use Rattle.fish_rule.specs.declared.view.Found.{Found}
 use Rattle.fish_rule.specs.declared.view.Key.{Key}

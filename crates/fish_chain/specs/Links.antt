@@ -4,13 +4,13 @@ use Rattle.fish_claim.specs.Fills.{IsFilled}
 use Rattle.fish_layout.specs.Bucket.{bucket_of}
 use Rattle.fish_layout.specs.Cleared.{body_of}
 use Rattle.fish_layout.specs.Header.{keys_of}
-use Rattle.fish_rule.specs.Linking.{HasNode, own_place}
+use Rattle.fish_rule.specs.ChainSteps.{HasNode, own_place}
 use Rattle.fish_rule.specs.Logs.{Learns}
 use Rattle.fish_rule.specs.declared.view.Clock.{Clock}
 use Rattle.fish_rule.specs.declared.view.Flight.{Flight}
 use Rattle.fish_rule.specs.declared.view.Gap.{Gap}
 use Rattle.fish_rule.specs.declared.view.Known.{Known}
-use Rattle.fish_rule.specs.declared.view.Node.{Node}
+use Rattle.fish_rule.specs.declared.view.EntryPlace.{EntryPlace}
 use Rattle.fish_rule.specs.declared.view.View.{View}
 
 -- f is the record in flight with all its words, and the key entry is its next to be linked, and of the bucket
@@ -26,22 +26,22 @@ abbrev pub with_linked : Flight → List ℕ → ℕ → Flight
 with_linked f words linked = record f { words = words; linked = linked }
 
 -- a view with that, and with these facts of chains and this clock
-abbrev pub chained_view : View → Flight → List ℕ → ℕ → List Node → List Known → List Node → List Gap → Clock → View
-chained_view v f words linked nodes lows tops gaps clock = record v {
+abbrev pub chained_view : View → Flight → List ℕ → ℕ → List EntryPlace → List Known → List EntryPlace → List Gap → Clock → View
+chained_view v f words linked nodes least_previous least_heads gaps clock = record v {
   flight = Some (with_linked f words linked);
-  learned = record v.learned { nodes = nodes; lows = lows; tops = tops; gaps = gaps };
+  learned = record v.learned { nodes = nodes; least_previous = least_previous; least_heads = least_heads; gaps = gaps };
   clock = clock;
 }
 
 -- u is the view v with these words of its record f and so many of its entries linked, after some steps: the
 -- record's body is the same, and what was known still is
 pub record Changed (v : View) (f : Flight) (words : List ℕ) (linked : ℕ) (u : View) : Type 0 where
-  pub nodes : List Node
-  pub lows : List Known
-  pub tops : List Node
+  pub nodes : List EntryPlace
+  pub least_previous : List Known
+  pub least_heads : List EntryPlace
   pub gaps : List Gap
   pub clock : Clock
-  pub known : u ≡ chained_view v f words linked nodes lows tops gaps clock
+  pub known : u ≡ chained_view v f words linked nodes least_previous least_heads gaps clock
   pub long : length words ≡ length f.words
   pub body : body_of words ≡ body_of f.words
   pub learns : Learns v u

@@ -4,12 +4,13 @@ use Rattle.std.proofs.Common.{Option}
 use Rattle.fish_claim.specs.Claims.{IsClaimed, answer_of, claimed_view}
 use Rattle.fish_claim.specs.declared.claimed.Claimed.TheVariants as answer
 use Rattle.fish_layout.specs.Header.{void_word}
-use Rattle.fish_rule.proofs.Extending.{learns_both}
+use Rattle.fish_rule.proofs.laws.Learning.{learns_both}
 use Rattle.fish_rule.specs.Clocks.{IsLater}
 use Rattle.fish_rule.specs.Logs.{Learns}
 use Rattle.fish_rule.specs.Regions.{kind_of}
-use Rattle.fish_rule.specs.Steps.{CanClaim, after_claim, after_publish, after_store, flight_at, flight_kind, own_after}
-use Rattle.fish_rule.specs.Steps.{records_after, shut_after, with_word}
+use Rattle.fish_rule.specs.SpaceSteps.{CanClaimLines, after_claim_lines, after_publish_region, after_store_word}
+use Rattle.fish_rule.specs.SpaceSteps.{flight_at, flight_kind, own_after}
+use Rattle.fish_rule.specs.SpaceSteps.{records_after, shut_after, with_word}
 use Rattle.fish_rule.specs.Views.{Among}
 use Rattle.fish_rule.specs.World.{slots}
 use Rattle.fish_rule.specs.declared.view.Flight.{Flight}
@@ -36,8 +37,8 @@ learns_count v u count about learned more =
       known = λ x m. m;
       records = λ x m. m;
       nodes = λ x m. m;
-      lows = λ x m. m;
-      tops = λ x m. m;
+      least_previous = λ x m. m;
+      least_heads = λ x m. m;
       gaps = λ x m. m;
       labels = λ x m. m;
       unended = λ x m. m;
@@ -50,13 +51,13 @@ learns_same v u about learned = learns_count v u v.learned.count about learned (
 
 -- a claim counts its number, and takes away nothing that was learned
 pub claim_learns : (v : View) (lines number line : ℕ) → v.learned.count ≤ number
-    → Learns v (after_claim v lines number line)
+    → Learns v (after_claim_lines v lines number line)
 claim_learns v lines number line counted =
-    learns_count v (after_claim v lines number line) (suc number) refl refl (omega arith)
+    learns_count v (after_claim_lines v lines number line) (suc number) refl refl (omega arith)
 
 -- nor does a store
-store_learns : (v : View) (f : Flight) (x : ℕ) → Learns v (after_store v f x)
-store_learns v f x = learns_same v (after_store v f x) refl refl
+store_learns : (v : View) (f : Flight) (x : ℕ) → Learns v (after_store_word v f x)
+store_learns v f x = learns_same v (after_store_word v f x) refl refl
 
 -- a publication adds to the records that are known, or leaves them
 records_more : (kind : Kind) (f : Flight) (records : List Recorded) (x : Recorded) → Among x records
@@ -66,7 +67,7 @@ records_more Void f records x m = m
 records_more Mark f records x m = m
 
 -- and it takes away nothing either
-pub publish_learns : (v : View) (f : Flight) → Learns v (after_publish v f)
+pub publish_learns : (v : View) (f : Flight) → Learns v (after_publish_region v f)
 publish_learns v f = record {
   about = refl;
   count = omega arith;
@@ -77,8 +78,8 @@ publish_learns v f = record {
   known = λ x m. m;
   records = records_more (flight_kind v f) f v.learned.records;
   nodes = λ x m. m;
-  lows = λ x m. m;
-  tops = λ x m. m;
+  least_previous = λ x m. m;
+  least_heads = λ x m. m;
   gaps = λ x m. m;
   labels = λ x m. m;
   unended = λ x m. m;
@@ -118,9 +119,9 @@ module _ (v : View) (lines number line : ℕ) (counted : v.learned.count ≤ num
   void_unplaced is =
       let f : Flight = flight_at number line lines in
       let x : ℕ = void_word lines in
-      let claimed : View = after_claim v lines number line in
-      let stored : View = after_store claimed f x in
-      let published : View = after_publish stored (with_word f x) in
+      let claimed : View = after_claim_lines v lines number line in
+      let stored : View = after_store_word claimed f x in
+      let published : View = after_publish_region stored (with_word f x) in
       record {
         learns = learns_both v stored published
             (learns_both v claimed stored (claim_learns v lines number line counted) (store_learns claimed f x))
@@ -140,9 +141,9 @@ module _ (v : View) (lines number line : ℕ) (counted : v.learned.count ≤ num
       (claimed_view Mark v lines number line)
   mark_unplaced is =
       let f : Flight = flight_at number line lines in
-      let claimed : View = after_claim v lines number line in
+      let claimed : View = after_claim_lines v lines number line in
       record {
-        learns = learns_both v claimed (after_publish claimed f) (claim_learns v lines number line counted)
+        learns = learns_both v claimed (after_publish_region claimed f) (claim_learns v lines number line counted)
             (publish_learns claimed f);
         clock = record { steps = omega arith; loads = omega arith; notes = []; since = refl };
         frame = refl;
@@ -190,7 +191,7 @@ overflow_law v u lines shut is =
     subst (λ (z : Shut). Unplaced v (Some z) u) t.1 left
 
 -- so a pass that met a void may claim again
-pub void_claims : (v u : View) → CanClaim v → Unplaced v v.shut u → CanClaim u
+pub void_claims : (v u : View) → CanClaimLines v → Unplaced v v.shut u → CanClaimLines u
 void_claims v u can left = record {
   live = subst (λ (z : ℕ). 1 ≤ z) (sym (ap (λ (z : View). z.lane) left.frame)) can.live;
   idle = left.flight;

@@ -34,9 +34,9 @@ use Rattle.fish_registry.specs.Refusing.{HasBegun}
 use Rattle.fish_registry.specs.declared.registrar.Registrar.{Registrar}
 use Rattle.fish_registry.specs.declared.registrar.Waiting.{Waiting}
 use Rattle.fish_report.specs.declared.item.Item.TheVariants as item
-use Rattle.fish_rule.proofs.Clocks.{later_both}
-use Rattle.fish_rule.proofs.Extending.{learns_both}
-use Rattle.fish_rule.proofs.Registers.{has_read}
+use Rattle.fish_rule.proofs.laws.Clocks.{later_both}
+use Rattle.fish_rule.proofs.laws.Learning.{learns_both}
+use Rattle.fish_rule.proofs.laws.Versions.{has_read}
 use Rattle.fish_rule.specs.Logs.{Learns}
 use Rattle.fish_rule.specs.Registry.{KnowsDefinitions, definitions_at, version_in}
 use Rattle.fish_rule.specs.Table.{Stands}
@@ -65,7 +65,7 @@ gains_changes v u outside idle h = record {
 
 -- what a registrar keeps is still known where the definitions are the same
 pub knows_kept : (v u : View) (r : Registrar) → u.lane ≡ v.lane → Learns v u → KeepsRegistry v u → Knows v r → Knows u r
-knows_kept v u r lane learns keeps h = knows_on v u r lane keeps.rows keeps.draft keeps.round learns.count h
+knows_kept v u r lane learns keeps h = knows_on v u r lane keeps.rows keeps.main_words keeps.round learns.count h
 
 -- definitions that are known at a version stay known
 pub registry_later : (v u : View) (r : Registry) → Learns v u → KnowsRegistry v r → KnowsRegistry u r

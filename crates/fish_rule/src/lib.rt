@@ -12,10 +12,10 @@ mod entry;
 mod law;
 mod linking;
 mod opening;
-mod plays;
+mod step_kinds;
 mod registry;
 mod seats;
-mod steps;
+mod space;
 mod table;
 mod view;
 mod walk;
@@ -31,13 +31,13 @@ pub use registry::{
     retire,
 };
 pub use seats::{Start, base, buckets, first_version, join_pass, open_log, shape, split_pass};
-pub use steps::{
+pub use space::{
     claim_lines, in_flight, is_shut, kind_in, lane, load_settled, load_tail, look_at,
     publish_region, raise_settled, read_word, region_index, store_at, store_word,
 };
 pub use table::{Base, Log, LogRule, Pass, Region, Shape, Walk};
 pub use view::{
-    Clock, Epoch, Flight, Found, Gap, Key, Kind, Known, Label, Learned, Node, Note, Noted, Own,
+    Clock, Epoch, Flight, Found, Gap, Key, Kind, Known, Label, Learned, EntryPlace, Note, Noted, Own,
     Position, Recorded, RegistryWord, Shut, View,
 };
 pub use walk::{keep_walk, kept_walk};

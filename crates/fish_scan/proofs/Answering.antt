@@ -17,11 +17,11 @@ use Rattle.fish_plan.specs.Intervals.{IsBelowEnd}
 use Rattle.fish_plan.specs.Pieces.{one_full}
 use Rattle.fish_plan.specs.declared.pieces.Piece.{Piece}
 use Rattle.fish_plan.specs.declared.pieces.Piece.TheVariants.{Full, Index}
-use Rattle.fish_rule.proofs.Clocks.{later_both, later_self, loaded_within, noted_load}
-use Rattle.fish_rule.proofs.Extending.{learns_both, learns_self}
-use Rattle.fish_rule.proofs.Walking.{always_later}
+use Rattle.fish_rule.proofs.laws.Clocks.{later_both, later_self, loaded_within, noted_load}
+use Rattle.fish_rule.proofs.laws.Learning.{learns_both, learns_self}
+use Rattle.fish_rule.proofs.laws.ChainFacts.{always_later}
 use Rattle.fish_rule.specs.Clocks.{HasLoaded, IsLater}
-use Rattle.fish_rule.specs.Entering.{after_version}
+use Rattle.fish_rule.specs.RegistrySteps.{after_load_version}
 use Rattle.fish_rule.specs.Intervals.{HasInterval}
 use Rattle.fish_rule.specs.Logs.{Extends, Learns, TellsMark}
 use Rattle.fish_rule.specs.declared.view.Epoch.{Epoch}
@@ -91,7 +91,7 @@ scans_settles v u h = record {
 }
 
 -- the version is loaded
-pub scans_version : (v u : View) (x : ℕ) → u ≡ after_version v x → v.learned.version ≤ x → OnlyScans v u
+pub scans_version : (v u : View) (x : ℕ) → u ≡ after_load_version v x → v.learned.version ≤ x → OnlyScans v u
 scans_version v u x is more = subst (OnlyScans v) (sym is) (record {
   learns = record {
     about = refl;
@@ -103,8 +103,8 @@ scans_version v u x is more = subst (OnlyScans v) (sym is) (record {
     known = λ y m. m;
     records = λ y m. m;
     nodes = λ y m. m;
-    lows = λ y m. m;
-    tops = λ y m. m;
+    least_previous = λ y m. m;
+    least_heads = λ y m. m;
     gaps = λ y m. m;
     labels = λ y m. m;
     unended = λ y m. m;
@@ -112,7 +112,7 @@ scans_version v u x is more = subst (OnlyScans v) (sym is) (record {
   };
   clock = (noted_load v.clock Version x).on;
   frame = refl;
-  outside = λ e. ap (λ (z : Epoch). (after_version (record v { epoch = z }) x).epoch) e;
+  outside = λ e. ap (λ (z : Epoch). (after_load_version (record v { epoch = z }) x).epoch) e;
 })
 
 -- ---- views of what loads no word of the log
@@ -130,14 +130,14 @@ pub plans_settles : (v u : View) → OnlySettles v u → OnlyPlans v u
 plans_settles v u h = record { scans = scans_settles v u h; loads = h.loads }
 
 -- the version is loaded
-pub plans_version : (v u : View) (x : ℕ) → u ≡ after_version v x → v.learned.version ≤ x → OnlyPlans v u
+pub plans_version : (v u : View) (x : ℕ) → u ≡ after_load_version v x → v.learned.version ≤ x → OnlyPlans v u
 plans_version v u x is more = record {
   scans = scans_version v u x is more;
   loads = ap (λ (z : View). z.clock.loads) is;
 }
 
 -- the version that was loaded is that of the definitions
-pub version_loaded : (v m u : View) (x : ℕ) (known : Known) → m ≡ after_version v x → IsLater m.clock u.clock
+pub version_loaded : (v m u : View) (x : ℕ) (known : Known) → m ≡ after_load_version v x → IsLater m.clock u.clock
     → version_of known ≡ x → HasLoaded v.clock u.clock Version (version_of known)
 version_loaded v m u x known is later same =
     subst (HasLoaded v.clock u.clock Version) (sym same)
