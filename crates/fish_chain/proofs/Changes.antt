@@ -7,9 +7,9 @@ use Rattle.fish_claim.proofs.Filled.{filled_aim, refilled}
 use Rattle.fish_layout.specs.Bucket.{bucket_of}
 use Rattle.fish_layout.specs.Cleared.{body_of, entry_at}
 use Rattle.fish_layout.specs.Header.{keys_of}
-use Rattle.fish_rule.proofs.Descents.{head_learns, previous_learns}
-use Rattle.fish_rule.proofs.Extending.{learns_both}
-use Rattle.fish_rule.proofs.LinkLaws.{body-set}
+use Rattle.fish_rule.proofs.laws.Descents.{head_learns, previous_learns}
+use Rattle.fish_rule.proofs.laws.Learning.{learns_both}
+use Rattle.fish_rule.proofs.laws.Links.{body-set}
 use Rattle.fish_rule.specs.Logs.{Learns}
 use Rattle.fish_rule.specs.Linking.{CanAim, after_aim, gap, head_seen, learned_head}
 use Rattle.fish_rule.specs.Linking.{learned_previous, previous_seen, spliced, swung, with_node}

@@ -14,13 +14,13 @@ use Rattle.fish_layout.specs.Entry.{value_kind, value_offset, value_size}
 use Rattle.fish_layout.specs.Header.{keys_of, lines_of}
 use Rattle.fish_layout.specs.Values.{value_bytes}
 use Rattle.std.proofs.lemmas.Option.{get_or_from_slice_get, slice_get_within}
-use Rattle.fish_rule.proofs.Common.{all_among}
-use Rattle.fish_rule.proofs.Laws.{found_law}
-use Rattle.fish_rule.proofs.Loads.{lines_found, region_found}
-use Rattle.fish_rule.proofs.Extending.{extends_look, learns_both, learns_self}
-use Rattle.fish_rule.proofs.Stored.{stored_above}
+use Rattle.fish_rule.proofs.laws.Lists.{all_among}
+use Rattle.fish_rule.proofs.laws.Steps.{found_law}
+use Rattle.fish_rule.proofs.laws.Regions.{lines_found, region_found}
+use Rattle.fish_rule.proofs.laws.Learning.{extends_look, learns_both, learns_self}
+use Rattle.fish_rule.proofs.laws.Moments.{stored_above}
 use Rattle.fish_rule.specs.Facts.{IsFound}
-use Rattle.fish_rule.proofs.Walking.{always_later}
+use Rattle.fish_rule.proofs.laws.ChainFacts.{always_later}
 use Rattle.fish_rule.specs.Logs.{Extends, Learns}
 use Rattle.fish_rule.specs.Reading.{CanLook, CanRead, after_look, found_after, kind_told}
 use Rattle.fish_rule.specs.Regions.{code}

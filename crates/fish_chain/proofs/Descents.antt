@@ -3,11 +3,11 @@ use Rattle.std.proofs.Common.{◌≡◌, ℕ, ◌+◌, ◌*◌, ◌<◌, ◌≤�
 use Rattle.fish_chain.specs.Walks.{HasBegun, HasRange, IsEntryFrom, IsNextNode, IsNumbered, IsPast, IsRest, IsWalking, LeadsTo}
 use Rattle.fish_chain.specs.declared.walk.Node.{Node}
 use Rattle.fish_layout.specs.Entry.{entry_id, entry_number, entry_place}
-use Rattle.fish_rule.proofs.Descents.{entries_behind, entries_within, extends_node}
-use Rattle.fish_rule.proofs.Descents.{head_clear, head_here, previous_clear, previous_here}
-use Rattle.fish_rule.proofs.Extending.{extends_both}
-use Rattle.fish_rule.proofs.Laws.{label_above, node_behind}
-use Rattle.fish_rule.proofs.Walking.{always_later, clear_both, label_entry, label_last, label_outside}
+use Rattle.fish_rule.proofs.laws.Descents.{entries_behind, entries_within, extends_node}
+use Rattle.fish_rule.proofs.laws.Descents.{head_clear, head_here, previous_clear, previous_here}
+use Rattle.fish_rule.proofs.laws.Learning.{extends_both}
+use Rattle.fish_rule.proofs.laws.Links.{label_above, node_behind}
+use Rattle.fish_rule.proofs.laws.ChainFacts.{always_later, clear_both, label_entry, label_last, label_outside}
 use Rattle.fish_rule.specs.Linking.{HasNode, after_head, after_node, after_previous}
 use Rattle.fish_rule.specs.Logs.{Extends, Learns}
 use Rattle.fish_rule.specs.Parts.{first_head}

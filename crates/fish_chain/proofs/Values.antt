@@ -24,12 +24,12 @@ use Rattle.fish_layout.specs.Values.{kind_code, value_bytes}
 use Rattle.fish_value.specs.Number.{fits_i64}
 use Rattle.fish_value.specs.declared.value.Value.TheVariants as kind
 use Rattle.std.specs.Prelude.{IsTrue, ⊤}
-use Rattle.fish_rule.proofs.Extending.{learns_both}
+use Rattle.fish_rule.proofs.laws.Learning.{learns_both}
 use Rattle.fish_layout.specs.declared.parts.BodyParts.{BodyParts}
 use Rattle.fish_layout.specs.declared.parts.KeyPart.{KeyPart}
-use Rattle.fish_rule.proofs.Common.{all_among}
-use Rattle.fish_rule.proofs.Loads.{region_found, word_known}
-use Rattle.fish_rule.proofs.Stored.{stored_line, stored_parts}
+use Rattle.fish_rule.proofs.laws.Lists.{all_among}
+use Rattle.fish_rule.proofs.laws.Regions.{region_found, word_known}
+use Rattle.fish_rule.proofs.laws.Moments.{stored_line, stored_parts}
 use Rattle.fish_rule.specs.Facts.{IsFound, IsKnown}
 use Rattle.fish_rule.specs.Logs.{Learns}
 use Rattle.fish_rule.specs.Reading.{CanRead}

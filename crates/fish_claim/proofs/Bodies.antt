@@ -11,7 +11,7 @@ use Rattle.fish_layout.proofs.Spelled.{spelled_body}
 use Rattle.fish_layout.specs.Body.{IsBody, body_lines}
 use Rattle.fish_layout.specs.Cleared.{body_of, unlinked}
 use Rattle.fish_layout.specs.declared.parts.BodyParts.{BodyParts}
-use Rattle.fish_rule.proofs.Keys.{unlinked_keys}
+use Rattle.fish_rule.proofs.laws.Keys.{unlinked_keys}
 use Rattle.fish_rule.specs.Keys.{IsKeyed}
 use Rattle.fish_rule.specs.Logs.{Learns}
 use Rattle.fish_rule.specs.Regions.{kind_of}

@@ -3,8 +3,8 @@ use Rattle.std.proofs.Common.{◌≡◌, ℕ, ◌+◌, ◌<◌, ◌≤◌, suc, 
 use Rattle.fish_claim.specs.Claims.{IsClaimed, answer_of, claimed_view}
 use Rattle.fish_claim.specs.declared.claimed.Claimed.{Claimed}
 use Rattle.fish_layout.specs.Header.{void_word}
-use Rattle.fish_rule.proofs.Bodies.{kind-inside}
-use Rattle.fish_rule.proofs.Laws.{FlightLaw, flight_law}
+use Rattle.fish_rule.proofs.laws.Regions.{kind-inside}
+use Rattle.fish_rule.proofs.laws.Steps.{FlightLaw, flight_law}
 use Rattle.fish_rule.specs.Passes.{IsPassOf, view}
 use Rattle.fish_rule.specs.Regions.{kind_of}
 use Rattle.fish_rule.specs.Registry.{KnowsActive}

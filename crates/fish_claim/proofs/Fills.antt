@@ -3,7 +3,7 @@ use Rattle.std.proofs.Common.{◌≡◌, ℕ, ◌+◌, ◌<◌, ◌≤◌, suc, 
 use Rattle.std.proofs.Common.{sym, ap, ◌∙◌, subst, arith, Some, Option, add-one, add-zero, length-append}
 use Rattle.std.proofs.Math.Seq.{take-suc}
 use Rattle.fish_claim.specs.Fills.{CanFill, IsFilled, filled_view, with_words}
-use Rattle.fish_rule.proofs.Bodies.{kind-inside}
+use Rattle.fish_rule.proofs.laws.Regions.{kind-inside}
 use Rattle.fish_rule.specs.Flying.{region_in, region_of}
 use Rattle.fish_rule.specs.Steps.{CanStore, after_store}
 use Rattle.fish_rule.specs.declared.table.Region.{Region}

@@ -4,9 +4,9 @@ use Rattle.std.proofs.Common.{◌≡◌, ℕ, List, [], map, sym, refl, ap, ◌�
 use Rattle.fish_catalog.specs.Listing.{active_texts, listed_of}
 use Rattle.fish_catalog.specs.declared.row.CatRow.{CatRow}
 use Rattle.fish_layout.specs.Cleared.{body_of}
-use Rattle.fish_rule.proofs.Closing.{all_from}
-use Rattle.fish_rule.proofs.Common.{all_among}
-use Rattle.fish_rule.proofs.Registers.{keyed_map}
+use Rattle.fish_rule.proofs.laws.Alone.{all_from}
+use Rattle.fish_rule.proofs.laws.Lists.{all_among}
+use Rattle.fish_rule.proofs.laws.Versions.{keyed_map}
 use Rattle.fish_rule.specs.Keys.{IsKeyed}
 use Rattle.fish_rule.specs.Linking.{HasBody}
 use Rattle.fish_rule.specs.Logs.{Learns}

@@ -12,11 +12,11 @@ use Rattle.fish_catalog.specs.Words.{row_word, was_active}
 use Rattle.fish_catalog.specs.declared.listed.Listed.{Listed}
 use Rattle.fish_catalog.specs.declared.row.CatRow.{CatRow}
 use Rattle.fish_layout.proofs.Clearing.{choose_first, choose_second}
-use Rattle.fish_rule.proofs.Common.{all_among}
-use Rattle.fish_rule.proofs.Clocks.{later_ticked}
-use Rattle.fish_rule.proofs.Extending.{extends_both, extends_self}
-use Rattle.fish_rule.proofs.Registers.{definitions_next, length_registered}
-use Rattle.fish_rule.proofs.Registering.{listing_law}
+use Rattle.fish_rule.proofs.laws.Lists.{all_among}
+use Rattle.fish_rule.proofs.laws.Clocks.{later_ticked}
+use Rattle.fish_rule.proofs.laws.Learning.{extends_both, extends_self}
+use Rattle.fish_rule.proofs.laws.Versions.{definitions_next, length_registered}
+use Rattle.fish_rule.proofs.laws.Versions.{listing_law}
 use Rattle.fish_rule.specs.Entering.{after_registry}
 use Rattle.fish_rule.specs.Logs.{Learns}
 use Rattle.fish_rule.specs.Registry.{HasRead, KnowsDefinitions, KnowsRow, definitions_at, made, op_at, row_at, row_in}

@@ -2,7 +2,7 @@
 use Rattle.std.proofs.Common.{◌≡◌, ℕ, ◌+◌, ◌<◌, ◌≤◌, ap, arith}
 use Rattle.std.proofs.Math.Decide.{dec_lt}
 use Rattle.fish_ingest.specs.Laws.{AreShut, FullAgrees, FullFollows}
-use Rattle.fish_rule.proofs.Comparing.{one_line, one_number, regions_follow}
+use Rattle.fish_rule.proofs.laws.Comparing.{one_line, one_number, regions_follow}
 use Rattle.fish_rule.specs.Comparing.{AreFound}
 use Rattle.fish_rule.specs.declared.view.Found.{Found}
 use Rattle.fish_rule.specs.declared.view.Kind.TheVariants.{Mark}

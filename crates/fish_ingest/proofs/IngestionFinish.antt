@@ -13,11 +13,11 @@ use Rattle.fish_layout.specs.Body.{IsBody}
 use Rattle.fish_layout.specs.Cleared.{Spells, body_of, unlinked}
 use Rattle.fish_layout.specs.declared.parts.BodyParts.{BodyParts}
 use Rattle.fish_psf.specs.Records.{is_record}
-use Rattle.fish_rule.proofs.Clocks.{later_both, later_ticked}
-use Rattle.fish_rule.proofs.Common.{all_among}
-use Rattle.fish_rule.proofs.Extending.{learns_both}
-use Rattle.fish_rule.proofs.Flights.{one_flight}
-use Rattle.fish_rule.proofs.Kept.{published}
+use Rattle.fish_rule.proofs.laws.Clocks.{later_both, later_ticked}
+use Rattle.fish_rule.proofs.laws.Lists.{all_among}
+use Rattle.fish_rule.proofs.laws.Learning.{learns_both}
+use Rattle.fish_rule.proofs.laws.Regions.{one_flight}
+use Rattle.fish_rule.proofs.laws.Regions.{published}
 use Rattle.fish_rule.specs.Entering.{after_retire}
 use Rattle.fish_rule.specs.Facts.{IsRecorded}
 use Rattle.fish_rule.specs.Logs.{Tells}

@@ -12,7 +12,7 @@ use Rattle.fish_ingest.proofs.PreparationDefs.{def_ids}
 use Rattle.fish_epoch.proofs.Rounds.{enters_both}
 use Rattle.fish_epoch.specs.Rows.{OnlyReads}
 use Rattle.fish_ingest.proofs.Passing.{found_both, found_same, enters_reads, on_both, on_keeps, on_lane}
-use Rattle.fish_rule.proofs.Clocks.{later_both, later_self, later_ticked, loaded_within}
+use Rattle.fish_rule.proofs.laws.Clocks.{later_both, later_self, later_ticked, loaded_within}
 use Rattle.fish_rule.specs.Clocks.{HasLoaded}
 use Rattle.fish_rule.specs.declared.view.Noted.TheVariants.{Version}
 use Rattle.fish_ingest.specs.Passing.{OnlyIngests}
@@ -25,8 +25,8 @@ use Rattle.fish_ingest.specs.declared.placement.Pending.{Pending}
 use Rattle.fish_ingest.specs.declared.preparation.Prepared.{Prepared}
 use Rattle.fish_layout.specs.Body.{body_lines}
 use Rattle.fish_psf.specs.declared.key.ActiveDef.{ActiveDef}
-use Rattle.fish_rule.proofs.Extending.{learns_both}
-use Rattle.fish_rule.proofs.Registering.{listing_law}
+use Rattle.fish_rule.proofs.laws.Learning.{learns_both}
+use Rattle.fish_rule.proofs.laws.Versions.{listing_law}
 use Rattle.fish_rule.specs.Entering.{after_retire}
 use Rattle.fish_rule.specs.Epochs.{Carries}
 use Rattle.fish_rule.specs.Keys.{text_of}

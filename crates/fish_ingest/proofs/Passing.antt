@@ -3,8 +3,8 @@ use Rattle.std.proofs.Common.{◌≡◌, ap, refl, sym, ◌∙◌, subst, inl, i
 use Rattle.fish_epoch.specs.Entering.{OnlyEnters}
 use Rattle.fish_epoch.specs.Rows.{OnlyReads}
 use Rattle.fish_ingest.specs.Passing.{OnlyIngests, FoundSince, moved}
-use Rattle.fish_rule.proofs.Clocks.{later_both, later_self}
-use Rattle.fish_rule.proofs.Extending.{learns_both, learns_self}
+use Rattle.fish_rule.proofs.laws.Clocks.{later_both, later_self}
+use Rattle.fish_rule.proofs.laws.Learning.{learns_both, learns_self}
 use Rattle.fish_rule.specs.Views.{Among}
 use Rattle.fish_rule.specs.declared.view.Kind.{Kind}
 use Rattle.fish_rule.specs.declared.view.View.{View}

@@ -17,8 +17,8 @@ use Rattle.fish_layout.specs.Hash.{bucket_in, key_hash_of}
 use Rattle.fish_layout.specs.Header.{keys_of}
 use Rattle.fish_layout.specs.declared.parts.BodyParts.{BodyParts}
 use Rattle.fish_layout.specs.declared.parts.KeyPart.{KeyPart}
-use Rattle.fish_rule.proofs.Clocks.{later_both}
-use Rattle.fish_rule.proofs.Extending.{learns_both}
+use Rattle.fish_rule.proofs.laws.Clocks.{later_both}
+use Rattle.fish_rule.proofs.laws.Learning.{learns_both}
 use Rattle.fish_rule.specs.Clocks.{IsLater}
 use Rattle.fish_rule.specs.Flying.{region_of}
 use Rattle.fish_rule.specs.Logs.{Learns}

@@ -30,8 +30,9 @@ use Rattle.fish_report.specs.declared.item.Item.{Item}
 use Rattle.fish_report.specs.declared.item.Item.TheVariants as item
 use Rattle.fish_report.specs.declared.item.ScanCause.{ScanCause}
 use Rattle.fish_report.specs.declared.item.ScanCause.TheVariants as cause
-use Rattle.fish_rule.proofs.ClosedLogs.{always_closed, before_mark}
-use Rattle.fish_rule.proofs.Extending.{learns_both}
+use Rattle.fish_rule.proofs.laws.ClosedLogs.{always_closed}
+use Rattle.fish_rule.proofs.laws.Moments.{before_mark}
+use Rattle.fish_rule.proofs.laws.Learning.{learns_both}
 use Rattle.fish_rule.specs.Closing.{IsClosed}
 use Rattle.fish_rule.specs.Logs.{IsEntry, Learns, TellsMark}
 use Rattle.fish_rule.specs.Parts.{IsEntryWord}

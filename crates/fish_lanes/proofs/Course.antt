@@ -23,19 +23,19 @@ use Rattle.fish_lanes.specs.declared.lane.Seated.{Seated}
 use Rattle.fish_report.specs.declared.item.Item.{Item}
 use Rattle.fish_lanes.specs.declared.work.LaneFault.{LaneFault}
 use Rattle.fish_lanes.specs.declared.work.Work.{Work}
-use Rattle.fish_rule.proofs.Bodies.{code_once, mark-past}
-use Rattle.fish_rule.proofs.Bounds.{starts_rise}
-use Rattle.fish_rule.proofs.Kept.{published}
+use Rattle.fish_rule.proofs.laws.Regions.{code_once, mark-past}
+use Rattle.fish_rule.proofs.laws.Regions.{starts_rise}
+use Rattle.fish_rule.proofs.laws.Regions.{published}
 use Rattle.fish_rule.specs.Regions.{code, kind_of}
 use Rattle.fish_rule.specs.declared.view.Kind.TheVariants.{Mark}
-use Rattle.fish_rule.proofs.Common.{among_either}
-use Rattle.fish_rule.proofs.Extending.{learns_both, learns_self}
+use Rattle.fish_rule.proofs.laws.Lists.{among_either}
+use Rattle.fish_rule.proofs.laws.Learning.{learns_both, learns_self}
 use Rattle.fish_rule.specs.Logs.{Learns, TellsMark}
 use Rattle.fish_rule.specs.Parts.{Rests}
 use Rattle.fish_rule.specs.Passes.{view}
 use Rattle.fish_rule.specs.Reading.{IsAlone}
 use Rattle.fish_rule.specs.Table.{Stands}
-use Rattle.fish_rule.proofs.Walking.{always_later}
+use Rattle.fish_rule.proofs.laws.ChainFacts.{always_later}
 use Rattle.fish_rule.specs.Views.{AllOf, Among}
 use Rattle.fish_rule.specs.Walking.{Always}
 use Rattle.fish_rule.specs.declared.view.Shut.{Shut}

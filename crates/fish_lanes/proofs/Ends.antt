@@ -23,7 +23,7 @@ use Rattle.fish_registry.specs.Knowing.{Knows}
 use Rattle.fish_registry.specs.declared.registrar.Registrar.{Registrar}
 use Rattle.fish_report.specs.declared.item.Item.{Item}
 use Rattle.fish_report.specs.declared.item.Item.TheVariants as item
-use Rattle.fish_rule.proofs.Extending.{learns_both}
+use Rattle.fish_rule.proofs.laws.Learning.{learns_both}
 use Rattle.fish_rule.specs.Logs.{Learns}
 use Rattle.fish_rule.specs.Reading.{IsAlone}
 use Rattle.fish_rule.specs.Registry.{KnowsDefinitions}

@@ -13,10 +13,10 @@ use Rattle.fish_rule.specs.declared.view.Epoch.TheVariants.{Out}
 use Rattle.fish_rule.specs.declared.view.Own.{Own}
 use Rattle.std.proofs.Math.Decide.{dec_lt}
 use Rattle.fish_lanes.proofs.Lists.{some_once}
-use Rattle.fish_rule.proofs.Bounds.{starts_rise}
-use Rattle.fish_rule.proofs.Common.{all_among}
-use Rattle.fish_rule.proofs.Extending.{learns_both, learns_self}
-use Rattle.fish_rule.proofs.Walking.{always_later}
+use Rattle.fish_rule.proofs.laws.Regions.{starts_rise}
+use Rattle.fish_rule.proofs.laws.Lists.{all_among}
+use Rattle.fish_rule.proofs.laws.Learning.{learns_both, learns_self}
+use Rattle.fish_rule.proofs.laws.ChainFacts.{always_later}
 use Rattle.fish_rule.specs.Facts.{IsFound, IsShut, ShutOk}
 use Rattle.fish_rule.specs.Logs.{Learns}
 use Rattle.fish_rule.specs.Walking.{Always}

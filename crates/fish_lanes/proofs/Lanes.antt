@@ -10,9 +10,9 @@ use Rattle.fish_lanes.specs.Blocks.{IsNewLane, IsOfLane, IsSeated, IsShutOfLane}
 use Rattle.fish_lanes.specs.Running.{CanBegin, HasDone, IsFree, IsReady}
 use Rattle.fish_lanes.specs.declared.lane.Lane.{Lane}
 use Rattle.fish_lanes.specs.declared.lane.Seated.{Seated}
-use Rattle.fish_rule.proofs.Common.{among_either}
-use Rattle.fish_rule.proofs.Extending.{learns_both, learns_self}
-use Rattle.fish_rule.proofs.Lanes.{of_lane_sound, off_lane_sound, without_complete, without_sound}
+use Rattle.fish_rule.proofs.laws.Lists.{among_either}
+use Rattle.fish_rule.proofs.laws.Learning.{learns_both, learns_self}
+use Rattle.fish_rule.proofs.laws.Lists.{of_lane_sound, off_lane_sound, without_complete, without_sound}
 use Rattle.fish_rule.specs.Logs.{Learns}
 use Rattle.fish_rule.specs.Passes.{view}
 use Rattle.fish_rule.specs.Seating.{CanSplit, first_shut, split_left, split_right, without}

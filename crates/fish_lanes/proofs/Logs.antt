@@ -2,8 +2,8 @@
 use Rattle.std.proofs.Common.{◌≡◌, ℕ, ◌+◌, ◌<◌, ◌≤◌, List, length, sym, subst, arith, Some, slice_get}
 use Rattle.std.proofs.Math.Decide.{dec_lt}
 use Rattle.fish_catalog.specs.declared.entry.Entry.{Entry}
-use Rattle.fish_rule.proofs.ClosedLogs as closed
-use Rattle.fish_rule.proofs.ClosedLogs.{entry_word, get_here, there_is}
+use Rattle.fish_rule.proofs.laws.ClosedLogs as closed
+use Rattle.fish_rule.proofs.laws.Moments.{entry_word, get_here, there_is}
 use Rattle.fish_rule.specs.Logs.{IsEntry, IsLog}
 use Rattle.fish_rule.specs.Parts.{IsEntryWord}
 use Rattle.fish_rule.specs.Regions.{code}

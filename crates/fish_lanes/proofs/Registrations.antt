@@ -34,9 +34,9 @@ use Rattle.fish_registry.specs.Refusing.{HasBegun}
 use Rattle.fish_registry.specs.declared.registrar.Registrar.{Registrar}
 use Rattle.fish_registry.specs.declared.registrar.Waiting.{Waiting}
 use Rattle.fish_report.specs.declared.item.Item.TheVariants as item
-use Rattle.fish_rule.proofs.Clocks.{later_both}
-use Rattle.fish_rule.proofs.Extending.{learns_both}
-use Rattle.fish_rule.proofs.Registers.{has_read}
+use Rattle.fish_rule.proofs.laws.Clocks.{later_both}
+use Rattle.fish_rule.proofs.laws.Learning.{learns_both}
+use Rattle.fish_rule.proofs.laws.Versions.{has_read}
 use Rattle.fish_rule.specs.Logs.{Learns}
 use Rattle.fish_rule.specs.Registry.{KnowsDefinitions, definitions_at, version_in}
 use Rattle.fish_rule.specs.Table.{Stands}

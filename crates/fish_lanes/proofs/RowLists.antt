@@ -1,6 +1,6 @@
 -- Rows behind other rows.
 use Rattle.std.proofs.Common.{◌≡◌, ℕ, ◌<◌, ◌≤◌, suc, List, [], ◌∷◌, ◌++◌, refl, sym, ap, inl, inr, ◌⊎◌, ⊎_elim, arith}
-use Rattle.fish_rule.proofs.Closing.{tells_later}
+use Rattle.fish_rule.proofs.laws.Alone.{tells_later}
 use Rattle.fish_lanes.specs.Gains.{AreTold}
 use Rattle.fish_lanes.specs.Records.{Ascends, Content, HasNumber, LaneRow, contents, entry_of, owned}
 use Rattle.fish_rule.specs.Logs.{Learns}

@@ -9,9 +9,10 @@ use Rattle.fish_lanes.specs.Closing.{Claim, Later, Sure, Will}
 use Rattle.fish_lanes.specs.Ending.{HasEnd}
 use Rattle.fish_lanes.specs.Gains.{AreTold}
 use Rattle.fish_lanes.specs.Records.{Ascends, HasNumber, LaneRow, entry_of, rows_of_lane}
-use Rattle.fish_rule.proofs.ClosedLogs.{always_closed, before_mark, claimed, entry_word, stored_by}
-use Rattle.fish_rule.proofs.Extending.{learns_both, learns_self}
-use Rattle.fish_rule.proofs.Kept.{published}
+use Rattle.fish_rule.proofs.laws.ClosedLogs.{always_closed}
+use Rattle.fish_rule.proofs.laws.Moments.{before_mark, claimed, entry_word, stored_by}
+use Rattle.fish_rule.proofs.laws.Learning.{learns_both, learns_self}
+use Rattle.fish_rule.proofs.laws.Regions.{published}
 use Rattle.fish_rule.specs.Logs.{IsEntry, Learns, Tells, TellsMark}
 use Rattle.fish_rule.specs.Closing.{IsClosed}
 use Rattle.fish_rule.specs.declared.close.Remains.{Remains}

@@ -7,7 +7,7 @@ use Rattle.fish_catalog.specs.declared.listed.Listed.{Listed}
 use Rattle.fish_layout.proofs.Clearing.{choose_first, choose_second}
 use Rattle.fish_layout.specs.Cleared.{choose}
 use Rattle.fish_lanes.proofs.Lists.{some_once}
-use Rattle.fish_rule.proofs.Registers.{definitions_first, definitions_next}
+use Rattle.fish_rule.proofs.laws.Versions.{definitions_first, definitions_next}
 use Rattle.fish_rule.specs.Epochs.{Versions}
 use Rattle.fish_rule.specs.Registry.{IsOperation, definitions_at, made, op_at, row_in, version_in}
 use Rattle.fish_rule.specs.Table.{Stands}

@@ -4,7 +4,7 @@ use Rattle.fish_registry.proofs.Changing.{changes_from}
 use Rattle.fish_registry.specs.Knowing.{IsAwaited}
 use Rattle.fish_registry.specs.Looking.{HasBound, at_lane}
 use Rattle.fish_registry.specs.declared.registrar.Waiting.{Waiting}
-use Rattle.fish_rule.proofs.Clocks.{later_both, later_noted, later_self, later_ticked, loaded_within, noted_load}
+use Rattle.fish_rule.proofs.laws.Clocks.{later_both, later_noted, later_self, later_ticked, loaded_within, noted_load}
 use Rattle.fish_rule.specs.Bounding.{CanBound, CanSetFrom, after_bound, after_from}
 use Rattle.fish_rule.specs.Clocks.{HasLoaded}
 use Rattle.fish_rule.specs.Registry.{row_at}

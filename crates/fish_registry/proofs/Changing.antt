@@ -3,7 +3,7 @@ use Rattle.std.proofs.Common.{◌≡◌, ℕ, ◌≤◌, List, [], ◌∷◌, in
 use Rattle.fish_catalog.specs.declared.listed.Listed.{Listed}
 use Rattle.fish_registry.specs.Changing.{Changes, HasCounted, Stays}
 use Rattle.fish_registry.specs.Looking.{Looks}
-use Rattle.fish_rule.proofs.Clocks.{later_both, later_noted, later_self, loaded_within, noted_load}
+use Rattle.fish_rule.proofs.laws.Clocks.{later_both, later_noted, later_self, loaded_within, noted_load}
 use Rattle.fish_rule.specs.Clocks.{HasLoaded, IsLater}
 use Rattle.fish_rule.specs.Entering.{after_version}
 use Rattle.fish_rule.specs.Epochs.{confirmed}

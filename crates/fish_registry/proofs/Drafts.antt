@@ -4,7 +4,7 @@ use Rattle.std.proofs.Common.{length, slice_index, refl, sym, ap, ◌∙◌, sub
 use Rattle.std.proofs.Math.Decide.{ℕ_discrete}
 use Rattle.fish_layout.proofs.Clearing.{choose_first, choose_second}
 use Rattle.fish_registry.specs.Rows.{HasDrafted}
-use Rattle.fish_rule.proofs.Clocks.{later_both, later_self, later_ticked}
+use Rattle.fish_rule.proofs.laws.Clocks.{later_both, later_self, later_ticked}
 use Rattle.fish_rule.specs.Entering.{CanDefine, after_define}
 use Rattle.fish_rule.specs.Registry.{drafted, row_at}
 use Rattle.fish_rule.specs.declared.view.View.{View}

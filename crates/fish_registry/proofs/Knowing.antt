@@ -20,7 +20,7 @@ use Rattle.fish_registry.specs.Looking.{HasBound, Looks, at_lane}
 use Rattle.fish_registry.specs.Rows.{HasEnded, HasRegistered, HasTailed, MayEnd}
 use Rattle.fish_registry.specs.declared.registrar.Registrar.{Registrar}
 use Rattle.fish_registry.specs.declared.registrar.Waiting.{Waiting}
-use Rattle.fish_rule.proofs.FirstBoundaries.{drafted_here}
+use Rattle.fish_rule.proofs.laws.Versions.{drafted_here}
 use Rattle.fish_rule.specs.Registry.{drafted, row_at}
 use Rattle.fish_rule.specs.Table.{boundaries_of, first_view}
 use Rattle.fish_rule.specs.declared.view.RegistryWord.{RegistryWord}

@@ -6,7 +6,7 @@ use Rattle.fish_layout.specs.Cleared.{choose}
 use Rattle.fish_registry.specs.Knowing.{IsAwaited}
 use Rattle.fish_registry.specs.Looking.{IsOlder, Looks, at_lane}
 use Rattle.fish_registry.specs.declared.registrar.Waiting.{Waiting}
-use Rattle.fish_rule.proofs.Clocks.{later_both, later_noted, later_self, loaded_within, noted_load}
+use Rattle.fish_rule.proofs.laws.Clocks.{later_both, later_noted, later_self, loaded_within, noted_load}
 use Rattle.fish_rule.specs.Bounding.{after_check, checked_after, with_lane}
 use Rattle.fish_rule.specs.Clocks.{HasLoaded, IsLater}
 use Rattle.fish_rule.specs.Views.{Among}

@@ -13,7 +13,7 @@ use Rattle.fish_layout.specs.Bytes.{word_at}
 use Rattle.fish_layout.specs.Cleared.{choose}
 use Rattle.fish_registry.proofs.Changing.{changes_from}
 use Rattle.fish_registry.specs.Rows.{HasDrafted, HasRegistered, MayMake, MayRegister}
-use Rattle.fish_rule.proofs.Clocks.{later_both, later_ticked}
+use Rattle.fish_rule.proofs.laws.Clocks.{later_both, later_ticked}
 use Rattle.fish_rule.specs.Entering.{CanBump, CanDefine, after_bump, after_define, next_operation}
 use Rattle.fish_rule.specs.Registry.{AreRowWords, IsOperation, drafted, made, op_at, row_at, row_in, row_spelled}
 use Rattle.fish_rule.specs.declared.view.Round.{Round}

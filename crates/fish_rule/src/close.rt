@@ -10,7 +10,7 @@ use crate::area::PAGE_LINES;
 use crate::entry::read_record;
 use crate::linking::load_head;
 use crate::registry::load_version;
-use crate::steps::{load_tail, look_at, raise_settled};
+use crate::space::{load_tail, look_at, raise_settled};
 use crate::table::{Log, Pass};
 use crate::view::Kind;
 use crate::word::{kind_of_word, line_of_word};

@@ -8,7 +8,7 @@ ghost use Rattle.fish_rule.specs.Views.{Among};
 ghost use Rattle.fish_rule.specs.declared.view.Found.{Found};
 ghost use Rattle.fish_rule.specs.declared.view.Kind.TheVariants.{Mark, Stored};
 
-use crate::steps::read_word;
+use crate::space::read_word;
 use crate::table::{Log, Pass};
 use fish_catalog::Entry;
 use fish_layout::{Payload, keys_in, lines_in, read_payload};

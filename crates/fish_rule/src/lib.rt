@@ -15,7 +15,7 @@ mod opening;
 mod plays;
 mod registry;
 mod seats;
-mod steps;
+mod space;
 mod table;
 mod view;
 mod walk;
@@ -31,7 +31,7 @@ pub use registry::{
     retire,
 };
 pub use seats::{Start, base, buckets, first_version, join_pass, open_log, shape, split_pass};
-pub use steps::{
+pub use space::{
     claim_lines, in_flight, is_shut, kind_in, lane, load_settled, load_tail, look_at,
     publish_region, raise_settled, read_word, region_index, store_at, store_word,
 };

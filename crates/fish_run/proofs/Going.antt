@@ -20,7 +20,7 @@ use Rattle.fish_outside.specs.declared.fault.FeedRefusal.{FeedRefusal}
 use Rattle.fish_outside.specs.declared.fault.FeedRefusal.TheVariants as feed
 use Rattle.fish_report.specs.declared.writing.WriteRefusal.{WriteRefusal}
 use Rattle.fish_report.specs.declared.writing.WriteRefusal.TheVariants as write
-use Rattle.fish_rule.proofs.Registers.{definitions_first}
+use Rattle.fish_rule.proofs.laws.Versions.{definitions_first}
 use Rattle.fish_rule.specs.Passes.{view}
 use Rattle.fish_rule.specs.Table.{first_view}
 use Rattle.fish_rule.specs.World.{high, low}

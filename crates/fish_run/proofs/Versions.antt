@@ -1,6 +1,6 @@
 -- Two who know the definitions of one version of a log that is left know the same.
 use Rattle.std.proofs.Common.{ℕ, List, [], ◌∷◌, refl, sym, ap, ◌∙◌, inl, inr}
-use Rattle.fish_rule.proofs.Common.{all_among}
+use Rattle.fish_rule.proofs.laws.Lists.{all_among}
 use Rattle.fish_rule.specs.Registry.{HasRead, IsRegistered, definitions_at}
 use Rattle.fish_rule.specs.Views.{AllOf, Among}
 use Rattle.fish_rule.specs.declared.view.Key.{Key}

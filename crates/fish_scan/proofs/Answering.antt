@@ -17,9 +17,9 @@ use Rattle.fish_plan.specs.Intervals.{IsBelowEnd}
 use Rattle.fish_plan.specs.Pieces.{one_full}
 use Rattle.fish_plan.specs.declared.pieces.Piece.{Piece}
 use Rattle.fish_plan.specs.declared.pieces.Piece.TheVariants.{Full, Index}
-use Rattle.fish_rule.proofs.Clocks.{later_both, later_self, loaded_within, noted_load}
-use Rattle.fish_rule.proofs.Extending.{learns_both, learns_self}
-use Rattle.fish_rule.proofs.Walking.{always_later}
+use Rattle.fish_rule.proofs.laws.Clocks.{later_both, later_self, loaded_within, noted_load}
+use Rattle.fish_rule.proofs.laws.Learning.{learns_both, learns_self}
+use Rattle.fish_rule.proofs.laws.ChainFacts.{always_later}
 use Rattle.fish_rule.specs.Clocks.{HasLoaded, IsLater}
 use Rattle.fish_rule.specs.Entering.{after_version}
 use Rattle.fish_rule.specs.Intervals.{HasInterval}

@@ -6,9 +6,9 @@ use Rattle.std.proofs.lemmas.Option.{same_Some, slice_get_within}
 use Rattle.fish_catalog.specs.Listing.{IsListing}
 use Rattle.fish_catalog.specs.declared.interval.Interval.{Interval}
 use Rattle.fish_catalog.specs.declared.listed.Listed.{Listed}
-use Rattle.fish_rule.proofs.Common.{among_left, among_right}
-use Rattle.fish_rule.proofs.Extending.{extends_both, extends_self}
-use Rattle.fish_rule.proofs.Intervals.{intervals_stay}
+use Rattle.fish_rule.proofs.laws.Lists.{among_left, among_right}
+use Rattle.fish_rule.proofs.laws.Learning.{extends_both, extends_self}
+use Rattle.fish_rule.proofs.laws.Intervals.{intervals_stay}
 use Rattle.fish_rule.specs.Bounding.{after_boundary, end_told, with_boundary}
 use Rattle.fish_rule.specs.Logs.{Learns}
 use Rattle.fish_rule.specs.Registry.{row_at}

@@ -6,8 +6,8 @@ use Rattle.fish_chain.proofs.Passing.{down_later, entry_later}
 use Rattle.fish_chain.specs.Walks.{IsBounded, LeadDown}
 use Rattle.fish_chain.specs.declared.walk.Node.{Node}
 use Rattle.fish_lang.specs.Definition.{Definition}
-use Rattle.fish_rule.proofs.Common.{among_right}
-use Rattle.fish_rule.proofs.Extending.{learns_both, learns_self}
+use Rattle.fish_rule.proofs.laws.Lists.{among_right}
+use Rattle.fish_rule.proofs.laws.Learning.{learns_both, learns_self}
 use Rattle.fish_rule.specs.Logs.{Learns}
 use Rattle.fish_rule.specs.Views.{Among}
 use Rattle.fish_rule.specs.declared.table.Walk.{Walk}

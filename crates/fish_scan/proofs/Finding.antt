@@ -6,9 +6,9 @@ use Rattle.fish_catalog.specs.declared.entry.Entry.TheVariants as entry
 use Rattle.fish_lang.specs.Definition.{Definition}
 use Rattle.fish_psf.specs.Records.{evaluation}
 use Rattle.fish_psf.specs.SelectLaw.{FallsBelow}
-use Rattle.fish_rule.proofs.ClosedLogs.{entry_once}
-use Rattle.fish_rule.proofs.Common.{among_left, among_right}
-use Rattle.fish_rule.proofs.Walking.{always_later}
+use Rattle.fish_rule.proofs.laws.Moments.{entry_once}
+use Rattle.fish_rule.proofs.laws.Lists.{among_left, among_right}
+use Rattle.fish_rule.proofs.laws.ChainFacts.{always_later}
 use Rattle.fish_rule.specs.Logs.{IsEntry, Learns, Tells}
 use Rattle.fish_rule.specs.Views.{Among}
 use Rattle.fish_rule.specs.Rule.{Rule}

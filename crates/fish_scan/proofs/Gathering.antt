@@ -5,9 +5,9 @@ use Rattle.fish_catalog.specs.declared.entry.Entry.TheVariants as entry
 use Rattle.fish_chain.specs.Values.{HasValue}
 use Rattle.fish_chain.specs.declared.walk.Node.{Node}
 use Rattle.fish_lang.specs.Definition.{Definition}
-use Rattle.fish_rule.proofs.Common.{among_left, among_right}
-use Rattle.fish_rule.proofs.Extending.{learns_self}
-use Rattle.fish_rule.proofs.Walking.{always_later}
+use Rattle.fish_rule.proofs.laws.Lists.{among_left, among_right}
+use Rattle.fish_rule.proofs.laws.Learning.{learns_self}
+use Rattle.fish_rule.proofs.laws.ChainFacts.{always_later}
 use Rattle.fish_rule.specs.Logs.{Learns, Tells}
 use Rattle.fish_rule.specs.Table.{Stands}
 use Rattle.fish_rule.specs.Views.{Among}

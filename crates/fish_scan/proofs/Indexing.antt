@@ -25,8 +25,8 @@ use Rattle.fish_psf.specs.Records.{evaluation, fields_of_payload}
 use Rattle.fish_psf.specs.declared.key.ActiveDef.{ActiveDef}
 use Rattle.fish_psf.specs.declared.key.KeyValue.{KeyValue}
 use Rattle.fish_epoch.proofs.Reading.{knows_later}
-use Rattle.fish_rule.proofs.Intervals.{intervals_stay, known_indexed}
-use Rattle.fish_rule.proofs.Stored.{stored_above}
+use Rattle.fish_rule.proofs.laws.Intervals.{intervals_stay, known_indexed}
+use Rattle.fish_rule.proofs.laws.Moments.{stored_above}
 use Rattle.fish_rule.specs.Intervals.{IsIndexed}
 use Rattle.fish_rule.specs.Keys.{IsWritten, property, text_of}
 use Rattle.fish_rule.specs.Logs.{IsEntry, Learns}

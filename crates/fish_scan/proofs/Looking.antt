@@ -1,11 +1,11 @@
 -- Numbers that a scan looks at, one after the other.
 use Rattle.std.proofs.Common.{◌≡◌, ◌≢◌, ℕ, ◌+◌, ◌<◌, ◌≤◌, suc, List, [], ◌∷◌, ◌++◌, length, refl, sym, ap, ◌∙◌, subst}
 use Rattle.std.proofs.Common.{⊎_elim, inl, inr, ◌⊎◌, arith, Some, None, Option, slice_get, min, max}
-use Rattle.fish_rule.proofs.Clocks.{later_both, later_self, loaded_within}
-use Rattle.fish_rule.proofs.Closing.{tells_mark}
-use Rattle.fish_rule.proofs.Common.{among_left, among_right}
-use Rattle.fish_rule.proofs.Extending.{learns_both}
-use Rattle.fish_rule.proofs.Unpublished.{opens_apart}
+use Rattle.fish_rule.proofs.laws.Clocks.{later_both, later_self, loaded_within}
+use Rattle.fish_rule.proofs.laws.Alone.{tells_mark}
+use Rattle.fish_rule.proofs.laws.Lists.{among_left, among_right}
+use Rattle.fish_rule.proofs.laws.Learning.{learns_both}
+use Rattle.fish_rule.proofs.laws.OpenNumbers.{opens_apart}
 use Rattle.fish_rule.specs.Logs.{Learns, TellsMark}
 use Rattle.fish_rule.specs.Table.{Sees}
 use Rattle.fish_rule.specs.Unpublished.{AreApart}

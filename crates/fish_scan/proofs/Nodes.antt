@@ -10,9 +10,9 @@ use Rattle.fish_layout.specs.Body.{AreProperKeys}
 use Rattle.fish_layout.specs.Cleared.{entry_at}
 use Rattle.fish_layout.specs.Entry.{entry_id}
 use Rattle.fish_layout.specs.declared.parts.KeyPart.{KeyPart}
-use Rattle.fish_rule.proofs.Bounds.{one_region, starts_rise}
-use Rattle.fish_rule.proofs.Stored.{stored_above, stored_claimed, stored_parts}
-use Rattle.fish_rule.proofs.Walking.{within_region}
+use Rattle.fish_rule.proofs.laws.Regions.{one_region, starts_rise}
+use Rattle.fish_rule.proofs.laws.Moments.{stored_above, stored_claimed, stored_parts}
+use Rattle.fish_rule.proofs.laws.ChainFacts.{within_region}
 use Rattle.fish_rule.specs.Rule.{Rule}
 use Rattle.fish_rule.specs.Walking.{IsNodeIn}
 use Rattle.fish_rule.specs.World.{World, body, low}

@@ -8,9 +8,9 @@ use Rattle.fish_lang.specs.Definition.{Definition}
 use Rattle.fish_layout.proofs.Once.{spelled_once}
 use Rattle.fish_layout.specs.declared.parts.BodyParts.{BodyParts}
 use Rattle.fish_psf.specs.Records.{evaluation, is_record}
-use Rattle.fish_rule.proofs.Extending.{learns_both, learns_self}
-use Rattle.fish_rule.proofs.Stored.{stored_parts}
-use Rattle.fish_rule.proofs.Common.{all_among}
+use Rattle.fish_rule.proofs.laws.Learning.{learns_both, learns_self}
+use Rattle.fish_rule.proofs.laws.Moments.{stored_parts}
+use Rattle.fish_rule.proofs.laws.Lists.{all_among}
 use Rattle.fish_rule.specs.Facts.{IsFound}
 use Rattle.fish_rule.specs.Logs.{IsEntry, Learns, Tells}
 use Rattle.fish_rule.specs.Reading.{after_look}

@@ -8,8 +8,8 @@ use Rattle.fish_chain.specs.declared.walk.Node.{Node}
 use Rattle.fish_epoch.proofs.Reading.{knows_later}
 use Rattle.fish_lang.specs.Definition.{Definition}
 use Rattle.fish_layout.specs.Hash.{bucket_in, key_hash_of}
-use Rattle.fish_rule.proofs.Intervals.{intervals_stay}
-use Rattle.fish_rule.proofs.Walking.{always_later}
+use Rattle.fish_rule.proofs.laws.Intervals.{intervals_stay}
+use Rattle.fish_rule.proofs.laws.ChainFacts.{always_later}
 use Rattle.fish_rule.specs.Linking.{HasNode}
 use Rattle.fish_rule.specs.Logs.{Learns}
 use Rattle.fish_rule.specs.Parts.{first_head}

@@ -1,12 +1,12 @@
 -- What loads and looks tell, one after the other.
 use Rattle.std.proofs.Common.{◌≡◌, ◌≢◌, ℕ, ◌+◌, ◌<◌, ◌≤◌, zero, suc, List, [], ◌∷◌, ◌++◌, ◌∙◌, ◌⊎◌}
-use Rattle.fish_rule.proofs.Common.{among_either}
+use Rattle.fish_rule.proofs.laws.Lists.{among_either}
 use Rattle.fish_layout.specs.Cleared.{choose}
 use Rattle.std.proofs.Common.{refl, sym, ap, subst, ⊎_elim, inl, inr, arith}
 use Rattle.std.proofs.Math.Decide.{dec_lt}
-use Rattle.fish_rule.proofs.Closing.{seen, seen_here, tells_mark}
-use Rattle.fish_rule.proofs.Clocks.{later_self, loaded_within, noted_load}
-use Rattle.fish_rule.proofs.Extending.{extends_both, extends_look, extends_self, learns_both}
+use Rattle.fish_rule.proofs.laws.Alone.{seen, seen_here, tells_mark}
+use Rattle.fish_rule.proofs.laws.Clocks.{later_self, loaded_within, noted_load}
+use Rattle.fish_rule.proofs.laws.Learning.{extends_both, extends_look, extends_self, learns_both}
 use Rattle.fish_rule.specs.Clocks.{HasLoaded, IsLater}
 use Rattle.fish_rule.specs.Logs.{Extends, Learns, TellsMark}
 use Rattle.fish_rule.specs.Reading.{after_look, found_after, kind_told, opens_after}

@@ -1,8 +1,8 @@
 -- Where the record is that was found at a number.
 use Rattle.std.proofs.Common.{◌≡◌, ◌≢◌, ℕ, ◌+◌, ◌*◌, ◌<◌, ◌≤◌, List, zero, suc, refl, sym, ap, ◌∙◌, subst, inl, inr, arith}
-use Rattle.fish_rule.proofs.Entries.{stored_words}
-use Rattle.fish_rule.proofs.Extending.{extends_look}
-use Rattle.fish_rule.proofs.Laws.{fits_law, found_law, read_law}
+use Rattle.fish_rule.proofs.laws.Entries.{stored_words}
+use Rattle.fish_rule.proofs.laws.Learning.{extends_look}
+use Rattle.fish_rule.proofs.laws.Steps.{fits_law, found_law, read_law}
 use Rattle.fish_rule.specs.Logs.{Extends}
 use Rattle.fish_rule.specs.Regions.{code, dir_word, kind_of}
 use Rattle.fish_rule.specs.Reading.{CanLook, after_look, found_after, kind_told}

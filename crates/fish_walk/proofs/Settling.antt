@@ -1,8 +1,8 @@
 -- What the loads, the looks and the raise of a whole call tell together.
 use Rattle.std.proofs.Common.{◌≡◌, ◌≢◌, ℕ, ◌<◌, ◌≤◌, max, sym, ap, ◌∙◌, subst, inl, inr, ◌⊎◌, arith}
 use Rattle.std.proofs.Math.Decide.{dec_lt}
-use Rattle.fish_rule.proofs.Clocks.{later_both, later_ticked, loaded_within, noted_load}
-use Rattle.fish_rule.proofs.Extending.{extends_both}
+use Rattle.fish_rule.proofs.laws.Clocks.{later_both, later_ticked, loaded_within, noted_load}
+use Rattle.fish_rule.proofs.laws.Learning.{extends_both}
 use Rattle.fish_rule.specs.Clocks.{HasLoaded, IsLater}
 use Rattle.fish_rule.specs.Reading.{CanRaise, IsAlone, after_end, after_settled}
 use Rattle.fish_rule.specs.Views.{Among}

@@ -1,7 +1,7 @@
 -- The log may be shared by threads, and a lane may go to one.
 use denote.Param.Send.{sendable}
 use Rattle.bench.proofs.stores.StoreLane.TheSendSync.{the_send as lane_send}
-use Rattle.fish_rule.proofs.Crossing.{log_sync}
+use Rattle.fish_rule.proofs.laws.Crossing.{log_sync}
 use Rattle.bench.proofs.stores.store_in.Goals as goal
 
 pub time_lanes-requires-sync-S : goal.time_lanes-requires-sync-S

@@ -4,7 +4,7 @@ use Rattle.fish_chain.proofs.Changes.{for_each}
 use Rattle.fish_chain.proofs.Splicing.{IsSplicing, aimed_node, splice_aim, splice_begins, splice_can}
 use Rattle.fish_chain.proofs.Splicing.{splice_falls, splice_hit, splice_miss, splice_over, splicing}
 use Rattle.fish_chain.specs.Links.{CanLinkBelow, Tried}
-use Rattle.fish_rule.proofs.Laws.{one_bucket}
+use Rattle.fish_rule.proofs.laws.Links.{one_bucket}
 use Rattle.fish_rule.specs.Linking.{aimed_at}
 use Rattle.fish_rule.specs.Passes.{view}
 use Rattle.fish_rule.specs.Table.{Stands}

@@ -3,8 +3,8 @@ use Rattle.std.proofs.Common.{◌≡◌, ◌≢◌, ℕ, ◌+◌, ◌-◌, ◌*�
 use Rattle.std.specs.Prelude.{IsTrue}
 use Rattle.fish_chain.proofs.Comparing.{read_within}
 use Rattle.fish_chain.proofs.Values.{bytes_more, bytes_none}
-use Rattle.fish_rule.proofs.Extending.{extends_both}
-use Rattle.fish_rule.proofs.Walking.{always_later}
+use Rattle.fish_rule.proofs.laws.Learning.{extends_both}
+use Rattle.fish_rule.proofs.laws.ChainFacts.{always_later}
 use Rattle.fish_chain.specs.Values.{AreBytesIn, AreBytesOf, IsWordIn}
 use Rattle.fish_rule.specs.Passes.{view}
 use Rattle.fish_rule.specs.Walking.{Always}

@@ -5,8 +5,8 @@ use Rattle.fish_chain.proofs.Comparing.{says_other, says_same, third_may, value_
 use Rattle.fish_chain.specs.Values.{AreBytesIn, HasBytes, IsWordIn}
 use Rattle.fish_layout.specs.Entry.{value_kind, value_offset, value_size}
 use Rattle.fish_layout.specs.Header.{keys_of}
-use Rattle.fish_rule.proofs.Extending.{extends_both, learns_self}
-use Rattle.fish_rule.proofs.Walking.{always_later}
+use Rattle.fish_rule.proofs.laws.Learning.{extends_both, learns_self}
+use Rattle.fish_rule.proofs.laws.ChainFacts.{always_later}
 use Rattle.fish_rule.specs.Passes.{view}
 use Rattle.fish_rule.specs.Reading.{CanLook, CanRead, after_look}
 use Rattle.fish_rule.specs.Table.{Sees}

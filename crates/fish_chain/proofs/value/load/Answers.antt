@@ -2,7 +2,7 @@
 use Rattle.std.proofs.Common.{◌≡◌, ℕ, ◌+◌, ◌*◌, sym, subst}
 use Rattle.fish_chain.proofs.Values.{word_read}
 use Rattle.fish_chain.specs.Values.{IsWordIn}
-use Rattle.fish_rule.proofs.Extending.{extends_to_read, read_here}
+use Rattle.fish_rule.proofs.laws.Learning.{extends_to_read, read_here}
 use Rattle.fish_rule.specs.Passes.{view}
 use Rattle.fish_rule.specs.Walking.{Always}
 use Rattle.fish_chain.proofs.value.load.Goals as goal

@@ -2,7 +2,7 @@
 use Rattle.std.proofs.Common.{sym, ap, subst, arith}
 use Rattle.fish_chain.proofs.Descents.{first_known, goes_down, stops_below}
 use Rattle.fish_chain.specs.Walks.{LeadsTo}
-use Rattle.fish_rule.proofs.Descents.{extends_previous}
+use Rattle.fish_rule.proofs.laws.Descents.{extends_previous}
 use Rattle.fish_rule.specs.Logs.{Extends}
 use Rattle.fish_rule.specs.Passes.{view}
 use Rattle.fish_rule.specs.declared.view.View.{View}

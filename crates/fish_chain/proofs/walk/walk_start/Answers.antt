@@ -2,8 +2,8 @@
 use Rattle.std.proofs.Common.{◌≡◌, ℕ, ◌+◌, ◌*◌, ◌≤◌, sym, ap, ◌∙◌, subst, ⊎_elim, arith}
 use Rattle.fish_chain.proofs.Descents.{begun_at, first_known}
 use Rattle.fish_chain.specs.Walks.{HasBegun, IsPast}
-use Rattle.fish_rule.proofs.Descents.{head_here}
-use Rattle.fish_rule.proofs.Laws.{node_law}
+use Rattle.fish_rule.proofs.laws.Descents.{head_here}
+use Rattle.fish_rule.proofs.laws.Links.{node_law}
 use Rattle.fish_rule.specs.Linking.{HasNode, after_head}
 use Rattle.fish_rule.specs.Parts.{first_head}
 use Rattle.fish_rule.specs.Passes.{view, walk_of}

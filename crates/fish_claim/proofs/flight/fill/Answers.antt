@@ -3,7 +3,7 @@ use Rattle.std.proofs.Common.{◌≡◌, ℕ, ◌+◌, ◌-◌, ◌*◌, ◌<◌
 use Rattle.std.proofs.lemmas.List.{length-take-le}
 use Rattle.fish_claim.proofs.Fills.{can_store_next, filled_more, in_region, is_filled}
 use Rattle.fish_claim.specs.Fills.{IsFilled, filled_view, with_words}
-use Rattle.fish_rule.proofs.Laws.{flight_law}
+use Rattle.fish_rule.proofs.laws.Steps.{flight_law}
 use Rattle.fish_rule.specs.Passes.{view}
 use Rattle.fish_rule.specs.World.{log_at}
 use Rattle.fish_rule.specs.declared.table.Region.{Region}

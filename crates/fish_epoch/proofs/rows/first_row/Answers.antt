@@ -2,7 +2,7 @@
 use Rattle.std.proofs.Common.{arith}
 use Rattle.std.specs.Prelude.{slice_index}
 use Rattle.fish_epoch.proofs.Reading.{first_known, first_listed}
-use Rattle.fish_rule.proofs.Registering.{row_law}
+use Rattle.fish_rule.proofs.laws.Versions.{row_law}
 use Rattle.fish_rule.specs.Passes.{view}
 use Rattle.fish_epoch.proofs.Outcomes.{ok_map}
 use Rattle.fish_epoch.proofs.rows.first_row.Goals as goal

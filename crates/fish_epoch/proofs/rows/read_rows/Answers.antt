@@ -2,7 +2,7 @@
 use Rattle.std.proofs.Common.{◌≡◌, ◌∙◌, ◌≤◌, ℕ, ◌+◌, suc, subst, sym, arith}
 use Rattle.fish_rule.specs.Passes.{view}
 use Rattle.fish_rule.specs.Registry.{KnowsDefinitions, definitions_at}
-use Rattle.fish_rule.proofs.Registers.{definitions_first}
+use Rattle.fish_rule.proofs.laws.Versions.{definitions_first}
 use Rattle.fish_rule.specs.declared.view.Key.{Key}
 use Rattle.fish_epoch.proofs.Reading.{reads_both}
 use Rattle.fish_epoch.proofs.rows.read_rows.Goals as goal

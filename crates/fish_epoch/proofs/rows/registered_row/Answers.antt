@@ -3,7 +3,7 @@ use Rattle.std.proofs.Common.{arith}
 use Rattle.std.specs.Prelude.{slice_index}
 use Rattle.fish_epoch.proofs.Outcomes.{ok_map}
 use Rattle.fish_epoch.proofs.Reading.{row_read}
-use Rattle.fish_rule.proofs.Registering.{row_law}
+use Rattle.fish_rule.proofs.laws.Versions.{row_law}
 use Rattle.fish_rule.specs.Passes.{view}
 use Rattle.fish_epoch.proofs.rows.registered_row.Goals as goal
 

@@ -1,6 +1,6 @@
 -- What was ingested was told, and its number was counted.
 use Rattle.std.proofs.Common.{arith}
-use Rattle.fish_rule.proofs.ClosedLogs.{told_closed}
+use Rattle.fish_rule.proofs.laws.ClosedLogs.{told_closed}
 use Rattle.fish_ingest.proofs.ingestion.law_ingested.Goals as goal
 
 pub returns-clause-closed : goal.returns-clause-closed

@@ -13,8 +13,8 @@ use Rattle.fish_layout.proofs.Sizes.{few_keys_of}
 use Rattle.fish_layout.specs.Body.{IsBody}
 use Rattle.fish_layout.specs.Hash.{bucket_in, key_hash_of}
 use Rattle.fish_layout.specs.declared.parts.KeyPart.{KeyPart}
-use Rattle.fish_rule.proofs.Flights.{one_flight}
-use Rattle.fish_rule.proofs.Laws.{flight_law}
+use Rattle.fish_rule.proofs.laws.Regions.{one_flight}
+use Rattle.fish_rule.proofs.laws.Steps.{flight_law}
 use Rattle.fish_rule.specs.Flying.{region_in}
 use Rattle.fish_rule.specs.Passes.{view}
 use Rattle.fish_rule.specs.Table.{Stands}

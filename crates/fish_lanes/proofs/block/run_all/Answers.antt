@@ -3,7 +3,7 @@ use Rattle.std.proofs.Crossing.{crosses}
 use denote.Param.Send.{sendable}
 use Rattle.fish_lanes.proofs.Crossing.{lane_send}
 use Rattle.fish_registry.proofs.registrar.Registrar.TheSendSync.{the_send as registrar_send}
-use Rattle.fish_rule.proofs.Crossing.{log_sync}
+use Rattle.fish_rule.proofs.laws.Crossing.{log_sync}
 use Rattle.fish_rule.proofs.table.Pass.TheSendSync.{the_send as pass_send}
 use Rattle.fish_lanes.proofs.block.run_all.Goals as goal
 

@@ -4,7 +4,7 @@ use Rattle.std.proofs.Crossing.{crosses}
 use denote.Param.Send.{sendable}
 use Rattle.fish_lanes.proofs.Crossing.{lane_send}
 use Rattle.fish_lanes.specs.Running.{IsReady}
-use Rattle.fish_rule.proofs.Crossing.{log_sync}
+use Rattle.fish_rule.proofs.laws.Crossing.{log_sync}
 use Rattle.fish_lanes.proofs.block.run_others.Goals as goal
 
 pub for_each_mut-requires-send-T : goal.for_each_mut-requires-send-T

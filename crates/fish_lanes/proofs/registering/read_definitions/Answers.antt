@@ -4,7 +4,7 @@ use Rattle.fish_epoch.proofs.Reading.{defs_later}
 use Rattle.fish_lanes.proofs.Registrations.{known_all, known_read, scans_reads}
 use Rattle.fish_registry.proofs.Changing.{changes_stays, learns_changes, stays_version}
 use Rattle.fish_registry.specs.Changing.{Stays}
-use Rattle.fish_rule.proofs.Extending.{learns_both}
+use Rattle.fish_rule.proofs.laws.Learning.{learns_both}
 use Rattle.fish_rule.specs.Passes.{view}
 use Rattle.fish_rule.specs.declared.view.View.{View}
 use Rattle.fish_lanes.proofs.registering.read_definitions.Goals as goal

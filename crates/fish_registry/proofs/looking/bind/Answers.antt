@@ -1,7 +1,7 @@
 -- All lanes were looked at, so the tail may be loaded as where the index begins, and stored.
 use Rattle.std.proofs.Common.{ap, arith}
 use Rattle.fish_registry.proofs.Binding.{bound_at, can_bound, can_from}
-use Rattle.fish_rule.proofs.Counts.{count_law}
+use Rattle.fish_rule.proofs.laws.Steps.{count_law}
 use Rattle.fish_rule.specs.Passes.{view}
 use Rattle.fish_rule.specs.declared.view.View.{View}
 use Rattle.fish_registry.proofs.looking.bind.Goals as goal

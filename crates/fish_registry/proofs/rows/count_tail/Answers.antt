@@ -1,6 +1,6 @@
 -- A count has 28 bits.
 use Rattle.std.proofs.Common.{ap, arith}
-use Rattle.fish_rule.proofs.Counts.{count_law}
+use Rattle.fish_rule.proofs.laws.Steps.{count_law}
 use Rattle.fish_rule.specs.Passes.{view}
 use Rattle.fish_rule.specs.declared.view.View.{View}
 use Rattle.fish_registry.proofs.rows.count_tail.Goals as goal

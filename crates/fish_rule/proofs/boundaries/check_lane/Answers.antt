@@ -1,6 +1,6 @@
 -- The table allows a load of a lane's epoch word.
 use Rattle.std.proofs.Common.{sym, arith, subst, ℕ, ◌<◌}
-use Rattle.fish_rule.proofs.Bounding.{check_allowed}
+use Rattle.fish_rule.proofs.steps.CheckLane.{check_allowed}
 use Rattle.fish_rule.proofs.boundaries.check_lane.Goals as goal
 
 pub load-requires : goal.load-requires

@@ -1,6 +1,6 @@
 -- The table allows a load of the tail behind the last lane.
 use Rattle.std.proofs.Common.{◌∙◌, sym, arith, ap, subst, ℕ, ◌<◌, ◌≤◌}
-use Rattle.fish_rule.proofs.Bounding.{bound_allowed}
+use Rattle.fish_rule.proofs.steps.LoadBound.{bound_allowed}
 use Rattle.fish_rule.specs.Flying.{region_in}
 use Rattle.fish_rule.specs.Passes.{view}
 use Rattle.fish_rule.specs.Table.{Stands}

@@ -1,6 +1,6 @@
 -- The table allows a load of a boundary.
 use Rattle.std.proofs.Common.{◌∙◌, sym, arith, ap, subst, ℕ, ◌<◌, ◌≤◌, ◌+◌, ◌*◌}
-use Rattle.fish_rule.proofs.Bounding.{boundary_allowed}
+use Rattle.fish_rule.proofs.steps.LoadBoundary.{boundary_allowed}
 use Rattle.fish_rule.specs.Flying.{region_in}
 use Rattle.fish_rule.specs.Table.{Stands}
 use Rattle.fish_rule.specs.declared.view.View.{View}

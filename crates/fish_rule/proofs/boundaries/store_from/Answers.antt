@@ -1,6 +1,7 @@
 -- The table allows a store of where the index of the registration that waits begins.
 use Rattle.std.proofs.Common.{sym, arith, subst, ℕ, ◌<◌, ◌+◌, ◌*◌}
-use Rattle.fish_rule.proofs.Bounding.{bound_law, from_allowed, round_law}
+use Rattle.fish_rule.proofs.laws.Versions.{bound_law, round_law}
+use Rattle.fish_rule.proofs.steps.StoreFrom.{from_allowed}
 use Rattle.fish_rule.specs.Passes.{view}
 use Rattle.fish_rule.proofs.boundaries.store_from.Goals as goal
 

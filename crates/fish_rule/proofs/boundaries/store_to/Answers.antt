@@ -1,6 +1,7 @@
 -- The table allows a store of where the index of an active row ends.
 use Rattle.std.proofs.Common.{sym, arith, subst, ℕ, ◌<◌, ◌+◌, ◌*◌}
-use Rattle.fish_rule.proofs.Bounding.{counted_law, to_allowed}
+use Rattle.fish_rule.proofs.laws.Steps.{counted_law}
+use Rattle.fish_rule.proofs.steps.StoreTo.{to_allowed}
 use Rattle.fish_rule.specs.Passes.{view}
 use Rattle.fish_rule.proofs.boundaries.store_to.Goals as goal
 

@@ -1,8 +1,9 @@
 -- One number more was read, or the log ends at it.
 use Rattle.std.proofs.Common.{ℕ, Option, arith, refl, subst}
 use Rattle.fish_catalog.specs.declared.entry.Entry.{Entry}
-use Rattle.fish_rule.proofs.Counts.{count_law}
-use Rattle.fish_rule.proofs.Ending.{lines_else, read_more, upto_later}
+use Rattle.fish_rule.proofs.laws.Steps.{count_law}
+use Rattle.fish_rule.proofs.laws.GoesOn.{lines_else}
+use Rattle.fish_rule.proofs.laws.ReadSoFar.{read_more, upto_later}
 use Rattle.fish_rule.specs.Closing.{IsLineOf}
 use Rattle.fish_rule.specs.Logs.{TellsNext}
 use Rattle.fish_rule.specs.Passes.{view}

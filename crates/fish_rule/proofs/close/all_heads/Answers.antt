@@ -2,9 +2,9 @@
 use Rattle.std.proofs.Common.{◌≡◌, ◌∙◌, ◌*◌, ◌≤◌, ◌++◌, ◌∷◌, [], List, length, length-append, sym, ap, subst, ℕ, arith}
 use mathlib.Core.Option.{some}
 use Rattle.std.proofs.Math.ListN.{get_elem?}
-use Rattle.fish_rule.proofs.Descents.{extends_head}
-use Rattle.fish_rule.proofs.Ending.{head_new, heads_more}
-use Rattle.fish_rule.proofs.Extending.{extends_both}
+use Rattle.fish_rule.proofs.laws.Descents.{extends_head}
+use Rattle.fish_rule.proofs.laws.GoesOn.{head_new, heads_more}
+use Rattle.fish_rule.proofs.laws.Learning.{extends_both}
 use Rattle.fish_rule.specs.Closing.{HasHead}
 use Rattle.fish_rule.specs.Logs.{Extends}
 use Rattle.fish_rule.specs.Parts.{first_head}

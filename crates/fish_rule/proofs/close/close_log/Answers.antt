@@ -1,5 +1,5 @@
 -- What is closed for the pass as it ends is closed for the pass as it came.
-use Rattle.fish_rule.proofs.Closing.{closed_before}
+use Rattle.fish_rule.proofs.laws.Alone.{closed_before}
 use Rattle.fish_rule.specs.Passes.{view}
 use Rattle.fish_rule.proofs.close.close_log.Goals as goal
 

@@ -1,7 +1,7 @@
 -- What a look and, for a record, the read of its words tell of one number.
 use Rattle.std.proofs.Common.{◌≡◌, ◌∙◌, sym, ℕ, refl}
-use Rattle.fish_rule.proofs.Closing.{extends_to_look, seen, seen_here, tells_mark, tells_void}
-use Rattle.fish_rule.proofs.Extending.{extends_both}
+use Rattle.fish_rule.proofs.laws.Alone.{extends_to_look, seen, seen_here, tells_mark, tells_void}
+use Rattle.fish_rule.proofs.laws.Learning.{extends_both}
 use Rattle.fish_rule.specs.Passes.{view}
 use Rattle.fish_rule.specs.declared.view.Kind.TheVariants.{Mark, Stored, Void}
 use Rattle.fish_rule.proofs.close.next_entry.Goals as goal

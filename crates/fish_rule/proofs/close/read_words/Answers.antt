@@ -1,7 +1,8 @@
 -- What was read may be settled, and stays read.
 use Rattle.std.proofs.Common.{◌≡◌, ◌+◌, ◌≤◌, ⊎_elim, arith, ap, sym, subst}
-use Rattle.fish_rule.proofs.Ending.{extends_raise, read_later, settles_read}
-use Rattle.fish_rule.proofs.Extending.{extends_both, learns_both}
+use Rattle.fish_rule.proofs.laws.GoesOn.{extends_raise}
+use Rattle.fish_rule.proofs.laws.ReadSoFar.{read_later, settles_read}
+use Rattle.fish_rule.proofs.laws.Learning.{extends_both, learns_both}
 use Rattle.std.proofs.lemmas.Result.{on_ok_weaker}
 use Rattle.fish_rule.specs.Logs.{Extends, Learns}
 use Rattle.fish_rule.specs.Passes.{view}

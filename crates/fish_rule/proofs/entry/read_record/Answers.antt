@@ -1,7 +1,7 @@
 -- The words that were read are those of a record, whatever has changed of its previous nodes.
 use Rattle.std.proofs.Common.{◌≡◌, sym, subst}
 use Rattle.fish_layout.specs.Body.{IsBody}
-use Rattle.fish_rule.proofs.Entries.{found_body, stored_words, tells_entry}
+use Rattle.fish_rule.proofs.laws.Entries.{found_body, stored_words, tells_entry}
 use Rattle.fish_rule.specs.Passes.{view}
 use Rattle.fish_rule.proofs.entry.read_record.Goals as goal
 

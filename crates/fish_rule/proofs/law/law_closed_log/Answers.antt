@@ -1,6 +1,6 @@
 -- What was told stands at the moment of the close, and own numbers are exact there.
-use Rattle.fish_rule.proofs.ClosedLogs.{own_closed, told_closed}
-use Rattle.fish_rule.proofs.Following.{may_follow}
+use Rattle.fish_rule.proofs.laws.ClosedLogs.{own_closed, told_closed}
+use Rattle.fish_rule.proofs.laws.NextLog.{may_follow}
 use Rattle.fish_rule.proofs.law.law_closed_log.Goals as goal
 
 pub returns-clause-told : goal.returns-clause-told

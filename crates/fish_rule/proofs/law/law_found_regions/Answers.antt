@@ -1,5 +1,5 @@
 -- Regions that were found are those of one moment.
-use Rattle.fish_rule.proofs.Comparing.{one_line, one_number, regions_follow}
+use Rattle.fish_rule.proofs.laws.Comparing.{one_line, one_number, regions_follow}
 use Rattle.fish_rule.proofs.law.law_found_regions.Goals as goal
 
 pub returns-clause-line : goal.returns-clause-line

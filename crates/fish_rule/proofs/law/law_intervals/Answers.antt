@@ -1,5 +1,5 @@
 -- What a pass knows of an interval says that its records are indexed.
-use Rattle.fish_rule.proofs.Intervals.{intervals_indexed, intervals_stay}
+use Rattle.fish_rule.proofs.laws.Intervals.{intervals_indexed, intervals_stay}
 use Rattle.fish_rule.proofs.law.law_intervals.Goals as goal
 
 pub returns-clause-indexed : goal.returns-clause-indexed

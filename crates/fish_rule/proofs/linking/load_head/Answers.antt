@@ -6,7 +6,7 @@ use Rattle.fish_rule.specs.Parts.{first_head}
 use Rattle.fish_rule.specs.Passes.{view}
 use Rattle.fish_rule.specs.World.{heads_at}
 use Rattle.fish_rule.specs.declared.view.Key.{Key}
-use Rattle.fish_rule.proofs.Heads.{head_allowed}
+use Rattle.fish_rule.proofs.steps.LoadHead.{head_allowed}
 use Rattle.fish_rule.proofs.linking.load_head.Goals as goal
 
 pub load-requires : goal.load-requires

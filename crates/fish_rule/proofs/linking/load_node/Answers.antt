@@ -1,7 +1,7 @@
 -- The entry is within the log, and its second word with it.
 use Rattle.std.proofs.Common.{◌≡◌, ◌∙◌, sym, ap, arith, subst, ℕ, ◌<◌, ◌≤◌, ◌+◌, ◌-◌, ◌*◌, suc}
-use Rattle.fish_rule.proofs.Nodes.{node_allowed}
-use Rattle.fish_rule.proofs.Laws.{second_law}
+use Rattle.fish_rule.proofs.steps.LoadNode.{node_allowed}
+use Rattle.fish_rule.proofs.laws.Links.{second_law}
 use Rattle.fish_rule.specs.Linking.{after_node}
 use Rattle.fish_rule.specs.Passes.{view}
 use Rattle.fish_rule.specs.Told.{place_at}

@@ -1,13 +1,13 @@
 -- The entry is within the log, and of one bucket.
 use Rattle.std.proofs.Common.{◌≡◌, ◌∙◌, sym, ap, arith, subst, ℕ, ◌<◌, ◌≤◌, ◌+◌, ◌-◌, ◌*◌}
-use Rattle.fish_rule.proofs.Laws.{node_law, one_bucket}
+use Rattle.fish_rule.proofs.laws.Links.{node_law, one_bucket}
 use Rattle.fish_rule.specs.Linking.{HasNode, LowRises, after_previous}
 use Rattle.fish_rule.specs.Parts.{first_head}
 use Rattle.fish_rule.specs.Passes.{view}
 use Rattle.fish_rule.specs.Told.{place_at}
 use Rattle.fish_rule.specs.World.{log_at}
 use Rattle.fish_rule.specs.declared.view.Key.{Key}
-use Rattle.fish_rule.proofs.Heads.{previous_allowed}
+use Rattle.fish_rule.proofs.steps.LoadPrevious.{previous_allowed}
 use Rattle.fish_rule.proofs.linking.load_previous.Goals as goal
 
 pub overflow_sub-index : goal.overflow_sub-index

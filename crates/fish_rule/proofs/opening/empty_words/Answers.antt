@@ -4,7 +4,7 @@ use Rattle.std.proofs.Common.{◌∙◌, subst, arith, All}
 use Rattle.fish_catalog.specs.Clamps.{IsClamped}
 use Rattle.std.proofs.lemmas.Grind.{common_steps}
 use Rattle.fish_catalog.specs.declared.row.CatRow.{CatRow}
-use Rattle.fish_rule.proofs.Opens.{opens, start_words, tail_at}
+use Rattle.fish_rule.proofs.basics.EmptyWords.{opens, start_words, tail_at}
 use Rattle.fish_rule.specs.Start.{IsEmpty}
 use Rattle.fish_rule.specs.World.{total}
 use Rattle.fish_rule.proofs.opening.empty_words.Goals as goal

@@ -1,7 +1,7 @@
 -- Each turn puts one more row in its place.
 use Rattle.std.proofs.Common.{refl, arith}
 use Rattle.std.proofs.lemmas.Option.{slice_get_within}
-use Rattle.fish_rule.proofs.Opens.{stored_more}
+use Rattle.fish_rule.proofs.basics.EmptyWords.{stored_more}
 use Rattle.fish_rule.proofs.opening.store_rows.Goals as goal
 
 -- no row is there yet

@@ -1,6 +1,7 @@
 -- The table allows a store of a version in the own epoch word.
 use Rattle.std.proofs.Common.{◌≡◌, ◌∙◌, sym, ap, arith, subst, ℕ, ◌<◌}
-use Rattle.fish_rule.proofs.Registering.{announce_allowed, lane_law}
+use Rattle.fish_rule.proofs.steps.Announce.{announce_allowed}
+use Rattle.fish_rule.proofs.laws.Versions.{lane_law}
 use Rattle.fish_rule.specs.Passes.{view}
 use Rattle.fish_rule.specs.Registry.{epoch_at}
 use Rattle.fish_rule.proofs.registry.announce.Goals as goal

@@ -1,6 +1,7 @@
 -- The table allows a store of a word of the next operation or row.
 use Rattle.std.proofs.Common.{sym, arith, subst, ℕ, ◌<◌}
-use Rattle.fish_rule.proofs.Registering.{define_allowed, define_law}
+use Rattle.fish_rule.proofs.steps.DefineWord.{define_allowed}
+use Rattle.fish_rule.proofs.laws.Versions.{define_law}
 use Rattle.fish_rule.specs.Passes.{view}
 use Rattle.fish_rule.proofs.registry.define_word.Goals as goal
 

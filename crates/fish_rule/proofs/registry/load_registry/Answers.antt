@@ -1,6 +1,7 @@
 -- The table allows a load of a word that lasts.
 use Rattle.std.proofs.Common.{sym, arith, subst, ℕ, ◌<◌}
-use Rattle.fish_rule.proofs.Registering.{registry_allowed, registry_law}
+use Rattle.fish_rule.proofs.steps.LoadRegistry.{registry_allowed}
+use Rattle.fish_rule.proofs.laws.Versions.{registry_law}
 use Rattle.fish_rule.specs.Passes.{view}
 use Rattle.fish_rule.proofs.registry.load_registry.Goals as goal
 

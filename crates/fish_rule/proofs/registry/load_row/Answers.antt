@@ -1,6 +1,6 @@
 -- The row is one of 256, and its word is told by its place.
 use Rattle.std.proofs.Common.{arith, inr, refl}
-use Rattle.fish_rule.proofs.Registering.{row_law}
+use Rattle.fish_rule.proofs.laws.Versions.{row_law}
 use Rattle.fish_rule.specs.Passes.{view}
 use Rattle.fish_rule.proofs.registry.load_row.Goals as goal
 

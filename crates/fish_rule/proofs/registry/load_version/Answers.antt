@@ -1,6 +1,6 @@
 -- The table allows a load of the version.
 use Rattle.std.proofs.Common.{sym, arith, subst, ℕ, ◌<◌}
-use Rattle.fish_rule.proofs.Registering.{version_allowed}
+use Rattle.fish_rule.proofs.steps.LoadVersion.{version_allowed}
 use Rattle.fish_rule.proofs.registry.load_version.Goals as goal
 
 pub load-requires : goal.load-requires

@@ -1,6 +1,6 @@
 -- The table allows a store of the next version.
 use Rattle.std.proofs.Common.{sym, arith, subst, ℕ, ◌<◌}
-use Rattle.fish_rule.proofs.Registering.{bump_allowed}
+use Rattle.fish_rule.proofs.steps.RaiseVersion.{bump_allowed}
 use Rattle.fish_rule.proofs.registry.raise_version.Goals as goal
 
 pub store-requires : goal.store-requires

@@ -1,5 +1,5 @@
 use Rattle.std.proofs.Common.{ℕ, ◌<◌, ◌≤◌, sym, ap, ◌∙◌, subst, arith}
-use Rattle.fish_rule.proofs.Standing.{left_stands, right_stands, splits}
+use Rattle.fish_rule.proofs.steps.SplitPass.{left_stands, right_stands, splits}
 use Rattle.fish_rule.specs.Table.{Sat, Stands}
 use Rattle.fish_rule.proofs.seats.give_out.Goals as goal
 

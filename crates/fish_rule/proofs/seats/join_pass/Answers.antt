@@ -1,8 +1,8 @@
 -- What a join needs of the table, and what it tells.
 use Rattle.std.proofs.Common.{◌≡◌, ℕ, ◌<◌, sym, ap, ◌∙◌, subst, arith, Bool}
-use Rattle.fish_rule.proofs.Allowed.{end_allowed}
-use Rattle.fish_rule.proofs.Standing.{joins}
-use Rattle.fish_rule.proofs.Extending.{joined_learns}
+use Rattle.fish_rule.proofs.steps.LoadTail.{end_allowed}
+use Rattle.fish_rule.proofs.steps.JoinPass.{joins}
+use Rattle.fish_rule.proofs.laws.Learning.{joined_learns}
 use Rattle.fish_rule.specs.Logs.{Learns}
 use Rattle.fish_rule.specs.Seating.{join_both}
 use Rattle.fish_rule.specs.Table.{Sat}

@@ -1,5 +1,5 @@
 use Rattle.std.proofs.Common.{length, sym, ap, ◌∙◌, subst, ℕ, ◌≤◌, arith}
-use Rattle.fish_rule.proofs.Begins.{begins, first_stands}
+use Rattle.fish_rule.proofs.steps.OpenLog.{begins, first_stands}
 use Rattle.fish_rule.specs.Start.{IsEmpty}
 use Rattle.fish_rule.specs.Table.{Sat, Stands}
 use Rattle.fish_rule.specs.declared.view.View.{View}

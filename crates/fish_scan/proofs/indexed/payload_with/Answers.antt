@@ -1,8 +1,8 @@
 -- An entry that has the value is of a settled record, which is read.
 use Rattle.std.proofs.Common.{ap, subst, arith}
 use Rattle.fish_chain.proofs.Comparing.{given_later, given_look, looked}
-use Rattle.fish_rule.proofs.Extending.{extends_both, learns_both}
-use Rattle.fish_rule.proofs.Walking.{always_later}
+use Rattle.fish_rule.proofs.laws.Learning.{extends_both, learns_both}
+use Rattle.fish_rule.proofs.laws.ChainFacts.{always_later}
 use Rattle.fish_rule.specs.Logs.{Tells}
 use Rattle.fish_rule.specs.Passes.{view}
 use Rattle.fish_rule.specs.declared.view.View.{View}

@@ -3,7 +3,7 @@ use Rattle.std.proofs.Common.{◌≡◌, ℕ, sym, ap, ◌∙◌, subst, arith}
 use Rattle.fish_chain.specs.Walks.{HasRange, IsWalking}
 use Rattle.fish_lang.specs.Definition.{definition_of}
 use Rattle.fish_layout.specs.Hash.{bucket_in}
-use Rattle.fish_rule.proofs.Extending.{extends_both, learns_both}
+use Rattle.fish_rule.proofs.laws.Learning.{extends_both, learns_both}
 use Rattle.fish_rule.specs.Passes.{view, walk_of}
 use Rattle.fish_rule.specs.declared.table.Walk.{Walk}
 use Rattle.fish_rule.specs.declared.view.Key.{Key}

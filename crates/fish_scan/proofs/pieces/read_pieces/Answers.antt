@@ -4,7 +4,7 @@ use Rattle.std.proofs.lemmas.Option.{slice_get-get_or}
 use Rattle.fish_lang.specs.Definition.{definition_of}
 use Rattle.fish_plan.specs.declared.pieces.Piece.{Piece}
 use Rattle.fish_plan.specs.declared.pieces.Piece.TheVariants.{Index}
-use Rattle.fish_rule.proofs.Extending.{extends_both, extends_self}
+use Rattle.fish_rule.proofs.laws.Learning.{extends_both, extends_self}
 use Rattle.fish_rule.specs.Passes.{view}
 use Rattle.fish_scan.proofs.Filling.{HasRead, full_at, read_all, read_more, read_none, readable_later}
 use Rattle.fish_scan.proofs.Reaching.{reached_still}

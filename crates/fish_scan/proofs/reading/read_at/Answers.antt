@@ -1,7 +1,7 @@
 -- What stands at the number is a record, or it gives no row.
 use Rattle.std.proofs.Common.{◌≡◌, ◌+◌, sym, ◌∙◌, ◌⊎◌, inl, inr, arith}
 use Rattle.fish_lang.specs.Definition.{definition_of}
-use Rattle.fish_rule.proofs.Extending.{extends_both}
+use Rattle.fish_rule.proofs.laws.Learning.{extends_both}
 use Rattle.fish_rule.specs.Passes.{view}
 use Rattle.fish_scan.proofs.Telling.{seen_unfound}
 use Rattle.fish_scan.proofs.Working.{full_looked, full_other}

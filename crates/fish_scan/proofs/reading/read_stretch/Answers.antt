@@ -1,7 +1,7 @@
 -- One number more is read at each turn.
 use Rattle.std.proofs.Common.{◌≡◌, ℕ, ◌+◌, ◌-◌, subst, arith}
 use Rattle.fish_lang.specs.Definition.{definition_of}
-use Rattle.fish_rule.proofs.Extending.{extends_both, extends_self}
+use Rattle.fish_rule.proofs.laws.Learning.{extends_both, extends_self}
 use Rattle.fish_rule.specs.Passes.{view}
 use Rattle.fish_scan.proofs.Reaching.{reached_still}
 use Rattle.fish_scan.proofs.Telling.{adds_both, adds_later, adds_none}

@@ -1,6 +1,6 @@
 -- What was prepared is what is told.
 use Rattle.std.proofs.Common.{sym, subst}
-use Rattle.fish_rule.proofs.Extending.{extends_self}
+use Rattle.fish_rule.proofs.laws.Learning.{extends_self}
 use Rattle.fish_rule.specs.Passes.{view}
 use Rattle.fish_scan.proofs.Answering.{explained_later, scans_extends}
 use Rattle.fish_scan.specs.Scans.{IsExplained}

@@ -6,7 +6,7 @@ use Rattle.fish_catalog.specs.Listing.{IsListing}
 use Rattle.fish_catalog.specs.declared.listed.Listed.{Listed}
 use Rattle.fish_epoch.proofs.Reading.{defs_later, known_listing}
 use Rattle.fish_epoch.specs.Definitions.{rows_of}
-use Rattle.fish_rule.proofs.Extending.{learns_self}
+use Rattle.fish_rule.proofs.laws.Learning.{learns_self}
 use Rattle.fish_rule.specs.Passes.{view}
 use Rattle.fish_rule.specs.declared.view.Key.{Key}
 use Rattle.fish_scan.proofs.Answering.{asked_later, cold_refused, err_gives, plan_by_rows, plan_refused, planned_at, plans_both}

@@ -1,5 +1,5 @@
 -- A look that tells of a void or a record settles one number more; at any other the numbers stop.
-use Rattle.fish_rule.proofs.Closing.{alone_later}
+use Rattle.fish_rule.proofs.laws.Alone.{alone_later}
 use Rattle.fish_rule.specs.Passes.{view}
 use Rattle.fish_walk.proofs.Looking.{end_told, ends_by, look_looks, looked_both, mark_told, settled_more}
 use Rattle.fish_walk.proofs.Looking.{settled_still, stops_by}

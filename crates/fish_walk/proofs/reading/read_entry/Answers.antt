@@ -2,8 +2,8 @@
 use Rattle.std.proofs.Common.{◌≡◌, ℕ, sym, ap, ◌∙◌, subst, arith}
 use Rattle.fish_catalog.specs.declared.entry.Entry.TheVariants as entry
 use Rattle.fish_layout.specs.Body.{IsBody}
-use Rattle.fish_rule.proofs.Entries.{found_body, tells_entry}
-use Rattle.fish_rule.proofs.Extending.{extends_both}
+use Rattle.fish_rule.proofs.laws.Entries.{found_body, tells_entry}
+use Rattle.fish_rule.proofs.laws.Learning.{extends_both}
 use Rattle.fish_rule.specs.Logs.{Tells}
 use Rattle.fish_rule.specs.Passes.{view}
 use Rattle.fish_rule.specs.declared.view.View.{View}

@@ -4,7 +4,7 @@ use Rattle.fish_layout.proofs.Outlines.{body_length}
 use Rattle.fish_claim.proofs.Known.{knows_none}
 use Rattle.fish_claim.specs.Fills.{IsStorable}
 use Rattle.fish_layout.specs.Body.{IsBody}
-use Rattle.fish_rule.proofs.Keys.{no_keys}
+use Rattle.fish_rule.proofs.laws.Keys.{no_keys}
 use Rattle.fish_rule.specs.declared.view.Epoch.TheVariants.{Confirmed}
 use Rattle.fish_rule.specs.declared.view.View.{View}
 use Rattle.fish_layout.specs.declared.parts.BodyParts.{BodyParts}

@@ -1,7 +1,7 @@
 -- The log may be shared.
 use Rattle.std.proofs.Crossing.{crosses}
 use denote.Param.Send.{sendable}
-use Rattle.fish_rule.proofs.Crossing.{log_sync}
+use Rattle.fish_rule.proofs.laws.Crossing.{log_sync}
 use Rattle.tests_log.proofs.threads.fill_seats.Goals as goal
 
 pub for_each_mut-requires-sync-F : goal.for_each_mut-requires-sync-F

@@ -8,7 +8,7 @@ use Rattle.fish_registry.proofs.Beginning.{may_register, registered_new}
 use Rattle.fish_registry.proofs.Changing.{changes_both, changes_stays}
 use Rattle.fish_registry.proofs.Knowing.{knows_begun, knows_stays}
 use Rattle.fish_registry.specs.Knowing.{KnowsRows}
-use Rattle.fish_rule.proofs.Registering.{unset_law}
+use Rattle.fish_rule.proofs.laws.Versions.{unset_law}
 use Rattle.fish_rule.specs.Passes.{view}
 use Rattle.fish_rule.specs.declared.view.View.{View}
 use Rattle.fish_registry.proofs.registrar.Registrar.begin.Goals as goal

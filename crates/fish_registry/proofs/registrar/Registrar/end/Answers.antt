@@ -5,7 +5,7 @@ use Rattle.fish_registry.proofs.Changing.{changes_both, changes_end, changes_sta
 use Rattle.fish_registry.proofs.Knowing.{knows_ended, knows_stays, knows_tailed, may_close, may_end}
 use Rattle.fish_registry.specs.Knowing.{KnowsRows}
 use Rattle.fish_registry.specs.declared.registrar.Waiting.{Waiting}
-use Rattle.fish_rule.proofs.Registering.{main_law}
+use Rattle.fish_rule.proofs.laws.Versions.{main_law}
 use Rattle.fish_rule.specs.Passes.{view}
 use Rattle.fish_rule.specs.declared.view.View.{View}
 use Rattle.fish_registry.proofs.registrar.Registrar.end.Goals as goal

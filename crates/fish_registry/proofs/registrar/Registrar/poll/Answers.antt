@@ -3,7 +3,7 @@ use Rattle.std.proofs.Common.{None, refl, subst, sym}
 use Rattle.fish_registry.proofs.Changing.{changes_both, changes_looks, counted_within}
 use Rattle.fish_registry.proofs.Knowing.{knows_bound, knows_older}
 use Rattle.fish_registry.specs.Knowing.{IsWaitingFor, KnowsRows}
-use Rattle.fish_rule.proofs.Clocks.{later_self}
+use Rattle.fish_rule.proofs.laws.Clocks.{later_self}
 use Rattle.fish_rule.specs.Passes.{view}
 use Rattle.fish_registry.specs.declared.registrar.Waiting.{Waiting}
 use Rattle.std.proofs.Common.{Option, List}

@@ -1,0 +1,68 @@
+-- What one pass's step leaves of the facts about several views at once.
+use Rattle.std.proofs.Common.{◌≡◌, ℕ, List, set, sym, refl, ◌∙◌, subst}
+use Rattle.std.proofs.Math.Decide.{ℕ_discrete}
+use mathlib.Core.Option.{some, some-injective}
+use Rattle.std.proofs.Math.ListN.{get_elem?}
+use Rattle.atomic_table.proofs.Lists.{set_here, set_else}
+use Rattle.fish_rule.proofs.basics.Lists.{each_set, pairs_set, within_list}
+use Rattle.fish_rule.specs.Parts.{MayOverflow}
+use Rattle.fish_rule.specs.Views.{Each, Has, HasFlight, IsFlightOf}
+use Rattle.fish_rule.specs.declared.view.View.{View}
+use Rattle.fish_rule.specs.Epochs.{Carries, Registry, Stays}
+use Rattle.fish_rule.specs.declared.view.Epoch.{Epoch}
+use Rattle.fish_rule.specs.declared.view.Key.{Key}
+
+-- one place of a list has one view
+pub one_view : (vs : List View) (id : ℕ) (v u : View) → get_elem? vs id ≡ some v → get_elem? vs id ≡ some u → v ≡ u
+one_view vs id v u at_v at_u = some-injective v u (sym at_v ∙ at_u)
+
+module _ (vs : List View) (id : ℕ) (v v' : View) (at : get_elem? vs id ≡ some v) where
+  -- a number stays in flight where the stepping pass keeps it
+  pub flight_there : (n : ℕ) → (IsFlightOf n v.flight → IsFlightOf n v'.flight) → HasFlight n vs
+      → HasFlight n (set vs id v')
+  flight_there n keep h = pick (ℕ_discrete h.seat id)
+    where
+      pick : Dec (h.seat ≡ id) → HasFlight n (set vs id v')
+      pick (yes e) =
+          let same : h.view ≡ v = one_view vs id h.view v (subst (λ (z : ℕ). get_elem? vs z ≡ some h.view) e h.at) at in
+          record {
+            seat = id;
+            view = v';
+            at = set_here vs id v' (within_list vs id v at);
+            flies = keep (subst (λ (z : View). IsFlightOf n z.flight) same h.flies);
+          }
+      pick (no ne) = record { seat = h.seat; view = h.view; at = set_else vs id h.seat v' ne ∙ h.at; flies = h.flies }
+
+  -- no two passes have one record in flight, where the stepping pass has no new one
+  pub alone_kept : ((n : ℕ) → IsFlightOf n v'.flight → IsFlightOf n v.flight)
+      → ((i j : ℕ) (a b : View) (n : ℕ) → get_elem? vs i ≡ some a → get_elem? vs j ≡ some b
+      → IsFlightOf n a.flight → IsFlightOf n b.flight → i ≡ j)
+      → (i j : ℕ) (a b : View) (n : ℕ) → get_elem? (set vs id v') i ≡ some a
+      → get_elem? (set vs id v') j ≡ some b → IsFlightOf n a.flight → IsFlightOf n b.flight → i ≡ j
+  alone_kept back alone i j a b n at_i at_j p q =
+      (pairs_set (λ i j a b. IsFlightOf n a.flight → IsFlightOf n b.flight → i ≡ j) vs id v'
+      (λ i p q. refl)
+      (λ j u ne at_u. ((λ p q. alone id j v u n at at_u (back n p) q), (λ p q. alone j id u v n at_u at p (back n q))))
+      (λ i j a b _ _ at_a at_b p q. alone i j a b n at_a at_b p q) i j a b at_i at_j) p q
+
+  -- the lanes that may still overflow stay as they are, where the stepping pass has the same lanes
+  -- and may overflow only if it could
+  pub may_kept : (end : ℕ) (quota : ℕ → ℕ) → v'.lane ≡ v.lane → v'.out ≡ v.out
+      → (MayOverflow end v'.shut v'.flight → MayOverflow end v.shut v.flight)
+      → Each (λ u. (l : ℕ) → Has u.lane u.out l → MayOverflow end u.shut u.flight → quota l ≡ 1) vs
+      → Each (λ u. (l : ℕ) → Has u.lane u.out l → MayOverflow end u.shut u.flight → quota l ≡ 1) (set vs id v')
+  may_kept end quota lane out back all = each_set _ vs id v' (λ j u ne at_u. all j u at_u)
+      (λ l has may. all id v at l (subst (λ (z : ℕ × List ℕ). Has z.0 z.1 l) (λ d. (lane d, out d)) has) (back may))
+
+-- the registry's part stays where its words do, and the stepping pass keeps to it
+pub registry_set : (k : Key) (count : ℕ) (g : ℕ → ℕ) (state : ℕ → Epoch) (version_of : ℕ → ℕ) (vs : List View) (id : ℕ)
+    (v' : View) → Registry k count g state version_of vs
+    → Stays k count g state version_of v'
+    → Carries k g version_of v'.lane v'.epoch v'.flight → Registry k count g state version_of (set vs id v')
+registry_set k count g state version_of vs id v' r stays carries = record {
+  epochs = r.epochs;
+  versions = r.versions;
+  boundaries = r.boundaries;
+  each = each_set _ vs id v' (λ j u ne at_u. r.each j u at_u) stays;
+  flights = each_set _ vs id v' (λ j u ne at_u. r.flights j u at_u) carries;
+}

@@ -1,0 +1,24 @@
+-- What crates above may cite, and nothing else of these proofs.
+pub mod Alone
+pub mod ChainFacts
+pub mod Clocks
+pub mod ClosedLogs
+pub mod Comparing
+pub mod Crossing
+pub mod Descents
+pub mod Entries
+pub mod GoesOn
+pub mod Intervals
+pub mod Keys
+pub mod Learning
+pub mod Links
+pub mod Lists
+pub mod Moments
+pub mod NextLog
+pub mod OpenNumbers
+pub mod ReadSoFar
+pub mod Regions
+pub mod Remains
+pub mod Schedules
+pub mod Steps
+pub mod Versions

@@ -1,0 +1,192 @@
+-- How a pass goes on that reads a log: what of the heads it has read stays, and what its next steps leave.
+use Rattle.std.proofs.Common.{◌≡◌, ℕ, ◌+◌, ◌*◌, ◌≤◌, suc, List, [], ◌∷◌, ◌++◌, length, refl, sym, ap, ◌∙◌, subst, inl}
+use Rattle.std.proofs.Common.{arith, Bool, true, false, Some}
+use mathlib.Core.Option.{some}
+use Rattle.std.proofs.Math.ListN.{get_elem?}
+use Rattle.fish_rule.proofs.laws.Clocks.{later_ticked}
+use Rattle.fish_rule.proofs.laws.Alone.{each_more}
+use Rattle.fish_rule.proofs.laws.Learning.{learns_both, learns_end}
+use Rattle.fish_rule.specs.Closing.{AreHeads, HasHead, IsAdded, IsReadUpTo, ReadsOn}
+use Rattle.fish_rule.specs.Entering.{after_version}
+use Rattle.fish_rule.specs.Epochs.{confirmed}
+use Rattle.fish_rule.specs.Linking.{after_head}
+use Rattle.fish_rule.specs.Logs.{Extends, Learns}
+use Rattle.fish_rule.specs.Parts.{Rests, first_head}
+use Rattle.fish_rule.specs.Reading.{IsAlone, after_end, after_raise}
+use Rattle.fish_rule.specs.Steps.{noted}
+use Rattle.fish_rule.specs.Views.{Among}
+use Rattle.fish_rule.specs.World.{high, low}
+use Rattle.fish_rule.specs.declared.close.ReadLog.{ReadLog}
+use Rattle.fish_rule.specs.declared.view.Key.{Key}
+use Rattle.fish_rule.specs.declared.view.Noted.TheVariants.{Version}
+use Rattle.fish_rule.specs.declared.view.View.{View}
+
+-- a head that was loaded
+pub head_new : (v : View) (b x : ℕ) → (x ≤ v.about.line * 4 → x ≡ first_head v.about b)
+    → HasHead (after_head v b x) v.learned.settled b x
+head_new v b x first = record { top = inl refl; gap = (v.learned.settled, omega arith, inl refl); first = first }
+
+-- it stays so
+pub head_later : (v u : View) (settled b x : ℕ) → Learns v u → HasHead v settled b x → HasHead u settled b x
+head_later v u settled b x learns h =
+    let g = h.gap in
+    record {
+      top = learns.tops (record { bucket = b; place = x }) h.top;
+      gap = (
+        g.0,
+        g.1,
+        subst (λ (k : Key). Among (record { bucket = b; end = g.0; above = k.end * 4; below = x }) u.learned.gaps)
+            (sym learns.about)
+            (learns.gaps (record { bucket = b; end = g.0; above = v.about.end * 4; below = x }) g.2),
+      );
+      first = subst (λ (k : Key). x ≤ k.line * 4 → x ≡ first_head k b) (sym learns.about) h.first;
+    }
+
+-- and one more is there
+pub heads_more : (v u : View) (settled : ℕ) (heads : List ℕ) (x : ℕ) → Learns v u
+    → ((b y : ℕ) → get_elem? heads b ≡ some y → HasHead v settled b y) → HasHead u settled (length heads) x
+    → (b y : ℕ) → get_elem? (heads ++ x ∷ []) b ≡ some y → HasHead u settled b y
+heads_more v u settled heads x learns old next = each_more (HasHead u settled) heads x
+    (λ b y at. head_later v u settled b y learns (old b y at)) next
+
+-- ---- the raise
+
+-- a raise of the settled number extends a view
+pub extends_raise : (v : View) (m x : ℕ) → v.learned.settled ≤ x → Extends v (after_raise v m x)
+extends_raise v m x more = record {
+  learns = record {
+    about = refl;
+    count = omega arith;
+    settled = omega arith;
+    version = omega arith;
+    words = λ y a. a;
+    found = λ y a. a;
+    known = λ y a. a;
+    records = λ y a. a;
+    nodes = λ y a. a;
+    lows = λ y a. a;
+    tops = λ y a. a;
+    gaps = λ y a. a;
+    labels = λ y a. a;
+    unended = λ y a. a;
+    opens = λ y a. a;
+  };
+  clock = later_ticked v.clock;
+  frame = refl;
+}
+
+-- ---- how the pass went on
+
+-- a mark's line ends what was read
+pub lines_else : (v : View) (n lines : ℕ) (read : ReadLog) → IsReadUpTo v n read
+    → IsReadUpTo v n (record read { lines = lines })
+lines_else v n lines read h = record {
+  many = h.many;
+  told = h.told;
+  rise = h.rise;
+  sound = h.sound;
+  covers = h.covers;
+  paged = h.paged;
+  last = h.last;
+}
+
+-- the log goes on
+pub goes_on : (v : View) (n lines : ℕ) (read : ReadLog) (goes : Bool) → goes ≡ true → IsAdded v n goes lines read
+    → IsReadUpTo v (suc n) read × (read.lines ≡ lines)
+goes_on v n lines read true e h = h
+goes_on v n lines read false e h = cc
+
+-- a version that was loaded is learned
+learns_version : (v : View) (y : ℕ) → v.learned.version ≤ y → Learns v (after_version v y)
+learns_version v y more = record {
+  about = refl;
+  count = omega arith;
+  settled = omega arith;
+  version = more;
+  words = λ x m. m;
+  found = λ x m. m;
+  known = λ x m. m;
+  records = λ x m. m;
+  nodes = λ x m. m;
+  lows = λ x m. m;
+  tops = λ x m. m;
+  gaps = λ x m. m;
+  labels = λ x m. m;
+  unended = λ x m. m;
+  opens = λ x m. m;
+}
+
+pub to_version : (v u : View) (y : ℕ) → u ≡ after_version v y → v.learned.version ≤ y → Learns v u
+to_version v u y e more = subst (Learns v) (sym e) (learns_version v y more)
+
+-- it reads on from where it loaded the tail
+pub reads_on : (v t u : View) (x : ℕ) → t ≡ after_end v x → v.learned.count ≤ high x
+    → Rests (high x) (low x) v.tail → Extends t u → ReadsOn v u
+reads_on v t u x e more rests ext =
+    let learned = subst (Learns v) (sym e) (learns_end v x more) in
+    let from : u ≡ record v {
+      tail = Some (record { number = high x; line = low x });
+      learned = u.learned;
+      clock = u.clock;
+    } = ext.frame ∙ ap (λ (z : View). record z { learned = u.learned; clock = u.clock }) e in
+    let epoch : u.epoch ≡ v.epoch = ap (λ (z : View). z.epoch) from in
+    let tail : u.tail ≡ Some (record { number = high x; line = low x }) = ap (λ (z : View). z.tail) from in
+    let same : record v {
+      tail = Some (record { number = high x; line = low x });
+      learned = u.learned;
+      clock = u.clock;
+    } ≡ record v { epoch = u.epoch; tail = u.tail; learned = u.learned; clock = u.clock } =
+    λ i. record v { epoch = sym epoch i; tail = sym tail i; learned = u.learned; clock = u.clock } in
+    record {
+      learns = learns_both v t u learned ext.learns;
+      frame = from ∙ same;
+      found = x;
+      tail = tail;
+      rests = rests;
+    }
+
+-- and when it loads the version last
+pub reads_version : (v u w : View) (y : ℕ) → ReadsOn v u → w ≡ after_version u y → u.learned.version ≤ y → ReadsOn v w
+reads_version v u w y on e more =
+    let from : w ≡ record v {
+      epoch = confirmed u.epoch y;
+      tail = u.tail;
+      learned = record u.learned { version = y };
+      clock = noted u.clock Version y;
+    } = e ∙ ap (λ (z : View). record z {
+      epoch = confirmed u.epoch y;
+      learned = record u.learned { version = y };
+      clock = noted u.clock Version y;
+    }) on.frame in
+    let epoch : w.epoch ≡ confirmed u.epoch y = ap (λ (z : View). z.epoch) from in
+    let tail : w.tail ≡ u.tail = ap (λ (z : View). z.tail) from in
+    let learned : w.learned ≡ record u.learned { version = y } = ap (λ (z : View). z.learned) from in
+    let clock : w.clock ≡ noted u.clock Version y = ap (λ (z : View). z.clock) from in
+    let same : record v {
+      epoch = confirmed u.epoch y;
+      tail = u.tail;
+      learned = record u.learned { version = y };
+      clock = noted u.clock Version y;
+    } ≡ record v { epoch = w.epoch; tail = w.tail; learned = w.learned; clock = w.clock } =
+    λ i. record v { epoch = sym epoch i; tail = sym tail i; learned = sym learned i; clock = sym clock i } in
+    record {
+      learns = learns_both v u w on.learns (to_version u w y e more);
+      frame = from ∙ same;
+      found = on.found;
+      tail = tail ∙ on.tail;
+      rests = on.rests;
+    }
+
+-- it stays alone
+pub alone_on : (v u : View) → ReadsOn v u → IsAlone v → IsAlone u
+alone_on v u on alone = record {
+  main = ap (λ (z : View). z.lane) on.frame ∙ alone.main;
+  all = ap (λ (z : View). z.out) on.frame ∙ alone.all;
+  idle = ap (λ (z : View). z.flight) on.frame ∙ alone.idle;
+}
+
+-- heads stay known
+pub heads_later : (v u : View) (settled buckets : ℕ) (heads : List ℕ) → Learns v u → AreHeads v settled buckets heads
+    → AreHeads u settled buckets heads
+heads_later v u settled buckets heads learns h =
+    record { many = h.many; each = λ b x at. head_later v u settled b x learns (h.each b x at) }

@@ -1,0 +1,197 @@
+-- What the control pass, alone, has read is what is left of the log.
+use Rattle.std.proofs.Common.{◌≡◌, ◌≢◌, ℕ, ◌+◌, ◌-◌, ◌*◌, ◌<◌, ◌≤◌, suc, List, length, refl, sym, ap, true, ◌∙◌, subst}
+use Rattle.std.proofs.Common.{inl, inr, ⊎_elim, arith, Some, None}
+use mathlib.Core.Option.{some-injective}
+use Rattle.std.proofs.Math.ListN.{get_elem?}
+use Rattle.fish_rule.proofs.basics.Bodies.{kind-inside}
+use Rattle.fish_rule.proofs.laws.ClosedLogs.{within_log}
+use Rattle.fish_rule.proofs.basics.Lists.{all_among, only_main}
+use Rattle.fish_rule.proofs.laws.Learning.{learns_self}
+use Rattle.fish_rule.proofs.basics.Places.{IsFlier, Spot, lies_inside, spot}
+use Rattle.fish_rule.specs.Chains.{Linked}
+use Rattle.fish_rule.specs.Closing.{AreHeads, HasHead, HasLine, HasMarkAt, IsClosed, IsRead}
+use Rattle.fish_rule.specs.Facts.{IsFound}
+use Rattle.fish_rule.specs.Logs.{IsLog}
+use Rattle.fish_rule.specs.Parts.{Flies, InFlight, Rests, first_head}
+use Rattle.fish_rule.specs.Reading.{IsAlone}
+use Rattle.fish_rule.specs.Regions.{code}
+use Rattle.fish_rule.specs.Table.{Stands}
+use Rattle.fish_rule.specs.Views.{Among}
+use Rattle.fish_rule.specs.Walks.{IsGap}
+use Rattle.fish_rule.specs.World.{World, body, high}
+use Rattle.fish_rule.specs.declared.close.ReadLog.{ReadLog}
+use Rattle.fish_rule.specs.declared.view.Found.{Found}
+use Rattle.fish_rule.specs.declared.view.Kind.TheVariants.{Mark, Stored}
+use Rattle.fish_rule.specs.declared.view.Position.{Position}
+use Rattle.fish_rule.specs.declared.view.View.{View}
+
+module _ (v : View) (s : Stands v) (alone : IsAlone v) where
+  -- nothing is in flight
+  none_flies : (n c : ℕ) → ¬ IsFlier s.moment n c
+  none_flies n c f =
+      let w : World = s.moment in
+      let r = s.rule in
+      let flies : InFlight v.about w.count w.dir w.log r.start r.lane_of f.view.lane f.flight =
+      subst (Flies v.about w.count w.dir w.log r.start r.lane_of f.view.lane) f.flies
+      (r.space.flights f.seat f.view f.at) in
+      let same : f.seat ≡ s.seat =
+      only_main w.views s.seat f.seat v f.view r.seats s.at f.at alone.main alone.all flies.live in
+      let view : v ≡ f.view =
+      some-injective v f.view (sym s.at ∙ ap (get_elem? w.views) (sym same) ∙ f.at) in
+      let bad : None ≡ Some f.flight = sym alone.idle ∙ ap (λ (z : View). z.flight) view ∙ f.flies in
+      cc
+
+  -- so each linked place is of a published record
+  linked_published : (b p : ℕ) (h : Linked v.about s.moment.dir s.moment.log s.moment.views b p)
+      → (t : Spot v.about s.moment s.rule h.line h.entry) × (s.moment.dir t.number ≢ 0)
+  linked_published b p h =
+      let t = spot v.about s.moment s.rule h.line h.entry h.shows in (
+        t,
+        ⊎_elim (λ (set_ : s.moment.dir t.number ≢ 0). set_)
+            (λ (f : (s.moment.dir t.number ≡ 0) × IsFlier s.moment t.number h.entry).
+            absurd (none_flies t.number h.entry f.1)) t.owner,
+      )
+
+  module _ (upto : ℕ) (logged : (n : ℕ) → v.about.number ≤ n → s.moment.dir n ≢ 0
+      → high (s.moment.dir n) ≡ code Stored → n < upto) where
+    -- where the gap below a head is clear up to the log's end, no linked place lies above it
+    linked_under : (b x end : ℕ) → upto ≤ end
+        → Among (record { bucket = b; end = end; above = v.about.end * 4; below = x }) v.learned.gaps
+        → (p : ℕ) → Linked v.about s.moment.dir s.moment.log s.moment.views b p → p ≤ x
+    linked_under b x end more among p h =
+        let w : World = s.moment in
+        let r = s.rule in
+        let found = linked_published b p h in
+        let t = found.0 in
+        let gap = all_among (IsGap v.about w.count w.dir w.log r.start) _ v.learned.gaps
+        (r.facts s.seat v s.at).gaps among in
+        let finished = r.space.finished t.number t.above t.below found.1 in
+        let stored : high (w.dir t.number) ≡ code Stored = finished.kind ∙ ap code t.kind in
+        let within = logged t.number t.above found.1 stored in
+        let inside = lies_inside v.about w r b p h t in
+        let end_ = kind-inside v.about.end (r.start t.number) (r.start (suc t.number))
+        (λ e. let q : Stored ≡ Mark = sym t.kind ∙ e in cc) in
+        gap.empty t.number h.entry p (omega arith)
+        (record {
+          above = t.above;
+          stored = stored;
+          is = subst (λ (z : ℕ). Rattle.fish_rule.specs.Chains.IsKeyEntry v.about.buckets (body w.log z) b p z h.entry)
+              (sym t.line) h.is;
+        }) (omega arith)
+
+    -- so what was found is the head
+    head_is : (settled b x : ℕ) → upto ≤ settled → HasHead v settled b x → x ≡ s.moment.head b
+    head_is settled b x more h =
+        let w : World = s.moment in
+        let r = s.rule in
+        let reached = all_among (λ z. z.place ≤ w.head z.bucket) _ v.learned.tops
+        (r.chained s.seat v s.at).tops h.top in
+        let g = h.gap in
+        let far = g.1 in
+        ⊎_elim (λ (e : w.head b ≡ first_head v.about b). at_first reached e)
+        (λ (l : Linked v.about w.dir w.log w.views b (w.head b)).
+        let under = linked_under b x g.0 (omega arith) g.2 (w.head b) l in omega arith) (r.chains b).some
+      where
+        at_first : x ≤ s.moment.head b → s.moment.head b ≡ first_head v.about b → x ≡ s.moment.head b
+        at_first reached e = pick (Rattle.std.proofs.Math.Decide.ℕ_discrete (first_head v.about b) 0)
+          where
+            pick : Dec (first_head v.about b ≡ 0) → x ≡ s.moment.head b
+            pick (yes z) = omega arith
+            pick (no some_) =
+                let low = s.rule.key_fits.older_heads b some_ in
+                h.first (omega arith) ∙ sym e
+
+-- ---- lines
+
+module _ (v : View) (s : Stands v) where
+  found_at : (f : Found) → Among f v.learned.found → IsFound v.about s.moment.count s.moment.dir s.rule.start f
+  found_at f m = all_among (IsFound v.about s.moment.count s.moment.dir s.rule.start) f v.learned.found
+      (s.rule.facts s.seat v s.at).found m
+
+  line_at : (n line : ℕ) → HasLine v n line → s.rule.start n ≡ line
+  line_at n line h = ap s.rule.start (sym h.2) ∙ (found_at h.0 h.1).line ∙ h.4
+
+  mark_at : (n line : ℕ) → HasMarkAt v n line → (s.rule.start n ≡ line) × (high (s.moment.dir n) ≡ code Mark)
+  mark_at n line h = (
+    ap s.rule.start (sym h.2) ∙ (found_at h.0 h.1).line ∙ h.4,
+    ap (λ (z : ℕ). high (s.moment.dir z)) (sym h.2) ∙ (found_at h.0 h.1).kind ∙ ap code h.3,
+  )
+
+-- ---- all of it
+
+pub closes : (v : View) (tail : Position) (read : ReadLog) (settled base version : ℕ) (heads : List ℕ) → Stands v
+    → IsAlone v → v.tail ≡ Some tail → IsRead v tail.number tail.line read
+    → v.about.number + length read.entries ≤ settled → AreHeads v settled v.about.buckets heads
+    → base ≡ v.about.number → version ≡ v.learned.version
+    → IsClosed v (record {
+      opened = true;
+      base = base;
+      log = read.entries;
+      lines = read.lines;
+      heads = heads;
+      starts = read.starts;
+      version = version;
+    })
+closes v tail read settled base version heads s alone is_tail h far are base_is version_is =
+    let w : World = s.moment in
+    let r = s.rule in
+    let upto = h.upto in
+    let many : v.about.number + length read.entries ≡ h.number = upto.many in
+    let rests : Rests w.count w.line (Some tail) =
+    subst (Rests w.count w.line) is_tail (r.tails s.seat v s.at alone.main alone.all) in
+    let count : tail.number ≡ w.count = rests.0 in
+    let line : tail.line ≡ w.line = rests.1 in
+    let log : IsLog v.about w read.entries = record {
+      each = λ i e at. upto.told i e at v (learns_self v) w r s.seat s.at;
+      within = ⊎_elim (λ (e : (h.number ≡ tail.number) × (read.lines ≡ tail.line)). let n = e.0 in omega arith)
+          (λ (m : (h.number < tail.number) × HasMarkAt v h.number read.lines). let n = m.0 in omega arith) h.ends;
+      ends = ⊎_elim
+          (λ (e : (h.number ≡ tail.number) × (read.lines ≡ tail.line)). inl (many ∙ e.0 ∙ count))
+          (λ (m : (h.number < tail.number) × HasMarkAt v h.number read.lines).
+          inr (ap (λ (z : ℕ). high (w.dir z)) many ∙ (mark_at v s h.number read.lines m.1).1)) h.ends;
+    } in
+    record {
+      moment = w;
+      rule = r;
+      log = log;
+      base = base_is;
+      lines = ⊎_elim
+          (λ (e : (h.number ≡ tail.number) × (read.lines ≡ tail.line)).
+          e.1 ∙ line ∙ sym r.space.regions.last ∙ ap r.start (sym count ∙ sym e.0 ∙ sym many))
+          (λ (m : (h.number < tail.number) × HasMarkAt v h.number read.lines).
+          sym (mark_at v s h.number read.lines m.1).0 ∙ ap r.start (sym many)) h.ends;
+      many_heads = are.many;
+      heads = λ b x at. head_is v s alone (v.about.number + length read.entries)
+          (λ n above set_ stored. in_log log n above set_ stored) settled b x far (are.each b x at);
+      version = version_is ∙ ((r.registry.each s.seat v s.at).main alone.main).version;
+      starts = record {
+        rise = upto.rise;
+        sound = λ t m. (let x = upto.sound t m in
+            let below = x.1 in (x.0, omega arith, line_at v s t.number t.line x.2));
+        first = λ n line above below begins. (let c = upto.covers n above (omega arith) in (
+          c.start,
+          c.among,
+          c.page ∙ ap Rattle.fish_rule.specs.Closing.page_of (sym (line_at v s n c.line c.has) ∙ begins),
+          c.upto,
+        ));
+      };
+      seat = s.seat;
+      last = v;
+      at = s.at;
+      later = learns_self v;
+      lane_is = refl;
+      out_is = refl;
+      own_is = refl;
+      owns = r.own s.seat v s.at;
+      rests = r.tails s.seat v s.at alone.main alone.all;
+      facts = r.facts s.seat v s.at;
+    }
+  where
+    in_log : IsLog v.about s.moment read.entries → (n : ℕ) → v.about.number ≤ n → s.moment.dir n ≢ 0
+        → high (s.moment.dir n) ≡ code Stored → n < v.about.number + length read.entries
+    in_log log n above set_ stored =
+        let e : v.about.number + (n - v.about.number) ≡ n = omega arith in
+        let inside = within_log v.about s.moment s.rule read.entries log (n - v.about.number)
+        (subst (λ (z : ℕ). Rattle.fish_rule.specs.Parts.IsEntryWord (s.moment.dir z)) (sym e)
+        (record { published = set_; unmarked = λ m. (let bad : code Stored ≡ code Mark = sym stored ∙ m in omega arith) })) in
+        omega arith

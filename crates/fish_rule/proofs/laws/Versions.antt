@@ -1,0 +1,106 @@
+-- What the owner of a view may conclude of the registry's words.
+pub use Rattle.fish_rule.proofs.basics.FirstBoundaries.{drafted_here}
+pub use Rattle.fish_rule.proofs.basics.RegistryWords.{definitions_first, definitions_next, has_read, keyed_map}
+pub use Rattle.fish_rule.proofs.basics.RegistryWords.{length_registered}
+use Rattle.std.proofs.Common.{◌≡◌, ℕ, ◌-◌, ◌<◌, ◌≤◌, List, sym, refl, ap, ◌∙◌, subst, arith, length, inr, Some}
+use Rattle.fish_rule.proofs.classes.Allowed.{unmade_within}
+use Rattle.fish_rule.proofs.steps.DefineWord.{unmade_here}
+use Rattle.fish_rule.proofs.steps.LoadRegistry.{lasts_there, lasting_within}
+use Rattle.fish_rule.specs.Entering.{CanDefine, CanLoadRegistry}
+use Rattle.fish_rule.specs.Registry.{KnowsDefinitions, KnowsRow, definitions_at, drafted, row_at, version_in}
+use Rattle.fish_rule.proofs.basics.RegistryWords.{length_grows}
+use Rattle.std.proofs.lemmas.List.{length-map}
+use Rattle.fish_catalog.specs.Listing.{IsListing, listed_of}
+use Rattle.fish_catalog.specs.declared.listed.Listed.{Listed}
+use Rattle.fish_rule.specs.Table.{Stands}
+use Rattle.fish_rule.specs.World.{heads_at}
+use Rattle.fish_rule.specs.declared.view.Key.{Key}
+use Rattle.fish_rule.specs.declared.view.View.{View}
+use Rattle.fish_rule.proofs.basics.Regions.{few_numbers}
+use Rattle.fish_rule.specs.Rounds.{Waits}
+use Rattle.fish_rule.specs.declared.view.Round.{Round}
+
+-- a word that may be loaded is one of the registry's
+pub registry_law : (k : Key) (v : View) (p : ℕ) → v.about ≡ k → Stands v → CanLoadRegistry v p
+    → (2 ≤ p) × (p < heads_at)
+registry_law k v p about s can = lasting_within v.about s.moment s.rule p
+    (lasts_there v.about s.moment s.rule s.seat v s.at refl p can)
+
+-- and so is one that may be stored
+pub define_law : (k : Key) (v : View) (p x : ℕ) → v.about ≡ k → Stands v → CanDefine v p x
+    → (2 ≤ p) × (p < heads_at)
+define_law k v p x about s can = unmade_within v.about s.moment p
+    (unmade_here v.about s.moment s.rule s.seat v s.at can.main p x can)
+
+-- a pass knows of no version past 512
+pub version_law : (v : View) → Stands v → v.learned.version ≤ 512
+version_law v s =
+    let few = s.rule.registry.versions.few in
+    let reached = (s.rule.registry.each s.seat v s.at).reached in
+    omega arith
+
+-- no pass has a lane above 16
+pub lane_law : (v : View) → Stands v → v.lane ≤ 16
+lane_law v s = s.rule.seats.few s.seat v s.at
+
+-- the definitions that the control pass knows are a listing
+pub main_law : (v : View) → Stands v → v.lane ≡ 1 → IsListing v.rows
+main_law v s main =
+    subst IsListing ((s.rule.registry.each s.seat v s.at).main main).definitions
+    (s.rule.registry.versions.listings (version_in s.moment.registry) (omega arith))
+
+-- a row that is not made has no boundary, as the control pass knows
+pub unset_law : (v : View) → Stands v → v.lane ≡ 1 → (id i : ℕ) → length v.rows ≤ id → id < 256 → i < 2
+    → drafted v.draft (row_at id i) ≡ 0
+unset_law v s main id i more few bound =
+    let its = (s.rule.registry.each s.seat v s.at).main main in
+    let size : length (definitions_at v.about s.moment.registry (version_in s.moment.registry)) ≡ length v.rows =
+    ap (λ (z : List Listed). length z) its.definitions in
+    sym (its.owned (row_at id i) (inr (id, i, few, bound, refl)))
+    ∙ s.rule.registry.boundaries.unmade id i (omega arith) few bound
+
+-- a row of the start is there at version 0, and so there are at most 256
+pub opened_law : (v : View) → Stands v → length v.about.rows.value ≤ 256
+opened_law v s =
+    let listing = s.rule.registry.versions.listings 0 (omega arith) in
+    let few = listing.few in
+    let size = length-map v.about.rows.value listed_of in
+    omega arith
+
+-- a row that is known is one of 256
+pub row_law : (v : View) (id : ℕ) → Stands v → KnowsRow v.about v.learned id → id < 256
+row_law v id s h =
+    let w = s.moment in
+    let stays = s.rule.registry.each s.seat v s.at in
+    let there = h.there w.registry (has_read v.about w.registry v.learned.words stays.read) in
+    let a = h.reached in
+    let b = stays.reached in
+    let up = length_grows v.about w.registry h.version (version_in w.registry) (omega arith) in
+    let few = (s.rule.registry.versions.listings (version_in w.registry) (omega arith)).few in
+    omega arith
+
+-- definitions that are known are a listing
+pub listing_law : (v : View) (u : ℕ) (ls : List Listed) → Stands v
+    → KnowsDefinitions v.about v.learned u ls → IsListing ls
+listing_law v u ls s h =
+    let w = s.moment in
+    let stays = s.rule.registry.each s.seat v s.at in
+    let a = h.reached in
+    let b = stays.reached in
+    subst IsListing (h.are w.registry (has_read v.about w.registry v.learned.words stays.read))
+    (s.rule.registry.versions.listings u (omega arith))
+
+-- a registration that waits is of one of 256 rows
+pub round_law : (v : View) (o : Round) → Stands v → v.round ≡ Some o → o.id < 256
+round_law v o s waits =
+    (subst (Waits v.about s.moment.count s.moment.registry s.rule.state s.rule.version_of v.lane) waits
+    (s.rule.registry.each s.seat v s.at).waits).few
+
+-- where its index begins is a number
+pub bound_law : (v : View) (o : Round) (n : ℕ) → Stands v → v.round ≡ Some o → o.bound ≡ Some n → n ≤ 268435455
+bound_law v o n s waits bound =
+    let round = subst (Waits v.about s.moment.count s.moment.registry s.rule.state s.rule.version_of v.lane) waits
+    (s.rule.registry.each s.seat v s.at).waits in
+    let within = (round.bound n bound).within in
+    let numbers = few_numbers v.about s.moment s.rule in
+    omega arith

@@ -1,0 +1,71 @@
+-- The word is within the region in flight, and the table allows its store.
+use Rattle.std.proofs.Common.{◌≡◌, ◌∙◌, sym, ap, arith, subst, ℕ, ◌<◌, ◌≤◌, ◌+◌, ◌-◌, ◌*◌, length}
+use Rattle.fish_rule.proofs.steps.StoreWord.{store_allowed}
+use Rattle.fish_rule.proofs.laws.Steps.{flight_law}
+use Rattle.fish_rule.specs.Flying.{region_in}
+use Rattle.fish_rule.specs.Passes.{IsPassOf, view}
+use Rattle.fish_rule.specs.Steps.{CanStore}
+use Rattle.fish_rule.specs.Table.{Stands}
+use Rattle.fish_rule.specs.World.{log_at}
+use Rattle.fish_rule.specs.declared.table.Log.{Log}
+use Rattle.fish_rule.specs.declared.table.Pass.{Pass}
+use Rattle.fish_rule.specs.declared.view.Flight.{Flight}
+use Rattle.fish_rule.specs.declared.view.Key.{Key}
+use Rattle.fish_rule.specs.declared.view.View.{View}
+use Rattle.fish_rule.proofs.space.store_at.Goals as goal
+
+-- the index is that of a word of the region in flight, which is within the table
+record Within (log : Log) (first offset : ℕ) (f : Flight) : Type 0 where
+  same : first + offset ≡ log_at log.key + (f.line * 4 + length f.words - log.key.line * 4)
+  inside : first + offset < log.table.shared.table_id.words
+
+within : (log : Log) (pass : Pass) (first offset : ℕ) → IsPassOf log pass
+    → (may : (f : Flight) × CanStore (view pass) f × (log_at log.key + (f.line * 4 - log.key.line * 4) ≡ first)
+    × (length f.words ≡ offset)) → Within log first offset may.0
+within log pass first offset of may =
+    let f : Flight = may.0 in
+    let law = flight_law log.key (view pass) f of.about of.stands may.1.flying in
+    let at : log_at log.key + (f.line * 4 - log.key.line * 4) ≡ first = may.2 in
+    let many : length f.words ≡ offset = may.3 in
+    let more = may.1.more in
+    let behind : log.key.line ≤ f.line = law.behind in
+    let end : f.line + f.lines ≤ log.key.end = subst (λ (z : Key). f.line + f.lines ≤ z.end) of.about may.1.within in
+    let same : first + offset ≡ log_at log.key + (f.line * 4 + length f.words - log.key.line * 4) = omega arith in
+    record {
+      same = same;
+      inside = subst (λ (z : ℕ). first + offset < z) (sym log.wide) (omega arith);
+    }
+
+pub store-requires : goal.store-requires
+store-requires c =
+    let log = c.args.log.now in
+    let seat = c.args.pass.now.seat in
+    let h = within _ _ _ _ c.requires.pass c.requires.view in (
+      c.requires.pass.table,
+      h.inside,
+      store_allowed log.table.shared.key log.key log.keyed log.table.shared.table_id.slots seat.id seat.me
+          c.requires.view.0 _ c.args.word c.requires.pass.about c.requires.view.1 h.same,
+    )
+
+pub invariant_of-pass : goal.invariant_of-pass
+invariant_of-pass c =
+    let f : Flight = c.requires.view.0 in
+    let flying = c.requires.view.1.flying in
+    let told = c.store.ensures.2 f flying in
+    record {
+      bare = told.held ∙ c.args.pass.now.bare;
+      lane_is = ap (λ (z : View). z.lane) told.view ∙ c.args.pass.now.lane_is;
+      shut_is = ap (λ (z : View). z.shut) told.view ∙ c.args.pass.now.shut_is;
+      flight_is = ap (λ (z : View). region_in z.flight) told.view ∙ ap region_in (sym flying)
+          ∙ c.args.pass.now.flight_is;
+    }
+
+pub returns-clause-pass : goal.returns-clause-pass
+returns-clause-pass c =
+    let told = c.store.ensures.2 c.requires.view.0 c.requires.view.1.flying in
+    record {
+      table = c.store.ensures.0 ∙ c.requires.pass.table;
+      about = ap (λ (z : View). z.about) told.view ∙ c.requires.pass.about;
+      live = subst (λ (z : ℕ). 1 ≤ z) (sym (ap (λ (z : View). z.lane) told.view)) c.requires.pass.live;
+      stands = subst Stands (sym told.view) told.stands;
+    }

@@ -1,0 +1,69 @@
+-- `load_settled`: a load of the settled number.
+use Rattle.std.proofs.Common.{◌≡◌, ℕ, set, refl, arith, ◌≤◌, sym, subst}
+use mathlib.Core.Option.{some, none}
+use Rattle.std.proofs.Math.ListN.{get_elem?}
+use Rattle.fish_rule.proofs.classes.ChainsStay.{links_set}
+use Rattle.fish_rule.specs.Rule.{Final, Rule}
+use Rattle.fish_rule.specs.Reading.{after_settled}
+use Rattle.fish_rule.specs.World.{World, world}
+use Rattle.fish_rule.specs.declared.view.Key.{Key}
+use Rattle.fish_rule.specs.declared.view.View.{View}
+use Rattle.fish_rule.proofs.basics.RegistryWords.{endures_same}
+use Rattle.fish_rule.proofs.classes.Loads.{still_chained, learns}
+use Rattle.atomic_table.specs.Table.{Allows, step}
+use Rattle.fish_rule.proofs.classes.Allowed.{allowed, loaded_words, stands, there}
+use Rattle.fish_rule.specs.Table.{Ruled, Sat}
+use Rattle.fish_rule.specs.Told.{ToldSettled}
+
+module _ (k : Key) (w : World) (r : Rule k w) (id : ℕ) (v : View) (at : get_elem? w.views id ≡ some v) where
+  -- a load of the settled number
+  pub settled_kept : Rule k (record w { views = set w.views id (after_settled v w.settled) })
+  settled_kept =
+      let h = r.facts id v at in
+      let still = still_chained k w r id v at (record v.learned { settled = w.settled }) v.tail v.round (after_settled v w.settled).clock in
+      learns k w r id v at (record v.learned { settled = w.settled }) v.tail v.round (after_settled v w.settled).clock
+      (r.tails id v at) (record {
+        counted = h.counted;
+        found = h.found;
+        known = h.known;
+        records = h.records;
+        gaps = h.gaps;
+        labels = h.labels;
+      }) (r.opens id v at) (omega arith)
+      (record { nodes = still.nodes; lows = still.lows; tops = still.tops }) (r.registry.each id v at)
+
+  -- and all that lasts
+  pub settled_lasts : Final k r.start settled_kept.start r.lane_of settled_kept.lane_of w
+      (record w { views = set w.views id (after_settled v w.settled) })
+  unfolding settled_kept learns
+  settled_lasts = record {
+    counts = omega arith;
+    lines = omega arith;
+    settles = omega arith;
+    registered = endures_same k w.registry;
+    heads = λ b. omega arith;
+    links = links_set k w r id v (after_settled v w.settled) at (λ a c h. h);
+    rises = λ b p h. omega arith;
+    starts = λ n h. refl;
+    lanes = λ n h. refl;
+    dirs = λ n h e. refl;
+    bodies = λ n h e. refl;
+    below = λ p from h. refl;
+  }
+
+-- a load of the settled number
+pub settled_allowed : (given k : Key) → given ≡ k → (size id : ℕ) (me : Sat) → me.0.about ≡ k
+    → Allows (Ruled given) size id me 1 (λ n. n) (ToldSettled (step size 1 0 0 none) me)
+settled_allowed given k same size id me about =
+    allowed given k same size id me 1 (λ n. n) (ToldSettled (step size 1 0 0 none) me) (λ ws vs wide r at.
+    let w : World = world k ws vs in
+    let v' : View = after_settled me.0 w.settled in
+    let kept = settled_kept k w r id me.0 at in (
+      v',
+      loaded_words k ws (set vs id v') 1 kept,
+      record {
+        told = record { view = refl; held = refl; stands = stands k _ id v' kept about (there vs id me.0 v' at) };
+        rises = r.floors id me.0 at;
+        from = subst (λ (z : Key). z.number ≤ w.settled) (sym about) r.settling.from;
+      },
+    ))

@@ -1,0 +1,88 @@
+-- `load_tail`: a load of the tail.
+use Rattle.std.proofs.Common.{◌≡◌, ℕ, ◌≤◌, [], set, sym, refl, subst, arith, get_or}
+use mathlib.Core.Option.{some, none}
+use Rattle.std.proofs.Math.ListN.{get_elem?}
+use Rattle.fish_rule.proofs.classes.ChainsStay.{links_set}
+use Rattle.fish_rule.specs.Parts.{Rests}
+use Rattle.fish_rule.proofs.classes.OpensStay.{opens_begin}
+use Rattle.fish_rule.specs.Rule.{Final, Rule}
+use Rattle.fish_rule.specs.Reading.{after_end}
+use Rattle.fish_rule.specs.World.{World, high, low, world}
+use Rattle.fish_rule.specs.declared.view.Key.{Key}
+use Rattle.fish_rule.specs.declared.view.View.{View}
+use Rattle.fish_rule.proofs.basics.RegistryWords.{endures_same}
+use Rattle.fish_rule.proofs.classes.Loads.{still_chained, learns}
+use Rattle.atomic_table.specs.Table.{Allows, step}
+use Rattle.fish_rule.specs.Table.{Ruled, Sat}
+use Rattle.fish_rule.specs.Told.{ToldEnd}
+use Rattle.fish_rule.proofs.classes.Allowed.{allowed, stands, there, loaded_words}
+
+module _ (k : Key) (w : World) (r : Rule k w) (id : ℕ) (v : View) (at : get_elem? w.views id ≡ some v) where
+  -- a load of the tail
+  pub end_kept : (x : ℕ) → high x ≡ w.count → low x ≡ w.line
+      → Rule k (record w { views = set w.views id (after_end v x) })
+  end_kept x count line =
+      let h = r.facts id v at in
+      let still = still_chained k w r id v at (after_end v x).learned (after_end v x).tail v.round (after_end v x).clock in
+      learns k w r id v at (after_end v x).learned (after_end v x).tail v.round (after_end v x).clock
+      (λ main all. (count, line)) (record {
+        counted = subst (λ (z : ℕ). z ≤ w.count) (sym count) (omega arith);
+        found = h.found;
+        known = h.known;
+        records = h.records;
+        gaps = h.gaps;
+        labels = h.labels;
+      }) (opens_begin k w r (high x) (omega arith), r.opens id v at) (r.floors id v at)
+      (record { nodes = still.nodes; lows = still.lows; tops = still.tops }) (r.registry.each id v at)
+
+  -- and all that lasts
+  pub end_lasts : (x : ℕ) (count : high x ≡ w.count) (line : low x ≡ w.line)
+      → Final k r.start (end_kept x count line).start r.lane_of (end_kept x count line).lane_of w
+      (record w { views = set w.views id (after_end v x) })
+  unfolding end_kept learns
+  end_lasts x count line = record {
+    counts = omega arith;
+    lines = omega arith;
+    settles = omega arith;
+    registered = endures_same k w.registry;
+    heads = λ b. omega arith;
+    links = links_set k w r id v (after_end v x) at (λ a c h. h);
+    rises = λ b p h. omega arith;
+    starts = λ m h. refl;
+    lanes = λ m h. refl;
+    dirs = λ m h e. refl;
+    bodies = λ m h e. refl;
+    below = λ p from h. refl;
+  }
+
+  -- the count only rises
+  pub end_counted : (x : ℕ) → high x ≡ w.count → v.learned.count ≤ high x
+  end_counted x count = subst (λ (z : ℕ). v.learned.count ≤ z) (sym count) (r.facts id v at).counted
+
+  -- and is at or behind the settled number
+  pub end_settled : (x : ℕ) → high x ≡ w.count → v.learned.settled ≤ high x
+  end_settled x count = (let a = r.floors id v at in let b = r.settling.within in omega arith)
+
+  -- while no lane is out, the tail is as it was left
+  pub end_rests : (x : ℕ) → high x ≡ w.count → low x ≡ w.line → v.lane ≡ 1 → v.out ≡ [] → Rests (high x) (low x) v.tail
+  end_rests x count line main all = subst (λ (z : ℕ × ℕ). Rests z.0 z.1 v.tail)
+      (λ d. (sym count d, sym line d)) (r.tails id v at main all)
+
+-- a load of the tail
+pub end_allowed : (given k : Key) → given ≡ k → (size id : ℕ) (me : Sat) → me.0.about ≡ k
+    → Allows (Ruled given) size id me 0 (λ n. n) (ToldEnd (step size 0 0 0 none) me)
+end_allowed given k same size id me about =
+    allowed given k same size id me 0 (λ n. n) (ToldEnd (step size 0 0 0 none) me) (λ ws vs wide r at.
+    let w : World = world k ws vs in
+    let x : ℕ = get_or ws 0 0 in
+    let v' : View = after_end me.0 x in
+    let kept = end_kept k w r id me.0 at x refl refl in (
+      v',
+      loaded_words k ws (set vs id v') 0 kept,
+      record {
+        told = record { view = refl; held = refl; stands = stands k _ id v' kept about (there vs id me.0 v' at) };
+        counted = end_counted k w r id me.0 at x refl;
+        settled = end_settled k w r id me.0 at x refl;
+        rests = λ main all. end_rests k w r id me.0 at x refl refl main all;
+      },
+    ))

@@ -1,0 +1,165 @@
+-- `look_at`: a load of a directory word.
+use Rattle.std.proofs.Common.{◌≡◌, ◌≢◌, ℕ, ◌+◌, ◌-◌, ◌*◌, ◌<◌, ◌≤◌, zero, suc, set, sym, refl, ap, ◌∙◌, subst, arith}
+use Rattle.std.proofs.Common.{Some, None, Option, get_or}
+use mathlib.Core.Option.{some, none}
+use Rattle.std.proofs.Math.ListN.{get_elem?}
+use Rattle.fish_rule.proofs.basics.Bodies.{tail_is, published}
+use Rattle.fish_rule.proofs.basics.Lists.{all_among, only_main}
+use Rattle.fish_rule.proofs.classes.OtherViews.{one_view}
+use Rattle.fish_rule.proofs.classes.ChainsStay.{links_set}
+use Rattle.fish_rule.specs.Parts.{Flies}
+use Rattle.fish_rule.proofs.classes.OpensStay.{opens_looked}
+use Rattle.fish_rule.specs.Facts.{IsFound}
+use Rattle.fish_rule.specs.Regions.{code, dir_word, kind_of}
+use Rattle.fish_rule.specs.Rule.{Final, Rule}
+use Rattle.fish_rule.specs.Reading.{CanLook, IsAlone, after_look, found_after, kind_told}
+use Rattle.fish_rule.specs.Views.{AllOf, Among, IsFlightOf}
+use Rattle.fish_rule.specs.World.{World, high, low, dir_at, slots, world}
+use Rattle.fish_rule.specs.declared.view.Flight.{Flight}
+use Rattle.fish_rule.specs.declared.view.Found.{Found}
+use Rattle.fish_rule.specs.declared.view.Key.{Key}
+use Rattle.fish_rule.specs.declared.view.Kind.{Kind}
+use Rattle.fish_rule.specs.declared.view.Kind.TheVariants.{Mark, Stored, Void}
+use Rattle.fish_rule.specs.declared.view.View.{View}
+use Rattle.fish_rule.proofs.basics.RegistryWords.{endures_same}
+use Rattle.fish_rule.proofs.classes.Loads.{still_chained, learns}
+use Rattle.atomic_table.specs.Table.{Allows, step}
+use Rattle.fish_rule.proofs.basics.Regions.{few_slots}
+use Rattle.fish_rule.proofs.basics.Worlds.{area-in}
+use Rattle.fish_rule.specs.Table.{Ruled, Sat, Told}
+use Rattle.fish_rule.specs.Told.{ToldLook, number_at}
+use Rattle.fish_rule.proofs.classes.Allowed.{allowed, stands, there, loaded_words}
+
+module _ (k : Key) (w : World) (r : Rule k w) (id : ℕ) (v : View) (at : get_elem? w.views id ≡ some v) where
+  -- the kind that a published word tells is its region's
+  told : (x : ℕ) (kind : Kind) → x ≡ code kind → kind_told x ≡ kind
+  told x Stored e = subst (λ (z : ℕ). kind_told z ≡ Stored) (sym e) refl
+  told x Void e = subst (λ (z : ℕ). kind_told z ≡ Void) (sym e) refl
+  told x Mark e = subst (λ (z : ℕ). kind_told z ≡ Mark) (sym e) refl
+
+  -- the lines of a number's region
+  abbrev pub lines_at : ℕ → ℕ
+  lines_at n = r.start (suc n) - r.start n
+
+  -- a load of a directory word
+  pub look_kept : (n x : ℕ) → CanLook v n → v.about ≡ k → x ≡ w.dir n
+      → Rule k (record w { views = set w.views id (after_look v n (lines_at n) x) })
+  look_kept n x can about is =
+      let h = r.facts id v at in
+      let still = still_chained k w r id v at (after_look v n (lines_at n) x).learned v.tail v.round (after_look v n (lines_at n) x).clock in
+      learns k w r id v at (after_look v n (lines_at n) x).learned v.tail v.round
+      (after_look v n (lines_at n) x).clock (r.tails id v at) (record {
+        counted = h.counted;
+        found = each x is;
+        known = h.known;
+        records = h.records;
+        gaps = h.gaps;
+        labels = h.labels;
+      }) (opens_looked k w r id v at n x (subst (λ (z : Key). z.number ≤ n) about can.above) is) (r.floors id v at)
+      (record { nodes = still.nodes; lows = still.lows; tops = still.tops }) (r.registry.each id v at)
+    where
+      each : (x : ℕ) → x ≡ w.dir n → AllOf (IsFound k w.count w.dir r.start)
+          (found_after n (lines_at n) x v.learned.found)
+      each zero is = (r.facts id v at).found
+      each (suc x) is =
+          let counted = (r.facts id v at).counted in
+          let below : n < w.count = (let b = can.below in omega arith) in
+          let above : k.number ≤ n = subst (λ (z : Key). z.number ≤ n) about can.above in
+          let f = r.space.finished n above below (λ e. let z : suc x ≡ 0 = is ∙ e in absurd (omega arith)) in
+          let grows = r.space.regions.grows n above below in (
+            record {
+              above = above;
+              below = below;
+              kind = f.kind ∙ ap code (sym (told (high (suc x)) (kind_of k.end (r.start n) (r.start (suc n)))
+                  (ap high is ∙ f.kind)));
+              line = sym f.line ∙ ap low (sym is);
+              lines = (let e : r.start (suc n) ≡ r.start n + lines_at n = omega arith in
+                  e ∙ ap (λ (z : ℕ). z + lines_at n) (sym f.line ∙ ap low (sym is)));
+            },
+            (r.facts id v at).found,
+          )
+
+  -- and all that lasts
+  pub look_lasts : (n x : ℕ) (can : CanLook v n) (about : v.about ≡ k) (is : x ≡ w.dir n)
+      → Final k r.start (look_kept n x can about is).start r.lane_of (look_kept n x can about is).lane_of w
+      (record w { views = set w.views id (after_look v n (lines_at n) x) })
+  unfolding look_kept learns
+  look_lasts n x can about is = record {
+    counts = omega arith;
+    lines = omega arith;
+    settles = omega arith;
+    registered = endures_same k w.registry;
+    heads = λ b. omega arith;
+    links = links_set k w r id v (after_look v n (lines_at n) x) at (λ a c h. h);
+    rises = λ b p h. omega arith;
+    starts = λ m h. refl;
+    lanes = λ m h. refl;
+    dirs = λ m h e. refl;
+    bodies = λ m h e. refl;
+    below = λ p from h. refl;
+  }
+
+  -- a number that was found has the word that it had
+  pub look_known : (n : ℕ) (x : ℕ) → x ≡ w.dir n → (f : Found) → Among f v.learned.found → f.number ≡ n
+      → x ≡ dir_word f.kind f.line
+  look_known n x is f among same =
+      let found = all_among (IsFound k w.count w.dir r.start) f v.learned.found (r.facts id v at).found among in
+      let finished = r.space.finished f.number found.above found.below (published (w.dir f.number) f.kind found.kind) in
+      let line : low (w.dir f.number) ≡ f.line = finished.line ∙ found.line in
+      let parts : low (w.dir f.number) + high (w.dir f.number) * 68719476736 ≡ w.dir f.number =
+      tail_is (w.dir f.number) in
+      is ∙ ap w.dir (sym same) ∙ sym parts ∙ ap (λ (z : ℕ × ℕ). z.0 + z.1 * 68719476736) (λ i. (line i, found.kind i))
+
+  -- a pass that is alone finds every claimed number published
+  pub look_alone : (n : ℕ) → CanLook v n → v.about ≡ k → IsAlone v → w.dir n ≢ 0
+  look_alone n can about alone unset =
+      let counted = (r.facts id v at).counted in
+      let below : n < w.count = (let b = can.below in omega arith) in
+      let above : k.number ≤ n = subst (λ (z : Key). z.number ≤ n) about can.above in
+      let h = r.space.flying n above below unset in
+      let live = flier h.view.flight h.flies (r.space.flights h.seat h.view h.at) in
+      let here : h.seat ≡ id = only_main w.views id h.seat v h.view r.seats at h.at alone.main alone.all live in
+      let same : h.view ≡ v = one_view w.views id h.view v
+      (subst (λ (z : ℕ). get_elem? w.views z ≡ some h.view) here h.at) at in
+      subst (λ (z : Option Flight). IsFlightOf n z) (ap (λ (z : View). z.flight) same ∙ alone.idle) h.flies
+    where
+      flier : {lane : ℕ} (o : Option Flight) → IsFlightOf n o
+          → Flies k w.count w.dir w.log r.start r.lane_of lane o → 1 ≤ lane
+      flier None h f = elim h [ ]
+      flier (Some g) h f = f.live
+
+-- a load of a directory word
+pub look_allowed : (given k : Key) → given ≡ k → (size id : ℕ) (me : Sat) (n i : ℕ) → me.0.about ≡ k
+    → CanLook me.0 n → i ≡ dir_at k + (n - k.number)
+    → Allows (Ruled given) size id me i (λ n. n) (ToldLook (step size i 0 0 none) me)
+look_allowed given k same size id me n i about can is =
+    allowed given k same size id me i (λ n. n) (ToldLook (step size i 0 0 none) me) (λ ws vs wide r at.
+    let w : World = world k ws vs in
+    let x : ℕ = get_or ws i 0 in
+    let counted = (r.facts id me.0 at).counted in
+    let below : n < w.count = (let b = can.below in omega arith) in
+    let above : k.number ≤ n = subst (λ (z : Key). z.number ≤ n) about can.above in
+    let room = few_slots k w r in
+    let word : x ≡ w.dir n = ap (λ (z : ℕ). get_or ws z 0) is
+    ∙ sym (area-in ws (dir_at k) k.number (slots k) n above (omega arith)) in
+    let lines : ℕ = lines_at k w r id me.0 at n in
+    let v' : View = after_look me.0 n lines x in
+    let kept = look_kept k w r id me.0 at n x can about word in
+    let index : number_at me.0.about i ≡ n = ap (λ (z : Key). number_at z i) about ∙ (omega arith) in (
+      v',
+      loaded_words k ws (set vs id v') i kept,
+      record {
+        lines = lines;
+        told = subst (λ (z : ℕ). Told me (after_look me.0 z lines x) (v', me.1)) (sym index)
+            (record { view = refl; held = refl; stands = stands k _ id v' kept about (there vs id me.0 v' at) });
+        alone = λ alone none_. look_alone k w r id me.0 at n can about alone (sym word ∙ none_);
+        known = λ f among same_. look_known k w r id me.0 at n x word f among (same_ ∙ index);
+        sees = record {
+          moment = w;
+          rule = subst (λ (z : Key). Rule z w) (sym about) r;
+          seat = id;
+          at = at;
+          is = word ∙ ap w.dir (sym index);
+        };
+      },
+    ))

@@ -1,0 +1,158 @@
+-- `raise_settled`: a raise of the settled number by a pass that knows each number below published.
+use Rattle.std.proofs.Common.{◌≡◌, ◌≢◌, ℕ, ◌<◌, ◌≤◌, set, sym, refl, ◌∙◌, subst, ⊎_elim, arith}
+use Rattle.std.specs.Prelude.{max}
+use Rattle.std.proofs.Math.Decide.{dec_lt}
+use mathlib.Core.Option.{none, some}
+use Rattle.std.proofs.Math.ListN.{get_elem?}
+use Rattle.atomic_table.specs.Table.{Allows, step}
+use Rattle.fish_rule.proofs.classes.Allowed.{allowed, stands, there}
+use Rattle.fish_rule.proofs.basics.Bodies.{code_once, published}
+use Rattle.fish_rule.proofs.basics.Lists.{all_among, each_set, seats_kept}
+use Rattle.fish_rule.proofs.classes.OtherViews.{alone_kept, flight_there, may_kept, registry_set}
+use Rattle.fish_rule.proofs.classes.FactsStay.{chained_later}
+use Rattle.fish_rule.proofs.classes.ChainsStay.{chains_set, links_set}
+use Rattle.fish_rule.proofs.basics.Worlds.{world-settled}
+use Rattle.fish_rule.specs.Parts.{IsEntryWord, Settled}
+use Rattle.fish_rule.specs.Facts.{IsFound}
+use Rattle.fish_rule.specs.Rule.{Final, Rule}
+use Rattle.fish_rule.specs.Reading.{CanRaise, after_raise}
+use Rattle.fish_rule.specs.Table.{Ruled, Sat}
+use Rattle.fish_rule.specs.Told.{ToldRaise}
+use Rattle.fish_rule.specs.Views.{Among}
+use Rattle.fish_rule.specs.World.{World, world}
+use Rattle.fish_rule.specs.declared.view.Found.{Found}
+use Rattle.fish_rule.specs.declared.view.Key.{Key}
+use Rattle.fish_rule.specs.declared.view.Kind.TheVariants.{Mark}
+use Rattle.fish_rule.specs.declared.view.View.{View}
+use Rattle.fish_rule.proofs.basics.RegistryWords.{endures_same}
+
+module _ (k : Key) (w : World) (r : Rule k w) (id : ℕ) (v : View) (at : get_elem? w.views id ≡ some v)
+    (about : v.about ≡ k) (m : ℕ) (can : CanRaise v m) where
+  -- the view afterwards
+  abbrev pub raiser : View
+  raiser = after_raise v m w.settled
+
+  -- the world afterwards
+  abbrev pub raised : World
+  raised = record w { settled = max w.settled m; views = set w.views id raiser }
+
+  -- nothing that lasts has changed
+  pub raise_final : Final k r.start r.start r.lane_of r.lane_of w raised
+  raise_final = record {
+    counts = omega arith;
+    lines = omega arith;
+    settles = omega arith;
+    registered = endures_same k w.registry;
+    heads = λ b. omega arith;
+    links = links_set k w r id v (raiser) at (λ a c h. h);
+    rises = λ b p h. omega arith;
+    starts = λ n h. refl;
+    lanes = λ n h. refl;
+    dirs = λ n h e. refl;
+    bodies = λ n h e. refl;
+    below = λ p from h. refl;
+  }
+
+  -- every number below is published, and no mark
+  settling : Settled k w.count (max w.settled m) w.dir
+  settling = record {
+    from = (let a = r.settling.from in omega arith);
+    within = (let a = r.settling.within in let b = can.within in let c = (r.facts id v at).counted in omega arith);
+    below = λ n above less. pick n above less (dec_lt n w.settled);
+  }
+    where
+      found_word : (n : ℕ) → (f : Found) → Among f v.learned.found → f.number ≡ n → f.kind ≢ Mark
+          → IsEntryWord (w.dir n)
+      found_word n f among is ne =
+          let found = all_among (IsFound k w.count w.dir r.start) f v.learned.found (r.facts id v at).found among in
+          subst (λ (z : ℕ). IsEntryWord (w.dir z)) is
+          (record {
+            published = published (w.dir f.number) f.kind found.kind;
+            unmarked = λ e. ne (code_once f.kind Mark (sym found.kind ∙ e));
+          })
+
+      pick : (n : ℕ) → k.number ≤ n → n < max w.settled m → Dec (n < w.settled) → IsEntryWord (w.dir n)
+      pick n above less (yes before) = r.settling.below n above before
+      pick n above less (no behind) = ⊎_elim
+          (λ (h : n < v.learned.settled). let floor = r.floors id v at in absurd (omega arith))
+          (λ (h : (f : Found) × Among f v.learned.found × (f.number ≡ n)
+          × (f.kind ≢ Mark)). found_word n h.0 h.1 h.2 h.3)
+          (can.known n (subst (λ (z : Key). z.number ≤ n) (sym about) above) (omega arith))
+
+  -- a raise keeps the rule
+  pub raise_kept : Rule k raised
+  raise_kept = record {
+    start = r.start;
+    lane_of = r.lane_of;
+    version_of = r.version_of;
+    quota = r.quota;
+    state = r.state;
+    key_fits = r.key_fits;
+    about = each_set _ w.views id raiser (λ j u ne at_u. r.about j u at_u) (r.about id v at);
+    seats = seats_kept w.views id v raiser at refl refl r.seats;
+    tails = each_set _ w.views id raiser (λ j u ne at_u. r.tails j u at_u) (r.tails id v at);
+    space = record {
+      regions = r.space.regions;
+      finished = r.space.finished;
+      flying = λ n above below unset. flight_there w.views id v raiser at n (λ h. h)
+          (r.space.flying n above below unset);
+      flights = each_set _ w.views id raiser (λ j u ne at_u. r.space.flights j u at_u) (r.space.flights id v at);
+      alone = alone_kept w.views id v raiser at (λ n h. h) r.space.alone;
+      dir_below = r.space.dir_below;
+      dir_beyond = r.space.dir_beyond;
+      log_beyond = r.space.log_beyond;
+    };
+    limit = record {
+      first = r.limit.first;
+      above = r.limit.above;
+      within = r.limit.within;
+      fits = r.limit.fits;
+      past = r.limit.past;
+      few = r.limit.few;
+      may = may_kept w.views id v raiser at k.end r.quota refl refl (λ h. h) r.limit.may;
+    };
+    settling = settling;
+    chains = chains_set k w r id v raiser at (λ a c h. h) (λ a c h. h);
+    chained = each_set _ w.views id raiser
+        (λ j u ne at_u. chained_later k w raised r.start r.start r.lane_of r.lane_of raise_final u.learned
+        (r.chained j u at_u)) (let h =
+        chained_later k w raised r.start r.start r.lane_of r.lane_of raise_final v.learned
+        (r.chained id v at) in record { nodes = h.nodes; lows = h.lows; tops = h.tops });
+    floors = each_set _ w.views id raiser (λ j u ne at_u. let a = r.floors j u at_u in omega arith) (omega arith);
+    own = each_set _ w.views id raiser (λ j u ne at_u. r.own j u at_u) (r.own id v at);
+    facts = each_set _ w.views id raiser (λ j u ne at_u. r.facts j u at_u)
+        (let h = r.facts id v at in record {
+          counted = h.counted;
+          found = h.found;
+          known = h.known;
+          records = h.records;
+          gaps = h.gaps;
+          labels = h.labels;
+        });
+    registry = registry_set k w.count w.registry r.state r.version_of w.views id raiser r.registry
+        (r.registry.each id v at) (r.registry.flights id v at);
+    keyed = r.keyed;
+    shuts = each_set _ w.views id raiser (λ j u ne at_u. r.shuts j u at_u) (r.shuts id v at);
+    opens = each_set _ w.views id raiser (λ j u ne at_u. r.opens j u at_u) (r.opens id v at);
+  }
+
+  -- and all that lasts
+  pub raise_lasts : Final k r.start raise_kept.start r.lane_of raise_kept.lane_of w raised
+  unfolding raise_kept
+  raise_lasts = raise_final
+
+-- a fetch-max on it
+pub raise_allowed : (given k : Key) → given ≡ k → (size id : ℕ) (me : Sat) (m : ℕ) → me.0.about ≡ k
+    → CanRaise me.0 m → Allows (Ruled given) size id me 1 (λ n. max n m) (ToldRaise (step size 1 m 0 none) me)
+raise_allowed given k same size id me m about can =
+    allowed given k same size id me 1 (λ n. max n m) (ToldRaise (step size 1 m 0 none) me) (λ ws vs wide r at.
+    let w : World = world k ws vs in
+    let v' : View = after_raise me.0 m w.settled in
+    let kept = raise_kept k w r id me.0 at about m can in (
+      v',
+      subst (Rule k) (sym (world-settled k ws vs (set vs id v') (max w.settled m) (omega arith))) kept,
+      record {
+        told = record { view = refl; held = refl; stands = stands k _ id v' kept about (there vs id me.0 v' at) };
+        rises = r.floors id me.0 at;
+      },
+    ))

@@ -1,0 +1,102 @@
+-- `read_word`: a load of a word of a published region.
+use Rattle.std.proofs.Common.{◌≡◌, ℕ, ◌+◌, ◌-◌, ◌*◌, suc, get_or, set, sym, refl, ap, ◌∙◌, subst, arith}
+use mathlib.Core.Option.{none, some}
+use Rattle.std.proofs.Math.ListN.{get_elem?}
+use Rattle.atomic_table.specs.Table.{Allows, step}
+use Rattle.fish_rule.proofs.classes.Allowed.{allowed, loaded_words, stands, there}
+use Rattle.fish_rule.proofs.basics.Bodies.{kind-inside}
+use Rattle.fish_rule.proofs.basics.Regions.{starts_above}
+use Rattle.fish_rule.proofs.basics.Lists.{all_among}
+use Rattle.fish_rule.proofs.classes.Loads.{learns, still_chained}
+use Rattle.fish_rule.proofs.classes.ChainsStay.{links_set}
+use Rattle.fish_rule.proofs.basics.Worlds.{area-in}
+use Rattle.fish_rule.specs.Facts.{Facts, IsFound}
+use Rattle.fish_rule.specs.Rule.{Final, Rule}
+use Rattle.fish_rule.specs.Reading.{CanRead, after_read}
+use Rattle.fish_rule.specs.Table.{Ruled, Sat, Told}
+use Rattle.fish_rule.specs.Told.{place_at, told_read}
+use Rattle.fish_rule.specs.World.{World, log_at, log_size, world}
+use Rattle.fish_rule.specs.declared.view.Found.{Found}
+use Rattle.fish_rule.specs.declared.view.Key.{Key}
+use Rattle.fish_rule.specs.declared.view.View.{View}
+use Rattle.fish_rule.proofs.basics.RegistryWords.{endures_same}
+use Rattle.fish_rule.proofs.basics.FoundRegions.{region_found, read_word_is}
+
+module _ (k : Key) (w : World) (r : Rule k w) (id : ℕ) (v : View) (at : get_elem? w.views id ≡ some v)
+    (x : Found) (o : ℕ) (can : CanRead v x o) where
+  -- the place of the word
+  abbrev pub read_place : ℕ
+  read_place = x.line * 4 + o
+
+  -- the view that has read it
+  abbrev pub reader : View
+  reader = after_read v read_place (w.log read_place)
+
+  -- what it knows holds
+  read_facts : Facts k w.count w.dir w.log r.start reader.learned
+  read_facts = (let h = r.facts id v at in
+      record {
+        counted = h.counted;
+        found = h.found;
+        known = (read_word_is k w r v x o h can, h.known);
+        records = h.records;
+        gaps = h.gaps;
+        labels = h.labels;
+      })
+
+  -- a read keeps the rule
+  pub read_kept : Rule k (record w { views = set w.views id reader })
+  read_kept = learns k w r id v at reader.learned v.tail v.round reader.clock (r.tails id v at) read_facts
+      (r.opens id v at) (r.floors id v at)
+      (let still = still_chained k w r id v at reader.learned v.tail v.round reader.clock in
+      record { nodes = still.nodes; lows = still.lows; tops = still.tops }) (r.registry.each id v at)
+
+  -- and all that lasts
+  pub read_lasts : Final k r.start read_kept.start r.lane_of read_kept.lane_of w
+      (record w { views = set w.views id reader })
+  unfolding read_kept learns
+  read_lasts = record {
+    counts = omega arith;
+    lines = omega arith;
+    settles = omega arith;
+    registered = endures_same k w.registry;
+    heads = λ b. omega arith;
+    links = links_set k w r id v (reader) at (λ a c h. h);
+    rises = λ b p h. omega arith;
+    starts = λ n h. refl;
+    lanes = λ n h. refl;
+    dirs = λ n h e. refl;
+    bodies = λ n h e. refl;
+    below = λ p from h. refl;
+  }
+
+-- a load of a word of a published region
+pub read_allowed : (given k : Key) → given ≡ k → (size id : ℕ) (me : Sat) (x : Found) (o i : ℕ)
+    → me.0.about ≡ k → CanRead me.0 x o → i ≡ log_at k + (x.line * 4 + o - k.line * 4)
+    → Allows (Ruled given) size id me i (λ n. n) (told_read (step size i 0 0 none) me)
+read_allowed given k same size id me x o i about can is =
+    allowed given k same size id me i (λ n. n) (told_read (step size i 0 0 none) me) (λ ws vs wide r at.
+    let w : World = world k ws vs in
+    let word : ℕ = get_or ws i 0 in
+    let facts = r.facts id me.0 at in
+    let found = all_among (IsFound k w.count w.dir r.start) x me.0.learned.found facts.found can.found in
+    let p : ℕ = x.line * 4 + o in
+    let line = found.line in
+    let lines = found.lines in
+    let inside = can.inside in
+    let from = starts_above k w.count w.line r.start r.space.regions x.number found.above
+    (let b = found.below in omega arith) in
+    let t = region_found k w r x found in
+    let end = kind-inside k.end (r.start x.number) (r.start (suc x.number)) (λ e. can.words (sym t.1 ∙ e)) in
+    let here : word ≡ w.log p = ap (λ (z : ℕ). get_or ws z 0) is
+    ∙ sym (area-in ws (log_at k) (k.line * 4) (log_size k) p (omega arith) (omega arith)) in
+    let v' : View = after_read me.0 p word in
+    let kept : Rule k (record w { views = set vs id v' }) =
+    subst (λ (z : ℕ). Rule k (record w { views = set vs id (after_read me.0 p z) })) (sym here)
+    (read_kept k w r id me.0 at x o can) in
+    let index : place_at me.0.about i ≡ p = ap (λ (z : Key). place_at z i) about ∙ (omega arith) in (
+      v',
+      loaded_words k ws (set vs id v') i kept,
+      subst (λ (z : ℕ). Told me (after_read me.0 z word) (v', me.1)) (sym index)
+          (record { view = refl; held = refl; stands = stands k _ id v' kept about (there vs id me.0 v' at) }),
+    ))

@@ -1,0 +1,77 @@
+-- `store_from`: the control pass stores where the index of the row that waits begins.
+use Rattle.std.proofs.Common.{◌≡◌, ℕ, ◌<◌, ◌≤◌, suc, length, set, subst, arith, None, ◌-◌, sym, refl}
+use mathlib.Core.Option.{some, none}
+use Rattle.std.proofs.Math.ListN.{get_elem?}
+use Rattle.fish_rule.proofs.classes.MainStores.{stores}
+use Rattle.fish_rule.proofs.basics.RegistryWords.{length_grows}
+use Rattle.fish_rule.specs.Boundaries.{Lists}
+use Rattle.fish_rule.specs.Bounding.{CanSetFrom, after_from}
+use Rattle.fish_rule.specs.Registry.{definitions_at, row_at, version_in}
+use Rattle.fish_rule.specs.Rounds.{IsRound, IsSince, Waits}
+use Rattle.fish_rule.specs.Rule.{Final, Rule}
+use Rattle.fish_rule.specs.World.{World, put, world}
+use Rattle.fish_rule.specs.declared.view.Epoch.{Epoch}
+use Rattle.fish_rule.specs.declared.view.Epoch.TheVariants.{Announced, Confirmed, Out}
+use Rattle.fish_rule.specs.declared.view.Key.{Key}
+use Rattle.fish_rule.specs.declared.view.Round.{Round}
+use Rattle.fish_rule.specs.declared.view.View.{View}
+use Rattle.fish_rule.proofs.classes.BoundaryStores.{place_far, place_away, set_boundaries}
+use Rattle.atomic_table.specs.Table.{Allows, step}
+use Rattle.fish_rule.proofs.classes.Allowed.{allowed, stands, there}
+use Rattle.fish_rule.proofs.basics.Worlds.{world-registry}
+use Rattle.fish_rule.specs.Table.{Ruled, Sat, Told}
+use Rattle.fish_rule.specs.Told.{told_from}
+
+module _ (k : Key) (w : World) (r : Rule k w) (id : ℕ) (v : View) (at : get_elem? w.views id ≡ some v) where
+  module _ (o : Round) (n : ℕ) (can : CanSetFrom v o n) where
+    waiting : IsRound k w.count w.registry r.state r.version_of v.lane o
+    waiting = subst (Waits k w.count w.registry r.state r.version_of v.lane) can.waits (r.registry.each id v at).waits
+
+    -- a version from the registration's on has the definition
+    has_it : (u : ℕ) → o.version ≤ u → o.id < length (definitions_at k w.registry u)
+    has_it u more = (let h = waiting.listed in let grows = length_grows k w.registry o.version u more in omega arith)
+
+    -- a lane that is confirmed at no older version lists it
+    lists_it : (e : Epoch) → IsSince o.version e → Lists k w.registry o.id e
+    lists_it Out h = tt
+    lists_it (Announced u) h = tt
+    lists_it (Confirmed u) h = has_it u h
+
+    -- to set where an index begins keeps the rule, and all that lasts
+    pub from_lasts : (s : Rule k (record w {
+      registry = put w.registry (row_at o.id 0) (suc n);
+      views = set w.views id (after_from v o n);
+    })) × Final k r.start s.start r.lane_of s.lane_of w (record w {
+      registry = put w.registry (row_at o.id 0) (suc n);
+      views = set w.views id (after_from v o n);
+    })
+    from_lasts =
+        let h = waiting in
+        let b = h.bound n can.bound in
+        stores k w r id v at can.main (row_at o.id 0) (suc n)
+        (place_far k w r id v at can.main o.id 0 n h.few (omega arith) h.unset)
+        (place_away k w r id v at can.main o.id 0 n h.few (omega arith) h.unset) None
+        (set_boundaries k w r id v at can.main o.id 0 n h.few (omega arith) h.unset b.within
+        (has_it (version_in w.registry) h.reached) (λ e. absurd (omega arith))
+        (λ e l above below. lists_it (r.state l) (h.clear l above below (b.all l above below)))
+        (λ e m above after below. has_it (r.version_of m) (b.since m above after below)) (λ e. absurd (omega arith))) tt
+
+-- a store of where an index begins
+pub from_allowed : (given k : Key) → given ≡ k → (size id : ℕ) (me : Sat) (o : Round) (n i x : ℕ) → me.0.about ≡ k
+    → CanSetFrom me.0 o n → o.id < 256 → i ≡ row_at o.id 0 → x ≡ suc n
+    → Allows (Ruled given) size id me i (λ _. x) (λ _. told_from (step size i x 0 none) me x)
+from_allowed given k same size id me o n i x about can few is value =
+    allowed given k same size id me i (λ _. x) (λ _. told_from (step size i x 0 none) me x) (λ ws vs wide r at.
+    let w : World = world k ws vs in
+    let v' : View = after_from me.0 o n in
+    let kept : Rule k (record w { registry = put w.registry i x; views = set vs id v' }) =
+    subst (λ (z : ℕ × ℕ). Rule k (record w { registry = put w.registry z.0 z.1; views = set vs id v' }))
+    (λ j. (sym is j, sym value j)) (from_lasts k w r id me.0 at o n can).0 in
+    let moved = world-registry k ws vs (set vs id v') i x (omega arith) (omega arith) wide in
+    let back : x - 1 ≡ n = omega arith in (
+      v',
+      subst (Rule k) (sym moved) kept,
+      subst (λ (z : ℕ × ℕ). Told me (Rattle.fish_rule.specs.Bounding.after_store_boundary me.0 z.0 z.1 None) (v', me.1))
+          (λ j. (sym is j, sym back j))
+          (record { view = refl; held = refl; stands = stands k _ id v' kept about (there vs id me.0 v' at) }),
+    ))
