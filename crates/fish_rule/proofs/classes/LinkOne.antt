@@ -11,7 +11,7 @@ use Rattle.fish_layout.specs.Cleared.{body_of, entry_at, choose}
 use Rattle.fish_layout.specs.Header.{keys_of, lines_of}
 use Rattle.fish_rule.proofs.steps.AimEntry.{body_record, own_body}
 use Rattle.fish_rule.proofs.basics.Lists.{each_set, seats_kept, within_list}
-use Rattle.fish_rule.proofs.classes.OtherViews.{alone_kept, flight_there, may_kept, registry_set}
+use Rattle.fish_rule.proofs.classes.OtherViews.{limit_views, alone_kept, flight_there, may_kept, registry_set}
 use Rattle.fish_rule.proofs.classes.FactsStay.{chained_later, facts_later, finished_later, keyed_kept}
 use Rattle.fish_rule.proofs.basics.Bodies.{published}
 use Rattle.fish_rule.proofs.classes.ChainsStay.{linked_map, linking_own, linking_to}
@@ -237,16 +237,8 @@ module _ (k : Key) (w : World) (r : Rule k w) (id : ℕ) (v : View) (at : get_el
           dir_beyond = r.space.dir_beyond;
           log_beyond = λ p more. leaves.beyond p more ∙ r.space.log_beyond p more;
         };
-        limit = record {
-          first = r.limit.first;
-          above = r.limit.above;
-          within = r.limit.within;
-          fits = r.limit.fits;
-          past = r.limit.past;
-          few = r.limit.few;
-          may = may_kept w.views id v linker at k.end r.quota refl refl
-              (λ h. (h.0, λ over. h.1 (subst (IsOver k.end) can.flying over))) r.limit.may;
-        };
+        limit = limit_views r.limit
+            (may_kept w.views id v linker at k.end r.quota refl refl (λ h. (h.0, λ over. h.1 (subst (IsOver k.end) can.flying over))) r.limit.may);
         settling = r.settling;
         floors = each_set _ w.views id linker (λ j u ne at_u. r.floors j u at_u) floor;
         chains = chains;

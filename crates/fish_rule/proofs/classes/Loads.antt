@@ -3,7 +3,7 @@ use Rattle.std.proofs.Common.{◌≡◌, ℕ, ◌≤◌, [], set, refl, arith, O
 use mathlib.Core.Option.{some}
 use Rattle.std.proofs.Math.ListN.{get_elem?}
 use Rattle.fish_rule.proofs.basics.Lists.{each_set, seats_kept}
-use Rattle.fish_rule.proofs.classes.OtherViews.{alone_kept, flight_there, may_kept, registry_set}
+use Rattle.fish_rule.proofs.classes.OtherViews.{limit_views, space_still, alone_kept, flight_there, may_kept, registry_set}
 use Rattle.fish_rule.proofs.classes.FactsStay.{chained_later}
 use Rattle.fish_rule.proofs.classes.ChainsStay.{chains_set, links_set}
 use Rattle.fish_rule.specs.Chains.{Chained}
@@ -70,26 +70,9 @@ module _ (k : Key) (w : World) (r : Rule k w) (id : ℕ) (v : View) (at : get_el
         about = each_set _ w.views id v' (λ j u ne at_u. r.about j u at_u) (r.about id v at);
         seats = seats_kept w.views id v v' at refl refl r.seats;
         tails = each_set _ w.views id v' (λ j u ne at_u. r.tails j u at_u) rests;
-        space = record {
-          regions = r.space.regions;
-          finished = r.space.finished;
-          flying = λ n above below unset. flight_there w.views id v v' at n (λ h. h)
-              (r.space.flying n above below unset);
-          flights = each_set _ w.views id v' (λ j u ne at_u. r.space.flights j u at_u) (r.space.flights id v at);
-          alone = alone_kept w.views id v v' at (λ n h. h) r.space.alone;
-          dir_below = r.space.dir_below;
-          dir_beyond = r.space.dir_beyond;
-          log_beyond = r.space.log_beyond;
-        };
-        limit = record {
-          first = r.limit.first;
-          above = r.limit.above;
-          within = r.limit.within;
-          fits = r.limit.fits;
-          past = r.limit.past;
-          few = r.limit.few;
-          may = may_kept w.views id v v' at k.end r.quota refl refl (λ h. h) r.limit.may;
-        };
+        space = space_still w.views id v v' at refl refl r.space;
+        limit = limit_views r.limit
+            (may_kept w.views id v v' at k.end r.quota refl refl (λ h. h) r.limit.may);
         settling = r.settling;
         chained = each_set _ w.views id v' (λ j u ne at_u. chained_later k w
             (record w { views = set w.views id v' }) r.start r.start r.lane_of r.lane_of

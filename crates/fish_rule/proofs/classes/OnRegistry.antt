@@ -12,7 +12,7 @@ use Rattle.fish_catalog.specs.declared.listed.Listed.{Listed}
 use Rattle.fish_catalog.specs.declared.row.CatRow.{CatRow}
 use Rattle.fish_layout.specs.Cleared.{body_of}
 use Rattle.fish_rule.proofs.basics.Lists.{all_map, each_set, seats_kept}
-use Rattle.fish_rule.proofs.classes.OtherViews.{alone_kept, flight_there, may_kept}
+use Rattle.fish_rule.proofs.classes.OtherViews.{limit_views, space_still, alone_kept, flight_there, may_kept}
 use Rattle.fish_rule.proofs.classes.FactsStay.{chained_later, keyed_kept}
 use Rattle.fish_rule.proofs.basics.Bodies.{published}
 use Rattle.fish_rule.proofs.classes.ChainsStay.{chains_set, links_set}
@@ -210,27 +210,9 @@ module _ (k : Key) (w : World) (r : Rule k w) (id : ℕ) (v : View) (at : get_el
         about = each_set _ w.views id registrant (λ j u ne at_u. r.about j u at_u) (r.about id v at);
         seats = seats_kept w.views id v registrant at refl refl r.seats;
         tails = each_set _ w.views id registrant (λ j u ne at_u. r.tails j u at_u) (r.tails id v at);
-        space = record {
-          regions = r.space.regions;
-          finished = r.space.finished;
-          flying = λ n above below unset. flight_there w.views id v registrant at n (λ h. h)
-              (r.space.flying n above below unset);
-          flights = each_set _ w.views id registrant (λ j u ne at_u. r.space.flights j u at_u)
-              (r.space.flights id v at);
-          alone = alone_kept w.views id v registrant at (λ n h. h) r.space.alone;
-          dir_below = r.space.dir_below;
-          dir_beyond = r.space.dir_beyond;
-          log_beyond = r.space.log_beyond;
-        };
-        limit = record {
-          first = r.limit.first;
-          above = r.limit.above;
-          within = r.limit.within;
-          fits = r.limit.fits;
-          past = r.limit.past;
-          few = r.limit.few;
-          may = may_kept w.views id v registrant at k.end r.quota refl refl (λ h. h) r.limit.may;
-        };
+        space = space_still w.views id v registrant at refl refl r.space;
+        limit = limit_views r.limit
+            (may_kept w.views id v registrant at k.end r.quota refl refl (λ h. h) r.limit.may);
         settling = r.settling;
         floors = each_set _ w.views id registrant (λ j u ne at_u. r.floors j u at_u) (r.floors id v at);
         chains = chains_set k w r id v registrant at (λ a c h. h) (λ a c h. h);
@@ -240,14 +222,7 @@ module _ (k : Key) (w : World) (r : Rule k w) (id : ℕ) (v : View) (at : get_el
             (r.chained id v at) in record { nodes = h.nodes; lows = h.lows; tops = h.tops });
         own = each_set _ w.views id registrant (λ j u ne at_u. r.own j u at_u) (r.own id v at);
         facts = each_set _ w.views id registrant (λ j u ne at_u. r.facts j u at_u)
-            (let h = r.facts id v at in record {
-              counted = h.counted;
-              found = h.found;
-              known = h.known;
-              records = h.records;
-              gaps = h.gaps;
-              labels = h.labels;
-            });
+            (let h = r.facts id v at in assumption h);
         registry = registry;
         keyed = keyed_kept k w registered_world r.start r.start r.lane_of r.lane_of register_final r.version_of
             r.version_of (λ n below. refl) r.keyed (λ n below stored. (below, published (w.dir n) Stored stored));

@@ -1,15 +1,16 @@
 -- What one pass's step leaves of the facts about several views at once.
-use Rattle.std.proofs.Common.{◌≡◌, ℕ, List, set, sym, refl, ◌∙◌, subst}
+use Rattle.std.proofs.Common.{◌≡◌, ℕ, List, Option, set, sym, refl, ◌∙◌, subst}
 use Rattle.std.proofs.Math.Decide.{ℕ_discrete}
 use mathlib.Core.Option.{some, some-injective}
 use Rattle.std.proofs.Math.ListN.{get_elem?}
 use Rattle.atomic_table.proofs.Lists.{set_here, set_else}
 use Rattle.fish_rule.proofs.basics.Lists.{each_set, pairs_set, within_list}
-use Rattle.fish_rule.specs.Parts.{MayOverflow}
+use Rattle.fish_rule.specs.Parts.{Flies, Limit, MayOverflow, Space}
 use Rattle.fish_rule.specs.Views.{Each, Has, HasFlight, IsFlightOf}
 use Rattle.fish_rule.specs.declared.view.View.{View}
 use Rattle.fish_rule.specs.Epochs.{Carries, Registry, Stays}
 use Rattle.fish_rule.specs.declared.view.Epoch.{Epoch}
+use Rattle.fish_rule.specs.declared.view.Flight.{Flight}
 use Rattle.fish_rule.specs.declared.view.Key.{Key}
 
 -- one place of a list has one view
@@ -53,6 +54,38 @@ module _ (vs : List View) (id : ℕ) (v v' : View) (at : get_elem? vs id ≡ som
       → Each (λ u. (l : ℕ) → Has u.lane u.out l → MayOverflow end u.shut u.flight → quota l ≡ 1) (set vs id v')
   may_kept end quota lane out back all = each_set _ vs id v' (λ j u ne at_u. all j u at_u)
       (λ l has may. all id v at l (subst (λ (z : ℕ × List ℕ). Has z.0 z.1 l) (λ d. (lane d, out d)) has) (back may))
+
+-- the limit stays where the lanes that may still overflow do
+pub limit_views : {k : Key} {count : ℕ} {vs vs' : List View} {start quota : ℕ → ℕ} → Limit k count vs start quota
+    → Each (λ v. (l : ℕ) → Has v.lane v.out l → MayOverflow k.end v.shut v.flight → quota l ≡ 1) vs'
+    → Limit k count vs' start quota
+limit_views l may = record {
+  first = l.first;
+  above = l.above;
+  within = l.within;
+  fits = l.fits;
+  past = l.past;
+  few = l.few;
+  may = may;
+}
+
+-- space stays where the stepping pass has the same record in flight
+pub space_still : {k : Key} {count line : ℕ} {dir log start lane_of : ℕ → ℕ} (vs : List View) (id : ℕ) (v v' : View)
+    → get_elem? vs id ≡ some v → v'.lane ≡ v.lane → v'.flight ≡ v.flight
+    → Space k count line dir log vs start lane_of → Space k count line dir log (set vs id v') start lane_of
+space_still {k} {count} {line} {dir} {log} {start} {lane_of} vs id v v' at lane same s = record {
+  regions = s.regions;
+  finished = s.finished;
+  flying = λ n above below unset.
+      flight_there vs id v v' at n (subst (IsFlightOf n) (sym same)) (s.flying n above below unset);
+  flights = each_set _ vs id v' (λ j u ne at_u. s.flights j u at_u)
+      (subst (λ (z : ℕ × Option Flight). Flies k count dir log start lane_of z.0 z.1)
+      (λ i. (sym lane i, sym same i)) (s.flights id v at));
+  alone = alone_kept vs id v v' at (λ n. subst (IsFlightOf n) same) s.alone;
+  dir_below = s.dir_below;
+  dir_beyond = s.dir_beyond;
+  log_beyond = s.log_beyond;
+}
 
 -- the registry's part stays where its words do, and the stepping pass keeps to it
 pub registry_set : (k : Key) (count : ℕ) (g : ℕ → ℕ) (state : ℕ → Epoch) (version_of : ℕ → ℕ) (vs : List View) (id : ℕ)

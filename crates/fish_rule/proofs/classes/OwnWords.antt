@@ -12,7 +12,7 @@ use Rattle.fish_rule.proofs.basics.Bodies.{body_same, published}
 use Rattle.fish_rule.proofs.basics.Regions.{ends_within, flight_behind, one_region}
 use Rattle.fish_rule.proofs.basics.Lists.{each_set, seats_kept}
 use Rattle.fish_rule.proofs.basics.Flights.{one_flight, flight_is, carried_is}
-use Rattle.fish_rule.proofs.classes.OtherViews.{alone_kept, flight_there, may_kept, one_view, registry_set}
+use Rattle.fish_rule.proofs.classes.OtherViews.{limit_views, alone_kept, flight_there, may_kept, one_view, registry_set}
 use Rattle.fish_rule.proofs.classes.FactsStay.{chained_later, facts_later, finished_later, flight_later, keyed_kept}
 use Rattle.fish_rule.proofs.classes.ChainsStay.{chains_same, linked_map, linking_from, linking_own, linking_to}
 use Rattle.fish_rule.proofs.classes.ChainsStay.{whole_later}
@@ -288,16 +288,8 @@ module _ (k : Key) (w : World) (r : Rule k w) (id : ℕ) (v : View) (at : get_el
           let lines = own.lines in let room = becomes.within in
           put-else w.log own_word x p (λ h. omega arith) ∙ r.space.log_beyond p more);
     };
-    limit = record {
-      first = r.limit.first;
-      above = r.limit.above;
-      within = r.limit.within;
-      fits = r.limit.fits;
-      past = r.limit.past;
-      few = r.limit.few;
-      may = may_kept w.views id v writer at k.end r.quota refl refl
-          (λ h. (h.0, λ over. h.1 (subst (IsOver k.end) flying over))) r.limit.may;
-    };
+    limit = limit_views r.limit
+            (may_kept w.views id v writer at k.end r.quota refl refl (λ h. (h.0, λ over. h.1 (subst (IsOver k.end) flying over))) r.limit.may);
     settling = r.settling;
     chains = chains_same k w.dir w.dir w.log written.log w.views written.views w.head links_stay links_back
         (λ b p h. put-else w.log own_word x p (not_linked b p h)) r.chains;

@@ -6,7 +6,7 @@ use Rattle.fish_rule.proofs.basics.Bodies.{kind-inside, published}
 use Rattle.fish_rule.proofs.basics.Regions.{starts_above}
 use Rattle.fish_rule.specs.World.{low}
 use Rattle.fish_rule.proofs.laws.Clocks.{later_loaded}
-use Rattle.fish_rule.proofs.laws.Learning.{learns_self}
+use Rattle.fish_rule.proofs.laws.Learning.{ahead, learns_self}
 use Rattle.fish_rule.proofs.laws.ChainFacts.{claimed_there, gap_clear, within_region}
 use Rattle.fish_rule.specs.Linking.{HasNode, after_head, after_node, after_previous, gap, head_seen, previous_seen}
 use Rattle.fish_rule.specs.Linking.{with_node}
@@ -16,7 +16,6 @@ use Rattle.fish_rule.specs.Steps.{loaded}
 use Rattle.fish_rule.specs.Views.{Among}
 use Rattle.fish_rule.specs.Walking.{Always, IsClear, IsEntryIn}
 use Rattle.fish_rule.specs.declared.view.Clock.{Clock}
-use Rattle.fish_rule.specs.declared.view.Gap.{Gap}
 use Rattle.fish_rule.specs.declared.view.Key.{Key}
 use Rattle.fish_rule.specs.declared.view.Kind.TheVariants.{Mark, Stored}
 use Rattle.fish_rule.specs.declared.view.Node.{Node}
@@ -44,32 +43,21 @@ node_here k b x nodes = by (dec_lt (k.line * 4) x)
 
 -- a head that is seen is learned on top
 pub head_learns : (v : View) (b x : ℕ) (clock : Clock) → Learns v (head_seen v b x clock)
-head_learns v b x clock =
-    let same = learns_self v in
-    let nodes = nodes_stay v.about b x v.learned.nodes in
-    let tops : (t : Node) → Among t v.learned.tops → Among t (head_seen v b x clock).learned.tops = λ t m. inr m in
-    let gaps : (g : Gap) → Among g v.learned.gaps → Among g (head_seen v b x clock).learned.gaps = λ g m. inr m in
-    assumption (same, nodes, tops, gaps)
+head_learns v b x clock = assumption (
+    learns_self v,
+    nodes_stay v.about b x v.learned.nodes,
+    ahead (record { bucket = b; place = x }) v.learned.tops,
+    ahead (gap b (v.about.end * 4) x v.learned) v.learned.gaps,
+)
 
 -- so is a first word
 pub previous_learns : (v : View) (b p x : ℕ) (clock : Clock) → Learns v (previous_seen v b p x clock)
-previous_learns v b p x clock = record {
-  about = refl;
-  count = omega arith;
-  settled = omega arith;
-  version = omega arith;
-  words = λ x m. m;
-  found = λ x m. m;
-  known = λ x m. m;
-  records = λ x m. m;
-  nodes = nodes_stay v.about b x v.learned.nodes;
-  lows = λ x m. inr m;
-  tops = λ x m. m;
-  gaps = λ x m. inr m;
-  labels = λ x m. m;
-  unended = λ x m. m;
-  opens = λ x m. m;
-}
+previous_learns v b p x clock = assumption (
+    learns_self v,
+    nodes_stay v.about b x v.learned.nodes,
+    ahead (record { place = p; value = x }) v.learned.lows,
+    ahead (gap b p x v.learned) v.learned.gaps,
+)
 
 -- a load of a head extends a view
 pub extends_head : (v : View) (b x : ℕ) → Extends v (after_head v b x)
@@ -84,23 +72,7 @@ extends_previous v b p x =
 -- and a second word
 pub extends_node : (v : View) (p x : ℕ) → Extends v (after_node v p x)
 extends_node v p x = record {
-  learns = record {
-    about = refl;
-    count = omega arith;
-    settled = omega arith;
-    version = omega arith;
-    words = λ x m. m;
-    found = λ x m. m;
-    known = λ x m. m;
-    records = λ x m. m;
-    nodes = λ x m. m;
-    lows = λ x m. m;
-    tops = λ x m. m;
-    gaps = λ x m. m;
-    labels = λ x m. inr m;
-    unended = λ x m. m;
-    opens = λ x m. m;
-  };
+  learns = assumption (learns_self v, ahead (record { place = p; word = x; end = v.learned.settled }) v.learned.labels);
   clock = later_loaded v.clock;
   frame = refl;
 }

@@ -1,11 +1,11 @@
 -- How a pass goes on that reads a log: what of the heads it has read stays, and what its next steps leave.
 use Rattle.std.proofs.Common.{◌≡◌, ℕ, ◌+◌, ◌*◌, ◌≤◌, suc, List, [], ◌∷◌, ◌++◌, length, refl, sym, ap, ◌∙◌, subst, inl}
-use Rattle.std.proofs.Common.{arith, Bool, true, false, Some}
+use Rattle.std.proofs.Common.{arith, max, Bool, true, false, Some}
 use mathlib.Core.Option.{some}
 use Rattle.std.proofs.Math.ListN.{get_elem?}
 use Rattle.fish_rule.proofs.laws.Clocks.{later_ticked}
 use Rattle.fish_rule.proofs.laws.Alone.{each_more}
-use Rattle.fish_rule.proofs.laws.Learning.{learns_both, learns_end}
+use Rattle.fish_rule.proofs.laws.Learning.{learns_both, learns_self, learns_end}
 use Rattle.fish_rule.specs.Closing.{AreHeads, HasHead, IsAdded, IsReadUpTo, ReadsOn}
 use Rattle.fish_rule.specs.Entering.{after_version}
 use Rattle.fish_rule.specs.Epochs.{confirmed}
@@ -53,42 +53,18 @@ heads_more v u settled heads x learns old next = each_more (HasHead u settled) h
 
 -- a raise of the settled number extends a view
 pub extends_raise : (v : View) (m x : ℕ) → v.learned.settled ≤ x → Extends v (after_raise v m x)
-extends_raise v m x more = record {
-  learns = record {
-    about = refl;
-    count = omega arith;
-    settled = omega arith;
-    version = omega arith;
-    words = λ y a. a;
-    found = λ y a. a;
-    known = λ y a. a;
-    records = λ y a. a;
-    nodes = λ y a. a;
-    lows = λ y a. a;
-    tops = λ y a. a;
-    gaps = λ y a. a;
-    labels = λ y a. a;
-    unended = λ y a. a;
-    opens = λ y a. a;
-  };
+extends_raise v m x more = (let raised : v.learned.settled ≤ max x m = omega arith in record {
+  learns = assumption (learns_self v, raised);
   clock = later_ticked v.clock;
   frame = refl;
-}
+})
 
 -- ---- how the pass went on
 
 -- a mark's line ends what was read
 pub lines_else : (v : View) (n lines : ℕ) (read : ReadLog) → IsReadUpTo v n read
     → IsReadUpTo v n (record read { lines = lines })
-lines_else v n lines read h = record {
-  many = h.many;
-  told = h.told;
-  rise = h.rise;
-  sound = h.sound;
-  covers = h.covers;
-  paged = h.paged;
-  last = h.last;
-}
+lines_else v n lines read h = assumption h
 
 -- the log goes on
 pub goes_on : (v : View) (n lines : ℕ) (read : ReadLog) (goes : Bool) → goes ≡ true → IsAdded v n goes lines read
@@ -98,23 +74,7 @@ goes_on v n lines read false e h = cc
 
 -- a version that was loaded is learned
 learns_version : (v : View) (y : ℕ) → v.learned.version ≤ y → Learns v (after_version v y)
-learns_version v y more = record {
-  about = refl;
-  count = omega arith;
-  settled = omega arith;
-  version = more;
-  words = λ x m. m;
-  found = λ x m. m;
-  known = λ x m. m;
-  records = λ x m. m;
-  nodes = λ x m. m;
-  lows = λ x m. m;
-  tops = λ x m. m;
-  gaps = λ x m. m;
-  labels = λ x m. m;
-  unended = λ x m. m;
-  opens = λ x m. m;
-}
+learns_version v y more = assumption (learns_self v, more)
 
 pub to_version : (v u : View) (y : ℕ) → u ≡ after_version v y → v.learned.version ≤ y → Learns v u
 to_version v u y e more = subst (Learns v) (sym e) (learns_version v y more)

@@ -37,6 +37,10 @@ learns_self v = record {
   opens = λ x m. m;
 }
 
+-- what is in a list is in it behind one more
+pub ahead : {A : Type 0} (x : A) (xs : List A) (y : A) → Among y xs → Among y (x ∷ xs)
+ahead x xs y m = inr m
+
 -- and what is learned on top of what was learned is all learned
 pub learns_both : (a b c : View) → Learns a b → Learns b c → Learns a c
 learns_both a b c e f =
@@ -83,23 +87,7 @@ extends_both a b c e f = record {
 -- a word that is read extends a view
 pub extends_read : (v : View) (place x : ℕ) → Extends v (after_read v place x)
 extends_read v place x = record {
-  learns = record {
-    about = refl;
-    count = omega arith;
-    settled = omega arith;
-    version = omega arith;
-    words = λ x m. m;
-    found = λ x m. m;
-    known = λ x m. inr m;
-    records = λ x m. m;
-    nodes = λ x m. m;
-    lows = λ x m. m;
-    tops = λ x m. m;
-    gaps = λ x m. m;
-    labels = λ x m. m;
-    unended = λ x m. m;
-    opens = λ x m. m;
-  };
+  learns = assumption (learns_self v, ahead (record { place = place; value = x }) v.learned.known);
   clock = later_loaded v.clock;
   frame = refl;
 }
@@ -138,23 +126,7 @@ opens_more n zero (p ∷ opens) o m = pick (dec_lt n p.count)
 -- a directory word that is seen extends a view
 pub extends_look : (v : View) (n lines x : ℕ) → Extends v (after_look v n lines x)
 extends_look v n lines x = record {
-  learns = record {
-    about = refl;
-    count = omega arith;
-    settled = omega arith;
-    version = omega arith;
-    words = λ x m. m;
-    found = found_more n lines x v.learned.found;
-    known = λ x m. m;
-    records = λ x m. m;
-    nodes = λ x m. m;
-    lows = λ x m. m;
-    tops = λ x m. m;
-    gaps = λ x m. m;
-    labels = λ x m. m;
-    unended = λ x m. m;
-    opens = opens_more n x v.learned.opens;
-  };
+  learns = assumption (learns_self v, found_more n lines x v.learned.found, opens_more n x v.learned.opens);
   clock = later_noted v.clock (Directory n) x;
   frame = refl;
 }
@@ -170,23 +142,7 @@ found_here n lines (suc x) found ne = inl refl
 
 -- a count that has risen is learned
 pub learns_end : (v : View) (x : ℕ) → v.learned.count ≤ high x → Learns v (after_end v x)
-learns_end v x more = record {
-  about = refl;
-  count = more;
-  settled = omega arith;
-  version = omega arith;
-  words = λ x m. m;
-  found = λ x m. m;
-  known = λ x m. m;
-  records = λ x m. m;
-  nodes = λ x m. m;
-  lows = λ x m. m;
-  tops = λ x m. m;
-  gaps = λ x m. m;
-  labels = λ x m. m;
-  unended = λ x m. m;
-  opens = λ x m. inr m;
-}
+learns_end v x more = assumption (learns_self v, more, ahead (record { count = high x; numbers = [] }) v.learned.opens)
 
 -- ---- a join
 

@@ -384,22 +384,7 @@ module _ (k : Key) (w : World) (r : Rule k w) (id : ℕ) (v : View) (at : get_el
   -- what a pass knows of the registry is so
   stays_on : (u : View) → Stays k w.count w.registry r.state r.version_of u
       → Stays k (suc w.count) w.registry r.state version_of' u
-  stays_on u h = record {
-    tied = h.tied;
-    from = h.from;
-    since = h.since;
-    reached = h.reached;
-    read = h.read;
-    unended = all_map (IsUnended k w.count w.registry r.version_of) (IsUnended k (suc w.count) w.registry version_of')
-        (λ x m. record {
-          within = (let a = m.within in omega arith);
-          running = λ n above below. (let a = m.within in let less : n < w.count = omega arith in
-              subst (λ (z : ℕ). IsOpenIn (definitions_at k w.registry z) x.id) (sym (old_version n less))
-              (m.running n above below));
-        }) u.learned.unended h.unended;
-    main = h.main;
-    waits = waiting u.lane u.round h.waits;
-  }
+  stays_on u h = assumption (h, all_map (IsUnended k w.count w.registry r.version_of) (IsUnended k (suc w.count) w.registry version_of') (λ x m. record { within = (let a = m.within in omega arith); running = λ n above below. (let a = m.within in let less : n < w.count = omega arith in subst (λ (z : ℕ). IsOpenIn (definitions_at k w.registry z) x.id) (sym (old_version n less)) (m.running n above below)); }) u.learned.unended h.unended, waiting u.lane u.round h.waits)
 
   registry : Registry k (suc w.count) w.registry r.state version_of' (set w.views id claimer)
   registry = record {

@@ -5,7 +5,7 @@ use Rattle.std.proofs.Math.ListN.{get_elem?}
 use Rattle.atomic_table.proofs.Lists.{set_else}
 use Rattle.fish_rule.proofs.basics.Lists.{all_append, among_either, among_left, among_right, each_set, no_flight}
 use Rattle.fish_rule.proofs.basics.Lists.{pairs_set}
-use Rattle.fish_rule.proofs.classes.OtherViews.{alone_kept, flight_there}
+use Rattle.fish_rule.proofs.classes.OtherViews.{limit_views, alone_kept, flight_there}
 use Rattle.fish_rule.proofs.basics.Lanes.{both_has, first_shut_none, has_back, has_both, has_lane, has_none, has_one}
 use Rattle.fish_rule.proofs.basics.Lanes.{not_over, shut_either}
 use Rattle.fish_rule.proofs.classes.ChainsStay.{chains_views, linking_from, linking_own, linking_to, links_views}
@@ -236,15 +236,8 @@ module _ (k : Key) (w : World) (r : Rule k w) (id other : ℕ) (v u : View) (at 
       dir_beyond = r.space.dir_beyond;
       log_beyond = r.space.log_beyond;
     };
-    limit = record {
-      first = r.limit.first;
-      above = r.limit.above;
-      within = r.limit.within;
-      fits = r.limit.fits;
-      past = r.limit.past;
-      few = r.limit.few;
-      may = each_join _ r.limit.may join_may (λ x has. absurd (has_none x has));
-    };
+    limit = limit_views r.limit
+            (each_join _ r.limit.may join_may (λ x has. absurd (has_none x has)));
     settling = r.settling;
     chains = chains_views k w r (set taken other spent) links_join back_join;
     chained = each_join _ (λ j x at_x. join_chained x.learned (r.chained j x at_x)) both_chained

@@ -50,24 +50,8 @@ module _ (k : Key) (w : World) (r : Rule k w) (id : ℕ) (v : View) (at : get_el
         let stays = r.registry.each id v at in
         let still = still_chained k w r id v at bounder.learned bounder.tail bounder.round bounder.clock in (
           learns k w r id v at bounder.learned bounder.tail bounder.round bounder.clock (λ main all. (count, line))
-              (record {
-                counted = subst (λ (z : ℕ). z ≤ w.count) (sym count) (omega arith);
-                found = h.found;
-                known = h.known;
-                records = h.records;
-                gaps = h.gaps;
-                labels = h.labels;
-              }) (r.opens id v at) (r.floors id v at) (record { nodes = still.nodes; lows = still.lows; tops = still.tops })
-              (record {
-                tied = stays.tied;
-                from = stays.from;
-                since = stays.since;
-                reached = stays.reached;
-                read = stays.read;
-                unended = stays.unended;
-                main = stays.main;
-                waits = bound_waits;
-              }),
+              (assumption (h, subst (λ (z : ℕ). z ≤ w.count) (sym count) (omega arith))) (r.opens id v at) (r.floors id v at) (record { nodes = still.nodes; lows = still.lows; tops = still.tops })
+              (assumption (stays, bound_waits)),
           learn_final k w r id v at bounder.learned bounder.tail bounder.round bounder.clock,
         )
 

@@ -25,14 +25,7 @@ module _ (k : Key) (w : World) (r : Rule k w) (id : ℕ) (v : View) (at : get_el
   same_facts : (l : Learned) → l ≡ record v.learned { words = l.words; unended = l.unended } → Facts k w.count w.dir w.log r.start l
   same_facts l same =
       let h = r.facts id v at in
-      subst (Facts k w.count w.dir w.log r.start) (sym same) (record {
-        counted = h.counted;
-        found = h.found;
-        known = h.known;
-        records = h.records;
-        gaps = h.gaps;
-        labels = h.labels;
-      })
+      subst (Facts k w.count w.dir w.log r.start) (sym same) (assumption h)
 
   module _ (n i : ℕ) (can : CanLoadBoundary n i) where
     -- the view afterwards
@@ -90,16 +83,7 @@ module _ (k : Key) (w : World) (r : Rule k w) (id : ℕ) (v : View) (at : get_el
           learns k w r id v at seer.learned v.tail v.round seer.clock (r.tails id v at)
               (same_facts seer.learned refl) (r.opens id v at) (r.floors id v at)
               (record { nodes = still.nodes; lows = still.lows; tops = still.tops })
-              (record {
-                tied = stays.tied;
-                from = stays.from;
-                since = stays.since;
-                reached = stays.reached;
-                read = boundary_read (w.registry (row_at n i)) refl;
-                unended = end_read i (w.registry (row_at n i)) refl refl;
-                main = stays.main;
-                waits = stays.waits;
-              }),
+              (assumption (stays, boundary_read (w.registry (row_at n i)) refl, end_read i (w.registry (row_at n i)) refl refl)),
           learn_final k w r id v at seer.learned v.tail v.round seer.clock,
         )
 

@@ -44,14 +44,7 @@ module _ (k : Key) (w : World) (r : Rule k w) (id : ℕ) (v : View) (at : get_el
         let still = still_chained k w r id v at (top_seer clock).learned v.tail v.round clock in
         let final = learn_final k w r id v at (top_seer clock).learned v.tail v.round clock in
         learns k w r id v at (top_seer clock).learned v.tail v.round clock (r.tails id v at)
-        (record {
-          counted = h.counted;
-          found = h.found;
-          known = h.known;
-          records = h.records;
-          gaps = (top_gap, h.gaps);
-          labels = h.labels;
-        })
+        (assumption (h, top_gap))
         (r.opens id v at) (r.floors id v at) (record {
           nodes = node_joins _ v.about b (w.head b) v.learned.nodes still.nodes
               (λ more. final.links b (w.head b) (linked_else k w r b (w.head b) (r.chains b).some

@@ -33,18 +33,7 @@ module _ (k : Key) (w : World) (r : Rule k w) (id : ℕ) (v : View) (at : get_el
       let h = r.facts id v at in
       let still = still_chained k w r id v at node_seer.learned v.tail v.round node_seer.clock in
       learns k w r id v at node_seer.learned v.tail v.round node_seer.clock (r.tails id v at)
-      (record {
-        counted = h.counted;
-        found = h.found;
-        known = h.known;
-        records = h.records;
-        gaps = h.gaps;
-        labels = (
-          label_there k w r b p v.learned.settled (r.floors id v at)
-              (node_linked k w r id v at b p node),
-          h.labels,
-        );
-      })
+      (assumption (h, label_there k w r b p v.learned.settled (r.floors id v at) (node_linked k w r id v at b p node)))
       (r.opens id v at) (r.floors id v at)
       (record { nodes = still.nodes; lows = still.lows; tops = still.tops }) (r.registry.each id v at)
 

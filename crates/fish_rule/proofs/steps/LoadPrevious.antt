@@ -60,14 +60,7 @@ module _ (k : Key) (w : World) (r : Rule k w) (id : ℕ) (v : View) (at : get_el
         let final = learn_final k w r id v at (low_seer clock).learned v.tail v.round clock in
         let next = (r.chains b).next p node_linked in
         learns k w r id v at (low_seer clock).learned v.tail v.round clock (r.tails id v at)
-        (record {
-          counted = h.counted;
-          found = h.found;
-          known = h.known;
-          records = h.records;
-          gaps = (low_gap, h.gaps);
-          labels = h.labels;
-        })
+        (assumption (h, low_gap))
         (r.opens id v at) (r.floors id v at) (record {
           nodes = node_joins _ v.about b (w.log p) v.learned.nodes still.nodes
               (λ more. final.links b (w.log p) (linked_else k w r b (w.log p) next.is

@@ -52,14 +52,7 @@ module _ (k : Key) (w : World) (r : Rule k w) (id : ℕ) (v : View) (at : get_el
         let h = r.facts id v at in
         let stays = r.registry.each id v at in
         let still = still_chained k w r id v at registered_view.learned v.tail v.round registered_view.clock in
-        learns k w r id v at registered_view.learned v.tail v.round registered_view.clock (r.tails id v at) (record {
-          counted = h.counted;
-          found = h.found;
-          known = h.known;
-          records = h.records;
-          gaps = h.gaps;
-          labels = h.labels;
-        }) (r.opens id v at) (r.floors id v at) (record { nodes = still.nodes; lows = still.lows; tops = still.tops })
+        learns k w r id v at registered_view.learned v.tail v.round registered_view.clock (r.tails id v at) (assumption h) (r.opens id v at) (r.floors id v at) (record { nodes = still.nodes; lows = still.lows; tops = still.tops })
         (record {
           tied = stays.tied;
           from = stays.from;

@@ -9,7 +9,7 @@ use Rattle.fish_rule.specs.World.{World, world}
 use Rattle.fish_rule.specs.declared.view.Key.{Key}
 use Rattle.fish_rule.specs.declared.view.View.{View}
 use Rattle.fish_rule.proofs.basics.RegistryWords.{endures_same}
-use Rattle.fish_rule.proofs.classes.Loads.{still_chained, learns}
+use Rattle.fish_rule.proofs.classes.Loads.{learn_final, still_chained, learns}
 use Rattle.atomic_table.specs.Table.{Allows, step}
 use Rattle.fish_rule.proofs.classes.Allowed.{allowed, loaded_words, stands, there}
 use Rattle.fish_rule.specs.Table.{Ruled, Sat}
@@ -22,34 +22,14 @@ module _ (k : Key) (w : World) (r : Rule k w) (id : ℕ) (v : View) (at : get_el
       let h = r.facts id v at in
       let still = still_chained k w r id v at (record v.learned { settled = w.settled }) v.tail v.round (after_settled v w.settled).clock in
       learns k w r id v at (record v.learned { settled = w.settled }) v.tail v.round (after_settled v w.settled).clock
-      (r.tails id v at) (record {
-        counted = h.counted;
-        found = h.found;
-        known = h.known;
-        records = h.records;
-        gaps = h.gaps;
-        labels = h.labels;
-      }) (r.opens id v at) (omega arith)
+      (r.tails id v at) (assumption h) (r.opens id v at) (omega arith)
       (record { nodes = still.nodes; lows = still.lows; tops = still.tops }) (r.registry.each id v at)
 
   -- and all that lasts
   pub settled_lasts : Final k r.start settled_kept.start r.lane_of settled_kept.lane_of w
       (record w { views = set w.views id (after_settled v w.settled) })
   unfolding settled_kept learns
-  settled_lasts = record {
-    counts = omega arith;
-    lines = omega arith;
-    settles = omega arith;
-    registered = endures_same k w.registry;
-    heads = λ b. omega arith;
-    links = links_set k w r id v (after_settled v w.settled) at (λ a c h. h);
-    rises = λ b p h. omega arith;
-    starts = λ n h. refl;
-    lanes = λ n h. refl;
-    dirs = λ n h e. refl;
-    bodies = λ n h e. refl;
-    below = λ p from h. refl;
-  }
+  settled_lasts = learn_final k w r id v at (after_settled v w.settled).learned v.tail v.round (after_settled v w.settled).clock
 
 -- a load of the settled number
 pub settled_allowed : (given k : Key) → given ≡ k → (size id : ℕ) (me : Sat) → me.0.about ≡ k

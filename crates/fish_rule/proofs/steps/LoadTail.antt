@@ -11,7 +11,7 @@ use Rattle.fish_rule.specs.World.{World, high, low, world}
 use Rattle.fish_rule.specs.declared.view.Key.{Key}
 use Rattle.fish_rule.specs.declared.view.View.{View}
 use Rattle.fish_rule.proofs.basics.RegistryWords.{endures_same}
-use Rattle.fish_rule.proofs.classes.Loads.{still_chained, learns}
+use Rattle.fish_rule.proofs.classes.Loads.{learn_final, still_chained, learns}
 use Rattle.atomic_table.specs.Table.{Allows, step}
 use Rattle.fish_rule.specs.Table.{Ruled, Sat}
 use Rattle.fish_rule.specs.Told.{ToldEnd}
@@ -25,14 +25,7 @@ module _ (k : Key) (w : World) (r : Rule k w) (id : ℕ) (v : View) (at : get_el
       let h = r.facts id v at in
       let still = still_chained k w r id v at (after_end v x).learned (after_end v x).tail v.round (after_end v x).clock in
       learns k w r id v at (after_end v x).learned (after_end v x).tail v.round (after_end v x).clock
-      (λ main all. (count, line)) (record {
-        counted = subst (λ (z : ℕ). z ≤ w.count) (sym count) (omega arith);
-        found = h.found;
-        known = h.known;
-        records = h.records;
-        gaps = h.gaps;
-        labels = h.labels;
-      }) (opens_begin k w r (high x) (omega arith), r.opens id v at) (r.floors id v at)
+      (λ main all. (count, line)) (assumption (h, subst (λ (z : ℕ). z ≤ w.count) (sym count) (omega arith))) (opens_begin k w r (high x) (omega arith), r.opens id v at) (r.floors id v at)
       (record { nodes = still.nodes; lows = still.lows; tops = still.tops }) (r.registry.each id v at)
 
   -- and all that lasts
@@ -40,20 +33,7 @@ module _ (k : Key) (w : World) (r : Rule k w) (id : ℕ) (v : View) (at : get_el
       → Final k r.start (end_kept x count line).start r.lane_of (end_kept x count line).lane_of w
       (record w { views = set w.views id (after_end v x) })
   unfolding end_kept learns
-  end_lasts x count line = record {
-    counts = omega arith;
-    lines = omega arith;
-    settles = omega arith;
-    registered = endures_same k w.registry;
-    heads = λ b. omega arith;
-    links = links_set k w r id v (after_end v x) at (λ a c h. h);
-    rises = λ b p h. omega arith;
-    starts = λ m h. refl;
-    lanes = λ m h. refl;
-    dirs = λ m h e. refl;
-    bodies = λ m h e. refl;
-    below = λ p from h. refl;
-  }
+  end_lasts x count line = learn_final k w r id v at (after_end v x).learned (after_end v x).tail v.round (after_end v x).clock
 
   -- the count only rises
   pub end_counted : (x : ℕ) → high x ≡ w.count → v.learned.count ≤ high x

@@ -22,7 +22,7 @@ use Rattle.fish_rule.specs.declared.view.Kind.{Kind}
 use Rattle.fish_rule.specs.declared.view.Kind.TheVariants.{Mark, Stored, Void}
 use Rattle.fish_rule.specs.declared.view.View.{View}
 use Rattle.fish_rule.proofs.basics.RegistryWords.{endures_same}
-use Rattle.fish_rule.proofs.classes.Loads.{still_chained, learns}
+use Rattle.fish_rule.proofs.classes.Loads.{learn_final, still_chained, learns}
 use Rattle.atomic_table.specs.Table.{Allows, step}
 use Rattle.fish_rule.proofs.basics.Regions.{few_slots}
 use Rattle.fish_rule.proofs.basics.Worlds.{area-in}
@@ -48,14 +48,7 @@ module _ (k : Key) (w : World) (r : Rule k w) (id : ℕ) (v : View) (at : get_el
       let h = r.facts id v at in
       let still = still_chained k w r id v at (after_look v n (lines_at n) x).learned v.tail v.round (after_look v n (lines_at n) x).clock in
       learns k w r id v at (after_look v n (lines_at n) x).learned v.tail v.round
-      (after_look v n (lines_at n) x).clock (r.tails id v at) (record {
-        counted = h.counted;
-        found = each x is;
-        known = h.known;
-        records = h.records;
-        gaps = h.gaps;
-        labels = h.labels;
-      }) (opens_looked k w r id v at n x (subst (λ (z : Key). z.number ≤ n) about can.above) is) (r.floors id v at)
+      (after_look v n (lines_at n) x).clock (r.tails id v at) (assumption (h, each x is)) (opens_looked k w r id v at n x (subst (λ (z : Key). z.number ≤ n) about can.above) is) (r.floors id v at)
       (record { nodes = still.nodes; lows = still.lows; tops = still.tops }) (r.registry.each id v at)
     where
       each : (x : ℕ) → x ≡ w.dir n → AllOf (IsFound k w.count w.dir r.start)
@@ -84,20 +77,8 @@ module _ (k : Key) (w : World) (r : Rule k w) (id : ℕ) (v : View) (at : get_el
       → Final k r.start (look_kept n x can about is).start r.lane_of (look_kept n x can about is).lane_of w
       (record w { views = set w.views id (after_look v n (lines_at n) x) })
   unfolding look_kept learns
-  look_lasts n x can about is = record {
-    counts = omega arith;
-    lines = omega arith;
-    settles = omega arith;
-    registered = endures_same k w.registry;
-    heads = λ b. omega arith;
-    links = links_set k w r id v (after_look v n (lines_at n) x) at (λ a c h. h);
-    rises = λ b p h. omega arith;
-    starts = λ m h. refl;
-    lanes = λ m h. refl;
-    dirs = λ m h e. refl;
-    bodies = λ m h e. refl;
-    below = λ p from h. refl;
-  }
+  look_lasts n x can about is = learn_final k w r id v at (after_look v n (lines_at n) x).learned v.tail v.round
+      (after_look v n (lines_at n) x).clock
 
   -- a number that was found has the word that it had
   pub look_known : (n : ℕ) (x : ℕ) → x ≡ w.dir n → (f : Found) → Among f v.learned.found → f.number ≡ n

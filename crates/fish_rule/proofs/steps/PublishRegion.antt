@@ -13,7 +13,7 @@ use Rattle.fish_layout.specs.Header.{keys_of, lines_of, void_word}
 use Rattle.fish_rule.proofs.basics.Bodies.{body_stored, code_once, body_void, high-pack, low-pack, mark-past, void-head}
 use Rattle.fish_rule.proofs.basics.Bodies.{published}
 use Rattle.fish_rule.proofs.basics.Lists.{among_left, among_right, among_either, each_set, has_own, seats_kept}
-use Rattle.fish_rule.proofs.classes.OtherViews.{alone_kept, flight_there, may_kept, one_view, registry_set}
+use Rattle.fish_rule.proofs.classes.OtherViews.{limit_views, alone_kept, flight_there, may_kept, one_view, registry_set}
 use Rattle.fish_rule.proofs.classes.FactsStay.{chained_later, facts_later, finished_later, flight_later, owns_later}
 use Rattle.fish_rule.proofs.classes.FactsStay.{shut_later, stored_later}
 use Rattle.fish_rule.proofs.classes.ChainsStay.{chains_same, linked_counted, linking_from}
@@ -383,13 +383,7 @@ module _ (k : Key) (w : World) (r : Rule k w) (id : ℕ) (v : View) (at : get_el
     number = f.number;
     end = refl;
     past = mark-past k.end f.line (f.line + f.lines) (is_kind ∙ is);
-    mark = record {
-      above = own.above;
-      below = own.below;
-      kind = kind_here ∙ ap code is;
-      line = own.line;
-      lines = own.lines;
-    };
+    mark = assumption (own, kind_here ∙ ap code is);
   }
 
   -- the record has the keys of its version
@@ -445,15 +439,8 @@ module _ (k : Key) (w : World) (r : Rule k w) (id : ℕ) (v : View) (at : get_el
       dir_beyond = λ n more. (let b = own.below in dir_else n (λ e. omega arith) ∙ r.space.dir_beyond n more);
       log_beyond = r.space.log_beyond;
     };
-    limit = record {
-      first = r.limit.first;
-      above = r.limit.above;
-      within = r.limit.within;
-      fits = r.limit.fits;
-      past = r.limit.past;
-      few = r.limit.few;
-      may = may_kept w.views id v publisher at k.end r.quota refl refl (may_before k v f flying kind is_kind) r.limit.may;
-    };
+    limit = limit_views r.limit
+            (may_kept w.views id v publisher at k.end r.quota refl refl (may_before k v f flying kind is_kind) r.limit.may);
     settling = record {
       from = r.settling.from;
       within = r.settling.within;

@@ -8,7 +8,7 @@ use Rattle.atomic_table.specs.Table.{Allows, step}
 use Rattle.fish_rule.proofs.classes.Allowed.{allowed, stands, there}
 use Rattle.fish_rule.proofs.basics.Bodies.{code_once, published}
 use Rattle.fish_rule.proofs.basics.Lists.{all_among, each_set, seats_kept}
-use Rattle.fish_rule.proofs.classes.OtherViews.{alone_kept, flight_there, may_kept, registry_set}
+use Rattle.fish_rule.proofs.classes.OtherViews.{limit_views, space_still, alone_kept, flight_there, may_kept, registry_set}
 use Rattle.fish_rule.proofs.classes.FactsStay.{chained_later}
 use Rattle.fish_rule.proofs.classes.ChainsStay.{chains_set, links_set}
 use Rattle.fish_rule.proofs.basics.Worlds.{world-settled}
@@ -91,26 +91,9 @@ module _ (k : Key) (w : World) (r : Rule k w) (id : ℕ) (v : View) (at : get_el
     about = each_set _ w.views id raiser (λ j u ne at_u. r.about j u at_u) (r.about id v at);
     seats = seats_kept w.views id v raiser at refl refl r.seats;
     tails = each_set _ w.views id raiser (λ j u ne at_u. r.tails j u at_u) (r.tails id v at);
-    space = record {
-      regions = r.space.regions;
-      finished = r.space.finished;
-      flying = λ n above below unset. flight_there w.views id v raiser at n (λ h. h)
-          (r.space.flying n above below unset);
-      flights = each_set _ w.views id raiser (λ j u ne at_u. r.space.flights j u at_u) (r.space.flights id v at);
-      alone = alone_kept w.views id v raiser at (λ n h. h) r.space.alone;
-      dir_below = r.space.dir_below;
-      dir_beyond = r.space.dir_beyond;
-      log_beyond = r.space.log_beyond;
-    };
-    limit = record {
-      first = r.limit.first;
-      above = r.limit.above;
-      within = r.limit.within;
-      fits = r.limit.fits;
-      past = r.limit.past;
-      few = r.limit.few;
-      may = may_kept w.views id v raiser at k.end r.quota refl refl (λ h. h) r.limit.may;
-    };
+    space = space_still w.views id v raiser at refl refl r.space;
+    limit = limit_views r.limit
+            (may_kept w.views id v raiser at k.end r.quota refl refl (λ h. h) r.limit.may);
     settling = settling;
     chains = chains_set k w r id v raiser at (λ a c h. h) (λ a c h. h);
     chained = each_set _ w.views id raiser
@@ -121,14 +104,7 @@ module _ (k : Key) (w : World) (r : Rule k w) (id : ℕ) (v : View) (at : get_el
     floors = each_set _ w.views id raiser (λ j u ne at_u. let a = r.floors j u at_u in omega arith) (omega arith);
     own = each_set _ w.views id raiser (λ j u ne at_u. r.own j u at_u) (r.own id v at);
     facts = each_set _ w.views id raiser (λ j u ne at_u. r.facts j u at_u)
-        (let h = r.facts id v at in record {
-          counted = h.counted;
-          found = h.found;
-          known = h.known;
-          records = h.records;
-          gaps = h.gaps;
-          labels = h.labels;
-        });
+        (let h = r.facts id v at in assumption h);
     registry = registry_set k w.count w.registry r.state r.version_of w.views id raiser r.registry
         (r.registry.each id v at) (r.registry.flights id v at);
     keyed = r.keyed;

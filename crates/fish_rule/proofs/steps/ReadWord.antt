@@ -7,7 +7,7 @@ use Rattle.fish_rule.proofs.classes.Allowed.{allowed, loaded_words, stands, ther
 use Rattle.fish_rule.proofs.basics.Bodies.{kind-inside}
 use Rattle.fish_rule.proofs.basics.Regions.{starts_above}
 use Rattle.fish_rule.proofs.basics.Lists.{all_among}
-use Rattle.fish_rule.proofs.classes.Loads.{learns, still_chained}
+use Rattle.fish_rule.proofs.classes.Loads.{learn_final, learns, still_chained}
 use Rattle.fish_rule.proofs.classes.ChainsStay.{links_set}
 use Rattle.fish_rule.proofs.basics.Worlds.{area-in}
 use Rattle.fish_rule.specs.Facts.{Facts, IsFound}
@@ -35,14 +35,7 @@ module _ (k : Key) (w : World) (r : Rule k w) (id : ℕ) (v : View) (at : get_el
   -- what it knows holds
   read_facts : Facts k w.count w.dir w.log r.start reader.learned
   read_facts = (let h = r.facts id v at in
-      record {
-        counted = h.counted;
-        found = h.found;
-        known = (read_word_is k w r v x o h can, h.known);
-        records = h.records;
-        gaps = h.gaps;
-        labels = h.labels;
-      })
+      assumption (h, read_word_is k w r v x o h can))
 
   -- a read keeps the rule
   pub read_kept : Rule k (record w { views = set w.views id reader })
@@ -55,20 +48,7 @@ module _ (k : Key) (w : World) (r : Rule k w) (id : ℕ) (v : View) (at : get_el
   pub read_lasts : Final k r.start read_kept.start r.lane_of read_kept.lane_of w
       (record w { views = set w.views id reader })
   unfolding read_kept learns
-  read_lasts = record {
-    counts = omega arith;
-    lines = omega arith;
-    settles = omega arith;
-    registered = endures_same k w.registry;
-    heads = λ b. omega arith;
-    links = links_set k w r id v (reader) at (λ a c h. h);
-    rises = λ b p h. omega arith;
-    starts = λ n h. refl;
-    lanes = λ n h. refl;
-    dirs = λ n h e. refl;
-    bodies = λ n h e. refl;
-    below = λ p from h. refl;
-  }
+  read_lasts = learn_final k w r id v at reader.learned v.tail v.round reader.clock
 
 -- a load of a word of a published region
 pub read_allowed : (given k : Key) → given ≡ k → (size id : ℕ) (me : Sat) (x : Found) (o i : ℕ)

@@ -275,14 +275,7 @@ module _ (k : Key) (w : World) (r : Rule k w) (id : ℕ) (v : View) (at : get_el
 
   facts : Facts k w.count w.dir log' r.start splicer.learned
   facts = (let g = facts_later k w splice_world r.start r.start r.lane_of r.lane_of final v.learned
-      (r.facts id v at) in record {
-        counted = g.counted;
-        found = g.found;
-        known = g.known;
-        records = g.records;
-        gaps = g.gaps;
-        labels = g.labels;
-      })
+      (r.facts id v at) in assumption g)
 
   chained : Chained k w.dir log' splice_world.views w.head splicer.learned
   chained =

@@ -4,7 +4,7 @@ use mathlib.Core.Option.{some}
 use Rattle.std.proofs.Math.ListN.{get_elem?}
 use Rattle.atomic_table.proofs.Lists.{at_longer, at_snoc, at_last, set_here}
 use Rattle.fish_rule.proofs.basics.Lists.{each_set, each_snoc, pairs_set, within_list}
-use Rattle.fish_rule.proofs.classes.OtherViews.{alone_kept, flight_there}
+use Rattle.fish_rule.proofs.classes.OtherViews.{limit_views, alone_kept, flight_there}
 use Rattle.fish_rule.proofs.basics.Lanes.{flight_longer, has_lane, has_left, has_one, left_has, not_over}
 use Rattle.fish_rule.proofs.basics.Lanes.{of_lane_complete, of_lane_sound, off_lane_complete, off_lane_sound, pairs_snoc}
 use Rattle.fish_rule.proofs.classes.ChainsStay.{chains_views, linking_from, linking_own, linking_to, links_views}
@@ -74,18 +74,8 @@ module _ (k : Key) (w : World) (r : Rule k w) (id : ℕ) (v : View) (at : get_el
 
   -- the lanes that may still overflow are those that might before
   split_limit : Limit k w.count (cut ++ right ∷ []) r.start r.quota
-  split_limit = record {
-    first = r.limit.first;
-    above = r.limit.above;
-    within = r.limit.within;
-    fits = r.limit.fits;
-    past = r.limit.past;
-    few = r.limit.few;
-    may = each_cut _ r.limit.may
-        (λ x has may. r.limit.may id v at x (left_has v.lane l v.out x can.main can.above has).0 may)
-        (λ x has may. subst (λ (z : ℕ). r.quota z ≡ 1) (sym (has_one l [] x can.above has))
-        (r.limit.may id v at l had (may.0, not_over k.end v.flight can.idle)));
-  }
+  split_limit = limit_views r.limit
+            (each_cut _ r.limit.may (λ x has may. r.limit.may id v at x (left_has v.lane l v.out x can.main can.above has).0 may) (λ x has may. subst (λ (z : ℕ). r.quota z ≡ 1) (sym (has_one l [] x can.above has)) (r.limit.may id v at l had (may.0, not_over k.end v.flight can.idle))))
 
   -- the control pass keeps the records but for those of lane l
   left_owns : Owns k w.count w.dir r.lane_of left.lane left.out left.own

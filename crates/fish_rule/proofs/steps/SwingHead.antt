@@ -120,14 +120,7 @@ module _ (k : Key) (w : World) (r : Rule k w) (id : ℕ) (v : View) (at : get_el
 
   facts : Facts k w.count w.dir w.log r.start swinger.learned
   facts = (let q = facts_later k w swing_world r.start r.start r.lane_of r.lane_of final v.learned
-      (r.facts id v at) in record {
-        counted = q.counted;
-        found = q.found;
-        known = q.known;
-        records = q.records;
-        gaps = q.gaps;
-        labels = q.labels;
-      })
+      (r.facts id v at) in assumption q)
 
   chained : Chained k w.dir w.log swing_world.views head' swinger.learned
   chained =
