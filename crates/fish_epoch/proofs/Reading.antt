@@ -14,7 +14,7 @@ use Rattle.fish_catalog.specs.declared.row.CatRow.{CatRow}
 use Rattle.fish_layout.proofs.Clearing.{choose_first, choose_second}
 use Rattle.fish_rule.proofs.laws.Lists.{all_among}
 use Rattle.fish_rule.proofs.laws.Clocks.{later_ticked}
-use Rattle.fish_rule.proofs.laws.Learning.{extends_both, extends_self}
+use Rattle.fish_rule.proofs.laws.Learning.{ahead, extends_both, extends_self, learns_self}
 use Rattle.fish_rule.proofs.laws.Versions.{definitions_next, length_registered}
 use Rattle.fish_rule.proofs.laws.Versions.{listing_law}
 use Rattle.fish_rule.specs.Entering.{after_registry}
@@ -49,23 +49,7 @@ reads_both a b c e f = record {
 pub reads_word : (v u : View) (p x : ℕ) → u ≡ after_registry v p x → OnlyReads v u
 reads_word v u p x e = subst (OnlyReads v) (sym e) (record {
   extends = record {
-    learns = record {
-      about = refl;
-      count = omega arith;
-      settled = omega arith;
-      version = omega arith;
-      words = λ y m. inr m;
-      found = λ y m. m;
-      known = λ y m. m;
-      records = λ y m. m;
-      nodes = λ y m. m;
-      lows = λ y m. m;
-      tops = λ y m. m;
-      gaps = λ y m. m;
-      labels = λ y m. m;
-      unended = λ y m. m;
-      opens = λ y m. m;
-    };
+    learns = assumption (learns_self v, ahead (record { index = p; value = x }) v.learned.words);
     clock = later_ticked v.clock;
     frame = refl;
   };

@@ -11,6 +11,8 @@ use Rattle.fish_rule.specs.Reading.{after_end, after_look, after_read, found_aft
 use Rattle.fish_rule.specs.Views.{Among}
 use Rattle.fish_rule.specs.World.{high, low}
 use Rattle.fish_rule.specs.declared.view.Found.{Found}
+use Rattle.fish_rule.specs.declared.view.Key.{Key}
+use Rattle.fish_rule.specs.declared.view.Learned.{Learned}
 use Rattle.fish_rule.specs.declared.view.Noted.TheVariants.{Directory}
 use Rattle.fish_rule.specs.declared.view.Opens.{Opens}
 use Rattle.fish_rule.specs.declared.view.View.{View}
@@ -40,6 +42,14 @@ learns_self v = record {
 -- what is in a list is in it behind one more
 pub ahead : {A : Type 0} (x : A) (xs : List A) (y : A) → Among y xs → Among y (x ∷ xs)
 ahead x xs y m = inr m
+
+-- and what is known where the table and what was learned are the same
+pub learns_same : (v u : View) → u.about ≡ v.about → u.learned ≡ v.learned → Learns v u
+learns_same v u about learned =
+    let here : Learns v (record v { about = u.about; learned = u.learned }) =
+    subst (λ (z : Key × Learned). Learns v (record v { about = z.0; learned = z.1 }))
+    (λ i. (sym about i, sym learned i)) (learns_self v) in
+    assumption here
 
 -- and what is learned on top of what was learned is all learned
 pub learns_both : (a b c : View) → Learns a b → Learns b c → Learns a c
