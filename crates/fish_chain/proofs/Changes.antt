@@ -1,6 +1,5 @@
 -- What each step leaves of a view while an entry is linked.
-use Rattle.std.proofs.Common.{◌≡◌, ℕ, ◌<◌, suc, List, length, set, refl, sym, ap}
-use Rattle.std.proofs.Common.{◌∙◌, subst, arith, length-set, Some}
+use Rattle.std.proofs.Common.{◌≡◌, ℕ, ◌<◌, suc, List, length, set, refl, sym, ap, ◌∙◌, subst, arith, length-set, Some}
 use Rattle.fish_chain.specs.Links.{CanLink, Changed, IsQuiet, chained_view, with_linked}
 use Rattle.fish_claim.proofs.Answered.{learns_same}
 use Rattle.fish_claim.proofs.Filled.{filled_aim, refilled}
@@ -11,8 +10,8 @@ use Rattle.fish_rule.proofs.laws.Descents.{head_learns, previous_learns}
 use Rattle.fish_rule.proofs.laws.Learning.{ahead, learns_both, learns_self}
 use Rattle.fish_rule.proofs.laws.Links.{body-set}
 use Rattle.fish_rule.specs.Logs.{Learns}
-use Rattle.fish_rule.specs.Linking.{CanAim, after_aim, head_seen, learned_head, own_place}
-use Rattle.fish_rule.specs.Linking.{learned_previous, previous_seen, spliced, swung}
+use Rattle.fish_rule.specs.Linking.{CanAim, after_aim, head_seen, learned_head, own_place, learned_previous}
+use Rattle.fish_rule.specs.Linking.{previous_seen, spliced, swung}
 use Rattle.fish_rule.specs.Steps.{loaded, ticked}
 use Rattle.fish_rule.specs.declared.view.Clock.{Clock}
 use Rattle.fish_rule.specs.declared.view.Flight.{Flight}

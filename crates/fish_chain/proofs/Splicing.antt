@@ -1,16 +1,16 @@
 -- One turn below a linked entry: aim at its first word, and splice.
-use Rattle.std.proofs.Common.{◌≡◌, ◌≢◌, ℕ, ◌-◌, ◌*◌, ◌<◌, ◌≤◌, ◌⊎◌, inl, ⊎_elim, suc, List, set, refl, sym, ap}
-use Rattle.std.proofs.Common.{◌∙◌, subst, arith, get_or-set_same}
+use Rattle.std.proofs.Common.{◌≡◌, ◌≢◌, ℕ, ◌-◌, ◌*◌, ◌<◌, ◌≤◌, ◌⊎◌, inl, ⊎_elim, suc, List, set, refl, sym, ap, ◌∙◌}
+use Rattle.std.proofs.Common.{subst, arith, get_or-set_same}
 use Rattle.std.proofs.Math.Decide.{ℕ_discrete}
 use Rattle.fish_chain.proofs.Changes.{aim_changes, changed_next, link_aim, previous_changes, quiet_loaded, quiet_ticked}
-use Rattle.fish_rule.proofs.laws.Descents.{previous_here}
 use Rattle.fish_chain.proofs.Changes.{splice_changes, still_links}
+use Rattle.fish_rule.proofs.laws.Descents.{previous_here}
 use Rattle.fish_chain.specs.Links.{CanLink, CanLinkBelow, Changed, IsBelow, IsLinked, with_linked}
 use Rattle.fish_layout.proofs.Clearing.{choose_first, choose_second}
 use Rattle.fish_layout.specs.Cleared.{entry_at}
 use Rattle.fish_rule.proofs.laws.Links.{not_own, own_behind, own_word}
-use Rattle.fish_rule.specs.Linking.{CanAim, CanSplice, HasNode, LowRises, after_aim, after_previous}
-use Rattle.fish_rule.specs.Linking.{after_splice, aimed_at, own_place, previous_seen, spliced}
+use Rattle.fish_rule.specs.Linking.{CanAim, CanSplice, HasNode, LowRises, after_aim, after_previous, after_splice}
+use Rattle.fish_rule.specs.Linking.{aimed_at, own_place, previous_seen, spliced}
 use Rattle.fish_rule.specs.Steps.{loaded, ticked}
 use Rattle.fish_rule.specs.declared.view.Clock.{Clock}
 use Rattle.fish_rule.specs.Table.{Stands}

@@ -1,16 +1,16 @@
 -- One turn at a head: aim at it, and swing it.
-use Rattle.std.proofs.Common.{◌≡◌, ◌≢◌, ℕ, ◌-◌, ◌*◌, ◌<◌, ◌≤◌, ◌⊎◌, inl, ⊎_elim, suc, List, set, refl, sym, ap}
-use Rattle.std.proofs.Common.{◌∙◌, subst, arith, get_or-set_same}
+use Rattle.std.proofs.Common.{◌≡◌, ◌≢◌, ℕ, ◌-◌, ◌*◌, ◌<◌, ◌≤◌, ◌⊎◌, inl, ⊎_elim, suc, List, set, refl, sym, ap, ◌∙◌}
+use Rattle.std.proofs.Common.{subst, arith, get_or-set_same}
 use Rattle.std.proofs.Math.Decide.{ℕ_discrete}
-use Rattle.fish_chain.proofs.Changes.{aim_changes, changed_next, head_changes, link_aim, quiet_loaded}
+use Rattle.fish_chain.proofs.Changes.{aim_changes, changed_next, head_changes, link_aim, quiet_loaded, quiet_ticked}
+use Rattle.fish_chain.proofs.Changes.{still_links, swing_changes}
 use Rattle.fish_rule.proofs.laws.Descents.{head_here}
-use Rattle.fish_chain.proofs.Changes.{quiet_ticked, still_links, swing_changes}
 use Rattle.fish_chain.specs.Links.{CanLink, Changed, IsBelow, IsLinked, with_linked}
 use Rattle.fish_layout.proofs.Clearing.{choose_first, choose_second}
 use Rattle.fish_layout.specs.Cleared.{entry_at}
 use Rattle.fish_rule.proofs.laws.Links.{not_own, own_behind, own_word}
-use Rattle.fish_rule.specs.Linking.{CanAim, CanSwing, HasNode, TopRises, after_aim, after_head, after_swing}
-use Rattle.fish_rule.specs.Linking.{aimed_at, head_seen, own_place, swung}
+use Rattle.fish_rule.specs.Linking.{CanAim, CanSwing, HasNode, TopRises, after_aim, after_head, after_swing, aimed_at}
+use Rattle.fish_rule.specs.Linking.{head_seen, own_place, swung}
 use Rattle.fish_rule.specs.Steps.{loaded, ticked}
 use Rattle.fish_rule.specs.declared.view.Clock.{Clock}
 use Rattle.fish_rule.specs.Table.{Stands}

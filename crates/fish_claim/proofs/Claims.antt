@@ -8,8 +8,8 @@ use Rattle.fish_rule.proofs.laws.Steps.{FlightLaw, flight_law}
 use Rattle.fish_rule.specs.Passes.{IsPassOf, view}
 use Rattle.fish_rule.specs.Regions.{kind_of}
 use Rattle.fish_rule.specs.Registry.{KnowsActive}
-use Rattle.fish_rule.specs.Steps.{CanClaim, CanPublish, CanStore, IsReady, after_claim, after_publish}
-use Rattle.fish_rule.specs.Steps.{after_store, flight_at, shut_after, with_word}
+use Rattle.fish_rule.specs.Steps.{CanClaim, CanPublish, CanStore, IsReady, after_claim, after_publish, after_store}
+use Rattle.fish_rule.specs.Steps.{flight_at, shut_after, with_word}
 use Rattle.fish_rule.specs.Table.{Stands}
 use Rattle.fish_rule.specs.World.{slots}
 use Rattle.fish_rule.specs.declared.table.Log.{Log}

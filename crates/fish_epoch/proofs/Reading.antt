@@ -1,6 +1,6 @@
 -- What words of the registry tell once they are read.
-use Rattle.std.proofs.Common.{◌≡◌, ◌≢◌, ℕ, ◌+◌, ◌*◌, ◌%◌, ◌<◌, ◌≤◌, zero, suc, List, [], ◌∷◌, ◌++◌, length, map, take, set}
-use Rattle.std.proofs.Common.{sym, refl, ap, ◌∙◌, subst, inl, inr, arith, Some, slice_get, get_or, true, Bool, option_map}
+use Rattle.std.proofs.Common.{◌≡◌, ◌≢◌, ℕ, ◌+◌, ◌%◌, ◌<◌, ◌≤◌, zero, suc, List, [], ◌∷◌, ◌++◌, length, map, take, sym}
+use Rattle.std.proofs.Common.{refl, ap, ◌∙◌, subst, inl, inr, arith, Some, slice_get, get_or, true, Bool, option_map}
 use Rattle.std.proofs.Common.{get_or-set_other, get_or-set_same}
 use Rattle.std.specs.Prelude.{slice_index, slice_set}
 use Rattle.std.proofs.Math.Decide.{ℕ_discrete, dec_lt}
@@ -15,8 +15,7 @@ use Rattle.fish_layout.proofs.Clearing.{choose_first, choose_second}
 use Rattle.fish_rule.proofs.laws.Lists.{all_among}
 use Rattle.fish_rule.proofs.laws.Clocks.{later_ticked}
 use Rattle.fish_rule.proofs.laws.Learning.{ahead, extends_both, extends_self, learns_self}
-use Rattle.fish_rule.proofs.laws.Versions.{definitions_next, length_registered}
-use Rattle.fish_rule.proofs.laws.Versions.{listing_law}
+use Rattle.fish_rule.proofs.laws.Versions.{definitions_next, length_registered, listing_law}
 use Rattle.fish_rule.specs.Entering.{after_registry}
 use Rattle.fish_rule.specs.Logs.{Learns}
 use Rattle.fish_rule.specs.Registry.{HasRead, KnowsDefinitions, KnowsRow, definitions_at, made, op_at, row_at, row_in}

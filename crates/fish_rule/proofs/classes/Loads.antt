@@ -3,7 +3,7 @@ use Rattle.std.proofs.Common.{◌≡◌, ℕ, ◌≤◌, [], set, refl, arith, O
 use mathlib.Core.Option.{some}
 use Rattle.std.proofs.Math.ListN.{get_elem?}
 use Rattle.fish_rule.proofs.basics.Lists.{each_set, seats_kept}
-use Rattle.fish_rule.proofs.classes.OtherViews.{limit_views, space_still, alone_kept, flight_there, may_kept, registry_set}
+use Rattle.fish_rule.proofs.classes.OtherViews.{limit_views, space_still, may_kept, registry_set}
 use Rattle.fish_rule.proofs.classes.FactsStay.{chained_later}
 use Rattle.fish_rule.proofs.classes.ChainsStay.{chains_set, links_set}
 use Rattle.fish_rule.specs.Chains.{Chained}

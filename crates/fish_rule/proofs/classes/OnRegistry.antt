@@ -12,7 +12,7 @@ use Rattle.fish_catalog.specs.declared.listed.Listed.{Listed}
 use Rattle.fish_catalog.specs.declared.row.CatRow.{CatRow}
 use Rattle.fish_layout.specs.Cleared.{body_of}
 use Rattle.fish_rule.proofs.basics.Lists.{all_map, each_set, seats_kept}
-use Rattle.fish_rule.proofs.classes.OtherViews.{limit_views, space_still, alone_kept, flight_there, may_kept}
+use Rattle.fish_rule.proofs.classes.OtherViews.{limit_views, space_still, may_kept}
 use Rattle.fish_rule.proofs.classes.FactsStay.{chained_later, keyed_kept}
 use Rattle.fish_rule.proofs.basics.Bodies.{published}
 use Rattle.fish_rule.proofs.classes.ChainsStay.{chains_set, links_set}

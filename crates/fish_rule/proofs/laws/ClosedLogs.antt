@@ -21,8 +21,8 @@ use Rattle.fish_rule.specs.declared.view.Kind.TheVariants.{Mark, Stored, Void}
 use Rattle.fish_rule.specs.declared.view.Own.{Own}
 use Rattle.fish_rule.specs.declared.view.View.{View}
 use Rattle.fish_value.specs.declared.field.Form.{Form}
-use Rattle.fish_rule.proofs.basics.OneMoment.{get_here, here_get, there_is, entry_word, claimed, before_mark, entry_once}
-use Rattle.fish_rule.proofs.basics.OneMoment.{stored_by}
+use Rattle.fish_rule.proofs.basics.OneMoment.{get_here, here_get, there_is, entry_word, claimed, before_mark}
+use Rattle.fish_rule.proofs.basics.OneMoment.{entry_once, stored_by}
 
 module _ (k : Key) (w : World) (r : Rule k w) where
   module _ (entries : List Entry) (log : IsLog k w entries) where

@@ -2,13 +2,11 @@
 use Rattle.std.proofs.Common.{◌≡◌, ℕ, set, refl, arith, ◌≤◌, sym, subst}
 use mathlib.Core.Option.{some, none}
 use Rattle.std.proofs.Math.ListN.{get_elem?}
-use Rattle.fish_rule.proofs.classes.ChainsStay.{links_set}
 use Rattle.fish_rule.specs.Rule.{Final, Rule}
 use Rattle.fish_rule.specs.Reading.{after_settled}
 use Rattle.fish_rule.specs.World.{World, world}
 use Rattle.fish_rule.specs.declared.view.Key.{Key}
 use Rattle.fish_rule.specs.declared.view.View.{View}
-use Rattle.fish_rule.proofs.basics.RegistryWords.{endures_same}
 use Rattle.fish_rule.proofs.classes.Loads.{learn_final, still_chained, learns}
 use Rattle.atomic_table.specs.Table.{Allows, step}
 use Rattle.fish_rule.proofs.classes.Allowed.{allowed, loaded_words, stands, there}

@@ -2,7 +2,6 @@
 use Rattle.std.proofs.Common.{◌≡◌, ℕ, ◌≤◌, [], set, sym, refl, subst, arith, get_or}
 use mathlib.Core.Option.{some, none}
 use Rattle.std.proofs.Math.ListN.{get_elem?}
-use Rattle.fish_rule.proofs.classes.ChainsStay.{links_set}
 use Rattle.fish_rule.specs.Parts.{Rests}
 use Rattle.fish_rule.proofs.classes.OpensStay.{opens_begin}
 use Rattle.fish_rule.specs.Rule.{Final, Rule}
@@ -10,7 +9,6 @@ use Rattle.fish_rule.specs.Reading.{after_end}
 use Rattle.fish_rule.specs.World.{World, high, low, world}
 use Rattle.fish_rule.specs.declared.view.Key.{Key}
 use Rattle.fish_rule.specs.declared.view.View.{View}
-use Rattle.fish_rule.proofs.basics.RegistryWords.{endures_same}
 use Rattle.fish_rule.proofs.classes.Loads.{learn_final, still_chained, learns}
 use Rattle.atomic_table.specs.Table.{Allows, step}
 use Rattle.fish_rule.specs.Table.{Ruled, Sat}

@@ -6,7 +6,6 @@ use Rattle.std.proofs.Math.ListN.{get_elem?}
 use Rattle.fish_rule.proofs.basics.Bodies.{tail_is, published}
 use Rattle.fish_rule.proofs.basics.Lists.{all_among, only_main}
 use Rattle.fish_rule.proofs.classes.OtherViews.{one_view}
-use Rattle.fish_rule.proofs.classes.ChainsStay.{links_set}
 use Rattle.fish_rule.specs.Parts.{Flies}
 use Rattle.fish_rule.proofs.classes.OpensStay.{opens_looked}
 use Rattle.fish_rule.specs.Facts.{IsFound}
@@ -21,7 +20,6 @@ use Rattle.fish_rule.specs.declared.view.Key.{Key}
 use Rattle.fish_rule.specs.declared.view.Kind.{Kind}
 use Rattle.fish_rule.specs.declared.view.Kind.TheVariants.{Mark, Stored, Void}
 use Rattle.fish_rule.specs.declared.view.View.{View}
-use Rattle.fish_rule.proofs.basics.RegistryWords.{endures_same}
 use Rattle.fish_rule.proofs.classes.Loads.{learn_final, still_chained, learns}
 use Rattle.atomic_table.specs.Table.{Allows, step}
 use Rattle.fish_rule.proofs.basics.Regions.{few_slots}

@@ -8,7 +8,7 @@ use Rattle.atomic_table.specs.Table.{Allows, step}
 use Rattle.fish_rule.proofs.classes.Allowed.{allowed, stands, there}
 use Rattle.fish_rule.proofs.basics.Bodies.{code_once, published}
 use Rattle.fish_rule.proofs.basics.Lists.{all_among, each_set, seats_kept}
-use Rattle.fish_rule.proofs.classes.OtherViews.{limit_views, space_still, alone_kept, flight_there, may_kept, registry_set}
+use Rattle.fish_rule.proofs.classes.OtherViews.{limit_views, space_still, may_kept, registry_set}
 use Rattle.fish_rule.proofs.classes.FactsStay.{chained_later}
 use Rattle.fish_rule.proofs.classes.ChainsStay.{chains_set, links_set}
 use Rattle.fish_rule.proofs.basics.Worlds.{world-settled}

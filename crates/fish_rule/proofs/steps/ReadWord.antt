@@ -8,7 +8,6 @@ use Rattle.fish_rule.proofs.basics.Bodies.{kind-inside}
 use Rattle.fish_rule.proofs.basics.Regions.{starts_above}
 use Rattle.fish_rule.proofs.basics.Lists.{all_among}
 use Rattle.fish_rule.proofs.classes.Loads.{learn_final, learns, still_chained}
-use Rattle.fish_rule.proofs.classes.ChainsStay.{links_set}
 use Rattle.fish_rule.proofs.basics.Worlds.{area-in}
 use Rattle.fish_rule.specs.Facts.{Facts, IsFound}
 use Rattle.fish_rule.specs.Rule.{Final, Rule}
@@ -19,7 +18,6 @@ use Rattle.fish_rule.specs.World.{World, log_at, log_size, world}
 use Rattle.fish_rule.specs.declared.view.Found.{Found}
 use Rattle.fish_rule.specs.declared.view.Key.{Key}
 use Rattle.fish_rule.specs.declared.view.View.{View}
-use Rattle.fish_rule.proofs.basics.RegistryWords.{endures_same}
 use Rattle.fish_rule.proofs.basics.FoundRegions.{region_found, read_word_is}
 
 module _ (k : Key) (w : World) (r : Rule k w) (id : ℕ) (v : View) (at : get_elem? w.views id ≡ some v)

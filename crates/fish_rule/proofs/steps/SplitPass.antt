@@ -6,7 +6,8 @@ use Rattle.atomic_table.proofs.Lists.{at_longer, at_snoc, at_last, set_here}
 use Rattle.fish_rule.proofs.basics.Lists.{each_set, each_snoc, pairs_set, within_list}
 use Rattle.fish_rule.proofs.classes.OtherViews.{limit_views, alone_kept, flight_there}
 use Rattle.fish_rule.proofs.basics.Lanes.{flight_longer, has_lane, has_left, has_one, left_has, not_over}
-use Rattle.fish_rule.proofs.basics.Lanes.{of_lane_complete, of_lane_sound, off_lane_complete, off_lane_sound, pairs_snoc}
+use Rattle.fish_rule.proofs.basics.Lanes.{of_lane_complete, of_lane_sound, off_lane_complete, off_lane_sound}
+use Rattle.fish_rule.proofs.basics.Lanes.{pairs_snoc}
 use Rattle.fish_rule.proofs.classes.ChainsStay.{chains_views, linking_from, linking_own, linking_to, links_views}
 use Rattle.fish_rule.proofs.classes.FactsStay.{chained_later}
 use Rattle.fish_rule.specs.Chains.{Chained, IsLinking, LinksAt}
