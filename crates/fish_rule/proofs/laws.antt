@@ -7,7 +7,6 @@ pub mod Comparing
 pub mod Crossing
 pub mod Descents
 pub mod Entries
-pub mod GoesOn
 pub mod Intervals
 pub mod Keys
 pub mod Learning
@@ -17,6 +16,7 @@ pub mod Moments
 pub mod NextLog
 pub mod OpenNumbers
 pub mod ReadSoFar
+pub mod ReadsOn
 pub mod Regions
 pub mod Remains
 pub mod Schedules
