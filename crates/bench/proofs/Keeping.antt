@@ -7,7 +7,7 @@ use Rattle.fish_registry.specs.Changing.{Changes}
 use Rattle.fish_registry.specs.Knowing.{Knows}
 use Rattle.fish_registry.specs.declared.registrar.Registrar.{Registrar}
 use Rattle.fish_rule.specs.Passes.{IsPassOf, view}
-use Rattle.fish_rule.specs.Seating.{split_left}
+use Rattle.fish_rule.specs.SeatSteps.{split_left}
 use Rattle.fish_rule.specs.Views.{Among}
 use Rattle.fish_rule.specs.declared.table.Log.{Log}
 use Rattle.fish_rule.specs.declared.table.Pass.{Pass}
@@ -35,7 +35,7 @@ kept_split top log p q r h of left =
     record {
       of = of;
       knows = knows_on (view p) (view q) r (ap (λ (z : View). z.lane) left) (ap (λ (z : View). z.rows) left)
-          (ap (λ (z : View). z.draft) left) (ap (λ (z : View). z.round) left) (omega arith) h.knows;
+          (ap (λ (z : View). z.main_words) left) (ap (λ (z : View). z.round) left) (omega arith) h.knows;
       control = left_controls top (view p) h.control (view q) left;
     }
 

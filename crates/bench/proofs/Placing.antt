@@ -13,7 +13,7 @@ use Rattle.fish_layout.specs.Body.{body_lines}
 use Rattle.fish_psf.specs.declared.key.ActiveDef.{ActiveDef}
 use Rattle.fish_rule.specs.Keys.{AreActive, text_of}
 use Rattle.fish_rule.specs.Registry.{KnowsActive}
-use Rattle.fish_rule.specs.Steps.{after_publish, flight_at}
+use Rattle.fish_rule.specs.SpaceSteps.{after_publish_region, flight_at}
 use Rattle.fish_rule.specs.declared.table.Log.{Log}
 use Rattle.fish_rule.specs.declared.view.Epoch.TheVariants.{Confirmed}
 use Rattle.fish_rule.specs.declared.view.Key.{Key}
@@ -67,7 +67,7 @@ module _ (v u : View) (lines number line : ℕ) (claimed : IsClaimed v lines (an
   flying = ap (λ (z : View). z.flight) placed.known
 
   module _ (w t : View) (written : HasWritten u (flight_at number line lines) w)
-      (is : t ≡ after_publish w written.flight) where
+      (is : t ≡ after_publish_region w written.flight) where
     pub lane_published : t.lane ≡ v.lane
     lane_published = ap (λ (z : View). z.lane) is ∙ ap (λ (z : View). z.lane) written.only.frame ∙ ap (λ (z : View). z.lane) placed.known
 

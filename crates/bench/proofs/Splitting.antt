@@ -2,8 +2,8 @@
 use Rattle.std.proofs.Common.{◌≡◌, ◌≤◌, ◌<◌, ◌+◌, ℕ, refl, sym, subst, arith, inl, inr}
 use Rattle.bench.specs.Opening.{IsControl}
 use Rattle.fish_ingest.specs.Ingestion.{CanStart}
-use Rattle.fish_rule.specs.Entering.{CanEnter}
-use Rattle.fish_rule.specs.Seating.{CanSplit, split_left, split_right}
+use Rattle.fish_rule.specs.RegistrySteps.{CanEnter}
+use Rattle.fish_rule.specs.SeatSteps.{CanSplitPass, split_left, split_right}
 use Rattle.fish_rule.specs.Table.{first_view}
 use Rattle.fish_rule.specs.declared.view.Key.{Key}
 use Rattle.fish_rule.specs.declared.view.View.{View}
@@ -25,7 +25,7 @@ module _ (top : ℕ) (v : View) (control : IsControl top v) where
   control_starts = record { live = live; outside = control.outside }
 
   -- the lane above the last one may be given out
-  pub control_splits : 1 ≤ top → top < 16 → CanSplit v (top + 1)
+  pub control_splits : 1 ≤ top → top < 16 → CanSplitPass v (top + 1)
   control_splits some few = record {
     main = control.main;
     above = omega arith;

@@ -3,7 +3,7 @@ use Rattle.std.specs.Prelude.{ℕ, ◌≡◌, ◌≤◌, None}
 use Rattle.bench.specs.declared.opening.Opened.{Opened}
 use Rattle.fish_ingest.specs.Preparation.{AreDefs}
 use Rattle.fish_ingest.specs.Ingestion.{CanStart}
-use Rattle.fish_rule.specs.Entering.{CanEnter}
+use Rattle.fish_rule.specs.RegistrySteps.{CanEnter}
 use Rattle.fish_rule.specs.Keys.{AreActive}
 use Rattle.fish_rule.specs.Passes.{IsPassOf, view}
 use Rattle.fish_rule.specs.Views.{Among}

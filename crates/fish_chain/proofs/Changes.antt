@@ -10,9 +10,10 @@ use Rattle.fish_rule.proofs.laws.Descents.{head_learns, previous_learns}
 use Rattle.fish_rule.proofs.laws.Learning.{ahead, learns_both, learns_self}
 use Rattle.fish_rule.proofs.laws.Links.{body-set}
 use Rattle.fish_rule.specs.Logs.{Learns}
-use Rattle.fish_rule.specs.Linking.{CanAim, after_aim, head_seen, learned_head, own_place, learned_previous}
-use Rattle.fish_rule.specs.Linking.{previous_seen, spliced, swung}
-use Rattle.fish_rule.specs.Steps.{loaded, ticked}
+use Rattle.fish_rule.specs.ChainSteps.{CanAimEntry, after_aim_entry, head_seen, learned_head, own_place}
+use Rattle.fish_rule.specs.ChainSteps.{learned_previous}
+use Rattle.fish_rule.specs.ChainSteps.{previous_seen, spliced, swung}
+use Rattle.fish_rule.specs.SpaceSteps.{loaded, ticked}
 use Rattle.fish_rule.specs.declared.view.Clock.{Clock}
 use Rattle.fish_rule.specs.declared.view.Flight.{Flight}
 use Rattle.fish_rule.specs.declared.view.Key.{Key}
@@ -27,15 +28,15 @@ for_each v f P one here g two = (let same : f ≡ g = (let e : Some f ≡ Some g
 -- ---- what was known stays known
 
 -- by an aim
-aim_learns : (u : View) (f : Flight) (x : ℕ) → Learns u (after_aim u f x)
-aim_learns u f x = learns_same u (after_aim u f x) refl refl
+aim_learns : (u : View) (f : Flight) (x : ℕ) → Learns u (after_aim_entry u f x)
+aim_learns u f x = learns_same u (after_aim_entry u f x) refl refl
 
 -- by a swing that was made
 swing_learns : (u : View) (f : Flight) (b : ℕ) → Learns u (swung u f b)
 swing_learns u f b = assumption (
     learns_self u,
     ahead (record { bucket = b; place = own_place f }) u.learned.nodes,
-    ahead (record { bucket = b; place = own_place f }) u.learned.tops,
+    ahead (record { bucket = b; place = own_place f }) u.learned.least_heads,
 )
 
 -- by a splice that was made
@@ -43,7 +44,7 @@ splice_learns : (u : View) (f : Flight) (b q : ℕ) → Learns u (spliced u f b 
 splice_learns u f b q = assumption (
     learns_self u,
     ahead (record { bucket = b; place = own_place f }) u.learned.nodes,
-    ahead (record { place = q; value = own_place f }) u.learned.lows,
+    ahead (record { place = q; value = own_place f }) u.learned.least_previous,
 )
 
 -- ---- one step after others
@@ -77,7 +78,7 @@ still_links v u f words b c can =
     }
 
 -- an entry that may be linked may be aimed
-pub link_aim : (v : View) (f : Flight) (b : ℕ) → CanLink v f f.linked b → CanAim v f
+pub link_aim : (v : View) (f : Flight) (b : ℕ) → CanLink v f f.linked b → CanAimEntry v f
 link_aim v f b can = filled_aim v f can.filled can.more
 
 -- ---- each step
@@ -113,9 +114,9 @@ module _ (u t : View) (f : Flight) where
       refl refl (previous_learns u b q x clock) quiet
 
   -- an aim
-  pub aim_changes : (x : ℕ) → f.linked < keys_of (body_of f.words 0) → t ≡ after_aim u f x
+  pub aim_changes : (x : ℕ) → f.linked < keys_of (body_of f.words 0) → t ≡ after_aim_entry u f x
       → Changed u f (set f.words (entry_at f.linked) x) f.linked t
-  aim_changes x more is = changes_by (set f.words (entry_at f.linked) x) f.linked (after_aim u f x) is refl
+  aim_changes x more is = changes_by (set f.words (entry_at f.linked) x) f.linked (after_aim_entry u f x) is refl
       (length-set f.words (entry_at f.linked) x) (body-set f.words f.linked x more) (aim_learns u f x)
       (quiet_ticked u.clock)
 

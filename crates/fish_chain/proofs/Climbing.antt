@@ -6,7 +6,7 @@ use Rattle.fish_layout.specs.Cleared.{body_of}
 use Rattle.fish_layout.specs.Header.{keys_of}
 use Rattle.fish_rule.proofs.laws.Steps.{flight_law}
 use Rattle.fish_rule.specs.Flying.{region_in, region_of}
-use Rattle.fish_rule.specs.Linking.{own_place}
+use Rattle.fish_rule.specs.ChainSteps.{own_place}
 use Rattle.fish_rule.specs.declared.table.Region.{Region}
 use Rattle.fish_rule.specs.Table.{Stands}
 use Rattle.fish_rule.specs.declared.view.Key.{Key}

@@ -22,11 +22,11 @@ use Rattle.fish_rule.proofs.laws.Moments.{stored_above}
 use Rattle.fish_rule.specs.Facts.{IsFound}
 use Rattle.fish_rule.proofs.laws.ChainFacts.{always_later}
 use Rattle.fish_rule.specs.Logs.{Extends, Learns}
-use Rattle.fish_rule.specs.Reading.{CanLook, CanRead, after_look, kind_told}
+use Rattle.fish_rule.specs.LoadSteps.{CanLookAt, CanReadWord, after_look_at, kind_told}
 use Rattle.fish_rule.specs.Regions.{code}
 use Rattle.fish_rule.specs.Table.{Sees, Stands}
 use Rattle.fish_rule.specs.Views.{Among}
-use Rattle.fish_rule.specs.Walking.{Always}
+use Rattle.fish_rule.specs.ChainFacts.{Always}
 use Rattle.fish_rule.specs.World.{World, body, high, low}
 use Rattle.fish_rule.specs.declared.view.Found.{Found}
 use Rattle.fish_rule.specs.declared.view.Key.{Key}
@@ -36,7 +36,7 @@ use Rattle.fish_rule.specs.declared.view.View.{View}
 -- ---- the look
 
 -- the number of a node that a walk gave may be looked at
-pub given_look : (v : View) (node : Node) → Stands v → IsGiven v node → node.number < v.learned.count → CanLook v node.number
+pub given_look : (v : View) (node : Node) → Stands v → IsGiven v node → node.number < v.learned.count → CanLookAt v node.number
 given_look v node s given below = record {
   above = stored_above v.about s.moment s.rule node.number
       (given.1 v (learns_self v) s.moment s.rule s.seat s.at).entry.stored;
@@ -49,7 +49,7 @@ unfolding high
 stored_word x is e = (let h : high 0 ≡ code Stored = subst (λ (z : ℕ). high z ≡ code Stored) e is in absurd (omega arith))
 
 -- the look finds its record
-pub given_found : (v u : View) (node : Node) (lines x : ℕ) → u ≡ after_look v node.number lines x → IsGiven v node
+pub given_found : (v u : View) (node : Node) (lines x : ℕ) → u ≡ after_look_at v node.number lines x → IsGiven v node
     → Sees v node.number x → (f : Found) × Among f u.learned.found × (f.number ≡ node.number) × (f.line ≡ low x)
     × (f.kind ≡ Stored)
 given_found v u node lines x to given sees =
@@ -57,7 +57,7 @@ given_found v u node lines x to given sees =
     ∙ (given.1 v (learns_self v) sees.moment sees.rule sees.seat sees.at).entry.stored in
     by x stored (stored_word x stored) to
   where
-    by : (y : ℕ) → high y ≡ code Stored → y ≢ 0 → u ≡ after_look v node.number lines y
+    by : (y : ℕ) → high y ≡ code Stored → y ≢ 0 → u ≡ after_look_at v node.number lines y
         → (f : Found) × Among f u.learned.found × (f.number ≡ node.number) × (f.line ≡ low y) × (f.kind ≡ Stored)
     by zero is some to = absurd (some refl)
     by (suc y) is some to =
@@ -114,7 +114,7 @@ given_divided v node f s given among number is =
 
 -- the word of a byte behind the key entries may be read
 pub read_within : (v u : View) (n line first size done : ℕ) → Learns v u → HasBytes v n line first size → done < size
-    → (f : Found) × CanRead u f ((first + done) / 8) × (f.line ≡ line) × (f.number ≡ n)
+    → (f : Found) × CanReadWord u f ((first + done) / 8) × (f.line ≡ line) × (f.number ≡ n)
 read_within v u n line first size done learns h less =
     let behind = h.behind in
     let within = h.within in (
@@ -136,7 +136,7 @@ read_within v u n line first size done learns h less =
 
 -- the header of a record may be read
 pub read_header : (v : View) (f : Found) (n line : ℕ) → Stands v → Among f v.learned.found → f.number ≡ n → f.line ≡ line
-    → f.kind ≡ Stored → (f : Found) × CanRead v f 0 × (f.line ≡ line) × (f.number ≡ n)
+    → f.kind ≡ Stored → (f : Found) × CanReadWord v f 0 × (f.line ≡ line) × (f.number ≡ n)
 read_header v f n line s among number at is =
     let some_ = found_law v f s among in (
       f,
@@ -148,7 +148,7 @@ read_header v f n line s among number at is =
 -- the third word of a key entry may be read, once the header is
 pub read_third : (v : View) (f : Found) (w : World) (n c line header : ℕ) → IsDivided n c f w → Among f v.learned.found
     → f.number ≡ n → f.line ≡ line → f.kind ≡ Stored → Among (record { place = line * 4; value = header }) v.learned.known
-    → (f : Found) × CanRead v f (3 * c + 3) × (f.line ≡ line) × (f.number ≡ n)
+    → (f : Found) × CanReadWord v f (3 * c + 3) × (f.line ≡ line) × (f.number ≡ n)
 read_third v f w n c line header h among number at is known =
     let counts = h.counts in
     let room = h.room in (
@@ -217,7 +217,7 @@ pub record IsHeaded (v : View) (node : Node) (line header : ℕ) : Type 0 where
   pub known : Among (record { place = line * 4; value = header }) v.learned.known
 
 -- a view only learns by a look
-pub looked : (v u : View) (n lines x : ℕ) → u ≡ after_look v n lines x → Extends v u
+pub looked : (v u : View) (n lines x : ℕ) → u ≡ after_look_at v n lines x → Extends v u
 looked v u n lines x e = subst (Extends v) (sym e) (extends_look v n lines x)
 
 -- what a walk gave stays given
@@ -225,7 +225,7 @@ pub given_later : (v u : View) (node : Node) → Learns v u → IsGiven v node �
 given_later v u node learns given = (given.0, always_later v u _ learns given.1)
 
 -- after the look and the load of the header
-pub headed : (v u t : View) (node : Node) (lines x line header : ℕ) → IsGiven v node → u ≡ after_look v node.number lines x
+pub headed : (v u t : View) (node : Node) (lines x line header : ℕ) → IsGiven v node → u ≡ after_look_at v node.number lines x
     → Sees v node.number x → line ≡ low x → Learns u t
     → Among (record { place = line * 4 + 0; value = header }) t.learned.known → IsHeaded t node line header
 headed v u t node lines x line header given to sees at learns known =
@@ -256,11 +256,11 @@ headed_later v u node line header learns h = record {
 
 -- and after the load of the third word
 pub headed_on : (v u t s : View) (node : Node) (number lines x line header : ℕ) → IsGiven v node → number ≡ node.number
-    → u ≡ after_look v number lines x → Sees v number x → line ≡ low x → Learns u t
+    → u ≡ after_look_at v number lines x → Sees v number x → line ≡ low x → Learns u t
     → Among (record { place = line * 4 + 0; value = header }) t.learned.known → Learns t s → IsHeaded s node line header
 headed_on v u t s node number lines x line header given is to sees at learns known on =
     headed_later t s node line header on (headed v u t node lines x line header given
-    (subst (λ (z : ℕ). u ≡ after_look v z lines x) is to) (subst (λ (z : ℕ). Sees v z x) is sees) at learns known)
+    (subst (λ (z : ℕ). u ≡ after_look_at v z lines x) is to) (subst (λ (z : ℕ). Sees v z x) is sees) at learns known)
 
 -- it is divided so in the moment in which the pass stands
 pub headed_divided : (v : View) (node : Node) (line header : ℕ) (s : Stands v) (h : IsHeaded v node line header)
@@ -269,7 +269,7 @@ headed_divided v node line header s h = given_divided v node h.found s h.given h
 
 -- the third word of its entry may be read
 pub third_may : (v : View) (node : Node) (line header : ℕ) → Stands v → IsHeaded v node line header
-    → (f : Found) × CanRead v f (3 * node.key + 3) × (f.line ≡ line) × (f.number ≡ node.number)
+    → (f : Found) × CanReadWord v f (3 * node.key + 3) × (f.line ≡ line) × (f.number ≡ node.number)
 third_may v node line header s h = read_third v h.found s.moment node.number node.key line header
     (headed_divided v node line header s h) h.among h.number h.at h.is h.known
 

@@ -9,12 +9,12 @@ use Rattle.fish_rule.proofs.laws.Descents.{previous_clear, previous_here}
 use Rattle.fish_rule.proofs.laws.Learning.{extends_both}
 use Rattle.fish_rule.proofs.laws.Links.{label_above, node_behind}
 use Rattle.fish_rule.proofs.laws.ChainFacts.{always_later, clear_both, label_entry, label_last, label_outside}
-use Rattle.fish_rule.specs.Linking.{HasNode, after_head, after_node, after_previous}
+use Rattle.fish_rule.specs.ChainSteps.{HasNode, after_load_head, after_load_node, after_load_previous}
 use Rattle.fish_rule.specs.Logs.{Extends, Learns}
 use Rattle.fish_rule.specs.Parts.{first_head}
 use Rattle.fish_rule.specs.Table.{Stands}
 use Rattle.fish_rule.specs.Views.{Among}
-use Rattle.fish_rule.specs.Walking.{Always, IsClear, IsEntryIn, IsNodeIn}
+use Rattle.fish_rule.specs.ChainFacts.{Always, IsClear, IsEntryIn, IsNodeIn}
 use Rattle.fish_rule.specs.declared.table.Walk.{Walk}
 use Rattle.fish_rule.specs.declared.view.Key.{Key}
 use Rattle.fish_rule.specs.declared.view.Label.{Label}
@@ -40,10 +40,10 @@ past_known k v x about less = subst (λ (z : Key). x ≤ z.line * 4) (sym about)
 -- a walk that stands at the head that was seen has its whole range before it
 pub begun_at : (v : View) (bucket from to place : ℕ) → to ≤ v.learned.settled
     → (IsPast v place → place ≡ first_head v.about bucket)
-    → HasBegun (after_head v bucket place)
+    → HasBegun (after_load_head v bucket place)
     (record { bucket = bucket; from = from; to = to; given = place + 1; place = place }) bucket from to
 begun_at v bucket from to place known first =
-    let u : View = after_head v bucket place in
+    let u : View = after_load_head v bucket place in
     let top : Always u (λ k w. (n c p : ℕ) → from ≤ n → n < to → IsEntryIn bucket n c p k w → p < place + 1) =
     λ x learns w r seat at n c p more less h.
     let inside = entries_within u x learns w r seat at bucket n c p h in
@@ -82,11 +82,11 @@ stops_below v walk number is less some_ stands = record {
 -- else the walk goes on at what the first word leads to
 pub goes_down : (v : View) (walk : Walk) (previous : ℕ) → walk.to ≤ v.learned.settled → previous < walk.place
     → (IsPast v previous → previous ≡ first_head v.about walk.bucket)
-    → LeadsTo (after_previous v walk.bucket walk.place previous) walk previous
+    → LeadsTo (after_load_previous v walk.bucket walk.place previous) walk previous
 goes_down v walk previous known less first = record {
   lower = less;
   at = ⊎_elim (λ (e : IsPast v previous). inl (record { past = e; first = λ _. first e }))
-      (λ (m : HasNode (after_previous v walk.bucket walk.place previous) walk.bucket previous). inr m)
+      (λ (m : HasNode (after_load_previous v walk.bucket walk.place previous) walk.bucket previous). inr m)
       (previous_here v walk.bucket walk.place previous);
   clear = previous_clear v walk.bucket walk.place previous walk.from walk.to known;
 }
@@ -105,11 +105,11 @@ abbrev pub label_at : View → ℕ → ℕ → Label
 label_at v p word = record { place = p; word = word; end = v.learned.settled }
 
 -- it is learned
-pub label_read : (v u : View) (p word : ℕ) → u ≡ after_node v p word → Among (label_at v p word) u.learned.labels
+pub label_read : (v u : View) (p word : ℕ) → u ≡ after_load_node v p word → Among (label_at v p word) u.learned.labels
 label_read v u p word seen = subst (λ (z : View). Among (label_at v p word) z.learned.labels) (sym seen) (inl refl)
 
 -- and names its record's number
-pub numbered : (v u : View) (p word number : ℕ) → u ≡ after_node v p word → number ≡ entry_number word
+pub numbered : (v u : View) (p word number : ℕ) → u ≡ after_load_node v p word → number ≡ entry_number word
     → IsNumbered u p number
 numbered v u p word number seen is = record {
   label = label_at v p word;
@@ -119,12 +119,12 @@ numbered v u p word number seen is = record {
 }
 
 -- a view after the load of a second word extends the one before
-pub looked_node : (v u : View) (p word : ℕ) → u ≡ after_node v p word → Extends v u
+pub looked_node : (v u : View) (p word : ℕ) → u ≡ after_load_node v p word → Extends v u
 looked_node v u p word seen = subst (Extends v) (sym seen) (extends_node v p word)
 
 -- the entry whose second word was read is one of the walk's bucket, and of a number from the walk's first one on
 pub passed_at : (v u t : View) (walk : Walk) (word number bucket first : ℕ) → IsWalking v walk
-    → v.about.line * 4 < walk.place → u ≡ after_node v walk.place word → Learns u t → number ≡ entry_number word
+    → v.about.line * 4 < walk.place → u ≡ after_load_node v walk.place word → Learns u t → number ≡ entry_number word
     → walk.bucket ≡ bucket → walk.from ≡ first → walk.from ≤ number → IsEntryFrom t bucket first walk.place
 passed_at v u t walk word number bucket first walking behind seen learns is bucket_is first_is from =
     let node = (stands_at v walk walking behind).0 in
@@ -143,7 +143,7 @@ passed_at v u t walk word number bucket first walking behind seen learns is buck
 
 module _ (v u t : View) (walk : Walk) (word below : ℕ) (walking : IsWalking v walk)
     (some_ : v.about.line * 4 < walk.place)
-    (seen : u ≡ after_node v walk.place word) (looked : Extends u t) (goes : LeadsTo t walk below) where
+    (seen : u ≡ after_load_node v walk.place word) (looked : Extends u t) (goes : LeadsTo t walk below) where
   -- all of the turn only learns
   turn_looked : Extends v t
   turn_looked = extends_both v u t (looked_node v u walk.place word seen) looked

@@ -5,7 +5,7 @@ use Rattle.fish_claim.proofs.Filled.{refilled}
 use Rattle.fish_claim.specs.Fills.{IsFilled}
 use Rattle.fish_layout.specs.Cleared.{body_of}
 use Rattle.fish_layout.specs.Header.{keys_of}
-use Rattle.fish_rule.specs.Linking.{HasNode}
+use Rattle.fish_rule.specs.ChainSteps.{HasNode}
 use Rattle.fish_rule.specs.declared.view.Flight.{Flight}
 use Rattle.fish_rule.specs.declared.view.View.{View}
 

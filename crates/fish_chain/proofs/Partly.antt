@@ -13,7 +13,7 @@ use Rattle.fish_layout.specs.Hash.{bucket_in, key_hash_of}
 use Rattle.fish_layout.specs.Header.{keys_of}
 use Rattle.fish_layout.specs.declared.parts.BodyParts.{BodyParts}
 use Rattle.fish_layout.specs.declared.parts.KeyPart.{KeyPart}
-use Rattle.fish_rule.specs.Steps.{CanPublish}
+use Rattle.fish_rule.specs.SpaceSteps.{CanPublishRegion}
 use Rattle.fish_rule.specs.declared.view.Flight.{Flight}
 use Rattle.fish_rule.specs.declared.view.View.{View}
 
@@ -57,5 +57,5 @@ module _ (p : BodyParts) (c : ℕ) (v : View) (s : IsPartly p c v) where
   }
 
   -- once all are, it may be published
-  pub partly_publish : c ≡ length p.keys → CanPublish v s.flight
+  pub partly_publish : c ≡ length p.keys → CanPublishRegion v s.flight
   partly_publish all = filled_publish v s.flight s.filled (s.count ∙ all ∙ sym entries)

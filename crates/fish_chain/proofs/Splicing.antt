@@ -9,9 +9,10 @@ use Rattle.fish_chain.specs.Links.{CanLink, CanLinkBelow, Changed, IsBelow, IsLi
 use Rattle.fish_layout.proofs.Clearing.{choose_first, choose_second}
 use Rattle.fish_layout.specs.Cleared.{entry_at}
 use Rattle.fish_rule.proofs.laws.Links.{not_own, own_behind, own_word}
-use Rattle.fish_rule.specs.Linking.{CanAim, CanSplice, HasNode, LowRises, after_aim, after_previous, after_splice}
-use Rattle.fish_rule.specs.Linking.{aimed_at, own_place, previous_seen, spliced}
-use Rattle.fish_rule.specs.Steps.{loaded, ticked}
+use Rattle.fish_rule.specs.ChainSteps.{CanAimEntry, CanSpliceEntry, HasNode, PreviousRises, after_aim_entry}
+use Rattle.fish_rule.specs.ChainSteps.{after_load_previous, after_splice_entry}
+use Rattle.fish_rule.specs.ChainSteps.{aimed_at, own_place, previous_seen, spliced}
+use Rattle.fish_rule.specs.SpaceSteps.{loaded, ticked}
 use Rattle.fish_rule.specs.declared.view.Clock.{Clock}
 use Rattle.fish_rule.specs.Table.{Stands}
 use Rattle.fish_rule.specs.Views.{Among}
@@ -26,7 +27,7 @@ pub record IsSplicing (v : View) (q place x : ℕ) (u : View) : Type 0 where
   pub words : List ℕ
   pub changed : Changed v flight words flight.linked u
   pub higher : HasNode u bucket q
-  pub low : Among (record { place = q; value = x }) u.learned.lows
+  pub low : Among (record { place = q; value = x }) u.learned.least_previous
   pub node : (x ≤ u.about.line * 4) ⊎ HasNode u bucket x
   pub less : x < q
 
@@ -43,13 +44,13 @@ module _ (v : View) (q place : ℕ) (f : Flight) (b : ℕ) (under : CanLinkBelow
         words = words;
         changed = c;
         higher = c.learns.nodes (record { bucket = b; place = q }) under.node;
-        low = subst (λ z. Among (record { place = q; value = x }) z.lows) (sym learned) (inl refl);
+        low = subst (λ z. Among (record { place = q; value = x }) z.least_previous) (sym learned) (inl refl);
         node = subst (λ (z : View). (x ≤ z.about.line * 4) ⊎ HasNode z b x) (sym is) (previous_here u b q x);
         less = less;
       }
 
   -- the first load
-  pub splice_begins : (t : View) (x : ℕ) → t ≡ after_previous v b q x → x < q → IsSplicing v q place x t
+  pub splice_begins : (t : View) (x : ℕ) → t ≡ after_load_previous v b q x → x < q → IsSplicing v q place x t
   splice_begins t x is less = seen_low v t x f.words (loaded v.clock)
       (previous_changes v t f b q x (loaded v.clock) (quiet_loaded v.clock) under.can.filled.flying is) is less
 
@@ -71,7 +72,7 @@ module _ (v u : View) (q place x : ℕ) (s : IsSplicing v q place x u) where
   splice_links = still_links v u s.flight s.words s.bucket s.changed s.under.can
 
   -- and aimed
-  pub splice_aim : CanAim u splicing
+  pub splice_aim : CanAimEntry u splicing
   splice_aim = link_aim u splicing s.bucket splice_links
 
   -- a first word that isn't below the own place is the place of a linked entry above it
@@ -88,15 +89,15 @@ module _ (v u : View) (q place x : ℕ) (s : IsSplicing v q place x u) where
   abbrev aims : List ℕ
   aims = set s.words (entry_at s.flight.linked) x
 
-  module _ (t : View) (is : t ≡ after_aim u splicing x) where
+  module _ (t : View) (is : t ≡ after_aim_entry u splicing x) where
     -- the changes up to the aim
     aimed : Changed v s.flight aims s.flight.linked t
     aimed = changed_next v u t s.flight s.words aims s.flight.linked s.changed
         (aim_changes u t splicing x splice_links.more is)
 
     -- what was known of the first word still is
-    aimed_low : Among (record { place = q; value = x }) t.learned.lows
-    aimed_low = subst (λ z. Among (record { place = q; value = x }) z.lows)
+    aimed_low : Among (record { place = q; value = x }) t.learned.least_previous
+    aimed_low = subst (λ z. Among (record { place = q; value = x }) z.least_previous)
         (sym (ap (λ (z : View). z.learned) is)) s.low
 
     -- and the higher entry
@@ -105,7 +106,7 @@ module _ (v u : View) (q place x : ℕ) (s : IsSplicing v q place x u) where
         (sym (ap (λ (z : View). z.learned) is)) s.higher
 
     -- the entry may be spliced in
-    pub splice_can : Stands u → x < place → CanSplice t (aimed_at splicing x) s.bucket q x
+    pub splice_can : Stands u → x < place → CanSpliceEntry t (aimed_at splicing x) s.bucket q x
     splice_can stands less =
         let links : CanLink t (aimed_at splicing x) splicing.linked s.bucket =
         still_links v t s.flight aims s.bucket aimed s.under.can in
@@ -121,7 +122,7 @@ module _ (v u : View) (q place x : ℕ) (s : IsSplicing v q place x u) where
         }
 
     -- where the first word was the one seen, the entry is linked
-    pub splice_hit : (w : View) (y : ℕ) → y ≡ x → w ≡ after_splice t (aimed_at splicing x) s.bucket q x y
+    pub splice_hit : (w : View) (y : ℕ) → y ≡ x → w ≡ after_splice_entry t (aimed_at splicing x) s.bucket q x y
         → IsLinked v s.flight s.bucket w
     splice_hit w y hit was =
         let made : w ≡ spliced t (aimed_at splicing x) s.bucket q = was ∙ choose_first (ℕ_discrete y x) _ _ hit in
@@ -134,12 +135,12 @@ module _ (v u : View) (q place x : ℕ) (s : IsSplicing v q place x u) where
 
     -- else the value found is higher, and the next to try
     pub splice_miss : (w : View) (y : ℕ) → y ≢ x → y < q
-        → w ≡ after_splice t (aimed_at splicing x) s.bucket q x y → IsSplicing v q place y w
+        → w ≡ after_splice_entry t (aimed_at splicing x) s.bucket q x y → IsSplicing v q place y w
     splice_miss w y miss less was =
         let seen : w ≡ previous_seen t s.bucket q y (ticked t.clock) = was ∙ choose_second (ℕ_discrete y x) _ _ miss in
         splice_goes v q place s.flight s.bucket s.under t w y aims aimed seen less
 
     -- so fewer places are left
-    pub splice_falls : (y : ℕ) → LowRises t q y → y ≢ x → x < place → place - y < place - x
+    pub splice_falls : (y : ℕ) → PreviousRises t q y → y ≢ x → x < place → place - y < place - x
     splice_falls y rises miss less = (let higher : x ≤ y =
         rises (record { place = q; value = x }) aimed_low refl in omega arith)

@@ -9,9 +9,10 @@ use Rattle.fish_chain.specs.Links.{CanLink, Changed, IsBelow, IsLinked, with_lin
 use Rattle.fish_layout.proofs.Clearing.{choose_first, choose_second}
 use Rattle.fish_layout.specs.Cleared.{entry_at}
 use Rattle.fish_rule.proofs.laws.Links.{not_own, own_behind, own_word}
-use Rattle.fish_rule.specs.Linking.{CanAim, CanSwing, HasNode, TopRises, after_aim, after_head, after_swing, aimed_at}
-use Rattle.fish_rule.specs.Linking.{head_seen, own_place, swung}
-use Rattle.fish_rule.specs.Steps.{loaded, ticked}
+use Rattle.fish_rule.specs.ChainSteps.{CanAimEntry, CanSwingHead, HasNode, HeadRises, after_aim_entry, after_load_head}
+use Rattle.fish_rule.specs.ChainSteps.{after_swing_head, aimed_at}
+use Rattle.fish_rule.specs.ChainSteps.{head_seen, own_place, swung}
+use Rattle.fish_rule.specs.SpaceSteps.{loaded, ticked}
 use Rattle.fish_rule.specs.declared.view.Clock.{Clock}
 use Rattle.fish_rule.specs.Table.{Stands}
 use Rattle.fish_rule.specs.Views.{Among}
@@ -25,7 +26,7 @@ pub record IsSwinging (v : View) (b place h : ℕ) (u : View) : Type 0 where
   pub at : place ≡ own_place flight
   pub words : List ℕ
   pub changed : Changed v flight words flight.linked u
-  pub top : Among (record { bucket = b; place = h }) u.learned.tops
+  pub top : Among (record { bucket = b; place = h }) u.learned.least_heads
   pub node : (h ≤ u.about.line * 4) ⊎ HasNode u b h
 
 -- a head that was seen
@@ -37,13 +38,13 @@ seen_head v u t b place h f words clock can at c is = record {
   at = at;
   words = words;
   changed = c;
-  top = subst (λ (z : View). Among (record { bucket = b; place = h }) z.learned.tops) (sym is) (inl refl);
+  top = subst (λ (z : View). Among (record { bucket = b; place = h }) z.learned.least_heads) (sym is) (inl refl);
   node = subst (λ (z : View). (h ≤ z.about.line * 4) ⊎ HasNode z b h) (sym is) (head_here u b h);
 }
 
 -- the first load
 pub swing_begins : (v t : View) (b place h : ℕ) (f : Flight) → CanLink v f f.linked b → place ≡ own_place f
-    → t ≡ after_head v b h → IsSwinging v b place h t
+    → t ≡ after_load_head v b h → IsSwinging v b place h t
 swing_begins v t b place h f can at is = seen_head v v t b place h f f.words (loaded v.clock) can at
     (head_changes v t f b h (loaded v.clock) (quiet_loaded v.clock) can.filled.flying is) is
 
@@ -57,7 +58,7 @@ module _ (v u : View) (b place h : ℕ) (s : IsSwinging v b place h u) where
   swing_links = still_links v u s.flight s.words b s.changed s.can
 
   -- and aimed
-  pub swing_aim : CanAim u swinging
+  pub swing_aim : CanAimEntry u swinging
   swing_aim = link_aim u swinging b swing_links
 
   -- a head that isn't below the own place is that of a linked entry above it
@@ -73,19 +74,19 @@ module _ (v u : View) (b place h : ℕ) (s : IsSwinging v b place h u) where
   abbrev aims : List ℕ
   aims = set s.words (entry_at s.flight.linked) h
 
-  module _ (t : View) (is : t ≡ after_aim u swinging h) where
+  module _ (t : View) (is : t ≡ after_aim_entry u swinging h) where
     -- the changes up to the aim
     aimed : Changed v s.flight aims s.flight.linked t
     aimed = changed_next v u t s.flight s.words aims s.flight.linked s.changed
         (aim_changes u t swinging h swing_links.more is)
 
     -- what was known of the head still is
-    aimed_top : Among (record { bucket = b; place = h }) t.learned.tops
-    aimed_top = subst (λ z. Among (record { bucket = b; place = h }) z.tops)
+    aimed_top : Among (record { bucket = b; place = h }) t.learned.least_heads
+    aimed_top = subst (λ z. Among (record { bucket = b; place = h }) z.least_heads)
         (sym (ap (λ (z : View). z.learned) is)) s.top
 
     -- the head may be swung
-    pub swing_can : Stands u → h < place → CanSwing t (aimed_at swinging h) b h
+    pub swing_can : Stands u → h < place → CanSwingHead t (aimed_at swinging h) b h
     swing_can stands less =
         let links : CanLink t (aimed_at swinging h) swinging.linked b = still_links v t s.flight aims b aimed s.can in
         let at : place ≡ own_place s.flight = s.at in
@@ -98,7 +99,7 @@ module _ (v u : View) (b place h : ℕ) (s : IsSwinging v b place h u) where
         }
 
     -- where the head was the one seen, the entry is linked
-    pub swing_hit : (w : View) (x : ℕ) → x ≡ h → w ≡ after_swing t (aimed_at swinging h) b h x → IsLinked v s.flight b w
+    pub swing_hit : (w : View) (x : ℕ) → x ≡ h → w ≡ after_swing_head t (aimed_at swinging h) b h x → IsLinked v s.flight b w
     swing_hit w x hit was =
         let made : w ≡ swung t (aimed_at swinging h) b = was ∙ choose_first (ℕ_discrete x h) _ _ hit in
         record {
@@ -109,7 +110,7 @@ module _ (v u : View) (b place h : ℕ) (s : IsSwinging v b place h u) where
         }
 
     -- else the head found is higher, and the next to try
-    pub swing_miss : (w : View) (x : ℕ) → x ≢ h → w ≡ after_swing t (aimed_at swinging h) b h x
+    pub swing_miss : (w : View) (x : ℕ) → x ≢ h → w ≡ after_swing_head t (aimed_at swinging h) b h x
         → IsSwinging v b place x w
     swing_miss w x miss was =
         let seen : w ≡ head_seen t b x (ticked t.clock) = was ∙ choose_second (ℕ_discrete x h) _ _ miss in
@@ -118,6 +119,6 @@ module _ (v u : View) (b place h : ℕ) (s : IsSwinging v b place h u) where
         (ap (λ (z : View). z.flight) aimed.known) seen)) seen
 
     -- so fewer places are left
-    pub swing_falls : (x : ℕ) → TopRises t b x → x ≢ h → h < place → place - x < place - h
+    pub swing_falls : (x : ℕ) → HeadRises t b x → x ≢ h → h < place → place - x < place - h
     swing_falls x rises miss less = (let higher : h ≤ x =
         rises (record { bucket = b; place = h }) aimed_top refl in omega arith)

@@ -31,7 +31,7 @@ use Rattle.fish_rule.specs.Facts.{IsFound, IsKnown}
 use Rattle.fish_rule.specs.Logs.{Learns}
 use Rattle.fish_rule.specs.Rule.{Rule}
 use Rattle.fish_rule.specs.Views.{Among}
-use Rattle.fish_rule.specs.Walking.{Always, IsNodeIn}
+use Rattle.fish_rule.specs.ChainFacts.{Always, IsNodeIn}
 use Rattle.fish_rule.specs.World.{World, body, low}
 use Rattle.fish_rule.specs.declared.view.Found.{Found}
 use Rattle.fish_rule.specs.declared.view.Key.{Key}

@@ -4,7 +4,7 @@ use Rattle.fish_claim.specs.Fills.{IsFilled}
 use Rattle.fish_layout.specs.Bucket.{bucket_of}
 use Rattle.fish_layout.specs.Cleared.{body_of}
 use Rattle.fish_layout.specs.Header.{keys_of}
-use Rattle.fish_rule.specs.Linking.{HasNode, own_place}
+use Rattle.fish_rule.specs.ChainSteps.{HasNode, own_place}
 use Rattle.fish_rule.specs.Logs.{Learns}
 use Rattle.fish_rule.specs.declared.view.Clock.{Clock}
 use Rattle.fish_rule.specs.declared.view.Flight.{Flight}
@@ -34,8 +34,8 @@ chained_view v f words linked u = record v {
   flight = Some (with_linked f words linked);
   learned = record v.learned {
     nodes = u.learned.nodes;
-    lows = u.learned.lows;
-    tops = u.learned.tops;
+    least_previous = u.learned.least_previous;
+    least_heads = u.learned.least_heads;
     gaps = u.learned.gaps;
   };
   clock = u.clock;

@@ -6,7 +6,7 @@
 
 ghost use Rattle.std.specs.Prelude.{◌≡◌, ◌<◌, ℕ, Some};
 ghost use Rattle.fish_chain.specs.Links.{CanLink, CanLinkBelow, IsLinked, Tried};
-ghost use Rattle.fish_rule.specs.Linking.{own_place};
+ghost use Rattle.fish_rule.specs.ChainSteps.{own_place};
 ghost use Rattle.fish_rule.specs.Passes.{IsPassOf, view};
 ghost use Rattle.fish_rule.specs.declared.view.Flight.{Flight};
 

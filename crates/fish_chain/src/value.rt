@@ -4,9 +4,9 @@ ghost use Rattle.std.specs.Prelude.{◌≡◌, ◌↔◌, ◌+◌, ◌*◌, ◌<
 ghost use Rattle.fish_chain.specs.Values.{AreBytesIn, AreBytesOf, HasBytes, HasValue, IsGiven, IsWordIn, SaysBytes};
 ghost use Rattle.fish_rule.specs.Logs.{Extends};
 ghost use Rattle.fish_rule.specs.Passes.{IsPassOf, view};
-ghost use Rattle.fish_rule.specs.Reading.{CanRead};
+ghost use Rattle.fish_rule.specs.LoadSteps.{CanReadWord};
 ghost use Rattle.fish_rule.specs.Views.{Among};
-ghost use Rattle.fish_rule.specs.Walking.{Always};
+ghost use Rattle.fish_rule.specs.ChainFacts.{Always};
 ghost use Rattle.fish_rule.specs.declared.view.Found.{Found};
 
 use crate::walk::Node;
@@ -139,7 +139,7 @@ fn load<L: Ledger>(
     loads: &mut Steps<L>,
 ) -> u64
     requires pass { IsPassOf log.now pass.old }
-    requires read { (f : Found) × CanRead (view pass.old) f offset × (f.line ≡ line) × (f.number ≡ number) }
+    requires read { (f : Found) × CanReadWord (view pass.old) f offset × (f.line ≡ line) × (f.number ≡ number) }
     ensures pass { IsPassOf log.now pass.new }
     ensures extends { Extends (view pass.old) (view pass.new) }
     ensures word { Always (view pass.new) (IsWordIn number offset result) }

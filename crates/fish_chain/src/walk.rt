@@ -6,7 +6,7 @@
 ghost use Rattle.std.specs.Prelude.{◌≡◌, ◌+◌, ◌<◌, ◌≤◌};
 ghost use Rattle.fish_chain.specs.Walks.{Gave, LeadsTo, HasBegun, HasRange, IsBounded, IsNumbered, IsPast, IsWalking};
 ghost use Rattle.fish_rule.specs.Parts.{IsOlder, first_head};
-ghost use Rattle.fish_rule.specs.Linking.{CanLoadHead, HasNode};
+ghost use Rattle.fish_rule.specs.ChainSteps.{CanLoadHead, HasNode};
 ghost use Rattle.fish_rule.specs.Logs.{Extends};
 ghost use Rattle.fish_rule.specs.Passes.{IsPassOf, view, walk_of};
 

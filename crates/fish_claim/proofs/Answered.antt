@@ -9,8 +9,9 @@ use Rattle.fish_rule.proofs.laws.Learning.{ahead, learns_both, learns_self}
 use Rattle.fish_rule.specs.Clocks.{IsLater}
 use Rattle.fish_rule.specs.Logs.{Learns}
 use Rattle.fish_rule.specs.Regions.{kind_of}
-use Rattle.fish_rule.specs.Steps.{CanClaim, after_claim, after_publish, after_store, flight_at, flight_kind, own_after}
-use Rattle.fish_rule.specs.Steps.{records_after, shut_after, with_word}
+use Rattle.fish_rule.specs.SpaceSteps.{CanClaimLines, after_claim_lines, after_publish_region, after_store_word}
+use Rattle.fish_rule.specs.SpaceSteps.{flight_at, flight_kind, own_after}
+use Rattle.fish_rule.specs.SpaceSteps.{records_after, shut_after, with_word}
 use Rattle.fish_rule.specs.Views.{Among}
 use Rattle.fish_rule.specs.World.{slots}
 use Rattle.fish_rule.specs.declared.view.Flight.{Flight}
@@ -31,13 +32,13 @@ learns_count v u count about learned more =
 
 -- a claim counts its number, and takes away nothing that was learned
 pub claim_learns : (v : View) (lines number line : ℕ) → v.learned.count ≤ number
-    → Learns v (after_claim v lines number line)
+    → Learns v (after_claim_lines v lines number line)
 claim_learns v lines number line counted =
-    learns_count v (after_claim v lines number line) (suc number) refl refl (omega arith)
+    learns_count v (after_claim_lines v lines number line) (suc number) refl refl (omega arith)
 
 -- nor does a store
-store_learns : (v : View) (f : Flight) (x : ℕ) → Learns v (after_store v f x)
-store_learns v f x = learns_same v (after_store v f x) refl refl
+store_learns : (v : View) (f : Flight) (x : ℕ) → Learns v (after_store_word v f x)
+store_learns v f x = learns_same v (after_store_word v f x) refl refl
 
 -- a publication adds to the records that are known, or leaves them
 records_more : (kind : Kind) (f : Flight) (records : List Recorded) (x : Recorded) → Among x records
@@ -47,7 +48,7 @@ records_more Void f records x m = m
 records_more Mark f records x m = m
 
 -- and it takes away nothing either
-pub publish_learns : (v : View) (f : Flight) → Learns v (after_publish v f)
+pub publish_learns : (v : View) (f : Flight) → Learns v (after_publish_region v f)
 publish_learns v f = assumption (
     learns_self v,
     ahead (record { number = f.number; kind = flight_kind v f; line = f.line; lines = f.lines }) v.learned.found,
@@ -87,9 +88,9 @@ module _ (v : View) (lines number line : ℕ) (counted : v.learned.count ≤ num
   void_unplaced is =
       let f : Flight = flight_at number line lines in
       let x : ℕ = void_word lines in
-      let claimed : View = after_claim v lines number line in
-      let stored : View = after_store claimed f x in
-      let published : View = after_publish stored (with_word f x) in
+      let claimed : View = after_claim_lines v lines number line in
+      let stored : View = after_store_word claimed f x in
+      let published : View = after_publish_region stored (with_word f x) in
       record {
         learns = learns_both v stored published
             (learns_both v claimed stored (claim_learns v lines number line counted) (store_learns claimed f x))
@@ -109,9 +110,9 @@ module _ (v : View) (lines number line : ℕ) (counted : v.learned.count ≤ num
       (claimed_view Mark v lines number line)
   mark_unplaced is =
       let f : Flight = flight_at number line lines in
-      let claimed : View = after_claim v lines number line in
+      let claimed : View = after_claim_lines v lines number line in
       record {
-        learns = learns_both v claimed (after_publish claimed f) (claim_learns v lines number line counted)
+        learns = learns_both v claimed (after_publish_region claimed f) (claim_learns v lines number line counted)
             (publish_learns claimed f);
         clock = record { steps = omega arith; loads = omega arith; notes = []; since = refl };
         frame = refl;
@@ -159,7 +160,7 @@ overflow_law v u lines shut is =
     subst (λ (z : Shut). Unplaced v (Some z) u) t.1 left
 
 -- so a pass that met a void may claim again
-pub void_claims : (v u : View) → CanClaim v → Unplaced v v.shut u → CanClaim u
+pub void_claims : (v u : View) → CanClaimLines v → Unplaced v v.shut u → CanClaimLines u
 void_claims v u can left = record {
   live = subst (λ (z : ℕ). 1 ≤ z) (sym (ap (λ (z : View). z.lane) left.frame)) can.live;
   idle = left.flight;

@@ -16,7 +16,7 @@ use Rattle.fish_rule.specs.Keys.{IsKeyed}
 use Rattle.fish_rule.specs.Logs.{Learns}
 use Rattle.fish_rule.specs.Regions.{kind_of}
 use Rattle.fish_rule.specs.Registry.{KnowsActive}
-use Rattle.fish_rule.specs.Steps.{after_claim, flight_at, flight_kind}
+use Rattle.fish_rule.specs.SpaceSteps.{after_claim_lines, flight_at, flight_kind}
 use Rattle.fish_rule.specs.declared.view.Kind.{Kind}
 use Rattle.fish_rule.specs.declared.view.Kind.TheVariants.{Mark, Stored, Void}
 use Rattle.fish_rule.specs.declared.view.View.{View}
@@ -32,7 +32,7 @@ place_stored Mark end n a lines number line e = cc
 
 -- the record of a place is in flight, its region is within a page, and the pass knows what it knew
 pub record Placed (v : View) (lines number line : ℕ) (u : View) : Type 0 where
-  pub known : u ≡ after_claim v lines number line
+  pub known : u ≡ after_claim_lines v lines number line
   pub stored : flight_kind u (flight_at number line lines) ≡ Stored
   pub learns : Learns v u
 
@@ -44,9 +44,9 @@ placed_law v u lines number line is =
     (is.line + lines)) v.about.end is.number is.line lines number line is.answered in
     let kind : kind_of v.about.end line (line + lines) ≡ Stored =
     subst (λ (z : ℕ). kind_of v.about.end z (z + lines) ≡ Stored) t.2 t.0 in
-    let known : u ≡ after_claim v lines number line =
+    let known : u ≡ after_claim_lines v lines number line =
     is.known ∙ ap (λ (z : Kind). claimed_view z v lines is.number is.line) t.0
-    ∙ (λ i. after_claim v lines (t.1 i) (t.2 i)) in
+    ∙ (λ i. after_claim_lines v lines (t.1 i) (t.2 i)) in
     let counted : v.learned.count ≤ number = subst (λ (z : ℕ). v.learned.count ≤ z) t.1 is.counted in
     record {
       known = known;

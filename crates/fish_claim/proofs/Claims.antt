@@ -8,8 +8,9 @@ use Rattle.fish_rule.proofs.laws.Steps.{FlightLaw, flight_law}
 use Rattle.fish_rule.specs.Passes.{IsPassOf, view}
 use Rattle.fish_rule.specs.Regions.{kind_of}
 use Rattle.fish_rule.specs.Registry.{KnowsActive}
-use Rattle.fish_rule.specs.Steps.{CanClaim, CanPublish, CanStore, IsReady, after_claim, after_publish, after_store}
-use Rattle.fish_rule.specs.Steps.{flight_at, shut_after, with_word}
+use Rattle.fish_rule.specs.SpaceSteps.{CanClaimLines, CanPublishRegion, CanStoreWord, IsReady, after_claim_lines}
+use Rattle.fish_rule.specs.SpaceSteps.{after_publish_region, after_store_word}
+use Rattle.fish_rule.specs.SpaceSteps.{flight_at, shut_after, with_word}
 use Rattle.fish_rule.specs.Table.{Stands}
 use Rattle.fish_rule.specs.World.{slots}
 use Rattle.fish_rule.specs.declared.table.Log.{Log}
@@ -21,7 +22,7 @@ use Rattle.fish_rule.specs.declared.view.Kind.{Kind}
 use Rattle.fish_rule.specs.declared.view.Kind.TheVariants.{Mark, Stored, Void}
 use Rattle.fish_rule.specs.declared.view.View.{View}
 
-module _ (v u : View) (lines n a : ℕ) (is : u ≡ after_claim v lines n a) where
+module _ (v u : View) (lines n a : ℕ) (is : u ≡ after_claim_lines v lines n a) where
   -- the claimed region is in flight
   pub claimed_flight : u.flight ≡ Some (flight_at n a lines)
   claimed_flight = ap (λ (z : View). z.flight) is
@@ -37,7 +38,7 @@ module _ (v u : View) (lines n a : ℕ) (is : u ≡ after_claim v lines n a) whe
       (ap (λ (z : View). z.about) (sym is) ∙ about) ∙ sym told
 
   -- the header of a void may be stored
-  pub can_store_header : 0 < lines → kind_of v.about.end a (a + lines) ≡ Void → CanStore u (flight_at n a lines)
+  pub can_store_header : 0 < lines → kind_of v.about.end a (a + lines) ≡ Void → CanStoreWord u (flight_at n a lines)
   can_store_header some kind =
       let inside = kind-inside v.about.end a (a + lines) (λ e. (let f : Void ≡ Mark = sym kind ∙ e in cc)) in
       record {
@@ -49,14 +50,14 @@ module _ (v u : View) (lines n a : ℕ) (is : u ≡ after_claim v lines n a) whe
       }
 
   -- a void with its header may be published
-  pub can_publish_void : (t : View) → CanClaim v → kind_of v.about.end a (a + lines) ≡ Void
-      → t ≡ after_store u (flight_at n a lines) (void_word lines)
-      → CanPublish t (with_word (flight_at n a lines) (void_word lines))
+  pub can_publish_void : (t : View) → CanClaimLines v → kind_of v.about.end a (a + lines) ≡ Void
+      → t ≡ after_store_word u (flight_at n a lines) (void_word lines)
+      → CanPublishRegion t (with_word (flight_at n a lines) (void_word lines))
   can_publish_void t can kind stored =
-      let w : View = after_store (after_claim v lines n a) (flight_at n a lines) (void_word lines) in
+      let w : View = after_store_word (after_claim_lines v lines n a) (flight_at n a lines) (void_word lines) in
       let f : Flight = with_word (flight_at n a lines) (void_word lines) in
-      let same : t ≡ w = stored ∙ ap (λ (z : View). after_store z (flight_at n a lines) (void_word lines)) is in
-      let may : CanPublish w f = record {
+      let same : t ≡ w = stored ∙ ap (λ (z : View). after_store_word z (flight_at n a lines) (void_word lines)) is in
+      let may : CanPublishRegion w f = record {
         live = can.live;
         flying = refl;
         version = can.version;
@@ -64,14 +65,14 @@ module _ (v u : View) (lines n a : ℕ) (is : u ≡ after_claim v lines n a) whe
         ready = subst (λ (z : Kind). IsReady (KnowsActive v.about w.learned) can.version z v.lane f)
             (sym kind) (refl, refl);
       } in
-      subst (λ (z : View). CanPublish z f) (sym same) may
+      subst (λ (z : View). CanPublishRegion z f) (sym same) may
 
   -- a mark may be published with nothing
-  pub can_publish_mark : CanClaim v → kind_of v.about.end a (a + lines) ≡ Mark → CanPublish u (flight_at n a lines)
+  pub can_publish_mark : CanClaimLines v → kind_of v.about.end a (a + lines) ≡ Mark → CanPublishRegion u (flight_at n a lines)
   can_publish_mark can kind =
-      let w : View = after_claim v lines n a in
+      let w : View = after_claim_lines v lines n a in
       let f : Flight = flight_at n a lines in
-      let may : CanPublish w f = record {
+      let may : CanPublishRegion w f = record {
         live = can.live;
         flying = refl;
         version = can.version;
@@ -79,18 +80,18 @@ module _ (v u : View) (lines n a : ℕ) (is : u ≡ after_claim v lines n a) whe
         ready = subst (λ (z : Kind). IsReady (KnowsActive v.about w.learned) can.version z v.lane f)
             (sym kind) refl;
       } in
-      subst (λ (z : View). CanPublish z f) (sym is) may
+      subst (λ (z : View). CanPublishRegion z f) (sym is) may
 
   -- once it is, the pass is shut by the claim
-  pub mark_shuts : (t : View) → kind_of v.about.end a (a + lines) ≡ Mark → t ≡ after_publish u (flight_at n a lines)
+  pub mark_shuts : (t : View) → kind_of v.about.end a (a + lines) ≡ Mark → t ≡ after_publish_region u (flight_at n a lines)
       → t.shut ≡ Some (record { line = a; lines = lines; end = v.about.end })
   mark_shuts t kind published =
-      ap (λ (z : View). z.shut) (published ∙ ap (λ (z : View). after_publish z (flight_at n a lines)) is)
+      ap (λ (z : View). z.shut) (published ∙ ap (λ (z : View). after_publish_region z (flight_at n a lines)) is)
       ∙ ap (λ (z : Kind). shut_after z (flight_at n a lines) v.about.end v.shut) kind
 
 -- the kind of a region of so many lines, told by the log
 pub kind_is : (log : Log) (v : View) (p : Pass) (lines : ℕ) (r : Region) (kind : Kind) → IsPassOf log p
-    → view p ≡ after_claim v lines r.number r.line
+    → view p ≡ after_claim_lines v lines r.number r.line
     → r.lines ≡ lines → kind ≡ kind_of log.key.end r.line (r.line + r.lines)
     → kind_of v.about.end r.line (r.line + lines) ≡ kind
 kind_is log v p lines r kind of is long told =

@@ -8,18 +8,18 @@ use Rattle.fish_layout.specs.Body.{IsBody}
 use Rattle.fish_layout.specs.Cleared.{body_of}
 use Rattle.fish_layout.specs.Header.{keys_of}
 use Rattle.fish_layout.specs.declared.parts.BodyParts.{BodyParts}
-use Rattle.fish_rule.specs.Linking.{CanAim}
+use Rattle.fish_rule.specs.ChainSteps.{CanAimEntry}
 use Rattle.fish_rule.specs.Logs.{Learns}
 use Rattle.fish_rule.specs.Regions.{kind_of}
 use Rattle.fish_rule.specs.Registry.{KnowsActive}
-use Rattle.fish_rule.specs.Steps.{CanPublish, IsReady}
+use Rattle.fish_rule.specs.SpaceSteps.{CanPublishRegion, IsReady}
 use Rattle.fish_rule.specs.declared.view.Flight.{Flight}
 use Rattle.fish_rule.specs.declared.view.Key.{Key}
 use Rattle.fish_rule.specs.declared.view.Kind.{Kind}
 use Rattle.fish_rule.specs.declared.view.View.{View}
 
 -- an entry that is still to be linked may be aimed
-pub filled_aim : (v : View) (f : Flight) → IsFilled v f → f.linked < keys_of (body_of f.words 0) → CanAim v f
+pub filled_aim : (v : View) (f : Flight) → IsFilled v f → f.linked < keys_of (body_of f.words 0) → CanAimEntry v f
 filled_aim v f is more = record {
   flying = is.flying;
   kind = is.stored;
@@ -29,7 +29,7 @@ filled_aim v f is more = record {
 }
 
 -- once all entries are linked, the record may be published
-pub filled_publish : (v : View) (f : Flight) → IsFilled v f → f.linked ≡ keys_of (body_of f.words 0) → CanPublish v f
+pub filled_publish : (v : View) (f : Flight) → IsFilled v f → f.linked ≡ keys_of (body_of f.words 0) → CanPublishRegion v f
 filled_publish v f is all = record {
   live = is.live;
   flying = is.flying;
@@ -45,7 +45,7 @@ body_keys p words is = ap keys_of (cleared_head _) ∙ (body_says is).keys
 
 -- so a record with no key entries may be published once it is filled
 pub plain_publish : (v : View) (f : Flight) (p : BodyParts) (words : List ℕ) → IsFilled v (with_words f words)
-    → f.linked ≡ 0 → IsBody p words → p.keys ≡ [] → CanPublish v (with_words f words)
+    → f.linked ≡ 0 → IsBody p words → p.keys ≡ [] → CanPublishRegion v (with_words f words)
 plain_publish v f p words is none body keys =
     filled_publish v (with_words f words) is (none ∙ sym (body_keys p words body ∙ ap length keys))
 

@@ -5,7 +5,7 @@ use Rattle.std.proofs.Math.Seq.{take-suc}
 use Rattle.fish_claim.specs.Fills.{CanFill, IsFilled, filled_view, with_words}
 use Rattle.fish_rule.proofs.laws.Regions.{kind-inside}
 use Rattle.fish_rule.specs.Flying.{region_in, region_of}
-use Rattle.fish_rule.specs.Steps.{CanStore, after_store}
+use Rattle.fish_rule.specs.SpaceSteps.{CanStoreWord, after_store_word}
 use Rattle.fish_rule.specs.declared.table.Region.{Region}
 use Rattle.fish_rule.specs.declared.view.Flight.{Flight}
 use Rattle.fish_rule.specs.declared.view.Kind.TheVariants.{Mark, Stored, Void}
@@ -26,30 +26,30 @@ module _ (v : View) (f : Flight) (words : List ℕ) (can : CanFill v f words) wh
   -- the next word may be stored
   pub can_store_next : (u : View) (i : ℕ) → u ≡ filled_view v f (take i words) → length (take i words) ≡ i
       → i < length words
-      → CanStore u (with_words f (take i words))
+      → CanStoreWord u (with_words f (take i words))
   can_store_next u i is many less =
       let full = can.full in
       let inside = kind-inside v.about.end f.line (f.line + f.lines)
       (λ e. (let g : Stored ≡ Mark = sym can.stored ∙ e in cc)) in
-      let may : CanStore (filled_view v f (take i words)) (with_words f (take i words)) = record {
+      let may : CanStoreWord (filled_view v f (take i words)) (with_words f (take i words)) = record {
         flying = refl;
         unlinked = can.unlinked;
         more = omega arith;
         within = inside;
         header = λ void. (let bad : Stored ≡ Void = sym can.stored ∙ void in cc);
       } in
-      subst (λ (z : View). CanStore z (with_words f (take i words))) (sym is) may
+      subst (λ (z : View). CanStoreWord z (with_words f (take i words))) (sym is) may
 
   -- and then one word more is
   pub filled_more : (u t : View) (i : ℕ) → u ≡ filled_view v f (take i words) → i < length words
-      → t ≡ after_store u (with_words f (take i words)) (get_or words i 0) → t ≡ filled_view v f (take (i + 1) words)
+      → t ≡ after_store_word u (with_words f (take i words)) (get_or words i 0) → t ≡ filled_view v f (take (i + 1) words)
   filled_more u t i is less stored =
       let x : ℕ = get_or words i 0 in
       let next : take i words ++ x ∷ [] ≡ take (i + 1) words =
       sym (ap (λ (z : ℕ). take z words) (add-one i) ∙ take-suc words i 0 less) in
       let long : suc (v.clock.steps + length (take i words)) ≡ v.clock.steps + length
       (take i words ++ x ∷ []) = (let e = length-append (take i words) (x ∷ []) in omega arith) in
-      stored ∙ ap (λ (z : View). after_store z (with_words f (take i words)) x) is
+      stored ∙ ap (λ (z : View). after_store_word z (with_words f (take i words)) x) is
       ∙ (λ j. record v {
         flight = Some (with_words f (take i words ++ x ∷ []));
         clock = record v.clock { steps = long j };

@@ -8,7 +8,7 @@ use Rattle.fish_rule.proofs.laws.Alone.{all_from}
 use Rattle.fish_rule.proofs.laws.Lists.{all_among}
 use Rattle.fish_rule.proofs.laws.Versions.{keyed_map}
 use Rattle.fish_rule.specs.Keys.{IsKeyed}
-use Rattle.fish_rule.specs.Linking.{HasBody}
+use Rattle.fish_rule.specs.ChainSteps.{HasBody}
 use Rattle.fish_rule.specs.Logs.{Learns}
 use Rattle.fish_rule.specs.Registry.{HasRead, KnowsActive}
 use Rattle.fish_rule.specs.declared.view.Flight.{Flight}

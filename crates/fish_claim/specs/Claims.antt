@@ -4,7 +4,7 @@ use Rattle.fish_claim.specs.declared.claimed.Claimed.{Claimed}
 use Rattle.fish_claim.specs.declared.claimed.Claimed.TheVariants as answer
 use Rattle.fish_layout.specs.Header.{void_word}
 use Rattle.fish_rule.specs.Regions.{kind_of}
-use Rattle.fish_rule.specs.Steps.{after_claim, after_publish, after_store, flight_at, with_word}
+use Rattle.fish_rule.specs.SpaceSteps.{after_claim_lines, after_publish_region, after_store_word, flight_at, with_word}
 use Rattle.fish_rule.specs.World.{slots}
 use Rattle.fish_rule.specs.declared.view.Kind.{Kind}
 use Rattle.fish_rule.specs.declared.view.Kind.TheVariants.{Mark, Stored, Void}
@@ -18,11 +18,11 @@ answer_of Mark end number line lines = answer.Overflow (record { line = line; li
 
 -- the view after it: a record is in flight, a void is published with its header, and a mark with nothing
 abbrev pub claimed_view : Kind → View → ℕ → ℕ → ℕ → View
-claimed_view Stored v lines number line = after_claim v lines number line
+claimed_view Stored v lines number line = after_claim_lines v lines number line
 claimed_view Void v lines number line =
     let f = flight_at number line lines in
-    after_publish (after_store (after_claim v lines number line) f (void_word lines)) (with_word f (void_word lines))
-claimed_view Mark v lines number line = after_publish (after_claim v lines number line) (flight_at number line lines)
+    after_publish_region (after_store_word (after_claim_lines v lines number line) f (void_word lines)) (with_word f (void_word lines))
+claimed_view Mark v lines number line = after_publish_region (after_claim_lines v lines number line) (flight_at number line lines)
 
 -- a claim of so many lines got the region at some number and line, and became what the kind of this region says
 pub record IsClaimed (v : View) (lines : ℕ) (answer : Claimed) (after : View) : Type 0 where

@@ -6,9 +6,9 @@ use Rattle.fish_layout.specs.Header.{keys_of}
 use Rattle.fish_layout.specs.declared.parts.BodyParts.{BodyParts}
 use Rattle.fish_psf.specs.Records.{is_record}
 use Rattle.fish_rule.specs.Keys.{HasKeys}
-use Rattle.fish_rule.specs.Linking.{HasBody}
+use Rattle.fish_rule.specs.ChainSteps.{HasBody}
 use Rattle.fish_rule.specs.Registry.{KnowsActive}
-use Rattle.fish_rule.specs.Steps.{flight_kind}
+use Rattle.fish_rule.specs.SpaceSteps.{flight_kind}
 use Rattle.fish_rule.specs.declared.view.Epoch.TheVariants.{Confirmed}
 use Rattle.fish_rule.specs.declared.view.Flight.{Flight}
 use Rattle.fish_rule.specs.declared.view.Kind.TheVariants.{Stored}

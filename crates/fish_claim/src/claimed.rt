@@ -3,7 +3,7 @@
 ghost use Rattle.std.specs.Prelude.{◌<◌, ◌≤◌};
 ghost use Rattle.fish_claim.specs.Claims.{IsClaimed};
 ghost use Rattle.fish_rule.specs.Passes.{IsPassOf, view};
-ghost use Rattle.fish_rule.specs.Steps.{CanClaim};
+ghost use Rattle.fish_rule.specs.SpaceSteps.{CanClaimLines};
 
 use fish_layout::void_header;
 use fish_rule::{Kind, Log, Pass, Shut, claim_lines, is_shut, kind_in, publish_region, store_word};
@@ -34,7 +34,7 @@ pub enum Claimed {
 pub fn claim(log: &Log, pass: &mut Pass, lines: u64) -> Claimed
     requires pass { IsPassOf log.now pass.old }
     requires lines { (0 < lines) × (lines ≤ 18625) }
-    requires view { CanClaim (view pass.old) }
+    requires view { CanClaimLines (view pass.old) }
     ensures pass { IsPassOf log.now pass.new }
     ensures claimed { IsClaimed (view pass.old) lines result (view pass.new) }
 {

@@ -3,7 +3,7 @@
 ghost use Rattle.std.specs.Prelude.{◌≡◌};
 ghost use Rattle.fish_claim.specs.Fills.{CanFill, IsFilled, filled_view, with_words};
 ghost use Rattle.fish_rule.specs.Passes.{IsPassOf, view};
-ghost use Rattle.fish_rule.specs.Steps.{CanPublish, after_publish, flight_kind};
+ghost use Rattle.fish_rule.specs.SpaceSteps.{CanPublishRegion, after_publish_region, flight_kind};
 ghost use Rattle.fish_rule.specs.declared.view.Flight.{Flight};
 ghost use Rattle.fish_rule.specs.declared.view.Kind.TheVariants.{Stored};
 
@@ -30,9 +30,9 @@ pub fn fill(log: &Log, pass: &mut Pass, body: &[u64])
 /// Publishes the record in flight, and answers its number.
 pub fn publish(log: &Log, pass: &mut Pass) -> u32
     requires pass { IsPassOf log.now pass.old }
-    requires view { (f : Flight) × CanPublish (view pass.old) f × (flight_kind (view pass.old) f ≡ Stored) }
+    requires view { (f : Flight) × CanPublishRegion (view pass.old) f × (flight_kind (view pass.old) f ≡ Stored) }
     ensures pass { IsPassOf log.now pass.new }
-    ensures view { (f : Flight) → (view pass.old).flight ≡ Some f → view pass.new ≡ after_publish (view pass.old) f }
+    ensures view { (f : Flight) → (view pass.old).flight ≡ Some f → view pass.new ≡ after_publish_region (view pass.old) f }
     ensures number { (f : Flight) → (view pass.old).flight ≡ Some f → result ≡ f.number }
 {
     let Some(region) = in_flight(pass) else {

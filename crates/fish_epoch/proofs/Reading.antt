@@ -16,7 +16,7 @@ use Rattle.fish_rule.proofs.laws.Lists.{all_among}
 use Rattle.fish_rule.proofs.laws.Clocks.{later_ticked}
 use Rattle.fish_rule.proofs.laws.Learning.{ahead, extends_both, extends_self, learns_self}
 use Rattle.fish_rule.proofs.laws.Versions.{definitions_next, length_registered, listing_law}
-use Rattle.fish_rule.specs.Entering.{after_registry}
+use Rattle.fish_rule.specs.RegistrySteps.{after_load_registry}
 use Rattle.fish_rule.specs.Logs.{Learns}
 use Rattle.fish_rule.specs.Registry.{HasRead, KnowsDefinitions, KnowsRow, definitions_at, made, op_at, row_at, row_in}
 use Rattle.fish_rule.specs.Table.{Stands}
@@ -45,7 +45,7 @@ reads_both a b c e f = record {
 }
 
 -- a load of a word that lasts
-pub reads_word : (v u : View) (p x : ℕ) → u ≡ after_registry v p x → OnlyReads v u
+pub reads_word : (v u : View) (p x : ℕ) → u ≡ after_load_registry v p x → OnlyReads v u
 reads_word v u p x e = subst (OnlyReads v) (sym e) (record {
   extends = record {
     learns = assumption (learns_self v, ahead (record { index = p; value = x }) v.learned.words);
@@ -110,7 +110,7 @@ first_known v id less = record {
 -- ---- the words of a row
 
 -- one word more of the row is read
-pub words_more : (v u : View) (id place x : ℕ) (ws : List ℕ) → length ws ≡ 39 → place < 39 → u ≡ after_registry v (row_at id place) x
+pub words_more : (v u : View) (id place x : ℕ) (ws : List ℕ) → length ws ≡ 39 → place < 39 → u ≡ after_load_registry v (row_at id place) x
     → ((row : CatRow) → slice_get v.about.rows.value id ≡ Some row
     → Rattle.fish_catalog.specs.Words.IsWritable row × (x ≡ row_word row place))
     → HasRowWords v id place (slice_index ws) → HasRowWords u id (suc place) (slice_index (slice_set ws place x))
@@ -252,7 +252,7 @@ module _ (v u : View) (before x : ℕ) (ls : List Listed) (learns : Learns v u)
   }
 
 -- an operation that was read is known
-pub operation_read : (v u : View) (p x : ℕ) → u ≡ after_registry v p x
+pub operation_read : (v u : View) (p x : ℕ) → u ≡ after_load_registry v p x
     → Among (record { index = p; value = x }) u.learned.words
 operation_read v u p x e = subst (λ (z : View). Among (record { index = p; value = x }) z.learned.words) (sym e) (inl refl)
 

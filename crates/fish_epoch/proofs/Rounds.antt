@@ -5,7 +5,7 @@ use Rattle.fish_layout.proofs.Clearing.{choose_first}
 use Rattle.fish_rule.proofs.laws.Clocks.{later_both, later_noted, later_self, later_ticked, loaded_within, noted_load}
 use Rattle.fish_rule.proofs.laws.Learning.{learns_both, learns_self}
 use Rattle.fish_rule.specs.Clocks.{HasLoaded, IsLater}
-use Rattle.fish_rule.specs.Entering.{CanAnnounce, CanEnter, after_announce, after_version}
+use Rattle.fish_rule.specs.RegistrySteps.{CanAnnounce, CanEnter, after_announce, after_load_version}
 use Rattle.fish_rule.specs.Epochs.{confirmed}
 use Rattle.fish_rule.specs.Logs.{Learns}
 use Rattle.fish_rule.specs.declared.view.Epoch.{Epoch}
@@ -46,9 +46,9 @@ learns_version v u version about learned later =
     subst (λ (l : Learned). Learns v (record u { learned = l })) (sym learned) (assumption (learns_self v, about, later))
 
 -- a load of the version keeps to the view, where the version has risen
-pub enters_version : (v : View) (x : ℕ) → v.learned.version ≤ x → OnlyEnters v (after_version v x)
+pub enters_version : (v : View) (x : ℕ) → v.learned.version ≤ x → OnlyEnters v (after_load_version v x)
 enters_version v x more = record {
-  learns = learns_version v (after_version v x) x refl refl more;
+  learns = learns_version v (after_load_version v x) x refl refl more;
   clock = later_noted v.clock Version x;
   frame = refl;
   count = refl;
@@ -57,7 +57,7 @@ enters_version v x more = record {
 }
 
 -- and so does a store of the own epoch
-pub enters_epoch : (v : View) (e : Epoch) → OnlyEnters v (record v { epoch = e; clock = Rattle.fish_rule.specs.Steps.ticked v.clock })
+pub enters_epoch : (v : View) (e : Epoch) → OnlyEnters v (record v { epoch = e; clock = Rattle.fish_rule.specs.SpaceSteps.ticked v.clock })
 enters_epoch v e = record {
   learns = learns_version v _ v.learned.version refl refl (omega arith);
   clock = later_ticked v.clock;
@@ -81,7 +81,7 @@ pub record IsRound (v : View) (version found : ℕ) (u : View) : Type 0 where
 
 -- one round from a view that has loaded the version
 pub round_of : (v a b c : View) (version found : ℕ) → OnlyEnters v a → a.learned.version ≡ version
-    → a.clock.steps ≤ v.clock.steps + 1 + 2 * version → b ≡ after_announce a version → c ≡ after_version b found
+    → a.clock.steps ≤ v.clock.steps + 1 + 2 * version → b ≡ after_announce a version → c ≡ after_load_version b found
     → b.learned.version ≤ found → found ≤ 512 → IsRound v version found c
 round_of v a b c version found keeps loaded steps announced load rises few =
     let seen : b.learned.version ≡ version = ap (λ (z : View). z.learned.version) announced ∙ loaded in
@@ -104,8 +104,8 @@ round_of v a b c version found keeps loaded steps announced load rises few =
     }
 
 -- the first round
-pub first_round : (v a b c : View) (version found : ℕ) → a ≡ after_version v version → v.learned.version ≤ version
-    → b ≡ after_announce a version → c ≡ after_version b found → b.learned.version ≤ found → found ≤ 512
+pub first_round : (v a b c : View) (version found : ℕ) → a ≡ after_load_version v version → v.learned.version ≤ version
+    → b ≡ after_announce a version → c ≡ after_load_version b found → b.learned.version ≤ found → found ≤ 512
     → IsRound v version found c
 first_round v a b c version found first reached announced load rises few =
     let step : a.clock.steps ≡ suc v.clock.steps = ap (λ (z : View). z.clock.steps) first in
@@ -114,7 +114,7 @@ first_round v a b c version found first reached announced load rises few =
 
 -- a round behind another that found a newer version
 pub next_round : (v a b c : View) (before version found : ℕ) → IsRound v before version a → version ≢ before
-    → b ≡ after_announce a version → c ≡ after_version b found → b.learned.version ≤ found → found ≤ 512
+    → b ≡ after_announce a version → c ≡ after_load_version b found → b.learned.version ≤ found → found ≤ 512
     → IsRound v version found c
 next_round v a b c before version found h ne announced load rises few =
     let s = h.steps in

@@ -2,7 +2,7 @@
 
 ghost use Rattle.std.specs.Prelude.{◌≡◌, ◌≤◌};
 ghost use Rattle.fish_epoch.specs.Entering.{HasEntered};
-ghost use Rattle.fish_rule.specs.Entering.{CanEnter, after_retire};
+ghost use Rattle.fish_rule.specs.RegistrySteps.{CanEnter, after_retire};
 ghost use Rattle.fish_rule.specs.Passes.{IsPassOf, view};
 
 use fish_rule::{Log, Pass, announce, load_version, retire};

@@ -18,10 +18,10 @@ use Rattle.fish_rule.proofs.laws.Lists.{all_among}
 use Rattle.fish_rule.proofs.laws.Learning.{learns_both}
 use Rattle.fish_rule.proofs.laws.Regions.{one_flight}
 use Rattle.fish_rule.proofs.laws.Regions.{published}
-use Rattle.fish_rule.specs.Entering.{after_retire}
+use Rattle.fish_rule.specs.RegistrySteps.{after_retire}
 use Rattle.fish_rule.specs.Facts.{IsRecorded}
 use Rattle.fish_rule.specs.Logs.{Tells}
-use Rattle.fish_rule.specs.Steps.{after_publish, flight_kind, own_after, records_after, shut_after}
+use Rattle.fish_rule.specs.SpaceSteps.{after_publish_region, flight_kind, own_after, records_after, shut_after}
 use Rattle.fish_rule.specs.Views.{Among}
 use Rattle.fish_rule.specs.World.{body}
 use Rattle.fish_rule.specs.declared.view.Flight.{Flight}
@@ -53,10 +53,10 @@ tells_recorded v n stored words p among made same number u learns w r j at =
 
 -- the record that was pending is published, and the pass is out
 pub has_ingested : (v u w : View) (form : Form) (payload : List ℕ) (pending : Pending) (s : HasStarted v form payload pending u)
-    → w ≡ after_retire (after_publish u s.waits.flight) → HasIngested v form payload (number_of pending) w
+    → w ≡ after_retire (after_publish_region u s.waits.flight) → HasIngested v form payload (number_of pending) w
 has_ingested v u w form payload pending s is = subst (HasIngested v form payload (number_of pending)) (sym is) (
     let f : Flight = s.waits.flight in
-    let p : View = after_publish u f in
+    let p : View = after_publish_region u f in
     let kind : flight_kind u f ≡ Stored = s.waits.stored in
     let number : f.number ≡ number_of pending = s.waits.number_is in
     let flights : s.words.flight ≡ f = one_flight s.words.flight f (sym s.words.flying ∙ s.waits.ready.flying) in

@@ -27,7 +27,7 @@ use Rattle.fish_layout.specs.Body.{body_lines}
 use Rattle.fish_psf.specs.declared.key.ActiveDef.{ActiveDef}
 use Rattle.fish_rule.proofs.laws.Learning.{learns_both}
 use Rattle.fish_rule.proofs.laws.Versions.{listing_law}
-use Rattle.fish_rule.specs.Entering.{after_retire}
+use Rattle.fish_rule.specs.RegistrySteps.{after_retire}
 use Rattle.fish_rule.specs.Epochs.{Carries}
 use Rattle.fish_rule.specs.Keys.{text_of}
 use Rattle.fish_rule.specs.Logs.{Learns}

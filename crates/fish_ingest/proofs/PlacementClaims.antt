@@ -11,7 +11,7 @@ use Rattle.fish_ingest.specs.Placement.{HasPlace, IsShutBy}
 use Rattle.fish_rule.proofs.laws.Clocks.{later_ticked}
 use Rattle.fish_rule.specs.Clocks.{IsLater}
 use Rattle.fish_rule.specs.Regions.{kind_of}
-use Rattle.fish_rule.specs.Steps.{CanClaim}
+use Rattle.fish_rule.specs.SpaceSteps.{CanClaimLines}
 use Rattle.fish_rule.specs.Views.{Among}
 use Rattle.fish_rule.specs.World.{slots}
 use Rattle.fish_rule.specs.declared.view.Found.{Found}
@@ -76,7 +76,7 @@ mark_found Mark v u lines number line shut is e known =
 -- each claim so far became a void, and the pass may claim again
 pub record IsTrying (v u : View) : Type 0 where
   pub on : OnlyIngests v u
-  pub can : CanClaim u
+  pub can : CanClaimLines u
   pub epoch : u.epoch ≡ v.epoch
   pub shut : u.shut ≡ v.shut
   pub own : u.own ≡ v.own
@@ -84,7 +84,7 @@ pub record IsTrying (v u : View) : Type 0 where
   pub version : u.learned.version ≡ v.learned.version
   pub voids : FoundSince (λ kind. kind ≡ Void) v u
 
-pub trying_begins : (v : View) → CanClaim v → IsTrying v v
+pub trying_begins : (v : View) → CanClaimLines v → IsTrying v v
 trying_begins v can = record {
   on = on_self v;
   can = can;

@@ -10,7 +10,7 @@ use Rattle.fish_ingest.specs.declared.placement.Pending.{Pending}
 use Rattle.fish_ingest.specs.declared.preparation.Prepared.{Prepared}
 use Rattle.fish_layout.proofs.Sizes.{few_lines, some_lines}
 use Rattle.fish_rule.specs.Keys.{text_of}
-use Rattle.fish_rule.specs.Steps.{flight_at}
+use Rattle.fish_rule.specs.SpaceSteps.{flight_at}
 use Rattle.fish_rule.specs.Views.{Among}
 use Rattle.fish_rule.specs.declared.table.Region.{Region}
 use Rattle.fish_rule.specs.declared.view.Flight.{Flight}

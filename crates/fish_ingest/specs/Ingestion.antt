@@ -14,7 +14,7 @@ use Rattle.fish_psf.specs.Records.{is_record}
 use Rattle.fish_rule.specs.Clocks.{HasLoaded}
 use Rattle.fish_rule.specs.Logs.{Tells}
 use Rattle.fish_rule.specs.Passes.{IsPassOf, view}
-use Rattle.fish_rule.specs.Steps.{CanPublish, flight_kind}
+use Rattle.fish_rule.specs.SpaceSteps.{CanPublishRegion, flight_kind}
 use Rattle.fish_rule.specs.Views.{Among}
 use Rattle.fish_rule.specs.declared.table.Log.{Log}
 use Rattle.fish_rule.specs.declared.table.Pass.{Pass}
@@ -42,7 +42,7 @@ pub record CanIngest (log : Log) (pass : Pass) (defs : Defs) : Type 0 where
 -- the record in flight is the pending one, and may be published
 pub record IsPending (v : View) (pending : Pending) : Type 0 where
   pub flight : Flight
-  pub ready : CanPublish v flight
+  pub ready : CanPublishRegion v flight
   pub stored : flight_kind v flight ≡ Stored
   pub number_is : flight.number ≡ number_of pending
 

@@ -3,7 +3,7 @@ use Rattle.std.specs.Prelude.{ℕ, ◌≡◌, ◌+◌, ◌<◌, ◌≤◌, List,
 use Rattle.fish_catalog.specs.declared.entry.Entry.TheVariants as entry
 use Rattle.fish_ingest.specs.Ingestion.{HasIngested}
 use Rattle.fish_ingest.specs.Passing.{HasMark}
-use Rattle.fish_rule.specs.Closing.{IsClosed}
+use Rattle.fish_rule.specs.ClosedLog.{IsClosed}
 use Rattle.fish_rule.specs.Logs.{Learns}
 use Rattle.fish_rule.specs.Table.{Stands}
 use Rattle.fish_rule.specs.declared.close.Remains.{Remains}

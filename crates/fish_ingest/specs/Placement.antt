@@ -14,7 +14,7 @@ use Rattle.fish_rule.specs.Flying.{region_of}
 use Rattle.fish_rule.specs.Keys.{text_of}
 use Rattle.fish_rule.specs.Logs.{Learns}
 use Rattle.fish_rule.specs.Registry.{KnowsActive}
-use Rattle.fish_rule.specs.Steps.{CanClaim, CanPublish, flight_at, flight_kind}
+use Rattle.fish_rule.specs.SpaceSteps.{CanClaimLines, CanPublishRegion, flight_at, flight_kind}
 use Rattle.fish_rule.specs.declared.view.Epoch.TheVariants.{Confirmed}
 use Rattle.fish_rule.specs.declared.view.Flight.{Flight}
 use Rattle.fish_rule.specs.declared.view.Kind.TheVariants.{Stored, Void}
@@ -63,7 +63,7 @@ pub record OnlyWrites (v u : View) : Type 0 where
 -- learned since
 pub record HasWritten (v : View) (f : Flight) (u : View) : Type 0 where
   pub flight : Flight
-  pub ready : CanPublish u flight
+  pub ready : CanPublishRegion u flight
   pub stored : flight_kind u flight ≡ Stored
   pub region : region_of flight ≡ region_of f
   pub only : OnlyWrites v u
@@ -77,7 +77,7 @@ number_of pending = pending.number
 -- what was prepared is a record of the pass's lane and of the version at which it is entered, with the keys of the
 -- definitions that it knows to be active there, and the pass may claim its lines
 pub record CanPlace (v : View) (prepared : Prepared) : Type 0 where
-  pub claim : CanClaim v
+  pub claim : CanClaimLines v
   pub defs : List ActiveDef
   pub origin : Origin
   pub payload : List ℕ
@@ -118,7 +118,7 @@ pub record IsShutBy (v : View) (lines : ℕ) (shut : Shut) (u : View) : Type 0 w
 pub record IsInPlace (v : View) (prepared : Prepared) (can : CanPlace v prepared) (pending : Pending) (u : View) : Type 0 where
   pub on : OnlyIngests v u
   pub flight : Flight
-  pub ready : CanPublish u flight
+  pub ready : CanPublishRegion u flight
   pub stored : flight_kind u flight ≡ Stored
   pub number_is : flight.number ≡ pending.number
   pub words : HoldsParts (record can.made.0.0 { number = flight.number }) u

@@ -9,9 +9,9 @@ ghost use Rattle.fish_ingest.specs.Preparation.{IsRead};
 ghost use Rattle.fish_ingest.specs.Refusal.{HasNotClaimed, HasRefused, IsCause, IsEarly, IsLate};
 ghost use Rattle.fish_ingest.specs.declared.refusal.IngestRefusal.TheVariants as refusal;
 ghost use Rattle.fish_read.specs.Rows.{fields_in_row};
-ghost use Rattle.fish_rule.specs.Entering.{after_retire};
+ghost use Rattle.fish_rule.specs.RegistrySteps.{after_retire};
 ghost use Rattle.fish_rule.specs.Passes.{IsPassOf, view};
-ghost use Rattle.fish_rule.specs.Steps.{after_publish};
+ghost use Rattle.fish_rule.specs.SpaceSteps.{after_publish_region};
 ghost use Rattle.fish_rule.specs.declared.view.Flight.{Flight};
 ghost use Rattle.fish_value.specs.Limits.{longest_payload};
 
@@ -88,7 +88,7 @@ pub fn finish(log: &Log, pass: &mut Pass, pending: Pending) -> u32
     requires pending { IsPending (view pass.old) pending }
     ensures pass { IsPassOf log.now pass.new }
     ensures view { (f : Flight) → (view pass.old).flight ≡ Some f
-        → view pass.new ≡ after_retire (after_publish (view pass.old) f) }
+        → view pass.new ≡ after_retire (after_publish_region (view pass.old) f) }
     ensures number { result ≡ number_of pending }
 {
     let Pending { number: _ } = pending;

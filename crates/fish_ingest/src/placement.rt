@@ -4,7 +4,7 @@ ghost use Rattle.std.specs.Prelude.{◌≡◌, ◌<◌, ◌≤◌, IfErr, IfOk, 
 ghost use Rattle.fish_ingest.specs.Placement.{CanPlace, CanWrite, HasPlace, IsInPlace, HoldsParts, HasWritten, IsShutBy};
 ghost use Rattle.fish_ingest.specs.Placement.{claimed_parts};
 ghost use Rattle.fish_rule.specs.Passes.{IsPassOf, view};
-ghost use Rattle.fish_rule.specs.Steps.{CanClaim};
+ghost use Rattle.fish_rule.specs.SpaceSteps.{CanClaimLines};
 ghost use Rattle.fish_rule.specs.declared.view.Flight.{Flight};
 
 use crate::preparation::Prepared;
@@ -56,7 +56,7 @@ pub(crate) fn place(log: &Log, pass: &mut Pass, prepared: Prepared) -> Result<Pe
 fn claim_place(log: &Log, pass: &mut Pass, lines: u64) -> Result<u32, Shut>
     requires pass { IsPassOf log.now pass.old }
     requires lines { (0 < lines) × (lines ≤ 18625) }
-    requires can { CanClaim (view pass.old) }
+    requires can { CanClaimLines (view pass.old) }
     ensures pass { IsPassOf log.now pass.new }
     ensures placed { IfOk result (λ number. HasPlace (view pass.old) lines number (view pass.new)) }
     ensures shut { IfErr result (λ shut. IsShutBy (view pass.old) lines shut (view pass.new)) }

@@ -33,7 +33,7 @@ use Rattle.fish_report.specs.declared.item.ScanCause.TheVariants as cause
 use Rattle.fish_rule.proofs.laws.ClosedLogs.{always_closed}
 use Rattle.fish_rule.proofs.laws.Moments.{before_mark}
 use Rattle.fish_rule.proofs.laws.Learning.{learns_both}
-use Rattle.fish_rule.specs.Closing.{IsClosed}
+use Rattle.fish_rule.specs.ClosedLog.{IsClosed}
 use Rattle.fish_rule.specs.Logs.{IsEntry, Learns, TellsMark}
 use Rattle.fish_rule.specs.Parts.{IsEntryWord}
 use Rattle.fish_rule.specs.Regions.{code}

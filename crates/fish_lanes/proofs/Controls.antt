@@ -54,11 +54,11 @@ after_more r [] x = refl
 after_more r (y ∷ items) x = after_more (after r y) items x
 
 -- each item counts the version that it made
-after_version : (r : Registry) (x : Item) → (after r x).version ≡ r.version + made_by x
-after_version r (item.Registered name id from def) = omega arith
-after_version r (item.Rolling name id def seat version) = omega arith
-after_version r (item.Deregistered name id to) = omega arith
-after_version r x = omega arith
+after_load_version : (r : Registry) (x : Item) → (after r x).version ≡ r.version + made_by x
+after_load_version r (item.Registered name id from def) = omega arith
+after_load_version r (item.Rolling name id def seat version) = omega arith
+after_load_version r (item.Deregistered name id to) = omega arith
+after_load_version r x = omega arith
 
 -- ---- definitions that are known
 
@@ -134,7 +134,7 @@ pub held_done : (v : View) (r : Registrar) (u : View) (s : Registrar) (t : View)
     → Held v r t q (works ++ w ∷ []) (items ++ x ∷ [])
 held_done v r u s t q works items w x base h c =
     let made : t.learned.version ≡ u.learned.version + made_by x =
-    ap (λ (z : Registry). z.version) c.does.is ∙ after_version (registry_of u s) x in
+    ap (λ (z : Registry). z.version) c.does.is ∙ after_load_version (registry_of u s) x in
     held_item v r u s t q works (works ++ w ∷ []) items x h h.told.gains.on.learns c.gains.on.learns c.does
     (subst (HasTold v t (works ++ w ∷ [])) (sym (answers_more items x (fit_answer u t w x c.fit)))
     (told_more v u t works (answers items) w x c.rows base h.told c.gains c.first c.fit (omega arith)))

@@ -34,11 +34,11 @@ use Rattle.fish_rule.proofs.laws.Learning.{learns_both, learns_self}
 use Rattle.fish_rule.specs.Logs.{Learns, TellsMark}
 use Rattle.fish_rule.specs.Parts.{Rests}
 use Rattle.fish_rule.specs.Passes.{view}
-use Rattle.fish_rule.specs.Reading.{IsAlone}
+use Rattle.fish_rule.specs.LoadSteps.{IsAlone}
 use Rattle.fish_rule.specs.Table.{Stands}
 use Rattle.fish_rule.proofs.laws.ChainFacts.{always_later}
 use Rattle.fish_rule.specs.Views.{AllOf, Among}
-use Rattle.fish_rule.specs.Walking.{Always}
+use Rattle.fish_rule.specs.ChainFacts.{Always}
 use Rattle.fish_rule.specs.declared.view.Shut.{Shut}
 use Rattle.fish_rule.specs.World.{World, high, low}
 use Rattle.fish_registry.specs.declared.registrar.Registrar.{Registrar}

@@ -15,7 +15,7 @@ use Rattle.fish_rule.proofs.laws.Learning.{learns_both, learns_self}
 use Rattle.fish_rule.proofs.laws.Lists.{of_lane_sound, off_lane_sound, without_complete, without_sound}
 use Rattle.fish_rule.specs.Logs.{Learns}
 use Rattle.fish_rule.specs.Passes.{view}
-use Rattle.fish_rule.specs.Seating.{CanSplit, first_shut, split_left, split_right, without}
+use Rattle.fish_rule.specs.SeatSteps.{CanSplitPass, first_shut, split_left, split_right, without}
 use Rattle.fish_rule.specs.Views.{Among}
 use Rattle.fish_rule.specs.declared.table.Log.{Log}
 use Rattle.fish_rule.specs.declared.view.Key.{Key}
@@ -38,7 +38,7 @@ given_none v lanes h = record {
   all_out = λ l above below. absurd (omega arith);
 }
 
-pub can_split : (v m : View) (i : ℕ) → HasGiven v m i → i + 2 ≤ 16 → CanSplit m (i + 2)
+pub can_split : (v m : View) (i : ℕ) → HasGiven v m i → i + 2 ≤ 16 → CanSplitPass m (i + 2)
 can_split v m i h few = record {
   main = h.main;
   above = omega arith;
@@ -55,7 +55,7 @@ given_more v m u i l at h e = subst (λ (z : View). HasGiven v z (i + 1)) (sym e
   about = h.about;
   learned = h.learned;
   shut = h.shut;
-  registry = record { rows = h.registry.rows; draft = h.registry.draft; round = h.registry.round };
+  registry = record { rows = h.registry.rows; main_words = h.registry.main_words; round = h.registry.round };
   own = λ o n. h.own o (off_lane_sound l o m.own n).0;
   out_of = λ x n. ⊎_elim (λ (s : l ≡ x). (omega arith, omega arith))
       (λ (s : Among x m.out). let b = h.out_of x s in let p = b.0 in let q = b.1 in (p, omega arith)) n;
@@ -167,7 +167,7 @@ taken_more log m u t lanes i x joined h at by =
       learns = learns_both m u t h.learns s.learns;
       registry = record {
         rows = ap (λ (z : View). z.rows) e ∙ h.registry.rows;
-        draft = ap (λ (z : View). z.draft) e ∙ h.registry.draft;
+        main_words = ap (λ (z : View). z.main_words) e ∙ h.registry.main_words;
         round = ap (λ (z : View). z.round) e ∙ h.registry.round;
       };
       learned = λ j y seat below at_y seat_y. pick j y seat below at_y seat_y (dec_lt j i);

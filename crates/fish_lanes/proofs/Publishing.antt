@@ -6,7 +6,7 @@ use Rattle.fish_rule.proofs.laws.Moments.{entry_word}
 use Rattle.fish_rule.proofs.laws.Learning.{learns_both, learns_self}
 use Rattle.fish_rule.specs.Logs.{Learns, Tells}
 use Rattle.fish_rule.specs.Parts.{IsEntryWord}
-use Rattle.fish_rule.specs.Reading.{kind_told}
+use Rattle.fish_rule.specs.LoadSteps.{kind_told}
 use Rattle.fish_rule.specs.Table.{Sees}
 use Rattle.fish_rule.specs.World.{high}
 use Rattle.fish_rule.specs.declared.view.Key.{Key}

@@ -14,7 +14,7 @@ use Rattle.fish_rule.proofs.laws.Moments.{before_mark, claimed, entry_word, stor
 use Rattle.fish_rule.proofs.laws.Learning.{learns_both, learns_self}
 use Rattle.fish_rule.proofs.laws.Regions.{published}
 use Rattle.fish_rule.specs.Logs.{IsEntry, Learns, Tells, TellsMark}
-use Rattle.fish_rule.specs.Closing.{IsClosed}
+use Rattle.fish_rule.specs.ClosedLog.{IsClosed}
 use Rattle.fish_rule.specs.declared.close.Remains.{Remains}
 use Rattle.fish_rule.specs.Parts.{Rests}
 use Rattle.fish_rule.specs.Regions.{code}

@@ -15,13 +15,13 @@ use Rattle.fish_lanes.specs.declared.lane.Lane.{Lane}
 use Rattle.fish_lanes.specs.declared.lane.Seated.{Seated}
 use Rattle.fish_rule.specs.Logs.{Learns}
 use Rattle.fish_rule.specs.Passes.{IsPassOf, view}
-use Rattle.fish_rule.specs.Reading.{after_end}
-use Rattle.fish_rule.specs.Seating.{CanJoin, join_both}
+use Rattle.fish_rule.specs.LoadSteps.{after_load_tail}
+use Rattle.fish_rule.specs.SeatSteps.{CanJoinPass, join_both}
 use Rattle.fish_lanes.specs.Gains.{IsMarkAt}
 use Rattle.fish_report.specs.declared.item.Item.{Item}
 use Rattle.fish_report.specs.declared.item.Item.TheVariants as item
 use Rattle.fish_rule.specs.Views.{AllOf, Among}
-use Rattle.fish_rule.specs.Walking.{Always}
+use Rattle.fish_rule.specs.ChainFacts.{Always}
 use Rattle.fish_rule.specs.declared.view.Shut.{Shut}
 use Rattle.fish_rule.specs.declared.table.Log.{Log}
 use Rattle.fish_rule.specs.declared.view.Epoch.TheVariants.{Out}
@@ -128,12 +128,12 @@ pub record CanTake (log : Log) (m : View) (x : Lane) : Type 0 where
   pub seat : Seated
   pub seat_is : x.seat ≡ Some seat
   pub of : IsPassOf log seat.pass
-  pub can : CanJoin m (view seat.pass)
+  pub can : CanJoinPass m (view seat.pass)
 
 -- it came back
 pub record HasTakenSeat (m u : View) (seat : Seated) : Type 0 where
   pub found : ℕ
-  pub view_is : u ≡ after_end (join_both m (view seat.pass)) found
+  pub view_is : u ≡ after_load_tail (join_both m (view seat.pass)) found
   pub learns : Learns m u
   pub learned : Learns (view seat.pass) u
 

@@ -1,7 +1,7 @@
 -- What holds of the log that is closed in the end.
 use Rattle.std.specs.Prelude.{◌≡◌, ◌⊎◌, ◌≤◌, List, []}
 use Rattle.fish_catalog.specs.declared.entry.Entry.{Entry}
-use Rattle.fish_rule.specs.Closing.{IsClosed}
+use Rattle.fish_rule.specs.ClosedLog.{IsClosed}
 use Rattle.fish_rule.specs.Logs.{Learns}
 use Rattle.fish_rule.specs.Views.{Among}
 use Rattle.fish_rule.specs.declared.close.Remains.{Remains}

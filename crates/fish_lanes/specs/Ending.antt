@@ -1,7 +1,7 @@
 -- The control pass between two blocks: alone, and the log ends at a number that it knows.
 use Rattle.std.specs.Prelude.{ℕ, ◌≡◌, ◌≤◌}
 use Rattle.fish_lanes.specs.Gains.{IsShutTold}
-use Rattle.fish_rule.specs.Reading.{IsAlone}
+use Rattle.fish_rule.specs.LoadSteps.{IsAlone}
 use Rattle.fish_rule.specs.declared.view.Epoch.TheVariants.{Out}
 use Rattle.fish_rule.specs.declared.view.View.{View}
 use Rattle.fish_walk.specs.Settling.{EndsAt, HasTail}

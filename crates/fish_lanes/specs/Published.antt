@@ -1,7 +1,7 @@
 -- Numbers that a pass knows to be published.
 use Rattle.std.specs.Prelude.{ℕ, ◌<◌}
 use Rattle.fish_rule.specs.Parts.{IsEntryWord}
-use Rattle.fish_rule.specs.Walking.{Always}
+use Rattle.fish_rule.specs.ChainFacts.{Always}
 use Rattle.fish_rule.specs.declared.view.View.{View}
 
 -- the pass counted the number, and in every moment of a view that knows as much it is published and no mark

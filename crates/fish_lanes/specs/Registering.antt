@@ -127,7 +127,7 @@ registry_of v r = record { rows = r.catalog; waiting = waiting_id r.waiting; ver
 -- the definitions, what was stored of them and what waits are the same in the second view
 pub record KeepsRegistry (v u : View) : Type 0 where
   pub rows : u.rows ≡ v.rows
-  pub draft : u.draft ≡ v.draft
+  pub main_words : u.main_words ≡ v.main_words
   pub round : u.round ≡ v.round
 
 -- ---- statements

@@ -13,7 +13,7 @@ ghost use Rattle.fish_lanes.specs.Running.{CanBegin, HasDone, HasRun, IsEnded, I
 ghost use Rattle.fish_lanes.specs.Spans.{Span};
 ghost use Rattle.fish_rule.specs.Passes.{IsPassOf, view};
 ghost use Rattle.fish_rule.specs.Views.{AllOf};
-ghost use Rattle.fish_rule.specs.Seating.{CanSplit, split_left, split_right};
+ghost use Rattle.fish_rule.specs.SeatSteps.{CanSplitPass, split_left, split_right};
 
 use crate::control::run_control;
 use crate::lane::{Lane, Seated};
@@ -113,7 +113,7 @@ fn run_first(alloc: Global, log: &Log, main: &mut Pass, registrar: &mut Registra
 /// Gives a lane its pass.
 fn give(log: &Log, main: &mut Pass, lane: &mut Lane)
     requires pass { IsPassOf log.now main.old }
-    requires can { CanSplit (view main.old) lane.old.number }
+    requires can { CanSplitPass (view main.old) lane.old.number }
     ensures pass { IsPassOf log.now main.new }
     ensures left { view main.new ≡ split_left lane.old.number (view main.old) }
     ensures seat { HasSeat log.now (split_right lane.old.number (view main.old)) lane.old lane.new }

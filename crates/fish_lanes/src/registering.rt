@@ -12,7 +12,7 @@ ghost use Rattle.fish_lanes.specs.Registering.{IsDeregisterItem, IsRegisterItem}
 ghost use Rattle.fish_registry.specs.Changing.{Changes};
 ghost use Rattle.fish_registry.specs.Refusing.{IsSaid};
 ghost use Rattle.fish_rule.specs.Passes.{IsPassOf, view};
-ghost use Rattle.fish_rule.specs.Reading.{IsAlone};
+ghost use Rattle.fish_rule.specs.LoadSteps.{IsAlone};
 ghost use Rattle.fish_rule.specs.declared.view.Epoch.TheVariants.{Out};
 ghost use Rattle.fish_scan.specs.Scans.{OnlyScans};
 

@@ -5,7 +5,7 @@ use Rattle.fish_registry.specs.Knowing.{IsAwaited}
 use Rattle.fish_registry.specs.Looking.{HasBound, at_lane}
 use Rattle.fish_registry.specs.declared.registrar.Waiting.{Waiting}
 use Rattle.fish_rule.proofs.laws.Clocks.{later_both, later_noted, later_self, later_ticked, loaded_within, noted_load}
-use Rattle.fish_rule.specs.Bounding.{CanBound, CanSetFrom, after_bound, after_from}
+use Rattle.fish_rule.specs.BoundarySteps.{CanLoadBound, CanStoreFrom, after_load_bound, after_store_from}
 use Rattle.fish_rule.specs.Clocks.{HasLoaded}
 use Rattle.fish_rule.specs.Registry.{row_at}
 use Rattle.fish_rule.specs.World.{high}
@@ -15,12 +15,12 @@ use Rattle.fish_rule.specs.declared.view.Round.{Round}
 use Rattle.fish_rule.specs.declared.view.View.{View}
 
 -- all lanes were looked at
-pub can_bound : (v : View) (w : Waiting) (h : IsAwaited v (at_lane w 17)) → CanBound v h.round
+pub can_bound : (v : View) (w : Waiting) (h : IsAwaited v (at_lane w 17)) → CanLoadBound v h.round
 can_bound v w h = record { waits = h.waits; all = λ l above below. h.checked l above (omega arith) }
 
 -- where the index begins may be stored
 pub can_from : (v u : View) (w : Waiting) (x from id : ℕ) → v.lane ≡ 1 → (h : IsAwaited v (at_lane w 17))
-    → u ≡ after_bound v h.round x → from ≡ high x → id ≡ w.id → (o : Round) × CanSetFrom u o from × (o.id ≡ id)
+    → u ≡ after_load_bound v h.round x → from ≡ high x → id ≡ w.id → (o : Round) × CanStoreFrom u o from × (o.id ≡ id)
 can_from v u w x from id main h is same is_id = (
   record h.round { bound = Some (high x) },
   record {
@@ -32,29 +32,29 @@ can_from v u w x from id main h is same is_id = (
 )
 
 -- and then the index begins there
-pub bound_at : (v u z : View) (w : Waiting) (x from : ℕ) (h : IsAwaited v (at_lane w 17)) → u ≡ after_bound v h.round x
+pub bound_at : (v u z : View) (w : Waiting) (x from : ℕ) (h : IsAwaited v (at_lane w 17)) → u ≡ after_load_bound v h.round x
     → from ≡ high x → v.learned.count ≤ from
-    → ((o : Round) → u.round ≡ Some o → z ≡ after_from u o from) → HasBound v w z from
+    → ((o : Round) → u.round ≡ Some o → z ≡ after_store_from u o from) → HasBound v w z from
 bound_at v u z w x from h is same more stored =
     let o : Round = record h.round { bound = Some (high x) } in
-    let is_z : z ≡ after_from u o from = stored o (ap (λ (y : View). y.round) is) in
-    let whole : z ≡ after_from (after_bound v h.round x) o from = is_z ∙ ap (λ (y : View). after_from y o from) is in
-    let last : View = after_from (after_bound v h.round x) o from in
+    let is_z : z ≡ after_store_from u o from = stored o (ap (λ (y : View). y.round) is) in
+    let whole : z ≡ after_store_from (after_load_bound v h.round x) o from = is_z ∙ ap (λ (y : View). after_store_from y o from) is in
+    let last : View = after_store_from (after_load_bound v h.round x) o from in
     let clock : z.clock ≡ last.clock = ap (λ (y : View). y.clock) whole in
     record {
-      changes = changes_from v z v.rows last.draft None last.tail (high x) v.learned.version v.learned.opens last.clock
+      changes = changes_from v z v.rows last.main_words None last.tail (high x) v.learned.version v.learned.opens last.clock
           whole (omega arith) (omega arith) (λ o m. m)
           (later_both v.clock _ last.clock (later_noted v.clock Tail x)
-          (later_ticked (Rattle.fish_rule.specs.Steps.noted v.clock Tail x))) refl;
+          (later_ticked (Rattle.fish_rule.specs.SpaceSteps.noted v.clock Tail x))) refl;
       counted = record {
         tail = x;
         loaded = subst (λ (y : Clock). HasLoaded v.clock y Tail x) (sym clock)
             (loaded_within v.clock v.clock _ last.clock Tail x (later_self v.clock) (noted_load v.clock Tail x)
-            (later_ticked (Rattle.fish_rule.specs.Steps.noted v.clock Tail x)));
+            (later_ticked (Rattle.fish_rule.specs.SpaceSteps.noted v.clock Tail x)));
         is = same;
       };
-      draft = ap (λ (y : View). y.draft) whole
-          ∙ ap (λ (n : ℕ). record { index = row_at n 0; value = suc from } ∷ v.draft) h.id;
+      main_words = ap (λ (y : View). y.main_words) whole
+          ∙ ap (λ (n : ℕ). record { index = row_at n 0; value = suc from } ∷ v.main_words) h.id;
       rows = ap (λ (y : View). y.rows) whole;
       round = ap (λ (y : View). y.round) whole;
       count = ap (λ (y : View). y.learned.count) whole ∙ sym same;

@@ -5,11 +5,11 @@ use Rattle.fish_registry.specs.Changing.{Changes, HasCounted, Stays}
 use Rattle.fish_registry.specs.Looking.{Looks}
 use Rattle.fish_rule.proofs.laws.Clocks.{later_both, later_noted, later_self, loaded_within, noted_load}
 use Rattle.fish_rule.specs.Clocks.{HasLoaded, IsLater}
-use Rattle.fish_rule.specs.Entering.{after_version}
+use Rattle.fish_rule.specs.RegistrySteps.{after_load_version}
 use Rattle.fish_rule.specs.Epochs.{confirmed}
 use Rattle.fish_rule.specs.Logs.{Learns}
-use Rattle.fish_rule.specs.Reading.{after_end}
-use Rattle.fish_rule.specs.Steps.{noted}
+use Rattle.fish_rule.specs.LoadSteps.{after_load_tail}
+use Rattle.fish_rule.specs.SpaceSteps.{noted}
 use Rattle.fish_rule.specs.Views.{Among}
 use Rattle.fish_rule.specs.World.{high, low}
 use Rattle.fish_rule.specs.declared.view.Clock.{Clock}
@@ -23,24 +23,24 @@ use Rattle.fish_rule.specs.declared.view.Round.{Round}
 use Rattle.fish_rule.specs.declared.view.View.{View}
 
 -- a view that is another one but for these changes it
-pub changes_from : (v u : View) (rows : List Listed) (draft : List RegistryWord) (round : Option Round)
+pub changes_from : (v u : View) (rows : List Listed) (main_words : List RegistryWord) (round : Option Round)
     (tail : Option Position) (count version : ℕ) (opens : List Opens) (clock : Clock) → u ≡ record v {
       rows = rows;
-      draft = draft;
+      main_words = main_words;
       round = round;
       tail = tail;
       learned = record v.learned { count = count; version = version; opens = opens };
       clock = clock;
     } → v.learned.count ≤ count → v.learned.version ≤ version → ((o : Opens) → Among o v.learned.opens → Among o opens)
     → IsLater v.clock clock → clock.loads ≡ v.clock.loads → Changes v u
-changes_from v u rows draft round tail count version opens clock is counted reached more later loads =
+changes_from v u rows main_words round tail count version opens clock is counted reached more later loads =
     let many : u.learned.count ≡ count = ap (λ (z : View). z.learned.count) is in
     let made : u.learned.version ≡ version = ap (λ (z : View). z.learned.version) is in
     let clock_is : u.clock ≡ clock = ap (λ (z : View). z.clock) is in
     record {
       frame = is ∙ (λ i. record v {
         rows = ap (λ (z : View). z.rows) (sym is) i;
-        draft = ap (λ (z : View). z.draft) (sym is) i;
+        main_words = ap (λ (z : View). z.main_words) (sym is) i;
         round = ap (λ (z : View). z.round) (sym is) i;
         tail = ap (λ (z : View). z.tail) (sym is) i;
         learned = record v.learned {
@@ -59,17 +59,17 @@ changes_from v u rows draft round tail count version opens clock is counted reac
 
 -- and so does one that is another one but for its clock
 pub changes_stays : (v u : View) → Stays v u → Changes v u
-changes_stays v u h = changes_from v u v.rows v.draft v.round v.tail v.learned.count v.learned.version v.learned.opens
+changes_stays v u h = changes_from v u v.rows v.main_words v.round v.tail v.learned.count v.learned.version v.learned.opens
     u.clock h.frame (omega arith) (omega arith) (λ o m. m) h.clock h.loads
 
 -- or for the lanes that were looked at
 pub changes_looks : (v u : View) → Looks v u → Changes v u
-changes_looks v u h = changes_from v u v.rows v.draft u.round v.tail v.learned.count v.learned.version v.learned.opens
+changes_looks v u h = changes_from v u v.rows v.main_words u.round v.tail v.learned.count v.learned.version v.learned.opens
     u.clock h.frame (omega arith) (omega arith) (λ o m. m) h.clock h.loads
 
 -- a load of the tail changes a view
-pub changes_end : (v u : View) (x : ℕ) → u ≡ after_end v x → v.learned.count ≤ high x → Changes v u
-changes_end v u x is more = changes_from v u v.rows v.draft v.round (Some (record { number = high x; line = low x }))
+pub changes_end : (v u : View) (x : ℕ) → u ≡ after_load_tail v x → v.learned.count ≤ high x → Changes v u
+changes_end v u x is more = changes_from v u v.rows v.main_words v.round (Some (record { number = high x; line = low x }))
     (high x) v.learned.version (record { count = high x; numbers = [] } ∷ v.learned.opens) (noted v.clock Tail x) is more
     (omega arith) (λ o m. inr m) (later_noted v.clock Tail x) refl
 
@@ -83,7 +83,7 @@ changes_both a b c e f =
     record {
       frame = f.frame ∙ ap (λ (z : View). record z {
         rows = c.rows;
-        draft = c.draft;
+        main_words = c.main_words;
         round = c.round;
         tail = c.tail;
         learned = record z.learned { count = c.learned.count; version = c.learned.version; opens = c.learned.opens };
@@ -112,8 +112,8 @@ learns_changes v u h =
       known = λ x m. m;
       records = λ x m. m;
       nodes = λ x m. m;
-      lows = λ x m. m;
-      tops = λ x m. m;
+      least_previous = λ x m. m;
+      least_heads = λ x m. m;
       gaps = λ x m. m;
       labels = λ x m. m;
       unended = λ x m. m;
@@ -125,10 +125,10 @@ pub stays_self : (v : View) → Stays v v
 stays_self v = record { frame = refl; clock = later_self v.clock; loads = refl }
 
 -- the control pass, which is out, finds the version that it knows, and nothing else changes
-pub stays_version : (v u : View) (x : ℕ) → v.epoch ≡ Out → x ≡ v.learned.version → u ≡ after_version v x → Stays v u
+pub stays_version : (v u : View) (x : ℕ) → v.epoch ≡ Out → x ≡ v.learned.version → u ≡ after_load_version v x → Stays v u
 stays_version v u x outside same is =
     let epoch : confirmed v.epoch x ≡ v.epoch = ap (λ (e : Epoch). confirmed e x) outside ∙ sym outside in
-    let clock_is : u.clock ≡ Rattle.fish_rule.specs.Steps.noted v.clock Version x = ap (λ (z : View). z.clock) is in
+    let clock_is : u.clock ≡ Rattle.fish_rule.specs.SpaceSteps.noted v.clock Version x = ap (λ (z : View). z.clock) is in
     record {
       frame = is ∙ (λ i. record v {
         epoch = epoch i;
@@ -140,7 +140,7 @@ stays_version v u x outside same is =
     }
 
 -- a load of the tail counts
-pub counted_end : (v u : View) (x n : ℕ) → u ≡ after_end v x → n ≡ high x → HasCounted v u n
+pub counted_end : (v u : View) (x n : ℕ) → u ≡ after_load_tail v x → n ≡ high x → HasCounted v u n
 counted_end v u x n is same = record {
   tail = x;
   loaded = subst (λ (z : Clock). HasLoaded v.clock z Tail x) (sym (ap (λ (z : View). z.clock) is))

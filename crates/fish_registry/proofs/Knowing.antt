@@ -21,7 +21,7 @@ use Rattle.fish_registry.specs.Rows.{HasEnded, HasRegistered, HasTailed, MayEnd}
 use Rattle.fish_registry.specs.declared.registrar.Registrar.{Registrar}
 use Rattle.fish_registry.specs.declared.registrar.Waiting.{Waiting}
 use Rattle.fish_rule.proofs.laws.Versions.{drafted_here}
-use Rattle.fish_rule.specs.Registry.{drafted, row_at}
+use Rattle.fish_rule.specs.Registry.{main_word, row_at}
 use Rattle.fish_rule.specs.Table.{boundaries_of, first_view}
 use Rattle.fish_rule.specs.declared.view.RegistryWord.{RegistryWord}
 use Rattle.fish_rule.specs.declared.view.View.{View}
@@ -43,15 +43,15 @@ awaits_on v u (Some w) same h = record {
 
 -- with the same lane, definitions, boundaries and registration, and no smaller count, all stays known
 pub knows_rows : (v u : View) (rows : List CatRow) (waiting : Option Waiting) → u.lane ≡ v.lane → u.rows ≡ v.rows
-    → u.draft ≡ v.draft → u.round ≡ v.round → v.learned.count ≤ u.learned.count → KnowsRows v rows waiting
+    → u.main_words ≡ v.main_words → u.round ≡ v.round → v.learned.count ≤ u.learned.count → KnowsRows v rows waiting
     → KnowsRows u rows waiting
-knows_rows v u rows waiting lane same draft round count h = record {
+knows_rows v u rows waiting lane same main_words round count h = record {
   main = lane ∙ h.main;
   listed = h.listed ∙ sym same;
   bounds = λ id row there. let b = h.bounds id row there in
       record {
-        from = ap (λ (ws : List RegistryWord). drafted ws (row_at id 0)) draft ∙ b.from;
-        to = ap (λ (ws : List RegistryWord). drafted ws (row_at id 1)) draft ∙ b.to;
+        from = ap (λ (ws : List RegistryWord). main_word ws (row_at id 0)) main_words ∙ b.from;
+        to = ap (λ (ws : List RegistryWord). main_word ws (row_at id 1)) main_words ∙ b.to;
         counted = λ n is. (let most = b.counted n is in omega arith);
       };
   begun = h.begun;
@@ -60,13 +60,13 @@ knows_rows v u rows waiting lane same draft round count h = record {
 }
 
 pub knows_on : KnowsOn
-knows_on v u r lane same draft round count h = knows_rows v u r.catalog r.waiting lane same draft round count h
+knows_on v u r lane same main_words round count h = knows_rows v u r.catalog r.waiting lane same main_words round count h
 
 -- so it does where nothing but the clock changed
 pub knows_stays : (v u : View) (rows : List CatRow) (waiting : Option Waiting) → Stays v u → KnowsRows v rows waiting
     → KnowsRows u rows waiting
 knows_stays v u rows waiting stays h = knows_rows v u rows waiting (ap (λ (z : View). z.lane) stays.frame)
-    (ap (λ (z : View). z.rows) stays.frame) (ap (λ (z : View). z.draft) stays.frame)
+    (ap (λ (z : View). z.rows) stays.frame) (ap (λ (z : View). z.main_words) stays.frame)
     (ap (λ (z : View). z.round) stays.frame)
     (let e = ap (λ (z : View). z.learned.count) stays.frame in omega arith) h
 
@@ -74,7 +74,7 @@ knows_stays v u rows waiting stays h = knows_rows v u rows waiting (ap (λ (z : 
 pub knows_tailed : (v u : View) (rows : List CatRow) (waiting : Option Waiting) (n : ℕ) → HasTailed v u n
     → KnowsRows v rows waiting → KnowsRows u rows waiting
 knows_tailed v u rows waiting n tailed h = knows_rows v u rows waiting (ap (λ (z : View). z.lane) tailed.view)
-    (ap (λ (z : View). z.rows) tailed.view) (ap (λ (z : View). z.draft) tailed.view)
+    (ap (λ (z : View). z.rows) tailed.view) (ap (λ (z : View). z.main_words) tailed.view)
     (ap (λ (z : View). z.round) tailed.view)
     (let e = ap (λ (z : View). z.learned.count) tailed.view in let more = tailed.more in let is = tailed.is in omega arith) h
 
@@ -112,9 +112,9 @@ knows_first r settled k same begun =
           let place : 0 + id ≡ id = omega arith in
           let h = row_has (HasBegunBy k.number) rows begun id row there in
           record {
-            from = ap (λ (n : ℕ). drafted (boundaries_of 0 k.rows.value) (row_at n 0)) (sym place)
+            from = ap (λ (n : ℕ). main_word (boundaries_of 0 k.rows.value) (row_at n 0)) (sym place)
                 ∙ drafted_here 0 id 0 k.rows.value row at (omega arith) ∙ from_is row;
-            to = ap (λ (n : ℕ). drafted (boundaries_of 0 k.rows.value) (row_at n 1)) (sym place)
+            to = ap (λ (n : ℕ). main_word (boundaries_of 0 k.rows.value) (row_at n 1)) (sym place)
                 ∙ drafted_here 0 id 1 k.rows.value row at (omega arith) ∙ to_is row;
             counted = λ n is. (let e : h.from ≡ n = same_Some h.from n (sym h.begins ∙ is) in
                 let early = h.early in omega arith);
@@ -140,7 +140,7 @@ listed_more (x ∷ rows) row = ap (λ ls. listed_of x ∷ ls) (listed_more rows 
 -- no registration waited, and now that of the new row does
 pub knows_begun : (v u : View) (rows : List CatRow) (name def : List ℕ) (id version : ℕ) → KnowsRows v rows None
     → id ≡ length rows → version ≡ v.learned.version → HasRegistered v (new_row (length rows) name def) u
-    → ((n i : ℕ) → length v.rows ≤ n → n < 256 → i < 2 → drafted v.draft (row_at n i) ≡ 0) → length rows < 256
+    → ((n i : ℕ) → length v.rows ≤ n → n < 256 → i < 2 → main_word v.main_words (row_at n i) ≡ 0) → length rows < 256
     → KnowsRows u (rows ++ new_row (length rows) name def ∷ []) (Some (record { id = id; version = version + 1; lane = 2 }))
 knows_begun v u rows name def id version h is_id is_version made unset room =
     let row : CatRow = new_row (length rows) name def in
@@ -194,11 +194,11 @@ knows_older v u rows w lane h looks awaited = record {
   main = ap (λ (z : View). z.lane) looks.frame ∙ h.main;
   listed = h.listed ∙ sym (ap (λ (z : View). z.rows) looks.frame);
   bounds = λ id row there. let b = h.bounds id row there in
-      let draft = ap (λ (z : View). z.draft) looks.frame in
+      let main_words = ap (λ (z : View). z.main_words) looks.frame in
       let count = ap (λ (z : View). z.learned.count) looks.frame in
       record {
-        from = ap (λ (ws : List RegistryWord). drafted ws (row_at id 0)) draft ∙ b.from;
-        to = ap (λ (ws : List RegistryWord). drafted ws (row_at id 1)) draft ∙ b.to;
+        from = ap (λ (ws : List RegistryWord). main_word ws (row_at id 0)) main_words ∙ b.from;
+        to = ap (λ (ws : List RegistryWord). main_word ws (row_at id 1)) main_words ∙ b.to;
         counted = λ n is. (let most = b.counted n is in omega arith);
       };
   begun = h.begun;
@@ -210,15 +210,15 @@ knows_older v u rows w lane h looks awaited = record {
 pub knows_bound : (v u z : View) (rows : List CatRow) (w : Waiting) (from : ℕ) → KnowsRows v rows (Some w) → Looks v u
     → HasBound u w z from → KnowsRows z (with_from rows w.id from) None
 knows_bound v u z rows w from h looks bound =
-    let draft_u = ap (λ (y : View). y.draft) looks.frame in
+    let draft_u = ap (λ (y : View). y.main_words) looks.frame in
     let word : RegistryWord = record { index = row_at w.id 0; value = suc from } in
-    let stored : z.draft ≡ word ∷ v.draft = bound.draft ∙ ap (λ ws. word ∷ ws) draft_u in
-    let here : (p : ℕ) → p ≡ row_at w.id 0 → drafted z.draft p ≡ suc from =
-    λ p e. ap (λ (ws : List RegistryWord). drafted ws p) stored
-    ∙ choose_first (ℕ_discrete p (row_at w.id 0)) (suc from) (drafted v.draft p) e in
-    let other : (p : ℕ) → p ≢ row_at w.id 0 → drafted z.draft p ≡ drafted v.draft p =
-    λ p ne. ap (λ (ws : List RegistryWord). drafted ws p) stored
-    ∙ choose_second (ℕ_discrete p (row_at w.id 0)) (suc from) (drafted v.draft p) ne in
+    let stored : z.main_words ≡ word ∷ v.main_words = bound.main_words ∙ ap (λ ws. word ∷ ws) draft_u in
+    let here : (p : ℕ) → p ≡ row_at w.id 0 → main_word z.main_words p ≡ suc from =
+    λ p e. ap (λ (ws : List RegistryWord). main_word ws p) stored
+    ∙ choose_first (ℕ_discrete p (row_at w.id 0)) (suc from) (main_word v.main_words p) e in
+    let other : (p : ℕ) → p ≢ row_at w.id 0 → main_word z.main_words p ≡ main_word v.main_words p =
+    λ p ne. ap (λ (ws : List RegistryWord). main_word ws p) stored
+    ∙ choose_second (ℕ_discrete p (row_at w.id 0)) (suc from) (main_word v.main_words p) ne in
     let count_u = ap (λ (y : View). y.learned.count) looks.frame in
     let more = bound.changes.count in
     let count = bound.count in
@@ -325,10 +325,10 @@ knows_ended v u rows id to row listing h there ended =
           let o = h.bounds n was.0 was.1 in
           elim was.2 [
             | inl same ↦ record {
-              from = ap (λ (m : ℕ). drafted u.draft (row_at m 0)) same.0 ∙ ended.from
-                  ∙ ap (λ (m : ℕ). drafted v.draft (row_at m 0)) (sym same.0) ∙ o.from
+              from = ap (λ (m : ℕ). main_word u.main_words (row_at m 0)) same.0 ∙ ended.from
+                  ∙ ap (λ (m : ℕ). main_word v.main_words (row_at m 0)) (sym same.0) ∙ o.from
                   ∙ ap (λ (r : CatRow). bound_word r.from) same.1;
-              to = ap (λ (m : ℕ). drafted u.draft (row_at m 1)) same.0 ∙ ended.end
+              to = ap (λ (m : ℕ). main_word u.main_words (row_at m 1)) same.0 ∙ ended.end
                   ∙ ap (λ (r : CatRow). bound_word r.to) same.1;
               counted = λ m is. (let most = o.counted m (ap (λ (r : CatRow). r.from) same.1 ∙ is) in omega arith);
             }

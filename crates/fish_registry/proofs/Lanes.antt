@@ -7,7 +7,7 @@ use Rattle.fish_registry.specs.Knowing.{IsAwaited}
 use Rattle.fish_registry.specs.Looking.{IsOlder, Looks, at_lane}
 use Rattle.fish_registry.specs.declared.registrar.Waiting.{Waiting}
 use Rattle.fish_rule.proofs.laws.Clocks.{later_both, later_noted, later_self, loaded_within, noted_load}
-use Rattle.fish_rule.specs.Bounding.{after_check, checked_after, with_lane}
+use Rattle.fish_rule.specs.BoundarySteps.{after_check_lane, checked_after, with_lane}
 use Rattle.fish_rule.specs.Clocks.{HasLoaded, IsLater}
 use Rattle.fish_rule.specs.Views.{Among}
 use Rattle.fish_rule.specs.declared.view.Clock.{Clock}
@@ -19,8 +19,8 @@ use Rattle.fish_rule.specs.declared.view.View.{View}
 pub looks_self : (v : View) → Looks v v
 looks_self v = record { frame = refl; clock = later_self v.clock; loads = refl }
 
-module _ (v u z : View) (w : Waiting) (l x : ℕ) (looks : Looks v u) (is : z ≡ after_check u l x) where
-  clock_is : z.clock ≡ Rattle.fish_rule.specs.Steps.noted u.clock (Epoch l) x
+module _ (v u z : View) (w : Waiting) (l x : ℕ) (looks : Looks v u) (is : z ≡ after_check_lane u l x) where
+  clock_is : z.clock ≡ Rattle.fish_rule.specs.SpaceSteps.noted u.clock (Epoch l) x
   clock_is = ap (λ (y : View). y.clock) is
 
   -- nothing but the look and the clock changed
@@ -58,7 +58,7 @@ module _ (v u z : View) (w : Waiting) (l x : ℕ) (looks : Looks v u) (is : z �
           };
           loaded = subst (λ (y : Clock × ℕ). HasLoaded v.clock y.0 (Epoch l) y.1) (λ i. (sym clock_is i, sym back i))
               (loaded_within v.clock u.clock _ _ (Epoch l) x looks.clock (noted_load u.clock (Epoch l) x)
-              (later_self (Rattle.fish_rule.specs.Steps.noted u.clock (Epoch l) x)));
+              (later_self (Rattle.fish_rule.specs.SpaceSteps.noted u.clock (Epoch l) x)));
           less = omega arith;
         }
 

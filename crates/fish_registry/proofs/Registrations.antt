@@ -14,8 +14,9 @@ use Rattle.fish_layout.specs.Cleared.{choose}
 use Rattle.fish_registry.proofs.Changing.{changes_from}
 use Rattle.fish_registry.specs.Rows.{HasDrafted, HasRegistered, MayMake, MayRegister}
 use Rattle.fish_rule.proofs.laws.Clocks.{later_both, later_ticked}
-use Rattle.fish_rule.specs.Entering.{CanBump, CanDefine, after_bump, after_define, next_operation}
-use Rattle.fish_rule.specs.Registry.{AreRowWords, IsOperation, drafted, made, op_at, row_at, row_in, row_spelled}
+use Rattle.fish_rule.specs.RegistrySteps.{CanRaiseVersion, CanDefineWord, after_raise_version, after_define_word}
+use Rattle.fish_rule.specs.RegistrySteps.{next_operation}
+use Rattle.fish_rule.specs.Registry.{AreRowWords, IsOperation, main_word, made, op_at, row_at, row_in, row_spelled}
 use Rattle.fish_rule.specs.declared.view.Round.{Round}
 use Rattle.fish_rule.specs.declared.view.View.{View}
 
@@ -38,11 +39,11 @@ pub record IsDrafted (v : View) (row : CatRow) (version id : ℕ) (u : View) : T
   pub writable : IsWritable row
   pub words : List ℕ
   pub says : (i : ℕ) → i < 39 → slice_index words i ≡ row_word row i
-  pub drafted : HasDrafted v words 39 u
+  pub main_word : HasDrafted v words 39 u
 
 module _ (v : View) (row : CatRow) (version id : ℕ) (u : View) (is : IsDrafted v row version id u) where
-  only : u ≡ record v { draft = u.draft; clock = u.clock }
-  only = is.drafted.only
+  only : u ≡ record v { main_words = u.main_words; clock = u.clock }
+  only = is.main_word.only
 
   reached : u.learned.version ≡ version
   reached = ap (λ (z : View). z.learned.version) only ∙ sym is.make.is
@@ -51,7 +52,7 @@ module _ (v : View) (row : CatRow) (version id : ℕ) (u : View) (is : IsDrafted
   same_rows = ap (λ (z : View). z.rows) only
 
   -- the operation may be stored
-  pub can_store : CanDefine u (20 + version) (256 + id)
+  pub can_store : CanDefineWord u (20 + version) (256 + id)
   can_store = record {
     main = ap (λ (z : View). z.lane) only ∙ is.make.main;
     next = inl (
@@ -62,18 +63,18 @@ module _ (v : View) (row : CatRow) (version id : ℕ) (u : View) (is : IsDrafted
 
   -- the view then
   abbrev behind : View
-  behind = after_define u (20 + version) (256 + id)
+  behind = after_define_word u (20 + version) (256 + id)
 
   -- the words that stand in the next row
   abbrev in_row : ℕ → ℕ
-  in_row = row_in (drafted behind.draft) (length v.rows)
+  in_row = row_in (main_word behind.main_words) (length v.rows)
 
   in_row_is : (i : ℕ) → 2 ≤ i → i < 39 → in_row i ≡ row_word row i
   in_row_is i low high =
       let few = is.make.few in
       choose_second (ℕ_discrete (row_at (length v.rows) i) (20 + version)) (256 + id)
-      (drafted u.draft (row_at (length v.rows) i)) (λ same. omega arith)
-      ∙ is.drafted.row i low high ∙ is.says i high
+      (main_word u.main_words (row_at (length v.rows) i)) (λ same. omega arith)
+      ∙ is.main_word.row i low high ∙ is.says i high
 
   listed : (n : ℕ) → listed_in in_row n true ≡ record { id = n; name = row.name; def = row.def; active = true }
   listed n =
@@ -86,7 +87,7 @@ module _ (v : View) (row : CatRow) (version id : ℕ) (u : View) (is : IsDrafted
   operation : next_operation behind ≡ 256 + length v.rows
   operation =
       choose_first (ℕ_discrete (op_at (suc u.learned.version)) (20 + version)) (256 + id)
-      (drafted u.draft (op_at (suc u.learned.version))) (let e = reached in omega arith)
+      (main_word u.main_words (op_at (suc u.learned.version))) (let e = reached in omega arith)
       ∙ ap (λ (n : ℕ). 256 + n) (is.is_id ∙ is.may.id)
 
   may_register : IsNew v.rows (name_in in_row) (text_in in_row)
@@ -107,19 +108,19 @@ module _ (v : View) (row : CatRow) (version id : ℕ) (u : View) (is : IsDrafted
   room = is.may.new.room
 
   -- the version may be raised
-  pub can_raise : CanBump behind
+  pub can_raise : CanRaiseVersion behind
   can_raise = record {
     main = ap (λ (z : View). z.lane) only ∙ is.make.main;
     outside = ap (λ (z : View). z.epoch) only ∙ is.make.outside;
     few = (let few = is.make.few in let e = reached in omega arith);
     settled = ap (λ (z : View). z.round) only ∙ is.make.settled;
-    operation = subst (λ (ls : List Listed). IsOperation (row_in (drafted behind.draft) (length ls)) ls
+    operation = subst (λ (ls : List Listed). IsOperation (row_in (main_word behind.main_words) (length ls)) ls
         (next_operation behind)) (sym same_rows) (inl (operation, may_register, row_words));
     ends = λ n e. (let o = operation in let few = room in absurd (omega arith));
   }
 
   -- and then the row is one of the definitions
-  made_rows : made (drafted behind.draft) (next_operation behind) v.rows
+  made_rows : made (main_word behind.main_words) (next_operation behind) v.rows
       ≡ v.rows ++ record { id = row.id; name = row.name; def = row.def; active = true } ∷ []
   made_rows =
       let few = room in
@@ -130,7 +131,7 @@ module _ (v : View) (row : CatRow) (version id : ℕ) (u : View) (is : IsDrafted
       ∙ ap (λ (n : ℕ). v.rows ++ record { id = n; name = row.name; def = row.def; active = true } ∷ []) (sym is.may.id)
 
   -- its registration waits
-  waits : (after_bump behind).round ≡ Some (record {
+  waits : (after_raise_version behind).round ≡ Some (record {
     id = row.id;
     version = suc v.learned.version;
     checked = 1 ∷ [];
@@ -146,27 +147,27 @@ module _ (v : View) (row : CatRow) (version id : ℕ) (u : View) (is : IsDrafted
         bound = None;
       } in Some o)
 
-  pub registered : HasRegistered v row (after_bump behind)
+  pub registered : HasRegistered v row (after_raise_version behind)
   registered =
-      let u' : View = after_bump behind in
-      let h = is.drafted in
+      let u' : View = after_raise_version behind in
+      let h = is.main_word in
       record {
-        changes = changes_from v u' u'.rows u'.draft u'.round v.tail v.learned.count (suc v.learned.version)
+        changes = changes_from v u' u'.rows u'.main_words u'.round v.tail v.learned.count (suc v.learned.version)
             v.learned.opens u'.clock
             (ap (λ (z : View). record z {
               rows = u'.rows;
-              draft = u'.draft;
+              main_words = u'.main_words;
               round = u'.round;
               learned = record z.learned { version = suc z.learned.version };
               clock = u'.clock;
             }) only) (omega arith) (omega arith) (λ o m. m)
             (later_both v.clock u.clock u'.clock h.clock
             (later_both u.clock behind.clock u'.clock (later_ticked u.clock) (later_ticked behind.clock))) h.loads;
-        rows = ap (made (drafted behind.draft) (next_operation behind)) same_rows ∙ made_rows;
+        rows = ap (made (main_word behind.main_words) (next_operation behind)) same_rows ∙ made_rows;
         version = ap (λ (z : View). suc z.learned.version) only;
         count = ap (λ (z : View). z.learned.count) only;
         round = waits;
         bounds = λ n i small. let few = is.make.few in
-            choose_second (ℕ_discrete (row_at n i) (20 + version)) (256 + id) (drafted u.draft (row_at n i))
+            choose_second (ℕ_discrete (row_at n i) (20 + version)) (256 + id) (main_word u.main_words (row_at n i))
             (λ same. omega arith) ∙ h.bounds n i small;
       }

@@ -12,7 +12,7 @@ use Rattle.fish_rule.specs.declared.view.View.{View}
 pub record Changes (v u : View) : Type 0 where
   pub frame : u ≡ record v {
     rows = u.rows;
-    draft = u.draft;
+    main_words = u.main_words;
     round = u.round;
     tail = u.tail;
     learned = record v.learned { count = u.learned.count; version = u.learned.version; opens = u.learned.opens };

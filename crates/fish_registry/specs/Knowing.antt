@@ -6,7 +6,7 @@ use Rattle.fish_catalog.specs.Words.{bound_word}
 use Rattle.fish_catalog.specs.declared.row.CatRow.{CatRow}
 use Rattle.fish_registry.specs.declared.registrar.Registrar.{Registrar}
 use Rattle.fish_registry.specs.declared.registrar.Waiting.{Waiting}
-use Rattle.fish_rule.specs.Registry.{drafted, row_at}
+use Rattle.fish_rule.specs.Registry.{main_word, row_at}
 use Rattle.fish_rule.specs.Table.{first_view}
 use Rattle.fish_rule.specs.Views.{Among}
 use Rattle.fish_rule.specs.declared.view.Key.{Key}
@@ -42,8 +42,8 @@ Awaits v (Some w) = IsAwaited v w
 
 -- the boundaries of the row with an id are those that the pass stored last
 pub record HasBounds (v : View) (id : ℕ) (row : CatRow) : Type 0 where
-  pub from : drafted v.draft (row_at id 0) ≡ bound_word row.from
-  pub to : drafted v.draft (row_at id 1) ≡ bound_word row.to
+  pub from : main_word v.main_words (row_at id 0) ≡ bound_word row.from
+  pub to : main_word v.main_words (row_at id 1) ≡ bound_word row.to
   pub counted : (n : ℕ) → row.from ≡ Some n → n ≤ v.learned.count
 
 -- these rows, and the registration that waits, are what the control pass knows
@@ -72,5 +72,5 @@ KnowsFirst r = (k : Key) → k.rows.value ≡ r.catalog → All (HasBegunBy k.nu
 -- what a registrar keeps stays what its pass knows, whatever else that pass does: its lane, definitions, boundaries and
 -- the registration that waits are the same, and it counts no fewer numbers
 abbrev pub KnowsOn : Type 0
-KnowsOn = (v u : View) (r : Registrar) → u.lane ≡ v.lane → u.rows ≡ v.rows → u.draft ≡ v.draft → u.round ≡ v.round
+KnowsOn = (v u : View) (r : Registrar) → u.lane ≡ v.lane → u.rows ≡ v.rows → u.main_words ≡ v.main_words → u.round ≡ v.round
     → v.learned.count ≤ u.learned.count → Knows v r → Knows u r

@@ -5,8 +5,8 @@ use Rattle.fish_catalog.specs.Rows.{IsActive, IsRow}
 use Rattle.fish_catalog.specs.declared.row.CatRow.{CatRow}
 use Rattle.fish_registry.specs.Changing.{Changes}
 use Rattle.fish_rule.specs.Clocks.{IsLater}
-use Rattle.fish_rule.specs.Reading.{after_end}
-use Rattle.fish_rule.specs.Registry.{drafted, row_at}
+use Rattle.fish_rule.specs.LoadSteps.{after_load_tail}
+use Rattle.fish_rule.specs.Registry.{main_word, row_at}
 use Rattle.fish_rule.specs.World.{high}
 use Rattle.fish_rule.specs.declared.view.Epoch.TheVariants.{Out}
 use Rattle.fish_rule.specs.declared.view.View.{View}
@@ -14,9 +14,9 @@ use Rattle.fish_rule.specs.declared.view.View.{View}
 -- the words of the next row from place 2 up to a place are these, the boundaries are as before, and else only what
 -- was stored and the clock changed
 pub record HasDrafted (v : View) (words : List ℕ) (upto : ℕ) (u : View) : Type 0 where
-  pub only : u ≡ record v { draft = u.draft; clock = u.clock }
-  pub row : (i : ℕ) → 2 ≤ i → i < upto → drafted u.draft (row_at (length v.rows) i) ≡ slice_index words i
-  pub bounds : (n i : ℕ) → i < 2 → drafted u.draft (row_at n i) ≡ drafted v.draft (row_at n i)
+  pub only : u ≡ record v { main_words = u.main_words; clock = u.clock }
+  pub row : (i : ℕ) → 2 ≤ i → i < upto → main_word u.main_words (row_at (length v.rows) i) ≡ slice_index words i
+  pub bounds : (n i : ℕ) → i < 2 → main_word u.main_words (row_at n i) ≡ main_word v.main_words (row_at n i)
   pub clock : IsLater v.clock u.clock
   pub loads : u.clock.loads ≡ v.clock.loads
 
@@ -43,15 +43,15 @@ pub record HasRegistered (v : View) (row : CatRow) (u : View) : Type 0 where
   pub version : u.learned.version ≡ suc v.learned.version
   pub count : u.learned.count ≡ v.learned.count
   pub round : u.round ≡ Some (record { id = row.id; version = suc v.learned.version; checked = 1 ∷ []; bound = None })
-  pub bounds : (n i : ℕ) → i < 2 → drafted u.draft (row_at n i) ≡ drafted v.draft (row_at n i)
+  pub bounds : (n i : ℕ) → i < 2 → main_word u.main_words (row_at n i) ≡ main_word v.main_words (row_at n i)
 
 -- the index of an active row may end at a number
 pub record MayEnd (v : View) (id to : ℕ) : Type 0 where
   pub on : IsOnAt v.rows id
   pub few : id < 256
   pub from : ℕ
-  pub began : drafted v.draft (row_at id 0) ≡ suc from
-  pub endless : drafted v.draft (row_at id 1) ≡ 0
+  pub began : main_word v.main_words (row_at id 0) ≡ suc from
+  pub endless : main_word v.main_words (row_at id 1) ≡ 0
   pub within : to ≤ v.learned.count
 
 -- the registry has one version more, in which the row's definition has ended; its index ends at the number, and the
@@ -62,13 +62,13 @@ pub record HasEnded (v : View) (id to : ℕ) (u : View) : Type 0 where
   pub version : u.learned.version ≡ suc v.learned.version
   pub count : u.learned.count ≡ v.learned.count
   pub round : u.round ≡ None
-  pub end : drafted u.draft (row_at id 1) ≡ suc to
-  pub from : drafted u.draft (row_at id 0) ≡ drafted v.draft (row_at id 0)
-  pub bounds : (n i : ℕ) → i < 2 → n ≢ id → drafted u.draft (row_at n i) ≡ drafted v.draft (row_at n i)
+  pub end : main_word u.main_words (row_at id 1) ≡ suc to
+  pub from : main_word u.main_words (row_at id 0) ≡ main_word v.main_words (row_at id 0)
+  pub bounds : (n i : ℕ) → i < 2 → n ≢ id → main_word u.main_words (row_at n i) ≡ main_word v.main_words (row_at n i)
 
 -- the tail was loaded, and its count is this number
 pub record HasTailed (v u : View) (n : ℕ) : Type 0 where
   pub tail : ℕ
-  pub view : u ≡ after_end v tail
+  pub view : u ≡ after_load_tail v tail
   pub is : n ≡ high tail
   pub more : v.learned.count ≤ n

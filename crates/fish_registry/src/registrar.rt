@@ -10,7 +10,7 @@ ghost use Rattle.fish_registry.specs.Changing.{Changes, HasCounted, Stays};
 ghost use Rattle.fish_registry.specs.Knowing.{IsWaiting, Knows, KnowsFirst};
 ghost use Rattle.fish_registry.specs.Refusing.{HasBegun, IsClear, IsOfEnds, IsOfRows, IsOfVersions, IsSaid, MayChange, PollTells};
 ghost use Rattle.fish_rule.specs.Passes.{IsPassOf, view};
-ghost use Rattle.fish_rule.specs.Reading.{IsAlone};
+ghost use Rattle.fish_rule.specs.LoadSteps.{IsAlone};
 ghost use Rattle.fish_rule.specs.declared.view.Epoch.TheVariants.{Out};
 
 use crate::looking::{bind, first_older};

@@ -3,6 +3,7 @@ pub mod AimEntry
 pub mod Announce
 pub mod CheckLane
 pub mod ClaimLines
+pub mod ClaimVersions
 pub mod DefineWord
 pub mod JoinPass
 pub mod LoadBound
@@ -27,3 +28,4 @@ pub mod StoreFrom
 pub mod StoreTo
 pub mod StoreWord
 pub mod SwingHead
+pub mod VersionMade

@@ -69,7 +69,7 @@ pub record Chain (linked : ℕ → Type 0) (first head : ℕ) (log : ℕ → ℕ
 -- ---- what a pass has learned of chains
 
 -- the first word of the linked entry at a place has reached a value
-pub record IsLow (k : Key) (dir log : ℕ → ℕ) (views : List View) (x : Known) : Type 0 where
+pub record IsLeastPrevious (k : Key) (dir log : ℕ → ℕ) (views : List View) (x : Known) : Type 0 where
   pub bucket : ℕ
   pub linked : Linked k dir log views bucket x.place
   pub low : x.value ≤ log x.place
@@ -77,5 +77,5 @@ pub record IsLow (k : Key) (dir log : ℕ → ℕ) (views : List View) (x : Know
 -- the entries known are linked, their first words and the heads have reached what is known of them
 pub record Chained (k : Key) (dir log : ℕ → ℕ) (views : List View) (head : ℕ → ℕ) (l : Learned) : Type 0 where
   pub nodes : AllOf (λ x. Linked k dir log views x.bucket x.place) l.nodes
-  pub lows : AllOf (IsLow k dir log views) l.lows
-  pub tops : AllOf (λ x. x.place ≤ head x.bucket) l.tops
+  pub least_previous : AllOf (IsLeastPrevious k dir log views) l.least_previous
+  pub least_heads : AllOf (λ x. x.place ≤ head x.bucket) l.least_heads

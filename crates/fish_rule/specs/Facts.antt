@@ -4,7 +4,7 @@ use Rattle.std.specs.Prelude.{ℕ, ◌≡◌, ◌≢◌, ◌+◌, ◌-◌, ◌*�
 use Rattle.fish_layout.specs.Cleared.{body_of}
 use Rattle.fish_rule.specs.Regions.{code}
 use Rattle.fish_rule.specs.Views.{AllOf, Among, Has}
-use Rattle.fish_rule.specs.Walks.{IsGap, IsLabel}
+use Rattle.fish_rule.specs.Gaps.{IsGap, IsLabel}
 use Rattle.fish_rule.specs.World.{body, high}
 use Rattle.fish_rule.specs.declared.view.Found.{Found}
 use Rattle.fish_rule.specs.declared.view.Key.{Key}

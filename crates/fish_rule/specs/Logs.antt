@@ -18,7 +18,7 @@ use Rattle.fish_rule.specs.declared.view.Gap.{Gap}
 use Rattle.fish_rule.specs.declared.view.Key.{Key}
 use Rattle.fish_rule.specs.declared.view.Known.{Known}
 use Rattle.fish_rule.specs.declared.view.Label.{Label}
-use Rattle.fish_rule.specs.declared.view.Node.{Node}
+use Rattle.fish_rule.specs.declared.view.EntryPlace.{EntryPlace}
 use Rattle.fish_rule.specs.declared.view.Opens.{Opens}
 use Rattle.fish_rule.specs.declared.view.Recorded.{Recorded}
 use Rattle.fish_rule.specs.declared.view.RegistryWord.{RegistryWord}
@@ -61,9 +61,9 @@ pub record Learns (v u : View) : Type 0 where
   pub found : (x : Found) → Among x v.learned.found → Among x u.learned.found
   pub known : (x : Known) → Among x v.learned.known → Among x u.learned.known
   pub records : (x : Recorded) → Among x v.learned.records → Among x u.learned.records
-  pub nodes : (x : Node) → Among x v.learned.nodes → Among x u.learned.nodes
-  pub lows : (x : Known) → Among x v.learned.lows → Among x u.learned.lows
-  pub tops : (x : Node) → Among x v.learned.tops → Among x u.learned.tops
+  pub nodes : (x : EntryPlace) → Among x v.learned.nodes → Among x u.learned.nodes
+  pub least_previous : (x : Known) → Among x v.learned.least_previous → Among x u.learned.least_previous
+  pub least_heads : (x : EntryPlace) → Among x v.learned.least_heads → Among x u.learned.least_heads
   pub gaps : (x : Gap) → Among x v.learned.gaps → Among x u.learned.gaps
   pub labels : (x : Label) → Among x v.learned.labels → Among x u.learned.labels
   pub unended : (x : Unended) → Among x v.learned.unended → Among x u.learned.unended

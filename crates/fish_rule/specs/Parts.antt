@@ -63,7 +63,7 @@ pub record Regions (k : Key) (count line : ℕ) (start : ℕ → ℕ) : Type 0 w
 
 -- the number n is published: its directory word has its line and the kind of its region, whose
 -- words hold what that kind asks
-pub record IsFinished (k : Key) (dir log start lane_of : ℕ → ℕ) (n : ℕ) : Type 0 where
+pub record IsPublishedRegion (k : Key) (dir log start lane_of : ℕ → ℕ) (n : ℕ) : Type 0 where
   pub kind : high (dir n) ≡ code (kind_of k.end (start n) (start (suc n)))
   pub line : low (dir n) ≡ start n
   pub lined : lines_of (body log (start n) 0) ≤ start (suc n) - start n
@@ -105,7 +105,7 @@ Flies k count dir log start lane_of lane (Some f) = InFlight k count dir log sta
 -- each claimed number is published, or in flight with exactly one pass; behind the tail all words are 0
 pub record Space (k : Key) (count line : ℕ) (dir log : ℕ → ℕ) (views : List View) (start lane_of : ℕ → ℕ) : Type 0 where
   pub regions : Regions k count line start
-  pub finished : (n : ℕ) → k.number ≤ n → n < count → dir n ≢ 0 → IsFinished k dir log start lane_of n
+  pub finished : (n : ℕ) → k.number ≤ n → n < count → dir n ≢ 0 → IsPublishedRegion k dir log start lane_of n
   pub flying : (n : ℕ) → k.number ≤ n → n < count → dir n ≡ 0 → HasFlight n views
   pub flights : Each (λ v. Flies k count dir log start lane_of v.lane v.flight) views
   pub alone : (i j : ℕ) (v u : View) (n : ℕ) → get_elem? views i ≡ some v → get_elem? views j ≡ some u

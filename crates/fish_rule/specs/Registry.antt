@@ -123,6 +123,6 @@ pub record KnowsRow (k : Key) (l : Learned) (id : ℕ) : Type 0 where
   pub there : (g : ℕ → ℕ) → HasRead g l.words → id < length (definitions_at k g version)
 
 -- the word that was stored last at an index, or 0
-abbrev pub drafted : List RegistryWord → ℕ → ℕ
-drafted [] p = 0
-drafted (x ∷ xs) p = choose (ℕ_discrete p x.index) x.value (drafted xs p)
+abbrev pub main_word : List RegistryWord → ℕ → ℕ
+main_word [] p = 0
+main_word (x ∷ xs) p = choose (ℕ_discrete p x.index) x.value (main_word xs p)

@@ -8,7 +8,7 @@ use Rattle.fish_catalog.specs.Words.{row_word}
 use Rattle.fish_catalog.specs.declared.row.CatRow.{CatRow}
 use Rattle.fish_rule.specs.Registry.{row_at}
 use Rattle.fish_rule.specs.Rule.{Rule}
-use Rattle.fish_rule.specs.Seating.{fresh, unlearned}
+use Rattle.fish_rule.specs.SeatSteps.{fresh, unlearned}
 use Rattle.fish_rule.specs.World.{World, total, world}
 use Rattle.fish_rule.specs.declared.view.Epoch.TheVariants.{Out}
 use Rattle.fish_rule.specs.declared.view.Key.{Key}
@@ -36,7 +36,7 @@ first_view k = record {
   flight = None;
   epoch = Out;
   rows = map listed_of k.rows.value;
-  draft = boundaries_of 0 k.rows.value;
+  main_words = boundaries_of 0 k.rows.value;
   round = None;
   tail = Some (record { number = k.number; line = k.line });
   own = [];

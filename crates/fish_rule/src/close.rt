@@ -1,10 +1,11 @@
 //! The end of a log: the control pass reads every entry and every head, and the table goes.
 
 ghost use Rattle.std.specs.Prelude.{◌≡◌, ◌+◌, ◌<◌, ◌≤◌, ℕ, [], true, suc, length, IfOk, IfErr, OnOk};
-ghost use Rattle.fish_rule.specs.Closing.{AreHeads, HasStart, IsAdded, IsClosed, IsNext, IsRead, IsReadUpTo, ReadsOn, page_of};
+ghost use Rattle.fish_rule.specs.ClosedLog.{AreHeads, HasStart, IsAdded, IsClosed, IsNext, IsRead, IsReadUpTo, ReadsOn};
+ghost use Rattle.fish_rule.specs.ClosedLog.{page_of};
 ghost use Rattle.fish_rule.specs.Logs.{Extends, Learns};
 ghost use Rattle.fish_rule.specs.Passes.{IsOf, IsPassOf, view};
-ghost use Rattle.fish_rule.specs.Reading.{CanLook, IsAlone};
+ghost use Rattle.fish_rule.specs.LoadSteps.{CanLookAt, IsAlone};
 
 use crate::area::PAGE_LINES;
 use crate::entry::read_record;
@@ -178,7 +179,7 @@ fn add_entry(
 ) -> Result<bool, AllocError>
     requires pass { IsPassOf log.now main.old }
     requires alone { IsAlone (view main.old) }
-    requires look { CanLook (view main.old) number }
+    requires look { CanLookAt (view main.old) number }
     requires read { IsReadUpTo (view main.old) number read.old }
     ensures pass { IsPassOf log.now main.new }
     ensures extends { Extends (view main.old) (view main.new) }
@@ -218,7 +219,7 @@ fn add_start(read: &mut ReadLog, number: u64, line: u64) -> Result<(), AllocErro
 fn next_entry(alloc: Global, log: &Log, main: &mut Pass, number: u64) -> Result<Next, AllocError>
     requires pass { IsPassOf log.now main.old }
     requires alone { IsAlone (view main.old) }
-    requires look { CanLook (view main.old) number }
+    requires look { CanLookAt (view main.old) number }
     ensures pass { IsPassOf log.now main.new }
     ensures extends { Extends (view main.old) (view main.new) }
     ensures next { IfOk result (IsNext (view main.new) number) }

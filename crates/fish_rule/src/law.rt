@@ -1,11 +1,11 @@
 //! The laws of the log: the theorem over every schedule, what a closed log has of what passes knew, and what
 //! passes know together. No call of the program needs them.
 
-ghost use Rattle.fish_rule.specs.Closed.{EndsWhereNextBegins, OwnIsClosed, ToldIsClosed};
+ghost use Rattle.fish_rule.specs.ClosedLaws.{EndsWhereNextBegins, OwnIsClosed, ToldIsClosed};
 ghost use Rattle.fish_rule.specs.Comparing.{OneLineIsOneClaim, OneNumberIsOneClaim, RegionsFollow};
 ghost use Rattle.fish_rule.specs.Intervals.{IntervalsAreIndexed, IntervalsStay};
 ghost use Rattle.fish_rule.specs.Machine.{EverySchedule, EveryStepIsFinal};
-ghost use Rattle.fish_rule.specs.Unpublished.{OpensAreApart};
+ghost use Rattle.fish_rule.specs.OpenNumbers.{OpensAreApart};
 
 /// From an empty log on, the rule holds after every list of steps of any passes, in any order; and
 /// each step keeps for good what lasts.

@@ -12,7 +12,7 @@ mod entry;
 mod law;
 mod linking;
 mod opening;
-mod plays;
+mod step_kinds;
 mod registry;
 mod seats;
 mod space;
@@ -37,7 +37,7 @@ pub use space::{
 };
 pub use table::{Base, Log, LogRule, Pass, Region, Shape, Walk};
 pub use view::{
-    Clock, Epoch, Flight, Found, Gap, Key, Kind, Known, Label, Learned, Node, Note, Noted, Own,
+    Clock, Epoch, Flight, Found, Gap, Key, Kind, Known, Label, Learned, EntryPlace, Note, Noted, Own,
     Position, Recorded, RegistryWord, Shut, View,
 };
 pub use walk::{keep_walk, kept_walk};

@@ -5,15 +5,17 @@
 //! rise.
 
 ghost use Rattle.std.specs.Prelude.{◌≡◌, ◌≢◌, ◌*◌, ◌<◌, ◌≤◌, ℕ, Some};
-ghost use Rattle.fish_rule.specs.Linking.{CanAim, CanLoadHead, CanSplice, CanSwing, HasNode, LowRises};
-ghost use Rattle.fish_rule.specs.Linking.{TopRises, after_aim, after_head, after_node, after_previous};
-ghost use Rattle.fish_rule.specs.Linking.{after_splice, after_swing, own_place};
+ghost use Rattle.fish_rule.specs.ChainSteps.{CanAimEntry, CanLoadHead, CanSpliceEntry, CanSwingHead, HasNode};
+ghost use Rattle.fish_rule.specs.ChainSteps.{PreviousRises};
+ghost use Rattle.fish_rule.specs.ChainSteps.{HeadRises, after_aim_entry, after_load_head, after_load_node};
+ghost use Rattle.fish_rule.specs.ChainSteps.{after_load_previous};
+ghost use Rattle.fish_rule.specs.ChainSteps.{after_splice_entry, after_swing_head, own_place};
 ghost use Rattle.fish_rule.specs.Parts.{first_head};
 ghost use Rattle.fish_rule.specs.Passes.{IsPassOf, view};
 ghost use Rattle.fish_rule.specs.declared.view.Flight.{Flight};
 
 use crate::area::{HEADS, log_at};
-use crate::plays::{Aim, Head, Label, Previous, Splice, Swing};
+use crate::step_kinds::{AimEntry, LoadHead, LoadNode, LoadPrevious, SpliceEntry, SwingHead};
 use crate::table::{Log, Pass};
 
 /// Loads the head of a bucket: the place of its newest linked entry, or the head that it had at the
@@ -22,13 +24,13 @@ pub fn load_head(log: &Log, pass: &mut Pass, bucket: u64) -> u64
     requires pass { IsPassOf log.now pass.old }
     requires view { CanLoadHead (view pass.old) bucket }
     ensures pass { IsPassOf log.now pass.new }
-    ensures view { view pass.new ≡ after_head (view pass.old) bucket result }
-    ensures rises { TopRises (view pass.old) bucket result }
+    ensures view { view pass.new ≡ after_load_head (view pass.old) bucket result }
+    ensures rises { HeadRises (view pass.old) bucket result }
     ensures first { result ≤ log.now.key.line * 4 → result ≡ first_head log.now.key bucket }
 {
     log.table
         .shared
-        .load::<Head>(&mut pass.seat, (HEADS + bucket) as usize)
+        .load::<LoadHead>(&mut pass.seat, (HEADS + bucket) as usize)
 }
 
 /// Loads the first word of a linked entry: the place of the next older one of its bucket, or the head
@@ -38,8 +40,8 @@ pub fn load_previous(log: &Log, pass: &mut Pass, place: u64) -> u64
     requires node { (b : ℕ) × HasNode (view pass.old) b place }
     ensures pass { IsPassOf log.now pass.new }
     ensures view { (b : ℕ) → HasNode (view pass.old) b place
-        → view pass.new ≡ after_previous (view pass.old) b place result }
-    ensures rises { LowRises (view pass.old) place result }
+        → view pass.new ≡ after_load_previous (view pass.old) b place result }
+    ensures rises { PreviousRises (view pass.old) place result }
     ensures less { result < place }
     ensures first { (b : ℕ) → HasNode (view pass.old) b place → result ≤ log.now.key.line * 4
         → result ≡ first_head log.now.key b }
@@ -47,7 +49,7 @@ pub fn load_previous(log: &Log, pass: &mut Pass, place: u64) -> u64
     let index = log_at(&log.key) + (place - log.key.line * 4);
     log.table
         .shared
-        .load::<Previous>(&mut pass.seat, index as usize)
+        .load::<LoadPrevious>(&mut pass.seat, index as usize)
 }
 
 /// Loads the second word of a linked entry: the number of its record, its definition, and which of
@@ -56,56 +58,56 @@ pub fn load_node(log: &Log, pass: &mut Pass, place: u64) -> u64
     requires pass { IsPassOf log.now pass.old }
     requires node { (b : ℕ) × HasNode (view pass.old) b place }
     ensures pass { IsPassOf log.now pass.new }
-    ensures view { view pass.new ≡ after_node (view pass.old) place result }
+    ensures view { view pass.new ≡ after_load_node (view pass.old) place result }
 {
     let index = log_at(&log.key) + (place + 1 - log.key.line * 4);
     log.table
         .shared
-        .load::<Label>(&mut pass.seat, index as usize)
+        .load::<LoadNode>(&mut pass.seat, index as usize)
 }
 
 /// Stores the place that the own next entry is to lead to.
 pub fn aim_entry(log: &Log, pass: &mut Pass, place: u64, previous: u64)
     requires pass { IsPassOf log.now pass.old }
-    requires view { (f : Flight) × CanAim (view pass.old) f × (place ≡ own_place f) }
+    requires view { (f : Flight) × CanAimEntry (view pass.old) f × (place ≡ own_place f) }
     ensures pass { IsPassOf log.now pass.new }
     ensures view { (f : Flight) → (view pass.old).flight ≡ Some f
-        → view pass.new ≡ after_aim (view pass.old) f previous }
+        → view pass.new ≡ after_aim_entry (view pass.old) f previous }
 {
     let index = log_at(&log.key) + (place - log.key.line * 4);
     log.table
         .shared
-        .store::<Aim>(&mut pass.seat, index as usize, previous);
+        .store::<AimEntry>(&mut pass.seat, index as usize, previous);
 }
 
 /// Makes the own next entry the head of its bucket, where the head is as expected.
 pub fn swing_head(log: &Log, pass: &mut Pass, bucket: u64, expected: u64, place: u64) -> u64
     requires pass { IsPassOf log.now pass.old }
-    requires view { (f : Flight) × CanSwing (view pass.old) f bucket expected × (place ≡ own_place f) }
+    requires view { (f : Flight) × CanSwingHead (view pass.old) f bucket expected × (place ≡ own_place f) }
     ensures pass { IsPassOf log.now pass.new }
     ensures view { (f : Flight) → (view pass.old).flight ≡ Some f
-        → view pass.new ≡ after_swing (view pass.old) f bucket expected result }
-    ensures rises { TopRises (view pass.old) bucket result }
+        → view pass.new ≡ after_swing_head (view pass.old) f bucket expected result }
+    ensures rises { HeadRises (view pass.old) bucket result }
     ensures other { result ≢ place }
 {
     log.table
         .shared
-        .compare_exchange::<Swing>(&mut pass.seat, (HEADS + bucket) as usize, expected, place)
+        .compare_exchange::<SwingHead>(&mut pass.seat, (HEADS + bucket) as usize, expected, place)
 }
 
 /// Puts the own next entry in below a higher one, where that one's first word is as expected.
 pub fn splice_entry(log: &Log, pass: &mut Pass, above: u64, expected: u64, place: u64) -> u64
     requires pass { IsPassOf log.now pass.old }
-    requires view { (f : Flight) × ((b : ℕ) × CanSplice (view pass.old) f b above expected × (place ≡ own_place f)) }
+    requires view { (f : Flight) × ((b : ℕ) × CanSpliceEntry (view pass.old) f b above expected × (place ≡ own_place f)) }
     ensures pass { IsPassOf log.now pass.new }
     ensures view { (f : Flight) → (b : ℕ) → (view pass.old).flight ≡ Some f → HasNode (view pass.old) b above
-        → view pass.new ≡ after_splice (view pass.old) f b above expected result }
-    ensures rises { LowRises (view pass.old) above result }
+        → view pass.new ≡ after_splice_entry (view pass.old) f b above expected result }
+    ensures rises { PreviousRises (view pass.old) above result }
     ensures less { result < above }
     ensures other { result ≢ place }
 {
     let index = log_at(&log.key) + (above - log.key.line * 4);
     log.table
         .shared
-        .compare_exchange::<Splice>(&mut pass.seat, index as usize, expected, place)
+        .compare_exchange::<SpliceEntry>(&mut pass.seat, index as usize, expected, place)
 }

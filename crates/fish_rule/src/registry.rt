@@ -4,21 +4,22 @@
 ghost use Rattle.std.specs.Prelude.{◌≡◌, ◌<◌, ◌≤◌, ℕ, Some, length, slice_get};
 ghost use Rattle.fish_catalog.specs.Words.{IsWritable, row_word};
 ghost use Rattle.fish_catalog.specs.declared.row.CatRow.{CatRow};
-ghost use Rattle.fish_rule.specs.Entering.{CanAnnounce, CanBump, CanDefine, CanEnter, CanLoadRegistry};
-ghost use Rattle.fish_rule.specs.Entering.{after_announce, after_bump, after_define, after_registry};
-ghost use Rattle.fish_rule.specs.Entering.{after_retire, after_version};
+ghost use Rattle.fish_rule.specs.RegistrySteps.{CanAnnounce, CanRaiseVersion, CanDefineWord, CanEnter, CanLoadRegistry};
+ghost use Rattle.fish_rule.specs.RegistrySteps.{after_announce, after_raise_version, after_define_word};
+ghost use Rattle.fish_rule.specs.RegistrySteps.{after_load_registry};
+ghost use Rattle.fish_rule.specs.RegistrySteps.{after_retire, after_load_version};
 ghost use Rattle.fish_rule.specs.Passes.{IsPassOf, view};
 ghost use Rattle.fish_rule.specs.Registry.{KnowsRow, op_at, row_at};
 
 use crate::area::{OPENED, OPERATIONS, ROWS, VERSION, epoch_index};
-use crate::plays::{Announce, Bump, Define, Register, Retire, Version};
+use crate::step_kinds::{Announce, RaiseVersion, DefineWord, LoadRegistry, Retire, LoadVersion};
 use crate::table::{Log, Pass};
 
 /// Loads the version. A version that the pass announced is confirmed where it is that very one.
 pub fn load_version(log: &Log, pass: &mut Pass) -> u64
     requires pass { IsPassOf log.now pass.old }
     ensures pass { IsPassOf log.now pass.new }
-    ensures view { view pass.new ≡ after_version (view pass.old) result }
+    ensures view { view pass.new ≡ after_load_version (view pass.old) result }
     ensures rises { (view pass.old).learned.version ≤ result }
     ensures from { log.now.key.version ≤ result }
     ensures few { result ≤ 512 }
@@ -26,7 +27,7 @@ pub fn load_version(log: &Log, pass: &mut Pass) -> u64
 {
     log.table
         .shared
-        .load::<Version>(&mut pass.seat, VERSION as usize)
+        .load::<LoadVersion>(&mut pass.seat, VERSION as usize)
 }
 
 /// Announces a version in the epoch word of the pass's lane.
@@ -57,7 +58,7 @@ pub fn retire(log: &Log, pass: &mut Pass)
 pub fn load_opened(log: &Log, pass: &mut Pass) -> u64
     requires pass { IsPassOf log.now pass.old }
     ensures pass { IsPassOf log.now pass.new }
-    ensures view { view pass.new ≡ after_registry (view pass.old) 3 result }
+    ensures view { view pass.new ≡ after_load_registry (view pass.old) 3 result }
     ensures opened { result ≡ length (view pass.old).about.rows.value }
 {
     load_registry(log, pass, OPENED)
@@ -68,7 +69,7 @@ pub fn load_operation(log: &Log, pass: &mut Pass, version: u64) -> u64
     requires pass { IsPassOf log.now pass.old }
     requires version { (log.now.key.version < version) × (version ≤ (view pass.old).learned.version) }
     ensures pass { IsPassOf log.now pass.new }
-    ensures view { view pass.new ≡ after_registry (view pass.old) (op_at version) result }
+    ensures view { view pass.new ≡ after_load_registry (view pass.old) (op_at version) result }
 {
     load_registry(log, pass, OPERATIONS + (version - 1))
 }
@@ -79,7 +80,7 @@ pub fn load_row(log: &Log, pass: &mut Pass, id: u64, place: u64) -> u64
     requires row { KnowsRow (view pass.old).about (view pass.old).learned id }
     requires place { (2 ≤ place) × (place < 39) }
     ensures pass { IsPassOf log.now pass.new }
-    ensures view { view pass.new ≡ after_registry (view pass.old) (row_at id place) result }
+    ensures view { view pass.new ≡ after_load_registry (view pass.old) (row_at id place) result }
     ensures row { (row : CatRow) → slice_get (view pass.old).about.rows.value id ≡ Some row
         → IsWritable row × (result ≡ row_word row place) }
 {
@@ -91,37 +92,37 @@ fn load_registry(log: &Log, pass: &mut Pass, index: u64) -> u64
     requires pass { IsPassOf log.now pass.old }
     requires view { CanLoadRegistry (view pass.old) index }
     ensures pass { IsPassOf log.now pass.new }
-    ensures view { view pass.new ≡ after_registry (view pass.old) index result }
+    ensures view { view pass.new ≡ after_load_registry (view pass.old) index result }
     ensures opened { index ≡ 3 → result ≡ length (view pass.old).about.rows.value }
     ensures row { (id i : ℕ) (row : CatRow) → slice_get (view pass.old).about.rows.value id ≡ Some row → 2 ≤ i
         → i < 39 → index ≡ row_at id i → IsWritable row × (result ≡ row_word row i) }
 {
     log.table
         .shared
-        .load::<Register>(&mut pass.seat, index as usize)
+        .load::<LoadRegistry>(&mut pass.seat, index as usize)
 }
 
 /// Stores a word of the next operation or row.
 pub fn define_word(log: &Log, pass: &mut Pass, index: u64, word: u64)
     requires pass { IsPassOf log.now pass.old }
-    requires view { CanDefine (view pass.old) index word }
+    requires view { CanDefineWord (view pass.old) index word }
     ensures pass { IsPassOf log.now pass.new }
-    ensures view { view pass.new ≡ after_define (view pass.old) index word }
+    ensures view { view pass.new ≡ after_define_word (view pass.old) index word }
 {
     log.table
         .shared
-        .store::<Define>(&mut pass.seat, index as usize, word);
+        .store::<DefineWord>(&mut pass.seat, index as usize, word);
 }
 
 /// Stores the next version, which makes the next operation.
 pub fn raise_version(log: &Log, pass: &mut Pass, version: u64)
     requires pass { IsPassOf log.now pass.old }
-    requires view { CanBump (view pass.old) }
+    requires view { CanRaiseVersion (view pass.old) }
     requires version { version ≡ (view pass.old).learned.version }
     ensures pass { IsPassOf log.now pass.new }
-    ensures view { view pass.new ≡ after_bump (view pass.old) }
+    ensures view { view pass.new ≡ after_raise_version (view pass.old) }
 {
     log.table
         .shared
-        .store::<Bump>(&mut pass.seat, VERSION as usize, version + 1);
+        .store::<RaiseVersion>(&mut pass.seat, VERSION as usize, version + 1);
 }

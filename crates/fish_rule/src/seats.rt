@@ -7,14 +7,14 @@ ghost use Rattle.std.specs.Prelude.{◌≡◌, ℕ, ◌<◌, ◌≤◌, IfOk, re
 ghost use Rattle.fish_rule.specs.Logs.{Learns};
 ghost use Rattle.fish_rule.specs.Parts.{Fits};
 ghost use Rattle.fish_rule.specs.Passes.{IsPassOf, view};
-ghost use Rattle.fish_rule.specs.Seating.{CanJoin, CanSplit, join_both, split_left, split_right};
+ghost use Rattle.fish_rule.specs.SeatSteps.{CanJoinPass, CanSplitPass, join_both, split_left, split_right};
 ghost use Rattle.fish_rule.specs.Start.{CanOpen, IsFirst, IsFirstKey, IsShape};
-ghost use Rattle.fish_rule.specs.Reading.{after_end};
+ghost use Rattle.fish_rule.specs.LoadSteps.{after_load_tail};
 ghost use Rattle.fish_rule.specs.Table.{first_view};
 
 use crate::area::PAGE_LINES;
 use crate::opening::empty_words;
-use crate::plays::End;
+use crate::step_kinds::LoadTail;
 use crate::table::{Base, Log, Pass, Shape};
 use crate::view::{Key, View};
 use crate::walk::NO_WALK;
@@ -76,7 +76,7 @@ fn no_heads(alloc: Global, count: usize) -> Result<Numbers64, AllocError>
 struct Cut<const LANE: u8>;
 
 impl<const LANE: u8> Split<View> for Cut<LANE> {
-    ghost use Rattle.fish_rule.specs.Seating.{split_left, split_right};
+    ghost use Rattle.fish_rule.specs.SeatSteps.{split_left, split_right};
 
     ghost left = { split_left LANE };
 
@@ -87,7 +87,7 @@ impl<const LANE: u8> Split<View> for Cut<LANE> {
 struct Meet;
 
 impl Join<View> for Meet {
-    ghost use Rattle.fish_rule.specs.Seating.{join_both, spent};
+    ghost use Rattle.fish_rule.specs.SeatSteps.{join_both, spent};
 
     ghost both = { join_both };
 
@@ -176,7 +176,7 @@ pub fn open_log(alloc: Global, shape: Shape, start: &Start) -> Result<(Log, Pass
 /// The lane LANE goes to a new pass.
 fn give_out<const LANE: u8>(log: &Log, main: &mut Pass) -> Pass
     requires pass { IsPassOf log.now main.old }
-    requires can { CanSplit (view main.old) LANE }
+    requires can { CanSplitPass (view main.old) LANE }
     ensures main { IsPassOf log.now main.new }
     ensures pass { IsPassOf log.now result }
     ensures left { view main.new ≡ split_left LANE (view main.old) }
@@ -195,7 +195,7 @@ fn give_out<const LANE: u8>(log: &Log, main: &mut Pass) -> Pass
 /// Gives out a lane to a new pass, which knows all that the control pass knows.
 pub fn split_pass(log: &Log, main: &mut Pass, lane: u8) -> Pass
     requires pass { IsPassOf log.now main.old }
-    requires can { CanSplit (view main.old) lane }
+    requires can { CanSplitPass (view main.old) lane }
     ensures main { IsPassOf log.now main.new }
     ensures pass { IsPassOf log.now result }
     ensures left { view main.new ≡ split_left lane (view main.old) }
@@ -224,9 +224,9 @@ pub fn split_pass(log: &Log, main: &mut Pass, lane: u8) -> Pass
 pub fn join_pass(log: &Log, main: &mut Pass, other: Pass)
     requires main { IsPassOf log.now main.old }
     requires other { IsPassOf log.now other }
-    requires can { CanJoin (view main.old) (view other) }
+    requires can { CanJoinPass (view main.old) (view other) }
     ensures pass { IsPassOf log.now main.new }
-    ensures view { (found : ℕ) × (view main.new ≡ after_end (join_both (view main.old) (view other)) found) }
+    ensures view { (found : ℕ) × (view main.new ≡ after_load_tail (join_both (view main.old) (view other)) found) }
     ensures learns { Learns (view main.old) (view main.new) }
     ensures learned { Learns (view other) (view main.new) }
 {
@@ -238,7 +238,7 @@ pub fn join_pass(log: &Log, main: &mut Pass, other: Pass)
         walk: _,
     } = other;
     log.table.shared.join_seat::<Meet>(&mut main.seat, seat);
-    log.table.shared.load::<End>(&mut main.seat, 0);
+    log.table.shared.load::<LoadTail>(&mut main.seat, 0);
     if main.shut.is_none() {
         main.shut = shut;
     }

@@ -6,9 +6,11 @@ ghost use Rattle.fish_rule.specs.Flying.{region_in};
 ghost use Rattle.fish_rule.specs.Passes.{IsPassOf, view};
 ghost use Rattle.fish_rule.specs.Parts.{Rests};
 ghost use Rattle.fish_rule.specs.Regions.{dir_word, kind_of};
-ghost use Rattle.fish_rule.specs.Steps.{CanClaim, CanPublish, CanStore, after_claim, after_publish, after_store};
-ghost use Rattle.fish_rule.specs.Reading.{CanLook, CanRaise, CanRead, IsAlone, after_end, after_look};
-ghost use Rattle.fish_rule.specs.Reading.{after_raise, after_read, after_settled};
+ghost use Rattle.fish_rule.specs.SpaceSteps.{CanClaimLines, CanPublishRegion, CanStoreWord, after_claim_lines};
+ghost use Rattle.fish_rule.specs.SpaceSteps.{after_publish_region, after_store_word};
+ghost use Rattle.fish_rule.specs.LoadSteps.{CanLookAt, CanRaiseSettled, CanReadWord, IsAlone, after_load_tail};
+ghost use Rattle.fish_rule.specs.LoadSteps.{after_look_at};
+ghost use Rattle.fish_rule.specs.LoadSteps.{after_raise_settled, after_read_word, after_load_settled};
 ghost use Rattle.fish_rule.specs.Table.{Sees};
 ghost use Rattle.fish_rule.specs.Views.{Among};
 ghost use Rattle.fish_rule.specs.World.{high, low, slots, log_at as first_log_word};
@@ -16,7 +18,7 @@ ghost use Rattle.fish_rule.specs.declared.view.Flight.{Flight};
 ghost use Rattle.fish_rule.specs.declared.view.Found.{Found};
 
 use crate::area::{PAGE_LINES, dir_at, log_at};
-use crate::plays::{Claim, End, Look, Publish, Raise, Read, Settled, Store};
+use crate::step_kinds::{ClaimLines, LoadTail, LookAt, PublishRegion, RaiseSettled, ReadWord, LoadSettled, StoreWord};
 use crate::table::{Log, Pass, Region};
 use crate::view::{Kind, Position, Shut};
 use crate::word::{ONE, directory_word, position_in};
@@ -54,9 +56,9 @@ pub fn kind_in(log: &Log, region: &Region) -> Kind
 pub fn claim_lines(log: &Log, pass: &mut Pass, lines: u64) -> Region
     requires pass { IsPassOf log.now pass.old }
     requires lines { (0 < lines) × (lines ≤ 18625) }
-    requires view { CanClaim (view pass.old) }
+    requires view { CanClaimLines (view pass.old) }
     ensures pass { IsPassOf log.now pass.new }
-    ensures view { view pass.new ≡ after_claim (view pass.old) lines result.number result.line }
+    ensures view { view pass.new ≡ after_claim_lines (view pass.old) lines result.number result.line }
     ensures lines { result.lines ≡ lines }
     ensures counted { (view pass.old).learned.count ≤ result.number }
     ensures within { result.number < log.now.key.number + slots log.now.key }
@@ -64,7 +66,7 @@ pub fn claim_lines(log: &Log, pass: &mut Pass, lines: u64) -> Region
     let found = log
         .table
         .shared
-        .fetch_add::<Claim>(&mut pass.seat, 0, ONE + lines);
+        .fetch_add::<ClaimLines>(&mut pass.seat, 0, ONE + lines);
     let Position { number, line } = position_in(found);
     let region = Region {
         number,
@@ -78,14 +80,14 @@ pub fn claim_lines(log: &Log, pass: &mut Pass, lines: u64) -> Region
 /// Stores the next word of the region in flight.
 pub fn store_word(log: &Log, pass: &mut Pass, region: &Region, offset: u64, word: u64)
     requires pass { IsPassOf log.now pass.old }
-    requires view { (f : Flight) × CanStore (view pass.old) f × (f.line ≡ region.now.line) × (length f.words ≡ offset) }
+    requires view { (f : Flight) × CanStoreWord (view pass.old) f × (f.line ≡ region.now.line) × (length f.words ≡ offset) }
     ensures pass { IsPassOf log.now pass.new }
-    ensures view { (f : Flight) → (view pass.old).flight ≡ Some f → view pass.new ≡ after_store (view pass.old) f word }
+    ensures view { (f : Flight) → (view pass.old).flight ≡ Some f → view pass.new ≡ after_store_word (view pass.old) f word }
 {
     let index = log_at(&log.key) + (region.line * 4 + offset - log.key.line * 4);
     log.table
         .shared
-        .store::<Store>(&mut pass.seat, index as usize, word);
+        .store::<StoreWord>(&mut pass.seat, index as usize, word);
 }
 
 /// The index of a region's first word among the words of the table.
@@ -99,27 +101,27 @@ pub fn region_index(log: &Log, region: &Region) -> u64
 /// Stores the next word of the region in flight, whose first word has this index.
 pub fn store_at(log: &Log, pass: &mut Pass, first: u64, offset: u64, word: u64)
     requires pass { IsPassOf log.now pass.old }
-    requires view { (f : Flight) × CanStore (view pass.old) f
+    requires view { (f : Flight) × CanStoreWord (view pass.old) f
         × (first_log_word log.now.key + (f.line * 4 - log.now.key.line * 4) ≡ first) × (length f.words ≡ offset) }
     ensures pass { IsPassOf log.now pass.new }
-    ensures view { (f : Flight) → (view pass.old).flight ≡ Some f → view pass.new ≡ after_store (view pass.old) f word }
+    ensures view { (f : Flight) → (view pass.old).flight ≡ Some f → view pass.new ≡ after_store_word (view pass.old) f word }
 {
     log.table
         .shared
-        .store::<Store>(&mut pass.seat, (first + offset) as usize, word);
+        .store::<StoreWord>(&mut pass.seat, (first + offset) as usize, word);
 }
 
 /// Publishes the region in flight, by a store of its directory word. A mark shuts the pass.
 pub fn publish_region(log: &Log, pass: &mut Pass, region: &Region)
     requires pass { IsPassOf log.now pass.old }
-    requires view { (f : Flight) × CanPublish (view pass.old) f × (f.number ≡ region.now.number)
+    requires view { (f : Flight) × CanPublishRegion (view pass.old) f × (f.number ≡ region.now.number)
         × (f.line ≡ region.now.line) × (f.lines ≡ region.now.lines) }
     ensures pass { IsPassOf log.now pass.new }
-    ensures view { (f : Flight) → (view pass.old).flight ≡ Some f → view pass.new ≡ after_publish (view pass.old) f }
+    ensures view { (f : Flight) → (view pass.old).flight ≡ Some f → view pass.new ≡ after_publish_region (view pass.old) f }
 {
     let kind = region_kind(log.key.end, region.line, region.line + region.lines);
     let index = dir_at(&log.key) + (region.number - log.key.number);
-    log.table.shared.store::<Publish>(
+    log.table.shared.store::<PublishRegion>(
         &mut pass.seat,
         index as usize,
         directory_word(kind, region.line),
@@ -137,9 +139,9 @@ pub fn publish_region(log: &Log, pass: &mut Pass, region: &Region)
 /// Loads the directory word of a number.
 pub fn look_at(log: &Log, pass: &mut Pass, number: u64) -> u64
     requires pass { IsPassOf log.now pass.old }
-    requires view { CanLook (view pass.old) number }
+    requires view { CanLookAt (view pass.old) number }
     ensures pass { IsPassOf log.now pass.new }
-    ensures view { (lines : ℕ) × (view pass.new ≡ after_look (view pass.old) number lines result) }
+    ensures view { (lines : ℕ) × (view pass.new ≡ after_look_at (view pass.old) number lines result) }
     ensures alone { IsAlone (view pass.old) → result ≢ 0 }
     ensures known { (f : Found) → Among f (view pass.old).learned.found → f.number ≡ number
         → result ≡ dir_word f.kind f.line }
@@ -148,34 +150,34 @@ pub fn look_at(log: &Log, pass: &mut Pass, number: u64) -> u64
     let index = dir_at(&log.key) + (number - log.key.number);
     log.table
         .shared
-        .load::<Look>(&mut pass.seat, index as usize)
+        .load::<LookAt>(&mut pass.seat, index as usize)
 }
 
 /// Loads a word of a published region.
 pub fn read_word(log: &Log, pass: &mut Pass, line: u64, offset: u64) -> u64
     requires pass { IsPassOf log.now pass.old }
-    requires view { (f : Found) × CanRead (view pass.old) f offset × (f.line ≡ line) }
+    requires view { (f : Found) × CanReadWord (view pass.old) f offset × (f.line ≡ line) }
     ensures pass { IsPassOf log.now pass.new }
-    ensures view { view pass.new ≡ after_read (view pass.old) (line * 4 + offset) result }
+    ensures view { view pass.new ≡ after_read_word (view pass.old) (line * 4 + offset) result }
 {
     let index = log_at(&log.key) + (line * 4 + offset - log.key.line * 4);
     log.table
         .shared
-        .load::<Read>(&mut pass.seat, index as usize)
+        .load::<ReadWord>(&mut pass.seat, index as usize)
 }
 
 /// Loads the tail.
 pub fn load_tail(log: &Log, pass: &mut Pass) -> Position
     requires pass { IsPassOf log.now pass.old }
     ensures pass { IsPassOf log.now pass.new }
-    ensures view { (x : ℕ) × (view pass.new ≡ after_end (view pass.old) x) × (result.number ≡ high x)
+    ensures view { (x : ℕ) × (view pass.new ≡ after_load_tail (view pass.old) x) × (result.number ≡ high x)
         × (result.line ≡ low x) }
     ensures counted { (view pass.old).learned.count ≤ result.number }
     ensures settled { (view pass.old).learned.settled ≤ result.number }
     ensures rests { (view pass.old).lane ≡ 1 → (view pass.old).out ≡ []
         → Rests result.number result.line (view pass.old).tail }
 {
-    let found = log.table.shared.load::<End>(&mut pass.seat, 0);
+    let found = log.table.shared.load::<LoadTail>(&mut pass.seat, 0);
     position_in(found)
 }
 
@@ -183,24 +185,24 @@ pub fn load_tail(log: &Log, pass: &mut Pass) -> Position
 pub fn load_settled(log: &Log, pass: &mut Pass) -> u64
     requires pass { IsPassOf log.now pass.old }
     ensures pass { IsPassOf log.now pass.new }
-    ensures view { view pass.new ≡ after_settled (view pass.old) result }
+    ensures view { view pass.new ≡ after_load_settled (view pass.old) result }
     ensures rises { (view pass.old).learned.settled ≤ result }
     ensures from { log.now.key.number ≤ result }
 {
-    log.table.shared.load::<Settled>(&mut pass.seat, 1)
+    log.table.shared.load::<LoadSettled>(&mut pass.seat, 1)
 }
 
 /// Raises the settled number to at least this one, by a fetch-max, and answers what it was.
 pub fn raise_settled(log: &Log, pass: &mut Pass, number: u64) -> u64
     requires pass { IsPassOf log.now pass.old }
-    requires view { CanRaise (view pass.old) number }
+    requires view { CanRaiseSettled (view pass.old) number }
     ensures pass { IsPassOf log.now pass.new }
-    ensures view { view pass.new ≡ after_raise (view pass.old) number result }
+    ensures view { view pass.new ≡ after_raise_settled (view pass.old) number result }
     ensures rises { (view pass.old).learned.settled ≤ result }
 {
     log.table
         .shared
-        .fetch_max::<Raise>(&mut pass.seat, 1, number)
+        .fetch_max::<RaiseSettled>(&mut pass.seat, 1, number)
 }
 
 /// The kind of the region between two lines.

@@ -82,7 +82,7 @@ pub struct Known {
 }
 
 /// The place of a key entry's first word, in words from the log's start, and its bucket.
-pub struct Node {
+pub struct EntryPlace {
     pub bucket: u64,
     pub place: u64,
 }
@@ -207,11 +207,11 @@ pub struct Learned {
     pub known: [Known; 0],
     pub records: [Recorded; 0],
     /// Key entries that are linked.
-    pub nodes: [Node; 0],
+    pub nodes: [EntryPlace; 0],
     /// The first words of linked key entries are at least so great.
-    pub lows: [Known; 0],
+    pub least_previous: [Known; 0],
     /// The heads of buckets are at least at these places.
-    pub tops: [Node; 0],
+    pub least_heads: [EntryPlace; 0],
     pub gaps: [Gap; 0],
     pub labels: [Label; 0],
     pub unended: [Unended; 0],
@@ -237,7 +237,7 @@ pub struct View {
     pub rows: [Listed; 0],
     /// Of the control pass: the words of the registry that it alone stores, newest first: the boundaries of
     /// rows, and the next operation and row.
-    pub draft: [RegistryWord; 0],
+    pub main_words: [RegistryWord; 0],
     /// Of the control pass: the registration that waits.
     pub round: Option<Round>,
     /// The tail as its last step left it, unless it joined another pass since.

@@ -3,7 +3,7 @@
 
 ghost use Rattle.std.specs.Prelude.{◌≡◌, ◌+◌, ◌*◌, ◌<◌};
 ghost use Rattle.fish_rule.specs.Regions.{dir_word};
-ghost use Rattle.fish_rule.specs.Reading.{kind_told};
+ghost use Rattle.fish_rule.specs.LoadSteps.{kind_told};
 ghost use Rattle.fish_rule.specs.World.{high, low};
 
 use crate::view::{Kind, Position};

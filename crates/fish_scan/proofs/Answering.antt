@@ -21,7 +21,7 @@ use Rattle.fish_rule.proofs.laws.Clocks.{later_both, later_self, loaded_within, 
 use Rattle.fish_rule.proofs.laws.Learning.{learns_both, learns_self}
 use Rattle.fish_rule.proofs.laws.ChainFacts.{always_later}
 use Rattle.fish_rule.specs.Clocks.{HasLoaded, IsLater}
-use Rattle.fish_rule.specs.Entering.{after_version}
+use Rattle.fish_rule.specs.RegistrySteps.{after_load_version}
 use Rattle.fish_rule.specs.Intervals.{HasInterval}
 use Rattle.fish_rule.specs.Logs.{Extends, Learns, TellsMark}
 use Rattle.fish_rule.specs.declared.view.Epoch.{Epoch}
@@ -91,12 +91,12 @@ scans_settles v u h = record {
 }
 
 -- the version is loaded
-pub scans_version : (v u : View) (x : ℕ) → u ≡ after_version v x → v.learned.version ≤ x → OnlyScans v u
+pub scans_version : (v u : View) (x : ℕ) → u ≡ after_load_version v x → v.learned.version ≤ x → OnlyScans v u
 scans_version v u x is more = subst (OnlyScans v) (sym is) (record {
   learns = assumption (learns_self v, more);
   clock = (noted_load v.clock Version x).on;
   frame = refl;
-  outside = λ e. ap (λ (z : Epoch). (after_version (record v { epoch = z }) x).epoch) e;
+  outside = λ e. ap (λ (z : Epoch). (after_load_version (record v { epoch = z }) x).epoch) e;
 })
 
 -- ---- views of what loads no word of the log
@@ -114,14 +114,14 @@ pub plans_settles : (v u : View) → OnlySettles v u → OnlyPlans v u
 plans_settles v u h = record { scans = scans_settles v u h; loads = h.loads }
 
 -- the version is loaded
-pub plans_version : (v u : View) (x : ℕ) → u ≡ after_version v x → v.learned.version ≤ x → OnlyPlans v u
+pub plans_version : (v u : View) (x : ℕ) → u ≡ after_load_version v x → v.learned.version ≤ x → OnlyPlans v u
 plans_version v u x is more = record {
   scans = scans_version v u x is more;
   loads = ap (λ (z : View). z.clock.loads) is;
 }
 
 -- the version that was loaded is that of the definitions
-pub version_loaded : (v m u : View) (x : ℕ) (known : Known) → m ≡ after_version v x → IsLater m.clock u.clock
+pub version_loaded : (v m u : View) (x : ℕ) (known : Known) → m ≡ after_load_version v x → IsLater m.clock u.clock
     → version_of known ≡ x → HasLoaded v.clock u.clock Version (version_of known)
 version_loaded v m u x known is later same =
     subst (HasLoaded v.clock u.clock Version) (sym same)

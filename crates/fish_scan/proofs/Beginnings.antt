@@ -9,7 +9,7 @@ use Rattle.fish_catalog.specs.declared.listed.Listed.{Listed}
 use Rattle.fish_rule.proofs.laws.Lists.{among_left, among_right}
 use Rattle.fish_rule.proofs.laws.Learning.{extends_both, extends_self}
 use Rattle.fish_rule.proofs.laws.Intervals.{intervals_stay}
-use Rattle.fish_rule.specs.Bounding.{after_boundary, end_told, with_boundary}
+use Rattle.fish_rule.specs.BoundarySteps.{after_load_boundary, end_told, with_boundary}
 use Rattle.fish_rule.specs.Logs.{Learns}
 use Rattle.fish_rule.specs.Registry.{row_at}
 use Rattle.fish_rule.specs.Views.{Among}
@@ -45,12 +45,12 @@ boundary_still p zero words y among = among
 boundary_still p (suc n) words y among = inr among
 
 -- a beginning and an end that were loaded make an interval
-pub begun_found : (v m u : View) (id x y from : ℕ) (to : Option ℕ) → id < 256 → m ≡ after_boundary v id 0 x
-    → u ≡ after_boundary m id 1 y → x ≡ suc from → end_within v.learned.settled to ≡ end_told v.learned.settled y
+pub begun_found : (v m u : View) (id x y from : ℕ) (to : Option ℕ) → id < 256 → m ≡ after_load_boundary v id 0 x
+    → u ≡ after_load_boundary m id 1 y → x ≡ suc from → end_within v.learned.settled to ≡ end_told v.learned.settled y
     → IsBegun u v.learned.settled id (record { id = id; from = from; to = to })
 begun_found v m u id x y from to few first last begins ends =
     subst (λ (z : View). IsBegun z v.learned.settled id (record { id = id; from = from; to = to }))
-    (sym (last ∙ ap (λ (z : View). after_boundary z id 1 y) (first ∙ ap (after_boundary v id 0) begins))) (record {
+    (sym (last ∙ ap (λ (z : View). after_load_boundary z id 1 y) (first ∙ ap (after_load_boundary v id 0) begins))) (record {
       id_is = refl;
       interval = record {
         few = few;

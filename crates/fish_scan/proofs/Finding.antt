@@ -12,7 +12,7 @@ use Rattle.fish_rule.proofs.laws.ChainFacts.{always_later}
 use Rattle.fish_rule.specs.Logs.{IsEntry, Learns, Tells}
 use Rattle.fish_rule.specs.Views.{Among}
 use Rattle.fish_rule.specs.Rule.{Rule}
-use Rattle.fish_rule.specs.Walking.{Always}
+use Rattle.fish_rule.specs.ChainFacts.{Always}
 use Rattle.fish_rule.specs.World.{World}
 use Rattle.fish_rule.specs.declared.view.Key.{Key}
 use Rattle.fish_rule.specs.declared.view.View.{View}

@@ -33,7 +33,7 @@ use Rattle.fish_rule.specs.Logs.{IsEntry, Learns}
 use Rattle.fish_rule.specs.Regions.{code}
 use Rattle.fish_rule.specs.Rule.{Rule}
 use Rattle.fish_rule.specs.Views.{Among}
-use Rattle.fish_rule.specs.Walking.{IsNodeIn}
+use Rattle.fish_rule.specs.ChainFacts.{IsNodeIn}
 use Rattle.fish_rule.specs.World.{World, high, low}
 use Rattle.fish_rule.specs.declared.view.Key.{Key}
 use Rattle.fish_rule.specs.declared.view.Kind.TheVariants.{Stored}

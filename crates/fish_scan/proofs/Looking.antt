@@ -8,7 +8,7 @@ use Rattle.fish_rule.proofs.laws.Learning.{learns_both}
 use Rattle.fish_rule.proofs.laws.OpenNumbers.{opens_apart}
 use Rattle.fish_rule.specs.Logs.{Learns, TellsMark}
 use Rattle.fish_rule.specs.Table.{Sees}
-use Rattle.fish_rule.specs.Unpublished.{AreApart}
+use Rattle.fish_rule.specs.OpenNumbers.{AreApart}
 use Rattle.fish_rule.specs.Views.{Among}
 use Rattle.fish_rule.specs.declared.view.Key.{Key}
 use Rattle.fish_rule.specs.declared.view.Position.{Position}

@@ -14,7 +14,7 @@ use Rattle.fish_rule.proofs.laws.Regions.{one_region, starts_rise}
 use Rattle.fish_rule.proofs.laws.Moments.{stored_above, stored_claimed, stored_parts}
 use Rattle.fish_rule.proofs.laws.ChainFacts.{within_region}
 use Rattle.fish_rule.specs.Rule.{Rule}
-use Rattle.fish_rule.specs.Walking.{IsNodeIn}
+use Rattle.fish_rule.specs.ChainFacts.{IsNodeIn}
 use Rattle.fish_rule.specs.World.{World, body, low}
 use Rattle.fish_rule.specs.declared.view.Key.{Key}
 

@@ -13,7 +13,7 @@ use Rattle.fish_rule.proofs.laws.Moments.{stored_parts}
 use Rattle.fish_rule.proofs.laws.Lists.{all_among}
 use Rattle.fish_rule.specs.Facts.{IsFound}
 use Rattle.fish_rule.specs.Logs.{IsEntry, Learns, Tells}
-use Rattle.fish_rule.specs.Reading.{after_look}
+use Rattle.fish_rule.specs.LoadSteps.{after_look_at}
 use Rattle.fish_rule.specs.Regions.{code}
 use Rattle.fish_rule.specs.Table.{Stands}
 use Rattle.fish_rule.specs.Views.{Among}
@@ -26,7 +26,7 @@ use Rattle.fish_scan.specs.Reading.{Adds, IsMatching, IsParsable}
 use Rattle.fish_chain.proofs.Comparing.{given_later, looked}
 use Rattle.fish_chain.specs.Values.{IsGiven}
 use Rattle.fish_chain.specs.declared.walk.Node.{Node}
-use Rattle.fish_rule.specs.Walking.{Always}
+use Rattle.fish_rule.specs.ChainFacts.{Always}
 use Rattle.fish_walk.specs.Looks.{HasFound, IsEntryLook, IsLookAt}
 use Rattle.fish_walk.specs.declared.outcome.Look.{Look}
 use Rattle.fish_walk.specs.declared.outcome.Look.TheVariants as look
@@ -164,7 +164,7 @@ pub given_stored : (v : View) (node : Node) → IsGiven v node → Always v (λ 
 given_stored v node given x learns w r seat at = (given.1 x learns w r seat at).entry.stored
 
 -- so a look finds the record of an entry that a walk gave
-pub entry_found : (v m u : View) (node : Node) (r : Look) (lines word : ℕ) → u ≡ after_look m node.number lines word
+pub entry_found : (v m u : View) (node : Node) (r : Look) (lines word : ℕ) → u ≡ after_look_at m node.number lines word
     → Learns v m → node.number < v.learned.settled → IsGiven v node → Stands u → IsLookAt u node.number r
     → (node.number < m.learned.settled → IsEntryLook r) → HasFound u node.number Stored
 entry_found v m u node r lines word seen learns settled given stands found entry_look =

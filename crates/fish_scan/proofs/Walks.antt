@@ -10,12 +10,12 @@ use Rattle.fish_lang.specs.Definition.{Definition}
 use Rattle.fish_layout.specs.Hash.{bucket_in, key_hash_of}
 use Rattle.fish_rule.proofs.laws.Intervals.{intervals_stay}
 use Rattle.fish_rule.proofs.laws.ChainFacts.{always_later}
-use Rattle.fish_rule.specs.Linking.{HasNode}
+use Rattle.fish_rule.specs.ChainSteps.{HasNode}
 use Rattle.fish_rule.specs.Logs.{Learns}
 use Rattle.fish_rule.specs.Parts.{first_head}
 use Rattle.fish_rule.specs.Table.{Stands}
 use Rattle.fish_rule.specs.Views.{Among}
-use Rattle.fish_rule.specs.Walking.{Always, IsClear, IsNodeIn}
+use Rattle.fish_rule.specs.ChainFacts.{Always, IsClear, IsNodeIn}
 use Rattle.fish_rule.specs.declared.table.Walk.{Walk}
 use Rattle.fish_rule.specs.declared.view.Key.{Key}
 use Rattle.fish_rule.specs.declared.view.View.{View}

@@ -13,7 +13,7 @@ use Rattle.fish_psf.specs.SelectLaw.{FallsBelow}
 use Rattle.fish_rule.specs.Intervals.{HasInterval}
 use Rattle.fish_rule.specs.Registry.{KnowsDefinitions}
 use Rattle.fish_rule.specs.Views.{Among}
-use Rattle.fish_rule.specs.Walking.{Always, IsNodeIn}
+use Rattle.fish_rule.specs.ChainFacts.{Always, IsNodeIn}
 use Rattle.fish_rule.specs.declared.view.View.{View}
 use Rattle.fish_scan.specs.Matching.{Matches}
 use Rattle.fish_value.specs.declared.row.Row.{Row}

@@ -4,7 +4,7 @@ ghost use Rattle.std.specs.Prelude.{◌≡◌, ◌+◌, ◌<◌, ◌≤◌, ◌*
 ghost use Rattle.fish_lang.specs.Definition.{definition_of};
 ghost use Rattle.fish_rule.specs.Logs.{Extends};
 ghost use Rattle.fish_rule.specs.Passes.{IsPassOf, view};
-ghost use Rattle.fish_rule.specs.Reading.{CanLook};
+ghost use Rattle.fish_rule.specs.LoadSteps.{CanLookAt};
 ghost use Rattle.fish_rule.specs.Views.{Among};
 ghost use Rattle.fish_rule.specs.declared.view.Kind.TheVariants.{Stored};
 ghost use Rattle.fish_scan.specs.Reach.{IsReached};
@@ -100,7 +100,7 @@ fn read_number<P: Ledger, L: Ledger>(
     loads: &mut Steps<L>,
 ) -> Result<(), AllocError>
     requires pass { IsPassOf log.now pass.old }
-    requires look { CanLook (view pass.old) number }
+    requires look { CanLookAt (view pass.old) number }
     requires stored { HasFound (view pass.old) number Stored }
     requires finished { ¬ Among number query.now.reach.opens }
     ensures pass { IsPassOf log.now pass.new }

@@ -9,7 +9,7 @@ use Rattle.fish_rule.proofs.laws.Clocks.{later_self, loaded_within, noted_load}
 use Rattle.fish_rule.proofs.laws.Learning.{extends_both, extends_look, extends_self, learns_both}
 use Rattle.fish_rule.specs.Clocks.{HasLoaded, IsLater}
 use Rattle.fish_rule.specs.Logs.{Extends, Learns, TellsMark}
-use Rattle.fish_rule.specs.Reading.{after_look, found_after, kind_told, opens_after}
+use Rattle.fish_rule.specs.LoadSteps.{after_look_at, found_after, kind_told, opens_after}
 use Rattle.fish_rule.specs.Views.{Among}
 use Rattle.fish_rule.specs.World.{high, low}
 use Rattle.fish_rule.specs.declared.view.Found.{Found}
@@ -39,7 +39,7 @@ stops_within P a b c d number count p (inr h) q = inr (record {
 -- ---- looks
 
 -- a look is a load of the directory word
-pub look_loads : (v u : View) (n lines x : ℕ) → u ≡ after_look v n lines x
+pub look_loads : (v u : View) (n lines x : ℕ) → u ≡ after_look_at v n lines x
     → HasLoaded v.clock u.clock (Directory n) x
 look_loads v u n lines x e =
     subst (λ (z : View). HasLoaded v.clock z.clock (Directory n) x) (sym e) (noted_load v.clock (Directory n) x)
@@ -66,7 +66,7 @@ module _ (n : ℕ) (last : Opens) (before : List Opens) where
   longer_has lists (no h) below e = absurd (h below)
 
 -- a look leaves in front what was found unpublished since the same load
-opens_still : (v u : View) (n lines x count : ℕ) (numbers : List ℕ) → u ≡ after_look v n lines x → HasOpens v count numbers
+opens_still : (v u : View) (n lines x count : ℕ) (numbers : List ℕ) → u ≡ after_look_at v n lines x → HasOpens v count numbers
     → HasOpens u count numbers
 opens_still v u n lines x count numbers e h = by x (ap (λ (z : View). z.learned.opens) e)
   where
@@ -86,16 +86,16 @@ opens_still v u n lines x count numbers e h = by x (ap (λ (z : View). z.learned
         }
 
 -- and so the list of a load
-begun_still : (v : View) (n lines x count : ℕ) → HasOpens v count [] → HasOpens (after_look v n lines x) count []
-begun_still v n lines x count h = opens_still v (after_look v n lines x) n lines x count [] refl h
+begun_still : (v : View) (n lines x count : ℕ) → HasOpens v count [] → HasOpens (after_look_at v n lines x) count []
+begun_still v n lines x count h = opens_still v (after_look_at v n lines x) n lines x count [] refl h
 
 -- a number that was found unpublished joins the others
-pub opens_looked : (v u : View) (n lines x : ℕ) (r : Look) → u ≡ after_look v n lines x → r ≡ look_of x
+pub opens_looked : (v u : View) (n lines x : ℕ) (r : Look) → u ≡ after_look_at v n lines x → r ≡ look_of x
     → KeepsOpens v u n r
 opens_looked v u n lines x r e is count numbers h below =
     subst (λ (z : Look). HasOpens u count (with_look n z numbers)) (sym is) (by x e)
   where
-    by : (y : ℕ) → u ≡ after_look v n lines y → HasOpens u count (with_look n (look_of y) numbers)
+    by : (y : ℕ) → u ≡ after_look_at v n lines y → HasOpens u count (with_look n (look_of y) numbers)
     by (suc y) e = told (kind_told (high (suc y)))
       where
         still : HasOpens u count numbers
@@ -120,10 +120,10 @@ opens_looked v u n lines x r e is count numbers h below =
         }
 
 -- what a look told of a number is found
-pub look_found : (v u : View) (n lines x : ℕ) (r : Look) → u ≡ after_look v n lines x → r ≡ look_of x → IsLookAt u n r
+pub look_found : (v u : View) (n lines x : ℕ) (r : Look) → u ≡ after_look_at v n lines x → r ≡ look_of x → IsLookAt u n r
 look_found v u n lines x r e is = subst (IsLookAt u n) (sym is) (by x e)
   where
-    by : (y : ℕ) → u ≡ after_look v n lines y → IsLookAt u n (look_of y)
+    by : (y : ℕ) → u ≡ after_look_at v n lines y → IsLookAt u n (look_of y)
     by zero e = tt
     by (suc y) e = told (kind_told (high (suc y))) refl
       where
@@ -142,7 +142,7 @@ look_found v u n lines x r e is = subst (IsLookAt u n) (sym is) (by x e)
             by_kind Mark h = h
 
 -- and nothing else is learned by it
-pub look_looks : (v u : View) (n lines x : ℕ) → u ≡ after_look v n lines x → OnlyLooks v u
+pub look_looks : (v u : View) (n lines x : ℕ) → u ≡ after_look_at v n lines x → OnlyLooks v u
 look_looks v u n lines x e = record {
   extends = subst (λ (z : View). Extends v z) (sym e) (extends_look v n lines x);
   count = ap (λ (z : View). z.learned.count) e;
@@ -177,7 +177,7 @@ mark_told r x e ne (inl is) = absurd (ne is)
 mark_told r x e ne (inr is) = sym e ∙ is
 
 -- so the numbers stop here
-pub stops_by : (P : ℕ → Type 0) (a v u : View) (n lines x count : ℕ) → OnlyLooks a v → u ≡ after_look v n lines x
+pub stops_by : (P : ℕ → Type 0) (a v u : View) (n lines x count : ℕ) → OnlyLooks a v → u ≡ after_look_at v n lines x
     → P x → n < count → StopsAt P a u n count
 stops_by P a v u n lines x count looked e ends below = inr (record {
   below = below;
@@ -216,7 +216,7 @@ found_entry n lines (suc x) found some plain = (
 )
 
 -- so one number more is settled
-pub settled_more : (v u : View) (first n lines x : ℕ) (r : Look) → u ≡ after_look v n lines x → r ≡ look_of x
+pub settled_more : (v u : View) (first n lines x : ℕ) (r : Look) → u ≡ after_look_at v n lines x → r ≡ look_of x
     → (r ≡ look.Void) ⊎ (r ≡ look.Stored) → AreSettled v first n → AreSettled u first (n + 1)
 settled_more v u first n lines x r e told is settled m above below = pick (dec_lt m n)
   where
@@ -238,7 +238,7 @@ settled_still v u first n looked settled m above below =
     (h.0, looked.extends.learns.found h.0 h.1, h.2, h.3)
 
 -- a look that tells of a mark found one
-marked : (v u : View) (n lines x : ℕ) → u ≡ after_look v n lines x → IsMark x → TellsMark u n
+marked : (v u : View) (n lines x : ℕ) → u ≡ after_look_at v n lines x → IsMark x → TellsMark u n
 marked v u n lines zero e is = absurd (let bad : look.Unfinished ≡ look.Overflow = is in cc)
 marked v u n lines (suc x) e is =
     tells_mark u (seen n lines (suc x)) (seen_here v u n lines (suc x) e (λ h. omega arith))
@@ -250,7 +250,7 @@ marked v u n lines (suc x) e is =
     mark_kind Void h = absurd (let bad : look.Void ≡ look.Overflow = h in cc)
 
 -- so the log ends there
-pub ends_by : (v u : View) (n lines x count : ℕ) (r : Look) → u ≡ after_look v n lines x → r ≡ look_of x
+pub ends_by : (v u : View) (n lines x count : ℕ) (r : Look) → u ≡ after_look_at v n lines x → r ≡ look_of x
     → r ≢ look.Unfinished → (r ≡ look.Unfinished) ⊎ (r ≡ look.Overflow) → n < count → EndsAt u n count
 ends_by v u n lines x count r e told ne is below = inr (below, marked v u n lines x e (mark_told r x told ne is))
 

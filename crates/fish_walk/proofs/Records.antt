@@ -5,7 +5,7 @@ use Rattle.fish_rule.proofs.laws.Learning.{extends_look}
 use Rattle.fish_rule.proofs.laws.Steps.{fits_law, found_law, read_law}
 use Rattle.fish_rule.specs.Logs.{Extends}
 use Rattle.fish_rule.specs.Regions.{code, dir_word, kind_of}
-use Rattle.fish_rule.specs.Reading.{CanLook, after_look, found_after, kind_told}
+use Rattle.fish_rule.specs.LoadSteps.{CanLookAt, after_look_at, found_after, kind_told}
 use Rattle.fish_rule.specs.Table.{Sees, Stands}
 use Rattle.fish_rule.specs.Views.{Among}
 use Rattle.fish_rule.specs.World.{World, high, low}
@@ -43,11 +43,11 @@ word_line v f x s among is word =
     omega arith
 
 -- a view only learns by a look
-pub look_extends : (v u : View) (n lines x : ℕ) → u ≡ after_look v n lines x → Extends v u
+pub look_extends : (v u : View) (n lines x : ℕ) → u ≡ after_look_at v n lines x → Extends v u
 look_extends v u n lines x e = subst (Extends v) (sym e) (extends_look v n lines x)
 
 -- a look at a record that was found before finds it again, at the line of the word
-pub look_finds : (v u : View) (n lines x line : ℕ) (f : Found) → Stands v → u ≡ after_look v n lines x
+pub look_finds : (v u : View) (n lines x line : ℕ) (f : Found) → Stands v → u ≡ after_look_at v n lines x
     → x ≡ dir_word f.kind f.line → Among f v.learned.found → f.kind ≡ Stored → line ≡ low x
     → Among f u.learned.found × (f.line ≡ line) × (f.kind ≢ Mark)
 look_finds v u n lines x line f s e word among is at =
@@ -71,17 +71,17 @@ found_stored n lines (suc x) found e = (
     by Mark e = cc
 
 -- the same of the view after it
-pub stored_law : (v u : View) (n lines x : ℕ) → u ≡ after_look v n lines x → Look.Stored ≡ look_of x
+pub stored_law : (v u : View) (n lines x : ℕ) → u ≡ after_look_at v n lines x → Look.Stored ≡ look_of x
     → (f : Found) × Among f u.learned.found × (f.number ≡ n) × (f.kind ≡ Stored)
 stored_law v u n lines x e is =
     subst (λ (z : View). (f : Found) × Among f z.learned.found × (f.number ≡ n) × (f.kind ≡ Stored)) (sym e)
     (found_stored n lines x v.learned.found is)
 
 -- and the pass may look there again
-pub look_again : (v u : View) (n lines x : ℕ) → u ≡ after_look v n lines x → CanLook v n → CanLook u n
+pub look_again : (v u : View) (n lines x : ℕ) → u ≡ after_look_at v n lines x → CanLookAt v n → CanLookAt u n
 look_again v u n lines x e can =
-    let may : CanLook (after_look v n lines x) n = record { above = can.above; below = can.below } in
-    subst (λ (z : View). CanLook z n) (sym e) may
+    let may : CanLookAt (after_look_at v n lines x) n = record { above = can.above; below = can.below } in
+    subst (λ (z : View). CanLookAt z n) (sym e) may
 
 -- ---- settled numbers
 

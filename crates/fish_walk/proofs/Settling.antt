@@ -5,7 +5,7 @@ use Rattle.std.proofs.Math.Decide.{dec_lt}
 use Rattle.fish_rule.proofs.laws.Clocks.{later_both, later_ticked, loaded_within, noted_load}
 use Rattle.fish_rule.proofs.laws.Learning.{extends_both}
 use Rattle.fish_rule.specs.Clocks.{HasLoaded, IsLater}
-use Rattle.fish_rule.specs.Reading.{CanRaise, IsAlone, after_end, after_settled}
+use Rattle.fish_rule.specs.LoadSteps.{CanRaiseSettled, IsAlone, after_load_tail, after_load_settled}
 use Rattle.fish_rule.specs.Views.{Among}
 use Rattle.fish_rule.specs.World.{high}
 use Rattle.fish_rule.specs.declared.view.Found.{Found}
@@ -17,7 +17,7 @@ use Rattle.fish_walk.proofs.Looking.{stops_within}
 use Rattle.fish_walk.specs.Settling.{AreSettled, HasLoadedCount, OnlyLooks, OnlyRaises, OnlySettles, StopsAt}
 
 -- the views of a call: as it began, and after each of its parts
-module _ (a b c d e : View) (known x settled : ℕ) (to_b : b ≡ after_settled a known) (to_c : c ≡ after_end b x)
+module _ (a b c d e : View) (known x settled : ℕ) (to_b : b ≡ after_load_settled a known) (to_c : c ≡ after_load_tail b x)
     (looked : OnlyLooks c d) (raised : OnlyRaises d e settled) where
   -- until the count is loaded
   on_b : IsLater a.clock b.clock
@@ -44,11 +44,11 @@ module _ (a b c d e : View) (known x settled : ℕ) (to_b : b ≡ after_settled 
 
   -- the view after a load of the settled number and one of the tail
   abbrev begun : View
-  begun = after_end (after_settled a known) x
+  begun = after_load_tail (after_load_settled a known) x
 
   -- it is the one that the looks began with
   begun_is : c ≡ begun
-  begun_is = to_c ∙ ap (λ (z : View). after_end z x) to_b
+  begun_is = to_c ∙ ap (λ (z : View). after_load_tail z x) to_b
 
   -- a pass that is alone is alone still
   pub alone_still : IsAlone a → IsAlone c
@@ -60,9 +60,9 @@ module _ (a b c d e : View) (known x settled : ℕ) (to_b : b ≡ after_settled 
       → OnlySettles a e
   settles_all rises count is more = subst (λ (z : View). OnlyLooks z d → OnlySettles a e) (sym begun_is) all looked
     where
-      all : OnlyLooks (after_end (after_settled a known) x) d → OnlySettles a e
+      all : OnlyLooks (after_load_tail (after_load_settled a known) x) d → OnlySettles a e
       all h =
-          let l = extends_both (after_end (after_settled a known) x) d e h.extends raised.extends in
+          let l = extends_both (after_load_tail (after_load_settled a known) x) d e h.extends raised.extends in
           let up = l.learns.settled in
           let n = l.learns.count in
           let began : b.learned.count ≡ a.learned.count = ap (λ (z : View). z.learned.count) to_b in
@@ -82,9 +82,9 @@ module _ (a b c d e : View) (known x settled : ℕ) (to_b : b ≡ after_settled 
           }
 
 -- the number at which the looks stopped may be the settled one
-pub can_raise : (a b c d : View) (known x first settled count : ℕ) → b ≡ after_settled a known
-    → c ≡ after_end b x → OnlyLooks c d → first ≡ max a.about.number known
-    → AreSettled d first settled → settled ≤ count → count ≡ high x → CanRaise d settled
+pub can_raise : (a b c d : View) (known x first settled count : ℕ) → b ≡ after_load_settled a known
+    → c ≡ after_load_tail b x → OnlyLooks c d → first ≡ max a.about.number known
+    → AreSettled d first settled → settled ≤ count → count ≡ high x → CanRaiseSettled d settled
 can_raise a b c d known x first settled count to_b to_c looked from are within is =
     let l = looked.extends in
     let same : c.learned.settled ≡ known = ap (λ (z : View). z.learned.settled) to_c

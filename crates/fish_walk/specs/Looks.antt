@@ -1,6 +1,6 @@
 -- What a look tells.
 use Rattle.std.specs.Prelude.{ℕ, ◌≡◌, ◌+◌, ◌*◌, ◌<◌, ◌≤◌, ◌⊎◌, zero, suc, List, [], ◌∷◌, ◌++◌, Option, Some, None, ⊤}
-use Rattle.fish_rule.specs.Reading.{kind_told}
+use Rattle.fish_rule.specs.LoadSteps.{kind_told}
 use Rattle.fish_rule.specs.Views.{Among}
 use Rattle.fish_rule.specs.World.{high}
 use Rattle.fish_rule.specs.declared.view.Found.{Found}

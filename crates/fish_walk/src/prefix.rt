@@ -2,7 +2,7 @@
 
 ghost use Rattle.std.specs.Prelude.{◌≡◌, ◌≤◌, [], min};
 ghost use Rattle.fish_rule.specs.Passes.{IsPassOf, view};
-ghost use Rattle.fish_rule.specs.Reading.{CanRaise, IsAlone};
+ghost use Rattle.fish_rule.specs.LoadSteps.{CanRaiseSettled, IsAlone};
 ghost use Rattle.fish_walk.specs.Looks.{HasOpens};
 ghost use Rattle.fish_walk.specs.Settling.{AreSettled, CanSettle, EndsAt, HasLoadedCount, HasTail, IsEnd, IsMark, OnlyLooks, OnlyRaises};
 ghost use Rattle.fish_walk.specs.Settling.{OnlySettles, StopsAt};
@@ -69,7 +69,7 @@ fn settled_up_to(log: &Log, pass: &mut Pass, first: u32, count: u32) -> u32
 /// Raises the settled number to at least this one, by one step, unless it is known to be so high.
 fn raise_to(log: &Log, pass: &mut Pass, known: u64, number: u64)
     requires pass { IsPassOf log.now pass.old }
-    requires can { CanRaise (view pass.old) number }
+    requires can { CanRaiseSettled (view pass.old) number }
     requires known { (view pass.old).learned.settled ≡ known }
     ensures pass { IsPassOf log.now pass.new }
     ensures raised { OnlyRaises (view pass.old) (view pass.new) number }

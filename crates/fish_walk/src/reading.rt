@@ -3,7 +3,7 @@
 ghost use Rattle.std.specs.Prelude.{◌≡◌, ◌+◌, ◌≤◌, IfOk};
 ghost use Rattle.fish_rule.specs.Logs.{Extends, Tells};
 ghost use Rattle.fish_rule.specs.Passes.{IsPassOf, view};
-ghost use Rattle.fish_rule.specs.Reading.{CanLook};
+ghost use Rattle.fish_rule.specs.LoadSteps.{CanLookAt};
 ghost use Rattle.fish_rule.specs.Views.{Among};
 ghost use Rattle.fish_rule.specs.declared.view.Found.{Found};
 ghost use Rattle.fish_rule.specs.declared.view.Kind.TheVariants.{Stored};
@@ -26,7 +26,7 @@ pub fn read_entry<L: Ledger>(
     loads: &mut Steps<L>,
 ) -> Result<Entry, AllocError>
     requires pass { IsPassOf log.now pass.old }
-    requires look { CanLook (view pass.old) number }
+    requires look { CanLookAt (view pass.old) number }
     requires stored { (f : Found) × Among f (view pass.old).learned.found × (f.number ≡ number)
         × (f.kind ≡ Stored) }
     ensures pass { IsPassOf log.now pass.new }

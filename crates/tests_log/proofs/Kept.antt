@@ -38,12 +38,12 @@ working_on log p q r s defs h kept changes =
 
 -- a record more changes nothing that the registrar knows
 pub working_stored : (log : Log) (p q : Pass) (r : Registrar) (defs : Defs) → IsKept log p r → CanIngest log q defs
-    → (view q).lane ≡ (view p).lane → (view q).rows ≡ (view p).rows → (view q).draft ≡ (view p).draft
+    → (view q).lane ≡ (view p).lane → (view q).rows ≡ (view p).rows → (view q).main_words ≡ (view p).main_words
     → (view q).round ≡ (view p).round → Learns (view p) (view q) → IsWorking log q r defs
-working_stored log p q r defs h ready lane rows draft round learns = record {
+working_stored log p q r defs h ready lane rows main_words round learns = record {
   kept = record {
     of = ready.of;
-    knows = knows_on (view p) (view q) r lane rows draft round learns.count h.knows;
+    knows = knows_on (view p) (view q) r lane rows main_words round learns.count h.knows;
     outside = ready.start.outside;
   };
   ready = ready;
@@ -67,7 +67,7 @@ pub kept_scanned : (log : Log) (p q : Pass) (r : Registrar) (defs : Defs) → Is
 kept_scanned log p q r defs h ready only = record {
   of = ready.of;
   knows = knows_on (view p) (view q) r (ap (λ (z : View). z.lane) only.frame) (ap (λ (z : View). z.rows) only.frame)
-      (ap (λ (z : View). z.draft) only.frame) (ap (λ (z : View). z.round) only.frame) only.learns.count h.knows;
+      (ap (λ (z : View). z.main_words) only.frame) (ap (λ (z : View). z.round) only.frame) only.learns.count h.knows;
   outside = ready.start.outside;
 }
 

@@ -7,7 +7,7 @@
 ghost use Rattle.std.specs.Prelude.{◌<◌, ◌≤◌, ◌*◌, All, IfOk};
 ghost use Rattle.fish_catalog.specs.Clamps.{IsClamped};
 ghost use Rattle.fish_rule.specs.Passes.{IsPassOf, view};
-ghost use Rattle.fish_rule.specs.Reading.{IsAlone};
+ghost use Rattle.fish_rule.specs.LoadSteps.{IsAlone};
 ghost use Rattle.fish_rule.specs.Start.{CanOpen};
 ghost use Rattle.tests_log.specs.Heads.{AreOlder};
 ghost use Rattle.tests_log.specs.Lanes.{IsOutOf};

@@ -10,7 +10,7 @@ ghost use Rattle.fish_ingest.specs.Preparation.{AreDefs};
 ghost use Rattle.fish_ingest.specs.Ingestion.{CanStart};
 ghost use Rattle.fish_rule.specs.Keys.{AreActive};
 ghost use Rattle.fish_rule.specs.Passes.{IsPassOf, view};
-ghost use Rattle.fish_rule.specs.Seating.{CanSplit};
+ghost use Rattle.fish_rule.specs.SeatSteps.{CanSplitPass};
 ghost use Rattle.fish_rule.specs.Start.{CanOpen};
 ghost use Rattle.tests_log.specs.Lanes.{IsOutOf};
 
@@ -162,7 +162,7 @@ fn link_older_last(
     case: &Case,
 ) -> Result<(), Fail>
     requires pass { IsPassOf log.now main.old }
-    requires can { CanSplit (view main.old) 2 }
+    requires can { CanSplitPass (view main.old) 2 }
     requires out { CanStart (view main.old) }
     requires active { AreActive log.now.key.rows.value defs.now }
     requires defs { AreDefs defs.now }

@@ -5,8 +5,8 @@ ghost use Rattle.std.specs.Prelude.{◌≡◌, ◌∷◌, [], None, OnOk};
 ghost use Rattle.std.specs.Thread.{IsSync};
 ghost use Rattle.fish_ingest.specs.Ingestion.{CanIngest};
 ghost use Rattle.fish_rule.specs.Passes.{IsPassOf, view};
-ghost use Rattle.fish_rule.specs.Reading.{IsAlone};
-ghost use Rattle.fish_rule.specs.Seating.{CanSplit, split_left};
+ghost use Rattle.fish_rule.specs.LoadSteps.{IsAlone};
+ghost use Rattle.fish_rule.specs.SeatSteps.{CanSplitPass, split_left};
 ghost use Rattle.fish_rule.specs.Table.{first_view};
 ghost use Rattle.tests_log.specs.Lanes.{IsOutOf};
 ghost use Rattle.tests_log.specs.Registering.{AreOut, IsBeside, IsKept};
@@ -230,7 +230,7 @@ fn take_seats(
 /// The seat of a lane. The registrar keeps what it knows.
 fn seat_of(log: &Log, main: &mut Pass, registrar: &Registrar, lane: u8) -> Seat
     requires kept { IsKept log.now main.old registrar.now }
-    requires can { CanSplit (view main.old) lane }
+    requires can { CanSplitPass (view main.old) lane }
     ensures kept { IsKept log.now main.new registrar.now }
     ensures left { view main.new ≡ split_left lane (view main.old) }
     ensures seat { IsOutOf log.now result.pass }

@@ -4,7 +4,7 @@ ghost use Rattle.std.specs.Prelude.{◌≡◌, ◌≤◌, IfOk};
 ghost use Rattle.fish_ingest.specs.Ingestion.{CanIngest};
 ghost use Rattle.fish_rule.specs.Logs.{Learns};
 ghost use Rattle.fish_rule.specs.Passes.{IsPassOf, view};
-ghost use Rattle.fish_rule.specs.Seating.{CanSplit, split_left, without};
+ghost use Rattle.fish_rule.specs.SeatSteps.{CanSplitPass, split_left, without};
 ghost use Rattle.fish_rule.specs.Views.{Among};
 ghost use Rattle.tests_log.specs.Lanes.{IsOutOf};
 
@@ -18,7 +18,7 @@ use std::test::Fail;
 /// The pass of a lane, which the control pass gives out.
 pub(crate) fn split_lane(log: &Log, main: &mut Pass, number: u8) -> Pass
     requires pass { IsPassOf log.now main.old }
-    requires can { CanSplit (view main.old) number }
+    requires can { CanSplitPass (view main.old) number }
     ensures pass { IsPassOf log.now main.new }
     ensures left { view main.new ≡ split_left number (view main.old) }
     ensures out { IsOutOf log.now result }
@@ -40,7 +40,7 @@ pub(crate) fn store_as(
     ensures lane { (view pass.new).lane ≡ (view pass.old).lane }
     ensures out { (view pass.new).out ≡ (view pass.old).out }
     ensures rows { (view pass.new).rows ≡ (view pass.old).rows }
-    ensures draft { (view pass.new).draft ≡ (view pass.old).draft }
+    ensures main_words { (view pass.new).main_words ≡ (view pass.old).main_words }
     ensures round { (view pass.new).round ≡ (view pass.old).round }
     ensures learns { Learns (view pass.old) (view pass.new) }
 {
@@ -60,7 +60,7 @@ pub(crate) fn store(
     ensures lane { (view pass.new).lane ≡ (view pass.old).lane }
     ensures out { (view pass.new).out ≡ (view pass.old).out }
     ensures rows { (view pass.new).rows ≡ (view pass.old).rows }
-    ensures draft { (view pass.new).draft ≡ (view pass.old).draft }
+    ensures main_words { (view pass.new).main_words ≡ (view pass.old).main_words }
     ensures round { (view pass.new).round ≡ (view pass.old).round }
     ensures learns { Learns (view pass.old) (view pass.new) }
 {

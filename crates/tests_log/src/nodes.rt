@@ -2,9 +2,9 @@
 
 ghost use Rattle.std.specs.Prelude.{◌≡◌, ◌<◌, ◌≤◌, OnOk};
 ghost use Rattle.fish_chain.specs.Walks.{IsWalking};
-ghost use Rattle.fish_rule.specs.Linking.{CanLoadHead};
+ghost use Rattle.fish_rule.specs.ChainSteps.{CanLoadHead};
 ghost use Rattle.fish_rule.specs.Passes.{IsPassOf, view, walk_of};
-ghost use Rattle.fish_rule.specs.Reading.{IsAlone};
+ghost use Rattle.fish_rule.specs.LoadSteps.{IsAlone};
 ghost use Rattle.tests_log.specs.Walks.{HasWalked};
 
 use crate::expecting::expect;

@@ -9,7 +9,7 @@ ghost use Rattle.fish_lang.specs.Definition.{definition_of};
 ghost use Rattle.fish_lang.specs.Language.{IsAccepted};
 ghost use Rattle.fish_rule.specs.Keys.{AreActive, IsWritten};
 ghost use Rattle.fish_rule.specs.Passes.{IsPassOf, view};
-ghost use Rattle.fish_rule.specs.Reading.{IsAlone};
+ghost use Rattle.fish_rule.specs.LoadSteps.{IsAlone};
 ghost use Rattle.fish_rule.specs.Start.{CanOpen, IsShape};
 ghost use Rattle.fish_rule.specs.Table.{first_view};
 

@@ -8,7 +8,7 @@ ghost use Rattle.std.specs.Prelude.{◌≡◌, ◌∷◌, [], None, OnOk};
 ghost use Rattle.std.specs.Thread.{IsSync};
 ghost use Rattle.fish_ingest.specs.Ingestion.{CanIngest};
 ghost use Rattle.fish_rule.specs.Passes.{IsPassOf, view};
-ghost use Rattle.fish_rule.specs.Reading.{IsAlone};
+ghost use Rattle.fish_rule.specs.LoadSteps.{IsAlone};
 ghost use Rattle.fish_rule.specs.Table.{first_view};
 ghost use Rattle.tests_log.specs.Lanes.{IsOutOf};
 ghost use Rattle.tests_log.specs.Registering.{AreOut, IsBeside, IsKept};

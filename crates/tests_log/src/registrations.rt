@@ -3,7 +3,7 @@
 ghost use Rattle.std.specs.Prelude.{◌≡◌};
 ghost use Rattle.fish_registry.specs.Changing.{Changes};
 ghost use Rattle.fish_rule.specs.Passes.{IsPassOf, view};
-ghost use Rattle.fish_rule.specs.Seating.{CanSplit, split_left};
+ghost use Rattle.fish_rule.specs.SeatSteps.{CanSplitPass, split_left};
 ghost use Rattle.tests_log.specs.Lanes.{IsOutOf};
 ghost use Rattle.tests_log.specs.Registering.{IsKept, IsWorking};
 
@@ -376,7 +376,7 @@ fn records_behind_a_registration_have_its_keys(rt: HostRuntime) -> Result<(), Fa
 /// The pass of a lane, which the control pass gives out. Its registrar keeps what it knows.
 pub(crate) fn split_kept(log: &Log, main: &mut Pass, registrar: &Registrar, lane: u8) -> Pass
     requires kept { IsKept log.now main.old registrar.now }
-    requires can { CanSplit (view main.old) lane }
+    requires can { CanSplitPass (view main.old) lane }
     ensures kept { IsKept log.now main.new registrar.now }
     ensures left { view main.new ≡ split_left lane (view main.old) }
     ensures out { IsOutOf log.now result }

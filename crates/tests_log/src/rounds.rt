@@ -4,7 +4,7 @@
 ghost use Rattle.std.specs.Prelude.{◌≡◌};
 ghost use Rattle.fish_ingest.specs.Ingestion.{CanIngest};
 ghost use Rattle.fish_rule.specs.Passes.{view};
-ghost use Rattle.fish_rule.specs.Seating.{CanSplit, split_left};
+ghost use Rattle.fish_rule.specs.SeatSteps.{CanSplitPass, split_left};
 ghost use Rattle.fish_rule.specs.Table.{first_view};
 ghost use Rattle.tests_log.specs.Registering.{IsKept};
 
@@ -77,7 +77,7 @@ fn seen_with_lane(
     registrar: &mut Registrar,
 ) -> Result<Seen, Fail>
     requires kept { IsKept log.now main.old registrar.old }
-    requires can { CanSplit (view main.old) 2 }
+    requires can { CanSplitPass (view main.old) 2 }
     ensures { IsKept log.now main.new registrar.new }
 {
     let mut other = split_kept(log, main, registrar, 2);
@@ -110,7 +110,7 @@ fn seen_and_found(
     registrar: &mut Registrar,
 ) -> Result<(Seen, String), Fail>
     requires kept { IsKept log.now main.old registrar.old }
-    requires can { CanSplit (view main.old) 2 }
+    requires can { CanSplitPass (view main.old) 2 }
 {
     let seen = seen_with_lane(alloc, log, main, registrar)?;
     Ok((seen, told_pushes(alloc, log, main, registrar)?))
@@ -212,7 +212,7 @@ fn seen_behind(
 /// The lane that the control pass gives out, which has read nothing.
 fn lane_of(alloc: Global, log: &Log, main: &mut Pass, registrar: &Registrar, lane: u8) -> Lane
     requires kept { IsKept log.now main.old registrar.now }
-    requires can { CanSplit (view main.old) lane }
+    requires can { CanSplitPass (view main.old) lane }
     ensures kept { IsKept log.now main.new registrar.now }
     ensures left { view main.new ≡ split_left lane (view main.old) }
     ensures ready { CanIngest log.now result.pass result.defs }

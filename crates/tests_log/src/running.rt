@@ -7,7 +7,7 @@ ghost use Rattle.fish_lanes.specs.Registering.{KnowsRegistry, registry_of};
 ghost use Rattle.fish_lanes.specs.declared.lane.Lane.{Lane};
 ghost use Rattle.fish_lanes.specs.declared.work.LaneFault.TheVariants as cause;
 ghost use Rattle.fish_rule.specs.Passes.{IsPassOf, view};
-ghost use Rattle.fish_rule.specs.Reading.{IsAlone};
+ghost use Rattle.fish_rule.specs.LoadSteps.{IsAlone};
 ghost use Rattle.fish_rule.specs.declared.view.Epoch.TheVariants.{Out};
 ghost use Rattle.fish_walk.specs.Settling.{OnlySettles};
 ghost use Rattle.tests_log.specs.Blocks.{IsBetween};

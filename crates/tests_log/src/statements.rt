@@ -23,7 +23,7 @@ use std::test::Fail;
 const FIRST: Base = Base { number: 0, line: 0 };
 
 /// Stores a payload. Its number, or why it was not stored.
-fn told_store(
+fn told_store_word(
     alloc: Global,
     log: &Log,
     main: &mut Pass,
@@ -139,7 +139,7 @@ fn told(
     ensures { IsWorking log.now main.new registrar.new defs.new }
 {
     match statement {
-        Store(payload) => told_store(alloc, log, main, registrar, defs, payload),
+        Store(payload) => told_store_word(alloc, log, main, registrar, defs, payload),
         Begin(name, source) => told_begin(alloc, log, main, registrar, defs, (name, source)),
         Look => told_poll(alloc, poll_between(log, main, registrar, defs)),
         End(name) => told_end(alloc, log, main, registrar, defs, name),

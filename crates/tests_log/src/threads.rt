@@ -11,8 +11,8 @@ ghost use Rattle.fish_ingest.specs.Preparation.{AreDefs};
 ghost use Rattle.fish_ingest.specs.Ingestion.{CanIngest, CanStart};
 ghost use Rattle.fish_rule.specs.Keys.{AreActive};
 ghost use Rattle.fish_rule.specs.Passes.{IsPassOf, view};
-ghost use Rattle.fish_rule.specs.Reading.{IsAlone};
-ghost use Rattle.fish_rule.specs.Seating.{CanSplit, split_left, without};
+ghost use Rattle.fish_rule.specs.LoadSteps.{IsAlone};
+ghost use Rattle.fish_rule.specs.SeatSteps.{CanSplitPass, split_left, without};
 ghost use Rattle.fish_rule.specs.Start.{CanOpen};
 ghost use Rattle.fish_rule.specs.Table.{first_view};
 ghost use Rattle.fish_rule.specs.Views.{Among};
@@ -171,7 +171,7 @@ fn fill_seats<R: Threads + Sync>(rt: &R, alloc: Global, log: &Log, seats: &mut [
 /// The seat of a lane, which the control pass gives out.
 pub(crate) fn split_seat(log: &Log, main: &mut Pass, lane: u8) -> Seat
     requires pass { IsPassOf log.now main.old }
-    requires can { CanSplit (view main.old) lane }
+    requires can { CanSplitPass (view main.old) lane }
     ensures pass { IsPassOf log.now main.new }
     ensures left { view main.new ≡ split_left lane (view main.old) }
     ensures seat { IsOutOf log.now result.pass }

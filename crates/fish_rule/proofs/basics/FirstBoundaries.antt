@@ -16,7 +16,7 @@ use Rattle.fish_rule.proofs.basics.Lists.{there_is}
 use Rattle.fish_rule.proofs.basics.RegistryWords.{definitions_first}
 use Rattle.fish_rule.specs.Boundaries.{Boundaries, IsOpenIn}
 use Rattle.fish_rule.specs.Epochs.{IsOwned, IsUnmade}
-use Rattle.fish_rule.specs.Registry.{HasBoundary, definitions_at, drafted, row_at, version_in}
+use Rattle.fish_rule.specs.Registry.{HasBoundary, definitions_at, main_word, row_at, version_in}
 use Rattle.fish_rule.specs.Start.{IsOpening}
 use Rattle.fish_rule.specs.Table.{boundaries_of}
 use Rattle.fish_rule.specs.declared.view.Epoch.TheVariants.{Out}
@@ -65,7 +65,7 @@ clamped_word number row (suc (suc i)) n h bound e = absurd (omega arith)
 -- no word is stored at an index that is no boundary of the rows
 drafted_else : (p n : ℕ) (rows : List CatRow)
     → ((id i : ℕ) → n ≤ id → id < n + length rows → i < 2 → p ≢ row_at id i)
-    → drafted (boundaries_of n rows) p ≡ 0
+    → main_word (boundaries_of n rows) p ≡ 0
 drafted_else p n [] away = refl
 drafted_else p n (row ∷ rows) away =
     choose_second (ℕ_discrete p (row_at n 0)) (row_word row 0) _ (away n 0 (omega arith) (omega arith) (omega arith))
@@ -74,7 +74,7 @@ drafted_else p n (row ∷ rows) away =
 
 -- each boundary is the row's
 pub drafted_here : (n id i : ℕ) (rows : List CatRow) (row : CatRow) → slice_get rows id ≡ Some row → i < 2
-    → drafted (boundaries_of n rows) (row_at (n + id) i) ≡ row_word row i
+    → main_word (boundaries_of n rows) (row_at (n + id) i) ≡ row_word row i
 drafted_here n id i [] row there bound = absurd cc
 drafted_here n zero zero (x ∷ rows) row there bound =
     choose_first (ℕ_discrete (row_at (n + 0) 0) (row_at n 0)) (row_word x 0) _ (omega arith)
@@ -88,7 +88,7 @@ drafted_here n (suc id) i (x ∷ rows) row there bound =
     choose_second (ℕ_discrete (row_at (n + suc id) i) (row_at n 0)) (row_word x 0) _ (λ e. omega arith)
     ∙ choose_second (ℕ_discrete (row_at (n + suc id) i) (row_at n 1)) (row_word x 1) _ (λ e. omega arith)
     ∙ (let e : n + suc id ≡ suc n + id = omega arith in
-    ap (λ (z : ℕ). drafted (boundaries_of (suc n) rows) (row_at z i)) e)
+    ap (λ (z : ℕ). main_word (boundaries_of (suc n) rows) (row_at z i)) e)
     ∙ drafted_here (suc n) id i rows row there bound
 
 module _ (k : Key) (g : ℕ → ℕ) (opening_ : IsOpening k.version k.number k.rows.value g) where
@@ -159,7 +159,7 @@ module _ (k : Key) (g : ℕ → ℕ) (opening_ : IsOpening k.version k.number k.
           ∙ none_word row.0 (sym (bound_is id 1 row.0 row.1 (omega arith)) ∙ unset))
 
   -- the control pass knows the boundaries
-  pub owned_first : (p : ℕ) → IsOwned k g p → g p ≡ drafted (boundaries_of 0 k.rows.value) p
+  pub owned_first : (p : ℕ) → IsOwned k g p → g p ≡ main_word (boundaries_of 0 k.rows.value) p
   owned_first p (inl h) = unmade_zero p h ∙ sym (drafted_else p 0 k.rows.value (λ id i above below bound e. away p h id i
       (omega arith) bound e))
     where
@@ -169,11 +169,11 @@ module _ (k : Key) (g : ℕ → ℕ) (opening_ : IsOpening k.version k.number k.
   owned_first p (inr h) = pick h.0 h.1 h.2 h.3 h.4 (dec_lt h.0 (length k.rows.value))
     where
       pick : (id i : ℕ) → id < 256 → i < 2 → p ≡ row_at id i → Dec (id < length k.rows.value)
-          → g p ≡ drafted (boundaries_of 0 k.rows.value) p
+          → g p ≡ main_word (boundaries_of 0 k.rows.value) p
       pick id i few bound is (yes h) =
           let row = row_of id h in
           let place : row_at (0 + id) i ≡ p = omega arith in
           ap g is ∙ bound_is id i row.0 row.1 bound ∙ sym (drafted_here 0 id i k.rows.value row.0 row.1 bound)
-          ∙ ap (drafted (boundaries_of 0 k.rows.value)) place
+          ∙ ap (main_word (boundaries_of 0 k.rows.value)) place
       pick id i few bound is (no h) = ap g is ∙ opening_.rest id i (omega arith) few (omega arith)
           ∙ sym (drafted_else p 0 k.rows.value (λ n j above below small e. omega arith))

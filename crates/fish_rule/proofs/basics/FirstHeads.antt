@@ -6,20 +6,20 @@ use Rattle.fish_rule.proofs.basics.Flights.{flight_is}
 use Rattle.fish_rule.specs.declared.view.Flight.{Flight}
 use mathlib.Core.Option.{some}
 use Rattle.std.proofs.Math.ListN.{get_elem?}
-use Rattle.fish_rule.proofs.basics.Places.{spot}
+use Rattle.fish_rule.proofs.basics.Places.{record_at}
 use Rattle.fish_rule.proofs.basics.Regions.{starts_above}
 use Rattle.fish_rule.specs.Chains.{Linked}
-use Rattle.fish_rule.specs.Linking.{with_node}
+use Rattle.fish_rule.specs.ChainSteps.{with_node}
 use Rattle.fish_rule.specs.Parts.{first_head}
 use Rattle.fish_rule.specs.Rule.{Rule}
 use Rattle.fish_rule.specs.Views.{AllOf}
 use Rattle.fish_rule.specs.World.{World}
 use Rattle.fish_rule.specs.declared.view.Key.{Key}
-use Rattle.fish_rule.specs.declared.view.Node.{Node}
+use Rattle.fish_rule.specs.declared.view.EntryPlace.{EntryPlace}
 use Rattle.fish_rule.specs.declared.view.View.{View}
 
 -- a place behind the base's that is linked joins the nodes
-pub node_joins : (P : Node → Type 0) (k : Key) (b x : ℕ) (nodes : List Node) → AllOf P nodes
+pub node_joins : (P : EntryPlace → Type 0) (k : Key) (b x : ℕ) (nodes : List EntryPlace) → AllOf P nodes
     → (k.line * 4 < x → P (record { bucket = b; place = x })) → AllOf P (with_node k b x nodes)
 node_joins P k b x nodes all here = by (dec_lt (k.line * 4) x)
   where
@@ -51,7 +51,7 @@ module _ (k : Key) (w : World) (r : Rule k w) where
   -- a linked place is behind the base's
   pub linked_from : (b p : ℕ) → Linked k w.dir w.log w.views b p → k.line * 4 < p
   linked_from b p h =
-      let s = spot k w r h.line h.entry h.shows in
+      let s = record_at k w r h.line h.entry h.shows in
       let below = s.below in
       let from = starts_above k w.count w.line r.start r.space.regions s.number s.above (omega arith) in
       let line = s.line in

@@ -1,6 +1,6 @@
 -- The record in flight of a view, and what is known of it.
 use Rattle.std.proofs.Common.{◌≡◌, ap, Some, None, Option, ℕ, ◌≤◌, sym, ◌∙◌, subst}
-use Rattle.fish_rule.specs.Steps.{flight_kind, learned_after, own_after, shut_after, ticked}
+use Rattle.fish_rule.specs.SpaceSteps.{flight_kind, learned_after, own_after, shut_after, ticked}
 use Rattle.fish_rule.specs.declared.view.Flight.{Flight}
 use Rattle.fish_rule.specs.declared.view.Key.{Key}
 use Rattle.fish_rule.specs.declared.view.View.{View}

@@ -8,11 +8,11 @@ use Rattle.fish_layout.specs.Header.{keys_of, lines_of}
 use Rattle.fish_rule.proofs.basics.Bodies.{code_once, void-head, published}
 use Rattle.fish_rule.proofs.basics.Regions.{one_region}
 use Rattle.fish_rule.proofs.basics.Lists.{all_among}
-use Rattle.fish_rule.specs.Parts.{IsFinished}
+use Rattle.fish_rule.specs.Parts.{IsPublishedRegion}
 use Rattle.fish_rule.specs.Facts.{Facts, IsFound, IsKnown}
 use Rattle.fish_rule.specs.Regions.{Holds, kind_of}
 use Rattle.fish_rule.specs.Rule.{Rule}
-use Rattle.fish_rule.specs.Reading.{CanRead}
+use Rattle.fish_rule.specs.LoadSteps.{CanReadWord}
 use Rattle.fish_rule.specs.Views.{Among}
 use Rattle.fish_rule.specs.World.{World, body}
 use Rattle.fish_rule.specs.declared.view.Found.{Found}
@@ -32,7 +32,7 @@ lined_whole k Mark lane n lines e ne few h = absurd (ne refl)
 module _ (k : Key) (w : World) (r : Rule k w) where
   -- a region that was found is the one that its number has
   pub region_found : (x : Found) → IsFound k w.count w.dir r.start x
-      → IsFinished k w.dir w.log r.start r.lane_of x.number
+      → IsPublishedRegion k w.dir w.log r.start r.lane_of x.number
       × (kind_of k.end (r.start x.number) (r.start (suc x.number)) ≡ x.kind)
   region_found x h =
       let f = r.space.finished x.number h.above h.below (published (w.dir x.number) x.kind h.kind) in
@@ -83,7 +83,7 @@ module _ (k : Key) (w : World) (r : Rule k w) where
 
   -- the word that a pass may read is the region's body there
   pub read_word_is : (v : View) (x : Found) (i : ℕ) → Facts k w.count w.dir w.log r.start v.learned
-      → CanRead v x i → IsKnown k w.count w.dir w.log r.start
+      → CanReadWord v x i → IsKnown k w.count w.dir w.log r.start
       (record { place = x.line * 4 + i; value = w.log (x.line * 4 + i) })
   read_word_is v x i facts can =
       let found = all_among (IsFound k w.count w.dir r.start) x v.learned.found facts.found can.found in

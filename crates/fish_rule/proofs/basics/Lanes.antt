@@ -7,7 +7,7 @@ use Rattle.std.proofs.Math.ListN.{get_elem?}
 use Rattle.atomic_table.proofs.Lists.{at_longer}
 use Rattle.fish_layout.specs.Cleared.{choose}
 use Rattle.fish_rule.specs.Facts.{ShutOk}
-use Rattle.fish_rule.specs.Seating.{first_shut, of_lane, off_lane, without}
+use Rattle.fish_rule.specs.SeatSteps.{first_shut, of_lane, off_lane, without}
 use Rattle.fish_rule.specs.Views.{Among, Has, HasFlight, IsOver}
 use Rattle.fish_rule.specs.declared.view.Flight.{Flight}
 use Rattle.fish_rule.specs.declared.view.Key.{Key}

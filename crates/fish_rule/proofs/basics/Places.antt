@@ -31,7 +31,7 @@ pub record IsFlier (w : World) (n c : ℕ) : Type 0 where
 
 module _ (k : Key) (w : World) (r : Rule k w) where
   -- the record at a line that shows an entry
-  pub record Spot (a c : ℕ) : Type 0 where
+  pub record RecordAt (a c : ℕ) : Type 0 where
     pub number : ℕ
     pub above : k.number ≤ number
     pub below : number < w.count
@@ -48,13 +48,13 @@ module _ (k : Key) (w : World) (r : Rule k w) where
   record_held Mark lane n lines e q h = cc
 
   -- of a published record
-  pub spot_stored : (a c : ℕ) → IsStoredAt k w.dir a → Spot a c
-  spot_stored a c h = pick (Rattle.std.proofs.Math.Decide.dec_lt h.number w.count)
+  pub record_at_stored : (a c : ℕ) → IsStoredAt k w.dir a → RecordAt a c
+  record_at_stored a c h = pick (Rattle.std.proofs.Math.Decide.dec_lt h.number w.count)
     where
       set_ : w.dir h.number ≢ 0
       set_ = published (w.dir h.number) Stored h.stored
 
-      pick : Dec (h.number < w.count) → Spot a c
+      pick : Dec (h.number < w.count) → RecordAt a c
       pick (no more) = absurd (set_ (r.space.dir_beyond h.number (omega arith)))
       pick (yes below) =
           let f = r.space.finished h.number h.above below set_ in
@@ -74,10 +74,10 @@ module _ (k : Key) (w : World) (r : Rule k w) where
           }
 
   -- of a record in flight
-  spot_flight : (a c : ℕ) (seat : ℕ) (v : View) → get_elem? w.views seat ≡ some v → (o : Option Flight)
-      → v.flight ≡ o → Flies k w.count w.dir w.log r.start r.lane_of v.lane o → LinksAt a c o → Spot a c
-  spot_flight a c seat v at None is h links = elim links [ ]
-  spot_flight a c seat v at (Some f) is h links =
+  record_at_flight : (a c : ℕ) (seat : ℕ) (v : View) → get_elem? w.views seat ≡ some v → (o : Option Flight)
+      → v.flight ≡ o → Flies k w.count w.dir w.log r.start r.lane_of v.lane o → LinksAt a c o → RecordAt a c
+  record_at_flight a c seat v at None is h links = elim links [ ]
+  record_at_flight a c seat v at (Some f) is h links =
       let counts : c < f.linked = links.0 in
       let line : f.line ≡ a = links.1 in
       let whole = h.whole (omega arith) in
@@ -107,17 +107,17 @@ module _ (k : Key) (w : World) (r : Rule k w) where
       }
 
   -- of either
-  pub spot : (a c : ℕ) → Shows k w.dir w.views a c → Spot a c
-  spot a c h = ⊎_elim (λ (s : IsStoredAt k w.dir a). spot_stored a c s)
-      (λ (l : IsLinking a c w.views). spot_flight a c l.seat l.view l.at l.view.flight refl
+  pub record_at : (a c : ℕ) → Shows k w.dir w.views a c → RecordAt a c
+  record_at a c h = ⊎_elim (λ (s : IsStoredAt k w.dir a). record_at_stored a c s)
+      (λ (l : IsLinking a c w.views). record_at_flight a c l.seat l.view l.at l.view.flight refl
       (r.space.flights l.seat l.view l.at) l.links) h
 
   -- the lines of a shown record are within its region
-  pub spot_lined : (a c : ℕ) (s : Spot a c) → lines_of (body w.log a 0) ≡ r.start (suc s.number) - r.start s.number
-  spot_lined a c s = spelled_lines s.record_of.1.spells ∙ s.record_of.1.lines_is
+  pub record_at_lined : (a c : ℕ) (s : RecordAt a c) → lines_of (body w.log a 0) ≡ r.start (suc s.number) - r.start s.number
+  record_at_lined a c s = spelled_lines s.record_of.1.spells ∙ s.record_of.1.lines_is
 
   -- a linked place is within its record's region
-  pub lies_inside : (b p : ℕ) (h : Linked k w.dir w.log w.views b p) (s : Spot h.line h.entry)
+  pub lies_inside : (b p : ℕ) (h : Linked k w.dir w.log w.views b p) (s : RecordAt h.line h.entry)
       → (r.start s.number * 4 ≤ p) × (p < r.start (suc s.number) * 4)
   lies_inside b p h s =
       let p_is : p ≡ h.line * 4 + (1 + 3 * h.entry) = h.is.is in
@@ -131,7 +131,7 @@ module _ (k : Key) (w : World) (r : Rule k w) where
       (omega arith, omega arith)
 
   -- a linked place in the region of number n is the first word of an entry there
-  pub which : (b p : ℕ) (h : Linked k w.dir w.log w.views b p) (s : Spot h.line h.entry) (n : ℕ) → k.number ≤ n
+  pub which : (b p : ℕ) (h : Linked k w.dir w.log w.views b p) (s : RecordAt h.line h.entry) (n : ℕ) → k.number ≤ n
       → n < w.count → r.start n * 4 ≤ p → p < r.start (suc n) * 4
       → (s.number ≡ n) × (h.line ≡ r.start n)
   which b p h s n above below from to =
@@ -144,8 +144,8 @@ module _ (k : Key) (w : World) (r : Rule k w) where
   -- a place is of one chain
   pub one_chain : (b c p : ℕ) → Linked k w.dir w.log w.views b p → Linked k w.dir w.log w.views c p → b ≡ c
   one_chain b c p h g =
-      let s = spot h.line h.entry h.shows in
-      let t = spot g.line g.entry g.shows in
+      let s = record_at h.line h.entry h.shows in
+      let t = record_at g.line g.entry g.shows in
       let inside = lies_inside b p h s in
       let same = which c p g t s.number s.above s.below inside.0 inside.1 in
       let line : h.line ≡ g.line = sym s.line ∙ sym same.1 in

@@ -3,14 +3,14 @@ use Rattle.std.proofs.Common.{◌≡◌, ◌≢◌, ℕ, ◌+◌, ◌-◌, ◌*�
 use Rattle.std.proofs.Common.{Option}
 use Rattle.fish_layout.specs.Header.{lines_of}
 use Rattle.fish_rule.proofs.basics.Lists.{all_map}
-use Rattle.fish_rule.specs.Chains.{Chained, IsLow, IsKeyEntry}
-use Rattle.fish_rule.specs.Parts.{InFlight, IsFinished, Whole}
+use Rattle.fish_rule.specs.Chains.{Chained, IsLeastPrevious, IsKeyEntry}
+use Rattle.fish_rule.specs.Parts.{InFlight, IsPublishedRegion, Whole}
 use Rattle.fish_rule.specs.Facts.{Facts, IsFound, IsKnown, IsRecorded, IsStoredBy, Owns, ShutOk}
 use Rattle.fish_rule.specs.Regions.{Holds, code, kind_of}
 use Rattle.fish_rule.specs.Rule.{Final}
 use Rattle.fish_rule.specs.Views.{Has}
 use Rattle.fish_rule.specs.World.{World, body, high, low}
-use Rattle.fish_rule.specs.Walks.{IsEntryOf, IsGap, IsLabel}
+use Rattle.fish_rule.specs.Gaps.{IsEntryOf, IsGap, IsLabel}
 use Rattle.fish_rule.specs.declared.view.Flight.{Flight}
 use Rattle.fish_rule.specs.declared.view.Gap.{Gap}
 use Rattle.fish_rule.specs.declared.view.Label.{Label}
@@ -33,8 +33,8 @@ use Rattle.fish_rule.proofs.basics.Bodies.{published}
 module _ (k : Key) (w w' : World) (start start' lane_of lane_of' : ℕ → ℕ)
     (f : Final k start start' lane_of lane_of' w w') where
   -- a published number stays so, with its region and words
-  pub finished_later : (n : ℕ) → n < w.count → w.dir n ≢ 0 → IsFinished k w.dir w.log start lane_of n
-      → IsFinished k w'.dir w'.log start' lane_of' n
+  pub finished_later : (n : ℕ) → n < w.count → w.dir n ≢ 0 → IsPublishedRegion k w.dir w.log start lane_of n
+      → IsPublishedRegion k w'.dir w'.log start' lane_of' n
   finished_later n below set h =
       let a : start' n ≡ start n = f.starts n (omega arith) in
       let b : start' (suc n) ≡ start (suc n) = f.starts (suc n) below in
@@ -229,13 +229,13 @@ module _ (k : Key) (w w' : World) (start start' lane_of lane_of' : ℕ → ℕ)
       → Chained k w'.dir w'.log w'.views w'.head l
   chained_later l h = record {
     nodes = all_map _ _ (λ x m. f.links x.bucket x.place m) l.nodes h.nodes;
-    lows = all_map (IsLow k w.dir w.log w.views) (IsLow k w'.dir w'.log w'.views)
+    least_previous = all_map (IsLeastPrevious k w.dir w.log w.views) (IsLeastPrevious k w'.dir w'.log w'.views)
         (λ x m. record {
           bucket = m.bucket;
           linked = f.links m.bucket x.place m.linked;
           low = (let a = m.low in let b = f.rises m.bucket x.place m.linked in omega arith);
-        }) l.lows h.lows;
-    tops = all_map _ _ (λ x m. let b = f.heads x.bucket in omega arith) l.tops h.tops;
+        }) l.least_previous h.least_previous;
+    least_heads = all_map _ _ (λ x m. let b = f.heads x.bucket in omega arith) l.least_heads h.least_heads;
   }
 
   -- the keys of a published record stay those of its version

@@ -15,10 +15,10 @@ use Rattle.fish_rule.proofs.classes.OtherViews.{limit_views, alone_kept, flight_
 use Rattle.fish_rule.proofs.classes.FactsStay.{chained_later, facts_later, finished_later, keyed_kept}
 use Rattle.fish_rule.proofs.basics.Bodies.{published}
 use Rattle.fish_rule.proofs.classes.ChainsStay.{linked_map, linking_own, linking_to}
-use Rattle.fish_rule.proofs.basics.Places.{spot}
+use Rattle.fish_rule.proofs.basics.Places.{record_at}
 use Rattle.fish_rule.proofs.basics.Flights.{carried_is, flight_is, known_keyed}
 use Rattle.fish_rule.specs.Chains.{Chain, Chained, IsKeyEntry, IsLinking, IsStoredAt, Linked, LinksAt, Shows}
-use Rattle.fish_rule.specs.Linking.{CanAim, linked_once, own_place}
+use Rattle.fish_rule.specs.ChainSteps.{CanAimEntry, linked_once, own_place}
 use Rattle.fish_rule.specs.Parts.{Flies, InFlight, first_head}
 use Rattle.fish_rule.specs.Facts.{AreOpens, Facts}
 use Rattle.fish_rule.specs.Regions.{IsRecord, kind_of}
@@ -35,7 +35,7 @@ use Rattle.fish_rule.proofs.basics.RegistryWords.{endures_same}
 use Rattle.fish_rule.specs.Epochs.{IsCarried, Stays}
 
 module _ (k : Key) (w : World) (r : Rule k w) (id : ℕ) (v : View) (at : get_elem? w.views id ≡ some v)
-    (f : Flight) (can : CanAim v f) (b : ℕ) (bucket : bucket_of k.buckets (body_of f.words) f.linked ≡ b)
+    (f : Flight) (can : CanAimEntry v f) (b : ℕ) (bucket : bucket_of k.buckets (body_of f.words) f.linked ≡ b)
     (head' log' : ℕ → ℕ) (learned : Learned) (clock : Clock) where
   -- the view afterwards
   abbrev pub linker : View
@@ -69,7 +69,7 @@ module _ (k : Key) (w : World) (r : Rule k w) (id : ℕ) (v : View) (at : get_el
     -- a shown record stays
     shown_stays : (a c : ℕ) → Shows k w.dir w.views a c → body log' a ≡ body w.log a
     shown_stays a c shows =
-        let s = spot k w r a c shows in
+        let s = record_at k w r a c shows in
         let l = spelled_lines s.record_of.1.spells in
         let m = s.record_of.1.lines_is in
         subst (λ (z : ℕ). body log' z ≡ body w.log z) s.line (leaves.regions s.number s.above s.below

@@ -12,10 +12,10 @@ use Rattle.fish_rule.proofs.classes.OnRegistry.{versions_later}
 use Rattle.fish_rule.proofs.basics.Worlds.{put-else, put-here}
 use Rattle.fish_rule.specs.Boundaries.{Boundaries}
 use Rattle.fish_rule.specs.Epochs.{IsAtMost, IsMain, IsOwned, Registry, Stays}
-use Rattle.fish_rule.specs.Registry.{Endures, IsLasting, definitions_at, drafted, epoch_at, version_in}
+use Rattle.fish_rule.specs.Registry.{Endures, IsLasting, definitions_at, main_word, epoch_at, version_in}
 use Rattle.fish_rule.specs.Rounds.{Waits}
 use Rattle.fish_rule.specs.Rule.{Final, Rule}
-use Rattle.fish_rule.specs.Steps.{ticked}
+use Rattle.fish_rule.specs.SpaceSteps.{ticked}
 use Rattle.fish_rule.specs.Views.{Has}
 use Rattle.fish_rule.specs.World.{World, put}
 use Rattle.fish_rule.specs.declared.view.Epoch.{Epoch}
@@ -32,7 +32,7 @@ waits_else k count g g' state version_of lane (Some o) ne h = absurd (ne h.main)
 module _ (k : Key) (w : World) (r : Rule k w) (id : ℕ) (v : View) (at : get_elem? w.views id ≡ some v)
     (main : v.lane ≡ 1) where
   -- the control pass knows the registry as it is
-  pub its : IsMain k w.registry v.learned.version v.rows v.draft
+  pub its : IsMain k w.registry v.learned.version v.rows v.main_words
   its = (r.registry.each id v at).main main
 
   -- another pass isn't the control pass
@@ -78,7 +78,7 @@ module _ (k : Key) (w : World) (r : Rule k w) (id : ℕ) (v : View) (at : get_el
         (waits : Waits k w.count stored r.state r.version_of v.lane round) where
       -- the view afterwards
       abbrev pub storer : View
-      storer = record v { draft = record { index = p; value = x } ∷ v.draft; round = round; clock = ticked v.clock }
+      storer = record v { main_words = record { index = p; value = x } ∷ v.main_words; round = round; clock = ticked v.clock }
 
       storer_stays : Stays k w.count stored r.state r.version_of storer
       storer_stays =
@@ -101,11 +101,11 @@ module _ (k : Key) (w : World) (r : Rule k w) (id : ℕ) (v : View) (at : get_el
             waits = waits;
           }
         where
-          pick : (q : ℕ) → IsOwned k w.registry q → Dec (q ≡ p) → stored q ≡ drafted storer.draft q
+          pick : (q : ℕ) → IsOwned k w.registry q → Dec (q ≡ p) → stored q ≡ main_word storer.main_words q
           pick q u (yes e) = ap stored e ∙ put-here w.registry p x
-              ∙ sym (choose_first (ℕ_discrete q p) x (drafted v.draft q) e)
+              ∙ sym (choose_first (ℕ_discrete q p) x (main_word v.main_words q) e)
           pick q u (no ne) = put-else w.registry p x q ne ∙ its.owned q u
-              ∙ sym (choose_second (ℕ_discrete q p) x (drafted v.draft q) ne)
+              ∙ sym (choose_second (ℕ_discrete q p) x (main_word v.main_words q) ne)
 
       storer_registry : Registry k w.count stored r.state r.version_of (set w.views id storer)
       storer_registry = record {
@@ -129,8 +129,8 @@ module _ (k : Key) (w : World) (r : Rule k w) (id : ℕ) (v : View) (at : get_el
       pub stores : (s : Rule k (record w { registry = stored; views = set w.views id storer }))
           × Final k r.start s.start r.lane_of s.lane_of w (record w { registry = stored; views = set w.views id storer })
       stores = (
-        registers k w r id v at stored v.epoch v.learned.version v.learned.words v.rows storer.draft round
+        registers k w r id v at stored v.epoch v.learned.version v.learned.words v.rows storer.main_words round
             (ticked v.clock) store_endures r.state storer_registry,
-        register_lasts k w r id v at stored v.epoch v.learned.version v.learned.words v.rows storer.draft round
+        register_lasts k w r id v at stored v.epoch v.learned.version v.learned.words v.rows storer.main_words round
             (ticked v.clock) store_endures r.state storer_registry,
       )

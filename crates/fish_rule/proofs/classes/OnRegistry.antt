@@ -21,6 +21,7 @@ use Rattle.fish_rule.proofs.basics.RegistryWords.{length_grows, length_registere
 use Rattle.fish_rule.specs.Epochs.{Carries, IsMain, IsOwned, IsUnmade, Registry, Versions}
 use Rattle.fish_rule.specs.Registry.{AreActiveAt, Endures, IsOperation, IsRegistered, definitions_at, op_at, row_at}
 use Rattle.fish_rule.specs.Registry.{row_in, row_spelled, version_in}
+use Rattle.fish_rule.specs.Facts.{Facts}
 use Rattle.fish_rule.specs.Rule.{Final, Rule}
 use Rattle.fish_rule.specs.Views.{AllOf}
 use Rattle.fish_rule.specs.World.{World}
@@ -144,9 +145,9 @@ module _ (k : Key) (g g' : ℕ → ℕ) (e : Endures k g g') where
   owned_before same p (inr h) = inr h
 
   -- the control pass still knows the registry as it is
-  pub main_later : (seen : ℕ) (rows : List Listed) (draft : List RegistryWord) → version_in g' ≡ version_in g
-      → ((p : ℕ) → IsOwned k g p → g' p ≡ g p) → IsMain k g seen rows draft → IsMain k g' seen rows draft
-  main_later seen rows draft same stay h = record {
+  pub main_later : (seen : ℕ) (rows : List Listed) (main_words : List RegistryWord) → version_in g' ≡ version_in g
+      → ((p : ℕ) → IsOwned k g p → g' p ≡ g p) → IsMain k g seen rows main_words → IsMain k g' seen rows main_words
+  main_later seen rows main_words same stay h = record {
     version = h.version ∙ sym same;
     definitions = ap (definitions_at k g') same
         ∙ definitions_later k g g' e (version_in g) (omega arith) ∙ h.definitions;
@@ -163,13 +164,13 @@ owned_far k g p (inr h) = (let a = h.4 in omega arith)
 
 module _ (k : Key) (w : World) (r : Rule k w) (id : ℕ) (v : View) (at : get_elem? w.views id ≡ some v)
     (g' : ℕ → ℕ) (epoch : Epoch) (version : ℕ) (words : List RegistryWord) (rows : List Listed)
-    (draft : List RegistryWord) (round : Option Round) (clock : Clock) where
+    (main_words : List RegistryWord) (round : Option Round) (clock : Clock) where
   -- the view afterwards
   abbrev pub registrant : View
   registrant = record v {
     epoch = epoch;
     rows = rows;
-    draft = draft;
+    main_words = main_words;
     round = round;
     learned = record v.learned { version = version; words = words };
     clock = clock;
@@ -197,6 +198,10 @@ module _ (k : Key) (w : World) (r : Rule k w) (id : ℕ) (v : View) (at : get_el
       below = λ p from h. refl;
     }
 
+    -- what the pass has learned but for the registry is so
+    pub registrant_facts : Facts k w.count w.dir w.log r.start registrant.learned
+    registrant_facts = (let h = r.facts id v at in assumption h)
+
     module _ (state : ℕ → Epoch) (registry : Registry k w.count g' state r.version_of (set w.views id registrant)) where
       -- the rule is kept where the registry's part is
       unfoldable pub registers : Rule k registered_world
@@ -219,10 +224,9 @@ module _ (k : Key) (w : World) (r : Rule k w) (id : ℕ) (v : View) (at : get_el
         chained = each_set _ w.views id registrant (λ j u ne at_u. chained_later k w registered_world r.start r.start
             r.lane_of r.lane_of register_final u.learned (r.chained j u at_u))
             (let h = chained_later k w registered_world r.start r.start r.lane_of r.lane_of register_final v.learned
-            (r.chained id v at) in record { nodes = h.nodes; lows = h.lows; tops = h.tops });
+            (r.chained id v at) in record { nodes = h.nodes; least_previous = h.least_previous; least_heads = h.least_heads });
         own = each_set _ w.views id registrant (λ j u ne at_u. r.own j u at_u) (r.own id v at);
-        facts = each_set _ w.views id registrant (λ j u ne at_u. r.facts j u at_u)
-            (let h = r.facts id v at in assumption h);
+        facts = each_set _ w.views id registrant (λ j u ne at_u. r.facts j u at_u) registrant_facts;
         registry = registry;
         keyed = keyed_kept k w registered_world r.start r.start r.lane_of r.lane_of register_final r.version_of
             r.version_of (λ n below. refl) r.keyed (λ n below stored. (below, published (w.dir n) Stored stored));

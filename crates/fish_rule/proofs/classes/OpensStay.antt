@@ -9,7 +9,7 @@ use Rattle.fish_rule.proofs.basics.Lists.{all_map}
 use Rattle.fish_rule.proofs.classes.OtherViews.{one_view}
 use Rattle.fish_rule.specs.Facts.{AreOpens}
 use Rattle.fish_rule.specs.Parts.{Flies}
-use Rattle.fish_rule.specs.Reading.{opens_after, with_open}
+use Rattle.fish_rule.specs.LoadSteps.{opens_after, with_open}
 use Rattle.fish_rule.specs.Rule.{Final, Rule}
 use Rattle.fish_rule.specs.Views.{AllOf, Among, Has, IsFlightOf}
 use Rattle.fish_rule.specs.World.{World}

@@ -128,7 +128,7 @@ module _ (k : Key) (w : World) (r : Rule k w) (id : ℕ) (v : View) (at : get_el
         reached = (let a = h.reached in omega arith);
         read = read_later k w.registry g' endures u.learned.words h.read;
         unended = unended_later k w.registry g' endures w.count r.version_of r.registry.versions u.learned.unended h.unended;
-        main = λ e. main_later k w.registry g' endures u.learned.version u.rows u.draft still
+        main = λ e. main_later k w.registry g' endures u.learned.version u.rows u.main_words still
             (λ p owned. owned_else p few owned) (h.main e);
         waits = waits_later k w.registry g' endures w.count r.state state' r.version_of u.lane
             (λ n below. boundary_else n 0 below (omega arith)) since_later u.round h.waits;
@@ -136,7 +136,7 @@ module _ (k : Key) (w : World) (r : Rule k w) (id : ℕ) (v : View) (at : get_el
 
   -- and what the pass itself knows
   pub own_stays : StaysWith k w.count g' state' r.version_of v.lane v.out epoch' version v.learned.words v.learned.unended
-      v.rows v.draft v.round
+      v.rows v.main_words v.round
   own_stays =
       let h = r.registry.each id v at in
       let few = r.seats.few id v at in
@@ -150,7 +150,7 @@ module _ (k : Key) (w : World) (r : Rule k w) (id : ℕ) (v : View) (at : get_el
         reached = (let a = h.reached in omega arith);
         read = read_later k w.registry g' endures v.learned.words h.read;
         unended = unended_later k w.registry g' endures w.count r.version_of r.registry.versions v.learned.unended h.unended;
-        main = λ e. let m = main_later k w.registry g' endures v.learned.version v.rows v.draft still
+        main = λ e. let m = main_later k w.registry g' endures v.learned.version v.rows v.main_words still
             (λ p owned. owned_else p few owned) (h.main e) in
             record { version = main e ∙ sym still; definitions = m.definitions; owned = m.owned };
         waits = waits_later k w.registry g' endures w.count r.state state' r.version_of v.lane
@@ -178,13 +178,13 @@ module _ (k : Key) (w : World) (r : Rule k w) (id : ℕ) (v : View) (at : get_el
 
     -- the step keeps the rule
     unfoldable pub moves : Rule k (record w { registry = g'; views = set w.views id mover })
-    moves = registers k w r id v at g' epoch' version v.learned.words v.rows v.draft v.round clock endures state' move_registry
+    moves = registers k w r id v at g' epoch' version v.learned.words v.rows v.main_words v.round clock endures state' move_registry
 
     -- and all that lasts
     pub moves_last : Final k r.start moves.start r.lane_of moves.lane_of w
         (record w { registry = g'; views = set w.views id mover })
     unfolding moves
-    moves_last = register_lasts k w r id v at g' epoch' version v.learned.words v.rows v.draft v.round clock endures
+    moves_last = register_lasts k w r id v at g' epoch' version v.learned.words v.rows v.main_words v.round clock endures
         state' move_registry
 
 -- ---- stores of the own epoch word

@@ -1,4 +1,5 @@
 -- A store of a word of the region in flight that is no linked one: the next word, or an entry's own first word.
+-- All of it stands over one world, one view and one step: cut in two, each lemma would name them all again.
 use Rattle.std.proofs.Common.{◌≡◌, ◌≢◌, ℕ, ◌+◌, ◌-◌, ◌*◌, ◌<◌, ◌≤◌, suc, List, length, get_or, set, sym, refl, ap, ◌∙◌}
 use Rattle.std.proofs.Common.{subst, inl, inr, ⊎_elim, arith, Some, None, Option}
 use Rattle.std.proofs.Math.Decide.{ℕ_discrete, dec_le}
@@ -16,7 +17,7 @@ use Rattle.fish_rule.proofs.classes.OtherViews.{limit_views, alone_kept, flight_
 use Rattle.fish_rule.proofs.classes.FactsStay.{chained_later, facts_later, finished_later, flight_later, keyed_kept}
 use Rattle.fish_rule.proofs.classes.ChainsStay.{chains_same, linked_map, linking_from, linking_own, linking_to}
 use Rattle.fish_rule.proofs.classes.ChainsStay.{whole_later}
-use Rattle.fish_rule.proofs.basics.Places.{IsFlier, Spot, spot, which}
+use Rattle.fish_rule.proofs.basics.Places.{IsFlier, RecordAt, record_at, which}
 use Rattle.fish_rule.proofs.basics.Worlds.{put-else, put-here}
 use Rattle.fish_rule.specs.Chains.{IsLinking, IsStoredAt, Linked, LinksAt, Shows}
 use Rattle.fish_rule.specs.Parts.{Flies, InFlight, IsLinkedWord, Whole}
@@ -112,8 +113,8 @@ module _ (k : Key) (w : World) (r : Rule k w) (id : ℕ) (v : View) (at : get_el
   shown_stays : (a c : ℕ) → Shows k w.dir w.views a c → body written.log a ≡ body w.log a
   shown_stays a c shows = pick (ℕ_discrete s.number f.number)
     where
-      s : Spot k w r a c
-      s = spot k w r a c shows
+      s : RecordAt k w r a c
+      s = record_at k w r a c shows
 
       mine : (s.number ≡ f.number) → (0 < f.linked)
       mine e = ⊎_elim (λ (set_ : w.dir s.number ≢ 0). absurd (set_ (ap w.dir e ∙ own.unpublished)))
@@ -140,7 +141,7 @@ module _ (k : Key) (w : World) (r : Rule k w) (id : ℕ) (v : View) (at : get_el
   -- the word is no linked one
   pub not_linked : (b p : ℕ) → Linked k w.dir w.log w.views b p → p ≢ own_word
   not_linked b p h e =
-      let s = spot k w r h.line h.entry h.shows in
+      let s = record_at k w r h.line h.entry h.shows in
       let line = own.line in
       let lines = own.lines in
       let within = becomes.within in

@@ -7,16 +7,16 @@ use Rattle.fish_catalog.specs.declared.entry.Entry.{Entry}
 use Rattle.fish_catalog.specs.declared.entry.Entry.TheVariants as entry
 use Rattle.fish_rule.proofs.basics.Lists.{all_among}
 use Rattle.fish_rule.proofs.laws.Learning.{extends_look, found_here, learns_both}
-use Rattle.fish_rule.specs.Closing.{IsClosed, IsClosedAt, ReadsOn}
+use Rattle.fish_rule.specs.ClosedLog.{IsClosed, IsClosedAt, ReadsOn}
 use Rattle.fish_rule.specs.Logs.{AreTold, Extends, Learns, Tells, TellsMark}
 use Rattle.fish_rule.specs.Parts.{Rests}
 use Rattle.fish_rule.specs.Facts.{Facts, IsFound, IsKnown, IsRecorded, Owns}
 use Rattle.fish_rule.specs.Regions.{code}
 use Rattle.fish_rule.specs.Rule.{Rule}
-use Rattle.fish_rule.specs.Reading.{IsAlone, after_end, after_look, kind_told}
+use Rattle.fish_rule.specs.LoadSteps.{IsAlone, after_load_tail, after_look_at, kind_told}
 use Rattle.fish_rule.specs.Table.{Stands}
 use Rattle.fish_rule.specs.Views.{AllOf, Among}
-use Rattle.fish_rule.specs.Walks.{IsGap, IsLabel}
+use Rattle.fish_rule.specs.Gaps.{IsGap, IsLabel}
 use Rattle.fish_rule.specs.World.{World, high, low}
 use Rattle.fish_rule.specs.declared.close.Remains.{Remains}
 use Rattle.fish_rule.specs.declared.view.Found.{Found}
@@ -106,13 +106,13 @@ abbrev pub seen : ℕ → ℕ → ℕ → Found
 seen n lines x = record { number = n; kind = kind_told (high x); line = low x; lines = lines }
 
 -- it is found, where the word isn't 0
-pub seen_here : (v u : View) (n lines x : ℕ) → u ≡ after_look v n lines x → x ≢ 0
+pub seen_here : (v u : View) (n lines x : ℕ) → u ≡ after_look_at v n lines x → x ≢ 0
     → Among (seen n lines x) u.learned.found
 seen_here v u n lines x e ne = subst (λ (z : View). Among (seen n lines x) z.learned.found) (sym e)
     (found_here n lines x v.learned.found ne)
 
 -- and the view is extended
-pub extends_to_look : (v u : View) (n lines x : ℕ) → u ≡ after_look v n lines x → Extends v u
+pub extends_to_look : (v u : View) (n lines x : ℕ) → u ≡ after_look_at v n lines x → Extends v u
 extends_to_look v u n lines x e = subst (Extends v) (sym e) (extends_look v n lines x)
 
 -- a void is told
@@ -189,5 +189,5 @@ alone_later v u e alone = record {
 }
 
 -- and so it does when it loads the tail
-pub alone_end : (v : View) (x : ℕ) → IsAlone v → IsAlone (after_end v x)
+pub alone_end : (v : View) (x : ℕ) → IsAlone v → IsAlone (after_load_tail v x)
 alone_end v x alone = record { main = alone.main; all = alone.all; idle = alone.idle }

@@ -8,15 +8,15 @@ use Rattle.fish_rule.proofs.basics.Lists.{all_among}
 use Rattle.fish_rule.proofs.laws.Learning.{learns_both}
 use Rattle.fish_rule.proofs.basics.Gaps.{entry_linked}
 use Rattle.fish_rule.proofs.basics.Bodies.{published}
-use Rattle.fish_rule.proofs.basics.Places.{lies_inside, spot}
+use Rattle.fish_rule.proofs.basics.Places.{lies_inside, record_at}
 use Rattle.fish_rule.specs.Chains.{IsKeyEntry, Linked}
-use Rattle.fish_rule.specs.Linking.{HasNode}
+use Rattle.fish_rule.specs.ChainSteps.{HasNode}
 use Rattle.fish_rule.specs.Logs.{Learns}
 use Rattle.fish_rule.specs.Regions.{code, kind_of}
 use Rattle.fish_rule.specs.Rule.{Rule}
 use Rattle.fish_rule.specs.Views.{Among}
-use Rattle.fish_rule.specs.Walking.{Always, IsClear, IsEntryIn, IsNodeIn, IsNowhere}
-use Rattle.fish_rule.specs.Walks.{IsEntryOf, IsGap, IsLabel}
+use Rattle.fish_rule.specs.ChainFacts.{Always, IsClear, IsEntryIn, IsNodeIn, IsNowhere}
+use Rattle.fish_rule.specs.Gaps.{IsEntryOf, IsGap, IsLabel}
 use Rattle.fish_rule.specs.World.{World, body, low}
 use Rattle.fish_rule.specs.declared.view.Gap.{Gap}
 use Rattle.fish_rule.specs.declared.view.Key.{Key}
@@ -42,7 +42,7 @@ module _ (k : Key) (w : World) (r : Rule k w) where
   unfolding entry_linked
   within_region b n c p below h =
       let linked = entry_linked k w r b n c p below (starts_there b n c p below h) in
-      let s = spot k w r linked.line linked.entry linked.shows in
+      let s = record_at k w r linked.line linked.entry linked.shows in
       let inside = lies_inside k w r b p linked s in
       let grows = r.space.regions.grows n h.above below in
       let up = r.space.regions.grows s.number s.above s.below in
@@ -135,7 +135,7 @@ label_entry v l b among node known u learns w r seat at =
         → IsNodeIn b (entry_number l.word) (entry_place l.word) l.place (entry_id l.word) k w
     node_there k w r b l label linked known =
         let n : ℕ = entry_number l.word in
-        let s = spot k w r linked.line linked.entry linked.shows in
+        let s = record_at k w r linked.line linked.entry linked.shows in
         let inside = lies_inside k w r b l.place linked s in
         let there = label_region k w r l label in
         let same : s.number ≡ n = one_region k w.count w.line r.start r.space.regions s.number n l.place

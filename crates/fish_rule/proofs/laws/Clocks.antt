@@ -2,7 +2,7 @@
 use Rattle.std.proofs.Common.{ℕ, List, [], ◌∷◌, ◌++◌, append_assoc, ap, arith, inl, refl, sym, ◌∙◌}
 use Rattle.fish_rule.proofs.basics.Lists.{among_left, among_right}
 use Rattle.fish_rule.specs.Clocks.{HasLoaded, IsLater}
-use Rattle.fish_rule.specs.Steps.{loaded, noted, ticked}
+use Rattle.fish_rule.specs.SpaceSteps.{loaded, noted, ticked}
 use Rattle.fish_rule.specs.declared.view.Clock.{Clock}
 use Rattle.fish_rule.specs.declared.view.Note.{Note}
 use Rattle.fish_rule.specs.declared.view.Noted.{Noted}

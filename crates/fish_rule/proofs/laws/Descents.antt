@@ -8,23 +8,24 @@ use Rattle.fish_rule.specs.World.{low}
 use Rattle.fish_rule.proofs.laws.Clocks.{later_loaded}
 use Rattle.fish_rule.proofs.laws.Learning.{ahead, learns_self}
 use Rattle.fish_rule.proofs.laws.ChainFacts.{claimed_there, gap_clear, within_region}
-use Rattle.fish_rule.specs.Linking.{HasNode, after_head, after_node, after_previous, gap, head_seen, previous_seen}
-use Rattle.fish_rule.specs.Linking.{with_node}
+use Rattle.fish_rule.specs.ChainSteps.{HasNode, after_load_head, after_load_node, after_load_previous, gap, head_seen}
+use Rattle.fish_rule.specs.ChainSteps.{previous_seen}
+use Rattle.fish_rule.specs.ChainSteps.{with_node}
 use Rattle.fish_rule.specs.Logs.{Extends, Learns}
 use Rattle.fish_rule.specs.Regions.{code}
-use Rattle.fish_rule.specs.Steps.{loaded}
+use Rattle.fish_rule.specs.SpaceSteps.{loaded}
 use Rattle.fish_rule.specs.Views.{Among}
-use Rattle.fish_rule.specs.Walking.{Always, IsClear, IsEntryIn}
+use Rattle.fish_rule.specs.ChainFacts.{Always, IsClear, IsEntryIn}
 use Rattle.fish_rule.specs.declared.view.Clock.{Clock}
 use Rattle.fish_rule.specs.declared.view.Key.{Key}
 use Rattle.fish_rule.specs.declared.view.Kind.TheVariants.{Mark, Stored}
-use Rattle.fish_rule.specs.declared.view.Node.{Node}
+use Rattle.fish_rule.specs.declared.view.EntryPlace.{EntryPlace}
 use Rattle.fish_rule.specs.declared.view.View.{View}
 
 -- ---- views that only learn
 
 -- the nodes that were known stay known
-pub nodes_stay : (k : Key) (b x : ℕ) (nodes : List Node) (n : Node) → Among n nodes → Among n (with_node k b x nodes)
+pub nodes_stay : (k : Key) (b x : ℕ) (nodes : List EntryPlace) (n : EntryPlace) → Among n nodes → Among n (with_node k b x nodes)
 nodes_stay k b x nodes n m = by (dec_lt (k.line * 4) x)
   where
     by : (d : Dec (k.line * 4 < x)) → Among n (choose d (record { bucket = b; place = x } ∷ nodes) nodes)
@@ -32,7 +33,7 @@ nodes_stay k b x nodes n m = by (dec_lt (k.line * 4) x)
     by (no h) = m
 
 -- a place behind the base's is that of a node
-pub node_here : (k : Key) (b x : ℕ) (nodes : List Node) → (x ≤ k.line * 4)
+pub node_here : (k : Key) (b x : ℕ) (nodes : List EntryPlace) → (x ≤ k.line * 4)
     ⊎ Among (record { bucket = b; place = x }) (with_node k b x nodes)
 node_here k b x nodes = by (dec_lt (k.line * 4) x)
   where
@@ -46,7 +47,7 @@ pub head_learns : (v : View) (b x : ℕ) (clock : Clock) → Learns v (head_seen
 head_learns v b x clock = assumption (
     learns_self v,
     nodes_stay v.about b x v.learned.nodes,
-    ahead (record { bucket = b; place = x }) v.learned.tops,
+    ahead (record { bucket = b; place = x }) v.learned.least_heads,
     ahead (gap b (v.about.end * 4) x v.learned) v.learned.gaps,
 )
 
@@ -55,22 +56,22 @@ pub previous_learns : (v : View) (b p x : ℕ) (clock : Clock) → Learns v (pre
 previous_learns v b p x clock = assumption (
     learns_self v,
     nodes_stay v.about b x v.learned.nodes,
-    ahead (record { place = p; value = x }) v.learned.lows,
+    ahead (record { place = p; value = x }) v.learned.least_previous,
     ahead (gap b p x v.learned) v.learned.gaps,
 )
 
 -- a load of a head extends a view
-pub extends_head : (v : View) (b x : ℕ) → Extends v (after_head v b x)
+pub extends_head : (v : View) (b x : ℕ) → Extends v (after_load_head v b x)
 extends_head v b x =
     record { learns = head_learns v b x (loaded v.clock); clock = later_loaded v.clock; frame = refl }
 
 -- so does one of a first word
-pub extends_previous : (v : View) (b p x : ℕ) → Extends v (after_previous v b p x)
+pub extends_previous : (v : View) (b p x : ℕ) → Extends v (after_load_previous v b p x)
 extends_previous v b p x =
     record { learns = previous_learns v b p x (loaded v.clock); clock = later_loaded v.clock; frame = refl }
 
 -- and a second word
-pub extends_node : (v : View) (p x : ℕ) → Extends v (after_node v p x)
+pub extends_node : (v : View) (p x : ℕ) → Extends v (after_load_node v p x)
 extends_node v p x = record {
   learns = assumption (learns_self v, ahead (record { place = p; word = x; end = v.learned.settled }) v.learned.labels);
   clock = later_loaded v.clock;
@@ -80,24 +81,24 @@ extends_node v p x = record {
 -- ---- where a walk goes on
 
 -- at the head that was seen, or behind no entry of the table
-pub head_here : (v : View) (b x : ℕ) → (x ≤ v.about.line * 4) ⊎ HasNode (after_head v b x) b x
+pub head_here : (v : View) (b x : ℕ) → (x ≤ v.about.line * 4) ⊎ HasNode (after_load_head v b x) b x
 head_here v b x = node_here v.about b x v.learned.nodes
 
 -- at the entry that the first word leads to, or behind no entry of the table
-pub previous_here : (v : View) (b p x : ℕ) → (x ≤ v.about.line * 4) ⊎ HasNode (after_previous v b p x) b x
+pub previous_here : (v : View) (b p x : ℕ) → (x ≤ v.about.line * 4) ⊎ HasNode (after_load_previous v b p x) b x
 previous_here v b p x = node_here v.about b x v.learned.nodes
 
 -- above the head there is no entry of a settled record
 pub head_clear : (v : View) (b x from to : ℕ) → to ≤ v.learned.settled
-    → Always (after_head v b x) (IsClear b from to (v.about.end * 4) x)
+    → Always (after_load_head v b x) (IsClear b from to (v.about.end * 4) x)
 head_clear v b x from to known =
-    gap_clear (after_head v b x) (gap b (v.about.end * 4) x v.learned) from to (inl refl) known
+    gap_clear (after_load_head v b x) (gap b (v.about.end * 4) x v.learned) from to (inl refl) known
 
 -- nor between a place and what its first word leads to
 pub previous_clear : (v : View) (b p x from to : ℕ) → to ≤ v.learned.settled
-    → Always (after_previous v b p x) (IsClear b from to p x)
+    → Always (after_load_previous v b p x) (IsClear b from to p x)
 previous_clear v b p x from to known =
-    gap_clear (after_previous v b p x) (gap b p x v.learned) from to (inl refl) known
+    gap_clear (after_load_previous v b p x) (gap b p x v.learned) from to (inl refl) known
 
 -- every entry lies behind the base's place
 pub entries_behind : (v : View) → Always v (λ k w. (b n c p : ℕ) → IsEntryIn b n c p k w → k.line * 4 < p)

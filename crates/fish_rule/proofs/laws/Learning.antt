@@ -6,8 +6,9 @@ use Rattle.fish_layout.specs.Cleared.{choose}
 use Rattle.fish_rule.proofs.basics.Lists.{among_left, among_right}
 use Rattle.fish_rule.proofs.laws.Clocks.{later_both, later_loaded, later_noted, later_self}
 use Rattle.fish_rule.specs.Logs.{Extends, Learns}
-use Rattle.fish_rule.specs.Seating.{join_both}
-use Rattle.fish_rule.specs.Reading.{after_end, after_look, after_read, found_after, kind_told, opens_after}
+use Rattle.fish_rule.specs.SeatSteps.{join_both}
+use Rattle.fish_rule.specs.LoadSteps.{after_load_tail, after_look_at, after_read_word, found_after, kind_told}
+use Rattle.fish_rule.specs.LoadSteps.{opens_after}
 use Rattle.fish_rule.specs.Views.{Among}
 use Rattle.fish_rule.specs.World.{high, low}
 use Rattle.fish_rule.specs.declared.view.Found.{Found}
@@ -31,8 +32,8 @@ learns_self v = record {
   known = λ x m. m;
   records = λ x m. m;
   nodes = λ x m. m;
-  lows = λ x m. m;
-  tops = λ x m. m;
+  least_previous = λ x m. m;
+  least_heads = λ x m. m;
   gaps = λ x m. m;
   labels = λ x m. m;
   unended = λ x m. m;
@@ -70,8 +71,8 @@ learns_both a b c e f =
       known = λ x m. f.known x (e.known x m);
       records = λ x m. f.records x (e.records x m);
       nodes = λ x m. f.nodes x (e.nodes x m);
-      lows = λ x m. f.lows x (e.lows x m);
-      tops = λ x m. f.tops x (e.tops x m);
+      least_previous = λ x m. f.least_previous x (e.least_previous x m);
+      least_heads = λ x m. f.least_heads x (e.least_heads x m);
       gaps = λ x m. f.gaps x (e.gaps x m);
       labels = λ x m. f.labels x (e.labels x m);
       unended = λ x m. f.unended x (e.unended x m);
@@ -95,7 +96,7 @@ extends_both a b c e f = record {
 -- ---- a read
 
 -- a word that is read extends a view
-pub extends_read : (v : View) (place x : ℕ) → Extends v (after_read v place x)
+pub extends_read : (v : View) (place x : ℕ) → Extends v (after_read_word v place x)
 extends_read v place x = record {
   learns = assumption (learns_self v, ahead (record { place = place; value = x }) v.learned.known);
   clock = later_loaded v.clock;
@@ -103,14 +104,14 @@ extends_read v place x = record {
 }
 
 -- the same where the view is known by an equation
-pub extends_to_read : (v u : View) (place x : ℕ) → u ≡ after_read v place x → Extends v u
+pub extends_to_read : (v u : View) (place x : ℕ) → u ≡ after_read_word v place x → Extends v u
 extends_to_read v u place x e = subst (Extends v) (sym e) (extends_read v place x)
 
 -- the word that was read is known
-pub read_here : (v u : View) (place x : ℕ) → u ≡ after_read v place x
+pub read_here : (v u : View) (place x : ℕ) → u ≡ after_read_word v place x
     → Among (record { place = place; value = x }) u.learned.known
 read_here v u place x e = (let m : Among (record { place = place; value = x })
-    (after_read v place x).learned.known = inl refl in
+    (after_read_word v place x).learned.known = inl refl in
     subst (λ (z : View). Among (record { place = place; value = x }) z.learned.known) (sym e) m)
 
 -- ---- a look
@@ -134,7 +135,7 @@ opens_more n zero (p ∷ opens) o m = pick (dec_lt n p.count)
     pick (no past) = m
 
 -- a directory word that is seen extends a view
-pub extends_look : (v : View) (n lines x : ℕ) → Extends v (after_look v n lines x)
+pub extends_look : (v : View) (n lines x : ℕ) → Extends v (after_look_at v n lines x)
 extends_look v n lines x = record {
   learns = assumption (learns_self v, found_more n lines x v.learned.found, opens_more n x v.learned.opens);
   clock = later_noted v.clock (Directory n) x;
@@ -151,14 +152,14 @@ found_here n lines (suc x) found ne = inl refl
 -- ---- a load of the tail
 
 -- a count that has risen is learned
-pub learns_end : (v : View) (x : ℕ) → v.learned.count ≤ high x → Learns v (after_end v x)
+pub learns_end : (v : View) (x : ℕ) → v.learned.count ≤ high x → Learns v (after_load_tail v x)
 learns_end v x more = assumption (learns_self v, more, ahead (record { count = high x; numbers = [] }) v.learned.opens)
 
 -- ---- a join
 
 -- after a join and a load of the tail the control pass knows what it knew
 pub learns_join : (v u : View) (x : ℕ) → max v.learned.count u.learned.count ≤ high x
-    → Learns v (after_end (join_both v u) x)
+    → Learns v (after_load_tail (join_both v u) x)
 learns_join v u x more = record {
   about = refl;
   count = omega arith;
@@ -169,8 +170,8 @@ learns_join v u x more = record {
   known = λ y m. among_left y v.learned.known u.learned.known m;
   records = λ y m. among_left y v.learned.records u.learned.records m;
   nodes = λ y m. among_left y v.learned.nodes u.learned.nodes m;
-  lows = λ y m. among_left y v.learned.lows u.learned.lows m;
-  tops = λ y m. among_left y v.learned.tops u.learned.tops m;
+  least_previous = λ y m. among_left y v.learned.least_previous u.learned.least_previous m;
+  least_heads = λ y m. among_left y v.learned.least_heads u.learned.least_heads m;
   gaps = λ y m. among_left y v.learned.gaps u.learned.gaps m;
   labels = λ y m. among_left y v.learned.labels u.learned.labels m;
   unended = λ y m. among_left y v.learned.unended u.learned.unended m;
@@ -179,7 +180,7 @@ learns_join v u x more = record {
 
 -- and what the other pass knew
 pub learned_join : (v u : View) (x : ℕ) → v.about ≡ u.about → max v.learned.count u.learned.count ≤ high x
-    → Learns u (after_end (join_both v u) x)
+    → Learns u (after_load_tail (join_both v u) x)
 learned_join v u x about more = record {
   about = about;
   count = omega arith;
@@ -190,8 +191,8 @@ learned_join v u x about more = record {
   known = λ y m. among_right y v.learned.known u.learned.known m;
   records = λ y m. among_right y v.learned.records u.learned.records m;
   nodes = λ y m. among_right y v.learned.nodes u.learned.nodes m;
-  lows = λ y m. among_right y v.learned.lows u.learned.lows m;
-  tops = λ y m. among_right y v.learned.tops u.learned.tops m;
+  least_previous = λ y m. among_right y v.learned.least_previous u.learned.least_previous m;
+  least_heads = λ y m. among_right y v.learned.least_heads u.learned.least_heads m;
   gaps = λ y m. among_right y v.learned.gaps u.learned.gaps m;
   labels = λ y m. among_right y v.learned.labels u.learned.labels m;
   unended = λ y m. among_right y v.learned.unended u.learned.unended m;
@@ -199,10 +200,10 @@ learned_join v u x about more = record {
 }
 
 -- both, where the views are known by equations
-pub joined_learns : (v u m t : View) (x : ℕ) → v.about ≡ u.about → m ≡ join_both v u → t ≡ after_end m x
+pub joined_learns : (v u m t : View) (x : ℕ) → v.about ≡ u.about → m ≡ join_both v u → t ≡ after_load_tail m x
     → m.learned.count ≤ high x → Learns v t × Learns u t
 joined_learns v u m t x about joined loaded more =
-    let to : t ≡ after_end (join_both v u) x = loaded ∙ ap (λ (z : View). after_end z x) joined in
+    let to : t ≡ after_load_tail (join_both v u) x = loaded ∙ ap (λ (z : View). after_load_tail z x) joined in
     let counted = subst (λ (z : View). z.learned.count ≤ high x) joined more in (
       subst (Learns v) (sym to) (learns_join v u x counted),
       subst (Learns u) (sym to) (learned_join v u x about counted),

@@ -7,14 +7,14 @@ use Rattle.fish_rule.proofs.basics.FirstHeads.{first_low, linked_from, flight_fr
 use Rattle.fish_rule.proofs.steps.LoadPrevious.{node_linked, place_within}
 use Rattle.fish_rule.proofs.steps.LoadNode.{second_within}
 use Rattle.fish_rule.proofs.basics.Places.{one_chain}
-use Rattle.fish_rule.specs.Linking.{CanAim, HasNode, own_place}
+use Rattle.fish_rule.specs.ChainSteps.{CanAimEntry, HasNode, own_place}
 use Rattle.fish_layout.specs.Entry.{entry_number}
 use Rattle.fish_rule.specs.Parts.{first_head}
 use Rattle.fish_rule.specs.Table.{Stands}
 use Rattle.fish_rule.specs.Views.{Among}
 use Rattle.fish_rule.specs.declared.view.Flight.{Flight}
 use Rattle.fish_rule.specs.declared.view.Key.{Key}
-use Rattle.fish_rule.specs.Walks.{IsLabel}
+use Rattle.fish_rule.specs.Gaps.{IsLabel}
 use Rattle.fish_rule.specs.declared.view.Label.{Label}
 use Rattle.fish_rule.specs.declared.view.View.{View}
 use Rattle.fish_layout.proofs.Clearing.{cleared_head, cleared_same}
@@ -49,7 +49,7 @@ second_law k v b p about s node =
     subst (λ (z : Key). (z.line * 4 ≤ suc p) × (suc p < z.end * 4)) about (h.0, omega arith)
 
 -- and so is the own entry that is next to be linked
-pub aim_law : (k : Key) (v : View) (f : Flight) → v.about ≡ k → Stands v → CanAim v f
+pub aim_law : (k : Key) (v : View) (f : Flight) → v.about ≡ k → Stands v → CanAimEntry v f
     → (k.line * 4 ≤ own_place f) × (own_place f < k.end * 4)
 aim_law k v f about s can =
     let h = own_within v.about s.moment s.rule s.seat v s.at f can in
@@ -72,20 +72,20 @@ label_above v l s among = (all_among (IsLabel v.about s.moment.count s.moment.di
     v.learned.labels (s.rule.facts s.seat v s.at).labels among).above
 
 -- the place of the entry is no linked place
-pub not_own : (v : View) (f : Flight) (b p : ℕ) → Stands v → CanAim v f → HasNode v b p → p ≢ own_place f
+pub not_own : (v : View) (f : Flight) (b p : ℕ) → Stands v → CanAimEntry v f → HasNode v b p → p ≢ own_place f
 not_own v f b p s can node =
     own_unlinked v.about s.moment s.rule s.seat v s.at f can b p
     (node_linked v.about s.moment s.rule s.seat v s.at b p node)
 
 -- it is behind the base's
-pub own_behind : (v : View) (f : Flight) → Stands v → CanAim v f → v.about.line * 4 < own_place f
+pub own_behind : (v : View) (f : Flight) → Stands v → CanAimEntry v f → v.about.line * 4 < own_place f
 own_behind v f s can =
     let from = flight_from v.about s.moment s.rule s.seat v s.at f can.flying in
     let is : own_place f ≡ f.line * 4 + (1 + 3 * f.linked) = refl in
     omega arith
 
 -- its first word is one of the record's words
-pub own_word : (v : View) (f : Flight) → Stands v → CanAim v f → entry_at f.linked < length f.words
+pub own_word : (v : View) (f : Flight) → Stands v → CanAimEntry v f → entry_at f.linked < length f.words
 own_word v f s can =
     let room = own_room v.about s.moment s.rule s.seat v s.at f can in
     let full = can.full in

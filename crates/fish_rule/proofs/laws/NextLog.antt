@@ -4,7 +4,7 @@ use Rattle.std.proofs.Common.{length, refl, ap, subst, slice_index}
 use Rattle.std.proofs.Math.Decide.{dec_lt}
 use Rattle.fish_rule.proofs.basics.Bodies.{kind-inside, code_once, kind-mark, mark-past, published}
 use Rattle.fish_rule.proofs.basics.Regions.{starts_above, starts_rise}
-use Rattle.fish_rule.proofs.basics.Places.{lies_inside, spot}
+use Rattle.fish_rule.proofs.basics.Places.{lies_inside, record_at}
 use Rattle.fish_rule.specs.Chains.{Linked}
 use Rattle.fish_rule.specs.Parts.{IsOlder, first_head}
 use Rattle.fish_rule.specs.Rule.{Rule}
@@ -15,7 +15,7 @@ use mathlib.Core.Option.{some}
 use Rattle.std.proofs.Math.ListN.{get_elem?}
 use Rattle.fish_catalog.specs.declared.entry.Entry.{Entry}
 use Rattle.fish_rule.proofs.basics.OneMoment.{claimed, entry_word, there_is}
-use Rattle.fish_rule.specs.Closed.{EndsWhereNextBegins}
+use Rattle.fish_rule.specs.ClosedLaws.{EndsWhereNextBegins}
 use Rattle.fish_rule.specs.Logs.{IsLog}
 use Rattle.fish_rule.specs.Regions.{code, kind_of}
 
@@ -39,7 +39,7 @@ module _ (k : Key) (w : World) (r : Rule k w) where
   -- every linked place is below that line
   pub linked_below : (b p : ℕ) → Linked k w.dir w.log w.views b p → p < next_line * 4
   linked_below b p h =
-      let s = spot k w r h.line h.entry h.shows in
+      let s = record_at k w r h.line h.entry h.shows in
       let inside = lies_inside k w r b p h s in
       let end = kind-inside k.end (r.start s.number) (r.start (suc s.number))
       (λ e. let q : Stored ≡ Mark = sym s.kind ∙ e in cc) in

@@ -3,7 +3,7 @@ use Rattle.std.proofs.Common.{sym, ◌∙◌}
 use Rattle.fish_rule.proofs.basics.OneMoment.{stored_by, stored_above}
 use Rattle.fish_rule.proofs.basics.Lists.{all_among}
 use Rattle.fish_rule.specs.Facts.{AreOpens}
-use Rattle.fish_rule.specs.Unpublished.{OpensAreApart}
+use Rattle.fish_rule.specs.OpenNumbers.{OpensAreApart}
 use Rattle.fish_rule.specs.declared.view.Key.{Key}
 
 -- no two of them are ever stored by one lane

@@ -12,10 +12,10 @@ use Rattle.fish_rule.proofs.basics.Regions.{starts_rise}
 use Rattle.fish_rule.proofs.laws.Alone.{tells_later, told_more}
 use Rattle.fish_rule.proofs.basics.Lists.{all_among, all_append, among_either, among_left, among_right}
 use Rattle.fish_rule.proofs.laws.Learning.{learns_self}
-use Rattle.fish_rule.specs.Closing.{HasLine, HasMarkAt, HasStart, IsCovered, IsRead, IsReadUpTo, PagesRise, page_of}
+use Rattle.fish_rule.specs.ClosedLog.{HasLine, HasMarkAt, HasStart, IsCovered, IsRead, IsReadUpTo, PagesRise, page_of}
 use Rattle.fish_rule.specs.Facts.{IsFound}
 use Rattle.fish_rule.specs.Logs.{AreTold, Learns, Tells}
-use Rattle.fish_rule.specs.Reading.{CanRaise}
+use Rattle.fish_rule.specs.LoadSteps.{CanRaiseSettled}
 use Rattle.fish_rule.specs.Table.{Stands}
 use Rattle.fish_rule.specs.Views.{Among}
 use Rattle.fish_rule.specs.World.{World, low}
@@ -242,7 +242,7 @@ read_more u n line e old mid new s h tells has added starts page start = pick (d
 -- ---- what the pass may settle
 
 -- all that was read is published, and no mark
-pub settles_read : (v : View) (n : ℕ) (read : ReadLog) → n ≤ v.learned.count → IsReadUpTo v n read → CanRaise v n
+pub settles_read : (v : View) (n : ℕ) (read : ReadLog) → n ≤ v.learned.count → IsReadUpTo v n read → CanRaiseSettled v n
 settles_read v n read within h = record {
   within = within;
   known = λ m above below. inr (let x = (h.covers m above below).has in (x.0, x.1, x.2, x.3));

@@ -6,14 +6,14 @@ use Rattle.std.proofs.Math.ListN.{get_elem?}
 use Rattle.fish_rule.proofs.laws.Clocks.{later_ticked}
 use Rattle.fish_rule.proofs.laws.Alone.{each_more}
 use Rattle.fish_rule.proofs.laws.Learning.{learns_both, learns_self, learns_end}
-use Rattle.fish_rule.specs.Closing.{AreHeads, HasHead, IsAdded, IsReadUpTo, ReadsOn}
-use Rattle.fish_rule.specs.Entering.{after_version}
+use Rattle.fish_rule.specs.ClosedLog.{AreHeads, HasHead, IsAdded, IsReadUpTo, ReadsOn}
+use Rattle.fish_rule.specs.RegistrySteps.{after_load_version}
 use Rattle.fish_rule.specs.Epochs.{confirmed}
-use Rattle.fish_rule.specs.Linking.{after_head}
+use Rattle.fish_rule.specs.ChainSteps.{after_load_head}
 use Rattle.fish_rule.specs.Logs.{Extends, Learns}
 use Rattle.fish_rule.specs.Parts.{Rests, first_head}
-use Rattle.fish_rule.specs.Reading.{IsAlone, after_end, after_raise}
-use Rattle.fish_rule.specs.Steps.{noted}
+use Rattle.fish_rule.specs.LoadSteps.{IsAlone, after_load_tail, after_raise_settled}
+use Rattle.fish_rule.specs.SpaceSteps.{noted}
 use Rattle.fish_rule.specs.Views.{Among}
 use Rattle.fish_rule.specs.World.{high, low}
 use Rattle.fish_rule.specs.declared.close.ReadLog.{ReadLog}
@@ -23,7 +23,7 @@ use Rattle.fish_rule.specs.declared.view.View.{View}
 
 -- a head that was loaded
 pub head_new : (v : View) (b x : ℕ) → (x ≤ v.about.line * 4 → x ≡ first_head v.about b)
-    → HasHead (after_head v b x) v.learned.settled b x
+    → HasHead (after_load_head v b x) v.learned.settled b x
 head_new v b x first = record { top = inl refl; gap = (v.learned.settled, omega arith, inl refl); first = first }
 
 -- it stays so
@@ -31,7 +31,7 @@ pub head_later : (v u : View) (settled b x : ℕ) → Learns v u → HasHead v s
 head_later v u settled b x learns h =
     let g = h.gap in
     record {
-      top = learns.tops (record { bucket = b; place = x }) h.top;
+      top = learns.least_heads (record { bucket = b; place = x }) h.top;
       gap = (
         g.0,
         g.1,
@@ -52,7 +52,7 @@ heads_more v u settled heads x learns old next = each_more (HasHead u settled) h
 -- ---- the raise
 
 -- a raise of the settled number extends a view
-pub extends_raise : (v : View) (m x : ℕ) → v.learned.settled ≤ x → Extends v (after_raise v m x)
+pub extends_raise : (v : View) (m x : ℕ) → v.learned.settled ≤ x → Extends v (after_raise_settled v m x)
 extends_raise v m x more = (let raised : v.learned.settled ≤ max x m = omega arith in record {
   learns = assumption (learns_self v, raised);
   clock = later_ticked v.clock;
@@ -73,14 +73,14 @@ goes_on v n lines read true e h = h
 goes_on v n lines read false e h = cc
 
 -- a version that was loaded is learned
-learns_version : (v : View) (y : ℕ) → v.learned.version ≤ y → Learns v (after_version v y)
+learns_version : (v : View) (y : ℕ) → v.learned.version ≤ y → Learns v (after_load_version v y)
 learns_version v y more = assumption (learns_self v, more)
 
-pub to_version : (v u : View) (y : ℕ) → u ≡ after_version v y → v.learned.version ≤ y → Learns v u
+pub to_version : (v u : View) (y : ℕ) → u ≡ after_load_version v y → v.learned.version ≤ y → Learns v u
 to_version v u y e more = subst (Learns v) (sym e) (learns_version v y more)
 
 -- it reads on from where it loaded the tail
-pub reads_on : (v t u : View) (x : ℕ) → t ≡ after_end v x → v.learned.count ≤ high x
+pub reads_on : (v t u : View) (x : ℕ) → t ≡ after_load_tail v x → v.learned.count ≤ high x
     → Rests (high x) (low x) v.tail → Extends t u → ReadsOn v u
 reads_on v t u x e more rests ext =
     let learned = subst (Learns v) (sym e) (learns_end v x more) in
@@ -106,7 +106,7 @@ reads_on v t u x e more rests ext =
     }
 
 -- and when it loads the version last
-pub reads_version : (v u w : View) (y : ℕ) → ReadsOn v u → w ≡ after_version u y → u.learned.version ≤ y → ReadsOn v w
+pub reads_version : (v u w : View) (y : ℕ) → ReadsOn v u → w ≡ after_load_version u y → u.learned.version ≤ y → ReadsOn v w
 reads_version v u w y on e more =
     let from : w ≡ record v {
       epoch = confirmed u.epoch y;

@@ -7,17 +7,17 @@ use Rattle.fish_rule.proofs.basics.Bodies.{kind-inside}
 use Rattle.fish_rule.proofs.laws.ClosedLogs.{within_log}
 use Rattle.fish_rule.proofs.basics.Lists.{all_among, only_main}
 use Rattle.fish_rule.proofs.laws.Learning.{learns_self}
-use Rattle.fish_rule.proofs.basics.Places.{IsFlier, Spot, lies_inside, spot}
+use Rattle.fish_rule.proofs.basics.Places.{IsFlier, RecordAt, lies_inside, record_at}
 use Rattle.fish_rule.specs.Chains.{Linked}
-use Rattle.fish_rule.specs.Closing.{AreHeads, HasHead, HasLine, HasMarkAt, IsClosed, IsRead}
+use Rattle.fish_rule.specs.ClosedLog.{AreHeads, HasHead, HasLine, HasMarkAt, IsClosed, IsRead}
 use Rattle.fish_rule.specs.Facts.{IsFound}
 use Rattle.fish_rule.specs.Logs.{IsLog}
 use Rattle.fish_rule.specs.Parts.{Flies, InFlight, Rests, first_head}
-use Rattle.fish_rule.specs.Reading.{IsAlone}
+use Rattle.fish_rule.specs.LoadSteps.{IsAlone}
 use Rattle.fish_rule.specs.Regions.{code}
 use Rattle.fish_rule.specs.Table.{Stands}
 use Rattle.fish_rule.specs.Views.{Among}
-use Rattle.fish_rule.specs.Walks.{IsGap}
+use Rattle.fish_rule.specs.Gaps.{IsGap}
 use Rattle.fish_rule.specs.World.{World, body, high}
 use Rattle.fish_rule.specs.declared.close.ReadLog.{ReadLog}
 use Rattle.fish_rule.specs.declared.view.Found.{Found}
@@ -43,9 +43,9 @@ module _ (v : View) (s : Stands v) (alone : IsAlone v) where
 
   -- so each linked place is of a published record
   linked_published : (b p : ℕ) (h : Linked v.about s.moment.dir s.moment.log s.moment.views b p)
-      → (t : Spot v.about s.moment s.rule h.line h.entry) × (s.moment.dir t.number ≢ 0)
+      → (t : RecordAt v.about s.moment s.rule h.line h.entry) × (s.moment.dir t.number ≢ 0)
   linked_published b p h =
-      let t = spot v.about s.moment s.rule h.line h.entry h.shows in (
+      let t = record_at v.about s.moment s.rule h.line h.entry h.shows in (
         t,
         ⊎_elim (λ (set_ : s.moment.dir t.number ≢ 0). set_)
             (λ (f : (s.moment.dir t.number ≡ 0) × IsFlier s.moment t.number h.entry).
@@ -84,8 +84,8 @@ module _ (v : View) (s : Stands v) (alone : IsAlone v) where
     head_is settled b x more h =
         let w : World = s.moment in
         let r = s.rule in
-        let reached = all_among (λ z. z.place ≤ w.head z.bucket) _ v.learned.tops
-        (r.chained s.seat v s.at).tops h.top in
+        let reached = all_among (λ z. z.place ≤ w.head z.bucket) _ v.learned.least_heads
+        (r.chained s.seat v s.at).least_heads h.top in
         let g = h.gap in
         let far = g.1 in
         ⊎_elim (λ (e : w.head b ≡ first_head v.about b). at_first reached e)
@@ -171,7 +171,7 @@ closes v tail read settled base version heads s alone is_tail h far are base_is 
         first = λ n line above below begins. (let c = upto.covers n above (omega arith) in (
           c.start,
           c.among,
-          c.page ∙ ap Rattle.fish_rule.specs.Closing.page_of (sym (line_at v s n c.line c.has) ∙ begins),
+          c.page ∙ ap Rattle.fish_rule.specs.ClosedLog.page_of (sym (line_at v s n c.line c.has) ∙ begins),
           c.upto,
         ));
       };

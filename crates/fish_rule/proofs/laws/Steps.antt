@@ -8,7 +8,7 @@ use Rattle.fish_rule.proofs.basics.FoundRegions.{head_known, lines_found, region
 use Rattle.fish_rule.proofs.basics.Flights.{flight_is}
 use Rattle.fish_rule.specs.Parts.{Fits}
 use Rattle.fish_rule.specs.Facts.{IsFound, IsKnown}
-use Rattle.fish_rule.specs.Reading.{CanLook, CanRead}
+use Rattle.fish_rule.specs.LoadSteps.{CanLookAt, CanReadWord}
 use Rattle.fish_rule.specs.Table.{Stands}
 use Rattle.fish_rule.specs.Views.{Among}
 use Rattle.fish_rule.specs.World.{World, slots}
@@ -57,7 +57,7 @@ flight_law key v f about s is =
     })
 
 -- the number that a pass may look at has a directory word
-pub look_law : (k : Key) (v : View) (n : ℕ) → v.about ≡ k → Stands v → CanLook v n → (k.number ≤ n)
+pub look_law : (k : Key) (v : View) (n : ℕ) → v.about ≡ k → Stands v → CanLookAt v n → (k.number ≤ n)
     × (n - k.number < slots k) × (n < 268435456)
 look_law k v n about s can =
     let w : World = s.moment in
@@ -71,7 +71,7 @@ look_law k v n about s can =
     (above, omega arith, omega arith)
 
 -- the word that a pass may read is within the log
-pub read_law : (k : Key) (v : View) (f : Found) (i : ℕ) → v.about ≡ k → Stands v → CanRead v f i
+pub read_law : (k : Key) (v : View) (f : Found) (i : ℕ) → v.about ≡ k → Stands v → CanReadWord v f i
     → (k.line ≤ f.line) × (f.line + f.lines ≤ k.end) × (i < f.lines * 4)
 read_law key v f i about s can =
     let k : Key = v.about in

@@ -6,8 +6,8 @@ use Rattle.std.proofs.Common.{◌≡◌, ℕ, ◌-◌, ◌<◌, ◌≤◌, List,
 use Rattle.fish_rule.proofs.classes.Allowed.{unmade_within}
 use Rattle.fish_rule.proofs.steps.DefineWord.{unmade_here}
 use Rattle.fish_rule.proofs.steps.LoadRegistry.{lasts_there, lasting_within}
-use Rattle.fish_rule.specs.Entering.{CanDefine, CanLoadRegistry}
-use Rattle.fish_rule.specs.Registry.{KnowsDefinitions, KnowsRow, definitions_at, drafted, row_at, version_in}
+use Rattle.fish_rule.specs.RegistrySteps.{CanDefineWord, CanLoadRegistry}
+use Rattle.fish_rule.specs.Registry.{KnowsDefinitions, KnowsRow, definitions_at, main_word, row_at, version_in}
 use Rattle.fish_rule.proofs.basics.RegistryWords.{length_grows}
 use Rattle.std.proofs.lemmas.List.{length-map}
 use Rattle.fish_catalog.specs.Listing.{IsListing, listed_of}
@@ -27,7 +27,7 @@ registry_law k v p about s can = lasting_within v.about s.moment s.rule p
     (lasts_there v.about s.moment s.rule s.seat v s.at refl p can)
 
 -- and so is one that may be stored
-pub define_law : (k : Key) (v : View) (p x : ℕ) → v.about ≡ k → Stands v → CanDefine v p x
+pub define_law : (k : Key) (v : View) (p x : ℕ) → v.about ≡ k → Stands v → CanDefineWord v p x
     → (2 ≤ p) × (p < heads_at)
 define_law k v p x about s can = unmade_within v.about s.moment p
     (unmade_here v.about s.moment s.rule s.seat v s.at can.main p x can)
@@ -51,7 +51,7 @@ main_law v s main =
 
 -- a row that is not made has no boundary, as the control pass knows
 pub unset_law : (v : View) → Stands v → v.lane ≡ 1 → (id i : ℕ) → length v.rows ≤ id → id < 256 → i < 2
-    → drafted v.draft (row_at id i) ≡ 0
+    → main_word v.main_words (row_at id i) ≡ 0
 unset_law v s main id i more few bound =
     let its = (s.rule.registry.each s.seat v s.at).main main in
     let size : length (definitions_at v.about s.moment.registry (version_in s.moment.registry)) ≡ length v.rows =

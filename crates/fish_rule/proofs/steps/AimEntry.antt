@@ -15,13 +15,13 @@ use Rattle.fish_rule.proofs.basics.Regions.{starts_above}
 use Rattle.fish_rule.proofs.basics.Flights.{one_flight, flight_is}
 use Rattle.fish_rule.proofs.classes.OwnWords.{Becomes, write_kept, write_lasts}
 use Rattle.fish_rule.proofs.basics.Worlds.{world-log}
-use Rattle.fish_rule.specs.Linking.{CanAim, HasBody, after_aim, own_place, aimed_at}
+use Rattle.fish_rule.specs.ChainSteps.{CanAimEntry, HasBody, after_aim_entry, own_place, aimed_at}
 use Rattle.fish_rule.specs.Regions.{IsRecord, kind_of}
 use Rattle.fish_layout.proofs.Clearing.{cleared_head, cleared_same}
-use Rattle.fish_rule.specs.Told.{told_aim}
+use Rattle.fish_rule.specs.Told.{told_aim_entry}
 use Rattle.fish_rule.specs.Parts.{InFlight}
 use Rattle.fish_rule.specs.Rule.{Final, Rule}
-use Rattle.fish_rule.specs.Steps.{ticked}
+use Rattle.fish_rule.specs.SpaceSteps.{ticked}
 use Rattle.fish_rule.specs.Table.{Ruled, Sat, Stands}
 use Rattle.fish_rule.specs.World.{World, body, log_at, log_size, put, world}
 use Rattle.fish_rule.specs.declared.view.Flight.{Flight}
@@ -35,7 +35,7 @@ pub body_record : (v : View) (f : Flight) → HasBody v f → IsRecord v.lane f.
 body_record v f h = (h.keyed.0, h.keyed.1.record_of)
 
 module _ (k : Key) (w : World) (r : Rule k w) (id : ℕ) (v : View) (at : get_elem? w.views id ≡ some v)
-    (f : Flight) (can : CanAim v f) where
+    (f : Flight) (can : CanAimEntry v f) where
   own : InFlight k w.count w.dir w.log r.start r.lane_of v.lane f
   own = flight_is k w r id v at f can.flying
 
@@ -100,17 +100,17 @@ module _ (k : Key) (w : World) (r : Rule k w) (id : ℕ) (v : View) (at : get_el
 
     -- the world afterwards
     abbrev pub aimed : World
-    aimed = record w { log = put w.log (own_place f) x; views = set w.views id (after_aim v f x) }
+    aimed = record w { log = put w.log (own_place f) x; views = set w.views id (after_aim_entry v f x) }
 
     -- an aim keeps the rule
-    pub aim_kept : Rule k aimed
-    aim_kept = write_kept k w r id v at f can.flying (entry_at f.linked) x (set f.words (entry_at f.linked) x)
+    pub aim_entry_kept : Rule k aimed
+    aim_entry_kept = write_kept k w r id v at f can.flying (entry_at f.linked) x (set f.words (entry_at f.linked) x)
         (ticked v.clock) becomes
 
     -- and all that lasts
-    pub aim_lasts : Final k r.start aim_kept.start r.lane_of aim_kept.lane_of w aimed
-    unfolding aim_kept
-    aim_lasts = write_lasts k w r id v at f can.flying (entry_at f.linked) x
+    pub aim_entry_lasts : Final k r.start aim_entry_kept.start r.lane_of aim_entry_kept.lane_of w aimed
+    unfolding aim_entry_kept
+    aim_entry_lasts = write_lasts k w r id v at f can.flying (entry_at f.linked) x
         (set f.words (entry_at f.linked) x) (ticked v.clock) becomes
 
   -- the place is within the log's words
@@ -128,24 +128,24 @@ module _ (k : Key) (w : World) (r : Rule k w) (id : ℕ) (v : View) (at : get_el
       (omega arith, omega arith)
 
 -- the table allows it
-pub aim_allowed : (given k : Key) → given ≡ k → (size id : ℕ) (me : Sat) (f : Flight) (i x : ℕ)
-    → me.0.about ≡ k → CanAim me.0 f → i ≡ log_at k + (own_place f - k.line * 4)
-    → Allows (Ruled given) size id me i (λ _. x) (λ _. told_aim (step size i x 0 none) me x)
-aim_allowed given k same size id me f i x about can is =
-    allowed given k same size id me i (λ _. x) (λ _. told_aim (step size i x 0 none) me x) (λ ws vs wide r at.
+pub aim_entry_allowed : (given k : Key) → given ≡ k → (size id : ℕ) (me : Sat) (f : Flight) (i x : ℕ)
+    → me.0.about ≡ k → CanAimEntry me.0 f → i ≡ log_at k + (own_place f - k.line * 4)
+    → Allows (Ruled given) size id me i (λ _. x) (λ _. told_aim_entry (step size i x 0 none) me x)
+aim_entry_allowed given k same size id me f i x about can is =
+    allowed given k same size id me i (λ _. x) (λ _. told_aim_entry (step size i x 0 none) me x) (λ ws vs wide r at.
     let w : World = world k ws vs in
-    let v' : View = after_aim me.0 f x in
+    let v' : View = after_aim_entry me.0 f x in
     let within = own_within k w r id me.0 at f can in
-    let kept = aim_kept k w r id me.0 at f can x in
+    let kept = aim_entry_kept k w r id me.0 at f can x in
     let moved = world-log k ws vs (set vs id v') (own_place f) i x within.0 within.1 is wide in (
       v',
       subst (Rule k) (sym moved) kept,
       λ g flying.
           let e : f ≡ g = one_flight f g (sym can.flying ∙ flying) in
           record {
-            view = ap (λ (z : Flight). after_aim me.0 z x) e;
+            view = ap (λ (z : Flight). after_aim_entry me.0 z x) e;
             held = refl;
-            stands = subst (λ (z : Flight). Stands (after_aim me.0 z x)) e
+            stands = subst (λ (z : Flight). Stands (after_aim_entry me.0 z x)) e
                 (stands k _ id v' kept about (there vs id me.0 v' at));
           },
     ))

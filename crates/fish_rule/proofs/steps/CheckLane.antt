@@ -6,7 +6,7 @@ use mathlib.Core.Option.{some, none}
 use Rattle.std.proofs.Math.ListN.{get_elem?}
 use Rattle.fish_layout.specs.Cleared.{choose}
 use Rattle.fish_rule.proofs.classes.Loads.{learn_final, learns, still_chained}
-use Rattle.fish_rule.specs.Bounding.{IsLane, after_check, checked_after, with_lane}
+use Rattle.fish_rule.specs.BoundarySteps.{IsLane, after_check_lane, checked_after, with_lane}
 use Rattle.fish_rule.specs.Epochs.{epoch_word, IsAtMost, Stays}
 use Rattle.fish_rule.specs.Registry.{epoch_at, version_in}
 use Rattle.fish_rule.specs.Rounds.{IsRound, IsSince, Waits}
@@ -19,9 +19,9 @@ use Rattle.fish_rule.specs.declared.view.Round.{Round}
 use Rattle.fish_rule.specs.declared.view.View.{View}
 use Rattle.atomic_table.specs.Table.{Allows, step}
 use Rattle.fish_rule.proofs.classes.Allowed.{allowed, loaded_words, stands, there, word_at}
-use Rattle.fish_rule.specs.Reading.{IsAlone}
+use Rattle.fish_rule.specs.LoadSteps.{IsAlone}
 use Rattle.fish_rule.specs.Table.{Ruled, Sat, Told}
-use Rattle.fish_rule.specs.Told.{ToldCheck}
+use Rattle.fish_rule.specs.Told.{ToldCheckLane}
 use Rattle.fish_rule.specs.Views.{Among}
 
 -- a lane whose epoch word is 0 is confirmed at no version
@@ -43,7 +43,7 @@ module _ (k : Key) (w : World) (r : Rule k w) (id : ℕ) (v : View) (at : get_el
 
     -- the view afterwards
     abbrev checker : View
-    checker = after_check v l word
+    checker = after_check_lane v l word
 
     -- the lane is confirmed at no version before the registration's, where its word tells so
     cleared_lane : (o : Round) → (word ≡ 0) ⊎ (o.version < word) → IsSince o.version (r.state l)
@@ -81,10 +81,10 @@ module _ (k : Key) (w : World) (r : Rule k w) (id : ℕ) (v : View) (at : get_el
         by (no ne) (no more) = h
 
     -- a load of an epoch word keeps the rule, and all that lasts
-    pub checks_last : (s : Rule k (record w { views = set w.views id checker }))
+    pub check_lane_lasts : (s : Rule k (record w { views = set w.views id checker }))
         × Final k r.start s.start r.lane_of s.lane_of w (record w { views = set w.views id checker })
     unfolding learns
-    checks_last =
+    check_lane_lasts =
         let stays = r.registry.each id v at in (
           learns k w r id v at v.learned v.tail checker.round checker.clock (r.tails id v at) (r.facts id v at)
               (r.opens id v at) (r.floors id v at) (still_chained k w r id v at v.learned v.tail checker.round checker.clock)
@@ -114,19 +114,19 @@ state_out k count g state version_of v l lane alone outside stays =
     pick tied (no ne) = tied.1 ne
 
 -- a load of a lane's epoch word
-pub check_allowed : (given k : Key) → given ≡ k → (size id : ℕ) (me : Sat) (l i : ℕ) → me.0.about ≡ k → IsLane l
-    → i ≡ epoch_at l → Allows (Ruled given) size id me i (λ n. n) (ToldCheck (step size i 0 0 none) me)
-check_allowed given k same size id me l i about lane is =
-    allowed given k same size id me i (λ n. n) (ToldCheck (step size i 0 0 none) me) (λ ws vs wide r at.
+pub check_lane_allowed : (given k : Key) → given ≡ k → (size id : ℕ) (me : Sat) (l i : ℕ) → me.0.about ≡ k → IsLane l
+    → i ≡ epoch_at l → Allows (Ruled given) size id me i (λ n. n) (ToldCheckLane (step size i 0 0 none) me)
+check_lane_allowed given k same size id me l i about lane is =
+    allowed given k same size id me i (λ n. n) (ToldCheckLane (step size i 0 0 none) me) (λ ws vs wide r at.
     let w : World = world k ws vs in
     let x : ℕ = get_or ws i 0 in
     let some_ = lane.some in
     let few = lane.few in
     let word : x ≡ w.registry (epoch_at l) = word_at k ws vs i (omega arith) (omega arith) ∙ ap w.registry is in
-    let v' : View = after_check me.0 l x in
+    let v' : View = after_check_lane me.0 l x in
     let kept : Rule k (record w { views = set vs id v' }) =
-    subst (λ (z : ℕ). Rule k (record w { views = set vs id (after_check me.0 l z) })) (sym word)
-    (checks_last k w r id me.0 at l lane).0 in
+    subst (λ (z : ℕ). Rule k (record w { views = set vs id (after_check_lane me.0 l z) })) (sym word)
+    (check_lane_lasts k w r id me.0 at l lane).0 in
     let back : i - 3 ≡ l = omega arith in
     let most = few_word (r.state l) (version_in w.registry) (r.registry.epochs.past l lane.some lane.few) in
     let epoch = r.registry.epochs.words l lane.some lane.few in
@@ -134,7 +134,7 @@ check_allowed given k same size id me l i about lane is =
       v',
       loaded_words k ws (set vs id v') i kept,
       record {
-        told = subst (λ (z : ℕ). Told me (after_check me.0 z x) (v', me.1)) (sym back)
+        told = subst (λ (z : ℕ). Told me (after_check_lane me.0 z x) (v', me.1)) (sym back)
             (record { view = refl; held = refl; stands = stands k _ id v' kept about (there vs id me.0 v' at) });
         few = omega arith;
         alone = λ alone outside. word ∙ epoch

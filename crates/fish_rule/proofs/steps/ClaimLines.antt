@@ -1,53 +1,46 @@
 -- `claim_lines`: the tail moves on by one number and so many lines, and the region between is in flight.
-use Rattle.std.proofs.Common.{◌≡◌, ◌≢◌, ℕ, ◌+◌, ◌*◌, ◌<◌, ◌≤◌, suc, length, set, sym, refl, ap, ◌∙◌, subst, arith, Some}
-use Rattle.std.proofs.Common.{None, Option, ◌-◌, ◌%◌, ◌^◌, get_or}
+-- All of it stands over one world, one view and one step: cut in two, each lemma would name them all again.
+use Rattle.std.proofs.Common.{◌≡◌, ◌≢◌, ℕ, ◌+◌, ◌*◌, ◌<◌, ◌≤◌, suc, set, sym, refl, ap, ◌∙◌, subst, arith, Some, None}
+use Rattle.std.proofs.Common.{Option, ◌-◌, ◌%◌, ◌^◌, get_or}
 use Rattle.std.proofs.Math.Decide.{ℕ_discrete, dec_lt}
 use mathlib.Core.Option.{some, none}
 use Rattle.std.proofs.Math.ListN.{get_elem?}
 use Rattle.atomic_table.proofs.Lists.{set_here}
-use Rattle.fish_rule.proofs.basics.Lists.{all_map, each_set, has_own, no_flight, only_main, pairs_set, seats_kept}
-use Rattle.fish_rule.proofs.basics.Lists.{within_list}
+use Rattle.fish_rule.proofs.basics.Lists.{each_set, has_own, no_flight, only_main, pairs_set, seats_kept, within_list}
 use Rattle.fish_rule.proofs.classes.OtherViews.{flight_there}
 use Rattle.fish_rule.proofs.classes.FactsStay.{chained_later, facts_later, finished_later, flight_later, keyed_kept}
 use Rattle.fish_rule.proofs.classes.FactsStay.{owns_later, shut_later}
-use Rattle.fish_rule.proofs.basics.Bodies.{published, high-pack, low-pack, tail_is}
+use Rattle.fish_rule.proofs.basics.Bodies.{high-pack, low-pack, tail_is}
 use Rattle.fish_rule.proofs.classes.ChainsStay.{chains_set, links_set}
 use Rattle.fish_rule.proofs.basics.Quotas.{quotas_lower}
+use Rattle.fish_rule.proofs.steps.ClaimVersions.{boundaries, keyed_old, old_version, others_carry, stays_on}
+use Rattle.fish_rule.proofs.steps.ClaimVersions.{version_of', versions}
 use Rattle.fish_rule.proofs.basics.Worlds.{put-else, put-here, world-tail}
 use Rattle.fish_rule.specs.Chains.{Chained, LinksAt}
 use Rattle.fish_rule.specs.Parts.{Flies, InFlight, Limit, MayOverflow, Regions, Space, quotas}
 use Rattle.fish_rule.proofs.classes.OpensStay.{opens_later}
 use Rattle.fish_rule.specs.Facts.{Facts, IsStoredBy}
 use Rattle.fish_rule.specs.Rule.{Final, Rule}
-use Rattle.fish_rule.specs.Steps.{CanClaim, after_claim, flight_at}
+use Rattle.fish_rule.specs.SpaceSteps.{CanClaimLines, after_claim_lines, flight_at}
 use Rattle.fish_rule.specs.Views.{Has, HasFlight, IsFlightOf, IsOver}
 use Rattle.fish_rule.specs.World.{World, high, put, low, slots, world}
 use Rattle.fish_rule.specs.declared.view.Flight.{Flight}
 use Rattle.fish_rule.specs.declared.view.Key.{Key}
-use Rattle.fish_rule.specs.declared.view.Kind.TheVariants.{Stored}
 use Rattle.fish_rule.specs.declared.view.View.{View}
 use Rattle.fish_rule.proofs.basics.RegistryWords.{endures_same}
-use Rattle.fish_layout.specs.Cleared.{body_of}
-use Rattle.fish_rule.specs.Boundaries.{Boundaries, IsOpenIn, IsUnended, Lists}
-use Rattle.fish_rule.specs.Epochs.{Carries, IsAtMost, Registry, Stays, Versions}
-use Rattle.fish_rule.specs.Keys.{IsKeyed}
-use Rattle.fish_rule.specs.Regions.{code}
-use Rattle.fish_rule.specs.Registry.{AreActiveAt, HasBoundary, definitions_at, version_in}
-use Rattle.fish_rule.specs.Rounds.{IsSince, Waits}
-use Rattle.fish_rule.specs.declared.view.Round.{Round}
-use Rattle.fish_rule.specs.declared.view.Epoch.{Epoch}
+use Rattle.fish_rule.specs.Epochs.{Registry}
 use Rattle.fish_rule.specs.declared.view.Epoch.TheVariants.{Confirmed}
 use Rattle.atomic_table.specs.Table.{Allows, step}
 use Rattle.fish_rule.proofs.basics.Regions.{few_lines, few_numbers, few_slots}
 use Rattle.fish_rule.specs.Table.{Ruled, Sat, Stands}
-use Rattle.fish_rule.specs.Told.{ToldClaim}
+use Rattle.fish_rule.specs.Told.{ToldClaimLines}
 use Rattle.fish_rule.proofs.classes.Allowed.{allowed, stands, there}
 
 module _ (k : Key) (w : World) (r : Rule k w) (id : ℕ) (v : View) (at : get_elem? w.views id ≡ some v) (m : ℕ)
-    (can : CanClaim v) (some_lines : 0 < m) (few_lines : m ≤ 18625) where
+    (can : CanClaimLines v) (some_lines : 0 < m) (few_lines : m ≤ 18625) where
   -- the view afterwards
   abbrev pub claimer : View
-  claimer = after_claim v m w.count w.line
+  claimer = after_claim_lines v m w.count w.line
 
   -- the world afterwards
   abbrev pub claimed : World
@@ -61,10 +54,6 @@ module _ (k : Key) (w : World) (r : Rule k w) (id : ℕ) (v : View) (at : get_el
   abbrev lane_of' : ℕ → ℕ
   lane_of' = put r.lane_of w.count v.lane
 
-  -- and is of the version at which the pass is entered
-  abbrev version_of' : ℕ → ℕ
-  version_of' = put r.version_of w.count can.version
-
   -- up to the old count nothing moves
   old_start : (n : ℕ) → n ≤ w.count → start' n ≡ r.start n
   old_start n h = put-else r.start (suc w.count) (w.line + m) n (λ e. omega arith)
@@ -77,9 +66,6 @@ module _ (k : Key) (w : World) (r : Rule k w) (id : ℕ) (v : View) (at : get_el
 
   old_lane : (n : ℕ) → n < w.count → lane_of' n ≡ r.lane_of n
   old_lane n h = put-else r.lane_of w.count v.lane n (λ e. omega arith)
-
-  old_version : (n : ℕ) → n < w.count → version_of' n ≡ r.version_of n
-  old_version n h = put-else r.version_of w.count can.version n (λ e. omega arith)
 
   -- no entry was linked
   none_linked : (a c : ℕ) → LinksAt a c v.flight → LinksAt a c claimer.flight
@@ -247,154 +233,20 @@ module _ (k : Key) (w : World) (r : Rule k w) (id : ℕ) (v : View) (at : get_el
 
   -- a record that some pass stored was published before
   stored_old : (l n : ℕ) → IsStoredBy k (suc w.count) w.dir lane_of' l n → (n < w.count) × (w.dir n ≢ 0)
-  stored_old l n h = pick (dec_lt n w.count)
-    where
-      set_ : w.dir n ≢ 0
-      set_ = published (w.dir n) Stored h.stored
+  stored_old l n h = keyed_old k w r id v at can n h.stored
 
-      pick : Dec (n < w.count) → (n < w.count) × (w.dir n ≢ 0)
-      pick (yes less) = (less, set_)
-      pick (no more) = absurd (set_ (r.space.dir_beyond n (omega arith)))
-
-  -- the same of any
-  keyed_old : (n : ℕ) → high (w.dir n) ≡ code Stored → (n < w.count) × (w.dir n ≢ 0)
-  keyed_old n stored = pick (dec_lt n w.count)
-    where
-      set_ : w.dir n ≢ 0
-      set_ = published (w.dir n) Stored stored
-
-      pick : Dec (n < w.count) → (n < w.count) × (w.dir n ≢ 0)
-      pick (yes less) = (less, set_)
-      pick (no more) = absurd (set_ (r.space.dir_beyond n (omega arith)))
-
-  -- the version is one that the registry has reached
-  version_reached : can.version ≤ version_in w.registry
-  version_reached =
-      let has = has_own w.views id v at can.live r.seats in
-      let state : r.state v.lane ≡ v.epoch = ((r.registry.each id v at).tied v.lane has).0 refl in
-      subst (IsAtMost (version_in w.registry)) (state ∙ can.entered)
-      (r.registry.epochs.past v.lane has.0 has.1)
-
-  versions : Versions k (suc w.count) w.registry version_of'
-  versions =
-      let h = r.registry.versions in
-      record {
-        from = h.from;
-        few = h.few;
-        since = λ n above below. first n above below (ℕ_discrete n w.count);
-        upto = λ n above below. pick n above below (ℕ_discrete n w.count);
-        listings = h.listings;
-        operations = h.operations;
-        opened = h.opened;
-        rows = h.rows;
-      }
-    where
-      mine : k.version ≤ can.version
-      mine = subst (IsSince k.version) can.entered (r.registry.each id v at).since
-
-      first : (n : ℕ) → k.number ≤ n → n < suc w.count → Dec (n ≡ w.count) → k.version ≤ version_of' n
-      first n above below (yes e) = subst (λ (z : ℕ). k.version ≤ z)
-          (sym (ap version_of' e ∙ put-here r.version_of w.count can.version)) mine
-      first n above below (no ne) = (let less : n < w.count = omega arith in
-          subst (λ (z : ℕ). k.version ≤ z) (sym (old_version n less)) (r.registry.versions.since n above less))
-
-      pick : (n : ℕ) → k.number ≤ n → n < suc w.count → Dec (n ≡ w.count) → version_of' n ≤ version_in w.registry
-      pick n above below (yes e) = subst (λ (z : ℕ). z ≤ version_in w.registry)
-          (sym (ap version_of' e ∙ put-here r.version_of w.count can.version)) version_reached
-      pick n above below (no ne) = (let less : n < w.count = omega arith in
-          subst (λ (z : ℕ). z ≤ version_in w.registry) (sym (old_version n less))
-          (r.registry.versions.upto n above less))
-
-  -- the records in flight keep their versions
-  others_carry : (lane : ℕ) (epoch : Epoch) (o : Option Flight)
-      → Flies k w.count w.dir w.log r.start r.lane_of lane o → Carries k w.registry r.version_of lane epoch o
-      → Carries k w.registry version_of' lane epoch o
-  others_carry lane epoch None flies h = h
-  others_carry lane epoch (Some g) flies h =
-      let e : version_of' g.number ≡ r.version_of g.number = old_version g.number flies.below in
-      record {
-        entered = h.entered ∙ ap Confirmed (sym e);
-        keyed = λ some_. subst (λ (z : ℕ). IsKeyed (AreActiveAt k w.registry) z lane g.number g.lines
-            (body_of g.words)) (sym e) (h.keyed some_);
-      }
-
-  -- the lane is as far entered as the pass
-  own_state : r.state v.lane ≡ Confirmed can.version
-  own_state = ((r.registry.each id v at).tied v.lane (has_own w.views id v at can.live r.seats)).0 refl ∙ can.entered
-
-  -- where an index has begun, the new record's version has the definition
-  boundaries : Boundaries k (suc w.count) w.registry r.state version_of'
-  boundaries =
-      let h = r.registry.boundaries in
-      record {
-        unmade = h.unmade;
-        in_order = h.in_order;
-        claimed = λ n i x few bound is. (let a = h.claimed n i x few bound is in omega arith);
-        entered = h.entered;
-        begun = λ n from m few is above after below. begins n from m few is above after below (ℕ_discrete m w.count);
-        unended = λ n to m few is above before below.
-            (let most = h.claimed n 1 to few (omega arith) is in
-            let less : m < w.count = omega arith in
-            subst (λ (z : ℕ). IsOpenIn (definitions_at k w.registry z) n) (sym (old_version m less))
-            (h.unended n to m few is above before less));
-        running = h.running;
-      }
-    where
-      begins : (n from m : ℕ) → n < 256 → HasBoundary w.registry n 0 from → k.number ≤ m → from ≤ m
-          → m < suc w.count → Dec (m ≡ w.count) → n < length (definitions_at k w.registry (version_of' m))
-      begins n from m few is above after below (yes e) =
-          let has = has_own w.views id v at can.live r.seats in
-          let lists = subst (Lists k w.registry n) own_state
-          (r.registry.boundaries.entered n from v.lane few is has.0 has.1) in
-          subst (λ (z : ℕ). n < length (definitions_at k w.registry z))
-          (sym (ap version_of' e ∙ put-here r.version_of w.count can.version)) lists
-      begins n from m few is above after below (no ne) = (let less : m < w.count = omega arith in
-          subst (λ (z : ℕ). n < length (definitions_at k w.registry z)) (sym (old_version m less))
-          (r.registry.boundaries.begun n from m few is above after less))
-
-  -- a registration waits on: once all lanes were looked at, the new record has at least its version
-  waiting : (lane : ℕ) (o : Option Round) → Waits k w.count w.registry r.state r.version_of lane o
-      → Waits k (suc w.count) w.registry r.state version_of' lane o
-  waiting lane None h = h
-  waiting lane (Some o) h = record {
-    main = h.main;
-    few = h.few;
-    reached = h.reached;
-    listed = h.listed;
-    unset = h.unset;
-    clear = h.clear;
-    bound = λ n is. let b = h.bound n is in
-        record {
-          all = b.all;
-          within = (let a = b.within in omega arith);
-          since = λ m above after below. (after_bound n is m above after below (ℕ_discrete m w.count));
-        };
-  }
-    where
-      after_bound : (n : ℕ) → o.bound ≡ Some n → (m : ℕ) → k.number ≤ m → n ≤ m → m < suc w.count → Dec (m ≡ w.count)
-          → o.version ≤ version_of' m
-      after_bound n is m above after below (yes e) =
-          let has = has_own w.views id v at can.live r.seats in
-          let since = subst (IsSince o.version) own_state
-          (h.clear v.lane has.0 has.1 ((h.bound n is).all v.lane has.0 has.1)) in
-          subst (λ (z : ℕ). o.version ≤ z) (sym (ap version_of' e ∙ put-here r.version_of w.count can.version)) since
-      after_bound n is m above after below (no ne) = (let less : m < w.count = omega arith in
-          subst (λ (z : ℕ). o.version ≤ z) (sym (old_version m less)) ((h.bound n is).since m above after less))
-
-  -- what a pass knows of the registry is so
-  stays_on : (u : View) → Stays k w.count w.registry r.state r.version_of u
-      → Stays k (suc w.count) w.registry r.state version_of' u
-  stays_on u h = assumption (h, all_map (IsUnended k w.count w.registry r.version_of) (IsUnended k (suc w.count) w.registry version_of') (λ x m. record { within = (let a = m.within in omega arith); running = λ n above below. (let a = m.within in let less : n < w.count = omega arith in subst (λ (z : ℕ). IsOpenIn (definitions_at k w.registry z) x.id) (sym (old_version n less)) (m.running n above below)); }) u.learned.unended h.unended, waiting u.lane u.round h.waits)
-
-  registry : Registry k (suc w.count) w.registry r.state version_of' (set w.views id claimer)
+  -- the registry's part afterwards
+  registry : Registry k (suc w.count) w.registry r.state (version_of' k w r id v at can)
+      (set w.views id claimer)
   registry = record {
     epochs = r.registry.epochs;
-    versions = versions;
-    boundaries = boundaries;
-    each = each_set _ w.views id claimer (λ j u ne at_u. stays_on u (r.registry.each j u at_u))
-        (stays_on v (r.registry.each id v at));
+    versions = versions k w r id v at can;
+    boundaries = boundaries k w r id v at can;
+    each = each_set _ w.views id claimer (λ j u ne at_u. stays_on k w r id v at can u (r.registry.each j u at_u))
+        (stays_on k w r id v at can v (r.registry.each id v at));
     flights = each_set _ w.views id claimer
-        (λ j u ne at_u. others_carry u.lane u.epoch u.flight (r.space.flights j u at_u) (r.registry.flights j u at_u))
+        (λ j u ne at_u. others_carry k w r id v at can u.lane u.epoch u.flight (r.space.flights j u at_u)
+        (r.registry.flights j u at_u))
         (record {
           entered = can.entered ∙ ap Confirmed (sym (put-here r.version_of w.count can.version));
           keyed = λ some_. absurd (omega arith);
@@ -405,28 +257,22 @@ module _ (k : Key) (w : World) (r : Rule k w) (id : ℕ) (v : View) (at : get_el
   claim_facts : Facts k (suc w.count) w.dir w.log start' claimer.learned
   claim_facts =
       let h = facts_later k w claimed r.start start' r.lane_of lane_of' claim_final v.learned (r.facts id v at) in
-      record {
-        counted = omega arith;
-        found = h.found;
-        known = h.known;
-        records = h.records;
-        gaps = h.gaps;
-        labels = h.labels;
-      }
+      let counted : suc w.count ≤ suc w.count = omega arith in
+      assumption (h, counted)
 
   claim_chained : Chained k w.dir w.log (set w.views id claimer) w.head claimer.learned
   claim_chained =
       let h = chained_later k w claimed r.start start' r.lane_of lane_of' claim_final v.learned (r.chained id v at) in
-      record { nodes = h.nodes; lows = h.lows; tops = h.tops }
+      record { nodes = h.nodes; least_previous = h.least_previous; least_heads = h.least_heads }
 
   -- a claim keeps the rule
-  pub claim_kept : Rule k claimed
-  claim_kept =
+  pub claim_lines_kept : Rule k claimed
+  claim_lines_kept =
       let lim = limit_of (dec_lt k.end (w.line + m)) in
       record {
         start = start';
         lane_of = lane_of';
-        version_of = version_of';
+        version_of = version_of' k w r id v at can;
         quota = lim.0;
         state = r.state;
         key_fits = r.key_fits;
@@ -454,8 +300,9 @@ module _ (k : Key) (w : World) (r : Rule k w) (id : ℕ) (v : View) (at : get_el
             (r.facts j u at_u))
             claim_facts;
         registry = registry;
-        keyed = keyed_kept k w claimed r.start start' r.lane_of lane_of' claim_final r.version_of version_of'
-            old_version r.keyed (λ n below stored. keyed_old n stored);
+        keyed = keyed_kept k w claimed r.start start' r.lane_of lane_of' claim_final r.version_of
+            (version_of' k w r id v at can) (old_version k w r id v at can) r.keyed
+            (λ n below stored. keyed_old k w r id v at can n stored);
         shuts = each_set _ w.views id claimer
             (λ j u ne at_u. shut_later k w claimed r.start start' r.lane_of lane_of' claim_final u.shut
             (r.shuts j u at_u))
@@ -466,23 +313,23 @@ module _ (k : Key) (w : World) (r : Rule k w) (id : ℕ) (v : View) (at : get_el
       }
 
   -- and all that lasts
-  pub claim_lasts : Final k r.start claim_kept.start r.lane_of claim_kept.lane_of w claimed
-  unfolding claim_kept
-  claim_lasts = claim_final
+  pub claim_lines_lasts : Final k r.start claim_lines_kept.start r.lane_of claim_lines_kept.lane_of w claimed
+  unfolding claim_lines_kept
+  claim_lines_lasts = claim_final
 
 -- a fetch-and-add of one number and so many lines
-pub claim_allowed : (given k : Key) → given ≡ k → (size id : ℕ) (me : Sat) (x m : ℕ) → me.0.about ≡ k
-    → CanClaim me.0 → 0 < m → m ≤ 18625 → x ≡ 68719476736 + m
-    → Allows (Ruled given) size id me 0 (λ n. (n + x) % 2 ^ 64) (ToldClaim (step size 0 x 0 none) me)
-claim_allowed given k same size id me x m about can some_lines few is =
-    allowed given k same size id me 0 (λ n. (n + x) % 2 ^ 64) (ToldClaim (step size 0 x 0 none) me) (λ ws vs wide r at.
+pub claim_lines_allowed : (given k : Key) → given ≡ k → (size id : ℕ) (me : Sat) (x m : ℕ) → me.0.about ≡ k
+    → CanClaimLines me.0 → 0 < m → m ≤ 18625 → x ≡ 68719476736 + m
+    → Allows (Ruled given) size id me 0 (λ n. (n + x) % 2 ^ 64) (ToldClaimLines (step size 0 x 0 none) me)
+claim_lines_allowed given k same size id me x m about can some_lines few is =
+    allowed given k same size id me 0 (λ n. (n + x) % 2 ^ 64) (ToldClaimLines (step size 0 x 0 none) me) (λ ws vs wide r at.
     let w : World = world k ws vs in
     let found : ℕ = get_or ws 0 0 in
-    let kept = claim_kept k w r id me.0 at m can some_lines few in
+    let kept = claim_lines_kept k w r id me.0 at m can some_lines few in
     let room = few_lines k _ kept in
     let numbers = few_numbers k _ kept in
     let parts : low found + high found * 68719476736 ≡ found = tail_is found in
-    let v' : View = after_claim me.0 m w.count w.line in
+    let v' : View = after_claim_lines me.0 m w.count w.line in
     let sum : (found + x) % 2 ^ 64 ≡ (w.line + m) + suc w.count * 68719476736 =
     Rattle.std.proofs.Math.Nat.mod-eq_of_lt (omega arith) ∙ (omega arith) in
     let new : ℕ = (found + x) % 2 ^ 64 in
@@ -500,9 +347,9 @@ claim_allowed given k same size id me x m about can some_lines few is =
       subst (Rule k) (sym moved) kept,
       record {
         told = record {
-          view = ap (λ (z : ℕ). after_claim me.0 z w.count w.line) (sym lines);
+          view = ap (λ (z : ℕ). after_claim_lines me.0 z w.count w.line) (sym lines);
           held = refl;
-          stands = subst (λ (z : ℕ). Stands (after_claim me.0 z w.count w.line)) (sym lines)
+          stands = subst (λ (z : ℕ). Stands (after_claim_lines me.0 z w.count w.line)) (sym lines)
               (stands k _ id v' kept about (there vs id me.0 v' at));
         };
         counted = (r.facts id me.0 at).counted;

@@ -8,7 +8,7 @@ use Rattle.fish_catalog.specs.declared.listed.Listed.{Listed}
 use Rattle.fish_rule.proofs.classes.BoundariesStay.{boundaries_later, lists_later, waits_later}
 use Rattle.fish_rule.proofs.classes.MainStores.{its, store_endures, store_still, stores}
 use Rattle.fish_rule.proofs.basics.Worlds.{put-else, put-here, world-registry}
-use Rattle.fish_rule.specs.Entering.{CanDefine, IsNextWord, after_define}
+use Rattle.fish_rule.specs.RegistrySteps.{CanDefineWord, IsNextWord, after_define_word}
 use Rattle.fish_rule.specs.Epochs.{IsUnmade}
 use Rattle.fish_rule.specs.Registry.{Endures, IsLasting, definitions_at, op_at, row_at, version_in}
 use Rattle.fish_rule.specs.Rule.{Final, Rule}
@@ -18,11 +18,11 @@ use Rattle.fish_rule.specs.declared.view.View.{View}
 use Rattle.atomic_table.specs.Table.{Allows, step}
 use Rattle.fish_rule.proofs.classes.Allowed.{allowed, stands, there, unmade_within}
 use Rattle.fish_rule.specs.Table.{Ruled, Sat}
-use Rattle.fish_rule.specs.Told.{told_define}
+use Rattle.fish_rule.specs.Told.{told_define_word}
 
 module _ (k : Key) (w : World) (r : Rule k w) (id : ℕ) (v : View) (at : get_elem? w.views id ≡ some v)
     (main : v.lane ≡ 1) where
-  module _ (p x : ℕ) (can : CanDefine v p x) where
+  module _ (p x : ℕ) (can : CanDefineWord v p x) where
     -- nothing is made of the word
     pub unmade_here : IsUnmade k w.registry p
     unmade_here = by can.next
@@ -79,13 +79,13 @@ module _ (k : Key) (w : World) (r : Rule k w) (id : ℕ) (v : View) (at : get_el
 
     -- the view afterwards
     abbrev definer : View
-    definer = after_define v p x
+    definer = after_define_word v p x
 
     -- a definition keeps the rule, and all that lasts
-    pub defines_last : (s : Rule k (record w { registry = put w.registry p x; views = set w.views id definer }))
+    pub define_word_lasts : (s : Rule k (record w { registry = put w.registry p x; views = set w.views id definer }))
         × Final k r.start s.start r.lane_of s.lane_of w
         (record w { registry = put w.registry p x; views = set w.views id definer })
-    defines_last = stores k w r id v at main p x far_here made_else v.round
+    define_word_lasts = stores k w r id v at main p x far_here made_else v.round
         (boundaries_later k w.registry _ define_endures w.count r.state r.state r.version_of define_still boundary_same
         (λ n i l few is above below. lists_later k w.registry _ define_endures n (r.state l)
         (r.registry.epochs.past l above below) (r.registry.boundaries.entered n i l few is above below))
@@ -95,14 +95,14 @@ module _ (k : Key) (w : World) (r : Rule k w) (id : ℕ) (v : View) (at : get_el
         (r.registry.each id v at).waits)
 
 -- a store of a word of the next operation or row
-pub define_allowed : (given k : Key) → given ≡ k → (size id : ℕ) (me : Sat) (p x : ℕ) → me.0.about ≡ k
-    → CanDefine me.0 p x → Allows (Ruled given) size id me p (λ _. x) (λ _. told_define (step size p x 0 none) me x)
-define_allowed given k same size id me p x about can =
-    allowed given k same size id me p (λ _. x) (λ _. told_define (step size p x 0 none) me x) (λ ws vs wide r at.
+pub define_word_allowed : (given k : Key) → given ≡ k → (size id : ℕ) (me : Sat) (p x : ℕ) → me.0.about ≡ k
+    → CanDefineWord me.0 p x → Allows (Ruled given) size id me p (λ _. x) (λ _. told_define_word (step size p x 0 none) me x)
+define_word_allowed given k same size id me p x about can =
+    allowed given k same size id me p (λ _. x) (λ _. told_define_word (step size p x 0 none) me x) (λ ws vs wide r at.
     let w : World = world k ws vs in
-    let v' : View = after_define me.0 p x in
+    let v' : View = after_define_word me.0 p x in
     let within = unmade_within k w p (unmade_here k w r id me.0 at can.main p x can) in
-    let kept = (defines_last k w r id me.0 at can.main p x can).0 in
+    let kept = (define_word_lasts k w r id me.0 at can.main p x can).0 in
     let moved = world-registry k ws vs (set vs id v') p x within.0 within.1 wide in (
       v',
       subst (Rule k) (sym moved) kept,

@@ -15,9 +15,9 @@ use Rattle.fish_rule.specs.declared.view.Learned.{Learned}
 use Rattle.fish_rule.specs.Parts.{MayOverflow}
 use Rattle.fish_rule.specs.Facts.{AreOpens, Facts, IsFound, IsKnown, IsRecorded, Owns}
 use Rattle.fish_rule.specs.Rule.{Final, Rule}
-use Rattle.fish_rule.specs.Seating.{CanJoin, join_both, spent, without}
+use Rattle.fish_rule.specs.SeatSteps.{CanJoinPass, join_both, spent, without}
 use Rattle.fish_rule.specs.Views.{Among, Each, Has}
-use Rattle.fish_rule.specs.Walks.{IsGap, IsLabel}
+use Rattle.fish_rule.specs.Gaps.{IsGap, IsLabel}
 use Rattle.fish_rule.specs.World.{World, world}
 use Rattle.fish_rule.specs.declared.view.Key.{Key}
 use Rattle.fish_rule.specs.declared.view.View.{View}
@@ -31,7 +31,7 @@ use Rattle.fish_rule.specs.Table.{Ruled}
 
 module _ (k : Key) (w : World) (r : Rule k w) (id other : ℕ) (v u : View) (at : get_elem? w.views id ≡ some v)
     (ne : other ≢ id)
-    (at_u : get_elem? w.views other ≡ some u) (can : CanJoin v u) where
+    (at_u : get_elem? w.views other ≡ some u) (can : CanJoinPass v u) where
   -- the control pass's view after it
   abbrev both : View
   both = join_both v u
@@ -162,8 +162,8 @@ module _ (k : Key) (w : World) (r : Rule k w) (id other : ℕ) (v u : View) (at 
       let b = join_chained u.learned (r.chained other u at_u) in
       record {
         nodes = all_append _ v.learned.nodes u.learned.nodes a.nodes b.nodes;
-        lows = all_append _ v.learned.lows u.learned.lows a.lows b.lows;
-        tops = all_append _ v.learned.tops u.learned.tops a.tops b.tops;
+        least_previous = all_append _ v.learned.least_previous u.learned.least_previous a.least_previous b.least_previous;
+        least_heads = all_append _ v.learned.least_heads u.learned.least_heads a.least_heads b.least_heads;
       }
 
   -- the lane that came back is out, and what either knew of the registry is so
@@ -241,7 +241,7 @@ module _ (k : Key) (w : World) (r : Rule k w) (id other : ℕ) (v u : View) (at 
     settling = r.settling;
     chains = chains_views k w r (set taken other spent) links_join back_join;
     chained = each_join _ (λ j x at_x. join_chained x.learned (r.chained j x at_x)) both_chained
-        (record { nodes = tt; lows = tt; tops = tt });
+        (record { nodes = tt; least_previous = tt; least_heads = tt });
     floors = each_join _ r.floors (let a = r.floors id v at in let b = r.floors other u at_u in omega arith)
         (omega arith);
     own = each_join _ r.own join_owns (record {
@@ -284,7 +284,7 @@ module _ (k : Key) (w : World) (r : Rule k w) (id other : ℕ) (v u : View) (at 
   }
 
 -- and a join wherever the two views do
-pub joins : (k : Key) (id : ℕ) (v : View) (other : ℕ) (u : View) → CanJoin v u
+pub joins : (k : Key) (id : ℕ) (v : View) (other : ℕ) (u : View) → CanJoinPass v u
     → Joins (Ruled k) id v other u (join_both v u) spent
 joins k id v other u can s ruled at away at_u = record {
   wide = ruled.wide;

@@ -3,7 +3,7 @@ use Rattle.std.proofs.Common.{◌≡◌, ℕ, ◌≤◌, set, sym, subst, arith,
 use mathlib.Core.Option.{some, none}
 use Rattle.std.proofs.Math.ListN.{get_elem?}
 use Rattle.fish_rule.proofs.classes.Loads.{learn_final, learns, still_chained}
-use Rattle.fish_rule.specs.Bounding.{CanBound, after_bound}
+use Rattle.fish_rule.specs.BoundarySteps.{CanLoadBound, after_load_bound}
 use Rattle.fish_rule.specs.Rounds.{IsRound, Waits}
 use Rattle.fish_rule.specs.Rule.{Final, Rule}
 use Rattle.fish_rule.specs.World.{World, high, low, world}
@@ -15,13 +15,13 @@ use Rattle.std.proofs.lemmas.Option.{same_Some}
 use Rattle.fish_rule.proofs.classes.Allowed.{allowed, loaded_words, stands, there}
 use Rattle.fish_rule.proofs.steps.LoadTail.{end_counted}
 use Rattle.fish_rule.specs.Table.{Ruled, Sat, Told}
-use Rattle.fish_rule.specs.Told.{ToldBound}
+use Rattle.fish_rule.specs.Told.{ToldLoadBound}
 
 module _ (k : Key) (w : World) (r : Rule k w) (id : ℕ) (v : View) (at : get_elem? w.views id ≡ some v) where
-  module _ (o : Round) (x : ℕ) (can : CanBound v o) (count : high x ≡ w.count) (line : low x ≡ w.line) where
+  module _ (o : Round) (x : ℕ) (can : CanLoadBound v o) (count : high x ≡ w.count) (line : low x ≡ w.line) where
     -- the view afterwards
     abbrev bounder : View
-    bounder = after_bound v o x
+    bounder = after_load_bound v o x
 
     -- nothing is claimed from the count on
     bound_waits : Waits k w.count w.registry r.state r.version_of v.lane bounder.round
@@ -42,34 +42,34 @@ module _ (k : Key) (w : World) (r : Rule k w) (id : ℕ) (v : View) (at : get_el
         }
 
     -- a load of the tail behind the last lane keeps the rule, and all that lasts
-    pub bounds_last : (s : Rule k (record w { views = set w.views id bounder }))
+    pub load_bound_lasts : (s : Rule k (record w { views = set w.views id bounder }))
         × Final k r.start s.start r.lane_of s.lane_of w (record w { views = set w.views id bounder })
     unfolding learns
-    bounds_last =
+    load_bound_lasts =
         let h = r.facts id v at in
         let stays = r.registry.each id v at in
         let still = still_chained k w r id v at bounder.learned bounder.tail bounder.round bounder.clock in (
           learns k w r id v at bounder.learned bounder.tail bounder.round bounder.clock (λ main all. (count, line))
-              (assumption (h, subst (λ (z : ℕ). z ≤ w.count) (sym count) (omega arith))) (r.opens id v at) (r.floors id v at) (record { nodes = still.nodes; lows = still.lows; tops = still.tops })
+              (assumption (h, subst (λ (z : ℕ). z ≤ w.count) (sym count) (omega arith))) (r.opens id v at) (r.floors id v at) (record { nodes = still.nodes; least_previous = still.least_previous; least_heads = still.least_heads })
               (assumption (stays, bound_waits)),
           learn_final k w r id v at bounder.learned bounder.tail bounder.round bounder.clock,
         )
 
 -- a load of the tail behind the last lane
-pub bound_allowed : (given k : Key) → given ≡ k → (size id : ℕ) (me : Sat) (o : Round) → me.0.about ≡ k
-    → CanBound me.0 o → Allows (Ruled given) size id me 0 (λ n. n) (ToldBound (step size 0 0 0 none) me)
-bound_allowed given k same size id me o about can =
-    allowed given k same size id me 0 (λ n. n) (ToldBound (step size 0 0 0 none) me) (λ ws vs wide r at.
+pub load_bound_allowed : (given k : Key) → given ≡ k → (size id : ℕ) (me : Sat) (o : Round) → me.0.about ≡ k
+    → CanLoadBound me.0 o → Allows (Ruled given) size id me 0 (λ n. n) (ToldLoadBound (step size 0 0 0 none) me)
+load_bound_allowed given k same size id me o about can =
+    allowed given k same size id me 0 (λ n. n) (ToldLoadBound (step size 0 0 0 none) me) (λ ws vs wide r at.
     let w : World = world k ws vs in
     let x : ℕ = get_or ws 0 0 in
-    let v' : View = after_bound me.0 o x in
-    let kept = (bounds_last k w r id me.0 at o x can refl refl).0 in (
+    let v' : View = after_load_bound me.0 o x in
+    let kept = (load_bound_lasts k w r id me.0 at o x can refl refl).0 in (
       v',
       loaded_words k ws (set vs id v') 0 kept,
       record {
         told = λ p waits.
             let e : o ≡ p = same_Some o p (sym can.waits ∙ waits) in
-            subst (λ (z : Round). Told me (after_bound me.0 z x) (v', me.1)) e
+            subst (λ (z : Round). Told me (after_load_bound me.0 z x) (v', me.1)) e
             (record { view = refl; held = refl; stands = stands k _ id v' kept about (there vs id me.0 v' at) });
         counted = end_counted k w r id me.0 at x refl;
       },

@@ -4,7 +4,7 @@ use mathlib.Core.Option.{some, none}
 use Rattle.std.proofs.Math.ListN.{get_elem?}
 use Rattle.fish_rule.proofs.classes.Loads.{learn_final, learns, still_chained}
 use Rattle.fish_rule.specs.Boundaries.{IsUnended}
-use Rattle.fish_rule.specs.Bounding.{CanLoadBoundary, after_boundary, with_boundary, with_end}
+use Rattle.fish_rule.specs.BoundarySteps.{CanLoadBoundary, after_load_boundary, with_boundary, with_end}
 use Rattle.fish_rule.specs.Facts.{Facts}
 use Rattle.fish_rule.specs.Registry.{IsRegistered, row_at}
 use Rattle.fish_rule.specs.Rule.{Final, Rule}
@@ -18,7 +18,7 @@ use Rattle.fish_rule.proofs.classes.Allowed.{allowed, loaded_words, stands, ther
 use Rattle.fish_rule.proofs.basics.Lists.{all_among}
 use Rattle.fish_rule.proofs.basics.Regions.{few_numbers}
 use Rattle.fish_rule.specs.Table.{Ruled, Sat, Told}
-use Rattle.fish_rule.specs.Told.{ToldBoundary}
+use Rattle.fish_rule.specs.Told.{ToldLoadBoundary}
 
 module _ (k : Key) (w : World) (r : Rule k w) (id : ℕ) (v : View) (at : get_elem? w.views id ≡ some v) where
   -- what was learned is so with other facts about the registry
@@ -30,7 +30,7 @@ module _ (k : Key) (w : World) (r : Rule k w) (id : ℕ) (v : View) (at : get_el
   module _ (n i : ℕ) (can : CanLoadBoundary n i) where
     -- the view afterwards
     abbrev seer : View
-    seer = after_boundary v n i (w.registry (row_at n i))
+    seer = after_load_boundary v n i (w.registry (row_at n i))
 
     -- a boundary that is set lasts
     boundary_read : (x : ℕ) → w.registry (row_at n i) ≡ x
@@ -74,41 +74,41 @@ module _ (k : Key) (w : World) (r : Rule k w) (id : ℕ) (v : View) (at : get_el
         )
 
     -- a load of a boundary keeps the rule, and all that lasts
-    pub boundaries_last : (s : Rule k (record w { views = set w.views id seer }))
+    pub load_boundary_lasts : (s : Rule k (record w { views = set w.views id seer }))
         × Final k r.start s.start r.lane_of s.lane_of w (record w { views = set w.views id seer })
     unfolding learns
-    boundaries_last =
+    load_boundary_lasts =
         let stays = r.registry.each id v at in
         let still = still_chained k w r id v at seer.learned v.tail v.round seer.clock in (
           learns k w r id v at seer.learned v.tail v.round seer.clock (r.tails id v at)
               (same_facts seer.learned refl) (r.opens id v at) (r.floors id v at)
-              (record { nodes = still.nodes; lows = still.lows; tops = still.tops })
+              (record { nodes = still.nodes; least_previous = still.least_previous; least_heads = still.least_heads })
               (assumption (stays, boundary_read (w.registry (row_at n i)) refl, end_read i (w.registry (row_at n i)) refl refl)),
           learn_final k w r id v at seer.learned v.tail v.round seer.clock,
         )
 
 -- a load of a boundary
-pub boundary_allowed : (given k : Key) → given ≡ k → (size id : ℕ) (me : Sat) (n i p : ℕ) → me.0.about ≡ k
+pub load_boundary_allowed : (given k : Key) → given ≡ k → (size id : ℕ) (me : Sat) (n i p : ℕ) → me.0.about ≡ k
     → CanLoadBoundary n i → p ≡ row_at n i
-    → Allows (Ruled given) size id me p (λ n. n) (ToldBoundary (step size p 0 0 none) me)
-boundary_allowed given k same size id me n i p about can is =
-    allowed given k same size id me p (λ n. n) (ToldBoundary (step size p 0 0 none) me) (λ ws vs wide r at.
+    → Allows (Ruled given) size id me p (λ n. n) (ToldLoadBoundary (step size p 0 0 none) me)
+load_boundary_allowed given k same size id me n i p about can is =
+    allowed given k same size id me p (λ n. n) (ToldLoadBoundary (step size p 0 0 none) me) (λ ws vs wide r at.
     let w : World = world k ws vs in
     let x : ℕ = get_or ws p 0 in
     let few = can.few in
     let bound = can.bound in
     let word : x ≡ w.registry (row_at n i) = word_at k ws vs p (omega arith) (omega arith) ∙ ap w.registry is in
-    let v' : View = after_boundary me.0 n i x in
+    let v' : View = after_load_boundary me.0 n i x in
     let kept : Rule k (record w { views = set vs id v' }) =
-    subst (λ (z : ℕ). Rule k (record w { views = set vs id (after_boundary me.0 n i z) })) (sym word)
-    (boundaries_last k w r id me.0 at n i can).0 in (
+    subst (λ (z : ℕ). Rule k (record w { views = set vs id (after_load_boundary me.0 n i z) })) (sym word)
+    (load_boundary_lasts k w r id me.0 at n i can).0 in (
       v',
       loaded_words k ws (set vs id v') p kept,
       record {
         told = λ m j less small at_.
             let a : n ≡ m = omega arith in
             let b : i ≡ j = omega arith in
-            subst (λ (z : ℕ × ℕ). Told me (after_boundary me.0 z.0 z.1 x) (v', me.1)) (λ d. (a d, b d))
+            subst (λ (z : ℕ × ℕ). Told me (after_load_boundary me.0 z.0 z.1 x) (v', me.1)) (λ d. (a d, b d))
             (record { view = refl; held = refl; stands = stands k _ id v' kept about (there vs id me.0 v' at) });
         few = small_word x (w.registry (row_at n i)) word (λ y e.
             let most = r.registry.boundaries.claimed n i y can.few can.bound e in

@@ -6,15 +6,15 @@ use Rattle.atomic_table.specs.Table.{Allows, step}
 use Rattle.fish_rule.proofs.classes.Allowed.{allowed, loaded_words, stands, there}
 use Rattle.fish_rule.proofs.basics.Lists.{all_among}
 use Rattle.fish_rule.proofs.basics.Gaps.{gap_there}
-use Rattle.fish_rule.specs.Walks.{IsGap}
+use Rattle.fish_rule.specs.Gaps.{IsGap}
 use Rattle.fish_rule.proofs.classes.Loads.{learn_final, learns, still_chained}
 use Rattle.fish_rule.proofs.basics.Worlds.{area-in}
-use Rattle.fish_rule.specs.Linking.{CanLoadHead, TopRises, after_head, head_seen, gap}
-use Rattle.fish_rule.specs.Steps.{loaded}
+use Rattle.fish_rule.specs.ChainSteps.{CanLoadHead, HeadRises, after_load_head, head_seen, gap}
+use Rattle.fish_rule.specs.SpaceSteps.{loaded}
 use Rattle.fish_rule.specs.Parts.{first_head}
 use Rattle.fish_rule.specs.Rule.{Final, Rule}
 use Rattle.fish_rule.specs.Table.{Ruled, Sat, Told}
-use Rattle.fish_rule.specs.Told.{ToldHead, bucket_at}
+use Rattle.fish_rule.specs.Told.{ToldLoadHead, bucket_at}
 use Rattle.fish_rule.specs.World.{World, heads_at, world}
 use Rattle.fish_rule.specs.declared.view.Clock.{Clock}
 use Rattle.fish_rule.specs.declared.view.Key.{Key}
@@ -23,48 +23,48 @@ use Rattle.fish_rule.proofs.basics.FirstHeads.{node_joins, first_else, linked_el
 
 module _ (k : Key) (w : World) (r : Rule k w) (id : ℕ) (v : View) (at : get_elem? w.views id ≡ some v) (b : ℕ) where
   -- the view afterwards, with some clock
-  abbrev pub top_seer : Clock → View
-  top_seer clock = head_seen v b (w.head b) clock
+  abbrev pub head_seer : Clock → View
+  head_seer clock = head_seen v b (w.head b) clock
 
   -- what is known of the head has been reached
-  pub head_rises : TopRises v b (w.head b)
-  head_rises t among is = (let h = all_among (λ x. x.place ≤ w.head x.bucket) t v.learned.tops
-      (r.chained id v at).tops among in subst (λ (z : ℕ). t.place ≤ w.head z) is h)
+  pub head_rises : HeadRises v b (w.head b)
+  head_rises t among is = (let h = all_among (λ x. x.place ≤ w.head x.bucket) t v.learned.least_heads
+      (r.chained id v at).least_heads among in subst (λ (z : ℕ). t.place ≤ w.head z) is h)
 
   -- no linked entry is above the head
-  top_gap : IsGap k w.count w.dir w.log r.start (gap b (v.about.end * 4) (w.head b) v.learned)
-  top_gap = gap_there k w r b v.learned.settled (v.about.end * 4) (w.head b) (r.floors id v at)
+  head_gap : IsGap k w.count w.dir w.log r.start (gap b (v.about.end * 4) (w.head b) v.learned)
+  head_gap = gap_there k w r b v.learned.settled (v.about.end * 4) (w.head b) (r.floors id v at)
       (λ p linked under. (r.chains b).highest p linked)
 
   module _ (clock : Clock) (about : v.about ≡ k) where
     -- a step that sees a head keeps the rule
-    pub head_kept : Rule k (record w { views = set w.views id (top_seer clock) })
-    head_kept =
+    pub load_head_kept : Rule k (record w { views = set w.views id (head_seer clock) })
+    load_head_kept =
         let h = r.facts id v at in
-        let still = still_chained k w r id v at (top_seer clock).learned v.tail v.round clock in
-        let final = learn_final k w r id v at (top_seer clock).learned v.tail v.round clock in
-        learns k w r id v at (top_seer clock).learned v.tail v.round clock (r.tails id v at)
-        (assumption (h, top_gap))
+        let still = still_chained k w r id v at (head_seer clock).learned v.tail v.round clock in
+        let final = learn_final k w r id v at (head_seer clock).learned v.tail v.round clock in
+        learns k w r id v at (head_seer clock).learned v.tail v.round clock (r.tails id v at)
+        (assumption (h, head_gap))
         (r.opens id v at) (r.floors id v at) (record {
           nodes = node_joins _ v.about b (w.head b) v.learned.nodes still.nodes
               (λ more. final.links b (w.head b) (linked_else k w r b (w.head b) (r.chains b).some
               (subst (λ (z : Key). z.line * 4 < w.head b) about more)));
-          lows = still.lows;
-          tops = (omega arith, still.tops);
+          least_previous = still.least_previous;
+          least_heads = (omega arith, still.least_heads);
         }) (r.registry.each id v at)
 
     -- and all that lasts
-    pub head_lasts : Final k r.start head_kept.start r.lane_of head_kept.lane_of w
-        (record w { views = set w.views id (top_seer clock) })
-    unfolding head_kept learns
-    head_lasts = learn_final k w r id v at (top_seer clock).learned v.tail v.round clock
+    pub load_head_lasts : Final k r.start load_head_kept.start r.lane_of load_head_kept.lane_of w
+        (record w { views = set w.views id (head_seer clock) })
+    unfolding load_head_kept learns
+    load_head_lasts = learn_final k w r id v at (head_seer clock).learned v.tail v.round clock
 
 -- a load of a head
-pub head_allowed : (given k : Key) → given ≡ k → (size id : ℕ) (me : Sat) (b i : ℕ) → me.0.about ≡ k
+pub load_head_allowed : (given k : Key) → given ≡ k → (size id : ℕ) (me : Sat) (b i : ℕ) → me.0.about ≡ k
     → CanLoadHead me.0 b → i ≡ heads_at + b
-    → Allows (Ruled given) size id me i (λ n. n) (ToldHead (step size i 0 0 none) me)
-head_allowed given k same size id me b i about can is =
-    allowed given k same size id me i (λ n. n) (ToldHead (step size i 0 0 none) me) (λ ws vs wide r at.
+    → Allows (Ruled given) size id me i (λ n. n) (ToldLoadHead (step size i 0 0 none) me)
+load_head_allowed given k same size id me b i about can is =
+    allowed given k same size id me i (λ n. n) (ToldLoadHead (step size i 0 0 none) me) (λ ws vs wide r at.
     let w : World = world k ws vs in
     let x : ℕ = get_or ws i 0 in
     let below : b < k.buckets = subst (λ (z : Key). b < z.buckets) about can.below in
@@ -73,16 +73,16 @@ head_allowed given k same size id me b i about can is =
     ∙ ap (λ (z : ℕ). get_or ws (heads_at + z) 0) minus
     ∙ sym (area-in ws heads_at 0 k.buckets b (omega arith) (omega arith)) in
     let index : bucket_at i ≡ b = omega arith in
-    let v' : View = after_head me.0 b x in
+    let v' : View = after_load_head me.0 b x in
     let kept : Rule k (record w { views = set vs id v' }) =
-    subst (λ (z : ℕ). Rule k (record w { views = set vs id (after_head me.0 b z) })) (sym word)
-    (head_kept k w r id me.0 at b (loaded me.0.clock) about) in (
+    subst (λ (z : ℕ). Rule k (record w { views = set vs id (after_load_head me.0 b z) })) (sym word)
+    (load_head_kept k w r id me.0 at b (loaded me.0.clock) about) in (
       v',
       loaded_words k ws (set vs id v') i kept,
       record {
-        told = subst (λ (z : ℕ). Told me (after_head me.0 z x) (v', me.1)) (sym index)
+        told = subst (λ (z : ℕ). Told me (after_load_head me.0 z x) (v', me.1)) (sym index)
             (record { view = refl; held = refl; stands = stands k _ id v' kept about (there vs id me.0 v' at) });
-        rises = subst (λ (z : ℕ × ℕ). TopRises me.0 z.0 z.1) (λ j. (sym index j, sym word j))
+        rises = subst (λ (z : ℕ × ℕ). HeadRises me.0 z.0 z.1) (λ j. (sym index j, sym word j))
             (head_rises k w r id me.0 at b);
         first = subst (λ (z : ℕ). x ≤ me.0.about.line * 4 → x ≡ first_head me.0.about z) (sym index)
             (subst (λ (z : Key). x ≤ z.line * 4 → x ≡ first_head z b) (sym about)

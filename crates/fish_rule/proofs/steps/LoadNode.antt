@@ -6,15 +6,15 @@ use Rattle.atomic_table.specs.Table.{Allows, step}
 use Rattle.fish_rule.proofs.classes.Allowed.{allowed, loaded_words, stands, there}
 use Rattle.fish_rule.proofs.basics.Gaps.{label_there, second_inside}
 use Rattle.fish_rule.proofs.classes.Loads.{learn_final, learns, still_chained}
-use Rattle.fish_rule.proofs.basics.Places.{lies_inside, spot}
+use Rattle.fish_rule.proofs.basics.Places.{lies_inside, record_at}
 use Rattle.fish_rule.proofs.basics.Regions.{starts_above}
 use Rattle.fish_rule.proofs.basics.Bodies.{kind-inside}
 use Rattle.fish_rule.proofs.basics.Worlds.{area-in}
 use Rattle.fish_rule.specs.Chains.{Linked}
-use Rattle.fish_rule.specs.Linking.{HasNode, after_node}
+use Rattle.fish_rule.specs.ChainSteps.{HasNode, after_load_node}
 use Rattle.fish_rule.specs.Rule.{Final, Rule}
 use Rattle.fish_rule.specs.Table.{Ruled, Sat, Told}
-use Rattle.fish_rule.specs.Told.{place_at, told_node}
+use Rattle.fish_rule.specs.Told.{place_at, told_load_node}
 use Rattle.fish_rule.specs.World.{World, log_at, log_size, world}
 use Rattle.fish_rule.specs.declared.view.Key.{Key}
 use Rattle.fish_rule.specs.declared.view.Kind.TheVariants.{Mark, Stored}
@@ -25,29 +25,29 @@ module _ (k : Key) (w : World) (r : Rule k w) (id : ℕ) (v : View) (at : get_el
     (b p : ℕ) (node : HasNode v b p) where
   -- the view afterwards
   abbrev pub node_seer : View
-  node_seer = after_node v p (w.log (suc p))
+  node_seer = after_load_node v p (w.log (suc p))
 
   -- a load of a second word keeps the rule
-  pub node_kept : Rule k (record w { views = set w.views id node_seer })
-  node_kept =
+  pub load_node_kept : Rule k (record w { views = set w.views id node_seer })
+  load_node_kept =
       let h = r.facts id v at in
       let still = still_chained k w r id v at node_seer.learned v.tail v.round node_seer.clock in
       learns k w r id v at node_seer.learned v.tail v.round node_seer.clock (r.tails id v at)
       (assumption (h, label_there k w r b p v.learned.settled (r.floors id v at) (node_linked k w r id v at b p node)))
       (r.opens id v at) (r.floors id v at)
-      (record { nodes = still.nodes; lows = still.lows; tops = still.tops }) (r.registry.each id v at)
+      (record { nodes = still.nodes; least_previous = still.least_previous; least_heads = still.least_heads }) (r.registry.each id v at)
 
   -- and all that lasts
-  pub node_lasts : Final k r.start node_kept.start r.lane_of node_kept.lane_of w
+  pub load_node_lasts : Final k r.start load_node_kept.start r.lane_of load_node_kept.lane_of w
       (record w { views = set w.views id node_seer })
-  unfolding node_kept learns
-  node_lasts = learn_final k w r id v at node_seer.learned v.tail v.round node_seer.clock
+  unfolding load_node_kept learns
+  load_node_lasts = learn_final k w r id v at node_seer.learned v.tail v.round node_seer.clock
 
 -- a linked place's second word is within the log's words
 pub second_within : (k : Key) (w : World) (r : Rule k w) (b p : ℕ) → Linked k w.dir w.log w.views b p
     → (k.line * 4 ≤ suc p) × (suc p < k.line * 4 + log_size k)
 second_within k w r b p h =
-    let s = spot k w r h.line h.entry h.shows in
+    let s = record_at k w r h.line h.entry h.shows in
     let inside = second_inside k w r b p h s in
     let from = starts_above k w.count w.line r.start r.space.regions s.number s.above
     (let q = s.below in omega arith) in
@@ -57,23 +57,23 @@ second_within k w r b p h =
     (omega arith, omega arith)
 
 -- a load of the second word of a linked entry
-pub node_allowed : (given k : Key) → given ≡ k → (size id : ℕ) (me : Sat) (b p i : ℕ) → me.0.about ≡ k
+pub load_node_allowed : (given k : Key) → given ≡ k → (size id : ℕ) (me : Sat) (b p i : ℕ) → me.0.about ≡ k
     → HasNode me.0 b p → i ≡ log_at k + (suc p - k.line * 4)
-    → Allows (Ruled given) size id me i (λ n. n) (told_node (step size i 0 0 none) me)
-node_allowed given k same size id me b p i about node is =
-    allowed given k same size id me i (λ n. n) (told_node (step size i 0 0 none) me) (λ ws vs wide r at.
+    → Allows (Ruled given) size id me i (λ n. n) (told_load_node (step size i 0 0 none) me)
+load_node_allowed given k same size id me b p i about node is =
+    allowed given k same size id me i (λ n. n) (told_load_node (step size i 0 0 none) me) (λ ws vs wide r at.
     let w : World = world k ws vs in
     let x : ℕ = get_or ws i 0 in
     let within = second_within k w r b p (node_linked k w r id me.0 at b p node) in
     let word : x ≡ w.log (suc p) = ap (λ (z : ℕ). get_or ws z 0) is
     ∙ sym (area-in ws (log_at k) (k.line * 4) (log_size k) (suc p) within.0 within.1) in
     let index : place_at me.0.about i - 1 ≡ p = ap (λ (z : Key). place_at z i - 1) about ∙ (omega arith) in
-    let v' : View = after_node me.0 p x in
+    let v' : View = after_load_node me.0 p x in
     let kept : Rule k (record w { views = set vs id v' }) =
-    subst (λ (z : ℕ). Rule k (record w { views = set vs id (after_node me.0 p z) })) (sym word)
-    (node_kept k w r id me.0 at b p node) in (
+    subst (λ (z : ℕ). Rule k (record w { views = set vs id (after_load_node me.0 p z) })) (sym word)
+    (load_node_kept k w r id me.0 at b p node) in (
       v',
       loaded_words k ws (set vs id v') i kept,
-      subst (λ (z : ℕ). Told me (after_node me.0 z x) (v', me.1)) (sym index)
+      subst (λ (z : ℕ). Told me (after_load_node me.0 z x) (v', me.1)) (sym index)
           (record { view = refl; held = refl; stands = stands k _ id v' kept about (there vs id me.0 v' at) }),
     ))

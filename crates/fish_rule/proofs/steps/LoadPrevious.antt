@@ -6,19 +6,19 @@ use Rattle.atomic_table.specs.Table.{Allows, step}
 use Rattle.fish_rule.proofs.classes.Allowed.{allowed, loaded_words, stands, there}
 use Rattle.fish_rule.proofs.basics.Lists.{all_among}
 use Rattle.fish_rule.proofs.basics.Gaps.{gap_there}
-use Rattle.fish_rule.specs.Walks.{IsGap}
+use Rattle.fish_rule.specs.Gaps.{IsGap}
 use Rattle.fish_rule.proofs.classes.Loads.{learn_final, learns, still_chained}
-use Rattle.fish_rule.proofs.basics.Places.{lies_inside, spot}
+use Rattle.fish_rule.proofs.basics.Places.{lies_inside, record_at}
 use Rattle.fish_rule.proofs.basics.Regions.{starts_above}
 use Rattle.fish_rule.proofs.basics.Bodies.{kind-inside}
 use Rattle.fish_rule.proofs.basics.Worlds.{area-in}
-use Rattle.fish_rule.specs.Chains.{IsLow, Linked}
-use Rattle.fish_rule.specs.Linking.{HasNode, LowRises, after_previous, gap, previous_seen}
-use Rattle.fish_rule.specs.Steps.{loaded}
+use Rattle.fish_rule.specs.Chains.{IsLeastPrevious, Linked}
+use Rattle.fish_rule.specs.ChainSteps.{HasNode, PreviousRises, after_load_previous, gap, previous_seen}
+use Rattle.fish_rule.specs.SpaceSteps.{loaded}
 use Rattle.fish_rule.specs.Parts.{first_head}
 use Rattle.fish_rule.specs.Rule.{Final, Rule}
 use Rattle.fish_rule.specs.Table.{Ruled, Sat, Told}
-use Rattle.fish_rule.specs.Told.{ToldPrevious, place_at}
+use Rattle.fish_rule.specs.Told.{ToldLoadPrevious, place_at}
 use Rattle.fish_rule.specs.World.{World, log_at, log_size, world}
 use Rattle.fish_rule.specs.declared.view.Clock.{Clock}
 use Rattle.fish_rule.specs.declared.view.Key.{Key}
@@ -34,52 +34,52 @@ module _ (k : Key) (w : World) (r : Rule k w) (id : ℕ) (v : View) (at : get_el
       (r.chained id v at).nodes node
 
   -- the view afterwards, with some clock
-  abbrev pub low_seer : Clock → View
-  low_seer clock = previous_seen v b p (w.log p) clock
+  abbrev pub previous_seer : Clock → View
+  previous_seer clock = previous_seen v b p (w.log p) clock
 
   -- what is known of the first word has been reached
-  pub low_rises : LowRises v p (w.log p)
-  low_rises t among is = (let h = all_among (IsLow k w.dir w.log w.views) t v.learned.lows
-      (r.chained id v at).lows among in subst (λ (z : ℕ). t.value ≤ w.log z) is h.low)
+  pub previous_rises : PreviousRises v p (w.log p)
+  previous_rises t among is = (let h = all_among (IsLeastPrevious k w.dir w.log w.views) t v.learned.least_previous
+      (r.chained id v at).least_previous among in subst (λ (z : ℕ). t.value ≤ w.log z) is h.low)
 
   -- the first word is below its place
-  pub low_less : w.log p < p
-  low_less = ((r.chains b).next p node_linked).less
+  pub previous_less : w.log p < p
+  previous_less = ((r.chains b).next p node_linked).less
 
   -- no linked entry lies between the place and what its first word leads to
-  low_gap : IsGap k w.count w.dir w.log r.start (gap b p (w.log p) v.learned)
-  low_gap = gap_there k w r b v.learned.settled p (w.log p) (r.floors id v at)
+  previous_gap : IsGap k w.count w.dir w.log r.start (gap b p (w.log p) v.learned)
+  previous_gap = gap_there k w r b v.learned.settled p (w.log p) (r.floors id v at)
       (λ q linked under. ((r.chains b).next p node_linked).most q linked under)
 
   module _ (clock : Clock) (about : v.about ≡ k) where
     -- a step that sees a first word keeps the rule
-    pub previous_kept : Rule k (record w { views = set w.views id (low_seer clock) })
-    previous_kept =
+    pub load_previous_kept : Rule k (record w { views = set w.views id (previous_seer clock) })
+    load_previous_kept =
         let h = r.facts id v at in
-        let still = still_chained k w r id v at (low_seer clock).learned v.tail v.round clock in
-        let final = learn_final k w r id v at (low_seer clock).learned v.tail v.round clock in
+        let still = still_chained k w r id v at (previous_seer clock).learned v.tail v.round clock in
+        let final = learn_final k w r id v at (previous_seer clock).learned v.tail v.round clock in
         let next = (r.chains b).next p node_linked in
-        learns k w r id v at (low_seer clock).learned v.tail v.round clock (r.tails id v at)
-        (assumption (h, low_gap))
+        learns k w r id v at (previous_seer clock).learned v.tail v.round clock (r.tails id v at)
+        (assumption (h, previous_gap))
         (r.opens id v at) (r.floors id v at) (record {
           nodes = node_joins _ v.about b (w.log p) v.learned.nodes still.nodes
               (λ more. final.links b (w.log p) (linked_else k w r b (w.log p) next.is
               (subst (λ (z : Key). z.line * 4 < w.log p) about more)));
-          lows = (record { bucket = b; linked = final.links b p node_linked; low = omega arith }, still.lows);
-          tops = still.tops;
+          least_previous = (record { bucket = b; linked = final.links b p node_linked; low = omega arith }, still.least_previous);
+          least_heads = still.least_heads;
         }) (r.registry.each id v at)
 
     -- and all that lasts
-    pub previous_lasts : Final k r.start previous_kept.start r.lane_of previous_kept.lane_of w
-        (record w { views = set w.views id (low_seer clock) })
-    unfolding previous_kept learns
-    previous_lasts = learn_final k w r id v at (low_seer clock).learned v.tail v.round clock
+    pub load_previous_lasts : Final k r.start load_previous_kept.start r.lane_of load_previous_kept.lane_of w
+        (record w { views = set w.views id (previous_seer clock) })
+    unfolding load_previous_kept learns
+    load_previous_lasts = learn_final k w r id v at (previous_seer clock).learned v.tail v.round clock
 
 -- a linked place is within the log's words
 pub place_within : (k : Key) (w : World) (r : Rule k w) (b p : ℕ) → Linked k w.dir w.log w.views b p
     → (k.line * 4 ≤ p) × (p < k.line * 4 + log_size k)
 place_within k w r b p h =
-    let s = spot k w r h.line h.entry h.shows in
+    let s = record_at k w r h.line h.entry h.shows in
     let inside = lies_inside k w r b p h s in
     let from = starts_above k w.count w.line r.start r.space.regions s.number s.above
     (let q = s.below in omega arith) in
@@ -88,11 +88,11 @@ place_within k w r b p h =
     (omega arith, omega arith)
 
 -- a load of the first word of a linked entry
-pub previous_allowed : (given k : Key) → given ≡ k → (size id : ℕ) (me : Sat) (b p i : ℕ) → me.0.about ≡ k
+pub load_previous_allowed : (given k : Key) → given ≡ k → (size id : ℕ) (me : Sat) (b p i : ℕ) → me.0.about ≡ k
     → HasNode me.0 b p → i ≡ log_at k + (p - k.line * 4)
-    → Allows (Ruled given) size id me i (λ n. n) (ToldPrevious (step size i 0 0 none) me)
-previous_allowed given k same size id me b p i about node is =
-    allowed given k same size id me i (λ n. n) (ToldPrevious (step size i 0 0 none) me) (λ ws vs wide r at.
+    → Allows (Ruled given) size id me i (λ n. n) (ToldLoadPrevious (step size i 0 0 none) me)
+load_previous_allowed given k same size id me b p i about node is =
+    allowed given k same size id me i (λ n. n) (ToldLoadPrevious (step size i 0 0 none) me) (λ ws vs wide r at.
     let w : World = world k ws vs in
     let x : ℕ = get_or ws i 0 in
     let linked = node_linked k w r id me.0 at b p node in
@@ -100,20 +100,20 @@ previous_allowed given k same size id me b p i about node is =
     let word : x ≡ w.log p = ap (λ (z : ℕ). get_or ws z 0) is
     ∙ sym (area-in ws (log_at k) (k.line * 4) (log_size k) p within.0 within.1) in
     let index : place_at me.0.about i ≡ p = ap (λ (z : Key). place_at z i) about ∙ (omega arith) in
-    let v' : View = after_previous me.0 b p x in
+    let v' : View = after_load_previous me.0 b p x in
     let kept : Rule k (record w { views = set vs id v' }) =
-    subst (λ (z : ℕ). Rule k (record w { views = set vs id (after_previous me.0 b p z) })) (sym word)
-    (previous_kept k w r id me.0 at b p node (loaded me.0.clock) about) in
-    let less = low_less k w r id me.0 at b p node in (
+    subst (λ (z : ℕ). Rule k (record w { views = set vs id (after_load_previous me.0 b p z) })) (sym word)
+    (load_previous_kept k w r id me.0 at b p node (loaded me.0.clock) about) in
+    let less = previous_less k w r id me.0 at b p node in (
       v',
       loaded_words k ws (set vs id v') i kept,
       record {
         bucket = b;
         node = subst (HasNode me.0 b) (sym index) node;
-        told = subst (λ (z : ℕ). Told me (after_previous me.0 b z x) (v', me.1)) (sym index)
+        told = subst (λ (z : ℕ). Told me (after_load_previous me.0 b z x) (v', me.1)) (sym index)
             (record { view = refl; held = refl; stands = stands k _ id v' kept about (there vs id me.0 v' at) });
-        rises = subst (λ (z : ℕ × ℕ). LowRises me.0 z.0 z.1) (λ j. (sym index j, sym word j))
-            (low_rises k w r id me.0 at b p node);
+        rises = subst (λ (z : ℕ × ℕ). PreviousRises me.0 z.0 z.1) (λ j. (sym index j, sym word j))
+            (previous_rises k w r id me.0 at b p node);
         less = subst (λ (z : ℕ × ℕ). z.0 < z.1) (λ j. (sym word j, sym index j)) less;
         first = subst (λ (z : Key). x ≤ z.line * 4 → x ≡ first_head z b) (sym about)
             (subst (λ (z : ℕ). z ≤ k.line * 4 → z ≡ first_head k b) (sym word)

@@ -4,7 +4,7 @@ use Rattle.std.proofs.Common.{slice_get}
 use mathlib.Core.Option.{some, none}
 use Rattle.std.proofs.Math.ListN.{get_elem?}
 use Rattle.fish_rule.proofs.basics.RegistryWords.{has_read, length_grows}
-use Rattle.fish_rule.specs.Entering.{CanLoadRegistry, after_registry}
+use Rattle.fish_rule.specs.RegistrySteps.{CanLoadRegistry, after_load_registry}
 use Rattle.fish_rule.specs.Registry.{IsLasting, definitions_at, version_in}
 use Rattle.fish_rule.specs.Rule.{Final, Rule}
 use Rattle.fish_rule.proofs.classes.Loads.{learn_final, learns, still_chained}
@@ -15,7 +15,7 @@ use Rattle.fish_rule.proofs.steps.LoadVersion.{version_rises}
 use Rattle.atomic_table.specs.Table.{Allows, step}
 use Rattle.fish_rule.proofs.classes.Allowed.{allowed, loaded_words, stands, there, word_at}
 use Rattle.fish_rule.specs.Table.{Ruled, Sat}
-use Rattle.fish_rule.specs.Told.{ToldRegistry}
+use Rattle.fish_rule.specs.Told.{ToldLoadRegistry}
 
 module _ (k : Key) (w : World) (r : Rule k w) (id : ℕ) (v : View) (at : get_elem? w.views id ≡ some v) where
   module _ (about : v.about ≡ k) (p : ℕ) (can : CanLoadRegistry v p) where
@@ -44,15 +44,15 @@ module _ (k : Key) (w : World) (r : Rule k w) (id : ℕ) (v : View) (at : get_el
 
     -- the view afterwards
     abbrev pub registered_view : View
-    registered_view = after_registry v p (w.registry p)
+    registered_view = after_load_registry v p (w.registry p)
 
     -- a load of it keeps the rule
-    pub registry_kept : Rule k (record w { views = set w.views id registered_view })
-    registry_kept =
+    pub load_registry_kept : Rule k (record w { views = set w.views id registered_view })
+    load_registry_kept =
         let h = r.facts id v at in
         let stays = r.registry.each id v at in
         let still = still_chained k w r id v at registered_view.learned v.tail v.round registered_view.clock in
-        learns k w r id v at registered_view.learned v.tail v.round registered_view.clock (r.tails id v at) (assumption h) (r.opens id v at) (r.floors id v at) (record { nodes = still.nodes; lows = still.lows; tops = still.tops })
+        learns k w r id v at registered_view.learned v.tail v.round registered_view.clock (r.tails id v at) (assumption h) (r.opens id v at) (r.floors id v at) (record { nodes = still.nodes; least_previous = still.least_previous; least_heads = still.least_heads })
         (record {
           tied = stays.tied;
           from = stays.from;
@@ -65,10 +65,10 @@ module _ (k : Key) (w : World) (r : Rule k w) (id : ℕ) (v : View) (at : get_el
         })
 
     -- and all that lasts
-    pub registry_lasts : Final k r.start registry_kept.start r.lane_of registry_kept.lane_of w
+    pub load_registry_lasts : Final k r.start load_registry_kept.start r.lane_of load_registry_kept.lane_of w
         (record w { views = set w.views id registered_view })
-    unfolding registry_kept learns
-    registry_lasts = learn_final k w r id v at registered_view.learned v.tail v.round registered_view.clock
+    unfolding load_registry_kept learns
+    load_registry_lasts = learn_final k w r id v at registered_view.learned v.tail v.round registered_view.clock
 
 -- a word that lasts is one of the registry's
 pub lasting_within : (k : Key) (w : World) (r : Rule k w) (p : ℕ) → IsLasting k w.registry p
@@ -85,18 +85,18 @@ lasting_within k w r p (inr (inr (inl h))) =
     (omega arith, omega arith)
 
 -- a load of a word that lasts
-pub registry_allowed : (given k : Key) → given ≡ k → (size id : ℕ) (me : Sat) (p : ℕ) → me.0.about ≡ k
-    → CanLoadRegistry me.0 p → Allows (Ruled given) size id me p (λ n. n) (ToldRegistry (step size p 0 0 none) me)
-registry_allowed given k same size id me p about can =
-    allowed given k same size id me p (λ n. n) (ToldRegistry (step size p 0 0 none) me) (λ ws vs wide r at.
+pub load_registry_allowed : (given k : Key) → given ≡ k → (size id : ℕ) (me : Sat) (p : ℕ) → me.0.about ≡ k
+    → CanLoadRegistry me.0 p → Allows (Ruled given) size id me p (λ n. n) (ToldLoadRegistry (step size p 0 0 none) me)
+load_registry_allowed given k same size id me p about can =
+    allowed given k same size id me p (λ n. n) (ToldLoadRegistry (step size p 0 0 none) me) (λ ws vs wide r at.
     let w : World = world k ws vs in
     let x : ℕ = get_or ws p 0 in
     let within = lasting_within k w r p (lasts_there k w r id me.0 at about p can) in
     let word : x ≡ w.registry p = word_at k ws vs p within.0 within.1 in
-    let v' : View = after_registry me.0 p x in
+    let v' : View = after_load_registry me.0 p x in
     let kept : Rule k (record w { views = set vs id v' }) =
-    subst (λ (z : ℕ). Rule k (record w { views = set vs id (after_registry me.0 p z) })) (sym word)
-    (registry_kept k w r id me.0 at about p can) in (
+    subst (λ (z : ℕ). Rule k (record w { views = set vs id (after_load_registry me.0 p z) })) (sym word)
+    (load_registry_kept k w r id me.0 at about p can) in (
       v',
       loaded_words k ws (set vs id v') p kept,
       record {

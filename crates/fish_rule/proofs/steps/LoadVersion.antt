@@ -7,7 +7,7 @@ use Rattle.std.proofs.Math.ListN.{get_elem?}
 use Rattle.fish_layout.specs.Cleared.{choose}
 use Rattle.fish_rule.proofs.basics.Lists.{has_own}
 use Rattle.fish_rule.proofs.basics.RegistryWords.{endures_same}
-use Rattle.fish_rule.specs.Entering.{after_version}
+use Rattle.fish_rule.specs.RegistrySteps.{after_load_version}
 use Rattle.fish_rule.specs.Boundaries.{Lists}
 use Rattle.fish_rule.specs.Epochs.{Carries, IsAtMost, confirmed, epoch_word}
 use Rattle.fish_rule.specs.Registry.{definitions_at, version_in}
@@ -23,7 +23,7 @@ use Rattle.fish_rule.proofs.classes.OwnEpoch.{moves, moves_last}
 use Rattle.atomic_table.specs.Table.{Allows, step}
 use Rattle.fish_rule.proofs.classes.Allowed.{allowed, loaded_words, stands, there, word_at}
 use Rattle.fish_rule.specs.Table.{Ruled, Sat}
-use Rattle.fish_rule.specs.Told.{ToldVersion}
+use Rattle.fish_rule.specs.Told.{ToldLoadVersion}
 
 -- a load of the version leaves the epoch's word
 confirmed_word : (e : Epoch) (x : ℕ) → epoch_word (confirmed e x) ≡ epoch_word e
@@ -81,8 +81,8 @@ module _ (k : Key) (w : World) (r : Rule k w) (id : ℕ) (v : View) (at : get_el
   own_state some_ = ((r.registry.each id v at).tied v.lane (has_own w.views id v at some_ r.seats)).0 refl
 
   -- a load of the version keeps the rule
-  pub version_kept : Rule k (record w { views = set w.views id (after_version v (w.registry 2)) })
-  version_kept = moves k w r id v at w.registry (confirmed v.epoch (w.registry 2)) (w.registry 2)
+  pub load_version_kept : Rule k (record w { views = set w.views id (after_load_version v (w.registry 2)) })
+  load_version_kept = moves k w r id v at w.registry (confirmed v.epoch (w.registry 2)) (w.registry 2)
       (endures_same k w.registry) refl (λ p ne. refl)
       (λ a b. r.registry.epochs.words v.lane a b ∙ ap epoch_word (own_state a)
       ∙ sym (confirmed_word v.epoch (w.registry 2)))
@@ -93,13 +93,13 @@ module _ (k : Key) (w : World) (r : Rule k w) (id : ℕ) (v : View) (at : get_el
       (subst (IsAtMost (version_in w.registry)) (own_state a) (r.registry.epochs.past v.lane a b)))
       (omega arith) (λ e. refl)
       (confirmed_carries k w.registry r.version_of v.lane v.epoch (w.registry 2) v.flight (r.registry.flights id v at))
-      (after_version v (w.registry 2)).clock
+      (after_load_version v (w.registry 2)).clock
 
   -- and all that lasts
-  pub version_lasts : Final k r.start version_kept.start r.lane_of version_kept.lane_of w
-      (record w { views = set w.views id (after_version v (w.registry 2)) })
-  unfolding version_kept
-  version_lasts = moves_last k w r id v at w.registry (confirmed v.epoch (w.registry 2)) (w.registry 2)
+  pub load_version_lasts : Final k r.start load_version_kept.start r.lane_of load_version_kept.lane_of w
+      (record w { views = set w.views id (after_load_version v (w.registry 2)) })
+  unfolding load_version_kept
+  load_version_lasts = moves_last k w r id v at w.registry (confirmed v.epoch (w.registry 2)) (w.registry 2)
       (endures_same k w.registry) refl (λ p ne. refl)
       (λ a b. r.registry.epochs.words v.lane a b ∙ ap epoch_word (own_state a)
       ∙ sym (confirmed_word v.epoch (w.registry 2)))
@@ -110,24 +110,24 @@ module _ (k : Key) (w : World) (r : Rule k w) (id : ℕ) (v : View) (at : get_el
       (subst (IsAtMost (version_in w.registry)) (own_state a) (r.registry.epochs.past v.lane a b)))
       (omega arith) (λ e. refl)
       (confirmed_carries k w.registry r.version_of v.lane v.epoch (w.registry 2) v.flight (r.registry.flights id v at))
-      (after_version v (w.registry 2)).clock
+      (after_load_version v (w.registry 2)).clock
 
   -- what is known of the version is so
   pub version_rises : v.learned.version ≤ w.registry 2
   version_rises = (r.registry.each id v at).reached
 
 -- a load of the version
-pub version_allowed : (given k : Key) → given ≡ k → (size id : ℕ) (me : Sat) → me.0.about ≡ k
-    → Allows (Ruled given) size id me 2 (λ n. n) (ToldVersion (step size 2 0 0 none) me)
-version_allowed given k same size id me about =
-    allowed given k same size id me 2 (λ n. n) (ToldVersion (step size 2 0 0 none) me) (λ ws vs wide r at.
+pub load_version_allowed : (given k : Key) → given ≡ k → (size id : ℕ) (me : Sat) → me.0.about ≡ k
+    → Allows (Ruled given) size id me 2 (λ n. n) (ToldLoadVersion (step size 2 0 0 none) me)
+load_version_allowed given k same size id me about =
+    allowed given k same size id me 2 (λ n. n) (ToldLoadVersion (step size 2 0 0 none) me) (λ ws vs wide r at.
     let w : World = world k ws vs in
     let x : ℕ = get_or ws 2 0 in
     let word : x ≡ w.registry 2 = word_at k ws vs 2 (omega arith) (omega arith) in
-    let v' : View = after_version me.0 x in
+    let v' : View = after_load_version me.0 x in
     let kept : Rule k (record w { views = set vs id v' }) =
-    subst (λ (z : ℕ). Rule k (record w { views = set vs id (after_version me.0 z) })) (sym word)
-    (version_kept k w r id me.0 at) in (
+    subst (λ (z : ℕ). Rule k (record w { views = set vs id (after_load_version me.0 z) })) (sym word)
+    (load_version_kept k w r id me.0 at) in (
       v',
       loaded_words k ws (set vs id v') 2 kept,
       record {

@@ -11,7 +11,7 @@ use Rattle.fish_rule.proofs.classes.OpensStay.{opens_looked}
 use Rattle.fish_rule.specs.Facts.{IsFound}
 use Rattle.fish_rule.specs.Regions.{code, dir_word, kind_of}
 use Rattle.fish_rule.specs.Rule.{Final, Rule}
-use Rattle.fish_rule.specs.Reading.{CanLook, IsAlone, after_look, found_after, kind_told}
+use Rattle.fish_rule.specs.LoadSteps.{CanLookAt, IsAlone, after_look_at, found_after, kind_told}
 use Rattle.fish_rule.specs.Views.{AllOf, Among, IsFlightOf}
 use Rattle.fish_rule.specs.World.{World, high, low, dir_at, slots, world}
 use Rattle.fish_rule.specs.declared.view.Flight.{Flight}
@@ -25,7 +25,7 @@ use Rattle.atomic_table.specs.Table.{Allows, step}
 use Rattle.fish_rule.proofs.basics.Regions.{few_slots}
 use Rattle.fish_rule.proofs.basics.Worlds.{area-in}
 use Rattle.fish_rule.specs.Table.{Ruled, Sat, Told}
-use Rattle.fish_rule.specs.Told.{ToldLook, number_at}
+use Rattle.fish_rule.specs.Told.{ToldLookAt, number_at}
 use Rattle.fish_rule.proofs.classes.Allowed.{allowed, stands, there, loaded_words}
 
 module _ (k : Key) (w : World) (r : Rule k w) (id : ℕ) (v : View) (at : get_elem? w.views id ≡ some v) where
@@ -40,14 +40,14 @@ module _ (k : Key) (w : World) (r : Rule k w) (id : ℕ) (v : View) (at : get_el
   lines_at n = r.start (suc n) - r.start n
 
   -- a load of a directory word
-  pub look_kept : (n x : ℕ) → CanLook v n → v.about ≡ k → x ≡ w.dir n
-      → Rule k (record w { views = set w.views id (after_look v n (lines_at n) x) })
-  look_kept n x can about is =
+  pub look_at_kept : (n x : ℕ) → CanLookAt v n → v.about ≡ k → x ≡ w.dir n
+      → Rule k (record w { views = set w.views id (after_look_at v n (lines_at n) x) })
+  look_at_kept n x can about is =
       let h = r.facts id v at in
-      let still = still_chained k w r id v at (after_look v n (lines_at n) x).learned v.tail v.round (after_look v n (lines_at n) x).clock in
-      learns k w r id v at (after_look v n (lines_at n) x).learned v.tail v.round
-      (after_look v n (lines_at n) x).clock (r.tails id v at) (assumption (h, each x is)) (opens_looked k w r id v at n x (subst (λ (z : Key). z.number ≤ n) about can.above) is) (r.floors id v at)
-      (record { nodes = still.nodes; lows = still.lows; tops = still.tops }) (r.registry.each id v at)
+      let still = still_chained k w r id v at (after_look_at v n (lines_at n) x).learned v.tail v.round (after_look_at v n (lines_at n) x).clock in
+      learns k w r id v at (after_look_at v n (lines_at n) x).learned v.tail v.round
+      (after_look_at v n (lines_at n) x).clock (r.tails id v at) (assumption (h, each x is)) (opens_looked k w r id v at n x (subst (λ (z : Key). z.number ≤ n) about can.above) is) (r.floors id v at)
+      (record { nodes = still.nodes; least_previous = still.least_previous; least_heads = still.least_heads }) (r.registry.each id v at)
     where
       each : (x : ℕ) → x ≡ w.dir n → AllOf (IsFound k w.count w.dir r.start)
           (found_after n (lines_at n) x v.learned.found)
@@ -71,12 +71,12 @@ module _ (k : Key) (w : World) (r : Rule k w) (id : ℕ) (v : View) (at : get_el
           )
 
   -- and all that lasts
-  pub look_lasts : (n x : ℕ) (can : CanLook v n) (about : v.about ≡ k) (is : x ≡ w.dir n)
-      → Final k r.start (look_kept n x can about is).start r.lane_of (look_kept n x can about is).lane_of w
-      (record w { views = set w.views id (after_look v n (lines_at n) x) })
-  unfolding look_kept learns
-  look_lasts n x can about is = learn_final k w r id v at (after_look v n (lines_at n) x).learned v.tail v.round
-      (after_look v n (lines_at n) x).clock
+  pub look_at_lasts : (n x : ℕ) (can : CanLookAt v n) (about : v.about ≡ k) (is : x ≡ w.dir n)
+      → Final k r.start (look_at_kept n x can about is).start r.lane_of (look_at_kept n x can about is).lane_of w
+      (record w { views = set w.views id (after_look_at v n (lines_at n) x) })
+  unfolding look_at_kept learns
+  look_at_lasts n x can about is = learn_final k w r id v at (after_look_at v n (lines_at n) x).learned v.tail v.round
+      (after_look_at v n (lines_at n) x).clock
 
   -- a number that was found has the word that it had
   pub look_known : (n : ℕ) (x : ℕ) → x ≡ w.dir n → (f : Found) → Among f v.learned.found → f.number ≡ n
@@ -90,7 +90,7 @@ module _ (k : Key) (w : World) (r : Rule k w) (id : ℕ) (v : View) (at : get_el
       is ∙ ap w.dir (sym same) ∙ sym parts ∙ ap (λ (z : ℕ × ℕ). z.0 + z.1 * 68719476736) (λ i. (line i, found.kind i))
 
   -- a pass that is alone finds every claimed number published
-  pub look_alone : (n : ℕ) → CanLook v n → v.about ≡ k → IsAlone v → w.dir n ≢ 0
+  pub look_alone : (n : ℕ) → CanLookAt v n → v.about ≡ k → IsAlone v → w.dir n ≢ 0
   look_alone n can about alone unset =
       let counted = (r.facts id v at).counted in
       let below : n < w.count = (let b = can.below in omega arith) in
@@ -108,11 +108,11 @@ module _ (k : Key) (w : World) (r : Rule k w) (id : ℕ) (v : View) (at : get_el
       flier (Some g) h f = f.live
 
 -- a load of a directory word
-pub look_allowed : (given k : Key) → given ≡ k → (size id : ℕ) (me : Sat) (n i : ℕ) → me.0.about ≡ k
-    → CanLook me.0 n → i ≡ dir_at k + (n - k.number)
-    → Allows (Ruled given) size id me i (λ n. n) (ToldLook (step size i 0 0 none) me)
-look_allowed given k same size id me n i about can is =
-    allowed given k same size id me i (λ n. n) (ToldLook (step size i 0 0 none) me) (λ ws vs wide r at.
+pub look_at_allowed : (given k : Key) → given ≡ k → (size id : ℕ) (me : Sat) (n i : ℕ) → me.0.about ≡ k
+    → CanLookAt me.0 n → i ≡ dir_at k + (n - k.number)
+    → Allows (Ruled given) size id me i (λ n. n) (ToldLookAt (step size i 0 0 none) me)
+look_at_allowed given k same size id me n i about can is =
+    allowed given k same size id me i (λ n. n) (ToldLookAt (step size i 0 0 none) me) (λ ws vs wide r at.
     let w : World = world k ws vs in
     let x : ℕ = get_or ws i 0 in
     let counted = (r.facts id me.0 at).counted in
@@ -122,14 +122,14 @@ look_allowed given k same size id me n i about can is =
     let word : x ≡ w.dir n = ap (λ (z : ℕ). get_or ws z 0) is
     ∙ sym (area-in ws (dir_at k) k.number (slots k) n above (omega arith)) in
     let lines : ℕ = lines_at k w r id me.0 at n in
-    let v' : View = after_look me.0 n lines x in
-    let kept = look_kept k w r id me.0 at n x can about word in
+    let v' : View = after_look_at me.0 n lines x in
+    let kept = look_at_kept k w r id me.0 at n x can about word in
     let index : number_at me.0.about i ≡ n = ap (λ (z : Key). number_at z i) about ∙ (omega arith) in (
       v',
       loaded_words k ws (set vs id v') i kept,
       record {
         lines = lines;
-        told = subst (λ (z : ℕ). Told me (after_look me.0 z lines x) (v', me.1)) (sym index)
+        told = subst (λ (z : ℕ). Told me (after_look_at me.0 z lines x) (v', me.1)) (sym index)
             (record { view = refl; held = refl; stands = stands k _ id v' kept about (there vs id me.0 v' at) });
         alone = λ alone none_. look_alone k w r id me.0 at n can about alone (sym word ∙ none_);
         known = λ f among same_. look_known k w r id me.0 at n x word f among (same_ ∙ index);

@@ -228,7 +228,7 @@ module _ (k : Key) (g : ℕ → ℕ) (fits : Fits k) (opening_ : IsOpening k.ver
       next = λ p h. absurd (none_linked b p h);
     };
     chained = each_one (λ v. Chained k w.dir w.log w.views w.head v.learned) (first_view k)
-        (record { nodes = tt; lows = tt; tops = tt });
+        (record { nodes = tt; least_previous = tt; least_heads = tt });
     floors = each_one (λ v. v.learned.settled ≤ k.number) (first_view k) (omega arith);
     own = each_one (λ v. Owns k w.count w.dir lane_of v.lane v.out v.own) (first_view k)
         (record {

@@ -1,33 +1,29 @@
 -- `publish_region`: a store of the own directory word, and the region in flight becomes a published one.
-use Rattle.std.proofs.Common.{◌≡◌, ◌≢◌, ℕ, ◌+◌, ◌-◌, ◌*◌, ◌<◌, ◌≤◌, suc, List, [], ◌∷◌, length, get_or, set, sym, refl}
-use Rattle.std.proofs.Common.{ap, ◌∙◌, subst, inl, inr, ◌⊎◌, ⊎_elim, arith, Some, None, Option}
+-- All of it stands over one world, one view and one step: cut in two, each lemma would name them all again.
+use Rattle.std.proofs.Common.{◌≡◌, ◌≢◌, ℕ, ◌+◌, ◌-◌, ◌<◌, ◌≤◌, suc, List, [], ◌∷◌, set, sym, refl, ap, ◌∙◌, subst, inl}
+use Rattle.std.proofs.Common.{inr, ◌⊎◌, ⊎_elim, arith, Some, None, Option}
 use Rattle.std.proofs.Math.Decide.{ℕ_discrete}
 use mathlib.Core.Option.{some, none}
 use Rattle.std.proofs.Math.ListN.{get_elem?}
 use Rattle.atomic_table.proofs.Lists.{set_else}
-use Rattle.fish_layout.proofs.Clearing.{cleared_head}
-use Rattle.fish_layout.proofs.Headers.{lines_of-void}
-use Rattle.fish_layout.proofs.Spelled.{spelled_lines}
-use Rattle.fish_layout.specs.Cleared.{body_of}
-use Rattle.fish_layout.specs.Header.{keys_of, lines_of, void_word}
-use Rattle.fish_rule.proofs.basics.Bodies.{body_stored, code_once, body_void, high-pack, low-pack, mark-past, void-head}
-use Rattle.fish_rule.proofs.basics.Bodies.{published}
+use Rattle.fish_layout.specs.Header.{keys_of, lines_of}
+use Rattle.fish_rule.proofs.basics.Bodies.{body_stored, code_once, high-pack, low-pack, mark-past, published}
 use Rattle.fish_rule.proofs.basics.Lists.{among_left, among_right, among_either, each_set, has_own, seats_kept}
 use Rattle.fish_rule.proofs.classes.OtherViews.{limit_views, alone_kept, flight_there, may_kept, one_view, registry_set}
 use Rattle.fish_rule.proofs.classes.FactsStay.{chained_later, facts_later, finished_later, flight_later, owns_later}
 use Rattle.fish_rule.proofs.classes.FactsStay.{shut_later, stored_later}
 use Rattle.fish_rule.proofs.classes.ChainsStay.{chains_same, linked_counted, linking_from}
-use Rattle.fish_rule.proofs.basics.Flights.{flight_is, known_keyed}
-use Rattle.fish_rule.proofs.basics.ToPublish.{may_before, no_lines, small_line}
+use Rattle.fish_rule.proofs.basics.Flights.{flight_is}
+use Rattle.fish_rule.proofs.basics.ToPublish.{filled, own_body, own_keyed, sized, may_before, small_line}
 use Rattle.fish_rule.proofs.basics.Worlds.{put-else, put-here, world-dir}
 use Rattle.fish_rule.specs.Chains.{Linked, LinksAt, Shows}
-use Rattle.fish_rule.specs.Parts.{Flies, InFlight, IsEntryWord, IsFinished}
+use Rattle.fish_rule.specs.Parts.{Flies, InFlight, IsEntryWord, IsPublishedRegion}
 use Rattle.fish_rule.proofs.classes.OpensStay.{opens_later}
 use Rattle.fish_rule.specs.Facts.{Facts, IsFound, IsRecorded, IsStoredBy, Owns, ShutOk}
-use Rattle.fish_rule.specs.Regions.{Holds, IsRecord, code, dir_word, kind_of, void_body}
+use Rattle.fish_rule.specs.Regions.{Holds, code, dir_word, kind_of}
 use Rattle.fish_rule.specs.Rule.{Final, Rule}
-use Rattle.fish_rule.specs.Steps.{IsReady, learned_after, own_after, records_after, shut_after, ticked, CanPublish}
-use Rattle.fish_rule.specs.Steps.{after_publish, flight_kind}
+use Rattle.fish_rule.specs.SpaceSteps.{IsReady, learned_after, own_after, records_after, shut_after, ticked}
+use Rattle.fish_rule.specs.SpaceSteps.{CanPublishRegion, after_publish_region, flight_kind}
 use Rattle.fish_rule.specs.Views.{AllOf, Among, Has, HasFlight, IsFlightOf}
 use Rattle.fish_rule.specs.World.{World, body, high, low, put, dir_at, world}
 use Rattle.fish_rule.specs.declared.view.Flight.{Flight}
@@ -44,7 +40,7 @@ use Rattle.fish_rule.specs.declared.view.Epoch.TheVariants.{Confirmed}
 use Rattle.atomic_table.specs.Table.{Allows, step}
 use Rattle.fish_rule.proofs.basics.Regions.{few_slots}
 use Rattle.fish_rule.specs.Table.{Ruled, Sat, Stands}
-use Rattle.fish_rule.specs.Told.{told_publish}
+use Rattle.fish_rule.specs.Told.{told_publish_region}
 use Rattle.fish_rule.proofs.classes.Allowed.{allowed, stands, there}
 
 module _ (k : Key) (w : World) (r : Rule k w) (id : ℕ) (v : View) (at : get_elem? w.views id ≡ some v)
@@ -95,15 +91,6 @@ module _ (k : Key) (w : World) (r : Rule k w) (id : ℕ) (v : View) (at : get_el
   is_other : (n : ℕ) → w.dir n ≢ 0 → n ≢ f.number
   is_other n set_ e = set_ (ap w.dir e ∙ own.unpublished)
 
-  -- the region's lines
-  sized : (1 ≤ f.lines) × (f.lines ≤ 18625)
-  sized =
-      let grows = r.space.regions.grows f.number own.above own.below in
-      let small = r.space.regions.small f.number own.above own.below in
-      let line = own.line in
-      let lines = own.lines in
-      (omega arith, omega arith)
-
   -- ---- what is linked
 
   -- an entry that is linked in flight is of a record, which is shown from now on
@@ -150,7 +137,7 @@ module _ (k : Key) (w : World) (r : Rule k w) (id : ℕ) (v : View) (at : get_el
     where
       all_linked : (kd : Kind) → kd ≡ Stored → IsReady active version kd v.lane f → f.linked ≡ keys_of (body w.log f.line 0)
       all_linked Stored e h = h.2 ∙ ap (λ (z : ℕ → ℕ). keys_of (z 0))
-          (sym (body_stored w.log f.words v.lane f.number f.lines f.line f.linked (h.1.0, h.1.1.record_of) h.0 sized.0
+          (sym (body_stored w.log f.words v.lane f.number f.lines f.line f.linked (h.1.0, h.1.1.record_of) h.0 (sized k w r id v at f flying version).0
           (let q = h.2 in omega arith) own.written))
       all_linked Void e h = cc
       all_linked Mark e h = cc
@@ -193,38 +180,9 @@ module _ (k : Key) (w : World) (r : Rule k w) (id : ℕ) (v : View) (at : get_el
     below = λ p from h. refl;
   }
 
-  -- what the region holds
-  filled : (kd : Kind) → IsReady active version kd v.lane f → (lines_of (body w.log f.line 0) ≤ f.lines)
-      × Holds kd v.lane f.number f.lines (body w.log f.line)
-  filled Stored h =
-      let e : body w.log f.line ≡ body_of f.words =
-      body_stored w.log f.words v.lane f.number f.lines f.line f.linked (h.1.0, h.1.1.record_of) h.0 sized.0
-      (let q = h.2 in omega arith) own.written in
-      let q = h.1.1.record_of in
-      let lined : lines_of (body_of f.words 0) ≡ f.lines = spelled_lines q.spells ∙ q.lines_is in (
-        subst (λ (z : ℕ → ℕ). lines_of (z 0) ≤ f.lines) (sym e) (omega arith),
-        subst (IsRecord v.lane f.number f.lines) (sym e) (h.1.0, h.1.1.record_of),
-      )
-  filled Void h =
-      let s = sized in
-      let header : w.log (f.line * 4 + 0) ≡ void_word f.lines =
-      own.written 0 (subst (λ (z : List ℕ). 0 < length z) (sym h.0) (omega arith))
-      (λ c. let less : c.0 < f.linked = c.1 in let none : f.linked ≡ 0 = h.1 in absurd (omega arith))
-      ∙ ap (λ (z : List ℕ). get_or z 0 0) h.0 in
-      let e : body w.log f.line ≡ void_body f.lines = body_void w.log f.lines f.line s.0 (omega arith) header
-      (λ i more less. own.unwritten i (subst (λ (z : List ℕ). length z ≤ i) (sym h.0) more) less) in
-      let lined : lines_of (void_body f.lines 0) ≡ f.lines = ap lines_of (void-head f.lines)
-      ∙ lines_of-void f.lines (omega arith) in
-      (subst (λ (z : ℕ → ℕ). lines_of (z 0) ≤ f.lines) (sym e) (omega arith), e)
-  filled Mark h =
-      let s = sized in
-      let e : body w.log f.line 0 ≡ 0 = cleared_head (λ i. w.log (f.line * 4 + i))
-      ∙ own.unwritten 0 (subst (λ (z : List ℕ). length z ≤ 0) (sym h) (omega arith)) (omega arith) in
-      (subst (λ (z : ℕ). lines_of z ≤ f.lines) (sym e) (subst (λ (z : ℕ). z ≤ f.lines) (sym no_lines) (omega arith)), e)
-
-  own_finished : IsFinished k dir' w.log r.start r.lane_of f.number
+  own_finished : IsPublishedRegion k dir' w.log r.start r.lane_of f.number
   own_finished =
-      let h = filled kind ready in
+      let h = filled k w r id v at f flying version kind ready in
       let a : r.start f.number ≡ f.line = own.line in
       let b : r.start (suc f.number) ≡ f.line + f.lines = own.lines in
       let size : f.line + f.lines - f.line ≡ f.lines = omega arith in
@@ -263,7 +221,7 @@ module _ (k : Key) (w : World) (r : Rule k w) (id : ℕ) (v : View) (at : get_el
       pick (yes e) = inr (
         e,
         sym own.owner ∙ ap r.lane_of (sym e) ∙ h.lane,
-        Rattle.fish_rule.proofs.basics.Bodies.code_once kind Stored
+        code_once kind Stored
             (sym kind_here ∙ ap (λ (z : ℕ). high (dir' z)) (sym e) ∙ h.stored),
       )
       pick (no ne) = inl (record {
@@ -288,6 +246,16 @@ module _ (k : Key) (w : World) (r : Rule k w) (id : ℕ) (v : View) (at : get_el
             (stored_now o.lane o.number stored);
       }
 
+  -- without a record there is none more
+  no_more : kind ≢ Stored → Owns k w.count dir' r.lane_of v.lane v.out v.own
+  no_more ne = owns_later k w publication r.start r.start r.lane_of r.lane_of publish_final v.lane v.out v.own
+      (r.own id v at)
+      (λ o has h. ⊎_elim (λ (b : IsStoredBy k w.count w.dir r.lane_of o.lane o.number).
+      (b.below, published (w.dir o.number) Stored b.stored))
+      (λ (t : (o.number ≡ f.number) × (v.lane ≡ o.lane) × (kind ≡ Stored)). absurd (ne t.2))
+      (stored_now o.lane o.number h))
+
+  -- the pass's own numbers are exact afterwards
   own_own : (kd : Kind) → kind ≡ kd → Owns k w.count dir' r.lane_of v.lane v.out (own_after kd v.lane f.number v.own)
   own_own Stored is =
       let h = r.own id v at in
@@ -314,29 +282,16 @@ module _ (k : Key) (w : World) (r : Rule k w) (id : ℕ) (v : View) (at : get_el
             has_own w.views id v at live r.seats,
             record { above = own.above; below = own.below; stored = kind_here ∙ ap code is; lane = own.owner },
           )
-  own_own Void is = no_more Void is (λ e. cc)
-    where
-      no_more : (kd : Kind) → kind ≡ kd → kd ≢ Stored → Owns k w.count dir' r.lane_of v.lane v.out v.own
-      no_more kd is ne =
-          owns_later k w publication r.start r.start r.lane_of r.lane_of publish_final v.lane v.out v.own
-          (r.own id v at)
-          (λ o has h. ⊎_elim (λ (b : IsStoredBy k w.count w.dir r.lane_of o.lane o.number).
-          (b.below, published (w.dir o.number) Stored b.stored))
-          (λ (t : (o.number ≡ f.number) × (v.lane ≡ o.lane) × (kind ≡ Stored)). absurd (ne (sym is ∙ t.2)))
-          (stored_now o.lane o.number h))
-  own_own Mark is = no_more Mark is (λ e. cc)
-    where
-      no_more : (kd : Kind) → kind ≡ kd → kd ≢ Stored → Owns k w.count dir' r.lane_of v.lane v.out v.own
-      no_more kd is ne =
-          owns_later k w publication r.start r.start r.lane_of r.lane_of publish_final v.lane v.out v.own
-          (r.own id v at)
-          (λ o has h. ⊎_elim (λ (b : IsStoredBy k w.count w.dir r.lane_of o.lane o.number).
-          (b.below, published (w.dir o.number) Stored b.stored))
-          (λ (t : (o.number ≡ f.number) × (v.lane ≡ o.lane) × (kind ≡ Stored)). absurd (ne (sym is ∙ t.2)))
-          (stored_now o.lane o.number h))
+  own_own Void is = no_more (λ e. cc)
+  own_own Mark is = no_more (λ e. cc)
 
   -- ---- facts
 
+  -- what was known is so
+  old_facts : Facts k w.count dir' w.log r.start v.learned
+  old_facts = facts_later k w publication r.start r.start r.lane_of r.lane_of publish_final v.learned (r.facts id v at)
+
+  -- and so is what the pass learns of its region
   found_here : IsFound k w.count dir' r.start
       (record { number = f.number; kind = kind; line = f.line; lines = f.lines })
   found_here = record { above = own.above; below = own.below; kind = kind_here; line = own.line; lines = own.lines }
@@ -349,59 +304,29 @@ module _ (k : Key) (w : World) (r : Rule k w) (id : ℕ) (v : View) (at : get_el
       below = own.below;
       stored = kind_here ∙ ap code is;
       words = ap (body w.log) own.line
-          ∙ body_stored w.log f.words v.lane f.number f.lines f.line f.linked (h.1.0, h.1.1.record_of) h.0 sized.0
-          (let q = h.2 in omega arith) own.written;
+          ∙ own_body k w r id v at f flying version h;
     },
-    (facts_later k w publication r.start r.start r.lane_of r.lane_of publish_final v.learned (r.facts id v at)).records,
+    old_facts.records,
   )
-  records_here Void is h =
-      (facts_later k w publication r.start r.start r.lane_of r.lane_of publish_final v.learned
-      (r.facts id v at)).records
-  records_here Mark is h =
-      (facts_later k w publication r.start r.start r.lane_of r.lane_of publish_final v.learned
-      (r.facts id v at)).records
+  records_here Void is h = old_facts.records
+  records_here Mark is h = old_facts.records
 
   own_facts : Facts k w.count dir' w.log r.start (learned_after kind f v.learned)
-  own_facts =
-      let h = facts_later k w publication r.start r.start r.lane_of r.lane_of publish_final v.learned
-      (r.facts id v at) in
-      record {
-        counted = h.counted;
-        found = (found_here, h.found);
-        known = h.known;
-        records = records_here kind refl ready;
-        gaps = h.gaps;
-        labels = h.labels;
-      }
+  own_facts = assumption (old_facts, found_here, records_here kind refl ready)
 
+  old_shut : ShutOk k w.count dir' r.start v.shut
+  old_shut = shut_later k w publication r.start r.start r.lane_of r.lane_of publish_final v.shut (r.shuts id v at)
+
+  -- a mark shuts the pass
   own_shut : (kd : Kind) → kind ≡ kd → ShutOk k w.count dir' r.start (shut_after kd f k.end v.shut)
-  own_shut Stored is = shut_later k w publication r.start r.start r.lane_of r.lane_of publish_final v.shut
-      (r.shuts id v at)
-  own_shut Void is = shut_later k w publication r.start r.start r.lane_of r.lane_of publish_final v.shut
-      (r.shuts id v at)
+  own_shut Stored is = old_shut
+  own_shut Void is = old_shut
   own_shut Mark is = record {
     number = f.number;
     end = refl;
     past = mark-past k.end f.line (f.line + f.lines) (is_kind ∙ is);
     mark = assumption (own, kind_here ∙ ap code is);
   }
-
-  -- the record has the keys of its version
-  own_keyed : (kd : Kind) → kind ≡ kd → kd ≡ Stored → IsReady active version kd v.lane f
-      → IsKeyed (AreActiveAt k w.registry) (r.version_of f.number) (r.lane_of f.number) f.number
-      (r.start (suc f.number) - r.start f.number) (body w.log (r.start f.number))
-  own_keyed Void is e h = cc
-  own_keyed Mark is e h = cc
-  own_keyed Stored is e h =
-      let a : r.start f.number ≡ f.line = own.line in
-      let b : r.start (suc f.number) ≡ f.line + f.lines = own.lines in
-      let size : r.start (suc f.number) - r.start f.number ≡ f.lines = omega arith in
-      let words : body w.log (r.start f.number) ≡ body_of f.words = ap (body w.log) a
-      ∙ body_stored w.log f.words v.lane f.number f.lines f.line f.linked (h.1.0, h.1.1.record_of) h.0 sized.0
-      (let q = h.2 in omega arith) own.written in
-      subst (λ (z : ℕ × ℕ × (ℕ → ℕ)). IsKeyed (AreActiveAt k w.registry) (r.version_of f.number) z.0 f.number
-      z.1 z.2) (λ i. (sym own.owner i, sym size i, sym words i))
-      (known_keyed k w r id v at f flying live version entered (body_of f.words) h.1)
 
   keyed : Keyed k w.count w.registry dir' w.log r.start r.lane_of r.version_of
   keyed = record { each = λ n above below stored. pick n above below stored (ℕ_discrete n f.number) }
@@ -412,13 +337,13 @@ module _ (k : Key) (w : World) (r : Rule k w) (id : ℕ) (v : View) (at : get_el
       pick n above below stored (yes e) =
           subst (λ (z : ℕ). IsKeyed (AreActiveAt k w.registry) (r.version_of z) (r.lane_of z) z
           (r.start (suc z) - r.start z) (body w.log (r.start z))) (sym e)
-          (own_keyed kind refl (code_once kind Stored
-          (sym kind_here ∙ ap (λ (z : ℕ). high (dir' z)) (sym e) ∙ stored)) ready)
+          (own_keyed k w r id v at f flying version live entered (subst (λ (z : Kind). IsReady active version z v.lane f)
+          (code_once kind Stored (sym kind_here ∙ ap (λ (z : ℕ). high (dir' z)) (sym e) ∙ stored)) ready))
       pick n above below stored (no ne) = r.keyed.each n above below (ap high (sym (dir_else n ne)) ∙ stored)
 
   -- a publication keeps the rule
-  pub publish_kept : Rule k publication
-  publish_kept = record {
+  pub publish_region_kept : Rule k publication
+  publish_region_kept = record {
     start = r.start;
     lane_of = r.lane_of;
     version_of = r.version_of;
@@ -453,7 +378,7 @@ module _ (k : Key) (w : World) (r : Rule k w) (id : ℕ) (v : View) (at : get_el
         (λ j u ne at_u. chained_later k w publication r.start r.start r.lane_of r.lane_of publish_final u.learned
         (r.chained j u at_u)) (let h =
         chained_later k w publication r.start r.start r.lane_of r.lane_of publish_final v.learned
-        (r.chained id v at) in record { nodes = h.nodes; lows = h.lows; tops = h.tops });
+        (r.chained id v at) in record { nodes = h.nodes; least_previous = h.least_previous; least_heads = h.least_heads });
     floors = each_set _ w.views id publisher (λ j u ne at_u. r.floors j u at_u) (r.floors id v at);
     own = each_set _ w.views id publisher (λ j u ne at_u. others_own j u ne at_u) (own_own kind refl);
     facts = each_set _ w.views id publisher
@@ -471,8 +396,8 @@ module _ (k : Key) (w : World) (r : Rule k w) (id : ℕ) (v : View) (at : get_el
   }
     where
       finish : (n : ℕ) → k.number ≤ n → n < w.count → dir' n ≢ 0 → Dec (n ≡ f.number)
-          → IsFinished k dir' w.log r.start r.lane_of n
-      finish n above below set_ (yes e) = subst (IsFinished k dir' w.log r.start r.lane_of) (sym e) own_finished
+          → IsPublishedRegion k dir' w.log r.start r.lane_of n
+      finish n above below set_ (yes e) = subst (IsPublishedRegion k dir' w.log r.start r.lane_of) (sym e) own_finished
       finish n above below set_ (no ne) =
           let before : w.dir n ≢ 0 = λ e. set_ (dir_else n ne ∙ e) in
           finished_later k w publication r.start r.start r.lane_of r.lane_of publish_final n below before
@@ -486,26 +411,26 @@ module _ (k : Key) (w : World) (r : Rule k w) (id : ℕ) (v : View) (at : get_el
           (r.space.flying n above below (sym (dir_else n ne) ∙ unset))
 
   -- and all that lasts
-  pub publish_lasts : Final k r.start publish_kept.start r.lane_of publish_kept.lane_of w publication
-  unfolding publish_kept
-  publish_lasts = publish_final
+  pub publish_region_lasts : Final k r.start publish_region_kept.start r.lane_of publish_region_kept.lane_of w publication
+  unfolding publish_region_kept
+  publish_region_lasts = publish_final
 
 -- a store of the own directory word
-pub publish_allowed : (given k : Key) → given ≡ k → (size id : ℕ) (me : Sat) (f : Flight) (i x : ℕ)
-    → me.0.about ≡ k → CanPublish me.0 f → i ≡ dir_at k + (f.number - k.number)
+pub publish_region_allowed : (given k : Key) → given ≡ k → (size id : ℕ) (me : Sat) (f : Flight) (i x : ℕ)
+    → me.0.about ≡ k → CanPublishRegion me.0 f → i ≡ dir_at k + (f.number - k.number)
     → x ≡ dir_word (flight_kind me.0 f) f.line
-    → Allows (Ruled given) size id me i (λ _. x) (λ _. told_publish (step size i x 0 none) me x)
-publish_allowed given k same size id me f i x about can is word =
-    allowed given k same size id me i (λ _. x) (λ _. told_publish (step size i x 0 none) me x) (λ ws vs wide r at.
+    → Allows (Ruled given) size id me i (λ _. x) (λ _. told_publish_region (step size i x 0 none) me x)
+publish_region_allowed given k same size id me f i x about can is word =
+    allowed given k same size id me i (λ _. x) (λ _. told_publish_region (step size i x 0 none) me x) (λ ws vs wide r at.
     let w : World = world k ws vs in
-    let v' : View = after_publish me.0 f in
+    let v' : View = after_publish_region me.0 f in
     let own = flight_is k w r id me.0 at f can.flying in
     let above = own.above in
     let below = own.below in
     let room = few_slots k w r in
     let ends : kind_of k.end f.line (f.line + f.lines) ≡ flight_kind me.0 f =
     ap (λ (z : Key). kind_of z.end f.line (f.line + f.lines)) (sym about) in
-    let kept' = publish_kept k w r id me.0 at f can.live can.flying (flight_kind me.0 f) ends can.version can.entered
+    let kept' = publish_region_kept k w r id me.0 at f can.live can.flying (flight_kind me.0 f) ends can.version can.entered
     can.ready in
     let kept : Rule k (record w { dir = put w.dir f.number x; views = set vs id v' }) =
     subst (λ (z : ℕ × Key). Rule k (record w {
@@ -519,9 +444,9 @@ publish_allowed given k same size id me f i x about can is word =
       λ g flying.
           let e : f ≡ g = Rattle.fish_rule.proofs.basics.Flights.one_flight f g (sym can.flying ∙ flying) in
           record {
-            view = ap (after_publish me.0) e;
+            view = ap (after_publish_region me.0) e;
             held = refl;
-            stands = subst (λ (z : Flight). Stands (after_publish me.0 z)) e
+            stands = subst (λ (z : Flight). Stands (after_publish_region me.0 z)) e
                 (stands k _ id v' kept about (there vs id me.0 v' at));
           },
     ))

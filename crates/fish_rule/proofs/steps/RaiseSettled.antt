@@ -15,9 +15,9 @@ use Rattle.fish_rule.proofs.basics.Worlds.{world-settled}
 use Rattle.fish_rule.specs.Parts.{IsEntryWord, Settled}
 use Rattle.fish_rule.specs.Facts.{IsFound}
 use Rattle.fish_rule.specs.Rule.{Final, Rule}
-use Rattle.fish_rule.specs.Reading.{CanRaise, after_raise}
+use Rattle.fish_rule.specs.LoadSteps.{CanRaiseSettled, after_raise_settled}
 use Rattle.fish_rule.specs.Table.{Ruled, Sat}
-use Rattle.fish_rule.specs.Told.{ToldRaise}
+use Rattle.fish_rule.specs.Told.{ToldRaiseSettled}
 use Rattle.fish_rule.specs.Views.{Among}
 use Rattle.fish_rule.specs.World.{World, world}
 use Rattle.fish_rule.specs.declared.view.Found.{Found}
@@ -27,10 +27,10 @@ use Rattle.fish_rule.specs.declared.view.View.{View}
 use Rattle.fish_rule.proofs.basics.RegistryWords.{endures_same}
 
 module _ (k : Key) (w : World) (r : Rule k w) (id : ℕ) (v : View) (at : get_elem? w.views id ≡ some v)
-    (about : v.about ≡ k) (m : ℕ) (can : CanRaise v m) where
+    (about : v.about ≡ k) (m : ℕ) (can : CanRaiseSettled v m) where
   -- the view afterwards
   abbrev pub raiser : View
-  raiser = after_raise v m w.settled
+  raiser = after_raise_settled v m w.settled
 
   -- the world afterwards
   abbrev pub raised : World
@@ -80,8 +80,8 @@ module _ (k : Key) (w : World) (r : Rule k w) (id : ℕ) (v : View) (at : get_el
           (can.known n (subst (λ (z : Key). z.number ≤ n) (sym about) above) (omega arith))
 
   -- a raise keeps the rule
-  pub raise_kept : Rule k raised
-  raise_kept = record {
+  pub raise_settled_kept : Rule k raised
+  raise_settled_kept = record {
     start = r.start;
     lane_of = r.lane_of;
     version_of = r.version_of;
@@ -100,7 +100,7 @@ module _ (k : Key) (w : World) (r : Rule k w) (id : ℕ) (v : View) (at : get_el
         (λ j u ne at_u. chained_later k w raised r.start r.start r.lane_of r.lane_of raise_final u.learned
         (r.chained j u at_u)) (let h =
         chained_later k w raised r.start r.start r.lane_of r.lane_of raise_final v.learned
-        (r.chained id v at) in record { nodes = h.nodes; lows = h.lows; tops = h.tops });
+        (r.chained id v at) in record { nodes = h.nodes; least_previous = h.least_previous; least_heads = h.least_heads });
     floors = each_set _ w.views id raiser (λ j u ne at_u. let a = r.floors j u at_u in omega arith) (omega arith);
     own = each_set _ w.views id raiser (λ j u ne at_u. r.own j u at_u) (r.own id v at);
     facts = each_set _ w.views id raiser (λ j u ne at_u. r.facts j u at_u)
@@ -113,18 +113,18 @@ module _ (k : Key) (w : World) (r : Rule k w) (id : ℕ) (v : View) (at : get_el
   }
 
   -- and all that lasts
-  pub raise_lasts : Final k r.start raise_kept.start r.lane_of raise_kept.lane_of w raised
-  unfolding raise_kept
-  raise_lasts = raise_final
+  pub raise_settled_lasts : Final k r.start raise_settled_kept.start r.lane_of raise_settled_kept.lane_of w raised
+  unfolding raise_settled_kept
+  raise_settled_lasts = raise_final
 
 -- a fetch-max on it
-pub raise_allowed : (given k : Key) → given ≡ k → (size id : ℕ) (me : Sat) (m : ℕ) → me.0.about ≡ k
-    → CanRaise me.0 m → Allows (Ruled given) size id me 1 (λ n. max n m) (ToldRaise (step size 1 m 0 none) me)
-raise_allowed given k same size id me m about can =
-    allowed given k same size id me 1 (λ n. max n m) (ToldRaise (step size 1 m 0 none) me) (λ ws vs wide r at.
+pub raise_settled_allowed : (given k : Key) → given ≡ k → (size id : ℕ) (me : Sat) (m : ℕ) → me.0.about ≡ k
+    → CanRaiseSettled me.0 m → Allows (Ruled given) size id me 1 (λ n. max n m) (ToldRaiseSettled (step size 1 m 0 none) me)
+raise_settled_allowed given k same size id me m about can =
+    allowed given k same size id me 1 (λ n. max n m) (ToldRaiseSettled (step size 1 m 0 none) me) (λ ws vs wide r at.
     let w : World = world k ws vs in
-    let v' : View = after_raise me.0 m w.settled in
-    let kept = raise_kept k w r id me.0 at about m can in (
+    let v' : View = after_raise_settled me.0 m w.settled in
+    let kept = raise_settled_kept k w r id me.0 at about m can in (
       v',
       subst (Rule k) (sym (world-settled k ws vs (set vs id v') (max w.settled m) (omega arith))) kept,
       record {

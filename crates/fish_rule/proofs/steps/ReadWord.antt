@@ -11,9 +11,9 @@ use Rattle.fish_rule.proofs.classes.Loads.{learn_final, learns, still_chained}
 use Rattle.fish_rule.proofs.basics.Worlds.{area-in}
 use Rattle.fish_rule.specs.Facts.{Facts, IsFound}
 use Rattle.fish_rule.specs.Rule.{Final, Rule}
-use Rattle.fish_rule.specs.Reading.{CanRead, after_read}
+use Rattle.fish_rule.specs.LoadSteps.{CanReadWord, after_read_word}
 use Rattle.fish_rule.specs.Table.{Ruled, Sat, Told}
-use Rattle.fish_rule.specs.Told.{place_at, told_read}
+use Rattle.fish_rule.specs.Told.{place_at, told_read_word}
 use Rattle.fish_rule.specs.World.{World, log_at, log_size, world}
 use Rattle.fish_rule.specs.declared.view.Found.{Found}
 use Rattle.fish_rule.specs.declared.view.Key.{Key}
@@ -21,14 +21,14 @@ use Rattle.fish_rule.specs.declared.view.View.{View}
 use Rattle.fish_rule.proofs.basics.FoundRegions.{region_found, read_word_is}
 
 module _ (k : Key) (w : World) (r : Rule k w) (id : ℕ) (v : View) (at : get_elem? w.views id ≡ some v)
-    (x : Found) (o : ℕ) (can : CanRead v x o) where
+    (x : Found) (o : ℕ) (can : CanReadWord v x o) where
   -- the place of the word
   abbrev pub read_place : ℕ
   read_place = x.line * 4 + o
 
   -- the view that has read it
   abbrev pub reader : View
-  reader = after_read v read_place (w.log read_place)
+  reader = after_read_word v read_place (w.log read_place)
 
   -- what it knows holds
   read_facts : Facts k w.count w.dir w.log r.start reader.learned
@@ -36,24 +36,24 @@ module _ (k : Key) (w : World) (r : Rule k w) (id : ℕ) (v : View) (at : get_el
       assumption (h, read_word_is k w r v x o h can))
 
   -- a read keeps the rule
-  pub read_kept : Rule k (record w { views = set w.views id reader })
-  read_kept = learns k w r id v at reader.learned v.tail v.round reader.clock (r.tails id v at) read_facts
+  pub read_word_kept : Rule k (record w { views = set w.views id reader })
+  read_word_kept = learns k w r id v at reader.learned v.tail v.round reader.clock (r.tails id v at) read_facts
       (r.opens id v at) (r.floors id v at)
       (let still = still_chained k w r id v at reader.learned v.tail v.round reader.clock in
-      record { nodes = still.nodes; lows = still.lows; tops = still.tops }) (r.registry.each id v at)
+      record { nodes = still.nodes; least_previous = still.least_previous; least_heads = still.least_heads }) (r.registry.each id v at)
 
   -- and all that lasts
-  pub read_lasts : Final k r.start read_kept.start r.lane_of read_kept.lane_of w
+  pub read_word_lasts : Final k r.start read_word_kept.start r.lane_of read_word_kept.lane_of w
       (record w { views = set w.views id reader })
-  unfolding read_kept learns
-  read_lasts = learn_final k w r id v at reader.learned v.tail v.round reader.clock
+  unfolding read_word_kept learns
+  read_word_lasts = learn_final k w r id v at reader.learned v.tail v.round reader.clock
 
 -- a load of a word of a published region
-pub read_allowed : (given k : Key) → given ≡ k → (size id : ℕ) (me : Sat) (x : Found) (o i : ℕ)
-    → me.0.about ≡ k → CanRead me.0 x o → i ≡ log_at k + (x.line * 4 + o - k.line * 4)
-    → Allows (Ruled given) size id me i (λ n. n) (told_read (step size i 0 0 none) me)
-read_allowed given k same size id me x o i about can is =
-    allowed given k same size id me i (λ n. n) (told_read (step size i 0 0 none) me) (λ ws vs wide r at.
+pub read_word_allowed : (given k : Key) → given ≡ k → (size id : ℕ) (me : Sat) (x : Found) (o i : ℕ)
+    → me.0.about ≡ k → CanReadWord me.0 x o → i ≡ log_at k + (x.line * 4 + o - k.line * 4)
+    → Allows (Ruled given) size id me i (λ n. n) (told_read_word (step size i 0 0 none) me)
+read_word_allowed given k same size id me x o i about can is =
+    allowed given k same size id me i (λ n. n) (told_read_word (step size i 0 0 none) me) (λ ws vs wide r at.
     let w : World = world k ws vs in
     let word : ℕ = get_or ws i 0 in
     let facts = r.facts id me.0 at in
@@ -68,13 +68,13 @@ read_allowed given k same size id me x o i about can is =
     let end = kind-inside k.end (r.start x.number) (r.start (suc x.number)) (λ e. can.words (sym t.1 ∙ e)) in
     let here : word ≡ w.log p = ap (λ (z : ℕ). get_or ws z 0) is
     ∙ sym (area-in ws (log_at k) (k.line * 4) (log_size k) p (omega arith) (omega arith)) in
-    let v' : View = after_read me.0 p word in
+    let v' : View = after_read_word me.0 p word in
     let kept : Rule k (record w { views = set vs id v' }) =
-    subst (λ (z : ℕ). Rule k (record w { views = set vs id (after_read me.0 p z) })) (sym here)
-    (read_kept k w r id me.0 at x o can) in
+    subst (λ (z : ℕ). Rule k (record w { views = set vs id (after_read_word me.0 p z) })) (sym here)
+    (read_word_kept k w r id me.0 at x o can) in
     let index : place_at me.0.about i ≡ p = ap (λ (z : Key). place_at z i) about ∙ (omega arith) in (
       v',
       loaded_words k ws (set vs id v') i kept,
-      subst (λ (z : ℕ). Told me (after_read me.0 z word) (v', me.1)) (sym index)
+      subst (λ (z : ℕ). Told me (after_read_word me.0 z word) (v', me.1)) (sym index)
           (record { view = refl; held = refl; stands = stands k _ id v' kept about (there vs id me.0 v' at) }),
     ))

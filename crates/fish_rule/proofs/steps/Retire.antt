@@ -3,10 +3,10 @@ use Rattle.std.proofs.Common.{◌≡◌, ℕ, ◌≤◌, set, arith, ◌-◌, sy
 use mathlib.Core.Option.{some, none}
 use Rattle.std.proofs.Math.ListN.{get_elem?}
 use Rattle.fish_rule.proofs.basics.Worlds.{put-else, put-here, world-registry}
-use Rattle.fish_rule.specs.Entering.{CanEnter, after_retire}
+use Rattle.fish_rule.specs.RegistrySteps.{CanEnter, after_retire}
 use Rattle.fish_rule.specs.Registry.{epoch_at}
 use Rattle.fish_rule.specs.Rule.{Final, Rule}
-use Rattle.fish_rule.specs.Steps.{ticked}
+use Rattle.fish_rule.specs.SpaceSteps.{ticked}
 use Rattle.fish_rule.specs.World.{World, put, world}
 use Rattle.fish_rule.specs.declared.view.Epoch.TheVariants.{Out}
 use Rattle.fish_rule.specs.declared.view.Key.{Key}

@@ -1,4 +1,5 @@
 -- `splice_entry`: a compare-and-exchange on the first word of a linked entry that is above the own one.
+-- All of it stands over one world, one view and one step: cut in two, each lemma would name them all again.
 use Rattle.std.proofs.Common.{◌≡◌, ◌≢◌, ℕ, ◌+◌, ◌-◌, ◌*◌, ◌%◌, ◌<◌, ◌≤◌, suc, get_or, set, sym, refl, ap, ◌∙◌, subst}
 use Rattle.std.proofs.Common.{inl, inr, ◌⊎◌, ⊎_elim, arith, Some, None, Option, eqb}
 use Rattle.std.proofs.Math.Decide.{ℕ_discrete}
@@ -20,23 +21,24 @@ use Rattle.fish_rule.proofs.basics.ChainOrder.{chain_same, chain_spliced}
 use Rattle.fish_rule.proofs.basics.Flights.{one_flight, flight_is}
 use Rattle.fish_rule.proofs.classes.OtherViews.{one_view}
 use Rattle.fish_rule.proofs.basics.FirstHeads.{first_low, flight_from}
-use Rattle.fish_rule.proofs.steps.LoadPrevious.{low_less, low_rises, node_linked, place_within, previous_kept}
+use Rattle.fish_rule.proofs.steps.LoadPrevious.{previous_less, previous_rises, node_linked, place_within}
+use Rattle.fish_rule.proofs.steps.LoadPrevious.{load_previous_kept}
 use Rattle.fish_rule.proofs.classes.FactsStay.{chained_later, facts_later}
 use Rattle.fish_rule.proofs.classes.LinkOne.{Leaves, link_final, link_from, link_here, link_kept, link_lasts, link_to}
 use Rattle.fish_rule.proofs.classes.LinkOne.{either_way}
-use Rattle.fish_rule.proofs.basics.Places.{IsFlier, Spot, lies_inside, one_chain, spot}
+use Rattle.fish_rule.proofs.basics.Places.{IsFlier, RecordAt, lies_inside, one_chain, record_at}
 use Rattle.fish_rule.proofs.steps.SwingHead.{aimed_there, own_unlinked}
 use Rattle.fish_rule.proofs.basics.Worlds.{area-in, put-else, put-here, world-log}
 use Rattle.fish_rule.specs.Chains.{Chain, Chained, Linked}
-use Rattle.fish_rule.specs.Linking.{CanAim, CanSplice, HasNode, LowRises, after_splice, own_place, previous_seen}
-use Rattle.fish_rule.specs.Linking.{spliced}
-use Rattle.fish_rule.specs.Steps.{ticked}
+use Rattle.fish_rule.specs.ChainSteps.{CanAimEntry, CanSpliceEntry, HasNode, PreviousRises, after_splice_entry}
+use Rattle.fish_rule.specs.ChainSteps.{own_place, previous_seen, spliced}
+use Rattle.fish_rule.specs.SpaceSteps.{ticked}
 use Rattle.fish_rule.specs.Parts.{Flies, InFlight, Whole, first_head}
 use Rattle.fish_rule.specs.Facts.{Facts}
 use Rattle.fish_rule.specs.Regions.{IsRecord}
 use Rattle.fish_rule.specs.Rule.{Final, Rule}
 use Rattle.fish_rule.specs.Table.{Ruled, Sat, Told}
-use Rattle.fish_rule.specs.Told.{ToldSplice, place_at}
+use Rattle.fish_rule.specs.Told.{ToldSpliceEntry, place_at}
 use Rattle.fish_rule.specs.Views.{IsFlightOf}
 use Rattle.fish_rule.specs.World.{World, body, log_at, log_size, put, world}
 use Rattle.fish_rule.specs.declared.view.Flight.{Flight}
@@ -45,7 +47,7 @@ use Rattle.fish_rule.specs.declared.view.View.{View}
 use Rattle.fish_rule.specs.Flying.{region_in}
 
 module _ (k : Key) (w : World) (r : Rule k w) (id : ℕ) (v : View) (at : get_elem? w.views id ≡ some v)
-    (about : v.about ≡ k) (f : Flight) (b q x : ℕ) (can : CanSplice v f b q x) (was : w.log q ≡ x) where
+    (about : v.about ≡ k) (f : Flight) (b q x : ℕ) (can : CanSpliceEntry v f b q x) (was : w.log q ≡ x) where
   -- the place of the own entry
   abbrev own_at : ℕ
   own_at = own_place f
@@ -73,8 +75,8 @@ module _ (k : Key) (w : World) (r : Rule k w) (id : ℕ) (v : View) (at : get_el
   higher = node_linked k w r id v at b q can.node
 
   -- its record
-  its : Spot k w r higher.line higher.entry
-  its = spot k w r higher.line higher.entry higher.shows
+  its : RecordAt k w r higher.line higher.entry
+  its = record_at k w r higher.line higher.entry higher.shows
 
   its_place : q ≡ higher.line * 4 + entry_at higher.entry
   its_place = higher.is.is
@@ -283,26 +285,26 @@ module _ (k : Key) (w : World) (r : Rule k w) (id : ℕ) (v : View) (at : get_el
       let low_ = put-here w.log q own_at in
       record {
         nodes = (here, g.nodes);
-        lows =
-            (record { bucket = b; linked = to b q higher; low = omega arith }, g.lows);
-        tops = g.tops;
+        least_previous =
+            (record { bucket = b; linked = to b q higher; low = omega arith }, g.least_previous);
+        least_heads = g.least_heads;
       }
 
   -- a splice keeps the rule
-  pub splice_kept : Rule k splice_world
-  splice_kept =
+  pub splice_entry_kept : Rule k splice_world
+  splice_entry_kept =
       link_kept k w r id v at f can.aim b bucket w.head log' splicer.learned splicer.clock leaves chains facts
       (r.opens id v at) (r.floors id v at) chained (r.registry.each id v at)
 
   -- and all that lasts
-  pub splice_lasts : Final k r.start splice_kept.start r.lane_of splice_kept.lane_of w splice_world
-  unfolding splice_kept
-  splice_lasts =
+  pub splice_entry_lasts : Final k r.start splice_entry_kept.start r.lane_of splice_entry_kept.lane_of w splice_world
+  unfolding splice_entry_kept
+  splice_entry_lasts =
       link_lasts k w r id v at f can.aim b bucket w.head log' splicer.learned splicer.clock leaves chains facts
       (r.opens id v at) (r.floors id v at) chained (r.registry.each id v at)
 
 -- a splice leaves the key
-about_splice : (v : View) {k : Key} (f : Flight) (b q x y : ℕ) → v.about ≡ k → (after_splice v f b q x y).about ≡ k
+about_splice : (v : View) {k : Key} (f : Flight) (b q x y : ℕ) → v.about ≡ k → (after_splice_entry v f b q x y).about ≡ k
 about_splice v {k} f b q x y about = by (ℕ_discrete y x)
   where
     by : (d : Dec (y ≡ x)) → (choose d (spliced v f b q) (previous_seen v b q y (ticked v.clock))).about ≡ k
@@ -311,18 +313,18 @@ about_splice v {k} f b q x y about = by (ℕ_discrete y x)
 
 -- the own place is no first word before
 previous_other : (k : Key) (w : World) (r : Rule k w) (id : ℕ) (v : View) (at : get_elem? w.views id ≡ some v)
-    (f : Flight) (can : CanAim v f) (b q : ℕ) → Linked k w.dir w.log w.views b q → w.log q ≢ own_place f
+    (f : Flight) (can : CanAimEntry v f) (b q : ℕ) → Linked k w.dir w.log w.views b q → w.log q ≢ own_place f
 previous_other k w r id v at f can b q higher e = ⊎_elim (λ (z : w.log q ≡ first_head k b).
     let low_ = first_low k w r b in let behind = flight_from k w r id v at f can.flying in absurd (omega arith))
     (λ (l : Linked k w.dir w.log w.views b (w.log q)). own_unlinked k w r id v at f can b (w.log q) l e)
     ((r.chains b).next q higher).is
 
 -- the table allows it
-pub splice_allowed : (given k : Key) → given ≡ k → (size id : ℕ) (me : Sat) (f : Flight) (b q x i new : ℕ)
-    → me.0.about ≡ k → CanSplice me.0 f b q x → i ≡ log_at k + (q - k.line * 4) → new ≡ own_place f
-    → Allows (Ruled given) size id me i (λ n. either (eqb n x) new n) (ToldSplice (step size i x new none) me)
-splice_allowed given k same size id me f b q x i new about can is own_is =
-    allowed given k same size id me i (λ n. either (eqb n x) new n) (ToldSplice (step size i x new none) me)
+pub splice_entry_allowed : (given k : Key) → given ≡ k → (size id : ℕ) (me : Sat) (f : Flight) (b q x i new : ℕ)
+    → me.0.about ≡ k → CanSpliceEntry me.0 f b q x → i ≡ log_at k + (q - k.line * 4) → new ≡ own_place f
+    → Allows (Ruled given) size id me i (λ n. either (eqb n x) new n) (ToldSpliceEntry (step size i x new none) me)
+splice_entry_allowed given k same size id me f b q x i new about can is own_is =
+    allowed given k same size id me i (λ n. either (eqb n x) new n) (ToldSpliceEntry (step size i x new none) me)
     (λ ws vs wide r at.
     let w : World = world k ws vs in
     let y : ℕ = get_or ws i 0 in
@@ -331,7 +333,7 @@ splice_allowed given k same size id me f b q x i new about can is own_is =
     let word : y ≡ w.log q = ap (λ (z : ℕ). get_or ws z 0) is
     ∙ sym (area-in ws (log_at k) (k.line * 4) (log_size k) q within.0 within.1) in
     let index : place_at me.0.about i ≡ q = ap (λ (z : Key). place_at z i) about ∙ (omega arith) in
-    let v' : View = after_splice me.0 f b q x y in
+    let v' : View = after_splice_entry me.0 f b q x y in
     let v_at = there vs id me.0 v' at in
     let rule : Rule k (world k (set ws i (either (eqb y x) new y)) (set vs id v')) =
     exchanged y x new (λ z. Rule k (world k (set ws i z) (set vs id v')))
@@ -339,13 +341,13 @@ splice_allowed given k same size id me f b q x i new about can is own_is =
     choose_first (ℕ_discrete y x) (spliced me.0 f b q) (previous_seen me.0 b q y (ticked me.0.clock)) e in
     subst (λ (z : ℕ × View). Rule k (world k (set ws i z.0) (set vs id z.1))) (λ j. (sym own_is j, sym hit j))
     (subst (Rule k) (sym (world-log k ws vs (set vs id (spliced me.0 f b q)) q i
-    (own_place f) within.0 within.1 is wide)) (splice_kept k w r id me.0 at about f b q x can (sym word ∙ e))))
+    (own_place f) within.0 within.1 is wide)) (splice_entry_kept k w r id me.0 at about f b q x can (sym word ∙ e))))
     (λ ne. let miss : v' ≡ previous_seen me.0 b q y (ticked me.0.clock) =
     choose_second (ℕ_discrete y x) (spliced me.0 f b q) (previous_seen me.0 b q y (ticked me.0.clock)) ne in
     subst (λ (z : View). Rule k (world k (set ws i y) (set vs id z))) (sym miss)
     (loaded_words k ws (set vs id (previous_seen me.0 b q y (ticked me.0.clock))) i
     (subst (λ (z : ℕ). Rule k (record w { views = set vs id (previous_seen me.0 b q z (ticked me.0.clock)) })) (sym word)
-    (previous_kept k w r id me.0 at b q can.node (ticked me.0.clock) about)))) in
+    (load_previous_kept k w r id me.0 at b q can.node (ticked me.0.clock) about)))) in
     let about' : v'.about ≡ k = about_splice me.0 f b q x y about in (
       v',
       rule,
@@ -354,34 +356,34 @@ splice_allowed given k same size id me f b q x i new about can is own_is =
         node = subst (HasNode me.0 b) (sym index) can.node;
         told = λ g flying.
             let e : f ≡ g = one_flight f g (sym can.aim.flying ∙ flying) in
-            subst (λ (z : ℕ × Flight). Told me (after_splice me.0 z.1 b z.0 x y) (v', me.1))
+            subst (λ (z : ℕ × Flight). Told me (after_splice_entry me.0 z.1 b z.0 x y) (v', me.1))
             (λ j. (sym index j, e j)) (record {
               view = refl;
               held = refl;
               stands = stands k _ id v' rule about' v_at;
             });
-        rises = subst (λ (z : ℕ × ℕ). LowRises me.0 z.0 z.1) (λ j. (sym index j, sym word j))
-            (low_rises k w r id me.0 at b q can.node);
+        rises = subst (λ (z : ℕ × ℕ). PreviousRises me.0 z.0 z.1) (λ j. (sym index j, sym word j))
+            (previous_rises k w r id me.0 at b q can.node);
         less = subst (λ (z : ℕ × ℕ). z.0 < z.1) (λ j. (sym word j, sym index j))
-            (low_less k w r id me.0 at b q can.node);
+            (previous_less k w r id me.0 at b q can.node);
         other = λ e. previous_other k w r id me.0 at f can.aim b q linked (sym word ∙ e ∙ own_is);
       },
     ))
 
 module _ (v : View) (f : Flight) (b q h x : ℕ) where
   -- a splice
-  pub splice_about : (after_splice v f b q h x).about ≡ v.about
+  pub splice_about : (after_splice_entry v f b q h x).about ≡ v.about
   splice_about = either_way (λ (z : View). z.about) v.about (ℕ_discrete x h) (spliced v f b q)
       (previous_seen v b q x (ticked v.clock)) refl refl
 
-  pub splice_lane : (after_splice v f b q h x).lane ≡ v.lane
+  pub splice_lane : (after_splice_entry v f b q h x).lane ≡ v.lane
   splice_lane = either_way (λ (z : View). z.lane) v.lane (ℕ_discrete x h) (spliced v f b q)
       (previous_seen v b q x (ticked v.clock)) refl refl
 
-  pub splice_shut : (after_splice v f b q h x).shut ≡ v.shut
+  pub splice_shut : (after_splice_entry v f b q h x).shut ≡ v.shut
   splice_shut = either_way (λ (z : View). z.shut) v.shut (ℕ_discrete x h) (spliced v f b q)
       (previous_seen v b q x (ticked v.clock)) refl refl
 
-  pub region_splice : v.flight ≡ Some f → region_in (after_splice v f b q h x).flight ≡ region_in (Some f)
+  pub region_splice : v.flight ≡ Some f → region_in (after_splice_entry v f b q h x).flight ≡ region_in (Some f)
   region_splice flying = either_way (λ (z : View). region_in z.flight) (region_in (Some f)) (ℕ_discrete x h)
       (spliced v f b q) (previous_seen v b q x (ticked v.clock)) refl (ap region_in flying)

@@ -15,7 +15,7 @@ use Rattle.fish_rule.specs.declared.view.Learned.{Learned}
 use Rattle.fish_rule.specs.Parts.{Limit, Seats}
 use Rattle.fish_rule.specs.Facts.{Owns}
 use Rattle.fish_rule.specs.Rule.{Final, Rule}
-use Rattle.fish_rule.specs.Seating.{CanSplit, of_lane, split_left, split_right}
+use Rattle.fish_rule.specs.SeatSteps.{CanSplitPass, of_lane, split_left, split_right}
 use Rattle.fish_rule.specs.Views.{Each, Has, IsFlightOf}
 use Rattle.fish_rule.specs.World.{World, world}
 use Rattle.fish_rule.specs.declared.view.Key.{Key}
@@ -27,7 +27,7 @@ use Rattle.atomic_table.specs.Table.{Splits}
 use Rattle.fish_rule.specs.Table.{Ruled, Stands}
 
 module _ (k : Key) (w : World) (r : Rule k w) (id : ℕ) (v : View) (at : get_elem? w.views id ≡ some v) (l : ℕ)
-    (can : CanSplit v l) where
+    (can : CanSplitPass v l) where
   -- the control pass's view after it
   abbrev left : View
   left = split_left l v
@@ -244,7 +244,7 @@ module _ (k : Key) (w : World) (r : Rule k w) (id : ℕ) (v : View) (at : get_el
   }
 
 -- the table allows a split wherever the control pass's view does
-pub splits : (k : Key) (id : ℕ) (v : View) (l : ℕ) → CanSplit v l
+pub splits : (k : Key) (id : ℕ) (v : View) (l : ℕ) → CanSplitPass v l
     → Splits (Ruled k) id v (split_left l v) (split_right l v)
 splits k id v l can s ruled at = record {
   wide = ruled.wide;
@@ -252,12 +252,12 @@ splits k id v l can s ruled at = record {
 }
 
 -- the moment after a split
-split_moment : (v : View) (s : Stands v) (l : ℕ) → CanSplit v l
+split_moment : (v : View) (s : Stands v) (l : ℕ) → CanSplitPass v l
     → Rule v.about (record s.moment { views = set s.moment.views s.seat (split_left l v) ++ split_right l v ∷ [] })
 split_moment v s l can = split_kept v.about s.moment s.rule s.seat v s.at l can
 
 -- at that moment the control pass has its new view
-pub left_stands : (v : View) (l : ℕ) → Stands v → CanSplit v l → Stands (split_left l v)
+pub left_stands : (v : View) (l : ℕ) → Stands v → CanSplitPass v l → Stands (split_left l v)
 left_stands v l s can = record {
   moment = record s.moment { views = set s.moment.views s.seat (split_left l v) ++ split_right l v ∷ [] };
   rule = split_moment v s l can;
@@ -267,7 +267,7 @@ left_stands v l s can = record {
 }
 
 -- and the new pass its own
-pub right_stands : (v : View) (l : ℕ) → Stands v → CanSplit v l → Stands (split_right l v)
+pub right_stands : (v : View) (l : ℕ) → Stands v → CanSplitPass v l → Stands (split_right l v)
 right_stands v l s can = record {
   moment = record s.moment { views = set s.moment.views s.seat (split_left l v) ++ split_right l v ∷ [] };
   rule = split_moment v s l can;
@@ -276,5 +276,5 @@ right_stands v l s can = record {
 }
 
 -- a split leaves both passes with views that stand
-pub split_stands : (v : View) (l : ℕ) → Stands v → CanSplit v l → Stands (split_left l v) × Stands (split_right l v)
+pub split_stands : (v : View) (l : ℕ) → Stands v → CanSplitPass v l → Stands (split_left l v) × Stands (split_right l v)
 split_stands v l s can = (left_stands v l s can, right_stands v l s can)

@@ -5,7 +5,7 @@ use Rattle.std.proofs.Math.ListN.{get_elem?}
 use Rattle.fish_rule.proofs.classes.MainStores.{stores}
 use Rattle.fish_rule.proofs.basics.RegistryWords.{length_grows}
 use Rattle.fish_rule.specs.Boundaries.{Lists}
-use Rattle.fish_rule.specs.Bounding.{CanSetFrom, after_from}
+use Rattle.fish_rule.specs.BoundarySteps.{CanStoreFrom, after_store_from}
 use Rattle.fish_rule.specs.Registry.{definitions_at, row_at, version_in}
 use Rattle.fish_rule.specs.Rounds.{IsRound, IsSince, Waits}
 use Rattle.fish_rule.specs.Rule.{Final, Rule}
@@ -20,10 +20,10 @@ use Rattle.atomic_table.specs.Table.{Allows, step}
 use Rattle.fish_rule.proofs.classes.Allowed.{allowed, stands, there}
 use Rattle.fish_rule.proofs.basics.Worlds.{world-registry}
 use Rattle.fish_rule.specs.Table.{Ruled, Sat, Told}
-use Rattle.fish_rule.specs.Told.{told_from}
+use Rattle.fish_rule.specs.Told.{told_store_from}
 
 module _ (k : Key) (w : World) (r : Rule k w) (id : ℕ) (v : View) (at : get_elem? w.views id ≡ some v) where
-  module _ (o : Round) (n : ℕ) (can : CanSetFrom v o n) where
+  module _ (o : Round) (n : ℕ) (can : CanStoreFrom v o n) where
     waiting : IsRound k w.count w.registry r.state r.version_of v.lane o
     waiting = subst (Waits k w.count w.registry r.state r.version_of v.lane) can.waits (r.registry.each id v at).waits
 
@@ -38,14 +38,14 @@ module _ (k : Key) (w : World) (r : Rule k w) (id : ℕ) (v : View) (at : get_el
     lists_it (Confirmed u) h = has_it u h
 
     -- to set where an index begins keeps the rule, and all that lasts
-    pub from_lasts : (s : Rule k (record w {
+    pub store_from_lasts : (s : Rule k (record w {
       registry = put w.registry (row_at o.id 0) (suc n);
-      views = set w.views id (after_from v o n);
+      views = set w.views id (after_store_from v o n);
     })) × Final k r.start s.start r.lane_of s.lane_of w (record w {
       registry = put w.registry (row_at o.id 0) (suc n);
-      views = set w.views id (after_from v o n);
+      views = set w.views id (after_store_from v o n);
     })
-    from_lasts =
+    store_from_lasts =
         let h = waiting in
         let b = h.bound n can.bound in
         stores k w r id v at can.main (row_at o.id 0) (suc n)
@@ -57,21 +57,21 @@ module _ (k : Key) (w : World) (r : Rule k w) (id : ℕ) (v : View) (at : get_el
         (λ e m above after below. has_it (r.version_of m) (b.since m above after below)) (λ e. absurd (omega arith))) tt
 
 -- a store of where an index begins
-pub from_allowed : (given k : Key) → given ≡ k → (size id : ℕ) (me : Sat) (o : Round) (n i x : ℕ) → me.0.about ≡ k
-    → CanSetFrom me.0 o n → o.id < 256 → i ≡ row_at o.id 0 → x ≡ suc n
-    → Allows (Ruled given) size id me i (λ _. x) (λ _. told_from (step size i x 0 none) me x)
-from_allowed given k same size id me o n i x about can few is value =
-    allowed given k same size id me i (λ _. x) (λ _. told_from (step size i x 0 none) me x) (λ ws vs wide r at.
+pub store_from_allowed : (given k : Key) → given ≡ k → (size id : ℕ) (me : Sat) (o : Round) (n i x : ℕ) → me.0.about ≡ k
+    → CanStoreFrom me.0 o n → o.id < 256 → i ≡ row_at o.id 0 → x ≡ suc n
+    → Allows (Ruled given) size id me i (λ _. x) (λ _. told_store_from (step size i x 0 none) me x)
+store_from_allowed given k same size id me o n i x about can few is value =
+    allowed given k same size id me i (λ _. x) (λ _. told_store_from (step size i x 0 none) me x) (λ ws vs wide r at.
     let w : World = world k ws vs in
-    let v' : View = after_from me.0 o n in
+    let v' : View = after_store_from me.0 o n in
     let kept : Rule k (record w { registry = put w.registry i x; views = set vs id v' }) =
     subst (λ (z : ℕ × ℕ). Rule k (record w { registry = put w.registry z.0 z.1; views = set vs id v' }))
-    (λ j. (sym is j, sym value j)) (from_lasts k w r id me.0 at o n can).0 in
+    (λ j. (sym is j, sym value j)) (store_from_lasts k w r id me.0 at o n can).0 in
     let moved = world-registry k ws vs (set vs id v') i x (omega arith) (omega arith) wide in
     let back : x - 1 ≡ n = omega arith in (
       v',
       subst (Rule k) (sym moved) kept,
-      subst (λ (z : ℕ × ℕ). Told me (Rattle.fish_rule.specs.Bounding.after_store_boundary me.0 z.0 z.1 None) (v', me.1))
+      subst (λ (z : ℕ × ℕ). Told me (Rattle.fish_rule.specs.BoundarySteps.after_store_boundary me.0 z.0 z.1 None) (v', me.1))
           (λ j. (sym is j, sym back j))
           (record { view = refl; held = refl; stands = stands k _ id v' kept about (there vs id me.0 v' at) }),
     ))

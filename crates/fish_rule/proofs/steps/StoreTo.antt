@@ -6,7 +6,7 @@ use Rattle.std.proofs.Math.ListN.{get_elem?}
 use Rattle.fish_catalog.specs.declared.listed.Listed.{Listed}
 use Rattle.fish_rule.proofs.classes.BoundariesStay.{waits_later}
 use Rattle.fish_rule.proofs.classes.MainStores.{its, stores}
-use Rattle.fish_rule.specs.Bounding.{CanSetTo, after_to}
+use Rattle.fish_rule.specs.BoundarySteps.{CanStoreTo, after_store_to}
 use Rattle.fish_rule.specs.Registry.{definitions_at, row_at, version_in}
 use Rattle.fish_rule.specs.Rule.{Final, Rule}
 use Rattle.fish_rule.specs.World.{World, put, world}
@@ -17,13 +17,13 @@ use Rattle.atomic_table.specs.Table.{Allows, step}
 use Rattle.fish_rule.proofs.classes.Allowed.{allowed, stands, there}
 use Rattle.fish_rule.proofs.basics.Worlds.{world-registry}
 use Rattle.fish_rule.specs.Table.{Ruled, Sat, Told}
-use Rattle.fish_rule.specs.Told.{told_to}
+use Rattle.fish_rule.specs.Told.{told_store_to}
 
 module _ (k : Key) (w : World) (r : Rule k w) (id : ℕ) (v : View) (at : get_elem? w.views id ≡ some v) where
-  module _ (row n : ℕ) (can : CanSetTo v row n) where
+  module _ (row n : ℕ) (can : CanStoreTo v row n) where
     -- a boundary is as the control pass knows it
     known_bound : (i : ℕ) → i < 2
-        → w.registry (row_at row i) ≡ Rattle.fish_rule.specs.Registry.drafted v.draft (row_at row i)
+        → w.registry (row_at row i) ≡ Rattle.fish_rule.specs.Registry.main_word v.main_words (row_at row i)
     known_bound i small = (its k w r id v at can.main).owned (row_at row i) (inr (row, i, can.few, small, refl))
 
     -- the row is made
@@ -38,14 +38,14 @@ module _ (k : Key) (w : World) (r : Rule k w) (id : ℕ) (v : View) (at : get_el
     none_yet = known_bound 1 (omega arith) ∙ can.endless
 
     -- to set where an index ends keeps the rule, and all that lasts
-    pub to_lasts : (s : Rule k (record w {
+    pub store_to_lasts : (s : Rule k (record w {
       registry = put w.registry (row_at row 1) (suc n);
-      views = set w.views id (after_to v row n);
+      views = set w.views id (after_store_to v row n);
     })) × Final k r.start s.start r.lane_of s.lane_of w (record w {
       registry = put w.registry (row_at row 1) (suc n);
-      views = set w.views id (after_to v row n);
+      views = set w.views id (after_store_to v row n);
     })
-    to_lasts =
+    store_to_lasts =
         let counted = (r.facts id v at).counted in
         let within = can.within in
         let stays = r.registry.each id v at in
@@ -63,22 +63,22 @@ module _ (k : Key) (w : World) (r : Rule k w) (id : ℕ) (v : View) (at : get_el
         (λ e. let a = e.1 in omega arith)) (λ l s above below reached h. h) v.round stays.waits)
 
 -- a store of where one ends
-pub to_allowed : (given k : Key) → given ≡ k → (size id : ℕ) (me : Sat) (row n i x : ℕ) → me.0.about ≡ k
-    → CanSetTo me.0 row n → i ≡ row_at row 1 → x ≡ suc n
-    → Allows (Ruled given) size id me i (λ _. x) (λ _. told_to (step size i x 0 none) me x)
-to_allowed given k same size id me row n i x about can is value =
-    allowed given k same size id me i (λ _. x) (λ _. told_to (step size i x 0 none) me x) (λ ws vs wide r at.
+pub store_to_allowed : (given k : Key) → given ≡ k → (size id : ℕ) (me : Sat) (row n i x : ℕ) → me.0.about ≡ k
+    → CanStoreTo me.0 row n → i ≡ row_at row 1 → x ≡ suc n
+    → Allows (Ruled given) size id me i (λ _. x) (λ _. told_store_to (step size i x 0 none) me x)
+store_to_allowed given k same size id me row n i x about can is value =
+    allowed given k same size id me i (λ _. x) (λ _. told_store_to (step size i x 0 none) me x) (λ ws vs wide r at.
     let w : World = world k ws vs in
-    let v' : View = after_to me.0 row n in
+    let v' : View = after_store_to me.0 row n in
     let few = can.few in
     let kept : Rule k (record w { registry = put w.registry i x; views = set vs id v' }) =
     subst (λ (z : ℕ × ℕ). Rule k (record w { registry = put w.registry z.0 z.1; views = set vs id v' }))
-    (λ j. (sym is j, sym value j)) (to_lasts k w r id me.0 at row n can).0 in
+    (λ j. (sym is j, sym value j)) (store_to_lasts k w r id me.0 at row n can).0 in
     let moved = world-registry k ws vs (set vs id v') i x (omega arith) (omega arith) wide in
     let back : x - 1 ≡ n = omega arith in (
       v',
       subst (Rule k) (sym moved) kept,
-      subst (λ (z : ℕ × ℕ). Told me (Rattle.fish_rule.specs.Bounding.after_store_boundary me.0 z.0 z.1 me.0.round) (v', me.1))
+      subst (λ (z : ℕ × ℕ). Told me (Rattle.fish_rule.specs.BoundarySteps.after_store_boundary me.0 z.0 z.1 me.0.round) (v', me.1))
           (λ j. (sym is j, sym back j))
           (record { view = refl; held = refl; stands = stands k _ id v' kept about (there vs id me.0 v' at) }),
     ))

@@ -11,7 +11,7 @@ use Rattle.fish_rule.proofs.classes.OwnWords.{Becomes, write_kept, write_lasts}
 use Rattle.fish_rule.proofs.basics.Flights.{flight_is}
 use Rattle.fish_rule.specs.Regions.{kind_of}
 use Rattle.fish_rule.specs.Rule.{Final, Rule}
-use Rattle.fish_rule.specs.Steps.{CanStore, after_store, ticked}
+use Rattle.fish_rule.specs.SpaceSteps.{CanStoreWord, after_store_word, ticked}
 use Rattle.fish_rule.specs.World.{World, body, put, log_at, world}
 use Rattle.fish_rule.specs.declared.view.Flight.{Flight}
 use Rattle.fish_rule.specs.declared.view.Key.{Key}
@@ -21,18 +21,18 @@ use Rattle.atomic_table.specs.Table.{Allows, step}
 use Rattle.fish_rule.proofs.basics.Regions.{starts_above}
 use Rattle.fish_rule.proofs.basics.Worlds.{world-log}
 use Rattle.fish_rule.specs.Table.{Ruled, Sat, Stands}
-use Rattle.fish_rule.specs.Told.{told_store}
+use Rattle.fish_rule.specs.Told.{told_store_word}
 use Rattle.fish_rule.proofs.classes.Allowed.{allowed, stands, there}
 
 module _ (k : Key) (w : World) (r : Rule k w) (id : ℕ) (v : View) (at : get_elem? w.views id ≡ some v)
-    (f : Flight) (can : CanStore v f) (x : ℕ) where
+    (f : Flight) (can : CanStoreWord v f) (x : ℕ) where
   -- the place of the word
   abbrev pub stored_place : ℕ
   stored_place = f.line * 4 + length f.words
 
   -- the world afterwards
   abbrev pub stored : World
-  stored = record w { log = put w.log stored_place x; views = set w.views id (after_store v f x) }
+  stored = record w { log = put w.log stored_place x; views = set w.views id (after_store_word v f x) }
 
   -- one word more
   becomes : Becomes (f.lines * 4) f.linked (length f.words) x
@@ -59,22 +59,22 @@ module _ (k : Key) (w : World) (r : Rule k w) (id : ℕ) (v : View) (at : get_el
       longer = (let e = length-append f.words (x ∷ []) in omega arith)
 
   -- a fill keeps the rule
-  pub store_kept : Rule k stored
-  store_kept = write_kept k w r id v at f can.flying (length f.words) x (f.words ++ x ∷ []) (ticked v.clock) becomes
+  pub store_word_kept : Rule k stored
+  store_word_kept = write_kept k w r id v at f can.flying (length f.words) x (f.words ++ x ∷ []) (ticked v.clock) becomes
 
   -- and all that lasts
-  pub store_lasts : Final k r.start store_kept.start r.lane_of store_kept.lane_of w stored
-  unfolding store_kept
-  store_lasts = write_lasts k w r id v at f can.flying (length f.words) x (f.words ++ x ∷ []) (ticked v.clock) becomes
+  pub store_word_lasts : Final k r.start store_word_kept.start r.lane_of store_word_kept.lane_of w stored
+  unfolding store_word_kept
+  store_word_lasts = write_lasts k w r id v at f can.flying (length f.words) x (f.words ++ x ∷ []) (ticked v.clock) becomes
 
 -- a store of the next word of the region in flight
-pub store_allowed : (given k : Key) → given ≡ k → (size id : ℕ) (me : Sat) (f : Flight) (i x : ℕ)
-    → me.0.about ≡ k → CanStore me.0 f → i ≡ log_at k + (f.line * 4 + length f.words - k.line * 4)
-    → Allows (Ruled given) size id me i (λ _. x) (λ _. told_store (step size i x 0 none) me x)
-store_allowed given k same size id me f i x about can is =
-    allowed given k same size id me i (λ _. x) (λ _. told_store (step size i x 0 none) me x) (λ ws vs wide r at.
+pub store_word_allowed : (given k : Key) → given ≡ k → (size id : ℕ) (me : Sat) (f : Flight) (i x : ℕ)
+    → me.0.about ≡ k → CanStoreWord me.0 f → i ≡ log_at k + (f.line * 4 + length f.words - k.line * 4)
+    → Allows (Ruled given) size id me i (λ _. x) (λ _. told_store_word (step size i x 0 none) me x)
+store_word_allowed given k same size id me f i x about can is =
+    allowed given k same size id me i (λ _. x) (λ _. told_store_word (step size i x 0 none) me x) (λ ws vs wide r at.
     let w : World = world k ws vs in
-    let v' : View = after_store me.0 f x in
+    let v' : View = after_store_word me.0 f x in
     let own = flight_is k w r id me.0 at f can.flying in
     let p : ℕ = stored_place k w r id me.0 at f can x in
     let from = starts_above k w.count w.line r.start r.space.regions f.number own.above
@@ -82,16 +82,16 @@ store_allowed given k same size id me f i x about can is =
     let line = own.line in
     let more = can.more in
     let end : f.line + f.lines ≤ k.end = subst (λ (z : Key). f.line + f.lines ≤ z.end) about can.within in
-    let kept = store_kept k w r id me.0 at f can x in
+    let kept = store_word_kept k w r id me.0 at f can x in
     let moved = world-log k ws vs (set vs id v') p i x (omega arith) (omega arith) is wide in (
       v',
       subst (Rule k) (sym moved) kept,
       λ g flying.
           let e : f ≡ g = Rattle.fish_rule.proofs.basics.Flights.one_flight f g (sym can.flying ∙ flying) in
           record {
-            view = ap (λ (z : Flight). after_store me.0 z x) e;
+            view = ap (λ (z : Flight). after_store_word me.0 z x) e;
             held = refl;
-            stands = subst (λ (z : Flight). Stands (after_store me.0 z x)) e
+            stands = subst (λ (z : Flight). Stands (after_store_word me.0 z x)) e
                 (stands k _ id v' kept about (there vs id me.0 v' at));
           },
     ))

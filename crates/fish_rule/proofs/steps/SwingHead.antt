@@ -15,19 +15,20 @@ use Rattle.fish_rule.proofs.classes.Allowed.{allowed, loaded_words, stands, ther
 use Rattle.fish_rule.proofs.basics.ChainOrder.{chain_same, chain_swung}
 use Rattle.fish_rule.proofs.basics.Flights.{one_flight, flight_is}
 use Rattle.fish_rule.proofs.basics.FirstHeads.{first_low, flight_from}
-use Rattle.fish_rule.proofs.steps.LoadHead.{head_kept, head_rises}
+use Rattle.fish_rule.proofs.steps.LoadHead.{load_head_kept, head_rises}
 use Rattle.fish_rule.proofs.classes.FactsStay.{chained_later, facts_later}
 use Rattle.fish_rule.proofs.classes.LinkOne.{Leaves, link_final, link_from, link_here, link_kept, link_lasts, link_to}
 use Rattle.fish_rule.proofs.classes.LinkOne.{either_way}
 use Rattle.fish_rule.proofs.classes.OwnWords.{not_linked}
 use Rattle.fish_rule.proofs.basics.Worlds.{area-in, put-else, put-here, world-head}
 use Rattle.fish_rule.specs.Chains.{Chain, Chained, Linked}
-use Rattle.fish_rule.specs.Linking.{CanAim, CanSwing, TopRises, after_swing, head_seen, own_place, swung}
-use Rattle.fish_rule.specs.Told.{ToldSwing, bucket_at}
+use Rattle.fish_rule.specs.ChainSteps.{CanAimEntry, CanSwingHead, HeadRises, after_swing_head, head_seen, own_place}
+use Rattle.fish_rule.specs.ChainSteps.{swung}
+use Rattle.fish_rule.specs.Told.{ToldSwingHead, bucket_at}
 use Rattle.fish_rule.specs.Facts.{Facts}
 use Rattle.fish_rule.specs.Parts.{first_head}
 use Rattle.fish_rule.specs.Rule.{Final, Rule}
-use Rattle.fish_rule.specs.Steps.{ticked}
+use Rattle.fish_rule.specs.SpaceSteps.{ticked}
 use Rattle.fish_rule.specs.Table.{Ruled, Sat, Told}
 use Rattle.fish_rule.specs.World.{World, heads_at, put, world}
 use Rattle.fish_rule.specs.declared.view.Flight.{Flight}
@@ -37,7 +38,7 @@ use Rattle.fish_rule.specs.Flying.{region_in}
 
 -- the place that the own entry is aimed at stands in the log
 pub aimed_there : (k : Key) (w : World) (r : Rule k w) (id : ℕ) (v : View) (at : get_elem? w.views id ≡ some v)
-    (f : Flight) (can : CanAim v f) (x : ℕ) → get_or f.words (entry_at f.linked) 0 ≡ x → w.log (own_place f) ≡ x
+    (f : Flight) (can : CanAimEntry v f) (x : ℕ) → get_or f.words (entry_at f.linked) 0 ≡ x → w.log (own_place f) ≡ x
 aimed_there k w r id v at f can x aimed =
     let own = flight_is k w r id v at f can.flying in
     let room = own_room k w r id v at f can in
@@ -47,7 +48,7 @@ aimed_there k w r id v at f can x aimed =
     absurd (omega arith)) ∙ aimed
 
 module _ (k : Key) (w : World) (r : Rule k w) (id : ℕ) (v : View) (at : get_elem? w.views id ≡ some v)
-    (about : v.about ≡ k) (f : Flight) (b h : ℕ) (can : CanSwing v f b h) (top : w.head b ≡ h) where
+    (about : v.about ≡ k) (f : Flight) (b h : ℕ) (can : CanSwingHead v f b h) (top : w.head b ≡ h) where
   -- the place of the own entry
   abbrev own_at : ℕ
   own_at = own_place f
@@ -126,29 +127,29 @@ module _ (k : Key) (w : World) (r : Rule k w) (id : ℕ) (v : View) (at : get_el
   chained =
       let q = chained_later k w swing_world r.start r.start r.lane_of r.lane_of final v.learned (r.chained id v at) in
       let top_ = put-here w.head b own_at in
-      record { nodes = (here, q.nodes); lows = q.lows; tops = (omega arith, q.tops) }
+      record { nodes = (here, q.nodes); least_previous = q.least_previous; least_heads = (omega arith, q.least_heads) }
 
   -- a swing keeps the rule
-  pub swing_kept : Rule k swing_world
-  swing_kept = link_kept k w r id v at f can.aim b bucket head' w.log swinger.learned swinger.clock leaves chains facts
+  pub swing_head_kept : Rule k swing_world
+  swing_head_kept = link_kept k w r id v at f can.aim b bucket head' w.log swinger.learned swinger.clock leaves chains facts
       (r.opens id v at) (r.floors id v at) chained (r.registry.each id v at)
 
   -- and all that lasts
-  pub swing_lasts : Final k r.start swing_kept.start r.lane_of swing_kept.lane_of w swing_world
-  unfolding swing_kept
-  swing_lasts =
+  pub swing_head_lasts : Final k r.start swing_head_kept.start r.lane_of swing_head_kept.lane_of w swing_world
+  unfolding swing_head_kept
+  swing_head_lasts =
       link_lasts k w r id v at f can.aim b bucket head' w.log swinger.learned swinger.clock leaves chains facts
       (r.opens id v at) (r.floors id v at) chained (r.registry.each id v at)
 
 -- the own entry is not linked yet
 pub own_unlinked : (k : Key) (w : World) (r : Rule k w) (id : ℕ) (v : View)
-    (at : get_elem? w.views id ≡ some v) (f : Flight) (can : CanAim v f) (b p : ℕ)
+    (at : get_elem? w.views id ≡ some v) (f : Flight) (can : CanAimEntry v f) (b p : ℕ)
     → Linked k w.dir w.log w.views b p → p ≢ own_place f
 own_unlinked k w r id v at f can b p = not_linked k w r id v at f can.flying (entry_at f.linked) 0
     (set f.words (entry_at f.linked) 0) (ticked v.clock) (becomes k w r id v at f can 0) b p
 
 -- a swing leaves the key
-about_swing : (v : View) {k : Key} (f : Flight) (b h x : ℕ) → v.about ≡ k → (after_swing v f b h x).about ≡ k
+about_swing : (v : View) {k : Key} (f : Flight) (b h x : ℕ) → v.about ≡ k → (after_swing_head v f b h x).about ≡ k
 about_swing v {k} f b h x about = by (ℕ_discrete x h)
   where
     by : (d : Dec (x ≡ h)) → (choose d (swung v f b) (head_seen v b x (ticked v.clock))).about ≡ k
@@ -157,18 +158,18 @@ about_swing v {k} f b h x about = by (ℕ_discrete x h)
 
 -- the own place is no head before
 pub head_other : (k : Key) (w : World) (r : Rule k w) (id : ℕ) (v : View) (at : get_elem? w.views id ≡ some v)
-    (f : Flight) (can : CanAim v f) (b : ℕ) → w.head b ≢ own_place f
+    (f : Flight) (can : CanAimEntry v f) (b : ℕ) → w.head b ≢ own_place f
 head_other k w r id v at f can b e = ⊎_elim (λ (z : w.head b ≡ first_head k b).
     let low_ = first_low k w r b in let behind = flight_from k w r id v at f can.flying in absurd (omega arith))
     (λ (l : Linked k w.dir w.log w.views b (w.head b)). own_unlinked k w r id v at f can b (w.head b) l e)
     (r.chains b).some
 
 -- the table allows it
-pub swing_allowed : (given k : Key) → given ≡ k → (size id : ℕ) (me : Sat) (f : Flight) (b h i new : ℕ)
-    → me.0.about ≡ k → CanSwing me.0 f b h → i ≡ heads_at + b → new ≡ own_place f
-    → Allows (Ruled given) size id me i (λ n. either (eqb n h) new n) (ToldSwing (step size i h new none) me)
-swing_allowed given k same size id me f b h i new about can is own =
-    allowed given k same size id me i (λ n. either (eqb n h) new n) (ToldSwing (step size i h new none) me)
+pub swing_head_allowed : (given k : Key) → given ≡ k → (size id : ℕ) (me : Sat) (f : Flight) (b h i new : ℕ)
+    → me.0.about ≡ k → CanSwingHead me.0 f b h → i ≡ heads_at + b → new ≡ own_place f
+    → Allows (Ruled given) size id me i (λ n. either (eqb n h) new n) (ToldSwingHead (step size i h new none) me)
+swing_head_allowed given k same size id me f b h i new about can is own =
+    allowed given k same size id me i (λ n. either (eqb n h) new n) (ToldSwingHead (step size i h new none) me)
     (λ ws vs wide r at.
     let w : World = world k ws vs in
     let x : ℕ = get_or ws i 0 in
@@ -178,33 +179,33 @@ swing_allowed given k same size id me f b h i new about can is own =
     ∙ ap (λ (z : ℕ). get_or ws (heads_at + z) 0) minus
     ∙ sym (area-in ws heads_at 0 k.buckets b (omega arith) (omega arith)) in
     let index : bucket_at i ≡ b = omega arith in
-    let v' : View = after_swing me.0 f b h x in
+    let v' : View = after_swing_head me.0 f b h x in
     let v_at = there vs id me.0 v' at in
     let rule : Rule k (world k (set ws i (either (eqb x h) new x)) (set vs id v')) =
     exchanged x h new (λ y. Rule k (world k (set ws i y) (set vs id v')))
     (λ e. let hit : v' ≡ swung me.0 f b = choose_first (ℕ_discrete x h) (swung me.0 f b) (head_seen me.0 b x (ticked me.0.clock)) e in
     subst (λ (z : ℕ × View). Rule k (world k (set ws i z.0) (set vs id z.1))) (λ j. (sym own j, sym hit j))
     (subst (Rule k) (sym (world-head k ws vs (set vs id (swung me.0 f b)) b i (own_place f) below is wide))
-    (swing_kept k w r id me.0 at about f b h can (sym word ∙ e))))
+    (swing_head_kept k w r id me.0 at about f b h can (sym word ∙ e))))
     (λ ne. let miss : v' ≡ head_seen me.0 b x (ticked me.0.clock) =
     choose_second (ℕ_discrete x h) (swung me.0 f b) (head_seen me.0 b x (ticked me.0.clock)) ne in
     subst (λ (z : View). Rule k (world k (set ws i x) (set vs id z))) (sym miss)
     (loaded_words k ws (set vs id (head_seen me.0 b x (ticked me.0.clock))) i
     (subst (λ (z : ℕ). Rule k (record w { views = set vs id (head_seen me.0 b z (ticked me.0.clock)) })) (sym word)
-    (head_kept k w r id me.0 at b (ticked me.0.clock) about)))) in
+    (load_head_kept k w r id me.0 at b (ticked me.0.clock) about)))) in
     let about' : v'.about ≡ k = about_swing me.0 f b h x about in (
       v',
       rule,
       record {
         told = λ g flying.
             let e : f ≡ g = one_flight f g (sym can.aim.flying ∙ flying) in
-            subst (λ (z : ℕ × Flight). Told me (after_swing me.0 z.1 z.0 h x) (v', me.1))
+            subst (λ (z : ℕ × Flight). Told me (after_swing_head me.0 z.1 z.0 h x) (v', me.1))
             (λ j. (sym index j, e j)) (record {
               view = refl;
               held = refl;
               stands = stands k _ id v' rule about' v_at;
             });
-        rises = subst (λ (z : ℕ × ℕ). TopRises me.0 z.0 z.1) (λ j. (sym index j, sym word j))
+        rises = subst (λ (z : ℕ × ℕ). HeadRises me.0 z.0 z.1) (λ j. (sym index j, sym word j))
             (head_rises k w r id me.0 at b);
         other = λ e. head_other k w r id me.0 at f can.aim b (sym word ∙ e ∙ own);
       },
@@ -212,15 +213,15 @@ swing_allowed given k same size id me f b h i new about can is own =
 
 module _ (v : View) (f : Flight) (b h x : ℕ) where
   -- a swing
-  pub swing_about : (after_swing v f b h x).about ≡ v.about
+  pub swing_about : (after_swing_head v f b h x).about ≡ v.about
   swing_about = either_way (λ (z : View). z.about) v.about (ℕ_discrete x h) (swung v f b) (head_seen v b x (ticked v.clock)) refl refl
 
-  pub swing_lane : (after_swing v f b h x).lane ≡ v.lane
+  pub swing_lane : (after_swing_head v f b h x).lane ≡ v.lane
   swing_lane = either_way (λ (z : View). z.lane) v.lane (ℕ_discrete x h) (swung v f b) (head_seen v b x (ticked v.clock)) refl refl
 
-  pub swing_shut : (after_swing v f b h x).shut ≡ v.shut
+  pub swing_shut : (after_swing_head v f b h x).shut ≡ v.shut
   swing_shut = either_way (λ (z : View). z.shut) v.shut (ℕ_discrete x h) (swung v f b) (head_seen v b x (ticked v.clock)) refl refl
 
-  pub region_swing : v.flight ≡ Some f → region_in (after_swing v f b h x).flight ≡ region_in (Some f)
+  pub region_swing : v.flight ≡ Some f → region_in (after_swing_head v f b h x).flight ≡ region_in (Some f)
   region_swing flying = either_way (λ (z : View). region_in z.flight) (region_in (Some f)) (ℕ_discrete x h)
       (swung v f b) (head_seen v b x (ticked v.clock)) refl (ap region_in flying)

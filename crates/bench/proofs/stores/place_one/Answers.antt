@@ -4,7 +4,7 @@ use Rattle.bench.proofs.Placing.{can_place, entered_published, flying, lane_publ
 use Rattle.fish_ingest.proofs.PlacementClaims.{trying_begins, trying_placed}
 use Rattle.fish_ingest.proofs.PlacementRecord.{can_write, few_lines_of, placed_flight}
 use Rattle.fish_rule.specs.Passes.{view}
-use Rattle.fish_rule.specs.Steps.{flight_at}
+use Rattle.fish_rule.specs.SpaceSteps.{flight_at}
 use Rattle.bench.proofs.stores.place_one.Goals as goal
 
 pub claim-requires-clause-lines : goal.claim-requires-clause-lines

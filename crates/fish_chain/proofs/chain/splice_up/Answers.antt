@@ -5,7 +5,7 @@ use Rattle.fish_chain.proofs.Splicing.{IsSplicing, aimed_node, splice_aim, splic
 use Rattle.fish_chain.proofs.Splicing.{splice_hit, splice_miss, splice_over, splicing}
 use Rattle.fish_chain.specs.Links.{CanLinkBelow, Tried}
 use Rattle.fish_rule.proofs.laws.Links.{one_bucket}
-use Rattle.fish_rule.specs.Linking.{aimed_at}
+use Rattle.fish_rule.specs.ChainSteps.{aimed_at}
 use Rattle.fish_rule.specs.Passes.{view}
 use Rattle.fish_rule.specs.Table.{Stands}
 use Rattle.fish_rule.specs.declared.view.Flight.{Flight}

@@ -6,7 +6,7 @@ use Rattle.fish_rule.proofs.laws.Learning.{extends_both}
 use Rattle.fish_rule.proofs.laws.ChainFacts.{always_later}
 use Rattle.fish_chain.specs.Values.{AreBytesIn}
 use Rattle.fish_rule.specs.Passes.{view}
-use Rattle.fish_rule.specs.Walking.{Always}
+use Rattle.fish_rule.specs.ChainFacts.{Always}
 use Rattle.fish_chain.proofs.value.are_bytes.Goals as goal
 
 pub load-word-requires-clause-read : goal.load-word-requires-clause-read

@@ -6,9 +6,9 @@ use Rattle.fish_chain.specs.Values.{AreBytesIn, HasBytes, IsWordIn}
 use Rattle.fish_rule.proofs.laws.Learning.{extends_both, learns_self}
 use Rattle.fish_rule.proofs.laws.ChainFacts.{always_later}
 use Rattle.fish_rule.specs.Passes.{view}
-use Rattle.fish_rule.specs.Reading.{CanLook, CanRead, after_look}
+use Rattle.fish_rule.specs.LoadSteps.{CanLookAt, CanReadWord, after_look_at}
 use Rattle.fish_rule.specs.Table.{Sees}
-use Rattle.fish_rule.specs.Walking.{Always}
+use Rattle.fish_rule.specs.ChainFacts.{Always}
 use Rattle.fish_rule.specs.declared.view.Found.{Found}
 use Rattle.fish_chain.proofs.value.has_bytes.Goals.{then-kind_in-kind-via-then-kind_in-kind}
 use Rattle.fish_chain.proofs.value.has_bytes.Goals.{then-kind_in-kind-via-else-kind_in-kind+then-size_in-bytes}
@@ -16,7 +16,7 @@ use Rattle.fish_chain.proofs.value.has_bytes.Goals as goal
 
 pub look_at-requires-clause-view : goal.look_at-requires-clause-view
 look_at-requires-clause-view g c =
-    subst (CanLook (view c.args.pass.now)) (sym c.from.ensures)
+    subst (CanLookAt (view c.args.pass.now)) (sym c.from.ensures)
     (given_look (view c.args.pass.now) c.args.node.now c.requires.pass.stands c.requires.node c.requires.counted)
 
 pub load-header-requires-clause-read : goal.load-header-requires-clause-read
@@ -25,7 +25,7 @@ load-header-requires-clause-read g c =
     let u = view c.look_at.new.pass in
     let look = c.look_at.ensures.view in
     let f = given_found v u c.args.node.now look.0 c.look_at.result
-    (subst (λ (z : ℕ). u ≡ after_look v z look.0 c.look_at.result) c.from.ensures look.1) c.requires.node
+    (subst (λ (z : ℕ). u ≡ after_look_at v z look.0 c.look_at.result) c.from.ensures look.1) c.requires.node
     (subst (λ (z : ℕ). Sees v z c.look_at.result) c.from.ensures c.look_at.ensures.sees) in
     read_header u f.0 c.args.node.now.number c.line_of_word-line.result c.look_at.ensures.pass.stands f.1 f.2
     (f.3 ∙ sym c.line_of_word-line.ensures) f.4
@@ -38,7 +38,7 @@ load-third-requires-clause-read g c =
     let h = headed_on (view c.args.pass.now) (view c.look_at.new.pass) t t node c.from.result look.0 c.look_at.result
     c.line_of_word-line.result c.load-header.result c.requires.node c.from.ensures look.1 c.look_at.ensures.sees
     c.line_of_word-line.ensures c.load-header.ensures.extends.learns c.load-header.ensures.known (learns_self t) in
-    subst (λ (z : ℕ). (f : Found) × CanRead t f (3 * z + 3) × (f.line ≡ c.line_of_word-line.result) × (f.number ≡ node.number))
+    subst (λ (z : ℕ). (f : Found) × CanReadWord t f (3 * z + 3) × (f.line ≡ c.line_of_word-line.result) × (f.number ≡ node.number))
     (sym c.from-2.ensures) (third_may t node c.line_of_word-line.result c.load-header.result c.load-header.ensures.pass.stands h)
 
 pub returns-then-kind_in-kind-clause-extends : goal.returns-then-kind_in-kind-clause-extends

@@ -4,7 +4,7 @@ use Rattle.fish_chain.proofs.Values.{word_read}
 use Rattle.fish_chain.specs.Values.{IsWordIn}
 use Rattle.fish_rule.proofs.laws.Learning.{extends_to_read, read_here}
 use Rattle.fish_rule.specs.Passes.{view}
-use Rattle.fish_rule.specs.Walking.{Always}
+use Rattle.fish_rule.specs.ChainFacts.{Always}
 use Rattle.fish_chain.proofs.value.load.Goals as goal
 
 pub returns-clause-word : goal.returns-clause-word
@@ -15,7 +15,7 @@ returns-clause-word g c =
     let f = t.0 in
     let can = t.1 in
     let told = c.read_word.ensures.view in
-    let place = subst (λ (z : ℕ). u ≡ Rattle.fish_rule.specs.Reading.after_read v (z * 4 + c.args.offset) c.read_word.result)
+    let place = subst (λ (z : ℕ). u ≡ Rattle.fish_rule.specs.LoadSteps.after_read_word v (z * 4 + c.args.offset) c.read_word.result)
     (sym t.2) told in
     let learns = (extends_to_read v u _ _ place).learns in
     subst (λ (z : ℕ). Always u (IsWordIn z c.args.offset c.read_word.result)) t.3

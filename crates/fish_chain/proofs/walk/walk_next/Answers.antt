@@ -10,7 +10,7 @@ use Rattle.fish_chain.specs.declared.walk.Node.{Node}
 use Rattle.fish_layout.specs.Entry.{entry_number}
 use Rattle.fish_rule.specs.Logs.{Extends}
 use Rattle.fish_rule.specs.Passes.{view, walk_of}
-use Rattle.fish_rule.specs.Walking.{Always, IsClear}
+use Rattle.fish_rule.specs.ChainFacts.{Always, IsClear}
 use Rattle.fish_rule.specs.declared.table.Walk.{Walk}
 use Rattle.fish_rule.specs.declared.view.View.{View}
 use Rattle.fish_chain.proofs.walk.walk_next.Goals.{else-walk-from-via-then-walk-from+else-from-walk}

@@ -4,7 +4,7 @@ use Rattle.fish_chain.proofs.Descents.{begun_at, first_known}
 use Rattle.fish_chain.specs.Walks.{HasBegun, IsPast}
 use Rattle.fish_rule.proofs.laws.Descents.{head_here}
 use Rattle.fish_rule.proofs.laws.Links.{node_law}
-use Rattle.fish_rule.specs.Linking.{HasNode, after_head}
+use Rattle.fish_rule.specs.ChainSteps.{HasNode, after_load_head}
 use Rattle.fish_rule.specs.Parts.{first_head}
 use Rattle.fish_rule.specs.Passes.{view, walk_of}
 use Rattle.fish_rule.specs.declared.table.Walk.{Walk}
@@ -27,7 +27,7 @@ overflow_add-walk g c =
     let some_ = c.args.log.now.fits.some_lines in
     let first = past_bound key v x c.requires.pass.about in
     ⊎_elim (λ (e : IsPast v x). let least = first e in omega arith)
-    (λ (m : HasNode (after_head v c.from.result x) c.from.result x).
+    (λ (m : HasNode (after_load_head v c.from.result x) c.from.result x).
     let node : HasNode u c.from.result x =
     subst (λ (z : View). HasNode z c.from.result x) (sym c.load_head-place.ensures.view) m in
     let law = node_law key u c.from.result x c.load_head-place.ensures.pass.about
@@ -43,8 +43,8 @@ returns-clause-begun g c =
     let v = view c.args.pass.now in
     let x : ℕ = c.load_head-place.result in
     let bucket = c.from.ensures in
-    let same : view c.keep_walk.new.pass ≡ after_head v c.args.bucket x =
-    c.keep_walk.ensures.view ∙ c.load_head-place.ensures.view ∙ ap (λ (z : ℕ). after_head v z x) bucket in
+    let same : view c.keep_walk.new.pass ≡ after_load_head v c.args.bucket x =
+    c.keep_walk.ensures.view ∙ c.load_head-place.ensures.view ∙ ap (λ (z : ℕ). after_load_head v z x) bucket in
     let walk : walk_of c.keep_walk.new.pass ≡ record {
       bucket = c.args.bucket;
       from = c.args.from;

@@ -4,7 +4,7 @@ use Rattle.fish_claim.proofs.Claims.{can_publish_void, can_store_header, claimed
 use Rattle.fish_claim.proofs.Claims.{kind_is, mark_shuts}
 use Rattle.fish_layout.specs.Header.{void_word}
 use Rattle.fish_rule.specs.Passes.{view}
-use Rattle.fish_rule.specs.Steps.{after_publish, after_store, flight_at, with_word}
+use Rattle.fish_rule.specs.SpaceSteps.{after_publish_region, after_store_word, flight_at, with_word}
 use Rattle.fish_claim.specs.declared.claimed.Claimed.TheVariants as answer
 use Rattle.fish_rule.specs.declared.view.Flight.{Flight}
 use Rattle.fish_rule.specs.declared.view.Kind.TheVariants.{Mark, Stored, Void}
@@ -63,7 +63,7 @@ publish_region-requires-clause-view c =
     (view c.args.pass.now) c.claim_lines-region.new.pass c.args.lines c.claim_lines-region.result Void
     c.claim_lines-region.ensures.pass c.claim_lines-region.ensures.view c.claim_lines-region.ensures.lines
     (sym c.in-Void.is ∙ c.kind_in.ensures) in
-    let stored = subst (λ (z : ℕ). view c.store_word.new.pass ≡ after_store
+    let stored = subst (λ (z : ℕ). view c.store_word.new.pass ≡ after_store_word
     (view got.new.pass) f z) c.void_header.ensures
     (c.store_word.ensures.view f (claimed_flight (view c.args.pass.now) _ c.args.lines _ _ got.ensures.view)) in (
       with_word f (void_word c.args.lines),
@@ -108,16 +108,16 @@ returns-in-Void-clause-claimed c =
     (view c.args.pass.now) c.claim_lines-region.new.pass c.args.lines c.claim_lines-region.result Void
     c.claim_lines-region.ensures.pass c.claim_lines-region.ensures.view c.claim_lines-region.ensures.lines
     (sym c.in-Void.is ∙ c.kind_in.ensures) in
-    let stored : view c.store_word.new.pass ≡ after_store (view got.new.pass) f x =
-    subst (λ (z : ℕ). view c.store_word.new.pass ≡ after_store (view got.new.pass) f z) c.void_header.ensures
+    let stored : view c.store_word.new.pass ≡ after_store_word (view got.new.pass) f x =
+    subst (λ (z : ℕ). view c.store_word.new.pass ≡ after_store_word (view got.new.pass) f z) c.void_header.ensures
     (c.store_word.ensures.view f (claimed_flight (view c.args.pass.now) _ c.args.lines _ _ got.ensures.view)) in
-    let published : view c.publish_region.new.pass ≡ after_publish (view c.store_word.new.pass) (with_word f x) =
+    let published : view c.publish_region.new.pass ≡ after_publish_region (view c.store_word.new.pass) (with_word f x) =
     c.publish_region.ensures.view (with_word f x) (ap (λ (z : View). z.flight) stored) in
     claimed_as c.args.log.now.key (view c.args.pass.now)
     (view c.publish_region.new.pass) c.args.lines got.result.number got.result.line _ Void c.requires.pass.about
     got.ensures.counted got.ensures.within kind refl
-    (published ∙ ap (λ (z : View). after_publish z (with_word f x))
-    (stored ∙ ap (λ (z : View). after_store z f x) got.ensures.view))
+    (published ∙ ap (λ (z : View). after_publish_region z (with_word f x))
+    (stored ∙ ap (λ (z : View). after_store_word z f x) got.ensures.view))
 
 pub returns-in-Some-clause-claimed : goal.returns-in-Some-clause-claimed
 returns-in-Some-clause-claimed c =
@@ -127,7 +127,7 @@ returns-in-Some-clause-claimed c =
     (view c.args.pass.now) c.claim_lines-region.new.pass c.args.lines c.claim_lines-region.result Mark
     c.claim_lines-region.ensures.pass c.claim_lines-region.ensures.view c.claim_lines-region.ensures.lines
     (sym c.in-Mark.is ∙ c.kind_in.ensures) in
-    let published : view c.publish_region-in-Mark.new.pass ≡ after_publish (view got.new.pass) f =
+    let published : view c.publish_region-in-Mark.new.pass ≡ after_publish_region (view got.new.pass) f =
     c.publish_region-in-Mark.ensures.view f
     (claimed_flight (view c.args.pass.now) _ c.args.lines _ _ got.ensures.view) in
     let shut = mark_shuts (view c.args.pass.now) (view got.new.pass) c.args.lines _ _ got.ensures.view
@@ -144,4 +144,4 @@ returns-in-Some-clause-claimed c =
     (view c.publish_region-in-Mark.new.pass) c.args.lines got.result.number got.result.line _ Mark
     c.requires.pass.about got.ensures.counted got.ensures.within kind
     (ap (λ (z : Shut). answer.Overflow z) same)
-    (published ∙ ap (λ (z : View). after_publish z f) got.ensures.view)
+    (published ∙ ap (λ (z : View). after_publish_region z f) got.ensures.view)

@@ -13,7 +13,7 @@ use Rattle.fish_epoch.specs.Rows.{HasRow, OnlyReads}
 use Rattle.fish_epoch.proofs.rows.make.Goals as goal
 
 -- the operation that was read, by the version that it made
-operation : (v u : View) (p version x : ℕ) → p ≡ suc version → u ≡ Rattle.fish_rule.specs.Entering.after_registry v (op_at p) x
+operation : (v u : View) (p version x : ℕ) → p ≡ suc version → u ≡ Rattle.fish_rule.specs.RegistrySteps.after_load_registry v (op_at p) x
     → Among (record { index = op_at (suc version); value = x }) u.learned.words
 operation v u p version x e is = subst (λ (z : ℕ). Among (record { index = op_at z; value = x }) u.learned.words) e
     (operation_read v u (op_at p) x is)
@@ -23,7 +23,7 @@ from_here : (k : Key) (v : View) (n : ℕ) → v.about ≡ k → k.version ≤ n
 from_here k v n about from = subst (λ (z : Key). z.version ≤ n) (sym about) from
 
 -- to read the operation and then the row only reads
-reads_row : (v u t : View) (p x : ℕ) → u ≡ Rattle.fish_rule.specs.Entering.after_registry v p x → OnlyReads u t → OnlyReads v t
+reads_row : (v u t : View) (p x : ℕ) → u ≡ Rattle.fish_rule.specs.RegistrySteps.after_load_registry v p x → OnlyReads u t → OnlyReads v t
 reads_row v u t p x e = reads_both v u t (reads_word v u p x e)
 
 pub registered_row-requires-clause-row : goal.registered_row-requires-clause-row

@@ -7,7 +7,7 @@ use Rattle.fish_lanes.proofs.Lists.{get_set_else, get_set_here, read_at, some_on
 use Rattle.fish_lanes.specs.Blocks.{HasGiven, HasSeat, IsSeated}
 use Rattle.fish_lanes.specs.declared.lane.Lane.{Lane}
 use Rattle.fish_rule.specs.Passes.{view}
-use Rattle.fish_rule.specs.Seating.{CanSplit, split_left, split_right}
+use Rattle.fish_rule.specs.SeatSteps.{CanSplitPass, split_left, split_right}
 use Rattle.fish_rule.specs.declared.table.Log.{Log}
 use Rattle.fish_rule.specs.declared.view.View.{View}
 use Rattle.fish_lanes.proofs.block.give_all.Goals as goal
@@ -30,7 +30,7 @@ give-requires-clause-can c =
     let at : slice_get c.loop-i.lanes i ≡ Some r = read_at c.loop-i.lanes i r (omega arith) c.index-lanes-i.is in
     let new = c.requires.can.new i r (sym (inv.rest i (omega arith)) ∙ at) in
     let few = c.requires.can.few in
-    subst (λ (z : ℕ). CanSplit (view c.loop-i.main) z)
+    subst (λ (z : ℕ). CanSplitPass (view c.loop-i.main) z)
     (sym new.number_is ∙ ap (λ (z : Lane). z.number) c.index-lanes-i.is)
     (can_split (view c.args.main.now) (view c.loop-i.main) i inv.given (omega arith))
 

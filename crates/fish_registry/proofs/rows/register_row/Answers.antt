@@ -2,33 +2,33 @@
 use Rattle.std.proofs.Common.{sym, subst}
 use Rattle.fish_registry.proofs.Registrations.{IsDrafted, can_raise, can_store, registered}
 use Rattle.fish_registry.specs.Rows.{HasRegistered}
-use Rattle.fish_rule.specs.Entering.{CanBump, after_bump}
+use Rattle.fish_rule.specs.RegistrySteps.{CanRaiseVersion, after_raise_version}
 use Rattle.fish_rule.specs.Passes.{view}
 use Rattle.fish_rule.specs.declared.view.View.{View}
 use Rattle.fish_registry.proofs.rows.register_row.Goals.{After-define_word-arg-1}
 use Rattle.fish_registry.proofs.rows.register_row.Goals as goal
 
 -- the words of the row are stored
-drafted : (c : After-define_word-arg-1) → IsDrafted (view c.args.pass.now) c.args.row.now c.args.version
+main_word : (c : After-define_word-arg-1) → IsDrafted (view c.args.pass.now) c.args.row.now c.args.version
     c.from-id.result (view c.define_row.new.pass)
-drafted c = record {
+main_word c = record {
   is_id = c.from-id.ensures;
   make = c.requires.make;
   may = c.requires.row;
   writable = c.row_words.ensures.writable;
   words = c.row_words.result;
   says = c.row_words.ensures.words;
-  drafted = c.define_row.ensures.drafted;
+  main_word = c.define_row.ensures.drafted;
 }
 
 -- so the operation may be
 pub define_word-requires-clause-view : goal.define_word-requires-clause-view
-define_word-requires-clause-view c = can_store _ _ _ _ _ (drafted c)
+define_word-requires-clause-view c = can_store _ _ _ _ _ (main_word c)
 
 -- and then the version raised
 pub raise_version-requires-clause-view : goal.raise_version-requires-clause-view
 raise_version-requires-clause-view c =
-    subst CanBump (sym c.define_word.ensures.view) (can_raise _ _ _ _ _ (drafted c.before.before))
+    subst CanRaiseVersion (sym c.define_word.ensures.view) (can_raise _ _ _ _ _ (main_word c.before.before))
 
 -- which makes it
 pub returns-clause-registered : goal.returns-clause-registered
@@ -36,5 +36,5 @@ returns-clause-registered c =
     let v = view c.args.pass.now in
     let row = c.args.row.now in
     subst (HasRegistered v row) (sym c.raise_version.ensures.view)
-    (subst (λ (z : View). HasRegistered v row (after_bump z)) (sym c.define_word.ensures.view)
-    (registered _ _ _ _ _ (drafted c.before.before.before)))
+    (subst (λ (z : View). HasRegistered v row (after_raise_version z)) (sym c.define_word.ensures.view)
+    (registered _ _ _ _ _ (main_word c.before.before.before)))

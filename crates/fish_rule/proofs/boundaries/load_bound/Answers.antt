@@ -1,6 +1,6 @@
 -- The table allows a load of the tail behind the last lane.
 use Rattle.std.proofs.Common.{◌∙◌, sym, arith, ap, subst, ℕ, ◌<◌, ◌≤◌}
-use Rattle.fish_rule.proofs.steps.LoadBound.{bound_allowed}
+use Rattle.fish_rule.proofs.steps.LoadBound.{load_bound_allowed}
 use Rattle.fish_rule.specs.Flying.{region_in}
 use Rattle.fish_rule.specs.Passes.{view}
 use Rattle.fish_rule.specs.Table.{Stands}
@@ -13,7 +13,7 @@ load-found-requires c =
     let seat = c.args.pass.now.seat in (
       c.requires.pass.table,
       subst (λ (z : ℕ). 0 < z) (sym log.wide) (omega arith),
-      bound_allowed log.table.shared.key log.key log.keyed log.table.shared.table_id.slots seat.id seat.me
+      load_bound_allowed log.table.shared.key log.key log.keyed log.table.shared.table_id.slots seat.id seat.me
           c.requires.view.0 c.requires.pass.about c.requires.view.1,
     )
 

@@ -1,6 +1,6 @@
 -- The table allows a load of a boundary.
 use Rattle.std.proofs.Common.{◌∙◌, sym, arith, ap, subst, ℕ, ◌<◌, ◌≤◌, ◌+◌, ◌*◌}
-use Rattle.fish_rule.proofs.steps.LoadBoundary.{boundary_allowed}
+use Rattle.fish_rule.proofs.steps.LoadBoundary.{load_boundary_allowed}
 use Rattle.fish_rule.specs.Flying.{region_in}
 use Rattle.fish_rule.specs.Table.{Stands}
 use Rattle.fish_rule.specs.declared.view.View.{View}
@@ -14,7 +14,7 @@ load-requires c =
     let bound = c.requires.boundary.bound in (
       c.requires.pass.table,
       subst (λ (z : ℕ). 532 + c.args.id * 39 + c.args.place < z) (sym log.wide) (omega arith),
-      boundary_allowed log.table.shared.key log.key log.keyed log.table.shared.table_id.slots seat.id seat.me
+      load_boundary_allowed log.table.shared.key log.key log.keyed log.table.shared.table_id.slots seat.id seat.me
           c.args.id c.args.place _ c.requires.pass.about c.requires.boundary (omega arith),
     )
 

@@ -1,7 +1,7 @@
 -- The table allows a store of where the index of the registration that waits begins.
 use Rattle.std.proofs.Common.{sym, arith, subst, ℕ, ◌<◌, ◌+◌, ◌*◌}
 use Rattle.fish_rule.proofs.laws.Versions.{bound_law, round_law}
-use Rattle.fish_rule.proofs.steps.StoreFrom.{from_allowed}
+use Rattle.fish_rule.proofs.steps.StoreFrom.{store_from_allowed}
 use Rattle.fish_rule.specs.Passes.{view}
 use Rattle.fish_rule.proofs.boundaries.store_from.Goals as goal
 
@@ -20,6 +20,6 @@ store-requires c =
     let few = round_law (view c.args.pass.now) c.requires.view.0 c.requires.pass.stands can.waits in (
       c.requires.pass.table,
       subst (λ (z : ℕ). 532 + c.args.id * 39 < z) (sym log.wide) (omega arith),
-      from_allowed log.table.shared.key log.key log.keyed log.table.shared.table_id.slots seat.id seat.me
+      store_from_allowed log.table.shared.key log.key log.keyed log.table.shared.table_id.slots seat.id seat.me
           c.requires.view.0 c.args.from _ _ c.requires.pass.about can few (omega arith) (omega arith),
     )

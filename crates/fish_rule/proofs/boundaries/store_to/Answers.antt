@@ -1,7 +1,7 @@
 -- The table allows a store of where the index of an active row ends.
 use Rattle.std.proofs.Common.{sym, arith, subst, ℕ, ◌<◌, ◌+◌, ◌*◌}
 use Rattle.fish_rule.proofs.laws.Steps.{counted_law}
-use Rattle.fish_rule.proofs.steps.StoreTo.{to_allowed}
+use Rattle.fish_rule.proofs.steps.StoreTo.{store_to_allowed}
 use Rattle.fish_rule.specs.Passes.{view}
 use Rattle.fish_rule.proofs.boundaries.store_to.Goals as goal
 
@@ -18,6 +18,6 @@ store-requires c =
     let few = c.requires.view.few in (
       c.requires.pass.table,
       subst (λ (z : ℕ). 532 + c.args.id * 39 + 1 < z) (sym log.wide) (omega arith),
-      to_allowed log.table.shared.key log.key log.keyed log.table.shared.table_id.slots seat.id seat.me
+      store_to_allowed log.table.shared.key log.key log.keyed log.table.shared.table_id.slots seat.id seat.me
           c.args.id c.args.to _ _ c.requires.pass.about c.requires.view (omega arith) (omega arith),
     )

@@ -2,9 +2,9 @@
 use Rattle.std.proofs.Common.{ℕ, Option, arith, refl, subst}
 use Rattle.fish_catalog.specs.declared.entry.Entry.{Entry}
 use Rattle.fish_rule.proofs.laws.Steps.{count_law}
-use Rattle.fish_rule.proofs.laws.GoesOn.{lines_else}
+use Rattle.fish_rule.proofs.laws.ReadsOn.{lines_else}
 use Rattle.fish_rule.proofs.laws.ReadSoFar.{read_more, upto_later}
-use Rattle.fish_rule.specs.Closing.{IsLineOf}
+use Rattle.fish_rule.specs.ClosedLog.{IsLineOf}
 use Rattle.fish_rule.specs.Logs.{TellsNext}
 use Rattle.fish_rule.specs.Passes.{view}
 use Rattle.fish_rule.specs.declared.close.ReadLog.{ReadLog}

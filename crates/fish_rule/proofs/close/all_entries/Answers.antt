@@ -1,9 +1,9 @@
 -- Each turn reads one number more, and the last one that the log ends.
 use Rattle.std.proofs.Common.{◌≡◌, ◌∙◌, ◌+◌, suc, subst, ℕ, arith}
 use Rattle.fish_rule.proofs.laws.Alone.{alone_later}
-use Rattle.fish_rule.proofs.laws.GoesOn.{goes_on}
+use Rattle.fish_rule.proofs.laws.ReadsOn.{goes_on}
 use Rattle.fish_rule.proofs.laws.Learning.{extends_both}
-use Rattle.fish_rule.specs.Closing.{IsReadUpTo}
+use Rattle.fish_rule.specs.ClosedLog.{IsReadUpTo}
 use Rattle.fish_rule.specs.Passes.{view}
 use Rattle.fish_rule.proofs.close.all_entries.Goals as goal
 

@@ -1,9 +1,9 @@
 -- The entries below the number were read; the pass is alone.
 use Rattle.std.proofs.Common.{◌≡◌, ◌≤◌}
-use Rattle.fish_rule.specs.Closing.{IsReadUpTo}
+use Rattle.fish_rule.specs.ClosedLog.{IsReadUpTo}
 use Rattle.fish_rule.specs.Logs.{Extends}
 use Rattle.fish_rule.specs.Passes.{IsPassOf, view}
-use Rattle.fish_rule.specs.Reading.{IsAlone}
+use Rattle.fish_rule.specs.LoadSteps.{IsAlone}
 use Rattle.fish_rule.proofs.close.all_entries.Given as goal
 
 abbrev pub invariant-loop-number : goal.invariant-loop-number

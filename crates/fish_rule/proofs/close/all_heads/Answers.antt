@@ -3,9 +3,9 @@ use Rattle.std.proofs.Common.{◌≡◌, ◌∙◌, ◌*◌, ◌≤◌, ◌++◌
 use mathlib.Core.Option.{some}
 use Rattle.std.proofs.Math.ListN.{get_elem?}
 use Rattle.fish_rule.proofs.laws.Descents.{extends_head}
-use Rattle.fish_rule.proofs.laws.GoesOn.{head_new, heads_more}
+use Rattle.fish_rule.proofs.laws.ReadsOn.{head_new, heads_more}
 use Rattle.fish_rule.proofs.laws.Learning.{extends_both}
-use Rattle.fish_rule.specs.Closing.{HasHead}
+use Rattle.fish_rule.specs.ClosedLog.{HasHead}
 use Rattle.fish_rule.specs.Logs.{Extends}
 use Rattle.fish_rule.specs.Parts.{first_head}
 use Rattle.fish_rule.specs.Passes.{view}

@@ -2,7 +2,7 @@
 use Rattle.std.proofs.Common.{◌≡◌, ℕ, length}
 use mathlib.Core.Option.{some}
 use Rattle.std.proofs.Math.ListN.{get_elem?}
-use Rattle.fish_rule.specs.Closing.{HasHead}
+use Rattle.fish_rule.specs.ClosedLog.{HasHead}
 use Rattle.fish_rule.specs.Logs.{Extends}
 use Rattle.fish_rule.specs.Passes.{IsPassOf, view}
 use Rattle.fish_rule.proofs.close.all_heads.Given as goal

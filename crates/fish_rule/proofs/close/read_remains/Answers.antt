@@ -1,9 +1,9 @@
 -- What was read is what is left, and the pass read on.
 use Rattle.std.proofs.Common.{◌≡◌, ◌∙◌, ℕ, arith, ap, refl, sym, subst, Some}
 use Rattle.fish_rule.proofs.laws.Remains.{closes}
-use Rattle.fish_rule.proofs.laws.GoesOn.{alone_on, heads_later, reads_on, reads_version, to_version}
+use Rattle.fish_rule.proofs.laws.ReadsOn.{alone_on, heads_later, reads_on, reads_version, to_version}
 use Rattle.fish_rule.proofs.laws.ReadSoFar.{read_later}
-use Rattle.fish_rule.specs.Closing.{AreHeads}
+use Rattle.fish_rule.specs.ClosedLog.{AreHeads}
 use Rattle.fish_rule.specs.Parts.{Rests}
 use Rattle.fish_rule.specs.Passes.{view}
 use Rattle.fish_rule.specs.World.{high, low}

@@ -1,12 +1,12 @@
 -- What was read may be settled, and stays read.
 use Rattle.std.proofs.Common.{◌≡◌, ◌+◌, ◌≤◌, ⊎_elim, arith, ap, sym, subst}
-use Rattle.fish_rule.proofs.laws.GoesOn.{extends_raise}
+use Rattle.fish_rule.proofs.laws.ReadsOn.{extends_raise}
 use Rattle.fish_rule.proofs.laws.ReadSoFar.{read_later, settles_read}
 use Rattle.fish_rule.proofs.laws.Learning.{extends_both, learns_both}
 use Rattle.std.proofs.lemmas.Result.{on_ok_weaker}
 use Rattle.fish_rule.specs.Logs.{Extends, Learns}
 use Rattle.fish_rule.specs.Passes.{view}
-use Rattle.fish_rule.specs.Reading.{CanRaise}
+use Rattle.fish_rule.specs.LoadSteps.{CanRaiseSettled}
 use Rattle.fish_rule.specs.declared.view.Key.{Key}
 use Rattle.fish_rule.proofs.close.read_words.Goals as goal
 
@@ -21,7 +21,7 @@ raise_settled-requires-clause-view c =
     let more = c.all_entries.ensures.extends.learns.count in
     let upto : h.number ≤ c.args.end = ⊎_elim (λ e. let n = e.0 in omega arith) (λ m. let n = m.0 in omega arith) h.ends in
     let is : h.number ≡ c.args.log.now.key.number + c.len.result = omega arith in
-    subst (CanRaise v) is (settles_read v h.number c.all_entries.new.read (omega arith) h.upto)
+    subst (CanRaiseSettled v) is (settles_read v h.number c.all_entries.new.read (omega arith) h.upto)
 
 pub returns-clause-extends : goal.returns-clause-extends
 returns-clause-extends c =

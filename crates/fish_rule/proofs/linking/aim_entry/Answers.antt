@@ -1,9 +1,9 @@
 -- The own entry is within the log, and the table allows the store.
 use Rattle.std.proofs.Common.{◌≡◌, ◌∙◌, sym, refl, ap, arith, subst, ℕ, ◌<◌, ◌≤◌, ◌+◌, ◌-◌, ◌*◌}
 use Rattle.fish_rule.proofs.laws.Links.{aim_law}
-use Rattle.fish_rule.proofs.steps.AimEntry.{region_aim, aim_allowed}
+use Rattle.fish_rule.proofs.steps.AimEntry.{region_aim, aim_entry_allowed}
 use Rattle.fish_rule.specs.Flying.{region_in}
-use Rattle.fish_rule.specs.Linking.{own_place}
+use Rattle.fish_rule.specs.ChainSteps.{own_place}
 use Rattle.fish_rule.specs.Passes.{view}
 use Rattle.fish_rule.specs.Table.{Stands}
 use Rattle.fish_rule.specs.World.{log_at}
@@ -38,7 +38,7 @@ store-requires c =
     let place : ℕ = c.args.place - log.key.line * 4 in (
       c.requires.pass.table,
       subst (λ (z : ℕ). c.log_at.result + place < z) (sym log.wide) (omega arith),
-      aim_allowed log.table.shared.key log.key log.keyed log.table.shared.table_id.slots seat.id seat.me f _
+      aim_entry_allowed log.table.shared.key log.key log.keyed log.table.shared.table_id.slots seat.id seat.me f _
           c.args.previous c.requires.pass.about c.requires.view.1
           (ap (λ (z : ℕ). z + place) at ∙ ap (λ (z : ℕ). log_at log.key + (z - log.key.line * 4)) is),
     )

@@ -1,8 +1,8 @@
 -- The entry is within the log, and its second word with it.
 use Rattle.std.proofs.Common.{◌≡◌, ◌∙◌, sym, ap, arith, subst, ℕ, ◌<◌, ◌≤◌, ◌+◌, ◌-◌, ◌*◌, suc}
-use Rattle.fish_rule.proofs.steps.LoadNode.{node_allowed}
+use Rattle.fish_rule.proofs.steps.LoadNode.{load_node_allowed}
 use Rattle.fish_rule.proofs.laws.Links.{second_law}
-use Rattle.fish_rule.specs.Linking.{after_node}
+use Rattle.fish_rule.specs.ChainSteps.{after_load_node}
 use Rattle.fish_rule.specs.Passes.{view}
 use Rattle.fish_rule.specs.Told.{place_at}
 use Rattle.fish_rule.specs.World.{log_at}
@@ -45,7 +45,7 @@ load-requires c =
     let index : c.log_at.result + place ≡ log_at log.key + (suc c.args.place - log.key.line * 4) = omega arith in (
       c.requires.pass.table,
       subst (λ (z : ℕ). c.log_at.result + place < z) (sym log.wide) (omega arith),
-      node_allowed log.table.shared.key log.key log.keyed log.table.shared.table_id.slots seat.id seat.me
+      load_node_allowed log.table.shared.key log.key log.keyed log.table.shared.table_id.slots seat.id seat.me
           n.0 c.args.place _ c.requires.pass.about n.1 index,
     )
 
@@ -62,4 +62,4 @@ returns-clause-view c =
     let n = c.requires.node in
     let law = second_law log.key v n.0 c.args.place c.requires.pass.about c.requires.pass.stands n.1 in
     let at = index log.key v.about c.log_at.result c.args.place c.requires.pass.about c.log_at.ensures law.0 in
-    c.load.ensures.2.view ∙ ap (λ (z : ℕ). after_node v z c.load.result) at
+    c.load.ensures.2.view ∙ ap (λ (z : ℕ). after_load_node v z c.load.result) at

@@ -1,13 +1,13 @@
 -- The entry is within the log, and of one bucket.
 use Rattle.std.proofs.Common.{◌≡◌, ◌∙◌, sym, ap, arith, subst, ℕ, ◌<◌, ◌≤◌, ◌+◌, ◌-◌, ◌*◌}
 use Rattle.fish_rule.proofs.laws.Links.{node_law, one_bucket}
-use Rattle.fish_rule.specs.Linking.{HasNode, LowRises, after_previous}
+use Rattle.fish_rule.specs.ChainSteps.{HasNode, PreviousRises, after_load_previous}
 use Rattle.fish_rule.specs.Parts.{first_head}
 use Rattle.fish_rule.specs.Passes.{view}
 use Rattle.fish_rule.specs.Told.{place_at}
 use Rattle.fish_rule.specs.World.{log_at}
 use Rattle.fish_rule.specs.declared.view.Key.{Key}
-use Rattle.fish_rule.proofs.steps.LoadPrevious.{previous_allowed}
+use Rattle.fish_rule.proofs.steps.LoadPrevious.{load_previous_allowed}
 use Rattle.fish_rule.proofs.linking.load_previous.Goals as goal
 
 pub overflow_sub-index : goal.overflow_sub-index
@@ -35,7 +35,7 @@ load-requires c =
     let place : ℕ = c.args.place - log.key.line * 4 in (
       c.requires.pass.table,
       subst (λ (z : ℕ). c.log_at.result + place < z) (sym log.wide) (omega arith),
-      previous_allowed log.table.shared.key log.key log.keyed log.table.shared.table_id.slots seat.id seat.me
+      load_previous_allowed log.table.shared.key log.key log.keyed log.table.shared.table_id.slots seat.id seat.me
           n.0 c.args.place _ c.requires.pass.about n.1 (ap (λ (z : ℕ). z + place) at),
     )
 
@@ -53,7 +53,7 @@ returns-clause-view c b node =
     let at = index log.key v.about c.log_at.result c.args.place c.requires.pass.about c.log_at.ensures law.0 in
     let same : told.bucket ≡ b = one_bucket v told.bucket b c.args.place c.requires.pass.stands
     (subst (HasNode v told.bucket) at told.node) node in
-    told.told.view ∙ ap (λ (z : ℕ × ℕ). after_previous v z.0 z.1 c.load.result) (λ i. (same i, at i))
+    told.told.view ∙ ap (λ (z : ℕ × ℕ). after_load_previous v z.0 z.1 c.load.result) (λ i. (same i, at i))
 
 pub returns-clause-rises : goal.returns-clause-rises
 returns-clause-rises c =
@@ -61,7 +61,7 @@ returns-clause-rises c =
     let v = view c.args.pass.now in
     let n = c.requires.node in
     let law = node_law log.key v n.0 c.args.place c.requires.pass.about c.requires.pass.stands n.1 in
-    subst (λ (z : ℕ). LowRises v z c.load.result)
+    subst (λ (z : ℕ). PreviousRises v z c.load.result)
     (index log.key v.about c.log_at.result c.args.place c.requires.pass.about c.log_at.ensures law.0)
     c.load.ensures.2.rises
 

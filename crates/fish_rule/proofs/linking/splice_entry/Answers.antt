@@ -1,9 +1,10 @@
 -- The higher entry is within the log, and the table allows the exchange.
 use Rattle.std.proofs.Common.{◌≡◌, ◌∙◌, sym, ap, arith, subst, ℕ, ◌<◌, ◌≤◌, ◌+◌, ◌-◌, ◌*◌}
 use Rattle.fish_rule.proofs.laws.Links.{node_law, one_bucket}
-use Rattle.fish_rule.proofs.steps.SpliceEntry.{region_splice, splice_about, splice_lane, splice_shut, splice_allowed}
+use Rattle.fish_rule.proofs.steps.SpliceEntry.{region_splice, splice_about, splice_lane, splice_shut}
+use Rattle.fish_rule.proofs.steps.SpliceEntry.{splice_entry_allowed}
 use Rattle.fish_rule.specs.Flying.{region_in}
-use Rattle.fish_rule.specs.Linking.{HasNode, LowRises, after_splice}
+use Rattle.fish_rule.specs.ChainSteps.{HasNode, PreviousRises, after_splice_entry}
 use Rattle.fish_rule.specs.Passes.{view}
 use Rattle.fish_rule.specs.Table.{Stands}
 use Rattle.fish_rule.specs.Told.{place_at}
@@ -40,7 +41,7 @@ compare_exchange-requires c =
     let place : ℕ = c.args.above - log.key.line * 4 in (
       c.requires.pass.table,
       subst (λ (z : ℕ). c.log_at.result + place < z) (sym log.wide) (omega arith),
-      splice_allowed log.table.shared.key log.key log.keyed log.table.shared.table_id.slots seat.id seat.me f b
+      splice_entry_allowed log.table.shared.key log.key log.keyed log.table.shared.table_id.slots seat.id seat.me f b
           c.args.above c.args.expected _ c.args.place c.requires.pass.about can
           (ap (λ (z : ℕ). z + place) at) c.requires.view.1.2,
     )
@@ -92,7 +93,7 @@ returns-clause-view c f b flying node =
     let same : told.bucket ≡ b = one_bucket v told.bucket b c.args.above c.requires.pass.stands
     (subst (HasNode v told.bucket) at told.node) node in
     (told.told f flying).view ∙ ap (λ (z : ℕ
-    × ℕ). after_splice v f z.0 z.1 c.args.expected c.compare_exchange.result) (λ i. (same i, at i))
+    × ℕ). after_splice_entry v f z.0 z.1 c.args.expected c.compare_exchange.result) (λ i. (same i, at i))
 
 pub returns-clause-rises : goal.returns-clause-rises
 returns-clause-rises c =
@@ -101,7 +102,7 @@ returns-clause-rises c =
     let law =
     node_law log.key v c.requires.view.1.0 c.args.above c.requires.pass.about c.requires.pass.stands
     c.requires.view.1.1.node in
-    subst (λ (z : ℕ). LowRises v z c.compare_exchange.result)
+    subst (λ (z : ℕ). PreviousRises v z c.compare_exchange.result)
     (index log.key v.about c.log_at.result c.args.above c.requires.pass.about c.log_at.ensures law.0)
     c.compare_exchange.ensures.2.rises
 

@@ -1,8 +1,8 @@
 -- The head is one of the table's words, and the table allows the exchange.
 use Rattle.std.proofs.Common.{◌≡◌, ◌∙◌, sym, refl, ap, arith, subst, ℕ, ◌<◌, ◌≤◌, ◌+◌}
-use Rattle.fish_rule.proofs.steps.SwingHead.{region_swing, swing_about, swing_lane, swing_shut, swing_allowed}
+use Rattle.fish_rule.proofs.steps.SwingHead.{region_swing, swing_about, swing_lane, swing_shut, swing_head_allowed}
 use Rattle.fish_rule.specs.Flying.{region_in}
-use Rattle.fish_rule.specs.Linking.{TopRises, after_swing}
+use Rattle.fish_rule.specs.ChainSteps.{HeadRises, after_swing_head}
 use Rattle.fish_rule.specs.Told.{bucket_at}
 use Rattle.fish_rule.specs.Passes.{view}
 use Rattle.fish_rule.specs.Table.{Stands}
@@ -22,7 +22,7 @@ compare_exchange-requires c =
     subst (λ (z : Key). c.args.bucket < z.buckets) c.requires.pass.about can.below in (
       c.requires.pass.table,
       subst (λ (z : ℕ). heads_at + c.args.bucket < z) (sym log.wide) (omega arith),
-      swing_allowed log.table.shared.key log.key log.keyed log.table.shared.table_id.slots seat.id seat.me f
+      swing_head_allowed log.table.shared.key log.key log.keyed log.table.shared.table_id.slots seat.id seat.me f
           c.args.bucket c.args.expected _ c.args.place c.requires.pass.about can refl c.requires.view.2,
     )
 
@@ -59,10 +59,10 @@ pub returns-clause-view : goal.returns-clause-view
 returns-clause-view c f flying =
     let index : bucket_at (heads_at + c.args.bucket) ≡ c.args.bucket = omega arith in
     (c.compare_exchange.ensures.2.told f flying).view
-    ∙ ap (λ (z : ℕ). after_swing (view c.args.pass.now) f z c.args.expected c.compare_exchange.result) index
+    ∙ ap (λ (z : ℕ). after_swing_head (view c.args.pass.now) f z c.args.expected c.compare_exchange.result) index
 
 pub returns-clause-rises : goal.returns-clause-rises
 returns-clause-rises c =
     (let index : bucket_at (heads_at + c.args.bucket) ≡ c.args.bucket = omega arith in
-    subst (λ (z : ℕ). TopRises
+    subst (λ (z : ℕ). HeadRises
     (view c.args.pass.now) z c.compare_exchange.result) index c.compare_exchange.ensures.2.rises)

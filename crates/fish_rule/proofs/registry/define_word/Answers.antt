@@ -1,6 +1,6 @@
 -- The table allows a store of a word of the next operation or row.
 use Rattle.std.proofs.Common.{sym, arith, subst, ℕ, ◌<◌}
-use Rattle.fish_rule.proofs.steps.DefineWord.{define_allowed}
+use Rattle.fish_rule.proofs.steps.DefineWord.{define_word_allowed}
 use Rattle.fish_rule.proofs.laws.Versions.{define_law}
 use Rattle.fish_rule.specs.Passes.{view}
 use Rattle.fish_rule.proofs.registry.define_word.Goals as goal
@@ -13,6 +13,6 @@ store-requires c =
     c.requires.pass.stands c.requires.view in (
       c.requires.pass.table,
       subst (λ (z : ℕ). c.args.index < z) (sym log.wide) (omega arith),
-      define_allowed log.table.shared.key log.key log.keyed log.table.shared.table_id.slots seat.id seat.me
+      define_word_allowed log.table.shared.key log.key log.keyed log.table.shared.table_id.slots seat.id seat.me
           c.args.index c.args.word c.requires.pass.about c.requires.view,
     )

@@ -1,6 +1,6 @@
 -- The operation's word lasts.
 use Rattle.std.proofs.Common.{◌≡◌, ◌∙◌, ℕ, ◌+◌, ◌-◌, ◌<◌, ap, arith, inl, inr, subst, sym}
-use Rattle.fish_rule.specs.Entering.{after_registry}
+use Rattle.fish_rule.specs.RegistrySteps.{after_load_registry}
 use Rattle.fish_rule.specs.Passes.{view}
 use Rattle.fish_rule.specs.Registry.{op_at}
 use Rattle.fish_rule.specs.declared.view.Key.{Key}
@@ -20,4 +20,4 @@ pub returns-clause-view : goal.returns-clause-view
 returns-clause-view c =
     let some_ = c.requires.version.0 in
     let e : 20 + (c.args.version - 1) ≡ op_at c.args.version = omega arith in
-    c.load_registry.ensures.view ∙ ap (λ (z : ℕ). after_registry (view c.args.pass.now) z c.load_registry.result) e
+    c.load_registry.ensures.view ∙ ap (λ (z : ℕ). after_load_registry (view c.args.pass.now) z c.load_registry.result) e

@@ -1,6 +1,6 @@
 -- The table allows a load of a word that lasts.
 use Rattle.std.proofs.Common.{sym, arith, subst, ℕ, ◌<◌}
-use Rattle.fish_rule.proofs.steps.LoadRegistry.{registry_allowed}
+use Rattle.fish_rule.proofs.steps.LoadRegistry.{load_registry_allowed}
 use Rattle.fish_rule.proofs.laws.Versions.{registry_law}
 use Rattle.fish_rule.specs.Passes.{view}
 use Rattle.fish_rule.proofs.registry.load_registry.Goals as goal
@@ -13,6 +13,6 @@ load-requires c =
     c.requires.view in (
       c.requires.pass.table,
       subst (λ (z : ℕ). c.args.index < z) (sym log.wide) (omega arith),
-      registry_allowed log.table.shared.key log.key log.keyed log.table.shared.table_id.slots seat.id seat.me
+      load_registry_allowed log.table.shared.key log.key log.keyed log.table.shared.table_id.slots seat.id seat.me
           c.args.index c.requires.pass.about c.requires.view,
     )

@@ -1,6 +1,6 @@
 -- The table allows a load of the version.
 use Rattle.std.proofs.Common.{sym, arith, subst, ℕ, ◌<◌}
-use Rattle.fish_rule.proofs.steps.LoadVersion.{version_allowed}
+use Rattle.fish_rule.proofs.steps.LoadVersion.{load_version_allowed}
 use Rattle.fish_rule.proofs.registry.load_version.Goals as goal
 
 pub load-requires : goal.load-requires
@@ -9,6 +9,6 @@ load-requires c =
     let seat = c.args.pass.now.seat in (
       c.requires.pass.table,
       subst (λ (z : ℕ). 2 < z) (sym log.wide) (omega arith),
-      version_allowed log.table.shared.key log.key log.keyed log.table.shared.table_id.slots seat.id seat.me
+      load_version_allowed log.table.shared.key log.key log.keyed log.table.shared.table_id.slots seat.id seat.me
           c.requires.pass.about,
     )

@@ -1,12 +1,12 @@
 -- What a join needs of the table, and what it tells.
 use Rattle.std.proofs.Common.{◌≡◌, ℕ, ◌<◌, sym, ap, ◌∙◌, subst, arith, Bool}
-use Rattle.fish_rule.proofs.steps.LoadTail.{end_allowed}
+use Rattle.fish_rule.proofs.steps.LoadTail.{load_tail_allowed}
 use Rattle.fish_rule.proofs.steps.JoinPass.{joins}
 use Rattle.fish_rule.proofs.laws.Learning.{joined_learns}
 use Rattle.fish_rule.specs.Logs.{Learns}
-use Rattle.fish_rule.specs.Seating.{join_both}
+use Rattle.fish_rule.specs.SeatSteps.{join_both}
 use Rattle.fish_rule.specs.Table.{Sat}
-use Rattle.fish_rule.specs.Told.{ToldEnd}
+use Rattle.fish_rule.specs.Told.{ToldLoadTail}
 use Rattle.fish_rule.specs.declared.view.Key.{Key}
 use Rattle.fish_rule.specs.declared.view.View.{View}
 use Rattle.atomic_table.specs.Table.{Step}
@@ -34,12 +34,12 @@ load-requires c =
     ∙ c.requires.main.about in (
       c.join_seat.ensures.0 ∙ c.requires.main.table,
       subst (λ (z : ℕ). 0 < z) (sym log.wide) (omega arith),
-      end_allowed log.table.shared.key log.key log.keyed log.table.shared.table_id.slots seat.id seat.me about,
+      load_tail_allowed log.table.shared.key log.key log.keyed log.table.shared.table_id.slots seat.id seat.me about,
     )
 
 -- both views are learned by the join and the load
 joined : (k : Key) (v u : View) (m n : Sat) (st : Step Bool) (x : ℕ) → v.about ≡ k → u.about ≡ k
-    → m.0 ≡ join_both v u → ToldEnd st m x n → Learns v n.0 × Learns u n.0
+    → m.0 ≡ join_both v u → ToldLoadTail st m x n → Learns v n.0 × Learns u n.0
 joined k v u m n st x here there both end =
     joined_learns v u m.0 n.0 x (here ∙ sym there) both end.told.view end.counted
 

@@ -1,6 +1,6 @@
 -- The table allows the claim, and the region kept is the one that is in flight.
 use Rattle.std.proofs.Common.{◌≡◌, ◌∙◌, sym, refl, ap, arith, subst, ℕ, ◌<◌, ◌+◌, ◌-◌, Some}
-use Rattle.fish_rule.proofs.steps.ClaimLines.{claim_allowed}
+use Rattle.fish_rule.proofs.steps.ClaimLines.{claim_lines_allowed}
 use Rattle.fish_rule.specs.Flying.{region_in}
 use Rattle.fish_rule.specs.declared.table.Region.{Region}
 use Rattle.fish_rule.specs.declared.view.View.{View}
@@ -12,7 +12,7 @@ fetch_add-found-requires c =
     let seat = c.args.pass.now.seat in (
       c.requires.pass.table,
       subst (λ (z : ℕ). 0 < z) (sym log.wide) (omega arith),
-      claim_allowed log.table.shared.key log.key log.keyed log.table.shared.table_id.slots seat.id seat.me _
+      claim_lines_allowed log.table.shared.key log.key log.keyed log.table.shared.table_id.slots seat.id seat.me _
           c.args.lines c.requires.pass.about c.requires.view c.requires.lines.0 c.requires.lines.1 refl,
     )
 

@@ -1,6 +1,6 @@
 -- The table allows a load of the tail.
 use Rattle.std.proofs.Common.{sym, arith, subst, ℕ, ◌<◌, ◌≤◌}
-use Rattle.fish_rule.proofs.steps.LoadTail.{end_allowed}
+use Rattle.fish_rule.proofs.steps.LoadTail.{load_tail_allowed}
 use Rattle.fish_rule.specs.Parts.{Rests}
 use Rattle.fish_rule.specs.Passes.{view}
 use Rattle.fish_rule.proofs.space.load_tail.Goals as goal
@@ -11,7 +11,7 @@ load-found-requires c =
     let seat = c.args.pass.now.seat in (
       c.requires.pass.table,
       subst (λ (z : ℕ). 0 < z) (sym log.wide) (omega arith),
-      end_allowed log.table.shared.key log.key log.keyed log.table.shared.table_id.slots seat.id seat.me
+      load_tail_allowed log.table.shared.key log.key log.keyed log.table.shared.table_id.slots seat.id seat.me
           c.requires.pass.about,
     )
 

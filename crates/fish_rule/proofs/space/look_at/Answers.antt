@@ -1,6 +1,6 @@
 -- The number has a directory word, and the table allows its load.
 use Rattle.std.proofs.Common.{sym, ap, arith, subst, ℕ, ◌<◌, ◌+◌, ◌-◌}
-use Rattle.fish_rule.proofs.steps.LookAt.{look_allowed}
+use Rattle.fish_rule.proofs.steps.LookAt.{look_at_allowed}
 use Rattle.fish_rule.proofs.laws.Steps.{look_law}
 use Rattle.fish_rule.specs.Passes.{view}
 use Rattle.fish_rule.proofs.space.look_at.Goals as goal
@@ -22,7 +22,7 @@ load-requires c =
     let at = c.dir_at.ensures in (
       c.requires.pass.table,
       subst (λ (z : ℕ). c.dir_at.result + (c.args.number - log.key.number) < z) (sym log.wide) (omega arith),
-      look_allowed log.table.shared.key log.key log.keyed log.table.shared.table_id.slots seat.id seat.me
+      look_at_allowed log.table.shared.key log.key log.keyed log.table.shared.table_id.slots seat.id seat.me
           c.args.number _ c.requires.pass.about c.requires.view
           (ap (λ (z : ℕ). z + (c.args.number - log.key.number)) at),
     )

@@ -1,10 +1,10 @@
 -- The number has a directory word, and the table allows its store.
 use Rattle.std.proofs.Common.{◌≡◌, ◌∙◌, sym, ap, arith, subst, ℕ, ◌<◌, ◌≤◌, ◌+◌, ◌-◌}
-use Rattle.fish_rule.proofs.steps.PublishRegion.{publish_allowed}
+use Rattle.fish_rule.proofs.steps.PublishRegion.{publish_region_allowed}
 use Rattle.fish_rule.proofs.laws.Steps.{flight_law}
 use Rattle.fish_rule.specs.Passes.{IsPassOf, view}
 use Rattle.fish_rule.specs.Regions.{dir_word, kind_of}
-use Rattle.fish_rule.specs.Steps.{CanPublish, flight_kind}
+use Rattle.fish_rule.specs.SpaceSteps.{CanPublishRegion, flight_kind}
 use Rattle.fish_rule.specs.World.{dir_at, slots}
 use Rattle.fish_rule.specs.declared.table.Log.{Log}
 use Rattle.fish_rule.specs.declared.table.Pass.{Pass}
@@ -19,7 +19,7 @@ abbrev IsIn : Flight → Region → Type 0
 IsIn f r = (f.number ≡ r.number) × (f.line ≡ r.line) × (f.lines ≡ r.lines)
 
 -- it is within the table
-within : (log : Log) (pass : Pass) (r : Region) → IsPassOf log pass → (f : Flight) × CanPublish (view pass) f
+within : (log : Log) (pass : Pass) (r : Region) → IsPassOf log pass → (f : Flight) × CanPublishRegion (view pass) f
     × (f.number ≡ r.number) × (f.line ≡ r.line) × (f.lines ≡ r.lines)
     → (log.key.number ≤ r.number) × (r.number - log.key.number < slots log.key) × (1 ≤ r.lines)
     × (r.line + r.lines < 68719476736)
@@ -66,7 +66,7 @@ store-requires c =
     (λ i. (sym c.requires.pass.about i, sym line i, sym lines i)) in (
       c.requires.pass.table,
       subst (λ (z : ℕ). c.dir_at.result + (region.number - log.key.number) < z) (sym log.wide) (omega arith),
-      publish_allowed log.table.shared.key log.key log.keyed log.table.shared.table_id.slots seat.id seat.me f
+      publish_region_allowed log.table.shared.key log.key log.keyed log.table.shared.table_id.slots seat.id seat.me f
           _ _ c.requires.pass.about may.1
           (ap (λ (z : ℕ). z + (region.number - log.key.number)) at
           ∙ ap (λ (z : ℕ). dir_at log.key + (z - log.key.number)) (sym may.2))

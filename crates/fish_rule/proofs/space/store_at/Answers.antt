@@ -1,10 +1,10 @@
 -- The word is within the region in flight, and the table allows its store.
 use Rattle.std.proofs.Common.{◌≡◌, ◌∙◌, sym, ap, arith, subst, ℕ, ◌<◌, ◌≤◌, ◌+◌, ◌-◌, ◌*◌, length}
-use Rattle.fish_rule.proofs.steps.StoreWord.{store_allowed}
+use Rattle.fish_rule.proofs.steps.StoreWord.{store_word_allowed}
 use Rattle.fish_rule.proofs.laws.Steps.{flight_law}
 use Rattle.fish_rule.specs.Flying.{region_in}
 use Rattle.fish_rule.specs.Passes.{IsPassOf, view}
-use Rattle.fish_rule.specs.Steps.{CanStore}
+use Rattle.fish_rule.specs.SpaceSteps.{CanStoreWord}
 use Rattle.fish_rule.specs.Table.{Stands}
 use Rattle.fish_rule.specs.World.{log_at}
 use Rattle.fish_rule.specs.declared.table.Log.{Log}
@@ -20,7 +20,7 @@ record Within (log : Log) (first offset : ℕ) (f : Flight) : Type 0 where
   inside : first + offset < log.table.shared.table_id.words
 
 within : (log : Log) (pass : Pass) (first offset : ℕ) → IsPassOf log pass
-    → (may : (f : Flight) × CanStore (view pass) f × (log_at log.key + (f.line * 4 - log.key.line * 4) ≡ first)
+    → (may : (f : Flight) × CanStoreWord (view pass) f × (log_at log.key + (f.line * 4 - log.key.line * 4) ≡ first)
     × (length f.words ≡ offset)) → Within log first offset may.0
 within log pass first offset of may =
     let f : Flight = may.0 in
@@ -43,7 +43,7 @@ store-requires c =
     let h = within _ _ _ _ c.requires.pass c.requires.view in (
       c.requires.pass.table,
       h.inside,
-      store_allowed log.table.shared.key log.key log.keyed log.table.shared.table_id.slots seat.id seat.me
+      store_word_allowed log.table.shared.key log.key log.keyed log.table.shared.table_id.slots seat.id seat.me
           c.requires.view.0 _ c.args.word c.requires.pass.about c.requires.view.1 h.same,
     )
 

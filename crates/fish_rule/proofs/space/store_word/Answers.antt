@@ -1,10 +1,10 @@
 -- The word is within the region in flight, and the table allows its store.
 use Rattle.std.proofs.Common.{◌≡◌, ◌∙◌, sym, ap, arith, subst, ℕ, ◌<◌, ◌≤◌, ◌+◌, ◌-◌, ◌*◌, length}
-use Rattle.fish_rule.proofs.steps.StoreWord.{store_allowed}
+use Rattle.fish_rule.proofs.steps.StoreWord.{store_word_allowed}
 use Rattle.fish_rule.proofs.laws.Steps.{flight_law}
 use Rattle.fish_rule.specs.Flying.{region_in}
 use Rattle.fish_rule.specs.Passes.{IsPassOf, view}
-use Rattle.fish_rule.specs.Steps.{CanStore}
+use Rattle.fish_rule.specs.SpaceSteps.{CanStoreWord}
 use Rattle.fish_rule.specs.Table.{Stands}
 use Rattle.fish_rule.specs.World.{log_at}
 use Rattle.fish_rule.specs.declared.table.Log.{Log}
@@ -20,7 +20,7 @@ record Within (k : Key) (line offset : ℕ) : Type 0 where
   end : line * 4 + offset < k.end * 4
 
 within : (log : Log) (pass : Pass) (line offset : ℕ) → IsPassOf log pass → (f : Flight)
-    × CanStore (view pass) f × (f.line ≡ line) × (length f.words ≡ offset) → Within log.key line offset
+    × CanStoreWord (view pass) f × (f.line ≡ line) × (length f.words ≡ offset) → Within log.key line offset
 within log pass line offset of may =
     let f : Flight = may.0 in
     let law = flight_law log.key (view pass) f of.about of.stands may.1.flying in
@@ -44,7 +44,7 @@ store-requires c =
     let place : ℕ = c.args.region.now.line * 4 + c.args.offset - log.key.line * 4 in (
       c.requires.pass.table,
       subst (λ (z : ℕ). c.log_at.result + place < z) (sym log.wide) (omega arith),
-      store_allowed log.table.shared.key log.key log.keyed log.table.shared.table_id.slots seat.id seat.me
+      store_word_allowed log.table.shared.key log.key log.keyed log.table.shared.table_id.slots seat.id seat.me
           c.requires.view.0 _ c.args.word c.requires.pass.about c.requires.view.1
           (ap (λ (z : ℕ). z + place) at ∙ ap (λ (z : ℕ × ℕ). log_at log.key +
           (z.0 * 4 + z.1 - log.key.line * 4)) (λ i. (sym c.requires.view.2 i, sym c.requires.view.3 i))),

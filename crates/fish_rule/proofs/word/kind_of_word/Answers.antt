@@ -1,6 +1,6 @@
 -- The kinds by their codes.
 use Rattle.std.proofs.Common.{◌≡◌, ◌≢◌, ◌/◌, sym, refl, ap, ℕ, zero, suc, arith}
-use Rattle.fish_rule.specs.Reading.{kind_told}
+use Rattle.fish_rule.specs.LoadSteps.{kind_told}
 use Rattle.fish_rule.specs.World.{high}
 use Rattle.fish_rule.specs.declared.view.Kind.TheVariants.{Mark}
 use Rattle.fish_rule.proofs.word.kind_of_word.Goals as goal

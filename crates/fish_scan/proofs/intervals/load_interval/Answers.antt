@@ -1,6 +1,6 @@
 -- The words that were loaded make the interval.
 use Rattle.std.proofs.Common.{◌≡◌, ℕ, ◌-◌, suc, ap, sym, ◌∙◌, arith, None, Some}
-use Rattle.fish_rule.specs.Bounding.{after_boundary, end_told}
+use Rattle.fish_rule.specs.BoundarySteps.{after_load_boundary, end_told}
 use Rattle.fish_rule.specs.Passes.{view}
 use Rattle.fish_rule.specs.Registry.{row_at}
 use Rattle.fish_scan.proofs.Beginnings.{begun_found, unbegun_found}
@@ -18,8 +18,8 @@ returns-then-to-eq0-clause-taken c =
     let u = view c.load_boundary-to.new.pass in
     begun_found v m u c.args.id c.load_boundary-from.result c.load_boundary-to.result
     (c.load_boundary-from.result - 1) None c.requires.few
-    (c.load_boundary-from.ensures.view ∙ ap (λ (z : ℕ). after_boundary v z 0 c.load_boundary-from.result) c.from.ensures)
-    (c.load_boundary-to.ensures.view ∙ ap (λ (z : ℕ). after_boundary m z 1 c.load_boundary-to.result) c.from-2.ensures)
+    (c.load_boundary-from.ensures.view ∙ ap (λ (z : ℕ). after_load_boundary v z 0 c.load_boundary-from.result) c.from.ensures)
+    (c.load_boundary-to.ensures.view ∙ ap (λ (z : ℕ). after_load_boundary m z 1 c.load_boundary-to.result) c.from-2.ensures)
     (let some = c.if-from-eq0.false in omega arith)
     (ap (end_told v.learned.settled) (sym c.if-to-eq0.true))
 
@@ -32,7 +32,7 @@ returns-else-to-eq0-clause-taken c =
     (let some = c.if-to-eq0.false in omega arith) in
     begun_found v m u c.args.id c.load_boundary-from.result c.load_boundary-to.result
     (c.load_boundary-from.result - 1) (Some (c.load_boundary-to.result - 1)) c.requires.few
-    (c.load_boundary-from.ensures.view ∙ ap (λ (z : ℕ). after_boundary v z 0 c.load_boundary-from.result) c.from.ensures)
-    (c.load_boundary-to.ensures.view ∙ ap (λ (z : ℕ). after_boundary m z 1 c.load_boundary-to.result) c.from-2.ensures)
+    (c.load_boundary-from.ensures.view ∙ ap (λ (z : ℕ). after_load_boundary v z 0 c.load_boundary-from.result) c.from.ensures)
+    (c.load_boundary-to.ensures.view ∙ ap (λ (z : ℕ). after_load_boundary m z 1 c.load_boundary-to.result) c.from-2.ensures)
     (let some = c.if-from-eq0.false in omega arith)
     (ap (end_told v.learned.settled) next)

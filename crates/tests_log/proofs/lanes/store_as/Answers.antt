@@ -28,7 +28,7 @@ returns-clause-rows c =
 
 pub returns-clause-draft : goal.returns-clause-draft
 returns-clause-draft c =
-    ap (λ (z : View). z.draft) (goes_on (view c.args.pass.now) (view c.ingest.new.pass) c.args.form c.args.payload.now
+    ap (λ (z : View). z.main_words) (goes_on (view c.args.pass.now) (view c.ingest.new.pass) c.args.form c.args.payload.now
     c.ingest.result c.requires.start c.ingest.ensures.ingested c.ingest.ensures.refused).1.frame
 
 pub returns-clause-round : goal.returns-clause-round

@@ -2,7 +2,7 @@
 use Rattle.std.specs.Prelude.{◌≡◌}
 use Rattle.fish_chain.specs.Walks.{IsWalking}
 use Rattle.fish_rule.specs.Passes.{IsPassOf, view, walk_of}
-use Rattle.fish_rule.specs.Reading.{IsAlone}
+use Rattle.fish_rule.specs.LoadSteps.{IsAlone}
 use Rattle.tests_log.proofs.nodes.push_all.Given as goal
 
 abbrev pub invariant-loop-node : goal.invariant-loop-node

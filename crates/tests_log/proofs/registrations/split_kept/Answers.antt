@@ -12,7 +12,7 @@ returns-clause-kept c =
     record {
       of = c.split_lane.ensures.pass;
       knows = knows_on (view c.args.main.now) _ c.args.registrar.now (ap (λ (z : View). z.lane) left)
-          (ap (λ (z : View). z.rows) left) (ap (λ (z : View). z.draft) left) (ap (λ (z : View). z.round) left)
+          (ap (λ (z : View). z.rows) left) (ap (λ (z : View). z.main_words) left) (ap (λ (z : View). z.round) left)
           (omega arith) c.requires.kept.knows;
       outside = ap (λ (z : View). z.epoch) left ∙ c.requires.kept.outside;
     }

@@ -6,7 +6,7 @@ use Rattle.fish_layout.specs.Cleared.{entry_at}
 use Rattle.fish_layout.specs.Entry.{entry_id}
 use Rattle.fish_rule.specs.Logs.{Learns}
 use Rattle.fish_rule.specs.Rule.{Rule}
-use Rattle.fish_rule.specs.Walks.{IsEntryOf}
+use Rattle.fish_rule.specs.Gaps.{IsEntryOf}
 use Rattle.fish_rule.specs.World.{World, body, low}
 use Rattle.fish_rule.specs.declared.view.Key.{Key}
 use Rattle.fish_rule.specs.declared.view.View.{View}

@@ -13,12 +13,12 @@ use Rattle.fish_rule.specs.declared.view.Kind.TheVariants.{Mark, Stored, Void}
 use Rattle.fish_rule.specs.declared.view.Noted.TheVariants.{Directory, Tail}
 use Rattle.fish_rule.specs.declared.view.Opens.{Opens}
 use Rattle.fish_rule.specs.declared.view.View.{View}
-use Rattle.fish_rule.specs.Steps.{loaded, noted, ticked}
+use Rattle.fish_rule.specs.SpaceSteps.{loaded, noted, ticked}
 
 -- ---- look: a load of a directory word
 
 -- the number is one of the table's, below a count that the pass loaded
-pub record CanLook (v : View) (n : ℕ) : Type 0 where
+pub record CanLookAt (v : View) (n : ℕ) : Type 0 where
   pub above : v.about.number ≤ n
   pub below : n < v.learned.count
 
@@ -50,8 +50,8 @@ opens_after n zero opens = with_open n opens
 opens_after n (suc x) opens = opens
 
 -- the directory word is seen
-abbrev pub after_look : View → ℕ → ℕ → ℕ → View
-after_look v n lines x = record v {
+abbrev pub after_look_at : View → ℕ → ℕ → ℕ → View
+after_look_at v n lines x = record v {
   learned = record v.learned {
     found = found_after n lines x v.learned.found;
     opens = opens_after n x v.learned.opens;
@@ -69,7 +69,7 @@ pub record IsAlone (v : View) : Type 0 where
 
 -- the region was found and isn't a mark; the word is its header, or by its header that was read no
 -- first word of a key entry
-pub record CanRead (v : View) (f : Found) (i : ℕ) : Type 0 where
+pub record CanReadWord (v : View) (f : Found) (i : ℕ) : Type 0 where
   pub found : Among f v.learned.found
   pub words : f.kind ≢ Mark
   pub inside : i < f.lines * 4
@@ -77,8 +77,8 @@ pub record CanRead (v : View) (f : Found) (i : ℕ) : Type 0 where
       × ¬ IsKeyWord (keys_of h) i)
 
 -- the word is known
-abbrev pub after_read : View → ℕ → ℕ → View
-after_read v place x = record v {
+abbrev pub after_read_word : View → ℕ → ℕ → View
+after_read_word v place x = record v {
   learned =
       record v.learned { known = record { place = place; value = x } ∷ v.learned.known };
   clock = loaded v.clock;
@@ -87,8 +87,8 @@ after_read v place x = record v {
 -- ---- end: a load of the tail
 
 -- the count and the line are known, and a list of unpublished numbers begins
-abbrev pub after_end : View → ℕ → View
-after_end v x = record v {
+abbrev pub after_load_tail : View → ℕ → View
+after_load_tail v x = record v {
   learned = record v.learned { count = high x; opens = record { count = high x; numbers = [] } ∷ v.learned.opens };
   tail = Some (record { number = high x; line = low x });
   clock = noted v.clock Tail x;
@@ -97,17 +97,17 @@ after_end v x = record v {
 -- ---- load settled: a load of the settled number
 
 -- the settled number is known
-abbrev pub after_settled : View → ℕ → View
-after_settled v x = record v { learned = record v.learned { settled = x }; clock = ticked v.clock }
+abbrev pub after_load_settled : View → ℕ → View
+after_load_settled v x = record v { learned = record v.learned { settled = x }; clock = ticked v.clock }
 
 -- ---- raise: a fetch-max on the settled number
 
 -- each number below is known to be published, and no mark
-pub record CanRaise (v : View) (m : ℕ) : Type 0 where
+pub record CanRaiseSettled (v : View) (m : ℕ) : Type 0 where
   pub within : m ≤ v.learned.count
   pub known : (n : ℕ) → v.about.number ≤ n → n < m → (n < v.learned.settled)
       ⊎ ((f : Found) × Among f v.learned.found × (f.number ≡ n) × (f.kind ≢ Mark))
 
 -- the settled number is at least this one
-abbrev pub after_raise : View → ℕ → ℕ → View
-after_raise v m x = record v { learned = record v.learned { settled = max x m }; clock = ticked v.clock }
+abbrev pub after_raise_settled : View → ℕ → ℕ → View
+after_raise_settled v m x = record v { learned = record v.learned { settled = max x m }; clock = ticked v.clock }

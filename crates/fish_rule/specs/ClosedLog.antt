@@ -134,7 +134,7 @@ pub record IsRead (v : View) (end line : ℕ) (read : ReadLog) : Type 0 where
 -- a bucket's head has reached this place, no entry of a record below the number lies above it, and it is the head of the
 -- start where it is no place of the table
 pub record HasHead (v : View) (settled b x : ℕ) : Type 0 where
-  pub top : Among (record { bucket = b; place = x }) v.learned.tops
+  pub top : Among (record { bucket = b; place = x }) v.learned.least_heads
   pub gap : (end : ℕ) × (settled ≤ end)
       × Among (record { bucket = b; end = end; above = v.about.end * 4; below = x }) v.learned.gaps
   pub first : x ≤ v.about.line * 4 → x ≡ first_head v.about b

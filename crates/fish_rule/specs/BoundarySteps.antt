@@ -4,8 +4,8 @@ use Rattle.std.specs.Prelude.{ℕ, ◌≡◌, ◌≢◌, ◌<◌, ◌≤◌, zer
 use Rattle.std.proofs.Math.Decide.{ℕ_discrete, dec_lt}
 use Rattle.fish_catalog.specs.Listing.{IsOnAt}
 use Rattle.fish_layout.specs.Cleared.{choose}
-use Rattle.fish_rule.specs.Registry.{drafted, row_at}
-use Rattle.fish_rule.specs.Steps.{noted, ticked}
+use Rattle.fish_rule.specs.Registry.{main_word, row_at}
+use Rattle.fish_rule.specs.SpaceSteps.{noted, ticked}
 use Rattle.fish_rule.specs.Views.{Among}
 use Rattle.fish_rule.specs.World.{high, low}
 use Rattle.fish_rule.specs.declared.view.Noted.TheVariants.{Epoch, Tail}
@@ -33,19 +33,19 @@ checked_after l x (Some o) =
     Some (choose (ℕ_discrete x 0) (with_lane l o) (choose (dec_lt o.version x) (with_lane l o) o))
 
 -- the epoch word is seen
-abbrev pub after_check : View → ℕ → ℕ → View
-after_check v l x = record v { round = checked_after l x v.round; clock = noted v.clock (Epoch l) x }
+abbrev pub after_check_lane : View → ℕ → ℕ → View
+after_check_lane v l x = record v { round = checked_after l x v.round; clock = noted v.clock (Epoch l) x }
 
 -- ---- bound: a load of the tail behind the last lane
 
 -- a registration waits, and all lanes were looked at
-pub record CanBound (v : View) (o : Round) : Type 0 where
+pub record CanLoadBound (v : View) (o : Round) : Type 0 where
   pub waits : v.round ≡ Some o
   pub all : (l : ℕ) → 1 ≤ l → l ≤ 16 → Among l o.checked
 
 -- the count is where the index begins
-abbrev pub after_bound : View → Round → ℕ → View
-after_bound v o x = record v {
+abbrev pub after_load_bound : View → Round → ℕ → View
+after_load_bound v o x = record v {
   round = Some (record o { bound = Some (high x) });
   learned = record v.learned { count = high x };
   tail = Some (record { number = high x; line = low x });
@@ -57,34 +57,34 @@ after_bound v o x = record v {
 -- the word at an index is this one from now on
 abbrev pub after_store_boundary : View → ℕ → ℕ → Option Round → View
 after_store_boundary v p n round = record v {
-  draft = record { index = p; value = suc n } ∷ v.draft;
+  main_words = record { index = p; value = suc n } ∷ v.main_words;
   round = round;
   clock = ticked v.clock;
 }
 
 -- the control pass may store where the index of the row that waits begins
-pub record CanSetFrom (v : View) (o : Round) (n : ℕ) : Type 0 where
+pub record CanStoreFrom (v : View) (o : Round) (n : ℕ) : Type 0 where
   pub main : v.lane ≡ 1
   pub waits : v.round ≡ Some o
   pub bound : o.bound ≡ Some n
 
 -- no registration waits any more
-abbrev pub after_from : View → Round → ℕ → View
-after_from v o n = after_store_boundary v (row_at o.id 0) n None
+abbrev pub after_store_from : View → Round → ℕ → View
+after_store_from v o n = after_store_boundary v (row_at o.id 0) n None
 
 -- the control pass may store where the index of an active row ends: it began, it has no end, and the number is one that
 -- was counted
-pub record CanSetTo (v : View) (id n : ℕ) : Type 0 where
+pub record CanStoreTo (v : View) (id n : ℕ) : Type 0 where
   pub main : v.lane ≡ 1
   pub on : IsOnAt v.rows id
   pub few : id < 256
-  pub began : drafted v.draft (row_at id 0) ≢ 0
-  pub endless : drafted v.draft (row_at id 1) ≡ 0
+  pub began : main_word v.main_words (row_at id 0) ≢ 0
+  pub endless : main_word v.main_words (row_at id 1) ≡ 0
   pub within : n ≤ v.learned.count
 
 -- the index ends there
-abbrev pub after_to : View → ℕ → ℕ → View
-after_to v id n = after_store_boundary v (row_at id 1) n v.round
+abbrev pub after_store_to : View → ℕ → ℕ → View
+after_store_to v id n = after_store_boundary v (row_at id 1) n v.round
 
 -- ---- load boundary
 
@@ -109,8 +109,8 @@ with_end id zero settled x unended = unended
 with_end id (suc i) settled x unended = record { id = id; below = end_told settled x } ∷ unended
 
 -- the boundary is seen
-abbrev pub after_boundary : View → ℕ → ℕ → ℕ → View
-after_boundary v id i x = record v {
+abbrev pub after_load_boundary : View → ℕ → ℕ → ℕ → View
+after_load_boundary v id i x = record v {
   learned = record v.learned {
     words = with_boundary (row_at id i) x v.learned.words;
     unended = with_end id i v.learned.settled x v.learned.unended;

@@ -38,7 +38,7 @@ loaded c = record c { steps = suc c.steps; loads = suc c.loads }
 -- ---- claim: a fetch-and-add on the tail
 
 -- the pass is live and entered, has nothing in flight, and isn't shut
-pub record CanClaim (v : View) : Type 0 where
+pub record CanClaimLines (v : View) : Type 0 where
   pub live : 1 ≤ v.lane
   pub idle : v.flight ≡ None
   pub ready : v.shut ≡ None
@@ -50,8 +50,8 @@ abbrev pub flight_at : ℕ → ℕ → ℕ → Flight
 flight_at n line lines = record { number = n; line = line; lines = lines; words = []; linked = 0 }
 
 -- the region of so many lines at this tail is in flight, and its number is counted
-abbrev pub after_claim : View → ℕ → ℕ → ℕ → View
-after_claim v lines n line = record v {
+abbrev pub after_claim_lines : View → ℕ → ℕ → ℕ → View
+after_claim_lines v lines n line = record v {
   flight = Some (flight_at n line lines);
   tail = Some (record { number = suc n; line = line + lines });
   learned = record v.learned { count = suc n };
@@ -65,7 +65,7 @@ abbrev pub flight_kind : View → Flight → Kind
 flight_kind v f = kind_of v.about.end f.line (f.line + f.lines)
 
 -- f is in flight, no entry of it is linked, and more words are to come; a void has one word, and a mark none
-pub record CanStore (v : View) (f : Flight) : Type 0 where
+pub record CanStoreWord (v : View) (f : Flight) : Type 0 where
   pub flying : v.flight ≡ Some f
   pub unlinked : f.linked ≡ 0
   pub more : length f.words < f.lines * 4
@@ -77,8 +77,8 @@ abbrev pub with_word : Flight → ℕ → Flight
 with_word f x = record f { words = f.words ++ x ∷ [] }
 
 -- the word is stored
-abbrev pub after_store : View → Flight → ℕ → View
-after_store v f x = record v { flight = Some (with_word f x); clock = ticked v.clock }
+abbrev pub after_store_word : View → Flight → ℕ → View
+after_store_word v f x = record v { flight = Some (with_word f x); clock = ticked v.clock }
 
 -- ---- publish: a store of the own directory word
 
@@ -91,7 +91,7 @@ IsReady active version Void lane f = (f.words ≡ void_word f.lines ∷ []) × (
 IsReady active version Mark lane f = f.words ≡ []
 
 -- f is in flight and ready
-pub record CanPublish (v : View) (f : Flight) : Type 0 where
+pub record CanPublishRegion (v : View) (f : Flight) : Type 0 where
   pub live : 1 ≤ v.lane
   pub flying : v.flight ≡ Some f
   pub version : ℕ
@@ -124,8 +124,8 @@ learned_after kind f l = record l {
 }
 
 -- the number is published
-abbrev pub after_publish : View → Flight → View
-after_publish v f = record v {
+abbrev pub after_publish_region : View → Flight → View
+after_publish_region v f = record v {
   flight = None;
   shut = shut_after (flight_kind v f) f v.about.end v.shut;
   own = own_after (flight_kind v f) v.lane f.number v.own;

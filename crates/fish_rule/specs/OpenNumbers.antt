@@ -4,7 +4,7 @@ use Rattle.std.specs.Prelude.{ℕ, ◌≡◌, List}
 use Rattle.fish_catalog.specs.declared.entry.Entry.TheVariants as entry
 use Rattle.fish_rule.specs.Logs.{IsEntry}
 use Rattle.fish_rule.specs.Views.{Among}
-use Rattle.fish_rule.specs.Walking.{Always}
+use Rattle.fish_rule.specs.ChainFacts.{Always}
 use Rattle.fish_rule.specs.declared.view.Opens.{Opens}
 use Rattle.fish_rule.specs.declared.view.View.{View}
 use Rattle.fish_value.specs.declared.field.Form.{Form}

@@ -4,8 +4,8 @@ use Rattle.std.specs.Prelude.{ℕ, ◌≡◌, ◌≢◌, ◌+◌, ◌<◌, ◌�
 use Rattle.std.proofs.Math.Decide.{dec_lt}
 use Rattle.fish_layout.specs.Cleared.{choose}
 use Rattle.fish_rule.specs.Epochs.{confirmed}
-use Rattle.fish_rule.specs.Registry.{IsOperation, KnowsRow, drafted, made, op_at, row_at, row_in}
-use Rattle.fish_rule.specs.Steps.{noted, ticked}
+use Rattle.fish_rule.specs.Registry.{IsOperation, KnowsRow, main_word, made, op_at, row_at, row_in}
+use Rattle.fish_rule.specs.SpaceSteps.{noted, ticked}
 use Rattle.fish_rule.specs.declared.view.Epoch.TheVariants.{Announced, Out}
 use Rattle.fish_rule.specs.declared.view.Noted.TheVariants.{Version}
 use Rattle.fish_rule.specs.declared.view.Round.{Round}
@@ -14,8 +14,8 @@ use Rattle.fish_rule.specs.declared.view.View.{View}
 -- ---- load version
 
 -- the version is seen, and an announced one is confirmed where it is that very version
-abbrev pub after_version : View → ℕ → View
-after_version v x = record v {
+abbrev pub after_load_version : View → ℕ → View
+after_load_version v x = record v {
   epoch = confirmed v.epoch x;
   learned = record v.learned { version = x };
   clock = noted v.clock Version x;
@@ -49,8 +49,8 @@ CanLoadRegistry v p = (p ≡ 3) ⊎ (((u : ℕ) × (v.about.version < u) × (u �
     ⊎ ((id : ℕ) × (i : ℕ) × KnowsRow v.about v.learned id × (2 ≤ i) × (i < 39) × (p ≡ row_at id i)))
 
 -- the word is known
-abbrev pub after_registry : View → ℕ → ℕ → View
-after_registry v p x = record v {
+abbrev pub after_load_registry : View → ℕ → ℕ → View
+after_load_registry v p x = record v {
   learned = record v.learned { words = record { index = p; value = x } ∷ v.learned.words };
   clock = ticked v.clock;
 }
@@ -63,29 +63,29 @@ IsNextWord v p x = ((v.learned.version < 512) × (p ≡ op_at (suc v.learned.ver
     ⊎ ((i : ℕ) × (length v.rows < 256) × (i < 39) × (p ≡ row_at (length v.rows) i) × ((2 ≤ i) ⊎ (x ≡ 0)))
 
 -- the control pass may store it
-pub record CanDefine (v : View) (p x : ℕ) : Type 0 where
+pub record CanDefineWord (v : View) (p x : ℕ) : Type 0 where
   pub main : v.lane ≡ 1
   pub next : IsNextWord v p x
 
 -- the word is stored
-abbrev pub after_define : View → ℕ → ℕ → View
-after_define v p x = record v { draft = record { index = p; value = x } ∷ v.draft; clock = ticked v.clock }
+abbrev pub after_define_word : View → ℕ → ℕ → View
+after_define_word v p x = record v { main_words = record { index = p; value = x } ∷ v.main_words; clock = ticked v.clock }
 
 -- ---- bump: a store of the version plus one
 
 -- the next operation as it was stored
 abbrev pub next_operation : View → ℕ
-next_operation v = drafted v.draft (op_at (suc v.learned.version))
+next_operation v = main_word v.main_words (op_at (suc v.learned.version))
 
 -- the control pass is out, versions are left, no registration waits, and the next operation is one that may be
 -- made; the index of a row that it ends has its end
-pub record CanBump (v : View) : Type 0 where
+pub record CanRaiseVersion (v : View) : Type 0 where
   pub main : v.lane ≡ 1
   pub outside : v.epoch ≡ Out
   pub few : v.learned.version < 512
   pub settled : v.round ≡ None
-  pub operation : IsOperation (row_in (drafted v.draft) (length v.rows)) v.rows (next_operation v)
-  pub ends : (id : ℕ) → next_operation v ≡ 512 + id → drafted v.draft (row_at id 1) ≢ 0
+  pub operation : IsOperation (row_in (main_word v.main_words) (length v.rows)) v.rows (next_operation v)
+  pub ends : (id : ℕ) → next_operation v ≡ 512 + id → main_word v.main_words (row_at id 1) ≢ 0
 
 -- a registration waits once it is made: lane 1 is out
 abbrev pub round_after : ℕ → ℕ → ℕ → Option Round
@@ -93,9 +93,9 @@ round_after x id version =
     choose (dec_lt x 512) (Some (record { id = id; version = version; checked = 1 ∷ []; bound = None })) None
 
 -- the operation is made
-abbrev pub after_bump : View → View
-after_bump v = record v {
-  rows = made (drafted v.draft) (next_operation v) v.rows;
+abbrev pub after_raise_version : View → View
+after_raise_version v = record v {
+  rows = made (main_word v.main_words) (next_operation v) v.rows;
   round = round_after (next_operation v) (length v.rows) (suc v.learned.version);
   learned = record v.learned { version = suc v.learned.version };
   clock = ticked v.clock;

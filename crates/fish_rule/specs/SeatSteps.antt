@@ -2,7 +2,7 @@
 use Rattle.std.specs.Prelude.{ℕ, ◌≡◌, ◌≤◌, List, [], ◌∷◌, ◌++◌, max, Option, Some, None}
 use Rattle.std.proofs.Math.Decide.{ℕ_discrete}
 use Rattle.fish_layout.specs.Cleared.{choose}
-use Rattle.fish_rule.specs.Steps.{ticked}
+use Rattle.fish_rule.specs.SpaceSteps.{ticked}
 use Rattle.fish_rule.specs.Views.{Among}
 use Rattle.fish_rule.specs.declared.view.Clock.{Clock}
 use Rattle.fish_rule.specs.declared.view.Epoch.TheVariants.{Out}
@@ -18,7 +18,7 @@ fresh = record { steps = 0; loads = 0; notes = [] }
 -- ---- split
 
 -- the control pass has lane l and nothing in flight
-pub record CanSplit (v : View) (l : ℕ) : Type 0 where
+pub record CanSplitPass (v : View) (l : ℕ) : Type 0 where
   pub main : v.lane ≡ 1
   pub above : 2 ≤ l
   pub below : l ≤ 16
@@ -49,7 +49,7 @@ split_right l v = record {
   flight = None;
   epoch = Out;
   rows = [];
-  draft = [];
+  main_words = [];
   round = None;
   tail = None;
   own = of_lane l v.own;
@@ -60,7 +60,7 @@ split_right l v = record {
 -- ---- join
 
 -- the other pass's lane is out, and it has nothing in flight and isn't entered
-pub record CanJoin (v u : View) : Type 0 where
+pub record CanJoinPass (v u : View) : Type 0 where
   pub main : v.lane ≡ 1
   pub above : 2 ≤ u.lane
   pub out : Among u.lane v.out
@@ -83,8 +83,8 @@ learned_both a b = record {
   known = a.known ++ b.known;
   records = a.records ++ b.records;
   nodes = a.nodes ++ b.nodes;
-  lows = a.lows ++ b.lows;
-  tops = a.tops ++ b.tops;
+  least_previous = a.least_previous ++ b.least_previous;
+  least_heads = a.least_heads ++ b.least_heads;
   gaps = a.gaps ++ b.gaps;
   labels = a.labels ++ b.labels;
   unended = a.unended ++ b.unended;
@@ -118,8 +118,8 @@ unlearned = record {
   known = [];
   records = [];
   nodes = [];
-  lows = [];
-  tops = [];
+  least_previous = [];
+  least_heads = [];
   gaps = [];
   labels = [];
   unended = [];
@@ -144,7 +144,7 @@ spent = record {
   flight = None;
   epoch = Out;
   rows = [];
-  draft = [];
+  main_words = [];
   round = None;
   tail = None;
   own = [];
