@@ -8,6 +8,7 @@ pub mod Flights
 pub mod FoundRegions
 pub mod Gaps
 pub mod Lanes
+pub mod Lasts
 pub mod Lists
 pub mod OneMoment
 pub mod Places

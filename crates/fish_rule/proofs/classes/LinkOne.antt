@@ -238,7 +238,8 @@ module _ (k : Key) (w : World) (r : Rule k w) (id : ℕ) (v : View) (at : get_el
           log_beyond = λ p more. leaves.beyond p more ∙ r.space.log_beyond p more;
         };
         limit = limit_views r.limit
-            (may_kept w.views id v linker at k.end r.quota refl refl (λ h. (h.0, λ over. h.1 (subst (IsOver k.end) can.flying over))) r.limit.may);
+            (may_kept w.views id v linker at k.end r.quota refl refl
+            (λ h. (h.0, λ over. h.1 (subst (IsOver k.end) can.flying over))) r.limit.may);
         settling = r.settling;
         floors = each_set _ w.views id linker (λ j u ne at_u. r.floors j u at_u) floor;
         chains = chains;

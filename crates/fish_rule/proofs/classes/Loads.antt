@@ -6,6 +6,7 @@ use Rattle.fish_rule.proofs.basics.Lists.{each_set, seats_kept}
 use Rattle.fish_rule.proofs.classes.OtherViews.{limit_views, space_still, may_kept, registry_set}
 use Rattle.fish_rule.proofs.classes.FactsStay.{chained_later}
 use Rattle.fish_rule.proofs.classes.ChainsStay.{chains_set, links_set}
+use Rattle.fish_rule.proofs.basics.Lasts.{Lasts}
 use Rattle.fish_rule.specs.Chains.{Chained}
 use Rattle.fish_rule.specs.Parts.{Rests}
 use Rattle.fish_rule.specs.Facts.{AreOpens, Facts}
@@ -52,7 +53,7 @@ module _ (k : Key) (w : World) (r : Rule k w) (id : ℕ) (v : View) (at : get_el
       (learn_final l t o c) v.learned (r.chained id v at)
 
   -- a load keeps the rule where the new facts hold
-  unfoldable pub learns : (l : Learned) (t : Option Position) (o : Option Round) (c : Clock)
+  learns : (l : Learned) (t : Option Position) (o : Option Round) (c : Clock)
       → (v.lane ≡ 1 → v.out ≡ [] → Rests w.count w.line t) → Facts k w.count w.dir w.log r.start l
       → AllOf (AreOpens k w.count w.dir r.lane_of) l.opens → l.settled ≤ w.settled
       → Chained k w.dir w.log (set w.views id (learner l t o c)) w.head l
@@ -87,3 +88,14 @@ module _ (k : Key) (w : World) (r : Rule k w) (id : ℕ) (v : View) (at : get_el
         shuts = each_set _ w.views id v' (λ j u ne at_u. r.shuts j u at_u) (r.shuts id v at);
         opens = each_set _ w.views id v' (λ j u ne at_u. r.opens j u at_u) opens;
       }
+
+  -- and so all that lasts
+  pub learn_lasts : (l : Learned) (t : Option Position) (o : Option Round) (c : Clock)
+      → (v.lane ≡ 1 → v.out ≡ [] → Rests w.count w.line t) → Facts k w.count w.dir w.log r.start l
+      → AllOf (AreOpens k w.count w.dir r.lane_of) l.opens → l.settled ≤ w.settled
+      → Chained k w.dir w.log (set w.views id (learner l t o c)) w.head l
+      → Stays k w.count w.registry r.state r.version_of (learner l t o c)
+      → Lasts k w r (record w { views = set w.views id (learner l t o c) })
+  unfolding learns
+  learn_lasts l t o c rests facts opens floor chained stays =
+      (learns l t o c rests facts opens floor chained stays, learn_final l t o c)

@@ -9,11 +9,12 @@ use Rattle.fish_rule.proofs.basics.Lists.{each_set, has_own}
 use Rattle.fish_rule.proofs.classes.OnRegistry.{carries_later, main_later, owned_far, read_later, register_lasts}
 use Rattle.fish_rule.proofs.classes.OnRegistry.{registers, versions_later}
 use Rattle.fish_rule.proofs.basics.Worlds.{put-else, put-here}
+use Rattle.fish_rule.proofs.basics.Lasts.{Lasts}
 use Rattle.fish_rule.specs.Boundaries.{Lists}
 use Rattle.fish_rule.specs.Epochs.{Carries, Epochs, IsAtMost, IsOwned, Registry, Stays, StaysWith, epoch_word}
 use Rattle.fish_rule.specs.Registry.{Endures, HasBoundary, IsLasting, definitions_at, epoch_at, row_at, version_in}
 use Rattle.fish_rule.specs.Rounds.{IsSince}
-use Rattle.fish_rule.specs.Rule.{Final, Rule}
+use Rattle.fish_rule.specs.Rule.{Rule}
 use Rattle.fish_rule.specs.declared.view.Clock.{Clock}
 use Rattle.fish_rule.specs.Views.{Has}
 use Rattle.fish_rule.specs.World.{World, put}
@@ -176,16 +177,13 @@ module _ (k : Key) (w : World) (r : Rule k w) (id : ℕ) (v : View) (at : get_el
           (carries_later k w.registry g' endures r.version_of v.lane epoch' v.flight carries);
     }
 
-    -- the step keeps the rule
-    unfoldable pub moves : Rule k (record w { registry = g'; views = set w.views id mover })
-    moves = registers k w r id v at g' epoch' version v.learned.words v.rows v.main_words v.round clock endures state' move_registry
-
-    -- and all that lasts
-    pub moves_last : Final k r.start moves.start r.lane_of moves.lane_of w
-        (record w { registry = g'; views = set w.views id mover })
-    unfolding moves
-    moves_last = register_lasts k w r id v at g' epoch' version v.learned.words v.rows v.main_words v.round clock endures
-        state' move_registry
+    -- the step keeps the rule, and all that lasts
+    pub moves_last : Lasts k w r (record w { registry = g'; views = set w.views id mover })
+    moves_last = (
+      registers k w r id v at g' epoch' version v.learned.words v.rows v.main_words v.round clock endures state' move_registry,
+      register_lasts k w r id v at g' epoch' version v.learned.words v.rows v.main_words v.round clock endures state'
+          move_registry,
+    )
 
 -- ---- stores of the own epoch word
 

@@ -9,8 +9,7 @@ use Rattle.fish_rule.proofs.laws.Clocks.{later_loaded}
 use Rattle.fish_rule.proofs.laws.Learning.{ahead, learns_self}
 use Rattle.fish_rule.proofs.laws.ChainFacts.{claimed_there, gap_clear, within_region}
 use Rattle.fish_rule.specs.ChainSteps.{HasNode, after_load_head, after_load_node, after_load_previous, gap, head_seen}
-use Rattle.fish_rule.specs.ChainSteps.{previous_seen}
-use Rattle.fish_rule.specs.ChainSteps.{with_node}
+use Rattle.fish_rule.specs.ChainSteps.{previous_seen, with_node}
 use Rattle.fish_rule.specs.Logs.{Extends, Learns}
 use Rattle.fish_rule.specs.Regions.{code}
 use Rattle.fish_rule.specs.SpaceSteps.{loaded}

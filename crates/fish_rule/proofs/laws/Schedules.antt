@@ -4,13 +4,13 @@ use Rattle.fish_rule.proofs.steps.AimEntry.{aim_entry_kept, aim_entry_lasts}
 use Rattle.fish_rule.proofs.steps.OpenLog.{empty_rule}
 use Rattle.fish_rule.proofs.steps.ClaimLines.{claim_lines_kept, claim_lines_lasts}
 use Rattle.fish_rule.proofs.basics.Flights.{publisher_at}
-use Rattle.fish_rule.proofs.steps.LoadHead.{load_head_kept, load_head_lasts}
-use Rattle.fish_rule.proofs.steps.LoadPrevious.{load_previous_kept, load_previous_lasts}
-use Rattle.fish_rule.proofs.steps.LoadNode.{load_node_kept, load_node_lasts}
-use Rattle.fish_rule.proofs.steps.LoadTail.{load_tail_kept, load_tail_lasts}
-use Rattle.fish_rule.proofs.steps.LookAt.{look_at_kept, look_at_lasts}
-use Rattle.fish_rule.proofs.steps.LoadSettled.{load_settled_kept, load_settled_lasts}
-use Rattle.fish_rule.proofs.steps.ReadWord.{read_word_kept, read_word_lasts}
+use Rattle.fish_rule.proofs.steps.LoadHead.{load_head_lasts}
+use Rattle.fish_rule.proofs.steps.LoadPrevious.{load_previous_lasts}
+use Rattle.fish_rule.proofs.steps.LoadNode.{load_node_lasts}
+use Rattle.fish_rule.proofs.steps.LoadTail.{load_tail_lasts}
+use Rattle.fish_rule.proofs.steps.LookAt.{look_at_lasts}
+use Rattle.fish_rule.proofs.steps.LoadSettled.{load_settled_lasts}
+use Rattle.fish_rule.proofs.steps.ReadWord.{read_word_lasts}
 use Rattle.fish_rule.proofs.steps.StoreWord.{store_word_kept, store_word_lasts}
 use Rattle.fish_rule.proofs.steps.PublishRegion.{publish_region_kept, publish_region_lasts}
 use Rattle.fish_rule.proofs.steps.RaiseSettled.{raise_settled_kept, raise_settled_lasts}
@@ -18,6 +18,7 @@ use Rattle.fish_rule.proofs.steps.SpliceEntry.{splice_entry_kept, splice_entry_l
 use Rattle.fish_rule.proofs.steps.SwingHead.{swing_head_kept, swing_head_lasts}
 use Rattle.fish_rule.proofs.steps.JoinPass.{join_kept, join_lasts}
 use Rattle.fish_rule.proofs.steps.SplitPass.{split_kept, split_lasts}
+use Rattle.fish_rule.proofs.basics.Lasts.{Lasts}
 use Rattle.fish_rule.specs.Machine.{Event, EverySchedule, EveryStepIsFinal, Exchanged, Runs, aim_entry, announce}
 use Rattle.fish_rule.specs.Machine.{check_lane, claim_lines, define_word, join_pass, load_bound, load_boundary}
 use Rattle.fish_rule.specs.Machine.{load_head, load_node, load_previous, load_registry, load_settled, load_tail}
@@ -30,21 +31,17 @@ use Rattle.fish_rule.proofs.steps.RaiseVersion.{raise_version_lasts}
 use Rattle.fish_rule.proofs.steps.DefineWord.{define_word_lasts}
 use Rattle.fish_rule.proofs.steps.StoreFrom.{store_from_lasts}
 use Rattle.fish_rule.proofs.steps.StoreTo.{store_to_lasts}
-use Rattle.fish_rule.proofs.steps.Announce.{announce_kept, announce_lasts}
-use Rattle.fish_rule.proofs.steps.LoadRegistry.{load_registry_kept, load_registry_lasts}
-use Rattle.fish_rule.proofs.steps.Retire.{retire_kept, retire_lasts}
-use Rattle.fish_rule.proofs.steps.LoadVersion.{load_version_kept, load_version_lasts}
+use Rattle.fish_rule.proofs.steps.Announce.{announce_lasts}
+use Rattle.fish_rule.proofs.steps.LoadRegistry.{load_registry_lasts}
+use Rattle.fish_rule.proofs.steps.Retire.{retire_lasts}
+use Rattle.fish_rule.proofs.steps.LoadVersion.{load_version_lasts}
 use Rattle.fish_rule.specs.Regions.{dir_word, kind_of}
-use Rattle.fish_rule.specs.Rule.{Final, Rule}
+use Rattle.fish_rule.specs.Rule.{Rule}
 use Rattle.fish_rule.specs.Start.{empty_world}
 use Rattle.fish_rule.specs.SpaceSteps.{flight_kind, loaded, ticked}
 use Rattle.fish_rule.specs.LoadSteps.{after_look_at}
 use Rattle.fish_rule.specs.World.{World, put}
 use Rattle.fish_rule.specs.declared.view.Key.{Key}
-
--- the world after a step meets the rule, and what lasts has lasted
-abbrev Lasts : (k : Key) (w : World) → Rule k w → World → Type 0
-Lasts k w r u = (s : Rule k u) × Final k r.start s.start r.lane_of s.lane_of w u
 
 -- the same where the world is known by an equation
 lasts_at : (k : Key) (w : World) (r : Rule k w) (u u' : World) → u ≡ u' → Lasts k w r u' → Lasts k w r u
@@ -78,54 +75,39 @@ event_lasts k (publish_region id) w u r g = (let v = g.0 in let f = g.1 in let s
 event_lasts k (look_at id n) w u r g = (let v = g.0 in let s = g.2 in
     lasts_at k w r u _ g.5 (subst (λ (z : ℕ). Lasts k w r
     (record w { views = set w.views id (after_look_at v n z (w.dir n)) })) (sym (g.4 r))
-    (look_at_kept k w r id v s.at n (w.dir n) g.3 s.about refl, look_at_lasts k w r id v s.at n (w.dir n) g.3 s.about refl)))
+    (look_at_lasts k w r id v s.at n (w.dir n) g.3 s.about refl)))
 event_lasts k (read_word id n i) w u r g = (let v = g.0 in let f = g.1 in let s = g.2 in
-    lasts_at k w r u _ g.5 (read_word_kept k w r id v s.at f i g.3, read_word_lasts k w r id v s.at f i g.3))
+    lasts_at k w r u _ g.5 (read_word_lasts k w r id v s.at f i g.3))
 event_lasts k (load_tail id) w u r g = (let v = g.0 in let x : ℕ = g.1 in let s = g.2 in
-    lasts_at k w r u _ g.5 (load_tail_kept k w r id v s.at x g.3 g.4, load_tail_lasts k w r id v s.at x g.3 g.4))
+    lasts_at k w r u _ g.5 (load_tail_lasts k w r id v s.at x g.3 g.4))
 event_lasts k (load_settled id) w u r g = (let v = g.0 in let s = g.1 in
-    lasts_at k w r u _ g.2 (load_settled_kept k w r id v s.at, load_settled_lasts k w r id v s.at))
+    lasts_at k w r u _ g.2 (load_settled_lasts k w r id v s.at))
 event_lasts k (raise_settled id m) w u r g = (let v = g.0 in let s = g.1 in
     lasts_at k w r u _ g.3 (raise_settled_kept k w r id v s.at s.about m g.2, raise_settled_lasts k w r id v s.at s.about m g.2))
 event_lasts k (load_head id b) w u r g = (let v = g.0 in let s = g.1 in
-    lasts_at k w r u _ g.3 (
-      load_head_kept k w r id v s.at b (loaded v.clock) s.about,
-      load_head_lasts k w r id v s.at b (loaded v.clock) s.about,
-    ))
+    lasts_at k w r u _ g.3 (load_head_lasts k w r id v s.at b (loaded v.clock) s.about))
 event_lasts k (load_previous id b p) w u r g = (let v = g.0 in let s = g.1 in
-    lasts_at k w r u _ g.3 (
-      load_previous_kept k w r id v s.at b p g.2 (loaded v.clock) s.about,
-      load_previous_lasts k w r id v s.at b p g.2 (loaded v.clock) s.about,
-    ))
+    lasts_at k w r u _ g.3 (load_previous_lasts k w r id v s.at b p g.2 (loaded v.clock) s.about))
 event_lasts k (load_node id b p) w u r g = (let v = g.0 in let s = g.1 in
-    lasts_at k w r u _ g.3 (load_node_kept k w r id v s.at b p g.2, load_node_lasts k w r id v s.at b p g.2))
+    lasts_at k w r u _ g.3 (load_node_lasts k w r id v s.at b p g.2))
 event_lasts k (aim_entry id x) w u r g = (let v = g.0 in let f = g.1 in let s = g.2 in
     lasts_at k w r u _ g.4 (aim_entry_kept k w r id v s.at f g.3 x, aim_entry_lasts k w r id v s.at f g.3 x))
 event_lasts k (swing_head id b h) w u r g = (let v = g.0 in let f = g.1 in let s = g.2 in let can = g.3 in
     exchange_lasts k w r u _ _ (w.head b) h g.4
     (λ e. (swing_head_kept k w r id v s.at s.about f b h can e, swing_head_lasts k w r id v s.at s.about f b h can e))
-    (λ ne. (
-      load_head_kept k w r id v s.at b (ticked v.clock) s.about,
-      load_head_lasts k w r id v s.at b (ticked v.clock) s.about,
-    )))
+    (λ ne. (load_head_lasts k w r id v s.at b (ticked v.clock) s.about)))
 event_lasts k (splice_entry id b q x) w u r g = (let v = g.0 in let f = g.1 in let s = g.2 in let can = g.3 in
     exchange_lasts k w r u _ _ (w.log q) x g.4
     (λ e. (splice_entry_kept k w r id v s.at s.about f b q x can e, splice_entry_lasts k w r id v s.at s.about f b q x can e))
-    (λ ne. (
-      load_previous_kept k w r id v s.at b q can.node (ticked v.clock) s.about,
-      load_previous_lasts k w r id v s.at b q can.node (ticked v.clock) s.about,
-    )))
+    (λ ne. (load_previous_lasts k w r id v s.at b q can.node (ticked v.clock) s.about)))
 event_lasts k (load_version id) w u r g = (let v = g.0 in let s = g.1 in
-    lasts_at k w r u _ g.2 (load_version_kept k w r id v s.at, load_version_lasts k w r id v s.at))
+    lasts_at k w r u _ g.2 (load_version_lasts k w r id v s.at))
 event_lasts k (announce id x) w u r g = (let v = g.0 in let s = g.1 in
-    lasts_at k w r u _ g.3 (announce_kept k w r id v s.at x g.2, announce_lasts k w r id v s.at x g.2))
+    lasts_at k w r u _ g.3 (announce_lasts k w r id v s.at x g.2))
 event_lasts k (retire id) w u r g = (let v = g.0 in let s = g.1 in
-    lasts_at k w r u _ g.3 (retire_kept k w r id v s.at g.2, retire_lasts k w r id v s.at g.2))
+    lasts_at k w r u _ g.3 (retire_lasts k w r id v s.at g.2))
 event_lasts k (load_registry id p) w u r g = (let v = g.0 in let s = g.1 in
-    lasts_at k w r u _ g.3 (
-      load_registry_kept k w r id v s.at s.about p g.2,
-      load_registry_lasts k w r id v s.at s.about p g.2,
-    ))
+    lasts_at k w r u _ g.3 (load_registry_lasts k w r id v s.at s.about p g.2))
 event_lasts k (define_word id p x) w u r g = (let v = g.0 in let s = g.1 in
     lasts_at k w r u _ g.3 (define_word_lasts k w r id v s.at g.2.main p x g.2))
 event_lasts k (raise_version id) w u r g = (let v = g.0 in let s = g.1 in

@@ -3,15 +3,16 @@ use Rattle.std.proofs.Common.{◌≡◌, ℕ, ◌≤◌, suc, set, arith, ◌-�
 use mathlib.Core.Option.{some, none}
 use Rattle.std.proofs.Math.ListN.{get_elem?}
 use Rattle.fish_rule.proofs.basics.Worlds.{put-else, put-here, world-registry}
+use Rattle.fish_rule.proofs.basics.Lasts.{Lasts}
 use Rattle.fish_rule.specs.RegistrySteps.{CanAnnounce, after_announce}
 use Rattle.fish_rule.specs.Registry.{epoch_at}
-use Rattle.fish_rule.specs.Rule.{Final, Rule}
+use Rattle.fish_rule.specs.Rule.{Rule}
 use Rattle.fish_rule.specs.SpaceSteps.{ticked}
 use Rattle.fish_rule.specs.World.{World, put, world}
 use Rattle.fish_rule.specs.declared.view.Epoch.TheVariants.{Announced}
 use Rattle.fish_rule.specs.declared.view.Key.{Key}
 use Rattle.fish_rule.specs.declared.view.View.{View}
-use Rattle.fish_rule.proofs.classes.OwnEpoch.{moves, moves_last, epoch_endures, carries_none}
+use Rattle.fish_rule.proofs.classes.OwnEpoch.{moves_last, epoch_endures, carries_none}
 use Rattle.atomic_table.specs.Table.{Allows, step}
 use Rattle.fish_rule.proofs.classes.Allowed.{allowed, stands, there}
 use Rattle.fish_rule.specs.Table.{Ruled, Sat, Told}
@@ -23,26 +24,11 @@ module _ (k : Key) (w : World) (r : Rule k w) (id : ℕ) (v : View) (at : get_el
   few = r.seats.few id v at
 
   module _ (u : ℕ) (can : CanAnnounce v u) where
-    -- an announcement keeps the rule
-    pub announce_kept : Rule k (record w {
+    -- an announcement keeps the rule, and all that lasts
+    pub announce_lasts : Lasts k w r (record w {
       registry = put w.registry (epoch_at v.lane) (suc u);
       views = set w.views id (after_announce v u);
     })
-    announce_kept = moves k w r id v at (put w.registry (epoch_at v.lane) (suc u)) (Announced u) v.learned.version
-        (epoch_endures k w.registry v.lane (suc u) can.can.live few)
-        (let some_ = can.can.live in put-else w.registry (epoch_at v.lane) (suc u) 2 (λ h. omega arith))
-        (λ p ne. put-else w.registry (epoch_at v.lane) (suc u) p ne)
-        (λ _ _. put-here w.registry (epoch_at v.lane) (suc u)) (r.registry.each id v at).from
-        (λ s a b. tt) (λ n a b. tt) (λ _ _. let a = can.reached in let b = (r.registry.each id v at).reached in omega arith)
-        (r.registry.each id v at).reached (λ e. ((r.registry.each id v at).main e).version)
-        (carries_none k w.registry r.version_of v.lane (Announced u) v.flight can.can.idle) (ticked v.clock)
-
-    -- and all that lasts
-    pub announce_lasts : Final k r.start announce_kept.start r.lane_of announce_kept.lane_of w (record w {
-      registry = put w.registry (epoch_at v.lane) (suc u);
-      views = set w.views id (after_announce v u);
-    })
-    unfolding announce_kept
     announce_lasts = moves_last k w r id v at (put w.registry (epoch_at v.lane) (suc u)) (Announced u) v.learned.version
         (epoch_endures k w.registry v.lane (suc u) can.can.live few)
         (let some_ = can.can.live in put-else w.registry (epoch_at v.lane) (suc u) 2 (λ h. omega arith))
@@ -64,7 +50,7 @@ announce_allowed given k same size id me u i x about can is value =
     let some_ = can.can.live in
     let kept : Rule k (record w { registry = put w.registry i x; views = set vs id v' }) =
     subst (λ (z : ℕ × ℕ). Rule k (record w { registry = put w.registry z.0 z.1; views = set vs id v' }))
-    (λ j. (sym is j, sym value j)) (announce_kept k w r id me.0 at u can) in
+    (λ j. (sym is j, sym value j)) (announce_lasts k w r id me.0 at u can).0 in
     let moved = world-registry k ws vs (set vs id v') i x (omega arith) (omega arith) wide in
     let back : x - 1 ≡ u = omega arith in (
       v',

@@ -5,12 +5,13 @@ use Rattle.std.proofs.Math.Decide.{ℕ_discrete, dec_lt}
 use mathlib.Core.Option.{some, none}
 use Rattle.std.proofs.Math.ListN.{get_elem?}
 use Rattle.fish_layout.specs.Cleared.{choose}
-use Rattle.fish_rule.proofs.classes.Loads.{learn_final, learns, still_chained}
+use Rattle.fish_rule.proofs.classes.Loads.{learn_lasts, still_chained}
+use Rattle.fish_rule.proofs.basics.Lasts.{Lasts}
 use Rattle.fish_rule.specs.BoundarySteps.{IsLane, after_check_lane, checked_after, with_lane}
 use Rattle.fish_rule.specs.Epochs.{epoch_word, IsAtMost, Stays}
 use Rattle.fish_rule.specs.Registry.{epoch_at, version_in}
 use Rattle.fish_rule.specs.Rounds.{IsRound, IsSince, Waits}
-use Rattle.fish_rule.specs.Rule.{Final, Rule}
+use Rattle.fish_rule.specs.Rule.{Rule}
 use Rattle.fish_rule.specs.World.{World, world}
 use Rattle.fish_rule.specs.declared.view.Epoch.{Epoch}
 use Rattle.fish_rule.specs.declared.view.Epoch.TheVariants.{Announced, Confirmed, Out}
@@ -81,16 +82,12 @@ module _ (k : Key) (w : World) (r : Rule k w) (id : ℕ) (v : View) (at : get_el
         by (no ne) (no more) = h
 
     -- a load of an epoch word keeps the rule, and all that lasts
-    pub check_lane_lasts : (s : Rule k (record w { views = set w.views id checker }))
-        × Final k r.start s.start r.lane_of s.lane_of w (record w { views = set w.views id checker })
-    unfolding learns
+    pub check_lane_lasts : Lasts k w r (record w { views = set w.views id checker })
     check_lane_lasts =
-        let stays = r.registry.each id v at in (
-          learns k w r id v at v.learned v.tail checker.round checker.clock (r.tails id v at) (r.facts id v at)
-              (r.opens id v at) (r.floors id v at) (still_chained k w r id v at v.learned v.tail checker.round checker.clock)
-              (assumption (stays, checked_waits v.round stays.waits)),
-          learn_final k w r id v at v.learned v.tail checker.round checker.clock,
-        )
+        let stays = r.registry.each id v at in
+        learn_lasts k w r id v at v.learned v.tail checker.round checker.clock (r.tails id v at) (r.facts id v at)
+        (r.opens id v at) (r.floors id v at) (still_chained k w r id v at v.learned v.tail checker.round checker.clock)
+        (assumption (stays, checked_waits v.round stays.waits))
 
 -- an epoch's word is at most one more than the version that it has reached
 few_word : (e : Epoch) (v : ℕ) → IsAtMost v e → epoch_word e ≤ suc v

@@ -8,10 +8,11 @@ use Rattle.fish_catalog.specs.declared.listed.Listed.{Listed}
 use Rattle.fish_rule.proofs.classes.BoundariesStay.{boundaries_later, lists_later, waits_later}
 use Rattle.fish_rule.proofs.classes.MainStores.{its, store_endures, store_still, stores}
 use Rattle.fish_rule.proofs.basics.Worlds.{put-else, put-here, world-registry}
+use Rattle.fish_rule.proofs.basics.Lasts.{Lasts}
 use Rattle.fish_rule.specs.RegistrySteps.{CanDefineWord, IsNextWord, after_define_word}
 use Rattle.fish_rule.specs.Epochs.{IsUnmade}
 use Rattle.fish_rule.specs.Registry.{Endures, IsLasting, definitions_at, op_at, row_at, version_in}
-use Rattle.fish_rule.specs.Rule.{Final, Rule}
+use Rattle.fish_rule.specs.Rule.{Rule}
 use Rattle.fish_rule.specs.World.{World, put, world}
 use Rattle.fish_rule.specs.declared.view.Key.{Key}
 use Rattle.fish_rule.specs.declared.view.View.{View}
@@ -82,9 +83,7 @@ module _ (k : Key) (w : World) (r : Rule k w) (id : ℕ) (v : View) (at : get_el
     definer = after_define_word v p x
 
     -- a definition keeps the rule, and all that lasts
-    pub define_word_lasts : (s : Rule k (record w { registry = put w.registry p x; views = set w.views id definer }))
-        × Final k r.start s.start r.lane_of s.lane_of w
-        (record w { registry = put w.registry p x; views = set w.views id definer })
+    pub define_word_lasts : Lasts k w r (record w { registry = put w.registry p x; views = set w.views id definer })
     define_word_lasts = stores k w r id v at main p x far_here made_else v.round
         (boundaries_later k w.registry _ define_endures w.count r.state r.state r.version_of define_still boundary_same
         (λ n i l few is above below. lists_later k w.registry _ define_endures n (r.state l)

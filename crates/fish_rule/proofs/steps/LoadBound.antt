@@ -2,10 +2,11 @@
 use Rattle.std.proofs.Common.{◌≡◌, ℕ, ◌≤◌, set, sym, subst, arith, Option, get_or, refl, ◌∙◌}
 use mathlib.Core.Option.{some, none}
 use Rattle.std.proofs.Math.ListN.{get_elem?}
-use Rattle.fish_rule.proofs.classes.Loads.{learn_final, learns, still_chained}
+use Rattle.fish_rule.proofs.classes.Loads.{learn_lasts, still_chained}
+use Rattle.fish_rule.proofs.basics.Lasts.{Lasts}
 use Rattle.fish_rule.specs.BoundarySteps.{CanLoadBound, after_load_bound}
 use Rattle.fish_rule.specs.Rounds.{IsRound, Waits}
-use Rattle.fish_rule.specs.Rule.{Final, Rule}
+use Rattle.fish_rule.specs.Rule.{Rule}
 use Rattle.fish_rule.specs.World.{World, high, low, world}
 use Rattle.fish_rule.specs.declared.view.Key.{Key}
 use Rattle.fish_rule.specs.declared.view.Round.{Round}
@@ -42,18 +43,15 @@ module _ (k : Key) (w : World) (r : Rule k w) (id : ℕ) (v : View) (at : get_el
         }
 
     -- a load of the tail behind the last lane keeps the rule, and all that lasts
-    pub load_bound_lasts : (s : Rule k (record w { views = set w.views id bounder }))
-        × Final k r.start s.start r.lane_of s.lane_of w (record w { views = set w.views id bounder })
-    unfolding learns
+    pub load_bound_lasts : Lasts k w r (record w { views = set w.views id bounder })
     load_bound_lasts =
         let h = r.facts id v at in
         let stays = r.registry.each id v at in
-        let still = still_chained k w r id v at bounder.learned bounder.tail bounder.round bounder.clock in (
-          learns k w r id v at bounder.learned bounder.tail bounder.round bounder.clock (λ main all. (count, line))
-              (assumption (h, subst (λ (z : ℕ). z ≤ w.count) (sym count) (omega arith))) (r.opens id v at) (r.floors id v at) (record { nodes = still.nodes; least_previous = still.least_previous; least_heads = still.least_heads })
-              (assumption (stays, bound_waits)),
-          learn_final k w r id v at bounder.learned bounder.tail bounder.round bounder.clock,
-        )
+        let u : View = bounder in
+        let still = still_chained k w r id v at u.learned u.tail u.round u.clock in
+        let counted : high x ≤ w.count = subst (λ (z : ℕ). z ≤ w.count) (sym count) (omega arith) in
+        learn_lasts k w r id v at u.learned u.tail u.round u.clock (λ main all. (count, line)) (assumption (h, counted))
+        (r.opens id v at) (r.floors id v at) (assumption still) (assumption (stays, bound_waits))
 
 -- a load of the tail behind the last lane
 pub load_bound_allowed : (given k : Key) → given ≡ k → (size id : ℕ) (me : Sat) (o : Round) → me.0.about ≡ k

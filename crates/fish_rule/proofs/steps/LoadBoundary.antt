@@ -2,12 +2,13 @@
 use Rattle.std.proofs.Common.{◌≡◌, ℕ, zero, suc, set, sym, refl, ap, ◌∙◌, subst, inr, arith, ◌≤◌, get_or}
 use mathlib.Core.Option.{some, none}
 use Rattle.std.proofs.Math.ListN.{get_elem?}
-use Rattle.fish_rule.proofs.classes.Loads.{learn_final, learns, still_chained}
+use Rattle.fish_rule.proofs.classes.Loads.{learn_lasts, still_chained}
+use Rattle.fish_rule.proofs.basics.Lasts.{Lasts}
 use Rattle.fish_rule.specs.Boundaries.{IsUnended}
 use Rattle.fish_rule.specs.BoundarySteps.{CanLoadBoundary, after_load_boundary, with_boundary, with_end}
 use Rattle.fish_rule.specs.Facts.{Facts}
 use Rattle.fish_rule.specs.Registry.{IsRegistered, row_at}
-use Rattle.fish_rule.specs.Rule.{Final, Rule}
+use Rattle.fish_rule.specs.Rule.{Rule}
 use Rattle.fish_rule.specs.Views.{AllOf}
 use Rattle.fish_rule.specs.World.{World, world}
 use Rattle.fish_rule.specs.declared.view.Key.{Key}
@@ -74,18 +75,15 @@ module _ (k : Key) (w : World) (r : Rule k w) (id : ℕ) (v : View) (at : get_el
         )
 
     -- a load of a boundary keeps the rule, and all that lasts
-    pub load_boundary_lasts : (s : Rule k (record w { views = set w.views id seer }))
-        × Final k r.start s.start r.lane_of s.lane_of w (record w { views = set w.views id seer })
-    unfolding learns
+    pub load_boundary_lasts : Lasts k w r (record w { views = set w.views id seer })
     load_boundary_lasts =
         let stays = r.registry.each id v at in
-        let still = still_chained k w r id v at seer.learned v.tail v.round seer.clock in (
-          learns k w r id v at seer.learned v.tail v.round seer.clock (r.tails id v at)
-              (same_facts seer.learned refl) (r.opens id v at) (r.floors id v at)
-              (record { nodes = still.nodes; least_previous = still.least_previous; least_heads = still.least_heads })
-              (assumption (stays, boundary_read (w.registry (row_at n i)) refl, end_read i (w.registry (row_at n i)) refl refl)),
-          learn_final k w r id v at seer.learned v.tail v.round seer.clock,
-        )
+        let u : View = seer in
+        let still = still_chained k w r id v at u.learned v.tail v.round u.clock in
+        let x : ℕ = w.registry (row_at n i) in
+        learn_lasts k w r id v at u.learned v.tail v.round u.clock (r.tails id v at) (same_facts u.learned refl)
+        (r.opens id v at) (r.floors id v at) (assumption still)
+        (assumption (stays, boundary_read x refl, end_read i x refl refl))
 
 -- a load of a boundary
 pub load_boundary_allowed : (given k : Key) → given ≡ k → (size id : ℕ) (me : Sat) (n i p : ℕ) → me.0.about ≡ k

@@ -6,13 +6,14 @@ use Rattle.atomic_table.specs.Table.{Allows, step}
 use Rattle.fish_rule.proofs.classes.Allowed.{allowed, loaded_words, stands, there}
 use Rattle.fish_rule.proofs.basics.Lists.{all_among}
 use Rattle.fish_rule.proofs.basics.Gaps.{gap_there}
+use Rattle.fish_rule.proofs.basics.Lasts.{Lasts}
 use Rattle.fish_rule.specs.Gaps.{IsGap}
-use Rattle.fish_rule.proofs.classes.Loads.{learn_final, learns, still_chained}
+use Rattle.fish_rule.proofs.classes.Loads.{learn_lasts, learn_final, still_chained}
 use Rattle.fish_rule.proofs.basics.Worlds.{area-in}
 use Rattle.fish_rule.specs.ChainSteps.{CanLoadHead, HeadRises, after_load_head, head_seen, gap}
 use Rattle.fish_rule.specs.SpaceSteps.{loaded}
 use Rattle.fish_rule.specs.Parts.{first_head}
-use Rattle.fish_rule.specs.Rule.{Final, Rule}
+use Rattle.fish_rule.specs.Rule.{Rule}
 use Rattle.fish_rule.specs.Table.{Ruled, Sat, Told}
 use Rattle.fish_rule.specs.Told.{ToldLoadHead, bucket_at}
 use Rattle.fish_rule.specs.World.{World, heads_at, world}
@@ -37,13 +38,13 @@ module _ (k : Key) (w : World) (r : Rule k w) (id : ℕ) (v : View) (at : get_el
       (λ p linked under. (r.chains b).highest p linked)
 
   module _ (clock : Clock) (about : v.about ≡ k) where
-    -- a step that sees a head keeps the rule
-    pub load_head_kept : Rule k (record w { views = set w.views id (head_seer clock) })
-    load_head_kept =
+    -- a step that sees a head keeps the rule, and all that lasts
+    pub load_head_lasts : Lasts k w r (record w { views = set w.views id (head_seer clock) })
+    load_head_lasts =
         let h = r.facts id v at in
         let still = still_chained k w r id v at (head_seer clock).learned v.tail v.round clock in
         let final = learn_final k w r id v at (head_seer clock).learned v.tail v.round clock in
-        learns k w r id v at (head_seer clock).learned v.tail v.round clock (r.tails id v at)
+        learn_lasts k w r id v at (head_seer clock).learned v.tail v.round clock (r.tails id v at)
         (assumption (h, head_gap))
         (r.opens id v at) (r.floors id v at) (record {
           nodes = node_joins _ v.about b (w.head b) v.learned.nodes still.nodes
@@ -52,12 +53,6 @@ module _ (k : Key) (w : World) (r : Rule k w) (id : ℕ) (v : View) (at : get_el
           least_previous = still.least_previous;
           least_heads = (omega arith, still.least_heads);
         }) (r.registry.each id v at)
-
-    -- and all that lasts
-    pub load_head_lasts : Final k r.start load_head_kept.start r.lane_of load_head_kept.lane_of w
-        (record w { views = set w.views id (head_seer clock) })
-    unfolding load_head_kept learns
-    load_head_lasts = learn_final k w r id v at (head_seer clock).learned v.tail v.round clock
 
 -- a load of a head
 pub load_head_allowed : (given k : Key) → given ≡ k → (size id : ℕ) (me : Sat) (b i : ℕ) → me.0.about ≡ k
@@ -76,7 +71,7 @@ load_head_allowed given k same size id me b i about can is =
     let v' : View = after_load_head me.0 b x in
     let kept : Rule k (record w { views = set vs id v' }) =
     subst (λ (z : ℕ). Rule k (record w { views = set vs id (after_load_head me.0 b z) })) (sym word)
-    (load_head_kept k w r id me.0 at b (loaded me.0.clock) about) in (
+    (load_head_lasts k w r id me.0 at b (loaded me.0.clock) about).0 in (
       v',
       loaded_words k ws (set vs id v') i kept,
       record {

@@ -5,14 +5,15 @@ use Rattle.std.proofs.Math.ListN.{get_elem?}
 use Rattle.atomic_table.specs.Table.{Allows, step}
 use Rattle.fish_rule.proofs.classes.Allowed.{allowed, loaded_words, stands, there}
 use Rattle.fish_rule.proofs.basics.Gaps.{label_there, second_inside}
-use Rattle.fish_rule.proofs.classes.Loads.{learn_final, learns, still_chained}
+use Rattle.fish_rule.proofs.classes.Loads.{learn_lasts, still_chained}
 use Rattle.fish_rule.proofs.basics.Places.{lies_inside, record_at}
 use Rattle.fish_rule.proofs.basics.Regions.{starts_above}
 use Rattle.fish_rule.proofs.basics.Bodies.{kind-inside}
 use Rattle.fish_rule.proofs.basics.Worlds.{area-in}
+use Rattle.fish_rule.proofs.basics.Lasts.{Lasts}
 use Rattle.fish_rule.specs.Chains.{Linked}
 use Rattle.fish_rule.specs.ChainSteps.{HasNode, after_load_node}
-use Rattle.fish_rule.specs.Rule.{Final, Rule}
+use Rattle.fish_rule.specs.Rule.{Rule}
 use Rattle.fish_rule.specs.Table.{Ruled, Sat, Told}
 use Rattle.fish_rule.specs.Told.{place_at, told_load_node}
 use Rattle.fish_rule.specs.World.{World, log_at, log_size, world}
@@ -27,21 +28,15 @@ module _ (k : Key) (w : World) (r : Rule k w) (id : ℕ) (v : View) (at : get_el
   abbrev pub node_seer : View
   node_seer = after_load_node v p (w.log (suc p))
 
-  -- a load of a second word keeps the rule
-  pub load_node_kept : Rule k (record w { views = set w.views id node_seer })
-  load_node_kept =
+  -- a load of a second word keeps the rule, and all that lasts
+  pub load_node_lasts : Lasts k w r (record w { views = set w.views id node_seer })
+  load_node_lasts =
       let h = r.facts id v at in
       let still = still_chained k w r id v at node_seer.learned v.tail v.round node_seer.clock in
-      learns k w r id v at node_seer.learned v.tail v.round node_seer.clock (r.tails id v at)
+      learn_lasts k w r id v at node_seer.learned v.tail v.round node_seer.clock (r.tails id v at)
       (assumption (h, label_there k w r b p v.learned.settled (r.floors id v at) (node_linked k w r id v at b p node)))
       (r.opens id v at) (r.floors id v at)
-      (record { nodes = still.nodes; least_previous = still.least_previous; least_heads = still.least_heads }) (r.registry.each id v at)
-
-  -- and all that lasts
-  pub load_node_lasts : Final k r.start load_node_kept.start r.lane_of load_node_kept.lane_of w
-      (record w { views = set w.views id node_seer })
-  unfolding load_node_kept learns
-  load_node_lasts = learn_final k w r id v at node_seer.learned v.tail v.round node_seer.clock
+      (assumption still) (r.registry.each id v at)
 
 -- a linked place's second word is within the log's words
 pub second_within : (k : Key) (w : World) (r : Rule k w) (b p : ℕ) → Linked k w.dir w.log w.views b p
@@ -71,7 +66,7 @@ load_node_allowed given k same size id me b p i about node is =
     let v' : View = after_load_node me.0 p x in
     let kept : Rule k (record w { views = set vs id v' }) =
     subst (λ (z : ℕ). Rule k (record w { views = set vs id (after_load_node me.0 p z) })) (sym word)
-    (load_node_kept k w r id me.0 at b p node) in (
+    (load_node_lasts k w r id me.0 at b p node).0 in (
       v',
       loaded_words k ws (set vs id v') i kept,
       subst (λ (z : ℕ). Told me (after_load_node me.0 z x) (v', me.1)) (sym index)

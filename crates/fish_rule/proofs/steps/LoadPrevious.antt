@@ -6,8 +6,9 @@ use Rattle.atomic_table.specs.Table.{Allows, step}
 use Rattle.fish_rule.proofs.classes.Allowed.{allowed, loaded_words, stands, there}
 use Rattle.fish_rule.proofs.basics.Lists.{all_among}
 use Rattle.fish_rule.proofs.basics.Gaps.{gap_there}
+use Rattle.fish_rule.proofs.basics.Lasts.{Lasts}
 use Rattle.fish_rule.specs.Gaps.{IsGap}
-use Rattle.fish_rule.proofs.classes.Loads.{learn_final, learns, still_chained}
+use Rattle.fish_rule.proofs.classes.Loads.{learn_lasts, learn_final, still_chained}
 use Rattle.fish_rule.proofs.basics.Places.{lies_inside, record_at}
 use Rattle.fish_rule.proofs.basics.Regions.{starts_above}
 use Rattle.fish_rule.proofs.basics.Bodies.{kind-inside}
@@ -16,7 +17,7 @@ use Rattle.fish_rule.specs.Chains.{IsLeastPrevious, Linked}
 use Rattle.fish_rule.specs.ChainSteps.{HasNode, PreviousRises, after_load_previous, gap, previous_seen}
 use Rattle.fish_rule.specs.SpaceSteps.{loaded}
 use Rattle.fish_rule.specs.Parts.{first_head}
-use Rattle.fish_rule.specs.Rule.{Final, Rule}
+use Rattle.fish_rule.specs.Rule.{Rule}
 use Rattle.fish_rule.specs.Table.{Ruled, Sat, Told}
 use Rattle.fish_rule.specs.Told.{ToldLoadPrevious, place_at}
 use Rattle.fish_rule.specs.World.{World, log_at, log_size, world}
@@ -52,14 +53,14 @@ module _ (k : Key) (w : World) (r : Rule k w) (id : ℕ) (v : View) (at : get_el
       (λ q linked under. ((r.chains b).next p node_linked).most q linked under)
 
   module _ (clock : Clock) (about : v.about ≡ k) where
-    -- a step that sees a first word keeps the rule
-    pub load_previous_kept : Rule k (record w { views = set w.views id (previous_seer clock) })
-    load_previous_kept =
+    -- a step that sees a first word keeps the rule, and all that lasts
+    pub load_previous_lasts : Lasts k w r (record w { views = set w.views id (previous_seer clock) })
+    load_previous_lasts =
         let h = r.facts id v at in
         let still = still_chained k w r id v at (previous_seer clock).learned v.tail v.round clock in
         let final = learn_final k w r id v at (previous_seer clock).learned v.tail v.round clock in
         let next = (r.chains b).next p node_linked in
-        learns k w r id v at (previous_seer clock).learned v.tail v.round clock (r.tails id v at)
+        learn_lasts k w r id v at (previous_seer clock).learned v.tail v.round clock (r.tails id v at)
         (assumption (h, previous_gap))
         (r.opens id v at) (r.floors id v at) (record {
           nodes = node_joins _ v.about b (w.log p) v.learned.nodes still.nodes
@@ -68,12 +69,6 @@ module _ (k : Key) (w : World) (r : Rule k w) (id : ℕ) (v : View) (at : get_el
           least_previous = (record { bucket = b; linked = final.links b p node_linked; low = omega arith }, still.least_previous);
           least_heads = still.least_heads;
         }) (r.registry.each id v at)
-
-    -- and all that lasts
-    pub load_previous_lasts : Final k r.start load_previous_kept.start r.lane_of load_previous_kept.lane_of w
-        (record w { views = set w.views id (previous_seer clock) })
-    unfolding load_previous_kept learns
-    load_previous_lasts = learn_final k w r id v at (previous_seer clock).learned v.tail v.round clock
 
 -- a linked place is within the log's words
 pub place_within : (k : Key) (w : World) (r : Rule k w) (b p : ℕ) → Linked k w.dir w.log w.views b p
@@ -103,7 +98,7 @@ load_previous_allowed given k same size id me b p i about node is =
     let v' : View = after_load_previous me.0 b p x in
     let kept : Rule k (record w { views = set vs id v' }) =
     subst (λ (z : ℕ). Rule k (record w { views = set vs id (after_load_previous me.0 b p z) })) (sym word)
-    (load_previous_kept k w r id me.0 at b p node (loaded me.0.clock) about) in
+    (load_previous_lasts k w r id me.0 at b p node (loaded me.0.clock) about).0 in
     let less = previous_less k w r id me.0 at b p node in (
       v',
       loaded_words k ws (set vs id v') i kept,

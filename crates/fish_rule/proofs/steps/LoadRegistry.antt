@@ -4,10 +4,11 @@ use Rattle.std.proofs.Common.{slice_get}
 use mathlib.Core.Option.{some, none}
 use Rattle.std.proofs.Math.ListN.{get_elem?}
 use Rattle.fish_rule.proofs.basics.RegistryWords.{has_read, length_grows}
+use Rattle.fish_rule.proofs.basics.Lasts.{Lasts}
 use Rattle.fish_rule.specs.RegistrySteps.{CanLoadRegistry, after_load_registry}
-use Rattle.fish_rule.specs.Registry.{IsLasting, definitions_at, version_in}
-use Rattle.fish_rule.specs.Rule.{Final, Rule}
-use Rattle.fish_rule.proofs.classes.Loads.{learn_final, learns, still_chained}
+use Rattle.fish_rule.specs.Registry.{IsLasting, IsRegistered, definitions_at, version_in}
+use Rattle.fish_rule.specs.Rule.{Rule}
+use Rattle.fish_rule.proofs.classes.Loads.{learn_lasts, still_chained}
 use Rattle.fish_rule.specs.World.{World, heads_at, world}
 use Rattle.fish_rule.specs.declared.view.Key.{Key}
 use Rattle.fish_rule.specs.declared.view.View.{View}
@@ -46,29 +47,17 @@ module _ (k : Key) (w : World) (r : Rule k w) (id : ℕ) (v : View) (at : get_el
     abbrev pub registered_view : View
     registered_view = after_load_registry v p (w.registry p)
 
-    -- a load of it keeps the rule
-    pub load_registry_kept : Rule k (record w { views = set w.views id registered_view })
-    load_registry_kept =
+    -- a load of it keeps the rule, and all that lasts
+    pub load_registry_lasts : Lasts k w r (record w { views = set w.views id registered_view })
+    load_registry_lasts =
         let h = r.facts id v at in
         let stays = r.registry.each id v at in
-        let still = still_chained k w r id v at registered_view.learned v.tail v.round registered_view.clock in
-        learns k w r id v at registered_view.learned v.tail v.round registered_view.clock (r.tails id v at) (assumption h) (r.opens id v at) (r.floors id v at) (record { nodes = still.nodes; least_previous = still.least_previous; least_heads = still.least_heads })
-        (record {
-          tied = stays.tied;
-          from = stays.from;
-          since = stays.since;
-          reached = stays.reached;
-          read = (record { lasts = lasts_there; word = refl }, stays.read);
-          unended = stays.unended;
-          main = stays.main;
-          waits = stays.waits;
-        })
-
-    -- and all that lasts
-    pub load_registry_lasts : Final k r.start load_registry_kept.start r.lane_of load_registry_kept.lane_of w
-        (record w { views = set w.views id registered_view })
-    unfolding load_registry_kept learns
-    load_registry_lasts = learn_final k w r id v at registered_view.learned v.tail v.round registered_view.clock
+        let u : View = registered_view in
+        let still = still_chained k w r id v at u.learned v.tail v.round u.clock in
+        let read : IsRegistered k w.registry (record { index = p; value = w.registry p }) =
+        record { lasts = lasts_there; word = refl } in
+        learn_lasts k w r id v at u.learned v.tail v.round u.clock (r.tails id v at) (assumption h) (r.opens id v at)
+        (r.floors id v at) (assumption still) (assumption (stays, read))
 
 -- a word that lasts is one of the registry's
 pub lasting_within : (k : Key) (w : World) (r : Rule k w) (p : ℕ) → IsLasting k w.registry p
@@ -96,7 +85,7 @@ load_registry_allowed given k same size id me p about can =
     let v' : View = after_load_registry me.0 p x in
     let kept : Rule k (record w { views = set vs id v' }) =
     subst (λ (z : ℕ). Rule k (record w { views = set vs id (after_load_registry me.0 p z) })) (sym word)
-    (load_registry_kept k w r id me.0 at about p can) in (
+    (load_registry_lasts k w r id me.0 at about p can).0 in (
       v',
       loaded_words k ws (set vs id v') p kept,
       record {

@@ -2,14 +2,15 @@
 use Rattle.std.proofs.Common.{◌≡◌, ℕ, ◌≤◌, [], set, sym, refl, subst, arith, get_or}
 use mathlib.Core.Option.{some, none}
 use Rattle.std.proofs.Math.ListN.{get_elem?}
+use Rattle.fish_rule.proofs.basics.Lasts.{Lasts}
 use Rattle.fish_rule.specs.Parts.{Rests}
 use Rattle.fish_rule.proofs.classes.OpensStay.{opens_begin}
-use Rattle.fish_rule.specs.Rule.{Final, Rule}
+use Rattle.fish_rule.specs.Rule.{Rule}
 use Rattle.fish_rule.specs.LoadSteps.{after_load_tail}
 use Rattle.fish_rule.specs.World.{World, high, low, world}
 use Rattle.fish_rule.specs.declared.view.Key.{Key}
 use Rattle.fish_rule.specs.declared.view.View.{View}
-use Rattle.fish_rule.proofs.classes.Loads.{learn_final, still_chained, learns}
+use Rattle.fish_rule.proofs.classes.Loads.{learn_lasts, still_chained}
 use Rattle.atomic_table.specs.Table.{Allows, step}
 use Rattle.fish_rule.specs.Table.{Ruled, Sat}
 use Rattle.fish_rule.specs.Told.{ToldLoadTail}
@@ -17,21 +18,15 @@ use Rattle.fish_rule.proofs.classes.Allowed.{allowed, stands, there, loaded_word
 
 module _ (k : Key) (w : World) (r : Rule k w) (id : ℕ) (v : View) (at : get_elem? w.views id ≡ some v) where
   -- a load of the tail
-  pub load_tail_kept : (x : ℕ) → high x ≡ w.count → low x ≡ w.line
-      → Rule k (record w { views = set w.views id (after_load_tail v x) })
-  load_tail_kept x count line =
+  pub load_tail_lasts : (x : ℕ) → high x ≡ w.count → low x ≡ w.line
+      → Lasts k w r (record w { views = set w.views id (after_load_tail v x) })
+  load_tail_lasts x count line =
       let h = r.facts id v at in
-      let still = still_chained k w r id v at (after_load_tail v x).learned (after_load_tail v x).tail v.round (after_load_tail v x).clock in
-      learns k w r id v at (after_load_tail v x).learned (after_load_tail v x).tail v.round (after_load_tail v x).clock
-      (λ main all. (count, line)) (assumption (h, subst (λ (z : ℕ). z ≤ w.count) (sym count) (omega arith))) (opens_begin k w r (high x) (omega arith), r.opens id v at) (r.floors id v at)
-      (record { nodes = still.nodes; least_previous = still.least_previous; least_heads = still.least_heads }) (r.registry.each id v at)
-
-  -- and all that lasts
-  pub load_tail_lasts : (x : ℕ) (count : high x ≡ w.count) (line : low x ≡ w.line)
-      → Final k r.start (load_tail_kept x count line).start r.lane_of (load_tail_kept x count line).lane_of w
-      (record w { views = set w.views id (after_load_tail v x) })
-  unfolding load_tail_kept learns
-  load_tail_lasts x count line = learn_final k w r id v at (after_load_tail v x).learned (after_load_tail v x).tail v.round (after_load_tail v x).clock
+      let u : View = after_load_tail v x in
+      let still = still_chained k w r id v at u.learned u.tail v.round u.clock in
+      let counted : high x ≤ w.count = subst (λ (z : ℕ). z ≤ w.count) (sym count) (omega arith) in
+      learn_lasts k w r id v at u.learned u.tail v.round u.clock (λ main all. (count, line)) (assumption (h, counted))
+      (opens_begin k w r (high x) counted, r.opens id v at) (r.floors id v at) (assumption still) (r.registry.each id v at)
 
   -- the count only rises
   pub end_counted : (x : ℕ) → high x ≡ w.count → v.learned.count ≤ high x
@@ -54,7 +49,7 @@ load_tail_allowed given k same size id me about =
     let w : World = world k ws vs in
     let x : ℕ = get_or ws 0 0 in
     let v' : View = after_load_tail me.0 x in
-    let kept = load_tail_kept k w r id me.0 at x refl refl in (
+    let kept = (load_tail_lasts k w r id me.0 at x refl refl).0 in (
       v',
       loaded_words k ws (set vs id v') 0 kept,
       record {

@@ -7,19 +7,20 @@ use Rattle.std.proofs.Math.ListN.{get_elem?}
 use Rattle.fish_layout.specs.Cleared.{choose}
 use Rattle.fish_rule.proofs.basics.Lists.{has_own}
 use Rattle.fish_rule.proofs.basics.RegistryWords.{endures_same}
+use Rattle.fish_rule.proofs.basics.Lasts.{Lasts}
 use Rattle.fish_rule.specs.RegistrySteps.{after_load_version}
 use Rattle.fish_rule.specs.Boundaries.{Lists}
 use Rattle.fish_rule.specs.Epochs.{Carries, IsAtMost, confirmed, epoch_word}
 use Rattle.fish_rule.specs.Registry.{definitions_at, version_in}
 use Rattle.fish_rule.specs.Rounds.{IsSince}
-use Rattle.fish_rule.specs.Rule.{Final, Rule}
+use Rattle.fish_rule.specs.Rule.{Rule}
 use Rattle.fish_rule.specs.World.{World, world}
 use Rattle.fish_rule.specs.declared.view.Epoch.{Epoch}
 use Rattle.fish_rule.specs.declared.view.Epoch.TheVariants.{Announced, Confirmed, Out}
 use Rattle.fish_rule.specs.declared.view.Flight.{Flight}
 use Rattle.fish_rule.specs.declared.view.Key.{Key}
 use Rattle.fish_rule.specs.declared.view.View.{View}
-use Rattle.fish_rule.proofs.classes.OwnEpoch.{moves, moves_last}
+use Rattle.fish_rule.proofs.classes.OwnEpoch.{moves_last}
 use Rattle.atomic_table.specs.Table.{Allows, step}
 use Rattle.fish_rule.proofs.classes.Allowed.{allowed, loaded_words, stands, there, word_at}
 use Rattle.fish_rule.specs.Table.{Ruled, Sat}
@@ -80,25 +81,8 @@ module _ (k : Key) (w : World) (r : Rule k w) (id : ℕ) (v : View) (at : get_el
   own_state : 1 ≤ v.lane → r.state v.lane ≡ v.epoch
   own_state some_ = ((r.registry.each id v at).tied v.lane (has_own w.views id v at some_ r.seats)).0 refl
 
-  -- a load of the version keeps the rule
-  pub load_version_kept : Rule k (record w { views = set w.views id (after_load_version v (w.registry 2)) })
-  load_version_kept = moves k w r id v at w.registry (confirmed v.epoch (w.registry 2)) (w.registry 2)
-      (endures_same k w.registry) refl (λ p ne. refl)
-      (λ a b. r.registry.epochs.words v.lane a b ∙ ap epoch_word (own_state a)
-      ∙ sym (confirmed_word v.epoch (w.registry 2)))
-      (λ _. r.registry.versions.from)
-      (λ s reached h. confirmed_since v.epoch (w.registry 2) s reached h)
-      (λ n listed h. confirmed_lists k w.registry n v.epoch (w.registry 2) listed h)
-      (λ a b. confirmed_most v.epoch (w.registry 2) (version_in w.registry)
-      (subst (IsAtMost (version_in w.registry)) (own_state a) (r.registry.epochs.past v.lane a b)))
-      (omega arith) (λ e. refl)
-      (confirmed_carries k w.registry r.version_of v.lane v.epoch (w.registry 2) v.flight (r.registry.flights id v at))
-      (after_load_version v (w.registry 2)).clock
-
-  -- and all that lasts
-  pub load_version_lasts : Final k r.start load_version_kept.start r.lane_of load_version_kept.lane_of w
-      (record w { views = set w.views id (after_load_version v (w.registry 2)) })
-  unfolding load_version_kept
+  -- a load of the version keeps the rule, and all that lasts
+  pub load_version_lasts : Lasts k w r (record w { views = set w.views id (after_load_version v (w.registry 2)) })
   load_version_lasts = moves_last k w r id v at w.registry (confirmed v.epoch (w.registry 2)) (w.registry 2)
       (endures_same k w.registry) refl (λ p ne. refl)
       (λ a b. r.registry.epochs.words v.lane a b ∙ ap epoch_word (own_state a)
@@ -127,7 +111,7 @@ load_version_allowed given k same size id me about =
     let v' : View = after_load_version me.0 x in
     let kept : Rule k (record w { views = set vs id v' }) =
     subst (λ (z : ℕ). Rule k (record w { views = set vs id (after_load_version me.0 z) })) (sym word)
-    (load_version_kept k w r id me.0 at) in (
+    (load_version_lasts k w r id me.0 at).0 in (
       v',
       loaded_words k ws (set vs id v') 2 kept,
       record {

@@ -6,11 +6,12 @@ use Rattle.std.proofs.Math.ListN.{get_elem?}
 use Rattle.fish_rule.proofs.basics.Bodies.{tail_is, published}
 use Rattle.fish_rule.proofs.basics.Lists.{all_among, only_main}
 use Rattle.fish_rule.proofs.classes.OtherViews.{one_view}
+use Rattle.fish_rule.proofs.basics.Lasts.{Lasts}
 use Rattle.fish_rule.specs.Parts.{Flies}
 use Rattle.fish_rule.proofs.classes.OpensStay.{opens_looked}
 use Rattle.fish_rule.specs.Facts.{IsFound}
 use Rattle.fish_rule.specs.Regions.{code, dir_word, kind_of}
-use Rattle.fish_rule.specs.Rule.{Final, Rule}
+use Rattle.fish_rule.specs.Rule.{Rule}
 use Rattle.fish_rule.specs.LoadSteps.{CanLookAt, IsAlone, after_look_at, found_after, kind_told}
 use Rattle.fish_rule.specs.Views.{AllOf, Among, IsFlightOf}
 use Rattle.fish_rule.specs.World.{World, high, low, dir_at, slots, world}
@@ -20,7 +21,7 @@ use Rattle.fish_rule.specs.declared.view.Key.{Key}
 use Rattle.fish_rule.specs.declared.view.Kind.{Kind}
 use Rattle.fish_rule.specs.declared.view.Kind.TheVariants.{Mark, Stored, Void}
 use Rattle.fish_rule.specs.declared.view.View.{View}
-use Rattle.fish_rule.proofs.classes.Loads.{learn_final, still_chained, learns}
+use Rattle.fish_rule.proofs.classes.Loads.{learn_lasts, still_chained}
 use Rattle.atomic_table.specs.Table.{Allows, step}
 use Rattle.fish_rule.proofs.basics.Regions.{few_slots}
 use Rattle.fish_rule.proofs.basics.Worlds.{area-in}
@@ -40,14 +41,15 @@ module _ (k : Key) (w : World) (r : Rule k w) (id : ℕ) (v : View) (at : get_el
   lines_at n = r.start (suc n) - r.start n
 
   -- a load of a directory word
-  pub look_at_kept : (n x : ℕ) → CanLookAt v n → v.about ≡ k → x ≡ w.dir n
-      → Rule k (record w { views = set w.views id (after_look_at v n (lines_at n) x) })
-  look_at_kept n x can about is =
+  pub look_at_lasts : (n x : ℕ) → CanLookAt v n → v.about ≡ k → x ≡ w.dir n
+      → Lasts k w r (record w { views = set w.views id (after_look_at v n (lines_at n) x) })
+  look_at_lasts n x can about is =
       let h = r.facts id v at in
-      let still = still_chained k w r id v at (after_look_at v n (lines_at n) x).learned v.tail v.round (after_look_at v n (lines_at n) x).clock in
-      learns k w r id v at (after_look_at v n (lines_at n) x).learned v.tail v.round
-      (after_look_at v n (lines_at n) x).clock (r.tails id v at) (assumption (h, each x is)) (opens_looked k w r id v at n x (subst (λ (z : Key). z.number ≤ n) about can.above) is) (r.floors id v at)
-      (record { nodes = still.nodes; least_previous = still.least_previous; least_heads = still.least_heads }) (r.registry.each id v at)
+      let u : View = after_look_at v n (lines_at n) x in
+      let still = still_chained k w r id v at u.learned v.tail v.round u.clock in
+      let above : k.number ≤ n = subst (λ (z : Key). z.number ≤ n) about can.above in
+      learn_lasts k w r id v at u.learned v.tail v.round u.clock (r.tails id v at) (assumption (h, each x is))
+      (opens_looked k w r id v at n x above is) (r.floors id v at) (assumption still) (r.registry.each id v at)
     where
       each : (x : ℕ) → x ≡ w.dir n → AllOf (IsFound k w.count w.dir r.start)
           (found_after n (lines_at n) x v.learned.found)
@@ -69,14 +71,6 @@ module _ (k : Key) (w : World) (r : Rule k w) (id : ℕ) (v : View) (at : get_el
             },
             (r.facts id v at).found,
           )
-
-  -- and all that lasts
-  pub look_at_lasts : (n x : ℕ) (can : CanLookAt v n) (about : v.about ≡ k) (is : x ≡ w.dir n)
-      → Final k r.start (look_at_kept n x can about is).start r.lane_of (look_at_kept n x can about is).lane_of w
-      (record w { views = set w.views id (after_look_at v n (lines_at n) x) })
-  unfolding look_at_kept learns
-  look_at_lasts n x can about is = learn_final k w r id v at (after_look_at v n (lines_at n) x).learned v.tail v.round
-      (after_look_at v n (lines_at n) x).clock
 
   -- a number that was found has the word that it had
   pub look_known : (n : ℕ) (x : ℕ) → x ≡ w.dir n → (f : Found) → Among f v.learned.found → f.number ≡ n
@@ -123,7 +117,7 @@ look_at_allowed given k same size id me n i about can is =
     ∙ sym (area-in ws (dir_at k) k.number (slots k) n above (omega arith)) in
     let lines : ℕ = lines_at k w r id me.0 at n in
     let v' : View = after_look_at me.0 n lines x in
-    let kept = look_at_kept k w r id me.0 at n x can about word in
+    let kept = (look_at_lasts k w r id me.0 at n x can about word).0 in
     let index : number_at me.0.about i ≡ n = ap (λ (z : Key). number_at z i) about ∙ (omega arith) in (
       v',
       loaded_words k ws (set vs id v') i kept,

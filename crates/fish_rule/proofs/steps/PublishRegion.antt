@@ -7,14 +7,14 @@ use mathlib.Core.Option.{some, none}
 use Rattle.std.proofs.Math.ListN.{get_elem?}
 use Rattle.atomic_table.proofs.Lists.{set_else}
 use Rattle.fish_layout.specs.Header.{keys_of, lines_of}
-use Rattle.fish_rule.proofs.basics.Bodies.{body_stored, code_once, high-pack, low-pack, mark-past, published}
+use Rattle.fish_rule.proofs.basics.Bodies.{code_once, high-pack, low-pack, mark-past, published}
 use Rattle.fish_rule.proofs.basics.Lists.{among_left, among_right, among_either, each_set, has_own, seats_kept}
 use Rattle.fish_rule.proofs.classes.OtherViews.{limit_views, alone_kept, flight_there, may_kept, one_view, registry_set}
 use Rattle.fish_rule.proofs.classes.FactsStay.{chained_later, facts_later, finished_later, flight_later, owns_later}
 use Rattle.fish_rule.proofs.classes.FactsStay.{shut_later, stored_later}
 use Rattle.fish_rule.proofs.classes.ChainsStay.{chains_same, linked_counted, linking_from}
 use Rattle.fish_rule.proofs.basics.Flights.{flight_is}
-use Rattle.fish_rule.proofs.basics.ToPublish.{filled, own_body, own_keyed, sized, may_before, small_line}
+use Rattle.fish_rule.proofs.basics.ToPublish.{filled, own_body, own_keyed, may_before, small_line}
 use Rattle.fish_rule.proofs.basics.Worlds.{put-else, put-here, world-dir}
 use Rattle.fish_rule.specs.Chains.{Linked, LinksAt, Shows}
 use Rattle.fish_rule.specs.Parts.{Flies, InFlight, IsEntryWord, IsPublishedRegion}
@@ -137,8 +137,7 @@ module _ (k : Key) (w : World) (r : Rule k w) (id : ℕ) (v : View) (at : get_el
     where
       all_linked : (kd : Kind) → kd ≡ Stored → IsReady active version kd v.lane f → f.linked ≡ keys_of (body w.log f.line 0)
       all_linked Stored e h = h.2 ∙ ap (λ (z : ℕ → ℕ). keys_of (z 0))
-          (sym (body_stored w.log f.words v.lane f.number f.lines f.line f.linked (h.1.0, h.1.1.record_of) h.0 (sized k w r id v at f flying version).0
-          (let q = h.2 in omega arith) own.written))
+          (sym (own_body k w r id v at f flying version h))
       all_linked Void e h = cc
       all_linked Mark e h = cc
 

@@ -14,12 +14,13 @@ use Rattle.fish_rule.proofs.classes.MainStores.{its, others_stay}
 use Rattle.fish_rule.proofs.basics.RegistryWords.{length_made, length_registered}
 use Rattle.fish_rule.proofs.classes.OnRegistry.{carries_later, owned_far, read_later, register_lasts, registers}
 use Rattle.fish_rule.proofs.basics.Worlds.{world-registry}
+use Rattle.fish_rule.proofs.basics.Lasts.{Lasts}
 use Rattle.fish_rule.specs.Boundaries.{Boundaries, IsOpenIn}
 use Rattle.fish_rule.specs.RegistrySteps.{CanRaiseVersion, after_raise_version, next_operation, round_after}
 use Rattle.fish_rule.specs.Epochs.{IsAtMost, IsOwned, IsUnmade, Registry, Stays}
 use Rattle.fish_rule.specs.Registry.{definitions_at, epoch_at, made, op_at, row_at, version_in}
 use Rattle.fish_rule.specs.Rounds.{IsSince, Waits}
-use Rattle.fish_rule.specs.Rule.{Final, Rule}
+use Rattle.fish_rule.specs.Rule.{Rule}
 use Rattle.fish_rule.specs.SpaceSteps.{ticked}
 use Rattle.fish_rule.specs.World.{World, put, world}
 use Rattle.fish_rule.specs.declared.view.Epoch.{Epoch}
@@ -59,7 +60,8 @@ module _ (k : Key) (w : World) (r : Rule k w) (id : ℕ) (v : View) (at : get_el
   -- what has no end had not ended, and the operation ends it not
   open_then : (n : ℕ) → n < 256 → w.registry (row_at n 1) ≡ 0
       → IsOpenIn (made w.registry (w.registry (op_at (suc (version_in w.registry)))) before) n
-  open_then n few endless = open_made w.registry (w.registry (op_at (suc (version_in w.registry)))) before n (operation k w r id v at main can)
+  open_then n few endless = open_made w.registry (w.registry (op_at (suc (version_in w.registry)))) before n
+      (operation k w r id v at main can)
       (r.registry.versions.listings (version_in w.registry) (omega arith))
       (λ is. has_end n few is endless) (r.registry.boundaries.running n (version_in w.registry) few endless (omega arith))
 
@@ -77,13 +79,16 @@ module _ (k : Key) (w : World) (r : Rule k w) (id : ℕ) (v : View) (at : get_el
         in_order = λ n few endless. same_bound n 1 few (omega arith)
             ∙ h.in_order n few (sym (same_bound n 0 few (omega arith)) ∙ endless);
         claimed = λ n i x few bound is. h.claimed n i x few bound (sym (same_bound n i few bound) ∙ is);
-        entered = λ n x l few is above below. lists_later k w.registry bumped (bump_endures k w r id v at main can) n (r.state l)
+        entered = λ n x l few is above below. lists_later k w.registry bumped (bump_endures k w r id v at main can) n
+            (r.state l)
             (r.registry.epochs.past l above below)
             (h.entered n x l few (sym (same_bound n 0 few (omega arith)) ∙ is) above below);
-        begun = λ n from m few is above after below. listed_later k w.registry bumped (bump_endures k w r id v at main can) n (r.version_of m)
+        begun = λ n from m few is above after below. listed_later k w.registry bumped
+            (bump_endures k w r id v at main can) n (r.version_of m)
             (versions.upto m above below)
             (h.begun n from m few (sym (same_bound n 0 few (omega arith)) ∙ is) above after below);
-        unended = λ n to m few is above before_ below. open_later k w.registry bumped (bump_endures k w r id v at main can) n (r.version_of m)
+        unended = λ n to m few is above before_ below. open_later k w.registry bumped
+            (bump_endures k w r id v at main can) n (r.version_of m)
             (versions.upto m above below)
             (h.unended n to m few (sym (same_bound n 1 few (omega arith)) ∙ is) above before_ below);
         running = λ n u few endless reached. opened_at n u few (sym (same_bound n 1 few (omega arith)) ∙ endless) reached
@@ -94,13 +99,15 @@ module _ (k : Key) (w : World) (r : Rule k w) (id : ℕ) (v : View) (at : get_el
       fewer n more =
           let size : length (definitions_at k bumped (version_in bumped)) ≡ length
           (made w.registry (w.registry (op_at (suc (version_in w.registry)))) before) =
-          ap (λ (z : List Listed). length z) (ap (definitions_at k bumped) (up k w r id v at main can) ∙ (made_now k w r id v at main can)) in
+          ap (λ (z : List Listed). length z) (ap (definitions_at k bumped) (up k w r id v at main can) ∙
+              (made_now k w r id v at main can)) in
           let grows = length_made w.registry (w.registry (op_at (suc (version_in w.registry)))) before in
           omega arith
 
       opened_at : (n u : ℕ) → n < 256 → w.registry (row_at n 1) ≡ 0 → u ≤ version_in bumped
           → Dec (u ≤ version_in w.registry) → IsOpenIn (definitions_at k bumped u) n
-      opened_at n u few endless reached (yes old) = open_later k w.registry bumped (bump_endures k w r id v at main can) n u old
+      opened_at n u few endless reached (yes old) = open_later k w.registry bumped
+          (bump_endures k w r id v at main can) n u old
           (r.registry.boundaries.running n u few endless old)
       opened_at n u few endless reached (no new) =
           let rise = up k w r id v at main can in
@@ -167,22 +174,26 @@ module _ (k : Key) (w : World) (r : Rule k w) (id : ℕ) (v : View) (at : get_el
         since = h.since;
         reached = omega arith;
         read = read_later k w.registry bumped (bump_endures k w r id v at main can) v.learned.words h.read;
-        unended = unended_later k w.registry bumped (bump_endures k w r id v at main can) w.count r.version_of r.registry.versions
+        unended = unended_later k w.registry bumped (bump_endures k w r id v at main can) w.count r.version_of
+            r.registry.versions
             v.learned.unended h.unended;
         main = λ _. record {
           version = ap suc (its k w r id v at main).version ∙ sym (up k w r id v at main can);
           definitions = made_known k w r id v at main can;
-          owned = λ q u. let b = owned_then q u in else_ k w r id v at main can q (away q b) ∙ (its k w r id v at main).owned q b;
+          owned = λ q u. let b = owned_then q u in else_ k w r id v at main can q (away q b) ∙
+              (its k w r id v at main).owned q b;
         };
         waits = bump_waits;
       }
     where
       unmade_then : (q : ℕ) → IsUnmade k bumped q → IsUnmade k w.registry q
-      unmade_then q (inl h) = (let rise = up k w r id v at main can in let a = h.1 in inl (h.0, (omega arith), h.2, h.3))
+      unmade_then q (inl h) = (let rise = up k w r id v at main can in let a = h.1 in inl
+          (h.0, (omega arith), h.2, h.3))
       unmade_then q (inr h) =
           let size : length (definitions_at k bumped (version_in bumped)) ≡ length
           (made w.registry (w.registry (op_at (suc (version_in w.registry)))) before) =
-          ap (λ (z : List Listed). length z) (ap (definitions_at k bumped) (up k w r id v at main can) ∙ (made_now k w r id v at main can)) in
+          ap (λ (z : List Listed). length z) (ap (definitions_at k bumped) (up k w r id v at main can) ∙
+              (made_now k w r id v at main can)) in
           let grows = length_made w.registry (w.registry (op_at (suc (version_in w.registry)))) before in
           let a = h.2 in
           inr (h.0, h.1, (omega arith), h.3, h.4, h.5)
@@ -198,24 +209,25 @@ module _ (k : Key) (w : World) (r : Rule k w) (id : ℕ) (v : View) (at : get_el
   bump_registry : Registry k w.count bumped r.state r.version_of (set w.views id bumper)
   bump_registry = record {
     epochs = record {
-      words = λ l above below. else_ k w r id v at main can (epoch_at l) (λ e. omega arith) ∙ r.registry.epochs.words l above below;
+      words = λ l above below. else_ k w r id v at main can (epoch_at l) (λ e. omega arith) ∙ r.registry.epochs.words
+          l above below;
       past = λ l above below. most_later (version_in w.registry) (version_in bumped) (r.state l)
           (let rise = up k w r id v at main can in omega arith) (r.registry.epochs.past l above below);
     };
     versions = bump_versions k w r id v at main can;
     boundaries = bump_boundaries;
-    each = each_set _ w.views id bumper (others_stay k w r id v at main bumped (bump_endures k w r id v at main can)) bump_stays;
+    each = each_set _ w.views id bumper (others_stay k w r id v at main bumped (bump_endures k w r id v at main can))
+        bump_stays;
     flights = each_set _ w.views id bumper
-        (λ j u ne at_u. carries_later k w.registry bumped (bump_endures k w r id v at main can) r.version_of u.lane u.epoch u.flight
+        (λ j u ne at_u. carries_later k w.registry bumped (bump_endures k w r id v at main can) r.version_of u.lane
+            u.epoch u.flight
         (r.registry.flights j u at_u))
         (carries_later k w.registry bumped (bump_endures k w r id v at main can) r.version_of v.lane v.epoch v.flight
         (r.registry.flights id v at));
   }
 
   -- a bump keeps the rule, and all that lasts
-  pub raise_version_lasts : (s : Rule k (record w { registry = bumped; views = set w.views id bumper }))
-      × Final k r.start s.start r.lane_of s.lane_of w
-      (record w { registry = bumped; views = set w.views id bumper })
+  pub raise_version_lasts : Lasts k w r (record w { registry = bumped; views = set w.views id bumper })
   raise_version_lasts = (
     registers k w r id v at bumped v.epoch (suc v.learned.version) v.learned.words bumper.rows v.main_words bumper.round
         (ticked v.clock) (bump_endures k w r id v at main can) r.state bump_registry,

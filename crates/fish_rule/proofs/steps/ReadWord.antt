@@ -7,10 +7,11 @@ use Rattle.fish_rule.proofs.classes.Allowed.{allowed, loaded_words, stands, ther
 use Rattle.fish_rule.proofs.basics.Bodies.{kind-inside}
 use Rattle.fish_rule.proofs.basics.Regions.{starts_above}
 use Rattle.fish_rule.proofs.basics.Lists.{all_among}
-use Rattle.fish_rule.proofs.classes.Loads.{learn_final, learns, still_chained}
+use Rattle.fish_rule.proofs.classes.Loads.{learn_lasts, still_chained}
 use Rattle.fish_rule.proofs.basics.Worlds.{area-in}
+use Rattle.fish_rule.proofs.basics.Lasts.{Lasts}
 use Rattle.fish_rule.specs.Facts.{Facts, IsFound}
-use Rattle.fish_rule.specs.Rule.{Final, Rule}
+use Rattle.fish_rule.specs.Rule.{Rule}
 use Rattle.fish_rule.specs.LoadSteps.{CanReadWord, after_read_word}
 use Rattle.fish_rule.specs.Table.{Ruled, Sat, Told}
 use Rattle.fish_rule.specs.Told.{place_at, told_read_word}
@@ -35,18 +36,12 @@ module _ (k : Key) (w : World) (r : Rule k w) (id : ℕ) (v : View) (at : get_el
   read_facts = (let h = r.facts id v at in
       assumption (h, read_word_is k w r v x o h can))
 
-  -- a read keeps the rule
-  pub read_word_kept : Rule k (record w { views = set w.views id reader })
-  read_word_kept = learns k w r id v at reader.learned v.tail v.round reader.clock (r.tails id v at) read_facts
+  -- a read keeps the rule, and all that lasts
+  pub read_word_lasts : Lasts k w r (record w { views = set w.views id reader })
+  read_word_lasts = learn_lasts k w r id v at reader.learned v.tail v.round reader.clock (r.tails id v at) read_facts
       (r.opens id v at) (r.floors id v at)
       (let still = still_chained k w r id v at reader.learned v.tail v.round reader.clock in
       record { nodes = still.nodes; least_previous = still.least_previous; least_heads = still.least_heads }) (r.registry.each id v at)
-
-  -- and all that lasts
-  pub read_word_lasts : Final k r.start read_word_kept.start r.lane_of read_word_kept.lane_of w
-      (record w { views = set w.views id reader })
-  unfolding read_word_kept learns
-  read_word_lasts = learn_final k w r id v at reader.learned v.tail v.round reader.clock
 
 -- a load of a word of a published region
 pub read_word_allowed : (given k : Key) → given ≡ k → (size id : ℕ) (me : Sat) (x : Found) (o i : ℕ)
@@ -71,7 +66,7 @@ read_word_allowed given k same size id me x o i about can is =
     let v' : View = after_read_word me.0 p word in
     let kept : Rule k (record w { views = set vs id v' }) =
     subst (λ (z : ℕ). Rule k (record w { views = set vs id (after_read_word me.0 p z) })) (sym here)
-    (read_word_kept k w r id me.0 at x o can) in
+    (read_word_lasts k w r id me.0 at x o can).0 in
     let index : place_at me.0.about i ≡ p = ap (λ (z : Key). place_at z i) about ∙ (omega arith) in (
       v',
       loaded_words k ws (set vs id v') i kept,

@@ -3,15 +3,16 @@ use Rattle.std.proofs.Common.{◌≡◌, ℕ, ◌≤◌, set, arith, ◌-◌, sy
 use mathlib.Core.Option.{some, none}
 use Rattle.std.proofs.Math.ListN.{get_elem?}
 use Rattle.fish_rule.proofs.basics.Worlds.{put-else, put-here, world-registry}
+use Rattle.fish_rule.proofs.basics.Lasts.{Lasts}
 use Rattle.fish_rule.specs.RegistrySteps.{CanEnter, after_retire}
 use Rattle.fish_rule.specs.Registry.{epoch_at}
-use Rattle.fish_rule.specs.Rule.{Final, Rule}
+use Rattle.fish_rule.specs.Rule.{Rule}
 use Rattle.fish_rule.specs.SpaceSteps.{ticked}
 use Rattle.fish_rule.specs.World.{World, put, world}
 use Rattle.fish_rule.specs.declared.view.Epoch.TheVariants.{Out}
 use Rattle.fish_rule.specs.declared.view.Key.{Key}
 use Rattle.fish_rule.specs.declared.view.View.{View}
-use Rattle.fish_rule.proofs.classes.OwnEpoch.{moves, moves_last, epoch_endures, carries_none}
+use Rattle.fish_rule.proofs.classes.OwnEpoch.{moves_last, epoch_endures, carries_none}
 use Rattle.atomic_table.specs.Table.{Allows, step}
 use Rattle.fish_rule.proofs.classes.Allowed.{allowed, stands, there}
 use Rattle.fish_rule.specs.Table.{Ruled, Sat}
@@ -23,26 +24,11 @@ module _ (k : Key) (w : World) (r : Rule k w) (id : ℕ) (v : View) (at : get_el
   few = r.seats.few id v at
 
   module _ (can : CanEnter v) where
-    -- a retirement keeps the rule
-    pub retire_kept : Rule k (record w {
+    -- a retirement keeps the rule, and all that lasts
+    pub retire_lasts : Lasts k w r (record w {
       registry = put w.registry (epoch_at v.lane) 0;
       views = set w.views id (after_retire v);
     })
-    retire_kept = moves k w r id v at (put w.registry (epoch_at v.lane) 0) Out v.learned.version
-        (epoch_endures k w.registry v.lane 0 can.live few)
-        (let some_ = can.live in put-else w.registry (epoch_at v.lane) 0 2 (λ h. omega arith))
-        (λ p ne. put-else w.registry (epoch_at v.lane) 0 p ne)
-        (λ _ _. put-here w.registry (epoch_at v.lane) 0) (r.registry.each id v at).from
-        (λ s a b. tt) (λ n a b. tt) (λ _ _. tt)
-        (r.registry.each id v at).reached (λ e. ((r.registry.each id v at).main e).version)
-        (carries_none k w.registry r.version_of v.lane Out v.flight can.idle) (ticked v.clock)
-
-    -- and all that lasts
-    pub retire_lasts : Final k r.start retire_kept.start r.lane_of retire_kept.lane_of w (record w {
-      registry = put w.registry (epoch_at v.lane) 0;
-      views = set w.views id (after_retire v);
-    })
-    unfolding retire_kept
     retire_lasts = moves_last k w r id v at (put w.registry (epoch_at v.lane) 0) Out v.learned.version
         (epoch_endures k w.registry v.lane 0 can.live few)
         (let some_ = can.live in put-else w.registry (epoch_at v.lane) 0 2 (λ h. omega arith))
@@ -64,7 +50,7 @@ retire_allowed given k same size id me i about can is =
     let some_ = can.live in
     let kept : Rule k (record w { registry = put w.registry i 0; views = set vs id v' }) =
     subst (λ (z : ℕ). Rule k (record w { registry = put w.registry z 0; views = set vs id v' })) (sym is)
-    (retire_kept k w r id me.0 at can) in
+    (retire_lasts k w r id me.0 at can).0 in
     let moved = world-registry k ws vs (set vs id v') i 0 (omega arith) (omega arith) wide in (
       v',
       subst (Rule k) (sym moved) kept,

@@ -22,7 +22,7 @@ use Rattle.fish_rule.proofs.basics.Flights.{one_flight, flight_is}
 use Rattle.fish_rule.proofs.classes.OtherViews.{one_view}
 use Rattle.fish_rule.proofs.basics.FirstHeads.{first_low, flight_from}
 use Rattle.fish_rule.proofs.steps.LoadPrevious.{previous_less, previous_rises, node_linked, place_within}
-use Rattle.fish_rule.proofs.steps.LoadPrevious.{load_previous_kept}
+use Rattle.fish_rule.proofs.steps.LoadPrevious.{load_previous_lasts}
 use Rattle.fish_rule.proofs.classes.FactsStay.{chained_later, facts_later}
 use Rattle.fish_rule.proofs.classes.LinkOne.{Leaves, link_final, link_from, link_here, link_kept, link_lasts, link_to}
 use Rattle.fish_rule.proofs.classes.LinkOne.{either_way}
@@ -347,7 +347,7 @@ splice_entry_allowed given k same size id me f b q x i new about can is own_is =
     subst (λ (z : View). Rule k (world k (set ws i y) (set vs id z))) (sym miss)
     (loaded_words k ws (set vs id (previous_seen me.0 b q y (ticked me.0.clock))) i
     (subst (λ (z : ℕ). Rule k (record w { views = set vs id (previous_seen me.0 b q z (ticked me.0.clock)) })) (sym word)
-    (load_previous_kept k w r id me.0 at b q can.node (ticked me.0.clock) about)))) in
+    (load_previous_lasts k w r id me.0 at b q can.node (ticked me.0.clock) about).0))) in
     let about' : v'.about ≡ k = about_splice me.0 f b q x y about in (
       v',
       rule,

@@ -75,8 +75,10 @@ module _ (k : Key) (w : World) (r : Rule k w) (id : ℕ) (v : View) (at : get_el
 
   -- the lanes that may still overflow are those that might before
   split_limit : Limit k w.count (cut ++ right ∷ []) r.start r.quota
-  split_limit = limit_views r.limit
-            (each_cut _ r.limit.may (λ x has may. r.limit.may id v at x (left_has v.lane l v.out x can.main can.above has).0 may) (λ x has may. subst (λ (z : ℕ). r.quota z ≡ 1) (sym (has_one l [] x can.above has)) (r.limit.may id v at l had (may.0, not_over k.end v.flight can.idle))))
+  split_limit = limit_views r.limit (each_cut _ r.limit.may
+      (λ x has may. r.limit.may id v at x (left_has v.lane l v.out x can.main can.above has).0 may)
+      (λ x has may. subst (λ (z : ℕ). r.quota z ≡ 1) (sym (has_one l [] x can.above has))
+      (r.limit.may id v at l had (may.0, not_over k.end v.flight can.idle))))
 
   -- the control pass keeps the records but for those of lane l
   left_owns : Owns k w.count w.dir r.lane_of left.lane left.out left.own

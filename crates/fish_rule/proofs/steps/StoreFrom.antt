@@ -4,11 +4,12 @@ use mathlib.Core.Option.{some, none}
 use Rattle.std.proofs.Math.ListN.{get_elem?}
 use Rattle.fish_rule.proofs.classes.MainStores.{stores}
 use Rattle.fish_rule.proofs.basics.RegistryWords.{length_grows}
+use Rattle.fish_rule.proofs.basics.Lasts.{Lasts}
 use Rattle.fish_rule.specs.Boundaries.{Lists}
 use Rattle.fish_rule.specs.BoundarySteps.{CanStoreFrom, after_store_from}
 use Rattle.fish_rule.specs.Registry.{definitions_at, row_at, version_in}
 use Rattle.fish_rule.specs.Rounds.{IsRound, IsSince, Waits}
-use Rattle.fish_rule.specs.Rule.{Final, Rule}
+use Rattle.fish_rule.specs.Rule.{Rule}
 use Rattle.fish_rule.specs.World.{World, put, world}
 use Rattle.fish_rule.specs.declared.view.Epoch.{Epoch}
 use Rattle.fish_rule.specs.declared.view.Epoch.TheVariants.{Announced, Confirmed, Out}
@@ -38,10 +39,7 @@ module _ (k : Key) (w : World) (r : Rule k w) (id : ℕ) (v : View) (at : get_el
     lists_it (Confirmed u) h = has_it u h
 
     -- to set where an index begins keeps the rule, and all that lasts
-    pub store_from_lasts : (s : Rule k (record w {
-      registry = put w.registry (row_at o.id 0) (suc n);
-      views = set w.views id (after_store_from v o n);
-    })) × Final k r.start s.start r.lane_of s.lane_of w (record w {
+    pub store_from_lasts : Lasts k w r (record w {
       registry = put w.registry (row_at o.id 0) (suc n);
       views = set w.views id (after_store_from v o n);
     })

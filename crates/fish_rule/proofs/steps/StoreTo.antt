@@ -6,9 +6,10 @@ use Rattle.std.proofs.Math.ListN.{get_elem?}
 use Rattle.fish_catalog.specs.declared.listed.Listed.{Listed}
 use Rattle.fish_rule.proofs.classes.BoundariesStay.{waits_later}
 use Rattle.fish_rule.proofs.classes.MainStores.{its, stores}
+use Rattle.fish_rule.proofs.basics.Lasts.{Lasts}
 use Rattle.fish_rule.specs.BoundarySteps.{CanStoreTo, after_store_to}
 use Rattle.fish_rule.specs.Registry.{definitions_at, row_at, version_in}
-use Rattle.fish_rule.specs.Rule.{Final, Rule}
+use Rattle.fish_rule.specs.Rule.{Rule}
 use Rattle.fish_rule.specs.World.{World, put, world}
 use Rattle.fish_rule.specs.declared.view.Key.{Key}
 use Rattle.fish_rule.specs.declared.view.View.{View}
@@ -38,10 +39,7 @@ module _ (k : Key) (w : World) (r : Rule k w) (id : ℕ) (v : View) (at : get_el
     none_yet = known_bound 1 (omega arith) ∙ can.endless
 
     -- to set where an index ends keeps the rule, and all that lasts
-    pub store_to_lasts : (s : Rule k (record w {
-      registry = put w.registry (row_at row 1) (suc n);
-      views = set w.views id (after_store_to v row n);
-    })) × Final k r.start s.start r.lane_of s.lane_of w (record w {
+    pub store_to_lasts : Lasts k w r (record w {
       registry = put w.registry (row_at row 1) (suc n);
       views = set w.views id (after_store_to v row n);
     })

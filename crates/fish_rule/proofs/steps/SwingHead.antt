@@ -15,7 +15,7 @@ use Rattle.fish_rule.proofs.classes.Allowed.{allowed, loaded_words, stands, ther
 use Rattle.fish_rule.proofs.basics.ChainOrder.{chain_same, chain_swung}
 use Rattle.fish_rule.proofs.basics.Flights.{one_flight, flight_is}
 use Rattle.fish_rule.proofs.basics.FirstHeads.{first_low, flight_from}
-use Rattle.fish_rule.proofs.steps.LoadHead.{load_head_kept, head_rises}
+use Rattle.fish_rule.proofs.steps.LoadHead.{load_head_lasts, head_rises}
 use Rattle.fish_rule.proofs.classes.FactsStay.{chained_later, facts_later}
 use Rattle.fish_rule.proofs.classes.LinkOne.{Leaves, link_final, link_from, link_here, link_kept, link_lasts, link_to}
 use Rattle.fish_rule.proofs.classes.LinkOne.{either_way}
@@ -192,7 +192,7 @@ swing_head_allowed given k same size id me f b h i new about can is own =
     subst (λ (z : View). Rule k (world k (set ws i x) (set vs id z))) (sym miss)
     (loaded_words k ws (set vs id (head_seen me.0 b x (ticked me.0.clock))) i
     (subst (λ (z : ℕ). Rule k (record w { views = set vs id (head_seen me.0 b z (ticked me.0.clock)) })) (sym word)
-    (load_head_kept k w r id me.0 at b (ticked me.0.clock) about)))) in
+    (load_head_lasts k w r id me.0 at b (ticked me.0.clock) about).0))) in
     let about' : v'.about ≡ k = about_swing me.0 f b h x about in (
       v',
       rule,

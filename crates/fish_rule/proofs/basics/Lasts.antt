@@ -1,0 +1,8 @@
+-- What each step owes: the world after it meets the rule, and what lasts has lasted.
+use Rattle.fish_rule.specs.Rule.{Final, Rule}
+use Rattle.fish_rule.specs.World.{World}
+use Rattle.fish_rule.specs.declared.view.Key.{Key}
+
+-- the world after a step meets the rule, and what lasts has lasted
+abbrev pub Lasts : (k : Key) (w : World) → Rule k w → World → Type 0
+Lasts k w r u = (s : Rule k u) × Final k r.start s.start r.lane_of s.lane_of w u
