@@ -13,6 +13,7 @@ pub mod Lists
 pub mod OneMoment
 pub mod Places
 pub mod Quotas
+pub mod RegionWords
 pub mod Regions
 pub mod RegistryWords
 pub mod ToPublish

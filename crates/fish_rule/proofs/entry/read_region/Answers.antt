@@ -6,7 +6,7 @@ use Rattle.fish_layout.specs.Cleared.{IsKeyWord}
 use Rattle.fish_layout.specs.Header.{keys_of}
 use Rattle.fish_rule.proofs.laws.Learning.{extends_both, extends_to_read, read_here}
 use Rattle.fish_rule.proofs.laws.Steps.{found_law, header_law}
-use Rattle.fish_rule.proofs.laws.Entries.{AreRead, head_read, head_stays, read_more}
+use Rattle.fish_rule.proofs.basics.RegionWords.{AreRead, head_read, head_stays, read_more}
 use Rattle.fish_rule.specs.Passes.{view}
 use Rattle.fish_rule.specs.Logs.{IsWordTold}
 use Rattle.fish_rule.specs.Views.{Among}
