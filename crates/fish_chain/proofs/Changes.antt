@@ -34,17 +34,17 @@ aim_learns u f x = learns_same u (after_aim_entry u f x) refl refl
 -- by a swing that was made
 swing_learns : (u : View) (f : Flight) (b : ℕ) → Learns u (swung u f b)
 swing_learns u f b = assumption (
-    learns_self u,
-    ahead (record { bucket = b; place = own_place f }) u.learned.nodes,
-    ahead (record { bucket = b; place = own_place f }) u.learned.least_heads,
+  learns_self u,
+  ahead (record { bucket = b; place = own_place f }) u.learned.nodes,
+  ahead (record { bucket = b; place = own_place f }) u.learned.least_heads,
 )
 
 -- by a splice that was made
 splice_learns : (u : View) (f : Flight) (b q : ℕ) → Learns u (spliced u f b q)
 splice_learns u f b q = assumption (
-    learns_self u,
-    ahead (record { bucket = b; place = own_place f }) u.learned.nodes,
-    ahead (record { place = q; value = own_place f }) u.learned.least_previous,
+  learns_self u,
+  ahead (record { bucket = b; place = own_place f }) u.learned.nodes,
+  ahead (record { place = q; value = own_place f }) u.learned.least_previous,
 )
 
 -- ---- one step after others

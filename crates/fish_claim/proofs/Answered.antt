@@ -50,9 +50,9 @@ records_more Mark f records x m = m
 -- and it takes away nothing either
 pub publish_learns : (v : View) (f : Flight) → Learns v (after_publish_region v f)
 publish_learns v f = assumption (
-    learns_self v,
-    ahead (record { number = f.number; kind = flight_kind v f; line = f.line; lines = f.lines }) v.learned.found,
-    records_more (flight_kind v f) f v.learned.records,
+  learns_self v,
+  ahead (record { number = f.number; kind = flight_kind v f; line = f.line; lines = f.lines }) v.learned.found,
+  records_more (flight_kind v f) f v.learned.records,
 )
 
 -- the claim placed no record: the pass has nothing in flight, is shut by this or not, and else is as it was, but for

@@ -9,9 +9,8 @@ use Rattle.fish_layout.specs.Cleared.{body_of, choose}
 use Rattle.fish_rule.specs.Boundaries.{Boundaries, IsUnended}
 use Rattle.fish_rule.specs.Keys.{IsKeyed}
 use Rattle.fish_rule.specs.Regions.{code}
-use Rattle.fish_rule.specs.Registry.{opened_at}
-use Rattle.fish_rule.specs.Registry.{AreActiveAt, IsBoundaryIndex, IsOperation, IsRegistered, definitions_at, main_word}
-use Rattle.fish_rule.specs.Registry.{epoch_at, op_at, row_at, row_in, version_in}
+use Rattle.fish_rule.specs.Registry.{opened_at, AreActiveAt, IsBoundaryIndex, IsOperation, IsRegistered, definitions_at}
+use Rattle.fish_rule.specs.Registry.{main_word, epoch_at, op_at, row_at, row_in, version_in}
 use Rattle.fish_rule.specs.Rounds.{IsSince, Waits}
 use Rattle.fish_rule.specs.Views.{AllOf, Each, Has}
 use Rattle.fish_rule.specs.World.{body, high}

@@ -3,27 +3,23 @@ use Rattle.std.specs.Prelude.{ℕ, ◌≡◌, ◌≢◌, ◌+◌, ◌-◌, ◌*�
 use mathlib.Core.Option.{some}
 use Rattle.std.proofs.Math.ListN.{get_elem?, set}
 use Rattle.fish_rule.specs.RegistrySteps.{CanAnnounce, CanRaiseVersion, CanDefineWord, CanEnter, CanLoadRegistry}
-use Rattle.fish_rule.specs.RegistrySteps.{after_announce}
-use Rattle.fish_rule.specs.RegistrySteps.{after_raise_version, after_define_word, after_load_registry, after_retire}
-use Rattle.fish_rule.specs.RegistrySteps.{after_load_version}
+use Rattle.fish_rule.specs.RegistrySteps.{after_announce, after_raise_version, after_define_word, after_load_registry}
+use Rattle.fish_rule.specs.RegistrySteps.{after_retire, after_load_version}
 use Rattle.fish_rule.specs.BoundarySteps.{CanLoadBound, CanLoadBoundary, CanStoreFrom, CanStoreTo, IsLane}
-use Rattle.fish_rule.specs.BoundarySteps.{after_load_bound}
-use Rattle.fish_rule.specs.BoundarySteps.{after_load_boundary, after_check_lane, after_store_from, after_store_to}
+use Rattle.fish_rule.specs.BoundarySteps.{after_load_bound, after_load_boundary, after_check_lane, after_store_from}
+use Rattle.fish_rule.specs.BoundarySteps.{after_store_to}
 use Rattle.fish_rule.specs.Registry.{epoch_at, row_at, version_at}
 use Rattle.fish_rule.specs.ChainSteps.{CanAimEntry, CanLoadHead, CanSpliceEntry, CanSwingHead, HasNode, after_aim_entry}
-use Rattle.fish_rule.specs.ChainSteps.{after_load_head}
-use Rattle.fish_rule.specs.ChainSteps.{after_load_node, after_load_previous, head_seen, own_place, previous_seen}
-use Rattle.fish_rule.specs.ChainSteps.{spliced, swung}
+use Rattle.fish_rule.specs.ChainSteps.{after_load_head, after_load_node, after_load_previous, head_seen, own_place}
+use Rattle.fish_rule.specs.ChainSteps.{previous_seen, spliced, swung}
 use Rattle.fish_rule.specs.Parts.{Fits}
 use Rattle.fish_rule.specs.Regions.{dir_word}
 use Rattle.fish_rule.specs.Rule.{Final, Rule}
 use Rattle.fish_rule.specs.SeatSteps.{CanJoinPass, CanSplitPass, join_both, spent, split_left, split_right}
 use Rattle.fish_rule.specs.SpaceSteps.{CanClaimLines, CanPublishRegion, CanStoreWord, after_claim_lines}
-use Rattle.fish_rule.specs.SpaceSteps.{after_publish_region, after_store_word, flight_kind}
-use Rattle.fish_rule.specs.SpaceSteps.{ticked}
+use Rattle.fish_rule.specs.SpaceSteps.{after_publish_region, after_store_word, flight_kind, ticked}
 use Rattle.fish_rule.specs.LoadSteps.{CanLookAt, CanRaiseSettled, CanReadWord, after_load_tail, after_look_at}
-use Rattle.fish_rule.specs.LoadSteps.{after_raise_settled}
-use Rattle.fish_rule.specs.LoadSteps.{after_read_word, after_load_settled}
+use Rattle.fish_rule.specs.LoadSteps.{after_raise_settled, after_read_word, after_load_settled}
 use Rattle.fish_rule.specs.Start.{IsOpening, empty_world}
 use Rattle.fish_rule.specs.World.{World, high, low, max_lines, put}
 use Rattle.fish_rule.specs.declared.view.Flight.{Flight}

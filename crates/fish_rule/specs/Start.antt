@@ -8,8 +8,8 @@ use Rattle.fish_catalog.specs.declared.row.CatRow.{CatRow}
 use Rattle.fish_rule.specs.Registry.{epoch_at, op_at, opened_at, row_at, version_at}
 use Rattle.fish_rule.specs.Parts.{IsOlder, first_head}
 use Rattle.fish_rule.specs.Table.{first_view}
-use Rattle.fish_rule.specs.World.{last_line, last_number, line_range}
-use Rattle.fish_rule.specs.World.{World, area, dir_at, heads_at, registry_size, total}
+use Rattle.fish_rule.specs.World.{last_line, last_number, line_range, World, area, dir_at, heads_at, registry_size}
+use Rattle.fish_rule.specs.World.{total}
 use Rattle.fish_rule.specs.declared.seats.Start.{Start}
 use Rattle.fish_rule.specs.declared.table.Shape.{Shape}
 use Rattle.fish_rule.specs.declared.view.Key.{Key}

@@ -22,8 +22,7 @@ use Rattle.fish_rule.specs.declared.view.RegistryWord.{RegistryWord}
 use Rattle.fish_rule.specs.declared.view.Round.{Round}
 use Rattle.fish_rule.specs.Table.{Sat, Sees, Told}
 use Rattle.fish_rule.specs.ChainSteps.{HasNode, PreviousRises, HeadRises, after_aim_entry, after_load_head}
-use Rattle.fish_rule.specs.ChainSteps.{after_load_node}
-use Rattle.fish_rule.specs.ChainSteps.{after_load_previous, after_splice_entry, after_swing_head}
+use Rattle.fish_rule.specs.ChainSteps.{after_load_node, after_load_previous, after_splice_entry, after_swing_head}
 
 -- a claim: the operand is a count of one and the lines, and the value found is the tail, whose count only rises
 -- and stays within the directory

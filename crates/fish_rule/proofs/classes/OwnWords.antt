@@ -290,8 +290,8 @@ module _ (k : Key) (w : World) (r : Rule k w) (id : ℕ) (v : View) (at : get_el
           put-else w.log own_word x p (λ h. omega arith) ∙ r.space.log_beyond p more);
     };
     limit = limit_views r.limit
-            (may_kept w.views id v writer at k.end r.quota refl refl
-            (λ h. (h.0, λ over. h.1 (subst (IsOver k.end) flying over))) r.limit.may);
+        (may_kept w.views id v writer at k.end r.quota refl refl
+        (λ h. (h.0, λ over. h.1 (subst (IsOver k.end) flying over))) r.limit.may);
     settling = r.settling;
     chains = chains_same k w.dir w.dir w.log written.log w.views written.views w.head links_stay links_back
         (λ b p h. put-else w.log own_word x p (not_linked b p h)) r.chains;

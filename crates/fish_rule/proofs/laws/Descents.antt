@@ -44,19 +44,19 @@ node_here k b x nodes = by (dec_lt (k.line * 4) x)
 -- a head that is seen is learned on top
 pub head_learns : (v : View) (b x : ℕ) (clock : Clock) → Learns v (head_seen v b x clock)
 head_learns v b x clock = assumption (
-    learns_self v,
-    nodes_stay v.about b x v.learned.nodes,
-    ahead (record { bucket = b; place = x }) v.learned.least_heads,
-    ahead (gap b (v.about.end * 4) x v.learned) v.learned.gaps,
+  learns_self v,
+  nodes_stay v.about b x v.learned.nodes,
+  ahead (record { bucket = b; place = x }) v.learned.least_heads,
+  ahead (gap b (v.about.end * 4) x v.learned) v.learned.gaps,
 )
 
 -- so is a first word
 pub previous_learns : (v : View) (b p x : ℕ) (clock : Clock) → Learns v (previous_seen v b p x clock)
 previous_learns v b p x clock = assumption (
-    learns_self v,
-    nodes_stay v.about b x v.learned.nodes,
-    ahead (record { place = p; value = x }) v.learned.least_previous,
-    ahead (gap b p x v.learned) v.learned.gaps,
+  learns_self v,
+  nodes_stay v.about b x v.learned.nodes,
+  ahead (record { place = p; value = x }) v.learned.least_previous,
+  ahead (gap b p x v.learned) v.learned.gaps,
 )
 
 -- a load of a head extends a view

@@ -237,7 +237,7 @@ module _ (k : Key) (w : World) (r : Rule k w) (id other : ℕ) (v u : View) (at 
       log_beyond = r.space.log_beyond;
     };
     limit = limit_views r.limit
-            (each_join _ r.limit.may join_may (λ x has. absurd (has_none x has)));
+        (each_join _ r.limit.may join_may (λ x has. absurd (has_none x has)));
     settling = r.settling;
     chains = chains_views k w r (set taken other spent) links_join back_join;
     chained = each_join _ (λ j x at_x. join_chained x.learned (r.chained j x at_x)) both_chained

@@ -364,7 +364,7 @@ module _ (k : Key) (w : World) (r : Rule k w) (id : ℕ) (v : View) (at : get_el
       log_beyond = r.space.log_beyond;
     };
     limit = limit_views r.limit
-            (may_kept w.views id v publisher at k.end r.quota refl refl (may_before k v f flying kind is_kind) r.limit.may);
+        (may_kept w.views id v publisher at k.end r.quota refl refl (may_before k v f flying kind is_kind) r.limit.may);
     settling = record {
       from = r.settling.from;
       within = r.settling.within;

@@ -93,7 +93,7 @@ module _ (k : Key) (w : World) (r : Rule k w) (id : ℕ) (v : View) (at : get_el
     tails = each_set _ w.views id raiser (λ j u ne at_u. r.tails j u at_u) (r.tails id v at);
     space = space_still w.views id v raiser at refl refl r.space;
     limit = limit_views r.limit
-            (may_kept w.views id v raiser at k.end r.quota refl refl (λ h. h) r.limit.may);
+        (may_kept w.views id v raiser at k.end r.quota refl refl (λ h. h) r.limit.may);
     settling = settling;
     chains = chains_set k w r id v raiser at (λ a c h. h) (λ a c h. h);
     chained = each_set _ w.views id raiser

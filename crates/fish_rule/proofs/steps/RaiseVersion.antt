@@ -100,7 +100,7 @@ module _ (k : Key) (w : World) (r : Rule k w) (id : ℕ) (v : View) (at : get_el
           let size : length (definitions_at k bumped (version_in bumped)) ≡ length
           (made w.registry (w.registry (op_at (suc (version_in w.registry)))) before) =
           ap (λ (z : List Listed). length z) (ap (definitions_at k bumped) (up k w r id v at main can) ∙
-              (made_now k w r id v at main can)) in
+          (made_now k w r id v at main can)) in
           let grows = length_made w.registry (w.registry (op_at (suc (version_in w.registry)))) before in
           omega arith
 
@@ -193,7 +193,7 @@ module _ (k : Key) (w : World) (r : Rule k w) (id : ℕ) (v : View) (at : get_el
           let size : length (definitions_at k bumped (version_in bumped)) ≡ length
           (made w.registry (w.registry (op_at (suc (version_in w.registry)))) before) =
           ap (λ (z : List Listed). length z) (ap (definitions_at k bumped) (up k w r id v at main can) ∙
-              (made_now k w r id v at main can)) in
+          (made_now k w r id v at main can)) in
           let grows = length_made w.registry (w.registry (op_at (suc (version_in w.registry)))) before in
           let a = h.2 in
           inr (h.0, h.1, (omega arith), h.3, h.4, h.5)
@@ -220,7 +220,7 @@ module _ (k : Key) (w : World) (r : Rule k w) (id : ℕ) (v : View) (at : get_el
         bump_stays;
     flights = each_set _ w.views id bumper
         (λ j u ne at_u. carries_later k w.registry bumped (bump_endures k w r id v at main can) r.version_of u.lane
-            u.epoch u.flight
+        u.epoch u.flight
         (r.registry.flights j u at_u))
         (carries_later k w.registry bumped (bump_endures k w r id v at main can) r.version_of v.lane v.epoch v.flight
         (r.registry.flights id v at));
@@ -234,6 +234,7 @@ module _ (k : Key) (w : World) (r : Rule k w) (id : ℕ) (v : View) (at : get_el
     register_lasts k w r id v at bumped v.epoch (suc v.learned.version) v.learned.words bumper.rows v.main_words
         bumper.round (ticked v.clock) (bump_endures k w r id v at main can) r.state bump_registry,
   )
+
 -- a store of the version plus one
 pub raise_version_allowed : (given k : Key) → given ≡ k → (size id : ℕ) (me : Sat) (x : ℕ) → me.0.about ≡ k
     → CanRaiseVersion me.0 → x ≡ suc me.0.learned.version
