@@ -16,5 +16,6 @@ pub mod Quotas
 pub mod RegionWords
 pub mod Regions
 pub mod RegistryWords
+pub mod Stores
 pub mod ToPublish
 pub mod Worlds

@@ -23,6 +23,7 @@ pub mod RaiseVersion
 pub mod ReadWord
 pub mod Retire
 pub mod SpliceEntry
+pub mod SpliceKept
 pub mod SplitPass
 pub mod StoreFrom
 pub mod StoreTo

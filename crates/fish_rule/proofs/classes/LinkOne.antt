@@ -17,6 +17,7 @@ use Rattle.fish_rule.proofs.basics.Bodies.{published}
 use Rattle.fish_rule.proofs.classes.ChainsStay.{linked_map, linking_own, linking_to}
 use Rattle.fish_rule.proofs.basics.Places.{record_at}
 use Rattle.fish_rule.proofs.basics.Flights.{carried_is, flight_is, known_keyed}
+use Rattle.fish_rule.proofs.basics.Lasts.{Lasts}
 use Rattle.fish_rule.specs.Chains.{Chain, Chained, IsKeyEntry, IsLinking, IsStoredAt, Linked, LinksAt, Shows}
 use Rattle.fish_rule.specs.ChainSteps.{CanAimEntry, linked_once, own_place}
 use Rattle.fish_rule.specs.Parts.{Flies, InFlight, first_head}
@@ -213,7 +214,7 @@ module _ (k : Key) (w : World) (r : Rule k w) (id : ℕ) (v : View) (at : get_el
         (chained : Chained k w.dir log' linked_world.views head' learned)
         (stays : Stays k w.count w.registry r.state r.version_of linker) where
       -- the rule is kept
-      pub link_kept : Rule k linked_world
+      link_kept : Rule k linked_world
       link_kept = record {
         start = r.start;
         lane_of = r.lane_of;
@@ -258,9 +259,9 @@ module _ (k : Key) (w : World) (r : Rule k w) (id : ℕ) (v : View) (at : get_el
       }
 
       -- and all that lasts
-      pub link_lasts : Final k r.start link_kept.start r.lane_of link_kept.lane_of w linked_world
+      pub link_lasts : Lasts k w r linked_world
       unfolding link_kept
-      link_lasts = link_final
+      link_lasts = (link_kept, link_final)
 
 -- what two views give is what a choice of them gives
 pub either_way : {A P : Type 0} (g : View → A) (a : A) (d : Dec P) (hit miss : View) → g hit ≡ a → g miss ≡ a

@@ -1,5 +1,4 @@
 -- A store of a word of the region in flight that is no linked one: the next word, or an entry's own first word.
--- All of it stands over one world, one view and one step: cut in two, each lemma would name them all again.
 use Rattle.std.proofs.Common.{◌≡◌, ◌≢◌, ℕ, ◌+◌, ◌-◌, ◌*◌, ◌<◌, ◌≤◌, suc, List, length, get_or, set, sym, refl, ap, ◌∙◌}
 use Rattle.std.proofs.Common.{subst, inl, inr, ⊎_elim, arith, Some, None, Option}
 use Rattle.std.proofs.Math.Decide.{ℕ_discrete, dec_le}
@@ -7,11 +6,12 @@ use mathlib.Core.Option.{some}
 use Rattle.std.proofs.Math.ListN.{get_elem?}
 use Rattle.fish_layout.proofs.Clearing.{cleared_head, cleared_same}
 use Rattle.fish_layout.proofs.Spelled.{spelled_lines}
-use Rattle.fish_layout.specs.Cleared.{IsKeyWord, body_of, entry_at}
+use Rattle.fish_layout.specs.Cleared.{IsKeyWord, entry_at}
 use Rattle.fish_layout.specs.Header.{keys_of, lines_of}
 use Rattle.fish_rule.proofs.basics.Bodies.{body_same, published}
 use Rattle.fish_rule.proofs.basics.Regions.{ends_within, flight_behind, one_region}
 use Rattle.fish_rule.proofs.basics.Lists.{each_set, seats_kept}
+use Rattle.fish_rule.proofs.basics.Stores.{Becomes}
 use Rattle.fish_rule.proofs.basics.Flights.{one_flight, flight_is, carried_is}
 use Rattle.fish_rule.proofs.classes.OtherViews.{limit_views, alone_kept, flight_there, may_kept, one_view, registry_set}
 use Rattle.fish_rule.proofs.classes.FactsStay.{chained_later, facts_later, finished_later, flight_later, keyed_kept}
@@ -34,19 +34,6 @@ use Rattle.fish_rule.specs.Epochs.{IsCarried}
 use Rattle.fish_rule.specs.Keys.{IsKeyed}
 use Rattle.fish_rule.specs.Registry.{AreActiveAt}
 use Rattle.fish_rule.specs.declared.view.Kind.TheVariants.{Stored, Void}
-
--- words become these by a store of x at offset o of a region of so many words: either behind those that are
--- there, or, once entries are linked, in a key entry's first word alone
-pub record Becomes (size linked o x : ℕ) (keyed void : Type 0) (words words' : List ℕ) : Type 0 where
-  pub within : o < size
-  pub unlinked : ¬ IsLinkedWord linked o
-  pub fits : length words' ≤ size
-  pub longer : length words ≤ length words'
-  pub here : o < length words'
-  pub value : get_or words' o 0 ≡ x
-  pub same : (i : ℕ) → i ≢ o → i < length words' → (i < length words) × (get_or words' i 0 ≡ get_or words i 0)
-  pub linking : 0 < linked → keyed × (length words' ≡ length words) × (body_of words' ≡ body_of words)
-  pub header : void → length words' ≤ 1
 
 module _ (k : Key) (w : World) (r : Rule k w) (id : ℕ) (v : View) (at : get_elem? w.views id ≡ some v)
     (f : Flight) (flying : v.flight ≡ Some f) (o x : ℕ) (words' : List ℕ) (clock : Clock)

@@ -14,8 +14,8 @@ use Rattle.fish_rule.proofs.steps.ReadWord.{read_word_lasts}
 use Rattle.fish_rule.proofs.steps.StoreWord.{store_word_kept, store_word_lasts}
 use Rattle.fish_rule.proofs.steps.PublishRegion.{publish_region_kept, publish_region_lasts}
 use Rattle.fish_rule.proofs.steps.RaiseSettled.{raise_settled_kept, raise_settled_lasts}
-use Rattle.fish_rule.proofs.steps.SpliceEntry.{splice_entry_kept, splice_entry_lasts}
-use Rattle.fish_rule.proofs.steps.SwingHead.{swing_head_kept, swing_head_lasts}
+use Rattle.fish_rule.proofs.steps.SpliceKept.{splice_entry_lasts}
+use Rattle.fish_rule.proofs.steps.SwingHead.{swing_head_lasts}
 use Rattle.fish_rule.proofs.steps.JoinPass.{join_kept, join_lasts}
 use Rattle.fish_rule.proofs.steps.SplitPass.{split_kept, split_lasts}
 use Rattle.fish_rule.proofs.basics.Lasts.{Lasts}
@@ -94,11 +94,11 @@ event_lasts k (aim_entry id x) w u r g = (let v = g.0 in let f = g.1 in let s = 
     lasts_at k w r u _ g.4 (aim_entry_kept k w r id v s.at f g.3 x, aim_entry_lasts k w r id v s.at f g.3 x))
 event_lasts k (swing_head id b h) w u r g = (let v = g.0 in let f = g.1 in let s = g.2 in let can = g.3 in
     exchange_lasts k w r u _ _ (w.head b) h g.4
-    (λ e. (swing_head_kept k w r id v s.at s.about f b h can e, swing_head_lasts k w r id v s.at s.about f b h can e))
+    (λ e. swing_head_lasts k w r id v s.at s.about f b h can e)
     (λ ne. (load_head_lasts k w r id v s.at b (ticked v.clock) s.about)))
 event_lasts k (splice_entry id b q x) w u r g = (let v = g.0 in let f = g.1 in let s = g.2 in let can = g.3 in
     exchange_lasts k w r u _ _ (w.log q) x g.4
-    (λ e. (splice_entry_kept k w r id v s.at s.about f b q x can e, splice_entry_lasts k w r id v s.at s.about f b q x can e))
+    (λ e. splice_entry_lasts k w r id v s.at s.about f b q x can e)
     (λ ne. (load_previous_lasts k w r id v s.at b q can.node (ticked v.clock) s.about)))
 event_lasts k (load_version id) w u r g = (let v = g.0 in let s = g.1 in
     lasts_at k w r u _ g.2 (load_version_lasts k w r id v s.at))

@@ -13,7 +13,8 @@ use Rattle.fish_rule.proofs.classes.Allowed.{allowed, stands, there}
 use Rattle.fish_rule.proofs.basics.Bodies.{body_stored, kind-inside}
 use Rattle.fish_rule.proofs.basics.Regions.{starts_above}
 use Rattle.fish_rule.proofs.basics.Flights.{one_flight, flight_is}
-use Rattle.fish_rule.proofs.classes.OwnWords.{Becomes, write_kept, write_lasts}
+use Rattle.fish_rule.proofs.basics.Stores.{Becomes}
+use Rattle.fish_rule.proofs.classes.OwnWords.{write_kept, write_lasts}
 use Rattle.fish_rule.proofs.basics.Worlds.{world-log}
 use Rattle.fish_rule.specs.ChainSteps.{CanAimEntry, HasBody, after_aim_entry, own_place, aimed_at}
 use Rattle.fish_rule.specs.Regions.{IsRecord, kind_of}

@@ -7,7 +7,8 @@ use mathlib.Core.Option.{some, none}
 use Rattle.std.proofs.Math.ListN.{get_elem?}
 use Rattle.fish_layout.specs.Cleared.{IsKeyWord}
 use Rattle.fish_layout.specs.Header.{keys_of}
-use Rattle.fish_rule.proofs.classes.OwnWords.{Becomes, write_kept, write_lasts}
+use Rattle.fish_rule.proofs.basics.Stores.{Becomes}
+use Rattle.fish_rule.proofs.classes.OwnWords.{write_kept, write_lasts}
 use Rattle.fish_rule.proofs.basics.Flights.{flight_is}
 use Rattle.fish_rule.specs.Regions.{kind_of}
 use Rattle.fish_rule.specs.Rule.{Final, Rule}

@@ -17,10 +17,10 @@ use Rattle.fish_rule.proofs.basics.Flights.{one_flight, flight_is}
 use Rattle.fish_rule.proofs.basics.FirstHeads.{first_low, flight_from}
 use Rattle.fish_rule.proofs.steps.LoadHead.{load_head_lasts, head_rises}
 use Rattle.fish_rule.proofs.classes.FactsStay.{chained_later, facts_later}
-use Rattle.fish_rule.proofs.classes.LinkOne.{Leaves, link_final, link_from, link_here, link_kept, link_lasts, link_to}
-use Rattle.fish_rule.proofs.classes.LinkOne.{either_way}
+use Rattle.fish_rule.proofs.classes.LinkOne.{Leaves, link_final, link_from, link_here, link_lasts, link_to, either_way}
 use Rattle.fish_rule.proofs.classes.OwnWords.{not_linked}
 use Rattle.fish_rule.proofs.basics.Worlds.{area-in, put-else, put-here, world-head}
+use Rattle.fish_rule.proofs.basics.Lasts.{Lasts}
 use Rattle.fish_rule.specs.Chains.{Chain, Chained, Linked}
 use Rattle.fish_rule.specs.ChainSteps.{CanAimEntry, CanSwingHead, HeadRises, after_swing_head, head_seen, own_place}
 use Rattle.fish_rule.specs.ChainSteps.{swung}
@@ -129,14 +129,8 @@ module _ (k : Key) (w : World) (r : Rule k w) (id : ℕ) (v : View) (at : get_el
       let top_ = put-here w.head b own_at in
       record { nodes = (here, q.nodes); least_previous = q.least_previous; least_heads = (omega arith, q.least_heads) }
 
-  -- a swing keeps the rule
-  pub swing_head_kept : Rule k swing_world
-  swing_head_kept = link_kept k w r id v at f can.aim b bucket head' w.log swinger.learned swinger.clock leaves chains facts
-      (r.opens id v at) (r.floors id v at) chained (r.registry.each id v at)
-
-  -- and all that lasts
-  pub swing_head_lasts : Final k r.start swing_head_kept.start r.lane_of swing_head_kept.lane_of w swing_world
-  unfolding swing_head_kept
+  -- a swing keeps the rule, and all that lasts
+  pub swing_head_lasts : Lasts k w r swing_world
   swing_head_lasts =
       link_lasts k w r id v at f can.aim b bucket head' w.log swinger.learned swinger.clock leaves chains facts
       (r.opens id v at) (r.floors id v at) chained (r.registry.each id v at)
@@ -186,7 +180,7 @@ swing_head_allowed given k same size id me f b h i new about can is own =
     (λ e. let hit : v' ≡ swung me.0 f b = choose_first (ℕ_discrete x h) (swung me.0 f b) (head_seen me.0 b x (ticked me.0.clock)) e in
     subst (λ (z : ℕ × View). Rule k (world k (set ws i z.0) (set vs id z.1))) (λ j. (sym own j, sym hit j))
     (subst (Rule k) (sym (world-head k ws vs (set vs id (swung me.0 f b)) b i (own_place f) below is wide))
-    (swing_head_kept k w r id me.0 at about f b h can (sym word ∙ e))))
+    (swing_head_lasts k w r id me.0 at about f b h can (sym word ∙ e)).0))
     (λ ne. let miss : v' ≡ head_seen me.0 b x (ticked me.0.clock) =
     choose_second (ℕ_discrete x h) (swung me.0 f b) (head_seen me.0 b x (ticked me.0.clock)) ne in
     subst (λ (z : View). Rule k (world k (set ws i x) (set vs id z))) (sym miss)
