@@ -3,7 +3,7 @@ use Rattle.std.proofs.Common.{◌≡◌, ℕ, ◌≤◌, [], set, refl, arith, O
 use mathlib.Core.Option.{some}
 use Rattle.std.proofs.Math.ListN.{get_elem?}
 use Rattle.fish_rule.proofs.basics.Lists.{each_set, seats_kept}
-use Rattle.fish_rule.proofs.classes.OtherViews.{limit_views, space_still, may_kept, registry_set}
+use Rattle.fish_rule.proofs.classes.OtherViews.{final_still, limit_views, space_still, may_kept, registry_set}
 use Rattle.fish_rule.proofs.classes.FactsStay.{chained_later}
 use Rattle.fish_rule.proofs.classes.ChainsStay.{chains_set, links_set}
 use Rattle.fish_rule.proofs.basics.Lasts.{Lasts}
@@ -30,20 +30,8 @@ module _ (k : Key) (w : World) (r : Rule k w) (id : ℕ) (v : View) (at : get_el
   -- nothing that lasts has changed
   pub learn_final : (l : Learned) (t : Option Position) (o : Option Round) (c : Clock)
       → Final k r.start r.start r.lane_of r.lane_of w (record w { views = set w.views id (learner l t o c) })
-  learn_final l t o c = record {
-    counts = omega arith;
-    lines = omega arith;
-    settles = omega arith;
-    registered = endures_same k w.registry;
-    heads = λ b. omega arith;
-    links = links_set k w r id v (learner l t o c) at (λ a c h. h);
-    rises = λ b p h. omega arith;
-    starts = λ n h. refl;
-    lanes = λ n h. refl;
-    dirs = λ n h e. refl;
-    bodies = λ n h e. refl;
-    below = λ p from h. refl;
-  }
+  learn_final l t o c = final_still k w r w.settled w.registry (set w.views id (learner l t o c)) (omega arith)
+      (endures_same k w.registry) (links_set k w r id v (learner l t o c) at (λ a c h. h))
 
   -- what was known of chains is so in the new world
   pub still_chained : (l : Learned) (t : Option Position) (o : Option Round) (c : Clock)

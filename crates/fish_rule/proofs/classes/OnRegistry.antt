@@ -12,7 +12,7 @@ use Rattle.fish_catalog.specs.declared.listed.Listed.{Listed}
 use Rattle.fish_catalog.specs.declared.row.CatRow.{CatRow}
 use Rattle.fish_layout.specs.Cleared.{body_of}
 use Rattle.fish_rule.proofs.basics.Lists.{all_map, each_set, seats_kept}
-use Rattle.fish_rule.proofs.classes.OtherViews.{limit_views, space_still, may_kept}
+use Rattle.fish_rule.proofs.classes.OtherViews.{final_still, limit_views, space_still, may_kept}
 use Rattle.fish_rule.proofs.classes.FactsStay.{chained_later, keyed_kept}
 use Rattle.fish_rule.proofs.basics.Bodies.{published}
 use Rattle.fish_rule.proofs.classes.ChainsStay.{chains_set, links_set}
@@ -183,20 +183,8 @@ module _ (k : Key) (w : World) (r : Rule k w) (id : ℕ) (v : View) (at : get_el
   module _ (endures : Endures k w.registry g') where
     -- nothing that lasts has changed
     pub register_final : Final k r.start r.start r.lane_of r.lane_of w registered_world
-    register_final = record {
-      counts = omega arith;
-      lines = omega arith;
-      settles = omega arith;
-      registered = endures;
-      heads = λ b. omega arith;
-      links = links_set k w r id v registrant at (λ a c h. h);
-      rises = λ b p h. omega arith;
-      starts = λ n h. refl;
-      lanes = λ n h. refl;
-      dirs = λ n h e. refl;
-      bodies = λ n h e. refl;
-      below = λ p from h. refl;
-    }
+    register_final = final_still k w r w.settled g' (set w.views id registrant) (omega arith) endures
+        (links_set k w r id v registrant at (λ a c h. h))
 
     -- what the pass has learned but for the registry is so
     pub registrant_facts : Facts k w.count w.dir w.log r.start registrant.learned

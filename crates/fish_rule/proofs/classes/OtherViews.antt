@@ -1,10 +1,14 @@
 -- What one pass's step leaves of the facts about several views at once.
-use Rattle.std.proofs.Common.{◌≡◌, ℕ, List, Option, set, sym, refl, ◌∙◌, subst}
+use Rattle.std.proofs.Common.{◌≡◌, ℕ, ◌≤◌, List, Option, arith, set, sym, refl, ◌∙◌, subst}
 use Rattle.std.proofs.Math.Decide.{ℕ_discrete}
 use mathlib.Core.Option.{some, some-injective}
 use Rattle.std.proofs.Math.ListN.{get_elem?}
 use Rattle.atomic_table.proofs.Lists.{set_here, set_else}
 use Rattle.fish_rule.proofs.basics.Lists.{each_set, pairs_set, within_list}
+use Rattle.fish_rule.specs.Chains.{Linked}
+use Rattle.fish_rule.specs.Registry.{Endures}
+use Rattle.fish_rule.specs.Rule.{Final, Rule}
+use Rattle.fish_rule.specs.World.{World}
 use Rattle.fish_rule.specs.Parts.{Flies, Limit, MayOverflow, Space}
 use Rattle.fish_rule.specs.Views.{Each, Has, HasFlight, IsFlightOf}
 use Rattle.fish_rule.specs.declared.view.View.{View}
@@ -67,6 +71,26 @@ limit_views l may = record {
   past = l.past;
   few = l.few;
   may = may;
+}
+
+-- what lasts has lasted where no word of the directory or of the log changes, and no head
+pub final_still : (k : Key) (w : World) (r : Rule k w) (settled' : ℕ) (g' : ℕ → ℕ) (views' : List View)
+    → w.settled ≤ settled' → Endures k w.registry g'
+    → ((b p : ℕ) → Linked k w.dir w.log w.views b p → Linked k w.dir w.log views' b p)
+    → Final k r.start r.start r.lane_of r.lane_of w (record w { settled = settled'; registry = g'; views = views' })
+final_still k w r settled' g' views' more endures links = record {
+  counts = omega arith;
+  lines = omega arith;
+  settles = more;
+  registered = endures;
+  heads = λ b. omega arith;
+  links = links;
+  rises = λ b p h. omega arith;
+  starts = λ n h. refl;
+  lanes = λ n h. refl;
+  dirs = λ n h e. refl;
+  bodies = λ n h e. refl;
+  below = λ p from h. refl;
 }
 
 -- space stays where the stepping pass has the same record in flight

@@ -5,7 +5,7 @@ use Rattle.std.proofs.Math.ListN.{get_elem?}
 use Rattle.atomic_table.proofs.Lists.{set_else}
 use Rattle.fish_rule.proofs.basics.Lists.{all_append, among_either, among_left, among_right, each_set, no_flight}
 use Rattle.fish_rule.proofs.basics.Lists.{pairs_set}
-use Rattle.fish_rule.proofs.classes.OtherViews.{limit_views, alone_kept, flight_there}
+use Rattle.fish_rule.proofs.classes.OtherViews.{final_still, limit_views, alone_kept, flight_there}
 use Rattle.fish_rule.proofs.basics.Lanes.{both_has, first_shut_none, has_back, has_both, has_lane, has_none, has_one}
 use Rattle.fish_rule.proofs.basics.Lanes.{not_over, shut_either}
 use Rattle.fish_rule.proofs.classes.ChainsStay.{chains_views, linking_from, linking_own, linking_to, links_views}
@@ -133,20 +133,8 @@ module _ (k : Key) (w : World) (r : Rule k w) (id other : ℕ) (v u : View) (at 
 
   -- nothing that lasts has changed
   join_final : Final k r.start r.start r.lane_of r.lane_of w (record w { views = set taken other spent })
-  join_final = record {
-    counts = omega arith;
-    lines = omega arith;
-    settles = omega arith;
-    registered = endures_same k w.registry;
-    heads = λ b. omega arith;
-    links = links_views k w r (set taken other spent) links_join;
-    rises = λ b p h. omega arith;
-    starts = λ n h. refl;
-    lanes = λ n h. refl;
-    dirs = λ n h e. refl;
-    bodies = λ n h e. refl;
-    below = λ p from h. refl;
-  }
+  join_final = final_still k w r w.settled w.registry (set taken other spent) (omega arith)
+      (endures_same k w.registry) (links_views k w r (set taken other spent) links_join)
 
   -- what is known of chains stays so, and what either knew is so
   join_chained : (x : Learned) → Chained k w.dir w.log w.views w.head x
@@ -268,20 +256,7 @@ module _ (k : Key) (w : World) (r : Rule k w) (id other : ℕ) (v u : View) (at 
   pub join_lasts : Final k r.start join_kept.start r.lane_of join_kept.lane_of w
       (record w { views = set (set w.views id (join_both v u)) other spent })
   unfolding join_kept
-  join_lasts = record {
-    counts = omega arith;
-    lines = omega arith;
-    settles = omega arith;
-    registered = endures_same k w.registry;
-    heads = λ b. omega arith;
-    links = links_views k w r (set taken other spent) links_join;
-    rises = λ b p h. omega arith;
-    starts = λ n h. refl;
-    lanes = λ n h. refl;
-    dirs = λ n h e. refl;
-    bodies = λ n h e. refl;
-    below = λ p from h. refl;
-  }
+  join_lasts = join_final
 
 -- and a join wherever the two views do
 pub joins : (k : Key) (id : ℕ) (v : View) (other : ℕ) (u : View) → CanJoinPass v u

@@ -4,7 +4,7 @@ use mathlib.Core.Option.{some}
 use Rattle.std.proofs.Math.ListN.{get_elem?}
 use Rattle.atomic_table.proofs.Lists.{at_longer, at_snoc, at_last, set_here}
 use Rattle.fish_rule.proofs.basics.Lists.{each_set, each_snoc, pairs_set, within_list}
-use Rattle.fish_rule.proofs.classes.OtherViews.{limit_views, alone_kept, flight_there}
+use Rattle.fish_rule.proofs.classes.OtherViews.{final_still, limit_views, alone_kept, flight_there}
 use Rattle.fish_rule.proofs.basics.Lanes.{flight_longer, has_lane, has_left, has_one, left_has, not_over}
 use Rattle.fish_rule.proofs.basics.Lanes.{of_lane_complete, of_lane_sound, off_lane_complete, off_lane_sound}
 use Rattle.fish_rule.proofs.basics.Lanes.{pairs_snoc}
@@ -122,20 +122,8 @@ module _ (k : Key) (w : World) (r : Rule k w) (id : ℕ) (v : View) (at : get_el
 
   -- nothing that lasts has changed
   split_final : Final k r.start r.start r.lane_of r.lane_of w (record w { views = cut ++ right ∷ [] })
-  split_final = record {
-    counts = omega arith;
-    lines = omega arith;
-    settles = omega arith;
-    registered = endures_same k w.registry;
-    heads = λ b. omega arith;
-    links = links_views k w r (cut ++ right ∷ []) links_cut;
-    rises = λ b p h. omega arith;
-    starts = λ n h. refl;
-    lanes = λ n h. refl;
-    dirs = λ n h e. refl;
-    bodies = λ n h e. refl;
-    below = λ p from h. refl;
-  }
+  split_final = final_still k w r w.settled w.registry (cut ++ right ∷ []) (omega arith)
+      (endures_same k w.registry) (links_views k w r (cut ++ right ∷ []) links_cut)
 
   -- what is known of chains stays so
   split_chained : (x : Learned) → Chained k w.dir w.log w.views w.head x
@@ -230,20 +218,7 @@ module _ (k : Key) (w : World) (r : Rule k w) (id : ℕ) (v : View) (at : get_el
   pub split_lasts : Final k r.start split_kept.start r.lane_of split_kept.lane_of w
       (record w { views = set w.views id (split_left l v) ++ split_right l v ∷ [] })
   unfolding split_kept
-  split_lasts = record {
-    counts = omega arith;
-    lines = omega arith;
-    settles = omega arith;
-    registered = endures_same k w.registry;
-    heads = λ b. omega arith;
-    links = links_views k w r (cut ++ right ∷ []) links_cut;
-    rises = λ b p h. omega arith;
-    starts = λ n h. refl;
-    lanes = λ n h. refl;
-    dirs = λ n h e. refl;
-    bodies = λ n h e. refl;
-    below = λ p from h. refl;
-  }
+  split_lasts = split_final
 
 -- the table allows a split wherever the control pass's view does
 pub splits : (k : Key) (id : ℕ) (v : View) (l : ℕ) → CanSplitPass v l
