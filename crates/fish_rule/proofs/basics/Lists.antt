@@ -106,15 +106,18 @@ module _ {A : Type 0} where
   all_among P x (y ∷ ys) h (inl e) = subst P e h.0
   all_among P x (y ∷ ys) h (inr m) = all_among P x ys h.1 m
 
+  -- what is in a list is in it before another
   pub among_left : (x : A) (xs ys : List A) → Among x xs → Among x (xs ++ ys)
   among_left x [] ys m = elim m [ ]
   among_left x (y ∷ xs) ys (inl e) = inl e
   among_left x (y ∷ xs) ys (inr m) = inr (among_left x xs ys m)
 
+  -- and behind one
   pub among_right : (x : A) (xs ys : List A) → Among x ys → Among x (xs ++ ys)
   among_right x [] ys m = m
   among_right x (y ∷ xs) ys m = inr (among_right x xs ys m)
 
+  -- what is in two lists is in one of them
   pub among_either : (x : A) (xs ys : List A) → Among x (xs ++ ys) → Among x xs ⊎ Among x ys
   among_either x [] ys m = inr m
   among_either x (y ∷ xs) ys (inl e) = inl (inl e)

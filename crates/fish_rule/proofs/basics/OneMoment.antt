@@ -28,6 +28,7 @@ get_here [] n e at = absurd (some-ne-none e (sym at))
 get_here (x ∷ xs) zero e at = ap Some (some-injective x e at)
 get_here (x ∷ xs) (suc n) e at = get_here xs n e at
 
+-- and back
 pub here_get : (xs : List Entry) (n : ℕ) (e : Entry) → slice_get xs n ≡ Some e → get_elem? xs n ≡ some e
 here_get [] n e at = absurd cc
 here_get (x ∷ xs) zero e at = ap some (one x e at)

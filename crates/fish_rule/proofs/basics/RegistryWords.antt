@@ -71,6 +71,7 @@ module _ (k : Key) where
   grows_once g v (yes h) = omega arith
   grows_once g v (no h) = length_made g (g (op_at (suc v))) (definitions_at k g v)
 
+  -- a later version has as many definitions or more
   pub length_grows : (g : ℕ → ℕ) (u v : ℕ) → u ≤ v → length (definitions_at k g u) ≤ length (definitions_at k g v)
   length_grows g u zero less = (let e : u ≡ 0 = omega arith in
       subst (λ (z : ℕ). length (definitions_at k g z) ≤ length (definitions_at k g 0)) (sym e) (omega arith))

@@ -35,6 +35,7 @@ pub area-below : (ws : List ℕ) (at base size n : ℕ) → n < base → area ws
 unfolding area
 area-below ws at base size n less = choose_second (dec_le base n) _ 0 (λ h. omega arith)
 
+-- behind an area all is 0
 pub area-behind : (ws : List ℕ) (at base size n : ℕ) → base + size ≤ n → area ws at base size n ≡ 0
 unfolding area
 area-behind ws at base size n more =

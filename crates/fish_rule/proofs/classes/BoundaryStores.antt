@@ -19,6 +19,7 @@ module _ (k : Key) (w : World) (r : Rule k w) (id : ℕ) (v : View) (at : get_el
   abbrev place : ℕ
   place = row_at row j
 
+  -- it is none of the words of the version and of epochs
   pub place_far : 20 ≤ place
   place_far = omega arith
 
@@ -33,9 +34,11 @@ module _ (k : Key) (w : World) (r : Rule k w) (id : ℕ) (v : View) (at : get_el
   abbrev set_words : ℕ → ℕ
   set_words = put w.registry place (suc n)
 
+  -- the version stays
   set_still : version_in set_words ≡ version_in w.registry
   set_still = store_still k w r id v at main place (suc n) place_far place_away
 
+  -- and so does what lasts
   pub set_endures : Endures k w.registry set_words
   set_endures = store_endures k w r id v at main place (suc n) place_far place_away
 
@@ -55,6 +58,7 @@ module _ (k : Key) (w : World) (r : Rule k w) (id : ℕ) (v : View) (at : get_el
       → row < length (definitions_at k w.registry (r.version_of m)))
       (unended_ : j ≡ 1 → (m : ℕ) → k.number ≤ m → m < n → m < w.count
       → IsOpenIn (definitions_at k w.registry (r.version_of m)) row) where
+    -- what boundaries mean stays so
     pub set_boundaries : Boundaries k w.count set_words r.state r.version_of
     set_boundaries =
         let h = r.registry.boundaries in

@@ -128,6 +128,7 @@ module _ (k : Key) (w : World) (r : Rule k w) (id : ℕ) (v v' : View) (at : get
   pub links_set : (b p : ℕ) → Linked k w.dir w.log w.views b p → Linked k w.dir w.log (set w.views id v') b p
   links_set = links_views k w r (set w.views id v') (λ a c. linking_to w.views id v v' at a c (keep a c))
 
+  -- and chains are as they were
   pub chains_set : ((a c : ℕ) → LinksAt a c v'.flight → LinksAt a c v.flight) → (b : ℕ)
       → Chain (Linked k w.dir w.log (set w.views id v') b) (first_head k b) (w.head b) w.log
   chains_set back = chains_views k w r (set w.views id v') (λ a c. linking_to w.views id v v' at a c (keep a c))

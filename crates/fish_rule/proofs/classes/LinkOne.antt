@@ -63,6 +63,7 @@ module _ (k : Key) (w : World) (r : Rule k w) (id : ℕ) (v : View) (at : get_el
     pub others : (j : ℕ) (u : View) → j ≢ id → get_elem? w.views j ≡ some u
         → Flies k w.count w.dir log' r.start r.lane_of u.lane u.flight
 
+  -- what is so of the record in flight
   own : InFlight k w.count w.dir w.log r.start r.lane_of v.lane f
   own = flight_is k w r id v at f can.flying
 
@@ -95,6 +96,7 @@ module _ (k : Key) (w : World) (r : Rule k w) (id : ℕ) (v : View) (at : get_el
     keep a c h = (let g : LinksAt a c (Some f) = subst (LinksAt a c) can.flying h in
         let less : c < f.linked = g.0 in (omega arith, g.1))
 
+    -- linked places stay linked
     pub link_to : (c p : ℕ) → Linked k w.dir w.log w.views c p → After c p
     link_to = linked_map k w.dir w.dir w.log log' w.views linked_world.views
         (λ a c h. ⊎_elim (λ (s : IsStoredAt k w.dir a). inl s)
@@ -176,6 +178,7 @@ module _ (k : Key) (w : World) (r : Rule k w) (id : ℕ) (v : View) (at : get_el
         pick n below set_ (no h) = absurd (set_ (r.space.dir_below n (omega arith)))
         pick n below set_ (yes above) = leaves.regions n above below (r.space.finished n above below set_).lined
 
+    -- the record in flight is one with an entry more linked
     own_flight : InFlight k w.count w.dir log' r.start r.lane_of v.lane (linked_once f)
     own_flight = record {
       above = own.above;

@@ -65,9 +65,11 @@ module _ (k : Key) (w : World) (r : Rule k w) (id : ℕ) (v : View) (at : get_el
     abbrev pub stored : ℕ → ℕ
     stored = put w.registry p x
 
+    -- the version stays
     pub store_still : version_in stored ≡ version_in w.registry
     store_still = put-else w.registry p x 2 (λ e. omega arith)
 
+    -- and so does what lasts
     pub store_endures : Endures k w.registry stored
     store_endures = record {
       rises = (let e = store_still in omega arith);
@@ -80,6 +82,7 @@ module _ (k : Key) (w : World) (r : Rule k w) (id : ℕ) (v : View) (at : get_el
       abbrev pub storer : View
       storer = record v { main_words = record { index = p; value = x } ∷ v.main_words; round = round; clock = ticked v.clock }
 
+      -- what the control pass knows is so
       storer_stays : Stays k w.count stored r.state r.version_of storer
       storer_stays =
           let h = r.registry.each id v at in
@@ -107,6 +110,7 @@ module _ (k : Key) (w : World) (r : Rule k w) (id : ℕ) (v : View) (at : get_el
           pick q u (no ne) = put-else w.registry p x q ne ∙ its.owned q u
               ∙ sym (choose_second (ℕ_discrete q p) x (main_word v.main_words q) ne)
 
+      -- the registry's part afterwards
       storer_registry : Registry k w.count stored r.state r.version_of (set w.views id storer)
       storer_registry = record {
         epochs = record {

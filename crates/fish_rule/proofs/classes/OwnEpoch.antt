@@ -39,6 +39,7 @@ module _ (k : Key) (w : World) (r : Rule k w) (id : ℕ) (v : View) (at : get_el
   abbrev pub state' : ℕ → Epoch
   state' = put r.state v.lane epoch'
 
+  -- the words of epochs say how far each lane is entered
   pub epochs : Epochs g' state'
   epochs = record {
     words = λ l above below. (pick l above below (ℕ_discrete l v.lane)).0;

@@ -55,6 +55,7 @@ module _ (k : Key) (w : World) (r : Rule k w) (id : ℕ) (v : View) (at : get_el
   abbrev pub written : World
   written = record w { log = put w.log own_word x; views = set w.views id writer }
 
+  -- what is so of the record in flight
   own : InFlight k w.count w.dir w.log r.start r.lane_of v.lane f
   own = flight_is k w r id v at f flying
 
@@ -151,20 +152,24 @@ module _ (k : Key) (w : World) (r : Rule k w) (id : ℕ) (v : View) (at : get_el
   keep_linked : (a c : ℕ) → LinksAt a c v.flight → LinksAt a c writer.flight
   keep_linked a c h = subst (LinksAt a c) flying h
 
+  -- and none else is
   back_linked : (a c : ℕ) → LinksAt a c writer.flight → LinksAt a c v.flight
   back_linked a c h = subst (LinksAt a c) (sym flying) h
 
+  -- linked places stay linked
   links_stay : (b p : ℕ) → Linked k w.dir w.log w.views b p → Linked k w.dir written.log written.views b p
   links_stay = linked_map k w.dir w.dir w.log written.log w.views written.views
       (λ a c h. ⊎_elim (λ (s : IsStoredAt k w.dir a). inl s)
       (λ (l : IsLinking a c w.views). inr
       (linking_to w.views id v writer at a c (keep_linked a c) l)) h) shown_stays
 
+  -- what is shown afterwards was shown before
   shows_back : (a c : ℕ) → Shows k w.dir written.views a c → Shows k w.dir w.views a c
   shows_back a c h = ⊎_elim (λ (s : IsStoredAt k w.dir a). inl s)
       (λ (l : IsLinking a c written.views). inr
       (linking_from w.views id v writer at a c (λ g. linking_own w.views id v writer at a c (back_linked a c g)) l)) h
 
+  -- and what is linked was
   links_back : (b p : ℕ) → Linked k w.dir written.log written.views b p → Linked k w.dir w.log w.views b p
   links_back = linked_map k w.dir w.dir written.log w.log written.views w.views shows_back
       (λ a c h. sym (shown_stays a c (shows_back a c h)))
@@ -187,6 +192,7 @@ module _ (k : Key) (w : World) (r : Rule k w) (id : ℕ) (v : View) (at : get_el
         put-else w.log own_word x p (λ h. omega arith));
   }
 
+  -- the record in flight has the new words
   own_flight : InFlight k w.count w.dir written.log r.start r.lane_of v.lane rewritten
   own_flight = record {
     above = own.above;

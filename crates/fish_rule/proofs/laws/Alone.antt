@@ -43,6 +43,7 @@ tells_later v u n e learns tells x more = tells x (learns_both v u x learns more
 
 -- what holds of each element of a list by its place, and of one more, holds of each of the longer list
 module _ {A : Type 0} where
+  -- what is so of each of a list and of one more is so of each of the longer list
   pub each_more : (P : ℕ → A → Type 0) (xs : List A) (y : A)
       → ((i : ℕ) (x : A) → get_elem? xs i ≡ some x → P i x) → P (length xs) y
       → (i : ℕ) (x : A) → get_elem? (xs ++ y ∷ []) i ≡ some x → P i x

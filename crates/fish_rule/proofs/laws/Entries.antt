@@ -31,6 +31,7 @@ stored_words kind e f = (let g : Stored ≡ Mark = sym e ∙ f in cc)
 
 module _ (v : View) (w : World) (r : Rule v.about w) (j : ℕ) (at : get_elem? w.views j ≡ some v) (f : Found)
     (among : Among f v.learned.found) (is : f.kind ≡ Stored) (words : List ℕ) (has : HasWords v f words) where
+  -- the region is as it was found
   found : IsFound v.about w.count w.dir r.start f
   found = all_among (IsFound v.about w.count w.dir r.start) f v.learned.found (r.facts j v at).found among
 
@@ -48,6 +49,7 @@ module _ (v : View) (w : World) (r : Rule v.about w) (j : ℕ) (at : get_elem? w
       (all_among (IsKnown v.about w.count w.dir w.log r.start) _ v.learned.known (r.facts j v at).known
       (has.read i (omega arith) plain))
 
+  -- its header is the first word that was read
   head : body w.log (r.start f.number) 0 ≡ get_or words 0 0
   head = (let s = some_lines in stands_there 0 (omega arith) (head_plain (keys_of (get_or words 0 0))))
 
@@ -72,6 +74,7 @@ module _ (v : View) (w : World) (r : Rule v.about w) (j : ℕ) (at : get_elem? w
   holds_record Void lane n lines e q h = cc
   holds_record Mark lane n lines e q h = cc
 
+  -- the words are those of the record
   pub record_there : IsRecord (r.lane_of f.number) f.number f.lines (body_of words)
   record_there =
       let t = region_found v.about w r f found in

@@ -130,6 +130,7 @@ active_text ls (x ∷ us) n id text t there is m =
     by others true (inr m) = others m
     by others false m = others m
 
+-- each record of an interval has the keys of a version with the definition
 pub intervals_indexed : IntervalsAreIndexed
 intervals_indexed v w seat id from below n r at h above after before stored =
     let k : Key = v.about in
@@ -177,6 +178,7 @@ intervals_indexed v w seat id from below n r at h above after before stored =
       },
     )
 
+-- and an interval stays known
 pub intervals_stay : IntervalsStay
 intervals_stay v u id from below learns h = record {
   few = h.few;

@@ -24,6 +24,7 @@ module _ (k : Key) (w : World) (r : Rule k w) where
   abbrev pub next_number : ℕ
   next_number = r.limit.first
 
+  -- the line at which the log ends: its first mark's, or the tail's
   abbrev pub next_line : ℕ
   next_line = r.start r.limit.first
 

@@ -27,6 +27,7 @@ use Rattle.fish_rule.specs.declared.view.View.{View}
 pub line_later : (v u : View) (n line : ℕ) → Learns v u → HasLine v n line → HasLine u n line
 line_later v u n line learns h = (h.0, learns.found h.0 h.1, h.2, h.3, h.4)
 
+-- so is that of a mark
 pub mark_later : (v u : View) (n line : ℕ) → Learns v u → HasMarkAt v n line → HasMarkAt u n line
 mark_later v u n line learns h = (h.0, learns.found h.0 h.1, h.2, h.3, h.4)
 
@@ -77,6 +78,7 @@ covered_later v u starts n learns h = record {
   upto = h.upto;
 }
 
+-- what was read stays so
 pub upto_later : (v u : View) (n : ℕ) (read : ReadLog) → Learns v u → IsReadUpTo v n read → IsReadUpTo u n read
 upto_later v u n read learns h =
     let about : u.about.number ≡ v.about.number = ap (λ (z : Key). z.number) learns.about in
@@ -122,17 +124,20 @@ covers_more u base n starts old here m above below = pick (ℕ_discrete m n)
 -- one more entry
 module _ (u : View) (n line : ℕ) (e : Entry) (old new : ReadLog) (s : Stands u) (h : IsReadUpTo u n old)
     (tells : Tells u n e) (has : HasLine u n line) (added : new.entries ≡ old.entries ++ e ∷ []) where
+  -- one entry more was read
   many_more : u.about.number + length new.entries ≡ suc n
   many_more =
       let many = h.many in
       let longer = ap length added ∙ length-append old.entries (e ∷ []) in
       omega arith
 
+  -- each was told
   told_one : AreTold u u.about.number new.entries
   told_one = subst (AreTold u u.about.number) (sym added)
       (told_more u u u.about.number old.entries e (learns_self u) h.told
       (subst (λ (z : ℕ). Tells u z e) (sym h.many) tells))
 
+  -- the number is one of the log's
   above : u.about.number ≤ n
   above = (let many = h.many in omega arith)
 

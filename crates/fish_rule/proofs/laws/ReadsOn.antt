@@ -76,6 +76,7 @@ goes_on v n lines read false e h = cc
 learns_version : (v : View) (y : ℕ) → v.learned.version ≤ y → Learns v (after_load_version v y)
 learns_version v y more = assumption (learns_self v, more)
 
+-- the same where the view is known by an equation
 pub to_version : (v u : View) (y : ℕ) → u ≡ after_load_version v y → v.learned.version ≤ y → Learns v u
 to_version v u y e more = subst (Learns v) (sym e) (learns_version v y more)
 

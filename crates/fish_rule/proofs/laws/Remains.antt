@@ -104,13 +104,16 @@ module _ (v : View) (s : Stands v) (alone : IsAlone v) where
 -- ---- lines
 
 module _ (v : View) (s : Stands v) where
+  -- what was found is so
   found_at : (f : Found) → Among f v.learned.found → IsFound v.about s.moment.count s.moment.dir s.rule.start f
   found_at f m = all_among (IsFound v.about s.moment.count s.moment.dir s.rule.start) f v.learned.found
       (s.rule.facts s.seat v s.at).found m
 
+  -- a line that is known is where the region begins
   line_at : (n line : ℕ) → HasLine v n line → s.rule.start n ≡ line
   line_at n line h = ap s.rule.start (sym h.2) ∙ (found_at h.0 h.1).line ∙ h.4
 
+  -- so is that of a mark, which stands there
   mark_at : (n line : ℕ) → HasMarkAt v n line → (s.rule.start n ≡ line) × (high (s.moment.dir n) ≡ code Mark)
   mark_at n line h = (
     ap s.rule.start (sym h.2) ∙ (found_at h.0 h.1).line ∙ h.4,
@@ -119,6 +122,7 @@ module _ (v : View) (s : Stands v) where
 
 -- ---- all of it
 
+-- what was read is what is left of the log
 pub closes : (v : View) (tail : Position) (read : ReadLog) (settled base version : ℕ) (heads : List ℕ) → Stands v
     → IsAlone v → v.tail ≡ Some tail → IsRead v tail.number tail.line read
     → v.about.number + length read.entries ≤ settled → AreHeads v settled v.about.buckets heads

@@ -37,6 +37,7 @@ body_record v f h = (h.keyed.0, h.keyed.1.record_of)
 
 module _ (k : Key) (w : World) (r : Rule k w) (id : ℕ) (v : View) (at : get_elem? w.views id ≡ some v)
     (f : Flight) (can : CanAimEntry v f) where
+  -- what is so of the record in flight
   own : InFlight k w.count w.dir w.log r.start r.lane_of v.lane f
   own = flight_is k w r id v at f can.flying
 

@@ -39,6 +39,7 @@ since_above (Confirmed u) s h = omega arith
 
 module _ (k : Key) (w : World) (r : Rule k w) (id : ℕ) (v : View) (at : get_elem? w.views id ≡ some v) where
   module _ (l : ℕ) (lane : IsLane l) where
+    -- the word that is loaded
     abbrev word : ℕ
     word = w.registry (epoch_at l)
 

@@ -58,12 +58,15 @@ module _ (k : Key) (w : World) (r : Rule k w) (id : ℕ) (v : View) (at : get_el
   old_start : (n : ℕ) → n ≤ w.count → start' n ≡ r.start n
   old_start n h = put-else r.start (suc w.count) (w.line + m) n (λ e. omega arith)
 
+  -- the new region begins at the old tail
   new_start : start' w.count ≡ w.line
   new_start = old_start w.count (omega arith) ∙ r.space.regions.last
 
+  -- and ends at the new one
   new_end : start' (suc w.count) ≡ w.line + m
   new_end = put-here r.start (suc w.count) (w.line + m)
 
+  -- older numbers are of the lanes that they were of
   old_lane : (n : ℕ) → n < w.count → lane_of' n ≡ r.lane_of n
   old_lane n h = put-else r.lane_of w.count v.lane n (λ e. omega arith)
 
@@ -88,6 +91,7 @@ module _ (k : Key) (w : World) (r : Rule k w) (id : ℕ) (v : View) (at : get_el
     below = λ p from h. refl;
   }
 
+  -- regions follow one another up to the new tail
   regions : Regions k (suc w.count) (w.line + m) start'
   regions = record {
     some = (let h = r.space.regions.some in omega arith);
@@ -142,6 +146,7 @@ module _ (k : Key) (w : World) (r : Rule k w) (id : ℕ) (v : View) (at : get_el
   below_count lane n None h is = elim is [ ]
   below_count lane n (Some g) h is = subst (λ (z : ℕ). z < w.count) is h.below
 
+  -- each number is published or in flight
   space : Space k (suc w.count) (w.line + m) w.dir w.log (set w.views id claimer) start' lane_of'
   space = record {
     regions = regions;
@@ -260,6 +265,7 @@ module _ (k : Key) (w : World) (r : Rule k w) (id : ℕ) (v : View) (at : get_el
       let counted : suc w.count ≤ suc w.count = omega arith in
       assumption (h, counted)
 
+  -- what the pass has learned of chains
   claim_chained : Chained k w.dir w.log (set w.views id claimer) w.head claimer.learned
   claim_chained =
       let h = chained_later k w claimed r.start start' r.lane_of lane_of' claim_final v.learned (r.chained id v at) in

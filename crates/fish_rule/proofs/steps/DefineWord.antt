@@ -54,9 +54,11 @@ module _ (k : Key) (w : World) (r : Rule k w) (id : ℕ) (v : View) (at : get_el
         (λ m. h.1 (ap w.registry h.0.4 ∙ r.registry.boundaries.unmade h.0.0 h.0.1
         (let a = h.0.4 in let b = h.0.3 in let c = m.2 in let d = m.5 in omega arith) h.0.2 h.0.3)) unmade_here
 
+    -- the version stays
     define_still : version_in (put w.registry p x) ≡ version_in w.registry
     define_still = store_still k w r id v at main p x far_here made_else
 
+    -- and so does what lasts
     define_endures : Endures k w.registry (put w.registry p x)
     define_endures = store_endures k w r id v at main p x far_here made_else
 

@@ -127,6 +127,7 @@ module _ (k : Key) (w : World) (r : Rule k w) (id other : ℕ) (v u : View) (at 
   links_join a c h = linking_to taken other u spent at_other a c (λ q. absurd (subst (LinksAt a c) can.idle q))
       (linking_to w.views id v both at a c (λ q. q) h)
 
+  -- and none else is
   back_join : (a c : ℕ) → IsLinking a c (set taken other spent) → IsLinking a c w.views
   back_join a c h = linking_from w.views id v both at a c (λ q. linking_own w.views id v both at a c q)
       (linking_from taken other u spent at_other a c (λ q. elim q [ ]) h)
@@ -144,6 +145,7 @@ module _ (k : Key) (w : World) (r : Rule k w) (id other : ℕ) (v u : View) (at 
         set taken other spent;
   }) r.start r.start r.lane_of r.lane_of join_final
 
+  -- what both have learned of chains
   both_chained : Chained k w.dir w.log (set taken other spent) w.head both.learned
   both_chained =
       let a = join_chained v.learned (r.chained id v at) in
@@ -182,6 +184,7 @@ module _ (k : Key) (w : World) (r : Rule k w) (id other : ℕ) (v u : View) (at 
         waits = a.waits;
       }
 
+  -- the registry's part afterwards
   join_registry : Registry k w.count w.registry r.state r.version_of (set taken other spent)
   join_registry = record {
     epochs = r.registry.epochs;

@@ -170,6 +170,7 @@ module _ (k : Key) (g : ℕ → ℕ) (fits : Fits k) (opening_ : IsOpening k.ver
   abbrev state : ℕ → Epoch
   state _ = Out
 
+  -- the start's version is the only one
   versions : Versions k k.number g version_of
   versions = record {
     from = (let z = opening_.version in omega arith);
@@ -185,6 +186,7 @@ module _ (k : Key) (g : ℕ → ℕ) (fits : Fits k) (opening_ : IsOpening k.ver
         (h.0, λ i above below. h.1 i below);
   }
 
+  -- the registry's part
   registry : Registry k k.number g state version_of w.views
   registry = record {
     epochs = record { words = λ l above below. opening_.out l above below; past = λ l above below. tt };

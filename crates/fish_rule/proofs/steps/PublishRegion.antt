@@ -74,6 +74,7 @@ module _ (k : Key) (w : World) (r : Rule k w) (id : ℕ) (v : View) (at : get_el
   abbrev pub publication : World
   publication = record w { dir = dir'; views = set w.views id publisher }
 
+  -- what is so of the record in flight
   own : InFlight k w.count w.dir w.log r.start r.lane_of v.lane f
   own = flight_is k w r id v at f flying
 
@@ -81,9 +82,11 @@ module _ (k : Key) (w : World) (r : Rule k w) (id : ℕ) (v : View) (at : get_el
   dir_else : (n : ℕ) → n ≢ f.number → dir' n ≡ w.dir n
   dir_else n ne = put-else w.dir f.number word n ne
 
+  -- the own word is the new one
   dir_here : dir' f.number ≡ word
   dir_here = put-here w.dir f.number word
 
+  -- and tells the kind
   kind_here : high (dir' f.number) ≡ code kind
   kind_here = ap high dir_here ∙ high-pack (code kind) f.line (small_line k w r f v.lane own)
 
@@ -106,6 +109,7 @@ module _ (k : Key) (w : World) (r : Rule k w) (id : ℕ) (v : View) (at : get_el
         line = ap low dir_here ∙ low-pack (code kind) f.line (small_line k w r f v.lane own) ∙ line;
       })
 
+  -- what was shown still is
   shows_on : (a c : ℕ) → c < keys_of (body w.log a 0) → Shows k w.dir w.views a c
       → Shows k dir' (set w.views id publisher) a c
   shows_on a c few (inl s) =
@@ -131,6 +135,7 @@ module _ (k : Key) (w : World) (r : Rule k w) (id : ℕ) (v : View) (at : get_el
         links = l.links;
       })
 
+  -- what is shown now was shown
   shows_before : (a c : ℕ) → c < keys_of (body w.log a 0) → Shows k dir' (set w.views id publisher) a c
       → Shows k w.dir w.views a c
   shows_before a c few (inl s) = pick (ℕ_discrete s.number f.number)
@@ -159,6 +164,7 @@ module _ (k : Key) (w : World) (r : Rule k w) (id : ℕ) (v : View) (at : get_el
       })
   shows_before a c few (inr l) = inr (linking_from w.views id v publisher at a c (λ h. elim h [ ]) l)
 
+  -- linked places stay linked
   links_on : (b p : ℕ) → Linked k w.dir w.log w.views b p → Linked k dir' w.log (set w.views id publisher) b p
   links_on = linked_counted k w.dir dir' w.log w.views (set w.views id publisher) shows_on
 
@@ -179,6 +185,7 @@ module _ (k : Key) (w : World) (r : Rule k w) (id : ℕ) (v : View) (at : get_el
     below = λ p from h. refl;
   }
 
+  -- the own region is a published one
   own_finished : IsPublishedRegion k dir' w.log r.start r.lane_of f.number
   own_finished =
       let h = filled k w r id v at f flying version kind ready in
@@ -230,6 +237,7 @@ module _ (k : Key) (w : World) (r : Rule k w) (id : ℕ) (v : View) (at : get_el
         lane = h.lane;
       })
 
+  -- other passes' own numbers stay exact
   others_own : (j : ℕ) (u : View) → j ≢ id → get_elem? w.views j ≡ some u
       → Owns k w.count dir' r.lane_of u.lane u.out u.own
   others_own j u ne at_u =
@@ -295,6 +303,7 @@ module _ (k : Key) (w : World) (r : Rule k w) (id : ℕ) (v : View) (at : get_el
       (record { number = f.number; kind = kind; line = f.line; lines = f.lines })
   found_here = record { above = own.above; below = own.below; kind = kind_here; line = own.line; lines = own.lines }
 
+  -- the words of a record are known from now on
   records_here : (kd : Kind) → kind ≡ kd → IsReady active version kd v.lane f
       → AllOf (IsRecorded k w.count dir' w.log r.start) (records_after kd f v.learned.records)
   records_here Stored is h = (
@@ -310,9 +319,11 @@ module _ (k : Key) (w : World) (r : Rule k w) (id : ℕ) (v : View) (at : get_el
   records_here Void is h = old_facts.records
   records_here Mark is h = old_facts.records
 
+  -- what the pass has learned is so
   own_facts : Facts k w.count dir' w.log r.start (learned_after kind f v.learned)
   own_facts = assumption (old_facts, found_here, records_here kind refl ready)
 
+  -- a claim that shut the pass before still does
   old_shut : ShutOk k w.count dir' r.start v.shut
   old_shut = shut_later k w publication r.start r.start r.lane_of r.lane_of publish_final v.shut (r.shuts id v at)
 
@@ -327,6 +338,7 @@ module _ (k : Key) (w : World) (r : Rule k w) (id : ℕ) (v : View) (at : get_el
     mark = assumption (own, kind_here ∙ ap code is);
   }
 
+  -- each published record has the keys of its version
   keyed : Keyed k w.count w.registry dir' w.log r.start r.lane_of r.version_of
   keyed = record { each = λ n above below stored. pick n above below stored (ℕ_discrete n f.number) }
     where

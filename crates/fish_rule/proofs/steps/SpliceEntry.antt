@@ -105,14 +105,17 @@ module _ (v : View) (f : Flight) (b q h x : ℕ) where
   splice_about = either_way (λ (z : View). z.about) v.about (ℕ_discrete x h) (spliced v f b q)
       (previous_seen v b q x (ticked v.clock)) refl refl
 
+  -- and the lane
   pub splice_lane : (after_splice_entry v f b q h x).lane ≡ v.lane
   splice_lane = either_way (λ (z : View). z.lane) v.lane (ℕ_discrete x h) (spliced v f b q)
       (previous_seen v b q x (ticked v.clock)) refl refl
 
+  -- and what shut the pass
   pub splice_shut : (after_splice_entry v f b q h x).shut ≡ v.shut
   splice_shut = either_way (λ (z : View). z.shut) v.shut (ℕ_discrete x h) (spliced v f b q)
       (previous_seen v b q x (ticked v.clock)) refl refl
 
+  -- and the region in flight
   pub region_splice : v.flight ≡ Some f → region_in (after_splice_entry v f b q h x).flight ≡ region_in (Some f)
   region_splice flying = either_way (λ (z : View). region_in z.flight) (region_in (Some f)) (ℕ_discrete x h)
       (spliced v f b q) (previous_seen v b q x (ticked v.clock)) refl (ap region_in flying)

@@ -52,9 +52,11 @@ module _ (k : Key) (w : World) (r : Rule k w) (id : ℕ) (v : View) (at : get_el
   abbrev pub splice_world : World
   splice_world = record w { log = log'; views = set w.views id splicer }
 
+  -- the next entry is of the bucket
   bucket : bucket_of k.buckets (body_of f.words) f.linked ≡ b
   bucket = subst (λ (z : Key). bucket_of z.buckets (body_of f.words) f.linked ≡ b) about can.bucket
 
+  -- what is so of the record in flight
   own : InFlight k w.count w.dir w.log r.start r.lane_of v.lane f
   own = flight_is k w r id v at f can.aim.flying
 
@@ -66,9 +68,11 @@ module _ (k : Key) (w : World) (r : Rule k w) (id : ℕ) (v : View) (at : get_el
   its : RecordAt k w r higher.line higher.entry
   its = record_at k w r higher.line higher.entry higher.shows
 
+  -- where the first word above stands
   its_place : q ≡ higher.line * 4 + entry_at higher.entry
   its_place = higher.is.is
 
+  -- it lies in the region of its record
   inside : (r.start its.number * 4 ≤ q) × (q < r.start (suc its.number) * 4)
   inside = lies_inside k w r b q higher its
 
@@ -124,6 +128,7 @@ module _ (k : Key) (w : World) (r : Rule k w) (id : ℕ) (v : View) (at : get_el
       let below = can.below in
       absurd (omega arith)) its.owner
 
+  -- the own words stay
   own_words : (i : ℕ) → i < f.lines * 4 → log' (f.line * 4 + i) ≡ w.log (f.line * 4 + i)
   own_words i less = (let line = own.line in let lines = own.lines in
       elsewhere f.number (f.line * 4 + i) own.above own.below other_record (omega arith) (omega arith))
@@ -211,6 +216,7 @@ module _ (k : Key) (w : World) (r : Rule k w) (id : ℕ) (v : View) (at : get_el
             header = h.header;
           }
 
+  -- what a splice leaves
   leaves : Leaves k w r id v at f can.aim b bucket w.head log' splicer.learned splicer.clock
   leaves = record {
     heads = λ c. omega arith;
@@ -230,16 +236,20 @@ module _ (k : Key) (w : World) (r : Rule k w) (id : ℕ) (v : View) (at : get_el
           (let h = put-here w.log q own_at in let less = can.less in omega arith)
       up p (no ne) = (let h = put-else w.log q own_at p ne in omega arith)
 
+  -- linked places stay linked
   to : (c p : ℕ) → Linked k w.dir w.log w.views c p → Linked k w.dir log' splice_world.views c p
   to = link_to k w r id v at f can.aim b bucket w.head log' splicer.learned splicer.clock leaves
 
+  -- and the own one is the only one more
   from : (c p : ℕ) → Linked k w.dir log' splice_world.views c p → Linked k w.dir w.log w.views c p
       ⊎ ((p ≡ own_at) × (c ≡ b))
   from = link_from k w r id v at f can.aim b bucket w.head log' splicer.learned splicer.clock leaves
 
+  -- which is linked
   here : Linked k w.dir log' splice_world.views b own_at
   here = link_here k w r id v at f can.aim b bucket w.head log' splicer.learned splicer.clock leaves
 
+  -- each chain has it in its place
   chains : (c : ℕ) → Chain (Linked k w.dir log' splice_world.views c) (first_head k c) (w.head c) log'
   chains c = pick (ℕ_discrete c b)
     where
@@ -260,13 +270,16 @@ module _ (k : Key) (w : World) (r : Rule k w) (id : ℕ) (v : View) (at : get_el
           (λ p l. put-else w.log q own_at p (λ e. ne
           (one_chain k w r c b q (subst (Linked k w.dir w.log w.views c) e l) higher))) (r.chains c)
 
+  -- what lasts has lasted
   final : Final k r.start r.start r.lane_of r.lane_of w splice_world
   final = link_final k w r id v at f can.aim b bucket w.head log' splicer.learned splicer.clock leaves
 
+  -- what the pass has learned is so
   facts : Facts k w.count w.dir log' r.start splicer.learned
   facts = (let g = facts_later k w splice_world r.start r.start r.lane_of r.lane_of final v.learned
       (r.facts id v at) in assumption g)
 
+  -- and what it has learned of chains
   chained : Chained k w.dir log' splice_world.views w.head splicer.learned
   chained =
       let g = chained_later k w splice_world r.start r.start r.lane_of r.lane_of final v.learned (r.chained id v at) in

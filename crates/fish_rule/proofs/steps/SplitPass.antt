@@ -112,6 +112,7 @@ module _ (k : Key) (w : World) (r : Rule k w) (id : ℕ) (v : View) (at : get_el
   links_cut a c h = (let g = linking_to w.views id v left at a c (λ q. q) h in
       record { seat = g.seat; view = g.view; at = at_longer cut (right ∷ []) g.seat g.view g.at; links = g.links })
 
+  -- and none else is
   back_cut : (a c : ℕ) → IsLinking a c (cut ++ right ∷ []) → IsLinking a c w.views
   back_cut a c h = ⊎_elim
       (λ (e : get_elem? cut h.seat ≡ some h.view). linking_from w.views id v left at a c
@@ -146,6 +147,7 @@ module _ (k : Key) (w : World) (r : Rule k w) (id : ℕ) (v : View) (at : get_el
     waits = h.waits;
   })
 
+  -- and what the new pass knows
   right_stays : Stays k w.count w.registry r.state r.version_of right
   right_stays =
       let h = r.registry.each id v at in
@@ -165,6 +167,7 @@ module _ (k : Key) (w : World) (r : Rule k w) (id : ℕ) (v : View) (at : get_el
         waits = tt;
       }
 
+  -- the registry's part afterwards
   split_registry : Registry k w.count w.registry r.state r.version_of (cut ++ right ∷ [])
   split_registry = record {
     epochs = r.registry.epochs;

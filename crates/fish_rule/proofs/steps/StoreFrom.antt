@@ -25,6 +25,7 @@ use Rattle.fish_rule.specs.Told.{told_store_from}
 
 module _ (k : Key) (w : World) (r : Rule k w) (id : ℕ) (v : View) (at : get_elem? w.views id ≡ some v) where
   module _ (o : Round) (n : ℕ) (can : CanStoreFrom v o n) where
+    -- the registration waits
     waiting : IsRound k w.count w.registry r.state r.version_of v.lane o
     waiting = subst (Waits k w.count w.registry r.state r.version_of v.lane) can.waits (r.registry.each id v at).waits
 

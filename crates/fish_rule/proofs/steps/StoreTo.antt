@@ -35,6 +35,7 @@ module _ (k : Key) (w : World) (r : Rule k w) (id : ℕ) (v : View) (at : get_el
         let there = slice_get_within v.rows row can.on.listed can.on.there in
         omega arith
 
+    -- the index has no end yet
     none_yet : w.registry (row_at row 1) ≡ 0
     none_yet = known_bound 1 (omega arith) ∙ can.endless
 

@@ -65,9 +65,11 @@ module _ (k : Key) (w : World) (r : Rule k w) (id : ℕ) (v : View) (at : get_el
   abbrev pub swing_world : World
   swing_world = record w { head = head'; views = set w.views id swinger }
 
+  -- the next entry is of the bucket
   bucket : bucket_of k.buckets (body_of f.words) f.linked ≡ b
   bucket = subst (λ (z : Key). bucket_of z.buckets (body_of f.words) f.linked ≡ b) about can.bucket
 
+  -- what a swing leaves
   leaves : Leaves k w r id v at f can.aim b bucket head' w.log swinger.learned swinger.clock
   leaves = record {
     heads = λ c. up c (ℕ_discrete c b);
@@ -84,16 +86,20 @@ module _ (k : Key) (w : World) (r : Rule k w) (id : ℕ) (v : View) (at : get_el
           (let q = put-here w.head b own_at in let less = can.less in omega arith)
       up c (no ne) = (let q = put-else w.head b own_at c ne in omega arith)
 
+  -- linked places stay linked
   to : (c p : ℕ) → Linked k w.dir w.log w.views c p → Linked k w.dir w.log swing_world.views c p
   to = link_to k w r id v at f can.aim b bucket head' w.log swinger.learned swinger.clock leaves
 
+  -- and the own one is the only one more
   from : (c p : ℕ) → Linked k w.dir w.log swing_world.views c p → Linked k w.dir w.log w.views c p
       ⊎ ((p ≡ own_at) × (c ≡ b))
   from = link_from k w r id v at f can.aim b bucket head' w.log swinger.learned swinger.clock leaves
 
+  -- which is linked
   here : Linked k w.dir w.log swing_world.views b own_at
   here = link_here k w r id v at f can.aim b bucket head' w.log swinger.learned swinger.clock leaves
 
+  -- it is first in its bucket's chain, and other chains stay
   chains : (c : ℕ) → Chain (Linked k w.dir w.log swing_world.views c) (first_head k c) (head' c) w.log
   chains c = pick (ℕ_discrete c b)
     where
@@ -116,13 +122,16 @@ module _ (k : Key) (w : World) (r : Rule k w) (id : ℕ) (v : View) (at : get_el
           (λ p l. ⊎_elim (λ (g : Linked k w.dir w.log w.views c p). g)
           (λ (t : (p ≡ own_at) × (c ≡ b)). absurd (ne t.1)) (from c p l)) (λ p l. refl) (r.chains c))
 
+  -- what lasts has lasted
   final : Final k r.start r.start r.lane_of r.lane_of w swing_world
   final = link_final k w r id v at f can.aim b bucket head' w.log swinger.learned swinger.clock leaves
 
+  -- what the pass has learned is so
   facts : Facts k w.count w.dir w.log r.start swinger.learned
   facts = (let q = facts_later k w swing_world r.start r.start r.lane_of r.lane_of final v.learned
       (r.facts id v at) in assumption q)
 
+  -- and what it has learned of chains
   chained : Chained k w.dir w.log swing_world.views head' swinger.learned
   chained =
       let q = chained_later k w swing_world r.start r.start r.lane_of r.lane_of final v.learned (r.chained id v at) in
@@ -210,12 +219,15 @@ module _ (v : View) (f : Flight) (b h x : ℕ) where
   pub swing_about : (after_swing_head v f b h x).about ≡ v.about
   swing_about = either_way (λ (z : View). z.about) v.about (ℕ_discrete x h) (swung v f b) (head_seen v b x (ticked v.clock)) refl refl
 
+  -- and the lane
   pub swing_lane : (after_swing_head v f b h x).lane ≡ v.lane
   swing_lane = either_way (λ (z : View). z.lane) v.lane (ℕ_discrete x h) (swung v f b) (head_seen v b x (ticked v.clock)) refl refl
 
+  -- and what shut the pass
   pub swing_shut : (after_swing_head v f b h x).shut ≡ v.shut
   swing_shut = either_way (λ (z : View). z.shut) v.shut (ℕ_discrete x h) (swung v f b) (head_seen v b x (ticked v.clock)) refl refl
 
+  -- and the region in flight
   pub region_swing : v.flight ≡ Some f → region_in (after_swing_head v f b h x).flight ≡ region_in (Some f)
   region_swing flying = either_way (λ (z : View). region_in z.flight) (region_in (Some f)) (ℕ_discrete x h)
       (swung v f b) (head_seen v b x (ticked v.clock)) refl (ap region_in flying)
