@@ -4,9 +4,12 @@ use Rattle.fish_chain.proofs.Changes.{changed_next, still_links}
 use Rattle.fish_chain.specs.Links.{CanLink, CanLinkBelow, IsBelow, Tried, with_linked}
 use Rattle.fish_layout.specs.Cleared.{body_of}
 use Rattle.fish_layout.specs.Header.{keys_of}
+use Rattle.fish_rule.proofs.laws.Steps.{flight_law}
 use Rattle.fish_rule.specs.Flying.{region_in, region_of}
 use Rattle.fish_rule.specs.ChainSteps.{own_place}
 use Rattle.fish_rule.specs.declared.table.Region.{Region}
+use Rattle.fish_rule.specs.Table.{Stands}
+use Rattle.fish_rule.specs.declared.view.Key.{Key}
 use Rattle.fish_rule.specs.declared.view.Flight.{Flight}
 use Rattle.fish_rule.specs.declared.view.View.{View}
 
@@ -17,6 +20,14 @@ line_kept v f o r flying kept is =
     let same : Some (region_of f) ≡ Some r = sym (kept ∙ ap region_in flying) ∙ is in
     let region : region_of f ≡ r = cc in
     ap (λ (z : Region). z.line) region
+
+-- it lies within the log
+pub line_low : (k : Key) (v : View) (f : Flight) (o : Option Region) (r : Region) → v.about ≡ k → Stands v
+    → v.flight ≡ Some f → o ≡ region_in v.flight → o ≡ Some r → r.line < 68719476736
+line_low k v f o r about stands flying kept is =
+    let line = line_kept v f o r flying kept is in
+    let low = (flight_law k v f about stands flying).low_line in
+    omega arith
 
 -- the place of the entry, by the line that the pass keeps of its record in flight and the entry's count
 pub place_kept : (v : View) (f : Flight) (o : Option Region) (r : Region) (key wide : ℕ) → v.flight ≡ Some f

@@ -1,5 +1,5 @@
 -- Which words of a record a pass may read to compare a value, and what they say.
-use Rattle.std.proofs.Common.{◌≡◌, ◌≢◌, ℕ, ◌+◌, ◌-◌, ◌*◌, ◌/◌, ◌%◌, ◌<◌, ◌≤◌, zero, suc, List, length, sym, refl, ap, ◌∙◌}
+use Rattle.std.proofs.Common.{◌≡◌, ◌≢◌, ℕ, ◌+◌, ◌-◌, ◌*◌, ◌/◌, ◌<◌, ◌≤◌, zero, suc, List, length, sym, refl, ap, ◌∙◌}
 use Rattle.std.proofs.Common.{subst, ◌⊎◌, ⊎_elim, inl, inr, arith, take}
 use Rattle.fish_chain.proofs.Values.{IsEntryAt, bytes_said, entry_given, said_bytes, said_size}
 use Rattle.fish_chain.specs.Values.{AreBytesIn, HasBytes, IsGiven, IsWordIn, SaysBytes, words_in}
@@ -22,12 +22,11 @@ use Rattle.fish_rule.proofs.laws.Moments.{stored_above}
 use Rattle.fish_rule.specs.Facts.{IsFound}
 use Rattle.fish_rule.proofs.laws.ChainFacts.{always_later}
 use Rattle.fish_rule.specs.Logs.{Extends, Learns}
-use Rattle.fish_rule.specs.LoadSteps.{CanLookAt, CanReadWord, after_look_at, found_after, kind_told}
+use Rattle.fish_rule.specs.LoadSteps.{CanLookAt, CanReadWord, after_look_at, kind_told}
 use Rattle.fish_rule.specs.Regions.{code}
-use Rattle.fish_rule.specs.Rule.{Rule}
 use Rattle.fish_rule.specs.Table.{Sees, Stands}
 use Rattle.fish_rule.specs.Views.{Among}
-use Rattle.fish_rule.specs.ChainFacts.{Always, IsNodeIn}
+use Rattle.fish_rule.specs.ChainFacts.{Always}
 use Rattle.fish_rule.specs.World.{World, body, high, low}
 use Rattle.fish_rule.specs.declared.view.Found.{Found}
 use Rattle.fish_rule.specs.declared.view.Key.{Key}

@@ -1,10 +1,11 @@
 -- The steps of a walk, over plain views.
 use Rattle.std.proofs.Common.{◌≡◌, ℕ, ◌+◌, ◌*◌, ◌<◌, ◌≤◌, sym, refl, subst, ◌⊎◌, ⊎_elim, inl, inr, arith}
-use Rattle.fish_chain.specs.Walks.{HasBegun, HasRange, IsEntryFrom, IsNextNode, IsNumbered, IsPast, IsRest, IsWalking, LeadsTo}
+use Rattle.fish_chain.specs.Walks.{HasBegun, HasRange, IsEntryFrom, IsNextNode, IsNumbered, IsPast, IsRest, IsWalking}
+use Rattle.fish_chain.specs.Walks.{LeadsTo}
 use Rattle.fish_chain.specs.declared.walk.Node.{Node}
 use Rattle.fish_layout.specs.Entry.{entry_id, entry_number, entry_place}
-use Rattle.fish_rule.proofs.laws.Descents.{entries_behind, entries_within, extends_node}
-use Rattle.fish_rule.proofs.laws.Descents.{head_clear, head_here, previous_clear, previous_here}
+use Rattle.fish_rule.proofs.laws.Descents.{entries_behind, entries_within, extends_node, head_clear, head_here}
+use Rattle.fish_rule.proofs.laws.Descents.{previous_clear, previous_here}
 use Rattle.fish_rule.proofs.laws.Learning.{extends_both}
 use Rattle.fish_rule.proofs.laws.Links.{label_above, node_behind}
 use Rattle.fish_rule.proofs.laws.ChainFacts.{always_later, clear_both, label_entry, label_last, label_outside}

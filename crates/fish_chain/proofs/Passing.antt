@@ -1,6 +1,6 @@
 -- The entries that a walk passes, one after the other.
-use Rattle.std.proofs.Common.{◌≡◌, ℕ, ◌+◌, ◌*◌, ◌<◌, ◌≤◌, ◌⊎◌, List, [], ◌∷◌, ◌++◌, length, refl, sym, subst, inl, inr, ⊎_elim}
-use Rattle.std.proofs.Common.{length-append, arith, None, Some}
+use Rattle.std.proofs.Common.{◌≡◌, ℕ, ◌+◌, ◌*◌, ◌<◌, ◌≤◌, ◌⊎◌, List, [], ◌∷◌, ◌++◌, length, refl, sym, subst, inl, inr}
+use Rattle.std.proofs.Common.{⊎_elim, length-append, arith, None, Some}
 use Rattle.fish_chain.specs.Walks.{IsBounded, IsEntryFrom, LeadDown}
 use Rattle.fish_chain.specs.declared.walk.Node.{Node}
 use Rattle.fish_rule.specs.Logs.{Learns}

@@ -1,17 +1,17 @@
 -- One turn below a linked entry: aim at its first word, and splice.
-use Rattle.std.proofs.Common.{◌≡◌, ◌≢◌, ℕ, ◌-◌, ◌*◌, ◌<◌, ◌≤◌, ◌⊎◌, inl, ⊎_elim, suc, List, set, refl, sym, ap}
-use Rattle.std.proofs.Common.{◌∙◌, subst, arith, get_or-set_same}
+use Rattle.std.proofs.Common.{◌≡◌, ◌≢◌, ℕ, ◌-◌, ◌*◌, ◌<◌, ◌≤◌, ◌⊎◌, inl, ⊎_elim, suc, List, set, refl, sym, ap, ◌∙◌}
+use Rattle.std.proofs.Common.{subst, arith, get_or-set_same}
 use Rattle.std.proofs.Math.Decide.{ℕ_discrete}
 use Rattle.fish_chain.proofs.Changes.{aim_changes, changed_next, link_aim, previous_changes, quiet_loaded, quiet_ticked}
-use Rattle.fish_rule.proofs.laws.Descents.{previous_here}
 use Rattle.fish_chain.proofs.Changes.{splice_changes, still_links}
+use Rattle.fish_rule.proofs.laws.Descents.{previous_here}
 use Rattle.fish_chain.specs.Links.{CanLink, CanLinkBelow, Changed, IsBelow, IsLinked, with_linked}
 use Rattle.fish_layout.proofs.Clearing.{choose_first, choose_second}
 use Rattle.fish_layout.specs.Cleared.{entry_at}
 use Rattle.fish_rule.proofs.laws.Links.{not_own, own_behind, own_word}
 use Rattle.fish_rule.specs.ChainSteps.{CanAimEntry, CanSpliceEntry, HasNode, PreviousRises, after_aim_entry}
-use Rattle.fish_rule.specs.ChainSteps.{after_load_previous}
-use Rattle.fish_rule.specs.ChainSteps.{after_splice_entry, aimed_at, own_place, previous_seen, spliced}
+use Rattle.fish_rule.specs.ChainSteps.{after_load_previous, after_splice_entry}
+use Rattle.fish_rule.specs.ChainSteps.{aimed_at, own_place, previous_seen, spliced}
 use Rattle.fish_rule.specs.SpaceSteps.{loaded, ticked}
 use Rattle.fish_rule.specs.declared.view.Clock.{Clock}
 use Rattle.fish_rule.specs.Table.{Stands}

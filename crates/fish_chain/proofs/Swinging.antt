@@ -1,17 +1,17 @@
 -- One turn at a head: aim at it, and swing it.
-use Rattle.std.proofs.Common.{◌≡◌, ◌≢◌, ℕ, ◌-◌, ◌*◌, ◌<◌, ◌≤◌, ◌⊎◌, inl, ⊎_elim, suc, List, set, refl, sym, ap}
-use Rattle.std.proofs.Common.{◌∙◌, subst, arith, get_or-set_same}
+use Rattle.std.proofs.Common.{◌≡◌, ◌≢◌, ℕ, ◌-◌, ◌*◌, ◌<◌, ◌≤◌, ◌⊎◌, inl, ⊎_elim, suc, List, set, refl, sym, ap, ◌∙◌}
+use Rattle.std.proofs.Common.{subst, arith, get_or-set_same}
 use Rattle.std.proofs.Math.Decide.{ℕ_discrete}
-use Rattle.fish_chain.proofs.Changes.{IsQuiet, aim_changes, changed_next, head_changes, link_aim, quiet_loaded}
+use Rattle.fish_chain.proofs.Changes.{aim_changes, changed_next, head_changes, link_aim, quiet_loaded, quiet_ticked}
+use Rattle.fish_chain.proofs.Changes.{still_links, swing_changes}
 use Rattle.fish_rule.proofs.laws.Descents.{head_here}
-use Rattle.fish_chain.proofs.Changes.{quiet_ticked, still_links, swing_changes}
 use Rattle.fish_chain.specs.Links.{CanLink, Changed, IsBelow, IsLinked, with_linked}
 use Rattle.fish_layout.proofs.Clearing.{choose_first, choose_second}
 use Rattle.fish_layout.specs.Cleared.{entry_at}
 use Rattle.fish_rule.proofs.laws.Links.{not_own, own_behind, own_word}
 use Rattle.fish_rule.specs.ChainSteps.{CanAimEntry, CanSwingHead, HasNode, HeadRises, after_aim_entry, after_load_head}
-use Rattle.fish_rule.specs.ChainSteps.{after_swing_head}
-use Rattle.fish_rule.specs.ChainSteps.{aimed_at, head_seen, own_place, swung}
+use Rattle.fish_rule.specs.ChainSteps.{after_swing_head, aimed_at}
+use Rattle.fish_rule.specs.ChainSteps.{head_seen, own_place, swung}
 use Rattle.fish_rule.specs.SpaceSteps.{loaded, ticked}
 use Rattle.fish_rule.specs.declared.view.Clock.{Clock}
 use Rattle.fish_rule.specs.Table.{Stands}
@@ -29,38 +29,24 @@ pub record IsSwinging (v : View) (b place h : ℕ) (u : View) : Type 0 where
   pub top : Among (record { bucket = b; place = h }) u.learned.least_heads
   pub node : (h ≤ u.about.line * 4) ⊎ HasNode u b h
 
--- a step that sees the head after other steps
-seen_head : (v u t : View) (b place h : ℕ) (f : Flight) (words : List ℕ) (clock : Clock) → IsQuiet u.clock clock
-    → CanLink v f f.linked b → place ≡ own_place f → Changed v f words f.linked u → t ≡ head_seen u b h clock
-    → IsSwinging v b place h t
-seen_head v u t b place h f words clock quiet can at c is =
-    let learned = ap (λ (z : View). z.learned) is in
-    record {
-      flight = f;
-      can = can;
-      at = at;
-      words = words;
-      changed = changed_next v u t f words words f.linked c
-          (head_changes u t (with_linked f words f.linked) b h clock quiet (ap (λ (z : View). z.flight) c.known)
-          is);
-      top = subst (λ z. Among (record { bucket = b; place = h }) z.least_heads) (sym learned) (inl refl);
-      node = subst (λ (z : View). (h ≤ z.about.line * 4) ⊎ HasNode z b h) (sym is) (head_here u b h);
-    }
+-- a head that was seen
+seen_head : (v u t : View) (b place h : ℕ) (f : Flight) (words : List ℕ) (clock : Clock) → CanLink v f f.linked b
+    → place ≡ own_place f → Changed v f words f.linked t → t ≡ head_seen u b h clock → IsSwinging v b place h t
+seen_head v u t b place h f words clock can at c is = record {
+  flight = f;
+  can = can;
+  at = at;
+  words = words;
+  changed = c;
+  top = subst (λ (z : View). Among (record { bucket = b; place = h }) z.learned.least_heads) (sym is) (inl refl);
+  node = subst (λ (z : View). (h ≤ z.about.line * 4) ⊎ HasNode z b h) (sym is) (head_here u b h);
+}
 
 -- the first load
 pub swing_begins : (v t : View) (b place h : ℕ) (f : Flight) → CanLink v f f.linked b → place ≡ own_place f
     → t ≡ after_load_head v b h → IsSwinging v b place h t
-swing_begins v t b place h f can at is =
-    let learned = ap (λ (z : View). z.learned) is in
-    record {
-      flight = f;
-      can = can;
-      at = at;
-      words = f.words;
-      changed = head_changes v t f b h (loaded v.clock) (quiet_loaded v.clock) can.filled.flying is;
-      top = subst (λ z. Among (record { bucket = b; place = h }) z.least_heads) (sym learned) (inl refl);
-      node = subst (λ (z : View). (h ≤ z.about.line * 4) ⊎ HasNode z b h) (sym is) (head_here v b h);
-    }
+swing_begins v t b place h f can at is = seen_head v v t b place h f f.words (loaded v.clock) can at
+    (head_changes v t f b h (loaded v.clock) (quiet_loaded v.clock) can.filled.flying is) is
 
 module _ (v u : View) (b place h : ℕ) (s : IsSwinging v b place h u) where
   -- the record in flight
@@ -128,7 +114,9 @@ module _ (v u : View) (b place h : ℕ) (s : IsSwinging v b place h u) where
         → IsSwinging v b place x w
     swing_miss w x miss was =
         let seen : w ≡ head_seen t b x (ticked t.clock) = was ∙ choose_second (ℕ_discrete x h) _ _ miss in
-        seen_head v t w b place x s.flight aims (ticked t.clock) (quiet_ticked t.clock) s.can s.at aimed seen
+        seen_head v t w b place x s.flight aims (ticked t.clock) s.can s.at (changed_next v t w s.flight aims aims
+        s.flight.linked aimed (head_changes t w (aimed_at swinging h) b x (ticked t.clock) (quiet_ticked t.clock)
+        (ap (λ (z : View). z.flight) aimed.known) seen)) seen
 
     -- so fewer places are left
     pub swing_falls : (x : ℕ) → HeadRises t b x → x ≢ h → h < place → place - x < place - h

@@ -1,24 +1,21 @@
 -- The value of a key entry by its words, in every moment of a pass that read them.
-use Rattle.std.proofs.Common.{◌≡◌, ◌≢◌, ℕ, ◌+◌, ◌-◌, ◌*◌, ◌/◌, ◌%◌, ◌^◌, ◌<◌, ◌≤◌, suc, List, length, get_or, map, sym, refl, ap, ◌∙◌}
-use Rattle.std.proofs.Common.{subst, inr, arith, Some, slice_get}
+use Rattle.std.proofs.Common.{◌≡◌, ◌≢◌, ℕ, ◌+◌, ◌-◌, ◌*◌, ◌/◌, ◌%◌, ◌^◌, ◌<◌, ◌≤◌, List, length, get_or, sym, refl, ap}
+use Rattle.std.proofs.Common.{◌∙◌, subst, arith, Some, slice_get}
 use Rattle.std.proofs.Math.Decide.{dec_lt}
-use Rattle.std.specs.List.{range_with_len}
 use Rattle.std.proofs.lemmas.List.{ext_get_or}
 use Rattle.std.proofs.lemmas.List.FromFn.{get_or-map-range_with_len, length-map-range_with_len}
 use Rattle.std.proofs.lemmas.Option.{get_or_from_slice_get, slice_get_read, slice_get_within}
-use Rattle.fish_chain.specs.Values.{AreBytesIn, AreBytesOf, HasBytes, HasValue, IsGiven, IsWordIn, SaysBytes, byte_at, words_in}
+use Rattle.fish_chain.specs.Values.{AreBytesIn, AreBytesOf, HasValue, IsGiven, IsWordIn, SaysBytes, byte_at, words_in}
 use Rattle.fish_chain.specs.declared.walk.Node.{Node}
 use Rattle.fish_layout.proofs.Buckets.{byte_of, value_in-key}
-use Rattle.fish_layout.proofs.Entries.{proper_at, some_element, values_within}
+use Rattle.fish_layout.proofs.Entries.{proper_at, some_element}
 use Rattle.fish_layout.proofs.KeyWords.{SaysKey, spelled_key}
 use Rattle.fish_layout.proofs.Once.{same_value}
-use Rattle.fish_layout.proofs.Sizes.{length-words_behind}
 use Rattle.fish_layout.proofs.Spelled.{spelled_keys}
-use Rattle.fish_layout.specs.Body.{IsProperValue, body_lines, values_of}
+use Rattle.fish_layout.specs.Body.{IsProperValue}
 use Rattle.fish_layout.specs.Bucket.{byte_behind, value_in}
-use Rattle.fish_layout.specs.Bytes.{words_for}
-use Rattle.fish_layout.specs.Cleared.{IsKeyWord, Spells, entry_at}
-use Rattle.fish_layout.specs.Entry.{value_kind, value_offset, value_size}
+use Rattle.fish_layout.specs.Cleared.{Spells, entry_at}
+use Rattle.fish_layout.specs.Entry.{value_offset, value_size}
 use Rattle.fish_layout.specs.Header.{keys_of}
 use Rattle.fish_layout.specs.Values.{kind_code, value_bytes}
 use Rattle.fish_value.specs.Number.{fits_i64}
@@ -29,19 +26,16 @@ use Rattle.fish_layout.specs.declared.parts.BodyParts.{BodyParts}
 use Rattle.fish_layout.specs.declared.parts.KeyPart.{KeyPart}
 use Rattle.fish_rule.proofs.laws.Lists.{all_among}
 use Rattle.fish_rule.proofs.laws.Regions.{region_found, word_known}
-use Rattle.fish_rule.proofs.laws.Moments.{stored_line, stored_parts}
+use Rattle.fish_rule.proofs.laws.Moments.{stored_parts}
 use Rattle.fish_rule.specs.Facts.{IsFound, IsKnown}
 use Rattle.fish_rule.specs.Logs.{Learns}
-use Rattle.fish_rule.specs.LoadSteps.{CanReadWord}
 use Rattle.fish_rule.specs.Rule.{Rule}
-use Rattle.fish_rule.specs.Table.{Stands}
 use Rattle.fish_rule.specs.Views.{Among}
 use Rattle.fish_rule.specs.ChainFacts.{Always, IsNodeIn}
 use Rattle.fish_rule.specs.World.{World, body, low}
 use Rattle.fish_rule.specs.declared.view.Found.{Found}
 use Rattle.fish_rule.specs.declared.view.Key.{Key}
 use Rattle.fish_rule.specs.declared.view.Kind.TheVariants.{Mark}
-use Rattle.fish_rule.specs.declared.view.Known.{Known}
 use Rattle.fish_rule.specs.declared.view.View.{View}
 use Rattle.fish_value.specs.declared.value.Value.{Value}
 

@@ -8,10 +8,13 @@ use Rattle.fish_rule.specs.ChainSteps.{HasNode, own_place}
 use Rattle.fish_rule.specs.Logs.{Learns}
 use Rattle.fish_rule.specs.declared.view.Clock.{Clock}
 use Rattle.fish_rule.specs.declared.view.Flight.{Flight}
-use Rattle.fish_rule.specs.declared.view.Gap.{Gap}
-use Rattle.fish_rule.specs.declared.view.Known.{Known}
-use Rattle.fish_rule.specs.declared.view.EntryPlace.{EntryPlace}
 use Rattle.fish_rule.specs.declared.view.View.{View}
+
+-- some steps were made, and no load was noted
+pub record IsQuiet (c d : Clock) : Type 0 where
+  pub steps : c.steps ≤ d.steps
+  pub loads : c.loads ≤ d.loads
+  pub notes : d.notes ≡ c.notes
 
 -- f is the record in flight with all its words, and the key entry is its next to be linked, and of the bucket
 pub record CanLink (v : View) (f : Flight) (key bucket : ℕ) : Type 0 where
@@ -25,29 +28,27 @@ pub record CanLink (v : View) (f : Flight) (key bucket : ℕ) : Type 0 where
 abbrev pub with_linked : Flight → List ℕ → ℕ → Flight
 with_linked f words linked = record f { words = words; linked = linked }
 
--- a view with that, and with these facts of chains and this clock
-abbrev pub chained_view : View → Flight → List ℕ → ℕ → List EntryPlace → List Known → List EntryPlace → List Gap → Clock → View
-chained_view v f words linked nodes least_previous least_heads gaps clock = record v {
+-- the view v with that, and with the facts of chains and the clock of u
+abbrev pub chained_view : View → Flight → List ℕ → ℕ → View → View
+chained_view v f words linked u = record v {
   flight = Some (with_linked f words linked);
-  learned = record v.learned { nodes = nodes; least_previous = least_previous; least_heads = least_heads; gaps = gaps };
-  clock = clock;
+  learned = record v.learned {
+    nodes = u.learned.nodes;
+    least_previous = u.learned.least_previous;
+    least_heads = u.learned.least_heads;
+    gaps = u.learned.gaps;
+  };
+  clock = u.clock;
 }
 
 -- u is the view v with these words of its record f and so many of its entries linked, after some steps: the
 -- record's body is the same, and what was known still is
 pub record Changed (v : View) (f : Flight) (words : List ℕ) (linked : ℕ) (u : View) : Type 0 where
-  pub nodes : List EntryPlace
-  pub least_previous : List Known
-  pub least_heads : List EntryPlace
-  pub gaps : List Gap
-  pub clock : Clock
-  pub known : u ≡ chained_view v f words linked nodes least_previous least_heads gaps clock
+  pub known : u ≡ chained_view v f words linked u
   pub long : length words ≡ length f.words
   pub body : body_of words ≡ body_of f.words
   pub learns : Learns v u
-  pub steps : v.clock.steps ≤ clock.steps
-  pub loads : v.clock.loads ≤ clock.loads
-  pub notes : clock.notes ≡ v.clock.notes
+  pub quiet : IsQuiet v.clock u.clock
 
 -- one entry more is linked, and known to be in the bucket's chain
 pub record IsLinked (v : View) (f : Flight) (bucket : ℕ) (u : View) : Type 0 where

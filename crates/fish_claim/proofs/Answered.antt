@@ -4,7 +4,8 @@ use Rattle.std.proofs.Common.{Option}
 use Rattle.fish_claim.specs.Claims.{IsClaimed, answer_of, claimed_view}
 use Rattle.fish_claim.specs.declared.claimed.Claimed.TheVariants as answer
 use Rattle.fish_layout.specs.Header.{void_word}
-use Rattle.fish_rule.proofs.laws.Learning.{learns_both}
+pub use Rattle.fish_rule.proofs.laws.Learning.{learns_same}
+use Rattle.fish_rule.proofs.laws.Learning.{ahead, learns_both, learns_self}
 use Rattle.fish_rule.specs.Clocks.{IsLater}
 use Rattle.fish_rule.specs.Logs.{Learns}
 use Rattle.fish_rule.specs.Regions.{kind_of}
@@ -27,27 +28,7 @@ use Rattle.fish_rule.specs.declared.view.View.{View}
 pub learns_count : (v u : View) (count : ℕ) → u.about ≡ v.about → u.learned ≡ record v.learned { count = count }
     → v.learned.count ≤ count → Learns v u
 learns_count v u count about learned more =
-    subst (λ (l : Learned). Learns v (record u { learned = l })) (sym learned) (record {
-      about = about;
-      count = more;
-      settled = omega arith;
-      version = omega arith;
-      words = λ x m. m;
-      found = λ x m. m;
-      known = λ x m. m;
-      records = λ x m. m;
-      nodes = λ x m. m;
-      least_previous = λ x m. m;
-      least_heads = λ x m. m;
-      gaps = λ x m. m;
-      labels = λ x m. m;
-      unended = λ x m. m;
-      opens = λ x m. m;
-    })
-
--- what a view knew is known where the table and what was learned are the same
-pub learns_same : (v u : View) → u.about ≡ v.about → u.learned ≡ v.learned → Learns v u
-learns_same v u about learned = learns_count v u v.learned.count about learned (omega arith)
+    subst (λ (l : Learned). Learns v (record u { learned = l })) (sym learned) (assumption (learns_self v, about, more))
 
 -- a claim counts its number, and takes away nothing that was learned
 pub claim_learns : (v : View) (lines number line : ℕ) → v.learned.count ≤ number
@@ -68,23 +49,11 @@ records_more Mark f records x m = m
 
 -- and it takes away nothing either
 pub publish_learns : (v : View) (f : Flight) → Learns v (after_publish_region v f)
-publish_learns v f = record {
-  about = refl;
-  count = omega arith;
-  settled = omega arith;
-  version = omega arith;
-  words = λ x m. m;
-  found = λ x m. inr m;
-  known = λ x m. m;
-  records = records_more (flight_kind v f) f v.learned.records;
-  nodes = λ x m. m;
-  least_previous = λ x m. m;
-  least_heads = λ x m. m;
-  gaps = λ x m. m;
-  labels = λ x m. m;
-  unended = λ x m. m;
-  opens = λ x m. m;
-}
+publish_learns v f = assumption (
+  learns_self v,
+  ahead (record { number = f.number; kind = flight_kind v f; line = f.line; lines = f.lines }) v.learned.found,
+  records_more (flight_kind v f) f v.learned.records,
+)
 
 -- the claim placed no record: the pass has nothing in flight, is shut by this or not, and else is as it was, but for
 -- its tail and what it learned; its next claim has a higher number, and there are only so many

@@ -9,8 +9,8 @@ use Rattle.fish_rule.specs.Passes.{IsPassOf, view}
 use Rattle.fish_rule.specs.Regions.{kind_of}
 use Rattle.fish_rule.specs.Registry.{KnowsActive}
 use Rattle.fish_rule.specs.SpaceSteps.{CanClaimLines, CanPublishRegion, CanStoreWord, IsReady, after_claim_lines}
-use Rattle.fish_rule.specs.SpaceSteps.{after_publish_region}
-use Rattle.fish_rule.specs.SpaceSteps.{after_store_word, flight_at, shut_after, with_word}
+use Rattle.fish_rule.specs.SpaceSteps.{after_publish_region, after_store_word}
+use Rattle.fish_rule.specs.SpaceSteps.{flight_at, shut_after, with_word}
 use Rattle.fish_rule.specs.Table.{Stands}
 use Rattle.fish_rule.specs.World.{slots}
 use Rattle.fish_rule.specs.declared.table.Log.{Log}

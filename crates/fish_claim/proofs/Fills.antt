@@ -1,6 +1,6 @@
 -- The words of a record go into its region one by one.
-use Rattle.std.proofs.Common.{◌≡◌, ℕ, ◌+◌, ◌<◌, ◌≤◌, suc, List, [], ◌∷◌, ◌++◌, length, get_or, take, refl}
-use Rattle.std.proofs.Common.{sym, ap, ◌∙◌, subst, arith, Some, Option, add-one, add-zero, length-append}
+use Rattle.std.proofs.Common.{◌≡◌, ℕ, ◌+◌, ◌<◌, ◌≤◌, suc, List, [], ◌∷◌, ◌++◌, length, get_or, take, refl, sym, ap, ◌∙◌}
+use Rattle.std.proofs.Common.{subst, arith, Some, Option, add-one, add-zero, length-append}
 use Rattle.std.proofs.Math.Seq.{take-suc}
 use Rattle.fish_claim.specs.Fills.{CanFill, IsFilled, filled_view, with_words}
 use Rattle.fish_rule.proofs.laws.Regions.{kind-inside}

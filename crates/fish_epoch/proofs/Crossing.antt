@@ -4,7 +4,8 @@ use Rattle.std.proofs.Crossing.{crosses}
 use denote.Param.Send.{IsSend, recorded_send, sendable, struct_send}
 use denote.Struct.Declared.{shape}
 use Rattle.fish_catalog.proofs.listed.Listed.TheSendSync.{the_send as listed_send}
-use Rattle.fish_epoch.specs.contracts.definitions.Defs.{the_field as defs_field, the_row as defs_row, the_type as defs_type}
+use Rattle.fish_epoch.specs.contracts.definitions.Defs.{the_field as defs_field, the_row as defs_row}
+use Rattle.fish_epoch.specs.contracts.definitions.Defs.{the_type as defs_type}
 use Rattle.fish_epoch.specs.contracts.definitions.Known.{the_field as known_field}
 use Rattle.fish_lang.proofs.definition.Cond.TheLaws.TheKnot.{send-Cond}
 use Rattle.fish_psf.specs.contracts.key.ActiveDef.{the_row as active_row}

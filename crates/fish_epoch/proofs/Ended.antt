@@ -1,6 +1,6 @@
 -- The end of one definition, by its place.
-use Rattle.std.proofs.Common.{◌≡◌, ℕ, ◌+◌, ◌<◌, ◌≤◌, zero, suc, List, [], ◌∷◌, length, set, get_or, sym, refl}
-use Rattle.std.proofs.Common.{ap, ◌∙◌, arith, Some, slice_get}
+use Rattle.std.proofs.Common.{◌≡◌, ℕ, ◌+◌, ◌<◌, ◌≤◌, zero, suc, List, [], ◌∷◌, length, set, get_or, sym, refl, ap, ◌∙◌}
+use Rattle.std.proofs.Common.{arith, Some, slice_get}
 use Rattle.std.proofs.Math.Decide.{ℕ_discrete}
 use Rattle.fish_layout.proofs.Clearing.{choose_first, choose_second}
 use Rattle.fish_catalog.specs.Listing.{IsListing, ended, ended_at}

@@ -1,6 +1,6 @@
 -- What words of the registry tell once they are read.
-use Rattle.std.proofs.Common.{◌≡◌, ◌≢◌, ℕ, ◌+◌, ◌*◌, ◌%◌, ◌<◌, ◌≤◌, zero, suc, List, [], ◌∷◌, ◌++◌, length, map, take, set}
-use Rattle.std.proofs.Common.{sym, refl, ap, ◌∙◌, subst, inl, inr, arith, Some, slice_get, get_or, true, Bool, option_map}
+use Rattle.std.proofs.Common.{◌≡◌, ◌≢◌, ℕ, ◌+◌, ◌%◌, ◌<◌, ◌≤◌, zero, suc, List, [], ◌∷◌, ◌++◌, length, map, take, sym}
+use Rattle.std.proofs.Common.{refl, ap, ◌∙◌, subst, inl, inr, arith, Some, slice_get, get_or, true, Bool, option_map}
 use Rattle.std.proofs.Common.{get_or-set_other, get_or-set_same}
 use Rattle.std.specs.Prelude.{slice_index, slice_set}
 use Rattle.std.proofs.Math.Decide.{ℕ_discrete, dec_lt}
@@ -14,9 +14,8 @@ use Rattle.fish_catalog.specs.declared.row.CatRow.{CatRow}
 use Rattle.fish_layout.proofs.Clearing.{choose_first, choose_second}
 use Rattle.fish_rule.proofs.laws.Lists.{all_among}
 use Rattle.fish_rule.proofs.laws.Clocks.{later_ticked}
-use Rattle.fish_rule.proofs.laws.Learning.{extends_both, extends_self}
-use Rattle.fish_rule.proofs.laws.Versions.{definitions_next, length_registered}
-use Rattle.fish_rule.proofs.laws.Versions.{listing_law}
+use Rattle.fish_rule.proofs.laws.Learning.{ahead, extends_both, extends_self, learns_self}
+use Rattle.fish_rule.proofs.laws.Versions.{definitions_next, length_registered, listing_law}
 use Rattle.fish_rule.specs.RegistrySteps.{after_load_registry}
 use Rattle.fish_rule.specs.Logs.{Learns}
 use Rattle.fish_rule.specs.Registry.{HasRead, KnowsDefinitions, KnowsRow, definitions_at, made, op_at, row_at, row_in}
@@ -49,23 +48,7 @@ reads_both a b c e f = record {
 pub reads_word : (v u : View) (p x : ℕ) → u ≡ after_load_registry v p x → OnlyReads v u
 reads_word v u p x e = subst (OnlyReads v) (sym e) (record {
   extends = record {
-    learns = record {
-      about = refl;
-      count = omega arith;
-      settled = omega arith;
-      version = omega arith;
-      words = λ y m. inr m;
-      found = λ y m. m;
-      known = λ y m. m;
-      records = λ y m. m;
-      nodes = λ y m. m;
-      least_previous = λ y m. m;
-      least_heads = λ y m. m;
-      gaps = λ y m. m;
-      labels = λ y m. m;
-      unended = λ y m. m;
-      opens = λ y m. m;
-    };
+    learns = assumption (learns_self v, ahead (record { index = p; value = x }) v.learned.words);
     clock = later_ticked v.clock;
     frame = refl;
   };

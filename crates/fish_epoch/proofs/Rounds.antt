@@ -43,23 +43,7 @@ enters_both a b c e f = record {
 pub learns_version : (v u : View) (version : ℕ) → u.about ≡ v.about → u.learned ≡ record v.learned { version = version }
     → v.learned.version ≤ version → Learns v u
 learns_version v u version about learned later =
-    subst (λ (l : Learned). Learns v (record u { learned = l })) (sym learned) (record {
-      about = about;
-      count = omega arith;
-      settled = omega arith;
-      version = later;
-      words = λ y m. m;
-      found = λ y m. m;
-      known = λ y m. m;
-      records = λ y m. m;
-      nodes = λ y m. m;
-      least_previous = λ y m. m;
-      least_heads = λ y m. m;
-      gaps = λ y m. m;
-      labels = λ y m. m;
-      unended = λ y m. m;
-      opens = λ y m. m;
-    })
+    subst (λ (l : Learned). Learns v (record u { learned = l })) (sym learned) (assumption (learns_self v, about, later))
 
 -- a load of the version keeps to the view, where the version has risen
 pub enters_version : (v : View) (x : ℕ) → v.learned.version ≤ x → OnlyEnters v (after_load_version v x)

@@ -78,9 +78,8 @@ pub record IsWriting (v : View) (f : Flight) (p : BodyParts) (linked : ℕ) (u :
 -- no step or load is taken away when an entry is linked
 linked_later : (u t : View) (f : Flight) (bucket : ℕ) → IsLinked u f bucket t → IsLater u.clock t.clock
 linked_later u t f bucket is =
-    let c = is.changed in
-    subst (λ (z : View). IsLater u.clock z.clock) (sym c.known)
-    (record { steps = c.steps; loads = c.loads; notes = []; since = c.notes })
+    let quiet = is.changed.quiet in
+    record { steps = quiet.steps; loads = quiet.loads; notes = []; since = quiet.notes }
 
 -- so it is once the words are stored
 pub writing_begins : (v u : View) (f : Flight) (p : BodyParts) (words : List ℕ) → f.linked ≡ 0

@@ -8,6 +8,7 @@ use Rattle.fish_rule.proofs.laws.Regions.{starts_rise}
 use Rattle.fish_rule.proofs.laws.Regions.{published}
 use Rattle.fish_rule.specs.Regions.{code, kind_of}
 use Rattle.fish_rule.specs.declared.view.Kind.TheVariants.{Mark}
+pub use Rattle.fish_rule.proofs.laws.Learning.{learns_same}
 use Rattle.fish_rule.proofs.laws.Learning.{learns_self}
 use Rattle.fish_rule.specs.Logs.{Learns, TellsMark}
 use Rattle.fish_rule.specs.Parts.{Rests}
@@ -35,31 +36,6 @@ pub get_there : {A : Type 0} (xs : List A) (i : ℕ) → i < length xs → (x : 
 get_there [] i h = absurd (omega arith)
 get_there (x ∷ xs) zero h = (x, refl)
 get_there (x ∷ xs) (suc i) h = get_there xs i (omega arith)
-
--- a view that knows the same knows as much
-pub learns_same : (v m : View) → m.about ≡ v.about → m.learned ≡ v.learned → Learns v m
-learns_same v m about learned =
-    let s = learns_self v in
-    let count : m.learned.count ≡ v.learned.count = ap (λ (z : Learned). z.count) learned in
-    let settled : m.learned.settled ≡ v.learned.settled = ap (λ (z : Learned). z.settled) learned in
-    let version : m.learned.version ≡ v.learned.version = ap (λ (z : Learned). z.version) learned in
-    record {
-      about = about;
-      count = omega arith;
-      settled = omega arith;
-      version = omega arith;
-      words = λ x n. subst (λ (z : Learned). Among x z.words) (sym learned) n;
-      found = λ x n. subst (λ (z : Learned). Among x z.found) (sym learned) n;
-      known = λ x n. subst (λ (z : Learned). Among x z.known) (sym learned) n;
-      records = λ x n. subst (λ (z : Learned). Among x z.records) (sym learned) n;
-      nodes = λ x n. subst (λ (z : Learned). Among x z.nodes) (sym learned) n;
-      least_previous = λ x n. subst (λ (z : Learned). Among x z.least_previous) (sym learned) n;
-      least_heads = λ x n. subst (λ (z : Learned). Among x z.least_heads) (sym learned) n;
-      gaps = λ x n. subst (λ (z : Learned). Among x z.gaps) (sym learned) n;
-      labels = λ x n. subst (λ (z : Learned). Among x z.labels) (sym learned) n;
-      unended = λ x n. subst (λ (z : Learned). Among x z.unended) (sym learned) n;
-      opens = λ x n. subst (λ (z : Learned). Among x z.opens) (sym learned) n;
-    }
 
 -- the log doesn't end before a settled number
 pub ends_behind : (t : View) (to from : ℕ) → Stands t → HasEnd t to → from ≤ t.learned.settled → from ≤ to

@@ -1,7 +1,6 @@
 -- How a pass links the key entries of its record into their chains: what it knows after each of
 -- these steps, and when it may make it.
-use Rattle.std.specs.Prelude.{ℕ, ◌≡◌, ◌+◌, ◌*◌, ◌<◌, ◌≤◌, suc, List, ◌∷◌, length, slice_index}
-use Rattle.std.specs.Prelude.{slice_set, Some}
+use Rattle.std.specs.Prelude.{ℕ, ◌≡◌, ◌+◌, ◌*◌, ◌<◌, ◌≤◌, suc, List, ◌∷◌, length, slice_index, slice_set, Some}
 use Rattle.std.proofs.Math.Decide.{ℕ_discrete, dec_lt}
 use Rattle.fish_layout.specs.Bucket.{bucket_of}
 use Rattle.fish_layout.specs.Cleared.{body_of, choose, entry_at}

@@ -10,6 +10,7 @@ use Rattle.fish_rule.specs.Views.{Among, Has}
 use Rattle.fish_rule.specs.declared.view.Key.{Key}
 use Rattle.fish_rule.specs.declared.view.View.{View}
 use Rattle.fish_value.specs.declared.field.Form.{Form}
+use Rattle.fish_rule.specs.World.{last_line, last_number}
 
 -- the entry i of a closed log is a record of lane l
 abbrev pub IsOfLane : List Entry → ℕ → ℕ → Type 0
@@ -28,8 +29,8 @@ OwnIsClosed = (v : View) (remains : Remains) (l i : ℕ) → IsClosed v remains 
 -- what is left of a log has numbers and lines within the bounds of a start, a version, and one head for each bucket, of a
 -- record before its last line
 pub record MayFollow (k : Key) (remains : Remains) : Type 0 where
-  pub number : remains.base + length remains.log ≤ 268435439
-  pub line : remains.lines ≤ 68719176736
+  pub number : remains.base + length remains.log ≤ last_number
+  pub line : remains.lines ≤ last_line
   pub version : remains.version ≤ 512
   pub heads : length remains.heads ≡ k.buckets
   pub older : (b : ℕ) → IsOlder remains.lines (slice_index remains.heads b)

@@ -9,8 +9,8 @@ use Rattle.fish_layout.specs.Cleared.{body_of, choose}
 use Rattle.fish_rule.specs.Boundaries.{Boundaries, IsUnended}
 use Rattle.fish_rule.specs.Keys.{IsKeyed}
 use Rattle.fish_rule.specs.Regions.{code}
-use Rattle.fish_rule.specs.Registry.{AreActiveAt, IsBoundaryIndex, IsOperation, IsRegistered, definitions_at, main_word}
-use Rattle.fish_rule.specs.Registry.{epoch_at, op_at, row_at, row_in, version_in}
+use Rattle.fish_rule.specs.Registry.{opened_at, AreActiveAt, IsBoundaryIndex, IsOperation, IsRegistered, definitions_at}
+use Rattle.fish_rule.specs.Registry.{main_word, epoch_at, op_at, row_at, row_in, version_in}
 use Rattle.fish_rule.specs.Rounds.{IsSince, Waits}
 use Rattle.fish_rule.specs.Views.{AllOf, Each, Has}
 use Rattle.fish_rule.specs.World.{body, high}
@@ -62,7 +62,7 @@ pub record Versions (k : Key) (count : ℕ) (g : ℕ → ℕ) (version_of : ℕ 
   pub listings : (v : ℕ) → v ≤ version_in g → IsListing (definitions_at k g v)
   pub operations : (v : ℕ) → k.version ≤ v → v < version_in g
       → IsOperation (row_in g (length (definitions_at k g v))) (definitions_at k g v) (g (op_at (suc v)))
-  pub opened : g 3 ≡ length k.rows.value
+  pub opened : g opened_at ≡ length k.rows.value
   pub rows : (id : ℕ) (row : CatRow) → slice_get k.rows.value id ≡ Some row
       → IsWritable row × ((i : ℕ) → 2 ≤ i → i < 39 → g (row_at id i) ≡ row_word row i)
 

@@ -1,6 +1,5 @@
 -- What a pass knows after each kind of load and after a raise of the settled number, and when it may make it.
-use Rattle.std.specs.Prelude.{ℕ, ◌≡◌, ◌≢◌, ◌*◌, ◌<◌, ◌≤◌, zero, suc, List, [], ◌∷◌, max}
-use Rattle.std.specs.Prelude.{Some, None}
+use Rattle.std.specs.Prelude.{ℕ, ◌≡◌, ◌≢◌, ◌*◌, ◌<◌, ◌≤◌, zero, suc, List, [], ◌∷◌, max, Some, None}
 use Rattle.std.proofs.Common.{◌⊎◌}
 use Rattle.std.proofs.Math.Decide.{dec_lt}
 use Rattle.fish_layout.specs.Cleared.{IsKeyWord, choose}

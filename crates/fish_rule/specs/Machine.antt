@@ -3,29 +3,25 @@ use Rattle.std.specs.Prelude.{ℕ, ◌≡◌, ◌≢◌, ◌+◌, ◌-◌, ◌*�
 use mathlib.Core.Option.{some}
 use Rattle.std.proofs.Math.ListN.{get_elem?, set}
 use Rattle.fish_rule.specs.RegistrySteps.{CanAnnounce, CanRaiseVersion, CanDefineWord, CanEnter, CanLoadRegistry}
-use Rattle.fish_rule.specs.RegistrySteps.{after_announce}
-use Rattle.fish_rule.specs.RegistrySteps.{after_raise_version, after_define_word, after_load_registry, after_retire}
-use Rattle.fish_rule.specs.RegistrySteps.{after_load_version}
+use Rattle.fish_rule.specs.RegistrySteps.{after_announce, after_raise_version, after_define_word, after_load_registry}
+use Rattle.fish_rule.specs.RegistrySteps.{after_retire, after_load_version}
 use Rattle.fish_rule.specs.BoundarySteps.{CanLoadBound, CanLoadBoundary, CanStoreFrom, CanStoreTo, IsLane}
-use Rattle.fish_rule.specs.BoundarySteps.{after_load_bound}
-use Rattle.fish_rule.specs.BoundarySteps.{after_load_boundary, after_check_lane, after_store_from, after_store_to}
-use Rattle.fish_rule.specs.Registry.{epoch_at, row_at}
+use Rattle.fish_rule.specs.BoundarySteps.{after_load_bound, after_load_boundary, after_check_lane, after_store_from}
+use Rattle.fish_rule.specs.BoundarySteps.{after_store_to}
+use Rattle.fish_rule.specs.Registry.{epoch_at, row_at, version_at}
 use Rattle.fish_rule.specs.ChainSteps.{CanAimEntry, CanLoadHead, CanSpliceEntry, CanSwingHead, HasNode, after_aim_entry}
-use Rattle.fish_rule.specs.ChainSteps.{after_load_head}
-use Rattle.fish_rule.specs.ChainSteps.{after_load_node, after_load_previous, head_seen, own_place, previous_seen}
-use Rattle.fish_rule.specs.ChainSteps.{spliced, swung}
+use Rattle.fish_rule.specs.ChainSteps.{after_load_head, after_load_node, after_load_previous, head_seen, own_place}
+use Rattle.fish_rule.specs.ChainSteps.{previous_seen, spliced, swung}
 use Rattle.fish_rule.specs.Parts.{Fits}
 use Rattle.fish_rule.specs.Regions.{dir_word}
 use Rattle.fish_rule.specs.Rule.{Final, Rule}
 use Rattle.fish_rule.specs.SeatSteps.{CanJoinPass, CanSplitPass, join_both, spent, split_left, split_right}
 use Rattle.fish_rule.specs.SpaceSteps.{CanClaimLines, CanPublishRegion, CanStoreWord, after_claim_lines}
-use Rattle.fish_rule.specs.SpaceSteps.{after_publish_region, after_store_word, flight_kind}
-use Rattle.fish_rule.specs.SpaceSteps.{ticked}
+use Rattle.fish_rule.specs.SpaceSteps.{after_publish_region, after_store_word, flight_kind, ticked}
 use Rattle.fish_rule.specs.LoadSteps.{CanLookAt, CanRaiseSettled, CanReadWord, after_load_tail, after_look_at}
-use Rattle.fish_rule.specs.LoadSteps.{after_raise_settled}
-use Rattle.fish_rule.specs.LoadSteps.{after_read_word, after_load_settled}
+use Rattle.fish_rule.specs.LoadSteps.{after_raise_settled, after_read_word, after_load_settled}
 use Rattle.fish_rule.specs.Start.{IsOpening, empty_world}
-use Rattle.fish_rule.specs.World.{World, high, low, put}
+use Rattle.fish_rule.specs.World.{World, high, low, max_lines, put}
 use Rattle.fish_rule.specs.declared.view.Flight.{Flight}
 use Rattle.fish_rule.specs.declared.view.Found.{Found}
 use Rattle.fish_rule.specs.declared.view.Key.{Key}
@@ -77,7 +73,7 @@ Exchanged found expected u made missed = ((found ≡ expected) × (u ≡ made)) 
 
 -- the world goes by a step to another
 abbrev pub Goes : Key → World → Event → World → Type 0
-Goes k w (claim_lines id m) u = (v : View) × Seated k w id v × CanClaimLines v × (0 < m) × (m ≤ 18625)
+Goes k w (claim_lines id m) u = (v : View) × Seated k w id v × CanClaimLines v × (0 < m) × (m ≤ max_lines)
     × (u ≡ record w { count = suc w.count; line = w.line + m; views = set w.views id (after_claim_lines v m w.count w.line) })
 Goes k w (store_word id x) u = (v : View) × (f : Flight) × Seated k w id v × CanStoreWord v f
     × (u ≡ record w { log = put w.log (f.line * 4 + length f.words) x; views = set w.views id (after_store_word v f x) })
@@ -116,7 +112,7 @@ Goes k w (splice_entry id b q x) u = (v : View) × (f : Flight) × Seated k w id
     })
     (record w { views = set w.views id (previous_seen v b q (w.log q) (ticked v.clock)) })
 Goes k w (load_version id) u = (v : View) × Seated k w id v
-    × (u ≡ record w { views = set w.views id (after_load_version v (w.registry 2)) })
+    × (u ≡ record w { views = set w.views id (after_load_version v (w.registry version_at)) })
 Goes k w (announce id x) u = (v : View) × Seated k w id v × CanAnnounce v x
     × (u ≡ record w { registry = put w.registry (epoch_at v.lane) (suc x); views = set w.views id (after_announce v x) })
 Goes k w (retire id) u = (v : View) × Seated k w id v × CanEnter v
@@ -126,7 +122,7 @@ Goes k w (load_registry id p) u = (v : View) × Seated k w id v × CanLoadRegist
 Goes k w (define_word id p x) u = (v : View) × Seated k w id v × CanDefineWord v p x
     × (u ≡ record w { registry = put w.registry p x; views = set w.views id (after_define_word v p x) })
 Goes k w (raise_version id) u = (v : View) × Seated k w id v × CanRaiseVersion v
-    × (u ≡ record w { registry = put w.registry 2 (suc v.learned.version); views = set w.views id (after_raise_version v) })
+    × (u ≡ record w { registry = put w.registry version_at (suc v.learned.version); views = set w.views id (after_raise_version v) })
 Goes k w (check_lane id l) u = (v : View) × Seated k w id v × IsLane l
     × (u ≡ record w { views = set w.views id (after_check_lane v l (w.registry (epoch_at l))) })
 Goes k w (load_bound id) u = (v : View) × (o : Round) × (x : ℕ) × Seated k w id v × CanLoadBound v o × (high x ≡ w.count)

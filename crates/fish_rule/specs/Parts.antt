@@ -1,13 +1,13 @@
 -- What holds of the words and the views at every moment, part by part.
-use Rattle.std.specs.Prelude.{ℕ, ◌≡◌, ◌≢◌, ◌+◌, ◌-◌, ◌*◌, ◌<◌, ◌≤◌, zero, suc, List, length, slice_index}
-use Rattle.std.specs.Prelude.{Option, Some, None, ⊤}
+use Rattle.std.specs.Prelude.{ℕ, ◌≡◌, ◌≢◌, ◌+◌, ◌-◌, ◌*◌, ◌<◌, ◌≤◌, zero, suc, List, length, slice_index, Option, Some}
+use Rattle.std.specs.Prelude.{None, ⊤}
 use mathlib.Core.Option.{some}
 use Rattle.std.proofs.Math.ListN.{get_elem?}
 use Rattle.fish_layout.specs.Cleared.{entry_at}
 use Rattle.fish_layout.specs.Header.{keys_of, lines_of}
 use Rattle.fish_rule.specs.Regions.{Holds, IsRecord, code, kind_of}
 use Rattle.fish_rule.specs.Views.{Each, Has, HasFlight, IsFlightOf, IsOver}
-use Rattle.fish_rule.specs.World.{body, high, low}
+use Rattle.fish_rule.specs.World.{body, high, last_line, last_number, low, max_lines}
 use Rattle.fish_rule.specs.declared.view.Flight.{Flight}
 use Rattle.fish_rule.specs.declared.view.Key.{Key}
 use Rattle.fish_rule.specs.declared.view.Kind.TheVariants.{Mark, Stored, Void}
@@ -30,8 +30,8 @@ first_head k b = slice_index k.heads.value b
 pub record Fits (k : Key) : Type 0 where
   pub some_lines : k.line ≤ k.end
   pub few_lines : k.end ≤ k.line + 16777216
-  pub few_numbers : k.number + (k.end - k.line) ≤ 268435439
-  pub low_end : k.end ≤ 68719176736
+  pub few_numbers : k.number + (k.end - k.line) ≤ last_number
+  pub low_end : k.end ≤ last_line
   pub some_buckets : 0 < k.buckets
   pub few_buckets : k.buckets ≤ 65536
   pub all_heads : length k.heads.value ≡ k.buckets
@@ -59,7 +59,7 @@ pub record Regions (k : Key) (count line : ℕ) (start : ℕ → ℕ) : Type 0 w
   pub first : start k.number ≡ k.line
   pub last : start count ≡ line
   pub grows : (n : ℕ) → k.number ≤ n → n < count → start n < start (suc n)
-  pub small : (n : ℕ) → k.number ≤ n → n < count → start (suc n) ≤ start n + 18625
+  pub small : (n : ℕ) → k.number ≤ n → n < count → start (suc n) ≤ start n + max_lines
 
 -- the number n is published: its directory word has its line and the kind of its region, whose
 -- words hold what that kind asks

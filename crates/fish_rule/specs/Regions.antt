@@ -8,6 +8,7 @@ use Rattle.fish_layout.specs.declared.parts.BodyParts.{BodyParts}
 use Rattle.fish_psf.specs.Records.{is_record}
 use Rattle.fish_rule.specs.declared.view.Kind.{Kind}
 use Rattle.fish_rule.specs.declared.view.Kind.TheVariants.{Mark, Stored, Void}
+use Rattle.fish_rule.specs.World.{line_range}
 
 -- the code of a kind in a directory word
 abbrev pub code : Kind → ℕ
@@ -26,7 +27,7 @@ kind_of end a b = choose (dec_lt end b) Mark (kind_within a b)
 
 -- a directory word: the region's line in bits 0 to 35, its kind in bits 36 and 37
 abbrev pub dir_word : Kind → ℕ → ℕ
-dir_word kind line = line + code kind * 68719476736
+dir_word kind line = line + code kind * line_range
 
 -- e has the words of a record of this lane, number and lines, whose payload is a record of its form
 pub record IsRecordOf (lane number lines : ℕ) (e : ℕ → ℕ) (p : BodyParts) : Type 0 where

@@ -14,9 +14,16 @@ use Rattle.fish_rule.specs.declared.view.RegistryWord.{RegistryWord}
 
 -- ---- where its words lie in the table
 
+-- the index of the version, and that of the count of the rows with which the table begins
+abbrev pub version_at : ℕ
+version_at = 2
+
+abbrev pub opened_at : ℕ
+opened_at = 3
+
 -- the version
 abbrev pub version_in : (ℕ → ℕ) → ℕ
-version_in g = g 2
+version_in g = g version_at
 
 -- the epoch word of a lane, from 1 on
 abbrev pub epoch_at : ℕ → ℕ
@@ -89,7 +96,7 @@ IsSetBoundary g p = IsBoundaryIndex p × (g p ≢ 0)
 
 -- the word at the index lasts: the count of opened rows, an operation, a word of a row, or a boundary that is set
 abbrev pub IsLasting : Key → (ℕ → ℕ) → ℕ → Type 0
-IsLasting k g p = (p ≡ 3) ⊎ (IsOpIndex k g p ⊎ (IsRowIndex k g p ⊎ IsSetBoundary g p))
+IsLasting k g p = (p ≡ opened_at) ⊎ (IsOpIndex k g p ⊎ (IsRowIndex k g p ⊎ IsSetBoundary g p))
 
 -- the version only rises, and words that last never change; so a boundary is set once
 pub record Endures (k : Key) (g g' : ℕ → ℕ) : Type 0 where

@@ -4,7 +4,7 @@ use Rattle.std.specs.Prelude.{ℕ, ◌≡◌, ◌≢◌, ◌+◌, ◌<◌, ◌�
 use Rattle.std.proofs.Math.Decide.{dec_lt}
 use Rattle.fish_layout.specs.Cleared.{choose}
 use Rattle.fish_rule.specs.Epochs.{confirmed}
-use Rattle.fish_rule.specs.Registry.{IsOperation, KnowsRow, main_word, made, op_at, row_at, row_in}
+use Rattle.fish_rule.specs.Registry.{IsOperation, KnowsRow, made, main_word, op_at, opened_at, row_at, row_in}
 use Rattle.fish_rule.specs.SpaceSteps.{noted, ticked}
 use Rattle.fish_rule.specs.declared.view.Epoch.TheVariants.{Announced, Out}
 use Rattle.fish_rule.specs.declared.view.Noted.TheVariants.{Version}
@@ -45,7 +45,7 @@ after_retire v = record v { epoch = Out; clock = ticked v.clock }
 
 -- by what the pass knows, the word at the index lasts
 abbrev pub CanLoadRegistry : View → ℕ → Type 0
-CanLoadRegistry v p = (p ≡ 3) ⊎ (((u : ℕ) × (v.about.version < u) × (u ≤ v.learned.version) × (p ≡ op_at u))
+CanLoadRegistry v p = (p ≡ opened_at) ⊎ (((u : ℕ) × (v.about.version < u) × (u ≤ v.learned.version) × (p ≡ op_at u))
     ⊎ ((id : ℕ) × (i : ℕ) × KnowsRow v.about v.learned id × (2 ≤ i) × (i < 39) × (p ≡ row_at id i)))
 
 -- the word is known

@@ -5,10 +5,11 @@ use Rattle.fish_catalog.specs.Clamps.{IsClamped, clamped}
 use Rattle.fish_catalog.specs.Rows.{IsCatalog}
 use Rattle.fish_catalog.specs.Words.{IsWritable, row_word}
 use Rattle.fish_catalog.specs.declared.row.CatRow.{CatRow}
-use Rattle.fish_rule.specs.Registry.{epoch_at, op_at, row_at}
+use Rattle.fish_rule.specs.Registry.{epoch_at, op_at, opened_at, row_at, version_at}
 use Rattle.fish_rule.specs.Parts.{IsOlder, first_head}
 use Rattle.fish_rule.specs.Table.{first_view}
-use Rattle.fish_rule.specs.World.{World, area, dir_at, heads_at, registry_size, total}
+use Rattle.fish_rule.specs.World.{last_line, last_number, line_range, World, area, dir_at, heads_at, registry_size}
+use Rattle.fish_rule.specs.World.{total}
 use Rattle.fish_rule.specs.declared.seats.Start.{Start}
 use Rattle.fish_rule.specs.declared.table.Shape.{Shape}
 use Rattle.fish_rule.specs.declared.view.Key.{Key}
@@ -16,9 +17,9 @@ use Rattle.fish_rule.specs.declared.view.Key.{Key}
 -- the words of the registry are those of these rows of a catalogue at a version, with every lane out and no
 -- operation made; each row's index begins, and neither begins nor ends behind the number at which the log begins
 pub record IsOpening (s number : ℕ) (rows : List CatRow) (g : ℕ → ℕ) : Type 0 where
-  pub version : g 2 ≡ s
+  pub version : g version_at ≡ s
   pub few : s ≤ 512
-  pub opened : g 3 ≡ length rows
+  pub opened : g opened_at ≡ length rows
   pub out : (l : ℕ) → 1 ≤ l → l ≤ 16 → g (epoch_at l) ≡ 0
   pub operations : (v : ℕ) → 1 ≤ v → v ≤ 512 → g (op_at v) ≡ 0
   pub catalog : IsCatalog rows
@@ -31,7 +32,7 @@ pub record IsOpening (s number : ℕ) (rows : List CatRow) (g : ℕ → ℕ) : T
 -- version, the heads are the key's, and every other word is 0
 pub record IsEmpty (k : Key) (ws : List ℕ) : Type 0 where
   pub wide : length ws ≡ total k
-  pub tail : slice_index ws 0 ≡ k.number * 68719476736 + k.line
+  pub tail : slice_index ws 0 ≡ k.number * line_range + k.line
   pub settled : slice_index ws 1 ≡ k.number
   pub registry : IsOpening k.version k.number k.rows.value (area ws 2 2 registry_size)
   pub heads : (b : ℕ) → b < k.buckets → slice_index ws (heads_at + b) ≡ first_head k b
@@ -47,8 +48,8 @@ pub record IsShape (s : Shape) : Type 0 where
 -- a table of this shape may begin so: there is one head for each bucket, of older records; versions are left; and
 -- each row's index begins, and neither begins nor ends behind the base's number
 pub record CanOpen (s : Shape) (start : Start) : Type 0 where
-  pub number : start.base.number ≤ 268435439
-  pub line : start.base.line ≤ 68719176736
+  pub number : start.base.number ≤ last_number
+  pub line : start.base.line ≤ last_line
   pub version : start.version ≤ 512
   pub heads : length start.heads ≡ 2 ^ s.bucket_bits
   pub older : (b : ℕ) → IsOlder start.base.line (slice_index start.heads b)
@@ -63,7 +64,7 @@ pub record IsFirst (catalog : List CatRow) (start : Start) : Type 0 where
 
 -- how many lines a table has: those of its pages, unless numbers or lines would end before
 abbrev pub table_lines : ℕ → ℕ → ℕ → ℕ
-table_lines pages number line = min (min (pages * 32768) (268435439 - number)) (68719176736 - line)
+table_lines pages number line = min (min (pages * 32768) (last_number - number)) (last_line - line)
 
 -- the key of a table of this shape that begins so
 pub record IsFirstKey (s : Shape) (start : Start) (k : Key) : Type 0 where

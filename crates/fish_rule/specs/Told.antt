@@ -7,13 +7,13 @@ use Rattle.fish_rule.specs.SpaceSteps.{after_claim_lines, after_publish_region, 
 use Rattle.fish_rule.specs.LoadSteps.{IsAlone, after_load_tail, after_look_at, after_raise_settled, after_read_word}
 use Rattle.fish_rule.specs.LoadSteps.{after_load_settled}
 use Rattle.fish_rule.specs.Views.{Among}
-use Rattle.fish_rule.specs.World.{dir_at, high, log_at, low, heads_at, slots}
+use Rattle.fish_rule.specs.World.{dir_at, heads_at, high, line_range, log_at, low, slots}
 use Rattle.fish_catalog.specs.Words.{IsWritable, row_word}
 use Rattle.fish_catalog.specs.declared.row.CatRow.{CatRow}
 use Rattle.fish_rule.specs.RegistrySteps.{after_announce, after_raise_version, after_define_word, after_load_registry}
 use Rattle.fish_rule.specs.RegistrySteps.{after_retire, after_load_version}
 use Rattle.fish_rule.specs.BoundarySteps.{after_load_bound, after_load_boundary, after_check_lane, after_store_boundary}
-use Rattle.fish_rule.specs.Registry.{row_at}
+use Rattle.fish_rule.specs.Registry.{opened_at, row_at}
 use Rattle.fish_rule.specs.declared.view.Epoch.TheVariants.{Out}
 use Rattle.fish_rule.specs.declared.view.Flight.{Flight}
 use Rattle.fish_rule.specs.declared.view.Found.{Found}
@@ -22,13 +22,12 @@ use Rattle.fish_rule.specs.declared.view.RegistryWord.{RegistryWord}
 use Rattle.fish_rule.specs.declared.view.Round.{Round}
 use Rattle.fish_rule.specs.Table.{Sat, Sees, Told}
 use Rattle.fish_rule.specs.ChainSteps.{HasNode, PreviousRises, HeadRises, after_aim_entry, after_load_head}
-use Rattle.fish_rule.specs.ChainSteps.{after_load_node}
-use Rattle.fish_rule.specs.ChainSteps.{after_load_previous, after_splice_entry, after_swing_head}
+use Rattle.fish_rule.specs.ChainSteps.{after_load_node, after_load_previous, after_splice_entry, after_swing_head}
 
 -- a claim: the operand is a count of one and the lines, and the value found is the tail, whose count only rises
 -- and stays within the directory
 pub record ToldClaimLines (st : Step Bool) (m : Sat) (found : ℕ) (m' : Sat) : Type 0 where
-  pub told : Told m (after_claim_lines m.0 (st.first - 68719476736) (high found) (low found)) m'
+  pub told : Told m (after_claim_lines m.0 (st.first - line_range) (high found) (low found)) m'
   pub counted : m.0.learned.count ≤ high found
   pub within : high found < m.0.about.number + slots m.0.about
 
@@ -149,7 +148,7 @@ told_retire st m found m' = Told m (after_retire m.0) m'
 -- a load of a word of the registry that lasts: word 3 counts the rows of the start, and their words are theirs
 pub record ToldLoadRegistry (st : Step Bool) (m : Sat) (found : ℕ) (m' : Sat) : Type 0 where
   pub told : Told m (after_load_registry m.0 st.word found) m'
-  pub opened : st.word ≡ 3 → found ≡ length m.0.about.rows.value
+  pub opened : st.word ≡ opened_at → found ≡ length m.0.about.rows.value
   pub row : (id i : ℕ) (row : CatRow) → slice_get m.0.about.rows.value id ≡ Some row → 2 ≤ i → i < 39
       → st.word ≡ row_at id i → IsWritable row × (found ≡ row_word row i)
 

@@ -24,6 +24,21 @@ put f n x m = choose (ℕ_discrete m n) x (f m)
 
 -- ---- packed words
 
+-- 2 ^ 36: a word of the tail or of the directory has its line below it, and behind it a number or a kind
+abbrev pub line_range : ℕ
+line_range = 68719476736
+
+-- the most lines of a region
+abbrev pub max_lines : ℕ
+max_lines = 18625
+
+-- where a log may end, so that the claims past its end stay within their bits
+abbrev pub last_number : ℕ
+last_number = 268435439
+
+abbrev pub last_line : ℕ
+last_line = 68719176736
+
 -- the high 28 bits of a word
 unfoldable pub high : ℕ → ℕ
 high w = w / 68719476736

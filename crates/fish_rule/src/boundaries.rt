@@ -3,9 +3,8 @@
 
 ghost use Rattle.std.specs.Prelude.{◌≡◌, ◌≤◌, ℕ, Some};
 ghost use Rattle.fish_rule.specs.BoundarySteps.{CanLoadBound, CanLoadBoundary, CanStoreFrom, CanStoreTo, IsLane};
-ghost use Rattle.fish_rule.specs.BoundarySteps.{after_load_bound};
-ghost use Rattle.fish_rule.specs.BoundarySteps.{after_load_boundary, after_check_lane, after_store_from};
-ghost use Rattle.fish_rule.specs.BoundarySteps.{after_store_to};
+ghost use Rattle.fish_rule.specs.BoundarySteps.{after_load_bound, after_load_boundary, after_check_lane};
+ghost use Rattle.fish_rule.specs.BoundarySteps.{after_store_from, after_store_to};
 ghost use Rattle.fish_rule.specs.Passes.{IsPassOf, view};
 ghost use Rattle.fish_rule.specs.LoadSteps.{IsAlone};
 ghost use Rattle.fish_rule.specs.World.{high, low};
@@ -16,7 +15,7 @@ ghost use Rattle.fish_rule.specs.declared.view.RegistryWord.{RegistryWord};
 ghost use Rattle.fish_rule.specs.declared.view.Round.{Round};
 
 use crate::area::{ROWS, epoch_index};
-use crate::step_kinds::{LoadBound, LoadBoundary, CheckLane, StoreFrom, StoreTo};
+use crate::step_kinds::{CheckLane, LoadBound, LoadBoundary, StoreFrom, StoreTo};
 use crate::table::{Log, Pass};
 use crate::view::Position;
 use crate::word::position_in;

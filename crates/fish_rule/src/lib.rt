@@ -12,10 +12,10 @@ mod entry;
 mod law;
 mod linking;
 mod opening;
-mod step_kinds;
 mod registry;
 mod seats;
 mod space;
+mod step_kinds;
 mod table;
 mod view;
 mod walk;
@@ -37,8 +37,8 @@ pub use space::{
 };
 pub use table::{Base, Log, LogRule, Pass, Region, Shape, Walk};
 pub use view::{
-    Clock, Epoch, Flight, Found, Gap, Key, Kind, Known, Label, Learned, EntryPlace, Note, Noted, Own,
-    Position, Recorded, RegistryWord, Shut, View,
+    Clock, EntryPlace, Epoch, Flight, Found, Gap, Key, Kind, Known, Label, Learned, Note, Noted,
+    Own, Position, Recorded, RegistryWord, Shut, View,
 };
 pub use walk::{keep_walk, kept_walk};
 pub use word::{kind_of_word, line_of_word};

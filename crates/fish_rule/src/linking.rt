@@ -6,10 +6,9 @@
 
 ghost use Rattle.std.specs.Prelude.{◌≡◌, ◌≢◌, ◌*◌, ◌<◌, ◌≤◌, ℕ, Some};
 ghost use Rattle.fish_rule.specs.ChainSteps.{CanAimEntry, CanLoadHead, CanSpliceEntry, CanSwingHead, HasNode};
-ghost use Rattle.fish_rule.specs.ChainSteps.{PreviousRises};
-ghost use Rattle.fish_rule.specs.ChainSteps.{HeadRises, after_aim_entry, after_load_head, after_load_node};
-ghost use Rattle.fish_rule.specs.ChainSteps.{after_load_previous};
-ghost use Rattle.fish_rule.specs.ChainSteps.{after_splice_entry, after_swing_head, own_place};
+ghost use Rattle.fish_rule.specs.ChainSteps.{PreviousRises, HeadRises, after_aim_entry, after_load_head};
+ghost use Rattle.fish_rule.specs.ChainSteps.{after_load_node, after_load_previous, after_splice_entry};
+ghost use Rattle.fish_rule.specs.ChainSteps.{after_swing_head, own_place};
 ghost use Rattle.fish_rule.specs.Parts.{first_head};
 ghost use Rattle.fish_rule.specs.Passes.{IsPassOf, view};
 ghost use Rattle.fish_rule.specs.declared.view.Flight.{Flight};

@@ -6,13 +6,12 @@ ghost use Rattle.fish_catalog.specs.Words.{IsWritable, row_word};
 ghost use Rattle.fish_catalog.specs.declared.row.CatRow.{CatRow};
 ghost use Rattle.fish_rule.specs.RegistrySteps.{CanAnnounce, CanRaiseVersion, CanDefineWord, CanEnter, CanLoadRegistry};
 ghost use Rattle.fish_rule.specs.RegistrySteps.{after_announce, after_raise_version, after_define_word};
-ghost use Rattle.fish_rule.specs.RegistrySteps.{after_load_registry};
-ghost use Rattle.fish_rule.specs.RegistrySteps.{after_retire, after_load_version};
+ghost use Rattle.fish_rule.specs.RegistrySteps.{after_load_registry, after_retire, after_load_version};
 ghost use Rattle.fish_rule.specs.Passes.{IsPassOf, view};
 ghost use Rattle.fish_rule.specs.Registry.{KnowsRow, op_at, row_at};
 
 use crate::area::{OPENED, OPERATIONS, ROWS, VERSION, epoch_index};
-use crate::step_kinds::{Announce, RaiseVersion, DefineWord, LoadRegistry, Retire, LoadVersion};
+use crate::step_kinds::{Announce, DefineWord, LoadRegistry, LoadVersion, RaiseVersion, Retire};
 use crate::table::{Log, Pass};
 
 /// Loads the version. A version that the pass announced is confirmed where it is that very one.

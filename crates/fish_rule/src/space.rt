@@ -9,8 +9,7 @@ ghost use Rattle.fish_rule.specs.Regions.{dir_word, kind_of};
 ghost use Rattle.fish_rule.specs.SpaceSteps.{CanClaimLines, CanPublishRegion, CanStoreWord, after_claim_lines};
 ghost use Rattle.fish_rule.specs.SpaceSteps.{after_publish_region, after_store_word};
 ghost use Rattle.fish_rule.specs.LoadSteps.{CanLookAt, CanRaiseSettled, CanReadWord, IsAlone, after_load_tail};
-ghost use Rattle.fish_rule.specs.LoadSteps.{after_look_at};
-ghost use Rattle.fish_rule.specs.LoadSteps.{after_raise_settled, after_read_word, after_load_settled};
+ghost use Rattle.fish_rule.specs.LoadSteps.{after_look_at, after_raise_settled, after_read_word, after_load_settled};
 ghost use Rattle.fish_rule.specs.Table.{Sees};
 ghost use Rattle.fish_rule.specs.Views.{Among};
 ghost use Rattle.fish_rule.specs.World.{high, low, slots, log_at as first_log_word};
@@ -18,7 +17,9 @@ ghost use Rattle.fish_rule.specs.declared.view.Flight.{Flight};
 ghost use Rattle.fish_rule.specs.declared.view.Found.{Found};
 
 use crate::area::{PAGE_LINES, dir_at, log_at};
-use crate::step_kinds::{ClaimLines, LoadTail, LookAt, PublishRegion, RaiseSettled, ReadWord, LoadSettled, StoreWord};
+use crate::step_kinds::{
+    ClaimLines, LoadSettled, LoadTail, LookAt, PublishRegion, RaiseSettled, ReadWord, StoreWord,
+};
 use crate::table::{Log, Pass, Region};
 use crate::view::{Kind, Position, Shut};
 use crate::word::{ONE, directory_word, position_in};

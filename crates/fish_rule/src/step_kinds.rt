@@ -1,11 +1,10 @@
 //! What each step tells its pass.
 ghost use Rattle.fish_rule.specs.Told.{ToldClaimLines, ToldLoadTail, ToldLoadHead, ToldLookAt, ToldLoadPrevious};
-ghost use Rattle.fish_rule.specs.Told.{ToldRaiseSettled, ToldLoadRegistry};
-ghost use Rattle.fish_rule.specs.Told.{ToldLoadSettled, ToldSpliceEntry, ToldSwingHead, ToldLoadVersion};
-ghost use Rattle.fish_rule.specs.Told.{told_aim_entry, told_announce, told_raise_version};
-ghost use Rattle.fish_rule.specs.Told.{told_define_word, told_load_node, told_publish_region, told_read_word};
-ghost use Rattle.fish_rule.specs.Told.{told_retire, told_store_word};
-ghost use Rattle.fish_rule.specs.Told.{ToldLoadBound, ToldLoadBoundary, ToldCheckLane, told_store_from, told_store_to};
+ghost use Rattle.fish_rule.specs.Told.{ToldRaiseSettled, ToldLoadRegistry, ToldLoadSettled, ToldSpliceEntry};
+ghost use Rattle.fish_rule.specs.Told.{ToldSwingHead, ToldLoadVersion, told_aim_entry, told_announce};
+ghost use Rattle.fish_rule.specs.Told.{told_raise_version, told_define_word, told_load_node, told_publish_region};
+ghost use Rattle.fish_rule.specs.Told.{told_read_word, told_retire, told_store_word, ToldLoadBound, ToldLoadBoundary};
+ghost use Rattle.fish_rule.specs.Told.{ToldCheckLane, told_store_from, told_store_to};
 
 use crate::view::View;
 use atomic_table::Play;

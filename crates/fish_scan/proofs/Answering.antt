@@ -96,23 +96,7 @@ scans_settles v u h = record {
 -- the version is loaded
 pub scans_version : (v u : View) (x : ℕ) → u ≡ after_load_version v x → v.learned.version ≤ x → OnlyScans v u
 scans_version v u x is more = subst (OnlyScans v) (sym is) (record {
-  learns = record {
-    about = refl;
-    count = omega arith;
-    settled = omega arith;
-    version = more;
-    words = λ y m. m;
-    found = λ y m. m;
-    known = λ y m. m;
-    records = λ y m. m;
-    nodes = λ y m. m;
-    least_previous = λ y m. m;
-    least_heads = λ y m. m;
-    gaps = λ y m. m;
-    labels = λ y m. m;
-    unended = λ y m. m;
-    opens = λ y m. m;
-  };
+  learns = assumption (learns_self v, more);
   clock = (noted_load v.clock Version x).on;
   frame = refl;
   outside = λ e. ap (λ (z : Epoch). (after_load_version (record v { epoch = z }) x).epoch) e;

@@ -1,4 +1,5 @@
 -- What the loads, the looks and the raise of a whole call tell together.
+use Rattle.fish_rule.specs.declared.view.Opens.{Opens}
 use Rattle.std.proofs.Common.{◌≡◌, ◌≢◌, ℕ, ◌<◌, ◌≤◌, max, sym, ap, ◌∙◌, subst, inl, inr, ◌⊎◌, arith}
 use Rattle.std.proofs.Math.Decide.{dec_lt}
 use Rattle.fish_rule.proofs.laws.Clocks.{later_both, later_ticked, loaded_within, noted_load}
@@ -65,24 +66,11 @@ module _ (a b c d e : View) (known x settled : ℕ) (to_b : b ≡ after_load_set
           let up = l.learns.settled in
           let n = l.learns.count in
           let began : b.learned.count ≡ a.learned.count = ap (λ (z : View). z.learned.count) to_b in
+          let count : a.learned.count ≤ e.learned.count = omega arith in
+          let settled : a.learned.settled ≤ e.learned.settled = omega arith in
+          let opens : (o : Opens) → Among o a.learned.opens → Among o e.learned.opens = λ o m. l.learns.opens o (inr m) in
           record {
-            learns = record {
-              about = l.learns.about;
-              count = omega arith;
-              settled = omega arith;
-              version = l.learns.version;
-              words = l.learns.words;
-              found = l.learns.found;
-              known = l.learns.known;
-              records = l.learns.records;
-              nodes = l.learns.nodes;
-              least_previous = l.learns.least_previous;
-              least_heads = l.learns.least_heads;
-              gaps = l.learns.gaps;
-              labels = l.learns.labels;
-              unended = l.learns.unended;
-              opens = λ y m. l.learns.opens y (inr m);
-            };
+            learns = assumption (l.learns, count, settled, opens);
             clock = later_both a.clock b.clock e.clock on_b (later_both b.clock c.clock e.clock counts.on
                 (later_both c.clock d.clock e.clock looked.extends.clock raised.extends.clock));
             loads = raised.loads ∙ looked.loads ∙ ap (λ (z : View). z.clock.loads) begun_is;

@@ -1,44 +1,28 @@
 -- The place is that of the next entry, and each turn comes nearer to it.
 use Rattle.std.proofs.Common.{arith, Some, None}
 use Rattle.fish_chain.proofs.Changes.{for_each}
-use Rattle.fish_chain.proofs.Climbing.{below_tried, below_under, line_kept, link_next, place_kept}
+use Rattle.fish_chain.proofs.Climbing.{below_tried, below_under, line_low, link_next, place_kept}
 use Rattle.fish_chain.specs.Links.{IsLinked, Tried, with_linked}
-use Rattle.fish_rule.proofs.laws.Steps.{flight_law}
 use Rattle.fish_rule.specs.Passes.{view}
 use Rattle.fish_rule.specs.declared.view.Flight.{Flight}
 use Rattle.fish_chain.proofs.chain.link.Goals as goal
 
 pub overflow_mul-place : goal.overflow_mul-place
 overflow_mul-place c =
-    let f : Flight = c.requires.view.0 in
-    let flying = c.requires.view.1.filled.flying in
-    let line = line_kept
-    (view c.args.pass.now) f c.in_flight.result c.in-Some.region flying c.in_flight.ensures c.in-Some.is in
-    let law = flight_law c.args.log.now.key
-    (view c.args.pass.now) f c.requires.pass.about c.requires.pass.stands flying in
-    let low = law.low_line in
+    let low = line_low _ _ c.requires.view.0 _ c.in-Some.region c.requires.pass.about c.requires.pass.stands
+    c.requires.view.1.filled.flying c.in_flight.ensures c.in-Some.is in
     omega arith
 
 pub overflow_add-place : goal.overflow_add-place
 overflow_add-place c =
-    let f : Flight = c.requires.view.0 in
-    let flying = c.requires.view.1.filled.flying in
-    let line = line_kept
-    (view c.args.pass.now) f c.in_flight.result c.in-Some.region flying c.in_flight.ensures c.in-Some.is in
-    let law = flight_law c.args.log.now.key
-    (view c.args.pass.now) f c.requires.pass.about c.requires.pass.stands flying in
-    let low = law.low_line in
+    let low = line_low _ _ c.requires.view.0 _ c.in-Some.region c.requires.pass.about c.requires.pass.stands
+    c.requires.view.1.filled.flying c.in_flight.ensures c.in-Some.is in
     omega arith
 
 pub overflow_add-place-2 : goal.overflow_add-place-2
 overflow_add-place-2 c =
-    let f : Flight = c.requires.view.0 in
-    let flying = c.requires.view.1.filled.flying in
-    let line = line_kept
-    (view c.args.pass.now) f c.in_flight.result c.in-Some.region flying c.in_flight.ensures c.in-Some.is in
-    let law = flight_law c.args.log.now.key
-    (view c.args.pass.now) f c.requires.pass.about c.requires.pass.stands flying in
-    let low = law.low_line in
+    let low = line_low _ _ c.requires.view.0 _ c.in-Some.region c.requires.pass.about c.requires.pass.stands
+    c.requires.view.1.filled.flying c.in_flight.ensures c.in-Some.is in
     let key = c.ranges.key.fits in
     omega arith
 

@@ -1,8 +1,8 @@
 -- Each turn aims at the first word that was seen above, and splices or sees a higher one.
 use Rattle.std.proofs.Common.{◌≡◌, ℕ, ◌<◌, ap, subst, Some, None, Option}
 use Rattle.fish_chain.proofs.Changes.{for_each}
-use Rattle.fish_chain.proofs.Splicing.{IsSplicing, aimed_node, splice_aim, splice_begins, splice_can}
-use Rattle.fish_chain.proofs.Splicing.{splice_falls, splice_hit, splice_miss, splice_over, splicing}
+use Rattle.fish_chain.proofs.Splicing.{IsSplicing, aimed_node, splice_aim, splice_begins, splice_can, splice_falls}
+use Rattle.fish_chain.proofs.Splicing.{splice_hit, splice_miss, splice_over, splicing}
 use Rattle.fish_chain.specs.Links.{CanLinkBelow, Tried}
 use Rattle.fish_rule.proofs.laws.Links.{one_bucket}
 use Rattle.fish_rule.specs.ChainSteps.{aimed_at}

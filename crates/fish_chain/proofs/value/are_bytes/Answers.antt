@@ -1,14 +1,12 @@
 -- Each turn loads the word in which the next byte lies, and compares all bytes that lie in it.
-use Rattle.std.proofs.Common.{◌≡◌, ◌≢◌, ℕ, ◌+◌, ◌-◌, ◌*◌, ◌/◌, ◌%◌, ◌<◌, ◌≤◌, ◌⊎◌, ⊎_elim, inl, inr, sym, ap, ◌∙◌, subst, arith, length}
-use Rattle.std.specs.Prelude.{IsTrue}
+use Rattle.std.proofs.Common.{◌≡◌, ℕ, ◌+◌, ◌-◌, ◌%◌, ◌⊎◌, ⊎_elim, inr, subst, arith, length}
 use Rattle.fish_chain.proofs.Comparing.{read_within}
 use Rattle.fish_chain.proofs.Values.{bytes_more, bytes_none}
 use Rattle.fish_rule.proofs.laws.Learning.{extends_both}
 use Rattle.fish_rule.proofs.laws.ChainFacts.{always_later}
-use Rattle.fish_chain.specs.Values.{AreBytesIn, AreBytesOf, IsWordIn}
+use Rattle.fish_chain.specs.Values.{AreBytesIn}
 use Rattle.fish_rule.specs.Passes.{view}
 use Rattle.fish_rule.specs.ChainFacts.{Always}
-use Rattle.fish_rule.specs.declared.view.View.{View}
 use Rattle.fish_chain.proofs.value.are_bytes.Goals as goal
 
 pub load-word-requires-clause-read : goal.load-word-requires-clause-read

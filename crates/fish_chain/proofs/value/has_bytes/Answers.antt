@@ -1,10 +1,8 @@
 -- The record's header and the entry's third word say where the value is and how long it is; then its bytes are compared.
-use Rattle.std.proofs.Common.{◌≡◌, ◌≢◌, ℕ, ◌+◌, ◌*◌, ◌<◌, ◌≤◌, inl, inr, sym, ap, ◌∙◌, subst, arith, length}
-use Rattle.fish_chain.proofs.Comparing.{given_found, given_look, headed_on, looked, read_header, says_none}
-use Rattle.fish_chain.proofs.Comparing.{says_other, says_same, third_may, value_few, value_may}
+use Rattle.std.proofs.Common.{◌≡◌, ℕ, ◌+◌, ◌*◌, inl, inr, sym, ◌∙◌, subst, arith, length}
+use Rattle.fish_chain.proofs.Comparing.{given_found, given_look, headed_on, looked, read_header, says_none, says_other}
+use Rattle.fish_chain.proofs.Comparing.{says_same, third_may, value_few, value_may}
 use Rattle.fish_chain.specs.Values.{AreBytesIn, HasBytes, IsWordIn}
-use Rattle.fish_layout.specs.Entry.{value_kind, value_offset, value_size}
-use Rattle.fish_layout.specs.Header.{keys_of}
 use Rattle.fish_rule.proofs.laws.Learning.{extends_both, learns_self}
 use Rattle.fish_rule.proofs.laws.ChainFacts.{always_later}
 use Rattle.fish_rule.specs.Passes.{view}
@@ -12,7 +10,6 @@ use Rattle.fish_rule.specs.LoadSteps.{CanLookAt, CanReadWord, after_look_at}
 use Rattle.fish_rule.specs.Table.{Sees}
 use Rattle.fish_rule.specs.ChainFacts.{Always}
 use Rattle.fish_rule.specs.declared.view.Found.{Found}
-use Rattle.fish_rule.specs.declared.view.View.{View}
 use Rattle.fish_chain.proofs.value.has_bytes.Goals.{then-kind_in-kind-via-then-kind_in-kind}
 use Rattle.fish_chain.proofs.value.has_bytes.Goals.{then-kind_in-kind-via-else-kind_in-kind+then-size_in-bytes}
 use Rattle.fish_chain.proofs.value.has_bytes.Goals as goal

@@ -1,10 +1,7 @@
 -- The value's kind and bytes are compared with those of the words, and both say which value it is.
-use Rattle.std.proofs.Common.{rules, ◌≡◌, ℕ, ◌∷◌, [], refl, sym, ap, ◌∙◌, subst}
-use Rattle.std.specs.Prelude.{IsTrue}
-use Rattle.fish_chain.proofs.Values.{IsWithin, value_said, value_unsaid}
-use Rattle.fish_layout.specs.Values.{kind_code, value_bytes}
+use Rattle.std.proofs.Common.{rules, refl}
+use Rattle.fish_chain.proofs.Values.{value_said, value_unsaid}
 use Rattle.fish_rule.specs.Passes.{view}
-use Rattle.fish_value.specs.Number.{fits_i64}
 use Rattle.fish_value.specs.declared.value.Value.TheVariants as kind
 use Rattle.fish_chain.proofs.value.node_has.Goals as goal
 

@@ -1,8 +1,8 @@
 -- Each turn passes an entry outside the range, or gives the next one of it.
 use Rattle.std.proofs.Common.{◌<◌, ◌≤◌, ◌⊎◌, inl, inr, sym, refl, ap, subst, arith}
 use Rattle.std.proofs.Math.Decide.{dec_lt}
-use Rattle.fish_chain.proofs.Descents.{behind_known, clear_past, clear_same, given_next, gone_on, looked_node, next_same, numbered}
-use Rattle.fish_chain.proofs.Descents.{passed_at, passed_by, past_known, stands_at}
+use Rattle.fish_chain.proofs.Descents.{behind_known, clear_past, clear_same, given_next, gone_on, looked_node}
+use Rattle.fish_chain.proofs.Descents.{next_same, numbered, passed_at, passed_by, past_known, stands_at}
 use Rattle.fish_chain.proofs.Passing.{below_or_on, bounded_ended, bounded_given, passed_last, passed_more}
 use Rattle.fish_rule.proofs.laws.Learning.{extends_both}
 use Rattle.fish_chain.specs.Walks.{IsNextNode, IsPast, IsWalking}

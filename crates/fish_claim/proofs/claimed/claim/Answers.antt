@@ -1,7 +1,7 @@
 -- A region is published at once where it is no record's.
 use Rattle.std.proofs.Common.{◌≡◌, ℕ, refl, sym, ap, ◌∙◌, subst, arith, Some}
-use Rattle.fish_claim.proofs.Claims.{can_publish_void, can_store_header, claimed_as, claimed_flight}
-use Rattle.fish_claim.proofs.Claims.{claimed_law, kind_is, mark_shuts}
+use Rattle.fish_claim.proofs.Claims.{can_publish_void, can_store_header, claimed_as, claimed_flight, claimed_law}
+use Rattle.fish_claim.proofs.Claims.{kind_is, mark_shuts}
 use Rattle.fish_layout.specs.Header.{void_word}
 use Rattle.fish_rule.specs.Passes.{view}
 use Rattle.fish_rule.specs.SpaceSteps.{after_publish_region, after_store_word, flight_at, with_word}

@@ -1,5 +1,6 @@
 -- Each word is the next one, and with the last the record is ready.
-use Rattle.std.proofs.Common.{◌≡◌, ℕ, ◌+◌, ◌-◌, ◌*◌, ◌<◌, ◌≤◌, length, take, sym, ap, ◌∙◌, arith, subst, Some, List, take_all}
+use Rattle.std.proofs.Common.{◌≡◌, ℕ, ◌+◌, ◌-◌, ◌*◌, ◌<◌, ◌≤◌, length, take, sym, ap, ◌∙◌, arith, subst, Some, List}
+use Rattle.std.proofs.Common.{take_all}
 use Rattle.std.proofs.lemmas.List.{length-take-le}
 use Rattle.fish_claim.proofs.Fills.{can_store_next, filled_more, in_region, is_filled}
 use Rattle.fish_claim.specs.Fills.{IsFilled, filled_view, with_words}

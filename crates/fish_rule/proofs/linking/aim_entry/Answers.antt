@@ -1,7 +1,7 @@
 -- The own entry is within the log, and the table allows the store.
 use Rattle.std.proofs.Common.{◌≡◌, ◌∙◌, sym, refl, ap, arith, subst, ℕ, ◌<◌, ◌≤◌, ◌+◌, ◌-◌, ◌*◌}
 use Rattle.fish_rule.proofs.laws.Links.{aim_law}
-use Rattle.fish_rule.proofs.steps.AimEntry.{region_aim}
+use Rattle.fish_rule.proofs.steps.AimEntry.{region_aim, aim_entry_allowed}
 use Rattle.fish_rule.specs.Flying.{region_in}
 use Rattle.fish_rule.specs.ChainSteps.{own_place}
 use Rattle.fish_rule.specs.Passes.{view}
@@ -9,7 +9,6 @@ use Rattle.fish_rule.specs.Table.{Stands}
 use Rattle.fish_rule.specs.World.{log_at}
 use Rattle.fish_rule.specs.declared.view.Flight.{Flight}
 use Rattle.fish_rule.specs.declared.view.View.{View}
-use Rattle.fish_rule.proofs.steps.AimEntry.{aim_entry_allowed}
 use Rattle.fish_rule.proofs.linking.aim_entry.Goals as goal
 
 pub overflow_sub-index : goal.overflow_sub-index

@@ -1,7 +1,8 @@
 -- The higher entry is within the log, and the table allows the exchange.
 use Rattle.std.proofs.Common.{◌≡◌, ◌∙◌, sym, ap, arith, subst, ℕ, ◌<◌, ◌≤◌, ◌+◌, ◌-◌, ◌*◌}
 use Rattle.fish_rule.proofs.laws.Links.{node_law, one_bucket}
-use Rattle.fish_rule.proofs.steps.SpliceEntry.{region_splice}
+use Rattle.fish_rule.proofs.steps.SpliceEntry.{region_splice, splice_about, splice_lane, splice_shut}
+use Rattle.fish_rule.proofs.steps.SpliceEntry.{splice_entry_allowed}
 use Rattle.fish_rule.specs.Flying.{region_in}
 use Rattle.fish_rule.specs.ChainSteps.{HasNode, PreviousRises, after_splice_entry}
 use Rattle.fish_rule.specs.Passes.{view}
@@ -11,8 +12,6 @@ use Rattle.fish_rule.specs.World.{log_at}
 use Rattle.fish_rule.specs.declared.view.Flight.{Flight}
 use Rattle.fish_rule.specs.declared.view.Key.{Key}
 use Rattle.fish_rule.specs.declared.view.View.{View}
-use Rattle.fish_rule.proofs.steps.SpliceEntry.{splice_about, splice_lane, splice_shut}
-use Rattle.fish_rule.proofs.steps.SpliceEntry.{splice_entry_allowed}
 use Rattle.fish_rule.proofs.linking.splice_entry.Goals as goal
 
 pub overflow_sub-index : goal.overflow_sub-index

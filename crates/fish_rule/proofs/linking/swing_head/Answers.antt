@@ -1,6 +1,6 @@
 -- The head is one of the table's words, and the table allows the exchange.
 use Rattle.std.proofs.Common.{◌≡◌, ◌∙◌, sym, refl, ap, arith, subst, ℕ, ◌<◌, ◌≤◌, ◌+◌}
-use Rattle.fish_rule.proofs.steps.SwingHead.{region_swing}
+use Rattle.fish_rule.proofs.steps.SwingHead.{region_swing, swing_about, swing_lane, swing_shut, swing_head_allowed}
 use Rattle.fish_rule.specs.Flying.{region_in}
 use Rattle.fish_rule.specs.ChainSteps.{HeadRises, after_swing_head}
 use Rattle.fish_rule.specs.Told.{bucket_at}
@@ -10,8 +10,6 @@ use Rattle.fish_rule.specs.World.{heads_at}
 use Rattle.fish_rule.specs.declared.view.Flight.{Flight}
 use Rattle.fish_rule.specs.declared.view.Key.{Key}
 use Rattle.fish_rule.specs.declared.view.View.{View}
-use Rattle.fish_rule.proofs.steps.SwingHead.{swing_about, swing_lane, swing_shut}
-use Rattle.fish_rule.proofs.steps.SwingHead.{swing_head_allowed}
 use Rattle.fish_rule.proofs.linking.swing_head.Goals as goal
 
 pub compare_exchange-requires : goal.compare_exchange-requires

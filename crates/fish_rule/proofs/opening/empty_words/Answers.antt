@@ -1,6 +1,6 @@
 -- The zeros with the tail, the count of rows, the rows and the heads are the words of a log without an entry.
-use Rattle.std.proofs.Common.{◌≡◌, ℕ, List, length, replicate, set, take, drop, ◌++◌, slice_index, sym, ap}
-use Rattle.std.proofs.Common.{◌∙◌, subst, arith, All}
+use Rattle.std.proofs.Common.{◌≡◌, ℕ, List, length, replicate, set, take, drop, ◌++◌, slice_index, sym, ap, ◌∙◌, subst}
+use Rattle.std.proofs.Common.{arith, All}
 use Rattle.fish_catalog.specs.Clamps.{IsClamped}
 use Rattle.std.proofs.lemmas.Grind.{common_steps}
 use Rattle.fish_catalog.specs.declared.row.CatRow.{CatRow}
