@@ -95,6 +95,7 @@ pub record IsCauseTold (v u : View) (end : ℕ) (ask : Ask) (refused : List ℕ 
 abbrev pub TellsSingle : View → View → ℕ → Work → Item → Type 0
 TellsSingle v u end (work.Scan ask) x = IsScanWork v u end ask x ⊎ IsCauseTold v u end ask item.ScanRefused x
 TellsSingle v u end (work.Explain ask) x = IsPlanTold v u end ask x ⊎ IsCauseTold v u end ask item.ExplainRefused x
+TellsSingle v u end work.Checkpoint x = x ≡ item.Checkpointed end
 TellsSingle v u end w x = ⊤
 
 -- where one statement is all that was to do, its item
@@ -103,8 +104,9 @@ TellsOnly v u end works items = (w : Work) → works ≡ w ∷ [] → AllOf (Tel
 
 -- ---- without the pass
 
--- the range that an item tells of is all that is asked for of a log that ends at this number
+-- the range that an item tells of is all that is asked for of a log that ends at this number; a checkpoint tells that number
 abbrev pub TellsWhole : ℕ → Work → Item → Type 0
 TellsWhole end (work.Scan ask) (item.Scanned name value from to opens rows version) = IsWhole ask end from to
 TellsWhole end (work.Explain ask) (item.Explained name value from to plan version) = IsWhole ask end from to
+TellsWhole end work.Checkpoint x = x ≡ item.Checkpointed end
 TellsWhole end w x = ⊤
