@@ -72,15 +72,15 @@ ends_within : (u : View) (n count : ℕ) → EndsAt u n count → n ≤ count
 ends_within u n count h =
     ⊎_elim (λ (e : n ≡ count). omega arith) (λ (m : (n < count) × TellsMark u n). let less = m.0 in omega arith) h
 
--- the settled number of a scan by a pass that is alone is where the log ended
-exact_end : (v u : View) (end settled count last : ℕ) (to : Option ℕ) (opens : List ℕ) → HasEnd v end → Learns v u → Stands u
-    → v.learned.settled ≤ settled → settled ≤ u.learned.settled → IsExact v u to count settled last opens → settled ≡ end
-exact_end v u end settled count last to opens h learns s least most x =
+-- the settled number that a pass finds which is alone is where the log ended
+same_end : (v u : View) (end settled count : ℕ) → HasEnd v end → Learns v u → Stands u → v.learned.settled ≤ settled
+    → settled ≤ u.learned.settled → IsTailCount count v.tail → EndsAt u settled count → settled ≡ end
+same_end v u end settled count h learns s least most counted ends =
     let tail = h.tail in
-    let same : high tail.0 ≡ count = subst (IsTailCount count) tail.1 x.counted in
+    let same : high tail.0 ≡ count = subst (IsTailCount count) tail.1 counted in
     let known : high tail.0 ≡ h.count = tail.2 in
     let low = h.settled in
-    let up = ends_within u settled count x.ends in
+    let up = ends_within u settled count ends in
     ⊎_elim (λ (e : end ≡ h.count). omega arith)
     (λ (m : (end < h.count) × TellsMark v end). pick m.1 (dec_lt end settled)) h.ends
   where
@@ -90,6 +90,12 @@ exact_end v u end settled count last to opens h learns s least most x =
         let floor = s.rule.floors s.seat u s.at in
         let base : u.about.number ≡ 0 = ap (λ (z : Key). z.number) learns.about ∙ h.base in
         absurd ((s.rule.settling.below end (omega arith) (omega arith)).unmarked (mark u learns s.moment s.rule s.seat s.at))
+
+-- so is that of a scan
+exact_end : (v u : View) (end settled count last : ℕ) (to : Option ℕ) (opens : List ℕ) → HasEnd v end → Learns v u → Stands u
+    → v.learned.settled ≤ settled → settled ≤ u.learned.settled → IsExact v u to count settled last opens → settled ≡ end
+exact_end v u end settled count last to opens h learns s least most x =
+    same_end v u end settled count h learns s least most x.counted x.ends
 
 -- ---- items
 
@@ -176,6 +182,9 @@ module _ (v u : View) (end : ℕ) (h : HasEnd v end) (learns : Learns v u) (s : 
   fit_single (work.Explain ask) x (inl f) = inl (plan_told_at ask x f)
   fit_single (work.Explain ask) x (inr f) =
       inr (record { version = f.version; why = f.why; is = f.is; tells = cause_at ask f.version f.why f.fits })
+  fit_single work.Checkpoint x f =
+      let e = f.exact h.alone in
+      f.is ∙ ap item.Checkpointed (same_end v u end f.count e.0 h learns s f.above f.settled e.1 e.2)
   fit_single w x f = tt
 
 -- ---- later
@@ -232,6 +241,7 @@ module _ (v u t : View) (end : ℕ) (learns : Learns u t) (still : t.clock.loads
     plan = plan_later ask h.version h.explained.from h.explained.to h.explained.plan h.plan;
   })
   single_later (work.Explain ask) x (inr h) = inr (told_later ask item.ExplainRefused x h)
+  single_later work.Checkpoint x h = h
   single_later w x h = tt
 
   pub singles_later : (w : Work) (items : List Item) → AllOf (TellsSingle v u end w) items → AllOf (TellsSingle v t end w) items
@@ -320,7 +330,7 @@ single_whole v u end (work.Explain ask) x (inr h) = subst (TellsWhole end (work.
 single_whole v u end (work.Register name def) x h = tt
 single_whole v u end (work.Deregister name) x h = tt
 single_whole v u end (work.Ingest form header name file) x h = tt
-single_whole v u end work.Checkpoint x h = tt
+single_whole v u end work.Checkpoint x h = h
 
 pub singles_whole : (v u : View) (end : ℕ) (w : Work) (items : List Item) → AllOf (TellsSingle v u end w) items
     → AllOf (TellsWhole end w) items

@@ -18,6 +18,7 @@ use Rattle.fish_report.specs.declared.item.Item.{Item}
 use Rattle.fish_report.specs.declared.item.Item.TheVariants as item
 use Rattle.fish_report.specs.declared.item.ScanCause.{ScanCause}
 use Rattle.fish_report.specs.declared.item.ScanCause.TheVariants as cause
+use Rattle.fish_rule.specs.Reading.{IsAlone}
 use Rattle.fish_rule.specs.declared.view.View.{View}
 use Rattle.fish_scan.specs.Scans.{IsAnswer, IsExplained, IsRefused}
 use Rattle.fish_scan.specs.declared.ask.Answer.{Answer}
@@ -28,6 +29,8 @@ use Rattle.fish_scan.specs.declared.refusal.ScanRefusal.TheVariants as refusal
 use Rattle.fish_value.specs.Limits.{longest_file}
 use Rattle.fish_value.specs.declared.field.Form.{Form}
 use Rattle.fish_value.specs.declared.row.Row.{Row}
+use Rattle.fish_walk.specs.Looks.{IsTailCount}
+use Rattle.fish_walk.specs.Settling.{EndsAt}
 
 -- the pass gained the first so many of these, and the definitions are the same
 pub record GainsFirst (v u : View) (all : List Content) (count : ℕ) : Type 0 where
@@ -124,13 +127,14 @@ pub record FitsRefused (v u : View) (ask : Ask) (refused : List ℕ → ℕ → 
   pub is : x ≡ refused ask.name version why
   pub fits : IsRefusedAt v u ask version why
 
--- all below a number is stored
+-- all below a number is stored; a pass that is alone finds it where the log ends, with as many claimed as it knew by the tail
 pub record FitsCheckpoint (v u : View) (x : Item) : Type 0 where
   pub count : ℕ
   pub is : x ≡ item.Checkpointed count
   pub above : v.learned.settled ≤ count
   pub settled : count ≤ u.learned.settled
   pub counted : count ≤ u.learned.count
+  pub exact : IsAlone v → (claimed : ℕ) × IsTailCount claimed v.tail × EndsAt u count claimed
 
 -- the item fits the statement, and what it tells of its pass is so
 abbrev pub IsFit : View → View → Work → Item → Type 0

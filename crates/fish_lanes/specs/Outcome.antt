@@ -44,6 +44,7 @@ pub record TellsAloneBy (v u : View) (r : Registrar) (x : Lane) : Type 0 where
   pub closed : AllOf NamesNone x.items
   pub only : (end : ℕ) → HasEnd v end → r.waiting ≡ None → TellsOnly v u end x.works x.items
 
+-- the same where the lane is all of the block
 abbrev pub TellsAlone : View → View → Registrar → List Lane → Type 0
 TellsAlone v u r lanes = (x : Lane) → lanes ≡ x ∷ [] → TellsAloneBy v u r x
 

@@ -44,8 +44,8 @@ pub record IsWhole (ask : Ask) (end from to : ℕ) : Type 0 where
   pub begins : from ≡ min (first_asked ask) to
   pub ends : to ≡ end_of ask.to end
 
--- the plan is how this range is to be read: one full piece, or the cover by the intervals of all rows with the text that the
--- name means, and with no full piece where the index is asked for
+-- the plan is how this range is to be read: one full piece, or the cover by the intervals that the pass loaded of the rows with the
+-- text that the name means, and with no full piece where the index is asked for
 pub record IsPlanAt (v u : View) (end : ℕ) (ask : Ask) (version from to : ℕ) (plan : List Piece) : Type 0 where
   pub named : IsNamedAt u ask version
   pub whole : IsWhole ask end from to
@@ -68,7 +68,7 @@ pub record IsPlanTold (v u : View) (end : ℕ) (ask : Ask) (x : Item) : Type 0 w
   pub is : x ≡ explained_item ask explained version
   pub plan : IsPlanAt v u end ask version explained.from explained.to explained.plan
 
--- the numbers are those of the first full piece of the cover of all that is asked for
+-- the numbers are those of the first full piece of the cover, by such intervals, of all that is asked for
 pub record IsGapAt (v u : View) (end : ℕ) (ask : Ask) (version from to : ℕ) : Type 0 where
   pub named : IsNamedAt u ask version
   pub first : ℕ
@@ -78,11 +78,12 @@ pub record IsGapAt (v u : View) (end : ℕ) (ask : Ask) (version from to : ℕ) 
   pub covered : IsCovered v u named.rows named.newest.listed.def first end last plan
   pub gap : IsFirstGap plan end from to
 
--- neither, and what the cause tells
+-- what the cause of a refusal tells
 abbrev pub IsCauseAt : View → View → ℕ → Ask → ℕ → ScanCause → Type 0
 IsCauseAt v u end ask version (cause.NotCovered from to) = IsGapAt v u end ask version from to
 IsCauseAt v u end ask version why = ⊤
 
+-- the item of a refusal
 pub record IsCauseTold (v u : View) (end : ℕ) (ask : Ask) (refused : List ℕ → ℕ → ScanCause → Item) (x : Item) : Type 0 where
   pub version : ℕ
   pub why : ScanCause
@@ -94,6 +95,7 @@ pub record IsCauseTold (v u : View) (end : ℕ) (ask : Ask) (refused : List ℕ 
 abbrev pub TellsSingle : View → View → ℕ → Work → Item → Type 0
 TellsSingle v u end (work.Scan ask) x = IsScanWork v u end ask x ⊎ IsCauseTold v u end ask item.ScanRefused x
 TellsSingle v u end (work.Explain ask) x = IsPlanTold v u end ask x ⊎ IsCauseTold v u end ask item.ExplainRefused x
+TellsSingle v u end work.Checkpoint x = x ≡ item.Checkpointed end
 TellsSingle v u end w x = ⊤
 
 -- where one statement is all that was to do, its item
@@ -102,8 +104,9 @@ TellsOnly v u end works items = (w : Work) → works ≡ w ∷ [] → AllOf (Tel
 
 -- ---- without the pass
 
--- the range that an item tells of is all that is asked for of a log that ends at this number
+-- the range that an item tells of is all that is asked for of a log that ends at this number; a checkpoint tells that number
 abbrev pub TellsWhole : ℕ → Work → Item → Type 0
 TellsWhole end (work.Scan ask) (item.Scanned name value from to opens rows version) = IsWhole ask end from to
 TellsWhole end (work.Explain ask) (item.Explained name value from to plan version) = IsWhole ask end from to
+TellsWhole end work.Checkpoint x = x ≡ item.Checkpointed end
 TellsWhole end w x = ⊤
