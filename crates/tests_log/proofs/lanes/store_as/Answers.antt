@@ -26,8 +26,8 @@ returns-clause-rows c =
     ap (λ (z : View). z.rows) (goes_on (view c.args.pass.now) (view c.ingest.new.pass) c.args.form c.args.payload.now
     c.ingest.result c.requires.start c.ingest.ensures.ingested c.ingest.ensures.refused).1.frame
 
-pub returns-clause-draft : goal.returns-clause-draft
-returns-clause-draft c =
+pub returns-clause-main_words : goal.returns-clause-main_words
+returns-clause-main_words c =
     ap (λ (z : View). z.main_words) (goes_on (view c.args.pass.now) (view c.ingest.new.pass) c.args.form c.args.payload.now
     c.ingest.result c.requires.start c.ingest.ensures.ingested c.ingest.ensures.refused).1.frame
 
