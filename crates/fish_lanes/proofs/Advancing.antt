@@ -6,7 +6,6 @@ use Rattle.fish_lanes.proofs.Done.{HasTold, item_told}
 use Rattle.fish_lanes.proofs.Gaining.{full_later, gains_both}
 use Rattle.fish_lanes.proofs.Lists.{filter_first, filter_last, filter_other, filter_skip}
 use Rattle.fish_lanes.proofs.Items.{TellsAll, behind_is, made_append, shown_in, tells_cut, tells_ended, tells_more}
-use Rattle.fish_lanes.proofs.Plans.{all_begun_later, begun_answers, begun_more, fit_begun}
 use Rattle.fish_lanes.proofs.Publishing.{published_later}
 use Rattle.fish_lanes.proofs.Showing.{full_fit, item_settles, item_shown}
 use Rattle.fish_lanes.proofs.Surely.{sure_later}
@@ -85,7 +84,6 @@ told_on v u t works items h g same =
       settles = λ k m. let a = h.settles k m in let e = learns.settled in omega arith;
       size = h.size;
       full = fulls_later u t items learns.about g.shut h.full;
-      begun = all_begun_later u t items learns h.begun;
       versions = omega arith;
       shuts = λ c e. h.shuts c (sym same ∙ e);
     }
@@ -118,7 +116,6 @@ told_more v u t works items w x rows base h g first fit shuts version =
       size = (let a = length-append items (x ∷ []) in let b = length-append works (w ∷ []) in let e = h.size in
           omega arith);
       full = fulls_more t items x (fulls_later u t items learns.about g.shut h.full) (full_fit u t w x fit);
-      begun = begun_more t items x (all_begun_later u t items learns h.begun) (fit_begun u t w x fit);
       versions = omega arith;
       shuts = shuts_more v u t items x h.shuts shuts;
     }
@@ -160,7 +157,6 @@ run_ended v u works items h = record {
   tells = λ s within full z remains b l c.
       tells_ended z s remains.log [] [] h.rows works (answers items) (h.tells s within full z remains b l c);
   full = fulls_all u items h.full;
-  begun = begun_answers u items h.begun;
   ended = record { whole = λ _. h.size; cut = λ bad. absurd (bad refl) };
   shuts = λ _. shuts_answers v u items h.shuts;
 }
@@ -178,7 +174,6 @@ run_cut v u t works items w later rows count h g first =
           tells_cut z s remains.log [] [] h.rows rows works (answers items) w later count
           (sure_later u t _ learns (h.tells s (within_before v u t s learns within) full) z remains b l c) first;
       full = fulls_later u t items learns.about g.shut (fulls_all u items h.full);
-      begun = all_begun_later u t items learns (begun_answers u items h.begun);
       ended = record {
         whole = λ e. absurd cc;
         cut = λ _. let a = length-append works (w ∷ later) in let e = h.size in omega arith;

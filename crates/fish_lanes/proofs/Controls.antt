@@ -4,6 +4,8 @@ use Rattle.std.proofs.Common.{zero, suc, None, Result, Ok, Err}
 use Rattle.std.specs.Prelude.{IfErr, IfOk}
 use Rattle.fish_lanes.proofs.Advancing.{answers_more, answers_same, run_cut, run_ended, told_more, told_on}
 use Rattle.fish_lanes.proofs.Done.{HasTold, told_self}
+use Rattle.fish_lanes.proofs.Covering.{bounds_before, bounds_read}
+use Rattle.fish_lanes.proofs.Plans.{fit_so, plans_beside, plans_later, plans_longer, plans_more}
 use Rattle.fish_lanes.proofs.Registrations.{registry_later}
 use Rattle.fish_lanes.proofs.Showing.{fit_answer}
 use Rattle.fish_lanes.proofs.Single.{alone_gains, closed_more, fit_closed, fit_single, none_there, only_last, only_later, some_there}
@@ -11,6 +13,7 @@ use Rattle.fish_lanes.specs.Controlling.{Does, HasControlled, HasPolled, IsContr
 use Rattle.fish_lanes.specs.Doing.{GainsFirst, IsFit, IsItem, IsPart}
 use Rattle.fish_lanes.specs.Ending.{HasEnd}
 use Rattle.fish_lanes.specs.Gains.{Gains}
+use Rattle.fish_lanes.specs.Plans.{PlansAreSoBy, TellsPlans}
 use Rattle.fish_lanes.specs.Records.{LaneRow, contents}
 use Rattle.fish_lanes.specs.Registering.{AreSo, IsSo, KnowsEach, KnowsRegistry, Registry, after, after_all, registry_of}
 use Rattle.fish_lanes.specs.Running.{IsFree}
@@ -21,6 +24,7 @@ use Rattle.fish_lanes.specs.declared.work.LaneFault.TheVariants as fault
 use Rattle.fish_lanes.specs.declared.work.Work.{Work}
 use Rattle.fish_lanes.specs.declared.work.Work.TheVariants as work
 use Rattle.fish_lang.specs.declared.definition.Def.{Def}
+use Rattle.fish_registry.specs.Knowing.{Knows}
 use Rattle.fish_registry.specs.declared.registrar.Registrar.{Registrar}
 use Rattle.fish_report.specs.declared.item.Item.{Item}
 use Rattle.fish_report.specs.declared.item.Item.TheVariants as item
@@ -82,6 +86,14 @@ pub each_more : (u : View) (r : Registry) (items : List Item) (x : Item) → Kno
 each_more u r [] x h one = (h, one)
 each_more u r (y ∷ items) x h one = (h.0, each_more u (after r y) items x h.1 one)
 
+-- ---- plans
+
+-- what was said of plans stays so
+pub plans_on : (v u t : View) (r : Registry) (works : List Work) (items : List Item) → Learns u t → PlansAreSoBy v u r works items
+    → PlansAreSoBy v t r works items
+plans_on v u t r works items learns h rows from bounds low =
+    plans_later u t r rows from works items learns (h rows from (bounds_before u t rows learns bounds) low)
+
 -- ---- statements so far
 
 -- their items answer them, and tell of the definitions that the registrar keeps; while there is none, nothing has changed unless a
@@ -94,6 +106,7 @@ pub record Held (v : View) (r : Registrar) (u : View) (s : Registrar) (works : L
   pub closed : IsAlone v → AllOf NamesNone items
   pub still : works ≡ [] → r.waiting ≡ None → (u ≡ v) × (s.waiting ≡ None)
   pub only : (end : ℕ) → HasEnd v end → r.waiting ≡ None → TellsOnly v u end works items
+  pub plans : PlansAreSoBy v u (registry_of v r) works items
 
 -- none yet
 pub held_self : (v : View) (r : Registrar) → v.epoch ≡ Out → v.flight ≡ None → KnowsRegistry v (registry_of v r) → Held v r v r [] []
@@ -105,6 +118,7 @@ held_self v r outside idle known = record {
   closed = λ alone. tt;
   still = λ none wait. (refl, wait);
   only = λ end e wait w one. absurd cc;
+  plans = λ rows from bounds low. tt;
 }
 
 -- an item more that is so
@@ -112,8 +126,9 @@ held_item : (v : View) (r : Registrar) (u : View) (s : Registrar) (t : View) (q 
     (items : List Item) (x : Item) → Held v r u s works items → Learns v u → Learns u t → Does u s t q x
     → HasTold v t works' (answers (items ++ x ∷ [])) → (IsAlone v → NamesNone x)
     → (works' ≡ [] → r.waiting ≡ None → (t ≡ v) × (q.waiting ≡ None))
-    → ((end : ℕ) → HasEnd v end → r.waiting ≡ None → TellsOnly v t end works' (items ++ x ∷ [])) → Held v r t q works' (items ++ x ∷ [])
-held_item v r u s t q works works' items x h before learns does told none still only =
+    → ((end : ℕ) → HasEnd v end → r.waiting ≡ None → TellsOnly v t end works' (items ++ x ∷ []))
+    → PlansAreSoBy v t (registry_of v r) works' (items ++ x ∷ []) → Held v r t q works' (items ++ x ∷ [])
+held_item v r u s t q works works' items x h before learns does told none still only plans =
     let start = registry_of v r in
     let more = before.count in
     let then = learns.count in
@@ -130,6 +145,7 @@ held_item v r u s t q works works' items x h before learns does told none still 
       closed = λ alone. closed_more items x (h.closed alone) (none alone);
       still = still;
       only = only;
+      plans = plans;
     }
 
 -- a look for a boundary
@@ -148,6 +164,7 @@ held_polled v r u s t q works items items' h g same shut idle (inl p) =
       closed = h.closed;
       still = λ none wait. let b = h.still none wait in let i = idle b.1 in (i.0 ∙ b.0, i.1);
       only = λ end e wait. only_later v u t end learns same works items (h.only end e wait);
+      plans = plans_on v u t start works items learns h.plans;
     })
 held_polled v r u s t q works items items' h g same shut idle (inr p) =
     let x = item.Bound p.0 p.1 in
@@ -156,13 +173,15 @@ held_polled v r u s t q works items items' h g same shut idle (inr p) =
     (subst (HasTold v t works) (sym (answers_same items x refl)) (told_on v u t works (answers items) h.told g shut))
     (λ alone. tt) (λ none wait. let b = h.still none wait in let i = idle b.1 in (i.0 ∙ b.0, i.1))
     (λ end e wait w one. subst (AllOf (TellsSingle v t end w)) (sym (answers_same items x refl))
-    (only_later v u t end g.on.learns same works items (h.only end e wait) w one)))
+    (only_later v u t end g.on.learns same works items (h.only end e wait) w one))
+    (λ rows from bounds low. plans_beside t (registry_of v r) rows from works items x h.told.size
+    (plans_on v u t (registry_of v r) works items g.on.learns h.plans rows from bounds low)))
 
 -- a statement
 pub held_done : (v : View) (r : Registrar) (u : View) (s : Registrar) (t : View) (q : Registrar) (works : List Work)
-    (items : List Item) (w : Work) (x : Item) → Stands t → v.about.number ≡ 0 → Held v r u s works items → IsControlled u s t q w x
-    → Held v r t q (works ++ w ∷ []) (items ++ x ∷ [])
-held_done v r u s t q works items w x stands base h c =
+    (items : List Item) (w : Work) (x : Item) → Stands t → v.about.number ≡ 0 → Knows u s → Held v r u s works items
+    → IsControlled u s t q w x → Held v r t q (works ++ w ∷ []) (items ++ x ∷ [])
+held_done v r u s t q works items w x stands base knows h c =
     let made : t.learned.version ≡ u.learned.version + made_by x =
     ap (λ (z : Registry). z.version) c.does.is ∙ after_load_version (registry_of u s) x in
     held_item v r u s t q works (works ++ w ∷ []) items x h h.told.gains.on.learns c.gains.on.learns c.does
@@ -176,6 +195,15 @@ held_done v r u s t q works items w x stands base h c =
     (subst (λ (z : View × Work). IsFit z.0 t z.1 x) (λ i. ((h.still first.0 wait).0 i, first.1 i)) c.fit) in
     subst (AllOf (TellsSingle v t end one)) (sym (answers_more items x (fit_answer u t w x c.fit)
     ∙ ap (λ (z : List Item). z ++ x ∷ []) (none_there (answers items) works h.told.size first.0))) (told, tt))
+    (λ rows from bounds low.
+    let start = registry_of v r in
+    let learns = c.gains.on.learns in
+    let settled = h.told.gains.on.learns.settled in
+    let known = subst (KnowsRegistry u) (sym h.is) (each_last u start items h.each) in
+    plans_more t start rows from works (w ∷ []) items x h.told.size
+    (plans_on v u t start works items learns h.plans rows from bounds low)
+    (subst (λ (z : Registry). TellsPlans t z.rows rows from w x) h.is
+    (fit_so u t (registry_of u s) rows from stands learns (bounds_read u s knows) known bounds (omega arith) w x c.fit)))
 
 -- ---- the end
 
@@ -187,6 +215,7 @@ held_ended v r u s works items h = record {
   so = h.so;
   closed = h.closed;
   only = h.only;
+  plans = h.plans;
   is = λ e. h.is;
   each = λ e. h.each;
 }
@@ -205,6 +234,8 @@ held_cut v r u s t q works items w later rows count h g first =
       closed = h.closed;
       only = λ end e wait one is. subst (AllOf (TellsSingle v t end one))
           (sym (none_there (answers items) works h.told.size (only_last works w later one is).0)) tt;
+      plans = λ rows from bounds low. plans_longer t (registry_of v r) rows from works (w ∷ later) items h.told.size
+          (plans_on v u t (registry_of v r) works items g.on.learns h.plans rows from bounds low);
       is = λ e. absurd cc;
       each = λ e. absurd cc;
     }

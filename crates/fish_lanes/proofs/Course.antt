@@ -7,19 +7,23 @@ use Rattle.fish_lanes.proofs.Lanes.{done_back, none_out}
 use Rattle.fish_lanes.proofs.Gaining.{marks_same}
 use Rattle.fish_lanes.proofs.Lists.{some_once}
 use Rattle.fish_lanes.proofs.Moments.{Closes, counted_from, ends_behind, few_behind, get_there, learns_same}
-use Rattle.fish_lanes.proofs.Plans.{all_begun_later, items_begun}
+use Rattle.fish_lanes.proofs.Covering.{bounds_before, bounds_in, bounds_read, read_later}
+use Rattle.fish_lanes.proofs.Ends.{given_registry}
+use Rattle.fish_lanes.proofs.Plans.{plans_later}
+use Rattle.fish_lanes.proofs.Registrations.{registry_later}
 use Rattle.fish_lanes.proofs.RowLists.{has_above, owned_number, told_later}
 use Rattle.fish_lanes.proofs.Surely.{own_before, sure_later, will_rows}
 use Rattle.fish_lanes.specs.Blocks.{AreDone, AreEnded, AreJoined, AreKept, AreSeated, At, HasGiven, HasRunFirst}
 use Rattle.fish_lanes.specs.Outcome.{AreVacant, IsFullIn}
 use Rattle.fish_lanes.specs.Blocks.{HasTakenAll, IsBlockSpan, IsMarkItem, IsOfLane, IsSeated, IsShutOfLane, NameMarks}
-use Rattle.fish_lanes.specs.Outcome.{PlansAreBegun}
+use Rattle.fish_lanes.specs.Outcome.{LanesSayPlans}
 use Rattle.fish_lanes.specs.Blocks.{TellsFirst}
 use Rattle.fish_lanes.specs.Blocks.{TellsOthers, WereTaken}
 use Rattle.fish_lanes.specs.Closing.{Later, Sure, Will}
 use Rattle.fish_lanes.specs.Ending.{HasEnd}
 use Rattle.fish_lanes.specs.Gains.{AreTold, IsMarkAt, IsShutTold}
-use Rattle.fish_lanes.specs.Plans.{IsBegunItem}
+use Rattle.fish_lanes.specs.Plans.{AreSoPlans}
+use Rattle.fish_lanes.specs.Registering.{KnowsRegistry, Registry, registry_of}
 use Rattle.fish_lanes.specs.Records.{Ascends, HasNumber, LaneRow, owned, rows_of_lane}
 use Rattle.fish_lanes.specs.Running.{HasDone, IsEnded, IsFullItem}
 use Rattle.fish_lanes.specs.Sizes.{TellsClaim}
@@ -237,12 +241,21 @@ module _ (log : Log) (v m w : View) (r q : Registrar) (first first' : Lane) (bef
         subst (AllOf (IsMarkItem t)) (sym w'.items)
         (marks_items (view s.pass) z.0.items back (way_marks i z.0 p known) p.run_of.run.full)
 
-    -- the plans that the items tell begin where the rows do
-    pub first_begun : (s : Registrar) → Knows t s → AllOf (IsBegunItem s.catalog) first'.items
-    first_begun s knows = items_begun t s first'.items stands knows (all_begun_later w t first'.items end_learns run.controlled.run.begun)
+    -- what the items say of plans, by the rows that the registrar keeps
+    pub first_plans : (s : Registrar) → Knows t s → (from : ℕ) → HasEnd v from
+        → AreSoPlans t (registry_of v r) s.catalog from first'.works first'.items
+    first_plans s knows from end =
+        let low = end.settled in
+        let same : m.learned.settled ≡ v.learned.settled = ap (λ (z : Learned). z.settled) has_given.learned in
+        let said = run.controlled.plans s.catalog from (bounds_before w t s.catalog end_learns (bounds_in t s stands knows))
+        (omega arith) in
+        subst (λ (z : Registry × List Work). AreSoPlans t z.0 s.catalog from z.1 first'.items)
+        (λ j. (given_registry v m r has_given.learned j, sym run.works j))
+        (plans_later w t (registry_of m r) s.catalog from first.works first'.items end_learns said)
 
-    pub others_begun : (s : Registrar) → Knows t s → PlansAreBegun s.catalog after
-    others_begun s knows i y at =
+    pub others_plans : (s : Registrar) → Knows t s → Knows v r → KnowsRegistry v (registry_of v r) → (from : ℕ) → HasEnd v from
+        → LanesSayPlans t (registry_of v r) s.catalog from after
+    others_plans s knows before_ registry from end i y at =
         let less = slice_get_within after i y at in
         let z = get_there done i (omega arith) in
         let p = way i z.0 z.1 in
@@ -250,8 +263,18 @@ module _ (log : Log) (v m w : View) (r q : Registrar) (first first' : Lane) (bef
         let e = p.run_of.after in
         let back : Learns (view e.pass) t = learns_both (view e.pass) u t
         (taken.learned i z.0 e (omega arith) z.1 p.run_of.after_is) settles.learns in
-        subst (AllOf (IsBegunItem s.catalog)) (sym w'.items)
-        (items_begun t s z.0.items stands knows (all_begun_later (view e.pass) t z.0.items back p.run_of.run.begun))
+        let start = p.run_of.before in
+        let learned_is = way_learned i z.0 p in
+        let about_is = way_about i z.0 p in
+        let learns : Learns v (view start.pass) = learns_same v (view start.pass) about_is learned_is in
+        let low = end.settled in
+        let same : (view start.pass).learned.settled ≡ v.learned.settled = ap (λ (x : Learned). x.settled) learned_is in
+        let said = p.run_of.plans (registry_of v r) (read_later v (view start.pass) r.catalog learns (bounds_read v r before_))
+        (registry_later v (view start.pass) (registry_of v r) learns registry) s.catalog from
+        (bounds_before (view e.pass) t s.catalog back (bounds_in t s stands knows)) (omega arith) in
+        subst (λ (q : List Work × List Item). AreSoPlans t (registry_of v r) s.catalog from q.0 q.1)
+        (λ j. ((sym p.run_of.works ∙ sym w'.works) j, sym w'.items j))
+        (plans_later (view e.pass) t (registry_of v r) s.catalog from p.mid.works z.0.items back said)
 
     -- what shuts the pass did so before, or an item tells of it
     pub shut_by : first'.fault ≡ cause.None → At (λ i x. x.fault ≡ cause.None) after → (c : Shut) → t.shut ≡ Some c

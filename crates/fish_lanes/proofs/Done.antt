@@ -12,7 +12,6 @@ use Rattle.fish_lanes.proofs.Surely.{sure_settled}
 use Rattle.fish_lanes.specs.Closing.{Sure}
 use Rattle.fish_lanes.specs.Doing.{IsFit}
 use Rattle.fish_lanes.specs.Gains.{AreTold, Gains}
-use Rattle.fish_lanes.specs.Plans.{IsKnownBegun}
 use Rattle.fish_lanes.specs.Published.{IsPublished}
 use Rattle.fish_lanes.specs.Records.{Ascends, HasNumber, LaneRow, entry_of}
 use Rattle.fish_lanes.specs.Running.{IsFullItem}
@@ -39,7 +38,6 @@ pub record HasTold (v u : View) (works : List Work) (items : List Item) : Type 0
   pub settles : (m : ℕ) → Among (settled m) (shown_in items) → m ≤ u.learned.settled
   pub size : length items ≡ length works
   pub full : AllOf (IsFullItem u) items
-  pub begun : AllOf (IsKnownBegun u) items
   pub versions : v.learned.version + made items ≤ u.learned.version
   pub shuts : TellsShut v u items
 
@@ -53,7 +51,6 @@ told_self v outside idle = record {
   settles = λ n m. elim m [ ];
   size = refl;
   full = tt;
-  begun = tt;
   versions = omega arith;
   shuts = λ c e. inl e;
 }

@@ -8,11 +8,11 @@ use Rattle.fish_lanes.proofs.Lists.{some_once}
 use Rattle.fish_lanes.specs.Blocks.{AreEnded, AreLanes, CanGive, IsMarkItem, IsNewLane, NameMarks, TellsFirst}
 use Rattle.fish_lanes.specs.Outcome.{AreVacant}
 use Rattle.fish_lanes.specs.Blocks.{At, TellsOthers}
-use Rattle.fish_lanes.specs.Outcome.{IsFullIn, PlansAreBegun, TellsShutBy}
+use Rattle.fish_lanes.specs.Outcome.{IsFullIn, LanesSayPlans, TellsShutBy}
 use Rattle.fish_lanes.specs.Ending.{HasEnd}
-use Rattle.fish_lanes.specs.Plans.{IsBegunItem}
+use Rattle.fish_lanes.specs.Plans.{AreSoPlans}
 use Rattle.fish_lanes.specs.Records.{rows_of_lane}
-use Rattle.fish_lanes.specs.Registering.{IsAcceptable}
+use Rattle.fish_lanes.specs.Registering.{IsAcceptable, Registry}
 use Rattle.fish_lanes.specs.Running.{IsEnded}
 use Rattle.fish_lanes.specs.Sizes.{TellsClaim}
 use Rattle.fish_lanes.specs.Spans.{Span}
@@ -134,10 +134,11 @@ shuts_both v t x (y ∷ lanes) others h by none c e =
       among = q.among;
     })) k) (by (none 0 x refl) (λ i z at. none (suc i) z at) c e)
 
--- the plans of all of them begin where the rows do
-pub begun_both : (rows : List CatRow) (x : Lane) (lanes others : List Lane) → AreLanes lanes → AllOf (IsBegunItem rows) x.items
-    → PlansAreBegun rows others → PlansAreBegun rows (set (take 1 lanes) 0 x ++ others)
-begun_both rows x [] others h first rest i z at = (let some_ = h.some in absurd (omega arith))
-begun_both rows x (y ∷ lanes) others h first rest zero z at =
-    subst (λ (w : Lane). AllOf (IsBegunItem rows) w.items) (some_once x z at) first
-begun_both rows x (y ∷ lanes) others h first rest (suc i) z at = rest i z at
+-- what the items of all of them say of plans
+pub plans_both : (v : View) (r : Registry) (rows : List CatRow) (from : ℕ) (x : Lane) (lanes others : List Lane) → AreLanes lanes
+    → AreSoPlans v r rows from x.works x.items → LanesSayPlans v r rows from others
+    → LanesSayPlans v r rows from (set (take 1 lanes) 0 x ++ others)
+plans_both v r rows from x [] others h first rest i z at = (let some_ = h.some in absurd (omega arith))
+plans_both v r rows from x (y ∷ lanes) others h first rest zero z at =
+    subst (λ (w : Lane). AreSoPlans v r rows from w.works w.items) (some_once x z at) first
+plans_both v r rows from x (y ∷ lanes) others h first rest (suc i) z at = rest i z at

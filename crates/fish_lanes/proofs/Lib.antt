@@ -3,6 +3,7 @@ pub mod Answered
 pub mod Claims
 pub mod Controls
 pub mod Course
+pub mod Covering
 pub mod Crossing
 pub mod Doings
 pub mod Done
@@ -21,6 +22,7 @@ pub mod Publishing
 pub mod Parts
 pub mod Registrations
 pub mod RowLists
+pub mod Saying
 pub mod Showing
 pub mod Single
 pub mod Storing

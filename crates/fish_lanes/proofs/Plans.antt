@@ -1,152 +1,202 @@
--- Where the pieces of a plan by an index begin: behind a boundary word that the pass has read, which is the row's.
-use Rattle.std.proofs.Common.{◌≡◌, ℕ, ◌<◌, ◌≤◌, suc, List, [], ◌∷◌, ◌++◌, length, map, refl, sym, ap, ◌∙◌, subst, inl, inr, arith}
-use Rattle.std.proofs.Common.{Bool, true, false, Option, Some, None, slice_get}
-use Rattle.std.proofs.Math.Decide.{dec_lt}
-use Rattle.std.proofs.lemmas.List.{length-map}
-use Rattle.fish_catalog.specs.Listing.{listed_of}
-use Rattle.fish_catalog.specs.Words.{bound_word}
-use Rattle.fish_catalog.specs.declared.listed.Listed.{Listed}
+-- What the items of a lane say of the definitions by the plans that they tell, one item more, and views that know more.
+use Rattle.std.proofs.Common.{◌≡◌, ℕ, ◌≤◌, List, [], ◌∷◌, ◌++◌, length, refl, sym, ap, ◌∙◌, subst, inl, inr, arith}
+use Rattle.std.proofs.Common.{Bool, true, false, cond, drop, append-nil}
 use Rattle.fish_catalog.specs.declared.row.CatRow.{CatRow}
-use Rattle.fish_lanes.proofs.Answered.{no_index}
-use Rattle.fish_lanes.proofs.Lists.{filter_first, filter_skip, get_some}
-use Rattle.fish_lanes.specs.Doing.{IsFit}
-use Rattle.fish_lanes.specs.Plans.{AreKnownBegun, IsBegunItem, IsKnownBegun, KnowsBegin}
+use Rattle.fish_epoch.proofs.Reading.{knows_later}
+use Rattle.fish_epoch.specs.Definitions.{rows_of, version_of}
+use Rattle.fish_epoch.specs.declared.definitions.Known.{Known}
+use Rattle.fish_lanes.proofs.Covering.{are_listed, gap_so, plan_so}
+use Rattle.fish_lanes.proofs.Lists.{filter_first, filter_skip}
+use Rattle.fish_lanes.specs.Doing.{IsFit, IsRefusedAt}
+use Rattle.fish_lanes.specs.Plans.{AreBoundsIn, AreReadBounds, AreSoPlans, TellsFirstPlans, TellsPlans, TellsPlansOf, TellsUncovered}
+use Rattle.fish_lanes.specs.Plans.{works_behind}
+use Rattle.fish_lanes.specs.Registering.{KnowsRegistry, Registry, after, after_all}
+use Rattle.fish_lanes.specs.Single.{IsNamedAt}
 use Rattle.fish_lanes.specs.Spans.{answers, is_answer}
 use Rattle.fish_lanes.specs.declared.work.Work.{Work}
 use Rattle.fish_lanes.specs.declared.work.Work.TheVariants as work
-use Rattle.fish_plan.proofs.Inside.{index_inside, piece_within}
-use Rattle.fish_plan.specs.declared.pieces.Piece.{Piece}
-use Rattle.fish_plan.specs.declared.pieces.Piece.TheVariants.{Index}
-use Rattle.fish_registry.specs.Knowing.{Knows}
-use Rattle.fish_registry.specs.declared.registrar.Registrar.{Registrar}
 use Rattle.fish_report.specs.declared.item.Item.{Item}
 use Rattle.fish_report.specs.declared.item.Item.TheVariants as item
-use Rattle.fish_rule.proofs.laws.Lists.{all_among}
+use Rattle.fish_report.specs.declared.item.ScanCause.{ScanCause}
+use Rattle.fish_report.specs.declared.item.ScanCause.TheVariants as cause
 use Rattle.fish_rule.specs.Logs.{Learns}
-use Rattle.fish_rule.specs.Registry.{IsRegistered, definitions_at, main_word, row_at, version_in}
+use Rattle.fish_rule.specs.Registry.{KnowsDefinitions}
 use Rattle.fish_rule.specs.Table.{Stands}
-use Rattle.fish_rule.specs.Views.{AllOf}
 use Rattle.fish_rule.specs.declared.view.View.{View}
-use Rattle.fish_scan.proofs.Lists.{at_among}
-use Rattle.fish_scan.specs.Scans.{IsCovered, IsPlan}
-use Rattle.fish_scan.specs.declared.ask.How.{How}
-use Rattle.fish_scan.specs.declared.ask.How.TheVariants as how
+use Rattle.fish_scan.specs.Scans.{IsNamed}
+use Rattle.fish_scan.specs.declared.ask.Ask.{Ask}
 
--- ---- a plan
+-- ---- one item
 
-cover_begun : (v u : View) (rows : List Listed) (text : List ℕ) (from settled to : ℕ) (plan : List Piece)
-    → IsCovered v u rows text from settled to plan → AreKnownBegun u plan
-cover_begun v u rows text from settled to plan h place id begin end there =
-    let i = index_inside plan from settled to h.intervals h.cover place id begin end there in
-    let w = piece_within plan from to place (Index id begin end) h.cover.fill there in
-    let x = h.are.each i.4 (at_among h.intervals i.3 i.4 i.5) in
-    let known : KnowsBegin u i.4.id i.4.from = record { few = x.begun.interval.few; read = x.begun.interval.begins } in
-    (i.4.from, subst (λ (z : ℕ). KnowsBegin u z i.4.from) i.6 known, (i.7 begin (omega arith) w.1).begun)
+-- the name is known to mean its text at the version that was loaded
+named_at : (v u : View) (known : Known) (ask : Ask) (place version : ℕ) → version ≡ version_of known
+    → IsNamed v u known ask place → IsNamedAt u ask version
+named_at v u known ask place version is named = record {
+  rows = rows_of known;
+  knows = subst (λ (z : ℕ). KnowsDefinitions u.about u.learned z (rows_of known)) (sym is) named.read.rows;
+  place = place;
+  newest = named.newest;
+}
 
-plan_begun : (v u : View) (rows : List Listed) (text : List ℕ) (way : How) (from settled to : ℕ) (plan : List Piece)
-    → IsPlan v u rows text way from settled to plan → AreKnownBegun u plan
-plan_begun v u rows text how.Full from settled to plan h place id begin end there =
-    absurd (no_index from to place id begin end (Rattle.std.proofs.Common.nat_lt from to)
-    (subst (λ (z : List Piece). slice_get z place ≡ Some (Index id begin end)) h there))
-plan_begun v u rows text how.Auto from settled to plan h place id begin end there =
-    cover_begun v u rows text from settled to plan h place id begin end there
-plan_begun v u rows text how.Index from settled to plan h place id begin end there =
-    cover_begun v u rows text from settled to plan h.0 place id begin end there
+module _ (v u : View) (r : Registry) (rows : List CatRow) (start : ℕ) (stands : Stands u) (on : Learns v u)
+    (read : AreReadBounds v r.rows) (registry : KnowsRegistry v r) (bounds : AreBoundsIn u rows) (low : start ≤ v.learned.settled)
+    where
+  -- a refusal
+  refused_so : (ask : Ask) (version first last : ℕ) → IsRefusedAt v u ask version (cause.NotCovered first last)
+      → TellsUncovered u r.rows rows ask first last version
+  refused_so ask version first last f =
+      let h = f.refused.1 in
+      let named = h.asked.named in
+      record {
+        named = named_at v u f.known ask h.place version f.version_is named;
+        none = gap_so v u r.rows rows _ _ h.first h.settled h.last h.plan first last on read
+            (are_listed v u r f.known ask h.place stands on registry named) bounds h.covered h.gap;
+      }
 
--- ---- items
+  scan_refused_so : (ask : Ask) (version : ℕ) (why : ScanCause) → IsRefusedAt v u ask version why
+      → TellsPlansOf u r.rows rows start ask (item.ScanRefused ask.name version why)
+  scan_refused_so ask version (cause.NotCovered first last) f = refused_so ask version first last f
+  scan_refused_so ask version cause.UnknownName f = tt
+  scan_refused_so ask version (cause.EmptyRange first last) f = tt
 
--- so it is of an item that fits
-pub fit_begun : (v u : View) (w : Work) (x : Item) → IsFit v u w x → IsKnownBegun u x
-fit_begun v u (work.Register name def) x (inl f) = subst (IsKnownBegun u) (sym f.2) tt
-fit_begun v u (work.Register name def) x (inr (inl f)) = subst (IsKnownBegun u) (sym f.3) tt
-fit_begun v u (work.Register name def) x (inr (inr f)) = subst (IsKnownBegun u) (sym f.1) tt
-fit_begun v u (work.Deregister name) x (inl f) = subst (IsKnownBegun u) (sym f.2) tt
-fit_begun v u (work.Deregister name) x (inr f) = subst (IsKnownBegun u) (sym f.1) tt
-fit_begun v u (work.Ingest form header name file) x (inl f) = subst (IsKnownBegun u) (sym f.is) tt
-fit_begun v u (work.Ingest form header name file) x (inr (inl f)) = subst (IsKnownBegun u) (sym f.is) tt
-fit_begun v u (work.Ingest form header name file) x (inr (inr f)) = subst (IsKnownBegun u) (sym f.is) tt
-fit_begun v u (work.Scan ask) x (inl f) = subst (IsKnownBegun u) (sym f.is) tt
-fit_begun v u (work.Scan ask) x (inr f) = subst (IsKnownBegun u) (sym f.is) tt
-fit_begun v u (work.Explain ask) x (inl f) =
-    let e = f.fits.explained.planned in
-    subst (IsKnownBegun u) (sym f.is) (plan_begun v u _ _ ask.how f.from e.settled f.to f.plan e.plan_is)
-fit_begun v u (work.Explain ask) x (inr f) = subst (IsKnownBegun u) (sym f.is) tt
-fit_begun v u work.Checkpoint x f = subst (IsKnownBegun u) (sym f.is) tt
+  explain_refused_so : (ask : Ask) (version : ℕ) (why : ScanCause) → IsRefusedAt v u ask version why
+      → TellsPlansOf u r.rows rows start ask (item.ExplainRefused ask.name version why)
+  explain_refused_so ask version (cause.NotCovered first last) f = refused_so ask version first last f
+  explain_refused_so ask version cause.UnknownName f = tt
+  explain_refused_so ask version (cause.EmptyRange first last) f = tt
 
--- and stays so
-begun_later : (v u : View) (x : Item) → Learns v u → IsKnownBegun v x → IsKnownBegun u x
-begun_later v u (item.Explained name value from to plan version) learns h = λ place id begin end there.
-    let k = h place id begin end there in
-    (k.0, record { few = k.1.few; read = learns.words _ k.1.read }, k.2)
-begun_later v u x learns h = tt
+  -- an item that fits its statement
+  pub fit_so : (w : Work) (x : Item) → IsFit v u w x → TellsPlans u r.rows rows start w x
+  fit_so (work.Register name def) x f = tt
+  fit_so (work.Deregister name) x f = tt
+  fit_so (work.Ingest form header name file) x f = tt
+  fit_so (work.Scan ask) x (inl f) = subst (TellsPlansOf u r.rows rows start ask) (sym f.is) tt
+  fit_so (work.Scan ask) x (inr f) =
+      subst (TellsPlansOf u r.rows rows start ask) (sym f.is) (scan_refused_so ask f.version f.why f.fits)
+  fit_so (work.Explain ask) x (inl f) =
+      let e = f.fits.explained.planned in
+      let least = e.least in
+      subst (TellsPlansOf u r.rows rows start ask) (sym f.is) (record {
+        named = named_at v u f.fits.known ask e.place f.version f.fits.version_is e.asked.named;
+        plan_is = plan_so v u r.rows rows _ _ ask.how f.from e.settled f.to f.plan start on read
+            (are_listed v u r f.fits.known ask e.place stands on registry e.asked.named) bounds (omega arith) e.plan_is;
+      })
+  fit_so (work.Explain ask) x (inr f) =
+      subst (TellsPlansOf u r.rows rows start ask) (sym f.is) (explain_refused_so ask f.version f.why f.fits)
+  fit_so work.Checkpoint x f = tt
 
-pub all_begun_later : (v u : View) (items : List Item) → Learns v u → AllOf (IsKnownBegun v) items → AllOf (IsKnownBegun u) items
-all_begun_later v u [] learns h = tt
-all_begun_later v u (x ∷ items) learns h = (begun_later v u x learns h.0, all_begun_later v u items learns h.1)
+-- ---- a view that knows more
 
-pub begun_more : (v : View) (items : List Item) (x : Item) → AllOf (IsKnownBegun v) items → IsKnownBegun v x
-    → AllOf (IsKnownBegun v) (items ++ x ∷ [])
-begun_more v [] x h one = (one, tt)
-begun_more v (y ∷ items) x h one = (h.0, begun_more v items x h.1 one)
+named_later : (u t : View) (ask : Ask) (version : ℕ) → Learns u t → IsNamedAt u ask version → IsNamedAt t ask version
+named_later u t ask version learns h =
+    record { rows = h.rows; knows = knows_later u t version h.rows learns h.knows; place = h.place; newest = h.newest }
+
+of_later : (u t : View) (told rows : List CatRow) (start : ℕ) (ask : Ask) (x : Item) → Learns u t
+    → TellsPlansOf u told rows start ask x → TellsPlansOf t told rows start ask x
+of_later u t told rows start ask (item.Explained name value first last plan version) learns h =
+    record { named = named_later u t ask version learns h.named; plan_is = h.plan_is }
+of_later u t told rows start ask (item.ExplainRefused name version (cause.NotCovered first last)) learns h =
+    record { named = named_later u t ask version learns h.named; none = h.none }
+of_later u t told rows start ask (item.ScanRefused name version (cause.NotCovered first last)) learns h =
+    record { named = named_later u t ask version learns h.named; none = h.none }
+of_later u t told rows start ask x learns h = tt
+
+first_later : (u t : View) (told rows : List CatRow) (start : ℕ) (works : List Work) (x : Item) → Learns u t
+    → TellsFirstPlans u told rows start works x → TellsFirstPlans t told rows start works x
+first_later u t told rows start [] x learns h = tt
+first_later u t told rows start (work.Scan ask ∷ works) x learns h = of_later u t told rows start ask x learns h
+first_later u t told rows start (work.Explain ask ∷ works) x learns h = of_later u t told rows start ask x learns h
+first_later u t told rows start (work.Register name def ∷ works) x learns h = tt
+first_later u t told rows start (work.Deregister name ∷ works) x learns h = tt
+first_later u t told rows start (work.Ingest form header name file ∷ works) x learns h = tt
+first_later u t told rows start (work.Checkpoint ∷ works) x learns h = tt
+
+-- says the same of all items
+pub plans_later : (u t : View) (r : Registry) (rows : List CatRow) (start : ℕ) (works : List Work) (items : List Item) → Learns u t
+    → AreSoPlans u r rows start works items → AreSoPlans t r rows start works items
+plans_later u t r rows start works [] learns h = tt
+plans_later u t r rows start works (x ∷ items) learns h = (
+  first_later u t r.rows rows start works x learns h.0,
+  plans_later u t (after r x) rows start (works_behind x works) items learns h.1,
+)
+
+-- ---- one item more
 
 -- an item that answers nothing tells no plan
-begun_other : (v : View) (x : Item) → is_answer x ≡ false → IsKnownBegun v x
-begun_other v (item.Explained name value from to plan version) e = absurd cc
-begun_other v x e = tt
+of_other : (v : View) (told rows : List CatRow) (start : ℕ) (ask : Ask) (x : Item) → is_answer x ≡ false
+    → TellsPlansOf v told rows start ask x
+of_other v told rows start ask (item.Explained name value first last plan version) e = absurd cc
+of_other v told rows start ask (item.ExplainRefused name version (cause.NotCovered first last)) e = absurd cc
+of_other v told rows start ask (item.ScanRefused name version (cause.NotCovered first last)) e = absurd cc
+of_other v told rows start ask x e = tt
 
-pub begun_answers : (v : View) (items : List Item) → AllOf (IsKnownBegun v) (answers items) → AllOf (IsKnownBegun v) items
-begun_answers v [] h = tt
-begun_answers v (x ∷ items) h = by (is_answer x) refl (begun_answers v items)
+first_other : (v : View) (told rows : List CatRow) (start : ℕ) (works : List Work) (x : Item) → is_answer x ≡ false
+    → TellsFirstPlans v told rows start works x
+first_other v told rows start [] x e = tt
+first_other v told rows start (work.Scan ask ∷ works) x e = of_other v told rows start ask x e
+first_other v told rows start (work.Explain ask ∷ works) x e = of_other v told rows start ask x e
+first_other v told rows start (work.Register name def ∷ works) x e = tt
+first_other v told rows start (work.Deregister name ∷ works) x e = tt
+first_other v told rows start (work.Ingest form header name file ∷ works) x e = tt
+first_other v told rows start (work.Checkpoint ∷ works) x e = tt
+
+-- behind the items that answer some statements stands one of those that follow
+pub plans_more : (v : View) (r : Registry) (rows : List CatRow) (start : ℕ) (works later : List Work) (items : List Item) (x : Item)
+    → length (answers items) ≡ length works → AreSoPlans v r rows start works items
+    → TellsFirstPlans v (after_all r items).rows rows start later x → AreSoPlans v r rows start (works ++ later) (items ++ x ∷ [])
+plans_more v r rows start [] later [] x size h one = (one, tt)
+plans_more v r rows start (w ∷ works) later [] x size h one = absurd (omega arith)
+plans_more v r rows start works later (y ∷ items) x size h one = by (is_answer y) refl works size h
   where
-    by : (b : Bool) → is_answer x ≡ b → (AllOf (IsKnownBegun v) (answers items) → AllOf (IsKnownBegun v) items)
-        → AllOf (IsKnownBegun v) (x ∷ items)
-    by true e rest =
-        let parts = subst (AllOf (IsKnownBegun v)) (filter_first is_answer x items e) h in (parts.0, rest parts.1)
-    by false e rest = (begun_other v x e, rest (subst (AllOf (IsKnownBegun v)) (filter_skip is_answer x items e) h))
+    by : (b : Bool) → is_answer y ≡ b → (works : List Work) → length (answers (y ∷ items)) ≡ length works
+        → AreSoPlans v r rows start works (y ∷ items) → AreSoPlans v r rows start (works ++ later) (y ∷ (items ++ x ∷ []))
+    by true e [] size h = (let z = ap length (filter_first is_answer y items e) in absurd (omega arith))
+    by true e (w ∷ works) size h =
+        let z = ap length (filter_first is_answer y items e) in (
+          h.0,
+          subst (λ (b : Bool). AreSoPlans v (after r y) rows start (cond b (works ++ later) (w ∷ (works ++ later))) (items ++ x ∷ []))
+              (sym e)
+              (plans_more v (after r y) rows start works later items x (omega arith)
+              (subst (λ (b : Bool). AreSoPlans v (after r y) rows start (cond b works (w ∷ works)) items) e h.1) one),
+        )
+    by false e works size h =
+        let z = ap length (filter_skip is_answer y items e) in (
+          first_other v r.rows rows start (works ++ later) y e,
+          subst (λ (b : Bool). AreSoPlans v (after r y) rows start (cond b (drop 1 (works ++ later)) (works ++ later)) (items ++ x ∷ []))
+              (sym e)
+              (plans_more v (after r y) rows start works later items x (omega arith)
+              (subst (λ (b : Bool). AreSoPlans v (after r y) rows start (cond b (drop 1 works) works) items) e h.1) one),
+        )
 
--- ---- rows
-
--- a boundary word that the control pass knows is that of a row that the registrar keeps
-row_begun : (t : View) (s : Registrar) (id from : ℕ) → Stands t → Knows t s → KnowsBegin t id from
-    → (row : CatRow) × (slice_get s.catalog id ≡ Some row) × (row.from ≡ Some from)
-row_begun t s id from stands knows h =
-    let w = stands.moment in
-    let g = w.registry in
-    let stays = stands.rule.registry.each stands.seat t stands.at in
-    let main = stays.main knows.main in
-    let few = h.few in
-    let word : g (row_at id 0) ≡ suc from =
-    (all_among (IsRegistered t.about g) (record { index = row_at id 0; value = suc from }) t.learned.words stays.read h.read).word in
-    let stored : g (row_at id 0) ≡ main_word t.main_words (row_at id 0) =
-    main.owned (row_at id 0) (inr (id, 0, h.few, (omega arith), refl)) in
-    let rows : length t.rows ≡ length s.catalog = ap length (sym knows.listed) ∙ length-map s.catalog listed_of in
-    let made : length (definitions_at t.about g (version_in g)) ≡ length t.rows = ap length main.definitions in
-    let less : id < length s.catalog = there (dec_lt id (length s.catalog)) word rows made in
-    let row = get_some s.catalog id less in
-    let bounds = (knows.bounds id row.0 row.1).from in
-    (row.0, row.1, number row.0.from (sym bounds ∙ sym stored ∙ word))
+-- or nothing
+pub plans_longer : (v : View) (r : Registry) (rows : List CatRow) (start : ℕ) (works later : List Work) (items : List Item)
+    → length (answers items) ≡ length works → AreSoPlans v r rows start works items
+    → AreSoPlans v r rows start (works ++ later) items
+plans_longer v r rows start works later [] size h = tt
+plans_longer v r rows start works later (y ∷ items) size h = by (is_answer y) refl works size h
   where
-    there : Dec (id < length s.catalog) → stands.moment.registry (row_at id 0) ≡ suc from → length t.rows ≡ length s.catalog
-        → length (definitions_at t.about stands.moment.registry (version_in stands.moment.registry)) ≡ length t.rows
-        → id < length s.catalog
-    there (yes less) word rows made = less
-    there (no not_less) word rows made =
-        let none : stands.moment.registry (row_at id 0) ≡ 0 =
-        stands.rule.registry.boundaries.unmade id 0 (omega arith) h.few (omega arith) in absurd (omega arith)
+    by : (b : Bool) → is_answer y ≡ b → (works : List Work) → length (answers (y ∷ items)) ≡ length works
+        → AreSoPlans v r rows start works (y ∷ items) → AreSoPlans v r rows start (works ++ later) (y ∷ items)
+    by true e [] size h = (let z = ap length (filter_first is_answer y items e) in absurd (omega arith))
+    by true e (w ∷ works) size h =
+        let z = ap length (filter_first is_answer y items e) in (
+          h.0,
+          subst (λ (b : Bool). AreSoPlans v (after r y) rows start (cond b (works ++ later) (w ∷ (works ++ later))) items) (sym e)
+              (plans_longer v (after r y) rows start works later items (omega arith)
+              (subst (λ (b : Bool). AreSoPlans v (after r y) rows start (cond b works (w ∷ works)) items) e h.1)),
+        )
+    by false e works size h =
+        let z = ap length (filter_skip is_answer y items e) in (
+          first_other v r.rows rows start (works ++ later) y e,
+          subst (λ (b : Bool). AreSoPlans v (after r y) rows start (cond b (drop 1 (works ++ later)) (works ++ later)) items) (sym e)
+              (plans_longer v (after r y) rows start works later items (omega arith)
+              (subst (λ (b : Bool). AreSoPlans v (after r y) rows start (cond b (drop 1 works) works) items) e h.1)),
+        )
 
-    number : (o : Option ℕ) → bound_word o ≡ suc from → o ≡ Some from
-    number None e = absurd cc
-    number (Some n) e = ap Some (let same : n ≡ from = omega arith in same)
-
--- so the plans begin where the rows do
-item_begun : (t : View) (s : Registrar) (x : Item) → Stands t → Knows t s → IsKnownBegun t x → IsBegunItem s.catalog x
-item_begun t s (item.Explained name value from to plan version) stands knows h = λ place id begin end there.
-    let k = h place id begin end there in
-    let r = row_begun t s id k.0 stands knows k.1 in
-    (r.0, r.1, record { from = k.0; begins = r.2; early = k.2 })
-item_begun t s x stands knows h = tt
-
-pub items_begun : (t : View) (s : Registrar) (items : List Item) → Stands t → Knows t s → AllOf (IsKnownBegun t) items
-    → AllOf (IsBegunItem s.catalog) items
-items_begun t s [] stands knows h = tt
-items_begun t s (x ∷ items) stands knows h = (item_begun t s x stands knows h.0, items_begun t s items stands knows h.1)
+-- an item more that answers nothing
+pub plans_beside : (v : View) (r : Registry) (rows : List CatRow) (start : ℕ) (works : List Work) (items : List Item) (x : Item)
+    → length (answers items) ≡ length works → AreSoPlans v r rows start works items
+    → AreSoPlans v r rows start works (items ++ x ∷ [])
+plans_beside v r rows start works items x size h =
+    subst (λ (z : List Work). AreSoPlans v r rows start z (items ++ x ∷ [])) (append-nil works)
+    (plans_more v r rows start works [] items x size h tt)

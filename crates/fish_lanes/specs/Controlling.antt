@@ -4,6 +4,7 @@ use Rattle.fish_ingest.specs.Ingestion.{CanStart}
 use Rattle.fish_lanes.specs.Doing.{IsFit}
 use Rattle.fish_lanes.specs.Ending.{HasEnd}
 use Rattle.fish_lanes.specs.Gains.{Gains}
+use Rattle.fish_lanes.specs.Plans.{PlansAreSoBy}
 use Rattle.fish_lanes.specs.Records.{LaneRow, contents}
 use Rattle.fish_lanes.specs.Registering.{AreSo, IsBetween, IsSo, KnowsEach, KnowsRegistry, after, after_all, bound, registry_of}
 use Rattle.fish_lanes.specs.Running.{HasRun}
@@ -128,5 +129,6 @@ pub record HasControlled (v u : View) (r s : Registrar) (works : List Work) (ite
   pub so : AreSo v.learned.count u.learned.count (registry_of v r) items
   pub closed : IsAlone v → AllOf NamesNone items
   pub only : (end : ℕ) → HasEnd v end → r.waiting ≡ None → TellsOnly v u end works items
+  pub plans : PlansAreSoBy v u (registry_of v r) works items
   pub is : fault ≡ cause.None → registry_of u s ≡ after_all (registry_of v r) items
   pub each : fault ≡ cause.None → KnowsEach u (registry_of v r) items

@@ -5,7 +5,8 @@ use Rattle.fish_lanes.specs.Blocks.{At}
 use Rattle.fish_lanes.specs.Ending.{HasEnd}
 use Rattle.fish_lanes.specs.declared.work.LaneFault.TheVariants as cause
 use Rattle.fish_registry.specs.declared.registrar.Registrar.{Registrar}
-use Rattle.fish_lanes.specs.Plans.{IsBegunItem}
+use Rattle.fish_lanes.specs.Plans.{AreSoPlans}
+use Rattle.fish_lanes.specs.Registering.{Registry}
 use Rattle.fish_lanes.specs.Single.{NamesNone, TellsOnly}
 use Rattle.fish_lanes.specs.declared.lane.Lane.{Lane}
 use Rattle.fish_report.specs.declared.item.Item.TheVariants as item
@@ -32,9 +33,10 @@ TellsShutBy v u lanes = At (λ i x. x.fault ≡ cause.None) lanes → (c : Shut)
 
 -- ---- plans
 
--- the plans that the items of each lane tell have pieces by an index that begin where the index of their row had begun
-abbrev pub PlansAreBegun : List CatRow → List Lane → Type 0
-PlansAreBegun rows lanes = At (λ i x. AllOf (IsBegunItem rows) x.items) lanes
+-- what the items of each lane say of plans, where the definitions in front of the block are these, the rows behind it those, and the
+-- log ended at a number before it
+abbrev pub LanesSayPlans : View → Registry → List CatRow → ℕ → List Lane → Type 0
+LanesSayPlans v r rows from lanes = At (λ i x. AreSoPlans v r rows from x.works x.items) lanes
 
 -- ---- one lane
 

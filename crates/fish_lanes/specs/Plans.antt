@@ -1,38 +1,112 @@
--- Where the pieces by an index begin that the items of a lane tell of.
-use Rattle.std.specs.Prelude.{ℕ, ◌≡◌, ◌<◌, ◌≤◌, suc, List, Some, slice_get, ⊤}
+-- What plans, and refusals of a range that no index covers, say of the definitions: where pieces by an index lie, and that no number is
+-- read one by one that an index was known to hold.
+use Rattle.std.specs.Prelude.{ℕ, ◌≡◌, ◌≢◌, ◌<◌, ◌≤◌, suc, cond, drop, List, [], ◌∷◌, Some, slice_get, ⊤}
 use Rattle.fish_catalog.specs.declared.row.CatRow.{CatRow}
+use Rattle.fish_lanes.specs.Registering.{Registry, after}
+use Rattle.fish_lanes.specs.Single.{IsNamedAt}
+use Rattle.fish_lanes.specs.Spans.{is_answer}
+use Rattle.fish_lanes.specs.declared.work.Work.{Work}
+use Rattle.fish_lanes.specs.declared.work.Work.TheVariants as work
 use Rattle.fish_plan.specs.declared.pieces.Piece.{Piece}
-use Rattle.fish_plan.specs.declared.pieces.Piece.TheVariants.{Index}
-use Rattle.fish_registry.specs.Knowing.{HasBegunBy}
+use Rattle.fish_plan.specs.declared.pieces.Piece.TheVariants.{Full, Index}
+use Rattle.fish_registry.specs.Knowing.{HasBegunBy, IsRead}
 use Rattle.fish_report.specs.declared.item.Item.{Item}
 use Rattle.fish_report.specs.declared.item.Item.TheVariants as item
+use Rattle.fish_report.specs.declared.item.ScanCause.TheVariants as cause
 use Rattle.fish_rule.specs.Registry.{row_at}
 use Rattle.fish_rule.specs.Views.{Among}
 use Rattle.fish_rule.specs.declared.view.View.{View}
+use Rattle.fish_scan.specs.declared.ask.Ask.{Ask}
+use Rattle.fish_scan.specs.declared.ask.How.{How}
+use Rattle.fish_scan.specs.declared.ask.How.TheVariants as how
 
--- each piece by an index begins at or behind the number at which the index of its row begins
-abbrev pub AreBegun : List CatRow → List Piece → Type 0
-AreBegun rows plan = (place id begin end : ℕ) → slice_get plan place ≡ Some (Index id begin end)
-    → (row : CatRow) × (slice_get rows id ≡ Some row) × HasBegunBy begin row
+-- ---- numbers and pieces, by the rows that were told before, and by those that stand behind the block
 
--- so do those of a plan that the item tells
-abbrev pub IsBegunItem : List CatRow → Item → Type 0
-IsBegunItem rows (item.Explained name value from to plan version) = AreBegun rows plan
-IsBegunItem rows x = ⊤
+-- the number is covered: a row has the text whose index begins at the number or before it, as was told before, and ends behind it,
+-- if it has ended when the block has
+pub record IsCoveredNumber (told rows : List CatRow) (text : List ℕ) (n : ℕ) : Type 0 where
+  pub id : ℕ
+  pub row : CatRow
+  pub there : slice_get told id ≡ Some row
+  pub text_is : row.def ≡ text
+  pub begun : HasBegunBy n row
+  pub last : CatRow
+  pub stands : slice_get rows id ≡ Some last
+  pub before : (to : ℕ) → last.to ≡ Some to → n < to
+
+-- none of these numbers is
+abbrev pub HoldsNone : List CatRow → List CatRow → List ℕ → ℕ → ℕ → Type 0
+HoldsNone told rows text begin end = (n : ℕ) → begin ≤ n → n < end → ¬ IsCoveredNumber told rows text n
+
+-- a piece by the index of a row lies behind where the index begins, and below where it ends, if that was told before
+pub record IsIndexPiece (told rows : List CatRow) (id begin end : ℕ) : Type 0 where
+  pub row : CatRow
+  pub there : slice_get rows id ≡ Some row
+  pub begun : HasBegunBy begin row
+  pub ended : (early : CatRow) (to : ℕ) → slice_get told id ≡ Some early → early.to ≡ Some to → end ≤ to
+
+-- the pieces of a plan by a text: unless all numbers were to be read one by one, none below the log's end before the block is that
+-- is covered
+pub record IsPlanOf (told rows : List CatRow) (from : ℕ) (text : List ℕ) (way : How) (plan : List Piece) : Type 0 where
+  pub indexed : (place id begin end : ℕ) → slice_get plan place ≡ Some (Index id begin end) → IsIndexPiece told rows id begin end
+  pub full : way ≢ how.Full → (place begin end n : ℕ) → slice_get plan place ≡ Some (Full begin end) → begin ≤ n → n < end
+      → n < from → ¬ IsCoveredNumber told rows text n
+
+-- ---- items
+
+-- a plan, or a refusal, at a version: the text is that which the name means there
+pub record TellsPlanned (v : View) (told rows : List CatRow) (from : ℕ) (ask : Ask) (plan : List Piece) (version : ℕ) : Type 0 where
+  pub named : IsNamedAt v ask version
+  pub plan_is : IsPlanOf told rows from named.newest.listed.def ask.how plan
+
+pub record TellsUncovered (v : View) (told rows : List CatRow) (ask : Ask) (begin end version : ℕ) : Type 0 where
+  pub named : IsNamedAt v ask version
+  pub none : HoldsNone told rows named.newest.listed.def begin end
+
+abbrev pub TellsPlansOf : View → List CatRow → List CatRow → ℕ → Ask → Item → Type 0
+TellsPlansOf v told rows from ask (item.Explained name value first last plan version) = TellsPlanned v told rows from ask plan version
+TellsPlansOf v told rows from ask (item.ExplainRefused name version (cause.NotCovered first last)) =
+    TellsUncovered v told rows ask first last version
+TellsPlansOf v told rows from ask (item.ScanRefused name version (cause.NotCovered first last)) =
+    TellsUncovered v told rows ask first last version
+TellsPlansOf v told rows from ask x = ⊤
+
+-- the item of a statement
+abbrev pub TellsPlans : View → List CatRow → List CatRow → ℕ → Work → Item → Type 0
+TellsPlans v told rows from (work.Scan ask) x = TellsPlansOf v told rows from ask x
+TellsPlans v told rows from (work.Explain ask) x = TellsPlansOf v told rows from ask x
+TellsPlans v told rows from w x = ⊤
+
+-- of the first of some statements
+abbrev pub TellsFirstPlans : View → List CatRow → List CatRow → ℕ → List Work → Item → Type 0
+TellsFirstPlans v told rows from [] x = ⊤
+TellsFirstPlans v told rows from (w ∷ works) x = TellsPlans v told rows from w x
+
+-- the statements behind the item: a boundary that was found later answers none
+abbrev pub works_behind : Item → List Work → List Work
+works_behind x works = cond (is_answer x) (drop 1 works) works
+
+-- what the items of a lane say, where the definitions in front of them are these, and the rows behind the block those
+abbrev pub AreSoPlans : View → Registry → List CatRow → ℕ → List Work → List Item → Type 0
+AreSoPlans v r rows from works [] = ⊤
+AreSoPlans v r rows from works (x ∷ items) = TellsFirstPlans v r.rows rows from works x
+    × AreSoPlans v (after r x) rows from (works_behind x works) items
 
 -- ---- on the way
 
--- by a word that the pass has read, the index of the row with the id begins at the number
-pub record KnowsBegin (v : View) (id from : ℕ) : Type 0 where
-  pub few : id < 256
-  pub read : Among (record { index = row_at id 0; value = suc from }) v.learned.words
+-- the boundaries of the rows are words that the pass has read
+abbrev pub AreReadBounds : View → List CatRow → Type 0
+AreReadBounds v rows = (id : ℕ) (row : CatRow) → slice_get rows id ≡ Some row
+    → IsRead v (row_at id 0) row.from × IsRead v (row_at id 1) row.to
 
--- and so of each piece by an index, at its first number or below
-abbrev pub AreKnownBegun : View → List Piece → Type 0
-AreKnownBegun v plan = (place id begin end : ℕ) → slice_get plan place ≡ Some (Index id begin end)
-    → (from : ℕ) × KnowsBegin v id from × (from ≤ begin)
+-- the boundary words that the pass has read are those of the rows
+pub record AreBoundsIn (v : View) (rows : List CatRow) : Type 0 where
+  pub from : (id n : ℕ) → id < 256 → Among (record { index = row_at id 0; value = suc n }) v.learned.words
+      → (row : CatRow) × (slice_get rows id ≡ Some row) × (row.from ≡ Some n)
+  pub to : (id n : ℕ) → id < 256 → Among (record { index = row_at id 1; value = suc n }) v.learned.words
+      → (row : CatRow) × (slice_get rows id ≡ Some row) × (row.to ≡ Some n)
 
--- of a plan that the item tells
-abbrev pub IsKnownBegun : View → Item → Type 0
-IsKnownBegun v (item.Explained name value from to plan version) = AreKnownBegun v plan
-IsKnownBegun v x = ⊤
+-- between two views, the items of a lane say this of any rows whose boundaries its pass has read behind them
+abbrev pub PlansAreSoBy : View → View → Registry → List Work → List Item → Type 0
+PlansAreSoBy v u r works items = (rows : List CatRow) (from : ℕ) → AreBoundsIn u rows → from ≤ v.learned.settled
+    → AreSoPlans u r rows from works items

@@ -3,8 +3,9 @@ use Rattle.std.specs.Prelude.{ℕ, ◌≡◌, ◌≢◌, ◌<◌, All, List, [],
 use Rattle.fish_ingest.specs.Ingestion.{CanStart}
 use Rattle.fish_lanes.specs.Closing.{Sure}
 use Rattle.fish_lanes.specs.Gains.{Gains, IsFullBy}
-use Rattle.fish_lanes.specs.Plans.{IsKnownBegun}
+use Rattle.fish_lanes.specs.Plans.{AreReadBounds, PlansAreSoBy}
 use Rattle.fish_lanes.specs.Records.{LaneRow}
+use Rattle.fish_lanes.specs.Registering.{KnowsRegistry, Registry}
 use Rattle.fish_lanes.specs.Sizes.{TellsShut}
 use Rattle.fish_lanes.specs.Spans.{IsWithinSpan, Span, answers}
 use Rattle.fish_lanes.specs.Telling.{TellsLane}
@@ -44,9 +45,12 @@ pub record HasRun (v u : View) (works : List Work) (items : List Item) (fault : 
   pub gains : Gains v u rows
   pub tells : (s : Span) → IsWithinSpan v u s → s.full ≡ v.shut → Sure u (λ x log. TellsLane x s log rows works items)
   pub full : AllOf (IsFullItem u) items
-  pub begun : AllOf (IsKnownBegun u) items
   pub ended : IsEnded works items fault
   pub shuts : fault ≡ cause.None → TellsShut v u items
+
+-- what the items of statements that change no definition say of plans, where the pass had read these definitions before
+abbrev pub SayPlans : View → View → List Work → List Item → Type 0
+SayPlans v u works items = (r : Registry) → AreReadBounds v r.rows → KnowsRegistry v r → PlansAreSoBy v u r works items
 
 -- the pass is one of the log, live and out
 pub record CanBegin (log : Log) (pass : Pass) : Type 0 where
@@ -70,5 +74,6 @@ pub record HasDone (log : Log) (old new : Lane) : Type 0 where
   pub after_is : new.seat ≡ Some after
   pub can : CanBegin log after.pass
   pub run : HasRun (view before.pass) (view after.pass) old.works new.items new.fault
+  pub plans : SayPlans (view before.pass) (view after.pass) old.works new.items
   pub works : new.works ≡ old.works
   pub number : new.number ≡ old.number

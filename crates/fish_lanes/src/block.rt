@@ -7,13 +7,13 @@ ghost use Rattle.fish_lanes.specs.Blocks.{HasGiven, HasRegistered, HasRunFirst, 
 ghost use Rattle.fish_lanes.specs.Blocks.{IsMarkItem, IsNewLane, NameMarks, TellsBlock, TellsFirst};
 ghost use Rattle.fish_lanes.specs.Outcome.{AreVacant, TellsAlone, TellsAloneBy};
 ghost use Rattle.fish_lanes.specs.Blocks.{TellsOthers, WasTaken, WereTaken};
-ghost use Rattle.fish_lanes.specs.Outcome.{IsFullIn, PlansAreBegun, TellsShutBy};
+ghost use Rattle.fish_lanes.specs.Outcome.{IsFullIn, LanesSayPlans, TellsShutBy};
 ghost use Rattle.fish_lanes.specs.Closing.{Later, Will};
 ghost use Rattle.fish_lanes.specs.Controlling.{CanControl};
 ghost use Rattle.fish_lanes.specs.Ending.{HasEnd};
-ghost use Rattle.fish_lanes.specs.Plans.{IsBegunItem};
+ghost use Rattle.fish_lanes.specs.Plans.{AreSoPlans};
 ghost use Rattle.fish_lanes.specs.Registering.{IsAcceptable, KnowsRegistry, registry_of};
-ghost use Rattle.fish_lanes.specs.Running.{CanBegin, HasDone, HasRun, IsEnded, IsFree, IsReady};
+ghost use Rattle.fish_lanes.specs.Running.{CanBegin, HasDone, HasRun, IsEnded, IsFree, IsReady, SayPlans};
 ghost use Rattle.fish_lanes.specs.Sizes.{TellsClaim};
 ghost use Rattle.fish_lanes.specs.Spans.{Span};
 ghost use Rattle.fish_lanes.specs.declared.work.LaneFault.TheVariants as cause;
@@ -69,6 +69,7 @@ fn run_pass(
     requires empty { items.old ≡ [] }
     ensures pass { CanBegin log.now pass.new }
     ensures run { HasRun (view pass.old) (view pass.new) works.now items.new result }
+    ensures plans { SayPlans (view pass.old) (view pass.new) works.now items.new }
 {
     let mut defs = Defs::new(alloc);
     run_works(alloc, log, pass, &mut defs, works, items, gate)
@@ -252,8 +253,10 @@ fn run_lanes<R: Threads + Sync>(
     ensures shuts { first.new.fault ≡ cause.None → At (λ i x. x.fault ≡ cause.None) others.new
         → (c : Shut) → (view main.new).shut ≡ Some c → ((view main.old).shut ≡ Some c)
         ⊎ (TellsClaim c first.new.items ⊎ IsFullIn others.new c.line c.lines c.end) }
-    ensures first_begun { AllOf (IsBegunItem registrar.new.catalog) first.new.items }
-    ensures others_begun { PlansAreBegun registrar.new.catalog others.new }
+    ensures first_plans { (from : ℕ) → HasEnd (view main.old) from → AreSoPlans (view main.new)
+        (registry_of (view main.old) registrar.old) registrar.new.catalog from first.new.works first.new.items }
+    ensures others_plans { (from : ℕ) → HasEnd (view main.old) from → LanesSayPlans (view main.new)
+        (registry_of (view main.old) registrar.old) registrar.new.catalog from others.new }
     ensures first_marks { AllOf (IsMarkItem (view main.new)) first.new.items }
     ensures others_marks { NameMarks (view main.new) others.new }
 {
@@ -304,7 +307,8 @@ pub fn run_block<R: Threads + Sync>(
     ensures alone { TellsAlone (view main.old) (view main.new) registrar.old lanes.new }
     ensures ended { AreEnded lanes.new }
     ensures marks { NameMarks (view main.new) lanes.new }
-    ensures begun { PlansAreBegun registrar.new.catalog lanes.new }
+    ensures plans { (from : ℕ) → HasEnd (view main.old) from → LanesSayPlans (view main.new)
+        (registry_of (view main.old) registrar.old) registrar.new.catalog from lanes.new }
     ensures shuts { TellsShutBy (view main.old) (view main.new) lanes.new }
 {
     let (first, others) = lanes.split_at_mut(1);

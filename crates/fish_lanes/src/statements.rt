@@ -4,7 +4,7 @@ ghost use Rattle.std.specs.Prelude.{◌≡◌, [], All, IfOk, IfErr};
 ghost use Rattle.fish_epoch.specs.Definitions.{IsDefsOf};
 ghost use Rattle.fish_ingest.specs.Ingestion.{CanStart};
 ghost use Rattle.fish_lanes.specs.Doing.{IsItem, IsPart};
-ghost use Rattle.fish_lanes.specs.Running.{HasRun, IsFree};
+ghost use Rattle.fish_lanes.specs.Running.{HasRun, IsFree, SayPlans};
 ghost use Rattle.fish_lanes.specs.declared.work.Work.TheVariants as work;
 ghost use Rattle.fish_rule.specs.Logs.{Learns};
 ghost use Rattle.fish_rule.specs.Passes.{IsPassOf, view};
@@ -38,6 +38,7 @@ pub(crate) fn run_works(
     ensures pass { IsPassOf log.now pass.new }
     ensures defs { IsDefsOf (view pass.new) defs.new }
     ensures run { HasRun (view pass.old) (view pass.new) works.now items.new result }
+    ensures plans { SayPlans (view pass.old) (view pass.new) works.now items.new }
 {
     let mut place: u32 = 0;
     for work in works {

@@ -1,5 +1,5 @@
 -- An index begins at the count that was loaded behind the last lane.
-use Rattle.std.proofs.Common.{◌≡◌, ℕ, ◌≤◌, suc, ◌∷◌, Some, None, refl, sym, ap, ◌∙◌, subst, arith}
+use Rattle.std.proofs.Common.{◌≡◌, ℕ, ◌≤◌, suc, List, ◌∷◌, Some, None, refl, sym, ap, ◌∙◌, subst, inl, inr, arith}
 use Rattle.fish_registry.proofs.Changing.{changes_from}
 use Rattle.fish_registry.specs.Knowing.{IsAwaited}
 use Rattle.fish_registry.specs.Looking.{HasBound, at_lane}
@@ -8,9 +8,11 @@ use Rattle.fish_rule.proofs.laws.Clocks.{later_both, later_noted, later_self, la
 use Rattle.fish_rule.specs.BoundarySteps.{CanLoadBound, CanStoreFrom, after_load_bound, after_store_from}
 use Rattle.fish_rule.specs.Clocks.{HasLoaded}
 use Rattle.fish_rule.specs.Registry.{row_at}
+use Rattle.fish_rule.specs.Views.{Among}
 use Rattle.fish_rule.specs.World.{high}
 use Rattle.fish_rule.specs.declared.view.Clock.{Clock}
 use Rattle.fish_rule.specs.declared.view.Noted.TheVariants.{Tail}
+use Rattle.fish_rule.specs.declared.view.RegistryWord.{RegistryWord}
 use Rattle.fish_rule.specs.declared.view.Round.{Round}
 use Rattle.fish_rule.specs.declared.view.View.{View}
 
@@ -42,8 +44,8 @@ bound_at v u z w x from h is same more stored =
     let last : View = after_store_from (after_load_bound v h.round x) o from in
     let clock : z.clock ≡ last.clock = ap (λ (y : View). y.clock) whole in
     record {
-      changes = changes_from v z v.rows last.main_words None last.tail (high x) v.learned.version v.learned.opens last.clock
-          whole (omega arith) (omega arith) (λ o m. m)
+      changes = changes_from v z v.rows last.main_words None last.tail (high x) v.learned.version last.learned.words
+          v.learned.opens last.clock whole (omega arith) (omega arith) (λ y m. inr m) (λ o m. m)
           (later_both v.clock _ last.clock (later_noted v.clock Tail x)
           (later_ticked (Rattle.fish_rule.specs.SpaceSteps.noted v.clock Tail x))) refl;
       counted = record {
@@ -55,6 +57,9 @@ bound_at v u z w x from h is same more stored =
       };
       main_words = ap (λ (y : View). y.main_words) whole
           ∙ ap (λ (n : ℕ). record { index = row_at n 0; value = suc from } ∷ v.main_words) h.id;
+      read = subst (λ (ws : List RegistryWord). Among (record { index = row_at w.id 0; value = suc from }) ws)
+          (sym (ap (λ (y : View). y.learned.words) whole))
+          (inl (ap (λ (n : ℕ). let q : RegistryWord = record { index = row_at n 0; value = suc from } in q) h.id));
       rows = ap (λ (y : View). y.rows) whole;
       round = ap (λ (y : View). y.round) whole;
       count = ap (λ (y : View). y.learned.count) whole ∙ sym same;

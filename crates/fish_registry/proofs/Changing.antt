@@ -1,7 +1,7 @@
 -- Views that go on as the control pass changes the registry.
 use Rattle.std.proofs.Common.{◌≡◌, ℕ, ◌≤◌, List, [], ◌∷◌, inr, Option, Some, refl, sym, ap, ◌∙◌, subst, arith}
 use Rattle.fish_catalog.specs.declared.listed.Listed.{Listed}
-use Rattle.fish_registry.specs.Changing.{Changes, HasCounted, Stays}
+use Rattle.fish_registry.specs.Changing.{Changes, HasCounted, IsAtTail, Stays}
 use Rattle.fish_registry.specs.Looking.{Looks}
 use Rattle.fish_rule.proofs.laws.Clocks.{later_both, later_noted, later_self, loaded_within, noted_load}
 use Rattle.fish_rule.specs.Clocks.{HasLoaded, IsLater}
@@ -9,6 +9,7 @@ use Rattle.fish_rule.specs.RegistrySteps.{after_load_version}
 use Rattle.fish_rule.specs.Epochs.{confirmed}
 use Rattle.fish_rule.specs.Logs.{Learns}
 use Rattle.fish_rule.specs.LoadSteps.{after_load_tail}
+use Rattle.fish_rule.specs.Parts.{Rests}
 use Rattle.fish_rule.specs.SpaceSteps.{noted}
 use Rattle.fish_rule.specs.Views.{Among}
 use Rattle.fish_rule.specs.World.{high, low}
@@ -24,16 +25,18 @@ use Rattle.fish_rule.specs.declared.view.View.{View}
 
 -- a view that is another one but for these changes it
 pub changes_from : (v u : View) (rows : List Listed) (main_words : List RegistryWord) (round : Option Round)
-    (tail : Option Position) (count version : ℕ) (opens : List Opens) (clock : Clock) → u ≡ record v {
+    (tail : Option Position) (count version : ℕ) (words : List RegistryWord) (opens : List Opens) (clock : Clock)
+    → u ≡ record v {
       rows = rows;
       main_words = main_words;
       round = round;
       tail = tail;
-      learned = record v.learned { count = count; version = version; opens = opens };
+      learned = record v.learned { count = count; version = version; words = words; opens = opens };
       clock = clock;
-    } → v.learned.count ≤ count → v.learned.version ≤ version → ((o : Opens) → Among o v.learned.opens → Among o opens)
-    → IsLater v.clock clock → clock.loads ≡ v.clock.loads → Changes v u
-changes_from v u rows main_words round tail count version opens clock is counted reached more later loads =
+    } → v.learned.count ≤ count → v.learned.version ≤ version
+    → ((x : RegistryWord) → Among x v.learned.words → Among x words)
+    → ((o : Opens) → Among o v.learned.opens → Among o opens) → IsLater v.clock clock → clock.loads ≡ v.clock.loads → Changes v u
+changes_from v u rows main_words round tail count version words opens clock is counted reached read more later loads =
     let many : u.learned.count ≡ count = ap (λ (z : View). z.learned.count) is in
     let made : u.learned.version ≡ version = ap (λ (z : View). z.learned.version) is in
     let clock_is : u.clock ≡ clock = ap (λ (z : View). z.clock) is in
@@ -46,12 +49,14 @@ changes_from v u rows main_words round tail count version opens clock is counted
         learned = record v.learned {
           count = ap (λ (z : View). z.learned.count) (sym is) i;
           version = ap (λ (z : View). z.learned.version) (sym is) i;
+          words = ap (λ (z : View). z.learned.words) (sym is) i;
           opens = ap (λ (z : View). z.learned.opens) (sym is) i;
         };
         clock = ap (λ (z : View). z.clock) (sym is) i;
       });
       count = omega arith;
       version = omega arith;
+      words = λ x m. subst (λ (z : List RegistryWord). Among x z) (sym (ap (λ (z : View). z.learned.words) is)) (read x m);
       opens = λ o m. subst (λ (z : List Opens). Among o z) (sym (ap (λ (z : View). z.learned.opens) is)) (more o m);
       clock = subst (IsLater v.clock) (sym clock_is) later;
       loads = ap (λ (z : Clock). z.loads) clock_is ∙ loads;
@@ -59,19 +64,19 @@ changes_from v u rows main_words round tail count version opens clock is counted
 
 -- and so does one that is another one but for its clock
 pub changes_stays : (v u : View) → Stays v u → Changes v u
-changes_stays v u h = changes_from v u v.rows v.main_words v.round v.tail v.learned.count v.learned.version v.learned.opens
-    u.clock h.frame (omega arith) (omega arith) (λ o m. m) h.clock h.loads
+changes_stays v u h = changes_from v u v.rows v.main_words v.round v.tail v.learned.count v.learned.version v.learned.words
+    v.learned.opens u.clock h.frame (omega arith) (omega arith) (λ x m. m) (λ o m. m) h.clock h.loads
 
 -- or for the lanes that were looked at
 pub changes_looks : (v u : View) → Looks v u → Changes v u
-changes_looks v u h = changes_from v u v.rows v.main_words u.round v.tail v.learned.count v.learned.version v.learned.opens
-    u.clock h.frame (omega arith) (omega arith) (λ o m. m) h.clock h.loads
+changes_looks v u h = changes_from v u v.rows v.main_words u.round v.tail v.learned.count v.learned.version v.learned.words
+    v.learned.opens u.clock h.frame (omega arith) (omega arith) (λ x m. m) (λ o m. m) h.clock h.loads
 
 -- a load of the tail changes a view
 pub changes_end : (v u : View) (x : ℕ) → u ≡ after_load_tail v x → v.learned.count ≤ high x → Changes v u
 changes_end v u x is more = changes_from v u v.rows v.main_words v.round (Some (record { number = high x; line = low x }))
-    (high x) v.learned.version (record { count = high x; numbers = [] } ∷ v.learned.opens) (noted v.clock Tail x) is more
-    (omega arith) (λ o m. inr m) (later_noted v.clock Tail x) refl
+    (high x) v.learned.version v.learned.words (record { count = high x; numbers = [] } ∷ v.learned.opens)
+    (noted v.clock Tail x) is more (omega arith) (λ y m. m) (λ o m. inr m) (later_noted v.clock Tail x) refl
 
 -- one change behind another
 pub changes_both : (a b c : View) → Changes a b → Changes b c → Changes a c
@@ -86,11 +91,17 @@ changes_both a b c e f =
         main_words = c.main_words;
         round = c.round;
         tail = c.tail;
-        learned = record z.learned { count = c.learned.count; version = c.learned.version; opens = c.learned.opens };
+        learned = record z.learned {
+          count = c.learned.count;
+          version = c.learned.version;
+          words = c.learned.words;
+          opens = c.learned.opens;
+        };
         clock = c.clock;
       }) e.frame;
       count = omega arith;
       version = omega arith;
+      words = λ x m. f.words x (e.words x m);
       opens = λ o m. f.opens o (e.opens o m);
       clock = later_both a.clock b.clock c.clock e.clock f.clock;
       loads = f.loads ∙ e.loads;
@@ -107,7 +118,7 @@ learns_changes v u h =
       count = h.count;
       settled = omega arith;
       version = h.version;
-      words = λ x m. m;
+      words = h.words;
       found = λ x m. m;
       known = λ x m. m;
       records = λ x m. m;
@@ -156,3 +167,11 @@ counted_within a b c d n p h q = record {
   loaded = loaded_within a.clock b.clock c.clock d.clock Tail h.tail p h.loaded q;
   is = h.is;
 }
+
+-- a tail that a pass finds where it was left is the one that it knew
+pub at_tail : (v : View) (number line : ℕ) → Rests number line v.tail → IsAtTail v number
+at_tail v number line rests at is = sym (subst (Rests number line) is rests).0
+
+-- and so it is for a view with the same tail
+pub same_tail : (v u : View) (n : ℕ) → u.tail ≡ v.tail → IsAtTail u n → IsAtTail v n
+same_tail v u n same h at is = h at (same ∙ is)

@@ -20,9 +20,10 @@ use Rattle.fish_registry.specs.Looking.{HasBound, Looks, at_lane}
 use Rattle.fish_registry.specs.Rows.{HasEnded, HasRegistered, HasTailed, MayEnd}
 use Rattle.fish_registry.specs.declared.registrar.Registrar.{Registrar}
 use Rattle.fish_registry.specs.declared.registrar.Waiting.{Waiting}
-use Rattle.fish_rule.proofs.laws.Versions.{drafted_here}
+use Rattle.fish_rule.proofs.laws.Versions.{drafted_here, set_here}
 use Rattle.fish_rule.specs.Registry.{main_word, row_at}
 use Rattle.fish_rule.specs.Table.{boundaries_of, first_view}
+use Rattle.fish_rule.specs.Views.{Among}
 use Rattle.fish_rule.specs.declared.view.RegistryWord.{RegistryWord}
 use Rattle.fish_rule.specs.declared.view.View.{View}
 
@@ -41,17 +42,27 @@ awaits_on v u (Some w) same h = record {
   few = h.few;
 }
 
+-- words that are all read later too
+abbrev Rereads : View → View → Type 0
+Rereads v u = (x : RegistryWord) → Among x v.learned.words → Among x u.learned.words
+
+-- with the same words, they are
+rereads_same : (v u : View) → u.learned.words ≡ v.learned.words → Rereads v u
+rereads_same v u same x m = subst (λ (z : List RegistryWord). Among x z) (sym same) m
+
 -- with the same lane, definitions, boundaries and registration, and no smaller count, all stays known
 pub knows_rows : (v u : View) (rows : List CatRow) (waiting : Option Waiting) → u.lane ≡ v.lane → u.rows ≡ v.rows
-    → u.main_words ≡ v.main_words → u.round ≡ v.round → v.learned.count ≤ u.learned.count → KnowsRows v rows waiting
-    → KnowsRows u rows waiting
-knows_rows v u rows waiting lane same main_words round count h = record {
+    → u.main_words ≡ v.main_words → u.round ≡ v.round → v.learned.count ≤ u.learned.count → Rereads v u
+    → KnowsRows v rows waiting → KnowsRows u rows waiting
+knows_rows v u rows waiting lane same main_words round count words h = record {
   main = lane ∙ h.main;
   listed = h.listed ∙ sym same;
   bounds = λ id row there. let b = h.bounds id row there in
       record {
         from = ap (λ (ws : List RegistryWord). main_word ws (row_at id 0)) main_words ∙ b.from;
         to = ap (λ (ws : List RegistryWord). main_word ws (row_at id 1)) main_words ∙ b.to;
+        read_from = λ n is. words _ (b.read_from n is);
+        read_to = λ n is. words _ (b.read_to n is);
         counted = λ n is. (let most = b.counted n is in omega arith);
       };
   begun = h.begun;
@@ -60,7 +71,8 @@ knows_rows v u rows waiting lane same main_words round count h = record {
 }
 
 pub knows_on : KnowsOn
-knows_on v u r lane same main_words round count h = knows_rows v u r.catalog r.waiting lane same main_words round count h
+knows_on v u r lane same main_words round learns h =
+    knows_rows v u r.catalog r.waiting lane same main_words round learns.count learns.words h
 
 -- so it does where nothing but the clock changed
 pub knows_stays : (v u : View) (rows : List CatRow) (waiting : Option Waiting) → Stays v u → KnowsRows v rows waiting
@@ -68,7 +80,8 @@ pub knows_stays : (v u : View) (rows : List CatRow) (waiting : Option Waiting) �
 knows_stays v u rows waiting stays h = knows_rows v u rows waiting (ap (λ (z : View). z.lane) stays.frame)
     (ap (λ (z : View). z.rows) stays.frame) (ap (λ (z : View). z.main_words) stays.frame)
     (ap (λ (z : View). z.round) stays.frame)
-    (let e = ap (λ (z : View). z.learned.count) stays.frame in omega arith) h
+    (let e = ap (λ (z : View). z.learned.count) stays.frame in omega arith)
+    (rereads_same v u (ap (λ (z : View). z.learned.words) stays.frame)) h
 
 -- and where the tail was loaded
 pub knows_tailed : (v u : View) (rows : List CatRow) (waiting : Option Waiting) (n : ℕ) → HasTailed v u n
@@ -76,7 +89,8 @@ pub knows_tailed : (v u : View) (rows : List CatRow) (waiting : Option Waiting) 
 knows_tailed v u rows waiting n tailed h = knows_rows v u rows waiting (ap (λ (z : View). z.lane) tailed.view)
     (ap (λ (z : View). z.rows) tailed.view) (ap (λ (z : View). z.main_words) tailed.view)
     (ap (λ (z : View). z.round) tailed.view)
-    (let e = ap (λ (z : View). z.learned.count) tailed.view in let more = tailed.more in let is = tailed.is in omega arith) h
+    (let e = ap (λ (z : View). z.learned.count) tailed.view in let more = tailed.more in let is = tailed.is in omega arith)
+    (rereads_same v u (ap (λ (z : View). z.learned.words) tailed.view)) h
 
 -- ---- the start
 
@@ -116,6 +130,10 @@ knows_first r settled k same begun =
                 ∙ drafted_here 0 id 0 k.rows.value row at (omega arith) ∙ from_is row;
             to = ap (λ (n : ℕ). main_word (boundaries_of 0 k.rows.value) (row_at n 1)) (sym place)
                 ∙ drafted_here 0 id 1 k.rows.value row at (omega arith) ∙ to_is row;
+            read_from = λ n is. subst (λ (m : ℕ). Among (record { index = row_at m 0; value = suc n }) v.learned.words) place
+                (set_here 0 id 0 n k.rows.value row at (omega arith) (from_is row ∙ ap bound_word is));
+            read_to = λ n is. subst (λ (m : ℕ). Among (record { index = row_at m 1; value = suc n }) v.learned.words) place
+                (set_here 0 id 1 n k.rows.value row at (omega arith) (to_is row ∙ ap bound_word is));
             counted = λ n is. (let e : h.from ≡ n = same_Some h.from n (sym h.begins ∙ is) in
                 let early = h.early in omega arith);
           };
@@ -154,6 +172,8 @@ knows_begun v u rows name def id version h is_id is_version made unset room =
             record {
               from = made.bounds n 0 (omega arith) ∙ o.from;
               to = made.bounds n 1 (omega arith) ∙ o.to;
+              read_from = λ m is. made.changes.words _ (o.read_from m is);
+              read_to = λ m is. made.changes.words _ (o.read_to m is);
               counted = λ m is. (let most = o.counted m is in let up = made.changes.count in omega arith);
             })
         | inr new ↦ (let place = new.0 in
@@ -162,6 +182,8 @@ knows_begun v u rows name def id version h is_id is_version made unset room =
                   ∙ ap (λ (r : CatRow). bound_word r.from) new.1;
               to = made.bounds n 1 (omega arith) ∙ unset n 1 (omega arith) (omega arith) (omega arith)
                   ∙ ap (λ (r : CatRow). bound_word r.to) new.1;
+              read_from = λ m is. (let e = sym (ap (λ (r : CatRow). r.from) new.1 ∙ is) in absurd cc);
+              read_to = λ m is. (let e = sym (ap (λ (r : CatRow). r.to) new.1 ∙ is) in absurd cc);
               counted = λ m is. (let e = sym (ap (λ (r : CatRow). r.from) new.1 ∙ is) in absurd cc);
             })
       ];
@@ -196,9 +218,12 @@ knows_older v u rows w lane h looks awaited = record {
   bounds = λ id row there. let b = h.bounds id row there in
       let main_words = ap (λ (z : View). z.main_words) looks.frame in
       let count = ap (λ (z : View). z.learned.count) looks.frame in
+      let words = ap (λ (z : View). z.learned.words) looks.frame in
       record {
         from = ap (λ (ws : List RegistryWord). main_word ws (row_at id 0)) main_words ∙ b.from;
         to = ap (λ (ws : List RegistryWord). main_word ws (row_at id 1)) main_words ∙ b.to;
+        read_from = λ n is. rereads_same v u words _ (b.read_from n is);
+        read_to = λ n is. rereads_same v u words _ (b.read_to n is);
         counted = λ n is. (let most = b.counted n is in omega arith);
       };
   begun = h.begun;
@@ -222,6 +247,8 @@ knows_bound v u z rows w from h looks bound =
     let count_u = ap (λ (y : View). y.learned.count) looks.frame in
     let more = bound.changes.count in
     let count = bound.count in
+    let reread : Rereads v z =
+    λ x m. bound.changes.words x (rereads_same v u (ap (λ (y : View). y.learned.words) looks.frame) x m) in
     record {
       main = ap (λ (y : View). y.lane) bound.changes.frame ∙ ap (λ (y : View). y.lane) looks.frame ∙ h.main;
       listed = listed_with_from rows w.id from ∙ h.listed ∙ sym (ap (λ (y : View). y.rows) looks.frame) ∙ sym bound.rows;
@@ -232,6 +259,10 @@ knows_bound v u z rows w from h looks bound =
                 record {
                   from = here (row_at n 0) (omega arith) ∙ ap (λ (r : CatRow). bound_word r.from) same.1;
                   to = other (row_at n 1) (λ e. omega arith) ∙ o.to ∙ ap (λ (r : CatRow). bound_word r.to) same.1;
+                  read_from = λ m is. (let e : from ≡ m = same_Some from m (ap (λ (r : CatRow). r.from) same.1 ∙ is) in
+                      subst (λ (y : ℕ × ℕ). Among (record { index = row_at y.0 0; value = suc y.1 }) z.learned.words)
+                      (λ i. (sym place i, e i)) bound.read);
+                  read_to = λ m is. reread _ (o.read_to m (ap (λ (r : CatRow). r.to) same.1 ∙ is));
                   counted = λ m is. (let e : from ≡ m = same_Some from m (ap (λ (r : CatRow). r.from) same.1 ∙ is) in
                       omega arith);
                 })
@@ -240,6 +271,8 @@ knows_bound v u z rows w from h looks bound =
                   from = other (row_at n 0) (λ e. ne (omega arith)) ∙ o.from
                       ∙ ap (λ (r : CatRow). bound_word r.from) apart.1;
                   to = other (row_at n 1) (λ e. omega arith) ∙ o.to ∙ ap (λ (r : CatRow). bound_word r.to) apart.1;
+                  read_from = λ m is. reread _ (o.read_from m (ap (λ (r : CatRow). r.from) apart.1 ∙ is));
+                  read_to = λ m is. reread _ (o.read_to m (ap (λ (r : CatRow). r.to) apart.1 ∙ is));
                   counted = λ m is. (let most = o.counted m (ap (λ (r : CatRow). r.from) apart.1 ∙ is) in omega arith);
                 })
           ];
@@ -330,11 +363,17 @@ knows_ended v u rows id to row listing h there ended =
                   ∙ ap (λ (r : CatRow). bound_word r.from) same.1;
               to = ap (λ (m : ℕ). main_word u.main_words (row_at m 1)) same.0 ∙ ended.end
                   ∙ ap (λ (r : CatRow). bound_word r.to) same.1;
+              read_from = λ m is. ended.changes.words _ (o.read_from m (ap (λ (r : CatRow). r.from) same.1 ∙ is));
+              read_to = λ m is. (let e : to ≡ m = same_Some to m (ap (λ (r : CatRow). r.to) same.1 ∙ is) in
+                  subst (λ (y : ℕ × ℕ). Among (record { index = row_at y.0 1; value = suc y.1 }) u.learned.words)
+                  (λ i. (sym same.0 i, e i)) ended.read);
               counted = λ m is. (let most = o.counted m (ap (λ (r : CatRow). r.from) same.1 ∙ is) in omega arith);
             }
             | inr apart ↦ record {
               from = ended.bounds n 0 (omega arith) apart.0 ∙ o.from ∙ ap (λ (r : CatRow). bound_word r.from) apart.1;
               to = ended.bounds n 1 (omega arith) apart.0 ∙ o.to ∙ ap (λ (r : CatRow). bound_word r.to) apart.1;
+              read_from = λ m is. ended.changes.words _ (o.read_from m (ap (λ (r : CatRow). r.from) apart.1 ∙ is));
+              read_to = λ m is. ended.changes.words _ (o.read_to m (ap (λ (r : CatRow). r.to) apart.1 ∙ is));
               counted = λ m is. (let most = o.counted m (ap (λ (r : CatRow). r.from) apart.1 ∙ is) in omega arith);
             }
           ];

@@ -153,20 +153,21 @@ module _ (v : View) (row : CatRow) (version id : ℕ) (u : View) (is : IsDrafted
       let h = is.main_word in
       record {
         changes = changes_from v u' u'.rows u'.main_words u'.round v.tail v.learned.count (suc v.learned.version)
-            v.learned.opens u'.clock
+            v.learned.words v.learned.opens u'.clock
             (ap (λ (z : View). record z {
               rows = u'.rows;
               main_words = u'.main_words;
               round = u'.round;
               learned = record z.learned { version = suc z.learned.version };
               clock = u'.clock;
-            }) only) (omega arith) (omega arith) (λ o m. m)
+            }) only) (omega arith) (omega arith) (λ x m. m) (λ o m. m)
             (later_both v.clock u.clock u'.clock h.clock
             (later_both u.clock behind.clock u'.clock (later_ticked u.clock) (later_ticked behind.clock))) h.loads;
         rows = ap (made (main_word behind.main_words) (next_operation behind)) same_rows ∙ made_rows;
         version = ap (λ (z : View). suc z.learned.version) only;
         count = ap (λ (z : View). z.learned.count) only;
         round = waits;
+        tail = ap (λ (z : View). z.tail) only;
         bounds = λ n i small. let few = is.make.few in
             choose_second (ℕ_discrete (row_at n i) (20 + version)) (256 + id) (main_word u.main_words (row_at n i))
             (λ same. omega arith) ∙ h.bounds n i small;

@@ -1,11 +1,12 @@
 -- What a registrar keeps of the definitions is what its pass knows of the log's words.
-use Rattle.std.specs.Prelude.{ℕ, ◌≡◌, ◌<◌, ◌≤◌, List, All, Option, Some, None, map, slice_get}
+use Rattle.std.specs.Prelude.{ℕ, ◌≡◌, ◌<◌, ◌≤◌, suc, List, All, Option, Some, None, map, slice_get}
 use Rattle.fish_catalog.specs.Listing.{listed_of}
 use Rattle.fish_catalog.specs.Rows.{AwaitsFrom}
 use Rattle.fish_catalog.specs.Words.{bound_word}
 use Rattle.fish_catalog.specs.declared.row.CatRow.{CatRow}
 use Rattle.fish_registry.specs.declared.registrar.Registrar.{Registrar}
 use Rattle.fish_registry.specs.declared.registrar.Waiting.{Waiting}
+use Rattle.fish_rule.specs.Logs.{Learns}
 use Rattle.fish_rule.specs.Registry.{main_word, row_at}
 use Rattle.fish_rule.specs.Table.{first_view}
 use Rattle.fish_rule.specs.Views.{Among}
@@ -40,10 +41,16 @@ abbrev pub Awaits : View → Option Waiting → Type 0
 Awaits v None = v.round ≡ None
 Awaits v (Some w) = IsAwaited v w
 
--- the boundaries of the row with an id are those that the pass stored last
+-- a boundary that is set is one that the pass has read
+abbrev pub IsRead : View → ℕ → Option ℕ → Type 0
+IsRead v p bound = (n : ℕ) → bound ≡ Some n → Among (record { index = p; value = suc n }) v.learned.words
+
+-- the boundaries of the row with an id are those that the pass stored last, and it has read them
 pub record HasBounds (v : View) (id : ℕ) (row : CatRow) : Type 0 where
   pub from : main_word v.main_words (row_at id 0) ≡ bound_word row.from
   pub to : main_word v.main_words (row_at id 1) ≡ bound_word row.to
+  pub read_from : IsRead v (row_at id 0) row.from
+  pub read_to : IsRead v (row_at id 1) row.to
   pub counted : (n : ℕ) → row.from ≡ Some n → n ≤ v.learned.count
 
 -- these rows, and the registration that waits, are what the control pass knows
@@ -70,7 +77,7 @@ abbrev pub KnowsFirst : Registrar → Type 0
 KnowsFirst r = (k : Key) → k.rows.value ≡ r.catalog → All (HasBegunBy k.number) r.catalog → Knows (first_view k) r
 
 -- what a registrar keeps stays what its pass knows, whatever else that pass does: its lane, definitions, boundaries and
--- the registration that waits are the same, and it counts no fewer numbers
+-- the registration that waits are the same, and it has learned no less
 abbrev pub KnowsOn : Type 0
 KnowsOn = (v u : View) (r : Registrar) → u.lane ≡ v.lane → u.rows ≡ v.rows → u.main_words ≡ v.main_words → u.round ≡ v.round
-    → v.learned.count ≤ u.learned.count → Knows v r → Knows u r
+    → Learns v u → Knows v r → Knows u r

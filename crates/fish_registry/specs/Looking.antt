@@ -6,6 +6,7 @@ use Rattle.fish_registry.specs.declared.looking.Older.{Older}
 use Rattle.fish_registry.specs.declared.registrar.Waiting.{Waiting}
 use Rattle.fish_rule.specs.Clocks.{HasLoaded, IsLater}
 use Rattle.fish_rule.specs.Registry.{row_at}
+use Rattle.fish_rule.specs.Views.{Among}
 use Rattle.fish_rule.specs.declared.view.Noted.TheVariants.{Epoch}
 use Rattle.fish_rule.specs.declared.view.View.{View}
 
@@ -31,6 +32,7 @@ pub record HasBound (v : View) (w : Waiting) (u : View) (from : ℕ) : Type 0 wh
   pub changes : Changes v u
   pub counted : HasCounted v u from
   pub main_words : u.main_words ≡ record { index = row_at w.id 0; value = suc from } ∷ v.main_words
+  pub read : Among (record { index = row_at w.id 0; value = suc from }) u.learned.words
   pub rows : u.rows ≡ v.rows
   pub round : u.round ≡ None
   pub count : u.learned.count ≡ from

@@ -7,7 +7,7 @@ use Rattle.fish_lang.specs.Canonical.{definition_text}
 use Rattle.fish_lang.specs.Definition.{definition_of}
 use Rattle.fish_lang.specs.Language.{IsAccepted}
 use Rattle.fish_lang.specs.declared.definition.Def.{Def}
-use Rattle.fish_registry.specs.Changing.{HasCounted}
+use Rattle.fish_registry.specs.Changing.{HasCounted, IsAtTail}
 use Rattle.fish_registry.specs.Knowing.{IsWaiting}
 use Rattle.fish_registry.specs.Looking.{at_lane}
 use Rattle.fish_registry.specs.declared.outcome.Poll.{Poll}
@@ -43,6 +43,7 @@ pub record HasBegun (v : View) (r : Registrar) (name : List ℕ) (def : Def) (u 
   pub rows : s.catalog ≡ r.catalog ++ new_row (length r.catalog) name (definition_text (definition_of def)) ∷ []
   pub waits : s.waiting ≡ Some (record { id = id; version = suc v.learned.version; lane = 2 })
   pub version : u.learned.version ≡ suc v.learned.version
+  pub tail : u.tail ≡ v.tail
 
 -- what a look at the lanes tells, and what it leaves: an index that begins now begins at the count of the tail, which is
 -- all that the pass has counted; else the rows stay, and so does the registration that waits
@@ -59,6 +60,11 @@ abbrev pub IsClear : Poll → Type 0
 IsClear poll.Idle = ⊤
 IsClear (poll.NotYet seat version) = ⊥
 IsClear (poll.Bound id from) = ⊤
+
+-- an index that begins now begins at the tail that the pass knew
+abbrev pub BeginsAtTail : View → Poll → Type 0
+BeginsAtTail v (poll.Bound id from) = IsAtTail v from
+BeginsAtTail v x = ⊤
 
 -- a refusal that comes before the rows are looked at
 abbrev pub IsOfVersions : RegRefusal → Type 0

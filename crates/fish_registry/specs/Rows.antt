@@ -7,6 +7,7 @@ use Rattle.fish_registry.specs.Changing.{Changes}
 use Rattle.fish_rule.specs.Clocks.{IsLater}
 use Rattle.fish_rule.specs.LoadSteps.{after_load_tail}
 use Rattle.fish_rule.specs.Registry.{main_word, row_at}
+use Rattle.fish_rule.specs.Views.{Among}
 use Rattle.fish_rule.specs.World.{high}
 use Rattle.fish_rule.specs.declared.view.Epoch.TheVariants.{Out}
 use Rattle.fish_rule.specs.declared.view.View.{View}
@@ -43,6 +44,7 @@ pub record HasRegistered (v : View) (row : CatRow) (u : View) : Type 0 where
   pub version : u.learned.version ≡ suc v.learned.version
   pub count : u.learned.count ≡ v.learned.count
   pub round : u.round ≡ Some (record { id = row.id; version = suc v.learned.version; checked = 1 ∷ []; bound = None })
+  pub tail : u.tail ≡ v.tail
   pub bounds : (n i : ℕ) → i < 2 → main_word u.main_words (row_at n i) ≡ main_word v.main_words (row_at n i)
 
 -- the index of an active row may end at a number
@@ -63,6 +65,7 @@ pub record HasEnded (v : View) (id to : ℕ) (u : View) : Type 0 where
   pub count : u.learned.count ≡ v.learned.count
   pub round : u.round ≡ None
   pub end : main_word u.main_words (row_at id 1) ≡ suc to
+  pub read : Among (record { index = row_at id 1; value = suc to }) u.learned.words
   pub from : main_word u.main_words (row_at id 0) ≡ main_word v.main_words (row_at id 0)
   pub bounds : (n i : ℕ) → i < 2 → n ≢ id → main_word u.main_words (row_at n i) ≡ main_word v.main_words (row_at n i)
 

@@ -1,6 +1,7 @@
 //! How the control pass looks at the lanes, and where an index begins once it has looked at all.
 
 ghost use Rattle.std.specs.Prelude.{◌≡◌, IfSome, IsNone};
+ghost use Rattle.fish_registry.specs.Changing.{IsAtTail};
 ghost use Rattle.fish_registry.specs.Knowing.{IsAwaited};
 ghost use Rattle.fish_registry.specs.Looking.{HasBound, IsOlder, Looks, at_lane};
 ghost use Rattle.fish_rule.specs.Passes.{IsPassOf, view};
@@ -49,6 +50,7 @@ pub(crate) fn bind(log: &Log, pass: &mut Pass, waiting: Waiting) -> u32
     requires clear { IsAwaited (view pass.old) (at_lane waiting 17) }
     ensures pass { IsPassOf log.now pass.new }
     ensures bound { HasBound (view pass.old) waiting (view pass.new) result }
+    ensures alone { IsAlone (view pass.old) → IsAtTail (view pass.old) result }
 {
     let from = load_bound(log, pass).number;
     store_from(log, pass, u64::from(waiting.id), from);

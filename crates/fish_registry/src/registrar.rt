@@ -6,9 +6,10 @@ ghost use Rattle.fish_catalog.specs.Closing.{with_to};
 ghost use Rattle.fish_catalog.specs.Rows.{HasActive, IsActiveNamed, IsName, is_active, new_row};
 ghost use Rattle.fish_lang.specs.Canonical.{definition_text};
 ghost use Rattle.fish_lang.specs.Definition.{definition_of};
-ghost use Rattle.fish_registry.specs.Changing.{Changes, HasCounted, Stays};
+ghost use Rattle.fish_registry.specs.Changing.{Changes, HasCounted, IsAtTail, Stays};
 ghost use Rattle.fish_registry.specs.Knowing.{IsWaiting, Knows, KnowsFirst};
-ghost use Rattle.fish_registry.specs.Refusing.{HasBegun, IsClear, IsOfEnds, IsOfRows, IsOfVersions, IsSaid, MayChange, PollTells};
+ghost use Rattle.fish_registry.specs.Refusing.{BeginsAtTail, HasBegun, IsClear, IsOfEnds, IsOfRows, IsOfVersions, IsSaid};
+ghost use Rattle.fish_registry.specs.Refusing.{MayChange, PollTells};
 ghost use Rattle.fish_rule.specs.Passes.{IsPassOf, view};
 ghost use Rattle.fish_rule.specs.LoadSteps.{IsAlone};
 ghost use Rattle.fish_rule.specs.declared.view.Epoch.TheVariants.{Out};
@@ -122,6 +123,7 @@ impl Registrar {
         ensures changes { Changes (view pass.old) (view pass.new) }
         ensures tells { PollTells (view pass.old) self.old (view pass.new) self.new result }
         ensures alone { IsAlone (view pass.old) → (view pass.old).epoch ≡ Out → IsClear result }
+        ensures begins { IsAlone (view pass.old) → BeginsAtTail (view pass.old) result }
     {
         let Some(waiting) = self.waiting else {
             return Poll::Idle;
@@ -165,6 +167,7 @@ impl Registrar {
         ensures named { IfOk result (λ e. IsActiveNamed self.old.catalog name.now e.0) }
         ensures rows { IfOk result (λ e. self.new.catalog ≡ with_to self.old.catalog e.0 e.1) }
         ensures counted { IfOk result (λ e. HasCounted (view pass.old) (view pass.new) e.1) }
+        ensures alone { IsAlone (view pass.old) → IfOk result (λ e. IsAtTail (view pass.old) e.1) }
         ensures reached { IfOk result (λ e. ((view pass.old).learned.count ≤ e.1) × ((view pass.new).learned.count ≡ e.1)) }
         ensures version { OnOk result ((view pass.new).learned.version ≡ (view pass.old).learned.version + 1) }
         ensures settled { self.new.waiting ≡ self.old.waiting }

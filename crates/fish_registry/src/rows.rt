@@ -2,8 +2,10 @@
 //! operation, and raises the version.
 
 ghost use Rattle.std.specs.Prelude.{◌≡◌, ◌<◌, length};
+ghost use Rattle.fish_registry.specs.Changing.{IsAtTail};
 ghost use Rattle.fish_registry.specs.Rows.{HasDrafted, HasEnded, HasRegistered, HasTailed, MayEnd, MayMake};
 ghost use Rattle.fish_registry.specs.Rows.{MayRegister};
+ghost use Rattle.fish_rule.specs.LoadSteps.{IsAlone};
 ghost use Rattle.fish_rule.specs.Passes.{IsPassOf, view};
 
 use fish_catalog::{CatRow, ROW_WORDS, row_words};
@@ -53,6 +55,7 @@ pub(crate) fn count_tail(log: &Log, pass: &mut Pass) -> u32
     requires pass { IsPassOf log.now pass.old }
     ensures pass { IsPassOf log.now pass.new }
     ensures view { HasTailed (view pass.old) (view pass.new) result }
+    ensures alone { IsAlone (view pass.old) → IsAtTail (view pass.old) result }
 {
     load_tail(log, pass).number as u32
 }

@@ -54,11 +54,12 @@ after_load_bound v o x = record v {
 
 -- ---- set boundary: a store of a boundary word
 
--- the word at an index is this one from now on
+-- the word at an index is this one from now on, and the pass knows it as if it had loaded it
 abbrev pub after_store_boundary : View → ℕ → ℕ → Option Round → View
 after_store_boundary v p n round = record v {
   main_words = record { index = p; value = suc n } ∷ v.main_words;
   round = round;
+  learned = record v.learned { words = record { index = p; value = suc n } ∷ v.learned.words };
   clock = ticked v.clock;
 }
 

@@ -6,6 +6,7 @@ use Rattle.atomic_table.specs.Table.{Me, State}
 use Rattle.fish_catalog.specs.Listing.{listed_of}
 use Rattle.fish_catalog.specs.Words.{row_word}
 use Rattle.fish_catalog.specs.declared.row.CatRow.{CatRow}
+use Rattle.fish_rule.specs.BoundarySteps.{with_boundary}
 use Rattle.fish_rule.specs.Registry.{row_at}
 use Rattle.fish_rule.specs.Rule.{Rule}
 use Rattle.fish_rule.specs.SeatSteps.{fresh, unlearned}
@@ -26,6 +27,12 @@ boundaries_of n [] = []
 boundaries_of n (row ∷ rows) = record { index = row_at n 0; value = row_word row 0 }
     ∷ record { index = row_at n 1; value = row_word row 1 } ∷ boundaries_of (suc n) rows
 
+-- those that are set, as words that were read
+abbrev pub set_boundaries_of : ℕ → List CatRow → List RegistryWord
+set_boundaries_of n [] = []
+set_boundaries_of n (row ∷ rows) = with_boundary (row_at n 0) (row_word row 0)
+    (with_boundary (row_at n 1) (row_word row 1) (set_boundaries_of (suc n) rows))
+
 -- the view of the first pass: the control pass, with all lanes
 abbrev pub first_view : Key → View
 first_view k = record {
@@ -40,7 +47,12 @@ first_view k = record {
   round = None;
   tail = Some (record { number = k.number; line = k.line });
   own = [];
-  learned = record unlearned { count = k.number; settled = k.number; version = k.version };
+  learned = record unlearned {
+    count = k.number;
+    settled = k.number;
+    version = k.version;
+    words = set_boundaries_of 0 k.rows.value;
+  };
   clock = fresh;
 }
 

@@ -172,6 +172,7 @@ pub record ToldCheckLane (st : Step Bool) (m : Sat) (found : ℕ) (m' : Sat) : T
 pub record ToldLoadBound (st : Step Bool) (m : Sat) (found : ℕ) (m' : Sat) : Type 0 where
   pub told : (o : Round) → m.0.round ≡ Some o → Told m (after_load_bound m.0 o found) m'
   pub counted : m.0.learned.count ≤ high found
+  pub rests : m.0.lane ≡ 1 → m.0.out ≡ [] → Rests (high found) (low found) m.0.tail
 
 -- a store of where the index of the row that waits begins
 abbrev pub told_store_from : Step Bool → Sat → ℕ → Sat → Type 0

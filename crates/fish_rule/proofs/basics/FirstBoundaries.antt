@@ -16,11 +16,14 @@ use Rattle.fish_rule.proofs.basics.Lists.{there_is}
 use Rattle.fish_rule.proofs.basics.RegistryWords.{definitions_first}
 use Rattle.fish_rule.specs.Boundaries.{Boundaries, IsOpenIn}
 use Rattle.fish_rule.specs.Epochs.{IsOwned, IsUnmade}
-use Rattle.fish_rule.specs.Registry.{HasBoundary, definitions_at, main_word, row_at, version_in}
+use Rattle.fish_rule.specs.BoundarySteps.{with_boundary}
+use Rattle.fish_rule.specs.Registry.{HasBoundary, IsRegistered, definitions_at, main_word, row_at, version_in}
 use Rattle.fish_rule.specs.Start.{IsOpening}
-use Rattle.fish_rule.specs.Table.{boundaries_of}
+use Rattle.fish_rule.specs.Table.{boundaries_of, set_boundaries_of}
+use Rattle.fish_rule.specs.Views.{AllOf, Among}
 use Rattle.fish_rule.specs.declared.view.Epoch.TheVariants.{Out}
 use Rattle.fish_rule.specs.declared.view.Key.{Key}
+use Rattle.fish_rule.specs.declared.view.RegistryWord.{RegistryWord}
 
 -- ---- rows
 
@@ -91,6 +94,38 @@ drafted_here n (suc id) i (x ∷ rows) row there bound =
     ap (λ (z : ℕ). main_word (boundaries_of (suc n) rows) (row_at z i)) e)
     ∙ drafted_here (suc n) id i rows row there bound
 
+-- ---- the words that it has read at the start
+
+-- a word that is set is put in front of others, which stay
+with_here : (p m x : ℕ) (words : List RegistryWord) → x ≡ suc m
+    → Among (record { index = p; value = suc m }) (with_boundary p x words)
+with_here p m zero words e = absurd (omega arith)
+with_here p m (suc n) words e = inl (ap (λ (z : ℕ). let w : RegistryWord = record { index = p; value = z } in w) e)
+
+with_more : (p x : ℕ) (words : List RegistryWord) (y : RegistryWord) → Among y words → Among y (with_boundary p x words)
+with_more p zero words y h = h
+with_more p (suc n) words y h = inr h
+
+-- each boundary of a row that is set was read
+pub set_here : (n id i m : ℕ) (rows : List CatRow) (row : CatRow) → slice_get rows id ≡ Some row → i < 2
+    → row_word row i ≡ suc m → Among (record { index = row_at (n + id) i; value = suc m }) (set_boundaries_of n rows)
+set_here n id i m [] row there bound is = absurd cc
+set_here n zero zero m (x ∷ rows) row there bound is =
+    let place : n + 0 ≡ n = omega arith in
+    subst (λ (z : ℕ). Among (record { index = row_at z 0; value = suc m }) (set_boundaries_of n (x ∷ rows))) (sym place)
+    (with_here (row_at n 0) m (row_word x 0) _ (ap (λ (z : CatRow). row_word z 0) (same_Some x row there) ∙ is))
+set_here n zero (suc zero) m (x ∷ rows) row there bound is =
+    let place : n + 0 ≡ n = omega arith in
+    subst (λ (z : ℕ). Among (record { index = row_at z 1; value = suc m }) (set_boundaries_of n (x ∷ rows))) (sym place)
+    (with_more (row_at n 0) (row_word x 0) _ _
+    (with_here (row_at n 1) m (row_word x 1) _ (ap (λ (z : CatRow). row_word z 1) (same_Some x row there) ∙ is)))
+set_here n zero (suc (suc i)) m (x ∷ rows) row there bound is = absurd (omega arith)
+set_here n (suc id) i m (x ∷ rows) row there bound is =
+    let place : suc n + id ≡ n + suc id = omega arith in
+    subst (λ (z : ℕ). Among (record { index = row_at z i; value = suc m }) (set_boundaries_of n (x ∷ rows))) place
+    (with_more (row_at n 0) (row_word x 0) _ _ (with_more (row_at n 1) (row_word x 1) _ _
+    (set_here (suc n) id i m rows row there bound is)))
+
 module _ (k : Key) (g : ℕ → ℕ) (opening_ : IsOpening k.version k.number k.rows.value g) where
   -- the definitions are those of the start
   pub began : definitions_at k g (version_in g) ≡ map listed_of k.rows.value
@@ -121,6 +156,35 @@ module _ (k : Key) (g : ℕ → ℕ) (opening_ : IsOpening k.version k.number k.
   -- its boundaries stand in the words
   bound_is : (id i : ℕ) (row : CatRow) → slice_get k.rows.value id ≡ Some row → i < 2 → g (row_at id i) ≡ row_word row i
   bound_is id i row there bound = (opening_.words id row there).1 i (omega arith)
+
+  -- the words of those that are set last
+  with_read : (id i x : ℕ) (words : List RegistryWord) → id < 256 → i < 2 → g (row_at id i) ≡ x
+      → AllOf (IsRegistered k g) words → AllOf (IsRegistered k g) (with_boundary (row_at id i) x words)
+  with_read id i zero words few bound is h = h
+  with_read id i (suc m) words few bound is h = (
+    record { lasts = inr (inr (inr ((id, i, few, bound, refl), λ e. absurd (omega arith)))); word = is },
+    h,
+  )
+
+  read_from : (n : ℕ) (rows : List CatRow)
+      → ((id : ℕ) (row : CatRow) → slice_get rows id ≡ Some row → slice_get k.rows.value (n + id) ≡ Some row)
+      → AllOf (IsRegistered k g) (set_boundaries_of n rows)
+  read_from n [] at = tt
+  read_from n (row ∷ rows) at =
+      let place : n + 0 ≡ n = omega arith in
+      let here : slice_get k.rows.value n ≡ Some row =
+      subst (λ (z : ℕ). slice_get k.rows.value z ≡ Some row) place (at 0 row refl) in
+      let within = slice_get_within k.rows.value n row here in
+      let few = opening_.catalog.few in
+      with_read n 0 _ _ (omega arith) (omega arith) (bound_is n 0 row here (omega arith))
+      (with_read n 1 _ _ (omega arith) (omega arith) (bound_is n 1 row here (omega arith))
+      (read_from (suc n) rows (λ id r there. let next : n + suc id ≡ suc n + id = omega arith in
+      subst (λ (z : ℕ). slice_get k.rows.value z ≡ Some r) next (at (suc id) r there))))
+
+  -- so those that the pass has read are right
+  pub read_first : AllOf (IsRegistered k g) (set_boundaries_of 0 k.rows.value)
+  read_first = read_from 0 k.rows.value (λ id row there. let same : id ≡ 0 + id = omega arith in
+      subst (λ (z : ℕ). slice_get k.rows.value z ≡ Some row) same there)
 
   -- none is past the number, each index has begun, and no pass is entered
   pub first_boundaries : Boundaries k k.number g (λ _. Out) (λ _. k.version)

@@ -1,6 +1,7 @@
 -- What lasts of the registry's words, and what is known by them.
 use Rattle.std.proofs.Common.{◌≡◌, ℕ, ◌%◌, ◌<◌, ◌≤◌, zero, suc, List, [], ◌∷◌, ◌++◌, length, map, sym, refl, ap, ◌∙◌}
-use Rattle.std.proofs.Common.{subst, inl, inr, arith, true, length-append}
+use Rattle.std.proofs.Common.{subst, inl, inr, arith, true, length-append, Some, slice_get, option_map}
+use Rattle.std.proofs.lemmas.Option.{slice_get-map}
 use Rattle.std.proofs.Math.Decide.{ℕ_discrete, dec_lt}
 use Rattle.std.proofs.lemmas.List.{length-map}
 use Rattle.fish_catalog.proofs.RowWords.{listed_same}
@@ -50,6 +51,35 @@ made_same g g' x ls same = by (dec_lt x 512)
         (listed_same (row_in g' (length ls)) (row_in g (length ls)) (length ls) true (same h))
     by (no h) = refl
 
+-- an element stays where it is in a longer list
+get_longer : (ls : List Listed) (y l : Listed) (id : ℕ) → slice_get ls id ≡ Some l → slice_get (ls ++ y ∷ []) id ≡ Some l
+get_longer [] y l id there = absurd cc
+get_longer (x ∷ ls) y l zero there = there
+get_longer (x ∷ ls) y l (suc id) there = get_longer ls y l id there
+
+-- an end leaves a text as it is
+ended_text : (l : Listed) (id : ℕ) (d : Dec (l.id ≡ id)) → (choose d (ended l) l).def ≡ l.def
+ended_text l id (yes h) = refl
+ended_text l id (no h) = refl
+
+-- so an operation leaves each definition where it is, with its text
+text_made : (g : ℕ → ℕ) (x : ℕ) (ls : List Listed) (id : ℕ) (l : Listed) → slice_get ls id ≡ Some l
+    → (m : Listed) × (slice_get (made g x ls) id ≡ Some m) × (m.def ≡ l.def)
+text_made g x ls id l there = by (dec_lt x 512)
+  where
+    end : Listed → Listed
+    end z = choose (ℕ_discrete z.id (x % 256)) (ended z) z
+
+    by : (d : Dec (x < 512)) → (m : Listed) × (slice_get
+        (choose d (ls ++ listed_in (row_in g (length ls)) (length ls) true ∷ []) (ended_at (x % 256) ls)) id ≡ Some m)
+        × (m.def ≡ l.def)
+    by (yes h) = (l, get_longer ls _ l id there, refl)
+    by (no h) = (
+      end l,
+      slice_get-map end ls id ∙ ap (option_map end) there,
+      ended_text l (x % 256) (ℕ_discrete l.id (x % 256)),
+    )
+
 module _ (k : Key) where
   -- up to the start's version they are those of the start
   pub definitions_first : (g : ℕ → ℕ) (v : ℕ) → v ≤ k.version → definitions_at k g v ≡ map listed_of k.rows.value
@@ -85,6 +115,28 @@ module _ (k : Key) where
           let a = rest (omega arith) in
           let b = grows_once g v (dec_lt v k.version) in
           omega arith
+
+  -- and each stays where it is, with its text
+  pub text_grows : (g : ℕ → ℕ) (u v : ℕ) → u ≤ v → (id : ℕ) (l : Listed) → slice_get (definitions_at k g u) id ≡ Some l
+      → (m : Listed) × (slice_get (definitions_at k g v) id ≡ Some m) × (m.def ≡ l.def)
+  text_grows g u zero less id l there = (let e : u ≡ 0 = omega arith in
+      (l, ap (λ (z : ℕ). slice_get (definitions_at k g z) id) (sym e) ∙ there, refl))
+  text_grows g u (suc v) less id l there = by (dec_lt v u) (λ h. text_grows g u v h id l there)
+    where
+      once : (d : Dec (v < k.version)) (m : Listed) → slice_get (definitions_at k g v) id ≡ Some m
+          → (n : Listed) × (slice_get (choose d (definitions_at k g v) (made g (g (op_at (suc v))) (definitions_at k g v))) id
+          ≡ Some n) × (n.def ≡ m.def)
+      once (yes h) m at = (m, at, refl)
+      once (no h) m at = text_made g (g (op_at (suc v))) (definitions_at k g v) id m at
+
+      by : Dec (v < u) → (u ≤ v → (m : Listed) × (slice_get (definitions_at k g v) id ≡ Some m) × (m.def ≡ l.def))
+          → (m : Listed) × (slice_get (definitions_at k g (suc v)) id ≡ Some m) × (m.def ≡ l.def)
+      by (yes h) rest = (let e : u ≡ suc v = omega arith in
+          (l, ap (λ (z : ℕ). slice_get (definitions_at k g z) id) (sym e) ∙ there, refl))
+      by (no h) rest =
+          let a = rest (omega arith) in
+          let b = once (dec_lt v k.version) a.0 a.1 in
+          (b.0, b.1, b.2 ∙ a.2)
 
   -- the same operations and rows make the same definitions
   pub definitions_same : (g g' : ℕ → ℕ) (v : ℕ) → ((u : ℕ) → k.version < u → u ≤ v → g' (op_at u) ≡ g (op_at u))

@@ -1,14 +1,15 @@
 -- The control pass stores a boundary of a row, and every other boundary stays.
-use Rattle.std.proofs.Common.{◌≡◌, ◌≢◌, ℕ, ◌<◌, ◌≤◌, suc, length, sym, ap, ◌∙◌, subst, inl, inr, arith}
+use Rattle.std.proofs.Common.{◌≡◌, ◌≢◌, ℕ, ◌<◌, ◌≤◌, ◌∷◌, suc, length, sym, refl, ap, ◌∙◌, subst, inl, inr, arith}
 use Rattle.std.proofs.Math.Decide.{ℕ_discrete}
 use mathlib.Core.Option.{some}
 use Rattle.std.proofs.Math.ListN.{get_elem?}
 use Rattle.fish_rule.proofs.classes.BoundariesStay.{listed_later, lists_later, open_later, same_length}
-use Rattle.fish_rule.proofs.classes.MainStores.{store_endures, store_still}
+use Rattle.fish_rule.proofs.classes.MainStores.{store_endures, store_read, store_still}
 use Rattle.fish_rule.proofs.basics.Worlds.{put-else, put-here}
 use Rattle.fish_rule.specs.Boundaries.{Boundaries, IsOpenIn, Lists}
-use Rattle.fish_rule.specs.Registry.{Endures, HasBoundary, IsLasting, definitions_at, row_at, version_in}
+use Rattle.fish_rule.specs.Registry.{Endures, HasBoundary, IsLasting, IsRegistered, definitions_at, row_at, version_in}
 use Rattle.fish_rule.specs.Rule.{Rule}
+use Rattle.fish_rule.specs.Views.{AllOf}
 use Rattle.fish_rule.specs.World.{World, put}
 use Rattle.fish_rule.specs.declared.view.Key.{Key}
 use Rattle.fish_rule.specs.declared.view.View.{View}
@@ -42,13 +43,23 @@ module _ (k : Key) (w : World) (r : Rule k w) (id : ℕ) (v : View) (at : get_el
   pub set_endures : Endures k w.registry set_words
   set_endures = store_endures k w r id v at main place (suc n) place_far place_away
 
+  -- this one is the number, and lasts
+  this_bound : set_words (row_at row j) ≡ suc n
+  this_bound = put-here w.registry place (suc n)
+
+  -- what the pass had read is so, and so is this word
+  pub set_read : AllOf (IsRegistered k set_words) (record { index = place; value = suc n } ∷ v.learned.words)
+  set_read = (
+    record {
+      lasts = inr (inr (inr ((row, j, few, bound, refl), λ e. absurd (let is = this_bound in omega arith))));
+      word = this_bound;
+    },
+    store_read k w r id v at main place (suc n) place_far place_away,
+  )
+
   -- another boundary is as it was
   pub other_bound : (m i : ℕ) → i < 2 → ¬ ((m ≡ row) × (i ≡ j)) → set_words (row_at m i) ≡ w.registry (row_at m i)
   other_bound m i small ne = put-else w.registry place (suc n) (row_at m i) (λ e. ne (omega arith, omega arith))
-
-  -- this one is the number
-  this_bound : set_words (row_at row j) ≡ suc n
-  this_bound = put-here w.registry place (suc n)
 
   -- the boundaries stay right, where the new one is
   module _ (within : n ≤ w.count) (made_ : row < length (definitions_at k w.registry (version_in w.registry)))

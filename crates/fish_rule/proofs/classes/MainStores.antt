@@ -1,5 +1,5 @@
 -- A store of the control pass to a word of the registry that only it stores.
-use Rattle.std.proofs.Common.{◌≡◌, ◌≢◌, ℕ, ◌≤◌, ◌∷◌, set, sym, ap, ◌∙◌, subst, arith, Some, None, Option}
+use Rattle.std.proofs.Common.{◌≡◌, ◌≢◌, ℕ, ◌≤◌, ◌∷◌, List, set, sym, ap, ◌∙◌, subst, arith, Some, None, Option}
 use Rattle.std.proofs.Math.Decide.{ℕ_discrete}
 use mathlib.Core.Option.{some}
 use Rattle.std.proofs.Math.ListN.{get_elem?}
@@ -12,14 +12,15 @@ use Rattle.fish_rule.proofs.classes.OnRegistry.{versions_later}
 use Rattle.fish_rule.proofs.basics.Worlds.{put-else, put-here}
 use Rattle.fish_rule.specs.Boundaries.{Boundaries}
 use Rattle.fish_rule.specs.Epochs.{IsAtMost, IsMain, IsOwned, Registry, Stays}
-use Rattle.fish_rule.specs.Registry.{Endures, IsLasting, definitions_at, main_word, epoch_at, version_in}
+use Rattle.fish_rule.specs.Registry.{Endures, IsLasting, IsRegistered, definitions_at, main_word, epoch_at, version_in}
 use Rattle.fish_rule.specs.Rounds.{Waits}
 use Rattle.fish_rule.specs.Rule.{Final, Rule}
 use Rattle.fish_rule.specs.SpaceSteps.{ticked}
-use Rattle.fish_rule.specs.Views.{Has}
+use Rattle.fish_rule.specs.Views.{AllOf, Has}
 use Rattle.fish_rule.specs.World.{World, put}
 use Rattle.fish_rule.specs.declared.view.Epoch.{Epoch}
 use Rattle.fish_rule.specs.declared.view.Key.{Key}
+use Rattle.fish_rule.specs.declared.view.RegistryWord.{RegistryWord}
 use Rattle.fish_rule.specs.declared.view.Round.{Round}
 use Rattle.fish_rule.specs.declared.view.View.{View}
 
@@ -76,11 +77,21 @@ module _ (k : Key) (w : World) (r : Rule k w) (id : ℕ) (v : View) (at : get_el
       same = λ q h. put-else w.registry p x q (away q h);
     }
 
-    module _ (round : Option Round) (boundaries : Boundaries k w.count stored r.state r.version_of)
+    -- words that were read stay so
+    pub store_read : AllOf (IsRegistered k stored) v.learned.words
+    store_read = read_later k w.registry stored store_endures v.learned.words (r.registry.each id v at).read
+
+    module _ (round : Option Round) (words : List RegistryWord) (read : AllOf (IsRegistered k stored) words)
+        (boundaries : Boundaries k w.count stored r.state r.version_of)
         (waits : Waits k w.count stored r.state r.version_of v.lane round) where
       -- the view afterwards
       abbrev pub storer : View
-      storer = record v { main_words = record { index = p; value = x } ∷ v.main_words; round = round; clock = ticked v.clock }
+      storer = record v {
+        main_words = record { index = p; value = x } ∷ v.main_words;
+        round = round;
+        learned = record v.learned { words = words };
+        clock = ticked v.clock;
+      }
 
       -- what the control pass knows is so
       storer_stays : Stays k w.count stored r.state r.version_of storer
@@ -91,7 +102,7 @@ module _ (k : Key) (w : World) (r : Rule k w) (id : ℕ) (v : View) (at : get_el
             from = h.from;
             since = h.since;
             reached = (let e = store_still in let a = h.reached in omega arith);
-            read = read_later k w.registry stored store_endures v.learned.words h.read;
+            read = read;
             unended = unended_later k w.registry stored store_endures w.count r.version_of r.registry.versions
                 v.learned.unended h.unended;
             main = λ _. record {
@@ -133,8 +144,8 @@ module _ (k : Key) (w : World) (r : Rule k w) (id : ℕ) (v : View) (at : get_el
       pub stores : (s : Rule k (record w { registry = stored; views = set w.views id storer }))
           × Final k r.start s.start r.lane_of s.lane_of w (record w { registry = stored; views = set w.views id storer })
       stores = (
-        registers k w r id v at stored v.epoch v.learned.version v.learned.words v.rows storer.main_words round
+        registers k w r id v at stored v.epoch v.learned.version words v.rows storer.main_words round
             (ticked v.clock) store_endures r.state storer_registry,
-        register_lasts k w r id v at stored v.epoch v.learned.version v.learned.words v.rows storer.main_words round
+        register_lasts k w r id v at stored v.epoch v.learned.version words v.rows storer.main_words round
             (ticked v.clock) store_endures r.state storer_registry,
       )

@@ -1,14 +1,14 @@
 -- What the owner of a view may conclude of the registry's words.
-pub use Rattle.fish_rule.proofs.basics.FirstBoundaries.{drafted_here}
+pub use Rattle.fish_rule.proofs.basics.FirstBoundaries.{drafted_here, set_here}
 pub use Rattle.fish_rule.proofs.basics.RegistryWords.{definitions_first, definitions_next, has_read, keyed_map}
 pub use Rattle.fish_rule.proofs.basics.RegistryWords.{length_registered}
-use Rattle.std.proofs.Common.{◌≡◌, ℕ, ◌-◌, ◌<◌, ◌≤◌, List, sym, refl, ap, ◌∙◌, subst, arith, length, inr, Some}
+use Rattle.std.proofs.Common.{◌≡◌, ℕ, ◌-◌, ◌<◌, ◌≤◌, List, sym, refl, ap, ◌∙◌, subst, arith, length, inr, Some, slice_get}
 use Rattle.fish_rule.proofs.classes.Allowed.{unmade_within}
 use Rattle.fish_rule.proofs.steps.DefineWord.{unmade_here}
 use Rattle.fish_rule.proofs.steps.LoadRegistry.{lasts_there, lasting_within}
 use Rattle.fish_rule.specs.RegistrySteps.{CanDefineWord, CanLoadRegistry}
 use Rattle.fish_rule.specs.Registry.{KnowsDefinitions, KnowsRow, definitions_at, main_word, row_at, version_in}
-use Rattle.fish_rule.proofs.basics.RegistryWords.{length_grows}
+use Rattle.fish_rule.proofs.basics.RegistryWords.{length_grows, text_grows}
 use Rattle.std.proofs.lemmas.List.{length-map}
 use Rattle.fish_catalog.specs.Listing.{IsListing, listed_of}
 use Rattle.fish_catalog.specs.declared.listed.Listed.{Listed}
@@ -89,6 +89,18 @@ listing_law v u ls s h =
     let b = stays.reached in
     subst IsListing (h.are w.registry (has_read v.about w.registry v.learned.words stays.read))
     (s.rule.registry.versions.listings u (omega arith))
+
+-- where the definitions of two versions are known, those of the older are among the others, in their places, with their texts
+pub texts_law : (v : View) (older newer : ℕ) (ls ms : List Listed) → Stands v → older ≤ newer
+    → KnowsDefinitions v.about v.learned older ls → KnowsDefinitions v.about v.learned newer ms
+    → (id : ℕ) (l : Listed) → slice_get ls id ≡ Some l → (m : Listed) × (slice_get ms id ≡ Some m) × (m.def ≡ l.def)
+texts_law v older newer ls ms s le known more id l there =
+    let g = s.moment.registry in
+    let read = has_read v.about g v.learned.words (s.rule.registry.each s.seat v s.at).read in
+    let at : slice_get (definitions_at v.about g older) id ≡ Some l =
+    ap (λ (z : List Listed). slice_get z id) (known.are g read) ∙ there in
+    let found = text_grows v.about g older newer le id l at in
+    (found.0, ap (λ (z : List Listed). slice_get z id) (sym (more.are g read)) ∙ found.1, found.2)
 
 -- a registration that waits is of one of 256 rows
 pub round_law : (v : View) (o : Round) → Stands v → v.round ≡ Some o → o.id < 256

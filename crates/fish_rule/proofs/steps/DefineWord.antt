@@ -6,7 +6,7 @@ use mathlib.Core.Option.{some, none}
 use Rattle.std.proofs.Math.ListN.{get_elem?}
 use Rattle.fish_catalog.specs.declared.listed.Listed.{Listed}
 use Rattle.fish_rule.proofs.classes.BoundariesStay.{boundaries_later, lists_later, waits_later}
-use Rattle.fish_rule.proofs.classes.MainStores.{its, store_endures, store_still, stores}
+use Rattle.fish_rule.proofs.classes.MainStores.{its, store_endures, store_read, store_still, stores}
 use Rattle.fish_rule.proofs.basics.Worlds.{put-else, put-here, world-registry}
 use Rattle.fish_rule.proofs.basics.Lasts.{Lasts}
 use Rattle.fish_rule.specs.RegistrySteps.{CanDefineWord, IsNextWord, after_define_word}
@@ -86,7 +86,8 @@ module _ (k : Key) (w : World) (r : Rule k w) (id : ℕ) (v : View) (at : get_el
 
     -- a definition keeps the rule, and all that lasts
     pub define_word_lasts : Lasts k w r (record w { registry = put w.registry p x; views = set w.views id definer })
-    define_word_lasts = stores k w r id v at main p x far_here made_else v.round
+    define_word_lasts = stores k w r id v at main p x far_here made_else v.round v.learned.words
+        (store_read k w r id v at main p x far_here made_else)
         (boundaries_later k w.registry _ define_endures w.count r.state r.state r.version_of define_still boundary_same
         (λ n i l few is above below. lists_later k w.registry _ define_endures n (r.state l)
         (r.registry.epochs.past l above below) (r.registry.boundaries.entered n i l few is above below))

@@ -14,7 +14,7 @@ use Rattle.fish_rule.specs.declared.view.View.{View}
 use Rattle.atomic_table.specs.Table.{Allows, step}
 use Rattle.std.proofs.lemmas.Option.{same_Some}
 use Rattle.fish_rule.proofs.classes.Allowed.{allowed, loaded_words, stands, there}
-use Rattle.fish_rule.proofs.steps.LoadTail.{end_counted}
+use Rattle.fish_rule.proofs.steps.LoadTail.{end_counted, end_rests}
 use Rattle.fish_rule.specs.Table.{Ruled, Sat, Told}
 use Rattle.fish_rule.specs.Told.{ToldLoadBound}
 
@@ -70,5 +70,6 @@ load_bound_allowed given k same size id me o about can =
             subst (λ (z : Round). Told me (after_load_bound me.0 z x) (v', me.1)) e
             (record { view = refl; held = refl; stands = stands k _ id v' kept about (there vs id me.0 v' at) });
         counted = end_counted k w r id me.0 at x refl;
+        rests = end_rests k w r id me.0 at x refl refl;
       },
     ))

@@ -7,7 +7,7 @@ use mathlib.Core.Option.{some, some-injective, some-ne-none}
 use Rattle.atomic_table.specs.Table.{opening}
 use Rattle.fish_layout.specs.Cleared.{choose}
 use Rattle.fish_rule.proofs.basics.Bodies.{high-pack, low-pack, published}
-use Rattle.fish_rule.proofs.basics.FirstBoundaries.{began, first_boundaries, owned_first}
+use Rattle.fish_rule.proofs.basics.FirstBoundaries.{began, first_boundaries, owned_first, read_first}
 use Rattle.fish_rule.proofs.basics.RegistryWords.{definitions_first}
 use Rattle.fish_rule.proofs.basics.Worlds.{area-behind, area-in}
 use Rattle.std.proofs.lemmas.List.{get_or_past}
@@ -198,7 +198,7 @@ module _ (k : Key) (g : ℕ → ℕ) (fits : Fits k) (opening_ : IsOpening k.ver
           from = λ _. omega arith;
           since = tt;
           reached = omega arith;
-          read = tt;
+          read = read_first k g opening_;
           unended = tt;
           main = λ _. record { version = sym opening_.version; definitions = began k g opening_; owned = owned_first k g opening_ };
           waits = tt;

@@ -16,7 +16,7 @@ use Rattle.fish_rule.specs.declared.view.Epoch.TheVariants.{Announced, Confirmed
 use Rattle.fish_rule.specs.declared.view.Key.{Key}
 use Rattle.fish_rule.specs.declared.view.Round.{Round}
 use Rattle.fish_rule.specs.declared.view.View.{View}
-use Rattle.fish_rule.proofs.classes.BoundaryStores.{place_far, place_away, set_boundaries}
+use Rattle.fish_rule.proofs.classes.BoundaryStores.{place_far, place_away, set_boundaries, set_read}
 use Rattle.atomic_table.specs.Table.{Allows, step}
 use Rattle.fish_rule.proofs.classes.Allowed.{allowed, stands, there}
 use Rattle.fish_rule.proofs.basics.Worlds.{world-registry}
@@ -49,7 +49,8 @@ module _ (k : Key) (w : World) (r : Rule k w) (id : ℕ) (v : View) (at : get_el
         let b = h.bound n can.bound in
         stores k w r id v at can.main (row_at o.id 0) (suc n)
         (place_far k w r id v at can.main o.id 0 n h.few (omega arith) h.unset)
-        (place_away k w r id v at can.main o.id 0 n h.few (omega arith) h.unset) None
+        (place_away k w r id v at can.main o.id 0 n h.few (omega arith) h.unset) None _
+        (set_read k w r id v at can.main o.id 0 n h.few (omega arith) h.unset)
         (set_boundaries k w r id v at can.main o.id 0 n h.few (omega arith) h.unset b.within
         (has_it (version_in w.registry) h.reached) (λ e. absurd (omega arith))
         (λ e l above below. lists_it (r.state l) (h.clear l above below (b.all l above below)))

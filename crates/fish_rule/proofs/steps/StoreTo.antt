@@ -13,7 +13,7 @@ use Rattle.fish_rule.specs.Rule.{Rule}
 use Rattle.fish_rule.specs.World.{World, put, world}
 use Rattle.fish_rule.specs.declared.view.Key.{Key}
 use Rattle.fish_rule.specs.declared.view.View.{View}
-use Rattle.fish_rule.proofs.classes.BoundaryStores.{place_far, place_away, set_endures, other_bound, set_boundaries}
+use Rattle.fish_rule.proofs.classes.BoundaryStores.{place_far, place_away, set_endures, other_bound, set_boundaries, set_read}
 use Rattle.atomic_table.specs.Table.{Allows, step}
 use Rattle.fish_rule.proofs.classes.Allowed.{allowed, stands, there}
 use Rattle.fish_rule.proofs.basics.Worlds.{world-registry}
@@ -50,7 +50,8 @@ module _ (k : Key) (w : World) (r : Rule k w) (id : ℕ) (v : View) (at : get_el
         let stays = r.registry.each id v at in
         stores k w r id v at can.main (row_at row 1) (suc n)
         (place_far k w r id v at can.main row 1 n can.few (omega arith) none_yet)
-        (place_away k w r id v at can.main row 1 n can.few (omega arith) none_yet) v.round
+        (place_away k w r id v at can.main row 1 n can.few (omega arith) none_yet) v.round _
+        (set_read k w r id v at can.main row 1 n can.few (omega arith) none_yet)
         (set_boundaries k w r id v at can.main row 1 n can.few (omega arith) none_yet (omega arith) row_made
         (λ e z. can.began (sym (known_bound 0 (omega arith)) ∙ z)) (λ e. absurd (omega arith))
         (λ e. absurd (omega arith))

@@ -1,11 +1,11 @@
 -- The first lane and the others.
 use Rattle.std.proofs.Common.{◌≡◌, [], ◌∷◌, ◌++◌, All, List, Some, get_or, set, slice_get, sym, subst}
-use Rattle.fish_lanes.proofs.Firsts.{alone_first, begun_both, ended_both, first_acceptable, first_new, first_there, marks_both, others_new}
-use Rattle.fish_lanes.proofs.Firsts.{shuts_both, tells_both, vacant_both}
+use Rattle.fish_lanes.proofs.Firsts.{alone_first, ended_both, first_acceptable, first_new, first_there, marks_both, others_new}
+use Rattle.fish_lanes.proofs.Firsts.{plans_both, shuts_both, tells_both, vacant_both}
 use Rattle.fish_lanes.specs.Blocks.{AreEnded, CanGive, HasRegistered, IsNewLane, NameMarks, TellsBlock}
 use Rattle.fish_lanes.specs.Outcome.{AreVacant, TellsAloneBy}
-use Rattle.fish_lanes.specs.Outcome.{PlansAreBegun, TellsShutBy}
-use Rattle.fish_lanes.specs.Registering.{IsAcceptable}
+use Rattle.fish_lanes.specs.Outcome.{LanesSayPlans, TellsShutBy}
+use Rattle.fish_lanes.specs.Registering.{IsAcceptable, registry_of}
 use Rattle.fish_lanes.specs.declared.lane.Lane.{Lane}
 use Rattle.fish_rule.specs.Passes.{view}
 use Rattle.fish_lanes.proofs.block.run_block.Goals as goal
@@ -82,9 +82,12 @@ returns-clause-shuts g c =
     (shuts_both (view c.args.main.now) (view c.run_lanes.new.main) c.run_lanes.new.first c.args.lanes.now c.run_lanes.new.others
     c.requires.lanes c.run_lanes.ensures.shuts)
 
-pub returns-clause-begun : goal.returns-clause-begun
-returns-clause-begun g c =
-    subst (λ (z : List Lane). PlansAreBegun c.run_lanes.new.registrar.catalog (set z 0 c.run_lanes.new.first ++ c.run_lanes.new.others))
+pub returns-clause-plans : goal.returns-clause-plans
+returns-clause-plans g c from end =
+    let t = view c.run_lanes.new.main in
+    let start = registry_of (view c.args.main.now) c.args.registrar.now in
+    let rows = c.run_lanes.new.registrar.catalog in
+    subst (λ (z : List Lane). LanesSayPlans t start rows from (set z 0 c.run_lanes.new.first ++ c.run_lanes.new.others))
     (sym c.split_at_mut-first.ensures.front)
-    (begun_both c.run_lanes.new.registrar.catalog c.run_lanes.new.first c.args.lanes.now c.run_lanes.new.others c.requires.lanes
-    c.run_lanes.ensures.first_begun c.run_lanes.ensures.others_begun)
+    (plans_both t start rows from c.run_lanes.new.first c.args.lanes.now c.run_lanes.new.others c.requires.lanes
+    (c.run_lanes.ensures.first_plans from end) (c.run_lanes.ensures.others_plans from end))

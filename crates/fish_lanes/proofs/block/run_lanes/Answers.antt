@@ -1,9 +1,9 @@
 -- The block from its start to its end.
 use Rattle.std.proofs.Common.{◌≡◌, ◌∙◌, ap, get_or, arith, length, Some, slice_get, subst, sym}
 use Rattle.std.proofs.lemmas.Option.{slice_get-get_or}
-use Rattle.fish_lanes.proofs.Course.{first_begun, first_ended, first_marks, has_end, is_later, kept_at, may_join, shut_by, vacant_at}
+use Rattle.fish_lanes.proofs.Course.{first_ended, first_marks, first_plans, has_end, is_later, kept_at, may_join, shut_by, vacant_at}
 use Rattle.fish_lanes.proofs.Moments.{get_there}
-use Rattle.fish_lanes.proofs.Course.{others_begun, others_ended, others_marks, tells_first, tells_others, within}
+use Rattle.fish_lanes.proofs.Course.{others_ended, others_marks, others_plans, tells_first, tells_others, within}
 use Rattle.fish_lanes.proofs.Moments.{counted_from, few_behind}
 use Rattle.fish_lanes.specs.Ending.{HasEnd}
 use Rattle.fish_rule.specs.declared.view.Key.{Key}
@@ -172,9 +172,9 @@ returns-clause-shuts g c none nones claim e =
     c.take_all.ensures.lanes c.take_all.auto.lanes c.requires.others.base c.settle-to.ensures.pass.stands c.requires.end.1.marks
     none nones claim e
 
-pub returns-clause-first_begun : goal.returns-clause-first_begun
-returns-clause-first_begun g c =
-    first_begun c.args.log.now (view c.args.main.now) (view c.give_all.new.main) (view c.run_all.new.main)
+pub returns-clause-first_plans : goal.returns-clause-first_plans
+returns-clause-first_plans g c =
+    first_plans c.args.log.now (view c.args.main.now) (view c.give_all.new.main) (view c.run_all.new.main)
     c.args.registrar.now c.run_all.new.registrar c.args.first.now
     c.run_all.new.first c.args.others.now c.give_all.new.lanes c.run_all.new.others c.take_all.new.lanes
     c.give_all.ensures.given c.give_all.ensures.seated c.run_all.ensures.run c.run_all.ensures.done
@@ -189,9 +189,9 @@ returns-clause-first_begun g c =
     c.find_last-bound.new.registrar (end_knows (view c.find_last-bound.new.pass) (view c.settle-to.new.pass)
     c.find_last-bound.new.registrar c.settle-to.ensures.settles c.find_last-bound.ensures.can.knows)
 
-pub returns-clause-others_begun : goal.returns-clause-others_begun
-returns-clause-others_begun g c =
-    others_begun c.args.log.now (view c.args.main.now) (view c.give_all.new.main) (view c.run_all.new.main)
+pub returns-clause-others_plans : goal.returns-clause-others_plans
+returns-clause-others_plans g c =
+    others_plans c.args.log.now (view c.args.main.now) (view c.give_all.new.main) (view c.run_all.new.main)
     c.args.registrar.now c.run_all.new.registrar c.args.first.now
     c.run_all.new.first c.args.others.now c.give_all.new.lanes c.run_all.new.others c.take_all.new.lanes
     c.give_all.ensures.given c.give_all.ensures.seated c.run_all.ensures.run c.run_all.ensures.done
@@ -205,6 +205,7 @@ returns-clause-others_begun g c =
     c.take_all.ensures.lanes c.take_all.auto.lanes c.requires.others.base c.settle-to.ensures.pass.stands c.requires.end.1.marks
     c.find_last-bound.new.registrar (end_knows (view c.find_last-bound.new.pass) (view c.settle-to.new.pass)
     c.find_last-bound.new.registrar c.settle-to.ensures.settles c.find_last-bound.ensures.can.knows)
+    c.requires.can.knows c.requires.known
 
 pub returns-clause-others_marks : goal.returns-clause-others_marks
 returns-clause-others_marks g c =

@@ -1,6 +1,6 @@
 -- What the pass of the lane left.
 use Rattle.std.proofs.Common.{◌∙◌, refl, sym, subst, List}
-use Rattle.fish_lanes.specs.Running.{HasRun}
+use Rattle.fish_lanes.specs.Running.{HasRun, SayPlans}
 use Rattle.fish_lanes.specs.declared.work.Work.{Work}
 use Rattle.fish_rule.specs.Passes.{view}
 use Rattle.fish_lanes.proofs.block.run_seated.Goals as goal
@@ -17,6 +17,8 @@ returns c =
         can = c.run_pass-lane.ensures.pass;
         run = subst (λ (z : List Work). HasRun (view c.in-Some.field-0.pass) (view c.run_pass-lane.new.pass) z
             c.run_pass-lane.new.items c.run_pass-lane.result) c.as_slice.ensures run;
+        plans = subst (λ (z : List Work). SayPlans (view c.in-Some.field-0.pass) (view c.run_pass-lane.new.pass) z
+            c.run_pass-lane.new.items) c.as_slice.ensures c.run_pass-lane.ensures.plans;
         works = refl;
         number = refl;
       };

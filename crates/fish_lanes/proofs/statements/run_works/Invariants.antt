@@ -1,8 +1,9 @@
--- The statements so far are told.
+-- The statements so far are told, and what their items say of plans is so.
 use Rattle.std.proofs.Common.{◌≡◌, take}
 use Rattle.fish_epoch.specs.Definitions.{IsDefsOf}
 use Rattle.fish_ingest.specs.Ingestion.{CanStart}
 use Rattle.fish_lanes.proofs.Done.{HasTold}
+use Rattle.fish_lanes.proofs.Saying.{HasSaid}
 use Rattle.fish_lanes.specs.Spans.{answers}
 use Rattle.fish_rule.specs.Passes.{IsPassOf, view}
 use Rattle.fish_lanes.proofs.statements.run_works.Given as goal
@@ -14,4 +15,5 @@ invariant-loop-work l = record {
   read : IsDefsOf (view l.pass) l.defs;
   base : (view l.pass).about.number ≡ 0;
   told : HasTold (view l.fn.pass) (view l.pass) (take l.work-index l.works) (answers l.items);
+  said : HasSaid (view l.fn.pass) (view l.pass) (take l.work-index l.works) l.items;
 }

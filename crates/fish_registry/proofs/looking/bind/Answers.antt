@@ -1,6 +1,7 @@
 -- All lanes were looked at, so the tail may be loaded as where the index begins, and stored.
 use Rattle.std.proofs.Common.{ap, arith}
 use Rattle.fish_registry.proofs.Binding.{bound_at, can_bound, can_from}
+use Rattle.fish_registry.proofs.Changing.{at_tail}
 use Rattle.fish_rule.proofs.laws.Steps.{count_law}
 use Rattle.fish_rule.specs.Passes.{view}
 use Rattle.fish_rule.specs.declared.view.View.{View}
@@ -28,3 +29,6 @@ returns-clause-bound c =
     let told = c.load_bound-from.ensures.view c.requires.clear.round c.requires.clear.waits in
     bound_at (view c.args.pass.now) _ _ c.args.waiting told.0 _ c.requires.clear told.1 told.2
     c.load_bound-from.ensures.counted c.store_from.ensures.view
+
+pub returns-clause-alone : goal.returns-clause-alone
+returns-clause-alone c alone = at_tail (view c.args.pass.now) _ _ (c.load_bound-from.ensures.rests alone.main alone.all)

@@ -2,6 +2,7 @@
 use Rattle.std.proofs.Common.{◌∙◌, sym, arith, ap, subst, ℕ, ◌<◌, ◌≤◌}
 use Rattle.fish_rule.proofs.steps.LoadBound.{load_bound_allowed}
 use Rattle.fish_rule.specs.Flying.{region_in}
+use Rattle.fish_rule.specs.Parts.{Rests}
 use Rattle.fish_rule.specs.Passes.{view}
 use Rattle.fish_rule.specs.Table.{Stands}
 use Rattle.fish_rule.specs.declared.view.View.{View}
@@ -44,6 +45,12 @@ returns-clause-view c o waits = (
   c.position_in.ensures.number,
   c.position_in.ensures.line,
 )
+
+pub returns-clause-rests : goal.returns-clause-rests
+returns-clause-rests c main all =
+    let at = c.position_in.ensures in
+    subst (λ (z : ℕ × ℕ). Rests z.0 z.1 (view c.args.pass.now).tail) (λ i. (sym at.number i, sym at.line i))
+    (c.load-found.ensures.2.rests main all)
 
 pub returns-clause-counted : goal.returns-clause-counted
 returns-clause-counted c = subst (λ (z : ℕ). (view c.args.pass.now).learned.count ≤ z)

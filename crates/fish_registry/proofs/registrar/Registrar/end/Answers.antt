@@ -1,7 +1,7 @@
 -- The active row of the name ends at the count that was loaded.
-use Rattle.std.proofs.Common.{List, Option, None, subst, sym, ap, arith}
+use Rattle.std.proofs.Common.{List, Option, None, subst, sym, ap, ◌∙◌, arith}
 use Rattle.fish_catalog.specs.declared.row.CatRow.{CatRow}
-use Rattle.fish_registry.proofs.Changing.{changes_both, changes_end, changes_stays, counted_end, counted_within}
+use Rattle.fish_registry.proofs.Changing.{changes_both, changes_end, changes_stays, counted_end, counted_within, same_tail}
 use Rattle.fish_registry.proofs.Knowing.{knows_ended, knows_stays, knows_tailed, may_close, may_end}
 use Rattle.fish_registry.specs.Knowing.{KnowsRows}
 use Rattle.fish_registry.specs.declared.registrar.Waiting.{Waiting}
@@ -85,3 +85,12 @@ returns-clause-reached c =
     let before = ap (λ (y : View). y.learned.count) c.last_version.ensures.stays.frame in
     let more = tailed.more in
     (omega arith, omega arith)
+
+pub returns-clause-alone : goal.returns-clause-alone
+returns-clause-alone c alone =
+    let frame = c.last_version.ensures.stays.frame in
+    same_tail (view c.args.pass.now) (view c.last_version.new.pass) _ (ap (λ (v : View). v.tail) frame) (c.count_tail-to.ensures.alone (record {
+      main = ap (λ (v : View). v.lane) frame ∙ alone.main;
+      all = ap (λ (v : View). v.out) frame ∙ alone.all;
+      idle = ap (λ (v : View). v.flight) frame ∙ alone.idle;
+    }))

@@ -1,10 +1,11 @@
 -- What waits waits on at the older lane, or its index begins.
-use Rattle.std.proofs.Common.{None, refl, subst, sym}
-use Rattle.fish_registry.proofs.Changing.{changes_both, changes_looks, counted_within}
+use Rattle.std.proofs.Common.{None, refl, subst, sym, ap, ◌∙◌}
+use Rattle.fish_registry.proofs.Changing.{changes_both, changes_looks, counted_within, same_tail}
 use Rattle.fish_registry.proofs.Knowing.{knows_bound, knows_older}
 use Rattle.fish_registry.specs.Knowing.{IsWaitingFor, KnowsRows}
 use Rattle.fish_rule.proofs.laws.Clocks.{later_self}
 use Rattle.fish_rule.specs.Passes.{view}
+use Rattle.fish_rule.specs.declared.view.View.{View}
 use Rattle.fish_registry.specs.declared.registrar.Waiting.{Waiting}
 use Rattle.std.proofs.Common.{Option, List}
 use Rattle.fish_catalog.specs.declared.row.CatRow.{CatRow}
@@ -39,3 +40,12 @@ returns-in-None-clause-tells c = (
       c.bind-from.ensures.bound.counted (later_self (view c.bind-from.new.pass).clock),
   c.bind-from.ensures.bound.count,
 )
+
+pub returns-in-None-clause-begins : goal.returns-in-None-clause-begins
+returns-in-None-clause-begins c alone =
+    let frame = c.first_older.ensures.looks.frame in
+    same_tail (view c.args.pass.now) (view c.first_older.new.pass) _ (ap (λ (v : View). v.tail) frame) (c.bind-from.ensures.alone (record {
+      main = ap (λ (v : View). v.lane) frame ∙ alone.main;
+      all = ap (λ (v : View). v.out) frame ∙ alone.all;
+      idle = ap (λ (v : View). v.flight) frame ∙ alone.idle;
+    }))

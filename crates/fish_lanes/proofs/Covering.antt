@@ -1,0 +1,216 @@
+-- What a plan that covers a range says of the definitions: which rows its pieces are of, and that no full piece holds a covered number.
+use Rattle.std.proofs.Common.{◌≡◌, ℕ, ◌-◌, ◌<◌, ◌≤◌, suc, List, length, map, sym, ap, ◌∙◌, subst, inr, arith, refl}
+use Rattle.std.proofs.Common.{Option, Some, None, slice_get, option_map}
+use Rattle.std.proofs.Math.Decide.{dec_lt}
+use Rattle.std.proofs.lemmas.List.{length-map}
+use Rattle.std.proofs.lemmas.Option.{slice_get-map}
+use Rattle.fish_catalog.specs.Listing.{listed_of}
+use Rattle.fish_catalog.specs.Words.{bound_word}
+use Rattle.fish_catalog.specs.declared.interval.Interval.{Interval}
+use Rattle.fish_catalog.specs.declared.listed.Listed.{Listed}
+use Rattle.fish_catalog.specs.declared.row.CatRow.{CatRow}
+use Rattle.fish_epoch.proofs.Reading.{knows_later}
+use Rattle.fish_epoch.specs.Definitions.{rows_of, version_of}
+use Rattle.fish_epoch.specs.declared.definitions.Known.{Known}
+use Rattle.fish_lanes.proofs.Answered.{no_index}
+use Rattle.fish_lanes.proofs.Lists.{get_some, some_once}
+use Rattle.fish_lanes.specs.Plans.{AreBoundsIn, AreReadBounds, HoldsNone, IsCoveredNumber, IsIndexPiece, IsPlanOf}
+use Rattle.fish_lanes.specs.Registering.{KnowsRegistry, Registry}
+use Rattle.fish_plan.proofs.Inside.{held_is_indexed, index_inside, piece_within}
+use Rattle.fish_plan.proofs.Walks.{some_above}
+use Rattle.fish_plan.specs.Gaps.{IsFirstGap}
+use Rattle.fish_plan.specs.Intervals.{Holds, IsBelowEnd, IsHeld}
+use Rattle.fish_plan.specs.declared.pieces.Piece.{Piece}
+use Rattle.fish_plan.specs.declared.pieces.Piece.TheVariants.{Full, Index}
+use Rattle.fish_registry.specs.Knowing.{HasBegunBy, Knows}
+use Rattle.fish_registry.specs.declared.registrar.Registrar.{Registrar}
+use Rattle.fish_rule.proofs.laws.Lists.{all_among}
+use Rattle.fish_rule.proofs.laws.Versions.{texts_law}
+use Rattle.fish_rule.specs.Logs.{Learns}
+use Rattle.fish_rule.specs.Registry.{IsRegistered, definitions_at, main_word, row_at, version_in}
+use Rattle.fish_rule.specs.Table.{Stands}
+use Rattle.fish_rule.specs.Views.{Among}
+use Rattle.fish_rule.specs.declared.view.View.{View}
+use Rattle.fish_scan.proofs.Lists.{among_at, at_among}
+use Rattle.fish_scan.specs.Scans.{IsCovered, IsNamed, IsPlan}
+use Rattle.fish_scan.specs.declared.ask.Ask.{Ask}
+use Rattle.fish_scan.specs.declared.ask.How.{How}
+use Rattle.fish_scan.specs.declared.ask.How.TheVariants as how
+
+-- ---- rows that were told before are definitions of the version
+
+-- the row with the id stands among the definitions, with its text
+abbrev pub AreListed : List CatRow → List Listed → Type 0
+AreListed told definitions = (id : ℕ) (row : CatRow) → slice_get told id ≡ Some row
+    → (l : Listed) × (slice_get definitions id ≡ Some l) × (l.def ≡ row.def)
+
+-- so it is of the rows of a registry that the pass knew, at each later version
+pub are_listed : (v u : View) (r : Registry) (known : Known) (ask : Ask) (place : ℕ) → Stands u → Learns v u
+    → KnowsRegistry v r → IsNamed v u known ask place → AreListed r.rows (rows_of known)
+are_listed v u r known ask place stands learns registry named id row there =
+    let reached = registry.reached in
+    let least = named.least in
+    texts_law u r.version (version_of known) (map listed_of r.rows) (rows_of known) stands (omega arith)
+    (knows_later v u r.version (map listed_of r.rows) learns registry) named.read.rows id (listed_of row)
+    (slice_get-map listed_of r.rows id ∙ ap (option_map listed_of) there)
+
+-- ---- a plan that covers its range
+
+module _ (v u : View) (told rows : List CatRow) (definitions : List Listed) (text : List ℕ) (from settled to : ℕ)
+    (plan : List Piece) (on : Learns v u) (read : AreReadBounds v told) (listed : AreListed told definitions)
+    (bounds : AreBoundsIn u rows) (h : IsCovered v u definitions text from settled to plan) where
+  -- a piece by an index lies within the interval of its row
+  pub cover_indexed : (place id begin end : ℕ) → slice_get plan place ≡ Some (Index id begin end)
+      → IsIndexPiece told rows id begin end
+  cover_indexed place id begin end there =
+      let i = index_inside plan from settled to h.intervals h.cover place id begin end there in
+      let w = piece_within plan from to place (Index id begin end) h.cover.fill there in
+      let some_ = w.1 in
+      let x : Interval = i.4 in
+      let among = at_among h.intervals i.3 x i.5 in
+      let interval = (h.are.each x among).begun in
+      let row = bounds.from x.id x.from interval.interval.few interval.interval.begins in
+      record {
+        row = row.0;
+        there = ap (slice_get rows) (sym i.6) ∙ row.1;
+        begun = record { from = x.from; begins = row.2; early = (i.7 begin (omega arith) some_).begun };
+        ended = λ early t at is.
+            let word = h.after.words _ ((read id early at).1 t is) in
+            let known = h.are.ended x among t (subst (λ (z : ℕ). Among (record { index = row_at z 1; value = suc t })
+            h.moment.learned.words) (sym i.6) word) in
+            let below = some_above (end - 1) t x.to known (i.7 (end - 1) (omega arith) (omega arith)).open_still in
+            omega arith;
+      }
+
+  -- a covered number lies in one of the intervals
+  covered_held : (n : ℕ) → IsCoveredNumber told rows text n → IsHeld h.intervals n
+  covered_held n c =
+      let l = listed c.id c.row c.there in
+      let word = (read c.id c.row c.there).0 c.begun.from c.begun.begins in
+      let known = h.are.known c.id l.0 l.1 (l.2 ∙ c.text_is) c.begun.from (h.after.words _ word) in
+      let x : Interval = known.0 in
+      let interval = (h.are.each x known.1).begun in
+      let few : c.id < 256 = subst (λ (z : ℕ). z < 256) known.2 interval.interval.few in
+      let own = bounds.from x.id x.from interval.interval.few interval.interval.begins in
+      let told_ = bounds.from c.id c.begun.from few (on.words _ word) in
+      let same : own.0 ≡ told_.0 =
+      some_once own.0 told_.0 (sym own.1 ∙ ap (slice_get rows) known.2 ∙ told_.1) in
+      let begins : x.from ≡ c.begun.from =
+      some_once x.from c.begun.from (sym own.2 ∙ ap (λ (z : CatRow). z.from) same ∙ told_.2) in
+      let early = c.begun.early in
+      let at = among_at h.intervals x known.1 in
+      record {
+        place = at.0;
+        interval = x;
+        there = at.1;
+        holds = record {
+          begun = omega arith;
+          open_still = below x.to (λ t e.
+              let end = bounds.to x.id t interval.interval.few (interval.ended t e) in
+              let last : end.0 ≡ c.last =
+              some_once end.0 c.last (sym end.1 ∙ ap (slice_get rows) known.2 ∙ c.stands) in
+              c.before t (ap (λ (z : CatRow). z.to) (sym last) ∙ end.2));
+        };
+      }
+    where
+      below : (o : Option ℕ) → ((t : ℕ) → o ≡ Some t → n < t) → IsBelowEnd n o
+      below None f = tt
+      below (Some t) f = f t refl
+
+  -- so it is in no full piece below what was settled
+  pub cover_full : (place begin end n : ℕ) → slice_get plan place ≡ Some (Full begin end) → begin ≤ n → n < end
+      → n < settled → ¬ IsCoveredNumber told rows text n
+  cover_full place begin end n there low high below c =
+      let i = held_is_indexed plan from settled to h.intervals h.cover n place below (covered_held n c)
+      (record { piece = Full begin end; there = there; begins = low; ends = high }) in
+      let bad = some_once (Full begin end) (Index i.0 i.1 i.2) (sym there ∙ i.3) in cc
+
+-- ---- any plan
+
+-- a plan says so of its range
+pub plan_so : (v u : View) (told rows : List CatRow) (definitions : List Listed) (text : List ℕ) (way : How) (from settled to : ℕ)
+    (plan : List Piece) (start : ℕ) → Learns v u → AreReadBounds v told → AreListed told definitions → AreBoundsIn u rows
+    → start ≤ settled → IsPlan v u definitions text way from settled to plan → IsPlanOf told rows start text way plan
+plan_so v u told rows definitions text how.Full from settled to plan start on read listed bounds low h = record {
+  indexed = λ place id begin end there. absurd (no_index from to place id begin end (Rattle.std.proofs.Common.nat_lt from to)
+      (subst (λ (z : List Piece). slice_get z place ≡ Some (Index id begin end)) h there));
+  full = λ ne. absurd (ne refl);
+}
+plan_so v u told rows definitions text how.Auto from settled to plan start on read listed bounds low h = record {
+  indexed = cover_indexed v u told rows definitions text from settled to plan on read listed bounds h;
+  full = λ ne place begin end n there a b less. cover_full v u told rows definitions text from settled to plan on read listed
+      bounds h place begin end n there a b (omega arith);
+}
+plan_so v u told rows definitions text how.Index from settled to plan start on read listed bounds low h = record {
+  indexed = cover_indexed v u told rows definitions text from settled to plan on read listed bounds h.0;
+  full = λ ne place begin end n there a b less. cover_full v u told rows definitions text from settled to plan on read listed
+      bounds h.0 place begin end n there a b (omega arith);
+}
+
+-- and so does a gap in what covers it
+pub gap_so : (v u : View) (told rows : List CatRow) (definitions : List Listed) (text : List ℕ) (from settled to : ℕ)
+    (plan : List Piece) (begin end : ℕ) → Learns v u → AreReadBounds v told → AreListed told definitions → AreBoundsIn u rows
+    → IsCovered v u definitions text from settled to plan → IsFirstGap plan settled begin end
+    → HoldsNone told rows text begin end
+gap_so v u told rows definitions text from settled to plan begin end on read listed bounds h gap n low high =
+    let below = gap.gap.below in
+    cover_full v u told rows definitions text from settled to plan on read listed bounds h gap.place begin end n gap.gap.there
+    low high (omega arith)
+
+-- ---- what was read are the rows' boundaries
+
+-- a boundary word that the control pass knows is that of a row that the registrar keeps
+module _ (t : View) (s : Registrar) (stands : Stands t) (knows : Knows t s) where
+  row_with : (id i n : ℕ) → id < 256 → i < 2 → Among (record { index = row_at id i; value = suc n }) t.learned.words
+      → (row : CatRow) × (slice_get s.catalog id ≡ Some row) × (main_word t.main_words (row_at id i) ≡ suc n)
+  row_with id i n few bound among =
+      let g = stands.moment.registry in
+      let stays = stands.rule.registry.each stands.seat t stands.at in
+      let main = stays.main knows.main in
+      let word : g (row_at id i) ≡ suc n =
+      (all_among (IsRegistered t.about g) (record { index = row_at id i; value = suc n }) t.learned.words stays.read among).word in
+      let stored : g (row_at id i) ≡ main_word t.main_words (row_at id i) = main.owned (row_at id i) (inr (id, i, few, bound, refl)) in
+      let rows : length t.rows ≡ length s.catalog = ap length (sym knows.listed) ∙ length-map s.catalog listed_of in
+      let made : length (definitions_at t.about g (version_in g)) ≡ length t.rows = ap length main.definitions in
+      let less : id < length s.catalog = there (dec_lt id (length s.catalog)) word rows made in
+      let row = get_some s.catalog id less in
+      (row.0, row.1, sym stored ∙ word)
+    where
+      there : Dec (id < length s.catalog) → stands.moment.registry (row_at id i) ≡ suc n → length t.rows ≡ length s.catalog
+          → length (definitions_at t.about stands.moment.registry (version_in stands.moment.registry)) ≡ length t.rows
+          → id < length s.catalog
+      there (yes less) word rows made = less
+      there (no not_less) word rows made =
+          let none : stands.moment.registry (row_at id i) ≡ 0 =
+          stands.rule.registry.boundaries.unmade id i (omega arith) few bound in absurd (omega arith)
+
+  number : (o : Option ℕ) (n : ℕ) → bound_word o ≡ suc n → o ≡ Some n
+  number None n e = absurd cc
+  number (Some m) n e = ap (λ (z : ℕ). Some z) (let same : m ≡ n = omega arith in same)
+
+  pub bounds_in : AreBoundsIn t s.catalog
+  bounds_in = record {
+    from = λ id n few among.
+        let r = row_with id 0 n few (omega arith) among in
+        (r.0, r.1, number r.0.from n (sym (knows.bounds id r.0 r.1).from ∙ r.2));
+    to = λ id n few among.
+        let r = row_with id 1 n few (omega arith) among in
+        (r.0, r.1, number r.0.to n (sym (knows.bounds id r.0 r.1).to ∙ r.2));
+  }
+
+-- and the control pass has read those of the registrar's rows
+pub bounds_read : (t : View) (s : Registrar) → Knows t s → AreReadBounds t s.catalog
+bounds_read t s knows id row there = ((knows.bounds id row there).read_from, (knows.bounds id row there).read_to)
+
+-- what a pass had read before are boundaries of the same rows
+pub bounds_before : (u t : View) (rows : List CatRow) → Learns u t → AreBoundsIn t rows → AreBoundsIn u rows
+bounds_before u t rows learns h = record {
+  from = λ id n few among. h.from id n few (learns.words _ among);
+  to = λ id n few among. h.to id n few (learns.words _ among);
+}
+
+pub read_later : (v u : View) (rows : List CatRow) → Learns v u → AreReadBounds v rows → AreReadBounds u rows
+read_later v u rows learns h id row there = (
+  λ n is. learns.words _ ((h id row there).0 n is),
+  λ n is. learns.words _ ((h id row there).1 n is),
+)
