@@ -11,6 +11,7 @@ pub mod Lanes
 pub mod Lasts
 pub mod Lists
 pub mod OneMoment
+pub mod Passes
 pub mod Places
 pub mod Quotas
 pub mod RegionWords

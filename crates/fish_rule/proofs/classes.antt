@@ -12,3 +12,5 @@ pub mod OpensStay
 pub mod OtherViews
 pub mod OwnEpoch
 pub mod OwnWords
+pub mod PassesKnow
+pub mod WordsStay

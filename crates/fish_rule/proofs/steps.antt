@@ -1,8 +1,10 @@
 -- One file a step, named as its function: it keeps the rule and what lasts, and the table allows it.
+-- ClaimSpace, ClaimVersions, PublishSpace, SpliceKept and VersionMade hold parts of the long ones.
 pub mod AimEntry
 pub mod Announce
 pub mod CheckLane
 pub mod ClaimLines
+pub mod ClaimSpace
 pub mod ClaimVersions
 pub mod DefineWord
 pub mod JoinPass
@@ -18,6 +20,7 @@ pub mod LoadVersion
 pub mod LookAt
 pub mod OpenLog
 pub mod PublishRegion
+pub mod PublishSpace
 pub mod RaiseSettled
 pub mod RaiseVersion
 pub mod ReadWord

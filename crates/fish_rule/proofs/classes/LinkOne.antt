@@ -12,7 +12,8 @@ use Rattle.fish_layout.specs.Header.{keys_of, lines_of}
 use Rattle.fish_rule.proofs.steps.AimEntry.{body_record, own_body}
 use Rattle.fish_rule.proofs.basics.Lists.{each_set, seats_kept, within_list}
 use Rattle.fish_rule.proofs.classes.OtherViews.{limit_views, alone_kept, flight_there, may_kept, registry_set}
-use Rattle.fish_rule.proofs.classes.FactsStay.{chained_later, facts_later, finished_later, keyed_kept}
+use Rattle.fish_rule.proofs.classes.FactsStay.{finished_later, keyed_kept}
+use Rattle.fish_rule.proofs.classes.PassesKnow.{each_chained, each_facts}
 use Rattle.fish_rule.proofs.basics.Bodies.{published}
 use Rattle.fish_rule.proofs.classes.ChainsStay.{linked_map, linking_own, linking_to}
 use Rattle.fish_rule.proofs.basics.Places.{record_at}
@@ -247,13 +248,9 @@ module _ (k : Key) (w : World) (r : Rule k w) (id : ℕ) (v : View) (at : get_el
         settling = r.settling;
         floors = each_set _ w.views id linker (λ j u ne at_u. r.floors j u at_u) floor;
         chains = chains;
-        chained = each_set _ w.views id linker
-            (λ j u ne at_u. chained_later k w linked_world r.start r.start r.lane_of r.lane_of link_final u.learned
-            (r.chained j u at_u)) chained;
+        chained = each_chained k w linked_world r r.start r.lane_of link_final id linker chained;
         own = each_set _ w.views id linker (λ j u ne at_u. r.own j u at_u) (r.own id v at);
-        facts = each_set _ w.views id linker
-            (λ j u ne at_u. facts_later k w linked_world r.start r.start r.lane_of r.lane_of link_final u.learned
-            (r.facts j u at_u)) facts;
+        facts = each_facts k w linked_world r r.start r.lane_of link_final id linker facts;
         registry = registry_set k w.count w.registry r.state r.version_of w.views id linker r.registry stays own_carried;
         keyed = keyed_kept k w linked_world r.start r.start r.lane_of r.lane_of link_final r.version_of r.version_of
             (λ n below. refl) r.keyed (λ n below stored. (below, published (w.dir n) Stored stored));

@@ -5,6 +5,7 @@ use Rattle.std.proofs.Math.ListN.{get_elem?}
 use Rattle.fish_rule.proofs.basics.Lists.{each_set, seats_kept}
 use Rattle.fish_rule.proofs.classes.OtherViews.{final_still, limit_views, space_still, may_kept, registry_set}
 use Rattle.fish_rule.proofs.classes.FactsStay.{chained_later}
+use Rattle.fish_rule.proofs.classes.PassesKnow.{each_chained}
 use Rattle.fish_rule.proofs.classes.ChainsStay.{chains_set, links_set}
 use Rattle.fish_rule.proofs.basics.Lasts.{Lasts}
 use Rattle.fish_rule.specs.Chains.{Chained}
@@ -63,9 +64,8 @@ module _ (k : Key) (w : World) (r : Rule k w) (id : ℕ) (v : View) (at : get_el
         limit = limit_views r.limit
             (may_kept w.views id v v' at k.end r.quota refl refl (λ h. h) r.limit.may);
         settling = r.settling;
-        chained = each_set _ w.views id v' (λ j u ne at_u. chained_later k w
-            (record w { views = set w.views id v' }) r.start r.start r.lane_of r.lane_of
-            (learn_final l t o c) u.learned (r.chained j u at_u)) chained;
+        chained = each_chained k w (record w { views = set w.views id v' }) r r.start r.lane_of
+            (learn_final l t o c) id v' chained;
         chains = chains_set k w r id v v' at (λ a c h. h) (λ a c h. h);
         floors = each_set _ w.views id v' (λ j u ne at_u. r.floors j u at_u) floor;
         own = each_set _ w.views id v' (λ j u ne at_u. r.own j u at_u) (r.own id v at);

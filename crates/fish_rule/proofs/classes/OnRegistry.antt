@@ -14,6 +14,7 @@ use Rattle.fish_layout.specs.Cleared.{body_of}
 use Rattle.fish_rule.proofs.basics.Lists.{all_map, each_set, seats_kept}
 use Rattle.fish_rule.proofs.classes.OtherViews.{final_still, limit_views, space_still, may_kept}
 use Rattle.fish_rule.proofs.classes.FactsStay.{chained_later, keyed_kept}
+use Rattle.fish_rule.proofs.classes.PassesKnow.{each_chained}
 use Rattle.fish_rule.proofs.basics.Bodies.{published}
 use Rattle.fish_rule.proofs.classes.ChainsStay.{chains_set, links_set}
 use Rattle.fish_rule.proofs.basics.RegistryWords.{active_later, definitions_later, definitions_next, keyed_map}
@@ -209,8 +210,7 @@ module _ (k : Key) (w : World) (r : Rule k w) (id : ℕ) (v : View) (at : get_el
         settling = r.settling;
         floors = each_set _ w.views id registrant (λ j u ne at_u. r.floors j u at_u) (r.floors id v at);
         chains = chains_set k w r id v registrant at (λ a c h. h) (λ a c h. h);
-        chained = each_set _ w.views id registrant (λ j u ne at_u. chained_later k w registered_world r.start r.start
-            r.lane_of r.lane_of register_final u.learned (r.chained j u at_u))
+        chained = each_chained k w registered_world r r.start r.lane_of register_final id registrant
             (let h = chained_later k w registered_world r.start r.start r.lane_of r.lane_of register_final v.learned
             (r.chained id v at) in record { nodes = h.nodes; least_previous = h.least_previous; least_heads = h.least_heads });
         own = each_set _ w.views id registrant (λ j u ne at_u. r.own j u at_u) (r.own id v at);

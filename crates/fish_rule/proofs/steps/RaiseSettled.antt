@@ -10,6 +10,7 @@ use Rattle.fish_rule.proofs.basics.Bodies.{code_once, published}
 use Rattle.fish_rule.proofs.basics.Lists.{all_among, each_set, seats_kept}
 use Rattle.fish_rule.proofs.classes.OtherViews.{final_still, limit_views, space_still, may_kept, registry_set}
 use Rattle.fish_rule.proofs.classes.FactsStay.{chained_later}
+use Rattle.fish_rule.proofs.classes.PassesKnow.{each_chained}
 use Rattle.fish_rule.proofs.classes.ChainsStay.{chains_set, links_set}
 use Rattle.fish_rule.proofs.basics.Worlds.{world-settled}
 use Rattle.fish_rule.specs.Parts.{IsEntryWord, Settled}
@@ -84,11 +85,9 @@ module _ (k : Key) (w : World) (r : Rule k w) (id : ℕ) (v : View) (at : get_el
         (may_kept w.views id v raiser at k.end r.quota refl refl (λ h. h) r.limit.may);
     settling = settling;
     chains = chains_set k w r id v raiser at (λ a c h. h) (λ a c h. h);
-    chained = each_set _ w.views id raiser
-        (λ j u ne at_u. chained_later k w raised r.start r.start r.lane_of r.lane_of raise_final u.learned
-        (r.chained j u at_u)) (let h =
-        chained_later k w raised r.start r.start r.lane_of r.lane_of raise_final v.learned
-        (r.chained id v at) in record { nodes = h.nodes; least_previous = h.least_previous; least_heads = h.least_heads });
+    chained = each_chained k w raised r r.start r.lane_of raise_final id raiser
+        (let h = chained_later k w raised r.start r.start r.lane_of r.lane_of raise_final v.learned (r.chained id v at) in
+        record { nodes = h.nodes; least_previous = h.least_previous; least_heads = h.least_heads });
     floors = each_set _ w.views id raiser (λ j u ne at_u. let a = r.floors j u at_u in omega arith) (omega arith);
     own = each_set _ w.views id raiser (λ j u ne at_u. r.own j u at_u) (r.own id v at);
     facts = each_set _ w.views id raiser (λ j u ne at_u. r.facts j u at_u)

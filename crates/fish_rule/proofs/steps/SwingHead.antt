@@ -18,7 +18,7 @@ use Rattle.fish_rule.proofs.basics.FirstHeads.{first_low, flight_from}
 use Rattle.fish_rule.proofs.steps.LoadHead.{load_head_lasts, head_rises}
 use Rattle.fish_rule.proofs.classes.FactsStay.{chained_later, facts_later}
 use Rattle.fish_rule.proofs.classes.LinkOne.{Leaves, link_final, link_from, link_here, link_lasts, link_to, either_way}
-use Rattle.fish_rule.proofs.classes.OwnWords.{not_linked}
+use Rattle.fish_rule.proofs.classes.WordsStay.{not_linked}
 use Rattle.fish_rule.proofs.basics.Worlds.{area-in, put-else, put-here, world-head}
 use Rattle.fish_rule.proofs.basics.Lasts.{Lasts}
 use Rattle.fish_rule.specs.Chains.{Chain, Chained, Linked}

@@ -1,9 +1,11 @@
 -- What was read is what is left, and the pass read on.
-use Rattle.std.proofs.Common.{◌≡◌, ◌∙◌, ℕ, arith, ap, refl, sym, subst, Some}
+use Rattle.std.proofs.Common.{◌≡◌, ◌∙◌, ◌≤◌, ℕ, arith, ap, refl, sym, subst, Some}
 use Rattle.fish_rule.proofs.laws.Remains.{closes}
 use Rattle.fish_rule.proofs.laws.ReadsOn.{alone_on, heads_later, reads_on, reads_version, to_version}
 use Rattle.fish_rule.proofs.laws.ReadSoFar.{read_later}
-use Rattle.fish_rule.specs.ClosedLog.{AreHeads}
+use Rattle.fish_rule.specs.ClosedLog.{AreHeads, ReadsOn}
+use Rattle.fish_rule.specs.LoadSteps.{after_load_tail}
+use Rattle.fish_rule.specs.Logs.{Extends}
 use Rattle.fish_rule.specs.Parts.{Rests}
 use Rattle.fish_rule.specs.Passes.{view}
 use Rattle.fish_rule.specs.World.{high, low}
@@ -12,31 +14,26 @@ use Rattle.fish_rule.specs.declared.view.Position.{Position}
 use Rattle.fish_rule.specs.declared.view.View.{View}
 use Rattle.fish_rule.proofs.close.read_remains.Goals as goal
 
+-- it reads on from the tail whose parts the load gave
+reads_words : (v t u : View) (x number line : ℕ) → t ≡ after_load_tail v x → number ≡ high x → line ≡ low x
+    → v.learned.count ≤ number → Rests number line v.tail → Extends t u → ReadsOn v u
+reads_words v t u x number line loaded number_is line_is counted rests extends =
+    reads_on v t u x loaded (omega arith) (subst (λ (z : ℕ × ℕ). Rests z.0 z.1 v.tail)
+    (λ i. (number_is i, line_is i)) rests) extends
+
 pub returns-in-Err-clause-on : goal.returns-in-Err-clause-on
 returns-in-Err-clause-on c =
-    let v = view c.args.main.now in
     let x = c.load_tail-tail.ensures.view in
-    let number : c.load_tail-tail.result.number ≡ high x.0 = x.2 in
-    let line : c.load_tail-tail.result.line ≡ low x.0 = x.3 in
-    let counted = c.load_tail-tail.ensures.counted in
-    let rests = subst (λ (z : ℕ × ℕ). Rests z.0 z.1 v.tail) (λ i. (number i, line i))
-    (c.load_tail-tail.ensures.rests c.requires.alone.main c.requires.alone.all) in
-    reads_on v (view c.load_tail-tail.new.pass) (view c.read_words.new.main) x.0 x.1 (omega arith) rests
-    c.read_words.ensures.extends
+    reads_words _ _ _ x.0 _ _ x.1 x.2 x.3 c.load_tail-tail.ensures.counted
+    (c.load_tail-tail.ensures.rests c.requires.alone.main c.requires.alone.all) c.read_words.ensures.extends
 
 pub returns-in-Ok-clause-on : goal.returns-in-Ok-clause-on
 returns-in-Ok-clause-on c =
-    let v = view c.args.main.now in
     let x = c.load_tail-tail.ensures.view in
-    let number : c.load_tail-tail.result.number ≡ high x.0 = x.2 in
-    let line : c.load_tail-tail.result.line ≡ low x.0 = x.3 in
-    let counted = c.load_tail-tail.ensures.counted in
-    let rests = subst (λ (z : ℕ × ℕ). Rests z.0 z.1 v.tail) (λ i. (number i, line i))
-    (c.load_tail-tail.ensures.rests c.requires.alone.main c.requires.alone.all) in
-    let on = reads_on v (view c.load_tail-tail.new.pass) (view c.read_words.new.main) x.0 x.1 (omega arith) rests
-    c.read_words.ensures.extends in
-    reads_version v (view c.read_words.new.main) (view c.load_version-version.new.pass) c.load_version-version.result on
-    c.load_version-version.ensures.view c.load_version-version.ensures.rises
+    let on = reads_words _ _ _ x.0 _ _ x.1 x.2 x.3 c.load_tail-tail.ensures.counted
+    (c.load_tail-tail.ensures.rests c.requires.alone.main c.requires.alone.all) c.read_words.ensures.extends in
+    reads_version (view c.args.main.now) (view c.read_words.new.main) (view c.load_version-version.new.pass)
+    c.load_version-version.result on c.load_version-version.ensures.view c.load_version-version.ensures.rises
 
 pub returns-in-Ok-clause-remains : goal.returns-in-Ok-clause-remains
 returns-in-Ok-clause-remains c =

@@ -1,11 +1,11 @@
 -- The own entry is within the log, and the table allows the store.
-use Rattle.std.proofs.Common.{◌≡◌, ◌∙◌, sym, refl, ap, arith, subst, ℕ, ◌<◌, ◌≤◌, ◌+◌, ◌-◌, ◌*◌}
+use Rattle.std.proofs.Common.{◌≡◌, ◌∙◌, sym, refl, ap, arith, subst, ℕ, ◌<◌, ◌+◌, ◌-◌, ◌*◌}
+use Rattle.fish_rule.proofs.basics.Passes.{pass_still}
 use Rattle.fish_rule.proofs.laws.Links.{aim_law}
 use Rattle.fish_rule.proofs.steps.AimEntry.{region_aim, aim_entry_allowed}
 use Rattle.fish_rule.specs.Flying.{region_in}
 use Rattle.fish_rule.specs.ChainSteps.{own_place}
 use Rattle.fish_rule.specs.Passes.{view}
-use Rattle.fish_rule.specs.Table.{Stands}
 use Rattle.fish_rule.specs.World.{log_at}
 use Rattle.fish_rule.specs.declared.view.Flight.{Flight}
 use Rattle.fish_rule.specs.declared.view.View.{View}
@@ -57,11 +57,5 @@ invariant_of-pass c =
 
 pub returns-clause-pass : goal.returns-clause-pass
 returns-clause-pass c =
-    let f : Flight = c.requires.view.0 in
-    let told = c.store.ensures.2 f c.requires.view.1.flying in
-    record {
-      table = c.store.ensures.0 ∙ c.requires.pass.table;
-      about = ap (λ (z : View). z.about) told.view ∙ refl ∙ c.requires.pass.about;
-      live = subst (λ (z : ℕ). 1 ≤ z) (sym (ap (λ (z : View). z.lane) told.view)) c.requires.pass.live;
-      stands = subst Stands (sym told.view) told.stands;
-    }
+    let told = c.store.ensures.2 c.requires.view.0 c.requires.view.1.flying in
+    pass_still c.requires.pass c.store.ensures.0 told.view told.stands refl refl

@@ -1,12 +1,12 @@
 -- The higher entry is within the log, and the table allows the exchange.
 use Rattle.std.proofs.Common.{◌≡◌, ◌∙◌, sym, ap, arith, subst, ℕ, ◌<◌, ◌≤◌, ◌+◌, ◌-◌, ◌*◌}
+use Rattle.fish_rule.proofs.basics.Passes.{pass_still}
 use Rattle.fish_rule.proofs.laws.Links.{node_law, one_bucket}
 use Rattle.fish_rule.proofs.steps.SpliceEntry.{region_splice, splice_about, splice_lane, splice_shut}
 use Rattle.fish_rule.proofs.steps.SpliceEntry.{splice_entry_allowed}
 use Rattle.fish_rule.specs.Flying.{region_in}
 use Rattle.fish_rule.specs.ChainSteps.{HasNode, PreviousRises, after_splice_entry}
 use Rattle.fish_rule.specs.Passes.{view}
-use Rattle.fish_rule.specs.Table.{Stands}
 use Rattle.fish_rule.specs.Told.{place_at}
 use Rattle.fish_rule.specs.World.{log_at}
 use Rattle.fish_rule.specs.declared.view.Flight.{Flight}
@@ -69,14 +69,9 @@ returns-clause-pass c =
     let f : Flight = c.requires.view.0 in
     let can = c.requires.view.1.1 in
     let told = c.compare_exchange.ensures.2.told f can.aim.flying in
-    record {
-      table = c.compare_exchange.ensures.0 ∙ c.requires.pass.table;
-      about = ap (λ (z : View). z.about) told.view
-          ∙ splice_about (view c.args.pass.now) f _ _ c.args.expected c.compare_exchange.result ∙ c.requires.pass.about;
-      live = subst (λ (z : ℕ). 1 ≤ z) (sym (ap (λ (z : View). z.lane) told.view
-          ∙ splice_lane (view c.args.pass.now) f _ _ c.args.expected c.compare_exchange.result)) c.requires.pass.live;
-      stands = subst Stands (sym told.view) told.stands;
-    }
+    pass_still c.requires.pass c.compare_exchange.ensures.0 told.view told.stands
+    (splice_about (view c.args.pass.now) f _ _ c.args.expected c.compare_exchange.result)
+    (splice_lane (view c.args.pass.now) f _ _ c.args.expected c.compare_exchange.result)
 
 -- the index is that of the place
 index : (k about : Key) (at place : ℕ) → about ≡ k → at ≡ log_at k → k.line * 4 ≤ place

@@ -1,11 +1,11 @@
 -- The head is one of the table's words, and the table allows the exchange.
-use Rattle.std.proofs.Common.{◌≡◌, ◌∙◌, sym, refl, ap, arith, subst, ℕ, ◌<◌, ◌≤◌, ◌+◌}
+use Rattle.std.proofs.Common.{◌≡◌, ◌∙◌, sym, refl, ap, arith, subst, ℕ, ◌<◌, ◌+◌}
+use Rattle.fish_rule.proofs.basics.Passes.{pass_still}
 use Rattle.fish_rule.proofs.steps.SwingHead.{region_swing, swing_about, swing_lane, swing_shut, swing_head_allowed}
 use Rattle.fish_rule.specs.Flying.{region_in}
 use Rattle.fish_rule.specs.ChainSteps.{HeadRises, after_swing_head}
 use Rattle.fish_rule.specs.Told.{bucket_at}
 use Rattle.fish_rule.specs.Passes.{view}
-use Rattle.fish_rule.specs.Table.{Stands}
 use Rattle.fish_rule.specs.World.{heads_at}
 use Rattle.fish_rule.specs.declared.view.Flight.{Flight}
 use Rattle.fish_rule.specs.declared.view.Key.{Key}
@@ -46,14 +46,9 @@ pub returns-clause-pass : goal.returns-clause-pass
 returns-clause-pass c =
     let f : Flight = c.requires.view.0 in
     let told = c.compare_exchange.ensures.2.told f c.requires.view.1.aim.flying in
-    record {
-      table = c.compare_exchange.ensures.0 ∙ c.requires.pass.table;
-      about = ap (λ (z : View). z.about) told.view
-          ∙ swing_about (view c.args.pass.now) f _ c.args.expected c.compare_exchange.result ∙ c.requires.pass.about;
-      live = subst (λ (z : ℕ). 1 ≤ z) (sym (ap (λ (z : View). z.lane) told.view
-          ∙ swing_lane (view c.args.pass.now) f _ c.args.expected c.compare_exchange.result)) c.requires.pass.live;
-      stands = subst Stands (sym told.view) told.stands;
-    }
+    pass_still c.requires.pass c.compare_exchange.ensures.0 told.view told.stands
+    (swing_about (view c.args.pass.now) f _ c.args.expected c.compare_exchange.result)
+    (swing_lane (view c.args.pass.now) f _ c.args.expected c.compare_exchange.result)
 
 pub returns-clause-view : goal.returns-clause-view
 returns-clause-view c f flying =

@@ -1,3 +1,4 @@
+-- The table allows a split, and both views that it makes are those of passes of the log.
 use Rattle.std.proofs.Common.{ℕ, ◌<◌, ◌≤◌, sym, ap, ◌∙◌, subst, arith}
 use Rattle.fish_rule.proofs.steps.SplitPass.{left_stands, right_stands, splits}
 use Rattle.fish_rule.specs.Table.{Sat, Stands}

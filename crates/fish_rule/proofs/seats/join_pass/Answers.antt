@@ -1,4 +1,4 @@
--- What a join needs of the table, and what it tells.
+-- The table allows a join and a load of the tail, and what either pass knew is learned by the two.
 use Rattle.std.proofs.Common.{◌≡◌, ℕ, ◌<◌, sym, ap, ◌∙◌, subst, arith, Bool}
 use Rattle.fish_rule.proofs.steps.LoadTail.{load_tail_allowed}
 use Rattle.fish_rule.proofs.steps.JoinPass.{joins}

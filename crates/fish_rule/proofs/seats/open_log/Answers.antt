@@ -1,3 +1,4 @@
+-- The words are those of an empty log, of which the rule holds, and the first pass has the view of its start.
 use Rattle.std.proofs.Common.{length, sym, ap, ◌∙◌, subst, ℕ, ◌≤◌, arith}
 use Rattle.fish_rule.proofs.steps.OpenLog.{begins, first_stands}
 use Rattle.fish_rule.specs.Start.{IsEmpty}

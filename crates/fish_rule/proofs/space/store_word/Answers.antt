@@ -1,11 +1,11 @@
 -- The word is within the region in flight, and the table allows its store.
-use Rattle.std.proofs.Common.{◌≡◌, ◌∙◌, sym, ap, arith, subst, ℕ, ◌<◌, ◌≤◌, ◌+◌, ◌-◌, ◌*◌, length}
+use Rattle.std.proofs.Common.{◌≡◌, ◌∙◌, sym, refl, ap, arith, subst, ℕ, ◌<◌, ◌≤◌, ◌+◌, ◌-◌, ◌*◌, length}
+use Rattle.fish_rule.proofs.basics.Passes.{pass_still}
 use Rattle.fish_rule.proofs.steps.StoreWord.{store_word_allowed}
 use Rattle.fish_rule.proofs.laws.Steps.{flight_law}
 use Rattle.fish_rule.specs.Flying.{region_in}
 use Rattle.fish_rule.specs.Passes.{IsPassOf, view}
 use Rattle.fish_rule.specs.SpaceSteps.{CanStoreWord}
-use Rattle.fish_rule.specs.Table.{Stands}
 use Rattle.fish_rule.specs.World.{log_at}
 use Rattle.fish_rule.specs.declared.table.Log.{Log}
 use Rattle.fish_rule.specs.declared.table.Pass.{Pass}
@@ -66,9 +66,4 @@ invariant_of-pass c =
 pub returns-clause-pass : goal.returns-clause-pass
 returns-clause-pass c =
     let told = c.store.ensures.2 c.requires.view.0 c.requires.view.1.flying in
-    record {
-      table = c.store.ensures.0 ∙ c.requires.pass.table;
-      about = ap (λ (z : View). z.about) told.view ∙ c.requires.pass.about;
-      live = subst (λ (z : ℕ). 1 ≤ z) (sym (ap (λ (z : View). z.lane) told.view)) c.requires.pass.live;
-      stands = subst Stands (sym told.view) told.stands;
-    }
+    pass_still c.requires.pass c.store.ensures.0 told.view told.stands refl refl
