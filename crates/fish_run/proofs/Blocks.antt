@@ -6,12 +6,13 @@ use Rattle.std.proofs.lemmas.Option.{slice_get-get_or, slice_get_within}
 use Rattle.fish_catalog.specs.declared.entry.Entry.{Entry}
 use Rattle.fish_lanes.proofs.Controls.{each_later}
 use Rattle.fish_lanes.proofs.Gaining.{same_lines}
+use Rattle.fish_lanes.proofs.Plans.{plans_later}
 use Rattle.fish_lanes.proofs.Single.{singles_whole}
 use Rattle.fish_lanes.proofs.Surely.{will_later}
 use Rattle.fish_lanes.specs.Blocks.{AreEnded, AreKept, AreLanes, HasRegistered, IsBlockSpan, IsMarkItem, NameMarks}
 use Rattle.fish_lanes.specs.Outcome.{IsFullIn}
 use Rattle.fish_lanes.specs.Blocks.{TellsBlock}
-use Rattle.fish_lanes.specs.Outcome.{PlansAreBegun, TellsAlone, TellsShutBy}
+use Rattle.fish_lanes.specs.Outcome.{LanesSayPlans, TellsAlone, TellsShutBy}
 use Rattle.fish_lanes.specs.Closing.{Later, Will}
 use Rattle.fish_lanes.specs.Ending.{HasEnd}
 use Rattle.fish_lanes.specs.Gains.{IsMarkAt}
@@ -217,9 +218,9 @@ pub leaves_of : (told : Option Files) (text : script.Block) (v u : View) (r s : 
     → HasEnd v from
     → ((k : Span) → IsBlockSpan v u end.to k → (k.from ≤ k.to) × Will u (λ x log. TellsBlock x k log lanes))
     → ((x : Lane) → slice_get lanes 0 ≡ Some x → HasRegistered v u r s x end) → AreEnded lanes → NameMarks u lanes
-    → TellsShutBy v u lanes → PlansAreBegun s.catalog lanes → r.waiting ≡ None → TellsAlone v u r lanes
+    → TellsShutBy v u lanes → LanesSayPlans u (registry_of v r) s.catalog from lanes → r.waiting ≡ None → TellsAlone v u r lanes
     → Leaves told text v u r s from lanes end
-leaves_of told text v u r s from items lanes end are works many kept begins tells has ended marks shuts begun settled alone = record {
+leaves_of told text v u r s from items lanes end are works many kept begins tells has ended marks shuts plans settled alone = record {
   works = lanes_kept told text.lanes items lanes many (λ i x y at bt. (kept i x y at bt).1) works;
   numbers = λ i x at.
       let below = slice_get_within lanes i x at in
@@ -235,7 +236,7 @@ leaves_of told text v u r s from items lanes end are works many kept begins tell
       let a = alone x one in
       record { none = a.closed; whole = λ w only. singles_whole v u from w (answers x.items) (a.only from begins settled w only) };
   shuts = shuts;
-  begun = begun;
+  plans = plans;
 }
 
 module _ (told : Option Files) (text : script.Block) (v u : View) (r s : Registrar) (from : ℕ) (lanes : List Lane) (end : BlockEnd)
@@ -286,7 +287,8 @@ module _ (told : Option Files) (text : script.Block) (v u : View) (r s : Registr
           knows = each_later u x (registry_of v r) (lanes_controls lanes end) later.learns
               (controls_known v u r s lanes end h.some whole h.has);
           last = ap (λ (z : Registry). z.version) after;
-          plans = subst (λ (z : Registry). PlansAreBegun z.rows lanes) after h.begun;
+          plans = λ i y at. plans_later u x (registry_of v r) _ from y.works y.items later.learns
+              (subst (λ (z : Registry). LanesSayPlans u (registry_of v r) z.rows from lanes) after h.plans i y at);
         };
         marks = h.marks;
         behind = after;

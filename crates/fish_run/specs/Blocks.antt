@@ -2,7 +2,7 @@
 use Rattle.std.specs.Prelude.{ℕ, ◌≡◌, ◌≤◌, ◌+◌, List, [], ◌∷◌, ◌++◌, Bool, IfSome, Option, Some, None, ⊤}
 use Rattle.fish_catalog.specs.declared.entry.Entry.{Entry}
 use Rattle.fish_lanes.specs.Blocks.{AreEnded, NameMarks, TellsBlock, control_items}
-use Rattle.fish_lanes.specs.Outcome.{IsFullIn, PlansAreBegun}
+use Rattle.fish_lanes.specs.Outcome.{IsFullIn, LanesSayPlans}
 use Rattle.fish_lanes.specs.Registering.{AreSo, KnowsEach, Registry, after_all}
 use Rattle.fish_lanes.specs.Single.{NamesNone, TellsWhole}
 use Rattle.fish_lanes.specs.Spans.{Span, answers}
@@ -83,14 +83,14 @@ pub record TellsPart (v : View) (log : List Entry) (from : ℕ) (r : Registry) (
   pub ended : AreEnded b.lanes
   pub alone : (x : Lane) → b.lanes ≡ x ∷ [] → TellsOneLane from x
 
--- what one tells in which none did: besides, the definitions at each version are those that its first lane's items tell, and the
--- pieces by an index of each plan begin where the rows behind the block do
+-- what one tells in which none did: besides, the definitions at each version are those that its first lane's items tell; and by them, and
+-- by the rows behind the block, pieces by an index lie where the index is complete, and none is read one by one that was known to be so
 pub record TellsOne (v : View) (log : List Entry) (from : ℕ) (r : Registry) (b : Block) : Type 0 where
   pub part : TellsPart v log from r b
   pub registers : AreSo b.span.from (b.span.to + 16) r (block_controls b)
   pub knows : KnowsEach v r (block_controls b)
   pub last : b.span.last ≡ (behind_block r b).version
-  pub plans : PlansAreBegun (behind_block r b).rows b.lanes
+  pub plans : LanesSayPlans v r (behind_block r b).rows from b.lanes
 
 -- what blocks tell: each begins where the one in front of it ended, with the definitions that it left; the last one ends here
 abbrev pub TellsBlocks : View → List Entry → ℕ → Registry → List Block → ℕ → Type 0

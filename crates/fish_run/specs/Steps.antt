@@ -1,10 +1,10 @@
 -- What the steps of a run leave. Private clauses speak of it.
 use Rattle.std.specs.Prelude.{ℕ, ◌≡◌, ◌≢◌, ◌⊎◌, ◌||◌, ◌<◌, ◌≤◌, List, [], ◌∷◌, Bool, Option, Some, None, Result, Ok, Err, IfSome, length, slice_get}
 use Rattle.fish_lanes.specs.Blocks.{AreEnded, HasRegistered, IsBlockSpan, NameMarks, TellsBlock}
-use Rattle.fish_lanes.specs.Outcome.{IsFullIn, PlansAreBegun, TellsShutBy}
+use Rattle.fish_lanes.specs.Outcome.{IsFullIn, LanesSayPlans, TellsShutBy}
 use Rattle.fish_lanes.specs.Closing.{Will}
 use Rattle.fish_lanes.specs.Ending.{HasEnd}
-use Rattle.fish_lanes.specs.Registering.{Registry}
+use Rattle.fish_lanes.specs.Registering.{Registry, registry_of}
 use Rattle.fish_lanes.specs.Spans.{Span}
 use Rattle.fish_lanes.specs.declared.block.BlockEnd.{BlockEnd}
 use Rattle.fish_lanes.specs.declared.lane.Lane.{Lane}
@@ -70,7 +70,7 @@ pub record Leaves (told : Option Files) (text : script.Block) (v u : View) (r s 
   pub marks : NameMarks u lanes
   pub alone : (x : Lane) → lanes ≡ x ∷ [] → TellsOneLane from x
   pub shuts : TellsShutBy v u lanes
-  pub begun : PlansAreBegun s.catalog lanes
+  pub plans : LanesSayPlans u (registry_of v r) s.catalog from lanes
 
 -- no lane stopped at a fault
 abbrev pub AreWhole : List Lane → Type 0

@@ -219,6 +219,7 @@ covered_within v m u t rows text from settled to plan before after h = record {
   are = record {
     each = λ x among. interval_later u t h.moment.learned.settled rows text x after (h.are.each x among);
     known = h.are.known;
+    ended = h.are.ended;
   };
   cover = h.cover;
 }

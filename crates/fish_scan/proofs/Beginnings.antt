@@ -1,6 +1,6 @@
 -- What boundary words that are loaded tell of the intervals of a definition.
 use Rattle.std.proofs.Common.{◌≡◌, ℕ, ◌<◌, ◌≤◌, zero, suc, List, [], ◌∷◌, length, refl, sym, ap, ◌∙◌, subst, ⊎_elim, inl}
-use Rattle.std.proofs.Common.{inr, arith, Some, Option, slice_get}
+use Rattle.std.proofs.Common.{inr, arith, None, Some, Option, slice_get}
 use Rattle.std.proofs.Math.Decide.{dec_lt}
 use Rattle.std.proofs.lemmas.Option.{same_Some, slice_get_within}
 use Rattle.fish_catalog.specs.Listing.{IsListing}
@@ -16,7 +16,8 @@ use Rattle.fish_rule.specs.Views.{Among}
 use Rattle.fish_rule.specs.declared.view.RegistryWord.{RegistryWord}
 use Rattle.fish_rule.specs.declared.view.View.{View}
 use Rattle.fish_scan.proofs.Lists.{among_last}
-use Rattle.fish_scan.specs.Intervals.{AddsInterval, AreIntervals, IsBegun, IsIntervalOf, IsUnbegun, OnlyBoundaries, end_within}
+use Rattle.fish_scan.specs.Intervals.{AddsInterval, AreIntervals, HasEndKnown, IsBegun, IsIntervalOf, IsTaken}
+use Rattle.fish_scan.specs.Intervals.{IsUnbegun, OnlyBoundaries, end_within}
 
 -- ---- loads
 
@@ -44,24 +45,59 @@ boundary_still : (p x : ℕ) (words : List RegistryWord) (y : RegistryWord) → 
 boundary_still p zero words y among = among
 boundary_still p (suc n) words y among = inr among
 
--- a beginning and an end that were loaded make an interval
-pub begun_found : (v m u : View) (id x y from : ℕ) (to : Option ℕ) → id < 256 → m ≡ after_load_boundary v id 0 x
-    → u ≡ after_load_boundary m id 1 y → x ≡ suc from → end_within v.learned.settled to ≡ end_told v.learned.settled y
-    → IsBegun u v.learned.settled id (record { id = id; from = from; to = to })
-begun_found v m u id x y from to few first last begins ends =
-    subst (λ (z : View). IsBegun z v.learned.settled id (record { id = id; from = from; to = to }))
-    (sym (last ∙ ap (λ (z : View). after_load_boundary z id 1 y) (first ∙ ap (after_load_boundary v id 0) begins))) (record {
-      id_is = refl;
-      interval = record {
-        few = few;
-        begins = boundary_still (row_at id 1) y (with_boundary (row_at id 0) (suc from) v.learned.words)
-            (record { index = row_at id 0; value = suc from }) (inl refl);
-        unended = record { id = id; below = end_told v.learned.settled y };
-        among = inl refl;
-        of = refl;
-        upto = omega arith;
-      };
-    })
+-- the word of an end: 0 for none
+abbrev pub word_of_end : Option ℕ → ℕ
+word_of_end None = 0
+word_of_end (Some to) = suc to
+
+-- such a word tells of the end, or else of what is settled
+end_of_word : (settled : ℕ) (to : Option ℕ) → end_within settled to ≡ end_told settled (word_of_end to)
+end_of_word settled None = refl
+end_of_word settled (Some to) = refl
+
+-- the word of an end that was loaded is known
+end_among : (p : ℕ) (words : List RegistryWord) (to : Option ℕ) (n : ℕ) → to ≡ Some n
+    → Among (record { index = p; value = suc n }) (with_boundary p (word_of_end to) words)
+end_among p words None n is = absurd cc
+end_among p words (Some to) n is =
+    inl (ap (λ (z : ℕ). record { index = p; value = suc z }) (same_Some to n is))
+
+-- the word of an end is that of one end
+end_same : (to : Option ℕ) (n : ℕ) → word_of_end to ≡ suc n → to ≡ Some n
+end_same None n is = absurd (omega arith)
+end_same (Some to) n is = ap Some (omega arith)
+
+module _ (v m u : View) (id x y from : ℕ) (to : Option ℕ) (few : id < 256) (first : m ≡ after_load_boundary v id 0 x)
+    (last : u ≡ after_load_boundary m id 1 y) (begins : x ≡ suc from) (ends : y ≡ word_of_end to) where
+  -- a beginning and an end that were loaded make an interval
+  begun_found : IsBegun u v.learned.settled id (record { id = id; from = from; to = to })
+  begun_found = subst (λ (z : View). IsBegun z v.learned.settled id (record { id = id; from = from; to = to }))
+      (sym (last ∙ (λ i. after_load_boundary (first i) id 1 (ends i)) ∙ ap (λ (z : ℕ).
+      after_load_boundary (after_load_boundary v id 0 z) id 1 (word_of_end to)) begins)) (record {
+        id_is = refl;
+        interval = record {
+          few = few;
+          begins = boundary_still (row_at id 1) (word_of_end to)
+              (with_boundary (row_at id 0) (suc from) v.learned.words)
+              (record { index = row_at id 0; value = suc from }) (inl refl);
+          unended = record { id = id; below = end_told v.learned.settled (word_of_end to) };
+          among = inl refl;
+          of = refl;
+          upto = (let same = end_of_word v.learned.settled to in omega arith);
+        };
+        ended = end_among (row_at id 1) (with_boundary (row_at id 0) (suc from) v.learned.words) to;
+      })
+
+  -- and an end that was known is that of the interval, since its word was loaded
+  pub taken_found : ((z : RegistryWord) → Among z m.learned.words → z.index ≡ row_at id 1 → y ≡ z.value)
+      → IsTaken v u id (Some (record { id = id; from = from; to = to }))
+  taken_found known = (
+    begun_found,
+    λ n among. end_same to n (sym ends
+        ∙ known (record { index = row_at id 1; value = suc n }) (subst (λ (z : View).
+        Among (record { index = row_at id 1; value = suc n }) z.learned.words) (sym first)
+        (boundary_still (row_at id 0) x v.learned.words _ among)) refl),
+  )
 
 -- ---- rows
 
@@ -71,6 +107,7 @@ pub record AreSoFar (v u : View) (rows : List Listed) (text : List ℕ) (upto : 
   pub known : (id : ℕ) (row : Listed) → id < upto → slice_get rows id ≡ Some row → row.def ≡ text
       → (from : ℕ) → Among (record { index = row_at id 0; value = suc from }) v.learned.words
       → (x : Interval) × Among x intervals × (x.id ≡ id)
+  pub ended : (x : Interval) → Among x intervals → HasEndKnown v x.id x
 
 -- none of no row
 pub so_far_none : (v : View) (rows : List Listed) (text : List ℕ) (intervals : List Interval) → intervals ≡ []
@@ -78,6 +115,7 @@ pub so_far_none : (v : View) (rows : List Listed) (text : List ℕ) (intervals :
 so_far_none v rows text intervals none = subst (AreSoFar v v rows text 0) (sym none) (record {
   each = λ x among. elim among [ ];
   known = λ id row below. absurd (omega arith);
+  ended = λ x among. elim among [ ];
 })
 
 -- all of all rows
@@ -86,6 +124,7 @@ pub so_far_all : (v u : View) (rows : List Listed) (text : List ℕ) (upto : ℕ
 so_far_all v u rows text upto intervals all h = record {
   each = h.each;
   known = λ id row there. h.known id row (let w = slice_get_within rows id row there in omega arith) there;
+  ended = h.ended;
 }
 
 -- what is known of an interval stays known
@@ -95,7 +134,11 @@ interval_later v u settled rows text x learns h = record {
   row = h.row;
   there = h.there;
   text_is = h.text_is;
-  begun = record { id_is = h.begun.id_is; interval = intervals_stay v u _ _ _ learns h.begun.interval };
+  begun = record {
+    id_is = h.begun.id_is;
+    interval = intervals_stay v u _ _ _ learns h.begun.interval;
+    ended = λ to is. learns.words _ (h.begun.ended to is);
+  };
 }
 
 module _ (v m u : View) (rows : List Listed) (text : List ℕ) (n : ℕ) (row : Listed) (before after : List Interval)
@@ -118,6 +161,9 @@ module _ (v m u : View) (rows : List Listed) (text : List ℕ) (n : ℕ) (row : 
             IsIntervalOf u v.learned.settled rows text z) e mine)
             (among_last x a.interval before (subst (Among x) a.added among));
         known = λ id r below at is from among. either id r below at is from among (dec_lt id n);
+        ended = λ x among. ⊎_elim (λ (old : Among x before). h.ended x old) (λ (e : a.interval ≡ x).
+            subst (λ (z : Interval). HasEndKnown v z.id z) e end_known)
+            (among_last x a.interval before (subst (Among x) a.added among));
       }
         where
           same : a.interval.id ≡ n
@@ -130,6 +176,10 @@ module _ (v m u : View) (rows : List Listed) (text : List ℕ) (n : ℕ) (row : 
             text_is = a.text_is;
             begun = subst (λ (z : ℕ × ℕ). IsBegun u z.0 z.1 a.interval) (λ i. (old.settled i, sym a.begun.id_is i)) a.begun;
           }
+
+          end_known : HasEndKnown v a.interval.id a.interval
+          end_known to among = a.ended to (old.extends.learns.words _ (subst (λ (z : ℕ).
+              Among (record { index = row_at z 1; value = suc to }) v.learned.words) a.begun.id_is among))
 
           either : (id : ℕ) (r : Listed) → id < suc n → slice_get rows id ≡ Some r → r.def ≡ text → (from : ℕ)
               → Among (record { index = row_at id 0; value = suc from }) v.learned.words → Dec (id < n)
@@ -145,6 +195,7 @@ module _ (v m u : View) (rows : List Listed) (text : List ℕ) (n : ℕ) (row : 
       by (inr (none, unbegun)) = record {
         each = λ x among. kept x (subst (Among x) none among);
         known = λ id r below at is from among. either id r below at is from among (dec_lt id n);
+        ended = λ x among. h.ended x (subst (Among x) none among);
       }
         where
           either : (id : ℕ) (r : Listed) → id < suc n → slice_get rows id ≡ Some r → r.def ≡ text → (from : ℕ)

@@ -20,10 +20,16 @@ abbrev pub end_within : ℕ → Option ℕ → ℕ
 end_within settled None = settled
 end_within settled (Some to) = to
 
--- the index of the row with an id begins where the interval does, and was complete up to the interval's end
+-- the index of the row with an id begins where the interval does, and was complete up to the interval's end; where the
+-- interval has one, the pass read the word of that end
 pub record IsBegun (v : View) (settled id : ℕ) (x : Interval) : Type 0 where
   pub id_is : x.id ≡ id
   pub interval : HasInterval v id x.from (end_within settled x.to)
+  pub ended : (to : ℕ) → x.to ≡ Some to → Among (record { index = row_at id 1; value = suc to }) v.learned.words
+
+-- an end of the row with an id that the pass knew is the interval's end
+abbrev pub HasEndKnown : View → ℕ → Interval → Type 0
+HasEndKnown v id x = (to : ℕ) → Among (record { index = row_at id 1; value = suc to }) v.learned.words → x.to ≡ Some to
 
 -- the pass knew of no beginning
 abbrev pub IsUnbegun : View → ℕ → Type 0
@@ -32,13 +38,14 @@ IsUnbegun v id = (from : ℕ) → ¬ Among (record { index = row_at id 0; value 
 -- the interval of a row, if its index has begun
 abbrev pub IsTaken : View → View → ℕ → Option Interval → Type 0
 IsTaken v u id None = IsUnbegun v id
-IsTaken v u id (Some x) = IsBegun u v.learned.settled id x
+IsTaken v u id (Some x) = IsBegun u v.learned.settled id x × HasEndKnown v id x
 
 -- the interval of a row with the text came behind others
 pub record IsAdded (v u : View) (row : Listed) (text : List ℕ) (before after : List Interval) : Type 0 where
   pub interval : Interval
   pub text_is : row.def ≡ text
   pub begun : IsBegun u v.learned.settled row.id interval
+  pub ended : HasEndKnown v row.id interval
   pub added : after ≡ before ++ interval ∷ []
 
 -- or none did where the row has another text or its index hasn't begun
@@ -53,9 +60,11 @@ pub record IsIntervalOf (v : View) (settled : ℕ) (rows : List Listed) (text : 
   pub text_is : row.def ≡ text
   pub begun : IsBegun v settled x.id x
 
--- the intervals are those of rows with the text, of each one of whose index the pass knew that it has begun
+-- the intervals are those of rows with the text, of each one of whose index the pass knew that it has begun; and they end
+-- where the pass knew an end
 pub record AreIntervals (v u : View) (rows : List Listed) (text : List ℕ) (intervals : List Interval) : Type 0 where
   pub each : (x : Interval) → Among x intervals → IsIntervalOf u v.learned.settled rows text x
   pub known : (id : ℕ) (row : Listed) → slice_get rows id ≡ Some row → row.def ≡ text
       → (from : ℕ) → Among (record { index = row_at id 0; value = suc from }) v.learned.words
       → (x : Interval) × Among x intervals × (x.id ≡ id)
+  pub ended : (x : Interval) → Among x intervals → HasEndKnown v x.id x

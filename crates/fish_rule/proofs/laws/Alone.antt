@@ -1,21 +1,24 @@
 -- What the control pass, alone, concludes of the whole log.
-use Rattle.std.proofs.Common.{◌≡◌, ◌≢◌, ℕ, ◌+◌, ◌≤◌, zero, suc, List, [], ◌∷◌, ◌++◌, length, refl, sym, ap, ◌∙◌, subst}
+use Rattle.std.proofs.Common.{◌≡◌, ◌≢◌, ℕ, ◌+◌, ◌<◌, ◌≤◌, zero, suc, List, [], ◌∷◌, ◌++◌, length, refl, sym, ap, ◌∙◌, subst}
 use Rattle.std.proofs.Common.{inl, inr, arith, Some, None, Option}
 use mathlib.Core.Option.{some}
 use Rattle.std.proofs.Math.ListN.{get_elem?}
 use Rattle.fish_catalog.specs.declared.entry.Entry.{Entry}
 use Rattle.fish_catalog.specs.declared.entry.Entry.TheVariants as entry
+use Rattle.fish_rule.proofs.basics.Bodies.{code_once, mark-past, published}
 use Rattle.fish_rule.proofs.basics.Lists.{all_among}
-use Rattle.fish_rule.proofs.laws.Learning.{extends_look, found_here, learns_both}
+use Rattle.fish_rule.proofs.basics.OneMoment.{claimed}
+use Rattle.fish_rule.proofs.basics.Regions.{starts_rise}
+use Rattle.fish_rule.proofs.laws.Learning.{extends_look, found_here, learns_both, learns_self}
 use Rattle.fish_rule.specs.ClosedLog.{IsClosed, IsClosedAt, ReadsOn}
 use Rattle.fish_rule.specs.Logs.{AreTold, Extends, Learns, Tells, TellsMark}
-use Rattle.fish_rule.specs.Parts.{Rests}
+use Rattle.fish_rule.specs.Parts.{Rests, quotas}
 use Rattle.fish_rule.specs.Facts.{Facts, IsFound, IsKnown, IsRecorded, Owns}
-use Rattle.fish_rule.specs.Regions.{code}
+use Rattle.fish_rule.specs.Regions.{code, kind_of}
 use Rattle.fish_rule.specs.Rule.{Rule}
 use Rattle.fish_rule.specs.LoadSteps.{IsAlone, after_load_tail, after_look_at, kind_told}
 use Rattle.fish_rule.specs.Table.{Stands}
-use Rattle.fish_rule.specs.Views.{AllOf, Among}
+use Rattle.fish_rule.specs.Views.{AllOf, Among, IsOver}
 use Rattle.fish_rule.specs.Gaps.{IsGap, IsLabel}
 use Rattle.fish_rule.specs.World.{World, high, low}
 use Rattle.fish_rule.specs.declared.close.Remains.{Remains}
@@ -192,3 +195,36 @@ alone_later v u e alone = record {
 -- and so it does when it loads the tail
 pub alone_end : (v : View) (x : ℕ) → IsAlone v → IsAlone (after_load_tail v x)
 alone_end v x alone = record { main = alone.main; all = alone.all; idle = alone.idle }
+
+-- ---- a log that isn't full
+
+-- as many as the lanes, where each has one
+quotas_all : (q : ℕ → ℕ) (l : ℕ) → ((n : ℕ) → 1 ≤ n → n ≤ l → q n ≡ 1) → quotas q l ≡ l
+quotas_all q zero h = refl
+quotas_all q (suc l) h =
+    let before = quotas_all q l (λ n some_ few. h n some_ (omega arith)) in
+    let last = h (suc l) (omega arith) (omega arith) in
+    omega arith
+
+-- while all lanes may still claim past the log's end, none has done so: no number is a mark
+pub no_mark : (v : View) (n : ℕ) → Stands v → IsAlone v → v.shut ≡ None → v.about.number ≤ n → ¬ TellsMark v n
+no_mark v n s alone live above mark =
+    let w : World = s.moment in
+    let r = s.rule in
+    let limit = r.limit in
+    let may : (l : ℕ) → 1 ≤ l → l ≤ 16 → r.quota l ≡ 1 =
+    λ l some_ few. limit.may s.seat v s.at l (some_, few, inr (alone.main, λ m. elim (subst (Among l) alone.all m) [ ]))
+    (live, λ over. elim (subst (IsOver v.about.end) alone.idle over) [ ]) in
+    let all = quotas_all r.quota 16 may in
+    let few = limit.few in
+    let within = limit.within in
+    let fits = limit.fits in
+    let word = mark v (learns_self v) w r s.seat s.at in
+    let some_ = published (w.dir n) Mark word in
+    let below = claimed v.about w r n some_ in
+    let f = r.space.finished n above below some_ in
+    let is : kind_of v.about.end (r.start n) (r.start (suc n)) ≡ Mark = code_once _ Mark (sym f.kind ∙ word) in
+    let past = mark-past v.about.end (r.start n) (r.start (suc n)) is in
+    let up = starts_rise v.about w.count w.line r.start r.space.regions (suc n) limit.first (omega arith) (omega arith)
+    (omega arith) in
+    omega arith

@@ -60,4 +60,4 @@ returns-clause-leaves g c =
         c.run_block-end.result given of.works (omega (many, same, arith))
         (subst (λ (z : List Lane). AreKept z lanes) c.as_mut_slice.ensures.value c.run_block-end.ensures.kept) c.requires.go.end
         c.run_block-end.ensures.told c.run_block-end.ensures.registered c.run_block-end.ensures.ended c.run_block-end.ensures.marks
-        c.run_block-end.ensures.shuts c.run_block-end.ensures.begun c.requires.go.settled c.run_block-end.ensures.alone
+        c.run_block-end.ensures.shuts (c.run_block-end.ensures.plans c.args.from c.requires.go.end) c.requires.go.settled c.run_block-end.ensures.alone
