@@ -65,6 +65,7 @@ within_before v u t s learns within =
       settled = within.settled;
       counted = within.counted;
       near = omega arith;
+      alone = within.alone;
     }
 
 -- a step that gains nothing and answers nothing

@@ -1,21 +1,22 @@
 -- The statements of the first lane so far, with the definitions that their items tell.
 use Rattle.std.proofs.Common.{◌≡◌, ℕ, ◌+◌, ◌≤◌, List, [], ◌∷◌, ◌++◌, take, refl, sym, ap, ◌∙◌, subst, inl, inr, arith}
-use Rattle.std.proofs.Common.{zero, suc, None, Result, Ok, Err}
+use Rattle.std.proofs.Common.{zero, suc, Some, None, Result, Ok, Err}
 use Rattle.std.specs.Prelude.{IfErr, IfOk}
 use Rattle.fish_lanes.proofs.Advancing.{answers_more, answers_same, run_cut, run_ended, told_more, told_on}
 use Rattle.fish_lanes.proofs.Done.{HasTold, told_self}
-use Rattle.fish_lanes.proofs.Covering.{bounds_before, bounds_read}
+use Rattle.fish_lanes.proofs.Covering.{bounds_before, bounds_in, bounds_read}
 use Rattle.fish_lanes.proofs.Plans.{fit_so, plans_beside, plans_later, plans_longer, plans_more}
 use Rattle.fish_lanes.proofs.Registrations.{registry_later}
 use Rattle.fish_lanes.proofs.Showing.{fit_answer}
-use Rattle.fish_lanes.proofs.Single.{alone_gains, closed_more, fit_closed, fit_single, none_there, only_last, only_later, some_there}
-use Rattle.fish_lanes.specs.Controlling.{Does, HasControlled, HasPolled, IsControlled, IsPartControlled}
+use Rattle.fish_lanes.proofs.Gaining.{alone_gains}
+use Rattle.fish_lanes.proofs.Single.{closed_more, fit_closed, fit_single, none_there, only_last, only_later, some_there}
+use Rattle.fish_lanes.specs.Controlling.{Does, HasControlled, HasPolled, IsControlled, IsPartControlled, TellsTail}
 use Rattle.fish_lanes.specs.Doing.{GainsFirst, IsFit, IsItem, IsPart}
 use Rattle.fish_lanes.specs.Ending.{HasEnd}
 use Rattle.fish_lanes.specs.Gains.{Gains}
-use Rattle.fish_lanes.specs.Plans.{PlansAreSoBy, TellsPlans}
+use Rattle.fish_lanes.specs.Plans.{AreBoundsIn, PlansAreSoBy, TellsPlans}
 use Rattle.fish_lanes.specs.Records.{LaneRow, contents}
-use Rattle.fish_lanes.specs.Registering.{AreSo, IsSo, KnowsEach, KnowsRegistry, Registry, after, after_all, registry_of}
+use Rattle.fish_lanes.specs.Registering.{AreSo, IsSo, KnowsEach, KnowsRegistry, Registry, after, after_all, registry_of, waiting_id}
 use Rattle.fish_lanes.specs.Running.{IsFree}
 use Rattle.fish_lanes.specs.Single.{NamesNone, TellsOnly, TellsSingle}
 use Rattle.fish_lanes.specs.Spans.{answers, made_by}
@@ -86,6 +87,21 @@ pub each_more : (u : View) (r : Registry) (items : List Item) (x : Item) → Kno
 each_more u r [] x h one = (h, one)
 each_more u r (y ∷ items) x h one = (h.0, each_more u (after r y) items x h.1 one)
 
+-- ---- statements that change no definition
+
+-- their items change none
+pub free_after : (u t : View) (w : Work) (x : Item) (r : Registry) → IsFree w → IsFit u t w x → after r x ≡ r
+free_after u t (work.Register name def) x r free f = elim free [ ]
+free_after u t (work.Deregister name) x r free f = elim free [ ]
+free_after u t (work.Ingest form header name file) x r free (inl f) = ap (after r) f.is
+free_after u t (work.Ingest form header name file) x r free (inr (inl f)) = ap (after r) f.is
+free_after u t (work.Ingest form header name file) x r free (inr (inr f)) = ap (after r) f.is
+free_after u t (work.Scan ask) x r free (inl f) = ap (after r) f.is
+free_after u t (work.Scan ask) x r free (inr f) = ap (after r) f.is
+free_after u t (work.Explain ask) x r free (inl f) = ap (after r) f.is
+free_after u t (work.Explain ask) x r free (inr f) = ap (after r) f.is
+free_after u t work.Checkpoint x r free f = ap (after r) f.is
+
 -- ---- plans
 
 -- what was said of plans stays so
@@ -104,8 +120,8 @@ pub record Held (v : View) (r : Registrar) (u : View) (s : Registrar) (works : L
   pub is : registry_of u s ≡ after_all (registry_of v r) items
   pub each : KnowsEach u (registry_of v r) items
   pub closed : IsAlone v → AllOf NamesNone items
-  pub still : works ≡ [] → r.waiting ≡ None → (u ≡ v) × (s.waiting ≡ None)
-  pub only : (end : ℕ) → HasEnd v end → r.waiting ≡ None → TellsOnly v u end works items
+  pub still : works ≡ [] → r.waiting ≡ None → (u ≡ v) × (s.waiting ≡ None) × (items ≡ [])
+  pub only : (end : ℕ) → HasEnd v end → r.waiting ≡ None → TellsOnly v u r.catalog end works items
   pub plans : PlansAreSoBy v u (registry_of v r) works items
 
 -- none yet
@@ -116,7 +132,7 @@ held_self v r outside idle known = record {
   is = refl;
   each = known;
   closed = λ alone. tt;
-  still = λ none wait. (refl, wait);
+  still = λ none wait. (refl, wait, refl);
   only = λ end e wait w one. absurd cc;
   plans = λ rows from bounds low. tt;
 }
@@ -125,8 +141,8 @@ held_self v r outside idle known = record {
 held_item : (v : View) (r : Registrar) (u : View) (s : Registrar) (t : View) (q : Registrar) (works works' : List Work)
     (items : List Item) (x : Item) → Held v r u s works items → Learns v u → Learns u t → Does u s t q x
     → HasTold v t works' (answers (items ++ x ∷ [])) → (IsAlone v → NamesNone x)
-    → (works' ≡ [] → r.waiting ≡ None → (t ≡ v) × (q.waiting ≡ None))
-    → ((end : ℕ) → HasEnd v end → r.waiting ≡ None → TellsOnly v t end works' (items ++ x ∷ []))
+    → (works' ≡ [] → r.waiting ≡ None → (t ≡ v) × (q.waiting ≡ None) × (items ++ x ∷ [] ≡ []))
+    → ((end : ℕ) → HasEnd v end → r.waiting ≡ None → TellsOnly v t r.catalog end works' (items ++ x ∷ []))
     → PlansAreSoBy v t (registry_of v r) works' (items ++ x ∷ []) → Held v r t q works' (items ++ x ∷ [])
 held_item v r u s t q works works' items x h before learns does told none still only plans =
     let start = registry_of v r in
@@ -148,6 +164,10 @@ held_item v r u s t q works works' items x h before learns does told none still 
       plans = plans;
     }
 
+-- what isn't there doesn't wait
+none_waiting : (s : Registrar) (id : ℕ) → s.waiting ≡ None → ¬ (waiting_id s.waiting ≡ Some id)
+none_waiting s id none is = (let bad : waiting_id None ≡ Some id = ap waiting_id (sym none) ∙ is in cc)
+
 -- a look for a boundary
 pub held_polled : (v : View) (r : Registrar) (u : View) (s : Registrar) (t : View) (q : Registrar) (works : List Work)
     (items items' : List Item) → Held v r u s works items → Gains u t [] → t.clock.loads ≡ u.clock.loads → t.shut ≡ u.shut
@@ -162,8 +182,8 @@ held_polled v r u s t q works items items' h g same shut idle (inl p) =
       is = p.1 ∙ h.is;
       each = each_later u t start items learns h.each;
       closed = h.closed;
-      still = λ none wait. let b = h.still none wait in let i = idle b.1 in (i.0 ∙ b.0, i.1);
-      only = λ end e wait. only_later v u t end learns same works items (h.only end e wait);
+      still = λ none wait. let b = h.still none wait in let i = idle b.1 in (i.0 ∙ b.0, i.1, b.2);
+      only = λ end e wait. only_later v u t r.catalog end learns same works items (h.only end e wait);
       plans = plans_on v u t start works items learns h.plans;
     })
 held_polled v r u s t q works items items' h g same shut idle (inr p) =
@@ -171,17 +191,18 @@ held_polled v r u s t q works items items' h g same shut idle (inr p) =
     subst (Held v r t q works) (sym p.2)
     (held_item v r u s t q works works items x h h.told.gains.on.learns g.on.learns p.3
     (subst (HasTold v t works) (sym (answers_same items x refl)) (told_on v u t works (answers items) h.told g shut))
-    (λ alone. tt) (λ none wait. let b = h.still none wait in let i = idle b.1 in (i.0 ∙ b.0, i.1))
-    (λ end e wait w one. subst (AllOf (TellsSingle v t end w)) (sym (answers_same items x refl))
-    (only_later v u t end g.on.learns same works items (h.only end e wait) w one))
+    (λ alone. tt) (λ none wait. absurd (none_waiting s p.0 (h.still none wait).1 p.3.so.0))
+    (λ end e wait w one. subst (AllOf (TellsSingle v t r.catalog end w)) (sym (answers_same items x refl))
+    (only_later v u t r.catalog end g.on.learns same works items (h.only end e wait) w one))
     (λ rows from bounds low. plans_beside t (registry_of v r) rows from works items x h.told.size
     (plans_on v u t (registry_of v r) works items g.on.learns h.plans rows from bounds low)))
 
 -- a statement
 pub held_done : (v : View) (r : Registrar) (u : View) (s : Registrar) (t : View) (q : Registrar) (works : List Work)
-    (items : List Item) (w : Work) (x : Item) → Stands t → v.about.number ≡ 0 → Knows u s → Held v r u s works items
+    (items : List Item) (w : Work) (x : Item) → Stands v → Stands t → v.about.number ≡ 0 → Knows v r
+    → KnowsRegistry v (registry_of v r) → Knows u s → Knows t q → Held v r u s works items
     → IsControlled u s t q w x → Held v r t q (works ++ w ∷ []) (items ++ x ∷ [])
-held_done v r u s t q works items w x stands base knows h c =
+held_done v r u s t q works items w x stood stands base began known knows now h c =
     let made : t.learned.version ≡ u.learned.version + made_by x =
     ap (λ (z : Registry). z.version) c.does.is ∙ after_load_version (registry_of u s) x in
     held_item v r u s t q works (works ++ w ∷ []) items x h h.told.gains.on.learns c.gains.on.learns c.does
@@ -191,9 +212,20 @@ held_done v r u s t q works items w x stands base knows h c =
     (λ none wait. absurd (some_there works w [] none))
     (λ end e wait one is.
     let first = only_last works w [] one is in
-    let told = fit_single v t end e (learns_both v u t h.told.gains.on.learns c.gains.on.learns) stands one x
-    (subst (λ (z : View × Work). IsFit z.0 t z.1 x) (λ i. ((h.still first.0 wait).0 i, first.1 i)) c.fit) in
-    subst (AllOf (TellsSingle v t end one)) (sym (answers_more items x (fit_answer u t w x c.fit)
+    let same = (h.still first.0 wait).0 in
+    let start = registry_of v r in
+    let told = fit_single v t end e (learns_both v u t h.told.gains.on.learns c.gains.on.learns) stands one x start stood
+    (bounds_read v r began) known
+    (λ free.
+    let registry : registry_of t q ≡ start =
+    c.does.is ∙ free_after u t w x (registry_of u s) (subst IsFree (sym first.1) free) c.fit ∙ h.is
+    ∙ ap (after_all start) (h.still first.0 wait).2 in (
+      subst (λ (z : Registry). AreBoundsIn t z.rows) registry (bounds_in t q stands now),
+      ap (λ (z : Registry). z.version) registry,
+    ))
+    (subst (λ (z : View). TellsTail z x) same (c.tail (subst IsAlone (sym same) e.alone)))
+    (subst (λ (z : View × Work). IsFit z.0 t z.1 x) (λ i. (same i, first.1 i)) c.fit) in
+    subst (AllOf (TellsSingle v t r.catalog end one)) (sym (answers_more items x (fit_answer u t w x c.fit)
     ∙ ap (λ (z : List Item). z ++ x ∷ []) (none_there (answers items) works h.told.size first.0))) (told, tt))
     (λ rows from bounds low.
     let start = registry_of v r in
@@ -232,7 +264,7 @@ held_cut v r u s t q works items w later rows count h g first =
       so = are_so_wide v.learned.count u.learned.count v.learned.count t.learned.count (registry_of v r) items (omega arith)
           (omega arith) h.so;
       closed = h.closed;
-      only = λ end e wait one is. subst (AllOf (TellsSingle v t end one))
+      only = λ end e wait one is. subst (AllOf (TellsSingle v t r.catalog end one))
           (sym (none_there (answers items) works h.told.size (only_last works w later one is).0)) tt;
       plans = λ rows from bounds low. plans_longer t (registry_of v r) rows from works (w ∷ later) items h.told.size
           (plans_on v u t (registry_of v r) works items g.on.learns h.plans rows from bounds low);
@@ -240,7 +272,7 @@ held_cut v r u s t q works items w later rows count h g first =
       each = λ e. absurd cc;
     }
 
--- ---- statements that change no definition
+-- ---- what such statements leave
 
 -- what was gained of them
 pub gained_any : {E : Type 0} (v t : View) (w : Work) (r : Result Item E) → IfOk r (IsItem v t w) → IfErr r (λ _. IsPart v t w)
@@ -259,18 +291,6 @@ free_of (work.Scan ask) no_register no_end = tt
 free_of (work.Explain ask) no_register no_end = tt
 free_of work.Checkpoint no_register no_end = tt
 
-free_after : (u t : View) (w : Work) (x : Item) (r : Registry) → IsFree w → IsFit u t w x → after r x ≡ r
-free_after u t (work.Register name def) x r free f = elim free [ ]
-free_after u t (work.Deregister name) x r free f = elim free [ ]
-free_after u t (work.Ingest form header name file) x r free (inl f) = ap (after r) f.is
-free_after u t (work.Ingest form header name file) x r free (inr (inl f)) = ap (after r) f.is
-free_after u t (work.Ingest form header name file) x r free (inr (inr f)) = ap (after r) f.is
-free_after u t (work.Scan ask) x r free (inl f) = ap (after r) f.is
-free_after u t (work.Scan ask) x r free (inr f) = ap (after r) f.is
-free_after u t (work.Explain ask) x r free (inl f) = ap (after r) f.is
-free_after u t (work.Explain ask) x r free (inr f) = ap (after r) f.is
-free_after u t work.Checkpoint x r free f = ap (after r) f.is
-
 free_so : (u t : View) (w : Work) (x : Item) (low high : ℕ) (r : Registry) → IsFree w → IsFit u t w x → IsSo low high r x
 free_so u t (work.Register name def) x low high r free f = elim free [ ]
 free_so u t (work.Deregister name) x low high r free f = elim free [ ]
@@ -282,6 +302,18 @@ free_so u t (work.Scan ask) x low high r free (inr f) = subst (IsSo low high r) 
 free_so u t (work.Explain ask) x low high r free (inl f) = subst (IsSo low high r) (sym f.is) tt
 free_so u t (work.Explain ask) x low high r free (inr f) = subst (IsSo low high r) (sym f.is) tt
 free_so u t work.Checkpoint x low high r free f = subst (IsSo low high r) (sym f.is) tt
+
+free_tail : (u t : View) (w : Work) (x : Item) → IsFree w → IsFit u t w x → TellsTail u x
+free_tail u t (work.Register name def) x free f = elim free [ ]
+free_tail u t (work.Deregister name) x free f = elim free [ ]
+free_tail u t (work.Ingest form header name file) x free (inl f) = subst (TellsTail u) (sym f.is) tt
+free_tail u t (work.Ingest form header name file) x free (inr (inl f)) = subst (TellsTail u) (sym f.is) tt
+free_tail u t (work.Ingest form header name file) x free (inr (inr f)) = subst (TellsTail u) (sym f.is) tt
+free_tail u t (work.Scan ask) x free (inl f) = subst (TellsTail u) (sym f.is) tt
+free_tail u t (work.Scan ask) x free (inr f) = subst (TellsTail u) (sym f.is) tt
+free_tail u t (work.Explain ask) x free (inl f) = subst (TellsTail u) (sym f.is) tt
+free_tail u t (work.Explain ask) x free (inr f) = subst (TellsTail u) (sym f.is) tt
+free_tail u t work.Checkpoint x free f = subst (TellsTail u) (sym f.is) tt
 
 -- so their items do nothing
 pub free_does : (u t : View) (r : Registrar) (w : Work) (x : Item) → IsFree w → IsFit u t w x → Learns u t
@@ -310,18 +342,19 @@ take_nothing_first w = refl
 
 -- one on definitions
 pub control_done : {E : Type 0} (v : View) (s : Registrar) (t : View) (q : Registrar) (w : Work) (r : Result Item E)
-    → content_of w ≡ [] → Gains v t [] → t.shut ≡ v.shut → (IsAlone v → IfOk r NamesNone) → IfOk r (IsFit v t w)
-    → IfOk r (Does v s t q) → IfOk r (IsControlled v s t q w)
-control_done v s t q w (Ok x) none g same names fit does = record {
+    → content_of w ≡ [] → Gains v t [] → t.shut ≡ v.shut → (IsAlone v → IfOk r NamesNone) → (IsAlone v → IfOk r (TellsTail v))
+    → IfOk r (IsFit v t w) → IfOk r (Does v s t q) → IfOk r (IsControlled v s t q w)
+control_done v s t q w (Ok x) none g same names tail fit does = record {
   rows = [];
   gains = g;
   first = take_nothing (count_of x) w none;
   fit = fit;
   shuts = λ c e. inl (sym same ∙ e);
   none = names;
+  tail = tail;
   does = does;
 }
-control_done v s t q w (Err e) none g same names fit does = tt
+control_done v s t q w (Err e) none g same names tail fit does = tt
 
 pub control_part : {E : Type 0} (v t : View) (w : Work) (r : Result Item E) → content_of w ≡ [] → Gains v t []
     → IfErr r (λ _. IsPartControlled v t w)
@@ -338,6 +371,7 @@ free_done v s t w (Ok x) free learns same item = record {
   fit = item.fit;
   shuts = item.shuts;
   none = λ alone. fit_closed v t w x free alone item.fit;
+  tail = λ alone. free_tail v t w x free item.fit;
   does = free_does v t s w x free item.fit learns same;
 }
 free_done v s t w (Err e) free learns same item = tt

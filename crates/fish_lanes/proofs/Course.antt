@@ -367,7 +367,7 @@ module _ (log : Log) (v m w : View) (r q : Registrar) (first first' : Lane) (bef
         subst (λ (z : List LaneRow). TellsLane y k remains.log z works items) (sym exact)
         (sure_later s t (λ y l. TellsLane y k l rows works items) learns sure y remains base later.learns c)
 
-    module _ (k : Span) (span : IsBlockSpan v t to k) (stood : Stands v) where
+    module _ (k : Span) (span : IsBlockSpan v t to k) (many : k.lanes ≡ length before + 1) (stood : Stands v) where
       version_given : m.learned.version ≡ v.learned.version
       version_given = ap (λ (z : Learned). z.version) has_given.learned
 
@@ -383,8 +383,8 @@ module _ (log : Log) (v m w : View) (r q : Registrar) (first first' : Lane) (bef
       counted = counted_from v k.from span.begins
 
       -- a lane whose pass began with what the control pass knew, and came back, did its statements within the block
-      lane_within : (s e : View) → s.learned ≡ v.learned → Learns e t → IsWithinSpan s e k
-      lane_within s e same back =
+      lane_within : (s e : View) → s.learned ≡ v.learned → Learns e t → (k.lanes ≡ 1 → IsAlone s) → IsWithinSpan s e k
+      lane_within s e same back alone =
           let count : s.learned.count ≡ v.learned.count = ap (λ (z : Learned). z.count) same in
           let settled_is : s.learned.settled ≡ v.learned.settled = ap (λ (z : Learned). z.settled) same in
           let version : s.learned.version ≡ v.learned.version = ap (λ (z : Learned). z.version) same in
@@ -402,7 +402,12 @@ module _ (log : Log) (v m w : View) (r q : Registrar) (first first' : Lane) (bef
             settled = omega arith;
             counted = omega arith;
             near = omega arith;
+            alone = alone;
           }
+
+      -- the control pass is alone where there is no other lane
+      main_alone : k.lanes ≡ 1 → IsAlone m
+      main_alone one = subst IsAlone (sym (has_given.none (omega arith))) span.begins.alone
 
       pub tells_first : Will t (TellsFirst k first')
       tells_first =
@@ -422,7 +427,7 @@ module _ (log : Log) (v m w : View) (r q : Registrar) (first first' : Lane) (bef
           ⊎_elim (λ (j : Among o v.own × (o.lane ≡ i.place + 2)). let e = j.1 in omega arith)
           (λ (j : HasNumber o.number p.run_of.run.rows × (o.lane ≡ i.place + 2)). let e = j.1 in omega arith)
           (lane_cases i.place i.lane p i.seat o i.seat_is i.among))) h) (own_cases o n))
-          (run_first.tells k (lane_within m w has_given.learned end_learns) (span.full ∙ sym has_given.shut)))
+          (run_first.tells k (lane_within m w has_given.learned end_learns main_alone) (span.full ∙ sym has_given.shut)))
 
       -- what another lane has among the records of its number
       others_all : (i : ℕ) (z : Lane) (at : slice_get done i ≡ Some z) (p : Way i z) (o : Own)
@@ -465,5 +470,6 @@ module _ (log : Log) (v m w : View) (r q : Registrar) (first first' : Lane) (bef
           within counted (subst (λ (x : ℕ). Ascends x p.run_of.run.rows (view s.pass).learned.count) same g.ascends)
           (subst (λ (x : ℕ). AreTold (view s.pass) x p.run_of.run.rows) lane g.told)
           (others_all i z.0 z.1 p)
-          (p.run_of.run.tells k (lane_within (view p.run_of.before.pass) (view s.pass) (way_learned i z.0 p) back)
+          (p.run_of.run.tells k (lane_within (view p.run_of.before.pass) (view s.pass) (way_learned i z.0 p) back
+          (λ one. absurd (omega arith)))
           (span.full ∙ sym (way_shut i z.0 p))) x remains base main none later c)

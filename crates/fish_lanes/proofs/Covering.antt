@@ -4,6 +4,7 @@ use Rattle.std.proofs.Common.{Option, Some, None, slice_get, option_map}
 use Rattle.std.proofs.Math.Decide.{dec_lt}
 use Rattle.std.proofs.lemmas.List.{length-map}
 use Rattle.std.proofs.lemmas.Option.{slice_get-map}
+use Rattle.fish_catalog.specs.Intervals as catalog
 use Rattle.fish_catalog.specs.Listing.{listed_of}
 use Rattle.fish_catalog.specs.Words.{bound_word}
 use Rattle.fish_catalog.specs.declared.interval.Interval.{Interval}
@@ -18,6 +19,7 @@ use Rattle.fish_lanes.specs.Plans.{AreBoundsIn, AreReadBounds, HoldsNone, IsCove
 use Rattle.fish_lanes.specs.Registering.{KnowsRegistry, Registry}
 use Rattle.fish_plan.proofs.Inside.{held_is_indexed, index_inside, piece_within}
 use Rattle.fish_plan.proofs.Walks.{some_above}
+use Rattle.fish_plan.specs.Cover.{IsCover, IsRight}
 use Rattle.fish_plan.specs.Gaps.{IsFirstGap}
 use Rattle.fish_plan.specs.Intervals.{Holds, IsBelowEnd, IsHeld}
 use Rattle.fish_plan.specs.declared.pieces.Piece.{Piece}
@@ -156,6 +158,95 @@ gap_so v u told rows definitions text from settled to plan begin end on read lis
     let below = gap.gap.below in
     cover_full v u told rows definitions text from settled to plan on read listed bounds h gap.place begin end n gap.gap.there
     low high (omega arith)
+
+-- ---- the intervals of the rows
+
+-- where all boundaries of the rows were known before, and none was set since, the intervals that were loaded are the rows' intervals
+module _ (v u : View) (rows : List CatRow) (definitions : List Listed) (text : List ℕ) (from settled to : ℕ) (plan : List Piece)
+    (read : AreReadBounds v rows) (same : definitions ≡ map listed_of rows) (bounds : AreBoundsIn u rows)
+    (h : IsCovered v u definitions text from settled to plan) (xs : List Interval) (of : catalog.AreIntervals rows text xs) where
+  -- one that was loaded ends where its row does
+  end_is : (x : Interval) → Among x h.intervals → (row : CatRow) → slice_get rows x.id ≡ Some row → row.to ≡ x.to
+  end_is x among row at = by x.to refl
+    where
+      none : x.to ≡ None → (o : Option ℕ) → row.to ≡ o → row.to ≡ None
+      none e None f = f
+      none e (Some t) f =
+          let known = h.are.ended x among t (h.after.words _ ((read x.id row at).1 t f)) in
+          let bad : None ≡ Some t = sym e ∙ known in absurd cc
+
+      by : (o : Option ℕ) → x.to ≡ o → row.to ≡ x.to
+      by None e = none e row.to refl ∙ sym e
+      by (Some t) e =
+          let begun = (h.are.each x among).begun in
+          let end = bounds.to x.id t begun.interval.few (begun.ended t e) in
+          let row_is : end.0 ≡ row = some_once end.0 row (sym end.1 ∙ at) in
+          ap (λ (z : CatRow). z.to) (sym row_is) ∙ end.2 ∙ sym e
+
+  loaded_of : (x : Interval) → Among x h.intervals → catalog.IsIntervalOf rows text x
+  loaded_of x among =
+      let one = h.are.each x among in
+      let row = bounds.from x.id x.from one.begun.interval.few one.begun.interval.begins in
+      let listed : slice_get definitions x.id ≡ Some (listed_of row.0) =
+      ap (λ (z : List Listed). slice_get z x.id) same ∙ slice_get-map listed_of rows x.id ∙ ap (option_map listed_of) row.1 in
+      let is : one.row ≡ listed_of row.0 = some_once one.row (listed_of row.0) (sym one.there ∙ listed) in
+      record {
+        row = row.0;
+        there = row.1;
+        text = ap (λ (z : Listed). z.def) (sym is) ∙ one.text_is;
+        begins = row.2;
+        ends = end_is x among row.0 row.1;
+      }
+
+  -- and each of the rows' intervals was loaded
+  of_loaded : (y : Interval) (i : ℕ) → slice_get xs i ≡ Some y → Among y h.intervals
+  of_loaded y i at =
+      let o = of.sound i y at in
+      let listed : slice_get definitions y.id ≡ Some (listed_of o.row) =
+      ap (λ (z : List Listed). slice_get z y.id) same ∙ slice_get-map listed_of rows y.id ∙ ap (option_map listed_of) o.there in
+      let known = h.are.known y.id (listed_of o.row) listed o.text y.from (h.after.words _ ((read y.id o.row o.there).0 y.from o.begins)) in
+      let x : Interval = known.0 in
+      let l = loaded_of x known.1 in
+      let row : l.row ≡ o.row = some_once l.row o.row (sym l.there ∙ ap (slice_get rows) known.2 ∙ o.there) in
+      let begins : x.from ≡ y.from =
+      some_once x.from y.from (sym l.begins ∙ ap (λ (z : CatRow). z.from) row ∙ o.begins) in
+      let ends : x.to ≡ y.to = sym l.ends ∙ ap (λ (z : CatRow). z.to) row ∙ o.ends in
+      subst (λ (z : Interval). Among z h.intervals)
+      (λ j. let z : Interval = record { id = known.2 j; from = begins j; to = ends j } in z) known.1
+
+  place_of : (x : Interval) (i : ℕ) → slice_get h.intervals i ≡ Some x → (k : ℕ) × (slice_get xs k ≡ Some x)
+  place_of x i at = of.complete x (loaded_of x (at_among h.intervals i x at))
+
+  place_in : (y : Interval) (i : ℕ) → slice_get xs i ≡ Some y → (k : ℕ) × (slice_get h.intervals k ≡ Some y)
+  place_in y i at = among_at h.intervals y (of_loaded y i at)
+
+  right_by : (x : Piece) → IsRight h.intervals from settled x → IsRight xs from settled x
+  right_by (Index id first end) i =
+      let p = place_of i.interval i.oldest.place i.oldest.there in
+      record {
+        below = i.below;
+        interval = i.interval;
+        named = i.named;
+        oldest = record {
+          place = p.0;
+          there = p.1;
+          holds = i.oldest.holds;
+          ahead = λ k y at holds. let q = place_in y k at in i.oldest.ahead q.0 y q.1 holds;
+        };
+        begins = i.begins;
+      }
+  right_by (Full first end) f = λ less n low high held.
+      let q = place_in held.interval held.place held.there in
+      f less n low high (record { place = q.0; interval = held.interval; there = q.1; holds = held.holds })
+
+  -- so the plan is the cover by them
+  pub cover_by : IsCover plan from settled to xs
+  cover_by = record {
+    fill = h.cover.fill;
+    unsettled = h.cover.unsettled;
+    right = λ k x at. right_by x (h.cover.right k x at);
+    apart = h.cover.apart;
+  }
 
 -- ---- what was read are the rows' boundaries
 

@@ -6,12 +6,13 @@ use Rattle.std.proofs.lemmas.Option.{same_Some}
 use Rattle.std.proofs.Math.Decide.{dec_lt}
 use Rattle.fish_catalog.specs.Rows.{HasActive, is_active}
 use Rattle.fish_lanes.proofs.Registrations.{begun_is, few_versions, none_id, none_waits, waits_id}
-use Rattle.fish_lanes.specs.Controlling.{Does, TellsBegun, deregister_cause, register_cause}
+use Rattle.fish_lanes.specs.Controlling.{Does, TellsBegun, TellsTail, deregister_cause, register_cause}
 use Rattle.fish_lanes.specs.Registering.{IsDeregisterCause, IsRegisterCause, KnowsRegistry, MayChange, MayRegister}
 use Rattle.fish_lanes.specs.Registering.{Registry, begun, bound, registry_of, waiting_id}
 use Rattle.fish_lang.specs.Canonical.{definition_text}
 use Rattle.fish_lang.specs.Definition.{definition_of}
 use Rattle.fish_lang.specs.declared.definition.Def.{Def}
+use Rattle.fish_registry.proofs.Changing.{same_tail}
 use Rattle.fish_registry.specs.Changing.{Stays}
 use Rattle.fish_registry.specs.Knowing.{IsWaiting}
 use Rattle.fish_registry.specs.Refusing as registry
@@ -21,6 +22,7 @@ use Rattle.fish_registry.specs.declared.outcome.RegRefusal.TheVariants as refusa
 use Rattle.fish_registry.specs.declared.registrar.Registrar.{Registrar}
 use Rattle.fish_report.specs.declared.item.DeregisterCause.{DeregisterCause}
 use Rattle.fish_report.specs.declared.item.Item.{Item}
+use Rattle.fish_report.specs.declared.item.Item.TheVariants as item
 use Rattle.fish_report.specs.declared.item.RegisterCause.{RegisterCause}
 use Rattle.fish_rule.specs.declared.view.View.{View}
 
@@ -121,6 +123,12 @@ module _ {A : Type 0} (v : View) (r : Registrar) (result : Result A RegRefusal)
   deregister_so name unknown refusal.TooManyActive cause is because = absurd cc
   deregister_so name unknown refusal.TooManyDefinitions cause is because = absurd cc
   deregister_so name unknown refusal.OutOfMemory cause is because = absurd cc
+
+-- where the tail was the same before, a boundary is at it
+pub tail_before : (v u : View) (x : Item) → u.tail ≡ v.tail → TellsTail u x → TellsTail v x
+tail_before v u (item.Registered name id from def) same h = same_tail v u from same h
+tail_before v u (item.Deregistered name id to) same h = same_tail v u to same h
+tail_before v u x same h = tt
 
 -- a refusal changes nothing
 pub registry_stays : (v t : View) (r s : Registrar) → s ≡ r → Stays v t → registry_of t s ≡ registry_of v r

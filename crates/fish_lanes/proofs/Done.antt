@@ -1,10 +1,10 @@
 -- What the statements so far tell, and what one item more tells behind them.
-use Rattle.std.proofs.Common.{◌≡◌, ℕ, ◌+◌, ◌≤◌, suc, List, [], ◌∷◌, length, refl}
+use Rattle.std.proofs.Common.{◌≡◌, ℕ, ◌+◌, ◌<◌, ◌≤◌, suc, List, [], ◌∷◌, length, refl}
 use Rattle.std.proofs.Common.{ap, ◌∙◌, subst, inl, inr, ◌⊎◌, ⊎_elim, arith, None, Some}
 use Rattle.fish_epoch.proofs.Reading.{knows_later}
 use Rattle.fish_lanes.proofs.Answered.{plan_told, refused_told, scan_told}
 use Rattle.fish_lanes.proofs.Claims.{claim_shown}
-use Rattle.fish_lanes.proofs.Gaining.{gains_self}
+use Rattle.fish_lanes.proofs.Gaining.{alone_gains, gains_self}
 use Rattle.fish_lanes.proofs.Items.{TellsAll, made, shown_in}
 use Rattle.fish_lanes.proofs.Publishing.{published_later, settled_published, told_published}
 use Rattle.fish_lanes.proofs.RowLists.{ascends_le}
@@ -22,10 +22,17 @@ use Rattle.fish_lanes.specs.Telling.{TellsItem}
 use Rattle.fish_lanes.specs.declared.work.Work.{Work}
 use Rattle.fish_lanes.specs.declared.work.Work.TheVariants as work
 use Rattle.fish_report.specs.declared.item.Item.{Item}
-use Rattle.fish_rule.specs.Logs.{Learns}
+use Rattle.fish_rule.proofs.laws.ClosedLogs.{always_closed}
+use Rattle.fish_rule.proofs.laws.Learning.{learns_both}
+use Rattle.fish_rule.proofs.laws.Moments.{before_mark}
+use Rattle.fish_rule.specs.Logs.{Learns, TellsMark}
+use Rattle.fish_rule.specs.Parts.{IsEntryWord}
+use Rattle.fish_rule.specs.Regions.{code}
 use Rattle.fish_rule.specs.Views.{AllOf, Among}
+use Rattle.fish_rule.specs.World.{high}
 use Rattle.fish_rule.specs.declared.view.Epoch.TheVariants.{Out}
 use Rattle.fish_rule.specs.declared.view.Key.{Key}
+use Rattle.fish_rule.specs.declared.view.Kind.TheVariants.{Mark}
 use Rattle.fish_rule.specs.declared.view.View.{View}
 use Rattle.fish_value.specs.declared.field.Form.{Form}
 
@@ -67,6 +74,12 @@ row_published v lane from to n (r ∷ rows) told up few (inl e) =
 row_published v lane from to n (r ∷ rows) told up few (inr m) =
     row_published v lane (suc r.number) to n rows told.1 up.1 few m
 
+-- and was counted
+row_below : (to from n : ℕ) (rows : List LaneRow) → Ascends from rows to → HasNumber n rows → n < to
+row_below to from n [] up h = elim h [ ]
+row_below to from n (r ∷ rows) up (inl e) = (let b = ascends_le (suc r.number) to rows up.1 in omega arith)
+row_below to from n (r ∷ rows) up (inr m) = row_below to (suc r.number) n rows up.1 m
+
 -- what was seen is published
 seen_published : (v u : View) (works : List Work) (items : List Item) (from : ℕ) → v.about.number ≡ 0
     → (h : HasTold v u works items) → from ≤ v.learned.settled → from ≤ v.learned.count → (n : ℕ)
@@ -99,7 +112,14 @@ module _ (v u t : View) (works : List Work) (items : List Item) (s : Span) (base
       let settled_more = h.gains.on.learns.settled in
       let counted = within.counted in
       let counted_more = h.gains.on.learns.count in
-      record { first = omega arith; last = within.last; settled = omega arith; counted = omega arith; near = within.near }
+      record {
+        first = omega arith;
+        last = within.last;
+        settled = omega arith;
+        counted = omega arith;
+        near = within.near;
+        alone = λ one. alone_gains v u h.rows h.gains (within.alone one);
+      }
 
   seen_is : (n : ℕ) → IsSeen s.from h.rows (shown_in items) n → IsPublished u n
   seen_is n seen = seen_published v u works items s.from base h within.settled within.counted n seen
@@ -183,6 +203,16 @@ module _ (v u t : View) (works : List Work) (items : List Item) (s : Span) (base
     count = f.count;
     is = f.is;
     above = (let a = f.above in let m = h.gains.on.learns.settled in let e = within.settled in omega arith);
+    own = λ one n has.
+        let e = f.exact (within_now.alone one) in
+        let claimed = e.3 in
+        let below = row_below u.learned.count v.learned.count n h.rows h.gains.ascends has in
+        ⊎_elim (λ (all : f.count ≡ e.0). omega arith)
+        (λ (mark : (f.count < e.0) × TellsMark t f.count).
+        before_mark y.about c.moment c.rule f.count n (omega arith)
+        (always_closed t y (λ k w. high (w.dir f.count) ≡ code Mark) remains l c mark.1)
+        (always_closed u y (λ k w. IsEntryWord (w.dir n)) remains (learns_both u t y on l) c
+        (row_published u v.lane v.learned.count u.learned.count n h.rows h.gains.told h.gains.ascends (omega arith) has).entry)) e.2;
     within = sure_settled t f.count f.settled y remains b l c;
     rises = λ m n. let a = f.above in let e = h.settles m n in omega arith;
   }

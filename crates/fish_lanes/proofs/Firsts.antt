@@ -107,6 +107,11 @@ alone_first P x (y ∷ lanes) others after h size p z e = subst P (first e) (p (
     none [] size e = refl
     none (o ∷ others) size e = (let same : length after ≡ 0 = ap length e in absurd (omega arith))
 
+-- the others are all but one
+pub others_many : (lanes : List Lane) → AreLanes lanes → length lanes ≡ length (drop 1 lanes) + 1
+others_many [] h = (let some_ = h.some in absurd (omega arith))
+others_many (x ∷ lanes) h = omega arith
+
 -- what shuts the pass did so before, or an item of one of them tells of it
 pub shuts_both : (v t : View) (x : Lane) (lanes others : List Lane) → AreLanes lanes
     → (x.fault ≡ cause.None → At (λ i y. y.fault ≡ cause.None) others → (c : Shut) → t.shut ≡ Some c

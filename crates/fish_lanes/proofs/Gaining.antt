@@ -18,6 +18,7 @@ use Rattle.fish_rule.proofs.laws.Lists.{all_among}
 use Rattle.fish_rule.proofs.laws.Learning.{learns_both, learns_self}
 use Rattle.fish_rule.proofs.laws.ChainFacts.{always_later}
 use Rattle.fish_rule.specs.Facts.{IsFound, IsShut, ShutOk}
+use Rattle.fish_rule.specs.LoadSteps.{IsAlone}
 use Rattle.fish_rule.specs.Logs.{Learns}
 use Rattle.fish_rule.specs.ChainFacts.{Always}
 use Rattle.fish_rule.specs.declared.view.Kind.TheVariants.{Mark}
@@ -220,3 +221,9 @@ full_later u t line lines end about keeps h = record {
   end_is = h.end_is ∙ ap (λ (k : Key). k.end) (sym about);
   past = h.past;
 }
+
+-- ---- a pass that is alone
+
+-- it is so behind its statements
+pub alone_gains : (v u : View) (rows : List LaneRow) → Gains v u rows → IsAlone v → IsAlone u
+alone_gains v u rows g a = record { main = g.on.lane ∙ a.main; all = g.on.out ∙ a.all; idle = g.idle }

@@ -8,10 +8,9 @@ use Rattle.fish_epoch.specs.declared.definitions.Known.{Known}
 use Rattle.fish_lanes.proofs.Covering.{are_listed, gap_so, plan_so}
 use Rattle.fish_lanes.proofs.Lists.{filter_first, filter_skip}
 use Rattle.fish_lanes.specs.Doing.{IsFit, IsRefusedAt}
-use Rattle.fish_lanes.specs.Plans.{AreBoundsIn, AreReadBounds, AreSoPlans, TellsFirstPlans, TellsPlans, TellsPlansOf, TellsUncovered}
-use Rattle.fish_lanes.specs.Plans.{works_behind}
+use Rattle.fish_lanes.specs.Plans.{AreBoundsIn, AreReadBounds, AreSoPlans, IsNamedAt, TellsFirstPlans, TellsPlans, TellsPlansOf}
+use Rattle.fish_lanes.specs.Plans.{TellsUncovered, works_behind}
 use Rattle.fish_lanes.specs.Registering.{KnowsRegistry, Registry, after, after_all}
-use Rattle.fish_lanes.specs.Single.{IsNamedAt}
 use Rattle.fish_lanes.specs.Spans.{answers, is_answer}
 use Rattle.fish_lanes.specs.declared.work.Work.{Work}
 use Rattle.fish_lanes.specs.declared.work.Work.TheVariants as work
@@ -44,6 +43,7 @@ module _ (v u : View) (r : Registry) (rows : List CatRow) (start : ℕ) (stands 
   -- a refusal
   refused_so : (ask : Ask) (version first last : ℕ) → IsRefusedAt v u ask version (cause.NotCovered first last)
       → TellsUncovered u r.rows rows ask first last version
+  unfolding named_at
   refused_so ask version first last f =
       let h = f.refused.1 in
       let named = h.asked.named in
@@ -67,6 +67,7 @@ module _ (v u : View) (r : Registry) (rows : List CatRow) (start : ℕ) (stands 
 
   -- an item that fits its statement
   pub fit_so : (w : Work) (x : Item) → IsFit v u w x → TellsPlans u r.rows rows start w x
+  unfolding named_at
   fit_so (work.Register name def) x f = tt
   fit_so (work.Deregister name) x f = tt
   fit_so (work.Ingest form header name file) x f = tt
@@ -93,6 +94,7 @@ named_later u t ask version learns h =
 
 of_later : (u t : View) (told rows : List CatRow) (start : ℕ) (ask : Ask) (x : Item) → Learns u t
     → TellsPlansOf u told rows start ask x → TellsPlansOf t told rows start ask x
+unfolding named_later
 of_later u t told rows start ask (item.Explained name value first last plan version) learns h =
     record { named = named_later u t ask version learns h.named; plan_is = h.plan_is }
 of_later u t told rows start ask (item.ExplainRefused name version (cause.NotCovered first last)) learns h =
@@ -140,58 +142,50 @@ first_other v told rows start (work.Deregister name ∷ works) x e = tt
 first_other v told rows start (work.Ingest form header name file ∷ works) x e = tt
 first_other v told rows start (work.Checkpoint ∷ works) x e = tt
 
+-- what is so of the items behind one is so of all, where more statements follow
+behind_one : (v : View) (r : Registry) (rows : List CatRow) (start : ℕ) (later : List Work) (y : Item) (items longer : List Item)
+    → ((works : List Work) → length (answers items) ≡ length works → AreSoPlans v (after r y) rows start works items
+    → AreSoPlans v (after r y) rows start (works ++ later) longer)
+    → (works : List Work) → length (answers (y ∷ items)) ≡ length works → AreSoPlans v r rows start works (y ∷ items)
+    → AreSoPlans v r rows start (works ++ later) (y ∷ longer)
+behind_one v r rows start later y items longer rest works size h = by (is_answer y) refl works size h
+  where
+    by : (b : Bool) → is_answer y ≡ b → (works : List Work) → length (answers (y ∷ items)) ≡ length works
+        → AreSoPlans v r rows start works (y ∷ items) → AreSoPlans v r rows start (works ++ later) (y ∷ longer)
+    by true e [] size h = (let z = ap length (filter_first is_answer y items e) in absurd (omega arith))
+    by true e (w ∷ works) size h =
+        let z = ap length (filter_first is_answer y items e) in (
+          h.0,
+          subst (λ (b : Bool). AreSoPlans v (after r y) rows start (cond b (works ++ later) (w ∷ (works ++ later))) longer) (sym e)
+              (rest works (omega arith)
+              (subst (λ (b : Bool). AreSoPlans v (after r y) rows start (cond b works (w ∷ works)) items) e h.1)),
+        )
+    by false e works size h =
+        let z = ap length (filter_skip is_answer y items e) in (
+          first_other v r.rows rows start (works ++ later) y e,
+          subst (λ (b : Bool). AreSoPlans v (after r y) rows start (cond b (drop 1 (works ++ later)) (works ++ later)) longer) (sym e)
+              (rest works (omega arith)
+              (subst (λ (b : Bool). AreSoPlans v (after r y) rows start (cond b (drop 1 works) works) items) e h.1)),
+        )
+
 -- behind the items that answer some statements stands one of those that follow
 pub plans_more : (v : View) (r : Registry) (rows : List CatRow) (start : ℕ) (works later : List Work) (items : List Item) (x : Item)
     → length (answers items) ≡ length works → AreSoPlans v r rows start works items
     → TellsFirstPlans v (after_all r items).rows rows start later x → AreSoPlans v r rows start (works ++ later) (items ++ x ∷ [])
 plans_more v r rows start [] later [] x size h one = (one, tt)
 plans_more v r rows start (w ∷ works) later [] x size h one = absurd (omega arith)
-plans_more v r rows start works later (y ∷ items) x size h one = by (is_answer y) refl works size h
-  where
-    by : (b : Bool) → is_answer y ≡ b → (works : List Work) → length (answers (y ∷ items)) ≡ length works
-        → AreSoPlans v r rows start works (y ∷ items) → AreSoPlans v r rows start (works ++ later) (y ∷ (items ++ x ∷ []))
-    by true e [] size h = (let z = ap length (filter_first is_answer y items e) in absurd (omega arith))
-    by true e (w ∷ works) size h =
-        let z = ap length (filter_first is_answer y items e) in (
-          h.0,
-          subst (λ (b : Bool). AreSoPlans v (after r y) rows start (cond b (works ++ later) (w ∷ (works ++ later))) (items ++ x ∷ []))
-              (sym e)
-              (plans_more v (after r y) rows start works later items x (omega arith)
-              (subst (λ (b : Bool). AreSoPlans v (after r y) rows start (cond b works (w ∷ works)) items) e h.1) one),
-        )
-    by false e works size h =
-        let z = ap length (filter_skip is_answer y items e) in (
-          first_other v r.rows rows start (works ++ later) y e,
-          subst (λ (b : Bool). AreSoPlans v (after r y) rows start (cond b (drop 1 (works ++ later)) (works ++ later)) (items ++ x ∷ []))
-              (sym e)
-              (plans_more v (after r y) rows start works later items x (omega arith)
-              (subst (λ (b : Bool). AreSoPlans v (after r y) rows start (cond b (drop 1 works) works) items) e h.1) one),
-        )
+plans_more v r rows start works later (y ∷ items) x size h one =
+    behind_one v r rows start later y items (items ++ x ∷ [])
+    (λ rest many so. plans_more v (after r y) rows start rest later items x many so one) works size h
 
 -- or nothing
 pub plans_longer : (v : View) (r : Registry) (rows : List CatRow) (start : ℕ) (works later : List Work) (items : List Item)
     → length (answers items) ≡ length works → AreSoPlans v r rows start works items
     → AreSoPlans v r rows start (works ++ later) items
 plans_longer v r rows start works later [] size h = tt
-plans_longer v r rows start works later (y ∷ items) size h = by (is_answer y) refl works size h
-  where
-    by : (b : Bool) → is_answer y ≡ b → (works : List Work) → length (answers (y ∷ items)) ≡ length works
-        → AreSoPlans v r rows start works (y ∷ items) → AreSoPlans v r rows start (works ++ later) (y ∷ items)
-    by true e [] size h = (let z = ap length (filter_first is_answer y items e) in absurd (omega arith))
-    by true e (w ∷ works) size h =
-        let z = ap length (filter_first is_answer y items e) in (
-          h.0,
-          subst (λ (b : Bool). AreSoPlans v (after r y) rows start (cond b (works ++ later) (w ∷ (works ++ later))) items) (sym e)
-              (plans_longer v (after r y) rows start works later items (omega arith)
-              (subst (λ (b : Bool). AreSoPlans v (after r y) rows start (cond b works (w ∷ works)) items) e h.1)),
-        )
-    by false e works size h =
-        let z = ap length (filter_skip is_answer y items e) in (
-          first_other v r.rows rows start (works ++ later) y e,
-          subst (λ (b : Bool). AreSoPlans v (after r y) rows start (cond b (drop 1 (works ++ later)) (works ++ later)) items) (sym e)
-              (plans_longer v (after r y) rows start works later items (omega arith)
-              (subst (λ (b : Bool). AreSoPlans v (after r y) rows start (cond b (drop 1 works) works) items) e h.1)),
-        )
+plans_longer v r rows start works later (y ∷ items) size h =
+    behind_one v r rows start later y items items
+    (λ rest many so. plans_longer v (after r y) rows start rest later items many so) works size h
 
 -- an item more that answers nothing
 pub plans_beside : (v : View) (r : Registry) (rows : List CatRow) (start : ℕ) (works : List Work) (items : List Item) (x : Item)

@@ -63,7 +63,7 @@ gains_changes v u outside idle h = record {
 
 -- what a registrar keeps is still known where the definitions are the same
 pub knows_kept : (v u : View) (r : Registrar) → u.lane ≡ v.lane → Learns v u → KeepsRegistry v u → Knows v r → Knows u r
-knows_kept v u r lane learns keeps h = knows_on v u r lane keeps.rows keeps.main_words keeps.round learns.count h
+knows_kept v u r lane learns keeps h = knows_on v u r lane keeps.rows keeps.main_words keeps.round learns h
 
 -- definitions that are known at a version stay known
 pub registry_later : (v u : View) (r : Registry) → Learns v u → KnowsRegistry v r → KnowsRegistry u r

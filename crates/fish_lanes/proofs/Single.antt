@@ -1,46 +1,58 @@
 -- What a block of one lane tells besides, and one statement that is all of it.
 use Rattle.std.proofs.Common.{◌≡◌, ℕ, ◌<◌, ◌≤◌, List, [], ◌∷◌, ◌++◌, length, refl, sym, ap, ◌∙◌, subst, inl, inr}
-use Rattle.std.proofs.Common.{⊎_elim, arith, append-nil, Option, Result, Ok, Err}
+use Rattle.std.proofs.Common.{⊎_elim, arith, append-nil, map, slice_get, Option, Some, None, Result, Ok, Err}
 use Rattle.std.specs.Prelude.{IfOk}
 use Rattle.std.proofs.Math.Decide.{dec_lt}
+use Rattle.fish_catalog.specs.Listing.{listed_of}
+use Rattle.fish_catalog.specs.declared.listed.Listed.{Listed}
+use Rattle.fish_catalog.specs.declared.row.CatRow.{CatRow}
 use Rattle.fish_epoch.proofs.Reading.{knows_later}
-use Rattle.fish_epoch.specs.Definitions.{rows_of}
+use Rattle.fish_epoch.specs.Definitions.{rows_of, version_of}
 use Rattle.fish_epoch.specs.declared.definitions.Known.{Known}
-use Rattle.fish_lanes.specs.Doing.{FitsExplained, FitsScanned, IsFit, IsRefusedAt}
+use Rattle.fish_lanes.proofs.Covering.{cover_by}
+use Rattle.fish_lanes.specs.Controlling.{TellsTail}
+use Rattle.fish_lanes.specs.Doing.{FitsExplained, FitsRefused, FitsScanned, IsFit, IsRefusedAt}
 use Rattle.fish_lanes.specs.Ending.{HasEnd}
 use Rattle.fish_lanes.specs.Gains.{Gains}
 use Rattle.fish_lanes.specs.Loading.{LoadsWithin}
-use Rattle.fish_lanes.specs.Records.{LaneRow}
-use Rattle.fish_lanes.specs.Registering.{IsDeregisterItem}
+use Rattle.fish_lanes.specs.Plans.{AreBoundsIn, AreReadBounds}
+use Rattle.fish_lanes.specs.Registering.{IsDeregisterItem, KnowsRegistry, Registry}
 use Rattle.fish_lanes.specs.Running.{IsFree}
-use Rattle.fish_lanes.specs.Single.{IsCauseAt, IsCauseTold, IsNamedAt, IsPlanAt, IsPlanTold, IsScanWork, IsWhole, NamesNone, TellsOnly}
+use Rattle.fish_lanes.specs.Single.{IsBoundaryAt, IsCauseAt, IsCauseTold, IsCoverOf, IsPlanFor, IsPlanTold, IsReadBy, IsScanWork}
+use Rattle.fish_lanes.specs.Single.{IsWhole, NamesNone, TellsOnly}
 use Rattle.fish_lanes.specs.Single.{TellsSingle, TellsWhole}
 use Rattle.fish_lanes.specs.Spans.{answers}
 use Rattle.fish_lanes.specs.declared.work.Work.{Work}
 use Rattle.fish_lanes.specs.declared.work.Work.TheVariants as work
+use Rattle.fish_plan.specs.Cover.{IsCover}
+use Rattle.fish_plan.specs.Gaps.{HasGap, IsFirstGap}
 use Rattle.fish_plan.specs.declared.pieces.Piece.{Piece}
 use Rattle.fish_report.specs.declared.item.Item.{Item}
 use Rattle.fish_report.specs.declared.item.Item.TheVariants as item
 use Rattle.fish_report.specs.declared.item.ScanCause.{ScanCause}
 use Rattle.fish_report.specs.declared.item.ScanCause.TheVariants as cause
 use Rattle.fish_registry.proofs.Changing.{learns_changes}
-use Rattle.fish_registry.specs.Changing.{Changes}
+use Rattle.fish_registry.specs.Changing.{Changes, IsAtTail}
+use Rattle.fish_rule.proofs.laws.Alone.{no_mark}
 use Rattle.fish_rule.proofs.laws.Learning.{learns_both, learns_self}
 use Rattle.fish_rule.specs.Logs.{Learns, TellsMark}
 use Rattle.fish_rule.specs.LoadSteps.{IsAlone}
-use Rattle.fish_rule.specs.Registry.{KnowsDefinitions}
+use Rattle.fish_rule.proofs.laws.Versions.{has_read}
+use Rattle.fish_rule.specs.Registry.{definitions_at}
 use Rattle.fish_rule.specs.Table.{Stands}
 use Rattle.fish_rule.specs.Views.{AllOf}
-use Rattle.fish_rule.specs.World.{high}
+use Rattle.fish_rule.specs.World.{high, low}
 use Rattle.fish_rule.specs.declared.view.Key.{Key}
 use Rattle.fish_rule.specs.declared.view.View.{View}
-use Rattle.fish_scan.proofs.Answering.{covered_within, plan_within}
 use Rattle.fish_scan.proofs.Working.{all_allowed_later}
+use Rattle.fish_scan.specs.Naming.{IsNewest}
 use Rattle.fish_scan.specs.Reach.{IsExact, IsRange, end_of}
-use Rattle.fish_scan.specs.Scans.{IsCovered, IsNamed, IsPlan, IsUncovered, first_asked}
+use Rattle.fish_scan.specs.Scans.{IsCovered, IsNamed, IsPlan, IsPlanned, IsUncovered, first_asked}
 use Rattle.fish_scan.specs.Work.{AreAllowed, IsWork}
 use Rattle.fish_scan.specs.declared.ask.Answer.{Answer}
 use Rattle.fish_scan.specs.declared.ask.Ask.{Ask}
+use Rattle.fish_scan.specs.declared.ask.How.{How}
+use Rattle.fish_scan.specs.declared.ask.How.TheVariants as how
 use Rattle.fish_value.specs.declared.row.Row.{Row}
 use Rattle.fish_value.specs.declared.value.Value.{Value}
 use Rattle.fish_walk.specs.Looks.{IsTailCount}
@@ -100,164 +112,186 @@ exact_end v u end settled count last to opens h learns s least most x =
 -- ---- items
 
 module _ (v u : View) (end : ℕ) (h : HasEnd v end) (learns : Learns v u) (s : Stands u) where
-  named_at : (ask : Ask) (known : Known) (place version : ℕ) → version ≡ Rattle.fish_epoch.specs.Definitions.version_of known
-      → IsNamed v u known ask place → IsNamedAt u ask version
-  named_at ask known place version is n = record {
-    rows = rows_of known;
-    knows = subst (λ (z : ℕ). KnowsDefinitions u.about u.learned z (rows_of known)) (sym is) n.read.rows;
-    place = place;
-    newest = n.newest;
-  }
-
   -- the range is all that is asked for
   whole_at : (ask : Ask) (from to settled : ℕ) (opens : List ℕ) (r : IsRange v u (first_asked ask) ask.to from to opens)
       → settled ≡ end → IsExact v u ask.to r.count settled to opens → IsWhole ask end from to
   whole_at ask from to settled opens r same x =
       record { begins = r.first_is; ends = subst (λ (z : ℕ). to ≡ end_of ask.to z) same x.last_is }
 
-  scan_work : (ask : Ask) (x : Item) → FitsScanned v u ask x → IsScanWork v u end ask x
-  unfolding named_at
-  scan_work ask x f =
-      let a = f.fits in
-      let e = a.answer.explained.planned in
-      let exact = e.exact h.alone in
-      let same = exact_end v u end e.settled e.range.count f.to ask.to f.opens h learns s e.least e.most exact in
-      record {
-        answer = record { from = f.from; to = f.to; opens = f.opens; rows = f.rows; plan = a.plan };
-        version = f.version;
-        is = f.is;
-        closed = exact.closed;
-        plan = record {
-          named = named_at ask a.known e.place f.version a.version_is e.asked.named;
-          whole = whole_at ask f.from f.to e.settled f.opens e.range same exact;
-          is = subst (λ (z : ℕ). IsPlan v u (rows_of a.known) e.asked.named.newest.listed.def ask.how f.from z f.to a.plan) same
-              e.plan_is;
-        };
-        loads = a.loads;
-      }
+  -- the tail is where the log ends, unless it is full
+  tail_end : (n : ℕ) → Stands v → v.shut ≡ None → IsAtTail v n → n ≡ end
+  tail_end n stood unshut at =
+      let tail = h.tail in
+      let here = at (record { number = high tail.0; line = low tail.0 }) tail.1 in
+      let same = tail.2 in
+      ⊎_elim (λ (e : end ≡ h.count). omega arith)
+      (λ (m : (end < h.count) × TellsMark v end). absurd (no_mark v end stood h.alone unshut (let base = h.base in omega arith) m.1))
+      h.ends
 
-  plan_told_at : (ask : Ask) (x : Item) → FitsExplained v u ask x → IsPlanTold v u end ask x
-  unfolding named_at
-  plan_told_at ask x f =
-      let a = f.fits in
-      let e = a.explained.planned in
-      let exact = e.exact h.alone in
-      let same = exact_end v u end e.settled e.range.count f.to ask.to a.opens h learns s e.least e.most exact in
-      record {
-        explained = record { from = f.from; to = f.to; plan = f.plan };
-        version = f.version;
-        is = f.is;
-        plan = record {
-          named = named_at ask a.known e.place f.version a.version_is e.asked.named;
-          whole = whole_at ask f.from f.to e.settled a.opens e.range same exact;
-          is = subst (λ (z : ℕ). IsPlan v u (rows_of a.known) e.asked.named.newest.listed.def ask.how f.from z f.to f.plan) same
-              e.plan_is;
-        };
-      }
+  boundary_at : (x : Item) → Stands v → TellsTail v x → IsBoundaryAt v.shut end x
+  boundary_at (item.Registered name id from def) stood at = λ unshut. tail_end from stood unshut at
+  boundary_at (item.Deregistered name id to) stood at = λ unshut. tail_end to stood unshut at
+  boundary_at x stood at = tt
 
-  cause_at : (ask : Ask) (version : ℕ) (why : ScanCause) → IsRefusedAt v u ask version why → IsCauseAt v u end ask version why
-  unfolding named_at
-  cause_at ask version cause.UnknownName f = tt
-  cause_at ask version (cause.EmptyRange from to) f = tt
-  cause_at ask version (cause.NotCovered from to) f =
-      let g : IsUncovered v u f.known ask from to = f.refused.1 in
-      let exact = g.exact h.alone in
-      let same = exact_end v u end g.settled g.range.count g.last ask.to g.opens h learns s g.least g.most exact in
-      record {
-        named = named_at ask f.known g.place version f.version_is g.asked.named;
-        first = g.first;
-        last = g.last;
-        whole = whole_at ask g.first g.last g.settled g.opens g.range same exact;
-        plan = g.plan;
-        covered = subst (λ (z : ℕ). IsCovered v u (rows_of f.known) g.asked.named.newest.listed.def g.first z g.last g.plan) same
-            g.covered;
-        gap = subst (λ (z : ℕ). Rattle.fish_plan.specs.Gaps.IsFirstGap g.plan z from to) same g.gap;
-      }
+  module _ (r : Registry) (read : AreReadBounds v r.rows) (registry : KnowsRegistry v r) (bounds : AreBoundsIn u r.rows)
+      (version : u.learned.version ≡ r.version) where
+    -- the definitions that were loaded are the rows
+    rows_are : (known : Known) (ask : Ask) (place : ℕ) → IsNamed v u known ask place → rows_of known ≡ map listed_of r.rows
+    rows_are known ask place n =
+        let low = registry.reached in
+        let least = n.least in
+        let most = n.read.rows.reached in
+        let is : version_of known ≡ r.version = omega arith in
+        let g = s.moment.registry in
+        let has = has_read u.about g u.learned.words (s.rule.registry.each s.seat u s.at).read in
+        sym (n.read.rows.are g has) ∙ ap (definitions_at u.about g) is
+        ∙ (knows_later v u r.version (map listed_of r.rows) learns registry).are g has
 
-  -- what fits a statement tells this
-  pub fit_single : (w : Work) (x : Item) → IsFit v u w x → TellsSingle v u end w x
-  fit_single (work.Scan ask) x (inl f) = inl (scan_work ask x f)
-  fit_single (work.Scan ask) x (inr f) =
-      inr (record { version = f.version; why = f.why; is = f.is; tells = cause_at ask f.version f.why f.fits })
-  fit_single (work.Explain ask) x (inl f) = inl (plan_told_at ask x f)
-  fit_single (work.Explain ask) x (inr f) =
-      inr (record { version = f.version; why = f.why; is = f.is; tells = cause_at ask f.version f.why f.fits })
-  fit_single work.Checkpoint x f =
-      let e = f.exact h.alone in
-      f.is ∙ ap item.Checkpointed (same_end v u end f.count e.0 h learns s f.above f.settled e.1 e.2)
-  fit_single w x f = tt
+    newest_at : (definitions : List Listed) (ask : Ask) (place : ℕ) → definitions ≡ map listed_of r.rows
+        → IsNewest definitions ask.name place → IsNewest (map listed_of r.rows) ask.name place
+    newest_at definitions ask place same n = record {
+      listed = n.listed;
+      there = ap (λ (z : List Listed). slice_get z place) (sym same) ∙ n.there;
+      named = n.named;
+      last = λ i l less at. n.last i l less (ap (λ (z : List Listed). slice_get z i) same ∙ at);
+    }
+
+    cover_at : (definitions : List Listed) (text : List ℕ) (from settled to : ℕ) (plan : List Piece)
+        → definitions ≡ map listed_of r.rows → settled ≡ end → IsCovered v u definitions text from settled to plan
+        → IsCoverOf r.rows text from end to plan
+    cover_at definitions text from settled to plan same ends c xs of =
+        subst (λ (z : ℕ). IsCover plan from z to xs) ends
+        (cover_by v u r.rows definitions text from settled to plan read same bounds c xs of)
+
+    read_by : (way : How) (definitions : List Listed) (text : List ℕ) (from settled to : ℕ) (plan : List Piece)
+        → definitions ≡ map listed_of r.rows → settled ≡ end → IsPlan v u definitions text way from settled to plan
+        → IsReadBy r.rows text way from end to plan
+    read_by how.Full definitions text from settled to plan same ends p = p
+    read_by how.Auto definitions text from settled to plan same ends p =
+        cover_at definitions text from settled to plan same ends p
+    read_by how.Index definitions text from settled to plan same ends p = (
+      cover_at definitions text from settled to plan same ends p.0,
+      subst (λ (z : ℕ). ¬ HasGap plan z) ends p.1,
+    )
+
+    plan_for : (known : Known) (ask : Ask) (from to : ℕ) (opens : List ℕ) (plan : List Piece)
+        → IsPlanned v u known ask from to opens plan → IsPlanFor r.rows ask end from to plan
+    unfolding newest_at
+    plan_for known ask from to opens plan e =
+        let exact = e.exact h.alone in
+        let same = exact_end v u end e.settled e.range.count to ask.to opens h learns s e.least e.most exact in
+        let are = rows_are known ask e.place e.asked.named in
+        record {
+          whole = whole_at ask from to e.settled opens e.range same exact;
+          place = e.place;
+          newest = newest_at (rows_of known) ask e.place are e.asked.named.newest;
+          is = read_by ask.how (rows_of known) e.asked.named.newest.listed.def from e.settled to plan are same e.plan_is;
+        }
+
+    scan_work : (ask : Ask) (x : Item) → FitsScanned v u ask x → IsScanWork v u r.rows end ask x
+    scan_work ask x f =
+        let a = f.fits in
+        let e = a.answer.explained.planned in
+        record {
+          answer = record { from = f.from; to = f.to; opens = f.opens; rows = f.rows; plan = a.plan };
+          version = f.version;
+          is = f.is;
+          closed = (e.exact h.alone).closed;
+          plan = plan_for a.known ask f.from f.to f.opens a.plan e;
+          loads = a.loads;
+        }
+
+    plan_told_at : (ask : Ask) (x : Item) → FitsExplained v u ask x → IsPlanTold r.rows end ask x
+    plan_told_at ask x f = record {
+      explained = record { from = f.from; to = f.to; plan = f.plan };
+      version = f.version;
+      is = f.is;
+      plan = plan_for f.fits.known ask f.from f.to f.fits.opens f.plan f.fits.explained.planned;
+    }
+
+    cause_at : (ask : Ask) (version : ℕ) (why : ScanCause) → IsRefusedAt v u ask version why → IsCauseAt r.rows end ask why
+    unfolding newest_at
+    cause_at ask version cause.UnknownName f = tt
+    cause_at ask version (cause.EmptyRange from to) f = tt
+    cause_at ask version (cause.NotCovered from to) f =
+        let g : IsUncovered v u f.known ask from to = f.refused.1 in
+        let exact = g.exact h.alone in
+        let same = exact_end v u end g.settled g.range.count g.last ask.to g.opens h learns s g.least g.most exact in
+        let are = rows_are f.known ask g.place g.asked.named in
+        record {
+          place = g.place;
+          newest = newest_at (rows_of f.known) ask g.place are g.asked.named.newest;
+          first = g.first;
+          last = g.last;
+          whole = whole_at ask g.first g.last g.settled g.opens g.range same exact;
+          plan = g.plan;
+          cover = cover_at (rows_of f.known) g.asked.named.newest.listed.def g.first g.settled g.last g.plan are same g.covered;
+          gap = subst (λ (z : ℕ). IsFirstGap g.plan z from to) same g.gap;
+        }
+
+    told_at : (ask : Ask) (refused : List ℕ → ℕ → ScanCause → Item) (x : Item) → FitsRefused v u ask refused x
+        → IsCauseTold r.rows end ask refused x
+    told_at ask refused x f =
+        record { version = f.version; why = f.why; is = f.is; tells = cause_at ask f.version f.why f.fits }
+
+    -- what fits a statement that changes no definition tells this
+    pub fit_free : (w : Work) (x : Item) → IsFree w → IsFit v u w x → TellsSingle v u r.rows end w x
+    fit_free (work.Scan ask) x free (inl f) = inl (scan_work ask x f)
+    fit_free (work.Scan ask) x free (inr f) = inr (told_at ask item.ScanRefused x f)
+    fit_free (work.Explain ask) x free (inl f) = inl (plan_told_at ask x f)
+    fit_free (work.Explain ask) x free (inr f) = inr (told_at ask item.ExplainRefused x f)
+    fit_free work.Checkpoint x free f =
+        let e = f.exact h.alone in
+        f.is ∙ ap item.Checkpointed (same_end v u end f.count e.0 h learns s f.above f.settled e.1 e.2)
+    fit_free (work.Ingest form header name file) x free f = tt
+    fit_free (work.Register name def) x free f = elim free [ ]
+    fit_free (work.Deregister name) x free f = elim free [ ]
+
+  -- and so does what fits any
+  pub fit_single : (w : Work) (x : Item) (r : Registry) → Stands v → AreReadBounds v r.rows → KnowsRegistry v r
+      → (IsFree w → AreBoundsIn u r.rows × (u.learned.version ≡ r.version)) → TellsTail v x → IsFit v u w x
+      → TellsSingle v u r.rows end w x
+  fit_single (work.Register name def) x r stood read registry free at f = boundary_at x stood at
+  fit_single (work.Deregister name) x r stood read registry free at f = boundary_at x stood at
+  fit_single (work.Ingest form header name file) x r stood read registry free at f = tt
+  fit_single (work.Scan ask) x r stood read registry free at f =
+      fit_free r read registry (free tt).0 (free tt).1 (work.Scan ask) x tt f
+  fit_single (work.Explain ask) x r stood read registry free at f =
+      fit_free r read registry (free tt).0 (free tt).1 (work.Explain ask) x tt f
+  fit_single work.Checkpoint x r stood read registry free at f =
+      fit_free r read registry (free tt).0 (free tt).1 work.Checkpoint x tt f
 
 -- ---- later
 
-module _ (v u t : View) (end : ℕ) (learns : Learns u t) (still : t.clock.loads ≡ u.clock.loads) where
-  named_later : (ask : Ask) (version : ℕ) → IsNamedAt u ask version → IsNamedAt t ask version
-  named_later ask version h =
-      record { rows = h.rows; knows = knows_later u t version h.rows learns h.knows; place = h.place; newest = h.newest }
-
-  plan_later : (ask : Ask) (version from to : ℕ) (plan : List Piece) → IsPlanAt v u end ask version from to plan
-      → IsPlanAt v t end ask version from to plan
-  unfolding named_later
-  plan_later ask version from to plan h = record {
-    named = named_later ask version h.named;
-    whole = h.whole;
-    is = plan_within v v u t h.named.rows h.named.newest.listed.def ask.how from end to plan (learns_self v) learns h.is;
-  }
-
-  cause_later : (ask : Ask) (version : ℕ) (why : ScanCause) → IsCauseAt v u end ask version why → IsCauseAt v t end ask version why
-  unfolding named_later
-  cause_later ask version cause.UnknownName h = tt
-  cause_later ask version (cause.EmptyRange from to) h = tt
-  cause_later ask version (cause.NotCovered from to) h = record {
-    named = named_later ask version h.named;
-    first = h.first;
-    last = h.last;
-    whole = h.whole;
-    plan = h.plan;
-    covered = covered_within v v u t h.named.rows h.named.newest.listed.def h.first end h.last h.plan (learns_self v) learns
-        h.covered;
-    gap = h.gap;
-  }
-
-  told_later : (ask : Ask) (refused : List ℕ → ℕ → ScanCause → Item) (x : Item) → IsCauseTold v u end ask refused x
-      → IsCauseTold v t end ask refused x
-  told_later ask refused x h =
-      record { version = h.version; why = h.why; is = h.is; tells = cause_later ask h.version h.why h.tells }
-
+module _ (v u t : View) (rows : List CatRow) (end : ℕ) (learns : Learns u t) (still : t.clock.loads ≡ u.clock.loads) where
   -- what was told is so of the pass where it knows more and loaded nothing since
-  single_later : (w : Work) (x : Item) → TellsSingle v u end w x → TellsSingle v t end w x
+  single_later : (w : Work) (x : Item) → TellsSingle v u rows end w x → TellsSingle v t rows end w x
   single_later (work.Scan ask) x (inl h) = inl (record {
     answer = h.answer;
     version = h.version;
     is = h.is;
     closed = h.closed;
-    plan = plan_later ask h.version h.answer.from h.answer.to h.answer.plan h.plan;
+    plan = h.plan;
     loads = loads_later v u t ask.value h.answer learns still h.loads;
   })
-  single_later (work.Scan ask) x (inr h) = inr (told_later ask item.ScanRefused x h)
-  single_later (work.Explain ask) x (inl h) = inl (record {
-    explained = h.explained;
-    version = h.version;
-    is = h.is;
-    plan = plan_later ask h.version h.explained.from h.explained.to h.explained.plan h.plan;
-  })
-  single_later (work.Explain ask) x (inr h) = inr (told_later ask item.ExplainRefused x h)
+  single_later (work.Scan ask) x (inr h) = inr h
+  single_later (work.Explain ask) x h = h
   single_later work.Checkpoint x h = h
-  single_later w x h = tt
+  single_later (work.Register name def) x h = h
+  single_later (work.Deregister name) x h = h
+  single_later (work.Ingest form header name file) x h = tt
 
-  pub singles_later : (w : Work) (items : List Item) → AllOf (TellsSingle v u end w) items → AllOf (TellsSingle v t end w) items
+  pub singles_later : (w : Work) (items : List Item) → AllOf (TellsSingle v u rows end w) items
+      → AllOf (TellsSingle v t rows end w) items
   singles_later w [] h = tt
   singles_later w (x ∷ items) h = (single_later w x h.0, singles_later w items h.1)
 
-  pub only_later : (works : List Work) (items : List Item) → TellsOnly v u end works items → TellsOnly v t end works items
+  pub only_later : (works : List Work) (items : List Item) → TellsOnly v u rows end works items → TellsOnly v t rows end works items
   only_later works items h w one = singles_later w (answers items) (h w one)
 
 -- ---- open numbers
 
--- a pass that is alone is so behind its statements
-pub alone_gains : (v u : View) (rows : List LaneRow) → Gains v u rows → IsAlone v → IsAlone u
-alone_gains v u rows g a = record { main = g.on.lane ∙ a.main; all = g.on.out ∙ a.all; idle = g.idle }
-
--- and behind a step on the definitions
+-- a pass that is alone is so behind a step on the definitions
 pub alone_changes : (u p : View) → Changes u p → IsAlone u → IsAlone p
 alone_changes u p changes alone = record {
   main = ap (λ (z : View). z.lane) changes.frame ∙ alone.main;
@@ -312,27 +346,28 @@ none_there (x ∷ items) works size e = (let same : length works ≡ 0 = ap leng
 -- ---- the end of a block
 
 -- with no other lane the block loads what its statement loads
-pub only_end : (v m w u p t : View) (end : ℕ) (works after : List Work) (items : List Item) → m ≡ v → u ≡ w → Changes u p
-    → OnlySettles p t → after ≡ works → TellsOnly m w end works items → TellsOnly v t end after items
-only_end v m w u p t end works after items given taken changes settles same h one is =
+pub only_end : (v m w u p t : View) (rows : List CatRow) (end : ℕ) (works after : List Work) (items : List Item) → m ≡ v → u ≡ w
+    → Changes u p → OnlySettles p t → after ≡ works → TellsOnly m w rows end works items → TellsOnly v t rows end after items
+only_end v m w u p t rows end works after items given taken changes settles same h one is =
     let learns : Learns w t = learns_both w p t (subst (λ (z : View). Learns z p) taken (learns_changes u p changes)) settles.learns in
-    singles_later v w t end learns (settles.loads ∙ changes.loads ∙ ap (λ (z : View). z.clock.loads) taken) one (answers items)
-    (subst (λ (z : View). AllOf (TellsSingle z w end one) (answers items)) given (h one (sym same ∙ is)))
+    singles_later v w t rows end learns (settles.loads ∙ changes.loads ∙ ap (λ (z : View). z.clock.loads) taken) one (answers items)
+    (subst (λ (z : View). AllOf (TellsSingle z w rows end one) (answers items)) given (h one (sym same ∙ is)))
 
 -- ---- without the pass
 
 -- the range is whole
-single_whole : (v u : View) (end : ℕ) (w : Work) (x : Item) → TellsSingle v u end w x → TellsWhole end w x
-single_whole v u end (work.Scan ask) x (inl h) = subst (TellsWhole end (work.Scan ask)) (sym h.is) h.plan.whole
-single_whole v u end (work.Scan ask) x (inr h) = subst (TellsWhole end (work.Scan ask)) (sym h.is) tt
-single_whole v u end (work.Explain ask) x (inl h) = subst (TellsWhole end (work.Explain ask)) (sym h.is) h.plan.whole
-single_whole v u end (work.Explain ask) x (inr h) = subst (TellsWhole end (work.Explain ask)) (sym h.is) tt
-single_whole v u end (work.Register name def) x h = tt
-single_whole v u end (work.Deregister name) x h = tt
-single_whole v u end (work.Ingest form header name file) x h = tt
-single_whole v u end work.Checkpoint x h = h
+single_whole : (v u : View) (rows : List CatRow) (end : ℕ) (w : Work) (x : Item) → TellsSingle v u rows end w x
+    → TellsWhole rows v.shut end w x
+single_whole v u rows end (work.Scan ask) x (inl h) = subst (TellsWhole rows v.shut end (work.Scan ask)) (sym h.is) h.plan.whole
+single_whole v u rows end (work.Scan ask) x (inr h) = subst (TellsWhole rows v.shut end (work.Scan ask)) (sym h.is) h.tells
+single_whole v u rows end (work.Explain ask) x (inl h) = subst (TellsWhole rows v.shut end (work.Explain ask)) (sym h.is) h.plan
+single_whole v u rows end (work.Explain ask) x (inr h) = subst (TellsWhole rows v.shut end (work.Explain ask)) (sym h.is) h.tells
+single_whole v u rows end (work.Register name def) x h = h
+single_whole v u rows end (work.Deregister name) x h = h
+single_whole v u rows end (work.Ingest form header name file) x h = tt
+single_whole v u rows end work.Checkpoint x h = h
 
-pub singles_whole : (v u : View) (end : ℕ) (w : Work) (items : List Item) → AllOf (TellsSingle v u end w) items
-    → AllOf (TellsWhole end w) items
-singles_whole v u end w [] h = tt
-singles_whole v u end w (x ∷ items) h = (single_whole v u end w x h.0, singles_whole v u end w items h.1)
+pub singles_whole : (v u : View) (rows : List CatRow) (end : ℕ) (w : Work) (items : List Item)
+    → AllOf (TellsSingle v u rows end w) items → AllOf (TellsWhole rows v.shut end w) items
+singles_whole v u rows end w [] h = tt
+singles_whole v u rows end w (x ∷ items) h = (single_whole v u rows end w x h.0, singles_whole v u rows end w items h.1)

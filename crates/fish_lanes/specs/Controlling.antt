@@ -1,5 +1,5 @@
 -- What one step of the control pass on the definitions tells and leaves. Private clauses speak of it.
-use Rattle.std.specs.Prelude.{ℕ, ◌≡◌, ◌⊎◌, ◌<◌, List, [], ◌∷◌, ◌++◌, Option, Some, None, take}
+use Rattle.std.specs.Prelude.{ℕ, ◌≡◌, ◌⊎◌, ◌<◌, List, [], ◌∷◌, ◌++◌, Option, Some, None, take, ⊤}
 use Rattle.fish_ingest.specs.Ingestion.{CanStart}
 use Rattle.fish_lanes.specs.Doing.{IsFit}
 use Rattle.fish_lanes.specs.Ending.{HasEnd}
@@ -15,6 +15,7 @@ use Rattle.fish_lanes.specs.declared.block.Boundary.{Boundary}
 use Rattle.fish_lanes.specs.declared.work.LaneFault.{LaneFault}
 use Rattle.fish_lanes.specs.declared.work.LaneFault.TheVariants as cause
 use Rattle.fish_lanes.specs.declared.work.Work.{Work}
+use Rattle.fish_registry.specs.Changing.{IsAtTail}
 use Rattle.fish_registry.specs.Knowing.{Knows}
 use Rattle.fish_registry.specs.declared.outcome.RegRefusal.{RegRefusal}
 use Rattle.fish_registry.specs.declared.outcome.RegRefusal.TheVariants as refusal
@@ -103,6 +104,12 @@ deregister_cause refusal.TooManyDefinitions = None
 deregister_cause refusal.OutOfMemory = None
 deregister_cause refusal.UnknownName = Some deregister.UnknownName
 
+-- a boundary that the item tells is where the pass knew the tail
+abbrev pub TellsTail : View → Item → Type 0
+TellsTail u (item.Registered name id from def) = IsAtTail u from
+TellsTail u (item.Deregistered name id to) = IsAtTail u to
+TellsTail u x = ⊤
+
 -- ---- statements of the first lane
 
 -- one statement was done
@@ -113,6 +120,7 @@ pub record IsControlled (u : View) (r : Registrar) (t : View) (s : Registrar) (w
   pub fit : IsFit u t w x
   pub shuts : TellsShut u t (x ∷ [])
   pub none : IsAlone u → NamesNone x
+  pub tail : IsAlone u → TellsTail u x
   pub does : Does u r t s x
 
 -- a part of it was
@@ -128,7 +136,7 @@ pub record HasControlled (v u : View) (r s : Registrar) (works : List Work) (ite
   pub run : HasRun v u works items fault
   pub so : AreSo v.learned.count u.learned.count (registry_of v r) items
   pub closed : IsAlone v → AllOf NamesNone items
-  pub only : (end : ℕ) → HasEnd v end → r.waiting ≡ None → TellsOnly v u end works items
+  pub only : (end : ℕ) → HasEnd v end → r.waiting ≡ None → TellsOnly v u r.catalog end works items
   pub plans : PlansAreSoBy v u (registry_of v r) works items
   pub is : fault ≡ cause.None → registry_of u s ≡ after_all (registry_of v r) items
   pub each : fault ≡ cause.None → KnowsEach u (registry_of v r) items

@@ -127,7 +127,8 @@ pub record FitsRefused (v u : View) (ask : Ask) (refused : List ℕ → ℕ → 
   pub is : x ≡ refused ask.name version why
   pub fits : IsRefusedAt v u ask version why
 
--- all below a number is stored; a pass that is alone finds it where the log ends, with as many claimed as it knew by the tail
+-- all below a number is stored; a pass that is alone finds it where the log ends, with as many claimed as it knew by the tail, and no
+-- fewer than it had counted
 pub record FitsCheckpoint (v u : View) (x : Item) : Type 0 where
   pub count : ℕ
   pub is : x ≡ item.Checkpointed count
@@ -135,6 +136,7 @@ pub record FitsCheckpoint (v u : View) (x : Item) : Type 0 where
   pub settled : count ≤ u.learned.settled
   pub counted : count ≤ u.learned.count
   pub exact : IsAlone v → (claimed : ℕ) × IsTailCount claimed v.tail × EndsAt u count claimed
+      × (v.learned.count ≤ claimed)
 
 -- the item fits the statement, and what it tells of its pass is so
 abbrev pub IsFit : View → View → Work → Item → Type 0

@@ -44,7 +44,7 @@ LanesSayPlans v r rows from lanes = At (λ i x. AreSoPlans v r rows from x.works
 -- statement that is all of the block tells what can be told where nothing runs beside it
 pub record TellsAloneBy (v u : View) (r : Registrar) (x : Lane) : Type 0 where
   pub closed : AllOf NamesNone x.items
-  pub only : (end : ℕ) → HasEnd v end → r.waiting ≡ None → TellsOnly v u end x.works x.items
+  pub only : (end : ℕ) → HasEnd v end → r.waiting ≡ None → TellsOnly v u r.catalog end x.works x.items
 
 -- the same where the lane is all of the block
 abbrev pub TellsAlone : View → View → Registrar → List Lane → Type 0

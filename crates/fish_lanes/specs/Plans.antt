@@ -1,9 +1,9 @@
 -- What plans, and refusals of a range that no index covers, say of the definitions: where pieces by an index lie, and that no number is
 -- read one by one that an index was known to hold.
 use Rattle.std.specs.Prelude.{ℕ, ◌≡◌, ◌≢◌, ◌<◌, ◌≤◌, suc, cond, drop, List, [], ◌∷◌, Some, slice_get, ⊤}
+use Rattle.fish_catalog.specs.declared.listed.Listed.{Listed}
 use Rattle.fish_catalog.specs.declared.row.CatRow.{CatRow}
 use Rattle.fish_lanes.specs.Registering.{Registry, after}
-use Rattle.fish_lanes.specs.Single.{IsNamedAt}
 use Rattle.fish_lanes.specs.Spans.{is_answer}
 use Rattle.fish_lanes.specs.declared.work.Work.{Work}
 use Rattle.fish_lanes.specs.declared.work.Work.TheVariants as work
@@ -13,9 +13,10 @@ use Rattle.fish_registry.specs.Knowing.{HasBegunBy, IsRead}
 use Rattle.fish_report.specs.declared.item.Item.{Item}
 use Rattle.fish_report.specs.declared.item.Item.TheVariants as item
 use Rattle.fish_report.specs.declared.item.ScanCause.TheVariants as cause
-use Rattle.fish_rule.specs.Registry.{row_at}
+use Rattle.fish_rule.specs.Registry.{KnowsDefinitions, row_at}
 use Rattle.fish_rule.specs.Views.{Among}
 use Rattle.fish_rule.specs.declared.view.View.{View}
+use Rattle.fish_scan.specs.Naming.{IsNewest}
 use Rattle.fish_scan.specs.declared.ask.Ask.{Ask}
 use Rattle.fish_scan.specs.declared.ask.How.{How}
 use Rattle.fish_scan.specs.declared.ask.How.TheVariants as how
@@ -53,6 +54,13 @@ pub record IsPlanOf (told rows : List CatRow) (from : ℕ) (text : List ℕ) (wa
       → n < from → ¬ IsCoveredNumber told rows text n
 
 -- ---- items
+
+-- the definitions at a version, by the words that the pass knows, and the newest that has the name asked for
+pub record IsNamedAt (v : View) (ask : Ask) (version : ℕ) : Type 0 where
+  pub rows : List Listed
+  pub knows : KnowsDefinitions v.about v.learned version rows
+  pub place : ℕ
+  pub newest : IsNewest rows ask.name place
 
 -- a plan, or a refusal, at a version: the text is that which the name means there
 pub record TellsPlanned (v : View) (told rows : List CatRow) (from : ℕ) (ask : Ask) (plan : List Piece) (version : ℕ) : Type 0 where

@@ -1,26 +1,33 @@
 -- What a block of one lane tells besides: the control pass does its statements, and no other pass is out.
-use Rattle.std.specs.Prelude.{ℕ, ◌≡◌, ◌⊎◌, List, [], ◌∷◌, min, ⊤}
-use Rattle.fish_catalog.specs.declared.listed.Listed.{Listed}
+use Rattle.std.specs.Prelude.{ℕ, ◌≡◌, ◌⊎◌, List, [], ◌∷◌, Option, None, map, min, ⊤}
+use Rattle.fish_catalog.specs.Intervals.{AreIntervals}
+use Rattle.fish_catalog.specs.Listing.{listed_of}
+use Rattle.fish_catalog.specs.declared.interval.Interval.{Interval}
+use Rattle.fish_catalog.specs.declared.row.CatRow.{CatRow}
 use Rattle.fish_lanes.specs.Doing.{explained_item, scanned_item}
 use Rattle.fish_lanes.specs.Loading.{LoadsWithin}
 use Rattle.fish_lanes.specs.Spans.{answers}
 use Rattle.fish_lanes.specs.declared.work.Work.{Work}
 use Rattle.fish_lanes.specs.declared.work.Work.TheVariants as work
-use Rattle.fish_plan.specs.Gaps.{IsFirstGap}
+use Rattle.fish_plan.specs.Cover.{IsCover}
+use Rattle.fish_plan.specs.Gaps.{HasGap, IsFirstGap}
+use Rattle.fish_plan.specs.Pieces.{one_full}
 use Rattle.fish_plan.specs.declared.pieces.Piece.{Piece}
 use Rattle.fish_report.specs.declared.item.Item.{Item}
 use Rattle.fish_report.specs.declared.item.Item.TheVariants as item
 use Rattle.fish_report.specs.declared.item.ScanCause.{ScanCause}
 use Rattle.fish_report.specs.declared.item.ScanCause.TheVariants as cause
-use Rattle.fish_rule.specs.Registry.{KnowsDefinitions}
 use Rattle.fish_rule.specs.Views.{AllOf}
+use Rattle.fish_rule.specs.declared.view.Shut.{Shut}
 use Rattle.fish_rule.specs.declared.view.View.{View}
 use Rattle.fish_scan.specs.Naming.{IsNewest}
 use Rattle.fish_scan.specs.Reach.{end_of}
-use Rattle.fish_scan.specs.Scans.{IsCovered, IsPlan, first_asked}
+use Rattle.fish_scan.specs.Scans.{first_asked}
 use Rattle.fish_scan.specs.declared.ask.Answer.{Answer}
 use Rattle.fish_scan.specs.declared.ask.Ask.{Ask}
 use Rattle.fish_scan.specs.declared.ask.Explained.{Explained}
+use Rattle.fish_scan.specs.declared.ask.How.{How}
+use Rattle.fish_scan.specs.declared.ask.How.TheVariants as how
 
 -- ---- any number of statements
 
@@ -32,81 +39,98 @@ NamesNone x = ⊤
 
 -- ---- one statement
 
--- the rows of a version, by the words that the pass knows, and the newest that has the name asked for
-pub record IsNamedAt (u : View) (ask : Ask) (version : ℕ) : Type 0 where
-  pub rows : List Listed
-  pub knows : KnowsDefinitions u.about u.learned version rows
-  pub place : ℕ
-  pub newest : IsNewest rows ask.name place
-
 -- the range is all that is asked for of a log that ends at this number
 pub record IsWhole (ask : Ask) (end from to : ℕ) : Type 0 where
   pub begins : from ≡ min (first_asked ask) to
   pub ends : to ≡ end_of ask.to end
 
--- the plan is how this range is to be read: one full piece, or the cover by the intervals that the pass loaded of the rows with the
--- text that the name means, and with no full piece where the index is asked for
-pub record IsPlanAt (v u : View) (end : ℕ) (ask : Ask) (version from to : ℕ) (plan : List Piece) : Type 0 where
-  pub named : IsNamedAt u ask version
+-- the plan is the cover of a range, all settled below a number, by the intervals of the rows with a text
+abbrev pub IsCoverOf : List CatRow → List ℕ → ℕ → ℕ → ℕ → List Piece → Type 0
+IsCoverOf rows text from settled to plan = (xs : List Interval) → AreIntervals rows text xs → IsCover plan from settled to xs
+
+-- the range is read in the way that is asked for: number by number, or by that cover, which has no gap where the index alone is asked for
+abbrev pub IsReadBy : List CatRow → List ℕ → How → ℕ → ℕ → ℕ → List Piece → Type 0
+IsReadBy rows text how.Full from settled to plan = plan ≡ one_full from to
+IsReadBy rows text how.Auto from settled to plan = IsCoverOf rows text from settled to plan
+IsReadBy rows text how.Index from settled to plan = IsCoverOf rows text from settled to plan × ¬ HasGap plan settled
+
+-- the plan of all that is asked for, by the text of the newest row with the name
+pub record IsPlanFor (rows : List CatRow) (ask : Ask) (end from to : ℕ) (plan : List Piece) : Type 0 where
   pub whole : IsWhole ask end from to
-  pub is : IsPlan v u named.rows named.newest.listed.def ask.how from end to plan
+  pub place : ℕ
+  pub newest : IsNewest (map listed_of rows) ask.name place
+  pub is : IsReadBy rows newest.listed.def ask.how from end to plan
 
--- a scan was answered: none of its numbers is open, and in the whole block the pass loaded no more words of the log than the
--- pieces of the plan are allowed
-pub record IsScanWork (v u : View) (end : ℕ) (ask : Ask) (x : Item) : Type 0 where
-  pub answer : Answer
-  pub version : ℕ
-  pub is : x ≡ scanned_item ask answer version
-  pub closed : answer.opens ≡ []
-  pub plan : IsPlanAt v u end ask version answer.from answer.to answer.plan
-  pub loads : LoadsWithin v u ask.value answer
-
--- a plan was told
-pub record IsPlanTold (v u : View) (end : ℕ) (ask : Ask) (x : Item) : Type 0 where
-  pub explained : Explained
-  pub version : ℕ
-  pub is : x ≡ explained_item ask explained version
-  pub plan : IsPlanAt v u end ask version explained.from explained.to explained.plan
-
--- the numbers are those of the first full piece of the cover, by such intervals, of all that is asked for
-pub record IsGapAt (v u : View) (end : ℕ) (ask : Ask) (version from to : ℕ) : Type 0 where
-  pub named : IsNamedAt u ask version
+-- the numbers are those of the first gap in the cover of it
+pub record IsGapFor (rows : List CatRow) (ask : Ask) (end from to : ℕ) : Type 0 where
+  pub place : ℕ
+  pub newest : IsNewest (map listed_of rows) ask.name place
   pub first : ℕ
   pub last : ℕ
   pub whole : IsWhole ask end first last
   pub plan : List Piece
-  pub covered : IsCovered v u named.rows named.newest.listed.def first end last plan
+  pub cover : IsCoverOf rows newest.listed.def first end last plan
   pub gap : IsFirstGap plan end from to
 
+-- a scan was answered: none of its numbers is open, and in the whole block the pass loaded no more words of the log than the
+-- pieces of the plan are allowed
+pub record IsScanWork (v u : View) (rows : List CatRow) (end : ℕ) (ask : Ask) (x : Item) : Type 0 where
+  pub answer : Answer
+  pub version : ℕ
+  pub is : x ≡ scanned_item ask answer version
+  pub closed : answer.opens ≡ []
+  pub plan : IsPlanFor rows ask end answer.from answer.to answer.plan
+  pub loads : LoadsWithin v u ask.value answer
+
+-- a plan was told
+pub record IsPlanTold (rows : List CatRow) (end : ℕ) (ask : Ask) (x : Item) : Type 0 where
+  pub explained : Explained
+  pub version : ℕ
+  pub is : x ≡ explained_item ask explained version
+  pub plan : IsPlanFor rows ask end explained.from explained.to explained.plan
+
 -- what the cause of a refusal tells
-abbrev pub IsCauseAt : View → View → ℕ → Ask → ℕ → ScanCause → Type 0
-IsCauseAt v u end ask version (cause.NotCovered from to) = IsGapAt v u end ask version from to
-IsCauseAt v u end ask version why = ⊤
+abbrev pub IsCauseAt : List CatRow → ℕ → Ask → ScanCause → Type 0
+IsCauseAt rows end ask (cause.NotCovered from to) = IsGapFor rows ask end from to
+IsCauseAt rows end ask why = ⊤
 
 -- the item of a refusal
-pub record IsCauseTold (v u : View) (end : ℕ) (ask : Ask) (refused : List ℕ → ℕ → ScanCause → Item) (x : Item) : Type 0 where
+pub record IsCauseTold (rows : List CatRow) (end : ℕ) (ask : Ask) (refused : List ℕ → ℕ → ScanCause → Item) (x : Item) : Type 0 where
   pub version : ℕ
   pub why : ScanCause
   pub is : x ≡ refused ask.name version why
-  pub tells : IsCauseAt v u end ask version why
+  pub tells : IsCauseAt rows end ask why
 
--- the item of the statement, where the log ended at a number before the block, the pass was the first before it, and is the
--- second behind it
-abbrev pub TellsSingle : View → View → ℕ → Work → Item → Type 0
-TellsSingle v u end (work.Scan ask) x = IsScanWork v u end ask x ⊎ IsCauseTold v u end ask item.ScanRefused x
-TellsSingle v u end (work.Explain ask) x = IsPlanTold v u end ask x ⊎ IsCauseTold v u end ask item.ExplainRefused x
-TellsSingle v u end work.Checkpoint x = x ≡ item.Checkpointed end
-TellsSingle v u end w x = ⊤
+-- where the index of a row begins or ends, where that is all that a block tells: where the log ended, unless it was full
+abbrev pub IsBoundaryAt : Option Shut → ℕ → Item → Type 0
+IsBoundaryAt full end (item.Registered name id from def) = full ≡ None → from ≡ end
+IsBoundaryAt full end (item.Deregistered name id to) = full ≡ None → to ≡ end
+IsBoundaryAt full end x = ⊤
+
+-- the item of the statement, where the log ended at a number before the block, the rows were these, and the pass was the first before
+-- it, and is the second behind it
+abbrev pub TellsSingle : View → View → List CatRow → ℕ → Work → Item → Type 0
+TellsSingle v u rows end (work.Scan ask) x = IsScanWork v u rows end ask x ⊎ IsCauseTold rows end ask item.ScanRefused x
+TellsSingle v u rows end (work.Explain ask) x = IsPlanTold rows end ask x ⊎ IsCauseTold rows end ask item.ExplainRefused x
+TellsSingle v u rows end work.Checkpoint x = x ≡ item.Checkpointed end
+TellsSingle v u rows end (work.Register name def) x = IsBoundaryAt v.shut end x
+TellsSingle v u rows end (work.Deregister name) x = IsBoundaryAt v.shut end x
+TellsSingle v u rows end w x = ⊤
 
 -- where one statement is all that was to do, its item
-abbrev pub TellsOnly : View → View → ℕ → List Work → List Item → Type 0
-TellsOnly v u end works items = (w : Work) → works ≡ w ∷ [] → AllOf (TellsSingle v u end w) (answers items)
+abbrev pub TellsOnly : View → View → List CatRow → ℕ → List Work → List Item → Type 0
+TellsOnly v u rows end works items = (w : Work) → works ≡ w ∷ [] → AllOf (TellsSingle v u rows end w) (answers items)
 
 -- ---- without the pass
 
--- the range that an item tells of is all that is asked for of a log that ends at this number; a checkpoint tells that number
-abbrev pub TellsWhole : ℕ → Work → Item → Type 0
-TellsWhole end (work.Scan ask) (item.Scanned name value from to opens rows version) = IsWhole ask end from to
-TellsWhole end (work.Explain ask) (item.Explained name value from to plan version) = IsWhole ask end from to
-TellsWhole end work.Checkpoint x = x ≡ item.Checkpointed end
-TellsWhole end w x = ⊤
+-- the range that an item tells of is all that is asked for of a log that ends at this number, and is planned by these rows; a checkpoint
+-- tells that number, and so does a boundary, unless this claim had found the log full
+abbrev pub TellsWhole : List CatRow → Option Shut → ℕ → Work → Item → Type 0
+TellsWhole rows full end (work.Scan ask) (item.Scanned name value from to opens found version) = IsWhole ask end from to
+TellsWhole rows full end (work.Scan ask) (item.ScanRefused name version why) = IsCauseAt rows end ask why
+TellsWhole rows full end (work.Explain ask) (item.Explained name value from to plan version) = IsPlanFor rows ask end from to plan
+TellsWhole rows full end (work.Explain ask) (item.ExplainRefused name version why) = IsCauseAt rows end ask why
+TellsWhole rows full end work.Checkpoint x = x ≡ item.Checkpointed end
+TellsWhole rows full end (work.Register name def) x = IsBoundaryAt full end x
+TellsWhole rows full end (work.Deregister name) x = IsBoundaryAt full end x
+TellsWhole rows full end w x = ⊤

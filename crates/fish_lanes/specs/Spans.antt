@@ -1,16 +1,19 @@
 -- Between which numbers of the log, and between which versions, a block lies.
-use Rattle.std.specs.Prelude.{ℕ, ◌+◌, ◌≤◌, Bool, List, Option, false, filter, true}
+use Rattle.std.specs.Prelude.{ℕ, ◌≡◌, ◌+◌, ◌≤◌, Bool, List, Option, false, filter, true}
 use Rattle.fish_report.specs.declared.item.Item.{Item}
 use Rattle.fish_report.specs.declared.item.Item.TheVariants as item
+use Rattle.fish_rule.specs.LoadSteps.{IsAlone}
 use Rattle.fish_rule.specs.declared.view.Shut.{Shut}
 use Rattle.fish_rule.specs.declared.view.View.{View}
 
--- the log's end before the block and behind it, the versions there, and the claim that had found the log full before it
+-- the log's end before the block and behind it, the versions there, how many lanes the block has, and the claim that had found the log
+-- full before it
 pub record Span : Type 0 where
   pub from : ℕ
   pub to : ℕ
   pub first : ℕ
   pub last : ℕ
+  pub lanes : ℕ
   pub full : Option Shut
 
 -- what a lane's pass knew at its start and knows at its end lies within the block
@@ -20,6 +23,7 @@ pub record IsWithinSpan (v u : View) (s : Span) : Type 0 where
   pub settled : s.from ≤ v.learned.settled
   pub counted : s.from ≤ v.learned.count
   pub near : u.learned.count ≤ s.to + 16
+  pub alone : s.lanes ≡ 1 → IsAlone v
 
 -- how many versions the item says were made
 abbrev pub made_by : Item → ℕ

@@ -3,7 +3,7 @@ use Rattle.std.specs.Prelude.{ℕ, ◌≡◌, ◌<◌, ◌≤◌, ◌+◌, ◌�
 use Rattle.fish_catalog.specs.declared.entry.Entry.{Entry}
 use Rattle.fish_lang.specs.Canonical.{definition_text}
 use Rattle.fish_lang.specs.Definition.{definition_of}
-use Rattle.fish_lanes.specs.Records.{Content, LaneRow, contents}
+use Rattle.fish_lanes.specs.Records.{Content, HasNumber, LaneRow, contents}
 use Rattle.fish_lanes.specs.Registering.{IsDeregisterItem, IsRegisterItem}
 use Rattle.fish_lanes.specs.Scanning.{TellsExplained, TellsRefused, TellsScanned}
 use Rattle.fish_lanes.specs.Seen.{IsSeen, Shown, settled, shown_by}
@@ -78,11 +78,13 @@ pub record TellsTooLong (name file : List ℕ) (x : Item) : Type 0 where
   pub is : x ≡ item.IngestTooLong name 0 0
   pub past : longest_file < length file
 
--- all below a number of the log is stored, no less than below the block or than an earlier item told
-pub record TellsCheckpoint (from : ℕ) (log : List Entry) (shown : List Shown) (x : Item) : Type 0 where
+-- all below a number of the log is stored, no less than below the block or than an earlier item told, and where no other lane is, all
+-- that the lane stored before
+pub record TellsCheckpoint (s : Span) (log : List Entry) (before : List LaneRow) (shown : List Shown) (x : Item) : Type 0 where
   pub count : ℕ
   pub is : x ≡ item.Checkpointed count
-  pub above : from ≤ count
+  pub above : s.from ≤ count
+  pub own : s.lanes ≡ 1 → (n : ℕ) → HasNumber n before → n < count
   pub within : count ≤ length log
   pub rises : (earlier : ℕ) → Among (settled earlier) shown → earlier ≤ count
 
@@ -96,7 +98,7 @@ TellsItem v s log before shown (work.Scan ask) x = TellsScanned v s log (IsSeen 
     ⊎ TellsRefused v s log ask item.ScanRefused x
 TellsItem v s log before shown (work.Explain ask) x = TellsExplained v s log (IsSeen s.from before shown) ask x
     ⊎ TellsRefused v s log ask item.ExplainRefused x
-TellsItem v s log before shown work.Checkpoint x = TellsCheckpoint s.from log shown x
+TellsItem v s log before shown work.Checkpoint x = TellsCheckpoint s log before shown x
 
 -- ---- the items of a lane
 

@@ -244,8 +244,8 @@ fn run_lanes<R: Threads + Sync>(
     ensures first_seat { first.new.seat ≡ first.old.seat }
     ensures kept { AreKept others.old others.new }
     ensures vacant { AreVacant others.new }
-    ensures told { (s : Span) → IsBlockSpan (view main.old) (view main.new) result.to s → (s.from ≤ s.to)
-        × Will (view main.new) (TellsFirst s first.new) × Will (view main.new) (TellsOthers s others.new) }
+    ensures told { (s : Span) → IsBlockSpan (view main.old) (view main.new) result.to s → s.lanes ≡ length others.old + 1
+        → (s.from ≤ s.to) × Will (view main.new) (TellsFirst s first.new) × Will (view main.new) (TellsOthers s others.new) }
     ensures registered { HasRegistered (view main.old) (view main.new) registrar.old registrar.new first.new result }
     ensures alone { others.old ≡ [] → TellsAloneBy (view main.old) (view main.new) registrar.old first.new }
     ensures first_ended { IsEnded first.new.works first.new.items first.new.fault }
@@ -300,8 +300,8 @@ pub fn run_block<R: Threads + Sync>(
     ensures later { Later (view main.old) (view main.new) }
     ensures kept { AreKept lanes.old lanes.new }
     ensures vacant { AreVacant lanes.old → AreVacant lanes.new }
-    ensures told { (s : Span) → IsBlockSpan (view main.old) (view main.new) result.to s → (s.from ≤ s.to)
-        × Will (view main.new) (λ v log. TellsBlock v s log lanes.new) }
+    ensures told { (s : Span) → IsBlockSpan (view main.old) (view main.new) result.to s → s.lanes ≡ length lanes.old
+        → (s.from ≤ s.to) × Will (view main.new) (λ v log. TellsBlock v s log lanes.new) }
     ensures registered { (x : Lane) → slice_get lanes.new 0 ≡ Some x
         → HasRegistered (view main.old) (view main.new) registrar.old registrar.new x result }
     ensures alone { TellsAlone (view main.old) (view main.new) registrar.old lanes.new }

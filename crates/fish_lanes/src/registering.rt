@@ -5,7 +5,7 @@ ghost use Rattle.fish_catalog.specs.Rows.{IsName};
 ghost use Rattle.fish_epoch.specs.Definitions.{IsDefsOf};
 ghost use Rattle.fish_lang.specs.Canonical.{definition_text};
 ghost use Rattle.fish_lang.specs.Definition.{definition_of};
-ghost use Rattle.fish_lanes.specs.Controlling.{CanControl, Does, HasPolled, IsFound, KnowsAll, TellsBegun, WaitsFor};
+ghost use Rattle.fish_lanes.specs.Controlling.{CanControl, Does, HasPolled, IsFound, KnowsAll, TellsBegun, TellsTail, WaitsFor};
 ghost use Rattle.fish_lanes.specs.Controlling.{deregister_cause, register_cause};
 ghost use Rattle.fish_lanes.specs.Gains.{Gains};
 ghost use Rattle.fish_lanes.specs.Registering.{IsDeregisterItem, IsRegisterItem};
@@ -85,6 +85,7 @@ pub(crate) fn register(
     ensures gains { Gains (view pass.old) (view pass.new) [] }
     ensures shut { (view pass.new).shut ≡ (view pass.old).shut }
     ensures alone { IsAlone (view pass.old) → IfOk result NamesNone }
+    ensures tail { IsAlone (view pass.old) → IfOk result (TellsTail (view pass.old)) }
     ensures item { IfOk result (IsRegisterItem name.now (definition_text (definition_of def.now))) }
     ensures does { IfOk result (Does (view pass.old) registrar.old (view pass.new) registrar.new) }
 {
@@ -119,6 +120,7 @@ fn registered(
     ensures gains { Gains (view pass.old) (view pass.new) [] }
     ensures shut { (view pass.new).shut ≡ (view pass.old).shut }
     ensures alone { IsAlone (view pass.old) → IfOk result NamesNone }
+    ensures tail { IsAlone (view pass.old) → IfOk result (TellsTail (view pass.old)) }
     ensures tells { IfOk result (TellsBegun (view pass.old) registrar.old (view pass.new) registrar.new name id def) }
 {
     read_definitions(log, pass, defs)?;
@@ -155,6 +157,7 @@ pub(crate) fn deregister(
     ensures defs { IsDefsOf (view pass.new) defs.new }
     ensures gains { Gains (view pass.old) (view pass.new) [] }
     ensures shut { (view pass.new).shut ≡ (view pass.old).shut }
+    ensures tail { IsAlone (view pass.old) → IfOk result (TellsTail (view pass.old)) }
     ensures item { IfOk result (IsDeregisterItem name.now) }
     ensures does { IfOk result (Does (view pass.old) registrar.old (view pass.new) registrar.new) }
 {
@@ -182,6 +185,7 @@ fn read_definitions(log: &Log, pass: &mut Pass, defs: &mut Defs) -> Result<(), A
     ensures pass { IsPassOf log.now pass.new }
     ensures defs { IsDefsOf (view pass.new) defs.new }
     ensures only { OnlyScans (view pass.old) (view pass.new) }
+    ensures tail { (view pass.new).tail ≡ (view pass.old).tail }
     ensures version { (view pass.new).learned.version ≡ (view pass.old).learned.version }
     ensures read { OnOk result (KnowsAll (view pass.new)) }
 {

@@ -176,14 +176,14 @@ lanes_kept told (ss ∷ texts) (x ∷ old) (y ∷ new) many same h = (
 )
 
 -- what lies between two moments of the control pass
-abbrev pub span_of : ℕ → ℕ → View → View → Span
-span_of from to v u =
-    record { from = from; to = to; first = v.learned.version; last = u.learned.version; full = v.shut }
+abbrev pub span_of : ℕ → ℕ → ℕ → View → View → Span
+span_of from to lanes v u =
+    record { from = from; to = to; first = v.learned.version; last = u.learned.version; lanes = lanes; full = v.shut }
 
 -- the block between them
 abbrev pub block_of : Bool → ℕ → View → View → List Lane → BlockEnd → Block
 block_of several from v u lanes end =
-    record { several = several; span = span_of from end.to v u; lanes = lanes; end = end }
+    record { several = several; span = span_of from end.to (length lanes) v u; lanes = lanes; end = end }
 
 -- the items of its first lane are so
 first_so : (v u : View) (r s : Registrar) (lanes : List Lane) (end : BlockEnd) (k : Span) → IsBlockSpan v u end.to k
@@ -216,7 +216,7 @@ controls_after v u r s (x ∷ lanes) end several from some whole has = (has x re
 pub leaves_of : (told : Option Files) (text : script.Block) (v u : View) (r s : Registrar) (from : ℕ) (items lanes : List Lane)
     (end : BlockEnd) → AreLanes items → Pairs (IsLaneOf told) text.lanes items → length lanes ≡ length items → AreKept items lanes
     → HasEnd v from
-    → ((k : Span) → IsBlockSpan v u end.to k → (k.from ≤ k.to) × Will u (λ x log. TellsBlock x k log lanes))
+    → ((k : Span) → IsBlockSpan v u end.to k → k.lanes ≡ length lanes → (k.from ≤ k.to) × Will u (λ x log. TellsBlock x k log lanes))
     → ((x : Lane) → slice_get lanes 0 ≡ Some x → HasRegistered v u r s x end) → AreEnded lanes → NameMarks u lanes
     → TellsShutBy v u lanes → LanesSayPlans u (registry_of v r) s.catalog from lanes → r.waiting ≡ None → TellsAlone v u r lanes
     → Leaves told text v u r s from lanes end
@@ -234,7 +234,7 @@ leaves_of told text v u r s from items lanes end are works many kept begins tell
   marks = marks;
   alone = λ x one.
       let a = alone x one in
-      record { none = a.closed; whole = λ w only. singles_whole v u from w (answers x.items) (a.only from begins settled w only) };
+      record { none = a.closed; whole = λ w only. singles_whole v u r.catalog from w (answers x.items) (a.only from begins settled w only) };
   shuts = shuts;
   plans = plans;
 }
@@ -254,8 +254,9 @@ module _ (told : Option Files) (text : script.Block) (v u : View) (r s : Registr
   part_of x log t = record {
     begins = refl;
     ends = refl;
-    rises = (h.tells left.span spans).0;
+    rises = (h.tells left.span spans refl).0;
     first = refl;
+    many = refl;
     lanes = t;
     registers = first_so v u r s lanes end left.span spans h.has;
     ended = h.ended;
@@ -269,7 +270,7 @@ module _ (told : Option Files) (text : script.Block) (v u : View) (r s : Registr
     full_is = refl;
     ends = refl;
     tells = λ x remains base main none later c.
-        part_of x remains.log ((h.tells left.span spans).1 x remains base main none later c);
+        part_of x remains.log ((h.tells left.span spans refl).1 x remains base main none later c);
   }
 
   -- none did
@@ -282,7 +283,7 @@ module _ (told : Option Files) (text : script.Block) (v u : View) (r s : Registr
         shut = h.shuts whole;
         ends = refl;
         tells = λ x remains base main none later c. record {
-          part = part_of x remains.log ((h.tells left.span spans).1 x remains base main none later c);
+          part = part_of x remains.log ((h.tells left.span spans refl).1 x remains base main none later c);
           registers = controls_so v u r s lanes end left.span spans whole h.has;
           knows = each_later u x (registry_of v r) (lanes_controls lanes end) later.learns
               (controls_known v u r s lanes end h.some whole h.has);

@@ -1,6 +1,7 @@
 -- What the blocks of a run tell of the one log that is left.
-use Rattle.std.specs.Prelude.{ℕ, ◌≡◌, ◌≤◌, ◌+◌, List, [], ◌∷◌, ◌++◌, Bool, IfSome, Option, Some, None, ⊤}
+use Rattle.std.specs.Prelude.{ℕ, ◌≡◌, ◌≤◌, ◌+◌, List, [], ◌∷◌, ◌++◌, length, Bool, IfSome, Option, Some, None, ⊤}
 use Rattle.fish_catalog.specs.declared.entry.Entry.{Entry}
+use Rattle.fish_catalog.specs.declared.row.CatRow.{CatRow}
 use Rattle.fish_lanes.specs.Blocks.{AreEnded, NameMarks, TellsBlock, control_items}
 use Rattle.fish_lanes.specs.Outcome.{IsFullIn, LanesSayPlans}
 use Rattle.fish_lanes.specs.Registering.{AreSo, KnowsEach, Registry, after_all}
@@ -65,11 +66,12 @@ AreFullSince earlier (b ∷ blocks) = IsFullSince earlier b × AreFullSince (ear
 
 -- ---- what blocks tell
 
--- what a block of one lane tells besides, where the log has so many numbers before it: its items name no open number, and no lane
--- for which a registration waits; and where one statement is all of the block, its range is all that was asked for of that log
-pub record TellsOneLane (from : ℕ) (x : Lane) : Type 0 where
+-- what a block of one lane tells besides, where the log has so many numbers before it, the rows are these, and this claim had found the
+-- log full, if any: its items name no open number, and no lane for which a registration waits; and where one statement is all of the
+-- block, its range is all that was asked for of that log, and planned by the rows; or its boundary is the log's end
+pub record TellsOneLane (rows : List CatRow) (full : Option Shut) (from : ℕ) (x : Lane) : Type 0 where
   pub none : AllOf NamesNone x.items
-  pub whole : (w : Work) → x.works ≡ w ∷ [] → AllOf (TellsWhole from w) (answers x.items)
+  pub whole : (w : Work) → x.works ≡ w ∷ [] → AllOf (TellsWhole rows full from w) (answers x.items)
 
 -- what a block tells that begins where the log has so many numbers and the registry is this, even one in which a lane
 -- stopped at a fault: its lanes' items are so of the log, and where a statement has no item, neither have those behind it
@@ -78,10 +80,11 @@ pub record TellsPart (v : View) (log : List Entry) (from : ℕ) (r : Registry) (
   pub ends : b.end.to ≡ b.span.to
   pub rises : b.span.from ≤ b.span.to
   pub first : b.span.first ≡ r.version
+  pub many : b.span.lanes ≡ length b.lanes
   pub lanes : TellsBlock v b.span log b.lanes
   pub registers : AreSo b.span.from (b.span.to + 16) r (first_items b.lanes)
   pub ended : AreEnded b.lanes
-  pub alone : (x : Lane) → b.lanes ≡ x ∷ [] → TellsOneLane from x
+  pub alone : (x : Lane) → b.lanes ≡ x ∷ [] → TellsOneLane r.rows b.span.full from x
 
 -- what one tells in which none did: besides, the definitions at each version are those that its first lane's items tell; and by them, and
 -- by the rows behind the block, pieces by an index lie where the index is complete, and none is read one by one that was known to be so

@@ -63,12 +63,12 @@ pub record Leaves (told : Option Files) (text : script.Block) (v u : View) (r s 
   pub numbers : AreNumbered lanes
   pub some : 0 < length lanes
   pub begins : HasEnd v from
-  pub tells : (k : Span) → IsBlockSpan v u end.to k
+  pub tells : (k : Span) → IsBlockSpan v u end.to k → k.lanes ≡ length lanes
       → (k.from ≤ k.to) × Will u (λ x log. TellsBlock x k log lanes)
   pub has : (x : Lane) → slice_get lanes 0 ≡ Some x → HasRegistered v u r s x end
   pub ended : AreEnded lanes
   pub marks : NameMarks u lanes
-  pub alone : (x : Lane) → lanes ≡ x ∷ [] → TellsOneLane from x
+  pub alone : (x : Lane) → lanes ≡ x ∷ [] → TellsOneLane r.catalog v.shut from x
   pub shuts : TellsShutBy v u lanes
   pub plans : LanesSayPlans u (registry_of v r) s.catalog from lanes
 

@@ -1,7 +1,7 @@
 -- The first lane and the others.
-use Rattle.std.proofs.Common.{◌≡◌, [], ◌∷◌, ◌++◌, All, List, Some, get_or, set, slice_get, sym, subst}
-use Rattle.fish_lanes.proofs.Firsts.{alone_first, ended_both, first_acceptable, first_new, first_there, marks_both, others_new}
-use Rattle.fish_lanes.proofs.Firsts.{plans_both, shuts_both, tells_both, vacant_both}
+use Rattle.std.proofs.Common.{◌≡◌, ◌+◌, ◌∙◌, [], ◌∷◌, ◌++◌, All, List, Some, get_or, length, set, slice_get, sym, subst}
+use Rattle.fish_lanes.proofs.Firsts.{alone_first, ended_both, first_acceptable, first_new, first_there, marks_both, others_many}
+use Rattle.fish_lanes.proofs.Firsts.{others_new, plans_both, shuts_both, tells_both, vacant_both}
 use Rattle.fish_lanes.specs.Blocks.{AreEnded, CanGive, HasRegistered, IsNewLane, NameMarks, TellsBlock}
 use Rattle.fish_lanes.specs.Outcome.{AreVacant, TellsAloneBy}
 use Rattle.fish_lanes.specs.Outcome.{LanesSayPlans, TellsShutBy}
@@ -21,8 +21,10 @@ run_lanes-requires-clause-others g c κs bounds =
     (others_new (view c.args.main.now) c.requires.end.0 c.args.lanes.now c.requires.end.1 c.requires.lanes)
 
 pub returns-clause-told : goal.returns-clause-told
-returns-clause-told g c k span =
-    let t = c.run_lanes.ensures.told k span in (
+returns-clause-told g c k span many =
+    let t = c.run_lanes.ensures.told k span
+    (many ∙ subst (λ (z : List Lane). length c.args.lanes.now ≡ length z + 1) (sym c.split_at_mut-first.ensures.back)
+    (others_many c.args.lanes.now c.requires.lanes)) in (
       t.0,
       λ u remains base main none later closed.
           subst (λ (z : List Lane). TellsBlock u k remains.log

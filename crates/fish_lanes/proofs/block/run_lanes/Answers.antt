@@ -91,7 +91,8 @@ returns-clause-alone g c none =
     record {
       closed = controlled.closed (subst IsAlone (sym given) c.requires.end.1.alone);
       only = λ end e wait. only_end (view c.args.main.now) (view c.give_all.new.main) (view c.run_all.new.main)
-          (view c.take_all.new.main) (view c.find_last-bound.new.pass) (view c.settle-to.new.pass) end c.args.first.now.works
+          (view c.take_all.new.main) (view c.find_last-bound.new.pass) (view c.settle-to.new.pass) c.args.registrar.now.catalog end
+          c.args.first.now.works
           c.run_all.new.first.works c.run_all.new.first.items given
           (c.take_all.ensures.taken.none (let e = none_here in omega arith)) c.find_last-bound.ensures.changes
           c.settle-to.ensures.settles c.run_all.ensures.run.works
@@ -99,7 +100,7 @@ returns-clause-alone g c none =
     }
 
 pub returns-clause-told : goal.returns-clause-told
-returns-clause-told g c k span = (
+returns-clause-told g c k span many = (
   within c.args.log.now (view c.args.main.now) (view c.give_all.new.main) (view c.run_all.new.main)
       c.args.registrar.now c.run_all.new.registrar c.args.first.now
       c.run_all.new.first c.args.others.now c.give_all.new.lanes c.run_all.new.others c.take_all.new.lanes
@@ -112,7 +113,7 @@ returns-clause-told g c k span = (
       c.find_last-bound.ensures.changes (taken_alone (view c.run_all.new.main) (view c.take_all.new.main)
       c.run_all.new.others c.take_all.ensures.taken)))
       c.take_all.ensures.lanes c.take_all.auto.lanes c.requires.others.base c.settle-to.ensures.pass.stands c.requires.end.1.marks
-      k span c.requires.can.of.stands,
+      k span many c.requires.can.of.stands,
   tells_first c.args.log.now (view c.args.main.now) (view c.give_all.new.main) (view c.run_all.new.main)
       c.args.registrar.now c.run_all.new.registrar c.args.first.now
       c.run_all.new.first c.args.others.now c.give_all.new.lanes c.run_all.new.others c.take_all.new.lanes
@@ -125,7 +126,7 @@ returns-clause-told g c k span = (
       c.find_last-bound.ensures.changes (taken_alone (view c.run_all.new.main) (view c.take_all.new.main)
       c.run_all.new.others c.take_all.ensures.taken)))
       c.take_all.ensures.lanes c.take_all.auto.lanes c.requires.others.base c.settle-to.ensures.pass.stands c.requires.end.1.marks
-      k span c.requires.can.of.stands,
+      k span many c.requires.can.of.stands,
   tells_others c.args.log.now (view c.args.main.now) (view c.give_all.new.main) (view c.run_all.new.main)
       c.args.registrar.now c.run_all.new.registrar c.args.first.now
       c.run_all.new.first c.args.others.now c.give_all.new.lanes c.run_all.new.others c.take_all.new.lanes
@@ -138,7 +139,7 @@ returns-clause-told g c k span = (
       c.find_last-bound.ensures.changes (taken_alone (view c.run_all.new.main) (view c.take_all.new.main)
       c.run_all.new.others c.take_all.ensures.taken)))
       c.take_all.ensures.lanes c.take_all.auto.lanes c.requires.others.base c.settle-to.ensures.pass.stands c.requires.end.1.marks
-      k span c.requires.can.of.stands c.requires.others.few,
+      k span many c.requires.can.of.stands c.requires.others.few,
 )
 
 pub returns-clause-first_marks : goal.returns-clause-first_marks

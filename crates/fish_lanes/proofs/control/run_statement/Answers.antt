@@ -26,7 +26,7 @@ returns-in-Register-clause-done c =
     (sym c.in-Register.is)
     (control_done v c.args.registrar.now t c.register.new.registrar (work.Register c.in-Register.name c.in-Register.def)
     c.register.result refl c.register.ensures.gains c.register.ensures.shut c.register.ensures.alone
-    c.register.ensures.item c.register.ensures.does)
+    c.register.ensures.tail c.register.ensures.item c.register.ensures.does)
 
 pub returns-in-Register-clause-part : goal.returns-in-Register-clause-part
 returns-in-Register-clause-part c =
@@ -43,7 +43,8 @@ returns-in-Deregister-clause-done c =
     (sym c.in-Deregister.is)
     (control_done v c.args.registrar.now t c.deregister.new.registrar (work.Deregister c.in-Deregister.name)
     c.deregister.result refl c.deregister.ensures.gains c.deregister.ensures.shut
-    (λ alone. end_closed c.in-Deregister.name c.deregister.result c.deregister.ensures.item) c.deregister.ensures.item
+    (λ alone. end_closed c.in-Deregister.name c.deregister.result c.deregister.ensures.item) c.deregister.ensures.tail
+    c.deregister.ensures.item
     c.deregister.ensures.does)
 
 pub returns-in-Deregister-clause-part : goal.returns-in-Deregister-clause-part

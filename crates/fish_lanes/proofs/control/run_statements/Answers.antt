@@ -109,8 +109,9 @@ loop-work-preserved c =
       read = c.run_statement.ensures.defs;
       base = ap (λ (z : Key). z.number) (done.gains.on.learns.about ∙ c.find_boundary.ensures.gains.on.learns.about) ∙ inv.base;
       held = subst (λ (z : List Work × List Item). Held v r t q z.0 z.1) (λ j. (sym next j, sym c.in-Ok-push.ensures.ok j))
-          (held_done v r u s t q (take i works) c.find_boundary.new.items w c.in-Ok.item c.run_statement.ensures.can.of.stands
-          c.requires.base c.find_boundary.ensures.can.knows held done);
+          (held_done v r u s t q (take i works) c.find_boundary.new.items w c.in-Ok.item c.requires.can.of.stands
+          c.run_statement.ensures.can.of.stands c.requires.base c.requires.can.knows c.requires.known
+          c.find_boundary.ensures.can.knows c.run_statement.ensures.can.knows held done);
     }
 
 pub returns-clause-run : goal.returns-clause-run

@@ -1,5 +1,6 @@
 -- A definition ends, and its last version is read.
 use Rattle.std.proofs.Common.{◌≡◌, ◌+◌, ℕ, List, [], ◌∙◌, sym, subst, arith}
+use Rattle.fish_epoch.proofs.Reading.{defs_later}
 use Rattle.fish_ingest.proofs.IngestionStart.{idle_law}
 use Rattle.fish_lanes.proofs.Doings.{changed_here, deregister_so, registry_stays}
 use Rattle.fish_lanes.proofs.Gaining.{gains_both, gains_start}
@@ -108,3 +109,10 @@ returns-in-Some-clause-does c =
       is = registry_stays v t r c.end.new.self c.in-Err.ensures.refused.0 c.in-Err.ensures.refused.1;
       knows = λ h. registry_later v t (registry_of v r) (learns_changes v t c.end.ensures.changes) h;
     }
+
+pub returns-in_ok-read_definitions-in-Ok-clause-tail : goal.returns-in_ok-read_definitions-in-Ok-clause-tail
+returns-in_ok-read_definitions-in-Ok-clause-tail c alone = c.in-Ok.ensures.alone alone
+
+pub read_definitions-requires-clause-defs : goal.read_definitions-requires-clause-defs
+read_definitions-requires-clause-defs c = defs_later (view c.args.pass.now) (view c.end.new.pass) c.args.defs.now.known
+    (learns_changes (view c.args.pass.now) (view c.end.new.pass) c.end.ensures.changes) c.requires.defs

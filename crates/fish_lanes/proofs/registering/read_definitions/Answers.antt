@@ -1,5 +1,5 @@
 -- The version that the control pass knows is found again, and its definitions are read.
-use Rattle.std.proofs.Common.{ap, arith}
+use Rattle.std.proofs.Common.{ap, arith, ◌∙◌}
 use Rattle.fish_epoch.proofs.Reading.{defs_later}
 use Rattle.fish_lanes.proofs.Registrations.{known_all, known_read, scans_reads}
 use Rattle.fish_registry.proofs.Changing.{changes_stays, learns_changes, stays_version}
@@ -43,3 +43,9 @@ returns-clause-read c =
     let read = c.refresh.ensures.reads.version in
     known_all t c.refresh.result c.refresh.new.self c.refresh.ensures.pass.stands c.refresh.ensures.read c.refresh.ensures.version
     (omega arith)
+
+pub returns-clause-tail : goal.returns-clause-tail
+returns-clause-tail c =
+    let stays = stays_version (view c.args.pass.now) (view c.load_version-version.new.pass) c.load_version-version.result
+    c.requires.outside (c.load_version-version.ensures.main c.requires.main) c.load_version-version.ensures.view in
+    ap (λ (z : View). z.tail) c.refresh.ensures.reads.extends.frame ∙ ap (λ (z : View). z.tail) stays.frame

@@ -1,8 +1,9 @@
 -- A registration begins, and what follows is told of it.
 use Rattle.std.proofs.Common.{◌∙◌, sym, subst, ℕ, List, []}
 use Rattle.std.specs.Prelude.{IfOk}
+use Rattle.fish_epoch.proofs.Reading.{defs_later}
 use Rattle.fish_ingest.proofs.IngestionStart.{idle_law}
-use Rattle.fish_lanes.proofs.Doings.{does_begun, ok_then, register_so, registered_here, registry_stays}
+use Rattle.fish_lanes.proofs.Doings.{does_begun, ok_then, register_so, registered_here, registry_stays, tail_before}
 use Rattle.fish_lanes.proofs.Gaining.{gains_both}
 use Rattle.fish_lanes.proofs.Single.{alone_changes}
 use Rattle.fish_lanes.proofs.Registrations.{gains_changes, registry_later}
@@ -65,3 +66,14 @@ returns-in-Some-clause-does c =
 pub returns-in-Ok-clause-alone : goal.returns-in-Ok-clause-alone
 returns-in-Ok-clause-alone c alone =
     c.registered.ensures.alone (alone_changes (view c.args.pass.now) (view c.begin.new.pass) c.begin.ensures.changes alone)
+
+pub returns-in-Ok-clause-tail : goal.returns-in-Ok-clause-tail
+returns-in-Ok-clause-tail c alone =
+    let v = view c.args.pass.now in
+    let u = view c.begin.new.pass in
+    ok_then c.registered.result (λ x h. tail_before v u x c.in-Ok.ensures.begun.tail h)
+    (c.registered.ensures.tail (alone_changes v u c.begin.ensures.changes alone))
+
+pub registered-requires-clause-defs : goal.registered-requires-clause-defs
+registered-requires-clause-defs c = defs_later (view c.args.pass.now) (view c.begin.new.pass) c.args.defs.now.known
+    (learns_changes (view c.args.pass.now) (view c.begin.new.pass) c.begin.ensures.changes) c.requires.defs

@@ -1,7 +1,7 @@
 -- The new definition is read, and its index begins or waits.
 use Rattle.fish_epoch.proofs.Reading.{defs_later}
 use Rattle.fish_lanes.proofs.Registrations.{polls_gain, reads_gain, reads_know, reads_start, tells_at_once, tells_rolling}
-use Rattle.fish_registry.proofs.Changing.{learns_changes}
+use Rattle.fish_registry.proofs.Changing.{learns_changes, same_tail}
 use Rattle.fish_rule.specs.Passes.{view}
 use Rattle.fish_scan.proofs.Answering.{scans_alone}
 use Rattle.fish_lanes.proofs.registering.registered.Goals as goal
@@ -85,3 +85,11 @@ returns-in-NotYet-clause-alone c alone =
     let m = view c.read_definitions.new.pass in
     let only = c.read_definitions.ensures.only in
     elim (c.in-NotYet.ensures.alone (scans_alone v m only alone) (only.outside c.requires.can.start.outside)) [ ]
+
+-- and the index begins at the tail, which no other lane has moved
+pub returns-in-Bound-clause-tail : goal.returns-in-Bound-clause-tail
+returns-in-Bound-clause-tail c alone =
+    let v = view c.args.pass.now in
+    let m = view c.read_definitions.new.pass in
+    same_tail v m c.in-Bound.from c.read_definitions.ensures.tail
+    (c.in-Bound.ensures.begins (scans_alone v m c.read_definitions.ensures.only alone))

@@ -33,6 +33,11 @@ returns-clause-item c =
             ⊎_elim (λ (e : c.settle.result.settled ≡ c.settle.result.count). omega arith)
             (λ (h : HasEnd IsEnd v u c.settle.result.settled c.settle.result.count). let less = h.below in omega arith)
             c.settle.ensures.stops);
-        exact = λ alone. (c.settle.result.count, c.settle.ensures.rests alone, c.settle.ensures.ends alone);
+        exact = λ alone. (
+          c.settle.result.count,
+          c.settle.ensures.rests alone,
+          c.settle.ensures.ends alone,
+          let counted = c.settle.ensures.tail.3 in let more = c.settle.ensures.settles.learns.count in omega arith,
+        );
       };
     }
