@@ -6,6 +6,7 @@ use Rattle.fish_registry.proofs.Knowing.{knows_on}
 use Rattle.fish_registry.specs.Changing.{Changes}
 use Rattle.fish_registry.specs.Knowing.{Knows}
 use Rattle.fish_registry.specs.declared.registrar.Registrar.{Registrar}
+use Rattle.fish_rule.proofs.laws.Learning.{learns_same}
 use Rattle.fish_rule.specs.Passes.{IsPassOf, view}
 use Rattle.fish_rule.specs.SeatSteps.{split_left}
 use Rattle.fish_rule.specs.Views.{Among}
@@ -31,11 +32,11 @@ kept_on top log p q r s h of knows changes = record {
 pub kept_split : (top : ℕ) (log : Log) (p q : Pass) (r : Registrar) → IsKept top log p r → IsPassOf log q
     → view q ≡ split_left (top + 1) (view p) → IsKept (top + 1) log q r
 kept_split top log p q r h of left =
-    let count = ap (λ (z : View). z.learned.count) left in
+    let learns = learns_same (view p) (view q) (ap (λ (z : View). z.about) left) (ap (λ (z : View). z.learned) left) in
     record {
       of = of;
       knows = knows_on (view p) (view q) r (ap (λ (z : View). z.lane) left) (ap (λ (z : View). z.rows) left)
-          (ap (λ (z : View). z.main_words) left) (ap (λ (z : View). z.round) left) (omega arith) h.knows;
+          (ap (λ (z : View). z.main_words) left) (ap (λ (z : View). z.round) left) learns h.knows;
       control = left_controls top (view p) h.control (view q) left;
     }
 

@@ -43,7 +43,7 @@ pub working_stored : (log : Log) (p q : Pass) (r : Registrar) (defs : Defs) → 
 working_stored log p q r defs h ready lane rows main_words round learns = record {
   kept = record {
     of = ready.of;
-    knows = knows_on (view p) (view q) r lane rows main_words round learns.count h.knows;
+    knows = knows_on (view p) (view q) r lane rows main_words round learns h.knows;
     outside = ready.start.outside;
   };
   ready = ready;
@@ -67,7 +67,7 @@ pub kept_scanned : (log : Log) (p q : Pass) (r : Registrar) (defs : Defs) → Is
 kept_scanned log p q r defs h ready only = record {
   of = ready.of;
   knows = knows_on (view p) (view q) r (ap (λ (z : View). z.lane) only.frame) (ap (λ (z : View). z.rows) only.frame)
-      (ap (λ (z : View). z.main_words) only.frame) (ap (λ (z : View). z.round) only.frame) only.learns.count h.knows;
+      (ap (λ (z : View). z.main_words) only.frame) (ap (λ (z : View). z.round) only.frame) only.learns h.knows;
   outside = ready.start.outside;
 }
 
