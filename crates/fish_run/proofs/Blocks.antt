@@ -234,7 +234,10 @@ leaves_of told text v u r s from items lanes end are works many kept begins tell
   marks = marks;
   alone = λ x one.
       let a = alone x one in
-      record { none = a.closed; whole = λ w only. singles_whole v u r.catalog from w (answers x.items) (a.only from begins settled w only) };
+      record {
+        none = a.closed;
+        whole = λ w only. singles_whole v u r.catalog from w (answers x.items) (a.only from begins settled w only);
+      };
   shuts = shuts;
   plans = plans;
 }

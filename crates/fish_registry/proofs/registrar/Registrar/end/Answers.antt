@@ -89,7 +89,8 @@ returns-clause-reached c =
 pub returns-clause-alone : goal.returns-clause-alone
 returns-clause-alone c alone =
     let frame = c.last_version.ensures.stays.frame in
-    same_tail (view c.args.pass.now) (view c.last_version.new.pass) _ (ap (λ (v : View). v.tail) frame) (c.count_tail-to.ensures.alone (record {
+    same_tail (view c.args.pass.now) (view c.last_version.new.pass) _ (ap (λ (v : View). v.tail) frame)
+    (c.count_tail-to.ensures.alone (record {
       main = ap (λ (v : View). v.lane) frame ∙ alone.main;
       all = ap (λ (v : View). v.out) frame ∙ alone.all;
       idle = ap (λ (v : View). v.flight) frame ∙ alone.idle;
