@@ -38,8 +38,7 @@ use Rattle.fish_rule.specs.declared.view.View.{View}
 -- the number of a node that a walk gave may be looked at
 pub given_look : (v : View) (node : Node) → Stands v → IsGiven v node → node.number < v.learned.count → CanLookAt v node.number
 given_look v node s given below = record {
-  above = stored_above v.about s.moment s.rule node.number
-      (given.1 v (learns_self v) s.moment s.rule s.seat s.at).entry.stored;
+  above = stored_above s.rule node.number (given.1 v (learns_self v) s.moment s.rule s.seat s.at).entry.stored;
   below = below;
 }
 
@@ -93,12 +92,12 @@ given_divided v node f s given among number is =
     let found = all_among (IsFound v.about w.count w.dir s.rule.start) f v.learned.found
     (s.rule.facts s.seat v s.at).found among in
     let h = given.1 v (learns_self v) w s.rule s.seat s.at in
-    let e = entry_given v.about w s.rule given.0 node.number node.key node.place node.id h in
+    let e = entry_given s.rule given.0 node.number node.key node.place node.id h in
     let p = e.parts in
-    let line : low (w.dir f.number) ≡ s.rule.start f.number = (region_found v.about w s.rule f found).0.line in
+    let line : low (w.dir f.number) ≡ s.rule.start f.number = (region_found s.rule f found).0.line in
     let same : words_in node.number w 0 ≡ body w.log (s.rule.start f.number) 0 =
     ap (λ (z : ℕ). words_in z w 0) (sym number) ∙ ap (λ (z : ℕ). body w.log z 0) line in
-    let lines = sym (spelled_lines e.spells) ∙ ap lines_of same ∙ lines_found v.about w s.rule f found (no_mark f is) in
+    let lines = sym (spelled_lines e.spells) ∙ ap lines_of same ∙ lines_found s.rule f found (no_mark f is) in
     let within = slice_get_within p.keys node.key e.key e.there in
     let at = sym (get_or_from_slice_get p.keys node.key e.key e.key e.there) in
     record {

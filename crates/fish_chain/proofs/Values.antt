@@ -68,9 +68,9 @@ entry_spelled n c w p key spells there =
     }
 
 -- an entry that a walk gave
-pub entry_given : (k : Key) (w : World) (r : Rule k w) (b n c p id : ℕ) → IsNodeIn b n c p id k w → IsEntryAt n c w
-entry_given k w r b n c p id h =
-    let t = stored_parts k w r n h.entry.stored in
+pub entry_given : {k : Key} {w : World} (r : Rule k w) (b n c p id : ℕ) → IsNodeIn b n c p id k w → IsEntryAt n c w
+entry_given {k} {w} r b n c p id h =
+    let t = stored_parts r n h.entry.stored in
     let counts = h.entry.is.counts in
     let keys = spelled_keys t.1.spells in
     let key = some_element t.0.keys c (omega arith) in
@@ -125,7 +125,7 @@ pub value_said : (v u : View) (node : Node) (value w : Value) (code : ℕ) (byte
 value_said v u node value w code bytes given learns is within code_is bytes_are says x on m r seat at =
     subst (λ (z : Value). HasValue node.number node.key z x.about m) (sym is)
     (says_value node.number node.key value x.about m within
-    (entry_given x.about m r given.0 node.number node.key node.place node.id (given.1 x (learns_both v u x learns on) m r seat at))
+    (entry_given r given.0 node.number node.key node.place node.id (given.1 x (learns_both v u x learns on) m r seat at))
     (subst (λ (z : ℕ × List ℕ). SaysBytes node.number node.key z.0 z.1 x.about m) (λ i. (code_is i, bytes_are i))
     (says x on m r seat at)))
 
@@ -194,9 +194,9 @@ pub word_read : (v : View) (f : Found) (i x : ℕ) → Among f v.learned.found �
 word_read v f i x among words less known u learns w r seat at =
     let k : Key = u.about in
     let found = all_among (IsFound k w.count w.dir r.start) f u.learned.found (r.facts seat u at).found (learns.found f among) in
-    let stands = word_known k w r f i x found less
+    let stands = word_known r f i x found less
     (all_among (IsKnown k w.count w.dir w.log r.start) _ u.learned.known (r.facts seat u at).known (learns.known _ known)) in
-    let line : low (w.dir f.number) ≡ r.start f.number = (region_found k w r f found).0.line in
+    let line : low (w.dir f.number) ≡ r.start f.number = (region_found r f found).0.line in
     ap (λ (z : ℕ). body w.log z i) line ∙ stands
 
 -- the same of a word at a line

@@ -118,7 +118,7 @@ module _ (v u x : View) (ask : Ask) (from to : ℕ) (opens : List ℕ) (range : 
   before n p on asked = ⊎_elim
       (λ (e : to ≡ end_of ask.to range.count). let counted = p.counted in let known = range.known in
       let less : n < end_of ask.to range.count = before_end ask.to range.count n (omega arith) asked.below in omega arith)
-      (λ (mark : TellsMark u to). before_mark x.about c.moment c.rule to n (omega arith)
+      (λ (mark : TellsMark u to). before_mark c.rule to n (omega arith)
       (always_closed u x (λ k w. high (w.dir to) ≡ code Mark) remains learns c mark)
       (always_closed v x (λ k w. IsEntryWord (w.dir n)) remains (learns_both v u x on learns) c p.entry)) range.stops
 
@@ -147,8 +147,8 @@ module _ (v u x : View) (ask : Ask) (from to : ℕ) (opens : List ℕ) (range : 
     apart = λ m n lane f g p q one other at_m at_n.
         always_closed u x (λ k w. IsEntry w m (entry.Stored lane f p) → IsEntry w n (entry.Stored lane g q) → m ≡ n) remains
         learns c (range.apart m n lane f g p q one other)
-        (entry_at x.about c.moment c.rule remains.log base c.log m (entry.Stored lane f p) at_m)
-        (entry_at x.about c.moment c.rule remains.log base c.log n (entry.Stored lane g q) at_n);
+        (entry_at c.rule remains.log base c.log m (entry.Stored lane f p) at_m)
+        (entry_at c.rule remains.log base c.log n (entry.Stored lane g q) at_n);
     behind = λ n above below past. pick n above below past (among_or n opens);
   }
     where
@@ -157,15 +157,15 @@ module _ (v u x : View) (ask : Ask) (from to : ℕ) (opens : List ℕ) (range : 
       pick n above below past (no none) =
           let word = always_closed u x (λ k w. IsEntryWord (w.dir n)) remains learns c
           (range.others (omega arith) n above below none) in
-          let less = within_log x.about c.moment c.rule remains.log base c.log n word in absurd (omega arith)
+          let less = within_log c.rule remains.log base c.log n word in absurd (omega arith)
 
   -- in the moment of the close the entries are what the words spell
   spelled : IsSpelled c.moment from to opens (map selected remains.log)
   spelled n lane form payload above below closed = (
-    λ at. entry_at x.about c.moment c.rule remains.log base c.log n (entry.Stored lane form payload)
+    λ at. entry_at c.rule remains.log base c.log n (entry.Stored lane form payload)
         (get_selected remains.log n lane form payload at),
     λ is. selected_get remains.log n (entry.Stored lane form payload)
-        (entry_in x.about c.moment c.rule remains.log base c.log n (entry.Stored lane form payload) is),
+        (entry_in c.rule remains.log base c.log n (entry.Stored lane form payload) is),
   )
 
   -- and the rows are the selection of them
@@ -286,7 +286,7 @@ module _ (v u : View) (ask : Ask) (zero_is : v.about.number ≡ 0) (on : Learns 
             let more = learns.settled in
             let later = c.later.settled in
             let floor = c.rule.floors c.seat c.last c.at in
-            let whole = settled_within x.about c.moment c.rule remains.log base c.log in
+            let whole = settled_within c.rule remains.log base c.log in
             (let below = i.0 in omega arith, i.1);
       }
 
@@ -306,7 +306,7 @@ module _ (v u : View) (ask : Ask) (zero_is : v.about.number ≡ 0) (on : Learns 
       let more = learns.settled in
       let later = c.later.settled in
       let floor = c.rule.floors c.seat c.last c.at in
-      let whole = settled_within x.about c.moment c.rule remains.log base c.log in
+      let whole = settled_within c.rule remains.log base c.log in
       (omega arith, omega arith, omega arith, λ end e. let a = asked_end ask.to h.range.count h.last end e h.range.within in omega arith)
 
   -- a refusal

@@ -8,7 +8,7 @@ use Rattle.fish_lanes.proofs.Gaining.{marks_same}
 use Rattle.fish_lanes.proofs.Lists.{some_once}
 use Rattle.fish_lanes.proofs.Moments.{Closes, counted_from, ends_behind, few_behind, get_there, learns_same}
 use Rattle.fish_lanes.proofs.Covering.{bounds_before, bounds_in, bounds_read, read_later}
-use Rattle.fish_lanes.proofs.Ends.{given_registry}
+use Rattle.fish_lanes.proofs.Ends.{closes_end, end_knows, given_registry}
 use Rattle.fish_lanes.proofs.Plans.{plans_later}
 use Rattle.fish_lanes.proofs.Registrations.{registry_later}
 use Rattle.fish_lanes.proofs.RowLists.{has_above, owned_number, told_later}
@@ -20,6 +20,7 @@ use Rattle.fish_lanes.specs.Outcome.{LanesSayPlans}
 use Rattle.fish_lanes.specs.Blocks.{TellsFirst}
 use Rattle.fish_lanes.specs.Blocks.{TellsOthers, WereTaken}
 use Rattle.fish_lanes.specs.Closing.{Later, Sure, Will}
+use Rattle.fish_lanes.specs.Course.{AllBack, AllRan, HasFoundEnd}
 use Rattle.fish_lanes.specs.Ending.{HasEnd}
 use Rattle.fish_lanes.specs.Gains.{AreTold, IsMarkAt, IsShutTold}
 use Rattle.fish_lanes.specs.Plans.{AreSoPlans}
@@ -29,6 +30,7 @@ use Rattle.fish_lanes.specs.Running.{HasDone, IsEnded, IsFullItem}
 use Rattle.fish_lanes.specs.Sizes.{TellsClaim}
 use Rattle.fish_lanes.specs.Spans.{IsWithinSpan, Span}
 use Rattle.fish_lanes.specs.Telling.{TellsLane}
+use Rattle.fish_lanes.specs.declared.block.BlockEnd.{BlockEnd}
 use Rattle.fish_lanes.specs.declared.lane.Lane.{Lane}
 use Rattle.fish_lanes.specs.declared.lane.Seated.{Seated}
 use Rattle.fish_report.specs.declared.item.Item.{Item}
@@ -55,22 +57,25 @@ use Rattle.fish_rule.specs.declared.view.Own.{Own}
 use Rattle.fish_rule.specs.declared.view.View.{View}
 use Rattle.fish_walk.specs.Settling.{EndsAt, HasTail}
 
-module _ (log : Log) (v m w : View) (r q : Registrar) (first first' : Lane) (before given done after : List Lane)
-    (has_given : HasGiven v m (length before)) (seated : AreSeated log v before given) (run : HasRunFirst m w r q first first')
-    (are_done : AreDone log given done) (size : length given ≡ length before) (size' : length done ≡ length given) where
+module _ {log : Log} {v w : View} {r q : Registrar} {first first' : Lane} {before done : List Lane}
+    (run : AllRan log v w r q first first' before done) where
+  -- there are as many lanes as before
+  sizes : length done ≡ length before
+  sizes = run.done_size ∙ run.given_size
+
   -- the statements of the lane at a place
-  pub done_at : (i : ℕ) (y z : Lane) → slice_get given i ≡ Some y → slice_get done i ≡ Some z → HasDone log y z
+  pub done_at : (i : ℕ) (y z : Lane) → slice_get run.given i ≡ Some y → slice_get done i ≡ Some z → HasDone log y z
   done_at i y z at_y at_z =
       subst (λ (p : Lane × Lane). HasDone log p.0 p.1)
-      (λ j. (get_or_from_slice_get given i y y at_y j, get_or_from_slice_get done i z y at_z j))
-      (are_done.each i y (slice_get_within given i y at_y))
+      (λ j. (get_or_from_slice_get run.given i y y at_y j, get_or_from_slice_get done i z y at_z j))
+      (run.others_did.each i y (slice_get_within run.given i y at_y))
 
   -- the lane at a place, at each of the times
   record Way (i : ℕ) (z : Lane) : Type 0 where
     pub old : Lane
     pub old_at : slice_get before i ≡ Some old
     pub mid : Lane
-    pub mid_at : slice_get given i ≡ Some mid
+    pub mid_at : slice_get run.given i ≡ Some mid
     pub seat : IsSeated log v i old mid
     pub run_of : HasDone log mid z
     pub same : seat.seat ≡ run_of.before
@@ -78,9 +83,11 @@ module _ (log : Log) (v m w : View) (r q : Registrar) (first first' : Lane) (bef
   way : (i : ℕ) (z : Lane) → slice_get done i ≡ Some z → Way i z
   way i z at =
       let less = slice_get_within done i z at in
+      let size = run.done_size in
+      let same_size = sizes in
       let o = get_there before i (omega arith) in
-      let y = get_there given i (omega arith) in
-      let s = seated i o.0 y.0 o.1 y.1 in
+      let y = get_there run.given i (omega arith) in
+      let s = run.seated i o.0 y.0 o.1 y.1 in
       let d = done_at i y.0 z y.1 at in
       record {
         old = o.0;
@@ -115,19 +122,21 @@ module _ (log : Log) (v m w : View) (r q : Registrar) (first first' : Lane) (bef
       (learns_same v (view p.run_of.before.pass) (way_about i z p) (way_learned i z p)) (way_shut i z p) t)
 
   main_marks : IsShutTold v → IsShutTold w
-  main_marks t = run.controlled.run.gains.marks
-      (marks_same v m (learns_same v m has_given.about has_given.learned) has_given.shut t)
+  main_marks t = run.first_did.controlled.run.gains.marks
+      (marks_same v run.main (learns_same v run.main run.gives.about run.gives.learned) run.gives.shut t)
 
   -- the passes may come back
   pub may_join : AreJoined log w done
   may_join =
-      let g = run.controlled.run.gains in
+      let g = run.first_did.controlled.run.gains in
       record {
-        main = g.on.lane ∙ has_given.main;
+        main = g.on.lane ∙ run.gives.main;
         idle = g.idle;
         outside = g.outside;
-        out_of = λ l n. let b = has_given.out_of l (subst (Among l) g.on.out n) in let q = b.1 in (b.0, omega arith);
-        all_out = λ l above below. subst (Among l) (sym g.on.out) (has_given.all_out l above (omega arith));
+        out_of = λ l n. let b = run.gives.out_of l (subst (Among l) g.on.out n) in let q = b.1 in
+            let same = sizes in (b.0, omega arith);
+        all_out = λ l above below. subst (Among l) (sym g.on.out)
+            (run.gives.all_out l above (let same = sizes in omega arith));
         back = λ i z at. let p = way i z at in done_back log v i p.old p.mid z p.seat p.run_of;
       }
 
@@ -138,69 +147,82 @@ module _ (log : Log) (v m w : View) (r q : Registrar) (first first' : Lane) (bef
   same_works : (i : ℕ) (z : Lane) (p : Way i z) → p.mid.works ≡ p.old.works
   same_works i z p = ap (λ (q : Lane). q.works) p.seat.is
 
-  -- the lanes keep their numbers and statements
-  pub kept_at : WereTaken done after → length after ≡ length done → AreKept before after
-  kept_at were size'' i x y at_x at_y =
-      let less = slice_get_within after i y at_y in
-      let z = get_there done i (omega arith) in
-      let p = way i z.0 z.1 in
-      let w' = were i z.0 y z.1 at_y in
-      let old : p.old ≡ x = some_once p.old x (sym p.old_at ∙ at_x) in (
-        w'.number ∙ p.run_of.number ∙ same_number i z.0 p ∙ ap (λ (q : Lane). q.number) old,
-        w'.works ∙ p.run_of.works ∙ same_works i z.0 p ∙ ap (λ (q : Lane). q.works) old,
-      )
-
-  -- the lanes have no passes any more
-  pub vacant_at : WereTaken done after → length after ≡ length done → AreVacant after
-  vacant_at were size'' i y at_y =
-      let less = slice_get_within after i y at_y in
-      let z = get_there done i (omega arith) in
-      (were i z.0 y z.1 at_y).seat
-
   -- the statements have items, but for those behind a fault
   pub first_ended : IsEnded first'.works first'.items first'.fault
-  first_ended = subst (λ (z : List Work). IsEnded z first'.items first'.fault) (sym run.works) run.controlled.run.ended
+  first_ended = subst (λ (z : List Work). IsEnded z first'.items first'.fault) (sym run.first_did.works) run.first_did.controlled.run.ended
 
-  pub others_ended : WereTaken done after → length after ≡ length done → AreEnded after
-  others_ended were size'' i y at_y =
-      let less = slice_get_within after i y at_y in
-      let z = get_there done i (omega arith) in
-      let p = way i z.0 z.1 in
-      let w' = were i z.0 y z.1 at_y in
-      subst (λ (q : List Work × List Item × LaneFault). IsEnded q.0 q.1 q.2)
-      (λ j. ((sym p.run_of.works ∙ sym w'.works) j, sym w'.items j, sym w'.fault j)) p.run_of.run.ended
+  module _ {u : View} {after : List Lane} (returned : AllBack w u done after) where
+    -- the lane at a place before it gave its pass back
+    ran_at : (i : ℕ) (y : Lane) → slice_get after i ≡ Some y → (z : Lane) × (slice_get done i ≡ Some z)
+    ran_at i y at =
+        let less = slice_get_within after i y at in
+        let size = returned.size in
+        get_there done i (omega arith)
 
-  module _ (u t : View) (to : ℕ) (taken : HasTakenAll w u done (length done)) (settles : Closes u t) (settled : to ≤ t.learned.settled)
-      (count : ℕ) (tail : HasTail t count) (ends : EndsAt t to count) (were : WereTaken done after)
-      (size'' : length after ≡ length done) (zero_is : v.about.number ≡ 0) (stands : Stands t) (known : IsShutTold v) where
+    -- the lanes keep their numbers and statements
+    pub kept_at : AreKept before after
+    kept_at i x y at_x at_y =
+        let z = ran_at i y at_y in
+        let p = way i z.0 z.1 in
+        let w' = returned.taken i z.0 y z.1 at_y in
+        let old : p.old ≡ x = some_once p.old x (sym p.old_at ∙ at_x) in (
+          w'.number ∙ p.run_of.number ∙ same_number i z.0 p ∙ ap (λ (q : Lane). q.number) old,
+          w'.works ∙ p.run_of.works ∙ same_works i z.0 p ∙ ap (λ (q : Lane). q.works) old,
+        )
+
+    -- the lanes have no passes any more
+    pub vacant_at : AreVacant after
+    vacant_at i y at_y =
+        let z = ran_at i y at_y in
+        (returned.taken i z.0 y z.1 at_y).seat
+
+    -- the others' statements have items, but for those behind a fault
+    pub others_ended : AreEnded after
+    others_ended i y at_y =
+        let z = ran_at i y at_y in
+        let p = way i z.0 z.1 in
+        let w' = returned.taken i z.0 y z.1 at_y in
+        subst (λ (q : List Work × List Item × LaneFault). IsEnded q.0 q.1 q.2)
+        (λ j. ((sym p.run_of.works ∙ sym w'.works) j, sym w'.items j, sym w'.fault j)) p.run_of.run.ended
+
+  module _ {u t : View} {kept : Registrar} {after : List Lane} {last : BlockEnd} (returned : AllBack w u done after)
+      (ended : HasFoundEnd u t q kept last) (zero_is : v.about.number ≡ 0) (stands : Stands t) (known : IsShutTold v) where
+    -- the definitions are known at the end
+    knows : Knows t kept
+    knows = end_knows ended.bound t kept ended.settles ended.knows
+
+    -- the last steps store nothing
+    closes : Closes u t
+    closes = closes_end u ended.bound t ended.changes ended.settles
+
     alone : IsAlone u
-    alone = record { main = taken.main; all = none_out w u done taken; idle = taken.idle }
+    alone = record { main = returned.takes.main; all = none_out w u done returned.takes; idle = returned.takes.idle }
 
     start_learns : Learns v w
-    start_learns = learns_both v m w (learns_same v m has_given.about has_given.learned) run.controlled.run.gains.on.learns
+    start_learns = learns_both v run.main w (learns_same v run.main run.gives.about run.gives.learned) run.first_did.controlled.run.gains.on.learns
 
     end_learns : Learns w t
-    end_learns = learns_both w u t taken.learns settles.learns
+    end_learns = learns_both w u t returned.takes.learns closes.learns
 
     pub all_learns : Learns v t
     all_learns = learns_both v w t start_learns end_learns
 
     -- the control pass knows the end
-    pub has_end : HasEnd t to
+    pub has_end : HasEnd t last.to
     has_end = record {
       alone = record {
-        main = settles.lane ∙ alone.main;
-        all = settles.out ∙ alone.all;
-        idle = settles.idle ∙ alone.idle;
+        main = closes.lane ∙ alone.main;
+        all = closes.out ∙ alone.all;
+        idle = closes.idle ∙ alone.idle;
       };
-      outside = settles.epoch ∙ taken.outside;
+      outside = closes.epoch ∙ returned.takes.outside;
       base = ap (λ (z : Key). z.number) all_learns.about ∙ zero_is;
-      settled = settled;
-      count = count;
-      counted = (let e = tail.3 in omega arith);
-      tail = tail;
-      ends = ends;
-      marks = λ s e. shut_told s (taken.shut s (sym settles.shut ∙ e));
+      settled = ended.settled;
+      count = ended.count;
+      counted = (let e = ended.tail.3 in omega arith);
+      tail = ended.tail;
+      ends = ended.ends;
+      marks = λ s e. shut_told s (returned.takes.shut s (sym closes.shut ∙ e));
     }
       where
         shut_told : (s : Shut) → (w.shut ≡ Some s) ⊎ IsShutOfLane done (length done) s → Always t (IsMarkAt s.line s.lines)
@@ -209,7 +231,7 @@ module _ (log : Log) (v m w : View) (r q : Registrar) (first first' : Lane) (bef
             let p = way q.place q.lane q.lane_is in
             let same : q.seat ≡ p.run_of.after = some_once q.seat p.run_of.after (sym q.seat_is ∙ p.run_of.after_is) in
             let learns : Learns (view q.seat.pass) t = learns_both (view q.seat.pass) u t
-            (taken.learned q.place q.lane q.seat q.below q.lane_is q.seat_is) settles.learns in
+            (returned.takes.learned q.place q.lane q.seat q.below q.lane_is q.seat_is) closes.learns in
             always_later (view q.seat.pass) t (IsMarkAt s.line s.lines) learns
             (subst (λ (z : Seated). IsShutTold (view z.pass)) (sym same) (way_marks q.place q.lane p known) s q.shut_is)
 
@@ -227,42 +249,42 @@ module _ (log : Log) (v m w : View) (r q : Registrar) (first first' : Lane) (bef
     )
 
     pub first_marks : AllOf (IsMarkItem t) first'.items
-    first_marks = marks_items w first'.items end_learns (main_marks known) run.controlled.run.full
+    first_marks = marks_items w first'.items end_learns (main_marks known) run.first_did.controlled.run.full
 
     pub others_marks : NameMarks t after
     others_marks i y at =
-        let less = slice_get_within after i y at in
-        let z = get_there done i (omega arith) in
+        let z = ran_at returned i y at in
+        let less = slice_get_within done i z.0 z.1 in
         let p = way i z.0 z.1 in
-        let w' = were i z.0 y z.1 at in
+        let w' = returned.taken i z.0 y z.1 at in
         let s = p.run_of.after in
         let back : Learns (view s.pass) t = learns_both (view s.pass) u t
-        (taken.learned i z.0 s (omega arith) z.1 p.run_of.after_is) settles.learns in
+        (returned.takes.learned i z.0 s (omega arith) z.1 p.run_of.after_is) closes.learns in
         subst (AllOf (IsMarkItem t)) (sym w'.items)
         (marks_items (view s.pass) z.0.items back (way_marks i z.0 p known) p.run_of.run.full)
 
     -- what the items say of plans, by the rows that the registrar keeps
-    pub first_plans : (s : Registrar) → Knows t s → (from : ℕ) → HasEnd v from
-        → AreSoPlans t (registry_of v r) s.catalog from first'.works first'.items
-    first_plans s knows from end =
+    pub first_plans : (from : ℕ) → HasEnd v from
+        → AreSoPlans t (registry_of v r) kept.catalog from first'.works first'.items
+    first_plans from end =
         let low = end.settled in
-        let same : m.learned.settled ≡ v.learned.settled = ap (λ (z : Learned). z.settled) has_given.learned in
-        let said = run.controlled.plans s.catalog from (bounds_before w t s.catalog end_learns (bounds_in t s stands knows))
+        let same : run.main.learned.settled ≡ v.learned.settled = ap (λ (z : Learned). z.settled) run.gives.learned in
+        let said = run.first_did.controlled.plans kept.catalog from (bounds_before w t kept.catalog end_learns (bounds_in t kept stands knows))
         (omega arith) in
-        subst (λ (z : Registry × List Work). AreSoPlans t z.0 s.catalog from z.1 first'.items)
-        (λ j. (given_registry v m r has_given.learned j, sym run.works j))
-        (plans_later w t (registry_of m r) s.catalog from first.works first'.items end_learns said)
+        subst (λ (z : Registry × List Work). AreSoPlans t z.0 kept.catalog from z.1 first'.items)
+        (λ j. (given_registry v run.main r run.gives.learned j, sym run.first_did.works j))
+        (plans_later w t (registry_of run.main r) kept.catalog from first.works first'.items end_learns said)
 
-    pub others_plans : (s : Registrar) → Knows t s → Knows v r → KnowsRegistry v (registry_of v r) → (from : ℕ) → HasEnd v from
-        → LanesSayPlans t (registry_of v r) s.catalog from after
-    others_plans s knows before_ registry from end i y at =
-        let less = slice_get_within after i y at in
-        let z = get_there done i (omega arith) in
+    pub others_plans : Knows v r → KnowsRegistry v (registry_of v r) → (from : ℕ) → HasEnd v from
+        → LanesSayPlans t (registry_of v r) kept.catalog from after
+    others_plans before_ registry from end i y at =
+        let z = ran_at returned i y at in
+        let less = slice_get_within done i z.0 z.1 in
         let p = way i z.0 z.1 in
-        let w' = were i z.0 y z.1 at in
+        let w' = returned.taken i z.0 y z.1 at in
         let e = p.run_of.after in
         let back : Learns (view e.pass) t = learns_both (view e.pass) u t
-        (taken.learned i z.0 e (omega arith) z.1 p.run_of.after_is) settles.learns in
+        (returned.takes.learned i z.0 e (omega arith) z.1 p.run_of.after_is) closes.learns in
         let start = p.run_of.before in
         let learned_is = way_learned i z.0 p in
         let about_is = way_about i z.0 p in
@@ -270,20 +292,20 @@ module _ (log : Log) (v m w : View) (r q : Registrar) (first first' : Lane) (bef
         let low = end.settled in
         let same : (view start.pass).learned.settled ≡ v.learned.settled = ap (λ (x : Learned). x.settled) learned_is in
         let said = p.run_of.plans (registry_of v r) (read_later v (view start.pass) r.catalog learns (bounds_read v r before_))
-        (registry_later v (view start.pass) (registry_of v r) learns registry) s.catalog from
-        (bounds_before (view e.pass) t s.catalog back (bounds_in t s stands knows)) (omega arith) in
-        subst (λ (q : List Work × List Item). AreSoPlans t (registry_of v r) s.catalog from q.0 q.1)
+        (registry_later v (view start.pass) (registry_of v r) learns registry) kept.catalog from
+        (bounds_before (view e.pass) t kept.catalog back (bounds_in t kept stands knows)) (omega arith) in
+        subst (λ (q : List Work × List Item). AreSoPlans t (registry_of v r) kept.catalog from q.0 q.1)
         (λ j. ((sym p.run_of.works ∙ sym w'.works) j, sym w'.items j))
-        (plans_later (view e.pass) t (registry_of v r) s.catalog from p.mid.works z.0.items back said)
+        (plans_later (view e.pass) t (registry_of v r) kept.catalog from p.mid.works z.0.items back said)
 
     -- what shuts the pass did so before, or an item tells of it
     pub shut_by : first'.fault ≡ cause.None → At (λ i x. x.fault ≡ cause.None) after → (c : Shut) → t.shut ≡ Some c
         → (v.shut ≡ Some c) ⊎ (TellsClaim c first'.items ⊎ IsFullIn after c.line c.lines c.end)
     shut_by none nones c e =
         ⊎_elim (λ (k : w.shut ≡ Some c).
-        ⊎_elim (λ (same : m.shut ≡ Some c). inl (sym has_given.shut ∙ same)) (λ (told : TellsClaim c first'.items). inr (inl told))
-        (run.controlled.run.shuts none c k)) (λ (q : IsShutOfLane done (length done) c). lane_shut q)
-        (taken.shut c (sym settles.shut ∙ e))
+        ⊎_elim (λ (same : run.main.shut ≡ Some c). inl (sym run.gives.shut ∙ same)) (λ (told : TellsClaim c first'.items). inr (inl told))
+        (run.first_did.controlled.run.shuts none c k)) (λ (q : IsShutOfLane done (length done) c). lane_shut q)
+        (returned.takes.shut c (sym closes.shut ∙ e))
       where
         lane_shut : IsShutOfLane done (length done) c
             → (v.shut ≡ Some c) ⊎ (TellsClaim c first'.items ⊎ IsFullIn after c.line c.lines c.end)
@@ -291,8 +313,9 @@ module _ (log : Log) (v m w : View) (r q : Registrar) (first first' : Lane) (bef
             let p = way q.place q.lane q.lane_is in
             let same : q.seat ≡ p.run_of.after = some_once q.seat p.run_of.after (sym q.seat_is ∙ p.run_of.after_is) in
             let less = q.below in
+            let size = returned.size in
             let y = get_there after q.place (omega arith) in
-            let w' = were q.place q.lane y.0 q.lane_is y.1 in
+            let w' = returned.taken q.place q.lane y.0 q.lane_is y.1 in
             ⊎_elim (λ (k : (view p.run_of.before.pass).shut ≡ Some c). inl (sym (way_shut q.place q.lane p) ∙ k))
             (λ (k : TellsClaim c q.lane.items). inr (inr (record {
               at = q.place;
@@ -308,15 +331,15 @@ module _ (log : Log) (v m w : View) (r q : Registrar) (first first' : Lane) (bef
 
     -- a record of its own is one of before, one of the first lane's rows, or one of another lane's
     own_cases : (o : Own) → Among o t.own
-        → (Among o v.own) ⊎ ((HasNumber o.number run.controlled.run.rows × (o.lane ≡ 1)) ⊎ IsOfLane done (length done) o)
+        → (Among o v.own) ⊎ ((HasNumber o.number run.first_did.controlled.run.rows × (o.lane ≡ 1)) ⊎ IsOfLane done (length done) o)
     own_cases o n =
-        let g = run.controlled.run.gains in
+        let g = run.first_did.controlled.run.gains in
         ⊎_elim (λ (k : Among o w.own).
-        ⊎_elim (λ (k : Among o m.own). inl (has_given.own o k))
-        (λ (k : Among o (owned m.lane run.controlled.run.rows)).
-        let q = owned_number m.lane o run.controlled.run.rows k in inr (inl (q.0, q.1 ∙ has_given.main)))
-        (among_either o m.own (owned m.lane run.controlled.run.rows) (subst (Among o) g.own k)))
-        (λ (k : IsOfLane done (length done) o). inr (inr k)) (taken.own o (subst (Among o) settles.own n))
+        ⊎_elim (λ (k : Among o run.main.own). inl (run.gives.own o k))
+        (λ (k : Among o (owned run.main.lane run.first_did.controlled.run.rows)).
+        let q = owned_number run.main.lane o run.first_did.controlled.run.rows k in inr (inl (q.0, q.1 ∙ run.gives.main)))
+        (among_either o run.main.own (owned run.main.lane run.first_did.controlled.run.rows) (subst (Among o) g.own k)))
+        (λ (k : IsOfLane done (length done) o). inr (inr k)) (returned.takes.own o (subst (Among o) closes.own n))
 
     -- of another lane it is one of before, or one of the lane's rows
     lane_cases : (i : ℕ) (z : Lane) (p : Way i z) (seat : Seated) (o : Own) → z.seat ≡ Some seat
@@ -336,10 +359,10 @@ module _ (log : Log) (v m w : View) (r q : Registrar) (first first' : Lane) (bef
     is_later = record {
       learns = all_learns;
       gained = λ o n. ⊎_elim (λ (k : Among o v.own). inl k)
-          (λ (k : (HasNumber o.number run.controlled.run.rows × (o.lane ≡ 1)) ⊎ IsOfLane done (length done) o).
-          ⊎_elim (λ (q : HasNumber o.number run.controlled.run.rows × (o.lane ≡ 1)).
-          let up = has_above o.number m.learned.count w.learned.count run.controlled.run.rows run.controlled.run.gains.ascends q.0 in
-          let same : m.learned.count ≡ v.learned.count = ap (λ (z : Learned). z.count) has_given.learned in
+          (λ (k : (HasNumber o.number run.first_did.controlled.run.rows × (o.lane ≡ 1)) ⊎ IsOfLane done (length done) o).
+          ⊎_elim (λ (q : HasNumber o.number run.first_did.controlled.run.rows × (o.lane ≡ 1)).
+          let up = has_above o.number run.main.learned.count w.learned.count run.first_did.controlled.run.rows run.first_did.controlled.run.gains.ascends q.0 in
+          let same : run.main.learned.count ≡ v.learned.count = ap (λ (z : Learned). z.count) run.gives.learned in
           inr (omega arith)) (λ (q : IsOfLane done (length done) o). of_lane o q) k) (own_cases o n);
     }
       where
@@ -355,7 +378,7 @@ module _ (log : Log) (v m w : View) (r q : Registrar) (first first' : Lane) (bef
 
     -- what a lane's items tell of its rows they tell of the rows that the log has of it
     tells_rows : (k : Span) (s : View) (number : ℕ) (rows : List LaneRow) (works : List Work) (items : List Item)
-        → Learns s t → 1 ≤ number → number ≤ 16 → k.to ≡ to → k.from ≤ k.to → k.from ≤ v.learned.count
+        → Learns s t → 1 ≤ number → number ≤ 16 → k.to ≡ last.to → k.from ≤ k.to → k.from ≤ v.learned.count
         → Ascends v.learned.count rows s.learned.count → AreTold s number rows
         → ((o : Own) → Among o t.own → o.lane ≡ number → (o.number < k.from) ⊎ HasNumber o.number rows)
         → Sure s (λ y l. TellsLane y k l rows works items)
@@ -367,16 +390,16 @@ module _ (log : Log) (v m w : View) (r q : Registrar) (first first' : Lane) (bef
         subst (λ (z : List LaneRow). TellsLane y k remains.log z works items) (sym exact)
         (sure_later s t (λ y l. TellsLane y k l rows works items) learns sure y remains base later.learns c)
 
-    module _ (k : Span) (span : IsBlockSpan v t to k) (many : k.lanes ≡ length before + 1) (stood : Stands v) where
-      version_given : m.learned.version ≡ v.learned.version
-      version_given = ap (λ (z : Learned). z.version) has_given.learned
+    module _ (k : Span) (span : IsBlockSpan v t last.to k) (many : k.lanes ≡ length before + 1) (stood : Stands v) where
+      version_given : run.main.learned.version ≡ v.learned.version
+      version_given = ap (λ (z : Learned). z.version) run.gives.learned
 
       pub within : k.from ≤ k.to
       within =
           let a = span.begins.settled in
           let b = all_learns.settled in
           let e = span.ends in
-          let less : k.from ≤ to = ends_behind t to k.from stands has_end (omega arith) in
+          let less : k.from ≤ last.to = ends_behind t last.to k.from stands has_end (omega arith) in
           omega arith
 
       counted : k.from ≤ v.learned.count
@@ -388,9 +411,9 @@ module _ (log : Log) (v m w : View) (r q : Registrar) (first first' : Lane) (bef
           let count : s.learned.count ≡ v.learned.count = ap (λ (z : Learned). z.count) same in
           let settled_is : s.learned.settled ≡ v.learned.settled = ap (λ (z : Learned). z.settled) same in
           let version : s.learned.version ≡ v.learned.version = ap (λ (z : Learned). z.version) same in
-          let few = few_behind t to stands has_end in
+          let few = few_behind t last.to stands has_end in
           let first = span.first in
-          let last = span.last in
+          let last_ = span.last in
           let ends_at = span.ends in
           let known = counted in
           let settled_v = span.begins.settled in
@@ -406,19 +429,19 @@ module _ (log : Log) (v m w : View) (r q : Registrar) (first first' : Lane) (bef
           }
 
       -- the control pass is alone where there is no other lane
-      main_alone : k.lanes ≡ 1 → IsAlone m
-      main_alone one = subst IsAlone (sym (has_given.none (omega arith))) span.begins.alone
+      main_alone : k.lanes ≡ 1 → IsAlone run.main
+      main_alone one = subst IsAlone (sym (run.gives.none (omega arith))) span.begins.alone
 
       pub tells_first : Will t (TellsFirst k first')
       tells_first =
-          let run_first = run.controlled.run in
+          let run_first = run.first_did.controlled.run in
           let g = run_first.gains in
-          let same : m.learned.count ≡ v.learned.count = ap (λ (z : Learned). z.count) has_given.learned in
+          let same : run.main.learned.count ≡ v.learned.count = ap (λ (z : Learned). z.count) run.gives.learned in
           subst (λ (z : List Work). Will t (λ y l. TellsLane y k l (rows_of_lane l k.from k.to 1) z first'.items))
-          (sym run.works)
+          (sym run.first_did.works)
           (tells_rows k w 1 run_first.rows first.works first'.items end_learns (omega arith) (omega arith) span.ends within counted
           (subst (λ (z : ℕ). Ascends z run_first.rows w.learned.count) same g.ascends)
-          (subst (λ (z : ℕ). AreTold w z run_first.rows) has_given.main g.told)
+          (subst (λ (z : ℕ). AreTold w z run_first.rows) run.gives.main g.told)
           (λ o n lane. ⊎_elim (λ (h : Among o v.own). inl (own_before v k.from o stood span.begins h))
           (λ (h : (HasNumber o.number run_first.rows × (o.lane ≡ 1)) ⊎ IsOfLane done (length done) o).
           ⊎_elim (λ (i : HasNumber o.number run_first.rows × (o.lane ≡ 1)). inr i.0)
@@ -427,15 +450,15 @@ module _ (log : Log) (v m w : View) (r q : Registrar) (first first' : Lane) (bef
           ⊎_elim (λ (j : Among o v.own × (o.lane ≡ i.place + 2)). let e = j.1 in omega arith)
           (λ (j : HasNumber o.number p.run_of.run.rows × (o.lane ≡ i.place + 2)). let e = j.1 in omega arith)
           (lane_cases i.place i.lane p i.seat o i.seat_is i.among))) h) (own_cases o n))
-          (run_first.tells k (lane_within m w has_given.learned end_learns main_alone) (span.full ∙ sym has_given.shut)))
+          (run_first.tells k (lane_within run.main w run.gives.learned end_learns main_alone) (span.full ∙ sym run.gives.shut)))
 
       -- what another lane has among the records of its number
       others_all : (i : ℕ) (z : Lane) (at : slice_get done i ≡ Some z) (p : Way i z) (o : Own)
           → Among o t.own → o.lane ≡ i + 2 → (o.number < k.from) ⊎ HasNumber o.number p.run_of.run.rows
       others_all i z at p o n lane =
           ⊎_elim (λ (h : Among o v.own). inl (own_before v k.from o stood span.begins h))
-          (λ (h : (HasNumber o.number run.controlled.run.rows × (o.lane ≡ 1)) ⊎ IsOfLane done (length done) o).
-          ⊎_elim (λ (q : HasNumber o.number run.controlled.run.rows × (o.lane ≡ 1)). let e = q.1 in absurd (omega arith))
+          (λ (h : (HasNumber o.number run.first_did.controlled.run.rows × (o.lane ≡ 1)) ⊎ IsOfLane done (length done) o).
+          ⊎_elim (λ (q : HasNumber o.number run.first_did.controlled.run.rows × (o.lane ≡ 1)). let e = q.1 in absurd (omega arith))
           (λ (q : IsOfLane done (length done) o). here q (ℕ_discrete q.place i)) h) (own_cases o n)
         where
           here : (q : IsOfLane done (length done) o) → Dec (q.place ≡ i)
@@ -453,17 +476,18 @@ module _ (log : Log) (v m w : View) (r q : Registrar) (first first' : Lane) (bef
 
       pub tells_others : length before < 16 → Will t (TellsOthers k after)
       tells_others few x remains base main none later c i y at =
-          let less = slice_get_within after i y at in
-          let z = get_there done i (omega arith) in
+          let size = sizes in
+          let z = ran_at returned i y at in
+          let less = slice_get_within done i z.0 z.1 in
           let p = way i z.0 z.1 in
           let s = p.run_of.after in
           let g = p.run_of.run.gains in
-          let w' = were i z.0 y z.1 at in
+          let w' = returned.taken i z.0 y z.1 at in
           let lane = way_lane i z.0 p in
           let same : (view p.run_of.before.pass).learned.count ≡ v.learned.count =
           ap (λ (x : Learned). x.count) (way_learned i z.0 p) in
           let back : Learns (view s.pass) t = learns_both (view s.pass) u t
-          (taken.learned i z.0 s (omega arith) z.1 p.run_of.after_is) settles.learns in
+          (returned.takes.learned i z.0 s (omega arith) z.1 p.run_of.after_is) closes.learns in
           subst (λ (q : List Work × List Item). TellsLane x k remains.log (rows_of_lane remains.log k.from k.to (i + 2)) q.0 q.1)
           (λ j. ((sym p.run_of.works ∙ sym w'.works) j, sym w'.items j))
           (tells_rows k (view s.pass) (i + 2) p.run_of.run.rows p.mid.works z.0.items back (omega arith) (omega arith) span.ends

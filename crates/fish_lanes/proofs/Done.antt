@@ -209,7 +209,7 @@ module _ (v u t : View) (works : List Work) (items : List Item) (s : Span) (base
         let below = row_below u.learned.count v.learned.count n h.rows h.gains.ascends has in
         ⊎_elim (λ (all : f.count ≡ e.0). omega arith)
         (λ (mark : (f.count < e.0) × TellsMark t f.count).
-        before_mark y.about c.moment c.rule f.count n (omega arith)
+        before_mark c.rule f.count n (omega arith)
         (always_closed t y (λ k w. high (w.dir f.count) ≡ code Mark) remains l c mark.1)
         (always_closed u y (λ k w. IsEntryWord (w.dir n)) remains (learns_both u t y on l) c
         (row_published u v.lane v.learned.count u.learned.count n h.rows h.gains.told h.gains.ascends (omega arith) has).entry)) e.2;

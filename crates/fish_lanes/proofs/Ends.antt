@@ -10,9 +10,11 @@ use Rattle.fish_lanes.proofs.Lanes.{none_out}
 use Rattle.fish_lanes.proofs.Registrations.{knows_kept, registry_later, registry_same}
 use Rattle.fish_lanes.specs.Blocks.{HasGiven, HasRegistered, HasTakenAll, IsBlockSpan}
 use Rattle.fish_lanes.specs.Controlling.{HasControlled, IsFound}
+use Rattle.fish_lanes.specs.Course.{HasFoundEnd, HasRunLanes}
 use Rattle.fish_lanes.specs.Registering.{AreSo, IsSo, KnowsEach, KnowsRegistry, Registry, after, after_all, registry_of}
 use Rattle.fish_lanes.specs.Registering.{waiting_id}
 use Rattle.fish_lanes.specs.Spans.{Span}
+use Rattle.fish_lanes.specs.declared.block.BlockEnd.{BlockEnd}
 use Rattle.fish_lanes.specs.declared.block.Boundary.{Boundary}
 use Rattle.fish_lanes.specs.declared.lane.Lane.{Lane}
 use Rattle.fish_lanes.specs.declared.work.LaneFault.TheVariants as cause
@@ -26,6 +28,7 @@ use Rattle.fish_rule.specs.Logs.{Learns}
 use Rattle.fish_rule.specs.LoadSteps.{IsAlone}
 use Rattle.fish_rule.specs.Registry.{KnowsDefinitions}
 use Rattle.fish_rule.specs.Table.{Stands}
+use Rattle.fish_rule.specs.declared.table.Log.{Log}
 use Rattle.fish_rule.specs.declared.view.Key.{Key}
 use Rattle.fish_rule.specs.declared.view.Learned.{Learned}
 use Rattle.fish_rule.specs.declared.view.View.{View}
@@ -86,78 +89,89 @@ end_start p t settles can = record {
 
 -- ---- the definitions
 
-module _ (v m w u p t : View) (r q s : Registrar) (first first' : Lane) (to : ℕ)
-    (given : m.learned ≡ v.learned) (controlled : HasControlled m w r q first.works first'.items first'.fault)
-    (sw : Stands w) (su : Stands u) (sp : Stands p) (st : Stands t) (kw : Knows w q) (ku : Knows u q) (kp : Knows p s) (kt : Knows t s)
-    (back : Learns w u) (changes : Changes u p) (settles : OnlySettles p t) (unset : s.waiting ≡ None)
-    (near : (k : Span) → IsBlockSpan v t to k → (k.from ≤ v.learned.count) × (t.learned.count ≤ k.to + 16)) where
-  same_start : registry_of m r ≡ registry_of v r
-  same_start = given_registry v m r given
+module _ {log : Log} {v u t : View} {r q s : Registrar} {first first' : Lane} {before after : List Lane} {end : BlockEnd}
+    (lanes : HasRunLanes log v u r q first first' before after) (ended : HasFoundEnd u t q s end)
+    (su : Stands u) (ku : Knows u q) (st : Stands t)
+    (near : (k : Span) → IsBlockSpan v t end.to k → (k.from ≤ v.learned.count) × (t.learned.count ≤ k.to + 16)) where
+  controlled : HasControlled lanes.run.main lanes.ran r q first.works first'.items first'.fault
+  controlled = lanes.run.first_did.controlled
 
-  same_taken : registry_of u q ≡ registry_of w q
-  same_taken = registry_same w u q q sw su back kw ku q.catalog refl refl refl
+  -- the pass that did the first lane's statements knew what the block began with, and what it knew then it knows at the end
+  same_start : registry_of lanes.run.main r ≡ registry_of v r
+  same_start = given_registry v lanes.run.main r lanes.run.gives.learned
 
-  same_end : registry_of t s ≡ registry_of p s
-  same_end = registry_same p t s s sp st settles.learns kp kt s.catalog refl refl refl
+  same_count : lanes.run.main.learned.count ≡ v.learned.count
+  same_count = ap (λ (z : Learned). z.count) lanes.run.gives.learned
 
-  learns_w : Learns w t
-  learns_w = learns_both w u t back (learns_both u p t (learns_changes u p changes) settles.learns)
+  same_taken : registry_of u q ≡ registry_of lanes.ran q
+  same_taken = registry_same lanes.ran u q q lanes.run.stands su lanes.back.takes.learns lanes.run.knows ku q.catalog refl refl refl
 
-  learns_p : Learns p t
-  learns_p = settles.learns
+  same_end : registry_of t s ≡ registry_of ended.bound s
+  same_end = registry_same ended.bound t s s ended.stands st ended.settles.learns ended.knows
+      (end_knows ended.bound t s ended.settles ended.knows) s.catalog refl refl refl
 
-  so_items : (k : Span) → IsBlockSpan v t to k → AreSo k.from (k.to + 16) (registry_of v r) first'.items
+  learns_ran : Learns lanes.ran t
+  learns_ran = learns_both lanes.ran u t lanes.back.takes.learns
+      (learns_both u ended.bound t (learns_changes u ended.bound ended.changes) ended.settles.learns)
+
+  so_items : (k : Span) → IsBlockSpan v t end.to k → AreSo k.from (k.to + 16) (registry_of v r) first'.items
   so_items k span =
       let n = near k span in
       let low = n.0 in
       let high = n.1 in
-      let more = learns_w.count in
-      let same : m.learned.count ≡ v.learned.count = ap (λ (z : Learned). z.count) given in
-      are_so_wide m.learned.count w.learned.count k.from (k.to + 16) (registry_of v r) first'.items (omega arith) (omega arith)
-      (subst (λ (z : Registry). AreSo m.learned.count w.learned.count z first'.items) same_start controlled.so)
+      let more = learns_ran.count in
+      let same = same_count in
+      are_so_wide lanes.run.main.learned.count lanes.ran.learned.count k.from (k.to + 16) (registry_of v r) first'.items
+      (omega arith) (omega arith)
+      (subst (λ (z : Registry). AreSo lanes.run.main.learned.count lanes.ran.learned.count z first'.items) same_start controlled.so)
 
   -- behind the items
   behind_items : first'.fault ≡ cause.None → registry_of u q ≡ after_all (registry_of v r) first'.items
   behind_items none = same_taken ∙ controlled.is none ∙ ap (λ (z : Registry). after_all z first'.items) same_start
 
-  known_items : first'.fault ≡ cause.None → KnowsEach w (registry_of v r) first'.items
-  known_items none = subst (λ (z : Registry). KnowsEach w z first'.items) same_start (controlled.each none)
+  known_items : first'.fault ≡ cause.None → KnowsEach lanes.ran (registry_of v r) first'.items
+  known_items none = subst (λ (z : Registry). KnowsEach lanes.ran z first'.items) same_start (controlled.each none)
 
-  -- the definitions are those that the items tell
-  pub registered_end : (bound : Option Boundary) → IsFound u q p s bound
-      → HasRegistered v t r s first' (record { to = to; bound = bound })
-  registered_end None found = record {
+  -- the definitions are those that the items tell, and the boundary that was found, if one was
+  told_with : (bound : Option Boundary) → IsFound u q ended.bound s bound
+      → HasRegistered v t r s first' (record { to = end.to; bound = bound })
+  told_with None found = record {
     so = so_items;
     whole = λ none k span. subst (AreSo k.from (k.to + 16) (registry_of v r)) (sym (append-nil first'.items)) (so_items k span);
     is = λ none. same_end ∙ found ∙ behind_items none ∙ ap (after_all (registry_of v r)) (sym (append-nil first'.items));
     each = λ none. subst (KnowsEach t (registry_of v r)) (sym (append-nil first'.items))
-        (each_later w t (registry_of v r) first'.items learns_w (known_items none));
-    settled = unset;
+        (each_later lanes.ran t (registry_of v r) first'.items learns_ran (known_items none));
+    settled = ended.unset;
   }
-  registered_end (Some b) found = record {
+  told_with (Some b) found = record {
     so = so_items;
     whole = λ none k span.
         let n = near k span in
         let low = n.0 in
         let high = n.1 in
-        let same : m.learned.count ≡ v.learned.count = ap (λ (z : Learned). z.count) given in
+        let same = same_count in
         let gained = controlled.run.gains.on.learns.count in
-        let more = back.count in
-        let more_p = settles.learns.count in
+        let more = lanes.back.takes.learns.count in
+        let more_bound = ended.settles.learns.count in
         so_more k.from (k.to + 16) (registry_of v r) first'.items (item.Bound b.id b.from) (so_items k span)
-        (so_wide u.learned.count p.learned.count k.from (k.to + 16) (after_all (registry_of v r) first'.items)
+        (so_wide u.learned.count ended.bound.learned.count k.from (k.to + 16) (after_all (registry_of v r) first'.items)
         (item.Bound b.id b.from) (omega arith) (omega arith)
-        (subst (λ (z : Registry). IsSo u.learned.count p.learned.count z (item.Bound b.id b.from)) (behind_items none) found.so));
+        (subst (λ (z : Registry). IsSo u.learned.count ended.bound.learned.count z (item.Bound b.id b.from)) (behind_items none)
+        found.so));
     is = λ none. same_end ∙ found.is ∙ ap (λ (z : Registry). after z (item.Bound b.id b.from)) (behind_items none)
         ∙ sym (after_more (registry_of v r) first'.items (item.Bound b.id b.from));
     each = λ none.
         let known_u : KnowsRegistry u (registry_of u q) =
         subst (KnowsRegistry u) (sym (behind_items none))
-        (each_last u (registry_of v r) first'.items (each_later w u (registry_of v r) first'.items back (known_items none))) in
+        (each_last u (registry_of v r) first'.items
+        (each_later lanes.ran u (registry_of v r) first'.items lanes.back.takes.learns (known_items none))) in
         each_more t (registry_of v r) first'.items (item.Bound b.id b.from)
-        (each_later w t (registry_of v r) first'.items learns_w (known_items none))
+        (each_later lanes.ran t (registry_of v r) first'.items learns_ran (known_items none))
         (subst (λ (z : Registry). KnowsRegistry t (after z (item.Bound b.id b.from))) (behind_items none)
-        (registry_later p t (after (registry_of u q) (item.Bound b.id b.from)) learns_p
+        (registry_later ended.bound t (after (registry_of u q) (item.Bound b.id b.from)) ended.settles.learns
         (found.knows known_u)));
-    settled = unset;
+    settled = ended.unset;
   }
+
+  pub registered_end : HasRegistered v t r s first' end
+  registered_end = told_with end.bound ended.found

@@ -39,52 +39,52 @@ named_at v u known ask place version is named = record {
 
 module _ (v u : View) (r : Registry) (rows : List CatRow) (start : ℕ) (stands : Stands u) (on : Learns v u)
     (read : AreReadBounds v r.rows) (registry : KnowsRegistry v r) (bounds : AreBoundsIn u rows) (low : start ≤ v.learned.settled)
-    where
-  -- a refusal
-  refused_so : (ask : Ask) (version first last : ℕ) → IsRefusedAt v u ask version (cause.NotCovered first last)
-      → TellsUncovered u r.rows rows ask first last version
-  unfolding named_at
-  refused_so ask version first last f =
-      let h = f.refused.1 in
-      let named = h.asked.named in
-      record {
-        named = named_at v u f.known ask h.place version f.version_is named;
-        none = gap_so v u r.rows rows _ _ h.first h.settled h.last h.plan first last on read
-            (are_listed v u r f.known ask h.place stands on registry named) bounds h.covered h.gap;
-      }
+  where
+    -- a refusal
+    refused_so : (ask : Ask) (version first last : ℕ) → IsRefusedAt v u ask version (cause.NotCovered first last)
+        → TellsUncovered u r.rows rows ask first last version
+    unfolding named_at
+    refused_so ask version first last f =
+        let h = f.refused.1 in
+        let named = h.asked.named in
+        record {
+          named = named_at v u f.known ask h.place version f.version_is named;
+          none = gap_so v u r.rows rows _ _ h.first h.settled h.last h.plan first last on read
+              (are_listed v u r f.known ask h.place stands on registry named) bounds h.covered h.gap;
+        }
 
-  scan_refused_so : (ask : Ask) (version : ℕ) (why : ScanCause) → IsRefusedAt v u ask version why
-      → TellsPlansOf u r.rows rows start ask (item.ScanRefused ask.name version why)
-  scan_refused_so ask version (cause.NotCovered first last) f = refused_so ask version first last f
-  scan_refused_so ask version cause.UnknownName f = tt
-  scan_refused_so ask version (cause.EmptyRange first last) f = tt
+    scan_refused_so : (ask : Ask) (version : ℕ) (why : ScanCause) → IsRefusedAt v u ask version why
+        → TellsPlansOf u r.rows rows start ask (item.ScanRefused ask.name version why)
+    scan_refused_so ask version (cause.NotCovered first last) f = refused_so ask version first last f
+    scan_refused_so ask version cause.UnknownName f = tt
+    scan_refused_so ask version (cause.EmptyRange first last) f = tt
 
-  explain_refused_so : (ask : Ask) (version : ℕ) (why : ScanCause) → IsRefusedAt v u ask version why
-      → TellsPlansOf u r.rows rows start ask (item.ExplainRefused ask.name version why)
-  explain_refused_so ask version (cause.NotCovered first last) f = refused_so ask version first last f
-  explain_refused_so ask version cause.UnknownName f = tt
-  explain_refused_so ask version (cause.EmptyRange first last) f = tt
+    explain_refused_so : (ask : Ask) (version : ℕ) (why : ScanCause) → IsRefusedAt v u ask version why
+        → TellsPlansOf u r.rows rows start ask (item.ExplainRefused ask.name version why)
+    explain_refused_so ask version (cause.NotCovered first last) f = refused_so ask version first last f
+    explain_refused_so ask version cause.UnknownName f = tt
+    explain_refused_so ask version (cause.EmptyRange first last) f = tt
 
-  -- an item that fits its statement
-  pub fit_so : (w : Work) (x : Item) → IsFit v u w x → TellsPlans u r.rows rows start w x
-  unfolding named_at
-  fit_so (work.Register name def) x f = tt
-  fit_so (work.Deregister name) x f = tt
-  fit_so (work.Ingest form header name file) x f = tt
-  fit_so (work.Scan ask) x (inl f) = subst (TellsPlansOf u r.rows rows start ask) (sym f.is) tt
-  fit_so (work.Scan ask) x (inr f) =
-      subst (TellsPlansOf u r.rows rows start ask) (sym f.is) (scan_refused_so ask f.version f.why f.fits)
-  fit_so (work.Explain ask) x (inl f) =
-      let e = f.fits.explained.planned in
-      let least = e.least in
-      subst (TellsPlansOf u r.rows rows start ask) (sym f.is) (record {
-        named = named_at v u f.fits.known ask e.place f.version f.fits.version_is e.asked.named;
-        plan_is = plan_so v u r.rows rows _ _ ask.how f.from e.settled f.to f.plan start on read
-            (are_listed v u r f.fits.known ask e.place stands on registry e.asked.named) bounds (omega arith) e.plan_is;
-      })
-  fit_so (work.Explain ask) x (inr f) =
-      subst (TellsPlansOf u r.rows rows start ask) (sym f.is) (explain_refused_so ask f.version f.why f.fits)
-  fit_so work.Checkpoint x f = tt
+    -- an item that fits its statement
+    pub fit_so : (w : Work) (x : Item) → IsFit v u w x → TellsPlans u r.rows rows start w x
+    unfolding named_at
+    fit_so (work.Register name def) x f = tt
+    fit_so (work.Deregister name) x f = tt
+    fit_so (work.Ingest form header name file) x f = tt
+    fit_so (work.Scan ask) x (inl f) = subst (TellsPlansOf u r.rows rows start ask) (sym f.is) tt
+    fit_so (work.Scan ask) x (inr f) =
+        subst (TellsPlansOf u r.rows rows start ask) (sym f.is) (scan_refused_so ask f.version f.why f.fits)
+    fit_so (work.Explain ask) x (inl f) =
+        let e = f.fits.explained.planned in
+        let least = e.least in
+        subst (TellsPlansOf u r.rows rows start ask) (sym f.is) (record {
+          named = named_at v u f.fits.known ask e.place f.version f.fits.version_is e.asked.named;
+          plan_is = plan_so v u r.rows rows _ _ ask.how f.from e.settled f.to f.plan start on read
+              (are_listed v u r f.fits.known ask e.place stands on registry e.asked.named) bounds (omega arith) e.plan_is;
+        })
+    fit_so (work.Explain ask) x (inr f) =
+        subst (TellsPlansOf u r.rows rows start ask) (sym f.is) (explain_refused_so ask f.version f.why f.fits)
+    fit_so work.Checkpoint x f = tt
 
 -- ---- a view that knows more
 

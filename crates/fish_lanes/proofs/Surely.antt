@@ -56,7 +56,7 @@ sure_will v Q all u remains base main none later = all u remains base later.lear
 -- an entry that is told stands in the log
 pub sure_entry : (v : View) (n : ℕ) (e : Entry) → Tells v n e → Sure v (λ x log. slice_get log n ≡ Some e)
 sure_entry v n e tells u remains base learns c =
-    entry_in u.about c.moment c.rule remains.log base c.log n e
+    entry_in c.rule remains.log base c.log n e
     (always_closed v u (λ k w. IsEntry w n e) remains learns c tells)
 
 -- and rows that are told
@@ -77,7 +77,7 @@ sure_settled v n less u remains base learns c =
     let floor = c.rule.floors c.seat c.last c.at in
     let a = learns.settled in
     let b = c.later.settled in
-    let d = settled_within u.about c.moment c.rule remains.log base c.log in
+    let d = settled_within c.rule remains.log base c.log in
     omega arith
 
 -- the log ends where the pass knows that it does
@@ -89,12 +89,12 @@ closed_length v to remains h c =
     subst (Rests c.moment.count c.moment.line) t.1 c.rests in
     let count : high t.0 ≡ c.moment.count = rests.0 in
     let same : high t.0 ≡ h.count = t.2 in
-    let few = ends_count v.about c.moment c.rule remains.log h.base c.log in
+    let few = ends_count c.rule remains.log h.base c.log in
     ⊎_elim (λ (e : to ≡ h.count). omega arith)
     (λ (m : (to < h.count) × TellsMark v to).
     let mark : high (c.moment.dir to) ≡ code Mark =
     always_closed v v (λ k w. high (w.dir to) ≡ code Mark) remains (learns_self v) c m.1 in
-    let less = ends_mark v.about c.moment c.rule remains.log h.base c.log to mark in
+    let less = ends_mark c.rule remains.log h.base c.log to mark in
     omega arith) h.ends
 
 -- ---- a pass that knows the end
@@ -114,7 +114,7 @@ own_before v to o s h m =
     let base = h.base in
     ⊎_elim (λ (e : to ≡ h.count). omega arith)
     (λ (m : (to < h.count) × TellsMark v to).
-    before_mark v.about w r to o.number (omega arith) (m.1 v (learns_self v) w r s.seat s.at)
+    before_mark r to o.number (omega arith) (m.1 v (learns_self v) w r s.seat s.at)
     (record {
       published = published (w.dir o.number) Stored by.stored;
       unmarked = λ bad. let st = by.stored in omega arith;
@@ -126,7 +126,7 @@ told_before v to n e s h tells =
     let w : World = s.moment in
     let r = s.rule in
     let word = entry_word w n e (tells v (learns_self v) w r s.seat s.at) in
-    let below = claimed v.about w r n word.published in
+    let below = claimed r n word.published in
     let t = h.tail in
     let rests : Rests w.count w.line (Some (record { number = high t.0; line = low t.0 })) =
     subst (Rests w.count w.line) t.1 (r.tails s.seat v s.at h.alone.main h.alone.all) in
@@ -135,7 +135,7 @@ told_before v to n e s h tells =
     let base = h.base in
     ⊎_elim (λ (e : to ≡ h.count). omega arith)
     (λ (m : (to < h.count) × TellsMark v to).
-    before_mark v.about w r to n (omega arith) (m.1 v (learns_self v) w r s.seat s.at) word) h.ends
+    before_mark r to n (omega arith) (m.1 v (learns_self v) w r s.seat s.at) word) h.ends
 
 -- ---- the rows of a lane
 
@@ -160,8 +160,8 @@ will_rows u lane from to low_ high_ rows s end some_ few within from_ told up al
     rows_exact remains.log from to lane within inside rows up'
     (sure_rows u lane from to rows told x remains base later.learns c within inside)
     (λ n form payload above below is.
-    let by = stored_by x.about c.moment c.rule n lane form payload (omega arith)
-    (entry_at x.about c.moment c.rule remains.log base c.log n (entry.Stored lane form payload) is) in
+    let by = stored_by c.rule n lane form payload (omega arith)
+    (entry_at c.rule remains.log base c.log n (entry.Stored lane form payload) is) in
     let o : Own = record { lane = lane; number = n } in
     let has : Has x.lane x.out lane = (some_, few, inr (main, λ m. elim (subst (Among lane) none m) [ ])) in
     let own : Among o x.own = c.owns.complete o has by in

@@ -1,6 +1,7 @@
 pub mod Blocks
 pub mod Closing
 pub mod Controlling
+pub mod Course
 pub mod Doing
 pub mod Ending
 pub mod Gains

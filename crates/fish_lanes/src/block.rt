@@ -10,6 +10,7 @@ ghost use Rattle.fish_lanes.specs.Blocks.{TellsOthers, WasTaken, WereTaken};
 ghost use Rattle.fish_lanes.specs.Outcome.{IsFullIn, LanesSayPlans, TellsShutBy};
 ghost use Rattle.fish_lanes.specs.Closing.{Later, Will};
 ghost use Rattle.fish_lanes.specs.Controlling.{CanControl};
+ghost use Rattle.fish_lanes.specs.Course.{HasFoundEnd, HasRunLanes};
 ghost use Rattle.fish_lanes.specs.Ending.{HasEnd};
 ghost use Rattle.fish_lanes.specs.Plans.{AreSoPlans};
 ghost use Rattle.fish_lanes.specs.Registering.{IsAcceptable, KnowsRegistry, registry_of};
@@ -17,6 +18,7 @@ ghost use Rattle.fish_lanes.specs.Running.{CanBegin, HasDone, HasRun, IsEnded, I
 ghost use Rattle.fish_lanes.specs.Sizes.{TellsClaim};
 ghost use Rattle.fish_lanes.specs.Spans.{Span};
 ghost use Rattle.fish_lanes.specs.declared.work.LaneFault.TheVariants as cause;
+ghost use Rattle.fish_rule.specs.LoadSteps.{IsAlone};
 ghost use Rattle.fish_rule.specs.Passes.{IsPassOf, view};
 ghost use Rattle.fish_rule.specs.Views.{AllOf};
 ghost use Rattle.fish_rule.specs.declared.view.Shut.{Shut};
@@ -221,6 +223,41 @@ fn run_all<R: Threads + Sync>(
 }
 
 /// Gives the other lanes their passes, does the statements of all, and takes the passes back.
+fn run_by_passes<R: Threads + Sync>(
+    rt: &R,
+    alloc: Global,
+    log: &Log,
+    main: &mut Pass,
+    registrar: &mut Registrar,
+    first: &mut Lane,
+    others: &mut [Lane],
+    gate: &Gate,
+)
+    requires can { CanControl log.now main.old registrar.old }
+    requires first { IsFirst (view main.old) registrar.old first.old }
+    requires others { CanGive (view main.old) others.old }
+    ensures can { CanControl log.now main.new registrar.new }
+    ensures course { HasRunLanes log.now (view main.old) (view main.new) registrar.old registrar.new first.old first.new
+        others.old others.new }
+{
+    give_all(log, main, others);
+    run_all(rt, alloc, log, main, registrar, first, others, gate);
+    take_all(log, main, others);
+}
+
+/// Stores the boundary that waited for the lanes, if one did, and finds where the log ends.
+fn end_block(log: &Log, main: &mut Pass, registrar: &mut Registrar) -> BlockEnd
+    requires can { CanControl log.now main.old registrar.old }
+    requires alone { IsAlone (view main.old) }
+    ensures can { CanControl log.now main.new registrar.new }
+    ensures ended { HasFoundEnd (view main.old) (view main.new) registrar.old registrar.new result }
+{
+    let bound = find_last(log, main, registrar);
+    let to = settle(log, main).settled;
+    BlockEnd { to, bound }
+}
+
+/// Does the statements of all lanes, each by a pass of its own, and finds where the log then ends.
 fn run_lanes<R: Threads + Sync>(
     rt: &R,
     alloc: Global,
@@ -260,12 +297,8 @@ fn run_lanes<R: Threads + Sync>(
     ensures first_marks { AllOf (IsMarkItem (view main.new)) first.new.items }
     ensures others_marks { NameMarks (view main.new) others.new }
 {
-    give_all(log, main, others);
-    run_all(rt, alloc, log, main, registrar, first, others, gate);
-    take_all(log, main, others);
-    let bound = find_last(log, main, registrar);
-    let to = settle(log, main).settled;
-    BlockEnd { to, bound }
+    run_by_passes(rt, alloc, log, main, registrar, first, others, gate);
+    end_block(log, main, registrar)
 }
 
 /// Runs a block: does the statements of its lanes at once, those of the first by the control pass and those of every

@@ -121,7 +121,7 @@ finds_open v def value n opens among = record {
 pub same_row : (def : Definition) (value : Value) (a b : Row) (k : Key) (w : World) → Rule k w → a.number ≡ b.number
     → Matches def value a k w → Matches def value b k w → a ≡ b
 same_row def value a b k w r same mine theirs =
-    let one = entry_once k w r b.number (entry.Stored mine.0 mine.1 a.payload) (entry.Stored theirs.0 theirs.1 b.payload)
+    let one = entry_once r b.number (entry.Stored mine.0 mine.1 a.payload) (entry.Stored theirs.0 theirs.1 b.payload)
     (subst (λ (z : ℕ). IsEntry w z (entry.Stored mine.0 mine.1 a.payload)) same mine.2) theirs.2 in
     λ i. record { number = same i; payload = payloads mine.0 theirs.0 mine.1 theirs.1 a.payload b.payload one i }
   where
@@ -149,7 +149,7 @@ pub told_other : (v : View) (def : Definition) (value : Value) (n lane : ℕ) (f
     → Tells v n (entry.Stored lane form payload) → evaluation def form payload ≢ Some value
     → (other : List ℕ) → Always v (λ k w. ¬ Matches def value (record { number = n; payload = other }) k w)
 told_other v def value n lane form payload tells differs other x learns w r seat at m =
-    let one = entry_once x.about w r n (entry.Stored lane form payload) (entry.Stored m.0 m.1 other)
+    let one = entry_once r n (entry.Stored lane form payload) (entry.Stored m.0 m.1 other)
     (tells x learns w r seat at) m.2 in
     differs (gives lane m.0 form m.1 payload other one m.3)
   where
@@ -164,7 +164,7 @@ told_other v def value n lane form payload tells differs other x learns w r seat
 pub told_void : (v : View) (def : Definition) (value : Value) (n : ℕ) → Tells v n entry.Void
     → (other : List ℕ) → Always v (λ k w. ¬ Matches def value (record { number = n; payload = other }) k w)
 told_void v def value n tells other x learns w r seat at m =
-    let one = entry_once x.about w r n entry.Void (entry.Stored m.0 m.1 other) (tells x learns w r seat at) m.2 in
+    let one = entry_once r n entry.Void (entry.Stored m.0 m.1 other) (tells x learns w r seat at) m.2 in
     bad m.0 m.1 one
   where
     bad : (a : ℕ) (f : Form) → entry.Void ≡ entry.Stored a f other → ⊥

@@ -75,7 +75,7 @@ module _ (def : Definition) (value : Value) (id bucket from to : ℕ) where
             let place : node.place ≡ p = omega arith in
             let there = subst (λ (z : ℕ). IsNodeIn bucket node.number node.key z node.id x.about w) place
             (entry_is x learns w r seat at) in
-            let same = node_once x.about w r bucket row.number c bucket node.number node.key p id node.id mine there in
+            let same = node_once r bucket row.number c bucket node.number node.key p id node.id mine there in
             absurd (other (sym same.2) x learns w r seat at
             (subst (λ (z : ℕ × ℕ). HasValue z.0 z.1 value x.about w) (λ i. (same.0 i, same.1 i)) has))
 
@@ -99,7 +99,7 @@ module _ (def : Definition) (value : Value) (id bucket from to : ℕ) where
           (λ (e : row ≡ x).
           let there = subst (λ (z : ℕ). IsNodeIn bucket node.number node.key node.place z y.about w) own
           (entry_is y learns w r seat at) in
-          let under = node_older y.about w r bucket n c p bucket node.number node.key node.place id mine there less in
+          let under = node_older r bucket n c p bucket node.number node.key node.place id mine there less in
           subst (λ (z : Row). n < z.number) e (omega arith)) (among_last x row rows m);
     }
       where
@@ -115,7 +115,7 @@ module _ (def : Definition) (value : Value) (id bucket from to : ℕ) where
             let place : node.place ≡ p = omega arith in
             let there = subst (λ (z : ℕ). IsNodeIn bucket node.number node.key z node.id y.about w) place
             (entry_is y learns w r seat at) in
-            let same = node_once y.about w r bucket x.number c bucket node.number node.key p id node.id mine there in
+            let same = node_once r bucket x.number c bucket node.number node.key p id node.id mine there in
             among_right x rows (row ∷ []) (inl (same_row def value row x y.about w r (number ∙ sym same.0)
             (matches y learns w r seat at) m))
 
@@ -130,7 +130,7 @@ module _ (def : Definition) (value : Value) (id bucket from to : ℕ) where
     closed = λ row m. free row.number (h.above row m) (Rattle.fish_scan.proofs.Finding.falls_below to rows row h.falls m);
     sound = h.sound;
     complete = λ row after before closed x learns w r seat at m.
-        let t = match_entry v x learns def id from to index w r seat at row.number after before m.2.1.stored value
+        let t = match_entry v learns def id from to index w r seat at row.number after before m.2.1.stored value
         row.payload m in
         let about : bucket_of_value x id value ≡ bucket =
         ap (λ (z : Key). Rattle.fish_layout.specs.Hash.bucket_in (Rattle.fish_layout.specs.Hash.key_hash_of id value) z.buckets)
@@ -162,7 +162,7 @@ entry_matches v def value id bucket from to lane node form payload index after b
       lane,
       form,
       told,
-      entry_match v x learns def id from to index w r seat at node.number after before told.1.stored value bucket node.key
+      entry_match v learns def id from to index w r seat at node.number after before told.1.stored value bucket node.key
           node.place lane form payload told
           (subst (λ (z : ℕ). IsNodeIn bucket node.number node.key node.place z x.about w) own
           (node_is x learns w r seat at)) (has x learns w r seat at),

@@ -112,9 +112,9 @@ module _ (k : Key) (w : World) (id n : ℕ) (text : List ℕ) (def : Definition)
 -- ---- entries and matches
 
 -- in a moment, what a pass knows of an index says of each of its records
-module _ (v u : View) (learns : Learns v u) (def : Definition) (id from to : ℕ) (x : IsIndex v def id from to)
-    (w : World) (r : Rule u.about w) (seat : ℕ) (at : get_elem? w.views seat ≡ some u) (n : ℕ) (after : from ≤ n)
-    (before : n < to) (stored : high (w.dir n) ≡ code Stored) where
+module _ (v : View) {u : View} (learns : Learns v u) (def : Definition) (id from to : ℕ)
+    (x : IsIndex v def id from to) (w : World) (r : Rule u.about w) (seat : ℕ) (at : get_elem? w.views seat ≡ some u)
+    (n : ℕ) (after : from ≤ n) (before : n < to) (stored : high (w.dir n) ≡ code Stored) where
   -- it has the keys of a version at which the row's text is active
   pub index_there : IsIndexed u.about w id x.listed.def n
   index_there =
@@ -147,7 +147,7 @@ module _ (v u : View) (learns : Learns v u) (def : Definition) (id from to : ℕ
         low (w.dir n) * 4 + entry_at c,
         record {
           entry = record {
-            above = stored_above u.about w r n stored;
+            above = stored_above r n stored;
             stored = stored;
             is = record {
               is = refl;

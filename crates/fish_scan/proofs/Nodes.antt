@@ -43,10 +43,10 @@ ids_once least (k ∷ ks) (suc i) (suc j) a b proper at_a at_b same =
 
 -- ---- places
 
-module _ (k : Key) (w : World) (r : Rule k w) where
+module _ {k : Key} {w : World} (r : Rule k w) where
   -- an entry lies within its record's region
   node_within : (b n c p id : ℕ) → IsNodeIn b n c p id k w → (r.start n * 4 ≤ p) × (p < r.start (suc n) * 4)
-  node_within b n c p id h = within_region k w r b n c p (stored_claimed k w r n h.entry.stored) h.entry
+  node_within b n c p id h = within_region r b n c p (stored_claimed r n h.entry.stored) h.entry
 
   -- at one place is one entry
   pub node_once : (b n c b' n' c' p id id' : ℕ) → IsNodeIn b n c p id k w → IsNodeIn b' n' c' p id' k w
@@ -55,8 +55,8 @@ module _ (k : Key) (w : World) (r : Rule k w) where
       let here = node_within b n c p id h in
       let there = node_within b' n' c' p id' h' in
       let same : n ≡ n' = one_region k w.count w.line r.start r.space.regions n n' p
-      (stored_above k w r n h.entry.stored) (stored_claimed k w r n h.entry.stored)
-      (stored_above k w r n' h'.entry.stored) (stored_claimed k w r n' h'.entry.stored) here.0 here.1 there.0 there.1 in
+      (stored_above r n h.entry.stored) (stored_claimed r n h.entry.stored)
+      (stored_above r n' h'.entry.stored) (stored_claimed r n' h'.entry.stored) here.0 here.1 there.0 there.1 in
       let place = h.entry.is.is in
       let place' = h'.entry.is.is in
       let line = ap (λ (z : ℕ). low (w.dir z)) same in
@@ -71,7 +71,7 @@ module _ (k : Key) (w : World) (r : Rule k w) where
   -- a record has one entry of a definition
   node_alone : (b n c p b' c' p' id : ℕ) → IsNodeIn b n c p id k w → IsNodeIn b' n c' p' id k w → c ≡ c'
   node_alone b n c p b' c' p' id h h' =
-      let t = stored_parts k w r n h.entry.stored in
+      let t = stored_parts r n h.entry.stored in
       let keys = spelled_keys t.1.spells in
       let counts = h.entry.is.counts in
       let counts' = h'.entry.is.counts in
@@ -101,8 +101,8 @@ module _ (k : Key) (w : World) (r : Rule k w) where
           let line = ap (λ (z : ℕ). low (w.dir z)) same in
           absurd (omega arith)
       pick (no more) (no other) =
-          let above = stored_above k w r n' h'.entry.stored in
-          let claimed = stored_claimed k w r n h.entry.stored in
+          let above = stored_above r n' h'.entry.stored in
+          let claimed = stored_claimed r n h.entry.stored in
           let rises = starts_rise k w.count w.line r.start r.space.regions (suc n') n (omega arith) (omega arith) (omega arith) in
           let a = here.0 in
           let b = there.1 in

@@ -39,7 +39,7 @@ pub told_parsable : (v : View) (n : ℕ) (e : Entry) → Stands v → Tells v n 
 told_parsable v n entry.Void s tells = tt
 told_parsable v n (entry.Stored lane form payload) s tells =
     let h = tells v (learns_self v) s.moment s.rule s.seat s.at in
-    let t = stored_parts v.about s.moment s.rule n h.1.stored in
+    let t = stored_parts s.rule n h.1.stored in
     let same : h.0 ≡ t.0 = spelled_once h.1.spells t.1.spells (h.1.number_is ∙ sym t.1.number_is) in
     subst (λ (z : Form × List ℕ). IsTrue (is_record z.0 z.1))
     (λ i. (

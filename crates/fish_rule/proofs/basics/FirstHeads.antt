@@ -29,7 +29,7 @@ node_joins P k b x nodes all here = by (dec_lt (k.line * 4) x)
 
 -- ---- the base
 
-module _ (k : Key) (w : World) (r : Rule k w) where
+module _ {k : Key} {w : World} (r : Rule k w) where
   -- the head of the start is no place of the table
   pub first_low : (b : ℕ) → first_head k b ≤ k.line * 4
   first_low b = by (ℕ_discrete (first_head k b) 0)
@@ -42,7 +42,7 @@ module _ (k : Key) (w : World) (r : Rule k w) where
   pub flight_from : (id : ℕ) (v : View) → get_elem? w.views id ≡ some v → (f : Flight) → v.flight ≡ Some f
       → k.line ≤ f.line
   flight_from id v at f flying =
-      let own = flight_is k w r id v at f flying in
+      let own = flight_is r id at f flying in
       let line = own.line in
       let below = own.below in
       let from = starts_above k w.count w.line r.start r.space.regions f.number own.above (omega arith) in
@@ -51,7 +51,7 @@ module _ (k : Key) (w : World) (r : Rule k w) where
   -- a linked place is behind the base's
   pub linked_from : (b p : ℕ) → Linked k w.dir w.log w.views b p → k.line * 4 < p
   linked_from b p h =
-      let s = record_at k w r h.line h.entry h.shows in
+      let s = record_at r h.line h.entry h.shows in
       let below = s.below in
       let from = starts_above k w.count w.line r.start r.space.regions s.number s.above (omega arith) in
       let line = s.line in

@@ -35,28 +35,28 @@ publisher_at v f k = record v {
 }
 
 -- what is so of the record in flight where it is known
-pub flight_is : (k : Key) (w : World) (r : Rule k w) (id : ℕ) (v : View) → get_elem? w.views id ≡ some v
-    → (f : Flight) → v.flight ≡ Some f → InFlight k w.count w.dir w.log r.start r.lane_of v.lane f
-flight_is k w r id v at f is = subst (Flies k w.count w.dir w.log r.start r.lane_of v.lane) is (r.space.flights id v at)
+pub flight_is : {k : Key} {w : World} (r : Rule k w) (id : ℕ) {v : View} (at : get_elem? w.views id ≡ some v)
+    (f : Flight) → v.flight ≡ Some f → InFlight k w.count w.dir w.log r.start r.lane_of v.lane f
+flight_is {k} {w} r id {v} at f is = subst (Flies k w.count w.dir w.log r.start r.lane_of v.lane) is (r.space.flights id v at)
 
 -- a pass is entered at one version
 pub confirmed_once : {a b : ℕ} → Confirmed a ≡ Confirmed b → a ≡ b
 confirmed_once e = cc
 
 -- and of its version and keys
-pub carried_is : (k : Key) (w : World) (r : Rule k w) (id : ℕ) (v : View) → get_elem? w.views id ≡ some v
-    → (f : Flight) → v.flight ≡ Some f → IsCarried k w.registry r.version_of v.lane v.epoch f
-carried_is k w r id v at f is = subst (Carries k w.registry r.version_of v.lane v.epoch) is (r.registry.flights id v at)
+pub carried_is : {k : Key} {w : World} (r : Rule k w) (id : ℕ) {v : View} (at : get_elem? w.views id ≡ some v)
+    (f : Flight) → v.flight ≡ Some f → IsCarried k w.registry r.version_of v.lane v.epoch f
+carried_is {k} {w} r id {v} at f is = subst (Carries k w.registry r.version_of v.lane v.epoch) is (r.registry.flights id v at)
 
 -- what its pass knows of its keys is so
-pub known_keyed : (k : Key) (w : World) (r : Rule k w) (id : ℕ) (v : View) → get_elem? w.views id ≡ some v
-    → (f : Flight) → v.flight ≡ Some f → 1 ≤ v.lane → (version : ℕ) → v.epoch ≡ Confirmed version → (e : ℕ → ℕ)
+pub known_keyed : {k : Key} {w : World} (r : Rule k w) (id : ℕ) {v : View} (at : get_elem? w.views id ≡ some v)
+    (f : Flight) → v.flight ≡ Some f → 1 ≤ v.lane → (version : ℕ) → v.epoch ≡ Confirmed version → (e : ℕ → ℕ)
     → IsKeyed (KnowsActive v.about v.learned) version v.lane f.number f.lines e
     → IsKeyed (AreActiveAt k w.registry) (r.version_of f.number) v.lane f.number f.lines e
-known_keyed k w r id v at f is live version entered e h =
+known_keyed {k} {w} r id {v} at f is live version entered e h =
     let stays = r.registry.each id v at in
     let same : version ≡ r.version_of f.number =
-    confirmed_once (sym entered ∙ (carried_is k w r id v at f is).entered) in
+    confirmed_once (sym entered ∙ (carried_is r id at f is).entered) in
     let about : v.about ≡ k = r.about id v at live in
     subst (λ (z : ℕ). IsKeyed (AreActiveAt k w.registry) z v.lane f.number f.lines e) same
     (keyed_map (KnowsActive v.about v.learned) (AreActiveAt k w.registry)

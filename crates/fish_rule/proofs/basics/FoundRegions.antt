@@ -29,7 +29,7 @@ lined_whole k Void lane n lines e ne few h = ap (λ (f : ℕ → ℕ). lines_of 
     ∙ lines_of-void lines few
 lined_whole k Mark lane n lines e ne few h = absurd (ne refl)
 
-module _ (k : Key) (w : World) (r : Rule k w) where
+module _ {k : Key} {w : World} (r : Rule k w) where
   -- a region that was found is the one that its number has
   pub region_found : (x : Found) → IsFound k w.count w.dir r.start x
       → IsPublishedRegion k w.dir w.log r.start r.lane_of x.number

@@ -18,7 +18,7 @@ use Rattle.fish_rule.specs.declared.view.Key.{Key}
 use Rattle.fish_rule.proofs.basics.Bodies.{published}
 use Rattle.fish_rule.specs.declared.view.Kind.TheVariants.{Stored}
 
-module _ (k : Key) (w : World) (r : Rule k w) where
+module _ {k : Key} {w : World} (r : Rule k w) where
   -- the entries of published records are linked
   unfoldable pub entry_linked : (b n c p : ℕ) → n < w.count → IsEntryOf k w.dir w.log (r.start n) b n c p
       → Linked k w.dir w.log w.views b p
@@ -44,7 +44,7 @@ module _ (k : Key) (w : World) (r : Rule k w) where
       }
 
   -- the second word of a linked place is within its record's region, and is its body's there
-  pub second_inside : (b p : ℕ) (h : Linked k w.dir w.log w.views b p) (s : RecordAt k w r h.line h.entry)
+  pub second_inside : (b p : ℕ) (h : Linked k w.dir w.log w.views b p) (s : RecordAt r h.line h.entry)
       → suc p < r.start (suc s.number) * 4
   second_inside b p h s =
       let p_is : p ≡ h.line * 4 + (1 + 3 * h.entry) = h.is.is in
@@ -58,13 +58,13 @@ module _ (k : Key) (w : World) (r : Rule k w) where
       omega arith
 
   -- it is the body's there
-  second_word : (b p : ℕ) (h : Linked k w.dir w.log w.views b p) (s : RecordAt k w r h.line h.entry)
+  second_word : (b p : ℕ) (h : Linked k w.dir w.log w.views b p) (s : RecordAt r h.line h.entry)
       → body w.log h.line (entry_at h.entry + 1) ≡ w.log (suc p)
   second_word b p h s =
       let p_is : p ≡ h.line * 4 + (1 + 3 * h.entry) = h.is.is in
       let at : ℕ → ℕ = λ i. w.log (h.line * 4 + i) in
       let lined : lines_of (at 0) ≡ r.start (suc s.number) - r.start s.number =
-      ap lines_of (sym (cleared_head at)) ∙ record_at_lined k w r h.line h.entry s in
+      ap lines_of (sym (cleared_head at)) ∙ record_at_lined r h.line h.entry s in
       let line = s.line in
       let within = second_inside b p h s in
       let third : entry_at h.entry + 1 ≡ h.entry * 3 + 2 = omega arith in
@@ -73,7 +73,7 @@ module _ (k : Key) (w : World) (r : Rule k w) where
       cleared_at at (entry_at h.entry + 1) (omega arith) (λ key. let one = key.1 in omega arith) ∙ ap w.log place
 
   -- where the second word names the record's number and the entry, the label holds
-  labelled : (b p end : ℕ) → end ≤ w.settled → (h : Linked k w.dir w.log w.views b p) (s : RecordAt k w r h.line h.entry)
+  labelled : (b p end : ℕ) → end ≤ w.settled → (h : Linked k w.dir w.log w.views b p) (s : RecordAt r h.line h.entry)
       → entry_number (w.log (suc p)) ≡ s.number → entry_place (w.log (suc p)) ≡ h.entry
       → body w.log h.line (entry_at h.entry + 1) ≡ w.log (suc p)
       → IsLabel k w.count w.dir w.log r.start (record { place = p; word = w.log (suc p); end = end })
@@ -81,7 +81,7 @@ module _ (k : Key) (w : World) (r : Rule k w) where
       let line : r.start (entry_number (w.log (suc p))) ≡ h.line = ap r.start number ∙ s.line in
       let above = s.above in
       let below = s.below in
-      let inside = lies_inside k w r b p h s in
+      let inside = lies_inside r b p h s in
       record {
         above = omega arith;
         below = omega arith;
@@ -95,7 +95,7 @@ module _ (k : Key) (w : World) (r : Rule k w) where
   pub label_there : (b p end : ℕ) → end ≤ w.settled → Linked k w.dir w.log w.views b p
       → IsLabel k w.count w.dir w.log r.start (record { place = p; word = w.log (suc p); end = end })
   label_there b p end known h =
-      let s = record_at k w r h.line h.entry h.shows in
+      let s = record_at r h.line h.entry h.shows in
       let keys = s.record_of.0.keys in
       let spells = s.record_of.1.spells in
       let counts : h.entry < length keys = subst (λ (z : ℕ). h.entry < z) (spelled_keys spells) h.is.counts in

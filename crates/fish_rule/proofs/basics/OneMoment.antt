@@ -52,7 +52,7 @@ entry_word w n (entry.Stored lane form payload) h =
     record { published = published (w.dir n) Stored is; unmarked = λ m. omega arith }
 entry_word w n entry.Void h = record { published = published (w.dir n) Void h; unmarked = λ m. omega arith }
 
-module _ (k : Key) (w : World) (r : Rule k w) where
+module _ {k : Key} {w : World} (r : Rule k w) where
   -- a number with a directory word is claimed
   pub claimed : (n : ℕ) → w.dir n ≢ 0 → n < w.count
   claimed n some_ = pick (dec_lt n w.count)
@@ -127,7 +127,7 @@ record_held Stored lane n lines e is h = h
 record_held Void lane n lines e is h = cc
 record_held Mark lane n lines e is h = cc
 
-module _ (k : Key) (w : World) (r : Rule k w) (n : ℕ) (stored : high (w.dir n) ≡ code Stored) where
+module _ {k : Key} {w : World} (r : Rule k w) (n : ℕ) (stored : high (w.dir n) ≡ code Stored) where
   -- it is one of the table's
   pub stored_above : k.number ≤ n
   stored_above = pick (dec_lt n k.number)
@@ -138,7 +138,7 @@ module _ (k : Key) (w : World) (r : Rule k w) (n : ℕ) (stored : high (w.dir n)
 
   -- it is claimed
   pub stored_claimed : n < w.count
-  stored_claimed = claimed k w r n (published (w.dir n) Stored stored)
+  stored_claimed = claimed r n (published (w.dir n) Stored stored)
 
   -- its directory word says where its region begins
   pub stored_line : low (w.dir n) ≡ r.start n

@@ -29,7 +29,7 @@ pub record IsFlier (w : World) (n c : ℕ) : Type 0 where
   pub number : flight.number ≡ n
   pub counts : c < flight.linked
 
-module _ (k : Key) (w : World) (r : Rule k w) where
+module _ {k : Key} {w : World} (r : Rule k w) where
   -- the record at a line that shows an entry
   pub record RecordAt (a c : ℕ) : Type 0 where
     pub number : ℕ

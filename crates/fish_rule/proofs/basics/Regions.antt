@@ -81,9 +81,9 @@ one_region k count line start r m n p above_m below_m above_n below_n from_m to_
         (regions_apart k count line start r m n above_m below_m above_n below_n ne)
 
 -- a number in flight is at or behind the settled one, and its region behind every settled region
-pub flight_behind : (k : Key) (w : World) (r : Rule k w) (lane : ℕ) (f : Flight)
+pub flight_behind : {k : Key} {w : World} (r : Rule k w) (lane : ℕ) (f : Flight)
     → InFlight k w.count w.dir w.log r.start r.lane_of lane f → k.number ≤ w.settled → r.start w.settled ≤ f.line
-flight_behind k w r lane f own from = pick (dec_lt f.number w.settled)
+flight_behind {k} {w} r lane f own from = pick (dec_lt f.number w.settled)
   where
     pick : Dec (f.number < w.settled) → r.start w.settled ≤ f.line
     pick (yes before) = absurd ((r.settling.below f.number own.above before).published own.unpublished)
@@ -94,7 +94,7 @@ flight_behind k w r lane f own from = pick (dec_lt f.number w.settled)
         let line = own.line in
         omega arith
 
-module _ (k : Key) (w : World) (r : Rule k w) where
+module _ {k : Key} {w : World} (r : Rule k w) where
   -- as many numbers as lines, and 16 more
   pub few_slots : w.count ≤ k.number + (k.end - k.line) + 16
   few_slots =

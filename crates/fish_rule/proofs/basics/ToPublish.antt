@@ -14,7 +14,7 @@ use Rattle.fish_rule.specs.declared.view.Key.{Key}
 use Rattle.fish_rule.specs.declared.view.Kind.{Kind}
 use Rattle.fish_rule.specs.declared.view.Kind.TheVariants.{Mark, Stored, Void}
 use Rattle.fish_rule.specs.declared.view.View.{View}
-use mathlib.Core.Option.{some, none}
+use mathlib.Core.Option.{some}
 use Rattle.std.proofs.Math.ListN.{get_elem?}
 use Rattle.fish_layout.proofs.Clearing.{cleared_head}
 use Rattle.fish_layout.proofs.Headers.{lines_of-void}
@@ -31,9 +31,9 @@ unfolding lines_of field
 no_lines = refl
 
 -- a line within the tail's fits a directory word
-pub small_line : (k : Key) (w : World) (r : Rule k w) (f : Flight) (lane : ℕ)
+pub small_line : {k : Key} {w : World} (r : Rule k w) (f : Flight) (lane : ℕ)
     → InFlight k w.count w.dir w.log r.start r.lane_of lane f → f.line < 68719476736
-small_line k w r f lane h = pick (Rattle.std.proofs.Math.Decide.dec_le f.number r.limit.first)
+small_line {k} {w} r f lane h = pick (Rattle.std.proofs.Math.Decide.dec_le f.number r.limit.first)
   where
     start_is : r.start f.number ≡ f.line
     start_is = h.line
@@ -74,15 +74,15 @@ may_before k v f flying Mark is h = (let e : Some (record { line = f.line; lines
     some_none : {A : Type 0} {x : A} → Some x ≡ None → ⊥
     some_none e = cc
 
-module _ (k : Key) (w : World) (r : Rule k w) (id : ℕ) (v : View) (at : get_elem? w.views id ≡ some v)
-    (f : Flight) (flying : v.flight ≡ Some f) (version : ℕ) where
+module _ {k : Key} {w : World} (r : Rule k w) (id : ℕ) {v : View} (at : get_elem? w.views id ≡ some v) (f : Flight)
+    (flying : v.flight ≡ Some f) (version : ℕ) where
   -- which texts the pass knows to be active
   abbrev active : ℕ → List (ℕ × List ℕ) → Type 0
   active = KnowsActive v.about v.learned
 
   -- what is so of the record in flight
   own : InFlight k w.count w.dir w.log r.start r.lane_of v.lane f
-  own = flight_is k w r id v at f flying
+  own = flight_is r id at f flying
 
   -- the region's lines
   pub sized : (1 ≤ f.lines) × (f.lines ≤ 18625)
@@ -136,4 +136,4 @@ module _ (k : Key) (w : World) (r : Rule k w) (id : ℕ) (v : View) (at : get_el
       let words : body w.log (r.start f.number) ≡ body_of f.words = ap (body w.log) a ∙ own_body h in
       subst (λ (z : ℕ × ℕ × (ℕ → ℕ)). IsKeyed (AreActiveAt k w.registry) (r.version_of f.number) z.0 f.number
       z.1 z.2) (λ i. (sym own.owner i, sym size i, sym words i))
-      (known_keyed k w r id v at f flying live version entered (body_of f.words) h.1)
+      (known_keyed r id at f flying live version entered (body_of f.words) h.1)

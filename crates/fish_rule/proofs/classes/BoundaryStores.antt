@@ -14,7 +14,7 @@ use Rattle.fish_rule.specs.World.{World, put}
 use Rattle.fish_rule.specs.declared.view.Key.{Key}
 use Rattle.fish_rule.specs.declared.view.View.{View}
 
-module _ (k : Key) (w : World) (r : Rule k w) (id : ℕ) (v : View) (at : get_elem? w.views id ≡ some v)
+module _ {k : Key} {w : World} (r : Rule k w) (id : ℕ) {v : View} (at : get_elem? w.views id ≡ some v)
     (main : v.lane ≡ 1) (row j n : ℕ) (few : row < 256) (bound : j < 2) (unset : w.registry (row_at row j) ≡ 0) where
   -- the index of the boundary
   abbrev place : ℕ
@@ -37,11 +37,11 @@ module _ (k : Key) (w : World) (r : Rule k w) (id : ℕ) (v : View) (at : get_el
 
   -- the version stays
   set_still : version_in set_words ≡ version_in w.registry
-  set_still = store_still k w r id v at main place (suc n) place_far place_away
+  set_still = store_still r id at main place (suc n) place_far place_away
 
   -- and so does what lasts
   pub set_endures : Endures k w.registry set_words
-  set_endures = store_endures k w r id v at main place (suc n) place_far place_away
+  set_endures = store_endures r id at main place (suc n) place_far place_away
 
   -- this one is the number, and lasts
   this_bound : set_words (row_at row j) ≡ suc n
@@ -54,7 +54,7 @@ module _ (k : Key) (w : World) (r : Rule k w) (id : ℕ) (v : View) (at : get_el
       lasts = inr (inr (inr ((row, j, few, bound, refl), λ e. absurd (let is = this_bound in omega arith))));
       word = this_bound;
     },
-    store_read k w r id v at main place (suc n) place_far place_away,
+    store_read r id at main place (suc n) place_far place_away,
   )
 
   -- another boundary is as it was

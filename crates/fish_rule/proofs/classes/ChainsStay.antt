@@ -105,7 +105,7 @@ pub chains_same : (k : Key) (dir dir' log log' : ℕ → ℕ) (vs vs' : List Vie
 chains_same k dir dir' log log' vs vs' head to from same chains b =
     chain_same (Linked k dir log vs b) (Linked k dir' log' vs' b) (first_head k b) (head b) log log' (to b) (from b) (same b) (chains b)
 
-module _ (k : Key) (w : World) (r : Rule k w) (views' : List View)
+module _ {k : Key} {w : World} (r : Rule k w) (views' : List View)
     (to : (a c : ℕ) → IsLinking a c w.views → IsLinking a c views') where
   -- places stay linked where what is linked in flight stays so
   pub links_views : (b p : ℕ) → Linked k w.dir w.log w.views b p → Linked k w.dir w.log views' b p
@@ -122,14 +122,14 @@ module _ (k : Key) (w : World) (r : Rule k w) (views' : List View)
       (λ (l : IsLinking a c views'). inr (from a c l)) h) (λ a c h. refl))
       (λ b p h. refl) r.chains
 
-module _ (k : Key) (w : World) (r : Rule k w) (id : ℕ) (v v' : View) (at : get_elem? w.views id ≡ some v)
+module _ {k : Key} {w : World} (r : Rule k w) (id : ℕ) {v : View} (v' : View) (at : get_elem? w.views id ≡ some v)
     (keep : (a c : ℕ) → LinksAt a c v.flight → LinksAt a c v'.flight) where
   -- the same where one view stands in place of another
   pub links_set : (b p : ℕ) → Linked k w.dir w.log w.views b p → Linked k w.dir w.log (set w.views id v') b p
-  links_set = links_views k w r (set w.views id v') (λ a c. linking_to w.views id v v' at a c (keep a c))
+  links_set = links_views r (set w.views id v') (λ a c. linking_to w.views id v v' at a c (keep a c))
 
   -- and chains are as they were
   pub chains_set : ((a c : ℕ) → LinksAt a c v'.flight → LinksAt a c v.flight) → (b : ℕ)
       → Chain (Linked k w.dir w.log (set w.views id v') b) (first_head k b) (w.head b) w.log
-  chains_set back = chains_views k w r (set w.views id v') (λ a c. linking_to w.views id v v' at a c (keep a c))
+  chains_set back = chains_views r (set w.views id v') (λ a c. linking_to w.views id v v' at a c (keep a c))
       (λ a c. linking_from w.views id v v' at a c (λ h. linking_own w.views id v v' at a c (back a c h)))

@@ -30,7 +30,7 @@ use Rattle.fish_rule.specs.Keys.{IsKeyed}
 use Rattle.fish_rule.specs.Registry.{AreActiveAt}
 use Rattle.fish_rule.proofs.basics.Bodies.{published}
 
-module _ (k : Key) (w w' : World) (start start' lane_of lane_of' : ℕ → ℕ)
+module _ {k : Key} {w w' : World} {start start' lane_of lane_of' : ℕ → ℕ}
     (f : Final k start start' lane_of lane_of' w w') where
   -- a published number stays so, with its region and words
   pub finished_later : (n : ℕ) → n < w.count → w.dir n ≢ 0 → IsPublishedRegion k w.dir w.log start lane_of n
@@ -145,8 +145,8 @@ module _ (k : Key) (w w' : World) (start start' lane_of lane_of' : ℕ → ℕ)
       }
 
   -- all that a pass has learned stays so
-  pub facts_later : (l : Learned) → Facts k w.count w.dir w.log start l → Facts k w'.count w'.dir w'.log start' l
-  facts_later l h =
+  pub facts_later : {l : Learned} → Facts k w.count w.dir w.log start l → Facts k w'.count w'.dir w'.log start' l
+  facts_later {l} h =
       let up = f.counts in
       let c = h.counted in
       record {
@@ -225,9 +225,9 @@ module _ (k : Key) (w w' : World) (start start' lane_of lane_of' : ℕ → ℕ)
   }
 
   -- what is known of chains stays so
-  pub chained_later : (l : Learned) → Chained k w.dir w.log w.views w.head l
+  pub chained_later : {l : Learned} → Chained k w.dir w.log w.views w.head l
       → Chained k w'.dir w'.log w'.views w'.head l
-  chained_later l h = record {
+  chained_later {l} h = record {
     nodes = all_map _ _ (λ x m. f.links x.bucket x.place m) l.nodes h.nodes;
     least_previous = all_map (IsLeastPrevious k w.dir w.log w.views) (IsLeastPrevious k w'.dir w'.log w'.views)
         (λ x m. record {

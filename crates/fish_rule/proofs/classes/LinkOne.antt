@@ -18,13 +18,13 @@ use Rattle.fish_rule.proofs.basics.Bodies.{published}
 use Rattle.fish_rule.proofs.classes.ChainsStay.{linked_map, linking_own, linking_to}
 use Rattle.fish_rule.proofs.basics.Places.{record_at}
 use Rattle.fish_rule.proofs.basics.Flights.{carried_is, flight_is, known_keyed}
-use Rattle.fish_rule.proofs.basics.Lasts.{Lasts}
+use Rattle.fish_rule.proofs.basics.Lasts.{Kept, Lasts}
 use Rattle.fish_rule.specs.Chains.{Chain, Chained, IsKeyEntry, IsLinking, IsStoredAt, Linked, LinksAt, Shows}
 use Rattle.fish_rule.specs.ChainSteps.{CanAimEntry, linked_once, own_place}
 use Rattle.fish_rule.specs.Parts.{Flies, InFlight, first_head}
 use Rattle.fish_rule.specs.Facts.{AreOpens, Facts}
 use Rattle.fish_rule.specs.Regions.{IsRecord, kind_of}
-use Rattle.fish_rule.specs.Rule.{Final, Rule}
+use Rattle.fish_rule.specs.Rule.{Rule}
 use Rattle.fish_rule.specs.Views.{AllOf, IsFlightOf, IsOver}
 use Rattle.fish_rule.specs.World.{World, body}
 use Rattle.fish_rule.specs.declared.view.Clock.{Clock}
@@ -36,9 +36,9 @@ use Rattle.fish_rule.specs.declared.view.View.{View}
 use Rattle.fish_rule.proofs.basics.RegistryWords.{endures_same}
 use Rattle.fish_rule.specs.Epochs.{IsCarried, Stays}
 
-module _ (k : Key) (w : World) (r : Rule k w) (id : ℕ) (v : View) (at : get_elem? w.views id ≡ some v)
-    (f : Flight) (can : CanAimEntry v f) (b : ℕ) (bucket : bucket_of k.buckets (body_of f.words) f.linked ≡ b)
-    (head' log' : ℕ → ℕ) (learned : Learned) (clock : Clock) where
+module _ {k : Key} {w : World} (r : Rule k w) (id : ℕ) {v : View} (at : get_elem? w.views id ≡ some v) (f : Flight)
+    (can : CanAimEntry v f) (b : ℕ) (bucket : bucket_of k.buckets (body_of f.words) f.linked ≡ b) (head' log' : ℕ → ℕ)
+    (learned : Learned) (clock : Clock) where
   -- the view afterwards
   abbrev pub linker : View
   linker = record v { flight = Some (linked_once f); learned = learned; clock = clock }
@@ -66,13 +66,13 @@ module _ (k : Key) (w : World) (r : Rule k w) (id : ℕ) (v : View) (at : get_el
 
   -- what is so of the record in flight
   own : InFlight k w.count w.dir w.log r.start r.lane_of v.lane f
-  own = flight_is k w r id v at f can.flying
+  own = flight_is r id at f can.flying
 
   module _ (leaves : Leaves) where
     -- a shown record stays
     shown_stays : (a c : ℕ) → Shows k w.dir w.views a c → body log' a ≡ body w.log a
     shown_stays a c shows =
-        let s = record_at k w r a c shows in
+        let s = record_at r a c shows in
         let l = spelled_lines s.record_of.1.spells in
         let m = s.record_of.1.lines_is in
         subst (λ (z : ℕ). body log' z ≡ body w.log z) s.line (leaves.regions s.number s.above s.below
@@ -82,7 +82,7 @@ module _ (k : Key) (w : World) (r : Rule k w) (id : ℕ) (v : View) (at : get_el
     -- and so does the own one
     own_stays : body log' f.line ≡ body_of f.words
     own_stays =
-        let e = own_body k w r id v at f can in
+        let e = own_body r id at f can in
         let p = (body_record v f can.body).1 in
         let lined : lines_of (body_of f.words 0) ≡ f.lines = spelled_lines p.spells ∙ p.lines_is in
         let line : r.start f.number ≡ f.line = own.line in
@@ -159,7 +159,7 @@ module _ (k : Key) (w : World) (r : Rule k w) (id : ℕ) (v : View) (at : get_el
             (at_set w.views id l.seat linker l.view l.at)
 
     -- nothing that lasts has changed
-    pub link_final : Final k r.start r.start r.lane_of r.lane_of w linked_world
+    pub link_final : Kept r linked_world
     link_final = record {
       counts = omega arith;
       lines = omega arith;
@@ -207,8 +207,8 @@ module _ (k : Key) (w : World) (r : Rule k w) (id : ℕ) (v : View) (at : get_el
     -- it keeps its version, and has the keys of that version
     own_carried : IsCarried k w.registry r.version_of v.lane v.epoch (linked_once f)
     own_carried = record {
-      entered = (carried_is k w r id v at f can.flying).entered;
-      keyed = λ _. known_keyed k w r id v at f can.flying own.live can.body.version can.body.entered
+      entered = (carried_is r id at f can.flying).entered;
+      keyed = λ _. known_keyed r id at f can.flying own.live can.body.version can.body.entered
           (body_of f.words) can.body.keyed;
     }
 
@@ -232,7 +232,7 @@ module _ (k : Key) (w : World) (r : Rule k w) (id : ℕ) (v : View) (at : get_el
         space = record {
           regions = r.space.regions;
           finished =
-              λ n above below set_. finished_later k w linked_world r.start r.start r.lane_of r.lane_of
+              λ n above below set_. finished_later
               link_final n below set_ (r.space.finished n above below set_);
           flying = λ n above below unset. flight_there w.views id v linker at n
               (λ h. subst (IsFlightOf n) can.flying h) (r.space.flying n above below unset);
@@ -248,18 +248,18 @@ module _ (k : Key) (w : World) (r : Rule k w) (id : ℕ) (v : View) (at : get_el
         settling = r.settling;
         floors = each_set _ w.views id linker (λ j u ne at_u. r.floors j u at_u) floor;
         chains = chains;
-        chained = each_chained k w linked_world r r.start r.lane_of link_final id linker chained;
+        chained = each_chained r link_final id linker chained;
         own = each_set _ w.views id linker (λ j u ne at_u. r.own j u at_u) (r.own id v at);
-        facts = each_facts k w linked_world r r.start r.lane_of link_final id linker facts;
+        facts = each_facts r link_final id linker facts;
         registry = registry_set k w.count w.registry r.state r.version_of w.views id linker r.registry stays own_carried;
-        keyed = keyed_kept k w linked_world r.start r.start r.lane_of r.lane_of link_final r.version_of r.version_of
+        keyed = keyed_kept link_final r.version_of r.version_of
             (λ n below. refl) r.keyed (λ n below stored. (below, published (w.dir n) Stored stored));
         shuts = each_set _ w.views id linker (λ j u ne at_u. r.shuts j u at_u) (r.shuts id v at);
         opens = each_set _ w.views id linker (λ j u ne at_u. r.opens j u at_u) opens;
       }
 
       -- and all that lasts
-      pub link_lasts : Lasts k w r linked_world
+      pub link_lasts : Lasts r linked_world
       unfolding link_kept
       link_lasts = (link_kept, link_final)
 

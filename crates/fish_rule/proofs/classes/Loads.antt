@@ -7,11 +7,11 @@ use Rattle.fish_rule.proofs.classes.OtherViews.{final_still, limit_views, space_
 use Rattle.fish_rule.proofs.classes.FactsStay.{chained_later}
 use Rattle.fish_rule.proofs.classes.PassesKnow.{each_chained}
 use Rattle.fish_rule.proofs.classes.ChainsStay.{chains_set, links_set}
-use Rattle.fish_rule.proofs.basics.Lasts.{Lasts}
+use Rattle.fish_rule.proofs.basics.Lasts.{Kept, Lasts}
 use Rattle.fish_rule.specs.Chains.{Chained}
 use Rattle.fish_rule.specs.Parts.{Rests}
 use Rattle.fish_rule.specs.Facts.{AreOpens, Facts}
-use Rattle.fish_rule.specs.Rule.{Final, Rule}
+use Rattle.fish_rule.specs.Rule.{Rule}
 use Rattle.fish_rule.specs.Views.{AllOf}
 use Rattle.fish_rule.specs.World.{World}
 use Rattle.fish_rule.specs.declared.view.Clock.{Clock}
@@ -23,23 +23,21 @@ use Rattle.fish_rule.specs.declared.view.View.{View}
 use Rattle.fish_rule.proofs.basics.RegistryWords.{endures_same}
 use Rattle.fish_rule.specs.Epochs.{Stays}
 
-module _ (k : Key) (w : World) (r : Rule k w) (id : ℕ) (v : View) (at : get_elem? w.views id ≡ some v) where
+module _ {k : Key} {w : World} (r : Rule k w) (id : ℕ) {v : View} (at : get_elem? w.views id ≡ some v) where
   -- the view with other facts, another note of the tail, another registration that waits and another clock
   abbrev pub learner : Learned → Option Position → Option Round → Clock → View
   learner l t o c = record v { learned = l; tail = t; round = o; clock = c }
 
   -- nothing that lasts has changed
   pub learn_final : (l : Learned) (t : Option Position) (o : Option Round) (c : Clock)
-      → Final k r.start r.start r.lane_of r.lane_of w (record w { views = set w.views id (learner l t o c) })
-  learn_final l t o c = final_still k w r w.settled w.registry (set w.views id (learner l t o c)) (omega arith)
-      (endures_same k w.registry) (links_set k w r id v (learner l t o c) at (λ a c h. h))
+      → Kept r (record w { views = set w.views id (learner l t o c) })
+  learn_final l t o c = final_still r w.settled w.registry (set w.views id (learner l t o c)) (omega arith)
+      (endures_same k w.registry) (links_set r id (learner l t o c) at (λ a c h. h))
 
   -- what was known of chains is so in the new world
   pub still_chained : (l : Learned) (t : Option Position) (o : Option Round) (c : Clock)
       → Chained k w.dir w.log (set w.views id (learner l t o c)) w.head v.learned
-  still_chained l t o c = chained_later k w
-      (record w { views = set w.views id (learner l t o c) }) r.start r.start r.lane_of r.lane_of
-      (learn_final l t o c) v.learned (r.chained id v at)
+  still_chained l t o c = chained_later (learn_final l t o c) (r.chained id v at)
 
   -- a load keeps the rule where the new facts hold
   learns : (l : Learned) (t : Option Position) (o : Option Round) (c : Clock)
@@ -64,9 +62,8 @@ module _ (k : Key) (w : World) (r : Rule k w) (id : ℕ) (v : View) (at : get_el
         limit = limit_views r.limit
             (may_kept w.views id v v' at k.end r.quota refl refl (λ h. h) r.limit.may);
         settling = r.settling;
-        chained = each_chained k w (record w { views = set w.views id v' }) r r.start r.lane_of
-            (learn_final l t o c) id v' chained;
-        chains = chains_set k w r id v v' at (λ a c h. h) (λ a c h. h);
+        chained = each_chained r (learn_final l t o c) id v' chained;
+        chains = chains_set r id v' at (λ a c h. h) (λ a c h. h);
         floors = each_set _ w.views id v' (λ j u ne at_u. r.floors j u at_u) floor;
         own = each_set _ w.views id v' (λ j u ne at_u. r.own j u at_u) (r.own id v at);
         facts = each_set _ w.views id v' (λ j u ne at_u. r.facts j u at_u) facts;
@@ -83,7 +80,7 @@ module _ (k : Key) (w : World) (r : Rule k w) (id : ℕ) (v : View) (at : get_el
       → AllOf (AreOpens k w.count w.dir r.lane_of) l.opens → l.settled ≤ w.settled
       → Chained k w.dir w.log (set w.views id (learner l t o c)) w.head l
       → Stays k w.count w.registry r.state r.version_of (learner l t o c)
-      → Lasts k w r (record w { views = set w.views id (learner l t o c) })
+      → Lasts r (record w { views = set w.views id (learner l t o c) })
   unfolding learns
   learn_lasts l t o c rests facts opens floor chained stays =
       (learns l t o c rests facts opens floor chained stays, learn_final l t o c)

@@ -30,7 +30,7 @@ waits_else : (k : Key) (count : ℕ) (g g' : ℕ → ℕ) (state : ℕ → Epoch
 waits_else k count g g' state version_of lane None ne h = tt
 waits_else k count g g' state version_of lane (Some o) ne h = absurd (ne h.main)
 
-module _ (k : Key) (w : World) (r : Rule k w) (id : ℕ) (v : View) (at : get_elem? w.views id ≡ some v)
+module _ {k : Key} {w : World} (r : Rule k w) (id : ℕ) {v : View} (at : get_elem? w.views id ≡ some v)
     (main : v.lane ≡ 1) where
   -- the control pass knows the registry as it is
   pub its : IsMain k w.registry v.learned.version v.rows v.main_words
@@ -144,8 +144,8 @@ module _ (k : Key) (w : World) (r : Rule k w) (id : ℕ) (v : View) (at : get_el
       pub stores : (s : Rule k (record w { registry = stored; views = set w.views id storer }))
           × Final k r.start s.start r.lane_of s.lane_of w (record w { registry = stored; views = set w.views id storer })
       stores = (
-        registers k w r id v at stored v.epoch v.learned.version words v.rows storer.main_words round
+        registers r id at stored v.epoch v.learned.version words v.rows storer.main_words round
             (ticked v.clock) store_endures r.state storer_registry,
-        register_lasts k w r id v at stored v.epoch v.learned.version words v.rows storer.main_words round
+        register_lasts r id at stored v.epoch v.learned.version words v.rows storer.main_words round
             (ticked v.clock) store_endures r.state storer_registry,
       )

@@ -11,6 +11,7 @@ use Rattle.fish_catalog.specs.Words.{IsWritable, row_word}
 use Rattle.fish_catalog.specs.declared.listed.Listed.{Listed}
 use Rattle.fish_catalog.specs.declared.row.CatRow.{CatRow}
 use Rattle.fish_layout.specs.Cleared.{body_of}
+use Rattle.fish_rule.proofs.basics.Lasts.{Kept}
 use Rattle.fish_rule.proofs.basics.Lists.{all_map, each_set, seats_kept}
 use Rattle.fish_rule.proofs.classes.OtherViews.{final_still, limit_views, space_still, may_kept}
 use Rattle.fish_rule.proofs.classes.FactsStay.{chained_later, keyed_kept}
@@ -163,9 +164,9 @@ owned_far k g p (inr h) = (let a = h.4 in omega arith)
 
 -- ---- the class
 
-module _ (k : Key) (w : World) (r : Rule k w) (id : ℕ) (v : View) (at : get_elem? w.views id ≡ some v)
-    (g' : ℕ → ℕ) (epoch : Epoch) (version : ℕ) (words : List RegistryWord) (rows : List Listed)
-    (main_words : List RegistryWord) (round : Option Round) (clock : Clock) where
+module _ {k : Key} {w : World} (r : Rule k w) (id : ℕ) {v : View} (at : get_elem? w.views id ≡ some v) (g' : ℕ → ℕ)
+    (epoch : Epoch) (version : ℕ) (words : List RegistryWord) (rows : List Listed) (main_words : List RegistryWord)
+    (round : Option Round) (clock : Clock) where
   -- the view afterwards
   abbrev pub registrant : View
   registrant = record v {
@@ -183,9 +184,9 @@ module _ (k : Key) (w : World) (r : Rule k w) (id : ℕ) (v : View) (at : get_el
 
   module _ (endures : Endures k w.registry g') where
     -- nothing that lasts has changed
-    pub register_final : Final k r.start r.start r.lane_of r.lane_of w registered_world
-    register_final = final_still k w r w.settled g' (set w.views id registrant) (omega arith) endures
-        (links_set k w r id v registrant at (λ a c h. h))
+    pub register_final : Kept r registered_world
+    register_final = final_still r w.settled g' (set w.views id registrant) (omega arith) endures
+        (links_set r id registrant at (λ a c h. h))
 
     -- what the pass has learned but for the registry is so
     pub registrant_facts : Facts k w.count w.dir w.log r.start registrant.learned
@@ -209,14 +210,14 @@ module _ (k : Key) (w : World) (r : Rule k w) (id : ℕ) (v : View) (at : get_el
             (may_kept w.views id v registrant at k.end r.quota refl refl (λ h. h) r.limit.may);
         settling = r.settling;
         floors = each_set _ w.views id registrant (λ j u ne at_u. r.floors j u at_u) (r.floors id v at);
-        chains = chains_set k w r id v registrant at (λ a c h. h) (λ a c h. h);
-        chained = each_chained k w registered_world r r.start r.lane_of register_final id registrant
-            (let h = chained_later k w registered_world r.start r.start r.lane_of r.lane_of register_final v.learned
-            (r.chained id v at) in record { nodes = h.nodes; least_previous = h.least_previous; least_heads = h.least_heads });
+        chains = chains_set r id registrant at (λ a c h. h) (λ a c h. h);
+        chained = each_chained r register_final id registrant
+            (let h = chained_later register_final (r.chained id v at) in
+            record { nodes = h.nodes; least_previous = h.least_previous; least_heads = h.least_heads });
         own = each_set _ w.views id registrant (λ j u ne at_u. r.own j u at_u) (r.own id v at);
         facts = each_set _ w.views id registrant (λ j u ne at_u. r.facts j u at_u) registrant_facts;
         registry = registry;
-        keyed = keyed_kept k w registered_world r.start r.start r.lane_of r.lane_of register_final r.version_of
+        keyed = keyed_kept register_final r.version_of
             r.version_of (λ n below. refl) r.keyed (λ n below stored. (below, published (w.dir n) Stored stored));
         shuts = each_set _ w.views id registrant (λ j u ne at_u. r.shuts j u at_u) (r.shuts id v at);
         opens = each_set _ w.views id registrant (λ j u ne at_u. r.opens j u at_u) (r.opens id v at);

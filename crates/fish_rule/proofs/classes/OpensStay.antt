@@ -21,7 +21,7 @@ use Rattle.fish_rule.specs.declared.view.View.{View}
 -- ---- what lasts
 
 -- of the numbers in a list nothing is lost: no number below the list's count becomes unpublished again
-module _ (k : Key) (w w' : World) (start start' lane_of lane_of' : ℕ → ℕ)
+module _ {k : Key} {w w' : World} {start start' lane_of lane_of' : ℕ → ℕ}
     (f : Final k start start' lane_of lane_of' w w') where
   -- one list stays right
   open_later : (o : Opens) → AreOpens k w.count w.dir lane_of o → AreOpens k w'.count w'.dir lane_of' o
@@ -56,7 +56,7 @@ module _ (k : Key) (w w' : World) (start start' lane_of lane_of' : ℕ → ℕ)
 
 -- ---- a load of the tail and a look
 
-module _ (k : Key) (w : World) (r : Rule k w) where
+module _ {k : Key} {w : World} (r : Rule k w) where
   -- a list begins without numbers
   pub opens_begin : (count : ℕ) → count ≤ w.count
       → AreOpens k w.count w.dir r.lane_of (record { count = count; numbers = [] })

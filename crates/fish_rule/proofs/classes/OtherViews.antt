@@ -4,10 +4,11 @@ use Rattle.std.proofs.Math.Decide.{ℕ_discrete}
 use mathlib.Core.Option.{some, some-injective}
 use Rattle.std.proofs.Math.ListN.{get_elem?}
 use Rattle.atomic_table.proofs.Lists.{set_here, set_else}
+use Rattle.fish_rule.proofs.basics.Lasts.{Kept}
 use Rattle.fish_rule.proofs.basics.Lists.{each_set, pairs_set, within_list}
 use Rattle.fish_rule.specs.Chains.{Linked}
 use Rattle.fish_rule.specs.Registry.{Endures}
-use Rattle.fish_rule.specs.Rule.{Final, Rule}
+use Rattle.fish_rule.specs.Rule.{Rule}
 use Rattle.fish_rule.specs.World.{World}
 use Rattle.fish_rule.specs.Parts.{Flies, Limit, MayOverflow, Space}
 use Rattle.fish_rule.specs.Views.{Each, Has, HasFlight, IsFlightOf}
@@ -74,11 +75,11 @@ limit_views l may = record {
 }
 
 -- what lasts has lasted where no word of the directory or of the log changes, and no head
-pub final_still : (k : Key) (w : World) (r : Rule k w) (settled' : ℕ) (g' : ℕ → ℕ) (views' : List View)
+pub final_still : {k : Key} {w : World} (r : Rule k w) (settled' : ℕ) (g' : ℕ → ℕ) (views' : List View)
     → w.settled ≤ settled' → Endures k w.registry g'
     → ((b p : ℕ) → Linked k w.dir w.log w.views b p → Linked k w.dir w.log views' b p)
-    → Final k r.start r.start r.lane_of r.lane_of w (record w { settled = settled'; registry = g'; views = views' })
-final_still k w r settled' g' views' more endures links = record {
+    → Kept r (record w { settled = settled'; registry = g'; views = views' })
+final_still r settled' g' views' more endures links = record {
   counts = omega arith;
   lines = omega arith;
   settles = more;

@@ -23,9 +23,8 @@ use Rattle.fish_rule.specs.declared.view.Flight.{Flight}
 use Rattle.fish_rule.specs.declared.view.Key.{Key}
 use Rattle.fish_rule.specs.declared.view.View.{View}
 
-module _ (k : Key) (w : World) (r : Rule k w) (id : ℕ) (v : View) (at : get_elem? w.views id ≡ some v)
-    (g' : ℕ → ℕ) (epoch' : Epoch) (version : ℕ)
-    (endures : Endures k w.registry g') (still : version_in g' ≡ version_in w.registry)
+module _ {k : Key} {w : World} (r : Rule k w) (id : ℕ) {v : View} (at : get_elem? w.views id ≡ some v) (g' : ℕ → ℕ)
+    (epoch' : Epoch) (version : ℕ) (endures : Endures k w.registry g') (still : version_in g' ≡ version_in w.registry)
     (others : (p : ℕ) → p ≢ epoch_at v.lane → g' p ≡ w.registry p)
     (own : 1 ≤ v.lane → v.lane ≤ 16 → g' (epoch_at v.lane) ≡ epoch_word epoch')
     (from_ : 1 ≤ v.lane → k.version ≤ version)
@@ -179,10 +178,10 @@ module _ (k : Key) (w : World) (r : Rule k w) (id : ℕ) (v : View) (at : get_el
     }
 
     -- the step keeps the rule, and all that lasts
-    pub moves_last : Lasts k w r (record w { registry = g'; views = set w.views id mover })
+    pub moves_last : Lasts r (record w { registry = g'; views = set w.views id mover })
     moves_last = (
-      registers k w r id v at g' epoch' version v.learned.words v.rows v.main_words v.round clock endures state' move_registry,
-      register_lasts k w r id v at g' epoch' version v.learned.words v.rows v.main_words v.round clock endures state'
+      registers r id at g' epoch' version v.learned.words v.rows v.main_words v.round clock endures state' move_registry,
+      register_lasts r id at g' epoch' version v.learned.words v.rows v.main_words v.round clock endures state'
           move_registry,
     )
 

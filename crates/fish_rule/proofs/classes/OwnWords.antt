@@ -6,6 +6,7 @@ use mathlib.Core.Option.{some}
 use Rattle.std.proofs.Math.ListN.{get_elem?}
 use Rattle.fish_layout.specs.Cleared.{IsKeyWord}
 use Rattle.fish_layout.specs.Header.{keys_of}
+use Rattle.fish_rule.proofs.basics.Lasts.{Kept}
 use Rattle.fish_rule.proofs.basics.Bodies.{published}
 use Rattle.fish_rule.proofs.basics.Regions.{ends_within}
 use Rattle.fish_rule.proofs.basics.Lists.{each_set, seats_kept}
@@ -32,33 +33,33 @@ use Rattle.fish_rule.proofs.classes.WordsStay.{elsewhere, flight', own_stays, wo
 use Rattle.fish_rule.proofs.classes.WordsStay.{write_final}
 use Rattle.fish_rule.proofs.classes.PassesKnow.{each_chained, each_facts}
 
-module _ (k : Key) (w : World) (r : Rule k w) (id : ℕ) (v : View) (at : get_elem? w.views id ≡ some v)
-    (f : Flight) (flying : v.flight ≡ Some f) (o x : ℕ) (words' : List ℕ) (clock : Clock)
+module _ {k : Key} {w : World} (r : Rule k w) (id : ℕ) {v : View} (at : get_elem? w.views id ≡ some v) (f : Flight)
+    (flying : v.flight ≡ Some f) (o x : ℕ) (words' : List ℕ) (clock : Clock)
     (becomes : Becomes (f.lines * 4) f.linked o x (IsKeyWord (keys_of (body w.log f.line 0)) o)
     (kind_of k.end f.line (f.line + f.lines) ≡ Void) f.words words') where
   -- the record in flight afterwards
   abbrev pub rewritten : Flight
-  rewritten = flight' k w r id v at f flying o x words' clock becomes
+  rewritten = flight' r id at f flying o x words' clock becomes
 
   -- the view afterwards
   abbrev pub writer : View
-  writer = view' k w r id v at f flying o x words' clock becomes
+  writer = view' r id at f flying o x words' clock becomes
 
   -- the place of the word
   abbrev pub own_word : ℕ
-  own_word = word_place k w r id v at f flying o x words' clock becomes
+  own_word = word_place r id at f flying o x words' clock becomes
 
   -- the world afterwards
   abbrev pub written : World
-  written = world' k w r id v at f flying o x words' clock becomes
+  written = world' r id at f flying o x words' clock becomes
 
   -- what is so of the record in flight
   own : InFlight k w.count w.dir w.log r.start r.lane_of v.lane f
-  own = flight_is k w r id v at f flying
+  own = flight_is r id at f flying
 
   -- nothing that lasts has changed
-  final : Final k r.start r.start r.lane_of r.lane_of w written
-  final = write_final k w r id v at f flying o x words' clock becomes
+  final : Kept r written
+  final = write_final r id at f flying o x words' clock becomes
 
   -- the record in flight has the new words
   own_flight : InFlight k w.count w.dir written.log r.start r.lane_of v.lane rewritten
@@ -88,7 +89,7 @@ module _ (k : Key) (w : World) (r : Rule k w) (id : ℕ) (v : View) (at : get_el
 
       whole_still : 0 < f.linked → Whole k w.log v.lane f → Whole k written.log v.lane rewritten
       whole_still some_ h =
-          let e = own_stays k w r id v at f flying o x words' clock becomes some_ in
+          let e = own_stays r id at f flying o x words' clock becomes some_ in
           let l = (becomes.linking some_).1 in
           record {
             kind = h.kind;
@@ -110,15 +111,15 @@ module _ (k : Key) (w : World) (r : Rule k w) (id : ℕ) (v : View) (at : get_el
       let lines = h.lines in
       let grows = r.space.regions.grows g.number h.above h.below in
       let same : (i : ℕ) → i < g.lines * 4 → written.log (g.line * 4 + i) ≡ w.log (g.line * 4 + i) =
-      λ i less. elsewhere k w r id v at f flying o x words' clock becomes g.number (g.line * 4 + i) h.above
+      λ i less. elsewhere r id at f flying o x words' clock becomes g.number (g.line * 4 + i) h.above
       h.below other (omega arith) (omega arith) in
-      flight_later k w written r.start r.start r.lane_of r.lane_of final u.lane g h h.unpublished same
+      flight_later final u.lane g h h.unpublished same
       (λ some_. whole_later k w.log written.log u.lane g (omega arith) same (h.whole some_))
 
   -- the record in flight keeps its version, and its keys once entries are linked
   own_carried : IsCarried k w.registry r.version_of v.lane v.epoch rewritten
   own_carried =
-      let h = carried_is k w r id v at f flying in
+      let h = carried_is r id at f flying in
       record {
         entered = h.entered;
         keyed = λ some_. subst (λ (z : ℕ → ℕ). IsKeyed (AreActiveAt k w.registry) (r.version_of f.number) v.lane
@@ -140,7 +141,7 @@ module _ (k : Key) (w : World) (r : Rule k w) (id : ℕ) (v : View) (at : get_el
     space = record {
       regions = r.space.regions;
       finished =
-          λ n above below set_. finished_later k w written r.start r.start r.lane_of r.lane_of final n below set_
+          λ n above below set_. finished_later final n below set_
           (r.space.finished n above below set_);
       flying = λ n above below unset. flight_there w.views id v writer at n
           (λ h. subst (IsFlightOf n) flying h) (r.space.flying n above below unset);
@@ -158,16 +159,14 @@ module _ (k : Key) (w : World) (r : Rule k w) (id : ℕ) (v : View) (at : get_el
         (may_kept w.views id v writer at k.end r.quota refl refl
         (λ h. (h.0, λ over. h.1 (subst (IsOver k.end) flying over))) r.limit.may);
     settling = r.settling;
-    chains = write_chains k w r id v at f flying o x words' clock becomes;
-    chained = each_chained k w written r r.start r.lane_of final id writer
-        (chained_later k w written r.start r.start r.lane_of r.lane_of final v.learned (r.chained id v at));
+    chains = write_chains r id at f flying o x words' clock becomes;
+    chained = each_chained r final id writer (chained_later final (r.chained id v at));
     floors = each_set _ w.views id writer (λ j u ne at_u. r.floors j u at_u) (r.floors id v at);
     own = each_set _ w.views id writer (λ j u ne at_u. r.own j u at_u) (r.own id v at);
-    facts = each_facts k w written r r.start r.lane_of final id writer
-        (facts_later k w written r.start r.start r.lane_of r.lane_of final v.learned (r.facts id v at));
+    facts = each_facts r final id writer (facts_later final (r.facts id v at));
     registry = registry_set k w.count w.registry r.state r.version_of w.views id writer r.registry
         (r.registry.each id v at) own_carried;
-    keyed = keyed_kept k w written r.start r.start r.lane_of r.lane_of final r.version_of r.version_of
+    keyed = keyed_kept final r.version_of r.version_of
         (λ n below. refl) r.keyed (λ n below stored. (below, published (w.dir n) Stored stored));
     shuts = each_set _ w.views id writer (λ j u ne at_u. r.shuts j u at_u) (r.shuts id v at);
     opens = each_set _ w.views id writer (λ j u ne at_u. r.opens j u at_u) (r.opens id v at);

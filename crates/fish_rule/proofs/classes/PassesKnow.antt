@@ -11,28 +11,24 @@ use Rattle.fish_rule.specs.World.{World}
 use Rattle.fish_rule.specs.declared.view.Key.{Key}
 use Rattle.fish_rule.specs.declared.view.View.{View}
 
-module _ (k : Key) (w w' : World) (r : Rule k w) (start lane_of : ℕ → ℕ)
+module _ {k : Key} {w w' : World} (r : Rule k w) {start lane_of : ℕ → ℕ}
     (final : Final k r.start start r.lane_of lane_of w w') (id : ℕ) (v' : View) where
   -- facts
   pub each_facts : Facts k w'.count w'.dir w'.log start v'.learned
       → Each (λ u. Facts k w'.count w'.dir w'.log start u.learned) (set w.views id v')
-  each_facts = each_set _ w.views id v'
-      (λ j u ne at_u. facts_later k w w' r.start start r.lane_of lane_of final u.learned (r.facts j u at_u))
+  each_facts = each_set _ w.views id v' (λ j u ne at_u. facts_later final (r.facts j u at_u))
 
   -- what is learned of chains
   pub each_chained : Chained k w'.dir w'.log w'.views w'.head v'.learned
       → Each (λ u. Chained k w'.dir w'.log w'.views w'.head u.learned) (set w.views id v')
-  each_chained = each_set _ w.views id v'
-      (λ j u ne at_u. chained_later k w w' r.start start r.lane_of lane_of final u.learned (r.chained j u at_u))
+  each_chained = each_set _ w.views id v' (λ j u ne at_u. chained_later final (r.chained j u at_u))
 
   -- the claims that shut passes
   pub each_shut : ShutOk k w'.count w'.dir start v'.shut
       → Each (λ u. ShutOk k w'.count w'.dir start u.shut) (set w.views id v')
-  each_shut = each_set _ w.views id v'
-      (λ j u ne at_u. shut_later k w w' r.start start r.lane_of lane_of final u.shut (r.shuts j u at_u))
+  each_shut = each_set _ w.views id v' (λ j u ne at_u. shut_later final u.shut (r.shuts j u at_u))
 
   -- numbers that were found unpublished
   pub each_opens : AllOf (AreOpens k w'.count w'.dir lane_of) v'.learned.opens
       → Each (λ u. AllOf (AreOpens k w'.count w'.dir lane_of) u.learned.opens) (set w.views id v')
-  each_opens = each_set _ w.views id v'
-      (λ j u ne at_u. opens_later k w w' r.start start r.lane_of lane_of final u.learned.opens (r.opens j u at_u))
+  each_opens = each_set _ w.views id v' (λ j u ne at_u. opens_later final u.learned.opens (r.opens j u at_u))

@@ -8,6 +8,7 @@ use Rattle.fish_layout.proofs.Clearing.{cleared_head, cleared_same}
 use Rattle.fish_layout.proofs.Spelled.{spelled_lines}
 use Rattle.fish_layout.specs.Cleared.{IsKeyWord, entry_at}
 use Rattle.fish_layout.specs.Header.{keys_of, lines_of}
+use Rattle.fish_rule.proofs.basics.Lasts.{Kept}
 use Rattle.fish_rule.proofs.basics.Bodies.{body_same}
 use Rattle.fish_rule.proofs.basics.Regions.{flight_behind, one_region}
 use Rattle.fish_rule.proofs.basics.Stores.{Becomes}
@@ -19,7 +20,7 @@ use Rattle.fish_rule.proofs.basics.Worlds.{put-else}
 use Rattle.fish_rule.specs.Chains.{IsLinking, IsStoredAt, Linked, LinksAt, Shows, Chain}
 use Rattle.fish_rule.specs.Parts.{InFlight, first_head}
 use Rattle.fish_rule.specs.Regions.{kind_of}
-use Rattle.fish_rule.specs.Rule.{Final, Rule}
+use Rattle.fish_rule.specs.Rule.{Rule}
 use Rattle.fish_rule.specs.Views.{IsFlightOf}
 use Rattle.fish_rule.specs.World.{World, body, put}
 use Rattle.fish_rule.specs.declared.view.Clock.{Clock}
@@ -29,8 +30,8 @@ use Rattle.fish_rule.specs.declared.view.View.{View}
 use Rattle.fish_rule.proofs.basics.RegistryWords.{endures_same}
 use Rattle.fish_rule.specs.declared.view.Kind.TheVariants.{Void}
 
-module _ (k : Key) (w : World) (r : Rule k w) (id : ℕ) (v : View) (at : get_elem? w.views id ≡ some v)
-    (f : Flight) (flying : v.flight ≡ Some f) (o x : ℕ) (words' : List ℕ) (clock : Clock)
+module _ {k : Key} {w : World} (r : Rule k w) (id : ℕ) {v : View} (at : get_elem? w.views id ≡ some v) (f : Flight)
+    (flying : v.flight ≡ Some f) (o x : ℕ) (words' : List ℕ) (clock : Clock)
     (becomes : Becomes (f.lines * 4) f.linked o x (IsKeyWord (keys_of (body w.log f.line 0)) o)
     (kind_of k.end f.line (f.line + f.lines) ≡ Void) f.words words') where
   -- the record in flight afterwards
@@ -51,7 +52,7 @@ module _ (k : Key) (w : World) (r : Rule k w) (id : ℕ) (v : View) (at : get_el
 
   -- what is so of the record in flight
   own : InFlight k w.count w.dir w.log r.start r.lane_of v.lane f
-  own = flight_is k w r id v at f flying
+  own = flight_is r id at f flying
 
   -- a place in the region of another number is another place
   pub elsewhere : (n p : ℕ) → k.number ≤ n → n < w.count → n ≢ f.number → r.start n * 4 ≤ p
@@ -95,8 +96,8 @@ module _ (k : Key) (w : World) (r : Rule k w) (id : ℕ) (v : View) (at : get_el
   shown_stays : (a c : ℕ) → Shows k w.dir w.views a c → body world'.log a ≡ body w.log a
   shown_stays a c shows = pick (ℕ_discrete s.number f.number)
     where
-      s : RecordAt k w r a c
-      s = record_at k w r a c shows
+      s : RecordAt r a c
+      s = record_at r a c shows
 
       mine : (s.number ≡ f.number) → (0 < f.linked)
       mine e = ⊎_elim (λ (set_ : w.dir s.number ≢ 0). absurd (set_ (ap w.dir e ∙ own.unpublished)))
@@ -123,11 +124,11 @@ module _ (k : Key) (w : World) (r : Rule k w) (id : ℕ) (v : View) (at : get_el
   -- the word is no linked one
   pub not_linked : (b p : ℕ) → Linked k w.dir w.log w.views b p → p ≢ word_place
   not_linked b p h e =
-      let s = record_at k w r h.line h.entry h.shows in
+      let s = record_at r h.line h.entry h.shows in
       let line = own.line in
       let lines = own.lines in
       let within = becomes.within in
-      let same = which k w r b p h s f.number own.above own.below (omega arith) (omega arith) in
+      let same = which r b p h s f.number own.above own.below (omega arith) (omega arith) in
       let p_is : p ≡ h.line * 4 + (1 + 3 * h.entry) = h.is.is in
       let at_line : h.line ≡ f.line = same.1 ∙ line in
       let offset : o ≡ entry_at h.entry = omega arith in
@@ -174,7 +175,7 @@ module _ (k : Key) (w : World) (r : Rule k w) (id : ℕ) (v : View) (at : get_el
       (λ b p h. put-else w.log word_place x p (not_linked b p h)) r.chains
 
   -- nothing that lasts has changed
-  pub write_final : Final k r.start r.start r.lane_of r.lane_of w world'
+  pub write_final : Kept r world'
   write_final = record {
     counts = omega arith;
     lines = omega arith;
@@ -187,6 +188,6 @@ module _ (k : Key) (w : World) (r : Rule k w) (id : ℕ) (v : View) (at : get_el
     lanes = λ n h. refl;
     dirs = λ n h e. refl;
     bodies = bodies_stay;
-    below = λ p from less. (let behind = flight_behind k w r v.lane f own from in
+    below = λ p from less. (let behind = flight_behind r v.lane f own from in
         put-else w.log word_place x p (λ h. omega arith));
   }

@@ -1,5 +1,5 @@
 -- What the control pass, alone, concludes of the whole log.
-use Rattle.std.proofs.Common.{◌≡◌, ◌≢◌, ℕ, ◌+◌, ◌<◌, ◌≤◌, zero, suc, List, [], ◌∷◌, ◌++◌, length, refl, sym, ap, ◌∙◌, subst}
+use Rattle.std.proofs.Common.{◌≡◌, ◌≢◌, ℕ, ◌+◌, ◌≤◌, zero, suc, List, [], ◌∷◌, ◌++◌, length, refl, sym, ap, ◌∙◌, subst}
 use Rattle.std.proofs.Common.{inl, inr, arith, Some, None, Option}
 use mathlib.Core.Option.{some}
 use Rattle.std.proofs.Math.ListN.{get_elem?}
@@ -221,7 +221,7 @@ no_mark v n s alone live above mark =
     let fits = limit.fits in
     let word = mark v (learns_self v) w r s.seat s.at in
     let some_ = published (w.dir n) Mark word in
-    let below = claimed v.about w r n some_ in
+    let below = claimed r n some_ in
     let f = r.space.finished n above below some_ in
     let is : kind_of v.about.end (r.start n) (r.start (suc n)) ≡ Mark = code_once _ Mark (sym f.kind ∙ word) in
     let past = mark-past v.about.end (r.start n) (r.start (suc n)) is in

@@ -28,7 +28,7 @@ use Rattle.fish_rule.specs.declared.view.View.{View}
 pub always_later : (v u : View) (P : Key → World → Type 0) → Learns v u → Always v P → Always u P
 always_later v u P learns all x more = all x (learns_both v u x learns more)
 
-module _ (k : Key) (w : World) (r : Rule k w) where
+module _ {k : Key} {w : World} (r : Rule k w) where
   -- an entry of a published record, as the directory says where the record is, is one of the region there
   starts_there : (b n c p : ℕ) → n < w.count → IsEntryIn b n c p k w
       → IsEntryOf k w.dir w.log (r.start n) b n c p
@@ -41,9 +41,9 @@ module _ (k : Key) (w : World) (r : Rule k w) where
       → (r.start n * 4 ≤ p) × (p < r.start (suc n) * 4)
   unfolding entry_linked
   within_region b n c p below h =
-      let linked = entry_linked k w r b n c p below (starts_there b n c p below h) in
-      let s = record_at k w r linked.line linked.entry linked.shows in
-      let inside = lies_inside k w r b p linked s in
+      let linked = entry_linked r b n c p below (starts_there b n c p below h) in
+      let s = record_at r linked.line linked.entry linked.shows in
+      let inside = lies_inside r b p linked s in
       let grows = r.space.regions.grows n h.above below in
       let up = r.space.regions.grows s.number s.above s.below in
       let line : r.start s.number ≡ r.start n = s.line in
@@ -71,8 +71,8 @@ gap_clear v g from to among within u learns w r seat at n c p above less h under
     let k : Key = u.about in
     let gap = all_among (IsGap k w.count w.dir w.log r.start) g u.learned.gaps (r.facts seat u at).gaps
     (learns.gaps g among) in
-    let below = claimed_there k w r g.bucket n c p h in
-    gap.empty n c p (omega arith) (starts_there k w r g.bucket n c p below h) under
+    let below = claimed_there r g.bucket n c p h in
+    gap.empty n c p (omega arith) (starts_there r g.bucket n c p below h) under
 
 -- a place of a record outside the range is that of no entry in the range
 pub label_outside : (v : View) (l : Label) (from to : ℕ) → Among l v.learned.labels
@@ -81,9 +81,9 @@ label_outside v l from to among out u learns w r seat at b n c above less h =
     let k : Key = u.about in
     let label = all_among (IsLabel k w.count w.dir w.log r.start) l u.learned.labels (r.facts seat u at).labels
     (learns.labels l among) in
-    let below = claimed_there k w r b n c l.place h in
-    let here = within_region k w r b n c l.place below h in
-    let there = label_region k w r l label in
+    let below = claimed_there r b n c l.place h in
+    let here = within_region r b n c l.place below h in
+    let there = label_region r l label in
     let same : entry_number l.word ≡ n = one_region k w.count w.line r.start r.space.regions (entry_number l.word) n
     l.place label.above label.below h.above below there.0 there.1 here.0 here.1 in
     ⊎_elim (λ (m : entry_number l.word < from). omega arith) (λ (m : to ≤ entry_number l.word). omega arith) out
@@ -95,9 +95,9 @@ label_last v l b from to above among out clear u learns w r seat at n c p more l
     let k : Key = u.about in
     let label = all_among (IsLabel k w.count w.dir w.log r.start) l u.learned.labels (r.facts seat u at).labels
     (learns.labels l among) in
-    let below = claimed_there k w r b n c p h in
-    let here = within_region k w r b n c p below h in
-    let there = label_region k w r l label in
+    let below = claimed_there r b n c p h in
+    let here = within_region r b n c p below h in
+    let there = label_region r l label in
     let rises = starts_rise k w.count w.line r.start r.space.regions (suc (entry_number l.word)) n
     (let a = label.above in omega arith) (omega arith) (omega arith) in
     let low_ : p ≤ l.place = clear u learns w r seat at n c p more less h under in
@@ -135,9 +135,9 @@ label_entry v l b among node known u learns w r seat at =
         → IsNodeIn b (entry_number l.word) (entry_place l.word) l.place (entry_id l.word) k w
     node_there k w r b l label linked known =
         let n : ℕ = entry_number l.word in
-        let s = record_at k w r linked.line linked.entry linked.shows in
-        let inside = lies_inside k w r b l.place linked s in
-        let there = label_region k w r l label in
+        let s = record_at r linked.line linked.entry linked.shows in
+        let inside = lies_inside r b l.place linked s in
+        let there = label_region r l label in
         let same : s.number ≡ n = one_region k w.count w.line r.start r.space.regions s.number n l.place
         s.above s.below label.above label.below inside.0 inside.1 there.0 there.1 in
         let finished = r.space.finished n label.above label.below (label.settled known) in

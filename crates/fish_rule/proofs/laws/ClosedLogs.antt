@@ -24,15 +24,15 @@ use Rattle.fish_value.specs.declared.field.Form.{Form}
 use Rattle.fish_rule.proofs.basics.OneMoment.{get_here, here_get, there_is, entry_word, claimed, before_mark}
 use Rattle.fish_rule.proofs.basics.OneMoment.{entry_once, stored_by}
 
-module _ (k : Key) (w : World) (r : Rule k w) where
+module _ {k : Key} {w : World} (r : Rule k w) where
   module _ (entries : List Entry) (log : IsLog k w entries) where
     -- a number that is published and no mark is within the log
     pub within_log : (i : ℕ) → IsEntryWord (w.dir (k.number + i)) → i < length entries
     within_log i word =
-        let below = claimed k w r (k.number + i) word.published in
+        let below = claimed r (k.number + i) word.published in
         ⊎_elim (λ (e : k.number + length entries ≡ w.count). omega arith)
         (λ (mark : high (w.dir (k.number + length entries)) ≡ code Mark).
-        let h = before_mark k w r (k.number + length entries) (k.number + i) (omega arith) mark word in omega arith) log.ends
+        let h = before_mark r (k.number + length entries) (k.number + i) (omega arith) mark word in omega arith) log.ends
 
     -- each number of the log has its entry
     pub entry_at : (i : ℕ) (e : Entry) → slice_get entries i ≡ Some e → IsEntry w (k.number + i) e
@@ -43,7 +43,7 @@ module _ (k : Key) (w : World) (r : Rule k w) where
     entry_in i e h =
         let t = there_is entries i (within_log i (entry_word w (k.number + i) e h)) in
         let at : slice_get entries i ≡ Some t.0 = get_here entries i t.0 t.1 in
-        at ∙ ap Some (entry_once k w r (k.number + i) t.0 e (entry_at i t.0 at) h)
+        at ∙ ap Some (entry_once r (k.number + i) t.0 e (entry_at i t.0 at) h)
 
     -- all that is settled is within the log
     pub settled_within : w.settled ≤ k.number + length entries
@@ -72,7 +72,7 @@ always_closed v u P remains learns c all =
 
 -- an entry that was told stands in the log
 pub told_closed : ToldIsClosed
-told_closed v u i e remains learns c tells = entry_in u.about c.moment c.rule remains.log c.log i e
+told_closed v u i e remains learns c tells = entry_in c.rule remains.log c.log i e
     (always_closed v u (λ k w. IsEntry w (u.about.number + i) e) remains learns c tells)
 
 -- a record of the log is of the lane that claimed it
@@ -92,12 +92,12 @@ own_there v remains l i c among =
       published = published (c.moment.dir n) Stored by.stored;
       unmarked = λ m. (let s = by.stored in omega arith);
     } in
-    let t = there_is remains.log i (within_log v.about c.moment c.rule remains.log c.log i word) in
+    let t = there_is remains.log i (within_log c.rule remains.log c.log i word) in
     let at : slice_get remains.log i ≡ Some t.0 = get_here remains.log i t.0 t.1 in
-    let is = entry_at v.about c.moment c.rule remains.log c.log i t.0 at in
+    let is = entry_at c.rule remains.log c.log i t.0 at in
     let e = entry_stored c.moment n t.0 is by.stored in
     let stored = subst (IsEntry c.moment n) e.3 is in
-    let lane = stored_by v.about c.moment c.rule n e.0 e.1 e.2 (omega arith) stored in
+    let lane = stored_by c.rule n e.0 e.1 e.2 (omega arith) stored in
     let same : e.0 ≡ l = sym lane.lane ∙ by.lane in
     (e.1, e.2, at ∙ ap Some e.3 ∙ ap (λ (z : ℕ). Some (entry.Stored z e.1 e.2)) same)
 
@@ -106,9 +106,9 @@ there_own : (v : View) (remains : Remains) (l i : ℕ) → (c : IsClosed v remai
     → IsOfLane remains.log l i → Among (record { lane = l; number = v.about.number + i }) v.own
 there_own v remains l i c has is =
     let o : Own = record { lane = l; number = v.about.number + i } in
-    let stored = entry_at v.about c.moment c.rule remains.log c.log i _ is.2 in
+    let stored = entry_at c.rule remains.log c.log i _ is.2 in
     c.owns.complete o has
-    (stored_by v.about c.moment c.rule (v.about.number + i) l is.0 is.1 (omega arith) stored)
+    (stored_by c.rule (v.about.number + i) l is.0 is.1 (omega arith) stored)
 
 -- so the own numbers are exactly the lane's records
 pub own_closed : OwnIsClosed

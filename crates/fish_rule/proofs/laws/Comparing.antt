@@ -12,7 +12,7 @@ use Rattle.fish_rule.specs.declared.view.Found.{Found}
 use Rattle.fish_rule.specs.declared.view.Key.{Key}
 use Rattle.fish_rule.specs.declared.view.View.{View}
 
-module _ (k : Key) (w : World) (r : Rule k w) where
+module _ {k : Key} {w : World} (r : Rule k w) where
   -- that a region was found in this moment
   abbrev Here : Found → Type 0
   Here f = IsFound k w.count w.dir r.start f
@@ -60,7 +60,7 @@ module _ (k : Key) (w : World) (r : Rule k w) where
 
 -- what two passes found is so in a moment of a pass that knows it all
 here : (v u x : View) (f g : Found) (h : AreFound v u x f g)
-    → Here x.about h.stands.moment h.stands.rule f × Here x.about h.stands.moment h.stands.rule g
+    → Here h.stands.rule f × Here h.stands.rule g
 here v u x f g h =
     let w = h.stands.moment in
     let r = h.stands.rule in
@@ -73,15 +73,15 @@ here v u x f g h =
 -- so one number is one claim
 pub one_number : OneNumberIsOneClaim
 one_number v u x f g h same =
-    let t = here v u x f g h in one_here x.about h.stands.moment h.stands.rule f g t.0 t.1 same
+    let t = here v u x f g h in one_here h.stands.rule f g t.0 t.1 same
 
 -- and so is one line
 pub one_line : OneLineIsOneClaim
 one_line v u x f g h same =
     let t = here v u x f g h in
-    one_number v u x f g h (number_here x.about h.stands.moment h.stands.rule f g t.0 t.1 same)
+    one_number v u x f g h (number_here h.stands.rule f g t.0 t.1 same)
 
 -- and the regions of two numbers follow one another
 pub regions_follow : RegionsFollow
 regions_follow v u x f g h less =
-    let t = here v u x f g h in follow_here x.about h.stands.moment h.stands.rule f g t.0 t.1 less
+    let t = here v u x f g h in follow_here h.stands.rule f g t.0 t.1 less

@@ -103,7 +103,7 @@ previous_clear v b p x from to known =
 pub entries_behind : (v : View) → Always v (λ k w. (b n c p : ℕ) → IsEntryIn b n c p k w → k.line * 4 < p)
 entries_behind v u learns w r seat at b n c p h =
     let k : Key = u.about in
-    let below = claimed_there k w r b n c p h in
+    let below = claimed_there r b n c p h in
     let finished = r.space.finished n h.above below (published (w.dir n) Stored h.stored) in
     let line = finished.line in
     let from = starts_above k w.count w.line r.start r.space.regions n h.above (omega arith) in
@@ -114,8 +114,8 @@ entries_behind v u learns w r seat at b n c p h =
 pub entries_within : (v : View) → Always v (λ k w. (b n c p : ℕ) → IsEntryIn b n c p k w → p < k.end * 4)
 entries_within v u learns w r seat at b n c p h =
     let k : Key = u.about in
-    let below = claimed_there k w r b n c p h in
-    let inside = within_region k w r b n c p below h in
+    let below = claimed_there r b n c p h in
+    let inside = within_region r b n c p below h in
     let set_ = published (w.dir n) Stored h.stored in
     let finished = r.space.finished n h.above below set_ in
     let end = kind-inside k.end (r.start n) (r.start (suc n))

@@ -29,7 +29,7 @@ use Rattle.fish_rule.proofs.basics.RegionWords.{head_plain}
 pub stored_words : (kind : Kind) → kind ≡ Stored → kind ≢ Mark
 stored_words kind e f = (let g : Stored ≡ Mark = sym e ∙ f in cc)
 
-module _ (v : View) (w : World) (r : Rule v.about w) (j : ℕ) (at : get_elem? w.views j ≡ some v) (f : Found)
+module _ {v : View} (w : World) (r : Rule v.about w) (j : ℕ) (at : get_elem? w.views j ≡ some v) (f : Found)
     (among : Among f v.learned.found) (is : f.kind ≡ Stored) (words : List ℕ) (has : HasWords v f words) where
   -- the region is as it was found
   found : IsFound v.about w.count w.dir r.start f
@@ -45,7 +45,7 @@ module _ (v : View) (w : World) (r : Rule v.about w) (j : ℕ) (at : get_elem? w
       → body w.log (r.start f.number) i ≡ get_or words i 0
   stands_there i less plain =
       let full = has.full in
-      word_known v.about w r f i (get_or words i 0) found less
+      word_known r f i (get_or words i 0) found less
       (all_among (IsKnown v.about w.count w.dir w.log r.start) _ v.learned.known (r.facts j v at).known
       (has.read i (omega arith) plain))
 
@@ -60,7 +60,7 @@ module _ (v : View) (w : World) (r : Rule v.about w) (j : ℕ) (at : get_elem? w
       cleared_head (λ i. w.log (r.start f.number * 4 + i)) in
       let same : get_or words 0 0 ≡ w.log (r.start f.number * 4 + 0) = sym head ∙ log_head in
       let lines : lines_of (w.log (r.start f.number * 4 + 0)) ≡ f.lines = ap lines_of (sym log_head)
-      ∙ lines_found v.about w r f found (stored_words f.kind is) in
+      ∙ lines_found r f found (stored_words f.kind is) in
       let lines' : lines_of (get_or words 0 0) ≡ f.lines = ap lines_of same ∙ lines in
       let some_ = some_lines in
       cleared_same (λ i. get_or words i 0) (λ i. w.log (r.start f.number * 4 + i)) (λ i within plain.
@@ -77,7 +77,7 @@ module _ (v : View) (w : World) (r : Rule v.about w) (j : ℕ) (at : get_elem? w
   -- the words are those of the record
   pub record_there : IsRecord (r.lane_of f.number) f.number f.lines (body_of words)
   record_there =
-      let t = region_found v.about w r f found in
+      let t = region_found r f found in
       let line = found.line in
       let lines = found.lines in
       let size : r.start (suc f.number) - r.start f.number ≡ f.lines = omega arith in
@@ -100,7 +100,7 @@ module _ (v : View) (w : World) (r : Rule v.about w) (j : ℕ) (at : get_elem? w
   entry_there lane form payload lanes forms payloads =
       let p = record_there.1 in
       let q = body_there in
-      let t = region_found v.about w r f found in (
+      let t = region_found r f found in (
         record_there.0,
         record {
           stored = found.kind ∙ ap Rattle.fish_rule.specs.Regions.code is;
@@ -126,11 +126,11 @@ pub tells_entry : (v : View) (f : Found) (words : List ℕ) → Among f v.learne
     → ((q : BodyParts) → IsBody q words → form ≡ q.form)
     → ((q : BodyParts) → IsBody q words → payload ≡ q.payload) → Tells v f.number (entry.Stored lane form payload)
 tells_entry v f words among is has lane form payload lanes forms payloads u learns w r j at =
-    entry_there u w r j at f (learns.found f among) is words
+    entry_there w r j at f (learns.found f among) is words
     (has_later v u f words learns has) lane form payload lanes forms payloads
 
 -- the words of a record that was found are a record's
 pub found_body : (v : View) (f : Found) (words : List ℕ) → Stands v → Among f v.learned.found → f.kind ≡ Stored
     → HasWords v f words → (q : BodyParts) × IsBody q words
-found_body v f words s among is has = (let q = body_there v s.moment s.rule s.seat s.at f among is words has in
+found_body v f words s among is has = (let q = body_there s.moment s.rule s.seat s.at f among is words has in
     (q.0, q.1))

@@ -202,6 +202,6 @@ known_indexed v w seat id from below n version rows l r at h knows there after b
     let reached : version ≤ version_in g = (let a = knows.reached in let b = reg.reached in omega arith) in
     let now = text_later k g version (version_in g) id l reached
     (subst (λ (z : List Listed). slice_get z id ≡ Some l) (sym are) there) in
-    let i = intervals_indexed v w seat id from below n r at h (stored_above k w r n stored) after before stored in
+    let i = intervals_indexed v w seat id from below n r at h (stored_above r n stored) after before stored in
     let same : i.0.def ≡ l.def = ap (λ (z : Listed). z.def) (same_Some i.0 now.0 (sym i.1 ∙ now.1)) ∙ now.2 in
     subst (λ (z : List ℕ). IsIndexed k w id z n) same i.2

@@ -19,7 +19,7 @@ use Rattle.fish_rule.specs.ClosedLaws.{EndsWhereNextBegins}
 use Rattle.fish_rule.specs.Logs.{IsLog}
 use Rattle.fish_rule.specs.Regions.{code, kind_of}
 
-module _ (k : Key) (w : World) (r : Rule k w) where
+module _ {k : Key} {w : World} (r : Rule k w) where
   -- the number and the line of the first mark, or of the tail where there is none
   abbrev pub next_number : ℕ
   next_number = r.limit.first
@@ -40,8 +40,8 @@ module _ (k : Key) (w : World) (r : Rule k w) where
   -- every linked place is below that line
   pub linked_below : (b p : ℕ) → Linked k w.dir w.log w.views b p → p < next_line * 4
   linked_below b p h =
-      let s = record_at k w r h.line h.entry h.shows in
-      let inside = lies_inside k w r b p h s in
+      let s = record_at r h.line h.entry h.shows in
+      let inside = lies_inside r b p h s in
       let end = kind-inside k.end (r.start s.number) (r.start (suc s.number))
       (λ e. let q : Stored ≡ Mark = sym s.kind ∙ e in cc) in
       by s.number s.above s.below inside.1 end (dec_lt s.number r.limit.first)
@@ -74,7 +74,7 @@ at_index P [] none each b = none
 at_index P (x ∷ xs) none each zero = each zero x refl
 at_index P (x ∷ xs) none each (suc b) = at_index P xs none (λ i y at. each (suc i) y at) b
 
-module _ (k : Key) (w : World) (r : Rule k w) (entries : List Entry) (log : IsLog k w entries) where
+module _ {k : Key} {w : World} (r : Rule k w) (entries : List Entry) (log : IsLog k w entries) where
   -- the log ends at the first mark, or at the tail where there is none
   ends_first : k.number + length entries ≡ r.limit.first
   ends_first = pick (dec_lt r.limit.first (k.number + length entries))
@@ -84,7 +84,7 @@ module _ (k : Key) (w : World) (r : Rule k w) (entries : List Entry) (log : IsLo
       marked i within is =
           let t = there_is entries i within in
           let word = entry_word w (k.number + i) t.0 (log.each i t.0 t.1) in
-          let below = claimed k w r (k.number + i) word.published in
+          let below = claimed r (k.number + i) word.published in
           let past = r.limit.past (k.number + i) (omega arith) below in
           let f = r.space.finished (k.number + i) (omega arith) below word.published in
           word.unmarked (f.kind ∙ ap code (kind-mark k.end (r.start (k.number + i)) (r.start (suc (k.number + i))) past))
@@ -124,8 +124,8 @@ pub may_follow : EndsWhereNextBegins
 may_follow v remains c =
     let w : World = c.moment in
     let first : v.about.number + length remains.log ≡ c.rule.limit.first =
-    ends_first v.about w c.rule remains.log c.log in
-    let fits = next_fits v.about w c.rule in
+    ends_first c.rule remains.log c.log in
+    let fits = next_fits c.rule in
     let few = fits.0 in
     let low = fits.1 in
     let base = c.base in
@@ -139,5 +139,5 @@ may_follow v remains c =
       heads = c.many_heads;
       older = at_index (IsOlder remains.lines) remains.heads (λ some_. absurd (some_ refl))
           (λ b x at. subst (λ (z : ℕ × ℕ). IsOlder z.0 z.1) (λ i. (sym line i, sym (c.heads b x at) i))
-          (next_heads v.about w c.rule b));
+          (next_heads c.rule b));
     }

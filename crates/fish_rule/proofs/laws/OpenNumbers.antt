@@ -11,6 +11,6 @@ pub opens_apart : OpensAreApart
 opens_apart v o among m n lane f g p q at_m at_n u learns w r seat at stored_m stored_n =
     let k : Key = u.about in
     let h = all_among (AreOpens k w.count w.dir r.lane_of) o u.learned.opens (r.opens seat u at) (learns.opens o among) in
-    let a = stored_by k w r m lane f p (stored_above k w r m stored_m.1.stored) stored_m in
-    let b = stored_by k w r n lane g q (stored_above k w r n stored_n.1.stored) stored_n in
+    let a = stored_by r m lane f p (stored_above r m stored_m.1.stored) stored_m in
+    let b = stored_by r n lane g q (stored_above r n stored_n.1.stored) stored_n in
     h.apart m n at_m at_n (a.lane ∙ sym b.lane)

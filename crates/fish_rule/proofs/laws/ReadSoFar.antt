@@ -18,7 +18,7 @@ use Rattle.fish_rule.specs.Logs.{AreTold, Learns, Tells}
 use Rattle.fish_rule.specs.LoadSteps.{CanRaiseSettled}
 use Rattle.fish_rule.specs.Table.{Stands}
 use Rattle.fish_rule.specs.Views.{Among}
-use Rattle.fish_rule.specs.World.{World, low}
+use Rattle.fish_rule.specs.World.{World}
 use Rattle.fish_rule.specs.declared.close.ReadLog.{ReadLog}
 use Rattle.fish_rule.specs.declared.view.Key.{Key}
 use Rattle.fish_rule.specs.declared.view.View.{View}

@@ -43,9 +43,9 @@ module _ (v : View) (s : Stands v) (alone : IsAlone v) where
 
   -- so each linked place is of a published record
   linked_published : (b p : ℕ) (h : Linked v.about s.moment.dir s.moment.log s.moment.views b p)
-      → (t : RecordAt v.about s.moment s.rule h.line h.entry) × (s.moment.dir t.number ≢ 0)
+      → (t : RecordAt s.rule h.line h.entry) × (s.moment.dir t.number ≢ 0)
   linked_published b p h =
-      let t = record_at v.about s.moment s.rule h.line h.entry h.shows in (
+      let t = record_at s.rule h.line h.entry h.shows in (
         t,
         ⊎_elim (λ (set_ : s.moment.dir t.number ≢ 0). set_)
             (λ (f : (s.moment.dir t.number ≡ 0) × IsFlier s.moment t.number h.entry).
@@ -68,7 +68,7 @@ module _ (v : View) (s : Stands v) (alone : IsAlone v) where
         let finished = r.space.finished t.number t.above t.below found.1 in
         let stored : high (w.dir t.number) ≡ code Stored = finished.kind ∙ ap code t.kind in
         let within = logged t.number t.above found.1 stored in
-        let inside = lies_inside v.about w r b p h t in
+        let inside = lies_inside r b p h t in
         let end_ = kind-inside v.about.end (r.start t.number) (r.start (suc t.number))
         (λ e. let q : Stored ≡ Mark = sym t.kind ∙ e in cc) in
         gap.empty t.number h.entry p (omega arith)
@@ -195,7 +195,7 @@ closes v tail read settled base version heads s alone is_tail h far are base_is 
         → high (s.moment.dir n) ≡ code Stored → n < v.about.number + length read.entries
     in_log log n above set_ stored =
         let e : v.about.number + (n - v.about.number) ≡ n = omega arith in
-        let inside = within_log v.about s.moment s.rule read.entries log (n - v.about.number)
+        let inside = within_log s.rule read.entries log (n - v.about.number)
         (subst (λ (z : ℕ). Rattle.fish_rule.specs.Parts.IsEntryWord (s.moment.dir z)) (sym e)
         (record { published = set_; unmarked = λ m. (let bad : code Stored ≡ code Mark = sym stored ∙ m in omega arith) })) in
         omega arith

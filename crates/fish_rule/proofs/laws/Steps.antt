@@ -34,14 +34,14 @@ flight_law key v f about s is =
     let k : Key = v.about in
     let w : World = s.moment in
     let r = s.rule in
-    let own = flight_is k w r s.seat v s.at f is in
+    let own = flight_is r s.seat s.at f is in
     let above = own.above in
     let below = own.below in
     let line = own.line in
     let lines = own.lines in
-    let room = few_slots k w r in
-    let numbers = few_numbers k w r in
-    let low_ = few_lines k w r in
+    let room = few_slots r in
+    let numbers = few_numbers r in
+    let low_ = few_lines r in
     let from = starts_above k w.count w.line r.start r.space.regions f.number above (omega arith) in
     let end = ends_within k w.count w.line r.start r.space.regions f.number above below in
     let grows = r.space.regions.grows f.number above below in
@@ -62,8 +62,8 @@ pub look_law : (k : Key) (v : View) (n : ℕ) → v.about ≡ k → Stands v →
 look_law k v n about s can =
     let w : World = s.moment in
     let r = s.rule in
-    let room = few_slots v.about w r in
-    let numbers = few_numbers v.about w r in
+    let room = few_slots r in
+    let numbers = few_numbers r in
     let counted = (r.facts s.seat v s.at).counted in
     let above = can.above in
     let below = can.below in
@@ -82,7 +82,7 @@ read_law key v f i about s can =
     let lines = found.lines in
     let from = starts_above k w.count w.line r.start r.space.regions f.number found.above
     (let b = found.below in omega arith) in
-    let t = region_found k w r f found in
+    let t = region_found r f found in
     let end = kind-inside k.end (r.start f.number) (r.start (suc f.number)) (λ e. can.words (sym t.1 ∙ e)) in
     subst (λ (z : Key). (z.line ≤ f.line) × (f.line + f.lines ≤ z.end) × (i < f.lines * 4)) about
     (omega arith, omega arith, can.inside)
@@ -100,9 +100,9 @@ header_law v f h s among words read =
     let r = s.rule in
     let facts = r.facts s.seat v s.at in
     let found = all_among (IsFound k w.count w.dir r.start) f v.learned.found facts.found among in
-    let head = head_known k w r f h found
+    let head = head_known r f h found
     (all_among (IsKnown k w.count w.dir w.log r.start) _ v.learned.known facts.known read) in
-    ap lines_of (sym head) ∙ lines_found k w r f found words
+    ap lines_of (sym head) ∙ lines_found r f found words
 
 -- a region that was found has a line
 pub found_law : (v : View) (f : Found) → Stands v → Among f v.learned.found → 1 ≤ f.lines
@@ -121,7 +121,7 @@ pub count_law : (v : View) → Stands v → v.learned.count < 268435456
 count_law v s =
     let w : World = s.moment in
     let r = s.rule in
-    let numbers = few_numbers v.about w r in
+    let numbers = few_numbers r in
     let counted = (r.facts s.seat v s.at).counted in
     omega arith
 
@@ -129,5 +129,5 @@ count_law v s =
 pub counted_law : (v : View) → Stands v → v.learned.count ≤ 268435455
 counted_law v s =
     let counted = (s.rule.facts s.seat v s.at).counted in
-    let numbers = few_numbers v.about s.moment s.rule in
+    let numbers = few_numbers s.rule in
     omega arith

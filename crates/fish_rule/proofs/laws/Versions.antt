@@ -2,7 +2,7 @@
 pub use Rattle.fish_rule.proofs.basics.FirstBoundaries.{drafted_here, set_here}
 pub use Rattle.fish_rule.proofs.basics.RegistryWords.{definitions_first, definitions_next, has_read, keyed_map}
 pub use Rattle.fish_rule.proofs.basics.RegistryWords.{length_registered}
-use Rattle.std.proofs.Common.{◌≡◌, ℕ, ◌-◌, ◌<◌, ◌≤◌, List, sym, refl, ap, ◌∙◌, subst, arith, length, inr, Some, slice_get}
+use Rattle.std.proofs.Common.{◌≡◌, ℕ, ◌<◌, ◌≤◌, List, sym, refl, ap, ◌∙◌, subst, arith, length, inr, Some, slice_get}
 use Rattle.fish_rule.proofs.classes.Allowed.{unmade_within}
 use Rattle.fish_rule.proofs.steps.DefineWord.{unmade_here}
 use Rattle.fish_rule.proofs.steps.LoadRegistry.{lasts_there, lasting_within}
@@ -23,14 +23,13 @@ use Rattle.fish_rule.specs.declared.view.Round.{Round}
 -- a word that may be loaded is one of the registry's
 pub registry_law : (k : Key) (v : View) (p : ℕ) → v.about ≡ k → Stands v → CanLoadRegistry v p
     → (2 ≤ p) × (p < heads_at)
-registry_law k v p about s can = lasting_within v.about s.moment s.rule p
-    (lasts_there v.about s.moment s.rule s.seat v s.at refl p can)
+registry_law k v p about s can = lasting_within s.rule p (lasts_there s.rule s.seat s.at refl p can)
 
 -- and so is one that may be stored
 pub define_law : (k : Key) (v : View) (p x : ℕ) → v.about ≡ k → Stands v → CanDefineWord v p x
     → (2 ≤ p) × (p < heads_at)
 define_law k v p x about s can = unmade_within v.about s.moment p
-    (unmade_here v.about s.moment s.rule s.seat v s.at can.main p x can)
+    (unmade_here s.rule s.seat s.at can.main p x can)
 
 -- a pass knows of no version past 512
 pub version_law : (v : View) → Stands v → v.learned.version ≤ 512
@@ -114,5 +113,5 @@ bound_law v o n s waits bound =
     let round = subst (Waits v.about s.moment.count s.moment.registry s.rule.state s.rule.version_of v.lane) waits
     (s.rule.registry.each s.seat v s.at).waits in
     let within = (round.bound n bound).within in
-    let numbers = few_numbers v.about s.moment s.rule in
+    let numbers = few_numbers s.rule in
     omega arith

@@ -35,11 +35,11 @@ use Rattle.fish_rule.specs.Flying.{region_in}
 pub body_record : (v : View) (f : Flight) → HasBody v f → IsRecord v.lane f.number f.lines (body_of f.words)
 body_record v f h = (h.keyed.0, h.keyed.1.record_of)
 
-module _ (k : Key) (w : World) (r : Rule k w) (id : ℕ) (v : View) (at : get_elem? w.views id ≡ some v)
-    (f : Flight) (can : CanAimEntry v f) where
+module _ {k : Key} {w : World} (r : Rule k w) (id : ℕ) {v : View} (at : get_elem? w.views id ≡ some v) (f : Flight)
+    (can : CanAimEntry v f) where
   -- what is so of the record in flight
   own : InFlight k w.count w.dir w.log r.start r.lane_of v.lane f
-  own = flight_is k w r id v at f can.flying
+  own = flight_is r id at f can.flying
 
   -- the region has a line
   lines_some : 1 ≤ f.lines
@@ -106,13 +106,13 @@ module _ (k : Key) (w : World) (r : Rule k w) (id : ℕ) (v : View) (at : get_el
 
     -- an aim keeps the rule
     pub aim_entry_kept : Rule k aimed
-    aim_entry_kept = write_kept k w r id v at f can.flying (entry_at f.linked) x (set f.words (entry_at f.linked) x)
+    aim_entry_kept = write_kept r id at f can.flying (entry_at f.linked) x (set f.words (entry_at f.linked) x)
         (ticked v.clock) becomes
 
     -- and all that lasts
     pub aim_entry_lasts : Final k r.start aim_entry_kept.start r.lane_of aim_entry_kept.lane_of w aimed
     unfolding aim_entry_kept
-    aim_entry_lasts = write_lasts k w r id v at f can.flying (entry_at f.linked) x
+    aim_entry_lasts = write_lasts r id at f can.flying (entry_at f.linked) x
         (set f.words (entry_at f.linked) x) (ticked v.clock) becomes
 
   -- the place is within the log's words
@@ -137,8 +137,8 @@ aim_entry_allowed given k same size id me f i x about can is =
     allowed given k same size id me i (λ _. x) (λ _. told_aim_entry (step size i x 0 none) me x) (λ ws vs wide r at.
     let w : World = world k ws vs in
     let v' : View = after_aim_entry me.0 f x in
-    let within = own_within k w r id me.0 at f can in
-    let kept = aim_entry_kept k w r id me.0 at f can x in
+    let within = own_within r id at f can in
+    let kept = aim_entry_kept r id at f can x in
     let moved = world-log k ws vs (set vs id v') (own_place f) i x within.0 within.1 is wide in (
       v',
       subst (Rule k) (sym moved) kept,

@@ -18,18 +18,18 @@ use Rattle.fish_rule.proofs.classes.Allowed.{allowed, stands, there}
 use Rattle.fish_rule.specs.Table.{Ruled, Sat, Told}
 use Rattle.fish_rule.specs.Told.{told_announce}
 
-module _ (k : Key) (w : World) (r : Rule k w) (id : ℕ) (v : View) (at : get_elem? w.views id ≡ some v) where
+module _ {k : Key} {w : World} (r : Rule k w) (id : ℕ) {v : View} (at : get_elem? w.views id ≡ some v) where
   -- the lane is one of 1 to 16
   few : v.lane ≤ 16
   few = r.seats.few id v at
 
   module _ (u : ℕ) (can : CanAnnounce v u) where
     -- an announcement keeps the rule, and all that lasts
-    pub announce_lasts : Lasts k w r (record w {
+    pub announce_lasts : Lasts r (record w {
       registry = put w.registry (epoch_at v.lane) (suc u);
       views = set w.views id (after_announce v u);
     })
-    announce_lasts = moves_last k w r id v at (put w.registry (epoch_at v.lane) (suc u)) (Announced u) v.learned.version
+    announce_lasts = moves_last r id at (put w.registry (epoch_at v.lane) (suc u)) (Announced u) v.learned.version
         (epoch_endures k w.registry v.lane (suc u) can.can.live few)
         (let some_ = can.can.live in put-else w.registry (epoch_at v.lane) (suc u) 2 (λ h. omega arith))
         (λ p ne. put-else w.registry (epoch_at v.lane) (suc u) p ne)
@@ -50,7 +50,7 @@ announce_allowed given k same size id me u i x about can is value =
     let some_ = can.can.live in
     let kept : Rule k (record w { registry = put w.registry i x; views = set vs id v' }) =
     subst (λ (z : ℕ × ℕ). Rule k (record w { registry = put w.registry z.0 z.1; views = set vs id v' }))
-    (λ j. (sym is j, sym value j)) (announce_lasts k w r id me.0 at u can).0 in
+    (λ j. (sym is j, sym value j)) (announce_lasts r id at u can).0 in
     let moved = world-registry k ws vs (set vs id v') i x (omega arith) (omega arith) wide in
     let back : x - 1 ≡ u = omega arith in (
       v',

@@ -37,7 +37,7 @@ since_above Out s h = tt
 since_above (Announced u) s h = tt
 since_above (Confirmed u) s h = omega arith
 
-module _ (k : Key) (w : World) (r : Rule k w) (id : ℕ) (v : View) (at : get_elem? w.views id ≡ some v) where
+module _ {k : Key} {w : World} (r : Rule k w) (id : ℕ) {v : View} (at : get_elem? w.views id ≡ some v) where
   module _ (l : ℕ) (lane : IsLane l) where
     -- the word that is loaded
     abbrev word : ℕ
@@ -83,11 +83,11 @@ module _ (k : Key) (w : World) (r : Rule k w) (id : ℕ) (v : View) (at : get_el
         by (no ne) (no more) = h
 
     -- a load of an epoch word keeps the rule, and all that lasts
-    pub check_lane_lasts : Lasts k w r (record w { views = set w.views id checker })
+    pub check_lane_lasts : Lasts r (record w { views = set w.views id checker })
     check_lane_lasts =
         let stays = r.registry.each id v at in
-        learn_lasts k w r id v at v.learned v.tail checker.round checker.clock (r.tails id v at) (r.facts id v at)
-        (r.opens id v at) (r.floors id v at) (still_chained k w r id v at v.learned v.tail checker.round checker.clock)
+        learn_lasts r id at v.learned v.tail checker.round checker.clock (r.tails id v at) (r.facts id v at)
+        (r.opens id v at) (r.floors id v at) (still_chained r id at v.learned v.tail checker.round checker.clock)
         (assumption (stays, checked_waits v.round stays.waits))
 
 -- an epoch's word is at most one more than the version that it has reached
@@ -124,7 +124,7 @@ check_lane_allowed given k same size id me l i about lane is =
     let v' : View = after_check_lane me.0 l x in
     let kept : Rule k (record w { views = set vs id v' }) =
     subst (λ (z : ℕ). Rule k (record w { views = set vs id (after_check_lane me.0 l z) })) (sym word)
-    (check_lane_lasts k w r id me.0 at l lane).0 in
+    (check_lane_lasts r id at l lane).0 in
     let back : i - 3 ≡ l = omega arith in
     let most = few_word (r.state l) (version_in w.registry) (r.registry.epochs.past l lane.some lane.few) in
     let epoch = r.registry.epochs.words l lane.some lane.few in

@@ -30,43 +30,42 @@ use Rattle.fish_rule.proofs.steps.ClaimSpace.{claim_final, claim_limit, claim_sp
 use Rattle.fish_rule.proofs.steps.ClaimSpace.{view', world'}
 use Rattle.fish_rule.proofs.classes.PassesKnow.{each_chained, each_facts, each_opens, each_shut}
 
-module _ (k : Key) (w : World) (r : Rule k w) (id : ℕ) (v : View) (at : get_elem? w.views id ≡ some v) (m : ℕ)
+module _ {k : Key} {w : World} (r : Rule k w) (id : ℕ) {v : View} (at : get_elem? w.views id ≡ some v) (m : ℕ)
     (can : CanClaimLines v) (some_lines : 0 < m) (few_lines : m ≤ 18625) where
   -- the view afterwards
   abbrev pub claimer : View
-  claimer = view' k w r id v at m can some_lines few_lines
+  claimer = view' r id at m can some_lines few_lines
 
   -- the world afterwards
   abbrev pub claimed : World
-  claimed = world' k w r id v at m can some_lines few_lines
+  claimed = world' r id at m can some_lines few_lines
 
   -- where regions begin
   abbrev start : ℕ → ℕ
-  start = start' k w r id v at m can some_lines few_lines
+  start = start' r id at m can some_lines few_lines
 
   -- which lane claimed a number
   abbrev lane_of : ℕ → ℕ
-  lane_of = lane_of' k w r id v at m can some_lines few_lines
+  lane_of = lane_of' r id at m can some_lines few_lines
 
   -- nothing that lasts has changed
   final : Final k r.start start r.lane_of lane_of w claimed
-  final = claim_final k w r id v at m can some_lines few_lines
+  final = claim_final r id at m can some_lines few_lines
 
   -- a record that some pass stored was published before
   stored_old : (l n : ℕ) → IsStoredBy k (suc w.count) w.dir lane_of l n → (n < w.count) × (w.dir n ≢ 0)
-  stored_old l n h = keyed_old k w r id v at can n h.stored
+  stored_old l n h = keyed_old r id at can n h.stored
 
   -- the registry's part afterwards
-  registry : Registry k (suc w.count) w.registry r.state (version_of' k w r id v at can)
-      (set w.views id claimer)
+  registry : Registry k (suc w.count) w.registry r.state (version_of' r id at can) (set w.views id claimer)
   registry = record {
     epochs = r.registry.epochs;
-    versions = versions k w r id v at can;
-    boundaries = boundaries k w r id v at can;
-    each = each_set _ w.views id claimer (λ j u ne at_u. stays_on k w r id v at can u (r.registry.each j u at_u))
-        (stays_on k w r id v at can v (r.registry.each id v at));
+    versions = versions r id at can;
+    boundaries = boundaries r id at can;
+    each = each_set _ w.views id claimer (λ j u ne at_u. stays_on r id at can u (r.registry.each j u at_u))
+        (stays_on r id at can v (r.registry.each id v at));
     flights = each_set _ w.views id claimer
-        (λ j u ne at_u. others_carry k w r id v at can u.lane u.epoch u.flight (r.space.flights j u at_u)
+        (λ j u ne at_u. others_carry r id at can u.lane u.epoch u.flight (r.space.flights j u at_u)
         (r.registry.flights j u at_u))
         (record {
           entered = can.entered ∙ ap Confirmed (sym (put-here r.version_of w.count can.version));
@@ -77,24 +76,24 @@ module _ (k : Key) (w : World) (r : Rule k w) (id : ℕ) (v : View) (at : get_el
   -- what the pass has learned
   claim_facts : Facts k (suc w.count) w.dir w.log start claimer.learned
   claim_facts =
-      let h = facts_later k w claimed r.start start r.lane_of lane_of final v.learned (r.facts id v at) in
+      let h = facts_later final (r.facts id v at) in
       let counted : suc w.count ≤ suc w.count = omega arith in
       assumption (h, counted)
 
   -- what the pass has learned of chains
   claim_chained : Chained k w.dir w.log (set w.views id claimer) w.head claimer.learned
   claim_chained =
-      let h = chained_later k w claimed r.start start r.lane_of lane_of final v.learned (r.chained id v at) in
+      let h = chained_later final (r.chained id v at) in
       record { nodes = h.nodes; least_previous = h.least_previous; least_heads = h.least_heads }
 
   -- a claim keeps the rule
   pub claim_lines_kept : Rule k claimed
   claim_lines_kept =
-      let lim = claim_limit k w r id v at m can some_lines few_lines (dec_lt k.end (w.line + m)) in
+      let lim = claim_limit r id at m can some_lines few_lines (dec_lt k.end (w.line + m)) in
       record {
         start = start;
         lane_of = lane_of;
-        version_of = version_of' k w r id v at can;
+        version_of = version_of' r id at can;
         quota = lim.0;
         state = r.state;
         key_fits = r.key_fits;
@@ -103,31 +102,27 @@ module _ (k : Key) (w : World) (r : Rule k w) (id : ℕ) (v : View) (at : get_el
         tails = each_set _ w.views id claimer
             (λ j u ne at_u main all. absurd (ne
             (sym (only_main w.views j id u v r.seats at_u at main all can.live)))) (λ main all. (refl, refl));
-        space = claim_space k w r id v at m can some_lines few_lines;
+        space = claim_space r id at m can some_lines few_lines;
         limit = lim.1;
         settling = record {
           from = r.settling.from;
           within = (let h = r.settling.within in omega arith);
           below = r.settling.below;
         };
-        chained = each_chained k w claimed r start lane_of final id claimer claim_chained;
+        chained = each_chained r final id claimer claim_chained;
         floors = each_set _ w.views id claimer (λ j u ne at_u. r.floors j u at_u) (r.floors id v at);
-        chains = chains_set k w r id v claimer at (none_linked k w r id v at m can some_lines few_lines)
+        chains = chains_set r id claimer at (none_linked r id at m can some_lines few_lines)
             (λ a c h. let less : c < 0 = h.0 in absurd (omega arith));
-        own = each_set _ w.views id claimer
-            (λ j u ne at_u. owns_later k w claimed r.start start r.lane_of lane_of final u.lane u.out u.own
+        own = each_set _ w.views id claimer (λ j u ne at_u. owns_later final u.lane u.out u.own
             (r.own j u at_u) (λ o has h. stored_old o.lane o.number h))
-            (owns_later k w claimed r.start start r.lane_of lane_of final v.lane v.out v.own
+            (owns_later final v.lane v.out v.own
             (r.own id v at) (λ o has h. stored_old o.lane o.number h));
-        facts = each_facts k w claimed r start lane_of final id claimer claim_facts;
+        facts = each_facts r final id claimer claim_facts;
         registry = registry;
-        keyed = keyed_kept k w claimed r.start start r.lane_of lane_of final r.version_of
-            (version_of' k w r id v at can) (old_version k w r id v at can) r.keyed
-            (λ n below stored. keyed_old k w r id v at can n stored);
-        shuts = each_shut k w claimed r start lane_of final id claimer
-            (shut_later k w claimed r.start start r.lane_of lane_of final v.shut (r.shuts id v at));
-        opens = each_opens k w claimed r start lane_of final id claimer
-            (opens_later k w claimed r.start start r.lane_of lane_of final v.learned.opens (r.opens id v at));
+        keyed = keyed_kept final r.version_of (version_of' r id at can) (old_version r id at can) r.keyed
+            (λ n below stored. keyed_old r id at can n stored);
+        shuts = each_shut r final id claimer (shut_later final v.shut (r.shuts id v at));
+        opens = each_opens r final id claimer (opens_later final v.learned.opens (r.opens id v at));
       }
 
   -- and all that lasts
@@ -143,9 +138,9 @@ claim_lines_allowed given k same size id me x m about can some_lines few is =
     allowed given k same size id me 0 (λ n. (n + x) % 2 ^ 64) (ToldClaimLines (step size 0 x 0 none) me) (λ ws vs wide r at.
     let w : World = world k ws vs in
     let found : ℕ = get_or ws 0 0 in
-    let kept = claim_lines_kept k w r id me.0 at m can some_lines few in
-    let room = few_lines k _ kept in
-    let numbers = few_numbers k _ kept in
+    let kept = claim_lines_kept r id at m can some_lines few in
+    let room = few_lines kept in
+    let numbers = few_numbers kept in
     let parts : low found + high found * 68719476736 ≡ found = tail_is found in
     let v' : View = after_claim_lines me.0 m w.count w.line in
     let sum : (found + x) % 2 ^ 64 ≡ (w.line + m) + suc w.count * 68719476736 =
@@ -172,6 +167,6 @@ claim_lines_allowed given k same size id me x m about can some_lines few is =
         };
         counted = (r.facts id me.0 at).counted;
         within = subst (λ (z : Key). w.count < z.number + slots z) (sym about)
-            (let s = few_slots k _ kept in omega arith);
+            (let s = few_slots kept in omega arith);
       },
     ))

@@ -22,7 +22,7 @@ use Rattle.fish_rule.specs.declared.view.Key.{Key}
 use Rattle.fish_rule.specs.declared.view.View.{View}
 use Rattle.fish_rule.proofs.basics.RegistryWords.{endures_same}
 
-module _ (k : Key) (w : World) (r : Rule k w) (id : ℕ) (v : View) (at : get_elem? w.views id ≡ some v) (m : ℕ)
+module _ {k : Key} {w : World} (r : Rule k w) (id : ℕ) {v : View} (at : get_elem? w.views id ≡ some v) (m : ℕ)
     (can : CanClaimLines v) (some_lines : 0 < m) (few_lines : m ≤ 18625) where
   -- the view afterwards
   abbrev pub view' : View
@@ -68,7 +68,7 @@ module _ (k : Key) (w : World) (r : Rule k w) (id : ℕ) (v : View) (at : get_el
     settles = omega arith;
     registered = endures_same k w.registry;
     heads = λ b. omega arith;
-    links = links_set k w r id v view' at none_linked;
+    links = links_set r id view' at none_linked;
     rises = λ b p h. omega arith;
     starts = old_start;
     lanes = old_lane;
@@ -123,7 +123,7 @@ module _ (k : Key) (w : World) (r : Rule k w) (id : ℕ) (v : View) (at : get_el
       → Flies k (suc w.count) w.dir w.log start' lane_of' lane o
   others_fly lane None h = h
   others_fly lane (Some g) h =
-      flight_later k w world' r.start start' r.lane_of lane_of' claim_final lane g h h.unpublished
+      flight_later claim_final lane g h h.unpublished
       (λ i less. refl) h.whole
 
   -- a record that was in flight before has a number below the old count
@@ -136,7 +136,7 @@ module _ (k : Key) (w : World) (r : Rule k w) (id : ℕ) (v : View) (at : get_el
   pub claim_space : Space k (suc w.count) (w.line + m) w.dir w.log (set w.views id view') start' lane_of'
   claim_space = record {
     regions = regions;
-    finished = λ n above below set_. finished_later k w world' r.start start' r.lane_of lane_of' claim_final n
+    finished = λ n above below set_. finished_later claim_final n
         (old n below set_) set_ (r.space.finished n above (old n below set_) set_);
     flying = λ n above below unset. fly n above below unset (ℕ_discrete n w.count);
     flights = each_set _ w.views id view'

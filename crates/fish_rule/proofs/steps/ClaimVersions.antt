@@ -1,6 +1,5 @@
 -- What a claim leaves of the registry's part: the new record is of the version at which its pass is entered.
 use Rattle.std.proofs.Common.{◌≡◌, ◌≢◌, ℕ, ◌<◌, ◌≤◌, suc, length, sym, refl, ap, ◌∙◌, subst, arith, Some, None, Option}
-use Rattle.std.proofs.Common.{◌-◌}
 use Rattle.std.proofs.Math.Decide.{ℕ_discrete, dec_lt}
 use mathlib.Core.Option.{some}
 use Rattle.std.proofs.Math.ListN.{get_elem?}
@@ -26,7 +25,7 @@ use Rattle.fish_rule.specs.declared.view.Round.{Round}
 use Rattle.fish_rule.specs.declared.view.Epoch.{Epoch}
 use Rattle.fish_rule.specs.declared.view.Epoch.TheVariants.{Confirmed}
 
-module _ (k : Key) (w : World) (r : Rule k w) (id : ℕ) (v : View) (at : get_elem? w.views id ≡ some v)
+module _ {k : Key} {w : World} (r : Rule k w) (id : ℕ) {v : View} (at : get_elem? w.views id ≡ some v)
     (can : CanClaimLines v) where
   -- the new record is of the version at which the pass is entered
   abbrev pub version_of' : ℕ → ℕ

@@ -1,6 +1,6 @@
 -- `define_word`: the control pass stores a word of the next operation or row.
 use Rattle.std.proofs.Common.{◌≡◌, ◌≢◌, ℕ, ◌<◌, ◌≤◌, suc, List, length, set, sym, ◌⊎◌, ap, ◌∙◌, inl, inr, ⊎_elim, arith}
-use Rattle.std.proofs.Common.{◌-◌, refl, subst}
+use Rattle.std.proofs.Common.{refl, subst}
 use Rattle.std.proofs.Math.Decide.{ℕ_discrete}
 use mathlib.Core.Option.{some, none}
 use Rattle.std.proofs.Math.ListN.{get_elem?}
@@ -21,7 +21,7 @@ use Rattle.fish_rule.proofs.classes.Allowed.{allowed, stands, there, unmade_with
 use Rattle.fish_rule.specs.Table.{Ruled, Sat}
 use Rattle.fish_rule.specs.Told.{told_define_word}
 
-module _ (k : Key) (w : World) (r : Rule k w) (id : ℕ) (v : View) (at : get_elem? w.views id ≡ some v)
+module _ {k : Key} {w : World} (r : Rule k w) (id : ℕ) {v : View} (at : get_elem? w.views id ≡ some v)
     (main : v.lane ≡ 1) where
   module _ (p x : ℕ) (can : CanDefineWord v p x) where
     -- nothing is made of the word
@@ -29,10 +29,10 @@ module _ (k : Key) (w : World) (r : Rule k w) (id : ℕ) (v : View) (at : get_el
     unmade_here = by can.next
       where
         size : length (definitions_at k w.registry (version_in w.registry)) ≡ length v.rows
-        size = ap (λ (z : List Listed). length z) (its k w r id v at main).definitions
+        size = ap (λ (z : List Listed). length z) (its r id at main).definitions
 
         by : IsNextWord v p x → IsUnmade k w.registry p
-        by (inl h) = (let e = (its k w r id v at main).version in let a = h.0 in let q = h.1 in
+        by (inl h) = (let e = (its r id at main).version in let a = h.0 in let q = h.1 in
             inl (suc v.learned.version, (omega arith), (omega arith), h.1))
         by (inr h) = (let e = size in inr (length v.rows, h.0, (omega arith), h.1, h.2, h.3))
 
@@ -56,11 +56,11 @@ module _ (k : Key) (w : World) (r : Rule k w) (id : ℕ) (v : View) (at : get_el
 
     -- the version stays
     define_still : version_in (put w.registry p x) ≡ version_in w.registry
-    define_still = store_still k w r id v at main p x far_here made_else
+    define_still = store_still r id at main p x far_here made_else
 
     -- and so does what lasts
     define_endures : Endures k w.registry (put w.registry p x)
-    define_endures = store_endures k w r id v at main p x far_here made_else
+    define_endures = store_endures r id at main p x far_here made_else
 
     -- a boundary that it may be is none, as it was
     boundary_same : (n i : ℕ) → n < 256 → i < 2 → put w.registry p x (row_at n i) ≡ w.registry (row_at n i)
@@ -75,7 +75,7 @@ module _ (k : Key) (w : World) (r : Rule k w) (id : ℕ) (v : View) (at : get_el
             let same = h.3 in
             let small = h.2 in
             let size : length (definitions_at k w.registry (version_in w.registry)) ≡ length v.rows =
-            ap (λ (z : List Listed). length z) (its k w r id v at main).definitions in
+            ap (λ (z : List Listed). length z) (its r id at main).definitions in
             ⊎_elim (λ (far : 2 ≤ h.0). absurd (omega arith))
             (λ (zero_ : x ≡ 0). ap (put w.registry p x) e ∙ put-here w.registry p x ∙ zero_
             ∙ sym (r.registry.boundaries.unmade n i (omega arith) few bound)) h.4) can.next
@@ -85,9 +85,9 @@ module _ (k : Key) (w : World) (r : Rule k w) (id : ℕ) (v : View) (at : get_el
     definer = after_define_word v p x
 
     -- a definition keeps the rule, and all that lasts
-    pub define_word_lasts : Lasts k w r (record w { registry = put w.registry p x; views = set w.views id definer })
-    define_word_lasts = stores k w r id v at main p x far_here made_else v.round v.learned.words
-        (store_read k w r id v at main p x far_here made_else)
+    pub define_word_lasts : Lasts r (record w { registry = put w.registry p x; views = set w.views id definer })
+    define_word_lasts = stores r id at main p x far_here made_else v.round v.learned.words
+        (store_read r id at main p x far_here made_else)
         (boundaries_later k w.registry _ define_endures w.count r.state r.state r.version_of define_still boundary_same
         (λ n i l few is above below. lists_later k w.registry _ define_endures n (r.state l)
         (r.registry.epochs.past l above below) (r.registry.boundaries.entered n i l few is above below))
@@ -103,8 +103,8 @@ define_word_allowed given k same size id me p x about can =
     allowed given k same size id me p (λ _. x) (λ _. told_define_word (step size p x 0 none) me x) (λ ws vs wide r at.
     let w : World = world k ws vs in
     let v' : View = after_define_word me.0 p x in
-    let within = unmade_within k w p (unmade_here k w r id me.0 at can.main p x can) in
-    let kept = (define_word_lasts k w r id me.0 at can.main p x can).0 in
+    let within = unmade_within k w p (unmade_here r id at can.main p x can) in
+    let kept = (define_word_lasts r id at can.main p x can).0 in
     let moved = world-registry k ws vs (set vs id v') p x within.0 within.1 wide in (
       v',
       subst (Rule k) (sym moved) kept,

@@ -3,6 +3,7 @@ use Rattle.std.proofs.Common.{◌≡◌, ◌≢◌, ℕ, List, set, sym, refl, a
 use mathlib.Core.Option.{some}
 use Rattle.std.proofs.Math.ListN.{get_elem?}
 use Rattle.atomic_table.proofs.Lists.{set_else}
+use Rattle.fish_rule.proofs.basics.Lasts.{Kept}
 use Rattle.fish_rule.proofs.basics.Lists.{all_append, among_either, among_left, among_right, each_set, no_flight}
 use Rattle.fish_rule.proofs.basics.Lists.{pairs_set}
 use Rattle.fish_rule.proofs.classes.OtherViews.{final_still, limit_views, alone_kept, flight_there}
@@ -18,7 +19,7 @@ use Rattle.fish_rule.specs.Rule.{Final, Rule}
 use Rattle.fish_rule.specs.SeatSteps.{CanJoinPass, join_both, spent, without}
 use Rattle.fish_rule.specs.Views.{Among, Each, Has}
 use Rattle.fish_rule.specs.Gaps.{IsGap, IsLabel}
-use Rattle.fish_rule.specs.World.{World, world}
+use Rattle.fish_rule.specs.World.{World}
 use Rattle.fish_rule.specs.declared.view.Key.{Key}
 use Rattle.fish_rule.specs.declared.view.View.{View}
 use Rattle.fish_rule.proofs.basics.RegistryWords.{endures_same}
@@ -29,9 +30,8 @@ use Rattle.fish_rule.specs.declared.view.Epoch.TheVariants.{Out}
 use Rattle.atomic_table.specs.Table.{Joins}
 use Rattle.fish_rule.specs.Table.{Ruled}
 
-module _ (k : Key) (w : World) (r : Rule k w) (id other : ℕ) (v u : View) (at : get_elem? w.views id ≡ some v)
-    (ne : other ≢ id)
-    (at_u : get_elem? w.views other ≡ some u) (can : CanJoinPass v u) where
+module _ {k : Key} {w : World} (r : Rule k w) (id other : ℕ) {v u : View} (at : get_elem? w.views id ≡ some v)
+    (ne : other ≢ id) (at_u : get_elem? w.views other ≡ some u) (can : CanJoinPass v u) where
   -- the control pass's view after it
   abbrev both : View
   both = join_both v u
@@ -133,23 +133,20 @@ module _ (k : Key) (w : World) (r : Rule k w) (id other : ℕ) (v u : View) (at 
       (linking_from taken other u spent at_other a c (λ q. elim q [ ]) h)
 
   -- nothing that lasts has changed
-  join_final : Final k r.start r.start r.lane_of r.lane_of w (record w { views = set taken other spent })
-  join_final = final_still k w r w.settled w.registry (set taken other spent) (omega arith)
-      (endures_same k w.registry) (links_views k w r (set taken other spent) links_join)
+  join_final : Kept r (record w { views = set taken other spent })
+  join_final = final_still r w.settled w.registry (set taken other spent) (omega arith)
+      (endures_same k w.registry) (links_views r (set taken other spent) links_join)
 
   -- what is known of chains stays so, and what either knew is so
-  join_chained : (x : Learned) → Chained k w.dir w.log w.views w.head x
+  join_chained : {x : Learned} → Chained k w.dir w.log w.views w.head x
       → Chained k w.dir w.log (set taken other spent) w.head x
-  join_chained = chained_later k w (record w {
-    views =
-        set taken other spent;
-  }) r.start r.start r.lane_of r.lane_of join_final
+  join_chained = chained_later join_final
 
   -- what both have learned of chains
   both_chained : Chained k w.dir w.log (set taken other spent) w.head both.learned
   both_chained =
-      let a = join_chained v.learned (r.chained id v at) in
-      let b = join_chained u.learned (r.chained other u at_u) in
+      let a = join_chained (r.chained id v at) in
+      let b = join_chained (r.chained other u at_u) in
       record {
         nodes = all_append _ v.learned.nodes u.learned.nodes a.nodes b.nodes;
         least_previous = all_append _ v.learned.least_previous u.learned.least_previous a.least_previous b.least_previous;
@@ -230,8 +227,8 @@ module _ (k : Key) (w : World) (r : Rule k w) (id other : ℕ) (v u : View) (at 
     limit = limit_views r.limit
         (each_join _ r.limit.may join_may (λ x has. absurd (has_none x has)));
     settling = r.settling;
-    chains = chains_views k w r (set taken other spent) links_join back_join;
-    chained = each_join _ (λ j x at_x. join_chained x.learned (r.chained j x at_x)) both_chained
+    chains = chains_views r (set taken other spent) links_join back_join;
+    chained = each_join _ (λ j x at_x. join_chained (r.chained j x at_x)) both_chained
         (record { nodes = tt; least_previous = tt; least_heads = tt });
     floors = each_join _ r.floors (let a = r.floors id v at in let b = r.floors other u at_u in omega arith)
         (omega arith);
@@ -266,6 +263,6 @@ pub joins : (k : Key) (id : ℕ) (v : View) (other : ℕ) (u : View) → CanJoin
     → Joins (Ruled k) id v other u (join_both v u) spent
 joins k id v other u can s ruled at away at_u = record {
   wide = ruled.wide;
-  rule = join_kept k (world k s.words s.views) ruled.rule id other v u at away
+  rule = join_kept ruled.rule id other at away
       (sym (set_else s.views id other (join_both v u) away) ∙ at_u) can;
 }

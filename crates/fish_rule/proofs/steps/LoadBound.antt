@@ -1,5 +1,5 @@
 -- `load_bound`: a load of the tail behind the last lane.
-use Rattle.std.proofs.Common.{◌≡◌, ℕ, ◌≤◌, set, sym, subst, arith, Option, get_or, refl, ◌∙◌}
+use Rattle.std.proofs.Common.{◌≡◌, ℕ, ◌≤◌, set, sym, subst, arith, get_or, refl, ◌∙◌}
 use mathlib.Core.Option.{some, none}
 use Rattle.std.proofs.Math.ListN.{get_elem?}
 use Rattle.fish_rule.proofs.classes.Loads.{learn_lasts, still_chained}
@@ -18,7 +18,7 @@ use Rattle.fish_rule.proofs.steps.LoadTail.{end_counted, end_rests}
 use Rattle.fish_rule.specs.Table.{Ruled, Sat, Told}
 use Rattle.fish_rule.specs.Told.{ToldLoadBound}
 
-module _ (k : Key) (w : World) (r : Rule k w) (id : ℕ) (v : View) (at : get_elem? w.views id ≡ some v) where
+module _ {k : Key} {w : World} (r : Rule k w) (id : ℕ) {v : View} (at : get_elem? w.views id ≡ some v) where
   module _ (o : Round) (x : ℕ) (can : CanLoadBound v o) (count : high x ≡ w.count) (line : low x ≡ w.line) where
     -- the view afterwards
     abbrev bounder : View
@@ -43,14 +43,14 @@ module _ (k : Key) (w : World) (r : Rule k w) (id : ℕ) (v : View) (at : get_el
         }
 
     -- a load of the tail behind the last lane keeps the rule, and all that lasts
-    pub load_bound_lasts : Lasts k w r (record w { views = set w.views id bounder })
+    pub load_bound_lasts : Lasts r (record w { views = set w.views id bounder })
     load_bound_lasts =
         let h = r.facts id v at in
         let stays = r.registry.each id v at in
         let u : View = bounder in
-        let still = still_chained k w r id v at u.learned u.tail u.round u.clock in
+        let still = still_chained r id at u.learned u.tail u.round u.clock in
         let counted : high x ≤ w.count = subst (λ (z : ℕ). z ≤ w.count) (sym count) (omega arith) in
-        learn_lasts k w r id v at u.learned u.tail u.round u.clock (λ main all. (count, line)) (assumption (h, counted))
+        learn_lasts r id at u.learned u.tail u.round u.clock (λ main all. (count, line)) (assumption (h, counted))
         (r.opens id v at) (r.floors id v at) (assumption still) (assumption (stays, bound_waits))
 
 -- a load of the tail behind the last lane
@@ -61,7 +61,7 @@ load_bound_allowed given k same size id me o about can =
     let w : World = world k ws vs in
     let x : ℕ = get_or ws 0 0 in
     let v' : View = after_load_bound me.0 o x in
-    let kept = (load_bound_lasts k w r id me.0 at o x can refl refl).0 in (
+    let kept = (load_bound_lasts r id at o x can refl refl).0 in (
       v',
       loaded_words k ws (set vs id v') 0 kept,
       record {
@@ -69,7 +69,7 @@ load_bound_allowed given k same size id me o about can =
             let e : o ≡ p = same_Some o p (sym can.waits ∙ waits) in
             subst (λ (z : Round). Told me (after_load_bound me.0 z x) (v', me.1)) e
             (record { view = refl; held = refl; stands = stands k _ id v' kept about (there vs id me.0 v' at) });
-        counted = end_counted k w r id me.0 at x refl;
-        rests = end_rests k w r id me.0 at x refl refl;
+        counted = end_counted r id at x refl;
+        rests = end_rests r id at x refl refl;
       },
     ))

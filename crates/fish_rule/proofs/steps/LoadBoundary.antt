@@ -21,7 +21,7 @@ use Rattle.fish_rule.proofs.basics.Regions.{few_numbers}
 use Rattle.fish_rule.specs.Table.{Ruled, Sat, Told}
 use Rattle.fish_rule.specs.Told.{ToldLoadBoundary}
 
-module _ (k : Key) (w : World) (r : Rule k w) (id : ℕ) (v : View) (at : get_elem? w.views id ≡ some v) where
+module _ {k : Key} {w : World} (r : Rule k w) (id : ℕ) {v : View} (at : get_elem? w.views id ≡ some v) where
   -- what was learned is so with other facts about the registry
   same_facts : (l : Learned) → l ≡ record v.learned { words = l.words; unended = l.unended } → Facts k w.count w.dir w.log r.start l
   same_facts l same =
@@ -75,13 +75,13 @@ module _ (k : Key) (w : World) (r : Rule k w) (id : ℕ) (v : View) (at : get_el
         )
 
     -- a load of a boundary keeps the rule, and all that lasts
-    pub load_boundary_lasts : Lasts k w r (record w { views = set w.views id seer })
+    pub load_boundary_lasts : Lasts r (record w { views = set w.views id seer })
     load_boundary_lasts =
         let stays = r.registry.each id v at in
         let u : View = seer in
-        let still = still_chained k w r id v at u.learned v.tail v.round u.clock in
+        let still = still_chained r id at u.learned v.tail v.round u.clock in
         let x : ℕ = w.registry (row_at n i) in
-        learn_lasts k w r id v at u.learned v.tail v.round u.clock (r.tails id v at) (same_facts u.learned refl)
+        learn_lasts r id at u.learned v.tail v.round u.clock (r.tails id v at) (same_facts u.learned refl)
         (r.opens id v at) (r.floors id v at) (assumption still)
         (assumption (stays, boundary_read x refl, end_read i x refl refl))
 
@@ -99,7 +99,7 @@ load_boundary_allowed given k same size id me n i p about can is =
     let v' : View = after_load_boundary me.0 n i x in
     let kept : Rule k (record w { views = set vs id v' }) =
     subst (λ (z : ℕ). Rule k (record w { views = set vs id (after_load_boundary me.0 n i z) })) (sym word)
-    (load_boundary_lasts k w r id me.0 at n i can).0 in (
+    (load_boundary_lasts r id at n i can).0 in (
       v',
       loaded_words k ws (set vs id v') p kept,
       record {
@@ -110,7 +110,7 @@ load_boundary_allowed given k same size id me n i p about can is =
             (record { view = refl; held = refl; stands = stands k _ id v' kept about (there vs id me.0 v' at) });
         few = small_word x (w.registry (row_at n i)) word (λ y e.
             let most = r.registry.boundaries.claimed n i y can.few can.bound e in
-            let numbers = few_numbers k w r in omega arith);
+            let numbers = few_numbers r in omega arith);
         known = λ y among same.
             let read = all_among (IsRegistered k w.registry) y me.0.learned.words (r.registry.each id me.0 at).read among in
             word ∙ ap w.registry (sym is ∙ sym same) ∙ read.word;

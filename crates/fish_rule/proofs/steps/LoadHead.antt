@@ -22,7 +22,7 @@ use Rattle.fish_rule.specs.declared.view.Key.{Key}
 use Rattle.fish_rule.specs.declared.view.View.{View}
 use Rattle.fish_rule.proofs.basics.FirstHeads.{node_joins, first_else, linked_else}
 
-module _ (k : Key) (w : World) (r : Rule k w) (id : ℕ) (v : View) (at : get_elem? w.views id ≡ some v) (b : ℕ) where
+module _ {k : Key} {w : World} (r : Rule k w) (id : ℕ) {v : View} (at : get_elem? w.views id ≡ some v) (b : ℕ) where
   -- the view afterwards, with some clock
   abbrev pub head_seer : Clock → View
   head_seer clock = head_seen v b (w.head b) clock
@@ -34,21 +34,21 @@ module _ (k : Key) (w : World) (r : Rule k w) (id : ℕ) (v : View) (at : get_el
 
   -- no linked entry is above the head
   head_gap : IsGap k w.count w.dir w.log r.start (gap b (v.about.end * 4) (w.head b) v.learned)
-  head_gap = gap_there k w r b v.learned.settled (v.about.end * 4) (w.head b) (r.floors id v at)
+  head_gap = gap_there r b v.learned.settled (v.about.end * 4) (w.head b) (r.floors id v at)
       (λ p linked under. (r.chains b).highest p linked)
 
   module _ (clock : Clock) (about : v.about ≡ k) where
     -- a step that sees a head keeps the rule, and all that lasts
-    pub load_head_lasts : Lasts k w r (record w { views = set w.views id (head_seer clock) })
+    pub load_head_lasts : Lasts r (record w { views = set w.views id (head_seer clock) })
     load_head_lasts =
         let h = r.facts id v at in
-        let still = still_chained k w r id v at (head_seer clock).learned v.tail v.round clock in
-        let final = learn_final k w r id v at (head_seer clock).learned v.tail v.round clock in
-        learn_lasts k w r id v at (head_seer clock).learned v.tail v.round clock (r.tails id v at)
+        let still = still_chained r id at (head_seer clock).learned v.tail v.round clock in
+        let final = learn_final r id at (head_seer clock).learned v.tail v.round clock in
+        learn_lasts r id at (head_seer clock).learned v.tail v.round clock (r.tails id v at)
         (assumption (h, head_gap))
         (r.opens id v at) (r.floors id v at) (record {
           nodes = node_joins _ v.about b (w.head b) v.learned.nodes still.nodes
-              (λ more. final.links b (w.head b) (linked_else k w r b (w.head b) (r.chains b).some
+              (λ more. final.links b (w.head b) (linked_else r b (w.head b) (r.chains b).some
               (subst (λ (z : Key). z.line * 4 < w.head b) about more)));
           least_previous = still.least_previous;
           least_heads = (omega arith, still.least_heads);
@@ -71,17 +71,17 @@ load_head_allowed given k same size id me b i about can is =
     let v' : View = after_load_head me.0 b x in
     let kept : Rule k (record w { views = set vs id v' }) =
     subst (λ (z : ℕ). Rule k (record w { views = set vs id (after_load_head me.0 b z) })) (sym word)
-    (load_head_lasts k w r id me.0 at b (loaded me.0.clock) about).0 in (
+    (load_head_lasts r id at b (loaded me.0.clock) about).0 in (
       v',
       loaded_words k ws (set vs id v') i kept,
       record {
         told = subst (λ (z : ℕ). Told me (after_load_head me.0 z x) (v', me.1)) (sym index)
             (record { view = refl; held = refl; stands = stands k _ id v' kept about (there vs id me.0 v' at) });
         rises = subst (λ (z : ℕ × ℕ). HeadRises me.0 z.0 z.1) (λ j. (sym index j, sym word j))
-            (head_rises k w r id me.0 at b);
+            (head_rises r id at b);
         first = subst (λ (z : ℕ). x ≤ me.0.about.line * 4 → x ≡ first_head me.0.about z) (sym index)
             (subst (λ (z : Key). x ≤ z.line * 4 → x ≡ first_head z b) (sym about)
             (subst (λ (z : ℕ). z ≤ k.line * 4 → z ≡ first_head k b) (sym word)
-            (first_else k w r b (w.head b) (r.chains b).some)));
+            (first_else r b (w.head b) (r.chains b).some)));
       },
     ))

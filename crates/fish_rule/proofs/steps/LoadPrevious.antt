@@ -27,8 +27,8 @@ use Rattle.fish_rule.specs.declared.view.Kind.TheVariants.{Mark, Stored}
 use Rattle.fish_rule.specs.declared.view.View.{View}
 use Rattle.fish_rule.proofs.basics.FirstHeads.{node_joins, first_else, linked_else}
 
-module _ (k : Key) (w : World) (r : Rule k w) (id : ℕ) (v : View) (at : get_elem? w.views id ≡ some v)
-    (b p : ℕ) (node : HasNode v b p) where
+module _ {k : Key} {w : World} (r : Rule k w) (id : ℕ) {v : View} (at : get_elem? w.views id ≡ some v) (b p : ℕ)
+    (node : HasNode v b p) where
   -- the entry is linked
   pub node_linked : Linked k w.dir w.log w.views b p
   node_linked = all_among (λ x. Linked k w.dir w.log w.views x.bucket x.place) _ v.learned.nodes
@@ -49,33 +49,33 @@ module _ (k : Key) (w : World) (r : Rule k w) (id : ℕ) (v : View) (at : get_el
 
   -- no linked entry lies between the place and what its first word leads to
   previous_gap : IsGap k w.count w.dir w.log r.start (gap b p (w.log p) v.learned)
-  previous_gap = gap_there k w r b v.learned.settled p (w.log p) (r.floors id v at)
+  previous_gap = gap_there r b v.learned.settled p (w.log p) (r.floors id v at)
       (λ q linked under. ((r.chains b).next p node_linked).most q linked under)
 
   module _ (clock : Clock) (about : v.about ≡ k) where
     -- a step that sees a first word keeps the rule, and all that lasts
-    pub load_previous_lasts : Lasts k w r (record w { views = set w.views id (previous_seer clock) })
+    pub load_previous_lasts : Lasts r (record w { views = set w.views id (previous_seer clock) })
     load_previous_lasts =
         let h = r.facts id v at in
-        let still = still_chained k w r id v at (previous_seer clock).learned v.tail v.round clock in
-        let final = learn_final k w r id v at (previous_seer clock).learned v.tail v.round clock in
+        let still = still_chained r id at (previous_seer clock).learned v.tail v.round clock in
+        let final = learn_final r id at (previous_seer clock).learned v.tail v.round clock in
         let next = (r.chains b).next p node_linked in
-        learn_lasts k w r id v at (previous_seer clock).learned v.tail v.round clock (r.tails id v at)
+        learn_lasts r id at (previous_seer clock).learned v.tail v.round clock (r.tails id v at)
         (assumption (h, previous_gap))
         (r.opens id v at) (r.floors id v at) (record {
           nodes = node_joins _ v.about b (w.log p) v.learned.nodes still.nodes
-              (λ more. final.links b (w.log p) (linked_else k w r b (w.log p) next.is
+              (λ more. final.links b (w.log p) (linked_else r b (w.log p) next.is
               (subst (λ (z : Key). z.line * 4 < w.log p) about more)));
           least_previous = (record { bucket = b; linked = final.links b p node_linked; low = omega arith }, still.least_previous);
           least_heads = still.least_heads;
         }) (r.registry.each id v at)
 
 -- a linked place is within the log's words
-pub place_within : (k : Key) (w : World) (r : Rule k w) (b p : ℕ) → Linked k w.dir w.log w.views b p
+pub place_within : {k : Key} {w : World} (r : Rule k w) (b p : ℕ) → Linked k w.dir w.log w.views b p
     → (k.line * 4 ≤ p) × (p < k.line * 4 + log_size k)
-place_within k w r b p h =
-    let s = record_at k w r h.line h.entry h.shows in
-    let inside = lies_inside k w r b p h s in
+place_within {k} {w} r b p h =
+    let s = record_at r h.line h.entry h.shows in
+    let inside = lies_inside r b p h s in
     let from = starts_above k w.count w.line r.start r.space.regions s.number s.above
     (let q = s.below in omega arith) in
     let end = kind-inside k.end (r.start s.number) (r.start (suc s.number))
@@ -90,16 +90,16 @@ load_previous_allowed given k same size id me b p i about node is =
     allowed given k same size id me i (λ n. n) (ToldLoadPrevious (step size i 0 0 none) me) (λ ws vs wide r at.
     let w : World = world k ws vs in
     let x : ℕ = get_or ws i 0 in
-    let linked = node_linked k w r id me.0 at b p node in
-    let within = place_within k w r b p linked in
+    let linked = node_linked r id at b p node in
+    let within = place_within r b p linked in
     let word : x ≡ w.log p = ap (λ (z : ℕ). get_or ws z 0) is
     ∙ sym (area-in ws (log_at k) (k.line * 4) (log_size k) p within.0 within.1) in
     let index : place_at me.0.about i ≡ p = ap (λ (z : Key). place_at z i) about ∙ (omega arith) in
     let v' : View = after_load_previous me.0 b p x in
     let kept : Rule k (record w { views = set vs id v' }) =
     subst (λ (z : ℕ). Rule k (record w { views = set vs id (after_load_previous me.0 b p z) })) (sym word)
-    (load_previous_lasts k w r id me.0 at b p node (loaded me.0.clock) about).0 in
-    let less = previous_less k w r id me.0 at b p node in (
+    (load_previous_lasts r id at b p node (loaded me.0.clock) about).0 in
+    let less = previous_less r id at b p node in (
       v',
       loaded_words k ws (set vs id v') i kept,
       record {
@@ -108,10 +108,10 @@ load_previous_allowed given k same size id me b p i about node is =
         told = subst (λ (z : ℕ). Told me (after_load_previous me.0 b z x) (v', me.1)) (sym index)
             (record { view = refl; held = refl; stands = stands k _ id v' kept about (there vs id me.0 v' at) });
         rises = subst (λ (z : ℕ × ℕ). PreviousRises me.0 z.0 z.1) (λ j. (sym index j, sym word j))
-            (previous_rises k w r id me.0 at b p node);
+            (previous_rises r id at b p node);
         less = subst (λ (z : ℕ × ℕ). z.0 < z.1) (λ j. (sym word j, sym index j)) less;
         first = subst (λ (z : Key). x ≤ z.line * 4 → x ≡ first_head z b) (sym about)
             (subst (λ (z : ℕ). z ≤ k.line * 4 → z ≡ first_head k b) (sym word)
-            (first_else k w r b (w.log p) ((r.chains b).next p linked).is));
+            (first_else r b (w.log p) ((r.chains b).next p linked).is));
       },
     ))

@@ -14,14 +14,14 @@ use Rattle.fish_rule.proofs.classes.Allowed.{allowed, loaded_words, stands, ther
 use Rattle.fish_rule.specs.Table.{Ruled, Sat}
 use Rattle.fish_rule.specs.Told.{ToldLoadSettled}
 
-module _ (k : Key) (w : World) (r : Rule k w) (id : ℕ) (v : View) (at : get_elem? w.views id ≡ some v) where
+module _ {k : Key} {w : World} (r : Rule k w) (id : ℕ) {v : View} (at : get_elem? w.views id ≡ some v) where
   -- a load of the settled number
-  pub load_settled_lasts : Lasts k w r (record w { views = set w.views id (after_load_settled v w.settled) })
+  pub load_settled_lasts : Lasts r (record w { views = set w.views id (after_load_settled v w.settled) })
   load_settled_lasts =
       let h = r.facts id v at in
       let u : View = after_load_settled v w.settled in
-      let still = still_chained k w r id v at u.learned v.tail v.round u.clock in
-      learn_lasts k w r id v at u.learned v.tail v.round u.clock
+      let still = still_chained r id at u.learned v.tail v.round u.clock in
+      learn_lasts r id at u.learned v.tail v.round u.clock
       (r.tails id v at) (assumption h) (r.opens id v at) (omega arith)
       (assumption still) (r.registry.each id v at)
 
@@ -32,7 +32,7 @@ load_settled_allowed given k same size id me about =
     allowed given k same size id me 1 (λ n. n) (ToldLoadSettled (step size 1 0 0 none) me) (λ ws vs wide r at.
     let w : World = world k ws vs in
     let v' : View = after_load_settled me.0 w.settled in
-    let kept = (load_settled_lasts k w r id me.0 at).0 in (
+    let kept = (load_settled_lasts r id at).0 in (
       v',
       loaded_words k ws (set vs id v') 1 kept,
       record {

@@ -16,17 +16,17 @@ use Rattle.fish_rule.specs.Table.{Ruled, Sat}
 use Rattle.fish_rule.specs.Told.{ToldLoadTail}
 use Rattle.fish_rule.proofs.classes.Allowed.{allowed, stands, there, loaded_words}
 
-module _ (k : Key) (w : World) (r : Rule k w) (id : ℕ) (v : View) (at : get_elem? w.views id ≡ some v) where
+module _ {k : Key} {w : World} (r : Rule k w) (id : ℕ) {v : View} (at : get_elem? w.views id ≡ some v) where
   -- a load of the tail
   pub load_tail_lasts : (x : ℕ) → high x ≡ w.count → low x ≡ w.line
-      → Lasts k w r (record w { views = set w.views id (after_load_tail v x) })
+      → Lasts r (record w { views = set w.views id (after_load_tail v x) })
   load_tail_lasts x count line =
       let h = r.facts id v at in
       let u : View = after_load_tail v x in
-      let still = still_chained k w r id v at u.learned u.tail v.round u.clock in
+      let still = still_chained r id at u.learned u.tail v.round u.clock in
       let counted : high x ≤ w.count = subst (λ (z : ℕ). z ≤ w.count) (sym count) (omega arith) in
-      learn_lasts k w r id v at u.learned u.tail v.round u.clock (λ main all. (count, line)) (assumption (h, counted))
-      (opens_begin k w r (high x) counted, r.opens id v at) (r.floors id v at) (assumption still) (r.registry.each id v at)
+      learn_lasts r id at u.learned u.tail v.round u.clock (λ main all. (count, line)) (assumption (h, counted))
+      (opens_begin r (high x) counted, r.opens id v at) (r.floors id v at) (assumption still) (r.registry.each id v at)
 
   -- the count only rises
   pub end_counted : (x : ℕ) → high x ≡ w.count → v.learned.count ≤ high x
@@ -49,13 +49,13 @@ load_tail_allowed given k same size id me about =
     let w : World = world k ws vs in
     let x : ℕ = get_or ws 0 0 in
     let v' : View = after_load_tail me.0 x in
-    let kept = (load_tail_lasts k w r id me.0 at x refl refl).0 in (
+    let kept = (load_tail_lasts r id at x refl refl).0 in (
       v',
       loaded_words k ws (set vs id v') 0 kept,
       record {
         told = record { view = refl; held = refl; stands = stands k _ id v' kept about (there vs id me.0 v' at) };
-        counted = end_counted k w r id me.0 at x refl;
-        settled = end_settled k w r id me.0 at x refl;
-        rests = λ main all. end_rests k w r id me.0 at x refl refl main all;
+        counted = end_counted r id at x refl;
+        settled = end_settled r id at x refl;
+        rests = λ main all. end_rests r id at x refl refl main all;
       },
     ))

@@ -76,14 +76,14 @@ confirmed_carries k g version_of lane e x (Some f) h = record {
   keyed = h.keyed;
 }
 
-module _ (k : Key) (w : World) (r : Rule k w) (id : ℕ) (v : View) (at : get_elem? w.views id ≡ some v) where
+module _ {k : Key} {w : World} (r : Rule k w) (id : ℕ) {v : View} (at : get_elem? w.views id ≡ some v) where
   -- the own lane is as far entered as the pass
   own_state : 1 ≤ v.lane → r.state v.lane ≡ v.epoch
   own_state some_ = ((r.registry.each id v at).tied v.lane (has_own w.views id v at some_ r.seats)).0 refl
 
   -- a load of the version keeps the rule, and all that lasts
-  pub load_version_lasts : Lasts k w r (record w { views = set w.views id (after_load_version v (w.registry 2)) })
-  load_version_lasts = moves_last k w r id v at w.registry (confirmed v.epoch (w.registry 2)) (w.registry 2)
+  pub load_version_lasts : Lasts r (record w { views = set w.views id (after_load_version v (w.registry 2)) })
+  load_version_lasts = moves_last r id at w.registry (confirmed v.epoch (w.registry 2)) (w.registry 2)
       (endures_same k w.registry) refl (λ p ne. refl)
       (λ a b. r.registry.epochs.words v.lane a b ∙ ap epoch_word (own_state a)
       ∙ sym (confirmed_word v.epoch (w.registry 2)))
@@ -111,12 +111,12 @@ load_version_allowed given k same size id me about =
     let v' : View = after_load_version me.0 x in
     let kept : Rule k (record w { views = set vs id v' }) =
     subst (λ (z : ℕ). Rule k (record w { views = set vs id (after_load_version me.0 z) })) (sym word)
-    (load_version_lasts k w r id me.0 at).0 in (
+    (load_version_lasts r id at).0 in (
       v',
       loaded_words k ws (set vs id v') 2 kept,
       record {
         told = record { view = refl; held = refl; stands = stands k _ id v' kept about (there vs id me.0 v' at) };
-        rises = subst (λ (z : ℕ). me.0.learned.version ≤ z) (sym word) (version_rises k w r id me.0 at);
+        rises = subst (λ (z : ℕ). me.0.learned.version ≤ z) (sym word) (version_rises r id at);
         from = subst (λ (z : ℕ). me.0.about.version ≤ z) (sym word)
             (subst (λ (z : Key). z.version ≤ w.registry 2) (sym about) r.registry.versions.from);
         few = subst (λ (z : ℕ). z ≤ 512) (sym word) r.registry.versions.few;

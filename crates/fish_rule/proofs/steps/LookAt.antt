@@ -29,7 +29,7 @@ use Rattle.fish_rule.specs.Table.{Ruled, Sat, Told}
 use Rattle.fish_rule.specs.Told.{ToldLookAt, number_at}
 use Rattle.fish_rule.proofs.classes.Allowed.{allowed, stands, there, loaded_words}
 
-module _ (k : Key) (w : World) (r : Rule k w) (id : ℕ) (v : View) (at : get_elem? w.views id ≡ some v) where
+module _ {k : Key} {w : World} (r : Rule k w) (id : ℕ) {v : View} (at : get_elem? w.views id ≡ some v) where
   -- the kind that a published word tells is its region's
   told : (x : ℕ) (kind : Kind) → x ≡ code kind → kind_told x ≡ kind
   told x Stored e = subst (λ (z : ℕ). kind_told z ≡ Stored) (sym e) refl
@@ -42,14 +42,14 @@ module _ (k : Key) (w : World) (r : Rule k w) (id : ℕ) (v : View) (at : get_el
 
   -- a load of a directory word
   pub look_at_lasts : (n x : ℕ) → CanLookAt v n → v.about ≡ k → x ≡ w.dir n
-      → Lasts k w r (record w { views = set w.views id (after_look_at v n (lines_at n) x) })
+      → Lasts r (record w { views = set w.views id (after_look_at v n (lines_at n) x) })
   look_at_lasts n x can about is =
       let h = r.facts id v at in
       let u : View = after_look_at v n (lines_at n) x in
-      let still = still_chained k w r id v at u.learned v.tail v.round u.clock in
+      let still = still_chained r id at u.learned v.tail v.round u.clock in
       let above : k.number ≤ n = subst (λ (z : Key). z.number ≤ n) about can.above in
-      learn_lasts k w r id v at u.learned v.tail v.round u.clock (r.tails id v at) (assumption (h, each x is))
-      (opens_looked k w r id v at n x above is) (r.floors id v at) (assumption still) (r.registry.each id v at)
+      learn_lasts r id at u.learned v.tail v.round u.clock (r.tails id v at) (assumption (h, each x is))
+      (opens_looked r id v at n x above is) (r.floors id v at) (assumption still) (r.registry.each id v at)
     where
       each : (x : ℕ) → x ≡ w.dir n → AllOf (IsFound k w.count w.dir r.start)
           (found_after n (lines_at n) x v.learned.found)
@@ -112,12 +112,12 @@ look_at_allowed given k same size id me n i about can is =
     let counted = (r.facts id me.0 at).counted in
     let below : n < w.count = (let b = can.below in omega arith) in
     let above : k.number ≤ n = subst (λ (z : Key). z.number ≤ n) about can.above in
-    let room = few_slots k w r in
+    let room = few_slots r in
     let word : x ≡ w.dir n = ap (λ (z : ℕ). get_or ws z 0) is
     ∙ sym (area-in ws (dir_at k) k.number (slots k) n above (omega arith)) in
-    let lines : ℕ = lines_at k w r id me.0 at n in
+    let lines : ℕ = lines_at r id at n in
     let v' : View = after_look_at me.0 n lines x in
-    let kept = (look_at_lasts k w r id me.0 at n x can about word).0 in
+    let kept = (look_at_lasts r id at n x can about word).0 in
     let index : number_at me.0.about i ≡ n = ap (λ (z : Key). number_at z i) about ∙ (omega arith) in (
       v',
       loaded_words k ws (set vs id v') i kept,
@@ -125,8 +125,8 @@ look_at_allowed given k same size id me n i about can is =
         lines = lines;
         told = subst (λ (z : ℕ). Told me (after_look_at me.0 z lines x) (v', me.1)) (sym index)
             (record { view = refl; held = refl; stands = stands k _ id v' kept about (there vs id me.0 v' at) });
-        alone = λ alone none_. look_alone k w r id me.0 at n can about alone (sym word ∙ none_);
-        known = λ f among same_. look_known k w r id me.0 at n x word f among (same_ ∙ index);
+        alone = λ alone none_. look_alone r id at n can about alone (sym word ∙ none_);
+        known = λ f among same_. look_known r id at n x word f among (same_ ∙ index);
         sees = record {
           moment = w;
           rule = subst (λ (z : Key). Rule z w) (sym about) r;

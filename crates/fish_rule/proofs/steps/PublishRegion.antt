@@ -4,6 +4,7 @@ use Rattle.std.proofs.Common.{inl, inr, ◌⊎◌, ⊎_elim, arith, Some}
 use Rattle.std.proofs.Math.Decide.{ℕ_discrete}
 use mathlib.Core.Option.{some, none}
 use Rattle.std.proofs.Math.ListN.{get_elem?}
+use Rattle.fish_rule.proofs.basics.Lasts.{Kept}
 use Rattle.fish_rule.proofs.basics.Bodies.{code_once, mark-past, published}
 use Rattle.fish_rule.proofs.basics.Lists.{among_left, among_right, among_either, each_set, has_own, seats_kept}
 use Rattle.fish_rule.proofs.classes.OtherViews.{limit_views, may_kept, registry_set}
@@ -40,10 +41,9 @@ use Rattle.fish_rule.proofs.classes.PassesKnow.{each_chained, each_facts, each_o
 use Rattle.fish_rule.proofs.steps.PublishSpace.{dir_else, kind_here, publish_chains, publish_final, publish_settling}
 use Rattle.fish_rule.proofs.steps.PublishSpace.{publish_space, view', world'}
 
-module _ (k : Key) (w : World) (r : Rule k w) (id : ℕ) (v : View) (at : get_elem? w.views id ≡ some v)
-    (f : Flight) (live : 1 ≤ v.lane) (flying : v.flight ≡ Some f) (kind : Kind)
-    (is_kind : kind_of k.end f.line (f.line + f.lines) ≡ kind)
-    (version : ℕ) (entered : v.epoch ≡ Confirmed version)
+module _ {k : Key} {w : World} (r : Rule k w) (id : ℕ) {v : View} (at : get_elem? w.views id ≡ some v) (f : Flight)
+    (live : 1 ≤ v.lane) (flying : v.flight ≡ Some f) (kind : Kind)
+    (is_kind : kind_of k.end f.line (f.line + f.lines) ≡ kind) (version : ℕ) (entered : v.epoch ≡ Confirmed version)
     (ready : IsReady (KnowsActive v.about v.learned) version kind v.lane f) where
   -- which texts the pass knows to be active
   abbrev active : ℕ → List (ℕ × List ℕ) → Type 0
@@ -51,11 +51,11 @@ module _ (k : Key) (w : World) (r : Rule k w) (id : ℕ) (v : View) (at : get_el
 
   -- the view afterwards
   abbrev pub publisher : View
-  publisher = view' k w r id v at f flying kind is_kind version ready
+  publisher = view' r id at f flying kind is_kind version ready
 
   -- the world afterwards
   abbrev pub publication : World
-  publication = world' k w r id v at f flying kind is_kind version ready
+  publication = world' r id at f flying kind is_kind version ready
 
   -- the directory afterwards
   abbrev dir' : ℕ → ℕ
@@ -63,19 +63,19 @@ module _ (k : Key) (w : World) (r : Rule k w) (id : ℕ) (v : View) (at : get_el
 
   -- what is so of the record in flight
   own : InFlight k w.count w.dir w.log r.start r.lane_of v.lane f
-  own = flight_is k w r id v at f flying
+  own = flight_is r id at f flying
 
   -- other numbers' words stay
   others_stay : (n : ℕ) → n ≢ f.number → dir' n ≡ w.dir n
-  others_stay = dir_else k w r id v at f flying kind is_kind version ready
+  others_stay = dir_else r id at f flying kind is_kind version ready
 
   -- the own word tells the kind
   tells_kind : high (dir' f.number) ≡ code kind
-  tells_kind = kind_here k w r id v at f flying kind is_kind version ready
+  tells_kind = kind_here r id at f flying kind is_kind version ready
 
   -- nothing that lasts has changed
-  final : Final k r.start r.start r.lane_of r.lane_of w publication
-  final = publish_final k w r id v at f flying kind is_kind version ready
+  final : Kept r publication
+  final = publish_final r id at f flying kind is_kind version ready
 
   -- ---- own numbers
 
@@ -106,7 +106,7 @@ module _ (k : Key) (w : World) (r : Rule k w) (id : ℕ) (v : View) (at : get_el
       let h = r.own j u at_u in
       record {
         sound = λ o m. let s = h.sound o m in
-            (s.0, stored_later k w publication r.start r.start r.lane_of r.lane_of final o.lane o.number s.1);
+            (s.0, stored_later final o.lane o.number s.1);
         complete = λ o has stored. ⊎_elim
             (λ (b : IsStoredBy k w.count w.dir r.lane_of o.lane o.number). h.complete o has b)
             (λ (t : (o.number ≡ f.number) × (v.lane ≡ o.lane) × (kind ≡ Stored)).
@@ -117,8 +117,7 @@ module _ (k : Key) (w : World) (r : Rule k w) (id : ℕ) (v : View) (at : get_el
 
   -- without a record there is none more
   no_more : kind ≢ Stored → Owns k w.count dir' r.lane_of v.lane v.out v.own
-  no_more ne = owns_later k w publication r.start r.start r.lane_of r.lane_of final v.lane v.out v.own
-      (r.own id v at)
+  no_more ne = owns_later final v.lane v.out v.own (r.own id v at)
       (λ o has h. ⊎_elim (λ (b : IsStoredBy k w.count w.dir r.lane_of o.lane o.number).
       (b.below, published (w.dir o.number) Stored b.stored))
       (λ (t : (o.number ≡ f.number) × (v.lane ≡ o.lane) × (kind ≡ Stored)). absurd (ne t.2))
@@ -132,7 +131,7 @@ module _ (k : Key) (w : World) (r : Rule k w) (id : ℕ) (v : View) (at : get_el
         sound = λ o m. ⊎_elim
             (λ (a : Among o v.own). let s = h.sound o a in (
               s.0,
-              stored_later k w publication r.start r.start r.lane_of r.lane_of final o.lane o.number s.1,
+              stored_later final o.lane o.number s.1,
             ))
             (λ (a : Among o (record { lane = v.lane; number = f.number } ∷ [])). newest o a)
             (among_either o v.own (record { lane = v.lane; number = f.number } ∷ []) m);
@@ -158,7 +157,7 @@ module _ (k : Key) (w : World) (r : Rule k w) (id : ℕ) (v : View) (at : get_el
 
   -- what was known is so
   old_facts : Facts k w.count dir' w.log r.start v.learned
-  old_facts = facts_later k w publication r.start r.start r.lane_of r.lane_of final v.learned (r.facts id v at)
+  old_facts = facts_later final (r.facts id v at)
 
   -- and so is what the pass learns of its region
   found_here : IsFound k w.count dir' r.start
@@ -174,7 +173,7 @@ module _ (k : Key) (w : World) (r : Rule k w) (id : ℕ) (v : View) (at : get_el
       below = own.below;
       stored = tells_kind ∙ ap code is;
       words = ap (body w.log) own.line
-          ∙ own_body k w r id v at f flying version h;
+          ∙ own_body r id at f flying version h;
     },
     old_facts.records,
   )
@@ -188,12 +187,12 @@ module _ (k : Key) (w : World) (r : Rule k w) (id : ℕ) (v : View) (at : get_el
   -- what the pass has learned of chains
   own_chained : Chained k dir' w.log publication.views w.head publisher.learned
   own_chained =
-      let h = chained_later k w publication r.start r.start r.lane_of r.lane_of final v.learned (r.chained id v at) in
+      let h = chained_later final (r.chained id v at) in
       record { nodes = h.nodes; least_previous = h.least_previous; least_heads = h.least_heads }
 
   -- a claim that shut the pass before still does
   old_shut : ShutOk k w.count dir' r.start v.shut
-  old_shut = shut_later k w publication r.start r.start r.lane_of r.lane_of final v.shut (r.shuts id v at)
+  old_shut = shut_later final v.shut (r.shuts id v at)
 
   -- a mark shuts the pass
   own_shut : (kd : Kind) → kind ≡ kd → ShutOk k w.count dir' r.start (shut_after kd f k.end v.shut)
@@ -216,7 +215,7 @@ module _ (k : Key) (w : World) (r : Rule k w) (id : ℕ) (v : View) (at : get_el
       pick n above below stored (yes e) =
           subst (λ (z : ℕ). IsKeyed (AreActiveAt k w.registry) (r.version_of z) (r.lane_of z) z
           (r.start (suc z) - r.start z) (body w.log (r.start z))) (sym e)
-          (own_keyed k w r id v at f flying version live entered (subst (λ (z : Kind). IsReady active version z v.lane f)
+          (own_keyed r id at f flying version live entered (subst (λ (z : Kind). IsReady active version z v.lane f)
           (code_once kind Stored (sym tells_kind ∙ ap (λ (z : ℕ). high (dir' z)) (sym e) ∙ stored)) ready))
       pick n above below stored (no ne) = r.keyed.each n above below (ap high (sym (others_stay n ne)) ∙ stored)
 
@@ -232,21 +231,20 @@ module _ (k : Key) (w : World) (r : Rule k w) (id : ℕ) (v : View) (at : get_el
     about = each_set _ w.views id publisher (λ j u ne at_u. r.about j u at_u) (r.about id v at);
     seats = seats_kept w.views id v publisher at refl refl r.seats;
     tails = each_set _ w.views id publisher (λ j u ne at_u. r.tails j u at_u) (r.tails id v at);
-    space = publish_space k w r id v at f flying kind is_kind version ready;
+    space = publish_space r id at f flying kind is_kind version ready;
     limit = limit_views r.limit
         (may_kept w.views id v publisher at k.end r.quota refl refl (may_before k v f flying kind is_kind) r.limit.may);
-    settling = publish_settling k w r id v at f flying kind is_kind version ready;
-    chains = publish_chains k w r id v at f flying kind is_kind version ready;
-    chained = each_chained k w publication r r.start r.lane_of final id publisher own_chained;
+    settling = publish_settling r id at f flying kind is_kind version ready;
+    chains = publish_chains r id at f flying kind is_kind version ready;
+    chained = each_chained r final id publisher own_chained;
     floors = each_set _ w.views id publisher (λ j u ne at_u. r.floors j u at_u) (r.floors id v at);
     own = each_set _ w.views id publisher (λ j u ne at_u. others_own j u ne at_u) (own_own kind refl);
-    facts = each_facts k w publication r r.start r.lane_of final id publisher own_facts;
+    facts = each_facts r final id publisher own_facts;
     registry = registry_set k w.count w.registry r.state r.version_of w.views id publisher r.registry
         (r.registry.each id v at) tt;
     keyed = keyed;
-    shuts = each_shut k w publication r r.start r.lane_of final id publisher (own_shut kind refl);
-    opens = each_opens k w publication r r.start r.lane_of final id publisher
-        (opens_later k w publication r.start r.start r.lane_of r.lane_of final v.learned.opens (r.opens id v at));
+    shuts = each_shut r final id publisher (own_shut kind refl);
+    opens = each_opens r final id publisher (opens_later final v.learned.opens (r.opens id v at));
   }
 
   -- and all that lasts
@@ -263,13 +261,13 @@ publish_region_allowed given k same size id me f i x about can is word =
     allowed given k same size id me i (λ _. x) (λ _. told_publish_region (step size i x 0 none) me x) (λ ws vs wide r at.
     let w : World = world k ws vs in
     let v' : View = after_publish_region me.0 f in
-    let own = flight_is k w r id me.0 at f can.flying in
+    let own = flight_is r id at f can.flying in
     let above = own.above in
     let below = own.below in
-    let room = few_slots k w r in
+    let room = few_slots r in
     let ends : kind_of k.end f.line (f.line + f.lines) ≡ flight_kind me.0 f =
     ap (λ (z : Key). kind_of z.end f.line (f.line + f.lines)) (sym about) in
-    let kept' = publish_region_kept k w r id me.0 at f can.live can.flying (flight_kind me.0 f) ends can.version can.entered
+    let kept' = publish_region_kept r id at f can.live can.flying (flight_kind me.0 f) ends can.version can.entered
     can.ready in
     let kept : Rule k (record w { dir = put w.dir f.number x; views = set vs id v' }) =
     subst (λ (z : ℕ × Key). Rule k (record w {

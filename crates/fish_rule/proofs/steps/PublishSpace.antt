@@ -6,6 +6,7 @@ use mathlib.Core.Option.{some}
 use Rattle.std.proofs.Math.ListN.{get_elem?}
 use Rattle.atomic_table.proofs.Lists.{set_else}
 use Rattle.fish_layout.specs.Header.{keys_of, lines_of}
+use Rattle.fish_rule.proofs.basics.Lasts.{Kept}
 use Rattle.fish_rule.proofs.basics.Bodies.{code_once, high-pack, low-pack, published}
 use Rattle.fish_rule.proofs.basics.Lists.{each_set}
 use Rattle.fish_rule.proofs.classes.OtherViews.{alone_kept, flight_there, one_view}
@@ -17,7 +18,7 @@ use Rattle.fish_rule.proofs.basics.Worlds.{put-else, put-here}
 use Rattle.fish_rule.specs.Chains.{Linked, LinksAt, Shows, Chain}
 use Rattle.fish_rule.specs.Parts.{Flies, InFlight, IsEntryWord, IsPublishedRegion, Settled, Space, first_head}
 use Rattle.fish_rule.specs.Regions.{Holds, code, dir_word, kind_of}
-use Rattle.fish_rule.specs.Rule.{Final, Rule}
+use Rattle.fish_rule.specs.Rule.{Rule}
 use Rattle.fish_rule.specs.SpaceSteps.{IsReady, learned_after, own_after, shut_after, ticked}
 use Rattle.fish_rule.specs.Views.{HasFlight, IsFlightOf}
 use Rattle.fish_rule.specs.World.{World, body, high, low, put}
@@ -29,8 +30,8 @@ use Rattle.fish_rule.specs.declared.view.View.{View}
 use Rattle.fish_rule.proofs.basics.RegistryWords.{endures_same}
 use Rattle.fish_rule.specs.Registry.{KnowsActive}
 
-module _ (k : Key) (w : World) (r : Rule k w) (id : ℕ) (v : View) (at : get_elem? w.views id ≡ some v)
-    (f : Flight) (flying : v.flight ≡ Some f) (kind : Kind) (is_kind : kind_of k.end f.line (f.line + f.lines) ≡ kind)
+module _ {k : Key} {w : World} (r : Rule k w) (id : ℕ) {v : View} (at : get_elem? w.views id ≡ some v) (f : Flight)
+    (flying : v.flight ≡ Some f) (kind : Kind) (is_kind : kind_of k.end f.line (f.line + f.lines) ≡ kind)
     (version : ℕ) (ready : IsReady (KnowsActive v.about v.learned) version kind v.lane f) where
   -- the view afterwards
   abbrev pub view' : View
@@ -56,7 +57,7 @@ module _ (k : Key) (w : World) (r : Rule k w) (id : ℕ) (v : View) (at : get_el
 
   -- what is so of the record in flight
   own : InFlight k w.count w.dir w.log r.start r.lane_of v.lane f
-  own = flight_is k w r id v at f flying
+  own = flight_is r id at f flying
 
   -- other numbers' words stay
   pub dir_else : (n : ℕ) → n ≢ f.number → dir' n ≡ w.dir n
@@ -68,7 +69,7 @@ module _ (k : Key) (w : World) (r : Rule k w) (id : ℕ) (v : View) (at : get_el
 
   -- and tells the kind
   pub kind_here : high (dir' f.number) ≡ code kind
-  kind_here = ap high dir_here ∙ high-pack (code kind) f.line (small_line k w r f v.lane own)
+  kind_here = ap high dir_here ∙ high-pack (code kind) f.line (small_line r f v.lane own)
 
   -- a number that was published is another
   is_other : (n : ℕ) → w.dir n ≢ 0 → n ≢ f.number
@@ -86,7 +87,7 @@ module _ (k : Key) (w : World) (r : Rule k w) (id : ℕ) (v : View) (at : get_el
         number = f.number;
         above = own.above;
         stored = kind_here ∙ ap code stored;
-        line = ap low dir_here ∙ low-pack (code kind) f.line (small_line k w r f v.lane own) ∙ line;
+        line = ap low dir_here ∙ low-pack (code kind) f.line (small_line r f v.lane own) ∙ line;
       })
 
   -- what was shown still is
@@ -123,13 +124,13 @@ module _ (k : Key) (w : World) (r : Rule k w) (id : ℕ) (v : View) (at : get_el
       all_linked : (kd : Kind) → kd ≡ Stored → IsReady (KnowsActive v.about v.learned) version kd v.lane f
           → f.linked ≡ keys_of (body w.log f.line 0)
       all_linked Stored e h = h.2 ∙ ap (λ (z : ℕ → ℕ). keys_of (z 0))
-          (sym (own_body k w r id v at f flying version h))
+          (sym (own_body r id at f flying version h))
       all_linked Void e h = cc
       all_linked Mark e h = cc
 
       pick : Dec (s.number ≡ f.number) → Shows k w.dir w.views a c
       pick (yes e) =
-          let here : f.line ≡ a = sym (low-pack (code kind) f.line (small_line k w r f v.lane own))
+          let here : f.line ≡ a = sym (low-pack (code kind) f.line (small_line r f v.lane own))
           ∙ ap low (sym dir_here) ∙ ap (λ (z : ℕ). low (dir' z)) (sym e) ∙ s.line in
           let stored : kind ≡ Stored = code_once kind Stored
           (sym kind_here ∙ ap (λ (z : ℕ). high (dir' z)) (sym e) ∙ s.stored) in
@@ -157,7 +158,7 @@ module _ (k : Key) (w : World) (r : Rule k w) (id : ℕ) (v : View) (at : get_el
   -- ---- what lasts
 
   -- nothing that lasts has changed
-  pub publish_final : Final k r.start r.start r.lane_of r.lane_of w world'
+  pub publish_final : Kept r world'
   publish_final = record {
     counts = omega arith;
     lines = omega arith;
@@ -178,14 +179,14 @@ module _ (k : Key) (w : World) (r : Rule k w) (id : ℕ) (v : View) (at : get_el
   -- the own region is a published one
   own_finished : IsPublishedRegion k dir' w.log r.start r.lane_of f.number
   own_finished =
-      let h = filled k w r id v at f flying version kind ready in
+      let h = filled r id at f flying version kind ready in
       let a : r.start f.number ≡ f.line = own.line in
       let b : r.start (suc f.number) ≡ f.line + f.lines = own.lines in
       let size : f.line + f.lines - f.line ≡ f.lines = omega arith in
       record {
         kind = kind_here ∙ ap code (sym is_kind)
             ∙ ap (λ (z : ℕ × ℕ). code (kind_of k.end z.0 z.1)) (λ i. (sym a i, sym b i));
-        line = ap low dir_here ∙ low-pack (code kind) f.line (small_line k w r f v.lane own) ∙ sym a;
+        line = ap low dir_here ∙ low-pack (code kind) f.line (small_line r f v.lane own) ∙ sym a;
         lined = subst (λ (z : ℕ × ℕ). lines_of (body w.log z.0 0) ≤ z.1 - z.0) (λ i. (sym a i, sym b i))
             (subst (λ (z : ℕ). lines_of (body w.log f.line 0) ≤ z) (sym size) h.0);
         holds = subst (λ (z : ℕ × ℕ × ℕ). Holds (kind_of k.end z.0 z.1) z.2 f.number (z.1 - z.0)
@@ -202,7 +203,7 @@ module _ (k : Key) (w : World) (r : Rule k w) (id : ℕ) (v : View) (at : get_el
       let other : g.number ≢ f.number = λ e. ne
       (r.space.alone j id u v g.number at_u at (subst (IsFlightOf g.number) (sym is) refl)
       (subst (IsFlightOf g.number) (sym flying) (sym e))) in
-      flight_later k w world' r.start r.start r.lane_of r.lane_of publish_final u.lane g h
+      flight_later publish_final u.lane g h
       (dir_else g.number other ∙ h.unpublished) (λ i less. refl) h.whole
 
   -- each number is published or in flight
@@ -224,7 +225,7 @@ module _ (k : Key) (w : World) (r : Rule k w) (id : ℕ) (v : View) (at : get_el
       finish n above below set_ (yes e) = subst (IsPublishedRegion k dir' w.log r.start r.lane_of) (sym e) own_finished
       finish n above below set_ (no ne) =
           let before : w.dir n ≢ 0 = λ e. set_ (dir_else n ne ∙ e) in
-          finished_later k w world' r.start r.start r.lane_of r.lane_of publish_final n below before
+          finished_later publish_final n below before
           (r.space.finished n above below before)
 
       fly : (n : ℕ) → k.number ≤ n → n < w.count → dir' n ≡ 0 → Dec (n ≡ f.number)

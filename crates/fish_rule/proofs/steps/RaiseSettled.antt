@@ -5,6 +5,7 @@ use Rattle.std.proofs.Math.Decide.{dec_lt}
 use mathlib.Core.Option.{none, some}
 use Rattle.std.proofs.Math.ListN.{get_elem?}
 use Rattle.atomic_table.specs.Table.{Allows, step}
+use Rattle.fish_rule.proofs.basics.Lasts.{Kept}
 use Rattle.fish_rule.proofs.classes.Allowed.{allowed, stands, there}
 use Rattle.fish_rule.proofs.basics.Bodies.{code_once, published}
 use Rattle.fish_rule.proofs.basics.Lists.{all_among, each_set, seats_kept}
@@ -27,7 +28,7 @@ use Rattle.fish_rule.specs.declared.view.Kind.TheVariants.{Mark}
 use Rattle.fish_rule.specs.declared.view.View.{View}
 use Rattle.fish_rule.proofs.basics.RegistryWords.{endures_same}
 
-module _ (k : Key) (w : World) (r : Rule k w) (id : ℕ) (v : View) (at : get_elem? w.views id ≡ some v)
+module _ {k : Key} {w : World} (r : Rule k w) (id : ℕ) {v : View} (at : get_elem? w.views id ≡ some v)
     (about : v.about ≡ k) (m : ℕ) (can : CanRaiseSettled v m) where
   -- the view afterwards
   abbrev pub raiser : View
@@ -38,9 +39,9 @@ module _ (k : Key) (w : World) (r : Rule k w) (id : ℕ) (v : View) (at : get_el
   raised = record w { settled = max w.settled m; views = set w.views id raiser }
 
   -- nothing that lasts has changed
-  pub raise_final : Final k r.start r.start r.lane_of r.lane_of w raised
-  raise_final = final_still k w r (max w.settled m) w.registry (set w.views id raiser) (omega arith)
-      (endures_same k w.registry) (links_set k w r id v raiser at (λ a c h. h))
+  pub raise_final : Kept r raised
+  raise_final = final_still r (max w.settled m) w.registry (set w.views id raiser) (omega arith)
+      (endures_same k w.registry) (links_set r id raiser at (λ a c h. h))
 
   -- every number below is published, and no mark
   settling : Settled k w.count (max w.settled m) w.dir
@@ -84,9 +85,9 @@ module _ (k : Key) (w : World) (r : Rule k w) (id : ℕ) (v : View) (at : get_el
     limit = limit_views r.limit
         (may_kept w.views id v raiser at k.end r.quota refl refl (λ h. h) r.limit.may);
     settling = settling;
-    chains = chains_set k w r id v raiser at (λ a c h. h) (λ a c h. h);
-    chained = each_chained k w raised r r.start r.lane_of raise_final id raiser
-        (let h = chained_later k w raised r.start r.start r.lane_of r.lane_of raise_final v.learned (r.chained id v at) in
+    chains = chains_set r id raiser at (λ a c h. h) (λ a c h. h);
+    chained = each_chained r raise_final id raiser
+        (let h = chained_later raise_final (r.chained id v at) in
         record { nodes = h.nodes; least_previous = h.least_previous; least_heads = h.least_heads });
     floors = each_set _ w.views id raiser (λ j u ne at_u. let a = r.floors j u at_u in omega arith) (omega arith);
     own = each_set _ w.views id raiser (λ j u ne at_u. r.own j u at_u) (r.own id v at);
@@ -111,7 +112,7 @@ raise_settled_allowed given k same size id me m about can =
     allowed given k same size id me 1 (λ n. max n m) (ToldRaiseSettled (step size 1 m 0 none) me) (λ ws vs wide r at.
     let w : World = world k ws vs in
     let v' : View = after_raise_settled me.0 m w.settled in
-    let kept = raise_settled_kept k w r id me.0 at about m can in (
+    let kept = raise_settled_kept r id at about m can in (
       v',
       subst (Rule k) (sym (world-settled k ws vs (set vs id v') (max w.settled m) (omega arith))) kept,
       record {

@@ -21,8 +21,8 @@ use Rattle.fish_rule.specs.declared.view.Key.{Key}
 use Rattle.fish_rule.specs.declared.view.View.{View}
 use Rattle.fish_rule.proofs.basics.FoundRegions.{region_found, read_word_is}
 
-module _ (k : Key) (w : World) (r : Rule k w) (id : ℕ) (v : View) (at : get_elem? w.views id ≡ some v)
-    (x : Found) (o : ℕ) (can : CanReadWord v x o) where
+module _ {k : Key} {w : World} (r : Rule k w) (id : ℕ) {v : View} (at : get_elem? w.views id ≡ some v) (x : Found)
+    (o : ℕ) (can : CanReadWord v x o) where
   -- the place of the word
   abbrev pub read_place : ℕ
   read_place = x.line * 4 + o
@@ -34,13 +34,13 @@ module _ (k : Key) (w : World) (r : Rule k w) (id : ℕ) (v : View) (at : get_el
   -- what it knows holds
   read_facts : Facts k w.count w.dir w.log r.start reader.learned
   read_facts = (let h = r.facts id v at in
-      assumption (h, read_word_is k w r v x o h can))
+      assumption (h, read_word_is r v x o h can))
 
   -- a read keeps the rule, and all that lasts
-  pub read_word_lasts : Lasts k w r (record w { views = set w.views id reader })
-  read_word_lasts = learn_lasts k w r id v at reader.learned v.tail v.round reader.clock (r.tails id v at) read_facts
+  pub read_word_lasts : Lasts r (record w { views = set w.views id reader })
+  read_word_lasts = learn_lasts r id at reader.learned v.tail v.round reader.clock (r.tails id v at) read_facts
       (r.opens id v at) (r.floors id v at)
-      (let still = still_chained k w r id v at reader.learned v.tail v.round reader.clock in
+      (let still = still_chained r id at reader.learned v.tail v.round reader.clock in
       record { nodes = still.nodes; least_previous = still.least_previous; least_heads = still.least_heads }) (r.registry.each id v at)
 
 -- a load of a word of a published region
@@ -59,14 +59,14 @@ read_word_allowed given k same size id me x o i about can is =
     let inside = can.inside in
     let from = starts_above k w.count w.line r.start r.space.regions x.number found.above
     (let b = found.below in omega arith) in
-    let t = region_found k w r x found in
+    let t = region_found r x found in
     let end = kind-inside k.end (r.start x.number) (r.start (suc x.number)) (λ e. can.words (sym t.1 ∙ e)) in
     let here : word ≡ w.log p = ap (λ (z : ℕ). get_or ws z 0) is
     ∙ sym (area-in ws (log_at k) (k.line * 4) (log_size k) p (omega arith) (omega arith)) in
     let v' : View = after_read_word me.0 p word in
     let kept : Rule k (record w { views = set vs id v' }) =
     subst (λ (z : ℕ). Rule k (record w { views = set vs id (after_read_word me.0 p z) })) (sym here)
-    (read_word_lasts k w r id me.0 at x o can).0 in
+    (read_word_lasts r id at x o can).0 in
     let index : place_at me.0.about i ≡ p = ap (λ (z : Key). place_at z i) about ∙ (omega arith) in (
       v',
       loaded_words k ws (set vs id v') i kept,

@@ -1,5 +1,5 @@
 -- `retire`: a store of 0 in the own epoch word.
-use Rattle.std.proofs.Common.{◌≡◌, ℕ, ◌≤◌, set, arith, ◌-◌, sym, refl, subst}
+use Rattle.std.proofs.Common.{◌≡◌, ℕ, ◌≤◌, set, arith, sym, refl, subst}
 use mathlib.Core.Option.{some, none}
 use Rattle.std.proofs.Math.ListN.{get_elem?}
 use Rattle.fish_rule.proofs.basics.Worlds.{put-else, put-here, world-registry}
@@ -18,18 +18,18 @@ use Rattle.fish_rule.proofs.classes.Allowed.{allowed, stands, there}
 use Rattle.fish_rule.specs.Table.{Ruled, Sat}
 use Rattle.fish_rule.specs.Told.{told_retire}
 
-module _ (k : Key) (w : World) (r : Rule k w) (id : ℕ) (v : View) (at : get_elem? w.views id ≡ some v) where
+module _ {k : Key} {w : World} (r : Rule k w) (id : ℕ) {v : View} (at : get_elem? w.views id ≡ some v) where
   -- the lane is one of 1 to 16
   few : v.lane ≤ 16
   few = r.seats.few id v at
 
   module _ (can : CanEnter v) where
     -- a retirement keeps the rule, and all that lasts
-    pub retire_lasts : Lasts k w r (record w {
+    pub retire_lasts : Lasts r (record w {
       registry = put w.registry (epoch_at v.lane) 0;
       views = set w.views id (after_retire v);
     })
-    retire_lasts = moves_last k w r id v at (put w.registry (epoch_at v.lane) 0) Out v.learned.version
+    retire_lasts = moves_last r id at (put w.registry (epoch_at v.lane) 0) Out v.learned.version
         (epoch_endures k w.registry v.lane 0 can.live few)
         (let some_ = can.live in put-else w.registry (epoch_at v.lane) 0 2 (λ h. omega arith))
         (λ p ne. put-else w.registry (epoch_at v.lane) 0 p ne)
@@ -50,7 +50,7 @@ retire_allowed given k same size id me i about can is =
     let some_ = can.live in
     let kept : Rule k (record w { registry = put w.registry i 0; views = set vs id v' }) =
     subst (λ (z : ℕ). Rule k (record w { registry = put w.registry z 0; views = set vs id v' })) (sym is)
-    (retire_lasts k w r id me.0 at can).0 in
+    (retire_lasts r id at can).0 in
     let moved = world-registry k ws vs (set vs id v') i 0 (omega arith) (omega arith) wide in (
       v',
       subst (Rule k) (sym moved) kept,

@@ -1,6 +1,6 @@
 -- `splice_entry`: a compare-and-exchange on the first word of a linked entry that is above the own one.
 use Rattle.fish_rule.proofs.steps.SpliceKept.{splice_entry_lasts}
-use Rattle.std.proofs.Common.{◌≡◌, ◌≢◌, ℕ, ◌+◌, ◌-◌, ◌*◌, ◌<◌, get_or, set, sym, refl, ap, ◌∙◌, subst, ◌⊎◌, ⊎_elim}
+use Rattle.std.proofs.Common.{◌≡◌, ◌≢◌, ℕ, ◌+◌, ◌-◌, ◌*◌, ◌<◌, get_or, set, sym, refl, ap, ◌∙◌, subst, ⊎_elim}
 use Rattle.std.proofs.Common.{arith, Some, eqb}
 use Rattle.std.proofs.Math.Decide.{ℕ_discrete}
 use mathlib.Core.Option.{none, some}
@@ -41,11 +41,11 @@ about_splice v {k} f b q x y about = by (ℕ_discrete y x)
     by (no n) = about
 
 -- the own place is no first word before
-previous_other : (k : Key) (w : World) (r : Rule k w) (id : ℕ) (v : View) (at : get_elem? w.views id ≡ some v)
+previous_other : {k : Key} {w : World} (r : Rule k w) (id : ℕ) {v : View} (at : get_elem? w.views id ≡ some v)
     (f : Flight) (can : CanAimEntry v f) (b q : ℕ) → Linked k w.dir w.log w.views b q → w.log q ≢ own_place f
-previous_other k w r id v at f can b q higher e = ⊎_elim (λ (z : w.log q ≡ first_head k b).
-    let low_ = first_low k w r b in let behind = flight_from k w r id v at f can.flying in absurd (omega arith))
-    (λ (l : Linked k w.dir w.log w.views b (w.log q)). own_unlinked k w r id v at f can b (w.log q) l e)
+previous_other {k} {w} r id {v} at f can b q higher e = ⊎_elim (λ (z : w.log q ≡ first_head k b).
+    let low_ = first_low r b in let behind = flight_from r id v at f can.flying in absurd (omega arith))
+    (λ (l : Linked k w.dir w.log w.views b (w.log q)). own_unlinked r id at f can b (w.log q) l e)
     ((r.chains b).next q higher).is
 
 -- the table allows it
@@ -57,8 +57,8 @@ splice_entry_allowed given k same size id me f b q x i new about can is own_is =
     (λ ws vs wide r at.
     let w : World = world k ws vs in
     let y : ℕ = get_or ws i 0 in
-    let linked = node_linked k w r id me.0 at b q can.node in
-    let within = place_within k w r b q linked in
+    let linked = node_linked r id at b q can.node in
+    let within = place_within r b q linked in
     let word : y ≡ w.log q = ap (λ (z : ℕ). get_or ws z 0) is
     ∙ sym (area-in ws (log_at k) (k.line * 4) (log_size k) q within.0 within.1) in
     let index : place_at me.0.about i ≡ q = ap (λ (z : Key). place_at z i) about ∙ (omega arith) in
@@ -70,13 +70,13 @@ splice_entry_allowed given k same size id me f b q x i new about can is own_is =
     choose_first (ℕ_discrete y x) (spliced me.0 f b q) (previous_seen me.0 b q y (ticked me.0.clock)) e in
     subst (λ (z : ℕ × View). Rule k (world k (set ws i z.0) (set vs id z.1))) (λ j. (sym own_is j, sym hit j))
     (subst (Rule k) (sym (world-log k ws vs (set vs id (spliced me.0 f b q)) q i
-    (own_place f) within.0 within.1 is wide)) (splice_entry_lasts k w r id me.0 at about f b q x can (sym word ∙ e)).0))
+    (own_place f) within.0 within.1 is wide)) (splice_entry_lasts r id at about f b q x can (sym word ∙ e)).0))
     (λ ne. let miss : v' ≡ previous_seen me.0 b q y (ticked me.0.clock) =
     choose_second (ℕ_discrete y x) (spliced me.0 f b q) (previous_seen me.0 b q y (ticked me.0.clock)) ne in
     subst (λ (z : View). Rule k (world k (set ws i y) (set vs id z))) (sym miss)
     (loaded_words k ws (set vs id (previous_seen me.0 b q y (ticked me.0.clock))) i
     (subst (λ (z : ℕ). Rule k (record w { views = set vs id (previous_seen me.0 b q z (ticked me.0.clock)) })) (sym word)
-    (load_previous_lasts k w r id me.0 at b q can.node (ticked me.0.clock) about).0))) in
+    (load_previous_lasts r id at b q can.node (ticked me.0.clock) about).0))) in
     let about' : v'.about ≡ k = about_splice me.0 f b q x y about in (
       v',
       rule,
@@ -92,10 +92,10 @@ splice_entry_allowed given k same size id me f b q x i new about can is own_is =
               stands = stands k _ id v' rule about' v_at;
             });
         rises = subst (λ (z : ℕ × ℕ). PreviousRises me.0 z.0 z.1) (λ j. (sym index j, sym word j))
-            (previous_rises k w r id me.0 at b q can.node);
+            (previous_rises r id at b q can.node);
         less = subst (λ (z : ℕ × ℕ). z.0 < z.1) (λ j. (sym word j, sym index j))
-            (previous_less k w r id me.0 at b q can.node);
-        other = λ e. previous_other k w r id me.0 at f can.aim b q linked (sym word ∙ e ∙ own_is);
+            (previous_less r id at b q can.node);
+        other = λ e. previous_other r id at f can.aim b q linked (sym word ∙ e ∙ own_is);
       },
     ))
 

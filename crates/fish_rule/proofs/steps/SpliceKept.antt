@@ -21,20 +21,20 @@ use Rattle.fish_rule.proofs.classes.LinkOne.{Leaves, link_final, link_from, link
 use Rattle.fish_rule.proofs.basics.Places.{IsFlier, RecordAt, lies_inside, one_chain, record_at}
 use Rattle.fish_rule.proofs.steps.SwingHead.{aimed_there}
 use Rattle.fish_rule.proofs.basics.Worlds.{put-else, put-here}
-use Rattle.fish_rule.proofs.basics.Lasts.{Lasts}
+use Rattle.fish_rule.proofs.basics.Lasts.{Kept, Lasts}
 use Rattle.fish_rule.specs.Chains.{Chain, Chained, Linked}
 use Rattle.fish_rule.specs.ChainSteps.{CanSpliceEntry, own_place, spliced}
 use Rattle.fish_rule.specs.Parts.{Flies, InFlight, Whole, first_head}
 use Rattle.fish_rule.specs.Facts.{Facts}
 use Rattle.fish_rule.specs.Regions.{IsRecord}
-use Rattle.fish_rule.specs.Rule.{Final, Rule}
+use Rattle.fish_rule.specs.Rule.{Rule}
 use Rattle.fish_rule.specs.Views.{IsFlightOf}
 use Rattle.fish_rule.specs.World.{World, body, put}
 use Rattle.fish_rule.specs.declared.view.Flight.{Flight}
 use Rattle.fish_rule.specs.declared.view.Key.{Key}
 use Rattle.fish_rule.specs.declared.view.View.{View}
 
-module _ (k : Key) (w : World) (r : Rule k w) (id : ℕ) (v : View) (at : get_elem? w.views id ≡ some v)
+module _ {k : Key} {w : World} (r : Rule k w) (id : ℕ) {v : View} (at : get_elem? w.views id ≡ some v)
     (about : v.about ≡ k) (f : Flight) (b q x : ℕ) (can : CanSpliceEntry v f b q x) (was : w.log q ≡ x) where
   -- the place of the own entry
   abbrev own_at : ℕ
@@ -58,15 +58,15 @@ module _ (k : Key) (w : World) (r : Rule k w) (id : ℕ) (v : View) (at : get_el
 
   -- what is so of the record in flight
   own : InFlight k w.count w.dir w.log r.start r.lane_of v.lane f
-  own = flight_is k w r id v at f can.aim.flying
+  own = flight_is r id at f can.aim.flying
 
   -- the entry above
   higher : Linked k w.dir w.log w.views b q
-  higher = node_linked k w r id v at b q can.node
+  higher = node_linked r id at b q can.node
 
   -- its record
-  its : RecordAt k w r higher.line higher.entry
-  its = record_at k w r higher.line higher.entry higher.shows
+  its : RecordAt r higher.line higher.entry
+  its = record_at r higher.line higher.entry higher.shows
 
   -- where the first word above stands
   its_place : q ≡ higher.line * 4 + entry_at higher.entry
@@ -74,7 +74,7 @@ module _ (k : Key) (w : World) (r : Rule k w) (id : ℕ) (v : View) (at : get_el
 
   -- it lies in the region of its record
   inside : (r.start its.number * 4 ≤ q) × (q < r.start (suc its.number) * 4)
-  inside = lies_inside k w r b q higher its
+  inside = lies_inside r b q higher its
 
   -- a place in the region of another number is another place
   elsewhere : (n p : ℕ) → k.number ≤ n → n < w.count → its.number ≢ n → r.start n * 4 ≤ p
@@ -217,7 +217,7 @@ module _ (k : Key) (w : World) (r : Rule k w) (id : ℕ) (v : View) (at : get_el
           }
 
   -- what a splice leaves
-  leaves : Leaves k w r id v at f can.aim b bucket w.head log' splicer.learned splicer.clock
+  leaves : Leaves r id at f can.aim b bucket w.head log' splicer.learned splicer.clock
   leaves = record {
     heads = λ c. omega arith;
     rises = λ c p l. up p (ℕ_discrete p q);
@@ -225,7 +225,7 @@ module _ (k : Key) (w : World) (r : Rule k w) (id : ℕ) (v : View) (at : get_el
         ends_within k w.count w.line r.start r.space.regions its.number its.above its.below in
         put-else w.log q own_at p (λ g. omega arith);
     regions = regions;
-    below = λ p from less. (let behind = flight_behind k w r v.lane f own from in let under = can.below in
+    below = λ p from less. (let behind = flight_behind r v.lane f own from in let under = can.below in
         put-else w.log q own_at p (λ g. omega arith));
     own_words = own_words;
     others = λ j u ne at_u. flies j u at_u u.flight refl (r.space.flights j u at_u);
@@ -238,16 +238,16 @@ module _ (k : Key) (w : World) (r : Rule k w) (id : ℕ) (v : View) (at : get_el
 
   -- linked places stay linked
   to : (c p : ℕ) → Linked k w.dir w.log w.views c p → Linked k w.dir log' splice_world.views c p
-  to = link_to k w r id v at f can.aim b bucket w.head log' splicer.learned splicer.clock leaves
+  to = link_to r id at f can.aim b bucket w.head log' splicer.learned splicer.clock leaves
 
   -- and the own one is the only one more
   from : (c p : ℕ) → Linked k w.dir log' splice_world.views c p → Linked k w.dir w.log w.views c p
       ⊎ ((p ≡ own_at) × (c ≡ b))
-  from = link_from k w r id v at f can.aim b bucket w.head log' splicer.learned splicer.clock leaves
+  from = link_from r id at f can.aim b bucket w.head log' splicer.learned splicer.clock leaves
 
   -- which is linked
   here : Linked k w.dir log' splice_world.views b own_at
-  here = link_here k w r id v at f can.aim b bucket w.head log' splicer.learned splicer.clock leaves
+  here = link_here r id at f can.aim b bucket w.head log' splicer.learned splicer.clock leaves
 
   -- each chain has it in its place
   chains : (c : ℕ) → Chain (Linked k w.dir log' splice_world.views c) (first_head k c) (w.head c) log'
@@ -261,28 +261,27 @@ module _ (k : Key) (w : World) (r : Rule k w) (id : ℕ) (v : View) (at : get_el
           (λ (t : (p ≡ own_at) × (b ≡ b)). inr t.0) (from b p l))
           here (r.chains b) q x higher can.below was can.less (put-here w.log q own_at)
           (put-else w.log q own_at own_at (λ g. let less = can.below in omega arith)
-          ∙ aimed_there k w r id v at f can.aim x can.aimed)
+          ∙ aimed_there r id at f can.aim x can.aimed)
           (λ p l ne. put-else w.log q own_at p ne))
       pick (no ne) = chain_same (Linked k w.dir w.log w.views c) (Linked k w.dir log' splice_world.views c)
           (first_head k c) (w.head c) w.log log' (to c)
           (λ p l. ⊎_elim (λ (g : Linked k w.dir w.log w.views c p). g)
           (λ (t : (p ≡ own_at) × (c ≡ b)). absurd (ne t.1)) (from c p l))
           (λ p l. put-else w.log q own_at p (λ e. ne
-          (one_chain k w r c b q (subst (Linked k w.dir w.log w.views c) e l) higher))) (r.chains c)
+          (one_chain r c b q (subst (Linked k w.dir w.log w.views c) e l) higher))) (r.chains c)
 
   -- what lasts has lasted
-  final : Final k r.start r.start r.lane_of r.lane_of w splice_world
-  final = link_final k w r id v at f can.aim b bucket w.head log' splicer.learned splicer.clock leaves
+  final : Kept r splice_world
+  final = link_final r id at f can.aim b bucket w.head log' splicer.learned splicer.clock leaves
 
   -- what the pass has learned is so
   facts : Facts k w.count w.dir log' r.start splicer.learned
-  facts = (let g = facts_later k w splice_world r.start r.start r.lane_of r.lane_of final v.learned
-      (r.facts id v at) in assumption g)
+  facts = (let g = facts_later final (r.facts id v at) in assumption g)
 
   -- and what it has learned of chains
   chained : Chained k w.dir log' splice_world.views w.head splicer.learned
   chained =
-      let g = chained_later k w splice_world r.start r.start r.lane_of r.lane_of final v.learned (r.chained id v at) in
+      let g = chained_later final (r.chained id v at) in
       let low_ = put-here w.log q own_at in
       record {
         nodes = (here, g.nodes);
@@ -292,7 +291,7 @@ module _ (k : Key) (w : World) (r : Rule k w) (id : ℕ) (v : View) (at : get_el
       }
 
   -- a splice keeps the rule, and all that lasts
-  pub splice_entry_lasts : Lasts k w r splice_world
+  pub splice_entry_lasts : Lasts r splice_world
   splice_entry_lasts =
-      link_lasts k w r id v at f can.aim b bucket w.head log' splicer.learned splicer.clock leaves chains facts
+      link_lasts r id at f can.aim b bucket w.head log' splicer.learned splicer.clock leaves chains facts
       (r.opens id v at) (r.floors id v at) chained (r.registry.each id v at)

@@ -3,6 +3,7 @@ use Rattle.std.proofs.Common.{◌∙◌, ap, ◌≡◌, ℕ, List, [], ◌∷◌
 use mathlib.Core.Option.{some}
 use Rattle.std.proofs.Math.ListN.{get_elem?}
 use Rattle.atomic_table.proofs.Lists.{at_longer, at_snoc, at_last, set_here}
+use Rattle.fish_rule.proofs.basics.Lasts.{Kept}
 use Rattle.fish_rule.proofs.basics.Lists.{each_set, each_snoc, pairs_set, within_list}
 use Rattle.fish_rule.proofs.classes.OtherViews.{final_still, limit_views, alone_kept, flight_there}
 use Rattle.fish_rule.proofs.basics.Lanes.{flight_longer, has_lane, has_left, has_one, left_has, not_over}
@@ -17,7 +18,7 @@ use Rattle.fish_rule.specs.Facts.{Owns}
 use Rattle.fish_rule.specs.Rule.{Final, Rule}
 use Rattle.fish_rule.specs.SeatSteps.{CanSplitPass, of_lane, split_left, split_right}
 use Rattle.fish_rule.specs.Views.{Each, Has, IsFlightOf}
-use Rattle.fish_rule.specs.World.{World, world}
+use Rattle.fish_rule.specs.World.{World}
 use Rattle.fish_rule.specs.declared.view.Key.{Key}
 use Rattle.fish_rule.specs.declared.view.View.{View}
 use Rattle.fish_rule.proofs.basics.RegistryWords.{endures_same}
@@ -26,7 +27,7 @@ use Rattle.fish_rule.specs.declared.view.Epoch.TheVariants.{Out}
 use Rattle.atomic_table.specs.Table.{Splits}
 use Rattle.fish_rule.specs.Table.{Ruled, Stands}
 
-module _ (k : Key) (w : World) (r : Rule k w) (id : ℕ) (v : View) (at : get_elem? w.views id ≡ some v) (l : ℕ)
+module _ {k : Key} {w : World} (r : Rule k w) (id : ℕ) {v : View} (at : get_elem? w.views id ≡ some v) (l : ℕ)
     (can : CanSplitPass v l) where
   -- the control pass's view after it
   abbrev left : View
@@ -122,17 +123,14 @@ module _ (k : Key) (w : World) (r : Rule k w) (id : ℕ) (v : View) (at : get_el
       (at_snoc cut right h.view h.seat h.at)
 
   -- nothing that lasts has changed
-  split_final : Final k r.start r.start r.lane_of r.lane_of w (record w { views = cut ++ right ∷ [] })
-  split_final = final_still k w r w.settled w.registry (cut ++ right ∷ []) (omega arith)
-      (endures_same k w.registry) (links_views k w r (cut ++ right ∷ []) links_cut)
+  split_final : Kept r (record w { views = cut ++ right ∷ [] })
+  split_final = final_still r w.settled w.registry (cut ++ right ∷ []) (omega arith)
+      (endures_same k w.registry) (links_views r (cut ++ right ∷ []) links_cut)
 
   -- what is known of chains stays so
-  split_chained : (x : Learned) → Chained k w.dir w.log w.views w.head x
+  split_chained : {x : Learned} → Chained k w.dir w.log w.views w.head x
       → Chained k w.dir w.log (cut ++ right ∷ []) w.head x
-  split_chained = chained_later k w (record w {
-    views =
-        cut ++ right ∷ [];
-  }) r.start r.start r.lane_of r.lane_of split_final
+  split_chained = chained_later split_final
 
   -- the control pass is as far entered as before, and the lane that it gave out is out
   left_stays : Stays k w.count w.registry r.state r.version_of left
@@ -203,9 +201,9 @@ module _ (k : Key) (w : World) (r : Rule k w) (id : ℕ) (v : View) (at : get_el
     };
     limit = split_limit;
     settling = r.settling;
-    chains = chains_views k w r (cut ++ right ∷ []) links_cut back_cut;
-    chained = each_cut _ (λ j u at_u. split_chained u.learned (r.chained j u at_u))
-        (split_chained v.learned (r.chained id v at)) (split_chained v.learned (r.chained id v at));
+    chains = chains_views r (cut ++ right ∷ []) links_cut back_cut;
+    chained = each_cut _ (λ j u at_u. split_chained (r.chained j u at_u))
+        (split_chained (r.chained id v at)) (split_chained (r.chained id v at));
     floors = each_cut _ r.floors (r.floors id v at) (r.floors id v at);
     own = each_cut _ r.own left_owns right_owns;
     facts = each_cut _ r.facts (r.facts id v at) (r.facts id v at);
@@ -228,13 +226,13 @@ pub splits : (k : Key) (id : ℕ) (v : View) (l : ℕ) → CanSplitPass v l
     → Splits (Ruled k) id v (split_left l v) (split_right l v)
 splits k id v l can s ruled at = record {
   wide = ruled.wide;
-  rule = split_kept k (world k s.words s.views) ruled.rule id v at l can;
+  rule = split_kept ruled.rule id at l can;
 }
 
 -- the moment after a split
 split_moment : (v : View) (s : Stands v) (l : ℕ) → CanSplitPass v l
     → Rule v.about (record s.moment { views = set s.moment.views s.seat (split_left l v) ++ split_right l v ∷ [] })
-split_moment v s l can = split_kept v.about s.moment s.rule s.seat v s.at l can
+split_moment v s l can = split_kept s.rule s.seat s.at l can
 
 -- at that moment the control pass has its new view
 pub left_stands : (v : View) (l : ℕ) → Stands v → CanSplitPass v l → Stands (split_left l v)

@@ -23,7 +23,7 @@ use Rattle.fish_rule.proofs.basics.Worlds.{world-registry}
 use Rattle.fish_rule.specs.Table.{Ruled, Sat, Told}
 use Rattle.fish_rule.specs.Told.{told_store_from}
 
-module _ (k : Key) (w : World) (r : Rule k w) (id : ℕ) (v : View) (at : get_elem? w.views id ≡ some v) where
+module _ {k : Key} {w : World} (r : Rule k w) (id : ℕ) {v : View} (at : get_elem? w.views id ≡ some v) where
   module _ (o : Round) (n : ℕ) (can : CanStoreFrom v o n) where
     -- the registration waits
     waiting : IsRound k w.count w.registry r.state r.version_of v.lane o
@@ -40,18 +40,18 @@ module _ (k : Key) (w : World) (r : Rule k w) (id : ℕ) (v : View) (at : get_el
     lists_it (Confirmed u) h = has_it u h
 
     -- to set where an index begins keeps the rule, and all that lasts
-    pub store_from_lasts : Lasts k w r (record w {
+    pub store_from_lasts : Lasts r (record w {
       registry = put w.registry (row_at o.id 0) (suc n);
       views = set w.views id (after_store_from v o n);
     })
     store_from_lasts =
         let h = waiting in
         let b = h.bound n can.bound in
-        stores k w r id v at can.main (row_at o.id 0) (suc n)
-        (place_far k w r id v at can.main o.id 0 n h.few (omega arith) h.unset)
-        (place_away k w r id v at can.main o.id 0 n h.few (omega arith) h.unset) None _
-        (set_read k w r id v at can.main o.id 0 n h.few (omega arith) h.unset)
-        (set_boundaries k w r id v at can.main o.id 0 n h.few (omega arith) h.unset b.within
+        stores r id at can.main (row_at o.id 0) (suc n)
+        (place_far r id at can.main o.id 0 n h.few (omega arith) h.unset)
+        (place_away r id at can.main o.id 0 n h.few (omega arith) h.unset) None _
+        (set_read r id at can.main o.id 0 n h.few (omega arith) h.unset)
+        (set_boundaries r id at can.main o.id 0 n h.few (omega arith) h.unset b.within
         (has_it (version_in w.registry) h.reached) (λ e. absurd (omega arith))
         (λ e l above below. lists_it (r.state l) (h.clear l above below (b.all l above below)))
         (λ e m above after below. has_it (r.version_of m) (b.since m above after below)) (λ e. absurd (omega arith))) tt
@@ -66,7 +66,7 @@ store_from_allowed given k same size id me o n i x about can few is value =
     let v' : View = after_store_from me.0 o n in
     let kept : Rule k (record w { registry = put w.registry i x; views = set vs id v' }) =
     subst (λ (z : ℕ × ℕ). Rule k (record w { registry = put w.registry z.0 z.1; views = set vs id v' }))
-    (λ j. (sym is j, sym value j)) (store_from_lasts k w r id me.0 at o n can).0 in
+    (λ j. (sym is j, sym value j)) (store_from_lasts r id at o n can).0 in
     let moved = world-registry k ws vs (set vs id v') i x (omega arith) (omega arith) wide in
     let back : x - 1 ≡ n = omega arith in (
       v',

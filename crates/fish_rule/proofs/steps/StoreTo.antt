@@ -20,18 +20,18 @@ use Rattle.fish_rule.proofs.basics.Worlds.{world-registry}
 use Rattle.fish_rule.specs.Table.{Ruled, Sat, Told}
 use Rattle.fish_rule.specs.Told.{told_store_to}
 
-module _ (k : Key) (w : World) (r : Rule k w) (id : ℕ) (v : View) (at : get_elem? w.views id ≡ some v) where
+module _ {k : Key} {w : World} (r : Rule k w) (id : ℕ) {v : View} (at : get_elem? w.views id ≡ some v) where
   module _ (row n : ℕ) (can : CanStoreTo v row n) where
     -- a boundary is as the control pass knows it
     known_bound : (i : ℕ) → i < 2
         → w.registry (row_at row i) ≡ Rattle.fish_rule.specs.Registry.main_word v.main_words (row_at row i)
-    known_bound i small = (its k w r id v at can.main).owned (row_at row i) (inr (row, i, can.few, small, refl))
+    known_bound i small = (its r id at can.main).owned (row_at row i) (inr (row, i, can.few, small, refl))
 
     -- the row is made
     row_made : row < length (definitions_at k w.registry (version_in w.registry))
     row_made =
         let size : length (definitions_at k w.registry (version_in w.registry)) ≡ length v.rows =
-        ap (λ (z : List Listed). length z) (its k w r id v at can.main).definitions in
+        ap (λ (z : List Listed). length z) (its r id at can.main).definitions in
         let there = slice_get_within v.rows row can.on.listed can.on.there in
         omega arith
 
@@ -40,7 +40,7 @@ module _ (k : Key) (w : World) (r : Rule k w) (id : ℕ) (v : View) (at : get_el
     none_yet = known_bound 1 (omega arith) ∙ can.endless
 
     -- to set where an index ends keeps the rule, and all that lasts
-    pub store_to_lasts : Lasts k w r (record w {
+    pub store_to_lasts : Lasts r (record w {
       registry = put w.registry (row_at row 1) (suc n);
       views = set w.views id (after_store_to v row n);
     })
@@ -48,18 +48,18 @@ module _ (k : Key) (w : World) (r : Rule k w) (id : ℕ) (v : View) (at : get_el
         let counted = (r.facts id v at).counted in
         let within = can.within in
         let stays = r.registry.each id v at in
-        stores k w r id v at can.main (row_at row 1) (suc n)
-        (place_far k w r id v at can.main row 1 n can.few (omega arith) none_yet)
-        (place_away k w r id v at can.main row 1 n can.few (omega arith) none_yet) v.round _
-        (set_read k w r id v at can.main row 1 n can.few (omega arith) none_yet)
-        (set_boundaries k w r id v at can.main row 1 n can.few (omega arith) none_yet (omega arith) row_made
+        stores r id at can.main (row_at row 1) (suc n)
+        (place_far r id at can.main row 1 n can.few (omega arith) none_yet)
+        (place_away r id at can.main row 1 n can.few (omega arith) none_yet) v.round _
+        (set_read r id at can.main row 1 n can.few (omega arith) none_yet)
+        (set_boundaries r id at can.main row 1 n can.few (omega arith) none_yet (omega arith) row_made
         (λ e z. can.began (sym (known_bound 0 (omega arith)) ∙ z)) (λ e. absurd (omega arith))
         (λ e. absurd (omega arith))
         (λ e m above before below. r.registry.boundaries.running row (r.version_of m) can.few none_yet
         (r.registry.versions.upto m above below)))
         (waits_later k w.registry _
-        (set_endures k w r id v at can.main row 1 n can.few (omega arith) none_yet) w.count r.state r.state r.version_of
-        v.lane (λ m small. other_bound k w r id v at can.main row 1 n can.few (omega arith) none_yet m 0 (omega arith)
+        (set_endures r id at can.main row 1 n can.few (omega arith) none_yet) w.count r.state r.state r.version_of
+        v.lane (λ m small. other_bound r id at can.main row 1 n can.few (omega arith) none_yet m 0 (omega arith)
         (λ e. let a = e.1 in omega arith)) (λ l s above below reached h. h) v.round stays.waits)
 
 -- a store of where one ends
@@ -73,7 +73,7 @@ store_to_allowed given k same size id me row n i x about can is value =
     let few = can.few in
     let kept : Rule k (record w { registry = put w.registry i x; views = set vs id v' }) =
     subst (λ (z : ℕ × ℕ). Rule k (record w { registry = put w.registry z.0 z.1; views = set vs id v' }))
-    (λ j. (sym is j, sym value j)) (store_to_lasts k w r id me.0 at row n can).0 in
+    (λ j. (sym is j, sym value j)) (store_to_lasts r id at row n can).0 in
     let moved = world-registry k ws vs (set vs id v') i x (omega arith) (omega arith) wide in
     let back : x - 1 ≡ n = omega arith in (
       v',

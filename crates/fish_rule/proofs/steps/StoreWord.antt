@@ -25,8 +25,8 @@ use Rattle.fish_rule.specs.Table.{Ruled, Sat, Stands}
 use Rattle.fish_rule.specs.Told.{told_store_word}
 use Rattle.fish_rule.proofs.classes.Allowed.{allowed, stands, there}
 
-module _ (k : Key) (w : World) (r : Rule k w) (id : ℕ) (v : View) (at : get_elem? w.views id ≡ some v)
-    (f : Flight) (can : CanStoreWord v f) (x : ℕ) where
+module _ {k : Key} {w : World} (r : Rule k w) (id : ℕ) {v : View} (at : get_elem? w.views id ≡ some v) (f : Flight)
+    (can : CanStoreWord v f) (x : ℕ) where
   -- the place of the word
   abbrev pub stored_place : ℕ
   stored_place = f.line * 4 + length f.words
@@ -50,7 +50,7 @@ module _ (k : Key) (w : World) (r : Rule k w) (id : ℕ) (v : View) (at : get_el
         (before, get_or_append_left f.words (x ∷ []) 0 i before);
     linking = λ some_. let none = can.unlinked in absurd (omega arith);
     header = λ void.
-        let about : v.about ≡ k = r.about id v at (flight_is k w r id v at f can.flying).live in
+        let about : v.about ≡ k = r.about id v at (flight_is r id at f can.flying).live in
         let none = ap (λ (z : List ℕ). length z) (can.header
         (subst (λ (z : Key). kind_of z.end f.line (f.line + f.lines) ≡ Void) (sym about) void)) in
         let e = longer in omega arith;
@@ -61,12 +61,12 @@ module _ (k : Key) (w : World) (r : Rule k w) (id : ℕ) (v : View) (at : get_el
 
   -- a fill keeps the rule
   pub store_word_kept : Rule k stored
-  store_word_kept = write_kept k w r id v at f can.flying (length f.words) x (f.words ++ x ∷ []) (ticked v.clock) becomes
+  store_word_kept = write_kept r id at f can.flying (length f.words) x (f.words ++ x ∷ []) (ticked v.clock) becomes
 
   -- and all that lasts
   pub store_word_lasts : Final k r.start store_word_kept.start r.lane_of store_word_kept.lane_of w stored
   unfolding store_word_kept
-  store_word_lasts = write_lasts k w r id v at f can.flying (length f.words) x (f.words ++ x ∷ []) (ticked v.clock) becomes
+  store_word_lasts = write_lasts r id at f can.flying (length f.words) x (f.words ++ x ∷ []) (ticked v.clock) becomes
 
 -- a store of the next word of the region in flight
 pub store_word_allowed : (given k : Key) → given ≡ k → (size id : ℕ) (me : Sat) (f : Flight) (i x : ℕ)
@@ -76,14 +76,14 @@ store_word_allowed given k same size id me f i x about can is =
     allowed given k same size id me i (λ _. x) (λ _. told_store_word (step size i x 0 none) me x) (λ ws vs wide r at.
     let w : World = world k ws vs in
     let v' : View = after_store_word me.0 f x in
-    let own = flight_is k w r id me.0 at f can.flying in
-    let p : ℕ = stored_place k w r id me.0 at f can x in
+    let own = flight_is r id at f can.flying in
+    let p : ℕ = stored_place r id at f can x in
     let from = starts_above k w.count w.line r.start r.space.regions f.number own.above
     (let b = own.below in omega arith) in
     let line = own.line in
     let more = can.more in
     let end : f.line + f.lines ≤ k.end = subst (λ (z : Key). f.line + f.lines ≤ z.end) about can.within in
-    let kept = store_word_kept k w r id me.0 at f can x in
+    let kept = store_word_kept r id at f can x in
     let moved = world-log k ws vs (set vs id v') p i x (omega arith) (omega arith) is wide in (
       v',
       subst (Rule k) (sym moved) kept,

@@ -20,14 +20,14 @@ use Rattle.fish_rule.proofs.classes.FactsStay.{chained_later, facts_later}
 use Rattle.fish_rule.proofs.classes.LinkOne.{Leaves, link_final, link_from, link_here, link_lasts, link_to, either_way}
 use Rattle.fish_rule.proofs.classes.WordsStay.{not_linked}
 use Rattle.fish_rule.proofs.basics.Worlds.{area-in, put-else, put-here, world-head}
-use Rattle.fish_rule.proofs.basics.Lasts.{Lasts}
+use Rattle.fish_rule.proofs.basics.Lasts.{Kept, Lasts}
 use Rattle.fish_rule.specs.Chains.{Chain, Chained, Linked}
 use Rattle.fish_rule.specs.ChainSteps.{CanAimEntry, CanSwingHead, HeadRises, after_swing_head, head_seen, own_place}
 use Rattle.fish_rule.specs.ChainSteps.{swung}
 use Rattle.fish_rule.specs.Told.{ToldSwingHead, bucket_at}
 use Rattle.fish_rule.specs.Facts.{Facts}
 use Rattle.fish_rule.specs.Parts.{first_head}
-use Rattle.fish_rule.specs.Rule.{Final, Rule}
+use Rattle.fish_rule.specs.Rule.{Rule}
 use Rattle.fish_rule.specs.SpaceSteps.{ticked}
 use Rattle.fish_rule.specs.Table.{Ruled, Sat, Told}
 use Rattle.fish_rule.specs.World.{World, heads_at, put, world}
@@ -37,17 +37,17 @@ use Rattle.fish_rule.specs.declared.view.View.{View}
 use Rattle.fish_rule.specs.Flying.{region_in}
 
 -- the place that the own entry is aimed at stands in the log
-pub aimed_there : (k : Key) (w : World) (r : Rule k w) (id : ℕ) (v : View) (at : get_elem? w.views id ≡ some v)
+pub aimed_there : {k : Key} {w : World} (r : Rule k w) (id : ℕ) {v : View} (at : get_elem? w.views id ≡ some v)
     (f : Flight) (can : CanAimEntry v f) (x : ℕ) → get_or f.words (entry_at f.linked) 0 ≡ x → w.log (own_place f) ≡ x
-aimed_there k w r id v at f can x aimed =
-    let own = flight_is k w r id v at f can.flying in
-    let room = own_room k w r id v at f can in
+aimed_there {k} {w} r id {v} at f can x aimed =
+    let own = flight_is r id at f can.flying in
+    let room = own_room r id at f can in
     let full = can.full in
     own.written (entry_at f.linked) (omega arith)
     (λ h. let less : h.0 < f.linked = h.1 in let e : entry_at f.linked ≡ entry_at h.0 = h.2 in
     absurd (omega arith)) ∙ aimed
 
-module _ (k : Key) (w : World) (r : Rule k w) (id : ℕ) (v : View) (at : get_elem? w.views id ≡ some v)
+module _ {k : Key} {w : World} (r : Rule k w) (id : ℕ) {v : View} (at : get_elem? w.views id ≡ some v)
     (about : v.about ≡ k) (f : Flight) (b h : ℕ) (can : CanSwingHead v f b h) (top : w.head b ≡ h) where
   -- the place of the own entry
   abbrev own_at : ℕ
@@ -70,7 +70,7 @@ module _ (k : Key) (w : World) (r : Rule k w) (id : ℕ) (v : View) (at : get_el
   bucket = subst (λ (z : Key). bucket_of z.buckets (body_of f.words) f.linked ≡ b) about can.bucket
 
   -- what a swing leaves
-  leaves : Leaves k w r id v at f can.aim b bucket head' w.log swinger.learned swinger.clock
+  leaves : Leaves r id at f can.aim b bucket head' w.log swinger.learned swinger.clock
   leaves = record {
     heads = λ c. up c (ℕ_discrete c b);
     rises = λ c p l. omega arith;
@@ -88,16 +88,16 @@ module _ (k : Key) (w : World) (r : Rule k w) (id : ℕ) (v : View) (at : get_el
 
   -- linked places stay linked
   to : (c p : ℕ) → Linked k w.dir w.log w.views c p → Linked k w.dir w.log swing_world.views c p
-  to = link_to k w r id v at f can.aim b bucket head' w.log swinger.learned swinger.clock leaves
+  to = link_to r id at f can.aim b bucket head' w.log swinger.learned swinger.clock leaves
 
   -- and the own one is the only one more
   from : (c p : ℕ) → Linked k w.dir w.log swing_world.views c p → Linked k w.dir w.log w.views c p
       ⊎ ((p ≡ own_at) × (c ≡ b))
-  from = link_from k w r id v at f can.aim b bucket head' w.log swinger.learned swinger.clock leaves
+  from = link_from r id at f can.aim b bucket head' w.log swinger.learned swinger.clock leaves
 
   -- which is linked
   here : Linked k w.dir w.log swing_world.views b own_at
-  here = link_here k w r id v at f can.aim b bucket head' w.log swinger.learned swinger.clock leaves
+  here = link_here r id at f can.aim b bucket head' w.log swinger.learned swinger.clock leaves
 
   -- it is first in its bucket's chain, and other chains stay
   chains : (c : ℕ) → Chain (Linked k w.dir w.log swing_world.views c) (first_head k c) (head' c) w.log
@@ -112,7 +112,7 @@ module _ (k : Key) (w : World) (r : Rule k w) (id : ℕ) (v : View) (at : get_el
           (Linked k w.dir w.log swing_world.views b) (first_head k b) h own_at w.log w.log (to b)
           (λ p l. ⊎_elim (λ (g : Linked k w.dir w.log w.views b p). inl g)
           (λ (t : (p ≡ own_at) × (b ≡ b)). inr t.0) (from b p l))
-          here old can.less (aimed_there k w r id v at f can.aim h can.aimed) (λ p l. refl) in
+          here old can.less (aimed_there r id at f can.aim h can.aimed) (λ p l. refl) in
           subst (λ (z : ℕ × ℕ). Chain (Linked k w.dir w.log swing_world.views z.0) (first_head k z.0) z.1 w.log)
           (λ i. (sym e i, (sym (put-here w.head b own_at) ∙ ap head' (sym e)) i)) new
       pick (no ne) = subst (λ (z : ℕ). Chain (Linked k w.dir w.log swing_world.views c) (first_head k c) z w.log)
@@ -123,33 +123,32 @@ module _ (k : Key) (w : World) (r : Rule k w) (id : ℕ) (v : View) (at : get_el
           (λ (t : (p ≡ own_at) × (c ≡ b)). absurd (ne t.1)) (from c p l)) (λ p l. refl) (r.chains c))
 
   -- what lasts has lasted
-  final : Final k r.start r.start r.lane_of r.lane_of w swing_world
-  final = link_final k w r id v at f can.aim b bucket head' w.log swinger.learned swinger.clock leaves
+  final : Kept r swing_world
+  final = link_final r id at f can.aim b bucket head' w.log swinger.learned swinger.clock leaves
 
   -- what the pass has learned is so
   facts : Facts k w.count w.dir w.log r.start swinger.learned
-  facts = (let q = facts_later k w swing_world r.start r.start r.lane_of r.lane_of final v.learned
-      (r.facts id v at) in assumption q)
+  facts = (let q = facts_later final (r.facts id v at) in assumption q)
 
   -- and what it has learned of chains
   chained : Chained k w.dir w.log swing_world.views head' swinger.learned
   chained =
-      let q = chained_later k w swing_world r.start r.start r.lane_of r.lane_of final v.learned (r.chained id v at) in
+      let q = chained_later final (r.chained id v at) in
       let top_ = put-here w.head b own_at in
       record { nodes = (here, q.nodes); least_previous = q.least_previous; least_heads = (omega arith, q.least_heads) }
 
   -- a swing keeps the rule, and all that lasts
-  pub swing_head_lasts : Lasts k w r swing_world
+  pub swing_head_lasts : Lasts r swing_world
   swing_head_lasts =
-      link_lasts k w r id v at f can.aim b bucket head' w.log swinger.learned swinger.clock leaves chains facts
+      link_lasts r id at f can.aim b bucket head' w.log swinger.learned swinger.clock leaves chains facts
       (r.opens id v at) (r.floors id v at) chained (r.registry.each id v at)
 
 -- the own entry is not linked yet
-pub own_unlinked : (k : Key) (w : World) (r : Rule k w) (id : ℕ) (v : View)
-    (at : get_elem? w.views id ≡ some v) (f : Flight) (can : CanAimEntry v f) (b p : ℕ)
+pub own_unlinked : {k : Key} {w : World} (r : Rule k w) (id : ℕ) {v : View} (at : get_elem? w.views id ≡ some v)
+    (f : Flight) (can : CanAimEntry v f) (b p : ℕ)
     → Linked k w.dir w.log w.views b p → p ≢ own_place f
-own_unlinked k w r id v at f can b p = not_linked k w r id v at f can.flying (entry_at f.linked) 0
-    (set f.words (entry_at f.linked) 0) (ticked v.clock) (becomes k w r id v at f can 0) b p
+own_unlinked {k} {w} r id {v} at f can b p = not_linked r id at f can.flying (entry_at f.linked) 0
+    (set f.words (entry_at f.linked) 0) (ticked v.clock) (becomes r id at f can 0) b p
 
 -- a swing leaves the key
 about_swing : (v : View) {k : Key} (f : Flight) (b h x : ℕ) → v.about ≡ k → (after_swing_head v f b h x).about ≡ k
@@ -160,11 +159,11 @@ about_swing v {k} f b h x about = by (ℕ_discrete x h)
     by (no n) = about
 
 -- the own place is no head before
-pub head_other : (k : Key) (w : World) (r : Rule k w) (id : ℕ) (v : View) (at : get_elem? w.views id ≡ some v)
+pub head_other : {k : Key} {w : World} (r : Rule k w) (id : ℕ) {v : View} (at : get_elem? w.views id ≡ some v)
     (f : Flight) (can : CanAimEntry v f) (b : ℕ) → w.head b ≢ own_place f
-head_other k w r id v at f can b e = ⊎_elim (λ (z : w.head b ≡ first_head k b).
-    let low_ = first_low k w r b in let behind = flight_from k w r id v at f can.flying in absurd (omega arith))
-    (λ (l : Linked k w.dir w.log w.views b (w.head b)). own_unlinked k w r id v at f can b (w.head b) l e)
+head_other {k} {w} r id {v} at f can b e = ⊎_elim (λ (z : w.head b ≡ first_head k b).
+    let low_ = first_low r b in let behind = flight_from r id v at f can.flying in absurd (omega arith))
+    (λ (l : Linked k w.dir w.log w.views b (w.head b)). own_unlinked r id at f can b (w.head b) l e)
     (r.chains b).some
 
 -- the table allows it
@@ -189,13 +188,13 @@ swing_head_allowed given k same size id me f b h i new about can is own =
     (λ e. let hit : v' ≡ swung me.0 f b = choose_first (ℕ_discrete x h) (swung me.0 f b) (head_seen me.0 b x (ticked me.0.clock)) e in
     subst (λ (z : ℕ × View). Rule k (world k (set ws i z.0) (set vs id z.1))) (λ j. (sym own j, sym hit j))
     (subst (Rule k) (sym (world-head k ws vs (set vs id (swung me.0 f b)) b i (own_place f) below is wide))
-    (swing_head_lasts k w r id me.0 at about f b h can (sym word ∙ e)).0))
+    (swing_head_lasts r id at about f b h can (sym word ∙ e)).0))
     (λ ne. let miss : v' ≡ head_seen me.0 b x (ticked me.0.clock) =
     choose_second (ℕ_discrete x h) (swung me.0 f b) (head_seen me.0 b x (ticked me.0.clock)) ne in
     subst (λ (z : View). Rule k (world k (set ws i x) (set vs id z))) (sym miss)
     (loaded_words k ws (set vs id (head_seen me.0 b x (ticked me.0.clock))) i
     (subst (λ (z : ℕ). Rule k (record w { views = set vs id (head_seen me.0 b z (ticked me.0.clock)) })) (sym word)
-    (load_head_lasts k w r id me.0 at b (ticked me.0.clock) about).0))) in
+    (load_head_lasts r id at b (ticked me.0.clock) about).0))) in
     let about' : v'.about ≡ k = about_swing me.0 f b h x about in (
       v',
       rule,
@@ -209,8 +208,8 @@ swing_head_allowed given k same size id me f b h i new about can is own =
               stands = stands k _ id v' rule about' v_at;
             });
         rises = subst (λ (z : ℕ × ℕ). HeadRises me.0 z.0 z.1) (λ j. (sym index j, sym word j))
-            (head_rises k w r id me.0 at b);
-        other = λ e. head_other k w r id me.0 at f can.aim b (sym word ∙ e ∙ own);
+            (head_rises r id at b);
+        other = λ e. head_other r id at f can.aim b (sym word ∙ e ∙ own);
       },
     ))
 

@@ -1,6 +1,6 @@
 -- The next version as its operation makes it: what is listed then, and which words of the registry stay.
-use Rattle.std.proofs.Common.{◌≡◌, ◌≢◌, ℕ, ◌%◌, ◌<◌, ◌≤◌, suc, List, [], ◌∷◌, ◌++◌, length, sym, refl, ◌+◌, ◌⊎◌, ap}
-use Rattle.std.proofs.Common.{◌∙◌, subst, inl, inr, ⊎_elim, arith, true, Some, slice_get, ◌-◌}
+use Rattle.std.proofs.Common.{◌≡◌, ◌≢◌, ℕ, ◌%◌, ◌<◌, ◌≤◌, suc, List, [], ◌∷◌, ◌++◌, length, sym, refl, ◌+◌, ap}
+use Rattle.std.proofs.Common.{◌∙◌, subst, inl, inr, ⊎_elim, arith, true, Some, slice_get}
 use Rattle.std.proofs.Math.Decide.{ℕ_discrete, dec_le, dec_lt}
 use mathlib.Core.Option.{some}
 use Rattle.std.proofs.Math.ListN.{get_elem?}
@@ -24,7 +24,6 @@ use Rattle.fish_rule.specs.Rule.{Rule}
 use Rattle.fish_rule.specs.World.{World, put}
 use Rattle.fish_rule.specs.declared.view.Key.{Key}
 use Rattle.fish_rule.specs.declared.view.View.{View}
-use Rattle.fish_rule.proofs.classes.Allowed.{there}
 
 -- an operation makes a listing of a listing
 pub listing_made : (f : ℕ → ℕ) (x : ℕ) (ls : List Listed) → IsListing ls → IsOperation (row_in f (length ls)) ls x
@@ -64,7 +63,7 @@ open_made f x ls n (inr t) listing other h =
     ap (λ (z : Listed). z.active)
     (sym was.2 ∙ choose_second (ℕ_discrete was.0.id (x % 256)) (ended was.0) was.0 kept) ∙ h was.0 was.1)
 
-module _ (k : Key) (w : World) (r : Rule k w) (id : ℕ) (v : View) (at : get_elem? w.views id ≡ some v)
+module _ {k : Key} {w : World} (r : Rule k w) (id : ℕ) {v : View} (at : get_elem? w.views id ≡ some v)
     (main : v.lane ≡ 1) (can : CanRaiseVersion v) where
   -- the words afterwards
   abbrev pub bumped : ℕ → ℕ
@@ -76,7 +75,7 @@ module _ (k : Key) (w : World) (r : Rule k w) (id : ℕ) (v : View) (at : get_el
 
   -- the version is one more
   pub up : version_in bumped ≡ suc (version_in w.registry)
-  up = put-here w.registry 2 (suc v.learned.version) ∙ ap suc (its k w r id v at main).version
+  up = put-here w.registry 2 (suc v.learned.version) ∙ ap suc (its r id at main).version
 
   -- no other word has changed
   pub else_ : (q : ℕ) → q ≢ 2 → bumped q ≡ w.registry q
@@ -96,23 +95,23 @@ module _ (k : Key) (w : World) (r : Rule k w) (id : ℕ) (v : View) (at : get_el
   pub op_is : w.registry (op_at (suc (version_in w.registry))) ≡ next_operation v
   op_is =
       let few = can.few in
-      let e = (its k w r id v at main).version in
-      (its k w r id v at main).owned (op_at (suc (version_in w.registry)))
+      let e = (its r id at main).version in
+      (its r id at main).owned (op_at (suc (version_in w.registry)))
       (inl (inl (suc (version_in w.registry), (omega arith), (omega arith), refl)))
-      ∙ ap (λ (z : ℕ). main_word v.main_words (op_at (suc z))) (sym (its k w r id v at main).version)
+      ∙ ap (λ (z : ℕ). main_word v.main_words (op_at (suc z))) (sym (its r id at main).version)
 
   -- and so does the next row
   row_is : length v.rows < 256 → (i : ℕ) → i < 39
       → w.registry (row_at (length v.rows) i) ≡ main_word v.main_words (row_at (length v.rows) i)
   row_is room i few =
-      let size : length before ≡ length v.rows = ap (λ (z : List Listed). length z) (its k w r id v at main).definitions in
-      (its k w r id v at main).owned (row_at (length v.rows) i)
+      let size : length before ≡ length v.rows = ap (λ (z : List Listed). length z) (its r id at main).definitions in
+      (its r id at main).owned (row_at (length v.rows) i)
       (inl (inr (length v.rows, i, (omega arith), room, few, refl)))
 
   -- the operation is one that may be made
   pub operation : IsOperation (row_in w.registry (length before)) before (w.registry (op_at (suc (version_in w.registry))))
   operation = subst (λ (z : List Listed × ℕ). IsOperation (row_in w.registry (length z.0)) z.0 z.1)
-      (λ i. (sym (its k w r id v at main).definitions i, sym op_is i))
+      (λ i. (sym (its r id at main).definitions i, sym op_is i))
       (operation_later (row_in (main_word v.main_words) (length v.rows)) (row_in w.registry (length v.rows)) v.rows
       (next_operation v) (λ room few i a b. row_is room i b) can.operation)
 
@@ -135,7 +134,7 @@ module _ (k : Key) (w : World) (r : Rule k w) (id : ℕ) (v : View) (at : get_el
   pub made_known : definitions_at k bumped (version_in bumped)
       ≡ made (main_word v.main_words) (next_operation v) v.rows
   made_known = ap (definitions_at k bumped) up ∙ made_now
-      ∙ (λ j. made w.registry (op_is j) ((its k w r id v at main).definitions j))
+      ∙ (λ j. made w.registry (op_is j) ((its r id at main).definitions j))
       ∙ made_same (main_word v.main_words) w.registry (next_operation v) v.rows (λ less i a b. row_is (room less) i b)
     where
       room : next_operation v < 512 → length v.rows < 256
@@ -146,7 +145,7 @@ module _ (k : Key) (w : World) (r : Rule k w) (id : ℕ) (v : View) (at : get_el
   bump_versions =
       let h = r.registry.versions in
       let few_ = can.few in
-      let e = (its k w r id v at main).version in
+      let e = (its r id at main).version in
       let rise = up in
       let from_ = h.from in
       record {
