@@ -89,8 +89,8 @@ end_start p t settles can = record {
 
 -- ---- the definitions
 
-module _ {log : Log} {v u t : View} {r q s : Registrar} {first first' : Lane} {before after : List Lane} {end : BlockEnd}
-    (lanes : HasRunLanes log v u r q first first' before after) (ended : HasFoundEnd u t q s end)
+module _ {log : Log} {v u t : View} {r q s : Registrar} {first first' : Lane} {others others' : List Lane} {end : BlockEnd}
+    (lanes : HasRunLanes log v u r q first first' others others') (ended : HasFoundEnd u t q s end)
     (su : Stands u) (ku : Knows u q) (st : Stands t)
     (near : (k : Span) → IsBlockSpan v t end.to k → (k.from ≤ v.learned.count) × (t.learned.count ≤ k.to + 16)) where
   controlled : HasControlled lanes.run.main lanes.ran r q first.works first'.items first'.fault
