@@ -5,10 +5,8 @@ use Rattle.fish_rule.proofs.laws.Links.{aim_law}
 use Rattle.fish_rule.proofs.steps.AimEntry.{region_aim, aim_entry_allowed}
 use Rattle.fish_rule.specs.Flying.{region_in}
 use Rattle.fish_rule.specs.ChainSteps.{own_place}
-use Rattle.fish_rule.specs.Passes.{view}
+use Rattle.fish_rule.proofs.basics.Context.{Flight, View, view}
 use Rattle.fish_rule.specs.World.{log_at}
-use Rattle.fish_rule.specs.declared.view.Flight.{Flight}
-use Rattle.fish_rule.specs.declared.view.View.{View}
 use Rattle.fish_rule.proofs.linking.aim_entry.Goals as goal
 
 pub overflow_sub-index : goal.overflow_sub-index

@@ -3,10 +3,9 @@ use Rattle.std.proofs.Common.{◌≡◌, ◌∙◌, sym, ap, arith, subst, ℕ, 
 use Rattle.fish_rule.proofs.steps.LoadNode.{load_node_allowed}
 use Rattle.fish_rule.proofs.laws.Links.{second_law}
 use Rattle.fish_rule.specs.ChainSteps.{after_load_node}
-use Rattle.fish_rule.specs.Passes.{view}
+use Rattle.fish_rule.proofs.basics.Context.{Key, view}
 use Rattle.fish_rule.specs.Told.{place_at}
 use Rattle.fish_rule.specs.World.{log_at}
-use Rattle.fish_rule.specs.declared.view.Key.{Key}
 use Rattle.fish_rule.proofs.linking.load_node.Goals as goal
 
 pub overflow_add-index : goal.overflow_add-index

@@ -3,10 +3,9 @@ use Rattle.std.proofs.Common.{◌≡◌, ◌∙◌, sym, ap, arith, subst, ℕ, 
 use Rattle.fish_rule.proofs.laws.Links.{node_law, one_bucket}
 use Rattle.fish_rule.specs.ChainSteps.{HasNode, PreviousRises, after_load_previous}
 use Rattle.fish_rule.specs.Parts.{first_head}
-use Rattle.fish_rule.specs.Passes.{view}
+use Rattle.fish_rule.proofs.basics.Context.{Key, view}
 use Rattle.fish_rule.specs.Told.{place_at}
 use Rattle.fish_rule.specs.World.{log_at}
-use Rattle.fish_rule.specs.declared.view.Key.{Key}
 use Rattle.fish_rule.proofs.steps.LoadPrevious.{load_previous_allowed}
 use Rattle.fish_rule.proofs.linking.load_previous.Goals as goal
 

@@ -6,12 +6,9 @@ use Rattle.fish_rule.proofs.steps.SpliceEntry.{region_splice, splice_about, spli
 use Rattle.fish_rule.proofs.steps.SpliceEntry.{splice_entry_allowed}
 use Rattle.fish_rule.specs.Flying.{region_in}
 use Rattle.fish_rule.specs.ChainSteps.{HasNode, PreviousRises, after_splice_entry}
-use Rattle.fish_rule.specs.Passes.{view}
+use Rattle.fish_rule.proofs.basics.Context.{Flight, Key, View, view}
 use Rattle.fish_rule.specs.Told.{place_at}
 use Rattle.fish_rule.specs.World.{log_at}
-use Rattle.fish_rule.specs.declared.view.Flight.{Flight}
-use Rattle.fish_rule.specs.declared.view.Key.{Key}
-use Rattle.fish_rule.specs.declared.view.View.{View}
 use Rattle.fish_rule.proofs.linking.splice_entry.Goals as goal
 
 pub overflow_sub-index : goal.overflow_sub-index

@@ -2,14 +2,13 @@
 use Rattle.std.proofs.Common.{◌≡◌, ◌∙◌, sym, ap, arith, subst, ℕ, ◌<◌, ◌≤◌, ◌+◌, ◌-◌, ◌*◌}
 use Rattle.fish_rule.proofs.laws.Steps.{read_law}
 use Rattle.fish_rule.proofs.steps.ReadWord.{read_word_allowed}
-use Rattle.fish_rule.specs.Passes.{IsPassOf, view}
+use Rattle.fish_rule.proofs.basics.Context.{Found, Key, view}
+use Rattle.fish_rule.specs.Passes.{IsPassOf}
 use Rattle.fish_rule.specs.LoadSteps.{CanReadWord, after_read_word}
 use Rattle.fish_rule.specs.Told.{place_at}
 use Rattle.fish_rule.specs.World.{log_at}
 use Rattle.fish_rule.specs.declared.table.Log.{Log}
 use Rattle.fish_rule.specs.declared.table.Pass.{Pass}
-use Rattle.fish_rule.specs.declared.view.Found.{Found}
-use Rattle.fish_rule.specs.declared.view.Key.{Key}
 use Rattle.fish_rule.proofs.space.read_word.Goals as goal
 
 -- the place is behind the table's first line and within the log
