@@ -1,6 +1,7 @@
 -- Lists, words, worlds and views: what knows nothing of steps.
 pub mod Bodies
 pub mod ChainOrder
+pub mod Context
 pub mod EmptyWords
 pub mod FirstBoundaries
 pub mod FirstHeads

@@ -13,7 +13,7 @@ ghost use Rattle.fish_rule.specs.Parts.{first_head};
 ghost use Rattle.fish_rule.specs.Passes.{IsPassOf, view};
 ghost use Rattle.fish_rule.specs.declared.view.Flight.{Flight};
 
-use crate::area::{HEADS, log_at};
+use crate::area::{HEADS, word_index};
 use crate::step_kinds::{AimEntry, LoadHead, LoadNode, LoadPrevious, SpliceEntry, SwingHead};
 use crate::table::{Log, Pass};
 
@@ -45,10 +45,8 @@ pub fn load_previous(log: &Log, pass: &mut Pass, place: u64) -> u64
     ensures first { (b : ℕ) → HasNode (view pass.old) b place → result ≤ log.now.key.line * 4
         → result ≡ first_head log.now.key b }
 {
-    let index = log_at(&log.key) + (place - log.key.line * 4);
-    log.table
-        .shared
-        .load::<LoadPrevious>(&mut pass.seat, index as usize)
+    let index = word_index(log, place);
+    log.table.shared.load::<LoadPrevious>(&mut pass.seat, index)
 }
 
 /// Loads the second word of a linked entry: the number of its record, its definition, and which of
@@ -59,10 +57,8 @@ pub fn load_node(log: &Log, pass: &mut Pass, place: u64) -> u64
     ensures pass { IsPassOf log.now pass.new }
     ensures view { view pass.new ≡ after_load_node (view pass.old) place result }
 {
-    let index = log_at(&log.key) + (place + 1 - log.key.line * 4);
-    log.table
-        .shared
-        .load::<LoadNode>(&mut pass.seat, index as usize)
+    let index = word_index(log, place + 1);
+    log.table.shared.load::<LoadNode>(&mut pass.seat, index)
 }
 
 /// Stores the place that the own next entry is to lead to.
@@ -73,10 +69,10 @@ pub fn aim_entry(log: &Log, pass: &mut Pass, place: u64, previous: u64)
     ensures view { (f : Flight) → (view pass.old).flight ≡ Some f
         → view pass.new ≡ after_aim_entry (view pass.old) f previous }
 {
-    let index = log_at(&log.key) + (place - log.key.line * 4);
+    let index = word_index(log, place);
     log.table
         .shared
-        .store::<AimEntry>(&mut pass.seat, index as usize, previous);
+        .store::<AimEntry>(&mut pass.seat, index, previous);
 }
 
 /// Makes the own next entry the head of its bucket, where the head is as expected.
@@ -105,8 +101,8 @@ pub fn splice_entry(log: &Log, pass: &mut Pass, above: u64, expected: u64, place
     ensures less { result < above }
     ensures other { result ≢ place }
 {
-    let index = log_at(&log.key) + (above - log.key.line * 4);
+    let index = word_index(log, above);
     log.table
         .shared
-        .compare_exchange::<SpliceEntry>(&mut pass.seat, index as usize, expected, place)
+        .compare_exchange::<SpliceEntry>(&mut pass.seat, index, expected, place)
 }

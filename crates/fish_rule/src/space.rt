@@ -16,7 +16,7 @@ ghost use Rattle.fish_rule.specs.World.{high, low, slots, log_at as first_log_wo
 ghost use Rattle.fish_rule.specs.declared.view.Flight.{Flight};
 ghost use Rattle.fish_rule.specs.declared.view.Found.{Found};
 
-use crate::area::{PAGE_LINES, dir_at, log_at};
+use crate::area::{PAGE_LINES, dir_at, log_at, word_index};
 use crate::step_kinds::{
     ClaimLines, LoadSettled, LoadTail, LookAt, PublishRegion, RaiseSettled, ReadWord, StoreWord,
 };
@@ -85,10 +85,10 @@ pub fn store_word(log: &Log, pass: &mut Pass, region: &Region, offset: u64, word
     ensures pass { IsPassOf log.now pass.new }
     ensures view { (f : Flight) → (view pass.old).flight ≡ Some f → view pass.new ≡ after_store_word (view pass.old) f word }
 {
-    let index = log_at(&log.key) + (region.line * 4 + offset - log.key.line * 4);
+    let index = word_index(log, region.line * 4 + offset);
     log.table
         .shared
-        .store::<StoreWord>(&mut pass.seat, index as usize, word);
+        .store::<StoreWord>(&mut pass.seat, index, word);
 }
 
 /// The index of a region's first word among the words of the table.
@@ -161,10 +161,8 @@ pub fn read_word(log: &Log, pass: &mut Pass, line: u64, offset: u64) -> u64
     ensures pass { IsPassOf log.now pass.new }
     ensures view { view pass.new ≡ after_read_word (view pass.old) (line * 4 + offset) result }
 {
-    let index = log_at(&log.key) + (line * 4 + offset - log.key.line * 4);
-    log.table
-        .shared
-        .load::<ReadWord>(&mut pass.seat, index as usize)
+    let index = word_index(log, line * 4 + offset);
+    log.table.shared.load::<ReadWord>(&mut pass.seat, index)
 }
 
 /// Loads the tail.

@@ -3,20 +3,14 @@ use Rattle.std.proofs.Common.{◌≡◌, ℕ, ◌+◌, ◌*◌, ◌<◌, ◌≤�
 use Rattle.std.proofs.Math.Decide.{ℕ_discrete, dec_lt}
 use Rattle.fish_layout.specs.Cleared.{choose}
 use Rattle.fish_rule.proofs.basics.Flights.{flight_is}
-use Rattle.fish_rule.specs.declared.view.Flight.{Flight}
-use mathlib.Core.Option.{some}
-use Rattle.std.proofs.Math.ListN.{get_elem?}
+use Rattle.fish_rule.proofs.basics.Context.{Flight, Key, Rule, View, World, get_elem?, some}
 use Rattle.fish_rule.proofs.basics.Places.{record_at}
 use Rattle.fish_rule.proofs.basics.Regions.{starts_above}
 use Rattle.fish_rule.specs.Chains.{Linked}
 use Rattle.fish_rule.specs.ChainSteps.{with_node}
 use Rattle.fish_rule.specs.Parts.{first_head}
-use Rattle.fish_rule.specs.Rule.{Rule}
 use Rattle.fish_rule.specs.Views.{AllOf}
-use Rattle.fish_rule.specs.World.{World}
-use Rattle.fish_rule.specs.declared.view.Key.{Key}
 use Rattle.fish_rule.specs.declared.view.EntryPlace.{EntryPlace}
-use Rattle.fish_rule.specs.declared.view.View.{View}
 
 -- a place behind the base's that is linked joins the nodes
 pub node_joins : (P : EntryPlace → Type 0) (k : Key) (b x : ℕ) (nodes : List EntryPlace) → AllOf P nodes

@@ -1,14 +1,8 @@
 -- The record in flight of a view, and what is known of it.
 use Rattle.std.proofs.Common.{◌≡◌, ap, Some, None, Option, ℕ, ◌≤◌, sym, ◌∙◌, subst}
 use Rattle.fish_rule.specs.SpaceSteps.{flight_kind, learned_after, own_after, shut_after, ticked}
-use Rattle.fish_rule.specs.declared.view.Flight.{Flight}
-use Rattle.fish_rule.specs.declared.view.Key.{Key}
-use Rattle.fish_rule.specs.declared.view.View.{View}
-use mathlib.Core.Option.{some}
-use Rattle.std.proofs.Math.ListN.{get_elem?}
+use Rattle.fish_rule.proofs.basics.Context.{Flight, Key, Rule, View, World, get_elem?, some}
 use Rattle.fish_rule.specs.Parts.{Flies, InFlight}
-use Rattle.fish_rule.specs.Rule.{Rule}
-use Rattle.fish_rule.specs.World.{World}
 use Rattle.fish_rule.specs.Epochs.{Carries, IsCarried}
 use Rattle.fish_rule.specs.Keys.{IsKeyed}
 use Rattle.fish_rule.specs.Registry.{AreActiveAt, KnowsActive}

@@ -11,15 +11,10 @@ use Rattle.fish_rule.proofs.basics.Lists.{all_among}
 use Rattle.fish_rule.specs.Parts.{IsPublishedRegion}
 use Rattle.fish_rule.specs.Facts.{Facts, IsFound, IsKnown}
 use Rattle.fish_rule.specs.Regions.{Holds, kind_of}
-use Rattle.fish_rule.specs.Rule.{Rule}
+use Rattle.fish_rule.proofs.basics.Context.{Among, Found, Key, Kind, Rule, View, World}
 use Rattle.fish_rule.specs.LoadSteps.{CanReadWord}
-use Rattle.fish_rule.specs.Views.{Among}
-use Rattle.fish_rule.specs.World.{World, body}
-use Rattle.fish_rule.specs.declared.view.Found.{Found}
-use Rattle.fish_rule.specs.declared.view.Key.{Key}
-use Rattle.fish_rule.specs.declared.view.Kind.{Kind}
+use Rattle.fish_rule.specs.World.{body}
 use Rattle.fish_rule.specs.declared.view.Kind.TheVariants.{Mark, Stored, Void}
-use Rattle.fish_rule.specs.declared.view.View.{View}
 
 -- the header of a region that isn't a mark tells its lines
 pub lined_whole : (k : Key) (kind : Kind) (lane n lines : ℕ) (e : ℕ → ℕ) → kind ≢ Mark → lines < 65536

@@ -11,10 +11,9 @@ use Rattle.fish_layout.specs.Entry.{entry_number, entry_place}
 use Rattle.fish_layout.specs.Header.{keys_of, lines_of}
 use Rattle.fish_rule.proofs.basics.Places.{RecordAt, lies_inside, record_at, record_at_lined}
 use Rattle.fish_rule.specs.Chains.{Linked}
-use Rattle.fish_rule.specs.Rule.{Rule}
+use Rattle.fish_rule.proofs.basics.Context.{Key, Rule, World}
 use Rattle.fish_rule.specs.Gaps.{IsEntryOf, IsGap, IsLabel}
-use Rattle.fish_rule.specs.World.{World, body}
-use Rattle.fish_rule.specs.declared.view.Key.{Key}
+use Rattle.fish_rule.specs.World.{body}
 use Rattle.fish_rule.proofs.basics.Bodies.{published}
 use Rattle.fish_rule.specs.declared.view.Kind.TheVariants.{Stored}
 

@@ -1,19 +1,16 @@
 -- Lanes that are given out and taken in, the records that go with them, and one more view behind the others.
 use Rattle.std.proofs.Common.{◌≡◌, ◌≢◌, ℕ, ◌≤◌, zero, suc, List, [], ◌∷◌, ◌++◌, length, sym, refl, ap, ◌∙◌, subst, inl}
 use Rattle.std.proofs.Common.{inr, ◌⊎◌, ⊎_elim, arith, Some, None, Option}
-use mathlib.Core.Option.{some, some-injective, some-ne-none}
+use Rattle.fish_rule.proofs.basics.Context.{Among, Flight, Key, View, get_elem?, some}
+use mathlib.Core.Option.{some-injective, some-ne-none}
 use Rattle.std.proofs.Math.Decide.{ℕ_discrete}
-use Rattle.std.proofs.Math.ListN.{get_elem?}
 use Rattle.atomic_table.proofs.Lists.{at_longer}
 use Rattle.fish_layout.specs.Cleared.{choose}
 use Rattle.fish_rule.specs.Facts.{ShutOk}
 use Rattle.fish_rule.specs.SeatSteps.{first_shut, of_lane, off_lane, without}
-use Rattle.fish_rule.specs.Views.{Among, Has, HasFlight, IsOver}
-use Rattle.fish_rule.specs.declared.view.Flight.{Flight}
-use Rattle.fish_rule.specs.declared.view.Key.{Key}
+use Rattle.fish_rule.specs.Views.{Has, HasFlight, IsOver}
 use Rattle.fish_rule.specs.declared.view.Own.{Own}
 use Rattle.fish_rule.specs.declared.view.Shut.{Shut}
-use Rattle.fish_rule.specs.declared.view.View.{View}
 
 -- ---- the records of one lane, and the others
 

@@ -1,7 +1,5 @@
 -- What each step owes: the world after it meets the rule, and what lasts has lasted.
-use Rattle.fish_rule.specs.Rule.{Final, Rule}
-use Rattle.fish_rule.specs.World.{World}
-use Rattle.fish_rule.specs.declared.view.Key.{Key}
+use Rattle.fish_rule.proofs.basics.Context.{Final, Key, Rule, World}
 
 -- the world after a step meets the rule, and what lasts has lasted
 abbrev pub Lasts : {k : Key} {w : World} (r : Rule k w) → World → Type 0

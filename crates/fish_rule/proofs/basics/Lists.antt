@@ -1,13 +1,11 @@
 -- Lists of views, one of which changes, and facts about lists.
 use Rattle.std.proofs.Common.{◌≡◌, ◌≢◌, ℕ, ◌<◌, ◌≤◌, zero, suc, List, [], ◌∷◌, ◌++◌, length, set, sym, refl, subst, inl}
 use Rattle.std.proofs.Common.{inr, ◌⊎◌, ⊎_elim, arith, Some, None, Option, slice_get}
-use mathlib.Core.Option.{some, some-ne-none}
-use Rattle.std.proofs.Math.ListN.{get_elem?}
+use Rattle.fish_rule.proofs.basics.Context.{Among, Flight, View, get_elem?, some}
+use mathlib.Core.Option.{some-ne-none}
 use Rattle.atomic_table.proofs.Lists.{at_set, at_snoc}
 use Rattle.fish_rule.specs.Parts.{Seats}
-use Rattle.fish_rule.specs.Views.{AllOf, Among, Each, Has, IsFlightOf}
-use Rattle.fish_rule.specs.declared.view.Flight.{Flight}
-use Rattle.fish_rule.specs.declared.view.View.{View}
+use Rattle.fish_rule.specs.Views.{AllOf, Each, Has, IsFlightOf}
 
 -- ---- one view in place of another
 

@@ -1,9 +1,9 @@
 -- What one moment says of an entry of the log, and of its number.
 use Rattle.std.proofs.Common.{◌≡◌, ◌≢◌, ℕ, ◌<◌, ◌≤◌, zero, suc, List, [], ◌∷◌, length, refl, sym, ap, ◌∙◌, subst, arith}
 use Rattle.std.proofs.Common.{Some, slice_get, ◌-◌}
-use mathlib.Core.Option.{some, some-injective, some-ne-none}
+use Rattle.fish_rule.proofs.basics.Context.{Key, Kind, Rule, World, get_elem?, some}
+use mathlib.Core.Option.{some-injective, some-ne-none}
 use Rattle.std.proofs.Math.Decide.{dec_lt}
-use Rattle.std.proofs.Math.ListN.{get_elem?}
 use Rattle.fish_catalog.specs.declared.entry.Entry.{Entry}
 use Rattle.fish_catalog.specs.declared.entry.Entry.TheVariants as entry
 use Rattle.fish_layout.proofs.Once.{spelled_once}
@@ -15,10 +15,7 @@ use Rattle.fish_rule.specs.Facts.{IsStoredBy}
 use Rattle.fish_rule.specs.Logs.{IsEntry}
 use Rattle.fish_rule.specs.Parts.{IsEntryWord}
 use Rattle.fish_rule.specs.Regions.{Holds, IsRecord, code, kind_of, IsRecordOf}
-use Rattle.fish_rule.specs.Rule.{Rule}
-use Rattle.fish_rule.specs.World.{World, body, high, low}
-use Rattle.fish_rule.specs.declared.view.Key.{Key}
-use Rattle.fish_rule.specs.declared.view.Kind.{Kind}
+use Rattle.fish_rule.specs.World.{body, high, low}
 use Rattle.fish_rule.specs.declared.view.Kind.TheVariants.{Mark, Stored, Void}
 use Rattle.fish_value.specs.declared.field.Form.{Form}
 

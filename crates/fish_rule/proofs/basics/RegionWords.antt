@@ -8,9 +8,7 @@ use Rattle.fish_layout.specs.Cleared.{IsKeyWord}
 use Rattle.fish_layout.specs.Header.{keys_of}
 use Rattle.fish_rule.specs.Logs.{Extends}
 use Rattle.fish_rule.specs.LoadSteps.{CanReadWord}
-use Rattle.fish_rule.specs.Views.{Among}
-use Rattle.fish_rule.specs.declared.view.Found.{Found}
-use Rattle.fish_rule.specs.declared.view.View.{View}
+use Rattle.fish_rule.proofs.basics.Context.{Among, Found, View}
 
 -- each word so far that is no first word of one of n key entries is known
 abbrev pub AreRead : View → ℕ → ℕ → List ℕ → Type 0

@@ -3,10 +3,7 @@
 use Rattle.std.proofs.Common.{◌≡◌, ◌≢◌, ℕ, ◌+◌, ◌-◌, ◌*◌, ◌<◌, ◌≤◌, zero, suc, subst, inl, inr, ◌⊎◌, ⊎_elim, arith}
 use Rattle.std.proofs.Math.Decide.{dec_lt, ℕ_discrete}
 use Rattle.fish_rule.specs.Parts.{InFlight, Regions}
-use Rattle.fish_rule.specs.Rule.{Rule}
-use Rattle.fish_rule.specs.World.{World}
-use Rattle.fish_rule.specs.declared.view.Flight.{Flight}
-use Rattle.fish_rule.specs.declared.view.Key.{Key}
+use Rattle.fish_rule.proofs.basics.Context.{Flight, Key, Rule, World}
 
 -- a sum of so many steps up
 rises : (k : Key) (count line : ℕ) (start : ℕ → ℕ) → Regions k count line start → (m d : ℕ) → k.number ≤ m

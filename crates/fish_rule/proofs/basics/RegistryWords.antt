@@ -14,8 +14,7 @@ use Rattle.fish_rule.specs.Keys.{IsKeyed}
 use Rattle.fish_rule.specs.Registry.{AreActiveAt, Endures, HasRead, IsLasting, IsRegistered, KnowsActive}
 use Rattle.fish_rule.specs.Registry.{definitions_at, made, op_at, row_at, row_in, version_in}
 use Rattle.fish_rule.specs.Views.{AllOf}
-use Rattle.fish_rule.specs.declared.view.Key.{Key}
-use Rattle.fish_rule.specs.declared.view.Learned.{Learned}
+use Rattle.fish_rule.proofs.basics.Context.{Key, Learned}
 use Rattle.fish_rule.specs.declared.view.RegistryWord.{RegistryWord}
 
 -- ---- the definitions of a version

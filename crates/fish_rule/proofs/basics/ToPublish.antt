@@ -5,17 +5,11 @@ use Rattle.fish_layout.specs.Header.{field, lines_of, void_word}
 use Rattle.fish_rule.proofs.basics.Bodies.{kind-mark, body_stored, body_void, void-head}
 use Rattle.fish_rule.specs.Parts.{InFlight, MayOverflow}
 use Rattle.fish_rule.specs.Regions.{kind_of, Holds, IsRecord, void_body}
-use Rattle.fish_rule.specs.Rule.{Rule}
+use Rattle.fish_rule.proofs.basics.Context.{Flight, Key, Kind, Rule, View, World, get_elem?, some}
 use Rattle.fish_rule.specs.SpaceSteps.{shut_after, IsReady}
 use Rattle.fish_rule.specs.Views.{IsOver}
-use Rattle.fish_rule.specs.World.{World, body}
-use Rattle.fish_rule.specs.declared.view.Flight.{Flight}
-use Rattle.fish_rule.specs.declared.view.Key.{Key}
-use Rattle.fish_rule.specs.declared.view.Kind.{Kind}
+use Rattle.fish_rule.specs.World.{body}
 use Rattle.fish_rule.specs.declared.view.Kind.TheVariants.{Mark, Stored, Void}
-use Rattle.fish_rule.specs.declared.view.View.{View}
-use mathlib.Core.Option.{some}
-use Rattle.std.proofs.Math.ListN.{get_elem?}
 use Rattle.fish_layout.proofs.Clearing.{cleared_head}
 use Rattle.fish_layout.proofs.Headers.{lines_of-void}
 use Rattle.fish_layout.proofs.Spelled.{spelled_lines}

@@ -6,8 +6,7 @@ use Rattle.fish_layout.proofs.Clearing.{choose_first, choose_second}
 use Rattle.fish_layout.specs.Cleared.{choose}
 use Rattle.fish_rule.specs.World.{area, dir_at, heads_at, high, log_at, log_size, low, put, registry_size, slots, total}
 use Rattle.fish_rule.specs.World.{world}
-use Rattle.fish_rule.specs.declared.view.Key.{Key}
-use Rattle.fish_rule.specs.declared.view.View.{View}
+use Rattle.fish_rule.proofs.basics.Context.{Key, View}
 
 module _ {A : Type 0} where
   -- at the place of the new value stands the new value

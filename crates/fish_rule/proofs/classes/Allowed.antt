@@ -2,16 +2,14 @@
 use Rattle.std.proofs.Common.{◌≡◌, ℕ, ◌-◌, List, length, get_or, set, sym, ◌∙◌, subst, length-set, ◌+◌, ◌<◌, ◌≤◌, ap}
 use Rattle.std.proofs.Common.{arith, inl, inr}
 use Rattle.std.proofs.lemmas.List.{set-get_or}
-use mathlib.Core.Option.{some}
-use Rattle.std.proofs.Math.ListN.{get_elem?}
+use Rattle.fish_rule.proofs.basics.Context.{Key, Rule, View, World, get_elem?, some}
 use Rattle.atomic_table.proofs.Lists.{set_here}
-use Rattle.atomic_table.specs.Table.{Allows, keeps}
+use Rattle.atomic_table.specs.Table.{keeps}
+pub use Rattle.atomic_table.specs.Table.{Allows, step}
 use Rattle.fish_rule.proofs.basics.Lists.{within_list}
-use Rattle.fish_rule.specs.Rule.{Rule}
-use Rattle.fish_rule.specs.Table.{Ruled, Sat, Stands}
-use Rattle.fish_rule.specs.World.{World, total, world, heads_at, registry_size}
-use Rattle.fish_rule.specs.declared.view.Key.{Key}
-use Rattle.fish_rule.specs.declared.view.View.{View}
+use Rattle.fish_rule.specs.Table.{Stands}
+pub use Rattle.fish_rule.specs.Table.{Ruled, Sat, Told}
+use Rattle.fish_rule.specs.World.{total, world, heads_at, registry_size}
 use Rattle.fish_rule.proofs.basics.Worlds.{area-in}
 use Rattle.fish_rule.specs.Epochs.{IsUnmade}
 

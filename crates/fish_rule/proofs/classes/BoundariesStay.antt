@@ -8,9 +8,8 @@ use Rattle.fish_rule.specs.Epochs.{IsAtMost, Versions}
 use Rattle.fish_rule.specs.Registry.{Endures, HasBoundary, definitions_at, row_at, version_in}
 use Rattle.fish_rule.specs.Rounds.{IsSince, Waits}
 use Rattle.fish_rule.specs.Views.{AllOf}
-use Rattle.fish_rule.specs.declared.view.Epoch.{Epoch}
+use Rattle.fish_rule.proofs.basics.Context.{Epoch, Key}
 use Rattle.fish_rule.specs.declared.view.Epoch.TheVariants.{Announced, Confirmed, Out}
-use Rattle.fish_rule.specs.declared.view.Key.{Key}
 use Rattle.fish_rule.specs.declared.view.Round.{Round}
 use Rattle.fish_rule.specs.declared.view.Unended.{Unended}
 

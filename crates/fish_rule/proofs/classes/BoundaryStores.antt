@@ -1,18 +1,14 @@
 -- The control pass stores a boundary of a row, and every other boundary stays.
 use Rattle.std.proofs.Common.{◌≡◌, ◌≢◌, ℕ, ◌<◌, ◌≤◌, ◌∷◌, suc, length, sym, refl, ap, ◌∙◌, subst, inl, inr, arith}
 use Rattle.std.proofs.Math.Decide.{ℕ_discrete}
-use mathlib.Core.Option.{some}
-use Rattle.std.proofs.Math.ListN.{get_elem?}
+use Rattle.fish_rule.proofs.basics.Context.{Key, Rule, View, World, get_elem?, some}
 use Rattle.fish_rule.proofs.classes.BoundariesStay.{listed_later, lists_later, open_later, same_length}
 use Rattle.fish_rule.proofs.classes.MainStores.{store_endures, store_read, store_still}
 use Rattle.fish_rule.proofs.basics.Worlds.{put-else, put-here}
 use Rattle.fish_rule.specs.Boundaries.{Boundaries, IsOpenIn, Lists}
 use Rattle.fish_rule.specs.Registry.{Endures, HasBoundary, IsLasting, IsRegistered, definitions_at, row_at, version_in}
-use Rattle.fish_rule.specs.Rule.{Rule}
 use Rattle.fish_rule.specs.Views.{AllOf}
-use Rattle.fish_rule.specs.World.{World, put}
-use Rattle.fish_rule.specs.declared.view.Key.{Key}
-use Rattle.fish_rule.specs.declared.view.View.{View}
+use Rattle.fish_rule.specs.World.{put}
 
 module _ {k : Key} {w : World} (r : Rule k w) (id : ℕ) {v : View} (at : get_elem? w.views id ≡ some v)
     (main : v.lane ≡ 1) (row j n : ℕ) (few : row < 256) (bound : j < 2) (unset : w.registry (row_at row j) ≡ 0) where

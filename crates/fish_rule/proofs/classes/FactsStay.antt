@@ -7,20 +7,16 @@ use Rattle.fish_rule.specs.Chains.{Chained, IsLeastPrevious, IsKeyEntry}
 use Rattle.fish_rule.specs.Parts.{InFlight, IsPublishedRegion, Whole}
 use Rattle.fish_rule.specs.Facts.{Facts, IsFound, IsKnown, IsRecorded, IsStoredBy, Owns, ShutOk}
 use Rattle.fish_rule.specs.Regions.{Holds, code, kind_of}
-use Rattle.fish_rule.specs.Rule.{Final}
+use Rattle.fish_rule.proofs.basics.Context.{Final, Flight, Found, Key, Learned, World}
 use Rattle.fish_rule.specs.Views.{Has}
-use Rattle.fish_rule.specs.World.{World, body, high, low}
+use Rattle.fish_rule.specs.World.{body, high, low}
 use Rattle.fish_rule.specs.Gaps.{IsEntryOf, IsGap, IsLabel}
-use Rattle.fish_rule.specs.declared.view.Flight.{Flight}
 use Rattle.fish_rule.specs.declared.view.Gap.{Gap}
 use Rattle.fish_rule.specs.declared.view.Label.{Label}
 use Rattle.fish_layout.specs.Cleared.{entry_at}
 use Rattle.fish_layout.specs.Entry.{entry_number, entry_place}
-use Rattle.fish_rule.specs.declared.view.Found.{Found}
-use Rattle.fish_rule.specs.declared.view.Key.{Key}
 use Rattle.fish_rule.specs.declared.view.Kind.TheVariants.{Stored}
 use Rattle.fish_rule.specs.declared.view.Known.{Known}
-use Rattle.fish_rule.specs.declared.view.Learned.{Learned}
 use Rattle.fish_rule.specs.declared.view.Own.{Own}
 use Rattle.fish_rule.specs.declared.view.Recorded.{Recorded}
 use Rattle.fish_rule.specs.declared.view.Shut.{Shut}

@@ -2,8 +2,7 @@
 use Rattle.std.proofs.Common.{◌≡◌, ◌≢◌, ℕ, ◌+◌, ◌-◌, ◌*◌, ◌<◌, ◌≤◌, suc, set, sym, refl, ap, ◌∙◌, subst, inl, inr, ◌⊎◌}
 use Rattle.std.proofs.Common.{⊎_elim, arith, Some}
 use Rattle.std.proofs.Math.Decide.{dec_le, dec_lt}
-use mathlib.Core.Option.{some}
-use Rattle.std.proofs.Math.ListN.{get_elem?}
+use Rattle.fish_rule.proofs.basics.Context.{Clock, Flight, Key, Learned, Rule, View, World, get_elem?, some}
 use Rattle.atomic_table.proofs.Lists.{at_set, set_here}
 use Rattle.fish_layout.proofs.Spelled.{spelled_lines}
 use Rattle.fish_layout.specs.Bucket.{bucket_of}
@@ -24,15 +23,9 @@ use Rattle.fish_rule.specs.ChainSteps.{CanAimEntry, linked_once, own_place}
 use Rattle.fish_rule.specs.Parts.{Flies, InFlight, first_head}
 use Rattle.fish_rule.specs.Facts.{AreOpens, Facts}
 use Rattle.fish_rule.specs.Regions.{IsRecord, kind_of}
-use Rattle.fish_rule.specs.Rule.{Rule}
 use Rattle.fish_rule.specs.Views.{AllOf, IsFlightOf, IsOver}
-use Rattle.fish_rule.specs.World.{World, body}
-use Rattle.fish_rule.specs.declared.view.Clock.{Clock}
-use Rattle.fish_rule.specs.declared.view.Flight.{Flight}
-use Rattle.fish_rule.specs.declared.view.Key.{Key}
+use Rattle.fish_rule.specs.World.{body}
 use Rattle.fish_rule.specs.declared.view.Kind.TheVariants.{Stored}
-use Rattle.fish_rule.specs.declared.view.Learned.{Learned}
-use Rattle.fish_rule.specs.declared.view.View.{View}
 use Rattle.fish_rule.proofs.basics.RegistryWords.{endures_same}
 use Rattle.fish_rule.specs.Epochs.{IsCarried, Stays}
 

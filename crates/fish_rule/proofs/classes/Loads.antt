@@ -1,7 +1,6 @@
 -- Loads change no word: what one pass has learned is all that is new.
 use Rattle.std.proofs.Common.{◌≡◌, ℕ, ◌≤◌, [], set, refl, arith, Option}
-use mathlib.Core.Option.{some}
-use Rattle.std.proofs.Math.ListN.{get_elem?}
+use Rattle.fish_rule.proofs.basics.Context.{Clock, Key, Learned, Rule, View, World, get_elem?, some}
 use Rattle.fish_rule.proofs.basics.Lists.{each_set, seats_kept}
 use Rattle.fish_rule.proofs.classes.OtherViews.{final_still, limit_views, space_still, may_kept, registry_set}
 use Rattle.fish_rule.proofs.classes.FactsStay.{chained_later}
@@ -11,15 +10,9 @@ use Rattle.fish_rule.proofs.basics.Lasts.{Kept, Lasts}
 use Rattle.fish_rule.specs.Chains.{Chained}
 use Rattle.fish_rule.specs.Parts.{Rests}
 use Rattle.fish_rule.specs.Facts.{AreOpens, Facts}
-use Rattle.fish_rule.specs.Rule.{Rule}
 use Rattle.fish_rule.specs.Views.{AllOf}
-use Rattle.fish_rule.specs.World.{World}
-use Rattle.fish_rule.specs.declared.view.Clock.{Clock}
-use Rattle.fish_rule.specs.declared.view.Key.{Key}
-use Rattle.fish_rule.specs.declared.view.Learned.{Learned}
 use Rattle.fish_rule.specs.declared.view.Position.{Position}
 use Rattle.fish_rule.specs.declared.view.Round.{Round}
-use Rattle.fish_rule.specs.declared.view.View.{View}
 use Rattle.fish_rule.proofs.basics.RegistryWords.{endures_same}
 use Rattle.fish_rule.specs.Epochs.{Stays}
 

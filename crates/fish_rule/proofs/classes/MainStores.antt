@@ -1,8 +1,7 @@
 -- A store of the control pass to a word of the registry that only it stores.
 use Rattle.std.proofs.Common.{◌≡◌, ◌≢◌, ℕ, ◌≤◌, ◌∷◌, List, set, sym, ap, ◌∙◌, subst, arith, Some, None, Option}
 use Rattle.std.proofs.Math.Decide.{ℕ_discrete}
-use mathlib.Core.Option.{some}
-use Rattle.std.proofs.Math.ListN.{get_elem?}
+use Rattle.fish_rule.proofs.basics.Context.{Epoch, Final, Key, Rule, View, World, get_elem?, some}
 use Rattle.fish_layout.proofs.Clearing.{choose_first, choose_second}
 use Rattle.fish_rule.proofs.classes.BoundariesStay.{unended_later}
 use Rattle.fish_rule.proofs.basics.Lists.{each_set, has_own}
@@ -14,15 +13,11 @@ use Rattle.fish_rule.specs.Boundaries.{Boundaries}
 use Rattle.fish_rule.specs.Epochs.{IsAtMost, IsMain, IsOwned, Registry, Stays}
 use Rattle.fish_rule.specs.Registry.{Endures, IsLasting, IsRegistered, definitions_at, main_word, epoch_at, version_in}
 use Rattle.fish_rule.specs.Rounds.{Waits}
-use Rattle.fish_rule.specs.Rule.{Final, Rule}
 use Rattle.fish_rule.specs.SpaceSteps.{ticked}
 use Rattle.fish_rule.specs.Views.{AllOf, Has}
-use Rattle.fish_rule.specs.World.{World, put}
-use Rattle.fish_rule.specs.declared.view.Epoch.{Epoch}
-use Rattle.fish_rule.specs.declared.view.Key.{Key}
+use Rattle.fish_rule.specs.World.{put}
 use Rattle.fish_rule.specs.declared.view.RegistryWord.{RegistryWord}
 use Rattle.fish_rule.specs.declared.view.Round.{Round}
-use Rattle.fish_rule.specs.declared.view.View.{View}
 
 -- no registration waits in another pass than the control pass
 waits_else : (k : Key) (count : ℕ) (g g' : ℕ → ℕ) (state : ℕ → Epoch) (version_of : ℕ → ℕ) (lane : ℕ) (o : Option Round)

@@ -1,8 +1,7 @@
 -- A step that changes words of the registry, or what a pass knows of it, and nothing else.
 use Rattle.std.proofs.Common.{◌≡◌, ℕ, ◌<◌, ◌≤◌, suc, List, length, set, sym, refl, ap, ◌∙◌, subst, inl, inr, arith}
 use Rattle.std.proofs.Common.{Some, None, Option, slice_get, true}
-use mathlib.Core.Option.{some}
-use Rattle.std.proofs.Math.ListN.{get_elem?}
+use Rattle.fish_rule.proofs.basics.Context.{Clock, Epoch, Final, Flight, Key, Rule, View, World, get_elem?, some}
 use Rattle.std.proofs.lemmas.List.{length-map}
 use Rattle.std.proofs.lemmas.Option.{slice_get_within}
 use Rattle.fish_catalog.proofs.RowWords.{listed_same}
@@ -24,17 +23,10 @@ use Rattle.fish_rule.specs.Epochs.{Carries, IsMain, IsOwned, IsUnmade, Registry,
 use Rattle.fish_rule.specs.Registry.{AreActiveAt, Endures, IsOperation, IsRegistered, definitions_at, op_at, row_at}
 use Rattle.fish_rule.specs.Registry.{row_in, row_spelled, version_in}
 use Rattle.fish_rule.specs.Facts.{Facts}
-use Rattle.fish_rule.specs.Rule.{Final, Rule}
 use Rattle.fish_rule.specs.Views.{AllOf}
-use Rattle.fish_rule.specs.World.{World}
-use Rattle.fish_rule.specs.declared.view.Clock.{Clock}
-use Rattle.fish_rule.specs.declared.view.Epoch.{Epoch}
-use Rattle.fish_rule.specs.declared.view.Flight.{Flight}
-use Rattle.fish_rule.specs.declared.view.Key.{Key}
 use Rattle.fish_rule.specs.declared.view.Kind.TheVariants.{Stored}
 use Rattle.fish_rule.specs.declared.view.RegistryWord.{RegistryWord}
 use Rattle.fish_rule.specs.declared.view.Round.{Round}
-use Rattle.fish_rule.specs.declared.view.View.{View}
 
 -- ---- what other words leave
 

@@ -2,21 +2,15 @@
 use Rattle.std.proofs.Common.{◌≡◌, ℕ, ◌<◌, ◌≤◌, zero, suc, List, [], ◌∷◌, sym, refl, ap, ◌∙◌, subst, inl, inr, arith}
 use Rattle.std.proofs.Common.{Some, None, Option}
 use Rattle.std.proofs.Math.Decide.{ℕ_discrete, dec_lt}
-use mathlib.Core.Option.{some}
-use Rattle.std.proofs.Math.ListN.{get_elem?}
+use Rattle.fish_rule.proofs.basics.Context.{Among, Final, Flight, Key, Rule, View, World, get_elem?, some}
 use Rattle.fish_layout.specs.Cleared.{choose}
 use Rattle.fish_rule.proofs.basics.Lists.{all_map}
 use Rattle.fish_rule.proofs.classes.OtherViews.{one_view}
 use Rattle.fish_rule.specs.Facts.{AreOpens}
 use Rattle.fish_rule.specs.Parts.{Flies}
 use Rattle.fish_rule.specs.LoadSteps.{opens_after, with_open}
-use Rattle.fish_rule.specs.Rule.{Final, Rule}
-use Rattle.fish_rule.specs.Views.{AllOf, Among, Has, IsFlightOf}
-use Rattle.fish_rule.specs.World.{World}
-use Rattle.fish_rule.specs.declared.view.Flight.{Flight}
-use Rattle.fish_rule.specs.declared.view.Key.{Key}
+use Rattle.fish_rule.specs.Views.{AllOf, Has, IsFlightOf}
 use Rattle.fish_rule.specs.declared.view.Opens.{Opens}
-use Rattle.fish_rule.specs.declared.view.View.{View}
 
 -- ---- what lasts
 

@@ -1,22 +1,16 @@
 -- What one pass's step leaves of the facts about several views at once.
 use Rattle.std.proofs.Common.{◌≡◌, ℕ, ◌≤◌, List, Option, arith, set, sym, refl, ◌∙◌, subst}
 use Rattle.std.proofs.Math.Decide.{ℕ_discrete}
-use mathlib.Core.Option.{some, some-injective}
-use Rattle.std.proofs.Math.ListN.{get_elem?}
+use Rattle.fish_rule.proofs.basics.Context.{Epoch, Flight, Key, Rule, View, World, get_elem?, some}
+use mathlib.Core.Option.{some-injective}
 use Rattle.atomic_table.proofs.Lists.{set_here, set_else}
 use Rattle.fish_rule.proofs.basics.Lasts.{Kept}
 use Rattle.fish_rule.proofs.basics.Lists.{each_set, pairs_set, within_list}
 use Rattle.fish_rule.specs.Chains.{Linked}
 use Rattle.fish_rule.specs.Registry.{Endures}
-use Rattle.fish_rule.specs.Rule.{Rule}
-use Rattle.fish_rule.specs.World.{World}
 use Rattle.fish_rule.specs.Parts.{Flies, Limit, MayOverflow, Space}
 use Rattle.fish_rule.specs.Views.{Each, Has, HasFlight, IsFlightOf}
-use Rattle.fish_rule.specs.declared.view.View.{View}
 use Rattle.fish_rule.specs.Epochs.{Carries, Registry, Stays}
-use Rattle.fish_rule.specs.declared.view.Epoch.{Epoch}
-use Rattle.fish_rule.specs.declared.view.Flight.{Flight}
-use Rattle.fish_rule.specs.declared.view.Key.{Key}
 
 -- one place of a list has one view
 pub one_view : (vs : List View) (id : ℕ) (v u : View) → get_elem? vs id ≡ some v → get_elem? vs id ≡ some u → v ≡ u

@@ -2,8 +2,7 @@
 use Rattle.std.proofs.Common.{◌≡◌, ◌≢◌, ℕ, ◌<◌, ◌≤◌, length, set, sym, refl, ap, ◌∙◌, subst, inl, inr, arith, None}
 use Rattle.std.proofs.Common.{Option}
 use Rattle.std.proofs.Math.Decide.{ℕ_discrete, dec_lt}
-use mathlib.Core.Option.{some}
-use Rattle.std.proofs.Math.ListN.{get_elem?}
+use Rattle.fish_rule.proofs.basics.Context.{Clock, Epoch, Flight, Key, Rule, View, World, get_elem?, some}
 use Rattle.fish_rule.proofs.classes.BoundariesStay.{boundaries_later, lists_later, unended_later, waits_later}
 use Rattle.fish_rule.proofs.basics.Lists.{each_set, has_own}
 use Rattle.fish_rule.proofs.classes.OnRegistry.{carries_later, main_later, owned_far, read_later, register_lasts}
@@ -14,14 +13,8 @@ use Rattle.fish_rule.specs.Boundaries.{Lists}
 use Rattle.fish_rule.specs.Epochs.{Carries, Epochs, IsAtMost, IsOwned, Registry, Stays, StaysWith, epoch_word}
 use Rattle.fish_rule.specs.Registry.{Endures, HasBoundary, IsLasting, definitions_at, epoch_at, row_at, version_in}
 use Rattle.fish_rule.specs.Rounds.{IsSince}
-use Rattle.fish_rule.specs.Rule.{Rule}
-use Rattle.fish_rule.specs.declared.view.Clock.{Clock}
 use Rattle.fish_rule.specs.Views.{Has}
-use Rattle.fish_rule.specs.World.{World, put}
-use Rattle.fish_rule.specs.declared.view.Epoch.{Epoch}
-use Rattle.fish_rule.specs.declared.view.Flight.{Flight}
-use Rattle.fish_rule.specs.declared.view.Key.{Key}
-use Rattle.fish_rule.specs.declared.view.View.{View}
+use Rattle.fish_rule.specs.World.{put}
 
 module _ {k : Key} {w : World} (r : Rule k w) (id : ℕ) {v : View} (at : get_elem? w.views id ≡ some v) (g' : ℕ → ℕ)
     (epoch' : Epoch) (version : ℕ) (endures : Endures k w.registry g') (still : version_in g' ≡ version_in w.registry)

@@ -2,8 +2,7 @@
 use Rattle.std.proofs.Common.{◌≡◌, ◌≢◌, ℕ, ◌+◌, ◌*◌, ◌<◌, ◌≤◌, List, length, get_or, sym, refl, ap, ◌∙◌, subst, arith}
 use Rattle.std.proofs.Common.{Some, None, Option}
 use Rattle.std.proofs.Math.Decide.{ℕ_discrete}
-use mathlib.Core.Option.{some}
-use Rattle.std.proofs.Math.ListN.{get_elem?}
+use Rattle.fish_rule.proofs.basics.Context.{Clock, Final, Flight, Key, Rule, View, World, get_elem?, some}
 use Rattle.fish_layout.specs.Cleared.{IsKeyWord}
 use Rattle.fish_layout.specs.Header.{keys_of}
 use Rattle.fish_rule.proofs.basics.Lasts.{Kept}
@@ -18,13 +17,8 @@ use Rattle.fish_rule.proofs.classes.ChainsStay.{whole_later}
 use Rattle.fish_rule.proofs.basics.Worlds.{put-else, put-here}
 use Rattle.fish_rule.specs.Parts.{Flies, InFlight, IsLinkedWord, Whole}
 use Rattle.fish_rule.specs.Regions.{IsRecord, kind_of}
-use Rattle.fish_rule.specs.Rule.{Final, Rule}
 use Rattle.fish_rule.specs.Views.{IsFlightOf, IsOver}
-use Rattle.fish_rule.specs.World.{World, body, put}
-use Rattle.fish_rule.specs.declared.view.Clock.{Clock}
-use Rattle.fish_rule.specs.declared.view.Flight.{Flight}
-use Rattle.fish_rule.specs.declared.view.Key.{Key}
-use Rattle.fish_rule.specs.declared.view.View.{View}
+use Rattle.fish_rule.specs.World.{body, put}
 use Rattle.fish_rule.specs.Epochs.{IsCarried}
 use Rattle.fish_rule.specs.Keys.{IsKeyed}
 use Rattle.fish_rule.specs.Registry.{AreActiveAt}

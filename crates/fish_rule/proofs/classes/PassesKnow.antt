@@ -5,11 +5,8 @@ use Rattle.fish_rule.proofs.classes.FactsStay.{chained_later, facts_later, shut_
 use Rattle.fish_rule.proofs.classes.OpensStay.{opens_later}
 use Rattle.fish_rule.specs.Chains.{Chained}
 use Rattle.fish_rule.specs.Facts.{AreOpens, Facts, ShutOk}
-use Rattle.fish_rule.specs.Rule.{Final, Rule}
+use Rattle.fish_rule.proofs.basics.Context.{Final, Key, Rule, View, World}
 use Rattle.fish_rule.specs.Views.{AllOf, Each}
-use Rattle.fish_rule.specs.World.{World}
-use Rattle.fish_rule.specs.declared.view.Key.{Key}
-use Rattle.fish_rule.specs.declared.view.View.{View}
 
 module _ {k : Key} {w w' : World} (r : Rule k w) {start lane_of : ℕ → ℕ}
     (final : Final k r.start start r.lane_of lane_of w w') (id : ℕ) (v' : View) where

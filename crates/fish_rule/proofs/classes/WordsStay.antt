@@ -2,8 +2,7 @@
 use Rattle.std.proofs.Common.{◌≡◌, ◌≢◌, ℕ, ◌+◌, ◌-◌, ◌*◌, ◌<◌, ◌≤◌, suc, List, set, sym, refl, ap, ◌∙◌, subst, inl}
 use Rattle.std.proofs.Common.{inr, ⊎_elim, arith, Some}
 use Rattle.std.proofs.Math.Decide.{ℕ_discrete, dec_le}
-use mathlib.Core.Option.{some}
-use Rattle.std.proofs.Math.ListN.{get_elem?}
+use Rattle.fish_rule.proofs.basics.Context.{Clock, Flight, Key, Rule, View, World, get_elem?, some}
 use Rattle.fish_layout.proofs.Clearing.{cleared_head, cleared_same}
 use Rattle.fish_layout.proofs.Spelled.{spelled_lines}
 use Rattle.fish_layout.specs.Cleared.{IsKeyWord, entry_at}
@@ -20,13 +19,8 @@ use Rattle.fish_rule.proofs.basics.Worlds.{put-else}
 use Rattle.fish_rule.specs.Chains.{IsLinking, IsStoredAt, Linked, LinksAt, Shows, Chain}
 use Rattle.fish_rule.specs.Parts.{InFlight, first_head}
 use Rattle.fish_rule.specs.Regions.{kind_of}
-use Rattle.fish_rule.specs.Rule.{Rule}
 use Rattle.fish_rule.specs.Views.{IsFlightOf}
-use Rattle.fish_rule.specs.World.{World, body, put}
-use Rattle.fish_rule.specs.declared.view.Clock.{Clock}
-use Rattle.fish_rule.specs.declared.view.Flight.{Flight}
-use Rattle.fish_rule.specs.declared.view.Key.{Key}
-use Rattle.fish_rule.specs.declared.view.View.{View}
+use Rattle.fish_rule.specs.World.{body, put}
 use Rattle.fish_rule.proofs.basics.RegistryWords.{endures_same}
 use Rattle.fish_rule.specs.declared.view.Kind.TheVariants.{Void}
 

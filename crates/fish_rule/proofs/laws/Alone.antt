@@ -1,8 +1,7 @@
 -- What the control pass, alone, concludes of the whole log.
 use Rattle.std.proofs.Common.{◌≡◌, ◌≢◌, ℕ, ◌+◌, ◌≤◌, zero, suc, List, [], ◌∷◌, ◌++◌, length, refl, sym, ap, ◌∙◌, subst}
 use Rattle.std.proofs.Common.{inl, inr, arith, Some, None, Option}
-use mathlib.Core.Option.{some}
-use Rattle.std.proofs.Math.ListN.{get_elem?}
+use Rattle.fish_rule.proofs.basics.Context.{Among, Found, Key, Rule, View, World, get_elem?, some}
 use Rattle.fish_catalog.specs.declared.entry.Entry.{Entry}
 use Rattle.fish_catalog.specs.declared.entry.Entry.TheVariants as entry
 use Rattle.fish_rule.proofs.basics.Bodies.{code_once, mark-past, published}
@@ -15,19 +14,15 @@ use Rattle.fish_rule.specs.Logs.{AreTold, Extends, Learns, Tells, TellsMark}
 use Rattle.fish_rule.specs.Parts.{Rests, quotas}
 use Rattle.fish_rule.specs.Facts.{Facts, IsFound, IsKnown, IsRecorded, Owns}
 use Rattle.fish_rule.specs.Regions.{code, kind_of}
-use Rattle.fish_rule.specs.Rule.{Rule}
 use Rattle.fish_rule.specs.LoadSteps.{IsAlone, after_load_tail, after_look_at, kind_told}
 use Rattle.fish_rule.specs.Table.{Stands}
-use Rattle.fish_rule.specs.Views.{AllOf, Among, IsOver}
+use Rattle.fish_rule.specs.Views.{AllOf, IsOver}
 use Rattle.fish_rule.specs.Gaps.{IsGap, IsLabel}
-use Rattle.fish_rule.specs.World.{World, high, low}
+use Rattle.fish_rule.specs.World.{high, low}
 use Rattle.fish_rule.specs.declared.close.Remains.{Remains}
-use Rattle.fish_rule.specs.declared.view.Found.{Found}
-use Rattle.fish_rule.specs.declared.view.Key.{Key}
 use Rattle.fish_rule.specs.declared.view.Kind.TheVariants.{Mark, Void}
 use Rattle.fish_rule.specs.declared.view.Own.{Own}
 use Rattle.fish_rule.specs.declared.view.Position.{Position}
-use Rattle.fish_rule.specs.declared.view.View.{View}
 
 -- ---- one number
 

@@ -13,16 +13,13 @@ use Rattle.fish_rule.specs.Chains.{IsKeyEntry, Linked}
 use Rattle.fish_rule.specs.ChainSteps.{HasNode}
 use Rattle.fish_rule.specs.Logs.{Learns}
 use Rattle.fish_rule.specs.Regions.{code, kind_of}
-use Rattle.fish_rule.specs.Rule.{Rule}
-use Rattle.fish_rule.specs.Views.{Among}
+use Rattle.fish_rule.proofs.basics.Context.{Among, Key, Rule, View, World}
 use Rattle.fish_rule.specs.ChainFacts.{Always, IsClear, IsEntryIn, IsNodeIn, IsNowhere}
 use Rattle.fish_rule.specs.Gaps.{IsEntryOf, IsGap, IsLabel}
-use Rattle.fish_rule.specs.World.{World, body, low}
+use Rattle.fish_rule.specs.World.{body, low}
 use Rattle.fish_rule.specs.declared.view.Gap.{Gap}
-use Rattle.fish_rule.specs.declared.view.Key.{Key}
 use Rattle.fish_rule.specs.declared.view.Kind.TheVariants.{Stored}
 use Rattle.fish_rule.specs.declared.view.Label.{Label}
-use Rattle.fish_rule.specs.declared.view.View.{View}
 
 -- what always holds goes on to
 pub always_later : (v u : View) (P : Key → World → Type 0) → Learns v u → Always v P → Always u P

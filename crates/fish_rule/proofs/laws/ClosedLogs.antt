@@ -11,15 +11,13 @@ use Rattle.fish_rule.specs.ClosedLog.{IsClosed}
 use Rattle.fish_rule.specs.Logs.{IsEntry, IsLog, Learns}
 use Rattle.fish_rule.specs.Parts.{IsEntryWord}
 use Rattle.fish_rule.specs.Regions.{code}
-use Rattle.fish_rule.specs.Rule.{Rule}
-use Rattle.fish_rule.specs.Views.{Among, Has}
+use Rattle.fish_rule.proofs.basics.Context.{Among, Key, Rule, View, World}
+use Rattle.fish_rule.specs.Views.{Has}
 use Rattle.fish_rule.specs.ChainFacts.{Always}
-use Rattle.fish_rule.specs.World.{World, high}
+use Rattle.fish_rule.specs.World.{high}
 use Rattle.fish_rule.specs.declared.close.Remains.{Remains}
-use Rattle.fish_rule.specs.declared.view.Key.{Key}
 use Rattle.fish_rule.specs.declared.view.Kind.TheVariants.{Mark, Stored, Void}
 use Rattle.fish_rule.specs.declared.view.Own.{Own}
-use Rattle.fish_rule.specs.declared.view.View.{View}
 use Rattle.fish_value.specs.declared.field.Form.{Form}
 use Rattle.fish_rule.proofs.basics.OneMoment.{get_here, here_get, there_is, entry_word, claimed, before_mark}
 use Rattle.fish_rule.proofs.basics.OneMoment.{entry_once, stored_by}

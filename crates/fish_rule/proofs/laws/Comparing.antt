@@ -6,11 +6,8 @@ use Rattle.fish_rule.proofs.basics.Regions.{starts_rise}
 use Rattle.fish_rule.proofs.basics.Lists.{all_among}
 use Rattle.fish_rule.specs.Comparing.{AreFound, OneLineIsOneClaim, OneNumberIsOneClaim, RegionsFollow}
 use Rattle.fish_rule.specs.Facts.{IsFound}
-use Rattle.fish_rule.specs.Rule.{Rule}
-use Rattle.fish_rule.specs.World.{World, high}
-use Rattle.fish_rule.specs.declared.view.Found.{Found}
-use Rattle.fish_rule.specs.declared.view.Key.{Key}
-use Rattle.fish_rule.specs.declared.view.View.{View}
+use Rattle.fish_rule.proofs.basics.Context.{Found, Key, Rule, View, World}
+use Rattle.fish_rule.specs.World.{high}
 
 module _ {k : Key} {w : World} (r : Rule k w) where
   -- that a region was found in this moment

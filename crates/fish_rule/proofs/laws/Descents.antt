@@ -13,13 +13,10 @@ use Rattle.fish_rule.specs.ChainSteps.{previous_seen, with_node}
 use Rattle.fish_rule.specs.Logs.{Extends, Learns}
 use Rattle.fish_rule.specs.Regions.{code}
 use Rattle.fish_rule.specs.SpaceSteps.{loaded}
-use Rattle.fish_rule.specs.Views.{Among}
+use Rattle.fish_rule.proofs.basics.Context.{Among, Clock, Key, View}
 use Rattle.fish_rule.specs.ChainFacts.{Always, IsClear, IsEntryIn}
-use Rattle.fish_rule.specs.declared.view.Clock.{Clock}
-use Rattle.fish_rule.specs.declared.view.Key.{Key}
 use Rattle.fish_rule.specs.declared.view.Kind.TheVariants.{Mark, Stored}
 use Rattle.fish_rule.specs.declared.view.EntryPlace.{EntryPlace}
-use Rattle.fish_rule.specs.declared.view.View.{View}
 
 -- ---- views that only learn
 

@@ -2,10 +2,7 @@
 use Rattle.std.proofs.Common.{◌≡◌, ℕ, ◌+◌, ◌*◌, ◌<◌, List, get_or, sym, ap, ◌∙◌, subst, arith, ◌≢◌, ◌-◌, ◌≤◌, suc}
 use Rattle.fish_layout.specs.Cleared.{IsKeyWord, Spells, body_of, unlinked}
 use Rattle.fish_rule.specs.Logs.{HasWords, IsEntry, Learns, Tells}
-use Rattle.fish_rule.specs.Views.{Among}
-use Rattle.fish_rule.specs.declared.view.View.{View}
-use mathlib.Core.Option.{some}
-use Rattle.std.proofs.Math.ListN.{get_elem?}
+use Rattle.fish_rule.proofs.basics.Context.{Among, Found, Kind, Rule, View, World, get_elem?, some}
 use Rattle.fish_layout.proofs.Clearing.{cleared_at, cleared_head, cleared_same}
 use Rattle.fish_layout.proofs.Spelled.{body_spelled}
 use Rattle.fish_layout.specs.Body.{IsBody}
@@ -16,11 +13,8 @@ use Rattle.fish_rule.proofs.basics.Lists.{all_among}
 use Rattle.fish_rule.proofs.basics.FoundRegions.{lines_found, region_found, word_known}
 use Rattle.fish_rule.specs.Facts.{IsFound, IsKnown}
 use Rattle.fish_rule.specs.Regions.{Holds, IsRecord}
-use Rattle.fish_rule.specs.Rule.{Rule}
 use Rattle.fish_rule.specs.Table.{Stands}
-use Rattle.fish_rule.specs.World.{World, body}
-use Rattle.fish_rule.specs.declared.view.Found.{Found}
-use Rattle.fish_rule.specs.declared.view.Kind.{Kind}
+use Rattle.fish_rule.specs.World.{body}
 use Rattle.fish_rule.specs.declared.view.Kind.TheVariants.{Mark, Stored, Void}
 use Rattle.fish_value.specs.declared.field.Form.{Form}
 use Rattle.fish_rule.proofs.basics.RegionWords.{head_plain}

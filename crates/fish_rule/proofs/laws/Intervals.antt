@@ -12,19 +12,14 @@ use Rattle.fish_rule.proofs.basics.Bodies.{published}
 use Rattle.fish_rule.specs.Boundaries.{IsUnended}
 use Rattle.fish_rule.proofs.basics.RegistryWords.{has_read}
 use Rattle.fish_rule.proofs.basics.OneMoment.{stored_above}
-use Rattle.std.proofs.Math.ListN.{get_elem?}
-use mathlib.Core.Option.{some}
+use Rattle.fish_rule.proofs.basics.Context.{Among, Key, Rule, View, World, get_elem?, some}
 use Rattle.fish_rule.specs.Intervals.{HasInterval, IntervalsAreIndexed, IntervalsStay, IsIndexed}
 use Rattle.fish_rule.specs.Keys.{IsKeyedOf, text_of}
 use Rattle.fish_rule.specs.Registry.{AreActiveAt, IsRegistered, KnowsDefinitions, definitions_at, made, op_at, row_in}
 use Rattle.fish_rule.specs.Registry.{version_in}
-use Rattle.fish_rule.specs.Views.{Among}
 use Rattle.fish_rule.specs.Regions.{code}
-use Rattle.fish_rule.specs.Rule.{Rule}
-use Rattle.fish_rule.specs.World.{World, body, high, low}
-use Rattle.fish_rule.specs.declared.view.Key.{Key}
+use Rattle.fish_rule.specs.World.{body, high, low}
 use Rattle.fish_rule.specs.declared.view.Kind.TheVariants.{Stored}
-use Rattle.fish_rule.specs.declared.view.View.{View}
 
 -- a definition with its text among the active ones, where it is active
 front : (x : Listed) (ls : List Listed) (b : Bool) → b ≡ true

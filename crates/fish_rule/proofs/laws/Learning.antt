@@ -9,14 +9,10 @@ use Rattle.fish_rule.specs.Logs.{Extends, Learns}
 use Rattle.fish_rule.specs.SeatSteps.{join_both}
 use Rattle.fish_rule.specs.LoadSteps.{after_load_tail, after_look_at, after_read_word, found_after, kind_told}
 use Rattle.fish_rule.specs.LoadSteps.{opens_after}
-use Rattle.fish_rule.specs.Views.{Among}
+use Rattle.fish_rule.proofs.basics.Context.{Among, Found, Key, Learned, View}
 use Rattle.fish_rule.specs.World.{high, low}
-use Rattle.fish_rule.specs.declared.view.Found.{Found}
-use Rattle.fish_rule.specs.declared.view.Key.{Key}
-use Rattle.fish_rule.specs.declared.view.Learned.{Learned}
 use Rattle.fish_rule.specs.declared.view.Noted.TheVariants.{Directory}
 use Rattle.fish_rule.specs.declared.view.Opens.{Opens}
-use Rattle.fish_rule.specs.declared.view.View.{View}
 
 -- ---- in general
 

@@ -11,12 +11,9 @@ use Rattle.fish_rule.specs.ChainSteps.{CanAimEntry, HasNode, own_place}
 use Rattle.fish_layout.specs.Entry.{entry_number}
 use Rattle.fish_rule.specs.Parts.{first_head}
 use Rattle.fish_rule.specs.Table.{Stands}
-use Rattle.fish_rule.specs.Views.{Among}
-use Rattle.fish_rule.specs.declared.view.Flight.{Flight}
-use Rattle.fish_rule.specs.declared.view.Key.{Key}
+use Rattle.fish_rule.proofs.basics.Context.{Among, Flight, Key, View}
 use Rattle.fish_rule.specs.Gaps.{IsLabel}
 use Rattle.fish_rule.specs.declared.view.Label.{Label}
-use Rattle.fish_rule.specs.declared.view.View.{View}
 use Rattle.fish_layout.proofs.Clearing.{cleared_head, cleared_same}
 use Rattle.fish_layout.specs.Cleared.{IsKeyWord, body_of, entry_at}
 use Rattle.fish_layout.specs.Header.{keys_of}

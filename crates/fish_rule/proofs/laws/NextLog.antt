@@ -7,12 +7,9 @@ use Rattle.fish_rule.proofs.basics.Regions.{starts_above, starts_rise}
 use Rattle.fish_rule.proofs.basics.Places.{lies_inside, record_at}
 use Rattle.fish_rule.specs.Chains.{Linked}
 use Rattle.fish_rule.specs.Parts.{IsOlder, first_head}
-use Rattle.fish_rule.specs.Rule.{Rule}
-use Rattle.fish_rule.specs.World.{World, high}
-use Rattle.fish_rule.specs.declared.view.Key.{Key}
+use Rattle.fish_rule.proofs.basics.Context.{Key, Rule, World, get_elem?, some}
+use Rattle.fish_rule.specs.World.{high}
 use Rattle.fish_rule.specs.declared.view.Kind.TheVariants.{Mark, Stored}
-use mathlib.Core.Option.{some}
-use Rattle.std.proofs.Math.ListN.{get_elem?}
 use Rattle.fish_catalog.specs.declared.entry.Entry.{Entry}
 use Rattle.fish_rule.proofs.basics.OneMoment.{claimed, entry_word, there_is}
 use Rattle.fish_rule.specs.ClosedLaws.{EndsWhereNextBegins}

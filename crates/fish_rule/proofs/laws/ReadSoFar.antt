@@ -1,10 +1,10 @@
 -- What was read of a log so far, and how it grows.
 use Rattle.std.proofs.Common.{◌≡◌, ℕ, ◌+◌, ◌*◌, ◌/◌, ◌<◌, ◌≤◌, suc, List, [], ◌∷◌, ◌++◌, length, refl, sym, ap, ◌∙◌}
 use Rattle.std.proofs.Common.{subst, inl, inr, ⊎_elim, arith, length-append}
-use mathlib.Core.Option.{some, some-ne-none}
+use Rattle.fish_rule.proofs.basics.Context.{Among, Key, View, World, get_elem?, some}
+use mathlib.Core.Option.{some-ne-none}
 use Rattle.std.proofs.lemmas.Nat.{le-div}
 use Rattle.std.proofs.Math.Decide.{dec_lt, ℕ_discrete}
-use Rattle.std.proofs.Math.ListN.{get_elem?}
 use Rattle.std.proofs.Math.Nat.{div-mul-le_self}
 use Rattle.fish_catalog.specs.declared.entry.Entry.{Entry}
 use Rattle.fish_catalog.specs.declared.page_start.PageStart.{PageStart}
@@ -17,11 +17,7 @@ use Rattle.fish_rule.specs.Facts.{IsFound}
 use Rattle.fish_rule.specs.Logs.{AreTold, Learns, Tells}
 use Rattle.fish_rule.specs.LoadSteps.{CanRaiseSettled}
 use Rattle.fish_rule.specs.Table.{Stands}
-use Rattle.fish_rule.specs.Views.{Among}
-use Rattle.fish_rule.specs.World.{World}
 use Rattle.fish_rule.specs.declared.close.ReadLog.{ReadLog}
-use Rattle.fish_rule.specs.declared.view.Key.{Key}
-use Rattle.fish_rule.specs.declared.view.View.{View}
 
 -- what was found stays found
 pub line_later : (v u : View) (n line : ℕ) → Learns v u → HasLine v n line → HasLine u n line

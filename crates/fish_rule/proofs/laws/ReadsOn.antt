@@ -1,8 +1,7 @@
 -- How a pass goes on that reads a log: what of the heads it has read stays, and what its next steps leave.
 use Rattle.std.proofs.Common.{◌≡◌, ℕ, ◌*◌, ◌≤◌, suc, List, [], ◌∷◌, ◌++◌, length, refl, sym, ap, ◌∙◌, subst, inl}
 use Rattle.std.proofs.Common.{arith, max, Bool, true, false, Some}
-use mathlib.Core.Option.{some}
-use Rattle.std.proofs.Math.ListN.{get_elem?}
+use Rattle.fish_rule.proofs.basics.Context.{Among, Key, View, get_elem?, some}
 use Rattle.fish_rule.proofs.laws.Clocks.{later_ticked}
 use Rattle.fish_rule.proofs.laws.Alone.{each_more}
 use Rattle.fish_rule.proofs.laws.Learning.{learns_both, learns_self, learns_end}
@@ -14,12 +13,9 @@ use Rattle.fish_rule.specs.Logs.{Extends, Learns}
 use Rattle.fish_rule.specs.Parts.{Rests, first_head}
 use Rattle.fish_rule.specs.LoadSteps.{IsAlone, after_load_tail, after_raise_settled}
 use Rattle.fish_rule.specs.SpaceSteps.{noted}
-use Rattle.fish_rule.specs.Views.{Among}
 use Rattle.fish_rule.specs.World.{high, low}
 use Rattle.fish_rule.specs.declared.close.ReadLog.{ReadLog}
-use Rattle.fish_rule.specs.declared.view.Key.{Key}
 use Rattle.fish_rule.specs.declared.view.Noted.TheVariants.{Version}
-use Rattle.fish_rule.specs.declared.view.View.{View}
 
 -- a head that was loaded
 pub head_new : (v : View) (b x : ℕ) → (x ≤ v.about.line * 4 → x ≡ first_head v.about b)

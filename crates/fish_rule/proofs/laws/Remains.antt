@@ -2,7 +2,7 @@
 use Rattle.std.proofs.Common.{◌≡◌, ◌≢◌, ℕ, ◌+◌, ◌-◌, ◌*◌, ◌<◌, ◌≤◌, suc, List, length, refl, sym, ap, true, ◌∙◌, subst}
 use Rattle.std.proofs.Common.{inl, inr, ⊎_elim, arith, Some, None}
 use mathlib.Core.Option.{some-injective}
-use Rattle.std.proofs.Math.ListN.{get_elem?}
+use Rattle.fish_rule.proofs.basics.Context.{Among, Found, View, World, get_elem?}
 use Rattle.fish_rule.proofs.basics.Bodies.{kind-inside}
 use Rattle.fish_rule.proofs.laws.ClosedLogs.{within_log}
 use Rattle.fish_rule.proofs.basics.Lists.{all_among, only_main}
@@ -16,14 +16,11 @@ use Rattle.fish_rule.specs.Parts.{Flies, InFlight, Rests, first_head}
 use Rattle.fish_rule.specs.LoadSteps.{IsAlone}
 use Rattle.fish_rule.specs.Regions.{code}
 use Rattle.fish_rule.specs.Table.{Stands}
-use Rattle.fish_rule.specs.Views.{Among}
 use Rattle.fish_rule.specs.Gaps.{IsGap}
-use Rattle.fish_rule.specs.World.{World, body, high}
+use Rattle.fish_rule.specs.World.{body, high}
 use Rattle.fish_rule.specs.declared.close.ReadLog.{ReadLog}
-use Rattle.fish_rule.specs.declared.view.Found.{Found}
 use Rattle.fish_rule.specs.declared.view.Kind.TheVariants.{Mark, Stored}
 use Rattle.fish_rule.specs.declared.view.Position.{Position}
-use Rattle.fish_rule.specs.declared.view.View.{View}
 
 module _ (v : View) (s : Stands v) (alone : IsAlone v) where
   -- nothing is in flight

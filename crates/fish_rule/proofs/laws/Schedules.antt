@@ -36,12 +36,11 @@ use Rattle.fish_rule.proofs.steps.LoadRegistry.{load_registry_lasts}
 use Rattle.fish_rule.proofs.steps.Retire.{retire_lasts}
 use Rattle.fish_rule.proofs.steps.LoadVersion.{load_version_lasts}
 use Rattle.fish_rule.specs.Regions.{dir_word, kind_of}
-use Rattle.fish_rule.specs.Rule.{Rule}
+use Rattle.fish_rule.proofs.basics.Context.{Key, Rule, World}
 use Rattle.fish_rule.specs.Start.{empty_world}
 use Rattle.fish_rule.specs.SpaceSteps.{flight_kind, loaded, ticked}
 use Rattle.fish_rule.specs.LoadSteps.{after_look_at}
-use Rattle.fish_rule.specs.World.{World, put}
-use Rattle.fish_rule.specs.declared.view.Key.{Key}
+use Rattle.fish_rule.specs.World.{put}
 
 -- the same where the world is known by an equation
 lasts_at : {k : Key} {w : World} (r : Rule k w) (u u' : World) → u ≡ u' → Lasts r u' → Lasts r u

@@ -10,13 +10,9 @@ use Rattle.fish_rule.specs.Parts.{Fits}
 use Rattle.fish_rule.specs.Facts.{IsFound, IsKnown}
 use Rattle.fish_rule.specs.LoadSteps.{CanLookAt, CanReadWord}
 use Rattle.fish_rule.specs.Table.{Stands}
-use Rattle.fish_rule.specs.Views.{Among}
-use Rattle.fish_rule.specs.World.{World, slots}
-use Rattle.fish_rule.specs.declared.view.Flight.{Flight}
-use Rattle.fish_rule.specs.declared.view.Found.{Found}
-use Rattle.fish_rule.specs.declared.view.Key.{Key}
+use Rattle.fish_rule.proofs.basics.Context.{Among, Flight, Found, Key, View, World}
+use Rattle.fish_rule.specs.World.{slots}
 use Rattle.fish_rule.specs.declared.view.Kind.TheVariants.{Mark}
-use Rattle.fish_rule.specs.declared.view.View.{View}
 
 -- the region of a record in flight
 pub record FlightLaw (k : Key) (f : Flight) : Type 0 where

@@ -14,8 +14,7 @@ use Rattle.fish_catalog.specs.Listing.{IsListing, listed_of}
 use Rattle.fish_catalog.specs.declared.listed.Listed.{Listed}
 use Rattle.fish_rule.specs.Table.{Stands}
 use Rattle.fish_rule.specs.World.{heads_at}
-use Rattle.fish_rule.specs.declared.view.Key.{Key}
-use Rattle.fish_rule.specs.declared.view.View.{View}
+use Rattle.fish_rule.proofs.basics.Context.{Key, View}
 use Rattle.fish_rule.proofs.basics.Regions.{few_numbers}
 use Rattle.fish_rule.specs.Rounds.{Waits}
 use Rattle.fish_rule.specs.declared.view.Round.{Round}

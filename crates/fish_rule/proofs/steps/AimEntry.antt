@@ -1,8 +1,7 @@
 -- `aim_entry`: a store of the first word of the own entry that is next to be linked.
 use Rattle.std.proofs.Common.{◌≡◌, ℕ, ◌+◌, ◌-◌, ◌*◌, ◌%◌, ◌<◌, ◌≤◌, length, get_or, set, sym, refl, ap, ◌∙◌, subst}
 use Rattle.std.proofs.Common.{arith, get_or-set_other, get_or-set_same, length-set, Some}
-use mathlib.Core.Option.{none, some}
-use Rattle.std.proofs.Math.ListN.{get_elem?}
+use Rattle.fish_rule.proofs.basics.Context.{Final, Flight, Key, Rule, View, World, get_elem?, none, some}
 use Rattle.std.proofs.lemmas.Nat.{mod-mul-add}
 use Rattle.atomic_table.specs.Table.{Allows, step}
 use Rattle.fish_layout.proofs.Spelled.{roomy, spelled_keys}
@@ -21,14 +20,10 @@ use Rattle.fish_rule.specs.Regions.{IsRecord, kind_of}
 use Rattle.fish_layout.proofs.Clearing.{cleared_head, cleared_same}
 use Rattle.fish_rule.specs.Told.{told_aim_entry}
 use Rattle.fish_rule.specs.Parts.{InFlight}
-use Rattle.fish_rule.specs.Rule.{Final, Rule}
 use Rattle.fish_rule.specs.SpaceSteps.{ticked}
 use Rattle.fish_rule.specs.Table.{Ruled, Sat, Stands}
-use Rattle.fish_rule.specs.World.{World, body, log_at, log_size, put, world}
-use Rattle.fish_rule.specs.declared.view.Flight.{Flight}
-use Rattle.fish_rule.specs.declared.view.Key.{Key}
+use Rattle.fish_rule.specs.World.{body, log_at, log_size, put, world}
 use Rattle.fish_rule.specs.declared.view.Kind.TheVariants.{Mark, Stored, Void}
-use Rattle.fish_rule.specs.declared.view.View.{View}
 use Rattle.fish_rule.specs.Flying.{region_in}
 
 -- words that are filled are those of a record

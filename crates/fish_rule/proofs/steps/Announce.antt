@@ -1,21 +1,15 @@
 -- `announce`: a store of a version in the own epoch word.
 use Rattle.std.proofs.Common.{◌≡◌, ℕ, ◌≤◌, suc, set, arith, ◌-◌, sym, refl, subst}
-use mathlib.Core.Option.{some, none}
-use Rattle.std.proofs.Math.ListN.{get_elem?}
+use Rattle.fish_rule.proofs.basics.Context.{Key, Rule, View, World, get_elem?, none, some}
 use Rattle.fish_rule.proofs.basics.Worlds.{put-else, put-here, world-registry}
 use Rattle.fish_rule.proofs.basics.Lasts.{Lasts}
 use Rattle.fish_rule.specs.RegistrySteps.{CanAnnounce, after_announce}
 use Rattle.fish_rule.specs.Registry.{epoch_at}
-use Rattle.fish_rule.specs.Rule.{Rule}
 use Rattle.fish_rule.specs.SpaceSteps.{ticked}
-use Rattle.fish_rule.specs.World.{World, put, world}
+use Rattle.fish_rule.specs.World.{put, world}
 use Rattle.fish_rule.specs.declared.view.Epoch.TheVariants.{Announced}
-use Rattle.fish_rule.specs.declared.view.Key.{Key}
-use Rattle.fish_rule.specs.declared.view.View.{View}
 use Rattle.fish_rule.proofs.classes.OwnEpoch.{moves_last, epoch_endures, carries_none}
-use Rattle.atomic_table.specs.Table.{Allows, step}
-use Rattle.fish_rule.proofs.classes.Allowed.{allowed, stands, there}
-use Rattle.fish_rule.specs.Table.{Ruled, Sat, Told}
+use Rattle.fish_rule.proofs.classes.Allowed.{Allows, Ruled, Sat, Told, allowed, stands, step, there}
 use Rattle.fish_rule.specs.Told.{told_announce}
 
 module _ {k : Key} {w : World} (r : Rule k w) (id : ℕ) {v : View} (at : get_elem? w.views id ≡ some v) where

@@ -2,8 +2,7 @@
 use Rattle.std.proofs.Common.{◌≡◌, ℕ, ◌<◌, set, sym, ◌∙◌, subst, inl, inr, ⊎_elim, ◌⊎◌, arith, Some, None, Option, ◌≢◌}
 use Rattle.std.proofs.Common.{◌-◌, ◌≤◌, suc, get_or, refl, ap}
 use Rattle.std.proofs.Math.Decide.{ℕ_discrete, dec_lt}
-use mathlib.Core.Option.{some, none}
-use Rattle.std.proofs.Math.ListN.{get_elem?}
+use Rattle.fish_rule.proofs.basics.Context.{Among, Epoch, Key, Rule, View, World, get_elem?, none, some}
 use Rattle.fish_layout.specs.Cleared.{choose}
 use Rattle.fish_rule.proofs.classes.Loads.{learn_lasts, still_chained}
 use Rattle.fish_rule.proofs.basics.Lasts.{Lasts}
@@ -11,19 +10,12 @@ use Rattle.fish_rule.specs.BoundarySteps.{IsLane, after_check_lane, checked_afte
 use Rattle.fish_rule.specs.Epochs.{epoch_word, IsAtMost, Stays}
 use Rattle.fish_rule.specs.Registry.{epoch_at, version_in}
 use Rattle.fish_rule.specs.Rounds.{IsRound, IsSince, Waits}
-use Rattle.fish_rule.specs.Rule.{Rule}
-use Rattle.fish_rule.specs.World.{World, world}
-use Rattle.fish_rule.specs.declared.view.Epoch.{Epoch}
+use Rattle.fish_rule.specs.World.{world}
 use Rattle.fish_rule.specs.declared.view.Epoch.TheVariants.{Announced, Confirmed, Out}
-use Rattle.fish_rule.specs.declared.view.Key.{Key}
 use Rattle.fish_rule.specs.declared.view.Round.{Round}
-use Rattle.fish_rule.specs.declared.view.View.{View}
-use Rattle.atomic_table.specs.Table.{Allows, step}
-use Rattle.fish_rule.proofs.classes.Allowed.{allowed, loaded_words, stands, there, word_at}
+use Rattle.fish_rule.proofs.classes.Allowed.{Allows, Ruled, Sat, Told, allowed, loaded_words, stands, step, there, word_at}
 use Rattle.fish_rule.specs.LoadSteps.{IsAlone}
-use Rattle.fish_rule.specs.Table.{Ruled, Sat, Told}
 use Rattle.fish_rule.specs.Told.{ToldCheckLane}
-use Rattle.fish_rule.specs.Views.{Among}
 
 -- a lane whose epoch word is 0 is confirmed at no version
 since_zero : (e : Epoch) (s : ℕ) → epoch_word e ≡ 0 → IsSince s e

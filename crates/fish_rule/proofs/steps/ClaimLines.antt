@@ -2,8 +2,7 @@
 use Rattle.std.proofs.Common.{◌≡◌, ◌≢◌, ℕ, ◌+◌, ◌*◌, ◌<◌, ◌≤◌, suc, set, sym, refl, ap, ◌∙◌, subst, arith, ◌-◌, ◌%◌}
 use Rattle.std.proofs.Common.{◌^◌, get_or}
 use Rattle.std.proofs.Math.Decide.{dec_lt}
-use mathlib.Core.Option.{some, none}
-use Rattle.std.proofs.Math.ListN.{get_elem?}
+use Rattle.fish_rule.proofs.basics.Context.{Final, Key, Rule, View, World, get_elem?, none, some}
 use Rattle.fish_rule.proofs.basics.Lists.{each_set, only_main, seats_kept}
 use Rattle.fish_rule.proofs.classes.FactsStay.{chained_later, facts_later, keyed_kept, owns_later, shut_later}
 use Rattle.fish_rule.proofs.basics.Bodies.{high-pack, low-pack, tail_is}
@@ -14,11 +13,8 @@ use Rattle.fish_rule.proofs.basics.Worlds.{put-here, world-tail}
 use Rattle.fish_rule.specs.Chains.{Chained}
 use Rattle.fish_rule.proofs.classes.OpensStay.{opens_later}
 use Rattle.fish_rule.specs.Facts.{Facts, IsStoredBy}
-use Rattle.fish_rule.specs.Rule.{Final, Rule}
 use Rattle.fish_rule.specs.SpaceSteps.{CanClaimLines, after_claim_lines}
-use Rattle.fish_rule.specs.World.{World, high, low, slots, world}
-use Rattle.fish_rule.specs.declared.view.Key.{Key}
-use Rattle.fish_rule.specs.declared.view.View.{View}
+use Rattle.fish_rule.specs.World.{high, low, slots, world}
 use Rattle.fish_rule.specs.Epochs.{Registry}
 use Rattle.fish_rule.specs.declared.view.Epoch.TheVariants.{Confirmed}
 use Rattle.atomic_table.specs.Table.{Allows, step}

@@ -2,8 +2,7 @@
 use Rattle.std.proofs.Common.{◌≡◌, ◌≢◌, ℕ, ◌+◌, ◌*◌, ◌<◌, ◌≤◌, suc, set, sym, refl, ap, ◌∙◌, subst, arith, Some, None}
 use Rattle.std.proofs.Common.{Option}
 use Rattle.std.proofs.Math.Decide.{ℕ_discrete, dec_lt}
-use mathlib.Core.Option.{some}
-use Rattle.std.proofs.Math.ListN.{get_elem?}
+use Rattle.fish_rule.proofs.basics.Context.{Final, Flight, Key, Rule, View, World, get_elem?, some}
 use Rattle.atomic_table.proofs.Lists.{set_here}
 use Rattle.fish_rule.proofs.basics.Lists.{each_set, has_own, no_flight, pairs_set, within_list}
 use Rattle.fish_rule.proofs.classes.OtherViews.{flight_there}
@@ -13,13 +12,9 @@ use Rattle.fish_rule.proofs.basics.Quotas.{quotas_lower}
 use Rattle.fish_rule.proofs.basics.Worlds.{put-else, put-here}
 use Rattle.fish_rule.specs.Chains.{LinksAt}
 use Rattle.fish_rule.specs.Parts.{Flies, InFlight, Limit, MayOverflow, Regions, Space, quotas}
-use Rattle.fish_rule.specs.Rule.{Final, Rule}
 use Rattle.fish_rule.specs.SpaceSteps.{CanClaimLines, after_claim_lines, flight_at}
 use Rattle.fish_rule.specs.Views.{Has, HasFlight, IsFlightOf, IsOver}
-use Rattle.fish_rule.specs.World.{World, put}
-use Rattle.fish_rule.specs.declared.view.Flight.{Flight}
-use Rattle.fish_rule.specs.declared.view.Key.{Key}
-use Rattle.fish_rule.specs.declared.view.View.{View}
+use Rattle.fish_rule.specs.World.{put}
 use Rattle.fish_rule.proofs.basics.RegistryWords.{endures_same}
 
 module _ {k : Key} {w : World} (r : Rule k w) (id : ℕ) {v : View} (at : get_elem? w.views id ≡ some v) (m : ℕ)

@@ -1,19 +1,14 @@
 -- What a claim leaves of the registry's part: the new record is of the version at which its pass is entered.
 use Rattle.std.proofs.Common.{◌≡◌, ◌≢◌, ℕ, ◌<◌, ◌≤◌, suc, length, sym, refl, ap, ◌∙◌, subst, arith, Some, None, Option}
 use Rattle.std.proofs.Math.Decide.{ℕ_discrete, dec_lt}
-use mathlib.Core.Option.{some}
-use Rattle.std.proofs.Math.ListN.{get_elem?}
+use Rattle.fish_rule.proofs.basics.Context.{Epoch, Flight, Key, Rule, View, World, get_elem?, some}
 use Rattle.fish_rule.proofs.basics.Lists.{all_map, has_own}
 use Rattle.fish_rule.proofs.basics.Bodies.{published}
 use Rattle.fish_rule.proofs.basics.Worlds.{put-else, put-here}
 use Rattle.fish_rule.specs.Parts.{Flies}
-use Rattle.fish_rule.specs.Rule.{Rule}
 use Rattle.fish_rule.specs.SpaceSteps.{CanClaimLines}
-use Rattle.fish_rule.specs.World.{World, high, put}
-use Rattle.fish_rule.specs.declared.view.Flight.{Flight}
-use Rattle.fish_rule.specs.declared.view.Key.{Key}
+use Rattle.fish_rule.specs.World.{high, put}
 use Rattle.fish_rule.specs.declared.view.Kind.TheVariants.{Stored}
-use Rattle.fish_rule.specs.declared.view.View.{View}
 use Rattle.fish_layout.specs.Cleared.{body_of}
 use Rattle.fish_rule.specs.Boundaries.{Boundaries, IsOpenIn, IsUnended, Lists}
 use Rattle.fish_rule.specs.Epochs.{Carries, IsAtMost, Stays, Versions}
@@ -22,7 +17,6 @@ use Rattle.fish_rule.specs.Regions.{code}
 use Rattle.fish_rule.specs.Registry.{AreActiveAt, HasBoundary, definitions_at, version_in}
 use Rattle.fish_rule.specs.Rounds.{IsSince, Waits}
 use Rattle.fish_rule.specs.declared.view.Round.{Round}
-use Rattle.fish_rule.specs.declared.view.Epoch.{Epoch}
 use Rattle.fish_rule.specs.declared.view.Epoch.TheVariants.{Confirmed}
 
 module _ {k : Key} {w : World} (r : Rule k w) (id : ℕ) {v : View} (at : get_elem? w.views id ≡ some v)

@@ -2,8 +2,7 @@
 use Rattle.std.proofs.Common.{◌≡◌, ◌≢◌, ℕ, ◌<◌, ◌≤◌, suc, List, length, set, sym, ◌⊎◌, ap, ◌∙◌, inl, inr, ⊎_elim, arith}
 use Rattle.std.proofs.Common.{refl, subst}
 use Rattle.std.proofs.Math.Decide.{ℕ_discrete}
-use mathlib.Core.Option.{some, none}
-use Rattle.std.proofs.Math.ListN.{get_elem?}
+use Rattle.fish_rule.proofs.basics.Context.{Key, Rule, View, World, get_elem?, none, some}
 use Rattle.fish_catalog.specs.declared.listed.Listed.{Listed}
 use Rattle.fish_rule.proofs.classes.BoundariesStay.{boundaries_later, lists_later, waits_later}
 use Rattle.fish_rule.proofs.classes.MainStores.{its, store_endures, store_read, store_still, stores}
@@ -12,13 +11,8 @@ use Rattle.fish_rule.proofs.basics.Lasts.{Lasts}
 use Rattle.fish_rule.specs.RegistrySteps.{CanDefineWord, IsNextWord, after_define_word}
 use Rattle.fish_rule.specs.Epochs.{IsUnmade}
 use Rattle.fish_rule.specs.Registry.{Endures, IsLasting, definitions_at, op_at, row_at, version_in}
-use Rattle.fish_rule.specs.Rule.{Rule}
-use Rattle.fish_rule.specs.World.{World, put, world}
-use Rattle.fish_rule.specs.declared.view.Key.{Key}
-use Rattle.fish_rule.specs.declared.view.View.{View}
-use Rattle.atomic_table.specs.Table.{Allows, step}
-use Rattle.fish_rule.proofs.classes.Allowed.{allowed, stands, there, unmade_within}
-use Rattle.fish_rule.specs.Table.{Ruled, Sat}
+use Rattle.fish_rule.specs.World.{put, world}
+use Rattle.fish_rule.proofs.classes.Allowed.{Allows, Ruled, Sat, allowed, stands, step, there, unmade_within}
 use Rattle.fish_rule.specs.Told.{told_define_word}
 
 module _ {k : Key} {w : World} (r : Rule k w) (id : ℕ) {v : View} (at : get_elem? w.views id ≡ some v)

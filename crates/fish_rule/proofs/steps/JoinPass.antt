@@ -1,7 +1,6 @@
 -- `join_pass` changes no word: a lane comes back, with its records and all that its pass knew.
 use Rattle.std.proofs.Common.{◌≡◌, ◌≢◌, ℕ, List, set, sym, refl, ap, ◌∙◌, subst, inl, ⊎_elim, arith}
-use mathlib.Core.Option.{some}
-use Rattle.std.proofs.Math.ListN.{get_elem?}
+use Rattle.fish_rule.proofs.basics.Context.{Among, Final, Key, Learned, Rule, View, World, get_elem?, some}
 use Rattle.atomic_table.proofs.Lists.{set_else}
 use Rattle.fish_rule.proofs.basics.Lasts.{Kept}
 use Rattle.fish_rule.proofs.basics.Lists.{all_append, among_either, among_left, among_right, each_set, no_flight}
@@ -12,16 +11,11 @@ use Rattle.fish_rule.proofs.basics.Lanes.{not_over, shut_either}
 use Rattle.fish_rule.proofs.classes.ChainsStay.{chains_views, linking_from, linking_own, linking_to, links_views}
 use Rattle.fish_rule.proofs.classes.FactsStay.{chained_later}
 use Rattle.fish_rule.specs.Chains.{Chained, IsLinking, LinksAt}
-use Rattle.fish_rule.specs.declared.view.Learned.{Learned}
 use Rattle.fish_rule.specs.Parts.{MayOverflow}
 use Rattle.fish_rule.specs.Facts.{AreOpens, Facts, IsFound, IsKnown, IsRecorded, Owns}
-use Rattle.fish_rule.specs.Rule.{Final, Rule}
 use Rattle.fish_rule.specs.SeatSteps.{CanJoinPass, join_both, spent, without}
-use Rattle.fish_rule.specs.Views.{Among, Each, Has}
+use Rattle.fish_rule.specs.Views.{Each, Has}
 use Rattle.fish_rule.specs.Gaps.{IsGap, IsLabel}
-use Rattle.fish_rule.specs.World.{World}
-use Rattle.fish_rule.specs.declared.view.Key.{Key}
-use Rattle.fish_rule.specs.declared.view.View.{View}
 use Rattle.fish_rule.proofs.basics.RegistryWords.{endures_same}
 use Rattle.fish_rule.specs.Boundaries.{IsUnended}
 use Rattle.fish_rule.specs.Epochs.{Registry, Stays}

@@ -1,21 +1,15 @@
 -- `load_bound`: a load of the tail behind the last lane.
 use Rattle.std.proofs.Common.{◌≡◌, ℕ, ◌≤◌, set, sym, subst, arith, get_or, refl, ◌∙◌}
-use mathlib.Core.Option.{some, none}
-use Rattle.std.proofs.Math.ListN.{get_elem?}
+use Rattle.fish_rule.proofs.basics.Context.{Key, Rule, View, World, get_elem?, none, some}
 use Rattle.fish_rule.proofs.classes.Loads.{learn_lasts, still_chained}
 use Rattle.fish_rule.proofs.basics.Lasts.{Lasts}
 use Rattle.fish_rule.specs.BoundarySteps.{CanLoadBound, after_load_bound}
 use Rattle.fish_rule.specs.Rounds.{IsRound, Waits}
-use Rattle.fish_rule.specs.Rule.{Rule}
-use Rattle.fish_rule.specs.World.{World, high, low, world}
-use Rattle.fish_rule.specs.declared.view.Key.{Key}
+use Rattle.fish_rule.specs.World.{high, low, world}
 use Rattle.fish_rule.specs.declared.view.Round.{Round}
-use Rattle.fish_rule.specs.declared.view.View.{View}
-use Rattle.atomic_table.specs.Table.{Allows, step}
 use Rattle.std.proofs.lemmas.Option.{same_Some}
-use Rattle.fish_rule.proofs.classes.Allowed.{allowed, loaded_words, stands, there}
+use Rattle.fish_rule.proofs.classes.Allowed.{Allows, Ruled, Sat, Told, allowed, loaded_words, stands, step, there}
 use Rattle.fish_rule.proofs.steps.LoadTail.{end_counted, end_rests}
-use Rattle.fish_rule.specs.Table.{Ruled, Sat, Told}
 use Rattle.fish_rule.specs.Told.{ToldLoadBound}
 
 module _ {k : Key} {w : World} (r : Rule k w) (id : ℕ) {v : View} (at : get_elem? w.views id ≡ some v) where

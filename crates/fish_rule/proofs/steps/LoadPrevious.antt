@@ -1,9 +1,7 @@
 -- `load_previous`: a load of the first word of a linked entry.
 use Rattle.std.proofs.Common.{◌≡◌, ℕ, ◌+◌, ◌-◌, ◌*◌, ◌<◌, ◌≤◌, suc, get_or, set, sym, refl, ap, ◌∙◌, subst, arith}
-use mathlib.Core.Option.{none, some}
-use Rattle.std.proofs.Math.ListN.{get_elem?}
-use Rattle.atomic_table.specs.Table.{Allows, step}
-use Rattle.fish_rule.proofs.classes.Allowed.{allowed, loaded_words, stands, there}
+use Rattle.fish_rule.proofs.basics.Context.{Clock, Key, Rule, View, World, get_elem?, none, some}
+use Rattle.fish_rule.proofs.classes.Allowed.{Allows, Ruled, Sat, Told, allowed, loaded_words, stands, step, there}
 use Rattle.fish_rule.proofs.basics.Lists.{all_among}
 use Rattle.fish_rule.proofs.basics.Gaps.{gap_there}
 use Rattle.fish_rule.proofs.basics.Lasts.{Lasts}
@@ -17,14 +15,9 @@ use Rattle.fish_rule.specs.Chains.{IsLeastPrevious, Linked}
 use Rattle.fish_rule.specs.ChainSteps.{HasNode, PreviousRises, after_load_previous, gap, previous_seen}
 use Rattle.fish_rule.specs.SpaceSteps.{loaded}
 use Rattle.fish_rule.specs.Parts.{first_head}
-use Rattle.fish_rule.specs.Rule.{Rule}
-use Rattle.fish_rule.specs.Table.{Ruled, Sat, Told}
 use Rattle.fish_rule.specs.Told.{ToldLoadPrevious, place_at}
-use Rattle.fish_rule.specs.World.{World, log_at, log_size, world}
-use Rattle.fish_rule.specs.declared.view.Clock.{Clock}
-use Rattle.fish_rule.specs.declared.view.Key.{Key}
+use Rattle.fish_rule.specs.World.{log_at, log_size, world}
 use Rattle.fish_rule.specs.declared.view.Kind.TheVariants.{Mark, Stored}
-use Rattle.fish_rule.specs.declared.view.View.{View}
 use Rattle.fish_rule.proofs.basics.FirstHeads.{node_joins, first_else, linked_else}
 
 module _ {k : Key} {w : World} (r : Rule k w) (id : ℕ) {v : View} (at : get_elem? w.views id ≡ some v) (b p : ℕ)

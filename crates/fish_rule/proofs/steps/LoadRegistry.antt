@@ -1,21 +1,15 @@
 -- `load_opened`, `load_operation` and `load_row`: a load of a word of the registry that lasts.
 use Rattle.std.proofs.Common.{◌≡◌, ℕ, ◌<◌, length, set, refl, subst, inl, inr, arith, ◌≤◌, get_or, sym, ap, ◌∙◌}
 use Rattle.std.proofs.Common.{slice_get}
-use mathlib.Core.Option.{some, none}
-use Rattle.std.proofs.Math.ListN.{get_elem?}
+use Rattle.fish_rule.proofs.basics.Context.{Key, Rule, View, World, get_elem?, none, some}
 use Rattle.fish_rule.proofs.basics.RegistryWords.{has_read, length_grows}
 use Rattle.fish_rule.proofs.basics.Lasts.{Lasts}
 use Rattle.fish_rule.specs.RegistrySteps.{CanLoadRegistry, after_load_registry}
 use Rattle.fish_rule.specs.Registry.{IsLasting, IsRegistered, definitions_at, version_in}
-use Rattle.fish_rule.specs.Rule.{Rule}
 use Rattle.fish_rule.proofs.classes.Loads.{learn_lasts, still_chained}
-use Rattle.fish_rule.specs.World.{World, heads_at, world}
-use Rattle.fish_rule.specs.declared.view.Key.{Key}
-use Rattle.fish_rule.specs.declared.view.View.{View}
+use Rattle.fish_rule.specs.World.{heads_at, world}
 use Rattle.fish_rule.proofs.steps.LoadVersion.{version_rises}
-use Rattle.atomic_table.specs.Table.{Allows, step}
-use Rattle.fish_rule.proofs.classes.Allowed.{allowed, loaded_words, stands, there, word_at}
-use Rattle.fish_rule.specs.Table.{Ruled, Sat}
+use Rattle.fish_rule.proofs.classes.Allowed.{Allows, Ruled, Sat, allowed, loaded_words, stands, step, there, word_at}
 use Rattle.fish_rule.specs.Told.{ToldLoadRegistry}
 
 module _ {k : Key} {w : World} (r : Rule k w) (id : ℕ) {v : View} (at : get_elem? w.views id ≡ some v) where

@@ -1,17 +1,11 @@
 -- `load_settled`: a load of the settled number.
 use Rattle.std.proofs.Common.{◌≡◌, ℕ, set, refl, arith, ◌≤◌, sym, subst}
-use mathlib.Core.Option.{some, none}
-use Rattle.std.proofs.Math.ListN.{get_elem?}
+use Rattle.fish_rule.proofs.basics.Context.{Key, Rule, View, World, get_elem?, none, some}
 use Rattle.fish_rule.proofs.basics.Lasts.{Lasts}
-use Rattle.fish_rule.specs.Rule.{Rule}
 use Rattle.fish_rule.specs.LoadSteps.{after_load_settled}
-use Rattle.fish_rule.specs.World.{World, world}
-use Rattle.fish_rule.specs.declared.view.Key.{Key}
-use Rattle.fish_rule.specs.declared.view.View.{View}
+use Rattle.fish_rule.specs.World.{world}
 use Rattle.fish_rule.proofs.classes.Loads.{learn_lasts, still_chained}
-use Rattle.atomic_table.specs.Table.{Allows, step}
-use Rattle.fish_rule.proofs.classes.Allowed.{allowed, loaded_words, stands, there}
-use Rattle.fish_rule.specs.Table.{Ruled, Sat}
+use Rattle.fish_rule.proofs.classes.Allowed.{Allows, Ruled, Sat, allowed, loaded_words, stands, step, there}
 use Rattle.fish_rule.specs.Told.{ToldLoadSettled}
 
 module _ {k : Key} {w : World} (r : Rule k w) (id : ℕ) {v : View} (at : get_elem? w.views id ≡ some v) where

@@ -1,20 +1,14 @@
 -- `load_tail`: a load of the tail.
 use Rattle.std.proofs.Common.{◌≡◌, ℕ, ◌≤◌, [], set, sym, refl, subst, arith, get_or}
-use mathlib.Core.Option.{some, none}
-use Rattle.std.proofs.Math.ListN.{get_elem?}
+use Rattle.fish_rule.proofs.basics.Context.{Key, Rule, View, World, get_elem?, none, some}
 use Rattle.fish_rule.proofs.basics.Lasts.{Lasts}
 use Rattle.fish_rule.specs.Parts.{Rests}
 use Rattle.fish_rule.proofs.classes.OpensStay.{opens_begin}
-use Rattle.fish_rule.specs.Rule.{Rule}
 use Rattle.fish_rule.specs.LoadSteps.{after_load_tail}
-use Rattle.fish_rule.specs.World.{World, high, low, world}
-use Rattle.fish_rule.specs.declared.view.Key.{Key}
-use Rattle.fish_rule.specs.declared.view.View.{View}
+use Rattle.fish_rule.specs.World.{high, low, world}
 use Rattle.fish_rule.proofs.classes.Loads.{learn_lasts, still_chained}
-use Rattle.atomic_table.specs.Table.{Allows, step}
-use Rattle.fish_rule.specs.Table.{Ruled, Sat}
 use Rattle.fish_rule.specs.Told.{ToldLoadTail}
-use Rattle.fish_rule.proofs.classes.Allowed.{allowed, stands, there, loaded_words}
+use Rattle.fish_rule.proofs.classes.Allowed.{Allows, Ruled, Sat, allowed, loaded_words, stands, step, there}
 
 module _ {k : Key} {w : World} (r : Rule k w) (id : ℕ) {v : View} (at : get_elem? w.views id ≡ some v) where
   -- a load of the tail

@@ -2,8 +2,7 @@
 use Rattle.std.proofs.Common.{◌≡◌, ℕ, ◌<◌, ◌≤◌, suc, length, set, sym, refl, ap, ◌∙◌, subst, arith, Some, None, Option}
 use Rattle.std.proofs.Common.{get_or}
 use Rattle.std.proofs.Math.Decide.{ℕ_discrete}
-use mathlib.Core.Option.{some, none}
-use Rattle.std.proofs.Math.ListN.{get_elem?}
+use Rattle.fish_rule.proofs.basics.Context.{Epoch, Flight, Key, Rule, View, World, get_elem?, none, some}
 use Rattle.fish_layout.specs.Cleared.{choose}
 use Rattle.fish_rule.proofs.basics.Lists.{has_own}
 use Rattle.fish_rule.proofs.basics.RegistryWords.{endures_same}
@@ -13,17 +12,10 @@ use Rattle.fish_rule.specs.Boundaries.{Lists}
 use Rattle.fish_rule.specs.Epochs.{Carries, IsAtMost, confirmed, epoch_word}
 use Rattle.fish_rule.specs.Registry.{definitions_at, version_in}
 use Rattle.fish_rule.specs.Rounds.{IsSince}
-use Rattle.fish_rule.specs.Rule.{Rule}
-use Rattle.fish_rule.specs.World.{World, world}
-use Rattle.fish_rule.specs.declared.view.Epoch.{Epoch}
+use Rattle.fish_rule.specs.World.{world}
 use Rattle.fish_rule.specs.declared.view.Epoch.TheVariants.{Announced, Confirmed, Out}
-use Rattle.fish_rule.specs.declared.view.Flight.{Flight}
-use Rattle.fish_rule.specs.declared.view.Key.{Key}
-use Rattle.fish_rule.specs.declared.view.View.{View}
 use Rattle.fish_rule.proofs.classes.OwnEpoch.{moves_last}
-use Rattle.atomic_table.specs.Table.{Allows, step}
-use Rattle.fish_rule.proofs.classes.Allowed.{allowed, loaded_words, stands, there, word_at}
-use Rattle.fish_rule.specs.Table.{Ruled, Sat}
+use Rattle.fish_rule.proofs.classes.Allowed.{Allows, Ruled, Sat, allowed, loaded_words, stands, step, there, word_at}
 use Rattle.fish_rule.specs.Told.{ToldLoadVersion}
 
 -- a load of the version leaves the epoch's word

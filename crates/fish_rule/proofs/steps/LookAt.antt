@@ -1,8 +1,7 @@
 -- `look_at`: a load of a directory word.
 use Rattle.std.proofs.Common.{◌≡◌, ◌≢◌, ℕ, ◌+◌, ◌-◌, ◌*◌, ◌<◌, ◌≤◌, zero, suc, set, sym, refl, ap, ◌∙◌, subst, arith}
 use Rattle.std.proofs.Common.{Some, None, Option, get_or}
-use mathlib.Core.Option.{some, none}
-use Rattle.std.proofs.Math.ListN.{get_elem?}
+use Rattle.fish_rule.proofs.basics.Context.{Among, Flight, Found, Key, Kind, Rule, View, World, get_elem?, none, some}
 use Rattle.fish_rule.proofs.basics.Bodies.{tail_is, published}
 use Rattle.fish_rule.proofs.basics.Lists.{all_among, only_main}
 use Rattle.fish_rule.proofs.classes.OtherViews.{one_view}
@@ -11,23 +10,15 @@ use Rattle.fish_rule.specs.Parts.{Flies}
 use Rattle.fish_rule.proofs.classes.OpensStay.{opens_looked}
 use Rattle.fish_rule.specs.Facts.{IsFound}
 use Rattle.fish_rule.specs.Regions.{code, dir_word, kind_of}
-use Rattle.fish_rule.specs.Rule.{Rule}
 use Rattle.fish_rule.specs.LoadSteps.{CanLookAt, IsAlone, after_look_at, found_after, kind_told}
-use Rattle.fish_rule.specs.Views.{AllOf, Among, IsFlightOf}
-use Rattle.fish_rule.specs.World.{World, high, low, dir_at, slots, world}
-use Rattle.fish_rule.specs.declared.view.Flight.{Flight}
-use Rattle.fish_rule.specs.declared.view.Found.{Found}
-use Rattle.fish_rule.specs.declared.view.Key.{Key}
-use Rattle.fish_rule.specs.declared.view.Kind.{Kind}
+use Rattle.fish_rule.specs.Views.{AllOf, IsFlightOf}
+use Rattle.fish_rule.specs.World.{high, low, dir_at, slots, world}
 use Rattle.fish_rule.specs.declared.view.Kind.TheVariants.{Mark, Stored, Void}
-use Rattle.fish_rule.specs.declared.view.View.{View}
 use Rattle.fish_rule.proofs.classes.Loads.{learn_lasts, still_chained}
-use Rattle.atomic_table.specs.Table.{Allows, step}
 use Rattle.fish_rule.proofs.basics.Regions.{few_slots}
 use Rattle.fish_rule.proofs.basics.Worlds.{area-in}
-use Rattle.fish_rule.specs.Table.{Ruled, Sat, Told}
 use Rattle.fish_rule.specs.Told.{ToldLookAt, number_at}
-use Rattle.fish_rule.proofs.classes.Allowed.{allowed, stands, there, loaded_words}
+use Rattle.fish_rule.proofs.classes.Allowed.{Allows, Ruled, Sat, Told, allowed, loaded_words, stands, step, there}
 
 module _ {k : Key} {w : World} (r : Rule k w) (id : ℕ) {v : View} (at : get_elem? w.views id ≡ some v) where
   -- the kind that a published word tells is its region's

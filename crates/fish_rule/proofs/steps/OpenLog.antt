@@ -2,8 +2,8 @@
 use Rattle.std.proofs.Common.{◌≡◌, ℕ, ◌+◌, ◌-◌, ◌*◌, ◌<◌, ◌≤◌, zero, suc, List, [], ◌∷◌, slice_index, sym, refl, ap}
 use Rattle.std.proofs.Common.{◌∙◌, subst, inl, ⊎_elim, arith}
 use Rattle.std.proofs.Math.Decide.{dec_le, dec_lt}
-use Rattle.std.proofs.Math.ListN.{get_elem?}
-use mathlib.Core.Option.{some, some-injective, some-ne-none}
+use Rattle.fish_rule.proofs.basics.Context.{Epoch, Key, Rule, View, World, get_elem?, some}
+use mathlib.Core.Option.{some-injective, some-ne-none}
 use Rattle.atomic_table.specs.Table.{opening}
 use Rattle.fish_layout.specs.Cleared.{choose}
 use Rattle.fish_rule.proofs.basics.Bodies.{high-pack, low-pack, published}
@@ -15,18 +15,14 @@ use Rattle.fish_rule.specs.Chains.{Chained, IsLinking, IsStoredAt, Linked, Links
 use Rattle.fish_rule.specs.declared.view.Kind.TheVariants.{Stored}
 use Rattle.fish_rule.specs.Parts.{Fits, Flies, Limit, Regions, Rests, Space, first_head, quotas}
 use Rattle.fish_rule.specs.Facts.{AreOpens, Facts, Owns, ShutOk}
-use Rattle.fish_rule.specs.Rule.{Rule}
 use Rattle.fish_rule.specs.Start.{IsEmpty, IsOpening, empty_world}
 use Rattle.fish_rule.specs.Table.{Ruled, Stands, first_view}
 use Rattle.fish_rule.specs.Views.{AllOf, Each}
-use Rattle.fish_rule.specs.World.{World, area, dir_at, heads_at, high, log_at, log_size, low, registry_size, slots}
+use Rattle.fish_rule.specs.World.{area, dir_at, heads_at, high, log_at, log_size, low, registry_size, slots}
 use Rattle.fish_rule.specs.World.{world}
-use Rattle.fish_rule.specs.declared.view.Key.{Key}
-use Rattle.fish_rule.specs.declared.view.View.{View}
 use Rattle.fish_catalog.proofs.Listings.{listing_of_catalog}
 use Rattle.fish_catalog.specs.Listing.{IsListing}
 use Rattle.fish_rule.specs.Epochs.{Carries, Registry, Stays, Versions}
-use Rattle.fish_rule.specs.declared.view.Epoch.{Epoch}
 use Rattle.fish_rule.specs.declared.view.Epoch.TheVariants.{Out}
 
 -- where all words from an index on are 0, so is an area of them

@@ -2,8 +2,7 @@
 use Rattle.std.proofs.Common.{◌≡◌, ◌≢◌, ℕ, ◌+◌, ◌-◌, ◌<◌, ◌≤◌, suc, List, [], ◌∷◌, set, sym, refl, ap, ◌∙◌, subst}
 use Rattle.std.proofs.Common.{inl, inr, ◌⊎◌, ⊎_elim, arith, Some}
 use Rattle.std.proofs.Math.Decide.{ℕ_discrete}
-use mathlib.Core.Option.{some, none}
-use Rattle.std.proofs.Math.ListN.{get_elem?}
+use Rattle.fish_rule.proofs.basics.Context.{Among, Final, Flight, Key, Kind, Rule, View, World, get_elem?, none, some}
 use Rattle.fish_rule.proofs.basics.Lasts.{Kept}
 use Rattle.fish_rule.proofs.basics.Bodies.{code_once, mark-past, published}
 use Rattle.fish_rule.proofs.basics.Lists.{among_left, among_right, among_either, each_set, has_own, seats_kept}
@@ -17,17 +16,12 @@ use Rattle.fish_rule.specs.Parts.{InFlight}
 use Rattle.fish_rule.proofs.classes.OpensStay.{opens_later}
 use Rattle.fish_rule.specs.Facts.{Facts, IsFound, IsRecorded, IsStoredBy, Owns, ShutOk}
 use Rattle.fish_rule.specs.Regions.{code, dir_word, kind_of}
-use Rattle.fish_rule.specs.Rule.{Final, Rule}
 use Rattle.fish_rule.specs.SpaceSteps.{IsReady, learned_after, own_after, records_after, shut_after, CanPublishRegion}
 use Rattle.fish_rule.specs.SpaceSteps.{after_publish_region, flight_kind}
-use Rattle.fish_rule.specs.Views.{AllOf, Among, Has}
-use Rattle.fish_rule.specs.World.{World, body, high, put, dir_at, world}
-use Rattle.fish_rule.specs.declared.view.Flight.{Flight}
-use Rattle.fish_rule.specs.declared.view.Key.{Key}
-use Rattle.fish_rule.specs.declared.view.Kind.{Kind}
+use Rattle.fish_rule.specs.Views.{AllOf, Has}
+use Rattle.fish_rule.specs.World.{body, high, put, dir_at, world}
 use Rattle.fish_rule.specs.declared.view.Kind.TheVariants.{Mark, Stored, Void}
 use Rattle.fish_rule.specs.declared.view.Own.{Own}
-use Rattle.fish_rule.specs.declared.view.View.{View}
 use Rattle.fish_rule.specs.Epochs.{Keyed}
 use Rattle.fish_rule.specs.Keys.{IsKeyed}
 use Rattle.fish_rule.specs.Registry.{AreActiveAt, KnowsActive}

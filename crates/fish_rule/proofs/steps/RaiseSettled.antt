@@ -2,11 +2,9 @@
 use Rattle.std.proofs.Common.{◌≡◌, ◌≢◌, ℕ, ◌<◌, ◌≤◌, set, sym, refl, ◌∙◌, subst, ⊎_elim, arith}
 use Rattle.std.specs.Prelude.{max}
 use Rattle.std.proofs.Math.Decide.{dec_lt}
-use mathlib.Core.Option.{none, some}
-use Rattle.std.proofs.Math.ListN.{get_elem?}
-use Rattle.atomic_table.specs.Table.{Allows, step}
+use Rattle.fish_rule.proofs.basics.Context.{Among, Final, Found, Key, Rule, View, World, get_elem?, none, some}
 use Rattle.fish_rule.proofs.basics.Lasts.{Kept}
-use Rattle.fish_rule.proofs.classes.Allowed.{allowed, stands, there}
+use Rattle.fish_rule.proofs.classes.Allowed.{Allows, Ruled, Sat, allowed, stands, step, there}
 use Rattle.fish_rule.proofs.basics.Bodies.{code_once, published}
 use Rattle.fish_rule.proofs.basics.Lists.{all_among, each_set, seats_kept}
 use Rattle.fish_rule.proofs.classes.OtherViews.{final_still, limit_views, space_still, may_kept, registry_set}
@@ -16,16 +14,10 @@ use Rattle.fish_rule.proofs.classes.ChainsStay.{chains_set, links_set}
 use Rattle.fish_rule.proofs.basics.Worlds.{world-settled}
 use Rattle.fish_rule.specs.Parts.{IsEntryWord, Settled}
 use Rattle.fish_rule.specs.Facts.{IsFound}
-use Rattle.fish_rule.specs.Rule.{Final, Rule}
 use Rattle.fish_rule.specs.LoadSteps.{CanRaiseSettled, after_raise_settled}
-use Rattle.fish_rule.specs.Table.{Ruled, Sat}
 use Rattle.fish_rule.specs.Told.{ToldRaiseSettled}
-use Rattle.fish_rule.specs.Views.{Among}
-use Rattle.fish_rule.specs.World.{World, world}
-use Rattle.fish_rule.specs.declared.view.Found.{Found}
-use Rattle.fish_rule.specs.declared.view.Key.{Key}
+use Rattle.fish_rule.specs.World.{world}
 use Rattle.fish_rule.specs.declared.view.Kind.TheVariants.{Mark}
-use Rattle.fish_rule.specs.declared.view.View.{View}
 use Rattle.fish_rule.proofs.basics.RegistryWords.{endures_same}
 
 module _ {k : Key} {w : World} (r : Rule k w) (id : ℕ) {v : View} (at : get_elem? w.views id ≡ some v)

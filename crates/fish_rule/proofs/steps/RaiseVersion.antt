@@ -4,8 +4,7 @@ use Rattle.fish_rule.proofs.steps.VersionMade.{open_made, operation, up}
 use Rattle.std.proofs.Common.{◌≡◌, ◌≢◌, ℕ, ◌<◌, ◌≤◌, suc, List, [], ◌∷◌, length, set, sym, refl, ◌+◌, ap, ◌∙◌}
 use Rattle.std.proofs.Common.{subst, inl, inr, ⊎_elim, arith, Some, None}
 use Rattle.std.proofs.Math.Decide.{dec_le, dec_lt}
-use mathlib.Core.Option.{some, none}
-use Rattle.std.proofs.Math.ListN.{get_elem?}
+use Rattle.fish_rule.proofs.basics.Context.{Epoch, Key, Rule, View, World, get_elem?, none, some}
 use Rattle.fish_catalog.specs.declared.listed.Listed.{Listed}
 use Rattle.fish_layout.specs.Cleared.{choose}
 use Rattle.fish_rule.proofs.classes.BoundariesStay.{listed_later, lists_later, open_later, unended_later}
@@ -20,16 +19,10 @@ use Rattle.fish_rule.specs.RegistrySteps.{CanRaiseVersion, after_raise_version, 
 use Rattle.fish_rule.specs.Epochs.{IsAtMost, IsOwned, IsUnmade, Registry, Stays}
 use Rattle.fish_rule.specs.Registry.{definitions_at, epoch_at, made, op_at, row_at, version_in}
 use Rattle.fish_rule.specs.Rounds.{IsSince, Waits}
-use Rattle.fish_rule.specs.Rule.{Rule}
 use Rattle.fish_rule.specs.SpaceSteps.{ticked}
-use Rattle.fish_rule.specs.World.{World, put, world}
-use Rattle.fish_rule.specs.declared.view.Epoch.{Epoch}
+use Rattle.fish_rule.specs.World.{put, world}
 use Rattle.fish_rule.specs.declared.view.Epoch.TheVariants.{Announced, Confirmed, Out}
-use Rattle.fish_rule.specs.declared.view.Key.{Key}
-use Rattle.fish_rule.specs.declared.view.View.{View}
-use Rattle.atomic_table.specs.Table.{Allows, step}
-use Rattle.fish_rule.proofs.classes.Allowed.{allowed, stands, there}
-use Rattle.fish_rule.specs.Table.{Ruled, Sat}
+use Rattle.fish_rule.proofs.classes.Allowed.{Allows, Ruled, Sat, allowed, stands, step, there}
 use Rattle.fish_rule.specs.Told.{told_raise_version}
 
 -- what is at most a version is at most a later one

@@ -1,9 +1,7 @@
 -- `read_word`: a load of a word of a published region.
 use Rattle.std.proofs.Common.{◌≡◌, ℕ, ◌+◌, ◌-◌, ◌*◌, suc, get_or, set, sym, refl, ap, ◌∙◌, subst, arith}
-use mathlib.Core.Option.{none, some}
-use Rattle.std.proofs.Math.ListN.{get_elem?}
-use Rattle.atomic_table.specs.Table.{Allows, step}
-use Rattle.fish_rule.proofs.classes.Allowed.{allowed, loaded_words, stands, there}
+use Rattle.fish_rule.proofs.basics.Context.{Found, Key, Rule, View, World, get_elem?, none, some}
+use Rattle.fish_rule.proofs.classes.Allowed.{Allows, Ruled, Sat, Told, allowed, loaded_words, stands, step, there}
 use Rattle.fish_rule.proofs.basics.Bodies.{kind-inside}
 use Rattle.fish_rule.proofs.basics.Regions.{starts_above}
 use Rattle.fish_rule.proofs.basics.Lists.{all_among}
@@ -11,14 +9,9 @@ use Rattle.fish_rule.proofs.classes.Loads.{learn_lasts, still_chained}
 use Rattle.fish_rule.proofs.basics.Worlds.{area-in}
 use Rattle.fish_rule.proofs.basics.Lasts.{Lasts}
 use Rattle.fish_rule.specs.Facts.{Facts, IsFound}
-use Rattle.fish_rule.specs.Rule.{Rule}
 use Rattle.fish_rule.specs.LoadSteps.{CanReadWord, after_read_word}
-use Rattle.fish_rule.specs.Table.{Ruled, Sat, Told}
 use Rattle.fish_rule.specs.Told.{place_at, told_read_word}
-use Rattle.fish_rule.specs.World.{World, log_at, log_size, world}
-use Rattle.fish_rule.specs.declared.view.Found.{Found}
-use Rattle.fish_rule.specs.declared.view.Key.{Key}
-use Rattle.fish_rule.specs.declared.view.View.{View}
+use Rattle.fish_rule.specs.World.{log_at, log_size, world}
 use Rattle.fish_rule.proofs.basics.FoundRegions.{region_found, read_word_is}
 
 module _ {k : Key} {w : World} (r : Rule k w) (id : ℕ) {v : View} (at : get_elem? w.views id ≡ some v) (x : Found)

@@ -3,14 +3,12 @@ use Rattle.fish_rule.proofs.steps.SpliceKept.{splice_entry_lasts}
 use Rattle.std.proofs.Common.{◌≡◌, ◌≢◌, ℕ, ◌+◌, ◌-◌, ◌*◌, ◌<◌, get_or, set, sym, refl, ap, ◌∙◌, subst, ⊎_elim}
 use Rattle.std.proofs.Common.{arith, Some, eqb}
 use Rattle.std.proofs.Math.Decide.{ℕ_discrete}
-use mathlib.Core.Option.{none, some}
+use Rattle.fish_rule.proofs.basics.Context.{Flight, Key, Rule, View, World, get_elem?, none, some}
 use prog.Atomic.{either}
-use Rattle.std.proofs.Math.ListN.{get_elem?}
 use Rattle.atomic_table.proofs.Lists.{exchanged}
-use Rattle.atomic_table.specs.Table.{Allows, step}
 use Rattle.fish_layout.proofs.Clearing.{choose_first, choose_second}
 use Rattle.fish_layout.specs.Cleared.{choose}
-use Rattle.fish_rule.proofs.classes.Allowed.{allowed, loaded_words, stands, there}
+use Rattle.fish_rule.proofs.classes.Allowed.{Allows, Ruled, Sat, Told, allowed, loaded_words, stands, step, there}
 use Rattle.fish_rule.proofs.basics.Flights.{one_flight}
 use Rattle.fish_rule.proofs.basics.FirstHeads.{first_low, flight_from}
 use Rattle.fish_rule.proofs.steps.LoadPrevious.{previous_less, previous_rises, node_linked, place_within}
@@ -23,13 +21,8 @@ use Rattle.fish_rule.specs.ChainSteps.{CanAimEntry, CanSpliceEntry, HasNode, Pre
 use Rattle.fish_rule.specs.ChainSteps.{own_place, previous_seen, spliced}
 use Rattle.fish_rule.specs.SpaceSteps.{ticked}
 use Rattle.fish_rule.specs.Parts.{first_head}
-use Rattle.fish_rule.specs.Rule.{Rule}
-use Rattle.fish_rule.specs.Table.{Ruled, Sat, Told}
 use Rattle.fish_rule.specs.Told.{ToldSpliceEntry, place_at}
-use Rattle.fish_rule.specs.World.{World, log_at, log_size, world}
-use Rattle.fish_rule.specs.declared.view.Flight.{Flight}
-use Rattle.fish_rule.specs.declared.view.Key.{Key}
-use Rattle.fish_rule.specs.declared.view.View.{View}
+use Rattle.fish_rule.specs.World.{log_at, log_size, world}
 use Rattle.fish_rule.specs.Flying.{region_in}
 
 -- a splice leaves the key

@@ -1,7 +1,6 @@
 -- `split_pass` changes no word: a lane goes to a new pass, with its records and all that the control pass knew.
 use Rattle.std.proofs.Common.{◌∙◌, ap, ◌≡◌, ℕ, List, [], ◌∷◌, ◌++◌, set, sym, refl, subst, inr, ⊎_elim, arith, length}
-use mathlib.Core.Option.{some}
-use Rattle.std.proofs.Math.ListN.{get_elem?}
+use Rattle.fish_rule.proofs.basics.Context.{Final, Key, Learned, Rule, View, World, get_elem?, some}
 use Rattle.atomic_table.proofs.Lists.{at_longer, at_snoc, at_last, set_here}
 use Rattle.fish_rule.proofs.basics.Lasts.{Kept}
 use Rattle.fish_rule.proofs.basics.Lists.{each_set, each_snoc, pairs_set, within_list}
@@ -12,15 +11,10 @@ use Rattle.fish_rule.proofs.basics.Lanes.{pairs_snoc}
 use Rattle.fish_rule.proofs.classes.ChainsStay.{chains_views, linking_from, linking_own, linking_to, links_views}
 use Rattle.fish_rule.proofs.classes.FactsStay.{chained_later}
 use Rattle.fish_rule.specs.Chains.{Chained, IsLinking, LinksAt}
-use Rattle.fish_rule.specs.declared.view.Learned.{Learned}
 use Rattle.fish_rule.specs.Parts.{Limit, Seats}
 use Rattle.fish_rule.specs.Facts.{Owns}
-use Rattle.fish_rule.specs.Rule.{Final, Rule}
 use Rattle.fish_rule.specs.SeatSteps.{CanSplitPass, of_lane, split_left, split_right}
 use Rattle.fish_rule.specs.Views.{Each, Has, IsFlightOf}
-use Rattle.fish_rule.specs.World.{World}
-use Rattle.fish_rule.specs.declared.view.Key.{Key}
-use Rattle.fish_rule.specs.declared.view.View.{View}
 use Rattle.fish_rule.proofs.basics.RegistryWords.{endures_same}
 use Rattle.fish_rule.specs.Epochs.{Registry, Stays}
 use Rattle.fish_rule.specs.declared.view.Epoch.TheVariants.{Out}

@@ -1,7 +1,6 @@
 -- `store_from`: the control pass stores where the index of the row that waits begins.
 use Rattle.std.proofs.Common.{◌≡◌, ℕ, ◌<◌, ◌≤◌, suc, length, set, subst, arith, None, ◌-◌, sym, refl}
-use mathlib.Core.Option.{some, none}
-use Rattle.std.proofs.Math.ListN.{get_elem?}
+use Rattle.fish_rule.proofs.basics.Context.{Epoch, Key, Rule, View, World, get_elem?, none, some}
 use Rattle.fish_rule.proofs.classes.MainStores.{stores}
 use Rattle.fish_rule.proofs.basics.RegistryWords.{length_grows}
 use Rattle.fish_rule.proofs.basics.Lasts.{Lasts}
@@ -9,18 +8,12 @@ use Rattle.fish_rule.specs.Boundaries.{Lists}
 use Rattle.fish_rule.specs.BoundarySteps.{CanStoreFrom, after_store_from}
 use Rattle.fish_rule.specs.Registry.{definitions_at, row_at, version_in}
 use Rattle.fish_rule.specs.Rounds.{IsRound, IsSince, Waits}
-use Rattle.fish_rule.specs.Rule.{Rule}
-use Rattle.fish_rule.specs.World.{World, put, world}
-use Rattle.fish_rule.specs.declared.view.Epoch.{Epoch}
+use Rattle.fish_rule.specs.World.{put, world}
 use Rattle.fish_rule.specs.declared.view.Epoch.TheVariants.{Announced, Confirmed, Out}
-use Rattle.fish_rule.specs.declared.view.Key.{Key}
 use Rattle.fish_rule.specs.declared.view.Round.{Round}
-use Rattle.fish_rule.specs.declared.view.View.{View}
 use Rattle.fish_rule.proofs.classes.BoundaryStores.{place_far, place_away, set_boundaries, set_read}
-use Rattle.atomic_table.specs.Table.{Allows, step}
-use Rattle.fish_rule.proofs.classes.Allowed.{allowed, stands, there}
+use Rattle.fish_rule.proofs.classes.Allowed.{Allows, Ruled, Sat, Told, allowed, stands, step, there}
 use Rattle.fish_rule.proofs.basics.Worlds.{world-registry}
-use Rattle.fish_rule.specs.Table.{Ruled, Sat, Told}
 use Rattle.fish_rule.specs.Told.{told_store_from}
 
 module _ {k : Key} {w : World} (r : Rule k w) (id : ℕ) {v : View} (at : get_elem? w.views id ≡ some v) where

@@ -1,23 +1,17 @@
 -- `store_to`: the control pass stores where the index of an active row ends.
 use Rattle.std.proofs.Common.{◌≡◌, ℕ, ◌<◌, suc, length, set, sym, refl, ap, ◌∙◌, inr, arith, List, ◌-◌, subst}
 use Rattle.std.proofs.lemmas.Option.{slice_get_within}
-use mathlib.Core.Option.{some, none}
-use Rattle.std.proofs.Math.ListN.{get_elem?}
+use Rattle.fish_rule.proofs.basics.Context.{Key, Rule, View, World, get_elem?, none, some}
 use Rattle.fish_catalog.specs.declared.listed.Listed.{Listed}
 use Rattle.fish_rule.proofs.classes.BoundariesStay.{waits_later}
 use Rattle.fish_rule.proofs.classes.MainStores.{its, stores}
 use Rattle.fish_rule.proofs.basics.Lasts.{Lasts}
 use Rattle.fish_rule.specs.BoundarySteps.{CanStoreTo, after_store_to}
 use Rattle.fish_rule.specs.Registry.{definitions_at, row_at, version_in}
-use Rattle.fish_rule.specs.Rule.{Rule}
-use Rattle.fish_rule.specs.World.{World, put, world}
-use Rattle.fish_rule.specs.declared.view.Key.{Key}
-use Rattle.fish_rule.specs.declared.view.View.{View}
+use Rattle.fish_rule.specs.World.{put, world}
 use Rattle.fish_rule.proofs.classes.BoundaryStores.{place_far, place_away, set_endures, other_bound, set_boundaries, set_read}
-use Rattle.atomic_table.specs.Table.{Allows, step}
-use Rattle.fish_rule.proofs.classes.Allowed.{allowed, stands, there}
+use Rattle.fish_rule.proofs.classes.Allowed.{Allows, Ruled, Sat, Told, allowed, stands, step, there}
 use Rattle.fish_rule.proofs.basics.Worlds.{world-registry}
-use Rattle.fish_rule.specs.Table.{Ruled, Sat, Told}
 use Rattle.fish_rule.specs.Told.{told_store_to}
 
 module _ {k : Key} {w : World} (r : Rule k w) (id : ℕ) {v : View} (at : get_elem? w.views id ≡ some v) where

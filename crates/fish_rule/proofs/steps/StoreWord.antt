@@ -3,21 +3,16 @@ use Rattle.std.proofs.Common.{◌≡◌, ℕ, ◌+◌, ◌*◌, ◌<◌, suc, Li
 use Rattle.std.proofs.Common.{length-append, ◌-◌, ◌≤◌, refl, ◌∙◌}
 use Rattle.std.proofs.Math.Seq.{get_or-append_seam}
 use Rattle.std.proofs.lemmas.List.{get_or_append_left}
-use mathlib.Core.Option.{some, none}
-use Rattle.std.proofs.Math.ListN.{get_elem?}
+use Rattle.fish_rule.proofs.basics.Context.{Final, Flight, Key, Rule, View, World, get_elem?, none, some}
 use Rattle.fish_layout.specs.Cleared.{IsKeyWord}
 use Rattle.fish_layout.specs.Header.{keys_of}
 use Rattle.fish_rule.proofs.basics.Stores.{Becomes}
 use Rattle.fish_rule.proofs.classes.OwnWords.{write_kept, write_lasts}
 use Rattle.fish_rule.proofs.basics.Flights.{flight_is}
 use Rattle.fish_rule.specs.Regions.{kind_of}
-use Rattle.fish_rule.specs.Rule.{Final, Rule}
 use Rattle.fish_rule.specs.SpaceSteps.{CanStoreWord, after_store_word, ticked}
-use Rattle.fish_rule.specs.World.{World, body, put, log_at, world}
-use Rattle.fish_rule.specs.declared.view.Flight.{Flight}
-use Rattle.fish_rule.specs.declared.view.Key.{Key}
+use Rattle.fish_rule.specs.World.{body, put, log_at, world}
 use Rattle.fish_rule.specs.declared.view.Kind.TheVariants.{Void}
-use Rattle.fish_rule.specs.declared.view.View.{View}
 use Rattle.atomic_table.specs.Table.{Allows, step}
 use Rattle.fish_rule.proofs.basics.Regions.{starts_above}
 use Rattle.fish_rule.proofs.basics.Worlds.{world-log}

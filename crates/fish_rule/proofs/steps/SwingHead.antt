@@ -2,16 +2,14 @@
 use Rattle.std.proofs.Common.{◌≡◌, ◌≢◌, ℕ, ◌+◌, ◌-◌, ◌<◌, ◌≤◌, get_or, set, sym, refl, ap, ◌∙◌, subst, inl, inr, ◌⊎◌}
 use Rattle.std.proofs.Common.{⊎_elim, arith, eqb, Some}
 use Rattle.std.proofs.Math.Decide.{ℕ_discrete}
-use mathlib.Core.Option.{none, some}
+use Rattle.fish_rule.proofs.basics.Context.{Flight, Key, Rule, View, World, get_elem?, none, some}
 use prog.Atomic.{either}
-use Rattle.std.proofs.Math.ListN.{get_elem?}
 use Rattle.atomic_table.proofs.Lists.{exchanged}
-use Rattle.atomic_table.specs.Table.{Allows, step}
 use Rattle.fish_layout.proofs.Clearing.{choose_first, choose_second}
 use Rattle.fish_layout.specs.Bucket.{bucket_of}
 use Rattle.fish_layout.specs.Cleared.{body_of, choose, entry_at}
 use Rattle.fish_rule.proofs.steps.AimEntry.{becomes, own_room}
-use Rattle.fish_rule.proofs.classes.Allowed.{allowed, loaded_words, stands, there}
+use Rattle.fish_rule.proofs.classes.Allowed.{Allows, Ruled, Sat, Told, allowed, loaded_words, stands, step, there}
 use Rattle.fish_rule.proofs.basics.ChainOrder.{chain_same, chain_swung}
 use Rattle.fish_rule.proofs.basics.Flights.{one_flight, flight_is}
 use Rattle.fish_rule.proofs.basics.FirstHeads.{first_low, flight_from}
@@ -27,13 +25,8 @@ use Rattle.fish_rule.specs.ChainSteps.{swung}
 use Rattle.fish_rule.specs.Told.{ToldSwingHead, bucket_at}
 use Rattle.fish_rule.specs.Facts.{Facts}
 use Rattle.fish_rule.specs.Parts.{first_head}
-use Rattle.fish_rule.specs.Rule.{Rule}
 use Rattle.fish_rule.specs.SpaceSteps.{ticked}
-use Rattle.fish_rule.specs.Table.{Ruled, Sat, Told}
-use Rattle.fish_rule.specs.World.{World, heads_at, put, world}
-use Rattle.fish_rule.specs.declared.view.Flight.{Flight}
-use Rattle.fish_rule.specs.declared.view.Key.{Key}
-use Rattle.fish_rule.specs.declared.view.View.{View}
+use Rattle.fish_rule.specs.World.{heads_at, put, world}
 use Rattle.fish_rule.specs.Flying.{region_in}
 
 -- the place that the own entry is aimed at stands in the log

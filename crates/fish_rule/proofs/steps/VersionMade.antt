@@ -2,8 +2,7 @@
 use Rattle.std.proofs.Common.{◌≡◌, ◌≢◌, ℕ, ◌%◌, ◌<◌, ◌≤◌, suc, List, [], ◌∷◌, ◌++◌, length, sym, refl, ◌+◌, ap}
 use Rattle.std.proofs.Common.{◌∙◌, subst, inl, inr, ⊎_elim, arith, true, Some, slice_get}
 use Rattle.std.proofs.Math.Decide.{ℕ_discrete, dec_le, dec_lt}
-use mathlib.Core.Option.{some}
-use Rattle.std.proofs.Math.ListN.{get_elem?}
+use Rattle.fish_rule.proofs.basics.Context.{Key, Rule, View, World, get_elem?, some}
 use Rattle.fish_catalog.proofs.Changes.{push_cases}
 use Rattle.fish_catalog.proofs.Clamping.{mapped_from}
 use Rattle.fish_catalog.proofs.Listings.{listing_ended, listing_registered}
@@ -20,10 +19,7 @@ use Rattle.fish_rule.specs.RegistrySteps.{CanRaiseVersion, next_operation}
 use Rattle.fish_rule.specs.Epochs.{Versions}
 use Rattle.fish_rule.specs.Registry.{Endures, IsLasting, IsOperation, definitions_at, main_word, made, op_at, row_at}
 use Rattle.fish_rule.specs.Registry.{row_in, version_in}
-use Rattle.fish_rule.specs.Rule.{Rule}
-use Rattle.fish_rule.specs.World.{World, put}
-use Rattle.fish_rule.specs.declared.view.Key.{Key}
-use Rattle.fish_rule.specs.declared.view.View.{View}
+use Rattle.fish_rule.specs.World.{put}
 
 -- an operation makes a listing of a listing
 pub listing_made : (f : ℕ → ℕ) (x : ℕ) (ls : List Listed) → IsListing ls → IsOperation (row_in f (length ls)) ls x

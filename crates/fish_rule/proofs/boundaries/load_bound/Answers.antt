@@ -3,9 +3,8 @@ use Rattle.std.proofs.Common.{◌∙◌, sym, arith, ap, subst, ℕ, ◌<◌, �
 use Rattle.fish_rule.proofs.steps.LoadBound.{load_bound_allowed}
 use Rattle.fish_rule.specs.Flying.{region_in}
 use Rattle.fish_rule.specs.Parts.{Rests}
-use Rattle.fish_rule.specs.Passes.{view}
+use Rattle.fish_rule.proofs.basics.Context.{View, view}
 use Rattle.fish_rule.specs.Table.{Stands}
-use Rattle.fish_rule.specs.declared.view.View.{View}
 use Rattle.fish_rule.proofs.boundaries.load_bound.Goals as goal
 
 pub load-found-requires : goal.load-found-requires

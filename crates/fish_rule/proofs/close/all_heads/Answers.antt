@@ -1,16 +1,12 @@
 -- Each load gives one head more.
 use Rattle.std.proofs.Common.{◌≡◌, ◌∙◌, ◌*◌, ◌≤◌, ◌++◌, ◌∷◌, [], List, length, length-append, sym, ap, subst, ℕ, arith}
-use mathlib.Core.Option.{some}
-use Rattle.std.proofs.Math.ListN.{get_elem?}
+use Rattle.fish_rule.proofs.basics.Context.{Key, View, get_elem?, some, view}
 use Rattle.fish_rule.proofs.laws.Descents.{extends_head}
 use Rattle.fish_rule.proofs.laws.ReadsOn.{head_new, heads_more}
 use Rattle.fish_rule.proofs.laws.Learning.{extends_both}
 use Rattle.fish_rule.specs.ClosedLog.{HasHead}
 use Rattle.fish_rule.specs.Logs.{Extends}
 use Rattle.fish_rule.specs.Parts.{first_head}
-use Rattle.fish_rule.specs.Passes.{view}
-use Rattle.fish_rule.specs.declared.view.Key.{Key}
-use Rattle.fish_rule.specs.declared.view.View.{View}
 use Rattle.fish_rule.proofs.close.all_heads.Goals as goal
 
 pub returns-in_err-push-clause-extends : goal.returns-in_err-push-clause-extends

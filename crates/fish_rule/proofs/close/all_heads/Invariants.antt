@@ -1,10 +1,9 @@
 -- The heads so far are those of as many buckets, and nothing was settled meanwhile.
 use Rattle.std.proofs.Common.{◌≡◌, ℕ, length}
-use mathlib.Core.Option.{some}
-use Rattle.std.proofs.Math.ListN.{get_elem?}
+use Rattle.fish_rule.proofs.basics.Context.{get_elem?, some, view}
 use Rattle.fish_rule.specs.ClosedLog.{HasHead}
 use Rattle.fish_rule.specs.Logs.{Extends}
-use Rattle.fish_rule.specs.Passes.{IsPassOf, view}
+use Rattle.fish_rule.specs.Passes.{IsPassOf}
 use Rattle.fish_rule.proofs.close.all_heads.Given as goal
 
 abbrev pub invariant-loop-bucket : goal.invariant-loop-bucket

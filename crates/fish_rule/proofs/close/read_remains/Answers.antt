@@ -7,11 +7,9 @@ use Rattle.fish_rule.specs.ClosedLog.{AreHeads, ReadsOn}
 use Rattle.fish_rule.specs.LoadSteps.{after_load_tail}
 use Rattle.fish_rule.specs.Logs.{Extends}
 use Rattle.fish_rule.specs.Parts.{Rests}
-use Rattle.fish_rule.specs.Passes.{view}
+use Rattle.fish_rule.proofs.basics.Context.{Key, View, view}
 use Rattle.fish_rule.specs.World.{high, low}
-use Rattle.fish_rule.specs.declared.view.Key.{Key}
 use Rattle.fish_rule.specs.declared.view.Position.{Position}
-use Rattle.fish_rule.specs.declared.view.View.{View}
 use Rattle.fish_rule.proofs.close.read_remains.Goals as goal
 
 -- it reads on from the tail whose parts the load gave

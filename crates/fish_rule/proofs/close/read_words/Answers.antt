@@ -5,9 +5,8 @@ use Rattle.fish_rule.proofs.laws.ReadSoFar.{read_later, settles_read}
 use Rattle.fish_rule.proofs.laws.Learning.{extends_both, learns_both}
 use Rattle.std.proofs.lemmas.Result.{on_ok_weaker}
 use Rattle.fish_rule.specs.Logs.{Extends, Learns}
-use Rattle.fish_rule.specs.Passes.{view}
+use Rattle.fish_rule.proofs.basics.Context.{Key, view}
 use Rattle.fish_rule.specs.LoadSteps.{CanRaiseSettled}
-use Rattle.fish_rule.specs.declared.view.Key.{Key}
 use Rattle.fish_rule.proofs.close.read_words.Goals as goal
 
 pub raise_settled-requires-clause-view : goal.raise_settled-requires-clause-view

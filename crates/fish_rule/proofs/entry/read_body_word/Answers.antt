@@ -1,8 +1,7 @@
 -- The word may be read, since the header says that it is no first word of a key entry.
 use Rattle.std.proofs.Common.{sym, arith, subst, ℕ, ◌*◌, inr}
 use Rattle.fish_layout.specs.Cleared.{IsKeyWord}
-use Rattle.fish_rule.specs.Passes.{view}
-use Rattle.fish_rule.specs.Views.{Among}
+use Rattle.fish_rule.proofs.basics.Context.{Among, view}
 use Rattle.fish_rule.proofs.entry.read_body_word.Goals as goal
 use Rattle.fish_rule.proofs.entry.read_body_word.Goals.{else-offset-keys-via-then-offset-keys+else-offset-eq1}
 use Rattle.fish_rule.proofs.entry.read_body_word.Goals.{else-offset-keys-via-else-offset-keys}

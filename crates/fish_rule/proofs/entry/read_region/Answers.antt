@@ -9,10 +9,8 @@ use Rattle.fish_layout.specs.Header.{keys_of}
 use Rattle.fish_rule.proofs.laws.Learning.{extends_both, extends_to_read, read_here}
 use Rattle.fish_rule.proofs.laws.Steps.{found_law, header_law}
 use Rattle.fish_rule.proofs.basics.RegionWords.{AreRead, head_read, head_stays, read_behind, read_more}
-use Rattle.fish_rule.specs.Passes.{view}
+use Rattle.fish_rule.proofs.basics.Context.{Among, View, view}
 use Rattle.fish_rule.specs.Logs.{IsWordTold}
-use Rattle.fish_rule.specs.Views.{Among}
-use Rattle.fish_rule.specs.declared.view.View.{View}
 use Rattle.fish_rule.proofs.entry.read_region.Goals as goal
 
 -- a word that was told is known, unless it is the first of a key entry

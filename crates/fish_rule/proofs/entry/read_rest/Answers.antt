@@ -2,9 +2,7 @@
 use Rattle.std.proofs.Common.{◌≡◌, ℕ, ◌+◌, ◌-◌, ◌*◌, suc, List, sym, ap, ◌∙◌, subst, arith}
 use Rattle.fish_rule.proofs.laws.Learning.{extends_both, extends_to_read, read_here}
 use Rattle.fish_rule.proofs.basics.RegionWords.{AreMore, can_read_later, more_one}
-use Rattle.fish_rule.specs.Passes.{view}
-use Rattle.fish_rule.specs.Views.{Among}
-use Rattle.fish_rule.specs.declared.view.View.{View}
+use Rattle.fish_rule.proofs.basics.Context.{Among, View, view}
 use Rattle.fish_rule.proofs.entry.read_rest.Goals as goal
 
 pub read_word-requires-clause-view : goal.read_word-requires-clause-view

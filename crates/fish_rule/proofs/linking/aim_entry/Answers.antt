@@ -1,46 +1,31 @@
 -- The own entry is within the log, and the table allows the store.
-use Rattle.std.proofs.Common.{◌≡◌, ◌∙◌, sym, refl, ap, arith, subst, ℕ, ◌<◌, ◌+◌, ◌-◌, ◌*◌}
+use Rattle.std.proofs.Common.{◌≡◌, ◌∙◌, sym, refl, ap, arith, ℕ, ◌+◌, ◌-◌, ◌*◌}
 use Rattle.fish_rule.proofs.basics.Passes.{pass_still}
 use Rattle.fish_rule.proofs.laws.Links.{aim_law}
 use Rattle.fish_rule.proofs.steps.AimEntry.{region_aim, aim_entry_allowed}
 use Rattle.fish_rule.specs.Flying.{region_in}
 use Rattle.fish_rule.specs.ChainSteps.{own_place}
-use Rattle.fish_rule.specs.Passes.{view}
+use Rattle.fish_rule.proofs.basics.Context.{Flight, View, view}
 use Rattle.fish_rule.specs.World.{log_at}
-use Rattle.fish_rule.specs.declared.view.Flight.{Flight}
-use Rattle.fish_rule.specs.declared.view.View.{View}
 use Rattle.fish_rule.proofs.linking.aim_entry.Goals as goal
 
-pub overflow_sub-index : goal.overflow_sub-index
-overflow_sub-index c = (let f : Flight = c.requires.view.0 in
-    let law = aim_law c.args.log.now.key
-    (view c.args.pass.now) f c.requires.pass.about c.requires.pass.stands c.requires.view.1 in
-    let place : c.args.place ≡ own_place f = c.requires.view.2 in omega arith)
-
-pub overflow_add-index : goal.overflow_add-index
-overflow_add-index c =
+pub word_index-index-requires : goal.word_index-index-requires
+word_index-index-requires c =
     let f : Flight = c.requires.view.0 in
     let law = aim_law c.args.log.now.key
     (view c.args.pass.now) f c.requires.pass.about c.requires.pass.stands c.requires.view.1 in
     let place : c.args.place ≡ own_place f = c.requires.view.2 in
-    let fits = c.args.log.now.fits in
-    let at = c.log_at.ensures in
-    omega arith
+    (omega (arith, law.0), omega (arith, law.1))
 
 pub store-requires : goal.store-requires
 store-requires c =
     let log = c.args.log.now in
-    let seat = c.args.pass.now.seat in
-    let f : Flight = c.requires.view.0 in
-    let law = aim_law log.key (view c.args.pass.now) f c.requires.pass.about c.requires.pass.stands c.requires.view.1 in
-    let is : c.args.place ≡ own_place f = c.requires.view.2 in
-    let at = c.log_at.ensures in
-    let place : ℕ = c.args.place - log.key.line * 4 in (
+    let seat = c.args.pass.now.seat in (
       c.requires.pass.table,
-      subst (λ (z : ℕ). c.log_at.result + place < z) (sym log.wide) (omega arith),
-      aim_entry_allowed log.table.shared.key log.key log.keyed log.table.shared.table_id.slots seat.id seat.me f _
-          c.args.previous c.requires.pass.about c.requires.view.1
-          (ap (λ (z : ℕ). z + place) at ∙ ap (λ (z : ℕ). log_at log.key + (z - log.key.line * 4)) is),
+      c.word_index-index.ensures.within,
+      aim_entry_allowed log.table.shared.key log.key log.keyed log.table.shared.table_id.slots seat.id seat.me
+          c.requires.view.0 _ c.args.previous c.requires.pass.about c.requires.view.1
+          (c.word_index-index.ensures.is ∙ ap (λ (z : ℕ). log_at log.key + (z - log.key.line * 4)) c.requires.view.2),
     )
 
 pub invariant_of-pass : goal.invariant_of-pass

@@ -3,9 +3,8 @@ use Rattle.std.proofs.Common.{◌≡◌, sym, refl, arith, subst, ℕ, ◌*◌, 
 use Rattle.fish_rule.specs.ChainSteps.{HeadRises}
 use Rattle.fish_rule.specs.Told.{bucket_at}
 use Rattle.fish_rule.specs.Parts.{first_head}
-use Rattle.fish_rule.specs.Passes.{view}
+use Rattle.fish_rule.proofs.basics.Context.{Key, view}
 use Rattle.fish_rule.specs.World.{heads_at}
-use Rattle.fish_rule.specs.declared.view.Key.{Key}
 use Rattle.fish_rule.proofs.steps.LoadHead.{load_head_allowed}
 use Rattle.fish_rule.proofs.linking.load_head.Goals as goal
 

@@ -5,11 +5,8 @@ use Rattle.fish_rule.proofs.steps.SwingHead.{region_swing, swing_about, swing_la
 use Rattle.fish_rule.specs.Flying.{region_in}
 use Rattle.fish_rule.specs.ChainSteps.{HeadRises, after_swing_head}
 use Rattle.fish_rule.specs.Told.{bucket_at}
-use Rattle.fish_rule.specs.Passes.{view}
+use Rattle.fish_rule.proofs.basics.Context.{Flight, Key, View, view}
 use Rattle.fish_rule.specs.World.{heads_at}
-use Rattle.fish_rule.specs.declared.view.Flight.{Flight}
-use Rattle.fish_rule.specs.declared.view.Key.{Key}
-use Rattle.fish_rule.specs.declared.view.View.{View}
 use Rattle.fish_rule.proofs.linking.swing_head.Goals as goal
 
 pub compare_exchange-requires : goal.compare_exchange-requires

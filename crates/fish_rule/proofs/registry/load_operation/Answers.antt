@@ -1,9 +1,8 @@
 -- The operation's word lasts.
 use Rattle.std.proofs.Common.{◌≡◌, ◌∙◌, ℕ, ◌+◌, ◌-◌, ◌<◌, ap, arith, inl, inr, subst, sym}
 use Rattle.fish_rule.specs.RegistrySteps.{after_load_registry}
-use Rattle.fish_rule.specs.Passes.{view}
+use Rattle.fish_rule.proofs.basics.Context.{Key, view}
 use Rattle.fish_rule.specs.Registry.{op_at}
-use Rattle.fish_rule.specs.declared.view.Key.{Key}
 use Rattle.fish_rule.proofs.registry.load_operation.Goals as goal
 
 pub load_registry-requires-clause-view : goal.load_registry-requires-clause-view

@@ -7,8 +7,7 @@ use Rattle.fish_rule.specs.Logs.{Learns}
 use Rattle.fish_rule.specs.SeatSteps.{join_both}
 use Rattle.fish_rule.specs.Table.{Sat}
 use Rattle.fish_rule.specs.Told.{ToldLoadTail}
-use Rattle.fish_rule.specs.declared.view.Key.{Key}
-use Rattle.fish_rule.specs.declared.view.View.{View}
+use Rattle.fish_rule.proofs.basics.Context.{Key, View}
 use Rattle.atomic_table.specs.Table.{Step}
 use Rattle.fish_rule.proofs.seats.join_pass.Goals as goal
 

@@ -2,16 +2,14 @@
 use Rattle.std.proofs.Common.{◌≡◌, ◌∙◌, sym, ap, arith, subst, ℕ, ◌<◌, ◌≤◌, ◌+◌, ◌-◌}
 use Rattle.fish_rule.proofs.steps.PublishRegion.{publish_region_allowed}
 use Rattle.fish_rule.proofs.laws.Steps.{flight_law}
-use Rattle.fish_rule.specs.Passes.{IsPassOf, view}
+use Rattle.fish_rule.proofs.basics.Context.{Flight, Key, Kind, view}
+use Rattle.fish_rule.specs.Passes.{IsPassOf}
 use Rattle.fish_rule.specs.Regions.{dir_word, kind_of}
 use Rattle.fish_rule.specs.SpaceSteps.{CanPublishRegion, flight_kind}
 use Rattle.fish_rule.specs.World.{dir_at, slots}
 use Rattle.fish_rule.specs.declared.table.Log.{Log}
 use Rattle.fish_rule.specs.declared.table.Pass.{Pass}
 use Rattle.fish_rule.specs.declared.table.Region.{Region}
-use Rattle.fish_rule.specs.declared.view.Flight.{Flight}
-use Rattle.fish_rule.specs.declared.view.Key.{Key}
-use Rattle.fish_rule.specs.declared.view.Kind.{Kind}
 use Rattle.fish_rule.proofs.space.publish_region.Goals as goal
 
 -- the region handed in is that of the record in flight

@@ -4,14 +4,12 @@ use Rattle.fish_rule.proofs.basics.Passes.{pass_still}
 use Rattle.fish_rule.proofs.steps.StoreWord.{store_word_allowed}
 use Rattle.fish_rule.proofs.laws.Steps.{flight_law}
 use Rattle.fish_rule.specs.Flying.{region_in}
-use Rattle.fish_rule.specs.Passes.{IsPassOf, view}
+use Rattle.fish_rule.proofs.basics.Context.{Flight, Key, View, view}
+use Rattle.fish_rule.specs.Passes.{IsPassOf}
 use Rattle.fish_rule.specs.SpaceSteps.{CanStoreWord}
 use Rattle.fish_rule.specs.World.{log_at}
 use Rattle.fish_rule.specs.declared.table.Log.{Log}
 use Rattle.fish_rule.specs.declared.table.Pass.{Pass}
-use Rattle.fish_rule.specs.declared.view.Flight.{Flight}
-use Rattle.fish_rule.specs.declared.view.Key.{Key}
-use Rattle.fish_rule.specs.declared.view.View.{View}
 use Rattle.fish_rule.proofs.space.store_at.Goals as goal
 
 -- the index is that of a word of the region in flight, which is within the table

@@ -4,14 +4,12 @@ use Rattle.fish_rule.proofs.basics.Passes.{pass_still}
 use Rattle.fish_rule.proofs.steps.StoreWord.{store_word_allowed}
 use Rattle.fish_rule.proofs.laws.Steps.{flight_law}
 use Rattle.fish_rule.specs.Flying.{region_in}
-use Rattle.fish_rule.specs.Passes.{IsPassOf, view}
+use Rattle.fish_rule.proofs.basics.Context.{Flight, Key, View, view}
+use Rattle.fish_rule.specs.Passes.{IsPassOf}
 use Rattle.fish_rule.specs.SpaceSteps.{CanStoreWord}
 use Rattle.fish_rule.specs.World.{log_at}
 use Rattle.fish_rule.specs.declared.table.Log.{Log}
 use Rattle.fish_rule.specs.declared.table.Pass.{Pass}
-use Rattle.fish_rule.specs.declared.view.Flight.{Flight}
-use Rattle.fish_rule.specs.declared.view.Key.{Key}
-use Rattle.fish_rule.specs.declared.view.View.{View}
 use Rattle.fish_rule.proofs.space.store_word.Goals as goal
 
 -- the place is behind the table's first line and within the log
@@ -30,24 +28,20 @@ within log pass line offset of may =
     let end : f.line + f.lines ≤ log.key.end = subst (λ (z : Key). f.line + f.lines ≤ z.end) of.about may.1.within in
     record { behind = subst (λ (z : ℕ). log.key.line ≤ z) same law.behind; end = omega arith }
 
-pub overflow_sub-index : goal.overflow_sub-index
-overflow_sub-index c = (let h = within _ _ _ _ c.requires.pass c.requires.view in let behind = h.behind in omega arith)
+pub word_index-index-requires : goal.word_index-index-requires
+word_index-index-requires c = (let h = within _ _ _ _ c.requires.pass c.requires.view in let behind = h.behind in
+    (omega arith, h.end))
 
 pub store-requires : goal.store-requires
 store-requires c =
     let log = c.args.log.now in
-    let seat = c.args.pass.now.seat in
-    let h = within _ _ _ _ c.requires.pass c.requires.view in
-    let behind = h.behind in
-    let end = h.end in
-    let at = c.log_at.ensures in
-    let place : ℕ = c.args.region.now.line * 4 + c.args.offset - log.key.line * 4 in (
+    let seat = c.args.pass.now.seat in (
       c.requires.pass.table,
-      subst (λ (z : ℕ). c.log_at.result + place < z) (sym log.wide) (omega arith),
+      c.word_index-index.ensures.within,
       store_word_allowed log.table.shared.key log.key log.keyed log.table.shared.table_id.slots seat.id seat.me
           c.requires.view.0 _ c.args.word c.requires.pass.about c.requires.view.1
-          (ap (λ (z : ℕ). z + place) at ∙ ap (λ (z : ℕ × ℕ). log_at log.key +
-          (z.0 * 4 + z.1 - log.key.line * 4)) (λ i. (sym c.requires.view.2 i, sym c.requires.view.3 i))),
+          (c.word_index-index.ensures.is ∙ ap (λ (z : ℕ × ℕ). log_at log.key + (z.0 * 4 + z.1 - log.key.line * 4))
+          (λ i. (sym c.requires.view.2 i, sym c.requires.view.3 i))),
     )
 
 pub invariant_of-pass : goal.invariant_of-pass
