@@ -1,5 +1,5 @@
 -- Which words of a record a pass may read to compare a value, and what they say.
-use Rattle.std.proofs.Common.{◌≡◌, ◌≢◌, ℕ, ◌+◌, ◌-◌, ◌*◌, ◌/◌, ◌<◌, ◌≤◌, zero, suc, List, length, sym, refl, ap, ◌∙◌}
+use Rattle.std.proofs.Common.{◌≡◌, ◌≢◌, ℕ, ◌+◌, ◌*◌, ◌/◌, ◌<◌, ◌≤◌, zero, suc, List, length, sym, refl, ap, ◌∙◌}
 use Rattle.std.proofs.Common.{subst, ◌⊎◌, ⊎_elim, inl, inr, arith, take}
 use Rattle.fish_chain.proofs.Values.{IsEntryAt, bytes_said, entry_given, said_bytes, said_size}
 use Rattle.fish_chain.specs.Values.{AreBytesIn, HasBytes, IsGiven, IsWordIn, SaysBytes, words_in}

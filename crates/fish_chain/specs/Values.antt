@@ -1,5 +1,5 @@
 -- Which value a key entry has, by the words of its record.
-use Rattle.std.specs.Prelude.{ℕ, ◌≡◌, ◌≢◌, ◌+◌, ◌*◌, ◌/◌, ◌%◌, ◌^◌, ◌<◌, ◌≤◌, List, Some, length, slice_get, slice_index}
+use Rattle.std.specs.Prelude.{ℕ, ◌≡◌, ◌≢◌, ◌+◌, ◌*◌, ◌/◌, ◌%◌, ◌^◌, ◌<◌, ◌≤◌, List, Some, slice_get, slice_index}
 use Rattle.std.specs.Int.{to_le_bytes}
 use Rattle.std.specs.Int.Width.{w64}
 use Rattle.fish_chain.specs.declared.walk.Node.{Node}

@@ -13,12 +13,12 @@ use Rattle.fish_lanes.proofs.Plans.{plans_later}
 use Rattle.fish_lanes.proofs.Registrations.{registry_later}
 use Rattle.fish_lanes.proofs.RowLists.{has_above, owned_number, told_later}
 use Rattle.fish_lanes.proofs.Surely.{own_before, sure_later, will_rows}
-use Rattle.fish_lanes.specs.Blocks.{AreDone, AreEnded, AreJoined, AreKept, AreSeated, At, HasGiven, HasRunFirst}
+use Rattle.fish_lanes.specs.Blocks.{AreEnded, AreJoined, AreKept, At}
 use Rattle.fish_lanes.specs.Outcome.{AreVacant, IsFullIn}
-use Rattle.fish_lanes.specs.Blocks.{HasTakenAll, IsBlockSpan, IsMarkItem, IsOfLane, IsSeated, IsShutOfLane, NameMarks}
+use Rattle.fish_lanes.specs.Blocks.{IsBlockSpan, IsMarkItem, IsOfLane, IsSeated, IsShutOfLane, NameMarks}
 use Rattle.fish_lanes.specs.Outcome.{LanesSayPlans}
 use Rattle.fish_lanes.specs.Blocks.{TellsFirst}
-use Rattle.fish_lanes.specs.Blocks.{TellsOthers, WereTaken}
+use Rattle.fish_lanes.specs.Blocks.{TellsOthers}
 use Rattle.fish_lanes.specs.Closing.{Later, Sure, Will}
 use Rattle.fish_lanes.specs.Course.{AllBack, AllRan, HasFoundEnd}
 use Rattle.fish_lanes.specs.Ending.{HasEnd}
@@ -55,7 +55,6 @@ use Rattle.fish_rule.specs.declared.view.Key.{Key}
 use Rattle.fish_rule.specs.declared.view.Learned.{Learned}
 use Rattle.fish_rule.specs.declared.view.Own.{Own}
 use Rattle.fish_rule.specs.declared.view.View.{View}
-use Rattle.fish_walk.specs.Settling.{EndsAt, HasTail}
 
 module _ {log : Log} {v w : View} {r q : Registrar} {first first' : Lane} {before done : List Lane}
     (run : AllRan log v w r q first first' before done) where

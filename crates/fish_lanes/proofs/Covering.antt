@@ -21,10 +21,10 @@ use Rattle.fish_plan.proofs.Inside.{held_is_indexed, index_inside, piece_within}
 use Rattle.fish_plan.proofs.Walks.{some_above}
 use Rattle.fish_plan.specs.Cover.{IsCover, IsRight}
 use Rattle.fish_plan.specs.Gaps.{IsFirstGap}
-use Rattle.fish_plan.specs.Intervals.{Holds, IsBelowEnd, IsHeld}
+use Rattle.fish_plan.specs.Intervals.{IsBelowEnd, IsHeld}
 use Rattle.fish_plan.specs.declared.pieces.Piece.{Piece}
 use Rattle.fish_plan.specs.declared.pieces.Piece.TheVariants.{Full, Index}
-use Rattle.fish_registry.specs.Knowing.{HasBegunBy, Knows}
+use Rattle.fish_registry.specs.Knowing.{Knows}
 use Rattle.fish_registry.specs.declared.registrar.Registrar.{Registrar}
 use Rattle.fish_rule.proofs.laws.Lists.{all_among}
 use Rattle.fish_rule.proofs.laws.Versions.{texts_law}

@@ -1,5 +1,5 @@
 -- What the items of statements that change no definition say of plans.
-use Rattle.std.proofs.Common.{◌≡◌, ℕ, ◌≤◌, List, [], ◌∷◌, ◌++◌, length, refl, sym, ap, ◌∙◌, subst, arith}
+use Rattle.std.proofs.Common.{◌≡◌, List, [], ◌∷◌, ◌++◌, length, refl, sym, ap, ◌∙◌, subst, arith}
 use Rattle.fish_lanes.proofs.Controls.{after_more, free_after, plans_on}
 use Rattle.fish_lanes.proofs.Covering.{read_later}
 use Rattle.fish_lanes.proofs.Plans.{fit_so, plans_longer, plans_more}

@@ -1,6 +1,6 @@
 -- What a block of one lane tells besides, and one statement that is all of it.
 use Rattle.std.proofs.Common.{◌≡◌, ℕ, ◌<◌, ◌≤◌, List, [], ◌∷◌, ◌++◌, length, refl, sym, ap, ◌∙◌, subst, inl, inr}
-use Rattle.std.proofs.Common.{⊎_elim, arith, append-nil, map, slice_get, Option, Some, None, Result, Ok, Err}
+use Rattle.std.proofs.Common.{⊎_elim, arith, append-nil, map, slice_get, Option, None, Result, Ok, Err}
 use Rattle.std.specs.Prelude.{IfOk}
 use Rattle.std.proofs.Math.Decide.{dec_lt}
 use Rattle.fish_catalog.specs.Listing.{listed_of}
@@ -13,7 +13,6 @@ use Rattle.fish_lanes.proofs.Covering.{cover_by}
 use Rattle.fish_lanes.specs.Controlling.{TellsTail}
 use Rattle.fish_lanes.specs.Doing.{FitsExplained, FitsRefused, FitsScanned, IsFit, IsRefusedAt}
 use Rattle.fish_lanes.specs.Ending.{HasEnd}
-use Rattle.fish_lanes.specs.Gains.{Gains}
 use Rattle.fish_lanes.specs.Loading.{LoadsWithin}
 use Rattle.fish_lanes.specs.Plans.{AreBoundsIn, AreReadBounds}
 use Rattle.fish_lanes.specs.Registering.{IsDeregisterItem, KnowsRegistry, Registry}
@@ -34,7 +33,7 @@ use Rattle.fish_report.specs.declared.item.ScanCause.TheVariants as cause
 use Rattle.fish_registry.proofs.Changing.{learns_changes}
 use Rattle.fish_registry.specs.Changing.{Changes, IsAtTail}
 use Rattle.fish_rule.proofs.laws.Alone.{no_mark}
-use Rattle.fish_rule.proofs.laws.Learning.{learns_both, learns_self}
+use Rattle.fish_rule.proofs.laws.Learning.{learns_both}
 use Rattle.fish_rule.specs.Logs.{Learns, TellsMark}
 use Rattle.fish_rule.specs.LoadSteps.{IsAlone}
 use Rattle.fish_rule.proofs.laws.Versions.{has_read}

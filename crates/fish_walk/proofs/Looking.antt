@@ -1,5 +1,5 @@
 -- What loads and looks tell, one after the other.
-use Rattle.std.proofs.Common.{◌≡◌, ◌≢◌, ℕ, ◌+◌, ◌<◌, ◌≤◌, zero, suc, List, [], ◌∷◌, ◌++◌, ◌∙◌, ◌⊎◌}
+use Rattle.std.proofs.Common.{◌≡◌, ◌≢◌, ℕ, ◌+◌, ◌<◌, ◌≤◌, zero, suc, List, [], ◌∷◌, ◌∙◌, ◌⊎◌}
 use Rattle.fish_rule.proofs.laws.Lists.{among_either}
 use Rattle.fish_layout.specs.Cleared.{choose}
 use Rattle.std.proofs.Common.{refl, sym, ap, subst, ⊎_elim, inl, inr, arith}

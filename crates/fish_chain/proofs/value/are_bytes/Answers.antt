@@ -1,5 +1,5 @@
 -- Each turn loads the word in which the next byte lies, and compares all bytes that lie in it.
-use Rattle.std.proofs.Common.{◌≡◌, ℕ, ◌+◌, ◌-◌, ◌%◌, ◌⊎◌, ⊎_elim, inr, subst, arith, length}
+use Rattle.std.proofs.Common.{◌≡◌, ℕ, ◌+◌, ◌%◌, ⊎_elim, inr, subst, arith, length}
 use Rattle.fish_chain.proofs.Comparing.{read_within}
 use Rattle.fish_chain.proofs.Values.{bytes_more, bytes_none}
 use Rattle.fish_rule.proofs.laws.Learning.{extends_both}

@@ -1,5 +1,5 @@
 -- The passes go out, and come back.
-use Rattle.std.proofs.Common.{◌≡◌, ◌∙◌, ap, arith, get_or, length, Some, slice_get, sym}
+use Rattle.std.proofs.Common.{◌≡◌, ◌∙◌, ap, arith, get_or, Some, slice_get}
 use Rattle.std.proofs.lemmas.Option.{slice_get-get_or}
 use Rattle.fish_lanes.proofs.Course.{may_join}
 use Rattle.fish_lanes.proofs.Ends.{given_known, given_knows, taken_knows, taken_start}
