@@ -198,7 +198,8 @@ module _ {log : Log} {v w : View} {r q : Registrar} {first first' : Lane} {befor
     alone = record { main = returned.takes.main; all = none_out w u done returned.takes; idle = returned.takes.idle }
 
     start_learns : Learns v w
-    start_learns = learns_both v run.main w (learns_same v run.main run.gives.about run.gives.learned) run.first_did.controlled.run.gains.on.learns
+    start_learns = learns_both v run.main w (learns_same v run.main run.gives.about run.gives.learned)
+        run.first_did.controlled.run.gains.on.learns
 
     end_learns : Learns w t
     end_learns = learns_both w u t returned.takes.learns closes.learns
@@ -268,8 +269,8 @@ module _ {log : Log} {v w : View} {r q : Registrar} {first first' : Lane} {befor
     first_plans from end =
         let low = end.settled in
         let same : run.main.learned.settled ≡ v.learned.settled = ap (λ (z : Learned). z.settled) run.gives.learned in
-        let said = run.first_did.controlled.plans kept.catalog from (bounds_before w t kept.catalog end_learns (bounds_in t kept stands knows))
-        (omega arith) in
+        let said = run.first_did.controlled.plans kept.catalog from
+        (bounds_before w t kept.catalog end_learns (bounds_in t kept stands knows)) (omega arith) in
         subst (λ (z : Registry × List Work). AreSoPlans t z.0 kept.catalog from z.1 first'.items)
         (λ j. (given_registry v run.main r run.gives.learned j, sym run.first_did.works j))
         (plans_later w t (registry_of run.main r) kept.catalog from first.works first'.items end_learns said)
@@ -360,7 +361,8 @@ module _ {log : Log} {v w : View} {r q : Registrar} {first first' : Lane} {befor
       gained = λ o n. ⊎_elim (λ (k : Among o v.own). inl k)
           (λ (k : (HasNumber o.number run.first_did.controlled.run.rows × (o.lane ≡ 1)) ⊎ IsOfLane done (length done) o).
           ⊎_elim (λ (q : HasNumber o.number run.first_did.controlled.run.rows × (o.lane ≡ 1)).
-          let up = has_above o.number run.main.learned.count w.learned.count run.first_did.controlled.run.rows run.first_did.controlled.run.gains.ascends q.0 in
+          let did = run.first_did.controlled.run in
+          let up = has_above o.number run.main.learned.count w.learned.count did.rows did.gains.ascends q.0 in
           let same : run.main.learned.count ≡ v.learned.count = ap (λ (z : Learned). z.count) run.gives.learned in
           inr (omega arith)) (λ (q : IsOfLane done (length done) o). of_lane o q) k) (own_cases o n);
     }
