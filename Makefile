@@ -1,5 +1,7 @@
 # FishStore, with the Rattle kit's `rt` on the path.
 PREFIX ?= /usr/local
+# How many crates are proved at once, and how many processors work on one that is proved alone. A proof takes 1 to 4 GB.
+JOBS ?= $(shell n=$$(nproc); [ $$n -lt 4 ] && echo $$n || echo 4)
 PROGRAM = crates/fishstore/out/fishstore
 EXAMPLE = examples/events
 CRATES = $(shell sed -n 's/^\(fish[a-z_]*\).*:.*/\1/p' crates.txt)
@@ -14,23 +16,25 @@ demo:
 	rt try --cases $$folder --data $(EXAMPLE).jsonl=../../$(EXAMPLE).jsonl --data $(EXAMPLE).fish=../../$(EXAMPLE).fish
 	@echo 'These runs were not proved. `make build` proves the program and builds $(PROGRAM).'
 
-# Proves and builds the program. What is proved already is not proved again.
+# Proves and builds the program. The first time its crates of values and the language go side by side; those of the log stand one on the
+# other, so each has all jobs. What is proved already is not proved again.
 build:
-	cd crates/fishstore && rt run --jobs 4 -- select 'take type' '"Push"' data/a > /dev/null
+	[ -x $(PROGRAM) ] || { cd crates/tests_language && rt all check --jobs $(JOBS); }
+	cd crates/fishstore && rt run --jobs $(JOBS) -- select 'take type' '"Push"' data/a > /dev/null
 
 # Proves every crate, runs the tests, and runs the program over the cases. Each library is one of the program's, the tests' or the
 # measurements', so these five prove all.
 test: build
-	cd crates/tests_language && rt test --jobs 4
-	cd crates/tests_log && rt test --jobs 4
-	cd crates/tests_store && rt test --jobs 4
-	cd crates/bench && rt check --jobs 4
+	cd crates/tests_language && rt test --jobs $(JOBS)
+	cd crates/tests_log && rt test --jobs $(JOBS)
+	cd crates/tests_store && rt test --jobs $(JOBS)
+	cd crates/bench && rt check --jobs $(JOBS)
 	tools/cases cases/*.txt README.md
 
 # Tries every wrong body of every crate: each has to be refused.
 edits:
-	rt all check --jobs 4
-	tools/edits --jobs 4 $(CRATES)
+	rt all check --jobs $(JOBS)
+	tools/edits --jobs $(JOBS) $(CRATES)
 
 # The merge gate: every proof from nothing, the must-fail edits, the programs, the tests and the cases.
 gate:
