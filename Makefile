@@ -16,19 +16,14 @@ demo:
 	rt try --cases $$folder --data $(EXAMPLE).jsonl=../../$(EXAMPLE).jsonl --data $(EXAMPLE).fish=../../$(EXAMPLE).fish
 	@echo 'These runs were not proved. `make build` proves the program and builds $(PROGRAM).'
 
-# Proves and builds the program. The first time its crates of values and the language go side by side; those of the log stand one on the
-# other, so each has all jobs. What is proved already is not proved again.
+# Proves and builds the program, the first time with crates side by side. What is proved already is not proved again.
 build:
-	[ -x $(PROGRAM) ] || { cd crates/tests_language && rt all check --jobs $(JOBS); }
+	[ -x $(PROGRAM) ] || { cd crates/fishstore && rt all check --jobs $(JOBS); }
 	cd crates/fishstore && rt run --jobs $(JOBS) -- select 'take type' '"Push"' data/a > /dev/null
 
-# Proves every crate, runs the tests, and runs the program over the cases. Each library is one of the program's, the tests' or the
-# measurements', so these five prove all.
-test: build
-	cd crates/tests_language && rt test --jobs $(JOBS)
-	cd crates/tests_log && rt test --jobs $(JOBS)
-	cd crates/tests_store && rt test --jobs $(JOBS)
-	cd crates/bench && rt check --jobs $(JOBS)
+# Proves every crate with crates side by side, builds and runs the tests and programs, and runs the program over the cases.
+test:
+	RT_SECONDS=120 rt all test --jobs $(JOBS)
 	tools/cases cases/*.txt README.md
 
 # Tries every wrong body of every crate: each has to be refused.

@@ -1,5 +1,5 @@
 -- Where a run ends: what is said of every log that is closed later is so of the one that is left.
-use Rattle.std.proofs.Common.{◌≡◌, ◌≢◌, ℕ, ◌+◌, ◌*◌, ◌<◌, ◌≤◌, List, [], ◌∷◌, ◌++◌, length, take, get_or, append-nil}
+use Rattle.std.proofs.Common.{◌≡◌, ◌≢◌, ℕ, ◌+◌, ◌*◌, ◌^◌, ◌<◌, ◌≤◌, List, [], ◌∷◌, ◌++◌, length, take, get_or, append-nil}
 use Rattle.std.proofs.Common.{refl, sym, ap, ◌∙◌, subst, ◌⊎◌, ⊎_elim, inl, inr, arith, Bool, true, false}
 use Rattle.std.proofs.Common.{Option, Some, None, Result, Ok, Err, slice_get}
 use Rattle.std.specs.List.{flat_map}
@@ -19,6 +19,7 @@ use Rattle.fish_report.specs.declared.item.Item.TheVariants as item
 use Rattle.fish_rule.specs.ClosedLog.{IsClosed}
 use Rattle.fish_rule.specs.Table.{Stands}
 use Rattle.fish_rule.specs.declared.close.Remains.{Remains}
+use Rattle.fish_rule.specs.declared.table.Shape.{Shape}
 use Rattle.fish_rule.specs.declared.view.Shut.{Shut}
 use Rattle.fish_rule.specs.declared.view.View.{View}
 use Rattle.fish_run.proofs.Blocks.{fulls_agree, ran_later, ran_more, shut_more}
@@ -225,10 +226,11 @@ shown told text v blocks cut end remains h c =
     subst (TellsRun v remains.log blocks cut) (sym (closed_length v end remains e c))
     (h.tells v remains e.base e.alone.main e.alone.all (later_self v) c)
 
-module _ (told : Option Files) (text : List script.Block) (pages : ℕ) (v : View) (stands : Stands v) (end_is : v.about.end ≡ pages * 32768)
+module _ (told : Option Files) (text : List script.Block) (shape : Shape) (v : View) (stands : Stands v)
+    (end_is : v.about.end ≡ shape.pages * 32768) (buckets_are : v.about.buckets ≡ 2 ^ shape.bucket_bits)
     (remains : Remains) (closed : IsClosed v remains) (old mid new : Option (List ℕ)) where
   whole_of : (refused : Bool) (count : ℕ) → RunsAll told text v old mid refused count
-      → Gained mid new (report_text (item.Closed count ∷ [])) → IsWhole told text pages remains old new refused
+      → Gained mid new (report_text (item.Closed count ∷ [])) → IsWhole told text shape remains old new refused
   whole_of refused count h last =
       let many : length remains.log ≡ count = closed_length v count remains h.ran.ends closed in
       record {
@@ -237,14 +239,15 @@ module _ (told : Option Files) (text : List script.Block) (pages : ℕ) (v : Vie
         view = v;
         closed = closed;
         tells = shown told text v h.blocks None count remains h.ran closed;
-        fulls = fulls_agree v h.blocks (pages * 32768) stands h.ran.marks end_is;
+        fulls = fulls_agree v h.blocks (shape.pages * 32768) stands h.ran.marks end_is;
+        heads = closed.many_heads ∙ buckets_are;
         written = subst (λ (z : ℕ). Gained old new (report_text (whole_report h.blocks z))) (sym many)
             (written_both old mid new (report_of h.blocks) (item.Closed count ∷ []) h.written last);
         refused_is = h.refused_is;
       }
 
   late_of : (refused : Bool) (count : ℕ) (why : RunFault) → why ≢ fault.Input → RunsAll told text v old mid refused count
-      → GainedPart mid new (report_text (item.Closed count ∷ [])) → IsStopped told text pages remains old new why
+      → GainedPart mid new (report_text (item.Closed count ∷ [])) → IsStopped told text shape remains old new why
   late_of refused count why other h last =
       let many : length remains.log ≡ count = closed_length v count remains h.ran.ends closed in
       record {
@@ -255,7 +258,8 @@ module _ (told : Option Files) (text : List script.Block) (pages : ℕ) (v : Vie
         view = v;
         closed = closed;
         tells = shown told text v h.blocks None count remains h.ran closed;
-        fulls = fulls_agree v h.blocks (pages * 32768) stands h.ran.marks end_is;
+        fulls = fulls_agree v h.blocks (shape.pages * 32768) stands h.ran.marks end_is;
+        heads = closed.many_heads ∙ buckets_are;
         written = inr (
           h.all,
           subst (λ (z : ℕ). GainedPart old new (report_text (whole_report h.blocks z))) (sym many)
@@ -264,7 +268,7 @@ module _ (told : Option Files) (text : List script.Block) (pages : ℕ) (v : Vie
         input = λ e. absurd (other e);
       }
 
-  stopped_of : (why : RunFault) → RunsSome told text v old mid why → Gained mid new [] → IsStopped told text pages remains old new why
+  stopped_of : (why : RunFault) → RunsSome told text v old mid why → Gained mid new [] → IsStopped told text shape remains old new why
   stopped_of why h none = record {
     blocks = h.blocks;
     cut = h.cut;
@@ -273,7 +277,8 @@ module _ (told : Option Files) (text : List script.Block) (pages : ℕ) (v : Vie
     view = v;
     closed = closed;
     tells = shown told text v h.blocks h.cut h.end remains h.ran closed;
-    fulls = fulls_agree v h.blocks (pages * 32768) stands h.ran.marks end_is;
+    fulls = fulls_agree v h.blocks (shape.pages * 32768) stands h.ran.marks end_is;
+    heads = closed.many_heads ∙ buckets_are;
     written = inl (part_still old mid new (report_text (report_of h.blocks)) h.written none);
     input = λ e. ((h.input e).0, gained_none old mid new (report_text (report_of h.blocks)) (h.input e).1 none);
   }
@@ -281,7 +286,7 @@ module _ (told : Option Files) (text : List script.Block) (pages : ℕ) (v : Vie
   -- the run came to its end
   pub ends_whole : (refused : Bool) (ended : Result ℕ RunFault) (why : RunFault) → why ≡ fault.None
       → IfOk ended (RunsAll told text v old mid refused) → IfErr ended (RunsSome told text v old mid)
-      → Finishes ended why mid new → IsWhole told text pages remains old new refused
+      → Finishes ended why mid new → IsWhole told text shape remains old new refused
   ends_whole refused (Ok count) fault.None is all some f = whole_of refused count all f
   ends_whole refused (Ok count) fault.Input is all some f = absurd cc
   ends_whole refused (Ok count) fault.Output is all some f = absurd cc
@@ -291,13 +296,13 @@ module _ (told : Option Files) (text : List script.Block) (pages : ℕ) (v : Vie
   -- or it was stopped
   pub ends_stopped : (refused : Bool) (ended : Result ℕ RunFault) (why : RunFault) → why ≢ fault.None
       → IfOk ended (RunsAll told text v old mid refused) → IfErr ended (RunsSome told text v old mid)
-      → Finishes ended why mid new → IsStopped told text pages remains old new why
+      → Finishes ended why mid new → IsStopped told text shape remains old new why
   ends_stopped refused (Ok count) fault.None other all some f = absurd (other refl)
   ends_stopped refused (Ok count) fault.Input other all some f = absurd (f.0 refl)
   ends_stopped refused (Ok count) fault.Output other all some f = late_of refused count fault.Output f.0 all f.1
   ends_stopped refused (Ok count) fault.Memory other all some f = late_of refused count fault.Memory f.0 all f.1
   ends_stopped refused (Err e) why other all some f =
-      subst (IsStopped told text pages remains old new) (sym f.0) (stopped_of e some f.1)
+      subst (IsStopped told text shape remains old new) (sym f.0) (stopped_of e some f.1)
 
 -- or there was no memory to show the log
 pub ends_lost : (told : Option Files) (text : List script.Block) (v : View) (old new : Option (List ℕ)) (refused : Bool)

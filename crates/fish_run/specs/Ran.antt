@@ -1,9 +1,10 @@
 -- What a run of a script did, what it wrote of it, and the log that it left.
-use Rattle.std.specs.Prelude.{ℕ, ◌≡◌, ◌⊎◌, ◌*◌, List, Bool, Option, Some, None, IfSome, length, slice_get, take}
+use Rattle.std.specs.Prelude.{ℕ, ◌≡◌, ◌⊎◌, ◌*◌, ◌^◌, List, Bool, Option, Some, None, IfSome, length, slice_get, take}
 use Rattle.fish_outside.specs.Told.{Files, Gained, GainedPart}
 use Rattle.fish_report.specs.ReportText.{report_text}
 use Rattle.fish_rule.specs.ClosedLog.{IsClosed}
 use Rattle.fish_rule.specs.declared.close.Remains.{Remains}
+use Rattle.fish_rule.specs.declared.table.Shape.{Shape}
 use Rattle.fish_rule.specs.declared.view.View.{View}
 use Rattle.fish_run.specs.Blocks.{Block, FullsAgree, TellsRun}
 use Rattle.fish_run.specs.Reports.{are_refused, report_of, whole_report}
@@ -27,15 +28,16 @@ abbrev pub IsNextOf : Option Files → List script.Block → ℕ → Block → T
 IsNextOf told text many b = (s : script.Block) × (slice_get text many ≡ Some s) × IsBlockOf told s b
 
 -- a run that came to its end: each block of the script ran; of the log that is left their items are true; the text of their
--- items, and that the log was closed, was written; and refusals of a full log of so many pages agree
-pub record IsWhole (told : Option Files) (text : List script.Block) (pages : ℕ) (remains : Remains) (old new : Option (List ℕ))
+-- items, and that the log was closed, was written; refusals of a full log of so many pages agree; and the log has its buckets
+pub record IsWhole (told : Option Files) (text : List script.Block) (shape : Shape) (remains : Remains) (old new : Option (List ℕ))
     (refused : Bool) : Type 0 where
   pub blocks : List Block
   pub are : Pairs (IsBlockOf told) text blocks
   pub view : View
   pub closed : IsClosed view remains
   pub tells : TellsRun view remains.log blocks None (length remains.log)
-  pub fulls : FullsAgree blocks (pages * 32768)
+  pub fulls : FullsAgree blocks (shape.pages * 32768)
+  pub heads : length remains.heads ≡ 2 ^ shape.bucket_bits
   pub written : Gained old new (report_text (whole_report blocks (length remains.log)))
   pub refused_is : refused ≡ are_refused blocks
 
@@ -47,7 +49,7 @@ WritesPart told text count old new blocks = GainedPart old new (report_text (rep
 -- a run that a fault stopped: the first blocks ran, and perhaps one more, in which a lane stopped at the fault; of the log that
 -- is left their items are true; a first part of the report was written, without the cut block, and all of it where a file
 -- couldn't be read
-pub record IsStopped (told : Option Files) (text : List script.Block) (pages : ℕ) (remains : Remains) (old new : Option (List ℕ))
+pub record IsStopped (told : Option Files) (text : List script.Block) (shape : Shape) (remains : Remains) (old new : Option (List ℕ))
     (why : RunFault) : Type 0 where
   pub blocks : List Block
   pub cut : Option Block
@@ -56,7 +58,8 @@ pub record IsStopped (told : Option Files) (text : List script.Block) (pages : �
   pub view : View
   pub closed : IsClosed view remains
   pub tells : TellsRun view remains.log blocks cut (length remains.log)
-  pub fulls : FullsAgree blocks (pages * 32768)
+  pub fulls : FullsAgree blocks (shape.pages * 32768)
+  pub heads : length remains.heads ≡ 2 ^ shape.bucket_bits
   pub written : WritesPart told text (length remains.log) old new blocks
   pub input : why ≡ fault.Input → (cut ≡ None) × Gained old new (report_text (report_of blocks))
 

@@ -1,5 +1,5 @@
 -- What a run of a script asks for and leaves between two blocks, and why it stops.
-use Rattle.std.specs.Prelude.{ℕ, ◌≡◌, ◌*◌, ◌≤◌, List, [], None, Some, Result, IsErrOf, slice_get}
+use Rattle.std.specs.Prelude.{ℕ, ◌≡◌, ◌*◌, ◌^◌, ◌≤◌, List, [], None, Some, Result, IsErrOf, slice_get}
 use Rattle.fish_lanes.specs.Controlling.{CanControl}
 use Rattle.fish_lanes.specs.Ending.{HasEnd}
 use Rattle.fish_lanes.specs.Registering.{KnowsRegistry, registry_of}
@@ -34,6 +34,7 @@ pub record IsNewLog (log : Log) (main : Pass) : Type 0 where
   pub version : log.key.version ≡ 0
   pub rows : log.key.rows.value ≡ []
   pub end : log.key.end ≡ log.shape.pages * 32768
+  pub buckets : log.key.buckets ≡ 2 ^ log.shape.bucket_bits
 
 -- the control pass may close the log
 pub record CanClose (log : Log) (main : Pass) : Type 0 where

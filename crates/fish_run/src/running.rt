@@ -107,9 +107,9 @@ pub fn run_script<R: Threads + Sync, H: Host, W: Sink>(
     requires shape { IsShape shape }
     requires script { CanRun script.now }
     ensures whole { result.fault ≡ RunFault.None → (r : Remains) × (result.remains ≡ Some r)
-        × IsWhole (H.files host.new) script.now shape.pages r (W.written out.old) (W.written out.new) result.refused }
+        × IsWhole (H.files host.new) script.now shape r (W.written out.old) (W.written out.new) result.refused }
     ensures stopped { result.fault ≢ RunFault.None → (r : Remains) → result.remains ≡ Some r
-        → IsStopped (H.files host.new) script.now shape.pages r (W.written out.old) (W.written out.new) result.fault }
+        → IsStopped (H.files host.new) script.now shape r (W.written out.old) (W.written out.new) result.fault }
     ensures lost { result.remains ≡ None → (result.fault ≡ RunFault.Memory)
         × IsLost (H.files host.new) script.now (W.written out.old) (W.written out.new) }
     ensures told { StillTold (H.files host.old) (H.files host.new) }
@@ -152,9 +152,9 @@ fn run_log<R: Threads + Sync, H: Host, W: Sink>(
     requires new { IsNewLog log main }
     requires script { CanRun script.now }
     ensures whole { result.fault ≡ RunFault.None → (r : Remains) × (result.remains ≡ Some r)
-        × IsWhole (H.files host.new) script.now log.shape.pages r (W.written out.old) (W.written out.new) result.refused }
+        × IsWhole (H.files host.new) script.now log.shape r (W.written out.old) (W.written out.new) result.refused }
     ensures stopped { result.fault ≢ RunFault.None → (r : Remains) → result.remains ≡ Some r
-        → IsStopped (H.files host.new) script.now log.shape.pages r (W.written out.old) (W.written out.new) result.fault }
+        → IsStopped (H.files host.new) script.now log.shape r (W.written out.old) (W.written out.new) result.fault }
     ensures lost { result.remains ≡ None → (result.fault ≡ RunFault.Memory)
         × IsLost (H.files host.new) script.now (W.written out.old) (W.written out.new) }
     ensures told { StillTold (H.files host.old) (H.files host.new) }

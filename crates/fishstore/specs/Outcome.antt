@@ -1,13 +1,14 @@
 -- How a run ends, and what each end tells of the words, the files, the output and the log.
-use Rattle.std.specs.Prelude.{◌≡◌, ◌⊎◌, ℕ, List, [], Bool, Option, None, Ok, Err, IfSome, unwrap_or, ⊤, if◌then◌else◌}
+use Rattle.std.specs.Prelude.{◌≡◌, ◌⊎◌, ℕ, List, [], Bool, Option, None, Ok, Err, IfSome, ⊤, if◌then◌else◌}
 use Rattle.std.specs.List.{list_any}
 use Rattle.fish_outside.specs.Told.{Files, Gained, GainedPart}
 use Rattle.fish_report.specs.ReportText.{is_refusal, report_text}
 use Rattle.fish_report.specs.declared.item.Item.{Item}
+use Rattle.fish_rule.specs.declared.table.Shape.{Shape}
 use Rattle.fish_run.specs.declared.running.RunFault.TheVariants as ran
 use Rattle.fish_words.specs.Words as words
 use Rattle.fishstore.specs.Answer.{IsAnswer, answer_of}
-use Rattle.fishstore.specs.Limits.{usual_pages}
+use Rattle.fishstore.specs.Limits.{shape_of}
 use Rattle.fishstore.specs.Runs.{IsStoppedRun, IsWholeRun, RefusesScript}
 use Rattle.fishstore.specs.declared.fault.Fault.{Fault}
 use Rattle.fishstore.specs.declared.fault.Fault.TheVariants as fault
@@ -59,17 +60,17 @@ EndsSelect answer file told old new o (fault.Script refusal) = ⊥
 
 -- ---- `run`
 
--- how a run of the script in a file ends by each fault, on a log of so many pages: the whole script ran, or it was refused,
+-- how a run of the script in a file ends by each fault, on a log of this shape: the whole script ran, or it was refused,
 -- or a fault came before it was read or stopped it
-abbrev pub EndsRun : List ℕ → ℕ → Option Files → Option (List ℕ) → Option (List ℕ) → Outcome → Fault → Type 0
-EndsRun file pages told old new o fault.None = IsWholeRun file pages told old new o
-EndsRun file pages told old new o (fault.Script refusal) = RefusesScript file told refusal × DidNothing old new o
-EndsRun file pages told old new o fault.Input =
-    DidNothing old new o ⊎ IsStoppedRun file pages told old new ran.Input o
-EndsRun file pages told old new o fault.Output = IsStoppedRun file pages told old new ran.Output o
-EndsRun file pages told old new o fault.Memory =
-    DidNothing old new o ⊎ IsStoppedRun file pages told old new ran.Memory o
-EndsRun file pages told old new o (fault.Usage cause) = ⊥
+abbrev pub EndsRun : List ℕ → Shape → Option Files → Option (List ℕ) → Option (List ℕ) → Outcome → Fault → Type 0
+EndsRun file shape told old new o fault.None = IsWholeRun file shape told old new o
+EndsRun file shape told old new o (fault.Script refusal) = RefusesScript file told refusal × DidNothing old new o
+EndsRun file shape told old new o fault.Input =
+    DidNothing old new o ⊎ IsStoppedRun file shape told old new ran.Input o
+EndsRun file shape told old new o fault.Output = IsStoppedRun file shape told old new ran.Output o
+EndsRun file shape told old new o fault.Memory =
+    DidNothing old new o ⊎ IsStoppedRun file shape told old new ran.Memory o
+EndsRun file shape told old new o (fault.Usage cause) = ⊥
 
 -- ---- all commands
 
@@ -78,7 +79,7 @@ abbrev pub Ends : words.Asked → Option Files → Option (List ℕ) → Option 
 Ends (words.select def value form header file) told old new o =
     EndsSelect (answer_of def value form header file) file told old new o o.fault
 Ends (words.run store script pages bits) told old new o =
-    EndsRun script (unwrap_or pages usual_pages) told old new o o.fault
+    EndsRun script (shape_of pages bits) told old new o o.fault
 
 -- the words are none, and this names why; or memory ran out before they were read
 abbrev pub IsNoCommand : List (List ℕ) → Fault → Type 0

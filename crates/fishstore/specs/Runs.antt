@@ -3,6 +3,7 @@ use Rattle.std.specs.Prelude.{◌≡◌, ◌≢◌, ℕ, List, [], Option, Some,
 use Rattle.fish_outside.specs.Causes.{Rose}
 use Rattle.fish_outside.specs.Told.{Files}
 use Rattle.fish_rule.specs.declared.close.Remains.{Remains}
+use Rattle.fish_rule.specs.declared.table.Shape.{Shape}
 use Rattle.fish_run.specs.Ran.{IsLost, IsStopped, IsWhole}
 use Rattle.fish_run.specs.Reading.{ReadsFile}
 use Rattle.fish_run.specs.declared.running.RunFault.{RunFault}
@@ -39,23 +40,23 @@ IsScriptFault file told before now fault.Output = ⊥
 IsScriptFault file told before now (fault.Usage cause) = ⊥
 
 -- the whole script ran, and this log is left
-pub record IsWholeRun (file : List ℕ) (pages : ℕ) (told : Option Files) (old new : Option (List ℕ)) (o : Outcome) : Type 0 where
+pub record IsWholeRun (file : List ℕ) (shape : Shape) (told : Option Files) (old new : Option (List ℕ)) (o : Outcome) : Type 0 where
   pub script : List Block
   pub read : HasScript file told script
   pub report : o.report.items ≡ []
   pub log : Remains
   pub remains : o.remains ≡ Some log
-  pub whole : IsWhole told script pages log old new o.refused
+  pub whole : IsWhole told script shape log old new o.refused
 
 -- a log is left of a run that this fault stopped, or was lost for want of memory
-abbrev pub IsLeft : List Block → ℕ → Option Files → Option (List ℕ) → Option (List ℕ) → RunFault → Option Remains → Type 0
-IsLeft script pages told old new why (Some log) = IsStopped told script pages log old new why
-IsLeft script pages told old new why None = (why ≡ ran.Memory) × IsLost told script old new
+abbrev pub IsLeft : List Block → Shape → Option Files → Option (List ℕ) → Option (List ℕ) → RunFault → Option Remains → Type 0
+IsLeft script shape told old new why (Some log) = IsStopped told script shape log old new why
+IsLeft script shape told old new why None = (why ≡ ran.Memory) × IsLost told script old new
 
 -- the script was read, and this fault stopped its run
-pub record IsStoppedRun (file : List ℕ) (pages : ℕ) (told : Option Files) (old new : Option (List ℕ)) (why : RunFault) (o : Outcome)
+pub record IsStoppedRun (file : List ℕ) (shape : Shape) (told : Option Files) (old new : Option (List ℕ)) (why : RunFault) (o : Outcome)
     : Type 0 where
   pub script : List Block
   pub read : HasScript file told script
   pub report : o.report.items ≡ []
-  pub left : IsLeft script pages told old new why o.remains
+  pub left : IsLeft script shape told old new why o.remains

@@ -1,11 +1,11 @@
 //! The command `run`: a script over a store.
 
-ghost use Rattle.std.specs.Prelude.{◌≡◌, ◌≤◌, [], IfErr, IfOk, unwrap_or};
+ghost use Rattle.std.specs.Prelude.{◌≡◌, ◌≤◌, [], IfErr, IfOk};
 ghost use Rattle.fish_outside.specs.Causes.{Rose};
 ghost use Rattle.fish_outside.specs.Told.{StillTold};
 ghost use Rattle.fish_rule.specs.Start.{IsShape};
 ghost use Rattle.fishstore.specs.Faults.{run_fault};
-ghost use Rattle.fishstore.specs.Limits.{usual_bits, usual_pages};
+ghost use Rattle.fishstore.specs.Limits.{shape_of};
 ghost use Rattle.fishstore.specs.Outcome.{EndsRun, status_of};
 ghost use Rattle.fishstore.specs.Runs.{HasScript, IsScriptFault};
 
@@ -37,7 +37,7 @@ pub(crate) fn answer_run<R: Threads + Sync, H: Host, W: Sink>(
     gate: &Gate,
 ) -> Outcome
     ensures status { result.status ≡ status_of result.fault result.refused }
-    ensures ended { EndsRun command.now.script (unwrap_or command.now.pages usual_pages) (H.files host.new)
+    ensures ended { EndsRun command.now.script (shape_of command.now.pages command.now.bits) (H.files host.new)
         (W.written out.old) (W.written out.new) result result.fault }
     ensures told { StillTold (H.files host.old) (H.files host.new) }
     ensures input { result.fault ≡ Fault.Input → Rose (H.faults host.old) (H.faults host.new) }
@@ -78,8 +78,7 @@ fn read_script<H: Host>(alloc: Global, host: &mut H, name: &Text) -> Result<Scri
 /// How large the log is to be.
 fn shape_of(command: &Run) -> Shape
     ensures shape { IsShape result }
-    ensures pages { result.pages ≡ unwrap_or command.now.pages usual_pages }
-    ensures bits { result.bucket_bits ≡ unwrap_or command.now.bits usual_bits }
+    ensures is { result ≡ shape_of command.now.pages command.now.bits }
 {
     Shape {
         pages: command.pages.unwrap_or(PAGES),

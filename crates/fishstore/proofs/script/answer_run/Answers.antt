@@ -1,8 +1,8 @@
 -- The script that was read can be run, and what its run ensures is how the command ends.
-use Rattle.std.proofs.Common.{ℕ, subst, sym}
-use Rattle.std.specs.Prelude.{unwrap_or}
+use Rattle.std.proofs.Common.{subst, sym}
+use Rattle.fish_rule.specs.declared.table.Shape.{Shape}
 use Rattle.fishstore.specs.Faults.{run_fault}
-use Rattle.fishstore.specs.Limits.{usual_pages}
+use Rattle.fishstore.specs.Limits.{shape_of}
 use Rattle.fishstore.specs.Outcome.{EndsRun}
 use Rattle.fishstore.specs.Runs.{HasScript}
 use Rattle.fishstore.specs.declared.fault.Fault.{Fault}
@@ -21,15 +21,15 @@ returns-in-Ok-clause-ended g c =
     let old = g.W.Sink.written c.args.out.now in
     let new = g.W.Sink.written c.run_script-ran.new.out in
     let ran = c.run_script-ran.result in
-    let pages = c.shape_of.result.pages in
+    let shape = c.shape_of.result in
     let texts = c.as_slice.result.now in
     let read : HasScript file told texts = rw c.as_slice.ensures
     (script_still file (g.H.Host.files c.read_script.new.host) told c.in-Ok.script c.run_script-ran.ensures.told
     c.in-Ok.ensures.script) in
-    let went = went_as texts pages told old new ran c.ended.result c.ended.ensures.report c.ended.ensures.refused
+    let went = went_as texts shape told old new ran c.ended.result c.ended.ensures.report c.ended.ensures.refused
     c.ended.ensures.remains c.run_script-ran.ensures.whole c.run_script-ran.ensures.stopped
     c.run_script-ran.ensures.lost in
-    subst (λ (f : Fault). EndsRun file (unwrap_or c.args.command.now.pages usual_pages) told old new c.ended.result f)
+    subst (λ (f : Fault). EndsRun file (shape_of c.args.command.now.pages c.args.command.now.bits) told old new c.ended.result f)
     (sym c.ended.ensures.fault)
-    (subst (λ (p : ℕ). EndsRun file p told old new c.ended.result (run_fault ran.fault)) c.shape_of.ensures.pages
-    (read_end file texts pages told old new ran.fault c.ended.result read went))
+    (subst (λ (s : Shape). EndsRun file s told old new c.ended.result (run_fault ran.fault)) c.shape_of.ensures.is
+    (read_end file texts shape told old new ran.fault c.ended.result read went))
