@@ -10,14 +10,18 @@ use Rattle.fish_run.proofs.running.run_log.Goals as goal
 pub returns-in-Ok-clause-whole : goal.returns-in-Ok-clause-whole
 returns-in-Ok-clause-whole g c none =
     let b = c.run_blocks-ended in
-    let of = b.ensures.close.of in (
+    let of = b.ensures.close.of in
+    let told = g.H.Host.files b.new.host in
+    let old = g.W.Sink.written c.args.out.now in
+    let mid = g.W.Sink.written b.new.out in
+    let new = g.W.Sink.written c.finish-fault.new.out in
+    let ends = ap (λ (k : Key). k.end) of.about ∙ c.requires.new.end in
+    let buckets = ap (λ (k : Key). k.buckets) of.about ∙ c.requires.new.buckets in (
       c.in-Ok.remains,
       refl,
-      ends_whole (g.H.Host.files b.new.host) c.args.script.now c.args.log.shape (view b.new.main) of.stands
-          (ap (λ (k : Key). k.end) of.about ∙ c.requires.new.end)
-          (ap (λ (k : Key). k.buckets) of.about ∙ c.requires.new.buckets) c.in-Ok.remains c.in-Ok.ensures.log (g.W.Sink.written c.args.out.now)
-          (g.W.Sink.written b.new.out) (g.W.Sink.written c.finish-fault.new.out) b.new.refused b.result c.finish-fault.result none
-          b.ensures.all b.ensures.some c.finish-fault.ensures.ends,
+      ends_whole told c.args.script.now c.args.log.shape (view b.new.main) of.stands ends buckets c.in-Ok.remains
+          c.in-Ok.ensures.log old mid new b.new.refused b.result c.finish-fault.result none b.ensures.all b.ensures.some
+          c.finish-fault.ensures.ends,
     )
 
 pub returns-in-Ok-clause-stopped : goal.returns-in-Ok-clause-stopped
@@ -26,12 +30,14 @@ returns-in-Ok-clause-stopped g c other r is =
     let of = b.ensures.close.of in
     let told = g.H.Host.files b.new.host in
     let old = g.W.Sink.written c.args.out.now in
+    let mid = g.W.Sink.written b.new.out in
     let new = g.W.Sink.written c.finish-fault.new.out in
+    let ends = ap (λ (k : Key). k.end) of.about ∙ c.requires.new.end in
+    let buckets = ap (λ (k : Key). k.buckets) of.about ∙ c.requires.new.buckets in
     subst (λ z. IsStopped told c.args.script.now c.args.log.shape z old new c.finish-fault.result) (same_Some _ _ is)
-    (ends_stopped told c.args.script.now c.args.log.shape (view b.new.main) of.stands
-    (ap (λ (k : Key). k.end) of.about ∙ c.requires.new.end)
-    (ap (λ (k : Key). k.buckets) of.about ∙ c.requires.new.buckets) c.in-Ok.remains c.in-Ok.ensures.log old (g.W.Sink.written b.new.out) new
-    b.new.refused b.result c.finish-fault.result other b.ensures.all b.ensures.some c.finish-fault.ensures.ends)
+    (ends_stopped told c.args.script.now c.args.log.shape (view b.new.main) of.stands ends buckets c.in-Ok.remains
+    c.in-Ok.ensures.log old mid new b.new.refused b.result c.finish-fault.result other b.ensures.all b.ensures.some
+    c.finish-fault.ensures.ends)
 
 pub returns-in-Err-clause-lost : goal.returns-in-Err-clause-lost
 returns-in-Err-clause-lost g c none =
