@@ -21,9 +21,13 @@ build:
 	[ -x $(PROGRAM) ] || { cd crates/fishstore && rt all check --jobs $(JOBS); }
 	cd crates/fishstore && rt run --jobs $(JOBS) -- select 'take type' '"Push"' data/a > /dev/null
 
-# Proves every crate with crates side by side, builds and runs the tests and programs, and runs the program over the cases.
-test:
-	RT_SECONDS=120 rt all test --jobs $(JOBS)
+# Proves every crate, runs the tests, and runs the program over the cases. Each library is one of the program's, the tests' or the
+# measurements', so these five prove all.
+test: build
+	cd crates/tests_language && rt test --jobs $(JOBS)
+	cd crates/tests_log && rt test --jobs $(JOBS)
+	cd crates/tests_store && rt test --jobs $(JOBS)
+	cd crates/bench && rt check --jobs $(JOBS)
 	tools/cases cases/*.txt README.md
 
 # Tries every wrong body of every crate: each has to be refused.
