@@ -1,12 +1,14 @@
 # FishStore, with the Rattle kit's `rt` on the path.
 PREFIX ?= /usr/local
-# How many crates are proved at once, and how many processors work on one that is proved alone. A proof takes 1 to 4 GB.
+# How many crates are checked or tried at once. Each takes 1 to 4 GB.
 JOBS ?= $(shell n=$$(nproc); [ $$n -lt 4 ] && echo $$n || echo 4)
 PROGRAM = crates/fishstore/out/fishstore
+BENCHMARKS = crates/bench/out/bench
 EXAMPLE = examples/events
-CRATES = $(shell sed -n 's/^\(fish[a-z_]*\).*:.*/\1/p' crates.txt)
+CRATES := $(shell sed -n 's/^\(fish[a-z_]*\).*:.*/\1/p' crates.txt)
+SOURCES := crates.txt $(shell find crates -name out -prune -o \( -path '*/src/*' -o -path '*/specs/*' -o -path '*/proofs/*' \) -type f -print)
 
-.PHONY: demo build test edits gate install bench bench_run bench_log bench_ingest bench_registrations bench_scans bench_peers bench_program clean
+.PHONY: demo build test edits gate install bench bench_run bench_log bench_ingest bench_registrations bench_scans bench_peers clean
 
 # Runs both commands of the program on the examples, built once and with no proof: their words stand a line each.
 demo:
@@ -16,18 +18,15 @@ demo:
 	rt try --cases $$folder --data $(EXAMPLE).jsonl=../../$(EXAMPLE).jsonl --data $(EXAMPLE).fish=../../$(EXAMPLE).fish
 	@echo 'These runs were not proved. `make build` proves the program and builds $(PROGRAM).'
 
-# Proves and builds the program, the first time with crates side by side. What is proved already is not proved again.
-build:
-	[ -x $(PROGRAM) ] || { cd crates/fishstore && rt all check --jobs $(JOBS); }
-	cd crates/fishstore && rt run --jobs $(JOBS) -- select 'take type' '"Push"' data/a > /dev/null
+# Proves the program and all below it from nothing, with crates side by side, and builds it; again where a source has changed.
+build: $(PROGRAM)
 
-# Proves every crate, runs the tests, and runs the program over the cases. Each library is one of the program's, the tests' or the
-# measurements', so these five prove all.
-test: build
-	cd crates/tests_language && rt test --jobs $(JOBS)
-	cd crates/tests_log && rt test --jobs $(JOBS)
-	cd crates/tests_store && rt test --jobs $(JOBS)
-	cd crates/bench && rt check --jobs $(JOBS)
+$(PROGRAM): $(SOURCES)
+	tools/prove fishstore
+
+# Proves every crate and its tests from nothing, runs the tests, and runs the program over the cases.
+test:
+	tools/prove
 	tools/cases cases/*.txt README.md
 
 # Tries every wrong body of every crate: each has to be refused.
@@ -51,28 +50,28 @@ bench: build
 bench_run: build
 	bench/run.sh
 
-# Proves and builds the program of the five benchmarks below.
-bench_program:
-	cd crates/bench && rt run -- ingest data/events.jsonl > /dev/null
+# The program of the five benchmarks below, proved.
+$(BENCHMARKS): $(SOURCES)
+	tools/prove bench
 
 # Times the log: stores beside a plain C++ loop, linked key entries, and walks.
-bench_log: bench_program
+bench_log: $(BENCHMARKS)
 	bench/log.sh
 
 # Times ingest of events beside reading them alone.
-bench_ingest: bench_program
+bench_ingest: $(BENCHMARKS)
 	bench/ingest.sh
 
 # Times ingest of events while definitions are registered and ended, beside the same without.
-bench_registrations: bench_program
+bench_registrations: $(BENCHMARKS)
 	bench/registrations.sh
 
 # Times scans by an index, and full ones beside the selection of the same records in memory.
-bench_scans: bench_program
+bench_scans: $(BENCHMARKS)
 	bench/scans.sh
 
 # Times ingest of events beside simdjson by hand and LMDB, where they are installed.
-bench_peers: bench_program
+bench_peers: $(BENCHMARKS)
 	bench/peers.sh
 
 clean:

@@ -1,8 +1,8 @@
 //! One catalogue through a table of calls, and one row as words, with answers worked out by hand.
 
-ghost use Rattle.std.specs.Prelude.{IfOk, ◌≡◌};
+ghost use Rattle.std.specs.Prelude.{IfOk, IsTrue};
 ghost use Rattle.fish_catalog.specs.Canonical.{IsCanonical};
-ghost use Rattle.fish_catalog.specs.Rows.{IsRow};
+ghost use Rattle.fish_catalog.specs.Rows.{AwaitsFrom, IsName, IsRow};
 
 use crate::told::expect;
 use fish_catalog::{
@@ -57,13 +57,17 @@ const ROWS: &[(usize, &str)] = &[
 ];
 
 /// The canonical text of a definition.
-fn canonical(alloc: Global, source: &str) -> Result<Text, Fail>
+fn canonical(alloc: Global, source: &str) -> Result<Text, AllocError>
     ensures { IfOk result IsCanonical }
 {
-    let def = parse_def(alloc, source.as_bytes())?;
-    let text = print_def(alloc, &def);
-    drop(def);
-    Ok(text?)
+    match parse_def(alloc, source.as_bytes()) {
+        Ok(def) => {
+            let text = print_def(alloc, &def);
+            drop(def);
+            text
+        }
+        Err(_) => Err(AllocError),
+    }
 }
 
 /// A number as a text, or `none`.
@@ -95,10 +99,11 @@ fn added(
     }
 }
 
-fn add(alloc: Global, catalog: &mut Catalog, case: &(&str, &str)) -> Result<String, Fail> {
-    let def = canonical(alloc, case.1)?;
-    let name = Text::copy_of(alloc, case.0)?;
-    Ok(added(alloc, catalog, &name, &def)?)
+fn add(alloc: Global, catalog: &mut Catalog, case: &(&str, &str)) -> Result<String, AllocError> {
+    let (name, source) = *case;
+    let name = Text::copy_of(alloc, name)?;
+    let def = canonical(alloc, source)?;
+    added(alloc, catalog, &name, &def)
 }
 
 fn expect_added<R: Abort>(
@@ -106,7 +111,7 @@ fn expect_added<R: Abort>(
     alloc: Global,
     catalog: &mut Catalog,
     rows: &[((&str, &str), &str)],
-) -> Result<(), Fail> {
+) -> Result<(), AllocError> {
     for (case, want) in rows {
         let found = add(alloc, catalog, case)?;
         expect(rt, found.as_str(), *want);
@@ -159,16 +164,24 @@ fn expect_rows<R: Abort>(rt: &R, alloc: Global, catalog: &Catalog) -> Result<(),
     Ok(())
 }
 
-/// Sets where a row's index begins, if it is there and has no beginning.
-fn set_from(catalog: &mut Catalog, id: u16, from: u32) {
+/// Whether a row is there and has no beginning.
+fn awaits_from(catalog: &Catalog, id: u16) -> bool
+    ensures { IsTrue result → AwaitsFrom catalog.now id }
+{
     match catalog.rows().get(usize::from(id)) {
-        Some(row) if row.from.is_none() => {}
-        _ => return,
+        Some(row) => row.from.is_none(),
+        None => false,
     }
-    catalog.set_from(id, from);
 }
 
-fn expect_first<R: Abort>(rt: &R, alloc: Global, catalog: &mut Catalog) -> Result<(), Fail> {
+/// Sets where such a row's index begins.
+fn set_from(catalog: &mut Catalog, id: u16, from: u32) {
+    if awaits_from(catalog, id) {
+        catalog.set_from(id, from);
+    }
+}
+
+fn expect_first<R: Abort>(rt: &R, alloc: Global, catalog: &mut Catalog) -> Result<(), AllocError> {
     expect_found(rt, alloc, catalog, NONE_FOUND)?;
     expect_added(rt, alloc, catalog, FIRST)?;
     expect_found(rt, alloc, catalog, FIRST_FOUND)?;
@@ -176,14 +189,13 @@ fn expect_first<R: Abort>(rt: &R, alloc: Global, catalog: &mut Catalog) -> Resul
     Ok(())
 }
 
-fn expect_calls<R: Abort>(rt: &R, alloc: Global, catalog: &mut Catalog) -> Result<(), Fail> {
+fn expect_calls<R: Abort>(rt: &R, alloc: Global, catalog: &mut Catalog) -> Result<(), AllocError> {
     expect_first(rt, alloc, catalog)?;
     expect_added(rt, alloc, catalog, SECOND)?;
     set_from(catalog, 0, 0);
     expect_added(rt, alloc, catalog, THIRD)?;
     expect_found(rt, alloc, catalog, ALL_FOUND)?;
-    expect_rows(rt, alloc, catalog)?;
-    Ok(())
+    expect_rows(rt, alloc, catalog)
 }
 
 #[test]
@@ -191,7 +203,7 @@ fn calls(rt: HostRuntime) -> Result<(), Fail> {
     let mut catalog = Catalog::new(rt.alloc());
     let met = expect_calls(&rt, rt.alloc(), &mut catalog);
     drop(catalog);
-    met
+    Ok(met?)
 }
 
 fn stored(alloc: Global, payload: &str) -> Result<Entry, AllocError> {
@@ -275,20 +287,28 @@ fn words_told(alloc: Global, row: &CatRow) -> Result<String, AllocError>
     Ok(told)
 }
 
-/// The same of the row `kind`, `take type`, which begins at record 6 and is active.
-fn both_ways(alloc: Global, name: Text, def: Text) -> Result<String, AllocError>
-    requires { IsCanonical def }
+/// A row that begins at record 6 and is active.
+fn row_of(name: Text, def: Text) -> CatRow
+    requires name { IsName name }
+    requires def { IsCanonical def }
+    ensures { IsRow result }
 {
-    if !is_name(&name) {
-        return String::from_str(alloc, "no name");
-    }
-    let row = CatRow {
+    CatRow {
         id: 3,
         name,
         def,
         from: Some(6),
         to: None,
-    };
+    }
+}
+
+/// The same of a row of that name and definition.
+fn both_ways(alloc: Global, name: &str, source: &str) -> Result<String, AllocError> {
+    let name = Text::copy_of(alloc, name)?;
+    if !is_name(&name) {
+        return String::from_str(alloc, "no name");
+    }
+    let row = row_of(name, canonical(alloc, source)?);
     let told = words_told(alloc, &row);
     drop(row);
     told
@@ -296,9 +316,7 @@ fn both_ways(alloc: Global, name: Text, def: Text) -> Result<String, AllocError>
 
 #[test]
 fn row_both_ways(rt: HostRuntime) -> Result<(), Fail> {
-    let def = canonical(rt.alloc(), "take type")?;
-    let name = Text::copy_of(rt.alloc(), "kind")?;
-    let told = both_ways(rt.alloc(), name, def)?;
+    let told = both_ways(rt.alloc(), "kind", "take type")?;
     let want = "0:7 2:10904 3:646e696b 7:70797420656b6174 8:65 3 true kind|take type|";
     expect(&rt, told.as_str(), want);
     Ok(())

@@ -7,38 +7,39 @@ use std::test::Fail;
 
 /// Files, whether they have a header, and the payloads, each with a `|` behind it, and how many rows
 /// are refused.
-const FILES: &[((&[u8], bool), &str)] = &[
-    ((b"h1,h2\r\n1,2\n", true), "1,2| 0"),
-    ((b"h1,h2\r\n1,2\n", false), "h1,h2|1,2| 0"),
+const FILES: &[((&str, bool), &str)] = &[
+    (("h1,h2\r\n1,2\n", true), "1,2| 0"),
+    (("h1,h2\r\n1,2\n", false), "h1,h2|1,2| 0"),
+    (("", false), " 0"),
+    (("", true), " 0"),
+    (("\n\r\n\r\r", true), " 0"),
+    (("a,\"x,1\",007\n", false), "a,\"x,1\",007| 0"),
+    (("a\nb,c\n,\n d , e ", false), "a|b,c|,| d , e | 0"),
+    // Line ends.
+    (("a\rb\r\nc\n\n\r\nd", false), "a|b|c|d| 0"),
+    (("\n\r\na,b", true), " 0"),
+    (("\"h\n1\",h2\n1,2\n", true), "1,2| 0"),
+    (("\"a\r\nb\",c\n", false), "\"a\r\nb\",c| 0"),
+    // Quotes.
+    (("\"a\",\"b\"\n", false), "a,b| 0"),
+    (("a\"b,c\n", false), "\"a\"\"b\",c| 0"),
+    (("\"a\"\"\"\"b\"\n", false), "\"a\"\"\"\"b\"| 0"),
+    (("\"a\"b,\"\"\n", false), "ab,| 0"),
+    (("\"\"\n\n\"\"\r\nz", false), "\"\"|\"\"|z| 0"),
+    (("\"a\nb", false), "\"a\nb\"| 0"),
+    // Byte order marks: one alone is dropped at the front, and one that is a row is no row.
+    (("\u{feff}a,b\n\u{feff}c,d\n", false), "a,b|\u{feff}c,d| 0"),
+    (("\u{feff}\u{feff}a\n", false), "\u{feff}a| 0"),
+    (("x\n\u{feff}\ny\n", false), "x|y| 1"),
+    (("\u{feff}\n7", false), "7| 0"),
+    (("\u{feff}\u{feff}\"7\"", true), " 0"),
+];
+
+/// The same of files that are no texts.
+const BYTES: &[((&[u8], bool), &str)] = &[
     ((b"a,\xff\nb\n", false), "b| 1"),
     ((b"a,\xff\nb\n", true), "b| 0"),
-    ((b"", false), " 0"),
-    ((b"", true), " 0"),
-    ((b"\n\r\n\r\r", true), " 0"),
-    ((b"a,\"x,1\",007\n", false), "a,\"x,1\",007| 0"),
-    ((b"a\nb,c\n,\n d , e ", false), "a|b,c|,| d , e | 0"),
-    // Line ends.
-    ((b"a\rb\r\nc\n\n\r\nd", false), "a|b|c|d| 0"),
-    ((b"\n\r\na,b", true), " 0"),
-    ((b"\"h\n1\",h2\n1,2\n", true), "1,2| 0"),
-    ((b"\"a\r\nb\",c\n", false), "\"a\r\nb\",c| 0"),
-    // Quotes.
-    ((b"\"a\",\"b\"\n", false), "a,b| 0"),
-    ((b"a\"b,c\n", false), "\"a\"\"b\",c| 0"),
-    ((b"\"a\"\"\"\"b\"\n", false), "\"a\"\"\"\"b\"| 0"),
-    ((b"\"a\"b,\"\"\n", false), "ab,| 0"),
-    ((b"\"\"\n\n\"\"\r\nz", false), "\"\"|\"\"|z| 0"),
-    ((b"\"a\nb", false), "\"a\nb\"| 0"),
     ((b"\"\xc3\"\xa9,1\n", false), "é,1| 0"),
-    // Byte order marks: one alone is dropped at the front, and one that is a row is no row.
-    (
-        (b"\xef\xbb\xbfa,b\n\xef\xbb\xbfc,d\n", false),
-        "a,b|\u{feff}c,d| 0",
-    ),
-    ((b"\xef\xbb\xbf\xef\xbb\xbfa\n", false), "\u{feff}a| 0"),
-    ((b"x\n\xef\xbb\xbf\ny\n", false), "x|y| 1"),
-    ((b"\xef\xbb\xbf\n7", false), "7| 0"),
-    ((b"\xef\xbb\xbf\xef\xbb\xbf\"7\"", true), " 0"),
 ];
 
 /// The payloads of a file, each with a `|` behind it, and how many rows are refused; or why the file
@@ -65,13 +66,18 @@ fn rows_text(alloc: Global, found: &CsvRows) -> Result<String, AllocError> {
     Ok(told)
 }
 
-fn file_told(alloc: Global, case: &(&[u8], bool)) -> Result<String, AllocError> {
+fn text_told(alloc: Global, case: &(&str, bool)) -> Result<String, AllocError> {
+    told(alloc, case.0.as_bytes(), case.1)
+}
+
+fn bytes_told(alloc: Global, case: &(&[u8], bool)) -> Result<String, AllocError> {
     told(alloc, case.0, case.1)
 }
 
 #[test]
 fn files(rt: HostRuntime) -> Result<(), Fail> {
-    expect_all(&rt, rt.alloc(), FILES, file_told)?;
+    expect_all(&rt, rt.alloc(), FILES, text_told)?;
+    expect_all(&rt, rt.alloc(), BYTES, bytes_told)?;
     Ok(())
 }
 

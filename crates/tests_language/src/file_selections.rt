@@ -3,8 +3,8 @@
 ghost use Rattle.std.specs.Prelude.{◌≤◌, length};
 ghost use Rattle.fish_value.specs.Limits.{longest_file};
 
-use crate::told::expect_all;
-use fish_lang::{Def, parse_def};
+use crate::told::{definition, expect_all};
+use fish_lang::Def;
 use fish_report::push_item;
 use fish_select::select;
 use fish_value::{Form, Value, read_value};
@@ -15,19 +15,16 @@ use std::test::Fail;
 const MOST: usize = 67_108_864;
 
 /// A file whose second field has a comma and whose third a number that is none.
-const COLUMNS: &[u8] = b"a,\"x,1\",007\n";
+const COLUMNS: &str = "a,\"x,1\",007\n";
 
 /// A file whose first row names the columns.
-const NAMED: &[u8] = b"h1,h2\r\n1,2\n";
-
-/// A file whose second row isn't UTF-8, and whose fourth would be two columns of another text.
-const BROKEN: &[u8] = b"a,1\nb,\xff\n\na,1,2\nc,1";
+const NAMED: &str = "h1,h2\r\n1,2\n";
 
 /// Lines of which the second is no object.
-const LINES: &[u8] = b"{\"n\":1}\r\n[1]\n{\"n\":\"1\"}\n\n{\"n\":1,\"m\":2}";
+const LINES: &str = "{\"n\":1}\r\n[1]\n{\"n\":\"1\"}\n\n{\"n\":1,\"m\":2}";
 
 /// A definition, a value, a form, whether there is a header, and a file; and the text of the answer.
-const ANSWERS: &[((&str, &str, Form, bool, &[u8]), &str)] = &[
+const ANSWERS: &[((&str, &str, Form, bool, &str), &str)] = &[
     (
         ("take $2", "\"x,1\"", Form::Csv, false, COLUMNS),
         "select found 1 of 1 refused 0\n0 11 a,\"x,1\",007\n",
@@ -53,15 +50,7 @@ const ANSWERS: &[((&str, &str, Form, bool, &[u8]), &str)] = &[
         "select found 1 of 2 refused 0\n0 5 h1,h2\n",
     ),
     (
-        ("take $2", "1", Form::Csv, false, BROKEN),
-        "select found 3 of 3 refused 1\n2 3 c,1\n1 5 a,1,2\n0 3 a,1\n",
-    ),
-    (
-        ("take $1", "\"a\"", Form::Csv, true, BROKEN),
-        "select found 1 of 2 refused 1\n0 5 a,1,2\n",
-    ),
-    (
-        ("take $1", "1", Form::Csv, true, b""),
+        ("take $1", "1", Form::Csv, true, ""),
         "select found 0 of 0 refused 0\n",
     ),
     (
@@ -72,6 +61,21 @@ const ANSWERS: &[((&str, &str, Form, bool, &[u8]), &str)] = &[
     (
         ("take n", "1", Form::Json, true, LINES),
         "select found 2 of 3 refused 1\n2 13 {\"n\":1,\"m\":2}\n0 7 {\"n\":1}\n",
+    ),
+];
+
+/// A file whose second row isn't UTF-8, and whose fourth would be two columns of another text.
+const BROKEN: &[u8] = b"a,1\nb,\xff\n\na,1,2\nc,1";
+
+/// The same of this file.
+const BROKEN_ANSWERS: &[((&str, &str, Form, bool, &[u8]), &str)] = &[
+    (
+        ("take $2", "1", Form::Csv, false, BROKEN),
+        "select found 3 of 3 refused 1\n2 3 c,1\n1 5 a,1,2\n0 3 a,1\n",
+    ),
+    (
+        ("take $1", "\"a\"", Form::Csv, true, BROKEN),
+        "select found 1 of 2 refused 1\n0 5 a,1,2\n",
     ),
 ];
 
@@ -99,11 +103,12 @@ fn answer(
 /// The same by a value that is there.
 fn with_value(
     alloc: Global,
-    case: &(&str, &str, Form, bool, &[u8]),
     def: &Def,
     value: &Option<Value>,
+    form: Form,
+    header: bool,
+    file: &[u8],
 ) -> Result<String, AllocError> {
-    let (_, _, form, header, file) = *case;
     match value {
         Some(value) if file.len() <= MOST => answer(alloc, def, value, form, header, file),
         Some(_) => String::from_str(alloc, "too long"),
@@ -111,27 +116,34 @@ fn with_value(
     }
 }
 
-/// The same of a value's text.
-fn with_def(
+/// The same by the texts of a definition and a value.
+fn told(
     alloc: Global,
-    case: &(&str, &str, Form, bool, &[u8]),
-    def: &Def,
-) -> Result<String, Fail> {
-    let value = read_value(alloc, case.1.as_bytes())?;
-    let told = with_value(alloc, case, def, &value);
-    drop(value);
-    Ok(told?)
+    query: (&str, &str),
+    form: Form,
+    header: bool,
+    file: &[u8],
+) -> Result<String, AllocError> {
+    let value = read_value(alloc, query.1.as_bytes())?;
+    let def = definition(alloc, query.0)?;
+    let told = with_value(alloc, &def, &value, form, header, file);
+    drop((def, value));
+    told
 }
 
-/// The same of a definition's text.
-fn told(alloc: Global, case: &(&str, &str, Form, bool, &[u8])) -> Result<String, Fail> {
-    let def = parse_def(alloc, case.0.as_bytes())?;
-    let told = with_def(alloc, case, &def);
-    drop(def);
-    told
+fn text_told(alloc: Global, case: &(&str, &str, Form, bool, &str)) -> Result<String, AllocError> {
+    let (def, value, form, header, text) = *case;
+    told(alloc, (def, value), form, header, text.as_bytes())
+}
+
+fn bytes_told(alloc: Global, case: &(&str, &str, Form, bool, &[u8])) -> Result<String, AllocError> {
+    let (def, value, form, header, file) = *case;
+    told(alloc, (def, value), form, header, file)
 }
 
 #[test]
 fn answers(rt: HostRuntime) -> Result<(), Fail> {
-    expect_all(&rt, rt.alloc(), ANSWERS, told)
+    expect_all(&rt, rt.alloc(), ANSWERS, text_told)?;
+    expect_all(&rt, rt.alloc(), BROKEN_ANSWERS, bytes_told)?;
+    Ok(())
 }

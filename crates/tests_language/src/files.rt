@@ -7,12 +7,12 @@ use std::alloc::{AllocError, Global};
 use std::test::Fail;
 
 /// Forms, headers, files, and the payloads with a bar behind each and how many lines or rows are refused.
-const FILES: &[((Form, bool, &[u8]), &str)] = &[
+const FILES: &[((Form, bool, &str), &str)] = &[
     (
         (
             Form::Json,
             false,
-            b"{\"type\":\"Push\",\"n\":1}\n{\"type\":\"Open\",\"n\":2}\n{\"type\":\"Push\",\"n\":3}\n",
+            "{\"type\":\"Push\",\"n\":1}\n{\"type\":\"Open\",\"n\":2}\n{\"type\":\"Push\",\"n\":3}\n",
         ),
         "{\"type\":\"Push\",\"n\":1}|{\"type\":\"Open\",\"n\":2}|{\"type\":\"Push\",\"n\":3}| 0",
     ),
@@ -20,7 +20,7 @@ const FILES: &[((Form, bool, &[u8]), &str)] = &[
         (
             Form::Json,
             true,
-            b"\xef\xbb\xbf{\"n\":1}\r\n\n[1]\n{\"n\":\n{\"n\":2}",
+            "\u{feff}{\"n\":1}\r\n\n[1]\n{\"n\":\n{\"n\":2}",
         ),
         "{\"n\":1}|{\"n\":2}| 2",
     ),
@@ -29,11 +29,19 @@ const FILES: &[((Form, bool, &[u8]), &str)] = &[
         (
             Form::Json,
             false,
-            b"\xef\xbb\xbf{\"n\":1}\r\n{\"n\":2}\n \t\r\n{\"n\":3,}\r\n{\"n\": 4}",
+            "\u{feff}{\"n\":1}\r\n{\"n\":2}\n \t\r\n{\"n\":3,}\r\n{\"n\": 4}",
         ),
         "{\"n\":1}|{\"n\":2}|{\"n\": 4}| 1",
     ),
-    // A mark in front of a later line is no JSON, and neither are bytes that are no text.
+    ((Form::Csv, true, "h1,h2\r\n1,2\n"), "1,2| 0"),
+    ((Form::Csv, false, "a,\"x,1\",007"), "a,\"x,1\",007| 0"),
+    ((Form::Csv, false, "\"a\nb\",c\nd"), "\"a\nb\",c|d| 0"),
+    ((Form::Csv, true, ""), " 0"),
+    ((Form::Csv, false, "x\n\u{feff}\ny\n"), "x|y| 1"),
+];
+
+/// The same of files that are no texts. A mark in front of a later line is no JSON either.
+const BYTES: &[((Form, bool, &[u8]), &str)] = &[
     (
         (
             Form::Json,
@@ -42,12 +50,7 @@ const FILES: &[((Form, bool, &[u8]), &str)] = &[
         ),
         "{\"n\":1}|{\"n\":3}| 2",
     ),
-    ((Form::Csv, true, b"h1,h2\r\n1,2\n"), "1,2| 0"),
     ((Form::Csv, false, b"a,\xff\nb\n"), "b| 1"),
-    ((Form::Csv, false, b"a,\"x,1\",007"), "a,\"x,1\",007| 0"),
-    ((Form::Csv, false, b"\"a\nb\",c\nd"), "\"a\nb\",c|d| 0"),
-    ((Form::Csv, true, b""), " 0"),
-    ((Form::Csv, false, b"x\n\xef\xbb\xbf\ny\n"), "x|y| 1"),
 ];
 
 /// The payloads of a file with a bar behind each and how many lines or rows are refused, or why the file
@@ -74,13 +77,18 @@ fn records_text(alloc: Global, found: &Records) -> Result<String, AllocError> {
     Ok(told)
 }
 
-fn file_told(alloc: Global, case: &(Form, bool, &[u8])) -> Result<String, AllocError> {
+fn text_told(alloc: Global, case: &(Form, bool, &str)) -> Result<String, AllocError> {
+    told(alloc, case.0, case.1, case.2.as_bytes())
+}
+
+fn bytes_told(alloc: Global, case: &(Form, bool, &[u8])) -> Result<String, AllocError> {
     told(alloc, case.0, case.1, case.2)
 }
 
 #[test]
 fn records_of_files(rt: HostRuntime) -> Result<(), Fail> {
-    expect_all(&rt, rt.alloc(), FILES, file_told)?;
+    expect_all(&rt, rt.alloc(), FILES, text_told)?;
+    expect_all(&rt, rt.alloc(), BYTES, bytes_told)?;
     Ok(())
 }
 

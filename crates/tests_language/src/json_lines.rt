@@ -14,86 +14,89 @@ const NO_OBJECT: &str = "JSON, but no object";
 const TOO_LONG: &str = "a record has at most 524288 bytes";
 
 /// Lines, paths with a dot between the names, and what is wanted.
-const LINES: &[((&[u8], &str), &str)] = &[
+const LINES: &[((&str, &str), &str)] = &[
     // Paths.
-    ((b"{}", "a"), "missing"),
-    ((b"{\"a\":{\"b\":null}}", "a"), "other"),
-    ((b"{\"a\":{\"b\":null}}", "a.b"), "null"),
-    ((b"{\"a\":{\"b\":null}}", "a.b.c"), "missing"),
-    ((b"{\"a\":{\"b\":null}}", "a.c"), "missing"),
-    ((b"{\"a\":{\"b\":null}}", "b"), "missing"),
-    ((b"{\"a\":[{\"b\":1}]}", "a"), "other"),
-    ((b"{\"a\":[{\"b\":1}]}", "a.b"), "missing"),
-    ((b"{\"a\":[[],{}],\"b\":{\"c\":true}}", "b.c"), "true"),
-    ((b"{\"ab\":1,\"\":2}", ""), "int 2"),
-    ((b"{\"ab\":1,\"\":2}", "a"), "missing"),
+    (("{}", "a"), "missing"),
+    (("{\"a\":{\"b\":null}}", "a"), "other"),
+    (("{\"a\":{\"b\":null}}", "a.b"), "null"),
+    (("{\"a\":{\"b\":null}}", "a.b.c"), "missing"),
+    (("{\"a\":{\"b\":null}}", "a.c"), "missing"),
+    (("{\"a\":{\"b\":null}}", "b"), "missing"),
+    (("{\"a\":[{\"b\":1}]}", "a"), "other"),
+    (("{\"a\":[{\"b\":1}]}", "a.b"), "missing"),
+    (("{\"a\":[[],{}],\"b\":{\"c\":true}}", "b.c"), "true"),
+    (("{\"ab\":1,\"\":2}", ""), "int 2"),
+    (("{\"ab\":1,\"\":2}", "a"), "missing"),
     // Of two equal names the last counts, also where they are written in two ways.
-    ((b"{\"a\":1,\"b\":3,\"a\":2}", "a"), "int 2"),
-    ((b"{\"a\":1,\"\\u0061\":null}", "a"), "null"),
-    ((b"{\"a\":{\"b\":1},\"a\":{\"c\":2}}", "a.b"), "missing"),
-    ((b"{\"a\":{\"b\":1},\"a\":{\"c\":2}}", "a.c"), "int 2"),
+    (("{\"a\":1,\"b\":3,\"a\":2}", "a"), "int 2"),
+    (("{\"a\":1,\"\\u0061\":null}", "a"), "null"),
+    (("{\"a\":{\"b\":1},\"a\":{\"c\":2}}", "a.b"), "missing"),
+    (("{\"a\":{\"b\":1},\"a\":{\"c\":2}}", "a.c"), "int 2"),
     // Numbers: those of 64 bits with a sign, then any double.
-    ((b"{\"a\":0}", "a"), "int 0"),
-    ((b"{\"a\":-1}", "a"), "int -1"),
+    (("{\"a\":0}", "a"), "int 0"),
+    (("{\"a\":-1}", "a"), "int -1"),
     (
-        (b"{\"a\":9223372036854775807}", "a"),
+        ("{\"a\":9223372036854775807}", "a"),
         "int 9223372036854775807",
     ),
-    ((b"{\"a\":9223372036854775808}", "a"), "other"),
+    (("{\"a\":9223372036854775808}", "a"), "other"),
     (
-        (b"{\"a\":-9223372036854775808}", "a"),
+        ("{\"a\":-9223372036854775808}", "a"),
         "int -9223372036854775808",
     ),
-    ((b"{\"a\":-9223372036854775809}", "a"), "other"),
-    ((b"{\"a\":18446744073709551615}", "a"), "other"),
-    ((b"{\"a\":18446744073709551616}", "a"), "other"),
-    ((b"{\"a\":-0}", "a"), "other"),
-    ((b"{\"a\":1.0}", "a"), "other"),
-    ((b"{\"a\":1e0}", "a"), "other"),
-    ((b"{\"a\":1e308}", "a"), "other"),
-    ((b"{\"a\":5e-324}", "a"), "other"),
-    ((b"{\"a\":1e-999}", "a"), "other"),
+    (("{\"a\":-9223372036854775809}", "a"), "other"),
+    (("{\"a\":18446744073709551615}", "a"), "other"),
+    (("{\"a\":18446744073709551616}", "a"), "other"),
+    (("{\"a\":-0}", "a"), "other"),
+    (("{\"a\":1.0}", "a"), "other"),
+    (("{\"a\":1e0}", "a"), "other"),
+    (("{\"a\":1e308}", "a"), "other"),
+    (("{\"a\":5e-324}", "a"), "other"),
+    (("{\"a\":1e-999}", "a"), "other"),
     // IEEE 754: below halfway from the greatest double to 2^1024, and above it.
-    ((b"{\"a\":1.797693134862315807e308}", "a"), "other"),
-    ((b"{\"a\":-1.797693134862315807e308}", "a"), "other"),
-    ((b"{\"a\":1.7976931348623159e308}", "a"), NO_JSON),
-    ((b"{\"a\":-1.7976931348623159e308}", "a"), NO_JSON),
-    ((b"{\"a\":1,\"b\":[1e999]}", "a"), NO_JSON),
-    ((b"{\"a\":01}", "a"), NO_JSON),
-    ((b"{\"a\":-}", "a"), NO_JSON),
-    ((b"{\"a\":1.}", "a"), NO_JSON),
-    ((b"{\"a\":.5}", "a"), NO_JSON),
-    ((b"{\"a\":1e}", "a"), NO_JSON),
-    ((b"{\"a\":+1}", "a"), NO_JSON),
+    (("{\"a\":1.797693134862315807e308}", "a"), "other"),
+    (("{\"a\":-1.797693134862315807e308}", "a"), "other"),
+    (("{\"a\":1.7976931348623159e308}", "a"), NO_JSON),
+    (("{\"a\":-1.7976931348623159e308}", "a"), NO_JSON),
+    (("{\"a\":1,\"b\":[1e999]}", "a"), NO_JSON),
+    (("{\"a\":01}", "a"), NO_JSON),
+    (("{\"a\":-}", "a"), NO_JSON),
+    (("{\"a\":1.}", "a"), NO_JSON),
+    (("{\"a\":.5}", "a"), NO_JSON),
+    (("{\"a\":1e}", "a"), NO_JSON),
+    (("{\"a\":+1}", "a"), NO_JSON),
     // Texts.
-    ((b"{\"a\":\"\\u00e9\\n\\u0000\"}", "a"), "text é\n\0"),
+    (("{\"a\":\"\\u00e9\\n\\u0000\"}", "a"), "text é\n\0"),
     (
-        (b"{\"a\":\"\\\"\\\\\\/\\b\\f\\n\\r\\t\"}", "a"),
+        ("{\"a\":\"\\\"\\\\\\/\\b\\f\\n\\r\\t\"}", "a"),
         "text \"\\/\u{8}\u{c}\n\r\t",
     ),
-    ((b"{\"a\":\"\\ud83d\\ude00\"}", "a"), "text 😀"),
-    ((b"{\"a\":\"\\uD83D\\uDE00\"}", "a"), "text 😀"),
-    ((b"{\"a\":\"\\ud83d\"}", "a"), NO_JSON),
-    ((b"{\"a\":\"\\ud83d\\u0061\"}", "a"), NO_JSON),
-    ((b"{\"a\":\"\\ude00\\ud83d\"}", "a"), NO_JSON),
-    ((b"{\"a\":\"\\x61\"}", "a"), NO_JSON),
-    ((b"{\"a\":\"\0\"}", "a"), NO_JSON),
-    ((b"{\"a\":\"\t\"}", "a"), NO_JSON),
+    (("{\"a\":\"\\ud83d\\ude00\"}", "a"), "text 😀"),
+    (("{\"a\":\"\\uD83D\\uDE00\"}", "a"), "text 😀"),
+    (("{\"a\":\"\\ud83d\"}", "a"), NO_JSON),
+    (("{\"a\":\"\\ud83d\\u0061\"}", "a"), NO_JSON),
+    (("{\"a\":\"\\ude00\\ud83d\"}", "a"), NO_JSON),
+    (("{\"a\":\"\\x61\"}", "a"), NO_JSON),
+    (("{\"a\":\"\0\"}", "a"), NO_JSON),
+    (("{\"a\":\"\t\"}", "a"), NO_JSON),
     // Blanks round the object, and what is more than an object or less.
-    ((b" \t\r\n{ \"a\" : false } \n", "a"), "false"),
-    ((b"{\"a\":1}\0", "a"), NO_JSON),
-    ((b"{\"a\":1}{}", "a"), NO_JSON),
-    ((b"\xef\xbb\xbf{\"a\":1}", "a"), NO_JSON),
-    ((b"{\"a\":1,}", "a"), NO_JSON),
-    ((b"{a:1}", "a"), NO_JSON),
-    ((b"{\"a\":1", "a"), NO_JSON),
-    ((b"", "a"), NO_JSON),
-    ((b" ", "a"), NO_JSON),
-    ((b"[{\"a\":1}]", "a"), NO_OBJECT),
-    ((b"\"a\"", "a"), NO_OBJECT),
-    ((b"1", "a"), NO_OBJECT),
-    ((b"null", "a"), NO_OBJECT),
-    // Bytes that are no text: one that begins no character, a surrogate, a long form of `/`.
+    ((" \t\r\n{ \"a\" : false } \n", "a"), "false"),
+    (("{\"a\":1}\0", "a"), NO_JSON),
+    (("{\"a\":1}{}", "a"), NO_JSON),
+    (("\u{feff}{\"a\":1}", "a"), NO_JSON),
+    (("{\"a\":1,}", "a"), NO_JSON),
+    (("{a:1}", "a"), NO_JSON),
+    (("{\"a\":1", "a"), NO_JSON),
+    (("", "a"), NO_JSON),
+    ((" ", "a"), NO_JSON),
+    (("[{\"a\":1}]", "a"), NO_OBJECT),
+    (("\"a\"", "a"), NO_OBJECT),
+    (("1", "a"), NO_OBJECT),
+    (("null", "a"), NO_OBJECT),
+];
+
+/// The same of bytes that are no text: one that begins no character, a surrogate, a long form of `/`.
+const BYTES: &[((&[u8], &str), &str)] = &[
     ((b"{\"a\":\"\xff\"}", "a"), NO_JSON),
     ((b"{\"a\":\"\xed\xa0\x80\"}", "a"), NO_JSON),
     ((b"{\"a\":\"\xc0\xaf\"}", "a"), NO_JSON),
@@ -113,17 +116,25 @@ fn in_later_row(alloc: Global, line: &[u8], path: &Path) -> Result<String, Alloc
 }
 
 /// The same by a record too.
-fn told(alloc: Global, case: &(&[u8], &str)) -> Result<String, AllocError> {
-    let (line, names) = *case;
+fn told(alloc: Global, line: &[u8], names: &str) -> Result<String, AllocError> {
     let path = path_of(alloc, names)?;
     let tree = field_or_refusal(alloc, JsonRecord::read(alloc, line), &path)?;
     let tape = in_later_row(alloc, line, &path)?;
     agreed(alloc, tree.as_str(), tape.as_str())
 }
 
+fn text_told(alloc: Global, case: &(&str, &str)) -> Result<String, AllocError> {
+    told(alloc, case.0.as_bytes(), case.1)
+}
+
+fn bytes_told(alloc: Global, case: &(&[u8], &str)) -> Result<String, AllocError> {
+    told(alloc, case.0, case.1)
+}
+
 #[test]
 fn fields(rt: HostRuntime) -> Result<(), Fail> {
-    expect_all(&rt, rt.alloc(), LINES, told)?;
+    expect_all(&rt, rt.alloc(), LINES, text_told)?;
+    expect_all(&rt, rt.alloc(), BYTES, bytes_told)?;
     Ok(())
 }
 
@@ -155,7 +166,7 @@ fn nested(alloc: Global, arrays: usize, len: usize) -> Result<String, AllocError
 
 fn nested_told(alloc: Global, case: &(usize, usize)) -> Result<String, AllocError> {
     let line = nested(alloc, case.0, case.1)?;
-    told(alloc, &(line.as_bytes(), "a"))
+    told(alloc, line.as_bytes(), "a")
 }
 
 #[test]

@@ -7,20 +7,23 @@ use std::alloc::{AllocError, Global};
 use std::test::Fail;
 
 /// A file, and its lines with a bar behind each, with a character of that number for each byte.
-const FILES: &[(&[u8], &str)] = &[
+const FILES: &[(&str, &str)] = &[
     (
-        b"{\"type\":\"Push\",\"n\":1}\n{\"type\":\"Open\",\"n\":2}\n{\"type\":\"Push\",\"n\":3}\n",
+        "{\"type\":\"Push\",\"n\":1}\n{\"type\":\"Open\",\"n\":2}\n{\"type\":\"Push\",\"n\":3}\n",
         "{\"type\":\"Push\",\"n\":1}|{\"type\":\"Open\",\"n\":2}|{\"type\":\"Push\",\"n\":3}|",
     ),
-    (b"", ""),
+    ("", ""),
     // One CR is dropped in front of an LF and at the end, and no other.
-    (b"a\r\nb\r\r\nc\rd\ne\r", "a|b\r|c\rd|e|"),
+    ("a\r\nb\r\r\nc\rd\ne\r", "a|b\r|c\rd|e|"),
     // Blank lines count nowhere, with an LF or at the end.
-    (b"\n \t\r\r\n\r\na\n\n\r \r", "a|"),
+    ("\n \t\r\r\n\r\na\n\n\r \r", "a|"),
     // A byte order mark is dropped at the start alone, and once.
-    (b"\xef\xbb\xbfa\n\xef\xbb\xbfb\n", "a|\u{ef}\u{bb}\u{bf}b|"),
-    (b"\xef\xbb\xbf\xef\xbb\xbfa", "\u{ef}\u{bb}\u{bf}a|"),
-    // What is only the beginning of a mark is text.
+    ("\u{feff}a\n\u{feff}b\n", "a|\u{ef}\u{bb}\u{bf}b|"),
+    ("\u{feff}\u{feff}a", "\u{ef}\u{bb}\u{bf}a|"),
+];
+
+/// The same of bytes that are no text: what is only the beginning of a mark stays.
+const BYTES: &[(&[u8], &str)] = &[
     (b"\xef\xbb", "\u{ef}\u{bb}|"),
     (b"\xef\xbb\r\n\xbf", "\u{ef}\u{bb}|\u{bf}|"),
 ];
@@ -80,23 +83,28 @@ fn told(alloc: Global, b: &&[u8]) -> Result<String, AllocError> {
     Ok(whole)
 }
 
+fn text_told(alloc: Global, text: &&str) -> Result<String, AllocError> {
+    told(alloc, &text.as_bytes())
+}
+
 #[test]
 fn lines_of_every_cutting(rt: HostRuntime) -> Result<(), Fail> {
-    expect_all(&rt, rt.alloc(), FILES, told)?;
+    expect_all(&rt, rt.alloc(), FILES, text_told)?;
+    expect_all(&rt, rt.alloc(), BYTES, told)?;
     Ok(())
 }
 
 /// A byte, how often it stands in a file, what stands behind, whole lines and lines too long.
-const LONG: &[((u8, usize, &[u8]), &str)] = &[
-    ((b'x', 524_288, b""), "1 0"),
-    ((b'x', 524_288, b"\r\nx"), "2 0"),
-    ((b'x', 524_288, b"\r"), "1 0"),
-    ((b'x', 524_288, b"\r\r\n"), "0 1"),
-    ((b'x', 524_289, b"\nx"), "1 1"),
-    ((b'x', 1_572_864, b""), "0 1"),
-    ((b' ', 524_288, b"\r\n"), "0 0"),
-    ((b' ', 524_289, b"\n"), "0 1"),
-    ((b' ', 524_289, b""), "0 1"),
+const LONG: &[((u8, usize, &str), &str)] = &[
+    ((b'x', 524_288, ""), "1 0"),
+    ((b'x', 524_288, "\r\nx"), "2 0"),
+    ((b'x', 524_288, "\r"), "1 0"),
+    ((b'x', 524_288, "\r\r\n"), "0 1"),
+    ((b'x', 524_289, "\nx"), "1 1"),
+    ((b'x', 1_572_864, ""), "0 1"),
+    ((b' ', 524_288, "\r\n"), "0 0"),
+    ((b' ', 524_289, "\n"), "0 1"),
+    ((b' ', 524_289, ""), "0 1"),
 ];
 
 /// Where files are cut. The last is the end of each.
@@ -119,10 +127,10 @@ fn count_in_two(alloc: Global, b: &[u8], at: usize) -> Result<String, AllocError
 }
 
 /// The same of a file, which is the same wherever it is cut.
-fn long_told(alloc: Global, case: &(u8, usize, &[u8])) -> Result<String, AllocError> {
+fn long_told(alloc: Global, case: &(u8, usize, &str)) -> Result<String, AllocError> {
     let (byte, len, end) = case;
     let mut b = vec![in alloc; *byte; *len]?;
-    b.extend_from_slice(end)?;
+    b.extend_from_slice(end.as_bytes())?;
     let whole = count_in_two(alloc, b.as_slice(), 0)?;
     for at in CUTS {
         let cut = count_in_two(alloc, b.as_slice(), *at)?;

@@ -2,8 +2,7 @@
 
 ghost use Rattle.std.specs.Prelude.{◌≡◌, ◌<◌};
 
-use crate::told::expect_all;
-use fish_lang::parse_def;
+use crate::told::{definition, expect_all};
 use fish_psf::{ActiveDef, Keys, PsfRefusal, Record, Steps, keys, parse};
 use fish_value::{Form, print_value};
 use std::alloc::{AllocError, Global};
@@ -24,23 +23,25 @@ const DEFINITIONS: &[(u16, &str)] = &[
 ];
 
 /// A form, a payload, and what is told of it: its values by id, or why it is refused.
-const PAYLOADS: &[((Form, &[u8]), &str)] = &[
+const PAYLOADS: &[((Form, &str), &str)] = &[
     (
-        (Form::Csv, b"a,\"x,1\",007"),
+        (Form::Csv, "a,\"x,1\",007"),
         "3 \"a\";4 \"x,1\";5 \"007\";9 true;",
     ),
-    ((Form::Csv, b"12,-3"), "3 12;4 -3;"),
-    ((Form::Csv, b"b,,0"), "3 \"b\";4 \"\";"),
-    ((Form::Csv, b"\"a\"\"b\""), "3 \"a\\\"b\";"),
-    ((Form::Csv, b"a\nb"), NO_RECORD),
-    ((Form::Csv, b"a,\xff"), NO_RECORD),
+    ((Form::Csv, "12,-3"), "3 12;4 -3;"),
+    ((Form::Csv, "b,,0"), "3 \"b\";4 \"\";"),
+    ((Form::Csv, "\"a\"\"b\""), "3 \"a\\\"b\";"),
+    ((Form::Csv, "a\nb"), NO_RECORD),
     (
-        (Form::Json, b"{\"$1\":1,\"$2\":\"x\"}"),
+        (Form::Json, "{\"$1\":1,\"$2\":\"x\"}"),
         "3 1;4 \"x\";9 true;",
     ),
-    ((Form::Json, b"[1]"), NO_RECORD),
-    ((Form::Json, b"{"), NO_RECORD),
+    ((Form::Json, "[1]"), NO_RECORD),
+    ((Form::Json, "{"), NO_RECORD),
 ];
+
+/// The same of bytes that are no text.
+const BYTES: &[((Form, &[u8]), &str)] = &[((Form::Csv, b"a,\xff"), NO_RECORD)];
 
 /// A form, what a payload begins and ends with, how many bytes it has, and what is told of it.
 const LONG: &[((Form, &str, &str, usize), &str)] = &[
@@ -58,10 +59,10 @@ const LONG: &[((Form, &str, &str, usize), &str)] = &[
     ((Form::Json, "", "", 524_289), TOO_LONG),
 ];
 
-fn active(alloc: Global) -> Result<Vec<ActiveDef>, Fail> {
+fn active(alloc: Global) -> Result<Vec<ActiveDef>, AllocError> {
     let mut defs = Vec::new(alloc);
     for &(id, source) in DEFINITIONS {
-        let def = parse_def(alloc, source.as_bytes())?;
+        let def = definition(alloc, source)?;
         defs.push(ActiveDef { id, def })?;
     }
     Ok(defs)
@@ -109,11 +110,11 @@ fn told<P: Ledger>(
 }
 
 /// The same with a counter of its own.
-fn told_once(alloc: Global, form: Form, payload: &[u8]) -> Result<String, Fail> {
+fn told_once(alloc: Global, form: Form, payload: &[u8]) -> Result<String, AllocError> {
     let defs = active(alloc)?;
     let told = told::<Brand>(alloc, Blank::new(1), form, payload, defs.as_slice());
     drop(defs);
-    Ok(told?)
+    told
 }
 
 fn refusal_text(alloc: Global, refusal: PsfRefusal) -> Result<String, AllocError> {
@@ -130,17 +131,23 @@ fn long_payload(alloc: Global, front: &str, end: &str, len: usize) -> Result<Str
     Ok(payload)
 }
 
-fn payload_told(alloc: Global, case: &(Form, &[u8])) -> Result<String, Fail> {
+fn text_told(alloc: Global, case: &(Form, &str)) -> Result<String, AllocError> {
+    told_once(alloc, case.0, case.1.as_bytes())
+}
+
+fn bytes_told(alloc: Global, case: &(Form, &[u8])) -> Result<String, AllocError> {
     told_once(alloc, case.0, case.1)
 }
 
-fn long_told(alloc: Global, case: &(Form, &str, &str, usize)) -> Result<String, Fail> {
+fn long_told(alloc: Global, case: &(Form, &str, &str, usize)) -> Result<String, AllocError> {
     let payload = long_payload(alloc, case.1, case.2, case.3)?;
     told_once(alloc, case.0, payload.as_bytes())
 }
 
 #[test]
 fn payloads_of_both_forms(rt: HostRuntime) -> Result<(), Fail> {
-    expect_all(&rt, rt.alloc(), PAYLOADS, payload_told)?;
-    expect_all(&rt, rt.alloc(), LONG, long_told)
+    expect_all(&rt, rt.alloc(), PAYLOADS, text_told)?;
+    expect_all(&rt, rt.alloc(), BYTES, bytes_told)?;
+    expect_all(&rt, rt.alloc(), LONG, long_told)?;
+    Ok(())
 }

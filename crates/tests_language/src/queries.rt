@@ -3,30 +3,31 @@
 
 ghost use Rattle.std.specs.Prelude.{◌≡◌, ◌<◌};
 
-use crate::told::expect_all;
-use fish_lang::{Def, parse_def};
+use crate::told::{definition, expect_all};
+use fish_lang::Def;
 use fish_lines::records;
 use fish_psf::{Record, Steps, eval, parse};
 use fish_value::{Form, Text, Value, read_value};
 use std::alloc::{AllocError, Global};
+use std::fmt::Write;
 use std::marker::Brand;
 use std::sync::ledger::{Blank, Ledger};
 use std::test::Fail;
 
 /// Rows whose third column has no whole number but two: of the others the text is none.
-const TEXTS: &[u8] =
-    b"a,b,7x\na,b,\"7x\"\na,b,007\na,b,\"7,\"\na,b,+7\na,b, 7\na,b,\"7 \"\na,b,7.0\na,b\n7,7,\n";
+const TEXTS: &str =
+    "a,b,7x\na,b,\"7x\"\na,b,007\na,b,\"7,\"\na,b,+7\na,b, 7\na,b,\"7 \"\na,b,7.0\na,b\n7,7,\n";
 
 /// Rows whose third column has whole numbers and their like.
-const NUMBERS: &[u8] = b"a,b,7\r\na,b,\"7\"\r\na,b,07\r\na,b,0\r\na,b,-0\r\na,b,-7\r\na,b,00\r\n\
+const NUMBERS: &str = "a,b,7\r\na,b,\"7\"\r\na,b,07\r\na,b,0\r\na,b,-0\r\na,b,-7\r\na,b,00\r\n\
 a,b,9223372036854775807\r\na,b,9223372036854775808\r\na,b,-9223372036854775808\r\na,b,-\r\na,b,7";
 
 /// Lines of JSON with the same names.
-const LINES: &[u8] =
-    b"{\"$3\":7}\r\n{\"$3\":\"7\"}\n\n{\"$3\":7.0}\n{\"$3\":[7]}\n[7]\n{\"$3\":7,\"$3\":8}\n{\"$3\":7}";
+const LINES: &str =
+    "{\"$3\":7}\r\n{\"$3\":\"7\"}\n\n{\"$3\":7.0}\n{\"$3\":[7]}\n[7]\n{\"$3\":7,\"$3\":8}\n{\"$3\":7}";
 
 /// A form, a file, a value, and the numbers of the records that have it.
-const QUERIES: &[((Form, &[u8], &str), &str)] = &[
+const QUERIES: &[((Form, &str, &str), &str)] = &[
     ((Form::Csv, TEXTS, "7"), ""),
     ((Form::Csv, TEXTS, "\"7x\""), "0;1;"),
     ((Form::Csv, TEXTS, "\"007\""), "2;"),
@@ -54,12 +55,12 @@ const QUERIES: &[((Form, &[u8], &str), &str)] = &[
 ];
 
 /// A row with a comma inside a field, and one of a number alone.
-const COLUMNS: &[u8] = b"a,\"x,1\",007\n";
+const COLUMNS: &str = "a,\"x,1\",007\n";
 
-const NUMBER: &[u8] = b"7\n";
+const NUMBER: &str = "7\n";
 
 /// A definition with a form, a file and a value, and the numbers of the records that have it.
-const FIELDS: &[((&str, (Form, &[u8], &str)), &str)] = &[
+const FIELDS: &[((&str, (Form, &str, &str)), &str)] = &[
     (("take $2", (Form::Csv, COLUMNS, "\"x,1\"")), "0;"),
     (("take $3", (Form::Csv, COLUMNS, "7")), ""),
     (("take $3", (Form::Csv, COLUMNS, "\"007\"")), "0;"),
@@ -89,11 +90,15 @@ fn gives_on<P: Ledger>(
     payload: &Text,
     def: &Def,
     value: &Value,
-) -> Result<bool, Fail> {
-    let record = parse(alloc, form, payload.as_bytes(), parses)?;
-    let same = gives(alloc, def, &record, value);
-    drop(record);
-    Ok(same?)
+) -> Result<bool, AllocError> {
+    match parse(alloc, form, payload.as_bytes(), parses) {
+        Ok(record) => {
+            let same = gives(alloc, def, &record, value);
+            drop(record);
+            same
+        }
+        Err(_) => Err(AllocError),
+    }
 }
 
 /// The numbers of the payloads on which it does.
@@ -104,12 +109,11 @@ fn numbers_of<P: Ledger>(
     payloads: &[Text],
     def: &Def,
     value: &Value,
-) -> Result<String, Fail> {
+) -> Result<String, AllocError> {
     let mut numbers = String::new(alloc);
     for (number, payload) in payloads.iter().enumerate() {
         if gives_on(alloc, parses, form, payload, def, value)? {
-            let told = format!(in alloc; "{number};")?;
-            numbers.push_str(told.as_str())?;
+            write!(numbers, "{number};")?;
         }
     }
     Ok(numbers)
@@ -119,37 +123,41 @@ fn numbers_of<P: Ledger>(
 fn numbers_in<P: Ledger>(
     alloc: Global,
     blank: Blank,
-    case: &(Form, &[u8], &str),
+    case: &(Form, &str, &str),
     def: &Def,
     value: &Value,
-) -> Result<String, Fail>
+) -> Result<String, AllocError>
     requires name { blank.name ≡ P.name }
     requires parts { blank.parts ≡ P.parts }
     requires some { 0 < blank.parts }
 {
     let mut parses = Steps::<P>::new(blank);
-    let found = records(alloc, case.0, false, case.1)?;
-    let payloads = found.payloads.as_slice();
-    let numbers = numbers_of(alloc, &mut parses, case.0, payloads, def, value);
-    drop(found);
-    numbers
+    match records(alloc, case.0, false, case.1.as_bytes()) {
+        Ok(found) => {
+            let payloads = found.payloads.as_slice();
+            let numbers = numbers_of(alloc, &mut parses, case.0, payloads, def, value);
+            drop(found);
+            numbers
+        }
+        Err(refusal) => format!(in alloc; "{refusal}"),
+    }
 }
 
 /// The same of a value that is there, with a counter of its own.
 fn numbers_with(
     alloc: Global,
-    case: &(Form, &[u8], &str),
+    case: &(Form, &str, &str),
     def: &Def,
     value: &Option<Value>,
-) -> Result<String, Fail> {
+) -> Result<String, AllocError> {
     match value {
         Some(value) => numbers_in::<Brand>(alloc, Blank::new(1), case, def, value),
-        None => Ok(String::from_str(alloc, "no value")?),
+        None => String::from_str(alloc, "no value"),
     }
 }
 
 /// The same of a value's text.
-fn with_def(alloc: Global, case: &(Form, &[u8], &str), def: &Def) -> Result<String, Fail> {
+fn with_def(alloc: Global, case: &(Form, &str, &str), def: &Def) -> Result<String, AllocError> {
     let value = read_value(alloc, case.2.as_bytes())?;
     let numbers = numbers_with(alloc, case, def, &value);
     drop(value);
@@ -157,29 +165,31 @@ fn with_def(alloc: Global, case: &(Form, &[u8], &str), def: &Def) -> Result<Stri
 }
 
 /// The same of a definition's text.
-fn told_by(alloc: Global, def: &str, case: &(Form, &[u8], &str)) -> Result<String, Fail> {
-    let def = parse_def(alloc, def.as_bytes())?;
+fn told_by(alloc: Global, def: &str, case: &(Form, &str, &str)) -> Result<String, AllocError> {
+    let def = definition(alloc, def)?;
     let numbers = with_def(alloc, case, &def);
     drop(def);
     numbers
 }
 
 /// The same by the third column.
-fn told(alloc: Global, case: &(Form, &[u8], &str)) -> Result<String, Fail> {
+fn told(alloc: Global, case: &(Form, &str, &str)) -> Result<String, AllocError> {
     told_by(alloc, "take $3", case)
 }
 
 #[test]
 fn values_of_the_third_column(rt: HostRuntime) -> Result<(), Fail> {
-    expect_all(&rt, rt.alloc(), QUERIES, told)
+    expect_all(&rt, rt.alloc(), QUERIES, told)?;
+    Ok(())
 }
 
 /// What is told of a definition on a file.
-fn field_told(alloc: Global, case: &(&str, (Form, &[u8], &str))) -> Result<String, Fail> {
+fn field_told(alloc: Global, case: &(&str, (Form, &str, &str))) -> Result<String, AllocError> {
     told_by(alloc, case.0, &case.1)
 }
 
 #[test]
 fn values_of_columns(rt: HostRuntime) -> Result<(), Fail> {
-    expect_all(&rt, rt.alloc(), FIELDS, field_told)
+    expect_all(&rt, rt.alloc(), FIELDS, field_told)?;
+    Ok(())
 }

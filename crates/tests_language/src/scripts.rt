@@ -9,180 +9,183 @@ use std::test::Fail;
 
 /// Texts without lanes. A statement is told in its own words, with the definition's canonical text and all
 /// that it leaves to be understood.
-const STATEMENTS: &[(&[u8], &str)] = &[
-    (b"", ""),
-    (b"\n\n", ""),
-    (b" \t\n#\n  # checkpoint\n\t#", ""),
-    (b"checkpoint", "checkpoint;"),
-    (b" \tcheckpoint\t \n", "checkpoint;"),
-    (b"checkpoint\r\ncheckpoint\n", "checkpoint; checkpoint;"),
+const STATEMENTS: &[(&str, &str)] = &[
+    ("", ""),
+    ("\n\n", ""),
+    (" \t\n#\n  # checkpoint\n\t#", ""),
+    ("checkpoint", "checkpoint;"),
+    (" \tcheckpoint\t \n", "checkpoint;"),
+    ("checkpoint\r\ncheckpoint\n", "checkpoint; checkpoint;"),
     // a CR is dropped in front of an LF alone, and once
-    (b"checkpoint\r", "unexpected line 1"),
-    (b"checkpoint\r\r\n", "unexpected line 1"),
-    (b"\r\n", ""),
-    (b"checkpoint # now", "unexpected line 1"),
-    (b"Checkpoint", "unexpected line 1"),
+    ("checkpoint\r", "unexpected line 1"),
+    ("checkpoint\r\r\n", "unexpected line 1"),
+    ("\r\n", ""),
+    ("checkpoint # now", "unexpected line 1"),
+    ("Checkpoint", "unexpected line 1"),
     // definitions: what stands behind the blanks behind `as`
-    (b"register t as take type", "register t take type;"),
+    ("register t as take type", "register t take type;"),
     (
-        b"register\tt  as \t take  \"type\"  when not ( n<3 or n >5)",
+        "register\tt  as \t take  \"type\"  when not ( n<3 or n >5)",
         "register t take type when not (n < 3 or n > 5);",
     ),
-    (b"register take as take n", "register take take n;"),
-    (b"register t as", "definition line 1 unexpected at 0"),
-    (b"register t as  ", "definition line 1 unexpected at 0"),
-    (b"register t as take ", "definition line 1 unexpected at 5"),
+    ("register take as take n", "register take take n;"),
+    ("register t as", "definition line 1 unexpected at 0"),
+    ("register t as  ", "definition line 1 unexpected at 0"),
+    ("register t as take ", "definition line 1 unexpected at 5"),
     (
-        b"\nregister t as take type whem x exists",
+        "\nregister t as take type whem x exists",
         "definition line 2 unexpected at 10",
     ),
     (
-        b"register t as bucket n by 0",
+        "register t as bucket n by 0",
         "definition line 1 zero width at 12",
     ),
-    (b"register t asx take n", "unexpected line 1"),
-    (b"register t", "unexpected line 1"),
-    (b"register as take n", "unexpected line 1"),
+    ("register t asx take n", "unexpected line 1"),
+    ("register t", "unexpected line 1"),
+    ("register as take n", "unexpected line 1"),
     // names
-    (b"deregister _9", "deregister _9;"),
-    (b"deregister 9_", "unexpected line 1"),
-    (b"deregister a-b", "unexpected line 1"),
-    (b"deregister $1", "unexpected line 1"),
-    (b"deregister", "unexpected line 1"),
-    (b"deregister a b", "unexpected line 1"),
+    ("deregister _9", "deregister _9;"),
+    ("deregister 9_", "unexpected line 1"),
+    ("deregister a-b", "unexpected line 1"),
+    ("deregister $1", "unexpected line 1"),
+    ("deregister", "unexpected line 1"),
+    ("deregister a b", "unexpected line 1"),
     (
-        b"deregister abcdefghijklmnopqrstuvwxyz_01234",
+        "deregister abcdefghijklmnopqrstuvwxyz_01234",
         "deregister abcdefghijklmnopqrstuvwxyz_01234;",
     ),
     (
-        b"deregister abcdefghijklmnopqrstuvwxyz_012345",
+        "deregister abcdefghijklmnopqrstuvwxyz_012345",
         "unexpected line 1",
     ),
     // files
-    (b"ingest json a", "ingest json a;"),
-    (b"ingest csv a", "ingest csv a;"),
-    (b"ingest csv a header", "ingest csv a header;"),
-    (b"ingest json ~/a$b'c\\d", "ingest json ~/a$b'c\\d;"),
-    (b"ingest json \"a b\"", "ingest json a b;"),
-    (b"ingest csv \"a\\\"#b\" header", "ingest csv a\"#b header;"),
-    (b"ingest json \"a\" header", "unexpected line 1"),
-    (b"ingest csv a headers", "unexpected line 1"),
-    (b"ingest csv a header header", "unexpected line 1"),
-    (b"ingest json \"\"", "unexpected line 1"),
-    (b"ingest json \"a\"b", "unexpected line 1"),
-    (b"ingest json \"a", "unexpected line 1"),
-    (b"ingest json a\"b", "unexpected line 1"),
-    (b"ingest json a#b", "unexpected line 1"),
-    (b"ingest json \xc3\xa9", "unexpected line 1"),
-    (b"ingest json \"\xc3\xa9\"", "ingest json é;"),
-    (b"ingest json", "unexpected line 1"),
-    (b"ingest xml a", "unexpected line 1"),
-    (b"ingest a", "unexpected line 1"),
+    ("ingest json a", "ingest json a;"),
+    ("ingest csv a", "ingest csv a;"),
+    ("ingest csv a header", "ingest csv a header;"),
+    ("ingest json ~/a$b'c\\d", "ingest json ~/a$b'c\\d;"),
+    ("ingest json \"a b\"", "ingest json a b;"),
+    ("ingest csv \"a\\\"#b\" header", "ingest csv a\"#b header;"),
+    ("ingest json \"a\" header", "unexpected line 1"),
+    ("ingest csv a headers", "unexpected line 1"),
+    ("ingest csv a header header", "unexpected line 1"),
+    ("ingest json \"\"", "unexpected line 1"),
+    ("ingest json \"a\"b", "unexpected line 1"),
+    ("ingest json \"a", "unexpected line 1"),
+    ("ingest json a\"b", "unexpected line 1"),
+    ("ingest json a#b", "unexpected line 1"),
+    ("ingest json é", "unexpected line 1"),
+    ("ingest json \"é\"", "ingest json é;"),
+    ("ingest json", "unexpected line 1"),
+    ("ingest xml a", "unexpected line 1"),
+    ("ingest a", "unexpected line 1"),
     // what is asked for
     (
-        b"scan t = \"Push\"",
+        "scan t = \"Push\"",
         "scan t = \"Push\" from none to none by auto;",
     ),
     (
-        b"explain t = true",
+        "explain t = true",
         "explain t = true from none to none by auto;",
     ),
     (
-        b"scan t = -7 by auto",
+        "scan t = -7 by auto",
         "scan t = -7 from none to none by auto;",
     ),
     (
-        b"scan t = \"a \\\" from 1\" from 0 to 268435455 by full",
+        "scan t = \"a \\\" from 1\" from 0 to 268435455 by full",
         "scan t = \"a \\\" from 1\" from 0 to 268435455 by full;",
     ),
     (
-        b"explain t = 1 to 5",
+        "explain t = 1 to 5",
         "explain t = 1 from none to 5 by auto;",
     ),
     (
-        b"explain t = 1 from 5 by index",
+        "explain t = 1 from 5 by index",
         "explain t = 1 from 5 to none by index;",
     ),
-    (b"scan t = 1 from 5 to 5", "scan t = 1 from 5 to 5 by auto;"),
-    (b"scan t = 1 to 5 from 5", "unexpected line 1"),
-    (b"scan t = 1 by full to 5", "unexpected line 1"),
-    (b"scan t = 1 from 268435456", "unexpected line 1"),
-    (b"scan t = 1 from 05", "unexpected line 1"),
-    (b"scan t = 1 from -0", "unexpected line 1"),
-    (b"scan t = 1 from -1", "unexpected line 1"),
-    (b"scan t = 1 from", "unexpected line 1"),
-    (b"scan t = 1 from 1 from 1", "unexpected line 1"),
-    (b"scan t = 1 by", "unexpected line 1"),
-    (b"scan t = 1 by row", "unexpected line 1"),
-    (b"scan t = 1 by full full", "unexpected line 1"),
-    (b"scan t=1", "unexpected line 1"),
-    (b"scan t = ", "unexpected line 1"),
-    (b"scan t = -0", "unexpected line 1"),
-    (b"scan t = 1.5", "unexpected line 1"),
-    (b"scan t = Push", "unexpected line 1"),
-    (b"scan t = \"a\"by full", "unexpected line 1"),
-    (b"scan = 1", "unexpected line 1"),
-    // bytes that are no text
-    (b"checkpoint\n\xff", "not text line 2"),
-    (b"# \xff\n \t#\xc3\ncheckpoint", "checkpoint;"),
-    (b"checkpoint \xff", "not text line 1"),
-    (b"register t as take \xff", "not text line 1"),
+    ("scan t = 1 from 5 to 5", "scan t = 1 from 5 to 5 by auto;"),
+    ("scan t = 1 to 5 from 5", "unexpected line 1"),
+    ("scan t = 1 by full to 5", "unexpected line 1"),
+    ("scan t = 1 from 268435456", "unexpected line 1"),
+    ("scan t = 1 from 05", "unexpected line 1"),
+    ("scan t = 1 from -0", "unexpected line 1"),
+    ("scan t = 1 from -1", "unexpected line 1"),
+    ("scan t = 1 from", "unexpected line 1"),
+    ("scan t = 1 from 1 from 1", "unexpected line 1"),
+    ("scan t = 1 by", "unexpected line 1"),
+    ("scan t = 1 by row", "unexpected line 1"),
+    ("scan t = 1 by full full", "unexpected line 1"),
+    ("scan t=1", "unexpected line 1"),
+    ("scan t = ", "unexpected line 1"),
+    ("scan t = -0", "unexpected line 1"),
+    ("scan t = 1.5", "unexpected line 1"),
+    ("scan t = Push", "unexpected line 1"),
+    ("scan t = \"a\"by full", "unexpected line 1"),
+    ("scan = 1", "unexpected line 1"),
     // the first line decides
-    (b"lane\n\xff", "unexpected line 1"),
-    (b"register t as\nend", "definition line 1 unexpected at 0"),
-    (b"checkpoint\n\n#\nend\nlane", "unexpected line 4"),
+    ("register t as\nend", "definition line 1 unexpected at 0"),
+    ("checkpoint\n\n#\nend\nlane", "unexpected line 4"),
 ];
 
 /// Texts with lanes. A block is told in braces, with a bar behind each lane.
-const LANES: &[(&[u8], &str)] = &[
-    (b"lanes\nlane\nend", "{ | }"),
+const LANES: &[(&str, &str)] = &[
+    ("lanes\nlane\nend", "{ | }"),
     (
-        b"lanes\n\nlane\ningest json a\n# b\nscan t = 1\nlane\nend\ncheckpoint",
+        "lanes\n\nlane\ningest json a\n# b\nscan t = 1\nlane\nend\ncheckpoint",
         "{ ingest json a; scan t = 1 from none to none by auto; | | } checkpoint;",
     ),
     (
-        b"lanes\nlane\nregister t as take n\nderegister t\ncheckpoint\nlane\nexplain t = 1\nend\nlanes\nlane\nend\n",
+        "lanes\nlane\nregister t as take n\nderegister t\ncheckpoint\nlane\nexplain t = 1\nend\nlanes\nlane\nend\n",
         "{ register t take n; deregister t; checkpoint; | explain t = 1 from none to none by auto; | } { | }",
     ),
     // what can't stand there
-    (b"lane", "unexpected line 1"),
-    (b"end", "unexpected line 1"),
-    (b"lanes\nend", "unexpected line 2"),
-    (b"lanes\nlanes", "unexpected line 2"),
-    (b"lanes\nlane\nlanes", "unexpected line 3"),
-    (b"lanes\ncheckpoint", "unexpected line 2"),
-    (b"lanes\nlane\nend\nlane", "unexpected line 4"),
-    (b"lanes a", "unexpected line 1"),
+    ("lane", "unexpected line 1"),
+    ("end", "unexpected line 1"),
+    ("lanes\nend", "unexpected line 2"),
+    ("lanes\nlanes", "unexpected line 2"),
+    ("lanes\nlane\nlanes", "unexpected line 3"),
+    ("lanes\ncheckpoint", "unexpected line 2"),
+    ("lanes\nlane\nend\nlane", "unexpected line 4"),
+    ("lanes a", "unexpected line 1"),
     // the text ends within a block: the number of its lines plus one
-    (b"lanes", "unexpected line 2"),
-    (b"lanes\n", "unexpected line 2"),
-    (b"lanes\nlane\n\n#", "unexpected line 5"),
-    (b"lanes\nlane\n\n", "unexpected line 4"),
+    ("lanes", "unexpected line 2"),
+    ("lanes\n", "unexpected line 2"),
+    ("lanes\nlane\n\n#", "unexpected line 5"),
+    ("lanes\nlane\n\n", "unexpected line 4"),
     // control in a lane behind the first
     (
-        b"lanes\nlane\ningest json a\nlane\ncheckpoint\nend",
+        "lanes\nlane\ningest json a\nlane\ncheckpoint\nend",
         "control in lane line 5",
     ),
     (
-        b"lanes\nlane\nlane\nderegister t\nend",
+        "lanes\nlane\nlane\nderegister t\nend",
         "control in lane line 4",
     ),
     (
-        b"lanes\nlane\nlane\nregister t as take n\nend",
+        "lanes\nlane\nlane\nregister t as take n\nend",
         "control in lane line 4",
     ),
-    // on one line: no text, then what can't stand there, then the definition, then the lane
-    (b"lanes\nregister t as \xff", "not text line 2"),
-    (b"lanes\nregister t as", "unexpected line 2"),
+    // on one line: what can't stand there, then the definition, then the lane
+    ("lanes\nregister t as", "unexpected line 2"),
     (
-        b"lanes\nlane\nlane\nregister t as",
+        "lanes\nlane\nlane\nregister t as",
         "definition line 4 unexpected at 0",
     ),
     // a later block begins anew
     (
-        b"lanes\nlane\nlane\nend\nlanes\nlane\ncheckpoint\nend",
+        "lanes\nlane\nlane\nend\nlanes\nlane\ncheckpoint\nend",
         "{ | | } { checkpoint; | }",
     ),
+];
+
+/// Scripts that are no texts: the first line decides, and on one line that it is no text.
+const BYTES: &[(&[u8], &str)] = &[
+    (b"checkpoint\n\xff", "not text line 2"),
+    (b"# \xff\n \t#\xc3\ncheckpoint", "checkpoint;"),
+    (b"checkpoint \xff", "not text line 1"),
+    (b"register t as take \xff", "not text line 1"),
+    (b"lane\n\xff", "unexpected line 1"),
+    (b"lanes\nregister t as \xff", "not text line 2"),
 ];
 
 /// What stands in front, a line, how often it stands there, what stands behind, and the number of blocks
@@ -337,8 +340,8 @@ fn script_told(alloc: Global, script: &Script) -> Result<String, AllocError> {
     String::from_str(alloc, told.as_str().trim_end())
 }
 
-fn parsed(alloc: Global, text: &&[u8]) -> Result<String, AllocError> {
-    match parse_script(alloc, *text) {
+fn parsed(alloc: Global, bytes: &&[u8]) -> Result<String, AllocError> {
+    match parse_script(alloc, *bytes) {
         Ok(script) => {
             let told = script_told(alloc, &script);
             drop(script);
@@ -348,15 +351,25 @@ fn parsed(alloc: Global, text: &&[u8]) -> Result<String, AllocError> {
     }
 }
 
+fn parsed_text(alloc: Global, text: &&str) -> Result<String, AllocError> {
+    parsed(alloc, &text.as_bytes())
+}
+
 #[test]
 fn statements(rt: HostRuntime) -> Result<(), Fail> {
-    expect_all(&rt, rt.alloc(), STATEMENTS, parsed)?;
+    expect_all(&rt, rt.alloc(), STATEMENTS, parsed_text)?;
     Ok(())
 }
 
 #[test]
 fn lanes(rt: HostRuntime) -> Result<(), Fail> {
-    expect_all(&rt, rt.alloc(), LANES, parsed)?;
+    expect_all(&rt, rt.alloc(), LANES, parsed_text)?;
+    Ok(())
+}
+
+#[test]
+fn bytes(rt: HostRuntime) -> Result<(), Fail> {
+    expect_all(&rt, rt.alloc(), BYTES, parsed)?;
     Ok(())
 }
 

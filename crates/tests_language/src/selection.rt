@@ -1,8 +1,8 @@
 //! Definitions on lines, with values worked out by hand from what each word of the language means.
 
-use crate::told::{agreed, expect_all, value_text};
+use crate::told::{agreed, definition, expect_all, value_text};
 use fish_json::{JsonReader, JsonRecord};
-use fish_lang::{Def, parse_def};
+use fish_lang::Def;
 use fish_psf::{Parsed, Record, eval, holds};
 use fish_value::Value;
 use std::alloc::{AllocError, Global};
@@ -129,43 +129,55 @@ fn value_on<R: Parsed>(alloc: Global, def: &Def, rec: &R) -> Result<String, Allo
     told
 }
 
+/// The record that a line is. One that is none counts as want of memory, so that it shows.
+fn record_of(alloc: Global, line: &str) -> Result<JsonRecord, AllocError> {
+    match JsonRecord::read(alloc, line.as_bytes()) {
+        Ok(record) => Ok(record),
+        Err(_) => Err(AllocError),
+    }
+}
+
 /// What it gives on a line that is read as a record.
-fn in_record(alloc: Global, def: &Def, line: &str) -> Result<String, Fail> {
-    let record = JsonRecord::read(alloc, line.as_bytes())?;
+fn in_record(alloc: Global, def: &Def, line: &str) -> Result<String, AllocError> {
+    let record = record_of(alloc, line)?;
     let told = value_on(alloc, def, &record);
     drop(record);
-    Ok(told?)
+    told
 }
 
 /// What it gives on a line that is read as a record of any form.
-fn in_any_form(alloc: Global, def: &Def, line: &str) -> Result<String, Fail> {
-    let record = Record::Json(JsonRecord::read(alloc, line.as_bytes())?);
+fn in_any_form(alloc: Global, def: &Def, line: &str) -> Result<String, AllocError> {
+    let record = Record::Json(record_of(alloc, line)?);
     let told = value_on(alloc, def, &record);
     drop(record);
-    Ok(told?)
+    told
 }
 
 /// What it gives on a line that is read as a row of a reader.
-fn in_row(alloc: Global, def: &Def, line: &str) -> Result<String, Fail> {
+fn in_row(alloc: Global, def: &Def, line: &str) -> Result<String, AllocError> {
     let mut reader = JsonReader::new(alloc);
-    let row = reader.read(alloc, line.as_bytes())?;
-    let told = value_on(alloc, def, &row);
-    drop(row);
-    Ok(told?)
+    match reader.read(alloc, line.as_bytes()) {
+        Ok(row) => {
+            let told = value_on(alloc, def, &row);
+            drop(row);
+            told
+        }
+        Err(refusal) => format!(in alloc; "{refusal}"),
+    }
 }
 
 /// What it gives on a line, read in each way.
-fn on_line(alloc: Global, def: &Def, line: &str) -> Result<String, Fail> {
+fn on_line(alloc: Global, def: &Def, line: &str) -> Result<String, AllocError> {
     let record = in_record(alloc, def, line)?;
     let any = in_any_form(alloc, def, line)?;
     let row = in_row(alloc, def, line)?;
     let both = agreed(alloc, record.as_str(), any.as_str())?;
-    Ok(agreed(alloc, both.as_str(), row.as_str())?)
+    agreed(alloc, both.as_str(), row.as_str())
 }
 
 /// What a definition gives on a line.
-fn value_by(alloc: Global, case: &(&str, &str)) -> Result<String, Fail> {
-    let def = parse_def(alloc, case.0.as_bytes())?;
+fn value_by(alloc: Global, case: &(&str, &str)) -> Result<String, AllocError> {
+    let def = definition(alloc, case.0)?;
     let told = on_line(alloc, &def, case.1);
     drop(def);
     told
@@ -173,30 +185,32 @@ fn value_by(alloc: Global, case: &(&str, &str)) -> Result<String, Fail> {
 
 #[test]
 fn values(rt: HostRuntime) -> Result<(), Fail> {
-    expect_all(&rt, rt.alloc(), VALUES, value_by)
+    expect_all(&rt, rt.alloc(), VALUES, value_by)?;
+    Ok(())
 }
 
 /// Whether a flag's condition holds on a line: `true` or `false`, or `no flag`.
-fn holds_on(alloc: Global, def: &Def, line: &str) -> Result<&'static str, Fail> {
+fn holds_on(alloc: Global, def: &Def, line: &str) -> Result<&'static str, AllocError> {
     let Def::Flag { when } = def else {
         return Ok("no flag");
     };
-    let record = JsonRecord::read(alloc, line.as_bytes())?;
+    let record = record_of(alloc, line)?;
     let truth = holds(when, &record);
     drop(record);
     Ok(if truth { "true" } else { "false" })
 }
 
-fn holds_by(alloc: Global, case: &(&str, &str)) -> Result<String, Fail> {
-    let def = parse_def(alloc, case.0.as_bytes())?;
+fn holds_by(alloc: Global, case: &(&str, &str)) -> Result<String, AllocError> {
+    let def = definition(alloc, case.0)?;
     let truth = holds_on(alloc, &def, case.1);
     drop(def);
-    Ok(String::from_str(alloc, truth?)?)
+    String::from_str(alloc, truth?)
 }
 
 #[test]
 fn conditions(rt: HostRuntime) -> Result<(), Fail> {
-    expect_all(&rt, rt.alloc(), CONDITIONS, holds_by)
+    expect_all(&rt, rt.alloc(), CONDITIONS, holds_by)?;
+    Ok(())
 }
 
 /// A definition and the bytes of a text at `a`, and how many bytes are told of the value and how they begin.
@@ -218,14 +232,15 @@ fn long_line(alloc: Global, len: usize) -> Result<String, AllocError> {
     Ok(line)
 }
 
-fn long_told(alloc: Global, case: &(&str, usize)) -> Result<String, Fail> {
+fn long_told(alloc: Global, case: &(&str, usize)) -> Result<String, AllocError> {
     let line = long_line(alloc, case.1)?;
     let told = value_by(alloc, &(case.0, line.as_str()))?;
     let kind = told.as_str().trim_end_matches('x').trim_end();
-    Ok(format!(in alloc; "{} bytes {kind}", told.len())?)
+    format!(in alloc; "{} bytes {kind}", told.len())
 }
 
 #[test]
 fn long_texts(rt: HostRuntime) -> Result<(), Fail> {
-    expect_all(&rt, rt.alloc(), LONG, long_told)
+    expect_all(&rt, rt.alloc(), LONG, long_told)?;
+    Ok(())
 }

@@ -41,12 +41,16 @@ fn strings(rt: HostRuntime) -> Result<(), Fail> {
     Ok(())
 }
 
-/// Bytes, and whether they are a text and JSON.
+/// Texts, and whether they are JSON.
+const TEXTS: &[(&str, &str)] = &[
+    ("", "a text"),
+    ("\"é\"", "a text, JSON"),
+    ("{\"a\":[1,null]}", "a text, JSON"),
+    ("{\"a\":[1,null}", "a text"),
+];
+
+/// Bytes that are no text.
 const BYTES: &[(&[u8], &str)] = &[
-    (b"", "a text"),
-    (b"\"\xc3\xa9\"", "a text, JSON"),
-    (b"{\"a\":[1,null]}", "a text, JSON"),
-    (b"{\"a\":[1,null}", "a text"),
     (b"\"\xff\"", "neither"),
     (b"\"\xc3\"", "neither"),
     (b"\"\xed\xa0\x80\"", "neither"),
@@ -75,8 +79,13 @@ fn kind_of(alloc: Global, bytes: &&[u8]) -> Result<String, AllocError> {
     String::from_str(alloc, kind)
 }
 
+fn kind_of_text(alloc: Global, text: &&str) -> Result<String, AllocError> {
+    kind_of(alloc, &text.as_bytes())
+}
+
 #[test]
 fn bytes(rt: HostRuntime) -> Result<(), Fail> {
+    expect_all(&rt, rt.alloc(), TEXTS, kind_of_text)?;
     expect_all(&rt, rt.alloc(), BYTES, kind_of)?;
     Ok(())
 }

@@ -1,5 +1,6 @@
 //! Answers as texts, so that tables hold what is wanted in plain words, and the two assertions.
 
+use fish_lang::{Def, parse_def};
 use fish_psf::Parsed;
 use fish_value::{Field, Path, Text, Value};
 use std::alloc::{AllocError, Global};
@@ -34,6 +35,14 @@ pub fn agreed(alloc: Global, one: &str, other: &str) -> Result<String, AllocErro
         return String::from_str(alloc, one);
     }
     format!(in alloc; "{one} or {other}")
+}
+
+/// The definition that a text is. One that is none counts as want of memory, so that it shows.
+pub fn definition(alloc: Global, source: &str) -> Result<Def, AllocError> {
+    match parse_def(alloc, source.as_bytes()) {
+        Ok(def) => Ok(def),
+        Err(_) => Err(AllocError),
+    }
 }
 
 /// The path of names with a dot between them.

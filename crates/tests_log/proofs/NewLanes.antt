@@ -1,5 +1,5 @@
 -- Lanes that are made one after the other.
-use Rattle.std.proofs.Common.{◌≤◌, ◌<◌, ◌+◌, ◌++◌, ℕ, zero, suc, List, [], ◌∷◌, length, sym, subst, arith}
+use Rattle.std.proofs.Common.{◌≤◌, ◌+◌, ◌++◌, ℕ, zero, suc, List, [], ◌∷◌, length, sym, subst, arith}
 use Rattle.std.proofs.lemmas.List.Elements.{All-weaker}
 use Rattle.std.proofs.lemmas.List.{length-append}
 use Rattle.fish_lanes.proofs.Lists.{some_once}

@@ -1,23 +1,13 @@
 //! What scans beside lanes answered is what a plain search finds in the closed log.
 
 use crate::expecting::expect;
-use crate::questions::{ASKED, KIND, Kept};
+use crate::questions::{Kept, asks_kind, text_at};
 use crate::races::{Left, RECORDS, raced_log};
 use fish_catalog::Entry;
 use fish_scan::How;
 use fish_value::{Row, Text};
 use std::process::Abort;
 use std::test::Fail;
-
-/// Whether a text stands anywhere in some bytes.
-fn has(bytes: &[u8], text: &[u8]) -> bool {
-    for start in 0..bytes.len() {
-        if bytes[start..].starts_with(text) {
-            return true;
-        }
-    }
-    false
-}
 
 /// Whether a scan found a number open.
 fn is_open(kept: &Kept, number: u32) -> bool {
@@ -26,10 +16,10 @@ fn is_open(kept: &Kept, number: u32) -> bool {
 
 /// The payload of the record at a number, if the scan has to find it: it isn't open, and has the text.
 fn wanted_at<'a>(entries: &'a [Entry], kept: &Kept, number: u32) -> Option<&'a Text> {
-    let (_, _, _, text) = ASKED.get(kept.asked)?;
+    let text = text_at(kept.asked)?;
     match entries.get(number as usize)? {
-        Entry::Stored { payload, .. } if !is_open(kept, number) && has(payload.as_bytes(), text) =>
-            { Some(payload) }
+        Entry::Stored { payload, .. }
+            if !is_open(kept, number) && payload.as_str().contains(text) => { Some(payload) }
         Entry::Stored { .. } | Entry::Void => None,
     }
 }
@@ -91,10 +81,8 @@ fn differing(entries: &[Entry], kept: &[Kept]) -> usize {
 fn answered(kept: &[Kept], how: How) -> usize {
     let mut count = 0;
     for one in kept {
-        if let Some((name, _, asked, _)) = ASKED.get(one.asked) {
-            if *name == KIND.0 && *asked == how {
-                count = usize::saturating_add(count, 1);
-            }
+        if asks_kind(one.asked, how) {
+            count = usize::saturating_add(count, 1);
         }
     }
     count

@@ -12,6 +12,7 @@ ghost use Rattle.fish_rule.specs.Start.{CanOpen};
 ghost use Rattle.tests_log.specs.Heads.{AreOlder};
 ghost use Rattle.tests_log.specs.Lanes.{IsOutOf};
 
+use crate::cause::Cause;
 use crate::entries::has_entry;
 use crate::expecting::expect;
 use crate::lanes::store;
@@ -158,7 +159,7 @@ fn expect_heads<R: Abort>(rt: &R, case: &Case, heads: &[u64]) {
 }
 
 /// The catalogue with the definition, for a log that begins at a number.
-fn catalog_at(alloc: Global, number: u32) -> Result<Catalog, Fail>
+fn catalog_at(alloc: Global, number: u32) -> Result<Catalog, Cause>
     ensures { IfOk result (λ catalog. All (IsClamped number) catalog) }
 {
     let (first, defs) = defined(alloc, ONE_PAGE, SOURCES)?;
@@ -169,7 +170,7 @@ fn catalog_at(alloc: Global, number: u32) -> Result<Catalog, Fail>
 }
 
 /// The start of a case, with these heads.
-fn start_with(alloc: Global, base: Base, heads: Numbers64) -> Result<Start, Fail>
+fn start_with(alloc: Global, base: Base, heads: Numbers64) -> Result<Start, Cause>
     requires number { base.number ≤ 268435439 }
     requires line { base.line ≤ 68719176736 }
     requires heads { AreOlder base.line 16 heads }
@@ -190,13 +191,13 @@ fn start_with(alloc: Global, base: Base, heads: Numbers64) -> Result<Start, Fail
 }
 
 /// The log of a case, and its control pass.
-fn opened(alloc: Global, case: &Case) -> Result<(Log, Pass), Fail>
+fn opened(alloc: Global, case: &Case) -> Result<(Log, Pass), Cause>
     ensures out { IfOk result (λ r. IsOutOf r.0 r.1) }
     ensures alone { IfOk result (λ r. IsAlone (view r.1)) }
 {
     let Base { number, line } = case.base;
     if number > 268_435_439 || line > 68_719_176_736 || case.head >= line * 4 {
-        return Err(Fail::new("no base"));
+        return Err(Cause("no base"));
     }
     let heads = heads_of(alloc, case.head, line)?;
     let start = start_with(alloc, case.base, heads)?;
@@ -212,7 +213,7 @@ fn expect_walk<R: Abort>(
     log: &Log,
     pass: &mut Pass,
     case: &Case,
-) -> Result<(), Fail>
+) -> Result<(), Cause>
     requires pass { IsPassOf log.now pass.old }
     requires alone { IsAlone (view pass.old) }
     ensures pass { IsPassOf log.now pass.new }
@@ -231,7 +232,7 @@ fn expect_open<R: Abort>(
     log: &Log,
     pass: &mut Pass,
     case: &Case,
-) -> Result<(), Fail>
+) -> Result<(), Cause>
     requires out { IsOutOf log.now pass.old }
     requires alone { IsAlone (view pass.old) }
     ensures pass { IsPassOf log.now pass.new }
@@ -258,7 +259,7 @@ fn expect_closed<R: Abort>(
     log: Log,
     main: Pass,
     case: &Case,
-) -> Result<(), Fail>
+) -> Result<(), Cause>
     requires pass { IsPassOf log main }
     requires alone { IsAlone (view main) }
 {
@@ -270,7 +271,7 @@ fn expect_closed<R: Abort>(
 }
 
 /// Asserts the open and the closed log of one case.
-fn expect_case<R: Abort>(rt: &R, alloc: Global, case: &Case) -> Result<(), Fail> {
+fn expect_case<R: Abort>(rt: &R, alloc: Global, case: &Case) -> Result<(), Cause> {
     let (log, mut main) = opened(alloc, case)?;
     match expect_open(rt, alloc, &log, &mut main, case) {
         Ok(()) => expect_closed(rt, alloc, log, main, case),

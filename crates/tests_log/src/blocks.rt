@@ -3,6 +3,7 @@
 ghost use Rattle.std.specs.Prelude.{◌≤◌, OnOk, length};
 ghost use Rattle.tests_log.specs.Blocks.{IsBetween};
 
+use crate::cause::Cause;
 use crate::expecting::{expect, expect_text};
 use crate::running::{Block, Left, close_behind, defined, ran, run_table, told};
 use crate::scripts::{Plain, Script, record_of};
@@ -49,7 +50,7 @@ fn expect_told<R: Threads + Sync + Abort>(
     alloc: Global,
     scripts: &[Script],
     want: &str,
-) -> Result<(), Fail>
+) -> Result<(), Cause>
     requires some { 1 ≤ length scripts.now }
     requires few { length scripts.now ≤ 16 }
 {
@@ -62,7 +63,7 @@ fn expect_told<R: Threads + Sync + Abort>(
 
 #[test]
 fn a_lane_alone_tells_of_what_it_did(rt: HostRuntime) -> Result<(), Fail> {
-    expect_told(&rt, rt.alloc(), ALONE, ALONE_TOLD)
+    Ok(expect_told(&rt, rt.alloc(), ALONE, ALONE_TOLD)?)
 }
 
 /// How many records of a lane are in a log, where they are those that the lane made, in order and with nothing lost.
@@ -71,7 +72,7 @@ pub(crate) fn stored_in_order(
     entries: &Entries,
     lane: u8,
     words: usize,
-) -> Result<usize, Fail> {
+) -> Result<usize, Cause> {
     let mut place = 0;
     for entry in entries.as_slice() {
         let Entry::Stored { lane: of, .. } = entry else {
@@ -88,7 +89,7 @@ pub(crate) fn stored_in_order(
         let same = entry.is(&want);
         drop(want);
         if !same {
-            return Err(Fail::new("another record"));
+            return Err(Cause("another record"));
         }
         place += 1;
     }
@@ -161,7 +162,7 @@ const FOUR: Script = &[
 ];
 
 /// Asserts that each lane's records are in order, and that each of its scans is a plain filter of the log.
-fn expect_scans<R: Abort>(rt: &R, alloc: Global, left: &Left) -> Result<(), Fail> {
+fn expect_scans<R: Abort>(rt: &R, alloc: Global, left: &Left) -> Result<(), Cause> {
     expect(rt, "entries", &left.entries.len(), &1_200);
     expect(rt, "the end", &left.block.end.to, &1_200);
     for lane in left.block.lanes.as_slice() {
@@ -178,7 +179,7 @@ fn four_lanes_scan_what_four_lanes_store(rt: HostRuntime) -> Result<(), Fail> {
     let left = ran(&rt, rt.alloc(), SCANNING)?;
     let done = expect_scans(&rt, rt.alloc(), &left);
     drop(left);
-    done
+    Ok(done?)
 }
 
 /// How many records an item says are stored, and whether it says that the log is full, with its end.
@@ -196,12 +197,12 @@ const FILLING: &[Script] = &[LONG, LONG, LONG, LONG];
 const LONG: Script = &[Plain::Records(0, 200, 450)];
 
 /// How many records a lane's items say are stored. An end that they name has to be the log's.
-fn stored_by(lane: &Lane) -> Result<usize, Fail> {
+fn stored_by(lane: &Lane) -> Result<usize, Cause> {
     let mut stored = 0_usize;
     for item in lane.items.as_slice() {
         let (more, end) = told_stored(item);
         if end.is_some() && end != Some(32_768) {
-            return Err(Fail::new("another end"));
+            return Err(Cause("another end"));
         }
         stored = stored.saturating_add(more);
     }
@@ -209,7 +210,7 @@ fn stored_by(lane: &Lane) -> Result<usize, Fail> {
 }
 
 /// Asserts that the items of each lane count its records in a log that got full.
-fn expect_full<R: Abort>(rt: &R, alloc: Global, left: &Left) -> Result<(), Fail> {
+fn expect_full<R: Abort>(rt: &R, alloc: Global, left: &Left) -> Result<(), Cause> {
     expect(rt, "entries", &left.entries.len(), &448);
     expect(rt, "the end", &left.block.end.to, &448);
     for lane in left.block.lanes.as_slice() {
@@ -224,7 +225,7 @@ fn a_full_log_has_what_its_lanes_tell(rt: HostRuntime) -> Result<(), Fail> {
     let left = ran(&rt, rt.alloc(), FILLING)?;
     let done = expect_full(&rt, rt.alloc(), &left);
     drop(left);
-    done
+    Ok(done?)
 }
 
 /// Two lanes store records, and then three.
@@ -246,7 +247,7 @@ fn first_end<R: Threads + Sync>(
     log: &Log,
     main: &mut Pass,
     registrar: &mut Registrar,
-) -> Result<u32, Fail>
+) -> Result<u32, Cause>
     requires { IsBetween log.now main.old registrar.old }
     ensures { OnOk result (IsBetween log.now main.new registrar.new) }
 {
@@ -263,7 +264,7 @@ fn run_both<R: Threads + Sync>(
     log: &Log,
     main: &mut Pass,
     registrar: &mut Registrar,
-) -> Result<(u32, Block), Fail>
+) -> Result<(u32, Block), Cause>
     requires { IsBetween log.now main.old registrar.old }
     ensures { OnOk result (IsBetween log.now main.new registrar.new) }
 {
@@ -273,7 +274,7 @@ fn run_both<R: Threads + Sync>(
 }
 
 /// Runs both over a new log, and closes it.
-fn ran_both<R: Threads + Sync>(rt: &R, alloc: Global) -> Result<(u32, Left), Fail> {
+fn ran_both<R: Threads + Sync>(rt: &R, alloc: Global) -> Result<(u32, Left), Cause> {
     let mut held = defined(rt, alloc)?;
     match run_both(rt, alloc, &held.log, &mut held.main, &mut held.registrar) {
         Ok((end, block)) => Ok((end, close_behind(alloc, held, block)?)),
@@ -285,7 +286,7 @@ fn ran_both<R: Threads + Sync>(rt: &R, alloc: Global) -> Result<(u32, Left), Fai
 }
 
 /// How many records each lane has in a log.
-fn stored_by_each(alloc: Global, entries: &Entries) -> Result<[usize; 3], Fail> {
+fn stored_by_each(alloc: Global, entries: &Entries) -> Result<[usize; 3], Cause> {
     let mut stored = [0; 3];
     for place in 0..3 {
         stored[place] = stored_in_order(alloc, entries, place as u8 + 1, 2)?;
@@ -294,7 +295,7 @@ fn stored_by_each(alloc: Global, entries: &Entries) -> Result<[usize; 3], Fail> 
 }
 
 /// How far the log reaches behind each block, and how many records each lane has in it.
-fn ends_of(alloc: Global, end: u32, left: &Left) -> Result<Ends, Fail> {
+fn ends_of(alloc: Global, end: u32, left: &Left) -> Result<Ends, Cause> {
     let stored = stored_by_each(alloc, &left.entries)?;
     Ok(([end, left.block.end.to], stored))
 }

@@ -10,6 +10,7 @@ ghost use Rattle.fish_rule.specs.declared.view.Epoch.TheVariants.{Confirmed};
 ghost use Rattle.fish_rule.specs.declared.view.View.{View};
 ghost use Rattle.tests_log.specs.Bodies.{IsPlainBody};
 
+use crate::cause::Cause;
 use fish_claim::{Claimed, claim, fill, publish};
 use fish_epoch::enter;
 use fish_json::JsonRecord;
@@ -17,7 +18,6 @@ use fish_layout::{Body, BodyParts, body_of};
 use fish_rule::{Log, Pass, in_flight, is_shut, lane};
 use fish_value::{Form, Sequence, Text};
 use std::alloc::{AllocError, Global};
-use std::test::Fail;
 
 /// Writes an object in JSON that fills a record of so many lines: its words but for the header.
 fn write_object(text: &mut String, lines: u64) -> Result<(), AllocError> {
@@ -55,7 +55,7 @@ fn is_json(alloc: Global, payload: &Text) -> bool
 }
 
 /// The words of a record with a payload and no keys, at version 0.
-fn record_words(alloc: Global, lane: u8, number: u32, lines: u64) -> Result<Body, Fail>
+fn record_words(alloc: Global, lane: u8, number: u32, lines: u64) -> Result<Body, Cause>
     requires lane { (1 ≤ lane) × (lane ≤ 16) }
     requires number { number < 2 ^ 28 }
     requires lines { (0 < lines) × (lines ≤ 18625) }
@@ -65,7 +65,7 @@ fn record_words(alloc: Global, lane: u8, number: u32, lines: u64) -> Result<Body
 {
     let payload = object_of(alloc, lines)?;
     if payload.as_bytes().len() > 524_288 || !is_json(alloc, &payload) {
-        return Err(Fail::new("no record"));
+        return Err(Cause("no record"));
     }
     let parts = BodyParts {
         form: Form::Json,
@@ -79,7 +79,7 @@ fn record_words(alloc: Global, lane: u8, number: u32, lines: u64) -> Result<Body
     drop(parts);
     let body = body?;
     if body.len() as u64 != lines * 4 {
-        return Err(Fail::new("another length"));
+        return Err(Cause("another length"));
     }
     Ok(body)
 }
@@ -91,7 +91,7 @@ pub(crate) fn claim_words(
     log: &Log,
     pass: &mut Pass,
     lines: u64,
-) -> Result<(Claimed, Option<Body>), Fail>
+) -> Result<(Claimed, Option<Body>), Cause>
     requires pass { IsPassOf log.now pass.old }
     requires rows { log.now.key.rows.value ≡ [] }
     ensures pass { IsPassOf log.now pass.new }
@@ -99,20 +99,20 @@ pub(crate) fn claim_words(
 {
     let lane = lane(pass);
     if lines < 1 || lines > 18_625 || lane < 1 || lane > 16 {
-        return Err(Fail::new("no lines, or no lane"));
+        return Err(Cause("no lines, or no lane"));
     }
     if in_flight(pass).is_some() || is_shut(pass).is_some() {
-        return Err(Fail::new("no claim may be made"));
+        return Err(Cause("no claim may be made"));
     }
     if enter(log, pass) != 0 {
-        return Err(Fail::new("another version"));
+        return Err(Cause("another version"));
     }
     let answer = claim(log, pass, lines);
     let Claimed::Placed { number, .. } = answer else {
         return Ok((answer, None));
     };
     if number >= 1 << 28 {
-        return Err(Fail::new("too great a number"));
+        return Err(Cause("too great a number"));
     }
     let body = record_words(alloc, lane, number, lines)?;
     Ok((answer, Some(body)))
@@ -134,7 +134,7 @@ pub(crate) fn store_lines(
     log: &Log,
     pass: &mut Pass,
     lines: u64,
-) -> Result<Claimed, Fail>
+) -> Result<Claimed, Cause>
     requires pass { IsPassOf log.now pass.old }
     requires rows { log.now.key.rows.value ≡ [] }
     ensures { IsPassOf log.now pass.new }
@@ -143,7 +143,7 @@ pub(crate) fn store_lines(
     if let Some(words) = words {
         let published = publish_words(log, pass, words.as_slice());
         if !is_place(answer, published) {
-            return Err(Fail::new("another number"));
+            return Err(Cause("another number"));
         }
     }
     Ok(answer)

@@ -14,6 +14,7 @@ ghost use Rattle.fish_rule.specs.SeatSteps.{CanSplitPass};
 ghost use Rattle.fish_rule.specs.Start.{CanOpen};
 ghost use Rattle.tests_log.specs.Lanes.{IsOutOf};
 
+use crate::cause::Cause;
 use crate::flights::{claimed, publish_record};
 use crate::lanes::{split_lane, store};
 use crate::nodes::expect_nodes;
@@ -160,7 +161,7 @@ fn link_older_last(
     main: &mut Pass,
     defs: &[ActiveDef],
     case: &Case,
-) -> Result<(), Fail>
+) -> Result<(), Cause>
     requires pass { IsPassOf log.now main.old }
     requires can { CanSplitPass (view main.old) 2 }
     requires out { CanStart (view main.old) }
@@ -175,7 +176,7 @@ fn link_older_last(
     if second {
         Ok(())
     } else {
-        Err(Fail::new("not the second"))
+        Err(Cause("not the second"))
     }
 }
 
@@ -186,7 +187,7 @@ fn expect_walks<R: Abort>(
     log: &Log,
     pass: &mut Pass,
     case: &Case,
-) -> Result<(), Fail>
+) -> Result<(), Cause>
     requires { IsPassOf log.now pass.old }
 {
     let both = case.nodes;
@@ -203,7 +204,7 @@ fn expect_case<R: Abort>(
     start: &Start,
     defs: &[ActiveDef],
     case: &Case,
-) -> Result<(), Fail>
+) -> Result<(), Cause>
     requires can { CanOpen ONE_PAGE start.now }
     requires active { AreActive start.now.catalog defs.now }
     requires defs { AreDefs defs.now }
@@ -224,7 +225,7 @@ fn expect_cases<R: Abort>(
     alloc: Global,
     start: &Start,
     defs: &[ActiveDef],
-) -> Result<(), Fail>
+) -> Result<(), Cause>
     requires can { CanOpen ONE_PAGE start.now }
     requires active { AreActive start.now.catalog defs.now }
     requires defs { AreDefs defs.now }
@@ -240,5 +241,5 @@ fn chains(rt: HostRuntime) -> Result<(), Fail> {
     let (start, defs) = defined(rt.alloc(), ONE_PAGE, SOURCES)?;
     let done = expect_cases(&rt, rt.alloc(), &start, defs.as_slice());
     drop((start, defs));
-    done
+    Ok(done?)
 }

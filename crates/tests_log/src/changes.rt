@@ -3,6 +3,7 @@
 ghost use Rattle.std.specs.Prelude.{OnOk};
 ghost use Rattle.tests_log.specs.Blocks.{IsBetween};
 
+use crate::cause::Cause;
 use crate::expecting::{expect, expect_text};
 use crate::running::{Block, opened, push_lane, ran_over, run_table, told};
 use crate::scripts::{Plain, Script};
@@ -117,7 +118,7 @@ fn expect_beside<R: Threads + Sync + Abort>(
     log: &Log,
     main: &mut Pass,
     registrar: &mut Registrar,
-) -> Result<(), Fail>
+) -> Result<(), Cause>
     requires { IsBetween log.now main.old registrar.old }
     ensures { OnOk result (IsBetween log.now main.new registrar.new) }
 {
@@ -130,7 +131,7 @@ fn expect_beside<R: Threads + Sync + Abort>(
 }
 
 /// The items of the first lane of a block.
-fn told_first(alloc: Global, block: &Block) -> Result<String, Fail> {
+fn told_first(alloc: Global, block: &Block) -> Result<String, Cause> {
     let mut text = String::new(alloc);
     for lane in block.lanes.as_slice() {
         push_lane(alloc, &mut text, lane)?;
@@ -145,7 +146,7 @@ fn expect_behind<R: Threads + Sync + Abort>(
     log: &Log,
     main: &mut Pass,
     registrar: &mut Registrar,
-) -> Result<(), Fail>
+) -> Result<(), Cause>
     requires { IsBetween log.now main.old registrar.old }
 {
     expect_beside(rt, alloc, log, main, registrar)?;
@@ -167,5 +168,5 @@ fn a_block_ends_with_each_boundary_found(rt: HostRuntime) -> Result<(), Fail> {
         &mut held.registrar,
     );
     drop(held);
-    done
+    Ok(done?)
 }

@@ -11,6 +11,7 @@ ghost use Rattle.fish_rule.specs.Table.{first_view};
 ghost use Rattle.tests_log.specs.Lanes.{IsOutOf};
 ghost use Rattle.tests_log.specs.Registering.{AreOut, IsBeside, IsKept};
 
+use crate::cause::Cause;
 use crate::expecting::expect;
 use crate::lanes::store;
 use crate::linked::Linked;
@@ -90,18 +91,18 @@ fn look(log: &Log, main: &mut Pass, registrar: &mut Registrar) -> Poll
 }
 
 /// Looks at the lanes until the index of the registration that waits begins.
-pub(crate) fn wait(log: &Log, main: &mut Pass, registrar: &mut Registrar) -> Result<(), Fail>
+pub(crate) fn wait(log: &Log, main: &mut Pass, registrar: &mut Registrar) -> Result<(), Cause>
     requires { IsBeside log.now main.old registrar.old }
     ensures { IsBeside log.now main.new registrar.new }
 {
     for _ in 0..TURNS {
         match look(log, main, registrar) {
             Poll::Bound { .. } => return Ok(()),
-            Poll::Idle => return Err(Fail::new("none waits")),
+            Poll::Idle => return Err(Cause("none waits")),
             Poll::NotYet { .. } => {}
         }
     }
-    Err(Fail::new("never bound"))
+    Err(Cause("never bound"))
 }
 
 /// Registers the definition with a number. Whether it is the one with that id.
@@ -111,7 +112,7 @@ fn add(
     main: &mut Pass,
     registrar: &mut Registrar,
     n: u16,
-) -> Result<bool, Fail>
+) -> Result<bool, Cause>
     requires { IsBeside log.now main.old registrar.old }
     ensures { IsBeside log.now main.new registrar.new }
 {
@@ -125,7 +126,7 @@ fn remove(
     main: &mut Pass,
     registrar: &mut Registrar,
     n: u16,
-) -> Result<bool, Fail>
+) -> Result<bool, Cause>
     requires { IsBeside log.now main.old registrar.old }
     ensures { IsBeside log.now main.new registrar.new }
 {
@@ -139,22 +140,25 @@ fn change(
     main: &mut Pass,
     registrar: &mut Registrar,
     n: u16,
-) -> Result<(), Fail>
+) -> Result<(), Cause>
     requires { IsBeside log.now main.old registrar.old }
     ensures { IsBeside log.now main.new registrar.new }
 {
     if !add(alloc, log, main, registrar, n)? {
-        return Err(Fail::new("not registered"));
+        return Err(Cause("not registered"));
     }
     wait(log, main, registrar)?;
-    if n < 4 || remove(alloc, log, main, registrar, n - 4)? {
+    if n < 4 {
         return Ok(());
     }
-    Err(Fail::new("not ended"))
+    if !remove(alloc, log, main, registrar, n - 4)? {
+        return Err(Cause("not ended"));
+    }
+    Ok(())
 }
 
 /// Definitions come and go.
-fn churn(alloc: Global, log: &Log, main: &mut Pass, registrar: &mut Registrar) -> Result<(), Fail>
+fn churn(alloc: Global, log: &Log, main: &mut Pass, registrar: &mut Registrar) -> Result<(), Cause>
     requires { IsBeside log.now main.old registrar.old }
     ensures { IsBeside log.now main.new registrar.new }
 {
@@ -172,7 +176,7 @@ fn churn_beside<R: Threads + Sync>(
     main: &mut Pass,
     registrar: &mut Registrar,
     seats: &mut [Seat],
-) -> Result<(), Fail>
+) -> Result<(), Cause>
     requires beside { IsBeside log.now main.old registrar.old }
     requires seats { AreOut log.now seats.old (λ seat. seat.pass) }
     ensures beside { IsBeside log.now main.new registrar.new }
@@ -190,7 +194,7 @@ fn churn_beside<R: Threads + Sync>(
 }
 
 /// The control pass takes back lanes 2 to 4. How many records each stored.
-pub(crate) fn take_three(log: &Log, main: &mut Pass, seats: [Seat; 3]) -> Result<[usize; 3], Fail>
+pub(crate) fn take_three(log: &Log, main: &mut Pass, seats: [Seat; 3]) -> Result<[usize; 3], Cause>
     requires main { IsPassOf log.now main.old }
     requires seats { AreOut log.now seats (λ seat. seat.pass) }
     requires control { (view main.old).lane ≡ 1 }
@@ -210,7 +214,7 @@ fn take_seats(
     second: Seat,
     third: Seat,
     fourth: Seat,
-) -> Result<[usize; 3], Fail>
+) -> Result<[usize; 3], Cause>
     requires main { IsPassOf log.now main.old }
     requires second { IsOutOf log.now second.pass }
     requires third { IsOutOf log.now third.pass }
@@ -259,7 +263,7 @@ fn churn_with_three<R: Threads + Sync>(
     log: &Log,
     main: &mut Pass,
     registrar: &mut Registrar,
-) -> Result<[usize; 3], Fail>
+) -> Result<[usize; 3], Cause>
     requires kept { IsKept log.now main.old registrar.old }
     requires first { view main.old ≡ first_view log.now.key }
     ensures pass { IsPassOf log.now main.new }
@@ -306,7 +310,7 @@ fn expect_complete<R: Threads + Sync + Abort>(
     log: &Log,
     main: &mut Pass,
     registrar: &mut Registrar,
-) -> Result<(), Fail>
+) -> Result<(), Cause>
     requires kept { IsKept log.now main.old registrar.old }
     requires first { view main.old ≡ first_view log.now.key }
 {
@@ -331,5 +335,5 @@ fn definitions_come_and_go_while_lanes_write(rt: HostRuntime) -> Result<(), Fail
     let mut registrar = Registrar::new(Catalog::new(alloc));
     let done = expect_complete(&rt, alloc, &log, &mut main, &mut registrar);
     drop((log, main, registrar));
-    done
+    Ok(done?)
 }

@@ -5,6 +5,7 @@ ghost use Rattle.fish_rule.specs.Passes.{IsPassOf};
 ghost use Rattle.fish_rule.specs.Start.{IsShape};
 
 use crate::bodies::store_lines;
+use crate::cause::Cause;
 use crate::expecting::expect;
 use crate::openings::{ONE_PAGE, TWO_PAGES, empty_log};
 use fish_claim::Claimed;
@@ -82,7 +83,7 @@ fn expect_claims<R: Abort>(
     log: &Log,
     pass: &mut Pass,
     claims: &[(u64, Claimed)],
-) -> Result<(), Fail>
+) -> Result<(), Cause>
     requires pass { IsPassOf log.now pass.old }
     requires rows { log.now.key.rows.value ≡ [] }
     ensures { IsPassOf log.now pass.new }
@@ -101,7 +102,7 @@ fn expect_log<R: Abort>(
     shape: Shape,
     start: Base,
     claims: &[(u64, Claimed)],
-) -> Result<Option<Shut>, Fail>
+) -> Result<Option<Shut>, Cause>
     requires shape { IsShape shape }
     requires start { (start.number ≤ 268435439) × (start.line ≤ 68719176736) }
 {

@@ -2,6 +2,7 @@
 //! each scan is a plain filter of the log that is closed behind it, whatever the lanes' order was.
 
 use crate::blocks::{right_scans, stored_in_order};
+use crate::cause::Cause;
 use crate::expecting::expect;
 use crate::running::{Left, ran};
 use crate::scripts::{Plain, Script};
@@ -54,7 +55,7 @@ fn work_of(lane: &Lane) -> (usize, usize) {
 }
 
 /// Asserts that each lane's records are in order, and that each of its scans is a plain filter of the log.
-fn expect_lanes<R: Abort>(rt: &R, alloc: Global, left: &Left) -> Result<(), Fail> {
+fn expect_lanes<R: Abort>(rt: &R, alloc: Global, left: &Left) -> Result<(), Cause> {
     expect(rt, "entries", &left.entries.len(), &4_500);
     for lane in left.block.lanes.as_slice() {
         let stored = stored_in_order(alloc, &left.entries, lane.number, 2)?;
@@ -65,7 +66,7 @@ fn expect_lanes<R: Abort>(rt: &R, alloc: Global, left: &Left) -> Result<(), Fail
 }
 
 /// Runs the block once.
-fn expect_round<R: Threads + Sync + Abort>(rt: &R, alloc: Global) -> Result<(), Fail> {
+fn expect_round<R: Threads + Sync + Abort>(rt: &R, alloc: Global) -> Result<(), Cause> {
     let left = ran(rt, alloc, LANES)?;
     let done = expect_lanes(rt, alloc, &left);
     drop(left);

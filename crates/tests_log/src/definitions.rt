@@ -5,6 +5,7 @@ ghost use Rattle.fish_epoch.specs.Definitions.{IsUnread};
 ghost use Rattle.fish_rule.specs.Passes.{IsPassOf, view};
 ghost use Rattle.fish_rule.specs.Table.{first_view};
 
+use crate::cause::Cause;
 use crate::expecting::{expect, expect_text};
 use crate::openings::{ONE_PAGE, canonical, defined_log, name_of};
 use fish_catalog::Catalog;
@@ -29,7 +30,7 @@ const ROW: &[(u64, u64)] = &[
 ];
 
 /// A catalogue with one row, by its name and its source. Its id is 0.
-pub(crate) fn one_row(alloc: Global, name: &str, source: &str) -> Result<Catalog, Fail>
+pub(crate) fn one_row(alloc: Global, name: &str, source: &str) -> Result<Catalog, Cause>
     ensures { IfOk result (λ catalog. 0 < length catalog) }
 {
     let name = name_of(alloc, name)?;
@@ -39,7 +40,7 @@ pub(crate) fn one_row(alloc: Global, name: &str, source: &str) -> Result<Catalog
         Ok(catalog)
     } else {
         drop(catalog);
-        Err(Fail::new("another id"))
+        Err(Cause("another id"))
     }
 }
 
@@ -68,7 +69,7 @@ fn first_row_word(log: &Log, pass: &mut Pass, place: u64) -> Option<u64>
 }
 
 /// A log of one page with one definition, by its name and its source, and its control pass.
-fn one_row_log(alloc: Global, name: &str, source: &str) -> Result<(Log, Pass), Fail>
+fn one_row_log(alloc: Global, name: &str, source: &str) -> Result<(Log, Pass), Cause>
     ensures pass { IfOk result (λ r. IsPassOf r.0 r.1) }
     ensures row { IfOk result (λ r. 0 < length (view r.1).about.rows.value) }
 {
@@ -131,7 +132,7 @@ fn expect_read<R: Abort>(
     log: &Log,
     main: &mut Pass,
     defs: &mut Defs,
-) -> Result<(), Fail>
+) -> Result<(), Cause>
     requires pass { IsPassOf log.now main.old }
     requires first { view main.old ≡ first_view log.now.key }
     requires defs { IsUnread defs.old.known }
@@ -153,5 +154,5 @@ fn the_definitions_of_version_0(rt: HostRuntime) -> Result<(), Fail> {
     let mut defs = Defs::new(alloc);
     let done = expect_read(&rt, alloc, &log, &mut main, &mut defs);
     drop((log, main, defs));
-    done
+    Ok(done?)
 }

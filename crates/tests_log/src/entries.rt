@@ -7,6 +7,7 @@ ghost use Rattle.fish_rule.specs.Table.{first_view};
 ghost use Rattle.tests_log.specs.Lanes.{IsOutOf};
 
 use crate::bodies::{object_of, store_lines};
+use crate::cause::Cause;
 use crate::expecting::expect;
 use crate::lanes::{split_lane, store_as, take_back};
 use crate::openings::{TWO_PAGES, closed, defined_log, empty_log};
@@ -40,13 +41,13 @@ fn found_at<L: Ledger>(
     number: u32,
     want: &Entry,
     loads: &mut Steps<L>,
-) -> Result<Look, Fail>
+) -> Result<Look, Cause>
     requires { IsPassOf log.now pass.old }
     ensures { IsPassOf log.now pass.new }
 {
     let count = count_now(log, pass);
     if number >= count || number < base(log).number || lane(pass) < 1 {
-        return Err(Fail::new("no such number"));
+        return Err(Cause("no such number"));
     }
     let found = look(log, pass, number);
     if let Look::Stored = found {
@@ -54,7 +55,7 @@ fn found_at<L: Ledger>(
         let same = entry.is(want);
         drop(entry);
         if !same {
-            return Err(Fail::new("another entry"));
+            return Err(Cause("another entry"));
         }
     }
     Ok(found)
@@ -68,7 +69,7 @@ fn found_with<L: Ledger>(
     pass: &mut Pass,
     number: u32,
     want: &Entry,
-) -> Result<Look, Fail>
+) -> Result<Look, Cause>
     requires name { blank.name ≡ L.name }
     requires parts { blank.parts ≡ L.parts }
     requires some { 0 < blank.parts }
@@ -86,7 +87,7 @@ fn found_once(
     pass: &mut Pass,
     number: u32,
     lines: u64,
-) -> Result<Look, Fail>
+) -> Result<Look, Cause>
     requires { IsPassOf log.now pass.old }
     ensures { IsPassOf log.now pass.new }
 {
@@ -101,7 +102,7 @@ fn found_once(
 }
 
 /// Stores the records.
-fn store_all(alloc: Global, log: &Log, pass: &mut Pass) -> Result<(), Fail>
+fn store_all(alloc: Global, log: &Log, pass: &mut Pass) -> Result<(), Cause>
     requires pass { IsPassOf log.now pass.old }
     requires rows { log.now.key.rows.value ≡ [] }
     ensures { IsPassOf log.now pass.new }
@@ -113,7 +114,7 @@ fn store_all(alloc: Global, log: &Log, pass: &mut Pass) -> Result<(), Fail>
 }
 
 /// Stores records, and asserts what is found at each number.
-fn expect_found<R: Abort>(rt: &R, alloc: Global, log: &Log, pass: &mut Pass) -> Result<(), Fail>
+fn expect_found<R: Abort>(rt: &R, alloc: Global, log: &Log, pass: &mut Pass) -> Result<(), Cause>
     requires pass { IsPassOf log.now pass.old }
     requires rows { log.now.key.rows.value ≡ [] }
 {
@@ -131,7 +132,7 @@ fn entries_are_read_back(rt: HostRuntime) -> Result<(), Fail> {
     let (log, mut pass) = empty_log(rt.alloc(), TWO_PAGES, first)?;
     let done = expect_found(&rt, rt.alloc(), &log, &mut pass);
     drop((log, pass));
-    done
+    Ok(done?)
 }
 
 /// Two payloads that one pass stores in a row, each in its form.
@@ -143,7 +144,7 @@ const CSV: (Form, &str) = (Form::Csv, "Push,12");
 const LANE: u8 = 3;
 
 /// A lane stores both payloads. Their numbers.
-fn both_stored(alloc: Global, log: &Log, pass: &mut Pass) -> Result<(u32, u32), Fail>
+fn both_stored(alloc: Global, log: &Log, pass: &mut Pass) -> Result<(u32, u32), Cause>
     requires { IsOutOf log.now pass.old }
     ensures { IsOutOf log.now pass.new }
 {
@@ -153,12 +154,12 @@ fn both_stored(alloc: Global, log: &Log, pass: &mut Pass) -> Result<(u32, u32), 
     drop(defs);
     match (first, second) {
         (Ok(first), Ok(second)) => Ok((first, second)),
-        _ => Err(Fail::new("refused")),
+        _ => Err(Cause("refused")),
     }
 }
 
 /// A lane that is given out stores both payloads, and is taken back. Their numbers.
-fn both_by_lane(alloc: Global, log: &Log, main: &mut Pass) -> Result<(u32, u32), Fail>
+fn both_by_lane(alloc: Global, log: &Log, main: &mut Pass) -> Result<(u32, u32), Cause>
     requires pass { IsPassOf log.now main.old }
     requires first { view main.old ≡ first_view log.now.key }
     ensures pass { IsPassOf log.now main.new }
@@ -178,7 +179,7 @@ fn both_by_lane(alloc: Global, log: &Log, main: &mut Pass) -> Result<(u32, u32),
 }
 
 /// A log in which a lane stored both payloads, as it is closed, and their numbers.
-fn closed_behind_both(alloc: Global) -> Result<(Entries, (u32, u32)), Fail> {
+fn closed_behind_both(alloc: Global) -> Result<(Entries, (u32, u32)), Cause> {
     let (log, mut main) = defined_log(alloc, &["take type", "take $1"])?;
     match both_by_lane(alloc, &log, &mut main) {
         Ok(numbers) => Ok((closed(alloc, log, main)?, numbers)),

@@ -1,6 +1,7 @@
 //! Two lanes that a gate holds: the first stores a record and scans while the record of the second has its number and
 //! isn't published yet. So the two run at once, and what the scan tells doesn't depend on who comes first.
 
+use crate::cause::Cause;
 use crate::expecting::{expect, expect_text};
 use crate::runs::{host_of, numbers_of, ran_through};
 use fish_lanes::{Gate, Hold, Point};
@@ -73,7 +74,7 @@ fn gate_of(alloc: Global) -> Result<Gate, AllocError> {
 }
 
 /// Asserts what the script tells, and that both lanes came to where the other one waited for them.
-fn expect_ran<R: Threads + Sync + Abort>(rt: &R, alloc: Global) -> Result<(), Fail> {
+fn expect_ran<R: Threads + Sync + Abort>(rt: &R, alloc: Global) -> Result<(), Cause> {
     let gate = gate_of(alloc)?;
     let mut host = host_of(alloc, FILES, &[])?;
     let mut out = MemorySink::new(alloc, numbers_of(alloc, &[])?);
@@ -85,5 +86,5 @@ fn expect_ran<R: Threads + Sync + Abort>(rt: &R, alloc: Global) -> Result<(), Fa
 
 #[test]
 fn a_lane_scans_while_a_record_of_another_is_in_flight(rt: HostRuntime) -> Result<(), Fail> {
-    expect_ran(&rt, rt.alloc())
+    Ok(expect_ran(&rt, rt.alloc())?)
 }

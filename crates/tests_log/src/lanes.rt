@@ -8,12 +8,12 @@ ghost use Rattle.fish_rule.specs.SeatSteps.{CanSplitPass, split_left, without};
 ghost use Rattle.fish_rule.specs.Views.{Among};
 ghost use Rattle.tests_log.specs.Lanes.{IsOutOf};
 
+use crate::cause::Cause;
 use fish_epoch::Defs;
 use fish_ingest::{IngestRefusal, ingest};
 use fish_rule::{Log, Pass, in_flight, join_pass, lane as lane_of, split_pass};
 use fish_value::Form;
 use std::alloc::Global;
-use std::test::Fail;
 
 /// The pass of a lane, which the control pass gives out.
 pub(crate) fn split_lane(log: &Log, main: &mut Pass, number: u8) -> Pass
@@ -68,7 +68,7 @@ pub(crate) fn store(
 }
 
 /// The control pass takes back a lane.
-pub(crate) fn take_back(log: &Log, main: &mut Pass, other: Pass, lane: u8) -> Result<(), Fail>
+pub(crate) fn take_back(log: &Log, main: &mut Pass, other: Pass, lane: u8) -> Result<(), Cause>
     requires main { IsPassOf log.now main.old }
     requires other { IsOutOf log.now other }
     requires control { (view main.old).lane ≡ 1 }
@@ -79,7 +79,7 @@ pub(crate) fn take_back(log: &Log, main: &mut Pass, other: Pass, lane: u8) -> Re
     ensures left { IfOk result (λ _. (view main.new).out ≡ without lane (view main.old).out) }
 {
     if lane_of(&other) != lane || in_flight(&other).is_some() {
-        return Err(Fail::new("not the lane, or a record in flight"));
+        return Err(Cause("not the lane, or a record in flight"));
     }
     join_pass(log, main, other);
     Ok(())

@@ -11,6 +11,8 @@ mod blocks;
 #[cfg(test)]
 mod bodies;
 #[cfg(test)]
+mod cause;
+#[cfg(test)]
 mod chains;
 #[cfg(test)]
 mod changes;

@@ -3,6 +3,7 @@
 
 ghost use Rattle.std.specs.Prelude.{◌≡◌, ◌<◌};
 
+use crate::cause::Cause;
 use fish_catalog::{Entries, Entry};
 use fish_chain::Node;
 use fish_layout::{bucket_of, key_hash};
@@ -10,7 +11,6 @@ use fish_psf::{ActiveDef, KeyValue, Record, Steps, keys, parse};
 use std::alloc::{AllocError, Global};
 use std::marker::Brand;
 use std::sync::ledger::{Blank, Ledger};
-use std::test::Fail;
 
 /// A key entry of a record.
 #[derive(Clone, Copy, Debug, PartialEq, Eq)]
@@ -31,9 +31,9 @@ fn push_links(
     number: usize,
     found: &Record,
     links: &mut Vec<Linked>,
-) -> Result<(), Fail> {
+) -> Result<(), Cause> {
     if number >= 1 << 28 {
-        return Err(Fail::new("too great a number"));
+        return Err(Cause("too great a number"));
     }
     let keys = keys(alloc, defs, found)?;
     let done = push_keys(keys.as_slice(), number as u32, links);
@@ -62,7 +62,7 @@ fn push_entry<P: Ledger>(
     entry: &Entry,
     parses: &mut Steps<P>,
     links: &mut Vec<Linked>,
-) -> Result<(), Fail> {
+) -> Result<(), Cause> {
     match entry {
         Entry::Stored { form, payload, .. } => {
             let found = parse(alloc, *form, payload.as_bytes(), parses)?;
@@ -80,7 +80,7 @@ fn links_with<P: Ledger>(
     blank: Blank,
     defs: &[ActiveDef],
     entries: &Entries,
-) -> Result<Vec<Linked>, Fail>
+) -> Result<Vec<Linked>, Cause>
     requires name { blank.name ≡ P.name }
     requires parts { blank.parts ≡ P.parts }
     requires some { 0 < blank.parts }
@@ -98,7 +98,7 @@ pub(crate) fn links_of(
     alloc: Global,
     defs: &[ActiveDef],
     entries: &Entries,
-) -> Result<Vec<Linked>, Fail> {
+) -> Result<Vec<Linked>, Cause> {
     links_with::<Brand>(alloc, Blank::new(1), defs, entries)
 }
 

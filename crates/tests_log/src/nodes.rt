@@ -7,6 +7,7 @@ ghost use Rattle.fish_rule.specs.Passes.{IsPassOf, view, walk_of};
 ghost use Rattle.fish_rule.specs.LoadSteps.{IsAlone};
 ghost use Rattle.tests_log.specs.Walks.{HasWalked};
 
+use crate::cause::Cause;
 use crate::expecting::expect;
 use fish_chain::{Node, walk_next, walk_start};
 use fish_psf::Steps;
@@ -16,7 +17,6 @@ use std::alloc::{AllocError, Global};
 use std::marker::Brand;
 use std::process::Abort;
 use std::sync::ledger::{Blank, Ledger};
-use std::test::Fail;
 
 /// The bucket of true under id 0 among sixteen: FNV-1a of the bytes 0 0 1 leaves 4.
 pub(crate) const BUCKET: u32 = 4;
@@ -96,17 +96,17 @@ pub(crate) fn nodes_of(
     pass: &mut Pass,
     bucket: u32,
     range: (u32, u32),
-) -> Result<Vec<Node>, Fail>
+) -> Result<Vec<Node>, Cause>
     requires pass { IsPassOf log.now pass.old }
     ensures pass { IsPassOf log.now pass.new }
     ensures alone { IsAlone (view pass.old) → IsAlone (view pass.new) }
     ensures walked { OnOk result (HasWalked (view pass.new) (walk_of pass.new) range.0) }
 {
     if lane(pass) < 1 || u64::from(bucket) >= buckets(log) {
-        return Err(Fail::new("no lane, or no bucket"));
+        return Err(Cause("no lane, or no bucket"));
     }
     if range.1 > settle(log, pass).settled {
-        return Err(Fail::new("not settled"));
+        return Err(Cause("not settled"));
     }
     Ok(walked::<Brand>(alloc, Blank::new(1), log, pass, bucket, range)?)
 }
@@ -119,7 +119,7 @@ pub(crate) fn expect_nodes<R: Abort>(
     pass: &mut Pass,
     range: (u32, u32),
     want: &[Node],
-) -> Result<(), Fail>
+) -> Result<(), Cause>
     requires pass { IsPassOf log.now pass.old }
     ensures pass { IsPassOf log.now pass.new }
     ensures alone { IsAlone (view pass.old) → IsAlone (view pass.new) }

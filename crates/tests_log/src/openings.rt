@@ -13,13 +13,13 @@ ghost use Rattle.fish_rule.specs.LoadSteps.{IsAlone};
 ghost use Rattle.fish_rule.specs.Start.{CanOpen, IsShape};
 ghost use Rattle.fish_rule.specs.Table.{first_view};
 
+use crate::cause::Cause;
 use fish_catalog::{Catalog, Entries};
 use fish_lang::{Def, LangRefusal, parse_def, print_def, reads_back};
 use fish_psf::ActiveDef;
 use fish_rule::{Base, Log, Pass, Remains, Shape, Start, close_log, open_log};
 use fish_value::Text;
 use std::alloc::{AllocError, Global};
-use std::test::Fail;
 
 /// A log of one page.
 pub(crate) const ONE_PAGE: Shape = Shape {
@@ -55,12 +55,12 @@ pub(crate) fn empty_log(alloc: Global, shape: Shape, base: Base) -> Result<(Log,
 }
 
 /// A text of 1 to 32 bytes as a name.
-pub(crate) fn name_of(alloc: Global, name: &str) -> Result<Text, Fail>
+pub(crate) fn name_of(alloc: Global, name: &str) -> Result<Text, Cause>
     ensures { IfOk result IsName }
 {
     let name = Text::copy_of(alloc, name)?;
     if name.as_bytes().is_empty() || name.as_bytes().len() > 32 {
-        return Err(Fail::new("no name"));
+        return Err(Cause("no name"));
     }
     Ok(name)
 }
@@ -97,7 +97,7 @@ fn add_def(
     catalog: &mut Catalog,
     defs: &mut Vec<ActiveDef>,
     source: &str,
-) -> Result<(), Fail>
+) -> Result<(), Cause>
     requires active { AreActive catalog.old defs.old.items }
     requires written { All IsWritten defs.old.items }
     ensures active { OnOk result (AreActive catalog.new defs.new.items) }
@@ -109,7 +109,7 @@ fn add_def(
         Ok(id) => Ok(defs.push(ActiveDef { id, def })?),
         Err(refusal) => {
             drop(def);
-            Err(Fail::from(refusal))
+            Err(Cause::from(refusal))
         }
     }
 }
@@ -120,7 +120,7 @@ fn add_defs(
     catalog: &mut Catalog,
     defs: &mut Vec<ActiveDef>,
     sources: &[&str],
-) -> Result<(), Fail>
+) -> Result<(), Cause>
     requires active { AreActive catalog.old defs.old.items }
     requires written { All IsWritten defs.old.items }
     ensures active { OnOk result (AreActive catalog.new defs.new.items) }
@@ -133,7 +133,7 @@ fn add_defs(
 }
 
 /// The definitions that sources are, by id from 0 on, and their catalogue.
-fn cataloged(alloc: Global, sources: &[&str]) -> Result<(Catalog, Vec<ActiveDef>), Fail>
+fn cataloged(alloc: Global, sources: &[&str]) -> Result<(Catalog, Vec<ActiveDef>), Cause>
     ensures active { IfOk result (λ r. AreActive r.0 r.1.items) }
     ensures written { IfOk result (λ r. All IsWritten r.1.items) }
 {
@@ -153,7 +153,7 @@ pub(crate) fn defined(
     alloc: Global,
     shape: Shape,
     sources: &[&str],
-) -> Result<(Start, Vec<ActiveDef>), Fail>
+) -> Result<(Start, Vec<ActiveDef>), Cause>
     requires { IsShape shape }
     ensures can { IfOk result (λ r. CanOpen shape r.0) }
     ensures active { IfOk result (λ r. AreActive r.0.catalog r.1.items) }
@@ -166,13 +166,13 @@ pub(crate) fn defined(
         Ok(start) => Ok((start, defs)),
         Err(error) => {
             drop(defs);
-            Err(Fail::from(error))
+            Err(Cause::from(error))
         }
     }
 }
 
 /// A log of one page with the definitions that sources are, and its control pass.
-pub(crate) fn defined_log(alloc: Global, sources: &[&str]) -> Result<(Log, Pass), Fail>
+pub(crate) fn defined_log(alloc: Global, sources: &[&str]) -> Result<(Log, Pass), Cause>
     ensures pass { IfOk result (λ r. IsPassOf r.0 r.1) }
     ensures view { IfOk result (λ r. view r.1 ≡ first_view r.0.key) }
 {
@@ -184,7 +184,7 @@ pub(crate) fn defined_log(alloc: Global, sources: &[&str]) -> Result<(Log, Pass)
 }
 
 /// Closes a log. Its entries.
-pub(crate) fn closed(alloc: Global, log: Log, main: Pass) -> Result<Entries, Fail>
+pub(crate) fn closed(alloc: Global, log: Log, main: Pass) -> Result<Entries, Cause>
     requires pass { IsPassOf log main }
     requires alone { IsAlone (view main) }
 {
@@ -193,7 +193,7 @@ pub(crate) fn closed(alloc: Global, log: Log, main: Pass) -> Result<Entries, Fai
 }
 
 /// Closes a log. What is left of it.
-pub(crate) fn left(alloc: Global, log: Log, main: Pass) -> Result<Remains, Fail>
+pub(crate) fn left(alloc: Global, log: Log, main: Pass) -> Result<Remains, Cause>
     requires pass { IsPassOf log main }
     requires alone { IsAlone (view main) }
 {
@@ -201,7 +201,7 @@ pub(crate) fn left(alloc: Global, log: Log, main: Pass) -> Result<Remains, Fail>
         Ok(remains) => Ok(remains),
         Err(want) => {
             drop(want);
-            Err(Fail::new("no memory"))
+            Err(Cause("no memory"))
         }
     }
 }

@@ -6,6 +6,7 @@ ghost use Rattle.fish_ingest.specs.Preparation.{AreDefs};
 ghost use Rattle.fish_ingest.specs.Preparation.{IsOrigin};
 ghost use Rattle.fish_rule.specs.Keys.{IsWritten};
 
+use crate::cause::Cause;
 use crate::expecting::{expect, expect_text};
 use crate::flights::prepared;
 use crate::openings::parsed;
@@ -146,7 +147,7 @@ fn prepared_by_four(
 }
 
 /// Parts as a text: lane, version, number, and the key entries.
-fn told(alloc: Global, parts: &BodyParts) -> Result<String, Fail> {
+fn told(alloc: Global, parts: &BodyParts) -> Result<String, Cause> {
     let (lane, version, number) = (parts.lane, parts.version, parts.number);
     let mut text = format!(in alloc; "{lane} {version} {number};")?;
     for key in parts.keys.as_slice() {
@@ -156,19 +157,24 @@ fn told(alloc: Global, parts: &BodyParts) -> Result<String, Fail> {
 }
 
 /// A key entry as a text behind others: id, value, and the place of the previous one.
-fn push_key(alloc: Global, key: &KeyPart, text: &mut String) -> Result<(), Fail> {
+fn push_key(alloc: Global, key: &KeyPart, text: &mut String) -> Result<(), Cause> {
     let value = print_value(alloc, &key.value)?;
     Ok(write!(text, "{} {} {};", key.id, value.as_str(), key.prev)?)
 }
 
 /// The parts that words say, as a text, where they have this form and payload.
-fn told_of_words(alloc: Global, words: &[u64], form: Form, payload: &[u8]) -> Result<String, Fail> {
+fn told_of_words(
+    alloc: Global,
+    words: &[u64],
+    form: Form,
+    payload: &[u8],
+) -> Result<String, Cause> {
     let Some(parts) = read_body(alloc, words)? else {
-        return Err(Fail::new("no record"));
+        return Err(Cause("no record"));
     };
     if parts.form != form || parts.payload.as_bytes() != payload {
         drop(parts);
-        return Err(Fail::new("another form or payload"));
+        return Err(Cause("another form or payload"));
     }
     let text = told(alloc, &parts);
     drop(parts);
@@ -176,7 +182,7 @@ fn told_of_words(alloc: Global, words: &[u64], form: Form, payload: &[u8]) -> Re
 }
 
 /// What a payload is: how it is refused, or the parts that its words say, as a text.
-fn read_back(alloc: Global, form: Form, payload: &[u8]) -> Result<String, Fail> {
+fn read_back(alloc: Global, form: Form, payload: &[u8]) -> Result<String, Cause> {
     let origin = match form {
         Form::Json => JSON,
         Form::Csv => CSV,
@@ -198,7 +204,7 @@ fn expect_told<R: Abort>(
     form: Form,
     payload: &[u8],
     want: &str,
-) -> Result<(), Fail> {
+) -> Result<(), Cause> {
     let text = read_back(alloc, form, payload)?;
     expect_text(rt, "a payload", text.as_str(), want);
     Ok(())

@@ -15,27 +15,41 @@ pub(crate) const CHANGING: &[(&str, &str)] = &[
 ];
 
 /// What is asked, in turn, and a text that stands in the payloads of the records that have the value, and in no others.
-pub(crate) const ASKED: &[(&str, Wanted, How, &[u8])] = &[
-    ("kind", Wanted::Text("a"), How::Index, b"\"kind\":\"a\""),
-    ("size", Wanted::Int(20), How::Auto, b"\"size\":2"),
-    ("kind", Wanted::Text("b"), How::Auto, b"\"kind\":\"b\""),
+pub(crate) const ASKED: &[(&str, Wanted, How, &str)] = &[
+    ("kind", Wanted::Text("a"), How::Index, "\"kind\":\"a\""),
+    ("size", Wanted::Int(20), How::Auto, "\"size\":2"),
+    ("kind", Wanted::Text("b"), How::Auto, "\"kind\":\"b\""),
     (
         "small",
         Wanted::Bool(true),
         How::Index,
-        b"\"kind\":\"a\",\"size\":1",
+        "\"kind\":\"a\",\"size\":1",
     ),
-    ("kind", Wanted::Text("c"), How::Full, b"\"kind\":\"c\""),
-    ("size", Wanted::Int(10), How::Full, b"\"size\":1"),
+    ("kind", Wanted::Text("c"), How::Full, "\"kind\":\"c\""),
+    ("size", Wanted::Int(10), How::Full, "\"size\":1"),
     (
         "small",
         Wanted::Bool(true),
         How::Auto,
-        b"\"kind\":\"a\",\"size\":1",
+        "\"kind\":\"a\",\"size\":1",
     ),
-    ("size", Wanted::Int(30), How::Index, b"\"size\":3"),
-    ("kind", Wanted::Text("d"), How::Auto, b"\"kind\":\"d\""),
+    ("size", Wanted::Int(30), How::Index, "\"size\":3"),
+    ("kind", Wanted::Text("d"), How::Auto, "\"kind\":\"d\""),
 ];
+
+/// The text that stands in the payloads that an answer to the question at a place has to list.
+pub(crate) fn text_at(place: usize) -> Option<&'static str> {
+    let (_, _, _, text) = ASKED.get(place)?;
+    Some(*text)
+}
+
+/// Whether the question at a place is about the definition that stays, and asks in a way.
+pub(crate) fn asks_kind(place: usize, way: How) -> bool {
+    match ASKED.get(place) {
+        Some((name, _, how, _)) => *name == KIND.0 && *how == way,
+        None => false,
+    }
+}
 
 /// The question at a place, about the whole log.
 pub(crate) fn ask_at(alloc: Global, place: usize) -> Result<Ask, AllocError>

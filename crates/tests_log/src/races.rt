@@ -13,6 +13,7 @@ ghost use Rattle.fish_rule.specs.Table.{first_view};
 ghost use Rattle.tests_log.specs.Lanes.{IsOutOf};
 ghost use Rattle.tests_log.specs.Registering.{AreOut, IsBeside, IsKept};
 
+use crate::cause::Cause;
 use crate::churn::{split_three, take_three, wait};
 use crate::lanes::store;
 use crate::openings::{ONE_PAGE, closed, empty_log};
@@ -28,7 +29,6 @@ use fish_scan::{Answer, Ask, ScanRefusal};
 use fish_value::Text;
 use std::alloc::{AllocError, Global};
 use std::fmt::Write;
-use std::test::Fail;
 use std::thread::{Threads, for_each_mut, join_mut};
 
 /// Where an empty store begins.
@@ -185,12 +185,12 @@ fn add(
     main: &mut Pass,
     registrar: &mut Registrar,
     definition: (&str, &str),
-) -> Result<(), Fail>
+) -> Result<(), Cause>
     requires { IsBeside log.now main.old registrar.old }
     ensures { IsBeside log.now main.new registrar.new }
 {
     if begin(alloc, log, main, registrar, definition.0, definition.1)?.is_err() {
-        return Err(Fail::new("not registered"));
+        return Err(Cause("not registered"));
     }
     wait(log, main, registrar)
 }
@@ -202,7 +202,7 @@ fn remove(
     main: &mut Pass,
     registrar: &mut Registrar,
     name: &str,
-) -> Result<bool, Fail>
+) -> Result<bool, Cause>
     requires { IsBeside log.now main.old registrar.old }
     ensures { IsBeside log.now main.new registrar.new }
 {
@@ -234,7 +234,7 @@ fn scan_in_turn(
     registrar: &Registrar,
     turn: usize,
     kept: &mut Vec<Kept>,
-) -> Result<(), Fail>
+) -> Result<(), Cause>
     requires { IsBeside log.now main.old registrar.now }
     ensures { IsBeside log.now main.new registrar.now }
 {
@@ -252,7 +252,7 @@ fn change(
     main: &mut Pass,
     registrar: &mut Registrar,
     turn: usize,
-) -> Result<(), Fail>
+) -> Result<(), Cause>
     requires { IsBeside log.now main.old registrar.old }
     ensures { IsBeside log.now main.new registrar.new }
 {
@@ -260,7 +260,7 @@ fn change(
     if turn < 2 || remove(alloc, log, main, registrar, definition.0)? {
         return add(alloc, log, main, registrar, definition);
     }
-    Err(Fail::new("not ended"))
+    Err(Cause("not ended"))
 }
 
 /// Definitions come and go, and a scan is made behind each change.
@@ -270,7 +270,7 @@ fn change_all(
     main: &mut Pass,
     registrar: &mut Registrar,
     kept: &mut Vec<Kept>,
-) -> Result<(), Fail>
+) -> Result<(), Cause>
     requires { IsBeside log.now main.old registrar.old }
     ensures { IsBeside log.now main.new registrar.new }
 {
@@ -290,7 +290,7 @@ fn change_beside<R: Threads + Sync>(
     registrar: &mut Registrar,
     racers: &mut [Racer],
     kept: &mut Vec<Kept>,
-) -> Result<(), Fail>
+) -> Result<(), Cause>
     requires beside { IsBeside log.now main.old registrar.old }
     requires racers { AreOut log.now racers.old (λ racer. racer.seat.pass) }
     ensures beside { IsBeside log.now main.new registrar.new }
@@ -354,7 +354,7 @@ fn take_racers(
     main: &mut Pass,
     racers: [Racer; 3],
     kept: Vec<Kept>,
-) -> Result<Raced, Fail>
+) -> Result<Raced, Cause>
     requires main { IsPassOf log.now main.old }
     requires racers { AreOut log.now racers (λ racer. racer.seat.pass) }
     requires control { (view main.old).lane ≡ 1 }
@@ -387,7 +387,7 @@ fn race<R: Threads + Sync>(
     log: &Log,
     main: &mut Pass,
     registrar: &mut Registrar,
-) -> Result<Raced, Fail>
+) -> Result<Raced, Cause>
     requires kept { IsKept log.now main.old registrar.old }
     requires first { view main.old ≡ first_view log.now.key }
     ensures pass { IsPassOf log.now main.new }
@@ -413,7 +413,7 @@ pub(crate) struct Left {
 }
 
 /// Closes a log behind a race.
-fn close_raced(alloc: Global, log: Log, main: Pass, raced: Raced) -> Result<Left, Fail>
+fn close_raced(alloc: Global, log: Log, main: Pass, raced: Raced) -> Result<Left, Cause>
     requires pass { IsPassOf log main }
     requires alone { IsAlone (view main) }
 {
@@ -427,7 +427,7 @@ fn close_raced(alloc: Global, log: Log, main: Pass, raced: Raced) -> Result<Left
 }
 
 /// A race on a log of its own.
-pub(crate) fn raced_log<R: Threads + Sync>(rt: &R, alloc: Global) -> Result<Left, Fail> {
+pub(crate) fn raced_log<R: Threads + Sync>(rt: &R, alloc: Global) -> Result<Left, Cause> {
     let (log, mut main) = empty_log(alloc, ONE_PAGE, FIRST)?;
     let mut registrar = Registrar::new(Catalog::new(alloc));
     let raced = race(rt, alloc, &log, &mut main, &mut registrar);

@@ -10,6 +10,7 @@ ghost use Rattle.fish_rule.specs.Start.{IsShape};
 ghost use Rattle.fish_rule.specs.Table.{first_view};
 ghost use Rattle.tests_log.specs.Lanes.{IsOutOf};
 
+use crate::cause::Cause;
 use crate::expecting::expect;
 use crate::lanes::{split_lane, store, take_back};
 use crate::openings::{ONE_PAGE, TWO_PAGES, defined, defined_log};
@@ -110,7 +111,7 @@ fn expect_answers<R: Abort>(
     pass: &mut Pass,
     defs: &mut Defs,
     answers: Answers,
-) -> Result<(), Fail>
+) -> Result<(), Cause>
     requires { CanIngest log.now pass.old defs.old }
     ensures { CanIngest log.now pass.new defs.new }
 {
@@ -123,7 +124,7 @@ fn expect_answers<R: Abort>(
 }
 
 /// A log under `take type`, and its control pass.
-fn opened(alloc: Global, shape: Shape) -> Result<(Log, Pass), Fail>
+fn opened(alloc: Global, shape: Shape) -> Result<(Log, Pass), Cause>
     requires { IsShape shape }
     ensures { IfOk result (λ r. IsOutOf r.0 r.1) }
 {
@@ -141,7 +142,7 @@ fn expect_log<R: Abort>(
     shape: Shape,
     answers: Answers,
     count: u32,
-) -> Result<(), Fail>
+) -> Result<(), Cause>
     requires { IsShape shape }
 {
     let (log, mut pass) = opened(alloc, shape)?;
@@ -155,17 +156,17 @@ fn expect_log<R: Abort>(
 
 #[test]
 fn refusals(rt: HostRuntime) -> Result<(), Fail> {
-    expect_log(&rt, rt.alloc(), ONE_PAGE, CAUSES, 1)
+    Ok(expect_log(&rt, rt.alloc(), ONE_PAGE, CAUSES, 1)?)
 }
 
 #[test]
 fn voids(rt: HostRuntime) -> Result<(), Fail> {
-    expect_log(&rt, rt.alloc(), TWO_PAGES, VOIDS, 5)
+    Ok(expect_log(&rt, rt.alloc(), TWO_PAGES, VOIDS, 5)?)
 }
 
 #[test]
 fn full(rt: HostRuntime) -> Result<(), Fail> {
-    expect_log(&rt, rt.alloc(), ONE_PAGE, FULL_LOG, 3)
+    Ok(expect_log(&rt, rt.alloc(), ONE_PAGE, FULL_LOG, 3)?)
 }
 
 /// Asserts what each payload is answered in a lane, whose definitions are read anew.
@@ -175,7 +176,7 @@ fn expect_lane<R: Abort>(
     log: &Log,
     pass: &mut Pass,
     answers: Answers,
-) -> Result<(), Fail>
+) -> Result<(), Cause>
     requires { IsOutOf log.now pass.old }
     ensures { IsOutOf log.now pass.new }
 {
@@ -192,7 +193,7 @@ fn expect_lanes<R: Abort>(
     log: &Log,
     second: &mut Pass,
     third: &mut Pass,
-) -> Result<(), Fail>
+) -> Result<(), Cause>
     requires second { IsOutOf log.now second.old }
     requires third { IsOutOf log.now third.old }
     ensures second { IsOutOf log.now second.new }
@@ -204,7 +205,7 @@ fn expect_lanes<R: Abort>(
 }
 
 /// The control pass takes back lanes 2 and 3.
-fn take_two(log: &Log, main: &mut Pass, second: Pass, third: Pass) -> Result<(), Fail>
+fn take_two(log: &Log, main: &mut Pass, second: Pass, third: Pass) -> Result<(), Cause>
     requires main { IsPassOf log.now main.old }
     requires second { IsOutOf log.now second }
     requires third { IsOutOf log.now third }
@@ -222,7 +223,7 @@ fn take_two(log: &Log, main: &mut Pass, second: Pass, third: Pass) -> Result<(),
 }
 
 /// Asserts what two lanes are answered, and which of their claims the control pass has afterwards.
-fn expect_joined<R: Abort>(rt: &R, alloc: Global, log: &Log, main: &mut Pass) -> Result<(), Fail>
+fn expect_joined<R: Abort>(rt: &R, alloc: Global, log: &Log, main: &mut Pass) -> Result<(), Cause>
     requires pass { IsPassOf log.now main.old }
     requires first { view main.old ≡ first_view log.now.key }
 {
@@ -244,5 +245,5 @@ fn full_lanes_are_compared(rt: HostRuntime) -> Result<(), Fail> {
     let (log, mut main) = defined_log(rt.alloc(), &["take type"])?;
     let done = expect_joined(&rt, rt.alloc(), &log, &mut main);
     drop((log, main));
-    done
+    Ok(done?)
 }

@@ -7,6 +7,7 @@ ghost use Rattle.fish_rule.specs.SeatSteps.{CanSplitPass, split_left};
 ghost use Rattle.tests_log.specs.Lanes.{IsOutOf};
 ghost use Rattle.tests_log.specs.Registering.{IsKept, IsWorking};
 
+use crate::cause::Cause;
 use crate::definitions::expect_active;
 use crate::expecting::expect;
 use crate::lanes::{split_lane, store};
@@ -35,7 +36,7 @@ pub(crate) fn begin(
     registrar: &mut Registrar,
     name: &str,
     source: &str,
-) -> Result<Result<u16, RegRefusal>, Fail>
+) -> Result<Result<u16, RegRefusal>, Cause>
     requires { IsKept log.now main.old registrar.old }
     ensures kept { IsKept log.now main.new registrar.new }
     ensures changes { Changes (view main.old) (view main.new) }
@@ -55,7 +56,7 @@ pub(crate) fn end(
     main: &mut Pass,
     registrar: &mut Registrar,
     name: &str,
-) -> Result<Result<(u16, u32), RegRefusal>, Fail>
+) -> Result<Result<(u16, u32), RegRefusal>, Cause>
     requires { IsKept log.now main.old registrar.old }
     ensures kept { IsKept log.now main.new registrar.new }
     ensures changes { Changes (view main.old) (view main.new) }
@@ -92,7 +93,7 @@ pub(crate) fn begin_numbered(
     main: &mut Pass,
     registrar: &mut Registrar,
     n: u16,
-) -> Result<Result<u16, RegRefusal>, Fail>
+) -> Result<Result<u16, RegRefusal>, Cause>
     requires { IsKept log.now main.old registrar.old }
     ensures kept { IsKept log.now main.new registrar.new }
     ensures changes { Changes (view main.old) (view main.new) }
@@ -108,7 +109,7 @@ pub(crate) fn end_numbered(
     main: &mut Pass,
     registrar: &mut Registrar,
     n: u16,
-) -> Result<Result<(u16, u32), RegRefusal>, Fail>
+) -> Result<Result<(u16, u32), RegRefusal>, Cause>
     requires { IsKept log.now main.old registrar.old }
     ensures kept { IsKept log.now main.new registrar.new }
     ensures changes { Changes (view main.old) (view main.new) }
@@ -124,13 +125,13 @@ fn begin_bound(
     main: &mut Pass,
     registrar: &mut Registrar,
     n: u16,
-) -> Result<(), Fail>
+) -> Result<(), Cause>
     requires { IsKept log.now main.old registrar.old }
     ensures { IsKept log.now main.new registrar.new }
 {
     let begun = begin_numbered(alloc, log, main, registrar, n)?;
     if begun != Ok(n) || poll(log, main, registrar) != (Poll::Bound { id: n, from: 0 }) {
-        return Err(Fail::new("not registered, or not bound"));
+        return Err(Cause("not registered, or not bound"));
     }
     Ok(())
 }
@@ -142,13 +143,13 @@ fn end_all(
     main: &mut Pass,
     registrar: &mut Registrar,
     range: (u16, u16),
-) -> Result<(), Fail>
+) -> Result<(), Cause>
     requires { IsKept log.now main.old registrar.old }
     ensures { IsKept log.now main.new registrar.new }
 {
     for n in range.0..range.1 {
         if end_numbered(alloc, log, main, registrar, n)? != Ok((n, 0)) {
-            return Err(Fail::new("not ended"));
+            return Err(Cause("not ended"));
         }
     }
     Ok(())
@@ -160,7 +161,7 @@ fn begin_sixteen(
     log: &Log,
     main: &mut Pass,
     registrar: &mut Registrar,
-) -> Result<(), Fail>
+) -> Result<(), Cause>
     requires { IsKept log.now main.old registrar.old }
     ensures { IsKept log.now main.new registrar.new }
 {
@@ -176,7 +177,7 @@ fn change_all(
     log: &Log,
     main: &mut Pass,
     registrar: &mut Registrar,
-) -> Result<(), Fail>
+) -> Result<(), Cause>
     requires { IsKept log.now main.old registrar.old }
     ensures { IsKept log.now main.new registrar.new }
 {
@@ -195,7 +196,7 @@ fn expect_begun<R: Abort>(
     main: &mut Pass,
     registrar: &mut Registrar,
     want: &Result<u16, RegRefusal>,
-) -> Result<(), Fail>
+) -> Result<(), Cause>
     requires { IsKept log.now main.old registrar.old }
     ensures { IsKept log.now main.new registrar.new }
 {
@@ -211,7 +212,7 @@ fn expect_few_active<R: Abort>(
     log: &Log,
     main: &mut Pass,
     registrar: &mut Registrar,
-) -> Result<(), Fail>
+) -> Result<(), Cause>
     requires { IsKept log.now main.old registrar.old }
     ensures { IsKept log.now main.new registrar.new }
 {
@@ -229,7 +230,7 @@ fn expect_few<R: Abort>(
     log: &Log,
     main: &mut Pass,
     registrar: &mut Registrar,
-) -> Result<(), Fail>
+) -> Result<(), Cause>
     requires { IsKept log.now main.old registrar.old }
     ensures { IsKept log.now main.new registrar.new }
 {
@@ -248,7 +249,7 @@ fn expect_limits<R: Abort>(
     log: &Log,
     main: &mut Pass,
     registrar: &mut Registrar,
-) -> Result<(), Fail>
+) -> Result<(), Cause>
     requires { IsKept log.now main.old registrar.old }
 {
     expect_few_active(rt, alloc, log, main, registrar)?;
@@ -265,7 +266,7 @@ fn versions_end(rt: HostRuntime) -> Result<(), Fail> {
     let mut registrar = Registrar::new(Catalog::new(alloc));
     let done = expect_limits(&rt, alloc, &log, &mut main, &mut registrar);
     drop((log, main, registrar));
-    done
+    Ok(done?)
 }
 
 /// A definition that gives true for every record without z, under its text as its name.
@@ -303,7 +304,7 @@ pub(crate) fn begin_between(
     registrar: &mut Registrar,
     defs: &Defs,
     definition: (&str, &str),
-) -> Result<Result<u16, RegRefusal>, Fail>
+) -> Result<Result<u16, RegRefusal>, Cause>
     requires { IsWorking log.now main.old registrar.old defs.now }
     ensures { IsWorking log.now main.new registrar.new defs.now }
 {
@@ -318,7 +319,7 @@ pub(crate) fn end_between(
     registrar: &mut Registrar,
     defs: &Defs,
     name: &str,
-) -> Result<Result<(u16, u32), RegRefusal>, Fail>
+) -> Result<Result<(u16, u32), RegRefusal>, Cause>
     requires { IsWorking log.now main.old registrar.old defs.now }
     ensures { IsWorking log.now main.new registrar.new defs.now }
 {
@@ -346,7 +347,7 @@ fn expect_keys<R: Abort>(
     main: &mut Pass,
     registrar: &mut Registrar,
     defs: &mut Defs,
-) -> Result<(), Fail>
+) -> Result<(), Cause>
     requires { IsWorking log.now main.old registrar.old defs.old }
 {
     let first = store_kept(alloc, log, main, registrar, defs, b"{}");
@@ -370,7 +371,7 @@ fn records_behind_a_registration_have_its_keys(rt: HostRuntime) -> Result<(), Fa
     let mut defs = Defs::new(alloc);
     let done = expect_keys(&rt, alloc, &log, &mut main, &mut registrar, &mut defs);
     drop((log, main, registrar, defs));
-    done
+    Ok(done?)
 }
 
 /// The pass of a lane, which the control pass gives out. Its registrar keeps what it knows.

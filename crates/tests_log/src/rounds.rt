@@ -8,6 +8,7 @@ ghost use Rattle.fish_rule.specs.SeatSteps.{CanSplitPass, split_left};
 ghost use Rattle.fish_rule.specs.Table.{first_view};
 ghost use Rattle.tests_log.specs.Registering.{IsKept};
 
+use crate::cause::Cause;
 use crate::expecting::{expect, expect_text};
 use crate::lanes::store;
 use crate::openings::{ONE_PAGE, empty_log};
@@ -47,13 +48,13 @@ fn seen_in_flight(
     registrar: &mut Registrar,
     other: &mut Pass,
     defs: &mut Defs,
-) -> Result<Seen, Fail>
+) -> Result<Seen, Cause>
     requires kept { IsKept log.now main.old registrar.old }
     requires other { CanIngest log.now other.old defs.old }
     ensures { IsKept log.now main.new registrar.new }
 {
     let Ok(pending) = start(alloc, log, other, defs, Form::Json, PUSH) else {
-        return Err(Fail::new("not started"));
+        return Err(Cause("not started"));
     };
     let begun = begin(alloc, log, main, registrar, "t", "take type");
     let flying = poll(log, main, registrar);
@@ -75,7 +76,7 @@ fn seen_with_lane(
     log: &Log,
     main: &mut Pass,
     registrar: &mut Registrar,
-) -> Result<Seen, Fail>
+) -> Result<Seen, Cause>
     requires kept { IsKept log.now main.old registrar.old }
     requires can { CanSplitPass (view main.old) 2 }
     ensures { IsKept log.now main.new registrar.new }
@@ -93,7 +94,7 @@ fn told_pushes(
     log: &Log,
     main: &mut Pass,
     registrar: &Registrar,
-) -> Result<String, Fail>
+) -> Result<String, Cause>
     requires { IsKept log.now main.old registrar.now }
 {
     let mut defs = Defs::new(alloc);
@@ -108,7 +109,7 @@ fn seen_and_found(
     log: &Log,
     main: &mut Pass,
     registrar: &mut Registrar,
-) -> Result<(Seen, String), Fail>
+) -> Result<(Seen, String), Cause>
     requires kept { IsKept log.now main.old registrar.old }
     requires can { CanSplitPass (view main.old) 2 }
 {
@@ -184,7 +185,7 @@ fn seen_behind(
     registrar: &mut Registrar,
     second: &mut Lane,
     third: &mut Lane,
-) -> Result<Behind, Fail>
+) -> Result<Behind, Cause>
     requires kept { IsKept log.now main.old registrar.old }
     requires second { CanIngest log.now second.old.pass second.old.defs }
     requires third { CanIngest log.now third.old.pass third.old.defs }
@@ -193,7 +194,7 @@ fn seen_behind(
     let begun = begin(alloc, log, main, registrar, "t", "take type")?;
     let lane = &mut second.pass;
     let Ok(pending) = start(alloc, log, lane, &mut second.defs, Form::Json, PUSH) else {
-        return Err(Fail::new("not started"));
+        return Err(Cause("not started"));
     };
     let beside = store_pushes(alloc, log, &mut third.pass, &mut third.defs, 9);
     let found = poll(log, main, registrar);
@@ -230,7 +231,7 @@ fn seen_with_two(
     log: &Log,
     main: &mut Pass,
     registrar: &mut Registrar,
-) -> Result<Behind, Fail>
+) -> Result<Behind, Cause>
     requires kept { IsKept log.now main.old registrar.old }
     requires first { view main.old ≡ first_view log.now.key }
 {

@@ -13,6 +13,7 @@ ghost use Rattle.fish_walk.specs.Settling.{OnlySettles};
 ghost use Rattle.tests_log.specs.Blocks.{IsBetween};
 ghost use Rattle.tests_log.specs.Registering.{IsKept};
 
+use crate::cause::Cause;
 use crate::openings::{ONE_PAGE, closed, empty_log};
 use crate::scripts::{Plain, Script, push_lanes};
 use fish_catalog::{Catalog, Entries, Entry};
@@ -23,7 +24,6 @@ use fish_rule::{Base, Log, Pass, base};
 use fish_walk::settle;
 use std::alloc::Global;
 use std::fmt::Write;
-use std::test::Fail;
 use std::thread::Threads;
 
 /// Where an empty store begins.
@@ -38,7 +38,7 @@ pub(crate) struct Open {
 }
 
 /// Finds that nothing is stored in a log yet.
-fn find_empty(log: &Log, main: &mut Pass) -> Result<(), Fail>
+fn find_empty(log: &Log, main: &mut Pass) -> Result<(), Cause>
     requires pass { IsPassOf log.now main.old }
     requires alone { IsAlone (view main.old) }
     requires outside { (view main.old).epoch ≡ Out }
@@ -49,17 +49,17 @@ fn find_empty(log: &Log, main: &mut Pass) -> Result<(), Fail>
 {
     let first = base(log).number;
     if first != 0 {
-        return Err(Fail::new("a base"));
+        return Err(Cause("a base"));
     }
     let end = settle(log, main).settled;
     if end != 0 {
-        return Err(Fail::new("not empty"));
+        return Err(Cause("not empty"));
     }
     Ok(())
 }
 
 /// Finds how far a log reaches in which nothing is stored yet, beside the registrar.
-fn find_end(log: &Log, main: &mut Pass, registrar: &Registrar) -> Result<(), Fail>
+fn find_end(log: &Log, main: &mut Pass, registrar: &Registrar) -> Result<(), Cause>
     requires kept { IsKept log.now main.old registrar.now }
     requires alone { IsAlone (view main.old) }
     requires unshut { (view main.old).shut ≡ None }
@@ -71,7 +71,7 @@ fn find_end(log: &Log, main: &mut Pass, registrar: &Registrar) -> Result<(), Fai
 }
 
 /// A log of one page without definitions, between two blocks.
-pub(crate) fn opened(alloc: Global) -> Result<Open, Fail>
+pub(crate) fn opened(alloc: Global) -> Result<Open, Cause>
     ensures { IfOk result (λ o. IsBetween o.log o.main o.registrar) }
 {
     let (log, mut main) = empty_log(alloc, ONE_PAGE, FIRST)?;
@@ -114,7 +114,7 @@ fn run_whole<R: Threads + Sync>(
     main: &mut Pass,
     registrar: &mut Registrar,
     lanes: &mut [Lane],
-) -> Result<BlockEnd, Fail>
+) -> Result<BlockEnd, Cause>
     requires between { IsBetween log.now main.old registrar.old }
     requires lanes { AreLanes lanes.old }
     ensures { OnOk result (IsBetween log.now main.new registrar.new) }
@@ -123,7 +123,7 @@ fn run_whole<R: Threads + Sync>(
     let end = run_block(rt, alloc, log, main, registrar, lanes, &gate);
     drop(gate);
     if !is_whole(lanes) {
-        return Err(Fail::new("the first lane stopped"));
+        return Err(Cause("the first lane stopped"));
     }
     Ok(end)
 }
@@ -136,7 +136,7 @@ pub(crate) fn run_table<R: Threads + Sync>(
     main: &mut Pass,
     registrar: &mut Registrar,
     scripts: &[Script],
-) -> Result<Block, Fail>
+) -> Result<Block, Cause>
     requires between { IsBetween log.now main.old registrar.old }
     requires some { 1 ≤ length scripts.now }
     requires few { length scripts.now ≤ 16 }
@@ -166,7 +166,7 @@ fn register<R: Threads + Sync>(
     log: &Log,
     main: &mut Pass,
     registrar: &mut Registrar,
-) -> Result<(), Fail>
+) -> Result<(), Cause>
     requires { IsBetween log.now main.old registrar.old }
     ensures { OnOk result (IsBetween log.now main.new registrar.new) }
 {
@@ -176,7 +176,7 @@ fn register<R: Threads + Sync>(
 }
 
 /// A log of one page with the definition, between two blocks.
-pub(crate) fn defined<R: Threads + Sync>(rt: &R, alloc: Global) -> Result<Open, Fail>
+pub(crate) fn defined<R: Threads + Sync>(rt: &R, alloc: Global) -> Result<Open, Cause>
     ensures { IfOk result (λ o. IsBetween o.log o.main o.registrar) }
 {
     let mut held = opened(alloc)?;
@@ -197,7 +197,7 @@ pub(crate) struct Left {
 }
 
 /// Closes a log behind a block.
-pub(crate) fn close_behind(alloc: Global, held: Open, block: Block) -> Result<Left, Fail>
+pub(crate) fn close_behind(alloc: Global, held: Open, block: Block) -> Result<Left, Cause>
     requires { IsBetween held.log held.main held.registrar }
 {
     let Open {
@@ -221,7 +221,7 @@ pub(crate) fn ran_over<R: Threads + Sync>(
     alloc: Global,
     mut held: Open,
     scripts: &[Script],
-) -> Result<Left, Fail>
+) -> Result<Left, Cause>
     requires between { IsBetween held.log held.main held.registrar }
     requires some { 1 ≤ length scripts.now }
     requires few { length scripts.now ≤ 16 }
@@ -247,7 +247,7 @@ pub(crate) fn ran<R: Threads + Sync>(
     rt: &R,
     alloc: Global,
     scripts: &[Script],
-) -> Result<Left, Fail>
+) -> Result<Left, Cause>
     requires some { 1 ≤ length scripts.now }
     requires few { length scripts.now ≤ 16 }
 {
@@ -256,7 +256,7 @@ pub(crate) fn ran<R: Threads + Sync>(
 }
 
 /// Puts the items of a lane behind a text.
-pub(crate) fn push_lane(alloc: Global, text: &mut String, lane: &Lane) -> Result<(), Fail> {
+pub(crate) fn push_lane(alloc: Global, text: &mut String, lane: &Lane) -> Result<(), Cause> {
     write!(text, "lane {}\n", lane.number)?;
     for item in lane.items.as_slice() {
         push_item(alloc, text, item)?;
@@ -265,7 +265,7 @@ pub(crate) fn push_lane(alloc: Global, text: &mut String, lane: &Lane) -> Result
 }
 
 /// Puts an entry behind a text: its lane and its payload.
-fn push_entry(text: &mut String, entry: &Entry) -> Result<(), Fail> {
+fn push_entry(text: &mut String, entry: &Entry) -> Result<(), Cause> {
     match entry {
         Entry::Stored { lane, payload, .. } => {
             Ok(write!(text, "{} {}\n", *lane, payload.as_str())?)
@@ -275,7 +275,7 @@ fn push_entry(text: &mut String, entry: &Entry) -> Result<(), Fail> {
 }
 
 /// The items of all lanes and the entries of the log.
-pub(crate) fn told(alloc: Global, left: &Left) -> Result<String, Fail> {
+pub(crate) fn told(alloc: Global, left: &Left) -> Result<String, Cause> {
     let mut text = String::new(alloc);
     for lane in left.block.lanes.as_slice() {
         push_lane(alloc, &mut text, lane)?;

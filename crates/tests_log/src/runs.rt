@@ -3,6 +3,7 @@
 ghost use Rattle.std.specs.Prelude.{IfOk};
 ghost use Rattle.fish_script.specs.Runnable.{CanRun};
 
+use crate::cause::Cause;
 use crate::expecting::{expect, expect_text};
 use crate::openings::ONE_PAGE;
 use fish_lanes::Gate;
@@ -87,12 +88,12 @@ pub(crate) fn numbers_of(alloc: Global, all: &[u64]) -> Result<Numbers64, AllocE
 }
 
 /// The script that a text is.
-pub(crate) fn script_of(alloc: Global, text: &str) -> Result<Script, Fail>
+pub(crate) fn script_of(alloc: Global, text: &str) -> Result<Script, Cause>
     ensures { IfOk result CanRun }
 {
     match parse_script(alloc, text.as_bytes()) {
         Ok(script) => Ok(script),
-        Err(_) => Err(Fail::new("no script")),
+        Err(_) => Err(Cause("no script")),
     }
 }
 
@@ -118,7 +119,7 @@ pub(crate) fn ran_through<R: Threads + Sync>(
     host: &mut MemoryHost,
     out: &mut MemorySink,
     gate: &Gate,
-) -> Result<String, Fail> {
+) -> Result<String, Cause> {
     let script = script_of(alloc, text)?;
     let ran = run_script(rt, alloc, ONE_PAGE, script.as_slice(), host, out, gate);
     Ok(told_of(alloc, &ran, out)?)
@@ -131,7 +132,7 @@ fn ran<R: Threads + Sync>(
     text: &str,
     feeds: &[u64],
     writes: &[u64],
-) -> Result<String, Fail> {
+) -> Result<String, Cause> {
     let mut host = host_of(alloc, FILES, feeds)?;
     let mut out = MemorySink::new(alloc, numbers_of(alloc, writes)?);
     ran_through(rt, alloc, text, &mut host, &mut out, &Gate::open(alloc))
@@ -146,7 +147,7 @@ fn expect_ran<R: Threads + Sync + Abort>(
     writes: &[u64],
     head: &str,
     want: &str,
-) -> Result<(), Fail> {
+) -> Result<(), Cause> {
     let found = ran(rt, alloc, text, feeds, writes)?;
     let want = format!(in alloc; "{head}\n{want}")?;
     expect_text(rt, "a run", found.as_str(), want.as_str());
@@ -155,7 +156,7 @@ fn expect_ran<R: Threads + Sync + Abort>(
 
 #[test]
 fn a_script_writes_what_each_block_tells(rt: HostRuntime) -> Result<(), Fail> {
-    expect_ran(
+    Ok(expect_ran(
         &rt,
         rt.alloc(),
         WHOLE,
@@ -163,7 +164,7 @@ fn a_script_writes_what_each_block_tells(rt: HostRuntime) -> Result<(), Fail> {
         &[],
         "None true 5",
         WHOLE_WRITTEN,
-    )
+    )?)
 }
 
 /// Nothing is refused, and nothing is stored.
@@ -173,7 +174,7 @@ fn a_run_of_an_empty_log_tells_its_definitions(rt: HostRuntime) -> Result<(), Fa
     let text = "register t as take type\nexplain t = 1\ncheckpoint\nderegister t\n";
     let written = "created\nregistered t id 0 from 0\nexplain t = 1 in 0..0: none\ncheckpoint 0\n\
 deregistered t id 0 to 0\nclosed 0\n";
-    expect_ran(&rt, rt.alloc(), text, &[], &[], "None false 0", written)
+    Ok(expect_ran(&rt, rt.alloc(), text, &[], &[], "None false 0", written)?)
 }
 
 /// The second file can't be had: what was done before it is written, and the log stays.
@@ -181,14 +182,14 @@ deregistered t id 0 to 0\nclosed 0\n";
 fn a_run_stops_at_a_file_that_fails(rt: HostRuntime) -> Result<(), Fail> {
     let written = "created\nregistered t id 0 from 0\ningested events stored 3 refused 1\n\
 scan t = \"a\" in 0..3 found 2 open none\n2 12 {\"type\":\"a\"}\n0 12 {\"type\":\"a\"}\n";
-    expect_ran(&rt, rt.alloc(), WHOLE, &[1], &[], "Input false 3", written)
+    Ok(expect_ran(&rt, rt.alloc(), WHOLE, &[1], &[], "Input false 3", written)?)
 }
 
 /// The third piece can't be written.
 #[test]
 fn a_run_stops_at_an_output_that_fails(rt: HostRuntime) -> Result<(), Fail> {
     let written = "created\nregistered t id 0 from 0\n";
-    expect_ran(&rt, rt.alloc(), WHOLE, &[], &[2], "Output false 3", written)
+    Ok(expect_ran(&rt, rt.alloc(), WHOLE, &[], &[2], "Output false 3", written)?)
 }
 
 #[test]

@@ -6,6 +6,7 @@ ghost use Rattle.fish_ingest.specs.Ingestion.{CanIngest};
 ghost use Rattle.fish_rule.specs.Passes.{IsPassOf, view};
 ghost use Rattle.fish_scan.specs.Scans.{OnlyScans};
 
+use crate::cause::Cause;
 use fish_epoch::Defs;
 use fish_plan::{Piece, Plan};
 use fish_psf::Steps;
@@ -16,7 +17,6 @@ use std::alloc::{AllocError, Global};
 use std::fmt::Write;
 use std::marker::Brand;
 use std::sync::ledger::{Blank, Ledger};
-use std::test::Fail;
 
 /// What a scan answers, with counters of two blanks.
 fn scanned<P: Ledger, L: Ledger>(
@@ -76,7 +76,7 @@ fn explain_between(
 }
 
 /// A piece of a plan as a text behind others.
-fn push_piece(text: &mut String, piece: Piece) -> Result<(), Fail> {
+fn push_piece(text: &mut String, piece: Piece) -> Result<(), Cause> {
     match piece {
         Piece::Index { id, from, to } => Ok(write!(text, " index {from}..{to} by {id}")?),
         Piece::Full { from, to } => Ok(write!(text, " full {from}..{to}")?),
@@ -84,7 +84,7 @@ fn push_piece(text: &mut String, piece: Piece) -> Result<(), Fail> {
 }
 
 /// A plan as a text: its range and its pieces, newest first.
-fn told_plan(alloc: Global, from: u32, to: u32, plan: &Plan) -> Result<String, Fail> {
+fn told_plan(alloc: Global, from: u32, to: u32, plan: &Plan) -> Result<String, Cause> {
     let mut text = format!(in alloc; "{from}..{to}")?;
     for piece in plan.pieces() {
         push_piece(&mut text, *piece)?;
@@ -93,7 +93,7 @@ fn told_plan(alloc: Global, from: u32, to: u32, plan: &Plan) -> Result<String, F
 }
 
 /// An answer as a text: its plan, and its records.
-fn told_answer(alloc: Global, answer: &Answer) -> Result<String, Fail> {
+fn told_answer(alloc: Global, answer: &Answer) -> Result<String, Cause> {
     let mut text = told_plan(alloc, answer.from, answer.to, &answer.plan)?;
     for row in answer.rows.as_slice() {
         write!(text, "; {} {}", row.number, row.payload.as_str())?;
@@ -108,7 +108,7 @@ pub(crate) fn told_scan(
     pass: &mut Pass,
     defs: &mut Defs,
     ask: &Ask,
-) -> Result<String, Fail>
+) -> Result<String, Cause>
     requires { CanIngest log.now pass.old defs.old }
     ensures ready { CanIngest log.now pass.new defs.new }
     ensures only { OnlyScans (view pass.old) (view pass.new) }
@@ -130,7 +130,7 @@ pub(crate) fn told_explain(
     pass: &mut Pass,
     defs: &mut Defs,
     ask: &Ask,
-) -> Result<String, Fail>
+) -> Result<String, Cause>
     requires { CanIngest log.now pass.old defs.old }
     ensures ready { CanIngest log.now pass.new defs.new }
     ensures only { OnlyScans (view pass.old) (view pass.new) }

@@ -5,6 +5,7 @@ ghost use Rattle.fish_lanes.specs.Blocks.{AreLanes};
 ghost use Rattle.fish_lanes.specs.Running.{IsFree};
 ghost use Rattle.tests_log.specs.Blocks.{IsAllowed, IsMade};
 
+use crate::cause::Cause;
 use crate::openings::{name_of, parsed};
 use crate::scans::{Question, Wanted, ask_of};
 use fish_lanes::{Lane, Work, Works};
@@ -12,7 +13,6 @@ use fish_scan::How;
 use fish_value::{Bytes, Form, Text};
 use std::alloc::{AllocError, Global};
 use std::fmt::Write;
-use std::test::Fail;
 
 /// A statement of a table.
 #[derive(Clone, Copy)]
@@ -126,11 +126,11 @@ fn records_of(
 }
 
 /// The statement that registers a definition.
-fn register_of(alloc: Global, lane: u8, name: &str, source: &str) -> Result<Work, Fail>
+fn register_of(alloc: Global, lane: u8, name: &str, source: &str) -> Result<Work, Cause>
     ensures { IfOk result (IsAllowed lane) }
 {
     if lane > 1 {
-        return Err(Fail::new("another lane registers"));
+        return Err(Cause("another lane registers"));
     }
     let name = name_of(alloc, name)?;
     let (def, text) = parsed(alloc, source)?;
@@ -139,11 +139,11 @@ fn register_of(alloc: Global, lane: u8, name: &str, source: &str) -> Result<Work
 }
 
 /// The statement that ends the definition with a name.
-fn deregister_of(alloc: Global, lane: u8, name: &str) -> Result<Work, Fail>
+fn deregister_of(alloc: Global, lane: u8, name: &str) -> Result<Work, Cause>
     ensures { IfOk result (IsAllowed lane) }
 {
     if lane > 1 {
-        return Err(Fail::new("another lane ends one"));
+        return Err(Cause("another lane ends one"));
     }
     Ok(Work::Deregister {
         name: Text::copy_of(alloc, name)?,
@@ -151,11 +151,11 @@ fn deregister_of(alloc: Global, lane: u8, name: &str) -> Result<Work, Fail>
 }
 
 /// A statement of a table that changes no definition.
-fn free_of(alloc: Global, lane: u8, plain: Plain) -> Result<Work, Fail>
+fn free_of(alloc: Global, lane: u8, plain: Plain) -> Result<Work, Cause>
     ensures { IfOk result IsFree }
 {
     match plain {
-        Plain::Register(..) | Plain::Deregister(..) => Err(Fail::new("changes a definition")),
+        Plain::Register(..) | Plain::Deregister(..) => Err(Cause("changes a definition")),
         Plain::Lines(file) => {
             let file = Bytes::copy_of(alloc, file.as_bytes())?;
             Ok(ingest_of(alloc, Form::Json, "lines", file)?)
@@ -194,7 +194,7 @@ fn free_of(alloc: Global, lane: u8, plain: Plain) -> Result<Work, Fail>
 }
 
 /// A statement of a table as one of a lane.
-fn work_of(alloc: Global, lane: u8, plain: Plain) -> Result<Work, Fail>
+fn work_of(alloc: Global, lane: u8, plain: Plain) -> Result<Work, Cause>
     ensures { IfOk result (IsAllowed lane) }
 {
     match plain {
@@ -205,7 +205,7 @@ fn work_of(alloc: Global, lane: u8, plain: Plain) -> Result<Work, Fail>
 }
 
 /// Puts the statements of a table behind others.
-fn push_works(alloc: Global, lane: u8, plains: &[Plain], works: &mut Works) -> Result<(), Fail>
+fn push_works(alloc: Global, lane: u8, plains: &[Plain], works: &mut Works) -> Result<(), Cause>
     requires { All (IsAllowed lane) works.old }
     ensures { OnOk result (All (IsAllowed lane) works.new) }
 {
@@ -217,7 +217,7 @@ fn push_works(alloc: Global, lane: u8, plains: &[Plain], works: &mut Works) -> R
 }
 
 /// The lane with a number and with the statements of a table.
-fn lane_of(alloc: Global, number: u8, plains: &[Plain]) -> Result<Lane, Fail>
+fn lane_of(alloc: Global, number: u8, plains: &[Plain]) -> Result<Lane, Cause>
     ensures { IfOk result (IsMade number) }
 {
     let mut lane = Lane::new(alloc, number);
@@ -235,7 +235,7 @@ pub(crate) fn push_lanes(
     alloc: Global,
     scripts: &[Script],
     lanes: &mut Vec<Lane>,
-) -> Result<(), Fail>
+) -> Result<(), Cause>
     requires some { 1 ≤ length scripts.now }
     requires few { length scripts.now ≤ 16 }
     requires none { lanes.old.items ≡ [] }

@@ -6,6 +6,7 @@ ghost use Rattle.fish_rule.specs.Passes.{IsPassOf, view};
 ghost use Rattle.tests_log.specs.Bodies.{IsPlainBody};
 
 use crate::bodies::{claim_words, publish_words, store_lines};
+use crate::cause::Cause;
 use crate::expecting::expect;
 use crate::openings::{ONE_PAGE, TWO_PAGES, empty_log};
 use fish_layout::Body;
@@ -18,18 +19,18 @@ use std::test::Fail;
 const FIRST: Base = Base { number: 0, line: 0 };
 
 /// What a pass settles.
-fn settled_by(log: &Log, pass: &mut Pass) -> Result<Settled, Fail>
+fn settled_by(log: &Log, pass: &mut Pass) -> Result<Settled, Cause>
     requires { IsPassOf log.now pass.old }
     ensures { IsPassOf log.now pass.new }
 {
     if lane(pass) < 1 {
-        return Err(Fail::new("no lane"));
+        return Err(Cause("no lane"));
     }
     Ok(settle(log, pass))
 }
 
 /// Claims a line. The words of a record that is placed there.
-fn words_of_line(alloc: Global, log: &Log, pass: &mut Pass) -> Result<Body, Fail>
+fn words_of_line(alloc: Global, log: &Log, pass: &mut Pass) -> Result<Body, Cause>
     requires pass { IsPassOf log.now pass.old }
     requires rows { log.now.key.rows.value ≡ [] }
     ensures pass { IsPassOf log.now pass.new }
@@ -38,12 +39,12 @@ fn words_of_line(alloc: Global, log: &Log, pass: &mut Pass) -> Result<Body, Fail
     let (_, words) = claim_words(alloc, log, pass, 1)?;
     match words {
         Some(words) => Ok(words),
-        None => Err(Fail::new("no place")),
+        None => Err(Cause("no place")),
     }
 }
 
 /// What a pass settles once it stored a record of one line.
-fn settled_behind(alloc: Global, log: &Log, pass: &mut Pass) -> Result<Settled, Fail>
+fn settled_behind(alloc: Global, log: &Log, pass: &mut Pass) -> Result<Settled, Cause>
     requires pass { IsPassOf log.now pass.old }
     requires rows { log.now.key.rows.value ≡ [] }
     ensures { IsPassOf log.now pass.new }
@@ -59,7 +60,7 @@ fn settled_around(
     log: &Log,
     other: &mut Pass,
     pass: &mut Pass,
-) -> Result<(Settled, Settled), Fail>
+) -> Result<(Settled, Settled), Cause>
     requires other { IsPassOf log.now other.old }
     requires pass { IsPassOf log.now pass.old }
     requires rows { log.now.key.rows.value ≡ [] }
@@ -80,7 +81,7 @@ fn settled_by_two(
     log: &Log,
     main: &mut Pass,
     second: &mut Pass,
-) -> Result<[Settled; 4], Fail>
+) -> Result<[Settled; 4], Cause>
     requires main { IsPassOf log.now main.old }
     requires second { IsPassOf log.now second.old }
     requires rows { log.now.key.rows.value ≡ [] }
@@ -130,7 +131,7 @@ fn settled_at_the_end(
     log: &Log,
     main: &mut Pass,
     second: &mut Pass,
-) -> Result<[Settled; 2], Fail>
+) -> Result<[Settled; 2], Cause>
     requires main { IsPassOf log.now main.old }
     requires second { IsPassOf log.now second.old }
     requires rows { log.now.key.rows.value ≡ [] }

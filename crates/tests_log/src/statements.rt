@@ -3,6 +3,7 @@
 ghost use Rattle.std.specs.Prelude.{◌≡◌};
 ghost use Rattle.tests_log.specs.Registering.{IsWorking};
 
+use crate::cause::Cause;
 use crate::expecting::expect_text;
 use crate::openings::{ONE_PAGE, empty_log};
 use crate::registrations::{begin_between, end_between, poll_between, store_kept};
@@ -30,7 +31,7 @@ fn told_store_word(
     registrar: &Registrar,
     defs: &mut Defs,
     payload: &[u8],
-) -> Result<String, Fail>
+) -> Result<String, Cause>
     requires { IsWorking log.now main.old registrar.now defs.old }
     ensures { IsWorking log.now main.new registrar.now defs.new }
 {
@@ -48,7 +49,7 @@ fn told_long_store(
     registrar: &Registrar,
     defs: &mut Defs,
     size: usize,
-) -> Result<String, Fail>
+) -> Result<String, Cause>
     requires { IsWorking log.now main.old registrar.now defs.old }
     ensures { IsWorking log.now main.new registrar.now defs.new }
 {
@@ -59,7 +60,7 @@ fn told_long_store(
 }
 
 /// A payload of so many bytes, eight or more.
-fn long_payload(alloc: Global, size: usize) -> Result<String, Fail> {
+fn long_payload(alloc: Global, size: usize) -> Result<String, Cause> {
     let mut payload = String::from_str(alloc, "{\"p\":\"")?;
     for _ in 8..size {
         payload.push('x')?;
@@ -76,7 +77,7 @@ fn told_begin(
     registrar: &mut Registrar,
     defs: &Defs,
     definition: (&str, &str),
-) -> Result<String, Fail>
+) -> Result<String, Cause>
     requires { IsWorking log.now main.old registrar.old defs.now }
     ensures { IsWorking log.now main.new registrar.new defs.now }
 {
@@ -87,15 +88,15 @@ fn told_begin(
 }
 
 /// An id, and where an index begins or ends.
-fn told_boundary(alloc: Global, id: u16, word: &str, number: u32) -> Result<String, Fail> {
+fn told_boundary(alloc: Global, id: u16, word: &str, number: u32) -> Result<String, Cause> {
     Ok(format!(in alloc; "id {id} {word} {number}")?)
 }
 
 /// What is found of a registration as the lanes are looked at. No lane is waited for here.
-fn told_poll(alloc: Global, found: Poll) -> Result<String, Fail> {
+fn told_poll(alloc: Global, found: Poll) -> Result<String, Cause> {
     match found {
         Poll::Bound { id, from } => told_boundary(alloc, id, "from", from),
-        Poll::NotYet { .. } => Err(Fail::new("a lane is waited for")),
+        Poll::NotYet { .. } => Err(Cause("a lane is waited for")),
         Poll::Idle => Ok(format!(in alloc; "none waits")?),
     }
 }
@@ -108,7 +109,7 @@ fn told_end(
     registrar: &mut Registrar,
     defs: &Defs,
     name: &str,
-) -> Result<String, Fail>
+) -> Result<String, Cause>
     requires { IsWorking log.now main.old registrar.old defs.now }
     ensures { IsWorking log.now main.new registrar.new defs.now }
 {
@@ -126,7 +127,7 @@ pub(crate) fn told_scanned(
     registrar: &Registrar,
     defs: &mut Defs,
     question: Question,
-) -> Result<String, Fail>
+) -> Result<String, Cause>
     requires { IsWorking log.now main.old registrar.now defs.old }
     ensures { IsWorking log.now main.new registrar.now defs.new }
 {
@@ -144,7 +145,7 @@ fn told_explained(
     registrar: &Registrar,
     defs: &mut Defs,
     question: Question,
-) -> Result<String, Fail>
+) -> Result<String, Cause>
     requires { IsWorking log.now main.old registrar.now defs.old }
     ensures { IsWorking log.now main.new registrar.now defs.new }
 {
@@ -162,7 +163,7 @@ fn told(
     registrar: &mut Registrar,
     defs: &mut Defs,
     statement: Statement,
-) -> Result<String, Fail>
+) -> Result<String, Cause>
     requires { IsWorking log.now main.old registrar.old defs.old }
     ensures { IsWorking log.now main.new registrar.new defs.new }
 {
@@ -186,7 +187,7 @@ fn expect_story<R: Abort>(
     registrar: &mut Registrar,
     defs: &mut Defs,
     story: Story,
-) -> Result<(), Fail>
+) -> Result<(), Cause>
     requires { IsWorking log.now main.old registrar.old defs.old }
     ensures { IsWorking log.now main.new registrar.new defs.new }
 {
@@ -198,7 +199,7 @@ fn expect_story<R: Abort>(
 }
 
 /// Asserts them on a log of their own.
-fn expect_alone<R: Abort>(rt: &R, alloc: Global, story: Story) -> Result<(), Fail> {
+fn expect_alone<R: Abort>(rt: &R, alloc: Global, story: Story) -> Result<(), Cause> {
     let (log, mut main) = empty_log(alloc, ONE_PAGE, FIRST)?;
     let mut registrar = Registrar::new(Catalog::new(alloc));
     let mut defs = Defs::new(alloc);
@@ -240,14 +241,14 @@ fn store_values(
     main: &mut Pass,
     registrar: &Registrar,
     defs: &mut Defs,
-) -> Result<(), Fail>
+) -> Result<(), Cause>
     requires { IsWorking log.now main.old registrar.now defs.old }
     ensures { IsWorking log.now main.new registrar.now defs.new }
 {
     for number in 0..VALUES {
         let payload = format!(in alloc; "{{\"v\":{number}}}")?;
         if store_kept(alloc, log, main, registrar, defs, payload.as_bytes()) != Ok(number) {
-            return Err(Fail::new("not stored"));
+            return Err(Cause("not stored"));
         }
     }
     Ok(())
@@ -262,7 +263,7 @@ fn expect_values<R: Abort>(
     registrar: &Registrar,
     defs: &mut Defs,
     named: (&'static str, u16),
-) -> Result<(), Fail>
+) -> Result<(), Cause>
     requires { IsWorking log.now main.old registrar.now defs.old }
     ensures { IsWorking log.now main.new registrar.now defs.new }
 {
@@ -289,7 +290,7 @@ fn register_named(
     main: &mut Pass,
     registrar: &mut Registrar,
     defs: &Defs,
-) -> Result<(), Fail>
+) -> Result<(), Cause>
     requires { IsWorking log.now main.old registrar.old defs.now }
     ensures { IsWorking log.now main.new registrar.new defs.now }
 {
@@ -308,7 +309,7 @@ fn expect_named<R: Abort>(
     main: &mut Pass,
     registrar: &mut Registrar,
     defs: &mut Defs,
-) -> Result<(), Fail>
+) -> Result<(), Cause>
     requires { IsWorking log.now main.old registrar.old defs.old }
 {
     register_named(alloc, log, main, registrar, defs)?;
@@ -327,5 +328,5 @@ fn values_that_share_a_bucket_are_told_apart(rt: HostRuntime) -> Result<(), Fail
     let mut defs = Defs::new(alloc);
     let done = expect_named(&rt, alloc, &log, &mut main, &mut registrar, &mut defs);
     drop((log, main, registrar, defs));
-    done
+    Ok(done?)
 }

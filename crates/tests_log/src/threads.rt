@@ -18,6 +18,7 @@ ghost use Rattle.fish_rule.specs.Table.{first_view};
 ghost use Rattle.fish_rule.specs.Views.{Among};
 ghost use Rattle.tests_log.specs.Lanes.{IsOutOf};
 
+use crate::cause::Cause;
 use crate::expecting::expect;
 use crate::flights::{claimed, publish_record};
 use crate::lanes::{split_lane, store, take_back};
@@ -198,7 +199,7 @@ fn split_four(log: &Log, main: &mut Pass) -> [Seat; 4]
 }
 
 /// The control pass takes back a seat. How many records were stored there.
-pub(crate) fn take_seat(log: &Log, main: &mut Pass, seat: Seat, lane: u8) -> Result<usize, Fail>
+pub(crate) fn take_seat(log: &Log, main: &mut Pass, seat: Seat, lane: u8) -> Result<usize, Cause>
     requires main { IsPassOf log.now main.old }
     requires seat { IsOutOf log.now seat.pass }
     requires control { (view main.old).lane ≡ 1 }
@@ -214,7 +215,7 @@ pub(crate) fn take_seat(log: &Log, main: &mut Pass, seat: Seat, lane: u8) -> Res
 }
 
 /// The control pass takes back all lanes. How many records each stored.
-fn take_four(log: &Log, main: &mut Pass, seats: [Seat; 4]) -> Result<[usize; 4], Fail>
+fn take_four(log: &Log, main: &mut Pass, seats: [Seat; 4]) -> Result<[usize; 4], Cause>
     requires main { IsPassOf log.now main.old }
     requires seats { All (λ seat. IsOutOf log.now seat.pass) seats }
     requires control { (view main.old).lane ≡ 1 }
@@ -235,7 +236,7 @@ fn take_seats(
     third: Seat,
     fourth: Seat,
     fifth: Seat,
-) -> Result<[usize; 4], Fail>
+) -> Result<[usize; 4], Cause>
     requires main { IsPassOf log.now main.old }
     requires second { IsOutOf log.now second.pass }
     requires third { IsOutOf log.now third.pass }
@@ -262,7 +263,7 @@ fn ingest_by_four<R: Threads + Sync>(
     log: &Log,
     main: &mut Pass,
     defs: &[ActiveDef],
-) -> Result<[usize; 4], Fail>
+) -> Result<[usize; 4], Cause>
     requires pass { IsPassOf log.now main.old }
     requires first { view main.old ≡ first_view log.now.key }
     requires active { AreActive log.now.key.rows.value defs.now }
@@ -282,13 +283,13 @@ fn ingest_by_four<R: Threads + Sync>(
         }
         Err(error) => {
             drop(seats);
-            Err(Fail::from(error))
+            Err(Cause::from(error))
         }
     }
 }
 
 /// The entries that walks down all chains give over all settled numbers, and how many these are.
-pub(crate) fn walks(alloc: Global, log: &Log, pass: &mut Pass) -> Result<(Vec<Linked>, u32), Fail>
+pub(crate) fn walks(alloc: Global, log: &Log, pass: &mut Pass) -> Result<(Vec<Linked>, u32), Cause>
     requires pass { IsPassOf log.now pass.old }
     requires alone { IsAlone (view pass.old) }
     ensures pass { IsPassOf log.now pass.new }
@@ -328,7 +329,7 @@ fn fill_open<R: Threads + Sync>(
     log: &Log,
     main: &mut Pass,
     defs: &[ActiveDef],
-) -> Result<Seen, Fail>
+) -> Result<Seen, Cause>
     requires pass { IsPassOf log.now main.old }
     requires first { view main.old ≡ first_view log.now.key }
     requires active { AreActive log.now.key.rows.value defs.now }
@@ -346,7 +347,7 @@ fn fill_open<R: Threads + Sync>(
 }
 
 /// Closes a log that was filled.
-fn close_filled(alloc: Global, log: Log, main: Pass, seen: Seen) -> Result<Left, Fail>
+fn close_filled(alloc: Global, log: Log, main: Pass, seen: Seen) -> Result<Left, Cause>
     requires pass { IsPassOf log main }
     requires alone { IsAlone (view main) }
 {
@@ -365,7 +366,7 @@ fn filled<R: Threads + Sync>(
     alloc: Global,
     start: &Start,
     defs: &[ActiveDef],
-) -> Result<Left, Fail>
+) -> Result<Left, Cause>
     requires can { CanOpen THREE_PAGES start.now }
     requires active { AreActive start.now.catalog defs.now }
     requires defs { AreDefs defs.now }
@@ -381,7 +382,7 @@ fn filled<R: Threads + Sync>(
 }
 
 /// How many entries a lane stored, where they are its records in order and with nothing lost.
-fn stored_in_order(alloc: Global, entries: &Entries, lane: u8) -> Result<usize, Fail> {
+fn stored_in_order(alloc: Global, entries: &Entries, lane: u8) -> Result<usize, Cause> {
     let mut place = 0;
     for entry in entries.as_slice() {
         let Entry::Stored { lane: of, .. } = entry else {
@@ -398,7 +399,7 @@ fn stored_in_order(alloc: Global, entries: &Entries, lane: u8) -> Result<usize, 
         let same = entry.is(&want);
         drop(want);
         if !same {
-            return Err(Fail::new("another record"));
+            return Err(Cause("another record"));
         }
         place += 1;
     }
@@ -406,7 +407,7 @@ fn stored_in_order(alloc: Global, entries: &Entries, lane: u8) -> Result<usize, 
 }
 
 /// How many entries each of the lanes 1 to 5 stored.
-fn stored_by_each(alloc: Global, entries: &Entries) -> Result<[usize; 5], Fail> {
+fn stored_by_each(alloc: Global, entries: &Entries) -> Result<[usize; 5], Cause> {
     let mut stored = [0; 5];
     for place in 0..5 {
         stored[place] = stored_in_order(alloc, entries, place as u8 + 1)?;
@@ -420,7 +421,7 @@ fn expect_chains<R: Abort>(
     alloc: Global,
     left: &Left,
     defs: &[ActiveDef],
-) -> Result<(), Fail> {
+) -> Result<(), Cause> {
     let links = links_of(alloc, defs, &left.entries)?;
     let chains = links_in(alloc, links.as_slice());
     drop(links);
@@ -432,7 +433,7 @@ fn expect_chains<R: Abort>(
 }
 
 /// Asserts what the lanes left.
-fn expect_left<R: Abort>(rt: &R, alloc: Global, left: &Left) -> Result<(), Fail> {
+fn expect_left<R: Abort>(rt: &R, alloc: Global, left: &Left) -> Result<(), Cause> {
     let [second, third, fourth, fifth] = left.seen.stored;
     let stored = stored_by_each(alloc, &left.entries)?;
     expect(rt, "records", &stored, &[1, second, third, fourth, fifth]);
@@ -448,7 +449,7 @@ fn expect_all<R: Abort>(
     alloc: Global,
     left: &Left,
     defs: &[ActiveDef],
-) -> Result<(), Fail> {
+) -> Result<(), Cause> {
     expect_left(rt, alloc, left)?;
     expect_chains(rt, alloc, left, defs)
 }
@@ -467,5 +468,5 @@ fn four_threads_ingest_at_once(rt: HostRuntime) -> Result<(), Fail> {
         Err(fail) => Err(fail),
     };
     drop(defs);
-    done
+    Ok(done?)
 }

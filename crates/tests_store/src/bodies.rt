@@ -5,6 +5,7 @@ use fish_catalog::{CatRow, Catalog, Commit};
 use fish_image::{is_within, read_slot, slot_body};
 use fish_value::{Bytes, Text};
 use std::alloc::{AllocError, Global};
+use std::fmt::Write;
 use std::test::Fail;
 
 /// Places and lengths, and the bytes there in hexadecimal.
@@ -133,15 +134,18 @@ fn boundary_text(alloc: Global, boundary: Option<u32>) -> Result<String, AllocEr
     }
 }
 
+fn put_row(alloc: Global, told: &mut String, row: &CatRow) -> Result<(), AllocError> {
+    let (name, def) = (row.name.as_str(), row.def.as_str());
+    let from = boundary_text(alloc, row.from)?;
+    let to = boundary_text(alloc, row.to)?;
+    write!(told, ", {name} {def} {from} {to}")
+}
+
 fn commit_text(alloc: Global, c: &Commit) -> Result<String, AllocError> {
     let (turn, pages, bits, count, lines) = (c.turn, c.pages, c.bucket_bits, c.count, c.lines);
     let mut told = format!(in alloc; "{turn} {pages} {bits} {count} {lines}")?;
     for row in c.rows.rows() {
-        let from = boundary_text(alloc, row.from)?;
-        let to = boundary_text(alloc, row.to)?;
-        let (name, def) = (row.name.as_str(), row.def.as_str());
-        let text = format!(in alloc; ", {name} {def} {from} {to}")?;
-        told.push_str(text.as_str())?;
+        put_row(alloc, &mut told, row)?;
     }
     Ok(told)
 }

@@ -9,6 +9,7 @@ use fish_catalog::{CatRow, Catalog, Checked, Commit};
 use fish_image::{Checker, ImageRefusal, check_image, is_within};
 use fish_value::Text;
 use std::alloc::{AllocError, Global};
+use std::fmt::Write;
 use std::test::Fail;
 
 /// Three records of two lines each, by lanes 1, 2 and 1, whose `type` is `Push`, `Pull` and `Push`. Their
@@ -123,14 +124,12 @@ fn checked_text(alloc: Global, checked: &Checked) -> Result<String, AllocError> 
     let mut told = String::from_str(alloc, "heads ")?;
     for (bucket, head) in checked.heads.as_slice().iter().enumerate() {
         if *head != 0 {
-            let text = format!(in alloc; "{bucket}:{head} ")?;
-            told.push_str(text.as_str())?;
+            write!(told, "{bucket}:{head} ")?;
         }
     }
     told.push_str("starts")?;
     for start in checked.starts.as_slice() {
-        let text = format!(in alloc; " {} at {}", start.number, start.line)?;
-        told.push_str(text.as_str())?;
+        write!(told, " {} at {}", start.number, start.line)?;
     }
     Ok(told)
 }

@@ -4,6 +4,7 @@ use crate::told::{expect, put_bytes};
 use fish_disk::{Disk, FileDisk};
 use fish_value::Text;
 use std::alloc::AllocError;
+use std::fmt::Write;
 use std::test::Fail;
 use std::{env, fs, process};
 
@@ -35,27 +36,36 @@ fn put_read(
     let count = disk.read(2, &mut buf);
     put_bytes(told, &buf)?;
     let behind = disk.read(9, &mut buf);
-    let text = format!(in rt.alloc(); " {count:?} {behind:?}")?;
-    told.push_str(text.as_str())
+    write!(told, " {count:?} {behind:?}")
+}
+
+/// What a new disk at a path answers.
+fn told_first(rt: &HostRuntime, path: &Text) -> Result<String, AllocError> {
+    let mut disk = FileDisk::at(*rt, path.again(rt.alloc())?);
+    let told = written(rt, &mut disk);
+    drop(disk);
+    told
+}
+
+/// Puts behind it what a second disk there answers, and how often that has failed.
+fn put_second(rt: &HostRuntime, told: &mut String, path: &Text) -> Result<(), AllocError> {
+    let mut disk = FileDisk::at(*rt, path.again(rt.alloc())?);
+    let done = put_read(rt, told, &mut disk);
+    let faults = disk.faults();
+    drop(disk);
+    done?;
+    write!(told, " {faults}")
 }
 
 #[test]
 fn keeps_bytes(rt: HostRuntime) -> Result<(), Fail> {
     let path = new_path(&rt)?;
-    let name = path.again(rt.alloc())?;
-    let mut disk = FileDisk::at(rt, path);
-    let mut told = written(&rt, &mut disk)?;
-    drop(disk);
-    let again = name.again(rt.alloc())?;
-    let mut disk = FileDisk::at(rt, again);
-    put_read(&rt, &mut told, &mut disk)?;
-    let faults = disk.faults();
-    drop(disk);
-    fs::remove_file(&rt, name.as_str())?;
-    let all = format!(in rt.alloc(); "{} {faults}", told.as_str())?;
+    let mut told = told_first(&rt, &path)?;
+    put_second(&rt, &mut told, &path)?;
+    fs::remove_file(&rt, path.as_str())?;
     expect(
         &rt,
-        all.as_str(),
+        told.as_str(),
         "Ok(0) Ok(()) Ok(()) Ok(()) Ok(6) cxyz Ok(4) Ok(0) 0",
     );
     Ok(())

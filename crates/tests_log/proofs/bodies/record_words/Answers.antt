@@ -21,12 +21,12 @@ returns c =
       lane = c.args.lane;
       version = 0;
       number = c.args.number;
-      keys = c.new-2.result;
+      keys = c.new.result;
       payload = text;
     } in
     let lane = c.requires.lane in
     let number = c.requires.number in
-    let keys : p.keys ≡ [] = c.new-2.ensures in
+    let keys : p.keys ≡ [] = c.new.ensures in
     let bytes : c.as_bytes.result.now ≡ text = c.as_bytes.ensures.value in
     let long = c.if-as_bytes-gt524288.false in
     let is : IsBody p c.in_ok-body.body = record {

@@ -6,5 +6,5 @@ use Rattle.fish_rule.proofs.laws.Crossing.{log_sync}
 use Rattle.fish_rule.proofs.table.Pass.TheSendSync.{the_send as pass_send}
 use Rattle.tests_log.proofs.churn.churn_beside.Goals as goal
 
-pub join_mut-done-requires-send-F : goal.join_mut-done-requires-send-F
-join_mut-done-requires-send-F g c κs within = search (sendable, crosses, log_sync, pass_send, registrar_send) depth 20
+pub join_mut-requires-send-F : goal.join_mut-requires-send-F
+join_mut-requires-send-F g c κs within = search (sendable, crosses, log_sync, pass_send, registrar_send) depth 20

@@ -1,8 +1,17 @@
--- The look found the record.
-use Rattle.std.proofs.Common.{sym, ◌∙◌}
-use Rattle.fish_rule.specs.Passes.{view}
+-- The look found the record, and either call leaves a pass of the log.
+use Rattle.std.proofs.Common.{subst, sym, ◌∙◌}
+use Rattle.fish_rule.specs.Passes.{IsPassOf, view}
 use Rattle.fish_walk.proofs.Records.{stored_law}
 use Rattle.tests_log.proofs.entries.found_at.Goals as goal
+use Rattle.tests_log.proofs.entries.found_at.Goals.{in-Stored+in_ok-entry+else-not-same, in_default}
+
+pub returns : goal.returns
+returns g c =
+    elim c.match-found.branch [
+      | in-Stored+in_ok-entry+else-not-same w ↦
+          subst (IsPassOf c.args.log.now) (sym w.pass-is) w.read_entry.ensures.pass
+      | in_default w ↦ subst (IsPassOf c.args.log.now) (sym w.pass-is) c.look-found.ensures.pass
+    ]
 
 pub read_entry-requires-clause-stored : goal.read_entry-requires-clause-stored
 read_entry-requires-clause-stored g c =
