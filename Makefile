@@ -5,10 +5,11 @@ JOBS ?= $(shell n=$$(nproc); [ $$n -lt 4 ] && echo $$n || echo 4)
 PROGRAM = crates/fishstore/out/fishstore
 BENCHMARKS = crates/bench/out/bench
 EXAMPLE = examples/events
+TESTS := $(shell sed -n 's/^\(tests_[a-z]*\).*:.*/\1/p' crates.txt)
 CRATES := $(shell sed -n 's/^\(fish[a-z_]*\).*:.*/\1/p' crates.txt)
 SOURCES := crates.txt $(shell find crates -name out -prune -o \( -path '*/src/*' -o -path '*/specs/*' -o -path '*/proofs/*' \) -type f -print)
 
-.PHONY: demo build test edits gate install bench bench_run bench_log bench_ingest bench_registrations bench_scans bench_peers clean
+.PHONY: demo build test try edits gate install bench bench_run bench_log bench_ingest bench_registrations bench_scans bench_peers clean
 
 # Runs both commands of the program on the examples, built once and with no proof: their words stand a line each.
 demo:
@@ -24,10 +25,14 @@ build: $(PROGRAM)
 $(PROGRAM): $(SOURCES)
 	tools/prove fishstore
 
-# Proves every crate and its tests from nothing, runs the tests, and runs the program over the cases.
+# Proves every crate but the benchmarks from nothing, and the tests, runs these, and runs the program over the cases.
 test:
-	tools/prove
+	tools/prove fishstore $(TESTS)
 	tools/cases cases/*.txt README.md
+
+# Runs all tests with no proof.
+try:
+	for crate in $(TESTS); do (cd crates/$$crate && rt try --test --seconds 120) || exit 1; done
 
 # Tries every wrong body of every crate: each has to be refused.
 edits:
