@@ -1,4 +1,3 @@
-pub mod Blocks
 pub mod Bodies
 pub mod Heads
 pub mod Lanes

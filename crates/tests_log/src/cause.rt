@@ -8,7 +8,7 @@ use std::alloc::{AllocError, AllocFailed};
 
 /// Why a test can't go on.
 #[derive(Debug, Drop)]
-pub(crate) struct Cause(pub(crate) &'static str);
+pub struct Cause(pub &'static str);
 
 impl From<AllocError> for Cause {
     fn from(_: AllocError) -> Self {

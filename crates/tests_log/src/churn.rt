@@ -15,7 +15,7 @@ use crate::cause::Cause;
 use crate::expecting::expect;
 use crate::lanes::store;
 use crate::linked::Linked;
-use crate::openings::{ONE_PAGE, empty_log};
+use crate::logs::{ONE_PAGE, empty_log};
 use crate::registrations::{begin_numbered, end_numbered, poll, split_kept};
 use crate::threads::{Seat, take_seat, walks};
 use fish_catalog::{CatRow, Catalog};

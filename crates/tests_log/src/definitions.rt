@@ -7,7 +7,8 @@ ghost use Rattle.fish_rule.specs.Table.{first_view};
 
 use crate::cause::Cause;
 use crate::expecting::{expect, expect_text};
-use crate::openings::{ONE_PAGE, canonical, defined_log, name_of};
+use crate::logs::{ONE_PAGE, name_of};
+use crate::openings::{canonical, defined_log};
 use fish_catalog::Catalog;
 use fish_epoch::{Defs, enter, leave};
 use fish_lang::print_def;

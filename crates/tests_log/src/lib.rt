@@ -4,24 +4,18 @@
 
 #[cfg(test)]
 mod answers;
+mod asks;
 #[cfg(test)]
 mod bases;
 #[cfg(test)]
-mod blocks;
-#[cfg(test)]
 mod bodies;
-#[cfg(test)]
 mod cause;
 #[cfg(test)]
 mod chains;
 #[cfg(test)]
-mod changes;
-#[cfg(test)]
 mod churn;
 #[cfg(test)]
 mod claims;
-#[cfg(test)]
-mod contention;
 #[cfg(test)]
 mod definitions;
 #[cfg(test)]
@@ -33,11 +27,10 @@ mod expecting;
 #[cfg(test)]
 mod flights;
 #[cfg(test)]
-mod gates;
-#[cfg(test)]
 mod lanes;
 #[cfg(test)]
 mod linked;
+mod logs;
 #[cfg(test)]
 mod nodes;
 #[cfg(test)]
@@ -55,13 +48,7 @@ mod registrations;
 #[cfg(test)]
 mod rounds;
 #[cfg(test)]
-mod running;
-#[cfg(test)]
-mod runs;
-#[cfg(test)]
 mod scans;
-#[cfg(test)]
-mod scripts;
 #[cfg(test)]
 mod settling;
 #[cfg(test)]
@@ -70,3 +57,7 @@ mod statements;
 mod stories;
 #[cfg(test)]
 mod threads;
+
+pub use asks::{Question, Wanted, ask_of};
+pub use cause::Cause;
+pub use logs::{ONE_PAGE, closed, empty_log, name_of, parsed};

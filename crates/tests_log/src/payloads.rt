@@ -9,7 +9,7 @@ ghost use Rattle.fish_rule.specs.Keys.{IsWritten};
 use crate::cause::Cause;
 use crate::expecting::{expect, expect_text};
 use crate::flights::prepared;
-use crate::openings::parsed;
+use crate::logs::parsed;
 use fish_ingest::{IngestRefusal, Origin, Prepared};
 use fish_lang::LangRefusal;
 use fish_layout::{BodyParts, KeyPart, MAX_PAYLOAD, read_body};

@@ -2,7 +2,7 @@
 
 ghost use Rattle.std.specs.Prelude.{◌<◌};
 
-use crate::scans::{Question, Wanted, ask_of};
+use crate::asks::{Question, Wanted, ask_of};
 use fish_scan::{Answer, Ask, How, ScanRefusal};
 use std::alloc::{AllocError, Global};
 

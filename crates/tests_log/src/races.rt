@@ -16,7 +16,7 @@ ghost use Rattle.tests_log.specs.Registering.{AreOut, IsBeside, IsKept};
 use crate::cause::Cause;
 use crate::churn::{split_three, take_three, wait};
 use crate::lanes::store;
-use crate::openings::{ONE_PAGE, closed, empty_log};
+use crate::logs::{ONE_PAGE, closed, empty_log};
 use crate::questions::{ASKED, CHANGING, KIND, Kept, ask_at, keep};
 use crate::registrations::{begin, end};
 use crate::scans::scan_between;

@@ -11,7 +11,7 @@ ghost use Rattle.tests_log.specs.Registering.{IsKept};
 use crate::cause::Cause;
 use crate::expecting::{expect, expect_text};
 use crate::lanes::store;
-use crate::openings::{ONE_PAGE, empty_log};
+use crate::logs::{ONE_PAGE, empty_log};
 use crate::registrations::{begin, end, poll, split_kept};
 use crate::statements::told_scanned;
 use crate::stories::PUSHES;

@@ -11,8 +11,7 @@ use fish_epoch::Defs;
 use fish_plan::{Piece, Plan};
 use fish_psf::Steps;
 use fish_rule::{Log, Pass};
-use fish_scan::{Answer, Ask, Explained, How, ScanRefusal, explain, scan};
-use fish_value::{Text, Value};
+use fish_scan::{Answer, Ask, Explained, ScanRefusal, explain, scan};
 use std::alloc::{AllocError, Global};
 use std::fmt::Write;
 use std::marker::Brand;
@@ -143,44 +142,4 @@ pub(crate) fn told_explain(
         }
         Err(refusal) => Ok(format!(in alloc; "{refusal}")?),
     }
-}
-
-/// The value that is asked for.
-#[derive(Clone, Copy)]
-pub(crate) enum Wanted {
-    Text(&'static str),
-    Int(i64),
-    Bool(bool),
-}
-
-/// What a scan is asked.
-#[derive(Clone, Copy)]
-pub(crate) struct Question {
-    pub(crate) name: &'static str,
-    pub(crate) value: Wanted,
-    pub(crate) from: Option<u32>,
-    pub(crate) to: Option<u32>,
-    pub(crate) how: How,
-}
-
-/// The value that is asked for.
-fn value_of(alloc: Global, wanted: Wanted) -> Result<Value, AllocError> {
-    match wanted {
-        Wanted::Text(text) => Ok(Value::Text(Text::copy_of(alloc, text)?)),
-        Wanted::Int(int) => Ok(Value::Int(int)),
-        Wanted::Bool(bool) => Ok(Value::Bool(bool)),
-    }
-}
-
-/// The question as a scan takes it.
-pub(crate) fn ask_of(alloc: Global, question: Question) -> Result<Ask, AllocError> {
-    let name = Text::copy_of(alloc, question.name)?;
-    let value = value_of(alloc, question.value)?;
-    Ok(Ask {
-        name,
-        value,
-        from: question.from,
-        to: question.to,
-        how: question.how,
-    })
 }

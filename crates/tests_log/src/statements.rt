@@ -3,11 +3,12 @@
 ghost use Rattle.std.specs.Prelude.{◌≡◌};
 ghost use Rattle.tests_log.specs.Registering.{IsWorking};
 
+use crate::asks::{Question, Wanted, ask_of};
 use crate::cause::Cause;
 use crate::expecting::expect_text;
-use crate::openings::{ONE_PAGE, empty_log};
+use crate::logs::{ONE_PAGE, empty_log};
 use crate::registrations::{begin_between, end_between, poll_between, store_kept};
-use crate::scans::{Question, Wanted, ask_of, told_explain, told_scan};
+use crate::scans::{told_explain, told_scan};
 use crate::stories::Statement::{self, Begin, End, Explain, Look, Scan, Store, StoreLong};
 use crate::stories::{AGAIN, BEHIND_RECORDS, PAST_THE_END, RANGES, REFUSALS, Story, WAITING};
 use fish_catalog::Catalog;

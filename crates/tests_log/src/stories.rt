@@ -1,6 +1,6 @@
 //! Lists of statements, and what each of them answers on an empty log of sixteen buckets.
 
-use crate::scans::{Question, Wanted};
+use crate::asks::{Question, Wanted};
 use Statement::{Begin, End, Explain, Look, Scan, Store, StoreLong};
 use fish_scan::How;
 
