@@ -4,7 +4,7 @@ ghost use Rattle.std.specs.Prelude.{IfOk, IsTrue};
 ghost use Rattle.fish_catalog.specs.Canonical.{IsCanonical};
 ghost use Rattle.fish_catalog.specs.Rows.{AwaitsFrom, IsName, IsRow};
 
-use crate::told::expect;
+use crate::expecting::expect;
 use fish_catalog::{
     CatRow, Catalog, Entry, Listed, ROW_WORDS, active_in, is_name, read_row, row_words,
 };

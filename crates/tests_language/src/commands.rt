@@ -1,11 +1,12 @@
 //! Words of a command line, with the command or the refusal that was worked out by hand.
 
-use crate::told::{expect_all, text_of};
+use crate::expecting::expect_all;
 use fish_lang::print_def;
 use fish_value::{Form, Text, Texts};
 use fish_words::{Command, Run, Select, UsageCause, WordsRefusal, read_words};
 use std::alloc::{AllocError, Global};
 use std::test::Fail;
+use tests_values::text_of;
 
 /// Words with a bar behind each, the first of them `select`. A command is told by the definition's canonical text, the
 /// value, the form, whether there is a header, and the file.

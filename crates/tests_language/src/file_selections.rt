@@ -3,7 +3,8 @@
 ghost use Rattle.std.specs.Prelude.{◌≤◌, length};
 ghost use Rattle.fish_value.specs.Limits.{longest_file};
 
-use crate::told::{definition, expect_all};
+use crate::expecting::expect_all;
+use crate::sources::definition;
 use fish_lang::Def;
 use fish_report::push_item;
 use fish_select::select;

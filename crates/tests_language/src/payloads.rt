@@ -2,7 +2,8 @@
 
 ghost use Rattle.std.specs.Prelude.{◌≡◌, ◌<◌};
 
-use crate::told::{definition, expect_all};
+use crate::expecting::expect_all;
+use crate::sources::definition;
 use fish_psf::{ActiveDef, Keys, PsfRefusal, Record, Steps, keys, parse};
 use fish_value::{Form, print_value};
 use std::alloc::{AllocError, Global};

@@ -2,7 +2,7 @@
 
 ghost use Rattle.std.specs.Prelude.{◌≤◌};
 
-use crate::told::expect_all;
+use crate::expecting::expect_all;
 use fish_catalog::{Interval, Intervals};
 use fish_plan::{Piece, Plan, full, plan};
 use std::alloc::{AllocError, Global};

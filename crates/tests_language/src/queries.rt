@@ -3,7 +3,8 @@
 
 ghost use Rattle.std.specs.Prelude.{◌≡◌, ◌<◌};
 
-use crate::told::{definition, expect_all};
+use crate::expecting::expect_all;
+use crate::sources::definition;
 use fish_lang::Def;
 use fish_lines::records;
 use fish_psf::{Record, Steps, eval, parse};

@@ -1,7 +1,7 @@
 //! Reports with the texts that a user is to see, written out by hand.
 
+use crate::expecting::expect_all;
 use crate::items::{Plain, item_of, put_items};
-use crate::told::expect_all;
 use fish_report::{
     DeregisterCause, Items, RegisterCause, Report, ScanCause, push_item, report_text,
 };

@@ -1,6 +1,6 @@
 //! Texts of scripts, with the script or the refusal that was worked out by hand.
 
-use crate::told::expect_all;
+use crate::expecting::expect_all;
 use fish_lang::{Def, print_def};
 use fish_script::{Block, By, Script, Statement, Statements, parse_script};
 use fish_value::{Bytes, Form, Text, Value, print_value};

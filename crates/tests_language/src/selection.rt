@@ -1,12 +1,14 @@
 //! Definitions on lines, with values worked out by hand from what each word of the language means.
 
-use crate::told::{agreed, definition, expect_all, value_text};
+use crate::expecting::expect_all;
+use crate::sources::definition;
 use fish_json::{JsonReader, JsonRecord};
 use fish_lang::Def;
 use fish_psf::{Parsed, Record, eval, holds};
 use fish_value::Value;
 use std::alloc::{AllocError, Global};
 use std::test::Fail;
+use tests_values::{agreed, value_text};
 
 /// Definitions, lines, and the value that is wanted.
 const VALUES: &[((&str, &str), &str)] = &[

@@ -1,8 +1,8 @@
 //! Reports that are written by pieces: which bytes come at which write, worked out by hand.
 
+use crate::expecting::expect_all;
 use crate::items::{Plain, put_items};
 use crate::reports::REPORTS;
-use crate::told::expect_all;
 use fish_outside::MemorySink;
 use fish_report::{Item, Items, Report, WriteRefusal, report_text, write_items};
 use fish_value::{Numbers64, Row, Rows, Text};

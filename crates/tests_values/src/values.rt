@@ -1,6 +1,7 @@
 //! Values with answers from outside: what Rust's own `parse` and its `serde_json` 1.0 say.
 
-use crate::told::{expect_all, value_text};
+use crate::expecting::expect_all;
+use crate::told::value_text;
 use fish_value::{Value, print_value, read_int, read_value};
 use std::alloc::{AllocError, Global};
 use std::test::Fail;

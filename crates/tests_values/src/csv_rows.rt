@@ -1,7 +1,8 @@
 //! Rows with answers from outside: RFC 4180, and what `csv` 1.4 of Rust says of the rest. Each is read
 //! as a record that owns its fields and by a reader that lends them.
 
-use crate::told::{agreed, expect_all, field_or_refusal, path_of};
+use crate::expecting::expect_all;
+use crate::told::{agreed, field_or_refusal, path_of};
 use fish_csv::{CsvReader, CsvRecord};
 use fish_value::Path;
 use std::alloc::{AllocError, Global};

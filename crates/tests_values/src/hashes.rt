@@ -1,6 +1,6 @@
 //! Hashes of keys: the vectors that the authors of FNV-1a give, and keys that another program hashed.
 
-use crate::told::expect_all;
+use crate::expecting::expect_all;
 use fish_layout::{bucket_of, key_hash};
 use fish_value::{Value, read_value};
 use std::alloc::{AllocError, Global};

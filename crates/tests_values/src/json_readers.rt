@@ -3,8 +3,9 @@
 
 ghost use Rattle.std.specs.Prelude.{◌≡◌, ◌<◌};
 
+use crate::expecting::expect;
 use crate::json_payloads::{Seeded, change_byte, nested, object};
-use crate::told::{expect, field_at, path_of};
+use crate::told::{field_at, path_of};
 use fish_json::{JsonReader, JsonRecord};
 use fish_psf::{Parsed, Steps};
 use fish_read::RecordReader;

@@ -1,6 +1,6 @@
 //! Bytes, numbers and paths: what was put in comes out in order.
 
-use crate::told::expect;
+use crate::expecting::expect;
 use fish_value::{Bytes, Numbers, Path, Text};
 use std::alloc::{AllocError, Global};
 use std::test::Fail;

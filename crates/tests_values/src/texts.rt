@@ -1,6 +1,7 @@
 //! Texts with answers from outside: RFC 8259, section 7, and RFC 3629.
 
-use crate::told::{expect_all, value_text};
+use crate::expecting::expect_all;
+use crate::told::value_text;
 use fish_value::{Text, json_text, read_json, read_value};
 use std::alloc::{AllocError, Global};
 use std::test::Fail;

@@ -5,7 +5,8 @@ ghost use Rattle.std.specs.Prelude.{IfOk, IfSome};
 ghost use Rattle.fish_layout.specs.Body.{IsBody};
 ghost use Rattle.fish_layout.specs.declared.parts.BodyParts.{BodyParts};
 
-use crate::told::{expect, expect_all, text_of};
+use crate::expecting::{expect, expect_all};
+use crate::told::text_of;
 use fish_layout::{Body, BodyParts, KeyPart, body_of, read_body, read_payload, set_number};
 use std::alloc::{AllocError, Global};
 use std::test::Fail;

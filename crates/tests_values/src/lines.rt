@@ -1,6 +1,6 @@
 //! Lines of files in every cutting, with answers worked out by hand.
 
-use crate::told::expect_all;
+use crate::expecting::expect_all;
 use fish_lines::{Line, LineList, lines_of_pieces};
 use fish_value::Bytes;
 use std::alloc::{AllocError, Global};

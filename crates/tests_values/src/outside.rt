@@ -1,7 +1,7 @@
 //! The outside in memory, which fails by a plan or never: what the calls of one object answer one after the
 //! other, worked out by hand.
 
-use crate::told::{expect, expect_all};
+use crate::expecting::{expect, expect_all};
 use fish_outside::{
     Failed, FaultPlan, FeedRefusal, Host, HostFile, HostFiles, MemoryHost, MemorySink, Sink,
     Source, SureHost, SureSink, write_whole,

@@ -1,6 +1,6 @@
 //! Headers of regions of the log, with words that another program packed by the table of bits.
 
-use crate::told::{expect, expect_all};
+use crate::expecting::{expect, expect_all};
 use fish_layout::{header_of, void_header};
 use std::alloc::{AllocError, Global};
 use std::test::Fail;

@@ -1,7 +1,8 @@
 //! Lines with answers from outside: RFC 8259, and what `serde_json` 1.0 of Rust says of the rest.
 //! Each is read as a tree and over a tape.
 
-use crate::told::{agreed, expect_all, field_or_refusal, path_of};
+use crate::expecting::expect_all;
+use crate::told::{agreed, field_or_refusal, path_of};
 use fish_json::{JsonReader, JsonRecord};
 use fish_value::Path;
 use std::alloc::{AllocError, Global};

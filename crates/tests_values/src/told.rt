@@ -1,33 +1,9 @@
-//! Answers as texts, so that tables hold what is wanted in plain words, and the two assertions.
+//! Answers as texts, so that tables hold what is wanted in plain words.
 
-use fish_lang::{Def, parse_def};
 use fish_psf::Parsed;
 use fish_value::{Field, Path, Text, Value};
 use std::alloc::{AllocError, Global};
 use std::fmt::Display;
-use std::process::Abort;
-
-/// Asserts of each row that what is told of its case is what is wanted.
-pub fn expect_all<R: Abort, C, E, F: Fn(Global, &C) -> Result<String, E>>(
-    rt: &R,
-    alloc: Global,
-    rows: &[(C, &str)],
-    told: F,
-) -> Result<(), E>
-    requires { F.IsAlwaysCallable told }
-{
-    for (number, row) in rows.iter().enumerate() {
-        let (case, want) = row;
-        let found = told(alloc, case)?;
-        assert_eq!(rt; found.as_str(), *want, "row {number}");
-    }
-    Ok(())
-}
-
-/// The same of one text.
-pub fn expect<R: Abort>(rt: &R, found: &str, want: &str) {
-    assert_eq!(rt; found, want);
-}
 
 /// What two ways tell of one thing.
 pub fn agreed(alloc: Global, one: &str, other: &str) -> Result<String, AllocError> {
@@ -35,14 +11,6 @@ pub fn agreed(alloc: Global, one: &str, other: &str) -> Result<String, AllocErro
         return String::from_str(alloc, one);
     }
     format!(in alloc; "{one} or {other}")
-}
-
-/// The definition that a text is. One that is none counts as want of memory, so that it shows.
-pub fn definition(alloc: Global, source: &str) -> Result<Def, AllocError> {
-    match parse_def(alloc, source.as_bytes()) {
-        Ok(def) => Ok(def),
-        Err(_) => Err(AllocError),
-    }
 }
 
 /// The path of names with a dot between them.

@@ -1,7 +1,7 @@
 //! Real files and standard output, of which nothing is proved: one that is there and one that isn't,
 //! and an output that signals interrupt.
 
-use crate::told::{expect, expect_all};
+use crate::expecting::{expect, expect_all};
 use fish_outside::{FileHost, Host, OutSink, Sink, Source, write_whole};
 use fish_value::Text;
 use std::alloc::{AllocError, Global};

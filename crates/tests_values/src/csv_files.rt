@@ -1,6 +1,6 @@
 //! Files in CSV with answers from outside: RFC 4180, and what `csv` 1.4 of Rust says of the rest.
 
-use crate::told::{expect, expect_all};
+use crate::expecting::{expect, expect_all};
 use fish_csv::{CsvRows, rows};
 use std::alloc::{AllocError, Global};
 use std::test::Fail;

@@ -1,6 +1,6 @@
 //! The records of whole files of both forms, with answers worked out by hand.
 
-use crate::told::{expect, expect_all};
+use crate::expecting::{expect, expect_all};
 use fish_lines::{Records, records};
 use fish_value::Form;
 use std::alloc::{AllocError, Global};
