@@ -7,7 +7,8 @@ BENCHMARKS = crates/bench/out/bench
 EXAMPLE = examples/events
 TESTS := $(shell sed -n 's/^\(tests_[a-z]*\).*:.*/\1/p' crates.txt)
 CRATES := $(shell sed -n 's/^\(fish[a-z_]*\).*:.*/\1/p' crates.txt)
-SOURCES := crates.txt $(shell find crates -name out -prune -o \( -path '*/src/*' -o -path '*/specs/*' -o -path '*/proofs/*' \) -type f -print)
+FILES = $(shell find $(1) -name out -prune -o \( -path '*/src/*' -o -path '*/specs/*' -o -path '*/proofs/*' \) -type f -print)
+SOURCES := crates.txt $(call FILES,crates/fish*)
 
 .PHONY: demo build test try edits gate install bench bench_run bench_log bench_ingest bench_registrations bench_scans bench_peers clean
 
@@ -56,7 +57,7 @@ bench_run: build
 	bench/run.sh
 
 # The program of the five benchmarks below, proved.
-$(BENCHMARKS): $(SOURCES)
+$(BENCHMARKS): $(SOURCES) $(call FILES,crates/bench)
 	tools/prove bench
 
 # Times the log: stores beside a plain C++ loop, linked key entries, and walks.
