@@ -14,6 +14,7 @@ pub mod Links
 pub mod Lists
 pub mod Moments
 pub mod NextLog
+pub mod Opened
 pub mod OpenNumbers
 pub mod ReadSoFar
 pub mod ReadsOn

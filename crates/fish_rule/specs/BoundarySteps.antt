@@ -73,14 +73,16 @@ pub record CanStoreFrom (v : View) (o : Round) (n : ℕ) : Type 0 where
 abbrev pub after_store_from : View → Round → ℕ → View
 after_store_from v o n = after_store_boundary v (row_at o.id 0) n None
 
--- the control pass may store where the index of an active row ends: it began, it has no end, and the number is one that
--- was counted
+-- the control pass may store where the index of an active row ends: it began, it has no end, and the number is one of
+-- this table's that was counted, not before the one at which it began
 pub record CanStoreTo (v : View) (id n : ℕ) : Type 0 where
   pub main : v.lane ≡ 1
   pub on : IsOnAt v.rows id
   pub few : id < 256
   pub began : main_word v.main_words (row_at id 0) ≢ 0
   pub endless : main_word v.main_words (row_at id 1) ≡ 0
+  pub above : v.about.number ≤ n
+  pub after : (from : ℕ) → main_word v.main_words (row_at id 0) ≡ suc from → from ≤ n
   pub within : n ≤ v.learned.count
 
 -- the index ends there

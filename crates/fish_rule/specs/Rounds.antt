@@ -14,9 +14,11 @@ IsSince s Out = ⊤
 IsSince s (Announced u) = ⊤
 IsSince s (Confirmed u) = s ≤ u
 
--- all lanes were looked at, and from the number on each record has at least the registration's version
+-- all lanes were looked at, the number is one of this table's, and from it on each record has at least the
+-- registration's version
 pub record IsBound (k : Key) (count : ℕ) (version_of : ℕ → ℕ) (o : Round) (n : ℕ) : Type 0 where
   pub all : (l : ℕ) → 1 ≤ l → l ≤ 16 → Among l o.checked
+  pub above : k.number ≤ n
   pub within : n ≤ count
   pub since : (m : ℕ) → k.number ≤ m → n ≤ m → m < count → o.version ≤ version_of m
 

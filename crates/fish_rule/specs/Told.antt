@@ -61,10 +61,11 @@ pub record ToldLookAt (st : Step Bool) (m : Sat) (found : ℕ) (m' : Sat) : Type
 abbrev pub told_read_word : Step Bool → Sat → ℕ → Sat → Type 0
 told_read_word st m found m' = Told m (after_read_word m.0 (place_at m.0.about st.word) found) m'
 
--- a load of the tail: the count only rises and is at or behind the settled number, and while no
--- lane is out the tail is as it was left
+-- a load of the tail: the count only rises, is at or past the number at which the table begins and the settled number,
+-- and while no lane is out the tail is as it was left
 pub record ToldLoadTail (st : Step Bool) (m : Sat) (found : ℕ) (m' : Sat) : Type 0 where
   pub told : Told m (after_load_tail m.0 found) m'
+  pub from : m.0.about.number ≤ high found
   pub counted : m.0.learned.count ≤ high found
   pub settled : m.0.learned.settled ≤ high found
   pub rests : m.0.lane ≡ 1 → m.0.out ≡ [] → Rests (high found) (low found) m.0.tail

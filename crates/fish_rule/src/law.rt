@@ -3,7 +3,7 @@
 
 ghost use Rattle.fish_rule.specs.ClosedLaws.{EndsWhereNextBegins, OwnIsClosed, ToldIsClosed};
 ghost use Rattle.fish_rule.specs.Comparing.{OneLineIsOneClaim, OneNumberIsOneClaim, RegionsFollow};
-ghost use Rattle.fish_rule.specs.Intervals.{IntervalsAreIndexed, IntervalsStay};
+ghost use Rattle.fish_rule.specs.Intervals.{CoveredAreBetween, IntervalsAreCovered, IntervalsAreIndexed, IntervalsStay};
 ghost use Rattle.fish_rule.specs.Machine.{EverySchedule, EveryStepIsFinal};
 ghost use Rattle.fish_rule.specs.OpenNumbers.{OpensAreApart};
 
@@ -28,12 +28,15 @@ pub fn law_closed_log()
 {}
 
 /// A pass that knows of an interval, knows it for good, and so does each that knows as much: every record of the
-/// interval has the keys of a version at which the definition was active.
+/// interval has the keys of a version at which the definition was active. Of the numbers before the table's first one
+/// an interval has those that the row covers with which the table begins.
 ///
 /// Its contract is that law.
 pub fn law_intervals()
     ensures indexed { IntervalsAreIndexed }
     ensures stay { IntervalsStay }
+    ensures covered { IntervalsAreCovered }
+    ensures between { CoveredAreBetween }
 {}
 
 /// Two regions that passes found, as the marks of claims past the log's end that shut them, are compared where one

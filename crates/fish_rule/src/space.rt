@@ -171,6 +171,7 @@ pub fn load_tail(log: &Log, pass: &mut Pass) -> Position
     ensures pass { IsPassOf log.now pass.new }
     ensures view { (x : ℕ) × (view pass.new ≡ after_load_tail (view pass.old) x) × (result.number ≡ high x)
         × (result.line ≡ low x) }
+    ensures from { log.now.key.number ≤ result.number }
     ensures counted { (view pass.old).learned.count ≤ result.number }
     ensures settled { (view pass.old).learned.settled ≤ result.number }
     ensures rests { (view pass.old).lane ≡ 1 → (view pass.old).out ≡ []

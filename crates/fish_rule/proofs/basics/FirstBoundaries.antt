@@ -7,14 +7,14 @@ use Rattle.std.proofs.lemmas.Option.{get_or_from_slice_get, same_Some, slice_get
 use Rattle.fish_catalog.proofs.Clamping.{mapped_from}
 use Rattle.fish_catalog.specs.Clamps.{IsClamped}
 use Rattle.fish_catalog.specs.Listing.{listed_of}
-use Rattle.fish_catalog.specs.Rows.{is_active}
-use Rattle.fish_catalog.specs.Words.{row_word}
+use Rattle.fish_catalog.specs.Rows.{IsInOrder, IsRow, is_active}
+use Rattle.fish_catalog.specs.Words.{bound_word, row_word}
 use Rattle.fish_catalog.specs.declared.listed.Listed.{Listed}
 use Rattle.fish_catalog.specs.declared.row.CatRow.{CatRow}
 use Rattle.fish_layout.proofs.Clearing.{choose_first, choose_second}
 use Rattle.fish_rule.proofs.basics.Lists.{there_is}
 use Rattle.fish_rule.proofs.basics.RegistryWords.{definitions_first}
-use Rattle.fish_rule.specs.Boundaries.{Boundaries, IsOpenIn}
+use Rattle.fish_rule.specs.Boundaries.{Boundaries, IsFirstBoundary, IsOpenIn}
 use Rattle.fish_rule.specs.Epochs.{IsOwned, IsUnmade}
 use Rattle.fish_rule.specs.BoundarySteps.{with_boundary}
 use Rattle.fish_rule.specs.Registry.{HasBoundary, IsRegistered, definitions_at, main_word, row_at, version_in}
@@ -38,27 +38,56 @@ none_word : (row : CatRow) → row_word row 1 ≡ 0 → is_active row ≡ true
 unfolding row_word
 none_word row e = by row.to e
   where
-    by : (to : Option ℕ) → Rattle.fish_catalog.specs.Words.bound_word to ≡ 0 → Rattle.std.specs.Prelude.is_none to ≡ true
+    by : (to : Option ℕ) → bound_word to ≡ 0 → Rattle.std.specs.Prelude.is_none to ≡ true
     by None e = refl
     by (Some n) e = absurd (omega arith)
 
 -- a beginning has its word
-from_word : (row : CatRow) (n : ℕ) → row.from ≡ Some n → row_word row 0 ≡ suc n
+pub from_word : (row : CatRow) (n : ℕ) → row.from ≡ Some n → row_word row 0 ≡ suc n
 unfolding row_word
-from_word row n is = ap Rattle.fish_catalog.specs.Words.bound_word is
+from_word row n is = ap bound_word is
+
+-- an end has its word
+pub to_word : (row : CatRow) (n : ℕ) → row.to ≡ Some n → row_word row 1 ≡ suc n
+unfolding row_word
+to_word row n is = ap bound_word is
+
+-- the word of a beginning that is set has that beginning
+pub word_from : (row : CatRow) (n : ℕ) → row_word row 0 ≡ suc n → row.from ≡ Some n
+unfolding row_word
+word_from row n e = by row.from e
+  where
+    by : (from : Option ℕ) → bound_word from ≡ suc n → from ≡ Some n
+    by None e = absurd (omega arith)
+    by (Some m) e = ap (λ (z : ℕ). Some z) (omega arith)
+
+-- and the word of an end that is set has that end
+pub word_to : (row : CatRow) (n : ℕ) → row_word row 1 ≡ suc n → row.to ≡ Some n
+unfolding row_word
+word_to row n e = by row.to e
+  where
+    by : (to : Option ℕ) → bound_word to ≡ suc n → to ≡ Some n
+    by None e = absurd (omega arith)
+    by (Some m) e = ap (λ (z : ℕ). Some z) (omega arith)
+
+-- a row in order ends where it began or after it
+word_order : (row : CatRow) (from to : ℕ) → IsInOrder row.from row.to → row_word row 0 ≡ suc from → row_word row 1 ≡ suc to
+    → from ≤ to
+word_order row from to order begins ends =
+    let begin = word_from row from begins in
+    let end = word_to row to ends in
+    subst (λ (z : Option ℕ × Option ℕ). IsInOrder z.0 z.1) (λ i. (begin i, end i)) order
 
 -- no boundary of a clamped row is past the number
 clamped_word : (number : ℕ) (row : CatRow) (i n : ℕ) → IsClamped number row → i < 2 → row_word row i ≡ suc n → n ≤ number
 unfolding row_word
 clamped_word number row zero n h bound e =
-    let begins : Rattle.fish_catalog.specs.Words.bound_word row.from ≡ suc h.from =
-    ap Rattle.fish_catalog.specs.Words.bound_word h.begins in
+    let begins : bound_word row.from ≡ suc h.from = ap bound_word h.begins in
     let early = h.early in
     omega arith
 clamped_word number row (suc zero) n h bound e = by row.to h.ends e
   where
-    by : (to : Option ℕ) → ((t : ℕ) → to ≡ Some t → t ≤ number) → Rattle.fish_catalog.specs.Words.bound_word to ≡ suc n
-        → n ≤ number
+    by : (to : Option ℕ) → ((t : ℕ) → to ≡ Some t → t ≤ number) → bound_word to ≡ suc n → n ≤ number
     by None ends e = absurd (omega arith)
     by (Some t) ends e = (let most = ends t refl in omega arith)
 clamped_word number row (suc (suc i)) n h bound e = absurd (omega arith)
@@ -191,7 +220,13 @@ module _ (k : Key) (g : ℕ → ℕ) (opening_ : IsOpening k.version k.number k.
   first_boundaries = record {
     unmade = λ id i more few bound. (let e = as_many in opening_.rest id i (omega arith) few (omega arith));
     in_order = λ id few unset. ordered id few unset (dec_lt id (length k.rows.value));
+    after = λ id from to few begins ends. ends_after id from to few begins ends (dec_lt id (length k.rows.value));
     claimed = λ id i n few bound is. most id i n few bound is (dec_lt id (length k.rows.value));
+    opened = λ id row few there. record {
+      clamped = clamped_of id row there;
+      stays = λ i n bound e. bound_is id i row there bound ∙ e;
+    };
+    early = λ id i n few bound is less. has_it id i n few bound is (dec_lt id (length k.rows.value));
     entered = λ id n l few is above below. tt;
     begun = λ id from n few is above after below. absurd (omega arith);
     unended = λ id to n few is above before below. absurd (omega arith);
@@ -213,6 +248,23 @@ module _ (k : Key) (g : ℕ → ℕ) (opening_ : IsOpening k.version k.number k.
           let row = row_of id h in
           let clamped = clamped_of id row.0 row.1 in
           clamped_word k.number row.0 i n clamped bound (sym (bound_is id i row.0 row.1 bound) ∙ is)
+
+      ends_after : (id from to : ℕ) → id < 256 → HasBoundary g id 0 from → HasBoundary g id 1 to
+          → Dec (id < length k.rows.value) → from ≤ to
+      ends_after id from to few begins ends (no h) =
+          (let z = opening_.rest id 0 (omega arith) few (omega arith) in absurd (omega arith))
+      ends_after id from to few begins ends (yes h) =
+          let row = row_of id h in
+          let proper = row_has IsRow k.rows.value opening_.catalog.each id row.0 row.1 in
+          word_order row.0 from to proper.order (sym (bound_is id 0 row.0 row.1 (omega arith)) ∙ begins)
+          (sym (bound_is id 1 row.0 row.1 (omega arith)) ∙ ends)
+
+      has_it : (id i n : ℕ) → id < 256 → i < 2 → HasBoundary g id i n → Dec (id < length k.rows.value)
+          → IsFirstBoundary k id i n
+      has_it id i n few bound is (no h) = (let z = opening_.rest id i (omega arith) few (omega arith) in absurd (omega arith))
+      has_it id i n few bound is (yes h) =
+          let row = row_of id h in
+          (row.0, row.1, sym (bound_is id i row.0 row.1 bound) ∙ is)
 
       still_open : (id v : ℕ) → id < 256 → g (row_at id 1) ≡ 0 → v ≤ version_in g → IsOpenIn (definitions_at k g v) id
       still_open id v few unset reached =

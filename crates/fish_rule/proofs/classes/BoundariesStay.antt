@@ -42,6 +42,7 @@ module _ (k : Key) (g g' : ℕ → ℕ) (e : Endures k g g') where
         within = m.within;
         running = λ n above below. (let within = m.within in
             open_later x.id (version_of n) (versions.upto n above (omega arith)) (m.running n above below));
+        opened = m.opened;
       }) xs h
 
   -- a registration waits on, where its boundary word is the same and no lane is confirmed at a version before one at
@@ -75,6 +76,13 @@ module _ (k : Key) (g g' : ℕ → ℕ) (e : Endures k g g') where
     in_order = λ id few none. same id 1 few (omega arith)
         ∙ h.in_order id few (sym (same id 0 few (omega arith)) ∙ none);
     claimed = λ id i n few bound is. h.claimed id i n few bound (sym (same id i few bound) ∙ is);
+    after = λ id from to few begins ends. h.after id from to few (sym (same id 0 few (omega arith)) ∙ begins)
+        (sym (same id 1 few (omega arith)) ∙ ends);
+    opened = λ id row few there. let o = h.opened id row few there in record {
+      clamped = o.clamped;
+      stays = λ i n bound e. same id i few bound ∙ o.stays i n bound e;
+    };
+    early = λ id i n few bound is. h.early id i n few bound (sym (same id i few bound) ∙ is);
     entered = λ id n l few is above below. lists id n l few (sym (same id 0 few (omega arith)) ∙ is) above below;
     begun = λ id from n few is above after below.
         listed_later id (version_of n) (versions.upto n above below)

@@ -5,7 +5,7 @@ use Rattle.fish_rule.proofs.basics.Context.{Key, Rule, View, World, get_elem?, s
 use Rattle.fish_rule.proofs.classes.BoundariesStay.{listed_later, lists_later, open_later, same_length}
 use Rattle.fish_rule.proofs.classes.MainStores.{store_endures, store_read, store_still}
 use Rattle.fish_rule.proofs.basics.Worlds.{put-else, put-here}
-use Rattle.fish_rule.specs.Boundaries.{Boundaries, IsOpenIn, Lists}
+use Rattle.fish_rule.specs.Boundaries.{Boundaries, IsFirstBoundary, IsOpenIn, Lists}
 use Rattle.fish_rule.specs.Registry.{Endures, HasBoundary, IsLasting, IsRegistered, definitions_at, row_at, version_in}
 use Rattle.fish_rule.specs.Views.{AllOf}
 use Rattle.fish_rule.specs.World.{put}
@@ -58,8 +58,10 @@ module _ {k : Key} {w : World} (r : Rule k w) (id : ℕ) {v : View} (at : get_el
   other_bound m i small ne = put-else w.registry place (suc n) (row_at m i) (λ e. ne (omega arith, omega arith))
 
   -- the boundaries stay right, where the new one is
-  module _ (within : n ≤ w.count) (made_ : row < length (definitions_at k w.registry (version_in w.registry)))
+  module _ (above_ : k.number ≤ n) (within : n ≤ w.count)
+      (made_ : row < length (definitions_at k w.registry (version_in w.registry)))
       (ordered : j ≡ 1 → w.registry (row_at row 0) ≢ 0)
+      (after_ : j ≡ 1 → (from : ℕ) → HasBoundary w.registry row 0 from → from ≤ n)
       (entered_ : j ≡ 0 → (l : ℕ) → 1 ≤ l → l ≤ 16 → Lists k w.registry row (r.state l))
       (begun_ : j ≡ 0 → (m : ℕ) → k.number ≤ m → n ≤ m → m < w.count
       → row < length (definitions_at k w.registry (r.version_of m)))
@@ -79,6 +81,13 @@ module _ {k : Key} {w : World} (r : Rule k w) (id : ℕ) {v : View} (at : get_el
               other_bound m i small_i (λ e. let a = e.0 in omega arith) ∙ h.unmade m i (omega arith) small small_i);
           in_order = λ m small none. keeps_order m small none (ℕ_discrete m row) (ℕ_discrete j 0);
           claimed = λ m i x small small_i is. upto m i x small small_i is (ℕ_discrete m row) (ℕ_discrete i j);
+          after = λ m from to small begins ends. ends_after m from to small begins ends (ℕ_discrete m row) (ℕ_discrete j 0);
+          opened = λ m first small there. let o = h.opened m first small there in record {
+            clamped = o.clamped;
+            stays = λ i x small_i e. still m i x small_i (o.stays i x small_i e);
+          };
+          early = λ m i x small small_i is less. is_first m i x small small_i is less (ℕ_discrete m row)
+              (ℕ_discrete i j);
           entered = λ m x l small is above below. lists_later k w.registry set_words set_endures m (r.state l)
               (r.registry.epochs.past l above below)
               (enters m x l small is above below (ℕ_discrete m row) (ℕ_discrete j 0));
@@ -113,6 +122,40 @@ module _ {k : Key} {w : World} (r : Rule k w) (id : ℕ) {v : View} (at : get_el
         upto m i x small small_i is (yes e) (yes same) =
             (let word = this_bound in let there : row_at m i ≡ row_at row j = omega arith in
             let both = ap set_words there in omega arith)
+
+        still : (m i x : ℕ) → i < 2 → HasBoundary w.registry m i x → HasBoundary set_words m i x
+        still m i x small_i is = other_bound m i small_i (λ e.
+            let there : row_at m i ≡ row_at row j = omega arith in
+            let both = ap w.registry there in
+            absurd (omega arith)) ∙ is
+
+        ends_after : (m from to : ℕ) → m < 256 → HasBoundary set_words m 0 from → HasBoundary set_words m 1 to
+            → Dec (m ≡ row) → Dec (j ≡ 0) → from ≤ to
+        ends_after m from to small begins ends (no ne) d = r.registry.boundaries.after m from to small
+            (sym (other_bound m 0 (omega arith) (λ e. ne e.0)) ∙ begins)
+            (sym (other_bound m 1 (omega arith) (λ e. ne e.0)) ∙ ends)
+        ends_after m from to small begins ends (yes e) (yes z) =
+            let there : row_at m 0 ≡ row_at row j = omega arith in
+            let endless = r.registry.boundaries.in_order m small (ap w.registry there ∙ unset) in
+            let same = other_bound m 1 (omega arith) (λ p. let one = p.1 in omega arith) in
+            absurd (omega arith)
+        ends_after m from to small begins ends (yes e) (no nz) =
+            let word = this_bound in
+            let there : row_at m 1 ≡ row_at row j = omega arith in
+            let both = ap set_words there in
+            let least = after_ (omega arith) from (ap (λ (z : ℕ). w.registry (row_at z 0)) (sym e)
+            ∙ sym (other_bound m 0 (omega arith) (λ p. nz (sym p.1))) ∙ begins) in
+            omega arith
+
+        is_first : (m i x : ℕ) → m < 256 → i < 2 → HasBoundary set_words m i x → x < k.number → Dec (m ≡ row)
+            → Dec (i ≡ j) → IsFirstBoundary k m i x
+        is_first m i x small small_i is less (no ne) d = r.registry.boundaries.early m i x small small_i
+            (sym (other_bound m i small_i (λ e. ne e.0)) ∙ is) less
+        is_first m i x small small_i is less (yes e) (no ne) = r.registry.boundaries.early m i x small small_i
+            (sym (other_bound m i small_i (λ p. ne p.1)) ∙ is) less
+        is_first m i x small small_i is less (yes e) (yes same) =
+            (let word = this_bound in let there : row_at m i ≡ row_at row j = omega arith in
+            let both = ap set_words there in absurd (omega arith))
 
         enters : (m x l : ℕ) → m < 256 → HasBoundary set_words m 0 x → 1 ≤ l → l ≤ 16 → Dec (m ≡ row) → Dec (j ≡ 0)
             → Lists k w.registry m (r.state l)

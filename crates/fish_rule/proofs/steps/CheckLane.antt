@@ -58,7 +58,12 @@ module _ {k : Key} {w : World} (r : Rule k w) (id : ℕ) {v : View} (at : get_el
           (λ (e : l ≡ m). subst (λ (z : ℕ). IsSince o.version (r.state z)) e (cleared_lane o tells))
           (λ old. h.clear m above below old) among;
       bound = λ n is. let b = h.bound n is in
-          record { all = λ m above below. inr (b.all m above below); within = b.within; since = b.since };
+          record {
+            all = λ m above below. inr (b.all m above below);
+            above = b.above;
+            within = b.within;
+            since = b.since;
+          };
     }
 
     -- the registration waits on

@@ -103,7 +103,10 @@ module _ {k : Key} {w : World} (r : Rule k w) (id : ℕ) {v : View} (at : get_el
       record {
         unmade = h.unmade;
         in_order = h.in_order;
+        after = h.after;
         claimed = λ n i x few bound is. (let a = h.claimed n i x few bound is in omega arith);
+        opened = h.opened;
+        early = h.early;
         entered = h.entered;
         begun = λ n from m few is above after below. begins n from m few is above after below (ℕ_discrete m w.count);
         unended = λ n to m few is above before below.
@@ -140,6 +143,7 @@ module _ {k : Key} {w : World} (r : Rule k w) (id : ℕ) {v : View} (at : get_el
     bound = λ n is. let b = h.bound n is in
         record {
           all = b.all;
+          above = b.above;
           within = (let a = b.within in omega arith);
           since = λ m above after below. (after_load_bound n is m above after below (ℕ_discrete m w.count));
         };
@@ -166,5 +170,6 @@ module _ {k : Key} {w : World} (r : Rule k w) (id : ℕ) {v : View} (at : get_el
         running = λ n above below. (let a = m.within in let less : n < w.count = omega arith in
             subst (λ (z : ℕ). IsOpenIn (definitions_at k w.registry z) x.id) (sym (old_version n less))
             (m.running n above below));
+        opened = m.opened;
       }) u.learned.unended h.unended in
       assumption (h, unended, waiting u.lane u.round h.waits)

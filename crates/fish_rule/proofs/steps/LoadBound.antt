@@ -22,6 +22,8 @@ module _ {k : Key} {w : World} (r : Rule k w) (id : ℕ) {v : View} (at : get_el
     bound_waits : Waits k w.count w.registry r.state r.version_of v.lane bounder.round
     bound_waits =
         let stays = r.registry.each id v at in
+        let from = r.settling.from in
+        let settled = r.settling.within in
         let h : IsRound k w.count w.registry r.state r.version_of v.lane o =
         subst (Waits k w.count w.registry r.state r.version_of v.lane) can.waits stays.waits in
         record {
@@ -33,7 +35,12 @@ module _ {k : Key} {w : World} (r : Rule k w) (id : ℕ) {v : View} (at : get_el
           clear = h.clear;
           bound = λ n is.
               let e : high x ≡ n = Rattle.std.proofs.lemmas.Option.same_Some (high x) n is in
-              record { all = can.all; within = omega arith; since = λ m above after below. absurd (omega arith) };
+              record {
+                all = can.all;
+                above = omega arith;
+                within = omega arith;
+                since = λ m above after below. absurd (omega arith);
+              };
         }
 
     -- a load of the tail behind the last lane keeps the rule, and all that lasts

@@ -1,5 +1,7 @@
 -- `load_boundary`: a load of where an index begins or ends.
-use Rattle.std.proofs.Common.{◌≡◌, ℕ, zero, suc, set, sym, refl, ap, ◌∙◌, subst, inr, arith, ◌≤◌, get_or}
+use Rattle.std.proofs.Common.{◌≡◌, ℕ, zero, suc, set, sym, refl, ap, ◌∙◌, subst, inr, arith, ◌≤◌, get_or, Some, slice_get}
+use Rattle.fish_catalog.specs.declared.row.CatRow.{CatRow}
+use Rattle.fish_rule.proofs.basics.FirstBoundaries.{to_word}
 use Rattle.fish_rule.proofs.basics.Context.{Key, Learned, Rule, View, World, get_elem?, none, some}
 use Rattle.fish_rule.proofs.classes.Loads.{learn_lasts, still_chained}
 use Rattle.fish_rule.proofs.basics.Lasts.{Lasts}
@@ -38,6 +40,11 @@ module _ {k : Key} {w : World} (r : Rule k w) (id : ℕ) {v : View} (at : get_el
       (r.registry.each id v at).read,
     )
 
+    -- an end that the row has as the table begins is the word of its end
+    ended : (row : CatRow) (to : ℕ) → slice_get k.rows.value n ≡ Some row → row.to ≡ Some to
+        → w.registry (row_at n 1) ≡ suc to
+    ended row to there is = (r.registry.boundaries.opened n row can.few there).stays 1 to (omega arith) (to_word row to is)
+
     -- the definition had not ended below its end, nor, where it has none, below what is settled
     end_read : (j x : ℕ) → i ≡ j → w.registry (row_at n i) ≡ x → AllOf (IsUnended k w.count w.registry r.version_of)
         (with_end n j v.learned.settled x v.learned.unended)
@@ -52,6 +59,7 @@ module _ {k : Key} {w : World} (r : Rule k w) (id : ℕ) {v : View} (at : get_el
             within = omega arith;
             running = λ m above below. r.registry.boundaries.running n (r.version_of m) can.few word
                 (r.registry.versions.upto m above (omega arith));
+            opened = λ row to there e. (let end = ended row to there e in absurd (omega arith));
           },
           (r.registry.each id v at).unended,
         )
@@ -63,6 +71,7 @@ module _ {k : Key} {w : World} (r : Rule k w) (id : ℕ) {v : View} (at : get_el
           record {
             within = within;
             running = λ p above below. r.registry.boundaries.unended n m p can.few word above below (omega arith);
+            opened = λ row to there e. (let end = ended row to there e in omega arith);
           },
           (r.registry.each id v at).unended,
         )

@@ -26,7 +26,11 @@ module _ {k : Key} {w : World} (r : Rule k w) (id : ℕ) {v : View} (at : get_el
   pub end_counted : (x : ℕ) → high x ≡ w.count → v.learned.count ≤ high x
   end_counted x count = subst (λ (z : ℕ). v.learned.count ≤ z) (sym count) (r.facts id v at).counted
 
-  -- and is at or behind the settled number
+  -- it is at or past the number at which the table begins
+  pub end_from : (x : ℕ) → high x ≡ w.count → k.number ≤ high x
+  end_from x count = (let a = r.settling.from in let b = r.settling.within in omega arith)
+
+  -- and at or past the settled number
   pub end_settled : (x : ℕ) → high x ≡ w.count → v.learned.settled ≤ high x
   end_settled x count = (let a = r.floors id v at in let b = r.settling.within in omega arith)
 
@@ -48,6 +52,7 @@ load_tail_allowed given k same size id me about =
       loaded_words k ws (set vs id v') 0 kept,
       record {
         told = record { view = refl; held = refl; stands = stands k _ id v' kept about (there vs id me.0 v' at) };
+        from = subst (λ (z : Key). z.number ≤ high x) (sym about) (end_from r id at x refl);
         counted = end_counted r id at x refl;
         settled = end_settled r id at x refl;
         rests = λ main all. end_rests r id at x refl refl main all;

@@ -72,6 +72,13 @@ module _ {k : Key} {w : World} (r : Rule k w) (id : ℕ) {v : View} (at : get_el
         in_order = λ n few endless. same_bound n 1 few (omega arith)
             ∙ h.in_order n few (sym (same_bound n 0 few (omega arith)) ∙ endless);
         claimed = λ n i x few bound is. h.claimed n i x few bound (sym (same_bound n i few bound) ∙ is);
+        after = λ n from to few begins ends. h.after n from to few (sym (same_bound n 0 few (omega arith)) ∙ begins)
+            (sym (same_bound n 1 few (omega arith)) ∙ ends);
+        opened = λ n row few there. let o = h.opened n row few there in record {
+          clamped = o.clamped;
+          stays = λ i x bound e. same_bound n i few bound ∙ o.stays i x bound e;
+        };
+        early = λ n i x few bound is. h.early n i x few bound (sym (same_bound n i few bound) ∙ is);
         entered = λ n x l few is above below. lists_later k w.registry bumped (bump_endures r id at main can) n
             (r.state l)
             (r.registry.epochs.past l above below)

@@ -44,8 +44,8 @@ module _ {k : Key} {w : World} (r : Rule k w) (id : ℕ) {v : View} (at : get_el
         (place_far r id at can.main o.id 0 n h.few (omega arith) h.unset)
         (place_away r id at can.main o.id 0 n h.few (omega arith) h.unset) None _
         (set_read r id at can.main o.id 0 n h.few (omega arith) h.unset)
-        (set_boundaries r id at can.main o.id 0 n h.few (omega arith) h.unset b.within
-        (has_it (version_in w.registry) h.reached) (λ e. absurd (omega arith))
+        (set_boundaries r id at can.main o.id 0 n h.few (omega arith) h.unset b.above b.within
+        (has_it (version_in w.registry) h.reached) (λ e. absurd (omega arith)) (λ e. absurd (omega arith))
         (λ e l above below. lists_it (r.state l) (h.clear l above below (b.all l above below)))
         (λ e m above after below. has_it (r.version_of m) (b.since m above after below)) (λ e. absurd (omega arith))) tt
 

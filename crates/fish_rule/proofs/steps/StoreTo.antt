@@ -1,5 +1,5 @@
 -- `store_to`: the control pass stores where the index of an active row ends.
-use Rattle.std.proofs.Common.{◌≡◌, ℕ, ◌<◌, suc, length, set, sym, refl, ap, ◌∙◌, inr, arith, List, ◌-◌, subst}
+use Rattle.std.proofs.Common.{◌≡◌, ℕ, ◌<◌, ◌≤◌, suc, length, set, sym, refl, ap, ◌∙◌, inr, arith, List, ◌-◌, subst}
 use Rattle.std.proofs.lemmas.Option.{slice_get_within}
 use Rattle.fish_rule.proofs.basics.Context.{Key, Rule, View, World, get_elem?, none, some}
 use Rattle.fish_catalog.specs.declared.listed.Listed.{Listed}
@@ -40,14 +40,17 @@ module _ {k : Key} {w : World} (r : Rule k w) (id : ℕ) {v : View} (at : get_el
     })
     store_to_lasts =
         let counted = (r.facts id v at).counted in
+        let live : 1 ≤ v.lane = (let m = can.main in omega arith) in
         let within = can.within in
+        let above : k.number ≤ n = subst (λ (z : Key). z.number ≤ n) (r.about id v at live) can.above in
         let stays = r.registry.each id v at in
         stores r id at can.main (row_at row 1) (suc n)
         (place_far r id at can.main row 1 n can.few (omega arith) none_yet)
         (place_away r id at can.main row 1 n can.few (omega arith) none_yet) v.round _
         (set_read r id at can.main row 1 n can.few (omega arith) none_yet)
-        (set_boundaries r id at can.main row 1 n can.few (omega arith) none_yet (omega arith) row_made
-        (λ e z. can.began (sym (known_bound 0 (omega arith)) ∙ z)) (λ e. absurd (omega arith))
+        (set_boundaries r id at can.main row 1 n can.few (omega arith) none_yet above (omega arith) row_made
+        (λ e z. can.began (sym (known_bound 0 (omega arith)) ∙ z))
+        (λ e from is. can.after from (sym (known_bound 0 (omega arith)) ∙ is)) (λ e. absurd (omega arith))
         (λ e. absurd (omega arith))
         (λ e m above before below. r.registry.boundaries.running row (r.version_of m) can.few none_yet
         (r.registry.versions.upto m above below)))

@@ -3,6 +3,8 @@ use Rattle.std.proofs.Common.{sym, arith, subst, ℕ, ◌<◌, ◌≤◌}
 use Rattle.fish_rule.proofs.steps.LoadTail.{load_tail_allowed}
 use Rattle.fish_rule.specs.Parts.{Rests}
 use Rattle.fish_rule.specs.Passes.{view}
+use Rattle.fish_rule.specs.World.{high}
+use Rattle.fish_rule.specs.declared.view.Key.{Key}
 use Rattle.fish_rule.proofs.space.load_tail.Goals as goal
 
 pub load-found-requires : goal.load-found-requires
@@ -28,6 +30,10 @@ returns-clause-rests c main all =
     let at = c.position_in.ensures in
     subst (λ (z : ℕ × ℕ). Rests z.0 z.1 (view c.args.pass.now).tail) (λ i. (sym at.number i, sym at.line i))
     (c.load-found.ensures.2.rests main all)
+
+pub returns-clause-from : goal.returns-clause-from
+returns-clause-from c = subst (λ (z : ℕ). c.args.log.now.key.number ≤ z) (sym c.position_in.ensures.number)
+    (subst (λ (z : Key). z.number ≤ high c.load-found.result) c.requires.pass.about c.load-found.ensures.2.from)
 
 pub returns-clause-counted : goal.returns-clause-counted
 returns-clause-counted c = subst (λ (z : ℕ). (view c.args.pass.now).learned.count ≤ z)
