@@ -321,8 +321,8 @@ on_of v rows id row h there active = subst (λ (ls : List Listed). IsOnAt ls id)
 
 -- so its index may end at the count of the tail
 pub may_end : (v : View) (rows : List CatRow) (id to : ℕ) (row : CatRow) → IsListing v.rows → KnowsRows v rows None
-    → slice_get rows id ≡ Some row → row.to ≡ None → to ≤ v.learned.count → MayEnd v id to
-may_end v rows id to row listing h there active within = by row.from refl
+    → slice_get rows id ≡ Some row → row.to ≡ None → v.about.number ≤ to → to ≡ v.learned.count → MayEnd v id to
+may_end v rows id to row listing h there active above counted = by row.from refl
   where
     size : length v.rows ≡ length rows
     size = ap (λ (ls : List Listed). length ls) (sym h.listed) ∙ length-map rows listed_of
@@ -333,13 +333,16 @@ may_end v rows id to row listing h there active within = by row.from refl
         let inside = slice_get_within rows id row there in
         let few = listing.few in
         let sized = size in
+        let most = (h.bounds id row there).counted n is in
         record {
           on = on_of v rows id row h there active;
           few = omega arith;
           from = n;
           began = (h.bounds id row there).from ∙ ap bound_word is;
           endless = (h.bounds id row there).to ∙ ap bound_word active;
-          within = within;
+          above = above;
+          after = omega arith;
+          within = omega arith;
         }
 
 -- once it has ended, its row has the end

@@ -47,13 +47,15 @@ pub record HasRegistered (v : View) (row : CatRow) (u : View) : Type 0 where
   pub tail : u.tail ≡ v.tail
   pub bounds : (n i : ℕ) → i < 2 → main_word u.main_words (row_at n i) ≡ main_word v.main_words (row_at n i)
 
--- the index of an active row may end at a number
+-- the index of an active row may end at a number of this table, at or past the one at which it began
 pub record MayEnd (v : View) (id to : ℕ) : Type 0 where
   pub on : IsOnAt v.rows id
   pub few : id < 256
   pub from : ℕ
   pub began : main_word v.main_words (row_at id 0) ≡ suc from
   pub endless : main_word v.main_words (row_at id 1) ≡ 0
+  pub above : v.about.number ≤ to
+  pub after : from ≤ to
   pub within : to ≤ v.learned.count
 
 -- the registry has one version more, in which the row's definition has ended; its index ends at the number, and the
@@ -69,9 +71,10 @@ pub record HasEnded (v : View) (id to : ℕ) (u : View) : Type 0 where
   pub from : main_word u.main_words (row_at id 0) ≡ main_word v.main_words (row_at id 0)
   pub bounds : (n i : ℕ) → i < 2 → n ≢ id → main_word u.main_words (row_at n i) ≡ main_word v.main_words (row_at n i)
 
--- the tail was loaded, and its count is this number
+-- the tail was loaded, and its count is this number, which is one of this table's
 pub record HasTailed (v u : View) (n : ℕ) : Type 0 where
   pub tail : ℕ
   pub view : u ≡ after_load_tail v tail
   pub is : n ≡ high tail
+  pub from : v.about.number ≤ n
   pub more : v.learned.count ≤ n

@@ -31,8 +31,11 @@ end_row-requires-clause-row c =
     (knows_stays (view c.args.pass.now) u rows c.args.self.now.waiting c.last_version.ensures.stays c.requires.knows)) in
     let count = ap (λ (y : View). y.learned.count) tailed.view in
     let is = tailed.is in
+    let from = tailed.from in
+    let about = ap (λ (y : View). y.about.number) tailed.view in
     may_end z rows c.in-Some.id c.count_tail-to.result row.row
     (main_law z c.count_tail-to.ensures.pass.stands known.main) known row.there row.active (omega arith)
+    (omega arith)
 
 pub set_to-requires : goal.set_to-requires
 set_to-requires c =
