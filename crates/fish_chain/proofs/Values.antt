@@ -1,6 +1,11 @@
 -- The value of a key entry by its words, in every moment of a pass that read them.
 use Rattle.std.proofs.Common.{◌≡◌, ◌≢◌, ℕ, ◌+◌, ◌-◌, ◌*◌, ◌/◌, ◌%◌, ◌^◌, ◌<◌, ◌≤◌, List, length, get_or, sym, refl, ap}
-use Rattle.std.proofs.Common.{◌∙◌, subst, arith, Some, slice_get}
+use Rattle.std.proofs.Common.{◌∙◌, subst, arith, Some, slice_get, ℤ, pos, negsuc, of_z, to_z, SFits, rules}
+use Rattle.std.proofs.lemmas.Bool.Decides.{nat_tests}
+use Rattle.std.proofs.lemmas.Int.{to_z-of_z}
+use Rattle.std.specs.Int.{to_le_bytes}
+use Rattle.std.specs.Int.Width.{w64}
+use Rattle.fish_layout.specs.Values.{complement}
 use Rattle.std.proofs.Math.Decide.{dec_lt}
 use Rattle.std.proofs.lemmas.List.{ext_get_or}
 use Rattle.std.proofs.lemmas.List.FromFn.{get_or-map-range_with_len, length-map-range_with_len}
@@ -94,6 +99,27 @@ abbrev pub IsWithin : Value → Type 0
 IsWithin (kind.Bool b) = ⊤
 IsWithin (kind.Int n) = IsTrue (fits_i64 n)
 IsWithin (kind.Text s) = ⊤
+
+-- a number whose size is below 2 ^ 63 has 64 bits
+pub size_64 : (n : ℤ) → lib.Signed.mag n < 9223372036854775808 → SFits w64 n
+size_64 n less = search rules
+
+-- a number of 64 bits is within them
+pub within_64 : (n : ℤ) → SFits w64 n → IsWithin (kind.Int n)
+within_64 (pos n) fits = grind (arith, nat_tests)
+within_64 (negsuc n) fits = grind (arith, nat_tests)
+
+-- as bits it is its complement
+pub bits_64 : (n : ℤ) → SFits w64 n → of_z w64 n ≡ complement n
+bits_64 (pos n) fits = refl
+bits_64 (negsuc n) fits = search rules
+
+-- so the bytes of these bits are those of the number
+pub bytes_64 : (n : ℤ) (bytes : List ℕ) → SFits w64 n
+    → bytes ≡ to_le_bytes w64 (of_z w64 (to_z w64 (of_z w64 n))) → bytes ≡ value_bytes (kind.Int n)
+bytes_64 n bytes fits is = is
+    ∙ ap (λ (z : ℤ). to_le_bytes w64 (of_z w64 z)) (to_z-of_z w64 n fits)
+    ∙ ap (to_le_bytes w64) (bits_64 n fits)
 
 -- a value that an entry has, by its kind and its bytes
 value_once : (v w : Value) → IsProperValue v → IsWithin w → kind_code v ≡ kind_code w → value_bytes v ≡ value_bytes w → v ≡ w
