@@ -114,8 +114,10 @@ pub record IsRegistered (k : Key) (g : ℕ → ℕ) (x : RegistryWord) : Type 0 
 abbrev pub HasRead : (ℕ → ℕ) → List RegistryWord → Type 0
 HasRead g words = AllOf (λ x. g x.index ≡ x.value) words
 
--- by the words read, the definitions at a version are these, and the registry has reached it
+-- by the words read, the definitions at a version are these; the table begins at it or before it, and the registry has
+-- reached it
 pub record KnowsDefinitions (k : Key) (l : Learned) (v : ℕ) (ls : List Listed) : Type 0 where
+  pub from : k.version ≤ v
   pub reached : v ≤ l.version
   pub are : (g : ℕ → ℕ) → HasRead g l.words → definitions_at k g v ≡ ls
 

@@ -16,7 +16,8 @@ use Rattle.fish_rule.specs.Table.{Stands}
 use Rattle.fish_rule.specs.World.{heads_at}
 use Rattle.fish_rule.proofs.basics.Context.{Key, View}
 use Rattle.fish_rule.proofs.basics.Regions.{few_numbers}
-use Rattle.fish_rule.specs.Rounds.{Waits}
+use Rattle.fish_rule.specs.Rounds.{IsSince, Waits}
+use Rattle.fish_rule.specs.declared.view.Epoch.TheVariants.{Confirmed}
 use Rattle.fish_rule.specs.declared.view.Round.{Round}
 
 -- a word that may be loaded is one of the registry's
@@ -36,6 +37,17 @@ version_law v s =
     let few = s.rule.registry.versions.few in
     let reached = (s.rule.registry.each s.seat v s.at).reached in
     omega arith
+
+-- nor is the last one that it knows of before that with which the table begins
+pub version_from : (k : Key) (v : View) → v.about ≡ k → 1 ≤ v.lane → Stands v → k.version ≤ v.learned.version
+version_from k v about live s = subst (λ (z : Key). z.version ≤ v.learned.version) about
+    ((s.rule.registry.each s.seat v s.at).from live)
+
+-- nor is the one at which it is entered
+pub entered_from : (k : Key) (v : View) (version : ℕ) → v.about ≡ k → Stands v → v.epoch ≡ Confirmed version
+    → k.version ≤ version
+entered_from k v version about s entered = subst (λ (z : Key). z.version ≤ version) about
+    (subst (IsSince v.about.version) entered (s.rule.registry.each s.seat v s.at).since)
 
 -- no pass has a lane above 16
 pub lane_law : (v : View) → Stands v → v.lane ≤ 16
