@@ -151,3 +151,9 @@ pub record ReadsOn (v u : View) : Type 0 where
   pub found : ℕ
   pub tail : u.tail ≡ Some (record { number = high found; line = low found })
   pub rests : Rests (high found) (low found) v.tail
+
+-- the control pass that could not close the log read on, and is as it was but for what it learned, its clock and the tail
+-- that it found: as far entered, with its lanes and own numbers, and shut by what shut it
+pub record StaysOpen (v u : View) : Type 0 where
+  pub on : ReadsOn v u
+  pub frame : u ≡ record v { tail = u.tail; learned = u.learned; clock = u.clock }

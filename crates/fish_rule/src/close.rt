@@ -1,9 +1,9 @@
 //! The end of a log: the control pass reads every entry and every head, and the table goes.
 
-ghost use Rattle.std.specs.Prelude.{◌≡◌, ◌+◌, ◌<◌, ◌≤◌, ℕ, [], true, suc, length, IfOk, IfErr, OnOk};
+ghost use Rattle.std.specs.Prelude.{◌≡◌, ◌+◌, ◌<◌, ◌≤◌, ℕ, [], true, suc, length, IfOk, IfErr, OnErr, OnOk};
 ghost use Rattle.fish_rule.specs.ClosedLog.{AreHeads, HasStart, IsAdded, IsClosed, IsNext, IsRead, IsReadUpTo, ReadsOn};
-ghost use Rattle.fish_rule.specs.ClosedLog.{page_of};
-ghost use Rattle.fish_rule.specs.Logs.{Extends, Learns};
+ghost use Rattle.fish_rule.specs.ClosedLog.{StaysOpen, page_of};
+ghost use Rattle.fish_rule.specs.Logs.{Extends};
 ghost use Rattle.fish_rule.specs.Passes.{IsOf, IsPassOf, view};
 ghost use Rattle.fish_rule.specs.LoadSteps.{CanLookAt, IsAlone};
 
@@ -65,14 +65,15 @@ struct Next {
     entry: Option<Entry>,
 }
 
-/// Closes a log, and shows what is left of it. No lane may be out, and nothing in flight.
+/// Closes a log, and shows what is left of it. No lane may be out, and nothing in flight. Where memory runs out the log and
+/// its control pass come back as they were, but for what the pass read.
 pub fn close_log(alloc: Global, log: Log, main: Pass) -> Result<Remains, CloseWant>
     requires pass { IsPassOf log main }
     requires alone { IsAlone (view main) }
     ensures opened { IfOk result (λ r. r.opened ≡ true) }
     ensures log { IfOk result (λ r. IsClosed (view main) r) }
     ensures want { IfErr result (λ want. IsOf log want.log × IsPassOf want.log want.pass
-        × Learns (view main) (view want.pass) × IsAlone (view want.pass)) }
+        × StaysOpen (view main) (view want.pass) × IsAlone (view want.pass)) }
 {
     let mut main = main;
     match read_remains(alloc, &log, &mut main) {
@@ -87,6 +88,7 @@ fn read_remains(alloc: Global, log: &Log, main: &mut Pass) -> Result<Remains, Al
     requires alone { IsAlone (view main.old) }
     ensures pass { IsPassOf log.now main.new }
     ensures on { ReadsOn (view main.old) (view main.new) }
+    ensures stays { OnErr result (StaysOpen (view main.old) (view main.new)) }
     ensures remains { IfOk result (λ r. (r.opened ≡ true) × IsClosed (view main.new) r) }
 {
     let tail = load_tail(log, main);

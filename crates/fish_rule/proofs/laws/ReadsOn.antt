@@ -5,7 +5,7 @@ use Rattle.fish_rule.proofs.basics.Context.{Among, Key, View, get_elem?, some}
 use Rattle.fish_rule.proofs.laws.Clocks.{later_ticked}
 use Rattle.fish_rule.proofs.laws.Alone.{each_more}
 use Rattle.fish_rule.proofs.laws.Learning.{learns_both, learns_self, learns_end}
-use Rattle.fish_rule.specs.ClosedLog.{AreHeads, HasHead, IsAdded, IsReadUpTo, ReadsOn}
+use Rattle.fish_rule.specs.ClosedLog.{AreHeads, HasHead, IsAdded, IsReadUpTo, ReadsOn, StaysOpen}
 use Rattle.fish_rule.specs.RegistrySteps.{after_load_version}
 use Rattle.fish_rule.specs.Epochs.{confirmed}
 use Rattle.fish_rule.specs.ChainSteps.{after_load_head}
@@ -76,10 +76,10 @@ learns_version v y more = assumption (learns_self v, more)
 pub to_version : (v u : View) (y : ℕ) → u ≡ after_load_version v y → v.learned.version ≤ y → Learns v u
 to_version v u y e more = subst (Learns v) (sym e) (learns_version v y more)
 
--- it reads on from where it loaded the tail
-pub reads_on : (v t u : View) (x : ℕ) → t ≡ after_load_tail v x → v.learned.count ≤ high x
-    → Rests (high x) (low x) v.tail → Extends t u → ReadsOn v u
-reads_on v t u x e more rests ext =
+-- it reads on from where it loaded the tail, and changes in nothing else
+pub stays_open : (v t u : View) (x : ℕ) → t ≡ after_load_tail v x → v.learned.count ≤ high x
+    → Rests (high x) (low x) v.tail → Extends t u → StaysOpen v u
+stays_open v t u x e more rests ext =
     let learned = subst (Learns v) (sym e) (learns_end v x more) in
     let from : u ≡ record v {
       tail = Some (record { number = high x; line = low x });
@@ -92,14 +92,18 @@ reads_on v t u x e more rests ext =
       tail = Some (record { number = high x; line = low x });
       learned = u.learned;
       clock = u.clock;
-    } ≡ record v { epoch = u.epoch; tail = u.tail; learned = u.learned; clock = u.clock } =
-    λ i. record v { epoch = sym epoch i; tail = sym tail i; learned = u.learned; clock = u.clock } in
+    } ≡ record v { tail = u.tail; learned = u.learned; clock = u.clock } =
+    λ i. record v { tail = sym tail i; learned = u.learned; clock = u.clock } in
     record {
-      learns = learns_both v t u learned ext.learns;
+      on = record {
+        learns = learns_both v t u learned ext.learns;
+        frame = from ∙ same
+            ∙ (λ i. record v { epoch = sym epoch i; tail = u.tail; learned = u.learned; clock = u.clock });
+        found = x;
+        tail = tail;
+        rests = rests;
+      };
       frame = from ∙ same;
-      found = x;
-      tail = tail;
-      rests = rests;
     }
 
 -- and when it loads the version last

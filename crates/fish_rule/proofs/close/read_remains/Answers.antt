@@ -1,9 +1,9 @@
 -- What was read is what is left, and the pass read on.
 use Rattle.std.proofs.Common.{◌≡◌, ◌∙◌, ◌≤◌, ℕ, arith, ap, refl, sym, subst, Some}
 use Rattle.fish_rule.proofs.laws.Remains.{closes}
-use Rattle.fish_rule.proofs.laws.ReadsOn.{alone_on, heads_later, reads_on, reads_version, to_version}
+use Rattle.fish_rule.proofs.laws.ReadsOn.{alone_on, heads_later, reads_version, stays_open, to_version}
 use Rattle.fish_rule.proofs.laws.ReadSoFar.{read_later}
-use Rattle.fish_rule.specs.ClosedLog.{AreHeads, ReadsOn}
+use Rattle.fish_rule.specs.ClosedLog.{AreHeads, StaysOpen}
 use Rattle.fish_rule.specs.LoadSteps.{after_load_tail}
 use Rattle.fish_rule.specs.Logs.{Extends}
 use Rattle.fish_rule.specs.Parts.{Rests}
@@ -14,24 +14,27 @@ use Rattle.fish_rule.proofs.close.read_remains.Goals as goal
 
 -- it reads on from the tail whose parts the load gave
 reads_words : (v t u : View) (x number line : ℕ) → t ≡ after_load_tail v x → number ≡ high x → line ≡ low x
-    → v.learned.count ≤ number → Rests number line v.tail → Extends t u → ReadsOn v u
+    → v.learned.count ≤ number → Rests number line v.tail → Extends t u → StaysOpen v u
 reads_words v t u x number line loaded number_is line_is counted rests extends =
-    reads_on v t u x loaded (omega arith) (subst (λ (z : ℕ × ℕ). Rests z.0 z.1 v.tail)
+    stays_open v t u x loaded (omega arith) (subst (λ (z : ℕ × ℕ). Rests z.0 z.1 v.tail)
     (λ i. (number_is i, line_is i)) rests) extends
 
-pub returns-in-Err-clause-on : goal.returns-in-Err-clause-on
-returns-in-Err-clause-on c =
+pub returns-in-Err-clause-stays : goal.returns-in-Err-clause-stays
+returns-in-Err-clause-stays c =
     let x = c.load_tail-tail.ensures.view in
     reads_words _ _ _ x.0 _ _ x.1 x.2 x.3 c.load_tail-tail.ensures.counted
     (c.load_tail-tail.ensures.rests c.requires.alone.main c.requires.alone.all) c.read_words.ensures.extends
 
+pub returns-in-Err-clause-on : goal.returns-in-Err-clause-on
+returns-in-Err-clause-on c = (returns-in-Err-clause-stays c).on
+
 pub returns-in-Ok-clause-on : goal.returns-in-Ok-clause-on
 returns-in-Ok-clause-on c =
     let x = c.load_tail-tail.ensures.view in
-    let on = reads_words _ _ _ x.0 _ _ x.1 x.2 x.3 c.load_tail-tail.ensures.counted
+    let stays = reads_words _ _ _ x.0 _ _ x.1 x.2 x.3 c.load_tail-tail.ensures.counted
     (c.load_tail-tail.ensures.rests c.requires.alone.main c.requires.alone.all) c.read_words.ensures.extends in
     reads_version (view c.args.main.now) (view c.read_words.new.main) (view c.load_version-version.new.pass)
-    c.load_version-version.result on c.load_version-version.ensures.view c.load_version-version.ensures.rises
+    c.load_version-version.result stays.on c.load_version-version.ensures.view c.load_version-version.ensures.rises
 
 pub returns-in-Ok-clause-remains : goal.returns-in-Ok-clause-remains
 returns-in-Ok-clause-remains c =
