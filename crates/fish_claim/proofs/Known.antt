@@ -1,12 +1,12 @@
--- Which active definitions a pass knows: at version 0 those of the start, and at each version those that it knew
--- before it learned more.
-use Rattle.std.proofs.Common.{◌≡◌, ℕ, List, [], map, sym, refl, ap, ◌∙◌, subst, arith}
+-- Which active definitions a pass knows: at the version with which the table begins those of the start, and at each
+-- version those that it knew before it learned more.
+use Rattle.std.proofs.Common.{◌≡◌, ℕ, ◌≤◌, List, [], map, sym, refl, ap, ◌∙◌, subst, arith}
 use Rattle.fish_catalog.specs.Listing.{active_texts, listed_of}
 use Rattle.fish_catalog.specs.declared.row.CatRow.{CatRow}
 use Rattle.fish_layout.specs.Cleared.{body_of}
 use Rattle.fish_rule.proofs.laws.Alone.{all_from}
 use Rattle.fish_rule.proofs.laws.Lists.{all_among}
-use Rattle.fish_rule.proofs.laws.Versions.{keyed_map}
+use Rattle.fish_rule.proofs.laws.Versions.{definitions_first, keyed_map}
 use Rattle.fish_rule.specs.Keys.{IsKeyed}
 use Rattle.fish_rule.specs.ChainSteps.{HasBody}
 use Rattle.fish_rule.specs.Logs.{Learns}
@@ -16,16 +16,23 @@ use Rattle.fish_rule.specs.declared.view.Key.{Key}
 use Rattle.fish_rule.specs.declared.view.Learned.{Learned}
 use Rattle.fish_rule.specs.declared.view.View.{View}
 
--- ---- version 0
+-- ---- the version with which the table begins
 
--- at version 0 the active definitions are those of the start, and no word need be read
-pub knows_start : (k : Key) (l : Learned) → KnowsActive k l 0 (active_texts (map listed_of k.rows.value))
-knows_start k l = (map listed_of k.rows.value, record { reached = omega arith; are = λ g read. refl }, refl)
+-- there the active definitions are those of the start, and no word need be read
+pub knows_start : (k : Key) (l : Learned) (version : ℕ) → version ≡ k.version → version ≤ l.version
+    → KnowsActive k l version (active_texts (map listed_of k.rows.value))
+knows_start k l version first reached = (
+  map listed_of k.rows.value,
+  record { from = omega arith; reached = reached; are = λ g read. definitions_first k g version (omega arith) },
+  refl,
+)
 
 -- so there are none where the start has no rows
-pub knows_none : (k : Key) (l : Learned) → k.rows.value ≡ [] → KnowsActive k l 0 []
-knows_none k l none = subst (KnowsActive k l 0) (ap (λ (z : List CatRow). active_texts (map listed_of z)) none)
-    (knows_start k l)
+pub knows_none : (k : Key) (l : Learned) (version : ℕ) → version ≡ k.version → version ≤ l.version → k.rows.value ≡ []
+    → KnowsActive k l version []
+knows_none k l version first reached none =
+    subst (KnowsActive k l version) (ap (λ (z : List CatRow). active_texts (map listed_of z)) none)
+    (knows_start k l version first reached)
 
 -- ---- later
 
@@ -42,7 +49,7 @@ module _ (v u : View) (learns : Learns v u) where
       let up = learns.version in
       let reached = h.1.reached in
       subst (λ (z : Key). KnowsActive z u.learned version texts) (sym learns.about)
-      (h.0, record { reached = omega arith; are = λ g read. h.1.are g (read_before g read) }, h.2)
+      (h.0, record { from = h.1.from; reached = omega arith; are = λ g read. h.1.are g (read_before g read) }, h.2)
 
   -- so words that are those of a record of the pass's version with its keys still are
   pub body_later : (f : Flight) (words : List ℕ) (linked : ℕ) → u.lane ≡ v.lane → u.epoch ≡ v.epoch
