@@ -74,6 +74,7 @@ knows_later v u n ls e h =
     let up = e.version in
     let a = h.reached in
     subst (λ (z : Key). KnowsDefinitions z u.learned n ls) (sym e.about) (record {
+      from = h.from;
       reached = omega arith;
       are = λ g read. h.are g (read_fewer g v.learned.words u.learned.words e.words read);
     })
@@ -232,6 +233,7 @@ module _ (v u : View) (before x : ℕ) (ls : List Listed) (learns : Learns v u)
   -- any other operation ends one
   pub made_ended : ¬ (x < 512) → KnowsDefinitions u.about u.learned (suc before) (ended_at (x % 256) ls)
   made_ended more = record {
+    from = subst (λ (z : Key). z.version ≤ suc before) (sym learns.about) (omega arith);
     reached = next_reached;
     are = λ g has. made_by g has
         ∙ choose_second (dec_lt x 512) (ls ++ listed_in (row_in g (length ls)) (length ls) true ∷ []) (ended_at (x % 256) ls)
@@ -242,6 +244,7 @@ module _ (v u : View) (before x : ℕ) (ls : List Listed) (learns : Learns v u)
   pub made_registered : (t : View) (l : Listed) → x < 512 → Learns u t → HasRow t (length ls) l
       → KnowsDefinitions t.about t.learned (suc before) (ls ++ l ∷ [])
   made_registered t l less later row = record {
+    from = subst (λ (z : Key). z.version ≤ suc before) (sym (later.about ∙ learns.about)) (omega arith);
     reached = (let up = later.version in let a = next_reached in omega arith);
     are = λ g has.
         let has_u = read_fewer g u.learned.words t.learned.words later.words has in

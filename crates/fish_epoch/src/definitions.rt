@@ -70,6 +70,7 @@ impl Defs {
     /// operations, once a version. Where they are those of this version already, nothing is read.
     pub fn refresh(&mut self, log: &Log, pass: &mut Pass, version: u16) -> Result<(), AllocError>
         requires pass { IsPassOf log.now pass.old }
+        requires from { log.now.key.version ≤ version }
         requires reached { version ≤ (view pass.old).learned.version }
         requires defs { IsDefsOf (view pass.old) self.old }
         ensures pass { IsPassOf log.now pass.new }
@@ -125,6 +126,7 @@ impl Known {
     /// operations, once a version. Where they are those of this version already, nothing is read.
     pub fn refresh(&mut self, log: &Log, pass: &mut Pass, version: u16) -> Result<(), AllocError>
         requires pass { IsPassOf log.now pass.old }
+        requires from { log.now.key.version ≤ version }
         requires reached { version ≤ (view pass.old).learned.version }
         requires defs { IsKnownOf (view pass.old) self.old }
         ensures pass { IsPassOf log.now pass.new }

@@ -19,6 +19,7 @@ pub(crate) fn read_rows(
     version: u16,
 ) -> Result<Vec<Listed>, AllocError>
     requires pass { IsPassOf log.now pass.old }
+    requires from { log.now.key.version ≤ version }
     requires reached { version ≤ (view pass.old).learned.version }
     ensures pass { IsPassOf log.now pass.new }
     ensures reads { OnlyReads (view pass.old) (view pass.new) }
@@ -27,7 +28,7 @@ pub(crate) fn read_rows(
 {
     let mut rows = first_rows(alloc, log, pass)?;
     let version = u64::from(version);
-    for before in first_version(log).min(version)..version {
+    for before in first_version(log)..version {
         make(alloc, log, pass, before, &mut rows)?;
     }
     Ok(rows)

@@ -25,24 +25,26 @@ loop-before-preserved c =
           c.in_ok-make.ensures.rows;
     }
 
--- before the start's version nothing is made
+-- at the start's version nothing is made yet
 pub loop-before-init : goal.loop-before-init
 loop-before-init c =
     let v = view c.args.pass.now in
+    let first : ℕ = c.first_version-before.result in
     let reads = c.first_rows.ensures.reads in
     let rows = c.in_ok-rows.ensures.rows in
     let about = reads.extends.learns.about in
-    let first : c.first_version.result ≡ c.args.log.now.key.version = c.first_version.ensures in
-    let least = c.min-before.ensures in
+    let is : first ≡ c.args.log.now.key.version = c.first_version-before.ensures in
     let same = reads.version in
     let reached = c.requires.reached in
+    let from = c.requires.from in
     record {
       of = c.first_rows.ensures.pass;
       reads = reads;
       rows = record {
+        from = subst (λ (z : Key). z.version ≤ first) (sym (about ∙ c.requires.pass.about)) (omega arith);
         reached = omega arith;
-        are = λ g has. subst (λ (z : Key). definitions_at z g c.min-before.result ≡ c.in_ok-rows.rows.items) (sym about)
-            (definitions_first v.about g c.min-before.result
-            (subst (λ (z : Key). c.min-before.result ≤ z.version) (sym c.requires.pass.about) (omega arith)) ∙ sym rows);
+        are = λ g has. subst (λ (z : Key). definitions_at z g first ≡ c.in_ok-rows.rows.items) (sym about)
+            (definitions_first v.about g first
+            (subst (λ (z : Key). first ≤ z.version) (sym c.requires.pass.about) (omega arith)) ∙ sym rows);
       };
     }
