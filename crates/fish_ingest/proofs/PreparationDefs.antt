@@ -95,10 +95,11 @@ active_defs {rows} {defs} h active written =
     let ascend : AscendFrom 0 (map row_id (filter is_active rows)) = active_ascend 0 rows (omega arith) numbered in
     defs_ascend defs (subst (AscendFrom 0) (sym (ids_same rows defs active)) ascend) written
 
--- at version 0 the definitions of the start are active, whatever else was learned
-pub knows_active : (k : Key) (l : Learned) (defs : List ActiveDef) → AreActive k.rows.value defs
-    → KnowsActive k l 0 (map text_of defs)
-knows_active k l defs h = subst (KnowsActive k l 0) (active_of_catalog k.rows.value ∙ sym h) (knows_start k l)
+-- at the version with which the table begins the definitions of the start are active, whatever else was learned
+pub knows_active : (k : Key) (l : Learned) (version : ℕ) (defs : List ActiveDef) → version ≡ k.version
+    → version ≤ l.version → AreActive k.rows.value defs → KnowsActive k l version (map text_of defs)
+knows_active k l version defs first reached h =
+    subst (KnowsActive k l version) (active_of_catalog k.rows.value ∙ sym h) (knows_start k l version first reached)
 
 -- ---- rows whose boundaries were cut
 

@@ -1,12 +1,20 @@
 -- The definitions are those of the version, or those of before.
-use Rattle.std.proofs.Common.{sym, subst}
+use Rattle.std.proofs.Common.{sym, subst, arith}
 use Rattle.fish_epoch.proofs.Reading.{defs_later}
 use Rattle.fish_epoch.specs.Definitions.{IsKnownOf}
 use Rattle.fish_epoch.specs.declared.definitions.Known.{Known}
 use Rattle.fish_ingest.proofs.IngestionStart.{are_defs}
 use Rattle.fish_ingest.specs.Preparation.{AreDefs}
+use Rattle.fish_rule.proofs.laws.Versions.{version_from}
 use Rattle.fish_rule.specs.Passes.{view}
 use Rattle.fish_ingest.proofs.preparation.prepare_at.Goals as goal
+
+pub refresh-requires-clause-from : goal.refresh-requires-clause-from
+refresh-requires-clause-from c =
+    let pass = c.requires.pass in
+    let from = version_from c.args.log.now.key (view c.args.pass.now) pass.about pass.live pass.stands in
+    let known = c.requires.version.0 in
+    omega arith
 
 pub returns-in_err-refresh-clause-defs : goal.returns-in_err-refresh-clause-defs
 returns-in_err-refresh-clause-defs c =
