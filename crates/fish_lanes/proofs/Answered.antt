@@ -11,7 +11,6 @@ use Rattle.fish_epoch.proofs.Reading.{knows_later}
 use Rattle.fish_epoch.specs.Definitions.{rows_of, version_of}
 use Rattle.fish_epoch.specs.declared.definitions.Known.{Known}
 use Rattle.fish_lanes.proofs.Logs.{entry_at, entry_in, settled_within, within_log}
-use Rattle.fish_lanes.proofs.Publishing.{entry_finished, published_later, published_seen}
 use Rattle.fish_lanes.specs.Closing.{Sure}
 use Rattle.fish_lanes.specs.Doing.{FitsExplained, FitsRefused, FitsScanned, IsPlannedAt, IsRefusedAt, IsScanned}
 use Rattle.fish_lanes.specs.Doing.{cause_of, explained_item, refusal_of, scanned_item}
@@ -124,9 +123,7 @@ module _ (v u x : View) (ask : Ask) (from to : ℕ) (opens : List ℕ) (range : 
 
   -- and isn't open
   closed : (n : ℕ) → IsPublished v n → ¬ Among n opens
-  closed n p m =
-      let w = range.were n m in
-      entry_finished w.word (published_seen w.between n w.word (published_later v w.between n w.after p) w.seen) w.unfinished
+  closed n p m = (range.were n m).unknown p.entry
 
   -- so the range holds what is known to be published
   pub holds_seen : (seen : ℕ → Type 0) → ((n : ℕ) → seen n → IsPublished v n) → Learns v u

@@ -50,9 +50,9 @@ use Rattle.fish_scan.specs.declared.refusal.ScanRefusal.TheVariants as refusal
 use Rattle.fish_scan.specs.declared.scanning.Prepared.{Prepared}
 use Rattle.fish_value.specs.declared.row.Row.{Row}
 use Rattle.fish_value.specs.declared.value.Value.{Value}
-use Rattle.fish_walk.proofs.Looking.{ends_later}
+use Rattle.fish_walk.proofs.Looking.{ends_later, entry_later, stops_within}
 use Rattle.fish_walk.specs.Looks.{IsTailCount}
-use Rattle.fish_walk.specs.Settling.{OnlySettles}
+use Rattle.fish_walk.specs.Settling.{IsEnd, OnlySettles}
 
 -- ---- views
 
@@ -170,9 +170,9 @@ range_within v m u t from to first last opens before after h = record {
   stops = ⊎_elim (λ (e : last ≡ end_of to h.count). inl e)
       (λ (mark : TellsMark u last). inr (λ x more. mark x (learns_both u t x after.learns more))) h.stops;
   rise = h.rise;
-  were = λ n among. open_sooner v m t n before.learns (open_later m u t n after.learns (h.were n among));
+  were = λ n among. open_sooner v m t n before.learns before.clock (open_later m u t n after.clock (h.were n among));
   apart = λ a b lane f g p q one other. always_later u t _ after.learns (h.apart a b lane f g p q one other);
-  others = λ base n above below closed. always_later u t _ after.learns
+  others = λ base n above below closed. entry_later u t n after.learns
       (h.others (subst (λ (z : Key). z.number ≤ first) (sym before.learns.about) base) n above below closed);
 }
 
@@ -202,6 +202,7 @@ reach_within v m u t ask first reach before tail after is h =
     let about = ap (λ (z : Key). z.number) after.learns.about in subst (λ (z : ℕ). IsReach v t z ask.to reach) is (record {
       range = range_within v m u t first ask.to reach.from reach.to reach.opens before after h.range;
       reached = λ base. reached_still u t reach after.learns (h.reached (omega arith));
+      stops_at = stops_within IsEnd v m u t reach.settled h.range.count before.learns before.clock h.stops_at after.clock;
       settled = (let a = h.settled in let b = before.learns.settled in omega arith);
       reaches = (let a = h.reaches in let b = after.learns.settled in omega arith);
       exact = λ alone. exact_within v m u t ask.to h.range.count reach.settled reach.to reach.opens tail after.learns
@@ -323,6 +324,7 @@ plan_refused v m u t known ask place reach (refusal.NotCovered first last) asked
     opens = reach.opens;
     range = reached.range;
     settled = reach.settled;
+    stops_at = reached.stops_at;
     least = reached.settled;
     most = reached.reaches;
     exact = reached.exact;
@@ -365,6 +367,7 @@ planned_at v u t known ask place reach plan asked more reached is = record {
   asked = asked_later v u t known ask place more asked;
   range = reached.range;
   settled = reach.settled;
+  stops_at = reached.stops_at;
   least = reached.settled;
   most = reached.reaches;
   exact = reached.exact;
@@ -422,6 +425,8 @@ explained_later v u t known ask p after h = record {
         (record { learns = learns_self v; clock = later_self v.clock; frame = refl; outside = λ e. e }) after
         h.reach.range;
     settled = p.query.reach.settled;
+    stops_at = stops_within IsEnd v v u t p.query.reach.settled h.reach.range.count (learns_self v) (later_self v.clock)
+        h.reach.stops_at after.clock;
     least = h.reach.settled;
     most = (let a = h.reach.reaches in let b = after.learns.settled in omega arith);
     exact = λ alone. exact_within v v u t ask.to h.reach.range.count p.query.reach.settled p.query.reach.to p.query.reach.opens

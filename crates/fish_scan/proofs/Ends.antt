@@ -20,8 +20,8 @@ use Rattle.fish_rule.specs.declared.view.View.{View}
 use Rattle.fish_scan.proofs.Reaching.{found_word}
 use Rattle.fish_scan.specs.Reach.{AreLooks, IsCut, IsExact, end_of}
 use Rattle.fish_walk.proofs.Looking.{ends_later}
-use Rattle.fish_walk.specs.Looks.{IsLookAt, IsTailCount, with_look}
-use Rattle.fish_walk.specs.Settling.{EndsAt, HasTail, OnlyLooks, OnlySettles}
+use Rattle.fish_walk.specs.Looks.{IsLookAt, IsTailCount, KnowsEntry, with_look}
+use Rattle.fish_walk.specs.Settling.{EndsAt, HasTail, IsEnd, OnlyLooks, OnlySettles, StopsAt}
 use Rattle.fish_walk.specs.declared.outcome.Look.{Look}
 use Rattle.fish_walk.specs.declared.outcome.Look.TheVariants as look
 
@@ -179,6 +179,16 @@ module _ (a b c d : View) (from : ℕ) (to : Option ℕ) (settled count base sto
               let most = alone_cut alone_b behind (subst (TellsMark c) (sym above) m.1) in let same = above in absurd (omega arith)) at_c
 
 -- ---- for callers
+
+-- a plan's settled number isn't below a number up to which the pass knew all of the log as it was asked
+pub settled_least : (v u : View) (n count settled : ℕ) → StopsAt IsEnd v u settled count → v.learned.count ≤ count
+    → n ≤ v.learned.count → v.about.number ≤ settled → ((m : ℕ) → v.about.number ≤ m → m < n → KnowsEntry v m) → n ≤ settled
+settled_least v u n count settled (inl e) known less above all = omega arith
+settled_least v u n count settled (inr h) known less above all = pick (dec_lt settled n)
+  where
+    pick : Dec (settled < n) → n ≤ settled
+    pick (no more) = omega arith
+    pick (yes short) = absurd (h.unknown (all settled above short))
 
 -- the log ends at one number, while as many are claimed
 pub end_once : (v u : View) (n m count : ℕ) → Stands u → Learns v u → u.about.number ≤ n → n ≤ v.learned.settled

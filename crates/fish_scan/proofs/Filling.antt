@@ -1,5 +1,5 @@
 -- A range is read piece by piece.
-use Rattle.std.proofs.Common.{◌≡◌, ℕ, ◌≤◌, zero, suc, List, [], ◌∷◌, drop, length, sym, ap, subst, arith, Some, slice_get, ◌+◌}
+use Rattle.std.proofs.Common.{◌≡◌, ℕ, ◌≤◌, zero, suc, List, [], ◌∷◌, drop, length, sym, subst, arith, Some, slice_get, take}
 use Rattle.std.proofs.lemmas.Option.{same_Some}
 use Rattle.fish_lang.specs.Definition.{Definition}
 use Rattle.fish_plan.specs.Pieces.{Fill, piece_from, piece_to}
@@ -7,9 +7,12 @@ use Rattle.fish_plan.specs.declared.pieces.Piece.{Piece}
 use Rattle.fish_plan.specs.declared.pieces.Piece.TheVariants.{Full, Index}
 use Rattle.fish_rule.specs.Logs.{Learns}
 use Rattle.fish_rule.specs.declared.view.View.{View}
+use Rattle.fish_scan.proofs.Parsing.{parsed_more, parsed_start}
 use Rattle.fish_scan.proofs.Telling.{adds_both, adds_later, adds_none}
 use Rattle.fish_scan.proofs.Walks.{index_later}
-use Rattle.fish_scan.specs.Pieces.{IsReadable, full_numbers, full_of}
+use Rattle.fish_scan.proofs.Working.{take_all}
+use Rattle.fish_scan.specs.Parses.{HasParsed, HasParsedPiece}
+use Rattle.fish_scan.specs.Pieces.{IsReadable}
 use Rattle.fish_scan.specs.Reading.{Adds}
 use Rattle.fish_scan.specs.declared.reach.Reach.{Reach}
 use Rattle.fish_value.specs.declared.row.Row.{Row}
@@ -42,38 +45,33 @@ fill_end [] (suc n) from to past fill = fill
 fill_end (x ∷ pieces) zero from to past fill = absurd (omega arith)
 fill_end (x ∷ pieces) (suc n) from to past fill = fill_end pieces n from to (omega arith) fill
 
--- the numbers of a piece and of those behind it that are looked at one by one
-pub full_at : (pieces : List Piece) (n : ℕ) (x : Piece) → slice_get pieces n ≡ Some x
-    → full_numbers (drop n pieces) ≡ full_of x + full_numbers (drop (suc n) pieces)
-full_at [] n x there = absurd cc
-full_at (y ∷ pieces) zero x there = ap (λ (z : Piece). full_of z + full_numbers pieces) (same_Some y x there)
-full_at (y ∷ pieces) (suc n) x there = full_at pieces n x there
-
--- the numbers from a bound on were read, and the pieces from a place on fill what is below
+-- the numbers from a bound on were read and the records of full pieces parsed, and the pieces from a place on fill what is below
 pub record HasRead (v : View) (def : Definition) (value : Value) (reach : Reach) (pieces : List Piece) (n : ℕ)
-    (before after : List Row) : Type 0 where
+    (before after : List Row) (old new : ℕ) : Type 0 where
   pub bound : ℕ
   pub fill : Fill (drop n pieces) reach.from bound
   pub below : bound ≤ reach.to
   pub rows : Adds v def value bound reach.to reach.opens before after
+  pub parsed : HasParsed v reach.opens (take n pieces) bound reach.to old new
 
 -- none yet
-pub read_none : (v : View) (def : Definition) (value : Value) (reach : Reach) (pieces : List Piece) (rows : List Row)
-    → Fill pieces reach.from reach.to → HasRead v def value reach pieces 0 rows rows
-read_none v def value reach pieces rows fill = record {
+pub read_none : (v : View) (def : Definition) (value : Value) (reach : Reach) (pieces : List Piece) (rows : List Row) (old : ℕ)
+    → Fill pieces reach.from reach.to → HasRead v def value reach pieces 0 rows rows old old
+read_none v def value reach pieces rows old fill = record {
   bound = reach.to;
   fill = fill;
   below = omega arith;
   rows = adds_none v def value reach.to reach.opens rows;
+  parsed = parsed_start v reach.opens reach.to old;
 }
 
 -- one piece more
 pub read_more : (v u : View) (def : Definition) (value : Value) (reach : Reach) (pieces : List Piece) (n : ℕ) (x : Piece)
-    (before rows after : List Row) → Learns v u → slice_get pieces n ≡ Some x
-    → HasRead v def value reach pieces n before rows
-    → Adds u def value (piece_from x) (piece_to x) reach.opens rows after
-    → HasRead u def value reach pieces (suc n) before after
-read_more v u def value reach pieces n x before rows after learns there h adds =
+    (before rows after : List Row) (old late new : ℕ) → Learns v u → slice_get pieces n ≡ Some x
+    → HasRead v def value reach pieces n before rows old late
+    → Adds u def value (piece_from x) (piece_to x) reach.opens rows after → HasParsedPiece u reach.opens x late new
+    → HasRead u def value reach pieces (suc n) before after old new
+read_more v u def value reach pieces n x before rows after old late new learns there h adds parsed =
     let f = fill_at pieces n reach.from h.bound x there h.fill in
     let less = f.1 in
     let below = h.below in
@@ -84,12 +82,22 @@ read_more v u def value reach pieces n x before rows after learns there h adds =
       rows = adds_both u def value (piece_from x) h.bound reach.to reach.opens before rows after (omega arith) below
           (adds_later v u _ _ _ _ _ _ _ learns h.rows)
           (subst (λ (z : ℕ). Adds u def value (piece_from x) z reach.opens rows after) f.0 adds);
+      parsed = parsed_more v u reach.opens pieces n x (piece_from x) h.bound reach.to old late new learns there h.parsed
+          (subst (λ (z : ℕ). HasParsed u reach.opens (x ∷ []) (piece_from x) z late new) f.0 parsed);
     }
 
 -- all of them
 pub read_all : (v : View) (def : Definition) (value : Value) (reach : Reach) (pieces : List Piece) (n : ℕ)
-    (before after : List Row) → length pieces ≤ n → HasRead v def value reach pieces n before after
+    (before after : List Row) (old new : ℕ) → length pieces ≤ n → HasRead v def value reach pieces n before after old new
     → Adds v def value reach.from reach.to reach.opens before after
-read_all v def value reach pieces n before after past h =
+read_all v def value reach pieces n before after old new past h =
     subst (λ (z : ℕ). Adds v def value z reach.to reach.opens before after)
     (sym (fill_end pieces n reach.from h.bound past h.fill)) h.rows
+
+-- and all that were to be parsed were
+pub parsed_all : (v : View) (def : Definition) (value : Value) (reach : Reach) (pieces : List Piece) (n : ℕ)
+    (before after : List Row) (old new : ℕ) → length pieces ≤ n → HasRead v def value reach pieces n before after old new
+    → HasParsed v reach.opens pieces reach.from reach.to old new
+parsed_all v def value reach pieces n before after old new past h =
+    subst (λ (z : List Piece × ℕ). HasParsed v reach.opens z.0 z.1 reach.to old new)
+    (λ i. (take_all pieces n past i, sym (fill_end pieces n reach.from h.bound past h.fill) i)) h.parsed

@@ -10,6 +10,7 @@ pub mod Lists
 pub mod Loading
 pub mod Looking
 pub mod Nodes
+pub mod Parsing
 pub mod Reaching
 pub mod Selecting
 pub mod Telling

@@ -4,23 +4,25 @@ use Rattle.std.proofs.Common.{⊎_elim, inl, inr, ◌⊎◌, arith, Some, None, 
 use Rattle.fish_rule.proofs.laws.Clocks.{later_both, later_self, loaded_within}
 use Rattle.fish_rule.proofs.laws.Alone.{tells_mark}
 use Rattle.fish_rule.proofs.laws.Lists.{among_left, among_right}
-use Rattle.fish_rule.proofs.laws.Learning.{learns_both}
+use Rattle.fish_rule.proofs.laws.Learning.{learns_both, learns_self}
 use Rattle.fish_rule.proofs.laws.OpenNumbers.{opens_apart}
-use Rattle.fish_rule.specs.Logs.{Learns, TellsMark}
-use Rattle.fish_rule.specs.LoadSteps.{IsAlone}
+use Rattle.fish_rule.specs.Clocks.{HasLoaded, IsLater}
+use Rattle.fish_rule.specs.Logs.{Extends, Learns, TellsMark}
+use Rattle.fish_rule.specs.LoadSteps.{IsAlone, after_look_at}
 use Rattle.fish_rule.specs.Table.{Sees}
 use Rattle.fish_rule.specs.OpenNumbers.{AreApart}
 use Rattle.fish_rule.specs.Views.{Among}
 use Rattle.fish_rule.specs.declared.view.Key.{Key}
+use Rattle.fish_rule.specs.declared.view.Noted.TheVariants.{Directory}
 use Rattle.fish_rule.specs.declared.view.Position.{Position}
 use Rattle.fish_rule.specs.declared.view.View.{View}
 use Rattle.fish_scan.proofs.Lists.{among_last, get_before, get_here, get_last, length_more}
 use Rattle.fish_scan.proofs.Reaching.{reached_word, seen_still}
 use Rattle.fish_scan.specs.Reach.{AreLooks, AreSeen, IsCut, IsExact, IsReach, IsReached, Rise, WasOpen, end_of}
 use Rattle.fish_scan.specs.declared.reach.Reach.{Reach}
-use Rattle.fish_walk.proofs.Looking.{looked_both}
+use Rattle.fish_walk.proofs.Looking.{entry_later, look_loads, looked_both, stops_within, unknown_unfinished, zero_told}
 use Rattle.fish_walk.specs.Looks.{HasOpens, IsLookAt, KeepsOpens, look_of, with_look}
-use Rattle.fish_walk.specs.Settling.{HasLoadedCount, HasTail, OnlyLooks, OnlySettles}
+use Rattle.fish_walk.specs.Settling.{HasLoadedCount, HasTail, IsEnd, OnlyLooks, OnlySettles, StopsAt}
 use Rattle.fish_walk.specs.declared.outcome.Look.{Look}
 use Rattle.fish_walk.specs.declared.outcome.Look.TheVariants as look
 
@@ -69,26 +71,27 @@ open_still m n look.Overflow ns among = among
 open_here : (n : ℕ) (r : Look) (ns : List ℕ) → r ≡ look.Unfinished → Among n (with_look n r ns)
 open_here n r ns is = subst (λ (z : Look). Among n (with_look n z ns)) (sym is) (among_right n ns (n ∷ []) (inl refl))
 
+-- a look at a number tells that it is open
+pub open_looked : (v m u : View) (n lines x word : ℕ) (r : Look) → Extends v m → u ≡ after_look_at m n lines x → r ≡ look_of x
+    → Sees m n word → r ≡ look_of word → r ≡ look.Unfinished → WasOpen v u n
+open_looked v m u n lines x word r before is told sees seen open_is = record {
+  loaded = subst (HasLoaded v.clock u.clock (Directory n)) (zero_told x (sym told ∙ open_is))
+      (loaded_within v.clock m.clock u.clock u.clock (Directory n) x before.clock (look_loads m u n lines x is) (later_self u.clock));
+  unknown = unknown_unfinished v m n word before.learns sees (sym seen ∙ open_is);
+}
+
 -- what was open before a later view
-pub open_later : (v m u : View) (n : ℕ) → Learns m u → WasOpen v m n → WasOpen v u n
-open_later v m u n learns h = record {
-  between = h.between;
-  after = h.after;
-  before = learns_both h.between m u h.before learns;
-  word = h.word;
-  seen = h.seen;
-  unfinished = h.unfinished;
+pub open_later : (v m u : View) (n : ℕ) → IsLater m.clock u.clock → WasOpen v m n → WasOpen v u n
+open_later v m u n later h = record {
+  loaded = loaded_within v.clock v.clock m.clock u.clock (Directory n) 0 (later_self v.clock) h.loaded later;
+  unknown = h.unknown;
 }
 
 -- what was open after an earlier one
-pub open_sooner : (t v u : View) (n : ℕ) → Learns t v → WasOpen v u n → WasOpen t u n
-open_sooner t v u n learns h = record {
-  between = h.between;
-  after = learns_both t v h.between learns h.after;
-  before = h.before;
-  word = h.word;
-  seen = h.seen;
-  unfinished = h.unfinished;
+pub open_sooner : (t v u : View) (n : ℕ) → Learns t v → IsLater t.clock v.clock → WasOpen v u n → WasOpen t u n
+open_sooner t v u n learns later h = record {
+  loaded = loaded_within t.clock v.clock u.clock u.clock (Directory n) 0 later h.loaded (later_self u.clock);
+  unknown = λ known. h.unknown (entry_later t v n learns known);
 }
 
 -- ---- looks
@@ -148,28 +151,21 @@ seen_more v first n looks opens r many at unmarked h = record {
         → (i : ℕ) × (m ≡ first + i) × (slice_get (looks ++ r ∷ []) i ≡ Some look.Unfinished)
     here m is same = (length looks, sym same ∙ place (length looks) refl, get_here looks r ∙ ap Some is)
 
-module _ (v m u : View) (first n count : ℕ) (looks : List Look) (opens : List ℕ) (r : Look) (learns : Learns v m)
-    (more : Learns m u) (h : AreLooks v m first n count looks opens) (many : first + length looks ≡ n)
+module _ (v m u : View) (first n count : ℕ) (looks : List Look) (opens : List ℕ) (r : Look)
+    (more : Extends m u) (h : AreLooks v m first n count looks opens) (many : first + length looks ≡ n)
     (below : n < count) (keeps : KeepsOpens m u n r) where
   -- with one look more
-  pub looks_more : (word : ℕ) → IsLookAt u n r → r ≢ look.Overflow → Sees m n word → r ≡ look_of word
+  pub looks_more : IsLookAt u n r → r ≢ look.Overflow → (r ≡ look.Unfinished → WasOpen v u n)
       → (after : List Look) (still : List ℕ) → after ≡ looks ++ r ∷ [] → still ≡ with_look n r opens
       → AreLooks v u first (suc n) count after still
-  looks_more word at unmarked sees told after still is open_is =
+  looks_more at unmarked was after still is open_is =
       subst (λ (z : List Look × List ℕ). AreLooks v u first (suc n) count z.0 z.1) (λ i. (sym is i, sym open_is i)) (record {
-        seen = seen_more u first n looks opens r many at unmarked (seen_still m u first looks opens more h.seen);
+        seen = seen_more u first n looks opens r many at unmarked (seen_still m u first looks opens more.learns h.seen);
         few = (let e = longer in omega arith);
         stops = inl longer;
         listed = keeps count opens h.listed below;
-        were = λ k among. ⊎_elim (λ (a : Among k opens). open_later v m u k more (h.were k a))
-            (λ (e : (r ≡ look.Unfinished) × (n ≡ k)). subst (WasOpen v u) e.1 (record {
-              between = m;
-              after = learns;
-              before = more;
-              word = word;
-              seen = sees;
-              unfinished = sym told ∙ e.0;
-            })) (open_more k n r opens among);
+        were = λ k among. ⊎_elim (λ (a : Among k opens). open_later v m u k more.clock (h.were k a))
+            (λ (e : (r ≡ look.Unfinished) × (n ≡ k)). subst (WasOpen v u) e.1 (was e.0)) (open_more k n r opens among);
         rise = subst (λ (z : ℕ). Rise first z (with_look n r opens)) (sym longer)
             (rise_look first n r opens (subst (λ (z : ℕ). Rise first z opens) many h.rise));
       })
@@ -180,11 +176,11 @@ module _ (v m u : View) (first n count : ℕ) (looks : List Look) (opens : List 
   -- or up to a mark
   pub looks_stop : (end : ℕ) → n ≤ end → r ≡ look.Overflow → IsLookAt u n r → AreLooks v u first end count looks opens
   looks_stop end less is at = record {
-    seen = seen_still m u first looks opens more h.seen;
+    seen = seen_still m u first looks opens more.learns h.seen;
     few = omega arith;
     stops = inr (subst (TellsMark u) (sym many) (marked (subst (IsLookAt u n) is at)));
     listed = subst (λ (z : Look). HasOpens u count (with_look n z opens)) is (keeps count opens h.listed below);
-    were = λ k among. open_later v m u k more (h.were k among);
+    were = λ k among. open_later v m u k more.clock (h.were k among);
     rise = h.rise;
   }
     where
@@ -216,7 +212,7 @@ cut_within v stop from limit end (inr h) = (let less = h.1 in let same = h.2 in 
 
 module _ (a b c d : View) (from : ℕ) (to : Option ℕ) (settled count end base first : ℕ) (reach : Reach)
     (settles : OnlySettles a b) (rises : a.learned.settled ≤ settled) (known : settled ≤ b.learned.settled)
-    (counted : HasLoadedCount a b count) (tail : HasTail b count) (cuts : OnlyLooks b c)
+    (stops : StopsAt IsEnd a b settled count) (counted : HasLoadedCount a b count) (tail : HasTail b count) (cuts : OnlyLooks b c)
     (cut : IsCut c (max base settled) from (end_of to count) end) (base_is : base ≡ a.about.number)
     (first_is : first ≡ min (max (max base settled) from) end) (looked : OnlyLooks c d)
     (looks : AreLooks c d first end count reach.looks.items reach.opens) (settled_is : reach.settled ≡ settled)
@@ -267,13 +263,16 @@ module _ (a b c d : View) (from : ℕ) (to : Option ℕ) (settled count end base
           (λ (m : TellsMark d (first + length reach.looks.items)). inr (subst (TellsMark d) (sym ends) m)) looks.stops;
       rise = rise_sooner reach.from first reach.to reach.opens (let f = looks.few in omega arith)
           (subst (λ (z : ℕ). Rise first z reach.opens) (sym ends) looks.rise);
-      were = λ n among. open_sooner a c d n (learns_both a b c settles.learns cuts.extends.learns) (looks.were n among);
+      were = λ n among. open_sooner a c d n (learns_both a b c settles.learns cuts.extends.learns)
+          (later_both a.clock b.clock c.clock settles.clock cuts.extends.clock) (looks.were n among);
       apart = listed_apart d count reach.opens looks.listed;
       others = λ above n least most closed. reached_word d reach (reach_reached less
           (subst (λ (z : Key). z.number ≤ reach.from) (sym (looked_all.extends.learns.about ∙ settles.learns.about)) above))
           n least most closed;
     };
     reached = reach_reached less;
+    stops_at = subst (λ (z : ℕ). StopsAt IsEnd a d z count) (sym settled_is)
+        (stops_within IsEnd a a b d settled count (learns_self a) (later_self a.clock) stops looked_all.extends.clock);
     settled = omega arith;
     exact = λ alone. subst (λ (z : ℕ). IsExact a d to count z reach.to reach.opens) (sym settled_is) (exact alone);
     reaches = (let e = looked_all.settled in omega arith);

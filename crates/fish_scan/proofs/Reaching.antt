@@ -94,12 +94,17 @@ looked_there v reach number r h first there =
 
 -- ---- what isn't open is published
 
--- a number that was found to be of a kind other than a mark has the directory word of an entry
-pub found_word : (v : View) (n : ℕ) (kind : Kind) → kind ≢ Mark → HasFound v n kind → Always v (λ k w. IsEntryWord (w.dir n))
-found_word v n kind other h u learns w rule seat at =
+-- a number that was found to be of a kind has a directory word of that kind
+pub found_code : (v : View) (n : ℕ) (kind : Kind) → HasFound v n kind → Always v (λ k w. high (w.dir n) ≡ code kind)
+found_code v n kind h u learns w rule seat at =
     let f = all_among (IsFound u.about w.count w.dir rule.start) h.0 u.learned.found (rule.facts seat u at).found
     (learns.found h.0 h.1) in
-    let is : high (w.dir n) ≡ code kind = subst (λ (z : ℕ). high (w.dir z) ≡ code h.0.kind) h.2 f.kind ∙ ap code h.3 in
+    subst (λ (z : ℕ). high (w.dir z) ≡ code h.0.kind) h.2 f.kind ∙ ap code h.3
+
+-- and that of an entry, where the kind is no mark
+pub found_word : (v : View) (n : ℕ) (kind : Kind) → kind ≢ Mark → HasFound v n kind → Always v (λ k w. IsEntryWord (w.dir n))
+found_word v n kind other h u learns w rule seat at =
+    let is : high (w.dir n) ≡ code kind = found_code v n kind h u learns w rule seat at in
     record {
       published = published (w.dir n) kind is;
       unmarked = λ m. other (code_once kind Mark (sym is ∙ m));

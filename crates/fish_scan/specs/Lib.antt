@@ -3,6 +3,7 @@ pub mod Intervals
 pub mod Laws
 pub mod Matching
 pub mod Naming
+pub mod Parses
 pub mod Pieces
 pub mod Reach
 pub mod Reading

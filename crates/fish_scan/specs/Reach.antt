@@ -1,17 +1,16 @@
 -- How far a scan looks, and what it found there.
 use Rattle.std.specs.Prelude.{ℕ, ◌≡◌, ◌≢◌, ◌+◌, ◌<◌, ◌≤◌, ◌⊎◌, List, [], ◌∷◌, Option, Some, length, min, suc, slice_get}
 use Rattle.std.specs.Option.{unwrap_or}
-use Rattle.fish_rule.specs.Logs.{Learns, TellsMark}
-use Rattle.fish_rule.specs.Parts.{IsEntryWord}
+use Rattle.fish_rule.specs.Clocks.{HasLoaded}
+use Rattle.fish_rule.specs.Logs.{TellsMark}
 use Rattle.fish_rule.specs.LoadSteps.{IsAlone}
-use Rattle.fish_rule.specs.Table.{Sees}
 use Rattle.fish_rule.specs.OpenNumbers.{AreApart}
 use Rattle.fish_rule.specs.Views.{Among}
-use Rattle.fish_rule.specs.ChainFacts.{Always}
+use Rattle.fish_rule.specs.declared.view.Noted.TheVariants.{Directory}
 use Rattle.fish_rule.specs.declared.view.View.{View}
 use Rattle.fish_scan.specs.declared.reach.Reach.{Reach}
-use Rattle.fish_walk.specs.Looks.{HasOpens, IsLookAt, IsTailCount, look_of}
-use Rattle.fish_walk.specs.Settling.{EndsAt, HasLoadedCount}
+use Rattle.fish_walk.specs.Looks.{HasOpens, IsLookAt, IsTailCount, KnowsEntry}
+use Rattle.fish_walk.specs.Settling.{EndsAt, HasLoadedCount, IsEnd, StopsAt}
 use Rattle.fish_walk.specs.declared.outcome.Look.{Look}
 use Rattle.fish_walk.specs.declared.outcome.Look.TheVariants.{Overflow, Unfinished}
 
@@ -40,14 +39,11 @@ abbrev pub Rise : ℕ → ℕ → List ℕ → Type 0
 Rise low high [] = low ≤ high
 Rise low high (n ∷ ns) = (low ≤ n) × Rise (suc n) high ns
 
--- between the two views the pass saw that the number's record wasn't published
+-- between the two views the pass loaded the number's directory word, and it was 0: its record wasn't published; before them
+-- it didn't know an entry there
 pub record WasOpen (v u : View) (n : ℕ) : Type 0 where
-  pub between : View
-  pub after : Learns v between
-  pub before : Learns between u
-  pub word : ℕ
-  pub seen : Sees between n word
-  pub unfinished : look_of word ≡ Unfinished
+  pub loaded : HasLoaded v.clock u.clock (Directory n) 0
+  pub unknown : ¬ KnowsEntry v n
 
 -- the numbers from the first on were looked at, up to an end or a mark, with these looks and open numbers
 pub record AreLooks (v u : View) (first end count : ℕ) (looks : List Look) (opens : List ℕ) : Type 0 where
@@ -85,7 +81,7 @@ pub record IsRange (v u : View) (from : ℕ) (to : Option ℕ) (first last : ℕ
   pub apart : AreApart u opens
   -- and every other number of the range is published, and no mark
   pub others : v.about.number ≤ first → (n : ℕ) → first ≤ n → n < last → ¬ Among n opens
-      → Always u (λ k w. IsEntryWord (w.dir n))
+      → KnowsEntry u n
 
 -- a pass that was alone knows all of the log. So many numbers are claimed as it knew by the tail, and the log ends at the
 -- settled number; the range goes up to there, or as far as it was asked, so all of it is settled; and no number is open
@@ -100,7 +96,9 @@ pub record IsReach (v u : View) (from : ℕ) (to : Option ℕ) (reach : Reach) :
   pub range : IsRange v u from to reach.from reach.to reach.opens
   -- where it doesn't begin below the log's first number, it can be read
   pub reached : u.about.number ≤ reach.from → IsReached u reach
-  -- it is settled at least as far as the pass knew
+  -- it is settled as far as this call found: up to the count, or to a number at which it loaded no entry's word
+  pub stops_at : StopsAt IsEnd v u reach.settled range.count
+  -- and at least as far as the pass knew
   pub settled : v.learned.settled ≤ reach.settled
   pub reaches : reach.settled ≤ u.learned.settled
   pub exact : IsAlone v → IsExact v u to range.count reach.settled reach.to reach.opens

@@ -14,6 +14,11 @@ abbrev pub IsParsable : Entry → Type 0
 IsParsable (entry.Stored lane form payload) = IsTrue (is_record form payload)
 IsParsable entry.Void = ⊤
 
+-- how often an entry is parsed: a record once
+abbrev pub parses_of : Entry → ℕ
+parses_of (entry.Stored lane form payload) = 1
+parses_of entry.Void = 0
+
 -- the payload of a record for which the definition gives the value, and none of any other entry
 abbrev pub IsMatching : Definition → Value → Entry → Option (List ℕ) → Type 0
 IsMatching def value (entry.Stored lane form payload) (Some found) =

@@ -30,6 +30,7 @@ use Rattle.fish_scan.specs.declared.reach.Reach.{Reach}
 use Rattle.fish_scan.specs.declared.refusal.ScanRefusal.{ScanRefusal}
 use Rattle.fish_scan.specs.declared.refusal.ScanRefusal.TheVariants as refusal
 use Rattle.fish_scan.specs.declared.scanning.Prepared.{Prepared}
+use Rattle.fish_walk.specs.Settling.{IsEnd, StopsAt}
 
 -- the second view is the first but for what was learned since, and the tail and the epoch that were seen
 pub record OnlyScans (v u : View) : Type 0 where
@@ -122,7 +123,9 @@ pub record IsPlanned (v u : View) (known : Known) (ask : Ask) (from to : ℕ) (o
   pub place : ℕ
   pub asked : IsAsked v u known ask place
   pub range : IsRange v u (first_asked ask) ask.to from to opens
+  -- it is settled as far as this call found: up to the count, or to a number at which it loaded no entry's word
   pub settled : ℕ
+  pub stops_at : StopsAt IsEnd v u settled range.count
   pub least : v.learned.settled ≤ settled
   pub most : settled ≤ u.learned.settled
   -- a pass that was alone has planned all that was asked for of the log
@@ -154,6 +157,7 @@ pub record IsUncovered (v u : View) (known : Known) (ask : Ask) (from to : ℕ) 
   pub opens : List ℕ
   pub range : IsRange v u (first_asked ask) ask.to first last opens
   pub settled : ℕ
+  pub stops_at : StopsAt IsEnd v u settled range.count
   pub least : v.learned.settled ≤ settled
   pub most : settled ≤ u.learned.settled
   pub exact : IsAlone v → IsExact v u ask.to range.count settled last opens

@@ -1,10 +1,10 @@
 //! Whether a record that was read has the value that is asked for.
 
-ghost use Rattle.std.specs.Prelude.{◌≡◌, ◌+◌, ◌≤◌, IfOk, IsTrue, ◌↔◌, Some};
+ghost use Rattle.std.specs.Prelude.{◌≡◌, ◌+◌, IfOk, IsTrue, ◌↔◌, Some};
 ghost use Rattle.fish_lang.specs.Definition.{definition_of};
 ghost use Rattle.fish_psf.specs.Eval.{eval as eval_of};
 ghost use Rattle.fish_psf.specs.Records.{evaluation, is_record};
-ghost use Rattle.fish_scan.specs.Reading.{IsMatching, IsParsable};
+ghost use Rattle.fish_scan.specs.Reading.{IsMatching, IsParsable, parses_of};
 
 use crate::reach::Reach;
 use fish_catalog::Entry;
@@ -35,7 +35,7 @@ pub(crate) fn matching<P: Ledger>(
 ) -> Result<Option<Text>, AllocError>
     requires { IsParsable entry }
     ensures matching { IfOk result (IsMatching (definition_of query.now.def) query.now.value entry) }
-    ensures parses { parses.new ≤ parses.old + 1 }
+    ensures parses { parses.new ≡ parses.old + parses_of entry }
 {
     match entry {
         Entry::Void => Ok(None),

@@ -8,6 +8,8 @@ ghost use Rattle.fish_rule.specs.LoadSteps.{CanLookAt};
 ghost use Rattle.fish_rule.specs.Views.{Among};
 ghost use Rattle.fish_rule.specs.declared.view.Kind.TheVariants.{Stored};
 ghost use Rattle.fish_scan.specs.Reach.{IsReached};
+ghost use Rattle.fish_plan.specs.declared.pieces.Piece.TheVariants.{Full};
+ghost use Rattle.fish_scan.specs.Parses.{HasParsedPiece};
 ghost use Rattle.fish_scan.specs.Reading.{Adds};
 ghost use Rattle.fish_scan.specs.Work.{IsFullWork};
 ghost use Rattle.fish_walk.specs.Looks.{HasFound};
@@ -45,7 +47,8 @@ pub(crate) fn read_stretch<P: Ledger, L: Ledger>(
     ensures extends { Extends (view pass.old) (view pass.new) }
     ensures rows { OnOk result (Adds (view pass.new) (definition_of query.now.def) query.now.value stretch.now.from stretch.now.to
         query.now.reach.opens rows.old rows.new) }
-    ensures parses { parses.new + stretch.now.from ≤ parses.old + stretch.now.to }
+    ensures parses { OnOk result (HasParsedPiece (view pass.new) query.now.reach.opens (Full stretch.now.from stretch.now.to)
+        parses.old parses.new) }
     ensures loads { OnOk result (IsFullWork (view pass.old) (view pass.new) query.now.reach.opens stretch.now.from stretch.now.to
         loads.old loads.new) }
 {
@@ -77,7 +80,8 @@ fn read_at<P: Ledger, L: Ledger>(
     ensures extends { Extends (view pass.old) (view pass.new) }
     ensures row { OnOk result (Adds (view pass.new) (definition_of query.now.def) query.now.value number (number + 1)
         query.now.reach.opens rows.old rows.new) }
-    ensures parses { parses.new ≤ parses.old + 1 }
+    ensures parses { OnOk result (HasParsedPiece (view pass.new) query.now.reach.opens (Full number (number + 1)) parses.old
+        parses.new) }
     ensures loads { OnOk result (IsFullWork (view pass.old) (view pass.new) query.now.reach.opens number (number + 1) loads.old
         loads.new) }
 {
@@ -107,7 +111,8 @@ fn read_number<P: Ledger, L: Ledger>(
     ensures extends { Extends (view pass.old) (view pass.new) }
     ensures row { OnOk result (Adds (view pass.new) (definition_of query.now.def) query.now.value number (number + 1)
         query.now.reach.opens rows.old rows.new) }
-    ensures parses { parses.new ≤ parses.old + 1 }
+    ensures parses { OnOk result (HasParsedPiece (view pass.new) query.now.reach.opens (Full number (number + 1)) parses.old
+        parses.new) }
     ensures loads { OnOk result (IsFullWork (view pass.old) (view pass.new) query.now.reach.opens number (number + 1) loads.old
         loads.new) }
 {

@@ -3,7 +3,7 @@
 use std::alloc::AllocError;
 use thiserror::Error;
 
-/// Why a scan isn't answered, in the order in which it is found.
+/// Why a scan isn't answered, in the order in which it is found; memory may be wanting in place of any.
 #[derive(Clone, Copy, Debug, PartialEq, Eq, Error)]
 pub enum ScanRefusal {
     #[error("no definition up to version {version} has the name")]
@@ -16,16 +16,16 @@ pub enum ScanRefusal {
         from: u32,
         to: u32,
     },
-    #[error("the log begins at {base}")]
-    ColdRange {
-        /// The log's first number.
-        base: u32,
-    },
     #[error("no index holds the numbers {from}..{to}")]
     NotCovered {
         /// The first of the newest settled numbers that no index holds.
         from: u32,
         to: u32,
+    },
+    #[error("the log begins at {base}")]
+    ColdRange {
+        /// The log's first number.
+        base: u32,
     },
     #[error("out of memory")]
     OutOfMemory,

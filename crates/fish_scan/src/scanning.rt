@@ -1,10 +1,10 @@
 //! Scans, and how they would be answered.
 
-ghost use Rattle.std.specs.Prelude.{◌≡◌, ◌+◌, ◌≤◌, List, ℕ, IfErr, IfOk, MatchOption};
+ghost use Rattle.std.specs.Prelude.{◌≡◌, ◌≤◌, List, ℕ, IfErr, IfOk, MatchOption};
 ghost use Rattle.fish_catalog.specs.Canonical.{IsCanonical};
 ghost use Rattle.fish_epoch.specs.Definitions.{IsDefsOf, IsKnownOf};
 ghost use Rattle.fish_rule.specs.Passes.{IsPassOf, view};
-ghost use Rattle.fish_scan.specs.Pieces.{full_numbers};
+ghost use Rattle.fish_scan.specs.Parses.{HasParsed};
 ghost use Rattle.fish_scan.specs.Scans.{AreEmptyEnds, IsAnswer, IsAsked, IsCold, IsEmptyAsk, IsExplained, IsPrepared, IsQuery};
 ghost use Rattle.fish_scan.specs.Scans.{IsRefused, OnlyPlans, OnlyScans};
 ghost use Rattle.fish_scan.specs.Work.{IsWork};
@@ -35,9 +35,9 @@ struct Prepared {
 /// the numbers that it names as open. The name means its newest definition in the version that is loaded first,
 /// active or not; `defs` then has that version.
 ///
-/// Where the plan has a full piece each stored record of it is parsed once, and takes one load and one for each of its
-/// words. An index piece parses nothing, and takes at most 38 loads for each entry of the value's bucket at or above its
-/// first number, one for each word of the records that it gives, and two more.
+/// Each stored record of the plan's full pieces that isn't open is parsed exactly once, as `parses` counts, and nothing
+/// else is; it takes one load and one for each of its words. An index piece takes at most 38 loads for each entry of the
+/// value's bucket at or above its first number, one for each word of the records that it gives, and two more.
 ///
 /// Refused, in this order, where no definition of that version has the name, where both ends are asked for and no
 /// number lies between, where the index is asked for and misses a settled number, and where the range begins below
@@ -58,7 +58,8 @@ pub fn scan<P: Ledger, L: Ledger>(
     ensures defs { IsDefsOf (view pass.new) defs.new }
     ensures answer { IfOk result (IsAnswer (view pass.old) (view pass.new) defs.new.known ask.now) }
     ensures refused { IfErr result (IsRefused (view pass.old) (view pass.new) defs.new.known ask.now) }
-    ensures parses { IfOk result (λ answer. parses.new ≤ parses.old + full_numbers answer.plan) }
+    ensures parses { IfOk result (λ answer. HasParsed (view pass.new) answer.opens answer.plan answer.from answer.to parses.old
+        parses.new) }
     ensures loads { IfOk result (λ answer. IsWork (view pass.old) (view pass.new) ask.now.value answer loads.old loads.new) }
 {
     let prepared = prepare(alloc, log, pass, &mut defs.known, ask)?;

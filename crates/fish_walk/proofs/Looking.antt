@@ -6,10 +6,11 @@ use Rattle.std.proofs.Common.{refl, sym, ap, subst, ⊎_elim, inl, inr, arith}
 use Rattle.std.proofs.Math.Decide.{dec_lt}
 use Rattle.fish_rule.proofs.laws.Alone.{seen, seen_here, tells_mark}
 use Rattle.fish_rule.proofs.laws.Clocks.{later_self, loaded_within, noted_load}
-use Rattle.fish_rule.proofs.laws.Learning.{extends_both, extends_look, extends_self, learns_both}
+use Rattle.fish_rule.proofs.laws.Learning.{extends_both, extends_look, extends_self, learns_both, learns_self}
 use Rattle.fish_rule.specs.Clocks.{HasLoaded, IsLater}
 use Rattle.fish_rule.specs.Logs.{Extends, Learns, TellsMark}
 use Rattle.fish_rule.specs.LoadSteps.{after_look_at, found_after, kind_told, opens_after}
+use Rattle.fish_rule.specs.Table.{Sees, Stands}
 use Rattle.fish_rule.specs.Views.{Among}
 use Rattle.fish_rule.specs.World.{high, low}
 use Rattle.fish_rule.specs.declared.view.Found.{Found}
@@ -18,22 +19,27 @@ use Rattle.fish_rule.specs.declared.view.Kind.TheVariants.{Mark, Stored, Void}
 use Rattle.fish_rule.specs.declared.view.Noted.TheVariants.{Directory}
 use Rattle.fish_rule.specs.declared.view.Opens.{Opens}
 use Rattle.fish_rule.specs.declared.view.View.{View}
-use Rattle.fish_walk.specs.Looks.{HasFound, HasOpens, IsLookAt, KeepsOpens, look_of, look_of_kind, with_look}
+use Rattle.fish_walk.specs.Looks.{HasFound, HasOpens, IsLookAt, KeepsOpens, KnowsEntry, look_of, look_of_kind, with_look}
 use Rattle.fish_walk.specs.Settling.{AreSettled, EndsAt, IsEnd, IsMark, OnlyLooks, StopsAt}
 use Rattle.fish_walk.specs.declared.outcome.Look.{Look}
 use Rattle.fish_walk.specs.declared.outcome.Look.TheVariants as look
 
 -- ---- loads
 
+-- an entry that is known is known later
+pub entry_later : (v u : View) (n : ℕ) → Learns v u → KnowsEntry v n → KnowsEntry u n
+entry_later v u n learns h x more = h x (learns_both v u x learns more)
+
 -- a stop was found between two views that lie further apart
-pub stops_within : (P : ℕ → Type 0) (a b c d : View) (number count : ℕ) → IsLater a.clock b.clock
+pub stops_within : (P : ℕ → Type 0) (a b c d : View) (number count : ℕ) → Learns a b → IsLater a.clock b.clock
     → StopsAt P b c number count → IsLater c.clock d.clock → StopsAt P a d number count
-stops_within P a b c d number count p (inl e) q = inl e
-stops_within P a b c d number count p (inr h) q = inr (record {
+stops_within P a b c d number count learns p (inl e) q = inl e
+stops_within P a b c d number count learns p (inr h) q = inr (record {
   below = h.below;
   word = h.word;
   loaded = loaded_within a.clock b.clock c.clock d.clock (Directory number) h.word p h.loaded q;
   ends = h.ends;
+  unknown = λ known. h.unknown (entry_later a b number learns known);
 })
 
 -- ---- looks
@@ -178,13 +184,14 @@ mark_told r x e ne (inr is) = sym e ∙ is
 
 -- so the numbers stop here
 pub stops_by : (P : ℕ → Type 0) (a v u : View) (n lines x count : ℕ) → OnlyLooks a v → u ≡ after_look_at v n lines x
-    → P x → n < count → StopsAt P a u n count
-stops_by P a v u n lines x count looked e ends below = inr (record {
+    → P x → n < count → ¬ KnowsEntry a n → StopsAt P a u n count
+stops_by P a v u n lines x count looked e ends below unknown = inr (record {
   below = below;
   word = x;
   loaded = loaded_within a.clock v.clock u.clock u.clock (Directory n) x looked.extends.clock
       (look_loads v u n lines x e) (later_self u.clock);
   ends = ends;
+  unknown = unknown;
 })
 
 -- a number at which the numbers stop is at most the count
@@ -248,6 +255,34 @@ marked v u n lines (suc x) e is =
     mark_kind Mark h = refl
     mark_kind Stored h = absurd (let bad : look.Stored ≡ look.Overflow = h in cc)
     mark_kind Void h = absurd (let bad : look.Void ≡ look.Overflow = h in cc)
+
+-- ---- what wasn't known
+
+-- a word that tells of an unfinished number is 0
+pub zero_told : (word : ℕ) → look_of word ≡ look.Unfinished → word ≡ 0
+zero_told zero is = refl
+zero_told (suc x) is = of_kind (kind_told (high (suc x))) is
+  where
+    of_kind : (kind : Kind) → look_of_kind kind ≡ look.Unfinished → suc x ≡ 0
+    of_kind Stored bad = cc
+    of_kind Void bad = cc
+    of_kind Mark bad = cc
+
+-- a number that is found unfinished wasn't known to be an entry's
+pub unknown_unfinished : (a v : View) (n word : ℕ) → Learns a v → Sees v n word → look_of word ≡ look.Unfinished
+    → ¬ KnowsEntry a n
+unknown_unfinished a v n word learns s is known =
+    (known v learns s.moment s.rule s.seat s.at).published (sym s.is ∙ zero_told word is)
+
+-- and no more was one at which the numbers end
+pub unknown_end : (a v u : View) (n lines x word : ℕ) (r : Look) → OnlyLooks a v → u ≡ after_look_at v n lines x → r ≡ look_of x
+    → Stands u → Sees v n word → r ≡ look_of word → (r ≡ look.Unfinished) ⊎ (r ≡ look.Overflow) → ¬ KnowsEntry a n
+unknown_end a v u n lines x word r looked e told stands sees seen (inl is) known =
+    unknown_unfinished a v n word looked.extends.learns sees (sym seen ∙ is) known
+unknown_end a v u n lines x word r looked e told stands sees seen (inr is) known =
+    let learns = learns_both a v u looked.extends.learns (look_looks v u n lines x e).extends.learns in
+    (known u learns stands.moment stands.rule stands.seat stands.at).unmarked
+    (marked v u n lines x e (sym told ∙ is) u (learns_self u) stands.moment stands.rule stands.seat stands.at)
 
 -- so the log ends there
 pub ends_by : (v u : View) (n lines x count : ℕ) (r : Look) → u ≡ after_look_at v n lines x → r ≡ look_of x

@@ -3,9 +3,10 @@ use Rattle.fish_rule.specs.declared.view.Opens.{Opens}
 use Rattle.std.proofs.Common.{◌≡◌, ◌≢◌, ℕ, ◌<◌, ◌≤◌, max, sym, ap, ◌∙◌, subst, inl, inr, ◌⊎◌, arith}
 use Rattle.std.proofs.Math.Decide.{dec_lt}
 use Rattle.fish_rule.proofs.laws.Clocks.{later_both, later_ticked, loaded_within, noted_load}
-use Rattle.fish_rule.proofs.laws.Learning.{extends_both}
+use Rattle.fish_rule.proofs.laws.Learning.{extends_both, learns_self}
 use Rattle.fish_rule.specs.Clocks.{HasLoaded, IsLater}
 use Rattle.fish_rule.specs.LoadSteps.{CanRaiseSettled, IsAlone, after_load_tail, after_load_settled}
+use Rattle.fish_rule.specs.Logs.{Learns}
 use Rattle.fish_rule.specs.Views.{Among}
 use Rattle.fish_rule.specs.World.{high}
 use Rattle.fish_rule.specs.declared.view.Found.{Found}
@@ -36,12 +37,6 @@ module _ (a b c d e : View) (known x settled : ℕ) (to_b : b ≡ after_load_set
     is = sym is;
   }
 
-  -- and so is the stop
-  pub stops_here : (P : ℕ → Type 0) (number count : ℕ) → StopsAt P c d number count → StopsAt P a e number count
-  stops_here P number count stop =
-      stops_within P a c d e number count (later_both a.clock b.clock c.clock on_b counts.on) stop
-      raised.extends.clock
-
   -- the view after a load of the settled number and one of the tail
   abbrev begun : View
   begun = after_load_tail (after_load_settled a known) x
@@ -49,6 +44,20 @@ module _ (a b c d e : View) (known x settled : ℕ) (to_b : b ≡ after_load_set
   -- it is the one that the looks began with
   begun_is : c ≡ begun
   begun_is = to_c ∙ ap (λ (z : View). after_load_tail z x) to_b
+
+  -- which knows what the first one knew
+  learns_begun : a.learned.settled ≤ known → a.learned.count ≤ high x → Learns a c
+  learns_begun rises more = subst (Learns a) (sym begun_is)
+      (let opens : (o : Opens) → Among o a.learned.opens → Among o begun.learned.opens = λ o m. inr m in
+      assumption (learns_self begun, rises, more, opens))
+
+  -- the stop is one of this call's too
+  pub stops_here : a.learned.settled ≤ known → b.learned.count ≤ high x → (P : ℕ → Type 0) (number count : ℕ)
+      → StopsAt P c d number count → StopsAt P a e number count
+  stops_here rises more P number count stop =
+      let began : b.learned.count ≡ a.learned.count = ap (λ (z : View). z.learned.count) to_b in
+      stops_within P a c d e number count (learns_begun rises (omega arith))
+      (later_both a.clock b.clock c.clock on_b counts.on) stop raised.extends.clock
 
   -- a pass that is alone is alone still
   pub alone_still : IsAlone a → IsAlone c

@@ -1,6 +1,8 @@
 -- What a look tells.
 use Rattle.std.specs.Prelude.{ℕ, ◌≡◌, ◌+◌, ◌*◌, ◌<◌, ◌≤◌, ◌⊎◌, zero, suc, List, [], ◌∷◌, ◌++◌, Option, Some, None, ⊤}
 use Rattle.fish_rule.specs.LoadSteps.{kind_told}
+use Rattle.fish_rule.specs.ChainFacts.{Always}
+use Rattle.fish_rule.specs.Parts.{IsEntryWord}
 use Rattle.fish_rule.specs.Views.{Among}
 use Rattle.fish_rule.specs.World.{high}
 use Rattle.fish_rule.specs.declared.view.Found.{Found}
@@ -26,6 +28,10 @@ look_of (suc x) = look_of_kind (kind_told (high (suc x)))
 -- what is found at a number that is settled
 abbrev pub IsEntryLook : Look → Type 0
 IsEntryLook r = (r ≡ found.Stored) ⊎ (r ≡ found.Void)
+
+-- an entry stands at the number, in every moment of a view that knows as much: it is published, and no mark
+abbrev pub KnowsEntry : View → ℕ → Type 0
+KnowsEntry v n = Always v (λ k w. IsEntryWord (w.dir n))
 
 -- so many numbers are claimed where the tail is here
 abbrev pub IsTailCount : ℕ → Option Position → Type 0

@@ -9,7 +9,7 @@ use Rattle.fish_rule.specs.declared.view.Found.{Found}
 use Rattle.fish_rule.specs.declared.view.Kind.TheVariants.{Mark}
 use Rattle.fish_rule.specs.declared.view.Noted.TheVariants.{Directory, Tail}
 use Rattle.fish_rule.specs.declared.view.View.{View}
-use Rattle.fish_walk.specs.Looks.{HasOpens, look_of}
+use Rattle.fish_walk.specs.Looks.{HasOpens, KnowsEntry, look_of}
 use Rattle.fish_walk.specs.declared.outcome.Look.TheVariants.{Overflow, Unfinished}
 
 -- ---- loads
@@ -30,12 +30,14 @@ IsMark word = look_of word ≡ Overflow
 abbrev pub IsEnd : ℕ → Type 0
 IsEnd word = (look_of word ≡ Unfinished) ⊎ IsMark word
 
--- a number below the count whose directory word meets P, as the pass found it between the two views
+-- a number below the count whose directory word meets P, as the pass found it between the two views; before them it didn't
+-- know an entry there
 pub record HasEnd (P : ℕ → Type 0) (v u : View) (number count : ℕ) : Type 0 where
   pub below : number < count
   pub word : ℕ
   pub loaded : HasLoaded v.clock u.clock (Directory number) word
   pub ends : P word
+  pub unknown : ¬ KnowsEntry v number
 
 -- the number at which the settled ones stop: the count, or one whose word meets P
 abbrev pub StopsAt : (ℕ → Type 0) → View → View → ℕ → ℕ → Type 0

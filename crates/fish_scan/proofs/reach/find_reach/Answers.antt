@@ -54,7 +54,7 @@ returns-clause-reach c =
     let last : c.min-first.result + c.len.result ≡ c.min-first.result + length c.look_on.new.looks.items =
     omega (arith, c.len.ensures, c.look_on.new.looks.ok.0) in
     reach_found a b m d c.args.from c.args.to found.settled found.count c.cut_end-end.result c.base.result.number
-    c.min-first.result _ settle.settles settle.rises settle.settled settle.count settle.tail c.cut_end-end.ensures.only
+    c.min-first.result _ settle.settles settle.rises settle.settled settle.stops settle.count settle.tail c.cut_end-end.ensures.only
     (subst (λ (z : ℕ). IsCut m z c.args.from (end_of c.args.to found.count) c.cut_end-end.result) stop cut) base
     (first ∙ ap (λ (z : ℕ). min (max z c.args.from) c.cut_end-end.result) stop) c.look_on.ensures.only looks.looks refl refl
     last c.min-2.ensures

@@ -4,7 +4,7 @@ use Rattle.fish_rule.proofs.laws.Alone.{alone_later}
 use Rattle.fish_rule.specs.Passes.{view}
 use Rattle.fish_scan.proofs.Ends.{none_open}
 use Rattle.fish_scan.proofs.Lists.{length_more}
-use Rattle.fish_scan.proofs.Looking.{looks_more, looks_none, looks_stop, unmarked}
+use Rattle.fish_scan.proofs.Looking.{looks_more, looks_none, looks_stop, open_looked, unmarked}
 use Rattle.fish_scan.specs.Reach.{AreLooks}
 use Rattle.fish_walk.proofs.Looking.{look_looks, looked_both, looked_self}
 use Rattle.fish_scan.proofs.reach.look_on.Goals as goal
@@ -32,7 +32,7 @@ returns-in-Overflow-clause-looks c =
     let counted = c.requires.counted in
     looks_stop (view c.args.pass.now) (view c.loop-number.pass) (view c.look-seen.new.pass) c.args.first
     c.loop-number.number c.args.count c.loop-number.looks.items c.loop-number.opens c.look-seen.result
-    inv.only.extends.learns (look_looks _ _ _ t.0 t.1 t.2).extends.learns inv.looks inv.many (omega arith)
+    (look_looks _ _ _ t.0 t.1 t.2).extends inv.looks inv.many (omega arith)
     c.look-seen.ensures.opens c.args.end (omega arith) c.in-Overflow.is c.look-seen.ensures.found
 
 pub returns-in_err-keep-in-Unfinished-clause-only : goal.returns-in_err-keep-in-Unfinished-clause-only
@@ -57,8 +57,10 @@ loop-number-preserved c =
           c.keep.new.looks.items c.keep.new.opens) next
           (looks_more (view c.args.pass.now) (view c.loop-number.pass) (view c.look-seen.new.pass) c.args.first
           c.loop-number.number c.args.count c.loop-number.looks.items c.loop-number.opens c.look-seen.result
-          inv.only.extends.learns (look_looks _ _ _ t.0 t.1 t.2).extends.learns inv.looks inv.many (omega arith)
-          c.look-seen.ensures.opens sees.0 c.look-seen.ensures.found (unmarked c.look-seen.result c.in-Unfinished.is) sees.1 sees.2
+          (look_looks _ _ _ t.0 t.1 t.2).extends inv.looks inv.many (omega arith)
+          c.look-seen.ensures.opens c.look-seen.ensures.found (unmarked c.look-seen.result c.in-Unfinished.is)
+          (open_looked (view c.args.pass.now) (view c.loop-number.pass) (view c.look-seen.new.pass) c.loop-number.number
+          t.0 t.1 sees.0 c.look-seen.result inv.only.extends t.2 t.3 sees.1 sees.2)
           c.keep.new.looks.items c.keep.new.opens c.in_ok-keep-in-Unfinished.ensures.looks c.in_ok-keep-in-Unfinished.ensures.opens);
       many = omega arith;
       closed = λ alone. c.in_ok-keep-in-Unfinished.ensures.opens

@@ -1,8 +1,9 @@
 -- What stands at the number is a record, or it gives no row.
-use Rattle.std.proofs.Common.{◌≡◌, ◌+◌, sym, ◌∙◌, ◌⊎◌, inl, inr, arith}
+use Rattle.std.proofs.Common.{◌≡◌, ◌+◌, sym, ◌∙◌, ◌⊎◌, inl, inr}
 use Rattle.fish_lang.specs.Definition.{definition_of}
 use Rattle.fish_rule.proofs.laws.Learning.{extends_both}
 use Rattle.fish_rule.specs.Passes.{view}
+use Rattle.fish_scan.proofs.Parsing.{parsed_other}
 use Rattle.fish_scan.proofs.Telling.{seen_unfound}
 use Rattle.fish_scan.proofs.Working.{full_looked, full_other}
 use Rattle.fish_walk.specs.declared.outcome.Look.{Look}
@@ -31,7 +32,9 @@ returns-in-Void g c = record {
       c.seen_at.result c.args.query.now.reach.opens c.args.rows.now c.seen_at.ensures.seen
       (λ stored. other c.seen_at.result stored c.in-Void.is) c.seen_at.ensures.unmarked
       c.seen_at.ensures.unfinished;
-  parses = omega arith;
+  parses = parsed_other (view c.seen_at.new.pass) c.args.number c.seen_at.result c.args.query.now.reach.opens c.args.parses.now
+      c.seen_at.ensures.seen (λ stored. other c.seen_at.result stored c.in-Void.is) c.seen_at.ensures.unmarked
+      c.seen_at.ensures.unfinished;
   loads = full_other (view c.args.pass.now) (view c.seen_at.new.pass) c.args.query.now.reach.opens c.args.number
       c.args.loads.now c.seen_at.ensures.only.loads;
 }

@@ -3,6 +3,7 @@ use Rattle.std.proofs.Common.{ℕ, List, Option, subst}
 use Rattle.fish_lang.specs.Definition.{definition_of}
 use Rattle.fish_rule.specs.Passes.{view}
 use Rattle.fish_scan.proofs.Working.{full_read}
+use Rattle.fish_scan.proofs.Parsing.{parsed_read}
 use Rattle.fish_scan.proofs.Telling.{told_found, told_parsable, told_unfound}
 use Rattle.fish_scan.specs.Reading.{IsMatching}
 use Rattle.fish_scan.proofs.reading.read_number.Goals as goal
@@ -34,3 +35,16 @@ pub returns-in_default-clause-loads : goal.returns-in_default-clause-loads
 returns-in_default-clause-loads g c = full_read (view c.args.pass.now) (view c.read_entry.new.pass) c.args.query.now.reach.opens
     c.args.number c.args.loads.now c.read_entry.new.loads c.requires.stored c.read_entry.ensures.extends.learns
     c.requires.finished c.in_ok-entry.ensures.counted
+
+-- the entry is a record, which was parsed once
+pub returns-in_ok-push-clause-parses : goal.returns-in_ok-push-clause-parses
+returns-in_ok-push-clause-parses g c = parsed_read (view c.args.pass.now) (view c.read_entry.new.pass) c.args.number
+    c.in_ok-entry.entry c.args.query.now.reach.opens c.args.parses.now c.matching.new.parses c.requires.stored
+    c.read_entry.ensures.extends.learns c.read_entry.ensures.pass.stands c.in_ok-entry.ensures.entry c.requires.finished
+    c.matching.ensures.parses
+
+pub returns-in_default-clause-parses : goal.returns-in_default-clause-parses
+returns-in_default-clause-parses g c = parsed_read (view c.args.pass.now) (view c.read_entry.new.pass) c.args.number
+    c.in_ok-entry.entry c.args.query.now.reach.opens c.args.parses.now c.matching.new.parses c.requires.stored
+    c.read_entry.ensures.extends.learns c.read_entry.ensures.pass.stands c.in_ok-entry.ensures.entry c.requires.finished
+    c.matching.ensures.parses

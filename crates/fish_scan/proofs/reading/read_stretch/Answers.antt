@@ -6,6 +6,9 @@ use Rattle.fish_rule.specs.Passes.{view}
 use Rattle.fish_scan.proofs.Reaching.{reached_still}
 use Rattle.fish_scan.proofs.Telling.{adds_both, adds_later, adds_none}
 use Rattle.fish_scan.proofs.Working.{full_both, full_none}
+use Rattle.fish_plan.specs.declared.pieces.Piece.TheVariants.{Full}
+use Rattle.fish_scan.proofs.Parsing.{parsed_down, parsed_empty}
+use Rattle.fish_scan.specs.Parses.{HasParsedPiece}
 use Rattle.fish_scan.specs.Reading.{Adds}
 use Rattle.fish_scan.specs.Work.{IsFullWork}
 use Rattle.fish_scan.proofs.reading.read_stretch.Goals as goal
@@ -16,7 +19,7 @@ loop-number-init g c = record {
   extends = extends_self (view c.args.pass.now);
   above = c.requires.some;
   below = omega arith;
-  parses = omega arith;
+  parses = parsed_empty (view c.args.pass.now) c.args.query.now.reach.opens c.args.stretch.now.to c.args.parses.now;
   rows = adds_none (view c.args.pass.now) (definition_of c.args.query.now.def) c.args.query.now.value c.args.stretch.now.to
       c.args.query.now.reach.opens c.args.rows.now;
   work = full_none (view c.args.pass.now) c.args.query.now.reach.opens c.args.stretch.now.to c.args.loads.now;
@@ -38,7 +41,11 @@ loop-number-preserved g c =
       extends = extends_both _ _ _ inv.extends c.read_at.ensures.extends;
       above = omega arith;
       below = omega arith;
-      parses = (let so_far = inv.parses in let one = c.read_at.ensures.parses in omega arith);
+      parses = parsed_down (view c.loop-number.pass) (view c.read_at.new.pass) c.args.query.now.reach.opens
+          (c.loop-number.number - 1) c.loop-number.number c.args.stretch.now.to c.args.parses.now c.loop-number.parses
+          c.read_at.new.parses (omega arith) below c.read_at.ensures.extends.learns inv.parses
+          (subst (λ (z : ℕ). HasParsedPiece (view c.read_at.new.pass) c.args.query.now.reach.opens
+          (Full (c.loop-number.number - 1) z) c.loop-number.parses c.read_at.new.parses) next c.in_ok-read_at.ensures.parses);
       rows = adds_both (view c.read_at.new.pass) (definition_of c.args.query.now.def) c.args.query.now.value
           (c.loop-number.number - 1) c.loop-number.number c.args.stretch.now.to c.args.query.now.reach.opens c.args.rows.now
           c.loop-number.rows c.read_at.new.rows (omega arith) below
@@ -55,16 +62,3 @@ loop-number-preserved g c =
 
 pub returns-in_err-read_at-clause-extends : goal.returns-in_err-read_at-clause-extends
 returns-in_err-read_at-clause-extends g c = extends_both _ _ _ c.loop-number.invariant.extends c.read_at.ensures.extends
-
-pub returns-in_err-read_at-clause-parses : goal.returns-in_err-read_at-clause-parses
-returns-in_err-read_at-clause-parses g c =
-    let so_far = c.loop-number.invariant.parses in
-    let one = c.read_at.ensures.parses in
-    let some = c.loop-number-test.true in
-    omega arith
-
-pub returns-clause-parses : goal.returns-clause-parses
-returns-clause-parses g c =
-    let so_far = c.loop-number.invariant.parses in
-    let above = c.loop-number.invariant.above in
-    omega arith

@@ -1,8 +1,10 @@
 -- The numbers from this one on were read.
-use Rattle.std.proofs.Common.{◌≤◌, ◌+◌}
+use Rattle.std.proofs.Common.{◌≤◌}
 use Rattle.fish_lang.specs.Definition.{definition_of}
 use Rattle.fish_rule.specs.Logs.{Extends}
 use Rattle.fish_rule.specs.Passes.{IsPassOf, view}
+use Rattle.fish_plan.specs.declared.pieces.Piece.TheVariants.{Full}
+use Rattle.fish_scan.specs.Parses.{HasParsedPiece}
 use Rattle.fish_scan.specs.Reading.{Adds}
 use Rattle.fish_scan.specs.Work.{IsFullWork}
 use Rattle.fish_scan.proofs.reading.read_stretch.Given as goal
@@ -13,7 +15,7 @@ invariant-loop-number g l = record {
   extends : Extends (view l.fn.pass) (view l.pass);
   above : l.stretch.from ≤ l.number;
   below : l.number ≤ l.stretch.to;
-  parses : l.parses + l.number ≤ l.fn.parses + l.stretch.to;
+  parses : HasParsedPiece (view l.pass) l.query.reach.opens (Full l.number l.stretch.to) l.fn.parses l.parses;
   rows : Adds (view l.pass) (definition_of l.query.def) l.query.value l.number l.stretch.to l.query.reach.opens l.fn.rows l.rows;
   work : IsFullWork (view l.fn.pass) (view l.pass) l.query.reach.opens l.number l.stretch.to l.fn.loads l.loads;
 }

@@ -1,11 +1,13 @@
 -- What was prepared holds while the pieces are read, and their rows are the answer's.
-use Rattle.std.proofs.Common.{sym, subst}
+use Rattle.std.proofs.Common.{List, sym, subst}
 use Rattle.fish_epoch.proofs.Reading.{defs_later}
 use Rattle.fish_lang.specs.Definition.{definition_of}
 use Rattle.fish_rule.specs.Passes.{view}
 use Rattle.fish_scan.proofs.Answering.{adds_first, answer_found, prepared_readable, scans_both}
 use Rattle.fish_scan.proofs.Answering.{scans_extends}
 use Rattle.fish_scan.proofs.Working.{work_done}
+use Rattle.fish_plan.specs.declared.pieces.Piece.{Piece}
+use Rattle.fish_scan.specs.Parses.{HasParsed}
 use Rattle.fish_scan.specs.Pieces.{AreReadable}
 use Rattle.fish_scan.specs.Scans.{IsAnswer}
 use Rattle.fish_scan.specs.Work.{IsWork}
@@ -55,3 +57,13 @@ returns-in-Ok-clause-loads g c =
     p.query.reach.to p.query.reach.opens c.read_pieces-read.new.rows c.pieces.result.now p.plan c.args.loads.now
     c.read_pieces-read.new.loads c.prepare.ensures.only.loads c.in_ok-prepared.ensures.prepared.value c.pieces.ensures
     c.in-Ok.ensures.loads)
+
+-- the pieces that were read are those of the plan
+pub returns-in-Ok-clause-parses : goal.returns-in-Ok-clause-parses
+returns-in-Ok-clause-parses g c =
+    let p = c.in_ok-prepared.prepared in
+    let u = view c.read_pieces-read.new.pass in
+    subst (λ (z : Answer). HasParsed u z.opens z.plan z.from z.to c.args.parses.now c.read_pieces-read.new.parses)
+    (sym c.answer_of.ensures)
+    (subst (λ (z : List Piece). HasParsed u p.query.reach.opens z p.query.reach.from p.query.reach.to c.args.parses.now
+    c.read_pieces-read.new.parses) c.pieces.ensures c.in-Ok.ensures.parses)

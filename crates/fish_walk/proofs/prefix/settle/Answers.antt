@@ -49,7 +49,8 @@ returns-clause-stops c =
     let t = c.count_now-count.ensures.view in
     let known = c.load_settled-known in
     stops_here _ (view known.new.pass) _ (view c.settled_up_to-settled.new.pass) _ known.result t.0 c.from.result
-    known.ensures.view t.1 c.settled_up_to-settled.ensures.looked c.raise_to.ensures.raised
+    known.ensures.view t.1 c.settled_up_to-settled.ensures.looked c.raise_to.ensures.raised known.ensures.rises
+    (let more = c.count_now-count.ensures.counted in let is = t.2 in omega arith)
     IsEnd c.settled_up_to-settled.result c.count_now-count.result c.settled_up_to-settled.ensures.stops
 
 -- and a pass that is alone stops at marks only
@@ -61,7 +62,8 @@ returns-clause-alone c alone =
     let still = alone_still _ (view known.new.pass) _ (view c.settled_up_to-settled.new.pass) _ known.result t.0
     c.from.result known.ensures.view t.1 s.looked c.raise_to.ensures.raised alone in
     stops_here _ (view known.new.pass) _ (view c.settled_up_to-settled.new.pass) _ known.result t.0 c.from.result
-    known.ensures.view t.1 s.looked c.raise_to.ensures.raised
+    known.ensures.view t.1 s.looked c.raise_to.ensures.raised known.ensures.rises
+    (let more = c.count_now-count.ensures.counted in let is = t.2 in omega arith)
     IsMark c.settled_up_to-settled.result c.count_now-count.result (s.alone still)
 
 -- the tail is as the second load found it

@@ -2,7 +2,7 @@
 use Rattle.fish_rule.proofs.laws.Alone.{alone_later}
 use Rattle.fish_rule.specs.Passes.{view}
 use Rattle.fish_walk.proofs.Looking.{end_told, ends_by, look_looks, looked_both, mark_told, settled_more}
-use Rattle.fish_walk.proofs.Looking.{settled_still, stops_by}
+use Rattle.fish_walk.proofs.Looking.{settled_still, stops_by, unknown_end}
 use Rattle.fish_walk.specs.Settling.{IsEnd, IsMark}
 use Rattle.fish_walk.proofs.prefix.settled_up_to.Goals as goal
 
@@ -25,6 +25,9 @@ returns-in-Unfinished-clause-stops c =
     let t = c.look.ensures.view in
     stops_by IsEnd _ _ _ _ t.0 t.1 c.args.count c.loop-number.invariant.looked t.2
     (end_told c.look.result t.1 t.3 c.in-Unfinished.is) c.loop-number-test.true
+    (let sees = c.look.ensures.sees in unknown_end (view c.args.pass.now) (view c.loop-number.pass) (view c.look.new.pass)
+    c.loop-number.number t.0 t.1 sees.0 c.look.result c.loop-number.invariant.looked t.2 t.3 c.look.ensures.pass.stands sees.1
+    sees.2 c.in-Unfinished.is)
 
 -- a pass that is alone sees no unfinished number
 pub returns-in-Unfinished-clause-alone : goal.returns-in-Unfinished-clause-alone
@@ -33,6 +36,9 @@ returns-in-Unfinished-clause-alone c alone =
     let ne = c.look.ensures.alone (alone_later _ _ c.loop-number.invariant.looked.extends alone) in
     stops_by IsMark _ _ _ _ t.0 t.1 c.args.count c.loop-number.invariant.looked t.2
     (mark_told c.look.result t.1 t.3 ne c.in-Unfinished.is) c.loop-number-test.true
+    (let sees = c.look.ensures.sees in unknown_end (view c.args.pass.now) (view c.loop-number.pass) (view c.look.new.pass)
+    c.loop-number.number t.0 t.1 sees.0 c.look.result c.loop-number.invariant.looked t.2 t.3 c.look.ensures.pass.stands sees.1
+    sees.2 c.in-Unfinished.is)
 
 -- so the log ends there
 pub returns-in-Unfinished-clause-ends : goal.returns-in-Unfinished-clause-ends
