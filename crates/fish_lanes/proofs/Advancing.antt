@@ -4,7 +4,7 @@ use Rattle.std.proofs.Common.{⊎_elim, arith, length-append, append-nil, true, 
 use Rattle.fish_lanes.proofs.Claims.{shuts_answers, shuts_more}
 use Rattle.fish_lanes.proofs.Done.{HasTold, item_told}
 use Rattle.fish_lanes.proofs.Gaining.{full_later, gains_both}
-use Rattle.fish_lanes.proofs.Lists.{filter_first, filter_last, filter_other, filter_skip}
+use Rattle.fish_lanes.proofs.Lists.{all_more, filter_first, filter_last, filter_other, filter_skip}
 use Rattle.fish_lanes.proofs.Items.{TellsAll, behind_is, made_append, shown_in, tells_cut, tells_ended, tells_more}
 use Rattle.fish_lanes.proofs.Publishing.{published_later}
 use Rattle.fish_lanes.proofs.Showing.{full_fit, item_settles, item_shown}
@@ -20,8 +20,10 @@ use Rattle.fish_lanes.specs.Telling.{TellsItem, content_of, count_of}
 use Rattle.fish_lanes.specs.declared.work.LaneFault.TheVariants as fault
 use Rattle.fish_lanes.specs.declared.work.Work.{Work}
 use Rattle.fish_report.specs.declared.item.Item.{Item}
+use Rattle.fish_rule.proofs.laws.ChainFacts.{always_later}
 use Rattle.fish_rule.proofs.laws.Lists.{among_either, among_left, among_right}
 use Rattle.fish_rule.specs.Logs.{Learns}
+use Rattle.fish_rule.specs.Parts.{IsEntryWord}
 use Rattle.fish_rule.specs.Views.{AllOf, Among}
 use Rattle.fish_rule.specs.declared.view.Key.{Key}
 use Rattle.fish_rule.specs.declared.view.View.{View}
@@ -37,7 +39,7 @@ shown_either n (y ∷ items) x m =
     (λ (g : Among n (shown_by x)). inr g) (shown_either n items x h))
     (among_either n (shown_by y) (shown_in (items ++ x ∷ [])) m)
 
--- what was refused before is still named by the claim that shut the pass, and so is the last one
+-- what was refused before is still named by the claim that shut the pass
 fulls_later : (u t : View) (items : List Item) → t.about ≡ u.about → KeepsShut u t → AllOf (IsFullItem u) items
     → AllOf (IsFullItem t) items
 fulls_later u t [] about keeps h = tt
@@ -46,11 +48,6 @@ fulls_later u t (x ∷ items) about keeps h = (
       full_later u t line lines end about keeps (h.0 file line lines end stored refused is),
   fulls_later u t items about keeps h.1,
 )
-
-fulls_more : (t : View) (items : List Item) (x : Item) → AllOf (IsFullItem t) items → IsFullItem t x
-    → AllOf (IsFullItem t) (items ++ x ∷ [])
-fulls_more t [] x h one = (one, tt)
-fulls_more t (y ∷ items) x h one = (h.0, fulls_more t items x h.1 one)
 
 -- what the pass knows at its end lies within the block where it does later
 within_before : (v u t : View) (s : Span) → Learns u t → IsWithinSpan v t s → IsWithinSpan v u s
@@ -66,6 +63,8 @@ within_before v u t s learns within =
       counted = within.counted;
       near = omega arith;
       alone = within.alone;
+      stored = (let settled = learns.settled in let below = within.stored in omega arith);
+      entries = λ n word. within.entries n (always_later u t (λ k w. IsEntryWord (w.dir n)) learns word);
     }
 
 -- a step that gains nothing and answers nothing
@@ -116,7 +115,7 @@ told_more v u t works items w x rows base h g first fit shuts version =
           (shown_either (settled k) items x m);
       size = (let a = length-append items (x ∷ []) in let b = length-append works (w ∷ []) in let e = h.size in
           omega arith);
-      full = fulls_more t items x (fulls_later u t items learns.about g.shut h.full) (full_fit u t w x fit);
+      full = all_more (IsFullItem t) items x (fulls_later u t items learns.about g.shut h.full) (full_fit u t w x fit);
       versions = omega arith;
       shuts = shuts_more v u t items x h.shuts shuts;
     }

@@ -138,8 +138,8 @@ module _ (v u x : View) (ask : Ask) (from to : ℕ) (opens : List ℕ) (range : 
   }
 
   -- the open numbers
-  pub open_numbers : AreOpen remains.log from to opens
-  open_numbers = record {
+  pub open_numbers : (k : Span) → IsWithinSpan v u k → AreOpen k remains.log from to opens
+  open_numbers k inside = record {
     rise = range.rise;
     apart = λ m n lane f g p q one other at_m at_n.
         always_closed u x (λ k w. IsEntry w m (entry.Stored lane f p) → IsEntry w n (entry.Stored lane g q) → m ≡ n) remains
@@ -149,12 +149,10 @@ module _ (v u x : View) (ask : Ask) (from to : ℕ) (opens : List ℕ) (range : 
     behind = λ n above below past. pick n above below past (among_or n opens);
   }
     where
-      pick : (n : ℕ) → from ≤ n → n < to → length remains.log ≤ n → Dec (Among n opens) → Among n opens
+      pick : (n : ℕ) → from ≤ n → n < to → k.to ≤ n → Dec (Among n opens) → Among n opens
       pick n above below past (yes m) = m
       pick n above below past (no none) =
-          let word = always_closed u x (λ k w. IsEntryWord (w.dir n)) remains learns c
-          (range.others (omega arith) n above below none) in
-          let less = within_log c.rule remains.log base c.log n word in absurd (omega arith)
+          (let less = inside.entries n (range.others (omega arith) n above below none) in absurd (omega arith))
 
   -- in the moment of the close the entries are what the words spell
   spelled : IsSpelled c.moment from to opens (map selected remains.log)
@@ -194,6 +192,12 @@ has_rows v u x known ask place version k inside is named learns = record {
   knows = subst (λ (z : ℕ). KnowsDefinitions x.about x.learned z (rows_of known)) (sym is)
       (knows_later u x (version_of known) (rows_of known) learns named.read.rows);
 }
+
+-- that version is one that the pass loaded in the call
+pub named_version : (v u : View) (known : Known) (ask : Ask) (version place : ℕ) → version ≡ version_of known
+    → IsNamed v u known ask place → (v.learned.version ≤ version) × (version ≤ u.learned.version)
+named_version v u known ask version place is named =
+    (let least = named.least in let most = named.read.rows.reached in (omega arith, omega arith))
 
 -- ---- plans
 
@@ -259,7 +263,7 @@ module _ (v u : View) (ask : Ask) (zero_is : v.about.number ≡ 0) (on : Learns 
         };
         rows_are = rows_selected v u x ask from to opens e.range zero_is remains base learns c a.def rows a.found;
         holds = holds_seen v u x ask from to opens e.range zero_is remains base learns c seen published on;
-        are_open = open_numbers v u x ask from to opens e.range zero_is remains base learns c;
+        are_open = open_numbers v u x ask from to opens e.range zero_is remains base learns c k inside;
       }
 
   -- a plan
@@ -326,6 +330,15 @@ module _ (v u : View) (ask : Ask) (zero_is : v.about.number ≡ 0) (on : Learns 
       (s.refused.0, g.0, g.1, g.2, g.3)
 
 -- ---- refusals
+
+-- the version of a refusal is one that the pass loaded in the call
+pub refused_version : (v u : View) (ask : Ask) (version : ℕ) (why : ScanCause) → IsRefusedAt v u ask version why
+    → (v.learned.version ≤ version) × (version ≤ u.learned.version)
+refused_version v u ask version cause.UnknownName s =
+    (let is = s.version_is in let most = s.refused.2.rows.reached in (s.refused.4, omega arith))
+refused_version v u ask version (cause.EmptyRange from to) s = named_version v u s.known ask version s.refused.1.0 s.version_is s.refused.1.1
+refused_version v u ask version (cause.NotCovered from to) s =
+    named_version v u s.known ask version s.refused.1.place s.version_is s.refused.1.asked.named
 
 -- what an item tells of a refusal is why it was refused
 pub refused_fits : (v u : View) (known : Known) (ask : Ask) (r : ScanRefusal) (version : ℕ) (why : ScanCause)

@@ -1,13 +1,15 @@
 -- Which items tell of the claim that shuts a pass.
-use Rattle.std.proofs.Common.{◌≡◌, List, [], ◌∷◌, ◌++◌, Some, sym, subst, inl, inr, ⊎_elim, Bool, true, false, refl}
+use Rattle.std.proofs.Common.{◌≡◌, List, [], ◌∷◌, ◌++◌, Option, Some, sym, ◌∙◌, subst, inl, inr, ⊎_elim, Bool, true, false, refl}
 use Rattle.fish_lanes.proofs.Items.{shown_in}
-use Rattle.fish_lanes.proofs.Lists.{filter_first, filter_skip}
+use Rattle.fish_lanes.proofs.Lists.{filter_first, filter_skip, some_once}
+use Rattle.fish_lanes.specs.Running.{IsFullItem}
 use Rattle.fish_lanes.specs.Seen.{claimed, shown_by}
-use Rattle.fish_lanes.specs.Sizes.{TellsClaim, TellsShut}
+use Rattle.fish_lanes.specs.Sizes.{NamesOneClaim, TellsClaim, TellsShut}
 use Rattle.fish_lanes.specs.Spans.{answers, is_answer}
 use Rattle.fish_report.specs.declared.item.Item.{Item}
-use Rattle.fish_rule.proofs.laws.Lists.{among_left, among_right}
-use Rattle.fish_rule.specs.Views.{Among}
+use Rattle.fish_report.specs.declared.item.Item.TheVariants as item
+use Rattle.fish_rule.proofs.laws.Lists.{all_among, among_left, among_right}
+use Rattle.fish_rule.specs.Views.{AllOf, Among}
 use Rattle.fish_rule.specs.declared.view.Shut.{Shut}
 use Rattle.fish_rule.specs.declared.view.View.{View}
 
@@ -26,6 +28,22 @@ shuts_more v u t items x h one c e =
     ⊎_elim (λ (same : u.shut ≡ Some c). ⊎_elim (λ (first : v.shut ≡ Some c). inl first)
     (λ (told : TellsClaim c items). inr (claim_left c items (x ∷ []) told)) (h c same))
     (λ (told : TellsClaim c (x ∷ [])). inr (claim_right c items (x ∷ []) told)) (one c e)
+
+-- ---- one claim
+
+-- what the items tell of shut the pass that they name
+pub claim_by : (s : View) (c : Shut) (items : List Item) → AllOf (IsFullItem s) items → TellsClaim c items → s.shut ≡ Some c
+claim_by s c items fits (file, stored, refused, m) =
+    (all_among (IsFullItem s) (item.IngestFull file c.line c.lines c.end stored refused) items fits m file c.line c.lines c.end stored
+    refused refl).shut
+
+-- so they name one claim, which is that of before, if there was one
+pub names_one : (full : Option Shut) (s : View) (items : List Item) → AllOf (IsFullItem s) items
+    → ((c : Shut) → full ≡ Some c → s.shut ≡ Some c) → NamesOneClaim full items
+names_one full s items fits keeps = record {
+  one = λ c d a b. some_once c d (sym (claim_by s c items fits a) ∙ claim_by s d items fits b);
+  given = λ c d is b. some_once d c (sym (claim_by s d items fits b) ∙ keeps c is);
+}
 
 -- ---- what was shown
 

@@ -3,17 +3,21 @@ use Rattle.std.proofs.Common.{◌≡◌, ℕ, ◌+◌, ◌≤◌, List, [], ◌�
 use Rattle.std.proofs.Common.{zero, suc, Some, None, Result, Ok, Err}
 use Rattle.std.specs.Prelude.{IfErr, IfOk}
 use Rattle.fish_lanes.proofs.Advancing.{answers_more, answers_same, run_cut, run_ended, told_more, told_on}
+use Rattle.fish_lanes.proofs.Answered.{named_version, refused_version}
 use Rattle.fish_lanes.proofs.Done.{HasTold, told_self}
 use Rattle.fish_lanes.proofs.Covering.{bounds_before, bounds_in, bounds_read}
+use Rattle.fish_lanes.proofs.Lists.{all_more}
+use Rattle.fish_lanes.proofs.Pending.{found_on}
 use Rattle.fish_lanes.proofs.Plans.{fit_so, plans_beside, plans_later, plans_longer, plans_more}
-use Rattle.fish_lanes.proofs.Registrations.{registry_later}
+use Rattle.fish_lanes.proofs.Registrations.{after_more, registry_later}
 use Rattle.fish_lanes.proofs.Showing.{fit_answer}
 use Rattle.fish_lanes.proofs.Gaining.{alone_gains}
-use Rattle.fish_lanes.proofs.Single.{closed_more, fit_closed, fit_single, none_there, only_last, only_later, some_there}
-use Rattle.fish_lanes.specs.Controlling.{Does, HasControlled, HasPolled, IsControlled, IsPartControlled, TellsTail}
+use Rattle.fish_lanes.proofs.Single.{fit_closed, fit_single, none_there, only_last, only_later, some_there}
+use Rattle.fish_lanes.specs.Controlling.{Does, HasControlled, HasPolled, IsControlled, IsPartControlled, RollsBy, TellsTail}
 use Rattle.fish_lanes.specs.Doing.{GainsFirst, IsFit, IsItem, IsPart}
 use Rattle.fish_lanes.specs.Ending.{HasEnd}
 use Rattle.fish_lanes.specs.Gains.{Gains}
+use Rattle.fish_lanes.specs.Pending.{AreFound}
 use Rattle.fish_lanes.specs.Plans.{AreBoundsIn, PlansAreSoBy, TellsPlans}
 use Rattle.fish_lanes.specs.Records.{LaneRow, contents}
 use Rattle.fish_lanes.specs.Registering.{AreSo, IsSo, KnowsEach, KnowsRegistry, Registry, after, after_all, registry_of, waiting_id}
@@ -60,10 +64,6 @@ pub so_more : (low high : ℕ) (r : Registry) (items : List Item) (x : Item) →
     → IsSo low high (after_all r items) x → AreSo low high r (items ++ x ∷ [])
 so_more low high r [] x h one = (one, tt)
 so_more low high r (y ∷ items) x h one = (h.0, so_more low high (after r y) items x h.1 one)
-
-pub after_more : (r : Registry) (items : List Item) (x : Item) → after_all r (items ++ x ∷ []) ≡ after (after_all r items) x
-after_more r [] x = refl
-after_more r (y ∷ items) x = after_more (after r y) items x
 
 -- each item counts the version that it made
 after_load_version : (r : Registry) (x : Item) → (after r x).version ≡ r.version + made_by x
@@ -158,7 +158,7 @@ held_item v r u s t q works works' items x h before learns does told none still 
       each = each_more t start items x (each_later u t start items learns h.each)
           (subst (λ (z : Registry). KnowsRegistry t (after z x)) h.is
           (does.knows (subst (KnowsRegistry u) (sym h.is) (each_last u start items h.each))));
-      closed = λ alone. closed_more items x (h.closed alone) (none alone);
+      closed = λ alone. all_more NamesNone items x (h.closed alone) (none alone);
       still = still;
       only = only;
       plans = plans;
@@ -241,23 +241,24 @@ held_done v r u s t q works items w x stood stands base began known knows now h 
 
 -- all are done
 pub held_ended : (v : View) (r : Registrar) (u : View) (s : Registrar) (works : List Work) (items : List Item)
-    → Held v r u s works items → HasControlled v u r s works items fault.None
-held_ended v r u s works items h = record {
+    → Held v r u s works items → AreFound v.clock u.clock (registry_of v r) items → HasControlled v u r s works items fault.None
+held_ended v r u s works items h found = record {
   run = run_ended v u works items h.told;
   so = h.so;
   closed = h.closed;
   only = h.only;
   plans = h.plans;
   is = λ e. h.is;
-  each = λ e. h.each;
+  each = h.each;
+  found = found;
 }
 
 -- or those up to one of which a part was done
 pub held_cut : (v : View) (r : Registrar) (u : View) (s : Registrar) (t : View) (q : Registrar) (works : List Work)
     (items : List Item) (w : Work) (later : List Work) (rows : List LaneRow) (count : ℕ) → Held v r u s works items
-    → Gains u t rows → contents rows ≡ take count (content_of w)
+    → AreFound v.clock u.clock (registry_of v r) items → Gains u t rows → contents rows ≡ take count (content_of w)
     → HasControlled v t r q (works ++ w ∷ later) items fault.Memory
-held_cut v r u s t q works items w later rows count h g first =
+held_cut v r u s t q works items w later rows count h found g first =
     let more = g.on.learns.count in
     record {
       run = run_cut v u t works items w later rows count h.told g first;
@@ -269,7 +270,8 @@ held_cut v r u s t q works items w later rows count h g first =
       plans = λ rows from bounds low. plans_longer t (registry_of v r) rows from works (w ∷ later) items h.told.size
           (plans_on v u t (registry_of v r) works items g.on.learns h.plans rows from bounds low);
       is = λ e. absurd cc;
-      each = λ e. absurd cc;
+      each = each_later u t (registry_of v r) items g.on.learns h.each;
+      found = found_on v.clock u.clock t.clock (registry_of v r) items found g.on.clock;
     }
 
 -- ---- what such statements leave
@@ -291,17 +293,44 @@ free_of (work.Scan ask) no_register no_end = tt
 free_of (work.Explain ask) no_register no_end = tt
 free_of work.Checkpoint no_register no_end = tt
 
-free_so : (u t : View) (w : Work) (x : Item) (low high : ℕ) (r : Registry) → IsFree w → IsFit u t w x → IsSo low high r x
-free_so u t (work.Register name def) x low high r free f = elim free [ ]
-free_so u t (work.Deregister name) x low high r free f = elim free [ ]
-free_so u t (work.Ingest form header name file) x low high r free (inl f) = subst (IsSo low high r) (sym f.is) tt
-free_so u t (work.Ingest form header name file) x low high r free (inr (inl f)) = subst (IsSo low high r) (sym f.is) tt
-free_so u t (work.Ingest form header name file) x low high r free (inr (inr f)) = subst (IsSo low high r) (sym f.is) tt
-free_so u t (work.Scan ask) x low high r free (inl f) = subst (IsSo low high r) (sym f.is) tt
-free_so u t (work.Scan ask) x low high r free (inr f) = subst (IsSo low high r) (sym f.is) tt
-free_so u t (work.Explain ask) x low high r free (inl f) = subst (IsSo low high r) (sym f.is) tt
-free_so u t (work.Explain ask) x low high r free (inr f) = subst (IsSo low high r) (sym f.is) tt
-free_so u t work.Checkpoint x low high r free f = subst (IsSo low high r) (sym f.is) tt
+-- what they answer is answered at the version of the definitions, which the call hasn't changed
+only_version : (u t : View) (r : Registry) (version : ℕ) → r.version ≡ u.learned.version → t.learned.version ≡ u.learned.version
+    → (u.learned.version ≤ version) × (version ≤ t.learned.version) → version ≡ r.version
+only_version u t r version is same known = (let least = known.0 in let most = known.1 in omega arith)
+
+free_so : (u t : View) (w : Work) (x : Item) (low high : ℕ) (r : Registry) → r.version ≡ u.learned.version
+    → t.learned.version ≡ u.learned.version → IsFree w → IsFit u t w x → IsSo low high r x
+free_so u t (work.Register name def) x low high r is same free f = elim free [ ]
+free_so u t (work.Deregister name) x low high r is same free f = elim free [ ]
+free_so u t (work.Ingest form header name file) x low high r is same free (inl f) = subst (IsSo low high r) (sym f.is) tt
+free_so u t (work.Ingest form header name file) x low high r is same free (inr (inl f)) = subst (IsSo low high r) (sym f.is) tt
+free_so u t (work.Ingest form header name file) x low high r is same free (inr (inr f)) = subst (IsSo low high r) (sym f.is) tt
+free_so u t (work.Scan ask) x low high r is same free (inl f) =
+    let e = f.fits.answer.explained.planned in
+    subst (IsSo low high r) (sym f.is) (only_version u t r f.version is same
+    (named_version u t f.fits.known ask f.version e.place f.fits.version_is e.asked.named))
+free_so u t (work.Scan ask) x low high r is same free (inr f) = subst (IsSo low high r) (sym f.is)
+    (only_version u t r f.version is same (refused_version u t ask f.version f.why f.fits))
+free_so u t (work.Explain ask) x low high r is same free (inl f) =
+    let e = f.fits.explained.planned in
+    subst (IsSo low high r) (sym f.is) (only_version u t r f.version is same
+    (named_version u t f.fits.known ask f.version e.place f.fits.version_is e.asked.named))
+free_so u t (work.Explain ask) x low high r is same free (inr f) = subst (IsSo low high r) (sym f.is)
+    (only_version u t r f.version is same (refused_version u t ask f.version f.why f.fits))
+free_so u t work.Checkpoint x low high r is same free f = subst (IsSo low high r) (sym f.is) tt
+
+-- and none of them tells of a registration that waits
+free_rolls : (u t : View) (w : Work) (x : Item) → IsFree w → IsFit u t w x → RollsBy u t x
+free_rolls u t (work.Register name def) x free f = elim free [ ]
+free_rolls u t (work.Deregister name) x free f = elim free [ ]
+free_rolls u t (work.Ingest form header name file) x free (inl f) = subst (RollsBy u t) (sym f.is) tt
+free_rolls u t (work.Ingest form header name file) x free (inr (inl f)) = subst (RollsBy u t) (sym f.is) tt
+free_rolls u t (work.Ingest form header name file) x free (inr (inr f)) = subst (RollsBy u t) (sym f.is) tt
+free_rolls u t (work.Scan ask) x free (inl f) = subst (RollsBy u t) (sym f.is) tt
+free_rolls u t (work.Scan ask) x free (inr f) = subst (RollsBy u t) (sym f.is) tt
+free_rolls u t (work.Explain ask) x free (inl f) = subst (RollsBy u t) (sym f.is) tt
+free_rolls u t (work.Explain ask) x free (inr f) = subst (RollsBy u t) (sym f.is) tt
+free_rolls u t work.Checkpoint x free f = subst (RollsBy u t) (sym f.is) tt
 
 free_tail : (u t : View) (w : Work) (x : Item) → IsFree w → IsFit u t w x → TellsTail u x
 free_tail u t (work.Register name def) x free f = elim free [ ]
@@ -321,7 +350,7 @@ pub free_does : (u t : View) (r : Registrar) (w : Work) (x : Item) → IsFree w 
 free_does u t r w x free f learns same =
     let after_is = free_after u t w x (registry_of u r) free f in
     record {
-      so = free_so u t w x u.learned.count t.learned.count (registry_of u r) free f;
+      so = free_so u t w x u.learned.count t.learned.count (registry_of u r) refl (ap (λ (z : Registry). z.version) same) free f;
       is = same ∙ sym after_is;
       knows = λ h. subst (KnowsRegistry t) (sym after_is) (registry_later u t (registry_of u r) learns h);
     }
@@ -343,8 +372,8 @@ take_nothing_first w = refl
 -- one on definitions
 pub control_done : {E : Type 0} (v : View) (s : Registrar) (t : View) (q : Registrar) (w : Work) (r : Result Item E)
     → content_of w ≡ [] → Gains v t [] → t.shut ≡ v.shut → (IsAlone v → IfOk r NamesNone) → (IsAlone v → IfOk r (TellsTail v))
-    → IfOk r (IsFit v t w) → IfOk r (Does v s t q) → IfOk r (IsControlled v s t q w)
-control_done v s t q w (Ok x) none g same names tail fit does = record {
+    → IfOk r (RollsBy v t) → IfOk r (IsFit v t w) → IfOk r (Does v s t q) → IfOk r (IsControlled v s t q w)
+control_done v s t q w (Ok x) none g same names tail rolls fit does = record {
   rows = [];
   gains = g;
   first = take_nothing (count_of x) w none;
@@ -352,9 +381,10 @@ control_done v s t q w (Ok x) none g same names tail fit does = record {
   shuts = λ c e. inl (sym same ∙ e);
   none = names;
   tail = tail;
+  rolls = rolls;
   does = does;
 }
-control_done v s t q w (Err e) none g same names tail fit does = tt
+control_done v s t q w (Err e) none g same names tail rolls fit does = tt
 
 pub control_part : {E : Type 0} (v t : View) (w : Work) (r : Result Item E) → content_of w ≡ [] → Gains v t []
     → IfErr r (λ _. IsPartControlled v t w)
@@ -372,6 +402,7 @@ free_done v s t w (Ok x) free learns same item = record {
   shuts = item.shuts;
   none = λ alone. fit_closed v t w x free alone item.fit;
   tail = λ alone. free_tail v t w x free item.fit;
+  rolls = free_rolls v t w x free item.fit;
   does = free_does v t s w x free item.fit learns same;
 }
 free_done v s t w (Err e) free learns same item = tt

@@ -1,34 +1,36 @@
 -- A block from its start to its end, put together.
-use Rattle.std.proofs.Common.{◌≡◌, ℕ, ◌+◌, ◌<◌, ◌≤◌, List, [], ◌∷◌, length, sym, ap, ◌∙◌, subst}
+use Rattle.std.proofs.Common.{◌≡◌, ℕ, ◌+◌, ◌<◌, ◌≤◌, zero, suc, List, [], ◌∷◌, length, refl, sym, ap, ◌∙◌, subst}
 use Rattle.std.proofs.Common.{inl, inr, ◌⊎◌, ⊎_elim, arith, Some, slice_get}
 use Rattle.std.proofs.Math.Decide.{ℕ_discrete}
 use Rattle.std.proofs.lemmas.Option.{get_or_from_slice_get, slice_get_within}
 use Rattle.fish_lanes.proofs.Lanes.{done_back, none_out}
 use Rattle.fish_lanes.proofs.Gaining.{marks_same}
-use Rattle.fish_lanes.proofs.Lists.{some_once}
+use Rattle.fish_lanes.proofs.Claims.{claim_by, names_one}
+use Rattle.fish_lanes.proofs.Lists.{at_places, some_once}
 use Rattle.fish_lanes.proofs.Moments.{Closes, counted_from, ends_behind, few_behind, get_there, learns_same}
 use Rattle.fish_lanes.proofs.Covering.{bounds_before, bounds_in, bounds_read, read_later}
 use Rattle.fish_lanes.proofs.Ends.{closes_end, end_knows, given_registry}
 use Rattle.fish_lanes.proofs.Plans.{plans_later}
 use Rattle.fish_lanes.proofs.Registrations.{registry_later}
 use Rattle.fish_lanes.proofs.RowLists.{has_above, owned_number, told_later}
-use Rattle.fish_lanes.proofs.Surely.{own_before, sure_later, will_rows}
+use Rattle.fish_lanes.proofs.Surely.{entry_before, own_before, sure_later, sure_settled, will_own, will_rows}
 use Rattle.fish_lanes.specs.Blocks.{AreEnded, AreJoined, AreKept, At}
-use Rattle.fish_lanes.specs.Outcome.{AreVacant, IsFullIn}
-use Rattle.fish_lanes.specs.Blocks.{IsBlockSpan, IsMarkItem, IsOfLane, IsSeated, IsShutOfLane, NameMarks}
+use Rattle.fish_lanes.specs.Outcome.{AreVacant, IsFullIn, TellsShutBy}
+use Rattle.fish_lanes.specs.Blocks.{IsBlockSpan, IsEndedLane, IsMarkItem, IsOfLane, IsSeated, IsShutOfLane, NameMarks}
+use Rattle.fish_lanes.specs.Blocks.{StoresByLanes, TellsBlock}
 use Rattle.fish_lanes.specs.Outcome.{LanesSayPlans}
 use Rattle.fish_lanes.specs.Blocks.{TellsFirst}
 use Rattle.fish_lanes.specs.Blocks.{TellsOthers}
 use Rattle.fish_lanes.specs.Closing.{Later, Sure, Will}
 use Rattle.fish_lanes.specs.Course.{AllBack, AllRan, HasFoundEnd}
 use Rattle.fish_lanes.specs.Ending.{HasEnd}
-use Rattle.fish_lanes.specs.Gains.{AreTold, IsMarkAt, IsShutTold}
+use Rattle.fish_lanes.specs.Gains.{AreTold, IsMarkAt, IsShutTold, WasShut}
 use Rattle.fish_lanes.specs.Plans.{AreSoPlans}
 use Rattle.fish_lanes.specs.Registering.{KnowsRegistry, Registry, registry_of}
 use Rattle.fish_lanes.specs.Records.{Ascends, HasNumber, LaneRow, owned, rows_of_lane}
 use Rattle.fish_lanes.specs.Running.{HasDone, IsEnded, IsFullItem}
-use Rattle.fish_lanes.specs.Sizes.{TellsClaim}
-use Rattle.fish_lanes.specs.Spans.{IsWithinSpan, Span}
+use Rattle.fish_lanes.specs.Sizes.{NamesOneClaim, TellsClaim, claim_of}
+use Rattle.fish_lanes.specs.Spans.{IsAnswer, IsWithinSpan, Span}
 use Rattle.fish_lanes.specs.Telling.{TellsLane}
 use Rattle.fish_lanes.specs.declared.block.BlockEnd.{BlockEnd}
 use Rattle.fish_lanes.specs.declared.lane.Lane.{Lane}
@@ -43,6 +45,7 @@ use Rattle.fish_rule.proofs.laws.Learning.{learns_both}
 use Rattle.fish_rule.specs.Logs.{Learns}
 use Rattle.fish_rule.specs.Passes.{view}
 use Rattle.fish_rule.specs.LoadSteps.{IsAlone}
+use Rattle.fish_rule.specs.Parts.{IsEntryWord}
 use Rattle.fish_rule.specs.Table.{Stands}
 use Rattle.fish_rule.proofs.laws.ChainFacts.{always_later}
 use Rattle.fish_rule.specs.Views.{AllOf, Among}
@@ -146,10 +149,6 @@ module _ {log : Log} {v w : View} {r q : Registrar} {first first' : Lane} {befor
   same_works : (i : ℕ) (z : Lane) (p : Way i z) → p.mid.works ≡ p.old.works
   same_works i z p = ap (λ (q : Lane). q.works) p.seat.is
 
-  -- the statements have items, but for those behind a fault
-  pub first_ended : IsEnded first'.works first'.items first'.fault
-  first_ended = subst (λ (z : List Work). IsEnded z first'.items first'.fault) (sym run.first_did.works) run.first_did.controlled.run.ended
-
   module _ {u : View} {after : List Lane} (returned : AllBack w u done after) where
     -- the lane at a place before it gave its pass back
     ran_at : (i : ℕ) (y : Lane) → slice_get after i ≡ Some y → (z : Lane) × (slice_get done i ≡ Some z)
@@ -175,14 +174,23 @@ module _ {log : Log} {v w : View} {r q : Registrar} {first first' : Lane} {befor
         let z = ran_at i y at_y in
         (returned.taken i z.0 y z.1 at_y).seat
 
-    -- the others' statements have items, but for those behind a fault
-    pub others_ended : AreEnded after
-    others_ended i y at_y =
+    -- the statements have items, but for those behind a fault, and the others' items answer them
+    pub all_ended : AreEnded (first' ∷ after)
+    all_ended = at_places IsEndedLane first' after
+        (record {
+          ended = subst (λ (z : List Work). IsEnded z first'.items first'.fault) (sym run.first_did.works)
+              run.first_did.controlled.run.ended;
+          answers = λ behind. absurd (omega arith);
+        })
+        (λ i y at_y.
         let z = ran_at i y at_y in
         let p = way i z.0 z.1 in
         let w' = returned.taken i z.0 y z.1 at_y in
-        subst (λ (q : List Work × List Item × LaneFault). IsEnded q.0 q.1 q.2)
-        (λ j. ((sym p.run_of.works ∙ sym w'.works) j, sym w'.items j, sym w'.fault j)) p.run_of.run.ended
+        record {
+          ended = subst (λ (q : List Work × List Item × LaneFault). IsEnded q.0 q.1 q.2)
+              (λ j. ((sym p.run_of.works ∙ sym w'.works) j, sym w'.items j, sym w'.fault j)) p.run_of.run.ended;
+          answers = λ behind. subst (AllOf IsAnswer) (sym w'.items) p.run_of.answers;
+        })
 
   module _ {u t : View} {kept : Registrar} {after : List Lane} {last : BlockEnd} (returned : AllBack w u done after)
       (ended : HasFoundEnd u t q kept last) (zero_is : v.about.number ≡ 0) (stands : Stands t) (known : IsShutTold v) where
@@ -248,10 +256,10 @@ module _ {log : Log} {v w : View} {r q : Registrar} {first first' : Lane} {befor
       marks_items s items learns told h.1,
     )
 
-    pub first_marks : AllOf (IsMarkItem t) first'.items
+    first_marks : AllOf (IsMarkItem t) first'.items
     first_marks = marks_items w first'.items end_learns (main_marks known) run.first_did.controlled.run.full
 
-    pub others_marks : NameMarks t after
+    others_marks : NameMarks t after
     others_marks i y at =
         let z = ran_at returned i y at in
         let less = slice_get_within done i z.0 z.1 in
@@ -263,8 +271,11 @@ module _ {log : Log} {v w : View} {r q : Registrar} {first first' : Lane} {befor
         subst (AllOf (IsMarkItem t)) (sym w'.items)
         (marks_items (view s.pass) z.0.items back (way_marks i z.0 p known) p.run_of.run.full)
 
+    pub all_marks : NameMarks t (first' ∷ after)
+    all_marks = at_places (λ i x. AllOf (IsMarkItem t) x.items) first' after first_marks others_marks
+
     -- what the items say of plans, by the rows that the registrar keeps
-    pub first_plans : (from : ℕ) → HasEnd v from
+    first_plans : (from : ℕ) → HasEnd v from
         → AreSoPlans t (registry_of v r) kept.catalog from first'.works first'.items
     first_plans from end =
         let low = end.settled in
@@ -275,7 +286,7 @@ module _ {log : Log} {v w : View} {r q : Registrar} {first first' : Lane} {befor
         (λ j. (given_registry v run.main r run.gives.learned j, sym run.first_did.works j))
         (plans_later w t (registry_of run.main r) kept.catalog from first.works first'.items end_learns said)
 
-    pub others_plans : Knows v r → KnowsRegistry v (registry_of v r) → (from : ℕ) → HasEnd v from
+    others_plans : Knows v r → KnowsRegistry v (registry_of v r) → (from : ℕ) → HasEnd v from
         → LanesSayPlans t (registry_of v r) kept.catalog from after
     others_plans before_ registry from end i y at =
         let z = ran_at returned i y at in
@@ -298,17 +309,31 @@ module _ {log : Log} {v w : View} {r q : Registrar} {first first' : Lane} {befor
         (λ j. ((sym p.run_of.works ∙ sym w'.works) j, sym w'.items j))
         (plans_later (view e.pass) t (registry_of v r) kept.catalog from p.mid.works z.0.items back said)
 
+    pub all_plans : Knows v r → KnowsRegistry v (registry_of v r) → (from : ℕ) → HasEnd v from
+        → LanesSayPlans t (registry_of v r) kept.catalog from (first' ∷ after)
+    all_plans before_ registry from end =
+        at_places (λ i x. AreSoPlans t (registry_of v r) kept.catalog from x.works x.items) first' after (first_plans from end)
+        (others_plans before_ registry from end)
+
     -- what shuts the pass did so before, or an item tells of it
-    pub shut_by : first'.fault ≡ cause.None → At (λ i x. x.fault ≡ cause.None) after → (c : Shut) → t.shut ≡ Some c
-        → (v.shut ≡ Some c) ⊎ (TellsClaim c first'.items ⊎ IsFullIn after c.line c.lines c.end)
-    shut_by none nones c e =
+    shut_by : At (λ i x. x.fault ≡ cause.None) (first' ∷ after) → (c : Shut) → t.shut ≡ Some c
+        → (v.shut ≡ Some c) ⊎ IsFullIn (first' ∷ after) c.line c.lines c.end
+    shut_by nones c e =
         ⊎_elim (λ (k : w.shut ≡ Some c).
-        ⊎_elim (λ (same : run.main.shut ≡ Some c). inl (sym run.gives.shut ∙ same)) (λ (told : TellsClaim c first'.items). inr (inl told))
-        (run.first_did.controlled.run.shuts none c k)) (λ (q : IsShutOfLane done (length done) c). lane_shut q)
+        ⊎_elim (λ (same : run.main.shut ≡ Some c). inl (sym run.gives.shut ∙ same))
+        (λ (k : TellsClaim c first'.items). inr (record {
+          at = 0;
+          lane = first';
+          lane_is = refl;
+          file = k.0;
+          stored = k.1;
+          refused = k.2;
+          among = k.3;
+        }))
+        (run.first_did.controlled.run.shuts (nones 0 first' refl) c k)) (λ (q : IsShutOfLane done (length done) c). lane_shut q)
         (returned.takes.shut c (sym closes.shut ∙ e))
       where
-        lane_shut : IsShutOfLane done (length done) c
-            → (v.shut ≡ Some c) ⊎ (TellsClaim c first'.items ⊎ IsFullIn after c.line c.lines c.end)
+        lane_shut : IsShutOfLane done (length done) c → (v.shut ≡ Some c) ⊎ IsFullIn (first' ∷ after) c.line c.lines c.end
         lane_shut q =
             let p = way q.place q.lane q.lane_is in
             let same : q.seat ≡ p.run_of.after = some_once q.seat p.run_of.after (sym q.seat_is ∙ p.run_of.after_is) in
@@ -317,17 +342,51 @@ module _ {log : Log} {v w : View} {r q : Registrar} {first first' : Lane} {befor
             let y = get_there after q.place (omega arith) in
             let w' = returned.taken q.place q.lane y.0 q.lane_is y.1 in
             ⊎_elim (λ (k : (view p.run_of.before.pass).shut ≡ Some c). inl (sym (way_shut q.place q.lane p) ∙ k))
-            (λ (k : TellsClaim c q.lane.items). inr (inr (record {
-              at = q.place;
+            (λ (k : TellsClaim c q.lane.items). inr (record {
+              at = suc q.place;
               lane = y.0;
               lane_is = y.1;
               file = k.0;
               stored = k.1;
               refused = k.2;
               among = subst (Among (item.IngestFull k.0 c.line c.lines c.end k.1 k.2)) (sym w'.items) k.3;
-            })))
-            (p.run_of.run.shuts (sym w'.fault ∙ nones q.place y.0 y.1) c
+            }))
+            (p.run_of.run.shuts (sym w'.fault ∙ nones (suc q.place) y.0 y.1) c
             (subst (λ (z : Seated). (view z.pass).shut ≡ Some c) same q.shut_is))
+
+    -- where an item tells of a claim, the pass is shut
+    full_shuts : (c : Shut) (at : ℕ) (x : Lane) → slice_get (first' ∷ after) at ≡ Some x → TellsClaim c x.items → WasShut t
+    full_shuts c zero x at told =
+        let here = claim_by w c first'.items run.first_did.controlled.run.full
+        (subst (λ (z : Lane). TellsClaim c z.items) (sym (some_once first' x at)) told) in
+        (c, closes.shut ∙ returned.takes.keeps c here)
+    full_shuts c (suc i) y at told =
+        let z = ran_at returned i y at in
+        let p = way i z.0 z.1 in
+        let w' = returned.taken i z.0 y z.1 at in
+        let s = p.run_of.after in
+        let here = claim_by (view s.pass) c z.0.items p.run_of.run.full (subst (TellsClaim c) w'.items told) in
+        let less = slice_get_within done i z.0 z.1 in
+        let shut = returned.takes.shuts i z.0 s c less z.1 p.run_of.after_is here in
+        (shut.0, closes.shut ∙ shut.1)
+
+    -- all that is told of what shuts the pass
+    pub all_shuts : TellsShutBy v t (first' ∷ after)
+    all_shuts = record {
+      by = shut_by;
+      keeps = λ c e. closes.shut ∙ returned.takes.keeps c (run.first_did.controlled.run.gains.shut c (run.gives.shut ∙ e));
+      shuts = λ line lines end f. full_shuts (claim_of line lines end) f.at f.lane f.lane_is (f.file, f.stored, f.refused, f.among);
+      one = at_places (λ i x. NamesOneClaim v.shut x.items) first' after
+          (names_one v.shut w first'.items run.first_did.controlled.run.full
+          (λ c e. run.first_did.controlled.run.gains.shut c (run.gives.shut ∙ e)))
+          (λ i y at.
+          let z = ran_at returned i y at in
+          let p = way i z.0 z.1 in
+          let w' = returned.taken i z.0 y z.1 at in
+          subst (NamesOneClaim v.shut) (sym w'.items)
+          (names_one v.shut (view p.run_of.after.pass) z.0.items p.run_of.run.full
+          (λ c e. p.run_of.run.gains.shut c (way_shut i z.0 p ∙ e))));
+    }
 
     -- a record of its own is one of before, one of the first lane's rows, or one of another lane's
     own_cases : (o : Own) → Among o t.own
@@ -420,6 +479,8 @@ module _ {log : Log} {v w : View} {r q : Registrar} {first first' : Lane} {befor
           let settled_v = span.begins.settled in
           let version_e = back.version in
           let count_e = back.count in
+          let settled_e = back.settled in
+          let stored : e.learned.settled ≤ last.to = ends_behind t last.to e.learned.settled stands has_end settled_e in
           record {
             first = omega arith;
             last = omega arith;
@@ -427,13 +488,16 @@ module _ {log : Log} {v w : View} {r q : Registrar} {first first' : Lane} {befor
             counted = omega arith;
             near = omega arith;
             alone = alone;
+            stored = omega arith;
+            entries = λ n word. (let less = entry_before t last.to n stands has_end
+                (always_later e t (λ k w. IsEntryWord (w.dir n)) back word) in omega arith);
           }
 
       -- the control pass is alone where there is no other lane
       main_alone : k.lanes ≡ 1 → IsAlone run.main
       main_alone one = subst IsAlone (sym (run.gives.none (omega arith))) span.begins.alone
 
-      pub tells_first : Will t (TellsFirst k first')
+      tells_first : Will t (TellsFirst k first')
       tells_first =
           let run_first = run.first_did.controlled.run in
           let g = run_first.gains in
@@ -475,7 +539,7 @@ module _ {log : Log} {v w : View} {r q : Registrar} {first first' : Lane} {befor
               (λ (h : HasNumber o.number r.run_of.run.rows × (o.lane ≡ q.place + 2)). let e = h.1 in ne (omega arith))
               (lane_cases q.place q.lane r q.seat o q.seat_is q.among))
 
-      pub tells_others : length before < 16 → Will t (TellsOthers k after)
+      tells_others : length before < 16 → Will t (TellsOthers k after)
       tells_others few x remains base main none later c i y at =
           let size = sizes in
           let z = ran_at returned i y at in
@@ -498,3 +562,39 @@ module _ {log : Log} {v w : View} {r q : Registrar} {first first' : Lane} {befor
           (p.run_of.run.tells k (lane_within (view p.run_of.before.pass) (view s.pass) (way_learned i z.0 p) back
           (λ one. absurd (omega arith)))
           (span.full ∙ sym (way_shut i z.0 p))) x remains base main none later c)
+
+      -- a record of the control pass's own at or past the block's start is of one of its lanes
+      own_of_lanes : (o : Own) → Among o t.own → (o.number < k.from) ⊎ (o.lane ≤ length before + 1)
+      own_of_lanes o n =
+          ⊎_elim (λ (h : Among o v.own). inl (own_before v k.from o stood span.begins h))
+          (λ (h : (HasNumber o.number run.first_did.controlled.run.rows × (o.lane ≡ 1)) ⊎ IsOfLane done (length done) o).
+          ⊎_elim (λ (q : HasNumber o.number run.first_did.controlled.run.rows × (o.lane ≡ 1)). let e = q.1 in inr (omega arith))
+          (λ (q : IsOfLane done (length done) o). of_lane q) h) (own_cases o n)
+        where
+          of_lane : IsOfLane done (length done) o → (o.number < k.from) ⊎ (o.lane ≤ length before + 1)
+          of_lane q =
+              let p = way q.place q.lane q.lane_is in
+              ⊎_elim (λ (h : Among o v.own × (o.lane ≡ q.place + 2)). inl (own_before v k.from o stood span.begins h.0))
+              (λ (h : HasNumber o.number p.run_of.run.rows × (o.lane ≡ q.place + 2)).
+              let e = h.1 in let less = q.below in let size = sizes in inr (omega arith))
+              (lane_cases q.place q.lane p q.seat o q.seat_is q.among)
+
+      -- all that the block tells of the log
+      pub tells_all : length before < 16 → Will t (λ y l. TellsBlock y k l (first' ∷ after))
+      tells_all few x remains base main none later c =
+          let size = sizes in
+          let back = returned.size in
+          let ends = span.ends in
+          let many : length before + 1 ≡ length (first' ∷ after) = omega arith in
+          let log = remains.log in
+          record {
+            each = at_places (λ i y. TellsLane x k log (rows_of_lane log k.from k.to (i + 1)) y.works y.items) first' after
+                (tells_first x remains base main none later c)
+                (λ i y at. subst (λ (n : ℕ). TellsLane x k log (rows_of_lane log k.from k.to n) y.works y.items)
+                (let same : i + 2 ≡ suc i + 1 = omega arith in same) (tells_others few x remains base main none later c i y at));
+            own = subst (StoresByLanes k log) many
+                (subst (λ (to : ℕ). StoresByLanes (record k { to = to }) log (length before + 1)) (sym ends)
+                (will_own t k.from last.to (length before + 1) has_end own_of_lanes x remains base main none later c));
+            within = subst (λ (to : ℕ). to ≤ length log) (sym ends)
+                (sure_settled t last.to ended.settled x remains base later.learns c);
+          }

@@ -6,7 +6,7 @@ use Rattle.std.proofs.lemmas.Option.{same_Some}
 use Rattle.std.proofs.Math.Decide.{dec_lt}
 use Rattle.fish_catalog.specs.Rows.{HasActive, is_active}
 use Rattle.fish_lanes.proofs.Registrations.{begun_is, few_versions, none_id, none_waits, waits_id}
-use Rattle.fish_lanes.specs.Controlling.{Does, TellsBegun, TellsTail, deregister_cause, register_cause}
+use Rattle.fish_lanes.specs.Controlling.{Does, RollsBy, TellsBegun, TellsTail, deregister_cause, register_cause}
 use Rattle.fish_lanes.specs.Registering.{IsDeregisterCause, IsRegisterCause, KnowsRegistry, MayChange, MayRegister}
 use Rattle.fish_lanes.specs.Registering.{Registry, begun, bound, registry_of, waiting_id}
 use Rattle.fish_lang.specs.Canonical.{definition_text}
@@ -24,6 +24,8 @@ use Rattle.fish_report.specs.declared.item.DeregisterCause.{DeregisterCause}
 use Rattle.fish_report.specs.declared.item.Item.{Item}
 use Rattle.fish_report.specs.declared.item.Item.TheVariants as item
 use Rattle.fish_report.specs.declared.item.RegisterCause.{RegisterCause}
+use Rattle.fish_rule.proofs.laws.Clocks.{later_self, loaded_within}
+use Rattle.fish_rule.specs.Clocks.{IsLater}
 use Rattle.fish_rule.specs.declared.view.View.{View}
 
 -- what follows of each result
@@ -129,6 +131,11 @@ pub tail_before : (v u : View) (x : Item) → u.tail ≡ v.tail → TellsTail u 
 tail_before v u (item.Registered name id from def) same h = same_tail v u from same h
 tail_before v u (item.Deregistered name id to) same h = same_tail v u to same h
 tail_before v u x same h = tt
+
+-- what was loaded since was loaded since an earlier moment
+pub rolls_before : (v u t : View) (x : Item) → IsLater v.clock u.clock → RollsBy u t x → RollsBy v t x
+rolls_before v u t (item.Rolling name id def lane older) on h = loaded_within v.clock u.clock t.clock t.clock _ _ on h (later_self t.clock)
+rolls_before v u t x on h = tt
 
 -- a refusal changes nothing
 pub registry_stays : (v t : View) (r s : Registrar) → s ≡ r → Stays v t → registry_of t s ≡ registry_of v r

@@ -2,7 +2,7 @@
 use Rattle.std.proofs.Common.{◌≡◌, ℕ, ◌+◌, ◌<◌, ◌≤◌, suc, List, [], ◌∷◌, length, refl}
 use Rattle.std.proofs.Common.{ap, ◌∙◌, subst, inl, inr, ◌⊎◌, ⊎_elim, arith, None, Some}
 use Rattle.fish_epoch.proofs.Reading.{knows_later}
-use Rattle.fish_lanes.proofs.Answered.{plan_told, refused_told, scan_told}
+use Rattle.fish_lanes.proofs.Answered.{plan_told, refused_told, refused_version, scan_told}
 use Rattle.fish_lanes.proofs.Claims.{claim_shown}
 use Rattle.fish_lanes.proofs.Gaining.{alone_gains, gains_self}
 use Rattle.fish_lanes.proofs.Items.{TellsAll, made, shown_in}
@@ -10,11 +10,12 @@ use Rattle.fish_lanes.proofs.Publishing.{published_later, settled_published, tol
 use Rattle.fish_lanes.proofs.RowLists.{ascends_le}
 use Rattle.fish_lanes.proofs.Surely.{sure_settled}
 use Rattle.fish_lanes.specs.Closing.{Sure}
-use Rattle.fish_lanes.specs.Doing.{IsFit}
+use Rattle.fish_lanes.specs.Doing.{FitsRefused, IsFit}
 use Rattle.fish_lanes.specs.Gains.{AreTold, Gains}
 use Rattle.fish_lanes.specs.Published.{IsPublished}
 use Rattle.fish_lanes.specs.Records.{Ascends, HasNumber, LaneRow, entry_of}
 use Rattle.fish_lanes.specs.Running.{IsFullItem}
+use Rattle.fish_lanes.specs.Scanning.{TellsRefused}
 use Rattle.fish_lanes.specs.Seen.{IsSeen, IsShown, Shown, settled}
 use Rattle.fish_lanes.specs.Sizes.{IsEarlier, IsSizeBetween, IsSizeOf, TellsClaim, TellsShut, claim_of}
 use Rattle.fish_lanes.specs.Spans.{IsWithinSpan, Span}
@@ -22,6 +23,8 @@ use Rattle.fish_lanes.specs.Telling.{TellsItem}
 use Rattle.fish_lanes.specs.declared.work.Work.{Work}
 use Rattle.fish_lanes.specs.declared.work.Work.TheVariants as work
 use Rattle.fish_report.specs.declared.item.Item.{Item}
+use Rattle.fish_report.specs.declared.item.Item.TheVariants as item
+use Rattle.fish_report.specs.declared.item.ScanCause.{ScanCause}
 use Rattle.fish_rule.proofs.laws.ClosedLogs.{always_closed}
 use Rattle.fish_rule.proofs.laws.Learning.{learns_both}
 use Rattle.fish_rule.proofs.laws.Moments.{before_mark}
@@ -34,6 +37,7 @@ use Rattle.fish_rule.specs.declared.view.Epoch.TheVariants.{Out}
 use Rattle.fish_rule.specs.declared.view.Key.{Key}
 use Rattle.fish_rule.specs.declared.view.Kind.TheVariants.{Mark}
 use Rattle.fish_rule.specs.declared.view.View.{View}
+use Rattle.fish_scan.specs.declared.ask.Ask.{Ask}
 use Rattle.fish_value.specs.declared.field.Form.{Form}
 
 -- the statements so far are told by as many items
@@ -119,10 +123,38 @@ module _ (v u t : View) (works : List Work) (items : List Item) (s : Span) (base
         counted = omega arith;
         near = within.near;
         alone = λ one. alone_gains v u h.rows h.gains (within.alone one);
+        stored = within.stored;
+        entries = within.entries;
       }
 
   seen_is : (n : ℕ) → IsSeen s.from h.rows (shown_in items) n → IsPublished u n
   seen_is n seen = seen_published v u works items s.from base h within.settled within.counted n seen
+
+  -- a version that the pass knew in the step is one of the block
+  version_now : (version : ℕ) → (u.learned.version ≤ version) × (version ≤ t.learned.version)
+      → (now.first ≤ version) × (version ≤ now.last)
+  version_now version known =
+      let inside = within_now in
+      let first = inside.first in
+      let last = inside.last in
+      let least = known.0 in
+      let most = known.1 in
+      (omega arith, omega arith)
+
+  -- what a refusal tells
+  refusal_told : (ask : Ask) (refused : List ℕ → ℕ → ScanCause → Item) (x : Item) → FitsRefused u t ask refused x
+      → Sure t (λ y log. TellsRefused y now log ask refused x)
+  refusal_told ask refused x f y remains b l c =
+      let at = version_now f.version (refused_version u t ask f.version f.why f.fits) in
+      record {
+        version = f.version;
+        why = f.why;
+        is = f.is;
+        least = at.0;
+        most = at.1;
+        tells = refused_told u t ask zero_now on (IsSeen s.from h.rows (shown_in items)) seen_is
+            now within_now f.version f.why f.fits y remains b l c;
+      }
 
   -- the lines are those of an earlier claim, or of the record
   size_told : (form : Form) (payload : List ℕ) (line lines end : ℕ)
@@ -175,13 +207,7 @@ module _ (v u t : View) (works : List Work) (items : List Item) (s : Span) (base
         now within_now f.from f.to f.opens f.rows f.version
         f.fits y remains b l c;
   })
-  item_told (work.Scan ask) x (inr f) y remains b l c = inr (record {
-    version = f.version;
-    why = f.why;
-    is = f.is;
-    tells = refused_told u t ask zero_now on (IsSeen s.from h.rows (shown_in items)) seen_is
-        now within_now f.version f.why f.fits y remains b l c;
-  })
+  item_told (work.Scan ask) x (inr f) y remains b l c = inr (refusal_told ask item.ScanRefused x f y remains b l c)
   item_told (work.Explain ask) x (inl f) y remains b l c = inl (record {
     from = f.from;
     to = f.to;
@@ -192,13 +218,7 @@ module _ (v u t : View) (works : List Work) (items : List Item) (s : Span) (base
         now within_now f.from f.to f.plan f.version f.fits y
         remains b l c;
   })
-  item_told (work.Explain ask) x (inr f) y remains b l c = inr (record {
-    version = f.version;
-    why = f.why;
-    is = f.is;
-    tells = refused_told u t ask zero_now on (IsSeen s.from h.rows (shown_in items)) seen_is
-        now within_now f.version f.why f.fits y remains b l c;
-  })
+  item_told (work.Explain ask) x (inr f) y remains b l c = inr (refusal_told ask item.ExplainRefused x f y remains b l c)
   item_told work.Checkpoint x f y remains b l c = record {
     count = f.count;
     is = f.is;
@@ -213,6 +233,6 @@ module _ (v u t : View) (works : List Work) (items : List Item) (s : Span) (base
         (always_closed t y (λ k w. high (w.dir f.count) ≡ code Mark) remains l c mark.1)
         (always_closed u y (λ k w. IsEntryWord (w.dir n)) remains (learns_both u t y on l) c
         (row_published u v.lane v.learned.count u.learned.count n h.rows h.gains.told h.gains.ascends (omega arith) has).entry)) e.2;
-    within = sure_settled t f.count f.settled y remains b l c;
+    within = (let a = f.settled in let e = within.stored in omega arith);
     rises = λ m n. let a = f.above in let e = h.settles m n in omega arith;
   }

@@ -3,14 +3,16 @@ use Rattle.std.proofs.Common.{◌≡◌, ℕ, ◌+◌, ◌≤◌, List, length, 
 use Rattle.std.proofs.Common.{append-nil, Option, Some, None, map}
 use Rattle.fish_catalog.specs.Listing.{listed_of}
 use Rattle.fish_ingest.specs.Ingestion.{CanStart}
-use Rattle.fish_lanes.proofs.Controls.{after_more, are_so_wide, each_last, each_later, each_more, so_more, so_wide}
+use Rattle.fish_lanes.proofs.Controls.{are_so_wide, each_last, each_later, each_more, so_more, so_wide}
 use Rattle.fish_lanes.proofs.Moments.{Closes, learns_same}
 use Rattle.fish_lanes.proofs.Keeping.{keeps_settles}
 use Rattle.fish_lanes.proofs.Lanes.{none_out}
-use Rattle.fish_lanes.proofs.Registrations.{knows_kept, registry_later, registry_same}
+use Rattle.fish_lanes.proofs.Pending.{found_within}
+use Rattle.fish_lanes.proofs.Registrations.{after_more, knows_kept, registry_later, registry_same}
 use Rattle.fish_lanes.specs.Blocks.{HasGiven, HasRegistered, HasTakenAll, IsBlockSpan}
 use Rattle.fish_lanes.specs.Controlling.{HasControlled, IsFound}
 use Rattle.fish_lanes.specs.Course.{HasFoundEnd, HasRunLanes}
+use Rattle.fish_lanes.specs.Pending.{AreFound}
 use Rattle.fish_lanes.specs.Registering.{AreSo, IsSo, KnowsEach, KnowsRegistry, Registry, after, after_all, registry_of}
 use Rattle.fish_lanes.specs.Registering.{waiting_id}
 use Rattle.fish_lanes.specs.Spans.{Span}
@@ -23,6 +25,7 @@ use Rattle.fish_registry.specs.Changing.{Changes}
 use Rattle.fish_registry.specs.Knowing.{Knows}
 use Rattle.fish_registry.specs.declared.registrar.Registrar.{Registrar}
 use Rattle.fish_report.specs.declared.item.Item.TheVariants as item
+use Rattle.fish_rule.proofs.laws.Clocks.{later_both}
 use Rattle.fish_rule.proofs.laws.Learning.{learns_both}
 use Rattle.fish_rule.specs.Logs.{Learns}
 use Rattle.fish_rule.specs.LoadSteps.{IsAlone}
@@ -129,21 +132,35 @@ module _ {log : Log} {v u t : View} {r q s : Registrar} {first first' : Lane} {o
   behind_items : first'.fault ≡ cause.None → registry_of u q ≡ after_all (registry_of v r) first'.items
   behind_items none = same_taken ∙ controlled.is none ∙ ap (λ (z : Registry). after_all z first'.items) same_start
 
-  known_items : first'.fault ≡ cause.None → KnowsEach lanes.ran (registry_of v r) first'.items
-  known_items none = subst (λ (z : Registry). KnowsEach lanes.ran z first'.items) same_start (controlled.each none)
+  known_items : KnowsEach lanes.ran (registry_of v r) first'.items
+  known_items = subst (λ (z : Registry). KnowsEach lanes.ran z first'.items) same_start controlled.each
+
+  known_end : KnowsEach t (registry_of v r) first'.items
+  known_end = each_later lanes.ran t (registry_of v r) first'.items learns_ran known_items
+
+  -- the looks of the first lane were made in the block
+  found_end : AreFound v.clock t.clock (registry_of v r) first'.items
+  found_end = found_within v.clock lanes.run.main.clock lanes.ran.clock t.clock (registry_of v r) first'.items
+      lanes.run.gives.clock
+      (subst (λ (z : Registry). AreFound lanes.run.main.clock lanes.ran.clock z first'.items) same_start controlled.found)
+      (later_both lanes.ran.clock u.clock t.clock lanes.back.takes.clock
+      (later_both u.clock ended.bound.clock t.clock ended.changes.clock ended.settles.clock))
 
   -- the definitions are those that the items tell, and the boundary that was found, if one was
   told_with : (bound : Option Boundary) → IsFound u q ended.bound s bound
       → HasRegistered v t r s first' (record { to = end.to; bound = bound })
   told_with None found = record {
+    found = found_end;
+    known = known_end;
     so = so_items;
     whole = λ none k span. subst (AreSo k.from (k.to + 16) (registry_of v r)) (sym (append-nil first'.items)) (so_items k span);
     is = λ none. same_end ∙ found ∙ behind_items none ∙ ap (after_all (registry_of v r)) (sym (append-nil first'.items));
-    each = λ none. subst (KnowsEach t (registry_of v r)) (sym (append-nil first'.items))
-        (each_later lanes.ran t (registry_of v r) first'.items learns_ran (known_items none));
+    each = λ none. subst (KnowsEach t (registry_of v r)) (sym (append-nil first'.items)) known_end;
     settled = ended.unset;
   }
   told_with (Some b) found = record {
+    found = found_end;
+    known = known_end;
     so = so_items;
     whole = λ none k span.
         let n = near k span in
@@ -164,9 +181,9 @@ module _ {log : Log} {v u t : View} {r q s : Registrar} {first first' : Lane} {o
         let known_u : KnowsRegistry u (registry_of u q) =
         subst (KnowsRegistry u) (sym (behind_items none))
         (each_last u (registry_of v r) first'.items
-        (each_later lanes.ran u (registry_of v r) first'.items lanes.back.takes.learns (known_items none))) in
+        (each_later lanes.ran u (registry_of v r) first'.items lanes.back.takes.learns known_items)) in
         each_more t (registry_of v r) first'.items (item.Bound b.id b.from)
-        (each_later lanes.ran t (registry_of v r) first'.items learns_ran (known_items none))
+        known_end
         (subst (λ (z : Registry). KnowsRegistry t (after z (item.Bound b.id b.from))) (behind_items none)
         (registry_later ended.bound t (after (registry_of u q) (item.Bound b.id b.from)) ended.settles.learns
         (found.knows known_u)));

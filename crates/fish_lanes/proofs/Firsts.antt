@@ -1,6 +1,6 @@
 -- The first lane of a block, and the others.
 use Rattle.std.proofs.Common.{◌≡◌, ℕ, ◌+◌, zero, suc, List, [], ◌∷◌, ◌++◌, get_or, set, take, drop, refl, subst, arith, Some, slice_get}
-use Rattle.std.proofs.Common.{◌∙◌, ◌⊎◌, ⊎_elim, None, ap, inl, inr, length}
+use Rattle.std.proofs.Common.{◌∙◌, None, ap, length, sym}
 use Rattle.std.specs.Prelude.{All}
 use Rattle.fish_catalog.specs.declared.entry.Entry.{Entry}
 use Rattle.fish_catalog.specs.declared.row.CatRow.{CatRow}
@@ -53,36 +53,6 @@ others_new v from (x ∷ lanes) e h = record {
   free = λ i y at. h.free (suc i) y (omega arith) at;
 }
 
--- what both tell is told of all
-pub tells_both : (s : Span) (x : Lane) (lanes others : List Lane) (v : View) (log : List Entry) → AreLanes lanes
-    → TellsFirst s x v log → TellsOthers s others v log
-    → (i : ℕ) (z : Lane) → slice_get (set (take 1 lanes) 0 x ++ others) i ≡ Some z
-    → TellsLane v s log (rows_of_lane log s.from s.to (i + 1)) z.works z.items
-tells_both s x [] others v log h here rest i z at = (let some_ = h.some in absurd (omega arith))
-tells_both s x (y ∷ lanes) others v log h here rest zero z at =
-    subst (λ (w : Lane). TellsFirst s w v log) (some_once x z at) here
-tells_both s x (y ∷ lanes) others v log h here rest (suc i) z at =
-    subst (λ (n : ℕ). TellsLane v s log (rows_of_lane log s.from s.to n) z.works z.items)
-    (let same : i + 2 ≡ suc i + 1 = omega arith in same) (rest i z at)
-
--- and the same of marks
-pub marks_both : (t : View) (x : Lane) (lanes others : List Lane) → AreLanes lanes → AllOf (IsMarkItem t) x.items
-    → NameMarks t others
-    → (i : ℕ) (z : Lane) → slice_get (set (take 1 lanes) 0 x ++ others) i ≡ Some z → AllOf (IsMarkItem t) z.items
-marks_both t x [] others h first rest i z at = (let some_ = h.some in absurd (omega arith))
-marks_both t x (y ∷ lanes) others h first rest zero z at =
-    subst (λ (w : Lane). AllOf (IsMarkItem t) w.items) (some_once x z at) first
-marks_both t x (y ∷ lanes) others h first rest (suc i) z at = rest i z at
-
--- and that they ended
-pub ended_both : (x : Lane) (lanes others : List Lane) → AreLanes lanes → IsEnded x.works x.items x.fault
-    → AreEnded others
-    → (i : ℕ) (z : Lane) → slice_get (set (take 1 lanes) 0 x ++ others) i ≡ Some z → IsEnded z.works z.items z.fault
-ended_both x [] others h first rest i z at = (let some_ = h.some in absurd (omega arith))
-ended_both x (y ∷ lanes) others h first rest zero z at =
-    subst (λ (w : Lane). IsEnded w.works w.items w.fault) (some_once x z at) first
-ended_both x (y ∷ lanes) others h first rest (suc i) z at = rest i z at
-
 -- none of them has a pass
 pub vacant_both : (x d : Lane) (lanes others : List Lane) → AreLanes lanes → x.seat ≡ (get_or (take 1 lanes) 0 d).seat
     → AreVacant lanes → AreVacant others → AreVacant (set (take 1 lanes) 0 x ++ others)
@@ -112,38 +82,8 @@ pub others_many : (lanes : List Lane) → AreLanes lanes → length lanes ≡ le
 others_many [] h = (let some_ = h.some in absurd (omega arith))
 others_many (x ∷ lanes) h = omega arith
 
--- what shuts the pass did so before, or an item of one of them tells of it
-pub shuts_both : (v t : View) (x : Lane) (lanes others : List Lane) → AreLanes lanes
-    → (x.fault ≡ cause.None → At (λ i y. y.fault ≡ cause.None) others → (c : Shut) → t.shut ≡ Some c
-    → (v.shut ≡ Some c) ⊎ (TellsClaim c x.items ⊎ IsFullIn others c.line c.lines c.end))
-    → TellsShutBy v t (set (take 1 lanes) 0 x ++ others)
-shuts_both v t x [] others h by none c e = (let some_ = h.some in absurd (omega arith))
-shuts_both v t x (y ∷ lanes) others h by none c e =
-    ⊎_elim (λ (k : v.shut ≡ Some c). inl k)
-    (λ (k : TellsClaim c x.items ⊎ IsFullIn others c.line c.lines c.end).
-    ⊎_elim (λ (q : TellsClaim c x.items). inr (record {
-      at = 0;
-      lane = x;
-      lane_is = refl;
-      file = q.0;
-      stored = q.1;
-      refused = q.2;
-      among = q.3;
-    })) (λ (q : IsFullIn others c.line c.lines c.end). inr (record {
-      at = suc q.at;
-      lane = q.lane;
-      lane_is = q.lane_is;
-      file = q.file;
-      stored = q.stored;
-      refused = q.refused;
-      among = q.among;
-    })) k) (by (none 0 x refl) (λ i z at. none (suc i) z at) c e)
-
--- what the items of all of them say of plans
-pub plans_both : (v : View) (r : Registry) (rows : List CatRow) (from : ℕ) (x : Lane) (lanes others : List Lane) → AreLanes lanes
-    → AreSoPlans v r rows from x.works x.items → LanesSayPlans v r rows from others
-    → LanesSayPlans v r rows from (set (take 1 lanes) 0 x ++ others)
-plans_both v r rows from x [] others h first rest i z at = (let some_ = h.some in absurd (omega arith))
-plans_both v r rows from x (y ∷ lanes) others h first rest zero z at =
-    subst (λ (w : Lane). AreSoPlans v r rows from w.works w.items) (some_once x z at) first
-plans_both v r rows from x (y ∷ lanes) others h first rest (suc i) z at = rest i z at
+-- the lanes again, which were taken apart
+pub lanes_again : (front lanes : List Lane) (x : Lane) (others : List Lane) → AreLanes lanes → front ≡ take 1 lanes
+    → x ∷ others ≡ set front 0 x ++ others
+lanes_again front [] x others h is = (let some_ = h.some in absurd (omega arith))
+lanes_again front (y ∷ lanes) x others h is = ap (λ (z : List Lane). set z 0 x ++ others) (sym is)

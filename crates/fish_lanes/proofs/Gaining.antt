@@ -17,6 +17,7 @@ use Rattle.fish_rule.proofs.laws.Regions.{starts_rise}
 use Rattle.fish_rule.proofs.laws.Lists.{all_among}
 use Rattle.fish_rule.proofs.laws.Learning.{learns_both, learns_self}
 use Rattle.fish_rule.proofs.laws.ChainFacts.{always_later}
+use Rattle.fish_rule.proofs.laws.Clocks.{later_both, later_self}
 use Rattle.fish_rule.specs.Facts.{IsFound, IsShut, ShutOk}
 use Rattle.fish_rule.specs.LoadSteps.{IsAlone}
 use Rattle.fish_rule.specs.Logs.{Learns}
@@ -33,7 +34,7 @@ use Rattle.fish_walk.specs.Settling.{OnlySettles}
 -- nothing is gained at first
 pub gains_self : (v : View) → v.epoch ≡ Out → v.flight ≡ None → Gains v v []
 gains_self v outside idle = record {
-  on = record { learns = learns_self v; lane = refl; out = refl };
+  on = record { learns = learns_self v; clock = later_self v.clock; lane = refl; out = refl };
   outside = outside;
   idle = idle;
   own = sym (append-nil v.own);
@@ -48,6 +49,7 @@ pub gains_both : (a b c : View) (xs ys : List LaneRow) → Gains a b xs → Gain
 gains_both a b c xs ys p q = record {
   on = record {
     learns = learns_both a b c p.on.learns q.on.learns;
+    clock = later_both a.clock b.clock c.clock p.on.clock q.on.clock;
     lane = q.on.lane ∙ p.on.lane;
     out = q.on.out ∙ p.on.out;
   };
@@ -66,6 +68,7 @@ gains_both a b c xs ys p q = record {
 keeps_ingests : (v u : View) → OnlyIngests v u → KeepsLane v u
 keeps_ingests v u h = record {
   learns = h.learns;
+  clock = h.clock;
   lane = ap (λ (z : View). z.lane) h.frame;
   out = ap (λ (z : View). z.out) h.frame;
 }
@@ -104,7 +107,12 @@ gains_left v u h keeps marks = record {
 -- by a scan
 pub gains_scans : (v u : View) → v.epoch ≡ Out → v.flight ≡ None → OnlyScans v u → Gains v u []
 gains_scans v u outside idle h = record {
-  on = record { learns = h.learns; lane = ap (λ (z : View). z.lane) h.frame; out = ap (λ (z : View). z.out) h.frame };
+  on = record {
+    learns = h.learns;
+    clock = h.clock;
+    lane = ap (λ (z : View). z.lane) h.frame;
+    out = ap (λ (z : View). z.out) h.frame;
+  };
   outside = h.outside outside;
   idle = ap (λ (z : View). z.flight) h.frame ∙ idle;
   own = ap (λ (z : View). z.own) h.frame ∙ sym (append-nil v.own);
@@ -117,7 +125,12 @@ gains_scans v u outside idle h = record {
 -- by a call that settles
 pub gains_settles : (v u : View) → v.epoch ≡ Out → v.flight ≡ None → OnlySettles v u → Gains v u []
 gains_settles v u outside idle h = record {
-  on = record { learns = h.learns; lane = ap (λ (z : View). z.lane) h.frame; out = ap (λ (z : View). z.out) h.frame };
+  on = record {
+    learns = h.learns;
+    clock = h.clock;
+    lane = ap (λ (z : View). z.lane) h.frame;
+    out = ap (λ (z : View). z.out) h.frame;
+  };
   outside = ap (λ (z : View). z.epoch) h.frame ∙ outside;
   idle = ap (λ (z : View). z.flight) h.frame ∙ idle;
   own = ap (λ (z : View). z.own) h.frame ∙ sym (append-nil v.own);

@@ -10,15 +10,19 @@ use Rattle.fish_lanes.specs.Blocks.{IsNewLane, IsOfLane, IsSeated, IsShutOfLane}
 use Rattle.fish_lanes.specs.Running.{CanBegin, HasDone, IsFree, IsReady}
 use Rattle.fish_lanes.specs.declared.lane.Lane.{Lane}
 use Rattle.fish_lanes.specs.declared.lane.Seated.{Seated}
+use Rattle.fish_rule.proofs.laws.Clocks.{later_both, later_noted, later_self, later_ticked}
 use Rattle.fish_rule.proofs.laws.Lists.{among_either}
 use Rattle.fish_rule.proofs.laws.Learning.{learns_both, learns_self}
 use Rattle.fish_rule.proofs.laws.Lists.{of_lane_sound, off_lane_sound, without_complete, without_sound}
+use Rattle.fish_rule.specs.Clocks.{IsLater}
 use Rattle.fish_rule.specs.Logs.{Learns}
 use Rattle.fish_rule.specs.Passes.{view}
 use Rattle.fish_rule.specs.SeatSteps.{CanSplitPass, first_shut, split_left, split_right, without}
+use Rattle.fish_rule.specs.SpaceSteps.{ticked}
 use Rattle.fish_rule.specs.Views.{Among}
 use Rattle.fish_rule.specs.declared.table.Log.{Log}
 use Rattle.fish_rule.specs.declared.view.Key.{Key}
+use Rattle.fish_rule.specs.declared.view.Noted.TheVariants.{Tail}
 use Rattle.fish_rule.specs.declared.view.Shut.{Shut}
 use Rattle.fish_rule.specs.declared.view.View.{View}
 
@@ -31,6 +35,7 @@ given_none v lanes h = record {
   outside = h.outside;
   about = refl;
   learned = refl;
+  clock = later_self v.clock;
   shut = refl;
   registry = keeps_self v;
   own = λ o m. m;
@@ -55,6 +60,7 @@ given_more v m u i l at h e = subst (λ (z : View). HasGiven v z (i + 1)) (sym e
   outside = h.outside;
   about = h.about;
   learned = h.learned;
+  clock = later_both v.clock m.clock (ticked m.clock) h.clock (later_ticked m.clock);
   shut = h.shut;
   registry = record { rows = h.registry.rows; main_words = h.registry.main_words; round = h.registry.round };
   own = λ o n. h.own o (off_lane_sound l o m.own n).0;
@@ -130,6 +136,9 @@ taken_none log m lanes h = record {
   learned = λ i x s below. absurd (omega arith);
   own = λ o n. inl n;
   shut = λ s n. inl n;
+  keeps = λ s e. e;
+  shuts = λ i x seat s below. absurd (omega arith);
+  clock = later_self m.clock;
   out_of = λ l n. let b = h.out_of l n in let p = b.0 in (omega arith, b.1);
   all_out = λ l above below. h.all_out l (omega arith) below;
   none = λ zero_is. refl;
@@ -204,6 +213,12 @@ taken_more log m u t lanes i x joined h at by =
             seat_is = b.seat_is;
             shut_is = same;
           }) (sym (ap (λ (y : View). y.shut) e) ∙ n);
+      keeps = λ z n. ap (λ (y : View). y.shut) e ∙ first_kept u.shut (view b.seat.pass).shut z (h.keeps z n);
+      shuts = λ j y seat z below at_y seat_y n. subst IsClaim (sym (ap (λ (y : View). y.shut) e))
+          (shut_here j y seat z below at_y seat_y n (dec_lt j i));
+      clock = later_both m.clock u.clock t.clock h.clock
+          (subst (IsLater u.clock) (sym (ap (λ (z : View). z.clock) e))
+          (later_both u.clock (ticked u.clock) _ (later_ticked u.clock) (later_noted (ticked u.clock) Tail s.found)));
       out_of = λ l n.
           let w = without_sound (view b.seat.pass).lane l u.out (subst (Among l) out n) in
           let k = h.out_of l w.0 in
@@ -215,6 +230,29 @@ taken_more log m u t lanes i x joined h at by =
       none = λ zero_is. absurd (omega arith);
     }
   where
+    IsClaim : Option Shut → Type 0
+    IsClaim a = (s : Shut) × (a ≡ Some s)
+
+    first_kept : (a c : Option Shut) (z : Shut) → a ≡ Some z → first_shut a c ≡ Some z
+    first_kept None c z same = absurd cc
+    first_kept (Some y) c z same = same
+
+    first_some : (a c : Option Shut) → IsClaim a ⊎ IsClaim c → IsClaim (first_shut a c)
+    first_some None c (inl k) = absurd (let bad = k.1 in cc)
+    first_some None c (inr k) = k
+    first_some (Some y) c k = (y, refl)
+
+    shut_here : (j : ℕ) (y : Lane) (seat : Seated) (z : Shut) → j < i + 1 → slice_get lanes j ≡ Some y → y.seat ≡ Some seat
+        → (view seat.pass).shut ≡ Some z → Dec (j < i) → IsClaim (first_shut u.shut (view (joined.back i x at).seat.pass).shut)
+    shut_here j y seat z below at_y seat_y n (yes less) =
+        first_some u.shut (view (joined.back i x at).seat.pass).shut (inl (h.shuts j y seat z less at_y seat_y n))
+    shut_here j y seat z below at_y seat_y n (no not_less) =
+        let b = joined.back i x at in
+        let same : j ≡ i = omega arith in
+        let here : y ≡ x = some_once y x (sym at_y ∙ ap (slice_get lanes) same ∙ at) in
+        let seat_is : seat ≡ b.seat = some_once seat b.seat (sym seat_y ∙ ap (λ (w : Lane). w.seat) here ∙ b.seat_is) in
+        first_some u.shut (view b.seat.pass).shut (inr (z, ap (λ (w : Seated). (view w.pass).shut) (sym seat_is) ∙ n))
+
     shut_cases : (z : Shut) (a c : Option Shut) → (a ≡ Some z → (m.shut ≡ Some z) ⊎ IsShutOfLane lanes i z)
         → (c ≡ Some z → IsShutOfLane lanes (i + 1) z) → first_shut a c ≡ Some z
         → (m.shut ≡ Some z) ⊎ IsShutOfLane lanes (i + 1) z

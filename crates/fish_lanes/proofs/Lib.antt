@@ -17,6 +17,7 @@ pub mod Lanes
 pub mod Lists
 pub mod Logs
 pub mod Moments
+pub mod Pending
 pub mod Plans
 pub mod Publishing
 pub mod Parts

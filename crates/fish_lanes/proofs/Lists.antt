@@ -1,9 +1,9 @@
 -- Lanes at their places.
 use Rattle.std.proofs.Common.{◌≡◌, ◌≢◌, ℕ, ◌<◌, zero, suc, List, [], ◌∷◌, ◌++◌, length, set, get_or, refl, ap, inl, arith, Some}
-use Rattle.std.proofs.Common.{slice_get, sym, ◌∙◌, Bool, true, false}
+use Rattle.std.proofs.Common.{slice_get, sym, subst, ◌∙◌, Bool, true, false}
 use Rattle.std.specs.Prelude.{filter}
 use Rattle.std.proofs.lemmas.Option.{slice_get_read}
-use Rattle.fish_rule.specs.Views.{Among}
+use Rattle.fish_rule.specs.Views.{AllOf, Among}
 
 module _ {A : Type 0} where
   pub some_once : (a b : A) → Some a ≡ Some b → a ≡ b
@@ -20,6 +20,17 @@ module _ {A : Type 0} where
   get_set_else (y ∷ xs) zero (suc j) x ne = refl
   get_set_else (y ∷ xs) (suc i) zero x ne = refl
   get_set_else (y ∷ xs) (suc i) (suc j) x ne = get_set_else xs i j x (λ e. ne (ap suc e))
+
+  -- what is so of each, and of one more
+  pub all_more : (P : A → Type 0) (xs : List A) (x : A) → AllOf P xs → P x → AllOf P (xs ++ x ∷ [])
+  all_more P [] x h one = (one, tt)
+  all_more P (y ∷ xs) x h one = (h.0, all_more P xs x h.1 one)
+
+  -- what is so of the first, and of the others at their places
+  pub at_places : (P : ℕ → A → Type 0) (x : A) (xs : List A) → P 0 x → ((i : ℕ) (y : A) → slice_get xs i ≡ Some y → P (suc i) y)
+      → (i : ℕ) (y : A) → slice_get (x ∷ xs) i ≡ Some y → P i y
+  at_places P x xs here rest zero y at = subst (P 0) (some_once x y at) here
+  at_places P x xs here rest (suc i) y at = rest i y at
 
 -- a list that has nothing is empty
 pub empty_list : (xs : List ℕ) → ((x : ℕ) → ¬ Among x xs) → xs ≡ []

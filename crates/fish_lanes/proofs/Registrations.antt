@@ -20,7 +20,7 @@ use Rattle.fish_lanes.proofs.Keeping.{keeps_scans}
 use Rattle.fish_lanes.proofs.Versions.{same_version}
 use Rattle.fish_lanes.specs.Controlling.{Does, KnowsAll, TellsBegun, WaitsFor}
 use Rattle.fish_lanes.specs.Gains.{Gains}
-use Rattle.fish_lanes.specs.Registering.{KeepsRegistry, KnowsRegistry, Registry, begun, bound, registry_of, waiting_id}
+use Rattle.fish_lanes.specs.Registering.{KeepsRegistry, KnowsRegistry, Registry, after, after_all, begun, bound, registry_of, waiting_id}
 use Rattle.fish_lang.specs.Canonical.{definition_text}
 use Rattle.fish_lang.specs.Definition.{definition_of}
 use Rattle.fish_lang.specs.declared.definition.Def.{Def}
@@ -28,17 +28,19 @@ use Rattle.fish_epoch.specs.Rows.{OnlyReads}
 use Rattle.fish_registry.proofs.Changing.{changes_stays, learns_changes}
 use Rattle.fish_registry.proofs.Knowing.{knows_on}
 use Rattle.fish_registry.specs.Changing.{Changes, Stays}
-use Rattle.fish_registry.specs.Knowing.{IsWaiting, IsWaitingFor, Knows}
+use Rattle.fish_registry.specs.Knowing.{Awaits, IsAwaited, IsWaiting, IsWaitingFor, Knows}
 use Rattle.fish_registry.specs.Looking.{at_lane}
 use Rattle.fish_registry.specs.Refusing.{HasBegun}
 use Rattle.fish_registry.specs.declared.registrar.Registrar.{Registrar}
 use Rattle.fish_registry.specs.declared.registrar.Waiting.{Waiting}
+use Rattle.fish_report.specs.declared.item.Item.{Item}
 use Rattle.fish_report.specs.declared.item.Item.TheVariants as item
 use Rattle.fish_rule.proofs.laws.Clocks.{later_both}
 use Rattle.fish_rule.proofs.laws.Learning.{learns_both}
 use Rattle.fish_rule.proofs.laws.Versions.{has_read}
 use Rattle.fish_rule.specs.Logs.{Learns}
 use Rattle.fish_rule.specs.Registry.{KnowsDefinitions, definitions_at, version_in}
+use Rattle.fish_rule.specs.Rounds.{IsRound, Waits}
 use Rattle.fish_rule.specs.Table.{Stands}
 use Rattle.fish_rule.specs.declared.view.Epoch.TheVariants.{Out}
 use Rattle.fish_rule.specs.declared.view.View.{View}
@@ -49,6 +51,7 @@ pub gains_changes : (v u : View) → v.epoch ≡ Out → v.flight ≡ None → C
 gains_changes v u outside idle h = record {
   on = record {
     learns = learns_changes v u h;
+    clock = h.clock;
     lane = ap (λ (z : View). z.lane) h.frame;
     out = ap (λ (z : View). z.out) h.frame;
   };
@@ -122,6 +125,24 @@ begun_is u t r s name def id h =
     let rows : s.catalog ≡ r.catalog ++ new_row id name text ∷ [] =
     h.rows ∙ ap (λ (n : ℕ). r.catalog ++ new_row n name text ∷ []) (sym h.is_id) in
     λ i. record { rows = rows i; waiting = waiting_id (h.waits i); version = version i }
+
+-- the registry behind one item more
+pub after_more : (r : Registry) (items : List Item) (x : Item) → after_all r (items ++ x ∷ []) ≡ after (after_all r items) x
+after_more r [] x = refl
+after_more r (y ∷ items) x = after_more (after r y) items x
+
+-- the version of a registration that waits was made
+pub waiting_made : (v : View) (r : Registrar) (w : Waiting) → Stands v → Knows v r → r.waiting ≡ Some w → w.version ≤ v.learned.version
+waiting_made v r w s k is =
+    let m = s.moment in
+    let stays = s.rule.registry.each s.seat v s.at in
+    let main = (stays.main k.main).version in
+    let a : IsAwaited v w = subst (Awaits v) is k.awaits in
+    let round : IsRound v.about m.count m.registry s.rule.state s.rule.version_of v.lane a.round =
+    subst (Waits v.about m.count m.registry s.rule.state s.rule.version_of v.lane) a.waits stays.waits in
+    let reached = round.reached in
+    let version = a.version in
+    omega arith
 
 -- ---- tests of the registrar
 

@@ -1,9 +1,9 @@
 -- What the items of statements that change no definition say of plans.
 use Rattle.std.proofs.Common.{◌≡◌, List, [], ◌∷◌, ◌++◌, length, refl, sym, ap, ◌∙◌, subst, arith}
-use Rattle.fish_lanes.proofs.Controls.{after_more, free_after, plans_on}
+use Rattle.fish_lanes.proofs.Controls.{free_after, plans_on}
 use Rattle.fish_lanes.proofs.Covering.{read_later}
 use Rattle.fish_lanes.proofs.Plans.{fit_so, plans_longer, plans_more}
-use Rattle.fish_lanes.proofs.Registrations.{registry_later}
+use Rattle.fish_lanes.proofs.Registrations.{after_more, registry_later}
 use Rattle.fish_lanes.specs.Doing.{IsFit}
 use Rattle.fish_lanes.specs.Plans.{TellsPlans}
 use Rattle.fish_lanes.specs.Registering.{Registry, after, after_all}

@@ -10,7 +10,7 @@ use Rattle.fish_epoch.proofs.Reading.{knows_later}
 use Rattle.fish_epoch.specs.Definitions.{rows_of, version_of}
 use Rattle.fish_epoch.specs.declared.definitions.Known.{Known}
 use Rattle.fish_lanes.proofs.Covering.{cover_by}
-use Rattle.fish_lanes.specs.Controlling.{TellsTail}
+use Rattle.fish_lanes.specs.Controlling.{RollsBy, TellsTail}
 use Rattle.fish_lanes.specs.Doing.{FitsExplained, FitsRefused, FitsScanned, IsFit, IsRefusedAt}
 use Rattle.fish_lanes.specs.Ending.{HasEnd}
 use Rattle.fish_lanes.specs.Loading.{LoadsWithin}
@@ -318,9 +318,11 @@ end_closed name (Ok x) (inl f) = subst NamesNone (sym f.2) tt
 end_closed name (Ok x) (inr f) = subst NamesNone (sym f.1) tt
 end_closed name (Err e) f = tt
 
-pub closed_more : (items : List Item) (x : Item) → AllOf NamesNone items → NamesNone x → AllOf NamesNone (items ++ x ∷ [])
-closed_more [] x h one = (one, tt)
-closed_more (y ∷ items) x h one = (h.0, closed_more items x h.1 one)
+-- nor of a registration that waits
+pub end_rolls : {E : Type 0} (v t : View) (name : List ℕ) (r : Result Item E) → IfOk r (IsDeregisterItem name) → IfOk r (RollsBy v t)
+end_rolls v t name (Ok x) (inl f) = subst (RollsBy v t) (sym f.2) tt
+end_rolls v t name (Ok x) (inr f) = subst (RollsBy v t) (sym f.1) tt
+end_rolls v t name (Err e) f = tt
 
 -- ---- lists of one statement
 
@@ -357,7 +359,7 @@ only_end v m w u p t rows end works after items given taken changes settles same
 -- the range is whole
 single_whole : (v u : View) (rows : List CatRow) (end : ℕ) (w : Work) (x : Item) → TellsSingle v u rows end w x
     → TellsWhole rows v.shut end w x
-single_whole v u rows end (work.Scan ask) x (inl h) = subst (TellsWhole rows v.shut end (work.Scan ask)) (sym h.is) h.plan.whole
+single_whole v u rows end (work.Scan ask) x (inl h) = subst (TellsWhole rows v.shut end (work.Scan ask)) (sym h.is) (h.answer.plan, h.plan)
 single_whole v u rows end (work.Scan ask) x (inr h) = subst (TellsWhole rows v.shut end (work.Scan ask)) (sym h.is) h.tells
 single_whole v u rows end (work.Explain ask) x (inl h) = subst (TellsWhole rows v.shut end (work.Explain ask)) (sym h.is) h.plan
 single_whole v u rows end (work.Explain ask) x (inr h) = subst (TellsWhole rows v.shut end (work.Explain ask)) (sym h.is) h.tells

@@ -13,10 +13,11 @@ use Rattle.fish_rule.proofs.laws.ClosedLogs.{always_closed}
 use Rattle.fish_rule.proofs.laws.Moments.{before_mark, claimed, entry_word, stored_by}
 use Rattle.fish_rule.proofs.laws.Learning.{learns_both, learns_self}
 use Rattle.fish_rule.proofs.laws.Regions.{published}
+use Rattle.fish_rule.specs.ChainFacts.{Always}
 use Rattle.fish_rule.specs.Logs.{IsEntry, Learns, Tells, TellsMark}
 use Rattle.fish_rule.specs.ClosedLog.{IsClosed}
 use Rattle.fish_rule.specs.declared.close.Remains.{Remains}
-use Rattle.fish_rule.specs.Parts.{Rests}
+use Rattle.fish_rule.specs.Parts.{IsEntryWord, Rests}
 use Rattle.fish_rule.specs.Regions.{code}
 use Rattle.fish_rule.specs.Table.{Stands}
 use Rattle.fish_rule.specs.Views.{Among, Has}
@@ -24,6 +25,7 @@ use Rattle.fish_rule.specs.World.{World, high, low}
 use Rattle.fish_rule.specs.declared.view.Kind.TheVariants.{Mark, Stored}
 use Rattle.fish_rule.specs.declared.view.Own.{Own}
 use Rattle.fish_rule.specs.declared.view.View.{View}
+use Rattle.fish_value.specs.declared.field.Form.{Form}
 
 -- ---- what is sure stays sure
 
@@ -99,6 +101,11 @@ closed_length v to remains h c =
 
 -- ---- a pass that knows the end
 
+-- it has counted up to there
+end_counted : (u : View) (to : ℕ) (end : HasEnd u to) → to ≤ end.count
+end_counted u to end = ⊎_elim (λ (e : to ≡ end.count). omega arith)
+    (λ (m : (to < end.count) × TellsMark u to). let a = m.0 in omega arith) end.ends
+
 -- its own records lie before it
 pub own_before : (v : View) (to : ℕ) (o : Own) → Stands v → HasEnd v to → Among o v.own → o.number < to
 own_before v to o s h m =
@@ -120,12 +127,12 @@ own_before v to o s h m =
       unmarked = λ bad. let st = by.stored in omega arith;
     })) h.ends
 
--- an entry that is told and counted lies before it
-pub told_before : (v : View) (to n : ℕ) (e : Entry) → Stands v → HasEnd v to → Tells v n e → n < to
-told_before v to n e s h tells =
+-- what is known to be an entry lies before it
+pub entry_before : (v : View) (to n : ℕ) → Stands v → HasEnd v to → Always v (λ k w. IsEntryWord (w.dir n)) → n < to
+entry_before v to n s h known =
     let w : World = s.moment in
     let r = s.rule in
-    let word = entry_word w n e (tells v (learns_self v) w r s.seat s.at) in
+    let word = known v (learns_self v) w r s.seat s.at in
     let below = claimed r n word.published in
     let t = h.tail in
     let rests : Rests w.count w.line (Some (record { number = high t.0; line = low t.0 })) =
@@ -136,6 +143,35 @@ told_before v to n e s h tells =
     ⊎_elim (λ (e : to ≡ h.count). omega arith)
     (λ (m : (to < h.count) × TellsMark v to).
     before_mark r to n (omega arith) (m.1 v (learns_self v) w r s.seat s.at) word) h.ends
+
+-- and so does an entry that is told
+pub told_before : (v : View) (to n : ℕ) (e : Entry) → Stands v → HasEnd v to → Tells v n e → n < to
+told_before v to n e s h tells = entry_before v to n s h (λ u learns w r seat at. entry_word w n e (tells u learns w r seat at))
+
+-- ---- the records of all lanes
+
+-- a record between the end before a block and the end behind it is of a lane of which the control pass has a record there
+pub will_own : (u : View) (from to many : ℕ) → HasEnd u to
+    → ((o : Own) → Among o u.own → (o.number < from) ⊎ (o.lane ≤ many))
+    → Will u (λ x log. (n lane : ℕ) (form : Form) (payload : List ℕ) → from ≤ n → n < to
+    → slice_get log n ≡ Some (entry.Stored lane form payload) → (1 ≤ lane) × (lane ≤ many))
+will_own u from to many end all x remains base main none later c n lane form payload above below is =
+    let e = entry_at c.rule remains.log base c.log n (entry.Stored lane form payload) is in
+    let proper = e.1.spells.proper in
+    let lane_is = e.1.lane_is in
+    let some_ : 1 ≤ lane = (let a = proper.some_lane in omega arith) in
+    let few : lane ≤ 16 = (let a = proper.lane in omega arith) in
+    let by = stored_by c.rule n lane form payload (omega arith) e in
+    let o : Own = record { lane = lane; number = n } in
+    let has : Has x.lane x.out lane = (some_, few, inr (main, λ m. elim (subst (Among lane) none m) [ ])) in
+    let own : Among o x.own = c.owns.complete o has by in
+    let counted = end.counted in
+    let ends = end_counted u to end in (
+      some_,
+      ⊎_elim
+          (λ (m : Among o u.own). ⊎_elim (λ (less : n < from). absurd (omega arith)) (λ (h : lane ≤ many). h) (all o m))
+          (λ (late : u.learned.count ≤ n). absurd (omega arith)) (later.gained o own),
+    )
 
 -- ---- the rows of a lane
 
@@ -170,7 +206,3 @@ will_rows u lane from to low_ high_ rows s end some_ few within from_ told up al
     ⊎_elim
     (λ (m : Among o u.own). ⊎_elim (λ (less : n < from). absurd (omega arith)) (λ (h : HasNumber n rows). h) (all o m refl))
     (λ (late : u.learned.count ≤ n). absurd (omega arith)) (later.gained o own))
-  where
-    end_counted : (u : View) (to : ℕ) (end : HasEnd u to) → to ≤ end.count
-    end_counted u to end = ⊎_elim (λ (e : to ≡ end.count). omega arith)
-        (λ (m : (to < end.count) × TellsMark u to). let a = m.0 in omega arith) end.ends

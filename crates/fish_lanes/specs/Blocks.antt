@@ -1,15 +1,17 @@
 -- The lanes of a block: how the control pass gives each its pass, what they do, and how it takes the passes back.
 use Rattle.std.specs.Prelude.{ℕ, ◌≡◌, ◌⊎◌, ◌+◌, ◌++◌, ◌<◌, ◌≤◌, List, [], All, length, slice_get, slice_index_or, Some, None}
 use Rattle.fish_catalog.specs.declared.entry.Entry.{Entry}
+use Rattle.fish_catalog.specs.declared.entry.Entry.TheVariants as entry
 use Rattle.fish_lanes.specs.Controlling.{HasControlled, bound_items}
 use Rattle.fish_lanes.specs.Ending.{HasEnd}
 use Rattle.fish_lanes.specs.declared.block.BlockEnd.{BlockEnd}
 use Rattle.fish_lanes.specs.declared.work.LaneFault.TheVariants as cause
 use Rattle.fish_registry.specs.declared.registrar.Registrar.{Registrar}
+use Rattle.fish_lanes.specs.Pending.{AreFound}
 use Rattle.fish_lanes.specs.Records.{rows_of_lane}
 use Rattle.fish_lanes.specs.Registering.{AreSo, IsAcceptable, KeepsRegistry, KnowsEach, KnowsRegistry, after_all, registry_of}
 use Rattle.fish_lanes.specs.Running.{CanBegin, HasDone, IsEnded, IsFree, IsReady}
-use Rattle.fish_lanes.specs.Spans.{Span}
+use Rattle.fish_lanes.specs.Spans.{IsAnswer, Span}
 use Rattle.fish_lanes.specs.Telling.{TellsLane}
 use Rattle.fish_lanes.specs.declared.lane.Lane.{Lane}
 use Rattle.fish_lanes.specs.declared.lane.Seated.{Seated}
@@ -17,16 +19,18 @@ use Rattle.fish_rule.specs.Logs.{Learns}
 use Rattle.fish_rule.specs.Passes.{IsPassOf, view}
 use Rattle.fish_rule.specs.LoadSteps.{after_load_tail}
 use Rattle.fish_rule.specs.SeatSteps.{CanJoinPass, join_both}
-use Rattle.fish_lanes.specs.Gains.{IsMarkAt}
+use Rattle.fish_lanes.specs.Gains.{IsMarkAt, WasShut, KeepsShut}
 use Rattle.fish_report.specs.declared.item.Item.{Item}
 use Rattle.fish_report.specs.declared.item.Item.TheVariants as item
 use Rattle.fish_rule.specs.Views.{AllOf, Among}
 use Rattle.fish_rule.specs.ChainFacts.{Always}
+use Rattle.fish_rule.specs.Clocks.{IsLater}
 use Rattle.fish_rule.specs.declared.view.Shut.{Shut}
 use Rattle.fish_rule.specs.declared.table.Log.{Log}
 use Rattle.fish_rule.specs.declared.view.Epoch.TheVariants.{Out}
 use Rattle.fish_rule.specs.declared.view.Own.{Own}
 use Rattle.fish_rule.specs.declared.view.View.{View}
+use Rattle.fish_value.specs.declared.field.Form.{Form}
 
 -- ---- lists of lanes
 
@@ -80,6 +84,7 @@ pub record HasGiven (v m : View) (many : ℕ) : Type 0 where
   pub outside : m.epoch ≡ Out
   pub about : m.about ≡ v.about
   pub learned : m.learned ≡ v.learned
+  pub clock : IsLater v.clock m.clock
   pub shut : m.shut ≡ v.shut
   pub registry : KeepsRegistry v m
   pub own : (o : Own) → Among o m.own → Among o v.own
@@ -202,6 +207,10 @@ pub record HasTakenAll (m u : View) (lanes : List Lane) (many : ℕ) : Type 0 wh
       → Learns (view seat.pass) u
   pub own : (o : Own) → Among o u.own → Among o m.own ⊎ IsOfLane lanes many o
   pub shut : (s : Shut) → u.shut ≡ Some s → (m.shut ≡ Some s) ⊎ IsShutOfLane lanes many s
+  pub keeps : KeepsShut m u
+  pub shuts : (i : ℕ) (x : Lane) (seat : Seated) (s : Shut) → i < many → slice_get lanes i ≡ Some x → x.seat ≡ Some seat
+      → (view seat.pass).shut ≡ Some s → WasShut u
+  pub clock : IsLater m.clock u.clock
   pub out_of : (l : ℕ) → Among l u.out → (many + 2 ≤ l) × (l < length lanes + 2)
   pub all_out : (l : ℕ) → many + 2 ≤ l → l < length lanes + 2 → Among l u.out
   pub none : many ≡ 0 → u ≡ m
@@ -216,9 +225,17 @@ pub record IsBlockSpan (v t : View) (to : ℕ) (s : Span) : Type 0 where
   pub last : t.learned.version ≤ s.last
   pub full : s.full ≡ v.shut
 
--- what a block tells of the one log: each lane's items, of its records between the two ends
-abbrev pub TellsBlock : View → Span → List Entry → List Lane → Type 0
-TellsBlock v s log lanes = At (λ i x. TellsLane v s log (rows_of_lane log s.from s.to (i + 1)) x.works x.items) lanes
+-- every record of the log between the block's ends is of one of so many lanes
+abbrev pub StoresByLanes : Span → List Entry → ℕ → Type 0
+StoresByLanes s log many = (n lane : ℕ) (form : Form) (payload : List ℕ) → s.from ≤ n → n < s.to
+    → slice_get log n ≡ Some (entry.Stored lane form payload) → (1 ≤ lane) × (lane ≤ many)
+
+-- what a block tells of the one log: each lane's items, of its records between the two ends; there no other lane has stored any; and
+-- the log goes up to the block's end
+pub record TellsBlock (v : View) (s : Span) (log : List Entry) (lanes : List Lane) : Type 0 where
+  pub each : At (λ i x. TellsLane v s log (rows_of_lane log s.from s.to (i + 1)) x.works x.items) lanes
+  pub own : StoresByLanes s log (length lanes)
+  pub within : s.to ≤ length log
 
 -- the same of the first lane, and of the others
 abbrev pub TellsFirst : Span → Lane → View → List Entry → Type 0
@@ -231,9 +248,12 @@ TellsOthers s lanes v log = At (λ i x. TellsLane v s log (rows_of_lane log s.fr
 abbrev pub control_items : Lane → BlockEnd → List Item
 control_items x end = x.items ++ bound_items end.bound
 
--- its items are so where they stand; unless the first lane stopped at a fault, the definitions are those that these items
--- tell; and none waits for its boundary
+-- its items are so where they stand, and the definitions that they tell are those of the words; of each that tells of a registration which
+-- waits, the load that found the lane for which it does was made in the block; unless the first lane stopped at a fault, the definitions
+-- behind the block are those that its items tell; and none waits for its boundary
 pub record HasRegistered (v t : View) (r s : Registrar) (x : Lane) (end : BlockEnd) : Type 0 where
+  pub found : AreFound v.clock t.clock (registry_of v r) x.items
+  pub known : KnowsEach t (registry_of v r) x.items
   pub so : (k : Span) → IsBlockSpan v t end.to k → AreSo k.from (k.to + 16) (registry_of v r) x.items
   pub whole : x.fault ≡ cause.None → (k : Span) → IsBlockSpan v t end.to k
       → AreSo k.from (k.to + 16) (registry_of v r) (control_items x end)
@@ -246,9 +266,14 @@ abbrev pub IsMarkItem : View → Item → Type 0
 IsMarkItem u x = (file : List ℕ) (line lines end stored refused : ℕ) → x ≡ item.IngestFull file line lines end stored refused
     → Always u (IsMarkAt line lines) × (end ≡ u.about.end)
 
--- the statements of each lane have items, but for those behind a fault
+-- the statements of the lane at a place have items, but for those behind a fault, and only the first lane tells besides where an index
+-- begins
+pub record IsEndedLane (place : ℕ) (x : Lane) : Type 0 where
+  pub ended : IsEnded x.works x.items x.fault
+  pub answers : 0 < place → AllOf IsAnswer x.items
+
 abbrev pub AreEnded : List Lane → Type 0
-AreEnded lanes = At (λ i x. IsEnded x.works x.items x.fault) lanes
+AreEnded lanes = At IsEndedLane lanes
 
 abbrev pub NameMarks : View → List Lane → Type 0
 NameMarks u lanes = At (λ i x. AllOf (IsMarkItem u) x.items) lanes

@@ -1,9 +1,10 @@
 -- What one step of the control pass on the definitions tells and leaves. Private clauses speak of it.
-use Rattle.std.specs.Prelude.{ℕ, ◌≡◌, ◌⊎◌, ◌<◌, List, [], ◌∷◌, ◌++◌, Option, Some, None, take, ⊤}
+use Rattle.std.specs.Prelude.{ℕ, ◌≡◌, ◌⊎◌, ◌<◌, suc, List, [], ◌∷◌, ◌++◌, Option, Some, None, take, ⊤}
 use Rattle.fish_ingest.specs.Ingestion.{CanStart}
 use Rattle.fish_lanes.specs.Doing.{IsFit}
 use Rattle.fish_lanes.specs.Ending.{HasEnd}
 use Rattle.fish_lanes.specs.Gains.{Gains}
+use Rattle.fish_lanes.specs.Pending.{AreFound, HasFoundOlder}
 use Rattle.fish_lanes.specs.Plans.{PlansAreSoBy}
 use Rattle.fish_lanes.specs.Records.{LaneRow, contents}
 use Rattle.fish_lanes.specs.Registering.{AreSo, IsBetween, IsSo, KnowsEach, KnowsRegistry, after, after_all, bound, registry_of}
@@ -27,11 +28,13 @@ use Rattle.fish_report.specs.declared.item.Item.{Item}
 use Rattle.fish_report.specs.declared.item.Item.TheVariants as item
 use Rattle.fish_report.specs.declared.item.RegisterCause.{RegisterCause}
 use Rattle.fish_report.specs.declared.item.RegisterCause.TheVariants as register
+use Rattle.fish_rule.specs.Clocks.{HasLoaded}
 use Rattle.fish_rule.specs.Passes.{IsPassOf, view}
 use Rattle.fish_rule.specs.LoadSteps.{IsAlone}
 use Rattle.fish_rule.specs.Views.{AllOf}
 use Rattle.fish_rule.specs.declared.table.Log.{Log}
 use Rattle.fish_rule.specs.declared.table.Pass.{Pass}
+use Rattle.fish_rule.specs.declared.view.Noted.TheVariants.{Epoch}
 use Rattle.fish_rule.specs.declared.view.View.{View}
 
 -- the control pass is out, and the registrar's rows are what it knows
@@ -63,6 +66,10 @@ abbrev pub IsFound : View → Registrar → View → Registrar → Option Bounda
 IsFound u r t s None = registry_of t s ≡ registry_of u r
 IsFound u r t s (Some b) = Does u r t s (item.Bound b.id b.from)
 
+-- none waits, or the look at the lanes found one at an older version than the last one made
+abbrev pub HasLooked : View → View → Registrar → Type 0
+HasLooked u t s = (s.waiting ≡ None) ⊎ HasFoundOlder u.clock t.clock t.learned.version
+
 -- ---- registrations
 
 -- the registration with the id was made last, and waits
@@ -83,6 +90,11 @@ TellsBegun u r t s name id def x = KnowsRegistry t (registry_of t s)
     × (registry_of t s ≡ registry_of u r))
     ⊎ ((from : ℕ) × (x ≡ item.Registered name id from def) × IsBetween u.learned.count t.learned.count from
     × (registry_of t s ≡ bound (registry_of u r) id from)))
+
+-- the lane and the version that the item of a registration tells of were loaded in between
+abbrev pub RollsBy : View → View → Item → Type 0
+RollsBy u t (item.Rolling name id def lane older) = HasLoaded u.clock t.clock (Epoch lane) (suc older)
+RollsBy u t x = ⊤
 
 -- why a definition was not registered, as an item tells it
 abbrev pub register_cause : RegRefusal → Option RegisterCause
@@ -121,6 +133,7 @@ pub record IsControlled (u : View) (r : Registrar) (t : View) (s : Registrar) (w
   pub shuts : TellsShut u t (x ∷ [])
   pub none : IsAlone u → NamesNone x
   pub tail : IsAlone u → TellsTail u x
+  pub rolls : RollsBy u t x
   pub does : Does u r t s x
 
 -- a part of it was
@@ -130,8 +143,8 @@ pub record IsPartControlled (u t : View) (w : Work) : Type 0 where
   pub gains : Gains u t rows
   pub first : contents rows ≡ take count (content_of w)
 
--- what the statements of the first lane leave: their items, which are so of the definitions where they stand, and what one that
--- is alone tells besides; and, unless there was a fault, the registry behind them
+-- what the statements of the first lane leave: their items, which are so of the definitions where they stand, what those of pending
+-- registrations have behind them, and what one that is alone tells besides; and, unless there was a fault, the registry behind them
 pub record HasControlled (v u : View) (r s : Registrar) (works : List Work) (items : List Item) (fault : LaneFault) : Type 0 where
   pub run : HasRun v u works items fault
   pub so : AreSo v.learned.count u.learned.count (registry_of v r) items
@@ -139,4 +152,5 @@ pub record HasControlled (v u : View) (r s : Registrar) (works : List Work) (ite
   pub only : (end : ℕ) → HasEnd v end → r.waiting ≡ None → TellsOnly v u r.catalog end works items
   pub plans : PlansAreSoBy v u (registry_of v r) works items
   pub is : fault ≡ cause.None → registry_of u s ≡ after_all (registry_of v r) items
-  pub each : fault ≡ cause.None → KnowsEach u (registry_of v r) items
+  pub each : KnowsEach u (registry_of v r) items
+  pub found : AreFound v.clock u.clock (registry_of v r) items

@@ -1,6 +1,7 @@
 -- What a pass gains by what it stores.
 use Rattle.std.specs.Prelude.{ℕ, ◌≡◌, ◌+◌, ◌<◌, ◌++◌, List, [], ◌∷◌, Some, None, ⊤}
 use Rattle.fish_lanes.specs.Records.{Ascends, LaneRow, entry_of, owned}
+use Rattle.fish_rule.specs.Clocks.{IsLater}
 use Rattle.fish_rule.specs.Facts.{IsFound}
 use Rattle.fish_rule.specs.Logs.{Learns, Tells}
 use Rattle.fish_rule.specs.Rule.{Rule}
@@ -16,6 +17,10 @@ use Rattle.fish_rule.specs.declared.view.View.{View}
 abbrev pub AreTold : View → ℕ → List LaneRow → Type 0
 AreTold v lane [] = ⊤
 AreTold v lane (r ∷ rows) = Tells v r.number (entry_of lane r) × AreTold v lane rows
+
+-- some claim shut the pass
+abbrev pub WasShut : View → Type 0
+WasShut v = (s : Shut) × (v.shut ≡ Some s)
 
 -- a claim that shut the pass still does
 abbrev pub KeepsShut : View → View → Type 0
@@ -36,9 +41,10 @@ pub record IsFullBy (u : View) (line lines end : ℕ) : Type 0 where
   pub end_is : end ≡ u.about.end
   pub past : end < line + lines
 
--- the second view is of the same pass, with the same lanes out, and knows what the first knew
+-- the second view is of the same pass some steps later, with the same lanes out, and knows what the first knew
 pub record KeepsLane (v u : View) : Type 0 where
   pub learns : Learns v u
+  pub clock : IsLater v.clock u.clock
   pub lane : u.lane ≡ v.lane
   pub out : u.out ≡ v.out
 

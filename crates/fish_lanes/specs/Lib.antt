@@ -7,6 +7,7 @@ pub mod Ending
 pub mod Gains
 pub mod Loading
 pub mod Outcome
+pub mod Pending
 pub mod Plans
 pub mod Published
 pub mod Records

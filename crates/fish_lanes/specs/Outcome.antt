@@ -3,11 +3,13 @@ use Rattle.std.specs.Prelude.{ℕ, ◌≡◌, ◌⊎◌, List, [], ◌∷◌, sl
 use Rattle.fish_catalog.specs.declared.row.CatRow.{CatRow}
 use Rattle.fish_lanes.specs.Blocks.{At}
 use Rattle.fish_lanes.specs.Ending.{HasEnd}
+use Rattle.fish_lanes.specs.Gains.{WasShut, KeepsShut}
 use Rattle.fish_lanes.specs.declared.work.LaneFault.TheVariants as cause
 use Rattle.fish_registry.specs.declared.registrar.Registrar.{Registrar}
 use Rattle.fish_lanes.specs.Plans.{AreSoPlans}
 use Rattle.fish_lanes.specs.Registering.{Registry}
 use Rattle.fish_lanes.specs.Single.{NamesNone, TellsOnly}
+use Rattle.fish_lanes.specs.Sizes.{NamesOneClaim}
 use Rattle.fish_lanes.specs.declared.lane.Lane.{Lane}
 use Rattle.fish_report.specs.declared.item.Item.TheVariants as item
 use Rattle.fish_rule.specs.Views.{AllOf, Among}
@@ -26,10 +28,14 @@ pub record IsFullIn (lanes : List Lane) (line lines end : ℕ) : Type 0 where
   pub refused : ℕ
   pub among : Among (item.IngestFull file line lines end stored refused) lane.items
 
--- what shuts the control pass behind the block did so before, or an item of a lane tells of it; unless one stopped at a fault
-abbrev pub TellsShutBy : View → View → List Lane → Type 0
-TellsShutBy v u lanes = At (λ i x. x.fault ≡ cause.None) lanes → (c : Shut) → u.shut ≡ Some c
-    → (v.shut ≡ Some c) ⊎ IsFullIn lanes c.line c.lines c.end
+-- what shuts the control pass behind the block did so before, or an item of a lane tells of it, unless one stopped at a fault; what shut
+-- it before still does, and it is shut where an item was refused; and the items of a lane that were refused name one claim
+pub record TellsShutBy (v u : View) (lanes : List Lane) : Type 0 where
+  pub by : At (λ i x. x.fault ≡ cause.None) lanes → (c : Shut) → u.shut ≡ Some c
+      → (v.shut ≡ Some c) ⊎ IsFullIn lanes c.line c.lines c.end
+  pub keeps : KeepsShut v u
+  pub shuts : (line lines end : ℕ) → IsFullIn lanes line lines end → WasShut u
+  pub one : At (λ i x. NamesOneClaim v.shut x.items) lanes
 
 -- ---- plans
 

@@ -85,8 +85,8 @@ IsDeregisterCause r name (deregister.Rolling id) = r.waiting ≡ Some id
 IsDeregisterCause r name deregister.TooManyVersions = (r.waiting ≡ None) × (512 ≤ r.version)
 IsDeregisterCause r name deregister.UnknownName = MayChange r × (¬ HasActive r.rows name)
 
--- the item is so where the registry is this: boundaries lie between two numbers, and a boundary that waits does so for a lane
--- at an older version
+-- the item is so where the registry is this: boundaries lie between two numbers, a boundary that waits does so for a lane at an older
+-- version, and scans and plans are at the registry's version
 abbrev pub IsSo : ℕ → ℕ → Registry → Item → Type 0
 IsSo low high r (item.Registered name id from def) =
     MayRegister r name × (id ≡ length r.rows) × IsBetween low high from
@@ -95,6 +95,10 @@ IsSo low high r (item.Bound id from) = (r.waiting ≡ Some id) × IsBetween low 
 IsSo low high r (item.Deregistered name id to) = MayChange r × IsActiveNamed r.rows name id × IsBetween low high to
 IsSo low high r (item.RegisterRefused name cause) = IsRegisterCause r name cause
 IsSo low high r (item.DeregisterRefused name cause) = IsDeregisterCause r name cause
+IsSo low high r (item.Scanned name value from to opens rows version) = version ≡ r.version
+IsSo low high r (item.ScanRefused name version why) = version ≡ r.version
+IsSo low high r (item.Explained name value from to plan version) = version ≡ r.version
+IsSo low high r (item.ExplainRefused name version why) = version ≡ r.version
 IsSo low high r x = ⊤
 
 -- each item is so where it stands

@@ -7,7 +7,7 @@ use Rattle.fish_lanes.specs.Plans.{AreReadBounds, PlansAreSoBy}
 use Rattle.fish_lanes.specs.Records.{LaneRow}
 use Rattle.fish_lanes.specs.Registering.{KnowsRegistry, Registry}
 use Rattle.fish_lanes.specs.Sizes.{TellsShut}
-use Rattle.fish_lanes.specs.Spans.{IsWithinSpan, Span, answers}
+use Rattle.fish_lanes.specs.Spans.{IsAnswer, IsWithinSpan, Span, answers}
 use Rattle.fish_lanes.specs.Telling.{TellsLane}
 use Rattle.fish_lanes.specs.declared.lane.Lane.{Lane}
 use Rattle.fish_lanes.specs.declared.lane.Seated.{Seated}
@@ -75,5 +75,6 @@ pub record HasDone (log : Log) (old new : Lane) : Type 0 where
   pub can : CanBegin log after.pass
   pub run : HasRun (view before.pass) (view after.pass) old.works new.items new.fault
   pub plans : SayPlans (view before.pass) (view after.pass) old.works new.items
+  pub answers : AllOf IsAnswer new.items
   pub works : new.works ≡ old.works
   pub number : new.number ≡ old.number

@@ -62,12 +62,13 @@ pub record IsAskedRange (s : Span) (ask : Ask) (from to : ℕ) : Type 0 where
 pub record HoldsSeen (entries : List Entry) (seen : ℕ → Type 0) (ask : Ask) (from to : ℕ) (opens : List ℕ) : Type 0 where
   pub each : (n : ℕ) → seen n → n < length entries → IsAskedFor ask n → (from ≤ n) × (n < to) × ¬ Among n opens
 
--- the open numbers rise within the range, no two are stored by one lane, and every number behind the log is open
-pub record AreOpen (entries : List Entry) (from to : ℕ) (opens : List ℕ) : Type 0 where
+-- the open numbers rise within the range, no two are stored by one lane, and every number behind the block is open, so that what a
+-- scan shows lies below its block's end
+pub record AreOpen (s : Span) (entries : List Entry) (from to : ℕ) (opens : List ℕ) : Type 0 where
   pub rise : Rise from to opens
   pub apart : (m n lane : ℕ) (f g : Form) (p q : List ℕ) → Among m opens → Among n opens
       → slice_get entries m ≡ Some (entry.Stored lane f p) → slice_get entries n ≡ Some (entry.Stored lane g q) → m ≡ n
-  pub behind : (n : ℕ) → from ≤ n → n < to → length entries ≤ n → Among n opens
+  pub behind : (n : ℕ) → from ≤ n → n < to → s.to ≤ n → Among n opens
 
 -- a scan: its rows are exactly the records of the log in its range, less the open ones, on which the definition that the
 -- name means has the value, newest first
@@ -78,7 +79,7 @@ pub record TellsScan (v : View) (s : Span) (entries : List Entry) (seen : ℕ �
   pub means : Means v s version ask.name def
   pub rows_are : rows ≡ select (map selected entries) (evaluation def) ask.value from to opens
   pub holds : HoldsSeen entries seen ask from to opens
-  pub are_open : AreOpen entries from to opens
+  pub are_open : AreOpen s entries from to opens
 
 -- a plan: its pieces fill the range, each by an index is by one of a row with the text that the name means, and of numbers of
 -- the log, and it is one piece where the numbers are to be read one by one
@@ -125,10 +126,12 @@ pub record TellsExplained (v : View) (s : Span) (entries : List Entry) (seen : �
   pub is : x ≡ item.Explained ask.name ask.value from to plan version
   pub tells : TellsPlan v s entries seen ask from to plan version
 
--- and of a refusal
+-- and of a refusal, at a version of the block
 pub record TellsRefused (v : View) (s : Span) (entries : List Entry) (ask : Ask) (refused : List ℕ → ℕ → ScanCause → Item) (x : Item)
     : Type 0 where
   pub version : ℕ
   pub why : ScanCause
   pub is : x ≡ refused ask.name version why
+  pub least : s.first ≤ version
+  pub most : version ≤ s.last
   pub tells : IsRefusedFor v s entries ask version why

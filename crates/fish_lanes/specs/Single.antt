@@ -123,10 +123,14 @@ TellsOnly v u rows end works items = (w : Work) → works ≡ w ∷ [] → AllOf
 
 -- ---- without the pass
 
+-- the range that a scan was answered for can be planned as was asked: by the index alone only where that has no gap
+abbrev pub CanPlan : List CatRow → Ask → ℕ → ℕ → ℕ → Type 0
+CanPlan rows ask end from to = (plan : List Piece) × IsPlanFor rows ask end from to plan
+
 -- the range that an item tells of is all that is asked for of a log that ends at this number, and is planned by these rows; a checkpoint
 -- tells that number, and so does a boundary, unless this claim had found the log full
 abbrev pub TellsWhole : List CatRow → Option Shut → ℕ → Work → Item → Type 0
-TellsWhole rows full end (work.Scan ask) (item.Scanned name value from to opens found version) = IsWhole ask end from to
+TellsWhole rows full end (work.Scan ask) (item.Scanned name value from to opens found version) = CanPlan rows ask end from to
 TellsWhole rows full end (work.Scan ask) (item.ScanRefused name version why) = IsCauseAt rows end ask why
 TellsWhole rows full end (work.Explain ask) (item.Explained name value from to plan version) = IsPlanFor rows ask end from to plan
 TellsWhole rows full end (work.Explain ask) (item.ExplainRefused name version why) = IsCauseAt rows end ask why

@@ -1,5 +1,5 @@
 -- How many lines the record of a payload takes, and which claim a refusal by a full log tells of.
-use Rattle.std.specs.Prelude.{ℕ, ◌≡◌, ◌⊎◌, ◌≤◌, List, Some}
+use Rattle.std.specs.Prelude.{ℕ, ◌≡◌, ◌⊎◌, ◌≤◌, List, Option, Some}
 use Rattle.fish_catalog.specs.Listing.{active_texts}
 use Rattle.fish_catalog.specs.declared.listed.Listed.{Listed}
 use Rattle.fish_lanes.specs.Scanning.{HasRows}
@@ -55,6 +55,11 @@ IsEarlier s shown line lines end = (s.full ≡ Some (claim_of line lines end)) �
 abbrev pub TellsClaim : Shut → List Item → Type 0
 TellsClaim c items = (file : List ℕ) × (stored : ℕ) × (refused : ℕ)
     × Among (item.IngestFull file c.line c.lines c.end stored refused) items
+
+-- items that a full log refused name one claim, and that which had found it full before them, if any
+pub record NamesOneClaim (full : Option Shut) (items : List Item) : Type 0 where
+  pub one : (c d : Shut) → TellsClaim c items → TellsClaim d items → c ≡ d
+  pub given : (c d : Shut) → full ≡ Some c → TellsClaim d items → d ≡ c
 
 -- what shuts the pass did so before, or an item tells of it
 abbrev pub TellsShut : View → View → List Item → Type 0

@@ -1,8 +1,10 @@
 -- Between which numbers of the log, and between which versions, a block lies.
-use Rattle.std.specs.Prelude.{ℕ, ◌≡◌, ◌+◌, ◌≤◌, Bool, List, Option, false, filter, true}
+use Rattle.std.specs.Prelude.{ℕ, ◌≡◌, ◌+◌, ◌<◌, ◌≤◌, Bool, List, Option, false, filter, true}
 use Rattle.fish_report.specs.declared.item.Item.{Item}
 use Rattle.fish_report.specs.declared.item.Item.TheVariants as item
+use Rattle.fish_rule.specs.ChainFacts.{Always}
 use Rattle.fish_rule.specs.LoadSteps.{IsAlone}
+use Rattle.fish_rule.specs.Parts.{IsEntryWord}
 use Rattle.fish_rule.specs.declared.view.Shut.{Shut}
 use Rattle.fish_rule.specs.declared.view.View.{View}
 
@@ -16,7 +18,8 @@ pub record Span : Type 0 where
   pub lanes : ℕ
   pub full : Option Shut
 
--- what a lane's pass knew at its start and knows at its end lies within the block
+-- what a lane's pass knew at its start and knows at its end lies within the block; what it knows to be settled or an entry lies below
+-- the block's end
 pub record IsWithinSpan (v u : View) (s : Span) : Type 0 where
   pub first : s.first ≤ v.learned.version
   pub last : u.learned.version ≤ s.last
@@ -24,6 +27,8 @@ pub record IsWithinSpan (v u : View) (s : Span) : Type 0 where
   pub counted : s.from ≤ v.learned.count
   pub near : u.learned.count ≤ s.to + 16
   pub alone : s.lanes ≡ 1 → IsAlone v
+  pub stored : u.learned.settled ≤ s.to
+  pub entries : (n : ℕ) → Always u (λ k w. IsEntryWord (w.dir n)) → n < s.to
 
 -- how many versions the item says were made
 abbrev pub made_by : Item → ℕ
@@ -40,6 +45,9 @@ behind x s = record s { first = s.first + made_by x }
 abbrev pub is_answer : Item → Bool
 is_answer (item.Bound id from) = false
 is_answer x = true
+
+abbrev pub IsAnswer : Item → Type 0
+IsAnswer x = is_answer x ≡ true
 
 -- the items that answer a statement each
 abbrev pub answers : List Item → List Item

@@ -78,14 +78,14 @@ pub record TellsTooLong (name file : List ℕ) (x : Item) : Type 0 where
   pub is : x ≡ item.IngestTooLong name 0 0
   pub past : longest_file < length file
 
--- all below a number of the log is stored, no less than below the block or than an earlier item told, and where no other lane is, all
--- that the lane stored before
-pub record TellsCheckpoint (s : Span) (log : List Entry) (before : List LaneRow) (shown : List Shown) (x : Item) : Type 0 where
+-- all below a number is stored, which lies between the block's ends and is no less than an earlier item told, so that checkpoints never
+-- fall; and where no other lane is, all that the lane stored before lies below it
+pub record TellsCheckpoint (s : Span) (before : List LaneRow) (shown : List Shown) (x : Item) : Type 0 where
   pub count : ℕ
   pub is : x ≡ item.Checkpointed count
   pub above : s.from ≤ count
   pub own : s.lanes ≡ 1 → (n : ℕ) → HasNumber n before → n < count
-  pub within : count ≤ length log
+  pub within : count ≤ s.to
   pub rises : (earlier : ℕ) → Among (settled earlier) shown → earlier ≤ count
 
 -- what one item tells of its block, behind these rows of its lane and what was shown
@@ -98,7 +98,7 @@ TellsItem v s log before shown (work.Scan ask) x = TellsScanned v s log (IsSeen 
     ⊎ TellsRefused v s log ask item.ScanRefused x
 TellsItem v s log before shown (work.Explain ask) x = TellsExplained v s log (IsSeen s.from before shown) ask x
     ⊎ TellsRefused v s log ask item.ExplainRefused x
-TellsItem v s log before shown work.Checkpoint x = TellsCheckpoint s log before shown x
+TellsItem v s log before shown work.Checkpoint x = TellsCheckpoint s before shown x
 
 -- ---- the items of a lane
 

@@ -1,6 +1,6 @@
 //! A block: its lanes run at once, each by a pass of its own.
 
-ghost use Rattle.std.specs.Prelude.{◌≡◌, ◌⊎◌, ◌≤◌, ◌<◌, ◌+◌, ℕ, length, slice_get, Some, None, [], All};
+ghost use Rattle.std.specs.Prelude.{◌≡◌, ◌≤◌, ◌<◌, ◌+◌, ◌∷◌, ℕ, length, slice_get, Some, None, [], All};
 ghost use Rattle.std.specs.Thread.{IsSync};
 ghost use Rattle.fish_lanes.specs.Blocks.{At, AreDone, AreEnded, AreJoined, AreKept, AreLanes, AreReady, AreSeated, CanGive, CanTake};
 ghost use Rattle.fish_lanes.specs.Blocks.{HasGiven, HasRegistered, HasRunFirst, HasSeat, HasTaken, HasTakenAll, IsBlockSpan, IsFirst};
@@ -16,7 +16,7 @@ ghost use Rattle.fish_lanes.specs.Plans.{AreSoPlans};
 ghost use Rattle.fish_lanes.specs.Registering.{IsAcceptable, KnowsRegistry, registry_of};
 ghost use Rattle.fish_lanes.specs.Running.{CanBegin, HasDone, HasRun, IsEnded, IsFree, IsReady, SayPlans};
 ghost use Rattle.fish_lanes.specs.Sizes.{TellsClaim};
-ghost use Rattle.fish_lanes.specs.Spans.{Span};
+ghost use Rattle.fish_lanes.specs.Spans.{IsAnswer, Span};
 ghost use Rattle.fish_lanes.specs.declared.work.LaneFault.TheVariants as cause;
 ghost use Rattle.fish_rule.specs.LoadSteps.{IsAlone};
 ghost use Rattle.fish_rule.specs.Passes.{IsPassOf, view};
@@ -72,6 +72,7 @@ fn run_pass(
     ensures pass { CanBegin log.now pass.new }
     ensures run { HasRun (view pass.old) (view pass.new) works.now items.new result }
     ensures plans { SayPlans (view pass.old) (view pass.new) works.now items.new }
+    ensures answers { AllOf IsAnswer items.new }
 {
     let mut defs = Defs::new(alloc);
     run_works(alloc, log, pass, &mut defs, works, items, gate)
@@ -282,20 +283,14 @@ fn run_lanes<R: Threads + Sync>(
     ensures kept { AreKept others.old others.new }
     ensures vacant { AreVacant others.new }
     ensures told { (s : Span) → IsBlockSpan (view main.old) (view main.new) result.to s → s.lanes ≡ length others.old + 1
-        → (s.from ≤ s.to) × Will (view main.new) (TellsFirst s first.new) × Will (view main.new) (TellsOthers s others.new) }
+        → (s.from ≤ s.to) × Will (view main.new) (λ v log. TellsBlock v s log (first.new ∷ others.new)) }
     ensures registered { HasRegistered (view main.old) (view main.new) registrar.old registrar.new first.new result }
     ensures alone { others.old ≡ [] → TellsAloneBy (view main.old) (view main.new) registrar.old first.new }
-    ensures first_ended { IsEnded first.new.works first.new.items first.new.fault }
-    ensures others_ended { AreEnded others.new }
-    ensures shuts { first.new.fault ≡ cause.None → At (λ i x. x.fault ≡ cause.None) others.new
-        → (c : Shut) → (view main.new).shut ≡ Some c → ((view main.old).shut ≡ Some c)
-        ⊎ (TellsClaim c first.new.items ⊎ IsFullIn others.new c.line c.lines c.end) }
-    ensures first_plans { (from : ℕ) → HasEnd (view main.old) from → AreSoPlans (view main.new)
-        (registry_of (view main.old) registrar.old) registrar.new.catalog from first.new.works first.new.items }
-    ensures others_plans { (from : ℕ) → HasEnd (view main.old) from → LanesSayPlans (view main.new)
-        (registry_of (view main.old) registrar.old) registrar.new.catalog from others.new }
-    ensures first_marks { AllOf (IsMarkItem (view main.new)) first.new.items }
-    ensures others_marks { NameMarks (view main.new) others.new }
+    ensures ended { AreEnded (first.new ∷ others.new) }
+    ensures shuts { TellsShutBy (view main.old) (view main.new) (first.new ∷ others.new) }
+    ensures plans { (from : ℕ) → HasEnd (view main.old) from → LanesSayPlans (view main.new)
+        (registry_of (view main.old) registrar.old) registrar.new.catalog from (first.new ∷ others.new) }
+    ensures marks { NameMarks (view main.new) (first.new ∷ others.new) }
 {
     run_by_passes(rt, alloc, log, main, registrar, first, others, gate);
     end_block(log, main, registrar)

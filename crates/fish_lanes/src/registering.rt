@@ -5,7 +5,8 @@ ghost use Rattle.fish_catalog.specs.Rows.{IsName};
 ghost use Rattle.fish_epoch.specs.Definitions.{IsDefsOf};
 ghost use Rattle.fish_lang.specs.Canonical.{definition_text};
 ghost use Rattle.fish_lang.specs.Definition.{definition_of};
-ghost use Rattle.fish_lanes.specs.Controlling.{CanControl, Does, HasPolled, IsFound, KnowsAll, TellsBegun, TellsTail, WaitsFor};
+ghost use Rattle.fish_lanes.specs.Controlling.{CanControl, Does, HasLooked, HasPolled, IsFound, KnowsAll, RollsBy, TellsBegun};
+ghost use Rattle.fish_lanes.specs.Controlling.{TellsTail, WaitsFor};
 ghost use Rattle.fish_lanes.specs.Controlling.{deregister_cause, register_cause};
 ghost use Rattle.fish_lanes.specs.Gains.{Gains};
 ghost use Rattle.fish_lanes.specs.Registering.{IsDeregisterItem, IsRegisterItem};
@@ -39,6 +40,7 @@ pub(crate) fn find_boundary(
     ensures shut { (view pass.new).shut ≡ (view pass.old).shut }
     ensures loads { (view pass.new).clock.loads ≡ (view pass.old).clock.loads }
     ensures idle { registrar.old.waiting ≡ None → (view pass.new ≡ view pass.old) × (registrar.new.waiting ≡ None) }
+    ensures looked { HasLooked (view pass.old) (view pass.new) registrar.new }
     ensures polled { OnOk result
         (HasPolled (view pass.old) registrar.old (view pass.new) registrar.new items.old items.new) }
     ensures refused { OnErr result (items.new ≡ items.old) }
@@ -86,6 +88,7 @@ pub(crate) fn register(
     ensures shut { (view pass.new).shut ≡ (view pass.old).shut }
     ensures alone { IsAlone (view pass.old) → IfOk result NamesNone }
     ensures tail { IsAlone (view pass.old) → IfOk result (TellsTail (view pass.old)) }
+    ensures rolls { IfOk result (RollsBy (view pass.old) (view pass.new)) }
     ensures item { IfOk result (IsRegisterItem name.now (definition_text (definition_of def.now))) }
     ensures does { IfOk result (Does (view pass.old) registrar.old (view pass.new) registrar.new) }
 {
@@ -121,6 +124,7 @@ fn registered(
     ensures shut { (view pass.new).shut ≡ (view pass.old).shut }
     ensures alone { IsAlone (view pass.old) → IfOk result NamesNone }
     ensures tail { IsAlone (view pass.old) → IfOk result (TellsTail (view pass.old)) }
+    ensures rolls { IfOk result (RollsBy (view pass.old) (view pass.new)) }
     ensures tells { IfOk result (TellsBegun (view pass.old) registrar.old (view pass.new) registrar.new name id def) }
 {
     read_definitions(log, pass, defs)?;

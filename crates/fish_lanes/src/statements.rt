@@ -5,9 +5,11 @@ ghost use Rattle.fish_epoch.specs.Definitions.{IsDefsOf};
 ghost use Rattle.fish_ingest.specs.Ingestion.{CanStart};
 ghost use Rattle.fish_lanes.specs.Doing.{IsItem, IsPart};
 ghost use Rattle.fish_lanes.specs.Running.{HasRun, IsFree, SayPlans};
+ghost use Rattle.fish_lanes.specs.Spans.{IsAnswer};
 ghost use Rattle.fish_lanes.specs.declared.work.Work.TheVariants as work;
 ghost use Rattle.fish_rule.specs.Logs.{Learns};
 ghost use Rattle.fish_rule.specs.Passes.{IsPassOf, view};
+ghost use Rattle.fish_rule.specs.Views.{AllOf};
 
 use crate::gate::{Gate, Point};
 use crate::ingesting::ingest_file;
@@ -39,6 +41,7 @@ pub(crate) fn run_works(
     ensures defs { IsDefsOf (view pass.new) defs.new }
     ensures run { HasRun (view pass.old) (view pass.new) works.now items.new result }
     ensures plans { SayPlans (view pass.old) (view pass.new) works.now items.new }
+    ensures answers { AllOf IsAnswer items.new }
 {
     let mut place: u32 = 0;
     for work in works {

@@ -6,17 +6,18 @@ use Rattle.std.proofs.lemmas.Option.{slice_get-get_or, slice_get_within}
 use Rattle.fish_catalog.specs.declared.entry.Entry.{Entry}
 use Rattle.fish_lanes.proofs.Controls.{each_later}
 use Rattle.fish_lanes.proofs.Gaining.{same_lines}
+use Rattle.fish_lanes.proofs.Lists.{some_once}
 use Rattle.fish_lanes.proofs.Plans.{plans_later}
 use Rattle.fish_lanes.proofs.Single.{singles_whole}
 use Rattle.fish_lanes.proofs.Surely.{will_later}
-use Rattle.fish_lanes.specs.Blocks.{AreEnded, AreKept, AreLanes, HasRegistered, IsBlockSpan, IsMarkItem, NameMarks}
+use Rattle.fish_lanes.specs.Blocks.{AreEnded, AreKept, AreLanes, HasRegistered, IsBlockSpan, IsMarkItem, NameMarks, control_items}
 use Rattle.fish_lanes.specs.Outcome.{IsFullIn}
 use Rattle.fish_lanes.specs.Blocks.{TellsBlock}
 use Rattle.fish_lanes.specs.Outcome.{LanesSayPlans, TellsAlone, TellsShutBy}
 use Rattle.fish_lanes.specs.Closing.{Later, Will}
 use Rattle.fish_lanes.specs.Ending.{HasEnd}
 use Rattle.fish_lanes.specs.Gains.{IsMarkAt}
-use Rattle.fish_lanes.specs.Registering.{AreSo, KnowsEach, Registry, registry_of}
+use Rattle.fish_lanes.specs.Registering.{AreSo, KnowsEach, Registry, after_all, registry_of}
 use Rattle.fish_lanes.specs.Spans.{Span, answers}
 use Rattle.fish_lanes.specs.declared.block.BlockEnd.{BlockEnd}
 use Rattle.fish_lanes.specs.declared.lane.Lane.{Lane}
@@ -37,7 +38,8 @@ use Rattle.fish_rule.specs.declared.view.Shut.{Shut}
 use Rattle.fish_rule.specs.declared.view.View.{View}
 use Rattle.fish_run.proofs.Lists.{pairs_map, pairs_push}
 use Rattle.fish_run.proofs.Works.{lanes_later}
-use Rattle.fish_run.specs.Blocks.{AreFullSince, AreMarked, Block, FullsAgree, IsFullOf, IsFullSince, TellsBlocks, TellsOne, TellsPart}
+use Rattle.fish_run.specs.Blocks.{AreFullSince, AreMarked, Block, FullsAgree, HasFoundFull, IsFullOf, IsFullSince, TellsBlocks}
+use Rattle.fish_run.specs.Blocks.{TellsOne, TellsPart}
 use Rattle.fish_run.specs.Blocks.{behind_block, behind_blocks, first_items, lanes_controls, no_registry}
 use Rattle.fish_run.specs.Ran.{IsBlockOf}
 use Rattle.fish_run.specs.Reports.{lanes_items, lanes_refused}
@@ -115,18 +117,32 @@ full_left : (blocks : List Block) (b : Block) (line lines end : ℕ) → IsFullO
     → IsFullOf (blocks ++ b ∷ []) line lines end
 full_left blocks b line lines end h = (h.0, among_left h.0 blocks (b ∷ []) h.1, h.2)
 
--- what shuts the pass behind one more, an item tells of
-pub shut_more : (blocks : List Block) (b : Block) (v u : View) → ((c : Shut) → v.shut ≡ Some c → IsFullOf blocks c.line c.lines c.end)
-    → ((c : Shut) → u.shut ≡ Some c → (v.shut ≡ Some c) ⊎ IsFullIn b.lanes c.line c.lines c.end) → (c : Shut) → u.shut ≡ Some c
-    → IsFullOf (blocks ++ b ∷ []) c.line c.lines c.end
-shut_more blocks b v u before one c e =
-    ⊎_elim (λ (same : v.shut ≡ Some c). full_left blocks b c.line c.lines c.end (before c same))
-    (λ (k : IsFullIn b.lanes c.line c.lines c.end). (b, among_right b blocks (b ∷ []) (inl refl), k)) (one c e)
+-- what shuts the pass behind one more, an item tells of, and it is shut where one does
+pub full_more : (told : Option Files) (s : script.Block) (v u : View) (r t : Registry) (mid to : ℕ) (blocks : List Block) (b : Block)
+    → HasFoundFull blocks v.shut → HasRunOne told s v.shut u r t mid to b → HasFoundFull (blocks ++ b ∷ []) u.shut
+full_more told s v u r t mid to blocks b before one = record {
+  told = λ c e. ⊎_elim (λ (same : v.shut ≡ Some c). full_left blocks b c.line c.lines c.end (before.told c same))
+      (λ (k : IsFullIn b.lanes c.line c.lines c.end). (b, among_right b blocks (b ∷ []) (inl refl), k)) (one.shut c e);
+  some = λ line lines end f. ⊎_elim
+      (λ (m : Among f.0 blocks). let k = before.some line lines end (f.0, m, f.2) in (k.0, one.keeps k.0 k.1))
+      (λ (m : Among f.0 (b ∷ [])). one.shuts line lines end (here f.0 line lines end m f.2))
+      (among_either f.0 blocks (b ∷ []) f.1);
+}
+  where
+    here : (a : Block) (line lines end : ℕ) → Among a (b ∷ []) → IsFullIn a.lanes line lines end → IsFullIn b.lanes line lines end
+    here a line lines end (inl e) k = subst (λ (z : Block). IsFullIn z.lanes line lines end) (sym e) k
+    here a line lines end (inr bad) k = elim bad [ ]
+
+-- the items of one more name marks
+pub marks_more : (u : View) (blocks : List Block) (b : Block) → AreMarked u blocks → NameMarks u b.lanes → AreMarked u (blocks ++ b ∷ [])
+marks_more u blocks b h one a among = ⊎_elim (λ (m : Among a blocks). h a m)
+    (λ (m : Among a (b ∷ [])). ⊎_elim (λ (e : b ≡ a). subst (λ (z : Block). NameMarks u z.lanes) e one)
+    (λ (bad : Among a []). elim bad [ ]) m) (among_either a blocks (b ∷ []) among)
 
 -- one more ran
 pub ran_more : (old new : Option Files) (text : List script.Block) (s : script.Block) (v u : View) (r t : Registry) (mid to : ℕ)
     (blocks : List Block) (b : Block) → StillTold old new → Later v u → HasRunBlocks old text v r mid blocks
-    → ((c : Shut) → v.shut ≡ Some c → IsFullOf blocks c.line c.lines c.end) → HasRunOne new s v.shut u r t mid to b
+    → HasFoundFull blocks v.shut → HasRunOne new s v.shut u r t mid to b
     → HasRunBlocks new (text ++ s ∷ []) u t to (blocks ++ b ∷ [])
 ran_more old new text s v u r t mid to blocks b still later h full one =
     let before = ran_later old new text v u r mid blocks still later h in
@@ -136,11 +152,9 @@ ran_more old new text s v u r t mid to blocks b still later h full one =
           subst (TellsBlocks x remains.log 0 no_registry (blocks ++ b ∷ [])) one.ends
           (tells_more x remains.log 0 mid no_registry blocks b (before.tells x remains base main none more c)
           (subst (λ (z : Registry). TellsOne x remains.log mid z b) h.behind (one.tells x remains base main none more c)));
-      marks = λ a among. ⊎_elim (λ (m : Among a blocks). before.marks a m)
-          (λ (m : Among a (b ∷ [])). ⊎_elim (λ (e : b ≡ a). subst (λ (z : Block). NameMarks u z.lanes) e one.marks)
-          (λ (bad : Among a []). elim bad [ ]) m) (among_either a blocks (b ∷ []) among);
+      marks = marks_more u blocks b before.marks one.marks;
       behind = one.behind ∙ ap (λ (z : Registry). behind_block z b) h.behind ∙ sym (behind_more no_registry blocks b);
-      fulls = since_more [] blocks b h.fulls (λ c e. full c (sym one.full_is ∙ e));
+      fulls = since_more [] blocks b h.fulls (subst (HasFoundFull blocks) (sym one.full_is) full);
     }
 
 -- ---- refusals of a full log
@@ -191,6 +205,17 @@ first_so : (v u : View) (r s : Registrar) (lanes : List Lane) (end : BlockEnd) (
     → AreSo k.from (k.to + 16) (registry_of v r) (first_items lanes)
 first_so v u r s [] end k is has = tt
 first_so v u r s (x ∷ lanes) end k is has = (has x refl).so k is
+
+-- and the definitions that they tell are known
+first_known : (v u : View) (r s : Registrar) (lanes : List Lane) (end : BlockEnd) → 0 < length lanes
+    → ((x : Lane) → slice_get lanes 0 ≡ Some x → HasRegistered v u r s x end) → KnowsEach u (registry_of v r) (first_items lanes)
+first_known v u r s [] end some has = absurd (omega arith)
+first_known v u r s (x ∷ lanes) end some has = (has x refl).known
+
+-- what tells of the definitions is of the first lane
+controls_first : (lanes : List Lane) (end : BlockEnd) (x : Lane) → slice_get lanes 0 ≡ Some x → lanes_controls lanes end ≡ control_items x end
+controls_first [] end x at = absurd cc
+controls_first (y ∷ lanes) end x at = ap (λ (z : Lane). control_items z end) (some_once y x at)
 
 -- where no lane stopped at a fault, so is the boundary behind them
 controls_so : (v u : View) (r s : Registrar) (lanes : List Lane) (end : BlockEnd) (k : Span) → IsBlockSpan v u end.to k
@@ -253,8 +278,9 @@ module _ (told : Option Files) (text : script.Block) (v u : View) (r s : Registr
   spans : IsBlockSpan v u end.to left.span
   spans = record { begins = h.begins; ends = refl; first = omega arith; last = omega arith; full = refl }
 
-  part_of : (x : View) (log : List Entry) → TellsBlock x left.span log lanes → TellsPart x log from (registry_of v r) left
-  part_of x log t = record {
+  part_of : (x : View) (log : List Entry) → Learns u x → TellsBlock x left.span log lanes
+      → TellsPart x log from (registry_of v r) left
+  part_of x log learns t = record {
     begins = refl;
     ends = refl;
     rises = (h.tells left.span spans refl).0;
@@ -262,9 +288,15 @@ module _ (told : Option Files) (text : script.Block) (v u : View) (r s : Registr
     many = refl;
     lanes = t;
     registers = first_so v u r s lanes end left.span spans h.has;
+    knows = each_later u x (registry_of v r) (first_items lanes) learns (first_known v u r s lanes end h.some h.has);
     ended = h.ended;
+    fulls = h.shuts.one;
     alone = h.alone;
   }
+
+  -- the definitions behind it, and what its plans say by them
+  plans_by : (x : View) → Learns u x → LanesSayPlans x (registry_of v r) s.catalog from lanes
+  plans_by x learns i y at = plans_later u x (registry_of v r) s.catalog from y.works y.items learns (h.plans i y at)
 
   -- a lane may have stopped at a fault
   pub left_cut : HasCutOne told text v.shut u (registry_of v r) from end.to left
@@ -272,8 +304,14 @@ module _ (told : Option Files) (text : script.Block) (v u : View) (r s : Registr
     is = is_left;
     full_is = refl;
     ends = refl;
-    tells = λ x remains base main none later c.
-        part_of x remains.log ((h.tells left.span spans refl).1 x remains base main none later c);
+    tells = λ x remains base main none later c. record {
+      part = part_of x remains.log later.learns ((h.tells left.span spans refl).1 x remains base main none later c);
+      behind = registry_of u s;
+      last = refl;
+      plans = plans_by x later.learns;
+      behind_is = λ y at none. (h.has y at).is none ∙ ap (after_all (registry_of v r)) (sym (controls_first lanes end y at));
+    };
+    marks = h.marks;
   }
 
   -- none did
@@ -283,16 +321,18 @@ module _ (told : Option Files) (text : script.Block) (v u : View) (r s : Registr
       record {
         is = is_left;
         full_is = refl;
-        shut = h.shuts whole;
+        shut = h.shuts.by whole;
+        keeps = h.shuts.keeps;
+        shuts = h.shuts.shuts;
         ends = refl;
         tells = λ x remains base main none later c. record {
-          part = part_of x remains.log ((h.tells left.span spans refl).1 x remains base main none later c);
+          part = part_of x remains.log later.learns ((h.tells left.span spans refl).1 x remains base main none later c);
+          whole = whole;
           registers = controls_so v u r s lanes end left.span spans whole h.has;
           knows = each_later u x (registry_of v r) (lanes_controls lanes end) later.learns
               (controls_known v u r s lanes end h.some whole h.has);
           last = ap (λ (z : Registry). z.version) after;
-          plans = λ i y at. plans_later u x (registry_of v r) _ from y.works y.items later.learns
-              (subst (λ (z : Registry). LanesSayPlans u (registry_of v r) z.rows from lanes) after h.plans i y at);
+          plans = subst (λ (z : Registry). LanesSayPlans x (registry_of v r) z.rows from lanes) after (plans_by x later.learns);
         };
         marks = h.marks;
         behind = after;

@@ -22,10 +22,10 @@ use Rattle.fish_rule.specs.declared.close.Remains.{Remains}
 use Rattle.fish_rule.specs.declared.table.Shape.{Shape}
 use Rattle.fish_rule.specs.declared.view.Shut.{Shut}
 use Rattle.fish_rule.specs.declared.view.View.{View}
-use Rattle.fish_run.proofs.Blocks.{fulls_agree, ran_later, ran_more, shut_more}
+use Rattle.fish_run.proofs.Blocks.{full_more, fulls_agree, marks_more, ran_later, ran_more}
 use Rattle.fish_run.proofs.Lists.{get_at, pairs_length, take_length}
 use Rattle.fish_run.proofs.Written.{gained_none, part_still, part_then, part_whole, written_both}
-use Rattle.fish_run.specs.Blocks.{Block, IsFullOf, TellsPart, TellsRun, no_registry}
+use Rattle.fish_run.specs.Blocks.{Block, HasFoundFull, TellsCut, TellsRun, no_registry, with_cut}
 use Rattle.fish_run.specs.Ran.{AreFirst, IsBlockOf, IsLost, IsStopped, IsWhole}
 use Rattle.fish_run.specs.Reports.{are_refused, block_items, lanes_refused, report_of, whole_report}
 use Rattle.fish_run.specs.Steps.{Finishes, HasCutOne, HasRunBlocks, HasRunFirst, HasRunOne, RunsAll, RunsSome, StopsOne}
@@ -61,7 +61,10 @@ writes_first told v r a b refused none unshut written accepted = record {
     behind = none;
     fulls = tt;
   };
-  shut = λ c e. (let bad : None ≡ Some c = sym unshut ∙ e in absurd cc);
+  full = record {
+    told = λ c e. (let bad : None ≡ Some c = sym unshut ∙ e in absurd cc);
+    some = λ line lines end f. elim f.1 [ ];
+  };
   written = written;
   refused_is = accepted;
 }
@@ -71,8 +74,8 @@ pub writes_more : (old new : Option Files) (text : List script.Block) (s : scrip
     → WritesOne new s v.shut u r t mid to b c before now → WritesBlocks new (text ++ s ∷ []) u t to a c now
 writes_more old new text s v u r t mid to a b c before now still later h one = record {
   blocks = h.blocks ++ one.block ∷ [];
-  ran = ran_more old new text s v u r t mid to h.blocks one.block still later h.ran h.shut one.ran;
-  shut = shut_more h.blocks one.block v u h.shut one.ran.shut;
+  ran = ran_more old new text s v u r t mid to h.blocks one.block still later h.ran h.full one.ran;
+  full = full_more new s v u r t mid to h.blocks one.block h.full one.ran;
   written = subst (λ (z : List Item). Gained a c (report_text z)) (sym (report_more h.blocks one.block))
       (written_both a b c (report_of h.blocks) (block_items one.block) h.written one.written);
   refused_is = one.refused ∙ ap (λ z. z || lanes_refused one.block.lanes) h.refused_is
@@ -109,7 +112,7 @@ module _ (told : Option Files) (text : List script.Block) (i : ℕ) (less : i �
   -- and one more was cut
   pub first_cut : (r : Registry) (s : script.Block) (mid to : ℕ) (blocks : List Block) (b : Block) → HasEnd u to
       → slice_get text i ≡ Some s → HasRunBlocks told (take i text) u r mid blocks
-      → (full : Option Shut) → ((c : Shut) → full ≡ Some c → IsFullOf blocks c.line c.lines c.end) → HasCutOne told s full u r mid to b
+      → (full : Option Shut) → HasFoundFull blocks full → HasCutOne told s full u r mid to b
       → HasRunFirst told text u blocks (Some b) to
   first_cut r s mid to blocks b ends at h full before cut = record {
     are = are_first blocks h.are;
@@ -118,11 +121,11 @@ module _ (told : Option Files) (text : List script.Block) (i : ℕ) (less : i �
     tells = λ x remains base main none later c. record {
       to = mid;
       whole = h.tells x remains base main none later c;
-      rest = (subst (λ (z : Registry). TellsPart x remains.log mid z b) h.behind (cut.tells x remains base main none later c), cut.ends);
+      rest = (subst (λ (z : Registry). TellsCut x remains.log mid z b) h.behind (cut.tells x remains base main none later c), cut.ends);
       fulls = h.fulls;
-      rest_full = λ c e. before c (sym cut.full_is ∙ e);
+      rest_full = subst (HasFoundFull blocks) (sym cut.full_is) before;
     };
-    marks = h.marks;
+    marks = marks_more u blocks b h.marks cut.marks;
   }
 
 -- a fault came at the block behind those that were written
@@ -162,14 +165,14 @@ stops_some old new text i s v u r t mid to a b c refused why less is still later
       blocks = blocks;
       cut = Some m.0;
       end = to;
-      ran = first_cut new text i (omega (less, arith)) u r s mid to blocks m.0 ends (get_at text i s less is) before v.shut h.shut m.1;
+      ran = first_cut new text i (omega (less, arith)) u r s mid to blocks m.0 ends (get_at text i s less is) before v.shut h.full m.1;
       written = part_whole a c (report_text (report_of blocks)) (gained_none a b c (report_text (report_of blocks)) h.written m.2);
       input = λ e. absurd (other e);
     }
 
     was_whole : why ≢ fault.Input → Whole → RunsSome new text u a c why
     was_whole other m =
-        let more = ran_more old new (take i text) s v u r t mid to blocks m.0 still later h.ran h.shut m.1 in
+        let more = ran_more old new (take i text) s v u r t mid to blocks m.0 still later h.ran h.full m.1 in
         let next : take (i + 1) text ≡ take i text ++ s ∷ []
         = take_more text i s less ∙ ap (λ (z : script.Block). take i text ++ z ∷ []) (sym is) in
         record {
@@ -277,7 +280,7 @@ module _ (told : Option Files) (text : List script.Block) (shape : Shape) (v : V
     view = v;
     closed = closed;
     tells = shown told text v h.blocks h.cut h.end remains h.ran closed;
-    fulls = fulls_agree v h.blocks (shape.pages * 32768) stands h.ran.marks end_is;
+    fulls = fulls_agree v (with_cut h.blocks h.cut) (shape.pages * 32768) stands h.ran.marks end_is;
     heads = closed.many_heads ∙ buckets_are;
     written = inl (part_still old mid new (report_text (report_of h.blocks)) h.written none);
     input = λ e. ((h.input e).0, gained_none old mid new (report_text (report_of h.blocks)) (h.input e).1 none);

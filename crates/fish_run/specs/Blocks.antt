@@ -1,14 +1,16 @@
 -- What the blocks of a run tell of the one log that is left.
-use Rattle.std.specs.Prelude.{ℕ, ◌≡◌, ◌≤◌, ◌+◌, List, [], ◌∷◌, ◌++◌, length, Bool, IfSome, Option, Some, None, ⊤}
+use Rattle.std.specs.Prelude.{ℕ, ◌≡◌, ◌≤◌, ◌+◌, List, [], ◌∷◌, ◌++◌, length, slice_get, Bool, IfSome, Option, Some, None, ⊤}
 use Rattle.fish_catalog.specs.declared.entry.Entry.{Entry}
 use Rattle.fish_catalog.specs.declared.row.CatRow.{CatRow}
-use Rattle.fish_lanes.specs.Blocks.{AreEnded, NameMarks, TellsBlock, control_items}
+use Rattle.fish_lanes.specs.Blocks.{AreEnded, At, NameMarks, TellsBlock, control_items}
 use Rattle.fish_lanes.specs.Outcome.{IsFullIn, LanesSayPlans}
 use Rattle.fish_lanes.specs.Registering.{AreSo, KnowsEach, Registry, after_all}
 use Rattle.fish_lanes.specs.Single.{NamesNone, TellsWhole}
+use Rattle.fish_lanes.specs.Sizes.{NamesOneClaim}
 use Rattle.fish_lanes.specs.Spans.{Span, answers}
 use Rattle.fish_lanes.specs.declared.block.BlockEnd.{BlockEnd}
 use Rattle.fish_lanes.specs.declared.lane.Lane.{Lane}
+use Rattle.fish_lanes.specs.declared.work.LaneFault.TheVariants as cause
 use Rattle.fish_lanes.specs.declared.work.Work.{Work}
 use Rattle.fish_report.specs.declared.item.Item.{Item}
 use Rattle.fish_rule.specs.Views.{AllOf, Among}
@@ -55,9 +57,14 @@ behind_blocks r (b ∷ blocks) = behind_blocks (behind_block r b) blocks
 abbrev pub IsFullOf : List Block → ℕ → ℕ → ℕ → Type 0
 IsFullOf blocks line lines end = (b : Block) × Among b blocks × IsFullIn b.lanes line lines end
 
--- what had found the log full before a block is a claim that an item of one of the earlier blocks tells of
+-- what found the log full, if anything did, is a claim that an item of these blocks tells of; and something did where an item tells so
+pub record HasFoundFull (blocks : List Block) (full : Option Shut) : Type 0 where
+  pub told : (c : Shut) → full ≡ Some c → IsFullOf blocks c.line c.lines c.end
+  pub some : (line lines end : ℕ) → IsFullOf blocks line lines end → (c : Shut) × (full ≡ Some c)
+
+-- so it is of what had found it full before a block, and the earlier blocks
 abbrev pub IsFullSince : List Block → Block → Type 0
-IsFullSince earlier b = (c : Shut) → b.span.full ≡ Some c → IsFullOf earlier c.line c.lines c.end
+IsFullSince earlier b = HasFoundFull earlier b.span.full
 
 -- so it is of each of these blocks, behind those
 abbrev pub AreFullSince : List Block → List Block → Type 0
@@ -73,8 +80,9 @@ pub record TellsOneLane (rows : List CatRow) (full : Option Shut) (from : ℕ) (
   pub none : AllOf NamesNone x.items
   pub whole : (w : Work) → x.works ≡ w ∷ [] → AllOf (TellsWhole rows full from w) (answers x.items)
 
--- what a block tells that begins where the log has so many numbers and the registry is this, even one in which a lane
--- stopped at a fault: its lanes' items are so of the log, and where a statement has no item, neither have those behind it
+-- what a block tells that begins where the log has so many numbers and the registry is this, even one in which a lane stopped at a fault:
+-- its lanes' items are so of the log, and those of its first lane of the definitions; where a statement has no item, neither have those
+-- behind it; and of the items of a lane that a full log refused all name one claim, that of before the block if there was one
 pub record TellsPart (v : View) (log : List Entry) (from : ℕ) (r : Registry) (b : Block) : Type 0 where
   pub begins : b.span.from ≡ from
   pub ends : b.end.to ≡ b.span.to
@@ -83,13 +91,25 @@ pub record TellsPart (v : View) (log : List Entry) (from : ℕ) (r : Registry) (
   pub many : b.span.lanes ≡ length b.lanes
   pub lanes : TellsBlock v b.span log b.lanes
   pub registers : AreSo b.span.from (b.span.to + 16) r (first_items b.lanes)
+  pub knows : KnowsEach v r (first_items b.lanes)
   pub ended : AreEnded b.lanes
+  pub fulls : At (λ i x. NamesOneClaim b.span.full x.items) b.lanes
   pub alone : (x : Lane) → b.lanes ≡ x ∷ [] → TellsOneLane r.rows b.span.full from x
 
--- what one tells in which none did: besides, the definitions at each version are those that its first lane's items tell; and by them, and
--- by the rows behind the block, pieces by an index lie where the index is complete, and none is read one by one that was known to be so
+-- what one tells in which a lane did: by the definitions behind it, which are those that its first lane's items tell unless it was that
+-- lane, pieces by an index lie where the index is complete, and no number is read one by one that was known to be so
+pub record TellsCut (v : View) (log : List Entry) (from : ℕ) (r : Registry) (b : Block) : Type 0 where
+  pub part : TellsPart v log from r b
+  pub behind : Registry
+  pub last : b.span.last ≡ behind.version
+  pub plans : LanesSayPlans v r behind.rows from b.lanes
+  pub behind_is : (x : Lane) → slice_get b.lanes 0 ≡ Some x → x.fault ≡ cause.None → behind ≡ behind_block r b
+
+-- what one tells in which none did: every statement has its item; the definitions at each version are those that its first lane's items
+-- tell, with the boundary that was found behind them; and the same of plans, by these definitions
 pub record TellsOne (v : View) (log : List Entry) (from : ℕ) (r : Registry) (b : Block) : Type 0 where
   pub part : TellsPart v log from r b
+  pub whole : At (λ i x. x.fault ≡ cause.None) b.lanes
   pub registers : AreSo b.span.from (b.span.to + 16) r (block_controls b)
   pub knows : KnowsEach v r (block_controls b)
   pub last : b.span.last ≡ (behind_block r b).version
@@ -103,7 +123,7 @@ TellsBlocks v log from r (b ∷ blocks) end = TellsOne v log from r b × TellsBl
 -- what a block tells that a lane's fault cut, and with which the log ends
 abbrev pub TellsRest : View → List Entry → ℕ → Registry → Option Block → ℕ → Type 0
 TellsRest v log from r None end = from ≡ end
-TellsRest v log from r (Some b) end = TellsPart v log from r b × (b.span.to ≡ end)
+TellsRest v log from r (Some b) end = TellsCut v log from r b × (b.span.to ≡ end)
 
 -- what all blocks of a run tell, from the empty log on, in which no claim had found the log full
 pub record TellsRun (v : View) (log : List Entry) (blocks : List Block) (cut : Option Block) (end : ℕ) : Type 0 where
@@ -114,6 +134,11 @@ pub record TellsRun (v : View) (log : List Entry) (blocks : List Block) (cut : O
   pub rest_full : IfSome cut (IsFullSince blocks)
 
 -- ---- refusals of a full log
+
+-- the blocks, and the one behind them that was cut
+abbrev pub with_cut : List Block → Option Block → List Block
+with_cut blocks None = blocks
+with_cut blocks (Some b) = blocks ++ b ∷ []
 
 -- all such items name the log's end, and those with the same line have the same lines
 pub record FullsAgree (blocks : List Block) (end : ℕ) : Type 0 where

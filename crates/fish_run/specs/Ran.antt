@@ -6,7 +6,7 @@ use Rattle.fish_rule.specs.ClosedLog.{IsClosed}
 use Rattle.fish_rule.specs.declared.close.Remains.{Remains}
 use Rattle.fish_rule.specs.declared.table.Shape.{Shape}
 use Rattle.fish_rule.specs.declared.view.View.{View}
-use Rattle.fish_run.specs.Blocks.{Block, FullsAgree, TellsRun}
+use Rattle.fish_run.specs.Blocks.{Block, FullsAgree, TellsRun, with_cut}
 use Rattle.fish_run.specs.Reports.{are_refused, report_of, whole_report}
 use Rattle.fish_run.specs.Works.{AreNumbered, IsLaneOf, Pairs}
 use Rattle.fish_run.specs.declared.running.RunFault.{RunFault}
@@ -58,7 +58,7 @@ pub record IsStopped (told : Option Files) (text : List script.Block) (shape : S
   pub view : View
   pub closed : IsClosed view remains
   pub tells : TellsRun view remains.log blocks cut (length remains.log)
-  pub fulls : FullsAgree blocks (shape.pages * 32768)
+  pub fulls : FullsAgree (with_cut blocks cut) (shape.pages * 32768)
   pub heads : length remains.heads ≡ 2 ^ shape.bucket_bits
   pub written : WritesPart told text (length remains.log) old new blocks
   pub input : why ≡ fault.Input → (cut ≡ None) × Gained old new (report_text (report_of blocks))

@@ -4,6 +4,7 @@ use Rattle.fish_lanes.specs.Blocks.{AreEnded, HasRegistered, IsBlockSpan, NameMa
 use Rattle.fish_lanes.specs.Outcome.{IsFullIn, LanesSayPlans, TellsShutBy}
 use Rattle.fish_lanes.specs.Closing.{Will}
 use Rattle.fish_lanes.specs.Ending.{HasEnd}
+use Rattle.fish_lanes.specs.Gains.{WasShut}
 use Rattle.fish_lanes.specs.Registering.{Registry, registry_of}
 use Rattle.fish_lanes.specs.Spans.{Span}
 use Rattle.fish_lanes.specs.declared.block.BlockEnd.{BlockEnd}
@@ -16,8 +17,8 @@ use Rattle.fish_report.specs.declared.item.Item.{Item}
 use Rattle.fish_report.specs.declared.item.Item.TheVariants as item
 use Rattle.fish_rule.specs.declared.view.Shut.{Shut}
 use Rattle.fish_rule.specs.declared.view.View.{View}
-use Rattle.fish_run.specs.Blocks.{AreFullSince, AreMarked, Block, IsFullOf, TellsBlocks, TellsOne, TellsOneLane, TellsPart}
-use Rattle.fish_run.specs.Blocks.{TellsRun, behind_block, behind_blocks, no_registry}
+use Rattle.fish_run.specs.Blocks.{AreFullSince, AreMarked, Block, HasFoundFull, TellsBlocks, TellsCut, TellsOne, TellsOneLane}
+use Rattle.fish_run.specs.Blocks.{TellsRun, behind_block, behind_blocks, no_registry, with_cut}
 use Rattle.fish_run.specs.Ran.{AreFirst, IsBlockOf, IsNextOf}
 use Rattle.fish_run.specs.Reports.{are_refused, block_items, lanes_refused, report_of}
 use Rattle.fish_run.specs.Works.{AreNumbered, IsLaneOf, Pairs}
@@ -28,12 +29,14 @@ use Rattle.fish_script.specs.declared.script.Block as script
 -- ---- one block
 
 -- a block ran, and no lane stopped at a fault: behind it the log has so many numbers, and the registry is this; what shuts the
--- pass had shut it before, or an item of the block tells of it
+-- pass had shut it before, and then still does, or an item of the block tells of it; and an item that tells of a claim leaves it shut
 pub record HasRunOne (told : Option Files) (s : script.Block) (full : Option Shut) (u : View) (r t : Registry) (from to : ℕ) (b : Block)
     : Type 0 where
   pub is : IsBlockOf told s b
   pub full_is : b.span.full ≡ full
   pub shut : (c : Shut) → u.shut ≡ Some c → (full ≡ Some c) ⊎ IsFullIn b.lanes c.line c.lines c.end
+  pub keeps : (c : Shut) → full ≡ Some c → u.shut ≡ Some c
+  pub shuts : (line lines end : ℕ) → IsFullIn b.lanes line lines end → WasShut u
   pub ends : b.span.to ≡ to
   pub tells : Will u (λ x log. TellsOne x log from r b)
   pub marks : NameMarks u b.lanes
@@ -45,7 +48,8 @@ pub record HasCutOne (told : Option Files) (s : script.Block) (full : Option Shu
   pub is : IsBlockOf told s b
   pub full_is : b.span.full ≡ full
   pub ends : b.span.to ≡ to
-  pub tells : Will u (λ x log. TellsPart x log from r b)
+  pub tells : Will u (λ x log. TellsCut x log from r b)
+  pub marks : NameMarks u b.lanes
 
 -- a block ran and its items were written
 pub record WritesOne (told : Option Files) (s : script.Block) (full : Option Shut) (u : View) (r t : Registry) (from to : ℕ)
@@ -105,7 +109,7 @@ pub record WritesBlocks (told : Option Files) (text : List script.Block) (u : Vi
     (old new : Option (List ℕ)) (refused : Bool) : Type 0 where
   pub blocks : List Block
   pub ran : HasRunBlocks told text u r to blocks
-  pub shut : (c : Shut) → u.shut ≡ Some c → IsFullOf blocks c.line c.lines c.end
+  pub full : HasFoundFull blocks u.shut
   pub written : Gained old new (report_text (report_of blocks))
   pub refused_is : refused ≡ are_refused blocks
 
@@ -116,7 +120,7 @@ pub record HasRunFirst (told : Option Files) (text : List script.Block) (u : Vie
   pub cut_is : IfSome cut (IsNextOf told text (length blocks))
   pub ends : HasEnd u end
   pub tells : Will u (λ x log. TellsRun x log blocks cut end)
-  pub marks : AreMarked u blocks
+  pub marks : AreMarked u (with_cut blocks cut)
 
 -- all blocks ran, and their items were written
 pub record RunsAll (told : Option Files) (text : List script.Block) (u : View) (old new : Option (List ℕ)) (refused : Bool)

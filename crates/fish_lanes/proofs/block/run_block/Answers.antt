@@ -1,8 +1,9 @@
 -- The first lane and the others.
-use Rattle.std.proofs.Common.{◌≡◌, ◌+◌, ◌∙◌, [], ◌∷◌, ◌++◌, All, List, Some, get_or, length, set, slice_get, sym, subst}
-use Rattle.fish_lanes.proofs.Firsts.{alone_first, ended_both, first_acceptable, first_new, first_there, marks_both, others_many}
-use Rattle.fish_lanes.proofs.Firsts.{others_new, plans_both, shuts_both, tells_both, vacant_both}
+use Rattle.std.proofs.Common.{◌≡◌, ◌≤◌, ◌+◌, ◌∙◌, [], ◌∷◌, ◌++◌, All, List, Some, get_or, length, set, slice_get, sym, subst}
+use Rattle.fish_lanes.proofs.Firsts.{alone_first, first_acceptable, first_new, first_there, lanes_again, others_many, others_new}
+use Rattle.fish_lanes.proofs.Firsts.{vacant_both}
 use Rattle.fish_lanes.specs.Blocks.{AreEnded, CanGive, HasRegistered, IsNewLane, NameMarks, TellsBlock}
+use Rattle.fish_lanes.specs.Closing.{Will}
 use Rattle.fish_lanes.specs.Outcome.{AreVacant, TellsAloneBy}
 use Rattle.fish_lanes.specs.Outcome.{LanesSayPlans, TellsShutBy}
 use Rattle.fish_lanes.specs.Registering.{IsAcceptable, registry_of}
@@ -24,30 +25,20 @@ pub returns-clause-told : goal.returns-clause-told
 returns-clause-told g c k span many =
     let t = c.run_lanes.ensures.told k span
     (many ∙ subst (λ (z : List Lane). length c.args.lanes.now ≡ length z + 1) (sym c.split_at_mut-first.ensures.back)
-    (others_many c.args.lanes.now c.requires.lanes)) in (
-      t.0,
-      λ u remains base main none later closed.
-          subst (λ (z : List Lane). TellsBlock u k remains.log
-          (set z 0 c.run_lanes.new.first ++ c.run_lanes.new.others))
-          (sym c.split_at_mut-first.ensures.front)
-          (tells_both k c.run_lanes.new.first c.args.lanes.now c.run_lanes.new.others u remains.log
-          c.requires.lanes
-          (t.1 u remains base main none later closed) (t.2 u remains base main none later closed)),
-    )
+    (others_many c.args.lanes.now c.requires.lanes)) in
+    subst (λ (z : List Lane). (k.from ≤ k.to) × Will (view c.run_lanes.new.main) (λ v log. TellsBlock v k log z))
+    (lanes_again c.split_at_mut-first.result.0.now c.args.lanes.now c.run_lanes.new.first c.run_lanes.new.others c.requires.lanes
+    c.split_at_mut-first.ensures.front) t
 
 pub returns-clause-marks : goal.returns-clause-marks
-returns-clause-marks g c =
-    subst (λ (z : List Lane). NameMarks (view c.run_lanes.new.main) (set z 0 c.run_lanes.new.first ++ c.run_lanes.new.others))
-    (sym c.split_at_mut-first.ensures.front)
-    (marks_both (view c.run_lanes.new.main) c.run_lanes.new.first c.args.lanes.now c.run_lanes.new.others c.requires.lanes
-    c.run_lanes.ensures.first_marks c.run_lanes.ensures.others_marks)
+returns-clause-marks g c = subst (NameMarks (view c.run_lanes.new.main))
+    (lanes_again c.split_at_mut-first.result.0.now c.args.lanes.now c.run_lanes.new.first c.run_lanes.new.others c.requires.lanes
+    c.split_at_mut-first.ensures.front) c.run_lanes.ensures.marks
 
 pub returns-clause-ended : goal.returns-clause-ended
-returns-clause-ended g c =
-    subst (λ (z : List Lane). AreEnded (set z 0 c.run_lanes.new.first ++ c.run_lanes.new.others))
-    (sym c.split_at_mut-first.ensures.front)
-    (ended_both c.run_lanes.new.first c.args.lanes.now c.run_lanes.new.others c.requires.lanes
-    c.run_lanes.ensures.first_ended c.run_lanes.ensures.others_ended)
+returns-clause-ended g c = subst AreEnded
+    (lanes_again c.split_at_mut-first.result.0.now c.args.lanes.now c.run_lanes.new.first c.run_lanes.new.others c.requires.lanes
+    c.split_at_mut-first.ensures.front) c.run_lanes.ensures.ended
 
 pub run_lanes-requires-clause-acceptable : goal.run_lanes-requires-clause-acceptable
 run_lanes-requires-clause-acceptable g c κs bounds =
@@ -78,18 +69,12 @@ returns-clause-vacant g c before =
     c.split_at_mut-first.ensures.front c.run_lanes.ensures.first_seat) before c.run_lanes.ensures.vacant)
 
 pub returns-clause-shuts : goal.returns-clause-shuts
-returns-clause-shuts g c =
-    subst (λ (z : List Lane). TellsShutBy (view c.args.main.now) (view c.run_lanes.new.main)
-    (set z 0 c.run_lanes.new.first ++ c.run_lanes.new.others)) (sym c.split_at_mut-first.ensures.front)
-    (shuts_both (view c.args.main.now) (view c.run_lanes.new.main) c.run_lanes.new.first c.args.lanes.now c.run_lanes.new.others
-    c.requires.lanes c.run_lanes.ensures.shuts)
+returns-clause-shuts g c = subst (TellsShutBy (view c.args.main.now) (view c.run_lanes.new.main))
+    (lanes_again c.split_at_mut-first.result.0.now c.args.lanes.now c.run_lanes.new.first c.run_lanes.new.others c.requires.lanes
+    c.split_at_mut-first.ensures.front) c.run_lanes.ensures.shuts
 
 pub returns-clause-plans : goal.returns-clause-plans
-returns-clause-plans g c from end =
-    let t = view c.run_lanes.new.main in
-    let start = registry_of (view c.args.main.now) c.args.registrar.now in
-    let rows = c.run_lanes.new.registrar.catalog in
-    subst (λ (z : List Lane). LanesSayPlans t start rows from (set z 0 c.run_lanes.new.first ++ c.run_lanes.new.others))
-    (sym c.split_at_mut-first.ensures.front)
-    (plans_both t start rows from c.run_lanes.new.first c.args.lanes.now c.run_lanes.new.others c.requires.lanes
-    (c.run_lanes.ensures.first_plans from end) (c.run_lanes.ensures.others_plans from end))
+returns-clause-plans g c from end = subst (LanesSayPlans (view c.run_lanes.new.main)
+    (registry_of (view c.args.main.now) c.args.registrar.now) c.run_lanes.new.registrar.catalog from)
+    (lanes_again c.split_at_mut-first.result.0.now c.args.lanes.now c.run_lanes.new.first c.run_lanes.new.others c.requires.lanes
+    c.split_at_mut-first.ensures.front) (c.run_lanes.ensures.plans from end)

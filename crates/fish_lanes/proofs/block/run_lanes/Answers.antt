@@ -1,7 +1,7 @@
 -- The block from its start to its end.
 use Rattle.std.proofs.Common.{◌≡◌, ap, arith, length, subst, sym}
-use Rattle.fish_lanes.proofs.Course.{first_ended, first_marks, first_plans, has_end, is_later, kept_at, others_ended, others_marks}
-use Rattle.fish_lanes.proofs.Course.{others_plans, shut_by, tells_first, tells_others, vacant_at, within}
+use Rattle.fish_lanes.proofs.Course.{all_ended, all_marks, all_plans, all_shuts, has_end, is_later, kept_at, tells_all, vacant_at}
+use Rattle.fish_lanes.proofs.Course.{within}
 use Rattle.fish_lanes.proofs.Ends.{registered_end, taken_alone}
 use Rattle.fish_lanes.proofs.Moments.{counted_from, few_behind}
 use Rattle.fish_lanes.proofs.Single.{only_end}
@@ -49,11 +49,8 @@ returns-clause-kept g c = (let course = c.run_by_passes.ensures.course in kept_a
 pub returns-clause-vacant : goal.returns-clause-vacant
 returns-clause-vacant g c = (let course = c.run_by_passes.ensures.course in vacant_at course.run course.back)
 
-pub returns-clause-first_ended : goal.returns-clause-first_ended
-returns-clause-first_ended g c = first_ended c.run_by_passes.ensures.course.run
-
-pub returns-clause-others_ended : goal.returns-clause-others_ended
-returns-clause-others_ended g c = (let course = c.run_by_passes.ensures.course in others_ended course.run course.back)
+pub returns-clause-ended : goal.returns-clause-ended
+returns-clause-ended g c = (let course = c.run_by_passes.ensures.course in all_ended course.run course.back)
 
 pub returns-clause-alone : goal.returns-clause-alone
 returns-clause-alone g c none =
@@ -81,8 +78,7 @@ returns-clause-told g c k span many =
     let marks = c.requires.end.1.marks in
     let stood = c.requires.can.of.stands in (
       within course.run course.back ended base stands marks k span many stood,
-      tells_first course.run course.back ended base stands marks k span many stood,
-      tells_others course.run course.back ended base stands marks k span many stood c.requires.others.few,
+      tells_all course.run course.back ended base stands marks k span many stood c.requires.others.few,
     )
 
 pub returns-clause-registered : goal.returns-clause-registered
@@ -99,29 +95,17 @@ returns-clause-registered g c =
 pub returns-clause-shuts : goal.returns-clause-shuts
 returns-clause-shuts g c =
     let course = c.run_by_passes.ensures.course in
-    shut_by course.run course.back c.end_block.ensures.ended c.requires.others.base c.end_block.ensures.can.of.stands
+    all_shuts course.run course.back c.end_block.ensures.ended c.requires.others.base c.end_block.ensures.can.of.stands
     c.requires.end.1.marks
 
-pub returns-clause-first_plans : goal.returns-clause-first_plans
-returns-clause-first_plans g c =
+pub returns-clause-plans : goal.returns-clause-plans
+returns-clause-plans g c =
     let course = c.run_by_passes.ensures.course in
-    first_plans course.run course.back c.end_block.ensures.ended c.requires.others.base c.end_block.ensures.can.of.stands
-    c.requires.end.1.marks
-
-pub returns-clause-others_plans : goal.returns-clause-others_plans
-returns-clause-others_plans g c =
-    let course = c.run_by_passes.ensures.course in
-    others_plans course.run course.back c.end_block.ensures.ended c.requires.others.base c.end_block.ensures.can.of.stands
+    all_plans course.run course.back c.end_block.ensures.ended c.requires.others.base c.end_block.ensures.can.of.stands
     c.requires.end.1.marks c.requires.can.knows c.requires.known
 
-pub returns-clause-first_marks : goal.returns-clause-first_marks
-returns-clause-first_marks g c =
+pub returns-clause-marks : goal.returns-clause-marks
+returns-clause-marks g c =
     let course = c.run_by_passes.ensures.course in
-    first_marks course.run course.back c.end_block.ensures.ended c.requires.others.base c.end_block.ensures.can.of.stands
-    c.requires.end.1.marks
-
-pub returns-clause-others_marks : goal.returns-clause-others_marks
-returns-clause-others_marks g c =
-    let course = c.run_by_passes.ensures.course in
-    others_marks course.run course.back c.end_block.ensures.ended c.requires.others.base c.end_block.ensures.can.of.stands
+    all_marks course.run course.back c.end_block.ensures.ended c.requires.others.base c.end_block.ensures.can.of.stands
     c.requires.end.1.marks

@@ -19,6 +19,7 @@ returns c =
             c.run_pass-lane.new.items c.run_pass-lane.result) c.as_slice.ensures run;
         plans = subst (λ (z : List Work). SayPlans (view c.in-Some.field-0.pass) (view c.run_pass-lane.new.pass) z
             c.run_pass-lane.new.items) c.as_slice.ensures c.run_pass-lane.ensures.plans;
+        answers = c.run_pass-lane.ensures.answers;
         works = refl;
         number = refl;
       };

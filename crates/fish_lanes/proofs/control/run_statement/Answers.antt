@@ -4,7 +4,7 @@ use Rattle.std.specs.Prelude.{IfErr, IfOk}
 use Rattle.fish_lanes.proofs.Controls.{control_done, control_part, free_done, free_of, free_part, gained_any}
 use Rattle.fish_lanes.proofs.Gaining.{gains_start}
 use Rattle.fish_lanes.proofs.Registrations.{knows_kept, registry_same}
-use Rattle.fish_lanes.proofs.Single.{end_closed}
+use Rattle.fish_lanes.proofs.Single.{end_closed, end_rolls}
 use Rattle.fish_lanes.specs.Controlling.{IsControlled, IsPartControlled}
 use Rattle.fish_lanes.specs.Registering.{IsAcceptable}
 use Rattle.fish_lanes.specs.declared.work.Work.{Work}
@@ -26,7 +26,7 @@ returns-in-Register-clause-done c =
     (sym c.in-Register.is)
     (control_done v c.args.registrar.now t c.register.new.registrar (work.Register c.in-Register.name c.in-Register.def)
     c.register.result refl c.register.ensures.gains c.register.ensures.shut c.register.ensures.alone
-    c.register.ensures.tail c.register.ensures.item c.register.ensures.does)
+    c.register.ensures.tail c.register.ensures.rolls c.register.ensures.item c.register.ensures.does)
 
 pub returns-in-Register-clause-part : goal.returns-in-Register-clause-part
 returns-in-Register-clause-part c =
@@ -44,7 +44,7 @@ returns-in-Deregister-clause-done c =
     (control_done v c.args.registrar.now t c.deregister.new.registrar (work.Deregister c.in-Deregister.name)
     c.deregister.result refl c.deregister.ensures.gains c.deregister.ensures.shut
     (λ alone. end_closed c.in-Deregister.name c.deregister.result c.deregister.ensures.item) c.deregister.ensures.tail
-    c.deregister.ensures.item
+    (end_rolls v t c.in-Deregister.name c.deregister.result c.deregister.ensures.item) c.deregister.ensures.item
     c.deregister.ensures.does)
 
 pub returns-in-Deregister-clause-part : goal.returns-in-Deregister-clause-part

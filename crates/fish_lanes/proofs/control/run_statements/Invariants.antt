@@ -3,6 +3,8 @@ use Rattle.std.proofs.Common.{◌≡◌, take}
 use Rattle.fish_epoch.specs.Definitions.{IsDefsOf}
 use Rattle.fish_lanes.proofs.Controls.{Held}
 use Rattle.fish_lanes.specs.Controlling.{CanControl}
+use Rattle.fish_lanes.specs.Pending.{AreFound}
+use Rattle.fish_lanes.specs.Registering.{registry_of}
 use Rattle.fish_rule.specs.Passes.{view}
 use Rattle.fish_lanes.proofs.control.run_statements.Given as goal
 
@@ -12,4 +14,5 @@ invariant-loop-work l = record {
   read : IsDefsOf (view l.pass) l.defs;
   base : (view l.pass).about.number ≡ 0;
   held : Held (view l.fn.pass) l.fn.registrar (view l.pass) l.registrar (take l.work-index l.works) l.items;
+  found : AreFound (view l.fn.pass).clock (view l.pass).clock (registry_of (view l.fn.pass) l.fn.registrar) l.items;
 }

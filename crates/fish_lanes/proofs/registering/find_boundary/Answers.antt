@@ -1,11 +1,12 @@
 -- The registry stays, or what waits begins.
-use Rattle.std.proofs.Common.{◌≡◌, inl, inr, refl, ap, sym, subst, ◌∙◌, Option, Some, None}
+use Rattle.std.proofs.Common.{◌≡◌, inl, inr, refl, ap, sym, subst, ◌∙◌, arith, Option, Some, None}
 use Rattle.fish_ingest.proofs.IngestionStart.{idle_law}
 use Rattle.fish_lanes.proofs.Parts.{on_ok}
-use Rattle.fish_lanes.proofs.Registrations.{does_bound, gains_changes, registry_same}
+use Rattle.fish_lanes.proofs.Registrations.{does_bound, gains_changes, registry_same, waiting_made}
 use Rattle.fish_lanes.specs.Registering.{waiting_id}
 use Rattle.fish_registry.proofs.Changing.{learns_changes}
 use Rattle.fish_registry.specs.Knowing.{IsWaitingFor}
+use Rattle.fish_registry.specs.Looking.{at_lane}
 use Rattle.fish_registry.specs.declared.registrar.Registrar.{Registrar}
 use Rattle.fish_registry.specs.declared.registrar.Waiting.{Waiting}
 use Rattle.fish_rule.specs.Passes.{view}
@@ -53,6 +54,27 @@ returns-in-Bound-clause-polled c =
     c.requires.can.knows c.poll.ensures.knows c.in-Bound.id c.in-Bound.from tells.0 tells.1 tells.2 c.poll.ensures.changes.count
     tells.4 in
     on_ok c.push.result _ _ (λ pushed. inr (c.in-Bound.id, c.in-Bound.from, pushed, does)) c.push.ensures.ok
+
+-- none waits, or a lane was found at an older version
+pub returns-in-Idle-clause-looked : goal.returns-in-Idle-clause-looked
+returns-in-Idle-clause-looked c =
+    let tells = c.in-Idle.ensures.tells in inl (ap (λ (z : Registrar). z.waiting) tells.1 ∙ tells.0)
+
+pub returns-in-NotYet-clause-looked : goal.returns-in-NotYet-clause-looked
+returns-in-NotYet-clause-looked c =
+    let tells = c.in-NotYet.ensures.tells in
+    let made = waiting_made (view c.poll.new.pass) c.poll.new.self (at_lane tells.0 c.in-NotYet.seat) c.poll.ensures.pass.stands
+    c.poll.ensures.knows tells.2 in
+    let less = tells.5 in
+    inr (record {
+      lane = c.in-NotYet.seat;
+      older = c.in-NotYet.version;
+      loaded = tells.4;
+      less = omega arith;
+    })
+
+pub returns-in-Bound-clause-looked : goal.returns-in-Bound-clause-looked
+returns-in-Bound-clause-looked c = inl c.in-Bound.ensures.tells.1
 
 -- where none waits nothing is done
 pub returns-in-Idle-clause-idle : goal.returns-in-Idle-clause-idle

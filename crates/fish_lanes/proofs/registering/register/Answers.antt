@@ -3,7 +3,7 @@ use Rattle.std.proofs.Common.{◌∙◌, sym, subst, ℕ, List, []}
 use Rattle.std.specs.Prelude.{IfOk}
 use Rattle.fish_epoch.proofs.Reading.{defs_later}
 use Rattle.fish_ingest.proofs.IngestionStart.{idle_law}
-use Rattle.fish_lanes.proofs.Doings.{does_begun, ok_then, register_so, registered_here, registry_stays, tail_before}
+use Rattle.fish_lanes.proofs.Doings.{does_begun, ok_then, register_so, registered_here, registry_stays, rolls_before, tail_before}
 use Rattle.fish_lanes.proofs.Gaining.{gains_both}
 use Rattle.fish_lanes.proofs.Single.{alone_changes}
 use Rattle.fish_lanes.proofs.Registrations.{gains_changes, registry_later}
@@ -62,6 +62,13 @@ returns-in-Some-clause-does c =
       is = registry_stays v t r c.begin.new.self c.in-Err.ensures.refused.0 c.in-Err.ensures.refused.1;
       knows = λ h. registry_later v t (registry_of v r) (learns_changes v t c.begin.ensures.changes) h;
     }
+
+pub returns-in-Ok-clause-rolls : goal.returns-in-Ok-clause-rolls
+returns-in-Ok-clause-rolls c =
+    let v = view c.args.pass.now in
+    let u = view c.begin.new.pass in
+    let t = view c.registered.new.pass in
+    ok_then c.registered.result (λ x h. rolls_before v u t x c.begin.ensures.changes.clock h) c.registered.ensures.rolls
 
 pub returns-in-Ok-clause-alone : goal.returns-in-Ok-clause-alone
 returns-in-Ok-clause-alone c alone =

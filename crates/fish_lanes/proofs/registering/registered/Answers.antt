@@ -2,6 +2,7 @@
 use Rattle.fish_epoch.proofs.Reading.{defs_later}
 use Rattle.fish_lanes.proofs.Registrations.{polls_gain, reads_gain, reads_know, reads_start, tells_at_once, tells_rolling}
 use Rattle.fish_registry.proofs.Changing.{learns_changes, same_tail}
+use Rattle.fish_rule.proofs.laws.Clocks.{later_self, loaded_within}
 use Rattle.fish_rule.specs.Passes.{view}
 use Rattle.fish_scan.proofs.Answering.{scans_alone}
 use Rattle.fish_lanes.proofs.registering.registered.Goals as goal
@@ -77,6 +78,13 @@ returns-in-Bound-clause-tells c =
     c.in_ok-read_definitions.ensures.read (view c.poll.new.pass) c.poll.new.self c.poll.ensures.pass.stands c.poll.ensures.knows
     c.poll.ensures.changes c.args.name c.args.id c.args.def c.in-Bound.id c.in-Bound.from c.requires.waits tells.0 tells.1
     tells.2 tells.4
+
+-- the lane and the version are those that the look loaded
+pub returns-in-NotYet-clause-rolls : goal.returns-in-NotYet-clause-rolls
+returns-in-NotYet-clause-rolls c =
+    let t = view c.poll.new.pass in
+    loaded_within (view c.args.pass.now).clock (view c.read_definitions.new.pass).clock t.clock t.clock _ _
+    c.read_definitions.ensures.only.clock c.in-NotYet.ensures.tells.4 (later_self t.clock)
 
 -- no other lane is out, so none is older
 pub returns-in-NotYet-clause-alone : goal.returns-in-NotYet-clause-alone

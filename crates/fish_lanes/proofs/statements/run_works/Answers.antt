@@ -4,18 +4,20 @@ use Rattle.std.proofs.lemmas.List.{take_all, take_more}
 use Rattle.fish_ingest.proofs.IngestionStart.{idle_law}
 use Rattle.fish_lanes.proofs.Advancing.{answers_more, run_cut, run_ended, told_more}
 use Rattle.fish_lanes.proofs.Done.{HasTold, told_self}
+use Rattle.fish_lanes.proofs.Lists.{all_more}
 use Rattle.fish_lanes.proofs.Parts.{around}
 use Rattle.fish_lanes.proofs.Saying.{HasSaid, said_cut, said_more, said_self}
 use Rattle.fish_lanes.proofs.Showing.{fit_answer, free_made}
 use Rattle.fish_lanes.proofs.Gaining.{gains_start}
 use Rattle.fish_lanes.specs.Running.{HasRun, IsFree, SayPlans}
-use Rattle.fish_lanes.specs.Spans.{answers}
+use Rattle.fish_lanes.specs.Spans.{IsAnswer, answers}
 use Rattle.fish_lanes.specs.Telling.{count_of}
 use Rattle.fish_report.specs.declared.item.Item.{Item}
 use Rattle.fish_lanes.specs.declared.work.LaneFault.TheVariants as cause
 use Rattle.fish_lanes.specs.declared.work.Work.{Work}
 use Rattle.fish_rule.proofs.laws.Learning.{learns_self}
 use Rattle.fish_rule.specs.Passes.{view}
+use Rattle.fish_rule.specs.Views.{AllOf}
 use Rattle.fish_rule.specs.declared.view.Key.{Key}
 use Rattle.fish_lanes.proofs.statements.run_works.Goals as goal
 
@@ -30,6 +32,7 @@ loop-work-init c =
       told = subst (λ (z : List Item). HasTold v v [] (answers z)) (sym c.requires.empty)
           (told_self v c.requires.start.outside (idle_law v c.requires.pass.stands c.requires.start));
       said = subst (HasSaid v v []) (sym c.requires.empty) (said_self v (learns_self v));
+      answers = subst (AllOf IsAnswer) (sym c.requires.empty) tt;
     }
 
 pub returns-in_default-clause-run : goal.returns-in_default-clause-run
@@ -105,6 +108,8 @@ loop-work-preserved c =
           is.gained.gains.on.learns free is.fit told.gains.on.learns
           (ap (λ (z : List Item). length z) (answers_more c.loop-work.items c.in-Ok.item (fit_answer u t w c.in-Ok.item is.fit))
           ∙ told.size));
+      answers = subst (AllOf IsAnswer) (sym c.in-Ok-push.ensures.ok)
+          (all_more IsAnswer c.loop-work.items c.in-Ok.item inv.answers (fit_answer u t w c.in-Ok.item is.fit));
     }
 
 pub returns-clause-run : goal.returns-clause-run
@@ -114,6 +119,9 @@ returns-clause-run c =
     subst (λ (z : List Work). HasRun (view c.args.pass.now) (view c.loop-work.pass) z c.loop-work.items cause.None) all
     (run_ended (view c.args.pass.now) (view c.loop-work.pass) (take c.loop-work.work-index c.args.works.now) c.loop-work.items
     c.loop-work.invariant.told)
+
+pub returns-in-Err-clause-answers : goal.returns-in-Err-clause-answers
+returns-in-Err-clause-answers c = subst (AllOf IsAnswer) (sym c.in-Err.ensures.err) c.loop-work.invariant.answers
 
 pub returns-clause-plans : goal.returns-clause-plans
 returns-clause-plans c =

@@ -4,8 +4,9 @@ use Rattle.fish_epoch.specs.Definitions.{IsDefsOf}
 use Rattle.fish_ingest.specs.Ingestion.{CanStart}
 use Rattle.fish_lanes.proofs.Done.{HasTold}
 use Rattle.fish_lanes.proofs.Saying.{HasSaid}
-use Rattle.fish_lanes.specs.Spans.{answers}
+use Rattle.fish_lanes.specs.Spans.{IsAnswer, answers}
 use Rattle.fish_rule.specs.Passes.{IsPassOf, view}
+use Rattle.fish_rule.specs.Views.{AllOf}
 use Rattle.fish_lanes.proofs.statements.run_works.Given as goal
 
 abbrev pub invariant-loop-work : goal.invariant-loop-work
@@ -16,4 +17,5 @@ invariant-loop-work l = record {
   base : (view l.pass).about.number ≡ 0;
   told : HasTold (view l.fn.pass) (view l.pass) (take l.work-index l.works) (answers l.items);
   said : HasSaid (view l.fn.pass) (view l.pass) (take l.work-index l.works) l.items;
+  answers : AllOf IsAnswer l.items;
 }
