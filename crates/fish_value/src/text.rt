@@ -3,6 +3,7 @@
 ghost use Rattle.std.specs.Prelude.{◌≡◌, ◌↔◌, ℕ, List, IfOk, IfSome, IsSome, IsTrue, IsUtf8, string_bytes};
 
 use std::alloc::{AllocError, Global};
+use std::convert::AsStr;
 use std::marker::Model;
 
 /// A text in UTF-8, which owns its bytes.
@@ -17,6 +18,14 @@ impl Model for Text {
     ghost Value = { List ℕ };
 
     ghost view = { λ t. string_bytes t.inner };
+}
+
+impl AsStr for Text {
+    ghost text = { λ t. t };
+
+    fn as_str(&self) -> &str {
+        self.inner.as_str()
+    }
 }
 
 impl Text {

@@ -1,15 +1,13 @@
 -- A line is read as the plain words and the options that it has.
-use Rattle.std.proofs.Common.{◌≡◌, ◌<◌, ◌≤◌, List, [], ◌∷◌, ◌++◌, Bool, true, false, refl, sym, ap, ◌∙◌, arith}
-use Rattle.std.proofs.Common.{length, length-append, append_assoc}
+use Rattle.std.proofs.Common.{◌≡◌, List, [], ◌∷◌, ◌++◌, Bool, true, false, refl, sym, ap, ◌∙◌}
+use Rattle.std.proofs.Common.{append_assoc}
 use Rattle.std.proofs.lemmas.List.{append-nil}
-use Rattle.std.proofs.lemmas.Bool.Decides.{nat_tests}
-use Rattle.std.specs.Prelude.{◌&&◌, not, Option, Some, None, is_some, nat_lt, option_and_then, option_map}
+use Rattle.std.specs.Prelude.{◌&&◌, not, Option, Some, None, is_some, option_and_then, option_map}
 use Rattle.std.specs.List.{cons_option, filter_map, flat_map, list_all}
 use Rattle.std.specs.Str.Parse.{starts_with_minus}
 use Rattle.fish_words.specs.Line.{Part, plain, apart, joined, choice_in, is_mark, is_part, marked, spelled, word_in}
-use Rattle.fish_words.specs.Options.{Word, choice_of, with_choice, with_choices}
+use Rattle.fish_words.specs.Options.{Choice, Word, choice_of, with_choice, with_choices}
 use Rattle.fish_words.specs.Reading.{Found, at_part, read, with_word, with_words}
-use Rattle.fish_words.specs.declared.options.Choice.{Choice}
 use Rattle.fish_words.specs.declared.options.Options.{Options}
 use Rattle.fish_words.proofs.Names.{option_begins, plain_unmarked}
 
@@ -28,36 +26,20 @@ pub not_true : (a : Bool) → not a ≡ true → a ≡ false
 not_true true h = sym h
 not_true false h = refl
 
--- there is room for a word more
-room : (words more : List Word) (w : Word) → length (words ++ w ∷ more) ≤ 3 → nat_lt (length words) 3 ≡ true
-room words more w h =
-    let sum = length-append words (w ∷ more) in
-    let less : length words < 3 = omega arith in
-    grind (arith, nat_tests)
-
--- one more plain word, where there is room
-word_read : (w : Word) (more : List Word) (f : Found) → length (f.plain ++ w ∷ more) ≤ 3
-    → with_word w f ≡ Some (record f { plain = f.plain ++ w ∷ [] })
-word_read w more f h = rw (room f.plain more w h)
-
 -- words behind `--` are read as plain words
 words_read : (words : List Word) (f : Found) → list_all (λ w. not (is_mark w)) words ≡ true
-    → length (f.plain ++ words) ≤ 3 → with_words words f ≡ Some (record f { plain = f.plain ++ words })
-words_read [] f unmarked fits = rw append-nil
-words_read (w ∷ more) f unmarked fits =
+    → with_words words f ≡ Some (record f { plain = f.plain ++ words })
+words_read [] f unmarked = rw append-nil
+words_read (w ∷ more) f unmarked =
     let here : is_mark w ≡ false = not_true _ (left_of _ _ unmarked) in
-    let g : Found = record f { plain = f.plain ++ w ∷ [] } in
-    let moves : (f.plain ++ w ∷ []) ++ more ≡ f.plain ++ w ∷ more = append_assoc f.plain (w ∷ []) more in
-    let fits_behind : length (g.plain ++ more) ≤ 3 = rw moves fits in
-    rw (here, word_read w more f fits) (words_read more g (right_of _ _ unmarked) fits_behind
-    ∙ ap (λ (words : List Word). Some (record f { plain = words })) moves)
+    rw here (words_read more (with_word w f) (right_of _ _ unmarked)
+    ∙ ap (λ (words : List Word). Some (record f { plain = words })) (append_assoc f.plain (w ∷ []) more))
 
 -- a line's end
 end_read : (behind : List Word) (f : Found) → list_all (λ w. not (is_mark w)) behind ≡ true
-    → length (f.plain ++ behind) ≤ 3
     → read (marked behind) (at_part f) ≡ Some (record f { plain = f.plain ++ behind })
-end_read [] f unmarked fits = rw append-nil
-end_read (w ∷ more) f unmarked fits = words_read (w ∷ more) f unmarked fits
+end_read [] f unmarked = rw append-nil
+end_read (w ∷ more) f unmarked = words_read (w ∷ more) f unmarked
 
 -- the next options, where the first is known
 options_next : (r : Option Options) (f : Found) (cs : List Choice) (options : Options) (next : Found → Option Found)
@@ -81,38 +63,34 @@ option_next (Some c) f cs options next due is h behind =
 pub line_read : (parts : List Part) (behind : List Word) (f : Found) (options : Options)
     → list_all is_part parts ≡ true → list_all (λ w. not (is_mark w)) behind ≡ true
     → with_choices f.options (filter_map choice_in parts) ≡ Some options
-    → length (f.plain ++ (filter_map word_in parts ++ behind)) ≤ 3
     → read (flat_map spelled parts ++ marked behind) (at_part f)
     ≡ Some (record { plain = f.plain ++ (filter_map word_in parts ++ behind); options = options })
-line_read [] behind f options sound unmarked once fits =
-    end_read behind f unmarked fits
+line_read [] behind f options sound unmarked once =
+    end_read behind f unmarked
     ∙ ap (λ (o : Option Options). option_map (λ p. record { plain = f.plain ++ behind; options = p }) o) once
-line_read (plain w ∷ parts) behind f options sound unmarked once fits =
+line_read (plain w ∷ parts) behind f options sound unmarked once =
     let starts : starts_with_minus w ≡ false = not_true _ (left_of _ _ sound) in
     let here : is_mark w ≡ false = plain_unmarked w (is_mark w) refl starts in
-    let words : List Word = filter_map word_in parts ++ behind in
-    let g : Found = record f { plain = f.plain ++ w ∷ [] } in
-    let moves : (f.plain ++ w ∷ []) ++ words ≡ f.plain ++ w ∷ words = append_assoc f.plain (w ∷ []) words in
-    let fits_behind : length (g.plain ++ words) ≤ 3 = rw moves fits in
-    rw (here, starts, word_read w words f fits)
-    (line_read parts behind g options (right_of _ _ sound) unmarked once fits_behind
-    ∙ ap (λ (ws : List Word). Some (record { plain = ws; options = options })) moves)
-line_read (apart n v ∷ parts) behind f options sound unmarked once fits =
+    rw (here, starts)
+    (line_read parts behind (with_word w f) options (right_of _ _ sound) unmarked once
+    ∙ ap (λ (ws : List Word). Some (record { plain = ws; options = options }))
+    (append_assoc f.plain (w ∷ []) (filter_map word_in parts ++ behind)))
+line_read (apart n v ∷ parts) behind f options sound unmarked once =
     let begins = option_begins n v (left_of _ _ sound) in
-    rw (begins.apart_unmarked, begins.apart_minus, begins.apart)
+    rw (begins.apart_unmarked, begins.apart)
     (option_next (choice_of n v) f (filter_map choice_in parts) options
     (λ g. read (flat_map spelled parts ++ marked behind) (at_part g)) _ (left_of _ _ sound) once
-    (λ g same more. line_read parts behind g options (right_of _ _ sound) unmarked more (rw same fits)
+    (λ g same more. line_read parts behind g options (right_of _ _ sound) unmarked more
     ∙ ap (λ (ws : List Word). Some (record {
       plain = ws ++ (filter_map word_in parts ++ behind);
       options = options;
     })) same))
-line_read (joined n v ∷ parts) behind f options sound unmarked once fits =
+line_read (joined n v ∷ parts) behind f options sound unmarked once =
     let begins = option_begins n v (left_of _ _ sound) in
-    rw (begins.joined_unmarked v, begins.joined_minus v, begins.joined v)
+    rw (begins.joined_unmarked v, begins.joined v)
     (option_next (choice_of n v) f (filter_map choice_in parts) options
     (λ g. read (flat_map spelled parts ++ marked behind) (at_part g)) _ (left_of _ _ sound) once
-    (λ g same more. line_read parts behind g options (right_of _ _ sound) unmarked more (rw same fits)
+    (λ g same more. line_read parts behind g options (right_of _ _ sound) unmarked more
     ∙ ap (λ (ws : List Word). Some (record {
       plain = ws ++ (filter_map word_in parts ++ behind);
       options = options;

@@ -1,6 +1,12 @@
+pub mod Arguments
+pub mod AtParts
+pub mod AtValues
 pub mod Complete
+pub mod LineLemmas
+pub mod Matches
 pub mod Names
 pub mod Outcomes
 pub mod Readings
-pub mod SizeLemmas
 pub mod Sound
+pub mod Values
+pub mod Walks

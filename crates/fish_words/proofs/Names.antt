@@ -1,14 +1,14 @@
 -- The names of options, and the words that begin with one.
-use Rattle.std.proofs.Common.{◌≡◌, ℕ, ◌<◌, suc, [], ◌∷◌, ◌++◌, Bool, true, false, refl, subst, sym, inl, inr, arith, drop}
-use Rattle.std.specs.Prelude.{◌⊎◌, Option, Some, None, codes, is_some, nat_lt, length, slice_index, if◌then◌else◌}
+use Rattle.std.proofs.Common.{◌≡◌, ℕ, [], ◌∷◌, ◌++◌, Bool, true, false, refl, subst, sym, inl, inr}
+use Rattle.std.specs.Prelude.{◌==◌, ◌⊎◌, Option, Some, None, codes, is_some, if◌then◌else◌}
 use Rattle.std.specs.Str.{bytes_eq}
 use Rattle.std.specs.Str.Parse.{starts_with_minus}
-use Rattle.std.proofs.lemmas.Bool.Decides.{nat_tests}
+use Rattle.std.proofs.lemmas.Bool.{eqb-true}
 use Rattle.std.proofs.lemmas.Slice.Eq.{bytes_eq-Decides}
+use Rattle.clap.specs.Lexer.{long_of, long_of_rest}
 use Rattle.fish_words.specs.Line.{is_mark}
-use Rattle.fish_words.specs.Options.{Word, choice_of}
-use Rattle.fish_words.specs.Reading.{option_in}
-use Rattle.fish_words.specs.declared.options.Choice.{Choice}
+use Rattle.fish_words.specs.Options.{Choice, Word, choice_of}
+use Rattle.fish_words.specs.Reading.{has_one_minus}
 
 -- what a test of a word says
 pub same_word : (a b : Word) → bytes_eq a b ≡ true → a ≡ b
@@ -26,34 +26,18 @@ named_by n false false false x y z is_form is_pages is_bits h = cc
 
 -- a word that begins with `--` and this name is read as this option
 pub record BeginsOption (n : Word) : Type 0 where
-  pub apart : option_in (codes "--" ++ n) ≡ Some (n, None)
+  pub apart : long_of_rest n ≡ Some (n, None)
   pub apart_unmarked : is_mark (codes "--" ++ n) ≡ false
-  pub apart_minus : starts_with_minus (codes "--" ++ n) ≡ true
-  pub joined : (v : Word) → option_in (codes "--" ++ n ++ codes "=" ++ v) ≡ Some (n, Some v)
+  pub joined : (v : Word) → long_of_rest (n ++ codes "=" ++ v) ≡ Some (n, Some v)
   pub joined_unmarked : (v : Word) → is_mark (codes "--" ++ n ++ codes "=" ++ v) ≡ false
-  pub joined_minus : (v : Word) → starts_with_minus (codes "--" ++ n ++ codes "=" ++ v) ≡ true
-
--- words of some length are longer than a part of them
-longer_than_one : (n : ℕ) → nat_lt 1 (suc (suc n)) ≡ true
-longer_than_one n = grind (arith, nat_tests)
-
--- the same, with four
-longer_than_four : (n : ℕ) → nat_lt 4 (suc (suc (suc (suc (suc n))))) ≡ true
-longer_than_four n = grind (arith, nat_tests)
-
--- the same, with five
-longer_than_five : (n : ℕ) → nat_lt 5 (suc (suc (suc (suc (suc (suc n)))))) ≡ true
-longer_than_five n = grind (arith, nat_tests)
 
 -- so for `form`
 form_begins : BeginsOption (codes "form")
 form_begins = record {
   apart = refl;
   apart_unmarked = refl;
-  apart_minus = refl;
-  joined = λ v. rw (longer_than_one, longer_than_four);
+  joined = λ v. refl;
   joined_unmarked = λ v. refl;
-  joined_minus = λ v. refl;
 }
 
 -- so for `pages`
@@ -61,10 +45,8 @@ pages_begins : BeginsOption (codes "pages")
 pages_begins = record {
   apart = refl;
   apart_unmarked = refl;
-  apart_minus = refl;
-  joined = λ v. rw (longer_than_one, longer_than_five);
+  joined = λ v. refl;
   joined_unmarked = λ v. refl;
-  joined_minus = λ v. refl;
 }
 
 -- so for `bits`
@@ -72,10 +54,8 @@ bits_begins : BeginsOption (codes "bits")
 bits_begins = record {
   apart = refl;
   apart_unmarked = refl;
-  apart_minus = refl;
-  joined = λ v. rw (longer_than_one, longer_than_four);
+  joined = λ v. refl;
   joined_unmarked = λ v. refl;
-  joined_minus = λ v. refl;
 }
 
 -- so for each name that an option has
@@ -95,8 +75,39 @@ plain_unmarked w true is plain =
     let bad : starts_with_minus (codes "--") ≡ false = subst (λ (x : Word). starts_with_minus x ≡ false)
     (same_word w (codes "--") is) plain in cc
 
--- what stands behind the two first bytes of a word
-pub behind_two : (w : Word) → 1 < length w → slice_index w 0 ≡ 45 → slice_index w 1 ≡ 45 → w ≡ codes "--" ++ drop 2 w
-behind_two [] long first second = absurd (omega arith)
-behind_two (a ∷ []) long first second = absurd (omega arith)
-behind_two (a ∷ b ∷ rest) long first second = rw (first, second)
+-- ---- words by their first bytes
+
+-- a word is plain, has one minus, is `--`, or is an option
+module _ (P : Word → Type 0) (plain : (y : Word) → starts_with_minus y ≡ false → P y)
+    (single : (y : Word) → starts_with_minus y ≡ true → has_one_minus y ≡ true → is_mark y ≡ false
+    → long_of y ≡ None → P y)
+    (mark : P (codes "--")) (long : (c : ℕ) (rest : Word) → P (45 ∷ 45 ∷ c ∷ rest)) where
+  -- behind two minuses
+  third : (more : Word) → P (45 ∷ 45 ∷ more)
+  third [] = mark
+  third (c ∷ rest) = long c rest
+
+  -- by the second byte
+  second_by : (b : ℕ) (more : Word) (t : Bool) → (b == 45) ≡ t → P (45 ∷ b ∷ more)
+  second_by b more true is = subst (λ (n : ℕ). P (45 ∷ n ∷ more)) (sym (eqb-true b 45 is)) (third more)
+  second_by b more false is = single (45 ∷ b ∷ more) refl (rw is refl) (rw is refl) (rw is refl)
+
+  -- behind one minus
+  second : (more : Word) → P (45 ∷ more)
+  second [] = single (45 ∷ []) refl refl refl refl
+  second (b ∷ more) = second_by b more (b == 45) refl
+
+  -- by the first byte
+  first_by : (a : ℕ) (more : Word) (t : Bool) → (a == 45) ≡ t → P (a ∷ more)
+  first_by a more true is = subst (λ (n : ℕ). P (n ∷ more)) (sym (eqb-true a 45 is)) (second more)
+  first_by a more false is = plain (a ∷ more) is
+
+  -- so of each word
+  pub kinds : (x : Word) → P x
+  kinds [] = plain [] refl
+  kinds (a ∷ more) = first_by a more (a == 45) refl
+
+-- a plain word is no option
+pub long_plain : (x : Word) → starts_with_minus x ≡ false → long_of x ≡ None
+long_plain [] plain = refl
+long_plain (a ∷ more) plain = rw plain refl

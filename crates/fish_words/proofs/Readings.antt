@@ -1,5 +1,5 @@
 -- The words are a command with some parts exactly where these are read.
-use Rattle.std.proofs.Common.{◌≡◌, ℕ, ◌≤◌, List, [], ◌∷◌, Bool, true, false, refl, sym, ap, ◌∙◌, subst, arith, length}
+use Rattle.std.proofs.Common.{◌≡◌, ℕ, List, [], ◌∷◌, Bool, true, false, refl, sym, ap, ◌∙◌, subst}
 use Rattle.std.specs.Prelude.{◌||◌, Option, Some, None, codes, is_some, option_and_then, unwrap_or, if◌then◌else◌}
 use Rattle.std.specs.Str.{bytes_eq}
 use Rattle.std.specs.Str.Parse.{starts_with_minus}
@@ -30,12 +30,12 @@ line_is words f e =
       once = goes.once;
     }
 
--- a line of at most three plain words is read
-line_reads : (words plain : List Word) (o : Options) → length plain ≤ 3 → IsLine words plain o
+-- a line is read
+line_reads : (words plain : List Word) (o : Options) → IsLine words plain o
     → read words (at_part nothing_found) ≡ Some (record { plain = plain; options = o })
-line_reads words plain o fits h =
+line_reads words plain o h =
     rw h.spells
-    (line_read h.parts h.behind nothing_found o h.sound h.unmarked h.once (rw (← h.plains) fits)
+    (line_read h.parts h.behind nothing_found o h.sound h.unmarked h.once
     ∙ ap (λ (ws : List Word). Some (record { plain = ws; options = o })) (sym h.plains))
 
 -- ---- what is read is a command
@@ -136,8 +136,8 @@ request_is (verb ∷ behind) q e = verb_is verb behind q _ _ refl refl e
 -- the parts of a command are those that are read
 pub request_reads : (words : List Word) (q : Request) → IsRequest words q → request_of words ≡ Some q
 request_reads words (select def value file layout) h =
-    let reads = line_reads h.behind (def ∷ value ∷ file ∷ []) h.options (omega arith) h.line in
+    let reads = line_reads h.behind (def ∷ value ∷ file ∷ []) h.options h.line in
     rw (h.spells, reads, h.no_pages, h.no_bits, h.layout_is) refl
 request_reads words (run store script pages bits) h =
-    let reads = line_reads h.behind (script ∷ []) h.options (omega arith) h.line in
+    let reads = line_reads h.behind (script ∷ []) h.options h.line in
     rw (h.spells, h.plain, reads, h.no_layout, h.pages_are, h.bits_are) refl

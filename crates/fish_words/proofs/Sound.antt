@@ -1,22 +1,21 @@
 -- What is read is a line with these plain words and these options.
-use Rattle.std.proofs.Common.{◌≡◌, ℕ, ◌<◌, List, [], ◌∷◌, ◌++◌, Bool, true, false, refl, sym, ap, ◌∙◌, subst, arith}
-use Rattle.std.proofs.Common.{length, append_assoc, drop, add-one}
+use Rattle.std.proofs.Common.{◌≡◌, ℕ, List, [], ◌∷◌, ◌++◌, Bool, true, false, refl, sym, ap, ◌∙◌, subst, arith}
+use Rattle.std.proofs.Common.{append_assoc, drop}
 use Rattle.std.proofs.lemmas.Bool.{eqb-true}
-use Rattle.std.proofs.lemmas.Bool.Decides.{nat_tests}
 use Rattle.std.proofs.lemmas.List.{append-nil}
-use Rattle.std.proofs.lemmas.List.Quantifiers.{position-Some}
-use Rattle.std.proofs.Math.Seq.{split_at}
-use Rattle.std.specs.Prelude.{◌&&◌, ◌==◌, not, Option, Some, None, codes, nat_lt, option_and_then, option_map}
-use Rattle.std.specs.Prelude.{if◌then◌else◌, position, slice_index}
+use Rattle.std.specs.Prelude.{◌==◌, not, Option, Some, None, codes, option_and_then, option_map}
+use Rattle.std.specs.Prelude.{if◌then◌else◌}
 use Rattle.std.specs.List.{filter_map, flat_map, list_all}
 use Rattle.std.specs.Str.Parse.{starts_with_minus}
+use Rattle.std.proofs.Common.{suc, take, ◌+◌}
+use Rattle.std.specs.List.{position_or_len}
+use Rattle.clap.specs.Lexer.{has_byte, long_of, name_and_value}
 use Rattle.fish_words.specs.Line.{Part, plain, apart, joined, choice_in, is_mark, is_part, marked, spelled, word_in}
-use Rattle.fish_words.specs.Options.{Word, choice_of, with_choice, with_choices}
-use Rattle.fish_words.specs.Reading.{Found, Place, at_part, at_value, cut_at, option_in, read, read_option, with_behind}
+use Rattle.fish_words.specs.Options.{Choice, Word, choice_of, with_choice, with_choices}
+use Rattle.fish_words.specs.Reading.{Found, Place, at_part, at_value, read, read_option, with_behind}
 use Rattle.fish_words.specs.Reading.{with_word, with_words}
-use Rattle.fish_words.specs.declared.options.Choice.{Choice}
 use Rattle.fish_words.specs.declared.options.Options.{Options}
-use Rattle.fish_words.proofs.Names.{behind_two, same_word}
+use Rattle.fish_words.proofs.Names.{kinds, long_plain, same_word}
 
 -- words are a line, whose plain words and options come behind those of f, and are with them those of g
 pub record Goes (words : List Word) (f g : Found) : Type 0 where
@@ -93,19 +92,6 @@ choice_read f g next n v None is e behind = absurd cc
 choice_read f g next n v (Some c) is e behind =
     options_read f g next n v c (with_choice f.options c) is refl e behind
 
--- so is a plain word, for which there was room
-word_read_by : (room : Bool) (w : Word) (f g : Found) (next : Found → Option Found)
-    → option_and_then next (option_map (λ words. record f { plain = words })
-    (if room then Some (f.plain ++ w ∷ []) else None)) ≡ Some g
-    → next (record f { plain = f.plain ++ w ∷ [] }) ≡ Some g
-word_read_by true w f g next e = e
-word_read_by false w f g next e = absurd cc
-
--- a plain word that was read
-word_read : (w : Word) (f g : Found) (next : Found → Option Found) → option_and_then next (with_word w f) ≡ Some g
-    → next (record f { plain = f.plain ++ w ∷ [] }) ≡ Some g
-word_read w f g next e = word_read_by (nat_lt (length f.plain) 3) w f g next e
-
 -- words behind `--` that were read
 record GoesBehind (words : List Word) (f g : Found) : Type 0 where
   unmarked : list_all (λ w. not (is_mark w)) words ≡ true
@@ -113,11 +99,11 @@ record GoesBehind (words : List Word) (f g : Found) : Type 0 where
 
 -- one word more behind `--`
 words_go_by : (mark : Bool) (w : Word) (more : List Word) (f g : Found) → is_mark w ≡ mark
-    → (if mark then None else option_and_then (with_words more) (with_word w f)) ≡ Some g
+    → (if mark then None else with_words more (with_word w f)) ≡ Some g
     → ((h : Found) → with_words more h ≡ Some g → GoesBehind more h g) → GoesBehind (w ∷ more) f g
 words_go_by true w more f g is e behind = absurd cc
 words_go_by false w more f g is e behind =
-    let rest = behind (record f { plain = f.plain ++ w ∷ [] }) (word_read w f g (with_words more) e) in
+    let rest = behind (with_word w f) e in
     record {
       unmarked = rw is rest.unmarked;
       are = rest.are ∙ ap (λ (words : List Word). record f { plain = words }) (append_assoc f.plain (w ∷ []) more);
@@ -155,31 +141,38 @@ abbrev joined_text : Word × Option Word → Word
 joined_text (n, None) = n
 joined_text (n, Some v) = n ++ codes "=" ++ v
 
--- what is cut at its first `=` is its parts, joined again
-cut_text : (x : Word) (r : Option ℕ) → position (λ b. b == 61) x ≡ r → joined_text (cut_at x r) ≡ x
-cut_text x None is = refl
-cut_text x (Some i) is =
-    let at = position-Some (λ b. b == 61) x i 0 is in
-    let sign : slice_index x i ≡ 61 = eqb-true _ _ at.1 in
-    rw (append_assoc, add-one) (rw sign at (sym (split_at x i 0 at.0)))
+-- one byte more in front of what is joined
+joined_more : (c : ℕ) (name rest : Word) (has : Bool)
+    → joined_text (c ∷ name, (if has then Some rest else None)) ≡ c ∷ joined_text (name, (if has then Some rest else None))
+joined_more c name rest true = refl
+joined_more c name rest false = refl
 
--- the same, by the tests of the first two bytes
-option_text_by : (w : Word) (o : Word × Option Word) (a b c : Bool) → nat_lt 1 (length w) ≡ a
-    → (slice_index w 0 == 45) ≡ b → (slice_index w 1 == 45) ≡ c
-    → (if a && (b && c) then Some (cut_at (drop 2 w) (position (λ b. b == 61) (drop 2 w))) else None) ≡ Some o
-    → w ≡ codes "--" ++ joined_text o
-option_text_by w o true true true long first second e =
-    let same : cut_at (drop 2 w) (position (λ b. b == 61) (drop 2 w)) ≡ o = cc in
-    let longer : 1 < length w = grind (arith, nat_tests) in
-    behind_two w longer (eqb-true _ _ first) (eqb-true _ _ second)
-    ∙ ap (λ (x : Word). codes "--" ++ x) (sym (cut_text (drop 2 w) _ refl) ∙ ap joined_text same)
-option_text_by w o true true false long first second e = absurd cc
-option_text_by w o true false c long first second e = absurd cc
-option_text_by w o false b c long first second e = absurd cc
+-- what is cut at its first `=` is its parts, joined again
+cut_text_by : (c : ℕ) (x : Word) (b : Bool) → (c == 61) ≡ b → joined_text (name_and_value x) ≡ x
+    → joined_text (name_and_value (c ∷ x)) ≡ c ∷ x
+cut_text_by c x true is behind = rw is (ap (λ (n : ℕ). n ∷ x) (sym (eqb-true c 61 is)))
+cut_text_by c x false is behind =
+    let at : ℕ = position_or_len (λ b. b == 61) x in
+    let next : position_or_len (λ b. b == 61) (c ∷ x) ≡ suc at = rw is (omega arith) in
+    let far : suc at + 1 ≡ suc (at + 1) = omega arith in
+    let has : has_byte 61 (c ∷ x) ≡ has_byte 61 x = rw is refl in
+    (λ i. joined_text (take (next i) (c ∷ x), (if has i then Some (drop (next i + 1) (c ∷ x)) else None)))
+    ∙ (λ i. joined_text (c ∷ take at x, (if has_byte 61 x then Some (drop (far i) (c ∷ x)) else None)))
+    ∙ joined_more c (take at x) (drop (at + 1) x) (has_byte 61 x) ∙ ap (λ (y : Word). c ∷ y) behind
+
+cut_text : (x : Word) → joined_text (name_and_value x) ≡ x
+cut_text [] = refl
+cut_text (c ∷ x) = cut_text_by c x (c == 61) refl (cut_text x)
 
 -- a word that is read as an option is its name and its value
-option_text : (w : Word) (o : Word × Option Word) → option_in w ≡ Some o → w ≡ codes "--" ++ joined_text o
-option_text w o e = option_text_by w o _ _ _ refl refl refl e
+option_text : (w : Word) (o : Word × Option Word) → long_of w ≡ Some o → w ≡ codes "--" ++ joined_text o
+option_text w o = kinds (λ y. long_of y ≡ Some o → y ≡ codes "--" ++ joined_text o)
+    (λ y plain e. let none = long_plain y plain in absurd cc)
+    (λ y minus one unmarked short e. absurd cc)
+    (λ e. absurd cc)
+    (λ c rest e.
+    let same : name_and_value (c ∷ rest) ≡ o = cc in
+    ap (λ (x : Word). codes "--" ++ x) (sym (cut_text (c ∷ rest)) ∙ ap joined_text same)) w
 
 -- ---- all parts
 
@@ -199,15 +192,14 @@ goes_from w x words f g is h = subst (λ (y : Word). Goes (y ∷ words) f g) (sy
 
 -- one part and the words behind it, by what its first word is
 part_goes : (mark minus : Bool) (o : Option (Word × Option Word)) (w : Word) (words : List Word) (f g : Found)
-    → is_mark w ≡ mark → starts_with_minus w ≡ minus → option_in w ≡ o
+    → is_mark w ≡ mark → starts_with_minus w ≡ minus → long_of w ≡ o
     → (if mark then with_behind words f else (if minus then read_option o f (read words)
-    else option_and_then (λ h. read words (at_part h)) (with_word w f))) ≡ Some g
+    else read words (at_part (with_word w f)))) ≡ Some g
     → ((p : Place) → read words p ≡ Some g → Goes (words_at p words) (found_at p) g) → Goes (w ∷ words) f g
 part_goes true minus o w words f g is starts reads e behind =
     goes_from w (codes "--") words f g (same_word w (codes "--") is) (end_goes words f g e)
 part_goes false false o w words f g is starts reads e behind =
-    goes_plain w words f g starts (behind (at_part (record f { plain = f.plain ++ w ∷ [] }))
-    (word_read w f g (λ h. read words (at_part h)) e))
+    goes_plain w words f g starts (behind (at_part (with_word w f)) e)
 part_goes false true None w words f g is starts reads e behind = absurd cc
 part_goes false true (Some (n, None)) w words f g is starts reads e behind =
     goes_from w (codes "--" ++ n) words f g (option_text w (n, None) reads) (behind (at_value n f) e)
@@ -237,5 +229,5 @@ read_goes (w ∷ words) (at_value n f) g e =
     (λ c o is more rest. goes_apart n w words c o f g is more
     (read_goes words (at_part (record f { options = o })) g rest))
 read_goes (w ∷ words) (at_part f) g e =
-    part_goes (is_mark w) (starts_with_minus w) (option_in w) w words f g refl refl refl e
+    part_goes (is_mark w) (starts_with_minus w) (long_of w) w words f g refl refl refl e
     (λ p. read_goes words p g)

@@ -3,8 +3,7 @@ use Rattle.std.specs.Prelude.{◌≡◌, List, [], ◌∷◌, ◌++◌, Bool, no
 use Rattle.std.specs.List.{filter_map, flat_map, list_all}
 use Rattle.std.specs.Str.{bytes_eq}
 use Rattle.std.specs.Str.Parse.{starts_with_minus}
-use Rattle.fish_words.specs.Options.{Word, choice_of, no_options, with_choices}
-use Rattle.fish_words.specs.declared.options.Choice.{Choice}
+use Rattle.fish_words.specs.Options.{Choice, Word, choice_of, no_options, with_choices}
 use Rattle.fish_words.specs.declared.options.Options.{Options}
 
 -- a plain word, or an option by its name, with its value as the next word or behind `=` in the same one

@@ -1,10 +1,11 @@
 -- How words are read, one after the other. `Request` says what it means; these words are for the clauses of
 -- private functions.
-use Rattle.std.specs.Prelude.{ℕ, ◌+◌, List, [], ◌∷◌, ◌++◌, ◌==◌, ◌&&◌, ◌||◌, codes, take, drop, length}
-use Rattle.std.specs.Prelude.{nat_lt, Option, Some, None, is_some, option_and_then, option_map, position}
-use Rattle.std.specs.Prelude.{slice_index, unwrap_or, if◌then◌else◌}
+use Rattle.std.specs.Prelude.{List, [], ◌∷◌, ◌++◌, ◌==◌, ◌&&◌, ◌||◌, Bool, true, false, not, codes, Option, Some, None}
+use Rattle.std.specs.Prelude.{is_some, option_and_then, option_map, unwrap_or, if◌then◌else◌}
+use Rattle.std.specs.List.{list_all}
 use Rattle.std.specs.Str.{bytes_eq}
 use Rattle.std.specs.Str.Parse.{starts_with_minus}
+use Rattle.clap.specs.Lexer.{long_of}
 use Rattle.fish_words.specs.Line.{is_mark}
 use Rattle.fish_words.specs.Options.{Word, choice_of, json_lines, no_options, with_choice}
 use Rattle.fish_words.specs.Request.{Request, run, select}
@@ -19,13 +20,9 @@ pub record Found : Type 0 where
 abbrev pub nothing_found : Found
 nothing_found = record { plain = []; options = no_options }
 
--- one more plain word, of which no command has more than three
-abbrev pub with_plain : Word → List Word → Option (List Word)
-with_plain word words = if nat_lt (length words) 3 then Some (words ++ word ∷ []) else None
-
 -- a plain word more
-abbrev pub with_word : Word → Found → Option Found
-with_word word f = option_map (λ words. record f { plain = words }) (with_plain word f.plain)
+abbrev pub with_word : Word → Found → Found
+with_word word f = record f { plain = f.plain ++ word ∷ [] }
 
 -- an option more
 abbrev pub with_option : Word → Word → Found → Option Found
@@ -35,22 +32,12 @@ with_option name value f =
 -- plain words behind `--`
 abbrev pub with_words : List Word → Found → Option Found
 with_words [] f = Some f
-with_words (word ∷ more) f = if is_mark word then None else option_and_then (with_words more) (with_word word f)
+with_words (word ∷ more) f = if is_mark word then None else with_words more (with_word word f)
 
 -- what stands behind `--`: at least a plain word
 abbrev pub with_behind : List Word → Found → Option Found
 with_behind [] f = None
 with_behind (word ∷ more) f = with_words (word ∷ more) f
-
--- an option's name, and its value where it stands behind a `=`
-abbrev pub cut_at : Word → Option ℕ → Word × Option Word
-cut_at option None = (option, None)
-cut_at option (Some i) = (take i option, Some (drop (i + 1) option))
-
--- a word as an option: what stands behind its `--`, cut at the first `=` (61)
-abbrev pub option_in : Word → Option (Word × Option Word)
-option_in word = if nat_lt 1 (length word) && (slice_index word 0 == 45 && slice_index word 1 == 45)
-    then Some (cut_at (drop 2 word) (position (λ b. b == 61) (drop 2 word))) else None
 
 -- where the reading stands: at a part, or at the value of an option
 pub data Place : Type 0 where
@@ -66,8 +53,8 @@ read_option (Some (name, Some v)) f next = option_and_then (λ g. next (at_part 
 -- a part, with the words behind it and how they are read
 abbrev pub read_part : Word → List Word → Found → (Place → Option Found) → Option Found
 read_part word more f next = if is_mark word then with_behind more f else
-    (if starts_with_minus word then read_option (option_in word) f next
-    else option_and_then (λ g. next (at_part g)) (with_word word f))
+    (if starts_with_minus word then read_option (long_of word) f next
+    else next (at_part (with_word word f)))
 
 -- the plain words and the options of a line
 abbrev pub read : List Word → Place → Option Found
@@ -102,3 +89,19 @@ abbrev pub request_of : List Word → Option Request
 request_of [] = None
 request_of (verb ∷ behind) = if bytes_eq verb (codes "select") then select_in behind else
     (if bytes_eq verb (codes "run") then run_in behind else None)
+
+-- the word begins with one `-` and no second
+abbrev pub has_one_minus : Word → Bool
+has_one_minus [] = false
+has_one_minus (a ∷ []) = a == 45
+has_one_minus (a ∷ b ∷ rest) = a == 45 && not (b == 45)
+
+-- words may be behind `--`: there are some, and none is `--`
+abbrev pub are_placed_after : List Word → Bool
+are_placed_after [] = false
+are_placed_after (word ∷ more) = list_all (λ w. not (is_mark w)) (word ∷ more)
+
+-- each word that begins with `-` may be where it is, whatever the options are
+abbrev pub are_placed : List Word → Bool
+are_placed [] = true
+are_placed (word ∷ more) = if is_mark word then are_placed_after more else (not (has_one_minus word) && are_placed more)

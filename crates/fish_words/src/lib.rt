@@ -1,6 +1,6 @@
 //! Command lines: which words are a command of the program, and what they ask for.
 //!
-//! Words are read in one pass, and nothing is copied but what a command keeps.
+//! `clap` reads the words, and nothing is copied but what a command keeps.
 #![tactic(auto)]
 
 mod command;

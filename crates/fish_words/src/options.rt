@@ -1,9 +1,14 @@
 //! Options of commands, by name and value.
 
-ghost use Rattle.std.specs.Prelude.{◌≡◌, option_map};
+ghost use Rattle.std.specs.Prelude.{◌≡◌, ◌≤◌, IfSome};
+ghost use Rattle.clap.specs.Words.{found_of, rows_of};
 ghost use Rattle.fish_value.specs.Number.{int_of};
-ghost use Rattle.fish_words.specs.Options.{choice_of, json_lines, layout_of, no_options, with_choice, within};
+ghost use Rattle.fish_words.specs.Matched.{options_in};
+ghost use Rattle.fish_words.specs.Options.{json_lines, layout_of, within};
+ghost use Rattle.fish_words.specs.Sizes.{AreBits, ArePages};
 
+use crate::line::only;
+use clap::ArgMatches;
 use fish_value::{Form, read_int};
 
 /// The most pages that `--pages` takes.
@@ -22,17 +27,6 @@ pub(crate) struct Layout {
     pub form: Form,
     /// Whether the first names the fields of the others.
     pub header: bool,
-}
-
-/// One option of a command.
-#[derive(Clone, Copy)]
-pub(crate) enum Choice {
-    /// `--form F`
-    Form(Layout),
-    /// `--pages N`
-    Pages(u16),
-    /// `--bits N`
-    Bits(u8),
 }
 
 /// The options of a command, each where it was given.
@@ -58,54 +52,29 @@ impl Layout {
     }
 }
 
-impl Options {
-    /// No option.
-    pub fn new() -> Options
-        ensures { result ≡ no_options }
-    {
-        Options {
-            layout: None,
-            pages: None,
-            bits: None,
-        }
-    }
-
-    /// The options with one more, unless it stands already.
-    pub fn with(self, choice: Choice) -> Option<Options>
-        ensures { result ≡ with_choice self choice }
-    {
-        match choice {
-            Choice::Form(layout) if self.layout.is_none() => Some(Options {
-                layout: Some(layout),
-                ..self
-            }),
-            Choice::Pages(pages) if self.pages.is_none() => Some(Options {
-                pages: Some(pages),
-                ..self
-            }),
-            Choice::Bits(bits) if self.bits.is_none() => Some(Options {
-                bits: Some(bits),
-                ..self
-            }),
-            _ => None,
-        }
-    }
-}
-
-/// The option of a name with a value.
-pub(crate) fn choice_of(name: &[u8], value: &[u8]) -> Option<Choice>
-    ensures { result ≡ choice_of name.now value.now }
+/// The options among the matches of a line.
+pub(crate) fn options_in(matches: &ArgMatches<'_>) -> Option<Options>
+    ensures options { result ≡ options_in (rows_of (found_of matches.now)) }
+    ensures pages { IfSome result (λ o. ArePages o.pages) }
+    ensures bits { IfSome result (λ o. AreBits o.bits) }
 {
-    if name == b"form".as_slice() {
-        return Some(Choice::Form(layout_of(value)?));
-    }
-    if name == b"pages".as_slice() {
-        return Some(Choice::Pages(number_within(1, MAX_PAGES, value)?));
-    }
-    if name == b"bits".as_slice() {
-        return Some(Choice::Bits(number_within(MIN_BITS, MAX_BITS, value)? as u8));
-    }
-    None
+    let layout = match only(matches, "form")? {
+        Some(value) => Some(layout_of(value.as_bytes())?),
+        None => None,
+    };
+    let pages = match only(matches, "pages")? {
+        Some(value) => Some(number_within(1, MAX_PAGES, value.as_bytes())?),
+        None => None,
+    };
+    let bits = match only(matches, "bits")? {
+        Some(value) => Some(number_within(MIN_BITS, MAX_BITS, value.as_bytes())? as u8),
+        None => None,
+    };
+    Some(Options {
+        layout,
+        pages,
+        bits,
+    })
 }
 
 /// The layout of a name.
@@ -130,7 +99,8 @@ fn layout_of(value: &[u8]) -> Option<Layout>
 
 /// The number that a text stands for, within bounds.
 fn number_within(low: u16, high: u16, value: &[u8]) -> Option<u16>
-    ensures { result ≡ within low high (int_of value.now) }
+    ensures number { result ≡ within low high (int_of value.now) }
+    ensures bounds { IfSome result (λ n. (low ≤ n) × (n ≤ high)) }
 {
     let number = u16::try_from(read_int(value)?).ok()?;
     if low <= number && number <= high {

@@ -1,55 +1,77 @@
 //! The parts of a command, as words.
 
-ghost use Rattle.std.specs.Prelude.{◌≡◌, option_map};
-ghost use Rattle.fish_words.specs.Lent.{request_lent};
-ghost use Rattle.fish_words.specs.Reading.{request_of, run_in, select_in};
+ghost use Rattle.std.specs.Prelude.{◌≡◌, IfOk, IfSome, option_and_then, option_map};
+ghost use Rattle.clap.specs.Words.{found_of, rows_of};
+ghost use Rattle.fish_words.specs.Lent.{IsSized, request_lent};
+ghost use Rattle.fish_words.specs.Matched.{found_in};
+ghost use Rattle.fish_words.specs.Reading.{request_of, run_in, run_of, select_in, select_of};
 
-use crate::line::{Line, Plain, has_minus, line_of};
-use crate::options::Layout;
+use crate::line::{has_minus, line_of, values_of};
+use crate::options::{Layout, options_in};
+use clap::ArgMatches;
 use fish_value::Text;
+use std::alloc::{AllocError, Global};
 
-/// The words of a command by their parts. They are lent.
+/// The words of a command by their parts. They are borrowed.
 #[derive(Clone, Copy)]
 pub(crate) enum Lent<'a> {
     Select {
-        def: &'a Text,
-        value: &'a Text,
-        file: &'a Text,
+        def: &'a str,
+        value: &'a str,
+        file: &'a str,
         layout: Layout,
     },
     Run {
         store: &'a Text,
-        script: &'a Text,
+        script: &'a str,
         pages: Option<u16>,
         bits: Option<u8>,
     },
 }
 
 /// The parts of the command that words are.
-pub(crate) fn request_of<'a>(words: &'a [Text]) -> Option<Lent<'a>>
-    ensures { option_map request_lent result ≡ request_of words.now }
+pub(crate) fn request_of<'a>(
+    alloc: Global,
+    words: &'a [Text],
+) -> Result<Option<Lent<'a>>, AllocError>
+    ensures parts { IfOk result (λ request. option_map request_lent request ≡ request_of words.now) }
+    ensures sized { IfOk result (λ request. IfSome request IsSized) }
 {
     let [verb, behind @ ..] = words else {
-        return None;
+        return Ok(None);
     };
     match verb.as_str() {
-        "select" => select_in(behind),
-        "run" => run_in(behind),
-        _ => None,
+        "select" => select_in(alloc, behind),
+        "run" => run_in(alloc, behind),
+        _ => Ok(None),
     }
 }
 
 /// The parts of `select` that the words behind it are.
-fn select_in<'a>(behind: &'a [Text]) -> Option<Lent<'a>>
-    ensures { option_map request_lent result ≡ select_in behind.now }
+fn select_in<'a>(alloc: Global, behind: &'a [Text]) -> Result<Option<Lent<'a>>, AllocError>
+    ensures parts { IfOk result (λ request. option_map request_lent request ≡ select_in behind.now) }
+    ensures sized { IfOk result (λ request. IfSome request IsSized) }
 {
-    let Line { plain, options } = line_of(behind)?;
-    match plain {
-        Plain::Three(def, value, file) if options.pages.is_none() && options.bits.is_none() => {
+    let Some(line) = line_of(alloc, behind)? else {
+        return Ok(None);
+    };
+    let request = select_of(&line);
+    drop(line);
+    Ok(request)
+}
+
+/// A line as the parts of `select`.
+fn select_of<'a>(line: &ArgMatches<'a>) -> Option<Lent<'a>>
+    ensures parts { option_map request_lent result ≡ option_and_then (λ f. select_of f.plain f.options) (found_in (rows_of (found_of line.now))) }
+    ensures sized { IfSome result IsSized }
+{
+    let options = options_in(line)?;
+    match values_of(line, "words") {
+        Some([def, value, file]) if options.pages.is_none() && options.bits.is_none() => {
             Some(Lent::Select {
-                def,
-                value,
-                file,
+                def: *def,
+                value: *value,
+                file: *file,
                 layout: options.layout.unwrap_or(Layout::json_lines()),
             })
         }
@@ -58,20 +80,34 @@ fn select_in<'a>(behind: &'a [Text]) -> Option<Lent<'a>>
 }
 
 /// The parts of `run` that the words behind it are.
-fn run_in<'a>(behind: &'a [Text]) -> Option<Lent<'a>>
-    ensures { option_map request_lent result ≡ run_in behind.now }
+fn run_in<'a>(alloc: Global, behind: &'a [Text]) -> Result<Option<Lent<'a>>, AllocError>
+    ensures parts { IfOk result (λ request. option_map request_lent request ≡ run_in behind.now) }
+    ensures sized { IfOk result (λ request. IfSome request IsSized) }
 {
     let [store, behind @ ..] = behind else {
-        return None;
+        return Ok(None);
     };
     if has_minus(store) {
-        return None;
+        return Ok(None);
     }
-    let Line { plain, options } = line_of(behind)?;
-    match plain {
-        Plain::One(script) if options.layout.is_none() => Some(Lent::Run {
+    let Some(line) = line_of(alloc, behind)? else {
+        return Ok(None);
+    };
+    let request = run_of(store, &line);
+    drop(line);
+    Ok(request)
+}
+
+/// A line as the parts of `run`, behind the store.
+fn run_of<'a>(store: &'a Text, line: &ArgMatches<'a>) -> Option<Lent<'a>>
+    ensures parts { option_map request_lent result ≡ option_and_then (λ f. run_of store.now f.plain f.options) (found_in (rows_of (found_of line.now))) }
+    ensures sized { IfSome result IsSized }
+{
+    let options = options_in(line)?;
+    match values_of(line, "words") {
+        Some([script]) if options.layout.is_none() => Some(Lent::Run {
             store,
-            script,
+            script: *script,
             pages: options.pages,
             bits: options.bits,
         }),

@@ -17,7 +17,7 @@ pub fn read_words(alloc: Global, words: &[Text]) -> Result<Command, WordsRefusal
     ensures ok { IfOk result (λ command. IsCommand words.now (Ok (asked_of command))) }
     ensures refused { IfErr result (IsRefusedWords words.now) }
 {
-    match request_of(words) {
+    match request_of(alloc, words)? {
         Some(
             Lent::Select {
                 def,
@@ -41,9 +41,9 @@ pub fn read_words(alloc: Global, words: &[Text]) -> Result<Command, WordsRefusal
 /// Reads the definition and the value of a `select`, in this order.
 fn read_select(
     alloc: Global,
-    def: &Text,
-    value: &Text,
-    file: &Text,
+    def: &str,
+    value: &str,
+    file: &str,
     layout: Layout,
 ) -> Result<Command, WordsRefusal>
     ensures ok { IfOk result (λ command. IsSelected def.now value.now file.now layout (Ok (asked_of command))) }
@@ -62,7 +62,7 @@ fn read_select(
         }
     };
     let Layout { form, header } = layout;
-    match file.again(alloc) {
+    match Text::copy_of(alloc, file) {
         Ok(file) => Ok(Command::Select(Select {
             def,
             value,
@@ -81,7 +81,7 @@ fn read_select(
 fn read_run(
     alloc: Global,
     store: &Text,
-    script: &Text,
+    script: &str,
     pages: Option<u16>,
     bits: Option<u8>,
 ) -> Result<Command, WordsRefusal>
@@ -91,7 +91,7 @@ fn read_run(
     ensures refused { IfErr result (λ refusal. refusal ≡ WordsRefusal.OutOfMemory) }
 {
     let store = store.again(alloc)?;
-    match script.again(alloc) {
+    match Text::copy_of(alloc, script) {
         Ok(script) => Ok(Command::Run(Run {
             store,
             script,

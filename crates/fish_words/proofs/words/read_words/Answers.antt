@@ -4,36 +4,28 @@ use Rattle.std.specs.Prelude.{Some, Ok}
 use Rattle.std.proofs.lemmas.Result.{IfErr-weaker, IfOk-weaker}
 use Rattle.fish_words.specs.Words.{asked_of}
 use Rattle.fish_words.proofs.Outcomes.{IsCommand-none, IsCommand-read, IsRefused-read, request_of-lent}
-use Rattle.fish_words.proofs.SizeLemmas.{request_of-sized}
 use Rattle.fish_words.proofs.words.read_words.Goals as goal
 
 pub returns-in-Some-Select-clause-ok : goal.returns-in-Some-Select-clause-ok
 returns-in-Some-Select-clause-ok c =
-    let lent = request_of-lent c.args.words.now c.request_of.result _ c.request_of.ensures
+    let lent = request_of-lent c.args.words.now c.in_ok-def.field-0 _ c.in_ok-def.ensures.parts
     (c.in-Some-Select.is ∙ ap Some c.in-Some-Select.field-0-is) in
     IfOk-weaker c.read_select.result _ _ (λ command asks. IsCommand-read _ _ (Ok (asked_of command)) lent asks)
     c.read_select.ensures.ok
 
 pub returns-in-Some-Select-clause-refused : goal.returns-in-Some-Select-clause-refused
 returns-in-Some-Select-clause-refused c =
-    let lent = request_of-lent c.args.words.now c.request_of.result _ c.request_of.ensures
+    let lent = request_of-lent c.args.words.now c.in_ok-def.field-0 _ c.in_ok-def.ensures.parts
     (c.in-Some-Select.is ∙ ap Some c.in-Some-Select.field-0-is) in
     IfErr-weaker c.read_select.result _ _ (λ refusal refused. IsRefused-read _ _ refusal lent refused)
     c.read_select.ensures.refused
 
 pub returns-in-Some-Run-clause-ok : goal.returns-in-Some-Run-clause-ok
 returns-in-Some-Run-clause-ok c =
-    let lent = request_of-lent c.args.words.now c.request_of.result _ c.request_of.ensures
+    let lent = request_of-lent c.args.words.now c.in_ok-def.field-0 _ c.in_ok-def.ensures.parts
     (c.in-Some-Run.is ∙ ap Some c.in-Some-Run.field-0-is) in
     IfOk-weaker c.read_run.result _ _
     (λ command asks. IsCommand-read _ _ (Ok (asked_of command)) lent (ap Ok asks)) c.read_run.ensures.ok
 
 pub returns-in-None-clause-refused : goal.returns-in-None-clause-refused
 returns-in-None-clause-refused c = IsCommand-none _ (search rules)
-
-pub read_run-requires : goal.read_run-requires
-read_run-requires c =
-    let lent = request_of-lent c.args.words.now c.request_of.result _ c.request_of.ensures
-    (c.in-Some-Run.is ∙ ap Some c.in-Some-Run.field-0-is) in
-    let sizes = request_of-sized c.args.words.now _ _ c.in-Some-Run.pages c.in-Some-Run.bits lent in
-    record { pages_within = sizes.0; bits_within = sizes.1 }
