@@ -1,37 +1,33 @@
 -- A record that was prepared for the version of the start may be placed by a pass that is entered there.
-use Rattle.std.proofs.Common.{◌≡◌, ◌≤◌, ℕ, All, List, map, refl, sym, ap, ◌∙◌, subst, None, Some}
+use Rattle.std.proofs.Common.{◌≡◌, ◌≤◌, ℕ, All, List, map, refl, sym, ap, ◌∙◌, subst, arith, None, Some}
 use Rattle.bench.specs.Stores.{IsEntered, IsStorable}
-use Rattle.fish_catalog.proofs.ActiveTexts.{active_of_catalog}
 use Rattle.fish_claim.proofs.Bodies.{Placed, placed_law}
-use Rattle.fish_claim.proofs.Known.{knows_start}
 use Rattle.fish_claim.specs.Claims.{IsClaimed}
 use Rattle.fish_claim.specs.declared.claimed.Claimed.TheVariants as answer
+use Rattle.fish_ingest.proofs.PreparationDefs.{knows_active}
 use Rattle.fish_ingest.specs.Placement.{CanPlace}
 use Rattle.fish_ingest.specs.Placement.{HasWritten}
 use Rattle.fish_ingest.specs.declared.preparation.Prepared.{Prepared}
 use Rattle.fish_layout.specs.Body.{body_lines}
-use Rattle.fish_psf.specs.declared.key.ActiveDef.{ActiveDef}
+use Rattle.fish_rule.proofs.laws.Versions.{entered_from}
 use Rattle.fish_rule.specs.Keys.{AreActive, text_of}
 use Rattle.fish_rule.specs.Registry.{KnowsActive}
 use Rattle.fish_rule.specs.SpaceSteps.{after_publish_region, flight_at}
+use Rattle.fish_rule.specs.Table.{Stands}
 use Rattle.fish_rule.specs.declared.table.Log.{Log}
 use Rattle.fish_rule.specs.declared.view.Epoch.TheVariants.{Confirmed}
 use Rattle.fish_rule.specs.declared.view.Key.{Key}
-use Rattle.fish_rule.specs.declared.view.Learned.{Learned}
 use Rattle.fish_rule.specs.declared.view.View.{View}
 
--- the definitions of the start are known to be active at version 0
-knows_first : (k : Key) (l : Learned) (defs : List ActiveDef) → AreActive k.rows.value defs
-    → KnowsActive k l 0 (map text_of defs)
-knows_first k l defs are = subst (KnowsActive k l 0) (active_of_catalog k.rows.value ∙ sym are) (knows_start k l)
-
-module _ (log : Log) (v : View) (prepared : Prepared) (about : v.about ≡ log.key) (entered : IsEntered v)
-    (may : IsStorable log v.lane prepared) where
-  -- they are those of the record, at its version
+module _ (log : Log) (v : View) (prepared : Prepared) (about : v.about ≡ log.key) (stands : Stands v)
+    (entered : IsEntered v) (may : IsStorable log v.lane prepared) where
+  -- the definitions of the start are those of the record, at its version
   active : KnowsActive v.about v.learned may.2.origin.version (map text_of may.0)
-  active = subst (λ (n : ℕ). KnowsActive v.about v.learned n (map text_of may.0)) (sym may.2.version_is)
-      (knows_first v.about v.learned may.0
-      (subst (λ (k : Key). AreActive k.rows.value may.0) (sym about) may.1))
+  active =
+      let from = entered_from v.about v 0 refl stands entered.epoch in
+      let version = may.2.version_is in
+      knows_active v.about v.learned may.2.origin.version may.0 (omega arith) (omega arith)
+      (subst (λ (k : Key). AreActive k.rows.value may.0) (sym about) may.1)
 
   -- so it may be placed
   pub can_place : v.shut ≡ None → CanPlace v prepared

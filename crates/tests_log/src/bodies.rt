@@ -60,7 +60,8 @@ fn record_words(alloc: Global, lane: u8, number: u32, lines: u64) -> Result<Body
     requires number { number < 2 ^ 28 }
     requires lines { (0 < lines) × (lines ≤ 18625) }
     ensures { IfOk result (λ body. (p : BodyParts)
-        × ((v : View) → v.lane ≡ lane → v.epoch ≡ Confirmed 0 → v.about.rows.value ≡ [] → IsStorable v number lines p)
+        × ((v : View) → v.lane ≡ lane → v.epoch ≡ Confirmed 0 → v.about.version ≡ 0 → v.about.rows.value ≡ []
+        → IsStorable v number lines p)
         × (p.keys ≡ []) × IsBody p body) }
 {
     let payload = object_of(alloc, lines)?;

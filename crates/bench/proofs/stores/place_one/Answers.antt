@@ -10,7 +10,8 @@ use Rattle.bench.proofs.stores.place_one.Goals as goal
 pub claim-requires-clause-lines : goal.claim-requires-clause-lines
 claim-requires-clause-lines c =
     let few = few_lines_of (view c.args.pass.now) c.args.prepared (can_place c.args.log.now (view c.args.pass.now)
-    c.args.prepared c.requires.pass.about c.requires.entered c.requires.prepared c.requires.unshut) in
+    c.args.prepared c.requires.pass.about c.requires.pass.stands c.requires.entered c.requires.prepared
+    c.requires.unshut) in
     let e = c.lines.ensures in
     (omega arith, omega arith)
 
@@ -19,8 +20,8 @@ write_record-requires-clause-can c =
     let v = view c.args.pass.now in
     let u = view c.claim.new.pass in
     let at = c.in-Placed in
-    let can = can_place c.args.log.now v c.args.prepared c.requires.pass.about c.requires.entered c.requires.prepared
-    c.requires.unshut in
+    let can = can_place c.args.log.now v c.args.prepared c.requires.pass.about c.requires.pass.stands c.requires.entered
+    c.requires.prepared c.requires.unshut in
     let place = trying_placed v v u c.lines.result (trying_begins v can.claim) at.number at.line at.ensures.claimed in (
       placed_flight v c.args.prepared can at.number u c.lines.result c.lines.ensures place,
       can_write v c.args.prepared can at.number u c.lines.result c.lines.ensures place,

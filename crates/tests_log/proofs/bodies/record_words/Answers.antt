@@ -45,14 +45,14 @@ returns c =
     let len = c.len.ensures in
     let same = c.if-len-lines.false in
     let read = c.is_json.ensures (search rules) in
-    let storable : (v : View) → v.lane ≡ c.args.lane → v.epoch ≡ Confirmed 0 → v.about.rows.value ≡ []
-    → IsStorable v c.args.number c.args.lines p =
-    λ v own entered none. record {
+    let storable : (v : View) → v.lane ≡ c.args.lane → v.epoch ≡ Confirmed 0 → v.about.version ≡ 0
+    → v.about.rows.value ≡ [] → IsStorable v c.args.number c.args.lines p =
+    λ v own entered first none. record {
       lane_is = sym own;
       entered = entered;
       number_is = refl;
       lines_is = omega arith;
       reads = read;
-      keys = no_keys p (knows_none v.about v.learned none) keys;
+      keys = no_keys p (knows_none v.about v.learned 0 (sym first) (omega arith) none) keys;
     } in
     (p, storable, keys, is)

@@ -3,6 +3,7 @@ use Rattle.std.proofs.Common.{◌≡◌, ℕ, map, refl, sym, ap, ◌∙◌, sub
 use Rattle.fish_claim.proofs.Bodies.{placed_law}
 use Rattle.fish_ingest.proofs.PreparationDefs.{knows_active}
 use Rattle.fish_ingest.proofs.PlacementBody.{body_fills}
+use Rattle.fish_rule.proofs.laws.Versions.{entered_from}
 use Rattle.fish_rule.specs.Keys.{text_of}
 use Rattle.fish_rule.specs.Passes.{view}
 use Rattle.fish_rule.specs.Registry.{KnowsActive}
@@ -25,7 +26,9 @@ returns-in-Placed-clause-placed c =
     let fills = body_fills made.0 in
     let counted = c.lines-lines.ensures in
     let about : u.about ≡ c.args.log.now.key = at.ensures.pass.about in
-    let at_0 : c.enter.result ≡ 0 = omega arith in (
+    let at_0 : c.enter.result ≡ 0 = omega arith in
+    let epoch = ap (λ (z : View). z.epoch) placed.known ∙ entered.epoch ∙ ap Confirmed at_0 in
+    let from = entered_from c.args.log.now.key u 0 about at.ensures.pass.stands epoch in (
       flight_at at.number at.line lines,
       record {
         flying = ap (λ (z : View). z.flight) placed.known;
@@ -38,8 +41,8 @@ returns-in-Placed-clause-placed c =
         payload = c.args.payload.now;
         made = made;
         active = subst (λ (k : Key). KnowsActive k u.learned 0 (map text_of c.args.defs.now)) (sym about)
-            (knows_active c.args.log.now.key u.learned c.args.defs.now c.requires.active);
+            (knows_active c.args.log.now.key u.learned 0 c.args.defs.now (omega arith) (omega arith) c.requires.active);
         lane_is = c.lane-lane.ensures ∙ sym (ap (λ (z : View). z.lane) placed.known ∙ ap (λ (z : View). z.lane) entered.keeps.frame);
-        entered = ap (λ (z : View). z.epoch) placed.known ∙ entered.epoch ∙ ap Confirmed at_0;
+        entered = epoch;
       },
     )
