@@ -38,6 +38,8 @@ mod openings;
 #[cfg(test)]
 mod payloads;
 #[cfg(test)]
+mod plans;
+#[cfg(test)]
 mod questions;
 #[cfg(test)]
 mod races;

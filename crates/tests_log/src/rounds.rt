@@ -146,7 +146,13 @@ fn a_lane_in_flight_is_waited_for(rt: HostRuntime) -> Result<(), Fail> {
 }
 
 /// Stores records. How many.
-fn store_pushes(alloc: Global, log: &Log, pass: &mut Pass, defs: &mut Defs, count: usize) -> usize
+pub(crate) fn store_pushes(
+    alloc: Global,
+    log: &Log,
+    pass: &mut Pass,
+    defs: &mut Defs,
+    count: usize,
+) -> usize
     requires { CanIngest log.now pass.old defs.old }
     ensures { CanIngest log.now pass.new defs.new }
 {
@@ -160,9 +166,9 @@ fn store_pushes(alloc: Global, log: &Log, pass: &mut Pass, defs: &mut Defs, coun
 
 /// A lane between two records: its pass, and the definitions that it read.
 #[derive(Drop)]
-struct Lane {
-    pass: Pass,
-    defs: Defs,
+pub(crate) struct Lane {
+    pub(crate) pass: Pass,
+    pub(crate) defs: Defs,
 }
 
 /// What comes of a registration behind 90 records, where one lane enters behind it and is in flight, and another stores
@@ -211,7 +217,13 @@ fn seen_behind(
 }
 
 /// The lane that the control pass gives out, which has read nothing.
-fn lane_of(alloc: Global, log: &Log, main: &mut Pass, registrar: &Registrar, lane: u8) -> Lane
+pub(crate) fn lane_of(
+    alloc: Global,
+    log: &Log,
+    main: &mut Pass,
+    registrar: &Registrar,
+    lane: u8,
+) -> Lane
     requires kept { IsKept log.now main.old registrar.now }
     requires can { CanSplitPass (view main.old) lane }
     ensures kept { IsKept log.now main.new registrar.now }
