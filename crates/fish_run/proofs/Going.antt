@@ -64,6 +64,7 @@ go_first log main r new none settled knows =
       };
       end = first_end (view main) k new.first new.number new.line;
       known = subst (λ (z : View). KnowsRegistry z (registry_of z r)) (sym new.first) (record {
+        from = omega arith;
         reached = omega arith;
         are = λ g read. definitions_first k g k.version (omega arith) ∙ ap (map listed_of) rows;
       });
