@@ -27,6 +27,7 @@ use Rattle.tests_log.specs.Registering.{IsKept}
 pub first_known : (k : Key) (v : View) (r : Registrar) → v ≡ first_view k → r.catalog ≡ k.rows.value
     → KnowsRegistry v (registry_of v r)
 first_known k v r is rows = subst (λ (z : View). KnowsRegistry z (registry_of z r)) (sym is) (record {
+  from = omega arith;
   reached = omega arith;
   are = λ g h. definitions_first k g k.version (omega arith) ∙ ap (map listed_of) (sym rows);
 })
