@@ -10,7 +10,7 @@ use Rattle.fish_catalog.specs.declared.listed.Listed.{Listed}
 use Rattle.fish_epoch.proofs.Reading.{knows_later}
 use Rattle.fish_epoch.specs.Definitions.{rows_of, version_of}
 use Rattle.fish_epoch.specs.declared.definitions.Known.{Known}
-use Rattle.fish_lanes.proofs.Logs.{entry_at, entry_in, settled_within, within_log}
+use Rattle.fish_lanes.proofs.Logs.{entry_at, entry_in, settled_within}
 use Rattle.fish_lanes.specs.Closing.{Sure}
 use Rattle.fish_lanes.specs.Doing.{FitsExplained, FitsRefused, FitsScanned, IsPlannedAt, IsRefusedAt, IsScanned}
 use Rattle.fish_lanes.specs.Doing.{cause_of, explained_item, refusal_of, scanned_item}

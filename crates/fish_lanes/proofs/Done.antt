@@ -8,7 +8,6 @@ use Rattle.fish_lanes.proofs.Gaining.{alone_gains, gains_self}
 use Rattle.fish_lanes.proofs.Items.{TellsAll, made, shown_in}
 use Rattle.fish_lanes.proofs.Publishing.{published_later, settled_published, told_published}
 use Rattle.fish_lanes.proofs.RowLists.{ascends_le}
-use Rattle.fish_lanes.proofs.Surely.{sure_settled}
 use Rattle.fish_lanes.specs.Closing.{Sure}
 use Rattle.fish_lanes.specs.Doing.{FitsRefused, IsFit}
 use Rattle.fish_lanes.specs.Gains.{AreTold, Gains}

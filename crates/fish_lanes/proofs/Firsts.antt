@@ -2,25 +2,12 @@
 use Rattle.std.proofs.Common.{◌≡◌, ℕ, ◌+◌, zero, suc, List, [], ◌∷◌, ◌++◌, get_or, set, take, drop, refl, subst, arith, Some, slice_get}
 use Rattle.std.proofs.Common.{◌∙◌, None, ap, length, sym}
 use Rattle.std.specs.Prelude.{All}
-use Rattle.fish_catalog.specs.declared.entry.Entry.{Entry}
-use Rattle.fish_catalog.specs.declared.row.CatRow.{CatRow}
 use Rattle.fish_lanes.proofs.Lists.{some_once}
-use Rattle.fish_lanes.specs.Blocks.{AreEnded, AreLanes, CanGive, IsMarkItem, IsNewLane, NameMarks, TellsFirst}
+use Rattle.fish_lanes.specs.Blocks.{AreLanes, CanGive, IsNewLane}
 use Rattle.fish_lanes.specs.Outcome.{AreVacant}
-use Rattle.fish_lanes.specs.Blocks.{At, TellsOthers}
-use Rattle.fish_lanes.specs.Outcome.{IsFullIn, LanesSayPlans, TellsShutBy}
 use Rattle.fish_lanes.specs.Ending.{HasEnd}
-use Rattle.fish_lanes.specs.Plans.{AreSoPlans}
-use Rattle.fish_lanes.specs.Records.{rows_of_lane}
-use Rattle.fish_lanes.specs.Registering.{IsAcceptable, Registry}
-use Rattle.fish_lanes.specs.Running.{IsEnded}
-use Rattle.fish_lanes.specs.Sizes.{TellsClaim}
-use Rattle.fish_lanes.specs.Spans.{Span}
-use Rattle.fish_lanes.specs.Telling.{TellsLane}
+use Rattle.fish_lanes.specs.Registering.{IsAcceptable}
 use Rattle.fish_lanes.specs.declared.lane.Lane.{Lane}
-use Rattle.fish_lanes.specs.declared.work.LaneFault.TheVariants as cause
-use Rattle.fish_rule.specs.Views.{AllOf}
-use Rattle.fish_rule.specs.declared.view.Shut.{Shut}
 use Rattle.fish_rule.specs.declared.view.View.{View}
 
 -- the first lane is new

@@ -1,5 +1,5 @@
 -- The looks at lanes that items of pending registrations have behind them, with one step or one item more.
-use Rattle.std.proofs.Common.{◌≡◌, ◌⊎◌, ℕ, List, [], ◌∷◌, ◌++◌, refl, sym, ap, ◌∙◌, subst, inl, inr, ⊎_elim, arith, Option, None, Some}
+use Rattle.std.proofs.Common.{◌≡◌, ◌⊎◌, ℕ, List, [], ◌∷◌, ◌++◌, refl, sym, ap, ◌∙◌, subst, inl, inr, ⊎_elim, Option, None, Some}
 use Rattle.fish_lanes.proofs.Registrations.{after_more}
 use Rattle.fish_lanes.specs.Controlling.{HasLooked, HasPolled, RollsBy}
 use Rattle.fish_lanes.specs.Pending.{AreFound, HasFoundOlder, IsFoundBy}
