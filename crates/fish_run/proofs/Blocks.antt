@@ -1,6 +1,6 @@
 -- Blocks, one after the other, and the log in the end.
 use Rattle.std.proofs.Common.{◌≡◌, ℕ, suc, ◌+◌, ◌<◌, ◌≤◌, List, [], ◌∷◌, ◌++◌, length, refl, sym, ap, ◌∙◌, subst, inl, inr, ⊎_elim, arith}
-use Rattle.std.proofs.Common.{Bool, None, Option, Some, ◌⊎◌, append-nil, append_assoc, get_or, slice_get}
+use Rattle.std.proofs.Common.{Bool, None, Option, Some, append-nil, append_assoc, get_or, slice_get}
 use Rattle.std.specs.Prelude.{◌||◌}
 use Rattle.std.proofs.lemmas.Option.{slice_get-get_or, slice_get_within}
 use Rattle.fish_catalog.specs.declared.entry.Entry.{Entry}
@@ -34,7 +34,6 @@ use Rattle.fish_rule.specs.Table.{Stands}
 use Rattle.fish_rule.specs.Views.{AllOf, Among}
 use Rattle.fish_rule.specs.ChainFacts.{Always}
 use Rattle.fish_rule.specs.declared.view.Key.{Key}
-use Rattle.fish_rule.specs.declared.view.Shut.{Shut}
 use Rattle.fish_rule.specs.declared.view.View.{View}
 use Rattle.fish_run.proofs.Lists.{pairs_map, pairs_push}
 use Rattle.fish_run.proofs.Works.{lanes_later}
