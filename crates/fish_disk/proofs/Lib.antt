@@ -1,4 +1,5 @@
 pub mod Moments
+pub mod Past
 pub mod Recorded
 pub mod Regions
 pub mod Room

@@ -1,5 +1,5 @@
 -- What a crash may leave of a disk, in words that name no disk.
-use Rattle.std.specs.Prelude.{◌≡◌, ◌⊎◌, ℕ, ◌+◌, ◌≤◌, max, List, length, take, drop}
+use Rattle.std.specs.Prelude.{◌≡◌, ◌⊎◌, ℕ, ◌+◌, ◌≤◌, max, List, length, take, drop, Bool, true, false, ⊤}
 
 -- after a write of n bytes at `at` that a crash may cut short: any bytes in the range and past the
 -- old end, the same elsewhere
@@ -25,3 +25,9 @@ pub record LeavesOnly
   pub later : moment old ≤ moment new
   pub now : (c : List ℕ) → images new c → P c
   pub before : (t : ℕ) (c : List ℕ) → t ≤ moment old → since new t c → since old t c ⊎ P c
+
+-- From the old disk to the new one what a crash could have left since a moment that the old disk had reached stays
+-- so, where the disk keeps its past.
+abbrev pub KeepsPast : {D : Type 0} → Bool → (D → ℕ → List ℕ → Type 0) → (D → ℕ) → D → D → Type 0
+KeepsPast true since moment old new = (t : ℕ) (c : List ℕ) → t ≤ moment old → since old t c → since new t c
+KeepsPast false since moment old new = ⊤

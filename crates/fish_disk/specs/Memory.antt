@@ -1,13 +1,14 @@
 -- A disk in memory, by its record of calls.
-use Rattle.std.specs.Prelude.{◌≡◌, ◌⊎◌, ℕ, ◌≤◌, List, [], Bool, length, take, None, unwrap_or, Result, IsErr, IsTrue, if◌then◌else◌, ◌∷◌, ◌++◌, true}
+use Rattle.std.specs.Prelude.{◌≡◌, ◌⊎◌, ℕ, ◌≤◌, List, [], Bool, length, None, unwrap_or, Result, IsErr, IsTrue, if◌then◌else◌, ◌∷◌, ◌++◌, true}
 use mathlib.Core.Logic.{inl, inr}
 use Rattle.std.proofs.Common.{subst, le_trans}
 use Rattle.std.proofs.lemmas.List.{take_all}
+use Rattle.std.proofs.lemmas.Option.{slice_get_past}
 use Rattle.fish_outside.specs.Causes.{counted_on}
 use Rattle.fish_outside.specs.Memory.{is_planned, new_plan}
 use Rattle.fish_outside.specs.declared.fault.Failed.{Failed}
 use Rattle.fish_outside.specs.declared.plan.FaultPlan.{FaultPlan}
-use Rattle.fish_disk.specs.Calls.{Only, after_calls, LeftNow, LeftSince}
+use Rattle.fish_disk.specs.Calls.{LeftAt, LeftNow, LeftSince, Only, WasRead, after_calls}
 use Rattle.fish_disk.specs.declared.call.Call.{Call}
 use Rattle.fish_disk.specs.declared.memory.MemoryDisk.{MemoryDisk}
 
@@ -58,12 +59,16 @@ Records old new call =
     (new.calls ≡ old.calls ++ call ∷ [])
     ⊎ ((new.calls ≡ old.calls) × (new.plan ≡ refused old.plan))
 
--- since now there is nothing else than now
+-- at the last moment a crash left nothing else than now
+only_now_at : (disk : MemoryDisk) (k : ℕ) (c : List ℕ) → length disk.calls ≤ k → LeftAt disk.first disk.calls k c → images_of disk c
+only_now_at disk k c last (inl after) =
+    inr (subst (λ calls. after_calls (Only disk.first) calls c) (take_all k disk.calls last) after)
+only_now_at disk k c last (inr read) = absurd (subst (λ call. WasRead call c) (slice_get_past disk.calls k last) read)
+
+-- so since now there is nothing else than now
 pub only_now_of : (disk : MemoryDisk) (c : List ℕ) → since_of disk (moment_of disk) c → images_of disk c
 only_now_of disk c (inl now) = now
-only_now_of disk c (inr was) =
-    let whole : take was.0 disk.calls ≡ disk.calls = take_all was.0 disk.calls was.1 in
-    inr (subst (λ calls. after_calls (Only disk.first) calls c) whole was.3)
+only_now_of disk c (inr was) = only_now_at disk was.0 c was.1 was.3
 
 -- since a later moment a crash may have left less
 pub fewer_later_of : (disk : MemoryDisk) (t u : ℕ) (c : List ℕ) → t ≤ u → since_of disk u c → since_of disk t c

@@ -11,6 +11,8 @@ pub enum Call {
         at: u64,
         /// The bytes.
         piece: Bytes,
+        /// All bytes of the disk before it.
+        before: Bytes,
     },
     /// It brought this content to the disk.
     Sync {

@@ -1,9 +1,9 @@
 //! What a disk does, and what a crash may leave of it at each moment.
 
-ghost use Rattle.std.specs.Prelude.{◌≡◌, ◌≤◌, ◌+◌, ◌⊎◌, ℕ, List, Option, Some, length, IfOk, IfSome, IsSome, OnOk};
+ghost use Rattle.std.specs.Prelude.{◌≡◌, ◌≤◌, ◌+◌, ◌⊎◌, ℕ, Bool, List, Option, Some, length, IfOk, IfSome, IsSome, OnOk};
 ghost use Rattle.fish_outside.specs.Causes.{HasCause};
 ghost use Rattle.fish_disk.specs.Content.{Gave, StillReads, Wrote};
-ghost use Rattle.fish_disk.specs.Crash.{LeavesOnly, TornFrom};
+ghost use Rattle.fish_disk.specs.Crash.{KeepsPast, LeavesOnly, TornFrom};
 
 use fish_outside::Failed;
 
@@ -16,11 +16,15 @@ pub trait Disk {
     /// What a crash at this moment may leave.
     ghost images: { Self → List ℕ → Type 0 };
 
-    /// How many calls there were.
+    /// How many calls are told apart so far. It never falls.
     ghost moment: { Self → ℕ };
 
     /// What a crash at some moment from that one on may have left.
     ghost since: { Self → ℕ → List ℕ → Type 0 };
+
+    /// Whether what a crash could have left at a moment stays among what one may have left since then. Of a disk
+    /// that doesn't keep its past, `since` may tell of now alone.
+    ghost keeps_past: { Bool };
 
     /// How often a call has failed. It never falls.
     ghost faults: { Self → ℕ };
@@ -33,6 +37,7 @@ pub trait Disk {
         ensures content { StillReads (content self.old) (content self.new) }
         ensures crash { LeavesOnly images since moment self.old self.new (images self.old) }
         ensures one { moment self.new ≤ moment self.old + 1 }
+        ensures past { KeepsPast keeps_past since moment self.old self.new }
 
         ensures cause { HasCause (faults self.old) (faults self.new) result };
 
@@ -44,6 +49,7 @@ pub trait Disk {
         ensures crash { LeavesOnly images since moment self.old self.new
             (TornFrom (images self.old) at (length piece.now)) }
         ensures one { moment self.new ≤ moment self.old + 1 }
+        ensures past { KeepsPast keeps_past since moment self.old self.new }
 
         ensures cause { HasCause (faults self.old) (faults self.new) result };
 
@@ -54,6 +60,7 @@ pub trait Disk {
         ensures content { StillReads (content self.old) (content self.new) }
         ensures crash { LeavesOnly images since moment self.old self.new (images self.old) }
         ensures one { moment self.new ≤ moment self.old + 1 }
+        ensures past { KeepsPast keeps_past since moment self.old self.new }
 
         ensures cause { HasCause (faults self.old) (faults self.new) result };
 
@@ -63,6 +70,7 @@ pub trait Disk {
         ensures content { StillReads (content self.old) (content self.new) }
         ensures crash { LeavesOnly images since moment self.old self.new (images self.old) }
         ensures one { moment self.new ≤ moment self.old + 1 }
+        ensures past { KeepsPast keeps_past since moment self.old self.new }
 
         ensures cause { HasCause (faults self.old) (faults self.new) result };
 

@@ -49,7 +49,7 @@ impl<R: Files<File = File> + Clone + Drop + Send> FileDisk<R> {
 }
 
 impl<R: Files<File = File> + Clone + Drop + Send> Disk for FileDisk<R> {
-    ghost use Rattle.std.specs.Prelude.{is_some};
+    ghost use Rattle.std.specs.Prelude.{is_some, true};
     ghost use Rattle.std.proofs.Common.{ap};
 
     ghost content = { λ _. untold };
@@ -59,6 +59,8 @@ impl<R: Files<File = File> + Clone + Drop + Send> Disk for FileDisk<R> {
     ghost moment = { λ _. 0 };
 
     ghost since = { λ _ _ c. untold ≡ Some c };
+
+    ghost keeps_past = { true };
 
     ghost faults = { λ disk. disk.faults };
 

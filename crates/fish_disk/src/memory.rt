@@ -1,10 +1,10 @@
 //! A disk in memory that fails by a plan, keeps a record of its calls, and shows what a crash leaves.
 
-ghost use Rattle.std.specs.Prelude.{◌≡◌, ◌≤◌, ◌+◌, ◌++◌, ◌∷◌, [], ℕ, List, Some, length, if◌then◌else◌, is_err, is_ok, IfOk, IfSome, OnErr, OnOk};
+ghost use Rattle.std.specs.Prelude.{◌≡◌, ◌≤◌, ◌+◌, ◌++◌, ◌∷◌, [], ℕ, List, Some, length, if◌then◌else◌, is_err, is_ok, true, IfOk, IfSome, OnErr, OnOk};
 ghost use Rattle.fish_outside.specs.Causes.{HasCause};
 ghost use Rattle.fish_disk.specs.Calls.{Only, after_call};
 ghost use Rattle.fish_disk.specs.Content.{Gave, StillReads, Wrote, put_at};
-ghost use Rattle.fish_disk.specs.Crash.{LeavesOnly, Torn, TornFrom};
+ghost use Rattle.fish_disk.specs.Crash.{KeepsPast, LeavesOnly, Torn, TornFrom};
 
 use crate::call::{Call, Calls};
 use crate::copy::copy_from;
@@ -91,17 +91,17 @@ impl MemoryDisk {
         }
     }
 
-    /// Keeps a write in the record, with a copy of its piece.
+    /// Keeps a write in the record, with copies of its piece and of all bytes before it.
     fn note_write(&mut self, at: u64, piece: &[u8]) -> Result<(), Failed>
         ensures same { self.new ≡ record self.old {
           calls = self.new.calls;
           plan = after_step self.old.plan (is_err result);
         } }
-        ensures ok { OnOk result (self.new.calls ≡ self.old.calls ++ Call.Write at piece.now ∷ []) }
+        ensures ok { OnOk result (self.new.calls ≡ self.old.calls ++ Call.Write at piece.now (bytes_of self.old) ∷ []) }
         ensures err { OnErr result (self.new.calls ≡ self.old.calls) }
     {
-        match Bytes::copy_of(self.alloc, piece) {
-            Ok(piece) => self.note(Call::Write { at, piece }),
+        match write_of(self.alloc, at, piece, self.as_bytes()) {
+            Ok(call) => self.note(call),
             Err(_) => Err(self.plan.fault()),
         }
     }
@@ -126,6 +126,7 @@ impl MemoryDisk {
         ensures same { self.new ≡ record self.old { calls = self.new.calls; plan = self.new.plan } }
         ensures crash { LeavesOnly images_of since_of moment_of self.old self.new (images_of self.old) }
         ensures one { moment_of self.new ≤ moment_of self.old + 1 }
+        ensures past { KeepsPast true since_of moment_of self.old self.new }
 
         ensures cause { HasCause self.old.plan.faults self.new.plan.faults result }
         ensures planned { Planned self.old.plan self.new.plan result }
@@ -156,6 +157,20 @@ impl MemoryDisk {
     }
 }
 
+/// The call by which a piece is written over these bytes.
+fn write_of(alloc: Global, at: u64, piece: &[u8], before: &[u8]) -> Result<Call, AllocError>
+    ensures { IfOk result (λ call. call ≡ Call.Write at piece.now before.now) }
+{
+    let piece = Bytes::copy_of(alloc, piece)?;
+    match Bytes::copy_of(alloc, before) {
+        Ok(before) => Ok(Call::Write { at, piece, before }),
+        Err(error) => {
+            drop(piece);
+            Err(error)
+        }
+    }
+}
+
 /// A copy of bytes with a piece put over those from `at` on.
 fn written(alloc: Global, bytes: &[u8], at: usize, piece: &[u8]) -> Result<Bytes, AllocError>
     requires { at ≤ length bytes.now }
@@ -174,7 +189,7 @@ fn left_by(alloc: Global, call: &Call, bytes: &[u8], choice: u64) -> Result<Byte
     ensures { IfOk result (λ left. after_call call.now (Only bytes.now) left) }
 {
     match call {
-        Call::Write { at, piece } => torn(alloc, bytes, *at, piece.as_bytes(), choice),
+        Call::Write { at, piece, .. } => torn(alloc, bytes, *at, piece.as_bytes(), choice),
         Call::Sync { content } => content.again(alloc),
         Call::Other => Bytes::copy_of(alloc, bytes),
     }
@@ -221,6 +236,8 @@ impl Disk for MemoryDisk {
 
     ghost since = { since_of };
 
+    ghost keeps_past = { true };
+
     ghost faults = { λ disk. disk.plan.faults };
 
     ghost counts_now = { λ _ _ _ _ now. inl now };
@@ -239,6 +256,7 @@ impl Disk for MemoryDisk {
         ensures content { bytes_of self.new ≡ bytes_of self.old }
         ensures crash { LeavesOnly images_of since_of moment_of self.old self.new (images_of self.old) }
         ensures one { moment_of self.new ≤ moment_of self.old + 1 }
+        ensures past { KeepsPast true since_of moment_of self.old self.new }
 
         ensures cause { HasCause self.old.plan.faults self.new.plan.faults result }
         ensures planned { Planned self.old.plan self.new.plan result }
@@ -254,10 +272,11 @@ impl Disk for MemoryDisk {
         ensures crash { LeavesOnly images_of since_of moment_of self.old self.new
             (TornFrom (images_of self.old) at (length piece.now)) }
         ensures one { moment_of self.new ≤ moment_of self.old + 1 }
+        ensures past { KeepsPast true since_of moment_of self.old self.new }
 
         ensures cause { HasCause self.old.plan.faults self.new.plan.faults result }
         ensures planned { Planned self.old.plan self.new.plan result }
-        ensures recorded { Records self.old self.new (Call.Write at piece.now) }
+        ensures recorded { Records self.old self.new (Call.Write at piece.now (bytes_of self.old)) }
     {
         let planned = self.plan.call();
         self.note_write(at, piece)?;
@@ -270,6 +289,7 @@ impl Disk for MemoryDisk {
         ensures content { bytes_of self.new ≡ bytes_of self.old }
         ensures crash { LeavesOnly images_of since_of moment_of self.old self.new (images_of self.old) }
         ensures one { moment_of self.new ≤ moment_of self.old + 1 }
+        ensures past { KeepsPast true since_of moment_of self.old self.new }
 
         ensures cause { HasCause self.old.plan.faults self.new.plan.faults result }
         ensures planned { Planned self.old.plan self.new.plan result }
@@ -290,6 +310,7 @@ impl Disk for MemoryDisk {
         ensures content { bytes_of self.new ≡ bytes_of self.old }
         ensures crash { LeavesOnly images_of since_of moment_of self.old self.new (images_of self.old) }
         ensures one { moment_of self.new ≤ moment_of self.old + 1 }
+        ensures past { KeepsPast true since_of moment_of self.old self.new }
 
         ensures cause { HasCause self.old.plan.faults self.new.plan.faults result }
         ensures planned { Planned self.old.plan self.new.plan result }

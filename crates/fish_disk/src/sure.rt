@@ -4,7 +4,7 @@ ghost use Rattle.std.specs.Prelude.{◌≡◌, ◌≤◌, ◌+◌, ◌-◌, ◌+
 ghost use Rattle.fish_outside.specs.Causes.{HasCause};
 ghost use Rattle.fish_outside.specs.Room.{told_within};
 ghost use Rattle.fish_disk.specs.Content.{Gave, StillReads, Wrote, put_at};
-ghost use Rattle.fish_disk.specs.Crash.{LeavesOnly, TornFrom};
+ghost use Rattle.fish_disk.specs.Crash.{KeepsPast, LeavesOnly, TornFrom};
 
 use crate::copy::copy_from;
 use crate::disk::Disk;
@@ -88,7 +88,7 @@ fn extend_within(bytes: &mut Vec<u8>, room: usize, piece: &[u8]) -> bool
 }
 
 impl Disk for SureDisk {
-    ghost use Rattle.std.specs.Prelude.{is_some};
+    ghost use Rattle.std.specs.Prelude.{false, is_some};
     ghost use Rattle.std.proofs.Common.{ap};
     ghost use Rattle.fish_disk.specs.Sure.{kept_of, kept_with, room_of, told_of};
 
@@ -99,6 +99,8 @@ impl Disk for SureDisk {
     ghost moment = { λ _. 0 };
 
     ghost since = { λ disk _ c. told_of disk ≡ Some c };
+
+    ghost keeps_past = { false };
 
     ghost faults = { λ _. 0 };
 
@@ -122,6 +124,7 @@ impl Disk for SureDisk {
         ensures crash { LeavesOnly (λ disk c. told_of disk ≡ Some c) (λ disk _ c. told_of disk ≡ Some c) (λ _. 0)
             self.old self.new (TornFrom (λ c. told_of self.old ≡ Some c) at (length piece.now)) }
         ensures one { 0 ≤ 0 + 1 }
+        ensures past { KeepsPast false (λ disk _ c. told_of disk ≡ Some c) (λ _. 0) self.old self.new }
         ensures cause { HasCause 0 0 result }
 
         ensures told { told_of self.new

@@ -1,5 +1,1 @@
-pub mod Answer
-pub mod Faults
-pub mod Limits
-pub mod Outcome
-pub mod Runs
+pub mod Args

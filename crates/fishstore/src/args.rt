@@ -1,22 +1,28 @@
-//! The words with which the process was started.
+//! The words with which the process was started, from its arguments as std answers them.
 
 ghost use Rattle.std.specs.IoError.{error_kind};
-ghost use Rattle.std.specs.Prelude.{◌≡◌, ◌≢◌, IfOk, drop, map, string_bytes};
+ghost use Rattle.std.specs.Prelude.{◌≡◌, IfErr, IfOk, MatchResult, drop, map, string_bytes};
 ghost use Rattle.std.specs.Vec.Iter.{into_iter_items};
+ghost use Rattle.fishstore.specs.Args.{IsArgsFault};
 
-use crate::fault::Fault;
+use fish_program::Fault;
 use fish_value::{Text, Texts};
 use fish_words::UsageCause;
 use std::alloc::{AllocError, Global};
-use std::env;
 use std::env::Args;
+use std::io;
 use std::io::{Error, ErrorKind};
-use std::rt::Env;
 
-/// The words of the command line, without the program's name.
-pub fn words_of<R: Env + AllocGlobal>(rt: &R) -> Result<Texts, Fault> {
-    match env::args(rt) {
-        Ok(args) => Ok(behind_name(rt.alloc(), args)?),
+/// The words of the command line: the arguments of the process after the first, which is the program's name.
+pub fn words_of(alloc: Global, args: io::Result<Args>) -> Result<Texts, Fault>
+    ensures words { IfOk result (λ words. MatchResult args
+        (λ all. words ≡ map string_bytes (drop 1 (into_iter_items all))) (λ _. ⊥)) }
+
+    ensures refused { IfErr result (λ fault. MatchResult args
+        (λ _. fault ≡ Fault.Memory) (λ error. IsArgsFault (error_kind error) fault)) }
+{
+    match args {
+        Ok(args) => Ok(behind_name(alloc, args)?),
         Err(error) => Err(args_fault(&error)),
     }
 }
@@ -36,8 +42,7 @@ fn behind_name(alloc: Global, args: Args) -> Result<Texts, AllocError>
 
 /// Words that are no text are no command.
 fn args_fault(error: &Error) -> Fault
-    ensures memory { error_kind error.now ≡ ErrorKind.OutOfMemory → result ≡ Fault.Memory }
-    ensures words { error_kind error.now ≢ ErrorKind.OutOfMemory → result ≡ Fault.Usage UsageCause.Words }
+    ensures { IsArgsFault (error_kind error.now) result }
 {
     if error.kind() == ErrorKind::OutOfMemory {
         Fault::Memory

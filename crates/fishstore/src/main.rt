@@ -1,24 +1,19 @@
 //! FishStore: a storage layer for raw records of flexible schema.
 //!
-//! The program reads its words, runs the command that they are over the files of the system and
-//! standard output, and ends with the status of the run.
+//! The program runs the command that the words of its process are over the files of the system and
+//! standard output, tells of a fault, and ends with the status of the run.
 #![tactic(auto)]
 
 mod args;
-mod fault;
-mod outcome;
-mod run;
-mod script;
-mod selection;
 
 use args::words_of;
 use fish_outside::{FileHost, OutSink};
-use outcome::Outcome;
-use run::run;
+use fish_program::{Outcome, run};
+use std::env;
 use std::process::ExitCode;
 
 fn main(rt: HostRuntime) -> ExitCode {
-    let outcome = match words_of(&rt) {
+    let outcome = match words_of(rt.alloc(), env::args(&rt)) {
         Ok(words) => run(
             &rt,
             rt.alloc(),

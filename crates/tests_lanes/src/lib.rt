@@ -1,4 +1,4 @@
-//! Tests of lanes and of whole runs over the public calls of their crates: what no clause says, with expected
+//! Tests of lanes over the public calls of their crate: what no clause says, with expected
 //! values that are worked out by hand from the rules.
 #![tactic(auto)]
 
@@ -11,10 +11,6 @@ mod contention;
 #[cfg(test)]
 mod expecting;
 #[cfg(test)]
-mod gates;
-#[cfg(test)]
 mod running;
-#[cfg(test)]
-mod runs;
 #[cfg(test)]
 mod scripts;

@@ -4,10 +4,10 @@ ghost use Rattle.std.specs.Prelude.{◌≡◌, ◌≤◌, [], IfErr, IfOk};
 ghost use Rattle.fish_outside.specs.Causes.{Rose};
 ghost use Rattle.fish_outside.specs.Told.{StillTold};
 ghost use Rattle.fish_rule.specs.Start.{IsShape};
-ghost use Rattle.fishstore.specs.Faults.{run_fault};
-ghost use Rattle.fishstore.specs.Limits.{shape_of};
-ghost use Rattle.fishstore.specs.Outcome.{EndsRun, status_of};
-ghost use Rattle.fishstore.specs.Runs.{HasScript, IsScriptFault};
+ghost use Rattle.fish_program.specs.Faults.{run_fault};
+ghost use Rattle.fish_program.specs.Limits.{shape_of};
+ghost use Rattle.fish_program.specs.Outcome.{EndsRun, status_of};
+ghost use Rattle.fish_program.specs.Runs.{HasScript, IsScriptFault};
 
 use crate::fault::Fault;
 use crate::outcome::{Outcome, no_report};

@@ -2,8 +2,8 @@
 
 ghost use Rattle.std.specs.Prelude.{◌≡◌, [], None};
 ghost use Rattle.std.specs.Process.{exit_status};
-ghost use Rattle.fishstore.specs.Faults.{told_fault};
-ghost use Rattle.fishstore.specs.Outcome.{status_of};
+ghost use Rattle.fish_program.specs.Faults.{told_fault};
+ghost use Rattle.fish_program.specs.Outcome.{status_of};
 
 use crate::fault::Fault;
 use fish_report::{Items, Report};

@@ -5,9 +5,9 @@ ghost use Rattle.std.specs.List.{list_any};
 ghost use Rattle.fish_outside.specs.Causes.{Rose};
 ghost use Rattle.fish_outside.specs.Told.{StillTold};
 ghost use Rattle.fish_report.specs.ReportText.{is_refusal, report_text};
-ghost use Rattle.fishstore.specs.Answer.{IsAnswer, answer_to};
-ghost use Rattle.fishstore.specs.Faults.{IsStepFault};
-ghost use Rattle.fishstore.specs.Outcome.{EndsSelect, status_of};
+ghost use Rattle.fish_program.specs.Answer.{IsAnswer, answer_to};
+ghost use Rattle.fish_program.specs.Faults.{IsStepFault};
+ghost use Rattle.fish_program.specs.Outcome.{EndsSelect, status_of};
 
 use crate::fault::Fault;
 use crate::outcome::Outcome;

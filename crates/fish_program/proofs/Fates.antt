@@ -9,10 +9,10 @@ use Rattle.fish_run.specs.declared.running.Ran.{Ran}
 use Rattle.fish_run.specs.declared.running.RunFault.{RunFault}
 use Rattle.fish_run.specs.declared.running.RunFault.TheVariants as ran
 use Rattle.fish_script.specs.declared.script.Block.{Block}
-use Rattle.fishstore.specs.Faults.{run_fault}
-use Rattle.fishstore.specs.Outcome.{EndsRun}
-use Rattle.fishstore.specs.Runs.{HasScript, IsLeft}
-use Rattle.fishstore.specs.declared.outcome.Outcome.{Outcome}
+use Rattle.fish_program.specs.Faults.{run_fault}
+use Rattle.fish_program.specs.Outcome.{EndsRun}
+use Rattle.fish_program.specs.Runs.{HasScript, IsLeft}
+use Rattle.fish_program.specs.declared.outcome.Outcome.{Outcome}
 
 -- what is so of files that are still told was so of them before
 pub still : (P : Files → Type 0) (old new : Option Files) → StillTold old new → IfSome old P → IfSome new P

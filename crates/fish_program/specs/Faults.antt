@@ -13,10 +13,10 @@ use Rattle.fish_words.specs.declared.refusal.UsageCause.{UsageCause}
 use Rattle.fish_words.specs.declared.refusal.UsageCause.TheVariants as cause
 use Rattle.fish_words.specs.declared.refusal.WordsRefusal.{WordsRefusal}
 use Rattle.fish_words.specs.declared.refusal.WordsRefusal.TheVariants as words
-use Rattle.fishstore.specs.declared.fault.Fault.{Fault}
-use Rattle.fishstore.specs.declared.fault.Fault.TheVariants as fault
-use Rattle.fishstore.specs.declared.fault.Place.{Place}
-use Rattle.fishstore.specs.declared.fault.Place.TheVariants as place
+use Rattle.fish_program.specs.declared.fault.Fault.{Fault}
+use Rattle.fish_program.specs.declared.fault.Fault.TheVariants as fault
+use Rattle.fish_program.specs.declared.fault.Place.{Place}
+use Rattle.fish_program.specs.declared.fault.Place.TheVariants as place
 
 -- ---- the line on standard error
 

@@ -1,7 +1,7 @@
 //! What stops a run, and the line that tells of it.
 
 ghost use Rattle.std.specs.Prelude.{◌≡◌, ◌++◌};
-ghost use Rattle.fishstore.specs.Faults.{definition_kind, number_text, place_text, script_kind};
+ghost use Rattle.fish_program.specs.Faults.{definition_kind, number_text, place_text, script_kind};
 
 use fish_lang::LangRefusal;
 use fish_outside::FeedRefusal;
@@ -31,7 +31,7 @@ pub enum Fault {
 /// The line on standard error that tells of the fault.
 impl fmt::Display for Fault {
     ghost use Rattle.std.specs.Prelude.{Some};
-    ghost use Rattle.fishstore.specs.Faults.{fault_line};
+    ghost use Rattle.fish_program.specs.Faults.{fault_line};
 
     ghost output = { λ fault. Some (fault_line fault) };
 
@@ -53,7 +53,7 @@ struct Usage(UsageCause);
 
 impl fmt::Display for Usage {
     ghost use Rattle.std.specs.Prelude.{Some};
-    ghost use Rattle.fishstore.specs.Faults.{usage_kind};
+    ghost use Rattle.fish_program.specs.Faults.{usage_kind};
 
     ghost output = { λ usage. Some (usage_kind usage.0) };
 
@@ -72,7 +72,7 @@ struct Script(ScriptRefusal);
 
 impl fmt::Display for Script {
     ghost use Rattle.std.specs.Prelude.{Some};
-    ghost use Rattle.fishstore.specs.Faults.{script_kind};
+    ghost use Rattle.fish_program.specs.Faults.{script_kind};
 
     ghost output = { λ script. Some (script_kind script.0) };
 
@@ -118,7 +118,7 @@ struct Definition(LangRefusal);
 
 impl fmt::Display for Definition {
     ghost use Rattle.std.specs.Prelude.{Some};
-    ghost use Rattle.fishstore.specs.Faults.{definition_kind};
+    ghost use Rattle.fish_program.specs.Faults.{definition_kind};
 
     ghost output = { λ definition. Some (definition_kind definition.0) };
 
@@ -147,7 +147,7 @@ fn kind_of(refusal: LangRefusal) -> (&'static str, Option<u64>)
 
 impl From<WordsRefusal> for Fault {
     ghost use Rattle.std.specs.Prelude.{◌≡◌};
-    ghost use Rattle.fishstore.specs.Faults.{words_fault};
+    ghost use Rattle.fish_program.specs.Faults.{words_fault};
 
     ghost from_gives = { λ refusal made. made ≡ words_fault refusal };
 
@@ -161,7 +161,7 @@ impl From<WordsRefusal> for Fault {
 
 impl From<ScriptRefusal> for Fault {
     ghost use Rattle.std.specs.Prelude.{◌≡◌};
-    ghost use Rattle.fishstore.specs.Faults.{script_fault};
+    ghost use Rattle.fish_program.specs.Faults.{script_fault};
 
     ghost from_gives = { λ refusal made. made ≡ script_fault refusal };
 
@@ -175,7 +175,7 @@ impl From<ScriptRefusal> for Fault {
 
 impl From<RunFault> for Fault {
     ghost use Rattle.std.specs.Prelude.{◌≡◌};
-    ghost use Rattle.fishstore.specs.Faults.{run_fault};
+    ghost use Rattle.fish_program.specs.Faults.{run_fault};
 
     ghost from_gives = { λ fault made. made ≡ run_fault fault };
 
@@ -191,7 +191,7 @@ impl From<RunFault> for Fault {
 
 impl From<FeedRefusal> for Fault {
     ghost use Rattle.std.specs.Prelude.{◌≡◌};
-    ghost use Rattle.fishstore.specs.Faults.{feed_fault};
+    ghost use Rattle.fish_program.specs.Faults.{feed_fault};
 
     ghost from_gives = { λ refusal made. made ≡ feed_fault refusal };
 
@@ -205,7 +205,7 @@ impl From<FeedRefusal> for Fault {
 
 impl From<AllocError> for Fault {
     ghost use Rattle.std.specs.Prelude.{◌≡◌};
-    ghost use Rattle.fishstore.specs.declared.fault.Fault.TheVariants.{Memory};
+    ghost use Rattle.fish_program.specs.declared.fault.Fault.TheVariants.{Memory};
 
     ghost from_gives = { λ _ made. made ≡ Memory };
 

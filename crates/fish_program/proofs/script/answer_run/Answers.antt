@@ -1,13 +1,13 @@
 -- The script that was read can be run, and what its run ensures is how the command ends.
 use Rattle.std.proofs.Common.{subst, sym}
 use Rattle.fish_rule.specs.declared.table.Shape.{Shape}
-use Rattle.fishstore.specs.Faults.{run_fault}
-use Rattle.fishstore.specs.Limits.{shape_of}
-use Rattle.fishstore.specs.Outcome.{EndsRun}
-use Rattle.fishstore.specs.Runs.{HasScript}
-use Rattle.fishstore.specs.declared.fault.Fault.{Fault}
-use Rattle.fishstore.proofs.Fates.{read_end, script_still, went_as}
-use Rattle.fishstore.proofs.script.answer_run.Goals as goal
+use Rattle.fish_program.specs.Faults.{run_fault}
+use Rattle.fish_program.specs.Limits.{shape_of}
+use Rattle.fish_program.specs.Outcome.{EndsRun}
+use Rattle.fish_program.specs.Runs.{HasScript}
+use Rattle.fish_program.specs.declared.fault.Fault.{Fault}
+use Rattle.fish_program.proofs.Fates.{read_end, script_still, went_as}
+use Rattle.fish_program.proofs.script.answer_run.Goals as goal
 
 pub run_script-ran-requires-clause-script : goal.run_script-ran-requires-clause-script
 run_script-ran-requires-clause-script g t lifetimes bounds =

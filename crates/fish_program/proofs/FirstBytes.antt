@@ -10,7 +10,7 @@ use Rattle.fish_report.specs.declared.item.Item.TheVariants as item
 use Rattle.fish_select.specs.Selection.{selection}
 use Rattle.fish_value.specs.declared.field.Form.{Form}
 use Rattle.fish_value.specs.declared.value.Value.{Value}
-use Rattle.fishstore.specs.Answer.{answer_of}
+use Rattle.fish_program.specs.Answer.{answer_of}
 
 -- within the limit they are all of it
 pub all_within : (n : ℕ) (b text : List ℕ) → text ≡ take (n + 1) b → length text ≤ n → text ≡ b

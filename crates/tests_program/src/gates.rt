@@ -2,14 +2,14 @@
 //! isn't published yet. So the two run at once, and what the scan tells doesn't depend on who comes first.
 
 use crate::expecting::{expect, expect_text};
-use crate::runs::{host_of, numbers_of, ran_through};
+use crate::outside::{host_of, sink_of, told_of, words_of};
 use fish_lanes::{Gate, Hold, Point};
-use fish_outside::MemorySink;
+use fish_outside::{MemoryHost, MemorySink};
+use fish_program::run_gated;
 use std::alloc::{AllocError, Global};
 use std::process::Abort;
 use std::test::Fail;
 use std::thread::Threads;
-use tests_log::Cause;
 
 /// A record for each of the lanes.
 const FILES: &[(&str, &str)] = &[
@@ -29,7 +29,7 @@ end\n\
 scan t = \"Push\"\n";
 
 /// What they tell: the record of the second lane has number 0, and it is open as the first one scans.
-const WRITTEN: &str = "None false 2\n\
+const WRITTEN: &str = "0 fault none false 2\n\
 created\n\
 registered t id 0 from 0\n\
 lanes 0..2\n\
@@ -73,12 +73,25 @@ fn gate_of(alloc: Global) -> Result<Gate, AllocError> {
     Ok(gate)
 }
 
+/// Runs the script on one page, held by a gate, and tells how it ended.
+fn ended_by<R: Threads + Sync>(
+    rt: &R,
+    alloc: Global,
+    host: &mut MemoryHost,
+    out: &mut MemorySink,
+    gate: &Gate,
+) -> Result<String, AllocError> {
+    let words = words_of(alloc, "run|store|script|--pages|1|")?;
+    let outcome = run_gated(rt, alloc, words.as_slice(), host, out, gate);
+    told_of(alloc, &outcome, out)
+}
+
 /// Asserts what the script tells, and that both lanes came to where the other one waited for them.
-fn expect_ran<R: Threads + Sync + Abort>(rt: &R, alloc: Global) -> Result<(), Cause> {
+fn expect_ran<R: Threads + Sync + Abort>(rt: &R, alloc: Global) -> Result<(), AllocError> {
     let gate = gate_of(alloc)?;
-    let mut host = host_of(alloc, FILES, &[])?;
-    let mut out = MemorySink::new(alloc, numbers_of(alloc, &[])?);
-    let found = ran_through(rt, alloc, SCRIPT, &mut host, &mut out, &gate)?;
+    let mut host = host_of(alloc, SCRIPT, FILES, None)?;
+    let mut out = sink_of(alloc, None)?;
+    let found = ended_by(rt, alloc, &mut host, &mut out, &gate)?;
     expect_text(rt, "a run", found.as_str(), WRITTEN);
     expect(rt, "let go", &gate.let_go(), &0);
     Ok(())

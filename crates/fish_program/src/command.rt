@@ -4,7 +4,7 @@ ghost use Rattle.std.specs.Prelude.{◌≡◌};
 ghost use Rattle.fish_outside.specs.Causes.{Rose};
 ghost use Rattle.fish_outside.specs.Told.{StillTold};
 ghost use Rattle.fish_words.specs.Words.{asked_of};
-ghost use Rattle.fishstore.specs.Outcome.{Ends, IsEnd, IsUsage, status_of};
+ghost use Rattle.fish_program.specs.Outcome.{Ends, IsEnd, IsUsage, status_of};
 
 use crate::fault::Fault;
 use crate::outcome::Outcome;

@@ -3,8 +3,8 @@ use Rattle.std.proofs.Common.{◌∙◌, ap, sym}
 use Rattle.std.specs.Prelude.{Some}
 use Rattle.std.proofs.lemmas.Option.{IfSome_then}
 use Rattle.fish_script.specs.Refusals.{IsScript}
-use Rattle.fishstore.proofs.FirstBytes.{all_within}
-use Rattle.fishstore.proofs.script.read_script.Goals as goal
+use Rattle.fish_program.proofs.FirstBytes.{all_within}
+use Rattle.fish_program.proofs.script.read_script.Goals as goal
 
 pub returns-clause-script : goal.returns-clause-script
 returns-clause-script g c =

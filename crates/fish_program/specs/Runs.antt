@@ -12,10 +12,10 @@ use Rattle.fish_script.specs.Refusals.{IsRefusal, IsScript}
 use Rattle.fish_script.specs.declared.refusal.ScriptRefusal.{ScriptRefusal}
 use Rattle.fish_script.specs.declared.refusal.ScriptRefusal.TheVariants.{OutOfMemory}
 use Rattle.fish_script.specs.declared.script.Block.{Block}
-use Rattle.fishstore.specs.Limits.{longest_read}
-use Rattle.fishstore.specs.declared.fault.Fault.{Fault}
-use Rattle.fishstore.specs.declared.fault.Fault.TheVariants as fault
-use Rattle.fishstore.specs.declared.outcome.Outcome.{Outcome}
+use Rattle.fish_program.specs.Limits.{longest_read}
+use Rattle.fish_program.specs.declared.fault.Fault.{Fault}
+use Rattle.fish_program.specs.declared.fault.Fault.TheVariants as fault
+use Rattle.fish_program.specs.declared.outcome.Outcome.{Outcome}
 
 -- the text of the file with this name is this script, where the files are still told
 pub record HasScript (file : List ℕ) (told : Option Files) (script : List Block) : Type 0 where

@@ -2,8 +2,8 @@
 use Rattle.std.proofs.Common.{[], ◌∷◌, ◌∙◌, ap}
 use Rattle.std.proofs.lemmas.Option.{IfSome_then}
 use Rattle.fish_lang.specs.Definition.{definition_of}
-use Rattle.fishstore.proofs.FirstBytes.{answer_of_first}
-use Rattle.fishstore.proofs.selection.prepare.Goals as goal
+use Rattle.fish_program.proofs.FirstBytes.{answer_of_first}
+use Rattle.fish_program.proofs.selection.prepare.Goals as goal
 
 pub returns-in-Ok-clause-answer : goal.returns-in-Ok-clause-answer
 returns-in-Ok-clause-answer g c =

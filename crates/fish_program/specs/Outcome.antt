@@ -7,12 +7,12 @@ use Rattle.fish_report.specs.declared.item.Item.{Item}
 use Rattle.fish_rule.specs.declared.table.Shape.{Shape}
 use Rattle.fish_run.specs.declared.running.RunFault.TheVariants as ran
 use Rattle.fish_words.specs.Words as words
-use Rattle.fishstore.specs.Answer.{IsAnswer, answer_of}
-use Rattle.fishstore.specs.Limits.{shape_of}
-use Rattle.fishstore.specs.Runs.{IsStoppedRun, IsWholeRun, RefusesScript}
-use Rattle.fishstore.specs.declared.fault.Fault.{Fault}
-use Rattle.fishstore.specs.declared.fault.Fault.TheVariants as fault
-use Rattle.fishstore.specs.declared.outcome.Outcome.{Outcome}
+use Rattle.fish_program.specs.Answer.{IsAnswer, answer_of}
+use Rattle.fish_program.specs.Limits.{shape_of}
+use Rattle.fish_program.specs.Runs.{IsStoppedRun, IsWholeRun, RefusesScript}
+use Rattle.fish_program.specs.declared.fault.Fault.{Fault}
+use Rattle.fish_program.specs.declared.fault.Fault.TheVariants as fault
+use Rattle.fish_program.specs.declared.outcome.Outcome.{Outcome}
 
 -- the exit status: 0 where the work was done and nothing was refused, 3 where something was, and else that of the fault
 abbrev pub status_of : Fault → Bool → ℕ

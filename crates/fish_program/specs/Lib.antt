@@ -1,0 +1,5 @@
+pub mod Answer
+pub mod Faults
+pub mod Limits
+pub mod Outcome
+pub mod Runs

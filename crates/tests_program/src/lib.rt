@@ -1,0 +1,12 @@
+//! Tests of whole commands, over the calls that the program makes: how each ends and what is written, with expected
+//! values that are worked out by hand from the rules.
+#![tactic(auto)]
+
+#[cfg(test)]
+mod commands;
+#[cfg(test)]
+mod expecting;
+#[cfg(test)]
+mod gates;
+#[cfg(test)]
+mod outside;
