@@ -1,5 +1,6 @@
-//! Two lanes that a gate holds: the first stores a record and scans while the record of the second has its number and
-//! isn't published yet. So the two run at once, and what the scan tells doesn't depend on who comes first.
+//! Lanes that a gate holds: one scans while the record of another has its number and isn't published yet. So the two run at
+//! once, and what the scan tells doesn't depend on who comes first. The first lane is the control pass's; the others have threads
+//! of their own, and run beside each other too.
 
 use crate::expecting::{expect, expect_text};
 use crate::outside::{host_of, sink_of, told_of, words_of};
@@ -17,8 +18,8 @@ const FILES: &[(&str, &str)] = &[
     ("c", "{\"type\":\"Push\",\"n\":6}\n"),
 ];
 
-/// The lanes, behind a registration and in front of a scan.
-const SCRIPT: &str = "register t as take type\n\
+/// Two lanes, behind a registration and in front of a scan.
+const TWO: &str = "register t as take type\n\
 lanes\n\
 lane\n\
 ingest json b\n\
@@ -29,7 +30,7 @@ end\n\
 scan t = \"Push\"\n";
 
 /// What they tell: the record of the second lane has number 0, and it is open as the first one scans.
-const WRITTEN: &str = "0 fault none false 2\n\
+const TWO_WRITTEN: &str = "0 fault none false 2\n\
 created\n\
 registered t id 0 from 0\n\
 lanes 0..2\n\
@@ -47,7 +48,7 @@ closed 2\n";
 
 /// The first lane waits in front of its first statement behind the registration until the second one has claimed, and the
 /// second one waits there until the first one has scanned.
-const HOLDS: &[Hold] = &[
+const TWO_HOLDS: &[Hold] = &[
     Hold {
         lane: 1,
         at: Point::Before(0),
@@ -64,16 +65,74 @@ const HOLDS: &[Hold] = &[
     },
 ];
 
-/// The gate of the holds.
-fn gate_of(alloc: Global) -> Result<Gate, AllocError> {
+/// Three lanes, the last of which scans while the record of the second is in flight.
+const THREE: &str = "register t as take type\n\
+lanes\n\
+lane\n\
+scan t = \"Push\"\n\
+lane\n\
+ingest json b\n\
+lane\n\
+scan t = \"Push\"\n\
+end\n";
+
+/// What they tell: the record is open as the third lane scans, and published as the first one does.
+const THREE_WRITTEN: &str = "0 fault none false 1\n\
+created\n\
+registered t id 0 from 0\n\
+lanes 0..1\n\
+lane 1\n\
+scan t = \"Push\" in 0..1 found 1 open none\n\
+0 21 {\"type\":\"Push\",\"n\":5}\n\
+lane 2\n\
+ingested b stored 1 refused 0\n\
+lane 3\n\
+scan t = \"Push\" in 0..1 found 0 open 0\n\
+end\n\
+closed 1\n";
+
+/// The third lane waits until the second one has claimed, which waits there until the third one has scanned; the first one
+/// waits until the second one is done.
+const THREE_HOLDS: &[Hold] = &[
+    Hold {
+        lane: 3,
+        at: Point::Before(0),
+        passes: 0,
+        other: 2,
+        until: Point::Claimed,
+    },
+    Hold {
+        lane: 2,
+        at: Point::Claimed,
+        passes: 0,
+        other: 3,
+        until: Point::After(0),
+    },
+    Hold {
+        lane: 1,
+        at: Point::Before(0),
+        passes: 1,
+        other: 2,
+        until: Point::After(0),
+    },
+];
+
+/// Scripts with the holds of their lanes, and what they write.
+const ROWS: &[(&str, &[Hold], &str)] = &[
+    (TWO, TWO_HOLDS, TWO_WRITTEN),
+    (THREE, THREE_HOLDS, THREE_WRITTEN),
+];
+
+/// A gate of holds.
+fn gate_of(alloc: Global, holds: &[Hold]) -> Result<Gate, AllocError> {
     let mut gate = Gate::open(alloc);
-    for hold in HOLDS {
+    for hold in holds {
         gate.add(*hold)?;
     }
     Ok(gate)
 }
 
-/// Runs the script on one page, held by a gate, and tells how it ended.
+/// Runs a script on one page, held by a gate, and tells how it ended.
 fn ended_by<R: Threads + Sync>(
     rt: &R,
     alloc: Global,
@@ -86,18 +145,26 @@ fn ended_by<R: Threads + Sync>(
     told_of(alloc, &outcome, out)
 }
 
-/// Asserts what the script tells, and that both lanes came to where the other one waited for them.
-fn expect_ran<R: Threads + Sync + Abort>(rt: &R, alloc: Global) -> Result<(), AllocError> {
-    let gate = gate_of(alloc)?;
-    let mut host = host_of(alloc, SCRIPT, FILES, None)?;
+/// Asserts what a script tells, and that each lane came to where another one waited for it.
+fn expect_ran<R: Threads + Sync + Abort>(
+    rt: &R,
+    alloc: Global,
+    row: &(&str, &[Hold], &str),
+) -> Result<(), AllocError> {
+    let (script, holds, written) = *row;
+    let gate = gate_of(alloc, holds)?;
+    let mut host = host_of(alloc, script, FILES, None)?;
     let mut out = sink_of(alloc, None)?;
     let found = ended_by(rt, alloc, &mut host, &mut out, &gate)?;
-    expect_text(rt, "a run", found.as_str(), WRITTEN);
+    expect_text(rt, script, found.as_str(), written);
     expect(rt, "let go", &gate.let_go(), &0);
     Ok(())
 }
 
 #[test]
 fn a_lane_scans_while_a_record_of_another_is_in_flight(rt: HostRuntime) -> Result<(), Fail> {
-    Ok(expect_ran(&rt, rt.alloc())?)
+    for row in ROWS {
+        expect_ran(&rt, rt.alloc(), row)?;
+    }
+    Ok(())
 }
