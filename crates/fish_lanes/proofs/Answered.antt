@@ -336,7 +336,8 @@ pub refused_version : (v u : View) (ask : Ask) (version : ℕ) (why : ScanCause)
     → (v.learned.version ≤ version) × (version ≤ u.learned.version)
 refused_version v u ask version cause.UnknownName s =
     (let is = s.version_is in let most = s.refused.2.rows.reached in (s.refused.4, omega arith))
-refused_version v u ask version (cause.EmptyRange from to) s = named_version v u s.known ask version s.refused.1.0 s.version_is s.refused.1.1
+refused_version v u ask version (cause.EmptyRange from to) s =
+    named_version v u s.known ask version s.refused.1.0 s.version_is s.refused.1.1
 refused_version v u ask version (cause.NotCovered from to) s =
     named_version v u s.known ask version s.refused.1.place s.version_is s.refused.1.asked.named
 

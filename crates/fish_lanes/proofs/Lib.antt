@@ -14,6 +14,7 @@ pub mod Gaining
 pub mod Items
 pub mod Keeping
 pub mod Lanes
+pub mod Leaving
 pub mod Lists
 pub mod Logs
 pub mod Moments

@@ -2,11 +2,10 @@
 use Rattle.std.specs.Prelude.{ℕ, ◌≡◌, ◌+◌, ◌<◌, ◌≤◌, Bool, List, Option, false, filter, true}
 use Rattle.fish_report.specs.declared.item.Item.{Item}
 use Rattle.fish_report.specs.declared.item.Item.TheVariants as item
-use Rattle.fish_rule.specs.ChainFacts.{Always}
 use Rattle.fish_rule.specs.LoadSteps.{IsAlone}
-use Rattle.fish_rule.specs.Parts.{IsEntryWord}
 use Rattle.fish_rule.specs.declared.view.Shut.{Shut}
 use Rattle.fish_rule.specs.declared.view.View.{View}
+use Rattle.fish_walk.specs.Looks.{KnowsEntry}
 
 -- the log's end before the block and behind it, the versions there, how many lanes the block has, and the claim that had found the log
 -- full before it
@@ -28,7 +27,7 @@ pub record IsWithinSpan (v u : View) (s : Span) : Type 0 where
   pub near : u.learned.count ≤ s.to + 16
   pub alone : s.lanes ≡ 1 → IsAlone v
   pub stored : u.learned.settled ≤ s.to
-  pub entries : (n : ℕ) → Always u (λ k w. IsEntryWord (w.dir n)) → n < s.to
+  pub entries : (n : ℕ) → KnowsEntry u n → n < s.to
 
 -- how many versions the item says were made
 abbrev pub made_by : Item → ℕ

@@ -212,7 +212,8 @@ first_known v u r s [] end some has = absurd (omega arith)
 first_known v u r s (x ∷ lanes) end some has = (has x refl).known
 
 -- what tells of the definitions is of the first lane
-controls_first : (lanes : List Lane) (end : BlockEnd) (x : Lane) → slice_get lanes 0 ≡ Some x → lanes_controls lanes end ≡ control_items x end
+controls_first : (lanes : List Lane) (end : BlockEnd) (x : Lane) → slice_get lanes 0 ≡ Some x
+    → lanes_controls lanes end ≡ control_items x end
 controls_first [] end x at = absurd cc
 controls_first (y ∷ lanes) end x at = ap (λ (z : Lane). control_items z end) (some_once y x at)
 

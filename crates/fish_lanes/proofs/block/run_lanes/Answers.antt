@@ -1,8 +1,8 @@
 -- The block from its start to its end.
 use Rattle.std.proofs.Common.{◌≡◌, ap, arith, length, subst, sym}
-use Rattle.fish_lanes.proofs.Course.{all_ended, all_marks, all_plans, all_shuts, has_end, is_later, kept_at, tells_all, vacant_at}
-use Rattle.fish_lanes.proofs.Course.{within}
+use Rattle.fish_lanes.proofs.Course.{all_ended, all_marks, has_end, is_later, kept_at, tells_all, vacant_at, within}
 use Rattle.fish_lanes.proofs.Ends.{registered_end, taken_alone}
+use Rattle.fish_lanes.proofs.Leaving.{all_plans, all_shuts}
 use Rattle.fish_lanes.proofs.Moments.{counted_from, few_behind}
 use Rattle.fish_lanes.proofs.Single.{only_end}
 use Rattle.fish_lanes.specs.Ending.{HasEnd}

@@ -1,0 +1,165 @@
+-- What the items of all lanes say of plans and of a full log, at the end of their block.
+use Rattle.std.proofs.Common.{◌≡◌, ◌⊎◌, ℕ, zero, suc, List, ◌∷◌, length, refl, sym, ap, ◌∙◌, subst, inl, inr, ⊎_elim}
+use Rattle.std.proofs.Common.{arith, Some, slice_get}
+use Rattle.std.proofs.lemmas.Option.{slice_get_within}
+use Rattle.fish_lanes.proofs.Claims.{claim_by, names_one}
+use Rattle.fish_lanes.proofs.Course as course
+use Rattle.fish_lanes.proofs.Covering.{bounds_before, bounds_in, bounds_read, read_later}
+use Rattle.fish_lanes.proofs.Ends.{given_registry}
+use Rattle.fish_lanes.proofs.Lists.{at_places, some_once}
+use Rattle.fish_lanes.proofs.Moments.{Closes, get_there, learns_same}
+use Rattle.fish_lanes.proofs.Plans.{plans_later}
+use Rattle.fish_lanes.proofs.Registrations.{registry_later}
+use Rattle.fish_lanes.specs.Blocks.{At, IsShutOfLane}
+use Rattle.fish_lanes.specs.Course.{AllBack, AllRan, HasFoundEnd}
+use Rattle.fish_lanes.specs.Ending.{HasEnd}
+use Rattle.fish_lanes.specs.Gains.{IsShutTold, WasShut}
+use Rattle.fish_lanes.specs.Outcome.{IsFullIn, LanesSayPlans, TellsShutBy}
+use Rattle.fish_lanes.specs.Plans.{AreSoPlans}
+use Rattle.fish_lanes.specs.Registering.{KnowsRegistry, Registry, registry_of}
+use Rattle.fish_lanes.specs.Sizes.{NamesOneClaim, TellsClaim, claim_of}
+use Rattle.fish_lanes.specs.declared.block.BlockEnd.{BlockEnd}
+use Rattle.fish_lanes.specs.declared.lane.Lane.{Lane}
+use Rattle.fish_lanes.specs.declared.lane.Seated.{Seated}
+use Rattle.fish_lanes.specs.declared.work.LaneFault.TheVariants as cause
+use Rattle.fish_lanes.specs.declared.work.Work.{Work}
+use Rattle.fish_registry.specs.Knowing.{Knows}
+use Rattle.fish_registry.specs.declared.registrar.Registrar.{Registrar}
+use Rattle.fish_report.specs.declared.item.Item.{Item}
+use Rattle.fish_report.specs.declared.item.Item.TheVariants as item
+use Rattle.fish_rule.proofs.laws.Learning.{learns_both}
+use Rattle.fish_rule.specs.Logs.{Learns}
+use Rattle.fish_rule.specs.Passes.{view}
+use Rattle.fish_rule.specs.Table.{Stands}
+use Rattle.fish_rule.specs.Views.{Among}
+use Rattle.fish_rule.specs.declared.table.Log.{Log}
+use Rattle.fish_rule.specs.declared.view.Learned.{Learned}
+use Rattle.fish_rule.specs.declared.view.Shut.{Shut}
+use Rattle.fish_rule.specs.declared.view.View.{View}
+
+module _ {log : Log} {v w u t : View} {r q kept : Registrar} {first first' : Lane} {before done after : List Lane} {last : BlockEnd}
+    (run : AllRan log v w r q first first' before done) (returned : AllBack w u done after) (ended : HasFoundEnd u t q kept last)
+    (zero_is : v.about.number ≡ 0) (stands : Stands t) (known : IsShutTold v) where
+  -- what is known of the block's course
+  knows : Knows t kept
+  knows = course.knows run returned ended zero_is stands known
+
+  closes : Closes u t
+  closes = course.closes run returned ended zero_is stands known
+
+  end_learns : Learns w t
+  end_learns = course.end_learns run returned ended zero_is stands known
+
+  -- what the items say of plans, by the rows that the registrar keeps
+  first_plans : (from : ℕ) → HasEnd v from
+      → AreSoPlans t (registry_of v r) kept.catalog from first'.works first'.items
+  first_plans from end =
+      let low = end.settled in
+      let same : run.main.learned.settled ≡ v.learned.settled = ap (λ (z : Learned). z.settled) run.gives.learned in
+      let said = run.first_did.controlled.plans kept.catalog from
+      (bounds_before w t kept.catalog end_learns (bounds_in t kept stands knows)) (omega arith) in
+      subst (λ (z : Registry × List Work). AreSoPlans t z.0 kept.catalog from z.1 first'.items)
+      (λ j. (given_registry v run.main r run.gives.learned j, sym run.first_did.works j))
+      (plans_later w t (registry_of run.main r) kept.catalog from first.works first'.items end_learns said)
+
+  others_plans : Knows v r → KnowsRegistry v (registry_of v r) → (from : ℕ) → HasEnd v from
+      → LanesSayPlans t (registry_of v r) kept.catalog from after
+  others_plans before_ registry from end i y at =
+      let z = course.ran_at run returned i y at in
+      let less = slice_get_within done i z.0 z.1 in
+      let p = course.way run i z.0 z.1 in
+      let w' = returned.taken i z.0 y z.1 at in
+      let e = p.run_of.after in
+      let back : Learns (view e.pass) t = learns_both (view e.pass) u t
+      (returned.takes.learned i z.0 e (omega arith) z.1 p.run_of.after_is) closes.learns in
+      let start = p.run_of.before in
+      let learned_is = course.way_learned run i z.0 p in
+      let about_is = course.way_about run i z.0 p in
+      let learns : Learns v (view start.pass) = learns_same v (view start.pass) about_is learned_is in
+      let low = end.settled in
+      let same : (view start.pass).learned.settled ≡ v.learned.settled = ap (λ (x : Learned). x.settled) learned_is in
+      let said = p.run_of.plans (registry_of v r) (read_later v (view start.pass) r.catalog learns (bounds_read v r before_))
+      (registry_later v (view start.pass) (registry_of v r) learns registry) kept.catalog from
+      (bounds_before (view e.pass) t kept.catalog back (bounds_in t kept stands knows)) (omega arith) in
+      subst (λ (q : List Work × List Item). AreSoPlans t (registry_of v r) kept.catalog from q.0 q.1)
+      (λ j. ((sym p.run_of.works ∙ sym w'.works) j, sym w'.items j))
+      (plans_later (view e.pass) t (registry_of v r) kept.catalog from p.mid.works z.0.items back said)
+
+  pub all_plans : Knows v r → KnowsRegistry v (registry_of v r) → (from : ℕ) → HasEnd v from
+      → LanesSayPlans t (registry_of v r) kept.catalog from (first' ∷ after)
+  all_plans before_ registry from end =
+      at_places (λ i x. AreSoPlans t (registry_of v r) kept.catalog from x.works x.items) first' after (first_plans from end)
+      (others_plans before_ registry from end)
+
+  -- what shuts the pass did so before, or an item tells of it
+  shut_by : At (λ i x. x.fault ≡ cause.None) (first' ∷ after) → (c : Shut) → t.shut ≡ Some c
+      → (v.shut ≡ Some c) ⊎ IsFullIn (first' ∷ after) c.line c.lines c.end
+  shut_by nones c e =
+      ⊎_elim (λ (k : w.shut ≡ Some c).
+      ⊎_elim (λ (same : run.main.shut ≡ Some c). inl (sym run.gives.shut ∙ same))
+      (λ (k : TellsClaim c first'.items). inr (record {
+        at = 0;
+        lane = first';
+        lane_is = refl;
+        file = k.0;
+        stored = k.1;
+        refused = k.2;
+        among = k.3;
+      }))
+      (run.first_did.controlled.run.shuts (nones 0 first' refl) c k)) (λ (q : IsShutOfLane done (length done) c). lane_shut q)
+      (returned.takes.shut c (sym closes.shut ∙ e))
+    where
+      lane_shut : IsShutOfLane done (length done) c → (v.shut ≡ Some c) ⊎ IsFullIn (first' ∷ after) c.line c.lines c.end
+      lane_shut q =
+          let p = course.way run q.place q.lane q.lane_is in
+          let same : q.seat ≡ p.run_of.after = some_once q.seat p.run_of.after (sym q.seat_is ∙ p.run_of.after_is) in
+          let less = q.below in
+          let size = returned.size in
+          let y = get_there after q.place (omega arith) in
+          let w' = returned.taken q.place q.lane y.0 q.lane_is y.1 in
+          ⊎_elim (λ (k : (view p.run_of.before.pass).shut ≡ Some c). inl (sym (course.way_shut run q.place q.lane p) ∙ k))
+          (λ (k : TellsClaim c q.lane.items). inr (record {
+            at = suc q.place;
+            lane = y.0;
+            lane_is = y.1;
+            file = k.0;
+            stored = k.1;
+            refused = k.2;
+            among = subst (Among (item.IngestFull k.0 c.line c.lines c.end k.1 k.2)) (sym w'.items) k.3;
+          }))
+          (p.run_of.run.shuts (sym w'.fault ∙ nones (suc q.place) y.0 y.1) c
+          (subst (λ (z : Seated). (view z.pass).shut ≡ Some c) same q.shut_is))
+
+  -- where an item tells of a claim, the pass is shut
+  full_shuts : (c : Shut) (at : ℕ) (x : Lane) → slice_get (first' ∷ after) at ≡ Some x → TellsClaim c x.items → WasShut t
+  full_shuts c zero x at told =
+      let here = claim_by w c first'.items run.first_did.controlled.run.full
+      (subst (λ (z : Lane). TellsClaim c z.items) (sym (some_once first' x at)) told) in
+      (c, closes.shut ∙ returned.takes.keeps c here)
+  full_shuts c (suc i) y at told =
+      let z = course.ran_at run returned i y at in
+      let p = course.way run i z.0 z.1 in
+      let w' = returned.taken i z.0 y z.1 at in
+      let s = p.run_of.after in
+      let here = claim_by (view s.pass) c z.0.items p.run_of.run.full (subst (TellsClaim c) w'.items told) in
+      let less = slice_get_within done i z.0 z.1 in
+      let shut = returned.takes.shuts i z.0 s c less z.1 p.run_of.after_is here in
+      (shut.0, closes.shut ∙ shut.1)
+
+  -- all that is told of what shuts the pass
+  pub all_shuts : TellsShutBy v t (first' ∷ after)
+  all_shuts = record {
+    by = shut_by;
+    keeps = λ c e. closes.shut ∙ returned.takes.keeps c (run.first_did.controlled.run.gains.shut c (run.gives.shut ∙ e));
+    shuts = λ line lines end f. full_shuts (claim_of line lines end) f.at f.lane f.lane_is (f.file, f.stored, f.refused, f.among);
+    one = at_places (λ i x. NamesOneClaim v.shut x.items) first' after
+        (names_one v.shut w first'.items run.first_did.controlled.run.full
+        (λ c e. run.first_did.controlled.run.gains.shut c (run.gives.shut ∙ e)))
+        (λ i y at.
+        let z = course.ran_at run returned i y at in
+        let p = course.way run i z.0 z.1 in
+        let w' = returned.taken i z.0 y z.1 at in
+        subst (NamesOneClaim v.shut) (sym w'.items)
+        (names_one v.shut (view p.run_of.after.pass) z.0.items p.run_of.run.full
+        (λ c e. p.run_of.run.gains.shut c (course.way_shut run i z.0 p ∙ e))));
+  }
