@@ -7,5 +7,6 @@ pub mod Reached
 pub mod Reading
 pub mod Regions
 pub mod Slot
+pub mod Stands
 pub mod Steps
 pub mod Terms

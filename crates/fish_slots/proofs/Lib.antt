@@ -1,2 +1,3 @@
+pub mod Commits
 pub mod Keeping
 pub mod Reading
