@@ -1,0 +1,129 @@
+-- A draft is a commit of all that the last one has, and of what was copied.
+use Rattle.std.proofs.Common.{◌≡◌, ℕ, suc, ◌+◌, ◌-◌, ◌*◌, ◌/◌, ◌%◌, ◌<◌, ◌≤◌, ◌^◌, ◌⊎◌, inl, inr, ◌++◌, List}
+use Rattle.std.proofs.Common.{refl, sym, ap, ◌∙◌, subst, arith, length, length-append}
+use Rattle.std.proofs.Common.{All, Some, None, Option, slice_get}
+use Rattle.std.proofs.lemmas.Option.{get_or_from_slice_get, slice_get_within}
+use Rattle.fish_catalog.specs.declared.commit.Commit.{Commit}
+use Rattle.fish_catalog.specs.declared.entry.Entry.{Entry}
+use Rattle.fish_catalog.specs.declared.row.CatRow.{CatRow}
+use Rattle.fish_catalog.specs.Words.{bound_word}
+use Rattle.fish_flush.specs.Kept.{IsCommitted, commit_of}
+use Rattle.fish_flush.specs.Reading.{IsLineAt, IsReadTo}
+use Rattle.fish_flush.specs.Rows.{HaveGrown, HoldsRows}
+use Rattle.fish_flush.specs.declared.flusher.Flusher.{Flusher}
+use Rattle.fish_flush.proofs.Growing.{grown_agrees}
+use Rattle.fish_flush.proofs.RegionSteps.{line_inside, line_start}
+use Rattle.fish_flush.proofs.TableKeys.{begin_word, end_word, few_rows}
+use Rattle.fish_flush.proofs.Words.{length-words_of, words_both}
+use Rattle.fish_image.specs.Commits.{HasBoundaries, IsBoundary, IsWithin}
+use Rattle.fish_image.specs.Log.{Agrees, StandsFor}
+use Rattle.fish_image.specs.Progress.{AreHeads}
+use Rattle.fish_image.specs.Reached.{Reached}
+use Rattle.fish_image.specs.Reading.{IsTold}
+use Rattle.fish_image.specs.Stands.{IsLog, words_in}
+use Rattle.fish_rule.proofs.basics.Regions.{few_numbers, starts_above}
+use Rattle.fish_rule.specs.Logs.{AreTold}
+use Rattle.fish_rule.specs.Registry.{row_at}
+use Rattle.fish_rule.specs.Start.{IsShape}
+use Rattle.fish_rule.specs.Table.{Stands}
+use Rattle.fish_rule.specs.declared.table.Shape.{Shape}
+use Rattle.fish_rule.specs.declared.view.View.{View}
+
+-- the last commit was read so far, by the rows as they are
+pub commits_read : (f : Flusher) (c d : Commit) (body lines : List ℕ) (old : List Entry) → IsCommitted f c body lines old
+    → c.bucket_bits ≡ d.bucket_bits → HaveGrown c.count c.rows d.rows → IsReadTo d (words_in lines) old f.count f.line f.heads.items
+commits_read f c d body lines old h bits grown =
+    let stands = h.is.stands in
+    let at : Commit = record d { lines = f.line } in
+    let line = h.line in
+    let size = h.size in
+    record {
+      end = stands.end;
+      agrees = subst (λ (k : ℕ). Agrees at (words_in lines) k stands.end) h.count
+          (grown_agrees c at c.count bits (omega arith) grown (words_in lines) c.count stands.end (omega arith) stands.agrees);
+      line_is = stands.lines ∙ line;
+      entries = stands.entries;
+      heads_are = subst (λ (b : ℕ). AreHeads (2 ^ b) stands.end.places f.heads.items) bits h.heads;
+      size = length-words_of (length lines / 8) lines ∙ omega arith;
+    }
+
+-- and what was copied behind it makes it a commit of more
+pub commits_more : (f g : Flusher) (c d : Commit) (body lines body' lines' more_words : List ℕ) (old more : List Entry)
+    → IsCommitted f c body lines old → IsTold d body' → words_in lines' ≡ more_words → f.line ≤ d.lines
+    → length lines' ≡ 32 * (d.lines - f.line) → d.turn ≡ g.turn → d.count ≡ g.count → d.lines ≡ g.line
+    → IsReadTo d (words_in lines ++ more_words) (old ++ more) d.count d.lines g.heads.items
+    → IsCommitted g d body' (lines ++ lines') (old ++ more)
+commits_more f g c d body lines body' lines' more_words old more h told words upto size' turn count line read =
+    let size = h.size in
+    let at = h.line in
+    let both = length-append lines lines' in
+    let all : words_in (lines ++ lines') ≡ words_in lines ++ more_words =
+        words_both (4 * f.line) (4 * (d.lines - f.line)) lines lines' (omega arith) (omega arith)
+        ∙ ap (λ (l : List ℕ). words_in lines ++ l) words in
+    record {
+      is = record {
+        told = told;
+        stands = record {
+          end = read.end;
+          agrees = subst (λ (l : List ℕ). Agrees d l d.count read.end) (sym all) read.agrees;
+          lines = read.line_is;
+          entries = read.entries;
+        };
+      };
+      size = omega arith;
+      turn = turn;
+      count = count;
+      line = line;
+      heads = read.heads_are;
+    }
+
+-- a boundary is a number
+boundary : (o : Option ℕ) → ((n : ℕ) → o ≡ Some n → n < 268435456) → IsBoundary o
+boundary None h = tt
+boundary (Some n) h = (let less = h n refl in omega arith)
+
+-- the numbers of a commit are within their limits
+pub within_limits : (v : View) (s : Stands v) (shape : Shape) (rows : List CatRow) (c : Commit) → IsShape shape → HoldsRows v rows
+    → c.turn < 3 → c.pages ≡ shape.pages → c.bucket_bits ≡ shape.bucket_bits → c.rows ≡ rows → v.about.number ≤ c.count
+    → c.count ≤ v.learned.settled → IsLineAt v c.count c.lines → IsWithin c
+within_limits v s shape rows c is holds turn pages bits rows_are above settled line =
+    let some_pages = is.some_pages in
+    let few_pages = is.few_pages in
+    let some_bits = is.some_bits in
+    let few_bits = is.few_bits in
+    let inside = line_inside v c.count c.lines s settled line in
+    let floor = s.rule.floors s.seat v s.at in
+    let within = s.rule.settling.within in
+    let low = s.rule.key_fits.low_end in
+    record {
+      turn = turn;
+      some_pages = omega arith;
+      few_pages = omega arith;
+      some_bits = omega arith;
+      few_bits = omega arith;
+      count =
+          let number = line_start v c.count c.lines s line in
+          let up = starts_above v.about s.moment.count s.moment.line s.rule.start s.rule.space.regions c.count above (omega arith) in
+          let few = s.rule.key_fits.few_numbers in
+          omega arith;
+      lines = omega arith;
+      boundaries = subst (All HasBoundaries) (sym rows_are) (λ i d less. bounds_at i d less);
+    }
+  where
+    numbers : s.moment.count < 268435456
+    numbers = few_numbers s.rule
+
+    bounds_of : (id : ℕ) (row : CatRow) → slice_get rows id ≡ Some row → HasBoundaries row
+    bounds_of id row there =
+        let few = few_rows s.moment s.rule s.seat s.at rows holds id row there in
+        let less = numbers in (
+          boundary row.from (λ n e. (let c_ = s.rule.registry.boundaries.claimed id 0 n few (omega arith)
+          (begin_word s.moment s.rule s.seat s.at rows holds id row there ∙ ap bound_word e) in omega arith)),
+          boundary row.to (λ n e. (let c_ = s.rule.registry.boundaries.claimed id 1 n few (omega arith)
+          (end_word s.moment s.rule s.seat s.at rows holds id row there ∙ ap bound_word e) in omega arith)),
+        )
+
+    bounds_at : (i : ℕ) (d : CatRow) → i < length rows → HasBoundaries (Rattle.std.proofs.Common.get_or rows i d)
+    bounds_at i d less =
+        let t = Rattle.fish_image.proofs.Spelling.parted rows i less in
+        subst HasBoundaries (sym (get_or_from_slice_get rows i t.0 d t.1)) (bounds_of i t.0 t.1)

@@ -1,0 +1,13 @@
+pub mod Checkpoints
+pub mod Committed
+pub mod Creating
+pub mod Drafted
+pub mod Faults
+pub mod Growing
+pub mod Images
+pub mod LinkedWords
+pub mod PageWrites
+pub mod RegionSteps
+pub mod TableKeys
+pub mod TableRegions
+pub mod Words

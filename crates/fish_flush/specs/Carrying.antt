@@ -1,0 +1,102 @@
+-- What a store file carries of a log that passes still write, from one commit to the next.
+use Rattle.std.specs.Prelude.{ℕ, ◌≡◌, ◌+◌, ◌-◌, ◌*◌, ◌%◌, ◌<◌, ◌≤◌, ◌⊎◌, List, ◌++◌, drop, length, false}
+use Rattle.fish_catalog.specs.declared.commit.Commit.{Commit}
+use Rattle.fish_catalog.specs.declared.entry.Entry.{Entry}
+use Rattle.fish_catalog.specs.declared.row.CatRow.{CatRow}
+use Rattle.fish_disk.specs.Crash.{LeavesOnly}
+use Rattle.fish_flush.specs.Kept.{IsAtRest, IsCommitted, commit_of}
+use Rattle.fish_flush.specs.Reading.{EndsWithin, IsLineAt}
+use Rattle.fish_flush.specs.Rows.{HaveGrown, HoldsRows}
+use Rattle.fish_flush.specs.declared.drafting.Draft.{Draft}
+use Rattle.fish_flush.specs.declared.flusher.Flusher.{Flusher}
+use Rattle.fish_image.specs.Reading.{IsTold}
+use Rattle.fish_image.specs.Stands.{Stands}
+use Rattle.fish_rule.specs.Clocks.{IsLater}
+use Rattle.fish_rule.specs.LoadSteps.{IsAlone}
+use Rattle.fish_rule.specs.Logs.{AreTold, Learns}
+use Rattle.fish_rule.specs.Start.{IsShape}
+use Rattle.fish_rule.specs.declared.table.Shape.{Shape}
+use Rattle.fish_rule.specs.declared.view.View.{View}
+use Rattle.fish_walk.specs.Looks.{IsTailCount}
+use Rattle.fish_walk.specs.Settling.{EndsAt, HasLoadedCount, IsEnd, IsMark, StopsAt}
+
+-- every image stands for this log by this commit, which the flusher keeps; the log is a settled prefix of the table's, as the
+-- pass knows, and the rows have gone on since
+pub record Carries (images : List ℕ → Type 0) (f : Flusher) (v : View) (s : Shape) (rows : List CatRow) (c : Commit)
+    (log : List Entry) : Type 0 where
+  pub rest : IsAtRest images f c log
+  pub pages : c.pages ≡ s.pages
+  pub bits : c.bucket_bits ≡ s.bucket_bits
+  pub grown : HaveGrown c.count c.rows rows
+  pub from : v.about.number ≤ f.count
+  pub settled : f.count ≤ v.learned.settled
+  pub line : IsLineAt v f.count f.line
+  pub told : AreTold v v.about.number (drop v.about.number log)
+
+-- ---- drafts
+
+-- a flusher may draft the log up to a number
+pub record MayDraft (v : View) (s : Shape) (f : Flusher) (rows : List CatRow) (to : ℕ) : Type 0 where
+  pub rows_are : HoldsRows v rows
+  pub shape : IsShape s
+  pub turn : f.turn < 3
+  pub some : 0 < length f.heads.items
+  pub from : v.about.number ≤ f.count
+  pub ordered : f.count ≤ to
+  pub line : IsLineAt v f.count f.line
+
+-- what is kept once a draft is committed
+abbrev pub flusher_after : Flusher → Draft → Flusher
+flusher_after f d =
+    record { slot = 1 - f.slot; turn = d.turn; count = d.count; line = d.line; heads = d.heads; shut = f.shut }
+
+-- the draft is a commit of all that the last one has, and of the entries after it up to a number
+pub record Drafts (v u : View) (end : ℕ) (s : Shape) (f : Flusher) (rows : List CatRow) (to : ℕ) (d : Draft) : Type 0 where
+  pub told : IsTold (commit_of (flusher_after f d) s rows) d.body
+  pub turn : d.turn ≡ (f.turn + 1) % 3
+  pub count : d.count ≡ to
+  pub line : IsLineAt u to d.line
+  pub within : EndsWithin end f.line d.line
+  pub size : length d.lines.items ≡ 32 * (d.line - f.line)
+  pub read : (c : Commit) (body lines : List ℕ) (old : List Entry) → IsCommitted f c body lines old
+      → c.bucket_bits ≡ s.bucket_bits → HaveGrown c.count c.rows rows
+      → (more : List Entry) × AreTold u f.count more × (length more + f.count ≡ to)
+      × IsCommitted (flusher_after f d) (commit_of (flusher_after f d) s rows) d.body (lines ++ d.lines.items) (old ++ more)
+
+-- ---- checkpoints
+
+-- the second view is the first but for the tail and what was learned since
+pub record Reads (v u : View) : Type 0 where
+  pub learns : Learns v u
+  pub clock : IsLater v.clock u.clock
+  pub frame : u ≡ record v { tail = u.tail; learned = u.learned; clock = u.clock }
+
+-- the number is one up to which all is settled, and why no further: it is the count, or the number of one that was found
+-- unfinished or a mark. A pass that is alone stops at the log's end
+pub record HasSettled (v u : View) (n : ℕ) : Type 0 where
+  pub rises : v.learned.settled ≤ n
+  pub settled : n ≤ u.learned.settled
+  pub count : ℕ
+  pub loaded : HasLoadedCount v u count
+  pub stops : StopsAt IsEnd v u n count
+  pub alone : IsAlone v → StopsAt IsMark v u n count
+  pub ends : IsAlone v → EndsAt u n count
+  pub rests : IsAlone v → IsTailCount count v.tail
+
+-- the log up to the number is committed: the file carries the log that it carried and more
+pub record HasCommitted (images images' : List ℕ → Type 0) (f f' : Flusher) (v u : View) (s : Shape) (rows : List CatRow) (n : ℕ)
+    : Type 0 where
+  pub live : f'.shut ≡ false
+  pub carries : (c : Commit) (old : List Entry) → Carries images f v s rows c old
+      → (more : List Entry) × (length (old ++ more) ≡ n) × Carries images' f' u s rows (commit_of f' s rows) (old ++ more)
+
+-- a crash at any moment leaves an image that stands for the log of the last commit or of a new one: one that goes on by entries
+-- that the pass knows, with these rows
+pub record LeavesEither {D : Type 0} (images : D → List ℕ → Type 0) (since : D → ℕ → List ℕ → Type 0) (moment : D → ℕ)
+    (old new : D) (u : View) (rows : List CatRow) (c : Commit) (log : List Entry) : Type 0 where
+  pub more : List Entry
+  pub next : Commit
+  pub told : AreTold u c.count more
+  pub rows_are : next.rows ≡ rows
+  pub count : next.count ≡ c.count + length more
+  pub leaves : LeavesOnly images since moment old new (λ i. Stands c i log ⊎ Stands next i (log ++ more))

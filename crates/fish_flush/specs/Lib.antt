@@ -1,0 +1,7 @@
+pub mod Carrying
+pub mod Causes
+pub mod Kept
+pub mod Linking
+pub mod Reading
+pub mod Rows
+pub mod Writing

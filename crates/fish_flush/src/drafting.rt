@@ -1,0 +1,83 @@
+//! All that a commit writes, in memory.
+
+ghost use Rattle.std.specs.Prelude.{◌≡◌, ◌<◌, ◌≤◌, ◌^◌, ◌+◌, ◌*◌, ◌++◌, ℕ, List, length, IfOk};
+ghost use Rattle.fish_catalog.specs.declared.commit.Commit.{Commit as Told};
+ghost use Rattle.fish_catalog.specs.declared.entry.Entry.{Entry};
+ghost use Rattle.fish_image.specs.Stands.{words_in};
+ghost use Rattle.fish_rule.specs.Logs.{AreTold, Extends};
+ghost use Rattle.fish_rule.specs.Passes.{IsPassOf, view};
+ghost use Rattle.fish_flush.specs.Carrying.{Drafts, MayDraft};
+ghost use Rattle.fish_flush.specs.Kept.{IsCommitted};
+
+use crate::flusher::Flusher;
+use crate::region::read_settled;
+use crate::rows::again;
+use byteorder::{ByteOrder, LittleEndian};
+use fish_catalog::{Catalog, Commit};
+use fish_image::slot_body;
+use fish_rule::{Log, Pass, shape};
+use fish_value::Bytes;
+use std::alloc::{AllocError, Global};
+
+/// All that a commit writes, and what is kept of it afterwards.
+#[derive(Debug, Drop)]
+pub(crate) struct Draft {
+    /// The lines after those of the last commit.
+    pub lines: Vec<u8>,
+    /// The body of its slot.
+    pub body: Bytes,
+    pub turn: u8,
+    pub count: u32,
+    pub line: u64,
+    pub heads: Vec<u64>,
+}
+
+/// The commit of the log up to a settled number.
+pub(crate) fn draft_commit(
+    alloc: Global,
+    log: &Log,
+    pass: &mut Pass,
+    flusher: &Flusher,
+    catalog: &Catalog,
+    to: u32,
+) -> Result<Draft, AllocError>
+    requires pass { IsPassOf log.now pass.old }
+    requires settled { to ≤ (view pass.old).learned.settled }
+    requires counted { to ≤ (view pass.old).learned.count }
+    requires may { MayDraft (view pass.old) log.now.shape flusher.now catalog.now to }
+    ensures pass { IsPassOf log.now pass.new }
+    ensures extends { Extends (view pass.old) (view pass.new) }
+    ensures drafts { IfOk result (Drafts (view pass.old) (view pass.new) log.now.key.end log.now.shape flusher.now catalog.now to) }
+{
+    let read = read_settled(alloc, log, pass, flusher, to)?;
+    let turn = (flusher.turn + 1) % 3;
+    let commit = Commit {
+        turn,
+        pages: shape(log).pages,
+        bucket_bits: shape(log).bucket_bits,
+        count: to,
+        lines: read.line,
+        rows: again(alloc, catalog)?,
+    };
+    let body = slot_body(alloc, &commit);
+    drop(commit);
+    Ok(Draft {
+        lines: to_bytes(alloc, read.words.as_slice())?,
+        body: body?,
+        turn,
+        count: to,
+        line: read.line,
+        heads: read.heads,
+    })
+}
+
+/// Words as bytes, each lowest byte first.
+fn to_bytes(alloc: Global, words: &[u64]) -> Result<Vec<u8>, AllocError>
+    requires few { length words.now < 2 ^ 40 }
+    ensures size { IfOk result (λ b. length b.items ≡ 8 * length words.now) }
+    ensures words { IfOk result (λ b. words_in b.items ≡ words.now) }
+{
+    let mut bytes = vec![in alloc; 0; words.len() * 8]?;
+    LittleEndian::write_u64_into(words, &mut bytes);
+    Ok(bytes)
+}

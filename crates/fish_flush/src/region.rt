@@ -1,0 +1,98 @@
+//! Settled regions of the log, copied with the previous nodes that they have in an image.
+
+ghost use Rattle.std.specs.Prelude.{◌≡◌, ◌<◌, ◌≤◌, ◌^◌, ◌+◌, ◌*◌, ◌++◌, ◌∷◌, [], ℕ, List, length, IfOk, OnOk};
+ghost use Rattle.fish_catalog.specs.declared.commit.Commit.{Commit};
+ghost use Rattle.fish_catalog.specs.declared.entry.Entry.{Entry};
+ghost use Rattle.fish_rule.specs.LoadSteps.{CanLookAt};
+ghost use Rattle.fish_rule.specs.Logs.{AreTold, Extends, Tells};
+ghost use Rattle.fish_rule.specs.Passes.{IsPassOf, view};
+ghost use Rattle.fish_flush.specs.Reading.{EndsWithin, IsLineAt, IsReadTo};
+ghost use Rattle.fish_flush.specs.Rows.{HoldsRows};
+
+use crate::flusher::Flusher;
+use crate::linking::link;
+use fish_rule::{Log, Pass, line_of_word, look_at, read_region};
+use std::alloc::{AllocError, Global};
+
+/// Regions that were copied after those of the last commit.
+#[derive(Debug, Drop)]
+pub(crate) struct Batch {
+    /// The line at which they end.
+    pub line: u64,
+    /// Their words.
+    pub words: Vec<u64>,
+    /// Of each bucket the place of the newest key entry up to there, or 0.
+    pub heads: Vec<u64>,
+}
+
+/// Copies the settled regions from the last commit's end up to a number.
+pub(crate) fn read_settled(
+    alloc: Global,
+    log: &Log,
+    pass: &mut Pass,
+    flusher: &Flusher,
+    to: u32,
+) -> Result<Batch, AllocError>
+    requires pass { IsPassOf log.now pass.old }
+    requires from { log.now.key.number ≤ flusher.now.count }
+    requires ordered { flusher.now.count ≤ to }
+    requires settled { to ≤ (view pass.old).learned.settled }
+    requires counted { to ≤ (view pass.old).learned.count }
+    requires line { IsLineAt (view pass.old) flusher.now.count flusher.now.line }
+    requires some { 0 < length flusher.now.heads.items }
+    ensures pass { IsPassOf log.now pass.new }
+    ensures extends { Extends (view pass.old) (view pass.new) }
+    ensures line { IfOk result (λ b. IsLineAt (view pass.new) to b.line) }
+    ensures within { IfOk result (λ b. EndsWithin log.now.key.end flusher.now.line b.line) }
+    ensures heads { IfOk result (λ b. length b.heads.items ≡ length flusher.now.heads.items) }
+    ensures size { IfOk result (λ b. length b.words.items + 4 * flusher.now.line ≡ 4 * b.line) }
+    ensures read { IfOk result (λ b. (c : Commit) (w : List ℕ) (old : List Entry) → HoldsRows (view pass.old) c.rows
+        → IsReadTo c w old flusher.now.count flusher.now.line flusher.now.heads.items
+        → (more : List Entry) × AreTold (view pass.new) flusher.now.count more × (length more + flusher.now.count ≡ to)
+        × IsReadTo c (w ++ b.words.items) (old ++ more) to b.line b.heads.items) }
+{
+    let mut batch = Batch {
+        line: flusher.line,
+        words: Vec::new(alloc),
+        heads: Vec::from_slice(alloc, flusher.heads.as_slice())?,
+    };
+    for number in flusher.count..to {
+        add_region(alloc, log, pass, number, &mut batch)?;
+    }
+    Ok(batch)
+}
+
+/// Copies the region of a settled number after the others.
+fn add_region(
+    alloc: Global,
+    log: &Log,
+    pass: &mut Pass,
+    number: u32,
+    batch: &mut Batch,
+) -> Result<(), AllocError>
+    requires pass { IsPassOf log.now pass.old }
+    requires from { log.now.key.number ≤ number }
+    requires settled { number < (view pass.old).learned.settled }
+    requires counted { number < (view pass.old).learned.count }
+    requires line { IsLineAt (view pass.old) number batch.old.line }
+    requires some { 0 < length batch.old.heads.items }
+    ensures pass { IsPassOf log.now pass.new }
+    ensures extends { Extends (view pass.old) (view pass.new) }
+    ensures line { OnOk result (IsLineAt (view pass.new) (number + 1) batch.new.line) }
+    ensures within { OnOk result (EndsWithin log.now.key.end batch.old.line batch.new.line) }
+    ensures heads { length batch.new.heads.items ≡ length batch.old.heads.items }
+    ensures size { OnOk result (length batch.new.words.items + 4 * batch.old.line ≡ length batch.old.words.items + 4 * batch.new.line) }
+    ensures read { OnOk result ((c : Commit) (w : List ℕ) (old : List Entry) → HoldsRows (view pass.old) c.rows
+        → IsReadTo c (w ++ batch.old.words.items) old number batch.old.line batch.old.heads.items
+        → (e : Entry) × Tells (view pass.new) number e
+        × IsReadTo c (w ++ batch.new.words.items) (old ++ e ∷ []) (number + 1) batch.new.line batch.new.heads.items) }
+{
+    let word = look_at(log, pass, u64::from(number));
+    let line = line_of_word(word);
+    let (words, _) = read_region(alloc, log, pass, line)?;
+    let start = batch.words.len();
+    batch.words.extend_from_slice(words.as_slice())?;
+    link(&mut batch.heads, line, words.as_slice(), &mut batch.words, start);
+    batch.line += words.len() as u64 / 4;
+    Ok(())
+}
