@@ -1,14 +1,13 @@
 -- What the first writes leave of an empty disk, over plain lists of bytes.
 use Rattle.std.proofs.Common.{◌≡◌, ℕ, ◌+◌, ◌*◌, ◌^◌, ◌%◌, ◌<◌, ◌≤◌, inl, inr, List, [], ◌∷◌, ◌++◌, length}
-use Rattle.std.proofs.Common.{take, drop, replicate, get_or}
+use Rattle.std.proofs.Common.{drop, replicate, get_or}
 use Rattle.std.proofs.Common.{refl, ap, sym, ◌∙◌, subst, arith}
 use Rattle.std.proofs.Math.Pow.{pow_mono}
 use Rattle.std.proofs.Math.Seq.{drop-nil}
 use Rattle.std.proofs.lemmas.List.{append-nil, get_or-drop, get_or-replicate, get_or-take, length-replicate}
 use Rattle.std.specs.Prelude.{Option, Some, None, IfSome}
-use Rattle.fish_catalog.specs.declared.commit.Commit.{Commit}
-use Rattle.fish_disk.specs.Content.{HasWritten, WrittenThrough, part, put_at}
-use Rattle.fish_disk.specs.Crash.{Torn, TornFrom}
+use Rattle.fish_disk.specs.Content.{HasWritten, part, put_at}
+use Rattle.fish_disk.specs.Crash.{Torn}
 use Rattle.fish_disk.proofs.Regions.{put_part, put_within, told_at, torn_apart}
 use Rattle.fish_flush.proofs.Committed.{body_lines}
 use Rattle.fish_flush.specs.Kept.{IsAtRest, first_commit}
@@ -19,7 +18,7 @@ use Rattle.fish_image.specs.Reading.{IsTold}
 use Rattle.fish_rule.specs.declared.table.Shape.{Shape}
 use Rattle.fish_slots.specs.Commits.{Rests}
 use Rattle.fish_slots.specs.Places.{body_at, body_bytes, gate_at, lines_at}
-use Rattle.fish_slots.specs.Slots.{IsAlone, IsOpen, body_of, line_count, lines_of}
+use Rattle.fish_slots.specs.Slots.{IsAlone, IsOpen, body_of, lines_of}
 
 -- over nothing, a piece is all
 at_nothing : (z o : List ℕ) → length o ≡ 0 → put_at 0 z o ≡ z
@@ -39,7 +38,7 @@ zero_closed n p less opened =
     let z : List ℕ = replicate n 0 in
     let zero : get_or z (p + 0) 0 ≡ 0 = get_or-replicate n (p + 0) 0 0 (let inside : p + 0 < n = omega (arith, less) in inside) in
     let same : 0 ≡ 1 = sym zero ∙ sym (get_or-drop p z 0 0) ∙ sym (get_or-take 1 (drop p z) 0 0 (omega arith))
-        ∙ ap (λ (l : List ℕ). get_or l 0 0) opened in
+    ∙ ap (λ (l : List ℕ). get_or l 0 0) opened in
     omega (arith, same)
 
 module _ (n : ℕ) (z : List ℕ) (is : z ≡ replicate n 0) (long : lines_at ≤ n) where
@@ -71,10 +70,9 @@ module _ (n : ℕ) (z : List ℕ) (is : z ≡ replicate n 0) (long : lines_at �
       let within : body_at 0 ≤ length o = omega (arith, many, size, long) in
       let put = put_within (body_at 0) body_bytes b o j within (omega (arith, size_b)) here.2 in
       let second = torn_apart (gate_at 0) 1 (gate_at 1) 1 j e torn (inr (omega arith))
-          ∙ torn_apart (body_at 0) body_bytes (gate_at 1) 1 o j put (inl (omega arith)) in
+      ∙ torn_apart (body_at 0) body_bytes (gate_at 1) 1 o j put (inl (omega arith)) in
       let body = torn_apart (gate_at 0) 1 (body_at 0) body_bytes j e torn (inr (omega arith)) in
-      let stands = ap (λ (l : List ℕ). part (body_at 0) (length b) l) here.2 ∙ put_part (body_at 0) b o within in
-      (
+      let stands = ap (λ (l : List ℕ). part (body_at 0) (length b) l) here.2 ∙ put_part (body_at 0) b o within in (
         λ opened. none_open 1 (omega arith)
             (subst (λ (l : List ℕ). part (gate_at 1) 1 l ≡ 1 ∷ []) zeros (sym second ∙ opened)),
         body ∙ subst (λ (m : ℕ). part (body_at 0) m j ≡ b) size_b stands,

@@ -2,12 +2,12 @@
 use Rattle.std.proofs.Common.{◌≡◌, ℕ, suc, ◌+◌, ◌-◌, ◌*◌, ◌/◌, ◌%◌, ◌<◌, ◌≤◌, ◌^◌, ◌⊎◌, inl, inr, ◌++◌, List}
 use Rattle.std.proofs.Common.{refl, sym, ap, ◌∙◌, subst, arith, length, length-append}
 use Rattle.std.proofs.Common.{All, Some, None, Option, slice_get}
-use Rattle.std.proofs.lemmas.Option.{get_or_from_slice_get, slice_get_within}
+use Rattle.std.proofs.lemmas.Option.{get_or_from_slice_get}
 use Rattle.fish_catalog.specs.declared.commit.Commit.{Commit}
 use Rattle.fish_catalog.specs.declared.entry.Entry.{Entry}
 use Rattle.fish_catalog.specs.declared.row.CatRow.{CatRow}
 use Rattle.fish_catalog.specs.Words.{bound_word}
-use Rattle.fish_flush.specs.Kept.{IsCommitted, commit_of}
+use Rattle.fish_flush.specs.Kept.{IsCommitted}
 use Rattle.fish_flush.specs.Reading.{IsLineAt, IsReadTo}
 use Rattle.fish_flush.specs.Rows.{HaveGrown, HoldsRows}
 use Rattle.fish_flush.specs.declared.flusher.Flusher.{Flusher}
@@ -16,14 +16,11 @@ use Rattle.fish_flush.proofs.RegionSteps.{line_inside, line_start}
 use Rattle.fish_flush.proofs.TableKeys.{begin_word, end_word, few_rows}
 use Rattle.fish_flush.proofs.Words.{length-words_of, words_both}
 use Rattle.fish_image.specs.Commits.{HasBoundaries, IsBoundary, IsWithin}
-use Rattle.fish_image.specs.Log.{Agrees, StandsFor}
+use Rattle.fish_image.specs.Log.{Agrees}
 use Rattle.fish_image.specs.Progress.{AreHeads}
-use Rattle.fish_image.specs.Reached.{Reached}
 use Rattle.fish_image.specs.Reading.{IsTold}
-use Rattle.fish_image.specs.Stands.{IsLog, words_in}
+use Rattle.fish_image.specs.Stands.{words_in}
 use Rattle.fish_rule.proofs.basics.Regions.{few_numbers, starts_above}
-use Rattle.fish_rule.specs.Logs.{AreTold}
-use Rattle.fish_rule.specs.Registry.{row_at}
 use Rattle.fish_rule.specs.Start.{IsShape}
 use Rattle.fish_rule.specs.Table.{Stands}
 use Rattle.fish_rule.specs.declared.table.Shape.{Shape}
@@ -58,8 +55,8 @@ commits_more f g c d body lines body' lines' more_words old more h told words up
     let at = h.line in
     let both = length-append lines lines' in
     let all : words_in (lines ++ lines') ≡ words_in lines ++ more_words =
-        words_both (4 * f.line) (4 * (d.lines - f.line)) lines lines' (omega arith) (omega arith)
-        ∙ ap (λ (l : List ℕ). words_in lines ++ l) words in
+    words_both (4 * f.line) (4 * (d.lines - f.line)) lines lines' (omega arith) (omega arith)
+    ∙ ap (λ (l : List ℕ). words_in lines ++ l) words in
     record {
       is = record {
         told = told;
@@ -118,9 +115,9 @@ within_limits v s shape rows c is holds turn pages bits rows_are above settled l
         let few = few_rows s.moment s.rule s.seat s.at rows holds id row there in
         let less = numbers in (
           boundary row.from (λ n e. (let c_ = s.rule.registry.boundaries.claimed id 0 n few (omega arith)
-          (begin_word s.moment s.rule s.seat s.at rows holds id row there ∙ ap bound_word e) in omega arith)),
+              (begin_word s.moment s.rule s.seat s.at rows holds id row there ∙ ap bound_word e) in omega arith)),
           boundary row.to (λ n e. (let c_ = s.rule.registry.boundaries.claimed id 1 n few (omega arith)
-          (end_word s.moment s.rule s.seat s.at rows holds id row there ∙ ap bound_word e) in omega arith)),
+              (end_word s.moment s.rule s.seat s.at rows holds id row there ∙ ap bound_word e) in omega arith)),
         )
 
     bounds_at : (i : ℕ) (d : CatRow) → i < length rows → HasBoundaries (Rattle.std.proofs.Common.get_or rows i d)

@@ -1,7 +1,7 @@
 -- Causes of calls that come one after the other.
-use Rattle.std.proofs.Common.{◌≡◌, ℕ, ◌≤◌, ◌+◌, arith}
-use Rattle.std.specs.Prelude.{Result, Ok, Err, OnErr, min}
-use Rattle.fish_outside.specs.Causes.{HasCause, Rose}
+use Rattle.std.proofs.Common.{ℕ, ◌≤◌, arith}
+use Rattle.std.specs.Prelude.{Result, Ok, Err}
+use Rattle.fish_outside.specs.Causes.{HasCause}
 
 -- a later call's cause is one since an earlier count
 pub cause_from : {T E : Type 0} (a b c : ℕ) (r : Result T E) → a ≤ b → HasCause b c r → HasCause a c r

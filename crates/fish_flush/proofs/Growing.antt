@@ -1,13 +1,12 @@
 -- What agrees with a commit agrees with a later one: its rows went on, and it has more lines.
-use Rattle.std.proofs.Common.{◌≡◌, ℕ, zero, suc, ◌+◌, ◌-◌, ◌*◌, ◌^◌, ◌<◌, ◌≤◌, ◌⊎◌, inl, inr, List, refl, sym}
-use Rattle.std.proofs.Common.{ap, subst, ◌∙◌, arith, Some, slice_get}
+use Rattle.std.proofs.Common.{◌≡◌, ℕ, zero, suc, ◌^◌, ◌<◌, ◌≤◌, inl, inr, List, refl, sym}
+use Rattle.std.proofs.Common.{ap, subst, ◌∙◌, arith}
 use Rattle.fish_catalog.specs.declared.commit.Commit.{Commit}
 use Rattle.fish_catalog.specs.declared.entry.Entry.{Entry}
 use Rattle.fish_catalog.specs.declared.row.CatRow.{CatRow}
 use Rattle.fish_flush.specs.Rows.{HaveGrown}
 use Rattle.fish_image.proofs.Agreement.{agrees_number}
-use Rattle.fish_image.specs.Log.{Agrees, Follows, FollowsIn, Gives, HasKeys, IsKeptAt, IsRecordAt, IsVoidAt}
-use Rattle.fish_image.specs.Log.{behind_record}
+use Rattle.fish_image.specs.Log.{Agrees, FollowsIn, HasKeys}
 use Rattle.fish_image.specs.Reached.{AreLinked, Reached, behind, with_keys}
 use Rattle.fish_layout.specs.declared.parts.BodyParts.{BodyParts}
 

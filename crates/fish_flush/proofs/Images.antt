@@ -5,11 +5,11 @@ use Rattle.std.proofs.Common.{refl, ap, sym, ◌∙◌, subst, arith}
 use Rattle.std.proofs.Math.Seq.{take-add}
 use Rattle.std.proofs.lemmas.List.{drop-drop}
 use Rattle.std.proofs.Math.Decide.{ℕ_discrete}
-use Rattle.std.specs.Prelude.{Option, Some, None, IfSome}
+use Rattle.std.specs.Prelude.{Option, Some, IfSome}
 use Rattle.fish_disk.specs.Content.{WrittenThrough, part, put_at}
 use Rattle.fish_disk.specs.Crash.{Torn, TornFrom}
 use Rattle.fish_disk.proofs.Regions.{put_within, told_at, torn_apart}
-use Rattle.fish_slots.specs.Commits.{Counts, HasCommit, Rests, next_turn, turn_of}
+use Rattle.fish_slots.specs.Commits.{HasCommit, Rests, next_turn, turn_of}
 use Rattle.fish_slots.specs.Places.{body_at, body_bytes, gate_at, lines_at}
 use Rattle.fish_slots.specs.Slots.{GatesAreSynced, IsOpen, SameSlot, body_of, line_count, lines_of}
 use Rattle.fish_flush.specs.Writing.{AreSealed, EitherCommit, Grows, IsPut, IsSealed}

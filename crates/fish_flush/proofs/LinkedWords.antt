@@ -1,9 +1,9 @@
 -- A record's words as its key entries are linked one after the other.
-use Rattle.std.proofs.Common.{◌≡◌, ℕ, zero, suc, ◌+◌, ◌-◌, ◌*◌, ◌/◌, ◌%◌, ◌^◌, ◌<◌, ◌≤◌, List, [], ◌∷◌, ◌++◌}
-use Rattle.std.proofs.Common.{length, take, drop, get_or, set}
+use Rattle.std.proofs.Common.{◌≡◌, ℕ, suc, ◌+◌, ◌-◌, ◌*◌, ◌/◌, ◌%◌, ◌^◌, ◌<◌, ◌≤◌, List, [], ◌∷◌, ◌++◌}
+use Rattle.std.proofs.Common.{length, take, get_or, set}
 use Rattle.std.proofs.Common.{refl, ap, sym, ◌∙◌, subst, arith, append_assoc, length-append, get_or-set_other}
 use Rattle.std.proofs.Common.{get_or-set_same}
-use Rattle.std.proofs.Math.Decide.{ℕ_discrete, dec_le, dec_lt}
+use Rattle.std.proofs.Math.Decide.{ℕ_discrete, dec_lt}
 use Rattle.std.specs.Prelude.{Some, None, Option, slice_get, ◌==◌, if◌then◌else◌, Bool, true, false, map}
 use Rattle.std.specs.List.{range_with_len}
 use Rattle.std.proofs.lemmas.Bool.{eq-eqb, eqb-true}
@@ -12,7 +12,7 @@ use Rattle.std.proofs.Math.Seq.{take-append_seam}
 use Rattle.fish_image.proofs.Spelling.{parted}
 use Rattle.fish_image.specs.Progress.{AreHeads}
 use Rattle.fish_image.specs.Reached.{AreLinked, bucket_of_key, head_of, place_of, with_keys}
-use Rattle.fish_flush.specs.Linking.{AreSpelled, IsLinked}
+use Rattle.fish_flush.specs.Linking.{AreSpelled}
 use Rattle.fish_layout.proofs.Buckets.{bucket_of-key}
 use Rattle.fish_layout.proofs.Clearing.{head_stays}
 use Rattle.fish_layout.proofs.Links.{length-relink, relink, relink-none, relink-relink, relinked, relinked_at}
@@ -20,11 +20,11 @@ use Rattle.fish_layout.proofs.Links.{relinked_key, relinked_lines, relinked_prop
 use Rattle.fish_layout.proofs.Links.{AreProperKeys-relink}
 use Rattle.fish_layout.proofs.Sizes.{length-body_words}
 use Rattle.fish_layout.proofs.Spelled.{body_says}
-use Rattle.fish_layout.specs.Body.{IsBody, body_lines, body_words}
-use Rattle.fish_layout.specs.Bucket.{bucket_of, byte_behind, value_in}
+use Rattle.fish_layout.specs.Body.{IsBody, body_words}
+use Rattle.fish_layout.specs.Bucket.{bucket_of, byte_behind}
 use Rattle.fish_layout.specs.Cleared.{IsKeyWord, Spells, entry_at, unlink, unlinked}
 use Rattle.fish_layout.specs.Entry.{entry_id, value_offset, value_size}
-use Rattle.fish_layout.specs.Hash.{bucket_in, fnv1a, key_hash_of}
+use Rattle.fish_layout.specs.Hash.{bucket_in, fnv1a}
 use Rattle.fish_layout.specs.Header.{keys_of}
 use Rattle.fish_layout.specs.declared.parts.BodyParts.{BodyParts}
 use Rattle.fish_layout.specs.declared.parts.KeyPart.{KeyPart}
@@ -232,16 +232,16 @@ module _ (line : ℕ) (words w heads : List ℕ) where
             size = length-set was.r (1 + 3 * c) prev ∙ size;
             done = λ i small. elim (ℕ_discrete i (1 + 3 * c))
                 as (λ _. get_or (set was.r (1 + 3 * c) prev) i 0 ≡ get_or (body_words (linked_parts n line q places)) i 0) [
-              | yes here ↦ ap (λ (j : ℕ). get_or (set was.r (1 + 3 * c) prev) j 0) here
-                  ∙ get_or-set_same was.r (1 + 3 * c) prev 0 inside ∙ value
-                  ∙ sym (relinked_key r q (1 + 3 * c) key ∙ ap r third)
-                  ∙ ap (λ (j : ℕ). get_or (body_words (linked_parts n line q places)) j 0) (sym here)
-              | no apart ↦ get_or-set_other was.r (1 + 3 * c) i prev 0 apart ∙ (elim (dec_lt i (1 + 3 * c)) [
-                | yes before ↦ was.done i before
-                | no behind ↦ was.rest i (omega arith) ∙ ap (λ (l : List ℕ). get_or l i 0) body.is
-                    ∙ sym (relinked_at r q i (λ other. (let m = other.1 in omega arith)))
-              ])
-            ];
+                  | yes here ↦ ap (λ (j : ℕ). get_or (set was.r (1 + 3 * c) prev) j 0) here
+                      ∙ get_or-set_same was.r (1 + 3 * c) prev 0 inside ∙ value
+                      ∙ sym (relinked_key r q (1 + 3 * c) key ∙ ap r third)
+                      ∙ ap (λ (j : ℕ). get_or (body_words (linked_parts n line q places)) j 0) (sym here)
+                  | no apart ↦ get_or-set_other was.r (1 + 3 * c) i prev 0 apart ∙ (elim (dec_lt i (1 + 3 * c)) [
+                    | yes before ↦ was.done i before
+                    | no behind ↦ was.rest i (omega arith) ∙ ap (λ (l : List ℕ). get_or l i 0) body.is
+                        ∙ sym (relinked_at r q i (λ other. (let m = other.1 in omega arith)))
+                  ])
+                ];
             rest = λ i more. get_or-set_other was.r (1 + 3 * c) i prev 0 (λ e. omega arith) ∙ was.rest i (omega arith);
             heads_are = subst (λ (z : List (ℕ × ℕ)). AreHeads n z (set heads' b p))
                 (sym (ap (λ (l : List KeyPart). with_keys n line 0 l places) t.3 ∙ with_more n line 0 (take c q.keys) k places

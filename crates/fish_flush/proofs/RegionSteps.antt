@@ -1,16 +1,16 @@
 -- One region more was copied.
-use Rattle.std.proofs.Common.{◌≡◌, ◌≢◌, ℕ, zero, suc, ◌+◌, ◌-◌, ◌*◌, ◌/◌, ◌<◌, ◌≤◌, ◌^◌, ◌⊎◌, inl, inr, List}
-use Rattle.std.proofs.Common.{[], ◌∷◌, ◌++◌, length, get_or, take, drop}
+use Rattle.std.proofs.Common.{◌≡◌, ◌≢◌, ℕ, zero, suc, ◌+◌, ◌*◌, ◌<◌, ◌≤◌, ◌^◌, inl, inr, List}
+use Rattle.std.proofs.Common.{[], ◌∷◌, ◌++◌, length, get_or, drop}
 use Rattle.std.proofs.Common.{refl, ap, sym, ◌∙◌, subst, arith, append_assoc, length-append}
 use Rattle.std.proofs.Math.Seq.{drop-append_seam}
 use Rattle.std.proofs.lemmas.List.{take_all}
 use Rattle.fish_catalog.specs.declared.commit.Commit.{Commit}
 use Rattle.fish_catalog.specs.declared.entry.Entry.{Entry}
-use Rattle.fish_flush.specs.Linking.{AreSpelled, IsLinked}
-use Rattle.fish_flush.specs.Reading.{EndsWithin, IsLineAt, IsReadTo}
+use Rattle.fish_flush.specs.Linking.{AreSpelled}
+use Rattle.fish_flush.specs.Reading.{IsLineAt, IsReadTo}
 use Rattle.fish_flush.specs.Rows.{HoldsRows}
 use Rattle.fish_flush.proofs.Growing.{grown_agrees, grown_self}
-use Rattle.fish_flush.proofs.TableRegions.{IsNextRegion, ends_inside, record_next, record_words, some_lines}
+use Rattle.fish_flush.proofs.TableRegions.{IsNextRegion, record_next, record_words, some_lines}
 use Rattle.fish_flush.proofs.TableRegions.{void_keys, void_next}
 use Rattle.fish_image.proofs.Agreement.{agrees_more, agrees_number}
 use Rattle.fish_image.specs.Log.{Agrees, Follows, FollowsAt, FollowsIn, region, region_lines}
@@ -18,7 +18,7 @@ use Rattle.fish_image.specs.Progress.{AreHeads}
 use Rattle.fish_image.specs.Reached.{Reached}
 use Rattle.fish_layout.proofs.Outlines.{body_room}
 use Rattle.fish_layout.proofs.Spelled.{body_says}
-use Rattle.fish_layout.specs.Header.{keys_of, lines_of}
+use Rattle.fish_layout.specs.Header.{keys_of}
 use Rattle.fish_rule.proofs.basics.Bodies.{kind-inside}
 use Rattle.fish_rule.proofs.basics.FoundRegions.{region_found}
 use Rattle.fish_rule.proofs.basics.Lists.{all_among}
@@ -169,13 +169,19 @@ module _ (v : View) (s : Stands v) (f : Found) (among : Among f v.learned.found)
       by : (k : Kind) → f.kind ≡ k → (r : List ℕ) × (out ≡ x ++ r) × IsNextRegion c at v f.number f.lines r heads heads'
       by Stored is =
           let q = record_words s.moment s.rule s.seat s.at f among words has is c.rows holds in
-          let linked = spelled.linked q.0 at.places q.1 are in
-          (linked.r, linked.out_is, record_next s.moment s.rule s.seat s.at f among words has is c.rows holds c at x heads heads' out refl
-          buckets number line within linked)
+          let linked = spelled.linked q.0 at.places q.1 are in (
+            linked.r,
+            linked.out_is,
+            record_next s.moment s.rule s.seat s.at f among words has is c.rows holds c at x heads heads' out refl
+                buckets number line within linked,
+          )
       by Void is =
-          let none = spelled.none (void_keys s.moment s.rule s.seat s.at f among words has is) in
-          (words, none.0, subst (λ (z : List ℕ). IsNextRegion c at v f.number f.lines words heads z) (sym none.1)
-          (void_next s.moment s.rule s.seat s.at f among words has is c at heads number line within are))
+          let none = spelled.none (void_keys s.moment s.rule s.seat s.at f among words has is) in (
+            words,
+            none.0,
+            subst (λ (z : List ℕ). IsNextRegion c at v f.number f.lines words heads z) (sym none.1)
+                (void_next s.moment s.rule s.seat s.at f among words has is c at heads number line within are),
+          )
       by Mark is = absurd (plain is)
 
   -- so one entry more was read

@@ -1,5 +1,5 @@
 -- The rows that the control pass knows say which key entries each record of the table has.
-use Rattle.std.proofs.Common.{◌≡◌, ℕ, zero, suc, ◌+◌, ◌-◌, ◌*◌, ◌<◌, ◌≤◌, ◌⊎◌, inl, inr, List, [], ◌∷◌}
+use Rattle.std.proofs.Common.{◌≡◌, ℕ, zero, suc, ◌<◌, ◌≤◌, ◌⊎◌, inl, inr, List, [], ◌∷◌}
 use Rattle.std.proofs.Common.{filter, length, map, sym, refl, ap, ◌∙◌}
 use Rattle.std.proofs.Common.{subst, arith, Bool, true, false, cond, Some, None, Option, option_map, slice_get}
 use Rattle.std.specs.Prelude.{All, filter_map}
@@ -24,7 +24,7 @@ use Rattle.fish_layout.specs.declared.parts.BodyParts.{BodyParts}
 use Rattle.fish_layout.specs.declared.parts.KeyPart.{KeyPart}
 use Rattle.fish_psf.specs.Eval.{Fields, eval}
 use Rattle.fish_psf.specs.Keys.{key_of, keys_of}
-use Rattle.fish_psf.specs.Records.{evaluation, fields_of_payload}
+use Rattle.fish_psf.specs.Records.{fields_of_payload}
 use Rattle.fish_psf.specs.declared.key.ActiveDef.{ActiveDef}
 use Rattle.fish_psf.specs.declared.key.KeyValue.{KeyValue}
 use Rattle.fish_rule.proofs.basics.Lists.{there_is}
@@ -32,12 +32,10 @@ use Rattle.fish_rule.proofs.basics.RegistryWords.{text_grows}
 use Rattle.fish_rule.specs.Boundaries.{IsOpenIn}
 use Rattle.fish_rule.specs.Keys.{IsKeyedOf, IsWritten, property, text_of}
 use Rattle.fish_rule.specs.Registry.{AreActiveAt, definitions_at, row_at, version_in}
-use Rattle.fish_rule.specs.Regions.{code}
 use Rattle.fish_rule.specs.Rule.{Rule}
 use Rattle.fish_rule.specs.Views.{Among}
-use Rattle.fish_rule.specs.World.{World, body, high}
+use Rattle.fish_rule.specs.World.{World}
 use Rattle.fish_rule.specs.declared.view.Key.{Key}
-use Rattle.fish_rule.specs.declared.view.Kind.TheVariants.{Stored}
 use Rattle.fish_rule.specs.declared.view.View.{View}
 use Rattle.fish_value.specs.declared.value.Value.{Value}
 

@@ -1,38 +1,35 @@
 -- The words of a region of the table, with its previous nodes, follow an image that has all in front of it.
-use Rattle.std.proofs.Common.{◌≡◌, ◌≢◌, ℕ, zero, suc, ◌+◌, ◌-◌, ◌*◌, ◌/◌, ◌<◌, ◌≤◌, ◌^◌, ◌⊎◌, inl, inr, List}
-use Rattle.std.proofs.Common.{[], ◌∷◌, ◌++◌, length, get_or, take, drop, replicate}
-use Rattle.std.proofs.Common.{refl, ap, sym, ◌∙◌, subst, arith, Some, slice_get, append_assoc}
+use Rattle.std.proofs.Common.{◌≡◌, ◌≢◌, ℕ, zero, suc, ◌+◌, ◌-◌, ◌*◌, ◌/◌, ◌<◌, ◌≤◌, ◌^◌, inl, inr, List}
+use Rattle.std.proofs.Common.{[], ◌∷◌, ◌++◌, length, get_or}
+use Rattle.std.proofs.Common.{refl, ap, sym, ◌∙◌, subst, arith, Some, slice_get}
 use mathlib.Core.Option.{some}
 use Rattle.std.proofs.Math.ListN.{get_elem?}
 use Rattle.std.proofs.Math.Decide.{dec_lt, ℕ_discrete}
-use Rattle.std.proofs.lemmas.List.{ext_get_or, length-replicate, get_or-replicate, take_all}
+use Rattle.std.proofs.lemmas.List.{ext_get_or, length-replicate, get_or-replicate}
 use Rattle.fish_catalog.specs.declared.commit.Commit.{Commit}
 use Rattle.fish_catalog.specs.declared.entry.Entry.{Entry}
 use Rattle.fish_catalog.specs.declared.entry.Entry.TheVariants as entry
 use Rattle.fish_catalog.specs.declared.row.CatRow.{CatRow}
-use Rattle.fish_flush.specs.Linking.{AreSpelled, IsLinked}
-use Rattle.fish_flush.specs.Reading.{IsReadTo}
+use Rattle.fish_flush.specs.Linking.{IsLinked}
 use Rattle.fish_flush.specs.Rows.{HoldsRows}
-use Rattle.fish_flush.proofs.Growing.{grown_agrees, grown_self}
 use Rattle.fish_flush.proofs.TableKeys.{table_keys}
-use Rattle.fish_image.proofs.Agreement.{agrees_more, agrees_number}
 use Rattle.fish_image.proofs.Regions.{keyless}
-use Rattle.fish_image.specs.Log.{Agrees, Follows, FollowsIn, HasKeys, IsSound, behind_record, region}
-use Rattle.fish_image.specs.Log.{region_lines, void_words}
+use Rattle.fish_image.specs.Log.{FollowsIn, HasKeys, behind_record}
+use Rattle.fish_image.specs.Log.{void_words}
 use Rattle.fish_image.specs.Progress.{AreHeads}
 use Rattle.fish_image.specs.Reached.{AreLinked, Reached, behind, page_of, with_keys}
-use Rattle.fish_layout.proofs.Clearing.{choose_first, choose_second, cleared_head}
+use Rattle.fish_layout.proofs.Clearing.{choose_first, choose_second}
 use Rattle.fish_layout.proofs.Headers.{keys_of-void, lines_of-void}
 use Rattle.fish_layout.proofs.Links.{relinked_lines, unlinked_is}
 use Rattle.fish_layout.proofs.Once.{body_number, body_once}
 use Rattle.fish_layout.proofs.Outlines.{body_length}
 use Rattle.fish_layout.proofs.Spelled.{body_says, body_spelled}
 use Rattle.fish_layout.specs.Body.{IsBody, body_lines}
-use Rattle.fish_layout.specs.Cleared.{IsKeyWord, Spells, body_of, choose, unlink, unlinked}
+use Rattle.fish_layout.specs.Cleared.{IsKeyWord, Spells, choose, unlink, unlinked}
 use Rattle.fish_layout.specs.Header.{keys_of, lines_of, void_word}
 use Rattle.fish_layout.specs.declared.parts.BodyParts.{BodyParts}
 use Rattle.fish_layout.specs.declared.parts.KeyPart.{KeyPart}
-use Rattle.fish_rule.proofs.basics.Bodies.{kind-inside, kind-within, published, void-head}
+use Rattle.fish_rule.proofs.basics.Bodies.{kind-inside, kind-within, void-head}
 use Rattle.fish_rule.proofs.basics.FoundRegions.{region_found, word_known}
 use Rattle.fish_rule.proofs.basics.Lists.{all_among}
 use Rattle.fish_rule.proofs.basics.RegionWords.{head_plain}
@@ -50,7 +47,6 @@ use Rattle.fish_rule.specs.declared.view.Found.{Found}
 use Rattle.fish_rule.specs.declared.view.Kind.{Kind}
 use Rattle.fish_rule.specs.declared.view.Kind.TheVariants.{Mark, Stored, Void}
 use Rattle.fish_rule.specs.declared.view.View.{View}
-use Rattle.fish_value.specs.declared.field.Form.{Form}
 
 -- ---- previous nodes
 
@@ -219,7 +215,7 @@ module _ {v : View} (w : World) (rule : Rule v.about w) (seat : ℕ) (at : get_e
         let some_ = some_lines.0 in
         let few = some_lines.1 in
         let cross = void_crosses f.line (f.line + f.lines)
-            (plain_kind (λ (e : f.kind ≡ Mark). (let g : Void ≡ Mark = sym is_void ∙ e in cc))
+        (plain_kind (λ (e : f.kind ≡ Mark). (let g : Void ≡ Mark = sym is_void ∙ e in cc))
         ∙ is_void) in
         record {
           e = entry.Void;

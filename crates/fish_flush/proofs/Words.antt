@@ -1,9 +1,9 @@
 -- Words as bytes, and back.
-use Rattle.std.proofs.Common.{◌≡◌, ℕ, zero, suc, ◌+◌, ◌-◌, ◌*◌, ◌/◌, ◌<◌, ◌≤◌, ◌^◌, List, [], ◌∷◌, ◌++◌}
-use Rattle.std.proofs.Common.{length, get_or, take, drop}
-use Rattle.std.proofs.Common.{refl, ap, sym, ◌∙◌, subst, arith, length-append, length-drop}
+use Rattle.std.proofs.Common.{◌≡◌, ℕ, zero, suc, ◌+◌, ◌*◌, ◌/◌, ◌<◌, ◌≤◌, ◌^◌, List, [], ◌∷◌, ◌++◌}
+use Rattle.std.proofs.Common.{length, get_or, drop}
+use Rattle.std.proofs.Common.{refl, ap, sym, ◌∙◌, arith, length-append, length-drop}
 use Rattle.std.specs.List.{flat_map}
-use Rattle.std.proofs.lemmas.List.{drop-append-le, drop_all}
+use Rattle.std.proofs.lemmas.List.{drop-append-le}
 use Rattle.byteorder.specs.Endian.{little_bytes}
 use Rattle.byteorder.specs.Numbers.{little_from-append}
 use Rattle.fish_image.proofs.Spelling.{behind, length-word, length-words, number-word}

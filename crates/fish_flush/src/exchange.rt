@@ -15,7 +15,13 @@ use fish_slots::{close_old, open_gate, seal};
 /// Writes lines after those of the last commit, and then a commit of all of them into the other slot,
 /// which takes the place of the last. One call of the disk for each page that the lines touch, and six
 /// more.
-pub(crate) fn commit<D: Disk>(disk: &mut D, slot: u8, line: u64, lines: &[u8], body: &[u8]) -> Result<(), Failed>
+pub(crate) fn commit<D: Disk>(
+    disk: &mut D,
+    slot: u8,
+    line: u64,
+    lines: &[u8],
+    body: &[u8],
+) -> Result<(), Failed>
     requires slot { slot ≤ 1 }
     requires size { length body.now ≡ body_bytes }
     requires low { line < 2 ^ 37 }
@@ -39,7 +45,13 @@ pub(crate) fn commit<D: Disk>(disk: &mut D, slot: u8, line: u64, lines: &[u8], b
 }
 
 /// The same once the lines are written. They are not yet synced.
-fn put_body<D: Disk>(disk: &mut D, slot: u8, line: u64, lines: &[u8], body: &[u8]) -> Result<(), Failed>
+fn put_body<D: Disk>(
+    disk: &mut D,
+    slot: u8,
+    line: u64,
+    lines: &[u8],
+    body: &[u8],
+) -> Result<(), Failed>
     requires slot { slot ≤ 1 }
     requires size { length body.now ≡ body_bytes }
     requires rests { (b w : List ℕ) × Grows (D.images disk.old) slot line b w body.now lines.now }

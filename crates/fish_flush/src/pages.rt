@@ -36,7 +36,8 @@ pub(crate) fn write_pages<D: Disk>(disk: &mut D, line: u64, lines: &[u8]) -> Res
     let mut at = line;
     while at < end {
         let next = page_end(at).min(end);
-        let piece = &lines[(LINE_BYTES * (at - line)) as usize..(LINE_BYTES * (next - line)) as usize];
+        let piece = &lines[(LINE_BYTES * (at - line)) as usize..(LINE_BYTES
+            * (next - line)) as usize];
         disk.write_at(LINES_AT + LINE_BYTES * at, piece)?;
         at = next;
     }

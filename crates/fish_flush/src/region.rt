@@ -92,7 +92,13 @@ fn add_region(
     let (words, _) = read_region(alloc, log, pass, line)?;
     let start = batch.words.len();
     batch.words.extend_from_slice(words.as_slice())?;
-    link(&mut batch.heads, line, words.as_slice(), &mut batch.words, start);
+    link(
+        &mut batch.heads,
+        line,
+        words.as_slice(),
+        &mut batch.words,
+        start,
+    );
     batch.line += words.len() as u64 / 4;
     Ok(())
 }

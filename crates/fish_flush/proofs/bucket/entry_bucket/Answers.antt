@@ -1,5 +1,5 @@
 -- The value's bytes come behind the id's.
-use Rattle.std.proofs.Common.{◌≡◌, ℕ, ◌+◌, ◌*◌, List, [], ◌∷◌, ◌++◌, ap, sym, ◌∙◌, arith, subst}
+use Rattle.std.proofs.Common.{◌≡◌, ℕ, ◌+◌, ◌*◌, List, ◌++◌, ap, sym, ◌∙◌}
 use Rattle.std.specs.Prelude.{map, slice_index}
 use Rattle.std.specs.Int.{to_le_bytes}
 use Rattle.std.specs.Int.Width.{w16}

@@ -1,5 +1,5 @@
 -- A store without a record.
-use Rattle.std.proofs.Common.{◌≡◌, ℕ, List, [], ap, ◌∙◌, subst, length, false, refl}
+use Rattle.std.proofs.Common.{ℕ, List, [], ap, ◌∙◌, subst, length, false, refl}
 use Rattle.fish_flush.proofs.Checkpoints.{memory_cause}
 use Rattle.fish_flush.proofs.Creating.{few_heads, first_rests}
 use Rattle.fish_flush.specs.Kept.{first_commit}

@@ -1,6 +1,5 @@
 -- All is zero in front of the lines, and then the body stands there and its gate opens.
-use Rattle.std.proofs.Common.{◌≡◌, ◌≤◌, ℕ, List, subst, sym, arith, length}
-use Rattle.std.specs.Prelude.{IfSome}
+use Rattle.std.proofs.Common.{◌≡◌, ℕ, List, subst, arith}
 use Rattle.std.proofs.lemmas.Result.{on_ok_weaker}
 use Rattle.fish_flush.proofs.Creating.{first_image, has_room, none_open, only_piece}
 use Rattle.fish_flush.proofs.Faults.{cause_from}

@@ -1,11 +1,8 @@
 -- The draft is a commit of all that the last one has, and of what was copied.
-use Rattle.std.proofs.Common.{◌≡◌, ℕ, ◌+◌, ◌-◌, ◌*◌, ◌/◌, ◌%◌, ◌<◌, ◌≤◌, ◌^◌, ◌++◌, List, refl, sym, ap, ◌∙◌}
-use Rattle.std.proofs.Common.{subst, arith, length, length-append}
+use Rattle.std.proofs.Common.{◌≡◌, ℕ, ◌+◌, ◌-◌, ◌*◌, ◌%◌, List, refl, ap, ◌∙◌}
+use Rattle.std.proofs.Common.{subst, arith, length}
 use Rattle.fish_catalog.specs.declared.commit.Commit.{Commit}
-use Rattle.fish_catalog.specs.declared.entry.Entry.{Entry}
 use Rattle.fish_flush.proofs.Drafted.{commits_more, commits_read, within_limits}
-use Rattle.fish_flush.specs.Kept.{commit_of}
-use Rattle.fish_image.specs.Commits.{IsWithin}
 use Rattle.fish_image.specs.Reading.{IsTold}
 use Rattle.fish_rule.specs.Passes.{view}
 use Rattle.fish_rule.specs.declared.view.Key.{Key}

@@ -1,5 +1,5 @@
 -- The bytes are those of the words.
-use Rattle.std.proofs.Common.{◌≡◌, ℕ, ◌+◌, ◌*◌, List, ◌++◌, drop, length, take, ap, sym, ◌∙◌, subst, arith}
+use Rattle.std.proofs.Common.{◌≡◌, ℕ, List, ◌++◌, drop, length, take, ap, ◌∙◌, arith}
 use Rattle.std.proofs.Math.Seq.{take-append_seam}
 use Rattle.fish_image.specs.Stands.{words_in}
 use Rattle.fish_flush.proofs.Words.{bytes_size, words_bytes}

@@ -1,11 +1,11 @@
 -- The lines are written behind those of the last commit.
-use Rattle.std.proofs.Common.{◌≡◌, ℕ, ◌+◌, ◌-◌, ◌*◌, ◌≤◌, ◌⊎◌, inl, inr, List, ◌++◌, length, arith}
+use Rattle.std.proofs.Common.{ℕ, ◌+◌, ◌-◌, ◌*◌, inl, List, ◌++◌, length, arith}
 use Rattle.std.proofs.lemmas.Result.{on_ok_weaker}
 use Rattle.fish_disk.specs.Crash.{TornFrom}
 use Rattle.fish_disk.proofs.Moments.{leaves_more, leaves_then}
 use Rattle.fish_slots.specs.Places.{lines_at}
 use Rattle.fish_slots.proofs.Commits.{rests_commit}
-use Rattle.fish_flush.specs.Writing.{EitherCommit, Grows}
+use Rattle.fish_flush.specs.Writing.{EitherCommit}
 use Rattle.fish_flush.proofs.Images.{grows_on, rests_on}
 use Rattle.fish_flush.proofs.Faults.{cause_from}
 use Rattle.fish_flush.proofs.exchange.commit.Goals as goal
@@ -26,7 +26,8 @@ pub put_body-requires-clause-rests : goal.put_body-requires-clause-rests
 put_body-requires-clause-rests g c =
     let disk = g.D.Disk in
     let h = c.requires.rests in (
-      h.0, h.1,
+      h.0,
+      h.1,
       grows_on (disk.images c.args.disk.now) (disk.images c.write_pages.new.disk) c.args.slot c.args.line (length c.args.lines.now)
           h.0 h.1 c.args.body.now c.args.lines.now c.requires.slot c.write_pages.ensures.crash.now h.2,
     )

@@ -1,11 +1,11 @@
 -- The body is put into the closed slot, and then its gate opens.
-use Rattle.std.proofs.Common.{◌≡◌, ◌-◌, ◌≤◌, ◌⊎◌, inl, inr, ℕ, List, [], ◌∷◌, ◌++◌, ap, sym, ◌∙◌, subst, arith}
+use Rattle.std.proofs.Common.{◌-◌, inl, ℕ, List, ◌++◌, arith}
 use Rattle.std.proofs.lemmas.Result.{on_ok_weaker}
 use Rattle.fish_disk.specs.Crash.{TornFrom}
 use Rattle.fish_disk.proofs.Moments.{leaves_more, leaves_then}
 use Rattle.fish_slots.specs.Places.{body_at, body_bytes}
 use Rattle.fish_slots.proofs.Commits.{rests_commit}
-use Rattle.fish_flush.specs.Writing.{AreSealed, EitherCommit, Grows}
+use Rattle.fish_flush.specs.Writing.{EitherCommit}
 use Rattle.fish_flush.proofs.Images.{now_sealed, rests_body, resting_gates}
 use Rattle.fish_flush.proofs.exchange.put_body.Goals as goal
 
@@ -31,7 +31,10 @@ take_over-requires-clause-sealed g c =
     let old = c.args.disk.now in
     let new = c.seal.new.disk in
     let h = c.requires.rests in (
-      h.0, h.1, c.args.body.now, h.1 ++ c.args.lines.now,
+      h.0,
+      h.1,
+      c.args.body.now,
+      h.1 ++ c.args.lines.now,
       now_sealed (disk.content old) (disk.content new) (disk.images old) (disk.images new) c.args.slot c.args.line h.0 h.1
           c.args.body.now c.args.lines.now c.requires.slot c.requires.size h.2 c.requires.put c.in_ok-seal.ensures.done
           c.seal.ensures.crash.now c.in_ok-seal.ensures.sealed,

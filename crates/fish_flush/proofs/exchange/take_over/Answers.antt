@@ -1,12 +1,12 @@
 -- The new gate opens while the old one is open, and then the old one closes.
-use Rattle.std.proofs.Common.{◌≡◌, ◌-◌, ◌≤◌, ◌⊎◌, inl, inr, ℕ, List, [], ◌∷◌, ap, sym, ◌∙◌, subst, arith}
+use Rattle.std.proofs.Common.{◌≡◌, ◌-◌, inr, ℕ, List, sym, ◌∙◌, subst, arith}
 use Rattle.std.proofs.lemmas.Result.{on_ok_weaker}
 use Rattle.fish_disk.specs.Crash.{TornFrom}
 use Rattle.fish_disk.proofs.Moments.{leaves_more, leaves_then}
 use Rattle.fish_slots.specs.Places.{gate_at}
-use Rattle.fish_slots.specs.Slots.{IsOpen, SameSlot, line_count, lines_of}
+use Rattle.fish_slots.specs.Slots.{line_count, lines_of}
 use Rattle.fish_slots.proofs.Keeping.{one_gates, other_gate}
-use Rattle.fish_flush.specs.Writing.{AreSealed, EitherCommit, IsSealed}
+use Rattle.fish_flush.specs.Writing.{EitherCommit, IsSealed}
 use Rattle.fish_flush.proofs.Images.{closed_new, closing_new, sealed_either, sealed_gate, sealed_gates}
 use Rattle.fish_flush.proofs.exchange.take_over.Goals as goal
 

@@ -1,10 +1,9 @@
 -- Each key entry is linked in turn.
-use Rattle.std.proofs.Common.{◌≡◌, ℕ, ◌+◌, ◌-◌, ◌*◌, ◌<◌, ◌≤◌, List, ◌++◌, length, get_or, refl, sym, ap, ◌∙◌}
-use Rattle.std.proofs.Common.{subst, arith, length-append}
+use Rattle.std.proofs.Common.{◌≡◌, ℕ, ◌+◌, ◌*◌, ◌<◌, List, ◌++◌, length, get_or, refl, ap, ◌∙◌}
+use Rattle.std.proofs.Common.{arith, length-append}
 use Rattle.std.proofs.lemmas.Grind.{get_or_default_zero}
 use Rattle.std.proofs.lemmas.List.{length-set}
 use Rattle.fish_layout.specs.Bucket.{bucket_of}
-use Rattle.fish_layout.specs.Header.{keys_of}
 use Rattle.fish_flush.proofs.LinkedWords.{all_linked, none_linked, one_linked}
 use Rattle.fish_flush.proofs.linking.link.Goals as goal
 

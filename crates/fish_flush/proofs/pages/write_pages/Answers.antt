@@ -1,5 +1,5 @@
 -- One page after the other is written.
-use Rattle.std.proofs.Common.{◌≡◌, ℕ, ◌+◌, ◌-◌, ◌*◌, ◌/◌, ◌<◌, ◌≤◌, List, length, take, drop, ap, sym, ◌∙◌}
+use Rattle.std.proofs.Common.{◌≡◌, ℕ, ◌+◌, ◌-◌, ◌*◌, length, take, drop}
 use Rattle.std.proofs.Common.{subst, arith, length-drop, refl}
 use Rattle.std.proofs.lemmas.List.{length-take-le}
 use Rattle.fish_slots.specs.Places.{lines_at}

@@ -1,8 +1,7 @@
 -- The lines up to some line are written.
-use Rattle.std.proofs.Common.{◌≡◌, ℕ, ◌+◌, ◌-◌, ◌*◌, ◌/◌, ◌<◌, ◌≤◌, List, length, take}
-use Rattle.std.specs.Prelude.{IfSome, Some}
-use Rattle.fish_disk.specs.Content.{part}
-use Rattle.fish_disk.specs.Crash.{LeavesOnly, Torn, TornFrom}
+use Rattle.std.proofs.Common.{◌+◌, ◌-◌, ◌*◌, ◌/◌, ◌<◌, ◌≤◌, length, take}
+use Rattle.std.specs.Prelude.{IfSome}
+use Rattle.fish_disk.specs.Crash.{LeavesOnly, TornFrom}
 use Rattle.fish_slots.specs.Places.{lines_at}
 use Rattle.fish_flush.specs.Writing.{HasPut}
 use Rattle.fish_flush.proofs.pages.write_pages.Given as goal

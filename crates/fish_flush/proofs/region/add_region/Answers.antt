@@ -1,5 +1,5 @@
 -- The region that a look found is copied, and follows what was copied before.
-use Rattle.std.proofs.Common.{◌≡◌, ℕ, suc, ◌+◌, ◌-◌, ◌*◌, ◌/◌, ◌<◌, ◌≤◌, ◌++◌, List, inr, refl, sym, ap, ◌∙◌}
+use Rattle.std.proofs.Common.{◌≡◌, ℕ, ◌+◌, ◌*◌, ◌/◌, ◌<◌, ◌++◌, List, inr, sym, ap, ◌∙◌}
 use Rattle.std.proofs.Common.{subst, arith, length, length-append}
 use Rattle.fish_flush.proofs.RegionSteps.{entries_room, holds_later, line_later, line_same, looked_in, read_more}
 use Rattle.fish_flush.proofs.TableRegions.{ends_inside}
@@ -11,8 +11,6 @@ use Rattle.fish_rule.specs.declared.view.View.{View}
 use Rattle.fish_layout.specs.Header.{keys_of}
 use Rattle.std.proofs.Common.{get_or}
 use Rattle.fish_flush.specs.Linking.{AreSpelled}
-use Rattle.fish_rule.specs.Logs.{Tells}
-use Rattle.fish_catalog.specs.declared.entry.Entry.{Entry}
 use Rattle.std.proofs.Common.{[], ◌∷◌}
 use Rattle.fish_walk.proofs.Records.{look_extends}
 use Rattle.fish_flush.proofs.region.add_region.Goals as goal

@@ -1,8 +1,7 @@
 -- One region after the other is copied.
-use Rattle.std.proofs.Common.{◌≡◌, ℕ, ◌+◌, ◌*◌, ◌<◌, ◌≤◌, ◌++◌, List, [], ◌∷◌, refl, sym, ap, ◌∙◌, subst}
+use Rattle.std.proofs.Common.{◌≡◌, ℕ, ◌+◌, ◌*◌, ◌++◌, List, [], ◌∷◌, sym, ap, ◌∙◌, subst}
 use Rattle.std.proofs.Common.{arith, length, append-nil, append_assoc, length-append}
-use mathlib.Core.Option.{some, some-ne-none}
-use Rattle.std.proofs.Math.ListN.{get_elem?}
+use mathlib.Core.Option.{some-ne-none}
 use Rattle.fish_catalog.specs.declared.entry.Entry.{Entry}
 use Rattle.fish_flush.proofs.RegionSteps.{holds_later, line_inside}
 use Rattle.fish_flush.specs.Reading.{IsLineAt, IsReadTo}
@@ -28,7 +27,7 @@ loop-number-init c =
     let inside = line_inside v c.args.flusher.now.count c.args.flusher.now.line c.requires.pass.stands
     (let a = c.requires.ordered in let b = c.requires.settled in omega arith) c.requires.line in
     let same : c.in_ok-from_slice.field-0.items ≡ c.args.flusher.now.heads.items =
-        c.in_ok-from_slice.ensures.items ∙ c.as_slice.ensures.value in
+    c.in_ok-from_slice.ensures.items ∙ c.as_slice.ensures.value in
     let none : c.new.result.items ≡ [] = c.new.ensures.items in
     record {
       of = c.requires.pass;

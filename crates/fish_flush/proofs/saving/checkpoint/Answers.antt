@@ -1,20 +1,17 @@
 -- The log up to the settled number is read, and then it is committed.
-use Rattle.std.proofs.Common.{◌≡◌, ℕ, ◌+◌, ◌-◌, ◌*◌, ◌/◌, ◌≤◌, ◌++◌, List, refl, ap, sym, ◌∙◌, subst, arith}
-use Rattle.std.proofs.Common.{length, length-append, drop}
+use Rattle.std.proofs.Common.{◌≡◌, ℕ, ◌+◌, ◌-◌, ◌*◌, ◌≤◌, ◌++◌, List, ap, sym, ◌∙◌, subst, arith}
+use Rattle.std.proofs.Common.{length, drop}
 use Rattle.fish_flush.proofs.Checkpoints.{has_settled, may_draft, memory_cause, no_fault, ok_all, reads_on}
 use Rattle.fish_flush.proofs.Checkpoints.{settled_counted}
 use Rattle.fish_flush.proofs.Committed.{draft_carries, draft_grows, draft_leaves, draft_more, long_rests}
 use Rattle.fish_flush.proofs.Committed.{nothing_leaves, told_later}
 use Rattle.fish_flush.specs.Carrying.{Carries, HasCommitted, HasSettled}
 use Rattle.fish_flush.specs.Kept.{commit_of}
-use Rattle.fish_flush.specs.Writing.{Grows, pages_between}
 use Rattle.fish_flush.specs.declared.flusher.Flusher.{Flusher}
 use Rattle.fish_image.proofs.Spelling.{told_length}
 use Rattle.fish_rule.specs.Logs.{AreTold}
 use Rattle.fish_rule.specs.Passes.{view}
 use Rattle.fish_rule.specs.declared.view.Key.{Key}
-use Rattle.fish_rule.specs.declared.view.View.{View}
-use Rattle.fish_slots.specs.Commits.{Rests}
 use Rattle.fish_slots.specs.Places.{lines_at}
 use Rattle.fish_flush.proofs.saving.checkpoint.Goals as goal
 

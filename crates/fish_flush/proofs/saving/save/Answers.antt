@@ -1,7 +1,7 @@
 -- The draft's bytes are committed.
-use Rattle.std.proofs.Common.{◌≡◌, ℕ, ◌+◌, ◌-◌, ◌*◌, ◌≤◌, ◌++◌, List, refl, ap, sym, ◌∙◌, subst, arith, length}
+use Rattle.std.proofs.Common.{◌≡◌, ℕ, ◌+◌, ◌-◌, ◌*◌, ◌≤◌, ◌++◌, List, refl, ap, sym, subst, arith, length}
 use Rattle.std.specs.Prelude.{Option, Some, None, IfSome}
-use Rattle.fish_flush.specs.Writing.{EitherCommit, Grows, pages_between}
+use Rattle.fish_flush.specs.Writing.{Grows, pages_between}
 use Rattle.fish_slots.specs.Commits.{Rests}
 use Rattle.fish_slots.specs.Places.{lines_at}
 use Rattle.fish_flush.proofs.saving.save.Goals as goal
