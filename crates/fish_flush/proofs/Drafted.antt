@@ -20,7 +20,7 @@ use Rattle.fish_image.specs.Log.{Agrees}
 use Rattle.fish_image.specs.Progress.{AreHeads}
 use Rattle.fish_image.specs.Reading.{IsTold}
 use Rattle.fish_image.specs.Stands.{words_in}
-use Rattle.fish_rule.proofs.basics.Regions.{few_numbers, starts_above}
+use Rattle.fish_flush.proofs.RuleFacts.{few_numbers, starts_above}
 use Rattle.fish_rule.specs.Start.{IsShape}
 use Rattle.fish_rule.specs.Table.{Stands}
 use Rattle.fish_rule.specs.declared.table.Shape.{Shape}
@@ -108,7 +108,7 @@ within_limits v s shape rows c is holds turn pages bits rows_are above settled l
     }
   where
     numbers : s.moment.count < 268435456
-    numbers = few_numbers s.rule
+    numbers = few_numbers v.about s.moment s.rule
 
     bounds_of : (id : ℕ) (row : CatRow) → slice_get rows id ≡ Some row → HasBoundaries row
     bounds_of id row there =

@@ -8,6 +8,7 @@ pub mod Images
 pub mod LinkedWords
 pub mod PageWrites
 pub mod RegionSteps
+pub mod RuleFacts
 pub mod TableKeys
 pub mod TableRegions
 pub mod Words

@@ -19,9 +19,8 @@ use Rattle.fish_image.specs.Reached.{Reached}
 use Rattle.fish_layout.proofs.Outlines.{body_room}
 use Rattle.fish_layout.proofs.Spelled.{body_says}
 use Rattle.fish_layout.specs.Header.{keys_of}
-use Rattle.fish_rule.proofs.basics.Bodies.{kind-inside}
-use Rattle.fish_rule.proofs.basics.FoundRegions.{region_found}
-use Rattle.fish_rule.proofs.basics.Lists.{all_among}
+use Rattle.fish_rule.proofs.laws.Regions.{kind-inside, region_found}
+use Rattle.fish_rule.proofs.laws.Lists.{all_among}
 use Rattle.fish_rule.specs.Regions.{code}
 use Rattle.fish_rule.proofs.laws.Alone.{seen_here}
 use Rattle.fish_rule.specs.Facts.{IsFound}

@@ -27,8 +27,7 @@ use Rattle.fish_psf.specs.Keys.{key_of, keys_of}
 use Rattle.fish_psf.specs.Records.{fields_of_payload}
 use Rattle.fish_psf.specs.declared.key.ActiveDef.{ActiveDef}
 use Rattle.fish_psf.specs.declared.key.KeyValue.{KeyValue}
-use Rattle.fish_rule.proofs.basics.Lists.{there_is}
-use Rattle.fish_rule.proofs.basics.RegistryWords.{text_grows}
+use Rattle.fish_flush.proofs.RuleFacts.{text_grows, there_is}
 use Rattle.fish_rule.specs.Boundaries.{IsOpenIn}
 use Rattle.fish_rule.specs.Keys.{IsKeyedOf, IsWritten, property, text_of}
 use Rattle.fish_rule.specs.Registry.{AreActiveAt, definitions_at, row_at, version_in}

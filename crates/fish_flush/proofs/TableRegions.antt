@@ -29,10 +29,9 @@ use Rattle.fish_layout.specs.Cleared.{IsKeyWord, Spells, choose, unlink, unlinke
 use Rattle.fish_layout.specs.Header.{keys_of, lines_of, void_word}
 use Rattle.fish_layout.specs.declared.parts.BodyParts.{BodyParts}
 use Rattle.fish_layout.specs.declared.parts.KeyPart.{KeyPart}
-use Rattle.fish_rule.proofs.basics.Bodies.{kind-inside, kind-within, void-head}
-use Rattle.fish_rule.proofs.basics.FoundRegions.{region_found, word_known}
-use Rattle.fish_rule.proofs.basics.Lists.{all_among}
-use Rattle.fish_rule.proofs.basics.RegionWords.{head_plain}
+use Rattle.fish_flush.proofs.RuleFacts.{head_plain, kind_inside, void_begins}
+use Rattle.fish_rule.proofs.laws.Regions.{kind-inside, region_found, word_known}
+use Rattle.fish_rule.proofs.laws.Lists.{all_among}
 use Rattle.fish_rule.proofs.laws.Alone.{tells_void}
 use Rattle.fish_rule.proofs.laws.Entries.{body_read, tells_entry}
 use Rattle.fish_rule.specs.Facts.{IsFound, IsKnown}
@@ -159,7 +158,7 @@ module _ {v : View} (w : World) (rule : Rule v.about w) (seat : ℕ) (at : get_e
 
   -- a region that is no mark has the kind that its lines give
   plain_kind : f.kind ≢ Mark → kind_within f.line (f.line + f.lines) ≡ f.kind
-  plain_kind plain = sym (kind-within v.about.end f.line (f.line + f.lines) (ends_inside plain)) ∙ kind_is
+  plain_kind plain = sym (kind_inside v.about.end f.line (f.line + f.lines) (ends_inside plain)) ∙ kind_is
 
   -- a word that was read is the region's
   known_word : (i : ℕ) → i < f.lines * 4 → ¬ IsKeyWord (keys_of (get_or words 0 0)) i
@@ -185,7 +184,7 @@ module _ {v : View} (w : World) (rule : Rule v.about w) (seat : ℕ) (at : get_e
     void_head =
         let some_ = some_lines.0 in
         sym (known_word 0 (omega arith) (head_plain (keys_of (get_or words 0 0)))) ∙ ap (λ (g : ℕ → ℕ). g 0) void_holds
-        ∙ void-head f.lines
+        ∙ void_begins f.lines
 
     -- has no key entry
     pub void_keys : keys_of (get_or words 0 0) ≡ 0
