@@ -1,4 +1,4 @@
-//! Tests of the store file: disks, slots and gates, and images, over the public calls of the crates below.
+//! Tests of the store file: disks, slots and gates, making a store, and images, over the public calls of the crates below.
 #![tactic(auto)]
 
 #[cfg(test)]
@@ -7,6 +7,8 @@ mod bodies;
 mod commits;
 #[cfg(test)]
 mod crashes;
+#[cfg(test)]
+mod creations;
 #[cfg(test)]
 mod disks;
 #[cfg(test)]
