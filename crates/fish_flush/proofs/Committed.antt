@@ -196,6 +196,16 @@ module _ (images : List ℕ → Type 0) (f : Flusher) (v u : View) (end : ℕ) (
         },
       )
 
+-- at rest every image stands for the log
+pub rest_stands : (images : List ℕ → Type 0) (f : Flusher) (c : Commit) (log : List Entry) → IsAtRest images f c log
+    → (i : List ℕ) → images i → Stands c i log
+rest_stands images f c log at i here = record {
+  body = at.body;
+  lines = at.lines;
+  commit = rests_commit f.slot at.body at.lines i at.slot_is (at.rests i here);
+  is = at.committed.is;
+}
+
 -- where nothing was written, every image stands for the log that it stood for
 pub nothing_leaves : {D : Type 0} (im : D → List ℕ → Type 0) (since : D → ℕ → List ℕ → Type 0) (moment : D → ℕ) (x : D) (f : Flusher)
     (u : View) (rows : List CatRow) (c : Commit) (old : List Entry) → IsAtRest (im x) f c old
@@ -206,12 +216,7 @@ nothing_leaves im since moment x f u rows c old at = record {
   told = λ i e there. absurd (some-ne-none e (sym there));
   rows_are = refl;
   count = omega arith;
-  leaves = leaves_none im since moment x _ (λ i here. inl (record {
-    body = at.body;
-    lines = at.lines;
-    commit = rests_commit f.slot at.body at.lines i at.slot_is (at.rests i here);
-    is = at.committed.is;
-  }));
+  leaves = leaves_none im since moment x _ (λ i here. inl (rest_stands (im x) f c old at i here));
 }
 
 -- an image that has all lines of a body is long enough for them
