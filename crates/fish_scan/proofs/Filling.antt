@@ -1,5 +1,5 @@
 -- A range is read piece by piece.
-use Rattle.std.proofs.Common.{◌≡◌, ℕ, ◌≤◌, zero, suc, List, [], ◌∷◌, drop, length, sym, subst, arith, Some, slice_get, take}
+use Rattle.std.proofs.Common.{◌≡◌, ℕ, ◌≤◌, ◌+◌, zero, suc, List, [], ◌∷◌, ap, drop, length, sym, subst, arith, Some, slice_get, take}
 use Rattle.std.proofs.lemmas.Option.{same_Some}
 use Rattle.fish_lang.specs.Definition.{Definition}
 use Rattle.fish_plan.specs.Pieces.{Fill, piece_from, piece_to}
@@ -12,7 +12,7 @@ use Rattle.fish_scan.proofs.Telling.{adds_both, adds_later, adds_none}
 use Rattle.fish_scan.proofs.Walks.{index_later}
 use Rattle.fish_scan.proofs.Working.{take_all}
 use Rattle.fish_scan.specs.Parses.{HasParsed, HasParsedPiece}
-use Rattle.fish_scan.specs.Pieces.{IsReadable}
+use Rattle.fish_scan.specs.Pieces.{IsReadable, full_numbers, full_of}
 use Rattle.fish_scan.specs.Reading.{Adds}
 use Rattle.fish_scan.specs.declared.reach.Reach.{Reach}
 use Rattle.fish_value.specs.declared.row.Row.{Row}
@@ -44,6 +44,13 @@ fill_end [] zero from to past fill = fill
 fill_end [] (suc n) from to past fill = fill
 fill_end (x ∷ pieces) zero from to past fill = absurd (omega arith)
 fill_end (x ∷ pieces) (suc n) from to past fill = fill_end pieces n from to (omega arith) fill
+
+-- the numbers of a piece and of those behind it that are looked at one by one
+pub full_at : (pieces : List Piece) (n : ℕ) (x : Piece) → slice_get pieces n ≡ Some x
+    → full_numbers (drop n pieces) ≡ full_of x + full_numbers (drop (suc n) pieces)
+full_at [] n x there = absurd cc
+full_at (y ∷ pieces) zero x there = ap (λ (z : Piece). full_of z + full_numbers pieces) (same_Some y x there)
+full_at (y ∷ pieces) (suc n) x there = full_at pieces n x there
 
 -- the numbers from a bound on were read and the records of full pieces parsed, and the pieces from a place on fill what is below
 pub record HasRead (v : View) (def : Definition) (value : Value) (reach : Reach) (pieces : List Piece) (n : ℕ)

@@ -1,5 +1,5 @@
 -- Which pieces of a range can be read.
-use Rattle.std.specs.Prelude.{ℕ, ◌≡◌, ◌≤◌, List, Some, slice_get}
+use Rattle.std.specs.Prelude.{ℕ, ◌≡◌, ◌≤◌, ◌+◌, ◌-◌, List, [], ◌∷◌, Some, slice_get}
 use Rattle.fish_lang.specs.Definition.{Definition}
 use Rattle.fish_plan.specs.declared.pieces.Piece.{Piece}
 use Rattle.fish_plan.specs.declared.pieces.Piece.TheVariants.{Full, Index}
@@ -17,6 +17,16 @@ pub record IsWithin (reach : Reach) (first last : ℕ) : Type 0 where
 abbrev pub IsReadable : View → Definition → Reach → Piece → Type 0
 IsReadable v def reach (Index id from to) = IsWithin reach from to × (to ≤ reach.settled) × IsIndex v def id from to
 IsReadable v def reach (Full from to) = IsWithin reach from to
+
+-- how many numbers a piece has that are looked at one by one
+abbrev pub full_of : Piece → ℕ
+full_of (Index id from to) = 0
+full_of (Full from to) = to - from
+
+-- and all pieces
+abbrev pub full_numbers : List Piece → ℕ
+full_numbers [] = 0
+full_numbers (piece ∷ pieces) = full_of piece + full_numbers pieces
 
 -- so they can all be
 abbrev pub AreReadable : View → Definition → Reach → List Piece → Type 0

@@ -1,12 +1,12 @@
 //! A range is read piece by piece, newest first.
 
-ghost use Rattle.std.specs.Prelude.{◌≡◌, OnOk};
+ghost use Rattle.std.specs.Prelude.{◌≡◌, ◌+◌, ◌≤◌, OnOk};
 ghost use Rattle.fish_lang.specs.Definition.{definition_of};
 ghost use Rattle.fish_plan.specs.Pieces.{Fill, piece_from, piece_to};
 ghost use Rattle.fish_rule.specs.Logs.{Extends};
 ghost use Rattle.fish_rule.specs.Passes.{IsPassOf, view};
 ghost use Rattle.fish_scan.specs.Parses.{HasParsed, HasParsedPiece};
-ghost use Rattle.fish_scan.specs.Pieces.{AreReadable, IsReadable};
+ghost use Rattle.fish_scan.specs.Pieces.{AreReadable, IsReadable, full_numbers, full_of};
 ghost use Rattle.fish_scan.specs.Reach.{IsReached};
 ghost use Rattle.fish_scan.specs.Reading.{Adds};
 ghost use Rattle.fish_scan.specs.Work.{ArePiecesWork, IsPieceWork};
@@ -44,6 +44,7 @@ pub(crate) fn read_pieces<P: Ledger, L: Ledger>(
         query.now.reach.to query.now.reach.opens rows.old rows.new) }
     ensures parses { OnOk result (HasParsed (view pass.new) query.now.reach.opens pieces.now query.now.reach.from
         query.now.reach.to parses.old parses.new) }
+    ensures few { parses.new ≤ parses.old + full_numbers pieces.now }
     ensures loads { OnOk result (ArePiecesWork (view pass.old) (view pass.new) query.now.value query.now.reach.opens rows.new
         pieces.now loads.old loads.new) }
 {
@@ -73,6 +74,7 @@ fn read_piece<P: Ledger, L: Ledger>(
     ensures rows { OnOk result (Adds (view pass.new) (definition_of query.now.def) query.now.value (piece_from piece.now)
         (piece_to piece.now) query.now.reach.opens rows.old rows.new) }
     ensures parses { OnOk result (HasParsedPiece (view pass.new) query.now.reach.opens piece.now parses.old parses.new) }
+    ensures few { parses.new ≤ parses.old + full_of piece.now }
     ensures loads { OnOk result (IsPieceWork (view pass.old) (view pass.new) query.now.value query.now.reach.opens rows.new
         piece.now loads.old loads.new) }
 {

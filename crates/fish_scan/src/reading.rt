@@ -49,6 +49,7 @@ pub(crate) fn read_stretch<P: Ledger, L: Ledger>(
         query.now.reach.opens rows.old rows.new) }
     ensures parses { OnOk result (HasParsedPiece (view pass.new) query.now.reach.opens (Full stretch.now.from stretch.now.to)
         parses.old parses.new) }
+    ensures few { parses.new + stretch.now.from ≤ parses.old + stretch.now.to }
     ensures loads { OnOk result (IsFullWork (view pass.old) (view pass.new) query.now.reach.opens stretch.now.from stretch.now.to
         loads.old loads.new) }
 {
@@ -82,6 +83,7 @@ fn read_at<P: Ledger, L: Ledger>(
         query.now.reach.opens rows.old rows.new) }
     ensures parses { OnOk result (HasParsedPiece (view pass.new) query.now.reach.opens (Full number (number + 1)) parses.old
         parses.new) }
+    ensures few { parses.new ≤ parses.old + 1 }
     ensures loads { OnOk result (IsFullWork (view pass.old) (view pass.new) query.now.reach.opens number (number + 1) loads.old
         loads.new) }
 {
@@ -113,6 +115,7 @@ fn read_number<P: Ledger, L: Ledger>(
         query.now.reach.opens rows.old rows.new) }
     ensures parses { OnOk result (HasParsedPiece (view pass.new) query.now.reach.opens (Full number (number + 1)) parses.old
         parses.new) }
+    ensures few { parses.new ≤ parses.old + 1 }
     ensures loads { OnOk result (IsFullWork (view pass.old) (view pass.new) query.now.reach.opens number (number + 1) loads.old
         loads.new) }
 {

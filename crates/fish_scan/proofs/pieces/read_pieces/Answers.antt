@@ -1,21 +1,23 @@
 -- One piece more.
-use Rattle.std.proofs.Common.{◌≡◌, ℕ, ◌+◌, suc, List, arith, refl, subst, take}
+use Rattle.std.proofs.Common.{◌≡◌, ℕ, ◌+◌, ◌≤◌, suc, List, arith, drop, refl, subst, take}
 use Rattle.std.proofs.lemmas.Option.{slice_get-get_or}
 use Rattle.fish_lang.specs.Definition.{definition_of}
 use Rattle.fish_plan.specs.declared.pieces.Piece.{Piece}
 use Rattle.fish_plan.specs.declared.pieces.Piece.TheVariants.{Index}
 use Rattle.fish_rule.proofs.laws.Learning.{extends_both, extends_self}
 use Rattle.fish_rule.specs.Passes.{view}
-use Rattle.fish_scan.proofs.Filling.{HasRead, parsed_all, read_all, read_more, read_none, readable_later}
+use Rattle.fish_scan.proofs.Filling.{HasRead, full_at, parsed_all, read_all, read_more, read_none, readable_later}
 use Rattle.fish_scan.proofs.Reaching.{reached_still}
 use Rattle.fish_scan.proofs.Loading.{rises_none}
 use Rattle.fish_scan.proofs.Working.{pieces_more, take_all}
+use Rattle.fish_scan.specs.Pieces.{full_numbers}
 use Rattle.fish_scan.specs.Work.{ArePiecesWork}
 use Rattle.fish_scan.proofs.pieces.read_pieces.Goals as goal
 
 pub loop-piece-init : goal.loop-piece-init
 loop-piece-init g c = record {
   of = c.requires.pass;
+  few = omega arith;
   extends = extends_self (view c.args.pass.now);
   read = read_none (view c.args.pass.now) (definition_of c.args.query.now.def) c.args.query.now.value c.args.query.now.reach
       c.args.pieces.now c.args.rows.now c.args.parses.now c.requires.fill;
@@ -41,6 +43,11 @@ loop-piece-preserved g c =
     let next : suc c.loop-piece.piece-index ≡ c.loop-piece.piece-index + 1 = omega arith in
     record {
       of = c.read_piece.ensures.pass;
+      few = (let so_far = inv.few in let one = c.read_piece.ensures.few in
+          let split = full_at c.args.pieces.now c.loop-piece.piece-index _
+          (slice_get-get_or c.args.pieces.now c.loop-piece.piece-index (Index 0 0 0) c.loop-piece-test.true) in
+          subst (λ (z : ℕ). c.read_piece.new.parses + full_numbers (drop z c.args.pieces.now)
+          ≤ c.args.parses.now + full_numbers c.args.pieces.now) next (omega arith));
       extends = extends_both _ _ _ inv.extends c.read_piece.ensures.extends;
       read = subst (λ (z : ℕ). HasRead (view c.read_piece.new.pass) (definition_of c.args.query.now.def)
           c.args.query.now.value c.args.query.now.reach c.args.pieces.now z c.args.rows.now c.read_piece.new.rows
@@ -64,6 +71,17 @@ pub returns-clause-rows : goal.returns-clause-rows
 returns-clause-rows g c = read_all (view c.loop-piece.pass) (definition_of c.args.query.now.def) c.args.query.now.value
     c.args.query.now.reach c.args.pieces.now c.loop-piece.piece-index c.args.rows.now c.loop-piece.rows c.args.parses.now
     c.loop-piece.parses (let all = c.loop-piece-test.false in omega arith) c.loop-piece.invariant.read
+
+pub returns-in_err-read_piece-clause-few : goal.returns-in_err-read_piece-clause-few
+returns-in_err-read_piece-clause-few g c =
+    let so_far = c.loop-piece.invariant.few in
+    let one = c.read_piece.ensures.few in
+    let split = full_at c.args.pieces.now c.loop-piece.piece-index _
+    (slice_get-get_or c.args.pieces.now c.loop-piece.piece-index (Index 0 0 0) c.loop-piece-test.true) in
+    omega arith
+
+pub returns-clause-few : goal.returns-clause-few
+returns-clause-few g c = (let so_far = c.loop-piece.invariant.few in omega arith)
 
 pub returns-clause-parses : goal.returns-clause-parses
 returns-clause-parses g c = parsed_all (view c.loop-piece.pass) (definition_of c.args.query.now.def) c.args.query.now.value

@@ -1,5 +1,5 @@
 -- What stands at the number is a record, or it gives no row.
-use Rattle.std.proofs.Common.{◌≡◌, ◌+◌, sym, ◌∙◌, ◌⊎◌, inl, inr}
+use Rattle.std.proofs.Common.{◌≡◌, ◌+◌, sym, ◌∙◌, ◌⊎◌, inl, inr, arith}
 use Rattle.fish_lang.specs.Definition.{definition_of}
 use Rattle.fish_rule.proofs.laws.Learning.{extends_both}
 use Rattle.fish_rule.specs.Passes.{view}
@@ -35,6 +35,7 @@ returns-in-Void g c = record {
   parses = parsed_other (view c.seen_at.new.pass) c.args.number c.seen_at.result c.args.query.now.reach.opens c.args.parses.now
       c.seen_at.ensures.seen (λ stored. other c.seen_at.result stored c.in-Void.is) c.seen_at.ensures.unmarked
       c.seen_at.ensures.unfinished;
+  few = omega arith;
   loads = full_other (view c.args.pass.now) (view c.seen_at.new.pass) c.args.query.now.reach.opens c.args.number
       c.args.loads.now c.seen_at.ensures.only.loads;
 }

@@ -16,6 +16,7 @@ use Rattle.fish_scan.proofs.reading.read_stretch.Goals as goal
 pub loop-number-init : goal.loop-number-init
 loop-number-init g c = record {
   of = c.requires.pass;
+  few = omega arith;
   extends = extends_self (view c.args.pass.now);
   above = c.requires.some;
   below = omega arith;
@@ -38,6 +39,7 @@ loop-number-preserved g c =
     let next : c.loop-number.number - 1 + 1 ≡ c.loop-number.number = omega arith in
     record {
       of = c.read_at.ensures.pass;
+      few = (let so_far = inv.few in let one = c.read_at.ensures.few in omega arith);
       extends = extends_both _ _ _ inv.extends c.read_at.ensures.extends;
       above = omega arith;
       below = omega arith;
@@ -62,3 +64,17 @@ loop-number-preserved g c =
 
 pub returns-in_err-read_at-clause-extends : goal.returns-in_err-read_at-clause-extends
 returns-in_err-read_at-clause-extends g c = extends_both _ _ _ c.loop-number.invariant.extends c.read_at.ensures.extends
+
+pub returns-in_err-read_at-clause-few : goal.returns-in_err-read_at-clause-few
+returns-in_err-read_at-clause-few g c =
+    let so_far = c.loop-number.invariant.few in
+    let one = c.read_at.ensures.few in
+    let above = c.loop-number.invariant.above in
+    let some = c.loop-number-test.true in
+    omega arith
+
+pub returns-clause-few : goal.returns-clause-few
+returns-clause-few g c =
+    let so_far = c.loop-number.invariant.few in
+    let above = c.loop-number.invariant.above in
+    omega arith

@@ -1,5 +1,5 @@
 -- The numbers from this one on were read.
-use Rattle.std.proofs.Common.{◌≤◌}
+use Rattle.std.proofs.Common.{◌+◌, ◌≤◌}
 use Rattle.fish_lang.specs.Definition.{definition_of}
 use Rattle.fish_rule.specs.Logs.{Extends}
 use Rattle.fish_rule.specs.Passes.{IsPassOf, view}
@@ -12,6 +12,7 @@ use Rattle.fish_scan.proofs.reading.read_stretch.Given as goal
 abbrev pub invariant-loop-number : goal.invariant-loop-number
 invariant-loop-number g l = record {
   of : IsPassOf l.log l.pass;
+  few : l.parses + l.number ≤ l.fn.parses + l.stretch.to;
   extends : Extends (view l.fn.pass) (view l.pass);
   above : l.stretch.from ≤ l.number;
   below : l.number ≤ l.stretch.to;
