@@ -6,7 +6,7 @@ use Rattle.std.specs.Prelude.{IsUtf8, if◌then◌else◌, is_some, nat_le}
 use Rattle.std.specs.Str.{is_utf8}
 use Rattle.fish_csv.specs.Reading.{row_of, row_reading}
 use Rattle.fish_value.specs.Limits.{longest_payload}
-use Rattle.fish_ingest.proofs.PreparationKeys.{keys_proper, keys_unlinked}
+use Rattle.fish_ingest.proofs.PreparationKeys.{keys_few, keys_proper, keys_unlinked}
 use Rattle.fish_ingest.specs.Preparation.{AreDefs}
 use Rattle.fish_ingest.specs.Preparation.{AreEntriesFor}
 use Rattle.fish_ingest.specs.Preparation.{ArePartsFor, IsBodyFor, IsOrigin, IsRead}
@@ -81,6 +81,7 @@ parts_proper {defs} {origin} {payload} {found} {keys} are from read made =
       lane = from.lane;
       version = from.version;
       number = omega arith;
+      few = keys_few found defs keys are made;
       keys = keys_proper found defs keys are made;
       short = record_short origin.form payload read.accepted;
       text = record_text origin.form payload read.accepted;

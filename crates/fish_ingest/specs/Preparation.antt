@@ -1,12 +1,13 @@
 -- What the words of a record are that is made from a payload, and what the steps towards them say.
-use Rattle.std.specs.Prelude.{ℕ, ◌≡◌, ◌≤◌, ◌<◌, List, All, IsTrue, length, map, true, ⊤}
+use Rattle.std.specs.Prelude.{ℕ, ◌≡◌, ◌≤◌, ◌<◌, List, ◌++◌, All, IsTrue, length, map, true, ⊤}
 use Rattle.std.specs.List.Sorted.{IsStrictlyIncreasing}
+use Rattle.fish_catalog.specs.Limits.{most_active}
 use Rattle.fish_layout.specs.Body.{IsBody, IsProperValue}
 use Rattle.fish_layout.specs.Cleared.{AreUnlinked}
 use Rattle.fish_layout.specs.declared.parts.BodyParts.{BodyParts}
 use Rattle.fish_layout.specs.declared.parts.KeyPart.{KeyPart}
 use Rattle.fish_psf.specs.Eval.{Fields}
-use Rattle.fish_psf.specs.Keys.{keys_of}
+use Rattle.fish_psf.specs.Keys.{keys_of, value_under}
 use Rattle.fish_psf.specs.Records.{fields_of_payload, is_record}
 use Rattle.fish_psf.specs.declared.key.ActiveDef.{ActiveDef}
 use Rattle.fish_rule.specs.Keys.{IsWritten, property, text_of}
@@ -24,8 +25,9 @@ use Rattle.fish_ingest.specs.declared.preparation.Prepared.{Prepared}
 abbrev pub id_of : ActiveDef → ℕ
 id_of d = d.id
 
--- the definitions stand in the order of their ids, which are below 256, and are what their texts are read as
+-- the definitions, of which there are few, stand in the order of their ids, which are below 256, and are what their texts are read as
 pub record AreDefs (defs : List ActiveDef) : Type 0 where
+  pub few : length defs ≤ most_active
   pub ascending : IsStrictlyIncreasing (map id_of defs)
   pub below : All (λ d. d.id < 256) defs
   pub written : All IsWritten defs
@@ -54,7 +56,14 @@ pub record IsKey (key : KeyPart) : Type 0 where
   pub unlinked : key.prev ≡ 0
   pub proper : IsProperValue key.value
 
--- there is an entry for each definition that gives a value, in the order of the definitions
+-- behind the entries came one for each of these values, under the id, that may stand in a record
+pub record AreMore (id : ℕ) (vs : List Value) (before after : List KeyPart) : Type 0 where
+  pub more : List KeyPart
+  pub behind : after ≡ before ++ more
+  pub values : map property more ≡ map (value_under id) vs
+  pub entries : All IsKey more
+
+-- there is an entry for each value of each definition, in the order of the definitions
 pub record AreEntriesFor (fields : Fields) (defs : List ActiveDef) (keys : List KeyPart) : Type 0 where
   pub values : map property keys ≡ keys_of fields defs
   pub entries : All IsKey keys

@@ -1,22 +1,20 @@
 //! The words of a record from its payload, before anything is claimed for it.
 
-ghost use Rattle.std.specs.Prelude.{◌≡◌, ◌≤◌, ◌/◌, option_map, IfOk, IfSome, length};
+ghost use Rattle.std.specs.Prelude.{◌≡◌, ◌≤◌, ◌/◌, [], ◌∷◌, All, IfOk, OnOk, length};
 ghost use Rattle.fish_epoch.specs.Definitions.{IsKnownOf};
 ghost use Rattle.fish_epoch.specs.Rows.{OnlyReads};
-ghost use Rattle.fish_ingest.specs.Preparation.{AreDefs, AreEntriesFor, HasPrepared, IsKey, IsOrigin, IsPreparedFor, IsRead};
+ghost use Rattle.fish_ingest.specs.Preparation.{AreDefs, AreEntriesFor, AreMore, HasPrepared, IsOrigin, IsPreparedFor, IsRead};
 ghost use Rattle.fish_ingest.specs.Preparation.{IsShort};
 ghost use Rattle.fish_layout.specs.Body.{IsProperValue};
-ghost use Rattle.fish_psf.specs.Keys.{key_of};
 ghost use Rattle.fish_read.specs.Rows.{fields_in_row};
-ghost use Rattle.fish_rule.specs.Keys.{property};
 ghost use Rattle.fish_rule.specs.Passes.{IsPassOf, view};
 
 use fish_epoch::Known;
 use fish_layout::{Body, BodyHead, KeyPart, KeyParts, body_from};
-use fish_psf::{ActiveDef, Parsed, eval};
+use fish_psf::{ActiveDef, Parsed, values};
 use fish_read::RecordRow;
 use fish_rule::{Log, Pass, lane};
-use fish_value::{Form, Value};
+use fish_value::{Form, Value, Values};
 use std::alloc::{AllocError, Global};
 
 /// What a record says of where it comes from.
@@ -127,33 +125,29 @@ fn entries_of<R: Parsed>(
 {
     let mut keys = KeyParts::new(alloc);
     for active in defs {
-        if let Some(entry) = entry_of(alloc, active, found)? {
-            keys.push(entry)?;
-        }
+        push_values(active.id, values(alloc, &active.def, found)?, &mut keys)?;
     }
     Ok(keys)
 }
 
-/// The key entry of one definition, where it gives a value.
-#[tactic(auto, using(crate::proofs::PreparationKeys::value_short))]
-fn entry_of<R: Parsed>(
-    alloc: Global,
-    active: &ActiveDef,
-    found: &R,
-) -> Result<Option<KeyPart>, AllocError>
-    ensures value { IfOk result (λ entry.
-        option_map property entry ≡ key_of (R.fields found.now) active.now) }
-    ensures entry { IfOk result (λ entry. IfSome entry IsKey) }
+/// Puts a key entry for each value of a definition behind the others.
+fn push_values(id: u16, values: Values, keys: &mut KeyParts) -> Result<(), AllocError>
+    requires { All IsShort values }
+    ensures { OnOk result (AreMore id values keys.old keys.new) }
 {
-    let Some(value) = eval(alloc, &active.def, found)? else {
-        return Ok(None);
-    };
+    for value in values.into_vec() {
+        push_entry(id, value, keys)?;
+    }
+    Ok(())
+}
+
+/// Puts a key entry behind the others.
+fn push_entry(id: u16, value: Value, keys: &mut KeyParts) -> Result<(), AllocError>
+    requires { IsShort value }
+    ensures { OnOk result (AreMore id (value ∷ []) keys.old keys.new) }
+{
     read_value(&value);
-    Ok(Some(KeyPart {
-        prev: 0,
-        id: active.id,
-        value,
-    }))
+    keys.push(KeyPart { prev: 0, id, value })
 }
 
 /// Reads a value, which shows that it is within its type: a number has 64 bits, a text is UTF-8.

@@ -60,7 +60,7 @@ module _ (def : Definition) (value : Value) (id bucket from to : ℕ) where
       sound = h.sound;
       complete = λ row c p after before x learns w r seat at mine has high m.
           either row c p after before x learns w r seat at mine has high m (dec_lt p given);
-      older = λ row m x learns w r seat at n c p mine less. h.older row m x learns w r seat at n c p mine (omega arith);
+      older = λ row m x learns w r seat at n c p mine has less. h.older row m x learns w r seat at n c p mine has (omega arith);
     }
       where
         either : (row : Row) (c p : ℕ) → from ≤ row.number → row.number < to
@@ -80,13 +80,14 @@ module _ (def : Definition) (value : Value) (id bucket from to : ℕ) where
             (subst (λ (z : ℕ × ℕ). HasValue z.0 z.1 value x.about w) (λ i. (same.0 i, same.1 i)) has))
 
     -- the record of an entry of the definition with the value is gathered
-    pub gather_add : Stands v → (row : Row) → row.number ≡ node.number → node.id ≡ id → from ≤ row.number → row.number < to
+    pub gather_add : Stands v → Always v (HasValue node.number node.key value) → (row : Row) → row.number ≡ node.number → node.id ≡ id → from ≤ row.number → row.number < to
         → Always v (Matches def value row) → Gathers v def value id bucket from to node.place (rows ++ row ∷ [])
-    gather_add s row number own after before matches = record {
+    gather_add s valued row number own after before matches = record {
       falls = falls_both to (suc row.number) rows (row ∷ []) h.falls (λ x m.
           let n = h.older x m v (learns_self v) s.moment s.rule s.seat s.at node.number node.key node.place
           (subst (λ (z : ℕ). IsNodeIn bucket node.number node.key node.place z v.about s.moment) own
-          (entry_is v (learns_self v) s.moment s.rule s.seat s.at)) below in omega arith)
+          (entry_is v (learns_self v) s.moment s.rule s.seat s.at)) (valued v (learns_self v) s.moment s.rule s.seat s.at)
+          below in omega arith)
           (omega arith) (omega arith, tt);
       above = λ x m. ⊎_elim (λ (a : Among x rows). h.above x a)
           (λ (e : row ≡ x). subst (λ (z : Row). from ≤ z.number) e after) (among_last x row rows m);
@@ -94,12 +95,13 @@ module _ (def : Definition) (value : Value) (id bucket from to : ℕ) where
           (λ (e : row ≡ x). subst (λ (z : Row). Always v (Matches def value z)) e matches) (among_last x row rows m);
       complete = λ x c p low_ high y learns w r seat at mine has upper m.
           either x c p low_ high y learns w r seat at mine has upper m (dec_lt p given);
-      older = λ x m y learns w r seat at n c p mine less. ⊎_elim
-          (λ (a : Among x rows). h.older x a y learns w r seat at n c p mine (omega arith))
+      older = λ x m y learns w r seat at n c p mine has less. ⊎_elim
+          (λ (a : Among x rows). h.older x a y learns w r seat at n c p mine has (omega arith))
           (λ (e : row ≡ x).
           let there = subst (λ (z : ℕ). IsNodeIn bucket node.number node.key node.place z y.about w) own
           (entry_is y learns w r seat at) in
-          let under = node_older r bucket n c p bucket node.number node.key node.place id mine there less in
+          let under = node_older r bucket n c p bucket node.number node.key node.place id value mine there has
+          (valued y learns w r seat at) less in
           subst (λ (z : Row). n < z.number) e (omega arith)) (among_last x row rows m);
     }
       where

@@ -19,9 +19,9 @@ use Rattle.fish_layout.specs.Cleared.{entry_at}
 use Rattle.fish_layout.specs.Hash.{bucket_in, key_hash_of}
 use Rattle.fish_layout.specs.declared.parts.BodyParts.{BodyParts}
 use Rattle.fish_layout.specs.declared.parts.KeyPart.{KeyPart}
-use Rattle.fish_psf.specs.Eval.{Fields, eval}
-use Rattle.fish_psf.specs.Keys.{key_of, keys_of}
-use Rattle.fish_psf.specs.Records.{evaluation, fields_of_payload}
+use Rattle.fish_psf.specs.Eval.{Fields, values}
+use Rattle.fish_psf.specs.Keys.{keys_of, keys_under, value_under}
+use Rattle.fish_psf.specs.Records.{Gives, fields_of_payload}
 use Rattle.fish_psf.specs.declared.key.ActiveDef.{ActiveDef}
 use Rattle.fish_psf.specs.declared.key.KeyValue.{KeyValue}
 use Rattle.fish_epoch.proofs.Reading.{knows_later}
@@ -38,7 +38,7 @@ use Rattle.fish_rule.specs.World.{World, high, low}
 use Rattle.fish_rule.specs.declared.view.Key.{Key}
 use Rattle.fish_rule.specs.declared.view.Kind.TheVariants.{Stored}
 use Rattle.fish_rule.specs.declared.view.View.{View}
-use Rattle.fish_scan.proofs.Lists.{among_at, among_given, among_map, at_among, given_among, map_among}
+use Rattle.fish_scan.proofs.Lists.{among_at, among_contains, among_flat, among_map, at_among, contains_among, flat_among, map_among}
 use Rattle.fish_scan.specs.Indices.{IsIndex, bucket_of_value}
 use Rattle.fish_scan.specs.Matching.{Matches}
 use Rattle.fish_value.specs.declared.field.Form.{Form}
@@ -58,18 +58,6 @@ all_at : {A : Type 0} (P : A → Type 0) (xs : List A) (x : A) → All P xs → 
 all_at P xs x all m = (let t = among_at xs x m in
     subst P (get_or_from_slice_get xs t.0 x x t.1) (all t.0 x (slice_get_within xs t.0 x t.1)))
 
--- what a definition gives is under its id
-key_is : (fields : Fields) (d : ActiveDef) (value : Value) → eval (definition_of d.def) fields ≡ Some value
-    → key_of fields d ≡ Some (record { id = d.id; value = value })
-key_is fields d value is = ap (option_map (λ (v : Value). record { id = d.id; value = v })) is
-
-is_key : (o : Option Value) (id : ℕ) (x : KeyValue) → option_map (λ (v : Value). record { id = id; value = v }) o ≡ Some x
-    → (id ≡ x.id) × (o ≡ Some x.value)
-is_key None id x e = cc
-is_key (Some v) id x e =
-    let same = same_Some (record { id = id; value = v }) x e in
-    (ap (λ (z : KeyValue). z.id) same, ap (λ (z : KeyValue). Some z.value) same)
-
 module _ (k : Key) (w : World) (id n : ℕ) (text : List ℕ) (def : Definition) (means : IsAccepted text def)
     (i : IsIndexed k w id text n) where
   -- a definition of the record's version under the id is the one asked for
@@ -82,32 +70,34 @@ module _ (k : Key) (w : World) (id n : ℕ) (text : List ℕ) (def : Definition)
       (all_at IsWritten i.keyed.keys.defs d i.keyed.keys.written m)) means
 
   -- where the definition gives a value, the record has an entry with it
-  pub value_entry : (value : Value) → evaluation def i.parts.form i.parts.payload ≡ Some value
+  pub value_entry : (value : Value) → Gives def i.parts.form i.parts.payload value
       → (c : ℕ) × (key : KeyPart) × (slice_get i.parts.keys c ≡ Some key) × (key.id ≡ id) × (key.value ≡ value)
   unfolding keys_of
   value_entry value gives =
       let fields : Fields = fields_of_payload i.parts.form i.parts.payload in
       let d = among_map text_of i.keyed.keys.defs (id, text) i.active in
       let own : d.0.id ≡ id = ap (λ (z : ℕ × List ℕ). z.0) d.2 in
-      let is : eval (definition_of d.0.def) fields ≡ Some value =
-      ap (λ (z : Definition). eval z fields) (the_one d.0 d.1 own) ∙ gives in
-      let x : KeyValue = record { id = d.0.id; value = value } in
-      let among = given_among (key_of fields) i.keyed.keys.defs d.0 x d.1 (key_is fields d.0 value is) in
+      let is : Among value (values (definition_of d.0.def) fields) =
+      subst (λ (z : Definition). Among value (values z fields)) (sym (the_one d.0 d.1 own)) (contains_among _ value gives) in
+      let x : KeyValue = value_under d.0.id value in
+      let among = flat_among (keys_under fields) i.keyed.keys.defs d.0 x d.1
+      (map_among (value_under d.0.id) (values (definition_of d.0.def) fields) value is) in
       let key = among_map property i.parts.keys x (subst (Among x) (sym i.keyed.keys.keys) among) in
       let at = among_at i.parts.keys key.0 key.1 in
       (at.0, key.0, at.1, ap (λ (z : KeyValue). z.id) key.2 ∙ own, ap (λ (z : KeyValue). z.value) key.2)
 
   -- and of an entry under the id the definition gives the value
   pub entry_value : (c : ℕ) (key : KeyPart) → slice_get i.parts.keys c ≡ Some key → key.id ≡ id
-      → evaluation def i.parts.form i.parts.payload ≡ Some key.value
+      → Gives def i.parts.form i.parts.payload key.value
   unfolding keys_of
   entry_value c key at own =
       let fields : Fields = fields_of_payload i.parts.form i.parts.payload in
       let among : Among (property key) (keys_of fields i.keyed.keys.defs) = subst (Among (property key)) i.keyed.keys.keys
       (map_among property i.parts.keys key (at_among i.parts.keys c key at)) in
-      let d = among_given (key_of fields) i.keyed.keys.defs (property key) among in
-      let parts = is_key (eval (definition_of d.0.def) fields) d.0.id (property key) d.2 in
-      ap (λ (z : Definition). eval z fields) (sym (the_one d.0 d.1 (parts.0 ∙ own))) ∙ parts.1
+      let d = among_flat (keys_under fields) i.keyed.keys.defs (property key) among in
+      let v = among_map (value_under d.0.id) (values (definition_of d.0.def) fields) (property key) d.2 in
+      among_contains _ key.value (subst (λ (z : Definition × Value). Among z.1 (values z.0 fields))
+      (λ j. (the_one d.0 d.1 (ap (λ (z : KeyValue). z.id) v.2 ∙ own) j, ap (λ (z : KeyValue). z.value) v.2 j)) v.1)
 
 -- ---- entries and matches
 
@@ -132,7 +122,7 @@ module _ (v : View) {u : View} (learns : Learns v u) (def : Definition) (id from
       let same : q ≡ i.parts = spelled_once e.spells i.keyed.record_of.spells
       (e.number_is ∙ sym i.keyed.record_of.number_is) in
       let found = value_entry u.about w id n x.listed.def def x.means i value
-      (subst (λ (z : Form × List ℕ). evaluation def z.0 z.1 ≡ Some value)
+      (subst (λ (z : Form × List ℕ). Gives def z.0 z.1 value)
       (λ j. (
         (sym e.form_is ∙ ap (λ (z : BodyParts). z.form) same) j,
         (sym e.payload_is ∙ ap (λ (z : BodyParts). z.payload) same) j,
@@ -165,7 +155,7 @@ module _ (v : View) {u : View} (learns : Learns v u) (def : Definition) (id from
   -- of an entry with the value and the id, the definition gives the value for the record
   pub entry_match : (value : Value) (b c p lane : ℕ) (form : Form) (payload : List ℕ)
       → IsEntry w n (entry.Stored lane form payload) → IsNodeIn b n c p id u.about w → HasValue n c value u.about w
-      → evaluation def form payload ≡ Some value
+      → Gives def form payload value
   entry_match value b c p lane form payload (q, e) node has =
       let i = index_there in
       let same : q ≡ i.parts = spelled_once e.spells i.keyed.record_of.spells
@@ -182,8 +172,8 @@ module _ (v : View) {u : View} (learns : Learns v u) (def : Definition) (id from
       subst (λ (z : BodyParts). slice_get z.keys c ≡ Some has.key) own has.there in
       let id_is : has.key.id ≡ id = sym (entry_id-key c has.key i.keyed.record_of.spells there) ∙ node.definition in
       let gives = entry_value u.about w id n x.listed.def def x.means i c has.key there id_is in
-      subst (λ (z : Form × List ℕ). evaluation def z.0 z.1 ≡ Some value)
+      subst (λ (z : Form × List ℕ). Gives def z.0 z.1 value)
       (λ j. (
         (sym (ap (λ (z : BodyParts). z.form) same) ∙ e.form_is) j,
         (sym (ap (λ (z : BodyParts). z.payload) same) ∙ e.payload_is) j,
-      )) (gives ∙ ap Some has.is)
+      )) (subst (Gives def i.parts.form i.parts.payload) has.is gives)

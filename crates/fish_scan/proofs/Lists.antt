@@ -1,10 +1,14 @@
 -- What is in lists.
 use Rattle.std.proofs.Common.{◌≡◌, ℕ, zero, suc, length, List, [], ◌∷◌, ◌++◌, map, refl, ap, ◌∙◌, subst, inl, inr, ◌⊎◌}
 use Rattle.std.proofs.Common.{All, Some, None, Option, slice_get}
-use Rattle.std.specs.Prelude.{filter_map}
+use Rattle.std.proofs.Common.{arith}
+use Rattle.std.specs.Prelude.{Contains, filter_map}
 use Rattle.std.specs.List.{cons_option}
 use Rattle.std.proofs.lemmas.Option.{get_or_from_slice_get, same_Some, slice_get_within}
 use Rattle.std.proofs.lemmas.List.Elements.{All-get_or}
+use Rattle.std.proofs.Common.{sym}
+use Rattle.std.specs.List.{flat_map}
+use Rattle.fish_rule.proofs.laws.Lists.{among_left, among_right}
 use Rattle.fish_rule.specs.Views.{Among}
 
 module _ {A : Type 0} where
@@ -99,3 +103,30 @@ module _ {A B : Type 0} where
           → (x : A) × Among x (z ∷ xs) × (f x ≡ Some y)
       by rest (inl e) = (z, inl refl, e)
       by rest (inr n) = (let t = rest n in (t.0, inr t.1, t.2))
+
+-- what a list's element makes is among what all make
+pub flat_among : {A B : Type 0} (f : A → List B) (xs : List A) (x : A) (y : B) → Among x xs → Among y (f x) → Among y (flat_map f xs)
+flat_among f [] x y m n = elim m [ ]
+flat_among f (z ∷ xs) x y (inl e) n = among_left y (f z) (flat_map f xs) (subst (λ w. Among y (f w)) (sym e) n)
+flat_among f (z ∷ xs) x y (inr m) n = among_right y (f z) (flat_map f xs) (flat_among f xs x y m n)
+
+-- and what is among it some element made
+pub among_flat : {A B : Type 0} (f : A → List B) (xs : List A) (y : B) → Among y (flat_map f xs)
+    → (x : A) × Among x xs × Among y (f x)
+among_flat f [] y m = elim m [ ]
+among_flat f (z ∷ xs) y m = elim (among_both y (f z) (flat_map f xs) m) [
+  | inl a ↦ (z, inl refl, a)
+  | inr b ↦ (let t = among_flat f xs y b in (t.0, inr t.1, t.2))
+]
+
+module _ {A : Type 0} where
+  pub contains_among : (xs : List A) (x : A) → Contains xs x → Among x xs
+  contains_among [] x (k, within, e) = absurd (omega arith)
+  contains_among (y ∷ ys) x (zero, within, e) = inl e
+  contains_among (y ∷ ys) x (suc k, within, e) = inr (contains_among ys x (k, omega arith, e))
+
+  pub among_contains : (xs : List A) (x : A) → Among x xs → Contains xs x
+  among_contains [] x m = absurd m
+  among_contains (y ∷ ys) x (inl e) = (0, omega arith, e)
+  among_contains (y ∷ ys) x (inr m) = (let c = among_contains ys x m in (suc c.0, omega (arith, c.1), c.2))
+

@@ -11,23 +11,11 @@ use Rattle.fish_rule.specs.World.{World}
 use Rattle.fish_rule.specs.declared.view.Key.{Key}
 use Rattle.fish_rule.specs.declared.view.View.{View}
 use Rattle.fish_scan.proofs.Finding.{falls_below}
+use Rattle.fish_scan.proofs.Lists.{among_contains, contains_among}
 use Rattle.fish_scan.specs.Laws.{FindsSelection, IsSpelled}
 use Rattle.fish_scan.specs.Matching.{Finds, Matches}
 use Rattle.fish_value.specs.declared.row.Row.{Row}
 use Rattle.fish_value.specs.declared.value.Value.{Value}
-
--- ---- lists
-
-module _ {A : Type 0} where
-  contains_among : (xs : List A) (x : A) → Contains xs x → Among x xs
-  contains_among [] x (k, within, e) = absurd (omega arith)
-  contains_among (y ∷ ys) x (zero, within, e) = inl e
-  contains_among (y ∷ ys) x (suc k, within, e) = inr (contains_among ys x (k, omega arith, e))
-
-  among_contains : (xs : List A) (x : A) → Among x xs → Contains xs x
-  among_contains [] x m = absurd m
-  among_contains (y ∷ ys) x (inl e) = (0, omega arith, e)
-  among_contains (y ∷ ys) x (inr m) = (let c = among_contains ys x m in (suc c.0, omega (arith, c.1), c.2))
 
 -- the first of falling rows is above each of the others
 first_above : (x y : Row) (xs : List Row) → FallsBelow x.number xs → Among y (x ∷ xs) → y.number ≤ x.number

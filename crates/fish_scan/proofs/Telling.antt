@@ -7,7 +7,7 @@ use Rattle.fish_catalog.specs.declared.entry.Entry.TheVariants as entry
 use Rattle.fish_lang.specs.Definition.{Definition}
 use Rattle.fish_layout.proofs.Once.{spelled_once}
 use Rattle.fish_layout.specs.declared.parts.BodyParts.{BodyParts}
-use Rattle.fish_psf.specs.Records.{evaluation, is_record}
+use Rattle.fish_psf.specs.Records.{Gives, is_record}
 use Rattle.fish_rule.proofs.laws.Learning.{learns_both, learns_self}
 use Rattle.fish_rule.proofs.laws.Moments.{stored_parts}
 use Rattle.fish_rule.proofs.laws.Lists.{all_among}
@@ -63,7 +63,7 @@ told_found v def value n (entry.Stored lane form found) payload opens before aft
             form,
             subst (λ (z : List ℕ). IsEntry w n (entry.Stored lane form z)) matches.0
                 (tells x learns w r seat at),
-            subst (λ (z : List ℕ). evaluation def form z ≡ Some value) matches.0 matches.1,
+            subst (λ (z : List ℕ). Gives def form z value) matches.0 matches.1,
           ))),
     )
 

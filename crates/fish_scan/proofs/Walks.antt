@@ -116,7 +116,7 @@ gathered_next v def value id bucket from to walk node start before after range s
         let told = r.valued.1 in (
           rows ++ row ∷ [],
           r.added ∙ ap (λ (z : List Row). z ++ row ∷ []) is ∙ append_assoc start rows (row ∷ []),
-          gather_add def value id bucket from to v node walk.given rows h entry_is next.below clear s row refl same above
+          gather_add def value id bucket from to v node walk.given rows h entry_is next.below clear s r.valued.0 row refl same above
               below (entry_matches v def value id bucket from to told.0 node told.1 payload index above below same entry_is
               r.valued.0 told.2),
         )

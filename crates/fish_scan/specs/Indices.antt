@@ -46,9 +46,9 @@ pub record Gathers (v : View) (def : Definition) (value : Value) (id bucket from
   pub complete : (row : Row) (c p : ℕ) → from ≤ row.number → row.number < to
       → Always v (λ k w. IsNodeIn bucket row.number c p id k w → HasValue row.number c value k w → given ≤ p
       → Matches def value row k w → Among row rows)
-  -- an entry further down is that of an older record
+  -- an entry further down with the value is that of an older record
   pub older : (row : Row) → Among row rows
-      → Always v (λ k w. (n c p : ℕ) → IsNodeIn bucket n c p id k w → p < given → n < row.number)
+      → Always v (λ k w. (n c p : ℕ) → IsNodeIn bucket n c p id k w → HasValue n c value k w → p < given → n < row.number)
 
 -- the entry has the value, and its record this payload; or it has another value
 abbrev pub IsValued : View → Value → Node → Option (List ℕ) → Type 0

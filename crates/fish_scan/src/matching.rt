@@ -1,15 +1,15 @@
 //! Whether a record that was read has the value that is asked for.
 
-ghost use Rattle.std.specs.Prelude.{◌≡◌, ◌+◌, IfOk, IsTrue, ◌↔◌, Some};
+ghost use Rattle.std.specs.Prelude.{◌≡◌, ◌+◌, Contains, IfOk, IsTrue, ◌↔◌};
 ghost use Rattle.fish_lang.specs.Definition.{definition_of};
-ghost use Rattle.fish_psf.specs.Eval.{eval as eval_of};
-ghost use Rattle.fish_psf.specs.Records.{evaluation, is_record};
+ghost use Rattle.fish_psf.specs.Eval.{values as values_of};
+ghost use Rattle.fish_psf.specs.Records.{Gives, is_record};
 ghost use Rattle.fish_scan.specs.Reading.{IsMatching, IsParsable, parses_of};
 
 use crate::reach::Reach;
 use fish_catalog::Entry;
 use fish_lang::Def;
-use fish_psf::{Parsed, PsfRefusal, Steps, eval};
+use fish_psf::{Parsed, PsfRefusal, Steps, has, values};
 use fish_read::RecordReader;
 use fish_value::{Form, Text, Value};
 use std::alloc::{AllocError, Global};
@@ -60,7 +60,7 @@ fn has_value<P: Ledger>(
 ) -> Result<bool, AllocError>
     requires { IsTrue (is_record form b.now) }
     ensures value { IfOk result (λ has. IsTrue has
-        ↔ (evaluation (definition_of query.now.def) form b.now ≡ Some query.now.value)) }
+        ↔ Gives (definition_of query.now.def) form b.now query.now.value) }
     ensures parses { parses.new ≡ parses.old + 1 }
 {
     match reader.read(alloc, form, b, parses) {
@@ -77,12 +77,10 @@ fn has_value<P: Ledger>(
 /// Whether the definition gives the value for a record.
 fn gives<R: Parsed>(alloc: Global, query: &Query, rec: &R) -> Result<bool, AllocError>
     ensures { IfOk result (λ has. IsTrue has
-        ↔ (eval_of (definition_of query.now.def) (R.fields rec.now) ≡ Some query.now.value)) }
+        ↔ Contains (values_of (definition_of query.now.def) (R.fields rec.now)) query.now.value) }
 {
-    let Some(value) = eval(alloc, &query.def, rec)? else {
-        return Ok(false);
-    };
-    let same = value.is(&query.value);
-    drop(value);
-    Ok(same)
+    let found = values(alloc, &query.def, rec)?;
+    let has = has(found.as_slice(), &query.value);
+    drop(found);
+    Ok(has)
 }
