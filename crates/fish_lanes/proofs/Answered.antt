@@ -43,7 +43,7 @@ use Rattle.fish_rule.specs.World.{high}
 use Rattle.fish_rule.specs.declared.close.Remains.{Remains}
 use Rattle.fish_rule.specs.declared.view.Kind.TheVariants.{Mark}
 use Rattle.fish_rule.specs.declared.view.View.{View}
-use Rattle.fish_scan.proofs.Lists.{at_among}
+use Rattle.fish_rule.proofs.laws.Members.{at_among}
 use Rattle.fish_scan.proofs.Selecting.{finds_selection}
 use Rattle.fish_scan.specs.Laws.{IsSpelled}
 use Rattle.fish_scan.specs.Matching.{Finds}

@@ -33,7 +33,7 @@ use Rattle.fish_rule.specs.Registry.{IsRegistered, definitions_at, main_word, ro
 use Rattle.fish_rule.specs.Table.{Stands}
 use Rattle.fish_rule.specs.Views.{Among}
 use Rattle.fish_rule.specs.declared.view.View.{View}
-use Rattle.fish_scan.proofs.Lists.{among_at, at_among}
+use Rattle.fish_rule.proofs.laws.Members.{among_at, at_among}
 use Rattle.fish_scan.specs.Scans.{IsCovered, IsNamed, IsPlan}
 use Rattle.fish_scan.specs.declared.ask.Ask.{Ask}
 use Rattle.fish_scan.specs.declared.ask.How.{How}

@@ -30,7 +30,7 @@ use Rattle.fish_rule.specs.declared.view.Key.{Key}
 use Rattle.fish_rule.specs.declared.view.Noted.TheVariants.{Version}
 use Rattle.fish_rule.specs.declared.view.View.{View}
 use Rattle.fish_scan.proofs.Beginnings.{interval_later}
-use Rattle.fish_scan.proofs.Lists.{at_among}
+use Rattle.fish_rule.proofs.laws.Members.{at_among}
 use Rattle.fish_scan.proofs.Looking.{open_later, open_sooner}
 use Rattle.fish_scan.proofs.Reaching.{reached_still}
 use Rattle.fish_scan.specs.Indices.{IsIndex}

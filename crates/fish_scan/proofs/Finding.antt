@@ -7,7 +7,7 @@ use Rattle.fish_lang.specs.Definition.{Definition}
 use Rattle.fish_psf.specs.Records.{Gives}
 use Rattle.fish_psf.specs.SelectLaw.{FallsBelow}
 use Rattle.fish_rule.proofs.laws.Moments.{entry_once}
-use Rattle.fish_rule.proofs.laws.Lists.{among_left, among_right}
+use Rattle.fish_rule.proofs.laws.Lists.{among_either, among_left, among_right}
 use Rattle.fish_rule.proofs.laws.ChainFacts.{always_later}
 use Rattle.fish_rule.specs.Logs.{IsEntry, Learns, Tells}
 use Rattle.fish_rule.specs.Views.{Among}
@@ -16,7 +16,6 @@ use Rattle.fish_rule.specs.ChainFacts.{Always}
 use Rattle.fish_rule.specs.World.{World}
 use Rattle.fish_rule.specs.declared.view.Key.{Key}
 use Rattle.fish_rule.specs.declared.view.View.{View}
-use Rattle.fish_scan.proofs.Lists.{among_both}
 use Rattle.fish_scan.specs.Matching.{Finds, Matches}
 use Rattle.fish_value.specs.declared.field.Form.{Form}
 use Rattle.fish_value.specs.declared.row.Row.{Row}
@@ -72,11 +71,11 @@ pub finds_both : (v : View) (def : Definition) (value : Value) (from mid to : �
 finds_both v def value from mid to opens rows others less more h g = record {
   falls = falls_both to mid rows others h.falls h.above more g.falls;
   above = λ row m. ⊎_elim (λ (a : Among row rows). let b = h.above row a in omega arith)
-      (λ (a : Among row others). g.above row a) (among_both row rows others m);
+      (λ (a : Among row others). g.above row a) (among_either row rows others m);
   closed = λ row m. ⊎_elim (λ (a : Among row rows). h.closed row a) (λ (a : Among row others). g.closed row a)
-      (among_both row rows others m);
+      (among_either row rows others m);
   sound = λ row m. ⊎_elim (λ (a : Among row rows). h.sound row a) (λ (a : Among row others). g.sound row a)
-      (among_both row rows others m);
+      (among_either row rows others m);
   complete = λ row after before closed. either row after before closed (dec_lt row.number mid);
 }
   where

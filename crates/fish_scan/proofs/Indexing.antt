@@ -25,6 +25,7 @@ use Rattle.fish_psf.specs.Records.{Gives, fields_of_payload}
 use Rattle.fish_psf.specs.declared.key.ActiveDef.{ActiveDef}
 use Rattle.fish_psf.specs.declared.key.KeyValue.{KeyValue}
 use Rattle.fish_epoch.proofs.Reading.{knows_later}
+use Rattle.fish_rule.proofs.laws.Members.{among_at, among_flat, among_map, at_among, flat_among, map_among}
 use Rattle.fish_rule.proofs.laws.Intervals.{intervals_stay, known_indexed}
 use Rattle.fish_rule.proofs.laws.Moments.{stored_above}
 use Rattle.fish_rule.specs.Intervals.{IsIndexed}
@@ -38,7 +39,7 @@ use Rattle.fish_rule.specs.World.{World, high, low}
 use Rattle.fish_rule.specs.declared.view.Key.{Key}
 use Rattle.fish_rule.specs.declared.view.Kind.TheVariants.{Stored}
 use Rattle.fish_rule.specs.declared.view.View.{View}
-use Rattle.fish_scan.proofs.Lists.{among_at, among_contains, among_flat, among_map, at_among, contains_among, flat_among, map_among}
+use Rattle.fish_scan.proofs.Lists.{among_contains, contains_among}
 use Rattle.fish_scan.specs.Indices.{IsIndex, bucket_of_value}
 use Rattle.fish_scan.specs.Matching.{Matches}
 use Rattle.fish_value.specs.declared.field.Form.{Form}

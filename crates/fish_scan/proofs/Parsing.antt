@@ -10,7 +10,7 @@ use Rattle.fish_lang.specs.Definition.{Definition}
 use Rattle.fish_plan.specs.declared.pieces.Piece.{Piece}
 use Rattle.fish_plan.specs.declared.pieces.Piece.TheVariants.{Full, Index}
 use Rattle.fish_rule.proofs.laws.Learning.{learns_both}
-use Rattle.fish_rule.proofs.laws.Lists.{among_left, among_right}
+use Rattle.fish_rule.proofs.laws.Lists.{among_either, among_left, among_right}
 use Rattle.fish_rule.specs.ChainFacts.{Always}
 use Rattle.fish_rule.specs.Logs.{Learns, Tells}
 use Rattle.fish_rule.specs.Regions.{code}
@@ -20,7 +20,6 @@ use Rattle.fish_rule.specs.World.{high}
 use Rattle.fish_rule.specs.declared.view.Found.{Found}
 use Rattle.fish_rule.specs.declared.view.Kind.TheVariants.{Stored, Void}
 use Rattle.fish_rule.specs.declared.view.View.{View}
-use Rattle.fish_scan.proofs.Lists.{among_both}
 use Rattle.fish_scan.proofs.Loading.{records_both, records_later}
 use Rattle.fish_scan.proofs.Reaching.{found_code, found_still}
 use Rattle.fish_scan.proofs.Telling.{stored_told}
@@ -82,7 +81,7 @@ full_either ps qs n h = ⊎_elim
     inl (record { from = h.from; to = h.to; among = a; above = h.above; below = h.below }))
     (λ (a : Among (Full h.from h.to) qs).
     inr (record { from = h.from; to = h.to; among = a; above = h.above; below = h.below }))
-    (among_both (Full h.from h.to) ps qs h.among)
+    (among_either (Full h.from h.to) ps qs h.among)
 
 -- the pieces up to a place, and the one there
 pub take_one : {A : Type 0} (xs : List A) (n : ℕ) (x : A) → slice_get xs n ≡ Some x → take (suc n) xs ≡ take n xs ++ x ∷ []
@@ -145,9 +144,9 @@ module _ (v u : View) (opens : List ℕ) (ps qs rs : List Piece) (learns : Learn
         are = record {
           are = records_both u from mid to h.records g.records (records_later v u mid to h.records learns h.are.are) g.are.are;
           inside = λ f m. ⊎_elim (λ (a : Among f h.records). left f.number (h.are.inside f a))
-              (λ (a : Among f g.records). right f.number (g.are.inside f a)) (among_both f h.records g.records m);
+              (λ (a : Among f g.records). right f.number (g.are.inside f a)) (among_either f h.records g.records m);
           closed = λ f m. ⊎_elim (λ (a : Among f h.records). h.are.closed f a) (λ (a : Among f g.records). g.are.closed f a)
-              (among_both f h.records g.records m);
+              (among_either f h.records g.records m);
           all = λ n inside closed. ⊎_elim (λ (a : IsInFull ps n). from_left n a closed)
               (λ (a : IsInFull qs n). from_right n a closed) (either n inside);
         };

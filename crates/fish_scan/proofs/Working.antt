@@ -5,14 +5,13 @@ use Rattle.std.specs.Prelude.{OnOk}
 use Rattle.std.proofs.lemmas.Option.{same_Some}
 use Rattle.fish_plan.specs.declared.pieces.Piece.{Piece}
 use Rattle.fish_plan.specs.declared.pieces.Piece.TheVariants.{Full, Index}
-use Rattle.fish_rule.proofs.laws.Lists.{among_left}
+use Rattle.fish_rule.proofs.laws.Lists.{among_either, among_left}
 use Rattle.fish_rule.specs.Logs.{Learns}
 use Rattle.fish_rule.specs.Views.{Among}
 use Rattle.fish_rule.specs.declared.view.Found.{Found}
 use Rattle.fish_rule.specs.declared.view.Kind.TheVariants.{Stored}
 use Rattle.fish_rule.specs.declared.view.View.{View}
 use Rattle.fish_scan.proofs.Descending.{entries_later}
-use Rattle.fish_scan.proofs.Lists.{among_both}
 use Rattle.fish_scan.proofs.Loading.{record_later, record_loads, records_both, records_later, rises_both, rises_none, words_both}
 use Rattle.fish_scan.proofs.Walks.{bucket_still}
 use Rattle.fish_scan.specs.Work.{AreAllowed, AreEntries, ArePiecesWork, IsAllowed, IsFullWork, IsPieceWork, IsRecordAt}
@@ -44,7 +43,7 @@ full_both v m u opens from mid to old late new learns (a, h, r) (b, g, s) =
         records = h.records ++ g.records;
         are = records_both u from mid to h.records g.records (records_later m u mid to h.records learns h.are) g.are;
         closed = λ f m. ⊎_elim (λ (z : Among f h.records). h.closed f z) (λ (z : Among f g.records). g.closed f z)
-            (among_both f h.records g.records m);
+            (among_either f h.records g.records m);
         few = omega arith;
       },
       rises_both v m u old late new a b r s,
