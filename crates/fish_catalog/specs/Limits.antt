@@ -7,7 +7,15 @@ most_rows = 256
 
 -- the most definitions that are active at once
 abbrev pub most_active : ℕ
-most_active = 16
+most_active = 32
+
+-- the newest format of a store file
+abbrev pub newest_format : ℕ
+newest_format = 2
+
+-- the most definitions that are active at once in a store file of format 1
+abbrev pub most_active_at_first : ℕ
+most_active_at_first = 16
 
 -- the most bytes of a name
 abbrev pub longest_name : ℕ

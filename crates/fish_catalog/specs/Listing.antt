@@ -30,7 +30,7 @@ pub record IsListing (ls : List Listed) : Type 0 where
   pub ids : (n : ℕ) (l : Listed) → slice_get ls n ≡ Some l → l.id ≡ n
   pub names : All (λ l. IsName l.name) ls
   pub texts : All (λ l. IsCanonical l.def) ls
-  -- at most 16 are active
+  -- at most as many are active as may be
   pub few_active : count_by is_on ls ≤ most_active
   -- no two active ones have one name
   pub apart : (i j : ℕ) (one other : Listed) → slice_get ls i ≡ Some one → slice_get ls j ≡ Some other

@@ -35,7 +35,7 @@ pub record IsCatalog (rows : List CatRow) : Type 0 where
   -- their ids are 0, 1, 2 and so on
   pub ids : (k : ℕ) (row : CatRow) → slice_get rows k ≡ Some row → row.id ≡ k
   pub each : All IsRow rows
-  -- at most 16 are active
+  -- at most as many are active as may be
   pub few_active : count_by is_active rows ≤ most_active
   -- no two active rows have one name
   pub apart : (j k : ℕ) (one other : CatRow) → slice_get rows j ≡ Some one → slice_get rows k ≡ Some other →

@@ -25,7 +25,7 @@ use thiserror::Error;
 pub const MAX_ROWS: usize = 256;
 
 /// The most rows that are active at once.
-pub const MAX_ACTIVE: usize = 16;
+pub const MAX_ACTIVE: usize = 32;
 
 /// Why a definition was not kept.
 #[derive(Clone, Copy, Debug, PartialEq, Eq, Error)]
@@ -34,10 +34,10 @@ pub enum CatRefusal {
     #[error("the name is active")]
     NameActive,
     /// As many rows are active as may be.
-    #[error("16 definitions are active")]
+    #[error("{} definitions are active", MAX_ACTIVE)]
     TooManyActive,
     /// As many rows are there as may be.
-    #[error("256 definitions are there")]
+    #[error("{} definitions are there", MAX_ROWS)]
     TooManyDefinitions,
     /// Memory ran out.
     #[error("out of memory")]

@@ -4,9 +4,17 @@ use crate::catalog::Catalog;
 use crate::page_start::PageStarts;
 use fish_value::Numbers64;
 
+/// The newest format of a store file.
+pub const NEWEST_FORMAT: u8 = 2;
+
+/// The most rows that are active at once in a store file of format 1.
+pub const MAX_ACTIVE_AT_FIRST: usize = 16;
+
 /// What a commit of a store tells beside the words of its log.
 #[derive(Debug, Drop)]
 pub struct Commit {
+    /// The format of its slot, 1 or 2. Nothing that it tells depends on it.
+    pub format: u8,
     /// 0, 1 or 2: the turn of the commit before, and one more, modulo 3.
     pub turn: u8,
     /// How many pages a table of the log has.

@@ -39,7 +39,7 @@ fn have_ids(rows: &[CatRow]) -> bool
 }
 
 /// How many rows are active.
-pub(crate) fn count_active(rows: &[CatRow]) -> usize
+pub fn count_active(rows: &[CatRow]) -> usize
     ensures { result ≡ count_by is_active rows.now }
 {
     rows.iter().filter(|row| row.is_active()).count()

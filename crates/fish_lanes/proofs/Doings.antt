@@ -4,6 +4,7 @@ use Rattle.std.proofs.Common.{Some, None, Result, Ok, Err, count_by}
 use Rattle.std.specs.Prelude.{IfOk}
 use Rattle.std.proofs.lemmas.Option.{same_Some}
 use Rattle.std.proofs.Math.Decide.{dec_lt}
+use Rattle.fish_catalog.specs.Limits.{most_active}
 use Rattle.fish_catalog.specs.Rows.{HasActive, is_active}
 use Rattle.fish_lanes.proofs.Registrations.{begun_is, few_versions, none_id, none_waits, waits_id}
 use Rattle.fish_lanes.specs.Controlling.{Does, RollsBy, TellsBegun, TellsTail, deregister_cause, register_cause}
@@ -59,16 +60,16 @@ module _ {A : Type 0} (v : View) (r : Registrar) (result : Result A RegRefusal)
   module _ (name : List ℕ)
       (active : (result ≡ Err refusal.NameActive) ↔ (registry.MayChange r v × HasActive r.catalog name))
       (many_active : (result ≡ Err refusal.TooManyActive)
-      ↔ (registry.MayChange r v × (¬ HasActive r.catalog name) × (16 ≤ count_by is_active r.catalog)))
+      ↔ (registry.MayChange r v × (¬ HasActive r.catalog name) × (most_active ≤ count_by is_active r.catalog)))
       (many : (result ≡ Err refusal.TooManyDefinitions)
-      ↔ (registry.MayChange r v × (¬ HasActive r.catalog name) × (count_by is_active r.catalog < 16) × (256 ≤ length r.catalog)))
+      ↔ (registry.MayChange r v × (¬ HasActive r.catalog name) × (count_by is_active r.catalog < most_active) × (256 ≤ length r.catalog)))
     where
       -- a definition was registered
       pub registered_here : (a : A) → result ≡ Ok a → MayRegister (registry_of v r) name
       registered_here a is =
           let may = change_here a is in
           let free : ¬ HasActive r.catalog name = λ h. ok_or_err result a refusal.NameActive is (active.1 (may, h)) in
-          let few_active : count_by is_active r.catalog < 16 = active_few may free (dec_lt (count_by is_active r.catalog) 16) in
+          let few_active : count_by is_active r.catalog < most_active = active_few may free (dec_lt (count_by is_active r.catalog) most_active) in
           record {
             change = may_change may;
             free = free;
@@ -76,13 +77,13 @@ module _ {A : Type 0} (v : View) (r : Registrar) (result : Result A RegRefusal)
             few = all_few may free few_active (dec_lt (length r.catalog) 256);
           }
         where
-          active_few : registry.MayChange r v → ¬ HasActive r.catalog name → Dec (count_by is_active r.catalog < 16)
-              → count_by is_active r.catalog < 16
+          active_few : registry.MayChange r v → ¬ HasActive r.catalog name → Dec (count_by is_active r.catalog < most_active)
+              → count_by is_active r.catalog < most_active
           active_few may free (yes less) = less
           active_few may free (no not_less) =
               absurd (ok_or_err result a refusal.TooManyActive is (many_active.1 (may, free, omega arith)))
 
-          all_few : registry.MayChange r v → ¬ HasActive r.catalog name → count_by is_active r.catalog < 16
+          all_few : registry.MayChange r v → ¬ HasActive r.catalog name → count_by is_active r.catalog < most_active
               → Dec (length r.catalog < 256) → length r.catalog < 256
           all_few may free few (yes less) = less
           all_few may free few (no not_less) =

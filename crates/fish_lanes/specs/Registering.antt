@@ -1,6 +1,7 @@
 -- The definitions of a log as the items of a run tell them.
 use Rattle.std.specs.Prelude.{ℕ, ◌≡◌, ◌⊎◌, ◌+◌, ◌<◌, ◌≤◌, List, [], ◌∷◌, ◌++◌, Option, Some, None, ⊤, count_by, length, map}
 use Rattle.fish_catalog.specs.Closing.{with_to}
+use Rattle.fish_catalog.specs.Limits.{most_active}
 use Rattle.fish_catalog.specs.Listing.{listed_of}
 use Rattle.fish_catalog.specs.Rows.{HasActive, IsActiveNamed, IsName, is_active, new_row, with_from}
 use Rattle.fish_catalog.specs.declared.row.CatRow.{CatRow}
@@ -66,7 +67,7 @@ pub record MayChange (r : Registry) : Type 0 where
 pub record MayRegister (r : Registry) (name : List ℕ) : Type 0 where
   pub change : MayChange r
   pub free : ¬ HasActive r.rows name
-  pub few_active : count_by is_active r.rows < 16
+  pub few_active : count_by is_active r.rows < most_active
   pub few : length r.rows < 256
 
 -- why none was
@@ -75,9 +76,9 @@ IsRegisterCause r name (register.Rolling id) = r.waiting ≡ Some id
 IsRegisterCause r name register.TooManyVersions = (r.waiting ≡ None) × (512 ≤ r.version)
 IsRegisterCause r name register.NameActive = MayChange r × HasActive r.rows name
 IsRegisterCause r name register.TooManyActive =
-    MayChange r × (¬ HasActive r.rows name) × (16 ≤ count_by is_active r.rows)
+    MayChange r × (¬ HasActive r.rows name) × (most_active ≤ count_by is_active r.rows)
 IsRegisterCause r name register.TooManyDefinitions =
-    MayChange r × (¬ HasActive r.rows name) × (count_by is_active r.rows < 16) × (256 ≤ length r.rows)
+    MayChange r × (¬ HasActive r.rows name) × (count_by is_active r.rows < most_active) × (256 ≤ length r.rows)
 
 -- why none was ended
 abbrev pub IsDeregisterCause : Registry → List ℕ → DeregisterCause → Type 0

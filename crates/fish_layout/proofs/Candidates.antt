@@ -42,6 +42,7 @@ IsBody-number {p} {ws} m h fits same =
         lane = h.proper.lane;
         version = h.proper.version;
         number = fits;
+        few = h.proper.few;
         keys = h.proper.keys;
         short = h.proper.short;
         text = h.proper.text;

@@ -9,7 +9,7 @@ use Rattle.std.proofs.lemmas.Grind.{flat_map-append}
 use Rattle.fish_layout.specs.Body.{AreProperKeys, IsProperValue, entry_word, key_words, value_word, values_of}
 use Rattle.fish_layout.specs.Values.{value_bytes}
 use Rattle.fish_layout.specs.declared.parts.KeyPart.{KeyPart}
-use Rattle.fish_layout.proofs.Sizes.{few_keys, few_value_bytes}
+use Rattle.fish_layout.proofs.Sizes.{few_value_bytes}
 
 -- the words of one entry more
 pub key_words-push : (number place offset : ℕ) (ks : List KeyPart) (k : KeyPart) →
@@ -47,20 +47,20 @@ pub proper_at : (least : ℕ) (ks : List KeyPart) (i : ℕ) (k : KeyPart) → Ar
 proper_at least [] i k keys within is = absurd (omega arith)
 proper_at least (x ∷ ks) zero k keys within is =
     subst (λ y. (y.id < 256) × IsProperValue y.value) (sym is) (keys.1, keys.2)
-proper_at least (x ∷ ks) (suc i) k keys within is = proper_at (x.id + 1) ks i k keys.3 (omega arith) is
+proper_at least (x ∷ ks) (suc i) k keys within is = proper_at x.id ks i k keys.3 (omega arith) is
 
 -- the values up to an entry and its own have at most 65,536 bytes
-pub few_bytes_at : (ks : List KeyPart) (i : ℕ) (k : KeyPart) → AreProperKeys 0 ks → i < length ks → k ≡ get_or ks i k →
+pub few_bytes_at : (ks : List KeyPart) (i : ℕ) (k : KeyPart) → length ks ≤ 256 → AreProperKeys 0 ks → i < length ks → k ≡ get_or ks i k →
     length (values_of (take i ks)) + length (value_bytes k.value) ≤ 65536
-few_bytes_at ks i k keys within is =
+few_bytes_at ks i k few keys within is =
     let sum = length-flat_map-take (λ x. value_bytes x.value) ks i k within in
     let own : length (value_bytes k.value) ≡ length (value_bytes (get_or ks i k).value) =
     ap (λ x. length (value_bytes x.value)) is in
-    omega (arith, sum, own, few_value_bytes 0 ks keys, few_keys 0 ks (omega arith) keys)
+    omega (arith, sum, own, few_value_bytes 0 ks keys)
 
 -- the values up to an entry have at most 65,536 bytes
-pub few_bytes_up : (ks : List KeyPart) (i : ℕ) → AreProperKeys 0 ks → length (values_of (take i ks)) ≤ 65536
-few_bytes_up ks i keys =
+pub few_bytes_up : (ks : List KeyPart) (i : ℕ) → length ks ≤ 256 → AreProperKeys 0 ks → length (values_of (take i ks)) ≤ 65536
+few_bytes_up ks i few keys =
     let front = values_of (take i ks) in
     let behind = values_of (drop i ks) in
     let whole : front ++ behind ≡ values_of ks =
@@ -70,7 +70,6 @@ few_bytes_up ks i keys =
       length-append front behind,
       ap length whole,
       few_value_bytes 0 ks keys,
-      few_keys 0 ks (omega arith) keys,
     )
 
 -- the entries up to one and this one

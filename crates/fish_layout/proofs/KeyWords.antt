@@ -128,7 +128,7 @@ words_say p e c k h same within is =
     let value =
     value_fields (kind_code k.value) (length (value_bytes k.value)) offset (e (entry_at c + 2))
     (kind_fits k.value)
-    (omega (arith, few_bytes k.value proper.1)) (omega (arith, few_bytes_at p.keys c k h.keys within is))
+    (omega (arith, few_bytes k.value proper.1)) (omega (arith, few_bytes_at p.keys c k h.few h.keys within is))
     (same (entry_at c + 2) ∙ third) in
     record {
       prev = same (entry_at c) ∙ first;

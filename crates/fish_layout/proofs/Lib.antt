@@ -1,3 +1,4 @@
+pub mod Apart
 pub mod Buckets
 pub mod Bytes
 pub mod Candidates

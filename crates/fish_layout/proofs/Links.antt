@@ -1,8 +1,8 @@
 -- Records that differ in the previous nodes of their key entries alone.
 use Rattle.std.proofs.Common.{◌≡◌, ℕ, zero, suc, ◌+◌, ◌-◌, ◌*◌, ◌/◌, ◌%◌, ◌<◌}
 use Rattle.std.proofs.Common.{List, [], ◌∷◌, ◌++◌, length, get_or, replicate}
-use Rattle.std.proofs.Common.{refl, ap, sym, ◌∙◌, arith, append_assoc}
-use Rattle.fish_layout.specs.Body.{AreProperKeys, IsProper, body_header, body_lines}
+use Rattle.std.proofs.Common.{refl, ap, sym, ◌∙◌, ◌≤◌, arith, append_assoc, subst}
+use Rattle.fish_layout.specs.Body.{AreProperKeys, IsApart, IsProper, body_header, body_lines}
 use Rattle.fish_layout.specs.Body.{body_words, key_words, values_of, words_behind}
 use Rattle.fish_layout.specs.Bytes.{words_of_bytes}
 use Rattle.fish_layout.specs.Cleared.{AreUnlinked, IsKeyWord, unlink, unlinked}
@@ -33,11 +33,18 @@ pub values_of-relink : (r : ℕ → ℕ) (c : ℕ) (ks : List KeyPart) → value
 values_of-relink r c [] = refl
 values_of-relink r c (k ∷ ks) = ap (λ b. value_bytes k.value ++ b) (values_of-relink r (c + 1) ks)
 
+-- as far apart
+IsApart-relink : (r : ℕ → ℕ) (c j : ℕ) (k : KeyPart) (ks : List KeyPart) → IsApart k ks
+    → IsApart (record k { prev = r j }) (relink r c ks)
+IsApart-relink r c j k [] h = tt
+IsApart-relink r c j k (x ∷ ks) h = (h.0, IsApart-relink r (c + 1) j k ks h.1)
+
 -- as proper
 pub AreProperKeys-relink : (r : ℕ → ℕ) (c least : ℕ) (ks : List KeyPart) → AreProperKeys least ks →
     AreProperKeys least (relink r c ks)
 AreProperKeys-relink r c least [] h = tt
-AreProperKeys-relink r c least (k ∷ ks) h = (h.0, h.1, h.2, AreProperKeys-relink r (c + 1) (k.id + 1) ks h.3)
+AreProperKeys-relink r c least (k ∷ ks) h =
+    (h.0, h.1, h.2, AreProperKeys-relink r (c + 1) k.id ks h.3, IsApart-relink r (c + 1) c k ks h.4)
 
 -- what is linked twice is linked as the second time
 pub relink-relink : (r s : ℕ → ℕ) (c : ℕ) (ks : List KeyPart) → relink r c (relink s c ks) ≡ relink r c ks
@@ -134,6 +141,7 @@ relinked_proper r p h =
       lane = h.lane;
       version = h.version;
       number = h.number;
+      few = subst (λ n. n ≤ 256) (sym (length-relink r 0 p.keys)) h.few;
       keys = AreProperKeys-relink r 0 0 p.keys h.keys;
       short = h.short;
       text = h.text;

@@ -98,6 +98,7 @@ body_numbered {p} {ws} m new h fits size others entries =
       lane = h.proper.lane;
       version = h.proper.version;
       number = fits;
+      few = h.proper.few;
       keys = h.proper.keys;
       short = h.proper.short;
       text = h.proper.text;

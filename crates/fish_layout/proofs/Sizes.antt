@@ -30,11 +30,6 @@ few_bytes (kind.Bool b) h = omega arith
 few_bytes (kind.Int n) h = omega arith
 few_bytes (kind.Text s) h = h.0
 
--- ids below 256 that ascend are at most 256
-pub few_keys : (least : ℕ) (ks : List KeyPart) → least ≤ 256 → AreProperKeys least ks → least + length ks ≤ 256
-few_keys least [] h keys = omega arith
-few_keys least (k ∷ ks) h keys = omega (arith, few_keys (k.id + 1) ks (omega (arith, keys.1)) keys.3, keys.0)
-
 -- the values of proper keys have at most 256 bytes each
 pub few_value_bytes : (least : ℕ) (ks : List KeyPart) → AreProperKeys least ks → length (values_of ks) ≤ 256 * length ks
 few_value_bytes least [] keys = omega arith
@@ -43,7 +38,7 @@ few_value_bytes least (k ∷ ks) keys =
       arith,
       length-append (value_bytes k.value) (values_of ks),
       few_bytes k.value keys.2,
-      few_value_bytes (k.id + 1) ks keys.3,
+      few_value_bytes k.id ks keys.3,
     )
 
 -- how many words stand behind the header, without the padding
@@ -64,7 +59,7 @@ length-words_behind p =
 
 -- a record has at most 256 keys
 pub few_keys_of : {p : BodyParts} → IsProper p → length p.keys ≤ 256
-few_keys_of {p} h = omega (arith, few_keys 0 p.keys (omega arith) h.keys)
+few_keys_of h = h.few
 
 -- a record has a line
 pub some_lines : (p : BodyParts) → 1 ≤ body_lines p

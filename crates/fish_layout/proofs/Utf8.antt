@@ -116,4 +116,4 @@ bytes_value (kind.Text s) h = bytes_text s h.1
 pub bytes_values : (least : ℕ) (ks : List KeyPart) → AreProperKeys least ks → AreBytes (values_of ks)
 bytes_values least [] h = bytes_none
 bytes_values least (k ∷ ks) h =
-    bytes_joined (value_bytes k.value) (values_of ks) (bytes_value k.value h.2) (bytes_values (k.id + 1) ks h.3)
+    bytes_joined (value_bytes k.value) (values_of ks) (bytes_value k.value h.2) (bytes_values k.id ks h.3)

@@ -76,10 +76,16 @@ IsProperValue (kind.Bool b) = ⊤
 IsProperValue (kind.Int n) = IsTrue (fits_i64 n)
 IsProperValue (kind.Text s) = (length s ≤ 256) × IsUtf8 s
 
--- entries whose ids are at least this one and ascend, below 256, with proper values
+-- no entry has the id and the value of this one
+abbrev pub IsApart : KeyPart → List KeyPart → Type 0
+IsApart k [] = ⊤
+IsApart k (x ∷ ks) = (x.id ≡ k.id → x.value ≡ k.value → ⊥) × IsApart k ks
+
+-- entries whose ids are at least this one, below 256, and don't descend, with proper values, of which those of one id differ
 abbrev pub AreProperKeys : ℕ → List KeyPart → Type 0
 AreProperKeys least [] = ⊤
-AreProperKeys least (k ∷ ks) = (least ≤ k.id) × (k.id < 256) × IsProperValue k.value × AreProperKeys (k.id + 1) ks
+AreProperKeys least (k ∷ ks) = (least ≤ k.id) × (k.id < 256) × IsProperValue k.value
+    × AreProperKeys k.id ks × IsApart k ks
 
 -- the parts are within their limits
 pub record IsProper (p : BodyParts) : Type 0 where
@@ -87,6 +93,7 @@ pub record IsProper (p : BodyParts) : Type 0 where
   pub lane : p.lane ≤ 16
   pub version : p.version ≤ 512
   pub number : p.number < 2 ^ 28
+  pub few : length p.keys ≤ 256
   pub keys : AreProperKeys 0 p.keys
   pub short : length p.payload ≤ 524288
   pub text : IsUtf8 p.payload

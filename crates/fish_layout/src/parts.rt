@@ -50,7 +50,7 @@ pub struct BodyParts {
     pub version: u16,
     /// Its place in the order of claims.
     pub number: u32,
-    /// Its indexed properties, by ascending id.
+    /// Its indexed properties, by id, at most 256. No two have one id and one value.
     pub keys: KeyParts,
     pub payload: Text,
 }

@@ -1,9 +1,9 @@
 //! Which parts a record may have, as a test.
 
 ghost use Rattle.std.specs.Prelude.{◌↔◌, ◌≤◌, IsTrue, IsUtf8, length};
-ghost use Rattle.fish_layout.specs.Body.{AreProperKeys, IsProper, IsProperValue};
+ghost use Rattle.fish_layout.specs.Body.{AreProperKeys, IsApart, IsProper, IsProperValue};
 
-use crate::parts::{BodyParts, KeyPart, MAX_LANE, MAX_PAYLOAD, MAX_VERSION};
+use crate::parts::{BodyParts, KeyPart, MAX_KEYS, MAX_LANE, MAX_PAYLOAD, MAX_VERSION};
 use fish_value::{MAX_VALUE, Text, Value};
 
 /// Whether a record may have these parts.
@@ -15,6 +15,7 @@ pub(crate) fn is_proper(parts: &BodyParts) -> bool
         && parts.version <= MAX_VERSION
         && parts.number < 0x1000_0000
         && has_text(&parts.payload, MAX_PAYLOAD)
+        && parts.keys.len() <= usize::from(MAX_KEYS)
         && are_proper_keys(parts.keys.as_slice())
 }
 
@@ -25,16 +26,41 @@ fn has_text(text: &Text, most: usize) -> bool
     text.as_bytes().len() <= most
 }
 
-/// Whether the ids of keys ascend below 256, and their values are proper.
+/// Whether the ids of keys don't descend, and are below 256, and their values are proper, and those of one
+/// id differ. Takes one pass where no two ids are the same.
 fn are_proper_keys(keys: &[KeyPart]) -> bool
     ensures { IsTrue result ↔ AreProperKeys 0 keys.now }
 {
     let mut least = 0;
-    for key in keys {
-        if key.id < least || key.id >= 256 || !is_proper_value(&key.value) {
+    let mut rest = keys;
+    while let [key, behind @ ..] = rest {
+        if key.id < least
+            || key.id >= 256
+            || !is_proper_value(&key.value)
+            || !is_apart(key, behind)
+        {
             return false;
         }
-        least = key.id + 1;
+        least = key.id;
+        rest = behind;
+    }
+    true
+}
+
+/// Whether none of the entries behind one has its id and its value. Looks at those of its id, which come first.
+#[tactic(auto, using(crate::proofs::Apart::apart_above))]
+fn is_apart(key: &KeyPart, others: &[KeyPart]) -> bool
+    ensures { AreProperKeys key.now.id others.now → (IsTrue result ↔ IsApart key.now others.now) }
+{
+    let mut rest = others;
+    while let [other, behind @ ..] = rest {
+        if other.id != key.id {
+            return true;
+        }
+        if other.value.is(&key.value) {
+            return false;
+        }
+        rest = behind;
     }
     true
 }

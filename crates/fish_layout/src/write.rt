@@ -73,7 +73,8 @@ pub(crate) fn words_for(bytes: usize) -> usize
 
 /// How many bytes the values of keys have together.
 fn value_len(keys: &[KeyPart]) -> usize
-    requires { AreProperKeys 0 keys.now }
+    requires few { length keys.now ≤ 256 }
+    requires keys { AreProperKeys 0 keys.now }
     ensures value { result ≡ length (values_of keys.now) }
     ensures fits { result ≤ 65536 }
 {
@@ -132,6 +133,7 @@ fn push_words(
 /// Puts the words of key entries behind the others.
 fn push_keys(words: &mut Vec<u64>, number: u32, keys: &[KeyPart]) -> Result<(), AllocError>
     requires number { number < 2 ^ 28 }
+    requires few { length keys.now ≤ 256 }
     requires keys { AreProperKeys 0 keys.now }
     ensures { OnOk result (words.new.items ≡ words.old.items ++ key_words number 0 0 keys.now) }
 {

@@ -5,6 +5,7 @@ use Rattle.std.proofs.lemmas.List.{length-map}
 use Rattle.fish_catalog.proofs.Clamping.{mapped_from}
 use Rattle.fish_catalog.proofs.Listings.{active_row, count_listed}
 use Rattle.fish_catalog.specs.Canonical.{IsCanonical}
+use Rattle.fish_catalog.specs.Limits.{most_active}
 use Rattle.fish_catalog.specs.Listing.{IsNew, listed_of}
 use Rattle.fish_catalog.specs.Rows.{HasActive, IsCatalog, IsName, is_active, new_row}
 use Rattle.fish_catalog.specs.declared.listed.Listed.{Listed}
@@ -35,7 +36,7 @@ canonical def h = record { source = h.0; said = definition_of def; read = h.1; s
 
 -- where the catalogue has room, the definitions have
 is_new : (rows : List CatRow) (name text : List ℕ) → length rows < 256 → IsName name → IsCanonical text
-    → count_by is_active rows < 16 → ¬ HasActive rows name → IsNew (map listed_of rows) name text
+    → count_by is_active rows < most_active → ¬ HasActive rows name → IsNew (map listed_of rows) name text
 is_new rows name text room is_name is_text few free = record {
   room = (let e = length-map rows listed_of in omega arith);
   name_is = is_name;
@@ -58,7 +59,7 @@ is_new rows name text room is_name is_text few free = record {
 pub may_register : (v : View) (rows now : List CatRow) (name : List ℕ) (def : Def) (row : CatRow) (id : ℕ)
     → KnowsRows v rows None → now ≡ rows ++ new_row (length rows) name (definition_text (definition_of def)) ∷ []
     → IsCatalog now → id ≡ length rows → row ≡ get_or now id row → length rows < 256 → IsName name → IsSaid def
-    → count_by is_active rows < 16 → ¬ HasActive rows name → MayRegister v row
+    → count_by is_active rows < most_active → ¬ HasActive rows name → MayRegister v row
 may_register v rows now name def row id h is catalog place found room is_name said few free =
     let text : List ℕ = definition_text (definition_of def) in
     let new : CatRow = new_row (length rows) name text in

@@ -1,6 +1,6 @@
 //! What a registrar answers.
 
-use fish_catalog::CatRefusal;
+use fish_catalog::{CatRefusal, MAX_ACTIVE};
 use std::alloc::AllocError;
 use thiserror::Error;
 
@@ -17,7 +17,7 @@ pub enum RegRefusal {
     #[error("the name is active")]
     NameActive,
     /// As many definitions are active as may be.
-    #[error("16 definitions are active")]
+    #[error("{} definitions are active", MAX_ACTIVE)]
     TooManyActive,
     /// As many definitions are there as may be.
     #[error("256 definitions are there")]

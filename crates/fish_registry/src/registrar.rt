@@ -3,6 +3,7 @@
 ghost use Rattle.std.specs.Prelude.{◌≡◌, ◌↔◌, ◌+◌, ◌<◌, ◌≤◌, ◌++◌, ◌∷◌, ℕ, [], IfErr, IfOk, IsErrOf, None, OnErr, OnOk};
 ghost use Rattle.std.specs.Prelude.{count_by, length};
 ghost use Rattle.fish_catalog.specs.Closing.{with_to};
+ghost use Rattle.fish_catalog.specs.Limits.{most_active};
 ghost use Rattle.fish_catalog.specs.Rows.{HasActive, IsActiveNamed, IsName, is_active, new_row};
 ghost use Rattle.fish_lang.specs.Canonical.{definition_text};
 ghost use Rattle.fish_lang.specs.Definition.{definition_of};
@@ -68,7 +69,7 @@ impl Registrar {
     ///
     /// # Errors
     ///
-    /// A registration waits; no version is left; the name is active; 16 definitions are active; 256 are there; or
+    /// A registration waits; no version is left; the name is active; as many definitions are active as may be; 256 are there; or
     /// memory ran out. Then nothing has changed.
     pub fn begin(
         &mut self,
@@ -95,10 +96,10 @@ impl Registrar {
             (MayChange self.old (view pass.old) × HasActive self.old.catalog name.now) }
         ensures many_active { IsErrOf result RegRefusal.TooManyActive ↔
             (MayChange self.old (view pass.old) × (¬ HasActive self.old.catalog name.now)
-            × (16 ≤ count_by is_active self.old.catalog)) }
+            × (most_active ≤ count_by is_active self.old.catalog)) }
         ensures many { IsErrOf result RegRefusal.TooManyDefinitions ↔
             (MayChange self.old (view pass.old) × (¬ HasActive self.old.catalog name.now)
-            × (count_by is_active self.old.catalog < 16) × (256 ≤ length self.old.catalog)) }
+            × (count_by is_active self.old.catalog < most_active) × (256 ≤ length self.old.catalog)) }
         ensures known { ¬ IsErrOf result RegRefusal.UnknownName }
     {
         let version = self.last_version(log, pass)?;
@@ -222,13 +223,13 @@ fn add_row(catalog: &mut Catalog, name: &Text, def: &Def) -> Result<u16, RegRefu
     ensures id { IfOk result (λ id. id ≡ length catalog.old) }
     ensures added { OnOk result (catalog.new ≡ catalog.old
         ++ new_row (length catalog.old) name.now (definition_text (definition_of def.now)) ∷ []) }
-    ensures room { OnOk result ((¬ HasActive catalog.old name.now) × (count_by is_active catalog.old < 16)
+    ensures room { OnOk result ((¬ HasActive catalog.old name.now) × (count_by is_active catalog.old < most_active)
         × (length catalog.old < 256)) }
     ensures active { IsErrOf result RegRefusal.NameActive ↔ HasActive catalog.old name.now }
     ensures many_active { IsErrOf result RegRefusal.TooManyActive ↔
-        ((¬ HasActive catalog.old name.now) × (16 ≤ count_by is_active catalog.old)) }
+        ((¬ HasActive catalog.old name.now) × (most_active ≤ count_by is_active catalog.old)) }
     ensures many { IsErrOf result RegRefusal.TooManyDefinitions ↔
-        ((¬ HasActive catalog.old name.now) × (count_by is_active catalog.old < 16)
+        ((¬ HasActive catalog.old name.now) × (count_by is_active catalog.old < most_active)
         × (256 ≤ length catalog.old)) }
     ensures only { IfErr result IsOfRows }
     ensures refused { OnErr result (catalog.new ≡ catalog.old) }

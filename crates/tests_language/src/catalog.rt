@@ -41,11 +41,27 @@ const THIRD: &[((&str, &str), &str)] = &[
     (("13", "take type"), "13"),
     (("14", "take type"), "14"),
     (("15", "flag when n exists"), "15"),
-    (("16", "take type"), "16 definitions are active"),
+    (("16", "take type"), "16"),
+    (("17", "take type"), "17"),
+    (("18", "take type"), "18"),
+    (("19", "take type"), "19"),
+    (("20", "take type"), "20"),
+    (("21", "take type"), "21"),
+    (("22", "take type"), "22"),
+    (("23", "take type"), "23"),
+    (("24", "take type"), "24"),
+    (("25", "take type"), "25"),
+    (("26", "take type"), "26"),
+    (("27", "take type"), "27"),
+    (("28", "take type"), "28"),
+    (("29", "take type"), "29"),
+    (("30", "take type"), "30"),
+    (("31", "take type"), "31"),
+    (("32", "take type"), "32 definitions are active"),
     (("15", "take n"), "the name is active"),
 ];
 
-const ALL_FOUND: &[(&str, &str)] = &[("16", "none none"), ("15", "15 15")];
+const ALL_FOUND: &[(&str, &str)] = &[("32", "none none"), ("31", "31 31"), ("15", "15 15")];
 
 /// Ids, and the rows at the end: the id, the name, the canonical text, the beginning and the end.
 const ROWS: &[(usize, &str)] = &[
@@ -53,7 +69,8 @@ const ROWS: &[(usize, &str)] = &[
     (1, "1 Kind bucket n by 10 when not n < 3, 7 none"),
     (2, "2 2 take type, none none"),
     (15, "15 15 flag when n exists, none none"),
-    (16, "none"),
+    (31, "31 31 take type, none none"),
+    (32, "none"),
 ];
 
 /// The canonical text of a definition.

@@ -169,7 +169,7 @@ const REFUSALS: &[(Plain, &str)] = &[
     ),
     (
         Plain::RegisterRefused("t", RegisterCause::TooManyActive),
-        "a refusal: refused register t too many active 16\n",
+        "a refusal: refused register t too many active 32\n",
     ),
     (
         Plain::RegisterRefused("t", RegisterCause::TooManyDefinitions),

@@ -155,8 +155,8 @@ fn end_all(
     Ok(())
 }
 
-/// Registers sixteen definitions.
-fn begin_sixteen(
+/// Registers as many definitions as may be active.
+fn begin_many(
     alloc: Global,
     log: &Log,
     main: &mut Pass,
@@ -165,13 +165,13 @@ fn begin_sixteen(
     requires { IsKept log.now main.old registrar.old }
     ensures { IsKept log.now main.new registrar.new }
 {
-    for n in 0..16 {
+    for n in 0..32 {
         begin_bound(alloc, log, main, registrar, n)?;
     }
     Ok(())
 }
 
-/// Ends the oldest definition and registers another one, 240 times.
+/// Ends the oldest definition and registers another one, 224 times.
 fn change_all(
     alloc: Global,
     log: &Log,
@@ -181,8 +181,8 @@ fn change_all(
     requires { IsKept log.now main.old registrar.old }
     ensures { IsKept log.now main.new registrar.new }
 {
-    for n in 16..256 {
-        end_all(alloc, log, main, registrar, (n - 16, n - 15))?;
+    for n in 32..256 {
+        end_all(alloc, log, main, registrar, (n - 32, n - 31))?;
         begin_bound(alloc, log, main, registrar, n)?;
     }
     Ok(())
@@ -205,7 +205,7 @@ fn expect_begun<R: Abort>(
     Ok(())
 }
 
-/// Asserts that 16 definitions are active at most, at version 16 and at version 496.
+/// Asserts that 32 definitions are active at most, at version 32 and at version 480.
 fn expect_few_active<R: Abort>(
     rt: &R,
     alloc: Global,
@@ -217,7 +217,7 @@ fn expect_few_active<R: Abort>(
     ensures { IsKept log.now main.new registrar.new }
 {
     let active = Err(RegRefusal::TooManyActive);
-    begin_sixteen(alloc, log, main, registrar)?;
+    begin_many(alloc, log, main, registrar)?;
     expect_begun(rt, alloc, log, main, registrar, &active)?;
     change_all(alloc, log, main, registrar)?;
     expect_begun(rt, alloc, log, main, registrar, &active)
@@ -236,9 +236,9 @@ fn expect_few<R: Abort>(
 {
     let rows = Err(RegRefusal::TooManyDefinitions);
     let versions = Err(RegRefusal::TooManyVersions);
-    end_all(alloc, log, main, registrar, (240, 241))?;
+    end_all(alloc, log, main, registrar, (224, 225))?;
     expect_begun(rt, alloc, log, main, registrar, &rows)?;
-    end_all(alloc, log, main, registrar, (241, 256))?;
+    end_all(alloc, log, main, registrar, (225, 256))?;
     expect_begun(rt, alloc, log, main, registrar, &versions)
 }
 

@@ -43,6 +43,42 @@ const KINDS: &[u64] = &[
     0,
 ];
 
+/// Three values under one id.
+const SEVERAL: &[u64] = &[
+    0x5c01_080c_0004,
+    0,
+    0x3000_0000,
+    6,
+    0,
+    0x10_3000_0000,
+    0x806,
+    0,
+    0x20_3000_0000,
+    0x1004,
+    0x1_6261,
+    0x3a22_7367_6174_227b,
+    0x2262_222c_2261_225b,
+    0x7d_5d65_7572_742c,
+    0,
+    0,
+];
+
+/// One value under two ids.
+const TWO_IDS: &[u64] = &[
+    0x801_0808_0003,
+    0,
+    0x3000_0000,
+    6,
+    0,
+    0x10_4000_0000,
+    0x806,
+    0x6161,
+    0x7d7b,
+    0,
+    0,
+    0,
+];
+
 /// Neither a key nor a payload.
 const BARE: &[u64] = &[0x1000_0001, 0, 0, 0];
 
@@ -58,6 +94,14 @@ const BODIES: &[(&[u64], &str)] = &[
         "Csv 16 512 268435455 [5 0 true] [0 7 int -2] [18446744073709551615 255 text é] a,b / Csv 16 a,b / true",
     ),
     (BARE, "Json 2 0 0  / Json 2  / true"),
+    (
+        SEVERAL,
+        "Json 1 1 0 [0 3 text a] [0 3 text b] [0 3 true] {\"tags\":[\"a\",\"b\",true]} / Json 1 {\"tags\":[\"a\",\"b\",true]} / true",
+    ),
+    (
+        TWO_IDS,
+        "Json 1 1 0 [0 3 text a] [0 4 text a] {} / Json 1 {} / true",
+    ),
 ];
 
 /// A record's form, lane, version, number, keys and payload.
@@ -135,7 +179,7 @@ fn bodies(rt: HostRuntime) -> Result<(), Fail> {
     Ok(())
 }
 
-/// A word of `KINDS`, the bits of it that are turned, and what is wrong then.
+/// A word of `KINDS`, the bits of it that are turned, and what is wrong then; two equal ids are not.
 const TURNED: &[((usize, u64, &str), &str)] = &[
     ((0, 1 << 0, "a line more than there is"), "none"),
     ((0, 1 << 17, "a form that there is not"), "none"),
@@ -146,7 +190,10 @@ const TURNED: &[((usize, u64, &str), &str)] = &[
     ((0, 1 << 42, "a payload of two bytes"), "none"),
     ((0, 1 << 62, "bit 62 of the header"), "none"),
     ((2, 1 << 0, "two numbers in one record"), "none"),
-    ((2, 7 << 28, "two equal ids"), "none"),
+    (
+        (2, 7 << 28, "two equal ids, of different values"),
+        "Csv 16 512 268435455 [5 7 true] [0 7 int -2] [18446744073709551615 255 text é] a,b",
+    ),
     ((2, 255 << 28, "ids out of order"), "none"),
     ((2, 1 << 36, "an entry out of place"), "none"),
     ((2, 1 << 45, "bit 45 of an entry"), "none"),
@@ -232,6 +279,66 @@ const OTHERS: &[((&[u64], &str), &str)] = &[
         "none",
     ),
     ((&[0x2_0001, 0, 0, 0], "a void"), "none"),
+    (
+        (
+            &[
+                0x801_0808_0003,
+                0,
+                0x3000_0000,
+                6,
+                7,
+                0x10_3000_0000,
+                0x806,
+                0x6161,
+                0x7d7b,
+                0,
+                0,
+                0,
+            ],
+            "an entry twice, with another previous node",
+        ),
+        "none",
+    ),
+    (
+        (
+            &[
+                0x801_080c_0003,
+                0,
+                0x3000_0000,
+                6,
+                0,
+                0x10_3000_0000,
+                0x806,
+                0,
+                0x20_3000_0000,
+                0x1006,
+                0x61_6261,
+                0x7d7b,
+            ],
+            "an entry twice, with another one between",
+        ),
+        "none",
+    ),
+    (
+        (
+            &[
+                0x801_0808_0003,
+                0,
+                0x4000_0000,
+                6,
+                0,
+                0x10_3000_0000,
+                0x806,
+                0x6261,
+                0x7d7b,
+                0,
+                0,
+                0,
+            ],
+            "ids that descend, of other values",
+        ),
+        "none",
+    ),
 ];
 
 /// Words of which one has other bits turned.

@@ -2,7 +2,6 @@
 use Rattle.std.proofs.Common.{ℕ, List, [], ◌∷◌, ◌++◌, length, take, ap, ◌∙◌, sym, append_assoc, arith, length-append}
 use Rattle.fish_layout.specs.Body.{key_words, value_word}
 use Rattle.fish_layout.proofs.Entries.{few_bytes_at, key_words-more, proper_at, values_of-more}
-use Rattle.fish_layout.proofs.Sizes.{few_keys}
 use Rattle.fish_layout.proofs.write.push_keys.Goals as goal
 
 pub pack_entry-requires-clause-id : goal.pack_entry-requires-clause-id
@@ -11,7 +10,7 @@ pack_entry-requires-clause-id c =
     c.index-keys-place.is).0
 
 pub pack_entry-requires-clause-place : goal.pack_entry-requires-clause-place
-pack_entry-requires-clause-place c = omega (arith, few_keys 0 c.args.keys.now (omega arith) c.requires.keys)
+pack_entry-requires-clause-place c = omega (arith, c.requires.few)
 
 pub push_key-requires-clause-value : goal.push_key-requires-clause-value
 push_key-requires-clause-value c =
@@ -22,16 +21,16 @@ pub push_key-requires-clause-offset : goal.push_key-requires-clause-offset
 push_key-requires-clause-offset c =
     omega (
       arith,
-      few_bytes_at c.args.keys.now c.loop-place.place c.index-keys-place.result c.requires.keys (omega arith)
-          c.index-keys-place.is,
+      few_bytes_at c.args.keys.now c.loop-place.place c.index-keys-place.result c.requires.few c.requires.keys
+          (omega arith) c.index-keys-place.is,
     )
 
 pub overflow_add-offset : goal.overflow_add-offset
 overflow_add-offset c =
     omega (
       arith,
-      few_bytes_at c.args.keys.now c.loop-place.place c.index-keys-place.result c.requires.keys (omega arith)
-          c.index-keys-place.is,
+      few_bytes_at c.args.keys.now c.loop-place.place c.index-keys-place.result c.requires.few c.requires.keys
+          (omega arith) c.index-keys-place.is,
     )
 
 pub loop-place-preserved : goal.loop-place-preserved
