@@ -7,7 +7,7 @@ use Rattle.serde_json.specs.Data.{Data}
 use Rattle.serde_json.specs.Read.{read}
 use Rattle.fish_value.specs.Json.{reading}
 use Rattle.fish_value.specs.declared.field.Field.TheVariants.{Missing}
-use Rattle.fish_json.specs.Reading.{at_path, field, field_in, field_of, if_object, record_of}
+use Rattle.fish_json.specs.Reading.{at_path, items, items_in, items_of, field, field_in, field_of, if_object, record_of}
 use Rattle.fish_value.specs.Limits.{longest_payload}
 
 -- what a payload has at a path is what its record has there
@@ -15,6 +15,12 @@ pub field_of_record : (b : List ℕ) (path : List (List ℕ)) (d : Data) → rec
     → field b path ≡ field_in path d
 unfolding field field_in
 field_of_record b path d e = ap (λ r. field_of (option_and_then (at_path path) r)) e
+
+-- and the elements at a path are those of the payload
+pub items_of_record : (b : List ℕ) (path : List (List ℕ)) (d : Data) → record_of b ≡ Some d
+    → items b path ≡ items_in path d
+unfolding items items_in
+items_of_record b path d e = ap (λ r. items_of (option_and_then (at_path path) r)) e
 
 -- bytes that are no record have nothing at any path
 pub field_of_none : (b : List ℕ) (path : List (List ℕ)) → record_of b ≡ None → field b path ≡ Missing

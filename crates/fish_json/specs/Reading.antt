@@ -1,6 +1,6 @@
 -- Which bytes are a record in JSON, and what it has at a path.
 use Rattle.std.specs.Prelude.{ℕ, ℤ, List, [], ◌∷◌, length, nat_le, Option, Some, None, option_and_then, if◌then◌else◌}
-use Rattle.serde_json.specs.Data.{Data, null, boolean, number, string, array, object}
+use Rattle.serde_json.specs.Data.{Data, Items, null, boolean, number, string, array, object, no_items, item}
 use Rattle.serde_json.specs.Find.{as_i64, get}
 use Rattle.fish_value.specs.Json.{reading}
 use Rattle.fish_value.specs.declared.field.Field.{Field}
@@ -43,6 +43,24 @@ field_of (Some d) = kind_of d
 -- what a record that was read has at a path
 unfoldable pub field_in : List (List ℕ) → Data → Field
 field_in path d = field_of (at_path path d)
+
+-- the fields of an array's elements
+abbrev pub item_fields : Items → List Field
+item_fields no_items = []
+item_fields (item d ds) = kind_of d ∷ item_fields ds
+
+-- the fields of the elements of what was found: none where that is no array
+abbrev pub items_of : Option Data → List Field
+items_of (Some (array ds)) = item_fields ds
+items_of _ = []
+
+-- the fields of the elements of the array that a record that was read has at a path
+unfoldable pub items_in : List (List ℕ) → Data → List Field
+items_in path d = items_of (at_path path d)
+
+-- the fields of the elements of the array that a payload has at a path
+unfoldable pub items : List ℕ → List (List ℕ) → List Field
+items payload path = items_of (option_and_then (at_path path) (record_of payload))
 
 -- what a payload has at a path: Missing where the bytes are no record
 unfoldable pub field : List ℕ → List (List ℕ) → Field

@@ -3,9 +3,9 @@ use Rattle.std.specs.Prelude.{◌≡◌, ℕ, ◌+◌, ◌-◌, List, [], ◌∷
 use Rattle.std.specs.Prelude.{option_and_then, is_some, MatchOption}
 use Rattle.json.specs.Token.{Token, begin_object, end_object, begin_array, end_array, key, string, number, boolean, null, bad}
 use Rattle.json.specs.Json as json
-use Rattle.json.specs.Find.{BeginsWith}
-use Rattle.serde_json.specs.Data.{Data}
-use Rattle.serde_json.specs.Read.{max_depth, number_of, of_json}
+use Rattle.json.specs.Find.{BeginsWith, InItems}
+use Rattle.serde_json.specs.Data.{Data, Items}
+use Rattle.serde_json.specs.Read.{max_depth, number_of, of_items, of_json}
 
 -- the data that tokens begin with, where it is data
 unfoldable pub data_at : List Token → Option Data
@@ -14,6 +14,10 @@ data_at ts = option_and_then of_json (option_map (λ p. p.0) (json.value json.ma
 -- the tokens begin with a value whose data is d
 abbrev pub Stands : List Token → Data → Type 0
 Stands ts d = (j : json.Json) × BeginsWith ts j × (of_json j ≡ Some d)
+
+-- the tokens stand within items whose data is ds
+abbrev pub StandItems : List Token → Items → Type 0
+StandItems ts ds = (js : json.Items) × InItems ts js × (of_items js ≡ Some ds)
 
 -- r stands where the data o begins, if there is one
 abbrev pub FindsData : Option (List Token) → Option Data → Type 0

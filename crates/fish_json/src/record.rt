@@ -1,14 +1,14 @@
 //! One record: the JSON object that a line is.
 
-ghost use Rattle.std.specs.Prelude.{◌≡◌, ◌≢◌, ◌<◌, ◌≤◌, ◌↔◌, length, Some, None, IfOk, IfErr, OnOk, IsSome, IsErrOf, option_map};
+ghost use Rattle.std.specs.Prelude.{◌≡◌, ◌≢◌, ◌<◌, ◌≤◌, ◌↔◌, length, Some, None, IfOk, IfErr, OnOk, IsSome, IsErrOf, map, option_map};
 ghost use Rattle.serde_json.specs.Data.{Data};
 ghost use Rattle.serde_json.specs.View.{view};
 ghost use Rattle.fish_value.specs.Json.{reading};
 ghost use Rattle.fish_value.specs.Limits.{longest_payload};
 ghost use Rattle.fish_value.specs.Seen.{field_seen};
-ghost use Rattle.fish_json.specs.Reading.{at_path, field_in, kind_of, record_of};
+ghost use Rattle.fish_json.specs.Reading.{at_path, items_in, items_of, field_in, kind_of, record_of};
 
-use fish_value::{Field, FieldView, Path, Text, read_json};
+use fish_value::{Field, FieldView, Fields, Path, Sequence, Text, read_json};
 use std::alloc::{AllocError, Global};
 use thiserror::Error;
 
@@ -74,20 +74,16 @@ impl JsonRecord {
         Ok(JsonRecord { value })
     }
 
-    /// What the record has at a path, its text lent. An object, an array, and a number that is no
+    /// What the record has at a path, its text borrowed. An object, an array, and a number that is no
     /// whole number of 64 bits are [`FieldView::Other`]. It takes no memory.
-    #[tactic(auto, unfolding(crate::specs::Contents::contents, crate::specs::Reading::field_in))]
+    #[tactic(auto, unfolding(crate::specs::Reading::field_in))]
     pub fn look(&self, path: &Path) -> FieldView<'_>
         ensures { field_seen result ≡ field_in path.now (contents self.now) }
     {
-        let (first, more) = path.parts();
-        let Some(outer) = self.value.get(first.as_str()) else {
-            return FieldView::Missing;
-        };
-        let Some(inner) = walk(outer, more) else {
-            return FieldView::Missing;
-        };
-        field(inner)
+        match self.value_at(path) {
+            Some(value) => field(value),
+            None => FieldView::Missing,
+        }
     }
 
     /// The same, its text copied.
@@ -96,6 +92,72 @@ impl JsonRecord {
     {
         self.look(path).to_field(alloc)
     }
+
+    /// The elements of the array at a path as fields, their texts borrowed: none where no array is
+    /// there. Memory and time in the number of the elements.
+    #[tactic(auto, unfolding(crate::specs::Reading::items_in))]
+    pub fn look_each(&self, alloc: Global, path: &Path) -> Result<Sequence<FieldView<'_>>, AllocError>
+        ensures { IfOk result (λ fields. map field_seen fields ≡ items_in path.now (contents self.now)) }
+    {
+        match self.value_at(path) {
+            Some(value) => elements(alloc, value),
+            None => Ok(Sequence::new(alloc)),
+        }
+    }
+
+    /// The same, their texts copied.
+    pub fn get_each(&self, alloc: Global, path: &Path) -> Result<Fields, AllocError>
+        ensures { IfOk result (λ fields. fields ≡ items_in path.now (contents self.now)) }
+    {
+        to_fields(alloc, &self.look_each(alloc, path)?)
+    }
+
+    /// Where a path leads.
+    #[tactic(auto, unfolding(crate::specs::Contents::contents))]
+    fn value_at(&self, path: &Path) -> Option<&serde_json::Value>
+        ensures { option_map (λ found. view found.now) result ≡ at_path path.now (contents self.now) }
+    {
+        let (first, more) = path.parts();
+        walk(self.value.get(first.as_str())?, more)
+    }
+}
+
+/// Fields that own their texts, which are copied.
+pub(crate) fn to_fields(
+    alloc: Global,
+    views: &Sequence<FieldView<'_>>,
+) -> Result<Fields, AllocError>
+    ensures { IfOk result (λ fields. fields ≡ map field_seen views.now) }
+{
+    let mut fields = Fields::new(alloc);
+    for view in views.as_slice() {
+        fields.push(view.to_field(alloc)?)?;
+    }
+    Ok(fields)
+}
+
+/// The elements of an array as fields, their texts borrowed: none of any other value.
+fn elements(
+    alloc: Global,
+    value: &serde_json::Value,
+) -> Result<Sequence<FieldView<'_>>, AllocError>
+    ensures { IfOk result (λ fields. map field_seen fields ≡ items_of (Some (view value.now))) }
+{
+    match value.as_array() {
+        Some(values) => fields(alloc, values.as_slice()),
+        None => Ok(Sequence::new(alloc)),
+    }
+}
+
+/// Values as fields, their texts borrowed.
+fn fields(alloc: Global, values: &[serde_json::Value]) -> Result<Sequence<FieldView<'_>>, AllocError>
+    ensures { IfOk result (λ fields. map field_seen fields ≡ map (λ v. kind_of (view v)) values.now) }
+{
+    let mut fields = Sequence::new(alloc);
+    for value in values {
+        fields.push(field(value))?;
+    }
+    Ok(fields)
 }
 
 /// Where names lead from a value, through objects.

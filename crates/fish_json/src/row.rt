@@ -1,16 +1,18 @@
 //! A record read over a tape of its text. No tree is made of it.
 
-ghost use Rattle.std.specs.Prelude.{◌≡◌, IfOk, IsSome, unwrap_or, option_and_then};
+ghost use Rattle.std.specs.Prelude.{◌≡◌, IfOk, IsSome, Some, map, unwrap_or, option_and_then};
 ghost use Rattle.serde_json.specs.Data.{Data, null};
+ghost use Rattle.serde_json.specs.Data.{Items as DataItems};
 ghost use Rattle.serde_json.specs.Find.{as_i64, get};
 ghost use Rattle.serde_json.specs.Read.{number_of};
 ghost use Rattle.fish_value.specs.Seen.{field_seen};
-ghost use Rattle.fish_json.specs.Reading.{at_path, field_in, int_or_other, kind_of};
-ghost use Rattle.fish_json.specs.Tape.{data_at, FindsData, Stands};
+ghost use Rattle.fish_json.specs.Reading.{at_path, items_in, items_of, field_in, int_or_other, item_fields, kind_of};
+ghost use Rattle.fish_json.specs.Tape.{data_at, FindsData, StandItems, Stands};
 
 use crate::number::as_int;
-use fish_value::{Field, FieldView, Path, Text};
-use json::{Element, Tape};
+use crate::record::to_fields;
+use fish_value::{Field, FieldView, Fields, Path, Sequence, Text};
+use json::{Element, Items, Tape};
 use std::alloc::{AllocError, Global};
 
 /// A record that was read. It lends the text and the memory of the reader.
@@ -49,6 +51,24 @@ impl<'a> JsonRow<'a> {
         ensures { IfOk result (λ field. field ≡ field_in path.now (row_contents self.now)) }
     {
         self.look(path).to_field(alloc)
+    }
+
+    /// The elements of the array at a path as fields, their texts borrowed: none where no array is
+    /// there. Memory in the number of the elements, and time in the length of the array.
+    pub fn look_each(&self, alloc: Global, path: &Path) -> Result<Sequence<FieldView<'_>>, AllocError>
+        ensures { IfOk result (λ fields. map field_seen fields ≡ items_in path.now (row_contents self.now)) }
+    {
+        match self.find(path) {
+            Some(value) => elements(alloc, &value),
+            None => Ok(Sequence::new(alloc)),
+        }
+    }
+
+    /// The same, their texts copied.
+    pub fn get_each(&self, alloc: Global, path: &Path) -> Result<Fields, AllocError>
+        ensures { IfOk result (λ fields. fields ≡ items_in path.now (row_contents self.now)) }
+    {
+        to_fields(alloc, &self.look_each(alloc, path)?)
     }
 
     /// Where a path leads.
@@ -105,4 +125,32 @@ fn number(text: &str) -> FieldView<'_>
         Some(number) => FieldView::Int(number),
         None => FieldView::Other,
     }
+}
+
+/// The elements of an array as fields, their texts borrowed: none of any other value.
+fn elements<'a>(
+    alloc: Global,
+    value: &Element<'_, 'a>,
+) -> Result<Sequence<FieldView<'a>>, AllocError>
+    ensures { IfOk result (λ fields. (d : Data) → Stands value.now d → map field_seen fields ≡ items_of (Some d)) }
+{
+    match value.items() {
+        Some(items) => fields_left(alloc, items),
+        None => Ok(Sequence::new(alloc)),
+    }
+}
+
+/// The elements that are left as fields, their texts borrowed.
+fn fields_left<'a>(
+    alloc: Global,
+    items: Items<'_, 'a>,
+) -> Result<Sequence<FieldView<'a>>, AllocError>
+    ensures { IfOk result (λ fields. (ds : DataItems) → StandItems items.entry ds → map field_seen fields ≡ item_fields ds) }
+{
+    let mut fields = Sequence::new(alloc);
+    let mut rest = items;
+    while let Some(value) = rest.next() {
+        fields.push(field(&value))?;
+    }
+    Ok(fields)
 }

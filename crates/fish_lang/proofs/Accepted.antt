@@ -9,7 +9,7 @@ use Rattle.fish_lang.specs.Grammar.{Spot, spot, spelled, spots, step_token, path
 use Rattle.fish_lang.specs.Grammar.{cond_spots, conj_spots, neg_spots}
 use Rattle.fish_lang.specs.Derivation.{Step, ident, string, Path, one_step, more_steps, Literal, truth, number, text}
 use Rattle.fish_lang.specs.Derivation.{Test, compare, exist, start, Cond, one_conj, more_conjs, Conj, one_neg}
-use Rattle.fish_lang.specs.Derivation.{more_negs, Neg, not_neg, group, test, Derivation, take_def, bucket_def, flag_def}
+use Rattle.fish_lang.specs.Derivation.{more_negs, Neg, not_neg, group, test, Derivation, take_def, each_def, bucket_def, flag_def}
 use Rattle.fish_lang.specs.Derivation.{step_name, path_steps, literal_value, test_formula, cond_formula, conj_formula}
 use Rattle.fish_lang.specs.Derivation.{neg_formula, meaning}
 use Rattle.fish_lang.specs.Language.{kinds, unrefused, IsRead, IsAccepted}
@@ -135,7 +135,12 @@ record Keeps (d : Definition) : Type 0 where
 keeps : (tree : Derivation) → AreGood (spots tree) → Keeps (meaning tree)
 keeps (take_def p None) h =
     record { writable = (path-good p (good-front (path_spots p) _ h.2).0, tt); shallow = omega arith }
+keeps (each_def p None) h =
+    record { writable = (path-good p (good-front (path_spots p) _ h.2).0, tt); shallow = omega arith }
 keeps (take_def p (Some c)) h =
+    let parts = good-front (path_spots p) _ h.2 in
+    record { writable = (path-good p parts.0, cond-good c 0 parts.1.2); shallow = whole-deep c parts.1.2 }
+keeps (each_def p (Some c)) h =
     let parts = good-front (path_spots p) _ h.2 in
     record { writable = (path-good p parts.0, cond-good c 0 parts.1.2); shallow = whole-deep c parts.1.2 }
 keeps (bucket_def p None w) h = let parts = good-front (path_spots p) _ h.2 in cc (parts.1.2.0)

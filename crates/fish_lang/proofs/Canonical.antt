@@ -4,7 +4,7 @@ use Rattle.std.specs.Prelude.{Bool, true, false, nat_lt, Option, Some, None, opt
 use Rattle.std.proofs.lemmas.Bool.Decides.{nat_tests}
 use Rattle.fish_value.specs.declared.value.Value.{Value}
 use Rattle.fish_value.specs.declared.value.Value.TheVariants as value
-use Rattle.fish_lang.specs.Definition.{Steps, Formula, compares, is_there, begins, negated, both, either, Definition, takes, buckets, flags}
+use Rattle.fish_lang.specs.Definition.{Steps, Formula, compares, is_there, begins, negated, both, either, Definition, takes, eaches, buckets, flags}
 use Rattle.fish_lang.specs.Grammar.{Spot, keyword, spots, path_spots, literal_spot, test_spots, cond_spots, conj_spots}
 use Rattle.fish_lang.specs.Grammar.{neg_spots, width_fault, nesting_fault, when_spots}
 use Rattle.fish_lang.specs.Derivation.{Path, one_step, more_steps, compare, exist, start, step_name, path_steps}
@@ -71,6 +71,7 @@ when-means (Some a) h = rw ((means a h).cond)
 
 pub derivation-means : (d : Definition) → IsWritable d → meaning (derivation_of d) ≡ d
 derivation-means (takes p w) h = rw (path-means p h.0, when-means w h.1)
+derivation-means (eaches p w) h = rw (path-means p h.0, when-means w h.1)
 derivation-means (buckets p n w) h = rw (path-means p h.0, when-means w h.3)
 derivation-means (flags a) h = rw ((means a h).cond)
 
@@ -165,6 +166,7 @@ when_depth (Some a) = cond_depth (cond_of a)
 
 abbrev pub IsShallow : Definition → Type 0
 IsShallow (takes p w) = when_depth w ≤ 16
+IsShallow (eaches p w) = when_depth w ≤ 16
 IsShallow (buckets p n w) = (when_depth w ≤ 16) × (width_fault (Some n) ≡ None)
 IsShallow (flags a) = cond_depth (cond_of a) ≤ 16
 
@@ -174,6 +176,8 @@ when-fine (Some a) h = (refl, cond-fine a 0 (omega arith))
 
 pub derivation-fine : (d : Definition) → IsShallow d → AreFine (spots (derivation_of d))
 derivation-fine (takes p w) h =
+    (refl, fine-append (path_spots (path_of p)) _ (path-fine (path_of p)) (when-fine w h))
+derivation-fine (eaches p w) h =
     (refl, fine-append (path_spots (path_of p)) _ (path-fine (path_of p)) (when-fine w h))
 derivation-fine (buckets p n w) h =
     (refl, fine-append (path_spots (path_of p)) _ (path-fine (path_of p)) (refl, (h.1, when-fine w h.0)))

@@ -6,7 +6,7 @@ use Rattle.fish_value.specs.Number.{int_of}
 use Rattle.fish_lang.specs.Definition.{Definition}
 use Rattle.fish_lang.specs.Grammar.{Spot, spot, keyword, spots, path_spots}
 use Rattle.fish_lang.specs.Derivation.{Step, ident, Path, one_step, more_steps, truth, Cond, one_conj, more_conjs}
-use Rattle.fish_lang.specs.Derivation.{one_neg, Neg, compare, exist, start, test, Derivation, take_def, bucket_def}
+use Rattle.fish_lang.specs.Derivation.{one_neg, Neg, compare, exist, start, test, Derivation, take_def, each_def, bucket_def}
 use Rattle.fish_lang.specs.Derivation.{flag_def, meaning, cond_formula}
 use Rattle.fish_lang.specs.Moves.{finish, definition_with}
 use Rattle.fish_lang.specs.declared.token.Keyword.TheVariants as word
@@ -16,8 +16,8 @@ use Rattle.fish_lang.specs.Token.{token_of, keyword_of, condition_word, literal_
 use Rattle.fish_lang.specs.declared.token.Token.{Token}
 use Rattle.fish_lang.proofs.Lexed.{string-token}
 use Rattle.fish_lang.proofs.Trees.{Whole, Joint, Operand, in_joint, behind_and, under_not, whole_behind, top, in_group}
-use Rattle.fish_lang.proofs.Trees.{in_whole, behind_or, Head, take_when, bucket_when, flag_when, Owner, of_take}
-use Rattle.fish_lang.proofs.Trees.{of_bucket, of_test, Tree, start_tree, flag_tree, first_of_take, first_of_bucket}
+use Rattle.fish_lang.proofs.Trees.{in_whole, behind_or, Head, take_when, each_when, bucket_when, flag_when, Owner, of_take, of_each}
+use Rattle.fish_lang.proofs.Trees.{of_bucket, of_test, Tree, start_tree, flag_tree, first_of_take, first_of_each, first_of_bucket}
 use Rattle.fish_lang.proofs.Trees.{behind_dot, behind_step, width, behind_width, operand, literal, prefix}
 use Rattle.fish_lang.proofs.Trees.{behind_operand, head_state, state_of, before, owner_before, with_cond}
 use Rattle.fish_lang.proofs.Trees.{with_cond-spots, round, round_joint, behind, joint_behind, round-spots}
@@ -30,6 +30,10 @@ IsToken t = (bytes : List ℕ) × (token_of bytes ≡ Some t)
 take-token : IsToken (kind.Keyword word.Take)
 unfolding token_of keyword_of condition_word literal_word
 take-token = (codes "take", refl)
+
+each-token : IsToken (kind.Keyword word.Each)
+unfolding token_of keyword_of condition_word literal_word
+each-token = (codes "each", refl)
 
 by-token : IsToken (kind.Keyword word.By)
 unfolding token_of keyword_of condition_word literal_word
@@ -99,6 +103,7 @@ some_width = record { token = kind.Number false (Some (pos 1)); fault = None }
 -- behind a step any part can end
 path_finishes : (o : Owner) (p : Path) → Finishes (owner_before o ++ path_spots p)
 path_finishes of_take p = record { tree = take_def p None; more = []; real = tt; spells = refl }
+path_finishes of_each p = record { tree = each_def p None; more = []; real = tt; spells = refl }
 path_finishes of_bucket p = record {
   tree = bucket_def p (Some (pos 1)) None;
   more = keyword word.By ∷ some_width ∷ [];
@@ -127,6 +132,12 @@ finishes flag_tree = record {
 }
 finishes first_of_take = record {
   tree = take_def (one_step some_step) None;
+  more = spot (kind.Ident (codes "a")) ∷ [];
+  real = (ident-token, tt);
+  spells = refl;
+}
+finishes first_of_each = record {
+  tree = each_def (one_step some_step) None;
   more = spot (kind.Ident (codes "a")) ∷ [];
   real = (ident-token, tt);
   spells = refl;
@@ -189,12 +200,14 @@ pub record Ends (tree : Tree) (d : Definition) : Type 0 where
 with_cond-means : (k : Head) (c : Cond) → definition_with (head_state k) (cond_formula c)
     ≡ meaning (with_cond k c)
 with_cond-means (take_when p) c = refl
+with_cond-means (each_when p) c = refl
 with_cond-means (bucket_when p n) c = refl
 with_cond-means flag_when c = refl
 
 -- where a source may end
 pub ends : (tree : Tree) (d : Definition) → finish (state_of tree) ≡ Some d → Ends tree d
 ends (behind_step of_take p) d h = record { whole = take_def p None; spells = simp append-nil; means = cc }
+ends (behind_step of_each p) d h = record { whole = each_def p None; spells = simp append-nil; means = cc }
 ends (behind_width p n) d h = record { whole = bucket_def p n None; spells = refl; means = cc }
 ends (behind_operand k (in_whole top) c) d h = record {
   whole = with_cond k (one_conj c);

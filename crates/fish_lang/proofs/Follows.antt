@@ -6,7 +6,7 @@ use Rattle.fish_lang.specs.Grammar.{Spot, spot, path_spots, step_token, literal_
 use Rattle.fish_lang.specs.Grammar.{conj_spots, neg_spots, spots}
 use Rattle.fish_lang.specs.Derivation.{Step, ident, string, Path, one_step, more_steps, Literal, truth, number, text}
 use Rattle.fish_lang.specs.Derivation.{Test, compare, exist, start, Cond, one_conj, more_conjs, Conj, one_neg}
-use Rattle.fish_lang.specs.Derivation.{more_negs, Neg, not_neg, group, test, Derivation, take_def, bucket_def, flag_def}
+use Rattle.fish_lang.specs.Derivation.{more_negs, Neg, not_neg, group, test, Derivation, take_def, each_def, bucket_def, flag_def}
 use Rattle.fish_lang.specs.Derivation.{path_steps, step_name, literal_value, test_formula, cond_formula, conj_formula}
 use Rattle.fish_lang.specs.Derivation.{neg_formula, meaning}
 use Rattle.fish_lang.specs.Machine as machine
@@ -165,6 +165,17 @@ followed (take_def p None) = record {
   );
   finishes = refl;
 }
+followed (each_def p None) = record {
+  state = machine.behind_step machine.of_each (path_steps p);
+  follows = (
+    machine.step machine.of_each [],
+    refl,
+    refl,
+    Follows-append (path_spots p) [] _ _ _
+        (path_follows machine.of_each p) refl,
+  );
+  finishes = refl;
+}
 followed (take_def p (Some c)) = record {
   state = behind_cond (machine.take_when (path_steps p)) machine.top c;
   follows = (
@@ -181,6 +192,23 @@ followed (take_def p (Some c)) = record {
         ),
   );
   finishes = finish_cond (machine.take_when (path_steps p)) c;
+}
+followed (each_def p (Some c)) = record {
+  state = behind_cond (machine.each_when (path_steps p)) machine.top c;
+  follows = (
+    machine.step machine.of_each [],
+    refl,
+    refl,
+    Follows-append (path_spots p) _ _ _ _
+        (path_follows machine.of_each p) (
+          machine.operand (machine.each_when (path_steps p))
+              (at_front machine.top),
+          refl,
+          refl,
+          cond_follows (machine.each_when (path_steps p)) machine.top c,
+        ),
+  );
+  finishes = finish_cond (machine.each_when (path_steps p)) c;
 }
 followed (bucket_def p n None) = record {
   state = machine.behind_width (path_steps p) (unwrap_or n (pos 0));

@@ -2,15 +2,15 @@
 use Rattle.std.proofs.Common.{◌≡◌, ℕ, List, [], ◌∷◌, ◌++◌, refl, ◌∙◌, ap, append_assoc, append-nil}
 use Rattle.std.specs.Prelude.{false, Option, Some, None, codes}
 use Rattle.fish_lang.specs.Canonical.{path_text, formula_text, when_text, definition_text}
-use Rattle.fish_lang.specs.Definition.{Formula, Definition, takes, buckets, flags}
+use Rattle.fish_lang.specs.Definition.{Formula, Definition, takes, eaches, buckets, flags}
 use Rattle.fish_lang.specs.Grammar.{Spot, spelled, spots, path_spots, cond_spots, when_spots}
-use Rattle.fish_lang.specs.Derivation.{Cond, Derivation, take_def, bucket_def, flag_def}
+use Rattle.fish_lang.specs.Derivation.{Cond, Derivation, take_def, each_def, bucket_def, flag_def}
 use Rattle.std.specs.Fmt.{signed_decimal}
 use Rattle.fish_lang.specs.declared.print.Part.TheVariants.{Whole}
 use Rattle.fish_lang.specs.declared.token.Keyword.TheVariants as word
 use Rattle.fish_lang.specs.declared.token.Token.TheVariants as kind
 use Rattle.fish_lang.proofs.Depths.{path_of, cond_of}
-use Rattle.fish_lang.proofs.Lexed.{lexed-take, lexed-bucket, lexed-flag, lexed-when, lexed-by}
+use Rattle.fish_lang.proofs.Lexed.{lexed-take, lexed-each, lexed-bucket, lexed-flag, lexed-when, lexed-by}
 use Rattle.fish_lang.proofs.Numerals.{lexed-int}
 use Rattle.fish_lang.proofs.Ways.{spelled-append}
 use Rattle.fish_lang.proofs.Words.{lexed, lexed-none, lexed-blank, EndsWord}
@@ -24,6 +24,7 @@ when_of (Some a) = Some (cond_of a)
 
 abbrev pub derivation_of : Definition → Derivation
 derivation_of (takes p w) = take_def (path_of p) (when_of w)
+derivation_of (eaches p w) = each_def (path_of p) (when_of w)
 derivation_of (buckets p n w) = bucket_def (path_of p) (Some n) (when_of w)
 derivation_of (flags a) = flag_def (cond_of a)
 
@@ -47,6 +48,11 @@ definition-lexed-nil : (d : Definition) → IsWritable d → lexed (definition_t
 definition-lexed-nil (takes p w) h =
     simp (append_assoc, spelled-append)
     (lexed-take (path_text p ++ (when_text w ++ [])) ∙ ap (λ ts. kind.Keyword word.Take ∷ ts)
+    (path-lexed p (when_text w ++ []) h.0 (when-ends w)
+    ∙ ap (λ ts. spelled (path_spots (path_of p)) ++ ts) (when-lexed w h.1)))
+definition-lexed-nil (eaches p w) h =
+    simp (append_assoc, spelled-append)
+    (lexed-each (path_text p ++ (when_text w ++ [])) ∙ ap (λ ts. kind.Keyword word.Each ∷ ts)
     (path-lexed p (when_text w ++ []) h.0 (when-ends w)
     ∙ ap (λ ts. spelled (path_spots (path_of p)) ++ ts) (when-lexed w h.1)))
 definition-lexed-nil (buckets p n w) h =

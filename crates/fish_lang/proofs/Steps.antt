@@ -14,10 +14,10 @@ use Rattle.fish_lang.specs.Moves.{advance, fault_at, finish, name_of, text_of, v
 use Rattle.fish_lang.specs.declared.definition.Op.{Op}
 use Rattle.fish_lang.specs.declared.token.Token.{Token}
 use Rattle.fish_lang.specs.declared.token.Token.TheVariants.{Keyword, Ident, Str, Number, Compare, Open, Close, Dot}
-use Rattle.fish_lang.specs.declared.token.Keyword.TheVariants.{Take, Bucket, Flag, By, When, Not, And, Or, Exists, Starts, True, False}
+use Rattle.fish_lang.specs.declared.token.Keyword.TheVariants.{Take, Each, Bucket, Flag, By, When, Not, And, Or, Exists, Starts, True, False}
 use Rattle.fish_lang.proofs.Trees.{top, in_group, Joint, in_whole, behind_or, Operand, in_joint, behind_and, under_not}
-use Rattle.fish_lang.proofs.Trees.{Head, take_when, bucket_when, flag_when, Owner, of_take, of_bucket, of_test, Tree}
-use Rattle.fish_lang.proofs.Trees.{start_tree, flag_tree, first_of_take, first_of_bucket, behind_dot, behind_step}
+use Rattle.fish_lang.proofs.Trees.{Head, take_when, each_when, bucket_when, flag_when, Owner, of_take, of_each, of_bucket, of_test, Tree}
+use Rattle.fish_lang.proofs.Trees.{start_tree, flag_tree, first_of_take, first_of_each, first_of_bucket, behind_dot, behind_step}
 use Rattle.fish_lang.proofs.Trees.{width, behind_width, operand, literal, prefix, behind_operand, joint_state}
 use Rattle.fish_lang.proofs.Trees.{operand_state, head_state, owner_state, state_of, before, completed, completed-state}
 use Rattle.fish_lang.proofs.Trees.{completed-before}
@@ -82,6 +82,18 @@ from_take t s (Some x) e h =
           rw named.token;
     }
 
+from_each : (t : Token) (s : State) (n : Option (List ℕ)) → name_of t ≡ n
+    → option_map (λ x. machine.behind_step machine.of_each (x ∷ [])) n ≡ Some s → Longer first_of_each t s
+from_each t s None e h = cc
+from_each t s (Some x) e h =
+    let named = names t x e in
+    record {
+      next = behind_step of_each (one_step named.step);
+      stands = rw named.name cc;
+      spells =
+          rw named.token;
+    }
+
 from_bucket : (t : Token) (s : State) (n : Option (List ℕ)) → name_of t ≡ n
     → option_map (λ x. machine.behind_step machine.of_bucket (x ∷ [])) n ≡ Some s → Longer first_of_bucket t s
 from_bucket t s None e h = cc
@@ -100,7 +112,10 @@ from_path : (o : Owner) (p : Path) (t : Token) (s : State)
 from_path o p Dot s h = record { next = behind_dot o p; stands = cc; spells = simp append_assoc }
 from_path of_take p (Keyword When) s h =
     record { next = operand (take_when p) (in_joint (in_whole top)); stands = cc; spells = refl }
+from_path of_each p (Keyword When) s h =
+    record { next = operand (each_when p) (in_joint (in_whole top)); stands = cc; spells = refl }
 from_path of_take p _ s h = cc
+from_path of_each p _ s h = cc
 from_path of_bucket p (Keyword By) s h = record { next = width p; stands = cc; spells = refl }
 from_path of_bucket p _ s h = cc
 from_path (of_test k j) p (Compare op) s h = record {
@@ -218,6 +233,7 @@ from_joint k _ c _ s h = cc
 -- a token that fits makes each longer
 pub longer : (tree : Tree) (t : Token) (s : State) → advance (state_of tree) t ≡ Some s → Longer tree t s
 longer start_tree (Keyword Take) s h = record { next = first_of_take; stands = cc; spells = refl }
+longer start_tree (Keyword Each) s h = record { next = first_of_each; stands = cc; spells = refl }
 longer start_tree (Keyword Bucket) s h = record { next = first_of_bucket; stands = cc; spells = refl }
 longer start_tree (Keyword Flag) s h = record { next = flag_tree; stands = cc; spells = refl }
 longer start_tree _ s h = cc
@@ -225,6 +241,7 @@ longer flag_tree (Keyword When) s h =
     record { next = operand flag_when (in_joint (in_whole top)); stands = cc; spells = refl }
 longer flag_tree _ s h = cc
 longer first_of_take t s h = from_take t s (name_of t) refl h
+longer first_of_each t s h = from_each t s (name_of t) refl h
 longer first_of_bucket t s h = from_bucket t s (name_of t) refl h
 longer (behind_dot o p) t s h = from_dot o p t s (name_of t) refl h
 longer (behind_step o p) t s h = from_path o p t s h

@@ -4,7 +4,7 @@ use Rattle.std.proofs.Common.{◌≡◌, List, [], ◌∷◌, ◌++◌, refl, �
 use Rattle.std.specs.Prelude.{ℤ, pos, false, Option, Some, unwrap_or}
 use Rattle.fish_lang.specs.Grammar.{Spot, spot, keyword, path_spots, nesting_fault, width_fault, cond_spots, conj_spots, neg_spots, spots}
 use Rattle.fish_lang.specs.Derivation.{Path, Cond, one_conj, more_conjs, Conj, one_neg, more_negs, Neg, not_neg, group}
-use Rattle.fish_lang.specs.Derivation.{Derivation, take_def, bucket_def, flag_def, path_steps, cond_formula}
+use Rattle.fish_lang.specs.Derivation.{Derivation, take_def, each_def, bucket_def, flag_def, path_steps, cond_formula}
 use Rattle.fish_lang.specs.Derivation.{conj_formula, neg_formula}
 use Rattle.fish_lang.specs.Machine as machine
 use Rattle.fish_lang.specs.Machine.{State, complete, nesting, joint_nesting, whole_nesting}
@@ -28,11 +28,13 @@ mutual
 
 pub data Head : Type 0 where
   take_when : Path → Head
+  each_when : Path → Head
   bucket_when : Path → Option ℤ → Head
   flag_when : Head
 
 pub data Owner : Type 0 where
   of_take : Owner
+  of_each : Owner
   of_bucket : Owner
   of_test : Head → Operand → Owner
 
@@ -40,6 +42,7 @@ pub data Tree : Type 0 where
   start_tree : Tree
   flag_tree : Tree
   first_of_take : Tree
+  first_of_each : Tree
   first_of_bucket : Tree
   behind_dot : Owner → Path → Tree
   behind_step : Owner → Path → Tree
@@ -67,11 +70,13 @@ abbrev mutual
 
 abbrev pub head_state : Head → machine.Head
 head_state (take_when p) = machine.take_when (path_steps p)
+head_state (each_when p) = machine.each_when (path_steps p)
 head_state (bucket_when p n) = machine.bucket_when (path_steps p) (unwrap_or n (pos 0))
 head_state flag_when = machine.flag_when
 
 abbrev pub owner_state : Owner → machine.Owner
 owner_state of_take = machine.of_take
+owner_state of_each = machine.of_each
 owner_state of_bucket = machine.of_bucket
 owner_state (of_test h k) = machine.of_test (head_state h) (operand_state k)
 
@@ -79,6 +84,7 @@ abbrev pub state_of : Tree → State
 state_of start_tree = machine.start
 state_of flag_tree = machine.flag
 state_of first_of_take = machine.step machine.of_take []
+state_of first_of_each = machine.step machine.of_each []
 state_of first_of_bucket = machine.step machine.of_bucket []
 state_of (behind_dot o p) = machine.step (owner_state o) (path_steps p)
 state_of (behind_step o p) = machine.behind_step (owner_state o) (path_steps p)
@@ -92,6 +98,7 @@ state_of (behind_operand h j c) = machine.behind_operand (head_state h) (joint_s
 -- what each has spelled
 abbrev pub head_spots : Head → List Spot
 head_spots (take_when p) = keyword word.Take ∷ (path_spots p ++ keyword word.When ∷ [])
+head_spots (each_when p) = keyword word.Each ∷ (path_spots p ++ keyword word.When ∷ [])
 head_spots (bucket_when p n) = keyword word.Bucket ∷ (path_spots p
     ++ keyword word.By ∷ record { token = kind.Number false n; fault = width_fault n } ∷ keyword
     word.When ∷ [])
@@ -117,6 +124,7 @@ abbrev mutual
 
 abbrev pub owner_before : Owner → List Spot
 owner_before of_take = keyword word.Take ∷ []
+owner_before of_each = keyword word.Each ∷ []
 owner_before of_bucket = keyword word.Bucket ∷ []
 owner_before (of_test h k) = operand_before h k
 
@@ -124,6 +132,7 @@ abbrev pub before : Tree → List Spot
 before start_tree = []
 before flag_tree = keyword word.Flag ∷ []
 before first_of_take = keyword word.Take ∷ []
+before first_of_each = keyword word.Each ∷ []
 before first_of_bucket = keyword word.Bucket ∷ []
 before (behind_dot o p) = owner_before o ++ (path_spots p ++ spot kind.Dot ∷ [])
 before (behind_step o p) = owner_before o ++ path_spots p
@@ -180,6 +189,7 @@ whole_of-state (behind_or a w) = refl
 -- a whole derivation round a part, and the tokens behind the part
 abbrev pub with_cond : Head → Cond → Derivation
 with_cond (take_when p) c = take_def p (Some c)
+with_cond (each_when p) c = each_def p (Some c)
 with_cond (bucket_when p n) c = bucket_def p n (Some c)
 with_cond flag_when c = flag_def c
 
@@ -213,6 +223,7 @@ abbrev mutual
 
 pub with_cond-spots : (h : Head) (c : Cond) → spots (with_cond h c) ≡ head_spots h ++ cond_spots 0 c
 with_cond-spots (take_when p) c = simp append_assoc
+with_cond-spots (each_when p) c = simp append_assoc
 with_cond-spots (bucket_when p n) c = simp append_assoc
 with_cond-spots flag_when c = refl
 

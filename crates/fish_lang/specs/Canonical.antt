@@ -3,7 +3,7 @@
 use Rattle.std.specs.Prelude.{ℕ, List, [], ◌∷◌, ◌++◌, Bool, true, false, Option, Some, None, codes, if◌then◌else◌}
 use Rattle.std.specs.Fmt.{signed_decimal}
 use Rattle.fish_value.specs.Json.{quoted}
-use Rattle.fish_lang.specs.Definition.{Steps, Formula, compares, is_there, begins, negated, both, either, Definition, takes, buckets, flags}
+use Rattle.fish_lang.specs.Definition.{Steps, Formula, compares, is_there, begins, negated, both, either, Definition, takes, eaches, buckets, flags}
 use Rattle.fish_lang.specs.Token.{is_ident}
 use Rattle.fish_value.specs.ValueText.{value_print}
 use Rattle.fish_lang.specs.declared.definition.Op.{Op}
@@ -70,6 +70,7 @@ when_text (Some a) = codes " when " ++ formula_text Whole a
 -- a definition
 abbrev pub definition_text : Definition → List ℕ
 definition_text (takes path when) = codes "take " ++ (path_text path ++ when_text when)
+definition_text (eaches path when) = codes "each " ++ (path_text path ++ when_text when)
 definition_text (buckets path width when) = codes "bucket "
     ++ (path_text path ++ (codes " by " ++ (signed_decimal width ++ when_text when)))
 definition_text (flags when) = codes "flag when " ++ formula_text Whole when

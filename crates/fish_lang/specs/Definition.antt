@@ -5,7 +5,7 @@ use Rattle.fish_lang.specs.declared.definition.Op.{Op}
 use Rattle.fish_lang.specs.declared.definition.Cond.{Cond}
 use Rattle.fish_lang.specs.declared.definition.Cond.TheVariants.{Compare, Exists, Starts, Not', And', Or'}
 use Rattle.fish_lang.specs.declared.definition.Def.{Def}
-use Rattle.fish_lang.specs.declared.definition.Def.TheVariants.{Take, Bucket, Flag}
+use Rattle.fish_lang.specs.declared.definition.Def.TheVariants.{Take, Each, Bucket, Flag}
 
 -- the names of a path, from the outside in
 abbrev pub Steps : Type 0
@@ -20,9 +20,10 @@ pub data Formula : Type 0 where
   both : (a b : Formula) → Formula
   either : (a b : Formula) → Formula
 
--- a definition: a field, a number rounded down to a multiple of a width, or a condition
+-- a definition: a field, the elements of an array, a number rounded down to a multiple of a width, or a condition
 pub data Definition : Type 0 where
   takes : (path : Steps) (when : Option Formula) → Definition
+  eaches : (path : Steps) (when : Option Formula) → Definition
   buckets : (path : Steps) (width : ℤ) (when : Option Formula) → Definition
   flags : (when : Formula) → Definition
 
@@ -38,5 +39,6 @@ formula_of (Or' p a q b) = either (formula_of a) (formula_of b)
 -- what a definition says
 abbrev pub definition_of : Def → Definition
 definition_of (Take path when) = takes path (option_map formula_of when)
+definition_of (Each path when) = eaches path (option_map formula_of when)
 definition_of (Bucket path width when) = buckets path width (option_map formula_of when)
 definition_of (Flag when) = flags (formula_of when)

@@ -2,7 +2,7 @@
 use Rattle.std.specs.Prelude.{ℤ, pos, List, [], ◌∷◌, ◌++◌, ℕ, Bool, Option, option_map, unwrap_or}
 use Rattle.fish_value.specs.declared.value.Value.{Value}
 use Rattle.fish_value.specs.declared.value.Value.TheVariants as value
-use Rattle.fish_lang.specs.Definition.{Steps, Formula, compares, is_there, begins, negated, both, either, Definition, takes, buckets, flags}
+use Rattle.fish_lang.specs.Definition.{Steps, Formula, compares, is_there, begins, negated, both, either, Definition, takes, eaches, buckets, flags}
 use Rattle.fish_lang.specs.declared.definition.Op.{Op}
 
 -- STEP = IDENT | STRING
@@ -42,10 +42,11 @@ mutual
     group : Cond → Neg
     test : Test → Neg
 
--- DEF = "take" PATH [ "when" COND ] | "bucket" PATH "by" NUMBER [ "when" COND ] | "flag" "when" COND,
+-- DEF = "take" PATH [ "when" COND ] | "each" PATH [ "when" COND ] | "bucket" PATH "by" NUMBER [ "when" COND ] | "flag" "when" COND,
 -- where the number has no `-`
 pub data Derivation : Type 0 where
   take_def : Path → Option Cond → Derivation
+  each_def : Path → Option Cond → Derivation
   bucket_def : Path → (width : Option ℤ) → Option Cond → Derivation
   flag_def : Cond → Derivation
 
@@ -83,5 +84,6 @@ abbrev mutual
 
 abbrev pub meaning : Derivation → Definition
 meaning (take_def p w) = takes (path_steps p) (option_map cond_formula w)
+meaning (each_def p w) = eaches (path_steps p) (option_map cond_formula w)
 meaning (bucket_def p n w) = buckets (path_steps p) (unwrap_or n (pos 0)) (option_map cond_formula w)
 meaning (flag_def c) = flags (cond_formula c)

@@ -2,7 +2,7 @@
 use Rattle.std.specs.Prelude.{ℕ, zero, suc, ℤ, pos, nat_lt, List, [], ◌∷◌, ◌++◌, true, false, Option, Some, None, map, if◌then◌else◌}
 use Rattle.fish_lang.specs.Derivation.{Step, ident, string, Path, one_step, more_steps, Literal, truth, number, text}
 use Rattle.fish_lang.specs.Derivation.{Test, compare, exist, start, Cond, one_conj, more_conjs, Conj, one_neg}
-use Rattle.fish_lang.specs.Derivation.{more_negs, Neg, not_neg, group, test, Derivation, take_def, bucket_def, flag_def}
+use Rattle.fish_lang.specs.Derivation.{more_negs, Neg, not_neg, group, test, Derivation, take_def, each_def, bucket_def, flag_def}
 use Rattle.fish_lang.specs.declared.fault.Fault.{Fault}
 use Rattle.fish_lang.specs.declared.fault.Fault.TheVariants.{TooDeep, NumberTooLarge, ZeroWidth}
 use Rattle.fish_lang.specs.declared.token.Keyword.{Keyword}
@@ -78,6 +78,7 @@ when_spots (Some c) = keyword word.When ∷ cond_spots 0 c
 
 abbrev pub spots : Derivation → List Spot
 spots (take_def p w) = keyword word.Take ∷ (path_spots p ++ when_spots w)
+spots (each_def p w) = keyword word.Each ∷ (path_spots p ++ when_spots w)
 spots (bucket_def p n w) = keyword word.Bucket ∷ (path_spots p
     ++ keyword word.By ∷ record { token = kind.Number false n; fault = width_fault n } ∷ when_spots w)
 spots (flag_def c) = keyword word.Flag ∷ keyword word.When ∷ cond_spots 0 c

@@ -22,12 +22,14 @@ mutual
 -- what stands in front of a condition
 pub data Head : Type 0 where
   take_when : Steps → Head
+  each_when : Steps → Head
   bucket_when : Steps → ℤ → Head
   flag_when : Head
 
 -- what a path is part of
 pub data Owner : Type 0 where
   of_take : Owner
+  of_each : Owner
   of_bucket : Owner
   of_test : Head → Operand → Owner
 

@@ -3,14 +3,14 @@
 use Rattle.std.specs.Prelude.{ℕ, pos, List, [], ◌∷◌, ◌++◌, Bool, true, false, Option, Some, None, option_map, unwrap_or, if◌then◌else◌}
 use Rattle.fish_value.specs.declared.value.Value.{Value}
 use Rattle.fish_value.specs.declared.value.Value.TheVariants as value
-use Rattle.fish_lang.specs.Definition.{Steps, Formula, compares, is_there, begins, Definition, takes, buckets, flags}
+use Rattle.fish_lang.specs.Definition.{Steps, Formula, compares, is_there, begins, Definition, takes, eaches, buckets, flags}
 use Rattle.fish_lang.specs.Machine.{Whole, top, in_group, Joint, Operand, in_joint, behind_or, behind_and, under_not}
-use Rattle.fish_lang.specs.Machine.{Head, take_when, bucket_when, flag_when, Owner, of_take, of_bucket, of_test, State}
+use Rattle.fish_lang.specs.Machine.{Head, take_when, each_when, bucket_when, flag_when, Owner, of_take, of_each, of_bucket, of_test, State}
 use Rattle.fish_lang.specs.Machine.{start, flag, step, behind_step, width, behind_width, operand, literal, prefix}
 use Rattle.fish_lang.specs.Machine.{behind_operand, nesting, or_with, whole_of, complete, at_front}
 use Rattle.fish_lang.specs.Grammar.{number_fault, width_fault, nesting_fault}
 use Rattle.fish_lang.specs.declared.fault.Fault.{Fault}
-use Rattle.fish_lang.specs.declared.token.Keyword.TheVariants.{Take, Bucket, Flag, By, When, Not, And, Or, Exists, Starts, True, False}
+use Rattle.fish_lang.specs.declared.token.Keyword.TheVariants.{Take, Each, Bucket, Flag, By, When, Not, And, Or, Exists, Starts, True, False}
 use Rattle.fish_lang.specs.declared.token.Token.{Token}
 use Rattle.fish_lang.specs.declared.token.Token.TheVariants.{Keyword, Ident, Str, Number, Compare, Open, Close, Dot}
 
@@ -32,6 +32,7 @@ value_of _ = None
 
 abbrev pub from_start : Token → Option State
 from_start (Keyword Take) = Some (step of_take [])
+from_start (Keyword Each) = Some (step of_each [])
 from_start (Keyword Bucket) = Some (step of_bucket [])
 from_start (Keyword Flag) = Some flag
 from_start _ = None
@@ -53,6 +54,7 @@ behind_test h k p _ = None
 
 abbrev pub behind_path : Owner → Steps → Token → Option State
 behind_path of_take p t = from_head (take_when p) t
+behind_path of_each p t = from_head (each_when p) t
 behind_path of_bucket p t = behind_bucket p t
 behind_path (of_test h k) p t = behind_test h k p t
 
@@ -116,6 +118,7 @@ fault_at _ t = None
 
 abbrev pub definition_with : Head → Formula → Definition
 definition_with (take_when p) a = takes p (Some a)
+definition_with (each_when p) a = eaches p (Some a)
 definition_with (bucket_when p n) a = buckets p n (Some a)
 definition_with flag_when a = flags a
 
@@ -126,6 +129,7 @@ ended h (in_group k) a = None
 -- the definition that ends here
 abbrev pub finish : State → Option Definition
 finish (behind_step of_take p) = Some (takes p None)
+finish (behind_step of_each p) = Some (eaches p None)
 finish (behind_width p n) = Some (buckets p n None)
 finish (behind_operand h j a) = ended h (whole_of j) (or_with j a)
 finish _ = None

@@ -29,11 +29,13 @@ abbrev mutual
 
 abbrev pub head_view : Head → machine.Head
 head_view (head.Take p) = machine.take_when p
+head_view (head.Each p) = machine.each_when p
 head_view (head.Bucket p n) = machine.bucket_when p n
 head_view head.Flag = machine.flag_when
 
 abbrev pub owner_view : Owner → machine.Owner
 owner_view owner.Take = machine.of_take
+owner_view owner.Each = machine.of_each
 owner_view owner.Bucket = machine.of_bucket
 owner_view (owner.Test h k) = machine.of_test (head_view h) (operand_view k)
 

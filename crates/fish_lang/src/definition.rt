@@ -61,6 +61,13 @@ pub enum Def {
         /// Which records have the value.
         when: Option<Cond>,
     },
+    /// The elements of the array at a path.
+    Each {
+        /// Where the array stands.
+        path: Path,
+        /// Which records have the values.
+        when: Option<Cond>,
+    },
     /// The whole number at a path, rounded down to a multiple of a width.
     Bucket {
         /// Where the number stands.

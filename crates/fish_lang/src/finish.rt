@@ -38,6 +38,7 @@ fn taken(owner: Owner, path: Path) -> Option<Def>
 {
     match owner {
         Owner::Take => Some(Def::Take { path, when: None }),
+        Owner::Each => Some(Def::Each { path, when: None }),
         other => {
             drop((other, path));
             None
@@ -79,6 +80,10 @@ fn definition_with(head: Head, cond: Cond) -> Def
     ensures { definition_of result ≡ moves.definition_with (head_view head) (formula_of cond) }
 {
     match head {
+        Head::Each(path) => Def::Each {
+            path,
+            when: Some(cond),
+        },
         Head::Take(path) => Def::Take {
             path,
             when: Some(cond),

@@ -46,6 +46,11 @@ fn write_def(alloc: Global, out: &mut String, def: &Def) -> Result<(), AllocErro
             write_path(alloc, out, path)?;
             write_when(alloc, out, when)
         }
+        Def::Each { path, when } => {
+            out.push_str("each ")?;
+            write_path(alloc, out, path)?;
+            write_when(alloc, out, when)
+        }
         Def::Bucket { path, width, when } => {
             out.push_str("bucket ")?;
             write_path(alloc, out, path)?;

@@ -16,6 +16,7 @@ use std::alloc::{AllocError, Global};
 #[derive(Drop)]
 pub enum Head {
     Take(Path),
+    Each(Path),
     Bucket(Path, i64),
     Flag,
 }
@@ -24,6 +25,7 @@ pub enum Head {
 #[derive(Drop)]
 pub enum Owner {
     Take,
+    Each,
     Bucket,
     /// A test, by where it stands.
     Test(Head, Operand),
@@ -79,6 +81,7 @@ fn from_start(token: Token) -> Option<State>
 {
     match token {
         Token::Keyword(Keyword::Take) => Some(State::Step(Owner::Take, None)),
+        Token::Keyword(Keyword::Each) => Some(State::Step(Owner::Each, None)),
         Token::Keyword(Keyword::Bucket) => Some(State::Step(Owner::Bucket, None)),
         Token::Keyword(Keyword::Flag) => Some(State::Flag),
         _ => None,
@@ -179,6 +182,7 @@ fn behind_path(
 {
     match owner {
         Owner::Take => Ok(from_head(Head::Take(path), token)),
+        Owner::Each => Ok(from_head(Head::Each(path), token)),
         Owner::Bucket => Ok(behind_bucket(path, token)),
         Owner::Test(head, place) => behind_test(alloc, head, place, path, token),
     }

@@ -1,6 +1,9 @@
 pub mod BucketLemmas
+pub mod Distinct
+pub mod FirstValues
 pub mod HasLemmas
 pub mod KeyLemmas
 pub mod RecordLemmas
 pub mod RoundingLemmas
 pub mod SelectLemmas
+pub mod Several

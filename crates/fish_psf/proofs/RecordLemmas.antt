@@ -1,15 +1,16 @@
 -- A payload that was read is a record of its form, with the fields that were read.
 use Rattle.std.proofs.Common.{◌≡◌, ℕ, ◌<◌, List, length, true, false, ap, sym, refl, arith}
-use Rattle.std.specs.Prelude.{Some, None, is_some, nat_le}
+use Rattle.std.specs.Prelude.{[], Some, None, is_some, nat_le}
 use Rattle.std.proofs.lemmas.Bool.Decides.{nat_tests}
 use Rattle.serde_json.specs.Data.{Data}
 use Rattle.fish_value.specs.declared.field.Form.TheVariants.{Json, Csv}
-use Rattle.fish_json.specs.Reading.{record_of, field_in as json_field_in}
+use Rattle.fish_json.specs.Reading.{record_of, items_in, field_in as json_field_in}
 use Rattle.fish_value.specs.Limits.{longest_payload}
-use Rattle.fish_json.proofs.Records.{field_of_record}
+use Rattle.fish_json.proofs.Records.{items_of_record, field_of_record}
 use Rattle.fish_csv.specs.Reading.{row_of, field_in as csv_field_in}
 use Rattle.fish_csv.proofs.Columns.{field_of_row}
 use Rattle.fish_csv.proofs.Readings.{row_of_long}
+use Rattle.fish_psf.specs.Eval.{Fields}
 use Rattle.fish_psf.specs.Records.{fields_of_payload, is_record}
 
 -- a line whose object was read is a record with the object's fields
@@ -18,9 +19,13 @@ unfolding is_record
 json_accepted b d h = ap is_some h
 
 pub json_fields : (b : List ℕ) (d : Data) → record_of b ≡ Some d
-    → (λ path. json_field_in path d) ≡ fields_of_payload Json b
+    → ◌≡◌ {A = Fields} (record { at = λ path. json_field_in path d; items = λ path. items_in path d })
+    (fields_of_payload Json b)
 unfolding fields_of_payload
-json_fields b d h = λ i path. sym (field_of_record b path d h) i
+json_fields b d h = λ i. record {
+  at = λ path. sym (field_of_record b path d h) i;
+  items = λ path. sym (items_of_record b path d h) i;
+}
 
 -- a line with no object is none
 pub json_none : (b : List ℕ) → record_of b ≡ None → is_record Json b ≡ false
@@ -37,9 +42,10 @@ unfolding is_record
 csv_accepted b fields h = ap is_some h
 
 pub csv_fields : (b : List ℕ) (fields : List (List ℕ)) → row_of b ≡ Some fields
-    → (λ path. csv_field_in path fields) ≡ fields_of_payload Csv b
+    → ◌≡◌ {A = Fields} (record { at = λ path. csv_field_in path fields; items = λ path. [] })
+    (fields_of_payload Csv b)
 unfolding fields_of_payload
-csv_fields b fields h = λ i path. sym (field_of_row b path fields h) i
+csv_fields b fields h = λ i. record { at = λ path. sym (field_of_row b path fields h) i; items = λ path. [] }
 
 -- bytes that are no row are none
 pub csv_none : (b : List ℕ) → row_of b ≡ None → is_record Csv b ≡ false

@@ -1,11 +1,12 @@
 -- The law of a selection: its rows are the matches, and their numbers fall.
 use Rattle.std.proofs.Common.{◌≡◌, ℕ, ◌+◌, ◌<◌, ◌≤◌, List, [], ◌∷◌, length, refl, sym, ap, arith, inl, inr, ◌∙◌}
-use Rattle.std.specs.Prelude.{Bool, true, false, not, ◌&&◌, ◌==◌, nat_le, nat_lt, Option, Some, None, slice_get, Contains, if◌then◌else◌}
+use Rattle.std.specs.Prelude.{Bool, true, false, not, ◌&&◌, ◌||◌, ◌==◌, nat_le, nat_lt, ◌↔◌, Option, Some, None, slice_get, Contains, if◌then◌else◌}
 use Rattle.std.specs.List.{enumerate_from, filter_map, cons_option}
 use Rattle.std.proofs.lemmas.Bool.Decides.{nat_tests}
 use Rattle.std.proofs.lemmas.Option.{same_Some}
 use mathlib.Core.List.{reverse_aux}
 use Rattle.fish_value.proofs.SameLemmas.{same_value-Decides}
+use Rattle.fish_value.specs.Same.{same_value}
 use Rattle.fish_value.specs.declared.row.Row.{Row}
 use Rattle.fish_value.specs.declared.value.Value.{Value}
 use Rattle.fish_psf.specs.Select.{Entry, stored, void, unfinished, Evaluation, has_value, is_open, row_if, row_of, select}
@@ -24,12 +25,31 @@ chosen false o x h = cc
 
 -- ---- the tests
 
-has_value-is : (o : Option Value) (v : Value) → has_value o v ≡ true → o ≡ Some v
-has_value-is None v h = cc
-has_value-is (Some w) v h = ap Some ((same_value-Decides w v).0 h)
+-- a value that the test finds is there
+has_value-is : (vs : List Value) (v : Value) → has_value vs v ≡ true → Has vs v
+has_value-is [] v h = cc
+has_value-is (w ∷ vs) v h =
+    elim (same_value w v) as (λ t. same_value w v ≡ t → (t || has_value vs v) ≡ true → Has (w ∷ vs) v) [
+      | true ↦ λ e _. inl ((same_value-Decides w v).0 e)
+      | false ↦ λ e i. inr (has_value-is vs v i)
+    ] refl h
 
-has_value-same : (v : Value) → has_value (Some v) v ≡ true
-has_value-same v = (same_value-Decides v v).1 refl
+-- and one that is there it finds
+has_value-has : (vs : List Value) (v : Value) → Has vs v → has_value vs v ≡ true
+has_value-has [] v h = absurd h
+has_value-has (w ∷ vs) v (inl e) = (let same : same_value w v ≡ true = (same_value-Decides w v).1 e in rw same refl)
+has_value-has (w ∷ vs) v (inr h) =
+    elim (same_value w v) as (λ t. (t || has_value vs v) ≡ true) [
+      | true ↦ refl
+      | false ↦ has_value-has vs v h
+    ]
+
+-- the test finds a value exactly where it is there
+pub has_contains : (vs : List Value) (v : Value) → has_value vs v ≡ true ↔ Contains vs v
+has_contains vs v = (
+  λ h. Contains-from_Has vs v (has_value-is vs v h),
+  λ c. has_value-has vs v (Has-from_Contains vs v c),
+)
 
 open_has : (opens : List ℕ) (n : ℕ) → is_open opens n ≡ true → Has opens n
 open_has [] n h = cc
@@ -64,7 +84,7 @@ not_open opens n closed =
 
 -- the entry has this payload, with the value
 abbrev IsSelected : Entry → Evaluation → Value → List ℕ → Type 0
-IsSelected e eval v payload = (lane : ℕ) × (form : _) × (e ≡ stored lane form payload) × (eval form payload ≡ Some v)
+IsSelected e eval v payload = (lane : ℕ) × (form : _) × (e ≡ stored lane form payload) × Contains (eval form payload) v
 
 row_if-some : (eval : Evaluation) (v : Value) (n : ℕ) (e : Entry) (row : Row) → row_if eval v n e ≡ Some row
     → (row.number ≡ n) × IsSelected e eval v row.payload
@@ -73,15 +93,15 @@ row_if-some eval v n (stored lane form payload) row h =
     let is = same_Some (record { number = n; payload = payload }) row c.1 in
     let same : payload ≡ row.payload = ap (λ (r : Row). r.payload) is in (
       sym (ap (λ (r : Row). r.number) is),
-      (lane, form, ap (stored lane form) same, rw (← same) (has_value-is (eval form payload) v c.0)),
+      (lane, form, ap (stored lane form) same, rw (← same) (Contains-from_Has _ v (has_value-is (eval form payload) v c.0))),
     )
 row_if-some eval v n void row h = cc
 row_if-some eval v n unfinished row h = cc
 
 row_if-at : (eval : Evaluation) (v : Value) (n lane : ℕ) (form : _) (payload : List ℕ)
-    → eval form payload ≡ Some v
+    → Contains (eval form payload) v
     → row_if eval v n (stored lane form payload) ≡ Some (record { number = n; payload = payload })
-row_if-at eval v n lane form payload h = rw (h, has_value-same v)
+row_if-at eval v n lane form payload h = rw (has_value-has (eval form payload) v (Has-from_Contains _ v h)) refl
 
 module _ (eval : Evaluation) (v : Value) (from to : ℕ) (opens : List ℕ) where
   row_of-some : (n : ℕ) (e : Entry) (row : Row) → row_of eval v from to opens (n, e) ≡ Some row

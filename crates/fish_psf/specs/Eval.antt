@@ -1,24 +1,26 @@
 -- What a definition gives for a record, from what the record has at each path.
 use Rattle.std.specs.Prelude.{ℕ, ◌&&◌, ◌||◌, ℤ, pos, ◌-ℤ◌, int_lt, List, Bool, true, false, not, nat_eq, Option, Some}
-use Rattle.std.specs.Prelude.{None, option_map, if◌then◌else◌}
+use Rattle.std.specs.Prelude.{None, [], ◌∷◌, option_map, option_to_list, take, if◌then◌else◌}
 use Rattle.std.specs.Int.{int_rem_euclid}
-use Rattle.std.specs.List.{starts_with}
+use Rattle.std.specs.List.{filter, filter_map, starts_with}
 use Rattle.std.specs.Cmp.Lexicographic.{slice_cmp}
 use Rattle.std.specs.declared.cmp.Ordering.{Ordering}
 use Rattle.std.specs.Ordering.{bool_cmp, int_cmp, nat_cmp, is_eq, is_ne, is_lt, is_le, is_gt, is_ge}
 use Rattle.fish_value.specs.Number.{fits_i64}
+use Rattle.fish_value.specs.Same.{same_value}
 use Rattle.fish_value.specs.ValueText.{text_value}
 use Rattle.fish_value.specs.declared.value.Value.{Value}
 use Rattle.fish_value.specs.declared.value.Value.TheVariants as value
 use Rattle.fish_value.specs.declared.field.Field.{Field}
 use Rattle.fish_value.specs.declared.field.Field.TheVariants as field
-use Rattle.fish_lang.specs.Definition.{Definition, takes, buckets, flags, Formula, compares, is_there, begins, negated, both, either}
+use Rattle.fish_lang.specs.Definition.{Definition, takes, eaches, buckets, flags, Formula, compares, is_there, begins, negated, both, either}
 use Rattle.fish_lang.specs.declared.definition.Op.{Op}
 use Rattle.fish_lang.specs.declared.definition.Op.TheVariants.{Eq, Ne, Lt, Le, Gt, Ge}
 
--- what a record has at each path
-abbrev pub Fields : Type 0
-Fields = List (List ℕ) → Field
+-- what a record has: a field at each path, and the fields of the elements of an array there
+pub record Fields : Type 0 where
+  pub at : List (List ℕ) → Field
+  pub items : List (List ℕ) → List Field
 
 -- ---- conditions
 
@@ -73,9 +75,9 @@ begins_with prefix field.Other = false
 
 -- a condition holds on what a record has at each path
 abbrev pub holds : Formula → Fields → Bool
-holds (compares path op literal) fields = meets_order op (fields path) (order_of (fields path) literal)
-holds (is_there path) fields = exists (fields path)
-holds (begins path prefix) fields = begins_with prefix (fields path)
+holds (compares path op literal) fields = meets_order op (fields.at path) (order_of (fields.at path) literal)
+holds (is_there path) fields = exists (fields.at path)
+holds (begins path prefix) fields = begins_with prefix (fields.at path)
 holds (negated a) fields = not (holds a fields)
 holds (both a b) fields = holds a fields && holds b fields
 holds (either a b) fields = holds a fields || holds b fields
@@ -114,8 +116,24 @@ bucket_of width (field.Bool b) = None
 bucket_of width (field.Text s) = None
 bucket_of width field.Other = None
 
--- the value that a definition gives: the field's, the bucket's or true, and none where its condition doesn't hold
-unfoldable pub eval : Definition → Fields → Option Value
-eval (takes path when) fields = if holds_when when fields then value_of (fields path) else None
-eval (buckets path width when) fields = if holds_when when fields then bucket_of width (fields path) else None
-eval (flags when) fields = if holds when fields then Some (value.Bool true) else None
+-- the most values that a definition gives for a record
+abbrev pub most_values : ℕ
+most_values = 8
+
+-- values, each once, in the order of their first places
+abbrev pub distinct : List Value → List Value
+distinct [] = []
+distinct (v ∷ vs) = v ∷ filter (λ w. not (same_value v w)) (distinct vs)
+
+-- the values among fields, each once, in the order of their first places, and of these the first eight
+unfoldable pub first_values : List Field → List Value
+first_values fs = take most_values (distinct (filter_map value_of fs))
+
+-- the values that a definition gives, each once: the field's, the bucket's, true, or those of an array's elements; and
+-- none where its condition doesn't hold
+unfoldable pub values : Definition → Fields → List Value
+values (takes path when) fields = if holds_when when fields then option_to_list (value_of (fields.at path)) else []
+values (eaches path when) fields = if holds_when when fields then first_values (fields.items path) else []
+values (buckets path width when) fields =
+    if holds_when when fields then option_to_list (bucket_of width (fields.at path)) else []
+values (flags when) fields = if holds when fields then value.Bool true ∷ [] else []

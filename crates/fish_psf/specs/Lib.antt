@@ -1,6 +1,7 @@
 pub mod BucketLaw
 pub mod Eval
 pub mod Fields
+pub mod Gathering
 pub mod Keys
 pub mod Parsing
 pub mod Records

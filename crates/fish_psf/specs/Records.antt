@@ -1,11 +1,12 @@
 -- Which payloads are records of a form, what such a payload has at each path, and what a definition gives for it.
-use Rattle.std.specs.Prelude.{ℕ, List, Bool, is_some}
+use Rattle.std.specs.Prelude.{ℕ, List, [], Contains, Bool, is_some}
 use Rattle.fish_value.specs.declared.field.Form.{Form}
 use Rattle.fish_value.specs.declared.field.Form.TheVariants.{Json, Csv}
-use Rattle.fish_json.specs.Reading.{record_of, field as json_field}
+use Rattle.fish_value.specs.declared.value.Value.{Value}
+use Rattle.fish_json.specs.Reading.{record_of, field as json_field, items as json_items}
 use Rattle.fish_csv.specs.Reading.{row_of, field as csv_field}
 use Rattle.fish_lang.specs.Definition.{Definition}
-use Rattle.fish_psf.specs.Eval.{Fields, eval}
+use Rattle.fish_psf.specs.Eval.{Fields, values}
 use Rattle.fish_psf.specs.Select.{Evaluation}
 
 -- a payload is a record of its form: an object in JSON, or one row in CSV, of at most 524,288 bytes
@@ -15,9 +16,13 @@ is_record Csv b = is_some (row_of b)
 
 -- what a payload of a form has at each path: nothing where it is no record
 unfoldable pub fields_of_payload : Form → List ℕ → Fields
-fields_of_payload Json b = json_field b
-fields_of_payload Csv b = csv_field b
+fields_of_payload Json b = record { at = json_field b; items = json_items b }
+fields_of_payload Csv b = record { at = csv_field b; items = λ path. [] }
 
 -- what a definition gives for a payload of a form
 abbrev pub evaluation : Definition → Evaluation
-evaluation def form payload = eval def (fields_of_payload form payload)
+evaluation def form payload = values def (fields_of_payload form payload)
+
+-- this value is among those that a definition gives for a payload of a form
+abbrev pub Gives : Definition → Form → List ℕ → Value → Type 0
+Gives def form payload v = Contains (evaluation def form payload) v

@@ -15,12 +15,11 @@ pub data Entry : Type 0 where
 
 -- what a definition gives for a payload of a form
 abbrev pub Evaluation : Type 0
-Evaluation = Form → List ℕ → Option Value
+Evaluation = Form → List ℕ → List Value
 
--- the definition gives this value
-abbrev pub has_value : Option Value → Value → Bool
-has_value None v = false
-has_value (Some w) v = same_value w v
+-- this value is among those that the definition gives
+abbrev pub has_value : List Value → Value → Bool
+has_value vs v = list_any (λ w. same_value w v) vs
 
 -- the number is among the open ones
 abbrev pub is_open : List ℕ → ℕ → Bool

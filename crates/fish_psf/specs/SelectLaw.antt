@@ -13,7 +13,7 @@ pub record IsMatch (log : List Entry) (eval : Evaluation) (v : Value) (from to :
   pub below : row.number < to
   pub closed : ¬ Contains opens row.number
   pub selected : (lane : ℕ) × (form : Form) × (slice_get log row.number ≡ Some (stored lane form row.payload))
-      × (eval form row.payload ≡ Some v)
+      × Contains (eval form row.payload) v
 
 -- the numbers fall strictly from row to row, from below n on
 abbrev pub FallsBelow : ℕ → List Row → Type 0

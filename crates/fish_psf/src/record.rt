@@ -5,7 +5,8 @@ ghost use Rattle.std.specs.Prelude.{◌≡◌};
 use crate::parsed::Parsed;
 use fish_csv::CsvRecord;
 use fish_json::JsonRecord;
-use fish_value::{FieldView, Path};
+use fish_value::{FieldView, Path, Sequence};
+use std::alloc::{AllocError, Global};
 
 /// A record that was read.
 #[derive(Debug, Drop)]
@@ -25,6 +26,13 @@ impl Parsed for Record {
         match self {
             Record::Json(line) => line.look(path),
             Record::Csv(row) => row.look(path),
+        }
+    }
+
+    fn look_each(&self, alloc: Global, path: &Path) -> Result<Sequence<FieldView<'_>>, AllocError> {
+        match self {
+            Record::Json(line) => line.look_each(alloc, path),
+            Record::Csv(_) => Ok(Sequence::new(alloc)),
         }
     }
 }

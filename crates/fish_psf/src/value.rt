@@ -1,45 +1,114 @@
-//! The value that a definition gives for a record.
+//! The values that a definition gives for a record.
 
-ghost use Rattle.std.specs.Prelude.{◌≡◌, IfOk, option_map};
+ghost use Rattle.std.specs.List.{list_any};
+ghost use Rattle.std.specs.Prelude.{◌≡◌, ◌↔◌, Contains, IfOk, IsTrue, OnOk, map};
+ghost use Rattle.std.specs.Prelude.{option_map, option_to_list};
+ghost use Rattle.fish_value.specs.Same.{same_value};
 ghost use Rattle.fish_value.specs.Seen.{field_seen};
 ghost use Rattle.fish_lang.specs.Definition.{definition_of, formula_of};
-ghost use Rattle.fish_psf.specs.Eval.{bucket, bucket_of, eval, holds_when, value_of};
+ghost use Rattle.fish_psf.specs.Select.{has_value};
+ghost use Rattle.fish_psf.specs.Eval.{bucket, bucket_of, first_values, holds_when, value_of, values};
+ghost use Rattle.fish_psf.specs.Gathering.{with_field, with_value};
 
 use crate::condition::holds;
 use crate::parsed::Parsed;
 use fish_lang::{Cond, Def};
-use fish_value::{FieldView, MAX_VALUE, Text, Value};
+use fish_value::{FieldView, MAX_VALUE, Text, Value, Values};
 use std::alloc::{AllocError, Global};
 
-/// The value that a definition gives for a record, or none.
+/// The most values that a definition gives for a record.
+const MAX_VALUES: usize = 8;
+
+/// The values that a definition gives for a record, each once.
 ///
-/// `take` gives the truth value, whole number or text of at most 256 bytes at its path, `bucket` the
-/// greatest multiple of its width that is not above the whole number there, and `flag` gives true;
-/// all three give none where the condition is false.
-#[tactic(auto, unfolding(crate::specs::Eval::eval))]
-pub fn eval<R: Parsed>(alloc: Global, def: &Def, rec: &R) -> Result<Option<Value>, AllocError>
-    ensures { IfOk result (λ value. value ≡ eval (definition_of def.now) (R.fields rec.now)) }
+/// `take` gives the truth value, whole number or text of at most 256 bytes at its path, and `each` those
+/// among the elements of the array there: each once in the order of its first place, and of these the
+/// first eight. `bucket` gives the greatest multiple of its width that is not above the whole number at
+/// its path, and `flag` gives true. All give none where their condition is false.
+#[tactic(auto, unfolding(crate::specs::Eval::values))]
+pub fn values<R: Parsed>(alloc: Global, def: &Def, rec: &R) -> Result<Values, AllocError>
+    ensures { IfOk result (λ found. found ≡ values (definition_of def.now) (R.fields rec.now)) }
 {
     match def {
         Def::Take { path, when } => {
             if !holds_when(when, rec) {
-                return Ok(None);
+                return Ok(Values::new(alloc));
             }
-            value_of(alloc, &rec.look(path))
+            at_most_one(alloc, value_of(alloc, &rec.look(path))?)
+        }
+        Def::Each { path, when } => {
+            if !holds_when(when, rec) {
+                return Ok(Values::new(alloc));
+            }
+            first_values(alloc, rec.look_each(alloc, path)?.as_slice())
         }
         Def::Bucket { path, width, when } => {
             if !holds_when(when, rec) {
-                return Ok(None);
+                return Ok(Values::new(alloc));
             }
-            Ok(bucket_of(*width, &rec.look(path)))
+            at_most_one(alloc, bucket_of(*width, &rec.look(path)))
         }
         Def::Flag { when } => {
             if !holds(when, rec) {
-                return Ok(None);
+                return Ok(Values::new(alloc));
             }
-            Ok(Some(Value::Bool(true)))
+            at_most_one(alloc, Some(Value::Bool(true)))
         }
     }
+}
+
+/// One value or none.
+fn at_most_one(alloc: Global, value: Option<Value>) -> Result<Values, AllocError>
+    ensures { IfOk result (λ found. found ≡ option_to_list value) }
+{
+    let mut values = Values::new(alloc);
+    if let Some(value) = value {
+        values.push(value)?;
+    }
+    Ok(values)
+}
+
+/// The values among fields, each once, in the order of their first places, and of these the first eight.
+#[tactic(auto, unfolding(crate::specs::Eval::first_values))]
+fn first_values(alloc: Global, fields: &[FieldView<'_>]) -> Result<Values, AllocError>
+    ensures { IfOk result (λ found. found ≡ first_values (map field_seen fields.now)) }
+{
+    let mut values = Values::new(alloc);
+    for field in fields {
+        if values.len() == MAX_VALUES {
+            return Ok(values);
+        }
+        push_field(alloc, field, &mut values)?;
+    }
+    Ok(values)
+}
+
+/// Puts a field after the values, where it is one and is not among them.
+fn push_field(alloc: Global, field: &FieldView<'_>, values: &mut Values) -> Result<(), AllocError>
+    ensures { OnOk result (values.new ≡ with_field values.old (field_seen field.now)) }
+{
+    match value_of(alloc, field)? {
+        Some(value) => push_value(value, values),
+        None => Ok(()),
+    }
+}
+
+/// Puts a value after the others, unless it is among them.
+fn push_value(value: Value, values: &mut Values) -> Result<(), AllocError>
+    ensures { OnOk result (values.new ≡ with_value values.old value) }
+{
+    if is_among(&value, values) {
+        drop(value);
+        return Ok(());
+    }
+    values.push(value)
+}
+
+/// Whether a value is among others.
+fn is_among(value: &Value, values: &Values) -> bool
+    ensures { result ≡ list_any (same_value value.now) values.now }
+{
+    values.as_slice().iter().any(|other| value.is(other))
 }
 
 /// A condition that is not there holds.
@@ -87,4 +156,13 @@ fn bucket(width: i64, number: i64) -> Option<i64>
         return None;
     }
     number.checked_sub(number.rem_euclid(width))
+}
+
+/// Whether a value is among those that a definition gives.
+#[tactic(auto, using(crate::proofs::SelectLemmas::has_contains))]
+pub fn has(values: &[Value], value: &Value) -> bool
+    ensures test { result ≡ has_value values.now value.now }
+    ensures among { IsTrue result ↔ Contains values.now value.now }
+{
+    values.iter().any(|other| other.is(value))
 }

@@ -79,6 +79,13 @@ impl<T> Sequence<T> {
         Ok(())
     }
 
+    /// The elements by themselves.
+    pub fn into_vec(self) -> Vec<T>
+        ensures { result.items ≡ self }
+    {
+        self.items
+    }
+
     /// Turns the order round.
     pub fn reverse(&mut self)
         ensures { self.new ≡ reverse self.old }
