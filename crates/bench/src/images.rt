@@ -202,6 +202,7 @@ fn image(alloc: Global) -> Result<Vec<u64>, AllocError> {
 /// A commit of all records.
 fn commit(alloc: Global) -> Result<Commit, AllocError> {
     Ok(Commit {
+        format: 2,
         turn: 0,
         pages: 64,
         bucket_bits: 12,

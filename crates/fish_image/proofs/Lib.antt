@@ -1,4 +1,5 @@
 pub mod Agreement
+pub mod Formats
 pub mod Newest
 pub mod Pieces
 pub mod Regions

@@ -215,7 +215,7 @@ module _ (c : Commit) (b : List ℕ) (h : IsTold c b) where
 
   -- the words of the head fit
   heads_fit : All (λ n. n < 2 ^ 64) (head_words c)
-  heads_fit zero d less = omega arith
+  heads_fit zero d less = (let few = h.commit.format.known in omega arith)
   heads_fit (suc zero) d less = (let few = h.commit.within.turn in omega arith)
   heads_fit (suc (suc zero)) d less = (let few = h.commit.within.few_pages in omega arith)
   heads_fit (suc (suc (suc zero))) d less = (let few = h.commit.within.few_bits in omega arith)

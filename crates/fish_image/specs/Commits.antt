@@ -1,6 +1,7 @@
 -- Which commits a slot of a store file can tell.
-use Rattle.std.specs.Prelude.{ℕ, ◌^◌, ◌<◌, ◌≤◌, Option, Some, None, All, IsUtf8}
-use Rattle.fish_catalog.specs.Rows.{IsCatalog}
+use Rattle.std.specs.Prelude.{ℕ, ◌≡◌, ◌^◌, ◌<◌, ◌≤◌, Option, Some, None, All, IsUtf8, count_by}
+use Rattle.fish_catalog.specs.Limits.{most_active_at_first, newest_format}
+use Rattle.fish_catalog.specs.Rows.{IsCatalog, is_active}
 use Rattle.fish_catalog.specs.declared.commit.Commit.{Commit}
 use Rattle.fish_catalog.specs.declared.row.CatRow.{CatRow}
 
@@ -29,8 +30,16 @@ pub record IsWithin (c : Commit) : Type 0 where
   pub lines : c.lines ≤ 68719176736
   pub boundaries : All HasBoundaries c.rows
 
--- a slot can tell the commit: its numbers are within their limits, and its rows are texts and those of a catalogue
+-- the format is 1 or 2, and in format 1 fewer rows may be active
+pub record IsOfFormat (c : Commit) : Type 0 where
+  pub some : 1 ≤ c.format
+  pub known : c.format ≤ newest_format
+  pub few_active : c.format ≡ 1 → count_by is_active c.rows ≤ most_active_at_first
+
+-- a slot can tell the commit: its numbers are within their limits, as the rows are of its format, and its rows are texts and
+-- those of a catalogue
 pub record IsCommit (c : Commit) : Type 0 where
   pub within : IsWithin c
+  pub format : IsOfFormat c
   pub rows : IsCatalog c.rows
   pub texts : All HasTexts c.rows

@@ -36,10 +36,14 @@ row_bytes row =
     flat_map word (boundary_words row)
     ++ (length row.name ∷ length row.def ∷ (padded 46 row.name ++ padded 256 row.def))
 
--- the first eight words: the bytes `FISHST01`, the turn, pages, bucket bits, count, lines, the number of rows, and 0
+-- the letters `FISHST0` and the digit of a format, as a word
+abbrev pub sign_of : ℕ → ℕ
+sign_of format = 3472368029375088966 + format * 2 ^ 56
+
+-- the first eight words: the letters `FISHST01` or `FISHST02`, the turn, pages, bucket bits, count, lines, the number of rows, and 0
 abbrev pub head_words : Commit → List ℕ
 head_words c =
-    3544425623413016902 ∷ c.turn ∷ c.pages ∷ c.bucket_bits ∷ c.count ∷ c.lines ∷ length c.rows ∷ 0 ∷ []
+    sign_of c.format ∷ c.turn ∷ c.pages ∷ c.bucket_bits ∷ c.count ∷ c.lines ∷ length c.rows ∷ 0 ∷ []
 
 -- how many zero bytes stand behind the rows: those of the rows that 256 leave, and the rest
 abbrev pub bytes_behind : ℕ → ℕ

@@ -21,6 +21,12 @@ pub fn damaged_is_no_log()
     ensures { (c : Commit) (w : List ℕ) (k : ℕ) (log : List Entry) → IsDamaged c w k → StandsFor c w log → ⊥ }
 {}
 
+/// Which log words stand for doesn't depend on the format of the slot that tells the commit.
+pub fn log_is_of_any_format()
+    ensures { (c : Commit) (format : ℕ) (w : List ℕ) (log : List Entry) → StandsFor c w log
+        → StandsFor (record c { format = format }) w log }
+{}
+
 /// They are damaged behind one number of entries alone.
 pub fn damage_is_one()
     ensures { (c : Commit) (w : List ℕ) (k n : ℕ) → IsDamaged c w k → IsDamaged c w n → k ≡ n }

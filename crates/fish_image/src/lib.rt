@@ -22,8 +22,9 @@ mod terms;
 pub use checker::Checker;
 pub use image::check_image;
 pub use law::{
-    checked_heads_are_older, checked_is_one_log, damage_is_one, damaged_is_no_log, heads_are_newest,
+    checked_heads_are_older, checked_is_one_log, damage_is_one, damaged_is_no_log,
+    heads_are_newest, log_is_of_any_format,
 };
 pub use read::read_slot;
 pub use refusal::ImageRefusal;
-pub use slot::{is_within, slot_body};
+pub use slot::{has_format, is_within, slot_body};

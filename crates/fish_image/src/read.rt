@@ -10,7 +10,7 @@ ghost use Rattle.fish_image.specs.Commits.{IsBoundary};
 ghost use Rattle.fish_image.specs.Slot.{boundary_word, number};
 ghost use Rattle.fish_image.specs.Reading.{AreRowsOf, IsRowOf, IsTold};
 
-use crate::slot::{ROW_BYTES, SLOT_BYTES, is_within, slot_body};
+use crate::slot::{DIGIT, ROW_BYTES, SLOT_BYTES, has_format, is_within, slot_body};
 use byteorder::{ByteOrder, LittleEndian};
 use fish_catalog::{CatRow, Catalog, Commit, MAX_ROWS};
 use fish_value::Text;
@@ -41,7 +41,7 @@ pub fn read_slot(alloc: Global, b: &[u8]) -> Result<Option<Commit>, AllocError>
 fn is_told(alloc: Global, c: &Commit, b: &[u8]) -> Result<bool, AllocError>
     ensures { IfOk result (λ told. IsTrue told ↔ IsTold c.now b.now) }
 {
-    if !is_within(c) {
+    if !is_within(c) || !has_format(c) {
         return Ok(false);
     }
     let body = slot_body(alloc, c)?;
@@ -74,6 +74,7 @@ fn commit_of(b: &[u8], rows: Catalog) -> Commit
     ensures { (c : Commit) → IsTold c b.now → rows ≡ c.rows → result ≡ c }
 {
     Commit {
+        format: (word_at(b, 0) / DIGIT % 16) as u8,
         turn: (word_at(b, 1) % 0x100) as u8,
         pages: (word_at(b, 2) % 0x1_0000) as u16,
         bucket_bits: (word_at(b, 3) % 0x100) as u8,

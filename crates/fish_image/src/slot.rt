@@ -2,18 +2,22 @@
 
 ghost use Rattle.std.specs.Prelude.{◌≡◌, ◌↔◌, ◌++◌, ◌≤◌, All, IfOk, IsTrue, OnOk, length};
 ghost use Rattle.std.specs.List.{flat_map};
+ghost use Rattle.fish_catalog.specs.Limits.{newest_format};
 ghost use Rattle.fish_catalog.specs.Rows.{IsCatalog};
-ghost use Rattle.fish_image.specs.Commits.{HasBoundaries, HasTexts, IsBoundary, IsCommit, IsWithin};
+ghost use Rattle.fish_image.specs.Commits.{HasBoundaries, HasTexts, IsBoundary, IsCommit, IsOfFormat, IsWithin};
 ghost use Rattle.fish_image.specs.Reading.{IsTold};
 ghost use Rattle.fish_image.specs.Slot.{boundary_word, head_words, padded, row_bytes, slot_bytes};
 ghost use Rattle.fish_image.specs.Slot.{word, zeros};
 
-use fish_catalog::{CatRow, Commit, MAX_ROWS};
+use fish_catalog::{CatRow, Commit, MAX_ACTIVE_AT_FIRST, MAX_ROWS, NEWEST_FORMAT, count_active};
 use fish_value::Bytes;
 use std::alloc::{AllocError, Global};
 
-/// The bytes `FISHST01` as a word, lowest first.
-const SIGN: u64 = 0x3130_5453_4853_4946;
+/// The letters `FISHST0` and the digit 0 as a word, lowest first.
+const SIGN: u64 = 0x3030_5453_4853_4946;
+
+/// What the digit counts for in that word.
+pub(crate) const DIGIT: u64 = 0x100_0000_0000_0000;
 
 /// The bytes of a slot's body.
 pub(crate) const SLOT_BYTES: usize = 86_016;
@@ -32,7 +36,8 @@ const TEXT_BYTES: usize = 256;
 
 /// The body of a slot that tells a commit.
 pub fn slot_body(alloc: Global, c: &Commit) -> Result<Bytes, AllocError>
-    requires { IsWithin c.now }
+    requires within { IsWithin c.now }
+    requires format { IsOfFormat c.now }
     ensures told { IfOk result (IsTold c.now) }
     ensures size { IfOk result (λ body. length body ≡ 86016) }
 {
@@ -43,7 +48,8 @@ pub fn slot_body(alloc: Global, c: &Commit) -> Result<Bytes, AllocError>
 /// The same, part by part.
 #[tactic(auto, unfolding(crate::specs::Slot::slot_bytes))]
 fn spell(alloc: Global, c: &Commit) -> Result<Bytes, AllocError>
-    requires { IsWithin c.now }
+    requires within { IsWithin c.now }
+    requires format { IsOfFormat c.now }
     ensures commit { OnOk result (IsCommit c.now) }
     ensures bytes { IfOk result (λ body. body ≡ slot_bytes c.now) }
 {
@@ -57,11 +63,12 @@ fn spell(alloc: Global, c: &Commit) -> Result<Bytes, AllocError>
 
 /// Puts the first eight words behind the others.
 fn push_head(body: &mut Bytes, c: &Commit) -> Result<(), AllocError>
+    requires { c.now.format ≤ newest_format }
     ensures { OnOk result (body.new ≡ body.old ++ flat_map word (head_words c.now)) }
 {
     let rows = c.rows.rows().len() as u64;
     let words = [
-        SIGN,
+        SIGN + u64::from(c.format) * DIGIT,
         u64::from(c.turn),
         u64::from(c.pages),
         u64::from(c.bucket_bits),
@@ -151,6 +158,15 @@ pub fn is_within(c: &Commit) -> bool
         && c.count <= 268_435_439
         && c.lines <= 68_719_176_736
         && have_boundaries(c.rows.rows())
+}
+
+/// Whether the format of a commit is one that there is, and takes as many active rows.
+pub fn has_format(c: &Commit) -> bool
+    ensures { IsTrue result ↔ IsOfFormat c.now }
+{
+    1 <= c.format
+        && c.format <= NEWEST_FORMAT
+        && (c.format != 1 || count_active(c.rows.rows()) <= MAX_ACTIVE_AT_FIRST)
 }
 
 /// Whether the boundaries of rows are records' numbers.

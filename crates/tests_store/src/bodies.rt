@@ -2,7 +2,7 @@
 
 use crate::told::{expect, expect_all};
 use fish_catalog::{CatRow, Catalog, Commit};
-use fish_image::{is_within, read_slot, slot_body};
+use fish_image::{has_format, is_within, read_slot, slot_body};
 use fish_value::{Bytes, Text};
 use std::alloc::{AllocError, Global};
 use std::fmt::Write;
@@ -25,12 +25,19 @@ const BYTES: &[((usize, usize), &str)] = &[
 const CHANGES: &[((usize, u8), &str)] = &[
     (
         (0, b'F'),
-        "2 8 12 3 6, kind take type 0 none, é flag when n exists none none",
+        "1: 2 8 12 3 6, kind take type 0 none, é flag when n exists none none",
     ),
     ((0, b'f'), "none"),
+    // another format, and two that there are not
+    (
+        (7, b'2'),
+        "2: 2 8 12 3 6, kind take type 0 none, é flag when n exists none none",
+    ),
+    ((7, b'3'), "none"),
+    ((7, b'0'), "none"),
     (
         (8, 1),
-        "1 8 12 3 6, kind take type 0 none, é flag when n exists none none",
+        "1: 1 8 12 3 6, kind take type 0 none, é flag when n exists none none",
     ),
     ((8, 3), "none"),
     ((9, 1), "none"),
@@ -42,7 +49,7 @@ const CHANGES: &[((usize, u8), &str)] = &[
     ((35, 0x10), "none"),
     (
         (40, 7),
-        "2 8 12 3 7, kind take type 0 none, é flag when n exists none none",
+        "1: 2 8 12 3 7, kind take type 0 none, é flag when n exists none none",
     ),
     ((44, 0x10), "none"),
     // a row too many, one too few, and the eighth word
@@ -52,7 +59,7 @@ const CHANGES: &[((usize, u8), &str)] = &[
     // where the index begins and ends
     (
         (64, 5),
-        "2 8 12 3 6, kind take type 5 none, é flag when n exists none none",
+        "1: 2 8 12 3 6, kind take type 5 none, é flag when n exists none none",
     ),
     ((67, 0x10), "none"),
     ((72, 9), "none"),
@@ -95,6 +102,7 @@ fn catalog(alloc: Global) -> Result<Catalog, AllocError> {
 /// The body of the commit, or no bytes if it should be none.
 fn body(alloc: Global) -> Result<Bytes, AllocError> {
     let c = Commit {
+        format: 1,
         turn: 2,
         pages: 8,
         bucket_bits: 12,
@@ -102,7 +110,7 @@ fn body(alloc: Global) -> Result<Bytes, AllocError> {
         lines: 6,
         rows: catalog(alloc)?,
     };
-    let body = if is_within(&c) {
+    let body = if is_within(&c) && has_format(&c) {
         slot_body(alloc, &c)
     } else {
         Ok(Bytes::new(alloc))
@@ -143,7 +151,7 @@ fn put_row(alloc: Global, told: &mut String, row: &CatRow) -> Result<(), AllocEr
 
 fn commit_text(alloc: Global, c: &Commit) -> Result<String, AllocError> {
     let (turn, pages, bits, count, lines) = (c.turn, c.pages, c.bucket_bits, c.count, c.lines);
-    let mut told = format!(in alloc; "{turn} {pages} {bits} {count} {lines}")?;
+    let mut told = format!(in alloc; "{}: {turn} {pages} {bits} {count} {lines}", c.format)?;
     for row in c.rows.rows() {
         put_row(alloc, &mut told, row)?;
     }
@@ -184,5 +192,84 @@ fn shorter(rt: HostRuntime) -> Result<(), Fail> {
     expect(&rt, shorter.as_str(), "none");
     let none = slot_text(rt.alloc(), &[])?;
     expect(&rt, none.as_str(), "none");
+    Ok(())
+}
+
+/// A format and how many rows are active, and what stands in the seventh byte of the body instead; and the format
+/// and the number of rows that the bytes then tell.
+const ACTIVE: &[((u8, u16, u8), &str)] = &[
+    ((1, 0, b'1'), "1 0"),
+    ((1, 16, b'1'), "1 16"),
+    ((1, 17, b'1'), "no body"),
+    ((2, 17, b'2'), "2 17"),
+    ((2, 32, b'2'), "2 32"),
+    ((0, 1, b'0'), "no body"),
+    ((3, 1, b'3'), "no body"),
+    ((1, 16, b'2'), "2 16"),
+    ((2, 16, b'1'), "1 16"),
+    ((2, 17, b'1'), "none"),
+    ((2, 32, b'1'), "none"),
+    ((2, 1, b'3'), "none"),
+];
+
+/// So many active rows, or none of them if they should be refused.
+fn active(alloc: Global, count: u16) -> Result<Catalog, AllocError> {
+    let mut rows = Vec::new(alloc);
+    for id in 0..count {
+        let name = format!(in alloc; "d{id}")?;
+        rows.push(row(alloc, id, (name.as_str(), "take type"), Some(0))?)?;
+    }
+    match Catalog::from_rows(alloc, rows)? {
+        Some(catalog) => Ok(catalog),
+        None => Ok(Catalog::new(alloc)),
+    }
+}
+
+/// The body of a commit of a format with so many active rows, if there is one.
+fn body_of(alloc: Global, format: u8, count: u16) -> Result<Option<Bytes>, AllocError> {
+    let c = Commit {
+        format,
+        turn: 0,
+        pages: 1,
+        bucket_bits: 4,
+        count: 0,
+        lines: 0,
+        rows: active(alloc, count)?,
+    };
+    let body = if is_within(&c) && has_format(&c) {
+        slot_body(alloc, &c).map(Some)
+    } else {
+        Ok(None)
+    };
+    drop(c);
+    body
+}
+
+/// The format and the number of rows that bytes tell.
+fn format_text(alloc: Global, b: &[u8]) -> Result<String, AllocError> {
+    match read_slot(alloc, b)? {
+        Some(c) => {
+            let (format, rows) = (c.format, c.rows.rows().len());
+            drop(c);
+            format!(in alloc; "{format} {rows}")
+        }
+        None => String::from_str(alloc, "none"),
+    }
+}
+
+fn active_told(alloc: Global, case: &(u8, u16, u8)) -> Result<String, AllocError> {
+    let Some(body) = body_of(alloc, case.0, case.1)? else {
+        return String::from_str(alloc, "no body");
+    };
+    let mut bytes = Vec::from_slice(alloc, body.as_bytes())?;
+    if 7 < bytes.len() {
+        bytes[7] = case.2;
+    }
+    format_text(alloc, bytes.as_slice())
+}
+
+#[test]
+fn formats(rt: HostRuntime) -> Result<(), Fail> {
+    expect_all(&rt, rt.alloc(), ACTIVE, active_told)?;
     Ok(())
 }

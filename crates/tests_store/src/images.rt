@@ -102,6 +102,7 @@ fn catalog(alloc: Global, flag: Option<u32>) -> Result<Catalog, AllocError> {
 
 fn commit(alloc: Global, case: &Case) -> Result<Commit, AllocError> {
     Ok(Commit {
+        format: 2,
         turn: 0,
         pages: 1,
         bucket_bits: 4,

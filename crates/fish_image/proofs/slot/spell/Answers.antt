@@ -6,7 +6,8 @@ use Rattle.fish_image.proofs.slot.spell.Goals as goal
 
 pub returns-clause-commit : goal.returns-clause-commit
 returns-clause-commit c = record {
-  within = c.requires;
+  within = c.requires.within;
+  format = c.requires.format;
   rows = subst IsCatalog c.rows.ensures.value c.rows.ensures.kept;
   texts = subst (All HasTexts) c.rows.ensures.value c.in_ok-push_rows.ensures.texts;
 }
