@@ -1,11 +1,7 @@
 -- The first half of an ingest put together.
 use Rattle.std.proofs.Common.{◌≡◌, ◌≢◌, ℕ, ◌<◌, ◌≤◌, zero, suc, List, [], ◌∷◌, map, refl, sym, ap, ◌∙◌}
-use Rattle.std.proofs.Common.{subst, inr, arith, Some, None, Option, All, length}
-use Rattle.std.specs.Prelude.{filter}
-use Rattle.std.proofs.lemmas.List.{length-map}
-use Rattle.std.proofs.lemmas.List.Sums.{length-filter}
-use Rattle.fish_catalog.specs.Limits.{most_active}
-use Rattle.fish_catalog.specs.Listing.{IsListing, active_texts, is_on}
+use Rattle.std.proofs.Common.{subst, inr, arith, Some, None, Option, All}
+use Rattle.fish_catalog.specs.Listing.{is_on}
 use Rattle.fish_catalog.specs.declared.listed.Listed.{Listed}
 use Rattle.std.specs.List.Sorted.{IsStrictlyIncreasing}
 use Rattle.fish_catalog.proofs.ActiveTexts.{active_ids_below, active_ids_increase}
@@ -14,7 +10,7 @@ use Rattle.fish_claim.proofs.Known.{knows_later}
 use Rattle.fish_epoch.specs.Definitions.{AreRead, active_defs}
 use Rattle.fish_epoch.specs.Entering.{HasEntered, OnlyEnters}
 use Rattle.fish_epoch.specs.declared.definitions.Known.{Known}
-use Rattle.fish_ingest.proofs.PreparationDefs.{def_ids}
+use Rattle.fish_ingest.proofs.PreparationDefs.{def_ids, few_by}
 use Rattle.fish_epoch.proofs.Rounds.{enters_both}
 use Rattle.fish_epoch.specs.Rows.{OnlyReads}
 use Rattle.fish_ingest.proofs.Passing.{found_both, found_same, enters_reads, on_both, on_keeps, on_lane}
@@ -97,7 +93,7 @@ are_defs v d s h =
     let ids : map (λ (t : ℕ × List ℕ). t.0) (map text_of (active_defs d)) ≡ map id_of (active_defs d) =
     def_ids (active_defs d) in
     record {
-      few = few_texts d.rows.items (active_defs d) h.active listing;
+      few = few_by d.rows.items is_on (λ (l : Listed). (l.id, l.def)) (active_defs d) h.active listing.few_active;
       ascending = subst IsStrictlyIncreasing
           (ap (map (λ (t : ℕ × List ℕ). t.0)) (sym h.active) ∙ ids) (active_ids_increase d.rows.items listing);
       written = h.written;
@@ -105,12 +101,6 @@ are_defs v d s h =
           (active_ids_below d.rows.items listing));
     }
   where
-    few_texts : (ls : List Listed) (defs : List ActiveDef) → map text_of defs ≡ active_texts ls → IsListing ls → length defs ≤ most_active
-    few_texts ls defs is listing =
-        let count = length-filter is_on ls in
-        let few = listing.few_active in
-        omega (arith, length-map defs text_of, ap length is, length-map (filter is_on ls) (λ (l : Listed). (l.id, l.def)))
-
     below_texts : (defs : List ActiveDef) → All (λ (t : ℕ × List ℕ). t.0 < 256) (map text_of defs)
         → All (λ d. d.id < 256) defs
     below_texts [] h k d within = absurd (omega arith)

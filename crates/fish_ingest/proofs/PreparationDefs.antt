@@ -1,12 +1,14 @@
 -- The definitions of a catalogue's active rows stand in the order of their ids, which are below 256.
 use Rattle.std.proofs.Common.{◌≡◌, ℕ, zero, suc, ◌+◌, ◌<◌, ◌≤◌, List, [], ◌∷◌, Bool, true, false, Some, All}
 use Rattle.std.proofs.Common.{length, get_or, map, slice_get, refl, sym, ap, ◌∙◌, subst, arith, Option, None, is_none, min, option_map}
-use Rattle.std.specs.Prelude.{cond, filter}
+use Rattle.std.specs.Prelude.{cond, count_by, filter}
 use Rattle.std.specs.List.Sorted.{IsStrictlyIncreasing}
+use Rattle.std.proofs.lemmas.List.{length-map}
+use Rattle.std.proofs.lemmas.List.Sums.{length-filter}
 use Rattle.fish_catalog.proofs.ActiveTexts.{active_of_catalog}
 use Rattle.fish_catalog.specs.Clamps.{clamped}
 use Rattle.fish_catalog.specs.Rows.{IsCatalog, is_active}
-use Rattle.fish_catalog.specs.Limits.{most_rows}
+use Rattle.fish_catalog.specs.Limits.{most_active, most_rows}
 use Rattle.fish_catalog.specs.declared.row.CatRow.{CatRow}
 use Rattle.fish_claim.proofs.Known.{knows_start}
 use Rattle.fish_psf.specs.declared.key.ActiveDef.{ActiveDef}
@@ -81,9 +83,20 @@ ids_same : (rows : List CatRow) (defs : List ActiveDef) → AreActive rows defs
 ids_same rows defs e = sym (def_ids defs) ∙ ap (map (λ (t : ℕ × List ℕ). t.0)) e ∙ row_ids (filter is_active rows)
 
 -- definitions whose ids ascend so, and that are what their texts are read as, may be given to `prepare`
-pub defs_ascend : (defs : List ActiveDef) → AscendFrom 0 (map id_of defs) → All IsWritten defs → AreDefs defs
-defs_ascend defs h written =
-    record { ascending = increases 0 (map id_of defs) h; below = below 0 defs h; written = written }
+pub defs_ascend : (defs : List ActiveDef) → length defs ≤ most_active → AscendFrom 0 (map id_of defs) → All IsWritten defs
+    → AreDefs defs
+defs_ascend defs few h written =
+    record { few = few; ascending = increases 0 (map id_of defs) h; below = below 0 defs h; written = written }
+
+-- there are as many definitions as texts of active ones
+pub few_by : {A : Type 0} (xs : List A) (is : A → Bool) (text : A → ℕ × List ℕ) (defs : List ActiveDef)
+    → map text_of defs ≡ map text (filter is xs) → count_by is xs ≤ most_active → length defs ≤ most_active
+few_by xs is text defs same few =
+    let one : length (map text_of defs) ≡ length defs = length-map defs text_of in
+    let two : length (map text_of defs) ≡ length (map text (filter is xs)) = ap (λ (ts : List (ℕ × List ℕ)). length ts) same in
+    let three : length (map text (filter is xs)) ≡ length (filter is xs) = length-map (filter is xs) text in
+    let four : length (filter is xs) ≡ count_by is xs = length-filter is xs in
+    omega arith
 
 -- the definitions of the active rows of a catalogue may be given to `prepare`
 pub active_defs : {rows : List CatRow} {defs : List ActiveDef} → IsCatalog rows → AreActive rows defs
@@ -93,7 +106,7 @@ active_defs {rows} {defs} h active written =
     let numbered : (k : ℕ) (row : CatRow) → slice_get rows k ≡ Some row → row.id ≡ 0 + k =
     λ k row at. let e = h.ids k row at in omega arith in
     let ascend : AscendFrom 0 (map row_id (filter is_active rows)) = active_ascend 0 rows (omega arith) numbered in
-    defs_ascend defs (subst (AscendFrom 0) (sym (ids_same rows defs active)) ascend) written
+    defs_ascend defs (few_by rows is_active (λ row. (row.id, row.def)) defs active h.few_active) (subst (AscendFrom 0) (sym (ids_same rows defs active)) ascend) written
 
 -- at the version with which the table begins the definitions of the start are active, whatever else was learned
 pub knows_active : (k : Key) (l : Learned) (version : ℕ) (defs : List ActiveDef) → version ≡ k.version

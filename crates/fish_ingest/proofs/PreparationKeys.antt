@@ -8,8 +8,7 @@ use Rattle.std.proofs.lemmas.Bool.{true≢false}
 use Rattle.std.proofs.lemmas.List.Elements.{All-append, All-cons, All-head, All-nil, All-tail}
 use Rattle.std.proofs.lemmas.List.{length-map, map-append}
 use Rattle.std.specs.List.Sorted.{IsStrictlyIncreasing}
-use Rattle.std.specs.List.{fold, list_any}
-use Rattle.std.specs.Option.{option_map_or}
+use Rattle.std.specs.List.{list_any}
 use Rattle.std.specs.Prelude.{IfSome, None, Option, Some, if◌then◌else◌, nat_le, option_map, option_to_list}
 use Rattle.fish_ingest.specs.Preparation.{AreDefs, id_of}
 use Rattle.fish_ingest.specs.Preparation.{AreEntriesFor, AreMore, IsKey, IsShort}
@@ -18,8 +17,9 @@ use Rattle.fish_layout.specs.Body.{AreProperKeys, IsApart}
 use Rattle.fish_layout.specs.Cleared.{AreUnlinked}
 use Rattle.fish_layout.specs.declared.parts.KeyPart.{KeyPart}
 use Rattle.fish_psf.proofs.KeyLemmas.{keys_more}
-use Rattle.fish_psf.proofs.Several.{Differ, values_few}
-use Rattle.fish_psf.specs.Eval.{Fields, bucket, bucket_of, first_values, holds, holds_when, value_of, values, with_field, with_value}
+use Rattle.fish_psf.proofs.Distinct.{Differ}
+use Rattle.fish_psf.proofs.Several.{first_all, values_few}
+use Rattle.fish_psf.specs.Eval.{Fields, bucket, bucket_of, holds, holds_when, value_of, values}
 use Rattle.fish_psf.specs.Keys.{keys_of, keys_under, value_under}
 use Rattle.fish_psf.specs.declared.key.ActiveDef.{ActiveDef}
 use Rattle.fish_psf.specs.declared.key.KeyValue.{KeyValue}
@@ -78,34 +78,22 @@ list_short : (o : Option Value) → IsShortIfThere o → All IsShort (option_to_
 list_short None h = All-nil IsShort
 list_short (Some v) h = All-cons IsShort v [] h (All-nil IsShort)
 
--- short values with one more are short
-with_short : (b : Bool) (vs : List Value) (v : Value) → IsShort v → All IsShort vs → All IsShort (if b then vs ++ v ∷ [] else vs)
-with_short true vs v one all = All-append IsShort vs (v ∷ []) all (All-cons IsShort v [] one (All-nil IsShort))
-with_short false vs v one all = all
-
--- so they are with a field's
-field_more_by : (vs : List Value) (o : Option Value) → IsShortIfThere o → All IsShort vs
-    → All IsShort (option_map_or (with_value vs) o vs)
-field_more_by vs None h all = all
-field_more_by vs (Some v) h all = with_short _ vs v h all
-
--- the values of an array's elements are short
-first_short : (fs : List Field) (vs : List Value) → All IsShort vs → All IsShort (fold with_field vs fs)
-first_short [] vs all = all
-first_short (f ∷ fs) vs all = first_short fs (with_field vs f) (field_more_by vs (value_of f) (field_short f) all)
-
 -- values under a condition are short
 when_short : (b : Bool) (vs : List Value) → All IsShort vs → All IsShort (if b then vs else [])
 when_short true vs h = h
 when_short false vs h = All-nil IsShort
 
+-- the value of a field is short
+short_of : (f : Field) (v : Value) → value_of f ≡ Some v → IsShort v
+short_of f v is = subst IsShortIfThere is (field_short f)
+
 -- the values that a definition gives are short
 pub values_short : (d : Definition) (fields : Fields) → All IsShort (values d fields)
-unfolding values first_values
+unfolding values
 values_short (takes path when) fields =
     when_short (holds_when when fields) _ (list_short _ (field_short (fields.at path)))
 values_short (eaches path when) fields =
-    when_short (holds_when when fields) _ (first_short (fields.items path) [] (All-nil IsShort))
+    when_short (holds_when when fields) _ (first_all IsShort short_of (fields.items path))
 values_short (buckets path width when) fields =
     when_short (holds_when when fields) _ (list_short _ (bucket_short width (fields.at path)))
 values_short (flags when) fields =
