@@ -11,5 +11,4 @@ pub mod RegionSteps
 pub mod RuleFacts
 pub mod TableKeys
 pub mod TableRegions
-pub mod TableValues
 pub mod Words
