@@ -17,7 +17,7 @@ seated_send = search (sendable, crosses, pass_field_send) depth 30
 
 -- a statement, whose definition may have conditions inside
 work_send : IsSend work_row
-work_send = search (sendable, crosses, send-Cond, path_send, text_send, ask_send) depth 40
+work_send = search (sendable, crosses, send-Cond, path_send, text_send, ask_send) depth 40 fits 4000
 
 pub lane_send : IsSend lane_row
 lane_send = search (sendable, crosses, seated_send, work_send, item_send) depth 20
