@@ -96,7 +96,11 @@ impl JsonRecord {
     /// The elements of the array at a path as fields, their texts borrowed: none where no array is
     /// there. Memory and time in the number of the elements.
     #[tactic(auto, unfolding(crate::specs::Reading::items_in))]
-    pub fn look_each(&self, alloc: Global, path: &Path) -> Result<Sequence<FieldView<'_>>, AllocError>
+    pub fn look_each(
+        &self,
+        alloc: Global,
+        path: &Path,
+    ) -> Result<Sequence<FieldView<'_>>, AllocError>
         ensures { IfOk result (λ fields. map field_seen fields ≡ items_in path.now (contents self.now)) }
     {
         match self.value_at(path) {
@@ -137,10 +141,7 @@ pub(crate) fn to_fields(
 }
 
 /// The elements of an array as fields, their texts borrowed: none of any other value.
-fn elements(
-    alloc: Global,
-    value: &serde_json::Value,
-) -> Result<Sequence<FieldView<'_>>, AllocError>
+fn elements(alloc: Global, value: &serde_json::Value) -> Result<Sequence<FieldView<'_>>, AllocError>
     ensures { IfOk result (λ fields. map field_seen fields ≡ items_of (Some (view value.now))) }
 {
     match value.as_array() {
@@ -150,7 +151,10 @@ fn elements(
 }
 
 /// Values as fields, their texts borrowed.
-fn fields(alloc: Global, values: &[serde_json::Value]) -> Result<Sequence<FieldView<'_>>, AllocError>
+fn fields(
+    alloc: Global,
+    values: &[serde_json::Value],
+) -> Result<Sequence<FieldView<'_>>, AllocError>
     ensures { IfOk result (λ fields. map field_seen fields ≡ map (λ v. kind_of (view v)) values.now) }
 {
     let mut fields = Sequence::new(alloc);

@@ -55,7 +55,11 @@ impl<'a> JsonRow<'a> {
 
     /// The elements of the array at a path as fields, their texts borrowed: none where no array is
     /// there. Memory in the number of the elements, and time in the length of the array.
-    pub fn look_each(&self, alloc: Global, path: &Path) -> Result<Sequence<FieldView<'_>>, AllocError>
+    pub fn look_each(
+        &self,
+        alloc: Global,
+        path: &Path,
+    ) -> Result<Sequence<FieldView<'_>>, AllocError>
         ensures { IfOk result (λ fields. map field_seen fields ≡ items_in path.now (row_contents self.now)) }
     {
         match self.find(path) {

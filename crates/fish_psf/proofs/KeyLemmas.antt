@@ -7,7 +7,7 @@ use Rattle.fish_psf.specs.Eval.{Fields}
 use Rattle.fish_psf.specs.Keys.{keys_of, keys_under}
 use Rattle.fish_psf.specs.declared.key.ActiveDef.{ActiveDef}
 
--- with one more definition its values go behind the others
+-- with one more definition its values come after the others
 pub keys_more : (fields : Fields) (defs : List ActiveDef) (i : ℕ) (d : ActiveDef) → i < length defs
     → d ≡ get_or defs i d
     → keys_of fields (take (i + 1) defs) ≡ keys_of fields (take i defs) ++ keys_under fields d

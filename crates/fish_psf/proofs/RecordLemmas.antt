@@ -4,14 +4,13 @@ use Rattle.std.specs.Prelude.{[], Some, None, is_some, nat_le}
 use Rattle.std.proofs.lemmas.Bool.Decides.{nat_tests}
 use Rattle.serde_json.specs.Data.{Data}
 use Rattle.fish_value.specs.declared.field.Form.TheVariants.{Json, Csv}
-use Rattle.fish_json.specs.Reading.{record_of, items_in, field_in as json_field_in}
+use Rattle.fish_json.specs.Reading.{record_of}
 use Rattle.fish_value.specs.Limits.{longest_payload}
 use Rattle.fish_json.proofs.Records.{items_of_record, field_of_record}
-use Rattle.fish_csv.specs.Reading.{row_of, field_in as csv_field_in}
+use Rattle.fish_csv.specs.Reading.{row_of}
 use Rattle.fish_csv.proofs.Columns.{field_of_row}
 use Rattle.fish_csv.proofs.Readings.{row_of_long}
-use Rattle.fish_psf.specs.Eval.{Fields}
-use Rattle.fish_psf.specs.Records.{fields_of_payload, is_record}
+use Rattle.fish_psf.specs.Records.{column_fields, fields_of_payload, is_record, object_fields}
 
 -- a line whose object was read is a record with the object's fields
 pub json_accepted : (b : List ℕ) (d : Data) → record_of b ≡ Some d → is_record Json b ≡ true
@@ -19,8 +18,7 @@ unfolding is_record
 json_accepted b d h = ap is_some h
 
 pub json_fields : (b : List ℕ) (d : Data) → record_of b ≡ Some d
-    → ◌≡◌ {A = Fields} (record { at = λ path. json_field_in path d; items = λ path. items_in path d })
-    (fields_of_payload Json b)
+    → object_fields d ≡ fields_of_payload Json b
 unfolding fields_of_payload
 json_fields b d h = λ i. record {
   at = λ path. sym (field_of_record b path d h) i;
@@ -42,8 +40,7 @@ unfolding is_record
 csv_accepted b fields h = ap is_some h
 
 pub csv_fields : (b : List ℕ) (fields : List (List ℕ)) → row_of b ≡ Some fields
-    → ◌≡◌ {A = Fields} (record { at = λ path. csv_field_in path fields; items = λ path. [] })
-    (fields_of_payload Csv b)
+    → column_fields fields ≡ fields_of_payload Csv b
 unfolding fields_of_payload
 csv_fields b fields h = λ i. record { at = λ path. sym (field_of_row b path fields h) i; items = λ path. [] }
 

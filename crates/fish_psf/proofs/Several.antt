@@ -1,6 +1,6 @@
 -- The values of a definition: there are at most eight, no two are the same, and each is that of a field.
-use Rattle.std.proofs.Common.{◌≡◌, ℕ, ◌≤◌, List, [], ◌∷◌, All, Bool, true, false, refl, arith, length, take, min, suc, zero}
-use Rattle.std.specs.Prelude.{◌||◌, Option, Some, None, option_to_list, if◌then◌else◌}
+use Rattle.std.proofs.Common.{◌≡◌, ℕ, ◌≤◌, List, [], ◌∷◌, All, Bool, true, false, refl, arith, length, take, suc, zero}
+use Rattle.std.specs.Prelude.{Option, Some, None, option_to_list, if◌then◌else◌}
 use Rattle.std.specs.List.{cons_option, filter_map, list_any}
 use Rattle.std.proofs.lemmas.List.{length-take}
 use Rattle.std.proofs.lemmas.List.Elements.{All-cons, All-head, All-nil, All-tail}
@@ -9,7 +9,7 @@ use Rattle.fish_value.specs.Same.{same_value}
 use Rattle.fish_value.specs.declared.field.Field.{Field}
 use Rattle.fish_value.specs.declared.value.Value.{Value}
 use Rattle.fish_value.specs.declared.value.Value.TheVariants as value
-use Rattle.fish_psf.specs.Eval.{Fields, bucket_of, distinct, first_values, holds, holds_when, most_values, value_of, values}
+use Rattle.fish_psf.specs.Eval.{Fields, distinct, first_values, holds, holds_when, most_values, value_of, values}
 use Rattle.fish_psf.proofs.Distinct.{Differ, distinct_all, distinct_differ, neither}
 
 -- few, and no two the same

@@ -3,8 +3,10 @@ use Rattle.std.specs.Prelude.{ℕ, List, [], Contains, Bool, is_some}
 use Rattle.fish_value.specs.declared.field.Form.{Form}
 use Rattle.fish_value.specs.declared.field.Form.TheVariants.{Json, Csv}
 use Rattle.fish_value.specs.declared.value.Value.{Value}
-use Rattle.fish_json.specs.Reading.{record_of, field as json_field, items as json_items}
-use Rattle.fish_csv.specs.Reading.{row_of, field as csv_field}
+use Rattle.serde_json.specs.Data.{Data}
+use Rattle.fish_json.specs.Reading.{record_of, field as json_field, field_in as json_field_in, items as json_items}
+use Rattle.fish_json.specs.Reading.{items_in as json_items_in}
+use Rattle.fish_csv.specs.Reading.{row_of, field as csv_field, field_in as csv_field_in}
 use Rattle.fish_lang.specs.Definition.{Definition}
 use Rattle.fish_psf.specs.Eval.{Fields, values}
 use Rattle.fish_psf.specs.Select.{Evaluation}
@@ -13,6 +15,14 @@ use Rattle.fish_psf.specs.Select.{Evaluation}
 unfoldable pub is_record : Form → List ℕ → Bool
 is_record Json b = is_some (record_of b)
 is_record Csv b = is_some (row_of b)
+
+-- what an object in JSON has
+abbrev pub object_fields : Data → Fields
+object_fields d = record { at = λ path. json_field_in path d; items = λ path. json_items_in path d }
+
+-- what the columns of a row in CSV have: none is an array
+abbrev pub column_fields : List (List ℕ) → Fields
+column_fields columns = record { at = λ path. csv_field_in path columns; items = λ path. [] }
 
 -- what a payload of a form has at each path: nothing where it is no record
 unfoldable pub fields_of_payload : Form → List ℕ → Fields

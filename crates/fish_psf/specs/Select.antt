@@ -1,5 +1,5 @@
 -- Which records of a log have a value: the whole meaning of a scan.
-use Rattle.std.specs.Prelude.{ℕ, ◌==◌, ◌&&◌, List, reverse, Bool, false, not, nat_le, nat_lt, Option, Some, None, if◌then◌else◌}
+use Rattle.std.specs.Prelude.{ℕ, ◌==◌, ◌&&◌, List, reverse, Bool, not, nat_le, nat_lt, Option, Some, None, if◌then◌else◌}
 use Rattle.std.specs.List.{enumerate_from, filter_map, list_any}
 use Rattle.fish_value.specs.Same.{same_value}
 use Rattle.fish_value.specs.declared.field.Form.{Form}

@@ -32,12 +32,9 @@ pub trait Parsed {
 
 impl Parsed for JsonRecord {
     ghost use Rattle.fish_json.specs.Contents.{contents};
-    ghost use Rattle.fish_json.specs.Reading.{items_in, field_in};
+    ghost use Rattle.fish_psf.specs.Records.{object_fields};
 
-    ghost fields = { λ r. record {
-      at = λ path. field_in path (contents r);
-      items = λ path. items_in path (contents r);
-    } };
+    ghost fields = { λ r. object_fields (contents r) };
 
     fn look(&self, path: &Path) -> FieldView<'_> {
         self.look(path)
@@ -49,13 +46,10 @@ impl Parsed for JsonRecord {
 }
 
 impl<'a> Parsed for JsonRow<'a> {
-    ghost use Rattle.fish_json.specs.Reading.{items_in, field_in};
     ghost use Rattle.fish_json.specs.Row.{row_contents};
+    ghost use Rattle.fish_psf.specs.Records.{object_fields};
 
-    ghost fields = { λ r. record {
-      at = λ path. field_in path (row_contents r);
-      items = λ path. items_in path (row_contents r);
-    } };
+    ghost fields = { λ r. object_fields (row_contents r) };
 
     fn look(&self, path: &Path) -> FieldView<'_> {
         self.look(path)
@@ -67,11 +61,10 @@ impl<'a> Parsed for JsonRow<'a> {
 }
 
 impl Parsed for CsvRecord {
-    ghost use Rattle.std.specs.Prelude.{[]};
     ghost use Rattle.fish_csv.specs.Contents.{fields_in};
-    ghost use Rattle.fish_csv.specs.Reading.{field_in as row_field_in};
+    ghost use Rattle.fish_psf.specs.Records.{column_fields};
 
-    ghost fields = { λ r. record { at = λ path. row_field_in path (fields_in r); items = λ path. [] } };
+    ghost fields = { λ r. column_fields (fields_in r) };
 
     fn look(&self, path: &Path) -> FieldView<'_> {
         self.look(path)
@@ -83,11 +76,10 @@ impl Parsed for CsvRecord {
 }
 
 impl<'r> Parsed for CsvRow<'r> {
-    ghost use Rattle.std.specs.Prelude.{[]};
-    ghost use Rattle.fish_csv.specs.Reading.{field_in as row_field_in};
     ghost use Rattle.fish_csv.specs.Row.{row_fields};
+    ghost use Rattle.fish_psf.specs.Records.{column_fields};
 
-    ghost fields = { λ r. record { at = λ path. row_field_in path (row_fields r); items = λ path. [] } };
+    ghost fields = { λ r. column_fields (row_fields r) };
 
     fn look(&self, path: &Path) -> FieldView<'_> {
         self.look(path)

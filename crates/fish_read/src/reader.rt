@@ -7,8 +7,8 @@ ghost use Rattle.fish_read.specs.Rows.{fields_in_row, form_of_row};
 use fish_csv::{CsvReader, CsvRecordRefusal, CsvRow};
 use fish_json::{JsonReader, JsonRow, MAX_PAYLOAD, RecordRefusal};
 use fish_psf::{Parsed, PsfRefusal, Steps};
-use fish_value::{FieldView, Form, Path};
-use std::alloc::Global;
+use fish_value::{FieldView, Form, Path, Sequence};
+use std::alloc::{AllocError, Global};
 use std::sync::ledger::Ledger;
 
 /// Reads payloads, and keeps its memory from one to the next. It has over 16 KiB in place, so make it
@@ -102,6 +102,13 @@ impl<'a> Parsed for RecordRow<'a> {
         match self {
             RecordRow::Json(line) => line.look(path),
             RecordRow::Csv(row) => row.look(path),
+        }
+    }
+
+    fn look_each(&self, alloc: Global, path: &Path) -> Result<Sequence<FieldView<'_>>, AllocError> {
+        match self {
+            RecordRow::Json(line) => line.look_each(alloc, path),
+            RecordRow::Csv(_) => Ok(Sequence::new(alloc)),
         }
     }
 }

@@ -3,10 +3,11 @@ use Rattle.std.proofs.Common.{◌≡◌, ℕ, List, Option, ap, ◌∙◌}
 use Rattle.std.specs.Prelude.{Some, None, IsUtf8}
 use Rattle.serde_json.specs.Data.{Data}
 use Rattle.fish_json.specs.Lines.{payload_of}
-use Rattle.fish_json.specs.Reading.{field_in, record_of}
+use Rattle.fish_json.specs.Reading.{record_of}
 use Rattle.fish_json.proofs.Records.{record_is_text}
 use Rattle.fish_lang.specs.Definition.{Definition}
-use Rattle.fish_psf.specs.Eval.{Fields, eval}
+use Rattle.fish_psf.specs.Eval.{Fields, values}
+use Rattle.fish_psf.specs.Records.{object_fields}
 use Rattle.fish_psf.specs.Select.{has_value}
 use Rattle.fish_psf.proofs.RecordLemmas.{json_fields}
 use Rattle.fish_value.specs.declared.field.Form.TheVariants.{Json}
@@ -30,9 +31,9 @@ payload_of_none line h = rw h
 
 -- a line that was read counts as its payload
 pub line_counts : (def : Definition) (v : Value) (t : Tally) (line : List ℕ) (d : Data) (kept : Option (List ℕ))
-    → record_of line ≡ Some d → kept ≡ kept_if (has_value (eval def (λ path. field_in path d)) v) line
+    → record_of line ≡ Some d → kept ≡ kept_if (has_value (values def (object_fields d)) v) line
     → with_record t kept ≡ with_outcome (is_selected def v Json) t (payload_of line)
 line_counts def v t line d kept h same =
     rw (record_is_read line d h).payload
     (ap (with_record t)
-    (same ∙ ap (λ (fields : Fields). kept_if (has_value (eval def fields) v) line) (json_fields line d h)))
+    (same ∙ ap (λ (fields : Fields). kept_if (has_value (values def fields) v) line) (json_fields line d h)))

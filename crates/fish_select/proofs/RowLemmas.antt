@@ -2,11 +2,12 @@
 use Rattle.std.proofs.Common.{◌≡◌, ℕ, List, [], ◌∷◌, Option, Bool, true, false, map, refl, subst, ap, ◌∙◌}
 use Rattle.std.specs.Prelude.{Some, None, IsSome, is_some, if◌then◌else◌}
 use Rattle.fish_csv.specs.Left.{left}
-use Rattle.fish_csv.specs.Reading.{field_in, row_of, rows_in}
+use Rattle.fish_csv.specs.Reading.{row_of, rows_in}
 use Rattle.fish_csv.specs.Rows.{payload_of, stored_text}
 use Rattle.fish_csv.specs.declared.file.RowTexts.{RowTexts}
 use Rattle.fish_lang.specs.Definition.{Definition}
-use Rattle.fish_psf.specs.Eval.{Fields, eval}
+use Rattle.fish_psf.specs.Eval.{Fields, values}
+use Rattle.fish_psf.specs.Records.{column_fields}
 use Rattle.fish_psf.specs.Select.{has_value}
 use Rattle.fish_psf.proofs.RecordLemmas.{csv_fields}
 use Rattle.fish_value.specs.declared.field.Form.TheVariants.{Csv}
@@ -43,7 +44,7 @@ next_is_row texts text more h = first_payload (rows_in texts.rest.now) text more
 
 -- what was found in a row that was read is what its payload has
 pub row_counts : (def : Definition) (v : Value) (text : List ℕ) (fields : List (List ℕ)) (has : Bool)
-    → row_of text ≡ Some fields → has ≡ has_value (eval def (λ path. field_in path fields)) v
+    → row_of text ≡ Some fields → has ≡ has_value (values def (column_fields fields)) v
     → has ≡ is_selected def v Csv text
 row_counts def v text fields has h same =
-    same ∙ ap (λ (found : Fields). has_value (eval def found) v) (csv_fields text fields h)
+    same ∙ ap (λ (found : Fields). has_value (values def found) v) (csv_fields text fields h)

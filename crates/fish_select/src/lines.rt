@@ -3,7 +3,7 @@
 ghost use Rattle.std.specs.Prelude.{◌≡◌, ◌+◌, ◌<◌, ◌≤◌, ◌^◌, length, IfOk, IsUtf8, OnOk};
 ghost use Rattle.fish_json.specs.Lines.{outcomes, payload_of};
 ghost use Rattle.fish_lang.specs.Definition.{definition_of};
-ghost use Rattle.fish_psf.specs.Eval.{eval};
+ghost use Rattle.fish_psf.specs.Eval.{values};
 ghost use Rattle.fish_psf.specs.Select.{has_value};
 ghost use Rattle.fish_select.specs.Selection.{is_selected};
 ghost use Rattle.fish_select.specs.Tally.{kept_if, nothing, with_outcome, with_outcomes};
@@ -81,7 +81,7 @@ fn kept_line<R: Parsed>(
 ) -> Result<Option<Text>, AllocError>
     requires { IsUtf8 line.now }
     ensures { IfOk result (λ kept. kept
-        ≡ kept_if (has_value (eval (definition_of def.now) (R.fields found.now)) value.now) line.now) }
+        ≡ kept_if (has_value (values (definition_of def.now) (R.fields found.now)) value.now) line.now) }
 {
     if !has(alloc, def, value, found)? {
         return Ok(None);

@@ -1,15 +1,23 @@
--- One value more stands behind the others, and at the end all do.
-use Rattle.std.proofs.Common.{◌≡◌, ◌∷◌, [], ◌++◌, List, length, map, sym, ap, ◌∙◌, append_assoc, append-nil, arith, refl}
+-- One more value comes after the others, and at the end all have come.
+use Rattle.std.proofs.Common.{◌≡◌, ℕ, ◌∷◌, [], ◌++◌, List, length, map, sym, ap, ◌∙◌, append_assoc, append-nil, arith, refl}
 use Rattle.std.proofs.lemmas.List.{map-append}
 use Rattle.std.specs.Vec.Iter.{into_iter_items}
 use Rattle.fish_value.specs.declared.value.Value.{Value}
+use Rattle.fish_lang.specs.Definition.{definition_of}
+use Rattle.fish_psf.specs.Eval.{values}
 use Rattle.fish_psf.specs.Keys.{value_under}
 use Rattle.fish_psf.specs.declared.key.KeyValue.{KeyValue}
 use Rattle.fish_psf.proofs.properties.push_keys.Goals as goal
 
+-- a list of no element is empty
 nothing_left : {X : Type 0} (l : List X) → length l ≡ 0 → l ≡ []
 nothing_left [] h = refl
 nothing_left (x ∷ xs) h = absurd (omega arith)
+
+-- what comes after the keys, where that is all
+put_all : (new old : List KeyValue) (id : ℕ) (some all : List Value) → new ≡ old ++ map (value_under id) some → some ≡ all
+    → new ≡ old ++ map (value_under id) all
+put_all new old id some all is same = is ∙ ap (λ (vs : List Value). old ++ map (value_under id) vs) same
 
 pub loop-value-preserved : goal.loop-value-preserved
 loop-value-preserved g c =
@@ -33,6 +41,7 @@ returns g c =
     let id = c.args.active.now.id in
     let none = c.in-None.ensures.steps in
     let empty : into_iter_items at.value-iterator ≡ [] = nothing_left _ (sym at.invariant.2 ∙ none.0) in
-    let all = sym (append-nil at.yielded) ∙ rw empty at at.invariant.0 ∙ c.into_iter-value-iterator.ensures.into_iter_gives.0
+    let gives = values (definition_of c.args.active.now.def) (g.R.Parsed.fields c.args.rec.now) in
+    let all : at.yielded ≡ gives = sym (append-nil at.yielded) ∙ rw empty at at.invariant.0 ∙ c.into_iter-value-iterator.ensures.into_iter_gives.0
     ∙ c.into_vec-value-items.ensures ∙ c.in_ok-values.ensures in
-    at.invariant.1 ∙ ap (λ (vs : List Value). c.args.keys.now ++ map (value_under id) vs) all
+    put_all _ _ id at.yielded gives at.invariant.1 all

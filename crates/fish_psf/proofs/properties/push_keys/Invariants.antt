@@ -1,4 +1,4 @@
--- The values so far stand behind the others, under the id.
+-- The values so far come after the keys that were there, under the id.
 use Rattle.std.proofs.Common.{◌≡◌, ◌++◌, length, map}
 use Rattle.std.specs.Vec.Iter.{into_iter_items, into_iter_len}
 use Rattle.fish_psf.specs.Keys.{value_under}

@@ -1,5 +1,5 @@
 -- Where the path leads to nothing there are no elements.
-use Rattle.std.proofs.Common.{map, sym, ap, ◌∙◌}
+use Rattle.std.proofs.Common.{map, ap, ◌∙◌}
 use Rattle.std.proofs.lemmas.Result.{IfOk-weaker}
 use Rattle.fish_value.specs.Seen.{field_seen}
 use Rattle.fish_json.specs.Contents.{contents}
