@@ -2,7 +2,9 @@
 use Rattle.std.proofs.Common.{◌≡◌, ℕ, suc, ◌+◌, ◌-◌, ◌*◌, ◌/◌, ◌%◌, ◌<◌, ◌≤◌, ◌^◌, ◌⊎◌, inl, inr, ◌++◌, List}
 use Rattle.std.proofs.Common.{refl, sym, ap, ◌∙◌, subst, arith, length, length-append}
 use Rattle.std.proofs.Common.{All, Some, None, Option, slice_get}
-use Rattle.std.proofs.lemmas.Option.{get_or_from_slice_get}
+use Rattle.std.proofs.lemmas.Option.{get_or_from_slice_get, slice_get_within}
+use Rattle.fish_catalog.proofs.Texts.{canonical_read}
+use Rattle.fish_catalog.specs.Rows.{IsCatalog, IsRow}
 use Rattle.fish_catalog.specs.declared.commit.Commit.{Commit}
 use Rattle.fish_catalog.specs.declared.entry.Entry.{Entry}
 use Rattle.fish_catalog.specs.declared.row.CatRow.{CatRow}
@@ -21,15 +23,25 @@ use Rattle.fish_image.specs.Progress.{AreHeads}
 use Rattle.fish_image.specs.Reading.{IsTold}
 use Rattle.fish_image.specs.Stands.{words_in}
 use Rattle.fish_flush.proofs.RuleFacts.{few_numbers, starts_above}
+use Rattle.fish_lang.specs.Definition.{Definition}
+use Rattle.fish_lang.specs.Language.{IsAccepted}
 use Rattle.fish_rule.specs.Start.{IsShape}
 use Rattle.fish_rule.specs.Table.{Stands}
 use Rattle.fish_rule.specs.declared.table.Shape.{Shape}
 use Rattle.fish_rule.specs.declared.view.View.{View}
 
+-- the text of each row of a catalogue is a definition
+meant_rows : (rows : List CatRow) → IsCatalog rows → (id : ℕ) (row : CatRow) → slice_get rows id ≡ Some row
+    → (said : Definition) × IsAccepted row.def said
+meant_rows rows catalog id row there =
+    let is = get_or_from_slice_get rows id row row there in
+    let of = subst IsRow is (catalog.each id row (slice_get_within rows id row there)) in
+    (of.text.said, canonical_read row.def of.text)
+
 -- the last commit was read so far, by the rows as they are
 pub commits_read : (f : Flusher) (c d : Commit) (body lines : List ℕ) (old : List Entry) → IsCommitted f c body lines old
-    → c.bucket_bits ≡ d.bucket_bits → HaveGrown c.count c.rows d.rows → IsReadTo d (words_in lines) old f.count f.line f.heads.items
-commits_read f c d body lines old h bits grown =
+    → c.bucket_bits ≡ d.bucket_bits → HaveGrown c.count c.rows d.rows → IsCatalog d.rows → IsReadTo d (words_in lines) old f.count f.line f.heads.items
+commits_read f c d body lines old h bits grown catalog =
     let stands = h.is.stands in
     let at : Commit = record d { lines = f.line } in
     let line = h.line in
@@ -37,7 +49,7 @@ commits_read f c d body lines old h bits grown =
     record {
       end = stands.end;
       agrees = subst (λ (k : ℕ). Agrees at (words_in lines) k stands.end) h.count
-          (grown_agrees c at c.count bits (omega arith) grown (words_in lines) c.count stands.end (omega arith) stands.agrees);
+          (grown_agrees c at c.count bits (omega arith) grown (λ m p has. meant_rows d.rows catalog) (words_in lines) c.count stands.end (omega arith) stands.agrees);
       line_is = stands.lines ∙ line;
       entries = stands.entries;
       heads_are = subst (λ (b : ℕ). AreHeads (2 ^ b) stands.end.places f.heads.items) bits h.heads;

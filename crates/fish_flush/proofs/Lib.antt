@@ -5,6 +5,7 @@ pub mod Drafted
 pub mod Faults
 pub mod Growing
 pub mod Images
+pub mod KeyedValues
 pub mod LinkedWords
 pub mod PageWrites
 pub mod RegionSteps

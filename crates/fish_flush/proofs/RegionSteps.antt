@@ -9,7 +9,7 @@ use Rattle.fish_catalog.specs.declared.entry.Entry.{Entry}
 use Rattle.fish_flush.specs.Linking.{AreSpelled}
 use Rattle.fish_flush.specs.Reading.{IsLineAt, IsReadTo}
 use Rattle.fish_flush.specs.Rows.{HoldsRows}
-use Rattle.fish_flush.proofs.Growing.{grown_agrees, grown_self}
+use Rattle.fish_flush.proofs.Growing.{grown_agrees, grown_self, meant_self}
 use Rattle.fish_flush.proofs.TableRegions.{IsNextRegion, record_next, record_words, some_lines}
 use Rattle.fish_flush.proofs.TableRegions.{void_keys, void_next}
 use Rattle.fish_image.proofs.Agreement.{agrees_more, agrees_number}
@@ -199,7 +199,7 @@ module _ (v : View) (s : Stands v) (f : Found) (among : Among f v.learned.found)
       let t = next.2 in
       let all : (w ++ x) ++ r ≡ w ++ out = append_assoc w x r ∙ ap (λ (l : List ℕ). w ++ l) (sym next.1) in
       let before : Agrees d ((w ++ x) ++ r) n at = agrees_more d (w ++ x) r n at
-      (grown_agrees from d n refl (omega arith) (grown_self n c.rows) (w ++ x) n at (omega arith) read.agrees) in
+      (grown_agrees from d n refl (omega arith) (grown_self n c.rows) (meant_self c.rows) (w ++ x) n at (omega arith) read.agrees) in
       let size = read.size in
       let at_line = read.line_is in
       let seam : drop (4 * at.line) ((w ++ x) ++ r) ≡ r =

@@ -2,28 +2,32 @@
 use Rattle.std.proofs.Common.{◌≡◌, ℕ, zero, suc, ◌<◌, ◌≤◌, ◌⊎◌, inl, inr, List, [], ◌∷◌}
 use Rattle.std.proofs.Common.{filter, length, map, sym, refl, ap, ◌∙◌}
 use Rattle.std.proofs.Common.{subst, arith, Bool, true, false, cond, Some, None, Option, option_map, slice_get}
-use Rattle.std.specs.Prelude.{All, filter_map}
-use Rattle.std.specs.List.{cons_option}
+use Rattle.std.specs.Prelude.{All}
+use Rattle.std.specs.List.{flat_map}
+use Rattle.std.specs.List.Sorted.{IsStrictlyIncreasing}
 use mathlib.Core.Option.{some}
 use Rattle.std.proofs.Math.ListN.{get_elem?}
 use Rattle.std.proofs.lemmas.List.{length-map}
 use Rattle.std.proofs.lemmas.Option.{get_or_from_slice_get, same_Some, slice_get-map, slice_get_within}
+use Rattle.fish_catalog.proofs.ActiveTexts.{active_ids_increase}
+use Rattle.fish_catalog.proofs.Texts.{canonical_read}
+use Rattle.fish_catalog.specs.Canonical.{IsCanonical}
 use Rattle.fish_catalog.specs.Covering.{Covers}
 use Rattle.fish_catalog.specs.Listing.{active_texts, is_on, listed_of}
 use Rattle.fish_catalog.specs.Words.{bound_word}
 use Rattle.fish_catalog.specs.declared.listed.Listed.{Listed}
 use Rattle.fish_catalog.specs.declared.row.CatRow.{CatRow}
 use Rattle.fish_flush.specs.Rows.{HoldsRows}
-use Rattle.fish_image.specs.Log.{Gives, HasId, IsSound}
+use Rattle.fish_flush.proofs.KeyedValues.{ids_of, keyed_none, keyed_of, keyed_one, some_all, some_none, under, under_property}
+use Rattle.fish_image.specs.Log.{AreSomeOf, HasValues, values_under}
 use Rattle.fish_image.specs.Log as image
-use Rattle.fish_lang.proofs.Outcomes.{outcome-only}
 use Rattle.fish_lang.specs.Canonical.{definition_text}
 use Rattle.fish_lang.specs.Definition.{Definition, definition_of}
 use Rattle.fish_lang.specs.Language.{IsAccepted}
 use Rattle.fish_layout.specs.declared.parts.BodyParts.{BodyParts}
 use Rattle.fish_layout.specs.declared.parts.KeyPart.{KeyPart}
-use Rattle.fish_psf.specs.Eval.{Fields, eval}
-use Rattle.fish_psf.specs.Keys.{key_of, keys_of}
+use Rattle.fish_psf.specs.Eval.{Fields, values}
+use Rattle.fish_psf.specs.Keys.{keys_of, keys_under}
 use Rattle.fish_psf.specs.Records.{fields_of_payload}
 use Rattle.fish_psf.specs.declared.key.ActiveDef.{ActiveDef}
 use Rattle.fish_psf.specs.declared.key.KeyValue.{KeyValue}
@@ -53,19 +57,6 @@ module _ {A : Type 0} where
   at_among (y ∷ xs) zero x at = inl (same_Some y x at)
   at_among (y ∷ xs) (suc i) x at = inr (at_among xs i x at)
 
-  -- what is among a list with an optional first is the first or among the rest
-  among_cons : (o : Option A) (xs : List A) (x : A) → Among x (cons_option o xs) → (o ≡ Some x) ⊎ Among x xs
-  among_cons None xs x m = inr m
-  among_cons (Some y) xs x (inl e) = inl (ap Some e)
-  among_cons (Some y) xs x (inr m) = inr m
-
-  -- and the other way round
-  cons_among : (o : Option A) (xs : List A) (x : A) → (o ≡ Some x) ⊎ Among x xs → Among x (cons_option o xs)
-  cons_among None xs x (inl e) = cc
-  cons_among None xs x (inr m) = m
-  cons_among (Some y) xs x (inl e) = inl (same_Some y x e)
-  cons_among (Some y) xs x (inr m) = inr m
-
   -- an element of a list meets what all do
   all_at : (P : A → Type 0) (xs : List A) (x : A) → All P xs → Among x xs → P x
   all_at P xs x all m = (let t = among_at xs x m in
@@ -84,43 +75,7 @@ module _ {A B : Type 0} where
   map_among f (y ∷ xs) x (inl e) = inl (ap f e)
   map_among f (y ∷ xs) x (inr m) = inr (map_among f xs x m)
 
-  -- what is in a list of what a function gives
-  given_among : (f : A → Option B) (xs : List A) (x : A) (y : B) → Among x xs → f x ≡ Some y
-      → Among y (filter_map f xs)
-  given_among f [] x y m is = elim m [ ]
-  given_among f (z ∷ xs) x y (inl e) is = cons_among (f z) (filter_map f xs) y (inl (ap f e ∙ is))
-  given_among f (z ∷ xs) x y (inr m) is = cons_among (f z) (filter_map f xs) y (inr (given_among f xs x y m is))
-
-  -- what a filtering map gives comes of something in the list
-  among_given : (f : A → Option B) (xs : List A) (y : B) → Among y (filter_map f xs)
-      → (x : A) × Among x xs × (f x ≡ Some y)
-  among_given f [] y m = elim m [ ]
-  among_given f (z ∷ xs) y m = by (λ n. among_given f xs y n) (among_cons (f z) (filter_map f xs) y m)
-    where
-      by : (Among y (filter_map f xs) → (x : A) × Among x xs × (f x ≡ Some y)) → (f z ≡ Some y) ⊎ Among y (filter_map f xs)
-          → (x : A) × Among x (z ∷ xs) × (f x ≡ Some y)
-      by rest (inl e) = (z, inl refl, e)
-      by rest (inr n) = (let t = rest n in (t.0, inr t.1, t.2))
-
 -- ---- definitions
-
--- a text means one definition
-means_once : (text : List ℕ) (d e : Definition) → IsAccepted text d → IsAccepted text e → d ≡ e
-means_once text d e p q =
-    let same = sym (outcome-only text (Rattle.std.specs.Prelude.Ok d) p) ∙ outcome-only text (Rattle.std.specs.Prelude.Ok e) q in cc
-
--- what a definition gives is under its id
-key_is : (fields : Fields) (d : ActiveDef) (value : Value) → eval (definition_of d.def) fields ≡ Some value
-    → key_of fields d ≡ Some (record { id = d.id; value = value })
-key_is fields d value is = ap (option_map (λ (v : Value). record { id = d.id; value = v })) is
-
--- a key entry is of the definition whose value it has
-is_key : (o : Option Value) (id : ℕ) (x : KeyValue) → option_map (λ (v : Value). record { id = id; value = v }) o ≡ Some x
-    → (id ≡ x.id) × (o ≡ Some x.value)
-is_key None id x e = cc
-is_key (Some v) id x e =
-    let same = same_Some (record { id = id; value = v }) x e in
-    (ap (λ (z : KeyValue). z.id) same, ap (λ (z : KeyValue). Some z.value) same)
 
 -- the text of an active definition is among the active ones
 front : (x : Listed) (ls : List Listed) (b : Bool) → b ≡ true
@@ -145,22 +100,24 @@ among_active (x ∷ ls) zero l there on =
 among_active (x ∷ ls) (suc i) l there on =
     behind (l.id, l.def) x (filter is_on ls) x.active (among_active ls i l there on)
 
--- and each active text is one of a definition
-active_among : (ls : List Listed) (t : ℕ × List ℕ) → Among t (active_texts ls)
-    → (i : ℕ) × (l : Listed) × (slice_get ls i ≡ Some l) × (l.id ≡ t.0) × (l.def ≡ t.1)
-active_among [] t m = elim m [ ]
-active_among (x ∷ ls) t m = by (λ n. active_among ls t n) x.active m
-  where
-    rest : ((i : ℕ) × (l : Listed) × (slice_get ls i ≡ Some l) × (l.id ≡ t.0) × (l.def ≡ t.1))
-        → (i : ℕ) × (l : Listed) × (slice_get (x ∷ ls) i ≡ Some l) × (l.id ≡ t.0) × (l.def ≡ t.1)
-    rest f = (suc f.0, f.1, f.2, f.3, f.4)
+-- an active definition with this id and text stands in the list
+abbrev HasText : List Listed → ℕ × List ℕ → Type 0
+HasText ls t = (i : ℕ) × (l : Listed) × (slice_get ls i ≡ Some l) × (l.id ≡ t.0) × (l.def ≡ t.1) × (l.active ≡ true)
 
-    by : (Among t (active_texts ls) → (i : ℕ) × (l : Listed) × (slice_get ls i ≡ Some l) × (l.id ≡ t.0) × (l.def ≡ t.1)) → (b : Bool)
-        → Among t (map (λ (l : Listed). (l.id, l.def)) (cond b (x ∷ filter is_on ls) (filter is_on ls)))
-        → (i : ℕ) × (l : Listed) × (slice_get (x ∷ ls) i ≡ Some l) × (l.id ≡ t.0) × (l.def ≡ t.1)
-    by others true (inl e) = (0, x, refl, ap (λ (z : ℕ × List ℕ). z.0) e, ap (λ (z : ℕ × List ℕ). z.1) e)
-    by others true (inr n) = rest (others n)
-    by others false n = rest (others n)
+-- and each active text is one of an active definition
+active_among : (ls : List Listed) (t : ℕ × List ℕ) → Among t (active_texts ls) → HasText ls t
+active_among [] t m = elim m [ ]
+active_among (x ∷ ls) t m = by (λ n. active_among ls t n) x.active refl m
+  where
+    rest : HasText ls t → HasText (x ∷ ls) t
+    rest f = (suc f.0, f.1, f.2, f.3, f.4, f.5)
+
+    by : (Among t (active_texts ls) → HasText ls t) → (b : Bool) → x.active ≡ b
+        → Among t (map (λ (l : Listed). (l.id, l.def)) (cond b (x ∷ filter is_on ls) (filter is_on ls))) → HasText (x ∷ ls) t
+    by others true on (inl e) =
+        (0, x, refl, ap (λ (z : ℕ × List ℕ). z.0) e, ap (λ (z : ℕ × List ℕ). z.1) e, on)
+    by others true on (inr n) = rest (others n)
+    by others false on n = rest (others n)
 
 -- a listed row is one of the rows
 listed_row : (rows : List CatRow) (i : ℕ) (l : Listed) → slice_get (map listed_of rows) i ≡ Some l
@@ -218,71 +175,117 @@ module _ {v : View} (w : World) (r : Rule v.about w) (seat : ℕ) (at : get_elem
         by (Some to) ends = r.registry.boundaries.unended id to n (few_rows id row there)
             (end_word id row there ∙ ap bound_word ends) above (covers.ahead to ends) below
 
-    -- each row that covers the record and gives a value has its key entry
-    complete : (id : ℕ) (row : CatRow) (x : Value) → slice_get rows id ≡ Some row → Covers row n → Gives row p x → HasId p.keys id
-    unfolding keys_of
-    complete id row x there covers gives =
-        let g = w.registry in
-        let k : Key = v.about in
-        let u : ℕ = r.version_of n in
-        let listed = r.registry.boundaries.begun id covers.from n (few_rows id row there)
-        (begin_word id row there ∙ ap bound_word covers.begins) above covers.behind below in
-        let l = there_is (definitions_at k g u) id listed in
-        let on = still_open id row there covers l.0 l.1 in
-        let own : l.0.id ≡ id = (r.registry.versions.listings u reached).ids id l.0 l.1 in
-        let later = text_grows k g u (version_in g) reached id l.0 l.1 in
-        let same : later.0.def ≡ row.def =
-        ap (λ (z : Listed). z.def) (same_Some later.0 (listed_of row)
-        (sym later.1 ∙ ap (λ (z : List Listed). slice_get z id) now ∙ slice_get-map listed_of rows id ∙ ap (option_map listed_of) there)) in
-        let d = among_map text_of keyed.keys.defs (l.0.id, l.0.def)
-        (subst (Among {A = ℕ × List ℕ} (l.0.id, l.0.def)) texts (among_active (definitions_at k g u) id l.0 l.1 on)) in
-        let text : definition_text (definition_of d.0.def) ≡ row.def =
-        ap (λ (z : ℕ × List ℕ). z.1) d.2 ∙ sym later.2 ∙ same in
-        let said : definition_of d.0.def ≡ gives.said = means_once row.def (definition_of d.0.def) gives.said
-        (subst (λ (z : List ℕ). IsAccepted z (definition_of d.0.def)) text
-        (all_at IsWritten keyed.keys.defs d.0 keyed.keys.written d.1)) gives.read in
-        let fields : Fields = fields_of_payload p.form p.payload in
-        let value : eval (definition_of d.0.def) fields ≡ Some x = ap (λ (z : Definition). eval z fields) said ∙ gives.value in
-        let entry : KeyValue = record { id = d.0.id; value = x } in
-        let among = given_among (key_of fields) keyed.keys.defs d.0 entry d.1 (key_is fields d.0 x value) in
-        let key = among_map property p.keys entry (subst (Among entry) (sym keyed.keys.keys) among) in
-        let place = among_at p.keys key.0 key.1 in
-        record {
-          place = place.0;
-          key = key.0;
-          there = place.1;
-          is = ap (λ (z : KeyValue). z.id) key.2 ∙ ap (λ (z : ℕ × List ℕ). z.0) d.2 ∙ own;
-        }
+    -- what the record has at each path
+    abbrev fields : Fields
+    fields = fields_of_payload p.form p.payload
 
-    -- and each key entry is of a row and has the value that its definition gives
-    sound : (j : ℕ) (key : KeyPart) → slice_get p.keys j ≡ Some key → IsSound rows p key
+    -- the definitions of the record's version
+    abbrev listed : List Listed
+    listed = definitions_at v.about w.registry (r.version_of n)
+
+    -- the entries of an id have the values that are given under it
+    given : (id : ℕ) → values_under id p.keys ≡ under id (flat_map (keys_under fields) keyed.keys.defs)
     unfolding keys_of
-    sound j key there =
+    given id = under_property id p.keys ∙ ap (under id) keyed.keys.keys
+
+    -- the ids of the definitions ascend
+    ascending : IsStrictlyIncreasing (ids_of keyed.keys.defs)
+    ascending = subst (λ (ts : List (ℕ × List ℕ)). IsStrictlyIncreasing (map (λ (t : ℕ × List ℕ). t.0) ts)) texts
+        (active_ids_increase listed (r.registry.versions.listings (r.version_of n) reached))
+
+    -- each of them is one of the active definitions of the version
+    active_at : (d : ActiveDef) → Among d keyed.keys.defs
+        → (l : Listed) × (slice_get listed d.id ≡ Some l) × (l.def ≡ definition_text (definition_of d.def)) × (l.active ≡ true)
+    active_at d m =
+        let t = active_among listed (text_of d)
+        (subst (Among {A = ℕ × List ℕ} (text_of d)) (sym texts) (map_among text_of keyed.keys.defs d m)) in
+        let own : t.0 ≡ d.id = sym ((r.registry.versions.listings (r.version_of n) reached).ids t.0 t.1 t.2) ∙ t.3 in
+        (t.1, subst (λ (z : ℕ). slice_get listed z ≡ Some t.1) own t.2, t.4, t.5)
+
+    -- so each key entry is of a row
+    known : (j : ℕ) (key : KeyPart) → slice_get p.keys j ≡ Some key → key.id < length rows
+    unfolding keys_of
+    known j key there =
         let g = w.registry in
         let k : Key = v.about in
-        let u : ℕ = r.version_of n in
-        let fields : Fields = fields_of_payload p.form p.payload in
-        let among : Among (property key) (keys_of fields keyed.keys.defs) = subst (Among (property key)) keyed.keys.keys
+        let among : Among (property key) (flat_map (keys_under fields) keyed.keys.defs) = subst (Among (property key)) keyed.keys.keys
         (map_among property p.keys key (at_among p.keys j key there)) in
-        let d = among_given (key_of fields) keyed.keys.defs (property key) among in
-        let parts = is_key (eval (definition_of d.0.def) fields) d.0.id (property key) d.2 in
-        let l = active_among (definitions_at k g u) (text_of d.0)
-        (subst (Among {A = ℕ × List ℕ} (text_of d.0)) (sym texts) (map_among text_of keyed.keys.defs d.0 d.1)) in
-        let own : l.0 ≡ key.id = sym ((r.registry.versions.listings u reached).ids l.0 l.1 l.2) ∙ l.3 ∙ parts.0 in
-        let later = text_grows k g u (version_in g) reached l.0 l.1 l.2 in
-        let row = listed_row rows l.0 later.0 (ap (λ (z : List Listed). slice_get z l.0) (sym now) ∙ later.1) in
-        let text : definition_text (definition_of d.0.def) ≡ row.0.def = sym l.4 ∙ sym later.2 ∙ sym row.2 in
-        record {
-          row = row.0;
-          there = subst (λ (z : ℕ). slice_get rows z ≡ Some row.0) own row.1;
-          gives = record {
-            said = definition_of d.0.def;
-            read = subst (λ (z : List ℕ). IsAccepted z (definition_of d.0.def)) text
+        let d = keyed_of fields keyed.keys.defs (property key) among in
+        let l = active_at d.0 d.1 in
+        let later = text_grows k g (r.version_of n) (version_in g) reached d.0.id l.0 l.1 in
+        let row = listed_row rows d.0.id later.0 (ap (λ (z : List Listed). slice_get z d.0.id) (sym now) ∙ later.1) in
+        subst (λ (z : ℕ). z < length rows) d.2 (slice_get_within rows d.0.id row.0 row.1)
+
+    module _ (id : ℕ) (row : CatRow) (there : slice_get rows id ≡ Some row) where
+      -- the row stands in the list of definitions
+      listed_at : slice_get (definitions_at v.about w.registry (version_in w.registry)) id ≡ Some (listed_of row)
+      listed_at = ap (λ (z : List Listed). slice_get z id) now ∙ slice_get-map listed_of rows id ∙ ap (option_map listed_of) there
+
+      -- its text is canonical
+      canonical : IsCanonical row.def
+      canonical =
+          all_at (λ (l : Listed). IsCanonical l.def) (definitions_at v.about w.registry (version_in w.registry)) (listed_of row)
+          (r.registry.versions.listings (version_in w.registry) (omega arith)).texts
+          (at_among (definitions_at v.about w.registry (version_in w.registry)) id (listed_of row) listed_at)
+
+      -- where its definition is active at the record's version, the entries have just its values
+      active_values : (l : Listed) → slice_get listed id ≡ Some l → l.active ≡ true → HasValues row n p (values_under id p.keys)
+      active_values l at on =
+          let g = w.registry in
+          let k : Key = v.about in
+          let u : ℕ = r.version_of n in
+          let own : l.id ≡ id = (r.registry.versions.listings u reached).ids id l at in
+          let later = text_grows k g u (version_in g) reached id l at in
+          let same : later.0.def ≡ row.def =
+          ap (λ (z : Listed). z.def) (same_Some later.0 (listed_of row) (sym later.1 ∙ listed_at)) in
+          let d = among_map text_of keyed.keys.defs (l.id, l.def)
+          (subst (Among {A = ℕ × List ℕ} (l.id, l.def)) texts (among_active (definitions_at k g u) id l at on)) in
+          let text : definition_text (definition_of d.0.def) ≡ row.def =
+          ap (λ (z : ℕ × List ℕ). z.1) d.2 ∙ sym later.2 ∙ same in
+          let said : Definition = definition_of d.0.def in
+          let are : values_under id p.keys ≡ values said fields =
+          given id ∙ keyed_one fields id keyed.keys.defs d.0 d.1 (ap (λ (z : ℕ × List ℕ). z.0) d.2 ∙ own) ascending in
+          record {
+            said = said;
+            read = subst (λ (z : List ℕ). IsAccepted z said) text
                 (all_at IsWritten keyed.keys.defs d.0 keyed.keys.written d.1);
-            value = parts.1;
-          };
-        }
+            some = subst (λ (vs : List Value). AreSomeOf vs (values said fields)) (sym are) (some_all (values said fields));
+            all = λ _. are;
+          }
+
+      -- where it isn't, there are none, and the row doesn't cover the record
+      no_values : ((l : Listed) → slice_get listed id ≡ Some l → l.active ≡ true → ⊥) → HasValues row n p (values_under id p.keys)
+      no_values none =
+          let nothing : values_under id p.keys ≡ [] =
+          given id ∙ keyed_none fields id keyed.keys.defs (λ d m is.
+          let l = active_at d m in
+          none l.0 (subst (λ (z : ℕ). slice_get listed z ≡ Some l.0) is l.1) l.3) in
+          record {
+            said = canonical.said;
+            read = canonical_read row.def canonical;
+            some = some_none (values_under id p.keys) (values canonical.said fields) nothing;
+            all = λ covers.
+                let begun = r.registry.boundaries.begun id covers.from n (few_rows id row there)
+                (begin_word id row there ∙ ap bound_word covers.begins) above covers.behind below in
+                let l = there_is listed id begun in
+                absurd (none l.0 l.1 (still_open id row there covers l.0 l.1));
+          }
+
+      -- so they have the values that an image asks
+      row_values : HasValues row n p (values_under id p.keys)
+      row_values = by (slice_get listed id) refl
+        where
+          on_or_off : (l : Listed) → slice_get listed id ≡ Some l → (b : Bool) → l.active ≡ b → HasValues row n p (values_under id p.keys)
+          on_or_off l at true on = active_values l at on
+          on_or_off l at false off = no_values (λ m there_m on.
+              let same = same_Some l m (sym at ∙ there_m) in
+              let active = ap (λ (z : Listed). z.active) same in
+              absurd cc)
+
+          by : (o : Option Listed) → slice_get listed id ≡ o → HasValues row n p (values_under id p.keys)
+          by None at = no_values (λ l there_l on. absurd cc)
+          by (Some l) at = on_or_off l at l.active refl
 
     -- so it has the keys that an image asks of it
     pub table_keys : image.HasKeys rows n p
-    table_keys = record { sound = sound; complete = complete }
+    table_keys = record { known = known; values = row_values }

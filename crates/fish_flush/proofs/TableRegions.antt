@@ -12,10 +12,10 @@ use Rattle.fish_catalog.specs.declared.entry.Entry.TheVariants as entry
 use Rattle.fish_catalog.specs.declared.row.CatRow.{CatRow}
 use Rattle.fish_flush.specs.Linking.{IsLinked}
 use Rattle.fish_flush.specs.Rows.{HoldsRows}
+use Rattle.fish_flush.proofs.KeyedValues.{under_unlink}
 use Rattle.fish_flush.proofs.TableKeys.{table_keys}
 use Rattle.fish_image.proofs.Regions.{keyless}
-use Rattle.fish_image.specs.Log.{FollowsIn, HasKeys, behind_record}
-use Rattle.fish_image.specs.Log.{void_words}
+use Rattle.fish_image.specs.Log.{AreSomeOf, FollowsIn, HasKeys, behind_record, values_under, void_words}
 use Rattle.fish_image.specs.Progress.{AreHeads}
 use Rattle.fish_image.specs.Reached.{AreLinked, Reached, behind, page_of, with_keys}
 use Rattle.fish_layout.proofs.Clearing.{choose_first, choose_second}
@@ -28,6 +28,8 @@ use Rattle.fish_layout.specs.Body.{IsBody, body_lines}
 use Rattle.fish_layout.specs.Cleared.{IsKeyWord, Spells, choose, unlink, unlinked}
 use Rattle.fish_layout.specs.Header.{keys_of, lines_of, void_word}
 use Rattle.fish_layout.specs.declared.parts.BodyParts.{BodyParts}
+use Rattle.fish_psf.specs.Records.{evaluation}
+use Rattle.fish_value.specs.declared.value.Value.{Value}
 use Rattle.fish_layout.specs.declared.parts.KeyPart.{KeyPart}
 use Rattle.fish_flush.proofs.RuleFacts.{head_plain, kind_inside, void_begins}
 use Rattle.fish_rule.proofs.laws.Regions.{kind-inside, region_found, word_known}
@@ -57,24 +59,19 @@ unlink_get (x ∷ ks) zero k found =
     ap (λ (y : KeyPart). Some (record y { prev = 0 })) (Rattle.std.proofs.lemmas.Option.same_Some x k found)
 unlink_get (x ∷ ks) (suc c) k found = unlink_get ks c k found
 
--- and where it stands, a key of the same id and value stood
-link_get : (ks : List KeyPart) (c : ℕ) (k : KeyPart) → slice_get (unlink ks) c ≡ Some k
-    → (x : KeyPart) × (slice_get ks c ≡ Some x) × (x.id ≡ k.id)
-link_get [] c k found = absurd cc
-link_get (x ∷ ks) zero k found =
-    (x, refl, ap (λ (y : KeyPart). y.id) (Rattle.std.proofs.lemmas.Option.same_Some (record x { prev = 0 }) k found))
-link_get (x ∷ ks) (suc c) k found = link_get ks c k found
-
 -- what is asked of keys doesn't speak of previous nodes
 keys_unlinked : (rows : List CatRow) (n : ℕ) (p : BodyParts) → HasKeys rows n (unlinked p) → HasKeys rows n p
 keys_unlinked rows n p has = record {
-  sound = λ j k there.
-      let s = has.sound j (record k { prev = 0 }) (unlink_get p.keys j k there) in
-      record { row = s.row; there = s.there; gives = record { said = s.gives.said; read = s.gives.read; value = s.gives.value } };
-  complete = λ id row v there covers gives.
-      let s = has.complete id row v there covers (record { said = gives.said; read = gives.read; value = gives.value }) in
-      let t = link_get p.keys s.place s.key s.there in
-      record { place = s.place; key = t.0; there = t.1; is = t.2 ∙ s.is };
+  known = λ j k there. has.known j (record k { prev = 0 }) (unlink_get p.keys j k there);
+  values = λ id row there.
+      let h = has.values id row there in
+      let same : values_under id (unlink p.keys) ≡ values_under id p.keys = under_unlink id p.keys in
+      record {
+        said = h.said;
+        read = h.read;
+        some = subst (λ (vs : List Value). AreSomeOf vs (evaluation h.said p.form p.payload)) same h.some;
+        all = λ covers. sym same ∙ h.all covers;
+      };
 }
 
 -- two records of one list of words differ in their numbers alone

@@ -1,5 +1,6 @@
 -- What a flusher keeps of the last commit.
 use Rattle.std.specs.Prelude.{ℕ, ◌≡◌, ◌+◌, ◌*◌, ◌^◌, ◌≤◌, List, [], length}
+use Rattle.fish_catalog.specs.Limits.{newest_format}
 use Rattle.fish_catalog.specs.declared.commit.Commit.{Commit}
 use Rattle.fish_catalog.specs.declared.entry.Entry.{Entry}
 use Rattle.fish_catalog.specs.declared.row.CatRow.{CatRow}
@@ -12,12 +13,21 @@ use Rattle.fish_slots.specs.Places.{lines_at}
 
 -- the commit of a store without a record
 abbrev pub first_commit : Shape → Commit
-first_commit s = record { turn = 0; pages = s.pages; bucket_bits = s.bucket_bits; count = 0; lines = 0; rows = [] }
+first_commit s =
+    record { format = newest_format; turn = 0; pages = s.pages; bucket_bits = s.bucket_bits; count = 0; lines = 0; rows = [] }
 
 -- the last commit, for a table of this shape with these rows
 abbrev pub commit_of : Flusher → Shape → List CatRow → Commit
 commit_of f s rows =
-    record { turn = f.turn; pages = s.pages; bucket_bits = s.bucket_bits; count = f.count; lines = f.line; rows = rows }
+    record {
+      format = newest_format;
+      turn = f.turn;
+      pages = s.pages;
+      bucket_bits = s.bucket_bits;
+      count = f.count;
+      lines = f.line;
+      rows = rows;
+    }
 
 -- it is kept of a commit in a slot, with these heads
 pub record IsKeptOf (slot : ℕ) (c : Commit) (heads : List ℕ) (f : Flusher) : Type 0 where

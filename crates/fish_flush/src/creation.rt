@@ -12,7 +12,7 @@ ghost use Rattle.fish_flush.specs.Causes.{HasFlushCause};
 
 use crate::flusher::Flusher;
 use crate::refusal::FlushRefusal;
-use fish_catalog::{Catalog, Commit};
+use fish_catalog::{Catalog, Commit, NEWEST_FORMAT};
 use fish_disk::{Disk, write_synced};
 use fish_image::slot_body;
 use fish_outside::Failed;
@@ -70,6 +70,7 @@ fn first_body(alloc: Global, shape: Shape) -> Result<Bytes, AllocError>
     ensures { IfOk result (IsTold (first_commit shape)) }
 {
     let commit = Commit {
+        format: NEWEST_FORMAT,
         turn: 0,
         pages: shape.pages,
         bucket_bits: shape.bucket_bits,

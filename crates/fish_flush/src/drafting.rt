@@ -13,7 +13,7 @@ use crate::flusher::Flusher;
 use crate::region::read_settled;
 use crate::rows::again;
 use byteorder::{ByteOrder, LittleEndian};
-use fish_catalog::{Catalog, Commit};
+use fish_catalog::{Catalog, Commit, NEWEST_FORMAT};
 use fish_image::slot_body;
 use fish_rule::{Log, Pass, shape};
 use fish_value::Bytes;
@@ -52,6 +52,7 @@ pub(crate) fn draft_commit(
     let read = read_settled(alloc, log, pass, flusher, to)?;
     let turn = (flusher.turn + 1) % 3;
     let commit = Commit {
+        format: NEWEST_FORMAT,
         turn,
         pages: shape(log).pages,
         bucket_bits: shape(log).bucket_bits,

@@ -1,7 +1,9 @@
 pub mod Agreement
 pub mod Formats
+pub mod KeyValues
 pub mod Newest
 pub mod Pieces
 pub mod Regions
 pub mod RowKeys
+pub mod RowValues
 pub mod Spelling

@@ -1,5 +1,5 @@
 -- What the words of a log's lines stand for.
-use Rattle.std.specs.Prelude.{ℕ, zero, suc, ◌≡◌, ◌≢◌, ◌+◌, ◌-◌, ◌*◌, ◌^◌, ◌<◌, ◌≤◌, ◌⊎◌, List, ◌∷◌, Some, true, drop, length, take}
+use Rattle.std.specs.Prelude.{ℕ, zero, suc, ◌≡◌, ◌≢◌, ◌+◌, ◌-◌, ◌*◌, ◌^◌, ◌<◌, ◌≤◌, ◌⊎◌, List, [], ◌∷◌, ◌==◌, ⊤, Option, Some, None, true, drop, length, take, if◌then◌else◌}
 use Rattle.std.specs.Prelude.{replicate, slice_get, slice_index}
 use Rattle.fish_catalog.specs.Covering.{Covers}
 use Rattle.fish_catalog.specs.declared.commit.Commit.{Commit}
@@ -18,31 +18,30 @@ use Rattle.fish_image.specs.Reached.{AreLinked, Reached, behind, page_of, unread
 
 -- ---- the keys of a record
 
--- the row's definition gives a value for the record's payload
-pub record Gives (row : CatRow) (p : BodyParts) (v : Value) : Type 0 where
+-- the values of the key entries of a definition, in their order
+abbrev pub values_under : ℕ → List KeyPart → List Value
+values_under id [] = []
+values_under id (k ∷ ks) = if k.id == id then k.value ∷ values_under id ks else values_under id ks
+
+-- the first are some of the second, in their order
+abbrev pub AreSomeOf : List Value → List Value → Type 0
+AreSomeOf [] ws = ⊤
+AreSomeOf (v ∷ vs) [] = ⊥
+AreSomeOf (v ∷ vs) (w ∷ ws) = ((v ≡ w) × AreSomeOf vs ws) ⊎ AreSomeOf (v ∷ vs) ws
+
+-- the values are some of those that the row's definition gives for the record's payload, and all where its index covers
+-- the record
+pub record HasValues (row : CatRow) (number : ℕ) (p : BodyParts) (vs : List Value) : Type 0 where
   pub said : Definition
   pub read : IsAccepted row.def said
-  pub value : evaluation said p.form p.payload ≡ Some v
+  pub some : AreSomeOf vs (evaluation said p.form p.payload)
+  pub all : Covers row number → vs ≡ evaluation said p.form p.payload
 
--- one of the key entries is of the definition with this id
-pub record HasId (keys : List KeyPart) (id : ℕ) : Type 0 where
-  pub place : ℕ
-  pub key : KeyPart
-  pub there : slice_get keys place ≡ Some key
-  pub is : key.id ≡ id
-
--- the definition with a key's id gives its value
-pub record IsSound (rows : List CatRow) (p : BodyParts) (k : KeyPart) : Type 0 where
-  pub row : CatRow
-  pub there : slice_get rows k.id ≡ Some row
-  pub gives : Gives row p k.value
-
--- each key entry is of a row and has the value that its definition gives, and each row that covers the record and gives
--- a value has a key entry
+-- each key entry is of a row, and the entries of each row have values that its definition gives, each once and in their
+-- order, and all of them where the row covers the record
 pub record HasKeys (rows : List CatRow) (number : ℕ) (p : BodyParts) : Type 0 where
-  pub sound : (j : ℕ) (k : KeyPart) → slice_get p.keys j ≡ Some k → IsSound rows p k
-  pub complete : (id : ℕ) (row : CatRow) (v : Value) → slice_get rows id ≡ Some row → Covers row number → Gives row p v
-      → HasId p.keys id
+  pub known : (j : ℕ) (k : KeyPart) → slice_get p.keys j ≡ Some k → k.id < length rows
+  pub values : (id : ℕ) (row : CatRow) → slice_get rows id ≡ Some row → HasValues row number p (values_under id p.keys)
 
 -- ---- regions
 

@@ -2,7 +2,7 @@
 use Rattle.std.specs.Prelude.{ℕ, ◌≡◌, ◌+◌, ◌^◌, ◌<◌, ◌≤◌, List, true, length}
 use Rattle.fish_layout.specs.declared.parts.BodyParts.{BodyParts}
 use Rattle.fish_psf.specs.Records.{fields_of_payload, is_record}
-use Rattle.fish_image.specs.Terms.{AreCompleteIn, AreSoundIn}
+use Rattle.fish_image.specs.Terms.{HasKeysFor}
 use Rattle.fish_image.specs.declared.progress.Progress.{Progress}
 use Rattle.fish_image.specs.declared.terms.IndexRow.{IndexRow}
 use Rattle.fish_image.specs.declared.terms.Terms.{Terms}
@@ -18,5 +18,4 @@ pub record CanTake (terms : Terms) (at : Progress) (lines : ℕ) : Type 0 where
 -- the payload is a record of its form, and has the keys that these definitions ask
 pub record HasKeysIn (rows : List IndexRow) (number : ℕ) (p : BodyParts) : Type 0 where
   pub reads : is_record p.form p.payload ≡ true
-  pub sound : AreSoundIn rows (fields_of_payload p.form p.payload) p.keys
-  pub complete : AreCompleteIn rows number (fields_of_payload p.form p.payload) p.keys
+  pub keys : HasKeysFor rows number (fields_of_payload p.form p.payload) p.keys

@@ -5,9 +5,9 @@ use Rattle.fish_catalog.specs.declared.row.CatRow.{CatRow}
 use Rattle.fish_lang.specs.Definition.{definition_of}
 use Rattle.fish_lang.specs.Language.{IsAccepted}
 use Rattle.fish_layout.specs.declared.parts.KeyPart.{KeyPart}
-use Rattle.fish_psf.specs.Eval.{Fields, eval}
+use Rattle.fish_psf.specs.Eval.{Fields, values}
 use Rattle.fish_value.specs.declared.value.Value.{Value}
-use Rattle.fish_image.specs.Log.{HasId}
+use Rattle.fish_image.specs.Log.{AreSomeOf, values_under}
 use Rattle.fish_image.specs.declared.terms.IndexRow.{IndexRow}
 use Rattle.fish_image.specs.declared.terms.Terms.{Terms}
 
@@ -35,21 +35,12 @@ pub record IndexCovers (x : IndexRow) (number : ℕ) : Type 0 where
   pub behind : from ≤ number
   pub ahead : (to : ℕ) → x.to ≡ Some to → number < to
 
--- the definition gives a value for these fields
-abbrev pub IndexGives : IndexRow → Fields → Value → Type 0
-IndexGives x fields v = eval (definition_of x.def) fields ≡ Some v
+-- the values are some of those that the definition gives for these fields, and all where its index covers the record
+pub record HasIndexValues (x : IndexRow) (number : ℕ) (fields : Fields) (vs : List Value) : Type 0 where
+  pub some : AreSomeOf vs (values (definition_of x.def) fields)
+  pub all : IndexCovers x number → vs ≡ values (definition_of x.def) fields
 
--- the definition with a key's id gives its value
-pub record IsSoundIn (xs : List IndexRow) (fields : Fields) (k : KeyPart) : Type 0 where
-  pub row : IndexRow
-  pub there : slice_get xs k.id ≡ Some row
-  pub gives : IndexGives row fields k.value
-
--- each key entry is sound
-abbrev pub AreSoundIn : List IndexRow → Fields → List KeyPart → Type 0
-AreSoundIn xs fields keys = (j : ℕ) (k : KeyPart) → slice_get keys j ≡ Some k → IsSoundIn xs fields k
-
--- each definition that covers the record and gives a value has a key entry
-abbrev pub AreCompleteIn : List IndexRow → ℕ → Fields → List KeyPart → Type 0
-AreCompleteIn xs number fields keys =
-    (id : ℕ) (x : IndexRow) (v : Value) → slice_get xs id ≡ Some x → IndexCovers x number → IndexGives x fields v → HasId keys id
+-- each key entry is of a definition, and the entries of each have such values
+pub record HasKeysFor (xs : List IndexRow) (number : ℕ) (fields : Fields) (keys : List KeyPart) : Type 0 where
+  pub known : (j : ℕ) (k : KeyPart) → slice_get keys j ≡ Some k → k.id < length xs
+  pub values : (id : ℕ) (x : IndexRow) → slice_get xs id ≡ Some x → HasIndexValues x number fields (values_under id keys)

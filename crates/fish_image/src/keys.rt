@@ -1,22 +1,20 @@
 //! The keys that a record has to have.
 //!
-//! A definition is evaluated where a key entry says that it gives a value, and where its index covers
-//! the record and no key entry is there.
+//! A definition is evaluated where its index covers the record, and where a key entry is of it.
 
-ghost use Rattle.std.specs.Prelude.{◌≡◌, ◌↔◌, IfOk, IsTrue, None};
-ghost use Rattle.fish_lang.specs.Definition.{definition_of};
-ghost use Rattle.fish_psf.specs.Eval.{eval};
-ghost use Rattle.fish_image.specs.Log.{HasId};
-ghost use Rattle.fish_image.specs.Terms.{AreCompleteIn, AreSoundIn, IndexCovers, IndexGives, IsSoundIn};
+ghost use Rattle.std.specs.Prelude.{◌≡◌, ◌↔◌, ◌<◌, IfOk, IsTrue, Some, length, slice_get};
+ghost use Rattle.fish_layout.specs.declared.parts.KeyPart.{KeyPart as Key};
+ghost use Rattle.fish_image.specs.Log.{AreSomeOf, values_under};
+ghost use Rattle.fish_image.specs.Terms.{HasIndexValues, HasKeysFor, IndexCovers};
 
 use crate::terms::IndexRow;
 use fish_layout::KeyPart;
-use fish_psf::{Parsed, eval};
+use fish_psf::{Parsed, values};
 use fish_value::Value;
 use std::alloc::{AllocError, Global};
 
-/// Whether each key entry is of a definition and has the value that it gives, and each definition whose
-/// index covers the record and that gives a value has a key entry.
+/// Whether each key entry is of a definition, and the entries of each have values that it gives: each once and in
+/// their order, and all of them where its index covers the record.
 pub(crate) fn has_keys<R: Parsed>(
     alloc: Global,
     rows: &[IndexRow],
@@ -24,78 +22,94 @@ pub(crate) fn has_keys<R: Parsed>(
     keys: &[KeyPart],
     rec: &R,
 ) -> Result<bool, AllocError>
-    ensures { IfOk result (λ yes. IsTrue yes ↔
-        (AreSoundIn rows.now (R.fields rec.now) keys.now × AreCompleteIn rows.now number (R.fields rec.now) keys.now)) }
+    ensures { IfOk result (λ yes. IsTrue yes ↔ HasKeysFor rows.now number (R.fields rec.now) keys.now) }
 {
-    if !are_sound(alloc, rows, keys, rec)? {
+    if !are_known(rows, keys) {
         return Ok(false);
     }
-    are_complete(alloc, rows, number, keys, rec)
+    for (id, row) in rows.iter().enumerate() {
+        if !has_values(alloc, row, number, id, keys, rec)? {
+            return Ok(false);
+        }
+    }
+    Ok(true)
 }
 
-/// Whether each key entry is of a definition and has the value that it gives.
-fn are_sound<R: Parsed>(
-    alloc: Global,
-    rows: &[IndexRow],
-    keys: &[KeyPart],
-    rec: &R,
-) -> Result<bool, AllocError>
-    ensures { IfOk result (λ yes. IsTrue yes ↔ AreSoundIn rows.now (R.fields rec.now) keys.now) }
+/// Whether each key entry is of a definition.
+fn are_known(rows: &[IndexRow], keys: &[KeyPart]) -> bool
+    ensures { IsTrue result ↔ ((j : _) (k : Key) → slice_get keys.now j ≡ Some k → k.id < length rows.now) }
 {
     for key in keys {
-        if !is_sound(alloc, rows, key, rec)? {
-            return Ok(false);
+        if usize::from(key.id) >= rows.len() {
+            return false;
         }
     }
-    Ok(true)
+    true
 }
 
-/// Whether a key entry is of a definition and has the value that it gives.
-fn is_sound<R: Parsed>(
-    alloc: Global,
-    rows: &[IndexRow],
-    key: &KeyPart,
-    rec: &R,
-) -> Result<bool, AllocError>
-    ensures { IfOk result (λ yes. IsTrue yes ↔ IsSoundIn rows.now (R.fields rec.now) key.now) }
-{
-    let Some(row) = rows.get(usize::from(key.id)) else {
-        return Ok(false);
-    };
-    gives(alloc, row, rec, &key.value)
-}
-
-/// Whether a definition gives this value for a record.
-fn gives<R: Parsed>(
+/// Whether the key entries of a definition have values that it gives, and all of them where its index covers the record.
+#[tactic(auto, using(crate::proofs::RowValues::none_wanted))]
+fn has_values<R: Parsed>(
     alloc: Global,
     row: &IndexRow,
-    rec: &R,
-    value: &Value,
-) -> Result<bool, AllocError>
-    ensures { IfOk result (λ yes. IsTrue yes ↔ IndexGives row.now (R.fields rec.now) value.now) }
-{
-    match eval(alloc, &row.def, rec)? {
-        Some(found) => Ok(found.is(value)),
-        None => Ok(false),
-    }
-}
-
-/// Whether each definition whose index covers a record and that gives a value has a key entry.
-fn are_complete<R: Parsed>(
-    alloc: Global,
-    rows: &[IndexRow],
     number: u32,
+    id: usize,
     keys: &[KeyPart],
     rec: &R,
 ) -> Result<bool, AllocError>
-    ensures { IfOk result (λ yes. IsTrue yes ↔ AreCompleteIn rows.now number (R.fields rec.now) keys.now) }
+    ensures { IfOk result (λ yes. IsTrue yes ↔ HasIndexValues row.now number (R.fields rec.now) (values_under id keys.now)) }
 {
-    for (id, row) in rows.iter().enumerate() {
-        if covers(row, number) && !has_id(keys, id) && !gives_none(alloc, row, rec)? {
-            return Ok(false);
-        }
+    let covered = covers(row, number);
+    if !covered && are_all(keys, id, &[]) {
+        // it has no key entry and needs none, so what it gives isn't asked
+        return Ok(true);
     }
-    Ok(true)
+    let given = values(alloc, &row.def, rec)?;
+    let fits = if covered {
+        are_all(keys, id, given.as_slice())
+    } else {
+        are_some(keys, id, given.as_slice())
+    };
+    drop(given);
+    Ok(fits)
+}
+
+/// Whether the key entries of a definition have just these values.
+#[tactic(auto, using(crate::proofs::KeyValues::all_own, crate::proofs::KeyValues::all_other, crate::proofs::KeyValues::all_end))]
+fn are_all(keys: &[KeyPart], id: usize, given: &[Value]) -> bool
+    ensures { IsTrue result ↔ (values_under id keys.now ≡ given.now) }
+{
+    let [key, behind @ ..] = keys else {
+        return given.is_empty();
+    };
+    if usize::from(key.id) != id {
+        return are_all(behind, id, given);
+    }
+    let [first, more @ ..] = given else {
+        return false;
+    };
+    first.is(&key.value) && are_all(behind, id, more)
+}
+
+/// Whether the key entries of a definition have some of these values, in their order.
+#[tactic(auto, using(crate::proofs::KeyValues::some_next, crate::proofs::KeyValues::some_skip))]
+fn are_some(keys: &[KeyPart], id: usize, given: &[Value]) -> bool
+    ensures { IsTrue result ↔ AreSomeOf (values_under id keys.now) given.now }
+{
+    let [key, behind @ ..] = keys else {
+        return true;
+    };
+    if usize::from(key.id) != id {
+        return are_some(behind, id, given);
+    }
+    let [first, more @ ..] = given else {
+        return false;
+    };
+    if first.is(&key.value) {
+        are_some(behind, id, more)
+    } else {
+        are_some(keys, id, more)
+    }
 }
 
 /// Whether an index covers a record.
@@ -108,30 +122,5 @@ fn covers(row: &IndexRow, number: u32) -> bool
     match row.to {
         Some(to) => from <= number && number < to,
         None => from <= number,
-    }
-}
-
-/// Whether one of key entries is of the definition with this id.
-fn has_id(keys: &[KeyPart], id: usize) -> bool
-    ensures { IsTrue result ↔ HasId keys.now id }
-{
-    for key in keys {
-        if usize::from(key.id) == id {
-            return true;
-        }
-    }
-    false
-}
-
-/// Whether a definition gives no value for a record.
-fn gives_none<R: Parsed>(alloc: Global, row: &IndexRow, rec: &R) -> Result<bool, AllocError>
-    ensures { IfOk result (λ none. IsTrue none ↔ (eval (definition_of row.now.def) (R.fields rec.now) ≡ None)) }
-{
-    match eval(alloc, &row.def, rec)? {
-        Some(found) => {
-            drop(found);
-            Ok(false)
-        }
-        None => Ok(true),
     }
 }

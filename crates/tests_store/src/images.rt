@@ -167,6 +167,189 @@ fn images(rt: HostRuntime) -> Result<(), Fail> {
     Ok(())
 }
 
+/// Words of one record with the payload `{"tags":["a","b","a"]}`, with entries of `each tags`. Of sixteen buckets "a" falls
+/// into 4, "b" into 13 and "c" into 10, under id 0.
+///
+/// No entry.
+const NONE: &[u64] = &[
+    0x5801_0800_0001,
+    0x3a22_7367_6174_227b,
+    0x2262_222c_2261_225b,
+    0x7d5d_2261_222c,
+];
+
+/// An entry for each value, in the order of their first places.
+const BOTH: &[u64] = &[
+    0x5801_0808_0003,
+    0,
+    0,
+    6,
+    0,
+    0x10_0000_0000,
+    0x806,
+    0x6261,
+    0x3a22_7367_6174_227b,
+    0x2262_222c_2261_225b,
+    0x7d5d_2261_222c,
+    0,
+];
+
+/// The first value alone.
+const FIRST: &[u64] = &[
+    0x5801_0804_0002,
+    0,
+    0,
+    6,
+    0x61,
+    0x3a22_7367_6174_227b,
+    0x2262_222c_2261_225b,
+    0x7d5d_2261_222c,
+];
+
+/// The second alone.
+const SECOND: &[u64] = &[
+    0x5801_0804_0002,
+    0,
+    0,
+    6,
+    0x62,
+    0x3a22_7367_6174_227b,
+    0x2262_222c_2261_225b,
+    0x7d5d_2261_222c,
+];
+
+/// Both, the second in front.
+const TURNED: &[u64] = &[
+    0x5801_0808_0003,
+    0,
+    0,
+    6,
+    0,
+    0x10_0000_0000,
+    0x806,
+    0x6162,
+    0x3a22_7367_6174_227b,
+    0x2262_222c_2261_225b,
+    0x7d5d_2261_222c,
+    0,
+];
+
+/// The first one twice.
+const TWICE: &[u64] = &[
+    0x5801_0808_0003,
+    0,
+    0,
+    6,
+    1,
+    0x10_0000_0000,
+    0x806,
+    0x6161,
+    0x3a22_7367_6174_227b,
+    0x2262_222c_2261_225b,
+    0x7d5d_2261_222c,
+    0,
+];
+
+/// A value that no element has.
+const OTHER: &[u64] = &[
+    0x5801_0808_0003,
+    0,
+    0,
+    6,
+    0,
+    0x10_0000_0000,
+    0x806,
+    0x6361,
+    0x3a22_7367_6174_227b,
+    0x2262_222c_2261_225b,
+    0x7d5d_2261_222c,
+    0,
+];
+
+/// An entry of a definition that there is not.
+const NO_ROW: &[u64] = &[
+    0x5801_080c_0004,
+    0,
+    0,
+    6,
+    0,
+    0x10_0000_0000,
+    0x806,
+    0,
+    0x20_1000_0000,
+    0x1006,
+    0x61_6261,
+    0x3a22_7367_6174_227b,
+    0x2262_222c_2261_225b,
+    0x7d5d_2261_222c,
+    0,
+    0,
+];
+
+/// Words, where the index of `each tags` begins and ends, and the answer.
+const SEVERAL: &[((&[u64], Option<u32>, Option<u32>), &str)] = &[
+    ((NONE, Some(0), None), "damaged behind 0 entries"),
+    ((NONE, Some(0), Some(0)), "heads starts 0 at 0"),
+    ((NONE, Some(1), None), "heads starts 0 at 0"),
+    ((NONE, None, None), "heads starts 0 at 0"),
+    ((BOTH, Some(0), None), "heads 4:1 13:4 starts 0 at 0"),
+    ((BOTH, Some(0), Some(0)), "heads 4:1 13:4 starts 0 at 0"),
+    ((BOTH, Some(1), None), "heads 4:1 13:4 starts 0 at 0"),
+    ((BOTH, None, None), "heads 4:1 13:4 starts 0 at 0"),
+    ((FIRST, Some(0), None), "damaged behind 0 entries"),
+    ((FIRST, Some(0), Some(0)), "heads 4:1 starts 0 at 0"),
+    ((FIRST, Some(1), None), "heads 4:1 starts 0 at 0"),
+    ((FIRST, None, None), "heads 4:1 starts 0 at 0"),
+    ((SECOND, Some(0), None), "damaged behind 0 entries"),
+    ((SECOND, Some(0), Some(0)), "heads 13:1 starts 0 at 0"),
+    ((SECOND, Some(1), None), "heads 13:1 starts 0 at 0"),
+    ((SECOND, None, None), "heads 13:1 starts 0 at 0"),
+    ((TURNED, Some(0), None), "damaged behind 0 entries"),
+    ((TURNED, Some(1), None), "damaged behind 0 entries"),
+    ((TWICE, Some(0), None), "damaged behind 0 entries"),
+    ((TWICE, Some(1), None), "damaged behind 0 entries"),
+    ((OTHER, Some(0), None), "damaged behind 0 entries"),
+    ((OTHER, Some(1), None), "damaged behind 0 entries"),
+    ((NO_ROW, Some(0), None), "damaged behind 0 entries"),
+    ((NO_ROW, Some(1), None), "damaged behind 0 entries"),
+];
+
+fn tags_catalog(alloc: Global, from: Option<u32>, to: Option<u32>) -> Result<Catalog, AllocError> {
+    let mut rows = Vec::new(alloc);
+    let mut tags = row(alloc, 0, ("tags", "each tags"), from)?;
+    tags.to = to;
+    rows.push(tags)?;
+    match Catalog::from_rows(alloc, rows)? {
+        Some(catalog) => Ok(catalog),
+        None => Ok(Catalog::new(alloc)),
+    }
+}
+
+/// What one record is, with the definition `each tags`.
+fn several_told(
+    alloc: Global,
+    case: &(&[u64], Option<u32>, Option<u32>),
+) -> Result<String, AllocError> {
+    let c = Commit {
+        format: 2,
+        turn: 0,
+        pages: 1,
+        bucket_bits: 4,
+        count: 1,
+        lines: case.0.len() as u64 / 4,
+        rows: tags_catalog(alloc, case.1, case.2)?,
+    };
+    let told = image_text(alloc, case.0, &c);
+    drop(c);
+    told
+}
+
+#[test]
+fn several(rt: HostRuntime) -> Result<(), Fail> {
+    expect_all(&rt, rt.alloc(), SEVERAL, several_told)?;
+    Ok(())
+}
+
 /// The same as of all words at once, in pieces of so many words.
 fn check_pieces(
     alloc: Global,

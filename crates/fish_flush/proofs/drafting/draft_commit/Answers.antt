@@ -1,6 +1,7 @@
 -- The draft is a commit of all that the last one has, and of what was copied.
 use Rattle.std.proofs.Common.{◌≡◌, ℕ, ◌+◌, ◌-◌, ◌*◌, ◌%◌, List, refl, ap, ◌∙◌}
 use Rattle.std.proofs.Common.{subst, arith, length}
+use Rattle.fish_catalog.specs.Limits.{newest_format}
 use Rattle.fish_catalog.specs.declared.commit.Commit.{Commit}
 use Rattle.fish_flush.proofs.Drafted.{commits_more, commits_read, within_limits}
 use Rattle.fish_image.specs.Reading.{IsTold}
@@ -13,8 +14,8 @@ use Rattle.fish_image.specs.Stands.{words_in}
 use Rattle.fish_flush.proofs.RegionSteps.{holds_later}
 use Rattle.fish_flush.proofs.drafting.draft_commit.Goals as goal
 
-pub slot_body-body-requires : goal.slot_body-body-requires
-slot_body-body-requires c =
+pub slot_body-body-requires-clause-within : goal.slot_body-body-requires-clause-within
+slot_body-body-requires-clause-within c =
     let v = view c.args.pass.now in
     let u = view c.read_settled.new.pass in
     let may = c.requires.may in
@@ -50,6 +51,7 @@ returns-clause-drafts c =
     let body' : List ℕ = c.in_ok-body.field-0 in
     let s : Shape = c.args.log.now.shape in
     let e : Commit = record {
+      format = newest_format;
       turn = (f.turn + 1) % 3;
       pages = s.pages;
       bucket_bits = s.bucket_bits;
@@ -59,6 +61,7 @@ returns-clause-drafts c =
     } in
     let told : IsTold e body' =
     subst (λ (z : Shape × Shape × List CatRow). IsTold (record {
+      format = newest_format;
       turn = (f.turn + 1) % 3;
       pages = z.0.pages;
       bucket_bits = z.1.bucket_bits;
@@ -81,7 +84,7 @@ returns-clause-drafts c =
       size = whole;
       read = λ d body lines old committed bits grown.
           let r = c.in_ok-read.ensures.read e (words_in lines) old c.requires.may.rows_are
-          (commits_read f d e body lines old committed bits grown) in (
+          (commits_read f d e body lines old committed bits grown told.commit.rows) in (
             r.0,
             r.1,
             r.2,

@@ -5,7 +5,7 @@ use Rattle.fish_layout.specs.declared.parts.KeyPart.{KeyPart}
 use Rattle.fish_psf.specs.Eval.{Fields}
 use Rattle.fish_psf.specs.Records.{fields_of_payload, is_record}
 use Rattle.fish_read.specs.Rows.{fields_in_row}
-use Rattle.fish_image.specs.Terms.{AreCompleteIn, AreSoundIn}
+use Rattle.fish_image.specs.Terms.{HasKeysFor}
 use Rattle.fish_image.proofs.region.is_kept_counted.Goals as goal
 
 pub returns-in-Ok : goal.returns-in-Ok
@@ -20,15 +20,9 @@ returns-in-Ok g c =
     IfOk-weaker c.has_keys-kept.result _ _ (λ yes h. (
       (λ holds. record {
         reads = reads;
-        sound = subst (λ (f : Fields). AreSoundIn rows f p.keys) fields
-            (subst (λ (ks : List KeyPart). AreSoundIn rows (fields_in_row c.in-Ok.found) ks) keys (h.0 holds).0);
-        complete = subst (λ (f : Fields). AreCompleteIn rows c.args.number f p.keys) fields
-            (subst (λ (ks : List KeyPart). AreCompleteIn rows c.args.number (fields_in_row c.in-Ok.found) ks) keys (h.0 holds).1);
+        keys = subst (λ (f : Fields). HasKeysFor rows c.args.number f p.keys) fields
+            (subst (λ (ks : List KeyPart). HasKeysFor rows c.args.number (fields_in_row c.in-Ok.found) ks) keys (h.0 holds));
       }),
-      λ kept. h.1 (
-        subst (λ (ks : List KeyPart). AreSoundIn rows (fields_in_row c.in-Ok.found) ks) (sym keys)
-            (subst (λ (f : Fields). AreSoundIn rows f p.keys) (sym fields) kept.sound),
-        subst (λ (ks : List KeyPart). AreCompleteIn rows c.args.number (fields_in_row c.in-Ok.found) ks) (sym keys)
-            (subst (λ (f : Fields). AreCompleteIn rows c.args.number f p.keys) (sym fields) kept.complete),
-      ),
+      λ kept. h.1 (subst (λ (ks : List KeyPart). HasKeysFor rows c.args.number (fields_in_row c.in-Ok.found) ks) (sym keys)
+          (subst (λ (f : Fields). HasKeysFor rows c.args.number f p.keys) (sym fields) kept.keys)),
     )) c.has_keys-kept.ensures
