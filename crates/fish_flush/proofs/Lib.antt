@@ -5,6 +5,7 @@ pub mod Drafted
 pub mod Faults
 pub mod Growing
 pub mod Images
+pub mod Lasting
 pub mod LinkedWords
 pub mod PageWrites
 pub mod RegionSteps
