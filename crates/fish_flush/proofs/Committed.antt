@@ -16,6 +16,7 @@ use Rattle.fish_flush.specs.Writing.{EitherCommit, Grows}
 use Rattle.fish_flush.specs.declared.drafting.Draft.{Draft}
 use Rattle.fish_flush.specs.declared.flusher.Flusher.{Flusher}
 use Rattle.fish_flush.proofs.Growing.{grown_self}
+use Rattle.fish_flush.proofs.Images.{resting_gates}
 use Rattle.fish_image.proofs.Spelling.{told_word}
 use Rattle.fish_image.specs.Log.{Agrees, FollowsIn}
 use Rattle.fish_image.specs.Reached.{Reached}
@@ -30,7 +31,7 @@ use Rattle.fish_rule.specs.declared.view.View.{View}
 use Rattle.fish_slots.proofs.Commits.{rests_commit}
 use Rattle.fish_slots.specs.Commits.{Rests, next_turn, turn_of}
 use Rattle.fish_slots.specs.Places.{lines_at}
-use Rattle.fish_slots.specs.Slots.{line_count}
+use Rattle.fish_slots.specs.Slots.{GatesAreSynced, line_count}
 
 -- ---- entries
 
@@ -205,6 +206,15 @@ rest_stands images f c log at i here = record {
   commit = rests_commit f.slot at.body at.lines i at.slot_is (at.rests i here);
   is = at.committed.is;
 }
+
+-- and the gates are synced
+pub rest_gates : (images : List ℕ → Type 0) (f : Flusher) (c : Commit) (log : List Entry) → IsAtRest images f c log
+    → GatesAreSynced images images
+rest_gates images f c log at =
+    let le = at.slot_is in
+    let other : f.slot ≡ 1 - (1 - f.slot) = omega arith in
+    resting_gates images (1 - f.slot) at.body at.lines (omega arith)
+    (λ i here. subst (λ (t : ℕ). Rests t at.body at.lines i) other (at.rests i here))
 
 -- where nothing was written, every image stands for the log that it stood for
 pub nothing_leaves : {D : Type 0} (im : D → List ℕ → Type 0) (since : D → ℕ → List ℕ → Type 0) (moment : D → ℕ) (x : D) (f : Flusher)

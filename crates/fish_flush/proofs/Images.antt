@@ -144,10 +144,17 @@ slot_cases (suc zero) (suc zero) s_le t_le = inl refl
 slot_cases (suc (suc s)) t s_le t_le = absurd (omega arith)
 slot_cases s (suc (suc t)) s_le t_le = absurd (omega arith)
 
+-- both slots have these bodies and their lines
+record HasBoth (s : ℕ) (b w d v c : List ℕ) : Type 0 where
+  pub old_body : body_of (1 - s) c ≡ b
+  pub old_lines : lines_of (line_count b) c ≡ w
+  pub new_body : body_of s c ≡ d
+  pub new_lines : lines_of (line_count d) c ≡ v
+
 -- images that agree on both slots have synced gates
-pub sealed_gates : (images : List ℕ → Type 0) (s : ℕ) (b w d v : List ℕ) → s ≤ 1 → ((c : List ℕ) → images c → IsSealed s b w d v c)
+both_gates : (images : List ℕ → Type 0) (s : ℕ) (b w d v : List ℕ) → s ≤ 1 → ((c : List ℕ) → images c → HasBoth s b w d v c)
     → GatesAreSynced images images
-sealed_gates images s b w d v le each t c e t_le here there opened =
+both_gates images s b w d v le each t c e t_le here there opened =
     let one = each c here in
     let other = each e there in
     elim (slot_cases s t le t_le) [
@@ -162,6 +169,13 @@ sealed_gates images s b w d v le each t c e t_le here there opened =
             (one.old_lines ∙ sym other.old_lines),
       )
     ]
+
+-- so have those that are sealed
+pub sealed_gates : (images : List ℕ → Type 0) (s : ℕ) (b w d v : List ℕ) → s ≤ 1 → ((c : List ℕ) → images c → IsSealed s b w d v c)
+    → GatesAreSynced images images
+sealed_gates images s b w d v le each = both_gates images s b w d v le (λ c here.
+    let h = each c here in
+    record { old_body = h.old_body; old_lines = h.old_lines; new_body = h.new_body; new_lines = h.new_lines })
 
 -- images in which one slot alone is open, with one body and its lines, have synced gates
 pub resting_gates : (images : List ℕ → Type 0) (s : ℕ) (b w : List ℕ) → s ≤ 1 → ((c : List ℕ) → images c → Rests (1 - s) b w c)
@@ -180,14 +194,22 @@ resting_gates images s b w le each t c e t_le here there opened =
 
 -- ---- the new gate is open
 
--- a gate that is written leaves what the bodies are, and the new lines
-kept_new : (s t : ℕ) (b w d v m c : List ℕ) → s ≤ 1 → t ≤ 1 → Torn (gate_at t) 1 m c → IsSealed s b w d v m
-    → (body_of (1 - s) c ≡ b) × (body_of s c ≡ d) × (lines_of (line_count d) c ≡ v)
-kept_new s t b w d v m c s_le t_le torn h = (
-  torn_apart (gate_at t) 1 (body_at (1 - s)) body_bytes m c torn (inr (omega arith)) ∙ h.old_body,
-  torn_apart (gate_at t) 1 (body_at s) body_bytes m c torn (inr (omega arith)) ∙ h.new_body,
-  torn_apart (gate_at t) 1 lines_at (32 * line_count d) m c torn (inr (omega arith)) ∙ h.new_lines,
-)
+-- a gate that is written leaves what the bodies are, and all lines
+kept_both : (s t : ℕ) (b w d v m c : List ℕ) → s ≤ 1 → t ≤ 1 → Torn (gate_at t) 1 m c → IsSealed s b w d v m → HasBoth s b w d v c
+kept_both s t b w d v m c s_le t_le torn h = record {
+  old_body = torn_apart (gate_at t) 1 (body_at (1 - s)) body_bytes m c torn (inr (omega arith)) ∙ h.old_body;
+  old_lines = torn_apart (gate_at t) 1 lines_at (32 * line_count b) m c torn (inr (omega arith)) ∙ h.old_lines;
+  new_body = torn_apart (gate_at t) 1 (body_at s) body_bytes m c torn (inr (omega arith)) ∙ h.new_body;
+  new_lines = torn_apart (gate_at t) 1 lines_at (32 * line_count d) m c torn (inr (omega arith)) ∙ h.new_lines;
+}
+
+-- so whatever is left of the old gate, the gates are synced
+pub closing_gates : (images images' : List ℕ → Type 0) (s : ℕ) (b w d v : List ℕ) → s ≤ 1
+    → ((c : List ℕ) → images c → IsSealed s b w d v c) → ((c : List ℕ) → images' c → TornFrom images (gate_at (1 - s)) 1 c)
+    → GatesAreSynced images' images'
+closing_gates images images' s b w d v le each torn = both_gates images' s b w d v le (λ c here.
+    let from = torn c here in
+    kept_both s (1 - s) b w d v from.0 c le (omega arith) from.2 (each from.0 from.1))
 
 module _ (s : ℕ) (b w d v m c : List ℕ) (le : s ≤ 1) (turn : turn_of d ≡ next_turn (turn_of b)) (torn : Torn (gate_at (1 - s)) 1 m c)
     (h : IsSealed s b w d v m) (opened : IsOpen s m) where
@@ -203,23 +225,23 @@ module _ (s : ℕ) (b w d v m c : List ℕ) (le : s ≤ 1) (turn : turn_of d ≡
   -- as the old gate closes, the new body counts whatever is left
   pub closing_new : HasCommit d v c
   closing_new =
-      let kept = kept_new s (1 - s) b w d v m c le (omega arith) torn h in
+      let kept = kept_both s (1 - s) b w d v m c le (omega arith) torn h in
       record {
         slot = s;
         slot_is = le;
         counts = record {
           gate = still_open;
-          body_is = kept.1;
-          lines_are = kept.2;
-          newer = λ other. turn ∙ ap (λ (l : List ℕ). next_turn (turn_of l)) (sym kept.0);
+          body_is = kept.new_body;
+          lines_are = kept.new_lines;
+          newer = λ other. turn ∙ ap (λ (l : List ℕ). next_turn (turn_of l)) (sym kept.old_body);
         };
       }
 
   -- and once it is closed, it is alone
   pub closed_new : (IsOpen (1 - s) c → ⊥) → Rests s d v c
   closed_new closed =
-      let kept = kept_new s (1 - s) b w d v m c le (omega arith) torn h in
-      record { gate = still_open; closed = closed; body_is = kept.1; lines_are = kept.2 }
+      let kept = kept_both s (1 - s) b w d v m c le (omega arith) torn h in
+      record { gate = still_open; closed = closed; body_is = kept.new_body; lines_are = kept.new_lines }
 
 -- ---- the body is sealed
 

@@ -6,6 +6,7 @@ pub mod Faults
 pub mod Growing
 pub mod Images
 pub mod KeyedValues
+pub mod Lasting
 pub mod LinkedWords
 pub mod PageWrites
 pub mod RegionSteps

@@ -26,7 +26,7 @@ there_is (x ∷ xs) zero less = (x, refl)
 there_is (x ∷ xs) (suc i) less = there_is xs i (omega arith)
 
 -- an element stays where it is in a longer list
-longer_at : {A : Type 0} (xs : List A) (y : A) (i : ℕ) (x : A) → slice_get xs i ≡ Some x
+pub longer_at : {A : Type 0} (xs : List A) (y : A) (i : ℕ) (x : A) → slice_get xs i ≡ Some x
     → slice_get (xs ++ y ∷ []) i ≡ Some x
 longer_at [] y i x there = absurd cc
 longer_at (z ∷ xs) y zero x there = there

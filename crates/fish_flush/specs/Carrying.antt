@@ -83,10 +83,13 @@ pub record HasSettled (v u : View) (n : ℕ) : Type 0 where
   pub ends : IsAlone v → EndsAt u n count
   pub rests : IsAlone v → IsTailCount count v.tail
 
--- the log up to the number is committed: the file carries the log that it carried and more
+-- the log up to the number is committed: the flusher counts it and the pass has counted no fewer, and the file carries the
+-- log that it carried and more
 pub record HasCommitted (images images' : List ℕ → Type 0) (f f' : Flusher) (v u : View) (s : Shape) (rows : List CatRow) (n : ℕ)
     : Type 0 where
   pub live : f'.shut ≡ false
+  pub count : f'.count ≡ n
+  pub counted : n ≤ u.learned.count
   pub carries : (c : Commit) (old : List Entry) → Carries images f v s rows c old
       → (more : List Entry) × (length (old ++ more) ≡ n) × Carries images' f' u s rows (commit_of f' s rows) (old ++ more)
 

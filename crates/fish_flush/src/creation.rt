@@ -5,7 +5,7 @@ ghost use Rattle.fish_outside.specs.Causes.{HasCause};
 ghost use Rattle.fish_image.specs.Progress.{AreHeads};
 ghost use Rattle.fish_image.specs.Reading.{IsTold};
 ghost use Rattle.fish_slots.specs.Places.{body_bytes, lines_at};
-ghost use Rattle.fish_slots.specs.Slots.{IsAlone, body_of};
+ghost use Rattle.fish_slots.specs.Slots.{GatesAreSynced, IsAlone, body_of};
 ghost use Rattle.fish_rule.specs.Start.{IsShape};
 ghost use Rattle.fish_flush.specs.Kept.{IsAtRest, first_commit};
 ghost use Rattle.fish_flush.specs.Causes.{HasFlushCause};
@@ -31,6 +31,7 @@ pub fn create<D: Disk>(alloc: Global, shape: Shape, disk: &mut D) -> Result<Flus
     requires empty { IfSome (D.content disk.old) (λ c. length c ≡ 0) }
     ensures made { IfOk result (λ f. IsAtRest (D.images disk.new) f (first_commit shape) []) }
     ensures live { IfOk result (λ f. f.shut ≡ false) }
+    ensures gates { OnOk result (GatesAreSynced (D.images disk.new) (D.images disk.new)) }
     ensures calls { D.moment disk.new ≤ D.moment disk.old + 6 }
 
     ensures cause { HasFlushCause (D.faults disk.old) (D.faults disk.new) result }

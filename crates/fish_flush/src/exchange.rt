@@ -5,6 +5,7 @@ ghost use Rattle.fish_outside.specs.Causes.{HasCause};
 ghost use Rattle.fish_disk.specs.Crash.{LeavesOnly};
 ghost use Rattle.fish_slots.specs.Commits.{Rests};
 ghost use Rattle.fish_slots.specs.Places.{body_bytes, gate_at, lines_at};
+ghost use Rattle.fish_slots.specs.Slots.{GatesAreSynced};
 ghost use Rattle.fish_flush.specs.Writing.{AreSealed, EitherCommit, Grows, IsPut, pages_between};
 
 use crate::pages::write_pages;
@@ -35,6 +36,7 @@ pub(crate) fn commit<D: Disk>(
         (EitherCommit b w body.now (w ++ lines.now)) }
     ensures longer { (n : ℕ) → ((c : List ℕ) → D.images disk.old c → n ≤ length c)
         → (c : List ℕ) → D.images disk.new c → n ≤ length c }
+    ensures gates { GatesAreSynced (D.images disk.new) (D.images disk.new) }
     ensures calls { (n : ℕ) → length lines.now ≡ 32 * n
         → D.moment disk.new ≤ D.moment disk.old + pages_between line (line + n) + 6 }
 
@@ -63,6 +65,7 @@ fn put_body<D: Disk>(
         (EitherCommit b w body.now (w ++ lines.now)) }
     ensures longer { (n : ℕ) → ((c : List ℕ) → D.images disk.old c → n ≤ length c)
         → (c : List ℕ) → D.images disk.new c → n ≤ length c }
+    ensures gates { GatesAreSynced (D.images disk.new) (D.images disk.new) }
     ensures six { D.moment disk.new ≤ D.moment disk.old + 6 }
     ensures cause { HasCause (D.faults disk.old) (D.faults disk.new) result }
 {
@@ -81,6 +84,7 @@ fn take_over<D: Disk>(disk: &mut D, slot: u8) -> Result<(), Failed>
         → LeavesOnly D.images D.since D.moment disk.old disk.new (EitherCommit b w d v) }
     ensures longer { (n : ℕ) → ((c : List ℕ) → D.images disk.old c → n ≤ length c)
         → (c : List ℕ) → D.images disk.new c → n ≤ length c }
+    ensures gates { GatesAreSynced (D.images disk.new) (D.images disk.new) }
     ensures four { D.moment disk.new ≤ D.moment disk.old + 4 }
     ensures cause { HasCause (D.faults disk.old) (D.faults disk.new) result }
 {

@@ -11,6 +11,7 @@ mod creation;
 mod drafting;
 mod exchange;
 mod flusher;
+mod law;
 mod linking;
 mod pages;
 mod refusal;
@@ -20,5 +21,6 @@ mod saving;
 
 pub use creation::create;
 pub use flusher::Flusher;
+pub use law::{law_carries, law_rows_grow, law_rows_held};
 pub use refusal::FlushRefusal;
 pub use saving::checkpoint;

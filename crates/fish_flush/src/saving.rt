@@ -12,6 +12,7 @@ ghost use Rattle.fish_disk.specs.Crash.{LeavesOnly};
 ghost use Rattle.fish_flush.specs.Writing.{EitherCommit, Grows, pages_between};
 ghost use Rattle.fish_slots.specs.Commits.{Rests};
 ghost use Rattle.fish_slots.specs.Places.{body_bytes};
+ghost use Rattle.fish_slots.specs.Slots.{GatesAreSynced};
 
 use crate::drafting::{Draft, draft_commit};
 use crate::exchange::commit;
@@ -46,6 +47,7 @@ pub fn checkpoint<D: Disk>(
     ensures crash { (c : Commit) (old : List Entry)
         → Carries (D.images disk.old) flusher.old (view pass.old) log.now.shape catalog.now c old
         → LeavesEither D.images D.since D.moment disk.old disk.new (view pass.new) catalog.now c old }
+    ensures gates { GatesAreSynced (D.images disk.new) (D.images disk.new) }
     ensures calls { D.moment disk.new ≤ D.moment disk.old + pages_between flusher.old.line log.now.key.end + 6 }
 
     ensures cause { HasFlushCause (D.faults disk.old) (D.faults disk.new) result }
@@ -76,6 +78,7 @@ fn save<D: Disk>(flusher: &mut Flusher, draft: Draft, disk: &mut D) -> Result<u3
         → LeavesOnly D.images D.since D.moment disk.old disk.new (EitherCommit b w draft.body (w ++ draft.lines.items)) }
     ensures longer { (n : ℕ) → ((c : List ℕ) → D.images disk.old c → n ≤ length c)
         → (c : List ℕ) → D.images disk.new c → n ≤ length c }
+    ensures gates { GatesAreSynced (D.images disk.new) (D.images disk.new) }
     ensures calls { D.moment disk.new ≤ D.moment disk.old + pages_between flusher.old.line draft.line + 6 }
     ensures cause { HasFlushCause (D.faults disk.old) (D.faults disk.new) result }
     ensures shut { IsErrOf result FlushRefusal.DiskFault → flusher.new ≡ record flusher.old { shut = true } }

@@ -1,6 +1,7 @@
 -- A store without a record.
 use Rattle.std.proofs.Common.{ℕ, List, [], ap, ◌∙◌, subst, length, false, refl}
 use Rattle.fish_flush.proofs.Checkpoints.{memory_cause}
+use Rattle.fish_flush.proofs.Committed.{rest_gates}
 use Rattle.fish_flush.proofs.Creating.{few_heads, first_rests}
 use Rattle.fish_flush.specs.Kept.{first_commit}
 use Rattle.fish_flush.specs.declared.flusher.Flusher.{Flusher}
@@ -32,3 +33,8 @@ returns-clause-made g c =
     c.in_ok-put_first.ensures.long
     (subst (λ (n : ℕ). AreHeads n [] c.in_ok-heads.heads.items) (few_heads c.args.shape.bucket_bits c.requires.shape.few_bits)
     c.in_ok-heads.ensures)
+
+pub returns-clause-gates : goal.returns-clause-gates
+returns-clause-gates g c =
+    let f : Flusher = record { slot = 0; turn = 0; count = 0; line = 0; heads = c.in_ok-heads.heads; shut = false } in
+    rest_gates (g.D.Disk.images c.put_first.new.disk) f (first_commit c.args.shape) [] (returns-clause-made g c)

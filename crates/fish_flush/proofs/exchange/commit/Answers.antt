@@ -6,7 +6,7 @@ use Rattle.fish_disk.proofs.Moments.{leaves_more, leaves_then}
 use Rattle.fish_slots.specs.Places.{lines_at}
 use Rattle.fish_slots.proofs.Commits.{rests_commit}
 use Rattle.fish_flush.specs.Writing.{EitherCommit}
-use Rattle.fish_flush.proofs.Images.{grows_on, rests_on}
+use Rattle.fish_flush.proofs.Images.{grows_on, resting_gates, rests_on}
 use Rattle.fish_flush.proofs.Faults.{cause_from}
 use Rattle.fish_flush.proofs.exchange.commit.Goals as goal
 
@@ -21,6 +21,15 @@ returns-in_err-write_pages-clause-crash g c = λ b w h.
     (λ e from. inl (rests_commit (1 - s) b w e (omega (arith, c.requires.slot))
     (rests_on (disk.images old) s c.args.line n b w c.args.body.now c.args.lines.now c.requires.slot h e from)))
     c.write_pages.ensures.crash
+
+pub returns-in_err-write_pages-clause-gates : goal.returns-in_err-write_pages-clause-gates
+returns-in_err-write_pages-clause-gates g c =
+    let disk = g.D.Disk in
+    let s = c.args.slot in
+    let h = c.requires.rests in
+    resting_gates (disk.images c.write_pages.new.disk) s h.0 h.1 c.requires.slot (λ e image.
+    rests_on (disk.images c.args.disk.now) s c.args.line (length c.args.lines.now) h.0 h.1 c.args.body.now c.args.lines.now
+    c.requires.slot h.2 e (c.write_pages.ensures.crash.now e image))
 
 pub put_body-requires-clause-rests : goal.put_body-requires-clause-rests
 put_body-requires-clause-rests g c =

@@ -25,6 +25,14 @@ returns-in_err-seal-clause-crash g c = λ b w h.
     (rests_body s b w from.0 e c.requires.slot from.2 (h.rests from.0 from.1))))
     c.seal.ensures.crash
 
+pub returns-in_err-seal-clause-gates : goal.returns-in_err-seal-clause-gates
+returns-in_err-seal-clause-gates g c =
+    let s = c.args.slot in
+    let h = c.requires.rests in
+    resting_gates (g.D.Disk.images c.seal.new.disk) s h.0 h.1 c.requires.slot (λ e image.
+    let from = c.seal.ensures.crash.now e image in
+    rests_body s h.0 h.1 from.0 e c.requires.slot from.2 (h.2.rests from.0 from.1))
+
 pub take_over-requires-clause-sealed : goal.take_over-requires-clause-sealed
 take_over-requires-clause-sealed g c =
     let disk = g.D.Disk in

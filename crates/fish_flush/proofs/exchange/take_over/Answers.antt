@@ -7,7 +7,7 @@ use Rattle.fish_slots.specs.Places.{gate_at}
 use Rattle.fish_slots.specs.Slots.{line_count, lines_of}
 use Rattle.fish_slots.proofs.Keeping.{one_gates, other_gate}
 use Rattle.fish_flush.specs.Writing.{EitherCommit, IsSealed}
-use Rattle.fish_flush.proofs.Images.{closed_new, closing_new, sealed_either, sealed_gate, sealed_gates}
+use Rattle.fish_flush.proofs.Images.{closed_new, closing_gates, closing_new, sealed_either, sealed_gate, sealed_gates}
 use Rattle.fish_flush.proofs.exchange.take_over.Goals as goal
 
 pub open_gate-requires-clause-gates : goal.open_gate-requires-clause-gates
@@ -36,6 +36,14 @@ returns-in_err-open_gate-clause-crash g c = λ b w d v h.
     (sealed_gate s b w d v from.0 e c.requires.slot from.2 (h.each from.0 from.1)))
     c.open_gate.ensures.crash
 
+pub returns-in_err-open_gate-clause-gates : goal.returns-in_err-open_gate-clause-gates
+returns-in_err-open_gate-clause-gates g c =
+    let s = c.args.slot in
+    let h = c.requires.sealed in
+    sealed_gates (g.D.Disk.images c.open_gate.new.disk) s h.0 h.1 h.2 h.3 c.requires.slot (λ e image.
+    let from = c.open_gate.ensures.crash.now e image in
+    sealed_gate s h.0 h.1 h.2 h.3 from.0 e c.requires.slot from.2 (h.4.each from.0 from.1))
+
 pub close_old-requires-clause-gates : goal.close_old-requires-clause-gates
 close_old-requires-clause-gates g c =
     let disk = g.D.Disk in
@@ -62,6 +70,17 @@ returns-clause-done g c =
     (sealed_gate s b w d v first.0 second.0 c.requires.slot first.2 (h.each first.0 first.1))
     (c.in_ok-open_gate.ensures.opened second.0 second.1) (closed e image))
     c.close_old.ensures.closed
+
+pub returns-clause-gates : goal.returns-clause-gates
+returns-clause-gates g c =
+    let disk = g.D.Disk in
+    let s = c.args.slot in
+    let h = c.requires.sealed in
+    closing_gates (disk.images c.open_gate.new.disk) (disk.images c.close_old.new.disk) s h.0 h.1 h.2 h.3 c.requires.slot
+    (λ e image.
+    let from = c.open_gate.ensures.crash.now e image in
+    sealed_gate s h.0 h.1 h.2 h.3 from.0 e c.requires.slot from.2 (h.4.each from.0 from.1))
+    c.close_old.ensures.crash.now
 
 pub returns-clause-crash : goal.returns-clause-crash
 returns-clause-crash g c = λ b w d v h.

@@ -4,7 +4,7 @@ use Rattle.std.proofs.Common.{length, drop}
 use Rattle.fish_flush.proofs.Checkpoints.{has_settled, may_draft, memory_cause, no_fault, ok_all, reads_on}
 use Rattle.fish_flush.proofs.Checkpoints.{settled_counted}
 use Rattle.fish_flush.proofs.Committed.{draft_carries, draft_grows, draft_leaves, draft_more, long_rests}
-use Rattle.fish_flush.proofs.Committed.{nothing_leaves, told_later}
+use Rattle.fish_flush.proofs.Committed.{nothing_leaves, rest_gates, told_later}
 use Rattle.fish_flush.specs.Carrying.{Carries, HasCommitted, HasSettled}
 use Rattle.fish_flush.specs.Kept.{commit_of}
 use Rattle.fish_flush.specs.declared.flusher.Flusher.{Flusher}
@@ -48,6 +48,11 @@ returns-in_err-draft-clause-cause g c = memory_cause (g.D.Disk.faults c.args.dis
 
 pub returns-in_err-draft-clause-shut : goal.returns-in_err-draft-clause-shut
 returns-in_err-draft-clause-shut g c = λ is. absurd (no_fault c.from_residual.result c.from_residual.ensures.1 is)
+
+pub returns-in_err-draft-clause-gates : goal.returns-in_err-draft-clause-gates
+returns-in_err-draft-clause-gates g c =
+    let h = c.requires.carries in
+    rest_gates (g.D.Disk.images c.args.disk.now) c.args.flusher.now h.0 h.1 h.2.rest
 
 pub save-requires-clause-slot : goal.save-requires-clause-slot
 save-requires-clause-slot g c = c.requires.carries.2.rest.slot_is
@@ -119,12 +124,15 @@ returns-clause-committed g c =
     let learns = (reads_on v m u c.settle-to.ensures.settles c.draft_commit.ensures.extends).learns in
     let more = c.draft_commit.ensures.extends.learns.settled in
     let settled = c.settle-to.ensures.settled in
+    let counted = settled_counted v m to c.settle-to.result.count c.settle-to.ensures.stops c.settle-to.ensures.tail in
     ok_all c.save.result (λ n. n ≡ d.count) (HasCommitted images images' f c.save.new.flusher v u s rows) _ _ c.save.ensures.count
     c.save.ensures.saved c.save.ensures.done
     (λ n is saved done.
     let number : n ≡ to = is ∙ drafts.count in
     record {
       live = ap (λ (z : Flusher). z.shut) saved ∙ c.requires.live;
+      count = ap (λ (z : Flusher). z.count) saved ∙ sym is;
+      counted = (let more_ = c.draft_commit.ensures.extends.learns.count in omega arith);
       carries = λ e old h.
           let grows = draft_grows images f m u c.args.log.now.key.end s rows to d drafts e old h.rest h.bits h.grown in
           let all = draft_more images f m u c.args.log.now.key.end s rows to d drafts e old h.rest h.bits h.grown in
