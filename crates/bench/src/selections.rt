@@ -8,7 +8,7 @@ use crate::ingests::SHAPE;
 use crate::lanes::report;
 use crate::scans::{Filled, Timed, fill_log, time_scan};
 use fish_lang::{Def, parse_def};
-use fish_psf::{Parsed, Steps, eval};
+use fish_psf::{Parsed, Steps, has, values};
 use fish_read::RecordReader;
 use fish_rule::{Log, Pass};
 use fish_scan::How;
@@ -239,10 +239,8 @@ fn gives<R: Parsed>(
     value: &Value,
     found: &R,
 ) -> Result<bool, AllocError> {
-    let Some(found) = eval(alloc, def, found)? else {
-        return Ok(false);
-    };
-    let same = found.is(value);
+    let found = values(alloc, def, found)?;
+    let same = has(found.as_slice(), value);
     drop(found);
     Ok(same)
 }

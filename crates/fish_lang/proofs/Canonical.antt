@@ -4,7 +4,8 @@ use Rattle.std.specs.Prelude.{Bool, true, false, nat_lt, Option, Some, None, opt
 use Rattle.std.proofs.lemmas.Bool.Decides.{nat_tests}
 use Rattle.fish_value.specs.declared.value.Value.{Value}
 use Rattle.fish_value.specs.declared.value.Value.TheVariants as value
-use Rattle.fish_lang.specs.Definition.{Steps, Formula, compares, is_there, begins, negated, both, either, Definition, takes, eaches, buckets, flags}
+use Rattle.fish_lang.specs.Definition.{Steps, Formula, compares, is_there, begins, negated, both, either}
+use Rattle.fish_lang.specs.Definition.{Definition, takes, eaches, buckets, flags}
 use Rattle.fish_lang.specs.Grammar.{Spot, keyword, spots, path_spots, literal_spot, test_spots, cond_spots, conj_spots}
 use Rattle.fish_lang.specs.Grammar.{neg_spots, width_fault, nesting_fault, when_spots}
 use Rattle.fish_lang.specs.Derivation.{Path, one_step, more_steps, compare, exist, start, step_name, path_steps}

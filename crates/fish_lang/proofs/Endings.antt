@@ -31,6 +31,7 @@ take-token : IsToken (kind.Keyword word.Take)
 unfolding token_of keyword_of condition_word literal_word
 take-token = (codes "take", refl)
 
+-- `each` is a token
 each-token : IsToken (kind.Keyword word.Each)
 unfolding token_of keyword_of condition_word literal_word
 each-token = (codes "each", refl)

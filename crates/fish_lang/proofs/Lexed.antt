@@ -34,6 +34,7 @@ pub lexed-take : (rest : List ℕ) → lexed (codes "take " ++ rest) ≡ kind.Ke
 unfolding token_of keyword_of condition_word literal_word
 lexed-take rest = spaced 116 (codes "ake") rest (kind.Keyword word.Take) refl refl refl
 
+-- the word `each` and a blank
 pub lexed-each : (rest : List ℕ) → lexed (codes "each " ++ rest) ≡ kind.Keyword word.Each ∷ lexed rest
 unfolding token_of keyword_of condition_word literal_word
 lexed-each rest = spaced 101 (codes "ach") rest (kind.Keyword word.Each) refl refl refl

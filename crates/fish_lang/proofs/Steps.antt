@@ -14,7 +14,8 @@ use Rattle.fish_lang.specs.Moves.{advance, fault_at, finish, name_of, text_of, v
 use Rattle.fish_lang.specs.declared.definition.Op.{Op}
 use Rattle.fish_lang.specs.declared.token.Token.{Token}
 use Rattle.fish_lang.specs.declared.token.Token.TheVariants.{Keyword, Ident, Str, Number, Compare, Open, Close, Dot}
-use Rattle.fish_lang.specs.declared.token.Keyword.TheVariants.{Take, Each, Bucket, Flag, By, When, Not, And, Or, Exists, Starts, True, False}
+use Rattle.fish_lang.specs.declared.token.Keyword.TheVariants.{Take, Each, Bucket, Flag, By, When}
+use Rattle.fish_lang.specs.declared.token.Keyword.TheVariants.{Not, And, Or, Exists, Starts, True, False}
 use Rattle.fish_lang.proofs.Trees.{top, in_group, Joint, in_whole, behind_or, Operand, in_joint, behind_and, under_not}
 use Rattle.fish_lang.proofs.Trees.{Head, take_when, each_when, bucket_when, flag_when, Owner, of_take, of_each, of_bucket, of_test, Tree}
 use Rattle.fish_lang.proofs.Trees.{start_tree, flag_tree, first_of_take, first_of_each, first_of_bucket, behind_dot, behind_step}
@@ -82,6 +83,7 @@ from_take t s (Some x) e h =
           rw named.token;
     }
 
+-- the first step of the path after `each`
 from_each : (t : Token) (s : State) (n : Option (List ℕ)) → name_of t ≡ n
     → option_map (λ x. machine.behind_step machine.of_each (x ∷ [])) n ≡ Some s → Longer first_of_each t s
 from_each t s None e h = cc

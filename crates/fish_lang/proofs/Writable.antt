@@ -4,7 +4,8 @@ use Rattle.std.specs.Prelude.{true, false, Option, Some, None, IsUtf8}
 use Rattle.fish_value.specs.Number.{fits_i64}
 use Rattle.fish_value.specs.declared.value.Value.{Value}
 use Rattle.fish_value.specs.declared.value.Value.TheVariants as value
-use Rattle.fish_lang.specs.Definition.{Steps, Formula, compares, is_there, begins, negated, both, either, Definition, takes, eaches, buckets, flags}
+use Rattle.fish_lang.specs.Definition.{Steps, Formula, compares, is_there, begins, negated, both, either}
+use Rattle.fish_lang.specs.Definition.{Definition, takes, eaches, buckets, flags}
 use Rattle.fish_lang.proofs.Depths.{is_negative}
 
 -- what can be written: names and strings are texts, numbers have 64 bits, and paths are not empty

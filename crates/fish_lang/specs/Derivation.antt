@@ -2,7 +2,8 @@
 use Rattle.std.specs.Prelude.{ℤ, pos, List, [], ◌∷◌, ◌++◌, ℕ, Bool, Option, option_map, unwrap_or}
 use Rattle.fish_value.specs.declared.value.Value.{Value}
 use Rattle.fish_value.specs.declared.value.Value.TheVariants as value
-use Rattle.fish_lang.specs.Definition.{Steps, Formula, compares, is_there, begins, negated, both, either, Definition, takes, eaches, buckets, flags}
+use Rattle.fish_lang.specs.Definition.{Steps, Formula, compares, is_there, begins, negated, both, either}
+use Rattle.fish_lang.specs.Definition.{Definition, takes, eaches, buckets, flags}
 use Rattle.fish_lang.specs.declared.definition.Op.{Op}
 
 -- STEP = IDENT | STRING
@@ -42,8 +43,8 @@ mutual
     group : Cond → Neg
     test : Test → Neg
 
--- DEF = "take" PATH [ "when" COND ] | "each" PATH [ "when" COND ] | "bucket" PATH "by" NUMBER [ "when" COND ] | "flag" "when" COND,
--- where the number has no `-`
+-- DEF = "take" PATH [ "when" COND ] | "each" PATH [ "when" COND ] | "bucket" PATH "by" NUMBER [ "when" COND ]
+-- | "flag" "when" COND, where the number has no `-`
 pub data Derivation : Type 0 where
   take_def : Path → Option Cond → Derivation
   each_def : Path → Option Cond → Derivation

@@ -10,7 +10,8 @@ use Rattle.fish_lang.specs.Machine.{start, flag, step, behind_step, width, behin
 use Rattle.fish_lang.specs.Machine.{behind_operand, nesting, or_with, whole_of, complete, at_front}
 use Rattle.fish_lang.specs.Grammar.{number_fault, width_fault, nesting_fault}
 use Rattle.fish_lang.specs.declared.fault.Fault.{Fault}
-use Rattle.fish_lang.specs.declared.token.Keyword.TheVariants.{Take, Each, Bucket, Flag, By, When, Not, And, Or, Exists, Starts, True, False}
+use Rattle.fish_lang.specs.declared.token.Keyword.TheVariants.{Take, Each, Bucket, Flag, By, When}
+use Rattle.fish_lang.specs.declared.token.Keyword.TheVariants.{Not, And, Or, Exists, Starts, True, False}
 use Rattle.fish_lang.specs.declared.token.Token.{Token}
 use Rattle.fish_lang.specs.declared.token.Token.TheVariants.{Keyword, Ident, Str, Number, Compare, Open, Close, Dot}
 

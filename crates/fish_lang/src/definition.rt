@@ -61,7 +61,7 @@ pub enum Def {
         /// Which records have the value.
         when: Option<Cond>,
     },
-    /// The elements of the array at a path.
+    /// The values of the elements of the array at a path, each once, and of these the first eight.
     Each {
         /// Where the array stands.
         path: Path,

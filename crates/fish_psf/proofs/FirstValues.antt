@@ -19,7 +19,8 @@ abbrev pub gathered : List FieldView → List Value
 gathered views = distinct (filter_map value_of (map field_seen views))
 
 -- values with that of one more field, or without
-one_more : (vs : List Value) (o : Option Value) → distinct (vs ++ cons_option o []) ≡ option_map_or (with_value (distinct vs)) o (distinct vs)
+one_more : (vs : List Value) (o : Option Value)
+    → distinct (vs ++ cons_option o []) ≡ option_map_or (with_value (distinct vs)) o (distinct vs)
 one_more vs None = ap distinct (append-nil vs)
 one_more vs (Some v) = distinct-more vs v
 

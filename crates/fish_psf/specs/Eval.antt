@@ -13,7 +13,8 @@ use Rattle.fish_value.specs.declared.value.Value.{Value}
 use Rattle.fish_value.specs.declared.value.Value.TheVariants as value
 use Rattle.fish_value.specs.declared.field.Field.{Field}
 use Rattle.fish_value.specs.declared.field.Field.TheVariants as field
-use Rattle.fish_lang.specs.Definition.{Definition, takes, eaches, buckets, flags, Formula, compares, is_there, begins, negated, both, either}
+use Rattle.fish_lang.specs.Definition.{Definition, takes, eaches, buckets, flags}
+use Rattle.fish_lang.specs.Definition.{Formula, compares, is_there, begins, negated, both, either}
 use Rattle.fish_lang.specs.declared.definition.Op.{Op}
 use Rattle.fish_lang.specs.declared.definition.Op.TheVariants.{Eq, Ne, Lt, Le, Gt, Ge}
 

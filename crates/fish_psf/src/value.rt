@@ -62,8 +62,8 @@ fn at_most_one(alloc: Global, value: Option<Value>) -> Result<Values, AllocError
     ensures { IfOk result (λ found. found ≡ option_to_list value) }
 {
     let mut values = Values::new(alloc);
-    if let Some(value) = value {
-        values.push(value)?;
+    if let Some(only) = value {
+        values.push(only)?;
     }
     Ok(values)
 }

@@ -33,6 +33,12 @@ const DEFINITIONS: &[(&str, &str)] = &[
         "take  \"type\"  when not ( n<3 or n >5)",
         "take type when not (n < 3 or n > 5)",
     ),
+    ("each tags", "each tags"),
+    (
+        "each  a.\"each\" when ( n<3 )",
+        "each a.\"each\" when n < 3",
+    ),
+    ("take \"each\"", "take \"each\""),
     (
         "flag when a = 1 or (b = 2 or c = 3)",
         "flag when a = 1 or (b = 2 or c = 3)",
@@ -70,6 +76,12 @@ const DEFINITIONS: &[(&str, &str)] = &[
     ("", "unexpected at 0"),
     ("take ", "unexpected at 5"),
     ("take a.by", "unexpected at 7"),
+    ("each", "unexpected at 4"),
+    ("each when a = 1", "unexpected at 5"),
+    ("each a by 10", "unexpected at 7"),
+    ("each a each b", "unexpected at 7"),
+    ("take a.each", "unexpected at 7"),
+    ("take each", "unexpected at 5"),
     ("bucket n by -1", "unexpected at 12"),
     ("take n when n!=-0", "unexpected at 15"),
     ("flag when a=\"x", "unexpected at 12"),
@@ -96,9 +108,12 @@ fn told_again(alloc: Global, source: &&str) -> Result<String, AllocError> {
     agreed(alloc, text.as_str(), again.as_str())
 }
 
-/// A definition begins with one of three words, and no refusal does.
+/// A definition begins with one of four words, and no refusal does.
 fn is_refusal(text: &str) -> bool {
-    !(text.starts_with("take ") || text.starts_with("bucket ") || text.starts_with("flag "))
+    !(text.starts_with("take ")
+        || text.starts_with("each ")
+        || text.starts_with("bucket ")
+        || text.starts_with("flag "))
 }
 
 #[test]
@@ -115,6 +130,8 @@ const LONG: &[((&str, &str, usize, &str), &str)] = &[
     (("take a", ".abc", 62, ".b"), "too long 256"),
     (("take a", "b", 249, ""), "itself"),
     (("take a", "b", 250, ""), "too long 256"),
+    (("each a", "b", 249, ""), "itself"),
+    (("each a", "b", 250, ""), "too long 256"),
     // Sources.
     (("take a", " ", 4_090, ""), "take a"),
     (("take a", " ", 4_091, ""), "too long 4097"),

@@ -24,6 +24,12 @@ const NAMED: &str = "h1,h2\r\n1,2\n";
 /// Lines of which the second is no object.
 const LINES: &str = "{\"n\":1}\r\n[1]\n{\"n\":\"1\"}\n\n{\"n\":1,\"m\":2}";
 
+/// Lines with tags: an array, a text, and an array of which one element is a value.
+const TAGS: &str = "{\"tags\":[\"a\",\"b\",\"a\"]}\n{\"tags\":\"a\"}\n{\"tags\":[1.5,null,\"b\"]}\n";
+
+/// A line with nine numbers.
+const NINE: &str = "{\"n\":[1,2,3,4,5,6,7,8,9]}\n";
+
 /// A definition, a value, a form, whether there is a header, and a file; and the text of the answer.
 const ANSWERS: &[((&str, &str, Form, bool, &str), &str)] = &[
     (
@@ -57,6 +63,22 @@ const ANSWERS: &[((&str, &str, Form, bool, &str), &str)] = &[
     (
         ("take n", "1", Form::Json, false, LINES),
         "select found 2 of 3 refused 1\n2 13 {\"n\":1,\"m\":2}\n0 7 {\"n\":1}\n",
+    ),
+    (
+        ("each tags", "\"b\"", Form::Json, false, TAGS),
+        "select found 2 of 3 refused 0\n2 23 {\"tags\":[1.5,null,\"b\"]}\n0 22 {\"tags\":[\"a\",\"b\",\"a\"]}\n",
+    ),
+    (
+        ("each tags", "\"a\"", Form::Json, false, TAGS),
+        "select found 1 of 3 refused 0\n0 22 {\"tags\":[\"a\",\"b\",\"a\"]}\n",
+    ),
+    (
+        ("each n", "8", Form::Json, false, NINE),
+        "select found 1 of 1 refused 0\n0 25 {\"n\":[1,2,3,4,5,6,7,8,9]}\n",
+    ),
+    (
+        ("each n", "9", Form::Json, false, NINE),
+        "select found 0 of 1 refused 0\n",
     ),
     // a file in JSON has no header
     (

@@ -21,6 +21,8 @@ const DEFINITIONS: &[(u16, &str)] = &[
     (4, "take $2"),
     (5, "take $3 when $1 = \"a\""),
     (9, "flag when $2 starts \"x\""),
+    (11, "each tags"),
+    (12, "each tags when $1 = 1"),
 ];
 
 /// A form, a payload, and what is told of it: its values by id, or why it is refused.
@@ -37,6 +39,16 @@ const PAYLOADS: &[((Form, &str), &str)] = &[
         (Form::Json, "{\"$1\":1,\"$2\":\"x\"}"),
         "3 1;4 \"x\";9 true;",
     ),
+    // An entry for each value, those of one id in the order of their first places.
+    (
+        (Form::Json, "{\"$1\":1,\"tags\":[\"b\",\"a\",\"b\",null,7]}"),
+        "3 1;11 \"b\";11 \"a\";11 7;12 \"b\";12 \"a\";12 7;",
+    ),
+    (
+        (Form::Json, "{\"tags\":[9,8,7,6,5,4,3,2,1],\"$2\":\"x\"}"),
+        "4 \"x\";9 true;11 9;11 8;11 7;11 6;11 5;11 4;11 3;11 2;",
+    ),
+    ((Form::Json, "{\"tags\":\"a\"}"), ""),
     ((Form::Json, "[1]"), NO_RECORD),
     ((Form::Json, "{"), NO_RECORD),
 ];

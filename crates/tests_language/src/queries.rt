@@ -7,7 +7,7 @@ use crate::expecting::expect_all;
 use crate::sources::definition;
 use fish_lang::Def;
 use fish_lines::records;
-use fish_psf::{Record, Steps, eval, parse};
+use fish_psf::{Record, Steps, has, parse, values};
 use fish_value::{Form, Text, Value, read_value};
 use std::alloc::{AllocError, Global};
 use std::fmt::Write;
@@ -60,27 +60,33 @@ const COLUMNS: &str = "a,\"x,1\",007\n";
 
 const NUMBER: &str = "7\n";
 
+/// A row whose column has the text of an array.
+const LISTED: &str = "[7]\n";
+
+/// Lines with tags: an array, a text, and an array of which one element is a value.
+const TAGS: &str = "{\"tags\":[\"a\",\"b\",\"a\"]}\n{\"tags\":\"a\"}\n{\"tags\":[1.5,null,\"b\"]}\n";
+
 /// A definition with a form, a file and a value, and the numbers of the records that have it.
 const FIELDS: &[((&str, (Form, &str, &str)), &str)] = &[
     (("take $2", (Form::Csv, COLUMNS, "\"x,1\"")), "0;"),
     (("take $3", (Form::Csv, COLUMNS, "7")), ""),
     (("take $3", (Form::Csv, COLUMNS, "\"007\"")), "0;"),
     (("take $1", (Form::Csv, NUMBER, "7")), "0;"),
+    (("each tags", (Form::Json, TAGS, "\"a\"")), "0;"),
+    (("each tags", (Form::Json, TAGS, "\"b\"")), "0;2;"),
+    (("each tags", (Form::Json, TAGS, "\"c\"")), ""),
+    (("take tags", (Form::Json, TAGS, "\"a\"")), "1;"),
+    // A column is no array, whatever its text is.
+    (("each $1", (Form::Csv, NUMBER, "7")), ""),
+    (("each $1", (Form::Csv, LISTED, "7")), ""),
 ];
 
 /// Whether a definition gives a value on a record.
 fn gives(alloc: Global, def: &Def, record: &Record, value: &Value) -> Result<bool, AllocError> {
-    let found = eval(alloc, def, record)?;
-    let same = is_some_of(&found, value);
+    let found = values(alloc, def, record)?;
+    let same = has(found.as_slice(), value);
     drop(found);
     Ok(same)
-}
-
-fn is_some_of(found: &Option<Value>, value: &Value) -> bool {
-    match found {
-        Some(found) => found.is(value),
-        None => false,
-    }
 }
 
 /// Whether it does on a payload, which is a record.

@@ -4,13 +4,12 @@ use crate::expecting::expect_all;
 use crate::sources::definition;
 use fish_json::{JsonReader, JsonRecord};
 use fish_lang::Def;
-use fish_psf::{Parsed, Record, eval, holds};
-use fish_value::Value;
+use fish_psf::{Parsed, Record, holds};
 use std::alloc::{AllocError, Global};
 use std::test::Fail;
-use tests_values::{agreed, value_text};
+use tests_values::{agreed, values_text};
 
-/// Definitions, lines, and the value that is wanted.
+/// Definitions, lines, and the values that are wanted.
 const VALUES: &[((&str, &str), &str)] = &[
     // The value at a path.
     (("take a", "{\"a\":false}"), "false"),
@@ -28,6 +27,35 @@ const VALUES: &[((&str, &str), &str)] = &[
     (("take a.b", "{\"a\":{\"c\":1},\"b\":2}"), "none"),
     (("take a when b = 1", "{\"a\":2,\"b\":1}"), "int 2"),
     (("take a when b = 1", "{\"a\":2,\"b\":2}"), "none"),
+    // The values of an array's elements, each once in the order of its first place.
+    (("each tags", "{\"tags\":[\"a\",\"b\",\"a\"]}"), "text a|text b"),
+    (("each tags", "{\"tags\":\"a\"}"), "none"),
+    (("each tags", "{\"tags\":[1.5,null,\"b\"]}"), "text b"),
+    (("each a", "{\"a\":[]}"), "none"),
+    (("each a", "{\"a\":null}"), "none"),
+    (("each a", "{\"a\":1}"), "none"),
+    (("each a", "{\"a\":{\"b\":[1]}}"), "none"),
+    (("each a", "{\"b\":[1]}"), "none"),
+    (("each a", "{\"a\":[[1],{\"a\":1},null,1.5,9223372036854775808]}"), "none"),
+    (("each a.b", "{\"a\":{\"b\":[2]},\"b\":[1]}"), "int 2"),
+    (("each a.b", "{\"a\":[{\"b\":[2]}]}"), "none"),
+    (("each a", "{\"a\":[7,\"7\",true,7,true,\"7\"]}"), "int 7|text 7|true"),
+    (("each a", "{\"a\":[false,0,\"\",-0,0]}"), "false|int 0|text "),
+    // The first eight.
+    (
+        ("each n", "{\"n\":[1,2,3,4,5,6,7,8]}"),
+        "int 1|int 2|int 3|int 4|int 5|int 6|int 7|int 8",
+    ),
+    (
+        ("each n", "{\"n\":[1,2,3,4,5,6,7,8,9]}"),
+        "int 1|int 2|int 3|int 4|int 5|int 6|int 7|int 8",
+    ),
+    (
+        ("each n", "{\"n\":[9,1,9,null,2,1,3,4,5,9,6,7,8]}"),
+        "int 9|int 1|int 2|int 3|int 4|int 5|int 6|int 7",
+    ),
+    (("each a when b = 1", "{\"a\":[2,3],\"b\":1}"), "int 2|int 3"),
+    (("each a when b = 1", "{\"a\":[2,3],\"b\":2}"), "none"),
     // Rounding down.
     (("bucket n by 10", "{\"n\":0}"), "int 0"),
     (("bucket n by 10", "{\"n\":9}"), "int 0"),
@@ -124,9 +152,9 @@ const CONDITIONS: &[((&str, &str), &str)] = &[
 ];
 
 /// What a definition gives on a record.
-fn value_on<R: Parsed>(alloc: Global, def: &Def, rec: &R) -> Result<String, AllocError> {
-    let found = eval(alloc, def, rec)?;
-    let told = value_text(alloc, &found);
+fn values_on<R: Parsed>(alloc: Global, def: &Def, rec: &R) -> Result<String, AllocError> {
+    let found = fish_psf::values(alloc, def, rec)?;
+    let told = values_text(alloc, &found);
     drop(found);
     told
 }
@@ -142,7 +170,7 @@ fn record_of(alloc: Global, line: &str) -> Result<JsonRecord, AllocError> {
 /// What it gives on a line that is read as a record.
 fn in_record(alloc: Global, def: &Def, line: &str) -> Result<String, AllocError> {
     let record = record_of(alloc, line)?;
-    let told = value_on(alloc, def, &record);
+    let told = values_on(alloc, def, &record);
     drop(record);
     told
 }
@@ -150,7 +178,7 @@ fn in_record(alloc: Global, def: &Def, line: &str) -> Result<String, AllocError>
 /// What it gives on a line that is read as a record of any form.
 fn in_any_form(alloc: Global, def: &Def, line: &str) -> Result<String, AllocError> {
     let record = Record::Json(record_of(alloc, line)?);
-    let told = value_on(alloc, def, &record);
+    let told = values_on(alloc, def, &record);
     drop(record);
     told
 }
@@ -160,7 +188,7 @@ fn in_row(alloc: Global, def: &Def, line: &str) -> Result<String, AllocError> {
     let mut reader = JsonReader::new(alloc);
     match reader.read(alloc, line.as_bytes()) {
         Ok(row) => {
-            let told = value_on(alloc, def, &row);
+            let told = values_on(alloc, def, &row);
             drop(row);
             told
         }
@@ -178,7 +206,7 @@ fn on_line(alloc: Global, def: &Def, line: &str) -> Result<String, AllocError> {
 }
 
 /// What a definition gives on a line.
-fn value_by(alloc: Global, case: &(&str, &str)) -> Result<String, AllocError> {
+fn values_by(alloc: Global, case: &(&str, &str)) -> Result<String, AllocError> {
     let def = definition(alloc, case.0)?;
     let told = on_line(alloc, &def, case.1);
     drop(def);
@@ -187,7 +215,7 @@ fn value_by(alloc: Global, case: &(&str, &str)) -> Result<String, AllocError> {
 
 #[test]
 fn values(rt: HostRuntime) -> Result<(), Fail> {
-    expect_all(&rt, rt.alloc(), VALUES, value_by)?;
+    expect_all(&rt, rt.alloc(), VALUES, values_by)?;
     Ok(())
 }
 
@@ -224,25 +252,43 @@ const LONG: &[((&str, usize), &str)] = &[
     (("flag when a > \"x\"", 257), "4 bytes true"),
 ];
 
-/// A line whose `a` is a text of that many bytes.
-fn long_line(alloc: Global, len: usize) -> Result<String, AllocError> {
-    let mut line = String::from_str(alloc, "{\"a\":\"")?;
+/// The same of a text that is alone in an array at `a`.
+const LONG_IN_AN_ARRAY: &[((&str, usize), &str)] = &[
+    (("each a", 256), "261 bytes text"),
+    (("each a", 257), "4 bytes none"),
+    (("each a", 500_000), "4 bytes none"),
+];
+
+/// A text of that many bytes between two.
+fn long_line(alloc: Global, front: &str, len: usize, end: &str) -> Result<String, AllocError> {
+    let mut line = String::from_str(alloc, front)?;
     for _ in 0..len {
         line.push('x')?;
     }
-    line.push_str("\"}")?;
+    line.push_str(end)?;
     Ok(line)
 }
 
-fn long_told(alloc: Global, case: &(&str, usize)) -> Result<String, AllocError> {
-    let line = long_line(alloc, case.1)?;
-    let told = value_by(alloc, &(case.0, line.as_str()))?;
+/// How many bytes are told of the values on a line, and how they begin.
+fn begins(alloc: Global, source: &str, line: &str) -> Result<String, AllocError> {
+    let told = values_by(alloc, &(source, line))?;
     let kind = told.as_str().trim_end_matches('x').trim_end();
     format!(in alloc; "{} bytes {kind}", told.len())
+}
+
+fn long_told(alloc: Global, case: &(&str, usize)) -> Result<String, AllocError> {
+    let line = long_line(alloc, "{\"a\":\"", case.1, "\"}")?;
+    begins(alloc, case.0, line.as_str())
+}
+
+fn long_item_told(alloc: Global, case: &(&str, usize)) -> Result<String, AllocError> {
+    let line = long_line(alloc, "{\"a\":[\"", case.1, "\"]}")?;
+    begins(alloc, case.0, line.as_str())
 }
 
 #[test]
 fn long_texts(rt: HostRuntime) -> Result<(), Fail> {
     expect_all(&rt, rt.alloc(), LONG, long_told)?;
+    expect_all(&rt, rt.alloc(), LONG_IN_AN_ARRAY, long_item_told)?;
     Ok(())
 }

@@ -5,7 +5,7 @@ ghost use Rattle.std.specs.Prelude.{◌≡◌, ◌<◌};
 
 use crate::expecting::expect;
 use crate::json_payloads::{Seeded, change_byte, nested, object};
-use crate::told::{field_at, path_of};
+use crate::told::{field_at, items_at, path_of};
 use fish_json::{JsonReader, JsonRecord};
 use fish_psf::{Parsed, Steps};
 use fish_read::RecordReader;
@@ -42,12 +42,14 @@ fn all_paths(alloc: Global) -> Result<Vec<Path>, AllocError> {
     Ok(paths)
 }
 
-/// What a record has at each path.
+/// What a record has at each path, and the elements of an array there.
 fn fields_of<R: Parsed>(alloc: Global, rec: &R, paths: &[Path]) -> Result<String, AllocError> {
     let mut told = String::new(alloc);
     for path in paths {
         let field = field_at(alloc, rec, path)?;
         told.push_str(field.as_str())?;
+        let items = items_at(alloc, rec, path)?;
+        told.push_str(items.as_str())?;
         told.push('|')?;
     }
     Ok(told)

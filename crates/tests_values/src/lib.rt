@@ -15,6 +15,8 @@ mod hashes;
 #[cfg(test)]
 mod headers;
 #[cfg(test)]
+mod json_arrays;
+#[cfg(test)]
 mod json_lines;
 #[cfg(test)]
 mod json_payloads;
@@ -36,4 +38,7 @@ mod told;
 #[cfg(test)]
 mod values;
 
-pub use told::{agreed, field_at, field_or_refusal, path_of, text_of, value_text};
+pub use told::{
+    agreed, field_at, field_or_refusal, fields_text, items_at, path_of, text_of, value_text,
+    values_text,
+};

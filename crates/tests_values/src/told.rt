@@ -1,7 +1,7 @@
 //! Answers as texts, so that tables hold what is wanted in plain words.
 
 use fish_psf::Parsed;
-use fish_value::{Field, Path, Text, Value};
+use fish_value::{Field, FieldView, Fields, Path, Sequence, Text, Value, Values};
 use std::alloc::{AllocError, Global};
 use std::fmt::Display;
 
@@ -32,6 +32,22 @@ pub fn value_text(alloc: Global, found: &Option<Value>) -> Result<String, AllocE
     }
 }
 
+/// The kinds and contents of values, a bar between two, or `none`.
+pub fn values_text(alloc: Global, found: &Values) -> Result<String, AllocError> {
+    if found.is_empty() {
+        return String::from_str(alloc, "none");
+    }
+    let mut told = String::new(alloc);
+    for value in found.as_slice() {
+        if !told.is_empty() {
+            told.push('|')?;
+        }
+        let text = text_of(alloc, value)?;
+        told.push_str(text.as_str())?;
+    }
+    Ok(told)
+}
+
 /// A value's kind and content.
 pub fn text_of(alloc: Global, value: &Value) -> Result<String, AllocError> {
     match value {
@@ -47,6 +63,34 @@ pub fn field_at<R: Parsed>(alloc: Global, rec: &R, path: &Path) -> Result<String
     let told = field_text(alloc, &field);
     drop(field);
     told
+}
+
+/// The kinds and contents of fields, a bar after each.
+pub fn fields_text(alloc: Global, fields: &Fields) -> Result<String, AllocError> {
+    let mut told = String::new(alloc);
+    for field in fields.as_slice() {
+        let text = field_text(alloc, field)?;
+        told.push_str(text.as_str())?;
+        told.push('|')?;
+    }
+    Ok(told)
+}
+
+/// The elements of the array that a record has at a path, told in the same way.
+pub fn items_at<R: Parsed>(alloc: Global, rec: &R, path: &Path) -> Result<String, AllocError> {
+    let views = rec.look_each(alloc, path)?;
+    let told = views_text(alloc, &views);
+    drop(views);
+    told
+}
+
+/// The same of fields that are borrowed.
+fn views_text(alloc: Global, views: &Sequence<FieldView<'_>>) -> Result<String, AllocError> {
+    let mut fields = Fields::new(alloc);
+    for view in views.as_slice() {
+        fields.push(view.to_field(alloc)?)?;
+    }
+    fields_text(alloc, &fields)
 }
 
 /// What a record that was read has at a path, or the message of why it was not read.

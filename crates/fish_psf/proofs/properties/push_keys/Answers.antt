@@ -42,6 +42,8 @@ returns g c =
     let none = c.in-None.ensures.steps in
     let empty : into_iter_items at.value-iterator ≡ [] = nothing_left _ (sym at.invariant.2 ∙ none.0) in
     let gives = values (definition_of c.args.active.now.def) (g.R.Parsed.fields c.args.rec.now) in
-    let all : at.yielded ≡ gives = sym (append-nil at.yielded) ∙ rw empty at at.invariant.0 ∙ c.into_iter-value-iterator.ensures.into_iter_gives.0
+    let all : at.yielded ≡ gives =
+    sym (append-nil at.yielded) ∙ rw empty at at.invariant.0
+    ∙ c.into_iter-value-iterator.ensures.into_iter_gives.0
     ∙ c.into_vec-value-items.ensures ∙ c.in_ok-values.ensures in
     put_all _ _ id at.yielded gives at.invariant.1 all
