@@ -40,7 +40,8 @@ meant_rows rows catalog id row there =
 
 -- the last commit was read so far, by the rows as they are
 pub commits_read : (f : Flusher) (c d : Commit) (body lines : List ℕ) (old : List Entry) → IsCommitted f c body lines old
-    → c.bucket_bits ≡ d.bucket_bits → HaveGrown c.count c.rows d.rows → IsCatalog d.rows → IsReadTo d (words_in lines) old f.count f.line f.heads.items
+    → c.bucket_bits ≡ d.bucket_bits → HaveGrown c.count c.rows d.rows → IsCatalog d.rows
+    → IsReadTo d (words_in lines) old f.count f.line f.heads.items
 commits_read f c d body lines old h bits grown catalog =
     let stands = h.is.stands in
     let at : Commit = record d { lines = f.line } in
@@ -49,7 +50,8 @@ commits_read f c d body lines old h bits grown catalog =
     record {
       end = stands.end;
       agrees = subst (λ (k : ℕ). Agrees at (words_in lines) k stands.end) h.count
-          (grown_agrees c at c.count bits (omega arith) grown (λ m p has. meant_rows d.rows catalog) (words_in lines) c.count stands.end (omega arith) stands.agrees);
+          (grown_agrees c at c.count bits (omega arith) grown (λ m p has. meant_rows d.rows catalog) (words_in lines) c.count
+          stands.end (omega arith) stands.agrees);
       line_is = stands.lines ∙ line;
       entries = stands.entries;
       heads_are = subst (λ (b : ℕ). AreHeads (2 ^ b) stands.end.places f.heads.items) bits h.heads;

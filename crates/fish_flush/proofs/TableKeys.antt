@@ -1,5 +1,5 @@
 -- The rows that the control pass knows say which key entries each record of the table has.
-use Rattle.std.proofs.Common.{◌≡◌, ℕ, zero, suc, ◌<◌, ◌≤◌, ◌⊎◌, inl, inr, List, [], ◌∷◌}
+use Rattle.std.proofs.Common.{◌≡◌, ℕ, zero, suc, ◌<◌, ◌≤◌, inl, inr, List, [], ◌∷◌}
 use Rattle.std.proofs.Common.{filter, length, map, sym, refl, ap, ◌∙◌}
 use Rattle.std.proofs.Common.{subst, arith, Bool, true, false, cond, Some, None, Option, option_map, slice_get}
 use Rattle.std.specs.Prelude.{All}
@@ -30,7 +30,6 @@ use Rattle.fish_psf.specs.Eval.{Fields, values}
 use Rattle.fish_psf.specs.Keys.{keys_of, keys_under}
 use Rattle.fish_psf.specs.Records.{fields_of_payload}
 use Rattle.fish_psf.specs.declared.key.ActiveDef.{ActiveDef}
-use Rattle.fish_psf.specs.declared.key.KeyValue.{KeyValue}
 use Rattle.fish_flush.proofs.RuleFacts.{text_grows, there_is}
 use Rattle.fish_rule.specs.Boundaries.{IsOpenIn}
 use Rattle.fish_rule.specs.Keys.{IsKeyedOf, IsWritten, property, text_of}

@@ -1,9 +1,9 @@
 -- What words stand for doesn't depend on the format of the commit.
-use Rattle.std.proofs.Common.{ℕ, zero, suc, List, refl, inl, inr}
+use Rattle.std.proofs.Common.{ℕ, zero, suc, List, inl, inr}
 use Rattle.fish_catalog.specs.declared.commit.Commit.{Commit}
 use Rattle.fish_catalog.specs.declared.entry.Entry.{Entry}
 use Rattle.fish_layout.specs.declared.parts.BodyParts.{BodyParts}
-use Rattle.fish_image.specs.Log.{Agrees, Follows, FollowsIn, IsKeptAt, IsRecordAt, IsVoidAt, StandsFor, region, region_lines}
+use Rattle.fish_image.specs.Log.{Agrees, FollowsIn, IsKeptAt, StandsFor}
 use Rattle.fish_image.specs.Reached.{Reached}
 
 module _ (c : Commit) (format : ℕ) where

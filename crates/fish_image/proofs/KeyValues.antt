@@ -1,6 +1,7 @@
 -- The values of the key entries of a definition, entry by entry, and some values of others.
-use Rattle.std.proofs.Common.{◌≡◌, ℕ, List, [], ◌∷◌, sym, subst, inl, inr, rules}
-use Rattle.std.specs.Prelude.{◌↔◌, ◌==◌, ⊤}
+use Rattle.std.proofs.Common.{◌≡◌, ℕ, ◌<◌, ◌∙◌, List, [], ◌∷◌, arith, refl, sym, subst, inl, inr, rules}
+use Rattle.fish_layout.specs.Body.{AreProperKeys}
+use Rattle.std.specs.Prelude.{◌↔◌}
 use Rattle.fish_value.specs.declared.value.Value.{Value}
 use Rattle.fish_layout.specs.declared.parts.KeyPart.{KeyPart}
 use Rattle.fish_image.specs.Log.{AreSomeOf, values_under}
@@ -58,3 +59,18 @@ some_taken {us} {gs} v vs w ws same u g =
 -- the first entry of a definition gives its first value
 pub under_own : (id : ℕ) (k : KeyPart) (ks : List KeyPart) → k.id ≡ id → values_under id (k ∷ ks) ≡ k.value ∷ values_under id ks
 under_own id k ks e = search rules
+
+-- an entry of another definition gives none
+pub under_other : (id : ℕ) (k : KeyPart) (ks : List KeyPart) → (k.id ≡ id → ⊥) → values_under id (k ∷ ks) ≡ values_under id ks
+under_other id k ks other = search rules
+
+-- entries whose ids lie above another one give none under it
+pub none_below : (least id : ℕ) (ks : List KeyPart) → AreProperKeys least ks → id < least → values_under id ks ≡ []
+none_below least id [] h above = refl
+none_below least id (k ∷ ks) h above =
+    under_other id k ks (λ same. absurd (omega (arith, same, h.0, above)))
+    ∙ none_below k.id id ks h.3 (omega (arith, h.0, above))
+
+-- nor do they behind one of them
+pub none_from : (id : ℕ) (k : KeyPart) (ks : List KeyPart) → AreProperKeys 0 (k ∷ ks) → id < k.id → values_under id (k ∷ ks) ≡ []
+none_from id k ks h above = under_other id k ks (λ same. absurd (omega arith)) ∙ none_below k.id id ks h.3 above

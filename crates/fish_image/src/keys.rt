@@ -2,7 +2,8 @@
 //!
 //! A definition is evaluated where its index covers the record, and where a key entry is of it.
 
-ghost use Rattle.std.specs.Prelude.{◌≡◌, ◌↔◌, ◌<◌, IfOk, IsTrue, Some, length, slice_get};
+ghost use Rattle.std.specs.Prelude.{◌≡◌, ◌↔◌, ◌<◌, [], IfOk, IsTrue, Some, length, slice_get};
+ghost use Rattle.fish_layout.specs.Body.{AreProperKeys};
 ghost use Rattle.fish_layout.specs.declared.parts.KeyPart.{KeyPart as Key};
 ghost use Rattle.fish_image.specs.Log.{AreSomeOf, values_under};
 ghost use Rattle.fish_image.specs.Terms.{HasIndexValues, HasKeysFor, IndexCovers};
@@ -22,6 +23,7 @@ pub(crate) fn has_keys<R: Parsed>(
     keys: &[KeyPart],
     rec: &R,
 ) -> Result<bool, AllocError>
+    requires { AreProperKeys 0 keys.now }
     ensures { IfOk result (λ yes. IsTrue yes ↔ HasKeysFor rows.now number (R.fields rec.now) keys.now) }
 {
     if !are_known(rows, keys) {
@@ -57,11 +59,12 @@ fn has_values<R: Parsed>(
     keys: &[KeyPart],
     rec: &R,
 ) -> Result<bool, AllocError>
+    requires { AreProperKeys 0 keys.now }
     ensures { IfOk result (λ yes. IsTrue yes ↔ HasIndexValues row.now number (R.fields rec.now) (values_under id keys.now)) }
 {
     let covered = covers(row, number);
-    if !covered && are_all(keys, id, &[]) {
-        // it has no key entry and needs none, so what it gives isn't asked
+    if !covered && has_none(keys, id) {
+        // it needs no key entry, so what it gives isn't asked
         return Ok(true);
     }
     let given = values(alloc, &row.def, rec)?;
@@ -72,6 +75,25 @@ fn has_values<R: Parsed>(
     };
     drop(given);
     Ok(fits)
+}
+
+/// Whether no key entry is of the definition with this id. Entries behind a greater id aren't looked at.
+fn has_none(keys: &[KeyPart], id: usize) -> bool
+    requires { AreProperKeys 0 keys.now }
+    ensures { IsTrue result ↔ (values_under id keys.now ≡ []) }
+{
+    let mut rest = keys;
+    while let [key, behind @ ..] = rest {
+        let own = usize::from(key.id);
+        if own == id {
+            return false;
+        }
+        if own > id {
+            return true;
+        }
+        rest = behind;
+    }
+    true
 }
 
 /// Whether the key entries of a definition have just these values.

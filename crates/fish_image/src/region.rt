@@ -186,6 +186,7 @@ fn is_kept(
     number: u32,
     parts: &BodyParts,
 ) -> Result<bool, AllocError>
+    requires { IsProper parts.now }
     ensures { IfOk result (λ yes. IsTrue yes ↔ HasKeysIn rows.now number parts.now) }
 {
     is_kept_counted::<Brand>(alloc, rows, reader, Blank::new(1), number, parts)
@@ -203,6 +204,7 @@ fn is_kept_counted<L: Ledger>(
     requires name { blank.name ≡ L.name }
     requires parts { blank.parts ≡ L.parts }
     requires some { 0 < blank.parts }
+    requires proper { IsProper parts.now }
     ensures { IfOk result (λ yes. IsTrue yes ↔ HasKeysIn rows.now number parts.now) }
 {
     let mut parses = Steps::<L>::new(blank);

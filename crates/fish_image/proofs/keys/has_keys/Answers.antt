@@ -1,5 +1,5 @@
 -- The definitions so far, and all.
-use Rattle.std.proofs.Common.{rules, ◌≡◌, ℕ, ◌<◌, arith, refl}
+use Rattle.std.proofs.Common.{ℕ, arith, refl}
 use Rattle.std.proofs.lemmas.Option.{slice_get_read, slice_get_within}
 use Rattle.fish_image.specs.Log.{values_under}
 use Rattle.fish_image.specs.Terms.{HasIndexValues}

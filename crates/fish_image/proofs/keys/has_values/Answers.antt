@@ -1,5 +1,5 @@
 -- Where the index covers the record all values are wanted, and else some.
-use Rattle.std.proofs.Common.{rules, ◌≡◌, sym, ap, ◌∙◌}
+use Rattle.std.proofs.Common.{rules}
 use Rattle.fish_image.specs.Log.{values_under}
 use Rattle.fish_image.proofs.RowValues.{all_wanted, some_wanted}
 use Rattle.fish_image.proofs.keys.has_values.Goals as goal
