@@ -87,10 +87,10 @@ few_heads b few =
 
 -- a store without a record is at rest
 pub first_rests : (images : List ℕ → Type 0) (f : Flusher) (s : Shape) (b : List ℕ) →
-    f.slot ≡ 0 → f.turn ≡ 0 → f.count ≡ 0 → f.line ≡ 0 → IsTold (first_commit s) b
+    f.slot ≡ 0 → f.turn ≡ 0 → f.count ≡ 0 → f.line ≡ 0 → f.page ≡ 0 → f.starts.items ≡ [] → IsTold (first_commit s) b
     → ((c : List ℕ) → images c → IsAlone 0 c × (body_of 0 c ≡ b)) → ((c : List ℕ) → images c → lines_at ≤ length c)
     → AreHeads (2 ^ s.bucket_bits) [] f.heads.items → IsAtRest images f (first_commit s) []
-first_rests images f s b slot turn count line told alone long heads = record {
+first_rests images f s b slot turn count line page starts told alone long heads = record {
   slot_is = omega (arith, slot);
   body = b;
   lines = [];
@@ -108,5 +108,7 @@ first_rests images f s b slot turn count line told alone long heads = record {
     count = sym count;
     line = sym line;
     heads = heads;
+    page = sym page;
+    starts = sym starts;
   };
 }

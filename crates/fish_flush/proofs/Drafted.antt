@@ -41,7 +41,7 @@ meant_rows rows catalog id row there =
 -- the last commit was read so far, by the rows as they are
 pub commits_read : (f : Flusher) (c d : Commit) (body lines : List ℕ) (old : List Entry) → IsCommitted f c body lines old
     → c.bucket_bits ≡ d.bucket_bits → HaveGrown c.count c.rows d.rows → IsCatalog d.rows
-    → IsReadTo d (words_in lines) old f.count f.line f.heads.items
+    → IsReadTo d (words_in lines) old f.count f.line f.heads.items f.page f.starts.items
 commits_read f c d body lines old h bits grown catalog =
     let stands = h.is.stands in
     let at : Commit = record d { lines = f.line } in
@@ -55,6 +55,8 @@ commits_read f c d body lines old h bits grown catalog =
       line_is = stands.lines ∙ line;
       entries = stands.entries;
       heads_are = subst (λ (b : ℕ). AreHeads (2 ^ b) stands.end.places f.heads.items) bits h.heads;
+      page_is = h.page;
+      starts_are = h.starts;
       size = length-words_of (length lines / 8) lines ∙ omega arith;
     }
 
@@ -62,7 +64,7 @@ commits_read f c d body lines old h bits grown catalog =
 pub commits_more : (f g : Flusher) (c d : Commit) (body lines body' lines' more_words : List ℕ) (old more : List Entry)
     → IsCommitted f c body lines old → IsTold d body' → words_in lines' ≡ more_words → f.line ≤ d.lines
     → length lines' ≡ 32 * (d.lines - f.line) → d.turn ≡ g.turn → d.count ≡ g.count → d.lines ≡ g.line
-    → IsReadTo d (words_in lines ++ more_words) (old ++ more) d.count d.lines g.heads.items
+    → IsReadTo d (words_in lines ++ more_words) (old ++ more) d.count d.lines g.heads.items g.page g.starts.items
     → IsCommitted g d body' (lines ++ lines') (old ++ more)
 commits_more f g c d body lines body' lines' more_words old more h told words upto size' turn count line read =
     let size = h.size in
@@ -86,6 +88,8 @@ commits_more f g c d body lines body' lines' more_words old more h told words up
       count = count;
       line = line;
       heads = read.heads_are;
+      page = read.page_is;
+      starts = read.starts_are;
     }
 
 -- a boundary is a number

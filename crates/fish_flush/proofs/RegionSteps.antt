@@ -6,8 +6,9 @@ use Rattle.std.proofs.Math.Seq.{drop-append_seam}
 use Rattle.std.proofs.lemmas.List.{take_all}
 use Rattle.fish_catalog.specs.declared.commit.Commit.{Commit}
 use Rattle.fish_catalog.specs.declared.entry.Entry.{Entry}
+use Rattle.fish_catalog.specs.declared.page_start.PageStart.{PageStart}
 use Rattle.fish_flush.specs.Linking.{AreSpelled}
-use Rattle.fish_flush.specs.Reading.{IsLineAt, IsReadTo}
+use Rattle.fish_flush.specs.Reading.{IsLineAt, IsReadTo, starts_after}
 use Rattle.fish_flush.specs.Rows.{HoldsRows}
 use Rattle.fish_flush.proofs.Growing.{grown_agrees, grown_self, meant_self}
 use Rattle.fish_flush.proofs.TableRegions.{IsNextRegion, record_next, record_words, some_lines}
@@ -15,7 +16,7 @@ use Rattle.fish_flush.proofs.TableRegions.{void_keys, void_next}
 use Rattle.fish_image.proofs.Agreement.{agrees_more, agrees_number}
 use Rattle.fish_image.specs.Log.{Agrees, Follows, FollowsAt, FollowsIn, region, region_lines}
 use Rattle.fish_image.specs.Progress.{AreHeads}
-use Rattle.fish_image.specs.Reached.{Reached}
+use Rattle.fish_image.specs.Reached.{Reached, page_of}
 use Rattle.fish_layout.proofs.Outlines.{body_room}
 use Rattle.fish_layout.proofs.Spelled.{body_says}
 use Rattle.fish_layout.specs.Header.{keys_of}
@@ -157,6 +158,16 @@ entries_room v f words s among plain has = by f.kind refl
         omega arith
     by Mark is = absurd (plain is)
 
+-- a region that follows is the first of its page, or not, by the page and the line alone
+next_page : (c : Commit) (s : Reached) (lines : ℕ) (r : List ℕ) (t : Reached) → FollowsIn c s lines r t → t.page ≡ page_of s.line + 1
+next_page c s lines r t (inl v) = ap (λ (z : Reached). z.page) v.1
+next_page c s lines r t (inr v) = ap (λ (z : Reached). z.page) v.2
+
+next_starts : (c : Commit) (s : Reached) (lines : ℕ) (r : List ℕ) (t : Reached) → FollowsIn c s lines r t
+    → t.starts ≡ starts_after s.page s.number s.line s.starts
+next_starts c s lines r t (inl v) = ap (λ (z : Reached). z.starts) v.1
+next_starts c s lines r t (inr v) = ap (λ (z : Reached). z.starts) v.2
+
 module _ (v : View) (s : Stands v) (f : Found) (among : Among f v.learned.found) (plain : f.kind ≢ Mark) (words : List ℕ)
     (has : HasWords v f words) (x heads heads' out : List ℕ) (spelled : AreSpelled f.line words x heads heads' out) where
   -- the region follows an image that has all in front of it
@@ -184,10 +195,11 @@ module _ (v : View) (s : Stands v) (f : Found) (among : Among f v.learned.found)
       by Mark is = absurd (plain is)
 
   -- so one entry more was read
-  pub read_more : (c : Commit) (w : List ℕ) (old : List Entry) (n line : ℕ) → HoldsRows v c.rows → f.number ≡ n → f.line ≡ line
-      → IsReadTo c (w ++ x) old n line heads
-      → (e : Entry) × Tells v n e × IsReadTo c (w ++ out) (old ++ e ∷ []) (n + 1) (line + f.lines) heads'
-  read_more c w old n line holds number line_is read =
+  pub read_more : (c : Commit) (w : List ℕ) (old : List Entry) (n line page : ℕ) (starts : List PageStart) → HoldsRows v c.rows
+      → f.number ≡ n → f.line ≡ line → IsReadTo c (w ++ x) old n line heads page starts
+      → (e : Entry) × Tells v n e × IsReadTo c (w ++ out) (old ++ e ∷ []) (n + 1) (line + f.lines) heads' (page_of line + 1)
+      (starts_after page n line starts)
+  read_more c w old n line page starts holds number line_is read =
       let at : Reached = read.end in
       let to : ℕ = line + f.lines in
       let d : Commit = record c { lines = to } in
@@ -220,6 +232,9 @@ module _ (v : View) (s : Stands v) (f : Found) (among : Among f v.learned.found)
           line_is = t.line ∙ ap (λ (z : ℕ). z + f.lines) read.line_is;
           entries = t.entries ∙ ap (λ (l : List Entry). l ++ t.e ∷ []) read.entries;
           heads_are = subst (λ (b : ℕ). AreHeads b t.t.places heads') read.heads_are.size t.heads_are;
+          page_is = next_page d at f.lines r t.t t.follows ∙ ap (λ (z : ℕ). page_of z + 1) read.line_is;
+          starts_are = next_starts d at f.lines r t.t t.follows
+              ∙ (λ i. starts_after (read.page_is i) (come i) (read.line_is i) (read.starts_are i));
           size = ap length (sym all) ∙ length-append (w ++ x) r ∙ (let a = t.size in omega arith);
         },
       )

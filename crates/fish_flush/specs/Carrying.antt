@@ -48,7 +48,16 @@ pub record MayDraft (v : View) (s : Shape) (f : Flusher) (rows : List CatRow) (t
 -- what is kept once a draft is committed
 abbrev pub flusher_after : Flusher → Draft → Flusher
 flusher_after f d =
-    record { slot = 1 - f.slot; turn = d.turn; count = d.count; line = d.line; heads = d.heads; shut = f.shut }
+    record {
+      slot = 1 - f.slot;
+      turn = d.turn;
+      count = d.count;
+      line = d.line;
+      heads = d.heads;
+      page = d.page;
+      starts = d.starts;
+      shut = f.shut;
+    }
 
 -- the draft is a commit of all that the last one has, and of the entries after it up to a number
 pub record Drafts (v u : View) (end : ℕ) (s : Shape) (f : Flusher) (rows : List CatRow) (to : ℕ) (d : Draft) : Type 0 where

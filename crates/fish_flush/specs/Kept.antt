@@ -1,11 +1,13 @@
 -- What a flusher keeps of the last commit.
-use Rattle.std.specs.Prelude.{ℕ, ◌≡◌, ◌+◌, ◌*◌, ◌^◌, ◌≤◌, List, [], length}
+use Rattle.std.specs.Prelude.{ℕ, ◌≡◌, ◌+◌, ◌-◌, ◌*◌, ◌^◌, ◌≤◌, List, [], length, Option, Some, None, slice_get}
 use Rattle.fish_catalog.specs.Limits.{newest_format}
 use Rattle.fish_catalog.specs.declared.commit.Commit.{Commit}
 use Rattle.fish_catalog.specs.declared.entry.Entry.{Entry}
+use Rattle.fish_catalog.specs.declared.page_start.PageStart.{PageStart}
 use Rattle.fish_catalog.specs.declared.row.CatRow.{CatRow}
 use Rattle.fish_flush.specs.declared.flusher.Flusher.{Flusher}
 use Rattle.fish_image.specs.Progress.{AreHeads}
+use Rattle.fish_image.specs.Reached.{page_of}
 use Rattle.fish_image.specs.Stands.{IsLog}
 use Rattle.fish_rule.specs.declared.table.Shape.{Shape}
 use Rattle.fish_slots.specs.Commits.{Rests}
@@ -29,13 +31,24 @@ commit_of f s rows =
       rows = rows;
     }
 
--- it is kept of a commit in a slot, with these heads
-pub record IsKeptOf (slot : ℕ) (c : Commit) (heads : List ℕ) (f : Flusher) : Type 0 where
+-- the page after that of a region, or the first
+abbrev pub page_behind : Option PageStart → ℕ
+page_behind None = 0
+page_behind (Some start) = page_of start.line + 1
+
+-- the page after the last one that holds a region
+abbrev pub page_after : List PageStart → ℕ
+page_after starts = page_behind (slice_get starts (length starts - 1))
+
+-- it is kept of a commit in a slot, with these heads and page starts
+pub record IsKeptOf (slot : ℕ) (c : Commit) (heads : List ℕ) (starts : List PageStart) (f : Flusher) : Type 0 where
   pub slot_is : f.slot ≡ slot
   pub turn : f.turn ≡ c.turn
   pub count : f.count ≡ c.count
   pub line : f.line ≡ c.lines
   pub heads_are : f.heads.items ≡ heads
+  pub page : f.page ≡ page_after starts
+  pub starts_are : f.starts.items ≡ starts
 
 -- the last commit is this one, with this body and these lines, which tell this log
 pub record IsCommitted (f : Flusher) (c : Commit) (body lines : List ℕ) (log : List Entry) : Type 0 where
@@ -45,6 +58,8 @@ pub record IsCommitted (f : Flusher) (c : Commit) (body lines : List ℕ) (log :
   pub count : c.count ≡ f.count
   pub line : c.lines ≡ f.line
   pub heads : AreHeads (2 ^ c.bucket_bits) is.stands.end.places f.heads.items
+  pub page : is.stands.end.page ≡ f.page
+  pub starts : is.stands.end.starts ≡ f.starts.items
 
 -- every image has it in the flusher's slot, which alone is open
 pub record IsAtRest (images : List ℕ → Type 0) (f : Flusher) (c : Commit) (log : List Entry) : Type 0 where

@@ -1,10 +1,13 @@
 -- How far the log was copied.
-use Rattle.std.specs.Prelude.{ℕ, ◌≡◌, ◌+◌, ◌*◌, ◌^◌, ◌≤◌, ◌⊎◌, suc, List, length}
+use Rattle.std.specs.Prelude.{ℕ, ◌≡◌, ◌+◌, ◌*◌, ◌^◌, ◌≤◌, ◌⊎◌, suc, List, [], ◌∷◌, ◌++◌, length}
+use Rattle.std.proofs.Math.Decide.{dec_le}
 use Rattle.fish_catalog.specs.declared.commit.Commit.{Commit}
 use Rattle.fish_catalog.specs.declared.entry.Entry.{Entry}
+use Rattle.fish_catalog.specs.declared.page_start.PageStart.{PageStart}
 use Rattle.fish_image.specs.Log.{Agrees}
 use Rattle.fish_image.specs.Progress.{AreHeads}
-use Rattle.fish_image.specs.Reached.{Reached}
+use Rattle.fish_image.specs.Reached.{Reached, page_of}
+use Rattle.fish_layout.specs.Cleared.{choose}
 use Rattle.fish_rule.specs.Views.{Among}
 use Rattle.fish_rule.specs.declared.view.Found.{Found}
 use Rattle.fish_rule.specs.declared.view.View.{View}
@@ -18,12 +21,20 @@ IsLineAt v n line = ((n ≡ v.about.number) × (line ≡ v.about.line))
 abbrev pub EndsWithin : ℕ → ℕ → ℕ → Type 0
 EndsWithin end from to = (from ≤ to) × (to ≤ end)
 
+-- where pages begin to hold regions, with the region of a number that begins at a line: no page from one on had one yet
+abbrev pub starts_after : ℕ → ℕ → ℕ → List PageStart → List PageStart
+starts_after page number line starts =
+    choose (dec_le page (page_of line)) (starts ++ record { number = number; line = line } ∷ []) starts
+
 -- the words are those of so many entries, which agree with the commit's rows and end at the line; these are the newest key
--- entries of all buckets
-pub record IsReadTo (c : Commit) (words : List ℕ) (log : List Entry) (number line : ℕ) (heads : List ℕ) : Type 0 where
+-- entries of all buckets, and where pages begin to hold regions, before the page in which none begins yet
+pub record IsReadTo (c : Commit) (words : List ℕ) (log : List Entry) (number line : ℕ) (heads : List ℕ) (page : ℕ)
+    (starts : List PageStart) : Type 0 where
   pub end : Reached
   pub agrees : Agrees (record c { lines = line }) words number end
   pub line_is : end.line ≡ line
   pub entries : end.entries ≡ log
   pub heads_are : AreHeads (2 ^ c.bucket_bits) end.places heads
+  pub page_is : end.page ≡ page
+  pub starts_are : end.starts ≡ starts
   pub size : length words ≡ 4 * line

@@ -47,6 +47,8 @@ pub fn create<D: Disk>(alloc: Global, shape: Shape, disk: &mut D) -> Result<Flus
         count: 0,
         line: 0,
         heads,
+        page: 0,
+        starts: Vec::new(alloc),
         shut: false,
     })
 }

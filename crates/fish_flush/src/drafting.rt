@@ -13,7 +13,7 @@ use crate::flusher::Flusher;
 use crate::region::read_settled;
 use crate::rows::again;
 use byteorder::{ByteOrder, LittleEndian};
-use fish_catalog::{Catalog, Commit, NEWEST_FORMAT};
+use fish_catalog::{Catalog, Commit, NEWEST_FORMAT, PageStart};
 use fish_image::slot_body;
 use fish_rule::{Log, Pass, shape};
 use fish_value::Bytes;
@@ -30,6 +30,8 @@ pub(crate) struct Draft {
     pub count: u32,
     pub line: u64,
     pub heads: Vec<u64>,
+    pub page: u64,
+    pub starts: Vec<PageStart>,
 }
 
 /// The commit of the log up to a settled number.
@@ -69,6 +71,8 @@ pub(crate) fn draft_commit(
         count: to,
         line: read.line,
         heads: read.heads,
+        page: read.page,
+        starts: read.starts,
     })
 }
 

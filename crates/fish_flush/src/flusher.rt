@@ -1,9 +1,12 @@
 //! What is kept of the last commit.
 
-ghost use Rattle.std.specs.Prelude.{◌≡◌, false, IfOk};
-ghost use Rattle.fish_flush.specs.Kept.{IsKeptOf};
+ghost use Rattle.std.specs.Prelude.{◌≡◌, ◌≤◌, false, IfOk};
+ghost use Rattle.fish_flush.specs.Carrying.{flusher_after};
+ghost use Rattle.fish_flush.specs.Kept.{IsKeptOf, page_after};
 
-use fish_catalog::{Checked, Commit};
+use crate::drafting::Draft;
+use crate::pages::PAGE_LINES;
+use fish_catalog::{Checked, Commit, PageStart};
 use std::alloc::{AllocError, Global};
 
 /// What is kept of the last commit: the next one goes on from there.
@@ -19,6 +22,10 @@ pub struct Flusher {
     pub(crate) line: u64,
     /// Of each bucket the place of the newest key entry among them, or 0.
     pub(crate) heads: Vec<u64>,
+    /// The first page in which none of their regions begins.
+    pub(crate) page: u64,
+    /// Where the pages before that begin to hold regions.
+    pub(crate) starts: Vec<PageStart>,
     /// Whether a call of the disk failed: then no commit may follow.
     pub(crate) shut: bool,
 }
@@ -31,7 +38,7 @@ impl Flusher {
         c: &Commit,
         checked: &Checked,
     ) -> Result<Flusher, AllocError>
-        ensures kept { IfOk result (IsKeptOf slot c.now checked.now.heads) }
+        ensures kept { IfOk result (IsKeptOf slot c.now checked.now.heads checked.now.starts) }
         ensures live { IfOk result (λ f. f.shut ≡ false) }
     {
         Ok(Flusher {
@@ -40,8 +47,24 @@ impl Flusher {
             count: c.count,
             line: c.lines,
             heads: Vec::from_slice(alloc, checked.heads.as_slice())?,
+            page: next_page(checked.starts.as_slice()),
+            starts: Vec::from_slice(alloc, checked.starts.as_slice())?,
             shut: false,
         })
+    }
+
+    /// Keeps what was committed into the other slot.
+    pub(crate) fn keep(&mut self, draft: Draft)
+        requires { self.old.slot ≤ 1 }
+        ensures { self.new ≡ flusher_after self.old draft }
+    {
+        self.slot = 1 - self.slot;
+        self.turn = draft.turn;
+        self.count = draft.count;
+        self.line = draft.line;
+        self.heads = draft.heads;
+        self.page = draft.page;
+        self.starts = draft.starts;
     }
 
     /// How many entries the last commit counts.
@@ -51,10 +74,35 @@ impl Flusher {
         self.count
     }
 
+    /// Of each bucket the place of the newest key entry of the last commit, or 0.
+    pub fn heads(&self) -> &[u64]
+        ensures { result.now ≡ self.now.heads.items }
+    {
+        self.heads.as_slice()
+    }
+
+    /// Where the pages of the last commit begin to hold regions.
+    pub fn starts(&self) -> &[PageStart]
+        ensures { result.now ≡ self.now.starts.items }
+    {
+        self.starts.as_slice()
+    }
+
     /// Whether a call of the disk failed.
     pub fn is_shut(&self) -> bool
         ensures { result ≡ self.now.shut }
     {
         self.shut
+    }
+}
+
+/// The page after the last one that holds a region.
+fn next_page(starts: &[PageStart]) -> u64
+    ensures { result ≡ page_after starts.now }
+{
+    let last = starts.len().saturating_sub(1);
+    match starts.get(last).copied() {
+        Some(start) => start.line / PAGE_LINES + 1,
+        None => 0,
     }
 }

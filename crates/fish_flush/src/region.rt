@@ -6,11 +6,14 @@ ghost use Rattle.fish_catalog.specs.declared.entry.Entry.{Entry};
 ghost use Rattle.fish_rule.specs.LoadSteps.{CanLookAt};
 ghost use Rattle.fish_rule.specs.Logs.{AreTold, Extends, Tells};
 ghost use Rattle.fish_rule.specs.Passes.{IsPassOf, view};
-ghost use Rattle.fish_flush.specs.Reading.{EndsWithin, IsLineAt, IsReadTo};
+ghost use Rattle.fish_flush.specs.Reading.{EndsWithin, IsLineAt, IsReadTo, starts_after};
+ghost use Rattle.fish_image.specs.Reached.{page_of};
 ghost use Rattle.fish_flush.specs.Rows.{HoldsRows};
 
 use crate::flusher::Flusher;
 use crate::linking::link;
+use crate::pages::PAGE_LINES;
+use fish_catalog::PageStart;
 use fish_rule::{Log, Pass, line_of_word, look_at, read_region};
 use std::alloc::{AllocError, Global};
 
@@ -23,6 +26,10 @@ pub(crate) struct Batch {
     pub words: Vec<u64>,
     /// Of each bucket the place of the newest key entry up to there, or 0.
     pub heads: Vec<u64>,
+    /// The first page in which none of them begins.
+    pub page: u64,
+    /// Where the pages before that begin to hold regions.
+    pub starts: Vec<PageStart>,
 }
 
 /// Copies the settled regions from the last commit's end up to a number.
@@ -47,14 +54,16 @@ pub(crate) fn read_settled(
     ensures heads { IfOk result (λ b. length b.heads.items ≡ length flusher.now.heads.items) }
     ensures size { IfOk result (λ b. length b.words.items + 4 * flusher.now.line ≡ 4 * b.line) }
     ensures read { IfOk result (λ b. (c : Commit) (w : List ℕ) (old : List Entry) → HoldsRows (view pass.old) c.rows
-        → IsReadTo c w old flusher.now.count flusher.now.line flusher.now.heads.items
+        → IsReadTo c w old flusher.now.count flusher.now.line flusher.now.heads.items flusher.now.page flusher.now.starts.items
         → (more : List Entry) × AreTold (view pass.new) flusher.now.count more × (length more + flusher.now.count ≡ to)
-        × IsReadTo c (w ++ b.words.items) (old ++ more) to b.line b.heads.items) }
+        × IsReadTo c (w ++ b.words.items) (old ++ more) to b.line b.heads.items b.page b.starts.items) }
 {
     let mut batch = Batch {
         line: flusher.line,
         words: Vec::new(alloc),
         heads: Vec::from_slice(alloc, flusher.heads.as_slice())?,
+        page: flusher.page,
+        starts: Vec::from_slice(alloc, flusher.starts.as_slice())?,
     };
     for number in flusher.count..to {
         add_region(alloc, log, pass, number, &mut batch)?;
@@ -83,9 +92,10 @@ fn add_region(
     ensures heads { length batch.new.heads.items ≡ length batch.old.heads.items }
     ensures size { OnOk result (length batch.new.words.items + 4 * batch.old.line ≡ length batch.old.words.items + 4 * batch.new.line) }
     ensures read { OnOk result ((c : Commit) (w : List ℕ) (old : List Entry) → HoldsRows (view pass.old) c.rows
-        → IsReadTo c (w ++ batch.old.words.items) old number batch.old.line batch.old.heads.items
+        → IsReadTo c (w ++ batch.old.words.items) old number batch.old.line batch.old.heads.items batch.old.page batch.old.starts.items
         → (e : Entry) × Tells (view pass.new) number e
-        × IsReadTo c (w ++ batch.new.words.items) (old ++ e ∷ []) (number + 1) batch.new.line batch.new.heads.items) }
+        × IsReadTo c (w ++ batch.new.words.items) (old ++ e ∷ []) (number + 1) batch.new.line batch.new.heads.items batch.new.page
+        batch.new.starts.items) }
 {
     let word = look_at(log, pass, u64::from(number));
     let line = line_of_word(word);
@@ -99,6 +109,24 @@ fn add_region(
         &mut batch.words,
         start,
     );
+    batch.page = keep_start(&mut batch.starts, batch.page, number, batch.line)?;
     batch.line += words.len() as u64 / 4;
     Ok(())
+}
+
+/// Keeps the region of a number at a line where it is the first of its page, and answers the next page.
+fn keep_start(
+    starts: &mut Vec<PageStart>,
+    page: u64,
+    number: u32,
+    line: u64,
+) -> Result<u64, AllocError>
+    ensures page { IfOk result (λ next. next ≡ page_of line + 1) }
+    ensures starts { OnOk result (starts.new.items ≡ starts_after page number line starts.old.items) }
+{
+    let here = line / PAGE_LINES;
+    if page <= here {
+        starts.push(PageStart { number, line })?;
+    }
+    Ok(here + 1)
 }

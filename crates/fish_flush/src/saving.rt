@@ -93,11 +93,7 @@ fn save<D: Disk>(flusher: &mut Flusher, draft: Draft, disk: &mut D) -> Result<u3
         draft.body.as_bytes(),
     ) {
         Ok(()) => {
-            flusher.slot = slot;
-            flusher.turn = draft.turn;
-            flusher.count = draft.count;
-            flusher.line = draft.line;
-            flusher.heads = draft.heads;
+            flusher.keep(draft);
             Ok(flusher.count)
         }
         Err(_) => {

@@ -74,7 +74,7 @@ const CHANGES: &[((usize, u8), &str)] = &[
     ((86_015, 1), "none"),
 ];
 
-fn row(
+pub(crate) fn row(
     alloc: Global,
     id: u16,
     texts: (&str, &str),

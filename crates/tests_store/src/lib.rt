@@ -1,8 +1,13 @@
-//! Tests of the store file: disks, slots and gates, making a store, and images, over the public calls of the crates below.
+//! Tests of the store file: disks, slots and gates, making a store, checkpoints, and images, over the public calls of the
+//! crates below.
 #![tactic(auto)]
 
 #[cfg(test)]
+mod beside;
+#[cfg(test)]
 mod bodies;
+#[cfg(test)]
+mod checkpoints;
 #[cfg(test)]
 mod commits;
 #[cfg(test)]
@@ -12,7 +17,11 @@ mod creations;
 #[cfg(test)]
 mod disks;
 #[cfg(test)]
+mod flushing;
+#[cfg(test)]
 mod images;
+#[cfg(test)]
+mod stored;
 #[cfg(test)]
 mod system;
 #[cfg(test)]

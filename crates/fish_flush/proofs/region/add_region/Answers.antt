@@ -4,6 +4,7 @@ use Rattle.std.proofs.Common.{subst, arith, length, length-append}
 use Rattle.fish_flush.proofs.RegionSteps.{entries_room, holds_later, line_later, line_same, looked_in, read_more}
 use Rattle.fish_flush.proofs.TableRegions.{ends_inside}
 use Rattle.fish_flush.specs.Reading.{IsLineAt, IsReadTo}
+use Rattle.fish_catalog.specs.declared.page_start.PageStart.{PageStart}
 use Rattle.fish_rule.proofs.laws.Learning.{extends_both}
 use Rattle.fish_rule.specs.Passes.{view}
 use Rattle.fish_rule.specs.declared.view.Key.{Key}
@@ -112,6 +113,11 @@ overflow_add-batch c =
     let is_len = c.len.ensures in
     let size : c.len.result ≡ length words = omega arith in
     omega arith
+
+pub returns-in_err-batch-clause-extends : goal.returns-in_err-batch-clause-extends
+returns-in_err-batch-clause-extends c =
+    let told = c.look_at-word.ensures.view in
+    extends_both _ _ _ (look_extends (view c.args.pass.now) (view c.look_at-word.new.pass) _ told.0 _ told.1) c.read_region.ensures.extends
 
 pub returns-clause-extends : goal.returns-clause-extends
 returns-clause-extends c =
@@ -239,7 +245,11 @@ returns-clause-read c = λ d w old holds read.
     (c.link.ensures.spelled x copied (omega arith)) in
     let frame = on.frame in
     let h = read_more u stands t.0 among t.1.plain words has x heads heads' out spelled d w old c.args.number c.args.batch.now.line
-    (holds_later (view c.args.pass.now) u d.rows (ap (λ (z : View). z.lane) frame) (ap (λ (z : View). z.rows) frame)
+    c.args.batch.now.page c.args.batch.now.starts.items (holds_later (view c.args.pass.now) u d.rows (ap (λ (z : View). z.lane) frame) (ap (λ (z : View). z.rows) frame)
     (ap (λ (z : View). z.main_words) frame) holds) t.1.number begins read in
-    let to : c.args.batch.now.line + t.0.lines ≡ c.args.batch.now.line + c.len.result / 4 = omega arith in
-    (h.0, h.1, subst (λ (z : ℕ). IsReadTo d (w ++ out) (old ++ h.0 ∷ []) (c.args.number + 1) z heads') to h.2)
+    let to : c.args.batch.now.line + t.0.lines ≡ c.args.batch.now.line + c.len.result / 4 = omega arith in (
+      h.0,
+      h.1,
+      subst (λ (z : ℕ × ℕ × List PageStart). IsReadTo d (w ++ out) (old ++ h.0 ∷ []) (c.args.number + 1) z.0 heads' z.1 z.2)
+          (λ i. (to i, sym c.in_ok-batch.ensures.page i, sym c.in_ok-batch.ensures.starts i)) h.2,
+    )

@@ -3,6 +3,7 @@ use Rattle.std.proofs.Common.{◌≡◌, ℕ, ◌+◌, ◌*◌, ◌++◌, List, 
 use Rattle.std.proofs.Common.{arith, length, append-nil, append_assoc, length-append}
 use mathlib.Core.Option.{some-ne-none}
 use Rattle.fish_catalog.specs.declared.entry.Entry.{Entry}
+use Rattle.fish_catalog.specs.declared.page_start.PageStart.{PageStart}
 use Rattle.fish_flush.proofs.RegionSteps.{holds_later, line_inside}
 use Rattle.fish_flush.specs.Reading.{IsLineAt, IsReadTo}
 use Rattle.fish_rule.proofs.laws.Alone.{told_more}
@@ -20,6 +21,9 @@ none_told v n i e at = absurd (some-ne-none e (sym at))
 pub returns-in_err-from_slice-clause-extends : goal.returns-in_err-from_slice-clause-extends
 returns-in_err-from_slice-clause-extends c = extends_self (view c.args.pass.now)
 
+pub returns-in_err-from_slice-2-clause-extends : goal.returns-in_err-from_slice-2-clause-extends
+returns-in_err-from_slice-2-clause-extends c = extends_self (view c.args.pass.now)
+
 pub loop-number-init : goal.loop-number-init
 loop-number-init c =
     let v = view c.args.pass.now in
@@ -28,6 +32,8 @@ loop-number-init c =
     (let a = c.requires.ordered in let b = c.requires.settled in omega arith) c.requires.line in
     let same : c.in_ok-from_slice.field-0.items ≡ c.args.flusher.now.heads.items =
     c.in_ok-from_slice.ensures.items ∙ c.as_slice.ensures.value in
+    let starts : c.in_ok-from_slice-2.field-0.items ≡ c.args.flusher.now.starts.items =
+    c.in_ok-from_slice-2.ensures.items ∙ c.as_slice-2.ensures.value in
     let none : c.new.result.items ≡ [] = c.new.ensures.items in
     record {
       of = c.requires.pass;
@@ -42,8 +48,9 @@ loop-number-init c =
         [],
         none_told v c.args.flusher.now.count,
         omega arith,
-        subst (λ (z : List ℕ × List Entry × List ℕ). IsReadTo d z.0 z.1 c.args.flusher.now.count c.args.flusher.now.line z.2)
-            (λ i. (sym (ap (λ (l : List ℕ). w ++ l) none ∙ append-nil w) i, sym (append-nil old) i, sym same i)) read,
+        subst (λ (z : List ℕ × List Entry × List ℕ × List PageStart). IsReadTo d z.0 z.1 c.args.flusher.now.count
+            c.args.flusher.now.line z.2 c.args.flusher.now.page z.3)
+            (λ i. (sym (ap (λ (l : List ℕ). w ++ l) none ∙ append-nil w) i, sym (append-nil old) i, sym same i, sym starts i)) read,
       );
     }
 
@@ -116,7 +123,8 @@ loop-number-preserved c =
                 (subst (λ (z : ℕ). Tells u z next.0) (sym place) next.1),
             omega arith,
             subst (λ (l : List Entry). IsReadTo d (w ++ c.add_region.new.batch.words.items) l (c.loop-number.number + 1)
-                c.add_region.new.batch.line c.add_region.new.batch.heads.items) (append_assoc old before.0 (next.0 ∷ [])) next.2,
+                c.add_region.new.batch.line c.add_region.new.batch.heads.items c.add_region.new.batch.page
+                c.add_region.new.batch.starts.items) (append_assoc old before.0 (next.0 ∷ [])) next.2,
           );
     }
 
@@ -146,5 +154,5 @@ returns-clause-read c = λ d w old holds read.
       h.1,
       h.2 ∙ end,
       subst (λ (z : ℕ). IsReadTo d (w ++ c.loop-number.batch.words.items) (old ++ h.0) z c.loop-number.batch.line
-          c.loop-number.batch.heads.items) end h.3,
+          c.loop-number.batch.heads.items c.loop-number.batch.page c.loop-number.batch.starts.items) end h.3,
     )

@@ -20,7 +20,7 @@ invariant-loop-number l = record {
   heads : length l.batch.heads.items ≡ length l.flusher.heads.items;
   size : length l.batch.words.items + 4 * l.flusher.line ≡ 4 * l.batch.line;
   read : (c : Commit) (w : List ℕ) (old : List Entry) → HoldsRows (view l.fn.pass) c.rows
-      → IsReadTo c w old l.flusher.count l.flusher.line l.flusher.heads.items
+      → IsReadTo c w old l.flusher.count l.flusher.line l.flusher.heads.items l.flusher.page l.flusher.starts.items
       → (more : List Entry) × AreTold (view l.pass) l.flusher.count more × (length more + l.flusher.count ≡ l.number)
-      × IsReadTo c (w ++ l.batch.words.items) (old ++ more) l.number l.batch.line l.batch.heads.items;
+      × IsReadTo c (w ++ l.batch.words.items) (old ++ more) l.number l.batch.line l.batch.heads.items l.batch.page l.batch.starts.items;
 }
