@@ -10,6 +10,7 @@ use crate::cause::Cause;
 use crate::expecting::{expect, expect_text};
 use crate::flights::prepared;
 use crate::logs::parsed;
+use fish_catalog::MAX_ACTIVE;
 use fish_ingest::{IngestRefusal, Origin, Prepared};
 use fish_lang::LangRefusal;
 use fish_layout::{BodyParts, KeyPart, MAX_PAYLOAD, read_body};
@@ -80,6 +81,9 @@ fn are_defs(defs: &[ActiveDef]) -> bool
     requires written { All IsWritten defs.now }
     ensures { IsTrue result → AreDefs defs.now }
 {
+    if defs.len() > MAX_ACTIVE {
+        return false;
+    }
     let mut least = 0;
     for active in defs {
         if active.id < least || active.id >= 256 {
