@@ -69,7 +69,8 @@ module _ {A : Type 0} (v : View) (r : Registrar) (result : Result A RegRefusal)
       registered_here a is =
           let may = change_here a is in
           let free : ¬ HasActive r.catalog name = λ h. ok_or_err result a refusal.NameActive is (active.1 (may, h)) in
-          let few_active : count_by is_active r.catalog < most_active = active_few may free (dec_lt (count_by is_active r.catalog) most_active) in
+          let few_active : count_by is_active r.catalog < most_active =
+          active_few may free (dec_lt (count_by is_active r.catalog) most_active) in
           record {
             change = may_change may;
             free = free;
