@@ -25,7 +25,8 @@ const NAMED: &str = "h1,h2\r\n1,2\n";
 const LINES: &str = "{\"n\":1}\r\n[1]\n{\"n\":\"1\"}\n\n{\"n\":1,\"m\":2}";
 
 /// Lines with tags: an array, a text, and an array of which one element is a value.
-const TAGS: &str = "{\"tags\":[\"a\",\"b\",\"a\"]}\n{\"tags\":\"a\"}\n{\"tags\":[1.5,null,\"b\"]}\n";
+const TAGS: &str =
+    "{\"tags\":[\"a\",\"b\",\"a\"]}\n{\"tags\":\"a\"}\n{\"tags\":[1.5,null,\"b\"]}\n";
 
 /// A line with nine numbers.
 const NINE: &str = "{\"n\":[1,2,3,4,5,6,7,8,9]}\n";

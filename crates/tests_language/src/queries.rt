@@ -64,7 +64,8 @@ const NUMBER: &str = "7\n";
 const LISTED: &str = "[7]\n";
 
 /// Lines with tags: an array, a text, and an array of which one element is a value.
-const TAGS: &str = "{\"tags\":[\"a\",\"b\",\"a\"]}\n{\"tags\":\"a\"}\n{\"tags\":[1.5,null,\"b\"]}\n";
+const TAGS: &str =
+    "{\"tags\":[\"a\",\"b\",\"a\"]}\n{\"tags\":\"a\"}\n{\"tags\":[1.5,null,\"b\"]}\n";
 
 /// A definition with a form, a file and a value, and the numbers of the records that have it.
 const FIELDS: &[((&str, (Form, &str, &str)), &str)] = &[

@@ -28,7 +28,10 @@ const VALUES: &[((&str, &str), &str)] = &[
     (("take a when b = 1", "{\"a\":2,\"b\":1}"), "int 2"),
     (("take a when b = 1", "{\"a\":2,\"b\":2}"), "none"),
     // The values of an array's elements, each once in the order of its first place.
-    (("each tags", "{\"tags\":[\"a\",\"b\",\"a\"]}"), "text a|text b"),
+    (
+        ("each tags", "{\"tags\":[\"a\",\"b\",\"a\"]}"),
+        "text a|text b",
+    ),
     (("each tags", "{\"tags\":\"a\"}"), "none"),
     (("each tags", "{\"tags\":[1.5,null,\"b\"]}"), "text b"),
     (("each a", "{\"a\":[]}"), "none"),
@@ -36,11 +39,23 @@ const VALUES: &[((&str, &str), &str)] = &[
     (("each a", "{\"a\":1}"), "none"),
     (("each a", "{\"a\":{\"b\":[1]}}"), "none"),
     (("each a", "{\"b\":[1]}"), "none"),
-    (("each a", "{\"a\":[[1],{\"a\":1},null,1.5,9223372036854775808]}"), "none"),
+    (
+        (
+            "each a",
+            "{\"a\":[[1],{\"a\":1},null,1.5,9223372036854775808]}",
+        ),
+        "none",
+    ),
     (("each a.b", "{\"a\":{\"b\":[2]},\"b\":[1]}"), "int 2"),
     (("each a.b", "{\"a\":[{\"b\":[2]}]}"), "none"),
-    (("each a", "{\"a\":[7,\"7\",true,7,true,\"7\"]}"), "int 7|text 7|true"),
-    (("each a", "{\"a\":[false,0,\"\",-0,0]}"), "false|int 0|text "),
+    (
+        ("each a", "{\"a\":[7,\"7\",true,7,true,\"7\"]}"),
+        "int 7|text 7|true",
+    ),
+    (
+        ("each a", "{\"a\":[false,0,\"\",-0,0]}"),
+        "false|int 0|text ",
+    ),
     // The first eight.
     (
         ("each n", "{\"n\":[1,2,3,4,5,6,7,8]}"),
@@ -54,7 +69,10 @@ const VALUES: &[((&str, &str), &str)] = &[
         ("each n", "{\"n\":[9,1,9,null,2,1,3,4,5,9,6,7,8]}"),
         "int 9|int 1|int 2|int 3|int 4|int 5|int 6|int 7",
     ),
-    (("each a when b = 1", "{\"a\":[2,3],\"b\":1}"), "int 2|int 3"),
+    (
+        ("each a when b = 1", "{\"a\":[2,3],\"b\":1}"),
+        "int 2|int 3",
+    ),
     (("each a when b = 1", "{\"a\":[2,3],\"b\":2}"), "none"),
     // Rounding down.
     (("bucket n by 10", "{\"n\":0}"), "int 0"),
