@@ -8,7 +8,7 @@ use crate::ingests::SHAPE;
 use crate::lanes::report;
 use crate::scans::{Filled, Timed, fill_log, time_scan};
 use fish_lang::{Def, parse_def};
-use fish_psf::{Parsed, Steps, has, values};
+use fish_psf::{Steps, gives};
 use fish_read::RecordReader;
 use fish_rule::{Log, Pass};
 use fish_scan::How;
@@ -224,25 +224,12 @@ fn has_value<P: Ledger>(
 ) -> Result<bool, AllocError> {
     match reader.read(alloc, Form::Json, payload.as_bytes(), steps) {
         Ok(row) => {
-            let has = gives(alloc, def, value, &row);
+            let has = gives(alloc, def, &row, value);
             drop(row);
             has
         }
         Err(_) => Ok(false),
     }
-}
-
-/// The same of a payload that was read.
-fn gives<R: Parsed>(
-    alloc: Global,
-    def: &Def,
-    value: &Value,
-    found: &R,
-) -> Result<bool, AllocError> {
-    let found = values(alloc, def, found)?;
-    let same = has(found.as_slice(), value);
-    drop(found);
-    Ok(same)
 }
 
 /// Puts a payload behind the rows.

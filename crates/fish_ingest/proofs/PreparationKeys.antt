@@ -166,14 +166,16 @@ apart_behind : (k : KeyPart) (m : ℕ) (vs : List Value) (values : List KeyValue
 apart_behind k m vs values [] own none above e = tt
 apart_behind k m [] [] (x ∷ xs) own none above e = absurd cc
 apart_behind k m [] (z ∷ values) (x ∷ xs) own none above e =
-    let id : x.id ≡ z.id = ap first_id e in
-    (λ same value. absurd (omega (arith, above.0)),
-    apart_behind k m [] values xs own none above.1 (ap without_first e))
+    let id : x.id ≡ z.id = ap first_id e in (
+      λ same value. absurd (omega (arith, above.0)),
+      apart_behind k m [] values xs own none above.1 (ap without_first e),
+    )
 apart_behind k m (v ∷ vs) values (x ∷ xs) own none above e =
     let parts = neither (same_value k.value v) (list_any (same_value k.value) vs) none in
-    let is : x.value ≡ v = ap value_first e in
-    (λ same value. true≢false (sym ((same_value-Decides k.value v).1 (sym value ∙ is)) ∙ parts.0),
-    apart_behind k m vs values xs own parts.1 above (ap without_first e))
+    let is : x.value ≡ v = ap value_first e in (
+      λ same value. true≢false (sym ((same_value-Decides k.value v).1 (sym value ∙ is)) ∙ parts.0),
+      apart_behind k m vs values xs own parts.1 above (ap without_first e),
+    )
   where
     neither : (a b : Bool) → (a || b) ≡ false → (a ≡ false) × (b ≡ false)
     neither true b e = absurd cc
@@ -192,9 +194,13 @@ values_behind low d (v ∷ vs) (k ∷ ks) values less few differ above rest e al
     let is : k.value ≡ v = ap value_first e in
     let entry : IsKey k = All-head IsKey k ks all in
     let more : AreProperKeys d.id ks =
-    values_behind d.id d vs ks values (omega arith) few differ.1 above rest (ap without_first e) (All-tail IsKey k ks all) in
-    (omega arith, omega arith, entry.proper, subst (λ n. AreProperKeys n ks) (sym id) more,
-    apart_behind k d.id vs values ks id (ap (λ (w : Value). list_any (same_value w) vs) is ∙ differ.0) above (ap without_first e))
+    values_behind d.id d vs ks values (omega arith) few differ.1 above rest (ap without_first e) (All-tail IsKey k ks all) in (
+      omega arith,
+      omega arith,
+      entry.proper,
+      subst (λ n. AreProperKeys n ks) (sym id) more,
+      apart_behind k d.id vs values ks id (ap (λ (w : Value). list_any (same_value w) vs) is ∙ differ.0) above (ap without_first e),
+    )
 
 -- key entries of definitions from an id on are proper from it on
 behind : (fields : Fields) (m : ℕ) (defs : List ActiveDef) (keys : List KeyPart)

@@ -1,17 +1,18 @@
 //! The words of a record from its payload, before anything is claimed for it.
 
-ghost use Rattle.std.specs.Prelude.{◌≡◌, ◌≤◌, ◌/◌, [], ◌∷◌, All, IfOk, OnOk, length};
+ghost use Rattle.std.specs.Prelude.{◌≡◌, ◌≤◌, ◌/◌, [], ◌∷◌, All, IfOk, OnOk, length, option_to_list};
 ghost use Rattle.fish_epoch.specs.Definitions.{IsKnownOf};
 ghost use Rattle.fish_epoch.specs.Rows.{OnlyReads};
 ghost use Rattle.fish_ingest.specs.Preparation.{AreDefs, AreEntriesFor, AreMore, HasPrepared, IsOrigin, IsPreparedFor, IsRead};
 ghost use Rattle.fish_ingest.specs.Preparation.{IsShort};
 ghost use Rattle.fish_layout.specs.Body.{IsProperValue};
+ghost use Rattle.fish_psf.specs.Given.{given_values};
 ghost use Rattle.fish_read.specs.Rows.{fields_in_row};
 ghost use Rattle.fish_rule.specs.Passes.{IsPassOf, view};
 
 use fish_epoch::Known;
 use fish_layout::{Body, BodyHead, KeyPart, KeyParts, body_from};
-use fish_psf::{ActiveDef, Parsed, values};
+use fish_psf::{ActiveDef, Given, Parsed, evaluate};
 use fish_read::RecordRow;
 use fish_rule::{Log, Pass, lane};
 use fish_value::{Form, Value, Values};
@@ -125,12 +126,38 @@ fn entries_of<R: Parsed>(
 {
     let mut keys = KeyParts::new(alloc);
     for active in defs {
-        push_values(active.id, values(alloc, &active.def, found)?, &mut keys)?;
+        push_given(active.id, evaluate(alloc, &active.def, found)?, &mut keys)?;
     }
     Ok(keys)
 }
 
-/// Puts a key entry for each value of a definition behind the others.
+/// Puts a key entry for each value that a definition gives behind the others.
+fn push_given(id: u16, given: Given, keys: &mut KeyParts) -> Result<(), AllocError>
+    requires { All IsShort (given_values given) }
+    ensures { OnOk result (AreMore id (given_values given) keys.old keys.new) }
+{
+    let Given { single, several } = given;
+    match push_values(id, several, keys) {
+        Ok(()) => push_single(id, single, keys),
+        Err(error) => {
+            drop(single);
+            Err(error)
+        }
+    }
+}
+
+/// Puts a key entry for a value, where there is one, behind the others.
+fn push_single(id: u16, value: Option<Value>, keys: &mut KeyParts) -> Result<(), AllocError>
+    requires { All IsShort (option_to_list value) }
+    ensures { OnOk result (AreMore id (option_to_list value) keys.old keys.new) }
+{
+    match value {
+        Some(value) => push_entry(id, value, keys),
+        None => Ok(()),
+    }
+}
+
+/// Puts a key entry for each of several values behind the others.
 fn push_values(id: u16, values: Values, keys: &mut KeyParts) -> Result<(), AllocError>
     requires { All IsShort values }
     ensures { OnOk result (AreMore id values keys.old keys.new) }

@@ -2,6 +2,7 @@ pub mod BucketLaw
 pub mod Eval
 pub mod Fields
 pub mod Gathering
+pub mod Given
 pub mod Keys
 pub mod Parsing
 pub mod Records

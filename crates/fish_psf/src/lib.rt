@@ -20,4 +20,4 @@ pub use properties::keys;
 pub use reading::{PsfRefusal, parse};
 pub use record::Record;
 pub use steps::Steps;
-pub use value::{has, values};
+pub use value::{Given, evaluate, gives, has, values};

@@ -9,6 +9,7 @@ ghost use Rattle.fish_lang.specs.Definition.{definition_of, formula_of};
 ghost use Rattle.fish_psf.specs.Select.{has_value};
 ghost use Rattle.fish_psf.specs.Eval.{bucket, bucket_of, first_values, holds_when, value_of, values};
 ghost use Rattle.fish_psf.specs.Gathering.{with_field, with_value};
+ghost use Rattle.fish_psf.specs.Given.{given_values};
 
 use crate::condition::holds;
 use crate::parsed::Parsed;
@@ -19,53 +20,138 @@ use std::alloc::{AllocError, Global};
 /// The most values that a definition gives for a record.
 const MAX_VALUES: usize = 8;
 
+/// What a definition gives for a record. One value alone takes no memory for a list.
+#[derive(Debug, Drop)]
+pub struct Given {
+    /// The value of `take`, `bucket` or `flag`.
+    pub single: Option<Value>,
+    /// Those of `each`.
+    pub several: Values,
+}
+
 /// The values that a definition gives for a record, each once.
 ///
 /// `take` gives the truth value, whole number or text of at most 256 bytes at its path, and `each` those
 /// among the elements of the array there: each once in the order of its first place, and of these the
 /// first eight. `bucket` gives the greatest multiple of its width that is not above the whole number at
 /// its path, and `flag` gives true. All give none where their condition is false.
-#[tactic(auto, unfolding(crate::specs::Eval::values))]
 pub fn values<R: Parsed>(alloc: Global, def: &Def, rec: &R) -> Result<Values, AllocError>
     ensures { IfOk result (λ found. found ≡ values (definition_of def.now) (R.fields rec.now)) }
+{
+    let Given {
+        single,
+        several: mut values,
+    } = evaluate(alloc, def, rec)?;
+    if let Some(only) = single {
+        values.push(only)?;
+    }
+    Ok(values)
+}
+
+/// The same, as whoever needs no list takes it.
+#[tactic(auto, unfolding(crate::specs::Eval::values))]
+pub fn evaluate<R: Parsed>(alloc: Global, def: &Def, rec: &R) -> Result<Given, AllocError>
+    ensures { IfOk result (λ given. given_values given ≡ values (definition_of def.now) (R.fields rec.now)) }
 {
     match def {
         Def::Take { path, when } => {
             if !holds_when(when, rec) {
-                return Ok(Values::new(alloc));
+                return Ok(at_most_one(alloc, None));
             }
-            at_most_one(alloc, value_of(alloc, &rec.look(path))?)
+            Ok(at_most_one(alloc, value_of(alloc, &rec.look(path))?))
         }
         Def::Each { path, when } => {
             if !holds_when(when, rec) {
-                return Ok(Values::new(alloc));
+                return Ok(at_most_one(alloc, None));
             }
-            first_values(alloc, rec.look_each(alloc, path)?.as_slice())
+            Ok(several(first_values(alloc, rec.look_each(alloc, path)?.as_slice())?))
         }
         Def::Bucket { path, width, when } => {
             if !holds_when(when, rec) {
-                return Ok(Values::new(alloc));
+                return Ok(at_most_one(alloc, None));
             }
-            at_most_one(alloc, bucket_of(*width, &rec.look(path)))
+            Ok(at_most_one(alloc, bucket_of(*width, &rec.look(path))))
         }
         Def::Flag { when } => {
             if !holds(when, rec) {
-                return Ok(Values::new(alloc));
+                return Ok(at_most_one(alloc, None));
             }
-            at_most_one(alloc, Some(Value::Bool(true)))
+            Ok(at_most_one(alloc, Some(Value::Bool(true))))
         }
     }
 }
 
 /// One value or none.
-fn at_most_one(alloc: Global, value: Option<Value>) -> Result<Values, AllocError>
-    ensures { IfOk result (λ found. found ≡ option_to_list value) }
+fn at_most_one(alloc: Global, value: Option<Value>) -> Given
+    ensures { given_values result ≡ option_to_list value }
 {
-    let mut values = Values::new(alloc);
-    if let Some(only) = value {
-        values.push(only)?;
+    Given {
+        single: value,
+        several: Values::new(alloc),
     }
-    Ok(values)
+}
+
+/// The values of a list.
+fn several(values: Values) -> Given
+    ensures { given_values result ≡ values }
+{
+    Given {
+        single: None,
+        several: values,
+    }
+}
+
+/// Whether a definition gives a value for a record. No field is copied but those of an array.
+#[tactic(auto, unfolding(crate::specs::Eval::values), using(crate::proofs::SelectLemmas::has_contains))]
+pub fn gives<R: Parsed>(
+    alloc: Global,
+    def: &Def,
+    rec: &R,
+    value: &Value,
+) -> Result<bool, AllocError>
+    ensures test { IfOk result (λ yes. yes ≡ has_value (values (definition_of def.now) (R.fields rec.now)) value.now) }
+    ensures among { IfOk result (λ yes. IsTrue yes ↔ Contains (values (definition_of def.now) (R.fields rec.now)) value.now) }
+{
+    match def {
+        Def::Take { path, when } => Ok(holds_when(when, rec) && is_value(&rec.look(path), value)),
+        Def::Each { path, when } => {
+            if !holds_when(when, rec) {
+                return Ok(false);
+            }
+            let values = first_values(alloc, rec.look_each(alloc, path)?.as_slice())?;
+            let has = has(values.as_slice(), value);
+            drop(values);
+            Ok(has)
+        }
+        Def::Bucket { path, width, when } => {
+            Ok(holds_when(when, rec) && is_bucket(*width, &rec.look(path), value))
+        }
+        Def::Flag { when } => Ok(holds(when, rec) && value.is(&Value::Bool(true))),
+    }
+}
+
+/// Whether a field is the value.
+fn is_value(field: &FieldView<'_>, value: &Value) -> bool
+    ensures { result ≡ has_value (option_to_list (value_of (field_seen field.now))) value.now }
+{
+    match (field, value) {
+        (FieldView::Bool(truth), Value::Bool(other)) => truth == other,
+        (FieldView::Int(number), Value::Int(other)) => number == other,
+        (FieldView::Text(text), Value::Text(other)) => {
+            text.len() <= MAX_VALUE && text.as_bytes() == other.as_bytes()
+        }
+        _ => false,
+    }
+}
+
+/// Whether a field rounded down to a multiple of a width is the value.
+fn is_bucket(width: i64, field: &FieldView<'_>, value: &Value) -> bool
+    ensures { result ≡ has_value (option_to_list (bucket_of width (field_seen field.now))) value.now }
+{
+    match bucket_of(width, field) {
+        Some(number) => number.is(value),
+        None => false,
+    }
 }
 
 /// The values among fields, each once, in the order of their first places, and of these the first eight.

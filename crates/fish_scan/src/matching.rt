@@ -1,15 +1,14 @@
 //! Whether a record that was read has the value that is asked for.
 
-ghost use Rattle.std.specs.Prelude.{◌≡◌, ◌+◌, Contains, IfOk, IsTrue, ◌↔◌};
+ghost use Rattle.std.specs.Prelude.{◌≡◌, ◌+◌, IfOk, IsTrue, ◌↔◌};
 ghost use Rattle.fish_lang.specs.Definition.{definition_of};
-ghost use Rattle.fish_psf.specs.Eval.{values as values_of};
 ghost use Rattle.fish_psf.specs.Records.{Gives, is_record};
 ghost use Rattle.fish_scan.specs.Reading.{IsMatching, IsParsable, parses_of};
 
 use crate::reach::Reach;
 use fish_catalog::Entry;
 use fish_lang::Def;
-use fish_psf::{Parsed, PsfRefusal, Steps, has, values};
+use fish_psf::{PsfRefusal, Steps, gives};
 use fish_read::RecordReader;
 use fish_value::{Form, Text, Value};
 use std::alloc::{AllocError, Global};
@@ -65,22 +64,11 @@ fn has_value<P: Ledger>(
 {
     match reader.read(alloc, form, b, parses) {
         Ok(row) => {
-            let has = gives(alloc, query, &row);
+            let has = gives(alloc, &query.def, &row, &query.value);
             drop(row);
             has
         }
         Err(PsfRefusal::OutOfMemory) => Err(AllocError),
         Err(_) => unreachable!(),
     }
-}
-
-/// Whether the definition gives the value for a record.
-fn gives<R: Parsed>(alloc: Global, query: &Query, rec: &R) -> Result<bool, AllocError>
-    ensures { IfOk result (λ has. IsTrue has
-        ↔ Contains (values_of (definition_of query.now.def) (R.fields rec.now)) query.now.value) }
-{
-    let found = values(alloc, &query.def, rec)?;
-    let has = has(found.as_slice(), &query.value);
-    drop(found);
-    Ok(has)
 }

@@ -3,7 +3,6 @@
 #![tactic(auto)]
 
 mod lines;
-mod payload;
 mod rows;
 mod selection;
 mod tally;

@@ -10,12 +10,11 @@ ghost use Rattle.fish_select.specs.Tally.{kept_if, nothing, with_outcome, with_o
 ghost use Rattle.fish_value.specs.Limits.{longest_file};
 ghost use Rattle.fish_value.specs.declared.field.Form.TheVariants.{Json};
 
-use crate::payload::has;
 use crate::tally::Tally;
 use fish_json::{JsonReader, RecordRefusal};
 use fish_lang::Def;
 use fish_lines::Lines;
-use fish_psf::Parsed;
+use fish_psf::{Parsed, gives};
 use fish_value::{Text, Value};
 use std::alloc::{AllocError, Global};
 
@@ -83,7 +82,7 @@ fn kept_line<R: Parsed>(
     ensures { IfOk result (λ kept. kept
         ≡ kept_if (has_value (values (definition_of def.now) (R.fields found.now)) value.now) line.now) }
 {
-    if !has(alloc, def, value, found)? {
+    if !gives(alloc, def, found, value)? {
         return Ok(None);
     }
     match Text::from_bytes(alloc, line)? {

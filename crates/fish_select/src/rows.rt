@@ -10,10 +10,10 @@ ghost use Rattle.fish_select.specs.Tally.{kept_if, nothing, with_outcome, with_o
 ghost use Rattle.fish_value.specs.Limits.{longest_file};
 ghost use Rattle.fish_value.specs.declared.field.Form.TheVariants.{Csv};
 
-use crate::payload::has;
 use crate::tally::Tally;
 use fish_csv::{CsvReader, CsvRecordRefusal, CsvRefusal, RowTexts};
 use fish_lang::Def;
+use fish_psf::gives;
 use fish_value::{Text, Value};
 use std::alloc::{AllocError, Global};
 
@@ -119,7 +119,7 @@ fn row_has(
 {
     match reader.read(text) {
         Ok(row) => {
-            let has = has(alloc, def, value, &row);
+            let has = gives(alloc, def, &row, value);
             drop(row);
             has
         }

@@ -7,7 +7,7 @@ use crate::expecting::expect_all;
 use crate::sources::definition;
 use fish_lang::Def;
 use fish_lines::records;
-use fish_psf::{Record, Steps, has, parse, values};
+use fish_psf::{Steps, gives, parse};
 use fish_value::{Form, Text, Value, read_value};
 use std::alloc::{AllocError, Global};
 use std::fmt::Write;
@@ -82,15 +82,7 @@ const FIELDS: &[((&str, (Form, &str, &str)), &str)] = &[
     (("each $1", (Form::Csv, LISTED, "7")), ""),
 ];
 
-/// Whether a definition gives a value on a record.
-fn gives(alloc: Global, def: &Def, record: &Record, value: &Value) -> Result<bool, AllocError> {
-    let found = values(alloc, def, record)?;
-    let same = has(found.as_slice(), value);
-    drop(found);
-    Ok(same)
-}
-
-/// Whether it does on a payload, which is a record.
+/// Whether a definition gives a value on a payload, which is a record.
 fn gives_on<P: Ledger>(
     alloc: Global,
     parses: &mut Steps<P>,

@@ -6,14 +6,14 @@ use Rattle.fish_ingest.proofs.PreparationKeys.{entries_more, values_short}
 use Rattle.fish_ingest.specs.Preparation.{AreMore, IsShort}
 use Rattle.fish_ingest.proofs.preparation.entries_of.Goals as goal
 
-pub push_values-requires : goal.push_values-requires
-push_values-requires g c = subst (All IsShort) (sym c.in_ok-values.ensures)
+pub push_given-requires : goal.push_given-requires
+push_given-requires g c = subst (All IsShort) (sym c.in_ok-evaluate.ensures)
     (values_short (definition_of c.active-item.result.def) (g.R.Parsed.fields c.args.found.now))
 
 pub loop-active-preserved : goal.loop-active-preserved
 loop-active-preserved g c =
     let d = c.active-item.result in
     entries_more (g.R.Parsed.fields c.args.found.now) c.args.defs.now c.loop-active.active-index d c.loop-active.keys
-    c.push_values.new.keys c.loop-active-test.true c.active-item.is
-    (subst (λ (vs : List Value). AreMore d.id vs c.loop-active.keys c.push_values.new.keys) c.in_ok-values.ensures
-    c.in_ok-push_values.ensures) c.loop-active.invariant
+    c.push_given.new.keys c.loop-active-test.true c.active-item.is
+    (subst (λ (vs : List Value). AreMore d.id vs c.loop-active.keys c.push_given.new.keys) c.in_ok-evaluate.ensures
+    c.in_ok-push_given.ensures) c.loop-active.invariant

@@ -9,4 +9,4 @@ pub returns-in-Ok-clause-value : goal.returns-in-Ok-clause-value
 returns-in-Ok-clause-value g c =
     subst (λ (z : Fields). IfOk c.gives-has.result (λ has. IsTrue has
     ↔ Contains (values (definition_of c.args.query.now.def) z) c.args.query.now.value)) c.in-Ok.ensures.parsed.fields
-    c.gives-has.ensures
+    c.gives-has.ensures.among

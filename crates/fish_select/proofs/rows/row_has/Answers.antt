@@ -7,6 +7,6 @@ use Rattle.fish_select.proofs.rows.row_has.Goals as goal
 pub returns-in-Ok : goal.returns-in-Ok
 returns-in-Ok c =
     let def = definition_of c.args.def.now in
-    IfOk-weaker c.has-has.result _ _
+    IfOk-weaker c.gives-has.result _ _
     (λ has same. row_counts def c.args.value.now c.args.text.now _ has c.in-Ok.ensures.ok same)
-    c.has-has.ensures
+    c.gives-has.ensures.test
