@@ -7,6 +7,7 @@ pub mod Growing
 pub mod Images
 pub mod Lasting
 pub mod LinkedWords
+pub mod PageStarts
 pub mod PageWrites
 pub mod RegionSteps
 pub mod RuleFacts
