@@ -15,12 +15,12 @@ use Rattle.fish_catalog.specs.Words.{bound_word, row_word}
 use Rattle.fish_catalog.specs.declared.row.CatRow.{CatRow}
 use Rattle.fish_flush.proofs.Committed.{told_later}
 use Rattle.fish_flush.proofs.RegionSteps.{holds_later, line_later}
-use Rattle.fish_flush.proofs.RuleFacts.{longer_at}
 use Rattle.fish_flush.specs.Laws.{CarriesOn, FirstCarries, FirstHolds, GrownBegins, GrownClamps, GrownEnds, GrownPolls, HoldsOn}
 use Rattle.fish_flush.specs.Laws.{KnownAreHeld}
 use Rattle.fish_flush.specs.Rows.{HaveGrown}
 use Rattle.fish_registry.specs.declared.outcome.Poll.TheVariants as poll
 use Rattle.fish_registry.specs.declared.registrar.Registrar.{Registrar}
+use Rattle.fish_rule.proofs.laws.Intervals.{longer_at}
 use Rattle.fish_rule.proofs.laws.Versions.{drafted_here}
 use Rattle.fish_rule.specs.Logs.{AreTold}
 use Rattle.fish_rule.specs.Registry.{main_word, row_at}

@@ -27,7 +27,9 @@ use Rattle.fish_psf.specs.Keys.{key_of, keys_of}
 use Rattle.fish_psf.specs.Records.{fields_of_payload}
 use Rattle.fish_psf.specs.declared.key.ActiveDef.{ActiveDef}
 use Rattle.fish_psf.specs.declared.key.KeyValue.{KeyValue}
-use Rattle.fish_flush.proofs.RuleFacts.{text_grows, there_is}
+use Rattle.fish_rule.proofs.laws.Intervals.{among_active}
+use Rattle.fish_rule.proofs.laws.Lists.{there_is}
+use Rattle.fish_rule.proofs.laws.Versions.{text_grows}
 use Rattle.fish_rule.specs.Boundaries.{IsOpenIn}
 use Rattle.fish_rule.specs.Keys.{IsKeyedOf, IsWritten, property, text_of}
 use Rattle.fish_rule.specs.Registry.{AreActiveAt, definitions_at, row_at, version_in}
@@ -121,29 +123,6 @@ is_key None id x e = cc
 is_key (Some v) id x e =
     let same = same_Some (record { id = id; value = v }) x e in
     (ap (λ (z : KeyValue). z.id) same, ap (λ (z : KeyValue). Some z.value) same)
-
--- the text of an active definition is among the active ones
-front : (x : Listed) (ls : List Listed) (b : Bool) → b ≡ true
-    → Among {A = ℕ × List ℕ} (x.id, x.def) (map (λ (l : Listed). (l.id, l.def)) (cond b (x ∷ ls) ls))
-front x ls true e = inl refl
-front x ls false e = absurd cc
-
--- what is among the rest is among all
-behind : (t : ℕ × List ℕ) (x : Listed) (ls : List Listed) (b : Bool) → Among t (map (λ (l : Listed). (l.id, l.def)) ls)
-    → Among t (map (λ (l : Listed). (l.id, l.def)) (cond b (x ∷ ls) ls))
-behind t x ls true m = inr m
-behind t x ls false m = m
-
--- an active definition is among the texts of the active ones
-among_active : (ls : List Listed) (i : ℕ) (l : Listed) → slice_get ls i ≡ Some l → l.active ≡ true
-    → Among {A = ℕ × List ℕ} (l.id, l.def) (active_texts ls)
-among_active [] i l there on = absurd cc
-among_active (x ∷ ls) zero l there on =
-    let e = same_Some x l there in
-    subst (λ (z : Listed). Among {A = ℕ × List ℕ} (z.id, z.def) (active_texts (x ∷ ls))) e
-    (front x (filter is_on ls) x.active (ap (λ (z : Listed). z.active) e ∙ on))
-among_active (x ∷ ls) (suc i) l there on =
-    behind (l.id, l.def) x (filter is_on ls) x.active (among_active ls i l there on)
 
 -- and each active text is one of a definition
 active_among : (ls : List Listed) (t : ℕ × List ℕ) → Among t (active_texts ls)
