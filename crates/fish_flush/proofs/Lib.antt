@@ -9,6 +9,7 @@ pub mod Lasting
 pub mod LinkedWords
 pub mod PageStarts
 pub mod PageWrites
+pub mod RegionRead
 pub mod RegionSteps
 pub mod RuleFacts
 pub mod TableKeys
