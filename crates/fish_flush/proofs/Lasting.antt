@@ -1,5 +1,5 @@
 -- What a checkpoint asks for is there once a store is made, and stays.
-use Rattle.std.proofs.Common.{◌≡◌, ℕ, zero, suc, ◌+◌, ◌<◌, ◌≤◌, inl, inr, List, [], ◌∷◌, ◌++◌, drop, length, map, min, refl, sym}
+use Rattle.std.proofs.Common.{◌≡◌, ℕ, zero, suc, ◌+◌, ◌<◌, ◌≤◌, inl, inr, List, [], ◌∷◌, ◌++◌, drop, map, min, refl, sym}
 use Rattle.std.proofs.Common.{ap, subst, ◌∙◌, arith, Option, Some, None, slice_get, option_map}
 use mathlib.Core.Option.{some-ne-none}
 use Rattle.std.proofs.Math.Seq.{drop-nil}
@@ -10,17 +10,17 @@ use Rattle.fish_catalog.proofs.Closing.{with_from_at, with_to_at}
 use Rattle.fish_catalog.specs.Clamps.{begun_by, clamped}
 use Rattle.fish_catalog.specs.Closing.{with_to}
 use Rattle.fish_catalog.specs.Covering.{Covers}
-use Rattle.fish_catalog.specs.Rows.{IsActiveNamed, with_from}
+use Rattle.fish_catalog.specs.Rows.{with_from}
 use Rattle.fish_catalog.specs.Words.{bound_word, row_word}
 use Rattle.fish_catalog.specs.declared.row.CatRow.{CatRow}
 use Rattle.fish_flush.proofs.Committed.{told_later}
 use Rattle.fish_flush.proofs.RegionSteps.{holds_later, line_later}
-use Rattle.fish_flush.proofs.RuleFacts.{longer_at}
 use Rattle.fish_flush.specs.Laws.{CarriesOn, FirstCarries, FirstHolds, GrownBegins, GrownClamps, GrownEnds, GrownPolls, HoldsOn}
 use Rattle.fish_flush.specs.Laws.{KnownAreHeld}
-use Rattle.fish_flush.specs.Rows.{HaveGrown, HoldsRows}
+use Rattle.fish_flush.specs.Rows.{HaveGrown}
 use Rattle.fish_registry.specs.declared.outcome.Poll.TheVariants as poll
 use Rattle.fish_registry.specs.declared.registrar.Registrar.{Registrar}
+use Rattle.fish_rule.proofs.laws.Intervals.{longer_at}
 use Rattle.fish_rule.proofs.laws.Versions.{drafted_here}
 use Rattle.fish_rule.specs.Logs.{AreTold}
 use Rattle.fish_rule.specs.Registry.{main_word, row_at}

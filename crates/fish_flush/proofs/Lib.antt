@@ -8,7 +8,9 @@ pub mod Images
 pub mod KeyedValues
 pub mod Lasting
 pub mod LinkedWords
+pub mod PageStarts
 pub mod PageWrites
+pub mod RegionRead
 pub mod RegionSteps
 pub mod RuleFacts
 pub mod TableKeys

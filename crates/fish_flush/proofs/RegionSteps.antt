@@ -159,11 +159,11 @@ entries_room v f words s among plain has = by f.kind refl
     by Mark is = absurd (plain is)
 
 -- a region that follows is the first of its page, or not, by the page and the line alone
-next_page : (c : Commit) (s : Reached) (lines : ℕ) (r : List ℕ) (t : Reached) → FollowsIn c s lines r t → t.page ≡ page_of s.line + 1
+pub next_page : (c : Commit) (s : Reached) (lines : ℕ) (r : List ℕ) (t : Reached) → FollowsIn c s lines r t → t.page ≡ page_of s.line + 1
 next_page c s lines r t (inl v) = ap (λ (z : Reached). z.page) v.1
 next_page c s lines r t (inr v) = ap (λ (z : Reached). z.page) v.2
 
-next_starts : (c : Commit) (s : Reached) (lines : ℕ) (r : List ℕ) (t : Reached) → FollowsIn c s lines r t
+pub next_starts : (c : Commit) (s : Reached) (lines : ℕ) (r : List ℕ) (t : Reached) → FollowsIn c s lines r t
     → t.starts ≡ starts_after s.page s.number s.line s.starts
 next_starts c s lines r t (inl v) = ap (λ (z : Reached). z.starts) v.1
 next_starts c s lines r t (inr v) = ap (λ (z : Reached). z.starts) v.2

@@ -30,7 +30,10 @@ use Rattle.fish_psf.specs.Eval.{Fields, values}
 use Rattle.fish_psf.specs.Keys.{keys_of, keys_under}
 use Rattle.fish_psf.specs.Records.{fields_of_payload}
 use Rattle.fish_psf.specs.declared.key.ActiveDef.{ActiveDef}
-use Rattle.fish_flush.proofs.RuleFacts.{text_grows, there_is}
+use Rattle.fish_rule.proofs.laws.Intervals.{among_active}
+use Rattle.fish_rule.proofs.laws.Lists.{there_is}
+use Rattle.fish_rule.proofs.laws.Members.{among_at, among_map, at_among, map_among}
+use Rattle.fish_rule.proofs.laws.Versions.{text_grows}
 use Rattle.fish_rule.specs.Boundaries.{IsOpenIn}
 use Rattle.fish_rule.specs.Keys.{IsKeyedOf, IsWritten, property, text_of}
 use Rattle.fish_rule.specs.Registry.{AreActiveAt, definitions_at, row_at, version_in}
@@ -41,63 +44,12 @@ use Rattle.fish_rule.specs.declared.view.Key.{Key}
 use Rattle.fish_rule.specs.declared.view.View.{View}
 use Rattle.fish_value.specs.declared.value.Value.{Value}
 
--- ---- lists
-
-module _ {A : Type 0} where
-  -- what is in a list stands at a place of it
-  among_at : (xs : List A) (x : A) → Among x xs → (i : ℕ) × (slice_get xs i ≡ Some x)
-  among_at [] x m = elim m [ ]
-  among_at (y ∷ xs) x (inl e) = (0, ap Some e)
-  among_at (y ∷ xs) x (inr m) = (let t = among_at xs x m in (suc t.0, t.1))
-
-  -- what stands at a place of a list is in it
-  at_among : (xs : List A) (i : ℕ) (x : A) → slice_get xs i ≡ Some x → Among x xs
-  at_among [] i x at = absurd cc
-  at_among (y ∷ xs) zero x at = inl (same_Some y x at)
-  at_among (y ∷ xs) (suc i) x at = inr (at_among xs i x at)
-
-  -- an element of a list meets what all do
-  all_at : (P : A → Type 0) (xs : List A) (x : A) → All P xs → Among x xs → P x
-  all_at P xs x all m = (let t = among_at xs x m in
-      subst P (get_or_from_slice_get xs t.0 x x t.1) (all t.0 x (slice_get_within xs t.0 x t.1)))
-
-module _ {A B : Type 0} where
-  -- what is in a mapped list
-  among_map : (f : A → B) (xs : List A) (y : B) → Among y (map f xs) → (x : A) × Among x xs × (f x ≡ y)
-  among_map f [] y m = elim m [ ]
-  among_map f (x ∷ xs) y (inl e) = (x, inl refl, e)
-  among_map f (x ∷ xs) y (inr m) = (let t = among_map f xs y m in (t.0, inr t.1, t.2))
-
-  -- the image of what is among a list is among the images
-  map_among : (f : A → B) (xs : List A) (x : A) → Among x xs → Among (f x) (map f xs)
-  map_among f [] x m = elim m [ ]
-  map_among f (y ∷ xs) x (inl e) = inl (ap f e)
-  map_among f (y ∷ xs) x (inr m) = inr (map_among f xs x m)
+-- an element of a list meets what all do
+all_at : {A : Type 0} (P : A → Type 0) (xs : List A) (x : A) → All P xs → Among x xs → P x
+all_at P xs x all m = (let t = among_at xs x m in
+    subst P (get_or_from_slice_get xs t.0 x x t.1) (all t.0 x (slice_get_within xs t.0 x t.1)))
 
 -- ---- definitions
-
--- the text of an active definition is among the active ones
-front : (x : Listed) (ls : List Listed) (b : Bool) → b ≡ true
-    → Among {A = ℕ × List ℕ} (x.id, x.def) (map (λ (l : Listed). (l.id, l.def)) (cond b (x ∷ ls) ls))
-front x ls true e = inl refl
-front x ls false e = absurd cc
-
--- what is among the rest is among all
-behind : (t : ℕ × List ℕ) (x : Listed) (ls : List Listed) (b : Bool) → Among t (map (λ (l : Listed). (l.id, l.def)) ls)
-    → Among t (map (λ (l : Listed). (l.id, l.def)) (cond b (x ∷ ls) ls))
-behind t x ls true m = inr m
-behind t x ls false m = m
-
--- an active definition is among the texts of the active ones
-among_active : (ls : List Listed) (i : ℕ) (l : Listed) → slice_get ls i ≡ Some l → l.active ≡ true
-    → Among {A = ℕ × List ℕ} (l.id, l.def) (active_texts ls)
-among_active [] i l there on = absurd cc
-among_active (x ∷ ls) zero l there on =
-    let e = same_Some x l there in
-    subst (λ (z : Listed). Among {A = ℕ × List ℕ} (z.id, z.def) (active_texts (x ∷ ls))) e
-    (front x (filter is_on ls) x.active (ap (λ (z : Listed). z.active) e ∙ on))
-among_active (x ∷ ls) (suc i) l there on =
-    behind (l.id, l.def) x (filter is_on ls) x.active (among_active ls i l there on)
 
 -- an active definition with this id and text stands in the list
 abbrev HasText : List Listed → ℕ × List ℕ → Type 0

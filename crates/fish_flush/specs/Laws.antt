@@ -7,9 +7,11 @@ use Rattle.fish_catalog.specs.declared.commit.Commit.{Commit}
 use Rattle.fish_catalog.specs.declared.entry.Entry.{Entry}
 use Rattle.fish_catalog.specs.declared.row.CatRow.{CatRow}
 use Rattle.fish_flush.specs.Carrying.{Carries}
-use Rattle.fish_flush.specs.Kept.{IsAtRest, first_commit}
+use Rattle.fish_flush.specs.Kept.{IsAtRest, first_commit, page_after}
 use Rattle.fish_flush.specs.Rows.{HaveGrown, HoldsRows}
 use Rattle.fish_flush.specs.declared.flusher.Flusher.{Flusher}
+use Rattle.fish_image.specs.Log.{Agrees}
+use Rattle.fish_image.specs.Reached.{Reached}
 use Rattle.fish_lang.specs.declared.definition.Def.{Def}
 use Rattle.fish_registry.specs.Changing.{Changes}
 use Rattle.fish_registry.specs.Knowing.{Knows}
@@ -71,3 +73,9 @@ GrownEnds = (n : ℕ) (old : List CatRow) (r s : Registrar) (name : List ℕ) (i
 abbrev pub GrownClamps : Type 0
 GrownClamps = (n count : ℕ) (old rows : List CatRow) → HaveGrown n old rows → n ≤ count
     → HaveGrown n old (map (clamped count) rows)
+
+-- ---- page starts
+
+-- where words were read so far, the first page in which no region begins is the one after that of the last page start
+abbrev pub PagesFollowStarts : Type 0
+PagesFollowStarts = (c : Commit) (words : List ℕ) (n : ℕ) (s : Reached) → Agrees c words n s → s.page ≡ page_after s.starts

@@ -2,7 +2,7 @@
 //! the laws.
 
 ghost use Rattle.fish_flush.specs.Laws.{CarriesOn, FirstCarries, FirstHolds, GrownBegins, GrownClamps, GrownEnds, GrownPolls};
-ghost use Rattle.fish_flush.specs.Laws.{HoldsOn, KnownAreHeld};
+ghost use Rattle.fish_flush.specs.Laws.{HoldsOn, KnownAreHeld, PagesFollowStarts};
 
 use fish_disk::Disk;
 
@@ -32,4 +32,11 @@ pub fn law_rows_grow()
     ensures polls { GrownPolls }
     ensures ends { GrownEnds }
     ensures clamps { GrownClamps }
+{}
+
+/// The page from which a flusher goes on is told by the page starts that an opening checked.
+///
+/// Its contract is that law. No call of the program needs it.
+pub fn law_page_starts()
+    ensures { PagesFollowStarts }
 {}

@@ -21,6 +21,6 @@ mod saving;
 
 pub use creation::create;
 pub use flusher::Flusher;
-pub use law::{law_carries, law_rows_grow, law_rows_held};
+pub use law::{law_carries, law_page_starts, law_rows_grow, law_rows_held};
 pub use refusal::FlushRefusal;
 pub use saving::checkpoint;

@@ -34,7 +34,7 @@ behind t x ls true m = inr m
 behind t x ls false m = m
 
 -- the text of an active definition is among the active ones
-among_active : (ls : List Listed) (i : ℕ) (l : Listed) → slice_get ls i ≡ Some l → l.active ≡ true
+pub among_active : (ls : List Listed) (i : ℕ) (l : Listed) → slice_get ls i ≡ Some l → l.active ≡ true
     → Among {A = ℕ × List ℕ} (l.id, l.def) (active_texts ls)
 among_active [] i l there on = absurd cc
 among_active (x ∷ ls) zero l there on =
@@ -45,7 +45,7 @@ among_active (x ∷ ls) (suc i) l there on =
     behind (l.id, l.def) x (filter is_on ls) x.active (among_active ls i l there on)
 
 -- an element of a list is one of the longer list
-longer_at : {A : Type 0} (xs : List A) (y : A) (i : ℕ) (x : A) → slice_get xs i ≡ Some x
+pub longer_at : {A : Type 0} (xs : List A) (y : A) (i : ℕ) (x : A) → slice_get xs i ≡ Some x
     → slice_get (xs ++ y ∷ []) i ≡ Some x
 longer_at [] y i x there = absurd cc
 longer_at (z ∷ xs) y zero x there = there

@@ -1,14 +1,14 @@
 -- What the owner of a view may conclude of the registry's words.
 pub use Rattle.fish_rule.proofs.basics.FirstBoundaries.{drafted_here, set_here}
 pub use Rattle.fish_rule.proofs.basics.RegistryWords.{definitions_first, definitions_next, has_read, keyed_map}
-pub use Rattle.fish_rule.proofs.basics.RegistryWords.{length_registered}
+pub use Rattle.fish_rule.proofs.basics.RegistryWords.{length_registered, text_grows}
 use Rattle.std.proofs.Common.{◌≡◌, ℕ, ◌<◌, ◌≤◌, List, sym, refl, ap, ◌∙◌, subst, arith, length, inr, Some, slice_get}
 use Rattle.fish_rule.proofs.classes.Allowed.{unmade_within}
 use Rattle.fish_rule.proofs.steps.DefineWord.{unmade_here}
 use Rattle.fish_rule.proofs.steps.LoadRegistry.{lasts_there, lasting_within}
 use Rattle.fish_rule.specs.RegistrySteps.{CanDefineWord, CanLoadRegistry}
 use Rattle.fish_rule.specs.Registry.{KnowsDefinitions, KnowsRow, definitions_at, main_word, row_at, version_in}
-use Rattle.fish_rule.proofs.basics.RegistryWords.{length_grows, text_grows}
+use Rattle.fish_rule.proofs.basics.RegistryWords.{length_grows}
 use Rattle.std.proofs.lemmas.List.{length-map}
 use Rattle.fish_catalog.specs.Listing.{IsListing, listed_of}
 use Rattle.fish_catalog.specs.declared.listed.Listed.{Listed}

@@ -27,8 +27,18 @@ put_first-requires-clause-size g c =
 pub returns-clause-made : goal.returns-clause-made
 returns-clause-made g c =
     let disk = g.D.Disk in
-    let f : Flusher = record { slot = 0; turn = 0; count = 0; line = 0; heads = c.in_ok-heads.heads; page = 0; starts = c.new.result; shut = false } in
-    first_rests (disk.images c.put_first.new.disk) f c.args.shape c.in_ok-body.body refl refl refl refl refl c.new.ensures.items c.in_ok-body.ensures
+    let f : Flusher = record {
+      slot = 0;
+      turn = 0;
+      count = 0;
+      line = 0;
+      heads = c.in_ok-heads.heads;
+      page = 0;
+      starts = c.new.result;
+      shut = false;
+    } in
+    first_rests (disk.images c.put_first.new.disk) f c.args.shape c.in_ok-body.body refl refl refl refl refl c.new.ensures.items
+    c.in_ok-body.ensures
     (λ e image. ((c.in_ok-put_first.ensures.rests e image).0, (c.in_ok-put_first.ensures.rests e image).1 ∙ c.as_bytes.ensures))
     c.in_ok-put_first.ensures.long
     (subst (λ (n : ℕ). AreHeads n [] c.in_ok-heads.heads.items) (few_heads c.args.shape.bucket_bits c.requires.shape.few_bits)
@@ -36,5 +46,14 @@ returns-clause-made g c =
 
 pub returns-clause-gates : goal.returns-clause-gates
 returns-clause-gates g c =
-    let f : Flusher = record { slot = 0; turn = 0; count = 0; line = 0; heads = c.in_ok-heads.heads; page = 0; starts = c.new.result; shut = false } in
+    let f : Flusher = record {
+      slot = 0;
+      turn = 0;
+      count = 0;
+      line = 0;
+      heads = c.in_ok-heads.heads;
+      page = 0;
+      starts = c.new.result;
+      shut = false;
+    } in
     rest_gates (g.D.Disk.images c.put_first.new.disk) f (first_commit c.args.shape) [] (returns-clause-made g c)

@@ -89,13 +89,9 @@ returns-clause-reads g c =
 
 pub returns-clause-settled : goal.returns-clause-settled
 returns-clause-settled g c =
-    let disk = g.D.Disk in
     let v = view c.args.pass.now in
     let m = view c.settle-to.new.pass in
     let u = view c.draft_commit.new.pass in
-    let f = c.args.flusher.now in
-    let s = c.args.log.now.shape in
-    let rows = c.args.catalog.now in
     let to : ℕ = c.settle-to.result.settled in
     let d = c.in_ok-draft.draft in
     let drafts = c.in_ok-draft.ensures.drafts in
@@ -124,6 +120,7 @@ returns-clause-committed g c =
     let learns = (reads_on v m u c.settle-to.ensures.settles c.draft_commit.ensures.extends).learns in
     let more = c.draft_commit.ensures.extends.learns.settled in
     let settled = c.settle-to.ensures.settled in
+    let end : ℕ = c.args.log.now.key.end in
     let counted = settled_counted v m to c.settle-to.result.count c.settle-to.ensures.stops c.settle-to.ensures.tail in
     ok_all c.save.result (λ n. n ≡ d.count) (HasCommitted images images' f c.save.new.flusher v u s rows) _ _ c.save.ensures.count
     c.save.ensures.saved c.save.ensures.done
@@ -134,8 +131,8 @@ returns-clause-committed g c =
       count = ap (λ (z : Flusher). z.count) saved ∙ sym is;
       counted = (let more_ = c.draft_commit.ensures.extends.learns.count in omega arith);
       carries = λ e old h.
-          let grows = draft_grows images f m u c.args.log.now.key.end s rows to d drafts e old h.rest h.bits h.grown in
-          let all = draft_more images f m u c.args.log.now.key.end s rows to d drafts e old h.rest h.bits h.grown in
+          let grows = draft_grows images f m u end s rows to d drafts e old h.rest h.bits h.grown in
+          let all = draft_more images f m u end s rows to d drafts e old h.rest h.bits h.grown in
           let whole = all.3.size in
           let rests = done h.rest.body h.rest.lines grows in
           let about = ap (λ (z : Key). z.number) c.settle-to.ensures.settles.learns.about in
@@ -146,7 +143,7 @@ returns-clause-committed g c =
           let long : (i : List ℕ) → images' i → lines_at + 32 * d.line ≤ length i =
           λ i here. long_rests (1 - f.slot) d.body (h.rest.lines ++ d.lines.items) i (32 * f.line) d.line (rests i here) whole
           (c.save.ensures.longer (lines_at + 32 * f.line) h.rest.long i here) in
-          let carried = draft_carries images f m u c.args.log.now.key.end s rows to d drafts e old h.rest h.bits h.grown images'
+          let carried = draft_carries images f m u end s rows to d drafts e old h.rest h.bits h.grown images'
           c.draft_commit.ensures.extends.learns (omega arith) (omega arith) told rests long in (
             all.0,
             carried.0 ∙ sym number,
