@@ -1,5 +1,6 @@
 -- Each number below the base of a disk that carries its table has its words.
-use Rattle.std.proofs.Common.{◌≡◌, ℕ, ◌+◌, ◌-◌, ◌*◌, ◌/◌, ◌%◌, ◌<◌, ◌≤◌, List, length, drop, inl, inr, refl, sym, ap, ◌∙◌, subst, arith, length-drop}
+use Rattle.std.proofs.Common.{◌≡◌, ℕ, ◌+◌, ◌-◌, ◌*◌, ◌/◌, ◌%◌, ◌<◌, ◌≤◌, List, length, drop, inl, inr, refl, sym, ap}
+use Rattle.std.proofs.Common.{◌∙◌, subst, arith, length-drop}
 use Rattle.std.specs.Prelude.{Option, Some, Result, Ok, Err, IfSome}
 use Rattle.std.proofs.lemmas.List.{length-take}
 use Rattle.fish_image.specs.Log.{Follows, behind_record, region, region_lines}
@@ -40,7 +41,8 @@ lines_words image m =
     words_of-take (length bytes / 8) (32 * m) (drop lines_at image) (omega arith)
     ∙ ap (λ n. words_of n (drop lines_at image)) (sym size)
 
-lines_room : (image : List ℕ) (m : ℕ) → 0 < length (words_in (lines_of m image)) → lines_at + 8 * length (words_in (lines_of m image)) ≤ length image
+lines_room : (image : List ℕ) (m : ℕ) → 0 < length (words_in (lines_of m image))
+    → lines_at + 8 * length (words_in (lines_of m image)) ≤ length image
 lines_room image m some =
     let bytes = lines_of m image in
     let size = length-words_of (length bytes / 8) bytes in
@@ -68,7 +70,8 @@ carried content k cold h n less =
     let behind = length-drop (4 * t.line) w in
     let many : 0 < length w = omega arith in
     let room : lines_at + 8 * length w ≤ length h.image =
-    subst (λ l. 0 < length (words_in l) → lines_at + 8 * length (words_in l) ≤ length h.image) counts.lines_are (lines_room h.image (line_count prior.body)) many in
+    subst (λ l. 0 < length (words_in l) → lines_at + 8 * length (words_in l) ≤ length h.image) counts.lines_are
+    (lines_room h.image (line_count prior.body)) many in
     let all = agrees_within commit w k.number h.end prior.agrees in
     let line = h.line in
     let base = h.base_line in
@@ -126,7 +129,8 @@ carried_key content k cold h b place n p j key at =
     let behind = length-drop (4 * t.line) w in
     let many : 0 < length w = omega arith in
     let room : lines_at + 8 * length w ≤ length h.image =
-    subst (λ l. 0 < length (words_in l) → lines_at + 8 * length (words_in l) ≤ length h.image) counts.lines_are (lines_room h.image (line_count prior.body)) many in
+    subst (λ l. 0 < length (words_in l) → lines_at + 8 * length (words_in l) ≤ length h.image) counts.lines_are
+    (lines_room h.image (line_count prior.body)) many in
     let all = agrees_within commit w k.number h.end prior.agrees in
     let line = h.line in
     let base = h.base_line in
@@ -146,7 +150,8 @@ carried_key content k cold h b place n p j key at =
     let page : page_of t.line ≡ place / 131072 = omega arith in
     record {
       body = subst (λ q. IsBody p (region (drop (4 * (t.line % 32768)) (page_words cold.base.line q h.image)))) page
-          (subst (IsBody p) (sym (region_on commit w cold.base.line words pages t (omega arith) lines refl some in_page (omega arith))) stored.is.body);
+          (subst (IsBody p) (sym (region_on commit w cold.base.line words pages t (omega arith) lines refl some in_page
+          (omega arith))) stored.is.body);
       at = omega arith;
       within = at.within;
       is = at.is;
@@ -161,7 +166,8 @@ of_known o image P is h = subst (λ x. IfSome x P) is h
 -- the entry of a number
 pub record_carried : (content : Option (List ℕ)) (k : Key) (cold : Cold) (h : Carries content k cold) (n : ℕ) → n < cold.base.number
     → (old new : ℕ) (result : Result Entry ColdRefusal)
-    → IfSome content (λ c. (rest : List ℕ) → IsRead c cold → HasRegion cold c n rest → Answers n rest result × LoadsWords rest old new result)
+    → IfSome content (λ c. (rest : List ℕ) → IsRead c cold → HasRegion cold c n rest
+    → Answers n rest result × LoadsWords rest old new result)
     → IsEntryRead h n result
 record_carried content k cold h n less old new result says =
     let base = h.base_number in

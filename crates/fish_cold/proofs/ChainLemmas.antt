@@ -1,5 +1,6 @@
 -- Key entries link to the newest of their bucket in front of them, so a chain passes each of the bucket's.
-use Rattle.std.proofs.Common.{◌≡◌, ℕ, zero, suc, ◌+◌, ◌*◌, ◌^◌, ◌<◌, ◌⊎◌, List, [], ◌∷◌, ◌++◌, Bool, true, false, length, get_or, inl, inr, refl, sym, ap, ◌∙◌, subst, arith, drop}
+use Rattle.std.proofs.Common.{◌≡◌, ℕ, zero, suc, ◌+◌, ◌*◌, ◌^◌, ◌<◌, ◌⊎◌, List, [], ◌∷◌, ◌++◌, Bool, true, false}
+use Rattle.std.proofs.Common.{length, get_or, inl, inr, refl, sym, ap, ◌∙◌, subst, arith, drop}
 use Rattle.std.specs.Prelude.{Some, slice_get, slice_index, ◌==◌, if◌then◌else◌}
 use Rattle.std.proofs.lemmas.Bool.{cases_lt, eqb-true, eqb-false}
 use Rattle.std.proofs.lemmas.Option.{same_Some}
@@ -26,7 +27,8 @@ other : (t : Bool) (x y : ℕ) → t ≡ false → (if t then x else y) ≡ y
 other true x y h = absurd (cc h)
 other false x y h = refl
 
-none_here : (x : ℕ × ℕ) (before : List (ℕ × ℕ)) (b p : ℕ) → (x.0 ≡ b → ⊥) → ((q : ℕ) → IsAmong before b q → ⊥) → IsAmong (x ∷ before) b p → ⊥
+none_here : (x : ℕ × ℕ) (before : List (ℕ × ℕ)) (b p : ℕ) → (x.0 ≡ b → ⊥) → ((q : ℕ) → IsAmong before b q → ⊥)
+    → IsAmong (x ∷ before) b p → ⊥
 none_here x before b p apart none h = by_place h.at h.there where
   by_place : (k : ℕ) → slice_get (x ∷ before) k ≡ Some (b, p) → ⊥
   by_place zero there = apart (ap (λ (z : ℕ × ℕ). z.0) (same_Some x (b, p) there))
@@ -113,12 +115,14 @@ keys_lower n line c (x ∷ ks) places linked low (suc j) k within is =
     omega arith
 
 -- where the last of the keys was put, it is the entry, or the entry was there before
-keys_link : (n line c : ℕ) (ks : List KeyPart) (places taken behind : List (ℕ × ℕ)) (b q : ℕ) → AreLinked n line c ks places → ((d r : ℕ) → IsAmong places d r → r < place_of line c)
+keys_link : (n line c : ℕ) (ks : List KeyPart) (places taken behind : List (ℕ × ℕ)) (b q : ℕ) → AreLinked n line c ks places
+    → ((d r : ℕ) → IsAmong places d r → r < place_of line c)
     → with_keys n line c ks places ≡ taken ++ (b, q) ∷ behind
     → IsOneOf n line c ks b q behind ⊎ ((others : List (ℕ × ℕ)) × (places ≡ others ++ (b, q) ∷ behind))
 keys_link n line c [] places taken behind b q linked low h = inr (taken, h)
 keys_link n line c (k ∷ ks) places taken behind b q linked low h =
-    elim (keys_link n line (c + 1) ks ((bucket_of_key n k, place_of line c) ∷ places) taken behind b q linked.1 (more_low n line c k places low) h) [
+    elim (keys_link n line (c + 1) ks ((bucket_of_key n k, place_of line c) ∷ places) taken behind b q linked.1
+    (more_low n line c k places low) h) [
       | inl one ↦ (
           let place = one.place in
           let within = one.within in
@@ -168,7 +172,15 @@ module _ (commit : Commit) (w : List ℕ) where
     pub one : IsOneOf (2 ^ commit.bucket_bits) at.line 0 parts.keys b q behind
 
   linked_more : (n b q : ℕ) (behind : List (ℕ × ℕ)) → Linked n b q behind → Linked (suc n) b q behind
-  linked_more n b q behind h = (let few = h.few in record { number = h.number; few = omega arith; at = h.at; agrees = h.agrees; parts = h.parts; is = h.is; one = h.one })
+  linked_more n b q behind h = (let few = h.few in record {
+    number = h.number;
+    few = omega arith;
+    at = h.at;
+    agrees = h.agrees;
+    parts = h.parts;
+    is = h.is;
+    one = h.one;
+  })
 
   places_low : (n : ℕ) (t : Reached) → Agrees commit w n t → (d r : ℕ) → IsAmong t.places d r → r < place_of t.line 0
   places_low n t agrees d r h = (let low = agrees_lower commit w n t agrees d r h in omega arith)
@@ -230,7 +242,8 @@ key_lower image n end prior b place m p j k h =
 
 -- ---- and each key entry is among the places
 
-keys_stay : (n line c : ℕ) (ks : List KeyPart) (places : List (ℕ × ℕ)) (b q : ℕ) → IsAmong places b q → IsAmong (with_keys n line c ks places) b q
+keys_stay : (n line c : ℕ) (ks : List KeyPart) (places : List (ℕ × ℕ)) (b q : ℕ) → IsAmong places b q
+    → IsAmong (with_keys n line c ks places) b q
 keys_stay n line c [] places b q h = h
 keys_stay n line c (k ∷ ks) places b q h =
     keys_stay n line (c + 1) ks ((bucket_of_key n k, place_of line c) ∷ places) b q (record { at = suc h.at; there = h.there })
@@ -247,12 +260,14 @@ keys_among n line c (x ∷ ks) places (suc j) k within is =
     subst (IsAmong (with_keys n line (c + 1) ks ((bucket_of_key n x, place_of line c) ∷ places)) (bucket_of_key n k)) further
     (keys_among n line (c + 1) ks ((bucket_of_key n x, place_of line c) ∷ places) j k (omega arith) is)
 
-region_stays : (c : Commit) (t s : Reached) (lines : ℕ) (r : List ℕ) (b q : ℕ) → FollowsIn c t lines r s → IsAmong t.places b q → IsAmong s.places b q
+region_stays : (c : Commit) (t s : Reached) (lines : ℕ) (r : List ℕ) (b q : ℕ) → FollowsIn c t lines r s → IsAmong t.places b q
+    → IsAmong s.places b q
 region_stays c t s lines r b q (inl v) h = subst (λ (z : Reached). IsAmong z.places b q) (sym v.1) h
 region_stays c t s lines r b q (inr v) h =
     subst (λ (z : Reached). IsAmong z.places b q) (sym v.2) (keys_stay (2 ^ c.bucket_bits) t.line 0 v.0.keys t.places b q h)
 
-region_among : (c : Commit) (t s : Reached) (lines : ℕ) (r : List ℕ) (p : BodyParts) (j : ℕ) (k : KeyPart) → lines < 2 ^ 16 → FollowsIn c t lines r s
+region_among : (c : Commit) (t s : Reached) (lines : ℕ) (r : List ℕ) (p : BodyParts) (j : ℕ) (k : KeyPart) → lines < 2 ^ 16
+    → FollowsIn c t lines r s
     → IsRecordAt c t lines r p → j < length p.keys → k ≡ get_or p.keys j k
     → IsAmong s.places (bucket_of_key (2 ^ c.bucket_bits) k) (place_of t.line (0 + j))
 region_among c t s lines r p j k small f is within key =
@@ -274,10 +289,12 @@ all_among c w (suc n) s h m t p j k less at is within key =
           (subst (λ (z : Reached). Follows c w z s) one h.2) is within key)
     ]
 
-pub prior_among : (image : List ℕ) (n : ℕ) (end : Reached) (prior : IsPrior image n end) (b place m : ℕ) (p : BodyParts) (j : ℕ) (k : KeyPart)
+pub prior_among : (image : List ℕ) (n : ℕ) (end : Reached) (prior : IsPrior image n end) (b place m : ℕ) (p : BodyParts) (j : ℕ)
+    (k : KeyPart)
     → IsKeyAt prior b place m p j k → IsAmong end.places b place
 prior_among image n end prior b place m p j k h =
     let at : place_of h.stored.at.line (0 + j) ≡ place_of h.stored.at.line j = omega arith in
     subst (λ x. IsAmong end.places x place) h.bucket
     (subst (IsAmong end.places (bucket_of_key (2 ^ prior.commit.bucket_bits) k)) (at ∙ sym h.place_is)
-    (all_among prior.commit (words_in prior.lines) n end prior.agrees m h.stored.at p j k h.stored.few h.stored.agrees h.stored.is h.within h.is))
+    (all_among prior.commit (words_in prior.lines) n end prior.agrees m h.stored.at p j k h.stored.few
+    h.stored.agrees h.stored.is h.within h.is))

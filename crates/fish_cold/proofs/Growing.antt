@@ -1,5 +1,6 @@
 -- What is held of pages below the old base stays what is read below a later one.
-use Rattle.std.proofs.Common.{◌≡◌, ℕ, suc, ◌+◌, ◌-◌, ◌*◌, ◌<◌, ◌≤◌, ◌⊎◌, List, [], ◌∷◌, ◌++◌, length, length-append, inl, inr, ap, ◌∙◌, subst, arith}
+use Rattle.std.proofs.Common.{◌≡◌, ℕ, suc, ◌+◌, ◌-◌, ◌*◌, ◌<◌, ◌≤◌, ◌⊎◌, List, [], ◌∷◌, ◌++◌, length, length-append}
+use Rattle.std.proofs.Common.{inl, inr, ap, ◌∙◌, subst, arith}
 use Rattle.std.specs.Prelude.{Some, slice_get}
 use Rattle.std.proofs.Math.Decide.{dec_le}
 use Rattle.fish_catalog.specs.declared.page_start.PageStart.{PageStart}
@@ -18,7 +19,8 @@ stays_by : (starts : List PageStart) (start : PageStart) (d : Dec (page_after st
 stays_by starts start (yes p) j s h = stays starts start j s h
 stays_by starts start (no n) j s h = h
 
-starts_stay : (starts more : List PageStart) (j : ℕ) (s : PageStart) → slice_get starts j ≡ Some s → slice_get (with_starts starts more) j ≡ Some s
+starts_stay : (starts more : List PageStart) (j : ℕ) (s : PageStart) → slice_get starts j ≡ Some s
+    → slice_get (with_starts starts more) j ≡ Some s
 starts_stay starts [] j s h = h
 starts_stay starts (start ∷ more) j s h =
     starts_stay (with_start starts start) more j s (stays_by starts start (dec_le (page_after starts) (page_of start.line)) j s h)

@@ -75,7 +75,8 @@ take-words_of (suc m) zero b h = absurd (omega arith)
 take-words_of (suc m) (suc n) b h = ap (λ l. number b ∷ l) (take-words_of m n (drop 8 b) (omega arith))
 
 -- some of the log's words among others
-pub part_of_log : (content : List ℕ) (from n i m : ℕ) → i + m ≤ n → take m (drop i (log_words content from n)) ≡ log_words content (from + i) m
+pub part_of_log : (content : List ℕ) (from n i m : ℕ) → i + m ≤ n
+    → take m (drop i (log_words content from n)) ≡ log_words content (from + i) m
 part_of_log content from n i m within =
     let place : lines_at + 8 * from + 8 * i ≡ lines_at + 8 * (from + i) = omega arith in
     ap (take m) (drop-words_of i n (drop (lines_at + 8 * from) content) (omega arith))

@@ -1,6 +1,7 @@
 -- What using a page does to those that are held.
 use Rattle.std.proofs.Common.{◌≡◌, ℕ, ◌-◌, ◌<◌, ◌≤◌, ◌⊎◌, List, [], ◌∷◌, take, inl, inr, refl, sym, ap, ◌∙◌, subst, arith}
-use Rattle.std.specs.Prelude.{Option, Some, None, Result, Ok, Err, Contains, IfErr, IfSome, IsErrOf, Bool, true, false, nat_eq, if◌then◌else◌}
+use Rattle.std.specs.Prelude.{Option, Some, None, Result, Ok, Err, Contains, IfErr, IfSome, IsErrOf, Bool, true, false}
+use Rattle.std.specs.Prelude.{nat_eq, if◌then◌else◌}
 use Rattle.std.specs.Option.{option_map_or, option_or}
 use Rattle.std.specs.Map.{lookup, lookup_entry, remove_entry}
 use Rattle.lru.specs.LruCache.{promoted, put_entries}
@@ -105,12 +106,13 @@ used_read c number cold None page brought read is = held_read c number cold page
 found_entry : {K V : Type 0} (test : K → Bool) (es : List (K × V)) (v : V) → lookup test es ≡ Some v
     → (e : K × V) × (lookup_entry test es ≡ Some e) × (e.1 ≡ v)
 found_entry {K = K} {V = V} test [] v h = absurd cc
-found_entry {K = K} {V = V} test (f ∷ es) v h = (elim (test f.0) as (λ y. test f.0 ≡ y → (e : K × V) × (lookup_entry test (f ∷ es) ≡ Some e) × (e.1 ≡ v)) [
-  | true ↦ λ t. (f, (let shown : lookup_entry test (f ∷ es) ≡ Some f = rw t in shown), same_Some f.1 v (rw t at h))
-  | false ↦ λ t. (
-      let on = found_entry test es v (rw t at h) in
-      (on.0, (let shown : lookup_entry test (f ∷ es) ≡ Some on.0 = rw t on.1 in shown), on.2))
-]) refl
+found_entry {K = K} {V = V} test (f ∷ es) v h = (elim (test f.0) as
+    (λ y. test f.0 ≡ y → (e : K × V) × (lookup_entry test (f ∷ es) ≡ Some e) × (e.1 ≡ v)) [
+      | true ↦ λ t. (f, (let shown : lookup_entry test (f ∷ es) ≡ Some f = rw t in shown), same_Some f.1 v (rw t at h))
+      | false ↦ λ t. (
+          let on = found_entry test es v (rw t at h) in
+          (on.0, (let shown : lookup_entry test (f ∷ es) ≡ Some on.0 = rw t on.1 in shown), on.2))
+    ]) refl
 
 -- a page that is in the list is at its front as if it had been put there
 put_front : (es : List (ℕ × Page)) (rest : List (ℕ × Page)) (o : Option (ℕ × Page)) (e : ℕ × Page) (page : Page) (back : List (ℕ × Page))
@@ -233,7 +235,8 @@ answers_undamaged number rest old new (Damaged n) h = absurd h
 answers_undamaged number rest old new DiskFault h = (tt, tt)
 answers_undamaged number rest old new OutOfMemory h = (tt, tt)
 
-pub walks_undamaged : (place from : ℕ) (p : BodyParts) (j : ℕ) (k : KeyPart) (e : ColdRefusal) → IsUndamaged e → Walks place from p j k (Err e)
+pub walks_undamaged : (place from : ℕ) (p : BodyParts) (j : ℕ) (k : KeyPart) (e : ColdRefusal) → IsUndamaged e
+    → Walks place from p j k (Err e)
 walks_undamaged place from p j k (Damaged n) h = absurd h
 walks_undamaged place from p j k DiskFault h = tt
 walks_undamaged place from p j k OutOfMemory h = tt

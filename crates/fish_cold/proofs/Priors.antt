@@ -84,7 +84,8 @@ pub record IsKept (words : ℕ → List ℕ) (starts : List PageStart) (k line :
 -- what the page starts of n regions tell
 pub record Started (c : Commit) (w : List ℕ) (words : ℕ → List ℕ) (n : ℕ) (s : Reached) : Type 0 where
   pub rise : AreStarts s.starts
-  pub below : (j : ℕ) (start : PageStart) → slice_get s.starts j ≡ Some start → (start.number < n) × (page_of start.line < s.page) × (start.line < s.line)
+  pub below : (j : ℕ) (start : PageStart) → slice_get s.starts j ≡ Some start → (start.number < n)
+      × (page_of start.line < s.page) × (start.line < s.line)
   pub page : s.page ≤ page_of s.line + 1
   pub kept : (k : ℕ) (t : Reached) → k < n → Agrees c w k t → IsKept words s.starts k t.line
 
@@ -104,7 +105,8 @@ module _ (c : Commit) (w : List ℕ) (end : ℕ) (words : ℕ → List ℕ) (pag
       let begins = is.begins in
       let counted : suc (j - kept.start.number) ≡ suc j - kept.start.number = omega arith in
       let header : lines_of (slice_index (words (page_of r.line)) (4 * (r.line % 32768))) ≡ region_lines (drop (4 * r.line) w) =
-      ap lines_of (page_word w end words pages r.line (omega arith) ∙ sym (get_or-drop (4 * r.line) w 0 0 ∙ ap (λ k. get_or w k 0) (omega arith))) in
+      ap lines_of (page_word w end words pages r.line (omega arith) ∙ sym
+      (get_or-drop (4 * r.line) w 0 0 ∙ ap (λ k. get_or w k 0) (omega arith))) in
       let within = page_within w end words pages s.line below in
       let size = ap (λ p. length (words p)) page in
       record {
@@ -114,7 +116,8 @@ module _ (c : Commit) (w : List ℕ) (end : ℕ) (words : ℕ → List ℕ) (pag
           at = is.at;
           there = is.there;
           begins = omega arith;
-          last = λ i other behind there. (let less = (st.below i other there).0 in let more = is.last i other behind there in absurd (omega arith));
+          last = λ i other behind there. (let less = (st.below i other there).0 in let more = is.last i other behind there in
+              absurd (omega arith));
         };
         page_is = kept.page_is ∙ page;
         leads = subst (λ k. Leads (words (page_of s.line)) (kept.start.line % 32768) k (s.line % 32768)) counted
@@ -145,7 +148,8 @@ module _ (c : Commit) (w : List ℕ) (end : ℕ) (words : ℕ → List ℕ) (pag
               (here_again n k s t agrees at (omega arith) here)
         ];
       } where
-        here_again : (n k : ℕ) (s t : Reached) → Agrees c w n s → Agrees c w k t → k ≡ n → IsKept words s.starts n s.line → IsKept words s.starts k t.line
+        here_again : (n k : ℕ) (s t : Reached) → Agrees c w n s → Agrees c w k t → k ≡ n → IsKept words s.starts n s.line
+            → IsKept words s.starts k t.line
         here_again n k s t agrees at is here =
             let one : s ≡ t = agrees_once c w n s t agrees (subst (λ j. Agrees c w j t) is at) in
             subst (λ (z : Reached). IsKept words s.starts k z.line) one (subst (λ j. IsKept words s.starts j s.line) (sym is) here)
@@ -194,7 +198,8 @@ module _ (c : Commit) (w : List ℕ) (end : ℕ) (words : ℕ → List ℕ) (pag
       }
 
   -- starts rise with the one behind them
-  rise_more : (n : ℕ) (s : Reached) → Started c w words n s → s.number ≡ n → s.page ≤ page_of s.line → AreStarts (s.starts ++ start_at s ∷ [])
+  rise_more : (n : ℕ) (s : Reached) → Started c w words n s → s.number ≡ n → s.page ≤ page_of s.line
+      → AreStarts (s.starts ++ start_at s ∷ [])
   rise_more n s st number fresh i j a b less one two =
       elim (appended s.starts (start_at s) j b two) [
         | inl old ↦ elim (appended s.starts (start_at s) i a one) [
@@ -229,7 +234,8 @@ module _ (c : Commit) (w : List ℕ) (end : ℕ) (words : ℕ → List ℕ) (pag
               let fewer = low.0 in
               let lower = low.1 in
               let lines = low.2 in (omega arith, omega arith, omega arith))
-          | inr new ↦ subst (λ (o : PageStart). (o.number < suc n) × (page_of o.line < m.page) × (o.line < m.line)) new.1 (omega arith, omega arith, omega arith)
+          | inr new ↦ subst (λ (o : PageStart). (o.number < suc n) × (page_of o.line < m.page) × (o.line < m.line)) new.1
+              (omega arith, omega arith, omega arith)
         ];
         page = omega arith;
         kept = λ k t less at. subst (λ l. IsKept words l k t.line) (sym starts) (elim (cases_lt k n) [
@@ -369,8 +375,18 @@ module _ (c : Commit) (w : List ℕ) (end : ℕ) (words : ℕ → List ℕ) (pag
       let line = ap (λ (z : Reached). z.line) v.1 in
       let below : t.line < end = omega arith in
       let lines = region_lines (drop (4 * t.line) w) in
-      let first : slice_index (region (drop (4 * t.line) w)) 0 ≡ slice_index (drop (4 * t.line) w) 0 = get_or-take (4 * lines) (drop (4 * t.line) w) 0 0 (omega arith) in
-      inl ((lines, some, lines_small (slice_index (drop (4 * t.line) w) 0), head_on t below ∙ sym first ∙ ap (λ l. slice_index l 0) v.0.words), refl)
+      let first : slice_index (region (drop (4 * t.line) w)) 0 ≡ slice_index (drop (4 * t.line) w) 0 =
+      get_or-take (4 * lines) (drop (4 * t.line) w) 0 0 (omega arith) in
+      inl (
+        (
+          lines,
+          some,
+          lines_small (slice_index (drop (4 * t.line) w) 0),
+          head_on t below ∙ sym first
+              ∙ ap (λ l. slice_index l 0) v.0.words,
+        ),
+        refl,
+      )
   carried_entry t u (inr v) within =
       let some = (goes c t _ _ u (inr v)).some in
       let line = ap (λ (z : Reached). z.line) v.2 in

@@ -1,5 +1,6 @@
 -- What the words at the front of a region tell of it.
-use Rattle.std.proofs.Common.{◌≡◌, ℕ, zero, suc, ◌+◌, ◌++◌, ◌∷◌, [], inl, inr, subst, ◌*◌, ◌/◌, ◌<◌, ◌≤◌, ◌^◌, List, length, drop, get_or, sym, ap, ◌∙◌, arith, get_or-take, length-drop}
+use Rattle.std.proofs.Common.{◌≡◌, ℕ, zero, suc, ◌+◌, ◌++◌, ◌∷◌, [], inl, inr, subst, ◌*◌, ◌/◌, ◌<◌, ◌≤◌, ◌^◌, List}
+use Rattle.std.proofs.Common.{length, drop, get_or, sym, ap, ◌∙◌, arith, get_or-take, length-drop}
 use Rattle.std.proofs.lemmas.List.{get_or-drop}
 use Rattle.std.specs.Prelude.{Some, slice_get, slice_index}
 use Rattle.std.proofs.lemmas.List.{length-take}
@@ -50,7 +51,8 @@ pub says_void : (rest : List ℕ) (h : IsVoidHead rest) → region_lines rest �
 says_void rest h = ap lines_of h.3 ∙ lines_of-void h.0 h.2
 
 -- a record's header is no void's
-pub no_void_head : (p : BodyParts) (rest : List ℕ) (lines : ℕ) → IsRecordHead p rest → lines < 2 ^ 16 → slice_index rest 0 ≡ void_word lines → ⊥
+pub no_void_head : (p : BodyParts) (rest : List ℕ) (lines : ℕ) → IsRecordHead p rest → lines < 2 ^ 16
+    → slice_index rest 0 ≡ void_word lines → ⊥
 no_void_head p rest lines h small is =
     let form = (says_record p rest h).form in
     let code = form_code_fits p.form in
@@ -125,7 +127,8 @@ leads_before words first n zero line less h = absurd (omega arith)
 leads_before words first n (suc k) line less h =
     elim (cases_lt n k) [
       | inl before ↦ leads_before words first n k h.0 before h.1
-      | inr last ↦ (let same : k ≡ n = omega arith in record { line = h.0; leads = subst (λ j. Leads words first j h.0) same h.1; some = h.2 })
+      | inr last ↦ (let same : k ≡ n = omega arith in
+          record { line = h.0; leads = subst (λ j. Leads words first j h.0) same h.1; some = h.2 })
     ]
 
 -- the regions with one more

@@ -11,7 +11,8 @@ pub numbers_rise : (starts : List PageStart) → AreStarts starts → (i j : ℕ
     → (get_or starts i d).number ≤ (get_or starts j d).number
 numbers_rise starts rise i j d le lt =
     elim (cases_lt i j) [
-      | inl less ↦ (let both = (rise i j (get_or starts i d) (get_or starts j d) less (slice_get-get_or starts i d (omega arith)) (slice_get-get_or starts j d lt)).0 in omega arith)
+      | inl less ↦ (let both = (rise i j (get_or starts i d) (get_or starts j d) less
+          (slice_get-get_or starts i d (omega arith)) (slice_get-get_or starts j d lt)).0 in omega arith)
       | inr not ↦ (let same : i ≡ j = omega arith in let equal = ap (λ k. (get_or starts k d).number) same in omega arith)
     ]
 
@@ -20,7 +21,8 @@ pub pages_rise : (starts : List PageStart) → AreStarts starts → (i j : ℕ) 
     → page_of (get_or starts i d).line ≤ page_of (get_or starts j d).line
 pages_rise starts rise i j d le lt =
     elim (cases_lt i j) [
-      | inl less ↦ (let both = (rise i j (get_or starts i d) (get_or starts j d) less (slice_get-get_or starts i d (omega arith)) (slice_get-get_or starts j d lt)).1 in omega arith)
+      | inl less ↦ (let both = (rise i j (get_or starts i d) (get_or starts j d) less
+          (slice_get-get_or starts i d (omega arith)) (slice_get-get_or starts j d lt)).1 in omega arith)
       | inr not ↦ (let same : i ≡ j = omega arith in let equal = ap (λ k. page_of (get_or starts k d).line) same in omega arith)
     ]
 

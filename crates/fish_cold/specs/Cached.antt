@@ -1,5 +1,6 @@
 -- Which pages are held of the older records, and what the calls do to them.
-use Rattle.std.specs.Prelude.{ℕ, ◌≡◌, ◌≢◌, ◌-◌, ◌*◌, ◌/◌, ◌%◌, ◌<◌, ◌⊎◌, ◌↔◌, List, Option, Some, None, Result, Ok, Err, Contains, IfErr, IfOk, IfSome, IsErrOf, OnErr, OnOk, nat_eq, drop, if◌then◌else◌}
+use Rattle.std.specs.Prelude.{ℕ, ◌≡◌, ◌≢◌, ◌-◌, ◌*◌, ◌/◌, ◌%◌, ◌<◌, ◌⊎◌, ◌↔◌, List, Option, Some, None, Result, Ok}
+use Rattle.std.specs.Prelude.{Err, Contains, IfErr, IfOk, IfSome, IsErrOf, OnErr, OnOk, nat_eq, drop, if◌then◌else◌}
 use Rattle.std.specs.Map.{lookup}
 use Rattle.std.specs.Option.{option_or}
 use Rattle.lru.specs.LruCache.{lru_cache, put_entries}

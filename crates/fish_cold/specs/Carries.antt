@@ -35,7 +35,8 @@ pub record IsPrior (image : List ℕ) (n : ℕ) (end : Reached) : Type 0 where
   pub agrees : Agrees commit (words_in lines) n end
 
 -- entry n of the prior part is a record of these parts
-pub record IsPriorRecord {image : List ℕ} {count : ℕ} {end : Reached} (prior : IsPrior image count end) (n : ℕ) (p : BodyParts) : Type 0 where
+pub record IsPriorRecord {image : List ℕ} {count : ℕ} {end : Reached} (prior : IsPrior image count end) (n : ℕ)
+    (p : BodyParts) : Type 0 where
   pub few : n < count
   pub at : Reached
   pub agrees : Agrees prior.commit (words_in prior.lines) n at

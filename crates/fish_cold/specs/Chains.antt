@@ -17,7 +17,8 @@ pub record IsKeyAt {image : List ℕ} {count : ℕ} {end : Reached} (prior : IsP
   pub place_is : place ≡ place_of stored.at.line j
 
 -- the key entry at a place of a bucket leads on to the newest of the older ones in the bucket, which are after it in the list
-pub record IsLink {image : List ℕ} {count : ℕ} {end : Reached} (prior : IsPrior image count end) (b place : ℕ) (behind : List (ℕ × ℕ)) : Type 0 where
+pub record IsLink {image : List ℕ} {count : ℕ} {end : Reached} (prior : IsPrior image count end) (b place : ℕ)
+    (behind : List (ℕ × ℕ)) : Type 0 where
   pub number : ℕ
   pub parts : BodyParts
   pub place_in : ℕ

@@ -81,7 +81,8 @@ impl Cold {
         requires later { (self.old.base.number ≤ base.number) × (self.old.base.line ≤ base.line) }
         ensures base { OnOk result (self.new.base ≡ base) }
         ensures starts { OnOk result (self.new.starts ≡ with_starts self.old.starts starts.now) }
-        ensures read { OnOk result ((c : List ℕ) → AddsFrom self.old.starts self.old.base.line starts.now → IsRead c self.old → IsRead c self.new) }
+        ensures read { OnOk result ((c : List ℕ) → AddsFrom self.old.starts self.old.base.line starts.now
+            → IsRead c self.old → IsRead c self.new) }
         ensures pages { OnOk result ((self.new.cache ≡ self.old.cache) × (self.new.tail ≡ None)) }
 
         ensures refused { OnErr result (self.new ≡ self.old) }

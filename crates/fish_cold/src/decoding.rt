@@ -1,6 +1,7 @@
 //! Entries and key entries, from the words of a page. Nothing is believed of the words.
 
-ghost use Rattle.std.specs.Prelude.{◌≡◌, ◌↔◌, ◌+◌, ◌*◌, ◌%◌, ◌^◌, ◌<◌, ◌≤◌, ℕ, Some, IfErr, IfOk, IfSome, IsSome, MatchOption, drop, length};
+ghost use Rattle.std.specs.Prelude.{◌≡◌, ◌↔◌, ◌+◌, ◌*◌, ◌%◌, ◌^◌, ◌<◌, ◌≤◌, ℕ, Some};
+ghost use Rattle.std.specs.Prelude.{IfErr, IfOk, IfSome, IsSome, MatchOption, drop, length};
 ghost use Rattle.fish_catalog.specs.declared.entry.Entry.TheVariants.{Stored};
 ghost use Rattle.fish_cold.specs.Shown.{IsShownIn, Shows};
 ghost use Rattle.fish_cold.specs.Answers.{Answers, EndsWalk, HasNode, IsLinkable, IsOlderAt, IsReadingOf, LoadsWords, Walks};

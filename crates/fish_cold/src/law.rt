@@ -29,8 +29,8 @@ pub fn chains_lead_down()
     ensures newest { (places : List (ℕ × ℕ)) (b : ℕ) → head_of places b ≢ 0 → Splits places b }
     ensures links { (image : List ℕ) (n : ℕ) (end : Reached) (prior : IsPrior image n end) (b place : ℕ) (taken behind : List (ℕ × ℕ))
         → end.places ≡ taken ++ (b, place) ∷ behind → IsLink prior b place behind }
-    ensures all { (image : List ℕ) (n : ℕ) (end : Reached) (prior : IsPrior image n end) (b place m : ℕ) (p : BodyParts) (j : ℕ) (k : KeyPart)
-        → IsKeyAt prior b place m p j k → IsAmong end.places b place }
+    ensures all { (image : List ℕ) (n : ℕ) (end : Reached) (prior : IsPrior image n end) (b place m : ℕ) (p : BodyParts) (j : ℕ)
+        (k : KeyPart) → IsKeyAt prior b place m p j k → IsAmong end.places b place }
 {}
 
 /// On a disk that carries its table a key entry of a number below the base is on its page.

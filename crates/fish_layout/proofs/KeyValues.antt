@@ -38,6 +38,7 @@ key_points {p} {ws} h c k within is keys counted =
       kind = says.kind;
       within = omega (arith, values_within p.keys c k within is, says.offset, says.size);
       room = omega (arith, body_room h, ap length (range_from ws (1 + 3 * keys)), length-drop (1 + 3 * keys) ws);
-      bytes = ap (λ m. take m (drop from (bytes_in (take (length ws - (1 + 3 * keys)) (drop (1 + 3 * keys) ws)) (length (values_of p.keys))))) (sym size)
+      bytes = ap (λ m. take m (drop from (bytes_in (take (length ws - (1 + 3 * keys)) (drop (1 + 3 * keys) ws))
+          (length (values_of p.keys))))) (sym size)
           ∙ value_pointed c k _ from many h within is all (λ i. from) (λ i. many);
     }

@@ -49,5 +49,6 @@ returns-clause-entry g c =
           ∙ ap (λ n. Stored n c.in-Some.payload.form c.in-Some.payload.payload) is.lane
           ∙ ap (λ f. Stored p.lane f c.in-Some.payload.payload) is.form
           ∙ ap (Stored p.lane p.form) is.payload),
-      λ h. absurd (c.if-rest-void_header.false (h.3 ∙ ap void_word (sym (says_void c.args.rest.now h) ∙ sym lines) ∙ sym c.void_header.ensures)),
+      λ h. absurd (c.if-rest-void_header.false (h.3 ∙ ap void_word (sym (says_void c.args.rest.now h) ∙ sym lines)
+          ∙ sym c.void_header.ensures)),
     )

@@ -10,7 +10,8 @@ returns-then-lines-eq0 c k line h =
     let pushed = c.in_ok-push.ensures.items in
     let none = sym c.lines_in-lines.ensures.value ∙ c.if-lines-eq0.true in
     subst (λ l. slice_get l k ≡ Some line) (sym pushed)
-    (found_all c.args.words.now c.args.first c.loop-line.line c.loop-line.regions.items c.loop-line.invariant.found c.loop-line.invariant.here none k line h)
+    (found_all c.args.words.now c.args.first c.loop-line.line c.loop-line.regions.items c.loop-line.invariant.found
+    c.loop-line.invariant.here none k line h)
 
 pub loop-line-preserved : goal.loop-line-preserved
 loop-line-preserved c =
@@ -31,5 +32,5 @@ loop-line-preserved c =
 pub returns : goal.returns
 returns c k line h =
     let stop = c.loop-line-test.false in
-    found_before c.args.words.now c.args.first c.loop-line.line c.loop-line.regions.items c.loop-line.invariant.found c.loop-line.invariant.here
-    (omega arith) k line h
+    found_before c.args.words.now c.args.first c.loop-line.line c.loop-line.regions.items
+    c.loop-line.invariant.found c.loop-line.invariant.here (omega arith) k line h

@@ -11,5 +11,7 @@ returns-clause-page g c =
       words = is;
       regions = λ start h.
           let first = c.first_line-first.ensures start (c.start_in.ensures start h) in
-          subst (λ n. AreRegions c.in_ok-words.words.items n c.in_ok-regions.regions.items) first (subst (λ l. AreRegions l c.first_line-first.result c.in_ok-regions.regions.items) c.as_slice.ensures.value c.in_ok-regions.ensures);
+          subst (λ n. AreRegions c.in_ok-words.words.items n c.in_ok-regions.regions.items) first
+          (subst (λ l. AreRegions l c.first_line-first.result c.in_ok-regions.regions.items)
+          c.as_slice.ensures.value c.in_ok-regions.ensures);
     })

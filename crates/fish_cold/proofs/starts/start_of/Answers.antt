@@ -9,16 +9,20 @@ use Rattle.fish_cold.proofs.starts.start_of.Goals as goal
 
 pub returns-then-behind-eq0 : goal.returns-then-behind-eq0
 returns-then-behind-eq0 c start h =
-    let parted = IsPartitionedBy-leb (λ (s : PageStart). s.number) c.args.starts.now c.args.number (numbers_rise c.args.starts.now h.rise) in
-    let point = IsPartitionPoint-from_clause (λ (s : PageStart). leb (s.number) c.args.number) _ _ c.partition_point-behind.ensures.partitioned parted (λ a r q k. search rules) in
+    let parted = IsPartitionedBy-leb (λ (s : PageStart). s.number) c.args.starts.now c.args.number
+    (numbers_rise c.args.starts.now h.rise) in
+    let point = IsPartitionPoint-from_clause (λ (s : PageStart). leb s.number c.args.number) _ _
+    c.partition_point-behind.ensures.partitioned parted (λ a r q k. search rules) in
     let at = behind_start c.args.starts.now c.args.number start c.partition_point-behind.result h c.partition_point-behind.ensures.bound
     (λ k d less. leb-true _ _ (point.0 k d (omega arith) less)) (λ k d from less. leb-false _ _ (point.1 k d from less)) in
     absurd (omega (arith, c.if-behind-eq0.true))
 
 pub returns : goal.returns
 returns c start h =
-    let parted = IsPartitionedBy-leb (λ (s : PageStart). s.number) c.args.starts.now c.args.number (numbers_rise c.args.starts.now h.rise) in
-    let point = IsPartitionPoint-from_clause (λ (s : PageStart). leb (s.number) c.args.number) _ _ c.partition_point-behind.ensures.partitioned parted (λ a r q k. search rules) in
+    let parted = IsPartitionedBy-leb (λ (s : PageStart). s.number) c.args.starts.now c.args.number
+    (numbers_rise c.args.starts.now h.rise) in
+    let point = IsPartitionPoint-from_clause (λ (s : PageStart). leb s.number c.args.number) _ _
+    c.partition_point-behind.ensures.partitioned parted (λ a r q k. search rules) in
     let at = behind_start c.args.starts.now c.args.number start c.partition_point-behind.result h c.partition_point-behind.ensures.bound
     (λ k d less. leb-true _ _ (point.0 k d (omega arith) less)) (λ k d from less. leb-false _ _ (point.1 k d from less)) in
     let place : c.partition_point-behind.result - 1 ≡ h.at = omega arith in

@@ -11,7 +11,8 @@ returns-clause-read c content behind read =
     record {
       cached = λ n page among.
           subst (λ s. IsPageIn c.args.base.line s content n page)
-          (sym (c.in_ok-all.ensures ∙ ap (λ l. with_starts l c.as_slice-2.result.now) c.as_slice.ensures ∙ ap (with_starts c.args.self.now.starts) c.as_slice-2.ensures))
+          (sym (c.in_ok-all.ensures ∙ ap (λ l. with_starts l c.as_slice-2.result.now) c.as_slice.ensures
+          ∙ ap (with_starts c.args.self.now.starts) c.as_slice-2.ensures))
           (page_grown c.args.self.now.base.line c.args.base.line c.args.self.now.starts c.args.starts.now content n page later
           (read.older n page among) behind (read.cached n page among));
       older = λ n page among. (let low = read.older n page among in omega arith);
