@@ -5,6 +5,7 @@ pub mod Covering
 pub mod Intervals
 pub mod Limits
 pub mod Listing
+pub mod PageStarts
 pub mod Restoring
 pub mod Rows
 pub mod Words

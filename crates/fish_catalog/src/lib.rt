@@ -22,7 +22,7 @@ pub use entry::{Entries, Entry};
 pub use interval::{Interval, Intervals};
 pub use law::clamps_cover_alike;
 pub use listed::Listed;
-pub use page_start::{PageStart, PageStarts};
+pub use page_start::{PageStart, PageStarts, page_after};
 pub use restore::count_active;
 pub use row::{CatRow, MAX_NAME, is_name};
 pub use words::{ROW_WORDS, active_in, read_row, row_words};

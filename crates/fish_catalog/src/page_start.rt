@@ -1,5 +1,9 @@
 //! Where the pages of a log begin to hold regions.
 
+ghost use Rattle.std.specs.Prelude.{◌≡◌};
+ghost use Rattle.fish_catalog.specs.PageStarts.{page_after as next_page};
+
+use fish_layout::PAGE_LINES;
 use fish_value::Sequence;
 
 /// The first region that begins in a page of 32,768 lines.
@@ -13,3 +17,14 @@ pub struct PageStart {
 
 /// The page starts of a log, by number.
 pub type PageStarts = Sequence<PageStart>;
+
+/// The page after the last one that holds a region.
+pub fn page_after(starts: &[PageStart]) -> u64
+    ensures { result ≡ next_page starts.now }
+{
+    let last = starts.len().saturating_sub(1);
+    match starts.get(last).copied() {
+        Some(start) => start.line / PAGE_LINES + 1,
+        None => 0,
+    }
+}

@@ -11,7 +11,8 @@ use Rattle.std.proofs.lemmas.List.{ext_get_or, length-set, set-append_right, tak
 use Rattle.std.proofs.Math.Seq.{take-append_seam}
 use Rattle.fish_image.proofs.Spelling.{parted}
 use Rattle.fish_image.specs.Progress.{AreHeads}
-use Rattle.fish_image.specs.Reached.{AreLinked, bucket_of_key, head_of, place_of, with_keys}
+use Rattle.fish_image.specs.Reached.{AreLinked, bucket_of_key, head_of, with_keys}
+use Rattle.fish_layout.specs.Pages.{place_of}
 use Rattle.fish_flush.specs.Linking.{AreSpelled}
 use Rattle.fish_layout.proofs.Buckets.{bucket_of-key}
 use Rattle.fish_layout.proofs.Clearing.{head_stays}

@@ -8,7 +8,8 @@ use Rattle.fish_catalog.specs.declared.commit.Commit.{Commit}
 use Rattle.fish_catalog.specs.declared.entry.Entry.{Entry}
 use Rattle.fish_catalog.specs.declared.page_start.PageStart.{PageStart}
 use Rattle.fish_flush.specs.Linking.{AreSpelled}
-use Rattle.fish_flush.specs.Reading.{IsLineAt, IsReadTo, starts_after}
+use Rattle.fish_flush.specs.Reading.{IsLineAt, IsReadTo}
+use Rattle.fish_catalog.specs.PageStarts.{starts_after}
 use Rattle.fish_flush.specs.Rows.{HoldsRows}
 use Rattle.fish_flush.proofs.Growing.{grown_agrees, grown_self, meant_self}
 use Rattle.fish_flush.proofs.TableRegions.{IsNextRegion, record_next, record_words, some_lines}
@@ -16,7 +17,8 @@ use Rattle.fish_flush.proofs.TableRegions.{void_keys, void_next}
 use Rattle.fish_image.proofs.Agreement.{agrees_more, agrees_number}
 use Rattle.fish_image.specs.Log.{Agrees, Follows, FollowsAt, FollowsIn, region, region_lines}
 use Rattle.fish_image.specs.Progress.{AreHeads}
-use Rattle.fish_image.specs.Reached.{Reached, page_of}
+use Rattle.fish_image.specs.Reached.{Reached}
+use Rattle.fish_layout.specs.Pages.{page_of}
 use Rattle.fish_layout.proofs.Outlines.{body_room}
 use Rattle.fish_layout.proofs.Spelled.{body_says}
 use Rattle.fish_layout.specs.Header.{keys_of}

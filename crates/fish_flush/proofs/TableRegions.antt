@@ -17,7 +17,8 @@ use Rattle.fish_flush.proofs.TableKeys.{table_keys}
 use Rattle.fish_image.proofs.Regions.{keyless}
 use Rattle.fish_image.specs.Log.{AreSomeOf, FollowsIn, HasKeys, behind_record, values_under, void_words}
 use Rattle.fish_image.specs.Progress.{AreHeads}
-use Rattle.fish_image.specs.Reached.{AreLinked, Reached, behind, page_of, with_keys}
+use Rattle.fish_image.specs.Reached.{AreLinked, Reached, behind, with_keys}
+use Rattle.fish_layout.specs.Pages.{page_of}
 use Rattle.fish_layout.proofs.Clearing.{choose_first, choose_second}
 use Rattle.fish_layout.proofs.Headers.{keys_of-void, lines_of-void}
 use Rattle.fish_layout.proofs.Links.{relinked_lines, unlinked_is}

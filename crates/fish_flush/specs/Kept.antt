@@ -1,5 +1,5 @@
 -- What a flusher keeps of the last commit.
-use Rattle.std.specs.Prelude.{ℕ, ◌≡◌, ◌+◌, ◌-◌, ◌*◌, ◌^◌, ◌≤◌, List, [], length, Option, Some, None, slice_get}
+use Rattle.std.specs.Prelude.{ℕ, ◌≡◌, ◌+◌, ◌-◌, ◌*◌, ◌^◌, ◌≤◌, List, [], length}
 use Rattle.fish_catalog.specs.Limits.{newest_format}
 use Rattle.fish_catalog.specs.declared.commit.Commit.{Commit}
 use Rattle.fish_catalog.specs.declared.entry.Entry.{Entry}
@@ -7,7 +7,7 @@ use Rattle.fish_catalog.specs.declared.page_start.PageStart.{PageStart}
 use Rattle.fish_catalog.specs.declared.row.CatRow.{CatRow}
 use Rattle.fish_flush.specs.declared.flusher.Flusher.{Flusher}
 use Rattle.fish_image.specs.Progress.{AreHeads}
-use Rattle.fish_image.specs.Reached.{page_of}
+use Rattle.fish_catalog.specs.PageStarts.{page_after}
 use Rattle.fish_image.specs.Stands.{IsLog}
 use Rattle.fish_rule.specs.declared.table.Shape.{Shape}
 use Rattle.fish_slots.specs.Commits.{Rests}
@@ -30,15 +30,6 @@ commit_of f s rows =
       lines = f.line;
       rows = rows;
     }
-
--- the page after that of a region, or the first
-abbrev pub page_behind : Option PageStart → ℕ
-page_behind None = 0
-page_behind (Some start) = page_of start.line + 1
-
--- the page after the last one that holds a region
-abbrev pub page_after : List PageStart → ℕ
-page_after starts = page_behind (slice_get starts (length starts - 1))
 
 -- it is kept of a commit in a slot, with these heads and page starts
 pub record IsKeptOf (slot : ℕ) (c : Commit) (heads : List ℕ) (starts : List PageStart) (f : Flusher) : Type 0 where

@@ -1,13 +1,11 @@
 -- How far the log was copied.
-use Rattle.std.specs.Prelude.{ℕ, ◌≡◌, ◌+◌, ◌*◌, ◌^◌, ◌≤◌, ◌⊎◌, suc, List, [], ◌∷◌, ◌++◌, length}
-use Rattle.std.proofs.Math.Decide.{dec_le}
+use Rattle.std.specs.Prelude.{ℕ, ◌≡◌, ◌+◌, ◌*◌, ◌^◌, ◌≤◌, ◌⊎◌, suc, List, length}
 use Rattle.fish_catalog.specs.declared.commit.Commit.{Commit}
 use Rattle.fish_catalog.specs.declared.entry.Entry.{Entry}
 use Rattle.fish_catalog.specs.declared.page_start.PageStart.{PageStart}
 use Rattle.fish_image.specs.Log.{Agrees}
 use Rattle.fish_image.specs.Progress.{AreHeads}
-use Rattle.fish_image.specs.Reached.{Reached, page_of}
-use Rattle.fish_layout.specs.Cleared.{choose}
+use Rattle.fish_image.specs.Reached.{Reached}
 use Rattle.fish_rule.specs.Views.{Among}
 use Rattle.fish_rule.specs.declared.view.Found.{Found}
 use Rattle.fish_rule.specs.declared.view.View.{View}
@@ -20,11 +18,6 @@ IsLineAt v n line = ((n ≡ v.about.number) × (line ≡ v.about.line))
 -- lines up to the end of the table
 abbrev pub EndsWithin : ℕ → ℕ → ℕ → Type 0
 EndsWithin end from to = (from ≤ to) × (to ≤ end)
-
--- where pages begin to hold regions, with the region of a number that begins at a line: no page from one on had one yet
-abbrev pub starts_after : ℕ → ℕ → ℕ → List PageStart → List PageStart
-starts_after page number line starts =
-    choose (dec_le page (page_of line)) (starts ++ record { number = number; line = line } ∷ []) starts
 
 -- the words are those of so many entries, which agree with the commit's rows and end at the line; these are the newest key
 -- entries of all buckets, and where pages begin to hold regions, before the page in which none begins yet

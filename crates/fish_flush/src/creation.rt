@@ -15,14 +15,12 @@ use crate::refusal::FlushRefusal;
 use fish_catalog::{Catalog, Commit, NEWEST_FORMAT};
 use fish_disk::{Disk, write_synced};
 use fish_image::slot_body;
+use fish_layout::LINES_AT;
 use fish_outside::Failed;
 use fish_rule::Shape;
 use fish_slots::{open_gate, seal};
 use fish_value::Bytes;
 use std::alloc::{AllocError, Global};
-
-/// Where the first line is.
-const LINES_AT: usize = 180_224;
 
 /// Makes a store without a record on an empty disk. Six calls of the disk; all memory is taken before the
 /// first.
@@ -37,7 +35,7 @@ pub fn create<D: Disk>(alloc: Global, shape: Shape, disk: &mut D) -> Result<Flus
     ensures cause { HasFlushCause (D.faults disk.old) (D.faults disk.new) result }
     ensures memory { IsErrOf result FlushRefusal.OutOfMemory → disk.new ≡ disk.old }
 {
-    let zeros = zero_bytes(alloc, LINES_AT)?;
+    let zeros = zero_bytes(alloc, LINES_AT as usize)?;
     let heads = no_heads(alloc, 1 << shape.bucket_bits)?;
     let body = first_body(alloc, shape)?;
     put_first(disk, zeros.as_slice(), body.as_bytes())?;

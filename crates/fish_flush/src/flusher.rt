@@ -2,11 +2,10 @@
 
 ghost use Rattle.std.specs.Prelude.{◌≡◌, ◌≤◌, false, IfOk};
 ghost use Rattle.fish_flush.specs.Carrying.{flusher_after};
-ghost use Rattle.fish_flush.specs.Kept.{IsKeptOf, page_after};
+ghost use Rattle.fish_flush.specs.Kept.{IsKeptOf};
 
 use crate::drafting::Draft;
-use crate::pages::PAGE_LINES;
-use fish_catalog::{Checked, Commit, PageStart};
+use fish_catalog::{Checked, Commit, PageStart, page_after};
 use std::alloc::{AllocError, Global};
 
 /// What is kept of the last commit: the next one goes on from there.
@@ -47,7 +46,7 @@ impl Flusher {
             count: c.count,
             line: c.lines,
             heads: Vec::from_slice(alloc, checked.heads.as_slice())?,
-            page: next_page(checked.starts.as_slice()),
+            page: page_after(checked.starts.as_slice()),
             starts: Vec::from_slice(alloc, checked.starts.as_slice())?,
             shut: false,
         })
@@ -93,16 +92,5 @@ impl Flusher {
         ensures { result ≡ self.now.shut }
     {
         self.shut
-    }
-}
-
-/// The page after the last one that holds a region.
-fn next_page(starts: &[PageStart]) -> u64
-    ensures { result ≡ page_after starts.now }
-{
-    let last = starts.len().saturating_sub(1);
-    match starts.get(last).copied() {
-        Some(start) => start.line / PAGE_LINES + 1,
-        None => 0,
     }
 }

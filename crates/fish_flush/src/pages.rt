@@ -7,16 +7,8 @@ ghost use Rattle.fish_slots.specs.Places.{lines_at};
 ghost use Rattle.fish_flush.specs.Writing.{HasPut, pages_between};
 
 use fish_disk::Disk;
+use fish_layout::{LINE_BYTES, LINES_AT, PAGE_LINES};
 use fish_outside::Failed;
-
-/// The lines of a page.
-pub(crate) const PAGE_LINES: u64 = 32_768;
-
-/// The bytes of a line.
-const LINE_BYTES: u64 = 32;
-
-/// Where the first line is.
-const LINES_AT: u64 = 180_224;
 
 /// Writes lines from a line on, by one call of the disk for each page that they touch.
 pub(crate) fn write_pages<D: Disk>(disk: &mut D, line: u64, lines: &[u8]) -> Result<(), Failed>

@@ -6,14 +6,15 @@ ghost use Rattle.fish_catalog.specs.declared.entry.Entry.{Entry};
 ghost use Rattle.fish_rule.specs.LoadSteps.{CanLookAt};
 ghost use Rattle.fish_rule.specs.Logs.{AreTold, Extends, Tells};
 ghost use Rattle.fish_rule.specs.Passes.{IsPassOf, view};
-ghost use Rattle.fish_flush.specs.Reading.{EndsWithin, IsLineAt, IsReadTo, starts_after};
-ghost use Rattle.fish_image.specs.Reached.{page_of};
+ghost use Rattle.fish_flush.specs.Reading.{EndsWithin, IsLineAt, IsReadTo};
+ghost use Rattle.fish_catalog.specs.PageStarts.{starts_after};
+ghost use Rattle.fish_layout.specs.Pages.{page_of};
 ghost use Rattle.fish_flush.specs.Rows.{HoldsRows};
 
 use crate::flusher::Flusher;
 use crate::linking::link;
-use crate::pages::PAGE_LINES;
 use fish_catalog::PageStart;
+use fish_layout::PAGE_LINES;
 use fish_rule::{Log, Pass, line_of_word, look_at, read_region};
 use std::alloc::{AllocError, Global};
 

@@ -11,7 +11,8 @@ use Rattle.fish_layout.proofs.Outlines.{body_length}
 use Rattle.fish_layout.proofs.Sizes.{roomy}
 use Rattle.fish_image.specs.Log.{Agrees, FollowsIn}
 use Rattle.fish_image.specs.Newest.{IsAmong, IsNewest}
-use Rattle.fish_image.specs.Reached.{Reached, bucket_of_key, head_of, place_of, with_keys}
+use Rattle.fish_image.specs.Reached.{Reached, bucket_of_key, head_of, with_keys}
+use Rattle.fish_layout.specs.Pages.{place_of}
 
 -- places above 0 and below a bound that descend
 abbrev Descend : ℕ → List (ℕ × ℕ) → Type 0

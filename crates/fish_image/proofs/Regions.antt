@@ -19,7 +19,8 @@ use Rattle.fish_layout.specs.declared.parts.BodyParts.{BodyParts}
 use Rattle.fish_layout.specs.declared.parts.KeyPart.{KeyPart}
 use Rattle.fish_layout.proofs.Numbers.{body_numbered}
 use Rattle.fish_image.specs.Progress.{AreHeads}
-use Rattle.fish_image.specs.Reached.{AreLinked, bucket_of_key, head_of, place_of, with_keys}
+use Rattle.fish_image.specs.Reached.{AreLinked, bucket_of_key, head_of, with_keys}
+use Rattle.fish_layout.specs.Pages.{place_of}
 use Rattle.fish_image.proofs.Spelling.{parted}
 
 -- of no key entry is a word the second

@@ -14,7 +14,8 @@ use Rattle.fish_layout.specs.declared.parts.BodyParts.{BodyParts}
 use Rattle.fish_layout.specs.declared.parts.KeyPart.{KeyPart}
 use Rattle.fish_psf.specs.Records.{evaluation, is_record}
 use Rattle.fish_value.specs.declared.value.Value.{Value}
-use Rattle.fish_image.specs.Reached.{AreLinked, Reached, behind, page_of, unread, with_keys}
+use Rattle.fish_image.specs.Reached.{AreLinked, Reached, behind, unread, with_keys}
+use Rattle.fish_layout.specs.Pages.{page_of}
 
 -- ---- the keys of a record
 

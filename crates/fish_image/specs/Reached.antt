@@ -1,10 +1,10 @@
 -- How far the words of a log were read.
-use Rattle.std.specs.Prelude.{ℕ, ◌≡◌, ◌+◌, ◌*◌, ◌/◌, ◌==◌, List, [], ◌∷◌, ◌++◌, if◌then◌else◌}
-use Rattle.std.proofs.Math.Decide.{dec_le}
+use Rattle.std.specs.Prelude.{ℕ, ◌≡◌, ◌+◌, ◌==◌, List, [], ◌∷◌, ◌++◌, if◌then◌else◌}
 use Rattle.fish_catalog.specs.declared.entry.Entry.{Entry}
 use Rattle.fish_catalog.specs.declared.page_start.PageStart.{PageStart}
-use Rattle.fish_layout.specs.Cleared.{choose, entry_at}
+use Rattle.fish_catalog.specs.PageStarts.{starts_after}
 use Rattle.fish_layout.specs.Hash.{bucket_in, key_hash_of}
+use Rattle.fish_layout.specs.Pages.{page_of, place_of}
 use Rattle.fish_layout.specs.declared.parts.KeyPart.{KeyPart}
 
 -- how far words were read: the next line and the next number, the number of the first page in which no region begins yet,
@@ -30,10 +30,6 @@ head_of (place ∷ places) b = if place.0 == b then place.1 else head_of places 
 abbrev pub bucket_of_key : ℕ → KeyPart → ℕ
 bucket_of_key buckets k = bucket_in (key_hash_of k.id k.value) buckets
 
--- the place of key entry c of the record at a line, in words from the log's start
-abbrev pub place_of : ℕ → ℕ → ℕ
-place_of line c = 4 * line + entry_at c
-
 -- the key entries with those of the record at a line, from entry c on
 abbrev pub with_keys : ℕ → ℕ → ℕ → List KeyPart → List (ℕ × ℕ) → List (ℕ × ℕ)
 with_keys buckets line c [] places = places
@@ -47,14 +43,9 @@ AreLinked buckets line c (k ∷ ks) places =
     (k.prev ≡ head_of places (bucket_of_key buckets k))
     × AreLinked buckets line (c + 1) ks ((bucket_of_key buckets k, place_of line c) ∷ places)
 
--- the page of a line
-abbrev pub page_of : ℕ → ℕ
-page_of line = line / 32768
-
 -- where pages begin to hold regions, with the region that begins at the next line
 abbrev pub starts_behind : Reached → List PageStart
-starts_behind s =
-    choose (dec_le s.page (page_of s.line)) (s.starts ++ record { number = s.number; line = s.line } ∷ []) s.starts
+starts_behind s = starts_after s.page s.number s.line s.starts
 
 -- behind a region of so many lines that holds an entry, with these key entries
 abbrev pub behind : Reached → ℕ → List (ℕ × ℕ) → Entry → Reached

@@ -12,7 +12,8 @@ ghost use Rattle.fish_layout.specs.Header.{lines_of};
 ghost use Rattle.fish_layout.specs.declared.parts.BodyParts.{BodyParts};
 ghost use Rattle.fish_image.specs.Log.{FollowsIn, IsKeptAt, IsRecordAt, behind_record, void_words};
 ghost use Rattle.fish_image.specs.Progress.{AreHeads, IsAt, Linked, Took};
-ghost use Rattle.fish_image.specs.Reached.{Reached, behind, page_of};
+ghost use Rattle.fish_image.specs.Reached.{Reached, behind};
+ghost use Rattle.fish_layout.specs.Pages.{page_of};
 ghost use Rattle.fish_image.specs.Terms.{AreTermsOf};
 ghost use Rattle.fish_image.specs.Regions.{CanTake, HasKeysIn};
 
@@ -20,15 +21,14 @@ use crate::keys::has_keys;
 use crate::progress::Progress;
 use crate::terms::{IndexRow, Terms};
 use fish_catalog::PageStart;
-use fish_layout::{BodyParts, KeyPart, bucket_of, key_hash, lines_in, read_body, void_header};
+use fish_layout::{
+    BodyParts, KeyPart, PAGE_LINES, bucket_of, key_hash, lines_in, read_body, void_header,
+};
 use fish_psf::{PsfRefusal, Steps};
 use fish_read::RecordReader;
 use std::alloc::{AllocError, Global};
 use std::marker::Brand;
 use std::sync::ledger::{Blank, Ledger};
-
-/// The lines of a page.
-const PAGE_LINES: u64 = 32_768;
 
 /// Reads the next region, and answers whether it agrees with what was committed.
 pub(crate) fn take_region(

@@ -6,6 +6,7 @@ pub mod Clearing
 pub mod Entries
 pub mod Fields
 pub mod Headers
+pub mod KeyValues
 pub mod KeyWords
 pub mod Links
 pub mod Numbers
@@ -15,3 +16,4 @@ pub mod PowersOfTwo
 pub mod Sizes
 pub mod Spelled
 pub mod Utf8
+pub mod ValueBytes

@@ -111,7 +111,7 @@ no_values [] h = refl
 no_values (k ∷ ks) h = absurd (omega arith)
 
 -- the words from a place on, as a range of a slice gives them
-range_from : (ws : List ℕ) (n : ℕ) → take (length ws - n) (drop n ws) ≡ drop n ws
+pub range_from : (ws : List ℕ) (n : ℕ) → take (length ws - n) (drop n ws) ≡ drop n ws
 range_from ws n = take_all (length ws - n) (drop n ws) (omega (arith, length-drop n ws))
 
 -- the payload, as the outline places it

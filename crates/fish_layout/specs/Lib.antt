@@ -7,4 +7,6 @@ pub mod Hash
 pub mod Header
 pub mod Headers
 pub mod Outline
+pub mod Pages
+pub mod Payloads
 pub mod Values

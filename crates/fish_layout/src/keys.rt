@@ -1,7 +1,9 @@
 //! Words as key entries.
 
 ghost use Rattle.std.specs.Prelude.{◌≡◌, ◌+◌, ◌*◌, ◌<◌, ◌≤◌, ◌^◌, Bool, ℤ, IfOk, IfSome};
-ghost use Rattle.std.specs.Prelude.{IsTrue, IsUtf8, Some, length, slice_index_or};
+ghost use Rattle.std.specs.Prelude.{ℕ, IsTrue, IsUtf8, Some, drop, length, slice_index_or, take};
+ghost use Rattle.fish_layout.specs.Bytes.{bytes_in, words_for as words_for_bytes};
+ghost use Rattle.fish_layout.specs.Entry.{value_kind, value_offset, value_size};
 ghost use Rattle.fish_layout.specs.Body.{IsBody, IsProperValue, values_of};
 ghost use Rattle.fish_layout.specs.Values.{kind_code, value_bytes};
 ghost use Rattle.fish_layout.specs.declared.parts.BodyParts.{BodyParts};
@@ -10,7 +12,9 @@ ghost use Rattle.fish_value.specs.Number.{fits_i64};
 ghost use Rattle.fish_value.specs.declared.value.Value.{Value};
 
 use crate::parts::{KeyPart, KeyParts};
-use crate::word::{id_in, kind_in, offset_in, size_in};
+use crate::read::read_bytes;
+use crate::word::{id_in, keys_in, kind_in, offset_in, size_in};
+use crate::write::words_for;
 use fish_value::{Sequence, Text, Value};
 use std::alloc::{AllocError, Global};
 
@@ -64,6 +68,48 @@ fn read_key(
         id: id_in(words[at + 1]),
         value,
     }))
+}
+
+/// The key entry at a place of what may be a record, or none where the words are no record that has it. Of the
+/// words it reads the header, the three of the entry, and those in which its value lies: 37 at most.
+pub fn find_key(alloc: Global, words: &[u64], place: usize) -> Result<Option<KeyPart>, AllocError>
+    ensures { IfOk result (λ o. (p : BodyParts) (k : KeyPart) → IsBody p words.now → place < length p.keys
+        → k ≡ slice_index_or p.keys place k → o ≡ Some k) }
+{
+    if words.is_empty() {
+        return Ok(None);
+    }
+    let keys = usize::from(keys_in(words[0]));
+    if keys <= place || words.len() <= 3 * keys {
+        return Ok(None);
+    }
+    let at = 1 + 3 * place;
+    let third = words[at + 2];
+    let Some(value) = find_value(alloc, &words[1 + 3 * keys..], third)? else {
+        return Ok(None);
+    };
+    Ok(Some(KeyPart {
+        prev: words[at],
+        id: id_in(words[at + 1]),
+        value,
+    }))
+}
+
+/// The value at which the third word of a key entry points, among the words behind all key entries, or none where
+/// there can be none.
+fn find_value(alloc: Global, words: &[u64], third: u64) -> Result<Option<Value>, AllocError>
+    ensures { IfOk result (λ o. (v : Value) (n : ℕ) → IsProperValue v → value_kind third ≡ kind_code v
+        → value_offset third + value_size third ≤ n → words_for_bytes n ≤ length words.now
+        → take (value_size third) (drop (value_offset third) (bytes_in words.now n)) ≡ value_bytes v → o ≡ Some v) }
+{
+    let first = offset_in(third) / 8;
+    let skip = offset_in(third) % 8;
+    let end = skip + size_in(third);
+    if words.len() < first + words_for(end) {
+        return Ok(None);
+    }
+    let bytes = read_bytes(alloc, &words[first..], end)?;
+    read_value(alloc, kind_in(third), &bytes[skip..])
 }
 
 /// The value of a kind with these bytes, or none where there can be none.

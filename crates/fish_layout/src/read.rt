@@ -4,6 +4,7 @@ ghost use Rattle.std.specs.Prelude.{◌≡◌, ◌+◌, ◌*◌, ◌/◌, ◌<�
 ghost use Rattle.std.specs.Prelude.{IsSome, IsTrue, IsUtf8, MatchOption, Some, length};
 ghost use Rattle.fish_layout.specs.Body.{IsBody, IsProperValue, values_of};
 ghost use Rattle.fish_layout.specs.Bytes.{bytes_in, words_for as words_for_bytes};
+ghost use Rattle.fish_layout.specs.Payloads.{IsPayloadOf};
 ghost use Rattle.fish_layout.specs.Values.{kind_code, value_bytes};
 ghost use Rattle.fish_layout.specs.declared.parts.BodyParts.{BodyParts};
 ghost use Rattle.fish_value.specs.declared.value.Value.{Value};
@@ -53,6 +54,26 @@ fn text_of(bytes: Vec<u8>) -> Text
     ensures { result ≡ bytes.items }
 {
     Text::from_string(unsafe { String::from_utf8_unchecked(bytes) })
+}
+
+/// The lane, the form and the payload of what may be a record, or none where the words are no record. It
+/// reads as `read_payload` does, but asks nothing of the words: of those that are no record it may answer
+/// anything.
+pub fn find_payload(alloc: Global, words: &[u64]) -> Result<Option<Payload>, AllocError>
+    ensures { IfOk result (λ o. MatchOption o (¬ ((p : BodyParts) × IsBody p words.now))
+        (λ r. (p : BodyParts) → IsBody p words.now → IsPayloadOf p r)) }
+{
+    let Some(outline) = outline_of(words) else {
+        return Ok(None);
+    };
+    let Some(payload) = read_text(alloc, &words[outline.payload_at()..], outline.payload)? else {
+        return Ok(None);
+    };
+    Ok(Some(Payload {
+        lane: outline.lane,
+        form: outline.form,
+        payload,
+    }))
 }
 
 /// The parts of the record that words are, or none where they are no record. The number of a
@@ -137,7 +158,7 @@ fn read_text(alloc: Global, words: &[u64], len: usize) -> Result<Option<Text>, A
 }
 
 /// So many bytes from the front of words.
-fn read_bytes(alloc: Global, words: &[u64], len: usize) -> Result<Vec<u8>, AllocError>
+pub(crate) fn read_bytes(alloc: Global, words: &[u64], len: usize) -> Result<Vec<u8>, AllocError>
     requires few { len < 2 ^ 20 }
     requires room { words_for_bytes len ≤ length words.now }
     ensures { IfOk result (λ b. b.items ≡ bytes_in words.now len) }

@@ -1,11 +1,12 @@
 -- What is left of a log that is closed.
-use Rattle.std.specs.Prelude.{ℕ, ◌≡◌, ◌≢◌, ◌+◌, ◌*◌, ◌/◌, ◌<◌, ◌≤◌, suc, List, [], ◌∷◌, ◌++◌, length, Bool, true, false}
+use Rattle.std.specs.Prelude.{ℕ, ◌≡◌, ◌≢◌, ◌+◌, ◌*◌, ◌<◌, ◌≤◌, suc, List, [], ◌∷◌, ◌++◌, length, Bool, true, false}
 use Rattle.std.specs.Prelude.{Option, Some, None, ⊤}
 use Rattle.std.proofs.Common.{◌⊎◌}
 use mathlib.Core.Option.{some}
 use Rattle.std.proofs.Math.ListN.{get_elem?}
 use Rattle.fish_catalog.specs.declared.entry.Entry.{Entry}
 use Rattle.fish_catalog.specs.declared.page_start.PageStart.{PageStart}
+use Rattle.fish_layout.specs.Pages.{page_of}
 use Rattle.fish_rule.specs.Facts.{Facts, Owns}
 use Rattle.fish_rule.specs.Logs.{AreTold, IsLog, Learns, TellsNext}
 use Rattle.fish_rule.specs.Parts.{Rests, first_head}
@@ -25,10 +26,6 @@ use Rattle.fish_rule.specs.declared.view.Position.{Position}
 use Rattle.fish_rule.specs.declared.view.View.{View}
 
 -- ---- page starts
-
--- the page that a line is in
-abbrev pub page_of : ℕ → ℕ
-page_of line = line / 32768
 
 -- the pages of page starts rise
 abbrev pub PagesRise : List PageStart → Type 0

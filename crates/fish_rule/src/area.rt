@@ -12,9 +12,6 @@ ghost use Rattle.fish_rule.specs.World.{dir_at as first_directory_word, log_at a
 use crate::table::Log;
 use crate::view::Key;
 
-/// The lines of a page.
-pub(crate) const PAGE_LINES: u64 = 32_768;
-
 /// The version.
 pub(crate) const VERSION: u64 = 2;
 

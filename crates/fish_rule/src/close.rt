@@ -2,12 +2,12 @@
 
 ghost use Rattle.std.specs.Prelude.{◌≡◌, ◌+◌, ◌<◌, ◌≤◌, ℕ, [], true, suc, length, IfOk, IfErr, OnErr, OnOk};
 ghost use Rattle.fish_rule.specs.ClosedLog.{AreHeads, HasStart, IsAdded, IsClosed, IsNext, IsRead, IsReadUpTo, ReadsOn};
-ghost use Rattle.fish_rule.specs.ClosedLog.{StaysOpen, page_of};
+ghost use Rattle.fish_rule.specs.ClosedLog.{StaysOpen};
+ghost use Rattle.fish_layout.specs.Pages.{page_of};
 ghost use Rattle.fish_rule.specs.Logs.{Extends};
 ghost use Rattle.fish_rule.specs.Passes.{IsOf, IsPassOf, view};
 ghost use Rattle.fish_rule.specs.LoadSteps.{CanLookAt, IsAlone};
 
-use crate::area::PAGE_LINES;
 use crate::entry::read_record;
 use crate::linking::load_head;
 use crate::registry::load_version;
@@ -16,6 +16,7 @@ use crate::table::{Log, Pass};
 use crate::view::Kind;
 use crate::word::{kind_of_word, line_of_word};
 use fish_catalog::{Entries, Entry, PageStart, PageStarts};
+use fish_layout::PAGE_LINES;
 use fish_value::Numbers64;
 use std::alloc::{AllocError, Global};
 

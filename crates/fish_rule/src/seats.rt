@@ -12,7 +12,6 @@ ghost use Rattle.fish_rule.specs.Start.{CanOpen, IsFirst, IsFirstKey, IsShape};
 ghost use Rattle.fish_rule.specs.LoadSteps.{after_load_tail};
 ghost use Rattle.fish_rule.specs.Table.{first_view};
 
-use crate::area::PAGE_LINES;
 use crate::opening::empty_words;
 use crate::step_kinds::LoadTail;
 use crate::table::{Base, Log, Pass, Shape};
@@ -20,6 +19,7 @@ use crate::view::{Key, View};
 use crate::walk::NO_WALK;
 use atomic_table::{Join, Split, Table};
 use fish_catalog::Catalog;
+use fish_layout::PAGE_LINES;
 use fish_value::Numbers64;
 use std::alloc::{AllocError, Global};
 use std::snapshot::Snapshot;

@@ -16,13 +16,14 @@ ghost use Rattle.fish_rule.specs.World.{high, low, slots, log_at as first_log_wo
 ghost use Rattle.fish_rule.specs.declared.view.Flight.{Flight};
 ghost use Rattle.fish_rule.specs.declared.view.Found.{Found};
 
-use crate::area::{PAGE_LINES, dir_at, log_at, word_index};
+use crate::area::{dir_at, log_at, word_index};
 use crate::step_kinds::{
     ClaimLines, LoadSettled, LoadTail, LookAt, PublishRegion, RaiseSettled, ReadWord, StoreWord,
 };
 use crate::table::{Log, Pass, Region};
 use crate::view::{Kind, Position, Shut};
 use crate::word::{ONE, directory_word, position_in};
+use fish_layout::PAGE_LINES;
 
 /// The claim that shut a pass, its own or one that it learned of by a split or a join.
 pub fn is_shut(pass: &Pass) -> Option<Shut>

@@ -172,7 +172,7 @@ closes v tail read settled base version heads s alone is_tail h far are base_is 
         first = λ n line above below begins. (let c = upto.covers n above (omega arith) in (
           c.start,
           c.among,
-          c.page ∙ ap Rattle.fish_rule.specs.ClosedLog.page_of (sym (line_at v s n c.line c.has) ∙ begins),
+          c.page ∙ ap Rattle.fish_layout.specs.Pages.page_of (sym (line_at v s n c.line c.has) ∙ begins),
           c.upto,
         ));
       };

@@ -3,7 +3,8 @@ use Rattle.std.proofs.Common.{◌≡◌, ◌+◌, ◌*◌, ◌<◌, ℕ, List, l
 use Rattle.std.proofs.lemmas.Grind.{get_or_default_zero}
 use Rattle.std.proofs.lemmas.List.{length-set}
 use Rattle.fish_layout.specs.Hash.{bucket_in}
-use Rattle.fish_image.specs.Reached.{bucket_of_key, place_of}
+use Rattle.fish_image.specs.Reached.{bucket_of_key}
+use Rattle.fish_layout.specs.Pages.{place_of}
 use Rattle.fish_image.proofs.Regions.{link_all, link_first, link_next, link_stops}
 use Rattle.fish_image.proofs.region.link.Goals as goal
 

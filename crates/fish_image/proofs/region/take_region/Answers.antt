@@ -6,7 +6,8 @@ use Rattle.fish_catalog.specs.declared.entry.Entry.TheVariants.{Void}
 use Rattle.fish_layout.specs.declared.parts.BodyParts.{BodyParts}
 use Rattle.fish_image.specs.Log.{FollowsIn, IsRecordAt, IsVoidAt, behind_record, void_words}
 use Rattle.fish_image.specs.Progress.{Took}
-use Rattle.fish_image.specs.Reached.{Reached, behind, page_of}
+use Rattle.fish_image.specs.Reached.{Reached, behind}
+use Rattle.fish_layout.specs.Pages.{page_of}
 use Rattle.fish_image.specs.declared.progress.Progress.{Progress}
 use Rattle.fish_image.proofs.Regions.{no_void}
 use Rattle.fish_image.proofs.region.take_region.Goals as goal

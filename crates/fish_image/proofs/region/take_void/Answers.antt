@@ -1,7 +1,8 @@
 -- The reading goes on behind the padding.
 use Rattle.std.proofs.Common.{ℕ, arith, refl, subst, ◌<◌, ◌+◌, ◌-◌}
 use Rattle.fish_catalog.specs.declared.entry.Entry.TheVariants.{Void}
-use Rattle.fish_image.specs.Reached.{behind, page_of}
+use Rattle.fish_image.specs.Reached.{behind}
+use Rattle.fish_layout.specs.Pages.{page_of}
 use Rattle.fish_image.proofs.region.take_void.Goals as goal
 
 pub returns : goal.returns

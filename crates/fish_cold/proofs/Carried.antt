@@ -1,0 +1,203 @@
+-- Each number below the base of a disk that carries its table has its words.
+use Rattle.std.proofs.Common.{◌≡◌, ℕ, ◌+◌, ◌-◌, ◌*◌, ◌/◌, ◌%◌, ◌<◌, ◌≤◌, List, length, drop, inl, inr, refl, sym, ap}
+use Rattle.std.proofs.Common.{◌∙◌, subst, arith, length-drop}
+use Rattle.std.specs.Prelude.{Option, Some, Result, Ok, Err, IfSome}
+use Rattle.std.proofs.lemmas.List.{length-take}
+use Rattle.fish_image.specs.Log.{Follows, behind_record, region, region_lines}
+use Rattle.fish_layout.specs.Pages.{page_of}
+use Rattle.fish_image.specs.Stands.{words_in, words_of}
+use Rattle.fish_image.proofs.Agreement.{agrees_first, agrees_number, agrees_within, front_whole, goes}
+use Rattle.fish_rule.specs.declared.view.Key.{Key}
+use Rattle.fish_slots.specs.Places.{lines_at}
+use Rattle.fish_slots.specs.Slots.{line_count, lines_of}
+use Rattle.fish_cold.specs.Carries.{Carries, IsCarried, IsEntryAnswer, IsEntryOf, IsEntryRead}
+use Rattle.fish_catalog.specs.declared.entry.Entry.{Entry}
+use Rattle.fish_catalog.specs.declared.entry.Entry.TheVariants.{Stored}
+use Rattle.fish_cold.specs.Answers.{Answers, LoadsWords, Walks}
+use Rattle.fish_cold.specs.Cached.{HasNodeOn, HasRegion, IsRead, words_on}
+use Rattle.fish_cold.specs.declared.node.ColdNode.{ColdNode}
+use Rattle.fish_cold.proofs.ChainLemmas.{key_lower}
+use Rattle.fish_cold.specs.Chains.{IsKeyAt}
+use Rattle.fish_layout.specs.Body.{IsBody}
+use Rattle.fish_layout.specs.declared.parts.BodyParts.{BodyParts}
+use Rattle.fish_layout.specs.declared.parts.KeyPart.{KeyPart}
+use Rattle.fish_layout.proofs.Outlines.{body_length}
+use Rattle.fish_layout.proofs.Sizes.{roomy}
+use Rattle.fish_cold.specs.declared.refusal.ColdRefusal.{ColdRefusal}
+use Rattle.fish_cold.specs.declared.refusal.ColdRefusal.TheVariants.{Damaged, DiskFault, OutOfMemory}
+use Rattle.fish_cold.specs.Pages.{log_words, page_words}
+use Rattle.fish_cold.specs.Regions.{Leads}
+use Rattle.fish_cold.specs.Starts.{IsStartOf}
+use Rattle.fish_cold.specs.declared.cold.Cold.{Cold}
+use Rattle.fish_cold.proofs.LogWords.{are_pages, length-words_of, words_of-take}
+use Rattle.fish_cold.proofs.Priors.{all_started, carried_entry, entry_at, entry_in, line_grows, region_on}
+
+-- the words of lines are those of the file
+lines_words : (image : List ℕ) (m : ℕ) → words_in (lines_of m image) ≡ log_words image 0 (length (words_in (lines_of m image)))
+lines_words image m =
+    let bytes = lines_of m image in
+    let size = length-words_of (length bytes / 8) bytes in
+    let cut = length-take (32 * m) (drop lines_at image) in
+    words_of-take (length bytes / 8) (32 * m) (drop lines_at image) (omega arith)
+    ∙ ap (λ n. words_of n (drop lines_at image)) (sym size)
+
+lines_room : (image : List ℕ) (m : ℕ) → 0 < length (words_in (lines_of m image))
+    → lines_at + 8 * length (words_in (lines_of m image)) ≤ length image
+lines_room image m some =
+    let bytes = lines_of m image in
+    let size = length-words_of (length bytes / 8) bytes in
+    let cut = length-take (32 * m) (drop lines_at image) in
+    let behind = length-drop lines_at image in
+    omega arith
+
+pub carried : (content : Option (List ℕ)) (k : Key) (cold : Cold) (h : Carries content k cold) (n : ℕ) → n < k.number
+    → IsCarried cold h.image h.end n
+carried content k cold h n less =
+    let prior = h.prior in
+    let commit = prior.commit in
+    let counts = prior.has.counts in
+    let w = words_in prior.lines in
+    let is : w ≡ log_words h.image 0 (length w) =
+    subst (λ l. words_in l ≡ log_words h.image 0 (length (words_in l))) counts.lines_are (lines_words h.image (line_count prior.body)) in
+    let found = agrees_first commit w n k.number h.end less prior.agrees in
+    let t = found.0 in
+    let at = found.1 in
+    let u = found.2.0 in
+    let f = found.2.1 in
+    let g = goes commit t _ _ u f in
+    let some = g.some in
+    let front = front_whole commit t (drop (4 * t.line) w) u f in
+    let behind = length-drop (4 * t.line) w in
+    let many : 0 < length w = omega arith in
+    let room : lines_at + 8 * length w ≤ length h.image =
+    subst (λ l. 0 < length (words_in l) → lines_at + 8 * length (words_in l) ≤ length h.image) counts.lines_are
+    (lines_room h.image (line_count prior.body)) many in
+    let all = agrees_within commit w k.number h.end prior.agrees in
+    let line = h.line in
+    let base = h.base_line in
+    let pages = are_pages h.image w cold.base.line is (omega arith) room in
+    let words : ℕ → List ℕ = λ p. page_words cold.base.line p h.image in
+    let st = all_started commit w cold.base.line words pages k.number h.end prior.agrees (omega arith) in
+    let kept = st.kept n t less at in
+    let low = st.below kept.is_start.at kept.start kept.is_start.there in
+    let lower = low.2 in
+    let ends = line_grows commit w k.number h.end prior.agrees n t u less at f in
+    record {
+      rest = drop (4 * (t.line % 32768)) (page_words cold.base.line (page_of t.line) h.image);
+      region_is = record {
+        start = kept.start;
+        is_start = subst (λ s. IsStartOf s n kept.start) (sym h.starts) kept.is_start;
+        older = omega arith;
+        line = t.line % 32768;
+        leads = subst (λ p. Leads (page_words cold.base.line p h.image) (kept.start.line % 32768) (n - kept.start.number) (t.line % 32768))
+            (sym kept.page_is) kept.leads;
+        rest_is = ap (λ p. drop (4 * (t.line % 32768)) (page_words cold.base.line p h.image)) (sym kept.page_is);
+      };
+      entry = entry_in f;
+      there = entry_at commit w k.number h.end prior.agrees n t u less at f;
+      is = carried_entry commit w cold.base.line words pages t u f (omega arith);
+    }
+
+-- what is answered for the words of an entry is the entry
+pub answered_entry : (number : ℕ) (rest : List ℕ) (entry : Entry) (result : Result Entry ColdRefusal) → IsEntryOf rest entry
+    → Answers number rest result → IsEntryAnswer entry result
+answered_entry number rest entry (Ok found) (inl void) a = a.1 void.0 ∙ sym void.1
+answered_entry number rest entry (Ok found) (inr stored) a = a.0 stored.0 stored.1 ∙ sym stored.2
+answered_entry number rest entry (Err (Damaged n)) (inl void) a = a.2 void.0
+answered_entry number rest entry (Err (Damaged n)) (inr stored) a = a.1 stored.0 stored.1
+answered_entry number rest entry (Err DiskFault) is a = tt
+answered_entry number rest entry (Err OutOfMemory) is a = tt
+
+-- a key entry of the prior part stands on its page
+pub carried_key : (content : Option (List ℕ)) (k : Key) (cold : Cold) (h : Carries content k cold) (b place n : ℕ) (p : BodyParts) (j : ℕ)
+    (key : KeyPart) (at : IsKeyAt h.prior b place n p j key) → HasNodeOn cold h.image place (at.stored.at.line % 32768) p j key
+carried_key content k cold h b place n p j key at =
+    let prior = h.prior in
+    let commit = prior.commit in
+    let counts = prior.has.counts in
+    let w = words_in prior.lines in
+    let is : w ≡ log_words h.image 0 (length w) =
+    subst (λ l. words_in l ≡ log_words h.image 0 (length (words_in l))) counts.lines_are (lines_words h.image (line_count prior.body)) in
+    let stored = at.stored in
+    let t = stored.at in
+    let lines = region_lines (drop (4 * t.line) w) in
+    let u = behind_record commit t lines p in
+    let f : Follows commit w t u = inr (p, stored.is, refl) in
+    let g = goes commit t _ _ u f in
+    let some = g.some in
+    let front = front_whole commit t (drop (4 * t.line) w) u f in
+    let behind = length-drop (4 * t.line) w in
+    let many : 0 < length w = omega arith in
+    let room : lines_at + 8 * length w ≤ length h.image =
+    subst (λ l. 0 < length (words_in l) → lines_at + 8 * length (words_in l) ≤ length h.image) counts.lines_are
+    (lines_room h.image (line_count prior.body)) many in
+    let all = agrees_within commit w k.number h.end prior.agrees in
+    let line = h.line in
+    let base = h.base_line in
+    let pages = are_pages h.image w cold.base.line is (omega arith) room in
+    let words : ℕ → List ℕ = λ q. page_words cold.base.line q h.image in
+    let ends = line_grows commit w k.number h.end prior.agrees n t u stored.few stored.agrees f in
+    let in_page = stored.is.kept.in_page in
+    let size = stored.is.size in
+    let full = body_length stored.is.body in
+    let keys = roomy p in
+    let within = at.within in
+    let place_is = at.place_is in
+    let whole : 32768 * (t.line / 32768) + t.line % 32768 ≡ t.line = omega arith in
+    let small : t.line % 32768 < 32768 = omega arith in
+    let last : 32768 * ((t.line + lines - 1) / 32768) + (t.line + lines - 1) % 32768 ≡ t.line + lines - 1 = omega arith in
+    let low : (t.line + lines - 1) % 32768 < 32768 = omega arith in
+    let page : page_of t.line ≡ place / 131072 = omega arith in
+    record {
+      body = subst (λ q. IsBody p (region (drop (4 * (t.line % 32768)) (page_words cold.base.line q h.image)))) page
+          (subst (IsBody p) (sym (region_on commit w cold.base.line words pages t (omega arith) lines refl some in_page
+          (omega arith))) stored.is.body);
+      at = omega arith;
+      within = at.within;
+      is = at.is;
+    }
+
+-- ---- the calls
+
+-- what is said of a content that is known
+of_known : (o : Option (List ℕ)) (image : List ℕ) (P : List ℕ → Type 0) → o ≡ Some image → IfSome o P → P image
+of_known o image P is h = subst (λ x. IfSome x P) is h
+
+-- the entry of a number
+pub record_carried : (content : Option (List ℕ)) (k : Key) (cold : Cold) (h : Carries content k cold) (n : ℕ) → n < cold.base.number
+    → (old new : ℕ) (result : Result Entry ColdRefusal)
+    → IfSome content (λ c. (rest : List ℕ) → IsRead c cold → HasRegion cold c n rest
+    → Answers n rest result × LoadsWords rest old new result)
+    → IsEntryRead h n result
+record_carried content k cold h n less old new result says =
+    let base = h.base_number in
+    let at = carried content k cold h n (omega arith) in
+    let answers = of_known content h.image _ h.is says at.rest h.read at.region_is in
+    record { entry = at.entry; there = at.there; is = answered_entry n at.rest at.entry result at.is answers.0 }
+
+-- a key entry
+pub walk_carried : (content : Option (List ℕ)) (t : Key) (cold : Cold) (h : Carries content t cold) (b place n : ℕ) (p : BodyParts) (j : ℕ)
+    (key : KeyPart) → IsKeyAt h.prior b place n p j key → (below from : ℕ) → n < below → (result : Result (Option ColdNode) ColdRefusal)
+    → IfSome content (λ c. (line : ℕ) (p : BodyParts) (j : ℕ) (k : KeyPart) → IsRead c cold → HasNodeOn cold c place line p j k
+    → p.number < below → k.prev < place → Walks place from p j k result)
+    → Walks place from p j key result
+walk_carried content t cold h b place n p j key at below from less result says =
+    let stored = at.stored in
+    let number = stored.is.number ∙ agrees_number h.prior.commit (words_in h.prior.lines) n stored.at stored.agrees in
+    of_known content h.image _ h.is says (stored.at.line % 32768) p j key h.read
+    (carried_key content t cold h b place n p j key at) (omega arith)
+    (key_lower h.image t.number h.end h.prior b place n p j key at)
+
+-- the record of a key entry
+pub row_carried : (content : Option (List ℕ)) (t : Key) (cold : Cold) (h : Carries content t cold) (b place n : ℕ) (p : BodyParts) (j : ℕ)
+    (key : KeyPart) → IsKeyAt h.prior b place n p j key → (number old new : ℕ) (result : Result Entry ColdRefusal)
+    → IfSome content (λ c. (line : ℕ) (p : BodyParts) (k : KeyPart) → IsRead c cold → HasNodeOn cold c place line p j k
+    → Answers number (drop (4 * line) (words_on cold c place)) result
+    × LoadsWords (drop (4 * line) (words_on cold c place)) old new result)
+    → IsEntryAnswer (Stored p.lane p.form p.payload) result
+row_carried content t cold h b place n p j key at number old new result says =
+    let line = at.stored.at.line % 32768 in
+    let on = carried_key content t cold h b place n p j key at in
+    let answers = of_known content h.image _ h.is says line p key h.read on in
+    answered_entry number (drop (4 * line) (words_on cold h.image place)) (Stored p.lane p.form p.payload) result (inr (p, on.body, refl))
+    answers.0

@@ -1,0 +1,10 @@
+pub mod Appended
+pub mod Carried
+pub mod ChainLemmas
+pub mod Growing
+pub mod LogWords
+pub mod Looking
+pub mod Priors
+pub mod RegionHeads
+pub mod StartLemmas
+pub mod Untouched

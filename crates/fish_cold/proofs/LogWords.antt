@@ -1,0 +1,128 @@
+-- The words of the log in a file, and those of its pages.
+use Rattle.std.proofs.Common.{◌≡◌, ℕ, zero, suc, ◌+◌, ◌-◌, ◌*◌, ◌/◌, ◌<◌, ◌≤◌, List, ◌∷◌, length, take, drop, get_or}
+use Rattle.std.proofs.Common.{refl, sym, ap, ◌∙◌, arith, drop-drop, get_or-take}
+use Rattle.std.proofs.lemmas.List.{drop-take, ext_get_or, length-take-le}
+use Rattle.byteorder.specs.Endian.{IsRead, little_number}
+use Rattle.std.specs.Prelude.{min}
+use Rattle.fish_image.specs.Slot.{number}
+use Rattle.fish_image.specs.Stands.{words_of}
+use Rattle.fish_slots.specs.Places.{lines_at}
+use Rattle.fish_cold.specs.Pages.{lines_below, log_words, page_size, page_words}
+
+-- so many words
+pub length-words_of : (n : ℕ) (b : List ℕ) → length (words_of n b) ≡ n
+length-words_of zero b = refl
+length-words_of (suc n) b = ap suc (length-words_of n (drop 8 b))
+
+-- the first word is made of the first eight bytes
+pub number-take : (m : ℕ) (b : List ℕ) → 8 ≤ m → number (take m b) ≡ number b
+unfolding number
+number-take m b h =
+    omega (
+      arith,
+      get_or-take m b 0 0 (omega arith),
+      get_or-take m b 1 0 (omega arith),
+      get_or-take m b 2 0 (omega arith),
+      get_or-take m b 3 0 (omega arith),
+      get_or-take m b 4 0 (omega arith),
+      get_or-take m b 5 0 (omega arith),
+      get_or-take m b 6 0 (omega arith),
+      get_or-take m b 7 0 (omega arith),
+    )
+
+-- each of them
+pub index-words_of : (n : ℕ) (b : List ℕ) (k : ℕ) → k < n → get_or (words_of n b) k 0 ≡ number (drop (8 * k) b)
+index-words_of zero b k h = absurd (omega arith)
+index-words_of (suc n) b zero h = refl
+index-words_of (suc n) b (suc k) h =
+    let further : 8 + 8 * k ≡ 8 * suc k = omega arith in
+    index-words_of n (drop 8 b) k (omega arith) ∙ ap number (drop-drop (8 * k) 8 b ∙ ap (λ j. drop j b) further)
+
+-- words that were read are these
+pub read_words : (n : ℕ) (b ws : List ℕ) → length ws ≡ n → IsRead little_number 8 b ws → ws ≡ words_of n b
+unfolding number
+read_words n b ws size read =
+    ext_get_or 0 ws (words_of n b) (size ∙ sym (length-words_of n b))
+    (λ k within. read k within ∙ sym (index-words_of n b k (omega arith)))
+
+-- what stands behind the bytes of words is none of them
+pub words_of-take : (n m : ℕ) (b : List ℕ) → 8 * n ≤ m → words_of n (take m b) ≡ words_of n b
+words_of-take zero m b h = refl
+words_of-take (suc n) m b h =
+    let long : 8 + (m - 8) ≡ m = omega arith in
+    let behind : drop 8 (take m b) ≡ take (m - 8) (drop 8 b) = ap (λ k. drop 8 (take k b)) (sym long) ∙ drop-take 8 (m - 8) b in
+    ap (λ x. x ∷ words_of n (drop 8 (take m b))) (number-take m b (omega arith))
+    ∙ ap (λ l. number b ∷ words_of n l) behind
+    ∙ ap (λ l. number b ∷ l) (words_of-take n (m - 8) (drop 8 b) (omega arith))
+
+-- words behind others
+pub drop-words_of : (i n : ℕ) (b : List ℕ) → i ≤ n → drop i (words_of n b) ≡ words_of (n - i) (drop (8 * i) b)
+drop-words_of zero n b h =
+    let all : n ≡ n - 0 = omega arith in
+    ap (λ k. words_of k b) all
+drop-words_of (suc i) zero b h = absurd (omega arith)
+drop-words_of (suc i) (suc n) b h =
+    let fewer : n - i ≡ suc n - suc i = omega arith in
+    let further : 8 + 8 * i ≡ 8 * suc i = omega arith in
+    drop-words_of i n (drop 8 b) (omega arith)
+    ∙ ap (λ k. words_of k (drop (8 * i) (drop 8 b))) fewer
+    ∙ ap (words_of (suc n - suc i)) (drop-drop (8 * i) 8 b ∙ ap (λ k. drop k b) further)
+
+-- the first of them
+pub take-words_of : (m n : ℕ) (b : List ℕ) → m ≤ n → take m (words_of n b) ≡ words_of m b
+take-words_of zero n b h = refl
+take-words_of (suc m) zero b h = absurd (omega arith)
+take-words_of (suc m) (suc n) b h = ap (λ l. number b ∷ l) (take-words_of m n (drop 8 b) (omega arith))
+
+-- some of the log's words among others
+pub part_of_log : (content : List ℕ) (from n i m : ℕ) → i + m ≤ n
+    → take m (drop i (log_words content from n)) ≡ log_words content (from + i) m
+part_of_log content from n i m within =
+    let place : lines_at + 8 * from + 8 * i ≡ lines_at + 8 * (from + i) = omega arith in
+    ap (take m) (drop-words_of i n (drop (lines_at + 8 * from) content) (omega arith))
+    ∙ take-words_of m (n - i) (drop (8 * i) (drop (lines_at + 8 * from) content)) (omega arith)
+    ∙ ap (words_of m) (drop-drop (8 * i) (lines_at + 8 * from) content ∙ ap (λ k. drop k content) place)
+
+-- the pages below a line, of words that are all in the file
+pub record ArePages (w : List ℕ) (end : ℕ) (words : ℕ → List ℕ) : Type 0 where
+  pub size : (p : ℕ) → length (words p) ≡ 4 * lines_below end p
+  pub part : (p i m : ℕ) → 32768 * p ≤ end → i + m ≤ 4 * lines_below end p → take m (drop i (words p)) ≡ take m (drop (131072 * p + i) w)
+
+-- they lie below the line
+below_end : (end p : ℕ) → lines_below end p ≤ end - 32768 * p
+below_end end p = omega arith
+
+-- the file has all words of a page below the line
+size_full : (end p : ℕ) (content w : List ℕ) → 4 * end ≤ length w → lines_at + 8 * length w ≤ length content
+    → page_size end p content ≡ 4 * lines_below end p
+size_full end p content w within room = omega arith
+
+pub are_pages : (content w : List ℕ) (end : ℕ) → w ≡ log_words content 0 (length w) → 4 * end ≤ length w
+    → lines_at + 8 * length w ≤ length content → ArePages w end (λ p. page_words end p content)
+are_pages content w end is within room =
+    record {
+      size = λ p. length-words_of (page_size end p content) (drop (lines_at + 8 * (131072 * p)) content)
+          ∙ size_full end p content w within room;
+      part = λ p i m first below.
+          let full : page_size end p content ≡ 4 * lines_below end p = size_full end p content w within room in
+          let most : lines_below end p ≤ end - 32768 * p = below_end end p in
+          let place : 0 + (131072 * p + i) ≡ 131072 * p + i = omega arith in
+          part_of_log content (131072 * p) (page_size end p content) i m (omega arith)
+          ∙ ap (λ k. log_words content k m) (sym place)
+          ∙ sym (part_of_log content 0 (length w) (131072 * p + i) m (omega arith))
+          ∙ ap (λ l. take m (drop (131072 * p + i) l)) (sym is);
+    }
+
+-- what was read of a page is its words
+pub page_read : (end page count at : ℕ) (content buf ws : List ℕ) → at ≡ lines_at + 8 * (131072 * page)
+    → length buf ≡ 32 * lines_below end page → count ≡ min (length content - at) (length buf)
+    → take count buf ≡ take count (drop at content) → ws ≡ words_of (length (take count buf) / 8) (take count buf)
+    → ws ≡ page_words end page content
+page_read end page count at content buf ws place size counted same is =
+    let whole : length (take count buf) ≡ count = length-take-le count buf (omega arith) in
+    let many : length (take count buf) / 8 ≡ page_size end page content = omega arith in
+    is
+    ∙ ap (words_of (length (take count buf) / 8)) same
+    ∙ words_of-take (length (take count buf) / 8) count (drop at content) (omega arith)
+    ∙ ap (λ n. words_of n (drop at content)) many
+    ∙ ap (λ n. words_of (page_size end page content) (drop n content)) place

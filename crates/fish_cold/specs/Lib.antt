@@ -1,0 +1,9 @@
+pub mod Answers
+pub mod Cached
+pub mod Caching
+pub mod Carries
+pub mod Chains
+pub mod Pages
+pub mod Regions
+pub mod Shown
+pub mod Starts
