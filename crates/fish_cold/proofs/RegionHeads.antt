@@ -50,6 +50,11 @@ says_record p rest h =
 pub says_void : (rest : List ℕ) (h : IsVoidHead rest) → region_lines rest ≡ h.0
 says_void rest h = ap lines_of h.3 ∙ lines_of-void h.0 h.2
 
+-- so its first word is the void's header of so many lines
+pub void_first : (rest : List ℕ) (lines word : ℕ) → lines ≡ region_lines rest → word ≡ void_word lines → IsVoidHead rest
+    → slice_index rest 0 ≡ word
+void_first rest lines word is header h = h.3 ∙ ap void_word (sym (says_void rest h) ∙ sym is) ∙ sym header
+
 -- a record's header is no void's
 pub no_void_head : (p : BodyParts) (rest : List ℕ) (lines : ℕ) → IsRecordHead p rest → lines < 2 ^ 16
     → slice_index rest 0 ≡ void_word lines → ⊥

@@ -31,7 +31,7 @@ abbrev pub Holds : Cold → ℕ → Type 0
 Holds cold page = (p : Page) × (held_in cold page ≡ Some p)
 
 -- each page that is held is what a file of this content reads
-pub record IsRead (content : List ℕ) (cold : Cold) : Type 0 where
+pub record IsReadFrom (content : List ℕ) (cold : Cold) : Type 0 where
   pub cached : (number : ℕ) (page : Page) → Contains cold.cache.entries (number, page)
       → IsPageIn cold.base.line cold.starts content number page
   pub older : (number : ℕ) (page : Page) → Contains cold.cache.entries (number, page) → number < base_page cold
@@ -88,12 +88,12 @@ pub record Looks
   pub used : OnOk result ((page : Page) × Uses number page old new)
   pub refused : OnErr result (new ≡ old)
   pub cached : Holds old number → (next ≡ disk) × ¬ IsErrOf result DiskFault
-  pub kept : IfSome (content next) (λ c. IsRead c old → IsRead c new)
+  pub kept : IfSome (content next) (λ c. IsReadFrom c old → IsReadFrom c new)
   pub outside : OnlyReads content images since moment disk next
   pub cause : HasDiskCause (faults disk) (faults next) result
 
 -- the same, whether a page was looked at or none
-pub record Reads
+pub record ReadsAtMost
     {D T : Type 0}
     (content : D → Option (List ℕ))
     (images : D → List ℕ → Type 0)
@@ -105,7 +105,7 @@ pub record Reads
   pub base : new.base ≡ old.base
   pub starts : new.starts ≡ old.starts
   pub refused : OnErr result (new ≡ old)
-  pub kept : IfSome (content next) (λ c. IsRead c old → IsRead c new)
+  pub kept : IfSome (content next) (λ c. IsReadFrom c old → IsReadFrom c new)
   pub outside : OnlyReads content images since moment disk next
   pub cause : HasDiskCause (faults disk) (faults next) result
 
