@@ -108,7 +108,7 @@ answered_entry number rest entry (Err (Damaged n)) (inr stored) a = a.1 stored.0
 answered_entry number rest entry (Err DiskFault) is a = tt
 answered_entry number rest entry (Err OutOfMemory) is a = tt
 
--- a key entry of the prior part stands on its page
+-- a key entry of the prior part is on its page
 pub carried_key : (content : Option (List ℕ)) (k : Key) (cold : Cold) (h : CarriesTable content k cold) (b place n : ℕ)
     (p : BodyParts) (j : ℕ)
     (key : KeyPart) (at : IsKeyAt h.prior b place n p j key) → HasNodeOn cold h.image place (at.stored.at.line % 32768) p j key

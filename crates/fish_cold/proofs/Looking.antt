@@ -27,7 +27,7 @@ module _ (c : List ℕ) (number : ℕ) (page : Page) (old new : Cold) (u : Uses 
   same_base : base_page new ≡ base_page old
   same_base = ap (λ b. page_of b.line) u.base
 
-  -- what a page is doesn't hang on what is held
+  -- what a page is doesn't depend on what is held
   moved : (n : ℕ) (p : Page) → IsPageIn old.base.line old.starts c n p → IsPageIn new.base.line new.starts c n p
   moved n p h = subst (λ b. IsPageIn b.line new.starts c n p) (sym u.base) (subst (λ s. IsPageIn old.base.line s c n p) (sym u.starts) h)
 
@@ -141,7 +141,7 @@ kept_same : (old new : Cold) (o : Option (List ℕ)) → new ≡ old → IfSome 
 kept_same old new None same = tt
 kept_same old new (Some c) same = λ read. subst (IsReadFrom c) (sym same) read
 
--- the page that was brought, where the disk is told
+-- the page that was brought, where the content of the disk is known
 told_page : (c : List ℕ) (number : ℕ) (old : Cold) (fresh : Option Page)
     → IfSome fresh (λ p. IfSome (Some c) (λ d. IsPageIn old.base.line old.starts d number p))
     → IfSome fresh (λ p. IsPageIn old.base.line old.starts c number p)
@@ -166,6 +166,16 @@ is_err {T} e h = ap Err h
 
 no_err : {T : Type 0} (x : T) → IsErrOf {T = T} {E = ColdRefusal} (Ok x) DiskFault → ⊥
 no_err {T} x h = cc
+
+-- nothing is brought
+brought_none : (fresh : Option Page) → ◌≡◌ {A = Result (Option Page) ColdRefusal} (Ok fresh) (Ok None) → fresh ≡ None
+brought_none fresh h = cc h
+
+-- and then the page that is used is the one that is held
+one_held : (held : Option Page) (fresh : Option Page) (page p : Page) → fresh ≡ None → Some page ≡ option_or fresh held
+    → held ≡ Some p → page ≡ p
+one_held held fresh page p none is there =
+    same_Some page p (is ∙ ap (λ o. option_or o held) none ∙ there)
 
 module _
     {D T : Type 0}
@@ -203,7 +213,11 @@ module _
       → IfErr read (IsReadingOf n) → Some page ≡ option_or fresh (held_in old number) → Answered number fresh old new read result
       → Looks content images since moment faults number old new disk next result
   looks_answered fresh n read (Ok x) page b low whole is a = record {
-    used = (page, a.used page is);
+    used = (
+      page,
+      λ p there. one_held (held_in old number) fresh page p (brought_none fresh (b.untouched (p, there)).1) is there,
+      a.used page is,
+    );
     refused = tt;
     cached = λ held. ((b.untouched held).0, no_err x);
     kept = kept_used number old new (content next) fresh page low b.fresh is (a.used page is);
@@ -219,7 +233,7 @@ module _
     cause = record { later = b.cause.later; failed = λ h. absurd (no_fault n read e whole a.err (err_is e h)) };
   }
 
--- what holds of what was read, and of a want of memory, holds of the answer
+-- what holds of what was read, and where memory runs out, holds of the answer
 pub answered_as : {T : Type 0} (number : ℕ) (fresh : Option Page) (old new : Cold) (read result : Result T ColdRefusal)
     (P : Result T ColdRefusal → Type 0) → Answered number fresh old new read result → P read → P (Err OutOfMemory) → P result
 answered_as number fresh old new read (Ok x) P a is want = subst P a.same is
@@ -255,7 +269,7 @@ pub if_some_all : {X : Type 0} (o : Option X) (P : X → Type 0) → ((x : X) �
 if_some_all None P h = tt
 if_some_all (Some x) P h = h x
 
--- what the page that was used says, where the disk is told
+-- what the page that was used says, where the content of the disk is known
 pub if_some_used : (o : Option (List ℕ)) (number : ℕ) (old : Cold) (fresh : Option Page) (page : Page) (P : List ℕ → Type 0)
     → IfSome fresh (λ p. IfSome o (λ c. IsPageIn old.base.line old.starts c number p))
     → Some page ≡ option_or fresh (held_in old number)
@@ -270,8 +284,8 @@ pub reads_of : {D T : Type 0} (content : D → Option (List ℕ)) (images : D �
     → Looks content images since moment faults number old new disk next result
     → ReadsAtMost content images since moment faults old new disk next result
 reads_of content images since moment faults number old new disk next (Ok x) h = record {
-  base = h.used.1.base;
-  starts = h.used.1.starts;
+  base = h.used.2.base;
+  starts = h.used.2.starts;
   refused = tt;
   kept = h.kept;
   outside = h.outside;

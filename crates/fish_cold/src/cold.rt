@@ -334,7 +334,7 @@ impl Cold {
         }
     }
 
-    /// The answer that was read from a page, which stands first in the list from then on.
+    /// The answer that was read from a page, which is the first of the list from then on.
     fn answer<T: Drop>(
         &mut self,
         page: u64,
@@ -359,7 +359,7 @@ impl Cold {
         }
     }
 
-    /// The page stands first in the list, and is kept where it was brought.
+    /// The page becomes the first of the list, and is kept where it was brought.
     fn keep(&mut self, page: u64, fresh: Option<Page>) -> Result<(), AllocError>
         requires { (fresh ≡ None) ↔ Holds self.old page }
         ensures kept { OnOk result ((p : Page) → Some p ≡ option_or fresh (held_in self.old page) → Uses page p self.old self.new) }
