@@ -14,7 +14,7 @@ use std::test::Fail;
 
 /// Three records of two lines each, by lanes 1, 2 and 1, whose `type` is `Push`, `Pull` and `Push`. Their
 /// buckets are 5, 6 and 5 of 16.
-const WORDS: &[u64] = &[
+pub(crate) const WORDS: &[u64] = &[
     0x3c0108040002,
     0,
     0,
