@@ -1,6 +1,6 @@
-//! A log of 300 pages, read down and up through the cache: how often its disk is read.
+//! A log of 300 pages, read down and up through the cache, and one that goes on: how often its disk is read.
 
-ghost use Rattle.std.specs.Prelude.{◌≡◌, ◌<◌, Some};
+ghost use Rattle.std.specs.Prelude.{◌≡◌, ◌<◌, ◌*◌, Some};
 ghost use Rattle.fish_disk.specs.Content.{untold};
 
 use crate::told::expect;
@@ -18,7 +18,7 @@ use std::sync::ledger::{Blank, Ledger};
 use std::test::Fail;
 
 /// How many pages the log has.
-const PAGES: u32 = 300;
+const PAGES: u16 = 300;
 
 /// A disk on which each page is one void, of which a read gives the first line. It tells nothing of its content.
 #[derive(Drop)]
@@ -75,20 +75,31 @@ impl Disk for Voids {
     }
 }
 
-/// Nothing read of that log. Each page begins with the void of its number.
-fn nothing_read(alloc: Global) -> Result<Cold, AllocError> {
+/// The starts of so many pages. Each page begins with the void of its number.
+fn starts_of(alloc: Global, pages: u16) -> Result<PageStarts, AllocError> {
     let mut starts = PageStarts::new(alloc);
-    for number in 0..PAGES {
+    for page in 0..pages {
         starts.push(PageStart {
-            number,
-            line: PAGE_LINES * u64::from(number),
+            number: u32::from(page),
+            line: PAGE_LINES * u64::from(page),
         })?;
     }
-    let base = Base {
-        number: PAGES,
-        line: PAGE_LINES * u64::from(PAGES),
-    };
-    Cold::new(alloc, base, starts)
+    Ok(starts)
+}
+
+/// What comes after so many pages.
+fn base_of(pages: u16) -> Base
+    ensures { result.line ≡ 32768 * pages }
+{
+    Base {
+        number: u32::from(pages),
+        line: PAGE_LINES * u64::from(pages),
+    }
+}
+
+/// Nothing read of so many pages.
+fn nothing_read(alloc: Global, pages: u16) -> Result<Cold, AllocError> {
+    Cold::new(alloc, base_of(pages), starts_of(alloc, pages)?)
 }
 
 /// Reads a number, which is a void.
@@ -125,7 +136,7 @@ fn reads_told<L: Ledger>(
 {
     let mut loads = Steps::<L>::new(blank);
     let mut told = String::new(alloc);
-    for number in (0..PAGES)
+    for number in (0..u32::from(PAGES))
         .rev()
         .chain(0..16)
         .chain(0..17)
@@ -145,7 +156,7 @@ fn reads_told<L: Ledger>(
 #[test]
 fn each_page_is_read_once(rt: HostRuntime) -> Result<(), Fail> {
     let mut disk = Voids { reads: 0 };
-    let mut cold = nothing_read(rt.alloc())?;
+    let mut cold = nothing_read(rt.alloc(), PAGES)?;
     let told = reads_told::<Brand>(rt.alloc(), Blank::new(1), &mut cold, &mut disk);
     drop((cold, disk));
     expect(
@@ -153,5 +164,56 @@ fn each_page_is_read_once(rt: HostRuntime) -> Result<(), Fail> {
         told?.as_str(),
         "16:284 15:285 0:300 0:300 15:300 0:300 15:300 16:301 15:301 16:301 0:302 ",
     );
+    Ok(())
+}
+
+/// The base moves on to the end of all pages.
+fn grow(alloc: Global, cold: &mut Cold) -> Result<(), AllocError> {
+    let base = base_of(PAGES);
+    let starts = starts_of(alloc, PAGES)?;
+    let old = cold.base();
+    let grown = if old.number <= base.number && old.line <= base.line {
+        cold.grow(base, &starts)
+    } else {
+        Err(AllocError)
+    };
+    drop(starts);
+    grown
+}
+
+/// How often the disk was read after sixteen numbers, after the same below a later base, and after the last below it.
+fn grown_told<L: Ledger>(
+    alloc: Global,
+    blank: Blank,
+    cold: &mut Cold,
+    disk: &mut Voids,
+) -> Result<String, AllocError>
+    requires name { blank.name ≡ L.name }
+    requires parts { blank.parts ≡ L.parts }
+    requires some { 0 < blank.parts }
+{
+    let mut loads = Steps::<L>::new(blank);
+    let mut told = String::new(alloc);
+    for number in (4..20).chain(4..20).chain(299..300) {
+        if number == 4 && disk.reads > 0 {
+            grow(alloc, cold)?;
+        }
+        if !is_void(cold, disk, number, &mut loads) {
+            write!(told, "no void {number} ")?;
+        }
+        if number >= 19 {
+            write!(told, "{number}:{} ", disk.reads)?;
+        }
+    }
+    Ok(told)
+}
+
+#[test]
+fn pages_stay_as_the_base_moves(rt: HostRuntime) -> Result<(), Fail> {
+    let mut disk = Voids { reads: 0 };
+    let mut cold = nothing_read(rt.alloc(), 24)?;
+    let told = grown_told::<Brand>(rt.alloc(), Blank::new(1), &mut cold, &mut disk);
+    drop((cold, disk));
+    expect(&rt, told?.as_str(), "19:16 19:16 299:17 ");
     Ok(())
 }
