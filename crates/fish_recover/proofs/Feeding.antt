@@ -1,19 +1,27 @@
 -- What a checker has seen of the lines of an image.
-use Rattle.std.proofs.Common.{◌≡◌, ℕ, ◌+◌, ◌-◌, ◌*◌, ◌≤◌, List, ◌++◌, Err, refl, ap, sym, subst, ◌∙◌, arith}
+use Rattle.std.proofs.Common.{◌≡◌, ℕ, ◌+◌, ◌-◌, ◌*◌, ◌/◌, ◌≤◌, List, [], ◌++◌, Err, inl, length, take, refl, ap, sym, subst}
+use Rattle.std.proofs.Common.{◌∙◌, arith, length-append}
+use Rattle.std.proofs.lemmas.List.{length-take-le}
 use Rattle.std.specs.Prelude.{Option, Some, None, IfSome}
+use Rattle.fish_catalog.specs.declared.commit.Checked.{Checked}
 use Rattle.fish_catalog.specs.declared.commit.Commit.{Commit}
 use Rattle.fish_disk.specs.Content.{part}
 use Rattle.fish_image.proofs.Pieces.{breaks_damaged, breaks_more}
-use Rattle.fish_image.specs.Checking.{Fed, HasSeen}
-use Rattle.fish_image.specs.Stands.{words_in}
+use Rattle.fish_image.specs.Checking.{Fed, HasChecked, HasSeen}
+use Rattle.fish_image.specs.Stands.{words_in, words_of}
 use Rattle.fish_image.specs.declared.checker.Checker.{Checker}
 use Rattle.fish_image.specs.declared.refusal.ImageRefusal.{ImageRefusal}
 use Rattle.fish_image.specs.declared.refusal.ImageRefusal.TheVariants.{Damaged as Broken, OutOfMemory as NoMemory}
 use Rattle.fish_slots.specs.Places.{lines_at}
-use Rattle.fish_recover.proofs.Words.{words_next}
-use Rattle.fish_recover.specs.Opening.{IsLinesCause, IsPieceCause, IsSame, first_words}
+use Rattle.fish_recover.proofs.Words.{words_joined, words_next, words_of-take}
+use Rattle.fish_recover.specs.Opening.{AreRead, HasRead, IsLinesCause, IsPieceCause, IsSame, first_words}
 use Rattle.fish_recover.specs.declared.refusal.OpenRefusal.{OpenRefusal}
 use Rattle.fish_recover.specs.declared.refusal.OpenRefusal.TheVariants.{Damaged, DiskFault, NotAStore, OutOfMemory, ShapeDiffers}
+
+-- what holds anyway holds of a content
+pub any_holds : (P : List ℕ → Type 0) (x : Option (List ℕ)) → ((i : List ℕ) → P i) → IfSome x P
+any_holds P None h = tt
+any_holds P (Some i) h = h i
 
 -- what holds of a content and gives another holds too
 pub both_hold : (P Q : List ℕ → Type 0) (x : Option (List ℕ)) → IfSome x P → IfSome x (λ i. P i → Q i) → IfSome x Q
@@ -64,3 +72,43 @@ all_cause e c n lines i few h =
     let all : n + (lines - n) ≡ lines = omega arith in
     subst (λ (k : ℕ). IsLinesCause c (first_words k i) e) all
     (subst (λ (l : List ℕ). IsLinesCause c l e) (sym (words_next n (lines - n) i)) (lines_cause e c (first_words n i) _ h))
+
+-- ---- whatever the disk tells
+
+-- no word was seen
+pub read_none : (c : Commit) (checker : Checker) → HasSeen c checker [] → HasRead c checker 0
+read_none c checker seen = record { bytes = []; words = 0; size = refl; within = omega arith; seen = seen }
+
+-- the whole words of bytes are those of so many whole words of bytes
+whole_words : (b : List ℕ) → words_in (take (8 * (length b / 8)) b) ≡ words_in b
+whole_words b =
+    let size : length (take (8 * (length b / 8)) b) ≡ 8 * (length b / 8) = length-take-le (8 * (length b / 8)) b (omega arith) in
+    let count : length (take (8 * (length b / 8)) b) / 8 ≡ length b / 8 = omega arith in
+    ap (λ (k : ℕ). words_of k (take (8 * (length b / 8)) b)) count
+    ∙ words_of-take (length b / 8) (8 * (length b / 8)) b (omega arith)
+
+-- a piece of bytes was seen
+pub read_on : (c : Commit) (old new : Checker) (line count : ℕ) (words b : List ℕ) → length b ≤ 32 * count → words ≡ words_in b
+    → ((w : List ℕ) → HasSeen c old w → HasSeen c new (w ++ words)) → HasRead c old line → HasRead c new (line + count)
+read_on c old new line count words b few is fed h =
+    let more : List ℕ = take (8 * (length b / 8)) b in
+    let size : length more ≡ 8 * (length b / 8) = length-take-le (8 * (length b / 8)) b (omega arith) in
+    let both = length-append h.bytes more in
+    let before = h.size in
+    let within = h.within in
+    let same : words_in h.bytes ++ words ≡ words_in (h.bytes ++ more) =
+    ap (λ (l : List ℕ). words_in h.bytes ++ l) (is ∙ sym (whole_words b)) ∙ sym (words_joined h.words h.bytes more (inl h.size)) in
+    record {
+      bytes = h.bytes ++ more;
+      words = h.words + length b / 8;
+      size = omega arith;
+      within = omega arith;
+      seen = subst (HasSeen c new) same (fed (words_in h.bytes) h.seen);
+    }
+
+-- some lines were held to the commit
+pub lines_read : (c : Commit) (checker : Checker) (line : ℕ) (checked : Checked) → line ≤ c.lines → HasRead c checker line
+    → ((w : List ℕ) → HasSeen c checker w → HasChecked c w checked) → AreRead c checked
+lines_read c checker line checked few h found =
+    let within = h.within in
+    record { lines = h.bytes; size = omega arith; held = found (words_in h.bytes) h.seen }

@@ -12,6 +12,11 @@ use Rattle.fish_recover.specs.Choosing.{IsBodyCause, IsChosen, IsNewer, IsSlotCa
 use Rattle.fish_recover.specs.declared.refusal.OpenRefusal.{OpenRefusal}
 use Rattle.fish_recover.specs.declared.refusal.OpenRefusal.TheVariants.{Damaged, DiskFault, NotAStore, OutOfMemory, ShapeDiffers}
 
+-- a disk reads as itself
+pub still_same : (a : Option (List ℕ)) → StillReads a a
+still_same None = tt
+still_same (Some x) = refl
+
 -- a disk that still reads as one that still reads as a first reads as that
 pub still_then : (a b c : Option (List ℕ)) → StillReads a b → StillReads b c → StillReads a c
 still_then a b None first second = tt

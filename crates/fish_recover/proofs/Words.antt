@@ -85,7 +85,7 @@ words_append (suc n) m a b size =
     ∙ ap (λ (l : List ℕ). number a ∷ l) (words_append n m (drop 8 a) b (omega arith))
 
 -- where the first are whole words, or nothing comes after them, the words of both are theirs
-words_joined : (n : ℕ) (a b : List ℕ) → (length a ≡ 8 * n) ⊎ (length b ≡ 0) → words_in (a ++ b) ≡ words_in a ++ words_in b
+pub words_joined : (n : ℕ) (a b : List ℕ) → (length a ≡ 8 * n) ⊎ (length b ≡ 0) → words_in (a ++ b) ≡ words_in a ++ words_in b
 words_joined n a b (inl size) =
     let both = length-append a b in
     let all : length (a ++ b) / 8 ≡ n + length b / 8 = omega arith in

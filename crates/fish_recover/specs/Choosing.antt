@@ -25,6 +25,12 @@ pub record IsChosen (image : List ℕ) (slot : ℕ) (both : Bool) (commit : Comm
   pub told : IsTold commit (body_of slot image)
   pub older : IsTrue both ↔ IsOpen (1 - slot) image
 
+-- whatever the disk tells of its content: it is one of the two slots, and some body tells the commit
+pub record IsSlotRead (slot : ℕ) (commit : Commit) : Type 0 where
+  pub slot_is : slot ≤ 1
+  pub body : List ℕ
+  pub told : IsTold commit body
+
 -- a gate is open, and yet no slot counts whose body tells a commit
 pub record IsSlotless (image : List ℕ) : Type 0 where
   pub some : IsOpen 0 image ⊎ IsOpen 1 image

@@ -1,16 +1,18 @@
 -- What opening a store finds, and why it is refused.
-use Rattle.std.specs.Prelude.{ℕ, ◌≡◌, ◌≢◌, ◌-◌, ◌≤◌, ◌⊎◌, ◌↔◌, List, Option, Some, None, IsTrue, ⊤}
+use Rattle.std.specs.Prelude.{ℕ, ◌≡◌, ◌≢◌, ◌-◌, ◌*◌, ◌≤◌, ◌⊎◌, ◌↔◌, List, Option, Some, None, IsTrue, length, ⊤}
+use Rattle.fish_catalog.specs.declared.commit.Checked.{Checked}
 use Rattle.fish_catalog.specs.declared.commit.Commit.{Commit}
-use Rattle.fish_image.specs.Checking.{HasChecked}
+use Rattle.fish_image.specs.Checking.{HasChecked, HasSeen}
 use Rattle.fish_image.specs.Log.{IsDamaged}
 use Rattle.fish_image.specs.Reading.{IsTold}
 use Rattle.fish_image.specs.Stands.{words_in}
 use Rattle.fish_image.specs.Steps.{Breaks}
+use Rattle.fish_image.specs.declared.checker.Checker.{Checker}
 use Rattle.fish_image.specs.declared.refusal.ImageRefusal.{ImageRefusal}
 use Rattle.fish_image.specs.declared.refusal.ImageRefusal.TheVariants.{Damaged as Broken, OutOfMemory as NoMemory}
 use Rattle.fish_slots.specs.Commits.{HasCommit}
 use Rattle.fish_slots.specs.Slots.{IsOpen, lines_of}
-use Rattle.fish_recover.specs.Choosing.{IsSlotless}
+use Rattle.fish_recover.specs.Choosing.{IsSlotRead, IsSlotless}
 use Rattle.fish_recover.specs.declared.finding.Found.{Found}
 use Rattle.fish_recover.specs.declared.refusal.Asked.{Asked}
 use Rattle.fish_recover.specs.declared.refusal.OpenRefusal.{OpenRefusal}
@@ -21,6 +23,20 @@ use Rattle.fish_recover.specs.declared.refusal.OpenRefusal.TheVariants.{Damaged,
 -- the words of the first lines of the log, as far as the image has them
 abbrev pub first_words : ℕ → List ℕ → List ℕ
 first_words lines image = words_in (lines_of lines image)
+
+-- whatever the disk tells of its content: the checker has seen the words of some bytes, which are no more than so many lines have
+pub record HasRead (commit : Commit) (checker : Checker) (line : ℕ) : Type 0 where
+  pub bytes : List ℕ
+  pub words : ℕ
+  pub size : length bytes ≡ 8 * words
+  pub within : length bytes ≤ 32 * line
+  pub seen : HasSeen commit checker (words_in bytes)
+
+-- and so what was found is that of some lines
+pub record AreRead (commit : Commit) (checked : Checked) : Type 0 where
+  pub lines : List ℕ
+  pub size : length lines ≤ 32 * commit.lines
+  pub held : HasChecked commit (words_in lines) checked
 
 -- no more words are taken: so many entries agree, and no other will, whatever comes after; or the disk failed, or memory ran out
 abbrev pub IsPieceCause : Commit → List ℕ → OpenRefusal → Type 0
@@ -75,6 +91,11 @@ pub record IsFound (image : List ℕ) (asked : Asked) (found : Found) : Type 0 w
   pub shape : IsOtherShape asked found.commit → ⊥
   pub checked : HasChecked found.commit (words_in lines) found.checked
   pub older : IsTrue found.both ↔ IsOpen (1 - found.slot) image
+
+-- whatever the disk tells of its content: it is one of the two slots, some body tells the commit, and some lines were held to it
+pub record IsRead (found : Found) : Type 0 where
+  pub slot : IsSlotRead found.slot found.commit
+  pub lines : AreRead found.commit found.checked
 
 -- the slot that counts tells a commit of another shape
 pub record IsOther (image : List ℕ) (asked : Asked) (pages bits : ℕ) : Type 0 where

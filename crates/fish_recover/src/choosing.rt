@@ -4,11 +4,10 @@ ghost use Rattle.std.specs.Prelude.{◌≡◌, ◌≤◌, ◌↔◌, ℕ, List, 
 ghost use Rattle.fish_outside.specs.Causes.{HasCause};
 ghost use Rattle.fish_disk.specs.Content.{StillReads};
 ghost use Rattle.fish_disk.specs.Crash.{LeavesOnly};
-ghost use Rattle.fish_image.specs.Commits.{IsWithin};
 ghost use Rattle.fish_image.specs.Reading.{IsTold};
 ghost use Rattle.fish_slots.specs.Commits.{next_turn, turn_of};
 ghost use Rattle.fish_slots.specs.Slots.{IsOpen, body_of};
-ghost use Rattle.fish_recover.specs.Choosing.{HasOpenCause, IsBodyCause, IsChosen, IsNewer, IsSlotCause};
+ghost use Rattle.fish_recover.specs.Choosing.{HasOpenCause, IsBodyCause, IsChosen, IsNewer, IsSlotCause, IsSlotRead};
 
 use crate::bytes::{number_in, zeros};
 use crate::refusal::OpenRefusal;
@@ -36,7 +35,7 @@ pub(crate) struct Chosen {
 /// The slot that counts. It syncs first, and writes nothing.
 pub(crate) fn find_slot<D: Disk>(alloc: Global, disk: &mut D) -> Result<Chosen, OpenRefusal>
     ensures found { IfOk result (λ s. IfSome (D.content disk.new) (λ c. IsChosen c s.slot s.both s.commit)) }
-    ensures within { IfOk result (λ s. IsWithin s.commit) }
+    ensures read { IfOk result (λ s. IsSlotRead s.slot s.commit) }
     ensures refused { IfErr result (λ e. IfSome (D.content disk.new) (λ c. IsSlotCause c e)) }
     ensures synced { OnOk result ((c : List ℕ) → D.images disk.new c → D.content disk.new ≡ Some c) }
     ensures content { StillReads (D.content disk.old) (D.content disk.new) }
@@ -128,7 +127,7 @@ fn read_chosen<D: Disk>(
     requires second { IfSome (D.content disk.old) (λ c. IsTrue gates.second ↔ IsOpen 1 c) }
     requires counts { IfSome (D.content disk.old) (IsNewer slot) }
     ensures found { IfOk result (λ s. IfSome (D.content disk.new) (λ c. IsChosen c s.slot s.both s.commit)) }
-    ensures within { IfOk result (λ s. IsWithin s.commit) }
+    ensures read { IfOk result (λ s. IsSlotRead s.slot s.commit) }
     ensures refused { IfErr result (λ e. IfSome (D.content disk.new) (λ c. IsSlotCause c e)) }
     ensures content { StillReads (D.content disk.old) (D.content disk.new) }
     ensures crash { LeavesOnly D.images D.since D.moment disk.old disk.new (D.images disk.old) }
@@ -152,7 +151,7 @@ fn are_both(gates: Gates) -> bool
 fn read_commit<D: Disk>(alloc: Global, disk: &mut D, slot: u8) -> Result<Commit, OpenRefusal>
     requires { slot ≤ 1 }
     ensures told { IfOk result (λ commit. IfSome (D.content disk.new) (λ c. IsTold commit (body_of slot c))) }
-    ensures within { IfOk result IsWithin }
+    ensures read { IfOk result (λ commit. (b : List ℕ) × IsTold commit b) }
     ensures refused { IfErr result (λ e. IfSome (D.content disk.new) (λ c. IsBodyCause (body_of slot c) e)) }
     ensures content { StillReads (D.content disk.old) (D.content disk.new) }
     ensures crash { LeavesOnly D.images D.since D.moment disk.old disk.new (D.images disk.old) }

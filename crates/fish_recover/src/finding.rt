@@ -3,9 +3,8 @@
 ghost use Rattle.std.specs.Prelude.{◌≡◌, ◌↔◌, ℕ, List, Some, IfErr, IfOk, IfSome, IsTrue, OnOk};
 ghost use Rattle.fish_disk.specs.Content.{StillReads};
 ghost use Rattle.fish_disk.specs.Crash.{LeavesOnly};
-ghost use Rattle.fish_image.specs.Commits.{IsWithin};
-ghost use Rattle.fish_recover.specs.Choosing.{HasOpenCause, IsChosen};
-ghost use Rattle.fish_recover.specs.Opening.{IsFound, IsOpenCause, IsOtherShape};
+ghost use Rattle.fish_recover.specs.Choosing.{HasOpenCause, IsChosen, IsSlotRead};
+ghost use Rattle.fish_recover.specs.Opening.{IsFound, IsOpenCause, IsOtherShape, IsRead};
 
 use crate::choosing::{Chosen, find_slot};
 use crate::lines::check_lines;
@@ -31,7 +30,7 @@ pub struct Found {
 /// What a disk holds. It syncs first, writes nothing, and reads the lines a page at a time.
 pub fn find_store<D: Disk>(alloc: Global, asked: Asked, disk: &mut D) -> Result<Found, OpenRefusal>
     ensures found { IfOk result (λ f. IfSome (D.content disk.new) (λ c. IsFound c asked f)) }
-    ensures within { IfOk result (λ f. IsWithin f.commit) }
+    ensures read { IfOk result IsRead }
     ensures synced { OnOk result ((c : List ℕ) → D.images disk.new c → D.content disk.new ≡ Some c) }
     ensures content { StillReads (D.content disk.old) (D.content disk.new) }
     ensures crash { LeavesOnly D.images D.since D.moment disk.old disk.new (D.images disk.old) }
@@ -53,10 +52,10 @@ fn hold<D: Disk>(
     chosen: Chosen,
 ) -> Result<Found, OpenRefusal>
     requires chosen { IfSome (D.content disk.old) (λ c. IsChosen c chosen.slot chosen.both chosen.commit) }
-    requires within { IsWithin chosen.commit }
+    requires read { IsSlotRead chosen.slot chosen.commit }
     requires synced { (c : List ℕ) → D.images disk.old c → D.content disk.old ≡ Some c }
     ensures found { IfOk result (λ f. IfSome (D.content disk.new) (λ c. IsFound c asked f)) }
-    ensures within { IfOk result (λ f. IsWithin f.commit) }
+    ensures read { IfOk result IsRead }
     ensures synced { OnOk result ((c : List ℕ) → D.images disk.new c → D.content disk.new ≡ Some c) }
     ensures content { StillReads (D.content disk.old) (D.content disk.new) }
     ensures crash { LeavesOnly D.images D.since D.moment disk.old disk.new (D.images disk.old) }

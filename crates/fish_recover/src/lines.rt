@@ -1,6 +1,6 @@
 //! The lines of a log, held to a commit a page at a time.
 
-ghost use Rattle.std.specs.Prelude.{◌≡◌, ◌+◌, ◌*◌, ◌≤◌, IfErr, IfOk, IfSome};
+ghost use Rattle.std.specs.Prelude.{◌≡◌, ◌+◌, ◌*◌, ◌≤◌, ℕ, List, IfErr, IfOk, IfSome, OnOk, length};
 ghost use Rattle.fish_catalog.specs.declared.commit.Commit.{Commit as Told};
 ghost use Rattle.fish_disk.specs.Content.{StillReads, part};
 ghost use Rattle.fish_disk.specs.Crash.{LeavesOnly};
@@ -9,7 +9,7 @@ ghost use Rattle.fish_image.specs.Commits.{IsWithin};
 ghost use Rattle.fish_image.specs.Stands.{words_in as all_words};
 ghost use Rattle.fish_slots.specs.Places.{lines_at};
 ghost use Rattle.fish_recover.specs.Choosing.{HasOpenCause};
-ghost use Rattle.fish_recover.specs.Opening.{IsLinesCause, IsOutside, IsPieceCause, IsSame, first_words};
+ghost use Rattle.fish_recover.specs.Opening.{AreRead, HasRead, IsLinesCause, IsOutside, IsPieceCause, IsSame, first_words};
 
 use crate::bytes::{words_in, zeros};
 use crate::refusal::OpenRefusal;
@@ -28,6 +28,7 @@ pub(crate) fn check_lines<D: Disk>(
     requires { IsWithin commit.now }
     ensures found { IfOk result (λ checked. IfSome (D.content disk.new)
         (λ c. HasChecked commit.now (first_words commit.now.lines c) checked)) }
+    ensures read { IfOk result (AreRead commit.now) }
     ensures refused { IfErr result (λ e. IfSome (D.content disk.new)
         (λ c. IsLinesCause commit.now (first_words commit.now.lines c) e)) }
     ensures content { StillReads (D.content disk.old) (D.content disk.new) }
@@ -66,6 +67,8 @@ fn feed_lines<D: Disk>(
     requires page { count ≤ 32768 }
     ensures fed { IfOk result (λ _. (commit : Told) → IfSome (D.content disk.new) (λ c.
         HasSeen commit checker.old (first_words line c) → HasSeen commit checker.new (first_words (line + count) c))) }
+    ensures read { OnOk result ((commit : Told)
+        → HasRead commit checker.old line → HasRead commit checker.new (line + count)) }
     ensures refused { IfErr result (λ e. (commit : Told) → IfSome (D.content disk.new) (λ c.
         HasSeen commit checker.old (first_words line c) → IsPieceCause commit (first_words (line + count) c) e)) }
     ensures checker { IsChecker checker.new }
@@ -93,6 +96,7 @@ fn read_words<D: Disk>(
     requires page { count ≤ 32768 }
     ensures words { IfOk result (λ words. IfSome (D.content disk.new)
         (λ c. words.items ≡ all_words (part (lines_at + 32 * line) (32 * count) c))) }
+    ensures read { IfOk result (λ words. (b : List ℕ) × (length b ≤ 32 * count) × (words.items ≡ all_words b)) }
     ensures refused { IfErr result IsOutside }
     ensures content { StillReads (D.content disk.old) (D.content disk.new) }
     ensures crash { LeavesOnly D.images D.since D.moment disk.old disk.new (D.images disk.old) }

@@ -1,11 +1,11 @@
 -- One page after the other is given to the checker.
-use Rattle.std.proofs.Common.{◌≡◌, ◌+◌, ℕ, List, subst, arith}
+use Rattle.std.proofs.Common.{◌≡◌, ◌+◌, ℕ, List, [], subst, arith}
 use Rattle.std.proofs.lemmas.Option.{IfSome_then}
-use Rattle.fish_disk.proofs.Moments.{leaves_more, leaves_then}
+use Rattle.fish_disk.proofs.Moments.{leaves_more, leaves_none, leaves_then}
 use Rattle.fish_disk.proofs.Regions.{still_holds}
 use Rattle.fish_image.specs.Checking.{HasChecked, HasSeen}
-use Rattle.fish_recover.proofs.Feeding.{all_cause, both_hold}
-use Rattle.fish_recover.proofs.Slots.{still_then}
+use Rattle.fish_recover.proofs.Feeding.{all_cause, any_holds, both_hold, lines_read, read_none}
+use Rattle.fish_recover.proofs.Slots.{still_same, still_then}
 use Rattle.fish_recover.specs.Opening.{IsPieceCause, first_words}
 use Rattle.fish_recover.proofs.lines.check_lines.Goals as goal
 
@@ -28,6 +28,7 @@ loop-line-preserved g c =
           (λ e. HasSeen c.args.commit.now c.feed_lines.new.checker (first_words (c.loop-line.line + c.min-count.result) e)) new
           (still_holds (λ e. HasSeen c.args.commit.now c.loop-line.checker (first_words c.loop-line.line e)) mid new
           c.feed_lines.ensures.content i.seen) (c.in-Ok.ensures.fed c.args.commit.now);
+      read = c.in-Ok.ensures.read c.args.commit.now i.read;
       content = still_then old mid new i.content c.feed_lines.ensures.content;
       crash = leaves_then disk.images disk.since disk.moment c.args.disk.now c.loop-line.disk c.feed_lines.new.disk
           (disk.images c.args.disk.now) i.crash
@@ -61,3 +62,23 @@ returns-in-Ok-finish-clause-found g c =
     IfSome_then (g.D.Disk.content c.loop-line.disk) i.seen
     (λ e seen. subst (λ (k : ℕ). HasChecked c.args.commit.now (first_words k e) c.in-Ok-finish.checked) all
     (c.in-Ok-finish.ensures.found c.args.commit.now (first_words c.loop-line.line e) seen))
+
+pub returns-in-Ok-finish-clause-read : goal.returns-in-Ok-finish-clause-read
+returns-in-Ok-finish-clause-read g c =
+    let i = c.loop-line.invariant in
+    lines_read c.args.commit.now c.loop-line.checker c.loop-line.line c.in-Ok-finish.checked i.upto i.read
+    (c.in-Ok-finish.ensures.found c.args.commit.now)
+
+pub loop-line-init : goal.loop-line-init
+loop-line-init g c =
+    let disk = g.D.Disk in
+    let seen = c.in_ok-checker.ensures.seen in
+    record {
+      upto = omega arith;
+      checker = c.in_ok-checker.ensures.checker;
+      seen = any_holds (λ e. HasSeen c.args.commit.now c.in_ok-checker.checker []) (disk.content c.args.disk.now) (λ e. seen);
+      read = read_none c.args.commit.now c.in_ok-checker.checker seen;
+      content = still_same (disk.content c.args.disk.now);
+      crash = leaves_none disk.images disk.since disk.moment c.args.disk.now (disk.images c.args.disk.now) (λ e here. here);
+      faults = omega arith;
+    }
