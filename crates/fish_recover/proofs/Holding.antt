@@ -46,16 +46,19 @@ pub held_other : (x : Option (List ℕ)) (asked : Asked) (slot : ℕ) (both : Bo
     → IfSome x (λ i. IsChosen i slot both commit) → IsOtherShape asked commit
     → IfSome x (λ i. IsOpenCause i asked (ShapeDiffers (record { pages = commit.pages; bucket_bits = commit.bucket_bits }) asked))
 held_other None asked slot both commit h shape = tt
-held_other (Some i) asked slot both commit h shape = (record {
-  body = body_of slot i;
-  lines = lines_of (line_count (body_of slot i)) i;
-  commit = commit;
-  has = newer_commit slot i h.slot_is h.newer;
-  told = h.told;
-  shape = shape;
-  pages_are = refl;
-  bits_are = refl;
-}, refl)
+held_other (Some i) asked slot both commit h shape = (
+  record {
+    body = body_of slot i;
+    lines = lines_of (line_count (body_of slot i)) i;
+    commit = commit;
+    has = newer_commit slot i h.slot_is h.newer;
+    told = h.told;
+    shape = shape;
+    pages_are = refl;
+    bits_are = refl;
+  },
+  refl,
+)
 
 -- the lines stand for no log
 pub held_not : (x : Option (List ℕ)) (asked : Asked) (slot : ℕ) (both : Bool) (commit : Commit) (e : OpenRefusal)

@@ -69,12 +69,15 @@ open_slot (suc (suc slot)) c le h = absurd (omega arith)
 -- why its body tells no commit is why no slot is taken
 slot_cause : (slot : ℕ) (c : List ℕ) (e : OpenRefusal) → slot ≤ 1 → IsNewer slot c → IsBodyCause (body_of slot c) e → IsSlotCause c e
 slot_cause slot c NotAStore le h cause = absurd cause
-slot_cause slot c (Damaged n) le h cause = (cause.0, record {
-  some = open_slot slot c le h;
-  none = λ body lines commit has told.
-      let same = one_commit body lines _ _ c has (newer_commit slot c le h) in
-      cause.1 commit (subst (IsTold commit) same.0 told);
-})
+slot_cause slot c (Damaged n) le h cause = (
+  cause.0,
+  record {
+    some = open_slot slot c le h;
+    none = λ body lines commit has told.
+        let same = one_commit body lines _ _ c has (newer_commit slot c le h) in
+        cause.1 commit (subst (IsTold commit) same.0 told);
+  },
+)
 slot_cause slot c (ShapeDiffers kept asked) le h cause = absurd cause
 slot_cause slot c DiskFault le h cause = tt
 slot_cause slot c OutOfMemory le h cause = tt

@@ -21,6 +21,8 @@ mod flushing;
 #[cfg(test)]
 mod images;
 #[cfg(test)]
+mod openings;
+#[cfg(test)]
 mod stored;
 #[cfg(test)]
 mod system;

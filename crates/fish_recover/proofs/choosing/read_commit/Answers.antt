@@ -29,7 +29,12 @@ returns-clause-refused g c =
     let full : c.in_ok-body.body.len ≡ length buf = omega arith in
     let same : c.deref.result.now ≡ buf = c.deref.ensures.value ∙ ap (λ n. take n (buf ++ rest)) full ∙ take-append_seam buf rest in
     IfSome_then (g.D.Disk.content c.read.new.self) c.in_ok-count.ensures.bytes
-    (λ content gave. (refl, λ (d : Commit) told. absurd (cc (c.in_ok-commit.ensures.only d (subst (IsTold d)
-    (sym (ap (take c.in_ok-count.count) same
-    ∙ part_read _ (body_at c.args.slot) body_bytes c.in_ok-count.count buf content (omega arith) (omega arith) gave.0 gave.1)) told),
-    c.in-None.is))))
+    (λ content gave. (
+      refl,
+      λ (d : Commit) told. absurd (cc (
+        c.in_ok-commit.ensures.only d (subst (IsTold d)
+            (sym (ap (take c.in_ok-count.count) same
+            ∙ part_read _ (body_at c.args.slot) body_bytes c.in_ok-count.count buf content (omega arith) (omega arith) gave.0 gave.1)) told),
+        c.in-None.is,
+      )),
+    ))
