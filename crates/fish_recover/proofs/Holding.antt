@@ -1,14 +1,12 @@
 -- What was found in an image by the slot that counts.
 use Rattle.std.proofs.Common.{◌≡◌, ℕ, List, Bool, inr, refl, sym, subst, arith}
 use Rattle.std.specs.Prelude.{Option, Some, None, IfSome}
-use Rattle.fish_catalog.specs.declared.commit.Checked.{Checked}
 use Rattle.fish_catalog.specs.declared.commit.Commit.{Commit}
 use Rattle.fish_image.proofs.Spelling.{told_word}
 use Rattle.fish_image.specs.Checking.{HasChecked}
 use Rattle.fish_image.specs.Log.{IsDamaged}
 use Rattle.fish_image.specs.Reading.{IsTold}
 use Rattle.fish_image.specs.Slot.{number}
-use Rattle.fish_rule.specs.declared.table.Shape.{Shape}
 use Rattle.fish_slots.specs.Slots.{body_of, line_count, lines_of}
 use Rattle.fish_recover.proofs.Slots.{newer_commit}
 use Rattle.fish_recover.specs.Choosing.{IsChosen}

@@ -1,8 +1,8 @@
 -- Of two turns one is the one after the other, or none is.
-use Rattle.std.proofs.Common.{◌≡◌, ℕ, List}
+use Rattle.std.proofs.Common.{◌≡◌}
 use Rattle.fish_disk.proofs.Regions.{still_holds}
 use Rattle.fish_recover.proofs.Slots.{neither, still_then, turn_newer}
-use Rattle.fish_slots.specs.Commits.{next_turn, turn_of}
+use Rattle.fish_slots.specs.Commits.{turn_of}
 use Rattle.fish_slots.specs.Slots.{IsOpen, body_of}
 use Rattle.fish_recover.proofs.choosing.newer_of_both.Goals as goal
 

@@ -1,5 +1,4 @@
 -- The slot that counts, with the commit that its body tells.
-use Rattle.std.proofs.Common.{ℕ, List}
 use Rattle.std.specs.Prelude.{◌↔◌, IsTrue}
 use Rattle.fish_disk.proofs.Regions.{still_holds}
 use Rattle.fish_recover.proofs.Slots.{body_cause, chosen}

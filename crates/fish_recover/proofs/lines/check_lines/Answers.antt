@@ -1,5 +1,5 @@
 -- One page after the other is given to the checker.
-use Rattle.std.proofs.Common.{◌≡◌, ◌+◌, ℕ, List, [], subst, arith}
+use Rattle.std.proofs.Common.{◌≡◌, ◌+◌, ℕ, [], subst, arith}
 use Rattle.std.proofs.lemmas.Option.{IfSome_then}
 use Rattle.fish_disk.proofs.Moments.{leaves_more, leaves_none, leaves_then}
 use Rattle.fish_disk.proofs.Regions.{still_holds}
