@@ -46,7 +46,7 @@ const RECORD_WORDS: usize = 8;
 
 /// How many entries and lines a commit counts, where the index of a second definition begins that gives a
 /// value for each record, and the word that is changed, with the bits.
-type Case = (u32, u64, Option<u32>, usize, u64);
+pub(crate) type Case = (u32, u64, Option<u32>, usize, u64);
 
 /// What the answer is.
 const CASES: &[(Case, &str)] = &[
@@ -100,7 +100,7 @@ fn catalog(alloc: Global, flag: Option<u32>) -> Result<Catalog, AllocError> {
     }
 }
 
-fn commit(alloc: Global, case: &Case) -> Result<Commit, AllocError> {
+pub(crate) fn commit(alloc: Global, case: &Case) -> Result<Commit, AllocError> {
     Ok(Commit {
         format: 2,
         turn: 0,
@@ -121,7 +121,7 @@ fn words(alloc: Global, at: usize, mask: u64) -> Result<Vec<u64>, AllocError> {
 }
 
 /// The heads that are there, by bucket, and where pages begin to hold regions.
-fn checked_text(alloc: Global, checked: &Checked) -> Result<String, AllocError> {
+pub(crate) fn checked_text(alloc: Global, checked: &Checked) -> Result<String, AllocError> {
     let mut told = String::from_str(alloc, "heads ")?;
     for (bucket, head) in checked.heads.as_slice().iter().enumerate() {
         if *head != 0 {

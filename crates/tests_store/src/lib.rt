@@ -25,6 +25,8 @@ mod many_pages;
 #[cfg(test)]
 mod older;
 #[cfg(test)]
+mod openings;
+#[cfg(test)]
 mod stored;
 #[cfg(test)]
 mod system;

@@ -1,0 +1,129 @@
+-- What opening a store finds, and why it is refused.
+use Rattle.std.specs.Prelude.{ℕ, ◌≡◌, ◌≢◌, ◌-◌, ◌*◌, ◌≤◌, ◌⊎◌, ◌↔◌, List, Option, Some, None, IsTrue, length, ⊤}
+use Rattle.fish_catalog.specs.declared.commit.Checked.{Checked}
+use Rattle.fish_catalog.specs.declared.commit.Commit.{Commit}
+use Rattle.fish_image.specs.Checking.{HasChecked, HasSeen}
+use Rattle.fish_image.specs.Log.{IsDamaged}
+use Rattle.fish_image.specs.Reading.{IsTold}
+use Rattle.fish_image.specs.Stands.{words_in}
+use Rattle.fish_image.specs.Steps.{Breaks}
+use Rattle.fish_image.specs.declared.checker.Checker.{Checker}
+use Rattle.fish_image.specs.declared.refusal.ImageRefusal.{ImageRefusal}
+use Rattle.fish_image.specs.declared.refusal.ImageRefusal.TheVariants.{Damaged as Broken, OutOfMemory as NoMemory}
+use Rattle.fish_slots.specs.Commits.{HasCommit}
+use Rattle.fish_slots.specs.Slots.{IsOpen, lines_of}
+use Rattle.fish_recover.specs.Choosing.{IsSlotRead, IsSlotless}
+use Rattle.fish_recover.specs.declared.finding.Found.{Found}
+use Rattle.fish_recover.specs.declared.refusal.Asked.{Asked}
+use Rattle.fish_recover.specs.declared.refusal.OpenRefusal.{OpenRefusal}
+use Rattle.fish_recover.specs.declared.refusal.OpenRefusal.TheVariants.{Damaged, DiskFault, NotAStore, OutOfMemory, ShapeDiffers}
+
+-- ---- lines
+
+-- the words of the first lines of the log, as far as the image has them
+abbrev pub first_words : ℕ → List ℕ → List ℕ
+first_words lines image = words_in (lines_of lines image)
+
+-- whatever the disk tells of its content: the checker has seen the words of some bytes, which are no more than so many lines have
+pub record HasRead (commit : Commit) (checker : Checker) (line : ℕ) : Type 0 where
+  pub bytes : List ℕ
+  pub words : ℕ
+  pub size : length bytes ≡ 8 * words
+  pub within : length bytes ≤ 32 * line
+  pub seen : HasSeen commit checker (words_in bytes)
+
+-- and so what was found is that of some lines
+pub record AreRead (commit : Commit) (checked : Checked) : Type 0 where
+  pub lines : List ℕ
+  pub size : length lines ≤ 32 * commit.lines
+  pub held : HasChecked commit (words_in lines) checked
+
+-- no more words are taken: so many entries agree, and no other will, whatever comes after; or the disk failed, or memory ran out
+abbrev pub IsPieceCause : Commit → List ℕ → OpenRefusal → Type 0
+IsPieceCause commit w NotAStore = ⊥
+IsPieceCause commit w (Damaged n) = Breaks commit w n
+IsPieceCause commit w (ShapeDiffers kept asked) = ⊥
+IsPieceCause commit w DiskFault = ⊤
+IsPieceCause commit w OutOfMemory = ⊤
+
+-- the words stand for no log, and exactly so many leading entries agree; or the disk failed, or memory ran out
+abbrev pub IsLinesCause : Commit → List ℕ → OpenRefusal → Type 0
+IsLinesCause commit w NotAStore = ⊥
+IsLinesCause commit w (Damaged n) = IsDamaged commit w n
+IsLinesCause commit w (ShapeDiffers kept asked) = ⊥
+IsLinesCause commit w DiskFault = ⊤
+IsLinesCause commit w OutOfMemory = ⊤
+
+-- the refusal says nothing of the image
+abbrev pub IsOutside : OpenRefusal → Type 0
+IsOutside NotAStore = ⊥
+IsOutside (Damaged n) = ⊥
+IsOutside (ShapeDiffers kept asked) = ⊥
+IsOutside DiskFault = ⊤
+IsOutside OutOfMemory = ⊤
+
+-- the refusal of a store is that of its image
+abbrev pub IsSame : ImageRefusal → OpenRefusal → Type 0
+IsSame (Broken n) refusal = refusal ≡ Damaged n
+IsSame NoMemory refusal = refusal ≡ OutOfMemory
+
+-- ---- the shape
+
+-- a number is asked for, and it is another than the one that is kept
+abbrev pub Differs : Option ℕ → ℕ → Type 0
+Differs None kept = ⊥
+Differs (Some n) kept = n ≢ kept
+
+-- another shape is asked for than the commit's
+abbrev pub IsOtherShape : Asked → Commit → Type 0
+IsOtherShape asked commit = Differs asked.pages commit.pages ⊎ Differs asked.bucket_bits commit.bucket_bits
+
+-- ---- the whole
+
+-- the slot counts in the image and its body tells the commit, of the shape that is asked for, and the lines that it counts were
+-- held to it; and whether the other gate is open too
+pub record IsFound (image : List ℕ) (asked : Asked) (found : Found) : Type 0 where
+  pub body : List ℕ
+  pub lines : List ℕ
+  pub commit : HasCommit body lines image
+  pub slot : commit.slot ≡ found.slot
+  pub told : IsTold found.commit body
+  pub shape : IsOtherShape asked found.commit → ⊥
+  pub checked : HasChecked found.commit (words_in lines) found.checked
+  pub older : IsTrue found.both ↔ IsOpen (1 - found.slot) image
+
+-- whatever the disk tells of its content: it is one of the two slots, some body tells the commit, and some lines were held to it
+pub record IsRead (found : Found) : Type 0 where
+  pub slot : IsSlotRead found.slot found.commit
+  pub lines : AreRead found.commit found.checked
+
+-- the slot that counts tells a commit of another shape
+pub record IsOther (image : List ℕ) (asked : Asked) (pages bits : ℕ) : Type 0 where
+  pub body : List ℕ
+  pub lines : List ℕ
+  pub commit : Commit
+  pub has : HasCommit body lines image
+  pub told : IsTold commit body
+  pub shape : IsOtherShape asked commit
+  pub pages_are : commit.pages ≡ pages
+  pub bits_are : commit.bucket_bits ≡ bits
+
+-- the slot that counts tells a commit of the shape that is asked for, and its lines stand for no log: exactly so many leading
+-- entries agree
+pub record IsBroken (image : List ℕ) (asked : Asked) (number : ℕ) : Type 0 where
+  pub body : List ℕ
+  pub lines : List ℕ
+  pub commit : Commit
+  pub has : HasCommit body lines image
+  pub told : IsTold commit body
+  pub shape : IsOtherShape asked commit → ⊥
+  pub damaged : IsDamaged commit (words_in lines) number
+
+-- why a store isn't opened: no gate is open; no slot counts whose body tells a commit; the slot's shape is another one; its lines
+-- stand for no log; or the disk failed, or memory ran out
+abbrev pub IsOpenCause : List ℕ → Asked → OpenRefusal → Type 0
+IsOpenCause image asked NotAStore = (IsOpen 0 image → ⊥) × (IsOpen 1 image → ⊥)
+IsOpenCause image asked (Damaged n) = ((n ≡ 0) × IsSlotless image) ⊎ IsBroken image asked n
+IsOpenCause image asked (ShapeDiffers kept other) = IsOther image asked kept.pages kept.bucket_bits × (other ≡ asked)
+IsOpenCause image asked DiskFault = ⊤
+IsOpenCause image asked OutOfMemory = ⊤
