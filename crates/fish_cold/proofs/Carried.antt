@@ -10,11 +10,11 @@ use Rattle.fish_image.proofs.Agreement.{agrees_first, agrees_number, agrees_with
 use Rattle.fish_rule.specs.declared.view.Key.{Key}
 use Rattle.fish_slots.specs.Places.{lines_at}
 use Rattle.fish_slots.specs.Slots.{line_count, lines_of}
-use Rattle.fish_cold.specs.Carries.{Carries, IsCarried, IsEntryAnswer, IsEntryOf, IsEntryRead}
+use Rattle.fish_cold.specs.Carries.{CarriesTable, IsCarried, IsEntryAnswer, IsEntryOf, IsEntryRead}
 use Rattle.fish_catalog.specs.declared.entry.Entry.{Entry}
 use Rattle.fish_catalog.specs.declared.entry.Entry.TheVariants.{Stored}
 use Rattle.fish_cold.specs.Answers.{Answers, LoadsWords, Walks}
-use Rattle.fish_cold.specs.Cached.{HasNodeOn, HasRegion, IsRead, words_on}
+use Rattle.fish_cold.specs.Cached.{HasNodeOn, HasRegion, IsReadFrom, words_on}
 use Rattle.fish_cold.specs.declared.node.ColdNode.{ColdNode}
 use Rattle.fish_cold.proofs.ChainLemmas.{key_lower}
 use Rattle.fish_cold.specs.Chains.{IsKeyAt}
@@ -50,7 +50,7 @@ lines_room image m some =
     let behind = length-drop lines_at image in
     omega arith
 
-pub carried : (content : Option (List ℕ)) (k : Key) (cold : Cold) (h : Carries content k cold) (n : ℕ) → n < k.number
+pub carried : (content : Option (List ℕ)) (k : Key) (cold : Cold) (h : CarriesTable content k cold) (n : ℕ) → n < k.number
     → IsCarried cold h.image h.end n
 carried content k cold h n less =
     let prior = h.prior in
@@ -108,8 +108,9 @@ answered_entry number rest entry (Err (Damaged n)) (inr stored) a = a.1 stored.0
 answered_entry number rest entry (Err DiskFault) is a = tt
 answered_entry number rest entry (Err OutOfMemory) is a = tt
 
--- a key entry of the prior part stands on its page
-pub carried_key : (content : Option (List ℕ)) (k : Key) (cold : Cold) (h : Carries content k cold) (b place n : ℕ) (p : BodyParts) (j : ℕ)
+-- a key entry of the prior part is on its page
+pub carried_key : (content : Option (List ℕ)) (k : Key) (cold : Cold) (h : CarriesTable content k cold) (b place n : ℕ)
+    (p : BodyParts) (j : ℕ)
     (key : KeyPart) (at : IsKeyAt h.prior b place n p j key) → HasNodeOn cold h.image place (at.stored.at.line % 32768) p j key
 carried_key content k cold h b place n p j key at =
     let prior = h.prior in
@@ -164,9 +165,9 @@ of_known : (o : Option (List ℕ)) (image : List ℕ) (P : List ℕ → Type 0) 
 of_known o image P is h = subst (λ x. IfSome x P) is h
 
 -- the entry of a number
-pub record_carried : (content : Option (List ℕ)) (k : Key) (cold : Cold) (h : Carries content k cold) (n : ℕ) → n < cold.base.number
+pub record_carried : (content : Option (List ℕ)) (k : Key) (cold : Cold) (h : CarriesTable content k cold) (n : ℕ) → n < cold.base.number
     → (old new : ℕ) (result : Result Entry ColdRefusal)
-    → IfSome content (λ c. (rest : List ℕ) → IsRead c cold → HasRegion cold c n rest
+    → IfSome content (λ c. (rest : List ℕ) → IsReadFrom c cold → HasRegion cold c n rest
     → Answers n rest result × LoadsWords rest old new result)
     → IsEntryRead h n result
 record_carried content k cold h n less old new result says =
@@ -176,9 +177,10 @@ record_carried content k cold h n less old new result says =
     record { entry = at.entry; there = at.there; is = answered_entry n at.rest at.entry result at.is answers.0 }
 
 -- a key entry
-pub walk_carried : (content : Option (List ℕ)) (t : Key) (cold : Cold) (h : Carries content t cold) (b place n : ℕ) (p : BodyParts) (j : ℕ)
+pub walk_carried : (content : Option (List ℕ)) (t : Key) (cold : Cold) (h : CarriesTable content t cold) (b place n : ℕ)
+    (p : BodyParts) (j : ℕ)
     (key : KeyPart) → IsKeyAt h.prior b place n p j key → (below from : ℕ) → n < below → (result : Result (Option ColdNode) ColdRefusal)
-    → IfSome content (λ c. (line : ℕ) (p : BodyParts) (j : ℕ) (k : KeyPart) → IsRead c cold → HasNodeOn cold c place line p j k
+    → IfSome content (λ c. (line : ℕ) (p : BodyParts) (j : ℕ) (k : KeyPart) → IsReadFrom c cold → HasNodeOn cold c place line p j k
     → p.number < below → k.prev < place → Walks place from p j k result)
     → Walks place from p j key result
 walk_carried content t cold h b place n p j key at below from less result says =
@@ -189,9 +191,10 @@ walk_carried content t cold h b place n p j key at below from less result says =
     (key_lower h.image t.number h.end h.prior b place n p j key at)
 
 -- the record of a key entry
-pub row_carried : (content : Option (List ℕ)) (t : Key) (cold : Cold) (h : Carries content t cold) (b place n : ℕ) (p : BodyParts) (j : ℕ)
+pub row_carried : (content : Option (List ℕ)) (t : Key) (cold : Cold) (h : CarriesTable content t cold) (b place n : ℕ)
+    (p : BodyParts) (j : ℕ)
     (key : KeyPart) → IsKeyAt h.prior b place n p j key → (number old new : ℕ) (result : Result Entry ColdRefusal)
-    → IfSome content (λ c. (line : ℕ) (p : BodyParts) (k : KeyPart) → IsRead c cold → HasNodeOn cold c place line p j k
+    → IfSome content (λ c. (line : ℕ) (p : BodyParts) (k : KeyPart) → IsReadFrom c cold → HasNodeOn cold c place line p j k
     → Answers number (drop (4 * line) (words_on cold c place)) result
     × LoadsWords (drop (4 * line) (words_on cold c place)) old new result)
     → IsEntryAnswer (Stored p.lane p.form p.payload) result

@@ -1,4 +1,4 @@
--- Key entries link to the newest of their bucket in front of them, so a chain passes each of the bucket's.
+-- Key entries link to the newest of their bucket before them, so a chain passes each of the bucket's.
 use Rattle.std.proofs.Common.{◌≡◌, ℕ, zero, suc, ◌+◌, ◌*◌, ◌^◌, ◌<◌, ◌⊎◌, List, [], ◌∷◌, ◌++◌, Bool, true, false}
 use Rattle.std.proofs.Common.{length, get_or, inl, inr, refl, sym, ap, ◌∙◌, subst, arith, drop}
 use Rattle.std.specs.Prelude.{Some, slice_get, slice_index, ◌==◌, if◌then◌else◌}
@@ -83,7 +83,7 @@ more_low n line c k places low b q h = by_place h.at h.there where
 
 -- ---- the keys of one record
 
--- one of these keys, from place c on, is the entry, and links to the newest behind it
+-- one of these keys, from place c on, is the entry, and links to the newest after it
 pub record IsOneOf (n line c : ℕ) (ks : List KeyPart) (b q : ℕ) (behind : List (ℕ × ℕ)) : Type 0 where
   pub at : ℕ
   pub key : KeyPart

@@ -45,7 +45,7 @@ read_words n b ws size read =
     ext_get_or 0 ws (words_of n b) (size ∙ sym (length-words_of n b))
     (λ k within. read k within ∙ sym (index-words_of n b k (omega arith)))
 
--- what stands behind the bytes of words is none of them
+-- what is after the bytes of words is none of them
 pub words_of-take : (n m : ℕ) (b : List ℕ) → 8 * n ≤ m → words_of n (take m b) ≡ words_of n b
 words_of-take zero m b h = refl
 words_of-take (suc n) m b h =
@@ -55,7 +55,7 @@ words_of-take (suc n) m b h =
     ∙ ap (λ l. number b ∷ words_of n l) behind
     ∙ ap (λ l. number b ∷ l) (words_of-take n (m - 8) (drop 8 b) (omega arith))
 
--- words behind others
+-- words after others
 pub drop-words_of : (i n : ℕ) (b : List ℕ) → i ≤ n → drop i (words_of n b) ≡ words_of (n - i) (drop (8 * i) b)
 drop-words_of zero n b h =
     let all : n ≡ n - 0 = omega arith in

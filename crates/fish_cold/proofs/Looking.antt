@@ -13,7 +13,7 @@ use Rattle.fish_layout.specs.Pages.{page_of}
 use Rattle.fish_cold.specs.Answers.{Answers, IsDamageOf, IsReadingOf, LoadsWords, Walks}
 use Rattle.fish_layout.specs.declared.parts.BodyParts.{BodyParts}
 use Rattle.fish_layout.specs.declared.parts.KeyPart.{KeyPart}
-use Rattle.fish_cold.specs.Cached.{Answered, Brings, IsRead, Looks, Reads, Uses, base_page, held_in}
+use Rattle.fish_cold.specs.Cached.{Answered, Brings, IsReadFrom, Looks, ReadsAtMost, Uses, base_page, held_in}
 use Rattle.fish_cold.proofs.Untouched.{nothing_read}
 use Rattle.fish_cold.specs.Caching.{IsPageIn, IsUndamaged}
 use Rattle.fish_cold.specs.declared.cold.Cold.{Cold}
@@ -27,7 +27,7 @@ module _ (c : List ℕ) (number : ℕ) (page : Page) (old new : Cold) (u : Uses 
   same_base : base_page new ≡ base_page old
   same_base = ap (λ b. page_of b.line) u.base
 
-  -- what a page is doesn't hang on what is held
+  -- what a page is doesn't depend on what is held
   moved : (n : ℕ) (p : Page) → IsPageIn old.base.line old.starts c n p → IsPageIn new.base.line new.starts c n p
   moved n p h = subst (λ b. IsPageIn b.line new.starts c n p) (sym u.base) (subst (λ s. IsPageIn old.base.line s c n p) (sym u.starts) h)
 
@@ -46,7 +46,7 @@ module _ (c : List ℕ) (number : ℕ) (page : Page) (old new : Cold) (u : Uses 
 
   -- what is held stays what is read
   uses_read_by : Dec (number ≡ base_page old) → number ≤ base_page old → IsPageIn old.base.line old.starts c number page
-      → IsRead c old → IsRead c new
+      → IsReadFrom c old → IsReadFrom c new
   uses_read_by (yes last) low is read =
       let beside = u.beside last in
       record {
@@ -78,11 +78,11 @@ module _ (c : List ℕ) (number : ℕ) (page : Page) (old new : Cold) (u : Uses 
           | inr more ↦ absurd (apart (omega arith))
         ]
 
-  pub uses_read : number ≤ base_page old → IsPageIn old.base.line old.starts c number page → IsRead c old → IsRead c new
+  pub uses_read : number ≤ base_page old → IsPageIn old.base.line old.starts c number page → IsReadFrom c old → IsReadFrom c new
   uses_read = uses_read_by (ℕ_discrete number (base_page old))
 
 -- a page that is held is what is read
-held_read_by : (c : List ℕ) (number : ℕ) (cold : Cold) (page : Page) (t : Bool) → nat_eq number (base_page cold) ≡ t → IsRead c cold
+held_read_by : (c : List ℕ) (number : ℕ) (cold : Cold) (page : Page) (t : Bool) → nat_eq number (base_page cold) ≡ t → IsReadFrom c cold
     → (if t then cold.tail else lookup (nat_eq number) cold.cache.entries) ≡ Some page → IsPageIn cold.base.line cold.starts c number page
 held_read_by c number cold page true is read there =
     subst (λ n. IsPageIn cold.base.line cold.starts c n page) (sym (eqb-true number (base_page cold) is)) (read.last page there)
@@ -90,13 +90,13 @@ held_read_by c number cold page false is read there =
     let found = Contains-lookup (nat_eq number) cold.cache.entries page there in
     subst (λ n. IsPageIn cold.base.line cold.starts c n page) (sym (eqb-true number found.0 found.2)) (read.cached found.0 page found.1)
 
-pub held_read : (c : List ℕ) (number : ℕ) (cold : Cold) (page : Page) → IsRead c cold → held_in cold number ≡ Some page
+pub held_read : (c : List ℕ) (number : ℕ) (cold : Cold) (page : Page) → IsReadFrom c cold → held_in cold number ≡ Some page
     → IsPageIn cold.base.line cold.starts c number page
 held_read c number cold page read there = held_read_by c number cold page (nat_eq number (base_page cold)) refl read there
 
 -- the page that was brought or is held is what is read
 pub used_read : (c : List ℕ) (number : ℕ) (cold : Cold) (fresh : Option Page) (page : Page)
-    → IfSome fresh (λ p. IsPageIn cold.base.line cold.starts c number p) → IsRead c cold
+    → IfSome fresh (λ p. IsPageIn cold.base.line cold.starts c number p) → IsReadFrom c cold
     → Some page ≡ option_or fresh (held_in cold number) → IsPageIn cold.base.line cold.starts c number page
 used_read c number cold (Some p) page brought read is =
     subst (IsPageIn cold.base.line cold.starts c number) (sym (same_Some page p is)) brought
@@ -137,11 +137,11 @@ pub listed_put : (cold : Cold) (number : ℕ) (page : Page) → (number ≡ base
 listed_put cold number page apart there = listed_by cold number page (nat_eq number (base_page cold)) refl apart there
 
 -- what is held stays what it was where nothing changed
-kept_same : (old new : Cold) (o : Option (List ℕ)) → new ≡ old → IfSome o (λ c. IsRead c old → IsRead c new)
+kept_same : (old new : Cold) (o : Option (List ℕ)) → new ≡ old → IfSome o (λ c. IsReadFrom c old → IsReadFrom c new)
 kept_same old new None same = tt
-kept_same old new (Some c) same = λ read. subst (IsRead c) (sym same) read
+kept_same old new (Some c) same = λ read. subst (IsReadFrom c) (sym same) read
 
--- the page that was brought, where the disk is told
+-- the page that was brought, where the content of the disk is known
 told_page : (c : List ℕ) (number : ℕ) (old : Cold) (fresh : Option Page)
     → IfSome fresh (λ p. IfSome (Some c) (λ d. IsPageIn old.base.line old.starts d number p))
     → IfSome fresh (λ p. IsPageIn old.base.line old.starts c number p)
@@ -151,7 +151,7 @@ told_page c number old (Some p) h = h
 -- and where a page was used that is what is read
 kept_used : (number : ℕ) (old new : Cold) (o : Option (List ℕ)) (fresh : Option Page) (page : Page) → number ≤ base_page old
     → IfSome fresh (λ p. IfSome o (λ c. IsPageIn old.base.line old.starts c number p))
-    → Some page ≡ option_or fresh (held_in old number) → Uses number page old new → IfSome o (λ c. IsRead c old → IsRead c new)
+    → Some page ≡ option_or fresh (held_in old number) → Uses number page old new → IfSome o (λ c. IsReadFrom c old → IsReadFrom c new)
 kept_used number old new None fresh page low brought is used = tt
 kept_used number old new (Some c) fresh page low brought is used =
     λ read. uses_read c number page old new used low
@@ -166,6 +166,16 @@ is_err {T} e h = ap Err h
 
 no_err : {T : Type 0} (x : T) → IsErrOf {T = T} {E = ColdRefusal} (Ok x) DiskFault → ⊥
 no_err {T} x h = cc
+
+-- nothing is brought
+brought_none : (fresh : Option Page) → ◌≡◌ {A = Result (Option Page) ColdRefusal} (Ok fresh) (Ok None) → fresh ≡ None
+brought_none fresh h = cc h
+
+-- and then the page that is used is the one that is held
+one_held : (held : Option Page) (fresh : Option Page) (page p : Page) → fresh ≡ None → Some page ≡ option_or fresh held
+    → held ≡ Some p → page ≡ p
+one_held held fresh page p none is there =
+    same_Some page p (is ∙ ap (λ o. option_or o held) none ∙ there)
 
 module _
     {D T : Type 0}
@@ -203,7 +213,11 @@ module _
       → IfErr read (IsReadingOf n) → Some page ≡ option_or fresh (held_in old number) → Answered number fresh old new read result
       → Looks content images since moment faults number old new disk next result
   looks_answered fresh n read (Ok x) page b low whole is a = record {
-    used = (page, a.used page is);
+    used = (
+      page,
+      λ p there. one_held (held_in old number) fresh page p (brought_none fresh (b.untouched (p, there)).1) is there,
+      a.used page is,
+    );
     refused = tt;
     cached = λ held. ((b.untouched held).0, no_err x);
     kept = kept_used number old new (content next) fresh page low b.fresh is (a.used page is);
@@ -219,7 +233,7 @@ module _
     cause = record { later = b.cause.later; failed = λ h. absurd (no_fault n read e whole a.err (err_is e h)) };
   }
 
--- what holds of what was read, and of a want of memory, holds of the answer
+-- what holds of what was read, and where memory runs out, holds of the answer
 pub answered_as : {T : Type 0} (number : ℕ) (fresh : Option Page) (old new : Cold) (read result : Result T ColdRefusal)
     (P : Result T ColdRefusal → Type 0) → Answered number fresh old new read result → P read → P (Err OutOfMemory) → P result
 answered_as number fresh old new read (Ok x) P a is want = subst P a.same is
@@ -255,11 +269,11 @@ pub if_some_all : {X : Type 0} (o : Option X) (P : X → Type 0) → ((x : X) �
 if_some_all None P h = tt
 if_some_all (Some x) P h = h x
 
--- what the page that was used says, where the disk is told
+-- what the page that was used says, where the content of the disk is known
 pub if_some_used : (o : Option (List ℕ)) (number : ℕ) (old : Cold) (fresh : Option Page) (page : Page) (P : List ℕ → Type 0)
     → IfSome fresh (λ p. IfSome o (λ c. IsPageIn old.base.line old.starts c number p))
     → Some page ≡ option_or fresh (held_in old number)
-    → ((c : List ℕ) → (IsRead c old → IsPageIn old.base.line old.starts c number page) → P c) → IfSome o P
+    → ((c : List ℕ) → (IsReadFrom c old → IsPageIn old.base.line old.starts c number page) → P c) → IfSome o P
 if_some_used None number old fresh page P brought is h = tt
 if_some_used (Some c) number old fresh page P brought is h =
     h c (λ read. used_read c number old fresh page (told_page c number old fresh brought) read is)
@@ -268,10 +282,10 @@ if_some_used (Some c) number old fresh page P brought is h =
 pub reads_of : {D T : Type 0} (content : D → Option (List ℕ)) (images : D → List ℕ → Type 0) (since : D → ℕ → List ℕ → Type 0)
     (moment faults : D → ℕ) (number : ℕ) (old new : Cold) (disk next : D) (result : Result T ColdRefusal)
     → Looks content images since moment faults number old new disk next result
-    → Reads content images since moment faults old new disk next result
+    → ReadsAtMost content images since moment faults old new disk next result
 reads_of content images since moment faults number old new disk next (Ok x) h = record {
-  base = h.used.1.base;
-  starts = h.used.1.starts;
+  base = h.used.2.base;
+  starts = h.used.2.starts;
   refused = tt;
   kept = h.kept;
   outside = h.outside;
@@ -286,13 +300,13 @@ reads_of content images since moment faults number old new disk next (Err e) h =
   cause = h.cause;
 }
 
-reads_kept : (o : Option (List ℕ)) (cold : Cold) → IfSome o (λ c. IsRead c cold → IsRead c cold)
+reads_kept : (o : Option (List ℕ)) (cold : Cold) → IfSome o (λ c. IsReadFrom c cold → IsReadFrom c cold)
 reads_kept None cold = tt
 reads_kept (Some c) cold = λ read. read
 
 pub reads_none : {D T : Type 0} (content : D → Option (List ℕ)) (images : D → List ℕ → Type 0) (since : D → ℕ → List ℕ → Type 0)
     (moment faults : D → ℕ) (old : Cold) (disk : D) (n : ℕ)
-    → Reads {T = T} content images since moment faults old old disk disk (Err (Damaged n))
+    → ReadsAtMost {T = T} content images since moment faults old old disk disk (Err (Damaged n))
 reads_none content images since moment faults old disk n = record {
   base = refl;
   starts = refl;
@@ -304,7 +318,7 @@ reads_none content images since moment faults old disk n = record {
 
 pub reads_end : {D T : Type 0} (content : D → Option (List ℕ)) (images : D → List ℕ → Type 0) (since : D → ℕ → List ℕ → Type 0)
     (moment faults : D → ℕ) (old : Cold) (disk : D) (x : T)
-    → Reads content images since moment faults old old disk disk (Ok x)
+    → ReadsAtMost content images since moment faults old old disk disk (Ok x)
 reads_end content images since moment faults old disk x = record {
   base = refl;
   starts = refl;

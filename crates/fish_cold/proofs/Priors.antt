@@ -1,4 +1,4 @@
--- Where the first entries of a log stand in the pages of a file, by the page starts.
+-- Where the first entries of a log are in the pages of a file, by the page starts.
 use Rattle.std.proofs.Common.{◌≡◌, ℕ, zero, suc, ◌+◌, ◌-◌, ◌*◌, ◌/◌, ◌%◌, ◌<◌, ◌≤◌, ◌⊎◌, List, [], ◌∷◌, ◌++◌, length, take, drop, get_or}
 use Rattle.std.proofs.Common.{inl, inr, refl, sym, ap, ◌∙◌, subst, arith, get_or-take, length-append}
 use Rattle.std.proofs.lemmas.List.{get_or-drop}
@@ -74,14 +74,14 @@ page_within w end words pages line below =
 
 -- ---- all regions
 
--- the region of number k, which begins at a line, is led to from the last page start that isn't behind it
+-- the region of number k, which begins at a line, is led to from the last page start that isn't after it
 pub record IsKept (words : ℕ → List ℕ) (starts : List PageStart) (k line : ℕ) : Type 0 where
   pub start : PageStart
   pub is_start : IsStartOf starts k start
   pub page_is : page_of start.line ≡ page_of line
   pub leads : Leads (words (page_of line)) (start.line % 32768) (k - start.number) (line % 32768)
 
--- what the page starts of n regions tell
+-- what the page starts of n regions say
 pub record Started (c : Commit) (w : List ℕ) (words : ℕ → List ℕ) (n : ℕ) (s : Reached) : Type 0 where
   pub rise : AreStarts s.starts
   pub below : (j : ℕ) (start : PageStart) → slice_get s.starts j ≡ Some start → (start.number < n)
@@ -90,7 +90,7 @@ pub record Started (c : Commit) (w : List ℕ) (words : ℕ → List ℕ) (n : �
   pub kept : (k : ℕ) (t : Reached) → k < n → Agrees c w k t → IsKept words s.starts k t.line
 
 module _ (c : Commit) (w : List ℕ) (end : ℕ) (words : ℕ → List ℕ) (pages : ArePages w end words) where
-  -- a region behind one in its page is led to from the same start
+  -- a region after one in its page is led to from the same start
   next_in_page : (j : ℕ) (s r : Reached) → Agrees c w j r → Follows c w r s → Started c w words (suc j) s → s.line < end
       → page_of s.line < s.page → IsKept words s.starts (suc j) s.line
   next_in_page j s r before follows st below same =
@@ -197,7 +197,7 @@ module _ (c : Commit) (w : List ℕ) (end : ℕ) (words : ℕ → List ℕ) (pag
         leads = kept.leads;
       }
 
-  -- starts rise with the one behind them
+  -- starts rise with the one after them
   rise_more : (n : ℕ) (s : Reached) → Started c w words n s → s.number ≡ n → s.page ≤ page_of s.line
       → AreStarts (s.starts ++ start_at s ∷ [])
   rise_more n s st number fresh i j a b less one two =
@@ -283,7 +283,7 @@ module _ (c : Commit) (w : List ℕ) (end : ℕ) (words : ℕ → List ℕ) (pag
 
 -- ---- entries
 
--- a region puts its entry behind the others
+-- a region puts its entry after the others
 abbrev pub entry_in : {c : Commit} {s : Reached} {lines : ℕ} {r : List ℕ} {n : Reached} → FollowsIn c s lines r n → Entry
 entry_in (inl v) = Void
 entry_in (inr v) = Stored v.0.lane v.0.form v.0.payload

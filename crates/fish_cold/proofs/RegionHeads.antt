@@ -1,4 +1,4 @@
--- What the words at the front of a region tell of it.
+-- What the words at the front of a region say of it.
 use Rattle.std.proofs.Common.{◌≡◌, ℕ, zero, suc, ◌+◌, ◌++◌, ◌∷◌, [], inl, inr, subst, ◌*◌, ◌/◌, ◌<◌, ◌≤◌, ◌^◌, List}
 use Rattle.std.proofs.Common.{length, drop, get_or, sym, ap, ◌∙◌, arith, get_or-take, length-drop}
 use Rattle.std.proofs.lemmas.List.{get_or-drop}
@@ -50,6 +50,11 @@ says_record p rest h =
 pub says_void : (rest : List ℕ) (h : IsVoidHead rest) → region_lines rest ≡ h.0
 says_void rest h = ap lines_of h.3 ∙ lines_of-void h.0 h.2
 
+-- so its first word is the void's header of so many lines
+pub void_first : (rest : List ℕ) (lines word : ℕ) → lines ≡ region_lines rest → word ≡ void_word lines → IsVoidHead rest
+    → slice_index rest 0 ≡ word
+void_first rest lines word is header h = h.3 ∙ ap void_word (sym (says_void rest h) ∙ sym is) ∙ sym header
+
 -- a record's header is no void's
 pub no_void_head : (p : BodyParts) (rest : List ℕ) (lines : ℕ) → IsRecordHead p rest → lines < 2 ^ 16
     → slice_index rest 0 ≡ void_word lines → ⊥
@@ -64,7 +69,7 @@ pub leads_within : (words : List ℕ) (first k line : ℕ) → Leads words first
 leads_within words first zero line h = h.1
 leads_within words first (suc k) line h = h.4
 
--- a key entry stands within the words, in a whole region
+-- a key entry is within the words, in a whole region
 pub record HasRoom (words : List ℕ) (i line : ℕ) : Type 0 where
   pub within : i + 2 < length words
   pub some : 0 < length (drop (4 * line) words)
@@ -159,7 +164,7 @@ module _ (words : List ℕ) (first here : ℕ) (regions : List ℕ)
             absurd (omega arith))
       ]
 
-  -- and without it where it lies behind the words
+  -- and without it where it lies past the words
   pub found_before : length words / 4 ≤ here → (k line : ℕ) → Leads words first k line → slice_get regions k ≡ Some line
   found_before behind k line h =
       elim (cases_lt k (length regions)) [
@@ -179,7 +184,7 @@ module _ (words : List ℕ) (first here : ℕ) (regions : List ℕ)
         ]
       ]
 
-  -- one region more leads behind its lines
+  -- one region more leads past its lines
   pub here_more : (line : ℕ) → Leads words first (length regions + 1) line → line ≡ here + lines_of (slice_index words (4 * here))
   here_more line h =
       let one : length regions + 1 ≡ suc (length regions) = omega arith in

@@ -1,4 +1,4 @@
--- Which page start is the last that isn't behind a number, or a page.
+-- Which page start is the last that isn't after a number, or a page.
 use Rattle.std.proofs.Common.{◌≡◌, ℕ, suc, ◌<◌, ◌≤◌, List, length, get_or, inl, inr, ap, arith}
 use Rattle.std.proofs.lemmas.Bool.{cases_lt}
 use Rattle.std.proofs.lemmas.Option.{get_or_from_slice_get, slice_get-get_or, slice_get_within}
@@ -26,7 +26,7 @@ pages_rise starts rise i j d le lt =
       | inr not ↦ (let same : i ≡ j = omega arith in let equal = ap (λ k. page_of (get_or starts k d).line) same in omega arith)
     ]
 
--- the place behind the last start that isn't behind a number
+-- the place after the last start that isn't after a number
 pub behind_start : (starts : List PageStart) (number : ℕ) (start : PageStart) (behind : ℕ) (h : IsStartOf starts number start)
     → behind ≤ length starts
     → ((k : ℕ) (d : PageStart) → k < behind → (get_or starts k d).number ≤ number)
@@ -48,7 +48,7 @@ behind_start starts number start behind h within before after =
       | inr not ↦ (let above = after at start (omega arith) inside in absurd (omega arith))
     ]
 
--- and the place behind the last start of pages up to one
+-- and the place after the last start of pages up to one
 pub behind_page : (starts : List PageStart) (page : ℕ) (start : PageStart) (behind : ℕ) (h : IsStartIn starts page start)
     → behind ≤ length starts
     → ((k : ℕ) (d : PageStart) → k < behind → page_of (get_or starts k d).line ≤ page)

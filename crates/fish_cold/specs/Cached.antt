@@ -31,7 +31,7 @@ abbrev pub Holds : Cold → ℕ → Type 0
 Holds cold page = (p : Page) × (held_in cold page ≡ Some p)
 
 -- each page that is held is what a file of this content reads
-pub record IsRead (content : List ℕ) (cold : Cold) : Type 0 where
+pub record IsReadFrom (content : List ℕ) (cold : Cold) : Type 0 where
   pub cached : (number : ℕ) (page : Page) → Contains cold.cache.entries (number, page)
       → IsPageIn cold.base.line cold.starts content number page
   pub older : (number : ℕ) (page : Page) → Contains cold.cache.entries (number, page) → number < base_page cold
@@ -73,6 +73,10 @@ pub record Answered {T : Type 0} (number : ℕ) (fresh : Option Page) (old new :
   pub used : OnOk result ((p : Page) → Some p ≡ option_or fresh (held_in old number) → Uses number p old new)
   pub refused : OnErr result (new ≡ old)
 
+-- the page is the one that was held, if one was
+abbrev pub IsHeld : Cold → ℕ → Page → Type 0
+IsHeld cold number page = (p : Page) → held_in cold number ≡ Some p → page ≡ p
+
 -- a record was looked at on a page: the page was used, and the disk isn't touched where it was held before; where nothing is
 -- answered nothing changed
 pub record Looks
@@ -85,15 +89,15 @@ pub record Looks
     (old new : Cold)
     (disk next : D)
     (result : Result T ColdRefusal) : Type 0 where
-  pub used : OnOk result ((page : Page) × Uses number page old new)
+  pub used : OnOk result ((page : Page) × IsHeld old number page × Uses number page old new)
   pub refused : OnErr result (new ≡ old)
   pub cached : Holds old number → (next ≡ disk) × ¬ IsErrOf result DiskFault
-  pub kept : IfSome (content next) (λ c. IsRead c old → IsRead c new)
+  pub kept : IfSome (content next) (λ c. IsReadFrom c old → IsReadFrom c new)
   pub outside : OnlyReads content images since moment disk next
   pub cause : HasDiskCause (faults disk) (faults next) result
 
 -- the same, whether a page was looked at or none
-pub record Reads
+pub record ReadsAtMost
     {D T : Type 0}
     (content : D → Option (List ℕ))
     (images : D → List ℕ → Type 0)
@@ -105,7 +109,7 @@ pub record Reads
   pub base : new.base ≡ old.base
   pub starts : new.starts ≡ old.starts
   pub refused : OnErr result (new ≡ old)
-  pub kept : IfSome (content next) (λ c. IsRead c old → IsRead c new)
+  pub kept : IfSome (content next) (λ c. IsReadFrom c old → IsReadFrom c new)
   pub outside : OnlyReads content images since moment disk next
   pub cause : HasDiskCause (faults disk) (faults next) result
 
@@ -115,7 +119,7 @@ pub record Reads
 abbrev pub words_on : Cold → List ℕ → ℕ → List ℕ
 words_on cold content place = page_words cold.base.line (place / 131072) content
 
--- entry j of the record of the region at a line of its page stands at the place
+-- entry j of the record of the region at a line of its page is at the place
 abbrev pub HasNodeOn : Cold → List ℕ → ℕ → ℕ → BodyParts → ℕ → KeyPart → Type 0
 HasNodeOn cold content place line p j k = HasNode (words_on cold content place) (place % 131072) line p j k
 

@@ -17,7 +17,7 @@ use Rattle.fish_lang.specs.Definition.{Definition}
 use Rattle.fish_lang.specs.Language.{IsAccepted}
 use Rattle.fish_psf.specs.Records.{evaluation}
 use Rattle.fish_cold.specs.Answers.{IsRecordHead, IsVoidHead}
-use Rattle.fish_cold.specs.Cached.{HasRegion, IsRead}
+use Rattle.fish_cold.specs.Cached.{HasRegion, IsReadFrom}
 use Rattle.fish_cold.specs.declared.cold.Cold.{Cold}
 use Rattle.fish_cold.specs.declared.refusal.ColdRefusal.{ColdRefusal}
 use Rattle.fish_cold.specs.declared.refusal.ColdRefusal.TheVariants.{Damaged, DiskFault, OutOfMemory}
@@ -46,7 +46,7 @@ pub record IsPriorRecord {image : List ℕ} {count : ℕ} {end : Reached} (prior
 -- the content of the disk is known, and stands for a log whose first entries are those below the base: they end at the base's
 -- line, the heads with which the table began are theirs, each has a key entry for every value that a row of the table gives
 -- where it covers the entry, and the page starts and pages that are kept are theirs
-pub record Carries (content : Option (List ℕ)) (k : Key) (cold : Cold) : Type 0 where
+pub record CarriesTable (content : Option (List ℕ)) (k : Key) (cold : Cold) : Type 0 where
   pub image : List ℕ
   pub is : content ≡ Some image
   pub end : Reached
@@ -60,7 +60,7 @@ pub record Carries (content : Option (List ℕ)) (k : Key) (cold : Cold) : Type 
   pub base_number : cold.base.number ≡ k.number
   pub base_line : cold.base.line ≡ k.line
   pub starts : cold.starts ≡ end.starts
-  pub read : IsRead image cold
+  pub read : IsReadFrom image cold
 
 -- words that begin with a region are this entry: a void's header, or a record
 abbrev pub IsEntryOf : List ℕ → Entry → Type 0
@@ -83,7 +83,7 @@ IsEntryAnswer entry (Err DiskFault) = ⊤
 IsEntryAnswer entry (Err OutOfMemory) = ⊤
 
 -- the answer for a number below the base is the entry of the log for which the disk stands
-pub record IsEntryRead {content : Option (List ℕ)} {k : Key} {cold : Cold} (h : Carries content k cold) (number : ℕ)
+pub record IsEntryRead {content : Option (List ℕ)} {k : Key} {cold : Cold} (h : CarriesTable content k cold) (number : ℕ)
     (result : Result Entry ColdRefusal) : Type 0 where
   pub entry : Entry
   pub there : slice_get h.end.entries number ≡ Some entry

@@ -47,10 +47,11 @@ impl Cold {
     ghost use Rattle.fish_layout.specs.declared.parts.BodyParts.{BodyParts};
     ghost use Rattle.fish_layout.specs.declared.parts.KeyPart.{KeyPart as Key};
     ghost use Rattle.fish_cold.specs.Answers.{Answers, EndsWalk, IsDamageOf, IsLinkable, LoadsWords, Walks};
-    ghost use Rattle.fish_cold.specs.Carries.{Carries, IsEntryAnswer, IsEntryRead};
+    ghost use Rattle.fish_cold.specs.Carries.{CarriesTable, IsEntryAnswer, IsEntryRead};
     ghost use Rattle.fish_cold.specs.Chains.{IsKeyAt};
     ghost use Rattle.fish_cold.specs.Regions.{Leads};
-    ghost use Rattle.fish_cold.specs.Cached.{Answered, Brings, HasNodeOn, HasRegion, Holds, IsRead, Looks, Reads, Uses, held_in, words_on};
+    ghost use Rattle.fish_cold.specs.Cached.{Answered, Brings, HasNodeOn, HasRegion, Holds, IsReadFrom, Looks};
+    ghost use Rattle.fish_cold.specs.Cached.{ReadsAtMost, Uses, held_in, words_on};
     ghost use Rattle.fish_cold.specs.Pages.{page_words};
     ghost use Rattle.fish_cold.specs.Starts.{AddsFrom, IsStartIn, IsStartOf, with_starts};
 
@@ -60,7 +61,7 @@ impl Cold {
         ensures base { IfOk result (λ cold. cold.base ≡ base) }
         ensures starts { IfOk result (λ cold. cold.starts ≡ starts) }
         ensures none { IfOk result (λ cold. (cold.cache.entries ≡ []) × (cold.tail ≡ None)) }
-        ensures read { IfOk result (λ cold. (c : List ℕ) → IsRead c cold) }
+        ensures read { IfOk result (λ cold. (c : List ℕ) → IsReadFrom c cold) }
     {
         let Some(pages) = NonZeroUsize::new(16) else {
             unreachable!()
@@ -74,6 +75,13 @@ impl Cold {
         })
     }
 
+    /// Where the log in memory begins.
+    pub fn base(&self) -> Base
+        ensures { result ≡ self.now.base }
+    {
+        self.base
+    }
+
     /// The base becomes this one, and pages that had no start get theirs. The pages of the list stay. Takes a copy of
     /// the page starts.
     pub fn grow(&mut self, base: Base, starts: &PageStarts) -> Result<(), AllocError>
@@ -82,7 +90,7 @@ impl Cold {
         ensures base { OnOk result (self.new.base ≡ base) }
         ensures starts { OnOk result (self.new.starts ≡ with_starts self.old.starts starts.now) }
         ensures read { OnOk result ((c : List ℕ) → AddsFrom self.old.starts self.old.base.line starts.now
-            → IsRead c self.old → IsRead c self.new) }
+            → IsReadFrom c self.old → IsReadFrom c self.new) }
         ensures pages { OnOk result ((self.new.cache ≡ self.old.cache) × (self.new.tail ≡ None)) }
 
         ensures refused { OnErr result (self.new ≡ self.old) }
@@ -102,12 +110,12 @@ impl Cold {
         loads: &mut Steps<L>,
     ) -> Result<Entry, ColdRefusal>
         requires older { number < self.old.base.number }
-        ensures entry { IfSome (D.content disk.new) (λ c. (rest : List ℕ) → IsRead c self.old
+        ensures entry { IfSome (D.content disk.new) (λ c. (rest : List ℕ) → IsReadFrom c self.old
             → HasRegion self.old c number rest → Answers number rest result × LoadsWords rest loads.old loads.new result) }
-        ensures carried { (k : TableKey) (h : Carries (D.content disk.new) k self.old) → IsEntryRead h number result }
+        ensures carried { (k : TableKey) (h : CarriesTable (D.content disk.new) k self.old) → IsEntryRead h number result }
         ensures looks { (start : Start) → IsStartOf self.old.starts number start → start.line < self.old.base.line
             → Looks D.content D.images D.since D.moment D.faults (page_of start.line) self.old self.new disk.old disk.new result }
-        ensures reads { Reads D.content D.images D.since D.moment D.faults self.old self.new disk.old disk.new result }
+        ensures reads { ReadsAtMost D.content D.images D.since D.moment D.faults self.old self.new disk.old disk.new result }
 
         ensures damage { IfErr result (IsDamageOf number) }
     {
@@ -121,11 +129,11 @@ impl Cold {
         number: u32,
         loads: &mut Steps<L>,
     ) -> Result<Entry, ColdRefusal>
-        ensures entry { IfSome (D.content disk.new) (λ c. (rest : List ℕ) → IsRead c self.old
+        ensures entry { IfSome (D.content disk.new) (λ c. (rest : List ℕ) → IsReadFrom c self.old
             → HasRegion self.old c number rest → Answers number rest result × LoadsWords rest loads.old loads.new result) }
         ensures looks { (start : Start) → IsStartOf self.old.starts number start → start.line < self.old.base.line
             → Looks D.content D.images D.since D.moment D.faults (page_of start.line) self.old self.new disk.old disk.new result }
-        ensures reads { Reads D.content D.images D.since D.moment D.faults self.old self.new disk.old disk.new result }
+        ensures reads { ReadsAtMost D.content D.images D.since D.moment D.faults self.old self.new disk.old disk.new result }
         ensures damage { IfErr result (IsDamageOf number) }
     {
         match self.place_of(number) {
@@ -157,7 +165,7 @@ impl Cold {
         loads: &mut Steps<L>,
     ) -> Result<Entry, ColdRefusal>
         requires within { page ≤ page_of self.old.base.line }
-        ensures entry { IfSome (D.content disk.new) (λ c. (start : Start) (line : ℕ) → IsRead c self.old
+        ensures entry { IfSome (D.content disk.new) (λ c. (start : Start) (line : ℕ) → IsReadFrom c self.old
             → IsStartIn self.old.starts page start → Leads (page_words self.old.base.line page c) (start.line % 32768) at line
             → Answers number (drop (4 * line) (page_words self.old.base.line page c)) result
             × LoadsWords (drop (4 * line) (page_words self.old.base.line page c)) loads.old loads.new result) }
@@ -185,17 +193,17 @@ impl Cold {
         loads: &mut Steps<L>,
     ) -> Result<Option<ColdNode>, ColdRefusal>
         requires older { place ≢ 0 → place < 4 * self.old.base.line }
-        ensures node { IfSome (D.content disk.new) (λ c. (line : ℕ) (p : BodyParts) (j : ℕ) (k : Key) → IsRead c self.old
+        ensures node { IfSome (D.content disk.new) (λ c. (line : ℕ) (p : BodyParts) (j : ℕ) (k : Key) → IsReadFrom c self.old
             → HasNodeOn self.old c place line p j k → p.number < below → k.prev < place → Walks place from p j k result) }
-        ensures ends { place ≢ 0 → IfSome (D.content disk.new) (λ c. IsRead c self.old
+        ensures ends { place ≢ 0 → IfSome (D.content disk.new) (λ c. IsReadFrom c self.old
             → EndsWalk (words_on self.old c place) (place % 131072) from result) }
-        ensures carried { (t : TableKey) (h : Carries (D.content disk.new) t self.old) (b n : ℕ) (p : BodyParts) (j : ℕ) (k : Key)
+        ensures carried { (t : TableKey) (h : CarriesTable (D.content disk.new) t self.old) (b n : ℕ) (p : BodyParts) (j : ℕ) (k : Key)
             → IsKeyAt h.prior b place n p j k → n < below → Walks place from p j k result }
         ensures linkable { IfOk result (λ o. IfSome o (IsLinkable place below from)) }
         ensures looks { place ≢ 0 → Looks D.content D.images D.since D.moment D.faults (place / 131072) self.old self.new
             disk.old disk.new result }
         ensures nowhere { place ≡ 0 → (result ≡ Ok None) × (self.new ≡ self.old) × (disk.new ≡ disk.old) }
-        ensures reads { Reads D.content D.images D.since D.moment D.faults self.old self.new disk.old disk.new result }
+        ensures reads { ReadsAtMost D.content D.images D.since D.moment D.faults self.old self.new disk.old disk.new result }
         ensures loads { loads.new ≤ loads.old + 38 }
 
         ensures damage { IfErr result (IsDamageOf below) }
@@ -214,10 +222,10 @@ impl Cold {
         loads: &mut Steps<L>,
     ) -> Result<Option<ColdNode>, ColdRefusal>
         requires older { asked.place < 4 * self.old.base.line }
-        ensures node { IfSome (D.content disk.new) (λ c. (line : ℕ) (p : BodyParts) (j : ℕ) (k : Key) → IsRead c self.old
+        ensures node { IfSome (D.content disk.new) (λ c. (line : ℕ) (p : BodyParts) (j : ℕ) (k : Key) → IsReadFrom c self.old
             → HasNodeOn self.old c asked.place line p j k → p.number < asked.below → k.prev < asked.place
             → Walks asked.place asked.from p j k result) }
-        ensures ends { IfSome (D.content disk.new) (λ c. IsRead c self.old
+        ensures ends { IfSome (D.content disk.new) (λ c. IsReadFrom c self.old
             → EndsWalk (words_on self.old c asked.place) (asked.place % 131072) asked.from result) }
         ensures linkable { IfOk result (λ o. IfSome o (IsLinkable asked.place asked.below asked.from)) }
         ensures looks { Looks D.content D.images D.since D.moment D.faults (asked.place / 131072) self.old self.new
@@ -245,11 +253,11 @@ impl Cold {
     ) -> Result<Entry, ColdRefusal>
         requires older { node.now.number < self.old.base.number }
         requires lower { node.now.place < 4 * self.old.base.line }
-        ensures entry { IfSome (D.content disk.new) (λ c. (line : ℕ) (p : BodyParts) (k : Key) → IsRead c self.old
+        ensures entry { IfSome (D.content disk.new) (λ c. (line : ℕ) (p : BodyParts) (k : Key) → IsReadFrom c self.old
             → HasNodeOn self.old c node.now.place line p node.now.key k
             → Answers node.now.number (drop (4 * line) (words_on self.old c node.now.place)) result
             × LoadsWords (drop (4 * line) (words_on self.old c node.now.place)) loads.old loads.new result) }
-        ensures carried { (t : TableKey) (h : Carries (D.content disk.new) t self.old) (b n : ℕ) (p : BodyParts) (k : Key)
+        ensures carried { (t : TableKey) (h : CarriesTable (D.content disk.new) t self.old) (b n : ℕ) (p : BodyParts) (k : Key)
             → IsKeyAt h.prior b node.now.place n p node.now.key k → IsEntryAnswer (Stored p.lane p.form p.payload) result }
         ensures looks { Looks D.content D.images D.since D.moment D.faults (node.now.place / 131072) self.old self.new
             disk.old disk.new result }
@@ -267,7 +275,7 @@ impl Cold {
         loads: &mut Steps<L>,
     ) -> Result<Entry, ColdRefusal>
         requires lower { node.now.place < 4 * self.old.base.line }
-        ensures entry { IfSome (D.content disk.new) (λ c. (line : ℕ) (p : BodyParts) (k : Key) → IsRead c self.old
+        ensures entry { IfSome (D.content disk.new) (λ c. (line : ℕ) (p : BodyParts) (k : Key) → IsReadFrom c self.old
             → HasNodeOn self.old c node.now.place line p node.now.key k
             → Answers node.now.number (drop (4 * line) (words_on self.old c node.now.place)) result
             × LoadsWords (drop (4 * line) (words_on self.old c node.now.place)) loads.old loads.new result) }
@@ -326,7 +334,7 @@ impl Cold {
         }
     }
 
-    /// The answer that was read from a page, which stands first in the list from then on.
+    /// The answer that was read from a page, which is the first of the list from then on.
     fn answer<T: Drop>(
         &mut self,
         page: u64,
@@ -351,7 +359,7 @@ impl Cold {
         }
     }
 
-    /// The page stands first in the list, and is kept where it was brought.
+    /// The page becomes the first of the list, and is kept where it was brought.
     fn keep(&mut self, page: u64, fresh: Option<Page>) -> Result<(), AllocError>
         requires { (fresh ≡ None) ↔ Holds self.old page }
         ensures kept { OnOk result ((p : Page) → Some p ≡ option_or fresh (held_in self.old page) → Uses page p self.old self.new) }

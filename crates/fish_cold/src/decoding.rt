@@ -92,14 +92,13 @@ fn entry_at<L: Ledger>(
     if rest[0] == void_header(lines) {
         return Ok(Entry::Void);
     }
-    let count = (LINE_WORDS * lines) as usize;
-    if rest.len() < count {
-        return Err(ColdRefusal::Damaged { number });
-    }
-    let Some(payload) = find_payload(alloc, &rest[..count])? else {
+    let Some(region) = region_in(rest) else {
         return Err(ColdRefusal::Damaged { number });
     };
-    count_words(loads, count);
+    let Some(payload) = find_payload(alloc, region)? else {
+        return Err(ColdRefusal::Damaged { number });
+    };
+    count_words(loads, region.len());
     Ok(entry_of(payload))
 }
 

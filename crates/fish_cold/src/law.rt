@@ -7,7 +7,7 @@ ghost use Rattle.fish_image.specs.Reached.{Reached, head_of};
 ghost use Rattle.fish_layout.specs.declared.parts.BodyParts.{BodyParts};
 ghost use Rattle.fish_layout.specs.declared.parts.KeyPart.{KeyPart};
 ghost use Rattle.fish_rule.specs.declared.view.Key.{Key};
-ghost use Rattle.fish_cold.specs.Carries.{Carries, IsCarried, IsEntryAnswer, IsEntryOf, IsPrior};
+ghost use Rattle.fish_cold.specs.Carries.{CarriesTable, IsCarried, IsEntryAnswer, IsEntryOf, IsPrior};
 ghost use Rattle.fish_cold.specs.Chains.{IsKeyAt, IsLink, Splits};
 ghost use Rattle.fish_cold.specs.Answers.{Answers};
 ghost use Rattle.fish_cold.specs.Cached.{HasNodeOn};
@@ -17,7 +17,7 @@ ghost use Rattle.fish_cold.specs.declared.cold.Cold.{Cold as Older};
 /// On a disk that carries its table each number below the base is led to, and its words are the entry of the log
 /// for which the disk stands; what is answered for such words is that entry, and never damaged.
 pub fn entries_are_carried()
-    ensures carried { (content : Option (List ℕ)) (k : Key) (cold : Older) (h : Carries content k cold) (n : ℕ) → n < k.number
+    ensures carried { (content : Option (List ℕ)) (k : Key) (cold : Older) (h : CarriesTable content k cold) (n : ℕ) → n < k.number
         → IsCarried cold h.image h.end n }
     ensures answered { (number : ℕ) (rest : List ℕ) (entry : Entry) (result : Result Entry ColdRefusal) → IsEntryOf rest entry
         → Answers number rest result → IsEntryAnswer entry result }
@@ -35,6 +35,6 @@ pub fn chains_lead_down()
 
 /// On a disk that carries its table a key entry of a number below the base is on its page.
 pub fn keys_are_carried()
-    ensures { (content : Option (List ℕ)) (k : Key) (cold : Older) (h : Carries content k cold) (b place n : ℕ) (p : BodyParts) (j : ℕ)
+    ensures { (content : Option (List ℕ)) (k : Key) (cold : Older) (h : CarriesTable content k cold) (b place n : ℕ) (p : BodyParts) (j : ℕ)
         (key : KeyPart) (at : IsKeyAt h.prior b place n p j key) → HasNodeOn cold h.image place (at.stored.at.line % 32768) p j key }
 {}

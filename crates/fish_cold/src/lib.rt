@@ -1,6 +1,6 @@
 //! The older records of a store, read from its file a page at a time, through a cache of 16 pages.
 //!
-//! A log in memory begins at a base. What is below it stands in the file alone, and never changes
+//! A log in memory begins at a base. What is below it is in the file alone, and never changes
 //! there. Nothing here writes, and no shared word is touched.
 #![tactic(auto)]
 

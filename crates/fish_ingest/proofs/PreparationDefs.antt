@@ -106,7 +106,8 @@ active_defs {rows} {defs} h active written =
     let numbered : (k : ℕ) (row : CatRow) → slice_get rows k ≡ Some row → row.id ≡ 0 + k =
     λ k row at. let e = h.ids k row at in omega arith in
     let ascend : AscendFrom 0 (map row_id (filter is_active rows)) = active_ascend 0 rows (omega arith) numbered in
-    defs_ascend defs (few_by rows is_active (λ row. (row.id, row.def)) defs active h.few_active) (subst (AscendFrom 0) (sym (ids_same rows defs active)) ascend) written
+    defs_ascend defs (few_by rows is_active (λ row. (row.id, row.def)) defs active h.few_active)
+    (subst (AscendFrom 0) (sym (ids_same rows defs active)) ascend) written
 
 -- at the version with which the table begins the definitions of the start are active, whatever else was learned
 pub knows_active : (k : Key) (l : Learned) (version : ℕ) (defs : List ActiveDef) → version ≡ k.version

@@ -57,8 +57,12 @@ pub behind_skip : (ws : List ℕ) (first skip size : ℕ) (bytes : List ℕ) →
     (take (length ws - first) (drop first ws)) (skip + size) →
     (words : ℕ) → words ≡ words_for (skip + size) → first + words ≤ length ws → skip ≤ length bytes
 behind_skip ws first skip size bytes is words few room =
-    omega (arith, ap length is, length-bytes_in (take (length ws - first) (drop first ws)) (skip + size)
-        (omega (arith, ap length (range_from ws first), length-drop first ws)))
+    omega (
+      arith,
+      ap length is,
+      length-bytes_in (take (length ws - first) (drop first ws)) (skip + size)
+          (omega (arith, ap length (range_from ws first), length-drop first ws)),
+    )
 
 -- the bytes behind those that are skipped, in the words from the one in which an offset lies, are those at the offset
 pub value_part : (ws : List ℕ) (skip_offset first_offset size n from many : ℕ) (bytes : List ℕ) →

@@ -80,8 +80,9 @@ module _ (def : Definition) (value : Value) (id bucket from to : ℕ) where
             (subst (λ (z : ℕ × ℕ). HasValue z.0 z.1 value x.about w) (λ i. (same.0 i, same.1 i)) has))
 
     -- the record of an entry of the definition with the value is gathered
-    pub gather_add : Stands v → Always v (HasValue node.number node.key value) → (row : Row) → row.number ≡ node.number → node.id ≡ id → from ≤ row.number → row.number < to
-        → Always v (Matches def value row) → Gathers v def value id bucket from to node.place (rows ++ row ∷ [])
+    pub gather_add : Stands v → Always v (HasValue node.number node.key value) → (row : Row) → row.number ≡ node.number
+        → node.id ≡ id → from ≤ row.number → row.number < to → Always v (Matches def value row)
+        → Gathers v def value id bucket from to node.place (rows ++ row ∷ [])
     gather_add s valued row number own after before matches = record {
       falls = falls_both to (suc row.number) rows (row ∷ []) h.falls (λ x m.
           let n = h.older x m v (learns_self v) s.moment s.rule s.seat s.at node.number node.key node.place

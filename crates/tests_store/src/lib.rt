@@ -21,6 +21,10 @@ mod flushing;
 #[cfg(test)]
 mod images;
 #[cfg(test)]
+mod many_pages;
+#[cfg(test)]
+mod older;
+#[cfg(test)]
 mod openings;
 #[cfg(test)]
 mod stored;

@@ -1,4 +1,4 @@
--- The record's words are whole, and stand in front of its key entry.
+-- The record's words are whole, and are before its key entry.
 use Rattle.std.proofs.Common.{sym, subst}
 use Rattle.fish_cold.specs.Regions.{IsWhole}
 use Rattle.fish_cold.proofs.RegionHeads.{node_room}

@@ -1,4 +1,4 @@
--- The record's words stand in front of its key entry.
+-- The record's words are before its key entry.
 use Rattle.std.proofs.Common.{arith}
 use Rattle.fish_cold.proofs.RegionHeads.{node_room}
 use Rattle.fish_cold.proofs.decoding.row_in.Goals as goal

@@ -1,4 +1,4 @@
--- What leads on from the regions so far leads here, and no further where the region here has no lines or lies behind the words.
+-- What leads on from the regions so far leads here, and no further where the region here has no lines or lies past the words.
 use Rattle.std.proofs.Common.{◌≡◌, ◌+◌, ◌∙◌, [], ◌∷◌, length, length-append, sym, ap, subst, arith}
 use Rattle.std.specs.Prelude.{Some, slice_get}
 use Rattle.fish_cold.specs.Regions.{Leads}

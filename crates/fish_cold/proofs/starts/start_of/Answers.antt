@@ -1,4 +1,4 @@
--- The start in front of the first that is behind.
+-- The start before the first that is after the number.
 use Rattle.std.proofs.Common.{◌≡◌, ◌-◌, leb, leb-true, leb-false, arith, rules, ap, ◌∙◌, get_or}
 use Rattle.std.specs.Prelude.{Some}
 use Rattle.std.proofs.lemmas.List.Sorted.{IsPartitionPoint-from_clause, IsPartitionedBy-leb}

@@ -31,7 +31,7 @@ returns-in_default c p k h within is =
     let keys = c.from-keys.ensures ∙ c.keys_in.ensures.value ∙ (body_says h).keys in
     let points = key_points h c.args.place k within is c.from-keys.result keys in
     let found = c.in_ok-value.ensures k.value
-        (length (values_of p.keys)) points.proper points.kind points.within points.room points.bytes in
+    (length (values_of p.keys)) points.proper points.kind points.within points.room points.bytes in
     let none = c.in_default.is in
     cc
 
@@ -40,7 +40,7 @@ returns c p k h within is =
     let keys = c.from-keys.ensures ∙ c.keys_in.ensures.value ∙ (body_says h).keys in
     let points = key_points h c.args.place k within is c.from-keys.result keys in
     let found = c.in_ok-value.ensures k.value
-        (length (values_of p.keys)) points.proper points.kind points.within points.room points.bytes in
+    (length (values_of p.keys)) points.proper points.kind points.within points.room points.bytes in
     let says = body_key c.args.place k h within is in
     let value : c.in-Some.value ≡ k.value = some_same (sym c.in-Some.is ∙ found) in
     ap (λ n. Some (record { prev = n; id = c.id_in.result; value = c.in-Some.value })) says.prev
