@@ -2,15 +2,15 @@
 use Rattle.std.proofs.Common.{◌≡◌, ℕ, zero, suc, ◌+◌, ◌-◌, ◌<◌, ◌≤◌, inl, inr, List, [], ◌∷◌, ◌++◌, length, length-append, Some, slice_get}
 use Rattle.std.proofs.Common.{refl, sym, ap, ◌∙◌, arith}
 use Rattle.std.proofs.Math.Decide.{dec_le}
+use Rattle.fish_catalog.specs.PageStarts.{page_after, page_behind, starts_after}
 use Rattle.fish_catalog.specs.declared.commit.Commit.{Commit}
 use Rattle.fish_catalog.specs.declared.page_start.PageStart.{PageStart}
 use Rattle.fish_flush.proofs.RegionSteps.{next_page, next_starts}
-use Rattle.fish_flush.specs.Kept.{page_after, page_behind}
 use Rattle.fish_flush.specs.Laws.{PagesFollowStarts}
-use Rattle.fish_flush.specs.Reading.{starts_after}
 use Rattle.fish_image.specs.Log.{Agrees, FollowsIn}
-use Rattle.fish_image.specs.Reached.{Reached, page_of}
+use Rattle.fish_image.specs.Reached.{Reached}
 use Rattle.fish_layout.specs.Cleared.{choose}
+use Rattle.fish_layout.specs.Pages.{page_of}
 
 -- the last of a list with one more is that one
 last_there : (xs : List PageStart) (x : PageStart) → slice_get (xs ++ x ∷ []) (length xs) ≡ Some x

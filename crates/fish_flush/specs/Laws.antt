@@ -2,12 +2,13 @@
 use Rattle.std.specs.Prelude.{ℕ, ◌≡◌, ◌≤◌, List, [], map}
 use Rattle.fish_catalog.specs.Clamps.{clamped}
 use Rattle.fish_catalog.specs.Closing.{with_to}
+use Rattle.fish_catalog.specs.PageStarts.{page_after}
 use Rattle.fish_catalog.specs.Rows.{IsActiveNamed}
 use Rattle.fish_catalog.specs.declared.commit.Commit.{Commit}
 use Rattle.fish_catalog.specs.declared.entry.Entry.{Entry}
 use Rattle.fish_catalog.specs.declared.row.CatRow.{CatRow}
 use Rattle.fish_flush.specs.Carrying.{Carries}
-use Rattle.fish_flush.specs.Kept.{IsAtRest, first_commit, page_after}
+use Rattle.fish_flush.specs.Kept.{IsAtRest, first_commit}
 use Rattle.fish_flush.specs.Rows.{HaveGrown, HoldsRows}
 use Rattle.fish_flush.specs.declared.flusher.Flusher.{Flusher}
 use Rattle.fish_image.specs.Log.{Agrees}

@@ -77,6 +77,7 @@ held (Some i) asked f h shape checked = record {
   slot = refl;
   told = h.told;
   shape = shape;
-  checked = subst (λ (k : ℕ). HasChecked f.commit (first_words k i) f.checked) (sym (body_lines f.commit (body_of f.slot i) h.told)) checked;
+  checked = subst (λ (k : ℕ). HasChecked f.commit (first_words k i) f.checked)
+      (sym (body_lines f.commit (body_of f.slot i) h.told)) checked;
   older = h.older;
 }

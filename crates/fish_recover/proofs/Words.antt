@@ -111,7 +111,8 @@ words_next line count c =
     ∙ words_joined (4 * line) a b (elim (cases_lt (length c) (lines_at + 32 * line)) [
       | inl less ↦ inr (ap (λ (l : List ℕ). length (take (32 * count) l))
           (drop_all (lines_at + 32 * line) c (omega arith)) ∙ nothing (32 * count))
-      | inr more ↦ inl (length-take-le (32 * line) (drop lines_at c) (omega arith) ∙ (let four : 32 * line ≡ 8 * (4 * line) = omega arith in four))
+      | inr more ↦ inl (length-take-le (32 * line) (drop lines_at c) (omega arith)
+          ∙ (let four : 32 * line ≡ 8 * (4 * line) = omega arith in four))
     ])
   where
     nothing : (n : ℕ) → length (take n (let no : List ℕ = [] in no)) ≡ 0

@@ -34,7 +34,8 @@ returns-clause-refused g c =
       λ (d : Commit) told. absurd (cc (
         c.in_ok-commit.ensures.only d (subst (IsTold d)
             (sym (ap (take c.in_ok-count.count) same
-            ∙ part_read _ (body_at c.args.slot) body_bytes c.in_ok-count.count buf content (omega arith) (omega arith) gave.0 gave.1)) told),
+            ∙ part_read _ (body_at c.args.slot) body_bytes c.in_ok-count.count buf content (omega arith) (omega arith)
+            gave.0 gave.1)) told),
         c.in-None.is,
       )),
     ))
