@@ -10,8 +10,7 @@ use Rattle.fish_slots.proofs.Commits.{one_commit}
 use Rattle.fish_slots.specs.Commits.{Counts, HasCommit}
 use Rattle.fish_slots.specs.Slots.{IsOpen}
 use Rattle.fish_recover.proofs.Once.{told_once}
-use Rattle.fish_recover.specs.Choosing.{IsSlotless}
-use Rattle.fish_recover.specs.Opening.{IsBroken, IsFound, IsOfStore, IsOpenCause, IsOther, IsOtherShape}
+use Rattle.fish_recover.specs.Opening.{IsFound, IsOfStore, IsOpenCause, IsOther, IsOtherShape}
 use Rattle.fish_recover.specs.declared.finding.Found.{Found}
 use Rattle.fish_recover.specs.declared.refusal.Asked.{Asked}
 use Rattle.fish_recover.specs.declared.refusal.OpenRefusal.{OpenRefusal}
