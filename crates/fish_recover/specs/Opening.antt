@@ -119,6 +119,14 @@ pub record IsBroken (image : List ℕ) (asked : Asked) (number : ℕ) : Type 0 w
   pub shape : IsOtherShape asked commit → ⊥
   pub damaged : IsDamaged commit (words_in lines) number
 
+-- the refusal speaks of the store
+abbrev pub IsOfStore : OpenRefusal → Type 0
+IsOfStore NotAStore = ⊤
+IsOfStore (Damaged n) = ⊤
+IsOfStore (ShapeDiffers kept asked) = ⊤
+IsOfStore DiskFault = ⊥
+IsOfStore OutOfMemory = ⊥
+
 -- why a store isn't opened: no gate is open; no slot counts whose body tells a commit; the slot's shape is another one; its lines
 -- stand for no log; or the disk failed, or memory ran out
 abbrev pub IsOpenCause : List ℕ → Asked → OpenRefusal → Type 0

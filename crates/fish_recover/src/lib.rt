@@ -6,8 +6,10 @@
 mod bytes;
 mod choosing;
 mod finding;
+mod law;
 mod lines;
 mod refusal;
 
 pub use finding::{Found, find_store};
+pub use law::causes_exclude;
 pub use refusal::{Asked, OpenRefusal};
