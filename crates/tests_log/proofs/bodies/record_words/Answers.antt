@@ -1,5 +1,5 @@
 -- The words have the parts that were put into them.
-use Rattle.std.proofs.Common.{◌≡◌, ℕ, ◌≤◌, List, [], length, refl, sym, subst, arith, rules}
+use Rattle.std.proofs.Common.{◌≡◌, ℕ, ◌≤◌, List, [], length, refl, sym, ap, subst, arith, rules}
 use Rattle.fish_layout.proofs.Outlines.{body_length}
 use Rattle.fish_claim.proofs.Known.{knows_none}
 use Rattle.fish_claim.specs.Fills.{IsStorable}
@@ -8,6 +8,7 @@ use Rattle.fish_rule.proofs.laws.Keys.{no_keys}
 use Rattle.fish_rule.specs.declared.view.Epoch.TheVariants.{Confirmed}
 use Rattle.fish_rule.specs.declared.view.View.{View}
 use Rattle.fish_layout.specs.declared.parts.BodyParts.{BodyParts}
+use Rattle.fish_layout.specs.declared.parts.KeyPart.{KeyPart}
 use Rattle.fish_psf.specs.Records.{is_record}
 use Rattle.fish_value.specs.declared.field.Form.TheVariants.{Json}
 use Rattle.tests_log.proofs.bodies.record_words.Goals as goal
@@ -36,6 +37,7 @@ returns c =
         version = omega arith;
         number = number;
         keys = subst (Rattle.fish_layout.specs.Body.AreProperKeys 0) (sym keys) tt;
+        few = (let none : length p.keys ≡ 0 = ap (λ (ks : List KeyPart). length ks) keys in omega arith);
         short = subst (λ (z : List ℕ). length z ≤ 524288) bytes (omega arith);
         text = subst Rattle.std.specs.Prelude.IsUtf8 bytes c.as_bytes.ensures.utf8;
       };

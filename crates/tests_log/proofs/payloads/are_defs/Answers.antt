@@ -11,6 +11,6 @@ returns c holds =
     let past : length c.args.defs.now ≤ c.loop-active.active-index = omega arith in
     let none : drop c.loop-active.active-index c.args.defs.now ≡ [] =
     drop_all c.loop-active.active-index c.args.defs.now past in
-    defs_ascend c.args.defs.now (omega (arith, c.if_false.is))
+    defs_ascend c.args.defs.now (let few = c.if-defs-gt-MAX_ACTIVE.false in omega arith)
     (c.loop-active.invariant (subst (λ ds. AscendFrom c.loop-active.least (map id_of ds)) (sym none) tt))
     c.requires.written
