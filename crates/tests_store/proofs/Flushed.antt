@@ -21,7 +21,7 @@ use Rattle.fish_rule.specs.declared.table.Pass.{Pass}
 use Rattle.fish_rule.specs.declared.table.Shape.{Shape}
 use Rattle.fish_rule.specs.declared.view.View.{View}
 use Rattle.tests_store.specs.Flushing.{IsFlushing, IsOpened}
-use Rattle.tests_store.specs.declared.flushing.Control.{Control}
+use Rattle.tests_store.specs.declared.passes.Control.{Control}
 
 -- what holds where a call succeeds, from what it tells then
 pub on_all : {E : Type 0} (r : Result ℕ E) (A : ℕ → Type 0) (B : Type 0) → IfOk r A → ((n : ℕ) → A n → B) → OnOk r B

@@ -11,8 +11,8 @@ use Rattle.fish_rule.specs.declared.seats.Start.{Start}
 use Rattle.fish_rule.specs.declared.table.Log.{Log}
 use Rattle.fish_rule.specs.declared.table.Pass.{Pass}
 use Rattle.fish_rule.specs.declared.table.Shape.{Shape}
-use Rattle.tests_store.specs.declared.beside.Seat.{Seat}
-use Rattle.tests_store.specs.declared.flushing.Control.{Control}
+use Rattle.tests_store.specs.declared.passes.Seat.{Seat}
+use Rattle.tests_store.specs.declared.passes.Control.{Control}
 
 -- a log of this shape that begins so, at 0, and holds no record, and its control pass
 pub record IsOpened (shape : Shape) (start : Start) (log : Log) (pass : Pass) : Type 0 where

@@ -10,7 +10,8 @@ ghost use Rattle.fish_rule.specs.SeatSteps.{CanSplitPass, split_left};
 ghost use Rattle.fish_rule.specs.Table.{first_view};
 ghost use Rattle.tests_store.specs.Flushing.{AreOut, IsFlushing, IsOpened, IsOutOf};
 
-use crate::flushing::{Control, SHAPE, commit, made, opened, store};
+use crate::flushing::{SHAPE, commit, made, opened, store};
+use crate::passes::{Control, Seat};
 use crate::stored::{checked, counting, words_of};
 use crate::told::{expect, numbers};
 use fish_catalog::Commit;
@@ -28,13 +29,6 @@ const RECORDS: usize = 200;
 
 /// How often the control pass commits beside them.
 const CHECKPOINTS: u32 = 20;
-
-/// A pass on its thread, and how many records it stored.
-#[derive(Drop)]
-pub(crate) struct Seat {
-    pub pass: Pass,
-    pub stored: usize,
-}
 
 /// Stores records. How many.
 fn store_some(alloc: Global, log: &Log, pass: &mut Pass, defs: &mut Defs) -> usize

@@ -7,7 +7,8 @@
 ghost use Rattle.tests_store.specs.Flushing.{IsFlushing, IsOpened};
 ghost use Rattle.std.specs.Prelude.{◌≡◌, IfOk, IfSome, OnOk, length};
 
-use crate::flushing::{Control, SHAPE, commit, made, opened, store};
+use crate::flushing::{SHAPE, commit, made, opened, store};
+use crate::passes::Control;
 use crate::stored::state;
 use crate::told::{expect_all, numbers};
 use fish_disk::{Disk, MemoryDisk};

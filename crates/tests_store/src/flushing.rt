@@ -9,6 +9,7 @@ ghost use Rattle.fish_rule.specs.Table.{first_view};
 ghost use Rattle.tests_store.specs.Flushing.{IsFlushing, IsOpened};
 
 use crate::bodies::row;
+use crate::passes::Control;
 use fish_catalog::Catalog;
 use fish_disk::Disk;
 use fish_epoch::Defs;
@@ -23,18 +24,6 @@ pub(crate) const SHAPE: Shape = Shape {
     pages: 1,
     bucket_bits: 4,
 };
-
-/// The control pass of a log.
-#[derive(Drop)]
-pub(crate) struct Control {
-    pub pass: Pass,
-    /// What the log began with.
-    pub start: Start,
-    /// The definitions that the pass read.
-    pub defs: Defs,
-    /// What it keeps of the last commit.
-    pub flusher: Flusher,
-}
 
 /// The definition `kind`, which is `take type`, or none if it should be refused.
 fn definitions(alloc: Global) -> Result<Catalog, AllocError> {

@@ -26,9 +26,12 @@ mod many_pages;
 mod older;
 #[cfg(test)]
 mod openings;
+mod passes;
 #[cfg(test)]
 mod stored;
 #[cfg(test)]
 mod system;
 #[cfg(test)]
 mod told;
+
+pub use passes::{Control, Seat};
