@@ -8,6 +8,7 @@ pub mod FirstHeads
 pub mod Flights
 pub mod FoundRegions
 pub mod Gaps
+pub mod KeptWords
 pub mod Lanes
 pub mod Lasts
 pub mod Lists

@@ -12,6 +12,7 @@ pub mod Keys
 pub mod Learning
 pub mod Links
 pub mod Lists
+pub mod LogWords
 pub mod Members
 pub mod Moments
 pub mod NextLog

@@ -8,15 +8,17 @@ use Rattle.fish_catalog.specs.declared.entry.Entry.{Entry}
 use Rattle.fish_catalog.specs.declared.page_start.PageStart.{PageStart}
 use Rattle.fish_layout.specs.Pages.{page_of}
 use Rattle.fish_rule.specs.Facts.{Facts, Owns}
-use Rattle.fish_rule.specs.Logs.{AreTold, IsLog, Learns, TellsNext}
+use Rattle.fish_rule.specs.Logs.{IsLog, Learns}
 use Rattle.fish_rule.specs.Parts.{Rests, first_head}
 use Rattle.fish_rule.specs.Registry.{version_in}
 use Rattle.fish_rule.specs.Rule.{Rule}
 use Rattle.fish_rule.specs.Views.{AllOf, Among}
 use Rattle.fish_rule.specs.World.{World, high, low}
 use Rattle.fish_rule.specs.declared.close.Next.{Next}
+use Rattle.fish_rule.specs.declared.close.Next.TheVariants as next
 use Rattle.fish_rule.specs.declared.close.ReadLog.{ReadLog}
 use Rattle.fish_rule.specs.declared.close.Remains.{Remains}
+use Rattle.fish_rule.specs.declared.close.WholeLog.{WholeLog}
 use Rattle.fish_rule.specs.declared.view.Found.{Found}
 use Rattle.fish_rule.specs.declared.view.Key.{Key}
 use Rattle.fish_rule.specs.declared.view.Kind.TheVariants.{Mark}
@@ -81,13 +83,9 @@ abbrev pub HasMarkAt : View → ℕ → ℕ → Type 0
 HasMarkAt v n line = (f : Found) × Among f v.learned.found × (f.number ≡ n) × (f.kind ≡ Mark) × (f.line ≡ line)
 
 -- what was found at a number, and the line at which it begins
-abbrev pub IsLineOf : View → ℕ → Option Entry → ℕ → Type 0
-IsLineOf v n None line = HasMarkAt v n line
-IsLineOf v n (Some e) line = HasLine v n line
-
-pub record IsNext (v : View) (n : ℕ) (next : Next) : Type 0 where
-  pub tells : TellsNext v n next.entry
-  pub lined : IsLineOf v n next.entry next.line
+abbrev pub IsNext : View → ℕ → Next → Type 0
+IsNext v n (next.Entry line) = HasLine v n line
+IsNext v n (next.Mark line) = HasMarkAt v n line
 
 -- of a number that was read, one of the starts begins its page
 pub record IsCovered (v : View) (starts : List PageStart) (n : ℕ) : Type 0 where
@@ -100,8 +98,8 @@ pub record IsCovered (v : View) (starts : List PageStart) (n : ℕ) : Type 0 whe
 
 -- the entries below a number were read, with the first region in each of their pages
 pub record IsReadUpTo (v : View) (n : ℕ) (read : ReadLog) : Type 0 where
-  pub many : v.about.number + length read.entries ≡ n
-  pub told : AreTold v v.about.number read.entries
+  pub from : v.about.number ≤ n
+  pub many : read.number ≡ n
   pub rise : PagesRise read.starts
   pub sound : (s : PageStart) → Among s read.starts
       → (v.about.number ≤ s.number) × (s.number < n) × HasLine v s.number s.line
@@ -109,9 +107,9 @@ pub record IsReadUpTo (v : View) (n : ℕ) (read : ReadLog) : Type 0 where
   pub paged : (s : PageStart) → Among s read.starts → page_of s.line < read.next_page
   pub last : 0 < read.next_page → (s : PageStart) × Among s read.starts × (suc (page_of s.line) ≡ read.next_page)
 
--- the region of a number came to the starts where its page had none
+-- a number was read, and its region came to the starts where its page had none
 pub record HasStart (r : ReadLog) (n line : ℕ) (r' : ReadLog) : Type 0 where
-  pub entries : r'.entries ≡ r.entries
+  pub number : r'.number ≡ suc n
   pub lines : r'.lines ≡ r.lines
   pub first : r.next_page ≤ page_of line → (r'.starts ≡ r.starts ++ record { number = n; line = line } ∷ [])
       × (r'.next_page ≡ suc (page_of line))
@@ -140,6 +138,16 @@ pub record HasHead (v : View) (settled b x : ℕ) : Type 0 where
 pub record AreHeads (v : View) (settled buckets : ℕ) (heads : List ℕ) : Type 0 where
   pub many : length heads ≡ buckets
   pub each : (b x : ℕ) → get_elem? heads b ≡ some x → HasHead v settled b x
+
+-- all of a log was read, up to its tail: which numbers it has, its heads behind these, and its version
+pub record IsWhole (v : View) (whole : WholeLog) : Type 0 where
+  pub tail : Position
+  pub rests : v.tail ≡ Some tail
+  pub read : IsRead v tail.number tail.line whole.read
+  pub settled : ℕ
+  pub far : whole.read.number ≤ settled
+  pub heads : AreHeads v settled v.about.buckets whole.heads
+  pub version : whole.version ≡ v.learned.version
 
 -- the control pass read on: it has its lanes and own numbers, and nothing was claimed since the tail was as it left it
 pub record ReadsOn (v u : View) : Type 0 where

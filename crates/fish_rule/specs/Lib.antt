@@ -12,8 +12,10 @@ pub mod Facts
 pub mod Flying
 pub mod Gaps
 pub mod Intervals
+pub mod KeptEntries
 pub mod Keys
 pub mod LoadSteps
+pub mod LogWords
 pub mod Logs
 pub mod Machine
 pub mod OpenNumbers

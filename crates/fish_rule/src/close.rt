@@ -1,34 +1,33 @@
-//! The end of a log: the control pass reads every entry and every head, and the table goes.
+//! The end of a log: the control pass looks at every number and every head, and the table's words stay as what is left.
 
-ghost use Rattle.std.specs.Prelude.{◌≡◌, ◌+◌, ◌<◌, ◌≤◌, ℕ, [], true, suc, length, IfOk, IfErr, OnErr, OnOk};
-ghost use Rattle.fish_rule.specs.ClosedLog.{AreHeads, HasStart, IsAdded, IsClosed, IsNext, IsRead, IsReadUpTo, ReadsOn};
-ghost use Rattle.fish_rule.specs.ClosedLog.{StaysOpen};
-ghost use Rattle.fish_layout.specs.Pages.{page_of};
+ghost use Rattle.std.specs.Prelude.{◌≡◌, ◌<◌, ◌≤◌, ℕ, [], true, IfOk, IfErr, OnErr, OnOk};
+ghost use Rattle.fish_rule.specs.ClosedLog.{AreHeads, HasStart, IsAdded, IsClosed, IsNext, IsRead, IsReadUpTo, IsWhole};
+ghost use Rattle.fish_rule.specs.ClosedLog.{ReadsOn, StaysOpen};
 ghost use Rattle.fish_rule.specs.Logs.{Extends};
 ghost use Rattle.fish_rule.specs.Passes.{IsOf, IsPassOf, view};
 ghost use Rattle.fish_rule.specs.LoadSteps.{CanLookAt, IsAlone};
 
-use crate::entry::read_record;
+use crate::kept::LogEntries;
 use crate::linking::load_head;
 use crate::registry::load_version;
 use crate::space::{load_tail, look_at, raise_settled};
 use crate::table::{Log, Pass};
 use crate::view::Kind;
 use crate::word::{kind_of_word, line_of_word};
-use fish_catalog::{Entries, Entry, PageStart, PageStarts};
+use fish_catalog::{PageStart, PageStarts};
 use fish_layout::PAGE_LINES;
 use fish_value::Numbers64;
 use std::alloc::{AllocError, Global};
 
 /// What is left of a log, from which the next one can begin.
-#[derive(Debug, Drop)]
+#[derive(Drop)]
 pub struct Remains {
     /// Whether there was one.
     pub opened: bool,
     /// The number of its first entry.
     pub base: u32,
-    /// Its entries.
-    pub log: Entries,
+    /// Its entries, which keep the memory of its table.
+    pub log: LogEntries,
     /// The line behind its last entry.
     pub lines: u64,
     /// Of each bucket the place of its newest entry, or 0.
@@ -49,8 +48,8 @@ pub struct CloseWant {
 /// What was read of a log so far.
 #[derive(Drop)]
 struct ReadLog {
-    /// The entries.
-    entries: Entries,
+    /// The number to look at next.
+    number: u64,
     /// The first region in each page.
     starts: PageStarts,
     /// One more than the last page that has a region, or 0.
@@ -59,11 +58,19 @@ struct ReadLog {
     lines: u64,
 }
 
-/// What stands at a number: an entry, or none at a mark.
+/// What was read of a whole log.
 #[derive(Drop)]
-struct Next {
-    line: u64,
-    entry: Option<Entry>,
+struct WholeLog {
+    read: ReadLog,
+    heads: Numbers64,
+    version: u16,
+}
+
+/// What stands at a number: the line of an entry, or that of a mark.
+#[derive(Clone, Copy)]
+enum Next {
+    Entry(u64),
+    Mark(u64),
 }
 
 /// Closes a log, and shows what is left of it. No lane may be out, and nothing in flight. Where memory runs out the log and
@@ -77,40 +84,75 @@ pub fn close_log(alloc: Global, log: Log, main: Pass) -> Result<Remains, CloseWa
         × StaysOpen (view main) (view want.pass) × IsAlone (view want.pass)) }
 {
     let mut main = main;
-    match read_remains(alloc, &log, &mut main) {
-        Ok(remains) => Ok(remains),
+    match read_log(alloc, &log, &mut main) {
+        Ok(whole) => Ok(remains_of(log, main, whole)),
         Err(AllocError) => Err(CloseWant { log, pass: main }),
     }
 }
 
-/// All that is left of a log.
-fn read_remains(alloc: Global, log: &Log, main: &mut Pass) -> Result<Remains, AllocError>
+/// Ends a log that was read, whose table's words stay.
+fn remains_of(log: Log, main: Pass, whole: WholeLog) -> Remains
+    requires pass { IsPassOf log main }
+    requires alone { IsAlone (view main) }
+    requires whole { IsWhole (view main) whole }
+    ensures opened { result.opened ≡ true }
+    ensures closed { IsClosed (view main) result }
+{
+    let Log {
+        table,
+        key,
+        shape: _,
+    } = log;
+    let Pass {
+        seat,
+        lane: _,
+        shut: _,
+        flight: _,
+        walk: _,
+    } = main;
+    let WholeLog {
+        read,
+        heads,
+        version,
+    } = whole;
+    let base = key.number as u32;
+    let count = (read.number - key.number) as usize;
+    let closed = table.close_with(seat);
+    Remains {
+        opened: true,
+        base,
+        log: LogEntries { closed, key, count },
+        lines: read.lines,
+        heads,
+        starts: read.starts,
+        version,
+    }
+}
+
+/// Reads all of a log but its entries.
+fn read_log(alloc: Global, log: &Log, main: &mut Pass) -> Result<WholeLog, AllocError>
     requires pass { IsPassOf log.now main.old }
     requires alone { IsAlone (view main.old) }
     ensures pass { IsPassOf log.now main.new }
     ensures on { ReadsOn (view main.old) (view main.new) }
     ensures stays { OnErr result (StaysOpen (view main.old) (view main.new)) }
-    ensures remains { IfOk result (λ r. (r.opened ≡ true) × IsClosed (view main.new) r) }
+    ensures whole { IfOk result (IsWhole (view main.new)) }
 {
     let tail = load_tail(log, main);
     let mut read = ReadLog {
-        entries: Entries::new(alloc),
+        number: log.key.number,
         starts: PageStarts::new(alloc),
         next_page: 0,
         lines: tail.line,
     };
     let mut heads = Numbers64::new(alloc);
-    match read_words(alloc, log, main, tail.number, &mut read, &mut heads) {
+    match read_words(log, main, tail.number, &mut read, &mut heads) {
         Ok(()) => {
-            let version = load_version(log, main);
-            Ok(Remains {
-                opened: true,
-                base: log.key.number as u32,
-                log: read.entries,
-                lines: read.lines,
+            let version = load_version(log, main) as u16;
+            Ok(WholeLog {
+                read,
                 heads,
-                starts: read.starts,
-                version: version as u16,
+                version,
             })
         }
         Err(error) => {
@@ -120,9 +162,8 @@ fn read_remains(alloc: Global, log: &Log, main: &mut Pass) -> Result<Remains, Al
     }
 }
 
-/// The entries up to the first mark or the end, and then the heads.
+/// The numbers up to the first mark or the end, and then the heads.
 fn read_words(
-    alloc: Global,
     log: &Log,
     main: &mut Pass,
     end: u64,
@@ -138,23 +179,16 @@ fn read_words(
     ensures pass { IsPassOf log.now main.new }
     ensures extends { Extends (view main.old) (view main.new) }
     ensures read { OnOk result (IsRead (view main.new) end read.old.lines read.new) }
-    ensures heads { OnOk result ((settled : ℕ) × (log.now.key.number + length read.new.entries ≤ settled)
+    ensures heads { OnOk result ((settled : ℕ) × (read.new.number ≤ settled)
         × AreHeads (view main.new) settled log.now.key.buckets heads.new) }
 {
-    all_entries(alloc, log, main, end, read)?;
-    let next = log.key.number + read.entries.len() as u64;
-    raise_settled(log, main, next);
+    all_numbers(log, main, end, read)?;
+    raise_settled(log, main, read.number);
     all_heads(log, main, heads)
 }
 
-/// All entries, up to the first mark or the end.
-fn all_entries(
-    alloc: Global,
-    log: &Log,
-    main: &mut Pass,
-    end: u64,
-    read: &mut ReadLog,
-) -> Result<(), AllocError>
+/// All numbers, up to the first mark or the end.
+fn all_numbers(log: &Log, main: &mut Pass, end: u64, read: &mut ReadLog) -> Result<(), AllocError>
     requires pass { IsPassOf log.now main.old }
     requires alone { IsAlone (view main.old) }
     requires from { log.now.key.number ≤ end }
@@ -165,7 +199,7 @@ fn all_entries(
     ensures read { OnOk result (IsRead (view main.new) end read.old.lines read.new) }
 {
     for number in log.key.number..end {
-        if !add_entry(alloc, log, main, number, read)? {
+        if !add_number(log, main, number, read)? {
             return Ok(());
         }
     }
@@ -173,8 +207,7 @@ fn all_entries(
 }
 
 /// Adds what stands at a number, and says whether the log goes on. At a mark it ends.
-fn add_entry(
-    alloc: Global,
+fn add_number(
     log: &Log,
     main: &mut Pass,
     number: u64,
@@ -188,21 +221,19 @@ fn add_entry(
     ensures extends { Extends (view main.old) (view main.new) }
     ensures read { IfOk result (λ goes. IsAdded (view main.new) number goes read.old.lines read.new) }
 {
-    let Next { line, entry } = next_entry(alloc, log, main, number)?;
-    match entry {
-        Some(entry) => {
-            read.entries.push(entry)?;
+    match next_at(log, main, number) {
+        Next::Entry(line) => {
             add_start(read, number, line)?;
             Ok(true)
         }
-        None => {
+        Next::Mark(line) => {
             read.lines = line;
             Ok(false)
         }
     }
 }
 
-/// Adds the region of a number where it is the first one in its page.
+/// Adds an entry's number, and its region where it is the first one in its page.
 fn add_start(read: &mut ReadLog, number: u64, line: u64) -> Result<(), AllocError>
     requires { number < 268435456 }
     ensures { OnOk result (HasStart read.old number line read.new) }
@@ -215,33 +246,25 @@ fn add_start(read: &mut ReadLog, number: u64, line: u64) -> Result<(), AllocErro
         })?;
         read.next_page = page + 1;
     }
+    read.number = number + 1;
     Ok(())
 }
 
 /// What stands at a number.
-fn next_entry(alloc: Global, log: &Log, main: &mut Pass, number: u64) -> Result<Next, AllocError>
+fn next_at(log: &Log, main: &mut Pass, number: u64) -> Next
     requires pass { IsPassOf log.now main.old }
     requires alone { IsAlone (view main.old) }
     requires look { CanLookAt (view main.old) number }
     ensures pass { IsPassOf log.now main.new }
     ensures extends { Extends (view main.old) (view main.new) }
-    ensures next { IfOk result (IsNext (view main.new) number) }
+    ensures next { IsNext (view main.new) number result }
 {
     let word = look_at(log, main, number);
     let line = line_of_word(word);
     match kind_of_word(word) {
-        Kind::Stored => {
-            let entry = read_record(alloc, log, main, line)?;
-            Ok(Next {
-                line,
-                entry: Some(entry),
-            })
-        }
-        Kind::Void => Ok(Next {
-            line,
-            entry: Some(Entry::Void),
-        }),
-        Kind::Mark => Ok(Next { line, entry: None }),
+        Kind::Stored => Next::Entry(line),
+        Kind::Void => Next::Entry(line),
+        Kind::Mark => Next::Mark(line),
     }
 }
 

@@ -3,17 +3,16 @@
 ghost use Rattle.std.specs.Prelude.{◌≡◌, ◌≢◌, ◌+◌, ◌-◌, ◌*◌, ◌^◌, ◌<◌, ◌≤◌, ◌++◌, ℕ, List, IfOk, length, slice_index};
 ghost use Rattle.std.specs.Vec.{vec_capacity, vec_len};
 ghost use Rattle.fish_layout.specs.Header.{keys_of};
-ghost use Rattle.fish_rule.specs.Logs.{Extends, HasWords, IsWordRead, Tells};
+ghost use Rattle.fish_rule.specs.Logs.{Extends, HasWords, IsWordRead};
 ghost use Rattle.fish_rule.specs.Passes.{IsPassOf, view};
 ghost use Rattle.fish_rule.specs.LoadSteps.{CanReadWord};
 ghost use Rattle.fish_rule.specs.Views.{Among};
 ghost use Rattle.fish_rule.specs.declared.view.Found.{Found};
-ghost use Rattle.fish_rule.specs.declared.view.Kind.TheVariants.{Mark, Stored};
+ghost use Rattle.fish_rule.specs.declared.view.Kind.TheVariants.{Mark};
 
 use crate::space::read_word;
 use crate::table::{Log, Pass};
-use fish_catalog::Entry;
-use fish_layout::{Payload, keys_in, lines_in, read_payload};
+use fish_layout::{keys_in, lines_in};
 use std::alloc::{AllocError, Global};
 
 /// All words of the published region at a line, and how many of them were loaded. Words that a splice may
@@ -67,33 +66,6 @@ fn read_rest(log: &Log, pass: &mut Pass, line: u64, from: u64, to: u64, words: &
     for offset in from..to {
         words.push_reserved(read_word(log, pass, line, offset));
     }
-}
-
-/// The record that stands in the published region at a line.
-pub fn read_record(
-    alloc: Global,
-    log: &Log,
-    pass: &mut Pass,
-    line: u64,
-) -> Result<Entry, AllocError>
-    requires pass { IsPassOf log.now pass.old }
-    requires found { (f : Found) × Among f (view pass.old).learned.found × (f.line ≡ line) × (f.kind ≡ Stored) }
-    ensures pass { IsPassOf log.now pass.new }
-    ensures extends { Extends (view pass.old) (view pass.new) }
-    ensures entry { IfOk result (λ entry. (f : Found) → Among f (view pass.old).learned.found → f.line ≡ line
-        → f.kind ≡ Stored → Tells (view pass.new) f.number entry) }
-{
-    let (words, _) = read_region(alloc, log, pass, line)?;
-    let Payload {
-        lane,
-        form,
-        payload,
-    } = read_payload(alloc, &words)?;
-    Ok(Entry::Stored {
-        lane,
-        form,
-        payload,
-    })
 }
 
 /// A word behind the header, or none where it is the first one of a key entry.

@@ -9,6 +9,7 @@ mod area;
 mod boundaries;
 mod close;
 mod entry;
+mod kept;
 mod law;
 mod linking;
 mod opening;
@@ -23,7 +24,8 @@ mod word;
 
 pub use boundaries::{check_lane, load_bound, load_boundary, store_from, store_to};
 pub use close::{CloseWant, Remains, close_log};
-pub use entry::{read_record, read_region};
+pub use entry::read_region;
+pub use kept::LogEntries;
 pub use law::{law_closed_log, law_every_schedule, law_found_regions, law_intervals, law_opens};
 pub use linking::{aim_entry, load_head, load_node, load_previous, splice_entry, swing_head};
 pub use registry::{

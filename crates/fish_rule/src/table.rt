@@ -72,6 +72,7 @@ pub struct Log {
     ghost keyed: { table.shared.key ≡ key },
     ghost fits: { Fits key },
     ghost wide: { table.shared.table_id.words ≡ total key },
+    ghost bare: { table.shared.table_id.slots ≡ 0 },
 }
 
 /// The token with which one thread steps on a log. It can't be copied.

@@ -16,7 +16,7 @@ use crate::cause::Cause;
 use crate::entries::has_entry;
 use crate::expecting::expect;
 use crate::lanes::store;
-use crate::logs::{ONE_PAGE, left};
+use crate::logs::{ONE_PAGE, left, listed};
 use crate::nodes::{BUCKET, expect_nodes};
 use crate::openings::defined;
 use fish_catalog::{Catalog, Entries, PageStart};
@@ -265,7 +265,9 @@ fn expect_closed<R: Abort>(
     requires alone { IsAlone (view main) }
 {
     let remains = left(alloc, log, main)?;
-    expect_entries(rt, alloc, &remains.log);
+    let entries = listed(alloc, &remains)?;
+    expect_entries(rt, alloc, &entries);
+    drop(entries);
     expect_left(rt, case, &remains);
     drop(remains);
     Ok(())

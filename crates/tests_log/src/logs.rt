@@ -72,8 +72,16 @@ pub fn closed(alloc: Global, log: Log, main: Pass) -> Result<Entries, Cause>
     requires pass { IsPassOf log main }
     requires alone { IsAlone (view main) }
 {
-    let Remains { log, .. } = left(alloc, log, main)?;
-    Ok(log)
+    let remains = left(alloc, log, main)?;
+    listed(alloc, &remains)
+}
+
+/// The entries that are left.
+pub(crate) fn listed(alloc: Global, remains: &Remains) -> Result<Entries, Cause> {
+    match remains.log.all(alloc) {
+        Ok(entries) => Ok(entries),
+        Err(_) => Err(Cause("no memory")),
+    }
 }
 
 /// Closes a log. What is left of it.

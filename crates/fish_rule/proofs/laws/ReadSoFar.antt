@@ -1,21 +1,18 @@
 -- What was read of a log so far, and how it grows.
-use Rattle.std.proofs.Common.{◌≡◌, ℕ, ◌+◌, ◌*◌, ◌/◌, ◌<◌, ◌≤◌, suc, List, [], ◌∷◌, ◌++◌, length, refl, sym, ap, ◌∙◌}
-use Rattle.std.proofs.Common.{subst, inl, inr, ⊎_elim, arith, length-append}
-use Rattle.fish_rule.proofs.basics.Context.{Among, Key, View, World, get_elem?, some}
-use mathlib.Core.Option.{some-ne-none}
+use Rattle.std.proofs.Common.{◌≡◌, ℕ, ◌+◌, ◌*◌, ◌/◌, ◌<◌, ◌≤◌, suc, List, [], ◌∷◌, ◌++◌, refl, sym, ap, ◌∙◌}
+use Rattle.std.proofs.Common.{subst, inl, inr, ⊎_elim, arith}
+use Rattle.fish_rule.proofs.basics.Context.{Among, Key, View, World}
 use Rattle.std.proofs.lemmas.Nat.{le-div}
 use Rattle.std.proofs.Math.Decide.{dec_lt, ℕ_discrete}
 use Rattle.std.proofs.Math.Nat.{div-mul-le_self}
-use Rattle.fish_catalog.specs.declared.entry.Entry.{Entry}
 use Rattle.fish_catalog.specs.declared.page_start.PageStart.{PageStart}
 use Rattle.fish_rule.proofs.basics.Regions.{starts_rise}
-use Rattle.fish_rule.proofs.laws.Alone.{tells_later, told_more}
 use Rattle.fish_rule.proofs.basics.Lists.{all_among, all_append, among_either, among_left, among_right}
 use Rattle.fish_rule.proofs.laws.Learning.{learns_self}
 use Rattle.fish_rule.specs.ClosedLog.{HasLine, HasMarkAt, HasStart, IsCovered, IsRead, IsReadUpTo, PagesRise}
 use Rattle.fish_layout.specs.Pages.{page_of}
 use Rattle.fish_rule.specs.Facts.{IsFound}
-use Rattle.fish_rule.specs.Logs.{AreTold, Learns, Tells}
+use Rattle.fish_rule.specs.Logs.{Learns}
 use Rattle.fish_rule.specs.LoadSteps.{CanRaiseSettled}
 use Rattle.fish_rule.specs.Table.{Stands}
 use Rattle.fish_rule.specs.declared.close.ReadLog.{ReadLog}
@@ -79,11 +76,10 @@ covered_later v u starts n learns h = record {
 pub upto_later : (v u : View) (n : ℕ) (read : ReadLog) → Learns v u → IsReadUpTo v n read → IsReadUpTo u n read
 upto_later v u n read learns h =
     let about : u.about.number ≡ v.about.number = ap (λ (z : Key). z.number) learns.about in
-    let many = h.many in
+    let from = h.from in
     record {
-      many = omega arith;
-      told = λ i e at. subst (λ (z : ℕ). Tells u (z + i) e) (sym about)
-          (tells_later v u (v.about.number + i) e learns (h.told i e at));
+      from = omega arith;
+      many = h.many;
       rise = h.rise;
       sound = λ s m. (let x = h.sound s m in
           let above = x.0 in (omega arith, x.1, line_later v u s.number s.line learns x.2));
@@ -93,14 +89,12 @@ upto_later v u n read learns h =
     }
 
 -- at first nothing is
-pub nothing_read : (v : View) (read : ReadLog) → read.entries ≡ [] → read.starts ≡ [] → read.next_page ≡ 0
+pub nothing_read : (v : View) (read : ReadLog) → read.number ≡ v.about.number → read.starts ≡ [] → read.next_page ≡ 0
     → IsReadUpTo v v.about.number read
-nothing_read v read entries starts page =
-    let none = ap length entries in
+nothing_read v read number starts page =
     record {
-      many = omega arith;
-      told = λ i e at. absurd (some-ne-none e
-          (sym (subst (λ (z : List Entry). get_elem? z i ≡ some e) entries at)));
+      from = omega arith;
+      many = number;
       rise = subst PagesRise (sym starts) tt;
       sound = λ s m. (let bad = subst (Among s) starts m in elim bad [ ]);
       covers = λ m above below. absurd (omega arith);
@@ -119,25 +113,8 @@ covers_more u base n starts old here m above below = pick (ℕ_discrete m n)
     pick (no ne) = old m above (omega arith)
 
 -- one more entry
-module _ (u : View) (n line : ℕ) (e : Entry) (old new : ReadLog) (s : Stands u) (h : IsReadUpTo u n old)
-    (tells : Tells u n e) (has : HasLine u n line) (added : new.entries ≡ old.entries ++ e ∷ []) where
-  -- one entry more was read
-  many_more : u.about.number + length new.entries ≡ suc n
-  many_more =
-      let many = h.many in
-      let longer = ap length added ∙ length-append old.entries (e ∷ []) in
-      omega arith
-
-  -- each was told
-  told_one : AreTold u u.about.number new.entries
-  told_one = subst (AreTold u u.about.number) (sym added)
-      (told_more u u u.about.number old.entries e (learns_self u) h.told
-      (subst (λ (z : ℕ). Tells u z e) (sym h.many) tells))
-
-  -- the number is one of the log's
-  above : u.about.number ≤ n
-  above = (let many = h.many in omega arith)
-
+module _ (u : View) (n line : ℕ) (old new : ReadLog) (s : Stands u) (h : IsReadUpTo u n old)
+    (has : HasLine u n line) (added : new.number ≡ suc n) where
   -- in a page that has a start
   pub read_inside : new.starts ≡ old.starts → new.next_page ≡ old.next_page → page_of line < old.next_page
       → IsReadUpTo u (suc n) new
@@ -157,8 +134,8 @@ module _ (u : View) (n line : ℕ) (e : Entry) (old new : ReadLog) (s : Stands u
         upto = omega arith;
       } in
       record {
-        many = many_more;
-        told = told_one;
+        from = (let from = h.from in omega arith);
+        many = added;
         rise = subst PagesRise (sym starts) h.rise;
         sound = λ t m. (let x = h.sound t (subst (Among t) starts m) in
             let less = x.1 in (x.0, omega arith, x.2));
@@ -184,8 +161,8 @@ module _ (u : View) (n line : ℕ) (e : Entry) (old new : ReadLog) (s : Stands u
         upto = omega arith;
       } in
       record {
-        many = many_more;
-        told = told_one;
+        from = (let from = h.from in omega arith);
+        many = added;
         rise = subst PagesRise (sym starts) (rise_more old.starts t h.rise
             (λ x m. (let p = h.paged x m in omega arith)));
         sound = λ x m. ⊎_elim
@@ -203,7 +180,7 @@ module _ (u : View) (n line : ℕ) (e : Entry) (old new : ReadLog) (s : Stands u
       new_sound : (t x : PageStart) → Among x (t ∷ []) → t.number ≡ n → t.line ≡ line
           → (u.about.number ≤ x.number) × (x.number < suc n) × HasLine u x.number x.line
       new_sound t x (inl is) number at =
-          let from = above in
+          let from = h.from in
           let same : x.number ≡ n = ap (λ (z : PageStart). z.number) (sym is) ∙ number in
           let there : x.line ≡ line = ap (λ (z : PageStart). z.line) (sym is) ∙ at in (
             omega arith,
@@ -226,20 +203,16 @@ module _ (u : View) (n line : ℕ) (e : Entry) (old new : ReadLog) (s : Stands u
         upto = c.upto;
       }
 
--- of a log whose entry came first, and its start then
-pub read_more : (u : View) (n line : ℕ) (e : Entry) (old mid new : ReadLog) → Stands u → IsReadUpTo u n old
-    → Tells u n e → HasLine u n line → mid.entries ≡ old.entries ++ e ∷ [] → mid.starts ≡ old.starts
-    → mid.next_page ≡ old.next_page → HasStart mid n line new → IsReadUpTo u (suc n) new
-read_more u n line e old mid new s h tells has added starts page start = pick (dec_lt (page_of line) mid.next_page)
+-- of a log whose number was read, and its start
+pub read_more : (u : View) (n line : ℕ) (old new : ReadLog) → Stands u → IsReadUpTo u n old
+    → HasLine u n line → HasStart old n line new → IsReadUpTo u (suc n) new
+read_more u n line old new s h has start = pick (dec_lt (page_of line) old.next_page)
   where
-    pick : Dec (page_of line < mid.next_page) → IsReadUpTo u (suc n) new
-    pick (yes less) =
-        let o = start.other less in
-        read_inside u n line e old new s h tells has (start.entries ∙ added) (o.0 ∙ starts) (o.1 ∙ page) (omega arith)
+    pick : Dec (page_of line < old.next_page) → IsReadUpTo u (suc n) new
+    pick (yes less) = (let o = start.other less in read_inside u n line old new s h has start.number o.0 o.1 less)
     pick (no more) =
         let o = start.first (omega arith) in
-        read_first u n line e old new s h tells has (start.entries ∙ added)
-        (o.0 ∙ ap (λ (z : List PageStart). z ++ record { number = n; line = line } ∷ []) starts) o.1 (omega arith)
+        read_first u n line old new s h has start.number o.0 o.1 (omega arith)
 
 -- ---- what the pass may settle
 

@@ -2,23 +2,27 @@
 use Rattle.std.proofs.Common.{◌≡◌, ◌≢◌, ℕ, ◌+◌, ◌-◌, ◌*◌, ◌<◌, ◌≤◌, suc, List, length, refl, sym, ap, true, ◌∙◌, subst}
 use Rattle.std.proofs.Common.{inl, inr, ⊎_elim, arith, Some, None}
 use mathlib.Core.Option.{some-injective}
+use Rattle.fish_catalog.specs.declared.entry.Entry.{Entry}
 use Rattle.fish_rule.proofs.basics.Context.{Among, Found, View, World, get_elem?}
-use Rattle.fish_rule.proofs.basics.Bodies.{kind-inside}
+use Rattle.fish_rule.proofs.basics.Bodies.{code_once, kind-inside, published}
 use Rattle.fish_rule.proofs.laws.ClosedLogs.{within_log}
 use Rattle.fish_rule.proofs.basics.Lists.{all_among, only_main}
 use Rattle.fish_rule.proofs.laws.Learning.{learns_self}
+use Rattle.fish_rule.proofs.laws.LogWords.{entries_length, entries_log}
 use Rattle.fish_rule.proofs.basics.Places.{IsFlier, RecordAt, lies_inside, record_at}
 use Rattle.fish_rule.specs.Chains.{Linked}
-use Rattle.fish_rule.specs.ClosedLog.{AreHeads, HasHead, HasLine, HasMarkAt, IsClosed, IsRead}
+use Rattle.fish_rule.specs.ClosedLog.{HasHead, HasLine, HasMarkAt, IsClosed, IsRead, IsReadUpTo, IsWhole}
 use Rattle.fish_rule.specs.Facts.{IsFound}
 use Rattle.fish_rule.specs.Logs.{IsLog}
-use Rattle.fish_rule.specs.Parts.{Flies, InFlight, Rests, first_head}
+use Rattle.fish_rule.specs.LogWords.{entries_in}
+use Rattle.fish_rule.specs.Parts.{Flies, InFlight, IsEntryWord, Rests, first_head}
 use Rattle.fish_rule.specs.LoadSteps.{IsAlone}
 use Rattle.fish_rule.specs.Regions.{code}
 use Rattle.fish_rule.specs.Table.{Stands}
 use Rattle.fish_rule.specs.Gaps.{IsGap}
 use Rattle.fish_rule.specs.World.{body, high}
 use Rattle.fish_rule.specs.declared.close.ReadLog.{ReadLog}
+use Rattle.fish_rule.specs.declared.close.WholeLog.{WholeLog}
 use Rattle.fish_rule.specs.declared.view.Kind.TheVariants.{Mark, Stored}
 use Rattle.fish_rule.specs.declared.view.Position.{Position}
 
@@ -119,38 +123,72 @@ module _ (v : View) (s : Stands v) where
 
 -- ---- all of it
 
+-- the numbers that were read each have an entry
+pub entry_words : (v : View) (s : Stands v) (n : ℕ) (read : ReadLog) → IsReadUpTo v n read → (m : ℕ)
+    → v.about.number ≤ m → m < n → IsEntryWord (s.moment.dir m)
+entry_words v s n read h m above below =
+    let c = (h.covers m above below).has in
+    let f = found_at v s c.0 c.1 in
+    let kind : high (s.moment.dir m) ≡ code c.0.kind = ap (λ (z : ℕ). high (s.moment.dir z)) (sym c.2) ∙ f.kind in
+    record {
+      published = published (s.moment.dir m) c.0.kind kind;
+      unmarked = λ e. c.3 (code_once c.0.kind Mark (sym kind ∙ e));
+    }
+
+-- where all was read, the entries that the words spell are the log
+pub closes_log : (v : View) (tail : Position) (read : ReadLog) (s : Stands v) → IsAlone v → v.tail ≡ Some tail
+    → IsRead v tail.number tail.line read
+    → IsLog v.about s.moment (entries_in s.moment.dir s.moment.log v.about.number (read.number - v.about.number))
+closes_log v tail read s alone is_tail h =
+    let w : World = s.moment in
+    let upto = h.upto in
+    let from = upto.from in
+    let many = upto.many in
+    let rests : Rests w.count w.line (Some tail) =
+    subst (Rests w.count w.line) is_tail (s.rule.tails s.seat v s.at alone.main alone.all) in
+    let count : tail.number ≡ w.count = rests.0 in
+    let end : v.about.number + (read.number - v.about.number) ≡ h.number = omega arith in
+    entries_log s.rule (read.number - v.about.number)
+    (λ i less. entry_words v s h.number read upto (v.about.number + i) (omega arith) (omega arith))
+    (⊎_elim (λ (e : (h.number ≡ tail.number) × (read.lines ≡ tail.line)). let n = e.0 in omega arith)
+    (λ (m : (h.number < tail.number) × HasMarkAt v h.number read.lines). let n = m.0 in omega arith) h.ends)
+    (⊎_elim (λ (e : (h.number ≡ tail.number) × (read.lines ≡ tail.line)). inl (end ∙ e.0 ∙ count))
+    (λ (m : (h.number < tail.number) × HasMarkAt v h.number read.lines).
+    inr (ap (λ (z : ℕ). high (w.dir z)) end ∙ (mark_at v s h.number read.lines m.1).1)) h.ends)
+
 -- what was read is what is left of the log
-pub closes : (v : View) (tail : Position) (read : ReadLog) (settled base version : ℕ) (heads : List ℕ) → Stands v
-    → IsAlone v → v.tail ≡ Some tail → IsRead v tail.number tail.line read
-    → v.about.number + length read.entries ≤ settled → AreHeads v settled v.about.buckets heads
-    → base ≡ v.about.number → version ≡ v.learned.version
+pub closes : (v : View) (whole : WholeLog) (base : ℕ) (entries : List Entry) (s : Stands v)
+    → IsAlone v → IsWhole v whole → base ≡ v.about.number
+    → entries ≡ entries_in s.moment.dir s.moment.log v.about.number (whole.read.number - v.about.number)
     → IsClosed v (record {
       opened = true;
       base = base;
-      log = read.entries;
-      lines = read.lines;
-      heads = heads;
-      starts = read.starts;
-      version = version;
+      log = entries;
+      lines = whole.read.lines;
+      heads = whole.heads;
+      starts = whole.read.starts;
+      version = whole.version;
     })
-closes v tail read settled base version heads s alone is_tail h far are base_is version_is =
+closes v whole base entries s alone all base_is entries_are =
     let w : World = s.moment in
     let r = s.rule in
+    let read : ReadLog = whole.read in
+    let tail : Position = all.tail in
+    let h = all.read in
     let upto = h.upto in
-    let many : v.about.number + length read.entries ≡ h.number = upto.many in
+    let from = upto.from in
+    let many = upto.many in
+    let far = all.far in
     let rests : Rests w.count w.line (Some tail) =
-    subst (Rests w.count w.line) is_tail (r.tails s.seat v s.at alone.main alone.all) in
+    subst (Rests w.count w.line) all.rests (r.tails s.seat v s.at alone.main alone.all) in
     let count : tail.number ≡ w.count = rests.0 in
     let line : tail.line ≡ w.line = rests.1 in
-    let log : IsLog v.about w read.entries = record {
-      each = λ i e at. upto.told i e at v (learns_self v) w r s.seat s.at;
-      within = ⊎_elim (λ (e : (h.number ≡ tail.number) × (read.lines ≡ tail.line)). let n = e.0 in omega arith)
-          (λ (m : (h.number < tail.number) × HasMarkAt v h.number read.lines). let n = m.0 in omega arith) h.ends;
-      ends = ⊎_elim
-          (λ (e : (h.number ≡ tail.number) × (read.lines ≡ tail.line)). inl (many ∙ e.0 ∙ count))
-          (λ (m : (h.number < tail.number) × HasMarkAt v h.number read.lines).
-          inr (ap (λ (z : ℕ). high (w.dir z)) many ∙ (mark_at v s h.number read.lines m.1).1)) h.ends;
-    } in
+    let log : IsLog v.about w entries =
+    subst (IsLog v.about w) (sym entries_are) (closes_log v tail read s alone all.rests h) in
+    let size : length entries ≡ read.number - v.about.number = ap length entries_are
+    ∙ entries_length r (read.number - v.about.number)
+    (λ i less. entry_words v s h.number read upto (v.about.number + i) (omega arith) (omega arith)) in
+    let end : v.about.number + length entries ≡ h.number = omega arith in
     record {
       moment = w;
       rule = r;
@@ -158,13 +196,13 @@ closes v tail read settled base version heads s alone is_tail h far are base_is 
       base = base_is;
       lines = ⊎_elim
           (λ (e : (h.number ≡ tail.number) × (read.lines ≡ tail.line)).
-          e.1 ∙ line ∙ sym r.space.regions.last ∙ ap r.start (sym count ∙ sym e.0 ∙ sym many))
+          e.1 ∙ line ∙ sym r.space.regions.last ∙ ap r.start (sym count ∙ sym e.0 ∙ sym end))
           (λ (m : (h.number < tail.number) × HasMarkAt v h.number read.lines).
-          sym (mark_at v s h.number read.lines m.1).0 ∙ ap r.start (sym many)) h.ends;
-      many_heads = are.many;
-      heads = λ b x at. head_is v s alone (v.about.number + length read.entries)
-          (λ n above set_ stored. in_log log n above set_ stored) settled b x far (are.each b x at);
-      version = version_is ∙ ((r.registry.each s.seat v s.at).main alone.main).version;
+          sym (mark_at v s h.number read.lines m.1).0 ∙ ap r.start (sym end)) h.ends;
+      many_heads = all.heads.many;
+      heads = λ b x at. head_is v s alone (v.about.number + length entries)
+          (λ n above set_ stored. in_log log n above set_ stored) all.settled b x (omega arith) (all.heads.each b x at);
+      version = all.version ∙ ((r.registry.each s.seat v s.at).main alone.main).version;
       starts = record {
         rise = upto.rise;
         sound = λ t m. (let x = upto.sound t m in
@@ -188,11 +226,11 @@ closes v tail read settled base version heads s alone is_tail h far are base_is 
       facts = r.facts s.seat v s.at;
     }
   where
-    in_log : IsLog v.about s.moment read.entries → (n : ℕ) → v.about.number ≤ n → s.moment.dir n ≢ 0
-        → high (s.moment.dir n) ≡ code Stored → n < v.about.number + length read.entries
+    in_log : IsLog v.about s.moment entries → (n : ℕ) → v.about.number ≤ n → s.moment.dir n ≢ 0
+        → high (s.moment.dir n) ≡ code Stored → n < v.about.number + length entries
     in_log log n above set_ stored =
         let e : v.about.number + (n - v.about.number) ≡ n = omega arith in
-        let inside = within_log s.rule read.entries log (n - v.about.number)
-        (subst (λ (z : ℕ). Rattle.fish_rule.specs.Parts.IsEntryWord (s.moment.dir z)) (sym e)
+        let inside = within_log s.rule entries log (n - v.about.number)
+        (subst (λ (z : ℕ). IsEntryWord (s.moment.dir z)) (sym e)
         (record { published = set_; unmarked = λ m. (let bad : code Stored ≡ code Mark = sym stored ∙ m in omega arith) })) in
         omega arith

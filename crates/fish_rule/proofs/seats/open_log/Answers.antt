@@ -21,6 +21,7 @@ invariant_of-log c =
       keyed = c.in_ok-table.ensures.5;
       fits = c.key_of-key.ensures.fits;
       wide = c.in_ok-table.ensures.0 ∙ ap length c.deref.ensures.value ∙ empty.wide;
+      bare = c.in_ok-table.ensures.1;
     }
 
 -- the first pass is one of the log

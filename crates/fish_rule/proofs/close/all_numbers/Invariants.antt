@@ -4,7 +4,7 @@ use Rattle.fish_rule.specs.ClosedLog.{IsReadUpTo}
 use Rattle.fish_rule.specs.Logs.{Extends}
 use Rattle.fish_rule.specs.Passes.{IsPassOf, view}
 use Rattle.fish_rule.specs.LoadSteps.{IsAlone}
-use Rattle.fish_rule.proofs.close.all_entries.Given as goal
+use Rattle.fish_rule.proofs.close.all_numbers.Given as goal
 
 abbrev pub invariant-loop-number : goal.invariant-loop-number
 invariant-loop-number l = record {

@@ -1,6 +1,5 @@
 -- What was read is what is left, and the pass read on.
-use Rattle.std.proofs.Common.{◌≡◌, ◌∙◌, ◌≤◌, ℕ, arith, ap, refl, sym, subst, Some}
-use Rattle.fish_rule.proofs.laws.Remains.{closes}
+use Rattle.std.proofs.Common.{◌≡◌, ◌∙◌, ◌≤◌, ℕ, arith, ap, sym, subst, Some}
 use Rattle.fish_rule.proofs.laws.ReadsOn.{alone_on, heads_later, reads_version, stays_open, to_version}
 use Rattle.fish_rule.proofs.laws.ReadSoFar.{read_later}
 use Rattle.fish_rule.specs.ClosedLog.{AreHeads, StaysOpen}
@@ -10,7 +9,7 @@ use Rattle.fish_rule.specs.Parts.{Rests}
 use Rattle.fish_rule.proofs.basics.Context.{Key, View, view}
 use Rattle.fish_rule.specs.World.{high, low}
 use Rattle.fish_rule.specs.declared.view.Position.{Position}
-use Rattle.fish_rule.proofs.close.read_remains.Goals as goal
+use Rattle.fish_rule.proofs.close.read_log.Goals as goal
 
 -- it reads on from the tail whose parts the load gave
 reads_words : (v t u : View) (x number line : ℕ) → t ≡ after_load_tail v x → number ≡ high x → line ≡ low x
@@ -36,31 +35,26 @@ returns-in-Ok-clause-on c =
     reads_version (view c.args.main.now) (view c.read_words.new.main) (view c.load_version-version.new.pass)
     c.load_version-version.result stays.on c.load_version-version.ensures.view c.load_version-version.ensures.rises
 
-pub returns-in-Ok-clause-remains : goal.returns-in-Ok-clause-remains
-returns-in-Ok-clause-remains c =
-    let v = view c.args.main.now in
+pub returns-in-Ok-clause-whole : goal.returns-in-Ok-clause-whole
+returns-in-Ok-clause-whole c =
     let u = view c.read_words.new.main in
     let w = view c.load_version-version.new.pass in
     let y : ℕ = c.load_version-version.result in
     let tail : Position = c.load_tail-tail.result in
     let x = c.load_tail-tail.ensures.view in
-    let on = returns-in-Ok-clause-on c in
     let learns = to_version u w y c.load_version-version.ensures.view c.load_version-version.ensures.rises in
     let about : w.about ≡ c.args.log.now.key = c.load_version-version.ensures.pass.about in
-    let first : w.about.number ≡ c.args.log.now.key.number = ap (λ (z : Key). z.number) about in
     let heads = c.in-Ok.ensures.heads in
-    let far = heads.1 in
     let at : Some (record { number = high x.0; line = low x.0 }) ≡ Some tail =
     λ i. Some (record { number = sym x.2 i; line = sym x.3 i }) in
-    let is_tail : w.tail ≡ Some tail =
-    ap (λ (z : View). z.tail) c.load_version-version.ensures.view
-    ∙ ap (λ (z : View). z.tail) c.read_words.ensures.extends.frame ∙ ap (λ (z : View). z.tail) x.1 ∙ at in (
-      refl,
-      closes w tail c.read_words.new.read heads.0 c.args.log.now.key.number y c.read_words.new.heads
-          c.load_version-version.ensures.pass.stands
-          (alone_on v w on c.requires.alone) is_tail
-          (read_later u w tail.number tail.line c.read_words.new.read learns c.in-Ok.ensures.read) (omega arith)
-          (subst (λ (k : Key). AreHeads w heads.0 k.buckets c.read_words.new.heads) (sym about)
-          (heads_later u w heads.0 c.args.log.now.key.buckets c.read_words.new.heads learns heads.2)) (sym first)
-          (sym (ap (λ (z : View). z.learned.version) c.load_version-version.ensures.view)),
-    )
+    record {
+      tail = tail;
+      rests = ap (λ (z : View). z.tail) c.load_version-version.ensures.view
+          ∙ ap (λ (z : View). z.tail) c.read_words.ensures.extends.frame ∙ ap (λ (z : View). z.tail) x.1 ∙ at;
+      read = read_later u w tail.number tail.line c.read_words.new.read learns c.in-Ok.ensures.read;
+      settled = heads.0;
+      far = heads.1;
+      heads = subst (λ (k : Key). AreHeads w heads.0 k.buckets c.read_words.new.heads) (sym about)
+          (heads_later u w heads.0 c.args.log.now.key.buckets c.read_words.new.heads learns heads.2);
+      version = sym (ap (λ (z : View). z.learned.version) c.load_version-version.ensures.view);
+    }
