@@ -1,6 +1,6 @@
 //! The words of a record from its payload, before anything is claimed for it.
 
-ghost use Rattle.std.specs.Prelude.{◌≡◌, ◌≤◌, ◌/◌, [], ◌∷◌, All, IfOk, OnOk, length, option_to_list};
+ghost use Rattle.std.specs.Prelude.{◌≡◌, ◌≤◌, ◌/◌, [], ◌∷◌, All, IfOk, OnOk, length};
 ghost use Rattle.fish_epoch.specs.Definitions.{IsKnownOf};
 ghost use Rattle.fish_epoch.specs.Rows.{OnlyReads};
 ghost use Rattle.fish_ingest.specs.Preparation.{AreDefs, AreEntriesFor, AreMore, HasPrepared, IsOrigin, IsPreparedFor, IsRead};
@@ -136,24 +136,10 @@ fn push_given(id: u16, given: Given, keys: &mut KeyParts) -> Result<(), AllocErr
     requires { All IsShort (given_values given) }
     ensures { OnOk result (AreMore id (given_values given) keys.old keys.new) }
 {
-    let Given { single, several } = given;
-    match push_values(id, several, keys) {
-        Ok(()) => push_single(id, single, keys),
-        Err(error) => {
-            drop(single);
-            Err(error)
-        }
-    }
-}
-
-/// Puts a key entry for a value, where there is one, behind the others.
-fn push_single(id: u16, value: Option<Value>, keys: &mut KeyParts) -> Result<(), AllocError>
-    requires { All IsShort (option_to_list value) }
-    ensures { OnOk result (AreMore id (option_to_list value) keys.old keys.new) }
-{
-    match value {
-        Some(value) => push_entry(id, value, keys),
-        None => Ok(()),
+    match given {
+        Given::Single(Some(value)) => push_entry(id, value, keys),
+        Given::Single(None) => Ok(()),
+        Given::Several(values) => push_values(id, values, keys),
     }
 }
 

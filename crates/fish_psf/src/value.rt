@@ -22,11 +22,11 @@ const MAX_VALUES: usize = 8;
 
 /// What a definition gives for a record. One value alone takes no memory for a list.
 #[derive(Debug, Drop)]
-pub struct Given {
-    /// The value of `take`, `bucket` or `flag`.
-    pub single: Option<Value>,
+pub enum Given {
+    /// The value of `take`, `bucket` or `flag`, where there is one.
+    Single(Option<Value>),
     /// Those of `each`.
-    pub several: Values,
+    Several(Values),
 }
 
 /// The values that a definition gives for a record, each once.
@@ -38,11 +38,18 @@ pub struct Given {
 pub fn values<R: Parsed>(alloc: Global, def: &Def, rec: &R) -> Result<Values, AllocError>
     ensures { IfOk result (λ found. found ≡ values (definition_of def.now) (R.fields rec.now)) }
 {
-    let Given {
-        single,
-        several: mut values,
-    } = evaluate(alloc, def, rec)?;
-    if let Some(only) = single {
+    match evaluate(alloc, def, rec)? {
+        Given::Single(value) => listed(alloc, value),
+        Given::Several(values) => Ok(values),
+    }
+}
+
+/// The list of a value, or of none.
+fn listed(alloc: Global, value: Option<Value>) -> Result<Values, AllocError>
+    ensures { IfOk result (λ values. values ≡ option_to_list value) }
+{
+    let mut values = Values::new(alloc);
+    if let Some(only) = value {
         values.push(only)?;
     }
     Ok(values)
@@ -56,48 +63,28 @@ pub fn evaluate<R: Parsed>(alloc: Global, def: &Def, rec: &R) -> Result<Given, A
     match def {
         Def::Take { path, when } => {
             if !holds_when(when, rec) {
-                return Ok(at_most_one(alloc, None));
+                return Ok(Given::Single(None));
             }
-            Ok(at_most_one(alloc, value_of(alloc, &rec.look(path))?))
+            Ok(Given::Single(value_of(alloc, &rec.look(path))?))
         }
         Def::Each { path, when } => {
             if !holds_when(when, rec) {
-                return Ok(at_most_one(alloc, None));
+                return Ok(Given::Single(None));
             }
-            Ok(several(first_values(alloc, rec.look_each(alloc, path)?.as_slice())?))
+            Ok(Given::Several(first_values(alloc, rec.look_each(alloc, path)?.as_slice())?))
         }
         Def::Bucket { path, width, when } => {
             if !holds_when(when, rec) {
-                return Ok(at_most_one(alloc, None));
+                return Ok(Given::Single(None));
             }
-            Ok(at_most_one(alloc, bucket_of(*width, &rec.look(path))))
+            Ok(Given::Single(bucket_of(*width, &rec.look(path))))
         }
         Def::Flag { when } => {
             if !holds(when, rec) {
-                return Ok(at_most_one(alloc, None));
+                return Ok(Given::Single(None));
             }
-            Ok(at_most_one(alloc, Some(Value::Bool(true))))
+            Ok(Given::Single(Some(Value::Bool(true))))
         }
-    }
-}
-
-/// One value or none.
-fn at_most_one(alloc: Global, value: Option<Value>) -> Given
-    ensures { given_values result ≡ option_to_list value }
-{
-    Given {
-        single: value,
-        several: Values::new(alloc),
-    }
-}
-
-/// The values of a list.
-fn several(values: Values) -> Given
-    ensures { given_values result ≡ values }
-{
-    Given {
-        single: None,
-        several: values,
     }
 }
 
