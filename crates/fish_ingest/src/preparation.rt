@@ -132,6 +132,7 @@ fn entries_of<R: Parsed>(
 }
 
 /// Puts a key entry for each value that a definition gives behind the others.
+#[tactic(auto, using(crate::proofs::PreparationKeys::none_more))]
 fn push_given(id: u16, given: Given, keys: &mut KeyParts) -> Result<(), AllocError>
     requires { All IsShort (given_values given) }
     ensures { OnOk result (AreMore id (given_values given) keys.old keys.new) }
