@@ -6,6 +6,7 @@ use Rattle.fish_rule.specs.ClosedLog.{IsClosed}
 use Rattle.fish_rule.specs.Logs.{Learns, Tells}
 use Rattle.fish_rule.specs.declared.close.Remains.{Remains}
 use Rattle.fish_rule.specs.Parts.{IsOlder}
+use Rattle.fish_rule.specs.Registry.{definitions_at}
 use Rattle.fish_rule.specs.Views.{Among, Has}
 use Rattle.fish_rule.specs.declared.view.Key.{Key}
 use Rattle.fish_rule.specs.declared.view.View.{View}
@@ -25,6 +26,11 @@ ToldIsClosed = (v u : View) (i : ℕ) (e : Entry) (remains : Remains) → Learns
 abbrev pub OwnIsClosed : Type 0
 OwnIsClosed = (v : View) (remains : Remains) (l i : ℕ) → IsClosed v remains → Has v.lane v.out l
     → Among (record { lane = l; number = v.about.number + i }) v.own ↔ IsOfLane remains.log l i
+
+-- the definitions at the version that is left are those that the closing control pass knows
+abbrev pub DefinitionsAreClosed : Type 0
+DefinitionsAreClosed = (v : View) (remains : Remains) → (c : IsClosed v remains) → v.lane ≡ 1
+    → definitions_at v.about c.moment.registry remains.version ≡ v.rows
 
 -- what is left of a log has numbers and lines within the bounds of a start, a version, and one head for each bucket, of a
 -- record before its last line

@@ -5,6 +5,7 @@ use Rattle.std.proofs.Common.{◌⊎◌}
 use mathlib.Core.Option.{some}
 use Rattle.std.proofs.Math.ListN.{get_elem?}
 use Rattle.fish_catalog.specs.declared.entry.Entry.{Entry}
+use Rattle.fish_catalog.specs.declared.listed.Listed.{Listed}
 use Rattle.fish_catalog.specs.declared.page_start.PageStart.{PageStart}
 use Rattle.fish_layout.specs.Pages.{page_of}
 use Rattle.fish_rule.specs.Facts.{Facts, Owns}
@@ -45,8 +46,8 @@ pub record ArePageStarts (begins : ℕ → ℕ → Type 0) (base end : ℕ) (sta
 
 -- what is left is that of a moment that meets the rule: its log, its heads and version, where the log ends, and its page
 -- starts; these own numbers are exact, and all of these facts hold; a pass there has a view that is later, of the same
--- lanes and own numbers, and nothing was claimed since the tail was here
-pub record IsClosedAt (k : Key) (is_later : View → Type 0) (lane : ℕ) (out : List ℕ) (own : List Own)
+-- lanes, own numbers and definitions, and nothing was claimed since the tail was here
+pub record IsClosedAt (k : Key) (is_later : View → Type 0) (lane : ℕ) (out : List ℕ) (own : List Own) (rows : List Listed)
     (tail : Option Position) (learned : Learned) (remains : Remains) : Type 0 where
   pub moment : World
   pub rule : Rule k moment
@@ -64,13 +65,14 @@ pub record IsClosedAt (k : Key) (is_later : View → Type 0) (lane : ℕ) (out :
   pub lane_is : last.lane ≡ lane
   pub out_is : last.out ≡ out
   pub own_is : last.own ≡ own
+  pub rows_is : last.rows ≡ rows
   pub owns : Owns k moment.count moment.dir rule.lane_of lane out own
   pub rests : Rests moment.count moment.line tail
   pub facts : Facts k moment.count moment.dir moment.log rule.start learned
 
 -- the same of all that a view knows
 abbrev pub IsClosed : View → Remains → Type 0
-IsClosed v remains = IsClosedAt v.about (Learns v) v.lane v.out v.own v.tail v.learned remains
+IsClosed v remains = IsClosedAt v.about (Learns v) v.lane v.out v.own v.rows v.tail v.learned remains
 
 -- ---- on the way
 

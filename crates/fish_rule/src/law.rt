@@ -1,7 +1,7 @@
 //! The laws of the log: the theorem over every schedule, what a closed log has of what passes knew, and what
 //! passes know together. No call of the program needs them.
 
-ghost use Rattle.fish_rule.specs.ClosedLaws.{EndsWhereNextBegins, OwnIsClosed, ToldIsClosed};
+ghost use Rattle.fish_rule.specs.ClosedLaws.{DefinitionsAreClosed, EndsWhereNextBegins, OwnIsClosed, ToldIsClosed};
 ghost use Rattle.fish_rule.specs.Comparing.{OneLineIsOneClaim, OneNumberIsOneClaim, RegionsFollow};
 ghost use Rattle.fish_rule.specs.Intervals.{CoveredAreBetween, IntervalsAreCovered, IntervalsAreIndexed, IntervalsStay};
 ghost use Rattle.fish_rule.specs.Machine.{EverySchedule, EveryStepIsFinal};
@@ -17,13 +17,14 @@ pub fn law_every_schedule()
 {}
 
 /// Once a log is closed, each entry that a pass was told of is the one at its number, and the records of
-/// a lane are exactly the own numbers of the pass that has the lane. What is left of it may begin the next
-/// one.
+/// a lane are exactly the own numbers of the pass that has the lane. The definitions at the version that is left are those
+/// that the control pass knows, and what is left may begin the next log.
 ///
 /// Its contract is that law.
 pub fn law_closed_log()
     ensures told { ToldIsClosed }
     ensures own { OwnIsClosed }
+    ensures definitions { DefinitionsAreClosed }
     ensures next { EndsWhereNextBegins }
 {}
 

@@ -156,7 +156,7 @@ closed_before v u remains on h =
     subst (Rests w.count w.line) on.tail h.rests in
     let there : Rests w.count w.line v.tail =
     rests_same (high x) (low x) w.count w.line v.tail here.0 here.1 on.rests in
-    subst (λ (z : Key). IsClosedAt z (Learns v) v.lane v.out v.own v.tail v.learned remains) on.learns.about
+    subst (λ (z : Key). IsClosedAt z (Learns v) v.lane v.out v.own v.rows v.tail v.learned remains) on.learns.about
     (record {
       moment = w;
       rule = h.rule;
@@ -174,6 +174,7 @@ closed_before v u remains on h =
       lane_is = h.lane_is ∙ lane;
       out_is = h.out_is ∙ out;
       own_is = h.own_is ∙ own;
+      rows_is = h.rows_is ∙ ap (λ (z : View). z.rows) on.frame;
       owns = owns;
       rests = there;
       facts = facts;

@@ -6,11 +6,12 @@ use Rattle.fish_catalog.specs.declared.entry.Entry.{Entry}
 use Rattle.fish_catalog.specs.declared.entry.Entry.TheVariants as entry
 use Rattle.fish_rule.proofs.laws.Learning.{learns_both}
 use Rattle.fish_rule.proofs.basics.Bodies.{published}
-use Rattle.fish_rule.specs.ClosedLaws.{IsOfLane, OwnIsClosed, ToldIsClosed}
+use Rattle.fish_rule.specs.ClosedLaws.{DefinitionsAreClosed, IsOfLane, OwnIsClosed, ToldIsClosed}
 use Rattle.fish_rule.specs.ClosedLog.{IsClosed}
 use Rattle.fish_rule.specs.Logs.{IsEntry, IsLog, Learns}
 use Rattle.fish_rule.specs.Parts.{IsEntryWord}
 use Rattle.fish_rule.specs.Regions.{code}
+use Rattle.fish_rule.specs.Registry.{definitions_at}
 use Rattle.fish_rule.proofs.basics.Context.{Among, Key, Rule, View, World}
 use Rattle.fish_rule.specs.Views.{Has}
 use Rattle.fish_rule.specs.ChainFacts.{Always}
@@ -111,3 +112,9 @@ there_own v remains l i c has is =
 -- so the own numbers are exactly the lane's records
 pub own_closed : OwnIsClosed
 own_closed v remains l i c has = (own_there v remains l i c, there_own v remains l i c has)
+
+-- the definitions at the version that is left are those of the control pass that closed the log
+pub definitions_closed : DefinitionsAreClosed
+definitions_closed v remains c main =
+    let its = (c.rule.registry.each c.seat c.last c.at).main (c.lane_is ∙ main) in
+    ap (λ (z : ℕ). definitions_at v.about c.moment.registry z) c.version ∙ its.definitions ∙ c.rows_is

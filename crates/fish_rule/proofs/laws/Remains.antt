@@ -221,6 +221,7 @@ closes v whole base entries s alone all base_is entries_are =
       lane_is = refl;
       out_is = refl;
       own_is = refl;
+      rows_is = refl;
       owns = r.own s.seat v s.at;
       rests = r.tails s.seat v s.at alone.main alone.all;
       facts = r.facts s.seat v s.at;
