@@ -1,5 +1,5 @@
 -- The log that the words spell, and what a pass knows of it.
-use Rattle.std.specs.Prelude.{ℕ, ◌≡◌, ◌+◌, ◌*◌, ◌<◌, ◌≤◌, suc, List, length, slice_index, Option, Some, None}
+use Rattle.std.specs.Prelude.{ℕ, ◌≡◌, ◌≢◌, ◌+◌, ◌*◌, ◌<◌, ◌≤◌, ◌++◌, suc, List, length, slice_index, Option, Some, None}
 use Rattle.std.proofs.Common.{◌⊎◌}
 use mathlib.Core.Option.{some}
 use Rattle.std.proofs.Math.ListN.{get_elem?}
@@ -79,6 +79,12 @@ pub record HasWords (v : View) (f : Found) (words : List ℕ) : Type 0 where
   pub full : length words ≡ f.lines * 4
   pub read : (i : ℕ) → i < length words → ¬ IsKeyWord (keys_of (slice_index words 0)) i
       → Among (record { place = f.line * 4 + i; value = slice_index words i }) v.learned.known
+
+-- words after others are those of the region that the first view had found at a line, as the second knows them
+pub record HasMoreWords (v u : View) (line : ℕ) (before after : List ℕ) : Type 0 where
+  pub more : List ℕ
+  pub after_is : after ≡ before ++ more
+  pub words : (f : Found) → Among f v.learned.found → f.line ≡ line → f.kind ≢ Mark → HasWords u f more
 
 -- the second view is the first but for what it learned since
 pub record Extends (v u : View) : Type 0 where

@@ -1,9 +1,9 @@
 //! What stands at a number that is published, read word by word.
 
-ghost use Rattle.std.specs.Prelude.{◌≡◌, ◌≢◌, ◌+◌, ◌-◌, ◌*◌, ◌^◌, ◌<◌, ◌≤◌, ◌++◌, ℕ, List, IfOk, length, slice_index};
+ghost use Rattle.std.specs.Prelude.{◌≡◌, ◌≢◌, ◌+◌, ◌-◌, ◌*◌, ◌^◌, ◌<◌, ◌≤◌, ◌++◌, ℕ, List, IfOk, OnErr, OnOk, length, slice_index};
 ghost use Rattle.std.specs.Vec.{vec_capacity, vec_len};
 ghost use Rattle.fish_layout.specs.Header.{keys_of};
-ghost use Rattle.fish_rule.specs.Logs.{Extends, HasWords, IsWordRead};
+ghost use Rattle.fish_rule.specs.Logs.{Extends, HasMoreWords, IsWordRead};
 ghost use Rattle.fish_rule.specs.Passes.{IsPassOf, view};
 ghost use Rattle.fish_rule.specs.LoadSteps.{CanReadWord};
 ghost use Rattle.fish_rule.specs.Views.{Among};
@@ -15,28 +15,30 @@ use crate::table::{Log, Pass};
 use fish_layout::{keys_in, lines_in};
 use std::alloc::{AllocError, Global};
 
-/// All words of the published region at a line, and how many of them were loaded. Words that a splice may
-/// still change, the first ones of key entries, are given as 0 and not loaded.
+/// Puts all words of the published region at a line after those that a vector holds, and answers how many of them
+/// were loaded. Words that a splice may still change, the first ones of key entries, are put as 0 and not loaded.
+/// Out of memory, the vector holds what it held.
 pub fn read_region(
-    alloc: Global,
     log: &Log,
     pass: &mut Pass,
     line: u64,
-) -> Result<(Vec<u64>, u64), AllocError>
+    words: &mut Vec<u64>,
+) -> Result<u64, AllocError>
     requires pass { IsPassOf log.now pass.old }
     requires found { (f : Found) × Among f (view pass.old).learned.found × (f.line ≡ line) × (f.kind ≢ Mark) }
     ensures pass { IsPassOf log.now pass.new }
     ensures extends { Extends (view pass.old) (view pass.new) }
-    ensures words { IfOk result (λ r. (f : Found) → Among f (view pass.old).learned.found → f.line ≡ line
-        → f.kind ≢ Mark → HasWords (view pass.new) f r.0.items) }
-    ensures loads { IfOk result (λ r. (view pass.new).clock.loads ≡ (view pass.old).clock.loads + r.1) }
-    ensures few { IfOk result (λ r. r.1 ≤ length r.0.items) }
+    ensures words { OnOk result (HasMoreWords (view pass.old) (view pass.new) line words.old.items words.new.items) }
+    ensures loads { IfOk result (λ loads. (view pass.new).clock.loads ≡ (view pass.old).clock.loads + loads) }
+    ensures few { IfOk result (λ loads. loads + length words.old.items ≤ length words.new.items) }
+
+    ensures refused { OnErr result (words.new.items ≡ words.old.items) }
 {
     let header = read_word(log, pass, line, 0);
     let keys = u64::from(keys_in(header));
     let size = lines_in(header) * 4;
     let behind = (3 * keys + 1).min(size);
-    let mut words = Vec::with_capacity(alloc, size as usize)?;
+    words.reserve(size as usize)?;
     words.push_reserved(header);
     let mut loads = 1;
     for offset in 1..behind {
@@ -44,8 +46,8 @@ pub fn read_region(
         loads += u64::from(word.is_some());
         words.push_reserved(word.unwrap_or(0));
     }
-    read_rest(log, pass, line, behind, size, &mut words);
-    Ok((words, loads + (size - behind)))
+    read_rest(log, pass, line, behind, size, words);
+    Ok(loads + (size - behind))
 }
 
 /// Puts the words of a region from one on up to another behind those that were read. Most words of a record are read

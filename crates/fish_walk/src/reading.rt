@@ -37,7 +37,8 @@ pub fn read_entry<L: Ledger>(
 {
     loads.tick();
     let word = look_at(log, pass, u64::from(number));
-    let (words, loaded) = read_region(alloc, log, pass, line_of_word(word))?;
+    let mut words = Vec::new(alloc);
+    let loaded = read_region(log, pass, line_of_word(word), &mut words)?;
     count(loaded, loads);
     let Payload {
         lane,

@@ -115,6 +115,77 @@ read_behind v u line n from words more extends long read rest i less plain = pic
         subst (λ (z : ℕ × ℕ). Among (record { place = line * 4 + z.0; value = z.1 }) u.learned.known)
         (λ j. (place j, sym value j)) (rest (i - length words) (omega arith))
 
+-- ---- a region behind others
+
+-- so many words of the region at a line stand behind others, its header first, each known but for the first ones of key entries
+pub record ArePut (v : View) (line header many : ℕ) (words longer : List ℕ) : Type 0 where
+  pub more : List ℕ
+  pub behind : longer ≡ words ++ more
+  pub long : length more ≡ many
+  pub head : get_or more 0 0 ≡ header
+  pub read : AreRead v line (keys_of header) more
+
+-- the header alone
+pub put_head : (v : View) (line header : ℕ) (words longer : List ℕ) → longer ≡ words ++ header ∷ []
+    → Among (record { place = line * 4; value = header }) v.learned.known → ArePut v line header 1 words longer
+put_head v line header words longer behind known = record {
+  more = header ∷ [];
+  behind = behind;
+  long = refl;
+  head = refl;
+  read = λ i less plain.
+      let first : i ≡ 0 = omega arith in
+      let place : line * 4 ≡ line * 4 + i = omega arith in
+      subst (λ (z : ℕ × ℕ). Among (record { place = z.0; value = get_or (header ∷ []) z.1 0 }) v.learned.known)
+      (λ j. (place j, sym first j)) known;
+}
+
+-- with them there are so many more
+pub put_size : {v : View} {line header many : ℕ} {words longer : List ℕ} → ArePut v line header many words longer
+    → length longer ≡ length words + many
+put_size {v} {line} {header} {many} {words} {longer} h =
+    ap length h.behind ∙ length-append words h.more ∙ ap (λ (z : ℕ). length words + z) h.long
+
+-- its header is known
+pub put_known : (v : View) (line header many : ℕ) (words longer : List ℕ) → 0 < many → ArePut v line header many words longer
+    → Among (record { place = line * 4; value = header }) v.learned.known
+put_known v line header many words longer some h =
+    let long = h.long in
+    head_read v line (keys_of header) header h.more (omega arith) h.head h.read
+
+-- one more word
+pub put_more : (v u : View) (line header many x : ℕ) (words longer : List ℕ) → 0 < many → Extends v u
+    → ArePut v line header many words longer
+    → (¬ IsKeyWord (keys_of header) many → Among (record { place = line * 4 + many; value = x }) u.learned.known)
+    → ArePut u line header (many + 1) words (longer ++ x ∷ [])
+put_more v u line header many x words longer some extends h here =
+    let long = h.long in
+    record {
+      more = h.more ++ x ∷ [];
+      behind = ap (λ (z : List ℕ). z ++ x ∷ []) h.behind ∙ append_assoc words h.more (x ∷ []);
+      long = length-append h.more (x ∷ []) ∙ ap (λ (z : ℕ). z + 1) long;
+      head = head_stays h.more x header (omega arith) h.head;
+      read = read_more v u line (keys_of header) x h.more extends h.read
+          (subst (λ (z : ℕ). ¬ IsKeyWord (keys_of header) z → Among (record { place = line * 4 + z; value = x }) u.learned.known)
+          (sym long) here);
+    }
+
+-- and the rest of them
+pub put_rest : (v u : View) (line header many : ℕ) (words longer rest all : List ℕ) → 0 < many → Extends v u
+    → ArePut v line header many words longer → all ≡ longer ++ rest
+    → ((i : ℕ) → i < length rest
+    → Among (record { place = line * 4 + (many + i); value = get_or rest i 0 }) u.learned.known)
+    → ArePut u line header (many + length rest) words all
+put_rest v u line header many words longer rest all some extends h is read =
+    let long = h.long in
+    record {
+      more = h.more ++ rest;
+      behind = is ∙ ap (λ (z : List ℕ). z ++ rest) h.behind ∙ append_assoc words h.more rest;
+      long = length-append h.more rest ∙ ap (λ (z : ℕ). z + length rest) long;
+      head = get_or_append_left h.more rest 0 0 (omega arith) ∙ h.head;
+      read = read_behind v u line (keys_of header) many h.more rest extends long h.read read;
+    }
+
 -- a word that may be read may be read later
 pub can_read_later : (v u : View) (f : Found) (i : ℕ) → Extends v u → CanReadWord v f i → CanReadWord u f i
 can_read_later v u f i extends can = record {

@@ -1,5 +1,5 @@
 -- The words at the record's line are those of a record, whose parts are the entry's.
-use Rattle.std.proofs.Common.{◌≡◌, ℕ, sym, ap, ◌∙◌, subst, arith}
+use Rattle.std.proofs.Common.{◌≡◌, ℕ, List, ◌++◌, length, sym, ap, ◌∙◌, subst, arith}
 use Rattle.fish_catalog.specs.declared.entry.Entry.TheVariants as entry
 use Rattle.fish_layout.specs.Body.{IsBody}
 use Rattle.fish_rule.proofs.laws.Entries.{found_body, tells_entry}
@@ -22,8 +22,8 @@ read_region-requires-clause-found g c =
     (f.0, at.0, at.1, at.2)
 
 -- a look and the reads only learn
-pub returns-in_err-words-clause-extends : goal.returns-in_err-words-clause-extends
-returns-in_err-words-clause-extends g c =
+pub returns-in_err-loaded-clause-extends : goal.returns-in_err-loaded-clause-extends
+returns-in_err-loaded-clause-extends g c =
     let told = c.look_at-word.ensures.view in
     let look = look_extends (view c.args.pass.now) (view c.look_at-word.new.pass) _ told.0 _ told.1 in
     extends_both _ _ _ look c.read_region.ensures.extends
@@ -51,10 +51,13 @@ read_payload-requires g c =
     let at = look_finds (view c.args.pass.now) (view c.look_at-word.new.pass) _ told.0 c.look_at-word.result
     c.line_of_word.result f.0 c.requires.pass.stands told.1 word f.1 f.3
     c.line_of_word.ensures in
-    let words = c.in_ok-words.ensures.words f.0 at.0 at.1 at.2 in
-    let q = found_body (view c.read_region.new.pass) f.0 c.in_ok-words.words.items c.read_region.ensures.pass.stands
+    let read = c.in_ok-loaded.ensures.words in
+    let words = read.words f.0 at.0 at.1 at.2 in
+    let q = found_body (view c.read_region.new.pass) f.0 read.more c.read_region.ensures.pass.stands
     (c.read_region.ensures.extends.learns.found f.0 at.0) f.3 words in
-    (q.0, subst (IsBody q.0) (sym c.deref.ensures.value) q.1)
+    let same : c.deref.result.now ≡ read.more =
+    c.deref.ensures.value ∙ read.after_is ∙ ap (λ (z : List ℕ). z ++ read.more) c.new-words.ensures.items in
+    (q.0, subst (IsBody q.0) (sym same) q.1)
 
 -- whose parts are the entry that stands there
 pub returns-clause-entry : goal.returns-clause-entry
@@ -65,11 +68,13 @@ returns-clause-entry g c =
     let at = look_finds (view c.args.pass.now) (view c.look_at-word.new.pass) _ told.0 c.look_at-word.result
     c.line_of_word.result f.0 c.requires.pass.stands told.1 word f.1 f.3
     c.line_of_word.ensures in
-    let words = c.in_ok-words.ensures.words f.0 at.0 at.1 at.2 in
-    let same : c.deref.result.now ≡ c.in_ok-words.words.items = c.deref.ensures.value in
+    let read = c.in_ok-loaded.ensures.words in
+    let words = read.words f.0 at.0 at.1 at.2 in
+    let same : c.deref.result.now ≡ read.more =
+    c.deref.ensures.value ∙ read.after_is ∙ ap (λ (z : List ℕ). z ++ read.more) c.new-words.ensures.items in
     let r = c.in_ok-lane.field-0 in
     subst (λ (z : ℕ). Tells (view c.read_region.new.pass) z (entry.Stored r.lane r.form r.payload)) f.2
-    (tells_entry (view c.read_region.new.pass) f.0 c.in_ok-words.words.items
+    (tells_entry (view c.read_region.new.pass) f.0 read.more
     (c.read_region.ensures.extends.learns.found f.0 at.0) f.3 words r.lane r.form r.payload
     (λ q b. c.in_ok-lane.ensures.lane q (subst (IsBody q) (sym same) b))
     (λ q b. c.in_ok-lane.ensures.form q (subst (IsBody q) (sym same) b))
@@ -80,8 +85,8 @@ pub returns-clause-counted : goal.returns-clause-counted
 returns-clause-counted g c =
     let told = c.look_at-word.ensures.view in
     let looked = ap (λ (z : View). z.clock.loads) told.1 in
-    let loaded = c.in_ok-words.ensures.loads in
-    let few = c.in_ok-words.ensures.few in
+    let loaded = c.in_ok-loaded.ensures.loads in
+    let few = c.in_ok-loaded.ensures.few in
     let count = c.count.ensures in
     let tick = c.tick.ensures in
     record {
@@ -91,6 +96,8 @@ returns-clause-counted g c =
           let at = look_finds (view c.args.pass.now) (view c.look_at-word.new.pass) _ told.0 c.look_at-word.result
           c.line_of_word.result f c.requires.pass.stands told.1 word was is
           c.line_of_word.ensures in
-          let full = (c.in_ok-words.ensures.words f at.0 at.1 at.2).full in
+          let read = c.in_ok-loaded.ensures.words in
+          let size = ap length (read.after_is ∙ ap (λ (z : List ℕ). z ++ read.more) c.new-words.ensures.items) in
+          let full = (read.words f at.0 at.1 at.2).full in
           omega arith;
     }
