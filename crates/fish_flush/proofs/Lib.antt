@@ -12,6 +12,7 @@ pub mod PageStarts
 pub mod PageWrites
 pub mod RegionRead
 pub mod RegionSteps
+pub mod Rewritten
 pub mod RuleFacts
 pub mod TableKeys
 pub mod TableRegions

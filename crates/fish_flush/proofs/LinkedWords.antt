@@ -7,7 +7,7 @@ use Rattle.std.proofs.Math.Decide.{ℕ_discrete, dec_lt}
 use Rattle.std.specs.Prelude.{Some, None, Option, slice_get, ◌==◌, if◌then◌else◌, Bool, true, false, map}
 use Rattle.std.specs.List.{range_with_len}
 use Rattle.std.proofs.lemmas.Bool.{eq-eqb, eqb-true}
-use Rattle.std.proofs.lemmas.List.{ext_get_or, length-set, set-append_right, take_all, take_at}
+use Rattle.std.proofs.lemmas.List.{ext_get_or, length-set, take_all, take_at}
 use Rattle.std.proofs.Math.Seq.{take-append_seam}
 use Rattle.fish_image.proofs.Spelling.{parted}
 use Rattle.fish_image.specs.Progress.{AreHeads}
@@ -141,33 +141,26 @@ heads_more n places heads b p h less = record {
 abbrev pub linked_parts : ℕ → ℕ → BodyParts → List (ℕ × ℕ) → BodyParts
 linked_parts n line q places = relinked (prevs n line q.keys places) q
 
--- words behind others: those of the linked record up to its key entry c, and the rest as they were; the heads have the first
--- c key entries
-pub record HasLinkedTo (line c : ℕ) (q : BodyParts) (words w heads heads' out : List ℕ) (places : List (ℕ × ℕ)) : Type 0 where
-  pub r : List ℕ
-  pub out_is : out ≡ w ++ r
-  pub size : length r ≡ length words
-  pub done : (i : ℕ) → i < 1 + 3 * c → get_or r i 0 ≡ get_or (body_words (linked_parts (length heads) line q places)) i 0
-  pub rest : (i : ℕ) → 1 + 3 * c ≤ i → get_or r i 0 ≡ get_or words i 0
+-- those of the linked record up to its key entry c, and the rest as they were; the heads have the first c key entries
+pub record HasLinkedTo (line c : ℕ) (q : BodyParts) (words heads heads' out : List ℕ) (places : List (ℕ × ℕ)) : Type 0 where
+  pub done : (i : ℕ) → i < 1 + 3 * c → get_or out i 0 ≡ get_or (body_words (linked_parts (length heads) line q places)) i 0
+  pub rest : (i : ℕ) → 1 + 3 * c ≤ i → get_or out i 0 ≡ get_or words i 0
   pub heads_are : AreHeads (length heads) (with_keys (length heads) line 0 (take c q.keys) places) heads'
 
 -- so it is where the words are a record's; and before the first nothing changed
-pub record HasLinked (line c : ℕ) (words w heads heads' out : List ℕ) : Type 0 where
-  pub none : c ≡ 0 → (out ≡ w ++ words) × (heads' ≡ heads)
-  pub size : (r : List ℕ) × (out ≡ w ++ r) × (length r ≡ length words)
+pub record HasLinked (line c : ℕ) (words heads heads' out : List ℕ) : Type 0 where
+  pub none : c ≡ 0 → (out ≡ words) × (heads' ≡ heads)
+  pub size : length out ≡ length words
   pub linked : (q : BodyParts) (places : List (ℕ × ℕ)) → IsBody q words → AreHeads (length heads) places heads
-      → HasLinkedTo line c q words w heads heads' out places
+      → HasLinkedTo line c q words heads heads' out places
 
-module _ (line : ℕ) (words w heads : List ℕ) where
+module _ (line : ℕ) (words heads : List ℕ) where
   -- none is linked at first
-  pub none_linked : (out : List ℕ) → out ≡ w ++ words → HasLinked line 0 words w heads heads out
-  none_linked out is = record {
-    none = λ z. (is, refl);
-    size = (words, is, refl);
+  pub none_linked : HasLinked line 0 words heads heads words
+  none_linked = record {
+    none = λ z. (refl, refl);
+    size = refl;
     linked = λ q places body are. record {
-      r = words;
-      out_is = is;
-      size = refl;
       done = λ i less.
           let first : i ≡ 0 = omega arith in
           let r = prevs (length heads) line q.keys places in
@@ -178,16 +171,27 @@ module _ (line : ℕ) (words w heads : List ℕ) where
     };
   }
 
-  -- the bucket of a key entry is its key's
-  pub key_bucket : (q : BodyParts) (c : ℕ) (k : KeyPart) (n : ℕ) → IsBody q words → slice_get q.keys c ≡ Some k → c < length q.keys
-      → bucket_of n (λ i. get_or words i 0) c ≡ bucket_of_key n k
-  key_bucket q c k n body there less =
-      let e : ℕ → ℕ = λ i. get_or words i 0 in
+  -- no word has changed but the first ones of key entries
+  plain_same : (q : BodyParts) (c : ℕ) (heads' out : List ℕ) (places : List (ℕ × ℕ)) → IsBody q words
+      → HasLinkedTo line c q words heads heads' out places → (i : ℕ) → ¬ IsKeyWord (length q.keys) i → get_or out i 0 ≡ get_or words i 0
+  plain_same q c heads' out places body was i plain = elim (dec_lt i (1 + 3 * c)) [
+    | yes before ↦ was.done i before ∙ relinked_at (prevs (length heads) line q.keys places) q i plain
+        ∙ sym (ap (λ (l : List ℕ). get_or l i 0) body.is)
+    | no behind ↦ was.rest i (omega arith)
+  ]
+
+  -- so the bucket of a key entry is its key's
+  pub key_bucket : (q : BodyParts) (c : ℕ) (k : KeyPart) (n : ℕ) (out : List ℕ) → IsBody q words
+      → ((i : ℕ) → ¬ IsKeyWord (length q.keys) i → get_or out i 0 ≡ get_or words i 0)
+      → slice_get q.keys c ≡ Some k → c < length q.keys → bucket_of n (λ i. get_or out i 0) c ≡ bucket_of_key n k
+  key_bucket q c k n out body stays there less =
+      let e : ℕ → ℕ = λ i. get_or out i 0 in
       let p : BodyParts = relinked (λ _. 0) q in
       let f : ℕ → ℕ = λ i. get_or (body_words p) i 0 in
       let same : (i : ℕ) → ¬ IsKeyWord (length q.keys) i → e i ≡ f i =
-      λ i plain. ap (λ (l : List ℕ). get_or l i 0) body.is ∙ sym (relinked_at (λ _. 0) q i plain) in
-      let keys : keys_of (f 0) ≡ length q.keys = ap keys_of (sym (same 0 (head_stays (length q.keys)))) ∙ (body_says body).keys in
+      λ i plain. stays i plain ∙ ap (λ (l : List ℕ). get_or l i 0) body.is ∙ sym (relinked_at (λ _. 0) q i plain) in
+      let keys : keys_of (f 0) ≡ length q.keys =
+      ap keys_of (sym (same 0 (head_stays (length q.keys))) ∙ stays 0 (head_stays (length q.keys))) ∙ (body_says body).keys in
       let spells : Spells (unlinked q) f =
       subst (λ (z : BodyParts). Spells z f) (unlinked_is q) (record {
         proper = relinked_proper (λ _. 0) q body.proper;
@@ -201,15 +205,15 @@ module _ (line : ℕ) (words w heads : List ℕ) where
       (λ i. same (entry_at (keys_of (f 0)) + i) (λ key. (let m = key.0 in omega arith)))
       ∙ bucket_of-key n c (record k { prev = 0 }) spells (Rattle.fish_flush.proofs.TableRegions.unlink_get q.keys c k there)
 
-  module _ (c : ℕ) (heads' out : List ℕ) (h : HasLinked line c words w heads heads' out) where
+  module _ (c : ℕ) (heads' out : List ℕ) (h : HasLinked line c words heads heads' out) where
     -- one more is linked
     pub one_linked : (b prev at p : ℕ) → length heads' ≡ length heads → c < keys_of (get_or words 0 0)
-        → b ≡ bucket_of (length heads) (λ i. get_or words i 0) c → b < length heads → prev ≡ get_or heads' b 0 → at ≡ length w + (1 + 3 * c)
+        → b ≡ bucket_of (length heads) (λ i. get_or out i 0) c → b < length heads → prev ≡ get_or heads' b 0 → at ≡ 1 + 3 * c
         → p ≡ place_of line c → 3 * keys_of (get_or words 0 0) < length words
-        → HasLinked line (c + 1) words w heads (set heads' b p) (set out at prev)
+        → HasLinked line (c + 1) words heads (set heads' b p) (set out at prev)
     one_linked b prev at p same_size counts bucket fits prev_is at_is place room = record {
       none = λ z. absurd (omega arith);
-      size = (set h.size.0 (1 + 3 * c) prev, put h.size.0 h.size.1, length-set h.size.0 (1 + 3 * c) prev ∙ h.size.2);
+      size = length-set out at prev ∙ h.size;
       linked = λ q places body are.
           let n : ℕ = length heads in
           let was = h.linked q places body are in
@@ -219,31 +223,29 @@ module _ (line : ℕ) (words w heads : List ℕ) where
           let k : KeyPart = t.0 in
           let r = prevs n line q.keys places in
           let places' = with_keys n line 0 (take c q.keys) places in
-          let own : b ≡ bucket_of_key n k = bucket ∙ key_bucket q c k n body t.1 less in
+          let own : b ≡ bucket_of_key n k =
+          bucket ∙ key_bucket q c k n out body (plain_same q c heads' out places body was) t.1 less in
           let value : prev ≡ r c =
           prev_is ∙ was.heads_are.each b fits ∙ ap (head_of places') own
           ∙ prev_of places' (slice_get q.keys c) k t.1 in
-          let size = was.size in
-          let inside : 1 + 3 * c < length was.r = omega arith in
+          let size = h.size in
+          let inside : at < length out = omega arith in
           let key : IsKeyWord (length q.keys) (1 + 3 * c) = (omega arith, omega arith) in
           let third : (1 + 3 * c) / 3 ≡ c = omega arith in
           record {
-            r = set was.r (1 + 3 * c) prev;
-            out_is = put was.r was.out_is;
-            size = length-set was.r (1 + 3 * c) prev ∙ size;
-            done = λ i small. elim (ℕ_discrete i (1 + 3 * c))
-                as (λ _. get_or (set was.r (1 + 3 * c) prev) i 0 ≡ get_or (body_words (linked_parts n line q places)) i 0) [
-                  | yes here ↦ ap (λ (j : ℕ). get_or (set was.r (1 + 3 * c) prev) j 0) here
-                      ∙ get_or-set_same was.r (1 + 3 * c) prev 0 inside ∙ value
+            done = λ i small. elim (ℕ_discrete i at)
+                as (λ _. get_or (set out at prev) i 0 ≡ get_or (body_words (linked_parts n line q places)) i 0) [
+                  | yes here ↦ ap (λ (j : ℕ). get_or (set out at prev) j 0) here
+                      ∙ get_or-set_same out at prev 0 inside ∙ value
                       ∙ sym (relinked_key r q (1 + 3 * c) key ∙ ap r third)
-                      ∙ ap (λ (j : ℕ). get_or (body_words (linked_parts n line q places)) j 0) (sym here)
-                  | no apart ↦ get_or-set_other was.r (1 + 3 * c) i prev 0 apart ∙ (elim (dec_lt i (1 + 3 * c)) [
+                      ∙ ap (λ (j : ℕ). get_or (body_words (linked_parts n line q places)) j 0) (sym (here ∙ at_is))
+                  | no apart ↦ get_or-set_other out at i prev 0 apart ∙ (elim (dec_lt i (1 + 3 * c)) [
                     | yes before ↦ was.done i before
                     | no behind ↦ was.rest i (omega arith) ∙ ap (λ (l : List ℕ). get_or l i 0) body.is
                         ∙ sym (relinked_at r q i (λ other. (let m = other.1 in omega arith)))
                   ])
                 ];
-            rest = λ i more. get_or-set_other was.r (1 + 3 * c) i prev 0 (λ e. omega arith) ∙ was.rest i (omega arith);
+            rest = λ i more. get_or-set_other out at i prev 0 (λ e. omega arith) ∙ was.rest i (omega arith);
             heads_are = subst (λ (z : List (ℕ × ℕ)). AreHeads n z (set heads' b p))
                 (sym (ap (λ (l : List KeyPart). with_keys n line 0 l places) t.3 ∙ with_more n line 0 (take c q.keys) k places
                 ∙ (λ i. (sym own i, place_here q.keys less i) ∷ places')))
@@ -251,12 +253,6 @@ module _ (line : ℕ) (words w heads : List ℕ) where
           };
     }
       where
-        put : (r : List ℕ) → out ≡ w ++ r → set out at prev ≡ w ++ set r (1 + 3 * c) prev
-        put r is =
-            let from : at - length w ≡ 1 + 3 * c = omega arith in
-            ap (λ (l : List ℕ). set l at prev) is ∙ set-append_right w r (length w) at prev refl (omega arith)
-            ∙ ap (λ (j : ℕ). w ++ set r j prev) from
-
         prev_of : (ps : List (ℕ × ℕ)) (o : Option KeyPart) (k : KeyPart) → o ≡ Some k
             → head_of ps (bucket_of_key (length heads) k) ≡ prev_in (length heads) ps o
         prev_of ps o k is = sym (ap (prev_in (length heads) ps) is)
@@ -267,7 +263,7 @@ module _ (line : ℕ) (words w heads : List ℕ) where
             omega arith
 
     -- once all are, the words are those of a record that an image may have
-    pub all_linked : keys_of (get_or words 0 0) ≤ c → c ≤ keys_of (get_or words 0 0) → AreSpelled line words w heads heads' out
+    pub all_linked : keys_of (get_or words 0 0) ≤ c → c ≤ keys_of (get_or words 0 0) → AreSpelled line words heads heads' out
     all_linked more upto = record {
       none = λ zero_. h.none (omega arith);
       linked = λ q places body are.
@@ -278,17 +274,15 @@ module _ (line : ℕ) (words w heads : List ℕ) where
           let keys = (body_says body).keys in
           let all : take c q.keys ≡ q.keys = take_all c q.keys (omega arith) in
           let lines = relinked_lines r q in
-          let size = was.size in
+          let size = h.size in
           let own = ap (λ (l : List ℕ). length l) body.is ∙ length-body_words q in
           let whole = length-body_words p in
           record {
-            r = was.r;
             p = p;
-            out_is = was.out_is;
             size = size;
             body = record {
               proper = relinked_proper r q body.proper;
-              is = ext_get_or 0 was.r (body_words p) (omega arith) (λ i less. elim (dec_lt i (1 + 3 * c)) [
+              is = ext_get_or 0 out (body_words p) (omega arith) (λ i less. elim (dec_lt i (1 + 3 * c)) [
                 | yes before ↦ was.done i before
                 | no behind ↦ was.rest i (omega arith) ∙ ap (λ (l : List ℕ). get_or l i 0) body.is
                     ∙ sym (relinked_at r q i (λ other. (let m = other.0 in omega arith)))

@@ -171,34 +171,27 @@ next_starts c s lines r t (inl v) = ap (λ (z : Reached). z.starts) v.1
 next_starts c s lines r t (inr v) = ap (λ (z : Reached). z.starts) v.2
 
 module _ (v : View) (s : Stands v) (f : Found) (among : Among f v.learned.found) (plain : f.kind ≢ Mark) (words : List ℕ)
-    (has : HasWords v f words) (x heads heads' out : List ℕ) (spelled : AreSpelled f.line words x heads heads' out) where
+    (has : HasWords v f words) (heads heads' out : List ℕ) (spelled : AreSpelled f.line words heads heads' out) where
   -- the region follows an image that has all in front of it
   next_region : (c : Commit) (at : Reached) → HoldsRows v c.rows → 2 ^ c.bucket_bits ≡ length heads → at.number ≡ f.number
       → at.line ≡ f.line → f.line + f.lines ≤ c.lines → AreHeads (length heads) at.places heads
-      → (r : List ℕ) × (out ≡ x ++ r) × IsNextRegion c at v f.number f.lines r heads heads'
+      → IsNextRegion c at v f.number f.lines out heads heads'
   next_region c at holds buckets number line within are = by f.kind refl
     where
-      by : (k : Kind) → f.kind ≡ k → (r : List ℕ) × (out ≡ x ++ r) × IsNextRegion c at v f.number f.lines r heads heads'
+      by : (k : Kind) → f.kind ≡ k → IsNextRegion c at v f.number f.lines out heads heads'
       by Stored is =
           let q = record_words s.moment s.rule s.seat s.at f among words has is c.rows holds in
-          let linked = spelled.linked q.0 at.places q.1 are in (
-            linked.r,
-            linked.out_is,
-            record_next s.moment s.rule s.seat s.at f among words has is c.rows holds c at x heads heads' out refl
-                buckets number line within linked,
-          )
+          record_next s.moment s.rule s.seat s.at f among words has is c.rows holds c at heads heads' out refl
+          buckets number line within (spelled.linked q.0 at.places q.1 are)
       by Void is =
-          let none = spelled.none (void_keys s.moment s.rule s.seat s.at f among words has is) in (
-            words,
-            none.0,
-            subst (λ (z : List ℕ). IsNextRegion c at v f.number f.lines words heads z) (sym none.1)
-                (void_next s.moment s.rule s.seat s.at f among words has is c at heads number line within are),
-          )
+          let none = spelled.none (void_keys s.moment s.rule s.seat s.at f among words has is) in
+          subst (λ (z : List ℕ × List ℕ). IsNextRegion c at v f.number f.lines z.0 heads z.1) (λ i. (sym none.0 i, sym none.1 i))
+          (void_next s.moment s.rule s.seat s.at f among words has is c at heads number line within are)
       by Mark is = absurd (plain is)
 
   -- so one entry more was read
   pub read_more : (c : Commit) (w : List ℕ) (old : List Entry) (n line page : ℕ) (starts : List PageStart) → HoldsRows v c.rows
-      → f.number ≡ n → f.line ≡ line → IsReadTo c (w ++ x) old n line heads page starts
+      → f.number ≡ n → f.line ≡ line → IsReadTo c w old n line heads page starts
       → (e : Entry) × Tells v n e × IsReadTo c (w ++ out) (old ++ e ∷ []) (n + 1) (line + f.lines) heads' (page_of line + 1)
       (starts_after page n line starts)
   read_more c w old n line page starts holds number line_is read =
@@ -206,25 +199,21 @@ module _ (v : View) (s : Stands v) (f : Found) (among : Among f v.learned.found)
       let to : ℕ = line + f.lines in
       let d : Commit = record c { lines = to } in
       let from : Commit = record c { lines = line } in
-      let come = agrees_number from (w ++ x) n at read.agrees in
-      let next = next_region d at holds (sym read.heads_are.size) (come ∙ sym number) (read.line_is ∙ sym line_is) (omega arith)
+      let come = agrees_number from w n at read.agrees in
+      let t = next_region d at holds (sym read.heads_are.size) (come ∙ sym number) (read.line_is ∙ sym line_is) (omega arith)
       (subst (λ (b : ℕ). AreHeads b at.places heads) (sym read.heads_are.size) read.heads_are) in
-      let r : List ℕ = next.0 in
-      let t = next.2 in
-      let all : (w ++ x) ++ r ≡ w ++ out = append_assoc w x r ∙ ap (λ (l : List ℕ). w ++ l) (sym next.1) in
-      let before : Agrees d ((w ++ x) ++ r) n at = agrees_more d (w ++ x) r n at
-      (grown_agrees from d n refl (omega arith) (grown_self n c.rows) (meant_self c.rows) (w ++ x) n at (omega arith) read.agrees) in
+      let before : Agrees d (w ++ out) n at = agrees_more d w out n at
+      (grown_agrees from d n refl (omega arith) (grown_self n c.rows) (meant_self c.rows) w n at (omega arith) read.agrees) in
       let size = read.size in
       let at_line = read.line_is in
-      let seam : drop (4 * at.line) ((w ++ x) ++ r) ≡ r =
-      ap (λ (m : ℕ). drop m ((w ++ x) ++ r)) (omega arith) ∙ drop-append_seam (w ++ x) r in
-      let lines : region_lines r ≡ f.lines = t.header in
-      let whole : region r ≡ r = take_all (4 * region_lines r) r (omega (arith, t.size, lines)) in
-      let follows : Follows d ((w ++ x) ++ r) at t.t =
+      let seam : drop (4 * at.line) (w ++ out) ≡ out =
+      ap (λ (m : ℕ). drop m (w ++ out)) (omega arith) ∙ drop-append_seam w out in
+      let lines : region_lines out ≡ f.lines = t.header in
+      let whole : region out ≡ out = take_all (4 * region_lines out) out (omega (arith, t.size, lines)) in
+      let follows : Follows d (w ++ out) at t.t =
       subst (λ (l : List ℕ). FollowsAt d at l t.t) (sym seam)
       (subst (λ (z : ℕ × List ℕ). FollowsIn d at z.0 z.1 t.t) (λ i. (sym lines i, sym whole i)) t.follows) in
-      let grown : Agrees d (w ++ out) (suc n) t.t =
-      subst (λ (l : List ℕ). Agrees d l (suc n) t.t) all (at, before, follows) in
+      let grown : Agrees d (w ++ out) (suc n) t.t = (at, before, follows) in
       let up : suc n ≡ n + 1 = omega arith in (
         t.e,
         subst (λ (z : ℕ). Tells v z t.e) number t.told,
@@ -234,9 +223,9 @@ module _ (v : View) (s : Stands v) (f : Found) (among : Among f v.learned.found)
           line_is = t.line ∙ ap (λ (z : ℕ). z + f.lines) read.line_is;
           entries = t.entries ∙ ap (λ (l : List Entry). l ++ t.e ∷ []) read.entries;
           heads_are = subst (λ (b : ℕ). AreHeads b t.t.places heads') read.heads_are.size t.heads_are;
-          page_is = next_page d at f.lines r t.t t.follows ∙ ap (λ (z : ℕ). page_of z + 1) read.line_is;
-          starts_are = next_starts d at f.lines r t.t t.follows
+          page_is = next_page d at f.lines out t.t t.follows ∙ ap (λ (z : ℕ). page_of z + 1) read.line_is;
+          starts_are = next_starts d at f.lines out t.t t.follows
               ∙ (λ i. starts_after (read.page_is i) (come i) (read.line_is i) (read.starts_are i));
-          size = ap length (sym all) ∙ length-append (w ++ x) r ∙ (let a = t.size in omega arith);
+          size = length-append w out ∙ (let a = t.size in omega arith);
         },
       )

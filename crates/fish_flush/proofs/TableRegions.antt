@@ -260,11 +260,10 @@ module _ {v : View} (w : World) (rule : Rule v.about w) (seat : ℕ) (at : get_e
         (rule.start (suc f.number) - rule.start f.number) (body w.log (rule.start f.number)) keyed.1
 
     -- a record follows, whatever its previous nodes are made
-    pub record_next : (c : Commit) (s : Reached) (x heads heads' out : List ℕ) → c.rows ≡ rows → 2 ^ c.bucket_bits ≡ length heads
+    pub record_next : (c : Commit) (s : Reached) (heads heads' out : List ℕ) → c.rows ≡ rows → 2 ^ c.bucket_bits ≡ length heads
         → s.number ≡ f.number → s.line ≡ f.line → f.line + f.lines ≤ c.lines
-        → (linked : IsLinked f.line record_words.0 words x heads heads' out s.places)
-        → IsNextRegion c s v f.number f.lines linked.r heads heads'
-    record_next c s x heads heads' out rows_are buckets number line within linked =
+        → IsLinked f.line record_words.0 words heads heads' out s.places → IsNextRegion c s v f.number f.lines out heads heads'
+    record_next c s heads heads' out rows_are buckets number line within linked =
         let p : BodyParts = linked.p in
         let q : BodyParts = record_words.0 in
         let record_of = keyed.1.record_of in

@@ -6,7 +6,7 @@ ghost use Rattle.fish_catalog.specs.declared.entry.Entry.{Entry};
 ghost use Rattle.fish_rule.specs.LoadSteps.{CanLookAt};
 ghost use Rattle.fish_rule.specs.Logs.{AreTold, Extends, Tells};
 ghost use Rattle.fish_rule.specs.Passes.{IsPassOf, view};
-ghost use Rattle.fish_flush.specs.Reading.{EndsWithin, IsLineAt, IsReadTo};
+ghost use Rattle.fish_flush.specs.Reading.{EndsWithin, IsLineAt, IsReadTo, IsRegionAt};
 ghost use Rattle.fish_catalog.specs.PageStarts.{starts_after};
 ghost use Rattle.fish_layout.specs.Pages.{page_of};
 ghost use Rattle.fish_flush.specs.Rows.{HoldsRows};
@@ -67,19 +67,13 @@ pub(crate) fn read_settled(
         starts: Vec::from_slice(alloc, flusher.starts.as_slice())?,
     };
     for number in flusher.count..to {
-        add_region(alloc, log, pass, number, &mut batch)?;
+        add_region(log, pass, number, &mut batch)?;
     }
     Ok(batch)
 }
 
 /// Copies the region of a settled number after the others.
-fn add_region(
-    alloc: Global,
-    log: &Log,
-    pass: &mut Pass,
-    number: u32,
-    batch: &mut Batch,
-) -> Result<(), AllocError>
+fn add_region(log: &Log, pass: &mut Pass, number: u32, batch: &mut Batch) -> Result<(), AllocError>
     requires pass { IsPassOf log.now pass.old }
     requires from { log.now.key.number ≤ number }
     requires settled { number < (view pass.old).learned.settled }
@@ -98,21 +92,33 @@ fn add_region(
         × IsReadTo c (w ++ batch.new.words.items) (old ++ e ∷ []) (number + 1) batch.new.line batch.new.heads.items batch.new.page
         batch.new.starts.items) }
 {
+    let start = batch.words.len();
+    let line = copy_region(log, pass, number, &mut batch.words)?;
+    link(&mut batch.heads, line, batch.words.slice_mut(start..));
+    batch.page = keep_start(&mut batch.starts, batch.page, number, batch.line)?;
+    batch.line += (batch.words.len() - start) as u64 / 4;
+    Ok(())
+}
+
+/// Copies the region of a settled number after other words, and answers its line.
+fn copy_region(
+    log: &Log,
+    pass: &mut Pass,
+    number: u32,
+    words: &mut Vec<u64>,
+) -> Result<u64, AllocError>
+    requires pass { IsPassOf log.now pass.old }
+    requires from { log.now.key.number ≤ number }
+    requires settled { number < (view pass.old).learned.settled }
+    requires counted { number < (view pass.old).learned.count }
+    ensures pass { IsPassOf log.now pass.new }
+    ensures extends { Extends (view pass.old) (view pass.new) }
+    ensures region { IfOk result (λ line. IsRegionAt (view pass.new) number line words.old.items words.new.items) }
+{
     let word = look_at(log, pass, u64::from(number));
     let line = line_of_word(word);
-    let (words, _) = read_region(alloc, log, pass, line)?;
-    let start = batch.words.len();
-    batch.words.extend_from_slice(words.as_slice())?;
-    link(
-        &mut batch.heads,
-        line,
-        words.as_slice(),
-        &mut batch.words,
-        start,
-    );
-    batch.page = keep_start(&mut batch.starts, batch.page, number, batch.line)?;
-    batch.line += words.len() as u64 / 4;
-    Ok(())
+    read_region(log, pass, line, words)?;
+    Ok(line)
 }
 
 /// Keeps the region of a number at a line where it is the first of its page, and answers the next page.

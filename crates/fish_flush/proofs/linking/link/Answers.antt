@@ -1,6 +1,5 @@
 -- Each key entry is linked in turn.
-use Rattle.std.proofs.Common.{◌≡◌, ℕ, ◌+◌, ◌*◌, ◌<◌, List, ◌++◌, length, get_or, refl, ap, ◌∙◌}
-use Rattle.std.proofs.Common.{arith, length-append}
+use Rattle.std.proofs.Common.{◌≡◌, ℕ, ◌+◌, ◌*◌, ◌<◌, List, length, get_or, refl, ap, ◌∙◌, arith}
 use Rattle.std.proofs.lemmas.Grind.{get_or_default_zero}
 use Rattle.std.proofs.lemmas.List.{length-set}
 use Rattle.fish_layout.specs.Bucket.{bucket_of}
@@ -10,7 +9,7 @@ use Rattle.fish_flush.proofs.linking.link.Goals as goal
 pub loop-c-init : goal.loop-c-init
 loop-c-init c = record {
   heads = refl;
-  out = λ w copied start. none_linked c.args.line c.args.words.now w c.args.heads.now.items c.args.out.now.items copied;
+  out = none_linked c.args.line c.args.words.now c.args.heads.now.items;
 }
 
 pub entry_bucket-bucket-requires-clause-some : goal.entry_bucket-bucket-requires-clause-some
@@ -36,20 +35,6 @@ index-requires c =
 
 pub index_mut-requires : goal.index_mut-requires
 index_mut-requires c =
-    let copied = c.requires.copied in
-    let h = c.loop-c.invariant.out copied.0 copied.1 copied.2 in
-    let ok = c.loop-c.out.ok in
-    let all : length c.loop-c.out.items ≡ length (copied.0 ++ h.size.0) = ap (λ (l : List ℕ). length l) h.size.1 in
-    let both = length-append copied.0 h.size.0 in
-    let size = h.size.2 in
-    let start = copied.2 in
-    let room = c.requires.room in
-    let keys = c.from-keys.ensures ∙ c.keys_in.ensures.value in
-    let test = c.loop-c-test.true in
-    omega arith
-
-pub index_mut-requires-in-loop-c : goal.index_mut-requires-in-loop-c
-index_mut-requires-in-loop-c c =
     let is_len = c.len.ensures in
     let fits = c.entry_bucket-bucket.ensures.fits in
     omega arith
@@ -58,7 +43,7 @@ pub loop-c-preserved : goal.loop-c-preserved
 loop-c-preserved c =
     let heads : List ℕ = c.args.heads.now.items in
     let now : List ℕ = c.loop-c.heads.items in
-    let words : List ℕ = c.args.words.now in
+    let out : List ℕ = c.loop-c.words in
     let b : ℕ = c.entry_bucket-bucket.result in
     let p : ℕ = 4 * c.args.line + 1 + 3 * c.loop-c.c in
     let same : length now ≡ length heads = c.loop-c.invariant.heads in
@@ -67,37 +52,28 @@ loop-c-preserved c =
     let len : c.len.result ≡ length heads = omega arith in
     let fits_ = c.entry_bucket-bucket.ensures.fits in
     let fits : b < length heads = omega arith in
-    let bucket : b ≡ bucket_of (length heads) (λ i. get_or words i 0) c.loop-c.c =
-    c.entry_bucket-bucket.ensures.bucket ∙ ap (λ (n : ℕ). bucket_of n (λ i. get_or words i 0) c.loop-c.c) len in
+    let bucket : b ≡ bucket_of (length heads) (λ i. get_or out i 0) c.loop-c.c =
+    c.entry_bucket-bucket.ensures.bucket ∙ ap (λ (n : ℕ). bucket_of n (λ i. get_or out i 0) c.loop-c.c) len in
     let keys = c.from-keys.ensures ∙ c.keys_in.ensures.value in
     let test = c.loop-c-test.true in
     let room = c.requires.room in
     let prev : c.index.result.now ≡ get_or now b 0 = c.index.ensures ∙ get_or_default_zero now b c.index.result.now (omega arith) in
     record {
       heads = length-set now b p ∙ same;
-      out = λ w copied start.
-          one_linked c.args.line words w heads c.loop-c.c now c.loop-c.out.items (c.loop-c.invariant.out w copied start)
-          b c.index.result.now (c.args.start + 1 + 3 * c.loop-c.c) p same (omega arith) bucket fits prev (omega arith) (omega arith) room;
+      out = one_linked c.args.line c.args.words.now heads c.loop-c.c now out c.loop-c.invariant.out
+          b c.index.result.now (1 + 3 * c.loop-c.c) p same (omega arith) bucket fits prev refl (omega arith) room;
     }
 
 pub returns-clause-heads : goal.returns-clause-heads
 returns-clause-heads c = c.loop-c.invariant.heads
 
 pub returns-clause-spelled : goal.returns-clause-spelled
-returns-clause-spelled c = λ w copied start.
+returns-clause-spelled c =
     let keys = c.from-keys.ensures ∙ c.keys_in.ensures.value in
     let test = c.loop-c-test.false in
     let upto = c.loop-c.auto.c-end in
-    all_linked c.args.line c.args.words.now w c.args.heads.now.items c.loop-c.c c.loop-c.heads.items c.loop-c.out.items
-    (c.loop-c.invariant.out w copied start) (omega arith) (omega arith)
+    all_linked c.args.line c.args.words.now c.args.heads.now.items c.loop-c.c c.loop-c.heads.items c.loop-c.words
+    c.loop-c.invariant.out (omega arith) (omega arith)
 
 pub returns-clause-size : goal.returns-clause-size
-returns-clause-size c =
-    let copied = c.requires.copied in
-    let h = c.loop-c.invariant.out copied.0 copied.1 copied.2 in
-    let after : length c.loop-c.out.items ≡ length (copied.0 ++ h.size.0) = ap (λ (l : List ℕ). length l) h.size.1 in
-    let before : length c.args.out.now.items ≡ length (copied.0 ++ c.args.words.now) = ap (λ (l : List ℕ). length l) copied.1 in
-    let one = length-append copied.0 h.size.0 in
-    let other = length-append copied.0 c.args.words.now in
-    let size = h.size.2 in
-    omega arith
+returns-clause-size c = c.loop-c.invariant.out.size

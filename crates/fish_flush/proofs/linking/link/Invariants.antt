@@ -1,5 +1,5 @@
 -- The first key entries are linked.
-use Rattle.std.proofs.Common.{◌≡◌, ℕ, List, ◌++◌, length}
+use Rattle.std.proofs.Common.{◌≡◌, length}
 use Rattle.fish_flush.proofs.LinkedWords.{HasLinked}
 use Rattle.fish_flush.proofs.linking.link.Given as goal
 
@@ -7,6 +7,5 @@ use Rattle.fish_flush.proofs.linking.link.Given as goal
 abbrev pub invariant-loop-c : goal.invariant-loop-c
 invariant-loop-c l = record {
   heads : length l.heads.items ≡ length l.fn.heads.items;
-  out : (w : List ℕ) → l.fn.out.items ≡ w ++ l.words → l.start ≡ length w
-      → HasLinked l.line l.c l.words w l.fn.heads.items l.heads.items l.out.items;
+  out : HasLinked l.line l.c l.fn.words l.fn.heads.items l.heads.items l.words;
 }

@@ -1,0 +1,33 @@
+-- A list whose last elements are written anew.
+use Rattle.std.proofs.Common.{◌≡◌, ℕ, ◌<◌, ◌≤◌, ◌+◌, ◌-◌, List, [], ◌++◌, length, take, drop}
+use Rattle.std.proofs.Common.{ap, sym, ◌∙◌, arith, append-nil, length-append}
+use Rattle.std.proofs.Math.Seq.{drop-append_seam, take-append_seam}
+use Rattle.std.proofs.lemmas.List.{drop_all, take_all}
+
+-- all after the first ones
+pub all_after : (x more items : List ℕ) (from size : ℕ) → items ≡ x ++ more → from ≡ length x → size ≡ length items
+    → take (size - from) (drop from items) ≡ more
+all_after x more items from size is at whole =
+    let back : drop from items ≡ more = (λ i. drop (at i) (is i)) ∙ drop-append_seam x more in
+    let long : length items ≡ length x + length more = ap length is ∙ length-append x more in
+    ap (λ (l : List ℕ). take (size - from) l) back ∙ take_all (size - from) more (omega arith)
+
+-- all after the first ones are written anew: those before stay, and no more is there than was
+pub rewritten : (x more new items : List ℕ) (from size : ℕ) → items ≡ x ++ more → from ≡ length x → size ≡ length items
+    → length new ≡ length more → (all : List ℕ) → all ≡ take from items ++ (new ++ drop (length new) (drop from items))
+    → take size (all ++ drop (length all) items) ≡ x ++ new
+rewritten x more new items from size is at whole same all all_is =
+    let front : take from items ≡ x =
+    (λ i. take (at i) (is i)) ∙ take-append_seam x more in
+    let back : drop from items ≡ more =
+    (λ i. drop (at i) (is i)) ∙ drop-append_seam x more in
+    let none : drop (length new) (drop from items) ≡ [] =
+    ap (λ (l : List ℕ). drop (length new) l) back ∙ drop_all (length new) more (omega arith) in
+    let rest : new ++ drop (length new) (drop from items) ≡ new =
+    ap (λ (l : List ℕ). new ++ l) none ∙ append-nil new in
+    let both : all ≡ x ++ new = all_is ∙ (λ i. front i ++ rest i) in
+    let long : length items ≡ length x + length more = ap length is ∙ length-append x more in
+    let size_ : length all ≡ length x + length new = ap length both ∙ length-append x new in
+    let end : drop (length all) items ≡ [] = drop_all (length all) items (omega arith) in
+    ap (λ (l : List ℕ). take size (all ++ l)) end ∙ ap (λ (l : List ℕ). take size l) (append-nil all)
+    ∙ take_all size all (omega arith) ∙ both
