@@ -1,10 +1,9 @@
 -- A lane may go to a thread.
 use Rattle.std.proofs.Crossing.{crosses}
-use denote.Param.Send.{IsSend, IsSync, sendable}
+use denote.Param.Send.{IsSend, sendable}
 use Rattle.fish_lang.proofs.definition.Cond.TheLaws.TheKnot.{send-Cond}
 use Rattle.fish_rule.proofs.table.Pass.TheSendSync.{the_field_send as pass_field_send}
 use Rattle.fish_report.proofs.item.Item.TheSendSync.{the_send as item_send}
-use Rattle.fish_lanes.specs.contracts.gate.Gate.{the_row as gate_row}
 use Rattle.fish_lanes.specs.contracts.lane.Lane.{the_row as lane_row}
 use Rattle.fish_lanes.specs.contracts.lane.Seated.{the_row as seated_row}
 use Rattle.fish_lanes.specs.contracts.work.Work.{the_row as work_row}
@@ -21,6 +20,3 @@ work_send = search (sendable, crosses, send-Cond, path_send, text_send, ask_send
 
 pub lane_send : IsSend lane_row
 lane_send = search (sendable, crosses, seated_send, work_send, item_send) depth 20
-
-pub gate_sync : IsSync gate_row
-gate_sync = search (sendable, crosses) depth 30

@@ -57,13 +57,13 @@ pub struct BlockEnd {
 }
 
 /// Does the statements of a lane by a pass, which reads the definitions anew.
-fn run_pass(
+fn run_pass<G: Gate>(
     alloc: Global,
     log: &Log,
     pass: &mut Pass,
     works: &[Work],
     items: &mut Items,
-    gate: &Gate,
+    gate: &G,
 ) -> LaneFault
     requires pass { CanBegin log.now pass.old }
     requires base { (view pass.old).about.number ≡ 0 }
@@ -79,7 +79,7 @@ fn run_pass(
 }
 
 /// Does the statements of a lane by its own pass.
-fn run_seated(alloc: Global, log: &Log, lane: &mut Lane, gate: &Gate)
+fn run_seated<G: Gate>(alloc: Global, log: &Log, lane: &mut Lane, gate: &G)
     requires ready { IsReady log.now lane.old }
     ensures done { HasDone log.now lane.old lane.new }
 {
@@ -98,7 +98,7 @@ fn run_seated(alloc: Global, log: &Log, lane: &mut Lane, gate: &Gate)
 }
 
 /// Does the statements of lanes at once, by their own passes.
-fn run_others<R: Threads + Sync>(rt: &R, alloc: Global, log: &Log, lanes: &mut [Lane], gate: &Gate)
+fn run_others<R: Threads + Sync, G: Gate + Sync>(rt: &R, alloc: Global, log: &Log, lanes: &mut [Lane], gate: &G)
     requires ready { AreReady log.now lanes.old }
     requires some { 0 < length lanes.old }
     ensures done { AreDone log.now lanes.old lanes.new }
@@ -113,13 +113,13 @@ fn run_others<R: Threads + Sync>(rt: &R, alloc: Global, log: &Log, lanes: &mut [
 }
 
 /// Does the statements of the first lane by the control pass.
-fn run_first(
+fn run_first<G: Gate>(
     alloc: Global,
     log: &Log,
     main: &mut Pass,
     registrar: &mut Registrar,
     lane: &mut Lane,
-    gate: &Gate,
+    gate: &G,
 )
     requires can { CanControl log.now main.old registrar.old }
     requires first { IsFirst (view main.old) registrar.old lane.old }
@@ -190,7 +190,7 @@ fn take_all(log: &Log, main: &mut Pass, lanes: &mut [Lane])
 }
 
 /// Does the statements of all lanes at once: those of the first by the control pass.
-fn run_all<R: Threads + Sync>(
+fn run_all<R: Threads + Sync, G: Gate + Sync>(
     rt: &R,
     alloc: Global,
     log: &Log,
@@ -198,7 +198,7 @@ fn run_all<R: Threads + Sync>(
     registrar: &mut Registrar,
     first: &mut Lane,
     others: &mut [Lane],
-    gate: &Gate,
+    gate: &G,
 )
     requires can { CanControl log.now main.old registrar.old }
     requires first { IsFirst (view main.old) registrar.old first.old }
@@ -224,7 +224,7 @@ fn run_all<R: Threads + Sync>(
 }
 
 /// Gives the other lanes their passes, does the statements of all, and takes the passes back.
-fn run_by_passes<R: Threads + Sync>(
+fn run_by_passes<R: Threads + Sync, G: Gate + Sync>(
     rt: &R,
     alloc: Global,
     log: &Log,
@@ -232,7 +232,7 @@ fn run_by_passes<R: Threads + Sync>(
     registrar: &mut Registrar,
     first: &mut Lane,
     others: &mut [Lane],
-    gate: &Gate,
+    gate: &G,
 )
     requires can { CanControl log.now main.old registrar.old }
     requires first { IsFirst (view main.old) registrar.old first.old }
@@ -259,7 +259,7 @@ fn end_block(log: &Log, main: &mut Pass, registrar: &mut Registrar) -> BlockEnd
 }
 
 /// Does the statements of all lanes, each by a pass of its own, and finds where the log then ends.
-fn run_lanes<R: Threads + Sync>(
+fn run_lanes<R: Threads + Sync, G: Gate + Sync>(
     rt: &R,
     alloc: Global,
     log: &Log,
@@ -267,7 +267,7 @@ fn run_lanes<R: Threads + Sync>(
     registrar: &mut Registrar,
     first: &mut Lane,
     others: &mut [Lane],
-    gate: &Gate,
+    gate: &G,
 ) -> BlockEnd
     requires can { CanControl log.now main.old registrar.old }
     requires end { (from : ℕ) × HasEnd (view main.old) from }
@@ -310,14 +310,14 @@ fn run_lanes<R: Threads + Sync>(
 ///
 /// The gate is told where each lane is: in front of each statement and behind it, and behind each claim of a record.
 /// Nothing that is promised depends on how long it holds a lane.
-pub fn run_block<R: Threads + Sync>(
+pub fn run_block<R: Threads + Sync, G: Gate + Sync>(
     rt: &R,
     alloc: Global,
     log: &Log,
     main: &mut Pass,
     registrar: &mut Registrar,
     lanes: &mut [Lane],
-    gate: &Gate,
+    gate: &G,
 ) -> BlockEnd
     requires can { CanControl log.now main.old registrar.old }
     requires end { (from : ℕ) × HasEnd (view main.old) from }

@@ -17,14 +17,14 @@ use fish_rule::{Log, Pass, lane};
 use std::alloc::{AllocError, Global};
 
 /// Does statements in order, up to the first fault, with definitions that are read anew.
-pub(crate) fn run_control(
+pub(crate) fn run_control<G: Gate>(
     alloc: Global,
     log: &Log,
     pass: &mut Pass,
     registrar: &mut Registrar,
     works: &[Work],
     items: &mut Items,
-    gate: &Gate,
+    gate: &G,
 ) -> LaneFault
     requires can { CanControl log.now pass.old registrar.old }
     requires base { (view pass.old).about.number ≡ 0 }
@@ -40,7 +40,7 @@ pub(crate) fn run_control(
 
 /// Does statements in order, up to the first fault. In front of each it looks whether the index of the registration that
 /// waits begins.
-fn run_statements(
+fn run_statements<G: Gate>(
     alloc: Global,
     log: &Log,
     pass: &mut Pass,
@@ -48,7 +48,7 @@ fn run_statements(
     defs: &mut Defs,
     works: &[Work],
     items: &mut Items,
-    gate: &Gate,
+    gate: &G,
 ) -> LaneFault
     requires can { CanControl log.now pass.old registrar.old }
     requires defs { IsDefsOf (view pass.old) defs.old }
@@ -79,14 +79,14 @@ fn run_statements(
 }
 
 /// Does one statement.
-fn run_statement(
+fn run_statement<G: Gate>(
     alloc: Global,
     log: &Log,
     pass: &mut Pass,
     registrar: &mut Registrar,
     defs: &mut Defs,
     work: &Work,
-    gate: &Gate,
+    gate: &G,
 ) -> Result<Item, AllocError>
     requires can { CanControl log.now pass.old registrar.old }
     requires defs { IsDefsOf (view pass.old) defs.old }

@@ -1,12 +1,5 @@
-//! Gates: what is told where each lane is, and may hold it there until another lane has come somewhere. Tests order by one
+//! Gates: what is told where each lane is, and may hold it there until another lane has come somewhere. A test orders by one
 //! what lanes do; the program's holds nobody. Nothing that is promised depends on it.
-
-use std::alloc::{AllocError, Global};
-use std::sync::atomic::{AtomicU64, Ordering};
-use std::thread::yield_now;
-
-/// How often a lane that is held looks whether it may go on, before it is let go.
-const TURNS: u64 = 20_000_000;
 
 /// Where a lane is. A statement is named by its place in its lane, from 0.
 #[derive(Clone, Copy, Debug, PartialEq, Eq)]
@@ -19,89 +12,16 @@ pub enum Point {
     After(u32),
 }
 
-/// A lane that is to be held at a point until another lane has come to one.
-#[derive(Clone, Copy, Debug, PartialEq, Eq)]
-pub struct Hold {
-    /// The lane that is held, by its number.
-    pub lane: u8,
-    pub at: Point,
-    /// How often it passes the point before.
-    pub passes: u64,
-    /// The lane that it waits for.
-    pub other: u8,
-    pub until: Point,
-}
-
-/// A hold, and what became of it.
-#[derive(Drop)]
-struct Held {
-    hold: Hold,
-    /// How often the lane has come to its point.
-    arrivals: AtomicU64,
-    /// How often the other lane has come to its own.
-    signs: AtomicU64,
-}
-
 /// What is told where each lane is.
-#[derive(Drop)]
-pub struct Gate {
-    holds: Vec<Held>,
-    let_go: AtomicU64,
-}
-
-impl Gate {
-    /// A gate that holds no lane. Takes no memory.
-    pub fn open(alloc: Global) -> Gate {
-        Gate {
-            holds: Vec::new(alloc),
-            let_go: AtomicU64::new(0),
-        }
-    }
-
-    /// Holds a lane, too.
-    pub fn add(&mut self, hold: Hold) -> Result<(), AllocError> {
-        self.holds.push(Held {
-            hold,
-            arrivals: AtomicU64::new(0),
-            signs: AtomicU64::new(0),
-        })?;
-        Ok(())
-    }
-
-    /// How often a lane was let go since the other one never came.
-    pub fn let_go(&self) -> u64 {
-        self.let_go.load(Ordering::SeqCst)
-    }
-
+pub trait Gate {
     /// The lane with a number has come to a point. Comes back once it may go on.
-    pub(crate) fn reach(&self, lane: u8, point: Point) {
-        for held in &self.holds {
-            if held.hold.other == lane && held.hold.until == point {
-                held.signs.fetch_add(1, Ordering::SeqCst);
-            }
-        }
-        for held in &self.holds {
-            if held.hold.lane == lane && held.hold.at == point && held.arrives() {
-                self.hold(held);
-            }
-        }
-    }
-
-    /// Comes back once the other lane has come, or after so many turns.
-    fn hold(&self, held: &Held) {
-        for _ in 0..TURNS {
-            if held.signs.load(Ordering::SeqCst) != 0 {
-                return;
-            }
-            yield_now();
-        }
-        self.let_go.fetch_add(1, Ordering::SeqCst);
-    }
+    fn reach(&self, lane: u8, point: Point);
 }
 
-impl Held {
-    /// The lane has come to its point. Whether it is to be held now.
-    fn arrives(&self) -> bool {
-        self.arrivals.fetch_add(1, Ordering::SeqCst) == self.hold.passes
-    }
+/// A gate that holds no lane.
+#[derive(Clone, Copy, Debug)]
+pub struct OpenGate;
+
+impl Gate for OpenGate {
+    fn reach(&self, _lane: u8, _point: Point) {}
 }

@@ -33,7 +33,7 @@ pub(crate) struct Tally {
 }
 
 /// Stores the records of a file, up to the first one that finds the log full.
-pub(crate) fn ingest_file(
+pub(crate) fn ingest_file<G: Gate>(
     alloc: Global,
     log: &Log,
     pass: &mut Pass,
@@ -42,7 +42,7 @@ pub(crate) fn ingest_file(
     header: bool,
     name: &Text,
     file: &[u8],
-    gate: &Gate,
+    gate: &G,
 ) -> Result<Item, AllocError>
     requires pass { IsPassOf log.now pass.old }
     requires start { CanStart (view pass.old) }
@@ -75,7 +75,7 @@ pub(crate) fn ingest_file(
 
 /// Stores the lines or rows of a file that are records.
 #[tactic(auto, unfolding(fish_lines::specs::File::outcomes))]
-fn ingest_form(
+fn ingest_form<G: Gate>(
     alloc: Global,
     log: &Log,
     pass: &mut Pass,
@@ -84,7 +84,7 @@ fn ingest_form(
     header: bool,
     file: &[u8],
     tally: &mut Tally,
-    gate: &Gate,
+    gate: &G,
 ) -> Result<Option<Shut>, AllocError>
     requires pass { IsPassOf log.now pass.old }
     requires start { CanStart (view pass.old) }
@@ -103,7 +103,7 @@ fn ingest_form(
 }
 
 /// Stores the rows of a file in CSV that are records, with `header` those behind the first.
-fn ingest_csv(
+fn ingest_csv<G: Gate>(
     alloc: Global,
     log: &Log,
     pass: &mut Pass,
@@ -111,7 +111,7 @@ fn ingest_csv(
     header: bool,
     file: &[u8],
     tally: &mut Tally,
-    gate: &Gate,
+    gate: &G,
 ) -> Result<Option<Shut>, AllocError>
     requires pass { IsPassOf log.now pass.old }
     requires start { CanStart (view pass.old) }
@@ -154,14 +154,14 @@ fn item_of(name: Text, tally: Tally, end: Option<Shut>) -> Item
 }
 
 /// Stores the lines of a file in JSON Lines that are records.
-fn ingest_lines(
+fn ingest_lines<G: Gate>(
     alloc: Global,
     log: &Log,
     pass: &mut Pass,
     defs: &mut Defs,
     file: &[u8],
     tally: &mut Tally,
-    gate: &Gate,
+    gate: &G,
 ) -> Result<Option<Shut>, AllocError>
     requires pass { IsPassOf log.now pass.old }
     requires start { CanStart (view pass.old) }
@@ -184,14 +184,14 @@ fn ingest_lines(
 }
 
 /// Stores the rows of a file in CSV that are records.
-fn ingest_rows(
+fn ingest_rows<G: Gate>(
     alloc: Global,
     log: &Log,
     pass: &mut Pass,
     defs: &mut Defs,
     rows: &mut RowTexts<'_>,
     tally: &mut Tally,
-    gate: &Gate,
+    gate: &G,
 ) -> Result<Option<Shut>, AllocError>
     requires pass { IsPassOf log.now pass.old }
     requires start { CanStart (view pass.old) }
@@ -216,14 +216,14 @@ fn ingest_rows(
 }
 
 /// Stores the text of a row in CSV.
-fn ingest_text(
+fn ingest_text<G: Gate>(
     alloc: Global,
     log: &Log,
     pass: &mut Pass,
     defs: &mut Defs,
     text: Text,
     tally: &mut Tally,
-    gate: &Gate,
+    gate: &G,
 ) -> Result<Option<Shut>, AllocError>
     requires can { CanIngest log.now pass.old defs.old }
     requires room { tally.old.stored + tally.old.refused ≤ longest_file }
@@ -249,7 +249,7 @@ fn ingest_text(
 }
 
 /// Stores a line or row as a record of its form, or counts it as none.
-fn ingest_line(
+fn ingest_line<G: Gate>(
     alloc: Global,
     log: &Log,
     pass: &mut Pass,
@@ -257,7 +257,7 @@ fn ingest_line(
     form: Form,
     payload: &[u8],
     tally: &mut Tally,
-    gate: &Gate,
+    gate: &G,
 ) -> Result<Option<Shut>, AllocError>
     requires can { CanIngest log.now pass.old defs.old }
     requires room { tally.old.stored + tally.old.refused ≤ longest_file }
@@ -279,14 +279,14 @@ fn ingest_line(
 }
 
 /// `ingest`, with a gate behind the claim.
-fn ingest_at(
+fn ingest_at<G: Gate>(
     alloc: Global,
     log: &Log,
     pass: &mut Pass,
     defs: &mut Defs,
     form: Form,
     payload: &[u8],
-    gate: &Gate,
+    gate: &G,
 ) -> Result<u32, IngestRefusal>
     requires can { CanIngest log.now pass.old defs.old }
     ensures pass { IsPassOf log.now pass.new }

@@ -12,6 +12,6 @@ mod statements;
 mod work;
 
 pub use block::{BlockEnd, Boundary, run_block};
-pub use gate::{Gate, Hold, Point};
+pub use gate::{Gate, OpenGate, Point};
 pub use lane::{Lane, Seated};
 pub use work::{LaneFault, Work, Works};

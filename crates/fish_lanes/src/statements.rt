@@ -22,14 +22,14 @@ use fish_walk::settle;
 use std::alloc::{AllocError, Global};
 
 /// Does statements that change no definition, in order, up to the first fault.
-pub(crate) fn run_works(
+pub(crate) fn run_works<G: Gate>(
     alloc: Global,
     log: &Log,
     pass: &mut Pass,
     defs: &mut Defs,
     works: &[Work],
     items: &mut Items,
-    gate: &Gate,
+    gate: &G,
 ) -> LaneFault
     requires pass { IsPassOf log.now pass.old }
     requires start { CanStart (view pass.old) }
@@ -60,13 +60,13 @@ pub(crate) fn run_works(
 }
 
 /// Does one statement that changes no definition.
-pub(crate) fn run_work(
+pub(crate) fn run_work<G: Gate>(
     alloc: Global,
     log: &Log,
     pass: &mut Pass,
     defs: &mut Defs,
     work: &Work,
-    gate: &Gate,
+    gate: &G,
 ) -> Result<Item, AllocError>
     requires pass { IsPassOf log.now pass.old }
     requires start { CanStart (view pass.old) }

@@ -10,7 +10,7 @@ use crate::fault::Fault;
 use crate::outcome::Outcome;
 use crate::script::answer_run;
 use crate::selection::answer_select;
-use fish_lanes::Gate;
+use fish_lanes::{Gate, OpenGate};
 use fish_outside::{Host, Sink};
 use fish_value::Text;
 use fish_words::{Command, read_words};
@@ -35,20 +35,17 @@ pub fn run<R: Threads + Sync, H: Host, W: Sink>(
     ensures input { result.fault ≡ Fault.Input → Rose (H.faults host.old) (H.faults host.new) }
     ensures output { result.fault ≡ Fault.Output → Rose (W.faults out.old) (W.faults out.new) }
 {
-    let gate = Gate::open(alloc);
-    let outcome = run_gated(rt, alloc, words, host, out, &gate);
-    drop(gate);
-    outcome
+    run_gated(rt, alloc, words, host, out, &OpenGate)
 }
 
 /// `run`, where a gate is told where each lane of a script is and may hold it there. What is promised is the same.
-pub fn run_gated<R: Threads + Sync, H: Host, W: Sink>(
+pub fn run_gated<R: Threads + Sync, H: Host, W: Sink, G: Gate + Sync>(
     rt: &R,
     alloc: Global,
     words: &[Text],
     host: &mut H,
     out: &mut W,
-    gate: &Gate,
+    gate: &G,
 ) -> Outcome
     ensures status { result.status ≡ status_of result.fault result.refused }
     ensures usage { IsUsage words.now result.fault }
@@ -68,13 +65,13 @@ pub fn run_gated<R: Threads + Sync, H: Host, W: Sink>(
 }
 
 /// Runs a command.
-fn answer<R: Threads + Sync, H: Host, W: Sink>(
+fn answer<R: Threads + Sync, H: Host, W: Sink, G: Gate + Sync>(
     rt: &R,
     alloc: Global,
     command: &Command,
     host: &mut H,
     out: &mut W,
-    gate: &Gate,
+    gate: &G,
 ) -> Outcome
     ensures status { result.status ≡ status_of result.fault result.refused }
     ensures ended { Ends (asked_of command.now) (H.files host.new) (W.written out.old) (W.written out.new) result }

@@ -28,13 +28,13 @@ const PAGES: u16 = 8;
 const BITS: u8 = 12;
 
 /// Runs a `run`: its script is read, and then run on a log in memory.
-pub(crate) fn answer_run<R: Threads + Sync, H: Host, W: Sink>(
+pub(crate) fn answer_run<R: Threads + Sync, H: Host, W: Sink, G: Gate + Sync>(
     rt: &R,
     alloc: Global,
     command: &Run,
     host: &mut H,
     out: &mut W,
-    gate: &Gate,
+    gate: &G,
 ) -> Outcome
     ensures status { result.status ≡ status_of result.fault result.refused }
     ensures ended { EndsRun command.now.script (shape_of command.now.pages command.now.bits) (H.files host.new)

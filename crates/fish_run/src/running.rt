@@ -95,14 +95,14 @@ impl From<WriteRefusal> for RunFault {
 ///
 /// Of the log that is left all items are true that the blocks told, and what was written is their text: all of it where no
 /// fault came, all of it in front of the block whose file couldn't be read, and else a first part.
-pub fn run_script<R: Threads + Sync, H: Host, W: Sink>(
+pub fn run_script<R: Threads + Sync, H: Host, W: Sink, G: Gate + Sync>(
     rt: &R,
     alloc: Global,
     shape: Shape,
     script: &[Block],
     host: &mut H,
     out: &mut W,
-    gate: &Gate,
+    gate: &G,
 ) -> Ran
     requires shape { IsShape shape }
     requires script { CanRun script.now }
@@ -139,7 +139,7 @@ fn open_empty(alloc: Global, shape: Shape) -> Result<(Log, Pass), AllocError>
 }
 
 /// Runs blocks on a log that was just opened, and closes it.
-fn run_log<R: Threads + Sync, H: Host, W: Sink>(
+fn run_log<R: Threads + Sync, H: Host, W: Sink, G: Gate + Sync>(
     rt: &R,
     alloc: Global,
     log: Log,
@@ -147,7 +147,7 @@ fn run_log<R: Threads + Sync, H: Host, W: Sink>(
     script: &[Block],
     host: &mut H,
     out: &mut W,
-    gate: &Gate,
+    gate: &G,
 ) -> Ran
     requires new { IsNewLog log main }
     requires script { CanRun script.now }
@@ -211,7 +211,7 @@ fn finish<W: Sink>(alloc: Global, out: &mut W, ended: Result<u32, RunFault>) -> 
 }
 
 /// Runs blocks, one after the other, up to the first fault. How many numbers the log then has.
-fn run_blocks<R: Threads + Sync, H: Host, W: Sink>(
+fn run_blocks<R: Threads + Sync, H: Host, W: Sink, G: Gate + Sync>(
     rt: &R,
     alloc: Global,
     log: &Log,
@@ -220,7 +220,7 @@ fn run_blocks<R: Threads + Sync, H: Host, W: Sink>(
     host: &mut H,
     out: &mut W,
     refused: &mut bool,
-    gate: &Gate,
+    gate: &G,
 ) -> Result<u32, RunFault>
     requires new { IsNewLog log.now main.old }
     requires script { CanRun script.now }
@@ -262,7 +262,7 @@ fn run_blocks<R: Threads + Sync, H: Host, W: Sink>(
 }
 
 /// Runs one block behind a log of so many numbers, and writes what it tells.
-fn run_one<R: Threads + Sync, H: Host, W: Sink>(
+fn run_one<R: Threads + Sync, H: Host, W: Sink, G: Gate + Sync>(
     rt: &R,
     alloc: Global,
     log: &Log,
@@ -273,7 +273,7 @@ fn run_one<R: Threads + Sync, H: Host, W: Sink>(
     host: &mut H,
     out: &mut W,
     refused: &mut bool,
-    gate: &Gate,
+    gate: &G,
 ) -> Result<(), RunFault>
     requires go { CanGoOn log.now main.old registrar.old from.old }
     requires block { IsRunnableBlock block.now }
@@ -305,7 +305,7 @@ fn run_one<R: Threads + Sync, H: Host, W: Sink>(
 }
 
 /// Runs one block behind a log of so many numbers.
-fn do_block<R: Threads + Sync, H: Host>(
+fn do_block<R: Threads + Sync, H: Host, G: Gate + Sync>(
     rt: &R,
     alloc: Global,
     log: &Log,
@@ -314,7 +314,7 @@ fn do_block<R: Threads + Sync, H: Host>(
     block: &Block,
     from: u32,
     host: &mut H,
-    gate: &Gate,
+    gate: &G,
 ) -> Result<Done, FeedRefusal>
     requires go { CanGoOn log.now main.old registrar.old from }
     requires block { IsRunnableBlock block.now }

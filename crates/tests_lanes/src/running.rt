@@ -15,7 +15,7 @@ ghost use Rattle.tests_log.specs.Registering.{IsKept};
 
 use crate::scripts::{Plain, Script, push_lanes};
 use fish_catalog::{Catalog, Entries, Entry};
-use fish_lanes::{BlockEnd, Gate, Lane, LaneFault, run_block};
+use fish_lanes::{BlockEnd, Lane, LaneFault, OpenGate, run_block};
 use fish_registry::Registrar;
 use fish_report::push_item;
 use fish_rule::{Base, Log, Pass, base};
@@ -118,9 +118,7 @@ fn run_whole<R: Threads + Sync>(
     requires lanes { AreLanes lanes.old }
     ensures { OnOk result (IsBetween log.now main.new registrar.new) }
 {
-    let gate = Gate::open(alloc);
-    let end = run_block(rt, alloc, log, main, registrar, lanes, &gate);
-    drop(gate);
+    let end = run_block(rt, alloc, log, main, registrar, lanes, &OpenGate);
     if !is_whole(lanes) {
         return Err(Cause("the first lane stopped"));
     }

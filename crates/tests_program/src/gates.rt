@@ -3,8 +3,9 @@
 //! of their own, and run beside each other too.
 
 use crate::expecting::{expect, expect_text};
+use crate::holds::{Hold, HoldGate};
 use crate::outside::{host_of, sink_of, told_of, words_of};
-use fish_lanes::{Gate, Hold, Point};
+use fish_lanes::Point;
 use fish_outside::{MemoryHost, MemorySink};
 use fish_program::run_gated;
 use std::alloc::{AllocError, Global};
@@ -124,8 +125,8 @@ const ROWS: &[(&str, &[Hold], &str)] = &[
 ];
 
 /// A gate of holds.
-fn gate_of(alloc: Global, holds: &[Hold]) -> Result<Gate, AllocError> {
-    let mut gate = Gate::open(alloc);
+fn gate_of(alloc: Global, holds: &[Hold]) -> Result<HoldGate, AllocError> {
+    let mut gate = HoldGate::new(alloc);
     for hold in holds {
         gate.add(*hold)?;
     }
@@ -138,7 +139,7 @@ fn ended_by<R: Threads + Sync>(
     alloc: Global,
     host: &mut MemoryHost,
     out: &mut MemorySink,
-    gate: &Gate,
+    gate: &HoldGate,
 ) -> Result<String, AllocError> {
     let words = words_of(alloc, "run|store|script|--pages|1|")?;
     let outcome = run_gated(rt, alloc, words.as_slice(), host, out, gate);

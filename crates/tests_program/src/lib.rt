@@ -9,4 +9,6 @@ mod expecting;
 #[cfg(test)]
 mod gates;
 #[cfg(test)]
+mod holds;
+#[cfg(test)]
 mod outside;

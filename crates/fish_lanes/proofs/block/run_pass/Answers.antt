@@ -5,10 +5,10 @@ use Rattle.fish_rule.specs.Passes.{view}
 use Rattle.fish_lanes.proofs.block.run_pass.Goals as goal
 
 pub run_works-requires-clause-defs : goal.run_works-requires-clause-defs
-run_works-requires-clause-defs c = λ r. let bad : false ≡ true = sym c.new-defs.ensures.unread ∙ r in absurd cc
+run_works-requires-clause-defs g c = λ r. let bad : false ≡ true = sym c.new-defs.ensures.unread ∙ r in absurd cc
 
 pub returns-clause-pass : goal.returns-clause-pass
-returns-clause-pass c = record {
+returns-clause-pass g c = record {
   of = c.run_works.ensures.pass;
   start = gains_start (view c.args.pass.now) (view c.run_works.new.pass) c.run_works.ensures.run.rows c.requires.pass.start
       c.run_works.ensures.run.gains;

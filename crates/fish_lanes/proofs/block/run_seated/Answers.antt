@@ -6,7 +6,7 @@ use Rattle.fish_rule.specs.Passes.{view}
 use Rattle.fish_lanes.proofs.block.run_seated.Goals as goal
 
 pub returns : goal.returns
-returns c =
+returns g c =
     let run = c.run_pass-lane.ensures.run in
     record {
       done = record {

@@ -13,13 +13,13 @@ use Rattle.fish_rule.specs.Passes.{view}
 use Rattle.fish_lanes.proofs.control.run_statement.Goals as goal
 
 pub register-requires-clause-name : goal.register-requires-clause-name
-register-requires-clause-name c = (subst IsAcceptable c.in-Register.is c.requires.acceptable).0
+register-requires-clause-name g c = (subst IsAcceptable c.in-Register.is c.requires.acceptable).0
 
 pub register-requires-clause-said : goal.register-requires-clause-said
-register-requires-clause-said c = (subst IsAcceptable c.in-Register.is c.requires.acceptable).1
+register-requires-clause-said g c = (subst IsAcceptable c.in-Register.is c.requires.acceptable).1
 
 pub returns-in-Register-clause-done : goal.returns-in-Register-clause-done
-returns-in-Register-clause-done c =
+returns-in-Register-clause-done g c =
     let v = view c.args.pass.now in
     let t = view c.register.new.pass in
     subst (λ (w : Work). IfOk c.register.result (IsControlled v c.args.registrar.now t c.register.new.registrar w))
@@ -29,14 +29,14 @@ returns-in-Register-clause-done c =
     c.register.ensures.tail c.register.ensures.rolls c.register.ensures.item c.register.ensures.does)
 
 pub returns-in-Register-clause-part : goal.returns-in-Register-clause-part
-returns-in-Register-clause-part c =
+returns-in-Register-clause-part g c =
     let v = view c.args.pass.now in
     let t = view c.register.new.pass in
     subst (λ (w : Work). IfErr c.register.result (λ _. IsPartControlled v t w)) (sym c.in-Register.is)
     (control_part v t (work.Register c.in-Register.name c.in-Register.def) c.register.result refl c.register.ensures.gains)
 
 pub returns-in-Deregister-clause-done : goal.returns-in-Deregister-clause-done
-returns-in-Deregister-clause-done c =
+returns-in-Deregister-clause-done g c =
     let v = view c.args.pass.now in
     let t = view c.deregister.new.pass in
     subst (λ (w : Work). IfOk c.deregister.result (IsControlled v c.args.registrar.now t c.deregister.new.registrar w))
@@ -48,17 +48,17 @@ returns-in-Deregister-clause-done c =
     c.deregister.ensures.does)
 
 pub returns-in-Deregister-clause-part : goal.returns-in-Deregister-clause-part
-returns-in-Deregister-clause-part c =
+returns-in-Deregister-clause-part g c =
     let v = view c.args.pass.now in
     let t = view c.deregister.new.pass in
     subst (λ (w : Work). IfErr c.deregister.result (λ _. IsPartControlled v t w)) (sym c.in-Deregister.is)
     (control_part v t (work.Deregister c.in-Deregister.name) c.deregister.result refl c.deregister.ensures.gains)
 
 pub run_work-requires-clause-free : goal.run_work-requires-clause-free
-run_work-requires-clause-free c = free_of c.args.work.now c.in_default.not-Register c.in_default.not-Deregister
+run_work-requires-clause-free g c = free_of c.args.work.now c.in_default.not-Register c.in_default.not-Deregister
 
 pub returns-in_default-clause-can : goal.returns-in_default-clause-can
-returns-in_default-clause-can c =
+returns-in_default-clause-can g c =
     let v = view c.args.pass.now in
     let t = view c.run_work.new.pass in
     let g = gained_any v t c.args.work.now c.run_work.result c.run_work.ensures.item c.run_work.ensures.part in
@@ -69,7 +69,7 @@ returns-in_default-clause-can c =
     }
 
 pub returns-in_default-clause-done : goal.returns-in_default-clause-done
-returns-in_default-clause-done c =
+returns-in_default-clause-done g c =
     let v = view c.args.pass.now in
     let t = view c.run_work.new.pass in
     let r = c.args.registrar.now in
@@ -81,5 +81,5 @@ returns-in_default-clause-done c =
     r.catalog refl refl refl) c.run_work.ensures.item
 
 pub returns-in_default-clause-part : goal.returns-in_default-clause-part
-returns-in_default-clause-part c = free_part (view c.args.pass.now) (view c.run_work.new.pass) c.args.work.now c.run_work.result
+returns-in_default-clause-part g c = free_part (view c.args.pass.now) (view c.run_work.new.pass) c.args.work.now c.run_work.result
     c.run_work.ensures.part

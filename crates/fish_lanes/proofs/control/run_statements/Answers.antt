@@ -19,7 +19,7 @@ use Rattle.fish_rule.specs.declared.view.Key.{Key}
 use Rattle.fish_lanes.proofs.control.run_statements.Goals as goal
 
 pub loop-work-init : goal.loop-work-init
-loop-work-init c =
+loop-work-init g c =
     let v = view c.args.pass.now in
     record {
       can = c.requires.can;
@@ -32,7 +32,7 @@ loop-work-init c =
     }
 
 pub returns-then-is_err-clause-run : goal.returns-then-is_err-clause-run
-returns-then-is_err-clause-run c =
+returns-then-is_err-clause-run g c =
     let i = c.loop-work.work-index in
     let works = c.args.works.now in
     let w = c.work-item.result in
@@ -49,11 +49,11 @@ returns-then-is_err-clause-run c =
     c.loop-work.invariant.held c.loop-work.invariant.found c.find_boundary.ensures.gains (take_nothing_first w))
 
 pub run_statement-requires-clause-defs : goal.run_statement-requires-clause-defs
-run_statement-requires-clause-defs c = defs_later (view c.loop-work.pass) (view c.find_boundary.new.pass) c.loop-work.defs.known
+run_statement-requires-clause-defs g c = defs_later (view c.loop-work.pass) (view c.find_boundary.new.pass) c.loop-work.defs.known
     c.find_boundary.ensures.gains.on.learns c.loop-work.invariant.read
 
 pub returns-in_default-clause-run : goal.returns-in_default-clause-run
-returns-in_default-clause-run c =
+returns-in_default-clause-run g c =
     let i = c.loop-work.work-index in
     let works = c.args.works.now in
     let w = c.work-item.result in
@@ -76,7 +76,7 @@ returns-in_default-clause-run c =
     part.gains part.first)
 
 pub returns-in-Err-clause-run : goal.returns-in-Err-clause-run
-returns-in-Err-clause-run c =
+returns-in-Err-clause-run g c =
     let i = c.loop-work.work-index in
     let works = c.args.works.now in
     let w = c.work-item.result in
@@ -99,7 +99,7 @@ returns-in-Err-clause-run c =
     done.gains done.first)
 
 pub loop-work-preserved : goal.loop-work-preserved
-loop-work-preserved c =
+loop-work-preserved g c =
     let inv = c.loop-work.invariant in
     let i = c.loop-work.work-index in
     let works = c.args.works.now in
@@ -133,7 +133,7 @@ loop-work-preserved c =
     }
 
 pub returns-clause-run : goal.returns-clause-run
-returns-clause-run c =
+returns-clause-run g c =
     let works = c.args.works.now in
     let all : take c.loop-work.work-index works ≡ works =
     take_all c.loop-work.work-index works (let e = c.loop-work-test.false in omega arith) in

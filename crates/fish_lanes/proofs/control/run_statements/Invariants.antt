@@ -9,7 +9,7 @@ use Rattle.fish_rule.specs.Passes.{view}
 use Rattle.fish_lanes.proofs.control.run_statements.Given as goal
 
 abbrev pub invariant-loop-work : goal.invariant-loop-work
-invariant-loop-work l = record {
+invariant-loop-work g l = record {
   can : CanControl l.log l.pass l.registrar;
   read : IsDefsOf (view l.pass) l.defs;
   base : (view l.pass).about.number ≡ 0;

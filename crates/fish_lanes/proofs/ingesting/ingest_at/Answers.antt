@@ -6,7 +6,7 @@ use Rattle.fish_rule.specs.Passes.{view}
 use Rattle.fish_lanes.proofs.ingesting.ingest_at.Goals as goal
 
 pub returns-clause-ingested : goal.returns-clause-ingested
-returns-clause-ingested c =
+returns-clause-ingested g c =
     let s = c.in_ok-pending.ensures.started in
     subst (λ (n : ℕ). HasIngested (view c.args.pass.now) c.args.form c.args.payload.now n (view c.finish.new.pass))
     (sym c.finish.ensures.number)

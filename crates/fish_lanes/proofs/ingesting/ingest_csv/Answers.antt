@@ -7,7 +7,7 @@ use Rattle.fish_value.specs.declared.field.Form.TheVariants.{Csv}
 use Rattle.fish_lanes.proofs.ingesting.ingest_csv.Goals as goal
 
 pub returns-in-Err-FileTooLong-clause-part : goal.returns-in-Err-FileTooLong-clause-part
-returns-in-Err-FileTooLong-clause-part c =
+returns-in-Err-FileTooLong-clause-part g c =
     let v = view c.args.pass.now in
     let outs = csv.outcomes c.args.header c.args.file.now in (
       outs,

@@ -13,14 +13,14 @@ use Rattle.fish_rule.specs.Passes.{view}
 use Rattle.fish_lanes.proofs.ingesting.ingest_file.Goals as goal
 
 pub returns-in_err-name-clause-part : goal.returns-in_err-name-clause-part
-returns-in_err-name-clause-part c =
+returns-in_err-name-clause-part g c =
     let v = view c.args.pass.now in
     let w = work.Ingest c.args.form c.args.header c.args.name.now c.args.file.now in
     err_any c.from_residual.result (IsPart v v w)
     (nothing_part v w c.requires.start.outside (idle_law v c.requires.pass.stands c.requires.start))
 
 pub returns-then-file-gt-MAX_FILE-clause-item : goal.returns-then-file-gt-MAX_FILE-clause-item
-returns-then-file-gt-MAX_FILE-clause-item c =
+returns-then-file-gt-MAX_FILE-clause-item g c =
     let v = view c.args.pass.now in
     record {
       gained = record {
@@ -37,7 +37,7 @@ returns-then-file-gt-MAX_FILE-clause-item c =
     }
 
 pub returns-in-Ok-clause-item : goal.returns-in-Ok-clause-item
-returns-in-Ok-clause-item c =
+returns-in-Ok-clause-item g c =
     let v = view c.args.pass.now in
     let u = view c.ingest_form.new.pass in
     let w = work.Ingest c.args.form c.args.header c.args.name.now c.args.file.now in
@@ -48,5 +48,5 @@ returns-in-Ok-clause-item c =
     (let short = c.if-file-gt-MAX_FILE.false in omega arith) c.in-Ok.ensures.ends)
 
 pub returns-in-Err-clause-part : goal.returns-in-Err-clause-part
-returns-in-Err-clause-part c = file_part (view c.args.pass.now) (view c.ingest_form.new.pass) c.args.form c.args.header
+returns-in-Err-clause-part g c = file_part (view c.args.pass.now) (view c.ingest_form.new.pass) c.args.form c.args.header
     c.args.name.now c.args.file.now c.in-Err.ensures.part

@@ -16,7 +16,7 @@ use Rattle.fish_value.specs.declared.field.Form.TheVariants.{Json}
 use Rattle.fish_lanes.proofs.ingesting.ingest_lines.Goals as goal
 
 pub loop-line-init : goal.loop-line-init
-loop-line-init c =
+loop-line-init g c =
     let v = view c.args.pass.now in
     let outs = json.outcomes c.args.file.now in
     record {
@@ -37,7 +37,7 @@ loop-line-init c =
     }
 
 pub returns-in_err-shut-clause-part : goal.returns-in_err-shut-clause-part
-returns-in_err-shut-clause-part c =
+returns-in_err-shut-clause-part g c =
     let v = view c.args.pass.now in
     let u = view c.loop-line.pass in
     let t = view c.ingest_line.new.pass in
@@ -52,7 +52,7 @@ returns-in_err-shut-clause-part c =
     )
 
 pub returns-in-Some-2-clause-ends : goal.returns-in-Some-2-clause-ends
-returns-in-Some-2-clause-ends c =
+returns-in-Some-2-clause-ends g c =
     let v = view c.args.pass.now in
     let u = view c.loop-line.pass in
     let t = view c.ingest_line.new.pass in
@@ -67,7 +67,7 @@ returns-in-Some-2-clause-ends c =
     (FindsFull u t Json line c.loop-line.tally c.ingest_line.new.tally)) c.in-Some-2.is c.in_ok-shut.ensures.takes)
 
 pub loop-line-preserved : goal.loop-line-preserved
-loop-line-preserved c =
+loop-line-preserved g c =
     let v = view c.args.pass.now in
     let u = view c.loop-line.pass in
     let t = view c.ingest_line.new.pass in

@@ -11,7 +11,7 @@ use Rattle.fish_value.specs.declared.field.Form.TheVariants.{Json}
 use Rattle.fish_lanes.proofs.ingesting.ingest_lines.Given as goal
 
 abbrev pub invariant-loop-line : goal.invariant-loop-line
-invariant-loop-line l = record {
+invariant-loop-line g l = record {
   of : IsPassOf l.log l.pass;
   start : CanStart (view l.pass);
   read : IsDefsOf (view l.pass) l.defs;
@@ -21,4 +21,4 @@ invariant-loop-line l = record {
 }
 
 abbrev pub decreases-loop-line : goal.decreases-loop-line
-decreases-loop-line l = length l.lines.rest.now
+decreases-loop-line g l = length l.lines.rest.now

@@ -16,7 +16,7 @@ use Rattle.fish_value.specs.declared.field.Form.TheVariants.{Csv}
 use Rattle.fish_lanes.proofs.ingesting.ingest_rows.Goals as goal
 
 pub loop-row-init : goal.loop-row-init
-loop-row-init c =
+loop-row-init g c =
     let v = view c.args.pass.now in
     record {
       of = c.requires.pass;
@@ -33,7 +33,7 @@ loop-row-init c =
     }
 
 pub returns-in_err-shut-in-Some-row-clause-part : goal.returns-in_err-shut-in-Some-row-clause-part
-returns-in_err-shut-in-Some-row-clause-part c =
+returns-in_err-shut-in-Some-row-clause-part g c =
     let v = view c.args.pass.now in
     let u = view c.loop-row.pass in
     let t = view c.ingest_text.new.pass in
@@ -48,7 +48,7 @@ returns-in_err-shut-in-Some-row-clause-part c =
     )
 
 pub returns-in-Some-2-clause-ends : goal.returns-in-Some-2-clause-ends
-returns-in-Some-2-clause-ends c =
+returns-in-Some-2-clause-ends g c =
     let v = view c.args.pass.now in
     let u = view c.loop-row.pass in
     let t = view c.ingest_text.new.pass in
@@ -66,7 +66,7 @@ returns-in-Some-2-clause-ends c =
     (FindsFull u t Csv text c.loop-row.tally c.ingest_text.new.tally)) c.in-Some-2.is c.in_ok-shut-in-Some-row.ensures.takes)
 
 pub loop-row-preserved-in-None-2 : goal.loop-row-preserved-in-None-2
-loop-row-preserved-in-None-2 c =
+loop-row-preserved-in-None-2 g c =
     let v = view c.args.pass.now in
     let u = view c.loop-row.pass in
     let t = view c.ingest_text.new.pass in
@@ -100,7 +100,7 @@ loop-row-preserved-in-None-2 c =
     }
 
 pub loop-row-preserved : goal.loop-row-preserved
-loop-row-preserved c =
+loop-row-preserved g c =
     let v = view c.args.pass.now in
     let u = view c.loop-row.pass in
     let outs = left c.args.rows.now in

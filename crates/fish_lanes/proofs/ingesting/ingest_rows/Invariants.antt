@@ -10,7 +10,7 @@ use Rattle.fish_value.specs.declared.field.Form.TheVariants.{Csv}
 use Rattle.fish_lanes.proofs.ingesting.ingest_rows.Given as goal
 
 abbrev pub invariant-loop-row : goal.invariant-loop-row
-invariant-loop-row l = record {
+invariant-loop-row g l = record {
   of : IsPassOf l.log l.pass;
   start : CanStart (view l.pass);
   read : IsDefsOf (view l.pass) l.defs;
@@ -20,4 +20,4 @@ invariant-loop-row l = record {
 }
 
 abbrev pub decreases-loop-row : goal.decreases-loop-row
-decreases-loop-row l = length l.rows.rest.now
+decreases-loop-row g l = length l.rows.rest.now

@@ -11,13 +11,13 @@ use Rattle.fish_rule.specs.Passes.{view}
 use Rattle.fish_lanes.proofs.statements.run_work.Goals as goal
 
 pub returns-in-Ingest-clause-part : goal.returns-in-Ingest-clause-part
-returns-in-Ingest-clause-part c =
+returns-in-Ingest-clause-part g c =
     subst (λ (w : Work). IfErr c.ingest_file.result (λ _. IsPart (view c.args.pass.now) (view c.ingest_file.new.pass) w))
     (ap (λ (z : List ℕ). work.Ingest c.in-Ingest.form c.in-Ingest.header c.in-Ingest.name z) c.as_bytes.ensures
     ∙ sym c.in-Ingest.is) c.ingest_file.ensures.part
 
 pub returns-in-Scan-clause-item : goal.returns-in-Scan-clause-item
-returns-in-Scan-clause-item c =
+returns-in-Scan-clause-item g c =
     let v = view c.args.pass.now in
     let u = view c.scan_range.new.pass in
     subst (λ (w : Work). IfOk c.scan_range.result (IsItem v u w)) (sym c.in-Scan.is)
@@ -25,7 +25,7 @@ returns-in-Scan-clause-item c =
     (idle_law v c.requires.pass.stands c.requires.start) c.scan_range.ensures.only c.scan_range.ensures.fits)
 
 pub returns-in-Scan-clause-part : goal.returns-in-Scan-clause-part
-returns-in-Scan-clause-part c =
+returns-in-Scan-clause-part g c =
     let v = view c.args.pass.now in
     let u = view c.scan_range.new.pass in
     subst (λ (w : Work). IfErr c.scan_range.result (λ _. IsPart v u w)) (sym c.in-Scan.is)
@@ -33,7 +33,7 @@ returns-in-Scan-clause-part c =
     (idle_law v c.requires.pass.stands c.requires.start) c.scan_range.ensures.only)
 
 pub returns-in-Explain-clause-item : goal.returns-in-Explain-clause-item
-returns-in-Explain-clause-item c =
+returns-in-Explain-clause-item g c =
     let v = view c.args.pass.now in
     let u = view c.explain_range.new.pass in
     subst (λ (w : Work). IfOk c.explain_range.result (IsItem v u w)) (sym c.in-Explain.is)
@@ -41,7 +41,7 @@ returns-in-Explain-clause-item c =
     (idle_law v c.requires.pass.stands c.requires.start) c.explain_range.ensures.only c.explain_range.ensures.fits)
 
 pub returns-in-Explain-clause-part : goal.returns-in-Explain-clause-part
-returns-in-Explain-clause-part c =
+returns-in-Explain-clause-part g c =
     let v = view c.args.pass.now in
     let u = view c.explain_range.new.pass in
     subst (λ (w : Work). IfErr c.explain_range.result (λ _. IsPart v u w)) (sym c.in-Explain.is)
@@ -49,5 +49,5 @@ returns-in-Explain-clause-part c =
     (idle_law v c.requires.pass.stands c.requires.start) c.explain_range.ensures.only)
 
 pub returns-in-Checkpoint-clause-defs : goal.returns-in-Checkpoint-clause-defs
-returns-in-Checkpoint-clause-defs c = defs_later (view c.args.pass.now) (view c.checkpoint.new.pass) c.args.defs.now.known
+returns-in-Checkpoint-clause-defs g c = defs_later (view c.args.pass.now) (view c.checkpoint.new.pass) c.args.defs.now.known
     c.checkpoint.ensures.learns c.requires.defs

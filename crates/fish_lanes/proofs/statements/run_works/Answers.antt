@@ -22,7 +22,7 @@ use Rattle.fish_rule.specs.declared.view.Key.{Key}
 use Rattle.fish_lanes.proofs.statements.run_works.Goals as goal
 
 pub loop-work-init : goal.loop-work-init
-loop-work-init c =
+loop-work-init g c =
     let v = view c.args.pass.now in
     record {
       of = c.requires.pass;
@@ -36,7 +36,7 @@ loop-work-init c =
     }
 
 pub returns-in_default-clause-run : goal.returns-in_default-clause-run
-returns-in_default-clause-run c =
+returns-in_default-clause-run g c =
     let i = c.loop-work.work-index in
     let works = c.args.works.now in
     let w = c.work-item.result in
@@ -47,7 +47,7 @@ returns-in_default-clause-run c =
     c.in_default.ensures.part.1.gains c.in_default.ensures.part.1.first)
 
 pub returns-in-Err-clause-run : goal.returns-in-Err-clause-run
-returns-in-Err-clause-run c =
+returns-in-Err-clause-run g c =
     let i = c.loop-work.work-index in
     let works = c.args.works.now in
     let w = c.work-item.result in
@@ -58,7 +58,7 @@ returns-in-Err-clause-run c =
     c.in-Ok.ensures.item.gained.gains c.in-Ok.ensures.item.gained.first)
 
 pub returns-in_default-clause-plans : goal.returns-in_default-clause-plans
-returns-in_default-clause-plans c =
+returns-in_default-clause-plans g c =
     let i = c.loop-work.work-index in
     let works = c.args.works.now in
     let w = c.work-item.result in
@@ -68,7 +68,7 @@ returns-in_default-clause-plans c =
     (w ∷ drop (i + 1) works) c.loop-work.invariant.said c.in_default.ensures.part.1.gains.on.learns)
 
 pub returns-in-Err-clause-plans : goal.returns-in-Err-clause-plans
-returns-in-Err-clause-plans c =
+returns-in-Err-clause-plans g c =
     let i = c.loop-work.work-index in
     let works = c.args.works.now in
     let w = c.work-item.result in
@@ -78,7 +78,7 @@ returns-in-Err-clause-plans c =
     (w ∷ drop (i + 1) works) c.loop-work.invariant.said c.in-Ok.ensures.item.gained.gains.on.learns)
 
 pub loop-work-preserved : goal.loop-work-preserved
-loop-work-preserved c =
+loop-work-preserved g c =
     let inv = c.loop-work.invariant in
     let i = c.loop-work.work-index in
     let works = c.args.works.now in
@@ -113,7 +113,7 @@ loop-work-preserved c =
     }
 
 pub returns-clause-run : goal.returns-clause-run
-returns-clause-run c =
+returns-clause-run g c =
     let all : take c.loop-work.work-index c.args.works.now ≡ c.args.works.now =
     take_all c.loop-work.work-index c.args.works.now (let e = c.loop-work-test.false in omega arith) in
     subst (λ (z : List Work). HasRun (view c.args.pass.now) (view c.loop-work.pass) z c.loop-work.items cause.None) all
@@ -121,10 +121,10 @@ returns-clause-run c =
     c.loop-work.invariant.told)
 
 pub returns-in-Err-clause-answers : goal.returns-in-Err-clause-answers
-returns-in-Err-clause-answers c = subst (AllOf IsAnswer) (sym c.in-Err.ensures.err) c.loop-work.invariant.answers
+returns-in-Err-clause-answers g c = subst (AllOf IsAnswer) (sym c.in-Err.ensures.err) c.loop-work.invariant.answers
 
 pub returns-clause-plans : goal.returns-clause-plans
-returns-clause-plans c =
+returns-clause-plans g c =
     let all : take c.loop-work.work-index c.args.works.now ≡ c.args.works.now =
     take_all c.loop-work.work-index c.args.works.now (let e = c.loop-work-test.false in omega arith) in
     subst (λ (z : List Work). SayPlans (view c.args.pass.now) (view c.loop-work.pass) z c.loop-work.items) all

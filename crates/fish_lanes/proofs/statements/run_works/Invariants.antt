@@ -10,7 +10,7 @@ use Rattle.fish_rule.specs.Views.{AllOf}
 use Rattle.fish_lanes.proofs.statements.run_works.Given as goal
 
 abbrev pub invariant-loop-work : goal.invariant-loop-work
-invariant-loop-work l = record {
+invariant-loop-work g l = record {
   of : IsPassOf l.log l.pass;
   start : CanStart (view l.pass);
   read : IsDefsOf (view l.pass) l.defs;
