@@ -98,7 +98,13 @@ fn run_seated<G: Gate>(alloc: Global, log: &Log, lane: &mut Lane, gate: &G)
 }
 
 /// Does the statements of lanes at once, by their own passes.
-fn run_others<R: Threads + Sync, G: Gate + Sync>(rt: &R, alloc: Global, log: &Log, lanes: &mut [Lane], gate: &G)
+fn run_others<R: Threads + Sync, G: Gate + Sync>(
+    rt: &R,
+    alloc: Global,
+    log: &Log,
+    lanes: &mut [Lane],
+    gate: &G,
+)
     requires ready { AreReady log.now lanes.old }
     requires some { 0 < length lanes.old }
     ensures done { AreDone log.now lanes.old lanes.new }
