@@ -31,6 +31,8 @@ mod lists;
 #[cfg(test)]
 mod outside;
 #[cfg(test)]
+mod samples;
+#[cfg(test)]
 mod system;
 #[cfg(test)]
 mod texts;
