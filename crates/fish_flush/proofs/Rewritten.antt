@@ -1,16 +1,16 @@
 -- A list whose last elements are written anew.
-use Rattle.std.proofs.Common.{◌≡◌, ℕ, ◌<◌, ◌≤◌, ◌+◌, ◌-◌, List, [], ◌++◌, length, take, drop}
+use Rattle.std.proofs.Common.{◌≡◌, ℕ, ◌<◌, ◌≤◌, ◌+◌, ◌-◌, List, [], ◌++◌, length, take, drop, replicate}
 use Rattle.std.proofs.Common.{ap, sym, ◌∙◌, arith, append-nil, length-append}
 use Rattle.std.proofs.Math.Seq.{drop-append_seam, take-append_seam}
-use Rattle.std.proofs.lemmas.List.{drop_all, take_all}
+use Rattle.std.proofs.lemmas.List.{drop_all, length-replicate, take_all}
 
--- all after the first ones
-pub all_after : (x more items : List ℕ) (from size : ℕ) → items ≡ x ++ more → from ≡ length x → size ≡ length items
-    → take (size - from) (drop from items) ≡ more
-all_after x more items from size is at whole =
-    let back : drop from items ≡ more = (λ i. drop (at i) (is i)) ∙ drop-append_seam x more in
-    let long : length items ≡ length x + length more = ap length is ∙ length-append x more in
-    ap (λ (l : List ℕ). take (size - from) l) back ∙ take_all (size - from) more (omega arith)
+-- all are written anew
+pub all_rewritten : (new items : List ℕ) (size : ℕ) → size ≡ length items → length new ≡ length items
+    → take size (new ++ drop (length new) items) ≡ new
+all_rewritten new items size whole same =
+    let none : drop (length new) items ≡ [] = drop_all (length new) items (omega arith) in
+    ap (λ (l : List ℕ). take size (new ++ l)) none ∙ ap (λ (l : List ℕ). take size l) (append-nil new)
+    ∙ take_all size new (omega arith)
 
 -- all after the first ones are written anew: those before stay, and no more is there than was
 pub rewritten : (x more new items : List ℕ) (from size : ℕ) → items ≡ x ++ more → from ≡ length x → size ≡ length items
@@ -31,3 +31,14 @@ rewritten x more new items from size is at whole same all all_is =
     let end : drop (length all) items ≡ [] = drop_all (length all) items (omega arith) in
     ap (λ (l : List ℕ). take size (all ++ l)) end ∙ ap (λ (l : List ℕ). take size l) (append-nil all)
     ∙ take_all size all (omega arith) ∙ both
+
+-- it is made longer, and what was added is written anew
+pub lengthened : (before new items : List ℕ) (from was size all_size : ℕ) → items ≡ take size before ++ replicate (size - was) 0
+    → from ≡ length before → was ≡ length before → size ≡ from + length new → all_size ≡ length items
+    → (all : List ℕ) → all ≡ take from items ++ (new ++ drop (length new) (drop from items))
+    → take all_size (all ++ drop (length all) items) ≡ before ++ new
+lengthened before new items from was size all_size is at was_is size_is whole all all_is =
+    let zeros : List ℕ = replicate (size - was) 0 in
+    let front : take size before ≡ before = take_all size before (omega arith) in
+    let many : length zeros ≡ size - was = length-replicate (size - was) 0 in
+    rewritten before zeros new items from all_size (is ∙ ap (λ (l : List ℕ). l ++ zeros) front) at whole (omega arith) all all_is

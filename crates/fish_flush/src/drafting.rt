@@ -3,7 +3,6 @@
 ghost use Rattle.std.specs.Prelude.{◌≡◌, ◌<◌, ◌≤◌, ◌^◌, ◌+◌, ◌*◌, ◌++◌, ℕ, List, length, IfOk};
 ghost use Rattle.fish_catalog.specs.declared.commit.Commit.{Commit as Told};
 ghost use Rattle.fish_catalog.specs.declared.entry.Entry.{Entry};
-ghost use Rattle.fish_image.specs.Stands.{words_in};
 ghost use Rattle.fish_rule.specs.Logs.{AreTold, Extends};
 ghost use Rattle.fish_rule.specs.Passes.{IsPassOf, view};
 ghost use Rattle.fish_flush.specs.Carrying.{Drafts, MayDraft};
@@ -12,7 +11,6 @@ ghost use Rattle.fish_flush.specs.Kept.{IsCommitted};
 use crate::flusher::Flusher;
 use crate::region::read_settled;
 use crate::rows::again;
-use byteorder::{ByteOrder, LittleEndian};
 use fish_catalog::{Catalog, Commit, NEWEST_FORMAT, PageStart};
 use fish_image::slot_body;
 use fish_rule::{Log, Pass, shape};
@@ -65,7 +63,7 @@ pub(crate) fn draft_commit(
     let body = slot_body(alloc, &commit);
     drop(commit);
     Ok(Draft {
-        lines: to_bytes(alloc, read.words.as_slice())?,
+        lines: read.lines,
         body: body?,
         turn,
         count: to,
@@ -74,15 +72,4 @@ pub(crate) fn draft_commit(
         page: read.page,
         starts: read.starts,
     })
-}
-
-/// Words as bytes, each lowest byte first.
-fn to_bytes(alloc: Global, words: &[u64]) -> Result<Vec<u8>, AllocError>
-    requires few { length words.now < 2 ^ 40 }
-    ensures size { IfOk result (λ b. length b.items ≡ 8 * length words.now) }
-    ensures words { IfOk result (λ b. words_in b.items ≡ words.now) }
-{
-    let mut bytes = vec![in alloc; 0; words.len() * 8]?;
-    LittleEndian::write_u64_into(words, &mut bytes);
-    Ok(bytes)
 }

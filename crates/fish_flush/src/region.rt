@@ -3,6 +3,7 @@
 ghost use Rattle.std.specs.Prelude.{◌≡◌, ◌<◌, ◌≤◌, ◌^◌, ◌+◌, ◌*◌, ◌++◌, ◌∷◌, [], ℕ, List, length, IfOk, OnOk};
 ghost use Rattle.fish_catalog.specs.declared.commit.Commit.{Commit};
 ghost use Rattle.fish_catalog.specs.declared.entry.Entry.{Entry};
+ghost use Rattle.fish_image.specs.Stands.{words_in};
 ghost use Rattle.fish_rule.specs.LoadSteps.{CanLookAt};
 ghost use Rattle.fish_rule.specs.Logs.{AreTold, Extends, Tells};
 ghost use Rattle.fish_rule.specs.Passes.{IsPassOf, view};
@@ -13,6 +14,7 @@ ghost use Rattle.fish_flush.specs.Rows.{HoldsRows};
 
 use crate::flusher::Flusher;
 use crate::linking::link;
+use byteorder::{ByteOrder, LittleEndian};
 use fish_catalog::PageStart;
 use fish_layout::PAGE_LINES;
 use fish_rule::{Log, Pass, line_of_word, look_at, read_region};
@@ -23,7 +25,9 @@ use std::alloc::{AllocError, Global};
 pub(crate) struct Batch {
     /// The line at which they end.
     pub line: u64,
-    /// Their words.
+    /// Their lines, each word lowest byte first.
+    pub lines: Vec<u8>,
+    /// The words of the one that was copied last, in memory that is kept for the next.
     pub words: Vec<u64>,
     /// Of each bucket the place of the newest key entry up to there, or 0.
     pub heads: Vec<u64>,
@@ -53,14 +57,15 @@ pub(crate) fn read_settled(
     ensures line { IfOk result (λ b. IsLineAt (view pass.new) to b.line) }
     ensures within { IfOk result (λ b. EndsWithin log.now.key.end flusher.now.line b.line) }
     ensures heads { IfOk result (λ b. length b.heads.items ≡ length flusher.now.heads.items) }
-    ensures size { IfOk result (λ b. length b.words.items + 4 * flusher.now.line ≡ 4 * b.line) }
+    ensures size { IfOk result (λ b. length b.lines.items + 32 * flusher.now.line ≡ 32 * b.line) }
     ensures read { IfOk result (λ b. (c : Commit) (w : List ℕ) (old : List Entry) → HoldsRows (view pass.old) c.rows
         → IsReadTo c w old flusher.now.count flusher.now.line flusher.now.heads.items flusher.now.page flusher.now.starts.items
         → (more : List Entry) × AreTold (view pass.new) flusher.now.count more × (length more + flusher.now.count ≡ to)
-        × IsReadTo c (w ++ b.words.items) (old ++ more) to b.line b.heads.items b.page b.starts.items) }
+        × IsReadTo c (w ++ words_in b.lines.items) (old ++ more) to b.line b.heads.items b.page b.starts.items) }
 {
     let mut batch = Batch {
         line: flusher.line,
+        lines: Vec::new(alloc),
         words: Vec::new(alloc),
         heads: Vec::from_slice(alloc, flusher.heads.as_slice())?,
         page: flusher.page,
@@ -80,23 +85,26 @@ fn add_region(log: &Log, pass: &mut Pass, number: u32, batch: &mut Batch) -> Res
     requires counted { number < (view pass.old).learned.count }
     requires line { IsLineAt (view pass.old) number batch.old.line }
     requires some { 0 < length batch.old.heads.items }
+    requires whole { (n : ℕ) × (length batch.old.lines.items ≡ 8 * n) }
     ensures pass { IsPassOf log.now pass.new }
     ensures extends { Extends (view pass.old) (view pass.new) }
     ensures line { OnOk result (IsLineAt (view pass.new) (number + 1) batch.new.line) }
     ensures within { OnOk result (EndsWithin log.now.key.end batch.old.line batch.new.line) }
     ensures heads { length batch.new.heads.items ≡ length batch.old.heads.items }
-    ensures size { OnOk result (length batch.new.words.items + 4 * batch.old.line ≡ length batch.old.words.items + 4 * batch.new.line) }
+    ensures size { OnOk result (length batch.new.lines.items + 32 * batch.old.line
+        ≡ length batch.old.lines.items + 32 * batch.new.line) }
     ensures read { OnOk result ((c : Commit) (w : List ℕ) (old : List Entry) → HoldsRows (view pass.old) c.rows
-        → IsReadTo c (w ++ batch.old.words.items) old number batch.old.line batch.old.heads.items batch.old.page batch.old.starts.items
+        → IsReadTo c (w ++ words_in batch.old.lines.items) old number batch.old.line batch.old.heads.items batch.old.page batch.old.starts.items
         → (e : Entry) × Tells (view pass.new) number e
-        × IsReadTo c (w ++ batch.new.words.items) (old ++ e ∷ []) (number + 1) batch.new.line batch.new.heads.items batch.new.page
+        × IsReadTo c (w ++ words_in batch.new.lines.items) (old ++ e ∷ []) (number + 1) batch.new.line batch.new.heads.items batch.new.page
         batch.new.starts.items) }
 {
-    let start = batch.words.len();
+    batch.words.clear();
     let line = copy_region(log, pass, number, &mut batch.words)?;
-    link(&mut batch.heads, line, batch.words.slice_mut(start..));
+    link(&mut batch.heads, line, batch.words.as_mut_slice());
+    put_words(&mut batch.lines, batch.words.as_slice())?;
     batch.page = keep_start(&mut batch.starts, batch.page, number, batch.line)?;
-    batch.line += (batch.words.len() - start) as u64 / 4;
+    batch.line += batch.words.len() as u64 / 4;
     Ok(())
 }
 
@@ -119,6 +127,19 @@ fn copy_region(
     let line = line_of_word(word);
     read_region(log, pass, line, words)?;
     Ok(line)
+}
+
+/// Puts words after other bytes, each lowest byte first.
+fn put_words(bytes: &mut Vec<u8>, words: &[u64]) -> Result<(), AllocError>
+    requires few { length words.now < 2 ^ 40 }
+    requires whole { (n : ℕ) × (length bytes.old.items ≡ 8 * n) }
+    ensures size { OnOk result (length bytes.new.items ≡ length bytes.old.items + 8 * length words.now) }
+    ensures words { OnOk result (words_in bytes.new.items ≡ words_in bytes.old.items ++ words.now) }
+{
+    let start = bytes.len();
+    bytes.resize(start + 8 * words.len(), 0)?;
+    LittleEndian::write_u64_into(words, bytes.slice_mut(start..));
+    Ok(())
 }
 
 /// Keeps the region of a number at a line where it is the first of its page, and answers the next page.

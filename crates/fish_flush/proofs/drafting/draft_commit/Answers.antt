@@ -32,22 +32,12 @@ slot_body-body-requires-clause-within c =
     (ap (λ (z : Shape). z.pages) c.shape.ensures) (ap (λ (z : Shape). z.bucket_bits) c.shape-2.ensures) c.in_ok-again.ensures
     (omega arith) (omega arith) c.in_ok-read.ensures.line
 
-pub to_bytes-requires : goal.to_bytes-requires
-to_bytes-requires c =
-    let size = c.in_ok-read.ensures.size in
-    let within = c.in_ok-read.ensures.within.1 in
-    let slice = ap (λ (l : List ℕ). length l) c.as_slice.ensures.value in
-    let about = ap (λ (z : Key). z.end) c.read_settled.ensures.pass.about in
-    let low = c.read_settled.ensures.pass.stands.rule.key_fits.low_end in
-    record { few = omega arith }
-
 pub returns-clause-drafts : goal.returns-clause-drafts
 returns-clause-drafts c =
     let v = view c.args.pass.now in
     let f = c.args.flusher.now in
     let line : ℕ = c.in_ok-read.read.line in
-    let words : List ℕ = c.in_ok-read.read.words.items in
-    let lines' : List ℕ = c.in_ok-to_bytes.field-0.items in
+    let lines' : List ℕ = c.in_ok-read.read.lines.items in
     let body' : List ℕ = c.in_ok-body.field-0 in
     let s : Shape = c.args.log.now.shape in
     let e : Commit = record {
@@ -69,10 +59,7 @@ returns-clause-drafts c =
       lines = line;
       rows = z.2;
     }) body') (λ i. (c.shape.ensures i, c.shape-2.ensures i, c.in_ok-again.ensures i)) c.in_ok-body.ensures.told in
-    let slice : c.as_slice.result.now ≡ words = c.as_slice.ensures.value in
     let size = c.in_ok-read.ensures.size in
-    let bytes = c.in_ok-to_bytes.ensures.size in
-    let many = ap (λ (l : List ℕ). length l) slice in
     let within = c.in_ok-read.ensures.within in
     let whole : length lines' ≡ 32 * (line - f.line) = omega (arith, within.0) in
     record {
@@ -88,7 +75,7 @@ returns-clause-drafts c =
             r.0,
             r.1,
             r.2,
-            commits_more f _ d e body lines body' lines' words old r.0 committed told (c.in_ok-to_bytes.ensures.words ∙ slice) within.0
+            commits_more f _ d e body lines body' lines' (words_in lines') old r.0 committed told refl within.0
                 whole refl refl refl r.3,
           );
     }

@@ -1,11 +1,12 @@
 -- One region after the other is copied.
-use Rattle.std.proofs.Common.{◌≡◌, ℕ, ◌+◌, ◌*◌, ◌++◌, List, [], ◌∷◌, sym, ap, ◌∙◌, subst}
+use Rattle.std.proofs.Common.{◌≡◌, ℕ, ◌+◌, ◌-◌, ◌*◌, ◌++◌, List, [], ◌∷◌, sym, ap, ◌∙◌, subst}
 use Rattle.std.proofs.Common.{arith, length, append-nil, append_assoc, length-append}
 use mathlib.Core.Option.{some-ne-none}
 use Rattle.fish_catalog.specs.declared.entry.Entry.{Entry}
 use Rattle.fish_catalog.specs.declared.page_start.PageStart.{PageStart}
 use Rattle.fish_flush.proofs.RegionSteps.{holds_later, line_inside}
 use Rattle.fish_flush.specs.Reading.{IsLineAt, IsReadTo}
+use Rattle.fish_image.specs.Stands.{words_in}
 use Rattle.fish_rule.proofs.laws.Alone.{told_more}
 use Rattle.fish_rule.proofs.laws.Learning.{extends_both, extends_self}
 use Rattle.fish_rule.specs.Logs.{AreTold, Tells}
@@ -35,6 +36,7 @@ loop-number-init c =
     let starts : c.in_ok-from_slice-2.field-0.items ≡ c.args.flusher.now.starts.items =
     c.in_ok-from_slice-2.ensures.items ∙ c.as_slice-2.ensures.value in
     let none : c.new.result.items ≡ [] = c.new.ensures.items in
+    let no_words : words_in c.new.result.items ≡ [] = ap words_in none in
     record {
       of = c.requires.pass;
       extends = extends_self v;
@@ -43,14 +45,14 @@ loop-number-init c =
       line = c.requires.line;
       within = (omega arith, omega arith);
       heads = ap (λ (l : List ℕ). length l) same;
-      size = ap (λ (l : List ℕ). length l + 4 * c.args.flusher.now.line) none ∙ omega arith;
+      size = ap (λ (l : List ℕ). length l + 32 * c.args.flusher.now.line) none ∙ omega arith;
       read = λ d w old holds read. (
         [],
         none_told v c.args.flusher.now.count,
         omega arith,
         subst (λ (z : List ℕ × List Entry × List ℕ × List PageStart). IsReadTo d z.0 z.1 c.args.flusher.now.count
             c.args.flusher.now.line z.2 c.args.flusher.now.page z.3)
-            (λ i. (sym (ap (λ (l : List ℕ). w ++ l) none ∙ append-nil w) i, sym (append-nil old) i, sym same i, sym starts i)) read,
+            (λ i. (sym (ap (λ (l : List ℕ). w ++ l) no_words ∙ append-nil w) i, sym (append-nil old) i, sym same i, sym starts i)) read,
       );
     }
 
@@ -80,6 +82,13 @@ add_region-requires-clause-some c =
     let same = c.loop-number.invariant.heads in
     let some_ = c.requires.some in
     omega arith
+
+-- whole lines were copied
+pub add_region-requires-clause-whole : goal.add_region-requires-clause-whole
+add_region-requires-clause-whole c =
+    let size = c.loop-number.invariant.size in
+    let within = c.loop-number.invariant.within.0 in
+    (4 * (c.loop-number.batch.line - c.args.flusher.now.line), omega arith)
 
 pub returns-in_err-add_region-clause-extends : goal.returns-in_err-add_region-clause-extends
 returns-in_err-add_region-clause-extends c = extends_both _ _ _ c.loop-number.invariant.extends c.add_region.ensures.extends
@@ -122,7 +131,7 @@ loop-number-preserved c =
             told_more (view c.loop-number.pass) u c.args.flusher.now.count before.0 next.0 more.learns before.1
                 (subst (λ (z : ℕ). Tells u z next.0) (sym place) next.1),
             omega arith,
-            subst (λ (l : List Entry). IsReadTo d (w ++ c.add_region.new.batch.words.items) l (c.loop-number.number + 1)
+            subst (λ (l : List Entry). IsReadTo d (w ++ words_in c.add_region.new.batch.lines.items) l (c.loop-number.number + 1)
                 c.add_region.new.batch.line c.add_region.new.batch.heads.items c.add_region.new.batch.page
                 c.add_region.new.batch.starts.items) (append_assoc old before.0 (next.0 ∷ [])) next.2,
           );
@@ -153,6 +162,6 @@ returns-clause-read c = λ d w old holds read.
       h.0,
       h.1,
       h.2 ∙ end,
-      subst (λ (z : ℕ). IsReadTo d (w ++ c.loop-number.batch.words.items) (old ++ h.0) z c.loop-number.batch.line
+      subst (λ (z : ℕ). IsReadTo d (w ++ words_in c.loop-number.batch.lines.items) (old ++ h.0) z c.loop-number.batch.line
           c.loop-number.batch.heads.items c.loop-number.batch.page c.loop-number.batch.starts.items) end h.3,
     )

@@ -2,6 +2,7 @@
 use Rattle.std.proofs.Common.{◌≡◌, ◌+◌, ◌*◌, ◌≤◌, ℕ, List, ◌++◌, length}
 use Rattle.fish_catalog.specs.declared.commit.Commit.{Commit}
 use Rattle.fish_catalog.specs.declared.entry.Entry.{Entry}
+use Rattle.fish_image.specs.Stands.{words_in}
 use Rattle.fish_rule.specs.Logs.{AreTold, Extends}
 use Rattle.fish_rule.specs.Passes.{IsPassOf, view}
 use Rattle.fish_flush.specs.Reading.{EndsWithin, IsLineAt, IsReadTo}
@@ -18,9 +19,9 @@ invariant-loop-number l = record {
   line : IsLineAt (view l.pass) l.number l.batch.line;
   within : EndsWithin l.log.key.end l.flusher.line l.batch.line;
   heads : length l.batch.heads.items ≡ length l.flusher.heads.items;
-  size : length l.batch.words.items + 4 * l.flusher.line ≡ 4 * l.batch.line;
+  size : length l.batch.lines.items + 32 * l.flusher.line ≡ 32 * l.batch.line;
   read : (c : Commit) (w : List ℕ) (old : List Entry) → HoldsRows (view l.fn.pass) c.rows
       → IsReadTo c w old l.flusher.count l.flusher.line l.flusher.heads.items l.flusher.page l.flusher.starts.items
       → (more : List Entry) × AreTold (view l.pass) l.flusher.count more × (length more + l.flusher.count ≡ l.number)
-      × IsReadTo c (w ++ l.batch.words.items) (old ++ more) l.number l.batch.line l.batch.heads.items l.batch.page l.batch.starts.items;
+      × IsReadTo c (w ++ words_in l.batch.lines.items) (old ++ more) l.number l.batch.line l.batch.heads.items l.batch.page l.batch.starts.items;
 }
