@@ -17,5 +17,5 @@ for_each_mut-requires-sync-F g c κs within =
     search (sendable, crosses, log_sync) depth 20
 
 pub for_each_mut-requires-clause-accepts : goal.for_each_mut-requires-clause-accepts
-for_each_mut-requires-clause-accepts g c κs within i p less is _ _ _ _ _ _ _ _ _ =
+for_each_mut-requires-clause-accepts g c κs within i p less is _ _ _ _ _ _ _ _ _ _ =
     subst (IsReady c.args.log.now) (sym is) (c.requires.ready i p.now less)
