@@ -1,6 +1,9 @@
+pub mod Beginnings
+pub mod Closings
 pub mod Excluding
 pub mod Feeding
 pub mod Holding
+pub mod Keepings
 pub mod Once
 pub mod Pieces
 pub mod Slots

@@ -28,6 +28,8 @@ mod older;
 mod openings;
 mod passes;
 #[cfg(test)]
+mod reopened;
+#[cfg(test)]
 mod stored;
 #[cfg(test)]
 mod system;
