@@ -1,5 +1,5 @@
 -- The table that begins after a commit: a checkpoint may follow, and older records are read from the file.
-use Rattle.std.proofs.Common.{◌≡◌, ℕ, ◌+◌, ◌*◌, ◌^◌, ◌<◌, ◌≤◌, inl, inr, List, [], Bool, length, drop, map, refl, ap, sym, subst}
+use Rattle.std.proofs.Common.{◌≡◌, ℕ, ◌+◌, ◌*◌, ◌^◌, ◌<◌, ◌≤◌, inl, inr, List, [], Bool, false, length, drop, map, refl, ap, sym, subst}
 use Rattle.std.proofs.Common.{◌∙◌, arith, slice_get, slice_index}
 use mathlib.Core.Option.{some-ne-none}
 use Rattle.std.proofs.lemmas.Bool.{cases_lt}
@@ -17,7 +17,7 @@ use Rattle.fish_flush.proofs.Committed.{agrees_entries}
 use Rattle.fish_flush.proofs.Growing.{grown_self}
 use Rattle.fish_flush.proofs.Lasting.{grown_clamps}
 use Rattle.fish_flush.specs.Carrying.{Carries}
-use Rattle.fish_flush.specs.Kept.{IsAtRest, IsCommitted}
+use Rattle.fish_flush.specs.Kept.{IsAtRest, IsCommitted, IsKeptOf}
 use Rattle.fish_flush.specs.Rows.{HaveGrown}
 use Rattle.fish_flush.specs.declared.flusher.Flusher.{Flusher}
 use Rattle.fish_image.proofs.Agreement.{agrees_number}
@@ -41,7 +41,10 @@ use Rattle.fish_rule.specs.declared.view.Key.{Key}
 use Rattle.fish_rule.specs.declared.view.View.{View}
 use Rattle.fish_slots.proofs.Commits.{rests_commit}
 use Rattle.fish_recover.specs.Beginning.{BeginsAt, IsKept}
+use Rattle.fish_recover.proofs.Keepings.{kept_committed, whole_lines}
+use Rattle.fish_recover.specs.Opening.{IsRead}
 use Rattle.fish_recover.specs.Stores.{IsOpened}
+use Rattle.fish_recover.specs.declared.finding.Found.{Found}
 use Rattle.fish_recover.specs.declared.opened.Opened.{Opened}
 
 -- a text means one definition
@@ -83,6 +86,15 @@ committed_kept f c b w log s h bits =
           (older_heads c (words_in w) h.is.stands.end f.heads.items h.is.stands.agrees h.is.stands.lines h.heads n);
     }
 
+-- and so it is of what was found
+pub read_kept : (f : Found) (g : Flusher) (s : Shape) → IsRead f → IsKeptOf f.slot f.commit f.checked.heads f.checked.starts g
+    → f.commit.bucket_bits ≡ s.bucket_bits → IsKept s g
+read_kept f g s read kept bits =
+    let l = read.lines in
+    let size = whole_lines f.commit l.lines f.commit.count l.held.end l.held.agrees l.held.lines l.size in
+    committed_kept g f.commit read.slot.body l.lines l.held.end.entries s
+    (kept_committed f read.slot.body l.lines read.slot.told l.held g size kept) bits
+
 module _ (images : List ℕ → Type 0) (f : Flusher) (c : Commit) (log : List Entry) (rest : IsAtRest images f c log) (s : Shape)
     (bits : c.bucket_bits ≡ s.bucket_bits) (made : Bool) (o : Opened) (h : BeginsAt f s c.rows made o) where
   at_count : o.log.key.number ≡ c.count
@@ -123,11 +135,11 @@ module _ (images : List ℕ → Type 0) (f : Flusher) (c : Commit) (log : List E
       }
 
   module _ (i : List ℕ) (here : images i) where
-    end : Reached
+    abbrev end : Reached
     end = rest.committed.is.stands.end
 
     -- the image stands for the log, up to the base
-    prior : IsPrior i o.log.key.number end
+    abbrev prior : IsPrior i o.log.key.number end
     prior = record {
       commit = c;
       body = rest.body;

@@ -30,7 +30,7 @@ use Rattle.fish_recover.specs.declared.refusal.Asked.{Asked}
 -- ---- sizes
 
 -- lines of which a log was read, and no more than were counted, are all
-whole_lines : (c : Commit) (w : List ℕ) (n : ℕ) (end : Reached) → Agrees c (words_in w) n end → end.line ≡ c.lines
+pub whole_lines : (c : Commit) (w : List ℕ) (n : ℕ) (end : Reached) → Agrees c (words_in w) n end → end.line ≡ c.lines
     → length w ≤ 32 * c.lines → length w ≡ 32 * c.lines
 whole_lines c w n end agrees line few =
     let within = agrees_within c (words_in w) n end agrees in
@@ -106,6 +106,18 @@ module _ (x : Option (List ℕ)) (f : Found) (k : KeptIn x f) where
     whole = kept_whole;
     counts = λ i here. told_at (Counts f.slot k.body k.lines) x i (synced i here) k.counts;
     other = λ i here. told_at (λ e. IsTrue f.both ↔ IsOpen (1 - f.slot) e) x i (synced i here) k.other;
+  }
+
+  -- so it stands for the log
+  pub kept_stands : (i : List ℕ) → x ≡ Some i → Stands f.commit i k.held.end.entries
+  kept_stands i is = record {
+    body = k.body;
+    lines = k.lines;
+    commit = record { slot = f.slot; slot_is = k.slot_is; counts = told_at (Counts f.slot k.body k.lines) x i is k.counts };
+    is = record {
+      told = k.told;
+      stands = record { end = k.held.end; agrees = k.held.agrees; lines = k.held.lines; entries = refl };
+    };
   }
 
 -- ---- what is kept of it

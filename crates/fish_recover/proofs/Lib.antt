@@ -5,6 +5,8 @@ pub mod Feeding
 pub mod Holding
 pub mod Keepings
 pub mod Once
+pub mod Openings
 pub mod Pieces
+pub mod Refusals
 pub mod Slots
 pub mod Words

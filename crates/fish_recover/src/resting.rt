@@ -2,13 +2,14 @@
 //!
 //! Whatever a crash leaves of these steps has the commit that was found.
 
-ghost use Rattle.std.specs.Prelude.{◌≡◌, ◌≤◌, ◌*◌, ◌+◌, ℕ, List, OnOk, length};
+ghost use Rattle.std.specs.Prelude.{◌≡◌, ◌≤◌, ◌*◌, ◌+◌, ℕ, List, IfErr, OnOk, length};
 ghost use Rattle.fish_outside.specs.Causes.{HasCause};
 ghost use Rattle.fish_disk.specs.Crash.{LeavesOnly};
 ghost use Rattle.fish_slots.specs.Commits.{HasCommit, Rests};
 ghost use Rattle.fish_slots.specs.Places.{lines_at};
 ghost use Rattle.fish_slots.specs.Slots.{line_count};
 ghost use Rattle.fish_recover.specs.Choosing.{HasOpenCause};
+ghost use Rattle.fish_recover.specs.Opening.{IsOutside};
 ghost use Rattle.fish_recover.specs.Resting.{AreAtRest, AreLong, AreStored};
 
 use crate::bytes::zeros;
@@ -34,6 +35,7 @@ pub(crate) fn rest_store<D: Disk>(
     ensures crash { (b w : List ℕ) → AreStored (D.images disk.old) slot both b w
         → LeavesOnly D.images D.since D.moment disk.old disk.new (HasCommit b w) }
     ensures told { (i : List ℕ) → D.images disk.new i → (o : List ℕ) × D.images disk.old o }
+    ensures refused { IfErr result IsOutside }
 
     ensures cause { HasOpenCause (D.faults disk.old) (D.faults disk.new) result }
 {
@@ -69,6 +71,7 @@ fn fill<D: Disk>(alloc: Global, disk: &mut D, slot: u8) -> Result<(), OpenRefusa
     ensures crash { (b w : List ℕ) → AreAtRest (D.images disk.old) slot b w
         → LeavesOnly D.images D.since D.moment disk.old disk.new (Rests slot b w) }
     ensures told { (i : List ℕ) → D.images disk.new i → (o : List ℕ) × D.images disk.old o }
+    ensures refused { IfErr result IsOutside }
     ensures cause { HasOpenCause (D.faults disk.old) (D.faults disk.new) result }
 {
     let size = disk.length()?;

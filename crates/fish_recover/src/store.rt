@@ -35,7 +35,6 @@ const BUCKET_BITS: u8 = 12;
 ///
 /// It takes five calls of the disk and one for each page of lines, and four where the store has to be brought to rest; to
 /// make one takes eight.
-#[tactic(none)]
 pub fn open_store<D: Disk>(
     alloc: Global,
     asked: Asked,
@@ -58,7 +57,6 @@ pub fn open_store<D: Disk>(
 }
 
 /// The same behind a sync.
-#[tactic(none)]
 fn open_synced<D: Disk>(
     alloc: Global,
     asked: Asked,
@@ -67,9 +65,10 @@ fn open_synced<D: Disk>(
     requires shape { IsShape (asked_shape asked) }
     requires synced { (c : List ℕ) → D.images disk.old c → D.content disk.old ≡ Some c }
     ensures opened { IfOk result (HasOpened (D.content disk.old) (D.content disk.new) (D.images disk.new) asked) }
-    ensures crash { (i : List ℕ) (c : Told) (log : List Entry) → D.content disk.old ≡ Some i → Stands c i log
+    ensures crash { (i : List ℕ) (c : Told) (log : List Entry) → ((e : List ℕ) → D.images disk.old e → e ≡ i) → Stands c i log
         → LeavesOnly D.images D.since D.moment disk.old disk.new (λ e. Stands c e log) }
-    ensures calls { IfSome (D.content disk.new) (λ _. D.content disk.old ≡ Some [] → D.moment disk.new ≤ D.moment disk.old + 7) }
+    ensures calls { IfSome (D.content disk.new) (λ _. ((i : List ℕ) → D.content disk.old ≡ Some i → i ≡ [])
+        → D.moment disk.new ≤ D.moment disk.old + 7) }
     ensures refused { IfErr result (λ e. IfSome (D.content disk.new) (λ c. IsStoreCause c asked e)) }
     ensures reads { IfErr result (λ e. IsOfStore e → StillReads (D.content disk.old) (D.content disk.new)) }
     ensures cause { HasOpenCause (D.faults disk.old) (D.faults disk.new) result }
@@ -83,7 +82,6 @@ fn open_synced<D: Disk>(
 }
 
 /// Makes a store without a record.
-#[tactic(none)]
 fn make_store<D: Disk>(
     alloc: Global,
     asked: Asked,
@@ -132,7 +130,6 @@ fn refusal_of(refusal: FlushRefusal) -> OpenRefusal
 }
 
 /// Opens the store that a disk holds.
-#[tactic(none)]
 fn open_kept<D: Disk>(
     alloc: Global,
     asked: Asked,
@@ -140,7 +137,7 @@ fn open_kept<D: Disk>(
 ) -> Result<Opened, OpenRefusal>
     requires synced { (c : List ℕ) → D.images disk.old c → D.content disk.old ≡ Some c }
     ensures opened { IfOk result (HasOpened (D.content disk.old) (D.content disk.new) (D.images disk.new) asked) }
-    ensures crash { (i : List ℕ) (c : Told) (log : List Entry) → D.content disk.old ≡ Some i → Stands c i log
+    ensures crash { (i : List ℕ) (c : Told) (log : List Entry) → ((e : List ℕ) → D.images disk.old e → e ≡ i) → Stands c i log
         → LeavesOnly D.images D.since D.moment disk.old disk.new (λ e. Stands c e log) }
     ensures told { IfSome (D.content disk.new) (λ _. (i : List ℕ) × (D.content disk.old ≡ Some i)) }
     ensures refused { IfErr result (λ e. IfSome (D.content disk.new) (λ c. IsOpenCause c asked e)) }
