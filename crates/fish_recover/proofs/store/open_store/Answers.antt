@@ -17,10 +17,10 @@ use Rattle.fish_recover.specs.declared.refusal.OpenRefusal.TheVariants.{DiskFaul
 use Rattle.fish_recover.proofs.store.open_store.Goals as goal
 
 pub returns-in_err-sync-clause-opened : goal.returns-in_err-sync-clause-opened
-returns-in_err-sync-clause-opened g c = err_ok DiskFault c.from_residual-in_err-sync.result _ c.from_residual-in_err-sync.ensures.1
+returns-in_err-sync-clause-opened g c = err_ok DiskFault c.from_residual.result _ c.from_residual.ensures.1
 
 pub returns-in_err-sync-clause-since : goal.returns-in_err-sync-clause-since
-returns-in_err-sync-clause-since g c = err_on DiskFault c.from_residual-in_err-sync.result _ c.from_residual-in_err-sync.ensures.1
+returns-in_err-sync-clause-since g c = err_on DiskFault c.from_residual.result _ c.from_residual.ensures.1
 
 pub returns-in_err-sync-clause-crash : goal.returns-in_err-sync-clause-crash
 returns-in_err-sync-clause-crash g c i d log was h =
@@ -35,12 +35,12 @@ returns-in_err-sync-clause-calls g c =
 
 pub returns-in_err-sync-clause-refused : goal.returns-in_err-sync-clause-refused
 returns-in_err-sync-clause-refused g c =
-    err_is DiskFault c.from_residual-in_err-sync.result _ c.from_residual-in_err-sync.ensures.1
+    err_is DiskFault c.from_residual.result _ c.from_residual.ensures.1
     (outside_store DiskFault (g.D.Disk.content c.sync.new.self) c.args.asked tt)
 
 pub returns-in_err-sync-clause-reads : goal.returns-in_err-sync-clause-reads
 returns-in_err-sync-clause-reads g c =
-    err_is DiskFault c.from_residual-in_err-sync.result _ c.from_residual-in_err-sync.ensures.1 (λ s. outside_not _ DiskFault tt s)
+    err_is DiskFault c.from_residual.result _ c.from_residual.ensures.1 (λ s. outside_not _ DiskFault tt s)
 
 pub returns-clause-opened : goal.returns-clause-opened
 returns-clause-opened g c =

@@ -19,7 +19,7 @@ use Rattle.fish_recover.specs.declared.refusal.OpenRefusal.TheVariants.{DiskFaul
 use Rattle.fish_recover.proofs.store.open_synced.Goals as goal
 
 pub returns-in_err-size-clause-opened : goal.returns-in_err-size-clause-opened
-returns-in_err-size-clause-opened g c = err_ok DiskFault c.from_residual-in_err-size.result _ c.from_residual-in_err-size.ensures.1
+returns-in_err-size-clause-opened g c = err_ok DiskFault c.from_residual.result _ c.from_residual.ensures.1
 
 pub returns-in_err-size-clause-crash : goal.returns-in_err-size-clause-crash
 returns-in_err-size-clause-crash g c i d log all h =
@@ -34,12 +34,12 @@ returns-in_err-size-clause-calls g c =
 
 pub returns-in_err-size-clause-refused : goal.returns-in_err-size-clause-refused
 returns-in_err-size-clause-refused g c =
-    err_is DiskFault c.from_residual-in_err-size.result _ c.from_residual-in_err-size.ensures.1
+    err_is DiskFault c.from_residual.result _ c.from_residual.ensures.1
     (outside_store DiskFault (g.D.Disk.content c.length.new.self) c.args.asked tt)
 
 pub returns-in_err-size-clause-reads : goal.returns-in_err-size-clause-reads
 returns-in_err-size-clause-reads g c =
-    err_is DiskFault c.from_residual-in_err-size.result _ c.from_residual-in_err-size.ensures.1 (λ s. outside_not _ DiskFault tt s)
+    err_is DiskFault c.from_residual.result _ c.from_residual.ensures.1 (λ s. outside_not _ DiskFault tt s)
 
 pub make_store-requires-clause-empty : goal.make_store-requires-clause-empty
 make_store-requires-clause-empty g c =
@@ -49,9 +49,11 @@ make_store-requires-clause-empty g c =
 pub open_kept-requires : goal.open_kept-requires
 open_kept-requires g c =
     let disk = g.D.Disk in
-    still_synced (disk.content c.args.disk.now) (disk.content c.length.new.self) (disk.images c.args.disk.now)
-    (disk.images c.length.new.self) c.length.ensures.content c.requires.synced c.length.ensures.crash.now
-    (g.met.D.Disk.told c.length.new.self)
+    record {
+      synced = still_synced (disk.content c.args.disk.now) (disk.content c.length.new.self) (disk.images c.args.disk.now)
+          (disk.images c.length.new.self) c.length.ensures.content c.requires.synced c.length.ensures.crash.now
+          (g.met.D.Disk.told c.length.new.self);
+    }
 
 pub returns-then-size-eq0-clause-opened : goal.returns-then-size-eq0-clause-opened
 returns-then-size-eq0-clause-opened g c =
