@@ -16,7 +16,7 @@ mod store;
 mod table;
 
 pub use finding::{Found, find_store};
-pub use law::causes_exclude;
+pub use law::{causes_exclude, stores_open};
 pub use opened::Opened;
 pub use refusal::{Asked, OpenRefusal};
 pub use store::open_store;

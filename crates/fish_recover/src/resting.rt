@@ -55,11 +55,7 @@ fn close_other<D: Disk>(disk: &mut D, slot: u8, both: bool) -> Result<(), Failed
     ensures told { (i : List ℕ) → D.images disk.new i → (o : List ℕ) × D.images disk.old o }
     ensures cause { HasCause (D.faults disk.old) (D.faults disk.new) result }
 {
-    if both {
-        begin(disk, 1 - slot)
-    } else {
-        Ok(())
-    }
+    if both { begin(disk, 1 - slot) } else { Ok(()) }
 }
 
 /// Puts zero bytes after the end of a file that is shorter than all before the lines. At most three calls of the disk.

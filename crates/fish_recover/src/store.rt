@@ -33,13 +33,9 @@ const BUCKET_BITS: u8 = 12;
 /// Opens the store on a disk; on an empty one a store of the shape that is asked for is made. Its table begins where the
 /// last commit ends: older records stay in the file.
 ///
-/// It takes five calls of the disk and one for each page of lines, and four where the store has to be brought to rest; to
-/// make one takes eight.
-pub fn open_store<D: Disk>(
-    alloc: Global,
-    asked: Asked,
-    disk: &mut D,
-) -> Result<Opened, OpenRefusal>
+/// At most eight calls of the disk and one for each page of lines, and five more to bring the store to rest; to make one takes
+/// eight.
+pub fn open_store<D: Disk>(alloc: Global, asked: Asked, disk: &mut D) -> Result<Opened, OpenRefusal>
     requires { IsShape (asked_shape asked) }
     ensures opened { IfOk result (HasOpened (D.content disk.old) (D.content disk.new) (D.images disk.new) asked) }
     ensures since { OnOk result ((i : List ℕ) (c : Told) (log : List Entry) → D.content disk.old ≡ Some i → Stands c i log
@@ -57,11 +53,7 @@ pub fn open_store<D: Disk>(
 }
 
 /// The same behind a sync.
-fn open_synced<D: Disk>(
-    alloc: Global,
-    asked: Asked,
-    disk: &mut D,
-) -> Result<Opened, OpenRefusal>
+fn open_synced<D: Disk>(alloc: Global, asked: Asked, disk: &mut D) -> Result<Opened, OpenRefusal>
     requires shape { IsShape (asked_shape asked) }
     requires synced { (c : List ℕ) → D.images disk.old c → D.content disk.old ≡ Some c }
     ensures opened { IfOk result (HasOpened (D.content disk.old) (D.content disk.new) (D.images disk.new) asked) }
@@ -82,11 +74,7 @@ fn open_synced<D: Disk>(
 }
 
 /// Makes a store without a record.
-fn make_store<D: Disk>(
-    alloc: Global,
-    asked: Asked,
-    disk: &mut D,
-) -> Result<Opened, OpenRefusal>
+fn make_store<D: Disk>(alloc: Global, asked: Asked, disk: &mut D) -> Result<Opened, OpenRefusal>
     requires shape { IsShape (asked_shape asked) }
     requires empty { IfSome (D.content disk.old) (λ c. length c ≡ 0) }
     ensures opened { IfOk result (λ o. IsOpened (D.content disk.new) (D.images disk.new) (first_commit (asked_shape asked)) [] o) }
@@ -98,13 +86,7 @@ fn make_store<D: Disk>(
 {
     let shape = shape_of(asked);
     match create(alloc, shape, disk) {
-        Ok(flusher) => Ok(begin_table(
-            alloc,
-            flusher,
-            shape,
-            Catalog::new(alloc),
-            true,
-        )?),
+        Ok(flusher) => Ok(begin_table(alloc, flusher, shape, Catalog::new(alloc), true)?),
         Err(refusal) => Err(refusal_of(refusal)),
     }
 }
@@ -130,11 +112,7 @@ fn refusal_of(refusal: FlushRefusal) -> OpenRefusal
 }
 
 /// Opens the store that a disk holds.
-fn open_kept<D: Disk>(
-    alloc: Global,
-    asked: Asked,
-    disk: &mut D,
-) -> Result<Opened, OpenRefusal>
+fn open_kept<D: Disk>(alloc: Global, asked: Asked, disk: &mut D) -> Result<Opened, OpenRefusal>
     requires synced { (c : List ℕ) → D.images disk.old c → D.content disk.old ≡ Some c }
     ensures opened { IfOk result (HasOpened (D.content disk.old) (D.content disk.new) (D.images disk.new) asked) }
     ensures crash { (i : List ℕ) (c : Told) (log : List Entry) → ((e : List ℕ) → D.images disk.old e → e ≡ i) → Stands c i log
