@@ -19,6 +19,8 @@ mod disks;
 #[cfg(test)]
 mod flushing;
 #[cfg(test)]
+mod going_on;
+#[cfg(test)]
 mod images;
 #[cfg(test)]
 mod many_pages;

@@ -1,13 +1,8 @@
 //! Stores that are opened: the older gate is closed and a short file lengthened, whatever call of the disk fails in between the
 //! store opens as the same log, and a log that was opened goes on.
 
-ghost use Rattle.std.specs.Prelude.{◌≡◌, IfOk};
-ghost use Rattle.tests_store.specs.Flushing.{IsFlushing};
-ghost use Rattle.fish_rule.specs.Start.{IsShape};
-ghost use Rattle.fish_recover.specs.Stores.{asked_shape};
-
 use crate::openings::{ALL, Slot, store};
-use crate::told::{bytes_of, expect_all, numbers};
+use crate::told::{expect_all, numbers};
 use fish_disk::MemoryDisk;
 use fish_recover::{Asked, OpenRefusal, Opened, open_store};
 use fish_rule::{base, shape};
@@ -23,13 +18,13 @@ const SECOND_GATE: usize = 4_096;
 const FORMAT_AT: usize = 8_199;
 
 /// What is asked for: the shape of the stores here, of which a new table has one page.
-const ASKED: Asked = Asked {
+pub(crate) const ASKED: Asked = Asked {
     pages: Some(1),
     bucket_bits: Some(4),
 };
 
 /// Both slots, and how many bytes the file has.
-type Case = (Slot, Slot, usize);
+pub(crate) type Case = (Slot, Slot, usize);
 
 /// What is open, and then the gates and the length of the file.
 const CASES: &[(Case, &str)] = &[
@@ -109,8 +104,10 @@ fn opened_text(alloc: Global, opened: &Opened) -> Result<String, AllocError> {
     let how = if opened.made { "made" } else { "opened" };
     let first = base(&opened.log);
     let pages = shape(&opened.log).pages;
-    let mut told =
-        format!(in alloc; "{how} {} at line {} of {pages} pages", opened.count, first.line)?;
+    let mut told = format!(in alloc;
+        "{how} {} at line {} of {pages} pages",
+        opened.count, first.line
+    )?;
     put_kept(&mut told, opened)?;
     Ok(told)
 }
@@ -153,7 +150,7 @@ fn file_told(alloc: Global, bytes: Bytes) -> Result<String, AllocError> {
 }
 
 /// The first bytes of a store with these slots.
-fn file_of(alloc: Global, case: &Case) -> Result<Bytes, AllocError> {
+pub(crate) fn file_of(alloc: Global, case: &Case) -> Result<Bytes, AllocError> {
     let bytes = store(alloc, &case.0, &case.1)?;
     let size = case.2.min(bytes.as_bytes().len());
     Bytes::copy_of(alloc, &bytes.as_bytes()[..size])
@@ -229,7 +226,7 @@ const SHORT_STOPS: &[(u64, &str)] = &[
 ];
 
 /// How many records a file opens with, or `x`.
-fn count_of(alloc: Global, bytes: Bytes) -> Result<char, AllocError> {
+pub(crate) fn count_of(alloc: Global, bytes: Bytes) -> Result<char, AllocError> {
     let mut disk = MemoryDisk::new(alloc, bytes, numbers(alloc, &[])?);
     let count = match open_store(alloc, ASKED, &mut disk) {
         Ok(opened) => {
