@@ -1,6 +1,7 @@
 //! A store without a record.
 
 ghost use Rattle.std.specs.Prelude.{◌≡◌, ◌≤◌, ◌+◌, ◌*◌, [], false, ℕ, List, IfOk, IfSome, IsErrOf, OnOk, length, replicate};
+ghost use Rattle.fish_disk.specs.Crash.{LeavesOnly};
 ghost use Rattle.fish_outside.specs.Causes.{HasCause};
 ghost use Rattle.fish_image.specs.Progress.{AreHeads};
 ghost use Rattle.fish_image.specs.Reading.{IsTold};
@@ -30,6 +31,8 @@ pub fn create<D: Disk>(alloc: Global, shape: Shape, disk: &mut D) -> Result<Flus
     ensures made { IfOk result (λ f. IsAtRest (D.images disk.new) f (first_commit shape) []) }
     ensures live { IfOk result (λ f. f.shut ≡ false) }
     ensures gates { OnOk result (GatesAreSynced (D.images disk.new) (D.images disk.new)) }
+    // Of a disk that tells nothing, a crash leaves nothing that is claimed.
+    ensures crash { LeavesOnly D.images D.since D.moment disk.old disk.new (λ _. (i : List ℕ) × D.images disk.old i) }
     ensures calls { D.moment disk.new ≤ D.moment disk.old + 6 }
 
     ensures cause { HasFlushCause (D.faults disk.old) (D.faults disk.new) result }
@@ -91,6 +94,7 @@ fn put_first<D: Disk>(disk: &mut D, zeros: &[u8], body: &[u8]) -> Result<(), Fai
     requires size { length body.now ≡ body_bytes }
     ensures rests { OnOk result ((c : List ℕ) → D.images disk.new c → IsAlone 0 c × (body_of 0 c ≡ body.now)) }
     ensures long { OnOk result ((c : List ℕ) → D.images disk.new c → lines_at ≤ length c) }
+    ensures crash { LeavesOnly D.images D.since D.moment disk.old disk.new (λ _. (i : List ℕ) × D.images disk.old i) }
     ensures calls { D.moment disk.new ≤ D.moment disk.old + 6 }
     ensures cause { HasCause (D.faults disk.old) (D.faults disk.new) result }
 {

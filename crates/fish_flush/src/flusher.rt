@@ -73,6 +73,13 @@ impl Flusher {
         self.count
     }
 
+    /// How many lines they take.
+    pub fn line(&self) -> u64
+        ensures { result ≡ self.now.line }
+    {
+        self.line
+    }
+
     /// Of each bucket the place of the newest key entry of the last commit, or 0.
     pub fn heads(&self) -> &[u64]
         ensures { result.now ≡ self.now.heads.items }

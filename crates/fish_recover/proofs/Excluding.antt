@@ -1,16 +1,21 @@
 -- What the causes of refusals say of one another.
-use Rattle.std.proofs.Common.{◌≡◌, ℕ, zero, suc, ◌≤◌, ◌⊎◌, inl, inr, List, refl, sym, ap, subst, ◌∙◌, arith}
+use Rattle.std.proofs.Common.{◌≡◌, ℕ, zero, suc, ◌≤◌, ◌⊎◌, inl, inr, List, [], length, take, drop, refl, sym, ap, subst, ◌∙◌, arith}
+use Rattle.std.proofs.Math.Seq.{drop-nil}
 use Rattle.fish_catalog.specs.declared.commit.Commit.{Commit}
-use Rattle.fish_image.proofs.Agreement.{no_log, one_damage}
-use Rattle.fish_image.specs.Log.{IsDamaged}
+use Rattle.fish_catalog.specs.declared.entry.Entry.{Entry}
+use Rattle.fish_image.proofs.Agreement.{agrees_once, no_log, one_damage}
+use Rattle.fish_image.specs.Log.{Agrees, IsDamaged}
+use Rattle.fish_image.specs.Reached.{Reached}
 use Rattle.fish_image.specs.Reading.{IsTold}
-use Rattle.fish_image.specs.Stands.{words_in}
+use Rattle.fish_image.specs.Stands.{Stands, words_in}
 use Rattle.fish_rule.specs.declared.table.Shape.{Shape}
 use Rattle.fish_slots.proofs.Commits.{one_commit}
 use Rattle.fish_slots.specs.Commits.{Counts, HasCommit}
+use Rattle.fish_slots.specs.Places.{gate_at}
 use Rattle.fish_slots.specs.Slots.{IsOpen}
 use Rattle.fish_recover.proofs.Once.{told_once}
 use Rattle.fish_recover.specs.Opening.{IsFound, IsOfStore, IsOpenCause, IsOther, IsOtherShape}
+use Rattle.fish_recover.specs.Stores.{IsStoreCause}
 use Rattle.fish_recover.specs.declared.finding.Found.{Found}
 use Rattle.fish_recover.specs.declared.refusal.Asked.{Asked}
 use Rattle.fish_recover.specs.declared.refusal.OpenRefusal.{OpenRefusal}
@@ -90,20 +95,68 @@ module _ (image : List ℕ) (asked : Asked) where
   one_cause e DiskFault s t h g = absurd t
   one_cause e OutOfMemory s t h g = absurd t
 
-  -- where something is found none is there
-  pub found_cause : (found : Found) (e : OpenRefusal) → IsOfStore e → IsFound image asked found → IsOpenCause image asked e → ⊥
-  found_cause found NotAStore s f h = closed_has f.body f.lines h f.commit
-  found_cause found (Damaged n) s f (inl d) = d.1.none f.body f.lines found.commit f.commit f.told
-  found_cause found (Damaged n) s f (inr d) =
-      let same = once image d.body d.lines f.body f.lines d.commit found.commit d.has f.commit d.told f.told in
-      let held = f.checked in
-      no_log found.commit (words_in f.lines) n held.end.entries
-      (subst (λ (l : List ℕ). IsDamaged found.commit (words_in l) n) same.1
-      (subst (λ (c : Commit). IsDamaged c (words_in d.lines) n) same.0 d.damaged))
-      (record { end = held.end; agrees = held.agrees; lines = held.lines; entries = refl })
-  found_cause found (ShapeDiffers kept other) s f h =
+  -- where the image stands for a log of the shape that is asked for none is there
+  pub stands_cause : (c : Commit) (log : List Entry) (e : OpenRefusal) → IsOfStore e → Stands c image log → (IsOtherShape asked c → ⊥)
+      → IsOpenCause image asked e → ⊥
+  stands_cause c log NotAStore s f shape h = closed_has f.body f.lines h f.commit
+  stands_cause c log (Damaged n) s f shape (inl d) = d.1.none f.body f.lines c f.commit f.is.told
+  stands_cause c log (Damaged n) s f shape (inr d) =
+      let same = once image d.body d.lines f.body f.lines d.commit c d.has f.commit d.told f.is.told in
+      no_log c (words_in f.lines) n log
+      (subst (λ (l : List ℕ). IsDamaged c (words_in l) n) same.1
+      (subst (λ (k : Commit). IsDamaged k (words_in d.lines) n) same.0 d.damaged)) f.is.stands
+  stands_cause c log (ShapeDiffers kept other) s f shape h =
       let o = h.0 in
-      let same = once image o.body o.lines f.body f.lines o.commit found.commit o.has f.commit o.told f.told in
-      f.shape (subst (IsOtherShape asked) same.0 o.shape)
-  found_cause found DiskFault s f h = absurd s
-  found_cause found OutOfMemory s f h = absurd s
+      let same = once image o.body o.lines f.body f.lines o.commit c o.has f.commit o.told f.is.told in
+      shape (subst (IsOtherShape asked) same.0 o.shape)
+  stands_cause c log DiskFault s f shape h = absurd s
+  stands_cause c log OutOfMemory s f shape h = absurd s
+
+  -- so it is where something is found
+  pub found_cause : (found : Found) (e : OpenRefusal) → IsOfStore e → IsFound image asked found → IsOpenCause image asked e → ⊥
+  found_cause found e s f h =
+      let held = f.checked in
+      stands_cause found.commit held.end.entries e s record {
+        body = f.body;
+        lines = f.lines;
+        commit = f.commit;
+        is = record {
+          told = f.told;
+          stands = record { end = held.end; agrees = held.agrees; lines = held.lines; entries = refl };
+        };
+      } f.shape h
+
+-- an image stands for one log
+pub one_stands : (image : List ℕ) (c d : Commit) (log other : List Entry) → Stands c image log → Stands d image other
+    → (c ≡ d) × (log ≡ other)
+one_stands image c d log other h g =
+    let same = once image h.body h.lines g.body g.lines c d h.commit g.commit h.is.told g.is.told in
+    let a = h.is.stands in
+    let b = g.is.stands in
+    let end = subst (λ (k : Commit). Agrees k (words_in g.lines) k.count a.end) same.0
+    (subst (λ (l : List ℕ). Agrees c (words_in l) c.count a.end) same.1 a.agrees) in (
+      same.0,
+      sym a.entries ∙ ap (λ (z : Reached). z.entries) (agrees_once d (words_in g.lines) d.count a.end b.end end b.agrees) ∙ b.entries,
+    )
+
+-- no gate is open in no bytes
+nothing_open : (slot : ℕ) → IsOpen slot [] → ⊥
+nothing_open slot opened =
+    let none : (let no : List ℕ = [] in take 1 (drop (gate_at slot) no)) ≡ [] = ap (λ (l : List ℕ). take 1 l) (drop-nil (gate_at slot)) in
+    let size : 0 ≡ 1 = ap (λ (l : List ℕ). length l) (sym none ∙ opened) in
+    omega (arith, size)
+
+nothing_has : (b w : List ℕ) → HasCommit b w [] → ⊥
+nothing_has b w has = nothing_open has.slot has.counts.gate
+
+-- an empty disk is refused for nothing
+pub none_cause : (asked : Asked) (e : OpenRefusal) → IsOfStore e → IsStoreCause [] asked e → ⊥
+none_cause asked NotAStore s h = (let some = h.0 in omega arith)
+none_cause asked (Damaged n) s (inl d) = elim d.1.some [
+  | inl first ↦ nothing_open 0 first
+  | inr second ↦ nothing_open 1 second
+]
+none_cause asked (Damaged n) s (inr d) = nothing_has d.body d.lines d.has
+none_cause asked (ShapeDiffers kept other) s h = nothing_has h.0.body h.0.lines h.0.has
+none_cause asked DiskFault s h = absurd s
+none_cause asked OutOfMemory s h = absurd s

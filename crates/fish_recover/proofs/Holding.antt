@@ -17,7 +17,7 @@ use Rattle.fish_recover.specs.declared.refusal.OpenRefusal.{OpenRefusal}
 use Rattle.fish_recover.specs.declared.refusal.OpenRefusal.TheVariants.{Damaged, DiskFault, NotAStore, OutOfMemory, ShapeDiffers}
 
 -- the lines that a body counts are its commit's
-body_lines : (c : Commit) (b : List ℕ) → IsTold c b → line_count b ≡ c.lines
+pub body_lines : (c : Commit) (b : List ℕ) → IsTold c b → line_count b ≡ c.lines
 unfolding line_count number
 body_lines c b h = told_word c b h 5 (omega arith)
 

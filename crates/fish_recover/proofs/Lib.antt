@@ -1,7 +1,12 @@
+pub mod Beginnings
+pub mod Closings
 pub mod Excluding
 pub mod Feeding
 pub mod Holding
+pub mod Keepings
 pub mod Once
+pub mod Openings
 pub mod Pieces
+pub mod Refusals
 pub mod Slots
 pub mod Words

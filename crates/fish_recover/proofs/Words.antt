@@ -14,7 +14,7 @@ use Rattle.fish_slots.specs.Places.{lines_at}
 use Rattle.fish_recover.specs.Opening.{first_words}
 
 -- so many words
-length-words_of : (n : ℕ) (b : List ℕ) → length (words_of n b) ≡ n
+pub length-words_of : (n : ℕ) (b : List ℕ) → length (words_of n b) ≡ n
 length-words_of zero b = refl
 length-words_of (suc n) b = ap suc (length-words_of n (drop 8 b))
 

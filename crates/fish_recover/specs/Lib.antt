@@ -1,2 +1,5 @@
+pub mod Beginning
 pub mod Choosing
 pub mod Opening
+pub mod Resting
+pub mod Stores

@@ -10,6 +10,7 @@ use Rattle.fish_flush.specs.Kept.{IsAtRest, commit_of, first_commit}
 use Rattle.fish_flush.specs.Rows.{HoldsRows}
 use Rattle.fish_flush.specs.declared.flusher.Flusher.{Flusher}
 use Rattle.fish_ingest.specs.Ingestion.{CanIngest, CanStart}
+use Rattle.fish_recover.specs.declared.opened.Opened.{Opened}
 use Rattle.fish_rule.proofs.laws.Learning.{learns_same}
 use Rattle.fish_rule.specs.Logs.{Learns}
 use Rattle.fish_rule.specs.Passes.{IsPassOf, view}
@@ -20,7 +21,7 @@ use Rattle.fish_rule.specs.declared.table.Log.{Log}
 use Rattle.fish_rule.specs.declared.table.Pass.{Pass}
 use Rattle.fish_rule.specs.declared.table.Shape.{Shape}
 use Rattle.fish_rule.specs.declared.view.View.{View}
-use Rattle.tests_store.specs.Flushing.{IsFlushing, IsOpened}
+use Rattle.tests_store.specs.Flushing.{IsEmptyLog, IsFlushing, IsOpenStore}
 use Rattle.tests_store.specs.declared.passes.Control.{Control}
 
 -- what holds where a call succeeds, from what it tells then
@@ -30,7 +31,7 @@ on_all (Err e) A B a f = tt
 
 -- a store that was made carries a log that was opened
 pub flushing_first : (images : List ℕ → Type 0) (shape : Shape) (start : Start) (log : Log) (pass : Pass) (defs : Defs)
-    (flusher : Flusher) → IsOpened shape start log pass → IsAtRest images flusher (first_commit shape) [] → flusher.shut ≡ false
+    (flusher : Flusher) → IsEmptyLog shape start log pass → IsAtRest images flusher (first_commit shape) [] → flusher.shut ≡ false
     → CanIngest log pass defs
     → IsFlushing images log (record { pass = pass; start = start; defs = defs; flusher = flusher })
 flushing_first images shape start log pass defs flusher opened rest live ready =
@@ -44,6 +45,29 @@ flushing_first images shape start log pass defs flusher opened rest live ready =
       carries = subst (λ (z : View × Shape). Carries images flusher z.0 z.1 start.catalog (first_commit shape) [])
           (λ i. (sym opened.first i, sym opened.shape_is i))
           (first_carries images flusher shape k start.catalog rest opened.number opened.line);
+    }
+
+-- so does a store that was opened
+pub flushing_open : (images : List ℕ → Type 0) (o : Opened) (control : Control) → IsOpenStore images o → control.pass ≡ o.pass
+    → control.start.catalog ≡ o.catalog → control.flusher ≡ o.flusher → control.defs.known.read ≡ false
+    → IsFlushing images o.log control
+flushing_open images o control opened pass catalog flusher read =
+    let h = opened.is in
+    let of = subst (IsPassOf o.log) (sym pass) h.pass in
+    let first : view control.pass ≡ first_view o.log.key = ap view pass ∙ h.first in
+    record {
+      ready = record {
+        of = of;
+        start = record { live = of.live; outside = ap (λ (z : View). z.epoch) first };
+        read = λ was. absurd (cc (was, read));
+      };
+      live = ap (λ (z : Flusher). z.shut) flusher ∙ h.live;
+      held = subst (λ (z : View × List CatRow). HoldsRows z.0 z.1)
+          (λ i. (sym first i, (h.rows ∙ sym catalog) i)) (first_holds o.log.key);
+      commit = opened.commit;
+      entries = opened.entries;
+      carries = subst (λ (z : Flusher × View × List CatRow). Carries images z.0 z.1 o.log.shape z.2 opened.commit opened.entries)
+          (λ i. (sym flusher i, view (sym pass i), sym catalog i)) h.carries;
     }
 
 module _ (images : List ℕ → Type 0) (log : Log) (control : Control) (h : IsFlushing images log control) (pass : Pass) where

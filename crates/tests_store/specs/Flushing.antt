@@ -1,10 +1,12 @@
 -- The control pass of a log and the store that it writes.
-use Rattle.std.specs.Prelude.{ℕ, ◌≡◌, ◌<◌, List, All, false, length}
+use Rattle.std.specs.Prelude.{ℕ, ◌≡◌, ◌<◌, List, Option, All, false, length}
 use Rattle.fish_catalog.specs.declared.commit.Commit.{Commit}
 use Rattle.fish_catalog.specs.declared.entry.Entry.{Entry}
 use Rattle.fish_flush.specs.Carrying.{Carries}
 use Rattle.fish_flush.specs.Rows.{HoldsRows}
 use Rattle.fish_ingest.specs.Ingestion.{CanIngest, CanStart}
+use Rattle.fish_recover.specs.Stores.{IsOpened}
+use Rattle.fish_recover.specs.declared.opened.Opened.{Opened}
 use Rattle.fish_rule.specs.Passes.{IsPassOf, view}
 use Rattle.fish_rule.specs.Table.{first_view}
 use Rattle.fish_rule.specs.declared.seats.Start.{Start}
@@ -15,7 +17,7 @@ use Rattle.tests_store.specs.declared.passes.Seat.{Seat}
 use Rattle.tests_store.specs.declared.passes.Control.{Control}
 
 -- a log of this shape that begins so, at 0, and holds no record, and its control pass
-pub record IsOpened (shape : Shape) (start : Start) (log : Log) (pass : Pass) : Type 0 where
+pub record IsEmptyLog (shape : Shape) (start : Start) (log : Log) (pass : Pass) : Type 0 where
   pub of : IsPassOf log pass
   pub first : view pass ≡ first_view log.key
   pub number : log.key.number ≡ 0
@@ -31,6 +33,13 @@ pub record IsFlushing (images : List ℕ → Type 0) (log : Log) (control : Cont
   pub commit : Commit
   pub entries : List Entry
   pub carries : Carries images control.flusher (view control.pass) log.shape control.start.catalog commit entries
+
+-- a store that was opened
+pub record IsOpenStore (images : List ℕ → Type 0) (o : Opened) : Type 0 where
+  pub content : Option (List ℕ)
+  pub commit : Commit
+  pub entries : List Entry
+  pub is : IsOpened content images commit entries o
 
 -- the pass is one of the log, and isn't entered
 pub record IsOutOf (log : Log) (pass : Pass) : Type 0 where

@@ -8,7 +8,7 @@ ghost use Rattle.fish_ingest.specs.Ingestion.{CanIngest};
 ghost use Rattle.fish_rule.specs.Passes.{IsPassOf, view};
 ghost use Rattle.fish_rule.specs.SeatSteps.{CanSplitPass, split_left};
 ghost use Rattle.fish_rule.specs.Table.{first_view};
-ghost use Rattle.tests_store.specs.Flushing.{AreOut, IsFlushing, IsOpened, IsOutOf};
+ghost use Rattle.tests_store.specs.Flushing.{AreOut, IsEmptyLog, IsFlushing, IsOutOf};
 
 use crate::flushing::{SHAPE, commit, made, opened, store};
 use crate::passes::{Control, Seat};

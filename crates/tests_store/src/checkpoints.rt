@@ -4,7 +4,7 @@
 //!
 //! The third record is of the first one's bucket, so its previous node comes from what is kept of the first commit.
 
-ghost use Rattle.tests_store.specs.Flushing.{IsFlushing, IsOpened};
+ghost use Rattle.tests_store.specs.Flushing.{IsEmptyLog, IsFlushing};
 ghost use Rattle.std.specs.Prelude.{◌≡◌, IfOk, IfSome, OnOk, length};
 
 use crate::flushing::{SHAPE, commit, made, opened, store};
@@ -55,7 +55,7 @@ const STOPS: &[(u64, &str)] = &[
 ];
 
 /// Stores payloads and commits them. How many entries are committed.
-fn step<D: Disk>(
+pub(crate) fn step<D: Disk>(
     alloc: Global,
     log: &Log,
     control: &mut Control,
@@ -113,7 +113,7 @@ fn made_told<D: Disk>(
     pass: Pass,
     disk: &mut D,
 ) -> Result<String, AllocError>
-    requires opened { IsOpened SHAPE start log.now pass }
+    requires opened { IsEmptyLog SHAPE start log.now pass }
     requires empty { IfSome (D.content disk.old) (λ c. length c ≡ 0) }
 {
     match made(alloc, SHAPE, start, log, pass, disk) {

@@ -6,7 +6,7 @@ ghost use Rattle.fish_ingest.specs.Passing.{OnlyIngests};
 ghost use Rattle.fish_rule.specs.Passes.{view};
 ghost use Rattle.fish_rule.specs.Start.{IsShape};
 ghost use Rattle.fish_rule.specs.Table.{first_view};
-ghost use Rattle.tests_store.specs.Flushing.{IsFlushing, IsOpened};
+ghost use Rattle.tests_store.specs.Flushing.{IsEmptyLog, IsFlushing};
 
 use crate::bodies::row;
 use crate::passes::Control;
@@ -38,7 +38,7 @@ fn definitions(alloc: Global) -> Result<Catalog, AllocError> {
 /// An empty log of a shape with that definition, what it begins with, and its control pass.
 pub(crate) fn opened(alloc: Global, shape: Shape) -> Result<(Start, Log, Pass), AllocError>
     requires { IsShape shape }
-    ensures { IfOk result (λ r. IsOpened shape r.0 r.1 r.2) }
+    ensures { IfOk result (λ r. IsEmptyLog shape r.0 r.1 r.2) }
 {
     let catalog = definitions(alloc)?;
     let start = Start::first(alloc, shape, catalog)?;
@@ -61,7 +61,7 @@ pub(crate) fn made<D: Disk>(
     disk: &mut D,
 ) -> Result<Control, FlushRefusal>
     requires shape { IsShape shape }
-    requires opened { IsOpened shape start log.now pass }
+    requires opened { IsEmptyLog shape start log.now pass }
     requires empty { IfSome (D.content disk.old) (λ c. length c ≡ 0) }
     ensures made { IfOk result (IsFlushing (D.images disk.new) log.now) }
     ensures first { IfOk result (λ control. view control.pass ≡ first_view log.now.key) }

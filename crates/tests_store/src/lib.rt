@@ -19,6 +19,8 @@ mod disks;
 #[cfg(test)]
 mod flushing;
 #[cfg(test)]
+mod going_on;
+#[cfg(test)]
 mod images;
 #[cfg(test)]
 mod many_pages;
@@ -27,6 +29,8 @@ mod older;
 #[cfg(test)]
 mod openings;
 mod passes;
+#[cfg(test)]
+mod reopened;
 #[cfg(test)]
 mod stored;
 #[cfg(test)]

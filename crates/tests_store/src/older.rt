@@ -159,7 +159,7 @@ fn put_chain<D: Disk, L: Ledger>(
 }
 
 /// What all numbers and the chain from 17 answer, with a counter of a blank.
-fn answers_told<L: Ledger>(
+pub(crate) fn answers_told<L: Ledger>(
     alloc: Global,
     blank: Blank,
     cold: &mut Cold,

@@ -14,13 +14,13 @@ use std::test::Fail;
 const GATE_STEP: usize = 4_096;
 
 /// A slot: its gate, its turn, and how many entries and lines it counts.
-type Slot = (u8, u8, u32, u64);
+pub(crate) type Slot = (u8, u8, u32, u64);
 
 /// Both slots, how many bytes the file has, and which pages and bits are asked for.
 type Case = (Slot, Slot, usize, Option<u16>, Option<u8>);
 
 /// All bytes: 180,224 and six lines.
-const ALL: usize = 180_416;
+pub(crate) const ALL: usize = 180_416;
 
 /// Three entries and two, of turns that follow one another, and what is found.
 const CASES: &[(Case, &str)] = &[
@@ -117,7 +117,7 @@ fn put_gate(alloc: Global, all: &mut Bytes, gate: u8) -> Result<(), AllocError> 
 }
 
 /// All bytes of a store with these slots.
-fn store(alloc: Global, first: &Slot, second: &Slot) -> Result<Bytes, AllocError> {
+pub(crate) fn store(alloc: Global, first: &Slot, second: &Slot) -> Result<Bytes, AllocError> {
     let mut all = Bytes::new(alloc);
     put_gate(alloc, &mut all, first.0)?;
     put_gate(alloc, &mut all, second.0)?;

@@ -1,11 +1,13 @@
 -- All is zero in front of the lines, and then the body stands there and its gate opens.
-use Rattle.std.proofs.Common.{◌≡◌, ℕ, List, subst, arith}
+use Rattle.std.proofs.Common.{◌≡◌, ℕ, List, length, subst, arith}
 use Rattle.std.proofs.lemmas.Result.{on_ok_weaker}
 use Rattle.fish_flush.proofs.Creating.{first_image, has_room, none_open, only_piece}
 use Rattle.fish_flush.proofs.Faults.{cause_from}
+use Rattle.fish_disk.proofs.Moments.{leaves_more, leaves_then}
 use Rattle.fish_disk.proofs.Regions.{told_at}
 use Rattle.fish_slots.proofs.Keeping.{one_gates, one_slot}
-use Rattle.fish_slots.specs.Places.{lines_at}
+use Rattle.fish_disk.specs.Crash.{TornFrom}
+use Rattle.fish_slots.specs.Places.{body_at, body_bytes, gate_at, lines_at}
 use Rattle.fish_slots.specs.Slots.{IsOpen}
 use Rattle.fish_flush.proofs.creation.put_first.Goals as goal
 
@@ -77,3 +79,32 @@ returns-clause-cause g c =
     let second = c.seal.ensures.cause.later in
     cause_from (disk.faults c.args.disk.now) (disk.faults c.seal.new.disk) (disk.faults c.open_gate.new.disk) c.open_gate.result
     (omega (arith, first, second)) c.open_gate.ensures.cause
+
+pub returns-in_err-seal-clause-crash : goal.returns-in_err-seal-clause-crash
+returns-in_err-seal-clause-crash g c =
+    let disk = g.D.Disk in
+    let first = leaves_more disk.images disk.since disk.moment c.args.disk.now c.write_synced.new.disk
+    (TornFrom (disk.images c.args.disk.now) 0 (length c.args.zeros.now)) (λ e. (i : List ℕ) × disk.images c.args.disk.now i)
+    (λ e from. (from.0, from.1)) c.write_synced.ensures.crash in
+    leaves_then disk.images disk.since disk.moment c.args.disk.now c.write_synced.new.disk c.seal.new.disk
+    (λ e. (i : List ℕ) × disk.images c.args.disk.now i) first
+    (leaves_more disk.images disk.since disk.moment c.write_synced.new.disk c.seal.new.disk
+    (TornFrom (disk.images c.write_synced.new.disk) (body_at 0) body_bytes) (λ e. (i : List ℕ) × disk.images c.args.disk.now i)
+    (λ e from. first.now from.0 from.1) c.seal.ensures.crash)
+
+pub returns-clause-crash : goal.returns-clause-crash
+returns-clause-crash g c =
+    let disk = g.D.Disk in
+    let first = leaves_more disk.images disk.since disk.moment c.args.disk.now c.write_synced.new.disk
+    (TornFrom (disk.images c.args.disk.now) 0 (length c.args.zeros.now)) (λ e. (i : List ℕ) × disk.images c.args.disk.now i)
+    (λ e from. (from.0, from.1)) c.write_synced.ensures.crash in
+    let second = leaves_then disk.images disk.since disk.moment c.args.disk.now c.write_synced.new.disk c.seal.new.disk
+    (λ e. (i : List ℕ) × disk.images c.args.disk.now i) first
+    (leaves_more disk.images disk.since disk.moment c.write_synced.new.disk c.seal.new.disk
+    (TornFrom (disk.images c.write_synced.new.disk) (body_at 0) body_bytes) (λ e. (i : List ℕ) × disk.images c.args.disk.now i)
+    (λ e from. first.now from.0 from.1) c.seal.ensures.crash) in
+    leaves_then disk.images disk.since disk.moment c.args.disk.now c.seal.new.disk c.open_gate.new.disk
+    (λ e. (i : List ℕ) × disk.images c.args.disk.now i) second
+    (leaves_more disk.images disk.since disk.moment c.seal.new.disk c.open_gate.new.disk
+    (TornFrom (disk.images c.seal.new.disk) (gate_at 0) 1) (λ e. (i : List ℕ) × disk.images c.args.disk.now i)
+    (λ e from. second.now from.0 from.1) c.open_gate.ensures.crash)

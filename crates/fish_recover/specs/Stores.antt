@@ -1,0 +1,91 @@
+-- What opening a store gives, and what it leaves.
+use Rattle.std.specs.Prelude.{ℕ, ◌≡◌, ◌+◌, ◌<◌, ◌≤◌, List, [], Bool, true, false, Option, Some, IfSome, length, map, unwrap_or, ⊤}
+use Rattle.fish_catalog.specs.Clamps.{clamped}
+use Rattle.fish_catalog.specs.declared.commit.Commit.{Commit}
+use Rattle.fish_catalog.specs.declared.entry.Entry.{Entry}
+use Rattle.fish_cold.specs.Carries.{CarriesTable}
+use Rattle.fish_flush.specs.Carrying.{Carries}
+use Rattle.fish_flush.specs.Kept.{IsKeptOf, first_commit}
+use Rattle.fish_flush.specs.declared.refusal.FlushRefusal.{FlushRefusal}
+use Rattle.fish_flush.specs.declared.refusal.FlushRefusal.TheVariants.{DiskFault as FlushFault, OutOfMemory as NoMemory}
+use Rattle.fish_image.specs.Stands.{Stands}
+use Rattle.fish_rule.specs.Passes.{IsPassOf, view}
+use Rattle.fish_rule.specs.Table.{first_view}
+use Rattle.fish_rule.specs.declared.table.Shape.{Shape}
+use Rattle.fish_recover.specs.Beginning.{BeginsAt}
+use Rattle.fish_recover.specs.Opening.{IsOpenCause, IsOtherShape}
+use Rattle.fish_recover.specs.declared.finding.Found.{Found}
+use Rattle.fish_recover.specs.declared.opened.Opened.{Opened}
+use Rattle.fish_recover.specs.declared.refusal.Asked.{Asked}
+use Rattle.fish_recover.specs.declared.refusal.OpenRefusal.{OpenRefusal}
+use Rattle.fish_recover.specs.declared.refusal.OpenRefusal.TheVariants.{Damaged, DiskFault, NotAStore, OutOfMemory, ShapeDiffers}
+
+-- the shape of a store that is made: what is asked for, and else 8 pages and 12 bits
+abbrev pub asked_shape : Asked → Shape
+asked_shape asked = record { pages = unwrap_or asked.pages 8; bucket_bits = unwrap_or asked.bucket_bits 12 }
+
+-- the shape of a table of a commit
+abbrev pub shape_of : Commit → Shape
+shape_of c = record { pages = c.pages; bucket_bits = c.bucket_bits }
+
+-- ---- what is open
+
+-- the store is open: every image stands for this log by this commit, and its table, at its first view, begins after them, with
+-- the commit's rows cut to its count; a checkpoint may follow, and where the content of the disk is told, what is below the
+-- base is read from there
+pub record IsOpened (content : Option (List ℕ)) (images : List ℕ → Type 0) (c : Commit) (log : List Entry) (o : Opened)
+    : Type 0 where
+  pub pass : IsPassOf o.log o.pass
+  pub first : view o.pass ≡ first_view o.log.key
+  pub number : o.log.key.number ≡ c.count
+  pub line : o.log.key.line ≡ c.lines
+  pub version : o.log.key.version ≡ 0
+  pub rows : o.log.key.rows.value ≡ o.catalog
+  pub catalog : o.catalog ≡ map (clamped c.count) c.rows
+  pub count : o.count ≡ c.count
+  pub live : o.flusher.shut ≡ false
+  pub carries : Carries images o.flusher (view o.pass) o.log.shape o.catalog c log
+  pub cold : IfSome content (λ _. CarriesTable content o.log.key o.cold)
+
+-- the image is none, and a store without a record was made of it; or it stands for this log, by this commit of the shape that
+-- is asked for
+abbrev pub IsOf : Asked → Bool → Commit → List Entry → List ℕ → Type 0
+IsOf asked true c log image = (image ≡ []) × (c ≡ first_commit (asked_shape asked)) × (log ≡ [])
+IsOf asked false c log image = Stands c image log × (IsOtherShape asked c → ⊥)
+
+-- a log is open, for which the disk stood before; or it was empty
+pub record HasOpened (old new : Option (List ℕ)) (images : List ℕ → Type 0) (asked : Asked) (o : Opened) : Type 0 where
+  pub commit : Commit
+  pub log : List Entry
+  pub opened : IsOpened new images commit log o
+  pub was : IfSome new (λ _. (i : List ℕ) × (old ≡ Some i) × IsOf asked o.made commit log i)
+
+-- from a moment on, of which at most one call is before, a crash leaves only images that stand for the log
+pub record StandsSince {D : Type 0} (since : D → ℕ → List ℕ → Type 0) (moment : D → ℕ) (old new : D) (c : Commit)
+    (log : List Entry) : Type 0 where
+  pub from : ℕ
+  pub early : from ≤ moment old + 1
+  pub stands : (i : List ℕ) → since new from i → Stands c i log
+
+-- ---- why nothing is open
+
+-- why a store isn't opened: as it is found; but an empty disk is no reason
+abbrev pub IsStoreCause : List ℕ → Asked → OpenRefusal → Type 0
+IsStoreCause image asked NotAStore = (0 < length image) × IsOpenCause image asked NotAStore
+IsStoreCause image asked (Damaged n) = IsOpenCause image asked (Damaged n)
+IsStoreCause image asked (ShapeDiffers kept other) = IsOpenCause image asked (ShapeDiffers kept other)
+IsStoreCause image asked DiskFault = ⊤
+IsStoreCause image asked OutOfMemory = ⊤
+
+-- the refusal of an opening is that of a commit
+abbrev pub IsFlushed : FlushRefusal → OpenRefusal → Type 0
+IsFlushed FlushFault refusal = refusal ≡ DiskFault
+IsFlushed NoMemory refusal = refusal ≡ OutOfMemory
+
+-- ---- steps
+
+-- what was found is open again: its commit is kept, and the table begins after it
+pub record Resumes (found : Found) (o : Opened) : Type 0 where
+  pub kept : IsKeptOf found.slot found.commit found.checked.heads found.checked.starts o.flusher
+  pub live : o.flusher.shut ≡ false
+  pub begins : BeginsAt o.flusher (shape_of found.commit) found.commit.rows false o
