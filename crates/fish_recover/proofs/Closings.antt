@@ -4,7 +4,8 @@ use Rattle.std.proofs.Common.{refl, ap, sym, ◌∙◌, arith, length-drop}
 use Rattle.std.proofs.lemmas.List.{length-take}
 use Rattle.std.specs.Prelude.{Option, Some, None, IfSome, IsSome, IsTrue}
 use Rattle.fish_disk.specs.Content.{StillReads, part}
-use Rattle.fish_disk.specs.Crash.{Torn, TornFrom}
+use Rattle.fish_disk.proofs.Moments.{leaves_more, leaves_then}
+use Rattle.fish_disk.specs.Crash.{LeavesOnly, Torn, TornFrom}
 use Rattle.fish_disk.proofs.Regions.{still_told, told_at, torn_apart}
 use Rattle.fish_slots.proofs.Commits.{rests_commit}
 use Rattle.fish_slots.specs.Commits.{Counts, HasCommit, Rests, next_turn, turn_of}
@@ -150,8 +151,19 @@ pub fewer_rest : (old new : List ℕ → Type 0) (slot : ℕ) (b w : List ℕ) �
 fewer_rest old new slot b w fewer h = record { whole = h.whole; rests = λ i here. h.rests i (fewer i here) }
 
 -- so are those that bytes after the file's end leave
-pub fill_torn : (old mid : List ℕ → Type 0) (slot at n : ℕ) (b w : List ℕ) → slot ≤ 1 → at ≤ lines_at
+fill_torn : (old mid : List ℕ → Type 0) (slot at n : ℕ) (b w : List ℕ) → slot ≤ 1 → at ≤ lines_at
     → ((i : List ℕ) → mid i → old i) → ((i : List ℕ) → mid i → at ≡ length i) → AreAtRest old slot b w
     → (i : List ℕ) → TornFrom mid at n i → Rests slot b w i
 fill_torn old mid slot at n b w le short fewer size h i from =
     filled_rests slot at n b w from.0 i le h.whole (size from.0 from.1) short from.2 (h.rests from.0 (fewer from.0 from.1))
+
+-- so a length that is asked and bytes after the file's end leave only that
+pub fill_leaves : {D : Type 0} (images : D → List ℕ → Type 0) (since : D → ℕ → List ℕ → Type 0) (moment : D → ℕ) (old mid new : D)
+    (slot at n : ℕ) (b w : List ℕ) → slot ≤ 1 → at ≤ lines_at → ((i : List ℕ) → images mid i → at ≡ length i)
+    → AreAtRest (images old) slot b w → LeavesOnly images since moment old mid (images old)
+    → LeavesOnly images since moment mid new (TornFrom (images mid) at n) → LeavesOnly images since moment old new (Rests slot b w)
+fill_leaves images since moment old mid new slot at n b w le short size h reads writes =
+    leaves_then images since moment old mid new (Rests slot b w)
+    (leaves_more images since moment old mid (images old) (Rests slot b w) h.rests reads)
+    (leaves_more images since moment mid new (TornFrom (images mid) at n) (Rests slot b w)
+    (fill_torn (images old) (images mid) slot at n b w le short reads.now size h) writes)

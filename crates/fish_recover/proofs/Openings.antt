@@ -36,10 +36,17 @@ told_before None x after before read from synced = tt
 told_before (Some i) x after before read from synced = (let d = from i (read i refl) in (d.0, synced d.0 d.1))
 
 -- and earlier
-pub told_earlier : (old x new : Option (List ℕ)) → StillReads old x → IfSome new (λ _. (i : List ℕ) × (x ≡ Some i))
+told_earlier : (old x new : Option (List ℕ)) → StillReads old x → IfSome new (λ _. (i : List ℕ) × (x ≡ Some i))
     → IfSome new (λ _. (i : List ℕ) × (old ≡ Some i))
 told_earlier old x None still told = tt
 told_earlier old x (Some i) still told = (told.0, told_at (λ d. old ≡ Some d) x told.0 told.1 still)
+
+-- and through both
+pub told_through : (old x new : Option (List ℕ)) (after before : List ℕ → Type 0) → StillReads old x
+    → ((i : List ℕ) → new ≡ Some i → after i) → ((i : List ℕ) → after i → (d : List ℕ) × before d)
+    → ((d : List ℕ) → before d → x ≡ Some d) → IfSome new (λ _. (i : List ℕ) × (old ≡ Some i))
+told_through old x new after before still read from synced =
+    told_earlier old x new still (told_before new x after before read from synced)
 
 -- images of a disk that was synced are what is read, as long as that is told
 pub still_synced : (old x : Option (List ℕ)) (before after : List ℕ → Type 0) → StillReads old x
@@ -75,7 +82,7 @@ not_empty c i log h none =
     omega arith
 
 -- what was found of an image that stands for a log is its commit
-pub stands_stored : (x : Option (List ℕ)) (asked : Asked) (f : Found) (images : List ℕ → Type 0) (i : List ℕ) (c : Commit)
+stands_stored : (x : Option (List ℕ)) (asked : Asked) (f : Found) (images : List ℕ → Type 0) (i : List ℕ) (c : Commit)
     (log : List Entry) (h : Stands c i log) → IfSome x (λ e. IsFound e asked f) → ((e : List ℕ) → images e → x ≡ Some e)
     → ((e : List ℕ) → images e → e ≡ i) → AreStored images f.slot f.both h.body h.lines
 stands_stored x asked f images i c log h found synced all = record {
@@ -105,11 +112,21 @@ module _ {D : Type 0} (images : D → List ℕ → Type 0) (since : D → ℕ �
       (λ e here. subst (λ (l : List ℕ). Stands c l log) (sym (all e here)) h) leaves
 
   -- and what a step leaves that keeps their commit
-  pub kept_leaves : (old mid new : D) → LeavesOnly images since moment old mid (λ e. Stands c e log)
+  kept_leaves : (old mid new : D) → LeavesOnly images since moment old mid (λ e. Stands c e log)
       → LeavesOnly images since moment mid new (HasCommit h.body h.lines) → LeavesOnly images since moment old new (λ e. Stands c e log)
   kept_leaves old mid new first second =
       leaves_then images since moment old mid new (λ e. Stands c e log) first
       (leaves_more images since moment mid new (HasCommit h.body h.lines) (λ e. Stands c e log) (has_stands i c log h) second)
+
+  -- so does an opening, which reads and then brings to rest what it found
+  pub opening_leaves : (x : Option (List ℕ)) (asked : Asked) (f : Found) (old mid new : D) → ((e : List ℕ) → images old e → e ≡ i)
+      → LeavesOnly images since moment old mid (images old) → IfSome x (λ e. IsFound e asked f)
+      → ((e : List ℕ) → images mid e → x ≡ Some e)
+      → ((b w : List ℕ) → AreStored (images mid) f.slot f.both b w → LeavesOnly images since moment mid new (HasCommit b w))
+      → LeavesOnly images since moment old new (λ e. Stands c e log)
+  opening_leaves x asked f old mid new all reads found synced steps =
+      kept_leaves old mid new (read_leaves old mid all reads)
+      (steps h.body h.lines (stands_stored x asked f (images mid) i c log h found synced (λ e here. all e (reads.now e here))))
 
 -- ---- what is open
 

@@ -1,14 +1,11 @@
 -- Nothing is written but after the end of the file.
 use Rattle.std.proofs.Common.{◌≡◌, ◌∙◌, ◌<◌, ◌≤◌, ◌+◌, ◌*◌, ℕ, List, ap, length, arith}
 use Rattle.std.proofs.lemmas.Option.{IfSome_then}
-use Rattle.fish_disk.proofs.Moments.{leaves_more, leaves_then}
 use Rattle.fish_disk.proofs.Regions.{through_part}
 use Rattle.fish_disk.specs.Content.{part}
-use Rattle.fish_disk.specs.Crash.{TornFrom}
-use Rattle.fish_slots.specs.Commits.{Rests}
 use Rattle.fish_slots.specs.Places.{lines_at}
 use Rattle.fish_slots.specs.Slots.{line_count}
-use Rattle.fish_recover.proofs.Closings.{fewer_rest, fill_torn, image_long, lines_long, part_long}
+use Rattle.fish_recover.proofs.Closings.{fewer_rest, fill_leaves, image_long, lines_long, part_long}
 use Rattle.fish_recover.proofs.resting.fill.Goals as goal
 
 pub returns-then-size-ge-LINES_AT-clause-rests : goal.returns-then-size-ge-LINES_AT-clause-rests
@@ -27,36 +24,22 @@ returns-then-size-ge-LINES_AT-clause-rests g c = λ b w h.
 pub returns-in_err-write_synced-clause-crash : goal.returns-in_err-write_synced-clause-crash
 returns-in_err-write_synced-clause-crash g c = λ b w h.
     let disk = g.D.Disk in
-    let fewer = c.length.ensures.crash.now in
     let test = c.if-size-ge-LINES_AT.false in
-    leaves_then disk.images disk.since disk.moment c.args.disk.now c.length.new.self c.write_synced.new.disk (Rests c.args.slot b w)
-    (leaves_more disk.images disk.since disk.moment c.args.disk.now c.length.new.self (disk.images c.args.disk.now)
-    (Rests c.args.slot b w) h.rests c.length.ensures.crash)
-    (leaves_more disk.images disk.since disk.moment c.length.new.self c.write_synced.new.disk
-    (TornFrom (disk.images c.length.new.self) c.in_ok-size.size (length c.as_slice.result.now)) (Rests c.args.slot b w)
-    (fill_torn (disk.images c.args.disk.now) (disk.images c.length.new.self) c.args.slot c.in_ok-size.size
-    (length c.as_slice.result.now) b w c.requires.slot (omega arith) fewer
+    fill_leaves disk.images disk.since disk.moment c.args.disk.now c.length.new.self c.write_synced.new.disk c.args.slot c.in_ok-size.size
+    (length c.as_slice.result.now) b w c.requires.slot (omega arith)
     (λ i here. image_long (disk.content c.args.disk.now) (disk.content c.length.new.self) c.in_ok-size.size i
     c.length.ensures.content c.in_ok-size.ensures.length (g.met.D.Disk.told c.length.new.self i here)
-    (c.requires.synced i (fewer i here))) h)
-    c.write_synced.ensures.crash)
+    (c.requires.synced i (c.length.ensures.crash.now i here))) h c.length.ensures.crash c.write_synced.ensures.crash
 
 pub returns-clause-crash : goal.returns-clause-crash
 returns-clause-crash g c = λ b w h.
     let disk = g.D.Disk in
-    let fewer = c.length.ensures.crash.now in
     let test = c.if-size-ge-LINES_AT.false in
-    leaves_then disk.images disk.since disk.moment c.args.disk.now c.length.new.self c.write_synced.new.disk (Rests c.args.slot b w)
-    (leaves_more disk.images disk.since disk.moment c.args.disk.now c.length.new.self (disk.images c.args.disk.now)
-    (Rests c.args.slot b w) h.rests c.length.ensures.crash)
-    (leaves_more disk.images disk.since disk.moment c.length.new.self c.write_synced.new.disk
-    (TornFrom (disk.images c.length.new.self) c.in_ok-size.size (length c.as_slice.result.now)) (Rests c.args.slot b w)
-    (fill_torn (disk.images c.args.disk.now) (disk.images c.length.new.self) c.args.slot c.in_ok-size.size
-    (length c.as_slice.result.now) b w c.requires.slot (omega arith) fewer
+    fill_leaves disk.images disk.since disk.moment c.args.disk.now c.length.new.self c.write_synced.new.disk c.args.slot c.in_ok-size.size
+    (length c.as_slice.result.now) b w c.requires.slot (omega arith)
     (λ i here. image_long (disk.content c.args.disk.now) (disk.content c.length.new.self) c.in_ok-size.size i
     c.length.ensures.content c.in_ok-size.ensures.length (g.met.D.Disk.told c.length.new.self i here)
-    (c.requires.synced i (fewer i here))) h)
-    c.write_synced.ensures.crash)
+    (c.requires.synced i (c.length.ensures.crash.now i here))) h c.length.ensures.crash c.write_synced.ensures.crash
 
 pub returns-clause-rests : goal.returns-clause-rests
 returns-clause-rests g c = λ b w h.

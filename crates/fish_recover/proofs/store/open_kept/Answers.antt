@@ -3,7 +3,7 @@ use Rattle.std.proofs.Common.{◌≡◌, ℕ, ◌+◌, ◌≤◌, List, false, r
 use Rattle.std.specs.Prelude.{IfSome}
 use Rattle.fish_recover.proofs.Beginnings.{begun_open}
 use Rattle.fish_recover.proofs.Keepings.{kept_in, kept_rest, kept_stored}
-use Rattle.fish_recover.proofs.Openings.{kept_leaves, read_leaves, stands_stored, still_before, told_before, told_earlier, was_stored}
+use Rattle.fish_recover.proofs.Openings.{opening_leaves, read_leaves, still_before, told_before, told_through, was_stored}
 use Rattle.fish_recover.proofs.Refusals.{err_is, err_ok, memory_cause, ok_cause, outside_not, outside_open, same_cause}
 use Rattle.fish_recover.specs.Opening.{IsOutside}
 use Rattle.fish_recover.specs.Stores.{shape_of}
@@ -32,21 +32,16 @@ returns-in_err-resume-in-Ok-rest_store-clause-opened g c = err_ok OutOfMemory c.
 pub returns-in_err-resume-in-Ok-rest_store-clause-crash : goal.returns-in_err-resume-in-Ok-rest_store-clause-crash
 returns-in_err-resume-in-Ok-rest_store-clause-crash g c i d log all h =
     let disk = g.D.Disk in
-    kept_leaves disk.images disk.since disk.moment i d log h c.args.disk.now c.find_store.new.disk c.rest_store.new.disk
-    (read_leaves disk.images disk.since disk.moment i d log h c.args.disk.now c.find_store.new.disk all c.find_store.ensures.crash)
-    (c.rest_store.ensures.crash h.body h.lines
-    (stands_stored (disk.content c.find_store.new.disk) c.args.asked c.in-Ok.found (disk.images c.find_store.new.disk) i d log h
-    c.in-Ok.ensures.found c.in-Ok.ensures.synced (λ e here. all e (c.find_store.ensures.crash.now e here))))
+    opening_leaves disk.images disk.since disk.moment i d log h (disk.content c.find_store.new.disk) c.args.asked c.in-Ok.found
+    c.args.disk.now c.find_store.new.disk c.rest_store.new.disk all c.find_store.ensures.crash c.in-Ok.ensures.found
+    c.in-Ok.ensures.synced c.rest_store.ensures.crash
 
 pub returns-in_err-resume-in-Ok-rest_store-clause-told : goal.returns-in_err-resume-in-Ok-rest_store-clause-told
 returns-in_err-resume-in-Ok-rest_store-clause-told g c =
     let disk = g.D.Disk in
-    let old = disk.content c.args.disk.now in
-    let x = disk.content c.find_store.new.disk in
-    let new = disk.content c.rest_store.new.disk in
-    told_earlier old x new c.find_store.ensures.content
-    (told_before new x (disk.images c.rest_store.new.disk) (disk.images c.find_store.new.disk)
-    (g.met.D.Disk.as_read c.rest_store.new.disk) c.rest_store.ensures.told c.in-Ok.ensures.synced)
+    told_through (disk.content c.args.disk.now) (disk.content c.find_store.new.disk) (disk.content c.rest_store.new.disk)
+    (disk.images c.rest_store.new.disk) (disk.images c.find_store.new.disk) c.find_store.ensures.content
+    (g.met.D.Disk.as_read c.rest_store.new.disk) c.rest_store.ensures.told c.in-Ok.ensures.synced
 
 pub returns-in_err-resume-in-Ok-rest_store-clause-refused : goal.returns-in_err-resume-in-Ok-rest_store-clause-refused
 returns-in_err-resume-in-Ok-rest_store-clause-refused g c =
@@ -68,12 +63,9 @@ returns-in_err-resume-in-Ok-rest_store-clause-cause g c =
 pub returns-in_ok-resume-in-Ok-rest_store-clause-told : goal.returns-in_ok-resume-in-Ok-rest_store-clause-told
 returns-in_ok-resume-in-Ok-rest_store-clause-told g c =
     let disk = g.D.Disk in
-    let old = disk.content c.args.disk.now in
-    let x = disk.content c.find_store.new.disk in
-    let new = disk.content c.rest_store.new.disk in
-    told_earlier old x new c.find_store.ensures.content
-    (told_before new x (disk.images c.rest_store.new.disk) (disk.images c.find_store.new.disk)
-    (g.met.D.Disk.as_read c.rest_store.new.disk) c.rest_store.ensures.told c.in-Ok.ensures.synced)
+    told_through (disk.content c.args.disk.now) (disk.content c.find_store.new.disk) (disk.content c.rest_store.new.disk)
+    (disk.images c.rest_store.new.disk) (disk.images c.find_store.new.disk) c.find_store.ensures.content
+    (g.met.D.Disk.as_read c.rest_store.new.disk) c.rest_store.ensures.told c.in-Ok.ensures.synced
 
 pub returns-in_ok-resume-in-Ok-rest_store-clause-opened : goal.returns-in_ok-resume-in-Ok-rest_store-clause-opened
 returns-in_ok-resume-in-Ok-rest_store-clause-opened g c =
@@ -102,11 +94,9 @@ returns-in_ok-resume-in-Ok-rest_store-clause-opened g c =
 pub returns-in_ok-resume-in-Ok-rest_store-clause-crash : goal.returns-in_ok-resume-in-Ok-rest_store-clause-crash
 returns-in_ok-resume-in-Ok-rest_store-clause-crash g c i d log all h =
     let disk = g.D.Disk in
-    kept_leaves disk.images disk.since disk.moment i d log h c.args.disk.now c.find_store.new.disk c.rest_store.new.disk
-    (read_leaves disk.images disk.since disk.moment i d log h c.args.disk.now c.find_store.new.disk all c.find_store.ensures.crash)
-    (c.rest_store.ensures.crash h.body h.lines
-    (stands_stored (disk.content c.find_store.new.disk) c.args.asked c.in-Ok.found (disk.images c.find_store.new.disk) i d log h
-    c.in-Ok.ensures.found c.in-Ok.ensures.synced (λ e here. all e (c.find_store.ensures.crash.now e here))))
+    opening_leaves disk.images disk.since disk.moment i d log h (disk.content c.find_store.new.disk) c.args.asked c.in-Ok.found
+    c.args.disk.now c.find_store.new.disk c.rest_store.new.disk all c.find_store.ensures.crash c.in-Ok.ensures.found
+    c.in-Ok.ensures.synced c.rest_store.ensures.crash
 
 pub returns-in_ok-resume-in-Ok-rest_store-clause-cause : goal.returns-in_ok-resume-in-Ok-rest_store-clause-cause
 returns-in_ok-resume-in-Ok-rest_store-clause-cause g c =
@@ -118,21 +108,16 @@ returns-in_ok-resume-in-Ok-rest_store-clause-cause g c =
 pub returns-in-Err-rest_store-clause-crash : goal.returns-in-Err-rest_store-clause-crash
 returns-in-Err-rest_store-clause-crash g c i d log all h =
     let disk = g.D.Disk in
-    kept_leaves disk.images disk.since disk.moment i d log h c.args.disk.now c.find_store.new.disk c.rest_store.new.disk
-    (read_leaves disk.images disk.since disk.moment i d log h c.args.disk.now c.find_store.new.disk all c.find_store.ensures.crash)
-    (c.rest_store.ensures.crash h.body h.lines
-    (stands_stored (disk.content c.find_store.new.disk) c.args.asked c.in-Ok.found (disk.images c.find_store.new.disk) i d log h
-    c.in-Ok.ensures.found c.in-Ok.ensures.synced (λ e here. all e (c.find_store.ensures.crash.now e here))))
+    opening_leaves disk.images disk.since disk.moment i d log h (disk.content c.find_store.new.disk) c.args.asked c.in-Ok.found
+    c.args.disk.now c.find_store.new.disk c.rest_store.new.disk all c.find_store.ensures.crash c.in-Ok.ensures.found
+    c.in-Ok.ensures.synced c.rest_store.ensures.crash
 
 pub returns-in-Err-rest_store-clause-told : goal.returns-in-Err-rest_store-clause-told
 returns-in-Err-rest_store-clause-told g c =
     let disk = g.D.Disk in
-    let old = disk.content c.args.disk.now in
-    let x = disk.content c.find_store.new.disk in
-    let new = disk.content c.rest_store.new.disk in
-    told_earlier old x new c.find_store.ensures.content
-    (told_before new x (disk.images c.rest_store.new.disk) (disk.images c.find_store.new.disk)
-    (g.met.D.Disk.as_read c.rest_store.new.disk) c.rest_store.ensures.told c.in-Ok.ensures.synced)
+    told_through (disk.content c.args.disk.now) (disk.content c.find_store.new.disk) (disk.content c.rest_store.new.disk)
+    (disk.images c.rest_store.new.disk) (disk.images c.find_store.new.disk) c.find_store.ensures.content
+    (g.met.D.Disk.as_read c.rest_store.new.disk) c.rest_store.ensures.told c.in-Ok.ensures.synced
 
 pub returns-in-Err-rest_store-clause-refused : goal.returns-in-Err-rest_store-clause-refused
 returns-in-Err-rest_store-clause-refused g c =
