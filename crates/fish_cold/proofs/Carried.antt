@@ -1,19 +1,20 @@
 -- Each number below the base of a disk that carries its table has its words.
 use Rattle.std.proofs.Common.{◌≡◌, ℕ, ◌+◌, ◌-◌, ◌*◌, ◌/◌, ◌%◌, ◌<◌, ◌≤◌, List, length, drop, inl, inr, refl, sym, ap}
 use Rattle.std.proofs.Common.{◌∙◌, subst, arith, length-drop}
-use Rattle.std.specs.Prelude.{Option, Some, Result, Ok, Err, IfSome}
+use Rattle.std.specs.Prelude.{Option, Some, Result, Ok, Err, IfSome, slice_get}
 use Rattle.std.proofs.lemmas.List.{length-take}
-use Rattle.fish_image.specs.Log.{Follows, behind_record, region, region_lines}
+use Rattle.fish_image.specs.Log.{Agrees, Follows, behind_record, region, region_lines}
+use Rattle.fish_image.specs.Reached.{Reached}
 use Rattle.fish_layout.specs.Pages.{page_of}
 use Rattle.fish_image.specs.Stands.{words_in, words_of}
 use Rattle.fish_image.proofs.Agreement.{agrees_first, agrees_number, agrees_within, front_whole, goes}
 use Rattle.fish_rule.specs.declared.view.Key.{Key}
 use Rattle.fish_slots.specs.Places.{lines_at}
 use Rattle.fish_slots.specs.Slots.{line_count, lines_of}
-use Rattle.fish_cold.specs.Carries.{CarriesTable, IsCarried, IsEntryAnswer, IsEntryOf, IsEntryRead}
+use Rattle.fish_cold.specs.Carries.{CarriesTable, IsCarried, IsEntryAnswer, IsEntryOf, IsEntryRead, IsPriorRecord}
 use Rattle.fish_catalog.specs.declared.entry.Entry.{Entry}
 use Rattle.fish_catalog.specs.declared.entry.Entry.TheVariants.{Stored}
-use Rattle.fish_cold.specs.Answers.{Answers, LoadsWords, Walks}
+use Rattle.fish_cold.specs.Answers.{Answers, IsRecordHead, LoadsWords, Walks}
 use Rattle.fish_cold.specs.Cached.{HasNodeOn, HasRegion, IsReadFrom, words_on}
 use Rattle.fish_cold.specs.declared.node.ColdNode.{ColdNode}
 use Rattle.fish_cold.proofs.ChainLemmas.{key_lower}
@@ -50,20 +51,17 @@ lines_room image m some =
     let behind = length-drop lines_at image in
     omega arith
 
-pub carried : (content : Option (List ℕ)) (k : Key) (cold : Cold) (h : CarriesTable content k cold) (n : ℕ) → n < k.number
-    → IsCarried cold h.image h.end n
-carried content k cold h n less =
+-- a region below the base is led to
+carried_at : (content : Option (List ℕ)) (k : Key) (cold : Cold) (h : CarriesTable content k cold) (n : ℕ) → n < k.number
+    → (t u : Reached) → Agrees h.prior.commit (words_in h.prior.lines) n t
+    → Follows h.prior.commit (words_in h.prior.lines) t u → IsCarried cold h.image h.end n
+carried_at content k cold h n less t u at f =
     let prior = h.prior in
     let commit = prior.commit in
     let counts = prior.has.counts in
     let w = words_in prior.lines in
     let is : w ≡ log_words h.image 0 (length w) =
     subst (λ l. words_in l ≡ log_words h.image 0 (length (words_in l))) counts.lines_are (lines_words h.image (line_count prior.body)) in
-    let found = agrees_first commit w n k.number h.end less prior.agrees in
-    let t = found.0 in
-    let at = found.1 in
-    let u = found.2.0 in
-    let f = found.2.1 in
     let g = goes commit t _ _ u f in
     let some = g.some in
     let front = front_whole commit t (drop (4 * t.line) w) u f in
@@ -96,6 +94,56 @@ carried content k cold h n less =
       entry = entry_in f;
       there = entry_at commit w k.number h.end prior.agrees n t u less at f;
       is = carried_entry commit w cold.base.line words pages t u f (omega arith);
+    }
+
+pub carried : (content : Option (List ℕ)) (k : Key) (cold : Cold) (h : CarriesTable content k cold) (n : ℕ) → n < k.number
+    → IsCarried cold h.image h.end n
+carried content k cold h n less =
+    let found = agrees_first h.prior.commit (words_in h.prior.lines) n k.number h.end less h.prior.agrees in
+    carried_at content k cold h n less found.0 found.2.0 found.1 found.2.1
+
+-- and the words there are those of the record of the prior part, which is the entry
+pub record IsRecordThere {content : Option (List ℕ)} {k : Key} {cold : Cold} (h : CarriesTable content k cold) (n : ℕ) (p : BodyParts)
+    : Type 0 where
+  pub rest : List ℕ
+  pub region_is : HasRegion cold h.image n rest
+  pub head : IsRecordHead p rest
+  pub there : slice_get h.end.entries n ≡ Some (Stored p.lane p.form p.payload)
+
+pub record_there : (content : Option (List ℕ)) (k : Key) (cold : Cold) (h : CarriesTable content k cold) (n : ℕ) (p : BodyParts)
+    → IsPriorRecord h.prior n p → IsRecordThere h n p
+unfolding carried_at
+record_there content k cold h n p stored =
+    let prior = h.prior in
+    let commit = prior.commit in
+    let counts = prior.has.counts in
+    let w = words_in prior.lines in
+    let is : w ≡ log_words h.image 0 (length w) =
+    subst (λ l. words_in l ≡ log_words h.image 0 (length (words_in l))) counts.lines_are (lines_words h.image (line_count prior.body)) in
+    let t = stored.at in
+    let u = behind_record commit t (region_lines (drop (4 * t.line) w)) p in
+    let f : Follows commit w t u = inr (p, stored.is, refl) in
+    let g = goes commit t _ _ u f in
+    let some = g.some in
+    let front = front_whole commit t (drop (4 * t.line) w) u f in
+    let behind = length-drop (4 * t.line) w in
+    let many : 0 < length w = omega arith in
+    let room : lines_at + 8 * length w ≤ length h.image =
+    subst (λ l. 0 < length (words_in l) → lines_at + 8 * length (words_in l) ≤ length h.image) counts.lines_are
+    (lines_room h.image (line_count prior.body)) many in
+    let all = agrees_within commit w k.number h.end prior.agrees in
+    let line = h.line in
+    let base = h.base_line in
+    let pages = are_pages h.image w cold.base.line is (omega arith) room in
+    let words : ℕ → List ℕ = λ q. page_words cold.base.line q h.image in
+    let ends = line_grows commit w k.number h.end prior.agrees n t u stored.few stored.agrees f in
+    let at = carried_at content k cold h n stored.few t u stored.agrees f in
+    record {
+      rest = at.rest;
+      region_is = at.region_is;
+      head = subst (IsBody p) (sym (region_on commit w cold.base.line words pages t (omega arith) (region_lines (drop (4 * t.line) w)) refl
+          some stored.is.kept.in_page (omega arith))) stored.is.body;
+      there = at.there;
     }
 
 -- what is answered for the words of an entry is the entry

@@ -183,7 +183,7 @@ impl Cold {
     }
 
     /// The key entry at a place below the base's line, or none where there is no place, or the entry's record has
-    /// a number below `from`. At most 38 loads, and one call of the disk.
+    /// a number below `from`. At most 38 loads, one where none is answered, and one call of the disk.
     pub fn cold_walk<D: Disk, L: Ledger>(
         &mut self,
         disk: &mut D,
@@ -205,6 +205,7 @@ impl Cold {
         ensures nowhere { place ≡ 0 → (result ≡ Ok None) × (self.new ≡ self.old) × (disk.new ≡ disk.old) }
         ensures reads { ReadsAtMost D.content D.images D.since D.moment D.faults self.old self.new disk.old disk.new result }
         ensures loads { loads.new ≤ loads.old + 38 }
+        ensures none { IfOk result (λ o. o ≡ None → loads.new ≤ loads.old + 1) }
 
         ensures damage { IfErr result (IsDamageOf below) }
     {
@@ -231,6 +232,7 @@ impl Cold {
         ensures looks { Looks D.content D.images D.since D.moment D.faults (asked.place / 131072) self.old self.new
             disk.old disk.new result }
         ensures loads { loads.new ≤ loads.old + 38 }
+        ensures none { IfOk result (λ o. o ≡ None → loads.new ≤ loads.old + 1) }
         ensures damage { IfErr result (IsDamageOf asked.below) }
     {
         let page = asked.place / PAGE_WORDS;

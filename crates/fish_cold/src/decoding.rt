@@ -1,6 +1,6 @@
 //! Entries and key entries, from the words of a page. Nothing is believed of the words.
 
-ghost use Rattle.std.specs.Prelude.{◌≡◌, ◌↔◌, ◌+◌, ◌*◌, ◌%◌, ◌^◌, ◌<◌, ◌≤◌, ℕ, Some};
+ghost use Rattle.std.specs.Prelude.{◌≡◌, ◌↔◌, ◌+◌, ◌*◌, ◌%◌, ◌^◌, ◌<◌, ◌≤◌, ℕ, None, Some};
 ghost use Rattle.std.specs.Prelude.{IfErr, IfOk, IfSome, IsSome, MatchOption, drop, length};
 ghost use Rattle.fish_catalog.specs.declared.entry.Entry.TheVariants.{Stored};
 ghost use Rattle.fish_cold.specs.Shown.{IsShownIn, Shows};
@@ -136,6 +136,7 @@ pub(crate) fn node_on<L: Ledger>(
     ensures ends { EndsWalk page.now.words.items (asked.place % 131072) asked.from result }
     ensures linkable { IfOk result (λ o. IfSome o (IsLinkable asked.place asked.below asked.from)) }
     ensures loads { loads.new ≤ loads.old + 38 }
+    ensures none { IfOk result (λ o. o ≡ None → loads.new ≤ loads.old + 1) }
     ensures damage { IfErr result (IsReadingOf asked.below) }
 {
     let at = (asked.place % PAGE_WORDS) as usize;
@@ -156,6 +157,7 @@ fn node_in<L: Ledger>(
     ensures ends { EndsWalk words.now at asked.from result }
     ensures linkable { IfOk result (λ o. IfSome o (IsLinkable asked.place asked.below asked.from)) }
     ensures loads { loads.new ≤ loads.old + 38 }
+    ensures none { IfOk result (λ o. o ≡ None → loads.new ≤ loads.old + 1) }
     ensures damage { IfErr result (IsReadingOf asked.below) }
 {
     match shown_at(words, at, asked.below, asked.from) {

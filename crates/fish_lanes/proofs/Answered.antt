@@ -152,7 +152,7 @@ module _ (v u x : View) (ask : Ask) (from to : ℕ) (opens : List ℕ) (range : 
       pick : (n : ℕ) → from ≤ n → n < to → k.to ≤ n → Dec (Among n opens) → Among n opens
       pick n above below past (yes m) = m
       pick n above below past (no none) =
-          (let less = inside.entries n (range.others (omega arith) n above below none) in absurd (omega arith))
+          (let less = inside.entries n (range.others n (omega arith) above below none) in absurd (omega arith))
 
   -- in the moment of the close the entries are what the words spell
   spelled : IsSpelled c.moment from to opens (map selected remains.log)
@@ -178,7 +178,7 @@ pub range_published : (v u : View) (ask : Ask) (from to : ℕ) (opens : List ℕ
     → IsPublished u n
 range_published v u ask from to opens n range zero_is above below closed = record {
   counted = (let a = range.within in let b = range.claimed in omega arith);
-  entry = range.others (omega arith) n above below closed;
+  entry = range.others n (omega arith) above below closed;
 }
 
 -- ---- names
@@ -361,6 +361,8 @@ refused_fits v u known ask (refusal.NotCovered from to) version why h is at = re
   refused = subst (λ (z : ScanRefusal). IsRefused v u known ask z) (ap (refusal_of version) (same_Some _ _ is)) h;
 }
 refused_fits v u known ask (refusal.ColdRange base) version why h is at = absurd cc
+refused_fits v u known ask refusal.DiskFault version why h is at = absurd cc
+refused_fits v u known ask (refusal.Damaged number) version why h is at = absurd cc
 refused_fits v u known ask refusal.OutOfMemory version why h is at = absurd cc
 
 -- ---- items

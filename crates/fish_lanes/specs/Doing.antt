@@ -47,12 +47,14 @@ refusal_of version cause.UnknownName = refusal.UnknownName version
 refusal_of version (cause.EmptyRange from to) = refusal.EmptyRange from to
 refusal_of version (cause.NotCovered from to) = refusal.NotCovered from to
 
--- and what an item tells of a refusal, which isn't one for want of memory or of a range below the log's first number
+-- and what an item tells of a refusal, which isn't one for want of memory, of a range below the log's first number, or of a file
 abbrev pub cause_of : ScanRefusal → Option ScanCause
 cause_of (refusal.UnknownName version) = Some cause.UnknownName
 cause_of (refusal.EmptyRange from to) = Some (cause.EmptyRange from to)
 cause_of (refusal.NotCovered from to) = Some (cause.NotCovered from to)
 cause_of (refusal.ColdRange base) = None
+cause_of refusal.DiskFault = None
+cause_of (refusal.Damaged number) = None
 cause_of refusal.OutOfMemory = None
 
 -- the items of answers

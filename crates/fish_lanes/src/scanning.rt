@@ -146,7 +146,7 @@ fn refused(alloc: Global, ask: &Ask, refusal: ScanRefusal) -> Result<(Text, Scan
 }
 
 /// Why a scan was refused, as an item tells it; none where memory ran out. A range below the log's first number is
-/// refused of no log that begins at 0.
+/// refused of no log that begins at 0, and a scan that reads no file meets no fault of it.
 fn cause_of(refusal: ScanRefusal) -> Option<ScanCause>
     ensures { result ≡ cause_of refusal }
 {
@@ -154,7 +154,10 @@ fn cause_of(refusal: ScanRefusal) -> Option<ScanCause>
         ScanRefusal::UnknownName { .. } => Some(ScanCause::UnknownName),
         ScanRefusal::EmptyRange { from, to } => Some(ScanCause::EmptyRange { from, to }),
         ScanRefusal::NotCovered { from, to } => Some(ScanCause::NotCovered { from, to }),
-        ScanRefusal::ColdRange { .. } | ScanRefusal::OutOfMemory => None,
+        ScanRefusal::ColdRange { .. }
+        | ScanRefusal::DiskFault
+        | ScanRefusal::Damaged { .. }
+        | ScanRefusal::OutOfMemory => None,
     }
 }
 

@@ -39,8 +39,8 @@ use Rattle.fish_scan.specs.Matching.{Finds}
 use Rattle.fish_scan.specs.Pieces.{AreReadable, IsReadable}
 use Rattle.fish_scan.specs.Reach.{IsExact, IsRange, IsReach, end_of}
 use Rattle.fish_scan.specs.Reading.{Adds}
-use Rattle.fish_scan.specs.Scans.{IsAnswer, IsAsked, IsCold, IsCovered, IsExplained, IsPlan, IsPlanRefused, IsPlanned, IsPrepared, IsQuery}
-use Rattle.fish_scan.specs.Scans.{IsRefused, OnlyPlans, OnlyScans, first_asked}
+use Rattle.fish_scan.specs.Scans.{IsAnswer, IsAsked, IsCovered, IsExplained, IsPlan, IsPlanRefused, IsPlanned, IsPrepared, IsQuery}
+use Rattle.fish_scan.specs.Scans.{IsUnprepared, OnlyPlans, OnlyScans, first_asked}
 use Rattle.fish_scan.specs.declared.ask.Ask.{Ask}
 use Rattle.fish_scan.specs.declared.ask.How.{How}
 use Rattle.fish_scan.specs.declared.ask.How.TheVariants as how
@@ -172,8 +172,8 @@ range_within v m u t from to first last opens before after h = record {
   rise = h.rise;
   were = λ n among. open_sooner v m t n before.learns before.clock (open_later m u t n after.clock (h.were n among));
   apart = λ a b lane f g p q one other. always_later u t _ after.learns (h.apart a b lane f g p q one other);
-  others = λ base n above below closed. entry_later u t n after.learns
-      (h.others (subst (λ (z : Key). z.number ≤ first) (sym before.learns.about) base) n above below closed);
+  others = λ n base above below closed. entry_later u t n after.learns
+      (h.others n (subst (λ (z : Key). z.number ≤ n) (sym before.learns.about) base) above below closed);
 }
 
 -- a pass that is alone stays alone
@@ -199,9 +199,10 @@ pub reach_within : (v m u t : View) (ask : Ask) (first : ℕ) (reach : Reach) �
     → first ≡ first_asked ask → IsReach m u first ask.to reach → IsReach v t (first_asked ask) ask.to reach
 unfolding range_within
 reach_within v m u t ask first reach before tail after is h =
-    let about = ap (λ (z : Key). z.number) after.learns.about in subst (λ (z : ℕ). IsReach v t z ask.to reach) is (record {
+    subst (λ (z : ℕ). IsReach v t z ask.to reach) is (record {
       range = range_within v m u t first ask.to reach.from reach.to reach.opens before after h.range;
-      reached = λ base. reached_still u t reach after.learns (h.reached (omega arith));
+      reached = reached_still u t reach after.learns h.reached;
+      opened = λ n among. subst (λ (z : Key). z.number ≤ n) (sym after.learns.about) (h.opened n among);
       stops_at = stops_within IsEnd v m u t reach.settled h.range.count before.learns before.clock h.stops_at after.clock;
       settled = (let a = h.settled in let b = before.learns.settled in omega arith);
       reaches = (let a = h.reaches in let b = after.learns.settled in omega arith);
@@ -309,11 +310,11 @@ module _ (v u : View) (known : Known) (def : Definition) (text : List ℕ) (reac
 
 -- ---- refusals
 
--- why there is no plan is why there is no answer
+-- why there is no plan
 pub plan_refused : (v m u t : View) (known : Known) (ask : Ask) (place : ℕ) (reach : Reach) (r : ScanRefusal)
     (asked : IsAsked v t known ask place) → Learns v m → Learns u t → IsReach v t (first_asked ask) ask.to reach
     → IsPlanRefused m u (rows_of known) asked.named.newest.listed.def ask.how reach.from reach.settled reach.to r
-    → IsRefused v t known ask r
+    → IsUnprepared v t known ask r
 plan_refused v m u t known ask place reach (refusal.NotCovered first last) asked before after reached h = (
   h.0,
   record {
@@ -337,6 +338,8 @@ plan_refused v m u t known ask place reach refusal.OutOfMemory asked before afte
 plan_refused v m u t known ask place reach (refusal.UnknownName version) asked before after reached h = absurd h
 plan_refused v m u t known ask place reach (refusal.EmptyRange a b) asked before after reached h = absurd h
 plan_refused v m u t known ask place reach (refusal.ColdRange base) asked before after reached h = absurd h
+plan_refused v m u t known ask place reach refusal.DiskFault asked before after reached h = absurd h
+plan_refused v m u t known ask place reach (refusal.Damaged number) asked before after reached h = absurd h
 
 -- what comes of a refusal
 pub err_gives : {A E : Type 0} (P Q : E → Type 0) (r : Result A E) → IfErr r P → ((e : E) → P e → Q e) → IfErr r Q
@@ -374,66 +377,63 @@ planned_at v u t known ask place reach plan asked more reached is = record {
   plan_is = is;
 }
 
--- and where the range doesn't begin below the log's first number, prepared what reads it
+-- and prepared what reads it
 pub prepared_at : (v u t : View) (known : Known) (ask : Ask) (place : ℕ) (reach : Reach) (plan : List Piece) (p : Prepared)
     (asked : IsAsked v u known ask place) → OnlyScans u t → IsReach v t (first_asked ask) ask.to reach
     → IsPlan v t (rows_of known) asked.named.newest.listed.def ask.how reach.from reach.settled reach.to plan
-    → t.about.number ≤ reach.from → IsQuery asked.named.newest.listed.def ask reach p.query → p.plan ≡ plan
+    → IsQuery asked.named.newest.listed.def ask reach p.query → p.plan ≡ plan
     → IsPrepared v t known ask p
 unfolding asked_later
-prepared_at v u t known ask place reach plan p asked more reached is above query same = record {
+prepared_at v u t known ask place reach plan p asked more reached is query same = record {
   place = place;
   asked = asked_later v u t known ask place more asked;
   means = query.means;
   value = query.value;
   reach = subst (IsReach v t (first_asked ask) ask.to) (sym query.reach_is) reached;
-  base = subst (λ (z : Reach). t.about.number ≤ z.from) (sym query.reach_is) above;
   plan = subst (λ (z : Reach × List Piece). IsPlan v t (rows_of known) asked.named.newest.listed.def ask.how z.0.from
       z.0.settled z.0.to z.1) (λ i. (sym query.reach_is i, sym same i)) is;
 }
 
 -- whatever the call answers
-pub prepared_all : (v t : View) (known : Known) (ask : Ask) (base : ℕ) (reach : Reach) (plan : List Piece) {text : List ℕ}
+pub prepared_all : (v t : View) (known : Known) (ask : Ask) (reach : Reach) (plan : List Piece) {text : List ℕ}
     (r : Result Prepared ScanRefusal) → IfOk r (λ p. IsQuery text ask reach p.query) → IfOk r (λ p. p.plan ≡ plan)
-    → IfOk r (λ p. base ≤ reach.from)
-    → ((p : Prepared) → IsQuery text ask reach p.query → p.plan ≡ plan → base ≤ reach.from → IsPrepared v t known ask p)
+    → ((p : Prepared) → IsQuery text ask reach p.query → p.plan ≡ plan → IsPrepared v t known ask p)
     → IfOk r (IsPrepared v t known ask)
-prepared_all v t known ask base reach plan (Ok p) query same above f = f p query same above
-prepared_all v t known ask base reach plan (Err e) query same above f = tt
+prepared_all v t known ask reach plan (Ok p) query same f = f p query same
+prepared_all v t known ask reach plan (Err e) query same f = tt
 
--- else it is refused for that
-pub cold_refused : (v t : View) (known : Known) (ask : Ask) (base from to : ℕ) (opens : List ℕ) (plan : List Piece)
-    (r : ScanRefusal) → base ≡ t.about.number → IsPlanned v t known ask from to opens plan → IsCold base from r
-    → IsRefused v t known ask r
-cold_refused v t known ask base from to opens plan (refusal.ColdRange found) is planned cold =
-    (cold.0 ∙ is, (from, to, opens, plan, (let same = cold.0 in let less = cold.1 in omega arith), planned))
-cold_refused v t known ask base from to opens plan refusal.OutOfMemory is planned cold = tt
-cold_refused v t known ask base from to opens plan (refusal.UnknownName version) is planned cold = absurd cold
-cold_refused v t known ask base from to opens plan (refusal.EmptyRange a b) is planned cold = absurd cold
-cold_refused v t known ask base from to opens plan (refusal.NotCovered a b) is planned cold = absurd cold
+-- memory may be wanting for it
+pub memory_refused : (v t : View) (known : Known) (ask : Ask) (r : ScanRefusal) → r ≡ refusal.OutOfMemory → IsUnprepared v t known ask r
+memory_refused v t known ask r is = subst (IsUnprepared v t known ask) (sym is) tt
 
 -- how the range is read is so later
-unfoldable pub explained_later : (v u t : View) (known : Known) (ask : Ask) (p : Prepared) → OnlyScans u t
+unfoldable pub planned_later : (v u t : View) (known : Known) (ask : Ask) (p : Prepared) → OnlyScans u t
     → IsPrepared v u known ask p
-    → IsExplained v t known ask p.query.reach.from p.query.reach.to p.query.reach.opens p.plan
+    → IsPlanned v t known ask p.query.reach.from p.query.reach.to p.query.reach.opens p.plan
 unfolding asked_later range_within
-explained_later v u t known ask p after h = record {
-  planned = record {
-    place = h.place;
-    asked = asked_later v u t known ask h.place after h.asked;
-    range = range_within v v u t _ _ _ _ _
-        (record { learns = learns_self v; clock = later_self v.clock; frame = refl; outside = λ e. e }) after
-        h.reach.range;
-    settled = p.query.reach.settled;
-    stops_at = stops_within IsEnd v v u t p.query.reach.settled h.reach.range.count (learns_self v) (later_self v.clock)
-        h.reach.stops_at after.clock;
-    least = h.reach.settled;
-    most = (let a = h.reach.reaches in let b = after.learns.settled in omega arith);
-    exact = λ alone. exact_within v v u t ask.to h.reach.range.count p.query.reach.settled p.query.reach.to p.query.reach.opens
-        refl after.learns (h.reach.exact alone);
-    plan_is = plan_within v v u t _ _ ask.how _ _ _ _ (learns_self v) after.learns h.plan;
-  };
-  base = subst (λ (z : Key). z.number ≤ p.query.reach.from) (sym after.learns.about) h.base;
+planned_later v u t known ask p after h = record {
+  place = h.place;
+  asked = asked_later v u t known ask h.place after h.asked;
+  range = range_within v v u t _ _ _ _ _
+      (record { learns = learns_self v; clock = later_self v.clock; frame = refl; outside = λ e. e }) after
+      h.reach.range;
+  settled = p.query.reach.settled;
+  stops_at = stops_within IsEnd v v u t p.query.reach.settled h.reach.range.count (learns_self v) (later_self v.clock)
+      h.reach.stops_at after.clock;
+  least = h.reach.settled;
+  most = (let a = h.reach.reaches in let b = after.learns.settled in omega arith);
+  exact = λ alone. exact_within v v u t ask.to h.reach.range.count p.query.reach.settled p.query.reach.to p.query.reach.opens
+      refl after.learns (h.reach.exact alone);
+  plan_is = plan_within v v u t _ _ ask.how _ _ _ _ (learns_self v) after.learns h.plan;
+}
+
+-- and where it doesn't begin below the log's first number, how it would be
+unfoldable pub explained_later : (v u t : View) (known : Known) (ask : Ask) (p : Prepared) → OnlyScans u t
+    → IsPrepared v u known ask p → u.about.number ≤ p.query.reach.from
+    → IsExplained v t known ask p.query.reach.from p.query.reach.to p.query.reach.opens p.plan
+explained_later v u t known ask p after h base = record {
+  planned = planned_later v u t known ask p after h;
+  base = subst (λ (z : Key). z.number ≤ p.query.reach.from) (sym after.learns.about) base;
 }
 
 -- rows behind none
@@ -455,7 +455,7 @@ prepared_readable v u known ask p h =
 
 -- and the rows that were found in them are those of an answer
 pub answer_found : (v u t : View) (known : Known) (ask : Ask) (p : Prepared) (rows : List Row) → OnlyScans u t
-    → IsPrepared v u known ask p
+    → IsPrepared v u known ask p → u.about.number ≤ p.query.reach.from
     → Finds t (definition_of p.query.def) ask.value p.query.reach.from p.query.reach.to p.query.reach.opens rows
     → IsAnswer v t known ask (record {
       from = p.query.reach.from;
@@ -464,9 +464,9 @@ pub answer_found : (v u t : View) (known : Known) (ask : Ask) (p : Prepared) (ro
       rows = rows;
       plan = p.plan;
     })
-unfolding asked_later explained_later
-answer_found v u t known ask p rows after h found = record {
-  explained = explained_later v u t known ask p after h;
+unfolding asked_later planned_later explained_later
+answer_found v u t known ask p rows after h base found = record {
+  explained = explained_later v u t known ask p after h base;
   def = definition_of p.query.def;
   means = h.means;
   found = found;

@@ -12,7 +12,7 @@ use Rattle.fish_scan.proofs.Telling.{adds_both, adds_later, adds_none}
 use Rattle.fish_scan.proofs.Walks.{index_later}
 use Rattle.fish_scan.proofs.Working.{take_all}
 use Rattle.fish_scan.specs.Parses.{HasParsed, HasParsedPiece}
-use Rattle.fish_scan.specs.Pieces.{IsReadable, full_numbers, full_of}
+use Rattle.fish_scan.specs.Pieces.{AreReadable, IsReadable, full_numbers, full_of}
 use Rattle.fish_scan.specs.Reading.{Adds}
 use Rattle.fish_scan.specs.declared.reach.Reach.{Reach}
 use Rattle.fish_value.specs.declared.row.Row.{Row}
@@ -24,6 +24,12 @@ pub readable_later : (v u : View) (def : Definition) (reach : Reach) (piece : Pi
 readable_later v u def reach (Index id from to) learns h = (h.0, h.1, index_later v u def id from to learns h.2)
 readable_later v u def reach (Full from to) learns h = h
 
+-- so can all of them
+pub all_readable_later : (v u : View) (def : Definition) (reach : Reach) (pieces : List Piece) → Learns v u
+    → AreReadable v def reach pieces → AreReadable u def reach pieces
+all_readable_later v u def reach pieces learns h place piece there =
+    readable_later v u def reach piece learns (h place piece there)
+
 -- pieces that fill a range fill none that begins behind its end
 fill_order : (pieces : List Piece) (from to : ℕ) → Fill pieces from to → from ≤ to
 fill_order [] from to fill = omega arith
@@ -31,7 +37,7 @@ fill_order (x ∷ pieces) from to fill =
     let below = fill_order pieces from (piece_from x) fill.2 in let less = fill.1 in omega arith
 
 -- the piece at a place, and those behind it
-fill_at : (pieces : List Piece) (n from to : ℕ) (x : Piece) → slice_get pieces n ≡ Some x → Fill (drop n pieces) from to
+pub fill_at : (pieces : List Piece) (n from to : ℕ) (x : Piece) → slice_get pieces n ≡ Some x → Fill (drop n pieces) from to
     → Fill (x ∷ drop (suc n) pieces) from to
 fill_at [] n from to x there fill = absurd cc
 fill_at (y ∷ pieces) zero from to x there fill =
@@ -39,7 +45,7 @@ fill_at (y ∷ pieces) zero from to x there fill =
 fill_at (y ∷ pieces) (suc n) from to x there fill = fill_at pieces n from to x there fill
 
 -- behind the last place there is none
-fill_end : (pieces : List Piece) (n from to : ℕ) → length pieces ≤ n → Fill (drop n pieces) from to → from ≡ to
+pub fill_end : (pieces : List Piece) (n from to : ℕ) → length pieces ≤ n → Fill (drop n pieces) from to → from ≡ to
 fill_end [] zero from to past fill = fill
 fill_end [] (suc n) from to past fill = fill
 fill_end (x ∷ pieces) zero from to past fill = absurd (omega arith)
@@ -53,18 +59,18 @@ full_at (y ∷ pieces) zero x there = ap (λ (z : Piece). full_of z + full_numbe
 full_at (y ∷ pieces) (suc n) x there = full_at pieces n x there
 
 -- the numbers from a bound on were read and the records of full pieces parsed, and the pieces from a place on fill what is below
-pub record HasRead (v : View) (def : Definition) (value : Value) (reach : Reach) (pieces : List Piece) (n : ℕ)
+pub record HasRead (v : View) (def : Definition) (value : Value) (low : ℕ) (reach : Reach) (pieces : List Piece) (n : ℕ)
     (before after : List Row) (old new : ℕ) : Type 0 where
   pub bound : ℕ
-  pub fill : Fill (drop n pieces) reach.from bound
+  pub fill : Fill (drop n pieces) low bound
   pub below : bound ≤ reach.to
   pub rows : Adds v def value bound reach.to reach.opens before after
   pub parsed : HasParsed v reach.opens (take n pieces) bound reach.to old new
 
 -- none yet
-pub read_none : (v : View) (def : Definition) (value : Value) (reach : Reach) (pieces : List Piece) (rows : List Row) (old : ℕ)
-    → Fill pieces reach.from reach.to → HasRead v def value reach pieces 0 rows rows old old
-read_none v def value reach pieces rows old fill = record {
+pub read_none : (v : View) (def : Definition) (value : Value) (low : ℕ) (reach : Reach) (pieces : List Piece) (rows : List Row) (old : ℕ)
+    → Fill pieces low reach.to → HasRead v def value low reach pieces 0 rows rows old old
+read_none v def value low reach pieces rows old fill = record {
   bound = reach.to;
   fill = fill;
   below = omega arith;
@@ -73,13 +79,13 @@ read_none v def value reach pieces rows old fill = record {
 }
 
 -- one piece more
-pub read_more : (v u : View) (def : Definition) (value : Value) (reach : Reach) (pieces : List Piece) (n : ℕ) (x : Piece)
+pub read_more : (v u : View) (def : Definition) (value : Value) (low : ℕ) (reach : Reach) (pieces : List Piece) (n : ℕ) (x : Piece)
     (before rows after : List Row) (old late new : ℕ) → Learns v u → slice_get pieces n ≡ Some x
-    → HasRead v def value reach pieces n before rows old late
+    → HasRead v def value low reach pieces n before rows old late
     → Adds u def value (piece_from x) (piece_to x) reach.opens rows after → HasParsedPiece u reach.opens x late new
-    → HasRead u def value reach pieces (suc n) before after old new
-read_more v u def value reach pieces n x before rows after old late new learns there h adds parsed =
-    let f = fill_at pieces n reach.from h.bound x there h.fill in
+    → HasRead u def value low reach pieces (suc n) before after old new
+read_more v u def value low reach pieces n x before rows after old late new learns there h adds parsed =
+    let f = fill_at pieces n low h.bound x there h.fill in
     let less = f.1 in
     let below = h.below in
     record {
@@ -94,17 +100,17 @@ read_more v u def value reach pieces n x before rows after old late new learns t
     }
 
 -- all of them
-pub read_all : (v : View) (def : Definition) (value : Value) (reach : Reach) (pieces : List Piece) (n : ℕ)
-    (before after : List Row) (old new : ℕ) → length pieces ≤ n → HasRead v def value reach pieces n before after old new
-    → Adds v def value reach.from reach.to reach.opens before after
-read_all v def value reach pieces n before after old new past h =
+pub read_all : (v : View) (def : Definition) (value : Value) (low : ℕ) (reach : Reach) (pieces : List Piece) (n : ℕ)
+    (before after : List Row) (old new : ℕ) → length pieces ≤ n → HasRead v def value low reach pieces n before after old new
+    → Adds v def value low reach.to reach.opens before after
+read_all v def value low reach pieces n before after old new past h =
     subst (λ (z : ℕ). Adds v def value z reach.to reach.opens before after)
-    (sym (fill_end pieces n reach.from h.bound past h.fill)) h.rows
+    (sym (fill_end pieces n low h.bound past h.fill)) h.rows
 
 -- and all that were to be parsed were
-pub parsed_all : (v : View) (def : Definition) (value : Value) (reach : Reach) (pieces : List Piece) (n : ℕ)
-    (before after : List Row) (old new : ℕ) → length pieces ≤ n → HasRead v def value reach pieces n before after old new
-    → HasParsed v reach.opens pieces reach.from reach.to old new
-parsed_all v def value reach pieces n before after old new past h =
+pub parsed_all : (v : View) (def : Definition) (value : Value) (low : ℕ) (reach : Reach) (pieces : List Piece) (n : ℕ)
+    (before after : List Row) (old new : ℕ) → length pieces ≤ n → HasRead v def value low reach pieces n before after old new
+    → HasParsed v reach.opens pieces low reach.to old new
+parsed_all v def value low reach pieces n before after old new past h =
     subst (λ (z : List Piece × ℕ). HasParsed v reach.opens z.0 z.1 reach.to old new)
-    (λ i. (take_all pieces n past i, sym (fill_end pieces n reach.from h.bound past h.fill) i)) h.parsed
+    (λ i. (take_all pieces n past i, sym (fill_end pieces n low h.bound past h.fill) i)) h.parsed

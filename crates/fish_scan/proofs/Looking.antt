@@ -1,6 +1,7 @@
 -- Numbers that a scan looks at, one after the other.
 use Rattle.std.proofs.Common.{◌≡◌, ◌≢◌, ℕ, ◌+◌, ◌<◌, ◌≤◌, suc, List, [], ◌∷◌, ◌++◌, length, refl, sym, ap, ◌∙◌, subst}
 use Rattle.std.proofs.Common.{⊎_elim, inl, inr, ◌⊎◌, arith, Some, None, Option, slice_get, min, max}
+use Rattle.std.proofs.lemmas.Option.{slice_get_within}
 use Rattle.fish_rule.proofs.laws.Clocks.{later_both, later_self, loaded_within}
 use Rattle.fish_rule.proofs.laws.Alone.{tells_mark}
 use Rattle.fish_rule.proofs.laws.Lists.{among_left, among_right}
@@ -223,26 +224,25 @@ module _ (a b c d : View) (from : ℕ) (to : Option ℕ) (settled count end base
   looked_all : OnlyLooks b d
   looked_all = looked_both b c d cuts looked
 
-  -- what was looked at can be read where it doesn't begin below the base
-  reach_reached : end ≤ count → d.about.number ≤ reach.from → IsReached d reach
-  reach_reached less above =
+  -- what was looked at can be read
+  reach_reached : end ≤ count → IsReached d reach
+  reach_reached less =
       let many = looks.few in
       let more = looked_all.settled in
       let all = looked_all.count in
       let tail_is = tail.3 in
       record {
-        base = above;
         settled = omega arith;
         counted = omega arith;
         many = omega arith;
         ordered = omega arith;
-        below = λ n after before. below n after before;
+        below = below;
         above = omega arith;
         seen = subst (λ (z : ℕ). AreSeen d z reach.looks.items reach.opens) (sym begins) looks.seen;
       }
     where
-      below : (n : ℕ) → reach.from ≤ n → n < reach.first → n < reach.settled
-      below n after before =
+      below : (n : ℕ) → d.about.number ≤ n → reach.from ≤ n → n < reach.first → n < reach.settled
+      below n base after before =
           let about = ap (λ (z : Key). z.number) (looked_all.extends.learns.about ∙ settles.learns.about) in
           omega arith
 
@@ -266,11 +266,12 @@ module _ (a b c d : View) (from : ℕ) (to : Option ℕ) (settled count end base
       were = λ n among. open_sooner a c d n (learns_both a b c settles.learns cuts.extends.learns)
           (later_both a.clock b.clock c.clock settles.clock cuts.extends.clock) (looks.were n among);
       apart = listed_apart d count reach.opens looks.listed;
-      others = λ above n least most closed. reached_word d reach (reach_reached less
-          (subst (λ (z : Key). z.number ≤ reach.from) (sym (looked_all.extends.learns.about ∙ settles.learns.about)) above))
-          n least most closed;
+      others = λ n above least most closed. reached_word d reach (reach_reached less) n
+          (subst (λ (z : Key). z.number ≤ n) (sym (looked_all.extends.learns.about ∙ settles.learns.about)) above)
+          least most closed;
     };
     reached = reach_reached less;
+    opened = opened;
     stops_at = subst (λ (z : ℕ). StopsAt IsEnd a d z count) (sym settled_is)
         (stops_within IsEnd a a b d settled count (learns_self a) (later_self a.clock) stops looked_all.extends.clock);
     settled = omega arith;
@@ -283,6 +284,16 @@ module _ (a b c d : View) (from : ℕ) (to : Option ℕ) (settled count end base
 
       less : end ≤ count
       less = omega arith
+
+      -- a number that was looked at is none below the base
+      opened : (n : ℕ) → Among n reach.opens → d.about.number ≤ n
+      opened n among =
+          let t = looks.seen.open_ones n among in
+          let is = t.1 in
+          let within = slice_get_within reach.looks.items t.0 look.Unfinished t.2 in
+          let most = looks.few in
+          let about = ap (λ (z : Key). z.number) (looked_all.extends.learns.about ∙ settles.learns.about) in
+          omega arith
 
       -- where no look told of a mark, the range ends where it is asked to, or was cut at one
       at_end : first + length reach.looks.items ≡ end → IsCut c (max base settled) from (end_of to count) end

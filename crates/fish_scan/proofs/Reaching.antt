@@ -51,12 +51,11 @@ reached_still v u reach learns h =
     let more = learns.settled in
     let many = learns.count in
     record {
-      base = subst (λ (z : Key). z.number ≤ reach.from) (sym learns.about) h.base;
       settled = omega arith;
       counted = omega arith;
       many = h.many;
       ordered = h.ordered;
-      below = h.below;
+      below = λ n base. h.below n (subst (λ (z : Key). z.number ≤ n) learns.about base);
       above = h.above;
       seen = seen_still v u reach.first reach.looks.items reach.opens learns h.seen;
     }
@@ -110,16 +109,16 @@ found_word v n kind other h u learns w rule seat at =
       unmarked = λ m. other (code_once kind Mark (sym is ∙ m));
     }
 
-module _ (v : View) (reach : Reach) (h : IsReached v reach) (n : ℕ) (above : reach.from ≤ n) (below : n < reach.to)
-    (closed : ¬ Among n reach.opens) where
+module _ (v : View) (reach : Reach) (h : IsReached v reach) (n : ℕ) (base : v.about.number ≤ n) (above : reach.from ≤ n)
+    (below : n < reach.to) (closed : ¬ Among n reach.opens) where
   -- what is settled is
   settled_word : n < reach.first → Always v (λ k w. IsEntryWord (w.dir n))
   settled_word less u learns w rule seat at =
       let floor = rule.floors seat u at in
       let more = learns.settled in
       let known = h.settled in
-      let here = h.below n above less in
-      let base : u.about.number ≤ reach.from = subst (λ (z : Key). z.number ≤ reach.from) (sym learns.about) h.base in
+      let here = h.below n base above less in
+      let first : u.about.number ≤ n = subst (λ (z : Key). z.number ≤ n) (sym learns.about) base in
       rule.settling.below n (omega arith) (omega arith)
 
   -- and so is what a look told of

@@ -1,6 +1,5 @@
 -- Falling rows are told by what is among them, so what was found is the selection.
-use Rattle.std.proofs.Common.{◌≡◌, ℕ, ◌<◌, ◌≤◌, zero, suc, List, [], ◌∷◌, length, refl, sym, ap, inl, inr, arith}
-use Rattle.std.specs.Prelude.{Contains}
+use Rattle.std.proofs.Common.{◌≡◌, ℕ, ◌<◌, ◌≤◌, List, [], ◌∷◌, length, refl, sym, ap, inl, inr, arith}
 use Rattle.fish_lang.specs.Definition.{Definition}
 use Rattle.fish_psf.proofs.SelectLemmas.{selects}
 use Rattle.fish_psf.specs.Records.{evaluation}
@@ -33,7 +32,7 @@ first_same x y ys g same (inl e) = sym e
 first_same x y ys g same (inr m) = absurd (let less = falls_below y.number ys x g m in omega arith)
 
 -- falling rows of which each is among the others are these
-falls_same : (m n : ℕ) (xs ys : List Row) → FallsBelow m xs → FallsBelow n ys
+pub falls_same : (m n : ℕ) (xs ys : List Row) → FallsBelow m xs → FallsBelow n ys
     → ((z : Row) → Among z xs → Among z ys) → ((z : Row) → Among z ys → Among z xs) → xs ≡ ys
 falls_same m n [] [] f g in_ on = refl
 falls_same m n [] (y ∷ ys) f g in_ on = absurd (on y (inl refl))

@@ -1,5 +1,5 @@
 -- Which records of a range have a value: what a scan finds, in every moment of the log.
-use Rattle.std.specs.Prelude.{ℕ, ◌≡◌, ◌<◌, ◌≤◌, List, Some}
+use Rattle.std.specs.Prelude.{ℕ, ◌<◌, ◌≤◌, List}
 use Rattle.fish_catalog.specs.declared.entry.Entry.TheVariants as entry
 use Rattle.fish_lang.specs.Definition.{Definition}
 use Rattle.fish_psf.specs.Records.{Gives}

@@ -1,11 +1,12 @@
 -- How far a scan looks, and what it found there.
-use Rattle.std.specs.Prelude.{ℕ, ◌≡◌, ◌≢◌, ◌+◌, ◌<◌, ◌≤◌, ◌⊎◌, List, [], ◌∷◌, Option, Some, length, min, suc, slice_get}
+use Rattle.std.specs.Prelude.{ℕ, ◌≡◌, ◌≢◌, ◌+◌, ◌<◌, ◌≤◌, ◌⊎◌, List, [], ◌∷◌, Option, Some, length, max, min, suc, slice_get}
 use Rattle.std.specs.Option.{unwrap_or}
 use Rattle.fish_rule.specs.Clocks.{HasLoaded}
 use Rattle.fish_rule.specs.Logs.{TellsMark}
 use Rattle.fish_rule.specs.LoadSteps.{IsAlone}
 use Rattle.fish_rule.specs.OpenNumbers.{AreApart}
 use Rattle.fish_rule.specs.Views.{Among}
+use Rattle.fish_rule.specs.declared.view.Key.{Key}
 use Rattle.fish_rule.specs.declared.view.Noted.TheVariants.{Directory}
 use Rattle.fish_rule.specs.declared.view.View.{View}
 use Rattle.fish_scan.specs.declared.reach.Reach.{Reach}
@@ -21,16 +22,19 @@ pub record AreSeen (v : View) (first : ℕ) (looks : List Look) (opens : List �
   pub unfinished : (i : ℕ) → slice_get looks i ≡ Some Unfinished → Among (first + i) opens
   pub open_ones : (n : ℕ) → Among n opens → (i : ℕ) × (n ≡ first + i) × (slice_get looks i ≡ Some Unfinished)
 
--- the numbers of a range were counted; up to a first one they are settled, and from there on each was looked at
+-- the numbers of a range were counted; up to a first one those of the table are settled, and from there on each was looked at
 pub record IsReached (v : View) (reach : Reach) : Type 0 where
-  pub base : v.about.number ≤ reach.from
   pub settled : reach.settled ≤ v.learned.settled
   pub counted : reach.to ≤ v.learned.count
   pub many : reach.first + length reach.looks.items ≡ reach.to
   pub ordered : reach.from ≤ reach.to
-  pub below : (n : ℕ) → reach.from ≤ n → n < reach.first → n < reach.settled
+  pub below : (n : ℕ) → v.about.number ≤ n → reach.from ≤ n → n < reach.first → n < reach.settled
   pub above : min reach.settled reach.to ≤ reach.first
   pub seen : AreSeen v reach.first reach.looks.items reach.opens
+
+-- where the part of the range begins that is in the table, which is at the range's end where no number of it is
+abbrev pub first_in : Key → Reach → ℕ
+first_in k reach = min (max reach.from k.number) reach.to
 
 -- ---- what is found on the way
 
@@ -79,9 +83,8 @@ pub record IsRange (v u : View) (from : ℕ) (to : Option ℕ) (first last : ℕ
   pub rise : Rise first last opens
   pub were : (n : ℕ) → Among n opens → WasOpen v u n
   pub apart : AreApart u opens
-  -- and every other number of the range is published, and no mark
-  pub others : v.about.number ≤ first → (n : ℕ) → first ≤ n → n < last → ¬ Among n opens
-      → KnowsEntry u n
+  -- and every other number of the range from the log's first one on is published, and no mark
+  pub others : (n : ℕ) → v.about.number ≤ n → first ≤ n → n < last → ¬ Among n opens → KnowsEntry u n
 
 -- a pass that was alone knows all of the log. So many numbers are claimed as it knew by the tail, and the log ends at the
 -- settled number; the range goes up to there, or as far as it was asked, so all of it is settled; and no number is open
@@ -94,8 +97,9 @@ pub record IsExact (v u : View) (to : Option ℕ) (count settled last : ℕ) (op
 -- how far a scan looks
 pub record IsReach (v u : View) (from : ℕ) (to : Option ℕ) (reach : Reach) : Type 0 where
   pub range : IsRange v u from to reach.from reach.to reach.opens
-  -- where it doesn't begin below the log's first number, it can be read
-  pub reached : u.about.number ≤ reach.from → IsReached u reach
+  -- what of it is in the table can be read, and the open numbers are
+  pub reached : IsReached u reach
+  pub opened : (n : ℕ) → Among n reach.opens → u.about.number ≤ n
   -- it is settled as far as this call found: up to the count, or to a number at which it loaded no entry's word
   pub stops_at : StopsAt IsEnd v u reach.settled range.count
   -- and at least as far as the pass knew

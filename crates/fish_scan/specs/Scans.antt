@@ -97,6 +97,8 @@ IsPlanRefused v u rows text way from settled to refusal.OutOfMemory = ⊤
 IsPlanRefused v u rows text way from settled to (refusal.UnknownName version) = ⊥
 IsPlanRefused v u rows text way from settled to (refusal.EmptyRange first last) = ⊥
 IsPlanRefused v u rows text way from settled to (refusal.ColdRange base) = ⊥
+IsPlanRefused v u rows text way from settled to refusal.DiskFault = ⊥
+IsPlanRefused v u rows text way from settled to (refusal.Damaged number) = ⊥
 
 -- ---- answers
 
@@ -113,7 +115,6 @@ pub record IsPrepared (v u : View) (known : Known) (ask : Ask) (p : Prepared) : 
   pub means : IsAccepted asked.named.newest.listed.def (definition_of p.query.def)
   pub value : p.query.value ≡ ask.value
   pub reach : IsReach v u (first_asked ask) ask.to p.query.reach
-  pub base : u.about.number ≤ p.query.reach.from
   pub plan : IsPlan v u (rows_of known) asked.named.newest.listed.def ask.how p.query.reach.from p.query.reach.settled
       p.query.reach.to p.plan
 
@@ -172,6 +173,21 @@ IsCold base from refusal.OutOfMemory = ⊤
 IsCold base from (refusal.UnknownName version) = ⊥
 IsCold base from (refusal.EmptyRange first last) = ⊥
 IsCold base from (refusal.NotCovered first last) = ⊥
+IsCold base from refusal.DiskFault = ⊥
+IsCold base from (refusal.Damaged number) = ⊥
+
+-- why there is no plan
+abbrev pub IsUnprepared : View → View → Known → Ask → ScanRefusal → Type 0
+IsUnprepared v u known ask (refusal.UnknownName version) = (version ≡ version_of known)
+    × HasLoaded v.clock u.clock Version version × AreRead u known × HasNone (rows_of known) ask.name
+    × (v.learned.version ≤ version)
+IsUnprepared v u known ask (refusal.EmptyRange from to) = AreEmptyEnds ask from to
+    × ((place : ℕ) × IsNamed v u known ask place)
+IsUnprepared v u known ask (refusal.NotCovered from to) = (ask.how ≡ how.Index) × IsUncovered v u known ask from to
+IsUnprepared v u known ask (refusal.ColdRange base) = ⊥
+IsUnprepared v u known ask refusal.DiskFault = ⊥
+IsUnprepared v u known ask (refusal.Damaged number) = ⊥
+IsUnprepared v u known ask refusal.OutOfMemory = ⊤
 
 -- why there is no answer; a refusal comes only where none of those before it does
 abbrev pub IsRefused : View → View → Known → Ask → ScanRefusal → Type 0
@@ -184,4 +200,6 @@ IsRefused v u known ask (refusal.NotCovered from to) = (ask.how ≡ how.Index) �
 IsRefused v u known ask (refusal.ColdRange base) = (base ≡ u.about.number)
     × ((first : ℕ) × (last : ℕ) × (opens : List ℕ) × (plan : List Piece) × (first < base)
     × IsPlanned v u known ask first last opens plan)
+IsRefused v u known ask refusal.DiskFault = ⊥
+IsRefused v u known ask (refusal.Damaged number) = ⊥
 IsRefused v u known ask refusal.OutOfMemory = ⊤

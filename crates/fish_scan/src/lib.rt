@@ -5,12 +5,17 @@
 //! open. Nothing here changes a shared word but the settled number.
 #![tactic(auto)]
 
+mod across;
 mod ask;
+mod below;
+mod chained;
+mod cutting;
 mod indexed;
 mod intervals;
 mod law;
 mod matching;
 mod naming;
+mod older;
 mod pieces;
 mod planning;
 mod reach;
@@ -18,6 +23,7 @@ mod reading;
 mod refusal;
 mod scanning;
 
+pub use across::scan_with;
 pub use ask::{Answer, Ask, Explained, How};
 pub use law::law_selection;
 pub use refusal::ScanRefusal;

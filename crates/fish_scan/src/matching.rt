@@ -1,8 +1,9 @@
 //! Whether a record that was read has the value that is asked for.
 
-ghost use Rattle.std.specs.Prelude.{◌≡◌, ◌+◌, IfOk, IsTrue, ◌↔◌};
+ghost use Rattle.std.specs.Prelude.{◌≡◌, ◌+◌, IfErr, IfOk, IsTrue, ◌↔◌};
 ghost use Rattle.fish_lang.specs.Definition.{definition_of};
 ghost use Rattle.fish_psf.specs.Records.{Gives, is_record};
+ghost use Rattle.fish_psf.specs.declared.reading.PsfRefusal.TheVariants.{OutOfMemory};
 ghost use Rattle.fish_scan.specs.Reading.{IsMatching, IsParsable, parses_of};
 
 use crate::reach::Reach;
@@ -62,13 +63,36 @@ fn has_value<P: Ledger>(
         ↔ Gives (definition_of query.now.def) form b.now query.now.value) }
     ensures parses { parses.new ≡ parses.old + 1 }
 {
+    match value_in(alloc, reader, query, form, b, parses) {
+        Ok(has) => Ok(has),
+        Err(PsfRefusal::OutOfMemory) => Err(AllocError),
+        Err(_) => unreachable!(),
+    }
+}
+
+/// Whether a payload has the value, which is tested to be a record.
+pub(crate) fn value_in<P: Ledger>(
+    alloc: Global,
+    reader: &mut RecordReader,
+    query: &Query,
+    form: Form,
+    b: &[u8],
+    parses: &mut Steps<P>,
+) -> Result<bool, PsfRefusal>
+    ensures value { IfOk result (λ has. IsTrue has
+        ↔ Gives (definition_of query.now.def) form b.now query.now.value) }
+    ensures memory { IsTrue (is_record form b.now) → IfErr result (λ refusal. refusal ≡ OutOfMemory) }
+    ensures parses { parses.new ≡ parses.old + 1 }
+{
     match reader.read(alloc, form, b, parses) {
         Ok(row) => {
             let has = gives(alloc, &query.def, &row, &query.value);
             drop(row);
-            has
+            match has {
+                Ok(has) => Ok(has),
+                Err(_) => Err(PsfRefusal::OutOfMemory),
+            }
         }
-        Err(PsfRefusal::OutOfMemory) => Err(AllocError),
-        Err(_) => unreachable!(),
+        Err(refusal) => Err(refusal),
     }
 }

@@ -7,7 +7,7 @@ ghost use Rattle.fish_rule.specs.Logs.{Extends};
 ghost use Rattle.fish_rule.specs.Passes.{IsPassOf, view};
 ghost use Rattle.fish_scan.specs.Parses.{HasParsed, HasParsedPiece};
 ghost use Rattle.fish_scan.specs.Pieces.{AreReadable, IsReadable, full_numbers, full_of};
-ghost use Rattle.fish_scan.specs.Reach.{IsReached};
+ghost use Rattle.fish_scan.specs.Reach.{IsReached, first_in};
 ghost use Rattle.fish_scan.specs.Reading.{Adds};
 ghost use Rattle.fish_scan.specs.Work.{ArePiecesWork, IsPieceWork};
 
@@ -22,7 +22,8 @@ use fish_value::Rows;
 use std::alloc::{AllocError, Global};
 use std::sync::ledger::Ledger;
 
-/// Puts the records of the pieces, which fill the range, that have the value behind the rows, newest first.
+/// Puts the records of the pieces, which fill what of the range is in the table, that have the value behind the rows,
+/// newest first.
 pub(crate) fn read_pieces<P: Ledger, L: Ledger>(
     alloc: Global,
     log: &Log,
@@ -36,14 +37,14 @@ pub(crate) fn read_pieces<P: Ledger, L: Ledger>(
 ) -> Result<(), AllocError>
     requires pass { IsPassOf log.now pass.old }
     requires reached { IsReached (view pass.old) query.now.reach }
-    requires fill { Fill pieces.now query.now.reach.from query.now.reach.to }
+    requires fill { Fill pieces.now (first_in log.now.key query.now.reach) query.now.reach.to }
     requires readable { AreReadable (view pass.old) (definition_of query.now.def) query.now.reach pieces.now }
     ensures pass { IsPassOf log.now pass.new }
     ensures extends { Extends (view pass.old) (view pass.new) }
-    ensures rows { OnOk result (Adds (view pass.new) (definition_of query.now.def) query.now.value query.now.reach.from
-        query.now.reach.to query.now.reach.opens rows.old rows.new) }
-    ensures parses { OnOk result (HasParsed (view pass.new) query.now.reach.opens pieces.now query.now.reach.from
-        query.now.reach.to parses.old parses.new) }
+    ensures rows { OnOk result (Adds (view pass.new) (definition_of query.now.def) query.now.value
+        (first_in log.now.key query.now.reach) query.now.reach.to query.now.reach.opens rows.old rows.new) }
+    ensures parses { OnOk result (HasParsed (view pass.new) query.now.reach.opens pieces.now
+        (first_in log.now.key query.now.reach) query.now.reach.to parses.old parses.new) }
     ensures few { parses.new ≤ parses.old + full_numbers pieces.now }
     ensures loads { OnOk result (ArePiecesWork (view pass.old) (view pass.new) query.now.value query.now.reach.opens rows.new
         pieces.now loads.old loads.new) }
@@ -68,6 +69,7 @@ fn read_piece<P: Ledger, L: Ledger>(
 ) -> Result<(), AllocError>
     requires pass { IsPassOf log.now pass.old }
     requires reached { IsReached (view pass.old) query.now.reach }
+    requires base { (view pass.old).about.number ≤ piece_from piece.now }
     requires readable { IsReadable (view pass.old) (definition_of query.now.def) query.now.reach piece.now }
     ensures pass { IsPassOf log.now pass.new }
     ensures extends { Extends (view pass.old) (view pass.new) }

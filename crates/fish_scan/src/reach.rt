@@ -132,10 +132,11 @@ fn keep(
     Ok(())
 }
 
-/// What stands at a number of the range: it was looked at, or is settled and looked at here.
+/// What stands at a number of the range that is in the table: it was looked at, or is settled and looked at here.
 pub(crate) fn seen_at(log: &Log, pass: &mut Pass, reach: &Reach, number: u32) -> Look
     requires pass { IsPassOf log.now pass.old }
     requires reached { IsReached (view pass.old) reach.now }
+    requires base { (view pass.old).about.number ≤ number }
     requires from { reach.now.from ≤ number }
     requires to { number < reach.now.to }
     ensures pass { IsPassOf log.now pass.new }

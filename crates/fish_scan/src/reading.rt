@@ -40,6 +40,7 @@ pub(crate) fn read_stretch<P: Ledger, L: Ledger>(
 ) -> Result<(), AllocError>
     requires pass { IsPassOf log.now pass.old }
     requires reached { IsReached (view pass.old) query.now.reach }
+    requires base { (view pass.old).about.number ≤ stretch.now.from }
     requires from { query.now.reach.from ≤ stretch.now.from }
     requires some { stretch.now.from ≤ stretch.now.to }
     requires to { stretch.now.to ≤ query.now.reach.to }
@@ -75,6 +76,7 @@ fn read_at<P: Ledger, L: Ledger>(
 ) -> Result<(), AllocError>
     requires pass { IsPassOf log.now pass.old }
     requires reached { IsReached (view pass.old) query.now.reach }
+    requires base { (view pass.old).about.number ≤ number }
     requires from { query.now.reach.from ≤ number }
     requires to { number < query.now.reach.to }
     ensures pass { IsPassOf log.now pass.new }

@@ -1,5 +1,6 @@
 //! Why a scan isn't answered.
 
+use fish_cold::ColdRefusal;
 use std::alloc::AllocError;
 use thiserror::Error;
 
@@ -27,6 +28,13 @@ pub enum ScanRefusal {
         /// The log's first number.
         base: u32,
     },
+    #[error("the disk failed")]
+    DiskFault,
+    #[error("damaged at {number}")]
+    Damaged {
+        /// The number that was looked for in the file.
+        number: u32,
+    },
     #[error("out of memory")]
     OutOfMemory,
 }
@@ -39,5 +47,20 @@ impl From<AllocError> for ScanRefusal {
 
     fn from(_: AllocError) -> Self {
         ScanRefusal::OutOfMemory
+    }
+}
+
+impl From<ColdRefusal> for ScanRefusal {
+    ghost use Rattle.std.specs.Prelude.{◌≡◌};
+    ghost use Rattle.fish_scan.specs.Refusals.{refusal_of};
+
+    ghost from_gives = { λ cold refusal. refusal ≡ refusal_of cold };
+
+    fn from(refusal: ColdRefusal) -> Self {
+        match refusal {
+            ColdRefusal::DiskFault => ScanRefusal::DiskFault,
+            ColdRefusal::Damaged { number } => ScanRefusal::Damaged { number },
+            ColdRefusal::OutOfMemory => ScanRefusal::OutOfMemory,
+        }
     }
 }

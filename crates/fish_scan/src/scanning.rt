@@ -6,8 +6,9 @@ ghost use Rattle.fish_epoch.specs.Definitions.{IsDefsOf, IsKnownOf};
 ghost use Rattle.fish_rule.specs.Passes.{IsPassOf, view};
 ghost use Rattle.fish_scan.specs.Parses.{HasParsed};
 ghost use Rattle.fish_scan.specs.Scans.{AreEmptyEnds, IsAnswer, IsAsked, IsCold, IsEmptyAsk, IsExplained, IsPrepared, IsQuery};
-ghost use Rattle.fish_scan.specs.Scans.{IsRefused, OnlyPlans, OnlyScans};
+ghost use Rattle.fish_scan.specs.Scans.{IsRefused, IsUnprepared, OnlyPlans, OnlyScans};
 ghost use Rattle.fish_scan.specs.Work.{IsWork};
+ghost use Rattle.fish_scan.specs.declared.refusal.ScanRefusal.TheVariants.{OutOfMemory};
 
 use crate::ask::{Answer, Ask, Explained};
 use crate::matching::Query;
@@ -26,9 +27,9 @@ use std::sync::ledger::Ledger;
 
 /// What is known before a record is read.
 #[derive(Drop)]
-struct Prepared {
-    query: Query,
-    plan: Plan,
+pub(crate) struct Prepared {
+    pub query: Query,
+    pub plan: Plan,
 }
 
 /// The records of a range on which a definition has a value, newest first: exactly those of the answer's range, less
@@ -62,7 +63,7 @@ pub fn scan<P: Ledger, L: Ledger>(
         parses.new) }
     ensures loads { IfOk result (λ answer. IsWork (view pass.old) (view pass.new) ask.now.value answer loads.old loads.new) }
 {
-    let prepared = prepare(alloc, log, pass, &mut defs.known, ask)?;
+    let prepared = prepare_in_table(alloc, log, pass, &mut defs.known, ask)?;
     let mut rows = Rows::new(alloc);
     let read = read_pieces(
         alloc,
@@ -86,7 +87,7 @@ pub fn scan<P: Ledger, L: Ledger>(
 }
 
 /// The answer to what was prepared, with the rows that were read.
-fn answer_of(prepared: Prepared, rows: Rows) -> Answer
+pub(crate) fn answer_of(prepared: Prepared, rows: Rows) -> Answer
     ensures { let reach = prepared.query.reach in
         result ≡ record { from = reach.from; to = reach.to; opens = reach.opens; rows = rows; plan = prepared.plan } }
 {
@@ -128,7 +129,7 @@ pub fn explain(
         e.from e.to opens e.plan) }
     ensures refused { IfErr result (IsRefused (view pass.old) (view pass.new) defs.new.known ask.now) }
 {
-    let prepared = prepare(alloc, log, pass, &mut defs.known, ask)?;
+    let prepared = prepare_in_table(alloc, log, pass, &mut defs.known, ask)?;
     Ok(explained_of(prepared))
 }
 
@@ -145,8 +146,8 @@ fn explained_of(prepared: Prepared) -> Explained
     Explained { from, to, plan }
 }
 
-/// Finds what the name means, how far the scan looks, and how it reads what it reaches, in this order.
-fn prepare(
+/// What is known before a record is read, where the range doesn't begin below the log's first number.
+fn prepare_in_table(
     alloc: Global,
     log: &Log,
     pass: &mut Pass,
@@ -159,13 +160,49 @@ fn prepare(
     ensures only { OnlyPlans (view pass.old) (view pass.new) }
     ensures known { IsKnownOf (view pass.new) known.new }
     ensures prepared { IfOk result (IsPrepared (view pass.old) (view pass.new) known.new ask.now) }
+    ensures base { IfOk result (λ p. log.now.key.number ≤ p.query.reach.from) }
     ensures refused { IfErr result (IsRefused (view pass.old) (view pass.new) known.new ask.now) }
+{
+    match prepare(alloc, log, pass, known, ask) {
+        Ok(prepared) => in_table(base(log).number, prepared),
+        Err(refusal) => Err(refusal),
+    }
+}
+
+/// What was prepared: refused where the range begins below the log's first number.
+fn in_table(base: u32, prepared: Prepared) -> Result<Prepared, ScanRefusal>
+    ensures same { IfOk result (λ p. p ≡ prepared) }
+    ensures above { IfOk result (λ p. base ≤ p.query.reach.from) }
+    ensures refused { IfErr result (IsCold base prepared.query.reach.from) }
+{
+    if prepared.query.reach.from < base {
+        drop(prepared);
+        return Err(ScanRefusal::ColdRange { base });
+    }
+    Ok(prepared)
+}
+
+/// Finds what the name means, how far the scan looks, and how it reads what it reaches, in this order.
+pub(crate) fn prepare(
+    alloc: Global,
+    log: &Log,
+    pass: &mut Pass,
+    known: &mut Known,
+    ask: &Ask,
+) -> Result<Prepared, ScanRefusal>
+    requires pass { IsPassOf log.now pass.old }
+    requires known { IsKnownOf (view pass.old) known.old }
+    ensures pass { IsPassOf log.now pass.new }
+    ensures only { OnlyPlans (view pass.old) (view pass.new) }
+    ensures known { IsKnownOf (view pass.new) known.new }
+    ensures prepared { IfOk result (IsPrepared (view pass.old) (view pass.new) known.new ask.now) }
+    ensures refused { IfErr result (IsUnprepared (view pass.old) (view pass.new) known.new ask.now) }
 {
     let place = find_row(log, pass, known, ask)?;
     let reach = find_reach(alloc, log, pass, ask.from.unwrap_or(0), ask.to)?;
     let text = known.rows()[place].def.as_bytes();
     match find_plan(alloc, log, pass, known.rows(), text, ask.how, &reach) {
-        Ok(plan) => with_query(alloc, text, ask, base(log).number, reach, plan),
+        Ok(plan) => with_query(alloc, text, ask, reach, plan),
         Err(refusal) => {
             drop(reach);
             Err(refusal)
@@ -173,26 +210,19 @@ fn prepare(
     }
 }
 
-/// What is known where a plan was made: refused where the range begins below the log's first number.
+/// What is known where a plan was made.
 fn with_query(
     alloc: Global,
     text: &[u8],
     ask: &Ask,
-    base: u32,
     reach: Reach,
     plan: Plan,
 ) -> Result<Prepared, ScanRefusal>
     requires { IsCanonical text.now }
     ensures query { IfOk result (λ p. IsQuery text.now ask.now reach p.query) }
     ensures plan { IfOk result (λ p. p.plan ≡ plan) }
-    ensures above { IfOk result (λ p. base ≤ reach.from) }
-    ensures refused { IfErr result (IsCold base reach.from) }
+    ensures refused { IfErr result (λ refusal. refusal ≡ OutOfMemory) }
 {
-    if reach.from < base {
-        drop(reach);
-        drop(plan);
-        return Err(ScanRefusal::ColdRange { base });
-    }
     match query_of(alloc, text, ask, reach) {
         Ok(query) => Ok(Prepared { query, plan }),
         Err(refusal) => {
@@ -232,7 +262,7 @@ fn find_row(log: &Log, pass: &mut Pass, known: &mut Known, ask: &Ask) -> Result<
     ensures known { IsKnownOf (view pass.new) known.new }
     ensures asked { IfOk result (IsAsked (view pass.old) (view pass.new) known.new ask.now) }
     ensures tail { (view pass.new).tail ≡ (view pass.old).tail }
-    ensures refused { IfErr result (IsRefused (view pass.old) (view pass.new) known.new ask.now) }
+    ensures refused { IfErr result (IsUnprepared (view pass.old) (view pass.new) known.new ask.now) }
 {
     let version = load_version(log, pass) as u16;
     known.refresh(log, pass, version)?;

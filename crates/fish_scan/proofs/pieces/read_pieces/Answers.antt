@@ -1,16 +1,19 @@
 -- One piece more.
-use Rattle.std.proofs.Common.{◌≡◌, ℕ, ◌+◌, ◌≤◌, suc, List, arith, drop, refl, subst, take}
+use Rattle.std.proofs.Common.{◌≡◌, ℕ, ◌+◌, ◌≤◌, ◌∙◌, suc, List, ap, arith, drop, refl, subst, take}
 use Rattle.std.proofs.lemmas.Option.{slice_get-get_or}
 use Rattle.fish_lang.specs.Definition.{definition_of}
+use Rattle.fish_plan.proofs.Inside.{piece_within}
 use Rattle.fish_plan.specs.declared.pieces.Piece.{Piece}
 use Rattle.fish_plan.specs.declared.pieces.Piece.TheVariants.{Index}
 use Rattle.fish_rule.proofs.laws.Learning.{extends_both, extends_self}
 use Rattle.fish_rule.specs.Passes.{view}
+use Rattle.fish_rule.specs.declared.view.Key.{Key}
 use Rattle.fish_scan.proofs.Filling.{HasRead, full_at, parsed_all, read_all, read_more, read_none, readable_later}
 use Rattle.fish_scan.proofs.Reaching.{reached_still}
 use Rattle.fish_scan.proofs.Loading.{rises_none}
 use Rattle.fish_scan.proofs.Working.{pieces_more, take_all}
 use Rattle.fish_scan.specs.Pieces.{full_numbers}
+use Rattle.fish_scan.specs.Reach.{first_in}
 use Rattle.fish_scan.specs.Work.{ArePiecesWork}
 use Rattle.fish_scan.proofs.pieces.read_pieces.Goals as goal
 
@@ -19,8 +22,9 @@ loop-piece-init g c = record {
   of = c.requires.pass;
   few = omega arith;
   extends = extends_self (view c.args.pass.now);
-  read = read_none (view c.args.pass.now) (definition_of c.args.query.now.def) c.args.query.now.value c.args.query.now.reach
-      c.args.pieces.now c.args.rows.now c.args.parses.now c.requires.fill;
+  read = read_none (view c.args.pass.now) (definition_of c.args.query.now.def) c.args.query.now.value
+      (first_in c.args.log.now.key c.args.query.now.reach) c.args.query.now.reach c.args.pieces.now c.args.rows.now
+      c.args.parses.now c.requires.fill;
   work = (0, refl, rises_none (view c.args.pass.now) c.args.loads.now);
 }
 
@@ -33,6 +37,18 @@ read_piece-requires-clause-readable g c = readable_later (view c.args.pass.now) 
     (definition_of c.args.query.now.def) c.args.query.now.reach _ c.loop-piece.invariant.extends.learns
     (c.requires.readable c.loop-piece.piece-index _
     (slice_get-get_or c.args.pieces.now c.loop-piece.piece-index (Index 0 0 0) c.loop-piece-test.true))
+
+-- none of the pieces begins below the table's first number
+pub read_piece-requires-clause-base : goal.read_piece-requires-clause-base
+read_piece-requires-clause-base g c =
+    let about = ap (λ (z : Key). z.number) (c.loop-piece.invariant.extends.learns.about ∙ c.requires.pass.about) in
+    let within = piece_within c.args.pieces.now (first_in c.args.log.now.key c.args.query.now.reach) c.args.query.now.reach.to
+    c.loop-piece.piece-index _ c.requires.fill
+    (slice_get-get_or c.args.pieces.now c.loop-piece.piece-index (Index 0 0 0) c.loop-piece-test.true) in
+    let from = within.0 in
+    let some = within.1 in
+    let to = within.2 in
+    omega arith
 
 pub returns-in_err-read_piece-clause-extends : goal.returns-in_err-read_piece-clause-extends
 returns-in_err-read_piece-clause-extends g c = extends_both _ _ _ c.loop-piece.invariant.extends c.read_piece.ensures.extends
@@ -50,9 +66,10 @@ loop-piece-preserved g c =
           ≤ c.args.parses.now + full_numbers c.args.pieces.now) next (omega arith));
       extends = extends_both _ _ _ inv.extends c.read_piece.ensures.extends;
       read = subst (λ (z : ℕ). HasRead (view c.read_piece.new.pass) (definition_of c.args.query.now.def)
-          c.args.query.now.value c.args.query.now.reach c.args.pieces.now z c.args.rows.now c.read_piece.new.rows
+          c.args.query.now.value (first_in c.args.log.now.key c.args.query.now.reach) c.args.query.now.reach c.args.pieces.now z
+          c.args.rows.now c.read_piece.new.rows
           c.args.parses.now c.read_piece.new.parses) next
-          (read_more (view c.loop-piece.pass) (view c.read_piece.new.pass) _ _ c.args.query.now.reach c.args.pieces.now
+          (read_more (view c.loop-piece.pass) (view c.read_piece.new.pass) _ _ _ c.args.query.now.reach c.args.pieces.now
           c.loop-piece.piece-index _ c.args.rows.now c.loop-piece.rows c.read_piece.new.rows c.args.parses.now
           c.loop-piece.parses c.read_piece.new.parses c.read_piece.ensures.extends.learns
           (slice_get-get_or c.args.pieces.now c.loop-piece.piece-index (Index 0 0 0) c.loop-piece-test.true)
@@ -69,7 +86,8 @@ loop-piece-preserved g c =
 
 pub returns-clause-rows : goal.returns-clause-rows
 returns-clause-rows g c = read_all (view c.loop-piece.pass) (definition_of c.args.query.now.def) c.args.query.now.value
-    c.args.query.now.reach c.args.pieces.now c.loop-piece.piece-index c.args.rows.now c.loop-piece.rows c.args.parses.now
+    (first_in c.args.log.now.key c.args.query.now.reach) c.args.query.now.reach c.args.pieces.now c.loop-piece.piece-index
+    c.args.rows.now c.loop-piece.rows c.args.parses.now
     c.loop-piece.parses (let all = c.loop-piece-test.false in omega arith) c.loop-piece.invariant.read
 
 pub returns-in_err-read_piece-clause-few : goal.returns-in_err-read_piece-clause-few
@@ -85,7 +103,8 @@ returns-clause-few g c = (let so_far = c.loop-piece.invariant.few in omega arith
 
 pub returns-clause-parses : goal.returns-clause-parses
 returns-clause-parses g c = parsed_all (view c.loop-piece.pass) (definition_of c.args.query.now.def) c.args.query.now.value
-    c.args.query.now.reach c.args.pieces.now c.loop-piece.piece-index c.args.rows.now c.loop-piece.rows c.args.parses.now
+    (first_in c.args.log.now.key c.args.query.now.reach) c.args.query.now.reach c.args.pieces.now c.loop-piece.piece-index
+    c.args.rows.now c.loop-piece.rows c.args.parses.now
     c.loop-piece.parses (let all = c.loop-piece-test.false in omega arith) c.loop-piece.invariant.read
 
 pub returns-clause-loads : goal.returns-clause-loads

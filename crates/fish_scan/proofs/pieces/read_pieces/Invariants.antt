@@ -5,6 +5,7 @@ use Rattle.fish_rule.specs.Logs.{Extends}
 use Rattle.fish_rule.specs.Passes.{IsPassOf, view}
 use Rattle.fish_scan.proofs.Filling.{HasRead}
 use Rattle.fish_scan.specs.Pieces.{full_numbers}
+use Rattle.fish_scan.specs.Reach.{first_in}
 use Rattle.fish_scan.specs.Work.{ArePiecesWork}
 use Rattle.fish_scan.proofs.pieces.read_pieces.Given as goal
 
@@ -13,8 +14,8 @@ invariant-loop-piece g l = record {
   of : IsPassOf l.log l.pass;
   few : l.parses + full_numbers (drop l.piece-index l.pieces) ≤ l.fn.parses + full_numbers l.pieces;
   extends : Extends (view l.fn.pass) (view l.pass);
-  read : HasRead (view l.pass) (definition_of l.query.def) l.query.value l.query.reach l.pieces l.piece-index l.fn.rows l.rows
-      l.fn.parses l.parses;
+  read : HasRead (view l.pass) (definition_of l.query.def) l.query.value (first_in l.log.key l.query.reach) l.query.reach
+      l.pieces l.piece-index l.fn.rows l.rows l.fn.parses l.parses;
   work : ArePiecesWork (view l.fn.pass) (view l.pass) l.query.value l.query.reach.opens l.rows (take l.piece-index l.pieces)
       l.fn.loads l.loads;
 }

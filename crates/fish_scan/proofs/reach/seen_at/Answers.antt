@@ -9,7 +9,7 @@ use Rattle.fish_scan.proofs.reach.seen_at.Goals as goal
 pub look-requires-clause-view : goal.look-requires-clause-view
 look-requires-clause-view c =
     let h = c.requires.reached in
-    let base = h.base in
+    let base = c.requires.base in
     let from = c.requires.from in
     let counted = h.counted in
     let to = c.requires.to in
@@ -23,14 +23,14 @@ returns-then-number-reach-clause-only c =
 pub returns-then-number-reach-clause-unmarked : goal.returns-then-number-reach-clause-unmarked
 returns-then-number-reach-clause-unmarked c =
     let h = c.requires.reached in
-    let below = h.below c.args.number c.requires.from c.if-number-reach.true in
+    let below = h.below c.args.number c.requires.base c.requires.from c.if-number-reach.true in
     let settled = h.settled in
     (entry_unmarked c.look.result (c.look.ensures.settled (omega arith))).0
 
 pub returns-then-number-reach-clause-unfinished : goal.returns-then-number-reach-clause-unfinished
 returns-then-number-reach-clause-unfinished c is =
     let h = c.requires.reached in
-    let below = h.below c.args.number c.requires.from c.if-number-reach.true in
+    let below = h.below c.args.number c.requires.base c.requires.from c.if-number-reach.true in
     let settled = h.settled in
     absurd ((entry_unmarked c.look.result (c.look.ensures.settled (omega arith))).1 is)
 

@@ -1,8 +1,9 @@
 -- One number more is read at each turn.
-use Rattle.std.proofs.Common.{◌≡◌, ℕ, ◌+◌, ◌-◌, subst, arith}
+use Rattle.std.proofs.Common.{◌≡◌, ℕ, ◌+◌, ◌-◌, ap, subst, arith}
 use Rattle.fish_lang.specs.Definition.{definition_of}
 use Rattle.fish_rule.proofs.laws.Learning.{extends_both, extends_self}
 use Rattle.fish_rule.specs.Passes.{view}
+use Rattle.fish_rule.specs.declared.view.Key.{Key}
 use Rattle.fish_scan.proofs.Reaching.{reached_still}
 use Rattle.fish_scan.proofs.Telling.{adds_both, adds_later, adds_none}
 use Rattle.fish_scan.proofs.Working.{full_both, full_none}
@@ -29,6 +30,13 @@ loop-number-init g c = record {
 pub read_at-requires-clause-reached : goal.read_at-requires-clause-reached
 read_at-requires-clause-reached g c = reached_still (view c.args.pass.now) (view c.loop-number.pass) c.args.query.now.reach
     c.loop-number.invariant.extends.learns c.requires.reached
+
+pub read_at-requires-clause-base : goal.read_at-requires-clause-base
+read_at-requires-clause-base g c =
+    let about = ap (λ (z : Key). z.number) c.loop-number.invariant.extends.learns.about in
+    let base = c.requires.base in
+    let some = c.loop-number-test.true in
+    omega arith
 
 pub loop-number-preserved : goal.loop-number-preserved
 loop-number-preserved g c =

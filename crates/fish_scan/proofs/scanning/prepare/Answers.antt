@@ -1,5 +1,5 @@
 -- What each of the calls found is so at the end.
-use Rattle.std.proofs.Common.{ℕ, ◌<◌, List, length, sym, ap, ◌∙◌, subst, arith}
+use Rattle.std.proofs.Common.{◌≡◌, ℕ, ◌<◌, List, length, sym, ap, ◌∙◌, subst, arith}
 use Rattle.std.proofs.lemmas.Option.{slice_get_within}
 use Rattle.fish_catalog.specs.Canonical.{IsCanonical}
 use Rattle.fish_catalog.specs.Listing.{IsListing}
@@ -8,12 +8,12 @@ use Rattle.fish_epoch.proofs.Reading.{defs_later, known_listing}
 use Rattle.fish_epoch.specs.Definitions.{rows_of}
 use Rattle.fish_rule.proofs.laws.Learning.{learns_self}
 use Rattle.fish_rule.specs.Passes.{view}
-use Rattle.fish_rule.specs.declared.view.Key.{Key}
-use Rattle.fish_scan.proofs.Answering.{asked_later, cold_refused, err_gives, plan_by_rows, plan_refused, planned_at, plans_both}
+use Rattle.fish_scan.proofs.Answering.{asked_later, err_gives, memory_refused, plan_by_rows, plan_refused, plans_both}
 use Rattle.fish_scan.proofs.Answering.{plans_extends, plans_settles, prepared_all, prepared_at, reach_within, read_later}
 use Rattle.fish_scan.proofs.Answering.{row_found, scans_both, scans_extends, scans_settles}
 use Rattle.fish_scan.proofs.Lists.{all_at}
-use Rattle.fish_scan.specs.Scans.{IsCold, IsPlanRefused, IsQuery, IsRefused}
+use Rattle.fish_scan.specs.Scans.{IsPlanRefused, IsQuery, IsUnprepared}
+use Rattle.fish_scan.specs.declared.refusal.ScanRefusal.TheVariants as refusal
 use Rattle.fish_scan.proofs.scanning.prepare.Goals as goal
 
 pub returns-in_err-reach-clause-only : goal.returns-in_err-reach-clause-only
@@ -77,39 +77,21 @@ returns-in-Ok-clause-prepared c =
     c.index-rows-place.result c.rows.ensures asked.named.newest.there in
     let text = c.as_bytes-text.ensures ∙ ap (λ (z : Listed). z.def) row in
     let reach = c.in_ok-reach.reach in
-    let base_is = c.base.ensures.0 in
-    let key_is = ap (λ (z : Key). z.number) c.find_plan.ensures.pass.about in
-    prepared_all v t known c.args.ask.now c.base.result.number reach c.in-Ok.plan c.with_query.result
-    c.with_query.ensures.query c.with_query.ensures.plan c.with_query.ensures.above (λ p query plan above.
+    prepared_all v t known c.args.ask.now reach c.in-Ok.plan c.with_query.result
+    c.with_query.ensures.query c.with_query.ensures.plan (λ p query plan.
     prepared_at v m t known c.args.ask.now c.in_ok-place.place reach c.in-Ok.plan p asked (scans_both m n t settles rest)
     (reach_within v m n t c.args.ask.now _ reach before c.find_row.ensures.tail rest c.unwrap_or.ensures c.in_ok-reach.ensures.reach)
     (plan_by_rows v n t t (rows_of known) _ asked.named.newest.listed.def _ c.args.ask.now.how _ _ _ _ c.rows-2.ensures text
-    (scans_both v m n before settles).learns (learns_self t) c.in-Ok.ensures.plan) (omega arith)
+    (scans_both v m n before settles).learns (learns_self t) c.in-Ok.ensures.plan)
     (subst (λ (z : List ℕ). IsQuery z c.args.ask.now reach p.query) text query) plan)
 
--- the range was planned, and begins below the log's first number
+-- only memory was wanting
 pub returns-in-Ok-clause-refused : goal.returns-in-Ok-clause-refused
 returns-in-Ok-clause-refused c =
-    let v = view c.args.pass.now in
-    let m = view c.find_row.new.pass in
-    let n = view c.find_reach.new.pass in
-    let t = view c.find_plan.new.pass in
-    let known = c.find_row.new.known in
-    let asked = c.in_ok-place.ensures.asked in
-    let before = c.find_row.ensures.only.scans in
-    let settles = scans_settles m n c.find_reach.ensures.settles in
-    let rest = scans_extends n t c.find_plan.ensures.only.extends in
-    let row = row_found (rows_of known) c.rows.result.now c.in_ok-place.place asked.named.newest.listed
-    c.index-rows-place.result c.rows.ensures asked.named.newest.there in
-    let reach = c.in_ok-reach.reach in
-    err_gives (IsCold c.base.result.number reach.from) (IsRefused v t known c.args.ask.now) c.with_query.result
-    c.with_query.ensures.refused (λ e cold. cold_refused v t known c.args.ask.now c.base.result.number reach.from reach.to
-    reach.opens c.in-Ok.plan e (c.base.ensures.0 ∙ sym (ap (λ (z : Key). z.number) c.find_plan.ensures.pass.about))
-    (planned_at v m t known c.args.ask.now c.in_ok-place.place reach c.in-Ok.plan asked (scans_both m n t settles rest)
-    (reach_within v m n t c.args.ask.now _ reach before c.find_row.ensures.tail rest c.unwrap_or.ensures c.in_ok-reach.ensures.reach)
-    (plan_by_rows v n t t (rows_of known) _ asked.named.newest.listed.def _ c.args.ask.now.how _ _ _ _
-    c.rows-2.ensures (c.as_bytes-text.ensures ∙ ap (λ (z : Listed). z.def) row)
-    (scans_both v m n before settles).learns (learns_self t) c.in-Ok.ensures.plan)) cold)
+    err_gives (λ e. e ≡ refusal.OutOfMemory)
+    (IsUnprepared (view c.args.pass.now) (view c.find_plan.new.pass) c.find_row.new.known c.args.ask.now) c.with_query.result
+    c.with_query.ensures.refused
+    (memory_refused (view c.args.pass.now) (view c.find_plan.new.pass) c.find_row.new.known c.args.ask.now)
 
 pub returns-in-Err-clause-only : goal.returns-in-Err-clause-only
 returns-in-Err-clause-only c = plans_both _ _ _ c.find_row.ensures.only (plans_both _ _ _

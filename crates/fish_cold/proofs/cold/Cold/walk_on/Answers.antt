@@ -1,5 +1,5 @@
 -- The page is what is read, so its words are the file's; what they answer is answered.
-use Rattle.std.proofs.Common.{◌/◌, ◌%◌, sym, subst, arith}
+use Rattle.std.proofs.Common.{◌≡◌, ◌+◌, ◌/◌, ◌%◌, ◌≤◌, None, sym, subst, arith}
 use Rattle.std.specs.Prelude.{IfOk, IfSome}
 use Rattle.fish_cold.specs.Answers.{EndsWalk, HasNode, IsLinkable, Walks}
 use Rattle.fish_cold.specs.Pages.{page_words}
@@ -42,3 +42,9 @@ returns-in-Ok-clause-ends g c =
     answered_as (place / 131072) c.in-Ok.fresh c.args.self.now c.answer.new.self c.node_on-found.result c.answer.result
     (EndsWalk (page_words c.args.self.now.base.line (place / 131072) content) (place % 131072) c.args.asked.from) c.answer.ensures
     (subst (λ ws. EndsWalk ws (place % 131072) c.args.asked.from c.node_on-found.result) words c.node_on-found.ensures.ends) tt)
+
+pub returns-in-Ok-clause-none : goal.returns-in-Ok-clause-none
+returns-in-Ok-clause-none g c =
+    answered_as (c.args.asked.place / 131072) c.in-Ok.fresh c.args.self.now c.answer.new.self c.node_on-found.result c.answer.result
+    (λ r. IfOk r (λ o. o ≡ None → c.node_on-found.new.loads ≤ c.args.loads.now + 1)) c.answer.ensures
+    c.node_on-found.ensures.none tt

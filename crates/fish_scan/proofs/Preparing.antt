@@ -1,0 +1,73 @@
+-- What was prepared fills its range, and why there is no answer.
+use Rattle.std.proofs.Common.{◌≡◌, ℕ, ◌≤◌, List, [], min, sym, ◌∙◌, subst, arith}
+use Rattle.fish_catalog.specs.declared.listed.Listed.{Listed}
+use Rattle.fish_epoch.specs.declared.definitions.Known.{Known}
+use Rattle.fish_plan.proofs.Inside.{full_is_plan}
+use Rattle.fish_plan.specs.Pieces.{Fill}
+use Rattle.fish_plan.specs.declared.pieces.Piece.{Piece}
+use Rattle.fish_rule.proofs.laws.Learning.{extends_self}
+use Rattle.fish_rule.specs.declared.view.Key.{Key}
+use Rattle.fish_rule.specs.declared.view.View.{View}
+use Rattle.fish_scan.proofs.Answering.{planned_later, scans_extends}
+use Rattle.fish_scan.specs.Reach.{first_in}
+use Rattle.fish_scan.specs.Scans.{IsCold, IsPlan, IsPrepared, IsRefused, IsUnprepared}
+use Rattle.fish_scan.specs.declared.ask.Ask.{Ask}
+use Rattle.fish_scan.specs.declared.ask.How.{How}
+use Rattle.fish_scan.specs.declared.ask.How.TheVariants as how
+use Rattle.fish_scan.specs.declared.reach.Reach.{Reach}
+use Rattle.fish_scan.specs.declared.refusal.ScanRefusal.{ScanRefusal}
+use Rattle.fish_scan.specs.declared.refusal.ScanRefusal.TheVariants as refusal
+use Rattle.fish_scan.specs.declared.scanning.Prepared.{Prepared}
+
+-- a plan fills its range
+pub plan_fills : (v u : View) (rows : List Listed) (text : List ℕ) (way : How) (from settled to : ℕ) (plan : List Piece) → from ≤ to
+    → IsPlan v u rows text way from settled to plan → Fill plan from to
+plan_fills v u rows text how.Full from settled to plan some h =
+    subst (λ (z : List Piece). Fill z from to) (sym h) (full_is_plan from to [] some).fill
+plan_fills v u rows text how.Auto from settled to plan some h = h.cover.fill
+plan_fills v u rows text how.Index from settled to plan some h = h.0.cover.fill
+
+pub prepared_fills : (v u : View) (known : Known) (ask : Ask) (p : Prepared) → IsPrepared v u known ask p
+    → Fill p.plan p.query.reach.from p.query.reach.to
+prepared_fills v u known ask p h =
+    let first = h.reach.range.first_is in
+    plan_fills v u _ _ ask.how p.query.reach.from p.query.reach.settled p.query.reach.to p.plan (omega arith) h.plan
+
+-- where it doesn't begin below the table's first number, all of it is in the table
+pub all_in : (k : Key) (asked : ℕ) (reach : Reach) → reach.from ≡ min asked reach.to → k.number ≤ reach.from
+    → first_in k reach ≡ reach.from
+all_in k asked reach first base = omega arith
+
+-- ---- refusals
+
+-- why there is no plan is why there is no answer
+pub unprepared_refused : (v u : View) (known : Known) (ask : Ask) (r : ScanRefusal) → IsUnprepared v u known ask r
+    → IsRefused v u known ask r
+unprepared_refused v u known ask (refusal.UnknownName version) h = h
+unprepared_refused v u known ask (refusal.EmptyRange a b) h = h
+unprepared_refused v u known ask (refusal.NotCovered a b) h = h
+unprepared_refused v u known ask (refusal.ColdRange base) h = absurd h
+unprepared_refused v u known ask refusal.DiskFault h = absurd h
+unprepared_refused v u known ask (refusal.Damaged number) h = absurd h
+unprepared_refused v u known ask refusal.OutOfMemory h = tt
+
+-- where the range begins below the table, a scan of the table alone is refused
+pub cold_refused : (v t : View) (known : Known) (ask : Ask) (base : ℕ) (p : Prepared) (r : ScanRefusal) → base ≡ t.about.number
+    → IsPrepared v t known ask p → IsCold base p.query.reach.from r → IsRefused v t known ask r
+cold_refused v t known ask base p (refusal.ColdRange found) is h cold = (
+  cold.0 ∙ is,
+  (
+    p.query.reach.from,
+    p.query.reach.to,
+    p.query.reach.opens,
+    p.plan,
+    (let same = cold.0 in let less = cold.1 in omega arith),
+    planned_later v t t known ask p (scans_extends t t (extends_self t)) h,
+  ),
+)
+cold_refused v t known ask base p refusal.OutOfMemory is h cold = tt
+cold_refused v t known ask base p (refusal.UnknownName version) is h cold = absurd cold
+cold_refused v t known ask base p (refusal.EmptyRange a b) is h cold = absurd cold
+cold_refused v t known ask base p (refusal.NotCovered a b) is h cold = absurd cold
+cold_refused v t known ask base p refusal.DiskFault is h cold = absurd cold
+cold_refused v t known ask base p (refusal.Damaged number) is h cold = absurd cold

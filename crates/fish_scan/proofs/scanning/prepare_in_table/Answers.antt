@@ -1,0 +1,34 @@
+-- What was prepared is so, and a range that begins below the table was planned all the same.
+use Rattle.std.proofs.Common.{◌≡◌, Ok, Err, Result, sym, ap, ◌∙◌, subst}
+use Rattle.std.specs.Prelude.{IfOk}
+use Rattle.fish_rule.specs.Passes.{view}
+use Rattle.fish_rule.specs.declared.view.Key.{Key}
+use Rattle.fish_scan.proofs.Answering.{err_gives}
+use Rattle.fish_scan.proofs.Preparing.{cold_refused, unprepared_refused}
+use Rattle.fish_scan.specs.Scans.{IsCold, IsPrepared, IsRefused}
+use Rattle.fish_scan.specs.declared.refusal.ScanRefusal.{ScanRefusal}
+use Rattle.fish_scan.specs.declared.scanning.Prepared.{Prepared}
+use Rattle.fish_scan.proofs.scanning.prepare_in_table.Goals as goal
+
+-- what is said of what was given
+of_same : (P : Prepared → Type 0) (p : Prepared) (r : Result Prepared ScanRefusal) → IfOk r (λ q. q ≡ p) → P p → IfOk r P
+of_same P p (Ok q) same h = subst P (sym same) h
+of_same P p (Err e) same h = tt
+
+pub returns-in-Ok-clause-prepared : goal.returns-in-Ok-clause-prepared
+returns-in-Ok-clause-prepared c =
+    of_same (IsPrepared (view c.args.pass.now) (view c.prepare.new.pass) c.prepare.new.known c.args.ask.now) c.in-Ok.prepared
+    c.in_table.result c.in_table.ensures.same c.in-Ok.ensures.prepared
+
+pub returns-in-Ok-clause-refused : goal.returns-in-Ok-clause-refused
+returns-in-Ok-clause-refused c =
+    let v = view c.args.pass.now in
+    let t = view c.prepare.new.pass in
+    err_gives (IsCold c.base.result.number c.in-Ok.prepared.query.reach.from) (IsRefused v t c.prepare.new.known c.args.ask.now)
+    c.in_table.result c.in_table.ensures.refused (λ e cold. cold_refused v t c.prepare.new.known c.args.ask.now
+    c.base.result.number c.in-Ok.prepared e (c.base.ensures.0 ∙ sym (ap (λ (z : Key). z.number) c.prepare.ensures.pass.about))
+    c.in-Ok.ensures.prepared cold)
+
+pub returns-in-Err-clause-refused : goal.returns-in-Err-clause-refused
+returns-in-Err-clause-refused c = unprepared_refused (view c.args.pass.now) (view c.prepare.new.pass) c.prepare.new.known
+    c.args.ask.now c.in-Err.refusal c.in-Err.ensures.refused

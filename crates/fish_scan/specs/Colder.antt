@@ -1,0 +1,48 @@
+-- What reading below the base leaves of the pages that are held, and of the disk.
+use Rattle.std.specs.Prelude.{ℕ, ◌≡◌, ◌≤◌, List, Option, Result, IsErrOf, IfSome}
+use Rattle.fish_cold.specs.Cached.{IsReadFrom}
+use Rattle.fish_cold.specs.declared.cold.Cold.{Cold}
+use Rattle.fish_cold.specs.declared.refusal.ColdRefusal.{ColdRefusal}
+use Rattle.fish_cold.specs.declared.refusal.ColdRefusal.TheVariants.{Damaged, DiskFault, OutOfMemory}
+use Rattle.fish_disk.specs.Content.{StillReads}
+use Rattle.fish_disk.specs.Crash.{LeavesOnly}
+use Rattle.fish_outside.specs.Causes.{Rose}
+use Rattle.fish_rule.specs.declared.view.Key.{Key}
+use Rattle.fish_scan.specs.declared.refusal.ScanRefusal.{ScanRefusal}
+use Rattle.fish_scan.specs.declared.refusal.ScanRefusal.TheVariants as refusal
+
+-- the older records are those below the table's base
+pub record IsBelow (k : Key) (cold : Cold) : Type 0 where
+  pub number : cold.base.number ≡ k.number
+  pub line : cold.base.line ≡ k.line
+
+-- only pages were read: the base and the page starts are the same, each page that is held is what the disk reads, which reads
+-- what it did, and a crash leaves what it might have left before
+pub record StaysCold
+    {D : Type 0}
+    (content : D → Option (List ℕ))
+    (images : D → List ℕ → Type 0)
+    (since : D → ℕ → List ℕ → Type 0)
+    (moment faults : D → ℕ)
+    (old new : Cold)
+    (disk next : D) : Type 0 where
+  pub base : new.base ≡ old.base
+  pub starts : new.starts ≡ old.starts
+  pub kept : IfSome (content next) (λ c. IsReadFrom c old → IsReadFrom c new)
+  pub content_is : StillReads (content disk) (content next)
+  pub crash : LeavesOnly images since moment disk next (images disk)
+  pub later : faults disk ≤ faults next
+
+-- where the disk failed, its count of faults rose
+abbrev pub IsFaultOf : {T : Type 0} → ℕ → ℕ → Result T ColdRefusal → Type 0
+IsFaultOf before now result = IsErrOf result DiskFault → Rose before now
+
+-- damage is at a number from one on and up to another
+abbrev pub IsDamageIn : ℕ → ℕ → ColdRefusal → Type 0
+IsDamageIn from to (Damaged n) = (from ≤ n) × (n ≤ to)
+IsDamageIn from to DiskFault = from ≤ to
+IsDamageIn from to OutOfMemory = Unit {0}
+
+-- the same of a scan
+abbrev pub IsScanFault : {T : Type 0} → ℕ → ℕ → Result T ScanRefusal → Type 0
+IsScanFault before now result = IsErrOf result refusal.DiskFault → Rose before now

@@ -1,0 +1,46 @@
+-- The pieces of a plan, cut where a table begins.
+use Rattle.std.specs.Prelude.{ℕ, ◌≤◌, List, Option, Some, None, if◌then◌else◌, max, min, nat_lt, ◌≡◌, slice_get}
+use Rattle.std.specs.List.{filter_map}
+use Rattle.fish_lang.specs.Definition.{Definition}
+use Rattle.fish_plan.specs.Pieces.{piece_from, piece_to}
+use Rattle.fish_plan.specs.declared.pieces.Piece.{Piece}
+use Rattle.fish_plan.specs.declared.pieces.Piece.TheVariants.{Full, Index}
+use Rattle.fish_rule.specs.declared.view.Key.{Key}
+use Rattle.fish_rule.specs.declared.view.View.{View}
+use Rattle.fish_scan.specs.Indices.{IsIndex}
+use Rattle.fish_scan.specs.declared.reach.Reach.{Reach}
+
+-- the piece with other ends
+abbrev pub ended : Piece → ℕ → ℕ → Piece
+ended (Index id first last) from to = Index id from to
+ended (Full first last) from to = Full from to
+
+-- what of a piece is at or past a number, if anything is
+abbrev pub above_of : ℕ → Piece → Option Piece
+above_of base piece = if nat_lt base (piece_to piece) then Some (ended piece (max (piece_from piece) base) (piece_to piece)) else None
+
+-- what of it is below the number
+abbrev pub below_of : ℕ → Piece → Option Piece
+below_of base piece = if nat_lt (piece_from piece) base then Some (ended piece (piece_from piece) (min (piece_to piece) base)) else None
+
+-- what of the pieces is at or past a number
+abbrev pub pieces_above : ℕ → List Piece → List Piece
+pieces_above base pieces = filter_map (above_of base) pieces
+
+-- and what of them is below it
+abbrev pub pieces_below : ℕ → List Piece → List Piece
+pieces_below base pieces = filter_map (below_of base) pieces
+
+-- where the part of the range ends that is below the table, which is at its beginning where no number of it is
+abbrev pub last_below : Key → Reach → ℕ
+last_below k reach = max reach.from (min reach.to k.number)
+
+-- a piece below the table can be read: in the file each of its numbers is looked at, or an index holds them
+abbrev pub IsOlderReadable : View → Definition → ℕ → Piece → Type 0
+IsOlderReadable v def base (Index id from to) = (from ≤ to) × (to ≤ base) × IsIndex v def id from to
+IsOlderReadable v def base (Full from to) = (from ≤ to) × (to ≤ base)
+
+-- so each of them can
+abbrev pub AreOlderReadable : View → Definition → ℕ → List Piece → Type 0
+AreOlderReadable v def base pieces = (place : ℕ) (piece : Piece) → slice_get pieces place ≡ Some piece
+    → IsOlderReadable v def base piece

@@ -1,0 +1,80 @@
+//! The pieces of a plan are cut where the table begins: what is below is read from the file.
+
+ghost use Rattle.std.specs.Prelude.{◌≡◌, ◌++◌, [], IfOk, OnOk};
+ghost use Rattle.std.specs.List.{cons_option};
+ghost use Rattle.fish_scan.specs.Cutting.{above_of, below_of, ended, pieces_above, pieces_below};
+
+use fish_plan::Piece;
+use std::alloc::{AllocError, Global};
+
+/// What of the pieces is at or past a number.
+pub(crate) fn pieces_from(
+    alloc: Global,
+    pieces: &[Piece],
+    base: u32,
+) -> Result<Vec<Piece>, AllocError>
+    ensures { IfOk result (λ cut. cut.items ≡ pieces_above base pieces.now) }
+{
+    let mut cut = Vec::new(alloc);
+    for piece in pieces {
+        add_part(part_from(piece, base), &mut cut)?;
+    }
+    Ok(cut)
+}
+
+/// What of the pieces is below a number.
+pub(crate) fn pieces_before(
+    alloc: Global,
+    pieces: &[Piece],
+    base: u32,
+) -> Result<Vec<Piece>, AllocError>
+    ensures { IfOk result (λ cut. cut.items ≡ pieces_below base pieces.now) }
+{
+    let mut cut = Vec::new(alloc);
+    for piece in pieces {
+        add_part(part_before(piece, base), &mut cut)?;
+    }
+    Ok(cut)
+}
+
+/// Puts a part behind the others, if it is one.
+fn add_part(part: Option<Piece>, cut: &mut Vec<Piece>) -> Result<(), AllocError>
+    ensures { OnOk result (cut.new.items ≡ cut.old.items ++ cons_option part []) }
+{
+    if let Some(part) = part {
+        cut.push(part)?;
+    }
+    Ok(())
+}
+
+/// What of a piece is at or past a number, if anything is.
+fn part_from(piece: &Piece, base: u32) -> Option<Piece>
+    ensures { result ≡ above_of base piece.now }
+{
+    if piece.to() <= base {
+        return None;
+    }
+    let (from, to) = (piece.from().max(base), piece.to());
+    Some(with_ends(piece, from, to))
+}
+
+/// What of a piece is below a number, if anything is.
+fn part_before(piece: &Piece, base: u32) -> Option<Piece>
+    ensures { result ≡ below_of base piece.now }
+{
+    if base <= piece.from() {
+        return None;
+    }
+    let (from, to) = (piece.from(), piece.to().min(base));
+    Some(with_ends(piece, from, to))
+}
+
+/// The piece with other ends.
+fn with_ends(piece: &Piece, from: u32, to: u32) -> Piece
+    ensures { result ≡ ended piece.now from to }
+{
+    match piece {
+        Piece::Index { id, .. } => Piece::Index { id: *id, from, to },
+        Piece::Full { .. } => Piece::Full { from, to },
+    }
+}
