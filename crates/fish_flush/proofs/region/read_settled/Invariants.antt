@@ -23,5 +23,6 @@ invariant-loop-number l = record {
   read : (c : Commit) (w : List ℕ) (old : List Entry) → HoldsRows (view l.fn.pass) c.rows
       → IsReadTo c w old l.flusher.count l.flusher.line l.flusher.heads.items l.flusher.page l.flusher.starts.items
       → (more : List Entry) × AreTold (view l.pass) l.flusher.count more × (length more + l.flusher.count ≡ l.number)
-      × IsReadTo c (w ++ words_in l.batch.lines.items) (old ++ more) l.number l.batch.line l.batch.heads.items l.batch.page l.batch.starts.items;
+      × IsReadTo c (w ++ words_in l.batch.lines.items) (old ++ more) l.number l.batch.line l.batch.heads.items l.batch.page
+      l.batch.starts.items;
 }
