@@ -1,3 +1,4 @@
+pub mod Checkpoints
 pub mod Ingests
 pub mod Opening
 pub mod Registrations

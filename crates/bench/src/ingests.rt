@@ -4,6 +4,7 @@ ghost use Rattle.std.specs.Prelude.{All, IfOk};
 ghost use Rattle.bench.specs.Ingests.{IsIngestLane};
 ghost use Rattle.bench.specs.Opening.{IsControl, IsReady};
 ghost use Rattle.fish_ingest.specs.Ingestion.{CanIngest};
+ghost use Rattle.fish_ingest.specs.Passing.{OnlyIngests};
 ghost use Rattle.fish_rule.specs.Passes.{IsPassOf, view};
 ghost use Rattle.fish_rule.specs.declared.table.Log.{Log};
 
@@ -135,7 +136,8 @@ pub fn ingest_all(
     payloads: &[Text],
 ) -> u64
     requires { CanIngest log.now pass.old defs.old }
-    ensures { CanIngest log.now pass.new defs.new }
+    ensures ready { CanIngest log.now pass.new defs.new }
+    ensures on { OnlyIngests (view pass.old) (view pass.new) }
 {
     let mut bytes = 0u64;
     for payload in payloads {

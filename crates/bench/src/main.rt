@@ -2,6 +2,7 @@
 //! standard error: what was done, the lanes, the nanoseconds, and how much was done.
 #![tactic(auto)]
 
+mod checkpoints;
 mod definitions;
 mod events;
 mod images;
@@ -18,6 +19,7 @@ mod walks;
 mod words;
 mod workload;
 
+use checkpoints::measure_checkpoint;
 use events::read_events;
 use fish_value::Text;
 use images::measure_image;
@@ -84,8 +86,18 @@ fn measure<R: Threads + Sync + Clock + AllocGlobal + Eprint + Files>(
     match words {
         [work] => measure_alone(rt, work.as_str()),
         [work, name] => measure_named(rt, clock, work.as_str(), name.as_str()),
+        [work, name, path] => measure_put(clock, work.as_str(), name.as_str(), path.as_str()),
         _ => Err(Failure::Words),
     }
+}
+
+/// A measurement of the events in the file of a name, which puts them at a path where no file is.
+fn measure_put(rt: &HostRuntime, work: &str, name: &str, path: &str) -> Result<(), Failure> {
+    if work != "checkpoint" {
+        return Err(Failure::Words);
+    }
+    let payloads = read_events(rt, name)?;
+    Ok(measure_checkpoint(rt, payloads.as_slice(), path)?)
 }
 
 /// A measurement without a file.
