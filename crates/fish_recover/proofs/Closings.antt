@@ -102,7 +102,8 @@ module _ (old : List ℕ → Type 0) (slot : ℕ) (both : Bool) (le : slot ≤ 1
 
   -- and once it is closed all are at rest
   pub closed_rest : (new : List ℕ → Type 0) → ((i : List ℕ) → new i → TornFrom old (gate_at (1 - slot)) 1 i)
-      → ((i : List ℕ) → new i → IsOpen (1 - slot) i → ⊥) → AreAtRest new slot b w
+      → ((i : List ℕ) → new i → IsOpen (1 - slot) i → ⊥)
+      → AreAtRest new slot b w
   closed_rest new torn closed = record {
     whole = h.whole;
     rests = λ i here.
