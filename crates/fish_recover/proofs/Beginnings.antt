@@ -1,14 +1,13 @@
 -- The table that begins after a commit: a checkpoint may follow, and older records are read from the file.
-use Rattle.std.proofs.Common.{◌≡◌, ℕ, ◌+◌, ◌*◌, ◌^◌, ◌<◌, ◌≤◌, inl, inr, List, [], Bool, false, length, drop, map, refl, ap, sym, subst}
+use Rattle.std.proofs.Common.{◌≡◌, ℕ, ◌^◌, inl, inr, List, [], Bool, false, length, drop, map, refl, ap, sym, subst}
 use Rattle.std.proofs.Common.{◌∙◌, arith, slice_get, slice_index}
 use mathlib.Core.Option.{some-ne-none}
 use Rattle.std.proofs.lemmas.Bool.{cases_lt}
 use Rattle.std.proofs.lemmas.List.{drop_all, get_or_past}
 use Rattle.std.proofs.lemmas.Option.{same_Some}
-use Rattle.std.specs.Prelude.{Err, Ok, Option, Some, None, IfSome}
+use Rattle.std.specs.Prelude.{Ok, Option, Some, None, IfSome}
 use Rattle.fish_catalog.specs.Clamps.{clamped}
 use Rattle.fish_catalog.specs.Covering.{Covers}
-use Rattle.fish_catalog.specs.declared.commit.Checked.{Checked}
 use Rattle.fish_catalog.specs.declared.commit.Commit.{Commit}
 use Rattle.fish_catalog.specs.declared.entry.Entry.{Entry}
 use Rattle.fish_catalog.specs.declared.row.CatRow.{CatRow}
@@ -24,7 +23,7 @@ use Rattle.fish_image.proofs.Agreement.{agrees_number}
 use Rattle.fish_image.proofs.Newest.{head_lower}
 use Rattle.fish_image.specs.Log.{Agrees, values_under}
 use Rattle.fish_image.specs.Progress.{AreHeads}
-use Rattle.fish_image.specs.Reached.{Reached, head_of}
+use Rattle.fish_image.specs.Reached.{Reached}
 use Rattle.fish_image.specs.Stands.{words_in}
 use Rattle.fish_lang.proofs.Outcomes.{outcome-only}
 use Rattle.fish_lang.specs.Definition.{Definition}
@@ -32,12 +31,9 @@ use Rattle.fish_lang.specs.Language.{IsAccepted}
 use Rattle.fish_layout.specs.declared.parts.BodyParts.{BodyParts}
 use Rattle.fish_psf.specs.Records.{evaluation}
 use Rattle.fish_rule.specs.Logs.{AreTold}
-use Rattle.fish_rule.specs.Parts.{IsOlder, first_head}
-use Rattle.fish_rule.specs.Passes.{view}
-use Rattle.fish_rule.specs.Start.{CanOpen}
+use Rattle.fish_rule.specs.Parts.{IsOlder}
 use Rattle.fish_rule.specs.Table.{first_view}
 use Rattle.fish_rule.specs.declared.table.Shape.{Shape}
-use Rattle.fish_rule.specs.declared.view.Key.{Key}
 use Rattle.fish_rule.specs.declared.view.View.{View}
 use Rattle.fish_slots.proofs.Commits.{rests_commit}
 use Rattle.fish_recover.specs.Beginning.{BeginsAt, IsKept}

@@ -7,7 +7,6 @@ use Rattle.fish_disk.specs.Content.{StillReads, part}
 use Rattle.fish_disk.proofs.Moments.{leaves_more, leaves_then}
 use Rattle.fish_disk.specs.Crash.{LeavesOnly, Torn, TornFrom}
 use Rattle.fish_disk.proofs.Regions.{still_told, told_at, torn_apart}
-use Rattle.fish_slots.proofs.Commits.{rests_commit}
 use Rattle.fish_slots.specs.Commits.{Counts, HasCommit, Rests, next_turn, turn_of}
 use Rattle.fish_slots.specs.Places.{body_at, body_bytes, gate_at, lines_at}
 use Rattle.fish_slots.specs.Slots.{IsOpen, body_of, line_count, lines_of}

@@ -1,8 +1,7 @@
 -- What an opening found, whatever the disk tells: a body and whole lines, which tell one log.
-use Rattle.std.proofs.Common.{◌≡◌, ℕ, ◌+◌, ◌-◌, ◌*◌, ◌/◌, ◌^◌, ◌≤◌, List, length, drop, refl, ap, sym, subst, ◌∙◌, arith}
+use Rattle.std.proofs.Common.{◌≡◌, ℕ, ◌-◌, ◌*◌, ◌/◌, ◌^◌, ◌≤◌, List, length, drop, refl, ap, sym, subst, ◌∙◌, arith}
 use Rattle.std.proofs.lemmas.List.{length-take}
 use Rattle.std.specs.Prelude.{◌↔◌, Option, Some, None, IfSome, IsTrue}
-use Rattle.fish_catalog.specs.declared.commit.Checked.{Checked}
 use Rattle.fish_catalog.specs.declared.commit.Commit.{Commit}
 use Rattle.fish_catalog.specs.declared.entry.Entry.{Entry}
 use Rattle.fish_disk.proofs.Regions.{told_at}
@@ -12,7 +11,7 @@ use Rattle.fish_flush.specs.declared.flusher.Flusher.{Flusher}
 use Rattle.fish_image.proofs.Agreement.{agrees_within}
 use Rattle.fish_image.proofs.Spelling.{told_length}
 use Rattle.fish_image.specs.Checking.{HasChecked}
-use Rattle.fish_image.specs.Log.{Agrees, StandsFor}
+use Rattle.fish_image.specs.Log.{Agrees}
 use Rattle.fish_image.specs.Progress.{AreHeads}
 use Rattle.fish_image.specs.Reached.{Reached}
 use Rattle.fish_image.specs.Reading.{IsTold}

@@ -1,5 +1,5 @@
 -- What is open stands for the log for which the disk stood.
-use Rattle.std.proofs.Common.{◌≡◌, ℕ, ◌*◌, ◌-◌, ◌≤◌, ◌+◌, List, [], ◌∷◌, Bool, false, true, length, refl, ap, sym, subst, ◌∙◌, arith}
+use Rattle.std.proofs.Common.{◌≡◌, ℕ, ◌≤◌, List, [], ◌∷◌, Bool, false, true, length, refl, ap, sym, subst, ◌∙◌, arith}
 use Rattle.std.proofs.lemmas.Option.{same_Some}
 use Rattle.std.specs.Prelude.{Option, Some, None, IfSome, IsSome}
 use Rattle.fish_catalog.specs.declared.commit.Commit.{Commit}

@@ -48,7 +48,8 @@ fn close_other<D: Disk>(disk: &mut D, slot: u8, both: bool) -> Result<(), Failed
     requires slot { slot ≤ 1 }
     requires synced { (c : List ℕ) → D.images disk.old c → D.content disk.old ≡ Some c }
     requires stored { (b w : List ℕ) × AreStored (D.images disk.old) slot both b w }
-    ensures rests { OnOk result ((b w : List ℕ) → AreStored (D.images disk.old) slot both b w → AreAtRest (D.images disk.new) slot b w) }
+    ensures rests { OnOk result ((b w : List ℕ) → AreStored (D.images disk.old) slot both b w
+        → AreAtRest (D.images disk.new) slot b w) }
     ensures synced { OnOk result ((c : List ℕ) → D.images disk.new c → D.content disk.new ≡ Some c) }
     ensures crash { (b w : List ℕ) → AreStored (D.images disk.old) slot both b w
         → LeavesOnly D.images D.since D.moment disk.old disk.new (HasCommit b w) }

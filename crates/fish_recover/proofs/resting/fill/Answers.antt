@@ -1,10 +1,7 @@
 -- Nothing is written but after the end of the file.
-use Rattle.std.proofs.Common.{◌≡◌, ◌∙◌, ◌<◌, ◌≤◌, ◌+◌, ◌*◌, ℕ, List, ap, length, arith}
+use Rattle.std.proofs.Common.{◌≤◌, ◌+◌, ℕ, List, ap, length, arith}
 use Rattle.std.proofs.lemmas.Option.{IfSome_then}
 use Rattle.fish_disk.proofs.Regions.{through_part}
-use Rattle.fish_disk.specs.Content.{part}
-use Rattle.fish_slots.specs.Places.{lines_at}
-use Rattle.fish_slots.specs.Slots.{line_count}
 use Rattle.fish_recover.proofs.Closings.{fewer_rest, fill_leaves, image_long, lines_long, part_long}
 use Rattle.fish_recover.proofs.resting.fill.Goals as goal
 

@@ -6,8 +6,7 @@ use Rattle.fish_recover.proofs.Beginnings.{begun_open, committed_kept}
 use Rattle.fish_recover.proofs.Refusals.{err_is, err_ok, flush_cause, flushed_outside, memory_cause, ok_cause}
 use Rattle.fish_recover.specs.Beginning.{BeginsAt}
 use Rattle.fish_recover.specs.Opening.{IsOutside}
-use Rattle.fish_recover.specs.Stores.{IsOpened, asked_shape}
-use Rattle.fish_recover.specs.declared.opened.Opened.{Opened}
+use Rattle.fish_recover.specs.Stores.{IsOpened}
 use Rattle.fish_recover.specs.declared.refusal.OpenRefusal.TheVariants.{OutOfMemory}
 use Rattle.fish_rule.specs.Start.{IsShape}
 use Rattle.fish_rule.specs.declared.table.Shape.{Shape}

@@ -1,9 +1,8 @@
 -- What is on the disk once it was synced is what is opened.
-use Rattle.std.proofs.Common.{◌≡◌, ℕ, ◌+◌, ◌≤◌, ◌⊎◌, inl, inr, List, [], sym, subst, ◌∙◌, arith}
-use Rattle.std.specs.Prelude.{Some, IfErr, IfOk, IfSome}
+use Rattle.std.proofs.Common.{◌≡◌, ℕ, ◌⊎◌, inl, inr, List, [], sym, subst, arith}
+use Rattle.std.specs.Prelude.{Some}
 use Rattle.std.proofs.lemmas.Option.{IfSome_then}
 use Rattle.fish_disk.proofs.Moments.{leaves_each, leaves_more, leaves_then}
-use Rattle.fish_disk.proofs.Regions.{told_at}
 use Rattle.fish_disk.specs.Content.{StillReads}
 use Rattle.fish_image.specs.Stands.{Stands}
 use Rattle.fish_slots.proofs.Keeping.{on_ok}

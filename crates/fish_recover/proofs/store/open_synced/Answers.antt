@@ -1,5 +1,5 @@
 -- An empty disk gets a store, and any other is read.
-use Rattle.std.proofs.Common.{◌≡◌, ℕ, ◌+◌, ◌<◌, ◌≤◌, List, [], length, refl, sym, subst, ◌∙◌, arith, true}
+use Rattle.std.proofs.Common.{◌≡◌, ℕ, ◌+◌, ◌≤◌, List, [], length, sym, subst, arith, true}
 use Rattle.std.specs.Prelude.{IfErr, IfOk, IfSome}
 use Rattle.std.proofs.lemmas.Option.{IfSome_then}
 use Rattle.fish_disk.proofs.Moments.{leaves_more, leaves_then}
@@ -14,7 +14,6 @@ use Rattle.fish_recover.proofs.Refusals.{store_cause}
 use Rattle.fish_recover.proofs.Slots.{still_then}
 use Rattle.fish_recover.specs.Opening.{IsOfStore, IsOpenCause, IsOutside}
 use Rattle.fish_recover.specs.Stores.{HasOpened, IsOpened, IsStoreCause, asked_shape}
-use Rattle.fish_recover.specs.declared.opened.Opened.{Opened}
 use Rattle.fish_recover.specs.declared.refusal.OpenRefusal.TheVariants.{DiskFault}
 use Rattle.fish_recover.proofs.store.open_synced.Goals as goal
 
