@@ -205,42 +205,107 @@ fn put_answer(told: &mut String, answer: &Answer) -> Result<(), AllocError> {
     Ok(())
 }
 
+/// What was read, or why nothing was.
 fn answer_told(alloc: Global, answer: Result<Answer, ScanRefusal>) -> Result<String, AllocError> {
-    let mut told = String::new(alloc);
     match answer {
         Ok(answer) => {
-            let put = put_answer(&mut told, &answer);
+            let told = read_told(alloc, &answer);
             drop(answer);
-            put?;
+            told
         }
-        Err(refusal) => write!(&mut told, "{refusal}")?,
+        Err(refusal) => format!(in alloc; "{refusal}"),
     }
+}
+
+fn read_told(alloc: Global, answer: &Answer) -> Result<String, AllocError> {
+    let mut told = String::new(alloc);
+    put_answer(&mut told, answer)?;
     Ok(told)
 }
 
-fn case_told(alloc: Global, case: &Case) -> Result<String, AllocError> {
-    let bytes = file(alloc, &(0, 0, case.3, 99))?;
-    let mut disk = MemoryDisk::new(alloc, bytes, numbers(alloc, &[99])?);
-    let (log, mut pass) = opened(alloc)?;
-    let mut cold = nothing_read(alloc, &log)?;
+/// Asks, with what is read, and drops the question.
+fn asked_told(
+    alloc: Global,
+    case: &Case,
+    log: &Log,
+    pass: &mut Pass,
+    defs: &mut Defs,
+    cold: &mut Cold,
+    disk: &mut MemoryDisk,
+) -> Result<String, AllocError>
+    requires pass { IsPassOf log.now pass.old }
+    requires defs { IsDefsOf (view pass.old) defs.old }
+    requires base { IsBelow log.now.key cold.old }
+{
     let ask = ask_of(alloc, case)?;
-    let Ok(mut defs) = stored(alloc, &log, &mut pass) else {
-        return Err(AllocError);
-    };
     let answer = scanned::<Brand, Brand, MemoryDisk>(
         alloc,
         Blank::new(1),
         Blank::new(1),
-        &log,
-        &mut pass,
-        &mut defs,
+        log,
+        pass,
+        defs,
         &ask,
-        &mut cold,
-        &mut disk,
+        cold,
+        disk,
     );
-    drop((ask, defs, cold, disk));
-    drop((pass, log));
+    drop(ask);
     answer_told(alloc, answer)
+}
+
+/// Stores the fourth record, asks, and drops what was read for it.
+fn stored_told(
+    alloc: Global,
+    case: &Case,
+    log: &Log,
+    pass: &mut Pass,
+    cold: &mut Cold,
+    disk: &mut MemoryDisk,
+) -> Result<String, AllocError>
+    requires out { IsOutOf log.now pass.old }
+    requires base { IsBelow log.now.key cold.old }
+{
+    match stored(alloc, log, pass) {
+        Ok(mut defs) => {
+            let told = asked_told(alloc, case, log, pass, &mut defs, cold, disk);
+            drop(defs);
+            told
+        }
+        Err(refusal) => format!(in alloc; "{refusal}"),
+    }
+}
+
+/// Does so with nothing read yet of what is below the log.
+fn cold_told(
+    alloc: Global,
+    case: &Case,
+    log: &Log,
+    pass: &mut Pass,
+    disk: &mut MemoryDisk,
+) -> Result<String, AllocError>
+    requires { IsOutOf log.now pass.old }
+{
+    let mut cold = nothing_read(alloc, log)?;
+    let told = stored_told(alloc, case, log, pass, &mut cold, disk);
+    drop(cold);
+    told
+}
+
+/// Does so with a log of its own.
+fn log_told(alloc: Global, case: &Case, disk: &mut MemoryDisk) -> Result<String, AllocError> {
+    let (log, mut pass) = opened(alloc)?;
+    let told = cold_told(alloc, case, &log, &mut pass, disk);
+    drop(pass);
+    drop(log);
+    told
+}
+
+fn case_told(alloc: Global, case: &Case) -> Result<String, AllocError> {
+    let bytes = file(alloc, &(0, 0, case.3, 99))?;
+    let mut disk = MemoryDisk::new(alloc, bytes, numbers(alloc, &[])?);
+    let told = log_told(alloc, case, &mut disk);
+    drop(disk);
+    told
 }
 
 #[test]
