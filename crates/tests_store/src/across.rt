@@ -3,9 +3,7 @@
 ghost use Rattle.std.specs.Prelude.{◌≡◌, ◌<◌, ◌≤◌, All, IfOk};
 ghost use Rattle.fish_catalog.specs.Clamps.{IsClamped};
 ghost use Rattle.fish_epoch.specs.Definitions.{IsDefsOf};
-ghost use Rattle.fish_ingest.specs.Ingestion.{CanIngest};
 ghost use Rattle.fish_rule.specs.Passes.{IsPassOf, view};
-ghost use Rattle.fish_rule.specs.Start.{CanOpen};
 ghost use Rattle.fish_scan.specs.Colder.{IsBelow};
 ghost use Rattle.tests_store.specs.Flushing.{IsOutOf};
 ghost use Rattle.tests_store.specs.Heads.{AreOlder};
