@@ -31,7 +31,7 @@ use std::test::Fail;
 /// How the log is read, from which number on, up to which, and how many words of it the file has.
 type Case = (How, Option<u32>, Option<u32>, usize);
 
-/// The records whose `type` is `Push`, and the plan. The last line of the file is missing in the last two.
+/// The records whose `type` is `Push`, and the plan. The last line of the file is missing in the last three.
 const CASES: &[(Case, &str)] = &[
     ((How::Auto, None, None, 24), "3 2 0 in 0..4 index 0..4"),
     ((How::Index, None, None, 24), "3 2 0 in 0..4 index 0..4"),
