@@ -90,7 +90,7 @@ fn row(
 }
 
 /// The definitions, or none of them if they should be refused.
-fn catalog(alloc: Global, flag: Option<u32>) -> Result<Catalog, AllocError> {
+pub(crate) fn catalog(alloc: Global, flag: Option<u32>) -> Result<Catalog, AllocError> {
     let mut rows = Vec::new(alloc);
     rows.push(row(alloc, 0, ("kind", "take type"), Some(0))?)?;
     rows.push(row(alloc, 1, ("flag", "flag when type exists"), flag)?)?;

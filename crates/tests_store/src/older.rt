@@ -61,7 +61,7 @@ const CASES: &[(Case, &str)] = &[
 ];
 
 /// A file whose slots are empty, with so many words of the log, of which one is changed.
-fn file(alloc: Global, case: &Case) -> Result<Bytes, AllocError> {
+pub(crate) fn file(alloc: Global, case: &Case) -> Result<Bytes, AllocError> {
     let mut bytes = vec![in alloc; 0u8; LINES_AT as usize]?;
     for (place, word) in WORDS.iter().enumerate() {
         if place < case.2 {

@@ -1,0 +1,12 @@
+-- One head more is of older records.
+use Rattle.std.proofs.Common.{ℕ, ◌+◌, sym, subst, arith}
+use Rattle.tests_store.proofs.Heads.{older_push}
+use Rattle.tests_store.specs.Heads.{AreOlder}
+use Rattle.tests_store.proofs.across.heads_of.Goals as goal
+
+pub loop-bucket-preserved : goal.loop-bucket-preserved
+loop-bucket-preserved c =
+    let n : ℕ = c.loop-bucket.bucket in
+    let few = c.head_of.ensures in
+    subst (AreOlder 6 (n + 1)) (sym c.in_ok-push.ensures.ok)
+    (older_push 6 n c.head_of.result c.loop-bucket.heads (λ some. omega arith) c.loop-bucket.invariant)

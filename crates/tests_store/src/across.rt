@@ -1,0 +1,313 @@
+//! Scans across the base of a log: three older records in the file, and a fourth in the table.
+
+ghost use Rattle.std.specs.Prelude.{◌≡◌, ◌<◌, ◌≤◌, All, IfOk};
+ghost use Rattle.fish_catalog.specs.Clamps.{IsClamped};
+ghost use Rattle.fish_epoch.specs.Definitions.{IsDefsOf};
+ghost use Rattle.fish_rule.specs.Passes.{IsPassOf, view};
+ghost use Rattle.fish_scan.specs.Colder.{IsBelow};
+ghost use Rattle.tests_store.specs.Flushing.{IsOutOf};
+ghost use Rattle.tests_store.specs.Heads.{AreOlder};
+
+use crate::flushing::store;
+use crate::images::catalog;
+use crate::older::file;
+use crate::told::{expect_all, numbers};
+use fish_catalog::{Catalog, PageStart, PageStarts};
+use fish_cold::Cold;
+use fish_disk::{Disk, MemoryDisk};
+use fish_epoch::Defs;
+use fish_ingest::IngestRefusal;
+use fish_plan::Piece;
+use fish_psf::Steps;
+use fish_rule::{Base, Log, Pass, Shape, Start, base, open_log};
+use fish_scan::{Answer, Ask, How, ScanRefusal, scan_with};
+use fish_value::{Numbers64, Text, Value};
+use std::alloc::{AllocError, Global};
+use std::fmt::Write;
+use std::marker::Brand;
+use std::sync::ledger::{Blank, Ledger};
+use std::test::Fail;
+
+/// How the log is read, from which number on, up to which, and how many words of it the file has.
+type Case = (How, Option<u32>, Option<u32>, usize);
+
+/// The records whose `type` is `Push`, and the plan. The last line of the file is missing in the last three.
+const CASES: &[(Case, &str)] = &[
+    ((How::Auto, None, None, 24), "3 2 0 in 0..4 index 0..4"),
+    ((How::Index, None, None, 24), "3 2 0 in 0..4 index 0..4"),
+    ((How::Full, None, None, 24), "3 2 0 in 0..4 full 0..4"),
+    ((How::Auto, Some(1), None, 24), "3 2 in 1..4 index 1..4"),
+    ((How::Full, Some(1), Some(3), 24), "2 in 1..3 full 1..3"),
+    ((How::Auto, None, Some(2), 24), "0 in 0..2 index 0..2"),
+    ((How::Full, Some(3), None, 20), "3 in 3..4 full 3..4"),
+    ((How::Full, None, None, 20), "damaged at 2"),
+    ((How::Auto, None, None, 20), "damaged at 3"),
+];
+
+/// A log of one page, of sixteen buckets.
+const SHAPE: Shape = Shape {
+    pages: 1,
+    bucket_bits: 4,
+};
+
+/// The heads of the buckets of `Push` and `Pull`.
+fn head_of(bucket: u32) -> u64
+    ensures { result ≤ 17 }
+{
+    match bucket {
+        5 => 17,
+        6 => 9,
+        _ => 0,
+    }
+}
+
+fn heads_of(alloc: Global) -> Result<Numbers64, AllocError>
+    ensures { IfOk result (AreOlder 6 16) }
+{
+    let mut heads = Numbers64::new(alloc);
+    for bucket in 0..16_u32 {
+        heads.push(head_of(bucket))?;
+    }
+    Ok(heads)
+}
+
+/// The definitions, with boundaries that are at most the base.
+fn clamped(alloc: Global) -> Result<Catalog, AllocError>
+    ensures { IfOk result (λ catalog. All (IsClamped 3) catalog) }
+{
+    let mut rows = catalog(alloc, None)?;
+    rows.clamp(3);
+    Ok(rows)
+}
+
+/// A log that begins after three records of two lines each.
+fn opened(alloc: Global) -> Result<(Log, Pass), AllocError>
+    ensures { IfOk result (λ r. IsOutOf r.0 r.1) }
+{
+    let heads = heads_of(alloc)?;
+    match clamped(alloc) {
+        Ok(catalog) => {
+            let start = Start {
+                base: Base { number: 3, line: 6 },
+                heads,
+                catalog,
+                version: 0,
+            };
+            let log = open_log(alloc, SHAPE, &start);
+            drop(start);
+            log
+        }
+        Err(error) => {
+            drop(heads);
+            Err(error)
+        }
+    }
+}
+
+/// Nothing read of what is below the log, in which one page has a start.
+fn nothing_read(alloc: Global, log: &Log) -> Result<Cold, AllocError>
+    ensures { IfOk result (IsBelow log.now.key) }
+{
+    let mut starts = PageStarts::new(alloc);
+    starts.push(PageStart { number: 0, line: 0 })?;
+    let base = base(log);
+    if base.line > 1 << 30 {
+        drop(starts);
+        return Err(AllocError);
+    }
+    Cold::new(alloc, base, starts)
+}
+
+/// The fourth record, and the definitions that were read for it.
+fn stored(alloc: Global, log: &Log, pass: &mut Pass) -> Result<Defs, IngestRefusal>
+    requires { IsOutOf log.now pass.old }
+    ensures pass { IsPassOf log.now pass.new }
+    ensures defs { IfOk result (IsDefsOf (view pass.new)) }
+{
+    let mut defs = Defs::new(alloc);
+    match store(alloc, log, pass, &mut defs, b"{\"type\":\"Push\"}") {
+        Ok(_) => Ok(defs),
+        Err(refusal) => {
+            drop(defs);
+            Err(refusal)
+        }
+    }
+}
+
+/// What is asked.
+fn ask_of(alloc: Global, case: &Case) -> Result<Ask, AllocError> {
+    let name = Text::copy_of(alloc, "kind")?;
+    let value = Value::Text(Text::copy_of(alloc, "Push")?);
+    Ok(Ask {
+        name,
+        value,
+        from: case.1,
+        to: case.2,
+        how: case.0,
+    })
+}
+
+/// The answer, with counters of two blanks.
+fn scanned<P: Ledger, L: Ledger, D: Disk>(
+    alloc: Global,
+    parses: Blank,
+    loads: Blank,
+    log: &Log,
+    pass: &mut Pass,
+    defs: &mut Defs,
+    ask: &Ask,
+    cold: &mut Cold,
+    disk: &mut D,
+) -> Result<Answer, ScanRefusal>
+    requires name { parses.name ≡ P.name }
+    requires parts { parses.parts ≡ P.parts }
+    requires some { 0 < parses.parts }
+    requires loads_name { loads.name ≡ L.name }
+    requires loads_parts { loads.parts ≡ L.parts }
+    requires loads_some { 0 < loads.parts }
+    requires pass { IsPassOf log.now pass.old }
+    requires defs { IsDefsOf (view pass.old) defs.old }
+    requires base { IsBelow log.now.key cold.old }
+{
+    let mut parses = Steps::<P>::new(parses);
+    let mut loads = Steps::<L>::new(loads);
+    scan_with(
+        alloc,
+        log,
+        pass,
+        defs,
+        ask,
+        cold,
+        disk,
+        &mut parses,
+        &mut loads,
+    )
+}
+
+/// A piece of a plan, after other text.
+fn put_piece(told: &mut String, piece: &Piece) -> Result<(), AllocError> {
+    match piece {
+        Piece::Index { from, to, .. } => write!(told, " index {from}..{to}"),
+        Piece::Full { from, to } => write!(told, " full {from}..{to}"),
+    }
+}
+
+fn put_answer(told: &mut String, answer: &Answer) -> Result<(), AllocError> {
+    for row in answer.rows.as_slice() {
+        write!(told, "{} ", row.number)?;
+    }
+    write!(told, "in {}..{}", answer.from, answer.to)?;
+    for piece in answer.plan.pieces() {
+        put_piece(told, piece)?;
+    }
+    Ok(())
+}
+
+/// What was read, or why nothing was.
+fn answer_told(alloc: Global, answer: Result<Answer, ScanRefusal>) -> Result<String, AllocError> {
+    match answer {
+        Ok(answer) => {
+            let told = read_told(alloc, &answer);
+            drop(answer);
+            told
+        }
+        Err(refusal) => format!(in alloc; "{refusal}"),
+    }
+}
+
+fn read_told(alloc: Global, answer: &Answer) -> Result<String, AllocError> {
+    let mut told = String::new(alloc);
+    put_answer(&mut told, answer)?;
+    Ok(told)
+}
+
+/// Asks, with what is read, and drops the question.
+fn asked_told(
+    alloc: Global,
+    case: &Case,
+    log: &Log,
+    pass: &mut Pass,
+    defs: &mut Defs,
+    cold: &mut Cold,
+    disk: &mut MemoryDisk,
+) -> Result<String, AllocError>
+    requires pass { IsPassOf log.now pass.old }
+    requires defs { IsDefsOf (view pass.old) defs.old }
+    requires base { IsBelow log.now.key cold.old }
+{
+    let ask = ask_of(alloc, case)?;
+    let answer = scanned::<Brand, Brand, MemoryDisk>(
+        alloc,
+        Blank::new(1),
+        Blank::new(1),
+        log,
+        pass,
+        defs,
+        &ask,
+        cold,
+        disk,
+    );
+    drop(ask);
+    answer_told(alloc, answer)
+}
+
+/// Stores the fourth record, asks, and drops what was read for it.
+fn stored_told(
+    alloc: Global,
+    case: &Case,
+    log: &Log,
+    pass: &mut Pass,
+    cold: &mut Cold,
+    disk: &mut MemoryDisk,
+) -> Result<String, AllocError>
+    requires out { IsOutOf log.now pass.old }
+    requires base { IsBelow log.now.key cold.old }
+{
+    match stored(alloc, log, pass) {
+        Ok(mut defs) => {
+            let told = asked_told(alloc, case, log, pass, &mut defs, cold, disk);
+            drop(defs);
+            told
+        }
+        Err(refusal) => format!(in alloc; "{refusal}"),
+    }
+}
+
+/// Does so with nothing read yet of what is below the log.
+fn cold_told(
+    alloc: Global,
+    case: &Case,
+    log: &Log,
+    pass: &mut Pass,
+    disk: &mut MemoryDisk,
+) -> Result<String, AllocError>
+    requires { IsOutOf log.now pass.old }
+{
+    let mut cold = nothing_read(alloc, log)?;
+    let told = stored_told(alloc, case, log, pass, &mut cold, disk);
+    drop(cold);
+    told
+}
+
+/// Does so with a log of its own.
+fn log_told(alloc: Global, case: &Case, disk: &mut MemoryDisk) -> Result<String, AllocError> {
+    let (log, mut pass) = opened(alloc)?;
+    let told = cold_told(alloc, case, &log, &mut pass, disk);
+    drop(pass);
+    drop(log);
+    told
+}
+
+fn case_told(alloc: Global, case: &Case) -> Result<String, AllocError> {
+    let bytes = file(alloc, &(0, 0, case.3, 99))?;
+    let mut disk = MemoryDisk::new(alloc, bytes, numbers(alloc, &[])?);
+    let told = log_told(alloc, case, &mut disk);
+    drop(disk);
+    told
+}
+
+#[test]
+fn scans_across_the_base(rt: HostRuntime) -> Result<(), Fail> {
+    expect_all(&rt, rt.alloc(), CASES, case_told)?;
+    Ok(())
+}
