@@ -1,7 +1,7 @@
 //! A store that is opened again: the opening, beside the reading of its payloads alone, and scans of its records, which all
 //! are in the file.
 
-ghost use Rattle.std.specs.Prelude.{IfOk};
+ghost use Rattle.std.specs.Prelude.{IfOk, IsTrue};
 ghost use Rattle.fish_rule.specs.Passes.{IsPassOf};
 ghost use Rattle.fish_scan.specs.Colder.{IsBelow};
 
@@ -130,8 +130,7 @@ fn scan_opened<D: Disk>(
 ) -> Result<(), AllocError>
     requires { IsPassOf log.now pass.old }
 {
-    let (older, above) = (cold.base(), base(log));
-    if older.number != above.number || older.line != above.line {
+    if !lies_below(log, cold) {
         return Err(AllocError);
     }
     for &(kind, words) in TYPES {
@@ -141,6 +140,14 @@ fn scan_opened<D: Disk>(
         scan_newest(rt, log, pass, cold, disk, kind, words)?;
     }
     Ok(())
+}
+
+/// Whether older records are those below the base of a log.
+fn lies_below(log: &Log, cold: &Cold) -> bool
+    ensures { IsTrue result → IsBelow log.now.key cold.now }
+{
+    let (older, above) = (cold.base(), base(log));
+    older.number == above.number && older.line == above.line
 }
 
 /// Times a scan of all records number by number, and the selection of the same from the payloads in memory. They give as many

@@ -41,21 +41,32 @@ pub fn time_older<D: Disk>(
     ensures pass { IsPassOf log.now pass.new }
     ensures below { IsBelow log.now.key cold.new }
 {
-    let alloc = rt.alloc();
-    let name = Text::copy_of(alloc, "type")?;
-    let ask = Ask {
-        name,
-        value: Value::Text(Text::copy_of(alloc, scan.kind)?),
-        from: Some(scan.from),
-        to: None,
-        how: scan.how,
-    };
+    let ask = ask_of(rt.alloc(), scan)?;
     let timed = time_asked(rt, log, pass, cold, disk, &ask);
     drop(ask);
     match timed {
         Some(timed) => Ok(timed),
         None => Err(AllocError),
     }
+}
+
+/// What it asks.
+fn ask_of(alloc: Global, scan: Scan<'_>) -> Result<Ask, AllocError> {
+    let value = Value::Text(Text::copy_of(alloc, scan.kind)?);
+    let name = match Text::copy_of(alloc, "type") {
+        Ok(name) => name,
+        Err(want) => {
+            drop(value);
+            return Err(want);
+        }
+    };
+    Ok(Ask {
+        name,
+        value,
+        from: Some(scan.from),
+        to: None,
+        how: scan.how,
+    })
 }
 
 /// The same of what is asked.
