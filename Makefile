@@ -10,7 +10,7 @@ CRATES := $(shell sed -n 's/^\(fish[a-z_]*\).*:.*/\1/p' crates.txt)
 FILES = $(shell find $(1) -name out -prune -o \( -path '*/src/*' -o -path '*/specs/*' -o -path '*/proofs/*' \) -type f -print)
 SOURCES := crates.txt $(call FILES,crates/fish*)
 
-.PHONY: demo build test try edits gate install bench bench_run bench_log bench_ingest bench_registrations bench_scans bench_peers bench_checkpoints clean
+.PHONY: demo build test try edits gate install bench bench_run bench_log bench_ingest bench_registrations bench_scans bench_peers bench_checkpoints bench_older clean
 
 # Runs both commands of the program on the examples, built once and with no proof: their words stand a line each.
 demo:
@@ -56,7 +56,7 @@ bench: build
 bench_run: build
 	bench/run.sh
 
-# The program of the six benchmarks below, proved.
+# The program of the seven benchmarks below, proved.
 $(BENCHMARKS): $(SOURCES) $(call FILES,crates/bench)
 	tools/prove bench
 
@@ -83,6 +83,10 @@ bench_peers: $(BENCHMARKS)
 # Times checkpoints of a log of events beside a plain C program that writes the same bytes with the same syncs.
 bench_checkpoints: $(BENCHMARKS)
 	bench/checkpoints.sh
+
+# Times a store that is opened again: the opening, and scans of its records in the file.
+bench_older: $(BENCHMARKS)
+	bench/older.sh
 
 clean:
 	rm -rf crates/*/out bench/data

@@ -3,11 +3,14 @@
 #![tactic(auto)]
 
 mod checkpoints;
+mod counted;
 mod definitions;
 mod events;
 mod images;
 mod ingests;
 mod lanes;
+mod older;
+mod older_scans;
 mod opening;
 mod parses;
 mod records;
@@ -25,6 +28,7 @@ use fish_value::Text;
 use images::measure_image;
 use ingests::measure_ingest;
 use lanes::LaneCount;
+use older::measure_older;
 use parses::{Reading, measure_parses};
 use registrations::{Changes, Work, measure_registrations};
 use scans::measure_scans;
@@ -93,11 +97,24 @@ fn measure<R: Threads + Sync + Clock + AllocGlobal + Eprint + Files>(
 
 /// A measurement of the events in the file of a name, which puts them at a path where no file is.
 fn measure_put(rt: &HostRuntime, work: &str, name: &str, path: &str) -> Result<(), Failure> {
-    if work != "checkpoint" {
-        return Err(Failure::Words);
+    if work == "checkpoint" {
+        let payloads = read_events(rt, name)?;
+        return Ok(measure_checkpoint(rt, payloads.as_slice(), path)?);
     }
-    let payloads = read_events(rt, name)?;
-    Ok(measure_checkpoint(rt, payloads.as_slice(), path)?)
+    if work == "older" {
+        let payloads = read_events(rt, name)?;
+        return Ok(measure_reopened(rt, payloads.as_slice(), path)?);
+    }
+    Err(Failure::Words)
+}
+
+/// A checkpoint, and then the rounds of the store that it made.
+fn measure_reopened(rt: &HostRuntime, payloads: &[Text], path: &str) -> Result<(), AllocError> {
+    measure_checkpoint(rt, payloads, path)?;
+    for _ in 0..ROUNDS {
+        measure_older(rt, payloads, path)?;
+    }
+    Ok(())
 }
 
 /// A measurement without a file.

@@ -50,7 +50,7 @@ impl<'a> Lane<Reading> for ParseLane<'a> {
     fn run(&mut self, reading: &Reading) {
         self.bytes = match *reading {
             Reading::Tree => parse_all::<Brand>(self.alloc, Blank::new(1), self.payloads),
-            Reading::Kept => read_all::<Brand>(self.alloc, Blank::new(1), self.payloads),
+            Reading::Kept => read_once(self.alloc, self.payloads),
         };
     }
 
@@ -98,7 +98,12 @@ fn parse_all<P: Ledger>(alloc: Global, blank: Blank, payloads: &[Text]) -> u64
     bytes
 }
 
-/// Reads payloads in order with one reader, and a counter of a blank. How many bytes were read.
+/// Reads payloads in order with one reader. How many bytes were read.
+pub fn read_once(alloc: Global, payloads: &[Text]) -> u64 {
+    read_all::<Brand>(alloc, Blank::new(1), payloads)
+}
+
+/// Reads payloads in order with one reader, and a counter of a blank.
 fn read_all<P: Ledger>(alloc: Global, blank: Blank, payloads: &[Text]) -> u64
     requires name { blank.name ≡ P.name }
     requires parts { blank.parts ≡ P.parts }

@@ -327,7 +327,7 @@ fn scanned<P: Ledger, L: Ledger>(
 }
 
 /// How many rows an answer has, if there is one.
-fn rows_in(answer: Result<Answer, ScanRefusal>) -> Option<u64> {
+pub fn rows_in(answer: Result<Answer, ScanRefusal>) -> Option<u64> {
     match answer {
         Ok(answer) => {
             let rows = answer.rows.len() as u64;

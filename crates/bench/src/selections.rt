@@ -80,7 +80,7 @@ fn time_type<R: Clock + AllocGlobal>(
 }
 
 /// How many bytes payloads have.
-fn bytes_of(payloads: &[Text]) -> u64 {
+pub fn bytes_of(payloads: &[Text]) -> u64 {
     let mut bytes = 0u64;
     for payload in payloads {
         bytes = bytes.saturating_add(payload.as_bytes().len() as u64);
@@ -89,7 +89,7 @@ fn bytes_of(payloads: &[Text]) -> u64 {
 }
 
 /// Times the selection of a type of events.
-fn time_select<R: Clock + AllocGlobal>(
+pub fn time_select<R: Clock + AllocGlobal>(
     rt: &R,
     kind: &str,
     payloads: &[Text],

@@ -32,7 +32,7 @@ impl Failure {
     pub fn message(self) -> &'static str {
         match self {
             Failure::Words =>
-                "usage: bench log | bench image | bench ingest FILE | bench registrations FILE | bench scans FILE | bench checkpoint FILE PATH",
+                "usage: bench log | bench image | bench ingest FILE | bench registrations FILE | bench scans FILE | bench checkpoint FILE PATH | bench older FILE PATH",
             Failure::Events => "bench: the file can't be read as events",
             Failure::OutOfMemory => "bench: out of memory",
         }

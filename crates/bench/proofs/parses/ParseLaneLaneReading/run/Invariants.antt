@@ -3,6 +3,3 @@ use Rattle.bench.proofs.parses.ParseLaneLaneReading.run.Given as goal
 
 abbrev pub ghosts-parse_all : goal.ghosts-parse_all
 ghosts-parse_all a = record { name = a.blank.name; parts = a.blank.parts }
-
-abbrev pub ghosts-read_all : goal.ghosts-read_all
-ghosts-read_all a = record { name = a.blank.name; parts = a.blank.parts }
