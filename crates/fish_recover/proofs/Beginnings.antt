@@ -130,6 +130,13 @@ module _ (images : List ℕ → Type 0) (f : Flusher) (c : Commit) (log : List E
         told = none_told (first_view o.log.key) o.log.key.number log (omega arith);
       }
 
+  -- the older records are those below the base
+  below_number : o.cold.base.number ≡ o.log.key.number
+  below_number = h.opens.cold.base.number ∙ sym h.after.base.number ∙ sym h.opens.key.number
+
+  below_line : o.cold.base.line ≡ o.log.key.line
+  below_line = h.opens.cold.base.line ∙ sym h.after.base.line ∙ sym h.opens.key.line
+
   module _ (i : List ℕ) (here : images i) where
     abbrev end : Reached
     end = rest.committed.is.stands.end
@@ -179,8 +186,8 @@ module _ (images : List ℕ → Type 0) (f : Flusher) (c : Commit) (log : List E
           ap (λ (l : List ℕ). slice_index l b) (h.opens.key.heads ∙ h.after.heads)
           ∙ rest.committed.heads.each b (let many = h.opens.key.buckets ∙ ap (λ (n : ℕ). 2 ^ n) (sym bits) in omega arith);
       covered = covered;
-      base_number = h.opens.cold.base.number ∙ sym h.after.base.number ∙ sym h.opens.key.number;
-      base_line = h.opens.cold.base.line ∙ sym h.after.base.line ∙ sym h.opens.key.line;
+      base_number = below_number;
+      base_line = below_line;
       starts = h.opens.cold.starts ∙ sym rest.committed.starts;
       read = h.opens.cold.none i;
     }
@@ -205,5 +212,7 @@ module _ (images : List ℕ → Type 0) (f : Flusher) (c : Commit) (log : List E
     count = h.opens.count ∙ sym rest.committed.count;
     live = ap (λ (z : Flusher). z.shut) h.opens.flusher ∙ live;
     carries = subst (λ (v : View). Carries images o.flusher v o.log.shape o.catalog c log) (sym h.opens.view_is) (first_carried pages);
+    below_number = below_number;
+    below_line = below_line;
     cold = told_carried content read;
   }

@@ -31,8 +31,8 @@ shape_of c = record { pages = c.pages; bucket_bits = c.bucket_bits }
 -- ---- what is open
 
 -- the store is open: every image stands for this log by this commit, and its table, at its first view, begins after them, with
--- the commit's rows cut to its count; a checkpoint may follow, and where the content of the disk is told, what is below the
--- base is read from there
+-- the commit's rows cut to its count; a checkpoint may follow; what is below the base is looked for in the file, whatever the
+-- disk tells of it, and where its content is told, it is read from there
 pub record IsOpened (content : Option (List ℕ)) (images : List ℕ → Type 0) (c : Commit) (log : List Entry) (o : Opened)
     : Type 0 where
   pub pass : IsPassOf o.log o.pass
@@ -45,6 +45,8 @@ pub record IsOpened (content : Option (List ℕ)) (images : List ℕ → Type 0)
   pub count : o.count ≡ c.count
   pub live : o.flusher.shut ≡ false
   pub carries : Carries images o.flusher (view o.pass) o.log.shape o.catalog c log
+  pub below_number : o.cold.base.number ≡ o.log.key.number
+  pub below_line : o.cold.base.line ≡ o.log.key.line
   pub cold : IfSome content (λ _. CarriesTable content o.log.key o.cold)
 
 -- the image is none, and a store without a record was made of it; or it stands for this log, by this commit of the shape that
