@@ -4,7 +4,6 @@ PREFIX ?= /usr/local
 JOBS ?= $(shell n=$$(nproc); [ $$n -lt 4 ] && echo $$n || echo 4)
 PROGRAM = crates/fishstore/out/fishstore
 BENCHMARKS = crates/bench/out/bench
-EXAMPLE = examples/events
 TESTS := $(shell sed -n 's/^\(tests_[a-z]*\).*:.*/\1/p' crates.txt)
 CRATES := $(shell sed -n 's/^\(fish[a-z_]*\).*:.*/\1/p' crates.txt)
 FILES = $(shell find $(1) -name out -prune -o \( -path '*/src/*' -o -path '*/specs/*' -o -path '*/proofs/*' \) -type f -print)
@@ -12,13 +11,16 @@ SOURCES := crates.txt $(call FILES,crates/fish*)
 
 .PHONY: demo build test try edits gate install bench bench_run bench_log bench_ingest bench_registrations bench_scans bench_peers bench_checkpoints bench_older clean
 
-# Runs both commands of the program on the examples, built once and with no proof: their words stand a line each.
+# Runs both commands of the program on the examples, built with no proof. With FILE, DEF and VALUE it is a `select` on a file of one's
+# own (and FORM=csv), with SCRIPT a `run` of a script of one's own.
 demo:
-	@folder=$$(mktemp -d) && trap "rm -r $$folder" EXIT && touch $$folder/select $$folder/run && \
-	printf '%s\n' select 'take type' '"PushEvent"' $(EXAMPLE).jsonl > $$folder/select.args && \
-	printf '%s\n' run store $(EXAMPLE).fish > $$folder/run.args && cd crates/fishstore && \
-	rt try --cases $$folder --data $(EXAMPLE).jsonl=../../$(EXAMPLE).jsonl --data $(EXAMPLE).fish=../../$(EXAMPLE).fish
-	@echo 'These runs were not proved. `make build` proves the program and builds $(PROGRAM).'
+ifdef SCRIPT
+	@tools/demo run '$(SCRIPT)'
+else ifdef FILE
+	@tools/demo select '$(DEF)' '$(VALUE)' '$(FILE)' $(if $(FORM),--form $(FORM))
+else
+	@tools/demo
+endif
 
 # Proves the program and all below it from nothing, with crates side by side, and builds it; again where a source has changed.
 build: $(PROGRAM)
