@@ -98,9 +98,9 @@ pub(crate) fn opened_at(
     base: Base,
     catalog: Catalog,
 ) -> Result<(Log, Pass), AllocError>
-    requires number { base.number ≤ 9 }
+    requires number { base.number ≤ 300 }
     requires least { 6 ≤ base.line }
-    requires most { base.line ≤ 18 }
+    requires most { base.line ≤ 9830400 }
     requires rows { All (IsClamped base.number) catalog }
     ensures { IfOk result (λ r. IsOutOf r.0 r.1) }
 {
@@ -123,12 +123,21 @@ pub(crate) fn opened_at(
     }
 }
 
-/// Nothing read of what is below the log, in which one page has a start.
-fn nothing_read(alloc: Global, log: &Log) -> Result<Cold, AllocError>
-    ensures { IfOk result (IsBelow log.now.key) }
-{
+/// The start of one page.
+fn one_start(alloc: Global) -> Result<PageStarts, AllocError> {
     let mut starts = PageStarts::new(alloc);
     starts.push(PageStart { number: 0, line: 0 })?;
+    Ok(starts)
+}
+
+/// Nothing read of what is below the log, whose pages have these starts.
+pub(crate) fn nothing_read(
+    alloc: Global,
+    log: &Log,
+    starts: PageStarts,
+) -> Result<Cold, AllocError>
+    ensures { IfOk result (IsBelow log.now.key) }
+{
     let base = base(log);
     if base.line > 1 << 30 {
         drop(starts);
@@ -241,21 +250,21 @@ fn read_told(alloc: Global, answer: &Answer) -> Result<String, AllocError> {
 }
 
 /// Asks, with what is read, and drops the question.
-fn asked_told(
+pub(crate) fn asked_told<D: Disk>(
     alloc: Global,
     question: &Question,
     log: &Log,
     pass: &mut Pass,
     defs: &mut Defs,
     cold: &mut Cold,
-    disk: &mut MemoryDisk,
+    disk: &mut D,
 ) -> Result<String, AllocError>
     requires pass { IsPassOf log.now pass.old }
     requires defs { IsDefsOf (view pass.old) defs.old }
     requires base { IsBelow log.now.key cold.old }
 {
     let ask = ask_of(alloc, question)?;
-    let answer = scanned::<Brand, Brand, MemoryDisk>(
+    let answer = scanned::<Brand, Brand, D>(
         alloc,
         Blank::new(1),
         Blank::new(1),
@@ -302,7 +311,7 @@ fn cold_told(
 ) -> Result<String, AllocError>
     requires { IsOutOf log.now pass.old }
 {
-    let mut cold = nothing_read(alloc, log)?;
+    let mut cold = nothing_read(alloc, log, one_start(alloc)?)?;
     let told = stored_told(alloc, question, log, pass, &mut cold, disk);
     drop(cold);
     told
