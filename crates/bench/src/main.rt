@@ -18,6 +18,7 @@ mod registrations;
 mod scans;
 mod selections;
 mod stores;
+mod timing;
 mod walks;
 mod words;
 mod workload;

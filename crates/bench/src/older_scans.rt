@@ -5,7 +5,7 @@ ghost use Rattle.fish_epoch.specs.Definitions.{IsDefsOf};
 ghost use Rattle.fish_rule.specs.Passes.{IsPassOf, view};
 ghost use Rattle.fish_scan.specs.Colder.{IsBelow};
 
-use crate::scans::{Timed, rows_in};
+use crate::timing::{Timed, timed_answer};
 use fish_cold::Cold;
 use fish_disk::Disk;
 use fish_epoch::Defs;
@@ -44,10 +44,7 @@ pub fn time_older<D: Disk>(
     let ask = ask_of(rt.alloc(), scan)?;
     let timed = time_asked(rt, log, pass, cold, disk, &ask);
     drop(ask);
-    match timed {
-        Some(timed) => Ok(timed),
-        None => Err(AllocError),
-    }
+    timed.ok_or(AllocError)
 }
 
 /// What it asks.
@@ -99,16 +96,9 @@ fn time_asked<D: Disk>(
         disk,
         ask,
     );
-    let took = start.elapsed(rt);
+    let timed = timed_answer(rt, &start, answer);
     drop(defs);
-    let rows = rows_in(answer)?;
-    match took {
-        Ok(took) => Some(Timed {
-            rows,
-            nanoseconds: took.as_nanos(),
-        }),
-        Err(_) => None,
-    }
+    timed
 }
 
 /// What a scan answers, with counters of two blanks.

@@ -10,6 +10,7 @@ use crate::definitions::{Sources, definitions_of};
 use crate::ingests::ingest_all;
 use crate::lanes::report;
 use crate::opening::{Opened, open};
+use crate::timing::{Timed, timed_answer};
 use crate::walks::{Walked, walk_chain};
 use fish_epoch::Defs;
 use fish_layout::{bucket_of, key_hash};
@@ -62,15 +63,6 @@ impl Values {
 pub struct Filled {
     pub log: Log,
     pub main: Pass,
-}
-
-/// What a scan or a selection gave.
-#[derive(Clone, Copy)]
-pub struct Timed {
-    /// How many rows.
-    pub rows: u64,
-    /// How long it took.
-    pub nanoseconds: u128,
 }
 
 /// All measurements, once each.
@@ -259,10 +251,7 @@ pub fn time_scan<R: Clock + AllocGlobal>(
     };
     let timed = time_asked(rt, log, main, &ask);
     drop(ask);
-    match timed {
-        Some(timed) => Ok(timed),
-        None => Err(AllocError),
-    }
+    timed.ok_or(AllocError)
 }
 
 /// The same of what is asked.
@@ -289,16 +278,9 @@ fn time_asked<R: Clock + AllocGlobal>(
         &mut defs,
         ask,
     );
-    let took = start.elapsed(rt);
+    let timed = timed_answer(rt, &start, answer);
     drop(defs);
-    let rows = rows_in(answer)?;
-    match took {
-        Ok(took) => Some(Timed {
-            rows,
-            nanoseconds: took.as_nanos(),
-        }),
-        Err(_) => None,
-    }
+    timed
 }
 
 /// What a scan answers, with counters of two blanks.
@@ -324,16 +306,4 @@ fn scanned<P: Ledger, L: Ledger>(
     let mut parses = Steps::<P>::new(parses);
     let mut loads = Steps::<L>::new(loads);
     scan(alloc, log, main, defs, ask, &mut parses, &mut loads)
-}
-
-/// How many rows an answer has, if there is one.
-pub fn rows_in(answer: Result<Answer, ScanRefusal>) -> Option<u64> {
-    match answer {
-        Ok(answer) => {
-            let rows = answer.rows.len() as u64;
-            drop(answer);
-            Some(rows)
-        }
-        Err(_) => None,
-    }
 }
