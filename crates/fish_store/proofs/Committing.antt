@@ -1,0 +1,256 @@
+-- A checkpoint, done or refused by the disk, goes from one moment to the next.
+use Rattle.std.proofs.Common.{◌≡◌, ℕ, zero, suc, ◌+◌, ◌-◌, ◌≤◌, ◌⊎◌, arith, List, [], ◌∷◌, ◌++◌, Option, Some, None, false, true, ap, subst, sym, refl}
+use Rattle.std.proofs.Common.{inl, inr, ◌∙◌, length, take, drop, length-append, length-drop}
+use Rattle.std.specs.Prelude.{IfOk, IfSome, IsErrOf, IsSome, Result, Ok, Err}
+use Rattle.std.proofs.lemmas.List.{drop-append-le, take-append-drop, take-append-le, take_all}
+use Rattle.fish_catalog.specs.declared.commit.Commit.{Commit}
+use Rattle.fish_catalog.specs.declared.entry.Entry.{Entry}
+use Rattle.fish_catalog.specs.declared.row.CatRow.{CatRow}
+use Rattle.fish_cold.specs.Carries.{CarriesTable}
+use Rattle.fish_cold.specs.declared.cold.Cold.{Cold}
+use Rattle.fish_disk.proofs.Moments.{leaves_more, leaves_none}
+use Rattle.fish_disk.specs.Content.{StillReads}
+use Rattle.fish_disk.specs.Crash.{LeavesOnly}
+use Rattle.fish_flush.proofs.Committed.{committed_length, rest_stands, told_later}
+use Rattle.fish_flush.specs.Carrying.{Carries, HasCommitted, HasSettled, LeavesEither, Reads}
+use Rattle.fish_flush.specs.Kept.{commit_of}
+use Rattle.fish_flush.specs.Rows.{HaveGrown}
+use Rattle.fish_flush.specs.declared.flusher.Flusher.{Flusher}
+use Rattle.fish_flush.specs.declared.refusal.FlushRefusal.{FlushRefusal}
+use Rattle.fish_flush.specs.declared.refusal.FlushRefusal.TheVariants.{DiskFault, OutOfMemory}
+use Rattle.fish_image.specs.Reached.{Reached}
+use Rattle.fish_image.specs.Stands.{Stands}
+use Rattle.fish_rule.specs.Logs.{AreTold, Tells}
+use Rattle.fish_rule.specs.Views.{Among}
+use Rattle.fish_rule.specs.declared.table.Shape.{Shape}
+use Rattle.fish_rule.specs.declared.view.Key.{Key}
+use Rattle.fish_rule.specs.declared.view.View.{View}
+use Rattle.fish_slots.proofs.Commits.{rests_commit}
+use Rattle.fish_store.proofs.Kept.{stays_carried}
+use Rattle.fish_store.proofs.Running.{here_stays}
+use Rattle.fish_store.proofs.Same.{still_self, table_same}
+use Rattle.fish_store.specs.Going.{GoesOnFrom}
+use Rattle.fish_store.specs.Sound.{GoesOnHere, HasPast, IsImageOf, MayCommit, Point, Rests, Sound}
+use Rattle.fish_whole.proofs.Parts.{fits_later}
+use Rattle.fish_whole.proofs.Prefixes.{prefix_self}
+use Rattle.fish_whole.specs.Whole.{FitsPast, IsKnown, IsPrefix, Later, Whole}
+
+-- a call that only reads goes on to a later state
+pub reads_later : (v u : View) → Reads v u → Later v u
+reads_later v u h = record { learns = h.learns; gained = λ o m. inl (subst (Among o) (ap (λ (z : View). z.own) h.frame) m) }
+
+-- entries that are told, one after the other
+told_both : (u : View) (base : ℕ) (xs ys : List Entry) → AreTold u base xs → AreTold u (base + length xs) ys → AreTold u base (xs ++ ys)
+told_both u base [] ys first second i e at =
+    let same : base + length (let none : List Entry = [] in none) + i ≡ base + i = omega arith in
+    subst (λ (n : ℕ). Tells u n e) same (second i e at)
+told_both u base (x ∷ xs) ys first second zero e at = first zero e at
+told_both u base (x ∷ xs) ys first second (suc i) e at =
+    let up : base + 1 + i ≡ base + suc i = omega arith in
+    let size : base + length (x ∷ xs) ≡ base + 1 + length xs = omega arith in
+    subst (λ (n : ℕ). Tells u n e) up
+    (told_both u (base + 1) xs ys
+    (λ j d there. (let over : base + suc j ≡ base + 1 + j = omega arith in subst (λ (n : ℕ). Tells u n d) over (first (suc j) d there)))
+    (subst (λ (n : ℕ). AreTold u n ys) size second) i e at)
+
+-- a log that begins with what was there before the table, and goes on as the pass was told, is a part of the log for good
+known_of : (past : Whole) (u : View) (log : List Entry) → take (length past.log) log ≡ past.log
+    → AreTold u (length past.log) (drop (length past.log) log) → IsKnown past u log
+known_of past u log begins told = record {
+  entries = drop (length past.log) log;
+  told = told;
+  front =
+      let whole : log ≡ past.log ++ drop (length past.log) log =
+      sym (take-append-drop (length past.log) log) ∙ ap (λ l. l ++ drop (length past.log) log) begins in
+      subst (λ (l : List Entry). IsPrefix log l) whole (prefix_self log);
+}
+
+module _
+    {D : Type 0}
+    (content : D → Option (List ℕ))
+    (images : D → List ℕ → Type 0)
+    (since : D → ℕ → List ℕ → Type 0)
+    (moment : D → ℕ)
+    (p q : Point D) (reads : Reads p.view q.view) (cold : q.cold ≡ p.cold) (shape : q.shape ≡ p.shape) (rows : q.rows ≡ p.rows)
+    (live : p.flusher.shut ≡ false)
+    (before : IsSome (content q.disk) → IsSome (content p.disk))
+    (read : (d : D) (i : List ℕ) → content d ≡ Some i → images d i)
+    (either : (c : Commit) (old : List Entry) → Carries (images p.disk) p.flusher p.view p.shape p.rows c old
+    → LeavesEither images since moment p.disk q.disk q.view p.rows c old)
+    (goes : (c : Commit) (old : List Entry) (h : Carries (images p.disk) p.flusher p.view p.shape p.rows c old)
+    → LeavesOnly images since moment p.disk q.disk (GoesOnFrom c h.rest.lines)) where
+  -- the state goes on
+  later : Later p.view q.view
+  later = reads_later p.view q.view reads
+
+  module _ (past : Whole) (s : Sound content images p past) where
+    -- what rests there
+    abbrev rest : Rests images p past
+    rest = s.rests live
+
+    -- how many entries were there before the table, and how many the last commit has
+    past_size : (length past.log ≤ length rest.log) × (length rest.log ≡ p.flusher.count)
+    past_size =
+        let size = committed_length p.flusher rest.commit rest.carries.rest.body rest.carries.rest.lines rest.log
+        rest.carries.rest.committed in
+        let count = rest.carries.rest.committed.count in
+        let from = rest.carries.from in
+        let base = s.fits.base in
+        (omega arith, omega arith)
+
+    -- the last commit's entries, and others that the pass was told, are a part of the log for good
+    more_known : (more : List Entry) → AreTold q.view rest.commit.count more → IsKnown past q.view (rest.log ++ more)
+    more_known more told =
+        let n : ℕ = length past.log in
+        let size = past_size in
+        let count = rest.carries.rest.committed.count in
+        let base = s.fits.base in
+        let begins : take n (rest.log ++ more) ≡ past.log = take-append-le n rest.log more size.0 ∙ rest.begins in
+        let cut : drop n (rest.log ++ more) ≡ drop n rest.log ++ more = drop-append-le n rest.log more size.0 in
+        let left = length-drop n rest.log in
+        let place : rest.commit.count ≡ n + length (drop n rest.log) = omega arith in
+        let first : AreTold q.view n (drop n rest.log) =
+        told_later p.view q.view n (drop n rest.log) reads.learns
+        (subst (λ (k : ℕ). AreTold p.view k (drop k rest.log)) base rest.carries.told) in
+        known_of past q.view (rest.log ++ more) begins
+        (subst (AreTold q.view n) (sym cut)
+        (told_both q.view n (drop n rest.log) more first (subst (λ (k : ℕ). AreTold q.view k more) place told)))
+
+    -- the last commit's entries are
+    old_known : IsKnown past q.view rest.log
+    old_known =
+        let n : ℕ = length past.log in
+        known_of past q.view rest.log rest.begins
+        (told_later p.view q.view n (drop n rest.log) reads.learns
+        (subst (λ (k : ℕ). AreTold p.view k (drop k rest.log)) s.fits.base rest.carries.told))
+
+    -- whatever a crash leaves is a part of the log that has the last commit's entries
+    either_image : (h : LeavesEither images since moment p.disk q.disk q.view p.rows rest.commit rest.log) (i : List ℕ)
+        → Stands rest.commit i rest.log ⊎ Stands h.next i (rest.log ++ h.more) → IsImageOf past q.view p.flusher.count i
+    either_image h i (inl stands) = (let size = past_size in record {
+      commit = rest.commit;
+      log = rest.log;
+      stands = stands;
+      many = omega arith;
+      known = old_known;
+    })
+    either_image h i (inr stands) = record {
+      commit = h.next;
+      log = rest.log ++ h.more;
+      stands = stands;
+      many = (let size = past_size in let both = length-append rest.log h.more in omega arith);
+      known = more_known h.more h.told;
+    }
+
+    -- so it is at each moment
+    leaves_part : LeavesOnly images since moment p.disk q.disk (IsImageOf past q.view p.flusher.count)
+    leaves_part =
+        let h = either rest.commit rest.log rest.carries in
+        leaves_more images since moment p.disk q.disk _ (IsImageOf past q.view p.flusher.count) (either_image h) h.leaves
+
+    -- the disk has what was there before the table, as it had
+    past_on : IsSome (content q.disk) → HasPast content q past
+    past_on still = on (content q.disk) refl still
+      where
+        on : (o : Option (List ℕ)) → content q.disk ≡ o → IsSome o → HasPast content q past
+        on None is some = absurd cc
+        on (Some i) is some =
+            let r = rest.carries.rest in
+            let t = s.has.table in
+            let was = read p.disk t.image t.is in
+            let g = (goes rest.commit rest.log rest.carries).now i (read q.disk i is) in
+            let held = stays_carried p.view.about p.cold (content p.disk) (content q.disk) t rest.commit r.body r.lines i
+            (rests_commit p.flusher.slot r.body r.lines t.image r.slot_is (r.rests t.image was)) r.committed.is.told r.committed.size g is in
+            let moved : (x : CarriesTable (content q.disk) q.view.about q.cold) × (x.end.entries ≡ past.log) =
+            subst (λ (k : Key). (x : CarriesTable (content q.disk) k q.cold) × (x.end.entries ≡ past.log)) (sym reads.learns.about)
+            (subst (λ (z : Cold).
+            (x : CarriesTable (content q.disk) p.view.about z) × (x.end.entries ≡ past.log)) (sym cold)
+            (held.0, ap (λ (e : Reached). e.entries) held.1 ∙ s.has.entries)) in
+            record { table = moved.0; entries = moved.1 }
+
+  -- where the disk refused it, no checkpoint follows
+  pub here_faulted : q.flusher ≡ record p.flusher { shut = true } → GoesOnHere content images since moment p q
+  here_faulted shut = record {
+    later = later;
+    told_before = before;
+    rises = (let count = ap (λ (f : Flusher). f.count) shut in omega arith);
+    sound = λ past s still. record {
+      fits = fits_later past p.view q.view reads.learns s.fits;
+      has = past_on past s still;
+      rests = λ kept. absurd (let is = ap (λ (f : Flusher). f.shut) shut in cc);
+      now = λ c here. subst (λ (f : Flusher). IsImageOf past q.view f.count c) (sym shut) ((leaves_part past s).now c here);
+    };
+    crash = λ past s still. leaves_part past s;
+  }
+
+  -- where it is done, the last commit has all that was settled
+  module _ (n : ℕ) (may : MayCommit images p) (settled : p.view.learned.settled ≤ n)
+      (done : HasCommitted (images p.disk) (images q.disk) p.flusher q.flusher p.view q.view p.shape p.rows n) where
+    rises : p.flusher.count ≤ q.flusher.count
+    rises = (let upto = may.2.settled in let count = done.count in omega arith)
+
+    sound_committed : (past : Whole) → Sound content images p past → IsSome (content q.disk) → Sound content images q past
+    sound_committed past s still =
+        let r = rest past s in
+        let size = past_size past s in
+        let d = done.carries r.commit r.log r.carries in
+        let next : Commit = commit_of q.flusher p.shape p.rows in
+        let log : List Entry = r.log ++ d.0 in
+        let base = s.fits.base in
+        let about = ap (λ (k : Key). k.number) reads.learns.about in
+        let here : q.view.about.number ≡ length past.log = omega arith in
+        let begins : take (length past.log) log ≡ past.log = take-append-le (length past.log) r.log d.0 size.0 ∙ r.begins in
+        let told : AreTold q.view (length past.log) (drop (length past.log) log) =
+        subst (λ (k : ℕ). AreTold q.view k (drop k log)) here d.2.told in
+        let count = done.count in
+        let counted = done.counted in
+        record {
+          fits = fits_later past p.view q.view reads.learns s.fits;
+          has = past_on past s still;
+          rests = λ kept. record {
+            commit = next;
+            log = log;
+            carries = subst (λ (z : List CatRow). Carries (images q.disk) q.flusher q.view q.shape z next log) (sym rows)
+                (subst (λ (z : Shape). Carries (images q.disk) q.flusher q.view z p.rows next log) (sym shape) d.2);
+            begins = begins;
+            counted = omega arith;
+          };
+          now = λ c there. record {
+            commit = next;
+            log = log;
+            stands = rest_stands (images q.disk) q.flusher next log d.2.rest c there;
+            many = (let all = d.1 in omega arith);
+            known = known_of past q.view log begins told;
+          };
+        }
+
+    pub here_committed : GoesOnHere content images since moment p q
+    here_committed = record {
+      later = later;
+      told_before = before;
+      rises = rises;
+      sound = sound_committed;
+      crash = λ past s still. leaves_part past s;
+    }
+
+  -- want of memory leaves the disk and the last commit
+  here_same : q.disk ≡ p.disk → q.flusher ≡ p.flusher → GoesOnHere content images since moment p q
+  here_same disk flusher = here_stays content images since moment p q (record {
+    later = later;
+    rows_on = λ n old le grown. subst (HaveGrown n old) (sym rows) grown;
+    flusher = flusher;
+    shape = shape;
+    content_is = subst (λ (d : D). StillReads (content p.disk) (content d)) (sym disk) (still_self (content p.disk));
+    crash = subst (λ (d : D). LeavesOnly images since moment p.disk d (images p.disk)) (sym disk)
+        (leaves_none images since moment p.disk (images p.disk) (λ i here. here));
+    table = λ t. table_same (content p.disk) (content q.disk) p.view.about p.cold q.cold (ap content disk) cold t;
+  })
+
+  -- however it ends, the store goes on
+  pub here_checkpoint : (r : Result ℕ FlushRefusal) → MayCommit images p → IfOk r (HasSettled p.view q.view)
+      → IfOk r (HasCommitted (images p.disk) (images q.disk) p.flusher q.flusher p.view q.view p.shape p.rows)
+      → (IsErrOf r DiskFault → q.flusher ≡ record p.flusher { shut = true })
+      → (IsErrOf r OutOfMemory → (q.disk ≡ p.disk) × (q.flusher ≡ p.flusher)) → GoesOnHere content images since moment p q
+  here_checkpoint (Ok n) may settled done shut memory = here_committed n may settled.rises done
+  here_checkpoint (Err DiskFault) may settled done shut memory = here_faulted (shut refl)
+  here_checkpoint (Err OutOfMemory) may settled done shut memory = (let same = memory refl in here_same same.0 same.1)

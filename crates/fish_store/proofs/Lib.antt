@@ -1,0 +1,9 @@
+pub mod Again
+pub mod Committing
+pub mod Ending
+pub mod Kept
+pub mod Opening
+pub mod Pages
+pub mod Running
+pub mod Same
+pub mod Scanning

@@ -1,0 +1,232 @@
+-- How moments of a store go on.
+use Rattle.std.proofs.Common.{◌≡◌, ℕ, ◌≤◌, arith, List, Option, Some, None, false, ap, subst, sym, refl, inl, inr, ⊎_elim, ◌∙◌}
+use Rattle.std.specs.Prelude.{IfSome, IsSome}
+use Rattle.std.proofs.lemmas.Option.{same_Some}
+use Rattle.fish_catalog.specs.declared.commit.Commit.{Commit}
+use Rattle.fish_catalog.specs.declared.entry.Entry.{Entry}
+use Rattle.fish_catalog.specs.declared.row.CatRow.{CatRow}
+use Rattle.fish_cold.specs.Carries.{CarriesTable, IsPrior}
+use Rattle.fish_cold.specs.declared.cold.Cold.{Cold}
+use Rattle.fish_disk.proofs.Moments.{leaves_more, leaves_then}
+use Rattle.fish_disk.specs.Content.{StillReads}
+use Rattle.fish_flush.proofs.Lasting.{carries_on}
+use Rattle.fish_flush.specs.Carrying.{Carries}
+use Rattle.fish_flush.specs.declared.flusher.Flusher.{Flusher}
+use Rattle.fish_image.specs.Reached.{Reached}
+use Rattle.fish_rule.specs.declared.table.Shape.{Shape}
+use Rattle.fish_rule.specs.declared.view.Key.{Key}
+use Rattle.fish_rule.specs.declared.view.View.{View}
+use Rattle.fish_store.proofs.Kept.{one_prior}
+use Rattle.fish_store.specs.Sound.{GoesOnHere, HasPast, IsImageOf, Point, Reaches, Rests, Runs, Sound, Stays}
+use Rattle.fish_whole.proofs.Parts.{fits_later, goes_both, goes_later, known_later}
+use Rattle.fish_whole.proofs.Wholes.{later_both}
+use Rattle.fish_whole.specs.Whole.{FitsPast, IsKnown, Whole, Will}
+
+-- an image stays one of a part of the log
+pub image_on : (past : Whole) (v : View) (next : Whole) (u : View) (least less : ℕ) (c : List ℕ)
+    → ((log : List Entry) → IsKnown past v log → IsKnown next u log) → less ≤ least → IsImageOf past v least c
+    → IsImageOf next u less c
+image_on past v next u least less c known le h = record {
+  commit = h.commit;
+  log = h.log;
+  stands = h.stands;
+  many = (let a = h.many in omega arith);
+  known = known h.log h.known;
+}
+
+module _
+    {D : Type 0}
+    (content : D → Option (List ℕ))
+    (images : D → List ℕ → Type 0)
+    (since : D → ℕ → List ℕ → Type 0)
+    (moment : D → ℕ) where
+  abbrev pub Goes : Point D → Point D → (Whole → Type 0) → Type 0
+  Goes p q tells = Runs content images since moment p q tells
+
+  abbrev pub Comes : Whole → Point D → Point D → (Whole → Type 0) → Type 0
+  Comes past p q tells = Reaches content images since moment past p q tells
+
+  -- one and then the other
+  pub runs_both : (p m q : Point D) (P Q R : Whole → Type 0) → ((w : Whole) → P w → Q w → R w) → Goes p m P → Goes m q Q → Goes p q R
+  runs_both p m q P Q R told h t = record {
+    told_before = λ still. h.told_before (t.told_before still);
+    rises = (let a = h.rises in let b = t.rises in omega arith);
+    reaches = λ past sound still.
+        let a = h.reaches past sound (t.told_before still) in
+        let b = t.reaches a.next a.sound still in
+        let up = h.rises in
+        record {
+          next = b.next;
+          goes = goes_both past p.view a.next m.view b.next q.view a.goes b.goes;
+          told = λ w may. told w (a.told w (b.goes.narrows w may)) (b.told w may);
+          sound = b.sound;
+          crash = leaves_then images since moment p.disk m.disk q.disk (IsImageOf b.next q.view p.flusher.count)
+              (leaves_more images since moment p.disk m.disk (IsImageOf a.next m.view p.flusher.count)
+              (IsImageOf b.next q.view p.flusher.count)
+              (λ c. image_on a.next m.view b.next q.view p.flusher.count p.flusher.count c b.goes.known (omega arith)) a.crash)
+              (leaves_more images since moment m.disk q.disk (IsImageOf b.next q.view m.flusher.count)
+              (IsImageOf b.next q.view p.flusher.count)
+              (λ c. image_on b.next q.view b.next q.view m.flusher.count p.flusher.count c (λ log k. k) up) b.crash);
+        };
+  }
+
+  -- of one table, one and then the other
+  pub here_both : (p m q : Point D) → GoesOnHere content images since moment p m → GoesOnHere content images since moment m q
+      → GoesOnHere content images since moment p q
+  here_both p m q h t = record {
+    later = later_both p.view m.view q.view h.later t.later;
+    told_before = λ still. h.told_before (t.told_before still);
+    rises = (let a = h.rises in let b = t.rises in omega arith);
+    sound = λ past s still. t.sound past (h.sound past s (t.told_before still)) still;
+    crash = λ past s still.
+        let before = t.told_before still in
+        let up = h.rises in
+        leaves_then images since moment p.disk m.disk q.disk (IsImageOf past q.view p.flusher.count)
+        (leaves_more images since moment p.disk m.disk (IsImageOf past m.view p.flusher.count) (IsImageOf past q.view p.flusher.count)
+        (λ c. image_on past m.view past q.view p.flusher.count p.flusher.count c
+        (λ log k. known_later past m.view q.view log t.later.learns k) (omega arith)) (h.crash past s before))
+        (leaves_more images since moment m.disk q.disk (IsImageOf past q.view m.flusher.count) (IsImageOf past q.view p.flusher.count)
+        (λ c. image_on past q.view past q.view m.flusher.count p.flusher.count c (λ log k. k) up)
+        (t.crash past (h.sound past s before) still));
+  }
+
+  -- what goes on in one table goes on, and with it what is told behind every past
+  pub runs_here : (p q : Point D) (Q : Whole → Type 0) → GoesOnHere content images since moment p q
+      → ((past : Whole) → FitsPast past p.view → Will past q.view Q) → Goes p q Q
+  runs_here p q Q h told = record {
+    told_before = h.told_before;
+    rises = h.rises;
+    reaches = λ past s still. record {
+      next = past;
+      goes = goes_later past p.view q.view h.later s.fits;
+      told = told past s.fits;
+      sound = h.sound past s still;
+      crash = h.crash past s still;
+    };
+  }
+
+  -- what is told may be less
+  pub runs_more : (p q : Point D) (P Q : Whole → Type 0) → ((w : Whole) → P w → Q w) → Goes p q P → Goes p q Q
+  runs_more p q P Q weaker h = record {
+    told_before = h.told_before;
+    rises = h.rises;
+    reaches = λ past s still.
+        let a = h.reaches past s still in
+        record { next = a.next; goes = a.goes; told = λ w may. weaker w (a.told w may); sound = a.sound; crash = a.crash };
+  }
+
+  -- what a crash since some moment may have left, up to a later moment
+  pub since_on : (past : Whole) (p q : Point D) (t least : ℕ) (Q : Whole → Type 0) → least ≤ p.flusher.count
+      → t ≤ moment p.disk → (a : Comes past p q Q) → ((c : List ℕ) → since p.disk t c → IsImageOf past p.view least c)
+      → (c : List ℕ) → since q.disk t c → IsImageOf a.next q.view least c
+  since_on past p q t least Q less early a h c left = ⊎_elim
+      (λ (was : since p.disk t c). image_on past p.view a.next q.view least least c a.goes.known (omega arith) (h c was))
+      (λ (has : IsImageOf a.next q.view p.flusher.count c).
+      image_on a.next q.view a.next q.view p.flusher.count least c (λ log k. k) less has)
+      (a.crash.before t c early left)
+
+-- ---- steps that leave the last commit
+
+-- fewer images stand for the log too
+fewer_carry : (images fewer : List ℕ → Type 0) (f : Flusher) (v : View) (s : Shape) (rows : List CatRow) (c : Commit) (log : List Entry)
+    → ((i : List ℕ) → fewer i → images i) → Carries images f v s rows c log → Carries fewer f v s rows c log
+fewer_carry images fewer f v s rows c log less h = record {
+  rest = record {
+    slot_is = h.rest.slot_is;
+    body = h.rest.body;
+    lines = h.rest.lines;
+    rests = λ i here. h.rest.rests i (less i here);
+    long = λ i here. h.rest.long i (less i here);
+    committed = h.rest.committed;
+  };
+  pages = h.pages;
+  bits = h.bits;
+  grown = h.grown;
+  from = h.from;
+  settled = h.settled;
+  line = h.line;
+  told = h.told;
+}
+
+-- what is still read was told before
+told_still : (old new : Option (List ℕ)) → StillReads old new → IsSome new → IsSome old
+told_still old None still some = absurd cc
+told_still old (Some c) still some = subst (λ (o : Option (List ℕ)). IsSome o) (sym still) some
+
+-- a table that the same content carries has the same prior part
+same_table : (old new : Option (List ℕ)) (k : Key) (cold later : Cold) (h : CarriesTable old k cold) (t : CarriesTable new k later)
+    → StillReads old new → t.end ≡ h.end
+same_table old None k cold later h t still = absurd (let is = t.is in cc)
+same_table old (Some c) k cold later h t still =
+    let one : h.image ≡ c = same_Some h.image c (sym h.is ∙ still) in
+    let other : c ≡ t.image = same_Some c t.image t.is in
+    one_prior t.image k.number t.end h.end t.prior (subst (λ (i : List ℕ). IsPrior i k.number h.end) (one ∙ other) h.prior)
+
+-- the table that is carried on
+on_table : (old new : Option (List ℕ)) (k : Key) (cold later : Cold) (h : CarriesTable old k cold) → StillReads old new → IsSome new
+    → IfSome new (λ c. CarriesTable new k later) → (t : CarriesTable new k later) × (t.end ≡ h.end)
+on_table old None k cold later h still some table = absurd cc
+on_table old (Some c) k cold later h still some table = (table, same_table old (Some c) k cold later h table still)
+
+module _
+    {D : Type 0}
+    (content : D → Option (List ℕ))
+    (images : D → List ℕ → Type 0)
+    (since : D → ℕ → List ℕ → Type 0)
+    (moment : D → ℕ)
+    (p q : Point D) (h : Stays content images since moment p q) where
+  -- an image of the last commit's log stays one
+  image_stays : (past : Whole) → Sound content images p past → (c : List ℕ) → images p.disk c
+      → IsImageOf past q.view p.flusher.count c
+  image_stays past s c here =
+      image_on past p.view past q.view p.flusher.count p.flusher.count c (λ log k. known_later past p.view q.view log h.later.learns k)
+      (omega arith) (s.now c here)
+
+  -- every image stands for the last commit's log
+  rests_stay : (past : Whole) → Sound content images p past → q.flusher.shut ≡ false → Rests images q past
+  rests_stay past s live =
+      let r = s.rests (sym (ap (λ (f : Flusher). f.shut) h.flusher) ∙ live) in
+      let count = ap (λ (f : Flusher). f.count) h.flusher in
+      let counted = r.counted in
+      let more = h.later.learns.count in
+      let grown = h.rows_on r.commit.count r.commit.rows (let same = r.carries.rest.committed.count in omega arith) r.carries.grown in
+      record {
+        commit = r.commit;
+        log = r.log;
+        carries = subst (λ (f : Flusher). Carries (images q.disk) f q.view q.shape q.rows r.commit r.log) (sym h.flusher)
+            (subst (λ (s : Shape). Carries (images q.disk) p.flusher q.view s q.rows r.commit r.log) (sym h.shape)
+            (carries_on (images q.disk) p.flusher p.view q.view p.shape p.rows q.rows r.commit r.log
+            (fewer_carry (images p.disk) (images q.disk) p.flusher p.view p.shape p.rows r.commit r.log h.crash.now r.carries)
+            h.later.learns grown));
+        begins = r.begins;
+        counted = omega arith;
+      }
+
+  -- the disk has what was there before the table
+  past_stays : (past : Whole) → Sound content images p past → IsSome (content q.disk) → HasPast content q past
+  past_stays past s still =
+      let t = on_table (content p.disk) (content q.disk) p.view.about p.cold q.cold s.has.table h.content_is still (h.table s.has.table) in
+      let moved : (x : CarriesTable (content q.disk) q.view.about q.cold) × (x.end.entries ≡ past.log) =
+      subst (λ (k : Key). (x : CarriesTable (content q.disk) k q.cold) × (x.end.entries ≡ past.log)) (sym h.later.learns.about)
+      (t.0, ap (λ (e : Reached). e.entries) t.1 ∙ s.has.entries) in
+      record { table = moved.0; entries = moved.1 }
+
+  -- it is sound still
+  sound_stays : (past : Whole) → Sound content images p past → IsSome (content q.disk) → Sound content images q past
+  sound_stays past s still = record {
+    fits = fits_later past p.view q.view h.later.learns s.fits;
+    has = past_stays past s still;
+    rests = rests_stay past s;
+    now = λ c here. subst (λ (f : Flusher). IsImageOf past q.view f.count c) (sym h.flusher) (image_stays past s c (h.crash.now c here));
+  }
+
+  -- a step that leaves the last commit goes on
+  pub here_stays : GoesOnHere content images since moment p q
+  here_stays = record {
+    later = h.later;
+    told_before = told_still (content p.disk) (content q.disk) h.content_is;
+    rises = (let count = ap (λ (f : Flusher). f.count) h.flusher in omega arith);
+    sound = sound_stays;
+    crash = λ past s still. leaves_more images since moment p.disk q.disk (images p.disk) (IsImageOf past q.view p.flusher.count)
+        (image_stays past s) h.crash;
+  }

@@ -1,0 +1,37 @@
+-- What a run leaves of a store, of which a crash may come at any moment.
+use Rattle.std.specs.Prelude.{ℕ, ◌≡◌, ◌≤◌, ◌++◌, List, length}
+use Rattle.fish_catalog.specs.declared.commit.Commit.{Commit}
+use Rattle.fish_catalog.specs.declared.entry.Entry.{Entry}
+use Rattle.fish_image.specs.Stands.{Stands}
+use Rattle.fish_rule.specs.declared.close.Remains.{Remains}
+use Rattle.fish_whole.specs.Whole.{IsPrefix, Whole}
+
+-- the image stands for a log that begins with the old one and has at least so many entries
+pub record KeepsOld (old : List Entry) (least : ℕ) (image : List ℕ) : Type 0 where
+  pub commit : Commit
+  pub part : List Entry
+  pub stands : Stands commit image part
+  pub first : IsPrefix old part
+  pub many : least ≤ length part
+
+-- and that is a part of this one
+pub record IsPartOf (old log : List Entry) (least : ℕ) (image : List ℕ) : Type 0 where
+  pub kept : KeepsOld old least image
+  pub front : IsPrefix kept.part log
+
+-- the log was closed and shows the end of a whole, of which all is so that was told; what a crash now may leave is a part of it with the
+-- last commit's entries, and what one since a moment may have left, a part of it with the old ones
+pub record IsShown (now since : List ℕ → Type 0) (old : List Entry) (count : ℕ) (tells : Whole → Type 0) (remains : Remains) : Type 0 where
+  pub whole : Whole
+  pub front : List Entry
+  pub shows : whole.log ≡ front ++ remains.log
+  pub base : length front ≡ remains.base
+  pub first : IsPrefix old whole.log
+  pub told : tells whole
+  pub crash_now : (c : List ℕ) → now c → IsPartOf old whole.log count c
+  pub crash_since : (c : List ℕ) → since c → IsPartOf old whole.log (length old) c
+
+-- there was no memory to show it
+pub record IsLost (now since : List ℕ → Type 0) (old : List Entry) (count : ℕ) : Type 0 where
+  pub crash_now : (c : List ℕ) → now c → KeepsOld old count c
+  pub crash_since : (c : List ℕ) → since c → KeepsOld old (length old) c

@@ -1,0 +1,132 @@
+-- One moment of an open store between two steps of its control pass: the disk, what is kept of it, and the log.
+use Rattle.std.specs.Prelude.{ℕ, ◌≡◌, ◌≤◌, false, List, Option, IfSome, IsSome, length, take}
+use Rattle.fish_catalog.specs.declared.commit.Commit.{Commit}
+use Rattle.fish_catalog.specs.declared.entry.Entry.{Entry}
+use Rattle.fish_catalog.specs.declared.row.CatRow.{CatRow}
+use Rattle.fish_cold.specs.Carries.{CarriesTable}
+use Rattle.fish_cold.specs.declared.cold.Cold.{Cold}
+use Rattle.fish_disk.specs.Content.{StillReads}
+use Rattle.fish_disk.specs.Crash.{LeavesOnly}
+use Rattle.fish_flush.specs.Carrying.{Carries}
+use Rattle.fish_flush.specs.Rows.{HaveGrown}
+use Rattle.fish_flush.specs.declared.flusher.Flusher.{Flusher}
+use Rattle.fish_image.specs.Stands.{Stands}
+use Rattle.fish_rule.specs.declared.table.Shape.{Shape}
+use Rattle.fish_rule.specs.declared.view.View.{View}
+use Rattle.fish_whole.specs.Whole.{FitsPast, GoesOn, IsKnown, Later, Whole, Will}
+
+-- the disk; what is kept of the last commit, and of the pages below the table; the table's shape, the rows of the catalogue, and
+-- what the control pass knows
+pub record Point (D : Type 0) : Type 0 where
+  pub disk : D
+  pub flusher : Flusher
+  pub cold : Cold
+  pub shape : Shape
+  pub rows : List CatRow
+  pub view : View
+
+-- ---- images
+
+-- the image stands for a part of the log, from number 0 on and for good, of at least so many entries
+pub record IsImageOf (past : Whole) (v : View) (least : ℕ) (image : List ℕ) : Type 0 where
+  pub commit : Commit
+  pub log : List Entry
+  pub stands : Stands commit image log
+  pub many : least ≤ length log
+  pub known : IsKnown past v log
+
+-- ---- one moment
+
+-- a checkpoint may follow: the flusher carries a log
+abbrev pub MayCommit : {D : Type 0} → (D → List ℕ → Type 0) → Point D → Type 0
+MayCommit images p = (c : Commit) × (log : List Entry) × Carries (images p.disk) p.flusher p.view p.shape p.rows c log
+
+-- every image stands for the last commit's log, which begins with what was there before the table
+pub record Rests {D : Type 0} (images : D → List ℕ → Type 0) (p : Point D) (past : Whole) : Type 0 where
+  pub commit : Commit
+  pub log : List Entry
+  pub carries : Carries (images p.disk) p.flusher p.view p.shape p.rows commit log
+  pub begins : take (length past.log) log ≡ past.log
+  pub counted : p.flusher.count ≤ p.view.learned.count
+
+-- the disk has what was there before the table, as the pages that are kept say
+pub record HasPast {D : Type 0} (content : D → Option (List ℕ)) (p : Point D) (past : Whole) : Type 0 where
+  pub table : CarriesTable (content p.disk) p.view.about p.cold
+  pub entries : table.end.entries ≡ past.log
+
+-- the table stands behind its past, which the disk has; every image stands for a part of the log that has the last commit's entries,
+-- and where no call of the disk failed, for these alone
+pub record Sound {D : Type 0} (content : D → Option (List ℕ)) (images : D → List ℕ → Type 0) (p : Point D) (past : Whole) : Type 0 where
+  pub fits : FitsPast past p.view
+  pub has : HasPast content p past
+  pub rests : p.flusher.shut ≡ false → Rests images p past
+  pub now : (c : List ℕ) → images p.disk c → IsImageOf past p.view p.flusher.count c
+
+-- ---- from one moment to a later one
+
+-- to one of the same table, over statements, checkpoints and reads: what is sound stays so behind the same past, as far as the disk's
+-- content is told, and since the first moment a crash left parts of the log, none shorter than that moment's commit
+pub record GoesOnHere
+    {D : Type 0}
+    (content : D → Option (List ℕ))
+    (images : D → List ℕ → Type 0)
+    (since : D → ℕ → List ℕ → Type 0)
+    (moment : D → ℕ)
+    (p q : Point D) : Type 0 where
+  pub later : Later p.view q.view
+  pub told_before : IsSome (content q.disk) → IsSome (content p.disk)
+  pub rises : p.flusher.count ≤ q.flusher.count
+  pub sound : (past : Whole) → Sound content images p past → IsSome (content q.disk) → Sound content images q past
+  pub crash : (past : Whole) → Sound content images p past → IsSome (content q.disk)
+      → LeavesOnly images since moment p.disk q.disk (IsImageOf past q.view p.flusher.count)
+
+-- what is so of a later moment, of the same table or of one that took its place: it has a past in which nothing more may be in the end,
+-- each whole that may be in the end is as is told, it is sound, and a crash left what it leaves in one table
+pub record Reaches
+    {D : Type 0}
+    (content : D → Option (List ℕ))
+    (images : D → List ℕ → Type 0)
+    (since : D → ℕ → List ℕ → Type 0)
+    (moment : D → ℕ)
+    (past : Whole) (p q : Point D) (tells : Whole → Type 0) : Type 0 where
+  pub next : Whole
+  pub goes : GoesOn past p.view next q.view
+  pub told : Will next q.view tells
+  pub sound : Sound content images q next
+  pub crash : LeavesOnly images since moment p.disk q.disk (IsImageOf next q.view p.flusher.count)
+
+-- from one moment to a later one, as far as the disk's content is told
+pub record Runs
+    {D : Type 0}
+    (content : D → Option (List ℕ))
+    (images : D → List ℕ → Type 0)
+    (since : D → ℕ → List ℕ → Type 0)
+    (moment : D → ℕ)
+    (p q : Point D) (tells : Whole → Type 0) : Type 0 where
+  pub told_before : IsSome (content q.disk) → IsSome (content p.disk)
+  pub rises : p.flusher.count ≤ q.flusher.count
+  pub reaches : (past : Whole) → Sound content images p past → IsSome (content q.disk)
+      → Reaches content images since moment past p q tells
+
+-- ---- steps
+
+-- the rows of the catalogue went on for each commit whose entries the pass had counted
+abbrev pub RowsGoOn : View → List CatRow → List CatRow → Type 0
+RowsGoOn v old new = (n : ℕ) (rows : List CatRow) → n ≤ v.learned.count → HaveGrown n rows old → HaveGrown n rows new
+
+-- the control pass went on, and of the disk pages were read at most
+pub record Stays
+    {D : Type 0}
+    (content : D → Option (List ℕ))
+    (images : D → List ℕ → Type 0)
+    (since : D → ℕ → List ℕ → Type 0)
+    (moment : D → ℕ)
+    (p q : Point D) : Type 0 where
+  pub later : Later p.view q.view
+  pub rows_on : RowsGoOn p.view p.rows q.rows
+  pub flusher : q.flusher ≡ p.flusher
+  pub shape : q.shape ≡ p.shape
+  pub content_is : StillReads (content p.disk) (content q.disk)
+  pub crash : LeavesOnly images since moment p.disk q.disk (images p.disk)
+  pub table : CarriesTable (content p.disk) p.view.about p.cold
+      → IfSome (content q.disk) (λ c. CarriesTable (content q.disk) p.view.about q.cold)

@@ -1,0 +1,76 @@
+//! What the control pass keeps of a store's file: of the last commit, and of the pages below the table.
+
+ghost use Rattle.std.specs.Prelude.{◌≡◌, IfErr, IfOk, IfSome};
+ghost use Rattle.fish_cold.specs.Carries.{CarriesTable};
+ghost use Rattle.fish_epoch.specs.Definitions.{IsDefsOf};
+ghost use Rattle.fish_rule.specs.Passes.{IsPassOf, view};
+ghost use Rattle.fish_scan.specs.Across.{IsAnswerWith, IsRefusedWith, IsUndamagedScan};
+ghost use Rattle.fish_scan.specs.Colder.{IsBelow, IsScanFault};
+ghost use Rattle.fish_scan.specs.Scans.{OnlyScans};
+ghost use Rattle.fish_store.specs.Points.{point_of};
+ghost use Rattle.fish_store.specs.Sound.{GoesOnHere};
+
+use fish_cold::Cold;
+use fish_disk::Disk;
+use fish_epoch::Defs;
+use fish_flush::Flusher;
+use fish_psf::Steps;
+use fish_registry::Registrar;
+use fish_rule::{Log, Pass};
+use fish_scan::{Answer, Ask, ScanRefusal, scan_with};
+use std::alloc::Global;
+use std::sync::ledger::Ledger;
+
+/// What is kept of a store's file while its log is open.
+#[derive(Drop)]
+pub struct StoreFile {
+    /// Of the last commit, from which the next one goes on.
+    pub flusher: Flusher,
+    /// Of the pages below the table, as they were read.
+    pub cold: Cold,
+}
+
+impl StoreFile {
+    /// [`scan_with`], over the pages that are kept.
+    pub fn scan<D: Disk, P: Ledger, L: Ledger>(
+        &mut self,
+        alloc: Global,
+        log: &Log,
+        pass: &mut Pass,
+        registrar: &Registrar,
+        defs: &mut Defs,
+        ask: &Ask,
+        disk: &mut D,
+        parses: &mut Steps<P>,
+        loads: &mut Steps<L>,
+    ) -> Result<Answer, ScanRefusal>
+        requires pass { IsPassOf log.now pass.old }
+        requires defs { IsDefsOf (view pass.old) defs.old }
+        requires base { IsBelow log.now.key self.old.cold }
+        ensures pass { IsPassOf log.now pass.new }
+        ensures only { OnlyScans (view pass.old) (view pass.new) }
+        ensures defs { IsDefsOf (view pass.new) defs.new }
+        ensures base { IsBelow log.now.key self.new.cold }
+        ensures flusher { self.new.flusher ≡ self.old.flusher }
+        ensures goes { GoesOnHere D.content D.images D.since D.moment (point_of disk.old self.old log.now pass.old registrar.now)
+            (point_of disk.new self.new log.now pass.new registrar.now) }
+        ensures answer { IfOk result (λ answer. (h : CarriesTable (D.content disk.new) log.now.key self.old.cold) → IsAnswerWith h
+            (view pass.old) (view pass.new) defs.new.known ask.now answer parses.old parses.new loads.old loads.new) }
+
+        ensures refused { IfErr result (IsRefusedWith (view pass.old) (view pass.new) defs.new.known ask.now) }
+        ensures fault { IsScanFault (D.faults disk.old) (D.faults disk.new) result }
+        ensures whole { (h : CarriesTable (D.content disk.new) log.now.key self.old.cold) → IfErr result IsUndamagedScan }
+    {
+        scan_with(
+            alloc,
+            log,
+            pass,
+            defs,
+            ask,
+            &mut self.cold,
+            disk,
+            parses,
+            loads,
+        )
+    }
+}

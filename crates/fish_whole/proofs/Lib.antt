@@ -1,0 +1,5 @@
+pub mod Entries
+pub mod Parts
+pub mod Prefixes
+pub mod Tables
+pub mod Wholes
