@@ -1,29 +1,22 @@
 //! A scan whose range may begin below the table: what is older is read from the store's file.
 
-ghost use Rattle.std.specs.Prelude.{◌≡◌, ◌≤◌, IfErr, IfOk, IfSome, OnOk};
+ghost use Rattle.std.specs.Prelude.{IfErr, IfOk, IfSome, OnOk};
 ghost use Rattle.fish_cold.specs.Caching.{IsUndamaged};
 ghost use Rattle.fish_cold.specs.Carries.{CarriesTable};
-ghost use Rattle.fish_disk.specs.Content.{StillReads};
-ghost use Rattle.fish_disk.specs.Crash.{LeavesOnly};
 ghost use Rattle.fish_epoch.specs.Definitions.{IsDefsOf};
 ghost use Rattle.fish_lang.specs.Definition.{definition_of};
 ghost use Rattle.fish_plan.specs.Pieces.{Fill};
 ghost use Rattle.fish_rule.specs.Logs.{Extends};
 ghost use Rattle.fish_rule.specs.Passes.{IsPassOf, view};
 ghost use Rattle.fish_scan.specs.Across.{HasReadAcross, IsAnswerWith, IsRefusedWith, IsUndamagedScan};
-ghost use Rattle.fish_scan.specs.Below.{HasReadBelow};
 ghost use Rattle.fish_scan.specs.Colder.{IsBelow, IsDamageIn, IsFaultOf, IsScanFault, StaysCold};
-ghost use Rattle.fish_scan.specs.Cutting.{AreOlderReadable, last_below, pieces_above, pieces_below};
-ghost use Rattle.fish_scan.specs.Parses.{HasParsed};
 ghost use Rattle.fish_scan.specs.Pieces.{AreReadable};
-ghost use Rattle.fish_scan.specs.Reach.{IsReached, first_in};
-ghost use Rattle.fish_scan.specs.Reading.{Adds};
+ghost use Rattle.fish_scan.specs.Reach.{IsReached};
 ghost use Rattle.fish_scan.specs.Scans.{OnlyScans};
-ghost use Rattle.fish_scan.specs.Work.{ArePiecesWork};
 
 use crate::ask::{Answer, Ask};
 use crate::below::read_below;
-use crate::cutting::{pieces_before, pieces_from};
+use crate::cutting::cut_at;
 use crate::matching::Query;
 use crate::pieces::read_pieces;
 use crate::refusal::ScanRefusal;
@@ -36,7 +29,7 @@ use fish_psf::Steps;
 use fish_read::RecordReader;
 use fish_rule::{Log, Pass, base};
 use fish_value::Rows;
-use std::alloc::{AllocError, Global};
+use std::alloc::Global;
 use std::sync::ledger::Ledger;
 
 /// The same as [`scan`](crate::scan), for a range that may begin below the log's first number: what is older is read from the
@@ -130,88 +123,25 @@ fn read_across<D: Disk, P: Ledger, L: Ledger>(
     ensures damage { IfErr result (IsDamageIn query.now.reach.from log.now.key.number) }
     ensures whole { (h : CarriesTable (D.content disk.new) log.now.key cold.old) → IfErr result IsUndamaged }
 {
-    read_above(alloc, log, pass, reader, query, pieces, rows, parses, loads)?;
-    read_rest(
-        alloc, log, pass, reader, query, pieces, cold, disk, rows, parses, loads,
-    )
-}
-
-/// Puts the records of the pieces that are in the table and have the value behind the rows, newest first.
-fn read_above<P: Ledger, L: Ledger>(
-    alloc: Global,
-    log: &Log,
-    pass: &mut Pass,
-    reader: &mut RecordReader,
-    query: &Query,
-    pieces: &[Piece],
-    rows: &mut Rows,
-    parses: &mut Steps<P>,
-    loads: &mut Steps<L>,
-) -> Result<(), AllocError>
-    requires pass { IsPassOf log.now pass.old }
-    requires reached { IsReached (view pass.old) query.now.reach }
-    requires fill { Fill pieces.now query.now.reach.from query.now.reach.to }
-    requires readable { AreReadable (view pass.old) (definition_of query.now.def) query.now.reach pieces.now }
-    ensures pass { IsPassOf log.now pass.new }
-    ensures extends { Extends (view pass.old) (view pass.new) }
-    ensures rows { OnOk result (Adds (view pass.new) (definition_of query.now.def) query.now.value
-        (first_in log.now.key query.now.reach) query.now.reach.to query.now.reach.opens rows.old rows.new) }
-    ensures parses { OnOk result (HasParsed (view pass.new) query.now.reach.opens (pieces_above log.now.key.number pieces.now)
-        (first_in log.now.key query.now.reach) query.now.reach.to parses.old parses.new) }
-    ensures loads { OnOk result (ArePiecesWork (view pass.old) (view pass.new) query.now.value query.now.reach.opens rows.new
-        (pieces_above log.now.key.number pieces.now) loads.old loads.new) }
-{
-    let above = pieces_from(alloc, pieces, base(log).number)?;
+    let cut = cut_at(alloc, pieces, base(log).number)?;
     read_pieces(
         alloc,
         log,
         pass,
         reader,
         query,
-        above.as_slice(),
+        cut.above.as_slice(),
         rows,
         parses,
         loads,
-    )
-}
-
-/// Puts the records of the pieces that are below the table and have the value behind the rows, newest first.
-fn read_rest<D: Disk, P: Ledger, L: Ledger>(
-    alloc: Global,
-    log: &Log,
-    pass: &mut Pass,
-    reader: &mut RecordReader,
-    query: &Query,
-    pieces: &[Piece],
-    cold: &mut Cold,
-    disk: &mut D,
-    rows: &mut Rows,
-    parses: &mut Steps<P>,
-    loads: &mut Steps<L>,
-) -> Result<(), ColdRefusal>
-    requires pass { IsPassOf log.now pass.old }
-    requires base { IsBelow log.now.key cold.old }
-    requires fill { Fill pieces.now query.now.reach.from query.now.reach.to }
-    requires readable { AreReadable (view pass.old) (definition_of query.now.def) query.now.reach pieces.now }
-    ensures pass { IsPassOf log.now pass.new }
-    ensures extends { Extends (view pass.old) (view pass.new) }
-    ensures cold { StaysCold D.content D.images D.since D.moment D.faults cold.old cold.new disk.old disk.new }
-    ensures read { OnOk result ((h : CarriesTable (D.content disk.new) log.now.key cold.old) → HasReadBelow h.prior (view pass.old)
-        (view pass.new) (definition_of query.now.def) query.now.value (pieces_below log.now.key.number pieces.now)
-        query.now.reach.from (last_below log.now.key query.now.reach) rows.old rows.new parses.old parses.new loads.old loads.new) }
-
-    ensures fault { IsFaultOf (D.faults disk.old) (D.faults disk.new) result }
-    ensures damage { IfErr result (IsDamageIn query.now.reach.from log.now.key.number) }
-    ensures whole { (h : CarriesTable (D.content disk.new) log.now.key cold.old) → IfErr result IsUndamaged }
-{
-    let below = pieces_before(alloc, pieces, base(log).number)?;
+    )?;
     read_below(
         alloc,
         log,
         pass,
         reader,
         query,
-        below.as_slice(),
+        cut.below.as_slice(),
         cold,
         disk,
         rows,

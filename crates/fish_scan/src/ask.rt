@@ -4,7 +4,7 @@ use fish_plan::Plan;
 use fish_value::{Numbers, Rows, Text, Value};
 
 /// How the numbers of a range are to be read.
-#[derive(Clone, Copy, Debug, PartialEq, Eq)]
+#[derive(Clone, Copy)]
 pub enum How {
     /// By the index where it is complete, and else one by one.
     Auto,
@@ -15,7 +15,7 @@ pub enum How {
 }
 
 /// Which records a scan is to find.
-#[derive(Debug, Drop)]
+#[derive(Drop)]
 pub struct Ask {
     /// The name of a definition. Of several it means the newest, active or not.
     pub name: Text,
@@ -29,7 +29,7 @@ pub struct Ask {
 }
 
 /// The records of a range.
-#[derive(Debug, Drop)]
+#[derive(Drop)]
 pub struct Answer {
     pub from: u32,
     pub to: u32,
@@ -42,7 +42,7 @@ pub struct Answer {
 }
 
 /// How a range would be read.
-#[derive(Debug, Drop)]
+#[derive(Drop)]
 pub struct Explained {
     pub from: u32,
     pub to: u32,

@@ -1,7 +1,7 @@
 //! Numbers below the base that an index holds: the chain of the value's bucket is followed in the file, and no record is
 //! parsed.
 
-ghost use Rattle.std.specs.Prelude.{◌≡◌, ◌≢◌, ◌+◌, ◌*◌, ◌<◌, ◌≤◌, ℕ, List, IfErr, IfOk, OnOk};
+ghost use Rattle.std.specs.Prelude.{◌≡◌, ◌≢◌, ◌↔◌, ◌+◌, ◌*◌, ◌<◌, ◌≤◌, ℕ, List, IfErr, IfOk, IsTrue, OnOk};
 ghost use Rattle.fish_cold.specs.Answers.{IsDamageOf};
 ghost use Rattle.fish_cold.specs.Caching.{IsUndamaged};
 ghost use Rattle.fish_cold.specs.Carries.{CarriesTable};
@@ -134,7 +134,9 @@ fn walk_down<D: Disk, L: Ledger>(
         };
         place = node.prev;
         below = node.number + 1;
-        to = visit(query, id, to, node, cold, disk, rows, loads)?;
+        let last = visit(query, id, to, &node, cold, disk, rows, loads);
+        drop(node);
+        to = last?;
     }
 }
 
@@ -144,36 +146,38 @@ fn visit<D: Disk, L: Ledger>(
     query: &Query,
     id: u16,
     to: u32,
-    node: ColdNode,
+    node: &ColdNode,
     cold: &mut Cold,
     disk: &mut D,
     rows: &mut Rows,
     loads: &mut Steps<L>,
 ) -> Result<u32, ColdRefusal>
-    requires older { node.number < cold.old.base.number }
-    requires lower { node.place < 4 * cold.old.base.line }
+    requires older { node.now.number < cold.old.base.number }
+    requires lower { node.now.place < 4 * cold.old.base.line }
     ensures cold { StaysCold D.content D.images D.since D.moment D.faults cold.old cold.new disk.old disk.new }
-    ensures visit { IfOk result (IsVisit node id query.now.value to rows.old rows.new loads.old loads.new (λ payload before now.
+    ensures visit { IfOk result (IsVisit node.now id query.now.value to rows.old rows.new loads.old loads.new (λ payload before now.
         (k : TableKey) (h : CarriesTable (D.content disk.new) k cold.old) (b n : ℕ) (p : BodyParts) (key : KeyPart)
-        → IsKeyAt h.prior b node.place n p node.key key → IsPayloadAt p payload before now)) }
+        → IsKeyAt h.prior b node.now.place n p node.now.key key → IsPayloadAt p payload before now)) }
 
     ensures fault { IsFaultOf (D.faults disk.old) (D.faults disk.new) result }
-    ensures damage { IfErr result (IsDamageOf node.number) }
+    ensures damage { IfErr result (IsDamageOf node.now.number) }
     ensures whole { (k : TableKey) (h : CarriesTable (D.content disk.new) k cold.old) (b n : ℕ) (p : BodyParts) (key : KeyPart)
-        → IsKeyAt h.prior b node.place n p node.key key → IfErr result IsUndamaged }
+        → IsKeyAt h.prior b node.now.place n p node.now.key key → IfErr result IsUndamaged }
 {
-    let number = node.number;
-    if !(number < to && node.id == id && node.value.is(&query.value)) {
-        drop(node);
+    if !is_taken(query, id, to, node) {
         return Ok(to);
     }
-    let payload = payload_of(&node, cold, disk, loads);
-    drop(node);
-    rows.push(Row {
-        number,
-        payload: payload?,
-    })?;
+    let number = node.number;
+    let payload = payload_of(node, cold, disk, loads)?;
+    rows.push(Row { number, payload })?;
     Ok(number)
+}
+
+/// Whether a key entry is of the definition with an id and has the value, and its record's number is below another.
+fn is_taken(query: &Query, id: u16, to: u32, node: &ColdNode) -> bool
+    ensures { IsTrue result ↔ ((node.now.number < to) × (node.now.id ≡ id) × (node.now.value ≡ query.now.value)) }
+{
+    node.number < to && node.id == id && node.value.is(&query.value)
 }
 
 /// The payload of a key entry's record.

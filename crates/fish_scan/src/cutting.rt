@@ -7,34 +7,27 @@ ghost use Rattle.fish_scan.specs.Cutting.{above_of, below_of, ended, pieces_abov
 use fish_plan::Piece;
 use std::alloc::{AllocError, Global};
 
-/// What of the pieces is at or past a number.
-pub(crate) fn pieces_from(
-    alloc: Global,
-    pieces: &[Piece],
-    base: u32,
-) -> Result<Vec<Piece>, AllocError>
-    ensures { IfOk result (λ cut. cut.items ≡ pieces_above base pieces.now) }
-{
-    let mut cut = Vec::new(alloc);
-    for piece in pieces {
-        add_part(part_from(piece, base), &mut cut)?;
-    }
-    Ok(cut)
+/// What of the pieces is on each side of a number.
+#[derive(Drop)]
+pub(crate) struct Cut {
+    /// What is at or past it.
+    pub above: Vec<Piece>,
+    /// What is below it.
+    pub below: Vec<Piece>,
 }
 
-/// What of the pieces is below a number.
-pub(crate) fn pieces_before(
-    alloc: Global,
-    pieces: &[Piece],
-    base: u32,
-) -> Result<Vec<Piece>, AllocError>
-    ensures { IfOk result (λ cut. cut.items ≡ pieces_below base pieces.now) }
+/// The pieces are cut at a number.
+pub(crate) fn cut_at(alloc: Global, pieces: &[Piece], base: u32) -> Result<Cut, AllocError>
+    ensures above { IfOk result (λ cut. cut.above.items ≡ pieces_above base pieces.now) }
+    ensures below { IfOk result (λ cut. cut.below.items ≡ pieces_below base pieces.now) }
 {
-    let mut cut = Vec::new(alloc);
+    let mut above = Vec::new(alloc);
+    let mut below = Vec::new(alloc);
     for piece in pieces {
-        add_part(part_before(piece, base), &mut cut)?;
+        add_part(part_from(piece, base), &mut above)?;
+        add_part(part_before(piece, base), &mut below)?;
     }
-    Ok(cut)
+    Ok(Cut { above, below })
 }
 
 /// Puts a part behind the others, if it is one.

@@ -43,6 +43,7 @@ pub(crate) fn find_plan(
         How::Index => {
             let plan = plan_by(alloc, log, pass, rows, text, reach)?;
             if let Some(gap) = plan.uncovered(reach.settled) {
+                drop(plan);
                 return Err(ScanRefusal::NotCovered {
                     from: gap.from,
                     to: gap.to,

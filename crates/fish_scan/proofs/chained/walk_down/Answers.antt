@@ -95,7 +95,7 @@ returns-in_err-to-clause-whole g c k h b head =
     let walk = stays_reads g.D.Disk.content g.D.Disk.images g.D.Disk.since g.D.Disk.moment g.D.Disk.faults c.down.cold
     c.cold_walk.new.self c.down.disk c.cold_walk.new.disk c.cold_walk.result c.cold_walk.ensures.reads in
     let last = back g.D.Disk.content g.D.Disk.images g.D.Disk.since g.D.Disk.moment g.D.Disk.faults c.cold_walk.new.self
-    c.visit.new.cold c.cold_walk.new.disk c.visit.new.disk c.visit.ensures.cold h in
+    c.visit-last.new.cold c.cold_walk.new.disk c.visit-last.new.disk c.visit-last.ensures.cold h in
     let before = back g.D.Disk.content g.D.Disk.images g.D.Disk.since g.D.Disk.moment g.D.Disk.faults c.down.cold
     c.cold_walk.new.self c.down.disk c.cold_walk.new.disk walk last in
     let now = ahead g.D.Disk.content g.D.Disk.images g.D.Disk.since g.D.Disk.moment g.D.Disk.faults c.args.cold.now c.down.cold
@@ -103,7 +103,7 @@ returns-in_err-to-clause-whole g c k h b head =
     let both = stays_both g.D.Disk.content g.D.Disk.images g.D.Disk.since g.D.Disk.moment g.D.Disk.faults c.args.cold.now c.down.cold
     c.cold_walk.new.self c.args.disk.now c.down.disk c.cold_walk.new.disk inv.stays walk in
     let after = ahead g.D.Disk.content g.D.Disk.images g.D.Disk.since g.D.Disk.moment g.D.Disk.faults c.args.cold.now
-    c.cold_walk.new.self c.visit.new.cold c.args.disk.now c.cold_walk.new.disk c.visit.new.disk both c.visit.ensures.cold h in
+    c.cold_walk.new.self c.visit-last.new.cold c.args.disk.now c.cold_walk.new.disk c.visit-last.new.disk both c.visit-last.ensures.cold h in
     let down = inv.down k before b head in
     let node = c.in-Ok-Some.node in
     let here = on_here h.prior b c.down.place c.down.below down.on
@@ -133,19 +133,19 @@ down-preserved g c =
     let place = inv.lower some in
     record {
       stays = stays_both g.D.Disk.content g.D.Disk.images g.D.Disk.since g.D.Disk.moment g.D.Disk.faults c.args.cold.now
-          c.cold_walk.new.self c.visit.new.cold c.args.disk.now c.cold_walk.new.disk c.visit.new.disk both c.visit.ensures.cold;
+          c.cold_walk.new.self c.visit-last.new.cold c.args.disk.now c.cold_walk.new.disk c.visit-last.new.disk both c.visit-last.ensures.cold;
       lower = λ more. omega arith;
       under = omega arith;
       least = omega arith;
       down = λ k h b head.
           let last = back g.D.Disk.content g.D.Disk.images g.D.Disk.since g.D.Disk.moment g.D.Disk.faults c.cold_walk.new.self
-          c.visit.new.cold c.cold_walk.new.disk c.visit.new.disk c.visit.ensures.cold h in
+          c.visit-last.new.cold c.cold_walk.new.disk c.visit-last.new.disk c.visit-last.ensures.cold h in
           let before = back g.D.Disk.content g.D.Disk.images g.D.Disk.since g.D.Disk.moment g.D.Disk.faults c.down.cold
           c.cold_walk.new.self c.down.disk c.cold_walk.new.disk walk last in
           let now = ahead g.D.Disk.content g.D.Disk.images g.D.Disk.since g.D.Disk.moment g.D.Disk.faults c.args.cold.now c.down.cold
           c.cold_walk.new.self c.args.disk.now c.down.disk c.cold_walk.new.disk inv.stays walk last in
           let after = ahead g.D.Disk.content g.D.Disk.images g.D.Disk.since g.D.Disk.moment g.D.Disk.faults c.args.cold.now
-          c.cold_walk.new.self c.visit.new.cold c.args.disk.now c.cold_walk.new.disk c.visit.new.disk both c.visit.ensures.cold h in
+          c.cold_walk.new.self c.visit-last.new.cold c.args.disk.now c.cold_walk.new.disk c.visit-last.new.disk both c.visit-last.ensures.cold h in
           let down = inv.down k before b head in
           let here = on_here h.prior b c.down.place c.down.below down.on some in
           let walks = subst (λ (o : Option ColdNode). Walks c.down.place c.args.stretch.now.from here.parts here.place_in here.key (Ok o))
@@ -153,7 +153,7 @@ down-preserved g c =
           let is = walks.1 in
           down_next h.prior b c.args.id (definition_of c.args.query.now.def) c.args.query.now.value c.args.stretch.now.from
           c.args.stretch.now.to c.down.place c.down.below c.down.to c.args.rows.now c.down.rows c.args.loads.now c.down.loads down here
-          node walks.0 is c.cold_walk.new.loads c.cold_walk.ensures.loads c.visit.new.rows c.visit.new.loads c.in_ok-to.to _
+          node walks.0 is c.cold_walk.new.loads c.cold_walk.ensures.loads c.visit-last.new.rows c.visit-last.new.loads c.in_ok-to.to _
           (λ payload told. told k after b here.number here.parts here.key
           (subst (λ (z : ℕ × ℕ). IsKeyAt h.prior b z.0 here.number here.parts z.1 here.key) (λ i. (sym is.place_is i, sym is.key i))
           here.at)) c.in_ok-to.ensures.visit;
