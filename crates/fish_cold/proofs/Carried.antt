@@ -30,7 +30,7 @@ use Rattle.fish_cold.specs.Pages.{log_words, page_words}
 use Rattle.fish_cold.specs.Regions.{Leads}
 use Rattle.fish_cold.specs.Starts.{IsStartOf}
 use Rattle.fish_cold.specs.declared.cold.Cold.{Cold}
-use Rattle.fish_cold.proofs.LogWords.{are_pages, length-words_of, words_of-take}
+use Rattle.fish_cold.proofs.LogWords.{ArePages, are_pages, length-words_of, words_of-take}
 use Rattle.fish_cold.proofs.Priors.{all_started, carried_entry, entry_at, entry_in, line_grows, region_on}
 
 -- the words of lines are those of the file
@@ -51,11 +51,16 @@ lines_room image m some =
     let behind = length-drop lines_at image in
     omega arith
 
--- a region below the base is led to
-carried_at : (content : Option (List ℕ)) (k : Key) (cold : Cold) (h : CarriesTable content k cold) (n : ℕ) → n < k.number
-    → (t u : Reached) → Agrees h.prior.commit (words_in h.prior.lines) n t
-    → Follows h.prior.commit (words_in h.prior.lines) t u → IsCarried cold h.image h.end n
-carried_at content k cold h n less t u at f =
+-- a region below the base lies before it, in words that are those of the file's pages
+record IsLaid {content : Option (List ℕ)} {k : Key} {cold : Cold} (h : CarriesTable content k cold) (t u : Reached) : Type 0 where
+  pages : ArePages (words_in h.prior.lines) cold.base.line (λ q. page_words cold.base.line q h.image)
+  some : 1 ≤ region_lines (drop (4 * t.line) (words_in h.prior.lines))
+  line : u.line ≡ t.line + region_lines (drop (4 * t.line) (words_in h.prior.lines))
+  within : u.line ≤ cold.base.line
+
+laid : (content : Option (List ℕ)) (k : Key) (cold : Cold) (h : CarriesTable content k cold) (n : ℕ) → n < k.number → (t u : Reached)
+    → Agrees h.prior.commit (words_in h.prior.lines) n t → Follows h.prior.commit (words_in h.prior.lines) t u → IsLaid h t u
+laid content k cold h n less t u at f =
     let prior = h.prior in
     let commit = prior.commit in
     let counts = prior.has.counts in
@@ -73,13 +78,29 @@ carried_at content k cold h n less t u at f =
     let all = agrees_within commit w k.number h.end prior.agrees in
     let line = h.line in
     let base = h.base_line in
-    let pages = are_pages h.image w cold.base.line is (omega arith) room in
+    let ends = line_grows commit w k.number h.end prior.agrees n t u less at f in
+    record {
+      pages = are_pages h.image w cold.base.line is (omega arith) room;
+      some = some;
+      line = g.line;
+      within = omega arith;
+    }
+
+-- it is led to
+carried_at : (content : Option (List ℕ)) (k : Key) (cold : Cold) (h : CarriesTable content k cold) (n : ℕ) → n < k.number
+    → (t u : Reached) → Agrees h.prior.commit (words_in h.prior.lines) n t
+    → Follows h.prior.commit (words_in h.prior.lines) t u → IsCarried cold h.image h.end n
+carried_at content k cold h n less t u at f =
+    let commit = h.prior.commit in
+    let w = words_in h.prior.lines in
     let words : ℕ → List ℕ = λ p. page_words cold.base.line p h.image in
-    let st = all_started commit w cold.base.line words pages k.number h.end prior.agrees (omega arith) in
+    let l = laid content k cold h n less t u at f in
+    let line = h.line in
+    let base = h.base_line in
+    let st = all_started commit w cold.base.line words l.pages k.number h.end h.prior.agrees (omega arith) in
     let kept = st.kept n t less at in
     let low = st.below kept.is_start.at kept.start kept.is_start.there in
     let lower = low.2 in
-    let ends = line_grows commit w k.number h.end prior.agrees n t u less at f in
     record {
       rest = drop (4 * (t.line % 32768)) (page_words cold.base.line (page_of t.line) h.image);
       region_is = record {
@@ -92,8 +113,8 @@ carried_at content k cold h n less t u at f =
         rest_is = ap (λ p. drop (4 * (t.line % 32768)) (page_words cold.base.line p h.image)) (sym kept.page_is);
       };
       entry = entry_in f;
-      there = entry_at commit w k.number h.end prior.agrees n t u less at f;
-      is = carried_entry commit w cold.base.line words pages t u f (omega arith);
+      there = entry_at commit w k.number h.end h.prior.agrees n t u less at f;
+      is = carried_entry commit w cold.base.line words l.pages t u f l.within;
     }
 
 pub carried : (content : Option (List ℕ)) (k : Key) (cold : Cold) (h : CarriesTable content k cold) (n : ℕ) → n < k.number
@@ -114,35 +135,23 @@ pub record_there : (content : Option (List ℕ)) (k : Key) (cold : Cold) (h : Ca
     → IsPriorRecord h.prior n p → IsRecordThere h n p
 unfolding carried_at
 record_there content k cold h n p stored =
-    let prior = h.prior in
-    let commit = prior.commit in
-    let counts = prior.has.counts in
-    let w = words_in prior.lines in
-    let is : w ≡ log_words h.image 0 (length w) =
-    subst (λ l. words_in l ≡ log_words h.image 0 (length (words_in l))) counts.lines_are (lines_words h.image (line_count prior.body)) in
+    let commit = h.prior.commit in
+    let w = words_in h.prior.lines in
     let t = stored.at in
-    let u = behind_record commit t (region_lines (drop (4 * t.line) w)) p in
+    let lines = region_lines (drop (4 * t.line) w) in
+    let u = behind_record commit t lines p in
     let f : Follows commit w t u = inr (p, stored.is, refl) in
-    let g = goes commit t _ _ u f in
-    let some = g.some in
-    let front = front_whole commit t (drop (4 * t.line) w) u f in
-    let behind = length-drop (4 * t.line) w in
-    let many : 0 < length w = omega arith in
-    let room : lines_at + 8 * length w ≤ length h.image =
-    subst (λ l. 0 < length (words_in l) → lines_at + 8 * length (words_in l) ≤ length h.image) counts.lines_are
-    (lines_room h.image (line_count prior.body)) many in
-    let all = agrees_within commit w k.number h.end prior.agrees in
-    let line = h.line in
-    let base = h.base_line in
-    let pages = are_pages h.image w cold.base.line is (omega arith) room in
+    let l = laid content k cold h n stored.few t u stored.agrees f in
+    let some = l.some in
+    let line = l.line in
+    let within = l.within in
     let words : ℕ → List ℕ = λ q. page_words cold.base.line q h.image in
-    let ends = line_grows commit w k.number h.end prior.agrees n t u stored.few stored.agrees f in
     let at = carried_at content k cold h n stored.few t u stored.agrees f in
     record {
       rest = at.rest;
       region_is = at.region_is;
-      head = subst (IsBody p) (sym (region_on commit w cold.base.line words pages t (omega arith) (region_lines (drop (4 * t.line) w)) refl
-          some stored.is.kept.in_page (omega arith))) stored.is.body;
+      head = subst (IsBody p) (sym (region_on commit w cold.base.line words l.pages t (omega arith) lines refl some
+          stored.is.kept.in_page (omega arith))) stored.is.body;
       there = at.there;
     }
 
@@ -161,31 +170,18 @@ pub carried_key : (content : Option (List ℕ)) (k : Key) (cold : Cold) (h : Car
     (p : BodyParts) (j : ℕ)
     (key : KeyPart) (at : IsKeyAt h.prior b place n p j key) → HasNodeOn cold h.image place (at.stored.at.line % 32768) p j key
 carried_key content k cold h b place n p j key at =
-    let prior = h.prior in
-    let commit = prior.commit in
-    let counts = prior.has.counts in
-    let w = words_in prior.lines in
-    let is : w ≡ log_words h.image 0 (length w) =
-    subst (λ l. words_in l ≡ log_words h.image 0 (length (words_in l))) counts.lines_are (lines_words h.image (line_count prior.body)) in
+    let commit = h.prior.commit in
+    let w = words_in h.prior.lines in
     let stored = at.stored in
     let t = stored.at in
     let lines = region_lines (drop (4 * t.line) w) in
     let u = behind_record commit t lines p in
     let f : Follows commit w t u = inr (p, stored.is, refl) in
-    let g = goes commit t _ _ u f in
-    let some = g.some in
-    let front = front_whole commit t (drop (4 * t.line) w) u f in
-    let behind = length-drop (4 * t.line) w in
-    let many : 0 < length w = omega arith in
-    let room : lines_at + 8 * length w ≤ length h.image =
-    subst (λ l. 0 < length (words_in l) → lines_at + 8 * length (words_in l) ≤ length h.image) counts.lines_are
-    (lines_room h.image (line_count prior.body)) many in
-    let all = agrees_within commit w k.number h.end prior.agrees in
-    let line = h.line in
-    let base = h.base_line in
-    let pages = are_pages h.image w cold.base.line is (omega arith) room in
+    let l = laid content k cold h n stored.few t u stored.agrees f in
+    let some = l.some in
+    let line = l.line in
+    let below = l.within in
     let words : ℕ → List ℕ = λ q. page_words cold.base.line q h.image in
-    let ends = line_grows commit w k.number h.end prior.agrees n t u stored.few stored.agrees f in
     let in_page = stored.is.kept.in_page in
     let size = stored.is.size in
     let full = body_length stored.is.body in
@@ -199,7 +195,7 @@ carried_key content k cold h b place n p j key at =
     let page : page_of t.line ≡ place / 131072 = omega arith in
     record {
       body = subst (λ q. IsBody p (region (drop (4 * (t.line % 32768)) (page_words cold.base.line q h.image)))) page
-          (subst (IsBody p) (sym (region_on commit w cold.base.line words pages t (omega arith) lines refl some in_page
+          (subst (IsBody p) (sym (region_on commit w cold.base.line words l.pages t (omega arith) lines refl some in_page
           (omega arith))) stored.is.body);
       at = omega arith;
       within = at.within;
