@@ -114,7 +114,7 @@ fn entry_of(payload: Payload) -> Entry
 }
 
 /// Which key entry a walk asks for.
-#[derive(Clone, Copy, Debug)]
+#[derive(Clone, Copy)]
 pub(crate) struct Asked {
     /// Where it is, in words from the log's start.
     pub place: u64,
@@ -180,7 +180,7 @@ fn node_in<L: Ledger>(
 }
 
 /// What the second and third word of a key entry show.
-#[derive(Clone, Copy, Debug)]
+#[derive(Clone, Copy)]
 pub(crate) enum Shown {
     /// Its record's number is below the range.
     Older,

@@ -3,7 +3,7 @@
 use fish_value::Value;
 
 /// A key entry of an older record.
-#[derive(Debug, Drop)]
+#[derive(Drop)]
 pub struct ColdNode {
     /// The record's number.
     pub number: u32,

@@ -7,7 +7,7 @@ use fish_layout::{LINE_WORDS, lines_in};
 use std::alloc::{AllocError, Global};
 
 /// A page of the log's lines below the base.
-#[derive(Debug, Drop)]
+#[derive(Drop)]
 pub(crate) struct Page {
     /// Its words, as many as the file has.
     pub words: Vec<u64>,

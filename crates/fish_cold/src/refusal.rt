@@ -5,7 +5,7 @@ use std::alloc::AllocError;
 use thiserror::Error;
 
 /// Why an older record isn't answered.
-#[derive(Clone, Copy, Debug, PartialEq, Eq, Error)]
+#[derive(Clone, Copy, Debug, Error)]
 pub enum ColdRefusal {
     #[error("the disk failed")]
     DiskFault,

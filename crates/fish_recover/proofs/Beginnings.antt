@@ -39,7 +39,7 @@ use Rattle.fish_slots.proofs.Commits.{rests_commit}
 use Rattle.fish_recover.specs.Beginning.{BeginsAt, IsKept}
 use Rattle.fish_recover.proofs.Keepings.{kept_committed, whole_lines}
 use Rattle.fish_recover.specs.Opening.{IsRead}
-use Rattle.fish_recover.specs.Stores.{IsOpened}
+use Rattle.fish_recover.specs.Stores.{IsOpened, Resumes}
 use Rattle.fish_recover.specs.declared.finding.Found.{Found}
 use Rattle.fish_recover.specs.declared.opened.Opened.{Opened}
 
@@ -90,6 +90,10 @@ read_kept f g s read kept bits =
     let size = whole_lines f.commit l.lines f.commit.count l.held.end l.held.agrees l.held.lines l.size in
     committed_kept g f.commit read.slot.body l.lines l.held.end.entries s
     (kept_committed f read.slot.body l.lines read.slot.told l.held g size kept) bits
+
+-- its table begins where the commit's lines end
+pub resumed_line : (f : Found) (o : Opened) → Resumes f o → o.log.key.line ≡ f.commit.lines
+resumed_line f o h = h.begins.opens.key.line ∙ h.begins.after.base.line ∙ h.kept.line
 
 module _ (images : List ℕ → Type 0) (f : Flusher) (c : Commit) (log : List Entry) (rest : IsAtRest images f c log) (s : Shape)
     (bits : c.bucket_bits ≡ s.bucket_bits) (made : Bool) (o : Opened) (h : BeginsAt f s c.rows made o) where

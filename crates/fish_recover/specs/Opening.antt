@@ -1,5 +1,5 @@
 -- What opening a store finds, and why it is refused.
-use Rattle.std.specs.Prelude.{ℕ, ◌≡◌, ◌≢◌, ◌-◌, ◌*◌, ◌≤◌, ◌⊎◌, ◌↔◌, List, Option, Some, None, IsTrue, length, ⊤}
+use Rattle.std.specs.Prelude.{ℕ, ◌≡◌, ◌≢◌, ◌+◌, ◌-◌, ◌*◌, ◌/◌, ◌≤◌, ◌⊎◌, ◌↔◌, List, Option, Some, None, IsTrue, length, ⊤}
 use Rattle.fish_catalog.specs.declared.commit.Checked.{Checked}
 use Rattle.fish_catalog.specs.declared.commit.Commit.{Commit}
 use Rattle.fish_image.specs.Checking.{HasChecked, HasSeen}
@@ -19,6 +19,10 @@ use Rattle.fish_recover.specs.declared.refusal.OpenRefusal.{OpenRefusal}
 use Rattle.fish_recover.specs.declared.refusal.OpenRefusal.TheVariants.{Damaged, DiskFault, NotAStore, OutOfMemory, ShapeDiffers}
 
 -- ---- lines
+
+-- how many pages so many lines take
+abbrev pub pages_of : ℕ → ℕ
+pages_of lines = (lines + 32767) / 32768
 
 -- the words of the first lines of the log, as far as the image has them
 abbrev pub first_words : ℕ → List ℕ → List ℕ

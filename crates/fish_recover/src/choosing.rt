@@ -1,6 +1,6 @@
 //! Which slot of a store counts, and the commit that it tells.
 
-ghost use Rattle.std.specs.Prelude.{◌≡◌, ◌≤◌, ◌↔◌, ℕ, List, Some, IfErr, IfOk, IfSome, IsTrue, OnOk};
+ghost use Rattle.std.specs.Prelude.{◌≡◌, ◌≤◌, ◌+◌, ◌↔◌, ℕ, List, Some, IfErr, IfOk, IfSome, IsTrue, OnOk};
 ghost use Rattle.fish_outside.specs.Causes.{HasCause};
 ghost use Rattle.fish_disk.specs.Content.{StillReads};
 ghost use Rattle.fish_disk.specs.Crash.{LeavesOnly};
@@ -40,6 +40,7 @@ pub(crate) fn find_slot<D: Disk>(alloc: Global, disk: &mut D) -> Result<Chosen, 
     ensures synced { OnOk result ((c : List ℕ) → D.images disk.new c → D.content disk.new ≡ Some c) }
     ensures content { StillReads (D.content disk.old) (D.content disk.new) }
     ensures crash { LeavesOnly D.images D.since D.moment disk.old disk.new (D.images disk.old) }
+    ensures calls { D.moment disk.new ≤ D.moment disk.old + 6 }
 
     ensures cause { HasOpenCause (D.faults disk.old) (D.faults disk.new) result }
 {
@@ -59,6 +60,7 @@ fn newer<D: Disk>(disk: &mut D, gates: Gates) -> Result<u8, OpenRefusal>
     ensures refused { IfErr result (λ e. IfSome (D.content disk.new) (λ c. IsSlotCause c e)) }
     ensures content { StillReads (D.content disk.old) (D.content disk.new) }
     ensures crash { LeavesOnly D.images D.since D.moment disk.old disk.new (D.images disk.old) }
+    ensures calls { D.moment disk.new ≤ D.moment disk.old + 2 }
     ensures cause { HasOpenCause (D.faults disk.old) (D.faults disk.new) result }
 {
     if gates.first && gates.second {
@@ -81,6 +83,7 @@ fn newer_of_both<D: Disk>(disk: &mut D) -> Result<u8, OpenRefusal>
     ensures refused { IfErr result (λ e. IfSome (D.content disk.new) (λ c. IsSlotCause c e)) }
     ensures content { StillReads (D.content disk.old) (D.content disk.new) }
     ensures crash { LeavesOnly D.images D.since D.moment disk.old disk.new (D.images disk.old) }
+    ensures calls { D.moment disk.new ≤ D.moment disk.old + 2 }
     ensures cause { HasOpenCause (D.faults disk.old) (D.faults disk.new) result }
 {
     let first = turn_at(disk, 0)?;
@@ -108,6 +111,7 @@ fn turn_at<D: Disk>(disk: &mut D, slot: u8) -> Result<u64, Failed>
     ensures turn { IfOk result (λ turn. IfSome (D.content disk.new) (λ c. turn ≡ turn_of (body_of slot c))) }
     ensures content { StillReads (D.content disk.old) (D.content disk.new) }
     ensures crash { LeavesOnly D.images D.since D.moment disk.old disk.new (D.images disk.old) }
+    ensures calls { D.moment disk.new ≤ D.moment disk.old + 1 }
     ensures cause { HasCause (D.faults disk.old) (D.faults disk.new) result }
 {
     let mut word = [0u8; 8];
@@ -131,6 +135,7 @@ fn read_chosen<D: Disk>(
     ensures refused { IfErr result (λ e. IfSome (D.content disk.new) (λ c. IsSlotCause c e)) }
     ensures content { StillReads (D.content disk.old) (D.content disk.new) }
     ensures crash { LeavesOnly D.images D.since D.moment disk.old disk.new (D.images disk.old) }
+    ensures calls { D.moment disk.new ≤ D.moment disk.old + 1 }
     ensures cause { HasOpenCause (D.faults disk.old) (D.faults disk.new) result }
 {
     let both = are_both(gates);
@@ -155,6 +160,7 @@ fn read_commit<D: Disk>(alloc: Global, disk: &mut D, slot: u8) -> Result<Commit,
     ensures refused { IfErr result (λ e. IfSome (D.content disk.new) (λ c. IsBodyCause (body_of slot c) e)) }
     ensures content { StillReads (D.content disk.old) (D.content disk.new) }
     ensures crash { LeavesOnly D.images D.since D.moment disk.old disk.new (D.images disk.old) }
+    ensures calls { D.moment disk.new ≤ D.moment disk.old + 1 }
     ensures cause { HasOpenCause (D.faults disk.old) (D.faults disk.new) result }
 {
     let mut body = zeros(alloc, SLOT_BYTES as usize)?;

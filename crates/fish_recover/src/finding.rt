@@ -1,10 +1,10 @@
 //! What a store holds, by the slot that counts.
 
-ghost use Rattle.std.specs.Prelude.{◌≡◌, ◌↔◌, ℕ, List, Some, IfErr, IfOk, IfSome, IsTrue, OnOk};
+ghost use Rattle.std.specs.Prelude.{◌≡◌, ◌≤◌, ◌+◌, ◌↔◌, ℕ, List, Some, IfErr, IfOk, IfSome, IsTrue, OnOk};
 ghost use Rattle.fish_disk.specs.Content.{StillReads};
 ghost use Rattle.fish_disk.specs.Crash.{LeavesOnly};
 ghost use Rattle.fish_recover.specs.Choosing.{HasOpenCause, IsChosen, IsSlotRead};
-ghost use Rattle.fish_recover.specs.Opening.{IsFound, IsOpenCause, IsOtherShape, IsRead};
+ghost use Rattle.fish_recover.specs.Opening.{IsFound, IsOpenCause, IsOtherShape, IsRead, pages_of};
 
 use crate::choosing::{Chosen, find_slot};
 use crate::lines::check_lines;
@@ -34,6 +34,7 @@ pub fn find_store<D: Disk>(alloc: Global, asked: Asked, disk: &mut D) -> Result<
     ensures synced { OnOk result ((c : List ℕ) → D.images disk.new c → D.content disk.new ≡ Some c) }
     ensures content { StillReads (D.content disk.old) (D.content disk.new) }
     ensures crash { LeavesOnly D.images D.since D.moment disk.old disk.new (D.images disk.old) }
+    ensures calls { IfOk result (λ f. D.moment disk.new ≤ D.moment disk.old + pages_of f.commit.lines + 6) }
 
     ensures refused { IfErr result (λ e. IfSome (D.content disk.new) (λ c. IsOpenCause c asked e)) }
     ensures cause { HasOpenCause (D.faults disk.old) (D.faults disk.new) result }
@@ -59,6 +60,7 @@ fn hold<D: Disk>(
     ensures synced { OnOk result ((c : List ℕ) → D.images disk.new c → D.content disk.new ≡ Some c) }
     ensures content { StillReads (D.content disk.old) (D.content disk.new) }
     ensures crash { LeavesOnly D.images D.since D.moment disk.old disk.new (D.images disk.old) }
+    ensures calls { IfOk result (λ f. D.moment disk.new ≤ D.moment disk.old + pages_of f.commit.lines) }
     ensures refused { IfErr result (λ e. IfSome (D.content disk.new) (λ c. IsOpenCause c asked e)) }
     ensures cause { HasOpenCause (D.faults disk.old) (D.faults disk.new) result }
 {

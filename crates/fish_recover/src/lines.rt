@@ -10,6 +10,7 @@ ghost use Rattle.fish_image.specs.Stands.{words_in as all_words};
 ghost use Rattle.fish_slots.specs.Places.{lines_at};
 ghost use Rattle.fish_recover.specs.Choosing.{HasOpenCause};
 ghost use Rattle.fish_recover.specs.Opening.{AreRead, HasRead, IsLinesCause, IsOutside, IsPieceCause, IsSame, first_words};
+ghost use Rattle.fish_recover.specs.Opening.{pages_of};
 
 use crate::bytes::{words_in, zeros};
 use crate::refusal::OpenRefusal;
@@ -33,6 +34,7 @@ pub(crate) fn check_lines<D: Disk>(
         (λ c. IsLinesCause commit.now (first_words commit.now.lines c) e)) }
     ensures content { StillReads (D.content disk.old) (D.content disk.new) }
     ensures crash { LeavesOnly D.images D.since D.moment disk.old disk.new (D.images disk.old) }
+    ensures calls { D.moment disk.new ≤ D.moment disk.old + pages_of commit.now.lines }
 
     ensures cause { HasOpenCause (D.faults disk.old) (D.faults disk.new) result }
 {
@@ -74,6 +76,7 @@ fn feed_lines<D: Disk>(
     ensures checker { IsChecker checker.new }
     ensures content { StillReads (D.content disk.old) (D.content disk.new) }
     ensures crash { LeavesOnly D.images D.since D.moment disk.old disk.new (D.images disk.old) }
+    ensures calls { D.moment disk.new ≤ D.moment disk.old + 1 }
     ensures cause { HasOpenCause (D.faults disk.old) (D.faults disk.new) result }
 {
     match read_words(alloc, disk, line, count) {
@@ -100,6 +103,7 @@ fn read_words<D: Disk>(
     ensures refused { IfErr result IsOutside }
     ensures content { StillReads (D.content disk.old) (D.content disk.new) }
     ensures crash { LeavesOnly D.images D.since D.moment disk.old disk.new (D.images disk.old) }
+    ensures calls { D.moment disk.new ≤ D.moment disk.old + 1 }
     ensures cause { HasOpenCause (D.faults disk.old) (D.faults disk.new) result }
 {
     let mut bytes = zeros(alloc, (LINE_BYTES * count) as usize)?;

@@ -34,6 +34,7 @@ pub(crate) fn rest_store<D: Disk>(
         → AreAtRest (D.images disk.new) slot b w × AreLong (D.images disk.new) b) }
     ensures crash { (b w : List ℕ) → AreStored (D.images disk.old) slot both b w
         → LeavesOnly D.images D.since D.moment disk.old disk.new (HasCommit b w) }
+    ensures calls { D.moment disk.new ≤ D.moment disk.old + 5 }
     ensures told { (i : List ℕ) → D.images disk.new i → (o : List ℕ) × D.images disk.old o }
     ensures refused { IfErr result IsOutside }
 
@@ -53,6 +54,7 @@ fn close_other<D: Disk>(disk: &mut D, slot: u8, both: bool) -> Result<(), Failed
     ensures synced { OnOk result ((c : List ℕ) → D.images disk.new c → D.content disk.new ≡ Some c) }
     ensures crash { (b w : List ℕ) → AreStored (D.images disk.old) slot both b w
         → LeavesOnly D.images D.since D.moment disk.old disk.new (HasCommit b w) }
+    ensures calls { D.moment disk.new ≤ D.moment disk.old + 2 }
     ensures told { (i : List ℕ) → D.images disk.new i → (o : List ℕ) × D.images disk.old o }
     ensures cause { HasCause (D.faults disk.old) (D.faults disk.new) result }
 {
@@ -67,6 +69,7 @@ fn fill<D: Disk>(alloc: Global, disk: &mut D, slot: u8) -> Result<(), OpenRefusa
         → AreAtRest (D.images disk.new) slot b w × AreLong (D.images disk.new) b) }
     ensures crash { (b w : List ℕ) → AreAtRest (D.images disk.old) slot b w
         → LeavesOnly D.images D.since D.moment disk.old disk.new (Rests slot b w) }
+    ensures calls { D.moment disk.new ≤ D.moment disk.old + 3 }
     ensures told { (i : List ℕ) → D.images disk.new i → (o : List ℕ) × D.images disk.old o }
     ensures refused { IfErr result IsOutside }
     ensures cause { HasOpenCause (D.faults disk.old) (D.faults disk.new) result }

@@ -9,7 +9,7 @@ ghost use Rattle.fish_flush.specs.Kept.{first_commit};
 ghost use Rattle.fish_image.specs.Stands.{Stands};
 ghost use Rattle.fish_rule.specs.Start.{IsShape};
 ghost use Rattle.fish_recover.specs.Choosing.{HasOpenCause};
-ghost use Rattle.fish_recover.specs.Opening.{IsOfStore, IsOpenCause, IsOutside, IsRead};
+ghost use Rattle.fish_recover.specs.Opening.{IsOfStore, IsOpenCause, IsOutside, IsRead, pages_of};
 ghost use Rattle.fish_recover.specs.Stores.{HasOpened, IsFlushed, IsOpened, IsStoreCause, Resumes, StandsSince};
 ghost use Rattle.fish_recover.specs.Stores.{asked_shape};
 
@@ -43,6 +43,7 @@ pub fn open_store<D: Disk>(alloc: Global, asked: Asked, disk: &mut D) -> Result<
     ensures crash { (i : List ℕ) (c : Told) (log : List Entry) → D.content disk.old ≡ Some i → Stands c i log
         → LeavesOnly D.images D.since D.moment disk.old disk.new (λ e. D.images disk.old e ⊎ Stands c e log) }
     ensures calls { IfSome (D.content disk.new) (λ _. D.content disk.old ≡ Some [] → D.moment disk.new ≤ D.moment disk.old + 8) }
+    ensures few { IfOk result (λ o. D.moment disk.new ≤ D.moment disk.old + pages_of o.log.key.line + 13) }
 
     ensures refused { IfErr result (λ e. IfSome (D.content disk.new) (λ c. IsStoreCause c asked e)) }
     ensures reads { IfErr result (λ e. IsOfStore e → StillReads (D.content disk.old) (D.content disk.new)) }
@@ -59,6 +60,7 @@ fn open_synced<D: Disk>(alloc: Global, asked: Asked, disk: &mut D) -> Result<Ope
     ensures opened { IfOk result (HasOpened (D.content disk.old) (D.content disk.new) (D.images disk.new) asked) }
     ensures crash { (i : List ℕ) (c : Told) (log : List Entry) → ((e : List ℕ) → D.images disk.old e → e ≡ i) → Stands c i log
         → LeavesOnly D.images D.since D.moment disk.old disk.new (λ e. Stands c e log) }
+    ensures few { IfOk result (λ o. D.moment disk.new ≤ D.moment disk.old + pages_of o.log.key.line + 12) }
     ensures calls { IfSome (D.content disk.new) (λ _. ((i : List ℕ) → D.content disk.old ≡ Some i → i ≡ [])
         → D.moment disk.new ≤ D.moment disk.old + 7) }
     ensures refused { IfErr result (λ e. IfSome (D.content disk.new) (λ c. IsStoreCause c asked e)) }
@@ -117,6 +119,7 @@ fn open_kept<D: Disk>(alloc: Global, asked: Asked, disk: &mut D) -> Result<Opene
     ensures opened { IfOk result (HasOpened (D.content disk.old) (D.content disk.new) (D.images disk.new) asked) }
     ensures crash { (i : List ℕ) (c : Told) (log : List Entry) → ((e : List ℕ) → D.images disk.old e → e ≡ i) → Stands c i log
         → LeavesOnly D.images D.since D.moment disk.old disk.new (λ e. Stands c e log) }
+    ensures few { IfOk result (λ o. D.moment disk.new ≤ D.moment disk.old + pages_of o.log.key.line + 11) }
     ensures told { IfSome (D.content disk.new) (λ _. (i : List ℕ) × (D.content disk.old ≡ Some i)) }
     ensures refused { IfErr result (λ e. IfSome (D.content disk.new) (λ c. IsOpenCause c asked e)) }
     ensures reads { IfErr result (λ e. IsOfStore e → StillReads (D.content disk.old) (D.content disk.new)) }

@@ -5,7 +5,7 @@ use std::alloc::AllocError;
 use thiserror::Error;
 
 /// Why a scan isn't answered, in the order in which it is found; memory may be wanting in place of any.
-#[derive(Clone, Copy, Debug, PartialEq, Eq, Error)]
+#[derive(Clone, Copy, Debug, Error)]
 pub enum ScanRefusal {
     #[error("no definition up to version {version} has the name")]
     UnknownName {

@@ -36,12 +36,24 @@ type Case = (Question, usize);
 
 /// The records whose `type` is `Push`, and the plan. The last line of the file is missing in the last three.
 const CASES: &[(Case, &str)] = &[
-    (((How::Auto, None, None), 24), "3 2 0 in 0..4 index 0..4 by 0"),
-    (((How::Index, None, None), 24), "3 2 0 in 0..4 index 0..4 by 0"),
+    (
+        ((How::Auto, None, None), 24),
+        "3 2 0 in 0..4 index 0..4 by 0",
+    ),
+    (
+        ((How::Index, None, None), 24),
+        "3 2 0 in 0..4 index 0..4 by 0",
+    ),
     (((How::Full, None, None), 24), "3 2 0 in 0..4 full 0..4"),
-    (((How::Auto, Some(1), None), 24), "3 2 in 1..4 index 1..4 by 0"),
+    (
+        ((How::Auto, Some(1), None), 24),
+        "3 2 in 1..4 index 1..4 by 0",
+    ),
     (((How::Full, Some(1), Some(3)), 24), "2 in 1..3 full 1..3"),
-    (((How::Auto, None, Some(2)), 24), "0 in 0..2 index 0..2 by 0"),
+    (
+        ((How::Auto, None, Some(2)), 24),
+        "0 in 0..2 index 0..2 by 0",
+    ),
     (((How::Full, Some(3), None), 20), "3 in 3..4 full 3..4"),
     (((How::Full, None, None), 20), "damaged at 2"),
     (((How::Auto, None, None), 20), "damaged at 3"),
@@ -131,11 +143,7 @@ fn one_start(alloc: Global) -> Result<PageStarts, AllocError> {
 }
 
 /// Nothing read of what is below the log, whose pages have these starts.
-pub(crate) fn nothing_read(
-    alloc: Global,
-    log: &Log,
-    starts: PageStarts,
-) -> Result<Cold, AllocError>
+pub(crate) fn nothing_read(alloc: Global, log: &Log, starts: PageStarts) -> Result<Cold, AllocError>
     ensures { IfOk result (IsBelow log.now.key) }
 {
     let base = base(log);

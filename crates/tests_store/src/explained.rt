@@ -22,9 +22,15 @@ const CASES: &[(Question, &str)] = &[
     ((How::Auto, None, None), "0..9 index 3..9 by 0 full 0..3"),
     ((How::Full, None, None), "0..9 full 0..9"),
     ((How::Index, None, None), "no index holds the numbers 0..3"),
-    ((How::Index, Some(2), Some(8)), "no index holds the numbers 2..3"),
+    (
+        (How::Index, Some(2), Some(8)),
+        "no index holds the numbers 2..3",
+    ),
     ((How::Index, Some(3), None), "3..9 index 3..9 by 0"),
-    ((How::Auto, Some(1), Some(5)), "1..5 index 3..5 by 0 full 1..3"),
+    (
+        (How::Auto, Some(1), Some(5)),
+        "1..5 index 3..5 by 0 full 1..3",
+    ),
     ((How::Auto, None, Some(3)), "0..3 full 0..3"),
     ((How::Auto, Some(9), None), "9..9"),
 ];
@@ -72,12 +78,7 @@ fn answer_told(
 }
 
 /// Asks, with nothing read of the definitions.
-fn explained(
-    alloc: Global,
-    log: &Log,
-    pass: &mut Pass,
-    ask: &Ask,
-) -> Result<Explained, ScanRefusal>
+fn explained(alloc: Global, log: &Log, pass: &mut Pass, ask: &Ask) -> Result<Explained, ScanRefusal>
     requires { IsPassOf log.now pass.old }
 {
     let mut defs = Defs::new(alloc);

@@ -134,11 +134,7 @@ fn told_beside<R: Threads + Sync>(
     told
 }
 
-fn older_told<R: Threads + Sync>(
-    rt: &R,
-    alloc: Global,
-    case: &Case,
-) -> Result<String, AllocError> {
+fn older_told<R: Threads + Sync>(rt: &R, alloc: Global, case: &Case) -> Result<String, AllocError> {
     let mut disk = MemoryDisk::new(alloc, file_of(alloc, case)?, numbers(alloc, &[])?);
     let told = match open_store(alloc, ASKED, &mut disk) {
         Ok(opened) => told_beside(rt, alloc, opened, &mut disk),

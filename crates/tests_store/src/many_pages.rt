@@ -248,7 +248,15 @@ fn full_told(
     requires base { IsBelow log.now.key cold.old }
 {
     let mut defs = Defs::new(alloc);
-    let told = asked_told(alloc, &(How::Full, None, None), log, pass, &mut defs, cold, disk);
+    let told = asked_told(
+        alloc,
+        &(How::Full, None, None),
+        log,
+        pass,
+        &mut defs,
+        cold,
+        disk,
+    );
     drop(defs);
     told
 }

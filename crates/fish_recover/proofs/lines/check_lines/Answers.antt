@@ -21,8 +21,13 @@ loop-line-preserved g c =
     let before = i.upto in
     let faults = i.faults in
     let later = c.feed_lines.ensures.cause.later in
+    let whole = i.whole test in
+    let calls = i.calls in
+    let one = c.feed_lines.ensures.calls in
     record {
       upto = omega arith;
+      whole = λ less. omega arith;
+      calls = omega arith;
       checker = c.feed_lines.ensures.checker;
       seen = both_hold (λ e. HasSeen c.args.commit.now c.loop-line.checker (first_words c.loop-line.line e))
           (λ e. HasSeen c.args.commit.now c.feed_lines.new.checker (first_words (c.loop-line.line + c.min-count.result) e)) new
@@ -53,6 +58,16 @@ returns-in-Err-clause-refused g c =
     (λ e cause. all_cause c.in-Err.refusal c.args.commit.now (c.loop-line.line + c.min-count.result) c.args.commit.now.lines e
     (omega arith) cause)
 
+-- the page that was read before the refusal is one of them
+pub returns-in-Err-clause-calls : goal.returns-in-Err-clause-calls
+returns-in-Err-clause-calls g c =
+    let i = c.loop-line.invariant in
+    let test = c.loop-line-test.true in
+    let whole = i.whole test in
+    let calls = i.calls in
+    let one = c.feed_lines.ensures.calls in
+    omega arith
+
 pub returns-in-Ok-finish-clause-found : goal.returns-in-Ok-finish-clause-found
 returns-in-Ok-finish-clause-found g c =
     let i = c.loop-line.invariant in
@@ -75,6 +90,8 @@ loop-line-init g c =
     let seen = c.in_ok-checker.ensures.seen in
     record {
       upto = omega arith;
+      whole = λ less. omega arith;
+      calls = omega arith;
       checker = c.in_ok-checker.ensures.checker;
       seen = any_holds (λ e. HasSeen c.args.commit.now c.in_ok-checker.checker []) (disk.content c.args.disk.now) (λ e. seen);
       read = read_none c.args.commit.now c.in_ok-checker.checker seen;

@@ -1,10 +1,10 @@
 -- The lines up to some line were given to the checker.
-use Rattle.std.proofs.Common.{◌-◌, ◌≤◌}
+use Rattle.std.proofs.Common.{◌≡◌, ◌+◌, ◌-◌, ◌%◌, ◌<◌, ◌≤◌}
 use Rattle.std.specs.Prelude.{IfSome}
 use Rattle.fish_disk.specs.Content.{StillReads}
 use Rattle.fish_disk.specs.Crash.{LeavesOnly}
 use Rattle.fish_image.specs.Checking.{HasSeen, IsChecker}
-use Rattle.fish_recover.specs.Opening.{HasRead, first_words}
+use Rattle.fish_recover.specs.Opening.{HasRead, first_words, pages_of}
 use Rattle.fish_recover.proofs.lines.check_lines.Given as goal
 
 -- the lines up to some line were given to the checker, and the disk was only read
@@ -16,6 +16,8 @@ invariant-loop-line g l = record {
   read : HasRead l.commit l.checker l.line;
   content : StillReads (g.D.Disk.content l.fn.disk) (g.D.Disk.content l.disk);
   crash : LeavesOnly g.D.Disk.images g.D.Disk.since g.D.Disk.moment l.fn.disk l.disk (g.D.Disk.images l.fn.disk);
+  whole : l.line < l.commit.lines → l.line % 32768 ≡ 0;
+  calls : g.D.Disk.moment l.disk ≤ g.D.Disk.moment l.fn.disk + pages_of l.line;
   faults : g.D.Disk.faults l.fn.disk ≤ g.D.Disk.faults l.disk;
 }
 

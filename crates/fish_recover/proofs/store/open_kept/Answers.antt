@@ -1,6 +1,6 @@
 -- What is open is what was found, and a crash leaves what has its commit.
 use Rattle.std.proofs.Common.{false, refl, arith}
-use Rattle.fish_recover.proofs.Beginnings.{begun_open}
+use Rattle.fish_recover.proofs.Beginnings.{begun_open, resumed_line}
 use Rattle.fish_recover.proofs.Keepings.{kept_in, kept_rest, kept_stored}
 use Rattle.fish_recover.proofs.Openings.{opening_leaves, read_leaves, still_before, told_before, told_through, was_stored}
 use Rattle.fish_recover.proofs.Refusals.{err_is, err_ok, memory_cause, ok_cause, outside_not, outside_open, same_cause}
@@ -138,3 +138,15 @@ returns-in-Err-clause-crash g c i d log all h =
 pub returns-in-Err-clause-told : goal.returns-in-Err-clause-told
 returns-in-Err-clause-told g c =
     still_before (g.D.Disk.content c.args.disk.now) (g.D.Disk.content c.find_store.new.disk) c.find_store.ensures.content
+
+-- ---- calls of the disk
+
+pub returns-in_err-resume-in-Ok-rest_store-clause-few : goal.returns-in_err-resume-in-Ok-rest_store-clause-few
+returns-in_err-resume-in-Ok-rest_store-clause-few g c = err_ok OutOfMemory c.from_residual.result _ c.from_residual.ensures.1
+
+pub returns-in_ok-resume-in-Ok-rest_store-clause-few : goal.returns-in_ok-resume-in-Ok-rest_store-clause-few
+returns-in_ok-resume-in-Ok-rest_store-clause-few g c =
+    let line = resumed_line c.in-Ok.found c.in_ok-resume-in-Ok-rest_store.field-0 c.in_ok-resume-in-Ok-rest_store.ensures in
+    let found = c.in-Ok.ensures.calls in
+    let rests = c.rest_store.ensures.calls in
+    omega arith

@@ -108,3 +108,10 @@ returns-clause-cause g c =
     let disk = g.D.Disk in
     later_cause (disk.faults c.args.disk.now) (disk.faults c.sync.new.self) (disk.faults c.open_synced.new.disk) c.open_synced.result
     c.sync.ensures.cause.later c.open_synced.ensures.cause
+
+pub returns-in_err-sync-clause-few : goal.returns-in_err-sync-clause-few
+returns-in_err-sync-clause-few g c = err_ok DiskFault c.from_residual.result _ c.from_residual.ensures.1
+
+pub returns-clause-few : goal.returns-clause-few
+returns-clause-few g c = ok_then c.open_synced.result _ _ c.open_synced.ensures.few
+    (λ o few. let one = c.sync.ensures.one in omega arith)

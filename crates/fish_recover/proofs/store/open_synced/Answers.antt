@@ -164,3 +164,18 @@ returns-else-size-eq0-clause-cause g c =
     let disk = g.D.Disk in
     later_cause (disk.faults c.args.disk.now) (disk.faults c.length.new.self) (disk.faults c.open_kept.new.disk) c.open_kept.result
     c.length.ensures.cause.later c.open_kept.ensures.cause
+
+-- ---- calls of the disk
+
+pub returns-in_err-size-clause-few : goal.returns-in_err-size-clause-few
+returns-in_err-size-clause-few g c = err_ok DiskFault c.from_residual.result _ c.from_residual.ensures.1
+
+pub returns-then-size-eq0-clause-few : goal.returns-then-size-eq0-clause-few
+returns-then-size-eq0-clause-few g c = ok_then c.make_store.result _ _ c.make_store.ensures.opened (λ o _.
+    let one = c.length.ensures.one in
+    let calls = c.make_store.ensures.calls in
+    omega arith)
+
+pub returns-else-size-eq0-clause-few : goal.returns-else-size-eq0-clause-few
+returns-else-size-eq0-clause-few g c = ok_then c.open_kept.result _ _ c.open_kept.ensures.few
+    (λ o few. let one = c.length.ensures.one in omega arith)

@@ -103,7 +103,8 @@ returns-in_err-to-clause-whole g c k h b head =
     let both = stays_both g.D.Disk.content g.D.Disk.images g.D.Disk.since g.D.Disk.moment g.D.Disk.faults c.args.cold.now c.down.cold
     c.cold_walk.new.self c.args.disk.now c.down.disk c.cold_walk.new.disk inv.stays walk in
     let after = ahead g.D.Disk.content g.D.Disk.images g.D.Disk.since g.D.Disk.moment g.D.Disk.faults c.args.cold.now
-    c.cold_walk.new.self c.visit-last.new.cold c.args.disk.now c.cold_walk.new.disk c.visit-last.new.disk both c.visit-last.ensures.cold h in
+    c.cold_walk.new.self c.visit-last.new.cold c.args.disk.now c.cold_walk.new.disk c.visit-last.new.disk
+    both c.visit-last.ensures.cold h in
     let down = inv.down k before b head in
     let node = c.in-Ok-Some.node in
     let here = on_here h.prior b c.down.place c.down.below down.on
@@ -133,7 +134,8 @@ down-preserved g c =
     let place = inv.lower some in
     record {
       stays = stays_both g.D.Disk.content g.D.Disk.images g.D.Disk.since g.D.Disk.moment g.D.Disk.faults c.args.cold.now
-          c.cold_walk.new.self c.visit-last.new.cold c.args.disk.now c.cold_walk.new.disk c.visit-last.new.disk both c.visit-last.ensures.cold;
+          c.cold_walk.new.self c.visit-last.new.cold c.args.disk.now c.cold_walk.new.disk c.visit-last.new.disk
+          both c.visit-last.ensures.cold;
       lower = λ more. omega arith;
       under = omega arith;
       least = omega arith;
@@ -145,7 +147,8 @@ down-preserved g c =
           let now = ahead g.D.Disk.content g.D.Disk.images g.D.Disk.since g.D.Disk.moment g.D.Disk.faults c.args.cold.now c.down.cold
           c.cold_walk.new.self c.args.disk.now c.down.disk c.cold_walk.new.disk inv.stays walk last in
           let after = ahead g.D.Disk.content g.D.Disk.images g.D.Disk.since g.D.Disk.moment g.D.Disk.faults c.args.cold.now
-          c.cold_walk.new.self c.visit-last.new.cold c.args.disk.now c.cold_walk.new.disk c.visit-last.new.disk both c.visit-last.ensures.cold h in
+          c.cold_walk.new.self c.visit-last.new.cold c.args.disk.now c.cold_walk.new.disk c.visit-last.new.disk
+          both c.visit-last.ensures.cold h in
           let down = inv.down k before b head in
           let here = on_here h.prior b c.down.place c.down.below down.on some in
           let walks = subst (λ (o : Option ColdNode). Walks c.down.place c.args.stretch.now.from here.parts here.place_in here.key (Ok o))
