@@ -8,7 +8,6 @@ use Rattle.fish_lanes.proofs.Lists.{all_more, filter_first, filter_last, filter_
 use Rattle.fish_lanes.proofs.Items.{TellsAll, behind_is, made_append, shown_in, tells_cut, tells_ended, tells_more}
 use Rattle.fish_lanes.proofs.Publishing.{published_later}
 use Rattle.fish_lanes.proofs.Showing.{full_fit, item_settles, item_shown}
-use Rattle.fish_lanes.proofs.Surely.{sure_later}
 use Rattle.fish_lanes.specs.Doing.{IsFit}
 use Rattle.fish_lanes.specs.Gains.{Gains, KeepsShut}
 use Rattle.fish_lanes.specs.Records.{LaneRow, contents}
@@ -27,6 +26,7 @@ use Rattle.fish_rule.specs.Parts.{IsEntryWord}
 use Rattle.fish_rule.specs.Views.{AllOf, Among}
 use Rattle.fish_rule.specs.declared.view.Key.{Key}
 use Rattle.fish_rule.specs.declared.view.View.{View}
+use Rattle.fish_whole.proofs.Wholes.{up_to_later}
 
 shown_either : (n : Shown) (items : List Item) (x : Item) → Among n (shown_in (items ++ x ∷ []))
     → Among n (shown_in items) ⊎ Among n (shown_by x)
@@ -59,6 +59,7 @@ within_before v u t s learns within =
     record {
       first = within.first;
       last = omega arith;
+      above = within.above;
       settled = within.settled;
       counted = within.counted;
       near = omega arith;
@@ -77,10 +78,11 @@ told_on v u t works items h g same =
     record {
       rows = h.rows ++ [];
       gains = gains_both v u t h.rows [] h.gains g;
-      tells = λ s within full z remains b l c.
-          subst (λ (r : List LaneRow). TellsAll z s remains.log [] [] r works items) (sym (append-nil h.rows))
-          (sure_later u t _ learns (h.tells s (within_before v u t s learns within) full) z remains b l c);
-      shown = λ n x m i. published_later u t n learns (h.shown n x m i);
+      tells = λ past s within full w m far.
+          subst (λ (r : List LaneRow). TellsAll w s [] [] r works items) (sym (append-nil h.rows))
+          (up_to_later past u t s.to _ learns (h.tells past s (within_before v u t s learns within) full) w m far);
+      shown = λ n x m i low. published_later u t n learns
+          (h.shown n x m i (let same : t.about.number ≡ u.about.number = ap (λ (z : Key). z.number) learns.about in omega arith));
       settles = λ k m. let a = h.settles k m in let e = learns.settled in omega arith;
       size = h.size;
       full = fulls_later u t items learns.about g.shut h.full;
@@ -90,28 +92,28 @@ told_on v u t works items h g same =
 
 -- one statement more
 pub told_more : (v u t : View) (works : List Work) (items : List Item) (w : Work) (x : Item) (rows : List LaneRow)
-    → v.about.number ≡ 0 → HasTold v u works items → Gains u t rows → contents rows ≡ take (count_of x) (content_of w)
+    → HasTold v u works items → Gains u t rows → contents rows ≡ take (count_of x) (content_of w)
     → IsFit u t w x → TellsShut u t (x ∷ []) → u.learned.version + made_by x ≤ t.learned.version
     → HasTold v t (works ++ w ∷ []) (items ++ x ∷ [])
-told_more v u t works items w x rows base h g first fit shuts version =
+told_more v u t works items w x rows h g first fit shuts version =
     let learns = g.on.learns in
     let settled_more = learns.settled in
     let known = h.versions in
     let many = made_append items (x ∷ []) in
-    let zero_now : u.about.number ≡ 0 = ap (λ (z : Key). z.number) h.gains.on.learns.about ∙ base in
-    let zero_then : t.about.number ≡ 0 = ap (λ (z : Key). z.number) learns.about ∙ zero_now in
+    let same : t.about.number ≡ u.about.number = ap (λ (z : Key). z.number) learns.about in
     record {
       rows = h.rows ++ rows;
       gains = gains_both v u t h.rows rows h.gains g;
-      tells = λ s within full z remains b l c.
-          tells_more z s remains.log [] [] h.rows rows works items w x
-          (sure_later u t _ learns (h.tells s (within_before v u t s learns within) full) z remains b l c) first
-          (subst (λ (k : Span). TellsItem z k remains.log h.rows (shown_in items) w x) (sym (behind_is items s))
-          (item_told v u t works items s base h learns within full w x fit z remains b l c));
-      shown = λ n s m i. ⊎_elim (λ (k : Among s (shown_in items)). published_later u t n learns (h.shown n s k i))
-          (λ (k : Among s (shown_by x)). item_shown u t zero_now zero_then w x n s fit k i) (shown_either s items x m);
+      tells = λ past s within full z m far.
+          tells_more z s [] [] h.rows rows works items w x
+          (up_to_later past u t s.to _ learns (h.tells past s (within_before v u t s learns within) full) z m far) first
+          (subst (λ (k : Span). TellsItem z k h.rows (shown_in items) w x) (sym (behind_is items s))
+          (item_told v u t works items s h learns within full past w x fit z m far));
+      shown = λ n s m i low. ⊎_elim
+          (λ (k : Among s (shown_in items)). published_later u t n learns (h.shown n s k i (omega arith)))
+          (λ (k : Among s (shown_by x)). item_shown u t learns.about w x n s fit k i low) (shown_either s items x m);
       settles = λ k m. ⊎_elim (λ (n : Among (settled k) (shown_in items)). (let a = h.settles k n in omega arith))
-          (λ (n : Among (settled k) (shown_by x)). item_settles u t zero_now zero_then w x k fit n)
+          (λ (n : Among (settled k) (shown_by x)). item_settles u t learns.about w x k fit n)
           (shown_either (settled k) items x m);
       size = (let a = length-append items (x ∷ []) in let b = length-append works (w ∷ []) in let e = h.size in
           omega arith);
@@ -154,8 +156,8 @@ pub run_ended : (v u : View) (works : List Work) (items : List Item) → HasTold
 run_ended v u works items h = record {
   rows = h.rows;
   gains = h.gains;
-  tells = λ s within full z remains b l c.
-      tells_ended z s remains.log [] [] h.rows works (answers items) (h.tells s within full z remains b l c);
+  tells = λ past s within full w m far.
+      tells_ended w s [] [] h.rows works (answers items) (h.tells past s within full w m far);
   full = fulls_all u items h.full;
   ended = record { whole = λ _. h.size; cut = λ bad. absurd (bad refl) };
   shuts = λ _. shuts_answers v u items h.shuts;
@@ -170,9 +172,9 @@ run_cut v u t works items w later rows count h g first =
     record {
       rows = h.rows ++ rows;
       gains = gains_both v u t h.rows rows h.gains g;
-      tells = λ s within full z remains b l c.
-          tells_cut z s remains.log [] [] h.rows rows works (answers items) w later count
-          (sure_later u t _ learns (h.tells s (within_before v u t s learns within) full) z remains b l c) first;
+      tells = λ past s within full z m far.
+          tells_cut z s [] [] h.rows rows works (answers items) w later count
+          (up_to_later past u t s.to _ learns (h.tells past s (within_before v u t s learns within) full) z m far) first;
       full = fulls_later u t items learns.about g.shut (fulls_all u items h.full);
       ended = record {
         whole = λ e. absurd cc;

@@ -1,17 +1,16 @@
 -- What a scan or a plan of one answers is told of the one log.
-use Rattle.std.proofs.Common.{◌≡◌, ℕ, ◌<◌, ◌≤◌, zero, suc, List, [], ◌∷◌, length, map, refl, sym, ap, ◌∙◌, subst, inl, inr}
+use Rattle.std.proofs.Common.{◌≡◌, ℕ, ◌+◌, ◌<◌, ◌≤◌, zero, suc, List, [], ◌∷◌, length, map, refl, sym, ap, ◌∙◌, subst, inl, inr}
 use Rattle.std.proofs.Common.{◌⊎◌, ⊎_elim, arith, Option, Some, None, Result, Ok, Err, slice_get, cond, nat_lt, true, false, Bool}
 use Rattle.std.specs.Prelude.{IfOk}
-use Rattle.std.proofs.Math.Decide.{ℕ_discrete}
+use Rattle.std.proofs.Math.Decide.{ℕ_discrete, dec_lt}
 use Rattle.std.proofs.lemmas.Option.{same_Some}
 use Rattle.fish_catalog.specs.declared.entry.Entry.{Entry}
 use Rattle.fish_catalog.specs.declared.entry.Entry.TheVariants as entry
 use Rattle.fish_catalog.specs.declared.listed.Listed.{Listed}
-use Rattle.fish_epoch.proofs.Reading.{knows_later}
 use Rattle.fish_epoch.specs.Definitions.{rows_of, version_of}
 use Rattle.fish_epoch.specs.declared.definitions.Known.{Known}
-use Rattle.fish_lanes.proofs.Logs.{entry_at, entry_in, settled_within}
-use Rattle.fish_lanes.specs.Closing.{Sure}
+use Rattle.fish_lanes.proofs.Publishing.{settled_published}
+use Rattle.fish_lang.specs.Definition.{Definition}
 use Rattle.fish_lanes.specs.Doing.{FitsExplained, FitsRefused, FitsScanned, IsPlannedAt, IsRefusedAt, IsScanned}
 use Rattle.fish_lanes.specs.Doing.{cause_of, explained_item, refusal_of, scanned_item}
 use Rattle.fish_lanes.specs.Loading.{LoadsWithin}
@@ -33,21 +32,19 @@ use Rattle.fish_report.specs.declared.item.ScanCause.TheVariants as cause
 use Rattle.fish_rule.proofs.laws.ClosedLogs.{always_closed}
 use Rattle.fish_rule.proofs.laws.Moments.{before_mark}
 use Rattle.fish_rule.proofs.laws.Learning.{learns_both}
-use Rattle.fish_rule.specs.ClosedLog.{IsClosed}
 use Rattle.fish_rule.specs.Logs.{IsEntry, Learns, TellsMark}
 use Rattle.fish_rule.specs.Parts.{IsEntryWord}
 use Rattle.fish_rule.specs.Regions.{code}
-use Rattle.fish_rule.specs.Registry.{KnowsDefinitions}
 use Rattle.fish_rule.specs.Views.{Among}
 use Rattle.fish_rule.specs.World.{high}
-use Rattle.fish_rule.specs.declared.close.Remains.{Remains}
+use Rattle.fish_rule.specs.declared.view.Key.{Key}
 use Rattle.fish_rule.specs.declared.view.Kind.TheVariants.{Mark}
 use Rattle.fish_rule.specs.declared.view.View.{View}
 use Rattle.fish_rule.proofs.laws.Members.{at_among}
 use Rattle.fish_scan.proofs.Selecting.{finds_selection}
 use Rattle.fish_scan.specs.Laws.{IsSpelled}
 use Rattle.fish_scan.specs.Matching.{Finds}
-use Rattle.fish_scan.specs.Reach.{IsRange, end_of}
+use Rattle.fish_scan.specs.Reach.{IsRange, Rise, end_of}
 use Rattle.fish_scan.specs.Scans.{IsAnswer, IsCovered, IsExplained, IsNamed, IsPlan, IsRefused, IsUncovered, first_asked}
 use Rattle.fish_scan.specs.declared.ask.Answer.{Answer}
 use Rattle.fish_scan.specs.declared.ask.Ask.{Ask}
@@ -58,6 +55,9 @@ use Rattle.fish_scan.specs.declared.ask.How.{How}
 use Rattle.fish_scan.specs.declared.ask.How.TheVariants as how
 use Rattle.fish_value.specs.declared.field.Form.{Form}
 use Rattle.fish_value.specs.declared.row.Row.{Row}
+use Rattle.fish_whole.proofs.Entries.{entry_here, entry_there, sure_settled, word_there}
+use Rattle.fish_whole.proofs.Wholes.{sure_rows}
+use Rattle.fish_whole.specs.Whole.{MayHold, Sure, SureUpTo, Whole}
 
 -- ---- lists
 
@@ -109,88 +109,116 @@ asked_range v u k ask from to opens inside range = record {
   near = (let a = range.within in let b = range.claimed in let few = inside.near in omega arith);
 }
 
-module _ (v u x : View) (ask : Ask) (from to : ℕ) (opens : List ℕ) (range : IsRange v u (first_asked ask) ask.to from to opens)
-    (zero_is : v.about.number ≡ 0) (remains : Remains) (base : x.about.number ≡ 0) (learns : Learns u x)
-    (c : IsClosed x remains) where
+-- numbers that rise lie in their range
+rise_above : (low high n : ℕ) (ns : List ℕ) → Rise low high ns → Among n ns → low ≤ n
+rise_above low high n [] up m = elim m [ ]
+rise_above low high n (k ∷ ns) up (inl e) = (let a = up.0 in omega arith)
+rise_above low high n (k ∷ ns) up (inr m) =
+    (let a = up.0 in let b = rise_above (suc k) high n ns up.1 m in omega arith)
+
+module _ (v u : View) (ask : Ask) (from to : ℕ) (opens : List ℕ) (range : IsRange v u (first_asked ask) ask.to from to opens)
+    (on : Learns v u) (based : v.about.number ≤ from) (past w : Whole) (m : MayHold past u w) where
+  -- the table begins where the whole has what stood before it
+  base_is : (m.last.about.number ≡ v.about.number) × (length past.log ≡ v.about.number)
+  base_is =
+      let same : m.last.about.number ≡ v.about.number = ap (λ (z : Key). z.number) (m.learns.about ∙ on.about) in
+      (same, sym m.base ∙ same)
+
   -- a published number that was asked for lies before the end
-  before : (n : ℕ) → IsPublished v n → Learns v u → IsAskedFor ask n → n < to
-  before n p on asked = ⊎_elim
+  before : (n : ℕ) → IsPublished v n → IsAskedFor ask n → n < to
+  before n p asked = ⊎_elim
       (λ (e : to ≡ end_of ask.to range.count). let counted = p.counted in let known = range.known in
       let less : n < end_of ask.to range.count = before_end ask.to range.count n (omega arith) asked.below in omega arith)
-      (λ (mark : TellsMark u to). before_mark c.rule to n (omega arith)
-      (always_closed u x (λ k w. high (w.dir to) ≡ code Mark) remains learns c mark)
-      (always_closed v x (λ k w. IsEntryWord (w.dir n)) remains (learns_both v u x on learns) c p.entry)) range.stops
+      (λ (mark : TellsMark u to). let base = base_is.0 in let first = range.first_is in
+      before_mark m.closed.rule to n (omega arith)
+      (always_closed u m.last (λ k x. high (x.dir to) ≡ code Mark) m.remains m.learns m.closed mark)
+      (always_closed v m.last (λ k x. IsEntryWord (x.dir n)) m.remains (learns_both v u m.last on m.learns) m.closed p.entry))
+      range.stops
 
   -- and isn't open
   closed : (n : ℕ) → IsPublished v n → ¬ Among n opens
-  closed n p m = (range.were n m).unknown p.entry
+  closed n p o = (range.were n o).unknown p.entry
 
   -- so the range holds what is known to be published
-  pub holds_seen : (seen : ℕ → Type 0) → ((n : ℕ) → seen n → IsPublished v n) → Learns v u
-      → HoldsSeen remains.log seen ask from to opens
-  holds_seen seen published on = record {
+  pub holds_seen : (seen : ℕ → Type 0) → ((n : ℕ) → seen n → v.about.number ≤ n → IsPublished v n) → HoldsSeen w seen ask from to opens
+  holds_seen seen published = record {
     each = λ n s within asked.
-        let p = published n s in
         let least = asked.above in
         let first = range.first_is in
-        let less = before n p on asked in
+        let p = published n s (omega arith) in
+        let less = before n p asked in
         (omega arith, less, closed n p);
   }
 
   -- the open numbers
-  pub open_numbers : (k : Span) → IsWithinSpan v u k → AreOpen k remains.log from to opens
-  open_numbers k inside = record {
+  pub open_numbers : (k : Span) → IsWithinSpan v u k → k.to ≤ length past.log + length m.remains.log
+      → AreOpen k.from k.to w.log from to opens
+  open_numbers k inside far = record {
     rise = range.rise;
-    apart = λ m n lane f g p q one other at_m at_n.
-        always_closed u x (λ k w. IsEntry w m (entry.Stored lane f p) → IsEntry w n (entry.Stored lane g q) → m ≡ n) remains
-        learns c (range.apart m n lane f g p q one other)
-        (entry_at c.rule remains.log base c.log m (entry.Stored lane f p) at_m)
-        (entry_at c.rule remains.log base c.log n (entry.Stored lane g q) at_n);
-    behind = λ n above below past. pick n above below past (among_or n opens);
+    first = λ n o. pick_first n o (dec_lt n k.from);
+    apart = λ i j lane f g p q one other below_i below_j at_i at_j.
+        let base = base_is.1 in
+        let above_i = rise_above from to i opens range.rise one in
+        let above_j = rise_above from to j opens range.rise other in
+        always_closed u m.last (λ k x. IsEntry x i (entry.Stored lane f p) → IsEntry x j (entry.Stored lane g q) → i ≡ j) m.remains
+        m.learns m.closed (range.apart i j lane f g p q one other)
+        (entry_there past u w m i (entry.Stored lane f p) (omega arith) (omega arith) at_i)
+        (entry_there past u w m j (entry.Stored lane g q) (omega arith) (omega arith) at_j);
+    behind = λ n above below past_end. pick n above below past_end (among_or n opens);
   }
     where
+      pick_first : (n : ℕ) → Among n opens → Dec (n < k.from) → k.from ≤ n
+      pick_first n o (no not_less) = omega arith
+      pick_first n o (yes less) =
+          let above = rise_above from to n opens range.rise o in
+          let settled = inside.settled in
+          let counted = inside.counted in
+          absurd (closed n (settled_published v n (omega arith) (omega arith) (omega arith)) o)
+
       pick : (n : ℕ) → from ≤ n → n < to → k.to ≤ n → Dec (Among n opens) → Among n opens
-      pick n above below past (yes m) = m
-      pick n above below past (no none) =
+      pick n above below past_end (yes o) = o
+      pick n above below past_end (no none) =
           (let less = inside.entries n (range.others n (omega arith) above below none) in absurd (omega arith))
 
-  -- in the moment of the close the entries are what the words spell
-  spelled : IsSpelled c.moment from to opens (map selected remains.log)
-  spelled n lane form payload above below closed = (
-    λ at. entry_at c.rule remains.log base c.log n (entry.Stored lane form payload)
-        (get_selected remains.log n lane form payload at),
-    λ is. selected_get remains.log n (entry.Stored lane form payload)
-        (entry_in c.rule remains.log base c.log n (entry.Stored lane form payload) is),
+  -- in the moment of the close the words spell the entries of the whole in the range
+  spelled : IsSpelled m.closed.moment from to opens (map selected w.log)
+  spelled n lane form payload above below free = (
+    λ at.
+        let base = base_is.1 in
+        entry_there past u w m n (entry.Stored lane form payload) (omega arith)
+        (word_there past u w m n (omega arith) (range.others n (omega arith) above below free))
+        (get_selected w.log n lane form payload at),
+    λ is.
+        let base = base_is.1 in
+        selected_get w.log n (entry.Stored lane form payload) (entry_here past u w m n (entry.Stored lane form payload) (omega arith) is),
   )
 
   -- and the rows are the selection of them
-  pub rows_selected : (a : Rattle.fish_lang.specs.Definition.Definition) (rows : List Row)
-      → Finds u a ask.value from to opens rows
-      → rows ≡ select (map selected remains.log) (evaluation a) ask.value from to opens
+  pub rows_selected : (a : Definition) (rows : List Row) → Finds u a ask.value from to opens rows
+      → rows ≡ select (map selected w.log) (evaluation a) ask.value from to opens
   rows_selected a rows finds =
-      always_closed u x (λ k w. (l : List log.Entry) → IsSpelled w from to opens l
-      → rows ≡ select l (evaluation a) ask.value from to opens) remains learns c
-      (finds_selection u a ask.value from to opens rows finds) (map selected remains.log) spelled
+      always_closed u m.last (λ k x. (l : List log.Entry) → IsSpelled x from to opens l
+      → rows ≡ select l (evaluation a) ask.value from to opens) m.remains m.learns m.closed
+      (finds_selection u a ask.value from to opens rows finds) (map selected w.log) spelled
 
 -- what a scan showed is published
 pub range_published : (v u : View) (ask : Ask) (from to : ℕ) (opens : List ℕ) (n : ℕ)
-    → IsRange v u (first_asked ask) ask.to from to opens → v.about.number ≡ 0 → from ≤ n → n < to → ¬ Among n opens
+    → IsRange v u (first_asked ask) ask.to from to opens → v.about.number ≤ n → from ≤ n → n < to → ¬ Among n opens
     → IsPublished u n
-range_published v u ask from to opens n range zero_is above below closed = record {
+range_published v u ask from to opens n range low above below closed = record {
   counted = (let a = range.within in let b = range.claimed in omega arith);
-  entry = range.others n (omega arith) above below closed;
+  entry = range.others n low above below closed;
 }
 
 -- ---- names
 
--- the rows of a version stay known
-pub has_rows : (v u x : View) (known : Known) (ask : Ask) (place version : ℕ) (k : Span) → IsWithinSpan v u k
-    → version ≡ version_of known → IsNamed v u known ask place → Learns u x → HasRows x k version (rows_of known)
-has_rows v u x known ask place version k inside is named learns = record {
+-- the rows of a version are those of the whole
+pub has_rows : (past : Whole) (v u : View) (known : Known) (ask : Ask) (place version : ℕ) (k : Span) → IsWithinSpan v u k
+    → version ≡ version_of known → IsNamed v u known ask place → Sure past u (λ w. HasRows w k version (rows_of known))
+has_rows past v u known ask place version k inside is named w m = record {
   least = (let least = named.least in let first = inside.first in omega arith);
   most = (let most = named.read.rows.reached in let last = inside.last in omega arith);
-  knows = subst (λ (z : ℕ). KnowsDefinitions x.about x.learned z (rows_of known)) (sym is)
-      (knows_later u x (version_of known) (rows_of known) learns named.read.rows);
+  are = ap w.rows is ∙ sure_rows past u (version_of known) (rows_of known) named.read.rows w m;
 }
 
 -- that version is one that the pass loaded in the call
@@ -243,90 +271,89 @@ plan_indexed v u rows text how.Index from settled to plan h place id begin end t
 
 -- ---- what is told
 
-module _ (v u : View) (ask : Ask) (zero_is : v.about.number ≡ 0) (on : Learns v u) (seen : ℕ → Type 0)
-    (published : (n : ℕ) → seen n → IsPublished v n) (k : Span) (inside : IsWithinSpan v u k) where
+module _ (v u : View) (ask : Ask) (on : Learns v u) (seen : ℕ → Type 0)
+    (published : (n : ℕ) → seen n → v.about.number ≤ n → IsPublished v n) (k : Span) (inside : IsWithinSpan v u k) (past : Whole) where
+  -- a range that was answered begins in the table
+  in_table : (from : ℕ) → u.about.number ≤ from → v.about.number ≤ from
+  in_table from base = (let same : u.about.number ≡ v.about.number = ap (λ (z : Key). z.number) on.about in omega arith)
+
   -- a scan
   pub scan_told : (from to : ℕ) (opens : List ℕ) (rows : List Row) (version : ℕ) → IsScanned v u ask from to opens rows version
-      → Sure u (λ x l. TellsScan x k l seen ask from to opens rows version)
-  scan_told from to opens rows version s x remains base learns c =
+      → SureUpTo past u k.to (λ w. TellsScan w k seen ask from to opens rows version)
+  scan_told from to opens rows version s w m far =
       let a = s.answer in
       let e = a.explained.planned in
+      let based = in_table from a.explained.base in
       record {
         range = asked_range v u k ask from to opens inside e.range;
         def = a.def;
         means = record {
           rows = rows_of s.known;
-          has = has_rows v u x s.known ask e.place version k inside s.version_is e.asked.named learns;
+          has = has_rows past v u s.known ask e.place version k inside s.version_is e.asked.named w m;
           place = e.place;
           newest = e.asked.named.newest;
           accepted = a.means;
         };
-        rows_are = rows_selected v u x ask from to opens e.range zero_is remains base learns c a.def rows a.found;
-        holds = holds_seen v u x ask from to opens e.range zero_is remains base learns c seen published on;
-        are_open = open_numbers v u x ask from to opens e.range zero_is remains base learns c k inside;
+        rows_are = rows_selected v u ask from to opens e.range on based past w m a.def rows a.found;
+        holds = holds_seen v u ask from to opens e.range on based past w m seen published;
+        are_open = open_numbers v u ask from to opens e.range on based past w m k inside far;
       }
 
   -- a plan
   pub plan_told : (from to : ℕ) (plan : List Piece) (version : ℕ) → IsPlannedAt v u ask from to plan version
-      → Sure u (λ x l. TellsPlan x k l seen ask from to plan version)
-  plan_told from to plan version s x remains base learns c =
+      → Sure past u (λ w. TellsPlan w k seen ask from to plan version)
+  plan_told from to plan version s w m =
       let e = s.explained.planned in
       record {
         range = asked_range v u k ask from to s.opens inside e.range;
         rows = rows_of s.known;
-        has = has_rows v u x s.known ask e.place version k inside s.version_is e.asked.named learns;
+        has = has_rows past v u s.known ask e.place version k inside s.version_is e.asked.named w m;
         place = e.place;
         newest = e.asked.named.newest;
         opens = s.opens;
-        holds = holds_seen v u x ask from to s.opens e.range zero_is remains base learns c seen published on;
+        holds = holds_seen v u ask from to s.opens e.range on (in_table from s.explained.base) past w m seen published;
         fill = plan_fills v u _ _ ask.how from e.settled to plan (let f = e.range.first_is in omega arith) e.plan_is;
         full = plan_full v u _ _ ask.how from e.settled to plan e.plan_is;
         indexed = λ at id begin end there.
             let i = plan_indexed v u (rows_of s.known) _ ask.how from e.settled to plan e.plan_is at id begin end there in
             let most = e.most in
-            let more = learns.settled in
-            let later = c.later.settled in
-            let floor = c.rule.floors c.seat c.last c.at in
-            let whole = settled_within c.rule remains.log base c.log in
-            (let below = i.0 in omega arith, i.1);
+            let below = i.0 in
+            (sure_settled past u end (omega arith) w m, i.1);
       }
 
   -- a gap below what was settled
-  gap_told : (from to : ℕ) (known : Known) → IsUncovered v u known ask from to → (x : View) (remains : Remains)
-      → x.about.number ≡ 0 → Learns u x → IsClosed x remains
-      → (from < to) × (to ≤ length remains.log) × (first_asked ask ≤ from) × ((end : ℕ) → ask.to ≡ Some end → to ≤ end)
-  gap_told from to known h x remains base learns c =
-      let w = piece_within h.plan h.first h.last h.gap.place (Full from to) h.covered.cover.fill h.gap.gap.there in
-      let some_ = w.1 in
-      let above = w.0 in
-      let below = w.2 in
+  gap_told : (from to : ℕ) (known : Known) → IsUncovered v u known ask from to
+      → Sure past u (λ w. (from < to) × (to ≤ length w.log) × (first_asked ask ≤ from) × ((end : ℕ) → ask.to ≡ Some end → to ≤ end))
+  gap_told from to known h w m =
+      let p = piece_within h.plan h.first h.last h.gap.place (Full from to) h.covered.cover.fill h.gap.gap.there in
+      let some_ = p.1 in
+      let above = p.0 in
+      let below = p.2 in
       let first = h.range.first_is in
-      let begins = h.range.first_is in
       let under = h.gap.gap.below in
-      let most = h.most in
-      let more = learns.settled in
-      let later = c.later.settled in
-      let floor = c.rule.floors c.seat c.last c.at in
-      let whole = settled_within c.rule remains.log base c.log in
-      (omega arith, omega arith, omega arith, λ end e. let a = asked_end ask.to h.range.count h.last end e h.range.within in omega arith)
+      let most = h.most in (
+        omega arith,
+        sure_settled past u to (omega arith) w m,
+        omega arith,
+        λ end e. let a = asked_end ask.to h.range.count h.last end e h.range.within in omega arith,
+      )
 
   -- a refusal
   pub refused_told : (version : ℕ) (why : ScanCause) → IsRefusedAt v u ask version why
-      → Sure u (λ x l. IsRefusedFor x k l ask version why)
-  refused_told version cause.UnknownName s x remains base learns c =
+      → Sure past u (λ w. IsRefusedFor w k ask version why)
+  refused_told version cause.UnknownName s w m =
       let r = s.refused in (
         rows_of s.known,
         record {
           least = (let least = r.4 in let first = inside.first in omega arith);
           most = (let most = r.2.rows.reached in let last = inside.last in omega arith);
-          knows = subst (λ (z : ℕ). KnowsDefinitions x.about x.learned z (rows_of s.known)) (sym s.version_is)
-              (knows_later u x (version_of s.known) (rows_of s.known) learns r.2.rows);
+          are = ap w.rows s.version_is ∙ sure_rows past u (version_of s.known) (rows_of s.known) r.2.rows w m;
         },
         r.3,
       )
-  refused_told version (cause.EmptyRange from to) s x remains base learns c = s.refused.0
-  refused_told version (cause.NotCovered from to) s x remains base learns c =
-      let g = gap_told from to s.known s.refused.1 x remains base learns c in
+  refused_told version (cause.EmptyRange from to) s w m = s.refused.0
+  refused_told version (cause.NotCovered from to) s w m =
+      let g = gap_told from to s.known s.refused.1 w m in
       (s.refused.0, g.0, g.1, g.2, g.3)
 
 -- ---- refusals

@@ -18,9 +18,9 @@ use Rattle.fish_lanes.specs.Doing.{GainsFirst, IsFit, IsItem, IsPart}
 use Rattle.fish_lanes.specs.Ending.{HasEnd}
 use Rattle.fish_lanes.specs.Gains.{Gains}
 use Rattle.fish_lanes.specs.Pending.{AreFound}
-use Rattle.fish_lanes.specs.Plans.{AreBoundsIn, PlansAreSoBy, TellsPlans}
+use Rattle.fish_lanes.specs.Plans.{AreBoundsIn, KnowsRows, PlansAreSoBy, TellsPlans}
 use Rattle.fish_lanes.specs.Records.{LaneRow, contents}
-use Rattle.fish_lanes.specs.Registering.{AreSo, IsSo, KnowsEach, KnowsRegistry, Registry, after, after_all, registry_of, waiting_id}
+use Rattle.fish_lanes.specs.Registering.{AreSo, InEach, IsSo, KnowsEach, KnowsRegistry, Registry, after, after_all, registry_of, waiting_id}
 use Rattle.fish_lanes.specs.Running.{IsFree}
 use Rattle.fish_lanes.specs.Single.{NamesNone, TellsOnly, TellsSingle}
 use Rattle.fish_lanes.specs.Spans.{answers, made_by}
@@ -74,18 +74,23 @@ after_load_version r x = omega arith
 
 -- ---- definitions that are known
 
+-- what holds of each registry in front of items does so if another thing does
+pub each_so : (P Q : Registry → Type 0) → ((r : Registry) → P r → Q r) → (r : Registry) (items : List Item) → InEach P r items
+    → InEach Q r items
+each_so P Q so r [] h = so r h
+each_so P Q so r (x ∷ items) h = (so r h.0, each_so P Q so (after r x) items h.1)
+
 pub each_later : (u t : View) (r : Registry) (items : List Item) → Learns u t → KnowsEach u r items → KnowsEach t r items
-each_later u t r [] learns h = registry_later u t r learns h
-each_later u t r (x ∷ items) learns h = (registry_later u t r learns h.0, each_later u t (after r x) items learns h.1)
+each_later u t r items learns = each_so (KnowsRegistry u) (KnowsRegistry t) (λ q. registry_later u t q learns) r items
 
-pub each_last : (u : View) (r : Registry) (items : List Item) → KnowsEach u r items → KnowsRegistry u (after_all r items)
-each_last u r [] h = h
-each_last u r (x ∷ items) h = each_last u (after r x) items h.1
+pub each_last : (P : Registry → Type 0) (r : Registry) (items : List Item) → InEach P r items → P (after_all r items)
+each_last P r [] h = h
+each_last P r (x ∷ items) h = each_last P (after r x) items h.1
 
-pub each_more : (u : View) (r : Registry) (items : List Item) (x : Item) → KnowsEach u r items
-    → KnowsRegistry u (after (after_all r items) x) → KnowsEach u r (items ++ x ∷ [])
-each_more u r [] x h one = (h, one)
-each_more u r (y ∷ items) x h one = (h.0, each_more u (after r y) items x h.1 one)
+pub each_more : (P : Registry → Type 0) (r : Registry) (items : List Item) (x : Item) → InEach P r items
+    → P (after (after_all r items) x) → InEach P r (items ++ x ∷ [])
+each_more P r [] x h one = (h, one)
+each_more P r (y ∷ items) x h one = (h.0, each_more P (after r y) items x h.1 one)
 
 -- ---- statements that change no definition
 
@@ -155,9 +160,9 @@ held_item v r u s t q works works' items x h before learns does told none still 
           (so_wide u.learned.count t.learned.count v.learned.count t.learned.count (after_all start items) x (omega arith)
           (omega arith) (subst (λ (z : Registry). IsSo u.learned.count t.learned.count z x) h.is does.so));
       is = does.is ∙ ap (λ (z : Registry). after z x) h.is ∙ sym (after_more start items x);
-      each = each_more t start items x (each_later u t start items learns h.each)
+      each = each_more (KnowsRegistry t) start items x (each_later u t start items learns h.each)
           (subst (λ (z : Registry). KnowsRegistry t (after z x)) h.is
-          (does.knows (subst (KnowsRegistry u) (sym h.is) (each_last u start items h.each))));
+          (does.knows (subst (KnowsRegistry u) (sym h.is) (each_last (KnowsRegistry u) start items h.each))));
       closed = λ alone. all_more NamesNone items x (h.closed alone) (none alone);
       still = still;
       only = only;
@@ -194,20 +199,20 @@ held_polled v r u s t q works items items' h g same shut idle (inr p) =
     (λ alone. tt) (λ none wait. absurd (none_waiting s p.0 (h.still none wait).1 p.3.so.0))
     (λ end e wait w one. subst (AllOf (TellsSingle v t r.catalog end w)) (sym (answers_same items x refl))
     (only_later v u t r.catalog end g.on.learns same works items (h.only end e wait) w one))
-    (λ rows from bounds low. plans_beside t (registry_of v r) rows from works items x h.told.size
+    (λ rows from bounds low. plans_beside (KnowsRows t) (registry_of v r) rows from works items x h.told.size
     (plans_on v u t (registry_of v r) works items g.on.learns h.plans rows from bounds low)))
 
 -- a statement
 pub held_done : (v : View) (r : Registrar) (u : View) (s : Registrar) (t : View) (q : Registrar) (works : List Work)
-    (items : List Item) (w : Work) (x : Item) → Stands v → Stands t → v.about.number ≡ 0 → Knows v r
+    (items : List Item) (w : Work) (x : Item) → Stands v → Stands t → Knows v r
     → KnowsRegistry v (registry_of v r) → Knows u s → Knows t q → Held v r u s works items
     → IsControlled u s t q w x → Held v r t q (works ++ w ∷ []) (items ++ x ∷ [])
-held_done v r u s t q works items w x stood stands base began known knows now h c =
+held_done v r u s t q works items w x stood stands began known knows now h c =
     let made : t.learned.version ≡ u.learned.version + made_by x =
     ap (λ (z : Registry). z.version) c.does.is ∙ after_load_version (registry_of u s) x in
     held_item v r u s t q works (works ++ w ∷ []) items x h h.told.gains.on.learns c.gains.on.learns c.does
     (subst (HasTold v t (works ++ w ∷ [])) (sym (answers_more items x (fit_answer u t w x c.fit)))
-    (told_more v u t works (answers items) w x c.rows base h.told c.gains c.first c.fit c.shuts (omega arith)))
+    (told_more v u t works (answers items) w x c.rows h.told c.gains c.first c.fit c.shuts (omega arith)))
     (λ alone. c.none (alone_gains v u h.told.rows h.told.gains alone))
     (λ none wait. absurd (some_there works w [] none))
     (λ end e wait one is.
@@ -231,10 +236,10 @@ held_done v r u s t q works items w x stood stands base began known knows now h 
     let start = registry_of v r in
     let learns = c.gains.on.learns in
     let settled = h.told.gains.on.learns.settled in
-    let known = subst (KnowsRegistry u) (sym h.is) (each_last u start items h.each) in
-    plans_more t start rows from works (w ∷ []) items x h.told.size
+    let known = subst (KnowsRegistry u) (sym h.is) (each_last (KnowsRegistry u) start items h.each) in
+    plans_more (KnowsRows t) start rows from works (w ∷ []) items x h.told.size
     (plans_on v u t start works items learns h.plans rows from bounds low)
-    (subst (λ (z : Registry). TellsPlans t z.rows rows from w x) h.is
+    (subst (λ (z : Registry). TellsPlans (KnowsRows t) z.rows rows from w x) h.is
     (fit_so u t (registry_of u s) rows from stands learns (bounds_read u s knows) known bounds (omega arith) w x c.fit)))
 
 -- ---- the end
@@ -267,7 +272,7 @@ held_cut v r u s t q works items w later rows count h found g first =
       closed = h.closed;
       only = λ end e wait one is. subst (AllOf (TellsSingle v t r.catalog end one))
           (sym (none_there (answers items) works h.told.size (only_last works w later one is).0)) tt;
-      plans = λ rows from bounds low. plans_longer t (registry_of v r) rows from works (w ∷ later) items h.told.size
+      plans = λ rows from bounds low. plans_longer (KnowsRows t) (registry_of v r) rows from works (w ∷ later) items h.told.size
           (plans_on v u t (registry_of v r) works items g.on.learns h.plans rows from bounds low);
       is = λ e. absurd cc;
       each = each_later u t (registry_of v r) items g.on.learns h.each;

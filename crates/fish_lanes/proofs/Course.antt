@@ -9,14 +9,13 @@ use Rattle.fish_lanes.proofs.Lists.{at_places, some_once}
 use Rattle.fish_lanes.proofs.Moments.{Closes, counted_from, ends_behind, few_behind, get_there, learns_same}
 use Rattle.fish_lanes.proofs.Ends.{closes_end, end_knows}
 use Rattle.fish_lanes.proofs.RowLists.{has_above, owned_number, told_later}
-use Rattle.fish_lanes.proofs.Surely.{entry_before, own_before, sure_later, sure_settled, will_own, will_rows}
+use Rattle.fish_lanes.proofs.Surely.{end_above, entry_before, own_before, will_own, will_rows}
 use Rattle.fish_lanes.specs.Blocks.{AreEnded, AreJoined, AreKept}
 use Rattle.fish_lanes.specs.Outcome.{AreVacant}
 use Rattle.fish_lanes.specs.Blocks.{IsBlockSpan, IsEndedLane, IsMarkItem, IsOfLane, IsSeated, IsShutOfLane, NameMarks}
 use Rattle.fish_lanes.specs.Blocks.{StoresByLanes, TellsBlock}
 use Rattle.fish_lanes.specs.Blocks.{TellsFirst}
 use Rattle.fish_lanes.specs.Blocks.{TellsOthers}
-use Rattle.fish_lanes.specs.Closing.{Later, Sure, Will}
 use Rattle.fish_lanes.specs.Course.{AllBack, AllRan, HasFoundEnd}
 use Rattle.fish_lanes.specs.Ending.{HasEnd}
 use Rattle.fish_lanes.specs.Gains.{AreTold, IsMarkAt, IsShutTold}
@@ -41,6 +40,7 @@ use Rattle.fish_rule.proofs.laws.ChainFacts.{always_later}
 use Rattle.fish_rule.specs.Views.{AllOf, Among}
 use Rattle.fish_rule.specs.ChainFacts.{Always}
 use Rattle.fish_rule.specs.declared.view.Shut.{Shut}
+use Rattle.fish_registry.proofs.Changing.{learns_changes}
 use Rattle.fish_registry.specs.Knowing.{Knows}
 use Rattle.fish_registry.specs.declared.registrar.Registrar.{Registrar}
 use Rattle.fish_rule.specs.declared.table.Log.{Log}
@@ -48,6 +48,9 @@ use Rattle.fish_rule.specs.declared.view.Key.{Key}
 use Rattle.fish_rule.specs.declared.view.Learned.{Learned}
 use Rattle.fish_rule.specs.declared.view.Own.{Own}
 use Rattle.fish_rule.specs.declared.view.View.{View}
+use Rattle.fish_whole.proofs.Entries.{sure_settled, up_to_will}
+use Rattle.fish_whole.proofs.Wholes.{may_hold, up_to_later}
+use Rattle.fish_whole.specs.Whole.{Later, SureUpTo, Whole, Will}
 
 module _ {log : Log} {v w : View} {r q : Registrar} {first first' : Lane} {before done : List Lane}
     (run : AllRan log v w r q first first' before done) where
@@ -183,7 +186,7 @@ module _ {log : Log} {v w : View} {r q : Registrar} {first first' : Lane} {befor
         })
 
   module _ {u t : View} {kept : Registrar} {after : List Lane} {last : BlockEnd} (returned : AllBack w u done after)
-      (ended : HasFoundEnd u t q kept last) (zero_is : v.about.number ≡ 0) (stands : Stands t) (known : IsShutTold v) where
+      (ended : HasFoundEnd u t q kept last) (start : (from : ℕ) × HasEnd v from) (stands : Stands t) where
     -- the definitions are known at the end
     pub knows : Knows t kept
     knows = end_knows ended.bound t kept ended.settles ended.knows
@@ -214,7 +217,7 @@ module _ {log : Log} {v w : View} {r q : Registrar} {first first' : Lane} {befor
         idle = closes.idle ∙ alone.idle;
       };
       outside = closes.epoch ∙ returned.takes.outside;
-      base = ap (λ (z : Key). z.number) all_learns.about ∙ zero_is;
+      above = above_end;
       settled = ended.settled;
       count = ended.count;
       counted = (let e = ended.tail.3 in omega arith);
@@ -223,6 +226,19 @@ module _ {log : Log} {v w : View} {r q : Registrar} {first first' : Lane} {befor
       marks = λ s e. shut_told s (returned.takes.shut s (sym closes.shut ∙ e));
     }
       where
+        known : IsShutTold v
+        known = start.1.marks
+
+        above_end : t.about.number ≤ last.to
+        above_end =
+            let same : t.about.number ≡ v.about.number = ap (λ (z : Key). z.number) all_learns.about in
+            let begins = end_above v start.0 start.1 in
+            let first = start_learns.settled in
+            let back = returned.takes.learns.settled in
+            let bound = (learns_changes u ended.bound ended.changes).settled in
+            let up = ended.rises in
+            omega arith
+
         shut_told : (s : Shut) → (w.shut ≡ Some s) ⊎ IsShutOfLane done (length done) s → Always t (IsMarkAt s.line s.lines)
         shut_told s (inl same) = always_later w t (IsMarkAt s.line s.lines) end_learns (main_marks known s same)
         shut_told s (inr q) =
@@ -247,7 +263,7 @@ module _ {log : Log} {v w : View} {r q : Registrar} {first first' : Lane} {befor
     )
 
     first_marks : AllOf (IsMarkItem t) first'.items
-    first_marks = marks_items w first'.items end_learns (main_marks known) run.first_did.controlled.run.full
+    first_marks = marks_items w first'.items end_learns (main_marks start.1.marks) run.first_did.controlled.run.full
 
     others_marks : NameMarks t after
     others_marks i y at =
@@ -259,7 +275,7 @@ module _ {log : Log} {v w : View} {r q : Registrar} {first first' : Lane} {befor
         let back : Learns (view s.pass) t = learns_both (view s.pass) u t
         (returned.takes.learned i z.0 s (omega arith) z.1 p.run_of.after_is) closes.learns in
         subst (AllOf (IsMarkItem t)) (sym w'.items)
-        (marks_items (view s.pass) z.0.items back (way_marks i z.0 p known) p.run_of.run.full)
+        (marks_items (view s.pass) z.0.items back (way_marks i z.0 p start.1.marks) p.run_of.run.full)
 
     pub all_marks : NameMarks t (first' ∷ after)
     all_marks = at_places (λ i x. AllOf (IsMarkItem t) x.items) first' after first_marks others_marks
@@ -312,21 +328,24 @@ module _ {log : Log} {v w : View} {r q : Registrar} {first first' : Lane} {befor
             ap (λ (z : Learned). z.count) (way_learned q.place q.lane p) in
             inr (omega arith)) (lane_cases q.place q.lane p q.seat o q.seat_is q.among)
 
-    -- what a lane's items tell of its rows they tell of the rows that the log has of it
-    tells_rows : (k : Span) (s : View) (number : ℕ) (rows : List LaneRow) (works : List Work) (items : List Item)
-        → Learns s t → 1 ≤ number → number ≤ 16 → k.to ≡ last.to → k.from ≤ k.to → k.from ≤ v.learned.count
+    -- what a lane's items tell of its rows they tell of the rows that the whole has of it
+    tells_rows : (past : Whole) (k : Span) (s : View) (number : ℕ) (rows : List LaneRow) (works : List Work) (items : List Item)
+        → Learns s t → v.about.number ≤ k.from → k.to ≡ last.to → k.from ≤ k.to → k.from ≤ v.learned.count
         → Ascends v.learned.count rows s.learned.count → AreTold s number rows
         → ((o : Own) → Among o t.own → o.lane ≡ number → (o.number < k.from) ⊎ HasNumber o.number rows)
-        → Sure s (λ y l. TellsLane y k l rows works items)
-        → Will t (λ y l. TellsLane y k l (rows_of_lane l k.from k.to number) works items)
-    tells_rows k s number rows works items learns some_ few is within counted up told all sure y remains base main none later c =
-        let exact : rows_of_lane remains.log k.from k.to number ≡ rows =
-        will_rows t number k.from k.to v.learned.count s.learned.count rows stands (subst (HasEnd t) (sym is) has_end) some_ few
-        within counted (told_later s t number rows learns told) up all y remains base main none later c in
-        subst (λ (z : List LaneRow). TellsLane y k remains.log z works items) (sym exact)
-        (sure_later s t (λ y l. TellsLane y k l rows works items) learns sure y remains base later.learns c)
+        → SureUpTo past s k.to (λ y. TellsLane y k rows works items)
+        → Will past t (λ y. TellsLane y k (rows_of_lane y.log k.from k.to number) works items)
+    tells_rows past k s number rows works items learns based is within counted up told all sure y m =
+        let same : t.about.number ≡ v.about.number = ap (λ (z : Key). z.number) all_learns.about in
+        let settled = ended.settled in
+        let exact : rows_of_lane y.log k.from k.to number ≡ rows =
+        will_rows past t number k.from k.to v.learned.count s.learned.count rows stands (subst (HasEnd t) (sym is) has_end)
+        (omega arith) within counted (told_later s t number rows learns told) up all y m in
+        subst (λ (z : List LaneRow). TellsLane y k z works items) (sym exact)
+        (up_to_will past t k.to (λ z. TellsLane z k rows works items) (omega arith)
+        (up_to_later past s t k.to (λ z. TellsLane z k rows works items) learns sure) y m)
 
-    module _ (k : Span) (span : IsBlockSpan v t last.to k) (many : k.lanes ≡ length before + 1) (stood : Stands v) where
+    module _ (past : Whole) (k : Span) (span : IsBlockSpan v t last.to k) (many : k.lanes ≡ length before + 1) (stood : Stands v) where
       version_given : run.main.learned.version ≡ v.learned.version
       version_given = ap (λ (z : Learned). z.version) run.gives.learned
 
@@ -342,8 +361,8 @@ module _ {log : Log} {v w : View} {r q : Registrar} {first first' : Lane} {befor
       counted = counted_from v k.from span.begins
 
       -- a lane whose pass began with what the control pass knew, and came back, did its statements within the block
-      lane_within : (s e : View) → s.learned ≡ v.learned → Learns e t → (k.lanes ≡ 1 → IsAlone s) → IsWithinSpan s e k
-      lane_within s e same back alone =
+      lane_within : (s e : View) → s.about ≡ v.about → s.learned ≡ v.learned → Learns e t → (k.lanes ≡ 1 → IsAlone s) → IsWithinSpan s e k
+      lane_within s e about same back alone =
           let count : s.learned.count ≡ v.learned.count = ap (λ (z : Learned). z.count) same in
           let settled_is : s.learned.settled ≡ v.learned.settled = ap (λ (z : Learned). z.settled) same in
           let version : s.learned.version ≡ v.learned.version = ap (λ (z : Learned). z.version) same in
@@ -360,6 +379,7 @@ module _ {log : Log} {v w : View} {r q : Registrar} {first first' : Lane} {befor
           record {
             first = omega arith;
             last = omega arith;
+            above = subst (λ (z : Key). z.number ≤ k.from) (sym about) span.begins.above;
             settled = omega arith;
             counted = omega arith;
             near = omega arith;
@@ -373,14 +393,14 @@ module _ {log : Log} {v w : View} {r q : Registrar} {first first' : Lane} {befor
       main_alone : k.lanes ≡ 1 → IsAlone run.main
       main_alone one = subst IsAlone (sym (run.gives.none (omega arith))) span.begins.alone
 
-      tells_first : Will t (TellsFirst k first')
+      tells_first : Will past t (TellsFirst k first')
       tells_first =
           let run_first = run.first_did.controlled.run in
           let g = run_first.gains in
           let same : run.main.learned.count ≡ v.learned.count = ap (λ (z : Learned). z.count) run.gives.learned in
-          subst (λ (z : List Work). Will t (λ y l. TellsLane y k l (rows_of_lane l k.from k.to 1) z first'.items))
+          subst (λ (z : List Work). Will past t (λ y. TellsLane y k (rows_of_lane y.log k.from k.to 1) z first'.items))
           (sym run.first_did.works)
-          (tells_rows k w 1 run_first.rows first.works first'.items end_learns (omega arith) (omega arith) span.ends within counted
+          (tells_rows past k w 1 run_first.rows first.works first'.items end_learns span.begins.above span.ends within counted
           (subst (λ (z : ℕ). Ascends z run_first.rows w.learned.count) same g.ascends)
           (subst (λ (z : ℕ). AreTold w z run_first.rows) run.gives.main g.told)
           (λ o n lane. ⊎_elim (λ (h : Among o v.own). inl (own_before v k.from o stood span.begins h))
@@ -391,7 +411,8 @@ module _ {log : Log} {v w : View} {r q : Registrar} {first first' : Lane} {befor
           ⊎_elim (λ (j : Among o v.own × (o.lane ≡ i.place + 2)). let e = j.1 in omega arith)
           (λ (j : HasNumber o.number p.run_of.run.rows × (o.lane ≡ i.place + 2)). let e = j.1 in omega arith)
           (lane_cases i.place i.lane p i.seat o i.seat_is i.among))) h) (own_cases o n))
-          (run_first.tells k (lane_within run.main w run.gives.learned end_learns main_alone) (span.full ∙ sym run.gives.shut)))
+          (run_first.tells past k (lane_within run.main w run.gives.about run.gives.learned end_learns main_alone)
+          (span.full ∙ sym run.gives.shut)))
 
       -- what another lane has among the records of its number
       others_all : (i : ℕ) (z : Lane) (at : slice_get done i ≡ Some z) (p : Way i z) (o : Own)
@@ -415,8 +436,8 @@ module _ {log : Log} {v w : View} {r q : Registrar} {first first' : Lane} {befor
               (λ (h : HasNumber o.number r.run_of.run.rows × (o.lane ≡ q.place + 2)). let e = h.1 in ne (omega arith))
               (lane_cases q.place q.lane r q.seat o q.seat_is q.among))
 
-      tells_others : length before < 16 → Will t (TellsOthers k after)
-      tells_others few x remains base main none later c i y at =
+      tells_others : length before < 16 → Will past t (TellsOthers k after)
+      tells_others few x m i y at =
           let size = sizes in
           let z = ran_at returned i y at in
           let less = slice_get_within done i z.0 z.1 in
@@ -429,15 +450,15 @@ module _ {log : Log} {v w : View} {r q : Registrar} {first first' : Lane} {befor
           ap (λ (x : Learned). x.count) (way_learned i z.0 p) in
           let back : Learns (view s.pass) t = learns_both (view s.pass) u t
           (returned.takes.learned i z.0 s (omega arith) z.1 p.run_of.after_is) closes.learns in
-          subst (λ (q : List Work × List Item). TellsLane x k remains.log (rows_of_lane remains.log k.from k.to (i + 2)) q.0 q.1)
+          subst (λ (q : List Work × List Item). TellsLane x k (rows_of_lane x.log k.from k.to (i + 2)) q.0 q.1)
           (λ j. ((sym p.run_of.works ∙ sym w'.works) j, sym w'.items j))
-          (tells_rows k (view s.pass) (i + 2) p.run_of.run.rows p.mid.works z.0.items back (omega arith) (omega arith) span.ends
+          (tells_rows past k (view s.pass) (i + 2) p.run_of.run.rows p.mid.works z.0.items back span.begins.above span.ends
           within counted (subst (λ (x : ℕ). Ascends x p.run_of.run.rows (view s.pass).learned.count) same g.ascends)
           (subst (λ (x : ℕ). AreTold (view s.pass) x p.run_of.run.rows) lane g.told)
           (others_all i z.0 z.1 p)
-          (p.run_of.run.tells k (lane_within (view p.run_of.before.pass) (view s.pass) (way_learned i z.0 p) back
+          (p.run_of.run.tells past k (lane_within (view p.run_of.before.pass) (view s.pass) (way_about i z.0 p) (way_learned i z.0 p) back
           (λ one. absurd (omega arith)))
-          (span.full ∙ sym (way_shut i z.0 p))) x remains base main none later c)
+          (span.full ∙ sym (way_shut i z.0 p))) x m)
 
       -- a record of the control pass's own at or past the block's start is of one of its lanes
       own_of_lanes : (o : Own) → Among o t.own → (o.number < k.from) ⊎ (o.lane ≤ length before + 1)
@@ -455,22 +476,23 @@ module _ {log : Log} {v w : View} {r q : Registrar} {first first' : Lane} {befor
               let e = h.1 in let less = q.below in let size = sizes in inr (omega arith))
               (lane_cases q.place q.lane p q.seat o q.seat_is q.among)
 
-      -- all that the block tells of the log
-      pub tells_all : length before < 16 → Will t (λ y l. TellsBlock y k l (first' ∷ after))
-      tells_all few x remains base main none later c =
+      -- all that the block tells of the whole
+      pub tells_all : length before < 16 → Will past t (λ y. TellsBlock y k (first' ∷ after))
+      tells_all few x m =
           let size = sizes in
           let back = returned.size in
           let ends = span.ends in
           let many : length before + 1 ≡ length (first' ∷ after) = omega arith in
-          let log = remains.log in
+          let same : t.about.number ≡ v.about.number = ap (λ (z : Key). z.number) all_learns.about in
+          let above = span.begins.above in
           record {
-            each = at_places (λ i y. TellsLane x k log (rows_of_lane log k.from k.to (i + 1)) y.works y.items) first' after
-                (tells_first x remains base main none later c)
-                (λ i y at. subst (λ (n : ℕ). TellsLane x k log (rows_of_lane log k.from k.to n) y.works y.items)
-                (let same : i + 2 ≡ suc i + 1 = omega arith in same) (tells_others few x remains base main none later c i y at));
-            own = subst (StoresByLanes k log) many
-                (subst (λ (to : ℕ). StoresByLanes (record k { to = to }) log (length before + 1)) (sym ends)
-                (will_own t k.from last.to (length before + 1) has_end own_of_lanes x remains base main none later c));
-            within = subst (λ (to : ℕ). to ≤ length log) (sym ends)
-                (sure_settled t last.to ended.settled x remains base later.learns c);
+            each = at_places (λ i y. TellsLane x k (rows_of_lane x.log k.from k.to (i + 1)) y.works y.items) first' after
+                (tells_first x m)
+                (λ i y at. subst (λ (n : ℕ). TellsLane x k (rows_of_lane x.log k.from k.to n) y.works y.items)
+                (let same : i + 2 ≡ suc i + 1 = omega arith in same) (tells_others few x m i y at));
+            own = subst (StoresByLanes k x.log) many
+                (subst (λ (to : ℕ). StoresByLanes (record k { to = to }) x.log (length before + 1)) (sym ends)
+                (will_own past t k.from last.to (length before + 1) has_end (omega arith) own_of_lanes x m));
+            within = subst (λ (to : ℕ). to ≤ length x.log) (sym ends)
+                (sure_settled past t last.to ended.settled x (may_hold past t x m));
           }

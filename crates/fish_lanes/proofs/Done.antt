@@ -1,15 +1,13 @@
 -- What the statements so far tell, and what one item more tells behind them.
 use Rattle.std.proofs.Common.{◌≡◌, ℕ, ◌+◌, ◌<◌, ◌≤◌, suc, List, [], ◌∷◌, length, refl}
 use Rattle.std.proofs.Common.{ap, ◌∙◌, subst, inl, inr, ◌⊎◌, ⊎_elim, arith, None, Some}
-use Rattle.fish_epoch.proofs.Reading.{knows_later}
 use Rattle.fish_lanes.proofs.Answered.{plan_told, refused_told, refused_version, scan_told}
 use Rattle.fish_lanes.proofs.Claims.{claim_shown}
 use Rattle.fish_lanes.proofs.Gaining.{alone_gains, gains_self}
 use Rattle.fish_lanes.proofs.Items.{TellsAll, made, shown_in}
 use Rattle.fish_lanes.proofs.Publishing.{published_later, settled_published, told_published}
 use Rattle.fish_lanes.proofs.RowLists.{ascends_le}
-use Rattle.fish_lanes.specs.Closing.{Sure}
-use Rattle.fish_lanes.specs.Doing.{FitsRefused, IsFit}
+use Rattle.fish_lanes.specs.Doing.{FitsCheckpoint, FitsRefused, IsFit}
 use Rattle.fish_lanes.specs.Gains.{AreTold, Gains}
 use Rattle.fish_lanes.specs.Published.{IsPublished}
 use Rattle.fish_lanes.specs.Records.{Ascends, HasNumber, LaneRow, entry_of}
@@ -27,6 +25,7 @@ use Rattle.fish_report.specs.declared.item.ScanCause.{ScanCause}
 use Rattle.fish_rule.proofs.laws.ClosedLogs.{always_closed}
 use Rattle.fish_rule.proofs.laws.Learning.{learns_both}
 use Rattle.fish_rule.proofs.laws.Moments.{before_mark}
+use Rattle.fish_rule.specs.LoadSteps.{IsAlone}
 use Rattle.fish_rule.specs.Logs.{Learns, TellsMark}
 use Rattle.fish_rule.specs.Parts.{IsEntryWord}
 use Rattle.fish_rule.specs.Regions.{code}
@@ -38,13 +37,16 @@ use Rattle.fish_rule.specs.declared.view.Kind.TheVariants.{Mark}
 use Rattle.fish_rule.specs.declared.view.View.{View}
 use Rattle.fish_scan.specs.declared.ask.Ask.{Ask}
 use Rattle.fish_value.specs.declared.field.Form.{Form}
+use Rattle.fish_whole.proofs.Wholes.{sure_rows}
+use Rattle.fish_whole.specs.Whole.{Sure, SureUpTo, Whole}
 
 -- the statements so far are told by as many items
 pub record HasTold (v u : View) (works : List Work) (items : List Item) : Type 0 where
   pub rows : List LaneRow
   pub gains : Gains v u rows
-  pub tells : (s : Span) → IsWithinSpan v u s → s.full ≡ v.shut → Sure u (λ x log. TellsAll x s log [] [] rows works items)
-  pub shown : (n : ℕ) (s : Shown) → Among s (shown_in items) → IsShown n s → IsPublished u n
+  pub tells : (past : Whole) (s : Span) → IsWithinSpan v u s → s.full ≡ v.shut
+      → SureUpTo past u s.to (λ w. TellsAll w s [] [] rows works items)
+  pub shown : (n : ℕ) (s : Shown) → Among s (shown_in items) → IsShown n s → u.about.number ≤ n → IsPublished u n
   pub settles : (m : ℕ) → Among (settled m) (shown_in items) → m ≤ u.learned.settled
   pub size : length items ≡ length works
   pub full : AllOf (IsFullItem u) items
@@ -56,7 +58,7 @@ pub told_self : (v : View) → v.epoch ≡ Out → v.flight ≡ None → HasTold
 told_self v outside idle = record {
   rows = [];
   gains = gains_self v outside idle;
-  tells = λ s within full u remains base learns c. refl;
+  tells = λ past s within full w m far. refl;
   shown = λ n s m. elim m [ ];
   settles = λ n m. elim m [ ];
   size = refl;
@@ -83,25 +85,24 @@ row_below to from n [] up h = elim h [ ]
 row_below to from n (r ∷ rows) up (inl e) = (let b = ascends_le (suc r.number) to rows up.1 in omega arith)
 row_below to from n (r ∷ rows) up (inr m) = row_below to (suc r.number) n rows up.1 m
 
--- what was seen is published
-seen_published : (v u : View) (works : List Work) (items : List Item) (from : ℕ) → v.about.number ≡ 0
-    → (h : HasTold v u works items) → from ≤ v.learned.settled → from ≤ v.learned.count → (n : ℕ)
-    → IsSeen from h.rows (shown_in items) n → IsPublished u n
-seen_published v u works items from base h less counted n (inl low) =
-    published_later v u n h.gains.on.learns (settled_published v n base (omega arith) (omega arith))
-seen_published v u works items from base h less counted n (inr (inl own)) =
+-- what was seen of the table is published
+seen_published : (v u : View) (works : List Work) (items : List Item) (from : ℕ) → (h : HasTold v u works items)
+    → from ≤ v.learned.settled → from ≤ v.learned.count → (n : ℕ) → IsSeen from h.rows (shown_in items) n → u.about.number ≤ n
+    → IsPublished u n
+seen_published v u works items from h less counted n (inl under) low =
+    let same : u.about.number ≡ v.about.number = ap (λ (z : Key). z.number) h.gains.on.learns.about in
+    published_later v u n h.gains.on.learns (settled_published v n (omega arith) (omega arith) (omega arith))
+seen_published v u works items from h less counted n (inr (inl own)) low =
     row_published u v.lane v.learned.count u.learned.count n h.rows h.gains.told h.gains.ascends (omega arith) own
-seen_published v u works items from base h less counted n (inr (inr s)) = h.shown n s.0 s.1 s.2
+seen_published v u works items from h less counted n (inr (inr s)) low = h.shown n s.0 s.1 s.2 low
 
 -- ---- what one item tells
 
-module _ (v u t : View) (works : List Work) (items : List Item) (s : Span) (base : v.about.number ≡ 0)
-    (h : HasTold v u works items) (on : Learns u t) (within : IsWithinSpan v t s) (was : s.full ≡ v.shut) where
-  zero_then : t.about.number ≡ 0
-  zero_then = ap (λ (z : Key). z.number) (on.about ∙ h.gains.on.learns.about) ∙ base
-
-  zero_now : u.about.number ≡ 0
-  zero_now = ap (λ (z : Key). z.number) h.gains.on.learns.about ∙ base
+module _ (v u t : View) (works : List Work) (items : List Item) (s : Span) (h : HasTold v u works items) (on : Learns u t)
+    (within : IsWithinSpan v t s) (was : s.full ≡ v.shut) (past : Whole) where
+  -- of one table
+  number_is : u.about.number ≡ v.about.number
+  number_is = ap (λ (z : Key). z.number) h.gains.on.learns.about
 
   -- behind the items so far
   abbrev pub now : Span
@@ -118,6 +119,7 @@ module _ (v u t : View) (works : List Work) (items : List Item) (s : Span) (base
       record {
         first = omega arith;
         last = within.last;
+        above = (let same = number_is in let above = within.above in omega arith);
         settled = omega arith;
         counted = omega arith;
         near = within.near;
@@ -126,8 +128,8 @@ module _ (v u t : View) (works : List Work) (items : List Item) (s : Span) (base
         entries = within.entries;
       }
 
-  seen_is : (n : ℕ) → IsSeen s.from h.rows (shown_in items) n → IsPublished u n
-  seen_is n seen = seen_published v u works items s.from base h within.settled within.counted n seen
+  seen_is : (n : ℕ) → IsSeen s.from h.rows (shown_in items) n → u.about.number ≤ n → IsPublished u n
+  seen_is n seen low = seen_published v u works items s.from h within.settled within.counted n seen low
 
   -- a version that the pass knew in the step is one of the block
   version_now : (version : ℕ) → (u.learned.version ≤ version) × (version ≤ t.learned.version)
@@ -142,8 +144,8 @@ module _ (v u t : View) (works : List Work) (items : List Item) (s : Span) (base
 
   -- what a refusal tells
   refusal_told : (ask : Ask) (refused : List ℕ → ℕ → ScanCause → Item) (x : Item) → FitsRefused u t ask refused x
-      → Sure t (λ y log. TellsRefused y now log ask refused x)
-  refusal_told ask refused x f y remains b l c =
+      → Sure past t (λ w. TellsRefused w now ask refused x)
+  refusal_told ask refused x f w m =
       let at = version_now f.version (refused_version u t ask f.version f.why f.fits) in
       record {
         version = f.version;
@@ -151,38 +153,52 @@ module _ (v u t : View) (works : List Work) (items : List Item) (s : Span) (base
         is = f.is;
         least = at.0;
         most = at.1;
-        tells = refused_told u t ask zero_now on (IsSeen s.from h.rows (shown_in items)) seen_is
-            now within_now f.version f.why f.fits y remains b l c;
+        tells = refused_told u t ask on (IsSeen s.from h.rows (shown_in items)) seen_is now within_now past f.version f.why f.fits w m;
       }
 
   -- the lines are those of an earlier claim, or of the record
   size_told : (form : Form) (payload : List ℕ) (line lines end : ℕ)
       → (u.shut ≡ Some (claim_of line lines end)) ⊎ IsSizeBetween u t form payload lines
-      → (y : View) → Learns t y → IsEarlier now (shown_in items) line lines end ⊎ IsSizeOf y now form payload lines
-  size_told form payload line lines end (inl same) y l = inl
+      → Sure past t (λ w. IsEarlier now (shown_in items) line lines end ⊎ IsSizeOf w now form payload lines)
+  size_told form payload line lines end (inl same) w m = inl
       (⊎_elim (λ (first : v.shut ≡ Some (claim_of line lines end)). inl (was ∙ first))
       (λ (told : TellsClaim (claim_of line lines end) items). inr (claim_shown (claim_of line lines end) items told))
       (h.shuts (claim_of line lines end) same))
-  size_told form payload line lines end (inr b) y l =
-      let inside = within_now in
-      let first = inside.first in
-      let last = inside.last in
-      let least = b.least in
-      let most = b.knows.reached in
+  size_told form payload line lines end (inr b) w m =
+      let at = version_now b.version (b.least, b.knows.reached) in
       inr (record {
         version = b.version;
         rows = b.rows;
-        has = record { least = omega arith; most = omega arith; knows = knows_later t y b.version b.rows l b.knows };
+        has = record { least = at.0; most = at.1; are = sure_rows past t b.version b.rows b.knows w m };
         size = b.size;
       })
 
+  -- what the lane stored before a checkpoint of a pass that is alone lies below it
+  below_count : (x : Item) (f : FitsCheckpoint u t x) → IsAlone u → Sure past t (λ w. (n : ℕ) → HasNumber n h.rows → n < f.count)
+  below_count x f alone w m n has =
+      let e = f.exact alone in
+      let claimed = e.3 in
+      let under = row_below u.learned.count v.learned.count n h.rows h.gains.ascends has in
+      ⊎_elim (λ (all : f.count ≡ e.0). omega arith)
+      (λ (mark : (f.count < e.0) × TellsMark t f.count).
+      let same = number_is in
+      let then : m.last.about.number ≡ u.about.number = ap (λ (z : Key). z.number) (m.learns.about ∙ on.about) in
+      let above = within.above in
+      let settled = within.settled in
+      let more = h.gains.on.learns.settled in
+      let least = f.above in
+      before_mark m.closed.rule f.count n (omega arith)
+      (always_closed t m.last (λ k x. high (x.dir f.count) ≡ code Mark) m.remains m.learns m.closed mark.1)
+      (always_closed u m.last (λ k x. IsEntryWord (x.dir n)) m.remains (learns_both u t m.last on m.learns) m.closed
+      (row_published u v.lane v.learned.count u.learned.count n h.rows h.gains.told h.gains.ascends (omega arith) has).entry)) e.2
+
   -- what fits is told
   pub item_told : (w : Work) (x : Item) → IsFit u t w x
-      → Sure t (λ y log. TellsItem y now log h.rows (shown_in items) w x)
-  item_told (work.Register name def) x f y remains b l c = f
-  item_told (work.Deregister name) x f y remains b l c = f
-  item_told (work.Ingest form header name file) x (inl s) y remains b l c = inl s
-  item_told (work.Ingest form header name file) x (inr (inl f)) y remains b l c = inr (inl (record {
+      → SureUpTo past t s.to (λ z. TellsItem z now h.rows (shown_in items) w x)
+  item_told (work.Register name def) x f w m far = f
+  item_told (work.Deregister name) x f w m far = f
+  item_told (work.Ingest form header name file) x (inl s) w m far = inl s
+  item_told (work.Ingest form header name file) x (inr (inl f)) w m far = inr (inl (record {
     line = f.line;
     lines = f.lines;
     end = f.end;
@@ -192,46 +208,35 @@ module _ (v u t : View) (works : List Work) (items : List Item) (s : Span) (base
     within = f.within;
     counted = f.counted;
     past = f.full.past;
-    size = size_told form f.counted.payload f.line f.lines f.end f.size y l;
+    size = size_told form f.counted.payload f.line f.lines f.end f.size w m;
   }))
-  item_told (work.Ingest form header name file) x (inr (inr l)) y remains b l' c = inr (inr l)
-  item_told (work.Scan ask) x (inl f) y remains b l c = inl (record {
+  item_told (work.Ingest form header name file) x (inr (inr l)) w m far = inr (inr l)
+  item_told (work.Scan ask) x (inl f) w m far = inl (record {
     from = f.from;
     to = f.to;
     opens = f.opens;
     rows = f.rows;
     version = f.version;
     is = f.is;
-    tells = scan_told u t ask zero_now on (IsSeen s.from h.rows (shown_in items)) seen_is
-        now within_now f.from f.to f.opens f.rows f.version
-        f.fits y remains b l c;
+    tells = scan_told u t ask on (IsSeen s.from h.rows (shown_in items)) seen_is now within_now past f.from f.to f.opens f.rows
+        f.version f.fits w m far;
   })
-  item_told (work.Scan ask) x (inr f) y remains b l c = inr (refusal_told ask item.ScanRefused x f y remains b l c)
-  item_told (work.Explain ask) x (inl f) y remains b l c = inl (record {
+  item_told (work.Scan ask) x (inr f) w m far = inr (refusal_told ask item.ScanRefused x f w m)
+  item_told (work.Explain ask) x (inl f) w m far = inl (record {
     from = f.from;
     to = f.to;
     plan = f.plan;
     version = f.version;
     is = f.is;
-    tells = plan_told u t ask zero_now on (IsSeen s.from h.rows (shown_in items)) seen_is
-        now within_now f.from f.to f.plan f.version f.fits y
-        remains b l c;
+    tells = plan_told u t ask on (IsSeen s.from h.rows (shown_in items)) seen_is now within_now past f.from f.to f.plan
+        f.version f.fits w m;
   })
-  item_told (work.Explain ask) x (inr f) y remains b l c = inr (refusal_told ask item.ExplainRefused x f y remains b l c)
-  item_told work.Checkpoint x f y remains b l c = record {
+  item_told (work.Explain ask) x (inr f) w m far = inr (refusal_told ask item.ExplainRefused x f w m)
+  item_told work.Checkpoint x f w m far = record {
     count = f.count;
     is = f.is;
-    above = (let a = f.above in let m = h.gains.on.learns.settled in let e = within.settled in omega arith);
-    own = λ one n has.
-        let e = f.exact (within_now.alone one) in
-        let claimed = e.3 in
-        let below = row_below u.learned.count v.learned.count n h.rows h.gains.ascends has in
-        ⊎_elim (λ (all : f.count ≡ e.0). omega arith)
-        (λ (mark : (f.count < e.0) × TellsMark t f.count).
-        before_mark c.rule f.count n (omega arith)
-        (always_closed t y (λ k w. high (w.dir f.count) ≡ code Mark) remains l c mark.1)
-        (always_closed u y (λ k w. IsEntryWord (w.dir n)) remains (learns_both u t y on l) c
-        (row_published u v.lane v.learned.count u.learned.count n h.rows h.gains.told h.gains.ascends (omega arith) has).entry)) e.2;
+    above = (let a = f.above in let b = h.gains.on.learns.settled in let e = within.settled in omega arith);
+    own = λ one n has. below_count x f (within_now.alone one) w m n has;
     within = (let a = f.settled in let e = within.stored in omega arith);
-    rises = λ m n. let a = f.above in let e = h.settles m n in omega arith;
+    rises = λ k n. let a = f.above in let e = h.settles k n in omega arith;
   }

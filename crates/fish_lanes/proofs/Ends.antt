@@ -180,9 +180,9 @@ module _ {log : Log} {v u t : View} {r q s : Registrar} {first first' : Lane} {o
     each = λ none.
         let known_u : KnowsRegistry u (registry_of u q) =
         subst (KnowsRegistry u) (sym (behind_items none))
-        (each_last u (registry_of v r) first'.items
+        (each_last (KnowsRegistry u) (registry_of v r) first'.items
         (each_later lanes.ran u (registry_of v r) first'.items lanes.back.takes.learns known_items)) in
-        each_more t (registry_of v r) first'.items (item.Bound b.id b.from)
+        each_more (KnowsRegistry t) (registry_of v r) first'.items (item.Bound b.id b.from)
         known_end
         (subst (λ (z : Registry). KnowsRegistry t (after z (item.Bound b.id b.from))) (behind_items none)
         (registry_later ended.bound t (after (registry_of u q) (item.Bound b.id b.from)) ended.settles.learns

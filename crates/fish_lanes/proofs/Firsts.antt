@@ -34,7 +34,6 @@ others_new v from (x ∷ lanes) e h = record {
   all = e.alone.all;
   idle = e.alone.idle;
   outside = e.outside;
-  base = e.base;
   few = (let few = h.few in omega arith);
   new = λ i y at. subst (λ (n : ℕ). IsNewLane n y) (let same : suc i + 1 ≡ i + 2 = omega arith in same) (h.new (suc i) y at);
   free = λ i y at. h.free (suc i) y (omega arith) at;

@@ -1,14 +1,13 @@
 -- One statement more.
 use Rattle.std.proofs.Common.{◌≡◌, ◌+◌, ℕ, arith, List, [], ◌∷◌, ◌++◌, refl, sym, ap, ◌∙◌, subst}
 use Rattle.std.proofs.Common.{append_assoc, append-nil, take}
-use Rattle.fish_catalog.specs.declared.entry.Entry.{Entry}
 use Rattle.fish_lanes.specs.Records.{LaneRow, contents}
 use Rattle.fish_lanes.specs.Seen.{Shown, shown_by}
 use Rattle.fish_lanes.specs.Spans.{Span, behind, made_by}
 use Rattle.fish_lanes.specs.Telling.{TellsItem, TellsItems, content_of, count_of}
 use Rattle.fish_lanes.specs.declared.work.Work.{Work}
 use Rattle.fish_report.specs.declared.item.Item.{Item}
-use Rattle.fish_rule.specs.declared.view.View.{View}
+use Rattle.fish_whole.specs.Whole.{Whole}
 
 -- all numbers that items show
 abbrev pub shown_in : List Item → List Shown
@@ -36,42 +35,42 @@ behind_is (x ∷ items) s = behind_is items (behind x s)
     (let e : s.first + made_by x + made items ≡ s.first + (made_by x + made items) = omega arith in e)
 
 -- what items tell that are as many as the statements
-abbrev pub TellsAll : View → Span → List Entry → List LaneRow → List Shown → List LaneRow → List Work → List Item → Type 0
-TellsAll v s log before shown rows [] [] = rows ≡ []
-TellsAll v s log before shown rows [] (x ∷ items) = ⊥
-TellsAll v s log before shown rows (w ∷ works) [] = ⊥
-TellsAll v s log before shown rows (w ∷ works) (x ∷ items) = (mine : List LaneRow) × (rest : List LaneRow)
+abbrev pub TellsAll : Whole → Span → List LaneRow → List Shown → List LaneRow → List Work → List Item → Type 0
+TellsAll z s before shown rows [] [] = rows ≡ []
+TellsAll z s before shown rows [] (x ∷ items) = ⊥
+TellsAll z s before shown rows (w ∷ works) [] = ⊥
+TellsAll z s before shown rows (w ∷ works) (x ∷ items) = (mine : List LaneRow) × (rest : List LaneRow)
     × (rows ≡ mine ++ rest)
     × (contents mine ≡ take (count_of x) (content_of w))
-    × TellsItem v s log before shown w x
-    × TellsAll v (behind x s) log (before ++ mine) (shown ++ shown_by x) rest works items
+    × TellsItem z s before shown w x
+    × TellsAll z (behind x s) (before ++ mine) (shown ++ shown_by x) rest works items
 
 -- one more behind them
-pub tells_more : (v : View) (s : Span) (log : List Entry) (before : List LaneRow) (shown : List Shown) (rows more : List LaneRow)
+pub tells_more : (z : Whole) (s : Span) (before : List LaneRow) (shown : List Shown) (rows more : List LaneRow)
     (works : List Work) (items : List Item) (w : Work) (x : Item)
-    → TellsAll v s log before shown rows works items
+    → TellsAll z s before shown rows works items
     → contents more ≡ take (count_of x) (content_of w)
-    → TellsItem v (behind_all items s) log (before ++ rows) (shown ++ shown_in items) w x
-    → TellsAll v s log before shown (rows ++ more) (works ++ w ∷ []) (items ++ x ∷ [])
-tells_more v s log before shown rows more [] [] w x none same tells = (
+    → TellsItem z (behind_all items s) (before ++ rows) (shown ++ shown_in items) w x
+    → TellsAll z s before shown (rows ++ more) (works ++ w ∷ []) (items ++ x ∷ [])
+tells_more z s before shown rows more [] [] w x none same tells = (
   more,
   [],
   ap (λ (z : List LaneRow). z ++ more) none ∙ sym (append-nil more),
   same,
-  subst (λ (z : List LaneRow × List Shown). TellsItem v s log z.0 z.1 w x)
+  subst (λ (p : List LaneRow × List Shown). TellsItem z s p.0 p.1 w x)
       (λ i. ((ap (λ (z : List LaneRow). before ++ z) none ∙ append-nil before) i, append-nil shown i)) tells,
   refl,
 )
-tells_more v s log before shown rows more [] (y ∷ items) w x none same tells = elim none [ ]
-tells_more v s log before shown rows more (w2 ∷ works) [] w x none same tells = elim none [ ]
-tells_more v s log before shown rows more (w2 ∷ works) (y ∷ items) w x (mine, rest, parts, mine_is, here, there) same tells = (
+tells_more z s before shown rows more [] (y ∷ items) w x none same tells = elim none [ ]
+tells_more z s before shown rows more (w2 ∷ works) [] w x none same tells = elim none [ ]
+tells_more z s before shown rows more (w2 ∷ works) (y ∷ items) w x (mine, rest, parts, mine_is, here, there) same tells = (
   mine,
   rest ++ more,
   ap (λ (z : List LaneRow). z ++ more) parts ∙ append_assoc mine rest more,
   mine_is,
   here,
-  tells_more v (behind y s) log (before ++ mine) (shown ++ shown_by y) rest more works items w x there same
-      (subst (λ (z : List LaneRow × List Shown). TellsItem v (behind_all items (behind y s)) log z.0 z.1 w x)
+  tells_more z (behind y s) (before ++ mine) (shown ++ shown_by y) rest more works items w x there same
+      (subst (λ (p : List LaneRow × List Shown). TellsItem z (behind_all items (behind y s)) p.0 p.1 w x)
       (λ i. (
         (ap (λ (z : List LaneRow). before ++ z) parts ∙ sym (append_assoc before mine rest)) i,
         sym (append_assoc shown (shown_by y) (shown_in items)) i,
@@ -79,35 +78,35 @@ tells_more v s log before shown rows more (w2 ∷ works) (y ∷ items) w x (mine
 )
 
 -- with nothing behind them the lane ended
-pub tells_ended : (v : View) (s : Span) (log : List Entry) (before : List LaneRow) (shown : List Shown) (rows : List LaneRow)
-    (works : List Work) (items : List Item) → TellsAll v s log before shown rows works items
-    → TellsItems v s log before shown rows works items
-tells_ended v s log before shown rows [] [] h = h
-tells_ended v s log before shown rows [] (x ∷ items) h = elim h [ ]
-tells_ended v s log before shown rows (w ∷ works) [] h = elim h [ ]
-tells_ended v s log before shown rows (w ∷ works) (x ∷ items) (mine, rest, parts, mine_is, here, there) = (
+pub tells_ended : (z : Whole) (s : Span) (before : List LaneRow) (shown : List Shown) (rows : List LaneRow)
+    (works : List Work) (items : List Item) → TellsAll z s before shown rows works items
+    → TellsItems z s before shown rows works items
+tells_ended z s before shown rows [] [] h = h
+tells_ended z s before shown rows [] (x ∷ items) h = elim h [ ]
+tells_ended z s before shown rows (w ∷ works) [] h = elim h [ ]
+tells_ended z s before shown rows (w ∷ works) (x ∷ items) (mine, rest, parts, mine_is, here, there) = (
   mine,
   rest,
   parts,
   mine_is,
   here,
-  tells_ended v (behind x s) log (before ++ mine) (shown ++ shown_by x) rest works items there,
+  tells_ended z (behind x s) (before ++ mine) (shown ++ shown_by x) rest works items there,
 )
 
 -- with a part of the next statement it was cut
-pub tells_cut : (v : View) (s : Span) (log : List Entry) (before : List LaneRow) (shown : List Shown) (rows more : List LaneRow)
+pub tells_cut : (z : Whole) (s : Span) (before : List LaneRow) (shown : List Shown) (rows more : List LaneRow)
     (works : List Work) (items : List Item) (w : Work) (later : List Work) (j : ℕ)
-    → TellsAll v s log before shown rows works items → contents more ≡ take j (content_of w)
-    → TellsItems v s log before shown (rows ++ more) (works ++ w ∷ later) items
-tells_cut v s log before shown rows more [] [] w later j none part =
+    → TellsAll z s before shown rows works items → contents more ≡ take j (content_of w)
+    → TellsItems z s before shown (rows ++ more) (works ++ w ∷ later) items
+tells_cut z s before shown rows more [] [] w later j none part =
     (j, ap (λ (z : List LaneRow). contents (z ++ more)) none ∙ part)
-tells_cut v s log before shown rows more [] (y ∷ items) w later j none part = elim none [ ]
-tells_cut v s log before shown rows more (w2 ∷ works) [] w later j none part = elim none [ ]
-tells_cut v s log before shown rows more (w2 ∷ works) (y ∷ items) w later j (mine, rest, parts, mine_is, here, there) part = (
+tells_cut z s before shown rows more [] (y ∷ items) w later j none part = elim none [ ]
+tells_cut z s before shown rows more (w2 ∷ works) [] w later j none part = elim none [ ]
+tells_cut z s before shown rows more (w2 ∷ works) (y ∷ items) w later j (mine, rest, parts, mine_is, here, there) part = (
   mine,
   rest ++ more,
   ap (λ (z : List LaneRow). z ++ more) parts ∙ append_assoc mine rest more,
   mine_is,
   here,
-  tells_cut v (behind y s) log (before ++ mine) (shown ++ shown_by y) rest more works items w later j there part,
+  tells_cut z (behind y s) (before ++ mine) (shown ++ shown_by y) rest more works items w later j there part,
 )

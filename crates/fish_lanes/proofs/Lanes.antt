@@ -21,7 +21,6 @@ use Rattle.fish_rule.specs.SeatSteps.{CanSplitPass, first_shut, split_left, spli
 use Rattle.fish_rule.specs.SpaceSteps.{ticked}
 use Rattle.fish_rule.specs.Views.{Among}
 use Rattle.fish_rule.specs.declared.table.Log.{Log}
-use Rattle.fish_rule.specs.declared.view.Key.{Key}
 use Rattle.fish_rule.specs.declared.view.Noted.TheVariants.{Tail}
 use Rattle.fish_rule.specs.declared.view.Shut.{Shut}
 use Rattle.fish_rule.specs.declared.view.View.{View}
@@ -95,13 +94,12 @@ seated_by log v m i l x y at h s = record {
 -- ---- the statements
 
 -- a lane that got a pass may begin
-pub seated_ready : (log : Log) (v : View) (i : ℕ) (x y : Lane) → v.about.number ≡ 0 → IsNewLane (i + 2) x
-    → All IsFree x.works → IsSeated log v i x y → IsReady log y
-seated_ready log v i x y base new free s = record {
+pub seated_ready : (log : Log) (v : View) (i : ℕ) (x y : Lane) → IsNewLane (i + 2) x → All IsFree x.works
+    → IsSeated log v i x y → IsReady log y
+seated_ready log v i x y new free s = record {
   seat = s.seat;
   seat_is = ap (λ (z : Lane). z.seat) s.is;
   can = s.can;
-  base = ap (λ (z : Key). z.number) s.about ∙ base;
   empty = ap (λ (z : Lane). z.items) s.is ∙ new.empty;
   free = subst (λ (z : Lane). All IsFree z.works) (sym s.is) free;
 }

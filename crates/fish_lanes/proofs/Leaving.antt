@@ -13,9 +13,9 @@ use Rattle.fish_lanes.proofs.Registrations.{registry_later}
 use Rattle.fish_lanes.specs.Blocks.{At, IsShutOfLane}
 use Rattle.fish_lanes.specs.Course.{AllBack, AllRan, HasFoundEnd}
 use Rattle.fish_lanes.specs.Ending.{HasEnd}
-use Rattle.fish_lanes.specs.Gains.{IsShutTold, WasShut}
+use Rattle.fish_lanes.specs.Gains.{WasShut}
 use Rattle.fish_lanes.specs.Outcome.{IsFullIn, LanesSayPlans, TellsShutBy}
-use Rattle.fish_lanes.specs.Plans.{AreSoPlans}
+use Rattle.fish_lanes.specs.Plans.{AreSoPlans, KnowsRows}
 use Rattle.fish_lanes.specs.Registering.{KnowsRegistry, Registry, registry_of}
 use Rattle.fish_lanes.specs.Sizes.{NamesOneClaim, TellsClaim, claim_of}
 use Rattle.fish_lanes.specs.declared.block.BlockEnd.{BlockEnd}
@@ -39,31 +39,31 @@ use Rattle.fish_rule.specs.declared.view.View.{View}
 
 module _ {log : Log} {v w u t : View} {r q kept : Registrar} {first first' : Lane} {before done after : List Lane} {last : BlockEnd}
     (run : AllRan log v w r q first first' before done) (returned : AllBack w u done after) (ended : HasFoundEnd u t q kept last)
-    (zero_is : v.about.number ≡ 0) (stands : Stands t) (known : IsShutTold v) where
+    (start : (from : ℕ) × HasEnd v from) (stands : Stands t) where
   -- what is known of the block's course
   knows : Knows t kept
-  knows = course.knows run returned ended zero_is stands known
+  knows = course.knows run returned ended start stands
 
   closes : Closes u t
-  closes = course.closes run returned ended zero_is stands known
+  closes = course.closes run returned ended start stands
 
   end_learns : Learns w t
-  end_learns = course.end_learns run returned ended zero_is stands known
+  end_learns = course.end_learns run returned ended start stands
 
   -- what the items say of plans, by the rows that the registrar keeps
   first_plans : (from : ℕ) → HasEnd v from
-      → AreSoPlans t (registry_of v r) kept.catalog from first'.works first'.items
+      → AreSoPlans (KnowsRows t) (registry_of v r) kept.catalog from first'.works first'.items
   first_plans from end =
       let low = end.settled in
       let same : run.main.learned.settled ≡ v.learned.settled = ap (λ (z : Learned). z.settled) run.gives.learned in
       let said = run.first_did.controlled.plans kept.catalog from
       (bounds_before w t kept.catalog end_learns (bounds_in t kept stands knows)) (omega arith) in
-      subst (λ (z : Registry × List Work). AreSoPlans t z.0 kept.catalog from z.1 first'.items)
+      subst (λ (z : Registry × List Work). AreSoPlans (KnowsRows t) z.0 kept.catalog from z.1 first'.items)
       (λ j. (given_registry v run.main r run.gives.learned j, sym run.first_did.works j))
       (plans_later w t (registry_of run.main r) kept.catalog from first.works first'.items end_learns said)
 
   others_plans : Knows v r → KnowsRegistry v (registry_of v r) → (from : ℕ) → HasEnd v from
-      → LanesSayPlans t (registry_of v r) kept.catalog from after
+      → LanesSayPlans (KnowsRows t) (registry_of v r) kept.catalog from after
   others_plans before_ registry from end i y at =
       let z = course.ran_at run returned i y at in
       let less = slice_get_within done i z.0 z.1 in
@@ -81,14 +81,14 @@ module _ {log : Log} {v w u t : View} {r q kept : Registrar} {first first' : Lan
       let said = p.run_of.plans (registry_of v r) (read_later v (view start.pass) r.catalog learns (bounds_read v r before_))
       (registry_later v (view start.pass) (registry_of v r) learns registry) kept.catalog from
       (bounds_before (view e.pass) t kept.catalog back (bounds_in t kept stands knows)) (omega arith) in
-      subst (λ (q : List Work × List Item). AreSoPlans t (registry_of v r) kept.catalog from q.0 q.1)
+      subst (λ (q : List Work × List Item). AreSoPlans (KnowsRows t) (registry_of v r) kept.catalog from q.0 q.1)
       (λ j. ((sym p.run_of.works ∙ sym w'.works) j, sym w'.items j))
       (plans_later (view e.pass) t (registry_of v r) kept.catalog from p.mid.works z.0.items back said)
 
   pub all_plans : Knows v r → KnowsRegistry v (registry_of v r) → (from : ℕ) → HasEnd v from
-      → LanesSayPlans t (registry_of v r) kept.catalog from (first' ∷ after)
+      → LanesSayPlans (KnowsRows t) (registry_of v r) kept.catalog from (first' ∷ after)
   all_plans before_ registry from end =
-      at_places (λ i x. AreSoPlans t (registry_of v r) kept.catalog from x.works x.items) first' after (first_plans from end)
+      at_places (λ i x. AreSoPlans (KnowsRows t) (registry_of v r) kept.catalog from x.works x.items) first' after (first_plans from end)
       (others_plans before_ registry from end)
 
   -- what shuts the pass did so before, or an item tells of it

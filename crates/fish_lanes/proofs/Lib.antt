@@ -16,7 +16,6 @@ pub mod Keeping
 pub mod Lanes
 pub mod Leaving
 pub mod Lists
-pub mod Logs
 pub mod Moments
 pub mod Pending
 pub mod Plans

@@ -47,14 +47,14 @@ ends_behind t to from s h less =
     subst (Rests w.count w.line) tail.1 (r.tails s.seat t s.at h.alone.main h.alone.all) in
     let count : high tail.0 ≡ w.count = rests.0 in
     let same : high tail.0 ≡ h.count = tail.2 in
-    let base = h.base in
+    let above = h.above in
     ⊎_elim (λ (e : to ≡ h.count). omega arith)
     (λ (m : (to < h.count) × TellsMark t to). pick m.1 (dec_lt to w.settled)) h.ends
   where
     pick : TellsMark t to → Dec (to < s.moment.settled) → from ≤ to
     pick mark (no not_less) = (let floor = s.rule.floors s.seat t s.at in omega arith)
     pick mark (yes inside) =
-        let base = h.base in
+        let above = h.above in
         absurd ((s.rule.settling.below to (omega arith) inside).unmarked
         (mark t (learns_self t) s.moment s.rule s.seat s.at))
 
@@ -85,7 +85,7 @@ few_behind t to s h =
         let few = s.rule.limit.few in
         omega arith
     pick mark (yes less) =
-        let base = h.base in
+        let above = h.above in
         let r = s.rule in
         let there : s.moment.dir to ≢ 0 = published (s.moment.dir to) Mark mark in
         let within = r.limit.within in

@@ -1,5 +1,5 @@
 -- Numbers that a pass knows to be published.
-use Rattle.std.proofs.Common.{◌≡◌, ℕ, ◌<◌, ap, ◌∙◌, arith}
+use Rattle.std.proofs.Common.{◌≡◌, ℕ, ◌<◌, ◌≤◌, ap, arith}
 use Rattle.fish_catalog.specs.declared.entry.Entry.{Entry}
 use Rattle.fish_lanes.specs.Published.{IsPublished}
 use Rattle.fish_rule.proofs.laws.Moments.{entry_word}
@@ -15,14 +15,14 @@ told_published v n e tells below = record {
   entry = λ u learns w r j at. entry_word w n e (tells u learns w r j at);
 }
 
--- and so is one below the settled one, in a log that begins at 0
-pub settled_published : (v : View) (n : ℕ) → v.about.number ≡ 0 → n < v.learned.settled → n < v.learned.count → IsPublished v n
+-- and so is one of the table below the settled one
+pub settled_published : (v : View) (n : ℕ) → v.about.number ≤ n → n < v.learned.settled → n < v.learned.count → IsPublished v n
 settled_published v n base below counted = record {
   counted = counted;
   entry = λ u learns w r j at.
       let more = learns.settled in
       let floor = r.floors j u at in
-      let same : u.about.number ≡ 0 = ap (λ (z : Key). z.number) learns.about ∙ base in
+      let same : u.about.number ≡ v.about.number = ap (λ (z : Key). z.number) learns.about in
       r.settling.below n (omega arith) (omega arith);
 }
 

@@ -5,7 +5,7 @@ use Rattle.fish_lanes.proofs.Covering.{read_later}
 use Rattle.fish_lanes.proofs.Plans.{fit_so, plans_longer, plans_more}
 use Rattle.fish_lanes.proofs.Registrations.{after_more, registry_later}
 use Rattle.fish_lanes.specs.Doing.{IsFit}
-use Rattle.fish_lanes.specs.Plans.{TellsPlans}
+use Rattle.fish_lanes.specs.Plans.{KnowsRows, TellsPlans}
 use Rattle.fish_lanes.specs.Registering.{Registry, after, after_all}
 use Rattle.fish_lanes.specs.Running.{IsFree, SayPlans}
 use Rattle.fish_lanes.specs.Spans.{answers}
@@ -37,9 +37,9 @@ said_more v u t works items w x stands h learns free fit both size = record {
   learns = both;
   plans = λ r read registry rows from bounds low.
       let settled = h.learns.settled in
-      plans_more t r rows from works (w ∷ []) items x h.size
+      plans_more (KnowsRows t) r rows from works (w ∷ []) items x h.size
       (plans_on v u t r works items learns (h.plans r read registry) rows from bounds low)
-      (subst (λ (z : Registry). TellsPlans t z.rows rows from w x) (sym (h.same r))
+      (subst (λ (z : Registry). TellsPlans (KnowsRows t) z.rows rows from w x) (sym (h.same r))
       (fit_so u t r rows from stands learns (read_later v u r.rows h.learns read) (registry_later v u r h.learns registry) bounds
       (omega arith) w x fit));
 }
@@ -48,5 +48,5 @@ said_more v u t works items w x stands h learns free fit both size = record {
 pub said_cut : (v u t : View) (works : List Work) (items : List Item) (later : List Work) → HasSaid v u works items → Learns u t
     → SayPlans v t (works ++ later) items
 said_cut v u t works items later h learns r read registry rows from bounds low =
-    plans_longer t r rows from works later items h.size
+    plans_longer (KnowsRows t) r rows from works later items h.size
     (plans_on v u t r works items learns (h.plans r read registry) rows from bounds low)

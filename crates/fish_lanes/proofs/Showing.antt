@@ -13,6 +13,7 @@ use Rattle.fish_lanes.specs.declared.work.Work.TheVariants as work
 use Rattle.fish_report.specs.declared.item.Item.{Item}
 use Rattle.fish_report.specs.declared.item.Item.TheVariants as item
 use Rattle.fish_rule.specs.Views.{Among}
+use Rattle.fish_rule.specs.declared.view.Key.{Key}
 use Rattle.fish_rule.specs.declared.view.View.{View}
 
 -- the number up to which all is settled, and whether one is told
@@ -31,24 +32,24 @@ shows_none : (x y : Item) (s : Shown) (P : Type 0) → x ≡ y → shown_by y �
 shows_none x y s P is none m =
     elim (subst (λ (z : List Shown). Among s z) none (subst (λ (z : Item). Among s (shown_by z)) is m)) [ ]
 
-module _ (u t : View) (zero_now : u.about.number ≡ 0) (zero_then : t.about.number ≡ 0) where
-  -- what it shows is published
+module _ (u t : View) (about : t.about ≡ u.about) where
+  -- what it shows of the table is published
   pub item_shown : (w : Work) (x : Item) (n : ℕ) (s : Shown) → IsFit u t w x → Among s (shown_by x) → IsShown n s
-      → IsPublished t n
-  item_shown (work.Register name def) x n s (inl f) m sh = shows_none x _ s (IsPublished t n) f.2 refl m
-  item_shown (work.Register name def) x n s (inr (inl f)) m sh = shows_none x _ s (IsPublished t n) f.3 refl m
-  item_shown (work.Register name def) x n s (inr (inr f)) m sh = shows_none x _ s (IsPublished t n) f.1 refl m
-  item_shown (work.Deregister name) x n s (inl f) m sh = shows_none x _ s (IsPublished t n) f.2 refl m
-  item_shown (work.Deregister name) x n s (inr f) m sh = shows_none x _ s (IsPublished t n) f.1 refl m
-  item_shown (work.Ingest form header name file) x n s (inl f) m sh = elim (subst (λ (z : Item). Among s (shown_by z)) f.is m) [ ]
-  item_shown (work.Ingest form header name file) x n s (inr (inl f)) m sh = refused (subst (λ (z : Item). Among s (shown_by z)) f.is m)
+      → t.about.number ≤ n → IsPublished t n
+  item_shown (work.Register name def) x n s (inl f) m sh low = shows_none x _ s (IsPublished t n) f.2 refl m
+  item_shown (work.Register name def) x n s (inr (inl f)) m sh low = shows_none x _ s (IsPublished t n) f.3 refl m
+  item_shown (work.Register name def) x n s (inr (inr f)) m sh low = shows_none x _ s (IsPublished t n) f.1 refl m
+  item_shown (work.Deregister name) x n s (inl f) m sh low = shows_none x _ s (IsPublished t n) f.2 refl m
+  item_shown (work.Deregister name) x n s (inr f) m sh low = shows_none x _ s (IsPublished t n) f.1 refl m
+  item_shown (work.Ingest form header name file) x n s (inl f) m sh low = elim (subst (λ (z : Item). Among s (shown_by z)) f.is m) [ ]
+  item_shown (work.Ingest form header name file) x n s (inr (inl f)) m sh low = refused (subst (λ (z : Item). Among s (shown_by z)) f.is m)
     where
       refused : Among s (claimed f.line f.lines f.end ∷ []) → IsPublished t n
       refused (inr none) = elim none [ ]
       refused (inl e) = elim (subst (IsShown n) (sym e) sh) [ ]
-  item_shown (work.Ingest form header name file) x n s (inr (inr f)) m sh =
+  item_shown (work.Ingest form header name file) x n s (inr (inr f)) m sh low =
       elim (subst (λ (z : Item). Among s (shown_by z)) f.is m) [ ]
-  item_shown (work.Scan ask) x n s (inl f) m sh =
+  item_shown (work.Scan ask) x n s (inl f) m sh low =
       scanned f (subst (λ (z : Item). Among s (shown_by z)) f.is m)
     where
       scanned : (f : FitsScanned u t ask x) → Among s (range f.from f.to f.opens ∷ []) → IsPublished t n
@@ -57,11 +58,11 @@ module _ (u t : View) (zero_now : u.about.number ≡ 0) (zero_then : t.about.num
           let r = f.fits.answer.explained.planned.range in
           let i = subst (IsShown n) (sym e) sh in
           range_published u t ask f.from f.to f.opens n r
-          zero_now i.0 i.1 i.2
-  item_shown (work.Scan ask) x n s (inr f) m sh = elim (subst (λ (z : Item). Among s (shown_by z)) f.is m) [ ]
-  item_shown (work.Explain ask) x n s (inl f) m sh = elim (subst (λ (z : Item). Among s (shown_by z)) f.is m) [ ]
-  item_shown (work.Explain ask) x n s (inr f) m sh = elim (subst (λ (z : Item). Among s (shown_by z)) f.is m) [ ]
-  item_shown work.Checkpoint x n s f m sh = checked f (subst (λ (z : Item). Among s (shown_by z)) f.is m)
+          (let same : t.about.number ≡ u.about.number = ap (λ (z : Key). z.number) about in omega arith) i.0 i.1 i.2
+  item_shown (work.Scan ask) x n s (inr f) m sh low = elim (subst (λ (z : Item). Among s (shown_by z)) f.is m) [ ]
+  item_shown (work.Explain ask) x n s (inl f) m sh low = elim (subst (λ (z : Item). Among s (shown_by z)) f.is m) [ ]
+  item_shown (work.Explain ask) x n s (inr f) m sh low = elim (subst (λ (z : Item). Among s (shown_by z)) f.is m) [ ]
+  item_shown work.Checkpoint x n s f m sh low = checked f (subst (λ (z : Item). Among s (shown_by z)) f.is m)
     where
       checked : (f : FitsCheckpoint u t x) → Among s (settled f.count ∷ []) → IsPublished t n
       checked f (inr none) = elim none [ ]
@@ -69,7 +70,7 @@ module _ (u t : View) (zero_now : u.about.number ≡ 0) (zero_then : t.about.num
           let below : n < f.count = subst (IsShown n) (sym e) sh in
           let a = f.settled in
           let b = f.counted in
-          settled_published t n zero_then (omega arith) (omega arith)
+          settled_published t n low (omega arith) (omega arith)
 
   -- and what it says is settled is
   pub item_settles : (w : Work) (x : Item) (k : ℕ) → IsFit u t w x → Among (settled k) (shown_by x) → k ≤ t.learned.settled

@@ -99,7 +99,8 @@ same_end v u end settled count h learns s least most counted ends =
     pick mark (no not_less) = (let low = h.settled in omega arith)
     pick mark (yes inside) =
         let floor = s.rule.floors s.seat u s.at in
-        let base : u.about.number ≡ 0 = ap (λ (z : Key). z.number) learns.about ∙ h.base in
+        let same : u.about.number ≡ v.about.number = ap (λ (z : Key). z.number) learns.about in
+        let above = h.above in
         absurd ((s.rule.settling.below end (omega arith) (omega arith)).unmarked (mark u learns s.moment s.rule s.seat s.at))
 
 -- so is that of a scan
@@ -124,7 +125,7 @@ module _ (v u : View) (end : ℕ) (h : HasEnd v end) (learns : Learns v u) (s : 
       let here = at (record { number = high tail.0; line = low tail.0 }) tail.1 in
       let same = tail.2 in
       ⊎_elim (λ (e : end ≡ h.count). omega arith)
-      (λ (m : (end < h.count) × TellsMark v end). absurd (no_mark v end stood h.alone unshut (let base = h.base in omega arith) m.1))
+      (λ (m : (end < h.count) × TellsMark v end). absurd (no_mark v end stood h.alone unshut h.above m.1))
       h.ends
 
   boundary_at : (x : Item) → Stands v → TellsTail v x → IsBoundaryAt v.shut end x

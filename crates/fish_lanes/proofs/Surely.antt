@@ -1,20 +1,20 @@
--- From what a pass knows to what the closed log shows.
-use Rattle.std.proofs.Common.{◌≡◌, ℕ, ◌<◌, ◌≤◌, suc, List, [], ◌∷◌, length, refl, subst, inl, inr, ◌⊎◌, ⊎_elim, arith}
+-- From what a pass knows to what the whole shows of the lanes' records.
+use Rattle.std.proofs.Common.{◌≡◌, ℕ, ◌+◌, ◌-◌, ◌<◌, ◌≤◌, suc, List, [], ◌∷◌, length, refl, ap, subst, inr, ◌⊎◌, ⊎_elim, arith}
 use Rattle.std.proofs.Common.{Some, slice_get}
+use Rattle.std.proofs.Math.Decide.{dec_lt}
 use Rattle.fish_catalog.specs.declared.entry.Entry.{Entry}
 use Rattle.fish_catalog.specs.declared.entry.Entry.TheVariants as entry
 use Rattle.fish_lanes.proofs.Exact.{StandAt, rows_exact}
-use Rattle.fish_lanes.proofs.Logs.{ends_count, ends_mark, entry_at, entry_in, settled_within}
-use Rattle.fish_lanes.specs.Closing.{Claim, Later, Sure, Will}
+use Rattle.fish_lanes.proofs.RowLists.{ascends_lower}
 use Rattle.fish_lanes.specs.Ending.{HasEnd}
 use Rattle.fish_lanes.specs.Gains.{AreTold}
 use Rattle.fish_lanes.specs.Records.{Ascends, HasNumber, LaneRow, entry_of, rows_of_lane}
-use Rattle.fish_rule.proofs.laws.ClosedLogs.{always_closed}
-use Rattle.fish_rule.proofs.laws.Moments.{before_mark, claimed, entry_word, stored_by}
-use Rattle.fish_rule.proofs.laws.Learning.{learns_both, learns_self}
+use Rattle.fish_rule.proofs.laws.ClosedLogs.{always_closed, entry_at, settled_within}
+use Rattle.fish_rule.proofs.laws.Moments.{before_mark, claimed, entry_word, get_here, stored_by, there_is}
+use Rattle.fish_rule.proofs.laws.Learning.{learns_self}
 use Rattle.fish_rule.proofs.laws.Regions.{published}
 use Rattle.fish_rule.specs.ChainFacts.{Always}
-use Rattle.fish_rule.specs.Logs.{IsEntry, Learns, Tells, TellsMark}
+use Rattle.fish_rule.specs.Logs.{IsEntry, Tells, TellsMark}
 use Rattle.fish_rule.specs.ClosedLog.{IsClosed}
 use Rattle.fish_rule.specs.declared.close.Remains.{Remains}
 use Rattle.fish_rule.specs.Parts.{IsEntryWord, Rests}
@@ -22,82 +22,53 @@ use Rattle.fish_rule.specs.Regions.{code}
 use Rattle.fish_rule.specs.Table.{Stands}
 use Rattle.fish_rule.specs.Views.{Among, Has}
 use Rattle.fish_rule.specs.World.{World, high, low}
+use Rattle.fish_rule.specs.declared.view.Key.{Key}
 use Rattle.fish_rule.specs.declared.view.Kind.TheVariants.{Mark, Stored}
 use Rattle.fish_rule.specs.declared.view.Own.{Own}
 use Rattle.fish_rule.specs.declared.view.View.{View}
 use Rattle.fish_value.specs.declared.field.Form.{Form}
+use Rattle.fish_whole.proofs.Entries.{entry_there, settled_there, sure_entry, sure_settled}
+use Rattle.fish_whole.proofs.Wholes.{may_hold}
+use Rattle.fish_whole.specs.Whole.{MayEnd, MayHold, Whole, Will}
 
--- ---- what is sure stays sure
+-- ---- the end of a table
 
-pub sure_later : (v u : View) (Q : Claim) → Learns v u → Sure v Q → Sure u Q
-sure_later v u Q learns all x remains base more = all x remains base (learns_both v u x learns more)
-
-pub sure_both : (v : View) (P Q R : Claim) → ((x : View) (log : List Entry) → P x log → Q x log → R x log) → Sure v P
-    → Sure v Q → Sure v R
-sure_both v P Q R f p q u remains base more c = f u remains.log (p u remains base more c) (q u remains base more c)
-
-pub later_self : (v : View) → Later v v
-later_self v = record { learns = learns_self v; gained = λ o m. inl m }
-
-pub later_both : (a b c : View) → Later a b → Later b c → Later a c
-later_both a b c p q = record {
-  learns = learns_both a b c p.learns q.learns;
-  gained = λ o m.
-      let counted = p.learns.count in
-      ⊎_elim (λ (n : Among o b.own). p.gained o n) (λ (n : b.learned.count ≤ o.number). inr (omega arith)) (q.gained o m);
-}
-
-pub will_later : (v u : View) (Q : Claim) → Later v u → Will v Q → Will u Q
-will_later v u Q later all x remains base main none more = all x remains base main none (later_both v u x later more)
-
-pub sure_will : (v : View) (Q : Claim) → Sure v Q → Will v Q
-sure_will v Q all u remains base main none later = all u remains base later.learns
-
--- ---- one number
-
--- an entry that is told stands in the log
-pub sure_entry : (v : View) (n : ℕ) (e : Entry) → Tells v n e → Sure v (λ x log. slice_get log n ≡ Some e)
-sure_entry v n e tells u remains base learns c =
-    entry_in c.rule remains.log base c.log n e
-    (always_closed v u (λ k w. IsEntry w n e) remains learns c tells)
-
--- and rows that are told
-pub sure_rows : (v : View) (lane : ℕ) (from to : ℕ) (rows : List LaneRow) → AreTold v lane rows → (u : View) (remains : Remains)
-    → u.about.number ≡ 0 → Learns v u → IsClosed u remains → (within : from ≤ to) (inside : to ≤ length remains.log)
-    → StandAt remains.log from to lane within inside rows
-sure_rows v lane from to [] told u remains base learns c within inside = tt
-sure_rows v lane from to (r ∷ rows) told u remains base learns c within inside = (
-  sure_entry v r.number (entry_of lane r) told.0 u remains base learns c,
-  sure_rows v lane from to rows told.1 u remains base learns c within inside,
-)
-
--- ---- the length
-
--- what is settled is within the log
-pub sure_settled : (v : View) (n : ℕ) → n ≤ v.learned.settled → Sure v (λ x log. n ≤ length log)
-sure_settled v n less u remains base learns c =
-    let floor = c.rule.floors c.seat c.last c.at in
-    let a = learns.settled in
-    let b = c.later.settled in
-    let d = settled_within c.rule remains.log base c.log in
-    omega arith
-
--- the log ends where the pass knows that it does
-pub closed_length : (v : View) (to : ℕ) (remains : Remains) → HasEnd v to → IsClosed v remains → length remains.log ≡ to
+-- the log of a table ends where its pass knows that it does
+pub closed_length : (v : View) (to : ℕ) (remains : Remains) → HasEnd v to → IsClosed v remains
+    → v.about.number + length remains.log ≡ to
 closed_length v to remains h c =
-    let up = sure_settled v to h.settled v remains h.base (learns_self v) c in
+    let floor = c.rule.floors c.seat c.last c.at in
+    let a = h.settled in
+    let b = c.later.settled in
+    let above = h.above in
+    let up = settled_within c.rule remains.log c.log in
     let t = h.tail in
     let rests : Rests c.moment.count c.moment.line (Some (record { number = high t.0; line = low t.0 })) =
     subst (Rests c.moment.count c.moment.line) t.1 c.rests in
     let count : high t.0 ≡ c.moment.count = rests.0 in
     let same : high t.0 ≡ h.count = t.2 in
-    let few = ends_count c.rule remains.log h.base c.log in
+    let few = c.log.within in
     ⊎_elim (λ (e : to ≡ h.count). omega arith)
     (λ (m : (to < h.count) × TellsMark v to).
     let mark : high (c.moment.dir to) ≡ code Mark =
     always_closed v v (λ k w. high (w.dir to) ≡ code Mark) remains (learns_self v) c m.1 in
-    let less = ends_mark c.rule remains.log h.base c.log to mark in
-    omega arith) h.ends
+    pick mark (dec_lt to (v.about.number + length remains.log))) h.ends
+  where
+    pick : high (c.moment.dir to) ≡ code Mark → Dec (to < v.about.number + length remains.log)
+        → v.about.number + length remains.log ≡ to
+    pick mark (no not_less) =
+        let floor = c.rule.floors c.seat c.last c.at in
+        let a = h.settled in
+        let b = c.later.settled in
+        let up = settled_within c.rule remains.log c.log in
+        omega arith
+    pick mark (yes inside) =
+        let above = h.above in
+        let i : ℕ = to - v.about.number in
+        let is : v.about.number + i ≡ to = omega arith in
+        let t = there_is remains.log i (omega arith) in
+        let e : IsEntry c.moment (v.about.number + i) t.0 = entry_at c.rule remains.log c.log i t.0 (get_here remains.log i t.0 t.1) in
+        absurd ((entry_word c.moment to t.0 (subst (λ (z : ℕ). IsEntry c.moment z t.0) is e)).unmarked mark)
 
 -- ---- a pass that knows the end
 
@@ -118,7 +89,7 @@ own_before v to o s h m =
     subst (Rests w.count w.line) t.1 (r.tails s.seat v s.at h.alone.main h.alone.all) in
     let count : high t.0 ≡ w.count = rests.0 in
     let same : high t.0 ≡ h.count = t.2 in
-    let base = h.base in
+    let above = h.above in
     ⊎_elim (λ (e : to ≡ h.count). omega arith)
     (λ (m : (to < h.count) × TellsMark v to).
     before_mark r to o.number (omega arith) (m.1 v (learns_self v) w r s.seat s.at)
@@ -139,7 +110,7 @@ entry_before v to n s h known =
     subst (Rests w.count w.line) t.1 (r.tails s.seat v s.at h.alone.main h.alone.all) in
     let count : high t.0 ≡ w.count = rests.0 in
     let same : high t.0 ≡ h.count = t.2 in
-    let base = h.base in
+    let above = h.above in
     ⊎_elim (λ (e : to ≡ h.count). omega arith)
     (λ (m : (to < h.count) × TellsMark v to).
     before_mark r to n (omega arith) (m.1 v (learns_self v) w r s.seat s.at) word) h.ends
@@ -148,32 +119,59 @@ entry_before v to n s h known =
 pub told_before : (v : View) (to n : ℕ) (e : Entry) → Stands v → HasEnd v to → Tells v n e → n < to
 told_before v to n e s h tells = entry_before v to n s h (λ u learns w r seat at. entry_word w n e (tells u learns w r seat at))
 
--- ---- the records of all lanes
+-- the table begins no later than what it settled before
+pub end_above : (v : View) (from : ℕ) → HasEnd v from → v.about.number ≤ v.learned.settled
+end_above v from h = (let a = h.above in let b = h.settled in omega arith)
 
--- a record between the end before a block and the end behind it is of a lane of which the control pass has a record there
-pub will_own : (u : View) (from to many : ℕ) → HasEnd u to
-    → ((o : Own) → Among o u.own → (o.number < from) ⊎ (o.lane ≤ many))
-    → Will u (λ x log. (n lane : ℕ) (form : Form) (payload : List ℕ) → from ≤ n → n < to
-    → slice_get log n ≡ Some (entry.Stored lane form payload) → (1 ≤ lane) × (lane ≤ many))
-will_own u from to many end all x remains base main none later c n lane form payload above below is =
-    let e = entry_at c.rule remains.log base c.log n (entry.Stored lane form payload) is in
+-- ---- the records of lanes
+
+-- a record of the whole in the table before its end is among the control pass's own
+stored_own : (past : Whole) (u : View) (to : ℕ) (w : Whole) → MayEnd past u w → (end : HasEnd u to) → (n lane : ℕ) (form : Form)
+    (payload : List ℕ) → u.about.number ≤ n → n < to → slice_get w.log n ≡ Some (entry.Stored lane form payload)
+    → (1 ≤ lane) × Among (record { lane = lane; number = n }) u.own
+stored_own past u to w m end n lane form payload above below is =
+    let c = m.closed in
+    let h = may_hold past u w m in
+    let base = m.base in
+    let same : m.last.about.number ≡ u.about.number = ap (λ (z : Key). z.number) m.later.learns.about in
+    let inside = settled_there past u w h to end.settled in
+    let e : IsEntry c.moment n (entry.Stored lane form payload) =
+    entry_there past u w h n (entry.Stored lane form payload) (omega arith) (omega arith) is in
     let proper = e.1.spells.proper in
     let lane_is = e.1.lane_is in
     let some_ : 1 ≤ lane = (let a = proper.some_lane in omega arith) in
     let few : lane ≤ 16 = (let a = proper.lane in omega arith) in
     let by = stored_by c.rule n lane form payload (omega arith) e in
     let o : Own = record { lane = lane; number = n } in
-    let has : Has x.lane x.out lane = (some_, few, inr (main, λ m. elim (subst (Among lane) none m) [ ])) in
-    let own : Among o x.own = c.owns.complete o has by in
+    let has : Has m.last.lane m.last.out lane = (some_, few, inr (m.main, λ x. elim (subst (Among lane) m.all x) [ ])) in
+    let own : Among o m.last.own = c.owns.complete o has by in
     let counted = end.counted in
     let ends = end_counted u to end in (
       some_,
-      ⊎_elim
-          (λ (m : Among o u.own). ⊎_elim (λ (less : n < from). absurd (omega arith)) (λ (h : lane ≤ many). h) (all o m))
-          (λ (late : u.learned.count ≤ n). absurd (omega arith)) (later.gained o own),
+      ⊎_elim (λ (x : Among o u.own). x) (λ (late : u.learned.count ≤ n). absurd (omega arith)) (m.later.gained o own),
     )
 
--- ---- the rows of a lane
+-- a record between the end before a block and the end behind it is of a lane of which the control pass has a record there
+pub will_own : (past : Whole) (u : View) (from to many : ℕ) → HasEnd u to → u.about.number ≤ from
+    → ((o : Own) → Among o u.own → (o.number < from) ⊎ (o.lane ≤ many))
+    → Will past u (λ w. (n lane : ℕ) (form : Form) (payload : List ℕ) → from ≤ n → n < to
+    → slice_get w.log n ≡ Some (entry.Stored lane form payload) → (1 ≤ lane) × (lane ≤ many))
+will_own past u from to many end based all w m n lane form payload above below is =
+    let own = stored_own past u to w m end n lane form payload (omega arith) below is in (
+      own.0,
+      ⊎_elim (λ (less : n < from). absurd (omega arith)) (λ (h : lane ≤ many). h) (all (record { lane = lane; number = n }) own.1),
+    )
+
+-- rows that are told stand in the whole
+rows_stand : (past : Whole) (v : View) (lane from to : ℕ) (rows : List LaneRow) (w : Whole) → MayHold past v w → AreTold v lane rows
+    → (within : from ≤ to) (inside : to ≤ length w.log) (low_ : ℕ) → length past.log ≤ low_ → Ascends low_ rows to
+    → StandAt w.log from to lane within inside rows
+rows_stand past v lane from to [] w m told within inside low_ base up = tt
+rows_stand past v lane from to (r ∷ rows) w m told within inside low_ base up =
+    let above = up.0 in (
+      sure_entry past v r.number (entry_of lane r) (omega arith) told.0 w m,
+      rows_stand past v lane from to rows w m told.1 within inside (suc r.number) (omega arith) up.1,
+    )
 
 -- numbers that ascend below one end below another where each of them does
 ascends_before : (v : View) (lane from high_ to : ℕ) (rows : List LaneRow) → Stands v → HasEnd v to → from ≤ to
@@ -185,24 +183,20 @@ ascends_before v lane from high_ to (r ∷ rows) s h le told up =
 
 -- from the end before a block up to the end behind it they are the rows that the lane's pass gained, where the control
 -- pass has no others of the lane
-pub will_rows : (u : View) (lane from to low_ high_ : ℕ) (rows : List LaneRow) → Stands u → HasEnd u to → 1 ≤ lane → lane ≤ 16
-    → from ≤ to → from ≤ low_ → AreTold u lane rows → Ascends low_ rows high_
+pub will_rows : (past : Whole) (u : View) (lane from to low_ high_ : ℕ) (rows : List LaneRow) → Stands u → HasEnd u to
+    → u.about.number ≤ from → from ≤ to → from ≤ low_ → AreTold u lane rows → Ascends low_ rows high_
     → ((o : Own) → Among o u.own → o.lane ≡ lane → (o.number < from) ⊎ HasNumber o.number rows)
-    → Will u (λ x log. rows_of_lane log from to lane ≡ rows)
-will_rows u lane from to low_ high_ rows s end some_ few within from_ told up all x remains base main none later c =
-    let inside : to ≤ length remains.log = sure_settled u to end.settled x remains base later.learns c in
+    → Will past u (λ w. rows_of_lane w.log from to lane ≡ rows)
+will_rows past u lane from to low_ high_ rows s end based within from_ told up all w m =
+    let h = may_hold past u w m in
+    let base = m.base in
+    let same : m.last.about.number ≡ u.about.number = ap (λ (z : Key). z.number) m.later.learns.about in
+    let inside : to ≤ length w.log = sure_settled past u to end.settled w h in
     let up' : Ascends from rows to = ascends_before u lane from high_ to rows s end within told
-    (Rattle.fish_lanes.proofs.RowLists.ascends_lower from low_ high_ rows from_ up) in
-    rows_exact remains.log from to lane within inside rows up'
-    (sure_rows u lane from to rows told x remains base later.learns c within inside)
+    (ascends_lower from low_ high_ rows from_ up) in
+    rows_exact w.log from to lane within inside rows up'
+    (rows_stand past u lane from to rows w h told within inside from (omega arith) up')
     (λ n form payload above below is.
-    let by = stored_by c.rule n lane form payload (omega arith)
-    (entry_at c.rule remains.log base c.log n (entry.Stored lane form payload) is) in
-    let o : Own = record { lane = lane; number = n } in
-    let has : Has x.lane x.out lane = (some_, few, inr (main, λ m. elim (subst (Among lane) none m) [ ])) in
-    let own : Among o x.own = c.owns.complete o has by in
-    let counted = end.counted in
-    let ends = end_counted u to end in
-    ⊎_elim
-    (λ (m : Among o u.own). ⊎_elim (λ (less : n < from). absurd (omega arith)) (λ (h : HasNumber n rows). h) (all o m refl))
-    (λ (late : u.learned.count ≤ n). absurd (omega arith)) (later.gained o own))
+    let own = stored_own past u to w m end n lane form payload (omega arith) below is in
+    ⊎_elim (λ (less : n < from). absurd (omega arith)) (λ (k : HasNumber n rows). k)
+    (all (record { lane = lane; number = n }) own.1 refl))

@@ -31,6 +31,7 @@ use Rattle.fish_rule.specs.declared.view.Epoch.TheVariants.{Out}
 use Rattle.fish_rule.specs.declared.view.Own.{Own}
 use Rattle.fish_rule.specs.declared.view.View.{View}
 use Rattle.fish_value.specs.declared.field.Form.{Form}
+use Rattle.fish_whole.specs.Whole.{Claim, Whole}
 
 -- ---- lists of lanes
 
@@ -72,7 +73,6 @@ pub record CanGive (v : View) (lanes : List Lane) : Type 0 where
   pub all : v.out ≡ []
   pub idle : v.flight ≡ None
   pub outside : v.epoch ≡ Out
-  pub base : v.about.number ≡ 0
   pub few : length lanes < 16
   pub new : At (λ i x. IsNewLane (i + 2) x) lanes
   pub free : At (λ i x. All IsFree x.works) lanes
@@ -116,7 +116,6 @@ pub record AreDone (log : Log) (old new : List Lane) : Type 0 where
 
 -- the control pass may do the statements of the first lane
 pub record IsFirst (v : View) (r : Registrar) (x : Lane) : Type 0 where
-  pub base : v.about.number ≡ 0
   pub known : KnowsRegistry v (registry_of v r)
   pub acceptable : All IsAcceptable x.works
   pub empty : x.items ≡ []
@@ -230,19 +229,19 @@ abbrev pub StoresByLanes : Span → List Entry → ℕ → Type 0
 StoresByLanes s log many = (n lane : ℕ) (form : Form) (payload : List ℕ) → s.from ≤ n → n < s.to
     → slice_get log n ≡ Some (entry.Stored lane form payload) → (1 ≤ lane) × (lane ≤ many)
 
--- what a block tells of the one log: each lane's items, of its records between the two ends; there no other lane has stored any; and
+-- what a block tells of the whole log: each lane's items, of its records between the two ends; there no other lane has stored any; and
 -- the log goes up to the block's end
-pub record TellsBlock (v : View) (s : Span) (log : List Entry) (lanes : List Lane) : Type 0 where
-  pub each : At (λ i x. TellsLane v s log (rows_of_lane log s.from s.to (i + 1)) x.works x.items) lanes
-  pub own : StoresByLanes s log (length lanes)
-  pub within : s.to ≤ length log
+pub record TellsBlock (w : Whole) (s : Span) (lanes : List Lane) : Type 0 where
+  pub each : At (λ i x. TellsLane w s (rows_of_lane w.log s.from s.to (i + 1)) x.works x.items) lanes
+  pub own : StoresByLanes s w.log (length lanes)
+  pub within : s.to ≤ length w.log
 
 -- the same of the first lane, and of the others
-abbrev pub TellsFirst : Span → Lane → View → List Entry → Type 0
-TellsFirst s x v log = TellsLane v s log (rows_of_lane log s.from s.to 1) x.works x.items
+abbrev pub TellsFirst : Span → Lane → Claim
+TellsFirst s x w = TellsLane w s (rows_of_lane w.log s.from s.to 1) x.works x.items
 
-abbrev pub TellsOthers : Span → List Lane → View → List Entry → Type 0
-TellsOthers s lanes v log = At (λ i x. TellsLane v s log (rows_of_lane log s.from s.to (i + 2)) x.works x.items) lanes
+abbrev pub TellsOthers : Span → List Lane → Claim
+TellsOthers s lanes w = At (λ i x. TellsLane w s (rows_of_lane w.log s.from s.to (i + 2)) x.works x.items) lanes
 
 -- the items that tell of the definitions: those of the first lane, and the boundary that was found once the lanes had ended
 abbrev pub control_items : Lane → BlockEnd → List Item

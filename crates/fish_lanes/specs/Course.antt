@@ -47,6 +47,7 @@ pub record HasFoundEnd (u t : View) (q s : Registrar) (end : BlockEnd) : Type 0 
   pub stands : Stands bound
   pub knows : Knows bound s
   pub settles : OnlySettles bound t
+  pub rises : bound.learned.settled ≤ end.to
   pub settled : end.to ≤ t.learned.settled
   pub count : ℕ
   pub tail : HasTail t count

@@ -1,5 +1,4 @@
 pub mod Blocks
-pub mod Closing
 pub mod Controlling
 pub mod Course
 pub mod Doing

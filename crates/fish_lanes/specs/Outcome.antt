@@ -1,5 +1,6 @@
 -- What a block leaves and tells besides what its items tell of the log.
 use Rattle.std.specs.Prelude.{ℕ, ◌≡◌, ◌⊎◌, List, [], ◌∷◌, slice_get, Some, None}
+use Rattle.fish_catalog.specs.declared.listed.Listed.{Listed}
 use Rattle.fish_catalog.specs.declared.row.CatRow.{CatRow}
 use Rattle.fish_lanes.specs.Blocks.{At}
 use Rattle.fish_lanes.specs.Ending.{HasEnd}
@@ -41,8 +42,8 @@ pub record TellsShutBy (v u : View) (lanes : List Lane) : Type 0 where
 
 -- what the items of each lane say of plans, where the definitions in front of the block are these, the rows behind it those, and the
 -- log ended at a number before it
-abbrev pub LanesSayPlans : View → Registry → List CatRow → ℕ → List Lane → Type 0
-LanesSayPlans v r rows from lanes = At (λ i x. AreSoPlans v r rows from x.works x.items) lanes
+abbrev pub LanesSayPlans : (ℕ → List Listed → Type 0) → Registry → List CatRow → ℕ → List Lane → Type 0
+LanesSayPlans Are r rows from lanes = At (λ i x. AreSoPlans Are r rows from x.works x.items) lanes
 
 -- ---- one lane
 

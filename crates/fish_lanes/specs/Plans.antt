@@ -20,6 +20,7 @@ use Rattle.fish_scan.specs.Naming.{IsNewest}
 use Rattle.fish_scan.specs.declared.ask.Ask.{Ask}
 use Rattle.fish_scan.specs.declared.ask.How.{How}
 use Rattle.fish_scan.specs.declared.ask.How.TheVariants as how
+use Rattle.fish_whole.specs.Whole.{Whole}
 
 -- ---- numbers and pieces, by the rows that were told before, and by those that stand behind the block
 
@@ -55,50 +56,58 @@ pub record IsPlanOf (told rows : List CatRow) (from : ℕ) (text : List ℕ) (wa
 
 -- ---- items
 
--- the definitions at a version, by the words that the pass knows, and the newest that has the name asked for
-pub record IsNamedAt (v : View) (ask : Ask) (version : ℕ) : Type 0 where
+-- these are the definitions at a version, by the words that the pass knows, or in the whole
+abbrev pub KnowsRows : View → ℕ → List Listed → Type 0
+KnowsRows v version rows = KnowsDefinitions v.about v.learned version rows
+
+abbrev pub RowsAre : Whole → ℕ → List Listed → Type 0
+RowsAre w version rows = w.rows version ≡ rows
+
+-- definitions at a version, and the newest that has the name asked for
+pub record IsNamedAt (Are : ℕ → List Listed → Type 0) (ask : Ask) (version : ℕ) : Type 0 where
   pub rows : List Listed
-  pub knows : KnowsDefinitions v.about v.learned version rows
+  pub are : Are version rows
   pub place : ℕ
   pub newest : IsNewest rows ask.name place
 
 -- a plan, or a refusal, at a version: the text is that which the name means there
-pub record TellsPlanned (v : View) (told rows : List CatRow) (from : ℕ) (ask : Ask) (plan : List Piece) (version : ℕ) : Type 0 where
-  pub named : IsNamedAt v ask version
+pub record TellsPlanned (Are : ℕ → List Listed → Type 0) (told rows : List CatRow) (from : ℕ) (ask : Ask) (plan : List Piece)
+    (version : ℕ) : Type 0 where
+  pub named : IsNamedAt Are ask version
   pub plan_is : IsPlanOf told rows from named.newest.listed.def ask.how plan
 
-pub record TellsUncovered (v : View) (told rows : List CatRow) (ask : Ask) (begin end version : ℕ) : Type 0 where
-  pub named : IsNamedAt v ask version
+pub record TellsUncovered (Are : ℕ → List Listed → Type 0) (told rows : List CatRow) (ask : Ask) (begin end version : ℕ) : Type 0 where
+  pub named : IsNamedAt Are ask version
   pub none : HoldsNone told rows named.newest.listed.def begin end
 
-abbrev pub TellsPlansOf : View → List CatRow → List CatRow → ℕ → Ask → Item → Type 0
-TellsPlansOf v told rows from ask (item.Explained name value first last plan version) = TellsPlanned v told rows from ask plan version
-TellsPlansOf v told rows from ask (item.ExplainRefused name version (cause.NotCovered first last)) =
-    TellsUncovered v told rows ask first last version
-TellsPlansOf v told rows from ask (item.ScanRefused name version (cause.NotCovered first last)) =
-    TellsUncovered v told rows ask first last version
-TellsPlansOf v told rows from ask x = ⊤
+abbrev pub TellsPlansOf : (ℕ → List Listed → Type 0) → List CatRow → List CatRow → ℕ → Ask → Item → Type 0
+TellsPlansOf Are told rows from ask (item.Explained name value first last plan version) = TellsPlanned Are told rows from ask plan version
+TellsPlansOf Are told rows from ask (item.ExplainRefused name version (cause.NotCovered first last)) =
+    TellsUncovered Are told rows ask first last version
+TellsPlansOf Are told rows from ask (item.ScanRefused name version (cause.NotCovered first last)) =
+    TellsUncovered Are told rows ask first last version
+TellsPlansOf Are told rows from ask x = ⊤
 
 -- the item of a statement
-abbrev pub TellsPlans : View → List CatRow → List CatRow → ℕ → Work → Item → Type 0
-TellsPlans v told rows from (work.Scan ask) x = TellsPlansOf v told rows from ask x
-TellsPlans v told rows from (work.Explain ask) x = TellsPlansOf v told rows from ask x
-TellsPlans v told rows from w x = ⊤
+abbrev pub TellsPlans : (ℕ → List Listed → Type 0) → List CatRow → List CatRow → ℕ → Work → Item → Type 0
+TellsPlans Are told rows from (work.Scan ask) x = TellsPlansOf Are told rows from ask x
+TellsPlans Are told rows from (work.Explain ask) x = TellsPlansOf Are told rows from ask x
+TellsPlans Are told rows from w x = ⊤
 
 -- of the first of some statements
-abbrev pub TellsFirstPlans : View → List CatRow → List CatRow → ℕ → List Work → Item → Type 0
-TellsFirstPlans v told rows from [] x = ⊤
-TellsFirstPlans v told rows from (w ∷ works) x = TellsPlans v told rows from w x
+abbrev pub TellsFirstPlans : (ℕ → List Listed → Type 0) → List CatRow → List CatRow → ℕ → List Work → Item → Type 0
+TellsFirstPlans Are told rows from [] x = ⊤
+TellsFirstPlans Are told rows from (w ∷ works) x = TellsPlans Are told rows from w x
 
 -- the statements behind the item: a boundary that was found later answers none
 abbrev pub works_behind : Item → List Work → List Work
 works_behind x works = cond (is_answer x) (drop 1 works) works
 
 -- what the items of a lane say, where the definitions in front of them are these, and the rows behind the block those
-abbrev pub AreSoPlans : View → Registry → List CatRow → ℕ → List Work → List Item → Type 0
-AreSoPlans v r rows from works [] = ⊤
-AreSoPlans v r rows from works (x ∷ items) = TellsFirstPlans v r.rows rows from works x
-    × AreSoPlans v (after r x) rows from (works_behind x works) items
+abbrev pub AreSoPlans : (ℕ → List Listed → Type 0) → Registry → List CatRow → ℕ → List Work → List Item → Type 0
+AreSoPlans Are r rows from works [] = ⊤
+AreSoPlans Are r rows from works (x ∷ items) = TellsFirstPlans Are r.rows rows from works x
+    × AreSoPlans Are (after r x) rows from (works_behind x works) items
 
 -- ---- on the way
 
@@ -117,4 +126,4 @@ pub record AreBoundsIn (v : View) (rows : List CatRow) : Type 0 where
 -- between two views, the items of a lane say this of any rows whose boundaries its pass has read behind them
 abbrev pub PlansAreSoBy : View → View → Registry → List Work → List Item → Type 0
 PlansAreSoBy v u r works items = (rows : List CatRow) (from : ℕ) → AreBoundsIn u rows → from ≤ v.learned.settled
-    → AreSoPlans u r rows from works items
+    → AreSoPlans (KnowsRows u) r rows from works items

@@ -18,6 +18,7 @@ use Rattle.fish_report.specs.declared.item.RegisterCause.{RegisterCause}
 use Rattle.fish_report.specs.declared.item.RegisterCause.TheVariants as register
 use Rattle.fish_rule.specs.Registry.{KnowsDefinitions}
 use Rattle.fish_rule.specs.declared.view.View.{View}
+use Rattle.fish_whole.specs.Whole.{Whole}
 
 -- the rows, the id of the registration that waits for its boundary, and the version
 pub record Registry : Type 0 where
@@ -113,10 +114,20 @@ AreSo low high r (x ∷ items) = IsSo low high r x × AreSo low high (after r x)
 abbrev pub KnowsRegistry : View → Registry → Type 0
 KnowsRegistry v r = KnowsDefinitions v.about v.learned r.version (map listed_of r.rows)
 
--- in front of each item, and behind them all
+-- the whole has them at that version
+abbrev pub HasRegistry : Whole → Registry → Type 0
+HasRegistry w r = w.rows r.version ≡ map listed_of r.rows
+
+-- P holds of the registry in front of each item, and behind them all
+abbrev pub InEach : (Registry → Type 0) → Registry → List Item → Type 0
+InEach P r [] = P r
+InEach P r (x ∷ items) = P r × InEach P (after r x) items
+
 abbrev pub KnowsEach : View → Registry → List Item → Type 0
-KnowsEach v r [] = KnowsRegistry v r
-KnowsEach v r (x ∷ items) = KnowsRegistry v r × KnowsEach v (after r x) items
+KnowsEach v = InEach (KnowsRegistry v)
+
+abbrev pub HasEach : Whole → Registry → List Item → Type 0
+HasEach w = InEach (HasRegistry w)
 
 -- ---- what the control pass has of it
 

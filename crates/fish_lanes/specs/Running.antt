@@ -1,7 +1,6 @@
 -- What a lane asks of its pass, and what it leaves.
 use Rattle.std.specs.Prelude.{ℕ, ◌≡◌, ◌≢◌, ◌<◌, All, List, [], length, Some, ⊤}
 use Rattle.fish_ingest.specs.Ingestion.{CanStart}
-use Rattle.fish_lanes.specs.Closing.{Sure}
 use Rattle.fish_lanes.specs.Gains.{Gains, IsFullBy}
 use Rattle.fish_lanes.specs.Plans.{AreReadBounds, PlansAreSoBy}
 use Rattle.fish_lanes.specs.Records.{LaneRow}
@@ -22,6 +21,7 @@ use Rattle.fish_rule.specs.Views.{AllOf}
 use Rattle.fish_rule.specs.declared.table.Log.{Log}
 use Rattle.fish_rule.specs.declared.table.Pass.{Pass}
 use Rattle.fish_rule.specs.declared.view.View.{View}
+use Rattle.fish_whole.specs.Whole.{SureUpTo, Whole}
 
 -- an item that was refused since the log is full names the claim that shut the pass
 abbrev pub IsFullItem : View → Item → Type 0
@@ -39,11 +39,12 @@ IsFree (work.Register name def) = ⊥
 IsFree (work.Deregister name) = ⊥
 IsFree w = ⊤
 
--- what a pass left that did these statements
+-- what a pass left that did these statements; what their items tell is so of each whole whose table goes up to the block's end
 pub record HasRun (v u : View) (works : List Work) (items : List Item) (fault : LaneFault) : Type 0 where
   pub rows : List LaneRow
   pub gains : Gains v u rows
-  pub tells : (s : Span) → IsWithinSpan v u s → s.full ≡ v.shut → Sure u (λ x log. TellsLane x s log rows works items)
+  pub tells : (past : Whole) (s : Span) → IsWithinSpan v u s → s.full ≡ v.shut
+      → SureUpTo past u s.to (λ w. TellsLane w s rows works items)
   pub full : AllOf (IsFullItem u) items
   pub ended : IsEnded works items fault
   pub shuts : fault ≡ cause.None → TellsShut v u items
@@ -62,7 +63,6 @@ pub record IsReady (log : Log) (lane : Lane) : Type 0 where
   pub seat : Seated
   pub seat_is : lane.seat ≡ Some seat
   pub can : CanBegin log seat.pass
-  pub base : (view seat.pass).about.number ≡ 0
   pub empty : lane.items ≡ []
   pub free : All IsFree lane.works
 

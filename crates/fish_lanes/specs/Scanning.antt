@@ -1,4 +1,4 @@
--- What scans, and plans of scans, tell of the one log.
+-- What scans, and plans of scans, tell of the whole log.
 use Rattle.std.specs.Prelude.{ℕ, ◌≡◌, ◌+◌, ◌<◌, ◌≤◌, List, Some, length, map, min, slice_get}
 use Rattle.fish_catalog.specs.declared.entry.Entry.{Entry}
 use Rattle.fish_catalog.specs.declared.entry.Entry.TheVariants as entry
@@ -16,9 +16,7 @@ use Rattle.fish_report.specs.declared.item.Item.{Item}
 use Rattle.fish_report.specs.declared.item.Item.TheVariants as item
 use Rattle.fish_report.specs.declared.item.ScanCause.{ScanCause}
 use Rattle.fish_report.specs.declared.item.ScanCause.TheVariants as cause
-use Rattle.fish_rule.specs.Registry.{KnowsDefinitions}
 use Rattle.fish_rule.specs.Views.{Among}
-use Rattle.fish_rule.specs.declared.view.View.{View}
 use Rattle.fish_scan.specs.Naming.{HasNone, IsNewest}
 use Rattle.fish_scan.specs.Reach.{Rise}
 use Rattle.fish_scan.specs.Scans.{AreEmptyEnds, first_asked}
@@ -26,22 +24,23 @@ use Rattle.fish_scan.specs.declared.ask.Ask.{Ask}
 use Rattle.fish_scan.specs.declared.ask.How.TheVariants as how
 use Rattle.fish_value.specs.declared.field.Form.{Form}
 use Rattle.fish_value.specs.declared.row.Row.{Row}
+use Rattle.fish_whole.specs.Whole.{Whole}
 
 -- an entry as a selection reads it
 abbrev pub selected : Entry → log.Entry
 selected (entry.Stored lane form payload) = log.stored lane form payload
 selected entry.Void = log.void
 
--- at a version of the block the definitions are these, by the words that the pass knows
-pub record HasRows (v : View) (s : Span) (version : ℕ) (rows : List Listed) : Type 0 where
+-- at a version of the block the definitions of the whole are these
+pub record HasRows (w : Whole) (s : Span) (version : ℕ) (rows : List Listed) : Type 0 where
   pub least : s.first ≤ version
   pub most : version ≤ s.last
-  pub knows : KnowsDefinitions v.about v.learned version rows
+  pub are : w.rows version ≡ rows
 
 -- at such a version the name means the definition: it is that of the newest row with the name
-pub record Means (v : View) (s : Span) (version : ℕ) (name : List ℕ) (def : Definition) : Type 0 where
+pub record Means (w : Whole) (s : Span) (version : ℕ) (name : List ℕ) (def : Definition) : Type 0 where
   pub rows : List Listed
-  pub has : HasRows v s version rows
+  pub has : HasRows w s version rows
   pub place : ℕ
   pub newest : IsNewest rows name place
   pub accepted : IsAccepted newest.listed.def def
@@ -59,79 +58,80 @@ pub record IsAskedRange (s : Span) (ask : Ask) (from to : ℕ) : Type 0 where
   pub near : to ≤ s.to + 16
 
 -- the range holds all that the lane had seen, of the log and of what was asked for, and none of it is open
-pub record HoldsSeen (entries : List Entry) (seen : ℕ → Type 0) (ask : Ask) (from to : ℕ) (opens : List ℕ) : Type 0 where
-  pub each : (n : ℕ) → seen n → n < length entries → IsAskedFor ask n → (from ≤ n) × (n < to) × ¬ Among n opens
+pub record HoldsSeen (w : Whole) (seen : ℕ → Type 0) (ask : Ask) (from to : ℕ) (opens : List ℕ) : Type 0 where
+  pub each : (n : ℕ) → seen n → n < length w.log → IsAskedFor ask n → (from ≤ n) × (n < to) × ¬ Among n opens
 
--- the open numbers rise within the range, no two are stored by one lane, and every number behind the block is open, so that what a
--- scan shows lies below its block's end
-pub record AreOpen (s : Span) (entries : List Entry) (from to : ℕ) (opens : List ℕ) : Type 0 where
+-- the open numbers rise within the range, from a beginning on; no two below an end are stored by one lane, and every number from the end
+-- on is open, so that what a scan shows lies below it
+pub record AreOpen (begin end : ℕ) (entries : List Entry) (from to : ℕ) (opens : List ℕ) : Type 0 where
   pub rise : Rise from to opens
-  pub apart : (m n lane : ℕ) (f g : Form) (p q : List ℕ) → Among m opens → Among n opens
+  pub first : (n : ℕ) → Among n opens → begin ≤ n
+  pub apart : (m n lane : ℕ) (f g : Form) (p q : List ℕ) → Among m opens → Among n opens → m < end → n < end
       → slice_get entries m ≡ Some (entry.Stored lane f p) → slice_get entries n ≡ Some (entry.Stored lane g q) → m ≡ n
-  pub behind : (n : ℕ) → from ≤ n → n < to → s.to ≤ n → Among n opens
+  pub behind : (n : ℕ) → from ≤ n → n < to → end ≤ n → Among n opens
 
 -- a scan: its rows are exactly the records of the log in its range, less the open ones, on which the definition that the
 -- name means has the value, newest first
-pub record TellsScan (v : View) (s : Span) (entries : List Entry) (seen : ℕ → Type 0) (ask : Ask) (from to : ℕ) (opens : List ℕ)
+pub record TellsScan (w : Whole) (s : Span) (seen : ℕ → Type 0) (ask : Ask) (from to : ℕ) (opens : List ℕ)
     (rows : List Row) (version : ℕ) : Type 0 where
   pub range : IsAskedRange s ask from to
   pub def : Definition
-  pub means : Means v s version ask.name def
-  pub rows_are : rows ≡ select (map selected entries) (evaluation def) ask.value from to opens
-  pub holds : HoldsSeen entries seen ask from to opens
-  pub are_open : AreOpen s entries from to opens
+  pub means : Means w s version ask.name def
+  pub rows_are : rows ≡ select (map selected w.log) (evaluation def) ask.value from to opens
+  pub holds : HoldsSeen w seen ask from to opens
+  pub are_open : AreOpen s.from s.to w.log from to opens
 
 -- a plan: its pieces fill the range, each by an index is by one of a row with the text that the name means, and of numbers of
 -- the log, and it is one piece where the numbers are to be read one by one
-pub record TellsPlan (v : View) (s : Span) (entries : List Entry) (seen : ℕ → Type 0) (ask : Ask) (from to : ℕ) (plan : List Piece)
+pub record TellsPlan (w : Whole) (s : Span) (seen : ℕ → Type 0) (ask : Ask) (from to : ℕ) (plan : List Piece)
     (version : ℕ) : Type 0 where
   pub range : IsAskedRange s ask from to
   pub rows : List Listed
-  pub has : HasRows v s version rows
+  pub has : HasRows w s version rows
   pub place : ℕ
   pub newest : IsNewest rows ask.name place
   pub opens : List ℕ
-  pub holds : HoldsSeen entries seen ask from to opens
+  pub holds : HoldsSeen w seen ask from to opens
   pub fill : Fill plan from to
   pub indexed : (place id begin end : ℕ) → slice_get plan place ≡ Some (Index id begin end)
-      → (end ≤ length entries) × ((row : Listed) × (slice_get rows id ≡ Some row) × (row.def ≡ newest.listed.def))
+      → (end ≤ length w.log) × ((row : Listed) × (slice_get rows id ≡ Some row) × (row.def ≡ newest.listed.def))
   pub full : ask.how ≡ how.Full → plan ≡ one_full from to
 
 -- why neither was answered
-abbrev pub IsRefusedFor : View → Span → List Entry → Ask → ℕ → ScanCause → Type 0
-IsRefusedFor v s entries ask version cause.UnknownName =
-    (rows : List Listed) × HasRows v s version rows × HasNone rows ask.name
-IsRefusedFor v s entries ask version (cause.EmptyRange from to) = AreEmptyEnds ask from to
-IsRefusedFor v s entries ask version (cause.NotCovered from to) = (ask.how ≡ how.Index) × (from < to) × (to ≤ length entries)
+abbrev pub IsRefusedFor : Whole → Span → Ask → ℕ → ScanCause → Type 0
+IsRefusedFor w s ask version cause.UnknownName =
+    (rows : List Listed) × HasRows w s version rows × HasNone rows ask.name
+IsRefusedFor w s ask version (cause.EmptyRange from to) = AreEmptyEnds ask from to
+IsRefusedFor w s ask version (cause.NotCovered from to) = (ask.how ≡ how.Index) × (from < to) × (to ≤ length w.log)
     × (first_asked ask ≤ from) × ((end : ℕ) → ask.to ≡ Some end → to ≤ end)
 
 -- ---- items
 
 -- the item of a scan
-pub record TellsScanned (v : View) (s : Span) (entries : List Entry) (seen : ℕ → Type 0) (ask : Ask) (x : Item) : Type 0 where
+pub record TellsScanned (w : Whole) (s : Span) (seen : ℕ → Type 0) (ask : Ask) (x : Item) : Type 0 where
   pub from : ℕ
   pub to : ℕ
   pub opens : List ℕ
   pub rows : List Row
   pub version : ℕ
   pub is : x ≡ item.Scanned ask.name ask.value from to opens rows version
-  pub tells : TellsScan v s entries seen ask from to opens rows version
+  pub tells : TellsScan w s seen ask from to opens rows version
 
 -- of a plan
-pub record TellsExplained (v : View) (s : Span) (entries : List Entry) (seen : ℕ → Type 0) (ask : Ask) (x : Item) : Type 0 where
+pub record TellsExplained (w : Whole) (s : Span) (seen : ℕ → Type 0) (ask : Ask) (x : Item) : Type 0 where
   pub from : ℕ
   pub to : ℕ
   pub plan : List Piece
   pub version : ℕ
   pub is : x ≡ item.Explained ask.name ask.value from to plan version
-  pub tells : TellsPlan v s entries seen ask from to plan version
+  pub tells : TellsPlan w s seen ask from to plan version
 
 -- and of a refusal, at a version of the block
-pub record TellsRefused (v : View) (s : Span) (entries : List Entry) (ask : Ask) (refused : List ℕ → ℕ → ScanCause → Item) (x : Item)
+pub record TellsRefused (w : Whole) (s : Span) (ask : Ask) (refused : List ℕ → ℕ → ScanCause → Item) (x : Item)
     : Type 0 where
   pub version : ℕ
   pub why : ScanCause
   pub is : x ≡ refused ask.name version why
   pub least : s.first ≤ version
   pub most : version ≤ s.last
-  pub tells : IsRefusedFor v s entries ask version why
+  pub tells : IsRefusedFor w s ask version why

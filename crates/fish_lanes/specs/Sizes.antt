@@ -15,6 +15,7 @@ use Rattle.fish_rule.specs.Views.{Among}
 use Rattle.fish_rule.specs.declared.view.Shut.{Shut}
 use Rattle.fish_rule.specs.declared.view.View.{View}
 use Rattle.fish_value.specs.declared.field.Form.{Form}
+use Rattle.fish_whole.specs.Whole.{Whole}
 
 -- ---- sizes
 
@@ -27,10 +28,10 @@ pub record HasSize (rows : List Listed) (form : Form) (payload : List ℕ) (line
   pub lines_are : lines ≡ body_lines parts
 
 -- so they are at a version of the block
-pub record IsSizeOf (v : View) (s : Span) (form : Form) (payload : List ℕ) (lines : ℕ) : Type 0 where
+pub record IsSizeOf (w : Whole) (s : Span) (form : Form) (payload : List ℕ) (lines : ℕ) : Type 0 where
   pub version : ℕ
   pub rows : List Listed
-  pub has : HasRows v s version rows
+  pub has : HasRows w s version rows
   pub size : HasSize rows form payload lines
 
 -- so they are at a version that the pass knew between the two views

@@ -17,11 +17,12 @@ pub record Span : Type 0 where
   pub lanes : ℕ
   pub full : Option Shut
 
--- what a lane's pass knew at its start and knows at its end lies within the block; what it knows to be settled or an entry lies below
--- the block's end
+-- what a lane's pass knew at its start and knows at its end lies within the block, which begins in the pass's table; what it knows to be
+-- settled or an entry lies below the block's end
 pub record IsWithinSpan (v u : View) (s : Span) : Type 0 where
   pub first : s.first ≤ v.learned.version
   pub last : u.learned.version ≤ s.last
+  pub above : v.about.number ≤ s.from
   pub settled : s.from ≤ v.learned.settled
   pub counted : s.from ≤ v.learned.count
   pub near : u.learned.count ≤ s.to + 16

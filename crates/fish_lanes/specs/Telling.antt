@@ -1,6 +1,5 @@
--- What the items of a lane tell of the one log.
+-- What the items of a lane tell of the whole log.
 use Rattle.std.specs.Prelude.{ℕ, ◌≡◌, ◌<◌, ◌≤◌, ◌+◌, ◌⊎◌, ◌++◌, List, [], ◌∷◌, Option, Some, length, take}
-use Rattle.fish_catalog.specs.declared.entry.Entry.{Entry}
 use Rattle.fish_lang.specs.Canonical.{definition_text}
 use Rattle.fish_lang.specs.Definition.{definition_of}
 use Rattle.fish_lanes.specs.Records.{Content, HasNumber, LaneRow, contents}
@@ -15,9 +14,9 @@ use Rattle.fish_lines.specs.File.{accepted, outcomes, refused}
 use Rattle.fish_report.specs.declared.item.Item.{Item}
 use Rattle.fish_report.specs.declared.item.Item.TheVariants as item
 use Rattle.fish_rule.specs.Views.{Among}
-use Rattle.fish_rule.specs.declared.view.View.{View}
 use Rattle.fish_value.specs.Limits.{longest_file}
 use Rattle.fish_value.specs.declared.field.Form.{Form}
+use Rattle.fish_whole.specs.Whole.{Whole}
 
 -- payloads with their form
 abbrev pub all_of : Form → List (List ℕ) → List Content
@@ -60,7 +59,7 @@ pub record TellsStored (outs : List (Option (List ℕ))) (name file : List ℕ) 
 
 -- or only those in front of a record whose region ends past the log's end; its lines are those of that record, or those of the
 -- claim that found the log full before
-pub record TellsFull (v : View) (s : Span) (shown : List Shown) (form : Form) (outs : List (Option (List ℕ))) (name file : List ℕ)
+pub record TellsFull (w : Whole) (s : Span) (shown : List Shown) (form : Form) (outs : List (Option (List ℕ))) (name file : List ℕ)
     (x : Item) : Type 0 where
   pub line : ℕ
   pub lines : ℕ
@@ -71,7 +70,7 @@ pub record TellsFull (v : View) (s : Span) (shown : List Shown) (form : Form) (o
   pub within : length file ≤ longest_file
   pub counted : AreCountedUpTo outs stored many
   pub past : end < line + lines
-  pub size : IsEarlier s shown line lines end ⊎ IsSizeOf v s form counted.payload lines
+  pub size : IsEarlier s shown line lines end ⊎ IsSizeOf w s form counted.payload lines
 
 -- or the file is too long, and nothing of it is stored
 pub record TellsTooLong (name file : List ℕ) (x : Item) : Type 0 where
@@ -89,31 +88,31 @@ pub record TellsCheckpoint (s : Span) (before : List LaneRow) (shown : List Show
   pub rises : (earlier : ℕ) → Among (settled earlier) shown → earlier ≤ count
 
 -- what one item tells of its block, behind these rows of its lane and what was shown
-abbrev pub TellsItem : View → Span → List Entry → List LaneRow → List Shown → Work → Item → Type 0
-TellsItem v s log before shown (work.Register name def) x = IsRegisterItem name (definition_text (definition_of def)) x
-TellsItem v s log before shown (work.Deregister name) x = IsDeregisterItem name x
-TellsItem v s log before shown (work.Ingest form header name file) x = TellsStored (outcomes form header file) name file x
-    ⊎ (TellsFull v s shown form (outcomes form header file) name file x ⊎ TellsTooLong name file x)
-TellsItem v s log before shown (work.Scan ask) x = TellsScanned v s log (IsSeen s.from before shown) ask x
-    ⊎ TellsRefused v s log ask item.ScanRefused x
-TellsItem v s log before shown (work.Explain ask) x = TellsExplained v s log (IsSeen s.from before shown) ask x
-    ⊎ TellsRefused v s log ask item.ExplainRefused x
-TellsItem v s log before shown work.Checkpoint x = TellsCheckpoint s before shown x
+abbrev pub TellsItem : Whole → Span → List LaneRow → List Shown → Work → Item → Type 0
+TellsItem w s before shown (work.Register name def) x = IsRegisterItem name (definition_text (definition_of def)) x
+TellsItem w s before shown (work.Deregister name) x = IsDeregisterItem name x
+TellsItem w s before shown (work.Ingest form header name file) x = TellsStored (outcomes form header file) name file x
+    ⊎ (TellsFull w s shown form (outcomes form header file) name file x ⊎ TellsTooLong name file x)
+TellsItem w s before shown (work.Scan ask) x = TellsScanned w s (IsSeen s.from before shown) ask x
+    ⊎ TellsRefused w s ask item.ScanRefused x
+TellsItem w s before shown (work.Explain ask) x = TellsExplained w s (IsSeen s.from before shown) ask x
+    ⊎ TellsRefused w s ask item.ExplainRefused x
+TellsItem w s before shown work.Checkpoint x = TellsCheckpoint s before shown x
 
 -- ---- the items of a lane
 
 -- what the items of a lane tell: the rows are what they say is stored, one after the other; where statements are
 -- left without an item, the rest of the rows are the first payloads of the next statement
-abbrev pub TellsItems : View → Span → List Entry → List LaneRow → List Shown → List LaneRow → List Work → List Item → Type 0
-TellsItems v s log before shown rows [] [] = rows ≡ []
-TellsItems v s log before shown rows [] (x ∷ items) = ⊥
-TellsItems v s log before shown rows (w ∷ works) [] = (j : ℕ) × (contents rows ≡ take j (content_of w))
-TellsItems v s log before shown rows (w ∷ works) (x ∷ items) = (mine : List LaneRow) × (rest : List LaneRow)
+abbrev pub TellsItems : Whole → Span → List LaneRow → List Shown → List LaneRow → List Work → List Item → Type 0
+TellsItems w s before shown rows [] [] = rows ≡ []
+TellsItems w s before shown rows [] (x ∷ items) = ⊥
+TellsItems w s before shown rows (y ∷ works) [] = (j : ℕ) × (contents rows ≡ take j (content_of y))
+TellsItems w s before shown rows (y ∷ works) (x ∷ items) = (mine : List LaneRow) × (rest : List LaneRow)
     × (rows ≡ mine ++ rest)
-    × (contents mine ≡ take (count_of x) (content_of w))
-    × TellsItem v s log before shown w x
-    × TellsItems v (behind x s) log (before ++ mine) (shown ++ shown_by x) rest works items
+    × (contents mine ≡ take (count_of x) (content_of y))
+    × TellsItem w s before shown y x
+    × TellsItems w (behind x s) (before ++ mine) (shown ++ shown_by x) rest works items
 
 -- the same from the lane's first statement on, by the items that answer statements
-abbrev pub TellsLane : View → Span → List Entry → List LaneRow → List Work → List Item → Type 0
-TellsLane v s log rows works items = TellsItems v s log [] [] rows works (answers items)
+abbrev pub TellsLane : Whole → Span → List LaneRow → List Work → List Item → Type 0
+TellsLane w s rows works items = TellsItems w s [] [] rows works (answers items)

@@ -8,11 +8,10 @@ ghost use Rattle.fish_lanes.specs.Blocks.{IsMarkItem, IsNewLane, NameMarks, Tell
 ghost use Rattle.fish_lanes.specs.Outcome.{AreVacant, TellsAlone, TellsAloneBy};
 ghost use Rattle.fish_lanes.specs.Blocks.{TellsOthers, WasTaken, WereTaken};
 ghost use Rattle.fish_lanes.specs.Outcome.{IsFullIn, LanesSayPlans, TellsShutBy};
-ghost use Rattle.fish_lanes.specs.Closing.{Later, Will};
 ghost use Rattle.fish_lanes.specs.Controlling.{CanControl};
 ghost use Rattle.fish_lanes.specs.Course.{HasFoundEnd, HasRunLanes};
 ghost use Rattle.fish_lanes.specs.Ending.{HasEnd};
-ghost use Rattle.fish_lanes.specs.Plans.{AreSoPlans};
+ghost use Rattle.fish_lanes.specs.Plans.{AreSoPlans, KnowsRows};
 ghost use Rattle.fish_lanes.specs.Registering.{IsAcceptable, KnowsRegistry, registry_of};
 ghost use Rattle.fish_lanes.specs.Running.{CanBegin, HasDone, HasRun, IsEnded, IsFree, IsReady, SayPlans};
 ghost use Rattle.fish_lanes.specs.Sizes.{TellsClaim};
@@ -23,6 +22,7 @@ ghost use Rattle.fish_rule.specs.Passes.{IsPassOf, view};
 ghost use Rattle.fish_rule.specs.Views.{AllOf};
 ghost use Rattle.fish_rule.specs.declared.view.Shut.{Shut};
 ghost use Rattle.fish_rule.specs.SeatSteps.{CanSplitPass, split_left, split_right};
+ghost use Rattle.fish_whole.specs.Whole.{Later, Whole, Will};
 
 use crate::control::run_control;
 use crate::gate::Gate;
@@ -66,7 +66,6 @@ fn run_pass<G: Gate>(
     gate: &G,
 ) -> LaneFault
     requires pass { CanBegin log.now pass.old }
-    requires base { (view pass.old).about.number ≡ 0 }
     requires free { All IsFree works.now }
     requires empty { items.old ≡ [] }
     ensures pass { CanBegin log.now pass.new }
@@ -288,13 +287,13 @@ fn run_lanes<R: Threads + Sync, G: Gate + Sync>(
     ensures first_seat { first.new.seat ≡ first.old.seat }
     ensures kept { AreKept others.old others.new }
     ensures vacant { AreVacant others.new }
-    ensures told { (s : Span) → IsBlockSpan (view main.old) (view main.new) result.to s → s.lanes ≡ length others.old + 1
-        → (s.from ≤ s.to) × Will (view main.new) (λ v log. TellsBlock v s log (first.new ∷ others.new)) }
+    ensures told { (past : Whole) (s : Span) → IsBlockSpan (view main.old) (view main.new) result.to s → s.lanes ≡ length others.old + 1
+        → (s.from ≤ s.to) × Will past (view main.new) (λ w. TellsBlock w s (first.new ∷ others.new)) }
     ensures registered { HasRegistered (view main.old) (view main.new) registrar.old registrar.new first.new result }
     ensures alone { others.old ≡ [] → TellsAloneBy (view main.old) (view main.new) registrar.old first.new }
     ensures ended { AreEnded (first.new ∷ others.new) }
     ensures shuts { TellsShutBy (view main.old) (view main.new) (first.new ∷ others.new) }
-    ensures plans { (from : ℕ) → HasEnd (view main.old) from → LanesSayPlans (view main.new)
+    ensures plans { (from : ℕ) → HasEnd (view main.old) from → LanesSayPlans (KnowsRows (view main.new))
         (registry_of (view main.old) registrar.old) registrar.new.catalog from (first.new ∷ others.new) }
     ensures marks { NameMarks (view main.new) (first.new ∷ others.new) }
 {
@@ -309,10 +308,10 @@ fn run_lanes<R: Threads + Sync, G: Gate + Sync>(
 /// The control pass has to know where the log ends, as it does behind a block, and what the registrar keeps. There are 1
 /// to 16 lanes, numbered from 1 on and without items, and the first alone may register definitions or end them.
 ///
-/// Afterwards each lane has an item for each statement, or a fault and fewer of them. Of every log that the control pass
-/// closes later, these items are true: the lane's records between the old end and the new one are those that the items
-/// say are stored, in order, and scans, plans, checkpoints and refusals are so. The definitions are those that the items
-/// of the first lane tell. Numbers and statements stay.
+/// Afterwards each lane has an item for each statement, or a fault and fewer of them. Of each whole log that the control
+/// pass may leave later, whatever stood before the table and comes behind it, these items are true: the lane's records
+/// between the old end and the new one are those that the items say are stored, in order, and scans, plans, checkpoints
+/// and refusals are so. The definitions are those that the items of the first lane tell. Numbers and statements stay.
 ///
 /// The gate is told where each lane is: in front of each statement and behind it, and behind each claim of a record.
 /// Nothing that is promised depends on how long it holds a lane.
@@ -334,14 +333,14 @@ pub fn run_block<R: Threads + Sync, G: Gate + Sync>(
     ensures later { Later (view main.old) (view main.new) }
     ensures kept { AreKept lanes.old lanes.new }
     ensures vacant { AreVacant lanes.old → AreVacant lanes.new }
-    ensures told { (s : Span) → IsBlockSpan (view main.old) (view main.new) result.to s → s.lanes ≡ length lanes.old
-        → (s.from ≤ s.to) × Will (view main.new) (λ v log. TellsBlock v s log lanes.new) }
+    ensures told { (past : Whole) (s : Span) → IsBlockSpan (view main.old) (view main.new) result.to s → s.lanes ≡ length lanes.old
+        → (s.from ≤ s.to) × Will past (view main.new) (λ w. TellsBlock w s lanes.new) }
     ensures registered { (x : Lane) → slice_get lanes.new 0 ≡ Some x
         → HasRegistered (view main.old) (view main.new) registrar.old registrar.new x result }
     ensures alone { TellsAlone (view main.old) (view main.new) registrar.old lanes.new }
     ensures ended { AreEnded lanes.new }
     ensures marks { NameMarks (view main.new) lanes.new }
-    ensures plans { (from : ℕ) → HasEnd (view main.old) from → LanesSayPlans (view main.new)
+    ensures plans { (from : ℕ) → HasEnd (view main.old) from → LanesSayPlans (KnowsRows (view main.new))
         (registry_of (view main.old) registrar.old) registrar.new.catalog from lanes.new }
     ensures shuts { TellsShutBy (view main.old) (view main.new) lanes.new }
 {

@@ -27,7 +27,6 @@ pub(crate) fn run_control<G: Gate>(
     gate: &G,
 ) -> LaneFault
     requires can { CanControl log.now pass.old registrar.old }
-    requires base { (view pass.old).about.number ≡ 0 }
     requires known { KnowsRegistry (view pass.old) (registry_of (view pass.old) registrar.old) }
     requires acceptable { All IsAcceptable works.now }
     requires empty { items.old ≡ [] }
@@ -52,7 +51,6 @@ fn run_statements<G: Gate>(
 ) -> LaneFault
     requires can { CanControl log.now pass.old registrar.old }
     requires defs { IsDefsOf (view pass.old) defs.old }
-    requires base { (view pass.old).about.number ≡ 0 }
     requires known { KnowsRegistry (view pass.old) (registry_of (view pass.old) registrar.old) }
     requires acceptable { All IsAcceptable works.now }
     requires empty { items.old ≡ [] }
@@ -90,7 +88,6 @@ fn run_statement<G: Gate>(
 ) -> Result<Item, AllocError>
     requires can { CanControl log.now pass.old registrar.old }
     requires defs { IsDefsOf (view pass.old) defs.old }
-    requires base { (view pass.old).about.number ≡ 0 }
     requires acceptable { IsAcceptable work.now }
     ensures can { CanControl log.now pass.new registrar.new }
     ensures defs { IsDefsOf (view pass.new) defs.new }

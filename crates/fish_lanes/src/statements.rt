@@ -34,7 +34,6 @@ pub(crate) fn run_works<G: Gate>(
     requires pass { IsPassOf log.now pass.old }
     requires start { CanStart (view pass.old) }
     requires defs { IsDefsOf (view pass.old) defs.old }
-    requires base { (view pass.old).about.number ≡ 0 }
     requires free { All IsFree works.now }
     requires empty { items.old ≡ [] }
     ensures pass { IsPassOf log.now pass.new }
@@ -71,7 +70,6 @@ pub(crate) fn run_work<G: Gate>(
     requires pass { IsPassOf log.now pass.old }
     requires start { CanStart (view pass.old) }
     requires defs { IsDefsOf (view pass.old) defs.old }
-    requires base { (view pass.old).about.number ≡ 0 }
     requires free { IsFree work.now }
     ensures pass { IsPassOf log.now pass.new }
     ensures defs { IsDefsOf (view pass.new) defs.new }

@@ -1,23 +1,22 @@
 -- Blocks, one after the other, and the log in the end.
 use Rattle.std.proofs.Common.{◌≡◌, ℕ, suc, ◌+◌, ◌<◌, ◌≤◌, List, [], ◌∷◌, ◌++◌, length, refl, sym, ap, ◌∙◌, subst, inl, inr, ⊎_elim, arith}
-use Rattle.std.proofs.Common.{Bool, None, Option, Some, append-nil, append_assoc, get_or, slice_get}
+use Rattle.std.proofs.Common.{Bool, None, Option, Some, append-nil, append_assoc, get_or, map, slice_get}
 use Rattle.std.specs.Prelude.{◌||◌}
 use Rattle.std.proofs.lemmas.Option.{slice_get-get_or, slice_get_within}
-use Rattle.fish_catalog.specs.declared.entry.Entry.{Entry}
-use Rattle.fish_lanes.proofs.Controls.{each_later}
+use Rattle.fish_catalog.specs.Listing.{listed_of}
+use Rattle.fish_lanes.proofs.Controls.{each_so}
 use Rattle.fish_lanes.proofs.Gaining.{same_lines}
 use Rattle.fish_lanes.proofs.Lists.{some_once}
-use Rattle.fish_lanes.proofs.Plans.{plans_later}
+use Rattle.fish_lanes.proofs.Plans.{plans_so}
 use Rattle.fish_lanes.proofs.Single.{singles_whole}
-use Rattle.fish_lanes.proofs.Surely.{will_later}
 use Rattle.fish_lanes.specs.Blocks.{AreEnded, AreKept, AreLanes, HasRegistered, IsBlockSpan, IsMarkItem, NameMarks, control_items}
 use Rattle.fish_lanes.specs.Outcome.{IsFullIn}
 use Rattle.fish_lanes.specs.Blocks.{TellsBlock}
 use Rattle.fish_lanes.specs.Outcome.{LanesSayPlans, TellsAlone, TellsShutBy}
-use Rattle.fish_lanes.specs.Closing.{Later, Will}
 use Rattle.fish_lanes.specs.Ending.{HasEnd}
 use Rattle.fish_lanes.specs.Gains.{IsMarkAt}
-use Rattle.fish_lanes.specs.Registering.{AreSo, KnowsEach, Registry, after_all, registry_of}
+use Rattle.fish_lanes.specs.Plans.{KnowsRows, RowsAre}
+use Rattle.fish_lanes.specs.Registering.{AreSo, HasEach, HasRegistry, KnowsEach, KnowsRegistry, Registry, after_all, registry_of}
 use Rattle.fish_lanes.specs.Spans.{Span, answers}
 use Rattle.fish_lanes.specs.declared.block.BlockEnd.{BlockEnd}
 use Rattle.fish_lanes.specs.declared.lane.Lane.{Lane}
@@ -47,6 +46,8 @@ use Rattle.fish_run.specs.Works.{IsLaneOf, IsWorkOf, Pairs}
 use Rattle.fish_run.specs.declared.running.RunFault.{RunFault}
 use Rattle.fish_script.specs.declared.script.Block as script
 use Rattle.fish_script.specs.declared.script.Statement.{Statement}
+use Rattle.fish_whole.proofs.Wholes.{may_hold, sure_rows, will_later}
+use Rattle.fish_whole.specs.Whole.{Later, MayEnd, Whole, Will}
 
 -- ---- one more block
 
@@ -57,12 +58,12 @@ behind_more r [] b = refl
 behind_more r (x ∷ blocks) b = behind_more (behind_block r x) blocks b
 
 -- blocks, and one that begins where they end
-pub tells_more : (v : View) (log : List Entry) (from mid : ℕ) (r : Registry) (blocks : List Block) (b : Block)
-    → TellsBlocks v log from r blocks mid → TellsOne v log mid (behind_blocks r blocks) b
-    → TellsBlocks v log from r (blocks ++ b ∷ []) b.span.to
-tells_more v log from mid r [] b h one = (subst (λ (z : ℕ). TellsOne v log z r b) (sym h) one, refl)
-tells_more v log from mid r (x ∷ blocks) b h one =
-    (h.0, tells_more v log x.span.to mid (behind_block r x) blocks b h.1 one)
+pub tells_more : (w : Whole) (from mid : ℕ) (r : Registry) (blocks : List Block) (b : Block)
+    → TellsBlocks w from r blocks mid → TellsOne w mid (behind_blocks r blocks) b
+    → TellsBlocks w from r (blocks ++ b ∷ []) b.span.to
+tells_more w from mid r [] b h one = (subst (λ (z : ℕ). TellsOne w z r b) (sym h) one, refl)
+tells_more w from mid r (x ∷ blocks) b h one =
+    (h.0, tells_more w x.span.to mid (behind_block r x) blocks b h.1 one)
 
 -- an item that names a mark does so for who knows more
 names_later : (v u : View) (items : List Item) → Learns v u → AllOf (IsMarkItem v) items → AllOf (IsMarkItem u) items
@@ -95,7 +96,7 @@ pub ran_later : (old new : Option Files) (text : List script.Block) (v u : View)
     → StillTold old new → Later v u → HasRunBlocks old text v r to blocks → HasRunBlocks new text u r to blocks
 ran_later old new text v u r to blocks still later h = record {
   are = blocks_later old new still text blocks h.are;
-  tells = will_later v u (λ x log. TellsBlocks x log 0 no_registry blocks to) later h.tells;
+  tells = λ past. will_later past v u (λ w. TellsBlocks w 0 no_registry blocks to) later (h.tells past);
   marks = marked_later v u blocks later.learns h.marks;
   behind = h.behind;
   fulls = h.fulls;
@@ -147,10 +148,10 @@ ran_more old new text s v u r t mid to blocks b still later h full one =
     let before = ran_later old new text v u r mid blocks still later h in
     record {
       are = pairs_push (IsBlockOf new) text blocks s b before.are one.is;
-      tells = λ x remains base main none more c.
-          subst (TellsBlocks x remains.log 0 no_registry (blocks ++ b ∷ [])) one.ends
-          (tells_more x remains.log 0 mid no_registry blocks b (before.tells x remains base main none more c)
-          (subst (λ (z : Registry). TellsOne x remains.log mid z b) h.behind (one.tells x remains base main none more c)));
+      tells = λ past w m.
+          subst (TellsBlocks w 0 no_registry (blocks ++ b ∷ [])) one.ends
+          (tells_more w 0 mid no_registry blocks b (before.tells past w m)
+          (subst (λ (z : Registry). TellsOne w mid z b) h.behind (one.tells past w m)));
       marks = marks_more u blocks b before.marks one.marks;
       behind = one.behind ∙ ap (λ (z : Registry). behind_block z b) h.behind ∙ sym (behind_more no_registry blocks b);
       fulls = since_more [] blocks b h.fulls (subst (HasFoundFull blocks) (sym one.full_is) full);
@@ -237,13 +238,20 @@ controls_after : (v u : View) (r s : Registrar) (lanes : List Lane) (end : Block
 controls_after v u r s [] end several from some whole has = absurd (omega arith)
 controls_after v u r s (x ∷ lanes) end several from some whole has = (has x refl).is (whole 0 x refl)
 
+-- definitions that are known in front of each item are those of the whole
+each_whole : (past : Whole) (u : View) (w : Whole) → MayEnd past u w → (r : Registry) (items : List Item) → KnowsEach u r items
+    → HasEach w r items
+each_whole past u w m r items = each_so (KnowsRegistry u) (HasRegistry w)
+    (λ q knows. sure_rows past u q.version (map listed_of q.rows) knows w (may_hold past u w m)) r items
+
 -- what a run of these lanes says
 pub leaves_of : (told : Option Files) (text : script.Block) (v u : View) (r s : Registrar) (from : ℕ) (items lanes : List Lane)
     (end : BlockEnd) → AreLanes items → Pairs (IsLaneOf told) text.lanes items → length lanes ≡ length items → AreKept items lanes
     → HasEnd v from
-    → ((k : Span) → IsBlockSpan v u end.to k → k.lanes ≡ length lanes → (k.from ≤ k.to) × Will u (λ x log. TellsBlock x k log lanes))
+    → ((past : Whole) (k : Span) → IsBlockSpan v u end.to k → k.lanes ≡ length lanes
+    → (k.from ≤ k.to) × Will past u (λ w. TellsBlock w k lanes))
     → ((x : Lane) → slice_get lanes 0 ≡ Some x → HasRegistered v u r s x end) → AreEnded lanes → NameMarks u lanes
-    → TellsShutBy v u lanes → LanesSayPlans u (registry_of v r) s.catalog from lanes → r.waiting ≡ None → TellsAlone v u r lanes
+    → TellsShutBy v u lanes → LanesSayPlans (KnowsRows u) (registry_of v r) s.catalog from lanes → r.waiting ≡ None → TellsAlone v u r lanes
     → Leaves told text v u r s from lanes end
 leaves_of told text v u r s from items lanes end are works many kept begins tells has ended marks shuts plans settled alone = record {
   works = lanes_kept told text.lanes items lanes many (λ i x y at bt. (kept i x y at bt).1) works;
@@ -278,25 +286,28 @@ module _ (told : Option Files) (text : script.Block) (v u : View) (r s : Registr
   spans : IsBlockSpan v u end.to left.span
   spans = record { begins = h.begins; ends = refl; first = omega arith; last = omega arith; full = refl }
 
-  part_of : (x : View) (log : List Entry) → Learns u x → TellsBlock x left.span log lanes
-      → TellsPart x log from (registry_of v r) left
-  part_of x log learns t = record {
-    begins = refl;
-    ends = refl;
-    rises = (h.tells left.span spans refl).0;
-    first = refl;
-    many = refl;
-    lanes = t;
-    registers = first_so v u r s lanes end left.span spans h.has;
-    knows = each_later u x (registry_of v r) (first_items lanes) learns (first_known v u r s lanes end h.some h.has);
-    ended = h.ended;
-    fulls = h.shuts.one;
-    alone = h.alone;
-  }
+  part_of : (past w : Whole) → MayEnd past u w → TellsPart w from (registry_of v r) left
+  part_of past w m =
+      let t = h.tells past left.span spans refl in
+      record {
+        begins = refl;
+        ends = refl;
+        rises = t.0;
+        first = refl;
+        many = refl;
+        lanes = t.1 w m;
+        registers = first_so v u r s lanes end left.span spans h.has;
+        definitions = each_whole past u w m (registry_of v r) (first_items lanes) (first_known v u r s lanes end h.some h.has);
+        ended = h.ended;
+        fulls = h.shuts.one;
+        alone = h.alone;
+      }
 
-  -- the definitions behind it, and what its plans say by them
-  plans_by : (x : View) → Learns u x → LanesSayPlans x (registry_of v r) s.catalog from lanes
-  plans_by x learns i y at = plans_later u x (registry_of v r) s.catalog from y.works y.items learns (h.plans i y at)
+  -- what its plans say by the definitions of the whole
+  plans_by : (past w : Whole) → MayEnd past u w → LanesSayPlans (RowsAre w) (registry_of v r) s.catalog from lanes
+  plans_by past w m i y at =
+      plans_so (λ n ls knows. sure_rows past u n ls knows w (may_hold past u w m)) (registry_of v r) s.catalog from y.works y.items
+      (h.plans i y at)
 
   -- a lane may have stopped at a fault
   pub left_cut : HasCutOne told text v.shut u (registry_of v r) from end.to left
@@ -304,11 +315,11 @@ module _ (told : Option Files) (text : script.Block) (v u : View) (r s : Registr
     is = is_left;
     full_is = refl;
     ends = refl;
-    tells = λ x remains base main none later c. record {
-      part = part_of x remains.log later.learns ((h.tells left.span spans refl).1 x remains base main none later c);
+    tells = λ past w m. record {
+      part = part_of past w m;
       behind = registry_of u s;
       last = refl;
-      plans = plans_by x later.learns;
+      plans = plans_by past w m;
       behind_is = λ y at none. (h.has y at).is none ∙ ap (after_all (registry_of v r)) (sym (controls_first lanes end y at));
     };
     marks = h.marks;
@@ -325,14 +336,14 @@ module _ (told : Option Files) (text : script.Block) (v u : View) (r s : Registr
         keeps = h.shuts.keeps;
         shuts = h.shuts.shuts;
         ends = refl;
-        tells = λ x remains base main none later c. record {
-          part = part_of x remains.log later.learns ((h.tells left.span spans refl).1 x remains base main none later c);
+        tells = λ past w m. record {
+          part = part_of past w m;
           whole = whole;
           registers = controls_so v u r s lanes end left.span spans whole h.has;
-          knows = each_later u x (registry_of v r) (lanes_controls lanes end) later.learns
+          definitions = each_whole past u w m (registry_of v r) (lanes_controls lanes end)
               (controls_known v u r s lanes end h.some whole h.has);
           last = ap (λ (z : Registry). z.version) after;
-          plans = subst (λ (z : Registry). LanesSayPlans x (registry_of v r) z.rows from lanes) after (plans_by x later.learns);
+          plans = subst (λ (z : Registry). LanesSayPlans (RowsAre w) (registry_of v r) z.rows from lanes) after (plans_by past w m);
         };
         marks = h.marks;
         behind = after;

@@ -1,4 +1,4 @@
--- Where a run ends: what is said of every log that is closed later is so of the one that is left.
+-- Where a run ends: what is said of each whole that may be in the end is so of what is left.
 use Rattle.std.proofs.Common.{◌≡◌, ◌≢◌, ℕ, ◌+◌, ◌*◌, ◌^◌, ◌<◌, ◌≤◌, List, [], ◌∷◌, ◌++◌, length, take, get_or, append-nil}
 use Rattle.std.proofs.Common.{refl, sym, ap, ◌∙◌, subst, ◌⊎◌, ⊎_elim, inl, inr, arith, Bool, true, false}
 use Rattle.std.proofs.Common.{Option, Some, None, Result, Ok, Err, slice_get}
@@ -7,8 +7,7 @@ use Rattle.std.specs.Prelude.{◌||◌, IfErr, IfOk}
 use Rattle.std.proofs.lemmas.Grind.{flat_map-append}
 use Rattle.std.proofs.lemmas.List.{take_all, take_more}
 use Rattle.std.proofs.lemmas.List.Folds.{list_any-append}
-use Rattle.fish_lanes.proofs.Surely.{closed_length, later_self}
-use Rattle.fish_lanes.specs.Closing.{Later}
+use Rattle.fish_lanes.proofs.Surely.{closed_length}
 use Rattle.fish_lanes.specs.Ending.{HasEnd}
 use Rattle.fish_lanes.specs.Registering.{Registry}
 use Rattle.fish_outside.proofs.ToldLemmas.{Gained_refl}
@@ -34,6 +33,8 @@ use Rattle.fish_run.specs.Works.{Pairs}
 use Rattle.fish_run.specs.declared.running.RunFault.{RunFault}
 use Rattle.fish_run.specs.declared.running.RunFault.TheVariants as fault
 use Rattle.fish_script.specs.declared.script.Block as script
+use Rattle.fish_whole.proofs.Tables.{ends_so}
+use Rattle.fish_whole.specs.Whole.{FitsPast, Later, Whole, behind_table, nothing_before}
 
 -- ---- one more block was written
 
@@ -56,7 +57,7 @@ writes_first told v r a b refused none unshut written accepted = record {
   blocks = [];
   ran = record {
     are = tt;
-    tells = λ x remains base main out later c. refl;
+    tells = λ past w m. refl;
     marks = λ x among. elim among [ ];
     behind = none;
     fulls = tt;
@@ -99,9 +100,9 @@ module _ (told : Option Files) (text : List script.Block) (i : ℕ) (less : i �
     are = are_first blocks h.are;
     cut_is = tt;
     ends = ends;
-    tells = λ x remains base main none later c. record {
+    tells = λ past w m. record {
       to = mid;
-      whole = h.tells x remains base main none later c;
+      whole = h.tells past w m;
       rest = same;
       fulls = h.fulls;
       rest_full = tt;
@@ -118,10 +119,10 @@ module _ (told : Option Files) (text : List script.Block) (i : ℕ) (less : i �
     are = are_first blocks h.are;
     cut_is = (s, ap (slice_get text) (many_are blocks h.are) ∙ at, cut.is);
     ends = ends;
-    tells = λ x remains base main none later c. record {
+    tells = λ past w m. record {
       to = mid;
-      whole = h.tells x remains base main none later c;
-      rest = (subst (λ (z : Registry). TellsCut x remains.log mid z b) h.behind (cut.tells x remains base main none later c), cut.ends);
+      whole = h.tells past w m;
+      rest = (subst (λ (z : Registry). TellsCut w mid z b) h.behind (cut.tells past w m), cut.ends);
       fulls = h.fulls;
       rest_full = subst (HasFoundFull blocks) (sym cut.full_is) before;
     };
@@ -211,7 +212,7 @@ stops_first told text u a b why named other ends part = record {
     are = tt;
     cut_is = tt;
     ends = ends;
-    tells = λ x remains base main none later c. record { to = 0; whole = refl; rest = refl; fulls = tt; rest_full = tt };
+    tells = λ past w m. record { to = 0; whole = refl; rest = refl; fulls = tt; rest_full = tt };
     marks = λ b among. elim among [ ];
   };
   written = part;
@@ -220,28 +221,41 @@ stops_first told text u a b why named other ends part = record {
 
 -- ---- the log is closed
 
--- what is said of every log that is closed later is so of this one
-shown : (told : Option Files) (text : List script.Block) (v : View) (blocks : List Block) (cut : Option Block) (end : ℕ)
-    (remains : Remains) → HasRunFirst told text v blocks cut end → IsClosed v remains
-    → TellsRun v remains.log blocks cut (length remains.log)
-shown told text v blocks cut end remains h c =
-    let e = h.ends in
-    subst (TellsRun v remains.log blocks cut) (sym (closed_length v end remains e c))
-    (h.tells v remains e.base e.alone.main e.alone.all (later_self v) c)
+module _ (v : View) (fits : FitsPast nothing_before v) (remains : Remains) (closed : IsClosed v remains) where
+  -- all that is left
+  pub left : Whole
+  left = behind_table nothing_before v remains closed
+
+  left_is : left.log ≡ remains.log
+  unfolding left
+  left_is = refl
+
+  -- it ends where the pass knows that it does
+  left_ends : (end : ℕ) → HasEnd v end → length remains.log ≡ end
+  left_ends end ends = (let base = fits.base in let all = closed_length v end remains ends closed in omega arith)
+
+  -- what is said of each whole that may be in the end is so of it
+  shown : (told : Option Files) (text : List script.Block) (blocks : List Block) (cut : Option Block) (end : ℕ)
+      → HasRunFirst told text v blocks cut end → TellsRun left blocks cut (length left.log)
+  unfolding left
+  shown told text blocks cut end h =
+      subst (TellsRun left blocks cut) (sym (left_ends end h.ends))
+      (h.tells nothing_before left (ends_so nothing_before v remains closed fits h.ends.alone.main h.ends.alone.all))
 
 module _ (told : Option Files) (text : List script.Block) (shape : Shape) (v : View) (stands : Stands v)
     (end_is : v.about.end ≡ shape.pages * 32768) (buckets_are : v.about.buckets ≡ 2 ^ shape.bucket_bits)
-    (remains : Remains) (closed : IsClosed v remains) (old mid new : Option (List ℕ)) where
+    (fits : FitsPast nothing_before v) (remains : Remains) (closed : IsClosed v remains) (old mid new : Option (List ℕ)) where
   whole_of : (refused : Bool) (count : ℕ) → RunsAll told text v old mid refused count
       → Gained mid new (report_text (item.Closed count ∷ [])) → IsWhole told text shape remains old new refused
   whole_of refused count h last =
-      let many : length remains.log ≡ count = closed_length v count remains h.ran.ends closed in
+      let many : length remains.log ≡ count = left_ends v fits remains closed count h.ran.ends in
       record {
         blocks = h.blocks;
         are = h.all;
-        view = v;
-        closed = closed;
-        tells = shown told text v h.blocks None count remains h.ran closed;
+        closed = (v, closed);
+        whole = left v fits remains closed;
+        log_is = left_is v fits remains closed;
+        tells = shown v fits remains closed told text h.blocks None count h.ran;
         fulls = fulls_agree v h.blocks (shape.pages * 32768) stands h.ran.marks end_is;
         heads = closed.many_heads ∙ buckets_are;
         written = subst (λ (z : ℕ). Gained old new (report_text (whole_report h.blocks z))) (sym many)
@@ -252,15 +266,16 @@ module _ (told : Option Files) (text : List script.Block) (shape : Shape) (v : V
   late_of : (refused : Bool) (count : ℕ) (why : RunFault) → why ≢ fault.Input → RunsAll told text v old mid refused count
       → GainedPart mid new (report_text (item.Closed count ∷ [])) → IsStopped told text shape remains old new why
   late_of refused count why other h last =
-      let many : length remains.log ≡ count = closed_length v count remains h.ran.ends closed in
+      let many : length remains.log ≡ count = left_ends v fits remains closed count h.ran.ends in
       record {
         blocks = h.blocks;
         cut = None;
         are = h.ran.are;
         cut_is = tt;
-        view = v;
-        closed = closed;
-        tells = shown told text v h.blocks None count remains h.ran closed;
+        closed = (v, closed);
+        whole = left v fits remains closed;
+        log_is = left_is v fits remains closed;
+        tells = shown v fits remains closed told text h.blocks None count h.ran;
         fulls = fulls_agree v h.blocks (shape.pages * 32768) stands h.ran.marks end_is;
         heads = closed.many_heads ∙ buckets_are;
         written = inr (
@@ -277,9 +292,10 @@ module _ (told : Option Files) (text : List script.Block) (shape : Shape) (v : V
     cut = h.cut;
     are = h.ran.are;
     cut_is = h.ran.cut_is;
-    view = v;
-    closed = closed;
-    tells = shown told text v h.blocks h.cut h.end remains h.ran closed;
+    closed = (v, closed);
+    whole = left v fits remains closed;
+    log_is = left_is v fits remains closed;
+    tells = shown v fits remains closed told text h.blocks h.cut h.end h.ran;
     fulls = fulls_agree v (with_cut h.blocks h.cut) (shape.pages * 32768) stands h.ran.marks end_is;
     heads = closed.many_heads ∙ buckets_are;
     written = inl (part_still old mid new (report_text (report_of h.blocks)) h.written none);

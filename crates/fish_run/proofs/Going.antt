@@ -31,6 +31,7 @@ use Rattle.fish_rule.specs.declared.view.View.{View}
 use Rattle.fish_run.specs.Blocks.{no_registry}
 use Rattle.fish_run.specs.Runs.{CanGoOn, IsNewLog, feed_fault, write_fault}
 use Rattle.fish_run.specs.declared.running.RunFault.TheVariants as fault
+use Rattle.fish_whole.specs.Whole.{FitsPast, nothing_before}
 
 -- ---- in front of the first block
 
@@ -40,7 +41,7 @@ unfolding high low
 first_end v k is number line = subst (λ (z : View). HasEnd z 0) (sym is) (record {
   alone = record { main = refl; all = refl; idle = refl };
   outside = refl;
-  base = number;
+  above = omega arith;
   settled = omega arith;
   count = k.number;
   counted = omega arith;
@@ -48,6 +49,13 @@ first_end v k is number line = subst (λ (z : View). HasEnd z 0) (sym is) (recor
   ends = inl (sym number);
   marks = λ s e. absurd cc;
 })
+
+-- and nothing stood before it
+pub fits_first : (log : Log) (main : Pass) (v : View) → v.about ≡ log.key → IsNewLog log main → FitsPast nothing_before v
+fits_first log main v about new = record {
+  base = ap (λ (k : Key). k.number) about ∙ new.number;
+  joins = sym (ap (λ (k : Key). map listed_of k.rows.value) about ∙ ap (map listed_of) new.rows);
+}
 
 -- so its control pass may run a block, with a registrar that has no row
 pub go_first : (log : Log) (main : Pass) (r : Registrar) → IsNewLog log main → r.catalog ≡ [] → r.waiting ≡ None → KnowsFirst r
@@ -125,6 +133,6 @@ go_next log v main r s x end can ends has whole = record {
   can = can;
   end = ends;
   known = subst (KnowsRegistry (view main)) (sym (has.is whole))
-      (each_last (view main) (registry_of v r) (control_items x end) (has.each whole));
+      (each_last (KnowsRegistry (view main)) (registry_of v r) (control_items x end) (has.each whole));
   settled = has.settled;
 }

@@ -2,6 +2,5 @@ pub mod Blocks
 pub mod Ends
 pub mod Going
 pub mod Lists
-pub mod Versions
 pub mod Works
 pub mod Written

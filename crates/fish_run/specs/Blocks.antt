@@ -1,10 +1,10 @@
--- What the blocks of a run tell of the one log that is left.
+-- What the blocks of a run tell of the whole log.
 use Rattle.std.specs.Prelude.{ℕ, ◌≡◌, ◌≤◌, ◌+◌, List, [], ◌∷◌, ◌++◌, length, slice_get, Bool, IfSome, Option, Some, None, ⊤}
-use Rattle.fish_catalog.specs.declared.entry.Entry.{Entry}
 use Rattle.fish_catalog.specs.declared.row.CatRow.{CatRow}
 use Rattle.fish_lanes.specs.Blocks.{AreEnded, At, NameMarks, TellsBlock, control_items}
 use Rattle.fish_lanes.specs.Outcome.{IsFullIn, LanesSayPlans}
-use Rattle.fish_lanes.specs.Registering.{AreSo, KnowsEach, Registry, after_all}
+use Rattle.fish_lanes.specs.Plans.{RowsAre}
+use Rattle.fish_lanes.specs.Registering.{AreSo, HasEach, Registry, after_all}
 use Rattle.fish_lanes.specs.Single.{NamesNone, TellsWhole}
 use Rattle.fish_lanes.specs.Sizes.{NamesOneClaim}
 use Rattle.fish_lanes.specs.Spans.{Span, answers}
@@ -16,6 +16,7 @@ use Rattle.fish_report.specs.declared.item.Item.{Item}
 use Rattle.fish_rule.specs.Views.{AllOf, Among}
 use Rattle.fish_rule.specs.declared.view.Shut.{Shut}
 use Rattle.fish_rule.specs.declared.view.View.{View}
+use Rattle.fish_whole.specs.Whole.{Whole}
 
 -- a block that has run: whether it stood between `lanes` and `end`, where it lies, its lanes with their items, and what was
 -- found once they had ended
@@ -83,53 +84,53 @@ pub record TellsOneLane (rows : List CatRow) (full : Option Shut) (from : ℕ) (
 -- what a block tells that begins where the log has so many numbers and the registry is this, even one in which a lane stopped at a fault:
 -- its lanes' items are so of the log, and those of its first lane of the definitions; where a statement has no item, neither have those
 -- behind it; and of the items of a lane that a full log refused all name one claim, that of before the block if there was one
-pub record TellsPart (v : View) (log : List Entry) (from : ℕ) (r : Registry) (b : Block) : Type 0 where
+pub record TellsPart (w : Whole) (from : ℕ) (r : Registry) (b : Block) : Type 0 where
   pub begins : b.span.from ≡ from
   pub ends : b.end.to ≡ b.span.to
   pub rises : b.span.from ≤ b.span.to
   pub first : b.span.first ≡ r.version
   pub many : b.span.lanes ≡ length b.lanes
-  pub lanes : TellsBlock v b.span log b.lanes
+  pub lanes : TellsBlock w b.span b.lanes
   pub registers : AreSo b.span.from (b.span.to + 16) r (first_items b.lanes)
-  pub knows : KnowsEach v r (first_items b.lanes)
+  pub definitions : HasEach w r (first_items b.lanes)
   pub ended : AreEnded b.lanes
   pub fulls : At (λ i x. NamesOneClaim b.span.full x.items) b.lanes
   pub alone : (x : Lane) → b.lanes ≡ x ∷ [] → TellsOneLane r.rows b.span.full from x
 
 -- what one tells in which a lane did: by the definitions behind it, which are those that its first lane's items tell unless it was that
 -- lane, pieces by an index lie where the index is complete, and no number is read one by one that was known to be so
-pub record TellsCut (v : View) (log : List Entry) (from : ℕ) (r : Registry) (b : Block) : Type 0 where
-  pub part : TellsPart v log from r b
+pub record TellsCut (w : Whole) (from : ℕ) (r : Registry) (b : Block) : Type 0 where
+  pub part : TellsPart w from r b
   pub behind : Registry
   pub last : b.span.last ≡ behind.version
-  pub plans : LanesSayPlans v r behind.rows from b.lanes
+  pub plans : LanesSayPlans (RowsAre w) r behind.rows from b.lanes
   pub behind_is : (x : Lane) → slice_get b.lanes 0 ≡ Some x → x.fault ≡ cause.None → behind ≡ behind_block r b
 
 -- what one tells in which none did: every statement has its item; the definitions at each version are those that its first lane's items
 -- tell, with the boundary that was found behind them; and the same of plans, by these definitions
-pub record TellsOne (v : View) (log : List Entry) (from : ℕ) (r : Registry) (b : Block) : Type 0 where
-  pub part : TellsPart v log from r b
+pub record TellsOne (w : Whole) (from : ℕ) (r : Registry) (b : Block) : Type 0 where
+  pub part : TellsPart w from r b
   pub whole : At (λ i x. x.fault ≡ cause.None) b.lanes
   pub registers : AreSo b.span.from (b.span.to + 16) r (block_controls b)
-  pub knows : KnowsEach v r (block_controls b)
+  pub definitions : HasEach w r (block_controls b)
   pub last : b.span.last ≡ (behind_block r b).version
-  pub plans : LanesSayPlans v r (behind_block r b).rows from b.lanes
+  pub plans : LanesSayPlans (RowsAre w) r (behind_block r b).rows from b.lanes
 
 -- what blocks tell: each begins where the one in front of it ended, with the definitions that it left; the last one ends here
-abbrev pub TellsBlocks : View → List Entry → ℕ → Registry → List Block → ℕ → Type 0
-TellsBlocks v log from r [] end = from ≡ end
-TellsBlocks v log from r (b ∷ blocks) end = TellsOne v log from r b × TellsBlocks v log b.span.to (behind_block r b) blocks end
+abbrev pub TellsBlocks : Whole → ℕ → Registry → List Block → ℕ → Type 0
+TellsBlocks w from r [] end = from ≡ end
+TellsBlocks w from r (b ∷ blocks) end = TellsOne w from r b × TellsBlocks w b.span.to (behind_block r b) blocks end
 
 -- what a block tells that a lane's fault cut, and with which the log ends
-abbrev pub TellsRest : View → List Entry → ℕ → Registry → Option Block → ℕ → Type 0
-TellsRest v log from r None end = from ≡ end
-TellsRest v log from r (Some b) end = TellsCut v log from r b × (b.span.to ≡ end)
+abbrev pub TellsRest : Whole → ℕ → Registry → Option Block → ℕ → Type 0
+TellsRest w from r None end = from ≡ end
+TellsRest w from r (Some b) end = TellsCut w from r b × (b.span.to ≡ end)
 
 -- what all blocks of a run tell, from the empty log on, in which no claim had found the log full
-pub record TellsRun (v : View) (log : List Entry) (blocks : List Block) (cut : Option Block) (end : ℕ) : Type 0 where
+pub record TellsRun (w : Whole) (blocks : List Block) (cut : Option Block) (end : ℕ) : Type 0 where
   pub to : ℕ
-  pub whole : TellsBlocks v log 0 no_registry blocks to
-  pub rest : TellsRest v log to (behind_blocks no_registry blocks) cut end
+  pub whole : TellsBlocks w 0 no_registry blocks to
+  pub rest : TellsRest w to (behind_blocks no_registry blocks) cut end
   pub fulls : AreFullSince [] blocks
   pub rest_full : IfSome cut (IsFullSince blocks)
 

@@ -1,5 +1,4 @@
 pub mod Blocks
-pub mod Laws
 pub mod Ran
 pub mod Reading
 pub mod Reports

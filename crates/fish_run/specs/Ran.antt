@@ -12,6 +12,7 @@ use Rattle.fish_run.specs.Works.{AreNumbered, IsLaneOf, Pairs}
 use Rattle.fish_run.specs.declared.running.RunFault.{RunFault}
 use Rattle.fish_run.specs.declared.running.RunFault.TheVariants as fault
 use Rattle.fish_script.specs.declared.script.Block as script
+use Rattle.fish_whole.specs.Whole.{Whole}
 
 -- a block that ran has the lanes of one of the script, with the files that they name and the numbers from 1 on
 pub record IsBlockOf (told : Option Files) (s : script.Block) (b : Block) : Type 0 where
@@ -27,15 +28,17 @@ AreFirst told text blocks = Pairs (IsBlockOf told) (take (length blocks) text) b
 abbrev pub IsNextOf : Option Files → List script.Block → ℕ → Block → Type 0
 IsNextOf told text many b = (s : script.Block) × (slice_get text many ≡ Some s) × IsBlockOf told s b
 
--- a run that came to its end: each block of the script ran; of the log that is left their items are true; the text of their
--- items, and that the log was closed, was written; refusals of a full log of so many pages agree; and the log has its buckets
+-- a run that came to its end: each block of the script ran; what is left is that of a closed log, and the items are true of a whole
+-- with this log; their text, and that the log was closed, was written; refusals of a full log of so many pages agree; and the log has
+-- its buckets
 pub record IsWhole (told : Option Files) (text : List script.Block) (shape : Shape) (remains : Remains) (old new : Option (List ℕ))
     (refused : Bool) : Type 0 where
   pub blocks : List Block
   pub are : Pairs (IsBlockOf told) text blocks
-  pub view : View
-  pub closed : IsClosed view remains
-  pub tells : TellsRun view remains.log blocks None (length remains.log)
+  pub closed : (v : View) × IsClosed v remains
+  pub whole : Whole
+  pub log_is : whole.log ≡ remains.log
+  pub tells : TellsRun whole blocks None (length whole.log)
   pub fulls : FullsAgree blocks (shape.pages * 32768)
   pub heads : length remains.heads ≡ 2 ^ shape.bucket_bits
   pub written : Gained old new (report_text (whole_report blocks (length remains.log)))
@@ -46,18 +49,19 @@ abbrev pub WritesPart : Option Files → List script.Block → ℕ → Option (L
 WritesPart told text count old new blocks = GainedPart old new (report_text (report_of blocks))
     ⊎ (Pairs (IsBlockOf told) text blocks × GainedPart old new (report_text (whole_report blocks count)))
 
--- a run that a fault stopped: the first blocks ran, and perhaps one more, in which a lane stopped at the fault; of the log that
--- is left their items are true; a first part of the report was written, without the cut block, and all of it where a file
--- couldn't be read
+-- a run that a fault stopped: the first blocks ran, and perhaps one more, in which a lane stopped at the fault; what is left is that
+-- of a closed log, and their items are true of a whole with this log; a first part of the report was written, without the cut block,
+-- and all of it where a file couldn't be read
 pub record IsStopped (told : Option Files) (text : List script.Block) (shape : Shape) (remains : Remains) (old new : Option (List ℕ))
     (why : RunFault) : Type 0 where
   pub blocks : List Block
   pub cut : Option Block
   pub are : AreFirst told text blocks
   pub cut_is : IfSome cut (IsNextOf told text (length blocks))
-  pub view : View
-  pub closed : IsClosed view remains
-  pub tells : TellsRun view remains.log blocks cut (length remains.log)
+  pub closed : (v : View) × IsClosed v remains
+  pub whole : Whole
+  pub log_is : whole.log ≡ remains.log
+  pub tells : TellsRun whole blocks cut (length whole.log)
   pub fulls : FullsAgree (with_cut blocks cut) (shape.pages * 32768)
   pub heads : length remains.heads ≡ 2 ^ shape.bucket_bits
   pub written : WritesPart told text (length remains.log) old new blocks

@@ -2,9 +2,9 @@
 use Rattle.std.specs.Prelude.{ℕ, ◌≡◌, ◌≢◌, ◌⊎◌, ◌||◌, ◌<◌, ◌≤◌, List, [], ◌∷◌, Bool, Option, Some, None, Result, Ok, Err, IfSome, length, slice_get}
 use Rattle.fish_lanes.specs.Blocks.{AreEnded, HasRegistered, IsBlockSpan, NameMarks, TellsBlock}
 use Rattle.fish_lanes.specs.Outcome.{IsFullIn, LanesSayPlans, TellsShutBy}
-use Rattle.fish_lanes.specs.Closing.{Will}
 use Rattle.fish_lanes.specs.Ending.{HasEnd}
 use Rattle.fish_lanes.specs.Gains.{WasShut}
+use Rattle.fish_lanes.specs.Plans.{KnowsRows}
 use Rattle.fish_lanes.specs.Registering.{Registry, registry_of}
 use Rattle.fish_lanes.specs.Spans.{Span}
 use Rattle.fish_lanes.specs.declared.block.BlockEnd.{BlockEnd}
@@ -25,6 +25,7 @@ use Rattle.fish_run.specs.Works.{AreNumbered, IsLaneOf, Pairs}
 use Rattle.fish_run.specs.declared.running.RunFault.{RunFault}
 use Rattle.fish_run.specs.declared.running.RunFault.TheVariants as fault
 use Rattle.fish_script.specs.declared.script.Block as script
+use Rattle.fish_whole.specs.Whole.{Whole, Will}
 
 -- ---- one block
 
@@ -38,7 +39,7 @@ pub record HasRunOne (told : Option Files) (s : script.Block) (full : Option Shu
   pub keeps : (c : Shut) → full ≡ Some c → u.shut ≡ Some c
   pub shuts : (line lines end : ℕ) → IsFullIn b.lanes line lines end → WasShut u
   pub ends : b.span.to ≡ to
-  pub tells : Will u (λ x log. TellsOne x log from r b)
+  pub tells : (past : Whole) → Will past u (λ w. TellsOne w from r b)
   pub marks : NameMarks u b.lanes
   pub behind : t ≡ behind_block r b
 
@@ -48,7 +49,7 @@ pub record HasCutOne (told : Option Files) (s : script.Block) (full : Option Shu
   pub is : IsBlockOf told s b
   pub full_is : b.span.full ≡ full
   pub ends : b.span.to ≡ to
-  pub tells : Will u (λ x log. TellsCut x log from r b)
+  pub tells : (past : Whole) → Will past u (λ w. TellsCut w from r b)
   pub marks : NameMarks u b.lanes
 
 -- a block ran and its items were written
@@ -59,22 +60,22 @@ pub record WritesOne (told : Option Files) (s : script.Block) (full : Option Shu
   pub written : Gained old new (report_text (block_items block))
   pub refused : now ≡ before || lanes_refused block.lanes
 
--- what a block left behind a number of the log: its lanes have the script's statements, and what they tell is so of every log
--- that is closed later
+-- what a block left behind a number of the log: its lanes have the script's statements, and what they tell is so of each
+-- whole that the control pass may leave later
 pub record Leaves (told : Option Files) (text : script.Block) (v u : View) (r s : Registrar) (from : ℕ) (lanes : List Lane)
     (end : BlockEnd) : Type 0 where
   pub works : Pairs (IsLaneOf told) text.lanes lanes
   pub numbers : AreNumbered lanes
   pub some : 0 < length lanes
   pub begins : HasEnd v from
-  pub tells : (k : Span) → IsBlockSpan v u end.to k → k.lanes ≡ length lanes
-      → (k.from ≤ k.to) × Will u (λ x log. TellsBlock x k log lanes)
+  pub tells : (past : Whole) (k : Span) → IsBlockSpan v u end.to k → k.lanes ≡ length lanes
+      → (k.from ≤ k.to) × Will past u (λ w. TellsBlock w k lanes)
   pub has : (x : Lane) → slice_get lanes 0 ≡ Some x → HasRegistered v u r s x end
   pub ended : AreEnded lanes
   pub marks : NameMarks u lanes
   pub alone : (x : Lane) → lanes ≡ x ∷ [] → TellsOneLane r.catalog v.shut from x
   pub shuts : TellsShutBy v u lanes
-  pub plans : LanesSayPlans u (registry_of v r) s.catalog from lanes
+  pub plans : LanesSayPlans (KnowsRows u) (registry_of v r) s.catalog from lanes
 
 -- no lane stopped at a fault
 abbrev pub AreWhole : List Lane → Type 0
@@ -99,7 +100,7 @@ StopsOne told s full u r t from to old new why = (why ≢ fault.None)
 pub record HasRunBlocks (told : Option Files) (text : List script.Block) (u : View) (r : Registry) (to : ℕ) (blocks : List Block)
     : Type 0 where
   pub are : Pairs (IsBlockOf told) text blocks
-  pub tells : Will u (λ x log. TellsBlocks x log 0 no_registry blocks to)
+  pub tells : (past : Whole) → Will past u (λ w. TellsBlocks w 0 no_registry blocks to)
   pub marks : AreMarked u blocks
   pub behind : r ≡ behind_blocks no_registry blocks
   pub fulls : AreFullSince [] blocks
@@ -119,7 +120,7 @@ pub record HasRunFirst (told : Option Files) (text : List script.Block) (u : Vie
   pub are : AreFirst told text blocks
   pub cut_is : IfSome cut (IsNextOf told text (length blocks))
   pub ends : HasEnd u end
-  pub tells : Will u (λ x log. TellsRun x log blocks cut end)
+  pub tells : (past : Whole) → Will past u (λ w. TellsRun w blocks cut end)
   pub marks : AreMarked u (with_cut blocks cut)
 
 -- all blocks ran, and their items were written

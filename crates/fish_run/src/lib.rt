@@ -3,10 +3,8 @@
 
 mod building;
 mod file;
-mod law;
 mod running;
 mod telling;
 
 pub use file::read_file;
-pub use law::law_versions;
 pub use running::{Ran, RunFault, run_script};

@@ -1,7 +1,6 @@
 //! A run: a log is opened, the blocks of a script are run on it, one after the other, and it is closed.
 
 ghost use Rattle.std.specs.Prelude.{◌≡◌, ◌≢◌, ◌≤◌, ◌⊎◌, ◌||◌, Err, IfErr, IfOk, MatchResult, None, OnOk, Some, false};
-ghost use Rattle.fish_lanes.specs.Closing.{Later};
 ghost use Rattle.fish_lanes.specs.Controlling.{CanControl};
 ghost use Rattle.fish_lanes.specs.Ending.{HasEnd};
 ghost use Rattle.fish_lanes.specs.Registering.{registry_of};
@@ -17,6 +16,7 @@ ghost use Rattle.fish_run.specs.Reports.{lanes_items, lanes_refused};
 ghost use Rattle.fish_run.specs.Runs.{CanClose, CanGoOn, HasRunCause, IsNewLog, WritesCause};
 ghost use Rattle.fish_run.specs.Steps.{AreWhole, Finishes, Leaves, RunsAll, RunsSome, StopsOne, StopsTelling, WritesOne};
 ghost use Rattle.fish_script.specs.Runnable.{CanRun, IsRunnableBlock};
+ghost use Rattle.fish_whole.specs.Whole.{Later};
 
 use crate::building::lanes_of;
 use crate::telling::{has_fault, has_refusal, write_block};

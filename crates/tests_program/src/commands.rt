@@ -4,7 +4,7 @@ use crate::expecting::{expect, expect_text};
 use crate::outside::{host_of, sink_of, told_of, words_of};
 use fish_outside::{MemoryHost, MemorySink};
 use fish_program::run;
-use fish_run::{law_versions, read_file};
+use fish_run::read_file;
 use fish_value::Text;
 use std::alloc::{AllocError, Global};
 use std::process::Abort;
@@ -194,7 +194,6 @@ fn expect_ends<R: Threads + Sync + Abort>(
 
 #[test]
 fn commands_end_by_what_they_are(rt: HostRuntime) -> Result<(), Fail> {
-    law_versions();
     expect_ends(&rt, rt.alloc(), DONE)?;
     Ok(())
 }

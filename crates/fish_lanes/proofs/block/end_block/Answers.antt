@@ -24,6 +24,7 @@ returns-clause-ended c = record {
   stands = c.find_last-bound.ensures.can.of.stands;
   knows = c.find_last-bound.ensures.can.knows;
   settles = c.settle-to.ensures.settles;
+  rises = c.settle-to.ensures.rises;
   settled = c.settle-to.ensures.settled;
   count = c.settle-to.result.count;
   tail = c.settle-to.ensures.tail;

@@ -3,12 +3,13 @@ use Rattle.std.proofs.Common.{◌≡◌, ◌≤◌, ◌+◌, ◌∙◌, [], ◌�
 use Rattle.fish_lanes.proofs.Firsts.{alone_first, first_acceptable, first_new, first_there, lanes_again, others_many, others_new}
 use Rattle.fish_lanes.proofs.Firsts.{vacant_both}
 use Rattle.fish_lanes.specs.Blocks.{AreEnded, CanGive, HasRegistered, IsNewLane, NameMarks, TellsBlock}
-use Rattle.fish_lanes.specs.Closing.{Will}
 use Rattle.fish_lanes.specs.Outcome.{AreVacant, TellsAloneBy}
 use Rattle.fish_lanes.specs.Outcome.{LanesSayPlans, TellsShutBy}
+use Rattle.fish_lanes.specs.Plans.{KnowsRows}
 use Rattle.fish_lanes.specs.Registering.{IsAcceptable, registry_of}
 use Rattle.fish_lanes.specs.declared.lane.Lane.{Lane}
 use Rattle.fish_rule.specs.Passes.{view}
+use Rattle.fish_whole.specs.Whole.{Will}
 use Rattle.fish_lanes.proofs.block.run_block.Goals as goal
 
 pub run_lanes-requires-clause-first : goal.run_lanes-requires-clause-first
@@ -22,11 +23,11 @@ run_lanes-requires-clause-others g c κs bounds =
     (others_new (view c.args.main.now) c.requires.end.0 c.args.lanes.now c.requires.end.1 c.requires.lanes)
 
 pub returns-clause-told : goal.returns-clause-told
-returns-clause-told g c k span many =
-    let t = c.run_lanes.ensures.told k span
+returns-clause-told g c past k span many =
+    let t = c.run_lanes.ensures.told past k span
     (many ∙ subst (λ (z : List Lane). length c.args.lanes.now ≡ length z + 1) (sym c.split_at_mut-first.ensures.back)
     (others_many c.args.lanes.now c.requires.lanes)) in
-    subst (λ (z : List Lane). (k.from ≤ k.to) × Will (view c.run_lanes.new.main) (λ v log. TellsBlock v k log z))
+    subst (λ (z : List Lane). (k.from ≤ k.to) × Will past (view c.run_lanes.new.main) (λ w. TellsBlock w k z))
     (lanes_again c.split_at_mut-first.result.0.now c.args.lanes.now c.run_lanes.new.first c.run_lanes.new.others c.requires.lanes
     c.split_at_mut-first.ensures.front) t
 
@@ -74,7 +75,7 @@ returns-clause-shuts g c = subst (TellsShutBy (view c.args.main.now) (view c.run
     c.split_at_mut-first.ensures.front) c.run_lanes.ensures.shuts
 
 pub returns-clause-plans : goal.returns-clause-plans
-returns-clause-plans g c from end = subst (LanesSayPlans (view c.run_lanes.new.main)
+returns-clause-plans g c from end = subst (LanesSayPlans (KnowsRows (view c.run_lanes.new.main))
     (registry_of (view c.args.main.now) c.args.registrar.now) c.run_lanes.new.registrar.catalog from)
     (lanes_again c.split_at_mut-first.result.0.now c.args.lanes.now c.run_lanes.new.first c.run_lanes.new.others c.requires.lanes
     c.split_at_mut-first.ensures.front) (c.run_lanes.ensures.plans from end)

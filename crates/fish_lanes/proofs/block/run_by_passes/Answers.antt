@@ -1,12 +1,11 @@
 -- The passes go out, and come back.
-use Rattle.std.proofs.Common.{◌≡◌, ◌∙◌, ap, arith, get_or, Some, slice_get}
+use Rattle.std.proofs.Common.{◌≡◌, arith, get_or, Some, slice_get}
 use Rattle.std.proofs.lemmas.Option.{slice_get-get_or}
 use Rattle.fish_lanes.proofs.Course.{may_join}
 use Rattle.fish_lanes.proofs.Ends.{given_known, given_knows, taken_knows, taken_start}
 use Rattle.fish_lanes.proofs.Lanes.{seated_ready}
 use Rattle.fish_lanes.proofs.Moments.{get_there}
 use Rattle.fish_rule.specs.Passes.{view}
-use Rattle.fish_rule.specs.declared.view.Key.{Key}
 use Rattle.fish_lanes.proofs.block.run_by_passes.Goals as goal
 
 pub run_all-requires-clause-ready : goal.run_all-requires-clause-ready
@@ -15,7 +14,7 @@ run_all-requires-clause-ready g c κs bounds k d less =
     let size = c.give_all.auto.lanes in
     let o = get_there c.args.others.now k (omega arith) in
     let at : slice_get lanes k ≡ Some (get_or lanes k d) = slice_get-get_or lanes k d less in
-    seated_ready c.args.log.now (view c.args.main.now) k o.0 (get_or lanes k d) c.requires.others.base
+    seated_ready c.args.log.now (view c.args.main.now) k o.0 (get_or lanes k d)
     (c.requires.others.new k o.0 o.1) (c.requires.others.free k o.0 o.1) (c.give_all.ensures.seated k o.0 (get_or lanes k d) o.1 at)
 
 pub run_all-requires-clause-can : goal.run_all-requires-clause-can
@@ -34,7 +33,6 @@ run_all-requires-clause-first g c κs bounds =
     let m = view c.give_all.new.main in
     let given = c.give_all.ensures.given in
     record {
-      base = ap (λ (z : Key). z.number) given.about ∙ c.requires.others.base;
       known = given_known v m c.args.registrar.now given.about given.learned c.requires.first.known;
       acceptable = c.requires.first.acceptable;
       empty = c.requires.first.empty;

@@ -13,7 +13,6 @@ use Rattle.fish_lanes.proofs.block.run_lanes.Goals as goal
 
 pub run_by_passes-requires-clause-first : goal.run_by_passes-requires-clause-first
 run_by_passes-requires-clause-first g c κs bounds = record {
-  base = c.requires.others.base;
   known = c.requires.known;
   acceptable = c.requires.acceptable;
   empty = c.requires.first.empty;
@@ -27,14 +26,12 @@ end_block-requires-clause-alone g c =
 pub returns-clause-end : goal.returns-clause-end
 returns-clause-end g c =
     let course = c.run_by_passes.ensures.course in
-    has_end course.run course.back c.end_block.ensures.ended c.requires.others.base c.end_block.ensures.can.of.stands
-    c.requires.end.1.marks
+    has_end course.run course.back c.end_block.ensures.ended c.requires.end c.end_block.ensures.can.of.stands
 
 pub returns-clause-later : goal.returns-clause-later
 returns-clause-later g c =
     let course = c.run_by_passes.ensures.course in
-    is_later course.run course.back c.end_block.ensures.ended c.requires.others.base c.end_block.ensures.can.of.stands
-    c.requires.end.1.marks
+    is_later course.run course.back c.end_block.ensures.ended c.requires.end c.end_block.ensures.can.of.stands
 
 pub returns-clause-first : goal.returns-clause-first
 returns-clause-first g c =
@@ -70,15 +67,13 @@ returns-clause-alone g c none =
     }
 
 pub returns-clause-told : goal.returns-clause-told
-returns-clause-told g c k span many =
+returns-clause-told g c past k span many =
     let course = c.run_by_passes.ensures.course in
     let ended = c.end_block.ensures.ended in
-    let base = c.requires.others.base in
     let stands = c.end_block.ensures.can.of.stands in
-    let marks = c.requires.end.1.marks in
     let stood = c.requires.can.of.stands in (
-      within course.run course.back ended base stands marks k span many stood,
-      tells_all course.run course.back ended base stands marks k span many stood c.requires.others.few,
+      within course.run course.back ended c.requires.end stands past k span many stood,
+      tells_all course.run course.back ended c.requires.end stands past k span many stood c.requires.others.few,
     )
 
 pub returns-clause-registered : goal.returns-clause-registered
@@ -95,17 +90,15 @@ returns-clause-registered g c =
 pub returns-clause-shuts : goal.returns-clause-shuts
 returns-clause-shuts g c =
     let course = c.run_by_passes.ensures.course in
-    all_shuts course.run course.back c.end_block.ensures.ended c.requires.others.base c.end_block.ensures.can.of.stands
-    c.requires.end.1.marks
+    all_shuts course.run course.back c.end_block.ensures.ended c.requires.end c.end_block.ensures.can.of.stands
 
 pub returns-clause-plans : goal.returns-clause-plans
 returns-clause-plans g c =
     let course = c.run_by_passes.ensures.course in
-    all_plans course.run course.back c.end_block.ensures.ended c.requires.others.base c.end_block.ensures.can.of.stands
-    c.requires.end.1.marks c.requires.can.knows c.requires.known
+    all_plans course.run course.back c.end_block.ensures.ended c.requires.end c.end_block.ensures.can.of.stands
+    c.requires.can.knows c.requires.known
 
 pub returns-clause-marks : goal.returns-clause-marks
 returns-clause-marks g c =
     let course = c.run_by_passes.ensures.course in
-    all_marks course.run course.back c.end_block.ensures.ended c.requires.others.base c.end_block.ensures.can.of.stands
-    c.requires.end.1.marks
+    all_marks course.run course.back c.end_block.ensures.ended c.requires.end c.end_block.ensures.can.of.stands

@@ -15,7 +15,6 @@ use Rattle.fish_lanes.specs.declared.work.Work.{Work}
 use Rattle.fish_report.specs.declared.item.Item.{Item}
 use Rattle.fish_rule.proofs.laws.Clocks.{later_self}
 use Rattle.fish_rule.specs.Passes.{view}
-use Rattle.fish_rule.specs.declared.view.Key.{Key}
 use Rattle.fish_lanes.proofs.control.run_statements.Goals as goal
 
 pub loop-work-init : goal.loop-work-init
@@ -24,7 +23,6 @@ loop-work-init g c =
     record {
       can = c.requires.can;
       read = c.requires.defs;
-      base = c.requires.base;
       held = subst (λ (z : List Item). Held v c.args.registrar.now v c.args.registrar.now [] z) (sym c.requires.empty)
           (held_self v c.args.registrar.now c.requires.can.start.outside
           (idle_law v c.requires.can.of.stands c.requires.can.start) c.requires.known);
@@ -121,10 +119,9 @@ loop-work-preserved g c =
     record {
       can = c.run_statement.ensures.can;
       read = c.run_statement.ensures.defs;
-      base = ap (λ (z : Key). z.number) (done.gains.on.learns.about ∙ c.find_boundary.ensures.gains.on.learns.about) ∙ inv.base;
       held = subst (λ (z : List Work × List Item). Held v r t q z.0 z.1) (λ j. (sym next j, sym c.in-Ok-push.ensures.ok j))
           (held_done v r u s t q (take i works) c.find_boundary.new.items w c.in-Ok.item c.requires.can.of.stands
-          c.run_statement.ensures.can.of.stands c.requires.base c.requires.can.knows c.requires.known
+          c.run_statement.ensures.can.of.stands c.requires.can.knows c.requires.known
           c.find_boundary.ensures.can.knows c.run_statement.ensures.can.knows held done);
       found = subst (AreFound v.clock t.clock (registry_of v r)) (sym c.in-Ok-push.ensures.ok)
           (found_next v.clock (registry_of v r) (view c.loop-work.pass) u c.loop-work.registrar s c.loop-work.items

@@ -18,7 +18,6 @@ use Rattle.fish_lanes.specs.declared.work.Work.{Work}
 use Rattle.fish_rule.proofs.laws.Learning.{learns_self}
 use Rattle.fish_rule.specs.Passes.{view}
 use Rattle.fish_rule.specs.Views.{AllOf}
-use Rattle.fish_rule.specs.declared.view.Key.{Key}
 use Rattle.fish_lanes.proofs.statements.run_works.Goals as goal
 
 pub loop-work-init : goal.loop-work-init
@@ -28,7 +27,6 @@ loop-work-init g c =
       of = c.requires.pass;
       start = c.requires.start;
       read = c.requires.defs;
-      base = c.requires.base;
       told = subst (λ (z : List Item). HasTold v v [] (answers z)) (sym c.requires.empty)
           (told_self v c.requires.start.outside (idle_law v c.requires.pass.stands c.requires.start));
       said = subst (HasSaid v v []) (sym c.requires.empty) (said_self v (learns_self v));
@@ -94,13 +92,12 @@ loop-work-preserved g c =
     let next : take (i + 1) works ≡ take i works ++ w ∷ [] = take_more works i w c.loop-work-test.true
     ∙ ap (λ (z : Work). take i works ++ z ∷ []) (sym c.work-item.is) in
     let told : HasTold v t (take i works ++ w ∷ []) (answers c.loop-work.items ++ c.in-Ok.item ∷ []) =
-    told_more v u t (take i works) (answers c.loop-work.items) w c.in-Ok.item is.gained.rows c.requires.base inv.told
+    told_more v u t (take i works) (answers c.loop-work.items) w c.in-Ok.item is.gained.rows inv.told
     is.gained.gains is.gained.first is.fit is.shuts (let m = is.gained.gains.on.learns.version in omega arith) in
     record {
       of = c.run_work.ensures.pass;
       start = gains_start u t is.gained.rows inv.start is.gained.gains;
       read = c.run_work.ensures.defs;
-      base = ap (λ (z : Key). z.number) is.gained.gains.on.learns.about ∙ inv.base;
       told = subst (λ (z : List Work × List Item). HasTold v t z.0 z.1)
           (λ j. (sym next j, sym pushed j)) told;
       said = subst (λ (z : List Work × List Item). HasSaid v t z.0 z.1) (λ j. (sym next j, sym c.in-Ok-push.ensures.ok j))

@@ -1,5 +1,5 @@
 -- The statements so far are told, and what their items say of plans is so.
-use Rattle.std.proofs.Common.{◌≡◌, take}
+use Rattle.std.proofs.Common.{take}
 use Rattle.fish_epoch.specs.Definitions.{IsDefsOf}
 use Rattle.fish_ingest.specs.Ingestion.{CanStart}
 use Rattle.fish_lanes.proofs.Done.{HasTold}
@@ -14,7 +14,6 @@ invariant-loop-work g l = record {
   of : IsPassOf l.log l.pass;
   start : CanStart (view l.pass);
   read : IsDefsOf (view l.pass) l.defs;
-  base : (view l.pass).about.number ≡ 0;
   told : HasTold (view l.fn.pass) (view l.pass) (take l.work-index l.works) (answers l.items);
   said : HasSaid (view l.fn.pass) (view l.pass) (take l.work-index l.works) l.items;
   answers : AllOf IsAnswer l.items;

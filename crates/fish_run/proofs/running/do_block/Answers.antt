@@ -59,7 +59,7 @@ returns-clause-leaves g c =
     leaves = leaves_of told c.args.block.now v u c.args.registrar.now c.run_block-end.new.registrar c.args.from items lanes
         c.run_block-end.result given of.works (omega (many, same, arith))
         (subst (λ (z : List Lane). AreKept z lanes) c.as_mut_slice.ensures.value c.run_block-end.ensures.kept) c.requires.go.end
-        (λ k span many. c.run_block-end.ensures.told k span (omega (many, c.run_block-end.auto.lanes, arith)))
+        (λ past k span many. c.run_block-end.ensures.told past k span (omega (many, c.run_block-end.auto.lanes, arith)))
         c.run_block-end.ensures.registered c.run_block-end.ensures.ended c.run_block-end.ensures.marks
         c.run_block-end.ensures.shuts (c.run_block-end.ensures.plans c.args.from c.requires.go.end) c.requires.go.settled
         c.run_block-end.ensures.alone

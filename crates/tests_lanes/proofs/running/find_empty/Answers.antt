@@ -20,7 +20,7 @@ returns-clause-end c =
           idle = ap (λ (z : View). z.flight) f ∙ c.requires.alone.idle;
         };
         outside = ap (λ (z : View). z.epoch) f ∙ c.requires.outside;
-        base = ap (λ (z : View). z.about.number) f ∙ first;
+        above = (let same = ap (λ (z : View). z.about.number) f in let zero_is = first in omega arith);
         settled = s.settled;
         count = c.settle-end.result.count;
         counted = (let e = s.tail.3 in omega arith);
