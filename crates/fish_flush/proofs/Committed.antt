@@ -7,16 +7,16 @@ use Rattle.std.proofs.lemmas.List.{drop-append-le}
 use Rattle.fish_catalog.specs.declared.commit.Commit.{Commit}
 use Rattle.fish_catalog.specs.declared.entry.Entry.{Entry}
 use Rattle.fish_catalog.specs.declared.row.CatRow.{CatRow}
-use Rattle.fish_disk.specs.Crash.{LeavesOnly}
+use Rattle.fish_disk.specs.Crash.{LeavesOnly, TornFrom}
 use Rattle.fish_disk.proofs.Moments.{leaves_more, leaves_none}
-use Rattle.fish_flush.specs.Carrying.{Carries, Drafts, LeavesEither, flusher_after}
+use Rattle.fish_flush.specs.Carrying.{Carries, IsDrafted, LeavesEither, flusher_after}
 use Rattle.fish_flush.specs.Kept.{IsAtRest, IsCommitted, commit_of}
 use Rattle.fish_flush.specs.Rows.{HoldsRows}
 use Rattle.fish_flush.specs.Writing.{EitherCommit, Grows}
 use Rattle.fish_flush.specs.declared.drafting.Draft.{Draft}
 use Rattle.fish_flush.specs.declared.flusher.Flusher.{Flusher}
 use Rattle.fish_flush.proofs.Growing.{grown_self}
-use Rattle.fish_flush.proofs.Images.{resting_gates}
+use Rattle.fish_flush.proofs.Images.{resting_gates, rests_lines}
 use Rattle.fish_image.proofs.Spelling.{told_word}
 use Rattle.fish_image.specs.Log.{Agrees, FollowsIn}
 use Rattle.fish_image.specs.Reached.{Reached}
@@ -95,22 +95,22 @@ turn_behind t = refl
 
 -- ---- a draft
 
-module _ (images : List ℕ → Type 0) (f : Flusher) (v u : View) (end : ℕ) (s : Shape) (rows : List CatRow) (to : ℕ) (d : Draft)
-    (drafts : Drafts v u end s f rows to d) (c : Commit) (old : List Entry) (at : IsAtRest images f c old)
+module _ (images : List ℕ → Type 0) (f : Flusher) (v u : View) (s : Shape) (rows : List CatRow) (to : ℕ) (d : Draft)
+    (lines : List ℕ) (drafts : IsDrafted u s f rows to d lines) (c : Commit) (old : List Entry) (at : IsAtRest images f c old)
     (bits : c.bucket_bits ≡ s.bucket_bits) (grown : Rattle.fish_flush.specs.Rows.HaveGrown c.count c.rows rows) where
   -- what is kept behind it
   after : Flusher
   after = flusher_after f d
 
   -- it goes on from what rests there
-  pub draft_grows : Grows images (1 - f.slot) f.line at.body at.lines d.body d.lines.items
+  pub draft_grows : Grows images (1 - f.slot) f.line at.body at.lines d.body lines
   draft_grows =
       let le = at.slot_is in
       let other : f.slot ≡ 1 - (1 - f.slot) = omega arith in
       let committed = at.committed in
       let before : line_count at.body ≡ f.line = body_lines c at.body committed.is.told ∙ committed.line in
       let behind = body_lines _ d.body drafts.told in
-      let within = drafts.within.0 in
+      let within = drafts.ordered in
       let size = drafts.size in
       let whole = committed.size in
       let line = committed.line in
@@ -126,18 +126,18 @@ module _ (images : List ℕ → Type 0) (f : Flusher) (v u : View) (end : ℕ) (
 
   -- what the draft adds
   pub draft_more : (more : List Entry) × AreTold u f.count more × (length more + f.count ≡ to)
-      × IsCommitted (flusher_after f d) (commit_of (flusher_after f d) s rows) d.body (at.lines ++ d.lines.items) (old ++ more)
+      × IsCommitted (flusher_after f d) (commit_of (flusher_after f d) s rows) d.body (at.lines ++ lines) (old ++ more)
   draft_more = drafts.read c at.body at.lines old at.committed bits grown
 
   -- an image with one of the commits stands for one of the logs
-  pub either_stands : (i : List ℕ) → EitherCommit at.body at.lines d.body (at.lines ++ d.lines.items) i
+  pub either_stands : (i : List ℕ) → EitherCommit at.body at.lines d.body (at.lines ++ lines) i
       → Stands c i old ⊎ Stands (commit_of (flusher_after f d) s rows) i (old ++ draft_more.0)
   either_stands i (inl h) = inl (record { body = at.body; lines = at.lines; commit = h; is = at.committed.is })
-  either_stands i (inr h) = inr (record { body = d.body; lines = at.lines ++ d.lines.items; commit = h; is = draft_more.3.is })
+  either_stands i (inr h) = inr (record { body = d.body; lines = at.lines ++ lines; commit = h; is = draft_more.3.is })
 
   -- a crash leaves one of them
   pub draft_leaves : {D : Type 0} (im : D → List ℕ → Type 0) (since : D → ℕ → List ℕ → Type 0) (moment : D → ℕ) (x y : D)
-      → LeavesOnly im since moment x y (EitherCommit at.body at.lines d.body (at.lines ++ d.lines.items))
+      → LeavesOnly im since moment x y (EitherCommit at.body at.lines d.body (at.lines ++ lines))
       → LeavesEither im since moment x y u rows c old
   draft_leaves im since moment x y leaves =
       let m = draft_more in
@@ -150,13 +150,13 @@ module _ (images : List ℕ → Type 0) (f : Flusher) (v u : View) (end : ℕ) (
         told = subst (λ (n : ℕ). AreTold u n m.0) (sym counted) m.1;
         rows_are = refl;
         count = omega arith;
-        leaves = leaves_more im since moment x y (EitherCommit at.body at.lines d.body (at.lines ++ d.lines.items)) _ either_stands leaves;
+        leaves = leaves_more im since moment x y (EitherCommit at.body at.lines d.body (at.lines ++ lines)) _ either_stands leaves;
       }
 
   -- and once it is committed, the file carries it
   pub draft_carries : (images' : List ℕ → Type 0) → Learns v u → v.about.number ≤ f.count → to ≤ u.learned.settled
       → AreTold v v.about.number (drop v.about.number old)
-      → ((i : List ℕ) → images' i → Rests (1 - f.slot) d.body (at.lines ++ d.lines.items) i)
+      → ((i : List ℕ) → images' i → Rests (1 - f.slot) d.body (at.lines ++ lines) i)
       → ((i : List ℕ) → images' i → lines_at + 32 * d.line ≤ length i)
       → (length (old ++ draft_more.0) ≡ to)
       × Carries images' (flusher_after f d) u s rows (commit_of (flusher_after f d) s rows) (old ++ draft_more.0)
@@ -179,7 +179,7 @@ module _ (images : List ℕ → Type 0) (f : Flusher) (v u : View) (end : ℕ) (
           rest = record {
             slot_is = omega arith;
             body = d.body;
-            lines = at.lines ++ d.lines.items;
+            lines = at.lines ++ lines;
             rests = rests;
             long = long;
             committed = m.3;
@@ -228,6 +228,45 @@ nothing_leaves im since moment x f u rows c old at = record {
   count = omega arith;
   leaves = leaves_none im since moment x _ (λ i here. inl (rest_stands (im x) f c old at i here));
 }
+
+-- where lines were written behind those that it counts, and perhaps torn, every image rests as it did
+pub torn_rests : {D : Type 0} (im : D → List ℕ → Type 0) (since : D → ℕ → List ℕ → Type 0) (moment : D → ℕ) (x y : D) (f : Flusher)
+    (c : Commit) (old : List Entry) (n : ℕ) (at : IsAtRest (im x) f c old)
+    → LeavesOnly im since moment x y (TornFrom (im x) (lines_at + 32 * f.line) n)
+    → (i : List ℕ) → TornFrom (im x) (lines_at + 32 * f.line) n i → Rests f.slot at.body at.lines i
+torn_rests im since moment x y f c old n at leaves i from =
+    let committed = at.committed in
+    let before : line_count at.body ≡ f.line = body_lines c at.body committed.is.told ∙ committed.line in
+    rests_lines f.slot f.line n at.body at.lines from.0 i at.slot_is (omega arith) from.2 (at.rests from.0 from.1)
+
+-- so every image stands for the log that it stood for
+pub torn_leaves : {D : Type 0} (im : D → List ℕ → Type 0) (since : D → ℕ → List ℕ → Type 0) (moment : D → ℕ) (x y : D) (f : Flusher)
+    (u : View) (rows : List CatRow) (c : Commit) (old : List Entry) (n : ℕ) → IsAtRest (im x) f c old
+    → LeavesOnly im since moment x y (TornFrom (im x) (lines_at + 32 * f.line) n) → LeavesEither im since moment x y u rows c old
+torn_leaves im since moment x y f u rows c old n at leaves = record {
+  more = [];
+  next = record c { rows = rows };
+  told = λ i e there. absurd (some-ne-none e (sym there));
+  rows_are = refl;
+  count = omega arith;
+  leaves = leaves_more im since moment x y (TornFrom (im x) (lines_at + 32 * f.line) n) _ (λ i from. inl (record {
+    body = at.body;
+    lines = at.lines;
+    commit = rests_commit f.slot at.body at.lines i at.slot_is (torn_rests im since moment x y f c old n at leaves i from);
+    is = at.committed.is;
+  })) leaves;
+}
+
+-- and the gates are synced
+pub torn_gates : {D : Type 0} (im : D → List ℕ → Type 0) (since : D → ℕ → List ℕ → Type 0) (moment : D → ℕ) (x y : D) (f : Flusher)
+    (c : Commit) (old : List Entry) (n : ℕ) → IsAtRest (im x) f c old
+    → LeavesOnly im since moment x y (TornFrom (im x) (lines_at + 32 * f.line) n) → GatesAreSynced (im y) (im y)
+torn_gates im since moment x y f c old n at leaves =
+    let le = at.slot_is in
+    let other : f.slot ≡ 1 - (1 - f.slot) = omega arith in
+    resting_gates (im y) (1 - f.slot) at.body at.lines (omega arith)
+    (λ i here. subst (λ (t : ℕ). Rests t at.body at.lines i) other
+    (torn_rests im since moment x y f c old n at leaves i (leaves.now i here)))
 
 -- an image that has all lines of a body is long enough for them
 pub long_rests : (slot : ℕ) (b w i : List ℕ) (m n : ℕ) → Rests slot b w i → length w ≡ 32 * n → lines_at + m ≤ length i

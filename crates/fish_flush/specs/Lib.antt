@@ -1,5 +1,6 @@
 pub mod Carrying
 pub mod Causes
+pub mod Filling
 pub mod Kept
 pub mod Laws
 pub mod Linking

@@ -17,17 +17,6 @@ abbrev pub IsLineAt : View → ℕ → ℕ → Type 0
 IsLineAt v n line = ((n ≡ v.about.number) × (line ≡ v.about.line))
     ⊎ ((f : Found) × Among f v.learned.found × (suc f.number ≡ n) × (f.line + f.lines ≡ line))
 
--- words after others are those of the region of a number, which the pass found at a line
-pub record IsRegionAt (v : View) (n line : ℕ) (before after : List ℕ) : Type 0 where
-  pub more : List ℕ
-  pub after_is : after ≡ before ++ more
-  pub found : Found
-  pub number : found.number ≡ n
-  pub line_is : found.line ≡ line
-  pub plain : found.kind ≢ Mark
-  pub among : Among found v.learned.found
-  pub has : HasWords v found more
-
 -- lines up to the end of the table
 abbrev pub EndsWithin : ℕ → ℕ → ℕ → Type 0
 EndsWithin end from to = (from ≤ to) × (to ≤ end)

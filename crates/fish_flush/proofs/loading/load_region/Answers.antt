@@ -1,0 +1,168 @@
+-- Each word that may be read is loaded to its place.
+use Rattle.std.proofs.Common.{◌≡◌, ℕ, ◌+◌, ◌*◌, ◌%◌, ◌<◌, List, length, inl, inr, refl, sym, ap, ◌∙◌, subst, arith}
+use Rattle.std.proofs.lemmas.List.{length-set}
+use Rattle.fish_flush.proofs.LoadedWords.{AreLoaded, loaded_all, loaded_head, loaded_known, loaded_more, loaded_past}
+use Rattle.fish_flush.proofs.AddedRegions.{few_lines}
+use Rattle.fish_layout.specs.Cleared.{IsKeyWord}
+use Rattle.fish_layout.specs.Header.{keys_of}
+use Rattle.fish_rule.proofs.laws.Learning.{extends_both, extends_to_read, read_here}
+use Rattle.fish_rule.proofs.laws.Steps.{found_law, header_law}
+use Rattle.fish_rule.specs.Logs.{Extends}
+use Rattle.fish_rule.specs.Passes.{IsPassOf, view}
+use Rattle.fish_rule.specs.Views.{Among}
+use Rattle.fish_rule.specs.declared.table.Log.{Log}
+use Rattle.fish_rule.specs.declared.table.Pass.{Pass}
+use Rattle.fish_rule.specs.declared.view.View.{View}
+use Rattle.fish_flush.proofs.loading.load_region.Goals as goal
+use Rattle.fish_flush.proofs.loading.load_region.Goals.{then-offset-last-via-then-offset-last}
+use Rattle.fish_flush.proofs.loading.load_region.Goals.{then-offset-last-via-else-offset-last+then-offset-ne1}
+use Rattle.fish_flush.proofs.loading.load_region.Goals.{then-offset-last, else-offset-last+else-offset-ne1}
+
+-- so it is after each turn
+abbrev IsKept : Log → View → Pass → List ℕ → ℕ → ℕ → ℕ → List ℕ → Type 0
+IsKept log v pass before line header n words = record {
+  of : IsPassOf log pass;
+  extends : Extends v (view pass);
+  size : length words ≡ length before;
+  loaded : AreLoaded (view pass) line header n words;
+}
+
+pub read_word-header-requires-clause-view : goal.read_word-header-requires-clause-view
+read_word-header-requires-clause-view c =
+    let f = c.requires.found in
+    let some_ = found_law (view c.args.pass.now) f.0 c.requires.pass.stands f.1 in
+    (f.0, record { found = f.1; words = f.3; inside = omega arith; plain = inl refl }, f.2)
+
+pub loop-offset-init : goal.loop-offset-init
+loop-offset-init c =
+    let v = view c.read_word-header.new.pass in
+    let told = c.read_word-header.ensures.view in
+    let room = c.requires.room in
+    record {
+      of = c.read_word-header.ensures.pass;
+      extends = extends_to_read (view c.args.pass.now) v (c.args.line * 4 + 0) c.read_word-header.result told;
+      size = length-set c.args.words.now 0 c.read_word-header.result;
+      loaded = loaded_head v c.args.line c.read_word-header.result c.args.words.now (omega arith)
+          (read_here (view c.args.pass.now) v (c.args.line * 4 + 0) c.read_word-header.result told);
+    }
+
+pub read_word-requires-clause-view : goal.read_word-requires-clause-view
+read_word-requires-clause-view c =
+    let i = c.loop-offset.invariant in
+    let from = c.loop-offset.auto.offset in
+    let test = c.loop-offset-test.true in
+    let v = view c.loop-offset.pass in
+    let f = c.requires.found in
+    let header : ℕ = c.read_word-header.result in
+    let among = i.extends.learns.found f.0 f.1 in
+    let known = subst (λ (z : ℕ). Among (record { place = z * 4; value = header }) v.learned.known) (sym f.2)
+    (loaded_known v c.args.line header c.loop-offset.offset c.loop-offset.words (omega arith) i.loaded) in
+    let lines = header_law v f.0 header i.of.stands among f.3 known in
+    let size = c.lines_in-size.ensures.value in
+    let last : c.from-last.result ≡ keys_of header = c.from-last.ensures ∙ c.keys_in.ensures.value in
+    let plain : ¬ IsKeyWord (keys_of header) c.loop-offset.offset = λ k. elim c.then-offset-last.branch [
+      | then-offset-last-via-then-offset-last w ↦ (let m = k.0 in let past = w.if-offset-last.true in absurd (omega arith))
+      | then-offset-last-via-else-offset-last+then-offset-ne1 w ↦ (let m = k.1 in let other = w.if-offset-ne1.true in absurd (omega arith))
+    ] in
+    (f.0, record { found = among; words = f.3; inside = omega arith; plain = inr (header, known, plain) }, f.2)
+
+pub bounds-words-offset : goal.bounds-words-offset
+bounds-words-offset c =
+    let i = c.loop-offset.invariant in
+    let from = c.loop-offset.auto.offset in
+    let test = c.loop-offset-test.true in
+    let v = view c.loop-offset.pass in
+    let f = c.requires.found in
+    let header : ℕ = c.read_word-header.result in
+    let among = i.extends.learns.found f.0 f.1 in
+    let known = subst (λ (z : ℕ). Among (record { place = z * 4; value = header }) v.learned.known) (sym f.2)
+    (loaded_known v c.args.line header c.loop-offset.offset c.loop-offset.words (omega arith) i.loaded) in
+    let lines = header_law v f.0 header i.of.stands among f.3 known in
+    let few = few_lines v f.0 i.of.stands among in
+    let size = c.lines_in-size.ensures.value in
+    let room = c.requires.room in
+    let same = i.size in
+    omega arith
+
+pub loop-offset-preserved : goal.loop-offset-preserved
+loop-offset-preserved c =
+    let i = c.loop-offset.invariant in
+    let from = c.loop-offset.auto.offset in
+    let test = c.loop-offset-test.true in
+    let v = view c.loop-offset.pass in
+    let f = c.requires.found in
+    let header : ℕ = c.read_word-header.result in
+    let among = i.extends.learns.found f.0 f.1 in
+    let known = subst (λ (z : ℕ). Among (record { place = z * 4; value = header }) v.learned.known) (sym f.2)
+    (loaded_known v c.args.line header c.loop-offset.offset c.loop-offset.words (omega arith) i.loaded) in
+    let lines = header_law v f.0 header i.of.stands among f.3 known in
+    let few = few_lines v f.0 i.of.stands among in
+    let size = c.lines_in-size.ensures.value in
+    let room = c.requires.room in
+    let same = i.size in
+    let within : c.loop-offset.offset < length c.loop-offset.words = omega arith in
+    let last : c.from-last.result ≡ keys_of header = c.from-last.ensures ∙ c.keys_in.ensures.value in
+    elim c.if-offset-last.branch [
+      | then-offset-last w ↦ (
+          let u = view w.read_word.new.pass in
+          let told = w.read_word.ensures.view in
+          let more = extends_to_read v u (c.args.line * 4 + c.loop-offset.offset) w.read_word.result told in
+          subst (λ (z : Pass × List ℕ). IsKept c.args.log.now (view c.args.pass.now) z.0 c.args.words.now c.args.line header
+          (c.loop-offset.offset + 1) z.1) (λ j. (sym w.pass-is j, sym w.words-is j)) (record {
+            of = w.read_word.ensures.pass;
+            extends = extends_both _ _ _ i.extends more;
+            size = length-set c.loop-offset.words c.loop-offset.offset w.read_word.result ∙ same;
+            loaded = loaded_more v u c.args.line header c.loop-offset.offset w.read_word.result c.loop-offset.words (omega arith) within more
+                i.loaded (read_here v u (c.args.line * 4 + c.loop-offset.offset) w.read_word.result told);
+          })
+          )
+      | else-offset-last+else-offset-ne1 w ↦ (
+          let upto = w.if-offset-last.false in
+          let first = w.if-offset-ne1.false in
+          subst (λ (z : Pass × List ℕ). IsKept c.args.log.now (view c.args.pass.now) z.0 c.args.words.now c.args.line header
+          (c.loop-offset.offset + 1) z.1) (λ j. (sym w.pass-is j, sym w.words-is j)) (record {
+            of = i.of;
+            extends = i.extends;
+            size = same;
+            loaded = loaded_past v c.args.line header c.loop-offset.offset c.loop-offset.words (omega arith, omega arith) i.loaded;
+          })
+          )
+    ]
+
+pub returns-clause-words : goal.returns-clause-words
+returns-clause-words c = λ f among line plain.
+    let i = c.loop-offset.invariant in
+    let from = c.loop-offset.auto.offset in
+    let test = c.loop-offset-test.false in
+    let v = view c.loop-offset.pass in
+    let header : ℕ = c.read_word-header.result in
+    let there = i.extends.learns.found f among in
+    let some_ = found_law v f i.of.stands there in
+    let few = few_lines v f i.of.stands there in
+    let known = subst (λ (z : ℕ). Among (record { place = z * 4; value = header }) v.learned.known) (sym line)
+    (loaded_known v c.args.line header c.loop-offset.offset c.loop-offset.words (omega arith) i.loaded) in
+    let lines = header_law v f header i.of.stands there plain known in
+    let size = c.lines_in-size.ensures.value in
+    let room = c.requires.room in
+    let same = i.size in
+    let upto = c.loop-offset.auto.offset-end (omega arith) in
+    let all : c.loop-offset.offset ≡ c.lines_in-size.result * 4 = omega arith in
+    loaded_all v f c.args.line header (c.lines_in-size.result * 4) c.loop-offset.words (omega arith) (sym line) (omega arith) (omega arith)
+    (subst (λ (z : ℕ). AreLoaded v c.args.line header z c.loop-offset.words) all i.loaded)
+
+pub returns-clause-within : goal.returns-clause-within
+returns-clause-within c =
+    let i = c.loop-offset.invariant in
+    let from = c.loop-offset.auto.offset in
+    let v = view c.loop-offset.pass in
+    let f = c.requires.found in
+    let header : ℕ = c.read_word-header.result in
+    let among = i.extends.learns.found f.0 f.1 in
+    let known = subst (λ (z : ℕ). Among (record { place = z * 4; value = header }) v.learned.known) (sym f.2)
+    (loaded_known v c.args.line header c.loop-offset.offset c.loop-offset.words (omega arith) i.loaded) in
+    let lines = header_law v f.0 header i.of.stands among f.3 known in
+    let few = few_lines v f.0 i.of.stands among in
+    let size = c.lines_in-size.ensures.value in
+    let room = c.requires.room in
+    let same = i.size in
+    omega arith
