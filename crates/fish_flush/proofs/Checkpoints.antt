@@ -109,7 +109,7 @@ may_draft images v m f s rows c old to settles rises holds h =
     }
 
 -- the draft may be saved
-pub may_save : (images : List ℕ → Type 0) (v m u : View) (end : ℕ) (s : Shape) (f : Flusher) (d : Draft) (rows : List CatRow)
+unfoldable pub may_save : (images : List ℕ → Type 0) (v m u : View) (end : ℕ) (s : Shape) (f : Flusher) (d : Draft) (rows : List CatRow)
     (c : Commit) (old : List Entry) (to : ℕ)
     → OnlySettles v m → v.learned.settled ≤ to → to ≤ m.learned.settled → to ≤ m.learned.count → Extends m u → HoldsRows v rows
     → Carries images f v s rows c old → Drafts u end s f rows to d → MaySave images u end s f d rows c old

@@ -10,6 +10,7 @@ use Rattle.fish_catalog.specs.declared.row.CatRow.{CatRow}
 use Rattle.fish_disk.specs.Crash.{LeavesOnly, TornFrom}
 use Rattle.fish_disk.proofs.Moments.{leaves_more, leaves_none}
 use Rattle.fish_flush.specs.Carrying.{Carries, IsDrafted, LeavesEither, flusher_after}
+use Rattle.fish_flush.specs.Going.{ComesFrom, GoesOnFrom}
 use Rattle.fish_flush.specs.Kept.{IsAtRest, IsCommitted, commit_of}
 use Rattle.fish_flush.specs.Rows.{HoldsRows}
 use Rattle.fish_flush.specs.Writing.{EitherCommit, Grows}
@@ -22,14 +23,14 @@ use Rattle.fish_image.specs.Log.{Agrees, FollowsIn}
 use Rattle.fish_image.specs.Reached.{Reached}
 use Rattle.fish_image.specs.Reading.{IsTold}
 use Rattle.fish_image.specs.Slot.{number}
-use Rattle.fish_image.specs.Stands.{Stands}
+use Rattle.fish_image.specs.Stands.{IsLog, Stands}
 use Rattle.fish_rule.proofs.laws.Alone.{tells_later}
 use Rattle.fish_rule.specs.Logs.{AreTold, Learns, Tells}
 use Rattle.fish_rule.specs.declared.table.Shape.{Shape}
 use Rattle.fish_rule.specs.declared.view.Key.{Key}
 use Rattle.fish_rule.specs.declared.view.View.{View}
 use Rattle.fish_slots.proofs.Commits.{rests_commit}
-use Rattle.fish_slots.specs.Commits.{Rests, next_turn, turn_of}
+use Rattle.fish_slots.specs.Commits.{HasCommit, Rests, next_turn, turn_of}
 use Rattle.fish_slots.specs.Places.{lines_at}
 use Rattle.fish_slots.specs.Slots.{GatesAreSynced, line_count}
 
@@ -59,7 +60,7 @@ committed_length f c body lines log h =
     ap (λ (l : List Entry). length l) (sym h.is.stands.entries) ∙ agrees_entries c _ c.count h.is.stands.end h.is.stands.agrees
 
 -- entries that are told, one behind the other
-told_both : (u : View) (base : ℕ) (xs ys : List Entry) → AreTold u base xs → AreTold u (base + length xs) ys → AreTold u base (xs ++ ys)
+pub told_both : (u : View) (base : ℕ) (xs ys : List Entry) → AreTold u base xs → AreTold u (base + length xs) ys → AreTold u base (xs ++ ys)
 told_both u base [] ys first second i e at =
     let same : base + length (let none : List Entry = [] in none) + i ≡ base + i = omega arith in
     subst (λ (n : ℕ). Tells u n e) same (second i e at)
@@ -92,6 +93,27 @@ body_turn c b h = told_word c b h 1 (omega arith)
 turn_behind : (t : ℕ) → next_turn t ≡ (t + 1) % 3
 unfolding next_turn
 turn_behind t = refl
+
+-- ---- images
+
+-- an image that has the last commit goes on from its lines
+still_goes : (f : Flusher) (c : Commit) (log : List Entry) (images : List ℕ → Type 0) (at : IsAtRest images f c log) (i : List ℕ)
+    → HasCommit at.body at.lines i → GoesOnFrom c at.lines i
+still_goes f c log images at i h =
+    let same = sym (append-nil at.lines) in
+    record {
+      commit = c;
+      body = at.body;
+      more = [];
+      log = log;
+      has = subst (λ (l : List ℕ). HasCommit at.body l i) same h;
+      is = subst (λ (l : List ℕ). IsLog c at.body l log) same at.committed.is;
+      size = ap (λ (l : List ℕ). length l) (append-nil at.lines) ∙ at.committed.size;
+      bits = refl;
+      counts = omega arith;
+      ends = omega arith;
+      grown = grown_self c.count c.rows;
+    }
 
 -- ---- a draft
 
@@ -135,11 +157,35 @@ module _ (images : List ℕ → Type 0) (f : Flusher) (v u : View) (s : Shape) (
   either_stands i (inl h) = inl (record { body = at.body; lines = at.lines; commit = h; is = at.committed.is })
   either_stands i (inr h) = inr (record { body = d.body; lines = at.lines ++ lines; commit = h; is = draft_more.3.is })
 
+  -- and goes on from the lines of the last one
+  pub either_goes : (i : List ℕ) → EitherCommit at.body at.lines d.body (at.lines ++ lines) i → GoesOnFrom c at.lines i
+  either_goes i (inl h) = still_goes f c old images at i h
+  either_goes i (inr h) =
+      let m = draft_more in
+      let counted = at.committed.count in
+      let upto = m.2 in
+      let count = drafts.count in
+      let line = at.committed.line in
+      let ordered = drafts.ordered in
+      record {
+        commit = commit_of (flusher_after f d) s rows;
+        body = d.body;
+        more = lines;
+        log = old ++ m.0;
+        has = h;
+        is = m.3.is;
+        size = m.3.size;
+        bits = bits;
+        counts = omega arith;
+        ends = omega arith;
+        grown = grown;
+      }
+
   -- a crash leaves one of them
   pub draft_leaves : {D : Type 0} (im : D → List ℕ → Type 0) (since : D → ℕ → List ℕ → Type 0) (moment : D → ℕ) (x y : D)
-      → LeavesOnly im since moment x y (EitherCommit at.body at.lines d.body (at.lines ++ lines))
-      → LeavesEither im since moment x y u rows c old
-  draft_leaves im since moment x y leaves =
+      → LeavesOnly im since moment x y (EitherCommit at.body at.lines d.body (at.lines ++ lines)) → ComesFrom (im x) (im y)
+      → LeavesEither im since moment x y u rows c old at.lines
+  draft_leaves im since moment x y leaves was =
       let m = draft_more in
       let counted = at.committed.count in
       let upto = m.2 in
@@ -151,6 +197,8 @@ module _ (images : List ℕ → Type 0) (f : Flusher) (v u : View) (s : Shape) (
         rows_are = refl;
         count = omega arith;
         leaves = leaves_more im since moment x y (EitherCommit at.body at.lines d.body (at.lines ++ lines)) _ either_stands leaves;
+        goes = leaves_more im since moment x y (EitherCommit at.body at.lines d.body (at.lines ++ lines)) _ either_goes leaves;
+        was = was;
       }
 
   -- and once it is committed, the file carries it
@@ -218,8 +266,8 @@ rest_gates images f c log at =
 
 -- where nothing was written, every image stands for the log that it stood for
 pub nothing_leaves : {D : Type 0} (im : D → List ℕ → Type 0) (since : D → ℕ → List ℕ → Type 0) (moment : D → ℕ) (x : D) (f : Flusher)
-    (u : View) (rows : List CatRow) (c : Commit) (old : List Entry) → IsAtRest (im x) f c old
-    → LeavesEither im since moment x x u rows c old
+    (u : View) (rows : List CatRow) (c : Commit) (old : List Entry) → (at : IsAtRest (im x) f c old)
+    → LeavesEither im since moment x x u rows c old at.lines
 nothing_leaves im since moment x f u rows c old at = record {
   more = [];
   next = record c { rows = rows };
@@ -227,6 +275,9 @@ nothing_leaves im since moment x f u rows c old at = record {
   rows_are = refl;
   count = omega arith;
   leaves = leaves_none im since moment x _ (λ i here. inl (rest_stands (im x) f c old at i here));
+  goes = leaves_none im since moment x _ (λ i here. still_goes f c old (im x) at i
+      (rests_commit f.slot at.body at.lines i at.slot_is (at.rests i here)));
+  was = λ i here. (i, here);
 }
 
 -- where lines were written behind those that it counts, and perhaps torn, every image rests as it did
@@ -241,21 +292,24 @@ torn_rests im since moment x y f c old n at leaves i from =
 
 -- so every image stands for the log that it stood for
 pub torn_leaves : {D : Type 0} (im : D → List ℕ → Type 0) (since : D → ℕ → List ℕ → Type 0) (moment : D → ℕ) (x y : D) (f : Flusher)
-    (u : View) (rows : List CatRow) (c : Commit) (old : List Entry) (n : ℕ) → IsAtRest (im x) f c old
-    → LeavesOnly im since moment x y (TornFrom (im x) (lines_at + 32 * f.line) n) → LeavesEither im since moment x y u rows c old
-torn_leaves im since moment x y f u rows c old n at leaves = record {
-  more = [];
-  next = record c { rows = rows };
-  told = λ i e there. absurd (some-ne-none e (sym there));
-  rows_are = refl;
-  count = omega arith;
-  leaves = leaves_more im since moment x y (TornFrom (im x) (lines_at + 32 * f.line) n) _ (λ i from. inl (record {
-    body = at.body;
-    lines = at.lines;
-    commit = rests_commit f.slot at.body at.lines i at.slot_is (torn_rests im since moment x y f c old n at leaves i from);
-    is = at.committed.is;
-  })) leaves;
-}
+    (u : View) (rows : List CatRow) (c : Commit) (old : List Entry) (n : ℕ) → (at : IsAtRest (im x) f c old)
+    → LeavesOnly im since moment x y (TornFrom (im x) (lines_at + 32 * f.line) n)
+    → LeavesEither im since moment x y u rows c old at.lines
+torn_leaves im since moment x y f u rows c old n at leaves =
+    let has : (i : List ℕ) → TornFrom (im x) (lines_at + 32 * f.line) n i → HasCommit at.body at.lines i =
+    λ i from. rests_commit f.slot at.body at.lines i at.slot_is (torn_rests im since moment x y f c old n at leaves i from) in
+    record {
+      more = [];
+      next = record c { rows = rows };
+      told = λ i e there. absurd (some-ne-none e (sym there));
+      rows_are = refl;
+      count = omega arith;
+      leaves = leaves_more im since moment x y (TornFrom (im x) (lines_at + 32 * f.line) n) _
+          (λ i from. inl (record { body = at.body; lines = at.lines; commit = has i from; is = at.committed.is })) leaves;
+      goes = leaves_more im since moment x y (TornFrom (im x) (lines_at + 32 * f.line) n) _
+          (λ i from. still_goes f c old (im x) at i (has i from)) leaves;
+      was = λ i here. (let from = leaves.now i here in (from.0, from.1));
+    }
 
 -- and the gates are synced
 pub torn_gates : {D : Type 0} (im : D → List ℕ → Type 0) (since : D → ℕ → List ℕ → Type 0) (moment : D → ℕ) (x y : D) (f : Flusher)

@@ -10,6 +10,7 @@ use Rattle.fish_flush.proofs.Committed.{draft_carries, draft_grows, draft_leaves
 use Rattle.fish_flush.proofs.Drafted.{drafted}
 use Rattle.fish_flush.proofs.Images.{grows_on}
 use Rattle.fish_flush.proofs.PageWrites.{put_is, told_in}
+use Rattle.fish_flush.specs.Going.{ComesFrom}
 use Rattle.fish_flush.specs.Carrying.{Carries, IsDrafted, LeavesEither, MaySave, flusher_after}
 use Rattle.fish_flush.specs.Filling.{HasCopied}
 use Rattle.fish_flush.specs.Kept.{commit_of}
@@ -56,14 +57,15 @@ module _ {D : Type 0} (content : D → Option (List ℕ)) (images : D → List �
   -- whatever a crash leaves then, one of the two commits is there
   pub saved_leaves : (z : D)
       → LeavesOnly images since moment y z (EitherCommit may.rest.body may.rest.lines d.body (may.rest.lines ++ lines))
-      → LeavesEither images since moment x z u rows c old
-  saved_leaves z leaves =
+      → ComesFrom (images y) (images z) → LeavesEither images since moment x z u rows c old may.rest.lines
+  saved_leaves z leaves was =
       let P : List ℕ → Type 0 = EitherCommit may.rest.body may.rest.lines d.body (may.rest.lines ++ lines) in
       let first = leaves_more images since moment x y (TornFrom (images x) (lines_at + 32 * f.line) n) P
       (λ i from. inl (rests_commit f.slot may.rest.body may.rest.lines i may.rest.slot_is
       (torn_rests images since moment x y f c old n may.rest saved_torn i from))) saved_torn in
       draft_leaves (images x) f m u s rows d.count (record d { batch = b }) lines saved_draft c old may.rest may.bits may.grown
       images since moment x z (leaves_then images since moment x y z P first leaves)
+      (λ i here. (let mid = was i here in let from = saved_torn.now mid.0 mid.1 in (from.0, from.1)))
 
   -- and once the body counts alone, the file carries the log with its entries
   pub saved_carries : (z : D) → ((i : List ℕ) → images z i → Rests (1 - f.slot) d.body (may.rest.lines ++ lines) i)

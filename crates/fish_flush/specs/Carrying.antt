@@ -5,6 +5,7 @@ use Rattle.fish_catalog.specs.declared.entry.Entry.{Entry}
 use Rattle.fish_catalog.specs.declared.row.CatRow.{CatRow}
 use Rattle.fish_disk.specs.Crash.{LeavesOnly}
 use Rattle.fish_flush.specs.Filling.{Begins}
+use Rattle.fish_flush.specs.Going.{ComesFrom, GoesOnFrom}
 use Rattle.fish_flush.specs.Kept.{IsAtRest, IsCommitted, commit_of}
 use Rattle.fish_flush.specs.Reading.{EndsWithin, IsLineAt}
 use Rattle.fish_flush.specs.Rows.{HaveGrown, HoldsRows}
@@ -130,12 +131,14 @@ IsSaved images images' v u end s f d f' = (rows : List CatRow) (c : Commit) (old
     → (more : List Entry) × (length (old ++ more) ≡ d.count) × Carries images' f' u s rows (commit_of f' s rows) (old ++ more)
 
 -- a crash at any moment leaves an image that stands for the log of the last commit or of a new one: one that goes on by entries
--- that the pass knows, with these rows
+-- that the pass knows, with these rows, and by lines after these of the last one; and there is an image only where there was one
 pub record LeavesEither {D : Type 0} (images : D → List ℕ → Type 0) (since : D → ℕ → List ℕ → Type 0) (moment : D → ℕ)
-    (old new : D) (u : View) (rows : List CatRow) (c : Commit) (log : List Entry) : Type 0 where
+    (old new : D) (u : View) (rows : List CatRow) (c : Commit) (log : List Entry) (lines : List ℕ) : Type 0 where
   pub more : List Entry
   pub next : Commit
   pub told : AreTold u c.count more
   pub rows_are : next.rows ≡ rows
   pub count : next.count ≡ c.count + length more
   pub leaves : LeavesOnly images since moment old new (λ i. Stands c i log ⊎ Stands next i (log ++ more))
+  pub goes : LeavesOnly images since moment old new (GoesOnFrom c lines)
+  pub was : ComesFrom (images old) (images new)

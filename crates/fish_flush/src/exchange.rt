@@ -6,6 +6,7 @@ ghost use Rattle.fish_disk.specs.Crash.{LeavesOnly};
 ghost use Rattle.fish_slots.specs.Commits.{Rests};
 ghost use Rattle.fish_slots.specs.Places.{body_bytes, gate_at};
 ghost use Rattle.fish_slots.specs.Slots.{GatesAreSynced};
+ghost use Rattle.fish_flush.specs.Going.{ComesFrom};
 ghost use Rattle.fish_flush.specs.Writing.{AreSealed, EitherCommit, GrowsBy};
 
 use fish_disk::Disk;
@@ -23,6 +24,7 @@ pub(crate) fn put_body<D: Disk>(disk: &mut D, slot: u8, body: &[u8]) -> Result<(
     ensures crash { (line : ℕ) (b w more : List ℕ) → GrowsBy D.content D.images disk.old slot line b w body.now more
         → LeavesOnly D.images D.since D.moment disk.old disk.new
         (EitherCommit b w body.now (w ++ more)) }
+    ensures was { ComesFrom (D.images disk.old) (D.images disk.new) }
     ensures longer { (n : ℕ) → ((c : List ℕ) → D.images disk.old c → n ≤ length c)
         → (c : List ℕ) → D.images disk.new c → n ≤ length c }
     ensures gates { GatesAreSynced (D.images disk.new) (D.images disk.new) }
@@ -42,6 +44,7 @@ fn take_over<D: Disk>(disk: &mut D, slot: u8) -> Result<(), Failed>
         → (c : List ℕ) → D.images disk.new c → Rests slot d v c) }
     ensures crash { (b w d v : List ℕ) → AreSealed (D.images disk.old) slot b w d v
         → LeavesOnly D.images D.since D.moment disk.old disk.new (EitherCommit b w d v) }
+    ensures was { ComesFrom (D.images disk.old) (D.images disk.new) }
     ensures longer { (n : ℕ) → ((c : List ℕ) → D.images disk.old c → n ≤ length c)
         → (c : List ℕ) → D.images disk.new c → n ≤ length c }
     ensures gates { GatesAreSynced (D.images disk.new) (D.images disk.new) }

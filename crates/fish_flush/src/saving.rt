@@ -47,8 +47,8 @@ pub fn checkpoint<D: Disk>(
     ensures committed { IfOk result (HasCommitted (D.images disk.old) (D.images disk.new) flusher.old flusher.new (view pass.old)
         (view pass.new) log.now.shape catalog.now) }
     ensures crash { (c : Commit) (old : List Entry)
-        → Carries (D.images disk.old) flusher.old (view pass.old) log.now.shape catalog.now c old
-        → LeavesEither D.images D.since D.moment disk.old disk.new (view pass.new) catalog.now c old }
+        → (h : Carries (D.images disk.old) flusher.old (view pass.old) log.now.shape catalog.now c old)
+        → LeavesEither D.images D.since D.moment disk.old disk.new (view pass.new) catalog.now c old h.rest.lines }
     ensures gates { GatesAreSynced (D.images disk.new) (D.images disk.new) }
     ensures calls { D.moment disk.new ≤ D.moment disk.old + pages_between flusher.old.line log.now.key.end + 6 }
 
@@ -79,8 +79,8 @@ fn save<D: Disk>(
     ensures saved { OnOk result (IsSaved (D.images disk.old) (D.images disk.new) (view pass.old) (view pass.new) log.now.key.end
         log.now.shape flusher.old draft flusher.new) }
     ensures crash { (rows : List CatRow) (c : Commit) (old : List Entry)
-        → MaySave (D.images disk.old) (view pass.old) log.now.key.end log.now.shape flusher.old draft rows c old
-        → LeavesEither D.images D.since D.moment disk.old disk.new (view pass.new) rows c old }
+        → (may : MaySave (D.images disk.old) (view pass.old) log.now.key.end log.now.shape flusher.old draft rows c old)
+        → LeavesEither D.images D.since D.moment disk.old disk.new (view pass.new) rows c old may.rest.lines }
     ensures gates { GatesAreSynced (D.images disk.new) (D.images disk.new) }
     ensures calls { D.moment disk.new ≤ D.moment disk.old + pages_between flusher.old.line log.now.key.end + 6 }
     ensures cause { HasFlushCause (D.faults disk.old) (D.faults disk.new) result }
@@ -118,8 +118,8 @@ fn write_draft<D: Disk>(
     ensures saved { OnOk result (IsSaved (D.images disk.old) (D.images disk.new) (view pass.old) (view pass.new) log.now.key.end
         log.now.shape flusher.now draft.old (flusher_after flusher.now draft.new)) }
     ensures crash { (rows : List CatRow) (c : Commit) (old : List Entry)
-        → MaySave (D.images disk.old) (view pass.old) log.now.key.end log.now.shape flusher.now draft.old rows c old
-        → LeavesEither D.images D.since D.moment disk.old disk.new (view pass.new) rows c old }
+        → (may : MaySave (D.images disk.old) (view pass.old) log.now.key.end log.now.shape flusher.now draft.old rows c old)
+        → LeavesEither D.images D.since D.moment disk.old disk.new (view pass.new) rows c old may.rest.lines }
     ensures gates { GatesAreSynced (D.images disk.new) (D.images disk.new) }
     ensures calls { D.moment disk.new ≤ D.moment disk.old + pages_between flusher.now.line log.now.key.end + 6 }
     ensures cause { HasCause (D.faults disk.old) (D.faults disk.new) result }

@@ -19,6 +19,7 @@ use Rattle.fish_flush.proofs.Growing.{grown_agrees}
 use Rattle.fish_flush.proofs.Words.{length-words_of, words_both}
 use Rattle.fish_image.proofs.Agreement.{agrees_first, agrees_more, agrees_once, agrees_within, front_whole, goes, lines_small, same_lines}
 use Rattle.fish_image.proofs.Regions.{no_void}
+use Rattle.fish_flush.specs.Going.{GoesOnFrom}
 use Rattle.fish_image.specs.Log.{Agrees, Follows, FollowsIn, IsRecordAt, region, region_lines, values_under}
 use Rattle.fish_image.specs.Reached.{Reached}
 use Rattle.fish_image.specs.Stands.{words_in}
@@ -34,7 +35,6 @@ use Rattle.fish_store.proofs.Pages.{first_lines, same_page}
 use Rattle.fish_image.specs.Reading.{IsTold}
 use Rattle.fish_recover.proofs.Once.{told_once}
 use Rattle.fish_slots.proofs.Commits.{one_commit}
-use Rattle.fish_store.specs.Going.{GoesOnFrom}
 use Rattle.fish_store.specs.Laws.{StaysCarried}
 
 -- the text of each row of a catalogue is a definition

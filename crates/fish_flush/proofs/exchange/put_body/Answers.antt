@@ -92,3 +92,12 @@ returns-clause-longer g c = λ n each.
     let long = each from.0 from.1 in
     let more = from.2.no_shorter in
     omega arith)
+
+pub returns-in_err-seal-clause-was : goal.returns-in_err-seal-clause-was
+returns-in_err-seal-clause-was g c = λ e here. (let from = c.seal.ensures.crash.now e here in (from.0, from.1))
+
+pub returns-clause-was : goal.returns-clause-was
+returns-clause-was g c = λ e here.
+    let mid = c.take_over.ensures.was e here in
+    let from = c.seal.ensures.crash.now mid.0 mid.1 in
+    (from.0, from.1)

@@ -123,6 +123,7 @@ returns-clause-committed g c =
     })
 
 pub returns-clause-crash : goal.returns-clause-crash
+unfolding may_save
 returns-clause-crash g c = λ e old h.
     let v = view c.args.pass.now in
     let m = view c.settle-to.new.pass in

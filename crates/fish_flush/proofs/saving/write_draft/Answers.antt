@@ -131,3 +131,4 @@ returns-clause-crash g c = λ rows e old h.
     c.write_settled.new.disk (view c.args.pass.now) (view c.write_settled.new.pass) c.args.log.now.key.end c.args.log.now.shape
     c.args.flusher.now c.args.draft.now c.write_settled.new.batch done.0 crash.0 c.write_settled.ensures.extends
     c.write_settled.ensures.pass.stands done.1 done.2 crash.1 rows e old h))))
+    c.put_body.ensures.was
