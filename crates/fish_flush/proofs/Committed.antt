@@ -2,13 +2,12 @@
 use Rattle.std.proofs.Common.{◌≡◌, ℕ, zero, suc, ◌+◌, ◌-◌, ◌*◌, ◌%◌, ◌<◌, ◌≤◌, ◌⊎◌, inl, inr, List, [], ◌∷◌}
 use Rattle.std.proofs.Common.{◌++◌, length, drop}
 use Rattle.std.proofs.Common.{refl, ap, sym, ◌∙◌, subst, arith, length-append, append-nil}
-use mathlib.Core.Option.{some-ne-none}
 use Rattle.std.proofs.lemmas.List.{drop-append-le}
 use Rattle.fish_catalog.specs.declared.commit.Commit.{Commit}
 use Rattle.fish_catalog.specs.declared.entry.Entry.{Entry}
 use Rattle.fish_catalog.specs.declared.row.CatRow.{CatRow}
-use Rattle.fish_disk.specs.Crash.{LeavesOnly, TornFrom}
-use Rattle.fish_disk.proofs.Moments.{leaves_more, leaves_none}
+use Rattle.fish_disk.specs.Crash.{LeavesOnly}
+use Rattle.fish_disk.proofs.Moments.{leaves_more}
 use Rattle.fish_flush.specs.Carrying.{Carries, IsDrafted, LeavesEither, flusher_after}
 use Rattle.fish_flush.specs.Going.{ComesFrom, GoesOnFrom}
 use Rattle.fish_flush.specs.Kept.{IsAtRest, IsCommitted, commit_of}
@@ -17,7 +16,6 @@ use Rattle.fish_flush.specs.Writing.{EitherCommit, Grows}
 use Rattle.fish_flush.specs.declared.drafting.Draft.{Draft}
 use Rattle.fish_flush.specs.declared.flusher.Flusher.{Flusher}
 use Rattle.fish_flush.proofs.Growing.{grown_self}
-use Rattle.fish_flush.proofs.Images.{resting_gates, rests_lines}
 use Rattle.fish_image.proofs.Spelling.{told_word}
 use Rattle.fish_image.specs.Log.{Agrees, FollowsIn}
 use Rattle.fish_image.specs.Reached.{Reached}
@@ -29,10 +27,9 @@ use Rattle.fish_rule.specs.Logs.{AreTold, Learns, Tells}
 use Rattle.fish_rule.specs.declared.table.Shape.{Shape}
 use Rattle.fish_rule.specs.declared.view.Key.{Key}
 use Rattle.fish_rule.specs.declared.view.View.{View}
-use Rattle.fish_slots.proofs.Commits.{rests_commit}
 use Rattle.fish_slots.specs.Commits.{HasCommit, Rests, next_turn, turn_of}
 use Rattle.fish_slots.specs.Places.{lines_at}
-use Rattle.fish_slots.specs.Slots.{GatesAreSynced, line_count}
+use Rattle.fish_slots.specs.Slots.{line_count}
 
 -- ---- entries
 
@@ -97,7 +94,7 @@ turn_behind t = refl
 -- ---- images
 
 -- an image that has the last commit goes on from its lines
-still_goes : (f : Flusher) (c : Commit) (log : List Entry) (images : List ℕ → Type 0) (at : IsAtRest images f c log) (i : List ℕ)
+pub still_goes : (f : Flusher) (c : Commit) (log : List Entry) (images : List ℕ → Type 0) (at : IsAtRest images f c log) (i : List ℕ)
     → HasCommit at.body at.lines i → GoesOnFrom c at.lines i
 still_goes f c log images at i h =
     let same = sym (append-nil at.lines) in
@@ -244,83 +241,6 @@ module _ (images : List ℕ → Type 0) (f : Flusher) (v u : View) (s : Shape) (
               (subst (λ (n : ℕ). AreTold u n m.0) place m.1));
         },
       )
-
--- at rest every image stands for the log
-pub rest_stands : (images : List ℕ → Type 0) (f : Flusher) (c : Commit) (log : List Entry) → IsAtRest images f c log
-    → (i : List ℕ) → images i → Stands c i log
-rest_stands images f c log at i here = record {
-  body = at.body;
-  lines = at.lines;
-  commit = rests_commit f.slot at.body at.lines i at.slot_is (at.rests i here);
-  is = at.committed.is;
-}
-
--- and the gates are synced
-pub rest_gates : (images : List ℕ → Type 0) (f : Flusher) (c : Commit) (log : List Entry) → IsAtRest images f c log
-    → GatesAreSynced images images
-rest_gates images f c log at =
-    let le = at.slot_is in
-    let other : f.slot ≡ 1 - (1 - f.slot) = omega arith in
-    resting_gates images (1 - f.slot) at.body at.lines (omega arith)
-    (λ i here. subst (λ (t : ℕ). Rests t at.body at.lines i) other (at.rests i here))
-
--- where nothing was written, every image stands for the log that it stood for
-pub nothing_leaves : {D : Type 0} (im : D → List ℕ → Type 0) (since : D → ℕ → List ℕ → Type 0) (moment : D → ℕ) (x : D) (f : Flusher)
-    (u : View) (rows : List CatRow) (c : Commit) (old : List Entry) → (at : IsAtRest (im x) f c old)
-    → LeavesEither im since moment x x u rows c old at.lines
-nothing_leaves im since moment x f u rows c old at = record {
-  more = [];
-  next = record c { rows = rows };
-  told = λ i e there. absurd (some-ne-none e (sym there));
-  rows_are = refl;
-  count = omega arith;
-  leaves = leaves_none im since moment x _ (λ i here. inl (rest_stands (im x) f c old at i here));
-  goes = leaves_none im since moment x _ (λ i here. still_goes f c old (im x) at i
-      (rests_commit f.slot at.body at.lines i at.slot_is (at.rests i here)));
-  was = λ i here. (i, here);
-}
-
--- where lines were written behind those that it counts, and perhaps torn, every image rests as it did
-pub torn_rests : {D : Type 0} (im : D → List ℕ → Type 0) (since : D → ℕ → List ℕ → Type 0) (moment : D → ℕ) (x y : D) (f : Flusher)
-    (c : Commit) (old : List Entry) (n : ℕ) (at : IsAtRest (im x) f c old)
-    → LeavesOnly im since moment x y (TornFrom (im x) (lines_at + 32 * f.line) n)
-    → (i : List ℕ) → TornFrom (im x) (lines_at + 32 * f.line) n i → Rests f.slot at.body at.lines i
-torn_rests im since moment x y f c old n at leaves i from =
-    let committed = at.committed in
-    let before : line_count at.body ≡ f.line = body_lines c at.body committed.is.told ∙ committed.line in
-    rests_lines f.slot f.line n at.body at.lines from.0 i at.slot_is (omega arith) from.2 (at.rests from.0 from.1)
-
--- so every image stands for the log that it stood for
-pub torn_leaves : {D : Type 0} (im : D → List ℕ → Type 0) (since : D → ℕ → List ℕ → Type 0) (moment : D → ℕ) (x y : D) (f : Flusher)
-    (u : View) (rows : List CatRow) (c : Commit) (old : List Entry) (n : ℕ) → (at : IsAtRest (im x) f c old)
-    → LeavesOnly im since moment x y (TornFrom (im x) (lines_at + 32 * f.line) n)
-    → LeavesEither im since moment x y u rows c old at.lines
-torn_leaves im since moment x y f u rows c old n at leaves =
-    let has : (i : List ℕ) → TornFrom (im x) (lines_at + 32 * f.line) n i → HasCommit at.body at.lines i =
-    λ i from. rests_commit f.slot at.body at.lines i at.slot_is (torn_rests im since moment x y f c old n at leaves i from) in
-    record {
-      more = [];
-      next = record c { rows = rows };
-      told = λ i e there. absurd (some-ne-none e (sym there));
-      rows_are = refl;
-      count = omega arith;
-      leaves = leaves_more im since moment x y (TornFrom (im x) (lines_at + 32 * f.line) n) _
-          (λ i from. inl (record { body = at.body; lines = at.lines; commit = has i from; is = at.committed.is })) leaves;
-      goes = leaves_more im since moment x y (TornFrom (im x) (lines_at + 32 * f.line) n) _
-          (λ i from. still_goes f c old (im x) at i (has i from)) leaves;
-      was = λ i here. (let from = leaves.now i here in (from.0, from.1));
-    }
-
--- and the gates are synced
-pub torn_gates : {D : Type 0} (im : D → List ℕ → Type 0) (since : D → ℕ → List ℕ → Type 0) (moment : D → ℕ) (x y : D) (f : Flusher)
-    (c : Commit) (old : List Entry) (n : ℕ) → IsAtRest (im x) f c old
-    → LeavesOnly im since moment x y (TornFrom (im x) (lines_at + 32 * f.line) n) → GatesAreSynced (im y) (im y)
-torn_gates im since moment x y f c old n at leaves =
-    let le = at.slot_is in
-    let other : f.slot ≡ 1 - (1 - f.slot) = omega arith in
-    resting_gates (im y) (1 - f.slot) at.body at.lines (omega arith)
-    (λ i here. subst (λ (t : ℕ). Rests t at.body at.lines i) other
-    (torn_rests im since moment x y f c old n at leaves i (leaves.now i here)))
 
 -- an image that has all lines of a body is long enough for them
 pub long_rests : (slot : ℕ) (b w i : List ℕ) (m n : ℕ) → Rests slot b w i → length w ≡ 32 * n → lines_at + m ≤ length i

@@ -9,6 +9,7 @@ pub mod Growing
 pub mod Images
 pub mod KeyedValues
 pub mod Lasting
+pub mod Leaving
 pub mod LinkedWords
 pub mod LoadedWords
 pub mod PageStarts

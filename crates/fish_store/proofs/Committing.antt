@@ -1,8 +1,8 @@
 -- A checkpoint, done or refused by the disk, goes from one moment to the next.
-use Rattle.std.proofs.Common.{◌≡◌, ℕ, ◌+◌, ◌-◌, ◌≤◌, ◌⊎◌, arith, List, [], ◌++◌, Option, Some, None, false, true, ap, subst, sym, refl}
+use Rattle.std.proofs.Common.{◌≡◌, ℕ, ◌+◌, ◌≤◌, ◌⊎◌, arith, List, ◌++◌, Option, Some, None, false, true, ap, subst, sym, refl}
 use Rattle.std.proofs.Common.{inl, inr, ◌∙◌, length, take, drop, length-append, length-drop}
-use Rattle.std.specs.Prelude.{IfOk, IfSome, IsErrOf, IsSome, Result, Ok, Err}
-use Rattle.std.proofs.lemmas.List.{drop-append-le, take-append-drop, take-append-le, take_all}
+use Rattle.std.specs.Prelude.{IfOk, IsErrOf, IsSome, Result, Ok, Err}
+use Rattle.std.proofs.lemmas.List.{drop-append-le, take-append-drop, take-append-le}
 use Rattle.fish_catalog.specs.declared.commit.Commit.{Commit}
 use Rattle.fish_catalog.specs.declared.entry.Entry.{Entry}
 use Rattle.fish_catalog.specs.declared.row.CatRow.{CatRow}
@@ -11,14 +11,14 @@ use Rattle.fish_cold.specs.declared.cold.Cold.{Cold}
 use Rattle.fish_disk.proofs.Moments.{leaves_more, leaves_none}
 use Rattle.fish_disk.specs.Content.{StillReads}
 use Rattle.fish_disk.specs.Crash.{LeavesOnly}
-use Rattle.fish_flush.proofs.Committed.{committed_length, rest_stands, told_both, told_later}
+use Rattle.fish_flush.proofs.Committed.{committed_length, told_both, told_later}
+use Rattle.fish_flush.proofs.Leaving.{rest_stands}
 use Rattle.fish_flush.specs.Carrying.{Carries, HasCommitted, HasSettled, LeavesEither, Reads}
 use Rattle.fish_flush.specs.Kept.{commit_of}
 use Rattle.fish_flush.specs.Rows.{HaveGrown}
 use Rattle.fish_flush.specs.declared.flusher.Flusher.{Flusher}
 use Rattle.fish_flush.specs.declared.refusal.FlushRefusal.{FlushRefusal}
 use Rattle.fish_flush.specs.declared.refusal.FlushRefusal.TheVariants.{DiskFault, OutOfMemory}
-use Rattle.fish_flush.specs.Going.{GoesOnFrom}
 use Rattle.fish_image.specs.Reached.{Reached}
 use Rattle.fish_image.specs.Stands.{Stands}
 use Rattle.fish_rule.specs.Logs.{AreTold}
@@ -33,7 +33,7 @@ use Rattle.fish_store.proofs.Same.{still_self, table_same}
 use Rattle.fish_store.specs.Sound.{GoesOnHere, HasPast, IsImageOf, MayCommit, Point, Rests, Sound}
 use Rattle.fish_whole.proofs.Parts.{fits_later}
 use Rattle.fish_whole.proofs.Prefixes.{prefix_self}
-use Rattle.fish_whole.specs.Whole.{FitsPast, IsKnown, IsPrefix, Later, Whole}
+use Rattle.fish_whole.specs.Whole.{IsKnown, IsPrefix, Later, Whole}
 
 -- a call that only reads goes on to a later state
 pub reads_later : (v u : View) → Reads v u → Later v u
@@ -59,12 +59,10 @@ module _
     (moment : D → ℕ)
     (p q : Point D) (reads : Reads p.view q.view) (cold : q.cold ≡ p.cold) (shape : q.shape ≡ p.shape) (rows : q.rows ≡ p.rows)
     (live : p.flusher.shut ≡ false)
-    (before : IsSome (content q.disk) → IsSome (content p.disk))
-    (read : (d : D) (i : List ℕ) → content d ≡ Some i → images d i)
-    (either : (c : Commit) (old : List Entry) → Carries (images p.disk) p.flusher p.view p.shape p.rows c old
-    → LeavesEither images since moment p.disk q.disk q.view p.rows c old)
-    (goes : (c : Commit) (old : List Entry) (h : Carries (images p.disk) p.flusher p.view p.shape p.rows c old)
-    → LeavesOnly images since moment p.disk q.disk (GoesOnFrom c h.rest.lines)) where
+    (may : MayCommit images p)
+    (read : (d : D) (i : List ℕ) → content d ≡ Some i → images d i) (told : (d : D) (i : List ℕ) → images d i → IsSome (content d))
+    (either : (c : Commit) (old : List Entry) (h : Carries (images p.disk) p.flusher p.view p.shape p.rows c old)
+    → LeavesEither images since moment p.disk q.disk q.view p.rows c old h.rest.lines) where
   -- the state goes on
   later : Later p.view q.view
   later = reads_later p.view q.view reads
