@@ -15,6 +15,7 @@ pub mod PageStarts
 pub mod PageTurns
 pub mod PageWrites
 pub mod RegionSteps
+pub mod Resting
 pub mod Rewritten
 pub mod RuleFacts
 pub mod Saved

@@ -17,6 +17,13 @@ abbrev pub IsLineAt : View → ℕ → ℕ → Type 0
 IsLineAt v n line = ((n ≡ v.about.number) × (line ≡ v.about.line))
     ⊎ ((f : Found) × Among f v.learned.found × (suc f.number ≡ n) × (f.line + f.lines ≡ line))
 
+-- the region of a number was found at a line, and is no mark
+pub record IsLooked (v : View) (n line : ℕ) (f : Found) : Type 0 where
+  pub number : f.number ≡ n
+  pub line_is : f.line ≡ line
+  pub plain : f.kind ≢ Mark
+  pub among : Among f v.learned.found
+
 -- lines up to the end of the table
 abbrev pub EndsWithin : ℕ → ℕ → ℕ → Type 0
 EndsWithin end from to = (from ≤ to) × (to ≤ end)

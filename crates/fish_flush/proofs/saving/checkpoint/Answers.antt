@@ -5,7 +5,7 @@ use Rattle.fish_catalog.specs.declared.commit.Commit.{Commit}
 use Rattle.fish_catalog.specs.declared.entry.Entry.{Entry}
 use Rattle.fish_flush.proofs.Checkpoints.{has_settled, may_draft, may_save, memory_cause, no_fault, ok_all, reads_on}
 use Rattle.fish_flush.proofs.Checkpoints.{settled_counted}
-use Rattle.fish_flush.proofs.Committed.{nothing_leaves, rest_gates}
+use Rattle.fish_flush.proofs.Resting.{nothing_leaves, rest_gates}
 use Rattle.fish_flush.specs.Carrying.{Carries, HasCommitted, HasSettled, MaySave}
 use Rattle.fish_flush.specs.declared.flusher.Flusher.{Flusher}
 use Rattle.fish_rule.proofs.laws.Learning.{extends_both, learns_both}
