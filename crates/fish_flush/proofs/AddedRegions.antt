@@ -6,10 +6,10 @@ use Rattle.std.proofs.Math.Decide.{dec_le}
 use Rattle.std.specs.Vec.{vec_capacity, vec_len}
 use Rattle.fish_catalog.specs.PageStarts.{starts_after}
 use Rattle.fish_catalog.specs.declared.page_start.PageStart.{PageStart}
-use Rattle.fish_flush.proofs.RegionSteps.{IsLooked, holds_later, line_inside, line_later, line_same, line_start, read_more}
+use Rattle.fish_flush.proofs.RegionSteps.{holds_later, line_inside, line_later, line_same, line_start, read_more}
 use Rattle.fish_flush.proofs.TableRegions.{ends_inside, some_lines}
 use Rattle.fish_flush.specs.Filling.{HasAdded, HasRoom, IsCopied, pending}
-use Rattle.fish_flush.specs.Reading.{IsLineAt, IsReadTo}
+use Rattle.fish_flush.specs.Reading.{IsLineAt, IsLooked, IsReadTo}
 use Rattle.fish_flush.specs.declared.batch.Batch.{Batch}
 use Rattle.fish_image.specs.Stands.{words_in}
 use Rattle.fish_layout.specs.Header.{lines_of}
@@ -149,7 +149,8 @@ module _ (k : Key) (v u : View) (n : ℕ) (a : Batch) (on : Extends v u) (stands
       → vec_len b.starts ≤ vec_len a.starts + 1 → (page_of a.line < a.page → vec_len b.starts ≡ vec_len a.starts)
       → vec_capacity b.starts ≡ vec_capacity a.starts
       → HasAdded v u k.end n a b
-  added b to less settled end near page room line_is written_is end_is heads_is many bytes put words_is page_is starts_is few_starts kept capacity =
+  added b to less settled end near page room line_is written_is end_is heads_is many bytes put words_is page_is starts_is few_starts kept
+      capacity =
       let next = added_next in
       let begins = next.begins in
       let inside = next.inside in

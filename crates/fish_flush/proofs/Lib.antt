@@ -9,13 +9,13 @@ pub mod Growing
 pub mod Images
 pub mod KeyedValues
 pub mod Lasting
-pub mod Leaving
 pub mod LinkedWords
 pub mod LoadedWords
 pub mod PageStarts
 pub mod PageTurns
 pub mod PageWrites
 pub mod RegionSteps
+pub mod Resting
 pub mod Rewritten
 pub mod RuleFacts
 pub mod Saved

@@ -4,7 +4,11 @@ use Rattle.std.proofs.Common.{get_or-set_other, get_or-set_same}
 use Rattle.std.proofs.Math.Decide.{ℕ_discrete}
 use Rattle.std.proofs.lemmas.List.{get_or-take, length-take-le}
 use Rattle.fish_layout.specs.Cleared.{IsKeyWord}
-use Rattle.fish_layout.specs.Header.{keys_of}
+use Rattle.fish_layout.specs.Header.{keys_of, lines_of}
+use Rattle.fish_flush.proofs.AddedRegions.{few_lines}
+use Rattle.fish_rule.proofs.laws.Steps.{header_law}
+use Rattle.fish_rule.specs.Table.{Stands}
+use Rattle.fish_rule.specs.declared.view.Kind.TheVariants.{Mark}
 use Rattle.fish_rule.specs.Logs.{Extends, HasWords}
 use Rattle.fish_rule.specs.Views.{Among}
 use Rattle.fish_rule.specs.declared.view.Found.{Found}
@@ -36,6 +40,21 @@ loaded_known v line header many words some h =
     let place : line * 4 + 0 ≡ line * 4 = omega arith in
     subst (λ (z : ℕ × ℕ). Among (record { place = z.0; value = z.1 }) v.learned.known) (λ i. (place i, h.head i))
     (h.read 0 some (λ k. (let m : 0 % 3 ≡ 1 = k.1 in absurd (omega arith))))
+
+-- the header of a region, which is known, says how many lines it has
+pub record IsHeaded (v : View) (f : Found) (header : ℕ) : Type 0 where
+  pub among : Among f v.learned.found
+  pub known : Among (record { place = f.line * 4; value = header }) v.learned.known
+  pub lines : lines_of header ≡ f.lines
+  pub few : f.lines ≤ 18625
+
+pub loaded_header : (v u : View) (f : Found) (line header n : ℕ) (words : List ℕ) → Among f v.learned.found → f.line ≡ line
+    → f.kind ≢ Mark → Extends v u → Stands u → 0 < n → AreLoaded u line header n words → IsHeaded u f header
+loaded_header v u f line header n words among at plain on stands some h =
+    let there = on.learns.found f among in
+    let known = subst (λ (z : ℕ). Among (record { place = z * 4; value = header }) u.learned.known) (sym at)
+    (loaded_known u line header n words some h) in
+    record { among = there; known = known; lines = header_law u f header stands there plain known; few = few_lines u f stands there }
 
 -- one word more
 pub loaded_more : (v u : View) (line header n x : ℕ) (words : List ℕ) → 0 < n → n < length words → Extends v u

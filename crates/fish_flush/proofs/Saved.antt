@@ -1,13 +1,13 @@
 -- A draft's lines are written, and then its body: what is left of the disk at each moment.
-use Rattle.std.proofs.Common.{◌≡◌, ℕ, ◌+◌, ◌-◌, ◌*◌, ◌≤◌, inl, List, ◌++◌, length, subst, arith}
+use Rattle.std.proofs.Common.{◌≡◌, ℕ, ◌+◌, ◌-◌, ◌*◌, ◌≤◌, inl, List, ◌++◌, length, sym, ap, subst, arith}
 use Rattle.std.specs.Prelude.{Option, Some}
 use Rattle.fish_catalog.specs.declared.commit.Commit.{Commit}
 use Rattle.fish_catalog.specs.declared.entry.Entry.{Entry}
 use Rattle.fish_catalog.specs.declared.row.CatRow.{CatRow}
 use Rattle.fish_disk.specs.Crash.{LeavesOnly, TornFrom}
 use Rattle.fish_disk.proofs.Moments.{leaves_more, leaves_then}
-use Rattle.fish_flush.proofs.Committed.{draft_carries, draft_grows, draft_leaves, draft_more, long_rests}
-use Rattle.fish_flush.proofs.Leaving.{torn_rests}
+use Rattle.fish_flush.proofs.Committed.{draft_carries, draft_grows, draft_leaves, draft_more}
+use Rattle.fish_flush.proofs.Resting.{long_rests, torn_rests}
 use Rattle.fish_flush.proofs.Drafted.{drafted}
 use Rattle.fish_flush.proofs.Images.{grows_on}
 use Rattle.fish_flush.proofs.PageWrites.{put_is, told_in}

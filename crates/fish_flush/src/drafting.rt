@@ -9,11 +9,12 @@ ghost use Rattle.fish_flush.specs.Reading.{EndsWithin, IsLineAt};
 
 use crate::batch::{Batch, new_batch};
 use crate::flusher::Flusher;
+use crate::loading::find_region;
 use crate::rows::again;
 use fish_catalog::{Catalog, Commit, NEWEST_FORMAT};
 use fish_image::slot_body;
 use fish_layout::lines_in;
-use fish_rule::{Log, Pass, line_of_word, look_at, read_word, shape};
+use fish_rule::{Log, Pass, read_word, shape};
 use fish_value::Bytes;
 use std::alloc::{AllocError, Global};
 
@@ -86,7 +87,6 @@ fn end_line(log: &Log, pass: &mut Pass, flusher: &Flusher, to: u32) -> u64
     if to == flusher.count {
         return flusher.line;
     }
-    let word = look_at(log, pass, u64::from(to - 1));
-    let line = line_of_word(word);
+    let line = find_region(log, pass, to - 1);
     line + lines_in(read_word(log, pass, line, 0))
 }

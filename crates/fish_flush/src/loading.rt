@@ -1,15 +1,29 @@
 //! The words of a published region, loaded from the table to the start of a slice.
 
-ghost use Rattle.std.specs.Prelude.{◌≡◌, ◌≢◌, ◌≤◌, length, take};
+ghost use Rattle.std.specs.Prelude.{◌≡◌, ◌≢◌, ◌<◌, ◌≤◌, length, take};
 ghost use Rattle.fish_rule.specs.Logs.{Extends, HasWords};
 ghost use Rattle.fish_rule.specs.Passes.{IsPassOf, view};
 ghost use Rattle.fish_rule.specs.Views.{Among};
 ghost use Rattle.fish_rule.specs.declared.view.Found.{Found};
 ghost use Rattle.fish_rule.specs.declared.view.Kind.TheVariants.{Mark};
 ghost use Rattle.fish_flush.specs.Filling.{region_words};
+ghost use Rattle.fish_flush.specs.Reading.{IsLooked};
 
 use fish_layout::{keys_in, lines_in};
-use fish_rule::{Log, Pass, read_word};
+use fish_rule::{Log, Pass, line_of_word, look_at, read_word};
+
+/// Finds the line at which the region of a settled number begins.
+pub(crate) fn find_region(log: &Log, pass: &mut Pass, number: u32) -> u64
+    requires pass { IsPassOf log.now pass.old }
+    requires from { log.now.key.number ≤ number }
+    requires settled { number < (view pass.old).learned.settled }
+    requires counted { number < (view pass.old).learned.count }
+    ensures pass { IsPassOf log.now pass.new }
+    ensures extends { Extends (view pass.old) (view pass.new) }
+    ensures looked { (f : Found) × IsLooked (view pass.new) number result f }
+{
+    line_of_word(look_at(log, pass, u64::from(number)))
+}
 
 /// Loads the words of the published region at a line, and answers how many they are. Words that a splice may still
 /// change, the first ones of key entries, are not loaded: at their places stands what stood there.

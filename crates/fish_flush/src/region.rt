@@ -7,9 +7,9 @@ ghost use Rattle.fish_rule.specs.Passes.{IsPassOf, view};
 ghost use Rattle.fish_flush.specs.Filling.{IsCopied, region_words};
 
 use crate::linking::link;
-use crate::loading::load_region;
+use crate::loading::{find_region, load_region};
 use byteorder::{ByteOrder, LittleEndian};
-use fish_rule::{Log, Pass, line_of_word, look_at};
+use fish_rule::{Log, Pass};
 
 /// Copies the words of the region of a settled number to the start of a slice, with the previous nodes that the heads
 /// give, and puts its key entries into the heads. It answers how many words they are.
@@ -32,8 +32,7 @@ pub(crate) fn copy_region(
     ensures heads { length heads.new.items ≡ length heads.old.items }
     ensures copied { IsCopied (view pass.new) number heads.old.items heads.new.items result words.new }
 {
-    let word = look_at(log, pass, u64::from(number));
-    let line = line_of_word(word);
+    let line = find_region(log, pass, number);
     let size = load_region(log, pass, line, words);
     link(heads, line, &mut words[..size]);
     size

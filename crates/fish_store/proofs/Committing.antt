@@ -12,7 +12,7 @@ use Rattle.fish_disk.proofs.Moments.{leaves_more, leaves_none}
 use Rattle.fish_disk.specs.Content.{StillReads}
 use Rattle.fish_disk.specs.Crash.{LeavesOnly}
 use Rattle.fish_flush.proofs.Committed.{committed_length, told_both, told_later}
-use Rattle.fish_flush.proofs.Leaving.{rest_stands}
+use Rattle.fish_flush.proofs.Resting.{rest_stands}
 use Rattle.fish_flush.specs.Carrying.{Carries, HasCommitted, HasSettled, LeavesEither, Reads}
 use Rattle.fish_flush.specs.Kept.{commit_of}
 use Rattle.fish_flush.specs.Rows.{HaveGrown}

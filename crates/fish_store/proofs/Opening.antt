@@ -7,7 +7,7 @@ use Rattle.fish_catalog.specs.declared.commit.Commit.{Commit}
 use Rattle.fish_catalog.specs.declared.entry.Entry.{Entry}
 use Rattle.fish_cold.specs.Carries.{CarriesTable, IsPrior}
 use Rattle.fish_flush.proofs.Committed.{committed_length}
-use Rattle.fish_flush.proofs.Leaving.{rest_stands}
+use Rattle.fish_flush.proofs.Resting.{rest_stands}
 use Rattle.fish_image.specs.Log.{Agrees}
 use Rattle.fish_image.specs.Reached.{Reached}
 use Rattle.fish_image.specs.Stands.{Stands, words_in}

@@ -1,15 +1,13 @@
 -- Each word that may be read is loaded to its place.
 use Rattle.std.proofs.Common.{◌≡◌, ℕ, ◌+◌, ◌*◌, ◌%◌, ◌<◌, List, length, inl, inr, refl, sym, ap, ◌∙◌, subst, arith}
 use Rattle.std.proofs.lemmas.List.{length-set}
-use Rattle.fish_flush.proofs.LoadedWords.{AreLoaded, loaded_all, loaded_head, loaded_known, loaded_more, loaded_past}
-use Rattle.fish_flush.proofs.AddedRegions.{few_lines}
+use Rattle.fish_flush.proofs.LoadedWords.{AreLoaded, loaded_all, loaded_head, loaded_header, loaded_more, loaded_past}
 use Rattle.fish_layout.specs.Cleared.{IsKeyWord}
 use Rattle.fish_layout.specs.Header.{keys_of}
 use Rattle.fish_rule.proofs.laws.Learning.{extends_both, extends_to_read, read_here}
-use Rattle.fish_rule.proofs.laws.Steps.{found_law, header_law}
+use Rattle.fish_rule.proofs.laws.Steps.{found_law}
 use Rattle.fish_rule.specs.Logs.{Extends}
 use Rattle.fish_rule.specs.Passes.{IsPassOf, view}
-use Rattle.fish_rule.specs.Views.{Among}
 use Rattle.fish_rule.specs.declared.table.Log.{Log}
 use Rattle.fish_rule.specs.declared.table.Pass.{Pass}
 use Rattle.fish_rule.specs.declared.view.View.{View}
@@ -54,17 +52,16 @@ read_word-requires-clause-view c =
     let v = view c.loop-offset.pass in
     let f = c.requires.found in
     let header : ℕ = c.read_word-header.result in
-    let among = i.extends.learns.found f.0 f.1 in
-    let known = subst (λ (z : ℕ). Among (record { place = z * 4; value = header }) v.learned.known) (sym f.2)
-    (loaded_known v c.args.line header c.loop-offset.offset c.loop-offset.words (omega arith) i.loaded) in
-    let lines = header_law v f.0 header i.of.stands among f.3 known in
+    let h = loaded_header (view c.args.pass.now) v f.0 c.args.line header c.loop-offset.offset c.loop-offset.words f.1 f.2 f.3 i.extends
+    i.of.stands (omega arith) i.loaded in
+    let lines = h.lines in
     let size = c.lines_in-size.ensures.value in
     let last : c.from-last.result ≡ keys_of header = c.from-last.ensures ∙ c.keys_in.ensures.value in
     let plain : ¬ IsKeyWord (keys_of header) c.loop-offset.offset = λ k. elim c.then-offset-last.branch [
       | then-offset-last-via-then-offset-last w ↦ (let m = k.0 in let past = w.if-offset-last.true in absurd (omega arith))
       | then-offset-last-via-else-offset-last+then-offset-ne1 w ↦ (let m = k.1 in let other = w.if-offset-ne1.true in absurd (omega arith))
     ] in
-    (f.0, record { found = among; words = f.3; inside = omega arith; plain = inr (header, known, plain) }, f.2)
+    (f.0, record { found = h.among; words = f.3; inside = omega arith; plain = inr (header, h.known, plain) }, f.2)
 
 pub bounds-words-offset : goal.bounds-words-offset
 bounds-words-offset c =
@@ -74,11 +71,10 @@ bounds-words-offset c =
     let v = view c.loop-offset.pass in
     let f = c.requires.found in
     let header : ℕ = c.read_word-header.result in
-    let among = i.extends.learns.found f.0 f.1 in
-    let known = subst (λ (z : ℕ). Among (record { place = z * 4; value = header }) v.learned.known) (sym f.2)
-    (loaded_known v c.args.line header c.loop-offset.offset c.loop-offset.words (omega arith) i.loaded) in
-    let lines = header_law v f.0 header i.of.stands among f.3 known in
-    let few = few_lines v f.0 i.of.stands among in
+    let h = loaded_header (view c.args.pass.now) v f.0 c.args.line header c.loop-offset.offset c.loop-offset.words f.1 f.2 f.3 i.extends
+    i.of.stands (omega arith) i.loaded in
+    let lines = h.lines in
+    let few = h.few in
     let size = c.lines_in-size.ensures.value in
     let room = c.requires.room in
     let same = i.size in
@@ -92,11 +88,10 @@ loop-offset-preserved c =
     let v = view c.loop-offset.pass in
     let f = c.requires.found in
     let header : ℕ = c.read_word-header.result in
-    let among = i.extends.learns.found f.0 f.1 in
-    let known = subst (λ (z : ℕ). Among (record { place = z * 4; value = header }) v.learned.known) (sym f.2)
-    (loaded_known v c.args.line header c.loop-offset.offset c.loop-offset.words (omega arith) i.loaded) in
-    let lines = header_law v f.0 header i.of.stands among f.3 known in
-    let few = few_lines v f.0 i.of.stands among in
+    let h = loaded_header (view c.args.pass.now) v f.0 c.args.line header c.loop-offset.offset c.loop-offset.words f.1 f.2 f.3 i.extends
+    i.of.stands (omega arith) i.loaded in
+    let lines = h.lines in
+    let few = h.few in
     let size = c.lines_in-size.ensures.value in
     let room = c.requires.room in
     let same = i.size in
@@ -112,7 +107,8 @@ loop-offset-preserved c =
             of = w.read_word.ensures.pass;
             extends = extends_both _ _ _ i.extends more;
             size = length-set c.loop-offset.words c.loop-offset.offset w.read_word.result ∙ same;
-            loaded = loaded_more v u c.args.line header c.loop-offset.offset w.read_word.result c.loop-offset.words (omega arith) within more
+            loaded = loaded_more v u c.args.line header c.loop-offset.offset w.read_word.result c.loop-offset.words (omega arith)
+                within more
                 i.loaded (read_here v u (c.args.line * 4 + c.loop-offset.offset) w.read_word.result told);
           })
           )
@@ -136,12 +132,11 @@ returns-clause-words c = λ f among line plain.
     let test = c.loop-offset-test.false in
     let v = view c.loop-offset.pass in
     let header : ℕ = c.read_word-header.result in
-    let there = i.extends.learns.found f among in
-    let some_ = found_law v f i.of.stands there in
-    let few = few_lines v f i.of.stands there in
-    let known = subst (λ (z : ℕ). Among (record { place = z * 4; value = header }) v.learned.known) (sym line)
-    (loaded_known v c.args.line header c.loop-offset.offset c.loop-offset.words (omega arith) i.loaded) in
-    let lines = header_law v f header i.of.stands there plain known in
+    let h = loaded_header (view c.args.pass.now) v f c.args.line header c.loop-offset.offset c.loop-offset.words among line plain i.extends
+    i.of.stands (omega arith) i.loaded in
+    let some_ = found_law v f i.of.stands h.among in
+    let few = h.few in
+    let lines = h.lines in
     let size = c.lines_in-size.ensures.value in
     let room = c.requires.room in
     let same = i.size in
@@ -157,11 +152,10 @@ returns-clause-within c =
     let v = view c.loop-offset.pass in
     let f = c.requires.found in
     let header : ℕ = c.read_word-header.result in
-    let among = i.extends.learns.found f.0 f.1 in
-    let known = subst (λ (z : ℕ). Among (record { place = z * 4; value = header }) v.learned.known) (sym f.2)
-    (loaded_known v c.args.line header c.loop-offset.offset c.loop-offset.words (omega arith) i.loaded) in
-    let lines = header_law v f.0 header i.of.stands among f.3 known in
-    let few = few_lines v f.0 i.of.stands among in
+    let h = loaded_header (view c.args.pass.now) v f.0 c.args.line header c.loop-offset.offset c.loop-offset.words f.1 f.2 f.3 i.extends
+    i.of.stands (omega arith) i.loaded in
+    let lines = h.lines in
+    let few = h.few in
     let size = c.lines_in-size.ensures.value in
     let room = c.requires.room in
     let same = i.size in

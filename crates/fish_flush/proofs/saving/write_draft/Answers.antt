@@ -1,8 +1,8 @@
 -- The lines of the draft are written, and then its body.
-use Rattle.std.proofs.Common.{ℕ, ◌+◌, ◌-◌, ◌*◌, ◌≤◌, ◌++◌, List, ap, sym, ◌∙◌, subst, arith, length}
+use Rattle.std.proofs.Common.{◌≡◌, ℕ, ◌+◌, ◌-◌, ◌*◌, ◌≤◌, ◌++◌, List, refl, ap, sym, ◌∙◌, subst, arith, length}
 use Rattle.std.proofs.lemmas.Result.{on_ok_weaker}
 use Rattle.fish_disk.specs.Crash.{LeavesOnly, TornFrom}
-use Rattle.fish_flush.proofs.Leaving.{torn_gates, torn_leaves}
+use Rattle.fish_flush.proofs.Resting.{torn_gates, torn_leaves}
 use Rattle.fish_flush.proofs.Drafted.{drafted_ready}
 use Rattle.fish_flush.proofs.PageWrites.{told_in}
 use Rattle.fish_flush.proofs.Saved.{saved_carries, saved_grows, saved_leaves}

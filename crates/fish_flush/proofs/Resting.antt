@@ -1,6 +1,7 @@
--- What every image stands for where nothing is committed: the last commit's log, whatever was written after its lines.
-use Rattle.std.proofs.Common.{◌≡◌, ℕ, ◌+◌, ◌-◌, ◌*◌, inl, List, []}
-use Rattle.std.proofs.Common.{refl, sym, ◌∙◌, subst, arith}
+-- What every image stands for before a body is put: that of the last commit.
+use Rattle.std.proofs.Common.{◌≡◌, ℕ, ◌+◌, ◌-◌, ◌*◌, ◌≤◌, inl, List, []}
+use Rattle.std.proofs.Common.{length, drop}
+use Rattle.std.proofs.Common.{refl, ap, sym, ◌∙◌, subst, arith}
 use mathlib.Core.Option.{some-ne-none}
 use Rattle.fish_catalog.specs.declared.commit.Commit.{Commit}
 use Rattle.fish_catalog.specs.declared.entry.Entry.{Entry}
@@ -95,3 +96,12 @@ torn_gates im since moment x y f c old n at leaves =
     resting_gates (im y) (1 - f.slot) at.body at.lines (omega arith)
     (λ i here. subst (λ (t : ℕ). Rests t at.body at.lines i) other
     (torn_rests im since moment x y f c old n at leaves i (leaves.now i here)))
+
+-- an image that has all lines of a body is long enough for them
+pub long_rests : (slot : ℕ) (b w i : List ℕ) (m n : ℕ) → Rests slot b w i → length w ≡ 32 * n → lines_at + m ≤ length i
+    → lines_at + 32 * n ≤ length i
+long_rests slot b w i m n h size long =
+    let same = ap (λ (l : List ℕ). length l) h.lines_are in
+    let taken = Rattle.std.proofs.lemmas.List.length-take (32 * line_count b) (drop lines_at i) in
+    let left = Rattle.std.proofs.Common.length-drop lines_at i in
+    omega arith
