@@ -1,12 +1,12 @@
 -- One region more is pending.
 use Rattle.std.proofs.Common.{◌≡◌, ◌≢◌, ℕ, suc, ◌+◌, ◌-◌, ◌*◌, ◌/◌, ◌<◌, ◌≤◌, inr, List, [], ◌∷◌, ◌++◌, length, take}
-use Rattle.std.proofs.Common.{refl, sym, ap, ◌∙◌, subst, arith, append_assoc}
+use Rattle.std.proofs.Common.{sym, ap, ◌∙◌, subst, arith, append_assoc}
 use Rattle.std.proofs.lemmas.List.{length-take-le}
 use Rattle.std.proofs.Math.Decide.{dec_le}
 use Rattle.std.specs.Vec.{vec_capacity, vec_len}
 use Rattle.fish_catalog.specs.PageStarts.{starts_after}
 use Rattle.fish_catalog.specs.declared.page_start.PageStart.{PageStart}
-use Rattle.fish_flush.proofs.RegionSteps.{holds_later, line_inside, line_later, line_same, line_start, read_more}
+use Rattle.fish_flush.proofs.RegionSteps.{holds_later, line_later, line_same, line_start, read_more}
 use Rattle.fish_flush.proofs.TableRegions.{ends_inside, some_lines}
 use Rattle.fish_flush.specs.Filling.{HasAdded, HasRoom, IsCopied, pending}
 use Rattle.fish_flush.specs.Reading.{IsLineAt, IsLooked, IsReadTo}

@@ -2,13 +2,12 @@
 use Rattle.std.proofs.Common.{◌≡◌, ℕ, zero, suc, ◌+◌, ◌-◌, ◌*◌, ◌%◌, ◌<◌, ◌≤◌, ◌⊎◌, inl, inr, List, [], ◌∷◌}
 use Rattle.std.proofs.Common.{◌++◌, length, drop}
 use Rattle.std.proofs.Common.{refl, ap, sym, ◌∙◌, subst, arith, length-append, append-nil}
-use mathlib.Core.Option.{some-ne-none}
 use Rattle.std.proofs.lemmas.List.{drop-append-le}
 use Rattle.fish_catalog.specs.declared.commit.Commit.{Commit}
 use Rattle.fish_catalog.specs.declared.entry.Entry.{Entry}
 use Rattle.fish_catalog.specs.declared.row.CatRow.{CatRow}
-use Rattle.fish_disk.specs.Crash.{LeavesOnly, TornFrom}
-use Rattle.fish_disk.proofs.Moments.{leaves_more, leaves_none}
+use Rattle.fish_disk.specs.Crash.{LeavesOnly}
+use Rattle.fish_disk.proofs.Moments.{leaves_more}
 use Rattle.fish_flush.specs.Carrying.{Carries, IsDrafted, LeavesEither, flusher_after}
 use Rattle.fish_flush.specs.Going.{ComesFrom, GoesOnFrom}
 use Rattle.fish_flush.specs.Kept.{IsAtRest, IsCommitted, commit_of}
@@ -17,7 +16,6 @@ use Rattle.fish_flush.specs.Writing.{EitherCommit, Grows}
 use Rattle.fish_flush.specs.declared.drafting.Draft.{Draft}
 use Rattle.fish_flush.specs.declared.flusher.Flusher.{Flusher}
 use Rattle.fish_flush.proofs.Growing.{grown_self}
-use Rattle.fish_flush.proofs.Images.{resting_gates, rests_lines}
 use Rattle.fish_image.proofs.Spelling.{told_word}
 use Rattle.fish_image.specs.Log.{Agrees, FollowsIn}
 use Rattle.fish_image.specs.Reached.{Reached}
@@ -29,10 +27,9 @@ use Rattle.fish_rule.specs.Logs.{AreTold, Learns, Tells}
 use Rattle.fish_rule.specs.declared.table.Shape.{Shape}
 use Rattle.fish_rule.specs.declared.view.Key.{Key}
 use Rattle.fish_rule.specs.declared.view.View.{View}
-use Rattle.fish_slots.proofs.Commits.{rests_commit}
 use Rattle.fish_slots.specs.Commits.{HasCommit, Rests, next_turn, turn_of}
 use Rattle.fish_slots.specs.Places.{lines_at}
-use Rattle.fish_slots.specs.Slots.{GatesAreSynced, line_count}
+use Rattle.fish_slots.specs.Slots.{line_count}
 
 -- ---- entries
 

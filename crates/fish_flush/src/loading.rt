@@ -40,12 +40,16 @@ pub(crate) fn load_region(log: &Log, pass: &mut Pass, line: u64, words: &mut [u6
 {
     let header = read_word(log, pass, line, 0);
     words[0] = header;
-    let last = 3 * u64::from(keys_in(header));
     let size = lines_in(header) * 4;
-    for offset in 1..size {
-        if offset > last || offset % 3 != 1 {
+    let behind = (3 * u64::from(keys_in(header)) + 1).min(size);
+    for offset in 1..behind {
+        if offset % 3 != 1 {
             words[offset as usize] = read_word(log, pass, line, offset);
         }
+    }
+    // Most words are read here, so nothing is asked of each.
+    for offset in behind..size {
+        words[offset as usize] = read_word(log, pass, line, offset);
     }
     size as usize
 }

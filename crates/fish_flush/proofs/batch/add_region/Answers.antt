@@ -1,5 +1,5 @@
 -- The region of the next number is copied, and follows what was copied before.
-use Rattle.std.proofs.Common.{◌≡◌, ℕ, ◌+◌, ◌-◌, ◌*◌, ◌/◌, ◌<◌, ◌++◌, List, refl, sym, ap, ◌∙◌, subst, arith, length, take}
+use Rattle.std.proofs.Common.{◌≡◌, ℕ, ◌+◌, ◌-◌, ◌*◌, ◌++◌, List, refl, ap, ◌∙◌, subst, arith, length, take}
 use Rattle.fish_flush.proofs.AddedRegions.{added, added_end, added_lines, added_next}
 use Rattle.fish_flush.proofs.Rewritten.{all_rewritten}
 use Rattle.fish_image.specs.Stands.{words_in}

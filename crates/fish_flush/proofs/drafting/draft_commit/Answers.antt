@@ -1,6 +1,6 @@
 -- The draft is the body of a commit of all up to the number, and a batch that goes on from the last one.
-use Rattle.std.proofs.Common.{◌≡◌, ℕ, ◌+◌, ◌-◌, ◌*◌, ◌%◌, List, refl, ap, ◌∙◌}
-use Rattle.std.proofs.Common.{subst, arith, length}
+use Rattle.std.proofs.Common.{ℕ, ◌+◌, ◌%◌, List, refl, ap}
+use Rattle.std.proofs.Common.{subst, arith}
 use Rattle.fish_catalog.specs.Limits.{newest_format}
 use Rattle.fish_flush.proofs.Drafted.{within_limits}
 use Rattle.fish_image.specs.Reading.{IsTold}

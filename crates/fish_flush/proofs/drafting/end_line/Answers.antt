@@ -1,5 +1,5 @@
 -- The last region of those that are settled ends where its header says.
-use Rattle.std.proofs.Common.{◌≡◌, ℕ, suc, ◌+◌, ◌-◌, ◌*◌, ◌≤◌, inl, inr, refl, sym, ap, ◌∙◌, subst, arith}
+use Rattle.std.proofs.Common.{◌-◌, inl, refl, ap, arith}
 use Rattle.fish_flush.proofs.AddedRegions.{line_order, region_end}
 use Rattle.fish_flush.proofs.RegionSteps.{line_inside, line_later}
 use Rattle.fish_rule.proofs.laws.Learning.{extends_both, extends_to_read}

@@ -1,5 +1,5 @@
 -- One region after the other is copied, and one page after the other is written.
-use Rattle.std.proofs.Common.{◌≡◌, ℕ, ◌+◌, ◌-◌, ◌*◌, ◌≤◌, List, inl, inr, sym, ap, subst, arith}
+use Rattle.std.proofs.Common.{◌≡◌, ℕ, ◌+◌, ◌-◌, ◌*◌, inl, inr, sym, ap, subst, arith}
 use Rattle.fish_disk.specs.Crash.{LeavesOnly, TornFrom}
 use Rattle.fish_flush.proofs.FilledPages.{filled_all}
 use Rattle.fish_flush.proofs.PageTurns.{IsTurn, turn_more, turn_none, turn_written}

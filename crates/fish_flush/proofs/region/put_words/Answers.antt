@@ -1,5 +1,5 @@
 -- The bytes from a place on are those of the words.
-use Rattle.std.proofs.Common.{◌≡◌, ◌≤◌, ℕ, ◌+◌, ◌*◌, List, ◌++◌, length, take, sym, ap, ◌∙◌, arith}
+use Rattle.std.proofs.Common.{◌≡◌, ◌≤◌, ℕ, ◌+◌, ◌*◌, List, ◌++◌, length, take, ap, ◌∙◌, arith}
 use Rattle.std.proofs.lemmas.List.{length-take-le}
 use Rattle.fish_flush.proofs.Rewritten.{all_rewritten, over, over_front, over_size}
 use Rattle.fish_flush.proofs.Words.{bytes_size, words_both, words_bytes}

@@ -1,17 +1,11 @@
 -- The log up to the settled number is drafted, and then it is committed.
-use Rattle.std.proofs.Common.{◌≡◌, ℕ, ◌+◌, ◌≤◌, ◌++◌, List, ap, sym, ◌∙◌, subst, arith}
-use Rattle.std.proofs.Common.{length, drop}
-use Rattle.fish_catalog.specs.declared.commit.Commit.{Commit}
-use Rattle.fish_catalog.specs.declared.entry.Entry.{Entry}
+use Rattle.std.proofs.Common.{◌≡◌, ℕ, sym, ◌∙◌, subst, arith}
 use Rattle.fish_flush.proofs.Checkpoints.{has_settled, may_draft, may_save, memory_cause, no_fault, ok_all, reads_on}
 use Rattle.fish_flush.proofs.Checkpoints.{settled_counted}
 use Rattle.fish_flush.proofs.Resting.{nothing_leaves, rest_gates}
-use Rattle.fish_flush.specs.Carrying.{Carries, HasCommitted, HasSettled, MaySave}
-use Rattle.fish_flush.specs.declared.flusher.Flusher.{Flusher}
-use Rattle.fish_rule.proofs.laws.Learning.{extends_both, learns_both}
-use Rattle.fish_rule.specs.Logs.{AreTold}
+use Rattle.fish_flush.specs.Carrying.{HasCommitted, HasSettled}
+use Rattle.fish_rule.proofs.laws.Learning.{extends_both}
 use Rattle.fish_rule.specs.Passes.{view}
-use Rattle.fish_rule.specs.declared.view.Key.{Key}
 use Rattle.fish_flush.proofs.saving.checkpoint.Goals as goal
 
 pub settle-to-requires : goal.settle-to-requires
@@ -66,7 +60,8 @@ save-requires-clause-may g c =
       h.1,
       may_save images v m u c.args.log.now.key.end c.args.log.now.shape c.args.flusher.now c.in_ok-draft.draft
           c.args.catalog.now h.0 h.1 to c.settle-to.ensures.settles c.settle-to.ensures.rises c.settle-to.ensures.settled
-          (settled_counted v m to c.settle-to.result.count c.settle-to.ensures.stops c.settle-to.ensures.tail) c.draft_commit.ensures.extends
+          (settled_counted v m to c.settle-to.result.count
+          c.settle-to.ensures.stops c.settle-to.ensures.tail) c.draft_commit.ensures.extends
           c.requires.rows h.2 c.in_ok-draft.ensures.drafts,
     )
 
