@@ -1,12 +1,12 @@
 -- What a checkpoint tells, from what its parts tell.
 use Rattle.std.proofs.Common.{◌≡◌, ℕ, ◌≤◌, List, ◌++◌}
-use Rattle.std.proofs.Common.{refl, ap, sym, ◌∙◌, arith, append_assoc}
+use Rattle.std.proofs.Common.{refl, ap, sym, ◌∙◌, subst, arith, append_assoc, drop}
 use Rattle.std.specs.Prelude.{Result, Ok, Err, IfOk, OnOk, IsErrAnd, IsErrOf}
 use Rattle.std.proofs.lemmas.Nat.{pow_pos}
 use Rattle.fish_catalog.specs.declared.commit.Commit.{Commit}
 use Rattle.fish_catalog.specs.declared.entry.Entry.{Entry}
 use Rattle.fish_catalog.specs.declared.row.CatRow.{CatRow}
-use Rattle.fish_flush.specs.Carrying.{Carries, HasSettled, MayDraft, Reads}
+use Rattle.fish_flush.specs.Carrying.{Carries, Drafts, HasSettled, MayDraft, MaySave, Reads}
 use Rattle.fish_flush.specs.Causes.{HasFlushCause}
 use Rattle.fish_flush.specs.Rows.{HoldsRows}
 use Rattle.fish_flush.specs.declared.flusher.Flusher.{Flusher}
@@ -17,7 +17,9 @@ use Rattle.fish_rule.proofs.laws.Clocks.{loaded_within, later_self}
 use Rattle.fish_rule.proofs.laws.Learning.{learns_both, learns_self}
 use Rattle.fish_rule.specs.Clocks.{IsLater}
 use Rattle.fish_rule.specs.LoadSteps.{IsAlone}
-use Rattle.fish_rule.specs.Logs.{Extends}
+use Rattle.fish_rule.specs.Logs.{AreTold, Extends}
+use Rattle.fish_flush.specs.declared.drafting.Draft.{Draft}
+use Rattle.fish_flush.proofs.Committed.{told_later}
 use Rattle.fish_rule.specs.declared.table.Shape.{Shape}
 use Rattle.fish_rule.specs.declared.view.Clock.{Clock}
 use Rattle.fish_rule.specs.declared.view.Key.{Key}
@@ -104,6 +106,43 @@ may_draft images v m f s rows c old to settles rises holds h =
       from = omega arith;
       ordered = omega arith;
       line = line_later v m f.count f.line settles.learns h.line;
+    }
+
+-- the draft may be saved
+unfoldable pub may_save : (images : List ℕ → Type 0) (v m u : View) (end : ℕ) (s : Shape) (f : Flusher) (d : Draft) (rows : List CatRow)
+    (c : Commit) (old : List Entry) (to : ℕ)
+    → OnlySettles v m → v.learned.settled ≤ to → to ≤ m.learned.settled → to ≤ m.learned.count → Extends m u → HoldsRows v rows
+    → Carries images f v s rows c old → Drafts u end s f rows to d → MaySave images u end s f d rows c old
+may_save images v m u end s f d rows c old to settles rises settled counted on holds h drafts =
+    let may = may_draft images v m f s rows c old to settles rises holds h in
+    let learns = learns_both v m u settles.learns on.learns in
+    let number = ap (λ (z : Key). z.number) learns.about in
+    let about = ap (λ (z : Key). z.number) on.learns.about in
+    let more = on.learns.settled in
+    let many = on.learns.count in
+    let count = drafts.count in
+    let from = may.from in
+    let ordered = may.ordered in
+    let frame = on.frame in
+    record {
+      may = record {
+        rows_are = holds_later m u rows (ap (λ (z : View). z.lane) frame) (ap (λ (z : View). z.rows) frame)
+            (ap (λ (z : View). z.main_words) frame) may.rows_are;
+        shape = may.shape;
+        turn = may.turn;
+        some = may.some;
+        from = omega arith;
+        ordered = omega arith;
+        line = line_later m u f.count f.line on.learns may.line;
+      };
+      drafts = subst (λ (n : ℕ). Drafts u end s f rows n d) (sym count) drafts;
+      settled = omega arith;
+      counted = omega arith;
+      rest = h.rest;
+      bits = h.bits;
+      grown = h.grown;
+      told = subst (λ (k : ℕ). AreTold u k (drop k old)) (sym number)
+          (told_later v u v.about.number (drop v.about.number old) learns h.told);
     }
 
 -- ---- refusals

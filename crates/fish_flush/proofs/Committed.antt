@@ -2,36 +2,34 @@
 use Rattle.std.proofs.Common.{◌≡◌, ℕ, zero, suc, ◌+◌, ◌-◌, ◌*◌, ◌%◌, ◌<◌, ◌≤◌, ◌⊎◌, inl, inr, List, [], ◌∷◌}
 use Rattle.std.proofs.Common.{◌++◌, length, drop}
 use Rattle.std.proofs.Common.{refl, ap, sym, ◌∙◌, subst, arith, length-append, append-nil}
-use mathlib.Core.Option.{some-ne-none}
 use Rattle.std.proofs.lemmas.List.{drop-append-le}
 use Rattle.fish_catalog.specs.declared.commit.Commit.{Commit}
 use Rattle.fish_catalog.specs.declared.entry.Entry.{Entry}
 use Rattle.fish_catalog.specs.declared.row.CatRow.{CatRow}
 use Rattle.fish_disk.specs.Crash.{LeavesOnly}
-use Rattle.fish_disk.proofs.Moments.{leaves_more, leaves_none}
-use Rattle.fish_flush.specs.Carrying.{Carries, Drafts, LeavesEither, flusher_after}
+use Rattle.fish_disk.proofs.Moments.{leaves_more}
+use Rattle.fish_flush.specs.Carrying.{Carries, IsDrafted, LeavesEither, flusher_after}
+use Rattle.fish_flush.specs.Going.{ComesFrom, GoesOnFrom}
 use Rattle.fish_flush.specs.Kept.{IsAtRest, IsCommitted, commit_of}
 use Rattle.fish_flush.specs.Rows.{HoldsRows}
 use Rattle.fish_flush.specs.Writing.{EitherCommit, Grows}
 use Rattle.fish_flush.specs.declared.drafting.Draft.{Draft}
 use Rattle.fish_flush.specs.declared.flusher.Flusher.{Flusher}
 use Rattle.fish_flush.proofs.Growing.{grown_self}
-use Rattle.fish_flush.proofs.Images.{resting_gates}
 use Rattle.fish_image.proofs.Spelling.{told_word}
 use Rattle.fish_image.specs.Log.{Agrees, FollowsIn}
 use Rattle.fish_image.specs.Reached.{Reached}
 use Rattle.fish_image.specs.Reading.{IsTold}
 use Rattle.fish_image.specs.Slot.{number}
-use Rattle.fish_image.specs.Stands.{Stands}
+use Rattle.fish_image.specs.Stands.{IsLog, Stands}
 use Rattle.fish_rule.proofs.laws.Alone.{tells_later}
 use Rattle.fish_rule.specs.Logs.{AreTold, Learns, Tells}
 use Rattle.fish_rule.specs.declared.table.Shape.{Shape}
 use Rattle.fish_rule.specs.declared.view.Key.{Key}
 use Rattle.fish_rule.specs.declared.view.View.{View}
-use Rattle.fish_slots.proofs.Commits.{rests_commit}
-use Rattle.fish_slots.specs.Commits.{Rests, next_turn, turn_of}
+use Rattle.fish_slots.specs.Commits.{HasCommit, Rests, next_turn, turn_of}
 use Rattle.fish_slots.specs.Places.{lines_at}
-use Rattle.fish_slots.specs.Slots.{GatesAreSynced, line_count}
+use Rattle.fish_slots.specs.Slots.{line_count}
 
 -- ---- entries
 
@@ -59,7 +57,7 @@ committed_length f c body lines log h =
     ap (λ (l : List Entry). length l) (sym h.is.stands.entries) ∙ agrees_entries c _ c.count h.is.stands.end h.is.stands.agrees
 
 -- entries that are told, one behind the other
-told_both : (u : View) (base : ℕ) (xs ys : List Entry) → AreTold u base xs → AreTold u (base + length xs) ys → AreTold u base (xs ++ ys)
+pub told_both : (u : View) (base : ℕ) (xs ys : List Entry) → AreTold u base xs → AreTold u (base + length xs) ys → AreTold u base (xs ++ ys)
 told_both u base [] ys first second i e at =
     let same : base + length (let none : List Entry = [] in none) + i ≡ base + i = omega arith in
     subst (λ (n : ℕ). Tells u n e) same (second i e at)
@@ -93,24 +91,45 @@ turn_behind : (t : ℕ) → next_turn t ≡ (t + 1) % 3
 unfolding next_turn
 turn_behind t = refl
 
+-- ---- images
+
+-- an image that has the last commit goes on from its lines
+pub still_goes : (f : Flusher) (c : Commit) (log : List Entry) (images : List ℕ → Type 0) (at : IsAtRest images f c log) (i : List ℕ)
+    → HasCommit at.body at.lines i → GoesOnFrom c at.lines i
+still_goes f c log images at i h =
+    let same = sym (append-nil at.lines) in
+    record {
+      commit = c;
+      body = at.body;
+      more = [];
+      log = log;
+      has = subst (λ (l : List ℕ). HasCommit at.body l i) same h;
+      is = subst (λ (l : List ℕ). IsLog c at.body l log) same at.committed.is;
+      size = ap (λ (l : List ℕ). length l) (append-nil at.lines) ∙ at.committed.size;
+      bits = refl;
+      counts = omega arith;
+      ends = omega arith;
+      grown = grown_self c.count c.rows;
+    }
+
 -- ---- a draft
 
-module _ (images : List ℕ → Type 0) (f : Flusher) (v u : View) (end : ℕ) (s : Shape) (rows : List CatRow) (to : ℕ) (d : Draft)
-    (drafts : Drafts v u end s f rows to d) (c : Commit) (old : List Entry) (at : IsAtRest images f c old)
+module _ (images : List ℕ → Type 0) (f : Flusher) (v u : View) (s : Shape) (rows : List CatRow) (to : ℕ) (d : Draft)
+    (lines : List ℕ) (drafts : IsDrafted u s f rows to d lines) (c : Commit) (old : List Entry) (at : IsAtRest images f c old)
     (bits : c.bucket_bits ≡ s.bucket_bits) (grown : Rattle.fish_flush.specs.Rows.HaveGrown c.count c.rows rows) where
   -- what is kept behind it
   after : Flusher
   after = flusher_after f d
 
   -- it goes on from what rests there
-  pub draft_grows : Grows images (1 - f.slot) f.line at.body at.lines d.body d.lines.items
+  pub draft_grows : Grows images (1 - f.slot) f.line at.body at.lines d.body lines
   draft_grows =
       let le = at.slot_is in
       let other : f.slot ≡ 1 - (1 - f.slot) = omega arith in
       let committed = at.committed in
       let before : line_count at.body ≡ f.line = body_lines c at.body committed.is.told ∙ committed.line in
       let behind = body_lines _ d.body drafts.told in
-      let within = drafts.within.0 in
+      let within = drafts.ordered in
       let size = drafts.size in
       let whole = committed.size in
       let line = committed.line in
@@ -126,20 +145,44 @@ module _ (images : List ℕ → Type 0) (f : Flusher) (v u : View) (end : ℕ) (
 
   -- what the draft adds
   pub draft_more : (more : List Entry) × AreTold u f.count more × (length more + f.count ≡ to)
-      × IsCommitted (flusher_after f d) (commit_of (flusher_after f d) s rows) d.body (at.lines ++ d.lines.items) (old ++ more)
+      × IsCommitted (flusher_after f d) (commit_of (flusher_after f d) s rows) d.body (at.lines ++ lines) (old ++ more)
   draft_more = drafts.read c at.body at.lines old at.committed bits grown
 
   -- an image with one of the commits stands for one of the logs
-  pub either_stands : (i : List ℕ) → EitherCommit at.body at.lines d.body (at.lines ++ d.lines.items) i
+  pub either_stands : (i : List ℕ) → EitherCommit at.body at.lines d.body (at.lines ++ lines) i
       → Stands c i old ⊎ Stands (commit_of (flusher_after f d) s rows) i (old ++ draft_more.0)
   either_stands i (inl h) = inl (record { body = at.body; lines = at.lines; commit = h; is = at.committed.is })
-  either_stands i (inr h) = inr (record { body = d.body; lines = at.lines ++ d.lines.items; commit = h; is = draft_more.3.is })
+  either_stands i (inr h) = inr (record { body = d.body; lines = at.lines ++ lines; commit = h; is = draft_more.3.is })
+
+  -- and goes on from the lines of the last one
+  pub either_goes : (i : List ℕ) → EitherCommit at.body at.lines d.body (at.lines ++ lines) i → GoesOnFrom c at.lines i
+  either_goes i (inl h) = still_goes f c old images at i h
+  either_goes i (inr h) =
+      let m = draft_more in
+      let counted = at.committed.count in
+      let upto = m.2 in
+      let count = drafts.count in
+      let line = at.committed.line in
+      let ordered = drafts.ordered in
+      record {
+        commit = commit_of (flusher_after f d) s rows;
+        body = d.body;
+        more = lines;
+        log = old ++ m.0;
+        has = h;
+        is = m.3.is;
+        size = m.3.size;
+        bits = bits;
+        counts = omega arith;
+        ends = omega arith;
+        grown = grown;
+      }
 
   -- a crash leaves one of them
   pub draft_leaves : {D : Type 0} (im : D → List ℕ → Type 0) (since : D → ℕ → List ℕ → Type 0) (moment : D → ℕ) (x y : D)
-      → LeavesOnly im since moment x y (EitherCommit at.body at.lines d.body (at.lines ++ d.lines.items))
-      → LeavesEither im since moment x y u rows c old
-  draft_leaves im since moment x y leaves =
+      → LeavesOnly im since moment x y (EitherCommit at.body at.lines d.body (at.lines ++ lines)) → ComesFrom (im x) (im y)
+      → LeavesEither im since moment x y u rows c old at.lines
+  draft_leaves im since moment x y leaves was =
       let m = draft_more in
       let counted = at.committed.count in
       let upto = m.2 in
@@ -150,13 +193,15 @@ module _ (images : List ℕ → Type 0) (f : Flusher) (v u : View) (end : ℕ) (
         told = subst (λ (n : ℕ). AreTold u n m.0) (sym counted) m.1;
         rows_are = refl;
         count = omega arith;
-        leaves = leaves_more im since moment x y (EitherCommit at.body at.lines d.body (at.lines ++ d.lines.items)) _ either_stands leaves;
+        leaves = leaves_more im since moment x y (EitherCommit at.body at.lines d.body (at.lines ++ lines)) _ either_stands leaves;
+        goes = leaves_more im since moment x y (EitherCommit at.body at.lines d.body (at.lines ++ lines)) _ either_goes leaves;
+        was = was;
       }
 
   -- and once it is committed, the file carries it
   pub draft_carries : (images' : List ℕ → Type 0) → Learns v u → v.about.number ≤ f.count → to ≤ u.learned.settled
       → AreTold v v.about.number (drop v.about.number old)
-      → ((i : List ℕ) → images' i → Rests (1 - f.slot) d.body (at.lines ++ d.lines.items) i)
+      → ((i : List ℕ) → images' i → Rests (1 - f.slot) d.body (at.lines ++ lines) i)
       → ((i : List ℕ) → images' i → lines_at + 32 * d.line ≤ length i)
       → (length (old ++ draft_more.0) ≡ to)
       × Carries images' (flusher_after f d) u s rows (commit_of (flusher_after f d) s rows) (old ++ draft_more.0)
@@ -179,7 +224,7 @@ module _ (images : List ℕ → Type 0) (f : Flusher) (v u : View) (end : ℕ) (
           rest = record {
             slot_is = omega arith;
             body = d.body;
-            lines = at.lines ++ d.lines.items;
+            lines = at.lines ++ lines;
             rests = rests;
             long = long;
             committed = m.3;
@@ -196,44 +241,3 @@ module _ (images : List ℕ → Type 0) (f : Flusher) (v u : View) (end : ℕ) (
               (subst (λ (n : ℕ). AreTold u n m.0) place m.1));
         },
       )
-
--- at rest every image stands for the log
-pub rest_stands : (images : List ℕ → Type 0) (f : Flusher) (c : Commit) (log : List Entry) → IsAtRest images f c log
-    → (i : List ℕ) → images i → Stands c i log
-rest_stands images f c log at i here = record {
-  body = at.body;
-  lines = at.lines;
-  commit = rests_commit f.slot at.body at.lines i at.slot_is (at.rests i here);
-  is = at.committed.is;
-}
-
--- and the gates are synced
-pub rest_gates : (images : List ℕ → Type 0) (f : Flusher) (c : Commit) (log : List Entry) → IsAtRest images f c log
-    → GatesAreSynced images images
-rest_gates images f c log at =
-    let le = at.slot_is in
-    let other : f.slot ≡ 1 - (1 - f.slot) = omega arith in
-    resting_gates images (1 - f.slot) at.body at.lines (omega arith)
-    (λ i here. subst (λ (t : ℕ). Rests t at.body at.lines i) other (at.rests i here))
-
--- where nothing was written, every image stands for the log that it stood for
-pub nothing_leaves : {D : Type 0} (im : D → List ℕ → Type 0) (since : D → ℕ → List ℕ → Type 0) (moment : D → ℕ) (x : D) (f : Flusher)
-    (u : View) (rows : List CatRow) (c : Commit) (old : List Entry) → IsAtRest (im x) f c old
-    → LeavesEither im since moment x x u rows c old
-nothing_leaves im since moment x f u rows c old at = record {
-  more = [];
-  next = record c { rows = rows };
-  told = λ i e there. absurd (some-ne-none e (sym there));
-  rows_are = refl;
-  count = omega arith;
-  leaves = leaves_none im since moment x _ (λ i here. inl (rest_stands (im x) f c old at i here));
-}
-
--- an image that has all lines of a body is long enough for them
-pub long_rests : (slot : ℕ) (b w i : List ℕ) (m n : ℕ) → Rests slot b w i → length w ≡ 32 * n → lines_at + m ≤ length i
-    → lines_at + 32 * n ≤ length i
-long_rests slot b w i m n h size long =
-    let same = ap (λ (l : List ℕ). length l) h.lines_are in
-    let taken = Rattle.std.proofs.lemmas.List.length-take (32 * line_count b) (drop lines_at i) in
-    let left = Rattle.std.proofs.Common.length-drop lines_at i in
-    omega arith

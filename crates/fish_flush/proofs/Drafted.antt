@@ -9,12 +9,18 @@ use Rattle.fish_catalog.specs.declared.commit.Commit.{Commit}
 use Rattle.fish_catalog.specs.declared.entry.Entry.{Entry}
 use Rattle.fish_catalog.specs.declared.row.CatRow.{CatRow}
 use Rattle.fish_catalog.specs.Words.{bound_word}
-use Rattle.fish_flush.specs.Kept.{IsCommitted}
+use Rattle.fish_catalog.specs.declared.page_start.PageStart.{PageStart}
+use Rattle.fish_flush.specs.Carrying.{Drafts, IsDrafted, MayDraft, flusher_after}
+use Rattle.fish_flush.specs.Filling.{HasCopied, IsReady}
+use Rattle.fish_flush.specs.Kept.{IsCommitted, commit_of}
+use Rattle.fish_flush.specs.declared.batch.Batch.{Batch}
+use Rattle.fish_flush.specs.declared.drafting.Draft.{Draft}
+use Rattle.fish_rule.specs.Logs.{Extends}
 use Rattle.fish_flush.specs.Reading.{IsLineAt, IsReadTo}
 use Rattle.fish_flush.specs.Rows.{HaveGrown, HoldsRows}
 use Rattle.fish_flush.specs.declared.flusher.Flusher.{Flusher}
 use Rattle.fish_flush.proofs.Growing.{grown_agrees}
-use Rattle.fish_flush.proofs.RegionSteps.{line_inside, line_start}
+use Rattle.fish_flush.proofs.RegionSteps.{line_inside, line_later, line_start}
 use Rattle.fish_flush.proofs.TableKeys.{begin_word, end_word, few_rows}
 use Rattle.fish_flush.proofs.Words.{length-words_of, words_both}
 use Rattle.fish_image.specs.Commits.{HasBoundaries, IsBoundary, IsWithin}
@@ -142,3 +148,61 @@ within_limits v s shape rows c is holds turn pages bits rows_are above settled l
     bounds_at i d less =
         let t = Rattle.fish_image.proofs.Spelling.parted rows i less in
         subst HasBoundaries (sym (get_or_from_slice_get rows i t.0 d t.1)) (bounds_of i t.0 t.1)
+
+-- ---- the draft with its lines
+
+-- its batch is ready
+pub drafted_ready : (v : View) (end : ℕ) (s : Shape) (f : Flusher) (rows : List CatRow) (to : ℕ) (d : Draft) → MayDraft v s f rows to
+    → Drafts v end s f rows to d → IsReady v f.count to d.batch
+drafted_ready v end s f rows to d may drafts =
+    let begins = drafts.begins in
+    let some_ = may.some in
+    let heads : length d.batch.heads.items ≡ length f.heads.items = ap length begins.heads in
+    record {
+      line = subst (IsLineAt v f.count) (sym begins.line) may.line;
+      end_is = subst (IsLineAt v to) (sym begins.end_is) drafts.line;
+      none = begins.none;
+      some = omega arith;
+      room = begins.room;
+    }
+
+-- it goes on from the last one, in a view that knows more
+module _ (m u : View) (end : ℕ) (s : Shape) (f : Flusher) (rows : List CatRow) (to : ℕ) (d : Draft) (b : Batch) (lines : List ℕ)
+    (may : MayDraft m s f rows to) (drafts : Drafts m end s f rows to d) (on : Extends m u) (stands : Stands u)
+    (copied : HasCopied m u f.count to d.batch b lines) where
+  -- the lines end where the draft's do
+  drafted_line : b.line ≡ d.line
+  drafted_line =
+      sym (line_start u to b.line stands copied.line) ∙ line_start u to d.line stands (line_later m u to d.line on.learns drafts.line)
+
+  -- so it is a commit with them
+  pub drafted : IsDrafted u s f rows to (record d { batch = b }) lines
+  drafted =
+      let begins = drafts.begins in
+      let line = begins.line in
+      let size = copied.size in
+      let same = drafted_line in
+      let whole : length lines ≡ 32 * (d.line - f.line) = omega arith in
+      let g : Flusher = flusher_after f (record d { batch = b }) in
+      let next : Commit = commit_of g s rows in
+      record {
+        told = drafts.told;
+        turn = drafts.turn;
+        count = drafts.count;
+        line = line_later m u to d.line on.learns drafts.line;
+        ordered = drafts.within.0;
+        size = whole;
+        read = λ c body before old committed bits grown.
+            let was = commits_read f c next body before old committed bits grown drafts.told.commit.rows in
+            let r = copied.read next (words_in before) old may.rows_are
+            (subst (λ (z : ℕ × List ℕ × ℕ × List PageStart). IsReadTo next (words_in before) old f.count z.0 z.1 z.2 z.3)
+            (λ i. (sym begins.line i, sym begins.heads i, sym begins.page i, sym begins.starts i)) was) in (
+              r.0,
+              r.1,
+              r.2,
+              commits_more f g c next body before d.body lines (words_in lines) old r.0 committed drafts.told refl drafts.within.0
+                  whole refl refl refl
+                  (subst (λ (z : ℕ × ℕ). IsReadTo next (words_in before ++ words_in lines) (old ++ r.0) z.0 z.1 b.heads.items b.page
+                  b.starts.items) (λ i. (sym drafts.count i, same i)) r.3),
+            );
+      }

@@ -1,14 +1,14 @@
 -- One region more was copied.
 use Rattle.std.proofs.Common.{◌≡◌, ◌≢◌, ℕ, zero, suc, ◌+◌, ◌*◌, ◌<◌, ◌≤◌, ◌^◌, inl, inr, List}
 use Rattle.std.proofs.Common.{[], ◌∷◌, ◌++◌, length, get_or, drop}
-use Rattle.std.proofs.Common.{refl, ap, sym, ◌∙◌, subst, arith, append_assoc, length-append}
+use Rattle.std.proofs.Common.{refl, ap, sym, ◌∙◌, subst, arith, length-append}
 use Rattle.std.proofs.Math.Seq.{drop-append_seam}
 use Rattle.std.proofs.lemmas.List.{take_all}
 use Rattle.fish_catalog.specs.declared.commit.Commit.{Commit}
 use Rattle.fish_catalog.specs.declared.entry.Entry.{Entry}
 use Rattle.fish_catalog.specs.declared.page_start.PageStart.{PageStart}
 use Rattle.fish_flush.specs.Linking.{AreSpelled}
-use Rattle.fish_flush.specs.Reading.{IsLineAt, IsReadTo}
+use Rattle.fish_flush.specs.Reading.{IsLineAt, IsLooked, IsReadTo}
 use Rattle.fish_catalog.specs.PageStarts.{starts_after}
 use Rattle.fish_flush.specs.Rows.{HoldsRows}
 use Rattle.fish_flush.proofs.Growing.{grown_agrees, grown_self, meant_self}
@@ -42,13 +42,6 @@ use Rattle.fish_walk.specs.Looks.{IsEntryLook, look_of}
 use Rattle.fish_walk.specs.declared.outcome.Look.TheVariants as found
 
 -- ---- looks
-
--- the region of a number was found, and is no mark
-pub record IsLooked (u : View) (n line : ℕ) (f : Found) : Type 0 where
-  pub number : f.number ≡ n
-  pub line_is : f.line ≡ line
-  pub plain : f.kind ≢ Mark
-  pub among : Among f u.learned.found
 
 -- a word that tells of an entry isn't 0, and its kind is no mark
 entry_word : (word : ℕ) → IsEntryLook (look_of word) → (word ≢ 0) × (kind_told (high word) ≢ Mark)

@@ -1,5 +1,7 @@
 pub mod Carrying
 pub mod Causes
+pub mod Filling
+pub mod Going
 pub mod Kept
 pub mod Laws
 pub mod Linking

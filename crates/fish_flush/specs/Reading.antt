@@ -1,12 +1,11 @@
 -- How far the log was copied.
-use Rattle.std.specs.Prelude.{ℕ, ◌≡◌, ◌≢◌, ◌+◌, ◌*◌, ◌^◌, ◌≤◌, ◌⊎◌, ◌++◌, suc, List, length}
+use Rattle.std.specs.Prelude.{ℕ, ◌≡◌, ◌≢◌, ◌+◌, ◌*◌, ◌^◌, ◌≤◌, ◌⊎◌, suc, List, length}
 use Rattle.fish_catalog.specs.declared.commit.Commit.{Commit}
 use Rattle.fish_catalog.specs.declared.entry.Entry.{Entry}
 use Rattle.fish_catalog.specs.declared.page_start.PageStart.{PageStart}
 use Rattle.fish_image.specs.Log.{Agrees}
 use Rattle.fish_image.specs.Progress.{AreHeads}
 use Rattle.fish_image.specs.Reached.{Reached}
-use Rattle.fish_rule.specs.Logs.{HasWords}
 use Rattle.fish_rule.specs.Views.{Among}
 use Rattle.fish_rule.specs.declared.view.Found.{Found}
 use Rattle.fish_rule.specs.declared.view.Kind.TheVariants.{Mark}
@@ -17,16 +16,12 @@ abbrev pub IsLineAt : View → ℕ → ℕ → Type 0
 IsLineAt v n line = ((n ≡ v.about.number) × (line ≡ v.about.line))
     ⊎ ((f : Found) × Among f v.learned.found × (suc f.number ≡ n) × (f.line + f.lines ≡ line))
 
--- words after others are those of the region of a number, which the pass found at a line
-pub record IsRegionAt (v : View) (n line : ℕ) (before after : List ℕ) : Type 0 where
-  pub more : List ℕ
-  pub after_is : after ≡ before ++ more
-  pub found : Found
-  pub number : found.number ≡ n
-  pub line_is : found.line ≡ line
-  pub plain : found.kind ≢ Mark
-  pub among : Among found v.learned.found
-  pub has : HasWords v found more
+-- the region of a number was found at a line, and is no mark
+pub record IsLooked (v : View) (n line : ℕ) (f : Found) : Type 0 where
+  pub number : f.number ≡ n
+  pub line_is : f.line ≡ line
+  pub plain : f.kind ≢ Mark
+  pub among : Among f v.learned.found
 
 -- lines up to the end of the table
 abbrev pub EndsWithin : ℕ → ℕ → ℕ → Type 0

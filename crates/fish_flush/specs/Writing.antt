@@ -33,6 +33,12 @@ pub record Grows (images : List ℕ → Type 0) (slot line : ℕ) (b w d more : 
   pub after : 32 * line_count d ≡ 32 * line + length more
   pub turn : turn_of d ≡ next_turn (turn_of b)
 
+-- so it is of a disk on which the lines stand at their place
+pub record GrowsBy {D : Type 0} (content : D → Option (List ℕ)) (images : D → List ℕ → Type 0) (disk : D) (slot line : ℕ)
+    (b w d more : List ℕ) : Type 0 where
+  pub grows : Grows (images disk) slot line b w d more
+  pub put : IfSome (content disk) (IsPut line more)
+
 -- the slot has one body and its lines, and the other slot, whose gate is open, another
 pub record IsSealed (slot : ℕ) (b w d v c : List ℕ) : Type 0 where
   pub gate : IsOpen (1 - slot) c

@@ -61,9 +61,10 @@ impl Flusher {
         self.turn = draft.turn;
         self.count = draft.count;
         self.line = draft.line;
-        self.heads = draft.heads;
-        self.page = draft.page;
-        self.starts = draft.starts;
+        let batch = draft.batch;
+        self.heads = batch.heads;
+        self.page = batch.page;
+        self.starts = batch.starts;
     }
 
     /// How many entries the last commit counts.

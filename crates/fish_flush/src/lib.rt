@@ -6,6 +6,7 @@
 //! one.
 #![tactic(auto)]
 
+mod batch;
 mod bucket;
 mod creation;
 mod drafting;
@@ -13,6 +14,7 @@ mod exchange;
 mod flusher;
 mod law;
 mod linking;
+mod loading;
 mod pages;
 mod refusal;
 mod region;

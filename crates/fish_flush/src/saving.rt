@@ -1,25 +1,27 @@
 //! A checkpoint: the log up to its settled number is committed, while other passes go on.
 
-ghost use Rattle.std.specs.Prelude.{◌≡◌, ◌≤◌, ◌<◌, ◌+◌, ◌-◌, ◌*◌, ◌^◌, ◌++◌, ◌⊎◌, true, false, ℕ, List, IfOk};
-ghost use Rattle.std.specs.Prelude.{IfSome, IsErrOf, OnOk, length};
+ghost use Rattle.std.specs.Prelude.{◌≡◌, ◌≤◌, ◌+◌, ◌-◌, true, false, ℕ, List, IfOk, IsErrOf, OnOk};
 ghost use Rattle.fish_catalog.specs.declared.commit.Commit.{Commit};
 ghost use Rattle.fish_catalog.specs.declared.entry.Entry.{Entry};
+ghost use Rattle.fish_catalog.specs.declared.row.CatRow.{CatRow};
+ghost use Rattle.fish_outside.specs.Causes.{HasCause};
+ghost use Rattle.fish_rule.specs.Logs.{Extends};
 ghost use Rattle.fish_rule.specs.Passes.{IsPassOf, view};
-ghost use Rattle.fish_flush.specs.Carrying.{Carries, HasCommitted, HasSettled, LeavesEither, Reads, flusher_after};
+ghost use Rattle.fish_flush.specs.Carrying.{Carries, HasCommitted, HasSettled, IsSaved, LeavesEither, MaySave, Reads};
+ghost use Rattle.fish_flush.specs.Carrying.{flusher_after};
 ghost use Rattle.fish_flush.specs.Causes.{HasFlushCause};
 ghost use Rattle.fish_flush.specs.Rows.{HoldsRows};
-ghost use Rattle.fish_disk.specs.Crash.{LeavesOnly};
-ghost use Rattle.fish_flush.specs.Writing.{EitherCommit, Grows, pages_between};
-ghost use Rattle.fish_slots.specs.Commits.{Rests};
-ghost use Rattle.fish_slots.specs.Places.{body_bytes};
+ghost use Rattle.fish_flush.specs.Writing.{pages_between};
 ghost use Rattle.fish_slots.specs.Slots.{GatesAreSynced};
 
 use crate::drafting::{Draft, draft_commit};
-use crate::exchange::commit;
+use crate::exchange::put_body;
 use crate::flusher::Flusher;
+use crate::pages::write_settled;
 use crate::refusal::FlushRefusal;
 use fish_catalog::Catalog;
 use fish_disk::Disk;
+use fish_outside::Failed;
 use fish_rule::{Log, Pass};
 use fish_walk::settle;
 use std::alloc::Global;
@@ -45,8 +47,8 @@ pub fn checkpoint<D: Disk>(
     ensures committed { IfOk result (HasCommitted (D.images disk.old) (D.images disk.new) flusher.old flusher.new (view pass.old)
         (view pass.new) log.now.shape catalog.now) }
     ensures crash { (c : Commit) (old : List Entry)
-        → Carries (D.images disk.old) flusher.old (view pass.old) log.now.shape catalog.now c old
-        → LeavesEither D.images D.since D.moment disk.old disk.new (view pass.new) catalog.now c old }
+        → (h : Carries (D.images disk.old) flusher.old (view pass.old) log.now.shape catalog.now c old)
+        → LeavesEither D.images D.since D.moment disk.old disk.new (view pass.new) catalog.now c old h.rest.lines }
     ensures gates { GatesAreSynced (D.images disk.new) (D.images disk.new) }
     ensures calls { D.moment disk.new ≤ D.moment disk.old + pages_between flusher.old.line log.now.key.end + 6 }
 
@@ -56,42 +58,37 @@ pub fn checkpoint<D: Disk>(
 {
     let to = settle(log, pass).settled;
     let draft = draft_commit(alloc, log, pass, flusher, catalog, to)?;
-    save(flusher, draft, disk)
+    save(log, pass, flusher, draft, disk)
 }
 
-/// Writes a draft.
-fn save<D: Disk>(flusher: &mut Flusher, draft: Draft, disk: &mut D) -> Result<u32, FlushRefusal>
-    requires slot { flusher.old.slot ≤ 1 }
-    requires size { length draft.body ≡ body_bytes }
-    requires low { draft.line < 2 ^ 37 }
-    requires ordered { flusher.old.line ≤ draft.line }
-    requires whole { length draft.lines.items ≡ 32 * (draft.line - flusher.old.line) }
-    requires rests { (b w : List ℕ)
-        × Grows (D.images disk.old) (1 - flusher.old.slot) flusher.old.line b w draft.body draft.lines.items }
+/// Commits a draft, and keeps what is left of it. It takes no memory.
+fn save<D: Disk>(
+    log: &Log,
+    pass: &mut Pass,
+    flusher: &mut Flusher,
+    draft: Draft,
+    disk: &mut D,
+) -> Result<u32, FlushRefusal>
+    requires pass { IsPassOf log.now pass.old }
+    requires may { (rows : List CatRow) × (c : Commit) × (old : List Entry)
+        × MaySave (D.images disk.old) (view pass.old) log.now.key.end log.now.shape flusher.old draft rows c old }
+    ensures pass { IsPassOf log.now pass.new }
+    ensures extends { Extends (view pass.old) (view pass.new) }
     ensures count { IfOk result (λ n. n ≡ draft.count) }
-    ensures saved { OnOk result (flusher.new ≡ flusher_after flusher.old draft) }
-    ensures done { OnOk result ((b w : List ℕ)
-        → Grows (D.images disk.old) (1 - flusher.old.slot) flusher.old.line b w draft.body draft.lines.items
-        → (c : List ℕ) → D.images disk.new c → Rests (1 - flusher.old.slot) draft.body (w ++ draft.lines.items) c) }
-    ensures crash { (b w : List ℕ)
-        → Grows (D.images disk.old) (1 - flusher.old.slot) flusher.old.line b w draft.body draft.lines.items
-        → LeavesOnly D.images D.since D.moment disk.old disk.new (EitherCommit b w draft.body (w ++ draft.lines.items)) }
-    ensures longer { (n : ℕ) → ((c : List ℕ) → D.images disk.old c → n ≤ length c)
-        → (c : List ℕ) → D.images disk.new c → n ≤ length c }
+    ensures kept { OnOk result ((flusher.new.count ≡ draft.count) × (flusher.new.shut ≡ flusher.old.shut)) }
+    ensures saved { OnOk result (IsSaved (D.images disk.old) (D.images disk.new) (view pass.old) (view pass.new) log.now.key.end
+        log.now.shape flusher.old draft flusher.new) }
+    ensures crash { (rows : List CatRow) (c : Commit) (old : List Entry)
+        → (may : MaySave (D.images disk.old) (view pass.old) log.now.key.end log.now.shape flusher.old draft rows c old)
+        → LeavesEither D.images D.since D.moment disk.old disk.new (view pass.new) rows c old may.rest.lines }
     ensures gates { GatesAreSynced (D.images disk.new) (D.images disk.new) }
-    ensures calls { D.moment disk.new ≤ D.moment disk.old + pages_between flusher.old.line draft.line + 6 }
+    ensures calls { D.moment disk.new ≤ D.moment disk.old + pages_between flusher.old.line log.now.key.end + 6 }
     ensures cause { HasFlushCause (D.faults disk.old) (D.faults disk.new) result }
     ensures shut { IsErrOf result FlushRefusal.DiskFault → flusher.new ≡ record flusher.old { shut = true } }
     ensures memory { ¬ IsErrOf result FlushRefusal.OutOfMemory }
 {
-    let slot = 1 - flusher.slot;
-    match commit(
-        disk,
-        slot,
-        flusher.line,
-        draft.lines.as_slice(),
-        draft.body.as_bytes(),
-    ) {
+    let mut draft = draft;
+    match write_draft(log, pass, flusher, &mut draft, disk) {
         Ok(()) => {
             flusher.keep(draft);
             Ok(flusher.count)
@@ -102,4 +99,32 @@ fn save<D: Disk>(flusher: &mut Flusher, draft: Draft, disk: &mut D) -> Result<u3
             Err(FlushRefusal::DiskFault)
         }
     }
+}
+
+/// Writes the lines of a draft, and then its body into the slot that is closed, which takes the place of the other.
+fn write_draft<D: Disk>(
+    log: &Log,
+    pass: &mut Pass,
+    flusher: &Flusher,
+    draft: &mut Draft,
+    disk: &mut D,
+) -> Result<(), Failed>
+    requires pass { IsPassOf log.now pass.old }
+    requires may { (rows : List CatRow) × (c : Commit) × (old : List Entry)
+        × MaySave (D.images disk.old) (view pass.old) log.now.key.end log.now.shape flusher.now draft.old rows c old }
+    ensures pass { IsPassOf log.now pass.new }
+    ensures extends { Extends (view pass.old) (view pass.new) }
+    ensures kept { draft.new ≡ record draft.old { batch = draft.new.batch } }
+    ensures saved { OnOk result (IsSaved (D.images disk.old) (D.images disk.new) (view pass.old) (view pass.new) log.now.key.end
+        log.now.shape flusher.now draft.old (flusher_after flusher.now draft.new)) }
+    ensures crash { (rows : List CatRow) (c : Commit) (old : List Entry)
+        → (may : MaySave (D.images disk.old) (view pass.old) log.now.key.end log.now.shape flusher.now draft.old rows c old)
+        → LeavesEither D.images D.since D.moment disk.old disk.new (view pass.new) rows c old may.rest.lines }
+    ensures gates { GatesAreSynced (D.images disk.new) (D.images disk.new) }
+    ensures calls { D.moment disk.new ≤ D.moment disk.old + pages_between flusher.now.line log.now.key.end + 6 }
+    ensures cause { HasCause (D.faults disk.old) (D.faults disk.new) result }
+{
+    let to = draft.count;
+    write_settled(log, pass, flusher.count, to, &mut draft.batch, disk)?;
+    put_body(disk, 1 - flusher.slot, draft.body.as_bytes())
 }

@@ -1,5 +1,6 @@
 -- A checkpoint may follow a checkpoint.
-use Rattle.std.proofs.Common.{◌≡◌, ℕ, List, ◌++◌, sym, subst}
+use Rattle.std.proofs.Common.{◌≡◌, ℕ, List, ◌++◌, false, sym, subst}
+use Rattle.std.specs.Prelude.{IfOk, Result, Ok, Err}
 use Rattle.fish_catalog.specs.declared.commit.Commit.{Commit}
 use Rattle.fish_catalog.specs.declared.entry.Entry.{Entry}
 use Rattle.fish_catalog.specs.declared.row.CatRow.{CatRow}
@@ -21,3 +22,11 @@ may_again images p q n shape rows may done =
       subst (λ (z : List CatRow). Carries (images q.disk) q.flusher q.view q.shape z next log) (sym rows)
           (subst (λ (z : Shape). Carries (images q.disk) q.flusher q.view z p.rows next log) (sym shape) d.2),
     )
+
+-- so it is told of its answer
+pub again_ok : {D E : Type 0} (images : D → List ℕ → Type 0) (p q : Point D) (r : Result ℕ E) → q.shape ≡ p.shape → q.rows ≡ p.rows
+    → MayCommit images p
+    → IfOk r (HasCommitted (images p.disk) (images q.disk) p.flusher q.flusher p.view q.view p.shape p.rows)
+    → IfOk r (λ n. (q.flusher.count ≡ n) × (q.flusher.shut ≡ false) × MayCommit images q)
+again_ok images p q (Ok n) shape rows may done = (done.count, done.live, may_again images p q n shape rows may done)
+again_ok images p q (Err e) shape rows may done = tt

@@ -1,8 +1,8 @@
 -- A checkpoint, done or refused by the disk, goes from one moment to the next.
-use Rattle.std.proofs.Common.{◌≡◌, ℕ, zero, suc, ◌+◌, ◌-◌, ◌≤◌, ◌⊎◌, arith, List, [], ◌∷◌, ◌++◌, Option, Some, None, false, true, ap, subst, sym, refl}
+use Rattle.std.proofs.Common.{◌≡◌, ℕ, ◌+◌, ◌≤◌, ◌⊎◌, arith, List, ◌++◌, Option, Some, None, false, true, ap, subst, sym, refl}
 use Rattle.std.proofs.Common.{inl, inr, ◌∙◌, length, take, drop, length-append, length-drop}
-use Rattle.std.specs.Prelude.{IfOk, IfSome, IsErrOf, IsSome, Result, Ok, Err}
-use Rattle.std.proofs.lemmas.List.{drop-append-le, take-append-drop, take-append-le, take_all}
+use Rattle.std.specs.Prelude.{IfOk, IsErrOf, IsSome, Result, Ok, Err}
+use Rattle.std.proofs.lemmas.List.{drop-append-le, take-append-drop, take-append-le}
 use Rattle.fish_catalog.specs.declared.commit.Commit.{Commit}
 use Rattle.fish_catalog.specs.declared.entry.Entry.{Entry}
 use Rattle.fish_catalog.specs.declared.row.CatRow.{CatRow}
@@ -11,7 +11,8 @@ use Rattle.fish_cold.specs.declared.cold.Cold.{Cold}
 use Rattle.fish_disk.proofs.Moments.{leaves_more, leaves_none}
 use Rattle.fish_disk.specs.Content.{StillReads}
 use Rattle.fish_disk.specs.Crash.{LeavesOnly}
-use Rattle.fish_flush.proofs.Committed.{committed_length, rest_stands, told_later}
+use Rattle.fish_flush.proofs.Committed.{committed_length, told_both, told_later}
+use Rattle.fish_flush.proofs.Resting.{rest_stands}
 use Rattle.fish_flush.specs.Carrying.{Carries, HasCommitted, HasSettled, LeavesEither, Reads}
 use Rattle.fish_flush.specs.Kept.{commit_of}
 use Rattle.fish_flush.specs.Rows.{HaveGrown}
@@ -20,7 +21,7 @@ use Rattle.fish_flush.specs.declared.refusal.FlushRefusal.{FlushRefusal}
 use Rattle.fish_flush.specs.declared.refusal.FlushRefusal.TheVariants.{DiskFault, OutOfMemory}
 use Rattle.fish_image.specs.Reached.{Reached}
 use Rattle.fish_image.specs.Stands.{Stands}
-use Rattle.fish_rule.specs.Logs.{AreTold, Tells}
+use Rattle.fish_rule.specs.Logs.{AreTold}
 use Rattle.fish_rule.specs.Views.{Among}
 use Rattle.fish_rule.specs.declared.table.Shape.{Shape}
 use Rattle.fish_rule.specs.declared.view.Key.{Key}
@@ -29,29 +30,14 @@ use Rattle.fish_slots.proofs.Commits.{rests_commit}
 use Rattle.fish_store.proofs.Kept.{stays_carried}
 use Rattle.fish_store.proofs.Running.{here_stays}
 use Rattle.fish_store.proofs.Same.{still_self, table_same}
-use Rattle.fish_store.specs.Going.{GoesOnFrom}
 use Rattle.fish_store.specs.Sound.{GoesOnHere, HasPast, IsImageOf, MayCommit, Point, Rests, Sound}
 use Rattle.fish_whole.proofs.Parts.{fits_later}
 use Rattle.fish_whole.proofs.Prefixes.{prefix_self}
-use Rattle.fish_whole.specs.Whole.{FitsPast, IsKnown, IsPrefix, Later, Whole}
+use Rattle.fish_whole.specs.Whole.{IsKnown, IsPrefix, Later, Whole}
 
 -- a call that only reads goes on to a later state
 pub reads_later : (v u : View) → Reads v u → Later v u
 reads_later v u h = record { learns = h.learns; gained = λ o m. inl (subst (Among o) (ap (λ (z : View). z.own) h.frame) m) }
-
--- entries that are told, one after the other
-told_both : (u : View) (base : ℕ) (xs ys : List Entry) → AreTold u base xs → AreTold u (base + length xs) ys → AreTold u base (xs ++ ys)
-told_both u base [] ys first second i e at =
-    let same : base + length (let none : List Entry = [] in none) + i ≡ base + i = omega arith in
-    subst (λ (n : ℕ). Tells u n e) same (second i e at)
-told_both u base (x ∷ xs) ys first second zero e at = first zero e at
-told_both u base (x ∷ xs) ys first second (suc i) e at =
-    let up : base + 1 + i ≡ base + suc i = omega arith in
-    let size : base + length (x ∷ xs) ≡ base + 1 + length xs = omega arith in
-    subst (λ (n : ℕ). Tells u n e) up
-    (told_both u (base + 1) xs ys
-    (λ j d there. (let over : base + suc j ≡ base + 1 + j = omega arith in subst (λ (n : ℕ). Tells u n d) over (first (suc j) d there)))
-    (subst (λ (n : ℕ). AreTold u n ys) size second) i e at)
 
 -- a log that begins with what was there before the table, and goes on as the pass was told, is a part of the log for good
 known_of : (past : Whole) (u : View) (log : List Entry) → take (length past.log) log ≡ past.log
@@ -73,15 +59,21 @@ module _
     (moment : D → ℕ)
     (p q : Point D) (reads : Reads p.view q.view) (cold : q.cold ≡ p.cold) (shape : q.shape ≡ p.shape) (rows : q.rows ≡ p.rows)
     (live : p.flusher.shut ≡ false)
-    (before : IsSome (content q.disk) → IsSome (content p.disk))
-    (read : (d : D) (i : List ℕ) → content d ≡ Some i → images d i)
-    (either : (c : Commit) (old : List Entry) → Carries (images p.disk) p.flusher p.view p.shape p.rows c old
-    → LeavesEither images since moment p.disk q.disk q.view p.rows c old)
-    (goes : (c : Commit) (old : List Entry) (h : Carries (images p.disk) p.flusher p.view p.shape p.rows c old)
-    → LeavesOnly images since moment p.disk q.disk (GoesOnFrom c h.rest.lines)) where
+    (may : MayCommit images p)
+    (read : (d : D) (i : List ℕ) → content d ≡ Some i → images d i) (told : (d : D) (i : List ℕ) → images d i → IsSome (content d))
+    (either : (c : Commit) (old : List Entry) (h : Carries (images p.disk) p.flusher p.view p.shape p.rows c old)
+    → LeavesEither images since moment p.disk q.disk q.view p.rows c old h.rest.lines) where
   -- the state goes on
   later : Later p.view q.view
   later = reads_later p.view q.view reads
+
+  -- the disk was told, where it is
+  before : IsSome (content q.disk) → IsSome (content p.disk)
+  before some = by (content q.disk) refl some
+    where
+      by : (o : Option (List ℕ)) → content q.disk ≡ o → IsSome o → IsSome (content p.disk)
+      by None is some = absurd cc
+      by (Some i) is some = (let was = (either may.0 may.1 may.2).was i (read q.disk i is) in told p.disk was.0 was.1)
 
   module _ (past : Whole) (s : Sound content images p past) where
     -- what rests there
@@ -125,7 +117,8 @@ module _
         (subst (λ (k : ℕ). AreTold p.view k (drop k rest.log)) s.fits.base rest.carries.told))
 
     -- whatever a crash leaves is a part of the log that has the last commit's entries
-    either_image : (h : LeavesEither images since moment p.disk q.disk q.view p.rows rest.commit rest.log) (i : List ℕ)
+    either_image : (h : LeavesEither images since moment p.disk q.disk q.view p.rows rest.commit rest.log rest.carries.rest.lines)
+        (i : List ℕ)
         → Stands rest.commit i rest.log ⊎ Stands h.next i (rest.log ++ h.more) → IsImageOf past q.view p.flusher.count i
     either_image h i (inl stands) = (let size = past_size in record {
       commit = rest.commit;
@@ -158,7 +151,7 @@ module _
             let r = rest.carries.rest in
             let t = s.has.table in
             let was = read p.disk t.image t.is in
-            let g = (goes rest.commit rest.log rest.carries).now i (read q.disk i is) in
+            let g = (either rest.commit rest.log rest.carries).goes.now i (read q.disk i is) in
             let held = stays_carried p.view.about p.cold (content p.disk) (content q.disk) t rest.commit r.body r.lines i
             (rests_commit p.flusher.slot r.body r.lines t.image r.slot_is (r.rests t.image was)) r.committed.is.told r.committed.size g is in
             let moved : (x : CarriesTable (content q.disk) q.view.about q.cold) × (x.end.entries ≡ past.log) =
@@ -184,7 +177,7 @@ module _
   }
 
   -- where it is done, the last commit has all that was settled
-  module _ (n : ℕ) (may : MayCommit images p) (settled : p.view.learned.settled ≤ n)
+  module _ (n : ℕ) (settled : p.view.learned.settled ≤ n)
       (done : HasCommitted (images p.disk) (images q.disk) p.flusher q.flusher p.view q.view p.shape p.rows n) where
     rises : p.flusher.count ≤ q.flusher.count
     rises = (let upto = may.2.settled in let count = done.count in omega arith)
@@ -247,10 +240,10 @@ module _
   })
 
   -- however it ends, the store goes on
-  pub here_checkpoint : (r : Result ℕ FlushRefusal) → MayCommit images p → IfOk r (HasSettled p.view q.view)
+  pub here_checkpoint : (r : Result ℕ FlushRefusal) → IfOk r (HasSettled p.view q.view)
       → IfOk r (HasCommitted (images p.disk) (images q.disk) p.flusher q.flusher p.view q.view p.shape p.rows)
       → (IsErrOf r DiskFault → q.flusher ≡ record p.flusher { shut = true })
       → (IsErrOf r OutOfMemory → (q.disk ≡ p.disk) × (q.flusher ≡ p.flusher)) → GoesOnHere content images since moment p q
-  here_checkpoint (Ok n) may settled done shut memory = here_committed n may settled.rises done
-  here_checkpoint (Err DiskFault) may settled done shut memory = here_faulted (shut refl)
-  here_checkpoint (Err OutOfMemory) may settled done shut memory = (let same = memory refl in here_same same.0 same.1)
+  here_checkpoint (Ok n) settled done shut memory = here_committed n settled.rises done
+  here_checkpoint (Err DiskFault) settled done shut memory = here_faulted (shut refl)
+  here_checkpoint (Err OutOfMemory) settled done shut memory = (let same = memory refl in here_same same.0 same.1)

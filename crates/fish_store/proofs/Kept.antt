@@ -16,25 +16,24 @@ use Rattle.fish_cold.specs.declared.cold.Cold.{Cold}
 use Rattle.fish_cold.specs.declared.page.Page.{Page}
 use Rattle.fish_flush.proofs.Committed.{body_lines}
 use Rattle.fish_flush.proofs.Growing.{grown_agrees}
-use Rattle.fish_flush.proofs.Words.{length-words_of, words_both}
+use Rattle.fish_flush.proofs.Words.{words_both}
 use Rattle.fish_image.proofs.Agreement.{agrees_first, agrees_more, agrees_once, agrees_within, front_whole, goes, lines_small, same_lines}
 use Rattle.fish_image.proofs.Regions.{no_void}
+use Rattle.fish_flush.specs.Going.{GoesOnFrom}
 use Rattle.fish_image.specs.Log.{Agrees, Follows, FollowsIn, IsRecordAt, region, region_lines, values_under}
 use Rattle.fish_image.specs.Reached.{Reached}
 use Rattle.fish_image.specs.Stands.{words_in}
 use Rattle.fish_lang.specs.Definition.{Definition}
 use Rattle.fish_lang.specs.Language.{IsAccepted}
 use Rattle.fish_layout.proofs.Once.{body_once}
-use Rattle.fish_layout.specs.Body.{IsBody}
 use Rattle.fish_layout.specs.declared.parts.BodyParts.{BodyParts}
 use Rattle.fish_psf.specs.Records.{evaluation}
 use Rattle.fish_rule.specs.declared.view.Key.{Key}
-use Rattle.fish_slots.specs.Slots.{line_count, lines_of}
+use Rattle.fish_slots.specs.Slots.{lines_of}
 use Rattle.fish_store.proofs.Pages.{first_lines, same_page}
 use Rattle.fish_image.specs.Reading.{IsTold}
 use Rattle.fish_recover.proofs.Once.{told_once}
 use Rattle.fish_slots.proofs.Commits.{one_commit}
-use Rattle.fish_store.specs.Going.{GoesOnFrom}
 use Rattle.fish_store.specs.Laws.{StaysCarried}
 
 -- the text of each row of a catalogue is a definition

@@ -6,14 +6,14 @@ use Rattle.std.proofs.lemmas.List.{take_all}
 use Rattle.fish_catalog.specs.declared.commit.Commit.{Commit}
 use Rattle.fish_catalog.specs.declared.entry.Entry.{Entry}
 use Rattle.fish_cold.specs.Carries.{CarriesTable, IsPrior}
-use Rattle.fish_flush.proofs.Committed.{committed_length, rest_stands}
+use Rattle.fish_flush.proofs.Committed.{committed_length}
+use Rattle.fish_flush.proofs.Resting.{rest_stands}
 use Rattle.fish_image.specs.Log.{Agrees}
 use Rattle.fish_image.specs.Reached.{Reached}
 use Rattle.fish_image.specs.Stands.{Stands, words_in}
 use Rattle.fish_recover.specs.Stores.{IsOpened}
 use Rattle.fish_recover.specs.declared.opened.Opened.{Opened}
 use Rattle.fish_rule.specs.Passes.{view}
-use Rattle.fish_rule.specs.Table.{first_view}
 use Rattle.fish_rule.specs.declared.view.Key.{Key}
 use Rattle.fish_rule.specs.declared.view.View.{View}
 use Rattle.fish_slots.proofs.Commits.{rests_commit}
@@ -21,7 +21,7 @@ use Rattle.fish_store.proofs.Kept.{one_prior}
 use Rattle.fish_store.specs.Opened.{first_past, opened_point}
 use Rattle.fish_store.specs.Sound.{HasPast, IsImageOf, Sound}
 use Rattle.fish_whole.proofs.Prefixes.{prefix_first}
-use Rattle.fish_whole.specs.Whole.{FitsPast, IsKnown}
+use Rattle.fish_whole.specs.Whole.{FitsPast}
 
 module _ {D : Type 0} (content : D → Option (List ℕ)) (images : D → List ℕ → Type 0) (disk : D) (c : Commit) (log : List Entry) (o : Opened)
     (h : IsOpened (content disk) (images disk) c log o) where

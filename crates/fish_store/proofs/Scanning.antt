@@ -1,7 +1,6 @@
 -- A scan leaves the last commit, and reads pages at most.
-use Rattle.std.proofs.Common.{◌≡◌, ℕ, List, Option, ap, subst, sym, refl, inl, ◌∙◌}
+use Rattle.std.proofs.Common.{◌≡◌, ℕ, List, Option, ap, subst, sym, inl, ◌∙◌}
 use Rattle.std.specs.Prelude.{IfSome}
-use Rattle.fish_catalog.specs.declared.row.CatRow.{CatRow}
 use Rattle.fish_cold.specs.Carries.{CarriesTable}
 use Rattle.fish_cold.specs.declared.cold.Cold.{Cold}
 use Rattle.fish_flush.specs.Rows.{HaveGrown}

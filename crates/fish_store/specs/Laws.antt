@@ -4,6 +4,7 @@ use Rattle.fish_catalog.specs.declared.commit.Commit.{Commit}
 use Rattle.fish_catalog.specs.declared.entry.Entry.{Entry}
 use Rattle.fish_cold.specs.Carries.{CarriesTable}
 use Rattle.fish_cold.specs.declared.cold.Cold.{Cold}
+use Rattle.fish_flush.specs.Going.{GoesOnFrom}
 use Rattle.fish_image.specs.Reading.{IsTold}
 use Rattle.fish_image.specs.Stands.{Stands}
 use Rattle.fish_recover.specs.Stores.{IsOpened}
@@ -11,7 +12,6 @@ use Rattle.fish_recover.specs.declared.opened.Opened.{Opened}
 use Rattle.fish_rule.specs.Passes.{view}
 use Rattle.fish_rule.specs.declared.view.Key.{Key}
 use Rattle.fish_slots.specs.Commits.{HasCommit}
-use Rattle.fish_store.specs.Going.{GoesOnFrom}
 use Rattle.fish_store.specs.Opened.{first_past, opened_point}
 use Rattle.fish_store.specs.Sound.{GoesOnHere, IsImageOf, Point, Sound, Stays}
 

@@ -1,5 +1,4 @@
 pub mod Ending
-pub mod Going
 pub mod Laws
 pub mod Opened
 pub mod Points

@@ -1,19 +1,22 @@
 //! What the control pass keeps of a store's file: of the last commit, and of the pages below the table.
 
-ghost use Rattle.std.specs.Prelude.{◌≡◌, IfErr, IfOk, IfSome};
+ghost use Rattle.std.specs.Prelude.{◌≡◌, true, false, IfErr, IfOk, IsErrOf};
 ghost use Rattle.fish_cold.specs.Carries.{CarriesTable};
 ghost use Rattle.fish_epoch.specs.Definitions.{IsDefsOf};
+ghost use Rattle.fish_flush.specs.Carrying.{HasSettled, Reads};
+ghost use Rattle.fish_flush.specs.Causes.{HasFlushCause};
+ghost use Rattle.fish_flush.specs.Rows.{HoldsRows};
 ghost use Rattle.fish_rule.specs.Passes.{IsPassOf, view};
 ghost use Rattle.fish_scan.specs.Across.{IsAnswerWith, IsRefusedWith, IsUndamagedScan};
 ghost use Rattle.fish_scan.specs.Colder.{IsBelow, IsScanFault};
 ghost use Rattle.fish_scan.specs.Scans.{OnlyScans};
 ghost use Rattle.fish_store.specs.Points.{point_of};
-ghost use Rattle.fish_store.specs.Sound.{GoesOnHere};
+ghost use Rattle.fish_store.specs.Sound.{GoesOnHere, MayCommit};
 
 use fish_cold::Cold;
 use fish_disk::Disk;
 use fish_epoch::Defs;
-use fish_flush::Flusher;
+use fish_flush::{FlushRefusal, Flusher, checkpoint};
 use fish_psf::Steps;
 use fish_registry::Registrar;
 use fish_rule::{Log, Pass};
@@ -31,6 +34,36 @@ pub struct StoreFile {
 }
 
 impl StoreFile {
+    /// Commits the log up to the settled number that a `settle` of this call answers, and answers that number, as [`checkpoint`]
+    /// does.
+    pub fn checkpoint<D: Disk>(
+        &mut self,
+        alloc: Global,
+        log: &Log,
+        pass: &mut Pass,
+        registrar: &Registrar,
+        disk: &mut D,
+    ) -> Result<u32, FlushRefusal>
+        requires pass { IsPassOf log.now pass.old }
+        requires live { self.old.flusher.shut ≡ false }
+        requires rows { HoldsRows (view pass.old) registrar.now.catalog }
+        requires may { MayCommit D.images (point_of disk.old self.old log.now pass.old registrar.now) }
+        ensures pass { IsPassOf log.now pass.new }
+        ensures reads { Reads (view pass.old) (view pass.new) }
+        ensures settled { IfOk result (HasSettled (view pass.old) (view pass.new)) }
+        ensures cold { self.new.cold ≡ self.old.cold }
+        ensures again { IfOk result (λ n. (self.new.flusher.count ≡ n) × (self.new.flusher.shut ≡ false)
+            × MayCommit D.images (point_of disk.new self.new log.now pass.new registrar.now)) }
+        ensures goes { GoesOnHere D.content D.images D.since D.moment (point_of disk.old self.old log.now pass.old registrar.now)
+            (point_of disk.new self.new log.now pass.new registrar.now) }
+
+        ensures cause { HasFlushCause (D.faults disk.old) (D.faults disk.new) result }
+        ensures shut { IsErrOf result FlushRefusal.DiskFault → self.new.flusher ≡ record self.old.flusher { shut = true } }
+        ensures memory { IsErrOf result FlushRefusal.OutOfMemory → (disk.new ≡ disk.old) × (self.new ≡ self.old) }
+    {
+        checkpoint(alloc, log, pass, &mut self.flusher, registrar.catalog(), disk)
+    }
+
     /// [`scan_with`], over the pages that are kept.
     pub fn scan<D: Disk, P: Ledger, L: Ledger>(
         &mut self,

@@ -1,7 +1,7 @@
 -- A store without a record.
 use Rattle.std.proofs.Common.{ℕ, List, [], ap, ◌∙◌, subst, length, false, refl}
 use Rattle.fish_flush.proofs.Checkpoints.{memory_cause}
-use Rattle.fish_flush.proofs.Committed.{rest_gates}
+use Rattle.fish_flush.proofs.Resting.{rest_gates}
 use Rattle.fish_flush.proofs.Creating.{few_heads, first_rests}
 use Rattle.fish_flush.specs.Kept.{first_commit}
 use Rattle.fish_flush.specs.declared.flusher.Flusher.{Flusher}

@@ -1,25 +1,23 @@
--- The draft is a commit of all that the last one has, and of what was copied.
-use Rattle.std.proofs.Common.{◌≡◌, ℕ, ◌+◌, ◌-◌, ◌*◌, ◌%◌, List, refl, ap, ◌∙◌}
-use Rattle.std.proofs.Common.{subst, arith, length}
+-- The draft is the body of a commit of all up to the number, and a batch that goes on from the last one.
+use Rattle.std.proofs.Common.{ℕ, ◌+◌, ◌%◌, List, refl, ap}
+use Rattle.std.proofs.Common.{subst, arith}
 use Rattle.fish_catalog.specs.Limits.{newest_format}
-use Rattle.fish_catalog.specs.declared.commit.Commit.{Commit}
-use Rattle.fish_flush.proofs.Drafted.{commits_more, commits_read, within_limits}
+use Rattle.fish_flush.proofs.Drafted.{within_limits}
 use Rattle.fish_image.specs.Reading.{IsTold}
 use Rattle.fish_rule.specs.Passes.{view}
 use Rattle.fish_rule.specs.declared.view.Key.{Key}
 use Rattle.fish_rule.specs.declared.view.View.{View}
 use Rattle.fish_rule.specs.declared.table.Shape.{Shape}
 use Rattle.fish_catalog.specs.declared.row.CatRow.{CatRow}
-use Rattle.fish_image.specs.Stands.{words_in}
 use Rattle.fish_flush.proofs.RegionSteps.{holds_later}
 use Rattle.fish_flush.proofs.drafting.draft_commit.Goals as goal
 
 pub slot_body-body-requires-clause-within : goal.slot_body-body-requires-clause-within
 slot_body-body-requires-clause-within c =
     let v = view c.args.pass.now in
-    let u = view c.read_settled.new.pass in
+    let u = view c.end_line-line.new.pass in
     let may = c.requires.may in
-    let on = c.read_settled.ensures.extends in
+    let on = c.end_line-line.ensures.extends in
     let frame = on.frame in
     let holds = holds_later v u c.args.catalog.now (ap (λ (z : View). z.lane) frame) (ap (λ (z : View). z.rows) frame)
     (ap (λ (z : View). z.main_words) frame) may.rows_are in
@@ -28,54 +26,28 @@ slot_body-body-requires-clause-within c =
     let ordered = may.ordered in
     let settles = on.learns.settled in
     let settled = c.requires.settled in
-    within_limits u c.read_settled.ensures.pass.stands c.args.log.now.shape c.args.catalog.now _ may.shape holds (omega arith)
+    within_limits u c.end_line-line.ensures.pass.stands c.args.log.now.shape c.args.catalog.now _ may.shape holds (omega arith)
     (ap (λ (z : Shape). z.pages) c.shape.ensures) (ap (λ (z : Shape). z.bucket_bits) c.shape-2.ensures) c.in_ok-again.ensures
-    (omega arith) (omega arith) c.in_ok-read.ensures.line
+    (omega arith) (omega arith) c.end_line-line.ensures.line
 
 pub returns-clause-drafts : goal.returns-clause-drafts
 returns-clause-drafts c =
-    let v = view c.args.pass.now in
     let f = c.args.flusher.now in
-    let line : ℕ = c.in_ok-read.read.line in
-    let lines' : List ℕ = c.in_ok-read.read.lines.items in
+    let line : ℕ = c.end_line-line.result in
     let body' : List ℕ = c.in_ok-body.field-0 in
-    let s : Shape = c.args.log.now.shape in
-    let e : Commit = record {
-      format = newest_format;
-      turn = (f.turn + 1) % 3;
-      pages = s.pages;
-      bucket_bits = s.bucket_bits;
-      count = c.args.to;
-      lines = line;
-      rows = c.args.catalog.now;
-    } in
-    let told : IsTold e body' =
-    subst (λ (z : Shape × Shape × List CatRow). IsTold (record {
-      format = newest_format;
-      turn = (f.turn + 1) % 3;
-      pages = z.0.pages;
-      bucket_bits = z.1.bucket_bits;
-      count = c.args.to;
-      lines = line;
-      rows = z.2;
-    }) body') (λ i. (c.shape.ensures i, c.shape-2.ensures i, c.in_ok-again.ensures i)) c.in_ok-body.ensures.told in
-    let size = c.in_ok-read.ensures.size in
-    let within = c.in_ok-read.ensures.within in
-    let whole : length lines' ≡ 32 * (line - f.line) = omega (arith, within.0) in
     record {
-      told = told;
+      told = subst (λ (z : Shape × Shape × List CatRow). IsTold (record {
+        format = newest_format;
+        turn = (f.turn + 1) % 3;
+        pages = z.0.pages;
+        bucket_bits = z.1.bucket_bits;
+        count = c.args.to;
+        lines = line;
+        rows = z.2;
+      }) body') (λ i. (c.shape.ensures i, c.shape-2.ensures i, c.in_ok-again.ensures i)) c.in_ok-body.ensures.told;
       turn = refl;
       count = refl;
-      line = c.in_ok-read.ensures.line;
-      within = within;
-      size = whole;
-      read = λ d body lines old committed bits grown.
-          let r = c.in_ok-read.ensures.read e (words_in lines) old c.requires.may.rows_are
-          (commits_read f d e body lines old committed bits grown told.commit.rows) in (
-            r.0,
-            r.1,
-            r.2,
-            commits_more f _ d e body lines body' lines' (words_in lines') old r.0 committed told refl within.0
-                whole refl refl refl r.3,
-          );
+      line = c.end_line-line.ensures.line;
+      within = c.end_line-line.ensures.within;
+      begins = c.in_ok-new_batch.ensures;
     }

@@ -117,3 +117,12 @@ returns-clause-longer g c = λ n each e here.
     let more = from.2.no_shorter in
     let again = second.2.no_shorter in
     omega arith
+
+pub returns-in_err-open_gate-clause-was : goal.returns-in_err-open_gate-clause-was
+returns-in_err-open_gate-clause-was g c = λ e here. (let from = c.open_gate.ensures.crash.now e here in (from.0, from.1))
+
+pub returns-clause-was : goal.returns-clause-was
+returns-clause-was g c = λ e here.
+    let second = c.close_old.ensures.crash.now e here in
+    let from = c.open_gate.ensures.crash.now second.0 second.1 in
+    (from.0, from.1)

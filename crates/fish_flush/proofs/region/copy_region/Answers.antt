@@ -1,53 +1,67 @@
--- The region that a look found is read.
-use Rattle.std.proofs.Common.{◌≡◌, ℕ, ap, arith}
-use Rattle.fish_flush.proofs.RegionSteps.{looked_in}
+-- The region that a look found is loaded and linked.
+use Rattle.std.proofs.Common.{◌≡◌, ℕ, List, ◌++◌, length, take, drop, sym, ap, ◌∙◌, subst, arith}
+use Rattle.std.proofs.Common.{length-append}
+use Rattle.std.proofs.lemmas.List.{length-take-le}
+use Rattle.std.proofs.Math.Seq.{take-append_seam}
+use Rattle.fish_flush.proofs.RegionSteps.{entries_room}
+use Rattle.fish_flush.proofs.TableRegions.{ends_inside}
+use Rattle.fish_flush.specs.Linking.{AreSpelled}
 use Rattle.fish_rule.proofs.laws.Learning.{extends_both}
 use Rattle.fish_rule.specs.Passes.{view}
-use Rattle.fish_rule.specs.declared.view.Key.{Key}
-use Rattle.fish_walk.proofs.Records.{look_extends}
 use Rattle.fish_flush.proofs.region.copy_region.Goals as goal
 
--- a settled number is one that was counted
-pub look_at-word-requires-clause-view : goal.look_at-word-requires-clause-view
-look_at-word-requires-clause-view c =
-    let number = ap (λ (z : Key). z.number) c.requires.pass.about in
-    let from = c.requires.from in
-    let counted = c.requires.counted in
-    let same = c.from.ensures in
-    record { above = omega arith; below = omega arith }
-
-pub read_region-requires-clause-found : goal.read_region-requires-clause-found
-read_region-requires-clause-found c =
-    let told = c.look_at-word.ensures.view in
-    let t = looked_in c.args.log.now.key (view c.args.pass.now) (view c.look_at-word.new.pass) c.from.result c.args.number told.0
-    c.look_at-word.result c.line_of_word-line.result c.requires.pass.about c.requires.from c.requires.settled c.from.ensures
-    c.look_at-word.ensures.sees told.1 c.line_of_word-line.ensures in
+pub load_region-size-requires-clause-found : goal.load_region-size-requires-clause-found
+load_region-size-requires-clause-found c =
+    let t = c.find_region-line.ensures.looked in
     (t.0, t.1.among, t.1.line_is, t.1.plain)
 
-pub returns-in_err-read_region-clause-extends : goal.returns-in_err-read_region-clause-extends
-returns-in_err-read_region-clause-extends c =
-    let told = c.look_at-word.ensures.view in
-    extends_both _ _ _ (look_extends (view c.args.pass.now) (view c.look_at-word.new.pass) _ told.0 _ told.1) c.read_region.ensures.extends
+pub slice_bounds-link-end : goal.slice_bounds-link-end
+slice_bounds-link-end c = c.load_region-size.ensures.within
+
+pub slice_bounds-link-end-2 : goal.slice_bounds-link-end-2
+slice_bounds-link-end-2 c = sym (length-take-le c.load_region-size.result c.load_region-size.new.words c.load_region-size.ensures.within)
+
+pub link-requires-clause-line : goal.link-requires-clause-line
+link-requires-clause-line c =
+    let t = c.find_region-line.ensures.looked in
+    let stands = c.load_region-size.ensures.pass.stands in
+    let among = c.load_region-size.ensures.extends.learns.found t.0 t.1.among in
+    let has = c.load_region-size.ensures.words t.0 t.1.among t.1.line_is t.1.plain in
+    let inside = ends_inside stands.moment stands.rule stands.seat stands.at t.0 among _ has t.1.plain in
+    let low = stands.rule.key_fits.low_end in
+    let line = t.1.line_is in
+    omega arith
+
+pub link-requires-clause-room : goal.link-requires-clause-room
+link-requires-clause-room c =
+    let t = c.find_region-line.ensures.looked in
+    entries_room (view c.load_region-size.new.pass) t.0 (take c.load_region-size.result c.load_region-size.new.words)
+    c.load_region-size.ensures.pass.stands (c.load_region-size.ensures.extends.learns.found t.0 t.1.among) t.1.plain
+    (c.load_region-size.ensures.words t.0 t.1.among t.1.line_is t.1.plain)
 
 pub returns-clause-extends : goal.returns-clause-extends
-returns-clause-extends c =
-    let told = c.look_at-word.ensures.view in
-    extends_both _ _ _ (look_extends (view c.args.pass.now) (view c.look_at-word.new.pass) _ told.0 _ told.1) c.read_region.ensures.extends
+returns-clause-extends c = extends_both _ _ _ c.find_region-line.ensures.extends c.load_region-size.ensures.extends
 
-pub returns-clause-region : goal.returns-clause-region
-returns-clause-region c =
-    let told = c.look_at-word.ensures.view in
-    let t = looked_in c.args.log.now.key (view c.args.pass.now) (view c.look_at-word.new.pass) c.from.result c.args.number told.0
-    c.look_at-word.result c.line_of_word-line.result c.requires.pass.about c.requires.from c.requires.settled c.from.ensures
-    c.look_at-word.ensures.sees told.1 c.line_of_word-line.ensures in
-    let read = c.in_ok-read_region.ensures.words in
+pub returns-clause-copied : goal.returns-clause-copied
+returns-clause-copied c =
+    let t = c.find_region-line.ensures.looked in
+    let size : ℕ = c.load_region-size.result in
+    let words : List ℕ = c.load_region-size.new.words in
+    let out : List ℕ = c.link.new.words in
+    let taken = length-take-le size words c.load_region-size.ensures.within in
+    let many : length out ≡ size = c.link.ensures.size ∙ taken in
+    let all = length-append out (drop size words) in
+    let front : take size (out ++ drop size words) ≡ out =
+    ap (λ (n : ℕ). take n (out ++ drop size words)) (sym many) ∙ take-append_seam out (drop size words) in
     record {
-      more = read.more;
-      after_is = read.after_is;
+      read = take size words;
       found = t.0;
       number = t.1.number;
-      line_is = t.1.line_is;
       plain = t.1.plain;
-      among = c.read_region.ensures.extends.learns.found t.0 t.1.among;
-      has = read.words t.0 t.1.among t.1.line_is t.1.plain;
+      among = c.load_region-size.ensures.extends.learns.found t.0 t.1.among;
+      has = c.load_region-size.ensures.words t.0 t.1.among t.1.line_is t.1.plain;
+      size_is = sym taken;
+      within = omega arith;
+      spelled = subst (λ (z : ℕ × List ℕ). AreSpelled z.0 (take size words) c.args.heads.now.items c.link.new.heads.items z.1)
+          (λ i. (sym t.1.line_is i, sym front i)) c.link.ensures.spelled;
     }

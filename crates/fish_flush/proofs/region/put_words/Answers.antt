@@ -1,33 +1,27 @@
--- The bytes behind those of before are those of the words.
-use Rattle.std.proofs.Common.{◌≡◌, ℕ, ◌+◌, ◌*◌, ◌<◌, List, ◌++◌, length, refl, ap, ◌∙◌, arith, length-append}
-use Rattle.fish_flush.proofs.Rewritten.{lengthened}
+-- The bytes from a place on are those of the words.
+use Rattle.std.proofs.Common.{◌≡◌, ◌≤◌, ℕ, ◌+◌, ◌*◌, List, ◌++◌, length, take, ap, ◌∙◌, arith}
+use Rattle.std.proofs.lemmas.List.{length-take-le}
+use Rattle.fish_flush.proofs.Rewritten.{all_rewritten, over, over_front, over_size}
 use Rattle.fish_flush.proofs.Words.{bytes_size, words_both, words_bytes}
 use Rattle.fish_image.specs.Stands.{words_in}
 use Rattle.fish_flush.proofs.region.put_words.Goals as goal
 
-pub returns-clause-size : goal.returns-clause-size
-returns-clause-size c =
-    let written : List ℕ = c.write_u64_into.new.dst in
-    let before : List ℕ = c.args.bytes.now.items in
-    let size = bytes_size c.args.words.now written c.write_u64_into.ensures in
-    let was = c.args.bytes.now.ok.0 in
-    let start : c.len-start.result ≡ length before = c.len-start.ensures ∙ was in
-    let all = lengthened before written c.resize.new.self.items c.len-start.result c.args.bytes.now.len
-    (c.len-start.result + 8 * length c.args.words.now) c.resize.new.self.len c.in_ok-resize.ensures.items start was (omega arith)
-    c.resize.new.self.ok.0 _ refl in
-    ap length all ∙ length-append before written ∙ ap (λ (n : ℕ). length before + n) size
-
 pub returns-clause-words : goal.returns-clause-words
 returns-clause-words c =
-    let written : List ℕ = c.write_u64_into.new.dst in
-    let before : List ℕ = c.args.bytes.now.items in
-    let size = bytes_size c.args.words.now written c.write_u64_into.ensures in
-    let was = c.args.bytes.now.ok.0 in
-    let start : c.len-start.result ≡ length before = c.len-start.ensures ∙ was in
-    let all = lengthened before written c.resize.new.self.items c.len-start.result c.args.bytes.now.len
-    (c.len-start.result + 8 * length c.args.words.now) c.resize.new.self.len c.in_ok-resize.ensures.items start was (omega arith)
-    c.resize.new.self.ok.0 _ refl in
+    let new : List ℕ = c.write_u64_into.new.dst in
+    let old : List ℕ = c.args.bytes.now.items in
+    let words : List ℕ = c.args.words.now in
+    let from : ℕ = c.args.from in
+    let size : length new ≡ 8 * length words = bytes_size words new c.write_u64_into.ensures in
+    let within = c.requires.within in
     let whole = c.requires.whole in
-    ap words_in all ∙ words_both whole.0 (length c.args.words.now) before written whole.1 size
-    ∙ ap (λ (l : List ℕ). words_in before ++ l)
-    (words_bytes c.args.words.now written (λ i. (let fits = c.type_inv.words i in omega arith)) c.write_u64_into.ensures)
+    let fits : from + length new ≤ length old = omega arith in
+    let all = all_rewritten (over new old from fits) old c.args.bytes.now.len c.args.bytes.now.ok.0 (over_size new old from fits) in
+    let front : length (take from old) ≡ 8 * whole.0 = length-take-le from old (omega arith) ∙ whole.1 in
+    let upto : from + 8 * length words ≡ from + length new = omega arith in
+    ap (λ (l : List ℕ). words_in (take (from + 8 * length words) l)) all
+    ∙ ap (λ (n : ℕ). words_in (take n (over new old from fits))) upto
+    ∙ ap words_in (over_front new old from fits)
+    ∙ words_both whole.0 (length words) (take from old) new front size
+    ∙ ap (λ (l : List ℕ). words_in (take from old) ++ l)
+    (words_bytes words new (λ i. (let one = c.type_inv.words i in omega arith)) c.write_u64_into.ensures)

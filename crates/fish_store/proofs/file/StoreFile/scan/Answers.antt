@@ -1,5 +1,5 @@
 -- What is kept of the last commit stays, and the pages below the table are read as they were.
-use Rattle.std.proofs.Common.{◌≡◌, ℕ, List, refl, subst, sym}
+use Rattle.std.proofs.Common.{refl, subst, sym}
 use Rattle.std.specs.Prelude.{IfSome}
 use Rattle.fish_cold.specs.Carries.{CarriesTable}
 use Rattle.fish_rule.specs.declared.view.Key.{Key}

@@ -3,9 +3,12 @@ use Rattle.std.specs.Prelude.{ℕ, ◌≡◌, ◌*◌, ◌≤◌, List, ◌++◌
 use Rattle.fish_catalog.specs.declared.commit.Commit.{Commit}
 use Rattle.fish_catalog.specs.declared.entry.Entry.{Entry}
 use Rattle.fish_flush.specs.Rows.{HaveGrown}
-use Rattle.fish_image.specs.Reading.{IsTold}
-use Rattle.fish_image.specs.Stands.{IsLog, words_in}
+use Rattle.fish_image.specs.Stands.{IsLog}
 use Rattle.fish_slots.specs.Commits.{HasCommit}
+
+-- there is an image only where there was one
+abbrev pub ComesFrom : (List ℕ → Type 0) → (List ℕ → Type 0) → Type 0
+ComesFrom old new = (image : List ℕ) → new image → (before : List ℕ) × old before
 
 -- the image stands for a log by a commit that goes on from this one: its lines begin with these, it has the same buckets, it counts
 -- no fewer entries and lines, and its rows went on
