@@ -33,8 +33,8 @@ use Rattle.fish_run.specs.Works.{Pairs}
 use Rattle.fish_run.specs.declared.running.RunFault.{RunFault}
 use Rattle.fish_run.specs.declared.running.RunFault.TheVariants as fault
 use Rattle.fish_script.specs.declared.script.Block as script
-use Rattle.fish_whole.proofs.Tables.{ends_so}
-use Rattle.fish_whole.specs.Whole.{FitsPast, Later, Whole, behind_table, nothing_before}
+use Rattle.fish_whole.proofs.Tables.{ends_so, stands_behind}
+use Rattle.fish_whole.specs.Whole.{FitsPast, IsBehind, Later, Whole, behind_table, nothing_before}
 
 -- ---- one more block was written
 
@@ -226,6 +226,11 @@ module _ (v : View) (fits : FitsPast nothing_before v) (remains : Remains) (clos
   pub left : Whole
   left = behind_table nothing_before v remains closed
 
+  -- its definitions are those of the words
+  left_behind : IsBehind nothing_before v remains closed left
+  unfolding left
+  left_behind = stands_behind nothing_before v remains closed fits
+
   left_is : left.log ≡ remains.log
   unfolding left
   left_is = refl
@@ -254,6 +259,7 @@ module _ (told : Option Files) (text : List script.Block) (shape : Shape) (v : V
         are = h.all;
         closed = (v, closed);
         whole = left v fits remains closed;
+        behind = left_behind v fits remains closed;
         log_is = left_is v fits remains closed;
         tells = shown v fits remains closed told text h.blocks None count h.ran;
         fulls = fulls_agree v h.blocks (shape.pages * 32768) stands h.ran.marks end_is;
@@ -274,6 +280,7 @@ module _ (told : Option Files) (text : List script.Block) (shape : Shape) (v : V
         cut_is = tt;
         closed = (v, closed);
         whole = left v fits remains closed;
+        behind = left_behind v fits remains closed;
         log_is = left_is v fits remains closed;
         tells = shown v fits remains closed told text h.blocks None count h.ran;
         fulls = fulls_agree v h.blocks (shape.pages * 32768) stands h.ran.marks end_is;
@@ -294,6 +301,7 @@ module _ (told : Option Files) (text : List script.Block) (shape : Shape) (v : V
     cut_is = h.ran.cut_is;
     closed = (v, closed);
     whole = left v fits remains closed;
+    behind = left_behind v fits remains closed;
     log_is = left_is v fits remains closed;
     tells = shown v fits remains closed told text h.blocks h.cut h.end h.ran;
     fulls = fulls_agree v (with_cut h.blocks h.cut) (shape.pages * 32768) stands h.ran.marks end_is;

@@ -12,7 +12,7 @@ use Rattle.fish_run.specs.Works.{AreNumbered, IsLaneOf, Pairs}
 use Rattle.fish_run.specs.declared.running.RunFault.{RunFault}
 use Rattle.fish_run.specs.declared.running.RunFault.TheVariants as fault
 use Rattle.fish_script.specs.declared.script.Block as script
-use Rattle.fish_whole.specs.Whole.{Whole}
+use Rattle.fish_whole.specs.Whole.{IsBehind, Whole, nothing_before}
 
 -- a block that ran has the lanes of one of the script, with the files that they name and the numbers from 1 on
 pub record IsBlockOf (told : Option Files) (s : script.Block) (b : Block) : Type 0 where
@@ -28,8 +28,8 @@ AreFirst told text blocks = Pairs (IsBlockOf told) (take (length blocks) text) b
 abbrev pub IsNextOf : Option Files → List script.Block → ℕ → Block → Type 0
 IsNextOf told text many b = (s : script.Block) × (slice_get text many ≡ Some s) × IsBlockOf told s b
 
--- a run that came to its end: each block of the script ran; what is left is that of a closed log, and the items are true of a whole
--- with this log; their text, and that the log was closed, was written; refusals of a full log of so many pages agree; and the log has
+-- a run that came to its end: each block of the script ran; what is left is that of a closed log, and the items are true of the whole
+-- with this log and the definitions of its words; their text, and that the log was closed, was written; refusals of a full log of so many pages agree; and the log has
 -- its buckets
 pub record IsWhole (told : Option Files) (text : List script.Block) (shape : Shape) (remains : Remains) (old new : Option (List ℕ))
     (refused : Bool) : Type 0 where
@@ -37,6 +37,7 @@ pub record IsWhole (told : Option Files) (text : List script.Block) (shape : Sha
   pub are : Pairs (IsBlockOf told) text blocks
   pub closed : (v : View) × IsClosed v remains
   pub whole : Whole
+  pub behind : IsBehind nothing_before closed.0 remains closed.1 whole
   pub log_is : whole.log ≡ remains.log
   pub tells : TellsRun whole blocks None (length whole.log)
   pub fulls : FullsAgree blocks (shape.pages * 32768)
@@ -50,7 +51,7 @@ WritesPart told text count old new blocks = GainedPart old new (report_text (rep
     ⊎ (Pairs (IsBlockOf told) text blocks × GainedPart old new (report_text (whole_report blocks count)))
 
 -- a run that a fault stopped: the first blocks ran, and perhaps one more, in which a lane stopped at the fault; what is left is that
--- of a closed log, and their items are true of a whole with this log; a first part of the report was written, without the cut block,
+-- of a closed log, and their items are true of the whole with this log and the definitions of its words; a first part of the report was written, without the cut block,
 -- and all of it where a file couldn't be read
 pub record IsStopped (told : Option Files) (text : List script.Block) (shape : Shape) (remains : Remains) (old new : Option (List ℕ))
     (why : RunFault) : Type 0 where
@@ -60,6 +61,7 @@ pub record IsStopped (told : Option Files) (text : List script.Block) (shape : S
   pub cut_is : IfSome cut (IsNextOf told text (length blocks))
   pub closed : (v : View) × IsClosed v remains
   pub whole : Whole
+  pub behind : IsBehind nothing_before closed.0 remains closed.1 whole
   pub log_is : whole.log ≡ remains.log
   pub tells : TellsRun whole blocks cut (length whole.log)
   pub fulls : FullsAgree (with_cut blocks cut) (shape.pages * 32768)

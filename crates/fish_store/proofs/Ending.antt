@@ -9,7 +9,7 @@ use Rattle.fish_store.specs.Ending.{IsLost, IsPartOf, IsShown, KeepsOld}
 use Rattle.fish_store.specs.Sound.{IsImageOf, Point, Reaches}
 use Rattle.fish_whole.proofs.Parts.{known_old, known_sure}
 use Rattle.fish_whole.proofs.Prefixes.{prefix_both, prefix_first}
-use Rattle.fish_whole.proofs.Tables.{ends_so}
+use Rattle.fish_whole.proofs.Tables.{ends_so, stands_behind}
 use Rattle.fish_whole.proofs.Wholes.{may_hold}
 use Rattle.fish_whole.specs.Whole.{IsPrefix, MayEnd, Whole, behind_table}
 
@@ -53,8 +53,11 @@ module _
       let w = behind_table a.next q.view remains c in
       let may = ends_so a.next q.view remains c a.sound.fits main all in
       record {
+        view = q.view;
+        closed = c;
+        past = a.next;
         whole = w;
-        front = a.next.log;
+        behind = stands_behind a.next q.view remains c a.sound.fits;
         shows = refl;
         base = sym a.sound.fits.base ∙ sym c.base;
         first = prefix_both past.log a.next.log w.log a.goes.grows (prefix_first a.next.log remains.log);

@@ -3,8 +3,10 @@ use Rattle.std.specs.Prelude.{ℕ, ◌≡◌, ◌≤◌, ◌++◌, List, length}
 use Rattle.fish_catalog.specs.declared.commit.Commit.{Commit}
 use Rattle.fish_catalog.specs.declared.entry.Entry.{Entry}
 use Rattle.fish_image.specs.Stands.{Stands}
+use Rattle.fish_rule.specs.ClosedLog.{IsClosed}
 use Rattle.fish_rule.specs.declared.close.Remains.{Remains}
-use Rattle.fish_whole.specs.Whole.{IsPrefix, Whole}
+use Rattle.fish_rule.specs.declared.view.View.{View}
+use Rattle.fish_whole.specs.Whole.{IsBehind, IsPrefix, Whole}
 
 -- the image stands for a log that begins with the old one and has at least so many entries
 pub record KeepsOld (old : List Entry) (least : ℕ) (image : List ℕ) : Type 0 where
@@ -19,13 +21,16 @@ pub record IsPartOf (old log : List Entry) (least : ℕ) (image : List ℕ) : Ty
   pub kept : KeepsOld old least image
   pub front : IsPrefix kept.part log
 
--- the log was closed and shows the end of a whole, of which all is so that was told; what a crash now may leave is a part of it with the
--- last commit's entries, and what one since a moment may have left, a part of it with the old ones
+-- the log was closed and shows the end of a whole, with the definitions of its words, of which all is so that was told; what a crash now
+-- may leave is a part of it with the last commit's entries, and what one since a moment may have left, a part of it with the old ones
 pub record IsShown (now since : List ℕ → Type 0) (old : List Entry) (count : ℕ) (tells : Whole → Type 0) (remains : Remains) : Type 0 where
+  pub view : View
+  pub closed : IsClosed view remains
+  pub past : Whole
   pub whole : Whole
-  pub front : List Entry
-  pub shows : whole.log ≡ front ++ remains.log
-  pub base : length front ≡ remains.base
+  pub behind : IsBehind past view remains closed whole
+  pub shows : whole.log ≡ past.log ++ remains.log
+  pub base : length past.log ≡ remains.base
   pub first : IsPrefix old whole.log
   pub told : tells whole
   pub crash_now : (c : List ℕ) → now c → IsPartOf old whole.log count c

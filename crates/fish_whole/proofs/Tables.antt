@@ -14,26 +14,17 @@ use Rattle.fish_rule.specs.declared.view.View.{View}
 use Rattle.fish_whole.proofs.Parts.{told_front}
 use Rattle.fish_whole.proofs.Prefixes.{prefix_append, prefix_both, prefix_first, prefix_self}
 use Rattle.fish_whole.proofs.Wholes.{later_self}
-use Rattle.fish_whole.specs.Whole.{FitsPast, GoesOn, MayEnd, Narrows, Whole, behind_table}
+use Rattle.fish_whole.specs.Whole.{FitsPast, GoesOn, IsBehind, MayEnd, Narrows, Whole, behind_table}
 
 -- ---- the end
 
--- what stands when the last table is closed may be in the end
-pub ends_so : (past : Whole) (v : View) (remains : Remains) (c : IsClosed v remains) → FitsPast past v → v.lane ≡ 1
-    → v.out ≡ [] → MayEnd past v (behind_table past v remains c)
-ends_so past v remains c fits main all = record {
-  last = v;
-  remains = remains;
-  base = fits.base;
-  main = main;
-  all = all;
-  later = later_self v;
-  closed = c;
-  behind = record {
-    starts = prefix_self (past.log ++ remains.log);
-    before = λ n less. by n less (dec_lt v.about.version n);
-    since = λ n low_ high_. at n low_ (dec_lt v.about.version n);
-  };
+-- what stands when a table is closed begins with what stood before and what is left, and has the definitions of both
+pub stands_behind : (past : Whole) (v : View) (remains : Remains) (c : IsClosed v remains) → FitsPast past v
+    → IsBehind past v remains c (behind_table past v remains c)
+stands_behind past v remains c fits = record {
+  starts = prefix_self (past.log ++ remains.log);
+  before = λ n less. by n less (dec_lt v.about.version n);
+  since = λ n low_ high_. at n low_ (dec_lt v.about.version n);
 }
   where
     by : (n : ℕ) → n ≤ v.about.version → (d : Dec (v.about.version < n))
@@ -48,6 +39,20 @@ ends_so past v remains c fits main all = record {
         let e : n ≡ v.about.version = omega arith in
         subst (λ (z : ℕ). past.rows z ≡ definitions_at v.about c.moment.registry z) (sym e)
         (fits.joins ∙ sym (definitions_first v.about c.moment.registry v.about.version (omega arith)))
+
+-- what stands when the last table is closed may be in the end
+pub ends_so : (past : Whole) (v : View) (remains : Remains) (c : IsClosed v remains) → FitsPast past v → v.lane ≡ 1
+    → v.out ≡ [] → MayEnd past v (behind_table past v remains c)
+ends_so past v remains c fits main all = record {
+  last = v;
+  remains = remains;
+  base = fits.base;
+  main = main;
+  all = all;
+  later = later_self v;
+  closed = c;
+  behind = stands_behind past v remains c fits;
+}
 
 -- ---- another table
 
