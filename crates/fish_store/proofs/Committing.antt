@@ -153,7 +153,8 @@ module _
             let was = read p.disk t.image t.is in
             let g = (either rest.commit rest.log rest.carries).goes.now i (read q.disk i is) in
             let held = stays_carried p.view.about p.cold (content p.disk) (content q.disk) t rest.commit r.body r.lines i
-            (rests_commit p.flusher.slot r.body r.lines t.image r.slot_is (r.rests t.image was)) r.committed.is.told r.committed.size g is in
+            (rests_commit p.flusher.slot r.body r.lines t.image r.slot_is (r.rests t.image was)) r.committed.is.told r.committed.size
+            g is in
             let moved : (x : CarriesTable (content q.disk) q.view.about q.cold) × (x.end.entries ≡ past.log) =
             subst (λ (k : Key). (x : CarriesTable (content q.disk) k q.cold) × (x.end.entries ≡ past.log)) (sym reads.learns.about)
             (subst (λ (z : Cold).

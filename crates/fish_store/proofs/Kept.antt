@@ -53,7 +53,8 @@ same_region rest more some whole =
 -- a record at a place is the one that follows there
 the_record : (c d : Commit) (t u : Reached) (rest : List ℕ) (p : BodyParts) → FollowsIn c t (region_lines rest) (region rest) u
     → IsRecordAt d t (region_lines rest) (region rest) p → IsRecordAt c t (region_lines rest) (region rest) p
-the_record c d t u rest p (inl v) r = absurd (no_void p (region rest) (region_lines rest) r.body v.0.words (lines_small (slice_index rest 0)))
+the_record c d t u rest p (inl v) r =
+    absurd (no_void p (region rest) (region_lines rest) r.body v.0.words (lines_small (slice_index rest 0)))
 the_record c d t u rest p (inr v) r =
     subst (IsRecordAt c t (region_lines rest) (region rest)) (body_once v.1.body r.body (v.1.number ∙ sym r.number)) v.1
 
@@ -120,7 +121,8 @@ module _ (k : Key) (cold : Cold) (content : Option (List ℕ)) (h : CarriesTable
       let lines = same_lines rest more (omega arith) in
       let words = same_region rest more (omega arith) whole in
       let there : IsRecordAt g.commit t (region_lines (drop (4 * t.line) (w ++ more))) (region (drop (4 * t.line) (w ++ more))) p =
-      subst (λ (z : Reached). IsRecordAt g.commit z (region_lines (drop (4 * z.line) (w ++ more))) (region (drop (4 * z.line) (w ++ more))) p)
+      subst (λ (z : Reached). IsRecordAt g.commit z (region_lines (drop (4 * z.line) (w ++ more)))
+          (region (drop (4 * z.line) (w ++ more))) p)
       (sym same)
       (subst (λ (l : List ℕ). IsRecordAt g.commit r.at (region_lines (drop (4 * r.at.line) l)) (region (drop (4 * r.at.line) l)) p)
       all r.is) in

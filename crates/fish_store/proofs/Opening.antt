@@ -108,6 +108,7 @@ module _ {D : Type 0} (content : D → Option (List ℕ)) (images : D → List �
           begins = take_all (length log) log (omega arith);
           counted = omega arith;
         };
-        now = λ i here. subst (λ (n : ℕ). IsImageOf (first_past log o) (view o.pass) n i) (let same : length log ≡ o.flusher.count = omega arith in same)
+        now = λ i here. subst (λ (n : ℕ). IsImageOf (first_past log o) (view o.pass) n i)
+            (let same : length log ≡ o.flusher.count = omega arith in same)
             (stands_part i (rest_stands (images disk) o.flusher c log h.carries.rest i here));
       }
