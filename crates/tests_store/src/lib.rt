@@ -19,8 +19,6 @@ mod creations;
 #[cfg(test)]
 mod disks;
 #[cfg(test)]
-mod explained;
-#[cfg(test)]
 mod flushing;
 #[cfg(test)]
 mod going_on;
