@@ -132,6 +132,7 @@ fn entries_of<R: Parsed>(
 }
 
 /// Puts a key entry for each value that a definition gives behind the others.
+#[inline(always)] // or what is given is moved once more for each definition
 #[tactic(auto, using(crate::proofs::PreparationKeys::none_more))]
 fn push_given(id: u16, given: Given, keys: &mut KeyParts) -> Result<(), AllocError>
     requires { All IsShort (given_values given) }
@@ -156,6 +157,7 @@ fn push_values(id: u16, values: Values, keys: &mut KeyParts) -> Result<(), Alloc
 }
 
 /// Puts a key entry behind the others.
+#[inline(always)]
 fn push_entry(id: u16, value: Value, keys: &mut KeyParts) -> Result<(), AllocError>
     requires { IsShort value }
     ensures { OnOk result (AreMore id (value ∷ []) keys.old keys.new) }
