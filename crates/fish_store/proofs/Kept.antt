@@ -122,7 +122,7 @@ module _ (k : Key) (cold : Cold) (content : Option (List ℕ)) (h : CarriesTable
       let words = same_region rest more (omega arith) whole in
       let there : IsRecordAt g.commit t (region_lines (drop (4 * t.line) (w ++ more))) (region (drop (4 * t.line) (w ++ more))) p =
       subst (λ (z : Reached). IsRecordAt g.commit z (region_lines (drop (4 * z.line) (w ++ more)))
-          (region (drop (4 * z.line) (w ++ more))) p)
+      (region (drop (4 * z.line) (w ++ more))) p)
       (sym same)
       (subst (λ (l : List ℕ). IsRecordAt g.commit r.at (region_lines (drop (4 * r.at.line) l)) (region (drop (4 * r.at.line) l)) p)
       all r.is) in

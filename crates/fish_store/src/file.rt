@@ -61,7 +61,14 @@ impl StoreFile {
         ensures shut { IsErrOf result FlushRefusal.DiskFault → self.new.flusher ≡ record self.old.flusher { shut = true } }
         ensures memory { IsErrOf result FlushRefusal.OutOfMemory → (disk.new ≡ disk.old) × (self.new ≡ self.old) }
     {
-        checkpoint(alloc, log, pass, &mut self.flusher, registrar.catalog(), disk)
+        checkpoint(
+            alloc,
+            log,
+            pass,
+            &mut self.flusher,
+            registrar.catalog(),
+            disk,
+        )
     }
 
     /// [`scan_with`], over the pages that are kept.
