@@ -18,7 +18,6 @@ mod registrations;
 mod scans;
 mod selections;
 mod stores;
-mod timing;
 mod walks;
 mod words;
 mod workload;

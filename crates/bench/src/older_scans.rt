@@ -5,7 +5,7 @@ ghost use Rattle.fish_epoch.specs.Definitions.{IsDefsOf};
 ghost use Rattle.fish_rule.specs.Passes.{IsPassOf, view};
 ghost use Rattle.fish_scan.specs.Colder.{IsBelow};
 
-use crate::timing::{Timed, timed_answer};
+use crate::scans::{Timed, rows_in};
 use fish_cold::Cold;
 use fish_disk::Disk;
 use fish_epoch::Defs;
@@ -44,7 +44,10 @@ pub fn time_older<D: Disk>(
     let ask = ask_of(rt.alloc(), scan)?;
     let timed = time_asked(rt, log, pass, cold, disk, &ask);
     drop(ask);
-    timed.ok_or(AllocError)
+    match timed {
+        Some(timed) => Ok(timed),
+        None => Err(AllocError),
+    }
 }
 
 /// What it asks.
@@ -96,9 +99,16 @@ fn time_asked<D: Disk>(
         disk,
         ask,
     );
-    let timed = timed_answer(rt, &start, answer);
+    let took = start.elapsed(rt);
     drop(defs);
-    timed
+    let rows = rows_in(answer)?;
+    match took {
+        Ok(took) => Some(Timed {
+            rows,
+            nanoseconds: took.as_nanos(),
+        }),
+        Err(_) => None,
+    }
 }
 
 /// What a scan answers, with counters of two blanks.

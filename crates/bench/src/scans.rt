@@ -10,7 +10,6 @@ use crate::definitions::{Sources, definitions_of};
 use crate::ingests::ingest_all;
 use crate::lanes::report;
 use crate::opening::{Opened, open};
-use crate::timing::{Timed, timed_answer};
 use crate::walks::{Walked, walk_chain};
 use fish_epoch::Defs;
 use fish_layout::{bucket_of, key_hash};
@@ -63,6 +62,15 @@ impl Values {
 pub struct Filled {
     pub log: Log,
     pub main: Pass,
+}
+
+/// What a scan or a selection gave.
+#[derive(Clone, Copy)]
+pub struct Timed {
+    /// How many rows.
+    pub rows: u64,
+    /// How long it took.
+    pub nanoseconds: u128,
 }
 
 /// All measurements, once each.
@@ -251,7 +259,10 @@ pub fn time_scan<R: Clock + AllocGlobal>(
     };
     let timed = time_asked(rt, log, main, &ask);
     drop(ask);
-    timed.ok_or(AllocError)
+    match timed {
+        Some(timed) => Ok(timed),
+        None => Err(AllocError),
+    }
 }
 
 /// The same of what is asked.
@@ -278,9 +289,16 @@ fn time_asked<R: Clock + AllocGlobal>(
         &mut defs,
         ask,
     );
-    let timed = timed_answer(rt, &start, answer);
+    let took = start.elapsed(rt);
     drop(defs);
-    timed
+    let rows = rows_in(answer)?;
+    match took {
+        Ok(took) => Some(Timed {
+            rows,
+            nanoseconds: took.as_nanos(),
+        }),
+        Err(_) => None,
+    }
 }
 
 /// What a scan answers, with counters of two blanks.
@@ -306,4 +324,16 @@ fn scanned<P: Ledger, L: Ledger>(
     let mut parses = Steps::<P>::new(parses);
     let mut loads = Steps::<L>::new(loads);
     scan(alloc, log, main, defs, ask, &mut parses, &mut loads)
+}
+
+/// How many rows an answer has, if there is one.
+pub fn rows_in(answer: Result<Answer, ScanRefusal>) -> Option<u64> {
+    match answer {
+        Ok(answer) => {
+            let rows = answer.rows.len() as u64;
+            drop(answer);
+            Some(rows)
+        }
+        Err(_) => None,
+    }
 }

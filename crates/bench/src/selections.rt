@@ -6,8 +6,7 @@ ghost use Rattle.fish_rule.specs.Passes.{IsPassOf};
 use crate::definitions::Sources;
 use crate::ingests::SHAPE;
 use crate::lanes::report;
-use crate::scans::{Filled, fill_log, time_scan};
-use crate::timing::{Timed, timed};
+use crate::scans::{Filled, Timed, fill_log, time_scan};
 use fish_lang::{Def, parse_def};
 use fish_psf::{Steps, gives};
 use fish_read::RecordReader;
@@ -111,7 +110,10 @@ fn time_taken<R: Clock + AllocGlobal>(
     let value = Value::Text(Text::copy_of(rt.alloc(), kind)?);
     let timed = time_rows(rt, def, &value, payloads);
     drop(value);
-    timed.ok_or(AllocError)
+    match timed {
+        Some(timed) => Ok(timed),
+        None => Err(AllocError),
+    }
 }
 
 /// The same of a value.
@@ -125,11 +127,24 @@ fn time_rows<R: Clock + AllocGlobal>(
         return None;
     };
     let rows = select_all::<Brand>(rt.alloc(), Blank::new(1), def, value, payloads);
+    let took = start.elapsed(rt);
+    let rows = count_of(rows)?;
+    match took {
+        Ok(took) => Some(Timed {
+            rows,
+            nanoseconds: took.as_nanos(),
+        }),
+        Err(_) => None,
+    }
+}
+
+/// How many rows there are, if memory didn't run out.
+fn count_of(rows: Result<Rows, AllocError>) -> Option<u64> {
     match rows {
         Ok(rows) => {
-            let given = timed(rt, &start, rows.len() as u64);
+            let count = rows.len() as u64;
             drop(rows);
-            given
+            Some(count)
         }
         Err(_) => None,
     }

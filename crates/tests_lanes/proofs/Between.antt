@@ -57,7 +57,7 @@ settled_known log p q r h of only known =
 pub block_known : (v t : View) (r s : Registrar) (x : Lane) (end : BlockEnd) → HasRegistered v t r s x end
     → x.fault ≡ cause.None → KnowsRegistry t (registry_of t s)
 block_known v t r s x end h whole =
-    subst (KnowsRegistry t) (sym (h.is whole)) (each_last t (registry_of v r) (control_items x end) (h.each whole))
+    subst (KnowsRegistry t) (sym (h.is whole)) (each_last (KnowsRegistry t) (registry_of v r) (control_items x end) (h.each whole))
 
 -- and all else that the next block asks for
 pub block_between : (log : Log) (q : Pass) (v : View) (r s : Registrar) (lanes : List Lane) (end : BlockEnd)
