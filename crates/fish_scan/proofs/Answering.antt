@@ -39,7 +39,7 @@ use Rattle.fish_scan.specs.Matching.{Finds}
 use Rattle.fish_scan.specs.Pieces.{AreReadable, IsReadable}
 use Rattle.fish_scan.specs.Reach.{IsExact, IsRange, IsReach, end_of}
 use Rattle.fish_scan.specs.Reading.{Adds}
-use Rattle.fish_scan.specs.Scans.{IsAnswer, IsAsked, IsCovered, IsExplained, IsPlan, IsPlanRefused, IsPlanned, IsPrepared, IsQuery}
+use Rattle.fish_scan.specs.Scans.{IsAsked, IsCovered, IsPlan, IsPlanRefused, IsPlanned, IsPrepared, IsQuery}
 use Rattle.fish_scan.specs.Scans.{IsUnprepared, OnlyPlans, OnlyScans, first_asked}
 use Rattle.fish_scan.specs.declared.ask.Ask.{Ask}
 use Rattle.fish_scan.specs.declared.ask.How.{How}
@@ -168,7 +168,10 @@ range_within v m u t from to first last opens before after h = record {
   claimed = (let a = h.claimed in let b = after.learns.count in omega arith);
   within = h.within;
   stops = ⊎_elim (λ (e : last ≡ end_of to h.count). inl e)
-      (λ (mark : TellsMark u last). inr (λ x more. mark x (learns_both u t x after.learns more))) h.stops;
+      (λ (mark : TellsMark u last × (u.about.number ≤ last)). inr (
+        λ x more. mark.0 x (learns_both u t x after.learns more),
+        subst (λ (z : Key). z.number ≤ last) (sym after.learns.about) mark.1,
+      )) h.stops;
   rise = h.rise;
   were = λ n among. open_sooner v m t n before.learns before.clock (open_later m u t n after.clock (h.were n among));
   apart = λ a b lane f g p q one other. always_later u t _ after.learns (h.apart a b lane f g p q one other);
@@ -427,15 +430,6 @@ planned_later v u t known ask p after h = record {
   plan_is = plan_within v v u t _ _ ask.how _ _ _ _ (learns_self v) after.learns h.plan;
 }
 
--- and where it doesn't begin below the log's first number, how it would be
-unfoldable pub explained_later : (v u t : View) (known : Known) (ask : Ask) (p : Prepared) → OnlyScans u t
-    → IsPrepared v u known ask p → u.about.number ≤ p.query.reach.from
-    → IsExplained v t known ask p.query.reach.from p.query.reach.to p.query.reach.opens p.plan
-explained_later v u t known ask p after h base = record {
-  planned = planned_later v u t known ask p after h;
-  base = subst (λ (z : Key). z.number ≤ p.query.reach.from) (sym after.learns.about) base;
-}
-
 -- rows behind none
 pub adds_first : (v : View) (def : Definition) (value other : Value) (from to : ℕ) (opens : List ℕ) (before after : List Row)
     → before ≡ [] → value ≡ other → Adds v def value from to opens before after → Finds v def other from to opens after
@@ -452,22 +446,3 @@ prepared_readable v u known ask p h =
     let first = h.reach.range.first_is in
     plan_readable v u known (definition_of p.query.def) h.asked.named.newest.listed.def p.query.reach h.asked.named.read
     h.means (omega arith) ask.how p.plan h.plan
-
--- and the rows that were found in them are those of an answer
-pub answer_found : (v u t : View) (known : Known) (ask : Ask) (p : Prepared) (rows : List Row) → OnlyScans u t
-    → IsPrepared v u known ask p → u.about.number ≤ p.query.reach.from
-    → Finds t (definition_of p.query.def) ask.value p.query.reach.from p.query.reach.to p.query.reach.opens rows
-    → IsAnswer v t known ask (record {
-      from = p.query.reach.from;
-      to = p.query.reach.to;
-      opens = p.query.reach.opens;
-      rows = rows;
-      plan = p.plan;
-    })
-unfolding asked_later planned_later explained_later
-answer_found v u t known ask p rows after h base found = record {
-  explained = explained_later v u t known ask p after h base;
-  def = definition_of p.query.def;
-  means = h.means;
-  found = found;
-}

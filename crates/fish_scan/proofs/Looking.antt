@@ -1,6 +1,7 @@
 -- Numbers that a scan looks at, one after the other.
 use Rattle.std.proofs.Common.{◌≡◌, ◌≢◌, ℕ, ◌+◌, ◌<◌, ◌≤◌, suc, List, [], ◌∷◌, ◌++◌, length, refl, sym, ap, ◌∙◌, subst}
 use Rattle.std.proofs.Common.{⊎_elim, inl, inr, ◌⊎◌, arith, Some, None, Option, slice_get, min, max}
+use Rattle.std.proofs.Math.Decide.{dec_lt}
 use Rattle.std.proofs.lemmas.Option.{slice_get_within}
 use Rattle.fish_rule.proofs.laws.Clocks.{later_both, later_self, loaded_within}
 use Rattle.fish_rule.proofs.laws.Alone.{tells_mark}
@@ -260,7 +261,8 @@ module _ (a b c d : View) (from : ℕ) (to : Option ℕ) (settled count end base
       claimed = (let e = tail.3 in let m = looked_all.count in omega arith);
       within = (let f = looks.few in let most = within in omega arith);
       stops = ⊎_elim (λ (e : first + length reach.looks.items ≡ end). at_end e cut)
-          (λ (m : TellsMark d (first + length reach.looks.items)). inr (subst (TellsMark d) (sym ends) m)) looks.stops;
+          (λ (m : TellsMark d (first + length reach.looks.items)). at_mark m (dec_lt (first + length reach.looks.items) end))
+          looks.stops;
       rise = rise_sooner reach.from first reach.to reach.opens (let f = looks.few in omega arith)
           (subst (λ (z : ℕ). Rise first z reach.opens) (sym ends) looks.rise);
       were = λ n among. open_sooner a c d n (learns_both a b c settles.learns cuts.extends.learns)
@@ -297,7 +299,20 @@ module _ (a b c d : View) (from : ℕ) (to : Option ℕ) (settled count end base
 
       -- where no look told of a mark, the range ends where it is asked to, or was cut at one
       at_end : first + length reach.looks.items ≡ end → IsCut c (max base settled) from (end_of to count) end
-          → (reach.to ≡ end_of to count) ⊎ TellsMark d reach.to
+          → (reach.to ≡ end_of to count) ⊎ (TellsMark d reach.to × (d.about.number ≤ reach.to))
       at_end e (inl is) = inl (omega arith)
-      at_end e (inr h) = inr (subst (TellsMark d) (sym (ends ∙ e ∙ h.2))
-          (λ x more. h.3 x (learns_both c d x looked.extends.learns more)))
+      at_end e (inr h) = inr (
+        subst (TellsMark d) (sym (ends ∙ e ∙ h.2)) (λ x more. h.3 x (learns_both c d x looked.extends.learns more)),
+        let about = ap (λ (z : Key). z.number) (looked_all.extends.learns.about ∙ settles.learns.about) in
+            let found = h.2 in
+            omega arith,
+      )
+
+      -- a look that told of a mark before the end was made in the table
+      at_mark : TellsMark d (first + length reach.looks.items) → Dec (first + length reach.looks.items < end)
+          → (reach.to ≡ end_of to count) ⊎ (TellsMark d reach.to × (d.about.number ≤ reach.to))
+      at_mark m (yes less) = inr (
+        subst (TellsMark d) (sym ends) m,
+        let about = ap (λ (z : Key). z.number) (looked_all.extends.learns.about ∙ settles.learns.about) in omega arith,
+      )
+      at_mark m (no not_less) = at_end (let few = looks.few in omega arith) cut

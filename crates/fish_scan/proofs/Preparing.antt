@@ -1,16 +1,18 @@
--- What was prepared fills its range, and why there is no answer.
+-- What was prepared fills its range, what is answered of it, and why there is no answer.
 use Rattle.std.proofs.Common.{◌≡◌, ℕ, ◌≤◌, List, [], min, sym, ◌∙◌, subst, arith}
 use Rattle.fish_catalog.specs.declared.listed.Listed.{Listed}
 use Rattle.fish_epoch.specs.declared.definitions.Known.{Known}
+use Rattle.fish_lang.specs.Definition.{definition_of}
 use Rattle.fish_plan.proofs.Inside.{full_is_plan}
 use Rattle.fish_plan.specs.Pieces.{Fill}
 use Rattle.fish_plan.specs.declared.pieces.Piece.{Piece}
 use Rattle.fish_rule.proofs.laws.Learning.{extends_self}
 use Rattle.fish_rule.specs.declared.view.Key.{Key}
 use Rattle.fish_rule.specs.declared.view.View.{View}
-use Rattle.fish_scan.proofs.Answering.{planned_later, scans_extends}
+use Rattle.fish_scan.proofs.Answering.{asked_later, planned_later, scans_extends}
+use Rattle.fish_scan.specs.Matching.{Finds}
 use Rattle.fish_scan.specs.Reach.{first_in}
-use Rattle.fish_scan.specs.Scans.{IsCold, IsPlan, IsPrepared, IsRefused, IsUnprepared}
+use Rattle.fish_scan.specs.Scans.{IsAnswer, IsCold, IsExplained, IsPlan, IsPrepared, IsRefused, IsUnprepared, OnlyScans}
 use Rattle.fish_scan.specs.declared.ask.Ask.{Ask}
 use Rattle.fish_scan.specs.declared.ask.How.{How}
 use Rattle.fish_scan.specs.declared.ask.How.TheVariants as how
@@ -18,6 +20,7 @@ use Rattle.fish_scan.specs.declared.reach.Reach.{Reach}
 use Rattle.fish_scan.specs.declared.refusal.ScanRefusal.{ScanRefusal}
 use Rattle.fish_scan.specs.declared.refusal.ScanRefusal.TheVariants as refusal
 use Rattle.fish_scan.specs.declared.scanning.Prepared.{Prepared}
+use Rattle.fish_value.specs.declared.row.Row.{Row}
 
 -- a plan fills its range
 pub plan_fills : (v u : View) (rows : List Listed) (text : List ℕ) (way : How) (from settled to : ℕ) (plan : List Piece) → from ≤ to
@@ -37,6 +40,37 @@ prepared_fills v u known ask p h =
 pub all_in : (k : Key) (asked : ℕ) (reach : Reach) → reach.from ≡ min asked reach.to → k.number ≤ reach.from
     → first_in k reach ≡ reach.from
 all_in k asked reach first base = omega arith
+
+-- ---- answers
+
+-- how the range would be read is so later
+unfoldable pub explained_later : (v u t : View) (known : Known) (ask : Ask) (p : Prepared) → OnlyScans u t
+    → IsPrepared v u known ask p
+    → IsExplained v t known ask p.query.reach.from p.query.reach.to p.query.reach.opens p.plan
+explained_later v u t known ask p after h = record {
+  planned = planned_later v u t known ask p after h;
+  fill = prepared_fills v u known ask p h;
+}
+
+-- where it doesn't begin below the log's first number, the rows that were found in it are those of an answer
+pub answer_found : (v u t : View) (known : Known) (ask : Ask) (p : Prepared) (rows : List Row) → OnlyScans u t
+    → IsPrepared v u known ask p → u.about.number ≤ p.query.reach.from
+    → Finds t (definition_of p.query.def) ask.value p.query.reach.from p.query.reach.to p.query.reach.opens rows
+    → IsAnswer v t known ask (record {
+      from = p.query.reach.from;
+      to = p.query.reach.to;
+      opens = p.query.reach.opens;
+      rows = rows;
+      plan = p.plan;
+    })
+unfolding asked_later planned_later explained_later
+answer_found v u t known ask p rows after h base found = record {
+  explained = explained_later v u t known ask p after h;
+  base = subst (λ (z : Key). z.number ≤ p.query.reach.from) (sym after.learns.about) base;
+  def = definition_of p.query.def;
+  means = h.means;
+  found = found;
+}
 
 -- ---- refusals
 

@@ -78,7 +78,7 @@ pub record IsRange (v u : View) (from : ℕ) (to : Option ℕ) (first last : ℕ
   pub known : v.learned.count ≤ count
   pub claimed : count ≤ u.learned.count
   pub within : last ≤ end_of to count
-  pub stops : (last ≡ end_of to count) ⊎ TellsMark u last
+  pub stops : (last ≡ end_of to count) ⊎ (TellsMark u last × (u.about.number ≤ last))
   -- the open numbers rise, none was published when the pass looked, and no two are of one lane
   pub rise : Rise first last opens
   pub were : (n : ℕ) → Among n opens → WasOpen v u n

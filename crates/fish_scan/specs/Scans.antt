@@ -9,7 +9,7 @@ use Rattle.fish_lang.specs.Definition.{Definition, definition_of}
 use Rattle.fish_lang.specs.Language.{IsAccepted}
 use Rattle.fish_plan.specs.Cover.{IsCover}
 use Rattle.fish_plan.specs.Gaps.{HasGap, IsFirstGap}
-use Rattle.fish_plan.specs.Pieces.{one_full}
+use Rattle.fish_plan.specs.Pieces.{Fill, one_full}
 use Rattle.fish_plan.specs.declared.pieces.Piece.{Piece}
 use Rattle.fish_rule.specs.Clocks.{HasLoaded, IsLater}
 use Rattle.fish_rule.specs.Logs.{Learns}
@@ -133,16 +133,17 @@ pub record IsPlanned (v u : View) (known : Known) (ask : Ask) (from to : ℕ) (o
   pub exact : IsAlone v → IsExact v u ask.to range.count settled to opens
   pub plan_is : IsPlan v u (rows_of known) asked.named.newest.listed.def ask.how from settled to plan
 
--- and the range doesn't begin below the log's first number
+-- and the pieces of the plan fill the range, wherever that begins
 pub record IsExplained (v u : View) (known : Known) (ask : Ask) (from to : ℕ) (opens : List ℕ) (plan : List Piece)
     : Type 0 where
   pub planned : IsPlanned v u known ask from to opens plan
-  pub base : u.about.number ≤ from
+  pub fill : Fill plan from to
 
--- the rows are exactly the records of the range, less the open ones, on which the definition that the name means has the
--- value, newest first
+-- the range doesn't begin below the log's first number, and the rows are exactly the records of the range, less the open ones, on
+-- which the definition that the name means has the value, newest first
 pub record IsAnswer (v u : View) (known : Known) (ask : Ask) (answer : Answer) : Type 0 where
   pub explained : IsExplained v u known ask answer.from answer.to answer.opens answer.plan
+  pub base : u.about.number ≤ answer.from
   pub def : Definition
   pub means : IsAccepted explained.planned.asked.named.newest.listed.def def
   pub found : Finds u def ask.value answer.from answer.to answer.opens answer.rows

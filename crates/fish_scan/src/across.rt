@@ -1,6 +1,6 @@
 //! A scan whose range may begin below the table: what is older is read from the store's file.
 
-ghost use Rattle.std.specs.Prelude.{IfErr, IfOk, IfSome, OnOk};
+ghost use Rattle.std.specs.Prelude.{◌≤◌, ℕ, IfErr, IfOk, IfSome, OnOk};
 ghost use Rattle.fish_cold.specs.Caching.{IsUndamaged};
 ghost use Rattle.fish_cold.specs.Carries.{CarriesTable};
 ghost use Rattle.fish_epoch.specs.Definitions.{IsDefsOf};
@@ -8,11 +8,12 @@ ghost use Rattle.fish_lang.specs.Definition.{definition_of};
 ghost use Rattle.fish_plan.specs.Pieces.{Fill};
 ghost use Rattle.fish_rule.specs.Logs.{Extends};
 ghost use Rattle.fish_rule.specs.Passes.{IsPassOf, view};
+ghost use Rattle.fish_rule.specs.Views.{Among};
 ghost use Rattle.fish_scan.specs.Across.{HasReadAcross, IsAnswerWith, IsRefusedWith, IsUndamagedScan};
 ghost use Rattle.fish_scan.specs.Colder.{IsBelow, IsDamageIn, IsFaultOf, IsScanFault, StaysCold};
 ghost use Rattle.fish_scan.specs.Pieces.{AreReadable};
 ghost use Rattle.fish_scan.specs.Reach.{IsReached};
-ghost use Rattle.fish_scan.specs.Scans.{OnlyScans};
+ghost use Rattle.fish_scan.specs.Scans.{IsExplained, OnlyScans};
 
 use crate::ask::{Answer, Ask};
 use crate::below::read_below;
@@ -59,6 +60,9 @@ pub fn scan_with<D: Disk, P: Ledger, L: Ledger>(
     ensures only { OnlyScans (view pass.old) (view pass.new) }
     ensures defs { IsDefsOf (view pass.new) defs.new }
     ensures cold { StaysCold D.content D.images D.since D.moment D.faults cold.old cold.new disk.old disk.new }
+    ensures explained { IfOk result (λ a. IsExplained (view pass.old) (view pass.new) defs.new.known ask.now a.from a.to a.opens
+        a.plan) }
+    ensures opened { IfOk result (λ a. (n : ℕ) → Among n a.opens → (view pass.new).about.number ≤ n) }
     ensures answer { IfOk result (λ answer. (h : CarriesTable (D.content disk.new) log.now.key cold.old) → IsAnswerWith h
         (view pass.old) (view pass.new) defs.new.known ask.now answer parses.old parses.new loads.old loads.new) }
     ensures kept { CarriesTable (D.content disk.old) log.now.key cold.old

@@ -112,7 +112,8 @@ pub(crate) fn answer_of(prepared: Prepared, rows: Rows) -> Answer
     }
 }
 
-/// How a scan would read its range, with the same refusals. No record is read, and no word of the log is loaded.
+/// How a scan would read its range, which may begin below the log's first number, as for [`scan_with`](crate::scan_with), and with
+/// the same refusals but for that. No record is read, and no word of the log is loaded.
 pub fn explain(
     alloc: Global,
     log: &Log,
@@ -127,9 +128,9 @@ pub fn explain(
     ensures defs { IsDefsOf (view pass.new) defs.new }
     ensures explained { IfOk result (λ e. (opens : List ℕ) × IsExplained (view pass.old) (view pass.new) defs.new.known ask.now
         e.from e.to opens e.plan) }
-    ensures refused { IfErr result (IsRefused (view pass.old) (view pass.new) defs.new.known ask.now) }
+    ensures refused { IfErr result (IsUnprepared (view pass.old) (view pass.new) defs.new.known ask.now) }
 {
-    let prepared = prepare_in_table(alloc, log, pass, &mut defs.known, ask)?;
+    let prepared = prepare(alloc, log, pass, &mut defs.known, ask)?;
     Ok(explained_of(prepared))
 }
 

@@ -1,19 +1,21 @@
 -- What was prepared holds while the pieces are read on both sides of the base, and their rows are the answer's.
-use Rattle.std.proofs.Common.{◌≡◌, List, Err, sym, ap, subst}
+use Rattle.std.proofs.Common.{◌≡◌, ◌≤◌, List, Err, sym, ap, subst}
 use Rattle.std.specs.Prelude.{IsErrOf}
 use Rattle.fish_epoch.proofs.Reading.{defs_later}
 use Rattle.fish_lang.specs.Definition.{definition_of}
 use Rattle.fish_plan.specs.Pieces.{Fill}
 use Rattle.fish_plan.specs.declared.pieces.Piece.{Piece}
 use Rattle.fish_rule.specs.Passes.{view}
+use Rattle.fish_rule.specs.Views.{Among}
 use Rattle.fish_rule.specs.declared.view.Key.{Key}
 use Rattle.fish_scan.proofs.Acrossing.{answered_with, broken_with, sound_of, unprepared_fault, unprepared_sound, unprepared_with}
 use Rattle.fish_scan.proofs.Answering.{prepared_readable, scans_both, scans_extends}
 use Rattle.fish_scan.proofs.Carrying.{carried_last, stays_none}
 use Rattle.fish_scan.proofs.OlderReads.{err_as, err_same}
-use Rattle.fish_scan.proofs.Preparing.{prepared_fills}
+use Rattle.fish_scan.proofs.Preparing.{explained_later, prepared_fills}
 use Rattle.fish_scan.specs.Across.{HasReadAcross, IsAnswerWith, IsRefusedWith, IsUndamagedScan}
 use Rattle.fish_scan.specs.Pieces.{AreReadable}
+use Rattle.fish_scan.specs.Scans.{IsExplained}
 use Rattle.fish_scan.specs.declared.ask.Answer.{Answer}
 use Rattle.fish_scan.specs.declared.refusal.ScanRefusal.{ScanRefusal}
 use Rattle.fish_scan.specs.declared.refusal.ScanRefusal.TheVariants as refusal
@@ -75,6 +77,20 @@ returns-in-Ok-clause-only g c = scans_both _ _ _ c.prepare.ensures.only.scans (s
 
 pub returns-in-Ok-clause-defs : goal.returns-in-Ok-clause-defs
 returns-in-Ok-clause-defs g c = defs_later _ _ c.prepare.new.known c.read_across-read.ensures.extends.learns c.prepare.ensures.known
+
+-- whatever the disk tells, the range and the plan are those of what is asked
+pub returns-in-Ok-clause-explained : goal.returns-in-Ok-clause-explained
+returns-in-Ok-clause-explained g c =
+    let v = view c.args.pass.now in
+    let u = view c.read_across-read.new.pass in
+    subst (λ (z : Answer). IsExplained v u c.prepare.new.known c.args.ask.now z.from z.to z.opens z.plan) (sym c.answer_of.ensures)
+    (explained_later v (view c.prepare.new.pass) u c.prepare.new.known c.args.ask.now c.in_ok-prepared.prepared
+    (scans_extends _ _ c.read_across-read.ensures.extends) c.in_ok-prepared.ensures.prepared)
+
+pub returns-in-Ok-clause-opened : goal.returns-in-Ok-clause-opened
+returns-in-Ok-clause-opened g c n among =
+    subst (λ (z : Key). z.number ≤ n) (sym c.read_across-read.ensures.extends.learns.about)
+    (c.in_ok-prepared.ensures.prepared.reach.opened n (subst (λ (z : Answer). Among n z.opens) c.answer_of.ensures among))
 
 pub returns-in-Ok-clause-answer : goal.returns-in-Ok-clause-answer
 returns-in-Ok-clause-answer g c h =

@@ -3,8 +3,8 @@ use Rattle.std.proofs.Common.{ℕ, ◌≤◌, List, sym, subst}
 use Rattle.fish_epoch.proofs.Reading.{defs_later}
 use Rattle.fish_lang.specs.Definition.{definition_of}
 use Rattle.fish_rule.specs.Passes.{view}
-use Rattle.fish_scan.proofs.Answering.{adds_first, answer_found, prepared_readable, scans_both, scans_extends}
-use Rattle.fish_scan.proofs.Preparing.{all_in, prepared_fills}
+use Rattle.fish_scan.proofs.Answering.{adds_first, prepared_readable, scans_both, scans_extends}
+use Rattle.fish_scan.proofs.Preparing.{all_in, answer_found, prepared_fills}
 use Rattle.fish_scan.proofs.Working.{work_done}
 use Rattle.fish_plan.specs.Pieces.{Fill}
 use Rattle.fish_plan.specs.declared.pieces.Piece.{Piece}
