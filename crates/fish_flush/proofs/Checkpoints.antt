@@ -22,6 +22,7 @@ use Rattle.fish_flush.specs.declared.drafting.Draft.{Draft}
 use Rattle.fish_flush.proofs.Committed.{told_later}
 use Rattle.fish_rule.specs.declared.table.Shape.{Shape}
 use Rattle.fish_rule.specs.declared.view.Clock.{Clock}
+use Rattle.fish_rule.specs.World.{high}
 use Rattle.fish_rule.specs.declared.view.Key.{Key}
 use Rattle.fish_rule.specs.declared.view.View.{View}
 use Rattle.fish_walk.proofs.Looking.{ends_later, stops_below, stops_within}
@@ -44,20 +45,24 @@ later_both a b c first second =
 
 module _ (v m u : View) (settles : OnlySettles v m) (on : Extends m u) where
   -- the call only reads
-  pub reads_on : Reads v u
-  reads_on = record {
+  pub reads_on : (count : ℕ) → HasTail m count → (IsAlone v → IsTailCount count v.tail) → Reads v u
+  reads_on count has rests = record {
     learns = learns_both v m u settles.learns on.learns;
     clock = later_both v.clock m.clock u.clock settles.clock on.clock;
     frame = on.frame
         ∙ (λ i. record (settles.frame i) { learned = u.learned; clock = u.clock })
         ∙ ap (λ t. record v { tail = t; learned = u.learned; clock = u.clock }) (sym (ap (λ (z : View). z.tail) on.frame));
+    tail = λ alone n was.
+        let same : high was.0 ≡ count = subst (IsTailCount count) was.1 (rests alone) in
+        (has.0, ap (λ (z : View). z.tail) on.frame ∙ has.1, has.2 ∙ sym same ∙ was.2);
   }
 
   -- what settled the number is told of the whole call
-  pub has_settled : (n count : ℕ) → v.learned.settled ≤ n → n ≤ m.learned.settled → HasLoadedCount v m count → StopsAt IsEnd v m n count
+  pub has_settled : (n count : ℕ) → v.learned.settled ≤ n → n ≤ m.learned.settled → HasLoadedCount v m count → v.learned.count ≤ count
+      → StopsAt IsEnd v m n count
       → (IsAlone v → StopsAt IsMark v m n count) → (IsAlone v → EndsAt m n count) → (IsAlone v → IsTailCount count v.tail)
       → HasSettled v u n
-  has_settled n count rises settled loaded stops alone ends rests = record {
+  has_settled n count rises settled loaded known stops alone ends rests = record {
     rises = rises;
     settled = (let more = on.learns.settled in omega arith);
     count = count;
@@ -66,6 +71,7 @@ module _ (v m u : View) (settles : OnlySettles v m) (on : Extends m u) where
       loaded = loaded_within v.clock v.clock m.clock u.clock _ loaded.tail (later_self v.clock) loaded.loaded on.clock;
       is = loaded.is;
     };
+    known = known;
     stops = stops_within IsEnd v v m u n count (learns_self v) (later_self v.clock) stops on.clock;
     alone = λ h. stops_within IsMark v v m u n count (learns_self v) (later_self v.clock) (alone h) on.clock;
     ends = λ h. ends_later m u n count on.learns (ends h);

@@ -1,5 +1,5 @@
 -- What a store file carries of a log that passes still write, from one commit to the next.
-use Rattle.std.specs.Prelude.{ℕ, ◌≡◌, ◌+◌, ◌-◌, ◌*◌, ◌%◌, ◌<◌, ◌≤◌, ◌⊎◌, List, ◌++◌, drop, length, false}
+use Rattle.std.specs.Prelude.{ℕ, ◌≡◌, ◌+◌, ◌-◌, ◌*◌, ◌%◌, ◌<◌, ◌≤◌, ◌⊎◌, List, ◌++◌, Some, drop, length, false}
 use Rattle.fish_catalog.specs.declared.commit.Commit.{Commit}
 use Rattle.fish_catalog.specs.declared.entry.Entry.{Entry}
 use Rattle.fish_catalog.specs.declared.row.CatRow.{CatRow}
@@ -17,6 +17,7 @@ use Rattle.fish_rule.specs.Clocks.{IsLater}
 use Rattle.fish_rule.specs.LoadSteps.{IsAlone}
 use Rattle.fish_rule.specs.Logs.{AreTold, Learns}
 use Rattle.fish_rule.specs.Start.{IsShape}
+use Rattle.fish_rule.specs.World.{high, low}
 use Rattle.fish_rule.specs.declared.table.Shape.{Shape}
 use Rattle.fish_rule.specs.declared.view.View.{View}
 use Rattle.fish_walk.specs.Looks.{IsTailCount}
@@ -97,19 +98,25 @@ pub record MaySave (images : List ℕ → Type 0) (v : View) (end : ℕ) (s : Sh
 
 -- ---- checkpoints
 
--- the second view is the first but for the tail and what was learned since
+-- the tail was last seen at this count
+abbrev pub IsTailAt : View → ℕ → Type 0
+IsTailAt v count = (tail : ℕ) × (v.tail ≡ Some (record { number = high tail; line = low tail })) × (high tail ≡ count)
+
+-- the second view is the first but for the tail and what was learned since; where the pass is alone, the tail stays where it was
 pub record Reads (v u : View) : Type 0 where
   pub learns : Learns v u
   pub clock : IsLater v.clock u.clock
   pub frame : u ≡ record v { tail = u.tail; learned = u.learned; clock = u.clock }
+  pub tail : IsAlone v → (count : ℕ) → IsTailAt v count → IsTailAt u count
 
--- the number is one up to which all is settled, and why no further: it is the count, or the number of one that was found
--- unfinished or a mark. A pass that is alone stops at the log's end
+-- the number is one up to which all is settled, and why no further: it is the count, which is no less than the pass knew, or the
+-- number of one that was found unfinished or a mark. A pass that is alone stops at the log's end
 pub record HasSettled (v u : View) (n : ℕ) : Type 0 where
   pub rises : v.learned.settled ≤ n
   pub settled : n ≤ u.learned.settled
   pub count : ℕ
   pub loaded : HasLoadedCount v u count
+  pub known : v.learned.count ≤ count
   pub stops : StopsAt IsEnd v u n count
   pub alone : IsAlone v → StopsAt IsMark v u n count
   pub ends : IsAlone v → EndsAt u n count

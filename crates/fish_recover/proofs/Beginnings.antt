@@ -1,5 +1,5 @@
 -- The table that begins after a commit: a checkpoint may follow, and older records are read from the file.
-use Rattle.std.proofs.Common.{◌≡◌, ℕ, ◌^◌, inl, inr, List, [], Bool, false, length, drop, map, refl, ap, sym, subst}
+use Rattle.std.proofs.Common.{◌≡◌, ℕ, ◌+◌, ◌^◌, inl, inr, List, [], Bool, false, length, drop, map, refl, ap, sym, subst}
 use Rattle.std.proofs.Common.{◌∙◌, arith, slice_get, slice_index}
 use mathlib.Core.Option.{some-ne-none}
 use Rattle.std.proofs.lemmas.Bool.{cases_lt}
@@ -32,6 +32,7 @@ use Rattle.fish_layout.specs.declared.parts.BodyParts.{BodyParts}
 use Rattle.fish_psf.specs.Records.{evaluation}
 use Rattle.fish_rule.specs.Logs.{AreTold}
 use Rattle.fish_rule.specs.Parts.{IsOlder}
+use Rattle.fish_rule.specs.Start.{table_lines}
 use Rattle.fish_rule.specs.Table.{first_view}
 use Rattle.fish_rule.specs.declared.table.Shape.{Shape}
 use Rattle.fish_rule.specs.declared.view.View.{View}
@@ -216,6 +217,11 @@ module _ (images : List ℕ → Type 0) (f : Flusher) (c : Commit) (log : List E
     count = h.opens.count ∙ sym rest.committed.count;
     live = ap (λ (z : Flusher). z.shut) h.opens.flusher ∙ live;
     carries = subst (λ (v : View). Carries images o.flusher v o.log.shape o.catalog c log) (sym h.opens.view_is) (first_carried pages);
+    end =
+        let at = h.after.base.line ∙ sym rest.committed.line in
+        let count = h.after.base.number ∙ sym rest.committed.count in
+        h.opens.key.end ∙ (λ i. at i + table_lines (sym pages i) (count i) (at i));
+    buckets = h.opens.key.buckets ∙ ap (λ (n : ℕ). 2 ^ n) (sym bits);
     below_number = below_number;
     below_line = below_line;
     cold = told_carried content read;

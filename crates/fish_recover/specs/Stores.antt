@@ -1,5 +1,5 @@
 -- What opening a store gives, and what it leaves.
-use Rattle.std.specs.Prelude.{ℕ, ◌≡◌, ◌+◌, ◌<◌, ◌≤◌, List, [], Bool, true, false, Option, Some, IfSome, length, map, unwrap_or, ⊤}
+use Rattle.std.specs.Prelude.{ℕ, ◌≡◌, ◌+◌, ◌^◌, ◌<◌, ◌≤◌, List, [], Bool, true, false, Option, Some, IfSome, length, map, unwrap_or, ⊤}
 use Rattle.fish_catalog.specs.Clamps.{clamped}
 use Rattle.fish_catalog.specs.declared.commit.Commit.{Commit}
 use Rattle.fish_catalog.specs.declared.entry.Entry.{Entry}
@@ -10,6 +10,7 @@ use Rattle.fish_flush.specs.declared.refusal.FlushRefusal.{FlushRefusal}
 use Rattle.fish_flush.specs.declared.refusal.FlushRefusal.TheVariants.{DiskFault as FlushFault, OutOfMemory as NoMemory}
 use Rattle.fish_image.specs.Stands.{Stands}
 use Rattle.fish_rule.specs.Passes.{IsPassOf, view}
+use Rattle.fish_rule.specs.Start.{table_lines}
 use Rattle.fish_rule.specs.Table.{first_view}
 use Rattle.fish_rule.specs.declared.table.Shape.{Shape}
 use Rattle.fish_recover.specs.Beginning.{BeginsAt}
@@ -31,8 +32,8 @@ shape_of c = record { pages = c.pages; bucket_bits = c.bucket_bits }
 -- ---- what is open
 
 -- the store is open: every image stands for this log by this commit, and its table, at its first view, begins after them, with
--- the commit's rows cut to its count; a checkpoint may follow; what is below the base is looked for in the file, whatever the
--- disk tells of it, and where its content is told, it is read from there
+-- the commit's rows cut to its count, and has the lines and buckets of the commit's shape; a checkpoint may follow; what is below the
+-- base is looked for in the file, whatever the disk tells of it, and where its content is told, it is read from there
 pub record IsOpened (content : Option (List ℕ)) (images : List ℕ → Type 0) (c : Commit) (log : List Entry) (o : Opened)
     : Type 0 where
   pub pass : IsPassOf o.log o.pass
@@ -45,6 +46,8 @@ pub record IsOpened (content : Option (List ℕ)) (images : List ℕ → Type 0)
   pub count : o.count ≡ c.count
   pub live : o.flusher.shut ≡ false
   pub carries : Carries images o.flusher (view o.pass) o.log.shape o.catalog c log
+  pub end : o.log.key.end ≡ c.lines + table_lines c.pages c.count c.lines
+  pub buckets : o.log.key.buckets ≡ 2 ^ c.bucket_bits
   pub below_number : o.cold.base.number ≡ o.log.key.number
   pub below_line : o.cold.base.line ≡ o.log.key.line
   pub cold : IfSome content (λ _. CarriesTable content o.log.key o.cold)

@@ -28,7 +28,8 @@ draft_commit-requires-clause-may g c =
 pub returns-in_err-draft-clause-reads : goal.returns-in_err-draft-clause-reads
 returns-in_err-draft-clause-reads g c =
     reads_on (view c.args.pass.now) (view c.settle-to.new.pass) (view c.draft_commit.new.pass) c.settle-to.ensures.settles
-    c.draft_commit.ensures.extends
+    c.draft_commit.ensures.extends c.settle-to.result.count c.settle-to.ensures.tail
+    c.settle-to.ensures.rests
 
 pub returns-in_err-draft-clause-crash : goal.returns-in_err-draft-clause-crash
 returns-in_err-draft-clause-crash g c = λ d old h.
@@ -68,7 +69,8 @@ save-requires-clause-may g c =
 pub returns-clause-reads : goal.returns-clause-reads
 returns-clause-reads g c =
     reads_on (view c.args.pass.now) (view c.settle-to.new.pass) (view c.save.new.pass) c.settle-to.ensures.settles
-    (extends_both _ _ _ c.draft_commit.ensures.extends c.save.ensures.extends)
+    (extends_both _ _ _ c.draft_commit.ensures.extends c.save.ensures.extends) c.settle-to.result.count c.settle-to.ensures.tail
+    c.settle-to.ensures.rests
 
 pub returns-clause-settled : goal.returns-clause-settled
 returns-clause-settled g c =
@@ -82,8 +84,9 @@ returns-clause-settled g c =
     subst (HasSettled v u) (sym (is ∙ c.in_ok-draft.ensures.drafts.count))
     (has_settled v m u c.settle-to.ensures.settles (extends_both _ _ _ c.draft_commit.ensures.extends c.save.ensures.extends)
     to c.settle-to.result.count c.settle-to.ensures.rises
-    c.settle-to.ensures.settled c.settle-to.ensures.count c.settle-to.ensures.stops c.settle-to.ensures.alone c.settle-to.ensures.ends
-    c.settle-to.ensures.rests))
+    c.settle-to.ensures.settled c.settle-to.ensures.count
+    (let tail = c.settle-to.ensures.tail.3 in let more = c.settle-to.ensures.settles.learns.count in omega arith)
+    c.settle-to.ensures.stops c.settle-to.ensures.alone c.settle-to.ensures.ends c.settle-to.ensures.rests))
 
 pub returns-clause-committed : goal.returns-clause-committed
 returns-clause-committed g c =
