@@ -1,12 +1,14 @@
 -- A checkpoint may follow a checkpoint.
-use Rattle.std.proofs.Common.{◌≡◌, ℕ, List, ◌++◌, false, sym, subst}
+use Rattle.std.proofs.Common.{◌≡◌, ℕ, ◌≤◌, List, ◌++◌, sym, subst}
 use Rattle.std.specs.Prelude.{IfOk, Result, Ok, Err}
 use Rattle.fish_catalog.specs.declared.commit.Commit.{Commit}
 use Rattle.fish_catalog.specs.declared.entry.Entry.{Entry}
 use Rattle.fish_catalog.specs.declared.row.CatRow.{CatRow}
 use Rattle.fish_flush.specs.Carrying.{Carries, HasCommitted}
 use Rattle.fish_flush.specs.Kept.{commit_of}
+use Rattle.fish_flush.specs.declared.flusher.Flusher.{Flusher}
 use Rattle.fish_rule.specs.declared.table.Shape.{Shape}
+use Rattle.fish_rule.specs.declared.view.View.{View}
 use Rattle.fish_store.specs.Sound.{MayCommit, Point}
 
 -- where one is done, another may follow
@@ -23,10 +25,9 @@ may_again images p q n shape rows may done =
           (subst (λ (z : Shape). Carries (images q.disk) q.flusher q.view z p.rows next log) (sym shape) d.2),
     )
 
--- so it is told of its answer
-pub again_ok : {D E : Type 0} (images : D → List ℕ → Type 0) (p q : Point D) (r : Result ℕ E) → q.shape ≡ p.shape → q.rows ≡ p.rows
-    → MayCommit images p
-    → IfOk r (HasCommitted (images p.disk) (images q.disk) p.flusher q.flusher p.view q.view p.shape p.rows)
-    → IfOk r (λ n. (q.flusher.count ≡ n) × (q.flusher.shut ≡ false) × MayCommit images q)
-again_ok images p q (Ok n) shape rows may done = (done.count, done.live, may_again images p q n shape rows may done)
-again_ok images p q (Err e) shape rows may done = tt
+-- the flusher then counts what was answered, which the pass has counted
+pub count_ok : {E : Type 0} (images : List ℕ → Type 0) (images' : List ℕ → Type 0) (p q : Flusher) (v u : View) (s : Shape)
+    (rows : List CatRow) (r : Result ℕ E) → IfOk r (HasCommitted images images' p q v u s rows)
+    → IfOk r (λ n. (q.count ≡ n) × (n ≤ u.learned.count))
+count_ok images images' p q v u s rows (Ok n) done = (done.count, done.counted)
+count_ok images images' p q v u s rows (Err e) done = tt

@@ -22,22 +22,18 @@ use Rattle.fish_flush.specs.declared.refusal.FlushRefusal.TheVariants.{DiskFault
 use Rattle.fish_image.specs.Reached.{Reached}
 use Rattle.fish_image.specs.Stands.{Stands}
 use Rattle.fish_rule.specs.Logs.{AreTold}
-use Rattle.fish_rule.specs.Views.{Among}
 use Rattle.fish_rule.specs.declared.table.Shape.{Shape}
 use Rattle.fish_rule.specs.declared.view.Key.{Key}
 use Rattle.fish_rule.specs.declared.view.View.{View}
 use Rattle.fish_slots.proofs.Commits.{rests_commit}
 use Rattle.fish_store.proofs.Kept.{stays_carried}
-use Rattle.fish_store.proofs.Running.{here_stays}
+use Rattle.fish_store.proofs.Again.{may_again}
+use Rattle.fish_store.proofs.Running.{here_stays, may_stays}
 use Rattle.fish_store.proofs.Same.{still_self, table_same}
-use Rattle.fish_store.specs.Sound.{GoesOnHere, HasPast, IsImageOf, MayCommit, Point, Rests, Sound}
+use Rattle.fish_store.specs.Sound.{GoesOnHere, HasPast, IsImageOf, MayCommit, MayGoOn, Point, Rests, Sound, Stays}
 use Rattle.fish_whole.proofs.Parts.{fits_later}
 use Rattle.fish_whole.proofs.Prefixes.{prefix_self}
-use Rattle.fish_whole.specs.Whole.{IsKnown, IsPrefix, Later, Whole}
-
--- a call that only reads goes on to a later state
-pub reads_later : (v u : View) → Reads v u → Later v u
-reads_later v u h = record { learns = h.learns; gained = λ o m. inl (subst (Among o) (ap (λ (z : View). z.own) h.frame) m) }
+use Rattle.fish_whole.specs.Whole.{IsKnown, IsPrefix, Whole}
 
 -- a log that begins with what was there before the table, and goes on as the pass was told, is a part of the log for good
 known_of : (past : Whole) (u : View) (log : List Entry) → take (length past.log) log ≡ past.log
@@ -63,10 +59,6 @@ module _
     (read : (d : D) (i : List ℕ) → content d ≡ Some i → images d i) (told : (d : D) (i : List ℕ) → images d i → IsSome (content d))
     (either : (c : Commit) (old : List Entry) (h : Carries (images p.disk) p.flusher p.view p.shape p.rows c old)
     → LeavesEither images since moment p.disk q.disk q.view p.rows c old h.rest.lines) where
-  -- the state goes on
-  later : Later p.view q.view
-  later = reads_later p.view q.view reads
-
   -- the disk was told, where it is
   before : IsSome (content q.disk) → IsSome (content p.disk)
   before some = by (content q.disk) refl some
@@ -165,7 +157,7 @@ module _
   -- where the disk refused it, no checkpoint follows
   pub here_faulted : q.flusher ≡ record p.flusher { shut = true } → GoesOnHere content images since moment p q
   here_faulted shut = record {
-    later = later;
+    learns = reads.learns;
     told_before = before;
     rises = (let count = ap (λ (f : Flusher). f.count) shut in omega arith);
     sound = λ past s still. record {
@@ -220,7 +212,7 @@ module _
 
     pub here_committed : GoesOnHere content images since moment p q
     here_committed = record {
-      later = later;
+      learns = reads.learns;
       told_before = before;
       rises = rises;
       sound = sound_committed;
@@ -228,9 +220,9 @@ module _
     }
 
   -- want of memory leaves the disk and the last commit
-  here_same : q.disk ≡ p.disk → q.flusher ≡ p.flusher → GoesOnHere content images since moment p q
-  here_same disk flusher = here_stays content images since moment p q (record {
-    later = later;
+  pub stays_same : q.disk ≡ p.disk → q.flusher ≡ p.flusher → Stays content images since moment p q
+  stays_same disk flusher = record {
+    learns = reads.learns;
     rows_on = λ n old le grown. subst (HaveGrown n old) (sym rows) grown;
     flusher = flusher;
     shape = shape;
@@ -238,7 +230,7 @@ module _
     crash = subst (λ (d : D). LeavesOnly images since moment p.disk d (images p.disk)) (sym disk)
         (leaves_none images since moment p.disk (images p.disk) (λ i here. here));
     table = λ t. table_same (content p.disk) (content q.disk) p.view.about p.cold q.cold (ap content disk) cold t;
-  })
+  }
 
   -- however it ends, the store goes on
   pub here_checkpoint : (r : Result ℕ FlushRefusal) → IfOk r (HasSettled p.view q.view)
@@ -247,4 +239,19 @@ module _
       → (IsErrOf r OutOfMemory → (q.disk ≡ p.disk) × (q.flusher ≡ p.flusher)) → GoesOnHere content images since moment p q
   here_checkpoint (Ok n) settled done shut memory = here_committed n settled.rises done
   here_checkpoint (Err DiskFault) settled done shut memory = here_faulted (shut refl)
-  here_checkpoint (Err OutOfMemory) settled done shut memory = (let same = memory refl in here_same same.0 same.1)
+  here_checkpoint (Err OutOfMemory) settled done shut memory =
+      (let same = memory refl in here_stays content images since moment p q (stays_same same.0 same.1))
+
+  -- and unless the disk failed, another checkpoint may follow
+  pub again_checkpoint : (r : Result ℕ FlushRefusal) → p.flusher.count ≤ p.view.learned.count
+      → IfOk r (HasCommitted (images p.disk) (images q.disk) p.flusher q.flusher p.view q.view p.shape p.rows)
+      → (IsErrOf r OutOfMemory → (q.disk ≡ p.disk) × (q.flusher ≡ p.flusher)) → (IsErrOf r DiskFault → ⊥) → MayGoOn images q
+  again_checkpoint (Ok n) counted done memory unbroken = record {
+    live = done.live;
+    may = may_again images p q n shape rows may done;
+    counted = (let count = done.count in let most = done.counted in omega arith);
+  }
+  again_checkpoint (Err DiskFault) counted done memory unbroken = absurd (unbroken refl)
+  again_checkpoint (Err OutOfMemory) counted done memory unbroken =
+      (let same = memory refl in may_stays content images since moment p q (stays_same same.0 same.1)
+      (record { live = live; may = may; counted = counted }))

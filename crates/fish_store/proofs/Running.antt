@@ -13,14 +13,14 @@ use Rattle.fish_flush.proofs.Lasting.{carries_on}
 use Rattle.fish_flush.specs.Carrying.{Carries}
 use Rattle.fish_flush.specs.declared.flusher.Flusher.{Flusher}
 use Rattle.fish_image.specs.Reached.{Reached}
+use Rattle.fish_rule.proofs.laws.Learning.{learns_both}
 use Rattle.fish_rule.specs.declared.table.Shape.{Shape}
 use Rattle.fish_rule.specs.declared.view.Key.{Key}
 use Rattle.fish_rule.specs.declared.view.View.{View}
 use Rattle.fish_store.proofs.Kept.{one_prior}
-use Rattle.fish_store.specs.Sound.{GoesOnHere, HasPast, IsImageOf, Point, Reaches, Rests, Runs, Sound, Stays}
+use Rattle.fish_store.specs.Sound.{GoesOnHere, HasPast, IsImageOf, IsSoundBehind, MayGoOn, Point, Reaches, Rests, Runs, Sound, Stays}
 use Rattle.fish_whole.proofs.Parts.{fits_later, goes_both, goes_later, known_later}
-use Rattle.fish_whole.proofs.Wholes.{later_both}
-use Rattle.fish_whole.specs.Whole.{FitsPast, IsKnown, Whole, Will}
+use Rattle.fish_whole.specs.Whole.{FitsPast, IsKnown, Later, Whole, Will}
 
 -- an image stays one of a part of the log
 pub image_on : (past : Whole) (v : View) (next : Whole) (u : View) (least less : ℕ) (c : List ℕ)
@@ -74,7 +74,7 @@ module _
   pub here_both : (p m q : Point D) → GoesOnHere content images since moment p m → GoesOnHere content images since moment m q
       → GoesOnHere content images since moment p q
   here_both p m q h t = record {
-    later = later_both p.view m.view q.view h.later t.later;
+    learns = learns_both p.view m.view q.view h.learns t.learns;
     told_before = λ still. h.told_before (t.told_before still);
     rises = (let a = h.rises in let b = t.rises in omega arith);
     sound = λ past s still. t.sound past (h.sound past s (t.told_before still)) still;
@@ -84,21 +84,21 @@ module _
         leaves_then images since moment p.disk m.disk q.disk (IsImageOf past q.view p.flusher.count)
         (leaves_more images since moment p.disk m.disk (IsImageOf past m.view p.flusher.count) (IsImageOf past q.view p.flusher.count)
         (λ c. image_on past m.view past q.view p.flusher.count p.flusher.count c
-        (λ log k. known_later past m.view q.view log t.later.learns k) (omega arith)) (h.crash past s before))
+        (λ log k. known_later past m.view q.view log t.learns k) (omega arith)) (h.crash past s before))
         (leaves_more images since moment m.disk q.disk (IsImageOf past q.view m.flusher.count) (IsImageOf past q.view p.flusher.count)
         (λ c. image_on past q.view past q.view m.flusher.count p.flusher.count c (λ log k. k) up)
         (t.crash past (h.sound past s before) still));
   }
 
   -- what goes on in one table goes on, and with it what is told behind every past
-  pub runs_here : (p q : Point D) (Q : Whole → Type 0) → GoesOnHere content images since moment p q
+  pub runs_here : (p q : Point D) (Q : Whole → Type 0) → GoesOnHere content images since moment p q → Later p.view q.view
       → ((past : Whole) → FitsPast past p.view → Will past q.view Q) → Goes p q Q
-  runs_here p q Q h told = record {
+  runs_here p q Q h later told = record {
     told_before = h.told_before;
     rises = h.rises;
     reaches = λ past s still. record {
       next = past;
-      goes = goes_later past p.view q.view h.later s.fits;
+      goes = goes_later past p.view q.view later s.fits;
       told = told past s.fits;
       sound = h.sound past s still;
       crash = h.crash past s still;
@@ -114,6 +114,11 @@ module _
         let a = h.reaches past s still in
         record { next = a.next; goes = a.goes; told = λ w may. weaker w (a.told w may); sound = a.sound; crash = a.crash };
   }
+
+  -- a moment that goes on in one table stays sound behind its past, as far as the disk's content is told
+  pub behind_on : (p q : Point D) (later : Option (List ℕ)) (past : Whole) → GoesOnHere content images since moment p q
+      → IsSoundBehind content images p later past → (IsSome later → IsSome (content q.disk)) → IsSoundBehind content images q later past
+  behind_on p q later past h s told = record { sound = h.sound past s.sound (told s.told); told = s.told }
 
   -- what a crash since some moment may have left, up to a later moment
   pub since_on : (past : Whole) (p q : Point D) (t least : ℕ) (Q : Whole → Type 0) → least ≤ p.flusher.count
@@ -149,7 +154,7 @@ fewer_carry images fewer f v s rows c log less h = record {
 }
 
 -- what is still read was told before
-told_still : (old new : Option (List ℕ)) → StillReads old new → IsSome new → IsSome old
+pub told_still : (old new : Option (List ℕ)) → StillReads old new → IsSome new → IsSome old
 told_still old None still some = absurd cc
 told_still old (Some c) still some = subst (λ (o : Option (List ℕ)). IsSome o) (sym still) some
 
@@ -163,7 +168,7 @@ same_table old (Some c) k cold later h t still =
     one_prior t.image k.number t.end h.end t.prior (subst (λ (i : List ℕ). IsPrior i k.number h.end) (one ∙ other) h.prior)
 
 -- the table that is carried on
-on_table : (old new : Option (List ℕ)) (k : Key) (cold later : Cold) (h : CarriesTable old k cold) → StillReads old new → IsSome new
+pub on_table : (old new : Option (List ℕ)) (k : Key) (cold later : Cold) (h : CarriesTable old k cold) → StillReads old new → IsSome new
     → IfSome new (λ c. CarriesTable new k later) → (t : CarriesTable new k later) × (t.end ≡ h.end)
 on_table old None k cold later h still some table = absurd cc
 on_table old (Some c) k cold later h still some table = (table, same_table old (Some c) k cold later h table still)
@@ -179,7 +184,7 @@ module _
   image_stays : (past : Whole) → Sound content images p past → (c : List ℕ) → images p.disk c
       → IsImageOf past q.view p.flusher.count c
   image_stays past s c here =
-      image_on past p.view past q.view p.flusher.count p.flusher.count c (λ log k. known_later past p.view q.view log h.later.learns k)
+      image_on past p.view past q.view p.flusher.count p.flusher.count c (λ log k. known_later past p.view q.view log h.learns k)
       (omega arith) (s.now c here)
 
   -- every image stands for the last commit's log
@@ -188,7 +193,7 @@ module _
       let r = s.rests (sym (ap (λ (f : Flusher). f.shut) h.flusher) ∙ live) in
       let count = ap (λ (f : Flusher). f.count) h.flusher in
       let counted = r.counted in
-      let more = h.later.learns.count in
+      let more = h.learns.count in
       let grown = h.rows_on r.commit.count r.commit.rows (let same = r.carries.rest.committed.count in omega arith) r.carries.grown in
       record {
         commit = r.commit;
@@ -197,7 +202,7 @@ module _
             (subst (λ (s : Shape). Carries (images q.disk) p.flusher q.view s q.rows r.commit r.log) (sym h.shape)
             (carries_on (images q.disk) p.flusher p.view q.view p.shape p.rows q.rows r.commit r.log
             (fewer_carry (images p.disk) (images q.disk) p.flusher p.view p.shape p.rows r.commit r.log h.crash.now r.carries)
-            h.later.learns grown));
+            h.learns grown));
         begins = r.begins;
         counted = omega arith;
       }
@@ -207,14 +212,14 @@ module _
   past_stays past s still =
       let t = on_table (content p.disk) (content q.disk) p.view.about p.cold q.cold s.has.table h.content_is still (h.table s.has.table) in
       let moved : (x : CarriesTable (content q.disk) q.view.about q.cold) × (x.end.entries ≡ past.log) =
-      subst (λ (k : Key). (x : CarriesTable (content q.disk) k q.cold) × (x.end.entries ≡ past.log)) (sym h.later.learns.about)
+      subst (λ (k : Key). (x : CarriesTable (content q.disk) k q.cold) × (x.end.entries ≡ past.log)) (sym h.learns.about)
       (t.0, ap (λ (e : Reached). e.entries) t.1 ∙ s.has.entries) in
       record { table = moved.0; entries = moved.1 }
 
   -- it is sound still
   sound_stays : (past : Whole) → Sound content images p past → IsSome (content q.disk) → Sound content images q past
   sound_stays past s still = record {
-    fits = fits_later past p.view q.view h.later.learns s.fits;
+    fits = fits_later past p.view q.view h.learns s.fits;
     has = past_stays past s still;
     rests = rests_stay past s;
     now = λ c here. subst (λ (f : Flusher). IsImageOf past q.view f.count c) (sym h.flusher) (image_stays past s c (h.crash.now c here));
@@ -223,10 +228,34 @@ module _
   -- a step that leaves the last commit goes on
   pub here_stays : GoesOnHere content images since moment p q
   here_stays = record {
-    later = h.later;
+    learns = h.learns;
     told_before = told_still (content p.disk) (content q.disk) h.content_is;
     rises = (let count = ap (λ (f : Flusher). f.count) h.flusher in omega arith);
     sound = sound_stays;
     crash = λ past s still. leaves_more images since moment p.disk q.disk (images p.disk) (IsImageOf past q.view p.flusher.count)
         (image_stays past s) h.crash;
   }
+
+  -- and a checkpoint may follow it as it might before
+  pub may_stays : MayGoOn images p → MayGoOn images q
+  may_stays m =
+      let c = m.may.0 in
+      let log = m.may.1 in
+      let carries = m.may.2 in
+      let count = ap (λ (f : Flusher). f.count) h.flusher in
+      let counted = m.counted in
+      let more = h.learns.count in
+      let grown = h.rows_on c.count c.rows (let same = carries.rest.committed.count in omega arith) carries.grown in
+      record {
+        live = ap (λ (f : Flusher). f.shut) h.flusher ∙ m.live;
+        may = (
+          c,
+          log,
+          subst (λ (f : Flusher). Carries (images q.disk) f q.view q.shape q.rows c log) (sym h.flusher)
+              (subst (λ (s : Shape). Carries (images q.disk) p.flusher q.view s q.rows c log) (sym h.shape)
+              (carries_on (images q.disk) p.flusher p.view q.view p.shape p.rows q.rows c log
+              (fewer_carry (images p.disk) (images q.disk) p.flusher p.view p.shape p.rows c log h.crash.now carries)
+              h.learns grown)),
+        );
+        counted = omega arith;
+      }

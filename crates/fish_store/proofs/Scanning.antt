@@ -1,21 +1,13 @@
 -- A scan leaves the last commit, and reads pages at most.
-use Rattle.std.proofs.Common.{◌≡◌, ℕ, List, Option, ap, subst, sym, inl, ◌∙◌}
-use Rattle.std.specs.Prelude.{IfSome}
+use Rattle.std.proofs.Common.{◌≡◌, ℕ, List, Option, ap, ◌∙◌}
 use Rattle.fish_cold.specs.Carries.{CarriesTable}
 use Rattle.fish_cold.specs.declared.cold.Cold.{Cold}
-use Rattle.fish_flush.specs.Rows.{HaveGrown}
-use Rattle.fish_rule.specs.Views.{Among}
+use Rattle.fish_rule.specs.Logs.{Learns}
 use Rattle.fish_rule.specs.declared.table.Base.{Base}
 use Rattle.fish_rule.specs.declared.view.Key.{Key}
-use Rattle.fish_rule.specs.declared.view.View.{View}
-use Rattle.fish_scan.specs.Colder.{IsBelow, StaysCold}
-use Rattle.fish_scan.specs.Scans.{OnlyScans}
-use Rattle.fish_store.specs.Sound.{Point, Stays}
-use Rattle.fish_whole.specs.Whole.{Later}
-
--- a scan goes on to a later state
-pub scans_later : (v u : View) → OnlyScans v u → Later v u
-scans_later v u h = record { learns = h.learns; gained = λ o m. inl (subst (Among o) (ap (λ (z : View). z.own) h.frame) m) }
+use Rattle.fish_scan.specs.Colder.{IsBelow}
+use Rattle.fish_store.specs.Sound.{IsSoundBehind, Point, ReadsPages, RowsGoOn, Stays}
+use Rattle.fish_whole.specs.Whole.{Whole}
 
 -- the older records stay those below the table
 pub below_stays : (k : Key) (old new : Cold) → new.base ≡ old.base → IsBelow k old → IsBelow k new
@@ -24,19 +16,23 @@ below_stays k old new same h = record {
   line = ap (λ (b : Base). b.line) same ∙ h.line;
 }
 
--- so the moment behind it has the last commit still
-pub scans_stay : {D : Type 0} (content : D → Option (List ℕ)) (images : D → List ℕ → Type 0) (since : D → ℕ → List ℕ → Type 0)
-    (moment faults : D → ℕ) (p q : Point D) → OnlyScans p.view q.view → q.rows ≡ p.rows → q.flusher ≡ p.flusher → q.shape ≡ p.shape
-    → StaysCold content images since moment faults p.cold q.cold p.disk q.disk
-    → (CarriesTable (content p.disk) p.view.about p.cold
-    → IfSome (content q.disk) (λ c. CarriesTable (content q.disk) p.view.about q.cold))
+-- whatever the control pass does, and whichever pass reads, the last commit stays where only pages are read
+pub pages_stay : {D : Type 0} (content : D → Option (List ℕ)) (images : D → List ℕ → Type 0) (since : D → ℕ → List ℕ → Type 0)
+    (moment faults : D → ℕ) (p q : Point D) → Learns p.view q.view → RowsGoOn p.view p.rows q.rows → q.flusher ≡ p.flusher
+    → q.shape ≡ p.shape → ReadsPages content images since moment faults p.view.about p.cold q.cold p.disk q.disk
     → Stays content images since moment p q
-scans_stay content images since moment faults p q only rows flusher shape cold kept = record {
-  later = scans_later p.view q.view only;
-  rows_on = λ n old le grown. subst (HaveGrown n old) (sym rows) grown;
+pages_stay content images since moment faults p q learns rows flusher shape reads = record {
+  learns = learns;
+  rows_on = rows;
   flusher = flusher;
   shape = shape;
-  content_is = cold.content_is;
-  crash = cold.crash;
-  table = kept;
+  content_is = reads.cold.content_is;
+  crash = reads.cold.crash;
+  table = reads.kept;
 }
+
+-- a disk behind which the store was sound carries the table, with what was there before it
+pub sound_here : {D : Type 0} (content : D → Option (List ℕ)) (images : D → List ℕ → Type 0) (p : Point D) (past : Whole)
+    (later : Option (List ℕ)) → IsSoundBehind content images p later past
+    → (t : CarriesTable (content p.disk) p.view.about p.cold) × (t.end.entries ≡ past.log)
+sound_here content images p past later s = (s.sound.has.table, s.sound.has.entries)

@@ -5,6 +5,7 @@ use Rattle.fish_rule.specs.declared.table.Log.{Log}
 use Rattle.fish_rule.specs.declared.table.Pass.{Pass}
 use Rattle.fish_store.specs.Sound.{Point}
 use Rattle.fish_store.specs.declared.file.StoreFile.{StoreFile}
+use Rattle.fish_store.specs.declared.store.Store.{Store}
 
 -- the disk, what is kept of it, the log, its control pass and its registrar
 abbrev pub point_of : {D : Type 0} → D → StoreFile → Log → Pass → Registrar → Point D
@@ -17,3 +18,7 @@ point_of disk file log pass registrar =
       rows = registrar.catalog;
       view = view pass;
     }
+
+-- the same of a store as one value
+abbrev pub point_at : {D : Type 0} → D → Store → Point D
+point_at disk store = point_of disk store.file store.log store.pass store.registrar

@@ -11,9 +11,12 @@ use Rattle.fish_flush.specs.Carrying.{Carries}
 use Rattle.fish_flush.specs.Rows.{HaveGrown}
 use Rattle.fish_flush.specs.declared.flusher.Flusher.{Flusher}
 use Rattle.fish_image.specs.Stands.{Stands}
+use Rattle.fish_rule.specs.Logs.{Learns}
 use Rattle.fish_rule.specs.declared.table.Shape.{Shape}
+use Rattle.fish_rule.specs.declared.view.Key.{Key}
 use Rattle.fish_rule.specs.declared.view.View.{View}
-use Rattle.fish_whole.specs.Whole.{FitsPast, GoesOn, IsKnown, Later, Whole, Will}
+use Rattle.fish_scan.specs.Colder.{StaysCold}
+use Rattle.fish_whole.specs.Whole.{FitsPast, GoesOn, IsKnown, Whole, Will}
 
 -- the disk; what is kept of the last commit, and of the pages below the table; the table's shape, the rows of the catalogue, and
 -- what the control pass knows
@@ -41,6 +44,12 @@ pub record IsImageOf (past : Whole) (v : View) (least : ℕ) (image : List ℕ) 
 abbrev pub MayCommit : {D : Type 0} → (D → List ℕ → Type 0) → Point D → Type 0
 MayCommit images p = (c : Commit) × (log : List Entry) × Carries (images p.disk) p.flusher p.view p.shape p.rows c log
 
+-- and a checkpoint that follows goes on from the last commit, whose entries the pass has counted
+pub record MayGoOn {D : Type 0} (images : D → List ℕ → Type 0) (p : Point D) : Type 0 where
+  pub live : p.flusher.shut ≡ false
+  pub may : MayCommit images p
+  pub counted : p.flusher.count ≤ p.view.learned.count
+
 -- every image stands for the last commit's log, which begins with what was there before the table
 pub record Rests {D : Type 0} (images : D → List ℕ → Type 0) (p : Point D) (past : Whole) : Type 0 where
   pub commit : Commit
@@ -62,6 +71,12 @@ pub record Sound {D : Type 0} (content : D → Option (List ℕ)) (images : D �
   pub rests : p.flusher.shut ≡ false → Rests images p past
   pub now : (c : List ℕ) → images p.disk c → IsImageOf past p.view p.flusher.count c
 
+-- the store was sound behind this past, of a disk whose content is told later
+pub record IsSoundBehind {D : Type 0} (content : D → Option (List ℕ)) (images : D → List ℕ → Type 0) (p : Point D)
+    (later : Option (List ℕ)) (past : Whole) : Type 0 where
+  pub sound : Sound content images p past
+  pub told : IsSome later
+
 -- ---- from one moment to a later one
 
 -- to one of the same table, over statements, checkpoints and reads: what is sound stays so behind the same past, as far as the disk's
@@ -73,7 +88,7 @@ pub record GoesOnHere
     (since : D → ℕ → List ℕ → Type 0)
     (moment : D → ℕ)
     (p q : Point D) : Type 0 where
-  pub later : Later p.view q.view
+  pub learns : Learns p.view q.view
   pub told_before : IsSome (content q.disk) → IsSome (content p.disk)
   pub rises : p.flusher.count ≤ q.flusher.count
   pub sound : (past : Whole) → Sound content images p past → IsSome (content q.disk) → Sound content images q past
@@ -122,7 +137,7 @@ pub record Stays
     (since : D → ℕ → List ℕ → Type 0)
     (moment : D → ℕ)
     (p q : Point D) : Type 0 where
-  pub later : Later p.view q.view
+  pub learns : Learns p.view q.view
   pub rows_on : RowsGoOn p.view p.rows q.rows
   pub flusher : q.flusher ≡ p.flusher
   pub shape : q.shape ≡ p.shape
@@ -130,3 +145,16 @@ pub record Stays
   pub crash : LeavesOnly images since moment p.disk q.disk (images p.disk)
   pub table : CarriesTable (content p.disk) p.view.about p.cold
       → IfSome (content q.disk) (λ c. CarriesTable (content q.disk) p.view.about q.cold)
+
+-- of the disk pages were read at most, and what was carried of a table still is
+pub record ReadsPages
+    {D : Type 0}
+    (content : D → Option (List ℕ))
+    (images : D → List ℕ → Type 0)
+    (since : D → ℕ → List ℕ → Type 0)
+    (moment faults : D → ℕ)
+    (k : Key)
+    (old new : Cold)
+    (disk next : D) : Type 0 where
+  pub cold : StaysCold content images since moment faults old new disk next
+  pub kept : CarriesTable (content disk) k old → IfSome (content next) (λ c. CarriesTable (content next) k new)

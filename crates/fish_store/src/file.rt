@@ -1,17 +1,18 @@
 //! What the control pass keeps of a store's file: of the last commit, and of the pages below the table.
 
-ghost use Rattle.std.specs.Prelude.{◌≡◌, true, false, IfErr, IfOk, IsErrOf};
+ghost use Rattle.std.specs.Prelude.{◌≡◌, ◌≤◌, ℕ, true, IfErr, IfOk, IsErrOf};
 ghost use Rattle.fish_cold.specs.Carries.{CarriesTable};
 ghost use Rattle.fish_epoch.specs.Definitions.{IsDefsOf};
 ghost use Rattle.fish_flush.specs.Carrying.{HasSettled, Reads};
 ghost use Rattle.fish_flush.specs.Causes.{HasFlushCause};
 ghost use Rattle.fish_flush.specs.Rows.{HoldsRows};
 ghost use Rattle.fish_rule.specs.Passes.{IsPassOf, view};
+ghost use Rattle.fish_rule.specs.Views.{Among};
 ghost use Rattle.fish_scan.specs.Across.{IsAnswerWith, IsRefusedWith, IsUndamagedScan};
 ghost use Rattle.fish_scan.specs.Colder.{IsBelow, IsScanFault};
-ghost use Rattle.fish_scan.specs.Scans.{OnlyScans};
+ghost use Rattle.fish_scan.specs.Scans.{IsExplained, OnlyScans};
 ghost use Rattle.fish_store.specs.Points.{point_of};
-ghost use Rattle.fish_store.specs.Sound.{GoesOnHere, MayCommit};
+ghost use Rattle.fish_store.specs.Sound.{GoesOnHere, MayGoOn, ReadsPages};
 
 use fish_cold::Cold;
 use fish_disk::Disk;
@@ -45,15 +46,15 @@ impl StoreFile {
         disk: &mut D,
     ) -> Result<u32, FlushRefusal>
         requires pass { IsPassOf log.now pass.old }
-        requires live { self.old.flusher.shut ≡ false }
         requires rows { HoldsRows (view pass.old) registrar.now.catalog }
-        requires may { MayCommit D.images (point_of disk.old self.old log.now pass.old registrar.now) }
+        requires may { MayGoOn D.images (point_of disk.old self.old log.now pass.old registrar.now) }
         ensures pass { IsPassOf log.now pass.new }
         ensures reads { Reads (view pass.old) (view pass.new) }
         ensures settled { IfOk result (HasSettled (view pass.old) (view pass.new)) }
         ensures cold { self.new.cold ≡ self.old.cold }
-        ensures again { IfOk result (λ n. (self.new.flusher.count ≡ n) × (self.new.flusher.shut ≡ false)
-            × MayCommit D.images (point_of disk.new self.new log.now pass.new registrar.now)) }
+        ensures count { IfOk result (λ n. (self.new.flusher.count ≡ n) × (n ≤ (view pass.new).learned.count)) }
+        ensures again { (IsErrOf result FlushRefusal.DiskFault → ⊥)
+            → MayGoOn D.images (point_of disk.new self.new log.now pass.new registrar.now) }
         ensures goes { GoesOnHere D.content D.images D.since D.moment (point_of disk.old self.old log.now pass.old registrar.now)
             (point_of disk.new self.new log.now pass.new registrar.now) }
 
@@ -77,7 +78,6 @@ impl StoreFile {
         alloc: Global,
         log: &Log,
         pass: &mut Pass,
-        registrar: &Registrar,
         defs: &mut Defs,
         ask: &Ask,
         disk: &mut D,
@@ -92,8 +92,11 @@ impl StoreFile {
         ensures defs { IsDefsOf (view pass.new) defs.new }
         ensures base { IsBelow log.now.key self.new.cold }
         ensures flusher { self.new.flusher ≡ self.old.flusher }
-        ensures goes { GoesOnHere D.content D.images D.since D.moment (point_of disk.old self.old log.now pass.old registrar.now)
-            (point_of disk.new self.new log.now pass.new registrar.now) }
+        ensures reads { ReadsPages D.content D.images D.since D.moment D.faults log.now.key self.old.cold self.new.cold disk.old
+            disk.new }
+        ensures explained { IfOk result (λ a. IsExplained (view pass.old) (view pass.new) defs.new.known ask.now a.from a.to a.opens
+            a.plan) }
+        ensures opened { IfOk result (λ a. (n : ℕ) → Among n a.opens → (view pass.new).about.number ≤ n) }
         ensures answer { IfOk result (λ answer. (h : CarriesTable (D.content disk.new) log.now.key self.old.cold) → IsAnswerWith h
             (view pass.old) (view pass.new) defs.new.known ask.now answer parses.old parses.new loads.old loads.new) }
 
