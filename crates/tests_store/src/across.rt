@@ -28,20 +28,35 @@ use std::marker::Brand;
 use std::sync::ledger::{Blank, Ledger};
 use std::test::Fail;
 
-/// How the log is read, from which number on, up to which, and how many words of it the file has.
-type Case = (How, Option<u32>, Option<u32>, usize);
+/// How the log is read, from which number on, and up to which.
+pub(crate) type Question = (How, Option<u32>, Option<u32>);
+
+/// What is asked, and how many words of the log the file has.
+type Case = (Question, usize);
 
 /// The records whose `type` is `Push`, and the plan. The last line of the file is missing in the last three.
 const CASES: &[(Case, &str)] = &[
-    ((How::Auto, None, None, 24), "3 2 0 in 0..4 index 0..4"),
-    ((How::Index, None, None, 24), "3 2 0 in 0..4 index 0..4"),
-    ((How::Full, None, None, 24), "3 2 0 in 0..4 full 0..4"),
-    ((How::Auto, Some(1), None, 24), "3 2 in 1..4 index 1..4"),
-    ((How::Full, Some(1), Some(3), 24), "2 in 1..3 full 1..3"),
-    ((How::Auto, None, Some(2), 24), "0 in 0..2 index 0..2"),
-    ((How::Full, Some(3), None, 20), "3 in 3..4 full 3..4"),
-    ((How::Full, None, None, 20), "damaged at 2"),
-    ((How::Auto, None, None, 20), "damaged at 3"),
+    (
+        ((How::Auto, None, None), 24),
+        "3 2 0 in 0..4 index 0..4 by 0",
+    ),
+    (
+        ((How::Index, None, None), 24),
+        "3 2 0 in 0..4 index 0..4 by 0",
+    ),
+    (((How::Full, None, None), 24), "3 2 0 in 0..4 full 0..4"),
+    (
+        ((How::Auto, Some(1), None), 24),
+        "3 2 in 1..4 index 1..4 by 0",
+    ),
+    (((How::Full, Some(1), Some(3)), 24), "2 in 1..3 full 1..3"),
+    (
+        ((How::Auto, None, Some(2)), 24),
+        "0 in 0..2 index 0..2 by 0",
+    ),
+    (((How::Full, Some(3), None), 20), "3 in 3..4 full 3..4"),
+    (((How::Full, None, None), 20), "damaged at 2"),
+    (((How::Auto, None, None), 20), "damaged at 3"),
 ];
 
 /// A log of one page, of sixteen buckets.
@@ -61,8 +76,10 @@ fn head_of(bucket: u32) -> u64
     }
 }
 
-fn heads_of(alloc: Global) -> Result<Numbers64, AllocError>
-    ensures { IfOk result (AreOlder 6 16) }
+/// The heads with which a log begins at a line.
+fn heads_of(alloc: Global, line: u64) -> Result<Numbers64, AllocError>
+    requires { 6 ≤ line }
+    ensures { IfOk result (AreOlder line 16) }
 {
     let mut heads = Numbers64::new(alloc);
     for bucket in 0..16_u32 {
@@ -84,11 +101,25 @@ fn clamped(alloc: Global) -> Result<Catalog, AllocError>
 fn opened(alloc: Global) -> Result<(Log, Pass), AllocError>
     ensures { IfOk result (λ r. IsOutOf r.0 r.1) }
 {
-    let heads = heads_of(alloc)?;
-    match clamped(alloc) {
-        Ok(catalog) => {
+    opened_at(alloc, Base { number: 3, line: 6 }, clamped(alloc)?)
+}
+
+/// A log that begins at a base, with these definitions.
+pub(crate) fn opened_at(
+    alloc: Global,
+    base: Base,
+    catalog: Catalog,
+) -> Result<(Log, Pass), AllocError>
+    requires number { base.number ≤ 300 }
+    requires least { 6 ≤ base.line }
+    requires most { base.line ≤ 9830400 }
+    requires rows { All (IsClamped base.number) catalog }
+    ensures { IfOk result (λ r. IsOutOf r.0 r.1) }
+{
+    match heads_of(alloc, base.line) {
+        Ok(heads) => {
             let start = Start {
-                base: Base { number: 3, line: 6 },
+                base,
                 heads,
                 catalog,
                 version: 0,
@@ -98,18 +129,23 @@ fn opened(alloc: Global) -> Result<(Log, Pass), AllocError>
             log
         }
         Err(error) => {
-            drop(heads);
+            drop(catalog);
             Err(error)
         }
     }
 }
 
-/// Nothing read of what is below the log, in which one page has a start.
-fn nothing_read(alloc: Global, log: &Log) -> Result<Cold, AllocError>
-    ensures { IfOk result (IsBelow log.now.key) }
-{
+/// The start of one page.
+fn one_start(alloc: Global) -> Result<PageStarts, AllocError> {
     let mut starts = PageStarts::new(alloc);
     starts.push(PageStart { number: 0, line: 0 })?;
+    Ok(starts)
+}
+
+/// Nothing read of what is below the log, whose pages have these starts.
+pub(crate) fn nothing_read(alloc: Global, log: &Log, starts: PageStarts) -> Result<Cold, AllocError>
+    ensures { IfOk result (IsBelow log.now.key) }
+{
     let base = base(log);
     if base.line > 1 << 30 {
         drop(starts);
@@ -135,15 +171,15 @@ fn stored(alloc: Global, log: &Log, pass: &mut Pass) -> Result<Defs, IngestRefus
 }
 
 /// What is asked.
-fn ask_of(alloc: Global, case: &Case) -> Result<Ask, AllocError> {
+pub(crate) fn ask_of(alloc: Global, question: &Question) -> Result<Ask, AllocError> {
     let name = Text::copy_of(alloc, "kind")?;
     let value = Value::Text(Text::copy_of(alloc, "Push")?);
     Ok(Ask {
         name,
         value,
-        from: case.1,
-        to: case.2,
-        how: case.0,
+        from: question.1,
+        to: question.2,
+        how: question.0,
     })
 }
 
@@ -185,9 +221,9 @@ fn scanned<P: Ledger, L: Ledger, D: Disk>(
 }
 
 /// A piece of a plan, after other text.
-fn put_piece(told: &mut String, piece: &Piece) -> Result<(), AllocError> {
+pub(crate) fn put_piece(told: &mut String, piece: &Piece) -> Result<(), AllocError> {
     match piece {
-        Piece::Index { from, to, .. } => write!(told, " index {from}..{to}"),
+        Piece::Index { id, from, to } => write!(told, " index {from}..{to} by {id}"),
         Piece::Full { from, to } => write!(told, " full {from}..{to}"),
     }
 }
@@ -222,21 +258,21 @@ fn read_told(alloc: Global, answer: &Answer) -> Result<String, AllocError> {
 }
 
 /// Asks, with what is read, and drops the question.
-fn asked_told(
+pub(crate) fn asked_told<D: Disk>(
     alloc: Global,
-    case: &Case,
+    question: &Question,
     log: &Log,
     pass: &mut Pass,
     defs: &mut Defs,
     cold: &mut Cold,
-    disk: &mut MemoryDisk,
+    disk: &mut D,
 ) -> Result<String, AllocError>
     requires pass { IsPassOf log.now pass.old }
     requires defs { IsDefsOf (view pass.old) defs.old }
     requires base { IsBelow log.now.key cold.old }
 {
-    let ask = ask_of(alloc, case)?;
-    let answer = scanned::<Brand, Brand, MemoryDisk>(
+    let ask = ask_of(alloc, question)?;
+    let answer = scanned::<Brand, Brand, D>(
         alloc,
         Blank::new(1),
         Blank::new(1),
@@ -254,7 +290,7 @@ fn asked_told(
 /// Stores the fourth record, asks, and drops what was read for it.
 fn stored_told(
     alloc: Global,
-    case: &Case,
+    question: &Question,
     log: &Log,
     pass: &mut Pass,
     cold: &mut Cold,
@@ -265,7 +301,7 @@ fn stored_told(
 {
     match stored(alloc, log, pass) {
         Ok(mut defs) => {
-            let told = asked_told(alloc, case, log, pass, &mut defs, cold, disk);
+            let told = asked_told(alloc, question, log, pass, &mut defs, cold, disk);
             drop(defs);
             told
         }
@@ -276,32 +312,36 @@ fn stored_told(
 /// Does so with nothing read yet of what is below the log.
 fn cold_told(
     alloc: Global,
-    case: &Case,
+    question: &Question,
     log: &Log,
     pass: &mut Pass,
     disk: &mut MemoryDisk,
 ) -> Result<String, AllocError>
     requires { IsOutOf log.now pass.old }
 {
-    let mut cold = nothing_read(alloc, log)?;
-    let told = stored_told(alloc, case, log, pass, &mut cold, disk);
+    let mut cold = nothing_read(alloc, log, one_start(alloc)?)?;
+    let told = stored_told(alloc, question, log, pass, &mut cold, disk);
     drop(cold);
     told
 }
 
 /// Does so with a log of its own.
-fn log_told(alloc: Global, case: &Case, disk: &mut MemoryDisk) -> Result<String, AllocError> {
+fn log_told(
+    alloc: Global,
+    question: &Question,
+    disk: &mut MemoryDisk,
+) -> Result<String, AllocError> {
     let (log, mut pass) = opened(alloc)?;
-    let told = cold_told(alloc, case, &log, &mut pass, disk);
+    let told = cold_told(alloc, question, &log, &mut pass, disk);
     drop(pass);
     drop(log);
     told
 }
 
 fn case_told(alloc: Global, case: &Case) -> Result<String, AllocError> {
-    let bytes = file(alloc, &(0, 0, case.3, 99))?;
+    let bytes = file(alloc, &(0, 0, case.1, 99))?;
     let mut disk = MemoryDisk::new(alloc, bytes, numbers(alloc, &[])?);
-    let told = log_told(alloc, case, &mut disk);
+    let told = log_told(alloc, &case.0, &mut disk);
     drop(disk);
     told
 }

@@ -25,10 +25,10 @@ pub(crate) const SHAPE: Shape = Shape {
     bucket_bits: 4,
 };
 
-/// The definition `kind`, which is `take type`, or none if it should be refused.
-fn definitions(alloc: Global) -> Result<Catalog, AllocError> {
+/// The definition `kind`, which is `take type` from a number on, or none if it should be refused.
+pub(crate) fn definitions(alloc: Global, from: u32) -> Result<Catalog, AllocError> {
     let mut rows = Vec::new(alloc);
-    rows.push(row(alloc, 0, ("kind", "take type"), Some(0))?)?;
+    rows.push(row(alloc, 0, ("kind", "take type"), Some(from))?)?;
     match Catalog::from_rows(alloc, rows)? {
         Some(catalog) => Ok(catalog),
         None => Ok(Catalog::new(alloc)),
@@ -40,7 +40,7 @@ pub(crate) fn opened(alloc: Global, shape: Shape) -> Result<(Start, Log, Pass), 
     requires { IsShape shape }
     ensures { IfOk result (λ r. IsEmptyLog shape r.0 r.1 r.2) }
 {
-    let catalog = definitions(alloc)?;
+    let catalog = definitions(alloc, 0)?;
     let start = Start::first(alloc, shape, catalog)?;
     match open_log(alloc, shape, &start) {
         Ok((log, pass)) => Ok((start, log, pass)),

@@ -9,8 +9,9 @@ use crate::older::answers_told;
 use crate::openings::ALL;
 use crate::passes::Control;
 use crate::reopened::{ASKED, Case, count_of, file_of};
-use crate::told::{expect_all, numbers};
+use crate::told::{expect, expect_all, numbers};
 use fish_catalog::Catalog;
+use fish_cold::Cold;
 use fish_disk::{Disk, MemoryDisk};
 use fish_epoch::Defs;
 use fish_flush::Flusher;
@@ -21,6 +22,7 @@ use std::alloc::{AllocError, Global};
 use std::marker::Brand;
 use std::sync::ledger::Blank;
 use std::test::Fail;
+use std::thread::{Threads, join_mut};
 
 /// How many records are committed then, and how many the file opens with.
 const CASES: &[(Case, &str)] = &[
@@ -103,34 +105,59 @@ fn going_on(rt: HostRuntime) -> Result<(), Fail> {
     Ok(())
 }
 
-/// What the numbers answer from the newest, and then the chain of the bucket of `Push` from its head at 17.
-const OLDER: &[(Case, &str)] = &[(
+/// A store, and what the numbers answer from the newest, and then the chain of the bucket of `Push` from its head at 17.
+const OLDER: (Case, &str) = (
     ((1, 0, 3, 6), (1, 2, 2, 4), ALL),
     r#"1:{"type":"Push"} 2:{"type":"Pull"} 1:{"type":"Push"} / 2 "Push" 1 1:{"type":"Push"} 0 "Push" 0 1:{"type":"Push"} end"#,
-)];
+);
 
 fn numbers_told(
     alloc: Global,
-    mut opened: Opened,
+    cold: &mut Cold,
     disk: &mut MemoryDisk,
 ) -> Result<String, AllocError> {
-    let told = answers_told::<Brand>(alloc, Blank::new(1), &mut opened.cold, disk);
-    drop(opened);
+    answers_told::<Brand>(alloc, Blank::new(1), cold, disk)
+}
+
+/// The same on a thread of its own.
+fn told_beside<R: Threads + Sync>(
+    rt: &R,
+    alloc: Global,
+    opened: Opened,
+    disk: &mut MemoryDisk,
+) -> Result<String, AllocError> {
+    let Opened {
+        log,
+        pass,
+        flusher,
+        catalog,
+        mut cold,
+        ..
+    } = opened;
+    let (told, ()) = join_mut(
+        rt,
+        &mut || numbers_told(alloc, &mut cold, disk),
+        &mut || -> () {},
+    );
+    drop((log, pass, flusher));
+    drop((catalog, cold));
     told
 }
 
-fn older_told(alloc: Global, case: &Case) -> Result<String, AllocError> {
+fn older_told<R: Threads + Sync>(rt: &R, alloc: Global, case: &Case) -> Result<String, AllocError> {
     let mut disk = MemoryDisk::new(alloc, file_of(alloc, case)?, numbers(alloc, &[])?);
     let told = match open_store(alloc, ASKED, &mut disk) {
-        Ok(opened) => numbers_told(alloc, opened, &mut disk),
+        Ok(opened) => told_beside(rt, alloc, opened, &mut disk),
         Err(refusal) => format!(in alloc; "{refusal}"),
     };
     drop(disk);
     told
 }
 
+/// What is kept of the older pages may go to another thread.
 #[test]
 fn older_of_an_opened_store(rt: HostRuntime) -> Result<(), Fail> {
-    expect_all(&rt, rt.alloc(), OLDER, older_told)?;
+    let told = older_told(&rt, rt.alloc(), &OLDER.0)?;
+    expect(&rt, told.as_str(), OLDER.1);
     Ok(())
 }

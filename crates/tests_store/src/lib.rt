@@ -19,6 +19,8 @@ mod creations;
 #[cfg(test)]
 mod disks;
 #[cfg(test)]
+mod explained;
+#[cfg(test)]
 mod flushing;
 #[cfg(test)]
 mod going_on;

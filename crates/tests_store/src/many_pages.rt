@@ -1,16 +1,24 @@
 //! A log of 300 pages, read down and up through the cache, and one that goes on: how often its disk is read.
 
-ghost use Rattle.std.specs.Prelude.{◌≡◌, ◌<◌, ◌*◌, Some};
+ghost use Rattle.std.specs.Prelude.{◌≡◌, ◌<◌, ◌*◌, All, IfOk, Some};
+ghost use Rattle.fish_catalog.specs.Clamps.{IsClamped};
 ghost use Rattle.fish_disk.specs.Content.{untold};
+ghost use Rattle.fish_rule.specs.Passes.{IsPassOf};
+ghost use Rattle.fish_scan.specs.Colder.{IsBelow};
 
+use crate::across;
+use crate::across::{asked_told, opened_at};
+use crate::flushing::definitions;
 use crate::told::expect;
-use fish_catalog::{Entry, PageStart, PageStarts};
+use fish_catalog::{Catalog, Entry, PageStart, PageStarts};
 use fish_cold::Cold;
 use fish_disk::Disk;
+use fish_epoch::Defs;
 use fish_layout::{PAGE_LINES, void_header};
 use fish_outside::Failed;
 use fish_psf::Steps;
-use fish_rule::Base;
+use fish_rule::{Base, Log, Pass};
+use fish_scan::How;
 use std::alloc::{AllocError, Global};
 use std::fmt::Write;
 use std::marker::Brand;
@@ -89,7 +97,8 @@ fn starts_of(alloc: Global, pages: u16) -> Result<PageStarts, AllocError> {
 
 /// What comes after so many pages.
 fn base_of(pages: u16) -> Base
-    ensures { result.line ≡ 32768 * pages }
+    ensures number { result.number ≡ pages }
+    ensures line { result.line ≡ 32768 * pages }
 {
     Base {
         number: u32::from(pages),
@@ -215,5 +224,73 @@ fn pages_stay_as_the_base_moves(rt: HostRuntime) -> Result<(), Fail> {
     let told = grown_told::<Brand>(rt.alloc(), Blank::new(1), &mut cold, &mut disk);
     drop((cold, disk));
     expect(&rt, told?.as_str(), "19:16 19:16 299:17 ");
+    Ok(())
+}
+
+/// The definition, whose index begins at 0.
+fn clamped(alloc: Global) -> Result<Catalog, AllocError>
+    ensures { IfOk result (λ catalog. All (IsClamped 300) catalog) }
+{
+    let mut rows = definitions(alloc, 0)?;
+    rows.clamp(300);
+    Ok(rows)
+}
+
+/// What a scan of all numbers answers, one by one.
+fn full_told(
+    alloc: Global,
+    log: &Log,
+    pass: &mut Pass,
+    cold: &mut Cold,
+    disk: &mut Voids,
+) -> Result<String, AllocError>
+    requires pass { IsPassOf log.now pass.old }
+    requires base { IsBelow log.now.key cold.old }
+{
+    let mut defs = Defs::new(alloc);
+    let told = asked_told(
+        alloc,
+        &(How::Full, None, None),
+        log,
+        pass,
+        &mut defs,
+        cold,
+        disk,
+    );
+    drop(defs);
+    told
+}
+
+/// The same with nothing read of the pages.
+fn pages_told(
+    alloc: Global,
+    log: &Log,
+    pass: &mut Pass,
+    disk: &mut Voids,
+) -> Result<String, AllocError>
+    requires { IsPassOf log.now pass.old }
+{
+    let mut cold = across::nothing_read(alloc, log, starts_of(alloc, PAGES)?)?;
+    let told = full_told(alloc, log, pass, &mut cold, disk);
+    drop(cold);
+    told
+}
+
+/// The same of a log that begins after all pages.
+fn log_told(alloc: Global, disk: &mut Voids) -> Result<String, AllocError> {
+    let (log, mut pass) = opened_at(alloc, base_of(PAGES), clamped(alloc)?)?;
+    let told = pages_told(alloc, &log, &mut pass, disk);
+    drop((log, pass));
+    told
+}
+
+#[test]
+fn a_full_scan_reads_each_page_once(rt: HostRuntime) -> Result<(), Fail> {
+    let mut disk = Voids { reads: 0 };
+    let told = log_told(rt.alloc(), &mut disk);
+    let reads = disk.reads;
+    drop(disk);
+    expect(&rt, told?.as_str(), "in 0..300 full 0..300");
+    assert_eq!(rt; reads, 300);
     Ok(())
 }

@@ -8,5 +8,6 @@ pub loop-bucket-preserved : goal.loop-bucket-preserved
 loop-bucket-preserved c =
     let n : ℕ = c.loop-bucket.bucket in
     let few = c.head_of.ensures in
-    subst (AreOlder 6 (n + 1)) (sym c.in_ok-push.ensures.ok)
-    (older_push 6 n c.head_of.result c.loop-bucket.heads (λ some. omega arith) c.loop-bucket.invariant)
+    let least = c.requires in
+    subst (AreOlder c.args.line (n + 1)) (sym c.in_ok-push.ensures.ok)
+    (older_push c.args.line n c.head_of.result c.loop-bucket.heads (λ some. omega arith) c.loop-bucket.invariant)
