@@ -1,5 +1,5 @@
 -- One statement more, a step between two statements, and the end of a lane's statements.
-use Rattle.std.proofs.Common.{◌≡◌, ℕ, ◌+◌, ◌≤◌, List, [], ◌∷◌, ◌++◌, take, refl, sym, ap, ◌∙◌, subst, inl, inr, ◌⊎◌}
+use Rattle.std.proofs.Common.{◌≡◌, ◌≢◌, ℕ, ◌+◌, ◌≤◌, List, [], ◌∷◌, ◌++◌, take, refl, sym, ap, ◌∙◌, subst, inl, inr, ◌⊎◌}
 use Rattle.std.proofs.Common.{⊎_elim, arith, length-append, append-nil, true, false, Bool}
 use Rattle.fish_lanes.proofs.Claims.{shuts_answers, shuts_more}
 use Rattle.fish_lanes.proofs.Done.{HasTold, item_told}
@@ -16,6 +16,7 @@ use Rattle.fish_lanes.specs.Seen.{Shown, settled, shown_by}
 use Rattle.fish_lanes.specs.Sizes.{TellsShut}
 use Rattle.fish_lanes.specs.Spans.{IsWithinSpan, Span, answers, is_answer, made_by}
 use Rattle.fish_lanes.specs.Telling.{TellsItem, content_of, count_of}
+use Rattle.fish_lanes.specs.declared.work.LaneFault.{LaneFault}
 use Rattle.fish_lanes.specs.declared.work.LaneFault.TheVariants as fault
 use Rattle.fish_lanes.specs.declared.work.Work.{Work}
 use Rattle.fish_report.specs.declared.item.Item.{Item}
@@ -27,6 +28,7 @@ use Rattle.fish_rule.specs.Views.{AllOf, Among}
 use Rattle.fish_rule.specs.declared.view.Key.{Key}
 use Rattle.fish_rule.specs.declared.view.View.{View}
 use Rattle.fish_whole.proofs.Wholes.{up_to_later}
+use Rattle.fish_whole.specs.Whole.{Whole}
 
 shown_either : (n : Shown) (items : List Item) (x : Item) → Among n (shown_in (items ++ x ∷ []))
     → Among n (shown_in items) ⊎ Among n (shown_by x)
@@ -69,8 +71,8 @@ within_before v u t s learns within =
     }
 
 -- a step that gains nothing and answers nothing
-pub told_on : (v u t : View) (works : List Work) (items : List Item) → HasTold v u works items → Gains u t []
-    → t.shut ≡ u.shut → HasTold v t works items
+pub told_on : {Past : Whole → Type 0} (v u t : View) (works : List Work) (items : List Item) → HasTold Past v u works items
+    → Gains u t [] → t.shut ≡ u.shut → HasTold Past v t works items
 told_on v u t works items h g same =
     let learns = g.on.learns in
     let version = learns.version in
@@ -78,9 +80,9 @@ told_on v u t works items h g same =
     record {
       rows = h.rows ++ [];
       gains = gains_both v u t h.rows [] h.gains g;
-      tells = λ past s within full w m far.
+      tells = λ past behind s within full w m far.
           subst (λ (r : List LaneRow). TellsAll w s [] [] r works items) (sym (append-nil h.rows))
-          (up_to_later past u t s.to _ learns (h.tells past s (within_before v u t s learns within) full) w m far);
+          (up_to_later past u t s.to _ learns (h.tells past behind s (within_before v u t s learns within) full) w m far);
       shown = λ n x m i low. published_later u t n learns
           (h.shown n x m i (let same : t.about.number ≡ u.about.number = ap (λ (z : Key). z.number) learns.about in omega arith));
       settles = λ k m. let a = h.settles k m in let e = learns.settled in omega arith;
@@ -91,11 +93,11 @@ told_on v u t works items h g same =
     }
 
 -- one statement more
-pub told_more : (v u t : View) (works : List Work) (items : List Item) (w : Work) (x : Item) (rows : List LaneRow)
-    → HasTold v u works items → Gains u t rows → contents rows ≡ take (count_of x) (content_of w)
-    → IsFit u t w x → TellsShut u t (x ∷ []) → u.learned.version + made_by x ≤ t.learned.version
-    → HasTold v t (works ++ w ∷ []) (items ++ x ∷ [])
-told_more v u t works items w x rows h g first fit shuts version =
+pub told_more : {Past : Whole → Type 0} (v u t : View) (works : List Work) (items : List Item) (w : Work) (x : Item) (rows : List LaneRow)
+    → HasTold Past v u works items → Gains u t rows → contents rows ≡ take (count_of x) (content_of w)
+    → IsFit Past u t w x → TellsShut u t (x ∷ []) → u.learned.version + made_by x ≤ t.learned.version
+    → HasTold Past v t (works ++ w ∷ []) (items ++ x ∷ [])
+told_more {Past} v u t works items w x rows h g first fit shuts version =
     let learns = g.on.learns in
     let settled_more = learns.settled in
     let known = h.versions in
@@ -104,20 +106,20 @@ told_more v u t works items w x rows h g first fit shuts version =
     record {
       rows = h.rows ++ rows;
       gains = gains_both v u t h.rows rows h.gains g;
-      tells = λ past s within full z m far.
+      tells = λ past behind s within full z m far.
           tells_more z s [] [] h.rows rows works items w x
-          (up_to_later past u t s.to _ learns (h.tells past s (within_before v u t s learns within) full) z m far) first
+          (up_to_later past u t s.to _ learns (h.tells past behind s (within_before v u t s learns within) full) z m far) first
           (subst (λ (k : Span). TellsItem z k h.rows (shown_in items) w x) (sym (behind_is items s))
-          (item_told v u t works items s h learns within full past w x fit z m far));
+          (item_told Past v u t works items s h learns within full past behind w x fit z m far));
       shown = λ n s m i low. ⊎_elim
           (λ (k : Among s (shown_in items)). published_later u t n learns (h.shown n s k i (omega arith)))
-          (λ (k : Among s (shown_by x)). item_shown u t learns.about w x n s fit k i low) (shown_either s items x m);
+          (λ (k : Among s (shown_by x)). item_shown u t learns.about Past w x n s fit k i low) (shown_either s items x m);
       settles = λ k m. ⊎_elim (λ (n : Among (settled k) (shown_in items)). (let a = h.settles k n in omega arith))
-          (λ (n : Among (settled k) (shown_by x)). item_settles u t learns.about w x k fit n)
+          (λ (n : Among (settled k) (shown_by x)). item_settles u t learns.about Past w x k fit n)
           (shown_either (settled k) items x m);
       size = (let a = length-append items (x ∷ []) in let b = length-append works (w ∷ []) in let e = h.size in
           omega arith);
-      full = all_more (IsFullItem t) items x (fulls_later u t items learns.about g.shut h.full) (full_fit u t w x fit);
+      full = all_more (IsFullItem t) items x (fulls_later u t items learns.about g.shut h.full) (full_fit Past u t w x fit);
       versions = omega arith;
       shuts = shuts_more v u t items x h.shuts shuts;
     }
@@ -151,34 +153,64 @@ fulls_all u (x ∷ items) h = by (is_answer x) refl h (fulls_all u items)
 -- ---- the end
 
 -- all statements are done
-pub run_ended : (v u : View) (works : List Work) (items : List Item) → HasTold v u works (answers items)
-    → HasRun v u works items fault.None
+pub run_ended : {Past : Whole → Type 0} (v u : View) (works : List Work) (items : List Item)
+    → HasTold Past v u works (answers items) → HasRun Past v u works items fault.None
 run_ended v u works items h = record {
   rows = h.rows;
   gains = h.gains;
-  tells = λ past s within full w m far.
-      tells_ended w s [] [] h.rows works (answers items) (h.tells past s within full w m far);
+  tells = λ past behind s within full w m far.
+      tells_ended w s [] [] h.rows works (answers items) (h.tells past behind s within full w m far);
   full = fulls_all u items h.full;
   ended = record { whole = λ _. h.size; cut = λ bad. absurd (bad refl) };
   shuts = λ _. shuts_answers v u items h.shuts;
 }
 
 -- or those up to one of which a part was done
-pub run_cut : (v u t : View) (works : List Work) (items : List Item) (w : Work) (later : List Work) (rows : List LaneRow)
-    (count : ℕ) → HasTold v u works (answers items) → Gains u t rows → contents rows ≡ take count (content_of w)
-    → HasRun v t (works ++ w ∷ later) items fault.Memory
-run_cut v u t works items w later rows count h g first =
+pub run_cut : {Past : Whole → Type 0} (v u t : View) (works : List Work) (items : List Item) (w : Work) (later : List Work)
+    (rows : List LaneRow)
+    (count : ℕ) (why : LaneFault) → why ≢ fault.None → HasTold Past v u works (answers items) → Gains u t rows
+    → contents rows ≡ take count (content_of w) → HasRun Past v t (works ++ w ∷ later) items why
+run_cut v u t works items w later rows count why named h g first =
     let learns = g.on.learns in
     record {
       rows = h.rows ++ rows;
       gains = gains_both v u t h.rows rows h.gains g;
-      tells = λ past s within full z m far.
+      tells = λ past behind s within full z m far.
           tells_cut z s [] [] h.rows rows works (answers items) w later count
-          (up_to_later past u t s.to _ learns (h.tells past s (within_before v u t s learns within) full) z m far) first;
+          (up_to_later past u t s.to _ learns (h.tells past behind s (within_before v u t s learns within) full) z m far) first;
       full = fulls_later u t items learns.about g.shut (fulls_all u items h.full);
       ended = record {
-        whole = λ e. absurd cc;
+        whole = λ e. absurd (named e);
         cut = λ _. let a = length-append works (w ∷ later) in let e = h.size in omega arith;
       };
-      shuts = λ e. absurd cc;
+      shuts = λ e. absurd (named e);
     }
+
+-- ---- fewer pasts
+
+-- what is told behind some pasts is told behind each of these
+pub told_fewer : (P Q : Whole → Type 0) (v u : View) (works : List Work) (items : List Item) → ((past : Whole) → Q past → P past)
+    → HasTold P v u works items → HasTold Q v u works items
+told_fewer P Q v u works items fewer h = record {
+  rows = h.rows;
+  gains = h.gains;
+  tells = λ past behind. h.tells past (fewer past behind);
+  shown = h.shown;
+  settles = h.settles;
+  size = h.size;
+  full = h.full;
+  versions = h.versions;
+  shuts = h.shuts;
+}
+
+-- so is what a run told
+pub run_fewer : (P Q : Whole → Type 0) (v u : View) (works : List Work) (items : List Item) (why : LaneFault)
+    → ((past : Whole) → Q past → P past) → HasRun P v u works items why → HasRun Q v u works items why
+run_fewer P Q v u works items why fewer h = record {
+  rows = h.rows;
+  gains = h.gains;
+  tells = λ past behind. h.tells past (fewer past behind);
+  full = h.full;
+  ended = h.ended;
+  shuts = h.shuts;
+}

@@ -1,7 +1,7 @@
 -- What a scan or a plan of one answers is told of the one log.
-use Rattle.std.proofs.Common.{◌≡◌, ℕ, ◌+◌, ◌<◌, ◌≤◌, zero, suc, List, [], ◌∷◌, length, map, refl, sym, ap, ◌∙◌, subst, inl, inr}
-use Rattle.std.proofs.Common.{◌⊎◌, ⊎_elim, arith, Option, Some, None, Result, Ok, Err, slice_get, cond, nat_lt, true, false, Bool}
-use Rattle.std.specs.Prelude.{IfOk}
+use Rattle.std.proofs.Common.{◌≡◌, ℕ, ◌+◌, ◌<◌, ◌≤◌, zero, suc, List, [], ◌∷◌, ◌++◌, length, map, max, min, refl, sym, ap, ◌∙◌, subst}
+use Rattle.std.proofs.Common.{append_assoc, inl, inr, ◌⊎◌, ⊎_elim, arith, Option, Some, None, slice_get, cond}
+use Rattle.std.proofs.Common.{nat_lt, true, false, Bool}
 use Rattle.std.proofs.Math.Decide.{ℕ_discrete, dec_lt}
 use Rattle.std.proofs.lemmas.Option.{same_Some}
 use Rattle.fish_catalog.specs.declared.entry.Entry.{Entry}
@@ -9,24 +9,22 @@ use Rattle.fish_catalog.specs.declared.entry.Entry.TheVariants as entry
 use Rattle.fish_catalog.specs.declared.listed.Listed.{Listed}
 use Rattle.fish_epoch.specs.Definitions.{rows_of, version_of}
 use Rattle.fish_epoch.specs.declared.definitions.Known.{Known}
+use Rattle.fish_lanes.proofs.Across.{parts_selected}
 use Rattle.fish_lanes.proofs.Publishing.{settled_published}
 use Rattle.fish_lang.specs.Definition.{Definition}
-use Rattle.fish_lanes.specs.Doing.{FitsExplained, FitsRefused, FitsScanned, IsPlannedAt, IsRefusedAt, IsScanned}
-use Rattle.fish_lanes.specs.Doing.{cause_of, explained_item, refusal_of, scanned_item}
-use Rattle.fish_lanes.specs.Loading.{LoadsWithin}
+use Rattle.fish_lanes.specs.Doing.{FindsAcross}
+use Rattle.fish_lanes.specs.Doing.{IsPlannedAt, IsRefusedAt, IsScanned}
 use Rattle.fish_lanes.specs.Published.{IsPublished}
 use Rattle.fish_lanes.specs.Scanning.{AreOpen, HasRows, HoldsSeen, IsAskedFor, IsAskedRange, IsRefusedFor, TellsPlan}
-use Rattle.fish_lanes.specs.Scanning.{TellsScan, selected}
+use Rattle.fish_lanes.specs.Scanning.{TellsScan}
 use Rattle.fish_lanes.specs.Spans.{IsWithinSpan, Span}
-use Rattle.fish_plan.proofs.Inside.{full_is_plan, index_inside, piece_within}
-use Rattle.fish_plan.specs.Pieces.{Fill, one_full}
+use Rattle.fish_plan.proofs.Inside.{index_inside, piece_within}
+use Rattle.fish_plan.specs.Pieces.{one_full}
 use Rattle.fish_plan.specs.declared.pieces.Piece.{Piece}
 use Rattle.fish_plan.specs.declared.pieces.Piece.TheVariants.{Full, Index}
 use Rattle.fish_psf.specs.Records.{evaluation}
 use Rattle.fish_psf.specs.Select.{select}
 use Rattle.fish_psf.specs.Select as log
-use Rattle.fish_report.specs.declared.item.Item.{Item}
-use Rattle.fish_report.specs.declared.item.Item.TheVariants as item
 use Rattle.fish_report.specs.declared.item.ScanCause.{ScanCause}
 use Rattle.fish_report.specs.declared.item.ScanCause.TheVariants as cause
 use Rattle.fish_rule.proofs.laws.ClosedLogs.{always_closed}
@@ -44,13 +42,10 @@ use Rattle.fish_rule.proofs.laws.Members.{at_among}
 use Rattle.fish_scan.proofs.Selecting.{finds_selection}
 use Rattle.fish_scan.specs.Laws.{IsSpelled}
 use Rattle.fish_scan.specs.Matching.{Finds}
+use Rattle.fish_scan.specs.Older.{selectable}
 use Rattle.fish_scan.specs.Reach.{IsRange, Rise, end_of}
-use Rattle.fish_scan.specs.Scans.{IsAnswer, IsCovered, IsExplained, IsNamed, IsPlan, IsRefused, IsUncovered, first_asked}
-use Rattle.fish_scan.specs.declared.ask.Answer.{Answer}
+use Rattle.fish_scan.specs.Scans.{IsCovered, IsNamed, IsPlan, IsUncovered, first_asked}
 use Rattle.fish_scan.specs.declared.ask.Ask.{Ask}
-use Rattle.fish_scan.specs.declared.ask.Explained.{Explained}
-use Rattle.fish_scan.specs.declared.refusal.ScanRefusal.{ScanRefusal}
-use Rattle.fish_scan.specs.declared.refusal.ScanRefusal.TheVariants as refusal
 use Rattle.fish_scan.specs.declared.ask.How.{How}
 use Rattle.fish_scan.specs.declared.ask.How.TheVariants as how
 use Rattle.fish_value.specs.declared.field.Form.{Form}
@@ -63,20 +58,20 @@ use Rattle.fish_whole.specs.Whole.{MayHold, Sure, SureUpTo, Whole}
 
 -- the entries as a selection reads them
 get_selected : (entries : List Entry) (n lane : ℕ) (form : Form) (payload : List ℕ)
-    → slice_get (map selected entries) n ≡ Some (log.stored lane form payload)
+    → slice_get (map selectable entries) n ≡ Some (log.stored lane form payload)
     → slice_get entries n ≡ Some (entry.Stored lane form payload)
 get_selected [] n lane form payload at = absurd cc
 get_selected (x ∷ entries) zero lane form payload at = ap Some (stored x (same_Some _ _ at))
   where
-    stored : (x : Entry) → selected x ≡ log.stored lane form payload → x ≡ entry.Stored lane form payload
+    stored : (x : Entry) → selectable x ≡ log.stored lane form payload → x ≡ entry.Stored lane form payload
     stored (entry.Stored l f p) e = cc
     stored entry.Void e = absurd cc
 get_selected (x ∷ entries) (suc n) lane form payload at = get_selected entries n lane form payload at
 
 selected_get : (entries : List Entry) (n : ℕ) (e : Entry) → slice_get entries n ≡ Some e
-    → slice_get (map selected entries) n ≡ Some (selected e)
+    → slice_get (map selectable entries) n ≡ Some (selectable e)
 selected_get [] n e at = absurd cc
-selected_get (x ∷ entries) zero e at = ap (λ (z : Entry). Some (selected z)) (same_Some _ _ at)
+selected_get (x ∷ entries) zero e at = ap (λ (z : Entry). Some (selectable z)) (same_Some _ _ at)
 selected_get (x ∷ entries) (suc n) e at = selected_get entries n e at
 
 -- whether a number is among others
@@ -110,29 +105,41 @@ asked_range v u k ask from to opens inside range = record {
 }
 
 -- numbers that rise lie in their range
-rise_above : (low high n : ℕ) (ns : List ℕ) → Rise low high ns → Among n ns → low ≤ n
+pub rise_above : (low high n : ℕ) (ns : List ℕ) → Rise low high ns → Among n ns → low ≤ n
 rise_above low high n [] up m = elim m [ ]
 rise_above low high n (k ∷ ns) up (inl e) = (let a = up.0 in omega arith)
 rise_above low high n (k ∷ ns) up (inr m) =
     (let a = up.0 in let b = rise_above (suc k) high n ns up.1 m in omega arith)
 
 module _ (v u : View) (ask : Ask) (from to : ℕ) (opens : List ℕ) (range : IsRange v u (first_asked ask) ask.to from to opens)
-    (on : Learns v u) (based : v.about.number ≤ from) (past w : Whole) (m : MayHold past u w) where
+    (on : Learns v u) (known : v.about.number ≤ v.learned.count) (past w : Whole) (m : MayHold past u w) where
   -- the table begins where the whole has what stood before it
   base_is : (m.last.about.number ≡ v.about.number) × (length past.log ≡ v.about.number)
   base_is =
       let same : m.last.about.number ≡ v.about.number = ap (λ (z : Key). z.number) (m.learns.about ∙ on.about) in
       (same, sym m.base ∙ same)
 
-  -- a published number that was asked for lies before the end
-  before : (n : ℕ) → IsPublished v n → IsAskedFor ask n → n < to
-  before n p asked = ⊎_elim
+  -- a number of the table that is published and was asked for lies before the end
+  before : (n : ℕ) → v.about.number ≤ n → IsPublished v n → IsAskedFor ask n → n < to
+  before n above p asked = ⊎_elim
       (λ (e : to ≡ end_of ask.to range.count). let counted = p.counted in let known = range.known in
       let less : n < end_of ask.to range.count = before_end ask.to range.count n (omega arith) asked.below in omega arith)
-      (λ (mark : TellsMark u to). let base = base_is.0 in let first = range.first_is in
+      (λ (mark : TellsMark u to × (u.about.number ≤ to)). let base = base_is.0 in
+      let here : u.about.number ≡ v.about.number = ap (λ (z : Key). z.number) on.about in
+      let first = mark.1 in
       before_mark m.closed.rule to n (omega arith)
-      (always_closed u m.last (λ k x. high (x.dir to) ≡ code Mark) m.remains m.learns m.closed mark)
+      (always_closed u m.last (λ k x. high (x.dir to) ≡ code Mark) m.remains m.learns m.closed mark.0)
       (always_closed v m.last (λ k x. IsEntryWord (x.dir n)) m.remains (learns_both v u m.last on m.learns) m.closed p.entry))
+      range.stops
+
+  -- so does one below the table
+  before_older : (n : ℕ) → n < v.about.number → IsAskedFor ask n → n < to
+  before_older n below asked = ⊎_elim
+      (λ (e : to ≡ end_of ask.to range.count). let counted = range.known in
+      let less : n < end_of ask.to range.count = before_end ask.to range.count n (omega arith) asked.below in omega arith)
+      (λ (mark : TellsMark u to × (u.about.number ≤ to)).
+      let here : u.about.number ≡ v.about.number = ap (λ (z : Key). z.number) on.about in
+      let first = mark.1 in omega arith)
       range.stops
 
   -- and isn't open
@@ -140,66 +147,108 @@ module _ (v u : View) (ask : Ask) (from to : ℕ) (opens : List ℕ) (range : Is
   closed n p o = (range.were n o).unknown p.entry
 
   -- so the range holds what is known to be published
-  pub holds_seen : (seen : ℕ → Type 0) → ((n : ℕ) → seen n → v.about.number ≤ n → IsPublished v n) → HoldsSeen w seen ask from to opens
-  holds_seen seen published = record {
-    each = λ n s within asked.
-        let least = asked.above in
-        let first = range.first_is in
-        let p = published n s (omega arith) in
-        let less = before n p asked in
-        (omega arith, less, closed n p);
-  }
-
-  -- the open numbers
-  pub open_numbers : (k : Span) → IsWithinSpan v u k → k.to ≤ length past.log + length m.remains.log
-      → AreOpen k.from k.to w.log from to opens
-  open_numbers k inside far = record {
-    rise = range.rise;
-    first = λ n o. pick_first n o (dec_lt n k.from);
-    apart = λ i j lane f g p q one other below_i below_j at_i at_j.
-        let base = base_is.1 in
-        let above_i = rise_above from to i opens range.rise one in
-        let above_j = rise_above from to j opens range.rise other in
-        always_closed u m.last (λ k x. IsEntry x i (entry.Stored lane f p) → IsEntry x j (entry.Stored lane g q) → i ≡ j) m.remains
-        m.learns m.closed (range.apart i j lane f g p q one other)
-        (entry_there past u w m i (entry.Stored lane f p) (omega arith) (omega arith) at_i)
-        (entry_there past u w m j (entry.Stored lane g q) (omega arith) (omega arith) at_j);
-    behind = λ n above below past_end. pick n above below past_end (among_or n opens);
-  }
+  pub holds_all : (seen : ℕ → Type 0) → ((n : ℕ) → seen n → v.about.number ≤ n → IsPublished v n) → HoldsSeen w seen ask from to []
+  holds_all seen published = record { each = λ n s within asked. pick n s asked (dec_lt n v.about.number) }
     where
-      pick_first : (n : ℕ) → Among n opens → Dec (n < k.from) → k.from ≤ n
-      pick_first n o (no not_less) = omega arith
-      pick_first n o (yes less) =
-          let above = rise_above from to n opens range.rise o in
-          let settled = inside.settled in
-          let counted = inside.counted in
-          absurd (closed n (settled_published v n (omega arith) (omega arith) (omega arith)) o)
+      pick : (n : ℕ) → seen n → IsAskedFor ask n → Dec (n < v.about.number) → (from ≤ n) × (n < to) × ¬ Among n []
+      pick n s asked (yes below) =
+          let least = asked.above in
+          let first = range.first_is in
+          let less = before_older n below asked in
+          (omega arith, less, λ o. elim o [ ])
+      pick n s asked (no not_below) =
+          let least = asked.above in
+          let first = range.first_is in
+          let less = before n (omega arith) (published n s (omega arith)) asked in
+          (omega arith, less, λ o. elim o [ ])
 
-      pick : (n : ℕ) → from ≤ n → n < to → k.to ≤ n → Dec (Among n opens) → Among n opens
-      pick n above below past_end (yes o) = o
-      pick n above below past_end (no none) =
-          (let less = inside.entries n (range.others n (omega arith) above below none) in absurd (omega arith))
+  module _ (opened : (n : ℕ) → Among n opens → v.about.number ≤ n) where
+    -- less the open numbers
+    pub holds_seen : (seen : ℕ → Type 0) → ((n : ℕ) → seen n → v.about.number ≤ n → IsPublished v n)
+        → HoldsSeen w seen ask from to opens
+    holds_seen seen published = record {
+      each = λ n s within asked.
+          let h = (holds_all seen published).each n s within asked in
+          (h.0, h.1, λ o. closed n (published n s (opened n o)) o);
+    }
 
-  -- in the moment of the close the words spell the entries of the whole in the range
-  spelled : IsSpelled m.closed.moment from to opens (map selected w.log)
-  spelled n lane form payload above below free = (
-    λ at.
-        let base = base_is.1 in
-        entry_there past u w m n (entry.Stored lane form payload) (omega arith)
-        (word_there past u w m n (omega arith) (range.others n (omega arith) above below free))
-        (get_selected w.log n lane form payload at),
-    λ is.
-        let base = base_is.1 in
-        selected_get w.log n (entry.Stored lane form payload) (entry_here past u w m n (entry.Stored lane form payload) (omega arith) is),
-  )
+    -- the open numbers
+    pub open_numbers : (k : Span) → IsWithinSpan v u k → k.to ≤ length past.log + length m.remains.log
+        → AreOpen k.from k.to w.log from to opens
+    open_numbers k inside far = record {
+      rise = range.rise;
+      first = λ n o. pick_first n o (dec_lt n k.from);
+      apart = λ i j lane f g p q one other below_i below_j at_i at_j.
+          let base = base_is.1 in
+          let above_i = opened i one in
+          let above_j = opened j other in
+          always_closed u m.last (λ k x. IsEntry x i (entry.Stored lane f p) → IsEntry x j (entry.Stored lane g q) → i ≡ j) m.remains
+          m.learns m.closed (range.apart i j lane f g p q one other)
+          (entry_there past u w m i (entry.Stored lane f p) (omega arith) (omega arith) at_i)
+          (entry_there past u w m j (entry.Stored lane g q) (omega arith) (omega arith) at_j);
+      behind = λ n above below past_end. pick n above below past_end (among_or n opens);
+    }
+      where
+        pick_first : (n : ℕ) → Among n opens → Dec (n < k.from) → k.from ≤ n
+        pick_first n o (no not_less) = omega arith
+        pick_first n o (yes less) =
+            let above = opened n o in
+            let settled = inside.settled in
+            let counted = inside.counted in
+            absurd (closed n (settled_published v n (omega arith) (omega arith) (omega arith)) o)
 
-  -- and the rows are the selection of them
-  pub rows_selected : (a : Definition) (rows : List Row) → Finds u a ask.value from to opens rows
-      → rows ≡ select (map selected w.log) (evaluation a) ask.value from to opens
-  rows_selected a rows finds =
-      always_closed u m.last (λ k x. (l : List log.Entry) → IsSpelled x from to opens l
-      → rows ≡ select l (evaluation a) ask.value from to opens) m.remains m.learns m.closed
-      (finds_selection u a ask.value from to opens rows finds) (map selected w.log) spelled
+        pick : (n : ℕ) → from ≤ n → n < to → k.to ≤ n → Dec (Among n opens) → Among n opens
+        pick n above below past_end (yes o) = o
+        pick n above below past_end (no none) =
+            let base = inside.above in
+            let settled = inside.settled in
+            let more = on.settled in
+            let stored = inside.stored in
+            let less = inside.entries n (range.others n (omega arith) above below none) in
+            absurd (omega arith)
+
+    -- where the part of the range begins that is in the table
+    abbrev pub first_here : ℕ
+    first_here = min (max from v.about.number) to
+
+    -- in the moment of the close the words spell the entries of the whole in that part
+    spelled : IsSpelled m.closed.moment first_here to opens (map selectable w.log)
+    spelled n lane form payload above below free = (
+      λ at.
+          let base = base_is.1 in
+          entry_there past u w m n (entry.Stored lane form payload) (omega arith)
+          (word_there past u w m n (omega arith) (range.others n (omega arith) (omega arith) below free))
+          (get_selected w.log n lane form payload at),
+      λ is.
+          let base = base_is.1 in
+          selected_get w.log n (entry.Stored lane form payload)
+          (entry_here past u w m n (entry.Stored lane form payload) (omega arith) is),
+    )
+
+    -- and the rows there are the selection of them
+    upper_selected : (a : Definition) (rows : List Row) → Finds u a ask.value first_here to opens rows
+        → rows ≡ select (map selectable w.log) (evaluation a) ask.value first_here to opens
+    upper_selected a rows finds =
+        always_closed u m.last (λ k x. (l : List log.Entry) → IsSpelled x first_here to opens l
+        → rows ≡ select l (evaluation a) ask.value first_here to opens) m.remains m.learns m.closed
+        (finds_selection u a ask.value first_here to opens rows finds) (map selectable w.log) spelled
+
+    -- with those from before the table the rows are the selection of the whole
+    pub rows_selected : (a : Definition) (rows : List Row) → FindsAcross past u a ask.value from to opens rows
+        → rows ≡ select (map selectable w.log) (evaluation a) ask.value from to opens
+    rows_selected a rows f =
+        let size = base_is.1 in
+        let same : u.about.number ≡ v.about.number = ap (λ (z : Key). z.number) on.about in
+        let base : u.about.number ≡ length past.log = same ∙ sym size in
+        let upper : f.upper ≡ select (map selectable w.log) (evaluation a) ask.value (min (max from (length past.log)) to) to opens =
+        upper_selected a f.upper (subst (λ (n : ℕ). Finds u a ask.value (min (max from n) to) to opens f.upper) same f.above)
+        ∙ ap (λ (n : ℕ). select (map selectable w.log) (evaluation a) ask.value (min (max from n) to) to opens) (sym size) in
+        let lower : f.lower ≡ select (map selectable past.log) (evaluation a) ask.value from (min to (length past.log)) [] =
+        f.below ∙ ap (λ (n : ℕ). select (map selectable past.log) (evaluation a) ask.value from (min to n) []) base in
+        f.rows_are ∙ (λ i. upper i ++ lower i)
+        ∙ parts_selected w.log past.log (m.remains.log ++ m.behind.starts.0)
+        (m.behind.starts.1 ∙ append_assoc past.log m.remains.log m.behind.starts.0) (evaluation a) ask.value from to opens
+        (λ n o. let above = opened n o in omega arith)
 
 -- what a scan showed is published
 pub range_published : (v u : View) (ask : Ask) (from to : ℕ) (opens : List ℕ) (n : ℕ)
@@ -229,14 +278,7 @@ named_version v u known ask version place is named =
 
 -- ---- plans
 
--- the pieces of a plan fill its range
-plan_fills : (v u : View) (rows : List Listed) (text : List ℕ) (way : How) (from settled to : ℕ) (plan : List Piece) → from ≤ to
-    → IsPlan v u rows text way from settled to plan → Fill plan from to
-plan_fills v u rows text how.Full from settled to plan le h =
-    subst (λ (z : List Piece). Fill z from to) (sym h) (full_is_plan from to [] le).fill
-plan_fills v u rows text how.Auto from settled to plan le h = h.cover.fill
-plan_fills v u rows text how.Index from settled to plan le h = h.0.cover.fill
-
+-- a plan by reading number by number is one piece
 plan_full : (v u : View) (rows : List Listed) (text : List ℕ) (way : How) (from settled to : ℕ) (plan : List Piece)
     → IsPlan v u rows text way from settled to plan → way ≡ how.Full → plan ≡ one_full from to
 plan_full v u rows text way from settled to plan h is =
@@ -273,17 +315,18 @@ plan_indexed v u rows text how.Index from settled to plan h place id begin end t
 
 module _ (v u : View) (ask : Ask) (on : Learns v u) (seen : ℕ → Type 0)
     (published : (n : ℕ) → seen n → v.about.number ≤ n → IsPublished v n) (k : Span) (inside : IsWithinSpan v u k) (past : Whole) where
-  -- a range that was answered begins in the table
-  in_table : (from : ℕ) → u.about.number ≤ from → v.about.number ≤ from
-  in_table from base = (let same : u.about.number ≡ v.about.number = ap (λ (z : Key). z.number) on.about in omega arith)
+  -- the pass had counted what stood before the table
+  older_counted : v.about.number ≤ v.learned.count
+  older_counted = (let above = inside.above in let counted = inside.counted in omega arith)
 
   -- a scan
-  pub scan_told : (from to : ℕ) (opens : List ℕ) (rows : List Row) (version : ℕ) → IsScanned v u ask from to opens rows version
-      → SureUpTo past u k.to (λ w. TellsScan w k seen ask from to opens rows version)
-  scan_told from to opens rows version s w m far =
-      let a = s.answer in
-      let e = a.explained.planned in
-      let based = in_table from a.explained.base in
+  pub scan_told : (Past : Whole → Type 0) → Past past → (from to : ℕ) (opens : List ℕ) (rows : List Row) (version : ℕ)
+      → IsScanned Past v u ask from to opens rows version → SureUpTo past u k.to (λ w. TellsScan w k seen ask from to opens rows version)
+  scan_told Past behind from to opens rows version s w m far =
+      let a = s.answer past behind in
+      let e = a.planned in
+      let opened : (n : ℕ) → Among n opens → v.about.number ≤ n =
+      λ n o. subst (λ (z : Key). z.number ≤ n) on.about (s.opened n o) in
       record {
         range = asked_range v u k ask from to opens inside e.range;
         def = a.def;
@@ -294,9 +337,9 @@ module _ (v u : View) (ask : Ask) (on : Learns v u) (seen : ℕ → Type 0)
           newest = e.asked.named.newest;
           accepted = a.means;
         };
-        rows_are = rows_selected v u ask from to opens e.range on based past w m a.def rows a.found;
-        holds = holds_seen v u ask from to opens e.range on based past w m seen published;
-        are_open = open_numbers v u ask from to opens e.range on based past w m k inside far;
+        rows_are = rows_selected v u ask from to opens e.range on older_counted past w m opened a.def rows a.found;
+        holds = holds_seen v u ask from to opens e.range on older_counted past w m opened seen published;
+        are_open = open_numbers v u ask from to opens e.range on older_counted past w m opened k inside far;
       }
 
   -- a plan
@@ -310,9 +353,8 @@ module _ (v u : View) (ask : Ask) (on : Learns v u) (seen : ℕ → Type 0)
         has = has_rows past v u s.known ask e.place version k inside s.version_is e.asked.named w m;
         place = e.place;
         newest = e.asked.named.newest;
-        opens = s.opens;
-        holds = holds_seen v u ask from to s.opens e.range on (in_table from s.explained.base) past w m seen published;
-        fill = plan_fills v u _ _ ask.how from e.settled to plan (let f = e.range.first_is in omega arith) e.plan_is;
+        holds = holds_all v u ask from to s.opens e.range on older_counted past w m seen published;
+        fill = s.explained.fill;
         full = plan_full v u _ _ ask.how from e.settled to plan e.plan_is;
         indexed = λ at id begin end there.
             let i = plan_indexed v u (rows_of s.known) _ ask.how from e.settled to plan e.plan_is at id begin end there in
@@ -355,72 +397,3 @@ module _ (v u : View) (ask : Ask) (on : Learns v u) (seen : ℕ → Type 0)
   refused_told version (cause.NotCovered from to) s w m =
       let g = gap_told from to s.known s.refused.1 w m in
       (s.refused.0, g.0, g.1, g.2, g.3)
-
--- ---- refusals
-
--- the version of a refusal is one that the pass loaded in the call
-pub refused_version : (v u : View) (ask : Ask) (version : ℕ) (why : ScanCause) → IsRefusedAt v u ask version why
-    → (v.learned.version ≤ version) × (version ≤ u.learned.version)
-refused_version v u ask version cause.UnknownName s =
-    (let is = s.version_is in let most = s.refused.2.rows.reached in (s.refused.4, omega arith))
-refused_version v u ask version (cause.EmptyRange from to) s =
-    named_version v u s.known ask version s.refused.1.0 s.version_is s.refused.1.1
-refused_version v u ask version (cause.NotCovered from to) s =
-    named_version v u s.known ask version s.refused.1.place s.version_is s.refused.1.asked.named
-
--- what an item tells of a refusal is why it was refused
-pub refused_fits : (v u : View) (known : Known) (ask : Ask) (r : ScanRefusal) (version : ℕ) (why : ScanCause)
-    → IsRefused v u known ask r → cause_of r ≡ Some why → version ≡ version_of known → IsRefusedAt v u ask version why
-refused_fits v u known ask (refusal.UnknownName n) version why h is at = record {
-  known = known;
-  version_is = at;
-  refused = subst (λ (z : ScanRefusal). IsRefused v u known ask z)
-      (ap refusal.UnknownName (h.0 ∙ sym at) ∙ ap (refusal_of version) (same_Some _ _ is)) h;
-}
-refused_fits v u known ask (refusal.EmptyRange from to) version why h is at = record {
-  known = known;
-  version_is = at;
-  refused = subst (λ (z : ScanRefusal). IsRefused v u known ask z) (ap (refusal_of version) (same_Some _ _ is)) h;
-}
-refused_fits v u known ask (refusal.NotCovered from to) version why h is at = record {
-  known = known;
-  version_is = at;
-  refused = subst (λ (z : ScanRefusal). IsRefused v u known ask z) (ap (refusal_of version) (same_Some _ _ is)) h;
-}
-refused_fits v u known ask (refusal.ColdRange base) version why h is at = absurd cc
-refused_fits v u known ask refusal.DiskFault version why h is at = absurd cc
-refused_fits v u known ask (refusal.Damaged number) version why h is at = absurd cc
-refused_fits v u known ask refusal.OutOfMemory version why h is at = absurd cc
-
--- ---- items
-
--- what was answered as an item
-pub scanned_fits : (v u : View) (known : Known) (ask : Ask) (answer : Answer) (version : ℕ) {E : Type 0} (r : Result Item E)
-    → IsAnswer v u known ask answer → LoadsWithin v u ask.value answer → version ≡ version_of known
-    → IfOk r (λ x. x ≡ scanned_item ask answer version)
-    → IfOk r (λ x. FitsScanned v u ask x ⊎ FitsRefused v u ask item.ScanRefused x)
-scanned_fits v u known ask answer version (Err e) h loads at made = tt
-scanned_fits v u known ask answer version (Ok x) h loads at made = inl (record {
-  from = answer.from;
-  to = answer.to;
-  opens = answer.opens;
-  rows = answer.rows;
-  version = version;
-  is = made;
-  fits = record { known = known; version_is = at; plan = answer.plan; answer = h; loads = loads };
-})
-
--- and a plan
-pub planned_fits : (v u : View) (known : Known) (ask : Ask) (explained : Explained) (version : ℕ) {E : Type 0} (r : Result Item E)
-    → ((opens : List ℕ) × IsExplained v u known ask explained.from explained.to opens explained.plan)
-    → version ≡ version_of known → IfOk r (λ x. x ≡ explained_item ask explained version)
-    → IfOk r (λ x. FitsExplained v u ask x ⊎ FitsRefused v u ask item.ExplainRefused x)
-planned_fits v u known ask explained version (Err e) h at made = tt
-planned_fits v u known ask explained version (Ok x) h at made = inl (record {
-  from = explained.from;
-  to = explained.to;
-  plan = explained.plan;
-  version = version;
-  is = made;
-  fits = record { known = known; version_is = at; opens = h.0; explained = h.1 };
-})

@@ -1,9 +1,10 @@
 -- The statements of the first lane so far, with the definitions that their items tell.
-use Rattle.std.proofs.Common.{◌≡◌, ℕ, ◌+◌, ◌≤◌, List, [], ◌∷◌, ◌++◌, take, refl, sym, ap, ◌∙◌, subst, inl, inr, arith}
+use Rattle.std.proofs.Common.{◌≡◌, ◌≢◌, ℕ, ◌+◌, ◌≤◌, List, [], ◌∷◌, ◌++◌, take, refl, sym, ap, ◌∙◌, subst, inl, inr, arith}
 use Rattle.std.proofs.Common.{zero, suc, Some, None, Result, Ok, Err}
 use Rattle.std.specs.Prelude.{IfErr, IfOk}
-use Rattle.fish_lanes.proofs.Advancing.{answers_more, answers_same, run_cut, run_ended, told_more, told_on}
-use Rattle.fish_lanes.proofs.Answered.{named_version, refused_version}
+use Rattle.fish_lanes.proofs.Advancing.{answers_more, answers_same, run_cut, run_ended, told_fewer, told_more, told_on}
+use Rattle.fish_lanes.proofs.Answered.{named_version}
+use Rattle.fish_lanes.proofs.Fitting.{refused_version}
 use Rattle.fish_lanes.proofs.Done.{HasTold, told_self}
 use Rattle.fish_lanes.proofs.Covering.{bounds_before, bounds_in, bounds_read}
 use Rattle.fish_lanes.proofs.Lists.{all_more}
@@ -12,7 +13,7 @@ use Rattle.fish_lanes.proofs.Plans.{fit_so, plans_beside, plans_later, plans_lon
 use Rattle.fish_lanes.proofs.Registrations.{after_more, registry_later}
 use Rattle.fish_lanes.proofs.Showing.{fit_answer}
 use Rattle.fish_lanes.proofs.Gaining.{alone_gains}
-use Rattle.fish_lanes.proofs.Single.{fit_closed, fit_single, none_there, only_last, only_later, some_there}
+use Rattle.fish_lanes.proofs.Single.{fit_closed, fit_single, none_there, only_fewer, only_last, only_later, some_there}
 use Rattle.fish_lanes.specs.Controlling.{Does, HasControlled, HasPolled, IsControlled, IsPartControlled, RollsBy, TellsTail}
 use Rattle.fish_lanes.specs.Doing.{GainsFirst, IsFit, IsItem, IsPart}
 use Rattle.fish_lanes.specs.Ending.{HasEnd}
@@ -25,6 +26,7 @@ use Rattle.fish_lanes.specs.Running.{IsFree}
 use Rattle.fish_lanes.specs.Single.{NamesNone, TellsOnly, TellsSingle}
 use Rattle.fish_lanes.specs.Spans.{answers, made_by}
 use Rattle.fish_lanes.specs.Telling.{content_of, count_of}
+use Rattle.fish_lanes.specs.declared.work.LaneFault.{LaneFault}
 use Rattle.fish_lanes.specs.declared.work.LaneFault.TheVariants as fault
 use Rattle.fish_lanes.specs.declared.work.Work.{Work}
 use Rattle.fish_lanes.specs.declared.work.Work.TheVariants as work
@@ -40,6 +42,7 @@ use Rattle.fish_rule.specs.Table.{Stands}
 use Rattle.fish_rule.specs.Views.{AllOf}
 use Rattle.fish_rule.specs.declared.view.Epoch.TheVariants.{Out}
 use Rattle.fish_rule.specs.declared.view.View.{View}
+use Rattle.fish_whole.specs.Whole.{Whole}
 
 -- ---- items that are so
 
@@ -95,17 +98,17 @@ each_more P r (y ∷ items) x h one = (h.0, each_more P (after r y) items x h.1 
 -- ---- statements that change no definition
 
 -- their items change none
-pub free_after : (u t : View) (w : Work) (x : Item) (r : Registry) → IsFree w → IsFit u t w x → after r x ≡ r
-free_after u t (work.Register name def) x r free f = elim free [ ]
-free_after u t (work.Deregister name) x r free f = elim free [ ]
-free_after u t (work.Ingest form header name file) x r free (inl f) = ap (after r) f.is
-free_after u t (work.Ingest form header name file) x r free (inr (inl f)) = ap (after r) f.is
-free_after u t (work.Ingest form header name file) x r free (inr (inr f)) = ap (after r) f.is
-free_after u t (work.Scan ask) x r free (inl f) = ap (after r) f.is
-free_after u t (work.Scan ask) x r free (inr f) = ap (after r) f.is
-free_after u t (work.Explain ask) x r free (inl f) = ap (after r) f.is
-free_after u t (work.Explain ask) x r free (inr f) = ap (after r) f.is
-free_after u t work.Checkpoint x r free f = ap (after r) f.is
+pub free_after : (Past : Whole → Type 0) (u t : View) (w : Work) (x : Item) (r : Registry) → IsFree w → IsFit Past u t w x → after r x ≡ r
+free_after Past u t (work.Register name def) x r free f = elim free [ ]
+free_after Past u t (work.Deregister name) x r free f = elim free [ ]
+free_after Past u t (work.Ingest form header name file) x r free (inl f) = ap (after r) f.is
+free_after Past u t (work.Ingest form header name file) x r free (inr (inl f)) = ap (after r) f.is
+free_after Past u t (work.Ingest form header name file) x r free (inr (inr f)) = ap (after r) f.is
+free_after Past u t (work.Scan ask) x r free (inl f) = ap (after r) f.is
+free_after Past u t (work.Scan ask) x r free (inr f) = ap (after r) f.is
+free_after Past u t (work.Explain ask) x r free (inl f) = ap (after r) f.is
+free_after Past u t (work.Explain ask) x r free (inr f) = ap (after r) f.is
+free_after Past u t work.Checkpoint x r free f = ap (after r) f.is
 
 -- ---- plans
 
@@ -119,20 +122,22 @@ plans_on v u t r works items learns h rows from bounds low =
 
 -- their items answer them, and tell of the definitions that the registrar keeps; while there is none, nothing has changed unless a
 -- boundary was waited for
-pub record Held (v : View) (r : Registrar) (u : View) (s : Registrar) (works : List Work) (items : List Item) : Type 0 where
-  pub told : HasTold v u works (answers items)
+pub record Held (Past : Whole → Type 0) (v : View) (r : Registrar) (u : View) (s : Registrar) (works : List Work) (items : List Item)
+    : Type 0 where
+  pub told : HasTold Past v u works (answers items)
   pub so : AreSo v.learned.count u.learned.count (registry_of v r) items
   pub is : registry_of u s ≡ after_all (registry_of v r) items
   pub each : KnowsEach u (registry_of v r) items
   pub closed : IsAlone v → AllOf NamesNone items
   pub still : works ≡ [] → r.waiting ≡ None → (u ≡ v) × (s.waiting ≡ None) × (items ≡ [])
-  pub only : (end : ℕ) → HasEnd v end → r.waiting ≡ None → TellsOnly v u r.catalog end works items
+  pub only : (end : ℕ) → HasEnd v end → r.waiting ≡ None → TellsOnly Past v u r.catalog end works items
   pub plans : PlansAreSoBy v u (registry_of v r) works items
 
 -- none yet
-pub held_self : (v : View) (r : Registrar) → v.epoch ≡ Out → v.flight ≡ None → KnowsRegistry v (registry_of v r) → Held v r v r [] []
-held_self v r outside idle known = record {
-  told = told_self v outside idle;
+pub held_self : {Past : Whole → Type 0} (v : View) (r : Registrar) → v.epoch ≡ Out → v.flight ≡ None → KnowsRegistry v (registry_of v r)
+    → Held Past v r v r [] []
+held_self {Past} v r outside idle known = record {
+  told = told_self Past v outside idle;
   so = tt;
   is = refl;
   each = known;
@@ -143,12 +148,13 @@ held_self v r outside idle known = record {
 }
 
 -- an item more that is so
-held_item : (v : View) (r : Registrar) (u : View) (s : Registrar) (t : View) (q : Registrar) (works works' : List Work)
-    (items : List Item) (x : Item) → Held v r u s works items → Learns v u → Learns u t → Does u s t q x
-    → HasTold v t works' (answers (items ++ x ∷ [])) → (IsAlone v → NamesNone x)
+held_item : {Past : Whole → Type 0} (v : View) (r : Registrar) (u : View) (s : Registrar) (t : View) (q : Registrar)
+    (works works' : List Work)
+    (items : List Item) (x : Item) → Held Past v r u s works items → Learns v u → Learns u t → Does u s t q x
+    → HasTold Past v t works' (answers (items ++ x ∷ [])) → (IsAlone v → NamesNone x)
     → (works' ≡ [] → r.waiting ≡ None → (t ≡ v) × (q.waiting ≡ None) × (items ++ x ∷ [] ≡ []))
-    → ((end : ℕ) → HasEnd v end → r.waiting ≡ None → TellsOnly v t r.catalog end works' (items ++ x ∷ []))
-    → PlansAreSoBy v t (registry_of v r) works' (items ++ x ∷ []) → Held v r t q works' (items ++ x ∷ [])
+    → ((end : ℕ) → HasEnd v end → r.waiting ≡ None → TellsOnly Past v t r.catalog end works' (items ++ x ∷ []))
+    → PlansAreSoBy v t (registry_of v r) works' (items ++ x ∷ []) → Held Past v r t q works' (items ++ x ∷ [])
 held_item v r u s t q works works' items x h before learns does told none still only plans =
     let start = registry_of v r in
     let more = before.count in
@@ -174,44 +180,45 @@ none_waiting : (s : Registrar) (id : ℕ) → s.waiting ≡ None → ¬ (waiting
 none_waiting s id none is = (let bad : waiting_id None ≡ Some id = ap waiting_id (sym none) ∙ is in cc)
 
 -- a look for a boundary
-pub held_polled : (v : View) (r : Registrar) (u : View) (s : Registrar) (t : View) (q : Registrar) (works : List Work)
-    (items items' : List Item) → Held v r u s works items → Gains u t [] → t.clock.loads ≡ u.clock.loads → t.shut ≡ u.shut
-    → (s.waiting ≡ None → (t ≡ u) × (q.waiting ≡ None)) → HasPolled u s t q items items' → Held v r t q works items'
-held_polled v r u s t q works items items' h g same shut idle (inl p) =
+pub held_polled : {Past : Whole → Type 0} (v : View) (r : Registrar) (u : View) (s : Registrar) (t : View) (q : Registrar)
+    (works : List Work)
+    (items items' : List Item) → Held Past v r u s works items → Gains u t [] → t.clock.loads ≡ u.clock.loads → t.shut ≡ u.shut
+    → (s.waiting ≡ None → (t ≡ u) × (q.waiting ≡ None)) → HasPolled u s t q items items' → Held Past v r t q works items'
+held_polled {Past} v r u s t q works items items' h g same shut idle (inl p) =
     let learns = g.on.learns in
     let more = learns.count in
     let start = registry_of v r in
-    subst (Held v r t q works) (sym p.0) (record {
+    subst (Held Past v r t q works) (sym p.0) (record {
       told = told_on v u t works (answers items) h.told g shut;
       so = are_so_wide v.learned.count u.learned.count v.learned.count t.learned.count start items (omega arith) (omega arith) h.so;
       is = p.1 ∙ h.is;
       each = each_later u t start items learns h.each;
       closed = h.closed;
       still = λ none wait. let b = h.still none wait in let i = idle b.1 in (i.0 ∙ b.0, i.1, b.2);
-      only = λ end e wait. only_later v u t r.catalog end learns same works items (h.only end e wait);
+      only = λ end e wait. only_later v u t r.catalog end learns same Past works items (h.only end e wait);
       plans = plans_on v u t start works items learns h.plans;
     })
-held_polled v r u s t q works items items' h g same shut idle (inr p) =
+held_polled {Past} v r u s t q works items items' h g same shut idle (inr p) =
     let x = item.Bound p.0 p.1 in
-    subst (Held v r t q works) (sym p.2)
+    subst (Held Past v r t q works) (sym p.2)
     (held_item v r u s t q works works items x h h.told.gains.on.learns g.on.learns p.3
-    (subst (HasTold v t works) (sym (answers_same items x refl)) (told_on v u t works (answers items) h.told g shut))
+    (subst (HasTold Past v t works) (sym (answers_same items x refl)) (told_on v u t works (answers items) h.told g shut))
     (λ alone. tt) (λ none wait. absurd (none_waiting s p.0 (h.still none wait).1 p.3.so.0))
-    (λ end e wait w one. subst (AllOf (TellsSingle v t r.catalog end w)) (sym (answers_same items x refl))
-    (only_later v u t r.catalog end g.on.learns same works items (h.only end e wait) w one))
+    (λ end e wait w one. subst (AllOf (TellsSingle Past v t r.catalog end w)) (sym (answers_same items x refl))
+    (only_later v u t r.catalog end g.on.learns same Past works items (h.only end e wait) w one))
     (λ rows from bounds low. plans_beside (KnowsRows t) (registry_of v r) rows from works items x h.told.size
     (plans_on v u t (registry_of v r) works items g.on.learns h.plans rows from bounds low)))
 
 -- a statement
-pub held_done : (v : View) (r : Registrar) (u : View) (s : Registrar) (t : View) (q : Registrar) (works : List Work)
+pub held_done : {Past : Whole → Type 0} (v : View) (r : Registrar) (u : View) (s : Registrar) (t : View) (q : Registrar) (works : List Work)
     (items : List Item) (w : Work) (x : Item) → Stands v → Stands t → Knows v r
-    → KnowsRegistry v (registry_of v r) → Knows u s → Knows t q → Held v r u s works items
-    → IsControlled u s t q w x → Held v r t q (works ++ w ∷ []) (items ++ x ∷ [])
-held_done v r u s t q works items w x stood stands began known knows now h c =
+    → KnowsRegistry v (registry_of v r) → Knows u s → Knows t q → Held Past v r u s works items
+    → IsControlled Past u s t q w x → Held Past v r t q (works ++ w ∷ []) (items ++ x ∷ [])
+held_done {Past} v r u s t q works items w x stood stands began known knows now h c =
     let made : t.learned.version ≡ u.learned.version + made_by x =
     ap (λ (z : Registry). z.version) c.does.is ∙ after_load_version (registry_of u s) x in
     held_item v r u s t q works (works ++ w ∷ []) items x h h.told.gains.on.learns c.gains.on.learns c.does
-    (subst (HasTold v t (works ++ w ∷ [])) (sym (answers_more items x (fit_answer u t w x c.fit)))
+    (subst (HasTold Past v t (works ++ w ∷ [])) (sym (answers_more items x (fit_answer Past u t w x c.fit)))
     (told_more v u t works (answers items) w x c.rows h.told c.gains c.first c.fit c.shuts (omega arith)))
     (λ alone. c.none (alone_gains v u h.told.rows h.told.gains alone))
     (λ none wait. absurd (some_there works w [] none))
@@ -219,18 +226,18 @@ held_done v r u s t q works items w x stood stands began known knows now h c =
     let first = only_last works w [] one is in
     let same = (h.still first.0 wait).0 in
     let start = registry_of v r in
-    let told = fit_single v t end e (learns_both v u t h.told.gains.on.learns c.gains.on.learns) stands one x start stood
+    let told = fit_single v t end e (learns_both v u t h.told.gains.on.learns c.gains.on.learns) stands Past one x start stood
     (bounds_read v r began) known
     (λ free.
     let registry : registry_of t q ≡ start =
-    c.does.is ∙ free_after u t w x (registry_of u s) (subst IsFree (sym first.1) free) c.fit ∙ h.is
+    c.does.is ∙ free_after Past u t w x (registry_of u s) (subst IsFree (sym first.1) free) c.fit ∙ h.is
     ∙ ap (after_all start) (h.still first.0 wait).2 in (
       subst (λ (z : Registry). AreBoundsIn t z.rows) registry (bounds_in t q stands now),
       ap (λ (z : Registry). z.version) registry,
     ))
     (subst (λ (z : View). TellsTail z x) same (c.tail (subst IsAlone (sym same) e.alone)))
-    (subst (λ (z : View × Work). IsFit z.0 t z.1 x) (λ i. (same i, first.1 i)) c.fit) in
-    subst (AllOf (TellsSingle v t r.catalog end one)) (sym (answers_more items x (fit_answer u t w x c.fit)
+    (subst (λ (z : View × Work). IsFit Past z.0 t z.1 x) (λ i. (same i, first.1 i)) c.fit) in
+    subst (AllOf (TellsSingle Past v t r.catalog end one)) (sym (answers_more items x (fit_answer Past u t w x c.fit)
     ∙ ap (λ (z : List Item). z ++ x ∷ []) (none_there (answers items) works h.told.size first.0))) (told, tt))
     (λ rows from bounds low.
     let start = registry_of v r in
@@ -240,13 +247,13 @@ held_done v r u s t q works items w x stood stands began known knows now h c =
     plans_more (KnowsRows t) start rows from works (w ∷ []) items x h.told.size
     (plans_on v u t start works items learns h.plans rows from bounds low)
     (subst (λ (z : Registry). TellsPlans (KnowsRows t) z.rows rows from w x) h.is
-    (fit_so u t (registry_of u s) rows from stands learns (bounds_read u s knows) known bounds (omega arith) w x c.fit)))
+    (fit_so u t (registry_of u s) rows from stands learns (bounds_read u s knows) known bounds (omega arith) Past w x c.fit)))
 
 -- ---- the end
 
 -- all are done
-pub held_ended : (v : View) (r : Registrar) (u : View) (s : Registrar) (works : List Work) (items : List Item)
-    → Held v r u s works items → AreFound v.clock u.clock (registry_of v r) items → HasControlled v u r s works items fault.None
+pub held_ended : {Past : Whole → Type 0} (v : View) (r : Registrar) (u : View) (s : Registrar) (works : List Work) (items : List Item)
+    → Held Past v r u s works items → AreFound v.clock u.clock (registry_of v r) items → HasControlled Past v u r s works items fault.None
 held_ended v r u s works items h found = record {
   run = run_ended v u works items h.told;
   so = h.so;
@@ -259,22 +266,23 @@ held_ended v r u s works items h found = record {
 }
 
 -- or those up to one of which a part was done
-pub held_cut : (v : View) (r : Registrar) (u : View) (s : Registrar) (t : View) (q : Registrar) (works : List Work)
-    (items : List Item) (w : Work) (later : List Work) (rows : List LaneRow) (count : ℕ) → Held v r u s works items
-    → AreFound v.clock u.clock (registry_of v r) items → Gains u t rows → contents rows ≡ take count (content_of w)
-    → HasControlled v t r q (works ++ w ∷ later) items fault.Memory
-held_cut v r u s t q works items w later rows count h found g first =
+pub held_cut : {Past : Whole → Type 0} (v : View) (r : Registrar) (u : View) (s : Registrar) (t : View) (q : Registrar) (works : List Work)
+    (items : List Item) (w : Work) (later : List Work) (rows : List LaneRow) (count : ℕ) (why : LaneFault) → why ≢ fault.None
+    → Held Past v r u s works items → AreFound v.clock u.clock (registry_of v r) items → Gains u t rows
+    → contents rows ≡ take count (content_of w)
+    → HasControlled Past v t r q (works ++ w ∷ later) items why
+held_cut {Past} v r u s t q works items w later rows count why named h found g first =
     let more = g.on.learns.count in
     record {
-      run = run_cut v u t works items w later rows count h.told g first;
+      run = run_cut v u t works items w later rows count why named h.told g first;
       so = are_so_wide v.learned.count u.learned.count v.learned.count t.learned.count (registry_of v r) items (omega arith)
           (omega arith) h.so;
       closed = h.closed;
-      only = λ end e wait one is. subst (AllOf (TellsSingle v t r.catalog end one))
+      only = λ end e wait one is. subst (AllOf (TellsSingle Past v t r.catalog end one))
           (sym (none_there (answers items) works h.told.size (only_last works w later one is).0)) tt;
       plans = λ rows from bounds low. plans_longer (KnowsRows t) (registry_of v r) rows from works (w ∷ later) items h.told.size
           (plans_on v u t (registry_of v r) works items g.on.learns h.plans rows from bounds low);
-      is = λ e. absurd cc;
+      is = λ e. absurd (named e);
       each = each_later u t (registry_of v r) items g.on.learns h.each;
       found = found_on v.clock u.clock t.clock (registry_of v r) items found g.on.clock;
     }
@@ -282,10 +290,11 @@ held_cut v r u s t q works items w later rows count h found g first =
 -- ---- what such statements leave
 
 -- what was gained of them
-pub gained_any : {E : Type 0} (v t : View) (w : Work) (r : Result Item E) → IfOk r (IsItem v t w) → IfErr r (λ _. IsPart v t w)
+pub gained_any : (Past : Whole → Type 0) {E : Type 0} (v t : View) (w : Work) (r : Result Item E) → IfOk r (IsItem Past v t w)
+    → IfErr r (λ _. IsPart v t w)
     → (count : ℕ) × GainsFirst v t (content_of w) count
-gained_any v t w (Ok x) ok err = (count_of x, ok.gained)
-gained_any v t w (Err e) ok err = err
+gained_any Past v t w (Ok x) ok err = (count_of x, ok.gained)
+gained_any Past v t w (Err e) ok err = err
 
 -- it is one where it neither registers nor ends one
 pub free_of : (w : Work)
@@ -303,59 +312,59 @@ only_version : (u t : View) (r : Registry) (version : ℕ) → r.version ≡ u.l
     → (u.learned.version ≤ version) × (version ≤ t.learned.version) → version ≡ r.version
 only_version u t r version is same known = (let least = known.0 in let most = known.1 in omega arith)
 
-free_so : (u t : View) (w : Work) (x : Item) (low high : ℕ) (r : Registry) → r.version ≡ u.learned.version
-    → t.learned.version ≡ u.learned.version → IsFree w → IsFit u t w x → IsSo low high r x
-free_so u t (work.Register name def) x low high r is same free f = elim free [ ]
-free_so u t (work.Deregister name) x low high r is same free f = elim free [ ]
-free_so u t (work.Ingest form header name file) x low high r is same free (inl f) = subst (IsSo low high r) (sym f.is) tt
-free_so u t (work.Ingest form header name file) x low high r is same free (inr (inl f)) = subst (IsSo low high r) (sym f.is) tt
-free_so u t (work.Ingest form header name file) x low high r is same free (inr (inr f)) = subst (IsSo low high r) (sym f.is) tt
-free_so u t (work.Scan ask) x low high r is same free (inl f) =
-    let e = f.fits.answer.explained.planned in
+free_so : (Past : Whole → Type 0) (u t : View) (w : Work) (x : Item) (low high : ℕ) (r : Registry) → r.version ≡ u.learned.version
+    → t.learned.version ≡ u.learned.version → IsFree w → IsFit Past u t w x → IsSo low high r x
+free_so Past u t (work.Register name def) x low high r is same free f = elim free [ ]
+free_so Past u t (work.Deregister name) x low high r is same free f = elim free [ ]
+free_so Past u t (work.Ingest form header name file) x low high r is same free (inl f) = subst (IsSo low high r) (sym f.is) tt
+free_so Past u t (work.Ingest form header name file) x low high r is same free (inr (inl f)) = subst (IsSo low high r) (sym f.is) tt
+free_so Past u t (work.Ingest form header name file) x low high r is same free (inr (inr f)) = subst (IsSo low high r) (sym f.is) tt
+free_so Past u t (work.Scan ask) x low high r is same free (inl f) =
+    let e = f.fits.planned in
     subst (IsSo low high r) (sym f.is) (only_version u t r f.version is same
     (named_version u t f.fits.known ask f.version e.place f.fits.version_is e.asked.named))
-free_so u t (work.Scan ask) x low high r is same free (inr f) = subst (IsSo low high r) (sym f.is)
+free_so Past u t (work.Scan ask) x low high r is same free (inr f) = subst (IsSo low high r) (sym f.is)
     (only_version u t r f.version is same (refused_version u t ask f.version f.why f.fits))
-free_so u t (work.Explain ask) x low high r is same free (inl f) =
+free_so Past u t (work.Explain ask) x low high r is same free (inl f) =
     let e = f.fits.explained.planned in
     subst (IsSo low high r) (sym f.is) (only_version u t r f.version is same
     (named_version u t f.fits.known ask f.version e.place f.fits.version_is e.asked.named))
-free_so u t (work.Explain ask) x low high r is same free (inr f) = subst (IsSo low high r) (sym f.is)
+free_so Past u t (work.Explain ask) x low high r is same free (inr f) = subst (IsSo low high r) (sym f.is)
     (only_version u t r f.version is same (refused_version u t ask f.version f.why f.fits))
-free_so u t work.Checkpoint x low high r is same free f = subst (IsSo low high r) (sym f.is) tt
+free_so Past u t work.Checkpoint x low high r is same free f = subst (IsSo low high r) (sym f.is) tt
 
 -- and none of them tells of a registration that waits
-free_rolls : (u t : View) (w : Work) (x : Item) → IsFree w → IsFit u t w x → RollsBy u t x
-free_rolls u t (work.Register name def) x free f = elim free [ ]
-free_rolls u t (work.Deregister name) x free f = elim free [ ]
-free_rolls u t (work.Ingest form header name file) x free (inl f) = subst (RollsBy u t) (sym f.is) tt
-free_rolls u t (work.Ingest form header name file) x free (inr (inl f)) = subst (RollsBy u t) (sym f.is) tt
-free_rolls u t (work.Ingest form header name file) x free (inr (inr f)) = subst (RollsBy u t) (sym f.is) tt
-free_rolls u t (work.Scan ask) x free (inl f) = subst (RollsBy u t) (sym f.is) tt
-free_rolls u t (work.Scan ask) x free (inr f) = subst (RollsBy u t) (sym f.is) tt
-free_rolls u t (work.Explain ask) x free (inl f) = subst (RollsBy u t) (sym f.is) tt
-free_rolls u t (work.Explain ask) x free (inr f) = subst (RollsBy u t) (sym f.is) tt
-free_rolls u t work.Checkpoint x free f = subst (RollsBy u t) (sym f.is) tt
+free_rolls : (Past : Whole → Type 0) (u t : View) (w : Work) (x : Item) → IsFree w → IsFit Past u t w x → RollsBy u t x
+free_rolls Past u t (work.Register name def) x free f = elim free [ ]
+free_rolls Past u t (work.Deregister name) x free f = elim free [ ]
+free_rolls Past u t (work.Ingest form header name file) x free (inl f) = subst (RollsBy u t) (sym f.is) tt
+free_rolls Past u t (work.Ingest form header name file) x free (inr (inl f)) = subst (RollsBy u t) (sym f.is) tt
+free_rolls Past u t (work.Ingest form header name file) x free (inr (inr f)) = subst (RollsBy u t) (sym f.is) tt
+free_rolls Past u t (work.Scan ask) x free (inl f) = subst (RollsBy u t) (sym f.is) tt
+free_rolls Past u t (work.Scan ask) x free (inr f) = subst (RollsBy u t) (sym f.is) tt
+free_rolls Past u t (work.Explain ask) x free (inl f) = subst (RollsBy u t) (sym f.is) tt
+free_rolls Past u t (work.Explain ask) x free (inr f) = subst (RollsBy u t) (sym f.is) tt
+free_rolls Past u t work.Checkpoint x free f = subst (RollsBy u t) (sym f.is) tt
 
-free_tail : (u t : View) (w : Work) (x : Item) → IsFree w → IsFit u t w x → TellsTail u x
-free_tail u t (work.Register name def) x free f = elim free [ ]
-free_tail u t (work.Deregister name) x free f = elim free [ ]
-free_tail u t (work.Ingest form header name file) x free (inl f) = subst (TellsTail u) (sym f.is) tt
-free_tail u t (work.Ingest form header name file) x free (inr (inl f)) = subst (TellsTail u) (sym f.is) tt
-free_tail u t (work.Ingest form header name file) x free (inr (inr f)) = subst (TellsTail u) (sym f.is) tt
-free_tail u t (work.Scan ask) x free (inl f) = subst (TellsTail u) (sym f.is) tt
-free_tail u t (work.Scan ask) x free (inr f) = subst (TellsTail u) (sym f.is) tt
-free_tail u t (work.Explain ask) x free (inl f) = subst (TellsTail u) (sym f.is) tt
-free_tail u t (work.Explain ask) x free (inr f) = subst (TellsTail u) (sym f.is) tt
-free_tail u t work.Checkpoint x free f = subst (TellsTail u) (sym f.is) tt
+free_tail : (Past : Whole → Type 0) (u t : View) (w : Work) (x : Item) → IsFree w → IsFit Past u t w x → TellsTail u x
+free_tail Past u t (work.Register name def) x free f = elim free [ ]
+free_tail Past u t (work.Deregister name) x free f = elim free [ ]
+free_tail Past u t (work.Ingest form header name file) x free (inl f) = subst (TellsTail u) (sym f.is) tt
+free_tail Past u t (work.Ingest form header name file) x free (inr (inl f)) = subst (TellsTail u) (sym f.is) tt
+free_tail Past u t (work.Ingest form header name file) x free (inr (inr f)) = subst (TellsTail u) (sym f.is) tt
+free_tail Past u t (work.Scan ask) x free (inl f) = subst (TellsTail u) (sym f.is) tt
+free_tail Past u t (work.Scan ask) x free (inr f) = subst (TellsTail u) (sym f.is) tt
+free_tail Past u t (work.Explain ask) x free (inl f) = subst (TellsTail u) (sym f.is) tt
+free_tail Past u t (work.Explain ask) x free (inr f) = subst (TellsTail u) (sym f.is) tt
+free_tail Past u t work.Checkpoint x free f = subst (TellsTail u) (sym f.is) tt
 
 -- so their items do nothing
-pub free_does : (u t : View) (r : Registrar) (w : Work) (x : Item) → IsFree w → IsFit u t w x → Learns u t
+pub free_does : (Past : Whole → Type 0) (u t : View) (r : Registrar) (w : Work) (x : Item) → IsFree w → IsFit Past u t w x → Learns u t
     → registry_of t r ≡ registry_of u r → Does u r t r x
-free_does u t r w x free f learns same =
-    let after_is = free_after u t w x (registry_of u r) free f in
+free_does Past u t r w x free f learns same =
+    let after_is = free_after Past u t w x (registry_of u r) free f in
     record {
-      so = free_so u t w x u.learned.count t.learned.count (registry_of u r) refl (ap (λ (z : Registry). z.version) same) free f;
+      so = free_so Past u t w x u.learned.count t.learned.count (registry_of u r) refl (ap (λ (z : Registry). z.version) same) free f;
       is = same ∙ sym after_is;
       knows = λ h. subst (KnowsRegistry t) (sym after_is) (registry_later u t (registry_of u r) learns h);
     }
@@ -375,10 +384,10 @@ take_nothing_first w = refl
 -- ---- one statement of the first lane
 
 -- one on definitions
-pub control_done : {E : Type 0} (v : View) (s : Registrar) (t : View) (q : Registrar) (w : Work) (r : Result Item E)
+pub control_done : (Past : Whole → Type 0) {E : Type 0} (v : View) (s : Registrar) (t : View) (q : Registrar) (w : Work) (r : Result Item E)
     → content_of w ≡ [] → Gains v t [] → t.shut ≡ v.shut → (IsAlone v → IfOk r NamesNone) → (IsAlone v → IfOk r (TellsTail v))
-    → IfOk r (RollsBy v t) → IfOk r (IsFit v t w) → IfOk r (Does v s t q) → IfOk r (IsControlled v s t q w)
-control_done v s t q w (Ok x) none g same names tail rolls fit does = record {
+    → IfOk r (RollsBy v t) → IfOk r (IsFit Past v t w) → IfOk r (Does v s t q) → IfOk r (IsControlled Past v s t q w)
+control_done Past v s t q w (Ok x) none g same names tail rolls fit does = record {
   rows = [];
   gains = g;
   first = take_nothing (count_of x) w none;
@@ -389,7 +398,7 @@ control_done v s t q w (Ok x) none g same names tail rolls fit does = record {
   rolls = rolls;
   does = does;
 }
-control_done v s t q w (Err e) none g same names tail rolls fit does = tt
+control_done Past v s t q w (Err e) none g same names tail rolls fit does = tt
 
 pub control_part : {E : Type 0} (v t : View) (w : Work) (r : Result Item E) → content_of w ≡ [] → Gains v t []
     → IfErr r (λ _. IsPartControlled v t w)
@@ -397,23 +406,38 @@ control_part v t w (Ok x) none g = tt
 control_part v t w (Err e) none g = record { rows = []; count = 0; gains = g; first = take_nothing 0 w none }
 
 -- or any other one
-pub free_done : {E : Type 0} (v : View) (s : Registrar) (t : View) (w : Work) (r : Result Item E) → IsFree w → Learns v t
-    → registry_of t s ≡ registry_of v s → IfOk r (IsItem v t w) → IfOk r (IsControlled v s t s w)
-free_done v s t w (Ok x) free learns same item = record {
+pub free_done : (Past : Whole → Type 0) {E : Type 0} (v : View) (s : Registrar) (t : View) (w : Work) (r : Result Item E) → IsFree w
+    → Learns v t
+    → registry_of t s ≡ registry_of v s → IfOk r (IsItem Past v t w) → IfOk r (IsControlled Past v s t s w)
+free_done Past v s t w (Ok x) free learns same item = record {
   rows = item.gained.rows;
   gains = item.gained.gains;
   first = item.gained.first;
   fit = item.fit;
   shuts = item.shuts;
-  none = λ alone. fit_closed v t w x free alone item.fit;
-  tail = λ alone. free_tail v t w x free item.fit;
-  rolls = free_rolls v t w x free item.fit;
-  does = free_does v t s w x free item.fit learns same;
+  none = λ alone. fit_closed Past v t w x free alone item.fit;
+  tail = λ alone. free_tail Past v t w x free item.fit;
+  rolls = free_rolls Past v t w x free item.fit;
+  does = free_does Past v t s w x free item.fit learns same;
 }
-free_done v s t w (Err e) free learns same item = tt
+free_done Past v s t w (Err e) free learns same item = tt
 
 pub free_part : {E : Type 0} (v t : View) (w : Work) (r : Result Item E) → IfErr r (λ _. IsPart v t w)
     → IfErr r (λ _. IsPartControlled v t w)
 free_part v t w (Ok x) part = tt
 free_part v t w (Err e) part =
     record { rows = part.1.rows; count = part.0; gains = part.1.gains; first = part.1.first }
+
+-- what is held behind some pasts is held behind each of these
+pub held_fewer : (P Q : Whole → Type 0) (v : View) (r : Registrar) (u : View) (s : Registrar) (works : List Work) (items : List Item)
+    → ((past : Whole) → Q past → P past) → Held P v r u s works items → Held Q v r u s works items
+held_fewer P Q v r u s works items fewer h = record {
+  told = told_fewer P Q v u works (answers items) fewer h.told;
+  so = h.so;
+  is = h.is;
+  each = h.each;
+  closed = h.closed;
+  still = h.still;
+  only = λ end e wait. only_fewer P Q v u r.catalog end fewer works items (h.only end e wait);
+  plans = h.plans;
+}

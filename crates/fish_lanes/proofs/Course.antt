@@ -52,18 +52,15 @@ use Rattle.fish_whole.proofs.Entries.{sure_settled, up_to_will}
 use Rattle.fish_whole.proofs.Wholes.{may_hold, up_to_later}
 use Rattle.fish_whole.specs.Whole.{Later, SureUpTo, Whole, Will}
 
-module _ {log : Log} {v w : View} {r q : Registrar} {first first' : Lane} {before done : List Lane}
-    (run : AllRan log v w r q first first' before done) where
+module _ {Past : Whole → Type 0} {log : Log} {v w : View} {r q : Registrar} {first first' : Lane} {before done : List Lane}
+    (run : AllRan Past log v w r q first first' before done) where
   -- there are as many lanes as before
   sizes : length done ≡ length before
   sizes = run.done_size ∙ run.given_size
 
   -- the statements of the lane at a place
-  pub done_at : (i : ℕ) (y z : Lane) → slice_get run.given i ≡ Some y → slice_get done i ≡ Some z → HasDone log y z
-  done_at i y z at_y at_z =
-      subst (λ (p : Lane × Lane). HasDone log p.0 p.1)
-      (λ j. (get_or_from_slice_get run.given i y y at_y j, get_or_from_slice_get done i z y at_z j))
-      (run.others_did.each i y (slice_get_within run.given i y at_y))
+  pub done_at : (i : ℕ) (y z : Lane) → slice_get run.given i ≡ Some y → slice_get done i ≡ Some z → HasDone Past log y z
+  done_at i y z at_y at_z = run.others_did i y z at_y at_z
 
   -- the lane at a place, at each of the times
   pub record Way (i : ℕ) (z : Lane) : Type 0 where
@@ -72,7 +69,7 @@ module _ {log : Log} {v w : View} {r q : Registrar} {first first' : Lane} {befor
     pub mid : Lane
     pub mid_at : slice_get run.given i ≡ Some mid
     pub seat : IsSeated log v i old mid
-    pub run_of : HasDone log mid z
+    pub run_of : HasDone Past log mid z
     pub same : seat.seat ≡ run_of.before
 
   pub way : (i : ℕ) (z : Lane) → slice_get done i ≡ Some z → Way i z
@@ -173,7 +170,7 @@ module _ {log : Log} {v w : View} {r q : Registrar} {first first' : Lane} {befor
         (record {
           ended = subst (λ (z : List Work). IsEnded z first'.items first'.fault) (sym run.first_did.works)
               run.first_did.controlled.run.ended;
-          answers = λ behind. absurd (omega arith);
+          answers = λ later. absurd (omega arith);
         })
         (λ i y at_y.
         let z = ran_at i y at_y in
@@ -182,7 +179,7 @@ module _ {log : Log} {v w : View} {r q : Registrar} {first first' : Lane} {befor
         record {
           ended = subst (λ (q : List Work × List Item × LaneFault). IsEnded q.0 q.1 q.2)
               (λ j. ((sym p.run_of.works ∙ sym w'.works) j, sym w'.items j, sym w'.fault j)) p.run_of.run.ended;
-          answers = λ behind. subst (AllOf IsAnswer) (sym w'.items) p.run_of.answers;
+          answers = λ later. subst (AllOf IsAnswer) (sym w'.items) p.run_of.answers;
         })
 
   module _ {u t : View} {kept : Registrar} {after : List Lane} {last : BlockEnd} (returned : AllBack w u done after)
@@ -345,7 +342,8 @@ module _ {log : Log} {v w : View} {r q : Registrar} {first first' : Lane} {befor
         (up_to_will past t k.to (λ z. TellsLane z k rows works items) (omega arith)
         (up_to_later past s t k.to (λ z. TellsLane z k rows works items) learns sure) y m)
 
-    module _ (past : Whole) (k : Span) (span : IsBlockSpan v t last.to k) (many : k.lanes ≡ length before + 1) (stood : Stands v) where
+    module _ (past : Whole) (behind : Past past) (k : Span) (span : IsBlockSpan v t last.to k) (many : k.lanes ≡ length before + 1)
+        (stood : Stands v) where
       version_given : run.main.learned.version ≡ v.learned.version
       version_given = ap (λ (z : Learned). z.version) run.gives.learned
 
@@ -411,7 +409,7 @@ module _ {log : Log} {v w : View} {r q : Registrar} {first first' : Lane} {befor
           ⊎_elim (λ (j : Among o v.own × (o.lane ≡ i.place + 2)). let e = j.1 in omega arith)
           (λ (j : HasNumber o.number p.run_of.run.rows × (o.lane ≡ i.place + 2)). let e = j.1 in omega arith)
           (lane_cases i.place i.lane p i.seat o i.seat_is i.among))) h) (own_cases o n))
-          (run_first.tells past k (lane_within run.main w run.gives.about run.gives.learned end_learns main_alone)
+          (run_first.tells past behind k (lane_within run.main w run.gives.about run.gives.learned end_learns main_alone)
           (span.full ∙ sym run.gives.shut)))
 
       -- what another lane has among the records of its number
@@ -456,7 +454,8 @@ module _ {log : Log} {v w : View} {r q : Registrar} {first first' : Lane} {befor
           within counted (subst (λ (x : ℕ). Ascends x p.run_of.run.rows (view s.pass).learned.count) same g.ascends)
           (subst (λ (x : ℕ). AreTold (view s.pass) x p.run_of.run.rows) lane g.told)
           (others_all i z.0 z.1 p)
-          (p.run_of.run.tells past k (lane_within (view p.run_of.before.pass) (view s.pass) (way_about i z.0 p) (way_learned i z.0 p) back
+          (p.run_of.run.tells past behind k
+          (lane_within (view p.run_of.before.pass) (view s.pass) (way_about i z.0 p) (way_learned i z.0 p) back
           (λ one. absurd (omega arith)))
           (span.full ∙ sym (way_shut i z.0 p))) x m)
 

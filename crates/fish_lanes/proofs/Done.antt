@@ -1,14 +1,16 @@
 -- What the statements so far tell, and what one item more tells behind them.
 use Rattle.std.proofs.Common.{◌≡◌, ℕ, ◌+◌, ◌<◌, ◌≤◌, suc, List, [], ◌∷◌, length, refl}
 use Rattle.std.proofs.Common.{ap, ◌∙◌, subst, inl, inr, ◌⊎◌, ⊎_elim, arith, None, Some}
-use Rattle.fish_lanes.proofs.Answered.{plan_told, refused_told, refused_version, scan_told}
+use Rattle.fish_lanes.proofs.Answered.{plan_told, refused_told, scan_told}
+use Rattle.fish_lanes.proofs.Fitting.{refused_version}
 use Rattle.fish_lanes.proofs.Claims.{claim_shown}
 use Rattle.fish_lanes.proofs.Gaining.{alone_gains, gains_self}
-use Rattle.fish_lanes.proofs.Items.{TellsAll, made, shown_in}
+use Rattle.fish_lanes.proofs.Items.{made, shown_in}
 use Rattle.fish_lanes.proofs.Publishing.{published_later, settled_published, told_published}
 use Rattle.fish_lanes.proofs.RowLists.{ascends_le}
 use Rattle.fish_lanes.specs.Doing.{FitsCheckpoint, FitsRefused, IsFit}
-use Rattle.fish_lanes.specs.Gains.{AreTold, Gains}
+pub use Rattle.fish_lanes.specs.Advancing.{HasTold}
+use Rattle.fish_lanes.specs.Gains.{AreTold}
 use Rattle.fish_lanes.specs.Published.{IsPublished}
 use Rattle.fish_lanes.specs.Records.{Ascends, HasNumber, LaneRow, entry_of}
 use Rattle.fish_lanes.specs.Running.{IsFullItem}
@@ -40,25 +42,12 @@ use Rattle.fish_value.specs.declared.field.Form.{Form}
 use Rattle.fish_whole.proofs.Wholes.{sure_rows}
 use Rattle.fish_whole.specs.Whole.{Sure, SureUpTo, Whole}
 
--- the statements so far are told by as many items
-pub record HasTold (v u : View) (works : List Work) (items : List Item) : Type 0 where
-  pub rows : List LaneRow
-  pub gains : Gains v u rows
-  pub tells : (past : Whole) (s : Span) → IsWithinSpan v u s → s.full ≡ v.shut
-      → SureUpTo past u s.to (λ w. TellsAll w s [] [] rows works items)
-  pub shown : (n : ℕ) (s : Shown) → Among s (shown_in items) → IsShown n s → u.about.number ≤ n → IsPublished u n
-  pub settles : (m : ℕ) → Among (settled m) (shown_in items) → m ≤ u.learned.settled
-  pub size : length items ≡ length works
-  pub full : AllOf (IsFullItem u) items
-  pub versions : v.learned.version + made items ≤ u.learned.version
-  pub shuts : TellsShut v u items
-
 -- none
-pub told_self : (v : View) → v.epoch ≡ Out → v.flight ≡ None → HasTold v v [] []
-told_self v outside idle = record {
+pub told_self : (Past : Whole → Type 0) (v : View) → v.epoch ≡ Out → v.flight ≡ None → HasTold Past v v [] []
+told_self Past v outside idle = record {
   rows = [];
   gains = gains_self v outside idle;
-  tells = λ past s within full w m far. refl;
+  tells = λ past behind s within full w m far. refl;
   shown = λ n s m. elim m [ ];
   settles = λ n m. elim m [ ];
   size = refl;
@@ -86,7 +75,8 @@ row_below to from n (r ∷ rows) up (inl e) = (let b = ascends_le (suc r.number)
 row_below to from n (r ∷ rows) up (inr m) = row_below to (suc r.number) n rows up.1 m
 
 -- what was seen of the table is published
-seen_published : (v u : View) (works : List Work) (items : List Item) (from : ℕ) → (h : HasTold v u works items)
+seen_published : {Past : Whole → Type 0} (v u : View) (works : List Work) (items : List Item) (from : ℕ)
+    → (h : HasTold Past v u works items)
     → from ≤ v.learned.settled → from ≤ v.learned.count → (n : ℕ) → IsSeen from h.rows (shown_in items) n → u.about.number ≤ n
     → IsPublished u n
 seen_published v u works items from h less counted n (inl under) low =
@@ -98,8 +88,8 @@ seen_published v u works items from h less counted n (inr (inr s)) low = h.shown
 
 -- ---- what one item tells
 
-module _ (v u t : View) (works : List Work) (items : List Item) (s : Span) (h : HasTold v u works items) (on : Learns u t)
-    (within : IsWithinSpan v t s) (was : s.full ≡ v.shut) (past : Whole) where
+module _ (Past : Whole → Type 0) (v u t : View) (works : List Work) (items : List Item) (s : Span) (h : HasTold Past v u works items)
+    (on : Learns u t) (within : IsWithinSpan v t s) (was : s.full ≡ v.shut) (past : Whole) where
   -- of one table
   number_is : u.about.number ≡ v.about.number
   number_is = ap (λ (z : Key). z.number) h.gains.on.learns.about
@@ -193,12 +183,12 @@ module _ (v u t : View) (works : List Work) (items : List Item) (s : Span) (h : 
       (row_published u v.lane v.learned.count u.learned.count n h.rows h.gains.told h.gains.ascends (omega arith) has).entry)) e.2
 
   -- what fits is told
-  pub item_told : (w : Work) (x : Item) → IsFit u t w x
+  pub item_told : Past past → (w : Work) (x : Item) → IsFit Past u t w x
       → SureUpTo past t s.to (λ z. TellsItem z now h.rows (shown_in items) w x)
-  item_told (work.Register name def) x f w m far = f
-  item_told (work.Deregister name) x f w m far = f
-  item_told (work.Ingest form header name file) x (inl s) w m far = inl s
-  item_told (work.Ingest form header name file) x (inr (inl f)) w m far = inr (inl (record {
+  item_told behind (work.Register name def) x f w m far = f
+  item_told behind (work.Deregister name) x f w m far = f
+  item_told behind (work.Ingest form header name file) x (inl s) w m far = inl s
+  item_told behind (work.Ingest form header name file) x (inr (inl f)) w m far = inr (inl (record {
     line = f.line;
     lines = f.lines;
     end = f.end;
@@ -210,19 +200,19 @@ module _ (v u t : View) (works : List Work) (items : List Item) (s : Span) (h : 
     past = f.full.past;
     size = size_told form f.counted.payload f.line f.lines f.end f.size w m;
   }))
-  item_told (work.Ingest form header name file) x (inr (inr l)) w m far = inr (inr l)
-  item_told (work.Scan ask) x (inl f) w m far = inl (record {
+  item_told behind (work.Ingest form header name file) x (inr (inr l)) w m far = inr (inr l)
+  item_told behind (work.Scan ask) x (inl f) w m far = inl (record {
     from = f.from;
     to = f.to;
     opens = f.opens;
     rows = f.rows;
     version = f.version;
     is = f.is;
-    tells = scan_told u t ask on (IsSeen s.from h.rows (shown_in items)) seen_is now within_now past f.from f.to f.opens f.rows
-        f.version f.fits w m far;
+    tells = scan_told u t ask on (IsSeen s.from h.rows (shown_in items)) seen_is now within_now past Past behind f.from f.to f.opens
+        f.rows f.version f.fits w m far;
   })
-  item_told (work.Scan ask) x (inr f) w m far = inr (refusal_told ask item.ScanRefused x f w m)
-  item_told (work.Explain ask) x (inl f) w m far = inl (record {
+  item_told behind (work.Scan ask) x (inr f) w m far = inr (refusal_told ask item.ScanRefused x f w m)
+  item_told behind (work.Explain ask) x (inl f) w m far = inl (record {
     from = f.from;
     to = f.to;
     plan = f.plan;
@@ -231,8 +221,8 @@ module _ (v u t : View) (works : List Work) (items : List Item) (s : Span) (h : 
     tells = plan_told u t ask on (IsSeen s.from h.rows (shown_in items)) seen_is now within_now past f.from f.to f.plan
         f.version f.fits w m;
   })
-  item_told (work.Explain ask) x (inr f) w m far = inr (refusal_told ask item.ExplainRefused x f w m)
-  item_told work.Checkpoint x f w m far = record {
+  item_told behind (work.Explain ask) x (inr f) w m far = inr (refusal_told ask item.ExplainRefused x f w m)
+  item_told behind work.Checkpoint x f w m far = record {
     count = f.count;
     is = f.is;
     above = (let a = f.above in let b = h.gains.on.learns.settled in let e = within.settled in omega arith);

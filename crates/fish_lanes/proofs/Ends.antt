@@ -35,6 +35,7 @@ use Rattle.fish_rule.specs.declared.table.Log.{Log}
 use Rattle.fish_rule.specs.declared.view.Key.{Key}
 use Rattle.fish_rule.specs.declared.view.Learned.{Learned}
 use Rattle.fish_rule.specs.declared.view.View.{View}
+use Rattle.fish_whole.specs.Whole.{Whole}
 use Rattle.fish_walk.specs.Settling.{OnlySettles}
 
 -- ---- passes are given
@@ -92,11 +93,11 @@ end_start p t settles can = record {
 
 -- ---- the definitions
 
-module _ {log : Log} {v u t : View} {r q s : Registrar} {first first' : Lane} {others others' : List Lane} {end : BlockEnd}
-    (lanes : HasRunLanes log v u r q first first' others others') (ended : HasFoundEnd u t q s end)
+module _ {Past : Whole → Type 0} {log : Log} {v u t : View} {r q s : Registrar} {first first' : Lane} {others others' : List Lane}
+    {end : BlockEnd} (lanes : HasRunLanes Past log v u r q first first' others others') (ended : HasFoundEnd u t q s end)
     (su : Stands u) (ku : Knows u q) (st : Stands t)
     (near : (k : Span) → IsBlockSpan v t end.to k → (k.from ≤ v.learned.count) × (t.learned.count ≤ k.to + 16)) where
-  controlled : HasControlled lanes.run.main lanes.ran r q first.works first'.items first'.fault
+  controlled : HasControlled Past lanes.run.main lanes.ran r q first.works first'.items first'.fault
   controlled = lanes.run.first_did.controlled
 
   -- the pass that did the first lane's statements knew what the block began with, and what it knew then it knows at the end

@@ -36,7 +36,7 @@ others_new v from (x ∷ lanes) e h = record {
   outside = e.outside;
   few = (let few = h.few in omega arith);
   new = λ i y at. subst (λ (n : ℕ). IsNewLane n y) (let same : suc i + 1 ≡ i + 2 = omega arith in same) (h.new (suc i) y at);
-  free = λ i y at. h.free (suc i) y (omega arith) at;
+  shared = λ i y at. h.shared (suc i) y (omega arith) at;
 }
 
 -- none of them has a pass

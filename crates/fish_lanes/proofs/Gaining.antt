@@ -7,6 +7,7 @@ use Rattle.fish_ingest.specs.declared.refusal.IngestRefusal.{IngestRefusal}
 use Rattle.fish_ingest.specs.declared.refusal.IngestRefusal.TheVariants as refusal
 use Rattle.fish_ingest.specs.Ingestion.{CanStart, HasIngested}
 use Rattle.fish_lanes.proofs.RowLists.{ascends_append, owned_append, told_append, told_later}
+use Rattle.fish_flush.specs.Carrying.{Reads}
 use Rattle.fish_lanes.specs.Gains.{AreTold, Gains, IsFullBy, IsMarkAt, IsShutTold, KeepsLane, KeepsShut}
 use Rattle.fish_lanes.specs.Records.{LaneRow, owned}
 use Rattle.fish_rule.specs.declared.view.Epoch.TheVariants.{Out}
@@ -125,6 +126,24 @@ gains_scans v u outside idle h = record {
 -- by a call that settles
 pub gains_settles : (v u : View) → v.epoch ≡ Out → v.flight ≡ None → OnlySettles v u → Gains v u []
 gains_settles v u outside idle h = record {
+  on = record {
+    learns = h.learns;
+    clock = h.clock;
+    lane = ap (λ (z : View). z.lane) h.frame;
+    out = ap (λ (z : View). z.out) h.frame;
+  };
+  outside = ap (λ (z : View). z.epoch) h.frame ∙ outside;
+  idle = ap (λ (z : View). z.flight) h.frame ∙ idle;
+  own = ap (λ (z : View). z.own) h.frame ∙ sym (append-nil v.own);
+  ascends = h.learns.count;
+  told = tt;
+  shut = λ s e. ap (λ (z : View). z.shut) h.frame ∙ e;
+  marks = marks_same v u h.learns (ap (λ (z : View). z.shut) h.frame);
+}
+
+-- by a checkpoint
+pub gains_reads : (v u : View) → v.epoch ≡ Out → v.flight ≡ None → Reads v u → Gains v u []
+gains_reads v u outside idle h = record {
   on = record {
     learns = h.learns;
     clock = h.clock;

@@ -1,6 +1,7 @@
 -- One statement more.
 use Rattle.std.proofs.Common.{◌≡◌, ◌+◌, ℕ, arith, List, [], ◌∷◌, ◌++◌, refl, sym, ap, ◌∙◌, subst}
 use Rattle.std.proofs.Common.{append_assoc, append-nil, take}
+pub use Rattle.fish_lanes.specs.Advancing.{TellsAll, made, shown_in}
 use Rattle.fish_lanes.specs.Records.{LaneRow, contents}
 use Rattle.fish_lanes.specs.Seen.{Shown, shown_by}
 use Rattle.fish_lanes.specs.Spans.{Span, behind, made_by}
@@ -9,21 +10,12 @@ use Rattle.fish_lanes.specs.declared.work.Work.{Work}
 use Rattle.fish_report.specs.declared.item.Item.{Item}
 use Rattle.fish_whole.specs.Whole.{Whole}
 
--- all numbers that items show
-abbrev pub shown_in : List Item → List Shown
-shown_in [] = []
-shown_in (x ∷ items) = shown_by x ++ shown_in items
-
 -- the block behind items, by the versions that they made
 abbrev pub behind_all : List Item → Span → Span
 behind_all [] s = s
 behind_all (x ∷ items) s = behind_all items (behind x s)
 
--- how many they are
-abbrev pub made : List Item → ℕ
-made [] = 0
-made (x ∷ items) = made_by x + made items
-
+-- they add up
 pub made_append : (xs ys : List Item) → made (xs ++ ys) ≡ made xs + made ys
 made_append [] ys = omega arith
 made_append (x ∷ xs) ys = (let e = made_append xs ys in omega arith)
@@ -33,17 +25,6 @@ behind_is [] s = ap (λ (n : ℕ). record s { first = n }) (let e : s.first ≡ 
 behind_is (x ∷ items) s = behind_is items (behind x s)
     ∙ ap (λ (n : ℕ). record s { first = n })
     (let e : s.first + made_by x + made items ≡ s.first + (made_by x + made items) = omega arith in e)
-
--- what items tell that are as many as the statements
-abbrev pub TellsAll : Whole → Span → List LaneRow → List Shown → List LaneRow → List Work → List Item → Type 0
-TellsAll z s before shown rows [] [] = rows ≡ []
-TellsAll z s before shown rows [] (x ∷ items) = ⊥
-TellsAll z s before shown rows (w ∷ works) [] = ⊥
-TellsAll z s before shown rows (w ∷ works) (x ∷ items) = (mine : List LaneRow) × (rest : List LaneRow)
-    × (rows ≡ mine ++ rest)
-    × (contents mine ≡ take (count_of x) (content_of w))
-    × TellsItem z s before shown w x
-    × TellsAll z (behind x s) (before ++ mine) (shown ++ shown_by x) rest works items
 
 -- one more behind them
 pub tells_more : (z : Whole) (s : Span) (before : List LaneRow) (shown : List Shown) (rows more : List LaneRow)

@@ -7,7 +7,7 @@ use Rattle.fish_lanes.proofs.Keeping.{keeps_self}
 use Rattle.fish_lanes.proofs.Lists.{empty_list, some_once}
 use Rattle.fish_lanes.specs.Blocks.{AreJoined, CanGive, CanTake, HasGiven, HasSeat, HasTakenAll, HasTakenSeat, IsBack}
 use Rattle.fish_lanes.specs.Blocks.{IsNewLane, IsOfLane, IsSeated, IsShutOfLane}
-use Rattle.fish_lanes.specs.Running.{CanBegin, HasDone, IsFree, IsReady}
+use Rattle.fish_lanes.specs.Running.{CanBegin, HasDone, IsReady, IsShared}
 use Rattle.fish_lanes.specs.declared.lane.Lane.{Lane}
 use Rattle.fish_lanes.specs.declared.lane.Seated.{Seated}
 use Rattle.fish_rule.proofs.laws.Clocks.{later_both, later_noted, later_self, later_ticked}
@@ -24,6 +24,7 @@ use Rattle.fish_rule.specs.declared.table.Log.{Log}
 use Rattle.fish_rule.specs.declared.view.Noted.TheVariants.{Tail}
 use Rattle.fish_rule.specs.declared.view.Shut.{Shut}
 use Rattle.fish_rule.specs.declared.view.View.{View}
+use Rattle.fish_whole.specs.Whole.{Whole}
 
 -- ---- passes are given
 
@@ -94,14 +95,13 @@ seated_by log v m i l x y at h s = record {
 -- ---- the statements
 
 -- a lane that got a pass may begin
-pub seated_ready : (log : Log) (v : View) (i : ℕ) (x y : Lane) → IsNewLane (i + 2) x → All IsFree x.works
+pub seated_ready : (log : Log) (v : View) (i : ℕ) (x y : Lane) → IsNewLane (i + 2) x → All IsShared x.works
     → IsSeated log v i x y → IsReady log y
-seated_ready log v i x y new free s = record {
+seated_ready log v i x y new shared s = record {
   seat = s.seat;
   seat_is = ap (λ (z : Lane). z.seat) s.is;
   can = s.can;
-  empty = ap (λ (z : Lane). z.items) s.is ∙ new.empty;
-  free = subst (λ (z : Lane). All IsFree z.works) (sym s.is) free;
+  shared = subst (λ (z : Lane). All IsShared z.works) (sym s.is) shared;
 }
 
 -- the pass of a lane that is ready
@@ -110,7 +110,8 @@ ready_seat log x seat h is =
     subst (λ (z : Seated). CanBegin log z.pass) (some_once h.seat seat (sym h.seat_is ∙ is)) h.can
 
 -- after its statements it may come back
-pub done_back : (log : Log) (v : View) (i : ℕ) (x y z : Lane) → IsSeated log v i x y → HasDone log y z → IsBack log i z
+pub done_back : {Past : Whole → Type 0} (log : Log) (v : View) (i : ℕ) (x y z : Lane) → IsSeated log v i x y → HasDone Past log y z
+    → IsBack log i z
 done_back log v i x y z s d =
     let same : s.seat ≡ d.before = some_once s.seat d.before (sym (ap (λ (w : Lane). w.seat) s.is) ∙ d.before_is) in
     record {

@@ -36,9 +36,11 @@ use Rattle.fish_rule.specs.declared.table.Log.{Log}
 use Rattle.fish_rule.specs.declared.view.Learned.{Learned}
 use Rattle.fish_rule.specs.declared.view.Shut.{Shut}
 use Rattle.fish_rule.specs.declared.view.View.{View}
+use Rattle.fish_whole.specs.Whole.{Whole}
 
-module _ {log : Log} {v w u t : View} {r q kept : Registrar} {first first' : Lane} {before done after : List Lane} {last : BlockEnd}
-    (run : AllRan log v w r q first first' before done) (returned : AllBack w u done after) (ended : HasFoundEnd u t q kept last)
+module _ {Past : Whole → Type 0} {log : Log} {v w u t : View} {r q kept : Registrar} {first first' : Lane}
+    {before done after : List Lane} {last : BlockEnd} (run : AllRan Past log v w r q first first' before done)
+    (returned : AllBack w u done after) (ended : HasFoundEnd u t q kept last)
     (start : (from : ℕ) × HasEnd v from) (stands : Stands t) where
   -- what is known of the block's course
   knows : Knows t kept

@@ -14,6 +14,7 @@ use Rattle.fish_rule.specs.declared.view.Epoch.TheVariants.{Out}
 use Rattle.fish_rule.specs.declared.view.View.{View}
 use Rattle.fish_scan.specs.Scans.{OnlyScans}
 use Rattle.fish_scan.specs.declared.ask.Ask.{Ask}
+use Rattle.fish_whole.specs.Whole.{Whole}
 
 -- a list around one of its elements
 pub around : (works : List Work) (i : ℕ) (w : Work) → i < length works → w ≡ get_or works i w
@@ -52,7 +53,7 @@ take_none zero = refl
 take_none (suc n) = refl
 
 -- a scan gains nothing
-scan_gains : (v u : View) (count : ℕ) → v.epoch ≡ Out → v.flight ≡ None → OnlyScans v u → GainsFirst v u [] count
+pub scan_gains : (v u : View) (count : ℕ) → v.epoch ≡ Out → v.flight ≡ None → OnlyScans v u → GainsFirst v u [] count
 scan_gains v u count outside idle only = record {
   registry = keeps_scans v u only;
   rows = [];
@@ -61,23 +62,25 @@ scan_gains v u count outside idle only = record {
 }
 
 -- so what fits it is its item
-pub scan_items : {E : Type 0} (v u : View) (ask : Ask) (r : Result Item E) → v.epoch ≡ Out → v.flight ≡ None → OnlyScans v u
-    → IfOk r (IsFit v u (work.Scan ask)) → IfOk r (IsItem v u (work.Scan ask))
-scan_items v u ask (Ok x) outside idle only fit = record {
+pub scan_items : (Past : Whole → Type 0) {E : Type 0} (v u : View) (ask : Ask) (r : Result Item E) → v.epoch ≡ Out → v.flight ≡ None
+    → OnlyScans v u
+    → IfOk r (IsFit Past v u (work.Scan ask)) → IfOk r (IsItem Past v u (work.Scan ask))
+scan_items Past v u ask (Ok x) outside idle only fit = record {
   gained = scan_gains v u (count_of x) outside idle only;
   fit = fit;
   shuts = λ shut e. inl (sym (ap (λ (z : View). z.shut) only.frame) ∙ e);
 }
-scan_items v u ask (Err e) outside idle only fit = tt
+scan_items Past v u ask (Err e) outside idle only fit = tt
 
-pub explain_items : {E : Type 0} (v u : View) (ask : Ask) (r : Result Item E) → v.epoch ≡ Out → v.flight ≡ None → OnlyScans v u
-    → IfOk r (IsFit v u (work.Explain ask)) → IfOk r (IsItem v u (work.Explain ask))
-explain_items v u ask (Ok x) outside idle only fit = record {
+pub explain_items : (Past : Whole → Type 0) {E : Type 0} (v u : View) (ask : Ask) (r : Result Item E) → v.epoch ≡ Out → v.flight ≡ None
+    → OnlyScans v u
+    → IfOk r (IsFit Past v u (work.Explain ask)) → IfOk r (IsItem Past v u (work.Explain ask))
+explain_items Past v u ask (Ok x) outside idle only fit = record {
   gained = scan_gains v u (count_of x) outside idle only;
   fit = fit;
   shuts = λ shut e. inl (sym (ap (λ (z : View). z.shut) only.frame) ∙ e);
 }
-explain_items v u ask (Err e) outside idle only fit = tt
+explain_items Past v u ask (Err e) outside idle only fit = tt
 
 -- and it is a part of itself
 pub scan_part : {E : Type 0} (v u : View) (ask : Ask) (r : Result Item E) → v.epoch ≡ Out → v.flight ≡ None → OnlyScans v u

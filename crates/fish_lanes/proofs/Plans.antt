@@ -24,6 +24,7 @@ use Rattle.fish_rule.specs.Table.{Stands}
 use Rattle.fish_rule.specs.declared.view.View.{View}
 use Rattle.fish_scan.specs.Scans.{IsNamed}
 use Rattle.fish_scan.specs.declared.ask.Ask.{Ask}
+use Rattle.fish_whole.specs.Whole.{Whole}
 
 -- ---- one item
 
@@ -66,15 +67,15 @@ module _ (v u : View) (r : Registry) (rows : List CatRow) (start : ℕ) (stands 
     explain_refused_so ask version (cause.EmptyRange first last) f = tt
 
     -- an item that fits its statement
-    pub fit_so : (w : Work) (x : Item) → IsFit v u w x → TellsPlans (KnowsRows u) r.rows rows start w x
+    pub fit_so : (Past : Whole → Type 0) (w : Work) (x : Item) → IsFit Past v u w x → TellsPlans (KnowsRows u) r.rows rows start w x
     unfolding named_at
-    fit_so (work.Register name def) x f = tt
-    fit_so (work.Deregister name) x f = tt
-    fit_so (work.Ingest form header name file) x f = tt
-    fit_so (work.Scan ask) x (inl f) = subst (TellsPlansOf (KnowsRows u) r.rows rows start ask) (sym f.is) tt
-    fit_so (work.Scan ask) x (inr f) =
+    fit_so Past (work.Register name def) x f = tt
+    fit_so Past (work.Deregister name) x f = tt
+    fit_so Past (work.Ingest form header name file) x f = tt
+    fit_so Past (work.Scan ask) x (inl f) = subst (TellsPlansOf (KnowsRows u) r.rows rows start ask) (sym f.is) tt
+    fit_so Past (work.Scan ask) x (inr f) =
         subst (TellsPlansOf (KnowsRows u) r.rows rows start ask) (sym f.is) (scan_refused_so ask f.version f.why f.fits)
-    fit_so (work.Explain ask) x (inl f) =
+    fit_so Past (work.Explain ask) x (inl f) =
         let e = f.fits.explained.planned in
         let least = e.least in
         subst (TellsPlansOf (KnowsRows u) r.rows rows start ask) (sym f.is) (record {
@@ -82,9 +83,9 @@ module _ (v u : View) (r : Registry) (rows : List CatRow) (start : ℕ) (stands 
           plan_is = plan_so v u r.rows rows _ _ ask.how f.from e.settled f.to f.plan start on read
               (are_listed v u r f.fits.known ask e.place stands on registry e.asked.named) bounds (omega arith) e.plan_is;
         })
-    fit_so (work.Explain ask) x (inr f) =
+    fit_so Past (work.Explain ask) x (inr f) =
         subst (TellsPlansOf (KnowsRows u) r.rows rows start ask) (sym f.is) (explain_refused_so ask f.version f.why f.fits)
-    fit_so work.Checkpoint x f = tt
+    fit_so Past work.Checkpoint x f = tt
 
 -- ---- definitions that are others
 

@@ -4,6 +4,7 @@ use Rattle.fish_lanes.proofs.Controls.{free_after, plans_on}
 use Rattle.fish_lanes.proofs.Covering.{read_later}
 use Rattle.fish_lanes.proofs.Plans.{fit_so, plans_longer, plans_more}
 use Rattle.fish_lanes.proofs.Registrations.{after_more, registry_later}
+pub use Rattle.fish_lanes.specs.Advancing.{HasSaid}
 use Rattle.fish_lanes.specs.Doing.{IsFit}
 use Rattle.fish_lanes.specs.Plans.{KnowsRows, TellsPlans}
 use Rattle.fish_lanes.specs.Registering.{Registry, after, after_all}
@@ -14,13 +15,7 @@ use Rattle.fish_report.specs.declared.item.Item.{Item}
 use Rattle.fish_rule.specs.Logs.{Learns}
 use Rattle.fish_rule.specs.Table.{Stands}
 use Rattle.fish_rule.specs.declared.view.View.{View}
-
--- so many items answer the statements so far, and the definitions are the same behind them
-pub record HasSaid (v u : View) (works : List Work) (items : List Item) : Type 0 where
-  pub size : length (answers items) ≡ length works
-  pub same : (r : Registry) → after_all r items ≡ r
-  pub learns : Learns v u
-  pub plans : SayPlans v u works items
+use Rattle.fish_whole.specs.Whole.{Whole}
 
 -- none
 pub said_self : (v : View) → Learns v v → HasSaid v v [] []
@@ -28,12 +23,13 @@ said_self v learns =
     record { size = refl; same = λ r. refl; learns = learns; plans = λ r read registry rows from bounds low. tt }
 
 -- one more
-pub said_more : (v u t : View) (works : List Work) (items : List Item) (w : Work) (x : Item) → Stands t → HasSaid v u works items
-    → Learns u t → IsFree w → IsFit u t w x → Learns v t → length (answers (items ++ x ∷ [])) ≡ length (works ++ w ∷ [])
+pub said_more : (Past : Whole → Type 0) (v u t : View) (works : List Work) (items : List Item) (w : Work) (x : Item) → Stands t
+    → HasSaid v u works items
+    → Learns u t → IsFree w → IsFit Past u t w x → Learns v t → length (answers (items ++ x ∷ [])) ≡ length (works ++ w ∷ [])
     → HasSaid v t (works ++ w ∷ []) (items ++ x ∷ [])
-said_more v u t works items w x stands h learns free fit both size = record {
+said_more Past v u t works items w x stands h learns free fit both size = record {
   size = size;
-  same = λ r. after_more r items x ∙ ap (λ (z : Registry). after z x) (h.same r) ∙ free_after u t w x r free fit;
+  same = λ r. after_more r items x ∙ ap (λ (z : Registry). after z x) (h.same r) ∙ free_after Past u t w x r free fit;
   learns = both;
   plans = λ r read registry rows from bounds low.
       let settled = h.learns.settled in
@@ -41,7 +37,7 @@ said_more v u t works items w x stands h learns free fit both size = record {
       (plans_on v u t r works items learns (h.plans r read registry) rows from bounds low)
       (subst (λ (z : Registry). TellsPlans (KnowsRows t) z.rows rows from w x) (sym (h.same r))
       (fit_so u t r rows from stands learns (read_later v u r.rows h.learns read) (registry_later v u r h.learns registry) bounds
-      (omega arith) w x fit));
+      (omega arith) Past w x fit));
 }
 
 -- a part of one more

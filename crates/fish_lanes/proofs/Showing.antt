@@ -15,6 +15,7 @@ use Rattle.fish_report.specs.declared.item.Item.TheVariants as item
 use Rattle.fish_rule.specs.Views.{Among}
 use Rattle.fish_rule.specs.declared.view.Key.{Key}
 use Rattle.fish_rule.specs.declared.view.View.{View}
+use Rattle.fish_whole.specs.Whole.{Whole}
 
 -- the number up to which all is settled, and whether one is told
 abbrev count_shown : Shown → ℕ
@@ -34,35 +35,37 @@ shows_none x y s P is none m =
 
 module _ (u t : View) (about : t.about ≡ u.about) where
   -- what it shows of the table is published
-  pub item_shown : (w : Work) (x : Item) (n : ℕ) (s : Shown) → IsFit u t w x → Among s (shown_by x) → IsShown n s
+  pub item_shown : (Past : Whole → Type 0) (w : Work) (x : Item) (n : ℕ) (s : Shown) → IsFit Past u t w x → Among s (shown_by x)
+      → IsShown n s
       → t.about.number ≤ n → IsPublished t n
-  item_shown (work.Register name def) x n s (inl f) m sh low = shows_none x _ s (IsPublished t n) f.2 refl m
-  item_shown (work.Register name def) x n s (inr (inl f)) m sh low = shows_none x _ s (IsPublished t n) f.3 refl m
-  item_shown (work.Register name def) x n s (inr (inr f)) m sh low = shows_none x _ s (IsPublished t n) f.1 refl m
-  item_shown (work.Deregister name) x n s (inl f) m sh low = shows_none x _ s (IsPublished t n) f.2 refl m
-  item_shown (work.Deregister name) x n s (inr f) m sh low = shows_none x _ s (IsPublished t n) f.1 refl m
-  item_shown (work.Ingest form header name file) x n s (inl f) m sh low = elim (subst (λ (z : Item). Among s (shown_by z)) f.is m) [ ]
-  item_shown (work.Ingest form header name file) x n s (inr (inl f)) m sh low = refused (subst (λ (z : Item). Among s (shown_by z)) f.is m)
+  item_shown Past (work.Register name def) x n s (inl f) m sh low = shows_none x _ s (IsPublished t n) f.2 refl m
+  item_shown Past (work.Register name def) x n s (inr (inl f)) m sh low = shows_none x _ s (IsPublished t n) f.3 refl m
+  item_shown Past (work.Register name def) x n s (inr (inr f)) m sh low = shows_none x _ s (IsPublished t n) f.1 refl m
+  item_shown Past (work.Deregister name) x n s (inl f) m sh low = shows_none x _ s (IsPublished t n) f.2 refl m
+  item_shown Past (work.Deregister name) x n s (inr f) m sh low = shows_none x _ s (IsPublished t n) f.1 refl m
+  item_shown Past (work.Ingest form header name file) x n s (inl f) m sh low = elim (subst (λ (z : Item). Among s (shown_by z)) f.is m) [ ]
+  item_shown Past (work.Ingest form header name file) x n s (inr (inl f)) m sh low =
+      refused (subst (λ (z : Item). Among s (shown_by z)) f.is m)
     where
       refused : Among s (claimed f.line f.lines f.end ∷ []) → IsPublished t n
       refused (inr none) = elim none [ ]
       refused (inl e) = elim (subst (IsShown n) (sym e) sh) [ ]
-  item_shown (work.Ingest form header name file) x n s (inr (inr f)) m sh low =
+  item_shown Past (work.Ingest form header name file) x n s (inr (inr f)) m sh low =
       elim (subst (λ (z : Item). Among s (shown_by z)) f.is m) [ ]
-  item_shown (work.Scan ask) x n s (inl f) m sh low =
+  item_shown Past (work.Scan ask) x n s (inl f) m sh low =
       scanned f (subst (λ (z : Item). Among s (shown_by z)) f.is m)
     where
-      scanned : (f : FitsScanned u t ask x) → Among s (range f.from f.to f.opens ∷ []) → IsPublished t n
+      scanned : (f : FitsScanned Past u t ask x) → Among s (range f.from f.to f.opens ∷ []) → IsPublished t n
       scanned f (inr none) = elim none [ ]
       scanned f (inl e) =
-          let r = f.fits.answer.explained.planned.range in
+          let r = f.fits.planned.range in
           let i = subst (IsShown n) (sym e) sh in
           range_published u t ask f.from f.to f.opens n r
           (let same : t.about.number ≡ u.about.number = ap (λ (z : Key). z.number) about in omega arith) i.0 i.1 i.2
-  item_shown (work.Scan ask) x n s (inr f) m sh low = elim (subst (λ (z : Item). Among s (shown_by z)) f.is m) [ ]
-  item_shown (work.Explain ask) x n s (inl f) m sh low = elim (subst (λ (z : Item). Among s (shown_by z)) f.is m) [ ]
-  item_shown (work.Explain ask) x n s (inr f) m sh low = elim (subst (λ (z : Item). Among s (shown_by z)) f.is m) [ ]
-  item_shown work.Checkpoint x n s f m sh low = checked f (subst (λ (z : Item). Among s (shown_by z)) f.is m)
+  item_shown Past (work.Scan ask) x n s (inr f) m sh low = elim (subst (λ (z : Item). Among s (shown_by z)) f.is m) [ ]
+  item_shown Past (work.Explain ask) x n s (inl f) m sh low = elim (subst (λ (z : Item). Among s (shown_by z)) f.is m) [ ]
+  item_shown Past (work.Explain ask) x n s (inr f) m sh low = elim (subst (λ (z : Item). Among s (shown_by z)) f.is m) [ ]
+  item_shown Past work.Checkpoint x n s f m sh low = checked f (subst (λ (z : Item). Among s (shown_by z)) f.is m)
     where
       checked : (f : FitsCheckpoint u t x) → Among s (settled f.count ∷ []) → IsPublished t n
       checked f (inr none) = elim none [ ]
@@ -73,31 +76,32 @@ module _ (u t : View) (about : t.about ≡ u.about) where
           settled_published t n low (omega arith) (omega arith)
 
   -- and what it says is settled is
-  pub item_settles : (w : Work) (x : Item) (k : ℕ) → IsFit u t w x → Among (settled k) (shown_by x) → k ≤ t.learned.settled
-  item_settles (work.Register name def) x k (inl f) m = shows_none x _ (settled k) (k ≤ t.learned.settled) f.2 refl m
-  item_settles (work.Register name def) x k (inr (inl f)) m = shows_none x _ (settled k) (k ≤ t.learned.settled) f.3 refl m
-  item_settles (work.Register name def) x k (inr (inr f)) m = shows_none x _ (settled k) (k ≤ t.learned.settled) f.1 refl m
-  item_settles (work.Deregister name) x k (inl f) m = shows_none x _ (settled k) (k ≤ t.learned.settled) f.2 refl m
-  item_settles (work.Deregister name) x k (inr f) m = shows_none x _ (settled k) (k ≤ t.learned.settled) f.1 refl m
-  item_settles (work.Ingest form header name file) x k (inl f) m =
+  pub item_settles : (Past : Whole → Type 0) (w : Work) (x : Item) (k : ℕ) → IsFit Past u t w x → Among (settled k) (shown_by x)
+      → k ≤ t.learned.settled
+  item_settles Past (work.Register name def) x k (inl f) m = shows_none x _ (settled k) (k ≤ t.learned.settled) f.2 refl m
+  item_settles Past (work.Register name def) x k (inr (inl f)) m = shows_none x _ (settled k) (k ≤ t.learned.settled) f.3 refl m
+  item_settles Past (work.Register name def) x k (inr (inr f)) m = shows_none x _ (settled k) (k ≤ t.learned.settled) f.1 refl m
+  item_settles Past (work.Deregister name) x k (inl f) m = shows_none x _ (settled k) (k ≤ t.learned.settled) f.2 refl m
+  item_settles Past (work.Deregister name) x k (inr f) m = shows_none x _ (settled k) (k ≤ t.learned.settled) f.1 refl m
+  item_settles Past (work.Ingest form header name file) x k (inl f) m =
       elim (subst (λ (z : Item). Among (settled k) (shown_by z)) f.is m) [ ]
-  item_settles (work.Ingest form header name file) x k (inr (inl f)) m =
+  item_settles Past (work.Ingest form header name file) x k (inr (inl f)) m =
       refused (subst (λ (z : Item). Among (settled k) (shown_by z)) f.is m)
     where
       refused : Among (settled k) (claimed f.line f.lines f.end ∷ []) → k ≤ t.learned.settled
       refused (inr none) = elim none [ ]
       refused (inl e) = absurd (let bad : 0 ≡ 1 = ap is_count e in cc)
-  item_settles (work.Ingest form header name file) x k (inr (inr f)) m =
+  item_settles Past (work.Ingest form header name file) x k (inr (inr f)) m =
       elim (subst (λ (z : Item). Among (settled k) (shown_by z)) f.is m) [ ]
-  item_settles (work.Scan ask) x k (inl f) m = scanned f (subst (λ (z : Item). Among (settled k) (shown_by z)) f.is m)
+  item_settles Past (work.Scan ask) x k (inl f) m = scanned f (subst (λ (z : Item). Among (settled k) (shown_by z)) f.is m)
     where
-      scanned : (f : FitsScanned u t ask x) → Among (settled k) (range f.from f.to f.opens ∷ []) → k ≤ t.learned.settled
+      scanned : (f : FitsScanned Past u t ask x) → Among (settled k) (range f.from f.to f.opens ∷ []) → k ≤ t.learned.settled
       scanned f (inr none) = elim none [ ]
       scanned f (inl e) = absurd (let bad : 0 ≡ 1 = ap is_count e in cc)
-  item_settles (work.Scan ask) x k (inr f) m = elim (subst (λ (z : Item). Among (settled k) (shown_by z)) f.is m) [ ]
-  item_settles (work.Explain ask) x k (inl f) m = elim (subst (λ (z : Item). Among (settled k) (shown_by z)) f.is m) [ ]
-  item_settles (work.Explain ask) x k (inr f) m = elim (subst (λ (z : Item). Among (settled k) (shown_by z)) f.is m) [ ]
-  item_settles work.Checkpoint x k f m = checked f (subst (λ (z : Item). Among (settled k) (shown_by z)) f.is m)
+  item_settles Past (work.Scan ask) x k (inr f) m = elim (subst (λ (z : Item). Among (settled k) (shown_by z)) f.is m) [ ]
+  item_settles Past (work.Explain ask) x k (inl f) m = elim (subst (λ (z : Item). Among (settled k) (shown_by z)) f.is m) [ ]
+  item_settles Past (work.Explain ask) x k (inr f) m = elim (subst (λ (z : Item). Among (settled k) (shown_by z)) f.is m) [ ]
+  item_settles Past work.Checkpoint x k f m = checked f (subst (λ (z : Item). Among (settled k) (shown_by z)) f.is m)
     where
       checked : (f : FitsCheckpoint u t x) → Among (settled k) (settled f.count ∷ []) → k ≤ t.learned.settled
       checked f (inr none) = elim none [ ]
@@ -106,37 +110,37 @@ module _ (u t : View) (about : t.about ≡ u.about) where
 -- ---- kinds
 
 -- what fits a statement answers it
-pub fit_answer : (u t : View) (w : Work) (x : Item) → IsFit u t w x → is_answer x ≡ true
-fit_answer u t (work.Register name def) x (inl f) = ap is_answer f.2
-fit_answer u t (work.Register name def) x (inr (inl f)) = ap is_answer f.3
-fit_answer u t (work.Register name def) x (inr (inr f)) = ap is_answer f.1
-fit_answer u t (work.Deregister name) x (inl f) = ap is_answer f.2
-fit_answer u t (work.Deregister name) x (inr f) = ap is_answer f.1
-fit_answer u t (work.Ingest form header name file) x (inl f) = ap is_answer f.is
-fit_answer u t (work.Ingest form header name file) x (inr (inl f)) = ap is_answer f.is
-fit_answer u t (work.Ingest form header name file) x (inr (inr f)) = ap is_answer f.is
-fit_answer u t (work.Scan ask) x (inl f) = ap is_answer f.is
-fit_answer u t (work.Scan ask) x (inr f) = ap is_answer f.is
-fit_answer u t (work.Explain ask) x (inl f) = ap is_answer f.is
-fit_answer u t (work.Explain ask) x (inr f) = ap is_answer f.is
-fit_answer u t work.Checkpoint x f = ap is_answer f.is
+pub fit_answer : (Past : Whole → Type 0) (u t : View) (w : Work) (x : Item) → IsFit Past u t w x → is_answer x ≡ true
+fit_answer Past u t (work.Register name def) x (inl f) = ap is_answer f.2
+fit_answer Past u t (work.Register name def) x (inr (inl f)) = ap is_answer f.3
+fit_answer Past u t (work.Register name def) x (inr (inr f)) = ap is_answer f.1
+fit_answer Past u t (work.Deregister name) x (inl f) = ap is_answer f.2
+fit_answer Past u t (work.Deregister name) x (inr f) = ap is_answer f.1
+fit_answer Past u t (work.Ingest form header name file) x (inl f) = ap is_answer f.is
+fit_answer Past u t (work.Ingest form header name file) x (inr (inl f)) = ap is_answer f.is
+fit_answer Past u t (work.Ingest form header name file) x (inr (inr f)) = ap is_answer f.is
+fit_answer Past u t (work.Scan ask) x (inl f) = ap is_answer f.is
+fit_answer Past u t (work.Scan ask) x (inr f) = ap is_answer f.is
+fit_answer Past u t (work.Explain ask) x (inl f) = ap is_answer f.is
+fit_answer Past u t (work.Explain ask) x (inr f) = ap is_answer f.is
+fit_answer Past u t work.Checkpoint x f = ap is_answer f.is
 
 -- and makes no version, but for registrations and their ends
-pub free_made : (u t : View) (w : Work) (x : Item) → IsFree w → IsFit u t w x → made_by x ≡ 0
-free_made u t (work.Register name def) x free f = elim free [ ]
-free_made u t (work.Deregister name) x free f = elim free [ ]
-free_made u t (work.Ingest form header name file) x free (inl f) = ap made_by f.is
-free_made u t (work.Ingest form header name file) x free (inr (inl f)) = ap made_by f.is
-free_made u t (work.Ingest form header name file) x free (inr (inr f)) = ap made_by f.is
-free_made u t (work.Scan ask) x free (inl f) = ap made_by f.is
-free_made u t (work.Scan ask) x free (inr f) = ap made_by f.is
-free_made u t (work.Explain ask) x free (inl f) = ap made_by f.is
-free_made u t (work.Explain ask) x free (inr f) = ap made_by f.is
-free_made u t work.Checkpoint x free f = ap made_by f.is
+pub free_made : (Past : Whole → Type 0) (u t : View) (w : Work) (x : Item) → IsFree w → IsFit Past u t w x → made_by x ≡ 0
+free_made Past u t (work.Register name def) x free f = elim free [ ]
+free_made Past u t (work.Deregister name) x free f = elim free [ ]
+free_made Past u t (work.Ingest form header name file) x free (inl f) = ap made_by f.is
+free_made Past u t (work.Ingest form header name file) x free (inr (inl f)) = ap made_by f.is
+free_made Past u t (work.Ingest form header name file) x free (inr (inr f)) = ap made_by f.is
+free_made Past u t (work.Scan ask) x free (inl f) = ap made_by f.is
+free_made Past u t (work.Scan ask) x free (inr f) = ap made_by f.is
+free_made Past u t (work.Explain ask) x free (inl f) = ap made_by f.is
+free_made Past u t (work.Explain ask) x free (inr f) = ap made_by f.is
+free_made Past u t work.Checkpoint x free f = ap made_by f.is
 
 -- an item of a full log names the claim that shut the pass
-pub full_fit : (u t : View) (w : Work) (x : Item) → IsFit u t w x → IsFullItem t x
-full_fit u t w x fit file line lines end stored refused is = by w (subst (IsFit u t w) is fit)
+pub full_fit : (Past : Whole → Type 0) (u t : View) (w : Work) (x : Item) → IsFit Past u t w x → IsFullItem t x
+full_fit Past u t w x fit file line lines end stored refused is = by w (subst (IsFit Past u t w) is fit)
   where
     line_in : Item → ℕ
     line_in (item.IngestFull called a b c d e) = a
@@ -150,7 +154,7 @@ full_fit u t w x fit file line lines end stored refused is = by w (subst (IsFit 
     end_in (item.IngestFull called a b c d e) = c
     end_in x = 0
 
-    by : (w : Work) → IsFit u t w (item.IngestFull file line lines end stored refused)
+    by : (w : Work) → IsFit Past u t w (item.IngestFull file line lines end stored refused)
         → IsFullBy t line lines end
     by (work.Register name def) (inl f) = (let bad = f.2 in absurd cc)
     by (work.Register name def) (inr (inl f)) = (let bad = f.3 in absurd cc)

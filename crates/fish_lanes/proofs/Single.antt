@@ -13,7 +13,7 @@ use Rattle.fish_lanes.proofs.Covering.{cover_by}
 use Rattle.fish_lanes.specs.Controlling.{RollsBy, TellsTail}
 use Rattle.fish_lanes.specs.Doing.{FitsExplained, FitsRefused, FitsScanned, IsFit, IsRefusedAt}
 use Rattle.fish_lanes.specs.Ending.{HasEnd}
-use Rattle.fish_lanes.specs.Loading.{LoadsWithin}
+use Rattle.fish_lanes.specs.Loading.{LoadsAcross, LoadsInTable, LoadsWithin}
 use Rattle.fish_lanes.specs.Plans.{AreBoundsIn, AreReadBounds}
 use Rattle.fish_lanes.specs.Registering.{IsDeregisterItem, KnowsRegistry, Registry}
 use Rattle.fish_lanes.specs.Running.{IsFree}
@@ -43,7 +43,10 @@ use Rattle.fish_rule.specs.Views.{AllOf}
 use Rattle.fish_rule.specs.World.{high, low}
 use Rattle.fish_rule.specs.declared.view.Key.{Key}
 use Rattle.fish_rule.specs.declared.view.View.{View}
+use Rattle.fish_scan.proofs.OlderLoads.{all_older_later}
 use Rattle.fish_scan.proofs.Working.{all_allowed_later}
+use Rattle.fish_scan.specs.Below.{AreOlderAllowed}
+use Rattle.fish_scan.specs.Cutting.{pieces_above, pieces_below}
 use Rattle.fish_scan.specs.Naming.{IsNewest}
 use Rattle.fish_scan.specs.Reach.{IsExact, IsRange, end_of}
 use Rattle.fish_scan.specs.Scans.{IsCovered, IsNamed, IsPlan, IsPlanned, IsUncovered, first_asked}
@@ -56,19 +59,20 @@ use Rattle.fish_value.specs.declared.row.Row.{Row}
 use Rattle.fish_value.specs.declared.value.Value.{Value}
 use Rattle.fish_walk.specs.Looks.{IsTailCount}
 use Rattle.fish_walk.specs.Settling.{EndsAt, OnlySettles}
+use Rattle.fish_whole.specs.Whole.{Whole}
 
 -- ---- loads
 
 -- whatever counter was handed in, the pass's own count rose by no more
 pub loads_own : {E : Type 0} (v u : View) (value : Value) (old new : ℕ) (r : Result Answer E)
-    → IfOk r (λ a. IsWork v u value a old new) → IfOk r (LoadsWithin v u value)
+    → IfOk r (λ a. IsWork v u value a old new) → IfOk r (LoadsInTable v u value)
 loads_own v u value old new (Ok a) h = record { most = h.most; allowed = h.allowed; few = h.rises.own }
 loads_own v u value old new (Err e) h = tt
 
 -- behind the scan nothing more was loaded
-loads_later : (v u t : View) (value : Value) (answer : Answer) → Learns u t → t.clock.loads ≡ u.clock.loads
-    → LoadsWithin v u value answer → LoadsWithin v t value answer
-loads_later v u t value answer after still h =
+table_later : (v u t : View) (value : Value) (answer : Answer) → Learns u t → t.clock.loads ≡ u.clock.loads
+    → LoadsInTable v u value answer → LoadsInTable v t value answer
+table_later v u t value answer after still h =
     let few = h.few in
     record {
       most = h.most;
@@ -76,6 +80,36 @@ loads_later v u t value answer after still h =
           (all_allowed_later u t value answer.opens answer.rows [] answer.plan h.most after h.allowed);
       few = omega arith;
     }
+
+-- neither of the table nor of what leads to older records
+across_later : (past : Whole) (v u t : View) (value : Value) (answer : Answer) → Learns u t → t.clock.loads ≡ u.clock.loads
+    → LoadsAcross past v u value answer → LoadsAcross past v t value answer
+across_later past v u t value answer after still h =
+    let few = h.few in
+    record {
+      base = h.base;
+      base_is = h.base_is ∙ ap (λ (k : Key). k.number) (sym after.about);
+      image = h.image;
+      end = h.end;
+      prior = h.prior;
+      entries = h.entries;
+      most = h.most;
+      allowed = subst (λ (z : List Row). AreAllowed t value answer.opens z (pieces_above h.base answer.plan) h.most)
+          (append-nil answer.rows)
+          (all_allowed_later u t value answer.opens answer.rows [] (pieces_above h.base answer.plan) h.most after h.allowed);
+      walked = h.walked;
+      older = h.older;
+      allowed_older = subst (λ (z : List Row). AreOlderAllowed h.prior t value z (pieces_below h.base answer.plan) h.walked h.older)
+          (append-nil answer.rows)
+          (all_older_later h.prior u t value answer.rows [] (pieces_below h.base answer.plan) h.walked h.older after h.allowed_older);
+      few = omega arith;
+    }
+
+-- nor of either
+loads_later : {Past : Whole → Type 0} (v u t : View) (value : Value) (answer : Answer) → Learns u t → t.clock.loads ≡ u.clock.loads
+    → LoadsWithin Past v u value answer → LoadsWithin Past v t value answer
+loads_later v u t value answer after still (inl h) = inl (table_later v u t value answer after still h)
+loads_later v u t value answer after still (inr h) = inr (λ past behind. across_later past v u t value answer after still (h past behind))
 
 -- ---- the end of the log
 
@@ -188,10 +222,10 @@ module _ (v u : View) (end : ℕ) (h : HasEnd v end) (learns : Learns v u) (s : 
           is = read_by ask.how (rows_of known) e.asked.named.newest.listed.def from e.settled to plan are same e.plan_is;
         }
 
-    scan_work : (ask : Ask) (x : Item) → FitsScanned v u ask x → IsScanWork v u r.rows end ask x
+    scan_work : {Past : Whole → Type 0} (ask : Ask) (x : Item) → FitsScanned Past v u ask x → IsScanWork Past v u r.rows end ask x
     scan_work ask x f =
         let a = f.fits in
-        let e = a.answer.explained.planned in
+        let e = a.planned in
         record {
           answer = record { from = f.from; to = f.to; opens = f.opens; rows = f.rows; plan = a.plan };
           version = f.version;
@@ -235,38 +269,38 @@ module _ (v u : View) (end : ℕ) (h : HasEnd v end) (learns : Learns v u) (s : 
         record { version = f.version; why = f.why; is = f.is; tells = cause_at ask f.version f.why f.fits }
 
     -- what fits a statement that changes no definition tells this
-    pub fit_free : (w : Work) (x : Item) → IsFree w → IsFit v u w x → TellsSingle v u r.rows end w x
-    fit_free (work.Scan ask) x free (inl f) = inl (scan_work ask x f)
-    fit_free (work.Scan ask) x free (inr f) = inr (told_at ask item.ScanRefused x f)
-    fit_free (work.Explain ask) x free (inl f) = inl (plan_told_at ask x f)
-    fit_free (work.Explain ask) x free (inr f) = inr (told_at ask item.ExplainRefused x f)
-    fit_free work.Checkpoint x free f =
+    pub fit_free : (Past : Whole → Type 0) (w : Work) (x : Item) → IsFree w → IsFit Past v u w x → TellsSingle Past v u r.rows end w x
+    fit_free Past (work.Scan ask) x free (inl f) = inl (scan_work ask x f)
+    fit_free Past (work.Scan ask) x free (inr f) = inr (told_at ask item.ScanRefused x f)
+    fit_free Past (work.Explain ask) x free (inl f) = inl (plan_told_at ask x f)
+    fit_free Past (work.Explain ask) x free (inr f) = inr (told_at ask item.ExplainRefused x f)
+    fit_free Past work.Checkpoint x free f =
         let e = f.exact h.alone in
         f.is ∙ ap item.Checkpointed (same_end v u end f.count e.0 h learns s f.above f.settled e.1 e.2)
-    fit_free (work.Ingest form header name file) x free f = tt
-    fit_free (work.Register name def) x free f = elim free [ ]
-    fit_free (work.Deregister name) x free f = elim free [ ]
+    fit_free Past (work.Ingest form header name file) x free f = tt
+    fit_free Past (work.Register name def) x free f = elim free [ ]
+    fit_free Past (work.Deregister name) x free f = elim free [ ]
 
   -- and so does what fits any
-  pub fit_single : (w : Work) (x : Item) (r : Registry) → Stands v → AreReadBounds v r.rows → KnowsRegistry v r
-      → (IsFree w → AreBoundsIn u r.rows × (u.learned.version ≡ r.version)) → TellsTail v x → IsFit v u w x
-      → TellsSingle v u r.rows end w x
-  fit_single (work.Register name def) x r stood read registry free at f = boundary_at x stood at
-  fit_single (work.Deregister name) x r stood read registry free at f = boundary_at x stood at
-  fit_single (work.Ingest form header name file) x r stood read registry free at f = tt
-  fit_single (work.Scan ask) x r stood read registry free at f =
-      fit_free r read registry (free tt).0 (free tt).1 (work.Scan ask) x tt f
-  fit_single (work.Explain ask) x r stood read registry free at f =
-      fit_free r read registry (free tt).0 (free tt).1 (work.Explain ask) x tt f
-  fit_single work.Checkpoint x r stood read registry free at f =
-      fit_free r read registry (free tt).0 (free tt).1 work.Checkpoint x tt f
+  pub fit_single : (Past : Whole → Type 0) (w : Work) (x : Item) (r : Registry) → Stands v → AreReadBounds v r.rows → KnowsRegistry v r
+      → (IsFree w → AreBoundsIn u r.rows × (u.learned.version ≡ r.version)) → TellsTail v x → IsFit Past v u w x
+      → TellsSingle Past v u r.rows end w x
+  fit_single Past (work.Register name def) x r stood read registry free at f = boundary_at x stood at
+  fit_single Past (work.Deregister name) x r stood read registry free at f = boundary_at x stood at
+  fit_single Past (work.Ingest form header name file) x r stood read registry free at f = tt
+  fit_single Past (work.Scan ask) x r stood read registry free at f =
+      fit_free r read registry (free tt).0 (free tt).1 Past (work.Scan ask) x tt f
+  fit_single Past (work.Explain ask) x r stood read registry free at f =
+      fit_free r read registry (free tt).0 (free tt).1 Past (work.Explain ask) x tt f
+  fit_single Past work.Checkpoint x r stood read registry free at f =
+      fit_free r read registry (free tt).0 (free tt).1 Past work.Checkpoint x tt f
 
 -- ---- later
 
 module _ (v u t : View) (rows : List CatRow) (end : ℕ) (learns : Learns u t) (still : t.clock.loads ≡ u.clock.loads) where
   -- what was told is so of the pass where it knows more and loaded nothing since
-  single_later : (w : Work) (x : Item) → TellsSingle v u rows end w x → TellsSingle v t rows end w x
-  single_later (work.Scan ask) x (inl h) = inl (record {
+  single_later : (Past : Whole → Type 0) (w : Work) (x : Item) → TellsSingle Past v u rows end w x → TellsSingle Past v t rows end w x
+  single_later Past (work.Scan ask) x (inl h) = inl (record {
     answer = h.answer;
     version = h.version;
     is = h.is;
@@ -274,20 +308,50 @@ module _ (v u t : View) (rows : List CatRow) (end : ℕ) (learns : Learns u t) (
     plan = h.plan;
     loads = loads_later v u t ask.value h.answer learns still h.loads;
   })
-  single_later (work.Scan ask) x (inr h) = inr h
-  single_later (work.Explain ask) x h = h
-  single_later work.Checkpoint x h = h
-  single_later (work.Register name def) x h = h
-  single_later (work.Deregister name) x h = h
-  single_later (work.Ingest form header name file) x h = tt
+  single_later Past (work.Scan ask) x (inr h) = inr h
+  single_later Past (work.Explain ask) x h = h
+  single_later Past work.Checkpoint x h = h
+  single_later Past (work.Register name def) x h = h
+  single_later Past (work.Deregister name) x h = h
+  single_later Past (work.Ingest form header name file) x h = tt
 
-  pub singles_later : (w : Work) (items : List Item) → AllOf (TellsSingle v u rows end w) items
-      → AllOf (TellsSingle v t rows end w) items
-  singles_later w [] h = tt
-  singles_later w (x ∷ items) h = (single_later w x h.0, singles_later w items h.1)
+  pub singles_later : (Past : Whole → Type 0) (w : Work) (items : List Item) → AllOf (TellsSingle Past v u rows end w) items
+      → AllOf (TellsSingle Past v t rows end w) items
+  singles_later Past w [] h = tt
+  singles_later Past w (x ∷ items) h = (single_later Past w x h.0, singles_later Past w items h.1)
 
-  pub only_later : (works : List Work) (items : List Item) → TellsOnly v u rows end works items → TellsOnly v t rows end works items
-  only_later works items h w one = singles_later w (answers items) (h w one)
+  pub only_later : (Past : Whole → Type 0) (works : List Work) (items : List Item) → TellsOnly Past v u rows end works items
+      → TellsOnly Past v t rows end works items
+  only_later Past works items h w one = singles_later Past w (answers items) (h w one)
+
+-- ---- fewer pasts
+
+module _ (P Q : Whole → Type 0) (v u : View) (rows : List CatRow) (end : ℕ) (fewer : (past : Whole) → Q past → P past) where
+  -- what is told behind some pasts is told behind each of these
+  single_fewer : (w : Work) (x : Item) → TellsSingle P v u rows end w x → TellsSingle Q v u rows end w x
+  single_fewer (work.Scan ask) x (inl h) = inl (record {
+    answer = h.answer;
+    version = h.version;
+    is = h.is;
+    closed = h.closed;
+    plan = h.plan;
+    loads = ⊎_elim (λ (one : LoadsInTable v u ask.value h.answer). inl one)
+        (λ (each : (past : Whole) → P past → LoadsAcross past v u ask.value h.answer). inr (λ past behind. each past (fewer past behind)))
+        h.loads;
+  })
+  single_fewer (work.Scan ask) x (inr h) = inr h
+  single_fewer (work.Explain ask) x h = h
+  single_fewer work.Checkpoint x h = h
+  single_fewer (work.Register name def) x h = h
+  single_fewer (work.Deregister name) x h = h
+  single_fewer (work.Ingest form header name file) x h = tt
+
+  singles_fewer : (w : Work) (items : List Item) → AllOf (TellsSingle P v u rows end w) items → AllOf (TellsSingle Q v u rows end w) items
+  singles_fewer w [] h = tt
+  singles_fewer w (x ∷ items) h = (single_fewer w x h.0, singles_fewer w items h.1)
+
+  pub only_fewer : (works : List Work) (items : List Item) → TellsOnly P v u rows end works items → TellsOnly Q v u rows end works items
+  only_fewer works items h w one = singles_fewer w (answers items) (h w one)
 
 -- ---- open numbers
 
@@ -300,18 +364,18 @@ alone_changes u p changes alone = record {
 }
 
 -- its items name no open number and no other lane
-pub fit_closed : (v u : View) (w : Work) (x : Item) → IsFree w → IsAlone v → IsFit v u w x → NamesNone x
-fit_closed v u (work.Register name def) x free a f = elim free [ ]
-fit_closed v u (work.Deregister name) x free a f = elim free [ ]
-fit_closed v u (work.Ingest form header name file) x free a (inl f) = subst NamesNone (sym f.is) tt
-fit_closed v u (work.Ingest form header name file) x free a (inr (inl f)) = subst NamesNone (sym f.is) tt
-fit_closed v u (work.Ingest form header name file) x free a (inr (inr f)) = subst NamesNone (sym f.is) tt
-fit_closed v u (work.Scan ask) x free a (inl f) =
-    subst NamesNone (sym f.is) (f.fits.answer.explained.planned.exact a).closed
-fit_closed v u (work.Scan ask) x free a (inr f) = subst NamesNone (sym f.is) tt
-fit_closed v u (work.Explain ask) x free a (inl f) = subst NamesNone (sym f.is) tt
-fit_closed v u (work.Explain ask) x free a (inr f) = subst NamesNone (sym f.is) tt
-fit_closed v u work.Checkpoint x free a f = subst NamesNone (sym f.is) tt
+pub fit_closed : (Past : Whole → Type 0) (v u : View) (w : Work) (x : Item) → IsFree w → IsAlone v → IsFit Past v u w x → NamesNone x
+fit_closed Past v u (work.Register name def) x free a f = elim free [ ]
+fit_closed Past v u (work.Deregister name) x free a f = elim free [ ]
+fit_closed Past v u (work.Ingest form header name file) x free a (inl f) = subst NamesNone (sym f.is) tt
+fit_closed Past v u (work.Ingest form header name file) x free a (inr (inl f)) = subst NamesNone (sym f.is) tt
+fit_closed Past v u (work.Ingest form header name file) x free a (inr (inr f)) = subst NamesNone (sym f.is) tt
+fit_closed Past v u (work.Scan ask) x free a (inl f) =
+    subst NamesNone (sym f.is) (f.fits.planned.exact a).closed
+fit_closed Past v u (work.Scan ask) x free a (inr f) = subst NamesNone (sym f.is) tt
+fit_closed Past v u (work.Explain ask) x free a (inl f) = subst NamesNone (sym f.is) tt
+fit_closed Past v u (work.Explain ask) x free a (inr f) = subst NamesNone (sym f.is) tt
+fit_closed Past v u work.Checkpoint x free a f = subst NamesNone (sym f.is) tt
 
 -- nor does the item of the end of a definition
 pub end_closed : {E : Type 0} (name : List ℕ) (r : Result Item E) → IfOk r (IsDeregisterItem name) → IfOk r NamesNone
@@ -348,28 +412,31 @@ none_there (x ∷ items) works size e = (let same : length works ≡ 0 = ap leng
 -- ---- the end of a block
 
 -- with no other lane the block loads what its statement loads
-pub only_end : (v m w u p t : View) (rows : List CatRow) (end : ℕ) (works after : List Work) (items : List Item) → m ≡ v → u ≡ w
-    → Changes u p → OnlySettles p t → after ≡ works → TellsOnly m w rows end works items → TellsOnly v t rows end after items
-only_end v m w u p t rows end works after items given taken changes settles same h one is =
+pub only_end : (Past : Whole → Type 0) (v m w u p t : View) (rows : List CatRow) (end : ℕ) (works after : List Work) (items : List Item)
+    → m ≡ v → u ≡ w
+    → Changes u p → OnlySettles p t → after ≡ works → TellsOnly Past m w rows end works items → TellsOnly Past v t rows end after items
+only_end Past v m w u p t rows end works after items given taken changes settles same h one is =
     let learns : Learns w t = learns_both w p t (subst (λ (z : View). Learns z p) taken (learns_changes u p changes)) settles.learns in
-    singles_later v w t rows end learns (settles.loads ∙ changes.loads ∙ ap (λ (z : View). z.clock.loads) taken) one (answers items)
-    (subst (λ (z : View). AllOf (TellsSingle z w rows end one) (answers items)) given (h one (sym same ∙ is)))
+    singles_later v w t rows end learns (settles.loads ∙ changes.loads ∙ ap (λ (z : View). z.clock.loads) taken) Past one
+    (answers items)
+    (subst (λ (z : View). AllOf (TellsSingle Past z w rows end one) (answers items)) given (h one (sym same ∙ is)))
 
 -- ---- without the pass
 
 -- the range is whole
-single_whole : (v u : View) (rows : List CatRow) (end : ℕ) (w : Work) (x : Item) → TellsSingle v u rows end w x
+single_whole : (Past : Whole → Type 0) (v u : View) (rows : List CatRow) (end : ℕ) (w : Work) (x : Item) → TellsSingle Past v u rows end w x
     → TellsWhole rows v.shut end w x
-single_whole v u rows end (work.Scan ask) x (inl h) = subst (TellsWhole rows v.shut end (work.Scan ask)) (sym h.is) (h.answer.plan, h.plan)
-single_whole v u rows end (work.Scan ask) x (inr h) = subst (TellsWhole rows v.shut end (work.Scan ask)) (sym h.is) h.tells
-single_whole v u rows end (work.Explain ask) x (inl h) = subst (TellsWhole rows v.shut end (work.Explain ask)) (sym h.is) h.plan
-single_whole v u rows end (work.Explain ask) x (inr h) = subst (TellsWhole rows v.shut end (work.Explain ask)) (sym h.is) h.tells
-single_whole v u rows end (work.Register name def) x h = h
-single_whole v u rows end (work.Deregister name) x h = h
-single_whole v u rows end (work.Ingest form header name file) x h = tt
-single_whole v u rows end work.Checkpoint x h = h
+single_whole Past v u rows end (work.Scan ask) x (inl h) = subst (TellsWhole rows v.shut end (work.Scan ask)) (sym h.is)
+    (h.answer.plan, h.plan)
+single_whole Past v u rows end (work.Scan ask) x (inr h) = subst (TellsWhole rows v.shut end (work.Scan ask)) (sym h.is) h.tells
+single_whole Past v u rows end (work.Explain ask) x (inl h) = subst (TellsWhole rows v.shut end (work.Explain ask)) (sym h.is) h.plan
+single_whole Past v u rows end (work.Explain ask) x (inr h) = subst (TellsWhole rows v.shut end (work.Explain ask)) (sym h.is) h.tells
+single_whole Past v u rows end (work.Register name def) x h = h
+single_whole Past v u rows end (work.Deregister name) x h = h
+single_whole Past v u rows end (work.Ingest form header name file) x h = tt
+single_whole Past v u rows end work.Checkpoint x h = h
 
-pub singles_whole : (v u : View) (rows : List CatRow) (end : ℕ) (w : Work) (items : List Item)
-    → AllOf (TellsSingle v u rows end w) items → AllOf (TellsWhole rows v.shut end w) items
-singles_whole v u rows end w [] h = tt
-singles_whole v u rows end w (x ∷ items) h = (single_whole v u rows end w x h.0, singles_whole v u rows end w items h.1)
+pub singles_whole : (Past : Whole → Type 0) (v u : View) (rows : List CatRow) (end : ℕ) (w : Work) (items : List Item)
+    → AllOf (TellsSingle Past v u rows end w) items → AllOf (TellsWhole rows v.shut end w) items
+singles_whole Past v u rows end w [] h = tt
+singles_whole Past v u rows end w (x ∷ items) h = (single_whole Past v u rows end w x h.0, singles_whole Past v u rows end w items h.1)

@@ -17,6 +17,7 @@ use Rattle.fish_lanes.proofs.Gaining.{full_by, gains_both, gains_left, gains_one
 use Rattle.fish_lanes.proofs.Keeping.{keeps_both, keeps_ingests, keeps_self}
 use Rattle.fish_lanes.proofs.RowLists.{contents_append}
 use Rattle.fish_lanes.specs.Doing.{GainsFirst, IsItem, IsPart}
+use Rattle.fish_lanes.specs.Pasts.{anywhere}
 use Rattle.fish_lanes.specs.Gains.{Gains}
 use Rattle.fish_lanes.specs.Records.{Content, contents}
 use Rattle.fish_lanes.specs.Registering.{KeepsRegistry}
@@ -298,7 +299,7 @@ json_outcomes file lines is = ap (map json.payload_of) (sym is)
 -- what was stored of a file is what its item tells
 pub file_item : (v u : View) (form : Form) (header : Bool) (name file : List ℕ) (tally : Tally) (end : Option Shut)
     → length file ≤ longest_file → EndsWith v u form (outcomes form header file) tally end
-    → IsItem v u (work.Ingest form header name file) (item_of name tally end)
+    → IsItem anywhere v u (work.Ingest form header name file) (item_of name tally end)
 file_item v u form header name file tally None within h = record {
   gained = stored_first v u form (outcomes form header file) [] tally h.stored;
   shuts = λ c e. inl (sym h.shut ∙ e);

@@ -2,6 +2,7 @@
 use Rattle.std.specs.Prelude.{ℕ, ◌≡◌, ◌⊎◌, ◌+◌, ◌++◌, ◌<◌, ◌≤◌, List, [], All, length, slice_get, slice_index_or, Some, None}
 use Rattle.fish_catalog.specs.declared.entry.Entry.{Entry}
 use Rattle.fish_catalog.specs.declared.entry.Entry.TheVariants as entry
+use Rattle.fish_lanes.specs.Advancing.{HasGone}
 use Rattle.fish_lanes.specs.Controlling.{HasControlled, bound_items}
 use Rattle.fish_lanes.specs.Ending.{HasEnd}
 use Rattle.fish_lanes.specs.declared.block.BlockEnd.{BlockEnd}
@@ -10,7 +11,7 @@ use Rattle.fish_registry.specs.declared.registrar.Registrar.{Registrar}
 use Rattle.fish_lanes.specs.Pending.{AreFound}
 use Rattle.fish_lanes.specs.Records.{rows_of_lane}
 use Rattle.fish_lanes.specs.Registering.{AreSo, IsAcceptable, KeepsRegistry, KnowsEach, KnowsRegistry, after_all, registry_of}
-use Rattle.fish_lanes.specs.Running.{CanBegin, HasDone, IsEnded, IsFree, IsReady}
+use Rattle.fish_lanes.specs.Running.{CanBegin, HasDone, IsEnded, IsReady, IsShared}
 use Rattle.fish_lanes.specs.Spans.{IsAnswer, Span}
 use Rattle.fish_lanes.specs.Telling.{TellsLane}
 use Rattle.fish_lanes.specs.declared.lane.Lane.{Lane}
@@ -50,13 +51,13 @@ pub record IsNewLane (number : ℕ) (x : Lane) : Type 0 where
   pub number_is : x.number ≡ number
   pub empty : x.items ≡ []
 
--- there are 1 to 16 lanes, with the numbers from 1 on; the first alone may change definitions, as a registrar asks
+-- there are 1 to 16 lanes, with the numbers from 1 on; the first alone may commit, and change definitions, as a registrar asks
 pub record AreLanes (lanes : List Lane) : Type 0 where
   pub some : 1 ≤ length lanes
   pub few : length lanes ≤ 16
   pub new : At (λ i x. IsNewLane (i + 1) x) lanes
   pub acceptable : (x : Lane) → slice_get lanes 0 ≡ Some x → All IsAcceptable x.works
-  pub free : (i : ℕ) (x : Lane) → 0 < i → slice_get lanes i ≡ Some x → All IsFree x.works
+  pub shared : (i : ℕ) (x : Lane) → 0 < i → slice_get lanes i ≡ Some x → All IsShared x.works
 
 -- ---- passes for the lanes from 2 on
 
@@ -75,7 +76,7 @@ pub record CanGive (v : View) (lanes : List Lane) : Type 0 where
   pub outside : v.epoch ≡ Out
   pub few : length lanes < 16
   pub new : At (λ i x. IsNewLane (i + 2) x) lanes
-  pub free : At (λ i x. All IsFree x.works) lanes
+  pub shared : At (λ i x. All IsShared x.works) lanes
 
 -- it gave out the lanes from 2 on, so many, and is else as it was
 pub record HasGiven (v m : View) (many : ℕ) : Type 0 where
@@ -111,8 +112,13 @@ AreSeated log v old new = Both (IsSeated log v) old new
 abbrev pub AreReady : Log → List Lane → Type 0
 AreReady log lanes = All (IsReady log) lanes
 
-pub record AreDone (log : Log) (old new : List Lane) : Type 0 where
-  pub each : (i : ℕ) (d : Lane) → i < length old → HasDone log (slice_index_or old i d) (slice_index_or new i d)
+-- they went on at once, up to scans of older records
+pub record AreGone (log : Log) (old new : List Lane) : Type 0 where
+  pub each : (i : ℕ) (d : Lane) → i < length old → HasGone log (slice_index_or old i d) (slice_index_or new i d)
+
+-- they did them
+abbrev pub AreDone : (Whole → Type 0) → Log → List Lane → List Lane → Type 0
+AreDone Past log old new = Both (λ i x y. HasDone Past log x y) old new
 
 -- the control pass may do the statements of the first lane
 pub record IsFirst (v : View) (r : Registrar) (x : Lane) : Type 0 where
@@ -121,8 +127,8 @@ pub record IsFirst (v : View) (r : Registrar) (x : Lane) : Type 0 where
   pub empty : x.items ≡ []
 
 -- it did them
-pub record HasRunFirst (v u : View) (r s : Registrar) (x y : Lane) : Type 0 where
-  pub controlled : HasControlled v u r s x.works y.items y.fault
+pub record HasRunFirst (Past : Whole → Type 0) (v u : View) (r s : Registrar) (x y : Lane) : Type 0 where
+  pub controlled : HasControlled Past v u r s x.works y.items y.fault
   pub works : y.works ≡ x.works
   pub number : y.number ≡ x.number
   pub seat : y.seat ≡ x.seat

@@ -1,5 +1,5 @@
 -- What one step of the control pass on the definitions tells and leaves. Private clauses speak of it.
-use Rattle.std.specs.Prelude.{ℕ, ◌≡◌, ◌⊎◌, ◌<◌, suc, List, [], ◌∷◌, ◌++◌, Option, Some, None, take, ⊤}
+use Rattle.std.specs.Prelude.{ℕ, ◌≡◌, ◌⊎◌, ◌<◌, ◌≤◌, suc, List, [], ◌∷◌, ◌++◌, Option, Some, None, take, ⊤}
 use Rattle.fish_ingest.specs.Ingestion.{CanStart}
 use Rattle.fish_lanes.specs.Doing.{IsFit}
 use Rattle.fish_lanes.specs.Ending.{HasEnd}
@@ -36,6 +36,7 @@ use Rattle.fish_rule.specs.declared.table.Log.{Log}
 use Rattle.fish_rule.specs.declared.table.Pass.{Pass}
 use Rattle.fish_rule.specs.declared.view.Noted.TheVariants.{Epoch}
 use Rattle.fish_rule.specs.declared.view.View.{View}
+use Rattle.fish_whole.specs.Whole.{Whole}
 
 -- the control pass is out, and the registrar's rows are what it knows
 pub record CanControl (log : Log) (pass : Pass) (r : Registrar) : Type 0 where
@@ -116,6 +117,10 @@ deregister_cause refusal.TooManyDefinitions = None
 deregister_cause refusal.OutOfMemory = None
 deregister_cause refusal.UnknownName = Some deregister.UnknownName
 
+-- a checkpoint that the item tells has no more entries than the last commit
+abbrev pub IsCommitted : ℕ → Item → Type 0
+IsCommitted count x = (n : ℕ) → x ≡ item.Checkpointed n → n ≤ count
+
 -- a boundary that the item tells is where the pass knew the tail
 abbrev pub TellsTail : View → Item → Type 0
 TellsTail u (item.Registered name id from def) = IsAtTail u from
@@ -125,11 +130,11 @@ TellsTail u x = ⊤
 -- ---- statements of the first lane
 
 -- one statement was done
-pub record IsControlled (u : View) (r : Registrar) (t : View) (s : Registrar) (w : Work) (x : Item) : Type 0 where
+pub record IsControlled (Past : Whole → Type 0) (u : View) (r : Registrar) (t : View) (s : Registrar) (w : Work) (x : Item) : Type 0 where
   pub rows : List LaneRow
   pub gains : Gains u t rows
   pub first : contents rows ≡ take (count_of x) (content_of w)
-  pub fit : IsFit u t w x
+  pub fit : IsFit Past u t w x
   pub shuts : TellsShut u t (x ∷ [])
   pub none : IsAlone u → NamesNone x
   pub tail : IsAlone u → TellsTail u x
@@ -145,11 +150,11 @@ pub record IsPartControlled (u t : View) (w : Work) : Type 0 where
 
 -- what the statements of the first lane leave: their items, which are so of the definitions where they stand, what those of pending
 -- registrations have behind them, and what one that is alone tells besides; and, unless there was a fault, the registry behind them
-pub record HasControlled (v u : View) (r s : Registrar) (works : List Work) (items : List Item) (fault : LaneFault) : Type 0 where
-  pub run : HasRun v u works items fault
+pub record HasControlled (Past : Whole → Type 0) (v u : View) (r s : Registrar) (works : List Work) (items : List Item) (fault : LaneFault) : Type 0 where
+  pub run : HasRun Past v u works items fault
   pub so : AreSo v.learned.count u.learned.count (registry_of v r) items
   pub closed : IsAlone v → AllOf NamesNone items
-  pub only : (end : ℕ) → HasEnd v end → r.waiting ≡ None → TellsOnly v u r.catalog end works items
+  pub only : (end : ℕ) → HasEnd v end → r.waiting ≡ None → TellsOnly Past v u r.catalog end works items
   pub plans : PlansAreSoBy v u (registry_of v r) works items
   pub is : fault ≡ cause.None → registry_of u s ≡ after_all (registry_of v r) items
   pub each : KnowsEach u (registry_of v r) items

@@ -11,15 +11,17 @@ use Rattle.fish_rule.specs.Table.{Stands}
 use Rattle.fish_rule.specs.declared.table.Log.{Log}
 use Rattle.fish_rule.specs.declared.view.View.{View}
 use Rattle.fish_walk.specs.Settling.{EndsAt, HasTail, OnlySettles}
+use Rattle.fish_whole.specs.Whole.{Whole}
 
 -- the control pass gave each other lane its pass, and all did their statements
-pub record AllRan (log : Log) (v w : View) (r q : Registrar) (first first' : Lane) (before done : List Lane) : Type 0 where
+pub record AllRan (Past : Whole → Type 0) (log : Log) (v w : View) (r q : Registrar) (first first' : Lane) (before done : List Lane)
+    : Type 0 where
   pub main : View
   pub given : List Lane
   pub gives : HasGiven v main (length before)
   pub seated : AreSeated log v before given
-  pub first_did : HasRunFirst main w r q first first'
-  pub others_did : AreDone log given done
+  pub first_did : HasRunFirst Past main w r q first first'
+  pub others_did : AreDone Past log given done
   pub stands : Stands w
   pub knows : Knows w q
   pub given_size : length given ≡ length before
@@ -32,10 +34,10 @@ pub record AllBack (w u : View) (done after : List Lane) : Type 0 where
   pub size : length after ≡ length done
 
 -- the one and the other
-pub record HasRunLanes (log : Log) (v u : View) (r q : Registrar) (first first' : Lane) (before after : List Lane) : Type 0 where
+pub record HasRunLanes (Past : Whole → Type 0) (log : Log) (v u : View) (r q : Registrar) (first first' : Lane) (before after : List Lane) : Type 0 where
   pub ran : View
   pub done : List Lane
-  pub run : AllRan log v ran r q first first' before done
+  pub run : AllRan Past log v ran r q first first' before done
   pub back : AllBack ran u done after
 
 -- it then stored the boundary that waited, if one did, and found where the log ends

@@ -1,4 +1,6 @@
+pub mod Advancing
 pub mod Blocks
+pub mod Causes
 pub mod Controlling
 pub mod Course
 pub mod Doing
@@ -6,6 +8,7 @@ pub mod Ending
 pub mod Gains
 pub mod Loading
 pub mod Outcome
+pub mod Pasts
 pub mod Pending
 pub mod Plans
 pub mod Published

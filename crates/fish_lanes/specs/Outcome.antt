@@ -1,8 +1,9 @@
 -- What a block leaves and tells besides what its items tell of the log.
-use Rattle.std.specs.Prelude.{ℕ, ◌≡◌, ◌⊎◌, List, [], ◌∷◌, slice_get, Some, None}
+use Rattle.std.specs.Prelude.{ℕ, ◌≡◌, ◌≤◌, ◌⊎◌, List, [], ◌∷◌, slice_get, Some, None}
 use Rattle.fish_catalog.specs.declared.listed.Listed.{Listed}
 use Rattle.fish_catalog.specs.declared.row.CatRow.{CatRow}
 use Rattle.fish_lanes.specs.Blocks.{At}
+use Rattle.fish_lanes.specs.Causes.{HasCause, IsUndamaged}
 use Rattle.fish_lanes.specs.Ending.{HasEnd}
 use Rattle.fish_lanes.specs.Gains.{WasShut, KeepsShut}
 use Rattle.fish_lanes.specs.declared.work.LaneFault.TheVariants as cause
@@ -16,6 +17,8 @@ use Rattle.fish_report.specs.declared.item.Item.TheVariants as item
 use Rattle.fish_rule.specs.Views.{AllOf, Among}
 use Rattle.fish_rule.specs.declared.view.Shut.{Shut}
 use Rattle.fish_rule.specs.declared.view.View.{View}
+use Rattle.fish_store.specs.Sound.{MayGoOn, Point}
+use Rattle.fish_whole.specs.Whole.{Whole}
 
 -- ---- a full log
 
@@ -49,16 +52,29 @@ LanesSayPlans Are r rows from lanes = At (λ i x. AreSoPlans Are r rows from x.w
 
 -- the items of a block of one lane name no open number and no other lane; and where no registration waited for its boundary, one
 -- statement that is all of the block tells what can be told where nothing runs beside it
-pub record TellsAloneBy (v u : View) (r : Registrar) (x : Lane) : Type 0 where
+pub record TellsAloneBy (Past : Whole → Type 0) (v u : View) (r : Registrar) (x : Lane) : Type 0 where
   pub closed : AllOf NamesNone x.items
-  pub only : (end : ℕ) → HasEnd v end → r.waiting ≡ None → TellsOnly v u r.catalog end x.works x.items
+  pub only : (end : ℕ) → HasEnd v end → r.waiting ≡ None → TellsOnly Past v u r.catalog end x.works x.items
 
 -- the same where the lane is all of the block
-abbrev pub TellsAlone : View → View → Registrar → List Lane → Type 0
-TellsAlone v u r lanes = (x : Lane) → lanes ≡ x ∷ [] → TellsAloneBy v u r x
+abbrev pub TellsAlone : (Whole → Type 0) → View → View → Registrar → List Lane → Type 0
+TellsAlone Past v u r lanes = (x : Lane) → lanes ≡ x ∷ [] → TellsAloneBy Past v u r x
 
 -- ---- passes
 
 -- no lane has a pass
 abbrev pub AreVacant : List Lane → Type 0
 AreVacant lanes = At (λ i x. x.seat ≡ None) lanes
+
+-- ---- faults
+
+-- a lane stops at a fault of the disk only where the disk's count of faults rose, which never falls, and at damage of no past that a
+-- disk has whole
+pub record Stops (Past : Whole → Type 0) (before now : ℕ) (x : Lane) : Type 0 where
+  pub later : before ≤ now
+  pub cause : HasCause before now x.fault
+  pub whole : (past : Whole) → Past past → IsUndamaged x.fault
+
+-- a checkpoint may follow, unless the lane met a fault of the disk
+pub record GoesAgain {D : Type 0} (images : D → List ℕ → Type 0) (p : Point D) (x : Lane) : Type 0 where
+  pub again : (x.fault ≡ cause.Disk → ⊥) → MayGoOn images p

@@ -1,5 +1,5 @@
 -- What a lane asks of its pass, and what it leaves.
-use Rattle.std.specs.Prelude.{ℕ, ◌≡◌, ◌≢◌, ◌<◌, All, List, [], length, Some, ⊤}
+use Rattle.std.specs.Prelude.{ℕ, ◌≡◌, ◌≢◌, ◌<◌, All, List, length, Some, ⊤}
 use Rattle.fish_ingest.specs.Ingestion.{CanStart}
 use Rattle.fish_lanes.specs.Gains.{Gains, IsFullBy}
 use Rattle.fish_lanes.specs.Plans.{AreReadBounds, PlansAreSoBy}
@@ -39,11 +39,19 @@ IsFree (work.Register name def) = ⊥
 IsFree (work.Deregister name) = ⊥
 IsFree w = ⊤
 
--- what a pass left that did these statements; what their items tell is so of each whole whose table goes up to the block's end
-pub record HasRun (v u : View) (works : List Work) (items : List Item) (fault : LaneFault) : Type 0 where
+-- any lane may do it: it changes no definition and commits nothing
+abbrev pub IsShared : Work → Type 0
+IsShared (work.Register name def) = ⊥
+IsShared (work.Deregister name) = ⊥
+IsShared work.Checkpoint = ⊥
+IsShared w = ⊤
+
+-- what a pass left that did these statements; what their items tell is so, behind each such past, of each whole whose table goes up to
+-- the block's end
+pub record HasRun (Past : Whole → Type 0) (v u : View) (works : List Work) (items : List Item) (fault : LaneFault) : Type 0 where
   pub rows : List LaneRow
   pub gains : Gains v u rows
-  pub tells : (past : Whole) (s : Span) → IsWithinSpan v u s → s.full ≡ v.shut
+  pub tells : (past : Whole) → Past past → (s : Span) → IsWithinSpan v u s → s.full ≡ v.shut
       → SureUpTo past u s.to (λ w. TellsLane w s rows works items)
   pub full : AllOf (IsFullItem u) items
   pub ended : IsEnded works items fault
@@ -58,22 +66,21 @@ pub record CanBegin (log : Log) (pass : Pass) : Type 0 where
   pub of : IsPassOf log pass
   pub start : CanStart (view pass)
 
--- the lane has a pass of the log, and may begin
+-- the lane has a pass of the log, and may go on
 pub record IsReady (log : Log) (lane : Lane) : Type 0 where
   pub seat : Seated
   pub seat_is : lane.seat ≡ Some seat
   pub can : CanBegin log seat.pass
-  pub empty : lane.items ≡ []
-  pub free : All IsFree lane.works
+  pub shared : All IsShared lane.works
 
 -- the lane did its statements
-pub record HasDone (log : Log) (old new : Lane) : Type 0 where
+pub record HasDone (Past : Whole → Type 0) (log : Log) (old new : Lane) : Type 0 where
   pub before : Seated
   pub before_is : old.seat ≡ Some before
   pub after : Seated
   pub after_is : new.seat ≡ Some after
   pub can : CanBegin log after.pass
-  pub run : HasRun (view before.pass) (view after.pass) old.works new.items new.fault
+  pub run : HasRun Past (view before.pass) (view after.pass) old.works new.items new.fault
   pub plans : SayPlans (view before.pass) (view after.pass) old.works new.items
   pub answers : AllOf IsAnswer new.items
   pub works : new.works ≡ old.works

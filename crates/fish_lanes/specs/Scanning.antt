@@ -1,5 +1,5 @@
 -- What scans, and plans of scans, tell of the whole log.
-use Rattle.std.specs.Prelude.{ℕ, ◌≡◌, ◌+◌, ◌<◌, ◌≤◌, List, Some, length, map, min, slice_get}
+use Rattle.std.specs.Prelude.{ℕ, ◌≡◌, ◌+◌, ◌<◌, ◌≤◌, List, [], Some, length, map, min, slice_get}
 use Rattle.fish_catalog.specs.declared.entry.Entry.{Entry}
 use Rattle.fish_catalog.specs.declared.entry.Entry.TheVariants as entry
 use Rattle.fish_catalog.specs.declared.listed.Listed.{Listed}
@@ -11,13 +11,13 @@ use Rattle.fish_plan.specs.declared.pieces.Piece.{Piece}
 use Rattle.fish_plan.specs.declared.pieces.Piece.TheVariants.{Index}
 use Rattle.fish_psf.specs.Records.{evaluation}
 use Rattle.fish_psf.specs.Select.{select}
-use Rattle.fish_psf.specs.Select as log
 use Rattle.fish_report.specs.declared.item.Item.{Item}
 use Rattle.fish_report.specs.declared.item.Item.TheVariants as item
 use Rattle.fish_report.specs.declared.item.ScanCause.{ScanCause}
 use Rattle.fish_report.specs.declared.item.ScanCause.TheVariants as cause
 use Rattle.fish_rule.specs.Views.{Among}
 use Rattle.fish_scan.specs.Naming.{HasNone, IsNewest}
+use Rattle.fish_scan.specs.Older.{selectable}
 use Rattle.fish_scan.specs.Reach.{Rise}
 use Rattle.fish_scan.specs.Scans.{AreEmptyEnds, first_asked}
 use Rattle.fish_scan.specs.declared.ask.Ask.{Ask}
@@ -25,11 +25,6 @@ use Rattle.fish_scan.specs.declared.ask.How.TheVariants as how
 use Rattle.fish_value.specs.declared.field.Form.{Form}
 use Rattle.fish_value.specs.declared.row.Row.{Row}
 use Rattle.fish_whole.specs.Whole.{Whole}
-
--- an entry as a selection reads it
-abbrev pub selected : Entry → log.Entry
-selected (entry.Stored lane form payload) = log.stored lane form payload
-selected entry.Void = log.void
 
 -- at a version of the block the definitions of the whole are these
 pub record HasRows (w : Whole) (s : Span) (version : ℕ) (rows : List Listed) : Type 0 where
@@ -77,7 +72,7 @@ pub record TellsScan (w : Whole) (s : Span) (seen : ℕ → Type 0) (ask : Ask) 
   pub range : IsAskedRange s ask from to
   pub def : Definition
   pub means : Means w s version ask.name def
-  pub rows_are : rows ≡ select (map selected w.log) (evaluation def) ask.value from to opens
+  pub rows_are : rows ≡ select (map selectable w.log) (evaluation def) ask.value from to opens
   pub holds : HoldsSeen w seen ask from to opens
   pub are_open : AreOpen s.from s.to w.log from to opens
 
@@ -90,8 +85,7 @@ pub record TellsPlan (w : Whole) (s : Span) (seen : ℕ → Type 0) (ask : Ask) 
   pub has : HasRows w s version rows
   pub place : ℕ
   pub newest : IsNewest rows ask.name place
-  pub opens : List ℕ
-  pub holds : HoldsSeen w seen ask from to opens
+  pub holds : HoldsSeen w seen ask from to []
   pub fill : Fill plan from to
   pub indexed : (place id begin end : ℕ) → slice_get plan place ≡ Some (Index id begin end)
       → (end ≤ length w.log) × ((row : Listed) × (slice_get rows id ≡ Some row) × (row.def ≡ newest.listed.def))

@@ -28,6 +28,7 @@ use Rattle.fish_scan.specs.declared.ask.Ask.{Ask}
 use Rattle.fish_scan.specs.declared.ask.Explained.{Explained}
 use Rattle.fish_scan.specs.declared.ask.How.{How}
 use Rattle.fish_scan.specs.declared.ask.How.TheVariants as how
+use Rattle.fish_whole.specs.Whole.{Whole}
 
 -- ---- any number of statements
 
@@ -74,13 +75,13 @@ pub record IsGapFor (rows : List CatRow) (ask : Ask) (end from to : ℕ) : Type 
 
 -- a scan was answered: none of its numbers is open, and in the whole block the pass loaded no more words of the log than the
 -- pieces of the plan are allowed
-pub record IsScanWork (v u : View) (rows : List CatRow) (end : ℕ) (ask : Ask) (x : Item) : Type 0 where
+pub record IsScanWork (Past : Whole → Type 0) (v u : View) (rows : List CatRow) (end : ℕ) (ask : Ask) (x : Item) : Type 0 where
   pub answer : Answer
   pub version : ℕ
   pub is : x ≡ scanned_item ask answer version
   pub closed : answer.opens ≡ []
   pub plan : IsPlanFor rows ask end answer.from answer.to answer.plan
-  pub loads : LoadsWithin v u ask.value answer
+  pub loads : LoadsWithin Past v u ask.value answer
 
 -- a plan was told
 pub record IsPlanTold (rows : List CatRow) (end : ℕ) (ask : Ask) (x : Item) : Type 0 where
@@ -109,17 +110,17 @@ IsBoundaryAt full end x = ⊤
 
 -- the item of the statement, where the log ended at a number before the block, the rows were these, and the pass was the first before
 -- it, and is the second behind it
-abbrev pub TellsSingle : View → View → List CatRow → ℕ → Work → Item → Type 0
-TellsSingle v u rows end (work.Scan ask) x = IsScanWork v u rows end ask x ⊎ IsCauseTold rows end ask item.ScanRefused x
-TellsSingle v u rows end (work.Explain ask) x = IsPlanTold rows end ask x ⊎ IsCauseTold rows end ask item.ExplainRefused x
-TellsSingle v u rows end work.Checkpoint x = x ≡ item.Checkpointed end
-TellsSingle v u rows end (work.Register name def) x = IsBoundaryAt v.shut end x
-TellsSingle v u rows end (work.Deregister name) x = IsBoundaryAt v.shut end x
-TellsSingle v u rows end w x = ⊤
+abbrev pub TellsSingle : (Whole → Type 0) → View → View → List CatRow → ℕ → Work → Item → Type 0
+TellsSingle Past v u rows end (work.Scan ask) x = IsScanWork Past v u rows end ask x ⊎ IsCauseTold rows end ask item.ScanRefused x
+TellsSingle Past v u rows end (work.Explain ask) x = IsPlanTold rows end ask x ⊎ IsCauseTold rows end ask item.ExplainRefused x
+TellsSingle Past v u rows end work.Checkpoint x = x ≡ item.Checkpointed end
+TellsSingle Past v u rows end (work.Register name def) x = IsBoundaryAt v.shut end x
+TellsSingle Past v u rows end (work.Deregister name) x = IsBoundaryAt v.shut end x
+TellsSingle Past v u rows end w x = ⊤
 
 -- where one statement is all that was to do, its item
-abbrev pub TellsOnly : View → View → List CatRow → ℕ → List Work → List Item → Type 0
-TellsOnly v u rows end works items = (w : Work) → works ≡ w ∷ [] → AllOf (TellsSingle v u rows end w) (answers items)
+abbrev pub TellsOnly : (Whole → Type 0) → View → View → List CatRow → ℕ → List Work → List Item → Type 0
+TellsOnly Past v u rows end works items = (w : Work) → works ≡ w ∷ [] → AllOf (TellsSingle Past v u rows end w) (answers items)
 
 -- ---- without the pass
 

@@ -1,39 +1,42 @@
 //! A block: its lanes run at once, each by a pass of its own.
 
-ghost use Rattle.std.specs.Prelude.{◌≡◌, ◌≤◌, ◌<◌, ◌+◌, ◌∷◌, ℕ, length, slice_get, Some, None, [], All};
+ghost use Rattle.std.specs.Prelude.{◌≡◌, ◌≤◌, ◌<◌, ◌+◌, ◌∷◌, ℕ, length, slice_get, Some, [], All};
 ghost use Rattle.std.specs.Thread.{IsSync};
-ghost use Rattle.fish_lanes.specs.Blocks.{At, AreDone, AreEnded, AreJoined, AreKept, AreLanes, AreReady, AreSeated, CanGive, CanTake};
-ghost use Rattle.fish_lanes.specs.Blocks.{HasGiven, HasRegistered, HasRunFirst, HasSeat, HasTaken, HasTakenAll, IsBlockSpan, IsFirst};
-ghost use Rattle.fish_lanes.specs.Blocks.{IsMarkItem, IsNewLane, NameMarks, TellsBlock, TellsFirst};
-ghost use Rattle.fish_lanes.specs.Outcome.{AreVacant, TellsAlone, TellsAloneBy};
-ghost use Rattle.fish_lanes.specs.Blocks.{TellsOthers, WasTaken, WereTaken};
-ghost use Rattle.fish_lanes.specs.Outcome.{IsFullIn, LanesSayPlans, TellsShutBy};
-ghost use Rattle.fish_lanes.specs.Controlling.{CanControl};
+ghost use Rattle.fish_lanes.specs.Advancing.{HasFinished, HasGone, IsShort};
+ghost use Rattle.fish_lanes.specs.Blocks.{At, AreEnded, AreGone, AreJoined, AreKept, AreLanes, AreReady, AreSeated, Both, CanGive};
+ghost use Rattle.fish_lanes.specs.Blocks.{CanTake, HasGiven, HasRegistered, HasRunFirst, HasSeat, HasTaken, HasTakenAll, IsBlockSpan};
+ghost use Rattle.fish_lanes.specs.Blocks.{IsFirst, IsNewLane, NameMarks, TellsBlock, WasTaken, WereTaken};
+ghost use Rattle.fish_lanes.specs.Controlling.{CanControl, IsCommitted};
 ghost use Rattle.fish_lanes.specs.Course.{HasFoundEnd, HasRunLanes};
 ghost use Rattle.fish_lanes.specs.Ending.{HasEnd};
-ghost use Rattle.fish_lanes.specs.Plans.{AreSoPlans, KnowsRows};
+ghost use Rattle.fish_lanes.specs.Outcome.{AreVacant, GoesAgain, LanesSayPlans, Stops, TellsAlone, TellsAloneBy, TellsShutBy};
+ghost use Rattle.fish_lanes.specs.Pasts.{WasHere};
+ghost use Rattle.fish_lanes.specs.Plans.{KnowsRows};
 ghost use Rattle.fish_lanes.specs.Registering.{IsAcceptable, KnowsRegistry, registry_of};
-ghost use Rattle.fish_lanes.specs.Running.{CanBegin, HasDone, HasRun, IsEnded, IsFree, IsReady, SayPlans};
-ghost use Rattle.fish_lanes.specs.Sizes.{TellsClaim};
-ghost use Rattle.fish_lanes.specs.Spans.{IsAnswer, Span};
+ghost use Rattle.fish_lanes.specs.Running.{IsReady};
+ghost use Rattle.fish_lanes.specs.Spans.{Span};
 ghost use Rattle.fish_lanes.specs.declared.work.LaneFault.TheVariants as cause;
 ghost use Rattle.fish_rule.specs.LoadSteps.{IsAlone};
 ghost use Rattle.fish_rule.specs.Passes.{IsPassOf, view};
 ghost use Rattle.fish_rule.specs.Views.{AllOf};
-ghost use Rattle.fish_rule.specs.declared.view.Shut.{Shut};
 ghost use Rattle.fish_rule.specs.SeatSteps.{CanSplitPass, split_left, split_right};
+ghost use Rattle.fish_scan.specs.Colder.{IsBelow};
+ghost use Rattle.fish_store.specs.Points.{point_at, point_of};
+ghost use Rattle.fish_store.specs.Sound.{GoesOnHere, IsSoundBehind, MayGoOn, ReadsPages, RowsGoOn};
 ghost use Rattle.fish_whole.specs.Whole.{Later, Whole, Will};
 
 use crate::control::run_control;
+use crate::finishing::finish_works;
 use crate::gate::Gate;
 use crate::lane::{Lane, Seated};
 use crate::registering::find_last;
 use crate::statements::run_works;
-use crate::work::{LaneFault, Work};
+use crate::work::LaneFault;
+use fish_disk::Disk;
 use fish_epoch::Defs;
 use fish_registry::Registrar;
-use fish_report::Items;
 use fish_rule::{Log, Pass, join_pass, split_pass};
+use fish_store::{Store, StoreFile};
 use fish_walk::settle;
 use std::alloc::Global;
 use std::thread::{Threads, for_each_mut, join_mut};
@@ -56,47 +59,29 @@ pub struct BlockEnd {
     pub bound: Option<Boundary>,
 }
 
-/// Does the statements of a lane by a pass, which reads the definitions anew.
-fn run_pass<G: Gate>(
-    alloc: Global,
-    log: &Log,
-    pass: &mut Pass,
-    works: &[Work],
-    items: &mut Items,
-    gate: &G,
-) -> LaneFault
-    requires pass { CanBegin log.now pass.old }
-    requires free { All IsFree works.now }
-    requires empty { items.old ≡ [] }
-    ensures pass { CanBegin log.now pass.new }
-    ensures run { HasRun (view pass.old) (view pass.new) works.now items.new result }
-    ensures plans { SayPlans (view pass.old) (view pass.new) works.now items.new }
-    ensures answers { AllOf IsAnswer items.new }
-{
-    let mut defs = Defs::new(alloc);
-    run_works(alloc, log, pass, &mut defs, works, items, gate)
-}
-
-/// Does the statements of a lane by its own pass.
+/// Goes on with the statements of a lane by its own pass, which reads the definitions anew.
 fn run_seated<G: Gate>(alloc: Global, log: &Log, lane: &mut Lane, gate: &G)
     requires ready { IsReady log.now lane.old }
-    ensures done { HasDone log.now lane.old lane.new }
+    ensures gone { HasGone log.now lane.old lane.new }
 {
     let Some(Seated { mut pass }) = lane.seat.take() else {
         unreachable!()
     };
-    lane.fault = run_pass(
+    let mut defs = Defs::new(alloc);
+    lane.fault = run_works(
         alloc,
         log,
         &mut pass,
+        &mut defs,
         lane.works.as_slice(),
         &mut lane.items,
         gate,
     );
+    drop(defs);
     lane.seat = Some(Seated { pass });
 }
 
-/// Does the statements of lanes at once, by their own passes.
+/// Does the statements of lanes at once, by their own passes, each up to its first scan of older records.
 fn run_others<R: Threads + Sync, G: Gate + Sync>(
     rt: &R,
     alloc: Global,
@@ -106,7 +91,7 @@ fn run_others<R: Threads + Sync, G: Gate + Sync>(
 )
     requires ready { AreReady log.now lanes.old }
     requires some { 0 < length lanes.old }
-    ensures done { AreDone log.now lanes.old lanes.new }
+    ensures gone { AreGone log.now lanes.old lanes.new }
 {
     let threads = lanes.len();
     for_each_mut(
@@ -118,24 +103,38 @@ fn run_others<R: Threads + Sync, G: Gate + Sync>(
 }
 
 /// Does the statements of the first lane by the control pass.
-fn run_first<G: Gate>(
+fn run_first<D: Disk, G: Gate>(
     alloc: Global,
     log: &Log,
     main: &mut Pass,
     registrar: &mut Registrar,
+    file: &mut StoreFile,
+    disk: &mut D,
     lane: &mut Lane,
     gate: &G,
 )
     requires can { CanControl log.now main.old registrar.old }
+    requires commit { MayGoOn D.images (point_of disk.old file.old log.now main.old registrar.old) }
+    requires below { IsBelow log.now.key file.old.cold }
     requires first { IsFirst (view main.old) registrar.old lane.old }
     ensures can { CanControl log.now main.new registrar.new }
-    ensures run { HasRunFirst (view main.old) (view main.new) registrar.old registrar.new lane.old lane.new }
+    ensures below { IsBelow log.now.key file.new.cold }
+    ensures goes { GoesOnHere D.content D.images D.since D.moment (point_of disk.old file.old log.now main.old registrar.old)
+        (point_of disk.new file.new log.now main.new registrar.new) }
+    ensures again { GoesAgain D.images (point_of disk.new file.new log.now main.new registrar.new) lane.new }
+    ensures run { HasRunFirst (IsSoundBehind D.content D.images (point_of disk.old file.old log.now main.old registrar.old)
+        (D.content disk.new)) (view main.old) (view main.new) registrar.old registrar.new lane.old lane.new }
+    ensures stops { Stops (IsSoundBehind D.content D.images (point_of disk.old file.old log.now main.old registrar.old)
+        (D.content disk.new)) (D.faults disk.old) (D.faults disk.new) lane.new }
+    ensures committed { AllOf (IsCommitted file.new.flusher.count) lane.new.items }
 {
     lane.fault = run_control(
         alloc,
         log,
         main,
         registrar,
+        file,
+        disk,
         lane.works.as_slice(),
         &mut lane.items,
         gate,
@@ -194,60 +193,154 @@ fn take_all(log: &Log, main: &mut Pass, lanes: &mut [Lane])
     }
 }
 
-/// Does the statements of all lanes at once: those of the first by the control pass.
-fn run_all<R: Threads + Sync, G: Gate + Sync>(
+/// Does the statements of all lanes at once: those of the first by the control pass, and those of every other one up to its first
+/// scan of older records.
+fn run_all<R: Threads + Sync, D: Disk + Send, G: Gate + Sync>(
     rt: &R,
     alloc: Global,
     log: &Log,
     main: &mut Pass,
     registrar: &mut Registrar,
+    file: &mut StoreFile,
+    disk: &mut D,
     first: &mut Lane,
     others: &mut [Lane],
     gate: &G,
 )
     requires can { CanControl log.now main.old registrar.old }
+    requires commit { MayGoOn D.images (point_of disk.old file.old log.now main.old registrar.old) }
+    requires below { IsBelow log.now.key file.old.cold }
     requires first { IsFirst (view main.old) registrar.old first.old }
     requires ready { AreReady log.now others.old }
     ensures can { CanControl log.now main.new registrar.new }
-    ensures run { HasRunFirst (view main.old) (view main.new) registrar.old registrar.new first.old first.new }
-    ensures done { AreDone log.now others.old others.new }
+    ensures below { IsBelow log.now.key file.new.cold }
+    ensures goes { GoesOnHere D.content D.images D.since D.moment (point_of disk.old file.old log.now main.old registrar.old)
+        (point_of disk.new file.new log.now main.new registrar.new) }
+    ensures again { GoesAgain D.images (point_of disk.new file.new log.now main.new registrar.new) first.new }
+    ensures run { HasRunFirst (IsSoundBehind D.content D.images (point_of disk.old file.old log.now main.old registrar.old)
+        (D.content disk.new)) (view main.old) (view main.new) registrar.old registrar.new first.old first.new }
+    ensures stops { Stops (IsSoundBehind D.content D.images (point_of disk.old file.old log.now main.old registrar.old)
+        (D.content disk.new)) (D.faults disk.old) (D.faults disk.new) first.new }
+    ensures committed { AllOf (IsCommitted file.new.flusher.count) first.new.items }
+    ensures gone { AreGone log.now others.old others.new }
 {
     if others.is_empty() {
-        run_first(alloc, log, main, registrar, first, gate);
+        run_first(alloc, log, main, registrar, file, disk, first, gate);
         return;
     }
     join_mut(
         rt,
-        &mut || run_first(alloc, log, main, registrar, first, gate),
+        &mut || run_first(alloc, log, main, registrar, file, disk, first, gate),
         &mut ||
             requires sync { IsSync R.row }
             requires ready { AreReady log.now others.now }
             requires some { 0 < length others.now }
-            ensures { AreDone log.entry.now others.entry.now others.exit.now }
+            ensures { AreGone log.entry.now others.entry.now others.exit.now }
         { run_others(rt, alloc, log, others, gate) },
     );
 }
 
+/// Does what is left of the statements of a lane, with the store's file for its scans of older records.
+fn finish_lane<D: Disk, G: Gate>(
+    alloc: Global,
+    log: &Log,
+    file: &mut StoreFile,
+    disk: &mut D,
+    lane: &mut Lane,
+    gate: &G,
+)
+    requires ready { IsReady log.now lane.old }
+    requires below { IsBelow log.now.key file.old.cold }
+    ensures below { IsBelow log.now.key file.new.cold }
+    ensures flusher { file.new.flusher ≡ file.old.flusher }
+    ensures reads { ReadsPages D.content D.images D.since D.moment D.faults log.now.key file.old.cold file.new.cold disk.old
+        disk.new }
+    ensures finished { HasFinished (WasHere (D.content disk.old) log.now.key file.old.cold (D.content disk.new)) log.now lane.old
+        lane.new }
+    ensures stops { IsShort lane.old.fault → Stops (WasHere (D.content disk.old) log.now.key file.old.cold (D.content disk.new))
+        (D.faults disk.old) (D.faults disk.new) lane.new }
+{
+    let LaneFault::None = lane.fault else {
+        return;
+    };
+    let Some(Seated { mut pass }) = lane.seat.take() else {
+        unreachable!()
+    };
+    lane.fault = finish_works(
+        alloc,
+        log,
+        &mut pass,
+        file,
+        disk,
+        lane.works.as_slice(),
+        &mut lane.items,
+        gate,
+    );
+    lane.seat = Some(Seated { pass });
+}
+
+/// The same of each lane, one after the other.
+fn finish_others<D: Disk, G: Gate>(
+    alloc: Global,
+    log: &Log,
+    file: &mut StoreFile,
+    disk: &mut D,
+    lanes: &mut [Lane],
+    gate: &G,
+)
+    requires ready { AreReady log.now lanes.old }
+    requires below { IsBelow log.now.key file.old.cold }
+    requires memory { At (λ i x. IsShort x.fault) lanes.old }
+    ensures below { IsBelow log.now.key file.new.cold }
+    ensures flusher { file.new.flusher ≡ file.old.flusher }
+    ensures reads { ReadsPages D.content D.images D.since D.moment D.faults log.now.key file.old.cold file.new.cold disk.old
+        disk.new }
+    ensures finished { Both (λ i x y. HasFinished (WasHere (D.content disk.old) log.now.key file.old.cold (D.content disk.new)) log.now
+        x y) lanes.old lanes.new }
+    ensures stops { At (λ i x. Stops (WasHere (D.content disk.old) log.now.key file.old.cold (D.content disk.new)) (D.faults disk.old)
+        (D.faults disk.new) x) lanes.new }
+{
+    for i in 0..lanes.len() {
+        finish_lane(alloc, log, file, disk, &mut lanes[i], gate);
+    }
+}
+
 /// Gives the other lanes their passes, does the statements of all, and takes the passes back.
-fn run_by_passes<R: Threads + Sync, G: Gate + Sync>(
+fn run_by_passes<R: Threads + Sync, D: Disk + Send, G: Gate + Sync>(
     rt: &R,
     alloc: Global,
     log: &Log,
     main: &mut Pass,
     registrar: &mut Registrar,
+    file: &mut StoreFile,
+    disk: &mut D,
     first: &mut Lane,
     others: &mut [Lane],
     gate: &G,
 )
     requires can { CanControl log.now main.old registrar.old }
+    requires commit { MayGoOn D.images (point_of disk.old file.old log.now main.old registrar.old) }
+    requires below { IsBelow log.now.key file.old.cold }
     requires first { IsFirst (view main.old) registrar.old first.old }
     requires others { CanGive (view main.old) others.old }
     ensures can { CanControl log.now main.new registrar.new }
-    ensures course { HasRunLanes log.now (view main.old) (view main.new) registrar.old registrar.new first.old first.new
-        others.old others.new }
+    ensures below { IsBelow log.now.key file.new.cold }
+    ensures goes { GoesOnHere D.content D.images D.since D.moment (point_of disk.old file.old log.now main.old registrar.old)
+        (point_of disk.new file.new log.now main.new registrar.new) }
+    ensures again { (first.new.fault ≡ cause.Disk → ⊥)
+        → MayGoOn D.images (point_of disk.new file.new log.now main.new registrar.new) }
+    ensures course { HasRunLanes (IsSoundBehind D.content D.images (point_of disk.old file.old log.now main.old registrar.old)
+        (D.content disk.new)) log.now (view main.old) (view main.new) registrar.old registrar.new first.old first.new others.old
+        others.new }
+    ensures stops { At (λ i x. Stops (IsSoundBehind D.content D.images (point_of disk.old file.old log.now main.old registrar.old)
+        (D.content disk.new)) (D.faults disk.old) (D.faults disk.new) x) (first.new ∷ others.new) }
+    ensures committed { AllOf (IsCommitted file.new.flusher.count) first.new.items }
 {
     give_all(log, main, others);
-    run_all(rt, alloc, log, main, registrar, first, others, gate);
+    run_all(
+        rt, alloc, log, main, registrar, file, disk, first, others, gate,
+    );
+    finish_others(alloc, log, file, disk, others, gate);
     take_all(log, main, others);
 }
 
@@ -256,6 +349,7 @@ fn end_block(log: &Log, main: &mut Pass, registrar: &mut Registrar) -> BlockEnd
     requires can { CanControl log.now main.old registrar.old }
     requires alone { IsAlone (view main.old) }
     ensures can { CanControl log.now main.new registrar.new }
+    ensures grows { RowsGoOn (view main.old) registrar.old.catalog registrar.new.catalog }
     ensures ended { HasFoundEnd (view main.old) (view main.new) registrar.old registrar.new result }
 {
     let bound = find_last(log, main, registrar);
@@ -264,86 +358,131 @@ fn end_block(log: &Log, main: &mut Pass, registrar: &mut Registrar) -> BlockEnd
 }
 
 /// Does the statements of all lanes, each by a pass of its own, and finds where the log then ends.
-fn run_lanes<R: Threads + Sync, G: Gate + Sync>(
+fn run_lanes<R: Threads + Sync, D: Disk + Send, G: Gate + Sync>(
     rt: &R,
     alloc: Global,
     log: &Log,
     main: &mut Pass,
     registrar: &mut Registrar,
+    file: &mut StoreFile,
+    disk: &mut D,
     first: &mut Lane,
     others: &mut [Lane],
     gate: &G,
 ) -> BlockEnd
     requires can { CanControl log.now main.old registrar.old }
+    requires commit { MayGoOn D.images (point_of disk.old file.old log.now main.old registrar.old) }
+    requires below { IsBelow log.now.key file.old.cold }
     requires end { (from : ℕ) × HasEnd (view main.old) from }
     requires known { KnowsRegistry (view main.old) (registry_of (view main.old) registrar.old) }
     requires first { IsNewLane 1 first.old }
     requires acceptable { All IsAcceptable first.old.works }
     requires others { CanGive (view main.old) others.old }
     ensures can { CanControl log.now main.new registrar.new }
+    ensures below { IsBelow log.now.key file.new.cold }
+    ensures goes { GoesOnHere D.content D.images D.since D.moment (point_of disk.old file.old log.now main.old registrar.old)
+        (point_of disk.new file.new log.now main.new registrar.new) }
+    ensures again { (first.new.fault ≡ cause.Disk → ⊥)
+        → MayGoOn D.images (point_of disk.new file.new log.now main.new registrar.new) }
     ensures end { HasEnd (view main.new) result.to }
     ensures later { Later (view main.old) (view main.new) }
     ensures first { (first.new.number ≡ first.old.number) × (first.new.works ≡ first.old.works) }
     ensures first_seat { first.new.seat ≡ first.old.seat }
     ensures kept { AreKept others.old others.new }
     ensures vacant { AreVacant others.new }
-    ensures told { (past : Whole) (s : Span) → IsBlockSpan (view main.old) (view main.new) result.to s → s.lanes ≡ length others.old + 1
-        → (s.from ≤ s.to) × Will past (view main.new) (λ w. TellsBlock w s (first.new ∷ others.new)) }
+    ensures told { (past : Whole) → IsSoundBehind D.content D.images (point_of disk.old file.old log.now main.old registrar.old)
+        (D.content disk.new) past → (s : Span) → IsBlockSpan (view main.old) (view main.new) result.to s
+        → s.lanes ≡ length others.old + 1 → (s.from ≤ s.to) × Will past (view main.new) (λ w. TellsBlock w s (first.new ∷ others.new)) }
     ensures registered { HasRegistered (view main.old) (view main.new) registrar.old registrar.new first.new result }
-    ensures alone { others.old ≡ [] → TellsAloneBy (view main.old) (view main.new) registrar.old first.new }
+    ensures alone { others.old ≡ [] → TellsAloneBy (IsSoundBehind D.content D.images
+        (point_of disk.old file.old log.now main.old registrar.old) (D.content disk.new)) (view main.old) (view main.new) registrar.old
+        first.new }
     ensures ended { AreEnded (first.new ∷ others.new) }
     ensures shuts { TellsShutBy (view main.old) (view main.new) (first.new ∷ others.new) }
     ensures plans { (from : ℕ) → HasEnd (view main.old) from → LanesSayPlans (KnowsRows (view main.new))
         (registry_of (view main.old) registrar.old) registrar.new.catalog from (first.new ∷ others.new) }
     ensures marks { NameMarks (view main.new) (first.new ∷ others.new) }
+    ensures stops { At (λ i x. Stops (IsSoundBehind D.content D.images (point_of disk.old file.old log.now main.old registrar.old)
+        (D.content disk.new)) (D.faults disk.old) (D.faults disk.new) x) (first.new ∷ others.new) }
+    ensures committed { AllOf (IsCommitted file.new.flusher.count) first.new.items }
 {
-    run_by_passes(rt, alloc, log, main, registrar, first, others, gate);
+    run_by_passes(
+        rt, alloc, log, main, registrar, file, disk, first, others, gate,
+    );
     end_block(log, main, registrar)
 }
 
-/// Runs a block: does the statements of its lanes at once, those of the first by the control pass and those of every
-/// other one by a pass of its own, on a thread of its own. How far the log then reaches, and where the index of the
+/// Runs a block over an open store: does the statements of its lanes at once, those of the first by the control pass and those
+/// of every other one by a pass of its own, on a thread of its own. How far the log then reaches, and where the index of the
 /// registration begins that waited until the lanes had ended.
 ///
-/// The control pass has to know where the log ends, as it does behind a block, and what the registrar keeps. There are 1
-/// to 16 lanes, numbered from 1 on and without items, and the first alone may register definitions or end them.
+/// The first lane alone has the store's file while the others run: it commits beside them, and reads what is older than the
+/// table. Another lane stays in front of its first scan of older records; once all have ended or stay so, what is left of their
+/// statements is done, one lane after the other, with the file.
 ///
-/// Afterwards each lane has an item for each statement, or a fault and fewer of them. Of each whole log that the control
-/// pass may leave later, whatever stood before the table and comes behind it, these items are true: the lane's records
-/// between the old end and the new one are those that the items say are stored, in order, and scans, plans, checkpoints
-/// and refusals are so. The definitions are those that the items of the first lane tell. Numbers and statements stay.
+/// The control pass has to know where the log ends, as it does behind a block, and what the registrar keeps, and a checkpoint may
+/// have to follow. There are 1 to 16 lanes, numbered from 1 on and without items, and the first alone may register definitions, end
+/// them or commit.
+///
+/// Afterwards each lane has an item for each statement, or a fault and fewer of them. Behind whatever stood before the table, as the
+/// disk tells it, these items are true of each whole log that the control pass may leave later: the lane's records between the
+/// old end and the new one are those that the items say are stored, in order, and scans, plans, checkpoints and refusals are so. The
+/// definitions are those that the items of the first lane tell. Numbers and statements stay. The store goes on: at each moment since, a
+/// crash left a part of the log that has the last commit's entries.
 ///
 /// The gate is told where each lane is: in front of each statement and behind it, and behind each claim of a record.
 /// Nothing that is promised depends on how long it holds a lane.
-pub fn run_block<R: Threads + Sync, G: Gate + Sync>(
+pub fn run_block<R: Threads + Sync, D: Disk + Send, G: Gate + Sync>(
     rt: &R,
     alloc: Global,
-    log: &Log,
-    main: &mut Pass,
-    registrar: &mut Registrar,
+    store: &mut Store,
+    disk: &mut D,
     lanes: &mut [Lane],
     gate: &G,
 ) -> BlockEnd
-    requires can { CanControl log.now main.old registrar.old }
-    requires end { (from : ℕ) × HasEnd (view main.old) from }
-    requires known { KnowsRegistry (view main.old) (registry_of (view main.old) registrar.old) }
+    requires can { CanControl store.old.log store.old.pass store.old.registrar }
+    requires commit { MayGoOn D.images (point_at disk.old store.old) }
+    requires below { IsBelow store.old.log.key store.old.file.cold }
+    requires end { (from : ℕ) × HasEnd (view store.old.pass) from }
+    requires known { KnowsRegistry (view store.old.pass) (registry_of (view store.old.pass) store.old.registrar) }
     requires lanes { AreLanes lanes.old }
-    ensures can { CanControl log.now main.new registrar.new }
-    ensures end { HasEnd (view main.new) result.to }
-    ensures later { Later (view main.old) (view main.new) }
+    ensures log { store.new.log ≡ store.old.log }
+    ensures can { CanControl store.new.log store.new.pass store.new.registrar }
+    ensures below { IsBelow store.new.log.key store.new.file.cold }
+    ensures goes { GoesOnHere D.content D.images D.since D.moment (point_at disk.old store.old) (point_at disk.new store.new) }
+    ensures again { ((x : Lane) → slice_get lanes.new 0 ≡ Some x → x.fault ≡ cause.Disk → ⊥)
+        → MayGoOn D.images (point_at disk.new store.new) }
+    ensures end { HasEnd (view store.new.pass) result.to }
+    ensures later { Later (view store.old.pass) (view store.new.pass) }
     ensures kept { AreKept lanes.old lanes.new }
     ensures vacant { AreVacant lanes.old → AreVacant lanes.new }
-    ensures told { (past : Whole) (s : Span) → IsBlockSpan (view main.old) (view main.new) result.to s → s.lanes ≡ length lanes.old
-        → (s.from ≤ s.to) × Will past (view main.new) (λ w. TellsBlock w s lanes.new) }
+    ensures told { (past : Whole) → IsSoundBehind D.content D.images (point_at disk.old store.old) (D.content disk.new) past
+        → (s : Span) → IsBlockSpan (view store.old.pass) (view store.new.pass) result.to s → s.lanes ≡ length lanes.old
+        → (s.from ≤ s.to) × Will past (view store.new.pass) (λ w. TellsBlock w s lanes.new) }
     ensures registered { (x : Lane) → slice_get lanes.new 0 ≡ Some x
-        → HasRegistered (view main.old) (view main.new) registrar.old registrar.new x result }
-    ensures alone { TellsAlone (view main.old) (view main.new) registrar.old lanes.new }
+        → HasRegistered (view store.old.pass) (view store.new.pass) store.old.registrar store.new.registrar x result }
+    ensures alone { TellsAlone (IsSoundBehind D.content D.images (point_at disk.old store.old) (D.content disk.new))
+        (view store.old.pass) (view store.new.pass) store.old.registrar lanes.new }
     ensures ended { AreEnded lanes.new }
-    ensures marks { NameMarks (view main.new) lanes.new }
-    ensures plans { (from : ℕ) → HasEnd (view main.old) from → LanesSayPlans (KnowsRows (view main.new))
-        (registry_of (view main.old) registrar.old) registrar.new.catalog from lanes.new }
-    ensures shuts { TellsShutBy (view main.old) (view main.new) lanes.new }
+    ensures marks { NameMarks (view store.new.pass) lanes.new }
+    ensures plans { (from : ℕ) → HasEnd (view store.old.pass) from → LanesSayPlans (KnowsRows (view store.new.pass))
+        (registry_of (view store.old.pass) store.old.registrar) store.new.registrar.catalog from lanes.new }
+    ensures shuts { TellsShutBy (view store.old.pass) (view store.new.pass) lanes.new }
+    ensures stops { At (λ i x. Stops (IsSoundBehind D.content D.images (point_at disk.old store.old) (D.content disk.new))
+        (D.faults disk.old) (D.faults disk.new) x) lanes.new }
+    ensures committed { (x : Lane) → slice_get lanes.new 0 ≡ Some x → AllOf (IsCommitted store.new.file.flusher.count) x.items }
 {
     let (first, others) = lanes.split_at_mut(1);
-    run_lanes(rt, alloc, log, main, registrar, &mut first[0], others, gate)
+    run_lanes(
+        rt,
+        alloc,
+        &store.log,
+        &mut store.pass,
+        &mut store.registrar,
+        &mut store.file,
+        disk,
+        &mut first[0],
+        others,
+        gate,
+    )
 }

@@ -8,6 +8,7 @@ ghost use Rattle.fish_ingest.specs.Ingestion.{CanIngest, CanStart, HasIngested};
 ghost use Rattle.fish_ingest.specs.Refusal.{HasNotClaimed, HasRefused, IsCause};
 ghost use Rattle.fish_json.specs.Lines as json;
 ghost use Rattle.fish_lanes.specs.Doing.{IsItem, IsPart};
+ghost use Rattle.fish_lanes.specs.Pasts.{anywhere};
 ghost use Rattle.fish_lanes.specs.Storing.{EndsWith, FindsFull, IsPartStored, TakesLine, item_of, nothing};
 ghost use Rattle.fish_lanes.specs.declared.work.Work.TheVariants as work;
 ghost use Rattle.fish_lines.specs.File.{outcomes};
@@ -49,7 +50,7 @@ pub(crate) fn ingest_file<G: Gate>(
     requires defs { IsDefsOf (view pass.old) defs.old }
     ensures pass { IsPassOf log.now pass.new }
     ensures defs { IsDefsOf (view pass.new) defs.new }
-    ensures item { IfOk result (IsItem (view pass.old) (view pass.new) (work.Ingest form header name.now file.now)) }
+    ensures item { IfOk result (IsItem anywhere (view pass.old) (view pass.new) (work.Ingest form header name.now file.now)) }
     ensures part { IfErr result (λ _. IsPart (view pass.old) (view pass.new) (work.Ingest form header name.now file.now)) }
 {
     let name = name.again(alloc)?;

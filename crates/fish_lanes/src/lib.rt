@@ -3,6 +3,7 @@
 
 mod block;
 mod control;
+mod finishing;
 mod gate;
 mod ingesting;
 mod lane;

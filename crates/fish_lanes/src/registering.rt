@@ -17,6 +17,7 @@ ghost use Rattle.fish_rule.specs.Passes.{IsPassOf, view};
 ghost use Rattle.fish_rule.specs.LoadSteps.{IsAlone};
 ghost use Rattle.fish_rule.specs.declared.view.Epoch.TheVariants.{Out};
 ghost use Rattle.fish_scan.specs.Scans.{OnlyScans};
+ghost use Rattle.fish_store.specs.Sound.{RowsGoOn};
 
 use crate::block::Boundary;
 use fish_epoch::Defs;
@@ -36,6 +37,7 @@ pub(crate) fn find_boundary(
 ) -> Result<(), AllocError>
     requires can { CanControl log.now pass.old registrar.old }
     ensures can { CanControl log.now pass.new registrar.new }
+    ensures grows { RowsGoOn (view pass.old) registrar.old.catalog registrar.new.catalog }
     ensures gains { Gains (view pass.old) (view pass.new) [] }
     ensures shut { (view pass.new).shut ≡ (view pass.old).shut }
     ensures loads { (view pass.new).clock.loads ≡ (view pass.old).clock.loads }
@@ -57,6 +59,7 @@ pub(crate) fn find_last(log: &Log, pass: &mut Pass, registrar: &mut Registrar) -
     requires can { CanControl log.now pass.old registrar.old }
     requires alone { IsAlone (view pass.old) }
     ensures can { CanControl log.now pass.new registrar.new }
+    ensures grows { RowsGoOn (view pass.old) registrar.old.catalog registrar.new.catalog }
     ensures changes { Changes (view pass.old) (view pass.new) }
     ensures found { IsFound (view pass.old) registrar.old (view pass.new) registrar.new result }
     ensures settled { registrar.new.waiting ≡ None }
@@ -84,6 +87,7 @@ pub(crate) fn register(
     requires said { IsSaid def.now }
     ensures can { CanControl log.now pass.new registrar.new }
     ensures defs { IsDefsOf (view pass.new) defs.new }
+    ensures grows { RowsGoOn (view pass.old) registrar.old.catalog registrar.new.catalog }
     ensures gains { Gains (view pass.old) (view pass.new) [] }
     ensures shut { (view pass.new).shut ≡ (view pass.old).shut }
     ensures alone { IsAlone (view pass.old) → IfOk result NamesNone }
@@ -120,6 +124,7 @@ fn registered(
     requires waits { WaitsFor (view pass.old) registrar.old id }
     ensures can { CanControl log.now pass.new registrar.new }
     ensures defs { IsDefsOf (view pass.new) defs.new }
+    ensures grows { RowsGoOn (view pass.old) registrar.old.catalog registrar.new.catalog }
     ensures gains { Gains (view pass.old) (view pass.new) [] }
     ensures shut { (view pass.new).shut ≡ (view pass.old).shut }
     ensures alone { IsAlone (view pass.old) → IfOk result NamesNone }
@@ -159,6 +164,7 @@ pub(crate) fn deregister(
     requires defs { IsDefsOf (view pass.old) defs.old }
     ensures can { CanControl log.now pass.new registrar.new }
     ensures defs { IsDefsOf (view pass.new) defs.new }
+    ensures grows { RowsGoOn (view pass.old) registrar.old.catalog registrar.new.catalog }
     ensures gains { Gains (view pass.old) (view pass.new) [] }
     ensures shut { (view pass.new).shut ≡ (view pass.old).shut }
     ensures tail { IsAlone (view pass.old) → IfOk result (TellsTail (view pass.old)) }

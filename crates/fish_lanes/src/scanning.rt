@@ -1,48 +1,105 @@
 //! Scans, and how they would be answered, as items.
 
-ghost use Rattle.std.specs.Prelude.{◌≡◌, ◌<◌, IfErr, IfOk, Some};
+ghost use Rattle.std.specs.Prelude.{◌≡◌, ◌≢◌, ◌<◌, IfErr, IfOk, Some};
+ghost use Rattle.fish_cold.specs.Carries.{CarriesTable};
 ghost use Rattle.fish_epoch.specs.Definitions.{IsDefsOf};
-ghost use Rattle.fish_lanes.specs.Doing.{IsFit, cause_of, explained_item, scanned_item};
-ghost use Rattle.fish_lanes.specs.Loading.{LoadsWithin};
+ghost use Rattle.fish_lanes.specs.Causes.{HasCause, IsUndamaged, fault_of};
+ghost use Rattle.fish_lanes.specs.Doing.{IsAnswerHere, IsExplainedAnswer, IsFit, IsRefusedItem, cause_of, explained_item, scanned_item};
+ghost use Rattle.fish_lanes.specs.Loading.{LoadsInTable};
+ghost use Rattle.fish_lanes.specs.Pasts.{IsHere, anywhere};
+ghost use Rattle.fish_lanes.specs.declared.work.LaneFault.TheVariants as cause;
 ghost use Rattle.fish_lanes.specs.declared.work.Work.TheVariants as work;
+ghost use Rattle.fish_report.specs.declared.item.Item.TheVariants as item;
 ghost use Rattle.fish_rule.specs.Passes.{IsPassOf, view};
+ghost use Rattle.fish_scan.specs.Across.{IsRefusedWith, IsUndamagedScan};
+ghost use Rattle.fish_scan.specs.Colder.{IsBelow, IsScanFault};
 ghost use Rattle.fish_scan.specs.Scans.{IsAnswer, IsRefused, OnlyScans};
+ghost use Rattle.fish_store.specs.Sound.{ReadsPages};
 
+use crate::statements::{Stop, or_stop};
+use crate::work::{LaneFault, or_memory};
+use fish_disk::Disk;
 use fish_epoch::Defs;
 use fish_psf::Steps;
 use fish_report::{Item, ScanCause};
 use fish_rule::{Log, Pass};
 use fish_scan::{Answer, Ask, Explained, ScanRefusal, explain, scan};
+use fish_store::StoreFile;
 use fish_value::{Text, Value};
 use std::alloc::{AllocError, Global};
 use std::marker::Brand;
 use std::sync::ledger::{Blank, Ledger};
 
-/// Finds the records on which a definition has a value.
+/// Finds the records of the table on which a definition has a value.
 pub(crate) fn scan_range(
     alloc: Global,
     log: &Log,
     pass: &mut Pass,
     defs: &mut Defs,
     ask: &Ask,
-) -> Result<Item, AllocError>
+) -> Result<Item, Stop>
     requires pass { IsPassOf log.now pass.old }
     requires defs { IsDefsOf (view pass.old) defs.old }
     ensures pass { IsPassOf log.now pass.new }
     ensures only { OnlyScans (view pass.old) (view pass.new) }
     ensures defs { IsDefsOf (view pass.new) defs.new }
-    ensures fits { IfOk result (IsFit (view pass.old) (view pass.new) (work.Scan ask.now)) }
+    ensures fits { IfOk result (IsFit anywhere (view pass.old) (view pass.new) (work.Scan ask.now)) }
 {
     match scan_counted(alloc, log, pass, defs, ask) {
-        Ok(answer) => scanned(alloc, ask, answer, defs.version()),
-        Err(refusal) => {
-            let (name, cause) = refused(alloc, ask, refusal)?;
-            Ok(Item::ScanRefused {
-                name,
-                version: defs.version(),
-                cause,
-            })
-        }
+        Ok(answer) => or_stop(scanned(alloc, ask, answer, defs.version())),
+        Err(ScanRefusal::ColdRange { .. }) => Err(Stop::Older),
+        Err(refusal) => or_stop(refused(alloc, ask, refusal, defs.version())),
+    }
+}
+
+/// Finds the records on which a definition has a value, those below the table in the store's file.
+pub(crate) fn scan_older<D: Disk>(
+    alloc: Global,
+    log: &Log,
+    pass: &mut Pass,
+    file: &mut StoreFile,
+    disk: &mut D,
+    defs: &mut Defs,
+    ask: &Ask,
+) -> Result<Item, LaneFault>
+    requires pass { IsPassOf log.now pass.old }
+    requires defs { IsDefsOf (view pass.old) defs.old }
+    requires base { IsBelow log.now.key file.old.cold }
+    ensures pass { IsPassOf log.now pass.new }
+    ensures only { OnlyScans (view pass.old) (view pass.new) }
+    ensures defs { IsDefsOf (view pass.new) defs.new }
+    ensures base { IsBelow log.now.key file.new.cold }
+    ensures flusher { file.new.flusher ≡ file.old.flusher }
+    ensures reads { ReadsPages D.content D.images D.since D.moment D.faults log.now.key file.old.cold file.new.cold disk.old
+        disk.new }
+    ensures fits { IfOk result (IsFit (IsHere (D.content disk.new) log.now.key file.old.cold) (view pass.old) (view pass.new)
+        (work.Scan ask.now)) }
+
+    ensures named { IfErr result (λ e. e ≢ cause.None) }
+    ensures cause { IfErr result (HasCause (D.faults disk.old) (D.faults disk.new)) }
+    ensures whole { CarriesTable (D.content disk.new) log.now.key file.old.cold → IfErr result IsUndamaged }
+{
+    match older_counted(alloc, log, pass, file, disk, defs, ask) {
+        Ok(answer) => or_memory(scanned(alloc, ask, answer, defs.version())),
+        Err(refusal) => match fault_of(refusal) {
+            Some(fault) => Err(fault),
+            None => or_memory(refused(alloc, ask, refusal, defs.version())),
+        },
+    }
+}
+
+/// The fault of a lane whose scan met one of the store's file.
+fn fault_of(refusal: ScanRefusal) -> Option<LaneFault>
+    ensures { result ≡ fault_of refusal }
+{
+    match refusal {
+        ScanRefusal::DiskFault => Some(LaneFault::Disk),
+        ScanRefusal::Damaged { number } => Some(LaneFault::Damaged { number }),
+        ScanRefusal::UnknownName { .. }
+        | ScanRefusal::EmptyRange { .. }
+        | ScanRefusal::NotCovered { .. }
+        | ScanRefusal::ColdRange { .. }
+        | ScanRefusal::OutOfMemory => None,
     }
 }
 
@@ -59,18 +116,11 @@ pub(crate) fn explain_range(
     ensures pass { IsPassOf log.now pass.new }
     ensures only { OnlyScans (view pass.old) (view pass.new) }
     ensures defs { IsDefsOf (view pass.new) defs.new }
-    ensures fits { IfOk result (IsFit (view pass.old) (view pass.new) (work.Explain ask.now)) }
+    ensures fits { IfOk result (IsFit anywhere (view pass.old) (view pass.new) (work.Explain ask.now)) }
 {
     match explain(alloc, log, pass, defs, ask) {
         Ok(explained) => planned(alloc, ask, explained, defs.version()),
-        Err(refusal) => {
-            let (name, cause) = refused(alloc, ask, refusal)?;
-            Ok(Item::ExplainRefused {
-                name,
-                version: defs.version(),
-                cause,
-            })
-        }
+        Err(refusal) => unplanned(alloc, ask, refusal, defs.version()),
     }
 }
 
@@ -135,18 +185,43 @@ fn asked(alloc: Global, ask: &Ask) -> Result<(Text, Value), AllocError>
     Ok((name, value))
 }
 
-/// A copy of the name that is asked for, and why the scan was refused. Want of memory stays an error.
-fn refused(alloc: Global, ask: &Ask, refusal: ScanRefusal) -> Result<(Text, ScanCause), AllocError>
-    ensures { IfOk result (λ refused. (refused.0 ≡ ask.now.name) × (cause_of refusal ≡ Some refused.1)) }
+/// The item of a scan that was refused for a cause that an item tells; else memory ran out.
+fn refused(alloc: Global, ask: &Ask, refusal: ScanRefusal, version: u16) -> Result<Item, AllocError>
+    ensures { IfOk result (IsRefusedItem ask.now.name version refusal item.ScanRefused) }
 {
     let Some(cause) = cause_of(refusal) else {
         return Err(AllocError);
     };
-    Ok((ask.name.again(alloc)?, cause))
+    let name = ask.name.again(alloc)?;
+    Ok(Item::ScanRefused {
+        name,
+        version,
+        cause,
+    })
 }
 
-/// Why a scan was refused, as an item tells it; none where memory ran out. A range below the log's first number is
-/// refused of no log that begins at 0, and a scan that reads no file meets no fault of it.
+/// The same of a plan.
+fn unplanned(
+    alloc: Global,
+    ask: &Ask,
+    refusal: ScanRefusal,
+    version: u16,
+) -> Result<Item, AllocError>
+    ensures { IfOk result (IsRefusedItem ask.now.name version refusal item.ExplainRefused) }
+{
+    let Some(cause) = cause_of(refusal) else {
+        return Err(AllocError);
+    };
+    let name = ask.name.again(alloc)?;
+    Ok(Item::ExplainRefused {
+        name,
+        version,
+        cause,
+    })
+}
+
+/// Why a scan was refused, as an item tells it; none where memory ran out, where the range begins below the table, and for a
+/// fault of the file.
 fn cause_of(refusal: ScanRefusal) -> Option<ScanCause>
     ensures { result ≡ cause_of refusal }
 {
@@ -175,7 +250,7 @@ fn scan_counted(
     ensures only { OnlyScans (view pass.old) (view pass.new) }
     ensures defs { IsDefsOf (view pass.new) defs.new }
     ensures answer { IfOk result (IsAnswer (view pass.old) (view pass.new) defs.new.known ask.now) }
-    ensures loads { IfOk result (LoadsWithin (view pass.old) (view pass.new) ask.now.value) }
+    ensures loads { IfOk result (LoadsInTable (view pass.old) (view pass.new) ask.now.value) }
     ensures refused { IfErr result (IsRefused (view pass.old) (view pass.new) defs.new.known ask.now) }
 {
     scan_with::<Brand, Brand>(alloc, Blank::new(1), Blank::new(1), log, pass, defs, ask)
@@ -203,10 +278,90 @@ fn scan_with<P: Ledger, L: Ledger>(
     ensures only { OnlyScans (view pass.old) (view pass.new) }
     ensures defs { IsDefsOf (view pass.new) defs.new }
     ensures answer { IfOk result (IsAnswer (view pass.old) (view pass.new) defs.new.known ask.now) }
-    ensures loads { IfOk result (LoadsWithin (view pass.old) (view pass.new) ask.now.value) }
+    ensures loads { IfOk result (LoadsInTable (view pass.old) (view pass.new) ask.now.value) }
     ensures refused { IfErr result (IsRefused (view pass.old) (view pass.new) defs.new.known ask.now) }
 {
     let mut parses = Steps::<P>::new(parses);
     let mut loads = Steps::<L>::new(loads);
     scan(alloc, log, pass, defs, ask, &mut parses, &mut loads)
+}
+
+/// Scans on both sides of the table's base, with counters that nobody reads.
+fn older_counted<D: Disk>(
+    alloc: Global,
+    log: &Log,
+    pass: &mut Pass,
+    file: &mut StoreFile,
+    disk: &mut D,
+    defs: &mut Defs,
+    ask: &Ask,
+) -> Result<Answer, ScanRefusal>
+    requires pass { IsPassOf log.now pass.old }
+    requires defs { IsDefsOf (view pass.old) defs.old }
+    requires base { IsBelow log.now.key file.old.cold }
+    ensures pass { IsPassOf log.now pass.new }
+    ensures only { OnlyScans (view pass.old) (view pass.new) }
+    ensures defs { IsDefsOf (view pass.new) defs.new }
+    ensures base { IsBelow log.now.key file.new.cold }
+    ensures flusher { file.new.flusher ≡ file.old.flusher }
+    ensures reads { ReadsPages D.content D.images D.since D.moment D.faults log.now.key file.old.cold file.new.cold disk.old
+        disk.new }
+    ensures explained { IfOk result (IsExplainedAnswer (view pass.old) (view pass.new) defs.new.known ask.now) }
+    ensures answer { IfOk result (IsAnswerHere (D.content disk.new) log.now.key file.old.cold (view pass.old) (view pass.new)
+        defs.new.known ask.now) }
+    ensures refused { IfErr result (IsRefusedWith (view pass.old) (view pass.new) defs.new.known ask.now) }
+    ensures fault { IsScanFault (D.faults disk.old) (D.faults disk.new) result }
+    ensures whole { CarriesTable (D.content disk.new) log.now.key file.old.cold → IfErr result IsUndamagedScan }
+{
+    older_with::<Brand, Brand, D>(
+        alloc,
+        Blank::new(1),
+        Blank::new(1),
+        log,
+        pass,
+        file,
+        disk,
+        defs,
+        ask,
+    )
+}
+
+/// The same with counters of two blanks.
+fn older_with<P: Ledger, L: Ledger, D: Disk>(
+    alloc: Global,
+    parses: Blank,
+    loads: Blank,
+    log: &Log,
+    pass: &mut Pass,
+    file: &mut StoreFile,
+    disk: &mut D,
+    defs: &mut Defs,
+    ask: &Ask,
+) -> Result<Answer, ScanRefusal>
+    requires parses_name { parses.name ≡ P.name }
+    requires parses_parts { parses.parts ≡ P.parts }
+    requires parses_some { 0 < parses.parts }
+    requires loads_name { loads.name ≡ L.name }
+    requires loads_parts { loads.parts ≡ L.parts }
+    requires loads_some { 0 < loads.parts }
+    requires pass { IsPassOf log.now pass.old }
+    requires defs { IsDefsOf (view pass.old) defs.old }
+    requires base { IsBelow log.now.key file.old.cold }
+    ensures pass { IsPassOf log.now pass.new }
+    ensures only { OnlyScans (view pass.old) (view pass.new) }
+    ensures defs { IsDefsOf (view pass.new) defs.new }
+    ensures base { IsBelow log.now.key file.new.cold }
+    ensures flusher { file.new.flusher ≡ file.old.flusher }
+    ensures reads { ReadsPages D.content D.images D.since D.moment D.faults log.now.key file.old.cold file.new.cold disk.old
+        disk.new }
+    ensures explained { IfOk result (IsExplainedAnswer (view pass.old) (view pass.new) defs.new.known ask.now) }
+    ensures answer { IfOk result (IsAnswerHere (D.content disk.new) log.now.key file.old.cold (view pass.old) (view pass.new)
+        defs.new.known ask.now) }
+    ensures refused { IfErr result (IsRefusedWith (view pass.old) (view pass.new) defs.new.known ask.now) }
+    ensures fault { IsScanFault (D.faults disk.old) (D.faults disk.new) result }
+    ensures whole { CarriesTable (D.content disk.new) log.now.key file.old.cold → IfErr result IsUndamagedScan }
+{
+    let mut parses = Steps::<P>::new(parses);
+    let mut loads = Steps::<L>::new(loads);
+    file.scan(alloc, log, pass, defs, ask, disk, &mut parses, &mut loads)
 }

@@ -1,13 +1,14 @@
-//! The statements of a lane, done by its pass.
+//! The statements of a lane behind the first, done by its pass.
 
-ghost use Rattle.std.specs.Prelude.{◌≡◌, [], All, IfOk, IfErr};
+ghost use Rattle.std.specs.Prelude.{◌≡◌, ◌≤◌, All, IfErr, IfOk, length};
 ghost use Rattle.fish_epoch.specs.Definitions.{IsDefsOf};
 ghost use Rattle.fish_ingest.specs.Ingestion.{CanStart};
-ghost use Rattle.fish_lanes.specs.Doing.{IsItem, IsPart};
-ghost use Rattle.fish_lanes.specs.Running.{HasRun, IsFree, SayPlans};
+ghost use Rattle.fish_lanes.specs.Advancing.{GoesOnBy, HasNext, IsShort};
+ghost use Rattle.fish_lanes.specs.Causes.{or_stop};
+ghost use Rattle.fish_lanes.specs.Doing.{IsItem, IsStopped};
+ghost use Rattle.fish_lanes.specs.Pasts.{anywhere};
+ghost use Rattle.fish_lanes.specs.Running.{IsShared};
 ghost use Rattle.fish_lanes.specs.Spans.{IsAnswer};
-ghost use Rattle.fish_lanes.specs.declared.work.Work.TheVariants as work;
-ghost use Rattle.fish_rule.specs.Logs.{Learns};
 ghost use Rattle.fish_rule.specs.Passes.{IsPassOf, view};
 ghost use Rattle.fish_rule.specs.Views.{AllOf};
 
@@ -18,10 +19,29 @@ use crate::work::{LaneFault, Work};
 use fish_epoch::Defs;
 use fish_report::{Item, Items};
 use fish_rule::{Log, Pass, lane};
-use fish_walk::settle;
 use std::alloc::{AllocError, Global};
 
-/// Does statements that change no definition, in order, up to the first fault.
+/// Why a statement has no item.
+#[derive(Clone, Copy)]
+pub(crate) enum Stop {
+    /// Memory ran out.
+    Memory,
+    /// It is a scan of records that are older than the table. Nothing of it was done.
+    Older,
+}
+
+/// What a statement answered, where want of memory stops its lane.
+pub(crate) fn or_stop(item: Result<Item, AllocError>) -> Result<Item, Stop>
+    ensures { result ≡ or_stop item }
+{
+    match item {
+        Ok(item) => Ok(item),
+        Err(_) => Err(Stop::Memory),
+    }
+}
+
+/// Does the statements of a lane that have no item yet, in order, up to the first fault, or to the first scan of records that
+/// are older than the table, in front of which the lane stays.
 pub(crate) fn run_works<G: Gate>(
     alloc: Global,
     log: &Log,
@@ -34,56 +54,87 @@ pub(crate) fn run_works<G: Gate>(
     requires pass { IsPassOf log.now pass.old }
     requires start { CanStart (view pass.old) }
     requires defs { IsDefsOf (view pass.old) defs.old }
-    requires free { All IsFree works.now }
-    requires empty { items.old ≡ [] }
+    requires shared { All IsShared works.now }
     ensures pass { IsPassOf log.now pass.new }
-    ensures defs { IsDefsOf (view pass.new) defs.new }
-    ensures run { HasRun (view pass.old) (view pass.new) works.now items.new result }
-    ensures plans { SayPlans (view pass.old) (view pass.new) works.now items.new }
-    ensures answers { AllOf IsAnswer items.new }
+    ensures start { CanStart (view pass.new) }
+    ensures goes { GoesOnBy (view pass.old) (view pass.new) works.now items.old items.new result }
+    ensures short { IsShort result }
+    ensures more { length items.old ≤ length items.new }
+    ensures answers { AllOf IsAnswer items.old → AllOf IsAnswer items.new }
 {
-    let mut place: u32 = 0;
-    for work in works {
-        gate.reach(lane(pass), Point::Before(place));
-        let Ok(item) = run_work(alloc, log, pass, defs, work, gate) else {
-            return LaneFault::Memory;
-        };
-        match items.push(item) {
+    for next in items.len()..works.len() {
+        match run_next(alloc, log, pass, defs, &works[next], items, gate) {
             Ok(()) => {}
-            Err(_) => return LaneFault::Memory,
+            Err(Stop::Memory) => return LaneFault::Memory,
+            Err(Stop::Older) => return LaneFault::None,
         }
-        gate.reach(lane(pass), Point::After(place));
-        place = place.saturating_add(1);
     }
     LaneFault::None
 }
 
-/// Does one statement that changes no definition.
-pub(crate) fn run_work<G: Gate>(
+/// Does the next statement, and keeps its item.
+fn run_next<G: Gate>(
+    alloc: Global,
+    log: &Log,
+    pass: &mut Pass,
+    defs: &mut Defs,
+    work: &Work,
+    items: &mut Items,
+    gate: &G,
+) -> Result<(), Stop>
+    requires pass { IsPassOf log.now pass.old }
+    requires start { CanStart (view pass.old) }
+    requires defs { IsDefsOf (view pass.old) defs.old }
+    requires shared { IsShared work.now }
+    ensures pass { IsPassOf log.now pass.new }
+    ensures defs { IsDefsOf (view pass.new) defs.new }
+    ensures next { HasNext (view pass.old) (view pass.new) work.now items.old items.new result }
+{
+    let place = place_of(items);
+    gate.reach(lane(pass), Point::Before(place));
+    let item = match run_work(alloc, log, pass, defs, work, gate) {
+        Ok(item) => item,
+        Err(stop) => return Err(stop),
+    };
+    match items.push(item) {
+        Ok(()) => {}
+        Err(_) => return Err(Stop::Memory),
+    }
+    gate.reach(lane(pass), Point::After(place));
+    Ok(())
+}
+
+/// How many statements have an item, as a gate is told it.
+pub(crate) fn place_of(items: &Items) -> u32 {
+    items.len().min(u32::MAX as usize) as u32
+}
+
+/// Does one statement that a lane behind the first may have.
+fn run_work<G: Gate>(
     alloc: Global,
     log: &Log,
     pass: &mut Pass,
     defs: &mut Defs,
     work: &Work,
     gate: &G,
-) -> Result<Item, AllocError>
+) -> Result<Item, Stop>
     requires pass { IsPassOf log.now pass.old }
     requires start { CanStart (view pass.old) }
     requires defs { IsDefsOf (view pass.old) defs.old }
-    requires free { IsFree work.now }
+    requires shared { IsShared work.now }
     ensures pass { IsPassOf log.now pass.new }
     ensures defs { IsDefsOf (view pass.new) defs.new }
-    ensures item { IfOk result (IsItem (view pass.old) (view pass.new) work.now) }
-    ensures part { IfErr result (λ _. IsPart (view pass.old) (view pass.new) work.now) }
+    ensures item { IfOk result (IsItem anywhere (view pass.old) (view pass.new) work.now) }
+    ensures part { IfErr result (IsStopped (view pass.old) (view pass.new) work.now) }
 {
     match work {
-        Work::Register { .. } | Work::Deregister { .. } => unreachable!(),
+        Work::Register { .. } | Work::Deregister { .. } | Work::Checkpoint => unreachable!(),
         Work::Ingest {
             form,
             header,
             name,
             file,
-        } => ingest_file(
+        } => or_stop(ingest_file(
             alloc,
             log,
             pass,
@@ -93,22 +144,8 @@ pub(crate) fn run_work<G: Gate>(
             name,
             file.as_bytes(),
             gate,
-        ),
+        )),
         Work::Scan { ask } => scan_range(alloc, log, pass, defs, ask),
-        Work::Explain { ask } => explain_range(alloc, log, pass, defs, ask),
-        Work::Checkpoint => Ok(checkpoint(log, pass)),
-    }
-}
-
-/// Tells up to which number all is stored.
-fn checkpoint(log: &Log, pass: &mut Pass) -> Item
-    requires pass { IsPassOf log.now pass.old }
-    requires start { CanStart (view pass.old) }
-    ensures pass { IsPassOf log.now pass.new }
-    ensures learns { Learns (view pass.old) (view pass.new) }
-    ensures item { IsItem (view pass.old) (view pass.new) work.Checkpoint result }
-{
-    Item::Checkpointed {
-        count: settle(log, pass).settled,
+        Work::Explain { ask } => or_stop(explain_range(alloc, log, pass, defs, ask)),
     }
 }

@@ -1,8 +1,13 @@
 //! What a lane is to do.
 
+ghost use Rattle.std.specs.Prelude.{◌≡◌};
+ghost use Rattle.fish_lanes.specs.Causes.{or_memory};
+
 use fish_lang::Def;
+use fish_report::Item;
 use fish_scan::Ask;
 use fish_value::{Bytes, Form, Sequence, Text};
+use std::alloc::AllocError;
 
 /// A statement.
 #[derive(Drop)]
@@ -40,7 +45,7 @@ pub enum Work {
         /// What is asked.
         ask: Ask,
     },
-    /// Tell up to which number all is stored.
+    /// Commit the log to the store's file, up to the number below which all is stored. The first lane of a block alone may.
     Checkpoint,
 }
 
@@ -48,10 +53,27 @@ pub enum Work {
 pub type Works = Sequence<Work>;
 
 /// Why a lane stopped.
-#[derive(Clone, Copy, PartialEq, Eq)]
+#[derive(Clone, Copy, Debug, PartialEq, Eq)]
 pub enum LaneFault {
     /// It did all its statements.
     None,
     /// Memory ran out.
     Memory,
+    /// The disk failed.
+    Disk,
+    /// What the disk has of a record below the table's first number is none.
+    Damaged {
+        /// That number, or the table's first.
+        number: u32,
+    },
+}
+
+/// What a statement answered, where want of memory stops its lane.
+pub(crate) fn or_memory(item: Result<Item, AllocError>) -> Result<Item, LaneFault>
+    ensures { result ≡ or_memory item }
+{
+    match item {
+        Ok(item) => Ok(item),
+        Err(_) => Err(LaneFault::Memory),
+    }
 }

@@ -5,10 +5,16 @@ use Rattle.fish_lanes.proofs.Ends.{registered_end, taken_alone}
 use Rattle.fish_lanes.proofs.Leaving.{all_plans, all_shuts}
 use Rattle.fish_lanes.proofs.Moments.{counted_from, few_behind}
 use Rattle.fish_lanes.proofs.Single.{only_end}
+use Rattle.fish_lanes.proofs.Stepping.{stays_pass}
 use Rattle.fish_lanes.specs.Ending.{HasEnd}
+use Rattle.fish_registry.proofs.Changing.{learns_changes}
+use Rattle.fish_rule.proofs.laws.Learning.{learns_both}
 use Rattle.fish_rule.specs.LoadSteps.{IsAlone}
 use Rattle.fish_rule.specs.Passes.{view}
 use Rattle.fish_rule.specs.declared.view.View.{View}
+use Rattle.fish_store.proofs.Running.{here_both, here_stays, may_stays}
+use Rattle.fish_store.specs.Points.{point_of}
+use Rattle.fish_store.specs.Sound.{IsSoundBehind}
 use Rattle.fish_lanes.proofs.block.run_lanes.Goals as goal
 
 pub run_by_passes-requires-clause-first : goal.run_by_passes-requires-clause-first
@@ -60,20 +66,23 @@ returns-clause-alone g c none =
     let first = course.run.first_did in
     record {
       closed = first.controlled.closed (subst IsAlone (sym given) c.requires.end.1.alone);
-      only = λ end e wait. only_end (view c.args.main.now) course.run.main course.ran (view c.run_by_passes.new.main) ended.bound
+      only = λ end e wait. only_end (IsSoundBehind g.D.Disk.content g.D.Disk.images
+          (point_of c.args.disk.now c.args.file.now c.args.log.now c.args.main.now c.args.registrar.now)
+          (g.D.Disk.content c.run_by_passes.new.disk)) (view c.args.main.now) course.run.main course.ran (view c.run_by_passes.new.main)
+          ended.bound
           (view c.end_block.new.main) c.args.registrar.now.catalog end c.args.first.now.works c.run_by_passes.new.first.works
           c.run_by_passes.new.first.items given (course.back.takes.none (omega arith)) ended.changes ended.settles first.works
           (first.controlled.only end (subst (λ (z : View). HasEnd z end) (sym given) e) wait);
     }
 
 pub returns-clause-told : goal.returns-clause-told
-returns-clause-told g c past k span many =
+returns-clause-told g c past behind k span many =
     let course = c.run_by_passes.ensures.course in
     let ended = c.end_block.ensures.ended in
     let stands = c.end_block.ensures.can.of.stands in
     let stood = c.requires.can.of.stands in (
-      within course.run course.back ended c.requires.end stands past k span many stood,
-      tells_all course.run course.back ended c.requires.end stands past k span many stood c.requires.others.few,
+      within course.run course.back ended c.requires.end stands past behind k span many stood,
+      tells_all course.run course.back ended c.requires.end stands past behind k span many stood c.requires.others.few,
     )
 
 pub returns-clause-registered : goal.returns-clause-registered
@@ -102,3 +111,35 @@ pub returns-clause-marks : goal.returns-clause-marks
 returns-clause-marks g c =
     let course = c.run_by_passes.ensures.course in
     all_marks course.run course.back c.end_block.ensures.ended c.requires.end c.end_block.ensures.can.of.stands
+
+pub returns-clause-goes : goal.returns-clause-goes
+returns-clause-goes g c =
+    let disk = g.D.Disk in
+    let ended = c.end_block.ensures.ended in
+    let u = view c.run_by_passes.new.main in
+    let t = view c.end_block.new.main in
+    let before = point_of c.args.disk.now c.args.file.now c.args.log.now c.args.main.now c.args.registrar.now in
+    let ran = point_of c.run_by_passes.new.disk c.run_by_passes.new.file c.args.log.now c.run_by_passes.new.main
+    c.run_by_passes.new.registrar in
+    let after = point_of c.run_by_passes.new.disk c.run_by_passes.new.file c.args.log.now c.end_block.new.main
+    c.end_block.new.registrar in
+    let learns = learns_both u ended.bound t (learns_changes u ended.bound ended.changes) ended.settles.learns in
+    let stays = stays_pass disk.content disk.images disk.since disk.moment ran c.end_block.new.registrar.catalog t learns
+    c.end_block.ensures.grows in
+    here_both disk.content disk.images disk.since disk.moment before ran after c.run_by_passes.ensures.goes
+    (here_stays disk.content disk.images disk.since disk.moment ran after stays)
+
+pub returns-clause-again : goal.returns-clause-again
+returns-clause-again g c fine =
+    let disk = g.D.Disk in
+    let ended = c.end_block.ensures.ended in
+    let u = view c.run_by_passes.new.main in
+    let t = view c.end_block.new.main in
+    let ran = point_of c.run_by_passes.new.disk c.run_by_passes.new.file c.args.log.now c.run_by_passes.new.main
+    c.run_by_passes.new.registrar in
+    let after = point_of c.run_by_passes.new.disk c.run_by_passes.new.file c.args.log.now c.end_block.new.main
+    c.end_block.new.registrar in
+    let learns = learns_both u ended.bound t (learns_changes u ended.bound ended.changes) ended.settles.learns in
+    let stays = stays_pass disk.content disk.images disk.since disk.moment ran c.end_block.new.registrar.catalog t learns
+    c.end_block.ensures.grows in
+    may_stays disk.content disk.images disk.since disk.moment ran after stays (c.run_by_passes.ensures.again fine)

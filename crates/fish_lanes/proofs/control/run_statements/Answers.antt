@@ -1,12 +1,17 @@
 -- A statement more, or the end.
-use Rattle.std.proofs.Common.{◌≡◌, ◌+◌, List, [], ◌∷◌, ◌++◌, take, drop, sym, ap, ◌∙◌, subst, arith}
+use Rattle.std.proofs.Common.{◌≡◌, ◌≢◌, ◌+◌, List, [], ◌∷◌, ◌++◌, take, drop, sym, ap, ◌∙◌, subst, arith}
 use Rattle.std.proofs.lemmas.List.{take_all, take_more}
 use Rattle.fish_epoch.proofs.Reading.{defs_later}
 use Rattle.fish_ingest.proofs.IngestionStart.{idle_law}
-use Rattle.fish_lanes.proofs.Controls.{Held, held_cut, held_done, held_ended, held_polled, held_self, take_nothing_first}
+use Rattle.fish_lanes.proofs.Committing.{committed_on, committed_polled}
+use Rattle.fish_lanes.proofs.Controls.{Held, held_cut, held_done, held_ended, held_fewer, held_polled, held_self, take_nothing_first}
+use Rattle.fish_lanes.proofs.Finished.{cause_before}
+use Rattle.fish_lanes.proofs.Lists.{all_more}
 use Rattle.fish_lanes.proofs.Parts.{around, err_told, ok_told}
 use Rattle.fish_lanes.proofs.Pending.{found_next, found_polled}
-use Rattle.fish_lanes.specs.Controlling.{HasControlled, HasPolled}
+use Rattle.fish_lanes.proofs.SoFar.{controlled_fewer}
+use Rattle.fish_lanes.proofs.Stepping.{rows_self, stays_pass}
+use Rattle.fish_lanes.specs.Controlling.{HasControlled, HasPolled, IsCommitted, IsControlled}
 use Rattle.fish_lanes.specs.Pending.{AreFound}
 use Rattle.fish_lanes.specs.Registering.{registry_of}
 use Rattle.fish_lanes.specs.Telling.{count_of}
@@ -14,127 +19,338 @@ use Rattle.fish_lanes.specs.declared.work.LaneFault.TheVariants as cause
 use Rattle.fish_lanes.specs.declared.work.Work.{Work}
 use Rattle.fish_report.specs.declared.item.Item.{Item}
 use Rattle.fish_rule.proofs.laws.Clocks.{later_self}
+use Rattle.fish_rule.proofs.laws.Learning.{learns_self}
 use Rattle.fish_rule.specs.Passes.{view}
+use Rattle.fish_rule.specs.Views.{AllOf}
+use Rattle.fish_store.proofs.Running.{behind_on, here_both, here_stays, may_stays}
+use Rattle.fish_store.specs.Points.{point_of}
+use Rattle.fish_store.specs.Sound.{IsSoundBehind}
+use Rattle.fish_whole.specs.Whole.{Whole}
 use Rattle.fish_lanes.proofs.control.run_statements.Goals as goal
 
 pub loop-work-init : goal.loop-work-init
 loop-work-init g c =
     let v = view c.args.pass.now in
+    let r = c.args.registrar.now in
+    let disk = g.D.Disk in
+    let before = point_of c.args.disk.now c.args.file.now c.args.log.now c.args.pass.now r in
+    let Past : Whole → Type 0 = IsSoundBehind disk.content disk.images before (disk.content c.args.disk.now) in
     record {
       can = c.requires.can;
       read = c.requires.defs;
-      held = subst (λ (z : List Item). Held v c.args.registrar.now v c.args.registrar.now [] z) (sym c.requires.empty)
-          (held_self v c.args.registrar.now c.requires.can.start.outside
-          (idle_law v c.requires.can.of.stands c.requires.can.start) c.requires.known);
-      found = subst (AreFound v.clock v.clock (registry_of v c.args.registrar.now)) (sym c.requires.empty) (later_self v.clock);
+      below = c.requires.below;
+      goes = here_stays disk.content disk.images disk.since disk.moment before before
+          (stays_pass disk.content disk.images disk.since disk.moment before r.catalog v (learns_self v) (rows_self v r.catalog));
+      again = c.requires.commit;
+      held = subst (λ (z : List Item). Held Past v r v r [] z) (sym c.requires.empty)
+          (held_self v r c.requires.can.start.outside (idle_law v c.requires.can.of.stands c.requires.can.start) c.requires.known);
+      found = subst (AreFound v.clock v.clock (registry_of v r)) (sym c.requires.empty) (later_self v.clock);
+      committed = subst (AllOf (IsCommitted c.args.file.now.flusher.count)) (sym c.requires.empty) tt;
+      later = omega arith;
     }
+
+pub returns-then-is_err-clause-goes : goal.returns-then-is_err-clause-goes
+returns-then-is_err-clause-goes g c =
+    let disk = g.D.Disk in
+    let inv = c.loop-work.invariant in
+    let r = c.args.registrar.now in
+    let u = view c.find_boundary.new.pass in
+    let s = c.find_boundary.new.registrar in
+    let before = point_of c.args.disk.now c.args.file.now c.args.log.now c.args.pass.now r in
+    let now = point_of c.loop-work.disk c.loop-work.file c.args.log.now c.loop-work.pass c.loop-work.registrar in
+    let looked = point_of c.loop-work.disk c.loop-work.file c.args.log.now c.find_boundary.new.pass s in
+    let stays = stays_pass disk.content disk.images disk.since disk.moment now s.catalog u c.find_boundary.ensures.gains.on.learns
+    c.find_boundary.ensures.grows in
+    let goes = here_both disk.content disk.images disk.since disk.moment before now looked inv.goes
+    (here_stays disk.content disk.images disk.since disk.moment now looked stays) in
+    goes
+
+pub returns-then-is_err-clause-again : goal.returns-then-is_err-clause-again
+returns-then-is_err-clause-again g c fine =
+    let disk = g.D.Disk in
+    let inv = c.loop-work.invariant in
+    let u = view c.find_boundary.new.pass in
+    let s = c.find_boundary.new.registrar in
+    let now = point_of c.loop-work.disk c.loop-work.file c.args.log.now c.loop-work.pass c.loop-work.registrar in
+    let looked = point_of c.loop-work.disk c.loop-work.file c.args.log.now c.find_boundary.new.pass s in
+    let stays = stays_pass disk.content disk.images disk.since disk.moment now s.catalog u c.find_boundary.ensures.gains.on.learns
+    c.find_boundary.ensures.grows in
+    may_stays disk.content disk.images disk.since disk.moment now looked stays inv.again
 
 pub returns-then-is_err-clause-run : goal.returns-then-is_err-clause-run
 returns-then-is_err-clause-run g c =
+    let disk = g.D.Disk in
+    let inv = c.loop-work.invariant in
+    let v = view c.args.pass.now in
+    let r = c.args.registrar.now in
+    let u = view c.find_boundary.new.pass in
+    let s = c.find_boundary.new.registrar in
+    let before = point_of c.args.disk.now c.args.file.now c.args.log.now c.args.pass.now r in
     let i = c.loop-work.work-index in
     let works = c.args.works.now in
     let w = c.work-item.result in
-    let v = view c.args.pass.now in
-    let r = c.args.registrar.now in
-    let t = view c.find_boundary.new.pass in
-    let q = c.find_boundary.new.registrar in
-    subst (λ (z : List Work × List Item). HasControlled v t r q z.0 z.1 cause.Memory)
+    let Past : Whole → Type 0 = IsSoundBehind disk.content disk.images before (disk.content c.loop-work.disk) in
+    subst (λ (z : List Work × List Item). HasControlled Past v u r s z.0 z.1 cause.Memory)
     (λ j. (
       around works i w c.loop-work-test.true c.work-item.is j,
       sym (err_told c.find_boundary.result c.is_err.result c.is_err.ensures.value c.if-is_err.true c.find_boundary.ensures.refused) j,
     ))
-    (held_cut v r (view c.loop-work.pass) c.loop-work.registrar t q (take i works) c.loop-work.items w (drop (i + 1) works) [] 0
-    c.loop-work.invariant.held c.loop-work.invariant.found c.find_boundary.ensures.gains (take_nothing_first w))
+    (held_cut v r (view c.loop-work.pass) c.loop-work.registrar u s (take i works) c.loop-work.items w (drop (i + 1) works) [] 0
+    cause.Memory (λ e. absurd cc) inv.held inv.found c.find_boundary.ensures.gains (take_nothing_first w))
+
+pub returns-then-is_err-clause-committed : goal.returns-then-is_err-clause-committed
+returns-then-is_err-clause-committed g c =
+    subst (AllOf (IsCommitted c.loop-work.file.flusher.count))
+    (sym (err_told c.find_boundary.result c.is_err.result c.is_err.ensures.value c.if-is_err.true c.find_boundary.ensures.refused))
+    c.loop-work.invariant.committed
 
 pub run_statement-requires-clause-defs : goal.run_statement-requires-clause-defs
-run_statement-requires-clause-defs g c = defs_later (view c.loop-work.pass) (view c.find_boundary.new.pass) c.loop-work.defs.known
+run_statement-requires-clause-defs g c =
+    defs_later (view c.loop-work.pass) (view c.find_boundary.new.pass) c.loop-work.defs.known
     c.find_boundary.ensures.gains.on.learns c.loop-work.invariant.read
 
-pub returns-in_default-clause-run : goal.returns-in_default-clause-run
-returns-in_default-clause-run g c =
-    let i = c.loop-work.work-index in
-    let works = c.args.works.now in
-    let w = c.work-item.result in
-    let v = view c.args.pass.now in
+pub run_statement-requires-clause-commit : goal.run_statement-requires-clause-commit
+run_statement-requires-clause-commit g c =
+    let disk = g.D.Disk in
+    let inv = c.loop-work.invariant in
+    let u = view c.find_boundary.new.pass in
+    let s = c.find_boundary.new.registrar in
+    let now = point_of c.loop-work.disk c.loop-work.file c.args.log.now c.loop-work.pass c.loop-work.registrar in
+    let looked = point_of c.loop-work.disk c.loop-work.file c.args.log.now c.find_boundary.new.pass s in
+    let stays = stays_pass disk.content disk.images disk.since disk.moment now s.catalog u c.find_boundary.ensures.gains.on.learns
+    c.find_boundary.ensures.grows in
+    may_stays disk.content disk.images disk.since disk.moment now looked stays inv.again
+
+pub returns-in-Err-clause-goes : goal.returns-in-Err-clause-goes
+returns-in-Err-clause-goes g c =
+    let disk = g.D.Disk in
+    let inv = c.loop-work.invariant in
     let r = c.args.registrar.now in
     let u = view c.find_boundary.new.pass in
     let s = c.find_boundary.new.registrar in
-    let polled : HasPolled (view c.loop-work.pass) c.loop-work.registrar u s c.loop-work.items c.find_boundary.new.items =
-    ok_told c.find_boundary.result c.is_err.result c.is_err.ensures.value c.if-is_err.false c.find_boundary.ensures.polled in
-    let held = held_polled v r (view c.loop-work.pass) c.loop-work.registrar u s (take i works) c.loop-work.items
-    c.find_boundary.new.items c.loop-work.invariant.held c.find_boundary.ensures.gains c.find_boundary.ensures.loads
-    c.find_boundary.ensures.shut c.find_boundary.ensures.idle polled in
-    let part = c.in_default.ensures.part in
-    subst (λ (z : List Work). HasControlled v (view c.run_statement.new.pass) r c.run_statement.new.registrar z
-    c.find_boundary.new.items cause.Memory) (around works i w c.loop-work-test.true c.work-item.is)
-    (held_cut v r u s (view c.run_statement.new.pass) c.run_statement.new.registrar (take i works) c.find_boundary.new.items w
-    (drop (i + 1) works) part.rows part.count held
-    (found_polled v.clock (registry_of v r) (view c.loop-work.pass) u c.loop-work.registrar s c.loop-work.items
-    c.find_boundary.new.items c.loop-work.invariant.found c.loop-work.invariant.held.is c.find_boundary.ensures.gains.on.clock polled)
-    part.gains part.first)
+    let before = point_of c.args.disk.now c.args.file.now c.args.log.now c.args.pass.now r in
+    let now = point_of c.loop-work.disk c.loop-work.file c.args.log.now c.loop-work.pass c.loop-work.registrar in
+    let looked = point_of c.loop-work.disk c.loop-work.file c.args.log.now c.find_boundary.new.pass s in
+    let stays = stays_pass disk.content disk.images disk.since disk.moment now s.catalog u c.find_boundary.ensures.gains.on.learns
+    c.find_boundary.ensures.grows in
+    let goes = here_both disk.content disk.images disk.since disk.moment before now looked inv.goes
+    (here_stays disk.content disk.images disk.since disk.moment now looked stays) in
+    let q = c.run_statement.new.registrar in
+    let after = point_of c.run_statement.new.disk c.run_statement.new.file c.args.log.now c.run_statement.new.pass q in
+    let step = c.run_statement.ensures.goes in
+    here_both disk.content disk.images disk.since disk.moment before looked after goes step
 
 pub returns-in-Err-clause-run : goal.returns-in-Err-clause-run
 returns-in-Err-clause-run g c =
-    let i = c.loop-work.work-index in
-    let works = c.args.works.now in
-    let w = c.work-item.result in
+    let disk = g.D.Disk in
+    let inv = c.loop-work.invariant in
     let v = view c.args.pass.now in
     let r = c.args.registrar.now in
     let u = view c.find_boundary.new.pass in
     let s = c.find_boundary.new.registrar in
+    let before = point_of c.args.disk.now c.args.file.now c.args.log.now c.args.pass.now r in
+    let i = c.loop-work.work-index in
+    let works = c.args.works.now in
+    let w = c.work-item.result in
     let polled : HasPolled (view c.loop-work.pass) c.loop-work.registrar u s c.loop-work.items c.find_boundary.new.items =
     ok_told c.find_boundary.result c.is_err.result c.is_err.ensures.value c.if-is_err.false c.find_boundary.ensures.polled in
-    let held = held_polled v r (view c.loop-work.pass) c.loop-work.registrar u s (take i works) c.loop-work.items
-    c.find_boundary.new.items c.loop-work.invariant.held c.find_boundary.ensures.gains c.find_boundary.ensures.loads
-    c.find_boundary.ensures.shut c.find_boundary.ensures.idle polled in
+    let t = view c.run_statement.new.pass in
+    let q = c.run_statement.new.registrar in
+    let then = disk.content c.loop-work.disk in
+    let last = disk.content c.run_statement.new.disk in
+    let Past : Whole → Type 0 = IsSoundBehind disk.content disk.images before last in
+    let step = c.run_statement.ensures.goes in
+    let held = held_fewer (IsSoundBehind disk.content disk.images before then) Past v r u s (take i works) c.find_boundary.new.items
+    (λ past sound. record { sound = sound.sound; told = step.told_before sound.told })
+    (held_polled v r (view c.loop-work.pass) c.loop-work.registrar u s (take i works) c.loop-work.items
+    c.find_boundary.new.items inv.held c.find_boundary.ensures.gains c.find_boundary.ensures.loads
+    c.find_boundary.ensures.shut c.find_boundary.ensures.idle polled) in
+    let found = found_polled v.clock (registry_of v r) (view c.loop-work.pass) u c.loop-work.registrar s c.loop-work.items
+    c.find_boundary.new.items inv.found inv.held.is c.find_boundary.ensures.gains.on.clock polled in
+    let part = c.in-Err.ensures.part in
+    subst (λ (z : List Work). HasControlled Past v t r q z c.find_boundary.new.items c.in-Err.fault)
+    (around works i w c.loop-work-test.true c.work-item.is)
+    (held_cut v r u s t q (take i works) c.find_boundary.new.items w (drop (i + 1) works) part.rows part.count
+    c.in-Err.fault c.in-Err.ensures.named held found part.gains part.first)
+
+pub returns-in-Err-clause-committed : goal.returns-in-Err-clause-committed
+returns-in-Err-clause-committed g c =
+    let inv = c.loop-work.invariant in
+    let u = view c.find_boundary.new.pass in
+    let s = c.find_boundary.new.registrar in
+    let polled : HasPolled (view c.loop-work.pass) c.loop-work.registrar u s c.loop-work.items c.find_boundary.new.items =
+    ok_told c.find_boundary.result c.is_err.result c.is_err.ensures.value c.if-is_err.false c.find_boundary.ensures.polled in
+    let step = c.run_statement.ensures.goes in
+    let committed = committed_on c.loop-work.file.flusher.count c.run_statement.new.file.flusher.count c.find_boundary.new.items
+    step.rises (committed_polled c.loop-work.file.flusher.count (view c.loop-work.pass) c.loop-work.registrar u s c.loop-work.items
+    c.find_boundary.new.items polled inv.committed) in
+    committed
+
+pub returns-in-Err-clause-cause : goal.returns-in-Err-clause-cause
+returns-in-Err-clause-cause g c =
+    cause_before (g.D.Disk.faults c.args.disk.now) (g.D.Disk.faults c.loop-work.disk) (g.D.Disk.faults c.run_statement.new.disk)
+    c.in-Err.fault c.loop-work.invariant.later c.in-Err.ensures.cause
+
+pub returns-in-Err-clause-whole : goal.returns-in-Err-clause-whole
+returns-in-Err-clause-whole g c past sound =
+    let disk = g.D.Disk in
+    let inv = c.loop-work.invariant in
+    let r = c.args.registrar.now in
+    let u = view c.find_boundary.new.pass in
+    let s = c.find_boundary.new.registrar in
+    let before = point_of c.args.disk.now c.args.file.now c.args.log.now c.args.pass.now r in
+    let now = point_of c.loop-work.disk c.loop-work.file c.args.log.now c.loop-work.pass c.loop-work.registrar in
+    let looked = point_of c.loop-work.disk c.loop-work.file c.args.log.now c.find_boundary.new.pass s in
+    let stays = stays_pass disk.content disk.images disk.since disk.moment now s.catalog u c.find_boundary.ensures.gains.on.learns
+    c.find_boundary.ensures.grows in
+    let goes = here_both disk.content disk.images disk.since disk.moment before now looked inv.goes
+    (here_stays disk.content disk.images disk.since disk.moment now looked stays) in
+    let last = disk.content c.run_statement.new.disk in
+    let Past : Whole → Type 0 = IsSoundBehind disk.content disk.images before last in
+    let Looked : Whole → Type 0 = IsSoundBehind disk.content disk.images looked last in
+    let step = c.run_statement.ensures.goes in
+    let here : (past : Whole) → Past past → Looked past =
+    λ past sound. behind_on disk.content disk.images disk.since disk.moment before looked last past goes sound step.told_before in
+    c.in-Err.ensures.whole past (here past sound)
+
+pub returns-in-Err-push-clause-goes : goal.returns-in-Err-push-clause-goes
+returns-in-Err-push-clause-goes g c =
+    let disk = g.D.Disk in
+    let inv = c.loop-work.invariant in
+    let r = c.args.registrar.now in
+    let u = view c.find_boundary.new.pass in
+    let s = c.find_boundary.new.registrar in
+    let before = point_of c.args.disk.now c.args.file.now c.args.log.now c.args.pass.now r in
+    let now = point_of c.loop-work.disk c.loop-work.file c.args.log.now c.loop-work.pass c.loop-work.registrar in
+    let looked = point_of c.loop-work.disk c.loop-work.file c.args.log.now c.find_boundary.new.pass s in
+    let stays = stays_pass disk.content disk.images disk.since disk.moment now s.catalog u c.find_boundary.ensures.gains.on.learns
+    c.find_boundary.ensures.grows in
+    let goes = here_both disk.content disk.images disk.since disk.moment before now looked inv.goes
+    (here_stays disk.content disk.images disk.since disk.moment now looked stays) in
+    let q = c.run_statement.new.registrar in
+    let after = point_of c.run_statement.new.disk c.run_statement.new.file c.args.log.now c.run_statement.new.pass q in
+    let step = c.run_statement.ensures.goes in
+    here_both disk.content disk.images disk.since disk.moment before looked after goes step
+
+pub returns-in-Err-push-clause-run : goal.returns-in-Err-push-clause-run
+returns-in-Err-push-clause-run g c =
+    let disk = g.D.Disk in
+    let inv = c.loop-work.invariant in
+    let v = view c.args.pass.now in
+    let r = c.args.registrar.now in
+    let u = view c.find_boundary.new.pass in
+    let s = c.find_boundary.new.registrar in
+    let before = point_of c.args.disk.now c.args.file.now c.args.log.now c.args.pass.now r in
+    let i = c.loop-work.work-index in
+    let works = c.args.works.now in
+    let w = c.work-item.result in
+    let polled : HasPolled (view c.loop-work.pass) c.loop-work.registrar u s c.loop-work.items c.find_boundary.new.items =
+    ok_told c.find_boundary.result c.is_err.result c.is_err.ensures.value c.if-is_err.false c.find_boundary.ensures.polled in
+    let t = view c.run_statement.new.pass in
+    let q = c.run_statement.new.registrar in
+    let then = disk.content c.loop-work.disk in
+    let last = disk.content c.run_statement.new.disk in
+    let Past : Whole → Type 0 = IsSoundBehind disk.content disk.images before last in
+    let step = c.run_statement.ensures.goes in
+    let held = held_fewer (IsSoundBehind disk.content disk.images before then) Past v r u s (take i works) c.find_boundary.new.items
+    (λ past sound. record { sound = sound.sound; told = step.told_before sound.told })
+    (held_polled v r (view c.loop-work.pass) c.loop-work.registrar u s (take i works) c.loop-work.items
+    c.find_boundary.new.items inv.held c.find_boundary.ensures.gains c.find_boundary.ensures.loads
+    c.find_boundary.ensures.shut c.find_boundary.ensures.idle polled) in
+    let found = found_polled v.clock (registry_of v r) (view c.loop-work.pass) u c.loop-work.registrar s c.loop-work.items
+    c.find_boundary.new.items inv.found inv.held.is c.find_boundary.ensures.gains.on.clock polled in
     let done = c.in-Ok.ensures.done in
-    subst (λ (z : List Work × List Item). HasControlled v (view c.run_statement.new.pass) r c.run_statement.new.registrar z.0 z.1
-    cause.Memory) (λ j. (around works i w c.loop-work-test.true c.work-item.is j, sym c.in-Err.ensures.err j))
-    (held_cut v r u s (view c.run_statement.new.pass) c.run_statement.new.registrar (take i works) c.find_boundary.new.items w
-    (drop (i + 1) works) done.rows (count_of c.in-Ok.item) held
-    (found_polled v.clock (registry_of v r) (view c.loop-work.pass) u c.loop-work.registrar s c.loop-work.items
-    c.find_boundary.new.items c.loop-work.invariant.found c.loop-work.invariant.held.is c.find_boundary.ensures.gains.on.clock polled)
-    done.gains done.first)
+    subst (λ (z : List Work × List Item). HasControlled Past v t r q z.0 z.1 cause.Memory)
+    (λ j. (around works i w c.loop-work-test.true c.work-item.is j, sym c.in-Err-push.ensures.err j))
+    (held_cut v r u s t q (take i works) c.find_boundary.new.items w (drop (i + 1) works) done.rows (count_of c.in-Ok.item)
+    cause.Memory (λ e. absurd cc) held found done.gains done.first)
+
+pub returns-in-Err-push-clause-committed : goal.returns-in-Err-push-clause-committed
+returns-in-Err-push-clause-committed g c =
+    let inv = c.loop-work.invariant in
+    let u = view c.find_boundary.new.pass in
+    let s = c.find_boundary.new.registrar in
+    let polled : HasPolled (view c.loop-work.pass) c.loop-work.registrar u s c.loop-work.items c.find_boundary.new.items =
+    ok_told c.find_boundary.result c.is_err.result c.is_err.ensures.value c.if-is_err.false c.find_boundary.ensures.polled in
+    let step = c.run_statement.ensures.goes in
+    let committed = committed_on c.loop-work.file.flusher.count c.run_statement.new.file.flusher.count c.find_boundary.new.items
+    step.rises (committed_polled c.loop-work.file.flusher.count (view c.loop-work.pass) c.loop-work.registrar u s c.loop-work.items
+    c.find_boundary.new.items polled inv.committed) in
+    subst (AllOf (IsCommitted c.run_statement.new.file.flusher.count)) (sym c.in-Err-push.ensures.err) committed
 
 pub loop-work-preserved : goal.loop-work-preserved
 loop-work-preserved g c =
+    let disk = g.D.Disk in
     let inv = c.loop-work.invariant in
-    let i = c.loop-work.work-index in
-    let works = c.args.works.now in
-    let w = c.work-item.result in
     let v = view c.args.pass.now in
     let r = c.args.registrar.now in
     let u = view c.find_boundary.new.pass in
     let s = c.find_boundary.new.registrar in
-    let t = view c.run_statement.new.pass in
-    let q = c.run_statement.new.registrar in
+    let before = point_of c.args.disk.now c.args.file.now c.args.log.now c.args.pass.now r in
+    let now = point_of c.loop-work.disk c.loop-work.file c.args.log.now c.loop-work.pass c.loop-work.registrar in
+    let looked = point_of c.loop-work.disk c.loop-work.file c.args.log.now c.find_boundary.new.pass s in
+    let stays = stays_pass disk.content disk.images disk.since disk.moment now s.catalog u c.find_boundary.ensures.gains.on.learns
+    c.find_boundary.ensures.grows in
+    let goes = here_both disk.content disk.images disk.since disk.moment before now looked inv.goes
+    (here_stays disk.content disk.images disk.since disk.moment now looked stays) in
+    let i = c.loop-work.work-index in
+    let works = c.args.works.now in
+    let w = c.work-item.result in
     let polled : HasPolled (view c.loop-work.pass) c.loop-work.registrar u s c.loop-work.items c.find_boundary.new.items =
     ok_told c.find_boundary.result c.is_err.result c.is_err.ensures.value c.if-is_err.false c.find_boundary.ensures.polled in
-    let held = held_polled v r (view c.loop-work.pass) c.loop-work.registrar u s (take i works) c.loop-work.items
+    let t = view c.run_statement.new.pass in
+    let q = c.run_statement.new.registrar in
+    let then = disk.content c.loop-work.disk in
+    let last = disk.content c.run_statement.new.disk in
+    let after = point_of c.run_statement.new.disk c.run_statement.new.file c.args.log.now c.run_statement.new.pass q in
+    let Past : Whole → Type 0 = IsSoundBehind disk.content disk.images before last in
+    let Looked : Whole → Type 0 = IsSoundBehind disk.content disk.images looked last in
+    let step = c.run_statement.ensures.goes in
+    let here : (past : Whole) → Past past → Looked past =
+    λ past sound. behind_on disk.content disk.images disk.since disk.moment before looked last past goes sound step.told_before in
+    let held = held_fewer (IsSoundBehind disk.content disk.images before then) Past v r u s (take i works) c.find_boundary.new.items
+    (λ past sound. record { sound = sound.sound; told = step.told_before sound.told })
+    (held_polled v r (view c.loop-work.pass) c.loop-work.registrar u s (take i works) c.loop-work.items
     c.find_boundary.new.items inv.held c.find_boundary.ensures.gains c.find_boundary.ensures.loads
-    c.find_boundary.ensures.shut c.find_boundary.ensures.idle polled in
+    c.find_boundary.ensures.shut c.find_boundary.ensures.idle polled) in
+    let found = found_polled v.clock (registry_of v r) (view c.loop-work.pass) u c.loop-work.registrar s c.loop-work.items
+    c.find_boundary.new.items inv.found inv.held.is c.find_boundary.ensures.gains.on.clock polled in
+    let committed = committed_on c.loop-work.file.flusher.count c.run_statement.new.file.flusher.count c.find_boundary.new.items
+    step.rises (committed_polled c.loop-work.file.flusher.count (view c.loop-work.pass) c.loop-work.registrar u s c.loop-work.items
+    c.find_boundary.new.items polled inv.committed) in
     let done = c.in-Ok.ensures.done in
     let next : take (i + 1) works ≡ take i works ++ w ∷ [] = take_more works i w c.loop-work-test.true
     ∙ ap (λ (z : Work). take i works ++ z ∷ []) (sym c.work-item.is) in
     record {
       can = c.run_statement.ensures.can;
       read = c.run_statement.ensures.defs;
-      held = subst (λ (z : List Work × List Item). Held v r t q z.0 z.1) (λ j. (sym next j, sym c.in-Ok-push.ensures.ok j))
+      below = c.run_statement.ensures.below;
+      goes = here_both disk.content disk.images disk.since disk.moment before looked after goes step;
+      again = c.run_statement.ensures.again (λ bad. absurd cc);
+      held = subst (λ (z : List Work × List Item). Held Past v r t q z.0 z.1) (λ j. (sym next j, sym c.in-Ok-push.ensures.ok j))
           (held_done v r u s t q (take i works) c.find_boundary.new.items w c.in-Ok.item c.requires.can.of.stands
           c.run_statement.ensures.can.of.stands c.requires.can.knows c.requires.known
-          c.find_boundary.ensures.can.knows c.run_statement.ensures.can.knows held done);
+          c.find_boundary.ensures.can.knows c.run_statement.ensures.can.knows held
+          (controlled_fewer Looked Past u s t q w c.in-Ok.item here done));
       found = subst (AreFound v.clock t.clock (registry_of v r)) (sym c.in-Ok-push.ensures.ok)
           (found_next v.clock (registry_of v r) (view c.loop-work.pass) u c.loop-work.registrar s c.loop-work.items
           c.find_boundary.new.items inv.found inv.held.is c.find_boundary.ensures.gains.on.clock polled t u.learned.count
           t.learned.count c.in-Ok.item c.find_boundary.ensures.looked done.gains.on.clock done.rolls done.does.so);
+      committed = subst (AllOf (IsCommitted c.run_statement.new.file.flusher.count)) (sym c.in-Ok-push.ensures.ok)
+          (all_more (IsCommitted c.run_statement.new.file.flusher.count) c.find_boundary.new.items c.in-Ok.item committed
+          c.in-Ok.ensures.committed);
+      later = (let a = inv.later in let b = c.run_statement.ensures.later in omega arith);
     }
 
 pub returns-clause-run : goal.returns-clause-run
 returns-clause-run g c =
+    let disk = g.D.Disk in
     let works = c.args.works.now in
+    let before = point_of c.args.disk.now c.args.file.now c.args.log.now c.args.pass.now c.args.registrar.now in
+    let Past : Whole → Type 0 = IsSoundBehind disk.content disk.images before (disk.content c.loop-work.disk) in
     let all : take c.loop-work.work-index works ≡ works =
     take_all c.loop-work.work-index works (let e = c.loop-work-test.false in omega arith) in
-    subst (λ (z : List Work). HasControlled (view c.args.pass.now) (view c.loop-work.pass) c.args.registrar.now
+    subst (λ (z : List Work). HasControlled Past (view c.args.pass.now) (view c.loop-work.pass) c.args.registrar.now
     c.loop-work.registrar z c.loop-work.items cause.None) all
     (held_ended (view c.args.pass.now) c.args.registrar.now (view c.loop-work.pass) c.loop-work.registrar
     (take c.loop-work.work-index works) c.loop-work.items c.loop-work.invariant.held c.loop-work.invariant.found)

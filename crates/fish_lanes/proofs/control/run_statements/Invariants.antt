@@ -1,17 +1,32 @@
--- The statements so far are told, and the definitions are those that their items tell.
-use Rattle.std.proofs.Common.{take}
+-- The statements so far are told behind what stood before the table, the definitions are those that their items tell, and the store goes
+-- on.
+use Rattle.std.proofs.Common.{◌≤◌, take}
 use Rattle.fish_epoch.specs.Definitions.{IsDefsOf}
 use Rattle.fish_lanes.proofs.Controls.{Held}
-use Rattle.fish_lanes.specs.Controlling.{CanControl}
+use Rattle.fish_lanes.specs.Controlling.{CanControl, IsCommitted}
 use Rattle.fish_lanes.specs.Pending.{AreFound}
 use Rattle.fish_lanes.specs.Registering.{registry_of}
 use Rattle.fish_rule.specs.Passes.{view}
+use Rattle.fish_rule.specs.Views.{AllOf}
+use Rattle.fish_scan.specs.Colder.{IsBelow}
+use Rattle.fish_store.specs.Points.{point_of}
+use Rattle.fish_store.specs.Sound.{GoesOnHere, IsSoundBehind, MayGoOn}
 use Rattle.fish_lanes.proofs.control.run_statements.Given as goal
 
 abbrev pub invariant-loop-work : goal.invariant-loop-work
-invariant-loop-work g l = record {
-  can : CanControl l.log l.pass l.registrar;
-  read : IsDefsOf (view l.pass) l.defs;
-  held : Held (view l.fn.pass) l.fn.registrar (view l.pass) l.registrar (take l.work-index l.works) l.items;
-  found : AreFound (view l.fn.pass).clock (view l.pass).clock (registry_of (view l.fn.pass) l.fn.registrar) l.items;
-}
+invariant-loop-work g l =
+    let disk = g.D.Disk in
+    let before = point_of l.fn.disk l.fn.file l.log l.fn.pass l.fn.registrar in
+    let now = point_of l.disk l.file l.log l.pass l.registrar in
+    record {
+      can : CanControl l.log l.pass l.registrar;
+      read : IsDefsOf (view l.pass) l.defs;
+      below : IsBelow l.log.key l.file.cold;
+      goes : GoesOnHere disk.content disk.images disk.since disk.moment before now;
+      again : MayGoOn disk.images now;
+      held : Held (IsSoundBehind disk.content disk.images before (disk.content l.disk)) (view l.fn.pass) l.fn.registrar (view l.pass)
+          l.registrar (take l.work-index l.works) l.items;
+      found : AreFound (view l.fn.pass).clock (view l.pass).clock (registry_of (view l.fn.pass) l.fn.registrar) l.items;
+      committed : AllOf (IsCommitted l.file.flusher.count) l.items;
+      later : disk.faults l.fn.disk ≤ disk.faults l.disk;
+    }

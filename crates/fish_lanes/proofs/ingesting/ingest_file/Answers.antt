@@ -6,6 +6,7 @@ use Rattle.fish_lanes.proofs.Gaining.{gains_self}
 use Rattle.fish_lanes.proofs.Keeping.{keeps_self}
 use Rattle.fish_lanes.proofs.Storing.{file_item, file_part, nothing_part}
 use Rattle.fish_lanes.specs.Doing.{IsItem, IsPart}
+use Rattle.fish_lanes.specs.Pasts.{anywhere}
 use Rattle.fish_lanes.specs.Storing.{item_of}
 use Rattle.fish_lanes.specs.declared.work.Work.TheVariants as work
 use Rattle.fish_report.specs.declared.item.Item.TheVariants as item
@@ -42,7 +43,7 @@ returns-in-Ok-clause-item g c =
     let u = view c.ingest_form.new.pass in
     let w = work.Ingest c.args.form c.args.header c.args.name.now c.args.file.now in
     let tally = c.ingest_form.new.tally in
-    subst (IsItem v u w)
+    subst (IsItem anywhere v u w)
     (sym (c.item_of.ensures ∙ ap (λ (z : List ℕ). item_of z tally c.in-Ok.end) c.in_ok-name.ensures))
     (file_item v u c.args.form c.args.header c.args.name.now c.args.file.now tally c.in-Ok.end
     (let short = c.if-file-gt-MAX_FILE.false in omega arith) c.in-Ok.ensures.ends)

@@ -4,6 +4,7 @@ use Rattle.fish_epoch.proofs.Reading.{defs_later}
 use Rattle.fish_ingest.proofs.IngestionStart.{idle_law}
 use Rattle.fish_lanes.proofs.Doings.{changed_here, deregister_so, registry_stays}
 use Rattle.fish_lanes.proofs.Gaining.{gains_both, gains_start}
+use Rattle.fish_lanes.proofs.Growing.{rows_ended}
 use Rattle.fish_lanes.proofs.Registrations.{gains_changes, reads_gain, reads_know, reads_start, registry_later}
 use Rattle.fish_lanes.specs.Registering.{IsDeregisterCause, KnowsRegistry, ended, registry_of, waiting_id}
 use Rattle.fish_catalog.specs.Rows.{IsActiveNamed}
@@ -116,3 +117,13 @@ returns-in_ok-read_definitions-in-Ok-clause-tail c alone = c.in-Ok.ensures.alone
 pub read_definitions-requires-clause-defs : goal.read_definitions-requires-clause-defs
 read_definitions-requires-clause-defs c = defs_later (view c.args.pass.now) (view c.end.new.pass) c.args.defs.now.known
     (learns_changes (view c.args.pass.now) (view c.end.new.pass) c.end.ensures.changes) c.requires.defs
+
+pub returns-in_err-read_definitions-in-Ok-clause-grows : goal.returns-in_err-read_definitions-in-Ok-clause-grows
+returns-in_err-read_definitions-in-Ok-clause-grows c =
+    rows_ended (view c.args.pass.now) c.args.registrar.now c.end.new.self c.args.name.now c.in-Ok.id c.in-Ok.to c.in-Ok.ensures.named
+    c.in-Ok.ensures.rows
+
+pub returns-in_ok-read_definitions-in-Ok-clause-grows : goal.returns-in_ok-read_definitions-in-Ok-clause-grows
+returns-in_ok-read_definitions-in-Ok-clause-grows c =
+    rows_ended (view c.args.pass.now) c.args.registrar.now c.end.new.self c.args.name.now c.in-Ok.id c.in-Ok.to c.in-Ok.ensures.named
+    c.in-Ok.ensures.rows

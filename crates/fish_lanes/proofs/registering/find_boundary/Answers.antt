@@ -2,6 +2,7 @@
 use Rattle.std.proofs.Common.{◌≡◌, inl, inr, refl, ap, sym, subst, ◌∙◌, arith, Option, Some, None}
 use Rattle.fish_ingest.proofs.IngestionStart.{idle_law}
 use Rattle.fish_lanes.proofs.Parts.{on_ok}
+use Rattle.fish_lanes.proofs.Growing.{rows_polled}
 use Rattle.fish_lanes.proofs.Registrations.{does_bound, gains_changes, registry_same, waiting_made}
 use Rattle.fish_lanes.specs.Registering.{waiting_id}
 use Rattle.fish_registry.proofs.Changing.{learns_changes}
@@ -9,6 +10,7 @@ use Rattle.fish_registry.specs.Knowing.{IsWaitingFor}
 use Rattle.fish_registry.specs.Looking.{at_lane}
 use Rattle.fish_registry.specs.declared.registrar.Registrar.{Registrar}
 use Rattle.fish_registry.specs.declared.registrar.Waiting.{Waiting}
+use Rattle.fish_registry.specs.declared.outcome.Poll.TheVariants as poll
 use Rattle.fish_rule.specs.Passes.{view}
 use Rattle.fish_lanes.proofs.registering.find_boundary.Goals as goal
 
@@ -89,3 +91,8 @@ returns-in-NotYet-clause-idle c none =
 pub returns-in-Bound-clause-idle : goal.returns-in-Bound-clause-idle
 returns-in-Bound-clause-idle c none =
     elim (subst (λ (z : Option Waiting). IsWaitingFor z c.in-Bound.id) none c.in-Bound.ensures.tells.0) [ ]
+
+pub returns-in-Bound-clause-grows : goal.returns-in-Bound-clause-grows
+returns-in-Bound-clause-grows c =
+    rows_polled (view c.args.pass.now) (view c.poll.new.pass) c.args.registrar.now c.poll.new.self
+    (poll.Bound c.in-Bound.id c.in-Bound.from) c.poll.ensures.changes c.in-Bound.ensures.tells

@@ -6,6 +6,7 @@ use Rattle.fish_ingest.proofs.IngestionStart.{idle_law}
 use Rattle.fish_lanes.proofs.Doings.{does_begun, ok_then, register_so, registered_here, registry_stays, rolls_before, tail_before}
 use Rattle.fish_lanes.proofs.Gaining.{gains_both}
 use Rattle.fish_lanes.proofs.Single.{alone_changes}
+use Rattle.fish_lanes.proofs.Growing.{rows_begun, rows_both}
 use Rattle.fish_lanes.proofs.Registrations.{gains_changes, registry_later}
 use Rattle.fish_lanes.specs.Controlling.{TellsBegun}
 use Rattle.fish_lanes.specs.Registering.{IsRegisterCause, registry_of}
@@ -84,3 +85,12 @@ returns-in-Ok-clause-tail c alone =
 pub registered-requires-clause-defs : goal.registered-requires-clause-defs
 registered-requires-clause-defs c = defs_later (view c.args.pass.now) (view c.begin.new.pass) c.args.defs.now.known
     (learns_changes (view c.args.pass.now) (view c.begin.new.pass) c.begin.ensures.changes) c.requires.defs
+
+pub returns-in-Ok-clause-grows : goal.returns-in-Ok-clause-grows
+returns-in-Ok-clause-grows c =
+    let v = view c.args.pass.now in
+    let u = view c.begin.new.pass in
+    let r = c.args.registrar.now in
+    let q = c.begin.new.self in
+    rows_both v u r.catalog q.catalog c.registered.new.registrar.catalog c.begin.ensures.changes.count
+    (rows_begun v u r q c.args.name.now c.args.def.now c.in-Ok.id c.in-Ok.ensures.begun) c.registered.ensures.grows

@@ -1,7 +1,10 @@
 -- The new definition is read, and its index begins or waits.
+use Rattle.std.proofs.Common.{refl}
 use Rattle.fish_epoch.proofs.Reading.{defs_later}
+use Rattle.fish_lanes.proofs.Growing.{rows_both, rows_polled, rows_same}
 use Rattle.fish_lanes.proofs.Registrations.{polls_gain, reads_gain, reads_know, reads_start, tells_at_once, tells_rolling}
 use Rattle.fish_registry.proofs.Changing.{learns_changes, same_tail}
+use Rattle.fish_registry.specs.declared.outcome.Poll.TheVariants as poll
 use Rattle.fish_rule.proofs.laws.Clocks.{later_self, loaded_within}
 use Rattle.fish_rule.specs.Passes.{view}
 use Rattle.fish_scan.proofs.Answering.{scans_alone}
@@ -101,3 +104,12 @@ returns-in-Bound-clause-tail c alone =
     let m = view c.read_definitions.new.pass in
     same_tail v m c.in-Bound.from c.read_definitions.ensures.tail
     (c.in-Bound.ensures.begins (scans_alone v m c.read_definitions.ensures.only alone))
+
+pub returns-in-Bound-clause-grows : goal.returns-in-Bound-clause-grows
+returns-in-Bound-clause-grows c =
+    let v = view c.args.pass.now in
+    let m = view c.read_definitions.new.pass in
+    let r = c.args.registrar.now in
+    let s = c.poll.new.self in
+    rows_both v m r.catalog r.catalog s.catalog c.read_definitions.ensures.only.learns.count (rows_same v r.catalog r.catalog refl)
+    (rows_polled m (view c.poll.new.pass) r s (poll.Bound c.in-Bound.id c.in-Bound.from) c.poll.ensures.changes c.in-Bound.ensures.tells)

@@ -1,20 +1,26 @@
--- The statements so far are told, and what their items say of plans is so.
-use Rattle.std.proofs.Common.{take}
+-- The statements are done as far as there are items, whichever pass had begun them.
+use Rattle.std.proofs.Common.{◌≡◌, ◌≤◌, ℕ, List, Option, length}
+use Rattle.fish_cold.specs.declared.cold.Cold.{Cold}
 use Rattle.fish_epoch.specs.Definitions.{IsDefsOf}
 use Rattle.fish_ingest.specs.Ingestion.{CanStart}
-use Rattle.fish_lanes.proofs.Done.{HasTold}
-use Rattle.fish_lanes.proofs.Saying.{HasSaid}
-use Rattle.fish_lanes.specs.Spans.{IsAnswer, answers}
+use Rattle.fish_lanes.specs.Advancing.{IsSoFar}
+use Rattle.fish_lanes.specs.Pasts.{WasHere}
+use Rattle.fish_lanes.specs.Spans.{IsAnswer}
 use Rattle.fish_rule.specs.Passes.{IsPassOf, view}
 use Rattle.fish_rule.specs.Views.{AllOf}
+use Rattle.fish_rule.specs.declared.view.Key.{Key}
+use Rattle.fish_rule.specs.declared.view.View.{View}
 use Rattle.fish_lanes.proofs.statements.run_works.Given as goal
 
-abbrev pub invariant-loop-work : goal.invariant-loop-work
-invariant-loop-work g l = record {
+abbrev pub invariant-loop-next : goal.invariant-loop-next
+invariant-loop-next g l = record {
   of : IsPassOf l.log l.pass;
   start : CanStart (view l.pass);
   read : IsDefsOf (view l.pass) l.defs;
-  told : HasTold (view l.fn.pass) (view l.pass) (take l.work-index l.works) (answers l.items);
-  said : HasSaid (view l.fn.pass) (view l.pass) (take l.work-index l.works) l.items;
-  answers : AllOf IsAnswer l.items;
+  place : length l.items ≡ l.next;
+  far : (start : View) (content : Option (List ℕ)) (k : Key) (cold : Cold) (later : Option (List ℕ))
+      → IsSoFar (WasHere content k cold later) start (view l.fn.pass) l.works l.fn.items
+      → IsSoFar (WasHere content k cold later) start (view l.pass) l.works l.items;
+  more : length l.fn.items ≤ length l.items;
+  answers : AllOf IsAnswer l.fn.items → AllOf IsAnswer l.items;
 }

@@ -1,0 +1,166 @@
+-- The moments of a store over which a block goes, and what stood before the table at each.
+use Rattle.std.proofs.Common.{◌≡◌, ℕ, List, Option, Some, All, slice_get, length, refl, sym, ap, ◌∙◌, subst, arith}
+use Rattle.std.proofs.lemmas.Option.{get_or_from_slice_get, slice_get_within}
+use Rattle.fish_cold.specs.declared.cold.Cold.{Cold}
+use Rattle.fish_disk.specs.Content.{StillReads}
+use Rattle.fish_flush.specs.declared.flusher.Flusher.{Flusher}
+use Rattle.fish_lanes.proofs.Advancing.{run_fewer}
+use Rattle.fish_lanes.proofs.Finished.{done_of}
+use Rattle.fish_lanes.proofs.Lanes.{ready_seat, seated_ready}
+use Rattle.fish_lanes.proofs.Moments.{get_there}
+use Rattle.fish_lanes.proofs.Pages.{here_same}
+use Rattle.fish_lanes.proofs.Single.{only_fewer}
+use Rattle.fish_lanes.proofs.Stepping.{rows_self, stays_pass}
+use Rattle.fish_lanes.specs.Advancing.{HasFinished, HasGone}
+use Rattle.fish_lanes.specs.Blocks.{AreDone, AreGone, AreSeated, Both, CanGive, HasGiven, HasRunFirst}
+use Rattle.fish_lanes.specs.Course.{AllRan}
+use Rattle.fish_lanes.specs.Pasts.{IsHere, WasHere}
+use Rattle.fish_lanes.specs.Running.{IsReady, IsShared}
+use Rattle.fish_lanes.specs.declared.lane.Lane.{Lane}
+use Rattle.fish_lanes.specs.declared.work.Work.{Work}
+use Rattle.fish_registry.specs.Knowing.{Knows}
+use Rattle.fish_registry.specs.declared.registrar.Registrar.{Registrar}
+use Rattle.fish_rule.proofs.laws.Learning.{learns_self}
+use Rattle.fish_rule.specs.Logs.{Learns}
+use Rattle.fish_rule.specs.Table.{Stands}
+use Rattle.fish_rule.specs.declared.table.Log.{Log}
+use Rattle.fish_rule.specs.declared.view.Key.{Key}
+use Rattle.fish_rule.specs.declared.view.View.{View}
+use Rattle.fish_store.proofs.Running.{here_stays, may_stays}
+use Rattle.fish_store.proofs.Scanning.{pages_stay}
+use Rattle.fish_store.specs.Sound.{GoesOnHere, IsSoundBehind, MayGoOn, Point, ReadsPages, Stays}
+use Rattle.fish_whole.specs.Whole.{Whole}
+
+-- the lane at a place that went on
+pub gone_at : (log : Log) (given gone : List Lane) → AreGone log given gone → (i : ℕ) (x y : Lane) → slice_get given i ≡ Some x
+    → slice_get gone i ≡ Some y → HasGone log x y
+gone_at log given gone went i x y at_x at_y = subst (λ (t : Lane × Lane). HasGone log t.0 t.1)
+    (λ j. (get_or_from_slice_get given i x x at_x j, get_or_from_slice_get gone i y x at_y j))
+    (went.each i x (slice_get_within given i x at_x))
+
+-- it may be finished
+pub gone_ready : (log : Log) (x y : Lane) → IsReady log x → HasGone log x y → IsReady log y
+gone_ready log x y ready h = record {
+  seat = h.after;
+  seat_is = h.after_is;
+  can = h.can;
+  shared = subst (λ (w : List Work). All IsShared w) (sym h.works) ready.shared;
+}
+
+-- what the first lane did behind some pasts, it did behind each of these
+first_fewer : (P Q : Whole → Type 0) (v u : View) (r s : Registrar) (x y : Lane) → ((past : Whole) → Q past → P past)
+    → HasRunFirst P v u r s x y → HasRunFirst Q v u r s x y
+first_fewer P Q v u r s x y fewer h =
+    let c = h.controlled in
+    record {
+      controlled = record {
+        run = run_fewer P Q v u x.works y.items y.fault fewer c.run;
+        so = c.so;
+        closed = c.closed;
+        only = λ end e none. only_fewer P Q v u r.catalog end fewer x.works y.items (c.only end e none);
+        plans = c.plans;
+        is = c.is;
+        each = c.each;
+        found = c.found;
+      };
+      works = h.works;
+      number = h.number;
+      seat = h.seat;
+    }
+
+-- the lanes behind the first went on, and were finished
+others_done : (Past P : Whole → Type 0) (log : Log) (v : View) (before given gone last : List Lane)
+    → ((past : Whole) → Past past → P past) → CanGive v before → length given ≡ length before → AreSeated log v before given
+    → length gone ≡ length given → AreGone log given gone → Both (λ i x y. HasFinished P log x y) gone last
+    → AreDone Past log given last
+others_done Past P log v before given gone last fewer can given_size seated gone_size went finished i x z at_x at_z =
+    let less = slice_get_within given i x at_x in
+    let o = get_there before i (omega arith) in
+    let y = get_there gone i (omega arith) in
+    let seat = seated i o.0 x o.1 at_x in
+    let step = gone_at log given gone went i x y.0 at_x y.1 in
+    let ready = seated_ready log v i o.0 x (can.new i o.0 o.1) (can.shared i o.0 o.1) seat in
+    done_of Past P log x y.0 z fewer (ap (λ (l : Lane). l.items) seat.is ∙ (can.new i o.0 o.1).empty) step
+    (ready_seat log x step.before ready step.before_is) (finished i y.0 z y.1 at_z)
+
+module _
+    {D : Type 0}
+    (content : D → Option (List ℕ))
+    (images : D → List ℕ → Type 0)
+    (since : D → ℕ → List ℕ → Type 0)
+    (moment : D → ℕ) where
+  -- what the control pass learns leaves the last commit
+  pub pass_goes : (p : Point D) (u : View) → Learns p.view u → GoesOnHere content images since moment p (record p { view = u })
+  pass_goes p u learns = here_stays content images since moment p (record p { view = u })
+      (stays_pass content images since moment p p.rows u learns (rows_self p.view p.rows))
+
+  -- so a checkpoint may still follow
+  pub pass_again : (p : Point D) (u : View) → Learns p.view u → MayGoOn images p → MayGoOn images (record p { view = u })
+  pass_again p u learns = may_stays content images since moment p (record p { view = u })
+      (stays_pass content images since moment p p.rows u learns (rows_self p.view p.rows))
+
+  -- reading pages leaves it too
+  pub pages_stay_at : (faults : D → ℕ) (k : Key) (n : Point D) (disk : D) (flusher : Flusher) (cold : Cold) → n.view.about ≡ k
+      → flusher ≡ n.flusher → ReadsPages content images since moment faults k n.cold cold n.disk disk
+      → Stays content images since moment n (record n { disk = disk; flusher = flusher; cold = cold })
+  pages_stay_at faults k n disk flusher cold about same reads =
+      pages_stay content images since moment faults n (record n { disk = disk; flusher = flusher; cold = cold }) (learns_self n.view)
+      (rows_self n.view n.rows) same refl
+      (subst (λ (z : Key). ReadsPages content images since moment faults z n.cold cold n.disk disk) (sym about) reads)
+
+  -- what stood before the table is what the disk still has before it
+  pub sound_now : (p : Point D) (later : Option (List ℕ)) (k : Key) → p.view.about ≡ k → StillReads (content p.disk) later
+      → (past : Whole) → IsSoundBehind content images p later past → IsHere later k p.cold past
+  sound_now p later k about still past s = here_same (content p.disk) later k p.cold past still s.told
+      (subst (λ (z : Key). IsHere (content p.disk) z p.cold past) about
+      (record { table = s.sound.has.table; entries = s.sound.has.entries }))
+
+  -- of a block: its start; the passes are given; the lanes ran at once; the others were finished
+  module _
+      (p m n q : Point D)
+      (gives : GoesOnHere content images since moment p m)
+      (runs : GoesOnHere content images since moment m n)
+      (reads : GoesOnHere content images since moment n q) where
+    -- what stood before the table at the start, as the disk at the end tells it
+    abbrev pub Before : Whole → Type 0
+    Before past = IsSoundBehind content images p (content q.disk) past
+
+    -- it stood there when the passes were given
+    pub behind_given : (past : Whole) → Before past → IsSoundBehind content images m (content n.disk) past
+    behind_given past s = record {
+      sound = gives.sound past s.sound (runs.told_before (reads.told_before s.told));
+      told = reads.told_before s.told;
+    }
+
+    -- and when the lanes had run
+    pub behind_run : (k : Key) → n.view.about ≡ k → (past : Whole) → Before past → WasHere (content n.disk) k n.cold (content q.disk) past
+    behind_run k about past s =
+        let sound = runs.sound past (behind_given past s).sound (reads.told_before s.told) in
+        record {
+          here = subst (λ (z : Key). IsHere (content n.disk) z n.cold past) about
+              (record { table = sound.has.table; entries = sound.has.entries });
+          told = s.told;
+        }
+
+    -- so all lanes did their statements behind it
+    pub all_ran : (log : Log) (r s : Registrar) (first first' : Lane) (before given gone last : List Lane) → n.view.about ≡ log.key
+        → HasGiven p.view m.view (length before) → CanGive p.view before → length given ≡ length before
+        → AreSeated log p.view before given
+        → HasRunFirst (IsSoundBehind content images m (content n.disk)) m.view n.view r s first first' → Stands n.view → Knows n.view s
+        → length gone ≡ length given → AreGone log given gone → length last ≡ length gone
+        → Both (λ i x y. HasFinished (WasHere (content n.disk) log.key n.cold (content q.disk)) log x y) gone last
+        → AllRan Before log p.view n.view r s first first' before last
+    all_ran log r s first first' before given gone last about gives can given_size seated did stands knows gone_size went last_size
+        finished = record {
+          main = m.view;
+          given = given;
+          gives = gives;
+          seated = seated;
+          first_did = first_fewer (IsSoundBehind content images m (content n.disk)) Before m.view n.view r s first first' behind_given did;
+          others_did = others_done Before (WasHere (content n.disk) log.key n.cold (content q.disk)) log p.view before given gone last
+              (behind_run log.key about) can given_size seated gone_size went finished;
+          stands = stands;
+          knows = knows;
+          given_size = given_size;
+          done_size = last_size ∙ gone_size;
+        }

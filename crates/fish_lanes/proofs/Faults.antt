@@ -1,0 +1,60 @@
+-- Why a statement has no item.
+use Rattle.std.proofs.Common.{◌≡◌, ◌≢◌, None, Option, Some, Result, Ok, Err, sym, ap, ◌∙◌, refl, subst}
+use Rattle.std.proofs.lemmas.Option.{same_Some}
+use Rattle.std.specs.Prelude.{IfErr, IfOk}
+use Rattle.fish_lanes.proofs.Parts.{scan_gains}
+use Rattle.fish_lanes.specs.Causes.{fault_of, or_memory, or_stop}
+use Rattle.fish_lanes.specs.Doing.{IsPart, IsStopped}
+use Rattle.fish_lanes.specs.declared.statements.Stop.{Stop}
+use Rattle.fish_lanes.specs.declared.statements.Stop.TheVariants as stop
+use Rattle.fish_lanes.specs.declared.work.LaneFault.{LaneFault}
+use Rattle.fish_lanes.specs.declared.work.LaneFault.TheVariants as fault
+use Rattle.fish_lanes.specs.declared.work.Work.{Work}
+use Rattle.fish_lanes.specs.declared.work.Work.TheVariants as work
+use Rattle.fish_rule.specs.declared.view.Epoch.TheVariants.{Out}
+use Rattle.fish_rule.specs.declared.view.View.{View}
+use Rattle.fish_scan.specs.Scans.{OnlyScans}
+use Rattle.fish_scan.specs.declared.ask.Ask.{Ask}
+use Rattle.fish_scan.specs.declared.refusal.ScanRefusal.{ScanRefusal}
+use Rattle.fish_scan.specs.declared.refusal.ScanRefusal.TheVariants as refusal
+
+-- ---- without memory
+
+-- what holds of an answer holds where want of memory stops the lane
+pub memory_ok : {T E : Type 0} (r : Result T E) (P : T → Type 0) → IfOk r P → IfOk (or_memory r) P
+memory_ok (Ok x) P h = h
+memory_ok (Err e) P h = tt
+
+pub stop_ok : {T E : Type 0} (r : Result T E) (P : T → Type 0) → IfOk r P → IfOk (or_stop r) P
+stop_ok (Ok x) P h = h
+stop_ok (Err e) P h = tt
+
+-- and so does what is left where there is none
+pub memory_part : {T E : Type 0} (r : Result T E) (P : Type 0) → IfErr r (λ _. P) → IfErr (or_memory r) (λ _. P)
+memory_part (Ok x) P h = tt
+memory_part (Err e) P h = h
+
+pub stop_part : {T E : Type 0} (v u : View) (w : Work) (r : Result T E) → IfErr r (λ _. IsPart v u w)
+    → IfErr (or_stop r) (IsStopped v u w)
+stop_part v u w (Ok x) h = tt
+stop_part v u w (Err e) h = h
+
+-- ---- scans
+
+-- a scan without an item found nothing
+pub scan_stopped : {T : Type 0} (v u : View) (ask : Ask) (r : Result T Stop) → v.epoch ≡ Out → v.flight ≡ None → OnlyScans v u
+    → IfErr r (IsStopped v u (work.Scan ask))
+scan_stopped v u ask (Ok x) outside idle only = tt
+scan_stopped v u ask (Err stop.Memory) outside idle only = (0, scan_gains v u 0 outside idle only)
+scan_stopped v u ask (Err stop.Older) outside idle only = (ask, refl, only)
+
+-- one that the file stopped has a fault
+pub fault_named : (r : ScanRefusal) (why : LaneFault) → fault_of r ≡ Some why → why ≢ fault.None
+fault_named refusal.DiskFault why is none = (let bad : fault.Disk ≡ fault.None = same_Some fault.Disk why is ∙ none in absurd cc)
+fault_named (refusal.Damaged number) why is none =
+    (let bad : fault.Damaged number ≡ fault.None = same_Some (fault.Damaged number) why is ∙ none in absurd cc)
+fault_named (refusal.UnknownName version) why is none = absurd cc
+fault_named (refusal.EmptyRange from to) why is none = absurd cc
+fault_named (refusal.NotCovered from to) why is none = absurd cc
+fault_named (refusal.ColdRange base) why is none = absurd cc
+fault_named refusal.OutOfMemory why is none = absurd cc

@@ -1,0 +1,22 @@
+-- What is committed is what an item tells, and the control pass goes on.
+use Rattle.std.proofs.Common.{◌≡◌, ap, sym, ◌∙◌, refl}
+use Rattle.fish_flush.proofs.Lasting.{known_held}
+use Rattle.fish_lanes.proofs.Committing.{commit_fits, reads_control}
+use Rattle.fish_rule.specs.Passes.{view}
+use Rattle.fish_lanes.proofs.control.commit.Goals as goal
+
+pub checkpoint-requires-clause-rows : goal.checkpoint-requires-clause-rows
+checkpoint-requires-clause-rows g c = known_held (view c.args.pass.now) c.args.registrar.now c.requires.can.knows
+
+pub returns-in-Ok-clause-can : goal.returns-in-Ok-clause-can
+returns-in-Ok-clause-can g c = reads_control _ _ _ _ c.requires.can c.checkpoint.ensures.pass c.checkpoint.ensures.reads
+
+pub returns-in-Ok-clause-fits : goal.returns-in-Ok-clause-fits
+returns-in-Ok-clause-fits g c = commit_fits (view c.args.pass.now) (view c.checkpoint.new.pass) c.in-Ok.count _ refl c.in-Ok.ensures.settled
+    c.in-Ok.ensures.count.1
+
+pub returns-in-Err-DiskFault-clause-can : goal.returns-in-Err-DiskFault-clause-can
+returns-in-Err-DiskFault-clause-can g c = reads_control _ _ _ _ c.requires.can c.checkpoint.ensures.pass c.checkpoint.ensures.reads
+
+pub returns-in-Err-OutOfMemory-clause-can : goal.returns-in-Err-OutOfMemory-clause-can
+returns-in-Err-OutOfMemory-clause-can g c = reads_control _ _ _ _ c.requires.can c.checkpoint.ensures.pass c.checkpoint.ensures.reads

@@ -1,0 +1,32 @@
+-- The statements are done as far as there are items, whichever pass had begun them, with what was read of the file.
+use Rattle.std.proofs.Common.{◌≡◌, ℕ, List, Option, length}
+use Rattle.std.specs.Prelude.{IsSome}
+use Rattle.fish_epoch.specs.Definitions.{IsDefsOf}
+use Rattle.fish_ingest.specs.Ingestion.{CanStart}
+use Rattle.fish_lanes.specs.Advancing.{IsSoFar}
+use Rattle.fish_lanes.specs.Pasts.{WasHere}
+use Rattle.fish_lanes.specs.Spans.{IsAnswer}
+use Rattle.fish_rule.specs.Passes.{IsPassOf, view}
+use Rattle.fish_rule.specs.Views.{AllOf}
+use Rattle.fish_rule.specs.declared.view.View.{View}
+use Rattle.fish_scan.specs.Colder.{IsBelow}
+use Rattle.fish_store.specs.Sound.{ReadsPages}
+use Rattle.fish_lanes.proofs.finishing.finish_works.Given as goal
+
+abbrev pub invariant-loop-next : goal.invariant-loop-next
+invariant-loop-next g l =
+    let disk = g.D.Disk in
+    record {
+      of : IsPassOf l.log l.pass;
+      start : CanStart (view l.pass);
+      read : IsDefsOf (view l.pass) l.defs;
+      below : IsBelow l.log.key l.file.cold;
+      flusher : l.file.flusher ≡ l.fn.file.flusher;
+      reads : ReadsPages disk.content disk.images disk.since disk.moment disk.faults l.log.key l.fn.file.cold l.file.cold l.fn.disk
+          l.disk;
+      place : length l.items ≡ l.next;
+      far : (start : View) (later : Option (List ℕ)) → (IsSome later → IsSome (disk.content l.disk))
+          → IsSoFar (WasHere (disk.content l.fn.disk) l.log.key l.fn.file.cold later) start (view l.fn.pass) l.works l.fn.items
+          → IsSoFar (WasHere (disk.content l.fn.disk) l.log.key l.fn.file.cold later) start (view l.pass) l.works l.items;
+      answers : AllOf IsAnswer l.fn.items → AllOf IsAnswer l.items;
+    }

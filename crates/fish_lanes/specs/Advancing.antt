@@ -1,0 +1,138 @@
+-- How far the statements of a lane are done. Private clauses speak of it.
+use Rattle.std.specs.Prelude.{ℕ, ◌≡◌, ◌⊎◌, ◌+◌, ◌≤◌, List, [], ◌∷◌, ◌++◌, Option, Some, Result, Ok, Err, length, take}
+use Rattle.fish_cold.specs.declared.cold.Cold.{Cold}
+use Rattle.fish_lanes.specs.Doing.{IsItem, IsPart, IsStopped}
+use Rattle.fish_lanes.specs.Gains.{Gains}
+use Rattle.fish_lanes.specs.Pasts.{WasHere, anywhere}
+use Rattle.fish_lanes.specs.Published.{IsPublished}
+use Rattle.fish_lanes.specs.Records.{LaneRow, contents}
+use Rattle.fish_lanes.specs.Registering.{Registry, after_all}
+use Rattle.fish_lanes.specs.Running.{CanBegin, HasRun, IsFullItem, SayPlans}
+use Rattle.fish_lanes.specs.Seen.{IsShown, Shown, settled, shown_by}
+use Rattle.fish_lanes.specs.Sizes.{TellsShut}
+use Rattle.fish_lanes.specs.Spans.{IsAnswer, IsWithinSpan, Span, answers, behind, made_by}
+use Rattle.fish_lanes.specs.Telling.{TellsItem, content_of, count_of}
+use Rattle.fish_lanes.specs.declared.lane.Lane.{Lane}
+use Rattle.fish_lanes.specs.declared.lane.Seated.{Seated}
+use Rattle.fish_lanes.specs.declared.statements.Stop.{Stop}
+use Rattle.fish_lanes.specs.declared.statements.Stop.TheVariants as stop
+use Rattle.fish_lanes.specs.declared.work.LaneFault.{LaneFault}
+use Rattle.fish_lanes.specs.declared.work.LaneFault.TheVariants as fault
+use Rattle.fish_lanes.specs.declared.work.Work.{Work}
+use Rattle.fish_report.specs.declared.item.Item.{Item}
+use Rattle.fish_rule.specs.Logs.{Learns}
+use Rattle.fish_rule.specs.Passes.{view}
+use Rattle.fish_rule.specs.Views.{AllOf, Among}
+use Rattle.fish_rule.specs.declared.table.Log.{Log}
+use Rattle.fish_rule.specs.declared.view.Key.{Key}
+use Rattle.fish_rule.specs.declared.view.View.{View}
+use Rattle.fish_whole.specs.Whole.{SureUpTo, Whole}
+
+-- ---- items so far
+
+-- all that items show
+abbrev pub shown_in : List Item → List Shown
+shown_in [] = []
+shown_in (x ∷ items) = shown_by x ++ shown_in items
+
+-- how many versions they made
+abbrev pub made : List Item → ℕ
+made [] = 0
+made (x ∷ items) = made_by x + made items
+
+-- what items tell that are as many as the statements
+abbrev pub TellsAll : Whole → Span → List LaneRow → List Shown → List LaneRow → List Work → List Item → Type 0
+TellsAll z s before shown rows [] [] = rows ≡ []
+TellsAll z s before shown rows [] (x ∷ items) = ⊥
+TellsAll z s before shown rows (w ∷ works) [] = ⊥
+TellsAll z s before shown rows (w ∷ works) (x ∷ items) = (mine : List LaneRow) × (rest : List LaneRow)
+    × (rows ≡ mine ++ rest)
+    × (contents mine ≡ take (count_of x) (content_of w))
+    × TellsItem z s before shown w x
+    × TellsAll z (behind x s) (before ++ mine) (shown ++ shown_by x) rest works items
+
+-- the statements so far are told by as many items, behind each such past
+pub record HasTold (Past : Whole → Type 0) (v u : View) (works : List Work) (items : List Item) : Type 0 where
+  pub rows : List LaneRow
+  pub gains : Gains v u rows
+  pub tells : (past : Whole) → Past past → (s : Span) → IsWithinSpan v u s → s.full ≡ v.shut
+      → SureUpTo past u s.to (λ w. TellsAll w s [] [] rows works items)
+  pub shown : (n : ℕ) (s : Shown) → Among s (shown_in items) → IsShown n s → u.about.number ≤ n → IsPublished u n
+  pub settles : (m : ℕ) → Among (settled m) (shown_in items) → m ≤ u.learned.settled
+  pub size : length items ≡ length works
+  pub full : AllOf (IsFullItem u) items
+  pub versions : v.learned.version + made items ≤ u.learned.version
+  pub shuts : TellsShut v u items
+
+-- so many items answer the statements so far, and the definitions are the same behind them
+pub record HasSaid (v u : View) (works : List Work) (items : List Item) : Type 0 where
+  pub size : length (answers items) ≡ length works
+  pub same : (r : Registry) → after_all r items ≡ r
+  pub learns : Learns v u
+  pub plans : SayPlans v u works items
+
+-- ---- a lane behind the first
+
+-- its first statements are told by its items, one each
+pub record IsSoFar (Past : Whole → Type 0) (v u : View) (works : List Work) (items : List Item) : Type 0 where
+  pub told : HasTold Past v u (take (length items) works) (answers items)
+  pub said : HasSaid v u (take (length items) works) items
+  pub few : length items ≤ length works
+
+-- it is so far, or it stopped at a fault
+abbrev pub IsOn : (Whole → Type 0) → View → View → List Work → List Item → LaneFault → Type 0
+IsOn Past v u works items fault.None = IsSoFar Past v u works items
+IsOn Past v u works items fault.Memory = HasRun Past v u works items fault.Memory × SayPlans v u works items
+IsOn Past v u works items fault.Disk = HasRun Past v u works items fault.Disk × SayPlans v u works items
+IsOn Past v u works items (fault.Damaged n) = HasRun Past v u works items (fault.Damaged n) × SayPlans v u works items
+
+-- so it is whatever a disk has before the table
+abbrev pub IsOnAnyhow : View → View → List Work → List Item → LaneFault → Type 0
+IsOnAnyhow v u works items why = (content : Option (List ℕ)) (k : Key) (cold : Cold) (later : Option (List ℕ))
+    → IsOn (WasHere content k cold later) v u works items why
+
+-- whichever pass had begun its statements, and whatever a disk has before the table, it goes on from where they were
+abbrev pub GoesOnBy : View → View → List Work → List Item → List Item → LaneFault → Type 0
+GoesOnBy v u works old new why = (start : View) (content : Option (List ℕ)) (k : Key) (cold : Cold) (later : Option (List ℕ))
+    → IsSoFar (WasHere content k cold later) start v works old → IsOn (WasHere content k cold later) start u works new why
+
+-- it goes on to its end, or to a fault
+abbrev pub FinishesBy : (Whole → Type 0) → View → View → List Work → List Item → List Item → LaneFault → Type 0
+FinishesBy Past v u works old new why = (start : View) → IsSoFar Past start v works old
+    → HasRun Past start u works new why × SayPlans start u works new
+
+-- the next statement has its item, which is so whatever stood before the table; or it has none
+abbrev pub HasNext : View → View → Work → List Item → List Item → Result (Unit {0}) Stop → Type 0
+HasNext v u w old new (Ok done) = (x : Item) × (new ≡ old ++ x ∷ []) × IsItem anywhere v u w x
+HasNext v u w old new (Err why) = (new ≡ old) × IsStopped v u w why
+
+-- a lane stops without its disk for want of memory alone
+abbrev pub IsShort : LaneFault → Type 0
+IsShort why = (why ≡ fault.None) ⊎ (why ≡ fault.Memory)
+
+-- the lane has its pass, with the same number and statements, and went on, whatever its disk tells
+pub record HasGone (log : Log) (old new : Lane) : Type 0 where
+  pub before : Seated
+  pub before_is : old.seat ≡ Some before
+  pub after : Seated
+  pub after_is : new.seat ≡ Some after
+  pub can : CanBegin log after.pass
+  pub works : new.works ≡ old.works
+  pub number : new.number ≡ old.number
+  pub on : GoesOnBy (view before.pass) (view after.pass) old.works old.items new.items new.fault
+  pub short : IsShort new.fault
+  pub more : length old.items ≤ length new.items
+  pub answers : AllOf IsAnswer old.items → AllOf IsAnswer new.items
+
+-- it has no statement left, or it stopped at a fault; behind each such past, whichever pass had begun it
+pub record HasFinished (Past : Whole → Type 0) (log : Log) (old new : Lane) : Type 0 where
+  pub before : Seated
+  pub before_is : old.seat ≡ Some before
+  pub after : Seated
+  pub after_is : new.seat ≡ Some after
+  pub can : CanBegin log after.pass
+  pub works : new.works ≡ old.works
+  pub number : new.number ≡ old.number
+  pub run : (start : View) → IsOnAnyhow start (view before.pass) old.works old.items old.fault
+      → HasRun Past start (view after.pass) old.works new.items new.fault × SayPlans start (view after.pass) old.works new.items
+  pub answers : AllOf IsAnswer old.items → AllOf IsAnswer new.items
