@@ -5,23 +5,23 @@ use Rattle.std.proofs.lemmas.List.{length-append}
 use Rattle.fish_lanes.proofs.Lists.{some_once}
 use Rattle.fish_lanes.specs.Blocks.{AreLanes, At}
 use Rattle.fish_lanes.specs.Registering.{IsAcceptable}
-use Rattle.fish_lanes.specs.Running.{IsFree}
+use Rattle.fish_lanes.specs.Running.{IsShared}
 use Rattle.fish_lanes.specs.declared.lane.Lane.{Lane}
 use Rattle.fish_lanes.specs.declared.work.Work.{Work}
 use Rattle.fish_lanes.specs.declared.work.Work.TheVariants as work
 use Rattle.tests_lanes.specs.Blocks.{AreNew, IsAllowed, IsMade}
 
--- a statement that changes no definition is allowed to every lane
-pub allowed_free : (number : ℕ) (w : Work) → IsFree w → IsAllowed number w
-allowed_free number w free = record { acceptable = any w free; free = λ more. free }
+-- a statement that any lane may have is allowed to each
+pub allowed_shared : (number : ℕ) (w : Work) → IsShared w → IsAllowed number w
+allowed_shared number w shared = record { acceptable = any w shared; shared = λ more. shared }
   where
-    any : (w : Work) → IsFree w → IsAcceptable w
+    any : (w : Work) → IsShared w → IsAcceptable w
     any (work.Register name def) h = elim h [ ]
     any (work.Deregister name) h = elim h [ ]
     any (work.Ingest form header name file) h = tt
     any (work.Scan ask) h = tt
     any (work.Explain ask) h = tt
-    any work.Checkpoint h = tt
+    any work.Checkpoint h = elim h [ ]
 
 -- what each lane meets at its place, and one more behind them
 pub at_push : (P : ℕ → Lane → Type 0) (xs : List Lane) (x : Lane) → At P xs → P (length xs) x → At P (xs ++ x ∷ [])
@@ -45,6 +45,6 @@ are_lanes count lanes h some few = record {
   few = (let e = h.many in omega arith);
   new = λ i x at. (h.each i x at).new;
   acceptable = λ x at. All-weaker (IsAllowed 1) IsAcceptable (λ w a. a.acceptable) x.works (h.each 0 x at).works;
-  free = λ i x more at.
-      All-weaker (IsAllowed (i + 1)) IsFree (λ w a. a.free (omega arith)) x.works (h.each i x at).works;
+  shared = λ i x more at.
+      All-weaker (IsAllowed (i + 1)) IsShared (λ w a. a.shared (omega arith)) x.works (h.each i x at).works;
 }

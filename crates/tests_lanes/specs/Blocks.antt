@@ -1,21 +1,24 @@
--- The lanes of a block, and the control pass between blocks.
-use Rattle.std.specs.Prelude.{ℕ, ◌≡◌, ◌+◌, ◌<◌, List, All, length}
+-- The lanes of a block, and a store between blocks.
+use Rattle.std.specs.Prelude.{ℕ, ◌≡◌, ◌+◌, ◌<◌, List, All, Some, length}
+use Rattle.fish_disk.specs.Sure.{told_of}
+use Rattle.fish_disk.specs.declared.sure.SureDisk.{SureDisk}
 use Rattle.fish_lanes.specs.Blocks.{At, IsNewLane}
 use Rattle.fish_lanes.specs.Controlling.{CanControl}
 use Rattle.fish_lanes.specs.Ending.{HasEnd}
 use Rattle.fish_lanes.specs.Registering.{IsAcceptable, KnowsRegistry, registry_of}
-use Rattle.fish_lanes.specs.Running.{IsFree}
+use Rattle.fish_lanes.specs.Running.{IsShared}
 use Rattle.fish_lanes.specs.declared.lane.Lane.{Lane}
 use Rattle.fish_lanes.specs.declared.work.Work.{Work}
-use Rattle.fish_registry.specs.declared.registrar.Registrar.{Registrar}
 use Rattle.fish_rule.specs.Passes.{view}
-use Rattle.fish_rule.specs.declared.table.Log.{Log}
-use Rattle.fish_rule.specs.declared.table.Pass.{Pass}
+use Rattle.fish_scan.specs.Colder.{IsBelow}
+use Rattle.fish_store.specs.Points.{point_at}
+use Rattle.fish_store.specs.Sound.{MayGoOn}
+use Rattle.fish_store.specs.declared.store.Store.{Store}
 
--- a lane with this number may do the statement: the first one alone changes definitions
+-- a lane with this number may do the statement: the first one alone changes definitions and commits
 pub record IsAllowed (number : ℕ) (w : Work) : Type 0 where
   pub acceptable : IsAcceptable w
-  pub free : 1 < number → IsFree w
+  pub shared : 1 < number → IsShared w
 
 -- the lane is new, and may do its statements
 pub record IsMade (number : ℕ) (x : Lane) : Type 0 where
@@ -27,9 +30,16 @@ pub record AreNew (count : ℕ) (lanes : List Lane) : Type 0 where
   pub many : length lanes ≡ count
   pub each : At (λ i x. IsMade (i + 1) x) lanes
 
--- the pass is one of the log, and knows where the log ends and what its registrar keeps
-pub record IsBetween (log : Log) (pass : Pass) (registrar : Registrar) : Type 0 where
-  pub can : CanControl log pass registrar
+-- the control pass knows where the log ends and what its registrar keeps, a checkpoint may follow, and the file has
+-- what is older than the table
+pub record IsBetween {D : Type 0} (images : D → List ℕ → Type 0) (disk : D) (s : Store) : Type 0 where
+  pub can : CanControl s.log s.pass s.registrar
+  pub commit : MayGoOn images (point_at disk s)
+  pub below : IsBelow s.log.key s.file.cold
   pub from : ℕ
-  pub end : HasEnd (view pass) from
-  pub known : KnowsRegistry (view pass) (registry_of (view pass) registrar)
+  pub end : HasEnd (view s.pass) from
+  pub known : KnowsRegistry (view s.pass) (registry_of (view s.pass) s.registrar)
+
+-- the same of a store on a disk that never fails
+abbrev pub IsHeld : SureDisk → Store → Type 0
+IsHeld disk s = IsBetween (λ d c. told_of d ≡ Some c) disk s

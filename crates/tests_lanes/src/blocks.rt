@@ -1,16 +1,14 @@
 //! Blocks of lanes on threads: what their items tell, and the log that is closed behind them.
 
 ghost use Rattle.std.specs.Prelude.{◌≤◌, OnOk, length};
-ghost use Rattle.tests_lanes.specs.Blocks.{IsBetween};
+ghost use Rattle.tests_lanes.specs.Blocks.{IsHeld};
 
 use crate::expecting::{expect, expect_text};
-use crate::running::{Block, Left, close_behind, defined, ran, run_table, told};
+use crate::running::{Block, Left, Open, close_behind, defined, ran, run_table, told};
 use crate::scripts::{Plain, Script, record_of};
 use fish_catalog::{Entries, Entry};
 use fish_lanes::Lane;
-use fish_registry::Registrar;
 use fish_report::Item;
-use fish_rule::{Log, Pass};
 use fish_value::{Form, Row, Rows, Text};
 use std::alloc::Global;
 use std::process::Abort;
@@ -150,16 +148,28 @@ pub(crate) fn right_scans(entries: &Entries, lane: &Lane) -> usize {
     right
 }
 
-/// Each of four lanes stores records, scans, stores more and scans again.
-const SCANNING: &[Script] = &[FOUR, FOUR, FOUR, FOUR];
+/// Each of four lanes stores records, scans, stores more and scans again. The first commits meanwhile.
+const SCANNING: &[Script] = &[COMMITTING, STORING, STORING, STORING];
 
-const FOUR: Script = &[
+const COMMITTING: Script = &[
     Plain::Records(0, 150, 2),
     Plain::Checkpoint,
     Plain::Scan("kind", "k1"),
     Plain::Records(150, 150, 2),
     Plain::Scan("kind", "k1"),
 ];
+
+const STORING: Script = &[
+    Plain::Records(0, 150, 2),
+    Plain::Scan("kind", "k1"),
+    Plain::Records(150, 150, 2),
+    Plain::Scan("kind", "k1"),
+];
+
+/// How many items a lane has.
+fn items_of(lane: &Lane) -> usize {
+    if lane.number == 1 { 5 } else { 4 }
+}
 
 /// Asserts that each lane's records are in order, and that each of its scans is a plain filter of the log.
 fn expect_scans<R: Abort>(rt: &R, alloc: Global, left: &Left) -> Result<(), Cause> {
@@ -168,7 +178,7 @@ fn expect_scans<R: Abort>(rt: &R, alloc: Global, left: &Left) -> Result<(), Caus
     for lane in left.block.lanes.as_slice() {
         let stored = stored_in_order(alloc, &left.entries, lane.number, 2)?;
         expect(rt, "records of a lane", &stored, &300);
-        expect(rt, "items of a lane", &lane.items.len(), &5);
+        expect(rt, "items of a lane", &lane.items.len(), &items_of(lane));
         expect(rt, "scans", &right_scans(&left.entries, lane), &2);
     }
     Ok(())
@@ -241,17 +251,11 @@ const SECOND_BLOCK: &[Script] = &[
 type Ends = ([u32; 2], [usize; 3]);
 
 /// Runs the first block. How far the log then reaches.
-fn first_end<R: Threads + Sync>(
-    rt: &R,
-    alloc: Global,
-    log: &Log,
-    main: &mut Pass,
-    registrar: &mut Registrar,
-) -> Result<u32, Cause>
-    requires { IsBetween log.now main.old registrar.old }
-    ensures { OnOk result (IsBetween log.now main.new registrar.new) }
+fn first_end<R: Threads + Sync>(rt: &R, alloc: Global, held: &mut Open) -> Result<u32, Cause>
+    requires { IsHeld held.old.disk held.old.store }
+    ensures { OnOk result (IsHeld held.new.disk held.new.store) }
 {
-    let block = run_table(rt, alloc, log, main, registrar, FIRST_BLOCK)?;
+    let block = run_table(rt, alloc, held, FIRST_BLOCK)?;
     let end = block.end.to;
     drop(block);
     Ok(end)
@@ -261,22 +265,20 @@ fn first_end<R: Threads + Sync>(
 fn run_both<R: Threads + Sync>(
     rt: &R,
     alloc: Global,
-    log: &Log,
-    main: &mut Pass,
-    registrar: &mut Registrar,
+    held: &mut Open,
 ) -> Result<(u32, Block), Cause>
-    requires { IsBetween log.now main.old registrar.old }
-    ensures { OnOk result (IsBetween log.now main.new registrar.new) }
+    requires { IsHeld held.old.disk held.old.store }
+    ensures { OnOk result (IsHeld held.new.disk held.new.store) }
 {
-    let end = first_end(rt, alloc, log, main, registrar)?;
-    let block = run_table(rt, alloc, log, main, registrar, SECOND_BLOCK)?;
+    let end = first_end(rt, alloc, held)?;
+    let block = run_table(rt, alloc, held, SECOND_BLOCK)?;
     Ok((end, block))
 }
 
-/// Runs both over a new log, and closes it.
+/// Runs both over a new store, and closes it.
 fn ran_both<R: Threads + Sync>(rt: &R, alloc: Global) -> Result<(u32, Left), Cause> {
     let mut held = defined(rt, alloc)?;
-    match run_both(rt, alloc, &held.log, &mut held.main, &mut held.registrar) {
+    match run_both(rt, alloc, &mut held) {
         Ok((end, block)) => Ok((end, close_behind(alloc, held, block)?)),
         Err(fail) => {
             drop(held);

@@ -1,15 +1,13 @@
 //! Definitions that the first lane of a block registers and ends, beside the other lanes.
 
 ghost use Rattle.std.specs.Prelude.{OnOk};
-ghost use Rattle.tests_lanes.specs.Blocks.{IsBetween};
+ghost use Rattle.tests_lanes.specs.Blocks.{IsHeld};
 
 use crate::expecting::{expect, expect_text};
-use crate::running::{Block, opened, push_lane, ran_over, run_table, told};
+use crate::running::{Block, Open, opened, ran_over, run_table, told, told_lanes};
 use crate::scripts::{Plain, Script};
 use fish_lanes::Lane;
-use fish_registry::Registrar;
 use fish_report::Item;
-use fish_rule::{Log, Pass};
 use std::alloc::Global;
 use std::process::Abort;
 use std::test::Fail;
@@ -115,14 +113,12 @@ deregistered t id 0 to 300\n";
 fn expect_beside<R: Threads + Sync + Abort>(
     rt: &R,
     alloc: Global,
-    log: &Log,
-    main: &mut Pass,
-    registrar: &mut Registrar,
+    held: &mut Open,
 ) -> Result<(), Cause>
-    requires { IsBetween log.now main.old registrar.old }
-    ensures { OnOk result (IsBetween log.now main.new registrar.new) }
+    requires { IsHeld held.old.disk held.old.store }
+    ensures { OnOk result (IsHeld held.new.disk held.new.store) }
 {
-    let block = run_table(rt, alloc, log, main, registrar, BESIDE)?;
+    let block = run_table(rt, alloc, held, BESIDE)?;
     let (found, to) = (begun_by(&block), block.end.to);
     drop(block);
     expect(rt, "definitions, and boundaries", &found, &(1, 1));
@@ -130,28 +126,17 @@ fn expect_beside<R: Threads + Sync + Abort>(
     Ok(())
 }
 
-/// The items of the first lane of a block.
-fn told_first(alloc: Global, block: &Block) -> Result<String, Cause> {
-    let mut text = String::new(alloc);
-    for lane in block.lanes.as_slice() {
-        push_lane(alloc, &mut text, lane)?;
-    }
-    Ok(text)
-}
-
 /// Asserts what the registry is behind it.
 fn expect_behind<R: Threads + Sync + Abort>(
     rt: &R,
     alloc: Global,
-    log: &Log,
-    main: &mut Pass,
-    registrar: &mut Registrar,
+    held: &mut Open,
 ) -> Result<(), Cause>
-    requires { IsBetween log.now main.old registrar.old }
+    requires { IsHeld held.old.disk held.old.store }
 {
-    expect_beside(rt, alloc, log, main, registrar)?;
-    let block = run_table(rt, alloc, log, main, registrar, BEHIND)?;
-    let found = told_first(alloc, &block);
+    expect_beside(rt, alloc, held)?;
+    let block = run_table(rt, alloc, held, BEHIND)?;
+    let found = told_lanes(alloc, &block);
     drop(block);
     expect_text(rt, "behind it", found?.as_str(), BEHIND_TOLD);
     Ok(())
@@ -160,13 +145,7 @@ fn expect_behind<R: Threads + Sync + Abort>(
 #[test]
 fn a_block_ends_with_each_boundary_found(rt: HostRuntime) -> Result<(), Fail> {
     let mut held = opened(rt.alloc())?;
-    let done = expect_behind(
-        &rt,
-        rt.alloc(),
-        &held.log,
-        &mut held.main,
-        &mut held.registrar,
-    );
+    let done = expect_behind(&rt, rt.alloc(), &mut held);
     drop(held);
     Ok(done?)
 }

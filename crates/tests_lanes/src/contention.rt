@@ -1,5 +1,5 @@
-//! Eight lanes that store and scan at once, the first of which registers definitions and ends them meanwhile, run after run:
-//! each scan is a plain filter of the log that is closed behind it, whatever the lanes' order was.
+//! Eight lanes that store and scan at once, the first of which registers definitions, ends them and commits meanwhile,
+//! run after run: each scan is a plain filter of the log that is closed behind it, whatever the lanes' order was.
 
 use crate::blocks::{right_scans, stored_in_order};
 use crate::expecting::expect;
@@ -12,17 +12,19 @@ use std::test::Fail;
 use std::thread::Threads;
 use tests_log::Cause;
 
-/// How often the block is run, each time over a new log.
+/// How often the block is run, each time over a new store.
 const ROUNDS: usize = 3;
 
-/// What the first lane does: another name for the definition, an end of each.
+/// What the first lane does: another name for the definition, an end of each, and commits.
 const REGISTERING: Script = &[
     Plain::Records(0, 100, 2),
     Plain::Register("sort", "take kind"),
     Plain::Scan("sort", "k1"),
+    Plain::Checkpoint,
     Plain::Records(100, 100, 2),
     Plain::Deregister("kind"),
     Plain::Scan("kind", "k1"),
+    Plain::Checkpoint,
     Plain::Records(200, 100, 2),
     Plain::Deregister("sort"),
     Plain::Scan("sort", "k1"),
@@ -31,7 +33,6 @@ const REGISTERING: Script = &[
 /// What each other lane does.
 const STORING: Script = &[
     Plain::Records(0, 300, 2),
-    Plain::Checkpoint,
     Plain::Scan("kind", "k1"),
     Plain::Records(300, 300, 2),
     Plain::Scan("kind", "k1"),

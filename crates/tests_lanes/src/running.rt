@@ -1,91 +1,76 @@
-//! Blocks of lanes, one after the other, over a log of one page, and the log that is closed behind them.
+//! Blocks of lanes, one after the other, over a store of one page in memory, and its log that is closed behind them.
 
-ghost use Rattle.std.specs.Prelude.{ℕ, ◌≡◌, ◌≤◌, IfOk, None, OnOk, Some, length, slice_get, true};
+ghost use Rattle.std.specs.Prelude.{◌≡◌, ◌≤◌, IfOk, OnOk, Some, length, slice_get, true};
 ghost use Rattle.fish_lanes.specs.Blocks.{AreLanes};
-ghost use Rattle.fish_lanes.specs.Ending.{HasEnd};
-ghost use Rattle.fish_lanes.specs.Registering.{KnowsRegistry, registry_of};
 ghost use Rattle.fish_lanes.specs.declared.lane.Lane.{Lane};
 ghost use Rattle.fish_lanes.specs.declared.work.LaneFault.TheVariants as cause;
-ghost use Rattle.fish_rule.specs.Passes.{IsPassOf, view};
-ghost use Rattle.fish_rule.specs.LoadSteps.{IsAlone};
-ghost use Rattle.fish_rule.specs.declared.view.Epoch.TheVariants.{Out};
-ghost use Rattle.fish_walk.specs.Settling.{OnlySettles};
-ghost use Rattle.tests_lanes.specs.Blocks.{IsBetween};
-ghost use Rattle.tests_log.specs.Registering.{IsKept};
+ghost use Rattle.tests_lanes.specs.Blocks.{IsBetween, IsHeld};
 
 use crate::scripts::{Plain, Script, push_lanes};
-use fish_catalog::{Catalog, Entries, Entry};
+use fish_catalog::{Entries, Entry};
+use fish_disk::{Disk, SureDisk};
 use fish_lanes::{BlockEnd, Lane, LaneFault, OpenGate, run_block};
-use fish_registry::Registrar;
+use fish_recover::{Asked, open_store};
 use fish_report::push_item;
-use fish_rule::{Base, Log, Pass, base};
-use fish_walk::settle;
+use fish_store::Store;
 use std::alloc::Global;
 use std::fmt::Write;
 use std::thread::Threads;
-use tests_log::{Cause, ONE_PAGE, closed, empty_log};
+use tests_log::{Cause, closed};
 
-/// Where an empty store begins.
-const FIRST: Base = Base { number: 0, line: 0 };
+/// What is asked for: a table of one page.
+const ASKED: Asked = Asked {
+    pages: Some(1),
+    bucket_bits: Some(4),
+};
 
-/// A log between two blocks, with its control pass and its registrar.
+/// How many bytes a disk has room for: those in front of the lines, and several pages.
+const ROOM: u64 = 8_388_608;
+
+/// An open store between two blocks, and its disk.
 #[derive(Drop)]
 pub(crate) struct Open {
-    pub(crate) log: Log,
-    pub(crate) main: Pass,
-    pub(crate) registrar: Registrar,
+    pub(crate) store: Store,
+    pub(crate) disk: SureDisk,
 }
 
-/// Finds that nothing is stored in a log yet.
-fn find_empty(log: &Log, main: &mut Pass) -> Result<(), Cause>
-    requires pass { IsPassOf log.now main.old }
-    requires alone { IsAlone (view main.old) }
-    requires outside { (view main.old).epoch ≡ Out }
-    requires unshut { (view main.old).shut ≡ None }
-    ensures pass { IsPassOf log.now main.new }
-    ensures settles { OnOk result (OnlySettles (view main.old) (view main.new)) }
-    ensures end { OnOk result ((from : ℕ) × HasEnd (view main.new) from) }
+/// The store on a disk, or a new one on an empty disk.
+fn store_of<D: Disk>(alloc: Global, disk: &mut D) -> Result<Store, Cause>
+    ensures { IfOk result (IsBetween D.images disk.new) }
 {
-    let first = base(log).number;
-    if first != 0 {
-        return Err(Cause("a base"));
+    match open_store(alloc, ASKED, disk) {
+        Ok(opened) => Ok(Store::of_opened(opened)),
+        Err(_) => Err(Cause("no store")),
     }
-    let end = settle(log, main).settled;
-    if end != 0 {
-        return Err(Cause("not empty"));
-    }
-    Ok(())
 }
 
-/// Finds how far a log reaches in which nothing is stored yet, beside the registrar.
-fn find_end(log: &Log, main: &mut Pass, registrar: &Registrar) -> Result<(), Cause>
-    requires kept { IsKept log.now main.old registrar.now }
-    requires alone { IsAlone (view main.old) }
-    requires unshut { (view main.old).shut ≡ None }
-    requires known { KnowsRegistry (view main.old) (registry_of (view main.old) registrar.now) }
-    ensures { OnOk result (IsBetween log.now main.new registrar.now) }
+/// Opens the store on a disk, between two blocks.
+fn open_on(alloc: Global, mut disk: SureDisk) -> Result<Open, Cause>
+    ensures { IfOk result (λ o. IsHeld o.disk o.store) }
 {
-    find_empty(log, main)?;
-    Ok(())
-}
-
-/// A log of one page without definitions, between two blocks.
-pub(crate) fn opened(alloc: Global) -> Result<Open, Cause>
-    ensures { IfOk result (λ o. IsBetween o.log o.main o.registrar) }
-{
-    let (log, mut main) = empty_log(alloc, ONE_PAGE, FIRST)?;
-    let registrar = Registrar::new(Catalog::new(alloc));
-    match find_end(&log, &mut main, &registrar) {
-        Ok(()) => Ok(Open {
-            log,
-            main,
-            registrar,
-        }),
+    match store_of(alloc, &mut disk) {
+        Ok(store) => Ok(Open { store, disk }),
         Err(fail) => {
-            drop((log, main, registrar));
+            drop(disk);
             Err(fail)
         }
     }
+}
+
+/// A new store without definitions, between two blocks.
+pub(crate) fn opened(alloc: Global) -> Result<Open, Cause>
+    ensures { IfOk result (λ o. IsHeld o.disk o.store) }
+{
+    open_on(alloc, SureDisk::new(alloc, ROOM)?)
+}
+
+/// Drops a store, and opens it again from its disk.
+pub(crate) fn opened_again(alloc: Global, held: Open) -> Result<Open, Cause>
+    ensures { IfOk result (λ o. IsHeld o.disk o.store) }
+{
+    let Open { store, disk } = held;
+    drop(store);
+    open_on(alloc, disk)
 }
 
 /// What stands behind a block, and its lanes.
@@ -106,19 +91,18 @@ fn is_whole(lanes: &[Lane]) -> bool
 }
 
 /// Runs lanes.
-fn run_whole<R: Threads + Sync>(
+fn run_whole<R: Threads + Sync, D: Disk + Send>(
     rt: &R,
     alloc: Global,
-    log: &Log,
-    main: &mut Pass,
-    registrar: &mut Registrar,
+    store: &mut Store,
+    disk: &mut D,
     lanes: &mut [Lane],
 ) -> Result<BlockEnd, Cause>
-    requires between { IsBetween log.now main.old registrar.old }
+    requires between { IsBetween D.images disk.old store.old }
     requires lanes { AreLanes lanes.old }
-    ensures { OnOk result (IsBetween log.now main.new registrar.new) }
+    ensures { OnOk result (IsBetween D.images disk.new store.new) }
 {
-    let end = run_block(rt, alloc, log, main, registrar, lanes, &OpenGate);
+    let end = run_block(rt, alloc, store, disk, lanes, &OpenGate);
     if !is_whole(lanes) {
         return Err(Cause("the first lane stopped"));
     }
@@ -129,19 +113,23 @@ fn run_whole<R: Threads + Sync>(
 pub(crate) fn run_table<R: Threads + Sync>(
     rt: &R,
     alloc: Global,
-    log: &Log,
-    main: &mut Pass,
-    registrar: &mut Registrar,
+    held: &mut Open,
     scripts: &[Script],
 ) -> Result<Block, Cause>
-    requires between { IsBetween log.now main.old registrar.old }
+    requires held { IsHeld held.old.disk held.old.store }
     requires some { 1 ≤ length scripts.now }
     requires few { length scripts.now ≤ 16 }
-    ensures { OnOk result (IsBetween log.now main.new registrar.new) }
+    ensures { OnOk result (IsHeld held.new.disk held.new.store) }
 {
     let mut lanes = Vec::new(alloc);
     let ran = match push_lanes(alloc, scripts, &mut lanes) {
-        Ok(()) => run_whole(rt, alloc, log, main, registrar, lanes.as_mut_slice()),
+        Ok(()) => run_whole(
+            rt,
+            alloc,
+            &mut held.store,
+            &mut held.disk,
+            lanes.as_mut_slice(),
+        ),
         Err(fail) => Err(fail),
     };
     match ran {
@@ -157,27 +145,21 @@ pub(crate) fn run_table<R: Threads + Sync>(
 const DEFINING: &[Script] = &[&[Plain::Register("kind", "take kind")]];
 
 /// Registers it.
-fn register<R: Threads + Sync>(
-    rt: &R,
-    alloc: Global,
-    log: &Log,
-    main: &mut Pass,
-    registrar: &mut Registrar,
-) -> Result<(), Cause>
-    requires { IsBetween log.now main.old registrar.old }
-    ensures { OnOk result (IsBetween log.now main.new registrar.new) }
+fn register<R: Threads + Sync>(rt: &R, alloc: Global, held: &mut Open) -> Result<(), Cause>
+    requires { IsHeld held.old.disk held.old.store }
+    ensures { OnOk result (IsHeld held.new.disk held.new.store) }
 {
-    let block = run_table(rt, alloc, log, main, registrar, DEFINING)?;
+    let block = run_table(rt, alloc, held, DEFINING)?;
     drop(block);
     Ok(())
 }
 
-/// A log of one page with the definition, between two blocks.
+/// A new store with the definition, between two blocks.
 pub(crate) fn defined<R: Threads + Sync>(rt: &R, alloc: Global) -> Result<Open, Cause>
-    ensures { IfOk result (λ o. IsBetween o.log o.main o.registrar) }
+    ensures { IfOk result (λ o. IsHeld o.disk o.store) }
 {
     let mut held = opened(alloc)?;
-    match register(rt, alloc, &held.log, &mut held.main, &mut held.registrar) {
+    match register(rt, alloc, &mut held) {
         Ok(()) => Ok(held),
         Err(fail) => {
             drop(held);
@@ -195,15 +177,18 @@ pub(crate) struct Left {
 
 /// Closes a log behind a block.
 pub(crate) fn close_behind(alloc: Global, held: Open, block: Block) -> Result<Left, Cause>
-    requires { IsBetween held.log held.main held.registrar }
+    requires { IsHeld held.disk held.store }
 {
-    let Open {
+    let Open { store, disk } = held;
+    drop(disk);
+    let Store {
         log,
-        main,
+        pass,
         registrar,
-    } = held;
-    drop(registrar);
-    match closed(alloc, log, main) {
+        file,
+    } = store;
+    drop((registrar, file));
+    match closed(alloc, log, pass) {
         Ok(entries) => Ok(Left { block, entries }),
         Err(fail) => {
             drop(block);
@@ -212,25 +197,18 @@ pub(crate) fn close_behind(alloc: Global, held: Open, block: Block) -> Result<Le
     }
 }
 
-/// Runs a block over a log, and closes it.
+/// Runs a block over a store, and closes it.
 pub(crate) fn ran_over<R: Threads + Sync>(
     rt: &R,
     alloc: Global,
     mut held: Open,
     scripts: &[Script],
 ) -> Result<Left, Cause>
-    requires between { IsBetween held.log held.main held.registrar }
+    requires held { IsHeld held.disk held.store }
     requires some { 1 ≤ length scripts.now }
     requires few { length scripts.now ≤ 16 }
 {
-    match run_table(
-        rt,
-        alloc,
-        &held.log,
-        &mut held.main,
-        &mut held.registrar,
-        scripts,
-    ) {
+    match run_table(rt, alloc, &mut held, scripts) {
         Ok(block) => close_behind(alloc, held, block),
         Err(fail) => {
             drop(held);
@@ -239,7 +217,7 @@ pub(crate) fn ran_over<R: Threads + Sync>(
     }
 }
 
-/// Runs a block over a new log with the definition, and closes it.
+/// Runs a block over a new store with the definition, and closes it.
 pub(crate) fn ran<R: Threads + Sync>(
     rt: &R,
     alloc: Global,
@@ -253,7 +231,7 @@ pub(crate) fn ran<R: Threads + Sync>(
 }
 
 /// Puts the items of a lane behind a text.
-pub(crate) fn push_lane(alloc: Global, text: &mut String, lane: &Lane) -> Result<(), Cause> {
+fn push_lane(alloc: Global, text: &mut String, lane: &Lane) -> Result<(), Cause> {
     write!(text, "lane {}\n", lane.number)?;
     for item in lane.items.as_slice() {
         push_item(alloc, text, item)?;
@@ -271,12 +249,18 @@ fn push_entry(text: &mut String, entry: &Entry) -> Result<(), Cause> {
     }
 }
 
-/// The items of all lanes and the entries of the log.
-pub(crate) fn told(alloc: Global, left: &Left) -> Result<String, Cause> {
+/// The items of all lanes of a block.
+pub(crate) fn told_lanes(alloc: Global, block: &Block) -> Result<String, Cause> {
     let mut text = String::new(alloc);
-    for lane in left.block.lanes.as_slice() {
+    for lane in block.lanes.as_slice() {
         push_lane(alloc, &mut text, lane)?;
     }
+    Ok(text)
+}
+
+/// The same and the entries of the log.
+pub(crate) fn told(alloc: Global, left: &Left) -> Result<String, Cause> {
+    let mut text = told_lanes(alloc, &left.block)?;
     for entry in left.entries.as_slice() {
         push_entry(&mut text, entry)?;
     }

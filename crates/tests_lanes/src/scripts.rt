@@ -2,7 +2,7 @@
 
 ghost use Rattle.std.specs.Prelude.{◌≡◌, ◌≤◌, [], All, IfOk, OnOk, length};
 ghost use Rattle.fish_lanes.specs.Blocks.{AreLanes};
-ghost use Rattle.fish_lanes.specs.Running.{IsFree};
+ghost use Rattle.fish_lanes.specs.Running.{IsShared};
 ghost use Rattle.tests_lanes.specs.Blocks.{IsAllowed, IsMade};
 
 use fish_lanes::{Lane, Work, Works};
@@ -29,7 +29,7 @@ pub(crate) enum Plain {
     Scan(&'static str, &'static str),
     /// Tell how they would be found by the index alone from a number on, below another.
     Explain(&'static str, u32, u32),
-    /// Tell up to which number all is stored.
+    /// Commit what is stored. The first lane alone may.
     Checkpoint,
 }
 
@@ -87,7 +87,7 @@ fn push_records(
 
 /// The statement that stores a file.
 fn ingest_of(alloc: Global, form: Form, name: &str, file: Bytes) -> Result<Work, AllocError>
-    ensures { IfOk result IsFree }
+    ensures { IfOk result IsShared }
 {
     match Text::copy_of(alloc, name) {
         Ok(name) => Ok(Work::Ingest {
@@ -111,7 +111,7 @@ fn records_of(
     count: usize,
     words: usize,
 ) -> Result<Work, AllocError>
-    ensures { IfOk result IsFree }
+    ensures { IfOk result IsShared }
 {
     let mut file = Bytes::new(alloc);
     match push_records(&mut file, alloc, lane, first, count, words) {
@@ -148,12 +148,24 @@ fn deregister_of(alloc: Global, lane: u8, name: &str) -> Result<Work, Cause>
     })
 }
 
-/// A statement of a table that changes no definition.
-fn free_of(alloc: Global, lane: u8, plain: Plain) -> Result<Work, Cause>
-    ensures { IfOk result IsFree }
+/// The statement that commits what is stored.
+fn checkpoint_of(lane: u8) -> Result<Work, Cause>
+    ensures { IfOk result (IsAllowed lane) }
+{
+    if lane > 1 {
+        return Err(Cause("another lane commits"));
+    }
+    Ok(Work::Checkpoint)
+}
+
+/// A statement of a table that any lane may have.
+fn shared_of(alloc: Global, lane: u8, plain: Plain) -> Result<Work, Cause>
+    ensures { IfOk result IsShared }
 {
     match plain {
-        Plain::Register(..) | Plain::Deregister(..) => Err(Cause("changes a definition")),
+        Plain::Register(..) | Plain::Deregister(..) | Plain::Checkpoint => {
+            Err(Cause("the first lane's"))
+        }
         Plain::Lines(file) => {
             let file = Bytes::copy_of(alloc, file.as_bytes())?;
             Ok(ingest_of(alloc, Form::Json, "lines", file)?)
@@ -187,7 +199,6 @@ fn free_of(alloc: Global, lane: u8, plain: Plain) -> Result<Work, Cause>
                 },
             )?,
         }),
-        Plain::Checkpoint => Ok(Work::Checkpoint),
     }
 }
 
@@ -198,7 +209,8 @@ fn work_of(alloc: Global, lane: u8, plain: Plain) -> Result<Work, Cause>
     match plain {
         Plain::Register(name, source) => register_of(alloc, lane, name, source),
         Plain::Deregister(name) => deregister_of(alloc, lane, name),
-        _ => free_of(alloc, lane, plain),
+        Plain::Checkpoint => checkpoint_of(lane),
+        _ => shared_of(alloc, lane, plain),
     }
 }
 
